@@ -1,0 +1,8 @@
+use Rattle.std.proofs.Common.{pos, sym, arith}
+use Rattle.jiff_core.specs.Calendar.{days_in_month}
+use Rattle.label.proofs.DayNumbers.{dated_day-outside}
+use Rattle.label.proofs.expiry.last_of_month.Goals as goal
+
+pub returns-then-year-gt9999 : goal.returns-then-year-gt9999
+returns-then-year-gt9999 c =
+    sym (dated_day-outside c.args.year c.args.month (days_in_month (pos c.args.year) c.args.month) (λ within. omega (arith, within.0, within.1)))

@@ -1,0 +1,12 @@
+use Rattle.std.proofs.Common.{◌∙◌, ap, length}
+use Rattle.std.specs.Prelude.{◌==◌, unwrap_or}
+use Rattle.std.specs.List.{position_or_len}
+use Rattle.std.proofs.lemmas.List.Sums.{prefix_len-le-length}
+use Rattle.label.specs.declared.gs1.TheConstants.{SEPARATOR}
+use Rattle.label.proofs.ElementLemmas.{first_or_all}
+use Rattle.label.proofs.reader.lot_end.Goals as goal
+
+pub returns-clause-first : goal.returns-clause-first
+returns-clause-first c =
+    c.unwrap_or.ensures ∙ ap (λ o. unwrap_or o (length c.args.text.now)) c.separator_at.ensures
+    ∙ first_or_all (position_or_len (λ b. b == SEPARATOR) c.args.text.now) (length c.args.text.now) (prefix_len-le-length _ c.args.text.now)

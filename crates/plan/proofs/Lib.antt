@@ -1,0 +1,10 @@
+pub mod Examples
+pub mod Sums
+pub mod Line
+pub mod Running
+pub mod Sweeping
+pub mod Swept
+pub mod Naming
+pub mod Priority
+pub mod Ranked
+pub mod Nothing

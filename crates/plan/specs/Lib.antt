@@ -1,0 +1,4 @@
+pub mod Lists
+pub mod Overlap
+pub mod Limits
+pub mod Laws
