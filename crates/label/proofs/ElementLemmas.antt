@@ -1,13 +1,11 @@
 -- A label read element by element: each element makes the rest shorter, and more turns than needed change nothing.
-use Rattle.std.proofs.Common.{◌≡◌, ℕ, zero, suc, ◌+◌, ◌≤◌, Bool, true, false, List, [], ◌∷◌, length, take, drop, ℤ, Option, Some, None, Result, Ok, Err, refl, ap, sym, subst, ◌∙◌, arith}
+use Rattle.std.proofs.Common.{◌≡◌, ℕ, zero, suc, ◌+◌, ◌≤◌, true, false, List, [], ◌∷◌, length, take, drop, ℤ, Some, None, Result, Ok, Err, refl, ap, subst, ◌∙◌, arith}
 use Rattle.std.proofs.lemmas.List.{length-drop}
-use Rattle.std.proofs.lemmas.List.Sums.{prefix_len-le-length}
 use Rattle.std.specs.Prelude.{unwrap_or, cond, nat_lt, if◌then◌else◌, ◌==◌}
 use Rattle.std.specs.List.{position_or_len}
 use Rattle.std.proofs.lemmas.Bool.Decides.{nat_tests}
 use Rattle.label.specs.declared.fault.LabelFault.{LabelFault}
 use Rattle.label.specs.declared.fault.LabelFault.TheVariants.{IdentifierRepeated}
-use Rattle.label.specs.declared.gs1.Label.{Label}
 use Rattle.label.specs.declared.reader.Found.{Found}
 use Rattle.label.specs.declared.reader.Identifier.{Identifier}
 use Rattle.label.specs.declared.reader.Identifier.TheVariants.{ForGtin, ForLot, ForExpiry}

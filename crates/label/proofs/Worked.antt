@@ -1,5 +1,5 @@
 -- Worked examples of labels.
-use Rattle.std.specs.Prelude.{◌≡◌, ℕ, List, [], ◌∷◌, ◌++◌, codes, refl, ℤ, pos, negsuc, Some, None, true, Ok, Err}
+use Rattle.std.specs.Prelude.{◌≡◌, ℕ, List, [], ◌∷◌, ◌++◌, codes, refl, ℤ, pos, Some, true, Ok, Err}
 use Rattle.label.specs.Values.{is_gtin, is_lot_text}
 use Rattle.label.specs.Days.{day_number}
 use Rattle.label.specs.Labels.{SEPARATOR, label_fault, label_parts, label_read, label_text}

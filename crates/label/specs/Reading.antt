@@ -1,5 +1,5 @@
 -- A label read element by element: what was found so far, and what one element adds.
-use Rattle.std.specs.Prelude.{◌≡◌, ℕ, zero, suc, Bool, not, ◌==◌, if◌then◌else◌, List, [], ◌∷◌, length, take, drop, ℤ, Option, Some, None, Result, Ok, Err, is_some}
+use Rattle.std.specs.Prelude.{◌≡◌, ℕ, zero, suc, Bool, ◌==◌, if◌then◌else◌, List, [], ◌∷◌, length, take, drop, ℤ, Option, Some, None, Result, Ok, Err, is_some}
 use Rattle.label.specs.Values.{same_text, first_is}
 use Rattle.label.specs.Faults.{sound_or, gtin_text_fault}
 use Rattle.label.specs.Expiry.{expiry_read}

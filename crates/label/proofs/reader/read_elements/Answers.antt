@@ -1,5 +1,4 @@
 use Rattle.std.proofs.Common.{◌∙◌, arith}
-use Rattle.label.specs.Reading.{Step}
 use Rattle.label.proofs.ElementLemmas.{elements_read-turn}
 use Rattle.label.proofs.reader.read_elements.Goals as goal
 

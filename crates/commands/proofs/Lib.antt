@@ -1,0 +1,9 @@
+pub mod Appending
+pub mod Digits
+pub mod Joining
+pub mod Printing
+pub mod OneText
+pub mod Fields
+pub mod OneSpelling
+pub mod Worked
+pub mod AsciiTexts

@@ -1,0 +1,6 @@
+pub mod Limits
+pub mod Lists
+pub mod Refusals
+pub mod Spelling
+pub mod Sound
+pub mod Laws

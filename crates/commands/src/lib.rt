@@ -1,0 +1,36 @@
+// Commands, their keys and refusals, the rows of the tables, and the records that queries answer.
+#![tactic(auto)]
+
+mod buffer;
+mod command;
+mod key;
+pub mod laws;
+pub mod limits;
+mod listed;
+mod refusal;
+mod rows;
+mod short;
+mod spelling;
+mod views;
+
+pub use buffer::{Buffer, decimal_text, signed_text};
+pub use command::{
+    Adjustment, BinKind, Command, Lines, Movement, NewBin, NewItem, NewOrder, OrderLine, Picking,
+    Receipt, Recount,
+};
+pub use key::Key;
+pub use listed::Listed;
+pub use refusal::Refusal;
+pub use rows::{
+    BinRow, CardKind, CardRow, ItemRow, LineRow, LotRow, MetaRow, OrderRow, OrderState, RecallRow,
+    RepeatRow, ReservedRow, ShiplineRow, ShipmentRow, StagedRow, StockRow,
+};
+pub use short::Short;
+pub use spelling::spell;
+pub use views::{
+    BinUnits, CardView, LineView, LotStatus, LotView, NoticeView, OrderView, ReservedLot,
+    ShippedUnits, ShortLine, ShortView, StagedLot, StockView,
+};
+
+#[cfg(test)]
+mod tests;

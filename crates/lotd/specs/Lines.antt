@@ -1,0 +1,50 @@
+-- What the lines of the program print and tell.
+use Rattle.std.specs.Prelude.{◌≡◌, ℕ, ℤ, List, ◌++◌, codes, IsTrue, Option, Some, Ok, Err}
+use Rattle.std.specs.Io.KnownBytes.{Appends}
+use Rattle.label.specs.Values.{is_business_day}
+use Rattle.label.specs.Days.{day_text, parsed_day}
+use Rattle.label.specs.Faults.{fault_code}
+use Rattle.label.specs.Labels.{label_read}
+use Rattle.label.specs.declared.fault.LabelFault.{LabelFault}
+use Rattle.label.specs.declared.gs1.Label.{Label as LabelSaid}
+use Rattle.lotd.specs.declared.fault.Fault.{Fault}
+use Rattle.lotd.specs.declared.fault.Fault.TheVariants.{Usage, Label, Value, Io, Store}
+
+-- what `lotd label` prints
+abbrev pub label_lines : LabelSaid → List ℕ
+label_lines label = codes "GTIN " ++ label.gtin ++ codes "\nLOT " ++ label.lot ++ codes "\nEXPIRY " ++ day_text label.expiry ++ codes "\n"
+
+-- what is told after `lotd: `
+abbrev pub told_code : Fault → List ℕ
+told_code (Usage error) = codes "usage"
+told_code (Label fault) = fault_code fault
+told_code Value = codes "value"
+told_code Io = codes "io"
+told_code Store = codes "store"
+
+-- the day is a business day, the text is a label on it, and what the label says was printed
+pub record IsPrinted (day text : List ℕ) (old new : Option (List ℕ)) : Type 0 where
+  pub today : ℤ
+  pub label : LabelSaid
+  pub day_is : parsed_day day ≡ Some today
+  pub business : IsTrue (is_business_day today)
+  pub label_is : label_read today text ≡ Ok label
+  pub printed : Appends old new (label_lines label)
+
+abbrev pub IsNoBusinessDay : List ℕ → Type 0
+IsNoBusinessDay day = (today : ℤ) → parsed_day day ≡ Some today → IsTrue (is_business_day today) → ⊥
+
+-- the text has this fault as a label on the business day
+pub record HasFault (day text : List ℕ) (fault : LabelFault) : Type 0 where
+  pub today : ℤ
+  pub day_is : parsed_day day ≡ Some today
+  pub business : IsTrue (is_business_day today)
+  pub fault_is : label_read today text ≡ Err fault
+
+-- why the line is refused; that output fails has no cause in the line
+abbrev pub IsRefused : List ℕ → List ℕ → Fault → Type 0
+IsRefused day text (Label fault) = HasFault day text fault
+IsRefused day text Value = IsNoBusinessDay day
+IsRefused day text Io = Unit {0}
+IsRefused day text (Usage error) = ⊥
+IsRefused day text Store = ⊥

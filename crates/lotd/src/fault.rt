@@ -1,0 +1,54 @@
+ghost use Rattle.std.specs.Prelude.{◌≡◌};
+
+use clap::Error;
+use clap::error::ErrorKind;
+use label::LabelFault;
+use std::io;
+
+/// Why a line of the program is not done.
+#[derive(Drop)]
+pub enum Fault {
+    /// The words are no line of the program, or ask for help.
+    Usage(Error),
+    /// A text is no label.
+    Label(LabelFault),
+    /// A date on the line is no business day.
+    Value,
+    /// The output could not be written.
+    Io,
+    /// No memory was left.
+    Store,
+}
+
+impl Fault {
+    ghost use Rattle.lotd.specs.Lines.{told_code};
+
+    /// What is told on standard error after `lotd: `.
+    pub(crate) fn code(&self) -> &'static str
+        ensures { result.now ≡ told_code self.now }
+    {
+        match self {
+            Fault::Usage(_) => "usage",
+            Fault::Label(fault) => fault.code(),
+            Fault::Value => "value",
+            Fault::Io => "io",
+            Fault::Store => "store",
+        }
+    }
+}
+
+impl From<Error> for Fault {
+    fn from(error: Error) -> Fault {
+        if error.kind() == ErrorKind::OutOfMemory {
+            Fault::Store
+        } else {
+            Fault::Usage(error)
+        }
+    }
+}
+
+impl From<io::Error> for Fault {
+    fn from(_error: io::Error) -> Fault {
+        Fault::Io
+    }
+}

@@ -1,0 +1,31 @@
+// The program `lotd`: the stock system on the command line.
+#![tactic(auto)]
+
+mod command_line;
+mod fault;
+mod label_line;
+mod run;
+#[cfg(test)]
+mod tests;
+
+use fault::Fault;
+use std::env;
+use std::io::ErrorKind;
+use std::process::ExitCode;
+
+fn main(rt: HostRuntime) -> ExitCode {
+    let mut err = rt.stderr();
+    let args = match env::args(&rt) {
+        Ok(args) => args,
+        Err(error) if error.kind() == ErrorKind::OutOfMemory => {
+            return ExitCode::from(run::tell(&Fault::Store, &mut err));
+        }
+        Err(_) => return ExitCode::from(run::tell_words(&mut err)),
+    };
+    let words: Vec<String> = match args.collect(rt.alloc()) {
+        Ok(words) => words,
+        Err(_) => return ExitCode::from(run::tell(&Fault::Store, &mut err)),
+    };
+    let mut out = rt.stdout();
+    ExitCode::from(run::run(rt.alloc(), words.as_slice(), &mut out, &mut err))
+}

@@ -1,0 +1,85 @@
+ghost use Rattle.std.specs.Prelude.{◌≤◌};
+
+use crate::command_line::{Line, read_line};
+use crate::fault::Fault;
+use crate::label_line::print_label;
+use clap::Error;
+use std::alloc::Global;
+use std::convert::AsStr;
+use std::io;
+use std::io::Write;
+
+/// The exit status of a line that was done, and of a call for help.
+pub const DONE: u8 = 0;
+
+/// The exit status of a line that was refused or met a fault.
+pub const REFUSED: u8 = 1;
+
+/// The exit status of words that are no line of the program.
+pub const MISUSED: u8 = 2;
+
+/// Runs the line that the words are, the program's name first: what it prints goes to `out`, and a
+/// fault to `err` as one line, `lotd: ` and its code. The result is the exit status.
+pub fn run<'a, S: AsStr, W: Write, E: Write>(
+    alloc: Global,
+    words: &'a [S],
+    out: &mut W,
+    err: &mut E,
+) -> u8
+    ensures { result ≤ MISUSED }
+{
+    match do_line(alloc, words, out) {
+        Ok(()) => DONE,
+        Err(Fault::Usage(error)) => tell_usage(&error, out, err),
+        Err(fault) => tell(&fault, err),
+    }
+}
+
+fn do_line<'a, S: AsStr, W: Write>(
+    alloc: Global,
+    words: &'a [S],
+    out: &mut W,
+) -> Result<(), Fault> {
+    match read_line(alloc, words)? {
+        Line::Label { day, text } => print_label(day, text, out)?,
+        Line::Unknown => return Err(Fault::Value),
+    }
+    out.flush()?;
+    Ok(())
+}
+
+/// Tells a fault on `err`. What cannot be written there is lost.
+pub fn tell<E: Write>(fault: &Fault, err: &mut E) -> u8
+    ensures { result ≤ MISUSED }
+{
+    let code = fault.code();
+    let _ = writeln!(err, "lotd: {code}");
+    REFUSED
+}
+
+// Help is told on `out`, and words that are no line on `err`.
+fn tell_usage<W: Write, E: Write>(error: &Error, out: &mut W, err: &mut E) -> u8
+    ensures { result ≤ MISUSED }
+{
+    if error.use_stderr() {
+        let _ = write!(err, "{error}");
+        return MISUSED;
+    }
+    match write_help(error, out) {
+        Ok(()) => DONE,
+        Err(_) => tell(&Fault::Io, err),
+    }
+}
+
+fn write_help<W: Write>(help: &Error, out: &mut W) -> io::Result<()> {
+    write!(out, "{help}")?;
+    out.flush()
+}
+
+/// Tells that a word of the line is no text. What cannot be written to `err` is lost.
+pub fn tell_words<E: Write>(err: &mut E) -> u8
+    ensures { result ≤ MISUSED }
+{
+    let _ = writeln!(err, "error: a word of the line is not UTF-8");
+    MISUSED
+}

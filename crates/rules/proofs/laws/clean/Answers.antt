@@ -1,0 +1,5 @@
+use Rattle.rules.proofs.StagedLots as lots
+use Rattle.rules.proofs.laws.clean.Goals as goal
+
+pub returns : goal.returns
+returns c = record { staged = lots.staged_lots_are_shippable; shipped = lots.shipped_lots_are_shippable }

@@ -1,0 +1,5 @@
+use Rattle.rules.proofs.Conservation as conservation
+use Rattle.rules.proofs.laws.conserved.Goals as goal
+
+pub returns : goal.returns
+returns c = conservation.conserved

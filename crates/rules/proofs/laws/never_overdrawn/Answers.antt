@@ -1,0 +1,5 @@
+use Rattle.rules.proofs.LegalHistories as histories
+use Rattle.rules.proofs.laws.never_overdrawn.Goals as goal
+
+pub returns : goal.returns
+returns c = histories.history_never_overdrawn

@@ -1,0 +1,5 @@
+use Rattle.rules.proofs.Notices as notices
+use Rattle.rules.proofs.laws.traced.Goals as goal
+
+pub returns : goal.returns
+returns c = notices.traced

@@ -1,0 +1,4 @@
+// The rules of the warehouse.
+#![tactic(auto)]
+
+pub mod laws;
