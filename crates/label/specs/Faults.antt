@@ -1,7 +1,8 @@
 -- The faults of labels: their codes, and the order in which they are judged.
 use Rattle.std.specs.Prelude.{ℕ, ◌%◌, Bool, not, ◌==◌, nat_lt, if◌then◌else◌, List, [], ◌∷◌, length, codes, Option, Some, None, Result, Ok, Err}
 use Rattle.std.specs.List.{list_all}
-use Rattle.label.specs.Values.{LOT_MAX, is_digit, is_set_82, weighted_sum, first_is}
+use Rattle.std.specs.Str.{all_ascii_digits}
+use Rattle.label.specs.Values.{LOT_MAX, is_set_82, weighted_sum, first_is}
 use Rattle.label.specs.declared.fault.LabelFault.{LabelFault}
 use Rattle.label.specs.declared.fault.LabelFault.TheVariants.{BadPrefix, UnknownIdentifier, CutShort, NotADigit, CheckDigit, VariableMeasure, LotEmpty, LotTooLong, LotCharacter, NoSuchDate, IdentifierRepeated, IdentifierMissing, SeparatorMisplaced, OutOfMemory}
 
@@ -34,7 +35,7 @@ sound_or (Some fault) x = Err fault
 -- what is wrong with fourteen characters as a GTIN
 abbrev pub gtin_text_fault : List ℕ → Option LabelFault
 gtin_text_fault s = first_fault
-    ((not (length s == 14), CutShort) ∷ (not (list_all is_digit s), NotADigit) ∷ (first_is 57 s, VariableMeasure)
+    ((not (length s == 14), CutShort) ∷ (not (all_ascii_digits s), NotADigit) ∷ (first_is 57 s, VariableMeasure)
     ∷ (not (weighted_sum 3 s % 10 == 0), CheckDigit) ∷ [])
 
 -- what is wrong with a text as a lot

@@ -1,7 +1,7 @@
 -- The rules of the values that labels and commands are made of. A text is the list of its bytes.
 use Rattle.std.specs.Prelude.{ℕ, slice_index, Option, Some, None, if◌then◌else◌, ◌-◌, ◌+◌, ◌*◌, ◌%◌, Bool, false, not, ◌&&◌, ◌||◌, ◌==◌, nat_le, List, [], ◌∷◌, length, codes, ℤ, pos, negsuc, int_le, unsigned_abs}
 use Rattle.std.specs.List.{list_all, list_any}
-use Rattle.std.specs.Str.{bytes_eq}
+use Rattle.std.specs.Str.{bytes_eq, all_ascii_digits}
 
 -- n lies from low to high, both included
 abbrev pub is_between : ℕ → ℕ → ℕ → Bool
@@ -75,7 +75,7 @@ first_is d (c ∷ cs) = c == d
 
 -- fourteen digits, the first not 9, whose weighted sum is a multiple of ten
 abbrev pub is_gtin : List ℕ → Bool
-is_gtin s = (length s == 14) && list_all is_digit s && not (slice_index s 0 == 57) && (weighted_sum 3 s % 10 == 0)
+is_gtin s = (length s == 14) && all_ascii_digits s && not (slice_index s 0 == 57) && (weighted_sum 3 s % 10 == 0)
 
 abbrev pub is_qty : ℕ → Bool
 is_qty n = is_between 1 QTY_MAX n

@@ -4,6 +4,7 @@ ghost use Rattle.jiff.specs.Words.{epoch_day};
 ghost use Rattle.label.specs.Values.{checked, is_day, is_business_day};
 ghost use Rattle.label.specs.Days.{date_of, year_of_day, dated_day, day_text, parsed_day, is_day_form, two_digits as two_digits_lem};
 
+use crate::digits::{are_digits, digit, two_digits};
 use jiff::civil::Date;
 use std::marker::Model;
 
@@ -186,31 +187,6 @@ impl BusinessDay {
             number: self.number,
         }
     }
-}
-
-/// Whether each byte is a decimal digit.
-pub(crate) fn are_digits(text: &[u8]) -> bool
-    ensures { result ≡ all_ascii_digits text.now }
-{
-    text.iter().all(|c| c.is_ascii_digit())
-}
-
-/// The number that two bytes write, if they are digits.
-pub(crate) fn two_digits(text: &[u8], at: usize) -> u32
-    requires { at + 2 ≤ length text.now }
-    ensures value { result ≡ two_digits_lem (drop at text.now) }
-    ensures bound { result ≤ 2277 }
-{
-    let tens = u32::from(text[at].saturating_sub(b'0'));
-    let units = u32::from(text[at + 1].saturating_sub(b'0'));
-    10 * tens + units
-}
-
-/// The last decimal digit of a number.
-pub(crate) fn digit(number: u32) -> u8
-    ensures { result ≡ 48 + number % 10 }
-{
-    b'0' + (number % 10) as u8
 }
 
 // Ten bytes: four digits, a dash, two digits, a dash, two digits.

@@ -4,7 +4,8 @@ ghost use Rattle.label.specs.Values.{is_business_day, is_day};
 ghost use Rattle.label.specs.Days.{dated_day};
 ghost use Rattle.label.specs.Expiry.{full_year as full_year_lem, day_in_month, expiry_read, expiry_text, IsExpiry};
 
-use crate::day::{DateParts, are_digits, digit, two_digits};
+use crate::day::DateParts;
+use crate::digits::{are_digits, digit, two_digits};
 use crate::{Day, LabelFault};
 use jiff::civil::Date;
 

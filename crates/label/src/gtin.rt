@@ -1,8 +1,8 @@
 ghost use Rattle.std.specs.Prelude.{◌≡◌, ◌↔◌, ◌≤◌, ◌==◌, ◌%◌, length, IsTrue, IsOk};
-ghost use Rattle.std.specs.List.{list_all};
-ghost use Rattle.label.specs.Values.{is_gtin, is_digit as is_digit_lem, first_is, weighted_sum};
+ghost use Rattle.label.specs.Values.{is_gtin, first_is, weighted_sum};
 ghost use Rattle.label.specs.Faults.{sound_or, gtin_text_fault};
 
+use crate::digits::are_digits;
 use crate::{LabelFault, Text};
 use std::marker::Model;
 
@@ -60,18 +60,6 @@ impl Gtin {
     {
         self.text.as_bytes()
     }
-}
-
-pub(crate) fn are_digits(text: &[u8]) -> bool
-    ensures { result ≡ list_all is_digit_lem text.now }
-{
-    text.iter().all(|c| is_digit(*c))
-}
-
-fn is_digit(c: u8) -> bool
-    ensures { result ≡ is_digit_lem c }
-{
-    b'0' <= c && c <= b'9'
 }
 
 fn is_variable_measure(text: &[u8]) -> bool

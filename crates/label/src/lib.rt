@@ -3,6 +3,7 @@
 #![tactic(auto)]
 
 mod day;
+mod digits;
 mod expiry;
 mod fault;
 mod gs1;

@@ -3,7 +3,7 @@ use Rattle.std.specs.Char.{is_ascii_digit}
 use Rattle.std.proofs.lemmas.Iterator.{YieldsList-from_slice}
 use Rattle.std.proofs.lemmas.Iterator.Search.{all_from_yields_List}
 use Rattle.label.proofs.DayTexts.{all_ascii_digits-list_all}
-use Rattle.label.proofs.day.are_digits.Goals as goal
+use Rattle.label.proofs.digits.are_digits.Goals as goal
 
 pub returns : goal.returns
 returns c =
