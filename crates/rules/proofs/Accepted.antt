@@ -4,7 +4,7 @@ use Rattle.std.specs.Prelude.{◌==◌, nat_le, nat_lt, if◌then◌else◌, Som
 use Rattle.std.specs.List.{list_any}
 use Rattle.label.specs.Values.{same_text}
 use Rattle.label.specs.declared.lot.LotId.{LotId}
-use Rattle.commands.specs.declared.limits.TheConstants.{ITEMS_MAX, BINS_MAX, UNITS_MAX, OPEN_MAX}
+use Rattle.commands.specs.declared.limits.TheConstants.{ITEMS_MAX, BINS_MAX, UNITS_MAX, OPEN_MAX, ACTS_MAX}
 use Rattle.commands.specs.declared.command.NewItem.{NewItem}
 use Rattle.commands.specs.declared.command.NewBin.{NewBin}
 use Rattle.commands.specs.declared.command.Receipt.{Receipt}
@@ -36,6 +36,10 @@ none_holds (c ∷ cs) e =
 
 passed : (first : ℤ) (acts : List Act) (c : Command) → verdict first acts c ≡ None → NoneHolds (all_judged first acts c)
 passed first acts c ok = none_holds (all_judged first acts c) ok
+
+-- each command needs room for one more act
+pub room_for_acts : (first : ℤ) (acts : List Act) (c : Command) → verdict first acts c ≡ None → nat_le ACTS_MAX (length acts) ≡ false
+room_for_acts first acts c ok = (passed first acts c ok).0
 
 module _ (first : ℤ) (acts : List Act) where
   pub record ItemAccepted (i : NewItem) : Type 0 where

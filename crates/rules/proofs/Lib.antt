@@ -28,3 +28,27 @@ pub mod ExamplePicking
 mod ExampleRecalls
 mod ExampleKeys
 mod ExampleLimits
+pub mod Searching
+pub mod Capping
+pub mod TableSteps
+pub mod Decisions
+pub mod SliceTells
+pub mod SetupDecided
+pub mod RowSums
+pub mod SliceDemands
+pub mod AfterRows
+pub mod ReceiveStep
+pub mod ReceiveJudged
+pub mod SharesTold
+pub mod PlanRows
+pub mod Differing
+pub mod PlanTold
+pub mod SuppliesTold
+pub mod DemandsTold
+pub mod UnitsLimit
+pub mod Telling
+pub mod Ordering
+pub mod Cutting
+pub mod Naming
+pub mod Walking
+pub mod PlaceRows

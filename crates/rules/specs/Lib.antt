@@ -13,3 +13,7 @@ pub mod Views
 pub mod Touched
 pub mod Laws
 pub mod Queries
+pub mod Slices
+pub mod Seen
+pub mod Plans
+pub mod Decided

@@ -1,0 +1,237 @@
+-- What the statements on `recalls` mean, and what they make of the tables.
+use Rattle.std.proofs.Common.{◌≡◌, ◌≢◌, ◌≤◌, ℕ, ℤ, Bool, true, false, not, ◌&&◌, ◌||◌, cond, List, [], ◌∷◌, codes, map, filter, find, length, pos, Ok, Err, Some, None, inl, inr, IsTrue, refl, sym, ap, ap₂, subst, ◌∙◌, bytes_eq, Equal}
+use Rattle.std.specs.Prelude.{nat_eq, if◌then◌else◌, Option}
+use Rattle.std.specs.List.{AllByRecursion}
+use Rattle.std.proofs.lemmas.Bool.{and_parts}
+use Rattle.sqlite.specs.declared.types.Value.{Value}
+use Rattle.sqlite.specs.declared.types.Value.TheVariants.{Null, Int, Text}
+use Rattle.sqlite.specs.Order.{Row, column, bytes}
+use Rattle.sqlite.specs.Term.{Term, lit, col}
+use Rattle.sqlite.specs.Command.TheVariants.{Delete, Insert, Update, Select}
+use Rattle.sqlite.specs.Source.TheVariants.{Values}
+use Rattle.sqlite.specs.Tree.{Trees, with_tree}
+use Rattle.sqlite.specs.Edit.{next_rowid}
+use Rattle.sqlite.specs.Effect.{Database}
+use Rattle.sqlite_tied.specs.Compute.{everything}
+use Rattle.sqlite.specs.Listing.{understood, reads_listing}
+use Rattle.sqlite.specs.State.{State, ExecutesInside, Shown}
+use Rattle.sqlite.proofs.Callers.{IsPlain, command_of, runs_as, reads_as}
+use Rattle.sqlite_schema.specs.declared.schema.Constraint.TheVariants.{Unique}
+use Rattle.sqlite_trees.specs.Tree.{rowid, put_row}
+use Rattle.sqlite_trees.specs.View.{is_int}
+use Rattle.sqlite_rules.specs.Lists.{Has}
+use Rattle.sqlite_rules.specs.Cast.{cast_all}
+use Rattle.sqlite_value.specs.Order.{value_cmp}
+use Rattle.sqlite_keyed.proofs.ListLemmas.{all-filter, all_map, all_weaker}
+use Rattle.sqlite_rules.proofs.ListLemmas.{all_has}
+use Rattle.label.specs.Values.{is_gtin, is_lot_text, is_name, is_title, is_day, is_business_day}
+use Rattle.label.specs.declared.lot.LotId.{LotId}
+use Rattle.commands.specs.Spelling.{kind_text}
+use Rattle.commands.specs.declared.limits.TheConstants.{UNITS_MAX, ACTS_MAX, SHORT_MAX, KEY_TEXT_MAX, CARD_NOTE_MAX, SCHEMA_VERSION}
+use Rattle.commands.specs.declared.rows.RecallRow.{RecallRow}
+use Rattle.table_words.specs.Cells.{typed, is_word, is_the_text, fits_in, is_any, is_number, is_the_number, number_in, is_signed, is_any_number, signed_in, flag_number, flag_in, bin_kind_in, order_state_text, order_state_in, card_kind_text, card_kind_in}
+use Rattle.table_words.specs.Schema.{the_schema, recalls_tree, recalls_table}
+use Rattle.table_words.specs.Typed.{same_lot_id, is_recall, recall_in, has_recall, recall_read, RecallKey, same_recall, recall_key, recall_cells, with_recall, without_recall, tables_in, Tables, AreTyped, recalls_of_rows}
+use Rattle.table_words.specs.Steps.{IsReady, Goes}
+use Rattle.table_words.specs.Found.{AreRows}
+use Rattle.table_words.proofs.Plans.{same, scan, by_rowid, alone}
+use Rattle.table_words.proofs.ListLemmas.{over, IsRows-filter, IsRows-over, IsRows-put_row, all_over, all_put_row, any_counted, none_counted_pass, none_over, stays_put, filter_same_on}
+use Rattle.table_words.proofs.ScanLemmas.{passes, show, in_order, scanned}
+use Rattle.table_words.proofs.WriteLemmas.{deletes, inserts, inserts_at, updates, only_shown, cast_number, cast_null}
+use Rattle.table_words.proofs.CellLemmas.{and_true, and_assoc, same_word, same_count, same_the_number, equals_text, equals_number, same_number, itself_number, same_lots, itself_lot, id_is, typed-filter, shown_typed, flag_back, bin_kind_back, order_state_back, card_kind_back}
+use Rattle.table_words.proofs.StepLemmas.{ready_after, goes}
+use Rattle.table_words.proofs.KeyLemmas.{AtMostOne, one_by_key, one_by_rowid, few, none_had, IsSame, same_bytes, same_both, itself_bytes, itself_both, meets, found_without, found_put, found_over, are_rows}
+
+abbrev pub tests : List Term
+tests = same 1 0 ∷ same 2 1 ∷ []
+
+abbrev pub key_cells : LotId → Row
+key_cells lot = Text lot.gtin ∷ Text lot.lot ∷ []
+
+-- the tests find the key that the parameters begin with
+at_key : (params : Row) (lot : LotId) → column params 0 ≡ Text lot.gtin → column params 1 ≡ Text lot.lot → (r : Row) → is_recall r ≡ true → passes params tests r ≡ same_recall lot (recall_key (recall_in r))
+at_key params lot e0 e1 r h =
+    let p0 = and_parts _ _ h in
+    let p1 = and_parts _ _ p0.1 in
+    ap₂ ◌&&◌ (same_word is_gtin (column r 1) (column params 0) lot.gtin p0.0 e0) (and_true _ ∙ same_word is_lot_text (column r 2) (column params 1) lot.lot p1.0 e1)
+
+one_key : IsSame {K = RecallKey} same_recall
+one_key = same_lots
+
+-- no key comes twice
+one_row : (db : Database) → IsReady db → (params : Row) → AtMostOne (passes params tests) (db.trees recalls_tree)
+one_row db ready params =
+    one_by_key the_schema db.trees (recalls_table recalls_tree) (1 ∷ 2 ∷ []) _ (inr (inr (inr (inl refl)))) refl refl refl
+    (ready.sound.obeys.rules Unique).1.1.1.1.0 ready.rows.1.1.1.1.0 params
+
+-- ---- DELETE
+
+abbrev pub drop_text : List ℕ
+drop_text = codes "DELETE FROM recalls WHERE gtin = ?1 AND lot = ?2"
+
+drop_is : command_of (understood the_schema drop_text) ≡ Delete 4 (alone (scan recalls_tree tests (col 1 0 ∷ []) []))
+unfolding understood everything
+drop_is = refl
+
+drop_plain : IsPlain (understood the_schema drop_text)
+unfolding understood everything
+drop_plain = (refl, refl)
+
+pub drops : (old new : State) (lot : LotId) (count : ℕ) → IsReady old.now → IsTrue old.in_transaction → ExecutesInside 0 drop_text (key_cells lot) old new (Ok count) → Goes (without_recall lot) old new
+drops old new lot count ready inside h =
+    let params = key_cells lot in
+    let p = passes params tests in
+    let rows = old.now.trees recalls_tree in
+    let left = filter (λ r. not (p r)) rows in
+    let w = runs_as drop_text params old new the_schema ready.schema_is _ drop_is drop_plain count h.0 in
+    let c = deletes the_schema 4 recalls_tree _ _ _ _ _ _ refl (λ _ _. refl) old new tests _ params count ready.schema_is ready.rows.1.1.1.1.0 w in
+    goes old new recalls_tree left _ ready (IsRows-filter _ rows ready.rows.1.1.1.1.0) c (h.1.mode ∙ sym inside)
+    (λ i. let t : Tables = record (tables_in old.now.trees) {
+      recall = λ at_lot. found_without is_recall recall_in p (λ s. same_recall lot (recall_key s)) (λ s. same_recall at_lot (recall_key s)) (same_recall at_lot lot)
+          (meets same_recall recall_key one_key lot at_lot) (at_key params lot refl refl) rows i;
+    } in t)
+    (λ are. record { meta = are.meta; items = are.items; bins = are.bins; lots = are.lots; recalls = all-filter (λ r. is_recall r ≡ true) _ rows are.recalls; stock = are.stock; orders = are.orders; lines = are.lines; staged = are.staged; reserved = are.reserved; shipments = are.shipments; shiplines = are.shiplines; cards = are.cards; repeats = are.repeats })
+
+-- ---- UPDATE
+
+abbrev pub change_text : List ℕ
+change_text = codes "UPDATE recalls SET gtin = ?1, lot = ?2, act = ?3 WHERE gtin = ?1 AND lot = ?2"
+
+abbrev change_terms : List Term
+change_terms = col 0 0 ∷ col 0 1 ∷ col 0 2 ∷ []
+
+abbrev pub values : RecallRow → Row
+values s = recall_cells s
+
+change_is : command_of (understood the_schema change_text) ≡ Update 4 (alone (scan recalls_tree tests (col 1 0 ∷ col 1 0 ∷ change_terms) []))
+unfolding understood everything
+change_is = refl
+
+change_plain : IsPlain (understood the_schema change_text)
+unfolding understood everything
+change_plain = (refl, refl)
+
+fits : (s : RecallRow) → cast_all (recalls_table recalls_tree).columns (values s) ≡ values s
+fits s = rw (cast_number (pos s.act)) refl
+
+-- what is written reads as the row
+back : (id : Value) (s : RecallRow) → recall_in (id ∷ values s) ≡ s
+back id s = refl
+
+-- whether there was a row with the key
+pub changes : (old new : State) (s : RecallRow) (count : ℕ) → is_recall (Null ∷ values s) ≡ true → IsReady old.now → IsTrue old.in_transaction → ExecutesInside 0 change_text (recall_cells s) old new (Ok count)
+    → (count ≢ 0 → Goes (with_recall s) old new) × (count ≡ 0 → Goes (λ t. t) old new)
+changes old new s count sound ready inside h =
+    let params = recall_cells s in
+    let p = passes params tests in
+    let rows = old.now.trees recalls_tree in
+    let kept = ready.rows.1.1.1.1.0 in
+    let after = over p (values s) rows in
+    let w = runs_as change_text params old new the_schema ready.schema_is _ change_is change_plain count h.0 in
+    let u = updates the_schema 4 recalls_tree _ _ _ _ _ _ refl (λ _ _. refl) old new tests change_terms _ params (values s) count ready.schema_is kept (λ r. refl) (fits s) (few p rows kept.0 (one_row old.now ready params)) w in
+    let mode = h.1.mode ∙ sym inside in
+    let typed_after : AreTyped old.now.trees → AreTyped (with_tree old.now.trees recalls_tree after) = λ are. record { meta = are.meta; items = are.items; bins = are.bins; lots = are.lots; recalls = all_over (λ r. is_recall r ≡ true) p (values s) rows (λ r h e. sound) are.recalls; stock = are.stock; orders = are.orders; lines = are.lines; staged = are.staged; reserved = are.reserved; shipments = are.shipments; shiplines = are.shiplines; cards = are.cards; repeats = are.repeats } in (
+      λ some. goes old new recalls_tree after _ ready (IsRows-over p (values s) rows kept) u.0 mode
+          (λ i. let t : Tables = record (tables_in old.now.trees) { recall = λ at_lot. found_over is_recall recall_in p (λ x. same_recall s.lot (recall_key x)) (λ x. same_recall at_lot (recall_key x)) (same_recall at_lot s.lot) (meets same_recall recall_key one_key s.lot at_lot) (at_key params s.lot refl refl) s refl (values s) rows kept.1 (λ r _ _. (sound, back (rowid r) s)) (any_counted p rows (λ none. some (u.1 ∙ none))) i } in t)
+          typed_after,
+      λ none. goes old new recalls_tree after _ ready (IsRows-over p (values s) rows kept) u.0 mode
+          (ap (λ l. tables_in (with_tree old.now.trees recalls_tree l)) (none_over p (values s) rows (none_counted_pass p rows (sym u.1 ∙ none))))
+          typed_after,
+    )
+
+-- ---- INSERT
+
+abbrev pub add_text : List ℕ
+add_text = codes "INSERT INTO recalls (gtin, lot, act) VALUES (?1, ?2, ?3)"
+
+abbrev add_terms : List Term
+add_terms = lit Null ∷ col 0 0 ∷ col 0 1 ∷ col 0 2 ∷ []
+
+add_is : command_of (understood the_schema add_text) ≡ Insert 4 (Values add_terms 4)
+unfolding understood everything
+add_is = refl
+
+add_plain : IsPlain (understood the_schema add_text)
+unfolding understood everything
+add_plain = (refl, refl)
+
+itself : (k : RecallKey) → same_recall k k ≡ true
+itself k = itself_lot k
+
+-- it is refused where the key is there
+pub adds : (old new : State) (s : RecallRow) (count : ℕ) → is_recall (Null ∷ values s) ≡ true → IsReady old.now → IsTrue old.in_transaction → ExecutesInside 0 add_text (recall_cells s) old new (Ok count) → Goes (with_recall s) old new
+adds old new s count sound ready inside h =
+    let params = recall_cells s in
+    let p = passes params tests in
+    let rows = old.now.trees recalls_tree in
+    let kept = ready.rows.1.1.1.1.0 in
+    let row : Row = Int (next_rowid rows) ∷ values s in
+    let after = put_row row rows in
+    let w = runs_as add_text params old new the_schema ready.schema_is _ add_is add_plain count h.0 in
+    let u = inserts the_schema 4 recalls_tree _ _ _ _ _ _ refl (λ _ _. refl) old new add_terms 4 _ params (values s) count ready.schema_is refl (fits s) w in
+    let good = IsRows-put_row row rows refl kept in
+    let ready_now = ready_after old.now new.now recalls_tree after ready good u.0 in
+    let there : p row ≡ true = at_key params s.lot refl refl row sound ∙ itself s.lot in
+    let none = none_had p row rows u.1 there (subst (AtMostOne p) u.0.trees_are.1.1.1.1.0 (one_row new.now ready_now params)) (stays_put row rows u.1) in
+    goes old new recalls_tree after _ ready good u.0 (h.1.mode ∙ sym inside)
+    (λ i. let t : Tables = record (tables_in old.now.trees) { recall = λ at_lot. found_put is_recall recall_in p (λ x. same_recall s.lot (recall_key x)) (λ x. same_recall at_lot (recall_key x)) (same_recall at_lot s.lot) (meets same_recall recall_key one_key s.lot at_lot) (at_key params s.lot refl refl) s refl row rows sound (back (Int (next_rowid rows)) s) u.1 none i } in t)
+    (λ are. record { meta = are.meta; items = are.items; bins = are.bins; lots = are.lots; recalls = all_put_row (λ r. is_recall r ≡ true) row rows sound are.recalls; stock = are.stock; orders = are.orders; lines = are.lines; staged = are.staged; reserved = are.reserved; shipments = are.shipments; shiplines = are.shiplines; cards = are.cards; repeats = are.repeats })
+
+-- ---- SELECT
+
+abbrev shown : List Term
+shown = col 1 1 ∷ col 1 2 ∷ col 1 3 ∷ []
+
+apart : (db : Database) (ready : IsReady db) (a b : Row) → Has (db.trees recalls_tree) a → Has (db.trees recalls_tree) b → is_recall a ≡ true → is_recall b ≡ true
+    → same_recall (recall_key (recall_in a)) (recall_key (recall_in b)) ≡ true → value_cmp (rowid a) (rowid b) ≡ Equal
+apart db ready a b ha hb ta tb e =
+    let s = recall_in a in
+    let params = key_cells s.lot in
+    one_row db ready params b a hb ha (at_key params s.lot refl refl b tb ∙ e) (at_key params s.lot refl refl a ta ∙ itself s.lot)
+
+abbrev pub recalls_of_text : List ℕ
+recalls_of_text = codes "SELECT gtin, lot, act FROM recalls WHERE gtin = ?1 ORDER BY rowid"
+
+abbrev recalls_of_tests : List Term
+recalls_of_tests = same 1 0 ∷ []
+
+recalls_of_is : (command_of (understood the_schema recalls_of_text) ≡ Select (alone (scan recalls_tree recalls_of_tests shown by_rowid)) (codes "gtin" ∷ codes "lot" ∷ codes "act" ∷ [])) × (reads_listing the_schema recalls_of_text ≡ false)
+unfolding understood everything
+recalls_of_is = (refl, refl)
+
+pub recalls_of_plain : IsPlain (understood the_schema recalls_of_text)
+unfolding understood everything
+recalls_of_plain = (refl, refl)
+
+recalls_of_at : (gtin : List ℕ) (r : Row) → is_recall r ≡ true → passes (Text gtin ∷ []) recalls_of_tests r ≡ (let key = recall_key (recall_in r) in bytes_eq gtin key.gtin)
+recalls_of_at gtin r h =
+    let p0 = and_parts _ _ h in
+    and_true _ ∙ same_word is_gtin (column r 1) (Text gtin) gtin p0.0 refl
+
+recalls_of_turn : (old new : State) (gtin : List ℕ) (rows : List Row) → IsReady old.now → Shown recalls_of_text (Text gtin ∷ []) old new rows
+    → rows ≡ map (show (Text gtin ∷ []) shown) (filter (passes (Text gtin ∷ []) recalls_of_tests) (old.now.trees recalls_tree))
+recalls_of_turn old new gtin rows ready h =
+    let params = Text gtin ∷ [] in
+    let read = reads_as recalls_of_text params old new the_schema ready.schema_is _ recalls_of_is.0 recalls_of_plain recalls_of_is.1 rows h in
+    in_order old.now.trees params recalls_tree recalls_of_tests shown rows ready.rows.1.1.1.1.0.0 (read.answer Null)
+
+-- the rows that were read
+pub recalls_of_reads : (old new : State) (gtin : List ℕ) (rows : List Row) (xs : List RecallRow) → IsReady old.now → Shown recalls_of_text (Text gtin ∷ []) old new rows
+    → AllByRecursion (λ v. has_recall v ≡ true) rows → map recall_read rows ≡ xs
+    → AreRows {K = RecallKey} same_recall recall_key (λ key. bytes_eq gtin key.gtin) (λ key. (tables_in old.now.trees).recall key) xs
+recalls_of_reads old new gtin rows xs ready h has are =
+    let params = Text gtin ∷ [] in
+    let all = old.now.trees recalls_tree in
+    are_rows same_recall recall_key one_key (λ key. bytes_eq gtin key.gtin) is_recall recall_in all xs ready.rows.1.1.1.1.0.0 (apart old.now ready)
+    (shown_typed is_recall recall_in has_recall recall_read (show params shown) (λ r. refl) (λ r. refl) _ rows xs (recalls_of_turn old new gtin rows ready h) has are
+    ∙ typed-filter is_recall recall_in (passes params recalls_of_tests) (λ x. let key = recall_key x in bytes_eq gtin key.gtin) (recalls_of_at gtin) all)
+
+-- each of them reads as a typed row
+pub recalls_of_typed : (old new : State) (gtin : List ℕ) (rows : List Row) → IsReady old.now → Shown recalls_of_text (Text gtin ∷ []) old new rows
+    → AllByRecursion (λ r. is_recall r ≡ true) (recalls_of_rows gtin old.now.trees) → AllByRecursion (λ v. has_recall v ≡ true) rows
+recalls_of_typed old new gtin rows ready h are =
+    let params = Text gtin ∷ [] in
+    let all = old.now.trees recalls_tree in
+    let same_rows = filter_same_on (passes params recalls_of_tests) (λ r. is_the_text gtin (column r 1)) all (λ r there. and_true _ ∙ equals_text (column r 1) gtin) in
+    subst (AllByRecursion (λ v. has_recall v ≡ true)) (sym (recalls_of_turn old new gtin rows ready h))
+    (all_map (λ v. has_recall v ≡ true) (show params shown) _ (subst (AllByRecursion (λ r. is_recall r ≡ true)) (sym same_rows) are))

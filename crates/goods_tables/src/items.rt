@@ -1,0 +1,135 @@
+//! The table `items`.
+
+ghost use Rattle.std.specs.Prelude.{◌≡◌, ◌≤◌, true, false, find, map, OnOk, IfOk, IfErr, bytes_eq, nat_eq, if◌then◌else◌};
+ghost use Rattle.std.specs.List.{AllByRecursion};
+ghost use Rattle.sqlite.specs.State.{HasCleanDisk, Survives, KeepsCommit, IsUnchanged};
+ghost use Rattle.sqlite.specs.Held.{state};
+ghost use Rattle.table_words.specs.Found.{AreRows};
+ghost use Rattle.table_words.specs.Steps.{IsReady, Goes};
+ghost use Rattle.table_words.specs.Typed.{tables_in, same_lot_id, with_item, without_item, is_item, has_item, item_read, item_key, same_item, ItemKey, items_of_rows, all_items_rows};
+ghost use Rattle.table_words.specs.declared.error.TableFault.TheVariants.{Foreign};
+
+use commands::ItemRow;
+use label::Gtin;
+use sqlite::{Alter, Row, Transaction};
+use std::alloc::Global;
+use table_words::error::TableFault;
+use table_words::values::{gtin_at, of_gtin, of_title, title_at};
+
+/// Drops the row with this key, if there is one.
+pub fn drop_item<S: Alter>(tx: &mut Transaction<'_, S>, gtin: &Gtin) -> Result<(), TableFault>
+    ensures same_reference { tx.new.conn.ghost_name ≡ tx.old.conn.ghost_name }
+    ensures done { HasCleanDisk (state S.Store tx.new.conn.now) → IsReady (state S.Store tx.old.conn.now).now
+        → OnOk result (Goes (without_item gtin.now) (state S.Store tx.old.conn.now) (state S.Store tx.new.conn.now)) }
+    ensures kept { HasCleanDisk (state S.Store tx.new.conn.now) → KeepsCommit (state S.Store tx.old.conn.now) (state S.Store tx.new.conn.now) }
+    ensures survives { Survives (state S.Store tx.old.conn.now) (state S.Store tx.new.conn.now) (λ _. ⊥) }
+{
+    tx.execute("DELETE FROM items WHERE gtin = ?1", &[of_gtin(gtin)])?;
+    Ok(())
+}
+
+/// Writes the row over one with its key, and tells whether there was one.
+fn change_item<S: Alter>(tx: &mut Transaction<'_, S>, row: &ItemRow) -> Result<bool, TableFault>
+    ensures same_reference { tx.new.conn.ghost_name ≡ tx.old.conn.ghost_name }
+    ensures done { HasCleanDisk (state S.Store tx.new.conn.now) → IsReady (state S.Store tx.old.conn.now).now
+        → IfOk result (λ had. Goes (if had then with_item row.now else (λ t. t)) (state S.Store tx.old.conn.now) (state S.Store tx.new.conn.now)) }
+    ensures kept { HasCleanDisk (state S.Store tx.new.conn.now) → KeepsCommit (state S.Store tx.old.conn.now) (state S.Store tx.new.conn.now) }
+    ensures survives { Survives (state S.Store tx.old.conn.now) (state S.Store tx.new.conn.now) (λ _. ⊥) }
+{
+    let count = tx.execute(
+        "UPDATE items SET gtin = ?1, name = ?2 WHERE gtin = ?1",
+        &[of_gtin(&row.gtin), of_title(&row.name)],
+    )?;
+    Ok(count != 0)
+}
+
+/// Puts a row whose key is new.
+fn add_item<S: Alter>(tx: &mut Transaction<'_, S>, row: &ItemRow) -> Result<(), TableFault>
+    ensures same_reference { tx.new.conn.ghost_name ≡ tx.old.conn.ghost_name }
+    ensures done { HasCleanDisk (state S.Store tx.new.conn.now) → IsReady (state S.Store tx.old.conn.now).now
+        → OnOk result (Goes (with_item row.now) (state S.Store tx.old.conn.now) (state S.Store tx.new.conn.now)) }
+    ensures kept { HasCleanDisk (state S.Store tx.new.conn.now) → KeepsCommit (state S.Store tx.old.conn.now) (state S.Store tx.new.conn.now) }
+    ensures survives { Survives (state S.Store tx.old.conn.now) (state S.Store tx.new.conn.now) (λ _. ⊥) }
+{
+    tx.execute(
+        "INSERT INTO items (gtin, name) VALUES (?1, ?2)",
+        &[of_gtin(&row.gtin), of_title(&row.name)],
+    )?;
+    Ok(())
+}
+
+/// Puts the row, in place of one with its key.
+pub fn put_item<S: Alter>(tx: &mut Transaction<'_, S>, row: &ItemRow) -> Result<(), TableFault>
+    ensures same_reference { tx.new.conn.ghost_name ≡ tx.old.conn.ghost_name }
+    ensures done { HasCleanDisk (state S.Store tx.new.conn.now) → IsReady (state S.Store tx.old.conn.now).now
+        → OnOk result (Goes (with_item row.now) (state S.Store tx.old.conn.now) (state S.Store tx.new.conn.now)) }
+    ensures kept { HasCleanDisk (state S.Store tx.new.conn.now) → KeepsCommit (state S.Store tx.old.conn.now) (state S.Store tx.new.conn.now) }
+    ensures survives { Survives (state S.Store tx.old.conn.now) (state S.Store tx.new.conn.now) (λ _. ⊥) }
+{
+    if change_item(tx, row)? {
+        return Ok(());
+    }
+    add_item(tx, row)
+}
+
+fn to_row(row: &Row) -> Result<ItemRow, TableFault>
+    ensures ok { IfOk result (λ s. (has_item row.now ≡ true) × (item_read row.now ≡ s)) }
+    ensures foreign { IfErr result (λ e. e ≡ Foreign → has_item row.now ≡ false) }
+{
+    Ok(ItemRow {
+        gtin: gtin_at(row, 0)?,
+        name: title_at(row, 1)?,
+    })
+}
+
+fn to_rows(alloc: Global, rows: &[Row]) -> Result<Vec<ItemRow>, TableFault>
+    ensures typed { IfOk result (λ found. AllByRecursion (λ v. has_item v ≡ true) rows.now) }
+    ensures ok { IfOk result (λ found. map item_read rows.now ≡ found.items) }
+    ensures foreign { IfErr result (λ e. e ≡ Foreign → ¬ AllByRecursion (λ v. has_item v ≡ true) rows.now) }
+{
+    let mut found = Vec::new(alloc);
+    for row in rows {
+        found.push(to_row(row)?)?;
+    }
+    Ok(found)
+}
+
+/// The rows of this gtin, the oldest first; `Foreign` where one of them has a value that no row has.
+pub fn items_of<S: Alter>(
+    alloc: Global,
+    tx: &mut Transaction<'_, S>,
+    gtin: &Gtin,
+) -> Result<Vec<ItemRow>, TableFault>
+    ensures same_reference { tx.new.conn.ghost_name ≡ tx.old.conn.ghost_name }
+    ensures rows { HasCleanDisk (state S.Store tx.new.conn.now) → IsReady (state S.Store tx.old.conn.now).now
+        → IfOk result (λ rows. AreRows {K = ItemKey} same_item item_key (λ key. bytes_eq gtin.now key) (λ key. (tables_in (state S.Store tx.old.conn.now).now.trees).item key) rows.items) }
+    ensures foreign { HasCleanDisk (state S.Store tx.new.conn.now) → IsReady (state S.Store tx.old.conn.now).now
+        → IfErr result (λ e. e ≡ Foreign → ¬ AllByRecursion (λ r. is_item r ≡ true) (items_of_rows gtin.now (state S.Store tx.old.conn.now).now.trees)) }
+    ensures same { HasCleanDisk (state S.Store tx.new.conn.now) → IsReady (state S.Store tx.old.conn.now).now → OnOk result (IsUnchanged (state S.Store tx.old.conn.now) (state S.Store tx.new.conn.now)) }
+    ensures kept { HasCleanDisk (state S.Store tx.new.conn.now) → IsReady (state S.Store tx.old.conn.now).now → KeepsCommit (state S.Store tx.old.conn.now) (state S.Store tx.new.conn.now) }
+    ensures survives { Survives (state S.Store tx.old.conn.now) (state S.Store tx.new.conn.now) (λ _. ⊥) }
+{
+    let rows = tx.query_all(
+        "SELECT gtin, name FROM items WHERE gtin = ?1 ORDER BY rowid",
+        &[of_gtin(gtin)],
+    )?;
+    to_rows(alloc, rows.as_slice())
+}
+
+/// The rows of the whole table, the oldest first; `Foreign` where one of them has a value that no row has.
+pub fn all_items<S: Alter>(
+    alloc: Global,
+    tx: &mut Transaction<'_, S>,
+) -> Result<Vec<ItemRow>, TableFault>
+    ensures same_reference { tx.new.conn.ghost_name ≡ tx.old.conn.ghost_name }
+    ensures rows { HasCleanDisk (state S.Store tx.new.conn.now) → IsReady (state S.Store tx.old.conn.now).now
+        → IfOk result (λ rows. AreRows {K = ItemKey} same_item item_key (λ key. true) (λ key. (tables_in (state S.Store tx.old.conn.now).now.trees).item key) rows.items) }
+    ensures foreign { HasCleanDisk (state S.Store tx.new.conn.now) → IsReady (state S.Store tx.old.conn.now).now
+        → IfErr result (λ e. e ≡ Foreign → ¬ AllByRecursion (λ r. is_item r ≡ true) (all_items_rows (state S.Store tx.old.conn.now).now.trees)) }
+    ensures same { HasCleanDisk (state S.Store tx.new.conn.now) → IsReady (state S.Store tx.old.conn.now).now → OnOk result (IsUnchanged (state S.Store tx.old.conn.now) (state S.Store tx.new.conn.now)) }
+    ensures kept { HasCleanDisk (state S.Store tx.new.conn.now) → IsReady (state S.Store tx.old.conn.now).now → KeepsCommit (state S.Store tx.old.conn.now) (state S.Store tx.new.conn.now) }
+    ensures survives { Survives (state S.Store tx.old.conn.now) (state S.Store tx.new.conn.now) (λ _. ⊥) }
+{
+    let rows = tx.query_all("SELECT gtin, name FROM items ORDER BY rowid", &[])?;
+    to_rows(alloc, rows.as_slice())
+}

@@ -1,0 +1,9 @@
+//! The tables of the books, items, bins and lots, one call for each statement.
+#![tactic(auto)]
+
+pub mod bins;
+pub mod items;
+pub mod lots;
+pub mod meta;
+pub mod recalls;
+pub mod stock;

@@ -1,0 +1,166 @@
+//! The table `lots`.
+
+ghost use Rattle.std.specs.Prelude.{◌≡◌, ◌≤◌, true, false, find, map, OnOk, IfOk, IfErr, bytes_eq, nat_eq, if◌then◌else◌};
+ghost use Rattle.std.specs.List.{AllByRecursion};
+ghost use Rattle.sqlite.specs.State.{HasCleanDisk, Survives, KeepsCommit, IsUnchanged};
+ghost use Rattle.sqlite.specs.Held.{state};
+ghost use Rattle.table_words.specs.Found.{AreRows};
+ghost use Rattle.table_words.specs.Steps.{IsReady, Goes};
+ghost use Rattle.table_words.specs.Typed.{tables_in, same_lot_id, with_lot, without_lot, is_lot, has_lot, lot_read, lot_key, same_lot, LotKey, lots_of_rows, all_lots_rows};
+ghost use Rattle.table_words.specs.declared.error.TableFault.TheVariants.{Foreign};
+
+use commands::LotRow;
+use commands::limits::ACTS_MAX;
+use label::{Gtin, LotId};
+use sqlite::{Alter, Row, Transaction};
+use std::alloc::Global;
+use table_words::error::TableFault;
+use table_words::values::{
+    day_at, flag_at, gtin_at, lot_at, number_at, of_day, of_flag, of_gtin, of_lot, of_number,
+};
+
+/// Drops the row with this key, if there is one.
+pub fn drop_lot<S: Alter>(tx: &mut Transaction<'_, S>, lot: &LotId) -> Result<(), TableFault>
+    ensures same_reference { tx.new.conn.ghost_name ≡ tx.old.conn.ghost_name }
+    ensures done { HasCleanDisk (state S.Store tx.new.conn.now) → IsReady (state S.Store tx.old.conn.now).now
+        → OnOk result (Goes (without_lot lot.now) (state S.Store tx.old.conn.now) (state S.Store tx.new.conn.now)) }
+    ensures kept { HasCleanDisk (state S.Store tx.new.conn.now) → KeepsCommit (state S.Store tx.old.conn.now) (state S.Store tx.new.conn.now) }
+    ensures survives { Survives (state S.Store tx.old.conn.now) (state S.Store tx.new.conn.now) (λ _. ⊥) }
+{
+    tx.execute(
+        "DELETE FROM lots WHERE gtin = ?1 AND lot = ?2",
+        &[of_gtin(&lot.gtin), of_lot(&lot.lot)],
+    )?;
+    Ok(())
+}
+
+/// Writes the row over one with its key, and tells whether there was one.
+fn change_lot<S: Alter>(tx: &mut Transaction<'_, S>, row: &LotRow) -> Result<bool, TableFault>
+    requires fits_came { row.now.came ≤ ACTS_MAX }
+    ensures same_reference { tx.new.conn.ghost_name ≡ tx.old.conn.ghost_name }
+    ensures done { HasCleanDisk (state S.Store tx.new.conn.now) → IsReady (state S.Store tx.old.conn.now).now
+        → IfOk result (λ had. Goes (if had then with_lot row.now else (λ t. t)) (state S.Store tx.old.conn.now) (state S.Store tx.new.conn.now)) }
+    ensures kept { HasCleanDisk (state S.Store tx.new.conn.now) → KeepsCommit (state S.Store tx.old.conn.now) (state S.Store tx.new.conn.now) }
+    ensures survives { Survives (state S.Store tx.old.conn.now) (state S.Store tx.new.conn.now) (λ _. ⊥) }
+{
+    let count = tx.execute(
+        "UPDATE lots SET gtin = ?1, lot = ?2, expiry = ?3, came = ?4, held = ?5 WHERE gtin = ?1 AND lot = ?2",
+        &[
+            of_gtin(&row.lot.gtin),
+            of_lot(&row.lot.lot),
+            of_day(row.expiry),
+            of_number(row.came),
+            of_flag(row.held),
+        ],
+    )?;
+    Ok(count != 0)
+}
+
+/// Puts a row whose key is new.
+fn add_lot<S: Alter>(tx: &mut Transaction<'_, S>, row: &LotRow) -> Result<(), TableFault>
+    requires fits_came { row.now.came ≤ ACTS_MAX }
+    ensures same_reference { tx.new.conn.ghost_name ≡ tx.old.conn.ghost_name }
+    ensures done { HasCleanDisk (state S.Store tx.new.conn.now) → IsReady (state S.Store tx.old.conn.now).now
+        → OnOk result (Goes (with_lot row.now) (state S.Store tx.old.conn.now) (state S.Store tx.new.conn.now)) }
+    ensures kept { HasCleanDisk (state S.Store tx.new.conn.now) → KeepsCommit (state S.Store tx.old.conn.now) (state S.Store tx.new.conn.now) }
+    ensures survives { Survives (state S.Store tx.old.conn.now) (state S.Store tx.new.conn.now) (λ _. ⊥) }
+{
+    tx.execute(
+        "INSERT INTO lots (gtin, lot, expiry, came, held) VALUES (?1, ?2, ?3, ?4, ?5)",
+        &[
+            of_gtin(&row.lot.gtin),
+            of_lot(&row.lot.lot),
+            of_day(row.expiry),
+            of_number(row.came),
+            of_flag(row.held),
+        ],
+    )?;
+    Ok(())
+}
+
+/// Puts the row, in place of one with its key. A number above its limit is refused as too big.
+pub fn put_lot<S: Alter>(tx: &mut Transaction<'_, S>, row: &LotRow) -> Result<(), TableFault>
+    ensures same_reference { tx.new.conn.ghost_name ≡ tx.old.conn.ghost_name }
+    ensures done { HasCleanDisk (state S.Store tx.new.conn.now) → IsReady (state S.Store tx.old.conn.now).now
+        → OnOk result (Goes (with_lot row.now) (state S.Store tx.old.conn.now) (state S.Store tx.new.conn.now)) }
+    ensures kept { HasCleanDisk (state S.Store tx.new.conn.now) → KeepsCommit (state S.Store tx.old.conn.now) (state S.Store tx.new.conn.now) }
+    ensures survives { Survives (state S.Store tx.old.conn.now) (state S.Store tx.new.conn.now) (λ _. ⊥) }
+{
+    if row.came > ACTS_MAX {
+        return Err(TableFault::too_big());
+    }
+    if change_lot(tx, row)? {
+        return Ok(());
+    }
+    add_lot(tx, row)
+}
+
+fn to_row(row: &Row) -> Result<LotRow, TableFault>
+    ensures ok { IfOk result (λ s. (has_lot row.now ≡ true) × (lot_read row.now ≡ s)) }
+    ensures foreign { IfErr result (λ e. e ≡ Foreign → has_lot row.now ≡ false) }
+{
+    Ok(LotRow {
+        lot: LotId {
+            gtin: gtin_at(row, 0)?,
+            lot: lot_at(row, 1)?,
+        },
+        expiry: day_at(row, 2)?,
+        came: number_at(row, 3, ACTS_MAX)?,
+        held: flag_at(row, 4)?,
+    })
+}
+
+fn to_rows(alloc: Global, rows: &[Row]) -> Result<Vec<LotRow>, TableFault>
+    ensures typed { IfOk result (λ found. AllByRecursion (λ v. has_lot v ≡ true) rows.now) }
+    ensures ok { IfOk result (λ found. map lot_read rows.now ≡ found.items) }
+    ensures foreign { IfErr result (λ e. e ≡ Foreign → ¬ AllByRecursion (λ v. has_lot v ≡ true) rows.now) }
+{
+    let mut found = Vec::new(alloc);
+    for row in rows {
+        found.push(to_row(row)?)?;
+    }
+    Ok(found)
+}
+
+/// The rows of this gtin, the oldest first; `Foreign` where one of them has a value that no row has.
+pub fn lots_of<S: Alter>(
+    alloc: Global,
+    tx: &mut Transaction<'_, S>,
+    gtin: &Gtin,
+) -> Result<Vec<LotRow>, TableFault>
+    ensures same_reference { tx.new.conn.ghost_name ≡ tx.old.conn.ghost_name }
+    ensures rows { HasCleanDisk (state S.Store tx.new.conn.now) → IsReady (state S.Store tx.old.conn.now).now
+        → IfOk result (λ rows. AreRows {K = LotKey} same_lot lot_key (λ key. bytes_eq gtin.now key.gtin) (λ key. (tables_in (state S.Store tx.old.conn.now).now.trees).lot key) rows.items) }
+    ensures foreign { HasCleanDisk (state S.Store tx.new.conn.now) → IsReady (state S.Store tx.old.conn.now).now
+        → IfErr result (λ e. e ≡ Foreign → ¬ AllByRecursion (λ r. is_lot r ≡ true) (lots_of_rows gtin.now (state S.Store tx.old.conn.now).now.trees)) }
+    ensures same { HasCleanDisk (state S.Store tx.new.conn.now) → IsReady (state S.Store tx.old.conn.now).now → OnOk result (IsUnchanged (state S.Store tx.old.conn.now) (state S.Store tx.new.conn.now)) }
+    ensures kept { HasCleanDisk (state S.Store tx.new.conn.now) → IsReady (state S.Store tx.old.conn.now).now → KeepsCommit (state S.Store tx.old.conn.now) (state S.Store tx.new.conn.now) }
+    ensures survives { Survives (state S.Store tx.old.conn.now) (state S.Store tx.new.conn.now) (λ _. ⊥) }
+{
+    let rows = tx.query_all(
+        "SELECT gtin, lot, expiry, came, held FROM lots WHERE gtin = ?1 ORDER BY rowid",
+        &[of_gtin(gtin)],
+    )?;
+    to_rows(alloc, rows.as_slice())
+}
+
+/// The rows of the whole table, the oldest first; `Foreign` where one of them has a value that no row has.
+pub fn all_lots<S: Alter>(
+    alloc: Global,
+    tx: &mut Transaction<'_, S>,
+) -> Result<Vec<LotRow>, TableFault>
+    ensures same_reference { tx.new.conn.ghost_name ≡ tx.old.conn.ghost_name }
+    ensures rows { HasCleanDisk (state S.Store tx.new.conn.now) → IsReady (state S.Store tx.old.conn.now).now
+        → IfOk result (λ rows. AreRows {K = LotKey} same_lot lot_key (λ key. true) (λ key. (tables_in (state S.Store tx.old.conn.now).now.trees).lot key) rows.items) }
+    ensures foreign { HasCleanDisk (state S.Store tx.new.conn.now) → IsReady (state S.Store tx.old.conn.now).now
+        → IfErr result (λ e. e ≡ Foreign → ¬ AllByRecursion (λ r. is_lot r ≡ true) (all_lots_rows (state S.Store tx.old.conn.now).now.trees)) }
+    ensures same { HasCleanDisk (state S.Store tx.new.conn.now) → IsReady (state S.Store tx.old.conn.now).now → OnOk result (IsUnchanged (state S.Store tx.old.conn.now) (state S.Store tx.new.conn.now)) }
+    ensures kept { HasCleanDisk (state S.Store tx.new.conn.now) → IsReady (state S.Store tx.old.conn.now).now → KeepsCommit (state S.Store tx.old.conn.now) (state S.Store tx.new.conn.now) }
+    ensures survives { Survives (state S.Store tx.old.conn.now) (state S.Store tx.new.conn.now) (λ _. ⊥) }
+{
+    let rows = tx.query_all(
+        "SELECT gtin, lot, expiry, came, held FROM lots ORDER BY rowid",
+        &[],
+    )?;
+    to_rows(alloc, rows.as_slice())
+}

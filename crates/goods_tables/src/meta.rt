@@ -1,0 +1,131 @@
+//! The table `meta`.
+
+ghost use Rattle.std.specs.Prelude.{◌≡◌, ◌≤◌, true, false, find, map, OnOk, IfOk, IfErr, bytes_eq, nat_eq, if◌then◌else◌};
+ghost use Rattle.std.specs.List.{AllByRecursion};
+ghost use Rattle.sqlite.specs.State.{HasCleanDisk, Survives, KeepsCommit, IsUnchanged};
+ghost use Rattle.sqlite.specs.Held.{state};
+ghost use Rattle.table_words.specs.Found.{AreRows};
+ghost use Rattle.table_words.specs.Steps.{IsReady, Goes};
+ghost use Rattle.table_words.specs.Typed.{tables_in, same_lot_id, with_meta, is_meta, has_meta, meta_read, meta_key, same_meta, MetaKey, meta_rows_rows};
+ghost use Rattle.table_words.specs.declared.error.TableFault.TheVariants.{Foreign};
+
+use commands::MetaRow;
+use commands::limits::{ACTS_MAX, SCHEMA_VERSION};
+use sqlite::{Alter, Row, Transaction};
+use std::alloc::Global;
+use table_words::error::TableFault;
+use table_words::values::{
+    business_day_at, expect_mark, expect_number, number_at, of_business_day, of_mark, of_number,
+};
+
+/// Writes the row over one with its key, and tells whether there was one.
+fn change_meta<S: Alter>(tx: &mut Transaction<'_, S>, row: &MetaRow) -> Result<bool, TableFault>
+    requires fits_acts { row.now.acts ≤ ACTS_MAX }
+    requires fits_shipments { row.now.shipments ≤ ACTS_MAX }
+    ensures same_reference { tx.new.conn.ghost_name ≡ tx.old.conn.ghost_name }
+    ensures done { HasCleanDisk (state S.Store tx.new.conn.now) → IsReady (state S.Store tx.old.conn.now).now
+        → IfOk result (λ had. Goes (if had then with_meta row.now else (λ t. t)) (state S.Store tx.old.conn.now) (state S.Store tx.new.conn.now)) }
+    ensures kept { HasCleanDisk (state S.Store tx.new.conn.now) → KeepsCommit (state S.Store tx.old.conn.now) (state S.Store tx.new.conn.now) }
+    ensures survives { Survives (state S.Store tx.old.conn.now) (state S.Store tx.new.conn.now) (λ _. ⊥) }
+{
+    let count = tx.execute(
+        "UPDATE meta SET mark = ?2, version = ?3, day = ?4, acts = ?5, shipments = ?6 WHERE id = ?1",
+        &[
+            of_number(1),
+            of_mark(),
+            of_number(SCHEMA_VERSION),
+            of_business_day(row.day),
+            of_number(row.acts),
+            of_number(row.shipments),
+        ],
+    )?;
+    Ok(count != 0)
+}
+
+/// Puts a row whose key is new.
+fn add_meta<S: Alter>(tx: &mut Transaction<'_, S>, row: &MetaRow) -> Result<(), TableFault>
+    requires fits_acts { row.now.acts ≤ ACTS_MAX }
+    requires fits_shipments { row.now.shipments ≤ ACTS_MAX }
+    ensures same_reference { tx.new.conn.ghost_name ≡ tx.old.conn.ghost_name }
+    ensures done { HasCleanDisk (state S.Store tx.new.conn.now) → IsReady (state S.Store tx.old.conn.now).now
+        → OnOk result (Goes (with_meta row.now) (state S.Store tx.old.conn.now) (state S.Store tx.new.conn.now)) }
+    ensures kept { HasCleanDisk (state S.Store tx.new.conn.now) → KeepsCommit (state S.Store tx.old.conn.now) (state S.Store tx.new.conn.now) }
+    ensures survives { Survives (state S.Store tx.old.conn.now) (state S.Store tx.new.conn.now) (λ _. ⊥) }
+{
+    tx.execute(
+        "INSERT INTO meta (id, mark, version, day, acts, shipments) VALUES (?1, ?2, ?3, ?4, ?5, ?6)",
+        &[
+            of_number(1),
+            of_mark(),
+            of_number(SCHEMA_VERSION),
+            of_business_day(row.day),
+            of_number(row.acts),
+            of_number(row.shipments),
+        ],
+    )?;
+    Ok(())
+}
+
+/// Puts the row, in place of one with its key. A number above its limit is refused as too big.
+pub fn put_meta<S: Alter>(tx: &mut Transaction<'_, S>, row: &MetaRow) -> Result<(), TableFault>
+    ensures same_reference { tx.new.conn.ghost_name ≡ tx.old.conn.ghost_name }
+    ensures done { HasCleanDisk (state S.Store tx.new.conn.now) → IsReady (state S.Store tx.old.conn.now).now
+        → OnOk result (Goes (with_meta row.now) (state S.Store tx.old.conn.now) (state S.Store tx.new.conn.now)) }
+    ensures kept { HasCleanDisk (state S.Store tx.new.conn.now) → KeepsCommit (state S.Store tx.old.conn.now) (state S.Store tx.new.conn.now) }
+    ensures survives { Survives (state S.Store tx.old.conn.now) (state S.Store tx.new.conn.now) (λ _. ⊥) }
+{
+    if row.acts > ACTS_MAX || row.shipments > ACTS_MAX {
+        return Err(TableFault::too_big());
+    }
+    if change_meta(tx, row)? {
+        return Ok(());
+    }
+    add_meta(tx, row)
+}
+
+fn to_row(row: &Row) -> Result<MetaRow, TableFault>
+    ensures ok { IfOk result (λ s. (has_meta row.now ≡ true) × (meta_read row.now ≡ s)) }
+    ensures foreign { IfErr result (λ e. e ≡ Foreign → has_meta row.now ≡ false) }
+{
+    expect_number(row, 0, 1)?;
+    expect_mark(row, 1)?;
+    expect_number(row, 2, SCHEMA_VERSION)?;
+    Ok(MetaRow {
+        day: business_day_at(row, 3)?,
+        acts: number_at(row, 4, ACTS_MAX)?,
+        shipments: number_at(row, 5, ACTS_MAX)?,
+    })
+}
+
+fn to_rows(alloc: Global, rows: &[Row]) -> Result<Vec<MetaRow>, TableFault>
+    ensures typed { IfOk result (λ found. AllByRecursion (λ v. has_meta v ≡ true) rows.now) }
+    ensures ok { IfOk result (λ found. map meta_read rows.now ≡ found.items) }
+    ensures foreign { IfErr result (λ e. e ≡ Foreign → ¬ AllByRecursion (λ v. has_meta v ≡ true) rows.now) }
+{
+    let mut found = Vec::new(alloc);
+    for row in rows {
+        found.push(to_row(row)?)?;
+    }
+    Ok(found)
+}
+
+/// The rows of `meta`, which is one at most, the oldest first; `Foreign` where one of them has a value that no row has.
+pub fn meta_rows<S: Alter>(
+    alloc: Global,
+    tx: &mut Transaction<'_, S>,
+) -> Result<Vec<MetaRow>, TableFault>
+    ensures same_reference { tx.new.conn.ghost_name ≡ tx.old.conn.ghost_name }
+    ensures rows { HasCleanDisk (state S.Store tx.new.conn.now) → IsReady (state S.Store tx.old.conn.now).now
+        → IfOk result (λ rows. find (λ r. true) rows.items ≡ (tables_in (state S.Store tx.old.conn.now).now.trees).meta) }
+    ensures foreign { HasCleanDisk (state S.Store tx.new.conn.now) → IsReady (state S.Store tx.old.conn.now).now
+        → IfErr result (λ e. e ≡ Foreign → ¬ AllByRecursion (λ r. is_meta r ≡ true) (meta_rows_rows 1 (state S.Store tx.old.conn.now).now.trees)) }
+    ensures same { HasCleanDisk (state S.Store tx.new.conn.now) → IsReady (state S.Store tx.old.conn.now).now → OnOk result (IsUnchanged (state S.Store tx.old.conn.now) (state S.Store tx.new.conn.now)) }
+    ensures kept { HasCleanDisk (state S.Store tx.new.conn.now) → IsReady (state S.Store tx.old.conn.now).now → KeepsCommit (state S.Store tx.old.conn.now) (state S.Store tx.new.conn.now) }
+    ensures survives { Survives (state S.Store tx.old.conn.now) (state S.Store tx.new.conn.now) (λ _. ⊥) }
+{
+    let rows = tx.query_all(
+        "SELECT id, mark, version, day, acts, shipments FROM meta WHERE id = ?1",
+        &[of_number(1)],
+    )?;
+    to_rows(alloc, rows.as_slice())
+}

@@ -1,0 +1,137 @@
+//! The table `recalls`.
+
+ghost use Rattle.std.specs.Prelude.{◌≡◌, ◌≤◌, true, false, find, map, OnOk, IfOk, IfErr, bytes_eq, nat_eq, if◌then◌else◌};
+ghost use Rattle.std.specs.List.{AllByRecursion};
+ghost use Rattle.sqlite.specs.State.{HasCleanDisk, Survives, KeepsCommit, IsUnchanged};
+ghost use Rattle.sqlite.specs.Held.{state};
+ghost use Rattle.table_words.specs.Found.{AreRows};
+ghost use Rattle.table_words.specs.Steps.{IsReady, Goes};
+ghost use Rattle.table_words.specs.Typed.{tables_in, same_lot_id, with_recall, without_recall, is_recall, has_recall, recall_read, recall_key, same_recall, RecallKey, recalls_of_rows};
+ghost use Rattle.table_words.specs.declared.error.TableFault.TheVariants.{Foreign};
+
+use commands::RecallRow;
+use commands::limits::ACTS_MAX;
+use label::{Gtin, LotId};
+use sqlite::{Alter, Row, Transaction};
+use std::alloc::Global;
+use table_words::error::TableFault;
+use table_words::values::{gtin_at, lot_at, number_at, of_gtin, of_lot, of_number};
+
+/// Drops the row with this key, if there is one.
+pub fn drop_recall<S: Alter>(tx: &mut Transaction<'_, S>, lot: &LotId) -> Result<(), TableFault>
+    ensures same_reference { tx.new.conn.ghost_name ≡ tx.old.conn.ghost_name }
+    ensures done { HasCleanDisk (state S.Store tx.new.conn.now) → IsReady (state S.Store tx.old.conn.now).now
+        → OnOk result (Goes (without_recall lot.now) (state S.Store tx.old.conn.now) (state S.Store tx.new.conn.now)) }
+    ensures kept { HasCleanDisk (state S.Store tx.new.conn.now) → KeepsCommit (state S.Store tx.old.conn.now) (state S.Store tx.new.conn.now) }
+    ensures survives { Survives (state S.Store tx.old.conn.now) (state S.Store tx.new.conn.now) (λ _. ⊥) }
+{
+    tx.execute(
+        "DELETE FROM recalls WHERE gtin = ?1 AND lot = ?2",
+        &[of_gtin(&lot.gtin), of_lot(&lot.lot)],
+    )?;
+    Ok(())
+}
+
+/// Writes the row over one with its key, and tells whether there was one.
+fn change_recall<S: Alter>(tx: &mut Transaction<'_, S>, row: &RecallRow) -> Result<bool, TableFault>
+    requires fits_act { row.now.act ≤ ACTS_MAX }
+    ensures same_reference { tx.new.conn.ghost_name ≡ tx.old.conn.ghost_name }
+    ensures done { HasCleanDisk (state S.Store tx.new.conn.now) → IsReady (state S.Store tx.old.conn.now).now
+        → IfOk result (λ had. Goes (if had then with_recall row.now else (λ t. t)) (state S.Store tx.old.conn.now) (state S.Store tx.new.conn.now)) }
+    ensures kept { HasCleanDisk (state S.Store tx.new.conn.now) → KeepsCommit (state S.Store tx.old.conn.now) (state S.Store tx.new.conn.now) }
+    ensures survives { Survives (state S.Store tx.old.conn.now) (state S.Store tx.new.conn.now) (λ _. ⊥) }
+{
+    let count = tx.execute(
+        "UPDATE recalls SET gtin = ?1, lot = ?2, act = ?3 WHERE gtin = ?1 AND lot = ?2",
+        &[
+            of_gtin(&row.lot.gtin),
+            of_lot(&row.lot.lot),
+            of_number(row.act),
+        ],
+    )?;
+    Ok(count != 0)
+}
+
+/// Puts a row whose key is new.
+fn add_recall<S: Alter>(tx: &mut Transaction<'_, S>, row: &RecallRow) -> Result<(), TableFault>
+    requires fits_act { row.now.act ≤ ACTS_MAX }
+    ensures same_reference { tx.new.conn.ghost_name ≡ tx.old.conn.ghost_name }
+    ensures done { HasCleanDisk (state S.Store tx.new.conn.now) → IsReady (state S.Store tx.old.conn.now).now
+        → OnOk result (Goes (with_recall row.now) (state S.Store tx.old.conn.now) (state S.Store tx.new.conn.now)) }
+    ensures kept { HasCleanDisk (state S.Store tx.new.conn.now) → KeepsCommit (state S.Store tx.old.conn.now) (state S.Store tx.new.conn.now) }
+    ensures survives { Survives (state S.Store tx.old.conn.now) (state S.Store tx.new.conn.now) (λ _. ⊥) }
+{
+    tx.execute(
+        "INSERT INTO recalls (gtin, lot, act) VALUES (?1, ?2, ?3)",
+        &[
+            of_gtin(&row.lot.gtin),
+            of_lot(&row.lot.lot),
+            of_number(row.act),
+        ],
+    )?;
+    Ok(())
+}
+
+/// Puts the row, in place of one with its key. A number above its limit is refused as too big.
+pub fn put_recall<S: Alter>(tx: &mut Transaction<'_, S>, row: &RecallRow) -> Result<(), TableFault>
+    ensures same_reference { tx.new.conn.ghost_name ≡ tx.old.conn.ghost_name }
+    ensures done { HasCleanDisk (state S.Store tx.new.conn.now) → IsReady (state S.Store tx.old.conn.now).now
+        → OnOk result (Goes (with_recall row.now) (state S.Store tx.old.conn.now) (state S.Store tx.new.conn.now)) }
+    ensures kept { HasCleanDisk (state S.Store tx.new.conn.now) → KeepsCommit (state S.Store tx.old.conn.now) (state S.Store tx.new.conn.now) }
+    ensures survives { Survives (state S.Store tx.old.conn.now) (state S.Store tx.new.conn.now) (λ _. ⊥) }
+{
+    if row.act > ACTS_MAX {
+        return Err(TableFault::too_big());
+    }
+    if change_recall(tx, row)? {
+        return Ok(());
+    }
+    add_recall(tx, row)
+}
+
+fn to_row(row: &Row) -> Result<RecallRow, TableFault>
+    ensures ok { IfOk result (λ s. (has_recall row.now ≡ true) × (recall_read row.now ≡ s)) }
+    ensures foreign { IfErr result (λ e. e ≡ Foreign → has_recall row.now ≡ false) }
+{
+    Ok(RecallRow {
+        lot: LotId {
+            gtin: gtin_at(row, 0)?,
+            lot: lot_at(row, 1)?,
+        },
+        act: number_at(row, 2, ACTS_MAX)?,
+    })
+}
+
+fn to_rows(alloc: Global, rows: &[Row]) -> Result<Vec<RecallRow>, TableFault>
+    ensures typed { IfOk result (λ found. AllByRecursion (λ v. has_recall v ≡ true) rows.now) }
+    ensures ok { IfOk result (λ found. map recall_read rows.now ≡ found.items) }
+    ensures foreign { IfErr result (λ e. e ≡ Foreign → ¬ AllByRecursion (λ v. has_recall v ≡ true) rows.now) }
+{
+    let mut found = Vec::new(alloc);
+    for row in rows {
+        found.push(to_row(row)?)?;
+    }
+    Ok(found)
+}
+
+/// The rows of this gtin, the oldest first; `Foreign` where one of them has a value that no row has.
+pub fn recalls_of<S: Alter>(
+    alloc: Global,
+    tx: &mut Transaction<'_, S>,
+    gtin: &Gtin,
+) -> Result<Vec<RecallRow>, TableFault>
+    ensures same_reference { tx.new.conn.ghost_name ≡ tx.old.conn.ghost_name }
+    ensures rows { HasCleanDisk (state S.Store tx.new.conn.now) → IsReady (state S.Store tx.old.conn.now).now
+        → IfOk result (λ rows. AreRows {K = RecallKey} same_recall recall_key (λ key. bytes_eq gtin.now key.gtin) (λ key. (tables_in (state S.Store tx.old.conn.now).now.trees).recall key) rows.items) }
+    ensures foreign { HasCleanDisk (state S.Store tx.new.conn.now) → IsReady (state S.Store tx.old.conn.now).now
+        → IfErr result (λ e. e ≡ Foreign → ¬ AllByRecursion (λ r. is_recall r ≡ true) (recalls_of_rows gtin.now (state S.Store tx.old.conn.now).now.trees)) }
+    ensures same { HasCleanDisk (state S.Store tx.new.conn.now) → IsReady (state S.Store tx.old.conn.now).now → OnOk result (IsUnchanged (state S.Store tx.old.conn.now) (state S.Store tx.new.conn.now)) }
+    ensures kept { HasCleanDisk (state S.Store tx.new.conn.now) → IsReady (state S.Store tx.old.conn.now).now → KeepsCommit (state S.Store tx.old.conn.now) (state S.Store tx.new.conn.now) }
+    ensures survives { Survives (state S.Store tx.old.conn.now) (state S.Store tx.new.conn.now) (λ _. ⊥) }
+{
+    let rows = tx.query_all(
+        "SELECT gtin, lot, act FROM recalls WHERE gtin = ?1 ORDER BY rowid",
+        &[of_gtin(gtin)],
+    )?;
+    to_rows(alloc, rows.as_slice())
+}

@@ -1,0 +1,146 @@
+//! The table `stock`.
+
+ghost use Rattle.std.specs.Prelude.{◌≡◌, ◌≤◌, true, false, find, map, OnOk, IfOk, IfErr, bytes_eq, nat_eq, if◌then◌else◌};
+ghost use Rattle.std.specs.List.{AllByRecursion};
+ghost use Rattle.sqlite.specs.State.{HasCleanDisk, Survives, KeepsCommit, IsUnchanged};
+ghost use Rattle.sqlite.specs.Held.{state};
+ghost use Rattle.table_words.specs.Found.{AreRows};
+ghost use Rattle.table_words.specs.Steps.{IsReady, Goes};
+ghost use Rattle.table_words.specs.Typed.{tables_in, same_lot_id, with_stock, without_stock, is_stock, has_stock, stock_read, stock_key, same_stock, StockKey, stock_of_rows};
+ghost use Rattle.table_words.specs.declared.error.TableFault.TheVariants.{Foreign};
+
+use commands::StockRow;
+use commands::limits::UNITS_MAX;
+use label::{Gtin, LotId, Name};
+use sqlite::{Alter, Row, Transaction};
+use std::alloc::Global;
+use table_words::error::TableFault;
+use table_words::values::{
+    gtin_at, lot_at, name_at, number_at, of_gtin, of_lot, of_name, of_number,
+};
+
+/// Drops the row with this key, if there is one.
+pub fn drop_stock<S: Alter>(
+    tx: &mut Transaction<'_, S>,
+    lot: &LotId,
+    bin: &Name,
+) -> Result<(), TableFault>
+    ensures same_reference { tx.new.conn.ghost_name ≡ tx.old.conn.ghost_name }
+    ensures done { HasCleanDisk (state S.Store tx.new.conn.now) → IsReady (state S.Store tx.old.conn.now).now
+        → OnOk result (Goes (without_stock lot.now bin.now) (state S.Store tx.old.conn.now) (state S.Store tx.new.conn.now)) }
+    ensures kept { HasCleanDisk (state S.Store tx.new.conn.now) → KeepsCommit (state S.Store tx.old.conn.now) (state S.Store tx.new.conn.now) }
+    ensures survives { Survives (state S.Store tx.old.conn.now) (state S.Store tx.new.conn.now) (λ _. ⊥) }
+{
+    tx.execute(
+        "DELETE FROM stock WHERE gtin = ?1 AND lot = ?2 AND bin = ?3",
+        &[of_gtin(&lot.gtin), of_lot(&lot.lot), of_name(bin)],
+    )?;
+    Ok(())
+}
+
+/// Writes the row over one with its key, and tells whether there was one.
+fn change_stock<S: Alter>(tx: &mut Transaction<'_, S>, row: &StockRow) -> Result<bool, TableFault>
+    requires fits_qty { row.now.qty ≤ UNITS_MAX }
+    ensures same_reference { tx.new.conn.ghost_name ≡ tx.old.conn.ghost_name }
+    ensures done { HasCleanDisk (state S.Store tx.new.conn.now) → IsReady (state S.Store tx.old.conn.now).now
+        → IfOk result (λ had. Goes (if had then with_stock row.now else (λ t. t)) (state S.Store tx.old.conn.now) (state S.Store tx.new.conn.now)) }
+    ensures kept { HasCleanDisk (state S.Store tx.new.conn.now) → KeepsCommit (state S.Store tx.old.conn.now) (state S.Store tx.new.conn.now) }
+    ensures survives { Survives (state S.Store tx.old.conn.now) (state S.Store tx.new.conn.now) (λ _. ⊥) }
+{
+    let count = tx.execute(
+        "UPDATE stock SET gtin = ?1, lot = ?2, bin = ?3, qty = ?4 WHERE gtin = ?1 AND lot = ?2 AND bin = ?3",
+        &[
+            of_gtin(&row.lot.gtin),
+            of_lot(&row.lot.lot),
+            of_name(&row.bin),
+            of_number(row.qty),
+        ],
+    )?;
+    Ok(count != 0)
+}
+
+/// Puts a row whose key is new.
+fn add_stock<S: Alter>(tx: &mut Transaction<'_, S>, row: &StockRow) -> Result<(), TableFault>
+    requires fits_qty { row.now.qty ≤ UNITS_MAX }
+    ensures same_reference { tx.new.conn.ghost_name ≡ tx.old.conn.ghost_name }
+    ensures done { HasCleanDisk (state S.Store tx.new.conn.now) → IsReady (state S.Store tx.old.conn.now).now
+        → OnOk result (Goes (with_stock row.now) (state S.Store tx.old.conn.now) (state S.Store tx.new.conn.now)) }
+    ensures kept { HasCleanDisk (state S.Store tx.new.conn.now) → KeepsCommit (state S.Store tx.old.conn.now) (state S.Store tx.new.conn.now) }
+    ensures survives { Survives (state S.Store tx.old.conn.now) (state S.Store tx.new.conn.now) (λ _. ⊥) }
+{
+    tx.execute(
+        "INSERT INTO stock (gtin, lot, bin, qty) VALUES (?1, ?2, ?3, ?4)",
+        &[
+            of_gtin(&row.lot.gtin),
+            of_lot(&row.lot.lot),
+            of_name(&row.bin),
+            of_number(row.qty),
+        ],
+    )?;
+    Ok(())
+}
+
+/// Puts the row, in place of one with its key. A number above its limit is refused as too big.
+pub fn put_stock<S: Alter>(tx: &mut Transaction<'_, S>, row: &StockRow) -> Result<(), TableFault>
+    ensures same_reference { tx.new.conn.ghost_name ≡ tx.old.conn.ghost_name }
+    ensures done { HasCleanDisk (state S.Store tx.new.conn.now) → IsReady (state S.Store tx.old.conn.now).now
+        → OnOk result (Goes (with_stock row.now) (state S.Store tx.old.conn.now) (state S.Store tx.new.conn.now)) }
+    ensures kept { HasCleanDisk (state S.Store tx.new.conn.now) → KeepsCommit (state S.Store tx.old.conn.now) (state S.Store tx.new.conn.now) }
+    ensures survives { Survives (state S.Store tx.old.conn.now) (state S.Store tx.new.conn.now) (λ _. ⊥) }
+{
+    if row.qty > UNITS_MAX {
+        return Err(TableFault::too_big());
+    }
+    if change_stock(tx, row)? {
+        return Ok(());
+    }
+    add_stock(tx, row)
+}
+
+fn to_row(row: &Row) -> Result<StockRow, TableFault>
+    ensures ok { IfOk result (λ s. (has_stock row.now ≡ true) × (stock_read row.now ≡ s)) }
+    ensures foreign { IfErr result (λ e. e ≡ Foreign → has_stock row.now ≡ false) }
+{
+    Ok(StockRow {
+        lot: LotId {
+            gtin: gtin_at(row, 0)?,
+            lot: lot_at(row, 1)?,
+        },
+        bin: name_at(row, 2)?,
+        qty: number_at(row, 3, UNITS_MAX)?,
+    })
+}
+
+fn to_rows(alloc: Global, rows: &[Row]) -> Result<Vec<StockRow>, TableFault>
+    ensures typed { IfOk result (λ found. AllByRecursion (λ v. has_stock v ≡ true) rows.now) }
+    ensures ok { IfOk result (λ found. map stock_read rows.now ≡ found.items) }
+    ensures foreign { IfErr result (λ e. e ≡ Foreign → ¬ AllByRecursion (λ v. has_stock v ≡ true) rows.now) }
+{
+    let mut found = Vec::new(alloc);
+    for row in rows {
+        found.push(to_row(row)?)?;
+    }
+    Ok(found)
+}
+
+/// The rows of this gtin, the oldest first; `Foreign` where one of them has a value that no row has.
+pub fn stock_of<S: Alter>(
+    alloc: Global,
+    tx: &mut Transaction<'_, S>,
+    gtin: &Gtin,
+) -> Result<Vec<StockRow>, TableFault>
+    ensures same_reference { tx.new.conn.ghost_name ≡ tx.old.conn.ghost_name }
+    ensures rows { HasCleanDisk (state S.Store tx.new.conn.now) → IsReady (state S.Store tx.old.conn.now).now
+        → IfOk result (λ rows. AreRows {K = StockKey} same_stock stock_key (λ key. bytes_eq gtin.now key.0.gtin) (λ key. (tables_in (state S.Store tx.old.conn.now).now.trees).stock key.0 key.1) rows.items) }
+    ensures foreign { HasCleanDisk (state S.Store tx.new.conn.now) → IsReady (state S.Store tx.old.conn.now).now
+        → IfErr result (λ e. e ≡ Foreign → ¬ AllByRecursion (λ r. is_stock r ≡ true) (stock_of_rows gtin.now (state S.Store tx.old.conn.now).now.trees)) }
+    ensures same { HasCleanDisk (state S.Store tx.new.conn.now) → IsReady (state S.Store tx.old.conn.now).now → OnOk result (IsUnchanged (state S.Store tx.old.conn.now) (state S.Store tx.new.conn.now)) }
+    ensures kept { HasCleanDisk (state S.Store tx.new.conn.now) → IsReady (state S.Store tx.old.conn.now).now → KeepsCommit (state S.Store tx.old.conn.now) (state S.Store tx.new.conn.now) }
+    ensures survives { Survives (state S.Store tx.old.conn.now) (state S.Store tx.new.conn.now) (λ _. ⊥) }
+{
+    let rows = tx.query_all(
+        "SELECT gtin, lot, bin, qty FROM stock WHERE gtin = ?1 ORDER BY rowid",
+        &[of_gtin(gtin)],
+    )?;
+    to_rows(alloc, rows.as_slice())
+}

@@ -1,0 +1,4 @@
+pub mod ShipmentLemmas
+pub mod ShiplineLemmas
+pub mod CardLemmas
+pub mod RepeatLemmas

@@ -1,0 +1,240 @@
+-- What the statements on `shiplines` mean, and what they make of the tables.
+use Rattle.std.proofs.Common.{◌≡◌, ◌≢◌, ◌≤◌, ℕ, ℤ, Bool, true, false, not, ◌&&◌, ◌||◌, cond, List, [], ◌∷◌, codes, map, filter, find, length, pos, Ok, Err, Some, None, inl, inr, IsTrue, refl, sym, ap, ap₂, subst, ◌∙◌, bytes_eq, Equal}
+use Rattle.std.specs.Prelude.{nat_eq, if◌then◌else◌, Option}
+use Rattle.std.specs.List.{AllByRecursion}
+use Rattle.std.proofs.lemmas.Bool.{and_parts}
+use Rattle.sqlite.specs.declared.types.Value.{Value}
+use Rattle.sqlite.specs.declared.types.Value.TheVariants.{Null, Int, Text}
+use Rattle.sqlite.specs.Order.{Row, column, bytes}
+use Rattle.sqlite.specs.Term.{Term, lit, col}
+use Rattle.sqlite.specs.Command.TheVariants.{Delete, Insert, Update, Select}
+use Rattle.sqlite.specs.Source.TheVariants.{Values}
+use Rattle.sqlite.specs.Tree.{Trees, with_tree}
+use Rattle.sqlite.specs.Edit.{next_rowid}
+use Rattle.sqlite.specs.Effect.{Database}
+use Rattle.sqlite_tied.specs.Compute.{everything}
+use Rattle.sqlite.specs.Listing.{understood, reads_listing}
+use Rattle.sqlite.specs.State.{State, ExecutesInside, Shown}
+use Rattle.sqlite.proofs.Callers.{IsPlain, command_of, runs_as, reads_as}
+use Rattle.sqlite_schema.specs.declared.schema.Constraint.TheVariants.{Unique}
+use Rattle.sqlite_trees.specs.Tree.{rowid, put_row}
+use Rattle.sqlite_trees.specs.View.{is_int}
+use Rattle.sqlite_rules.specs.Lists.{Has}
+use Rattle.sqlite_rules.specs.Cast.{cast_all}
+use Rattle.sqlite_value.specs.Order.{value_cmp}
+use Rattle.sqlite_keyed.proofs.ListLemmas.{all-filter, all_map, all_weaker}
+use Rattle.sqlite_rules.proofs.ListLemmas.{all_has}
+use Rattle.label.specs.Values.{is_gtin, is_lot_text, is_name, is_title, is_day, is_business_day}
+use Rattle.label.specs.declared.lot.LotId.{LotId}
+use Rattle.commands.specs.Spelling.{kind_text}
+use Rattle.commands.specs.declared.limits.TheConstants.{UNITS_MAX, ACTS_MAX, SHORT_MAX, KEY_TEXT_MAX, CARD_NOTE_MAX, SCHEMA_VERSION}
+use Rattle.commands.specs.declared.rows.ShiplineRow.{ShiplineRow}
+use Rattle.table_words.specs.Cells.{typed, is_word, is_the_text, fits_in, is_any, is_number, is_the_number, number_in, is_signed, is_any_number, signed_in, flag_number, flag_in, bin_kind_in, order_state_text, order_state_in, card_kind_text, card_kind_in}
+use Rattle.table_words.specs.Schema.{the_schema, shiplines_tree, shiplines_table}
+use Rattle.table_words.specs.Typed.{same_lot_id, is_shipline, shipline_in, has_shipline, shipline_read, ShiplineKey, same_shipline, shipline_key, shipline_cells, with_shipline, without_shipline, tables_in, Tables, AreTyped, shiplines_of_lot_rows}
+use Rattle.table_words.specs.Steps.{IsReady, Goes}
+use Rattle.table_words.specs.Found.{AreRows}
+use Rattle.table_words.proofs.Plans.{same, scan, by_rowid, alone}
+use Rattle.table_words.proofs.ListLemmas.{over, IsRows-filter, IsRows-over, IsRows-put_row, all_over, all_put_row, any_counted, none_counted_pass, none_over, stays_put, filter_same_on}
+use Rattle.table_words.proofs.ScanLemmas.{passes, show, in_order, scanned}
+use Rattle.table_words.proofs.WriteLemmas.{deletes, inserts, inserts_at, updates, only_shown, cast_number, cast_null}
+use Rattle.table_words.proofs.CellLemmas.{and_true, and_assoc, same_word, same_count, same_the_number, equals_text, equals_number, same_number, itself_number, same_lots, itself_lot, id_is, typed-filter, shown_typed, flag_back, bin_kind_back, order_state_back, card_kind_back}
+use Rattle.table_words.proofs.StepLemmas.{ready_after, goes}
+use Rattle.table_words.proofs.KeyLemmas.{AtMostOne, one_by_key, one_by_rowid, few, none_had, IsSame, same_bytes, same_both, itself_bytes, itself_both, meets, found_without, found_put, found_over, are_rows}
+
+abbrev pub tests : List Term
+tests = same 1 0 ∷ same 2 1 ∷ same 3 2 ∷ []
+
+abbrev pub key_cells : ℕ → LotId → Row
+key_cells number lot = Int (pos number) ∷ Text lot.gtin ∷ Text lot.lot ∷ []
+
+-- the tests find the key that the parameters begin with
+at_key : (params : Row) (number : ℕ) (lot : LotId) → column params 0 ≡ Int (pos number) → column params 1 ≡ Text lot.gtin → column params 2 ≡ Text lot.lot → (r : Row) → is_shipline r ≡ true → passes params tests r ≡ same_shipline (number, lot) (shipline_key (shipline_in r))
+at_key params number lot e0 e1 e2 r h =
+    let p0 = and_parts _ _ h in
+    let p1 = and_parts _ _ p0.1 in
+    let p2 = and_parts _ _ p1.1 in
+    ap₂ ◌&&◌ (same_count ACTS_MAX (column r 1) (column params 0) number p0.0 e0) (ap₂ ◌&&◌ (same_word is_gtin (column r 2) (column params 1) lot.gtin p1.0 e1) (and_true _ ∙ same_word is_lot_text (column r 3) (column params 2) lot.lot p2.0 e2))
+
+one_key : IsSame {K = ShiplineKey} same_shipline
+one_key = same_both nat_eq same_lot_id same_number same_lots
+
+-- no key comes twice
+one_row : (db : Database) → IsReady db → (params : Row) → AtMostOne (passes params tests) (db.trees shiplines_tree)
+one_row db ready params =
+    one_by_key the_schema db.trees (shiplines_table shiplines_tree) (1 ∷ 2 ∷ 3 ∷ []) _ (inr (inr (inr (inr (inr (inr (inr (inr (inr (inl refl)))))))))) refl refl refl
+    (ready.sound.obeys.rules Unique).1.1.1.1.1.1.1.1.1.1.1.0 ready.rows.1.1.1.1.1.1.1.1.1.1.1.0 params
+
+-- ---- DELETE
+
+abbrev pub drop_text : List ℕ
+drop_text = codes "DELETE FROM shiplines WHERE number = ?1 AND gtin = ?2 AND lot = ?3"
+
+drop_is : command_of (understood the_schema drop_text) ≡ Delete 11 (alone (scan shiplines_tree tests (col 1 0 ∷ []) []))
+unfolding understood everything
+drop_is = refl
+
+drop_plain : IsPlain (understood the_schema drop_text)
+unfolding understood everything
+drop_plain = (refl, refl)
+
+pub drops : (old new : State) (number : ℕ) (lot : LotId) (count : ℕ) → IsReady old.now → IsTrue old.in_transaction → ExecutesInside 0 drop_text (key_cells number lot) old new (Ok count) → Goes (without_shipline number lot) old new
+drops old new number lot count ready inside h =
+    let params = key_cells number lot in
+    let p = passes params tests in
+    let rows = old.now.trees shiplines_tree in
+    let left = filter (λ r. not (p r)) rows in
+    let w = runs_as drop_text params old new the_schema ready.schema_is _ drop_is drop_plain count h.0 in
+    let c = deletes the_schema 11 shiplines_tree _ _ _ _ _ _ refl (λ _ _. refl) old new tests _ params count ready.schema_is ready.rows.1.1.1.1.1.1.1.1.1.1.1.0 w in
+    goes old new shiplines_tree left _ ready (IsRows-filter _ rows ready.rows.1.1.1.1.1.1.1.1.1.1.1.0) c (h.1.mode ∙ sym inside)
+    (λ i. let t : Tables = record (tables_in old.now.trees) {
+      shipline = λ at_number at_lot. found_without is_shipline shipline_in p (λ s. same_shipline (number, lot) (shipline_key s)) (λ s. same_shipline (at_number, at_lot) (shipline_key s)) (same_shipline (at_number, at_lot) (number, lot))
+          (meets same_shipline shipline_key one_key (number, lot) (at_number, at_lot)) (at_key params number lot refl refl refl) rows i;
+    } in t)
+    (λ are. record { meta = are.meta; items = are.items; bins = are.bins; lots = are.lots; recalls = are.recalls; stock = are.stock; orders = are.orders; lines = are.lines; staged = are.staged; reserved = are.reserved; shipments = are.shipments; shiplines = all-filter (λ r. is_shipline r ≡ true) _ rows are.shiplines; cards = are.cards; repeats = are.repeats })
+
+-- ---- UPDATE
+
+abbrev pub change_text : List ℕ
+change_text = codes "UPDATE shiplines SET number = ?1, gtin = ?2, lot = ?3, qty = ?4 WHERE number = ?1 AND gtin = ?2 AND lot = ?3"
+
+abbrev change_terms : List Term
+change_terms = col 0 0 ∷ col 0 1 ∷ col 0 2 ∷ col 0 3 ∷ []
+
+abbrev pub values : ShiplineRow → Row
+values s = shipline_cells s
+
+change_is : command_of (understood the_schema change_text) ≡ Update 11 (alone (scan shiplines_tree tests (col 1 0 ∷ col 1 0 ∷ change_terms) []))
+unfolding understood everything
+change_is = refl
+
+change_plain : IsPlain (understood the_schema change_text)
+unfolding understood everything
+change_plain = (refl, refl)
+
+fits : (s : ShiplineRow) → cast_all (shiplines_table shiplines_tree).columns (values s) ≡ values s
+fits s = rw (cast_number (pos s.number), cast_number (pos s.qty)) refl
+
+-- what is written reads as the row
+back : (id : Value) (s : ShiplineRow) → shipline_in (id ∷ values s) ≡ s
+back id s = refl
+
+-- whether there was a row with the key
+pub changes : (old new : State) (s : ShiplineRow) (count : ℕ) → is_shipline (Null ∷ values s) ≡ true → IsReady old.now → IsTrue old.in_transaction → ExecutesInside 0 change_text (shipline_cells s) old new (Ok count)
+    → (count ≢ 0 → Goes (with_shipline s) old new) × (count ≡ 0 → Goes (λ t. t) old new)
+changes old new s count sound ready inside h =
+    let params = shipline_cells s in
+    let p = passes params tests in
+    let rows = old.now.trees shiplines_tree in
+    let kept = ready.rows.1.1.1.1.1.1.1.1.1.1.1.0 in
+    let after = over p (values s) rows in
+    let w = runs_as change_text params old new the_schema ready.schema_is _ change_is change_plain count h.0 in
+    let u = updates the_schema 11 shiplines_tree _ _ _ _ _ _ refl (λ _ _. refl) old new tests change_terms _ params (values s) count ready.schema_is kept (λ r. refl) (fits s) (few p rows kept.0 (one_row old.now ready params)) w in
+    let mode = h.1.mode ∙ sym inside in
+    let typed_after : AreTyped old.now.trees → AreTyped (with_tree old.now.trees shiplines_tree after) = λ are. record { meta = are.meta; items = are.items; bins = are.bins; lots = are.lots; recalls = are.recalls; stock = are.stock; orders = are.orders; lines = are.lines; staged = are.staged; reserved = are.reserved; shipments = are.shipments; shiplines = all_over (λ r. is_shipline r ≡ true) p (values s) rows (λ r h e. sound) are.shiplines; cards = are.cards; repeats = are.repeats } in (
+      λ some. goes old new shiplines_tree after _ ready (IsRows-over p (values s) rows kept) u.0 mode
+          (λ i. let t : Tables = record (tables_in old.now.trees) { shipline = λ at_number at_lot. found_over is_shipline shipline_in p (λ x. same_shipline (s.number, s.lot) (shipline_key x)) (λ x. same_shipline (at_number, at_lot) (shipline_key x)) (same_shipline (at_number, at_lot) (s.number, s.lot)) (meets same_shipline shipline_key one_key (s.number, s.lot) (at_number, at_lot)) (at_key params s.number s.lot refl refl refl) s refl (values s) rows kept.1 (λ r _ _. (sound, back (rowid r) s)) (any_counted p rows (λ none. some (u.1 ∙ none))) i } in t)
+          typed_after,
+      λ none. goes old new shiplines_tree after _ ready (IsRows-over p (values s) rows kept) u.0 mode
+          (ap (λ l. tables_in (with_tree old.now.trees shiplines_tree l)) (none_over p (values s) rows (none_counted_pass p rows (sym u.1 ∙ none))))
+          typed_after,
+    )
+
+-- ---- INSERT
+
+abbrev pub add_text : List ℕ
+add_text = codes "INSERT INTO shiplines (number, gtin, lot, qty) VALUES (?1, ?2, ?3, ?4)"
+
+abbrev add_terms : List Term
+add_terms = lit Null ∷ col 0 0 ∷ col 0 1 ∷ col 0 2 ∷ col 0 3 ∷ []
+
+add_is : command_of (understood the_schema add_text) ≡ Insert 11 (Values add_terms 5)
+unfolding understood everything
+add_is = refl
+
+add_plain : IsPlain (understood the_schema add_text)
+unfolding understood everything
+add_plain = (refl, refl)
+
+itself : (k : ShiplineKey) → same_shipline k k ≡ true
+itself k = itself_both _ _ (itself_number k.0) (itself_lot k.1)
+
+-- it is refused where the key is there
+pub adds : (old new : State) (s : ShiplineRow) (count : ℕ) → is_shipline (Null ∷ values s) ≡ true → IsReady old.now → IsTrue old.in_transaction → ExecutesInside 0 add_text (shipline_cells s) old new (Ok count) → Goes (with_shipline s) old new
+adds old new s count sound ready inside h =
+    let params = shipline_cells s in
+    let p = passes params tests in
+    let rows = old.now.trees shiplines_tree in
+    let kept = ready.rows.1.1.1.1.1.1.1.1.1.1.1.0 in
+    let row : Row = Int (next_rowid rows) ∷ values s in
+    let after = put_row row rows in
+    let w = runs_as add_text params old new the_schema ready.schema_is _ add_is add_plain count h.0 in
+    let u = inserts the_schema 11 shiplines_tree _ _ _ _ _ _ refl (λ _ _. refl) old new add_terms 5 _ params (values s) count ready.schema_is refl (fits s) w in
+    let good = IsRows-put_row row rows refl kept in
+    let ready_now = ready_after old.now new.now shiplines_tree after ready good u.0 in
+    let there : p row ≡ true = at_key params s.number s.lot refl refl refl row sound ∙ itself (s.number, s.lot) in
+    let none = none_had p row rows u.1 there (subst (AtMostOne p) u.0.trees_are.1.1.1.1.1.1.1.1.1.1.1.0 (one_row new.now ready_now params)) (stays_put row rows u.1) in
+    goes old new shiplines_tree after _ ready good u.0 (h.1.mode ∙ sym inside)
+    (λ i. let t : Tables = record (tables_in old.now.trees) { shipline = λ at_number at_lot. found_put is_shipline shipline_in p (λ x. same_shipline (s.number, s.lot) (shipline_key x)) (λ x. same_shipline (at_number, at_lot) (shipline_key x)) (same_shipline (at_number, at_lot) (s.number, s.lot)) (meets same_shipline shipline_key one_key (s.number, s.lot) (at_number, at_lot)) (at_key params s.number s.lot refl refl refl) s refl row rows sound (back (Int (next_rowid rows)) s) u.1 none i } in t)
+    (λ are. record { meta = are.meta; items = are.items; bins = are.bins; lots = are.lots; recalls = are.recalls; stock = are.stock; orders = are.orders; lines = are.lines; staged = are.staged; reserved = are.reserved; shipments = are.shipments; shiplines = all_put_row (λ r. is_shipline r ≡ true) row rows sound are.shiplines; cards = are.cards; repeats = are.repeats })
+
+-- ---- SELECT
+
+abbrev shown : List Term
+shown = col 1 1 ∷ col 1 2 ∷ col 1 3 ∷ col 1 4 ∷ []
+
+apart : (db : Database) (ready : IsReady db) (a b : Row) → Has (db.trees shiplines_tree) a → Has (db.trees shiplines_tree) b → is_shipline a ≡ true → is_shipline b ≡ true
+    → same_shipline (shipline_key (shipline_in a)) (shipline_key (shipline_in b)) ≡ true → value_cmp (rowid a) (rowid b) ≡ Equal
+apart db ready a b ha hb ta tb e =
+    let s = shipline_in a in
+    let params = key_cells s.number s.lot in
+    one_row db ready params b a hb ha (at_key params s.number s.lot refl refl refl b tb ∙ e) (at_key params s.number s.lot refl refl refl a ta ∙ itself (s.number, s.lot))
+
+abbrev pub shiplines_of_lot_text : List ℕ
+shiplines_of_lot_text = codes "SELECT number, gtin, lot, qty FROM shiplines WHERE gtin = ?1 AND lot = ?2 ORDER BY rowid"
+
+abbrev shiplines_of_lot_tests : List Term
+shiplines_of_lot_tests = same 2 0 ∷ same 3 1 ∷ []
+
+shiplines_of_lot_is : (command_of (understood the_schema shiplines_of_lot_text) ≡ Select (alone (scan shiplines_tree shiplines_of_lot_tests shown by_rowid)) (codes "number" ∷ codes "gtin" ∷ codes "lot" ∷ codes "qty" ∷ [])) × (reads_listing the_schema shiplines_of_lot_text ≡ false)
+unfolding understood everything
+shiplines_of_lot_is = (refl, refl)
+
+pub shiplines_of_lot_plain : IsPlain (understood the_schema shiplines_of_lot_text)
+unfolding understood everything
+shiplines_of_lot_plain = (refl, refl)
+
+shiplines_of_lot_at : (lot : LotId) (r : Row) → is_shipline r ≡ true → passes (Text lot.gtin ∷ Text lot.lot ∷ []) shiplines_of_lot_tests r ≡ (let key = shipline_key (shipline_in r) in same_lot_id lot key.1)
+shiplines_of_lot_at lot r h =
+    let p0 = and_parts _ _ h in
+    let p1 = and_parts _ _ p0.1 in
+    let p2 = and_parts _ _ p1.1 in
+    ap₂ ◌&&◌ (same_word is_gtin (column r 2) (Text lot.gtin) lot.gtin p1.0 refl) (and_true _ ∙ same_word is_lot_text (column r 3) (Text lot.lot) lot.lot p2.0 refl)
+
+shiplines_of_lot_turn : (old new : State) (lot : LotId) (rows : List Row) → IsReady old.now → Shown shiplines_of_lot_text (Text lot.gtin ∷ Text lot.lot ∷ []) old new rows
+    → rows ≡ map (show (Text lot.gtin ∷ Text lot.lot ∷ []) shown) (filter (passes (Text lot.gtin ∷ Text lot.lot ∷ []) shiplines_of_lot_tests) (old.now.trees shiplines_tree))
+shiplines_of_lot_turn old new lot rows ready h =
+    let params = Text lot.gtin ∷ Text lot.lot ∷ [] in
+    let read = reads_as shiplines_of_lot_text params old new the_schema ready.schema_is _ shiplines_of_lot_is.0 shiplines_of_lot_plain shiplines_of_lot_is.1 rows h in
+    in_order old.now.trees params shiplines_tree shiplines_of_lot_tests shown rows ready.rows.1.1.1.1.1.1.1.1.1.1.1.0.0 (read.answer Null)
+
+-- the rows that were read
+pub shiplines_of_lot_reads : (old new : State) (lot : LotId) (rows : List Row) (xs : List ShiplineRow) → IsReady old.now → Shown shiplines_of_lot_text (Text lot.gtin ∷ Text lot.lot ∷ []) old new rows
+    → AllByRecursion (λ v. has_shipline v ≡ true) rows → map shipline_read rows ≡ xs
+    → AreRows {K = ShiplineKey} same_shipline shipline_key (λ key. same_lot_id lot key.1) (λ key. (tables_in old.now.trees).shipline key.0 key.1) xs
+shiplines_of_lot_reads old new lot rows xs ready h has are =
+    let params = Text lot.gtin ∷ Text lot.lot ∷ [] in
+    let all = old.now.trees shiplines_tree in
+    are_rows same_shipline shipline_key one_key (λ key. same_lot_id lot key.1) is_shipline shipline_in all xs ready.rows.1.1.1.1.1.1.1.1.1.1.1.0.0 (apart old.now ready)
+    (shown_typed is_shipline shipline_in has_shipline shipline_read (show params shown) (λ r. refl) (λ r. refl) _ rows xs (shiplines_of_lot_turn old new lot rows ready h) has are
+    ∙ typed-filter is_shipline shipline_in (passes params shiplines_of_lot_tests) (λ x. let key = shipline_key x in same_lot_id lot key.1) (shiplines_of_lot_at lot) all)
+
+-- each of them reads as a typed row
+pub shiplines_of_lot_typed : (old new : State) (lot : LotId) (rows : List Row) → IsReady old.now → Shown shiplines_of_lot_text (Text lot.gtin ∷ Text lot.lot ∷ []) old new rows
+    → AllByRecursion (λ r. is_shipline r ≡ true) (shiplines_of_lot_rows lot old.now.trees) → AllByRecursion (λ v. has_shipline v ≡ true) rows
+shiplines_of_lot_typed old new lot rows ready h are =
+    let params = Text lot.gtin ∷ Text lot.lot ∷ [] in
+    let all = old.now.trees shiplines_tree in
+    let same_rows = filter_same_on (passes params shiplines_of_lot_tests) (λ r. is_the_text lot.gtin (column r 2) && is_the_text lot.lot (column r 3)) all (λ r there. ap₂ ◌&&◌ (equals_text (column r 2) lot.gtin) (and_true _ ∙ equals_text (column r 3) lot.lot)) in
+    subst (AllByRecursion (λ v. has_shipline v ≡ true)) (sym (shiplines_of_lot_turn old new lot rows ready h))
+    (all_map (λ v. has_shipline v ≡ true) (show params shown) _ (subst (AllByRecursion (λ r. is_shipline r ≡ true)) (sym same_rows) are))

@@ -1,0 +1,164 @@
+//! The table `cards`.
+
+ghost use Rattle.std.specs.Prelude.{◌≡◌, ◌≤◌, true, false, find, map, OnOk, IfOk, IfErr, bytes_eq, nat_eq, if◌then◌else◌};
+ghost use Rattle.std.specs.List.{AllByRecursion};
+ghost use Rattle.sqlite.specs.State.{HasCleanDisk, Survives, KeepsCommit, IsUnchanged};
+ghost use Rattle.sqlite.specs.Held.{state};
+ghost use Rattle.table_words.specs.Found.{AreRows};
+ghost use Rattle.table_words.specs.Steps.{IsReady, Goes};
+ghost use Rattle.table_words.specs.Typed.{tables_in, same_lot_id, with_card, without_card, is_card, has_card, card_read, card_key, same_card, CardKey, cards_of_lot_rows};
+ghost use Rattle.table_words.specs.declared.error.TableFault.TheVariants.{Foreign};
+
+use commands::CardRow;
+use commands::limits::{ACTS_MAX, UNITS_MAX};
+use label::LotId;
+use sqlite::{Alter, Row, Transaction};
+use std::alloc::Global;
+use table_words::error::TableFault;
+use table_words::values::{
+    business_day_at, card_kind_at, gtin_at, lot_at, note_at, number_at, of_business_day,
+    of_card_kind, of_gtin, of_lot, of_number, of_signed, of_text, signed_at,
+};
+
+/// Drops the row with this key, if there is one. A number above the limit is refused as too big.
+pub fn drop_card<S: Alter>(
+    tx: &mut Transaction<'_, S>,
+    lot: &LotId,
+    act: u64,
+) -> Result<(), TableFault>
+    ensures same_reference { tx.new.conn.ghost_name ≡ tx.old.conn.ghost_name }
+    ensures done { HasCleanDisk (state S.Store tx.new.conn.now) → IsReady (state S.Store tx.old.conn.now).now
+        → OnOk result (Goes (without_card lot.now act) (state S.Store tx.old.conn.now) (state S.Store tx.new.conn.now)) }
+    ensures kept { HasCleanDisk (state S.Store tx.new.conn.now) → KeepsCommit (state S.Store tx.old.conn.now) (state S.Store tx.new.conn.now) }
+    ensures survives { Survives (state S.Store tx.old.conn.now) (state S.Store tx.new.conn.now) (λ _. ⊥) }
+{
+    if act > ACTS_MAX {
+        return Err(TableFault::too_big());
+    }
+    tx.execute(
+        "DELETE FROM cards WHERE gtin = ?1 AND lot = ?2 AND act = ?3",
+        &[of_gtin(&lot.gtin), of_lot(&lot.lot), of_number(act)],
+    )?;
+    Ok(())
+}
+
+/// Writes the row over one with its key, and tells whether there was one.
+fn change_card<S: Alter>(tx: &mut Transaction<'_, S>, row: &CardRow) -> Result<bool, TableFault>
+    requires fits_act { row.now.act ≤ ACTS_MAX }
+    requires fits_rest { row.now.rest ≤ UNITS_MAX }
+    ensures same_reference { tx.new.conn.ghost_name ≡ tx.old.conn.ghost_name }
+    ensures done { HasCleanDisk (state S.Store tx.new.conn.now) → IsReady (state S.Store tx.old.conn.now).now
+        → IfOk result (λ had. Goes (if had then with_card row.now else (λ t. t)) (state S.Store tx.old.conn.now) (state S.Store tx.new.conn.now)) }
+    ensures kept { HasCleanDisk (state S.Store tx.new.conn.now) → KeepsCommit (state S.Store tx.old.conn.now) (state S.Store tx.new.conn.now) }
+    ensures survives { Survives (state S.Store tx.old.conn.now) (state S.Store tx.new.conn.now) (λ _. ⊥) }
+{
+    let count = tx.execute(
+        "UPDATE cards SET gtin = ?1, lot = ?2, act = ?3, day = ?4, kind = ?5, note = ?6, qty = ?7, rest = ?8 WHERE gtin = ?1 AND lot = ?2 AND act = ?3",
+        &[
+            of_gtin(&row.lot.gtin),
+            of_lot(&row.lot.lot),
+            of_number(row.act),
+            of_business_day(row.day),
+            of_card_kind(row.kind),
+            of_text(&row.note),
+            of_signed(&row.qty),
+            of_number(row.rest),
+        ],
+    )?;
+    Ok(count != 0)
+}
+
+/// Puts a row whose key is new.
+fn add_card<S: Alter>(tx: &mut Transaction<'_, S>, row: &CardRow) -> Result<(), TableFault>
+    requires fits_act { row.now.act ≤ ACTS_MAX }
+    requires fits_rest { row.now.rest ≤ UNITS_MAX }
+    ensures same_reference { tx.new.conn.ghost_name ≡ tx.old.conn.ghost_name }
+    ensures done { HasCleanDisk (state S.Store tx.new.conn.now) → IsReady (state S.Store tx.old.conn.now).now
+        → OnOk result (Goes (with_card row.now) (state S.Store tx.old.conn.now) (state S.Store tx.new.conn.now)) }
+    ensures kept { HasCleanDisk (state S.Store tx.new.conn.now) → KeepsCommit (state S.Store tx.old.conn.now) (state S.Store tx.new.conn.now) }
+    ensures survives { Survives (state S.Store tx.old.conn.now) (state S.Store tx.new.conn.now) (λ _. ⊥) }
+{
+    tx.execute(
+        "INSERT INTO cards (gtin, lot, act, day, kind, note, qty, rest) VALUES (?1, ?2, ?3, ?4, ?5, ?6, ?7, ?8)",
+        &[
+            of_gtin(&row.lot.gtin),
+            of_lot(&row.lot.lot),
+            of_number(row.act),
+            of_business_day(row.day),
+            of_card_kind(row.kind),
+            of_text(&row.note),
+            of_signed(&row.qty),
+            of_number(row.rest),
+        ],
+    )?;
+    Ok(())
+}
+
+/// Puts the row, in place of one with its key. A number above its limit is refused as too big.
+pub fn put_card<S: Alter>(tx: &mut Transaction<'_, S>, row: &CardRow) -> Result<(), TableFault>
+    ensures same_reference { tx.new.conn.ghost_name ≡ tx.old.conn.ghost_name }
+    ensures done { HasCleanDisk (state S.Store tx.new.conn.now) → IsReady (state S.Store tx.old.conn.now).now
+        → OnOk result (Goes (with_card row.now) (state S.Store tx.old.conn.now) (state S.Store tx.new.conn.now)) }
+    ensures kept { HasCleanDisk (state S.Store tx.new.conn.now) → KeepsCommit (state S.Store tx.old.conn.now) (state S.Store tx.new.conn.now) }
+    ensures survives { Survives (state S.Store tx.old.conn.now) (state S.Store tx.new.conn.now) (λ _. ⊥) }
+{
+    if row.act > ACTS_MAX || row.rest > UNITS_MAX {
+        return Err(TableFault::too_big());
+    }
+    if change_card(tx, row)? {
+        return Ok(());
+    }
+    add_card(tx, row)
+}
+
+fn to_row(row: &Row) -> Result<CardRow, TableFault>
+    ensures ok { IfOk result (λ s. (has_card row.now ≡ true) × (card_read row.now ≡ s)) }
+    ensures foreign { IfErr result (λ e. e ≡ Foreign → has_card row.now ≡ false) }
+{
+    Ok(CardRow {
+        lot: LotId {
+            gtin: gtin_at(row, 0)?,
+            lot: lot_at(row, 1)?,
+        },
+        act: number_at(row, 2, ACTS_MAX)?,
+        day: business_day_at(row, 3)?,
+        kind: card_kind_at(row, 4)?,
+        note: note_at(row, 5)?,
+        qty: signed_at(row, 6)?,
+        rest: number_at(row, 7, UNITS_MAX)?,
+    })
+}
+
+fn to_rows(alloc: Global, rows: &[Row]) -> Result<Vec<CardRow>, TableFault>
+    ensures typed { IfOk result (λ found. AllByRecursion (λ v. has_card v ≡ true) rows.now) }
+    ensures ok { IfOk result (λ found. map card_read rows.now ≡ found.items) }
+    ensures foreign { IfErr result (λ e. e ≡ Foreign → ¬ AllByRecursion (λ v. has_card v ≡ true) rows.now) }
+{
+    let mut found = Vec::new(alloc);
+    for row in rows {
+        found.push(to_row(row)?)?;
+    }
+    Ok(found)
+}
+
+/// The rows of this lot, the oldest first; `Foreign` where one of them has a value that no row has.
+pub fn cards_of_lot<S: Alter>(
+    alloc: Global,
+    tx: &mut Transaction<'_, S>,
+    lot: &LotId,
+) -> Result<Vec<CardRow>, TableFault>
+    ensures same_reference { tx.new.conn.ghost_name ≡ tx.old.conn.ghost_name }
+    ensures rows { HasCleanDisk (state S.Store tx.new.conn.now) → IsReady (state S.Store tx.old.conn.now).now
+        → IfOk result (λ rows. AreRows {K = CardKey} same_card card_key (λ key. same_lot_id lot.now key.0) (λ key. (tables_in (state S.Store tx.old.conn.now).now.trees).card key.0 key.1) rows.items) }
+    ensures foreign { HasCleanDisk (state S.Store tx.new.conn.now) → IsReady (state S.Store tx.old.conn.now).now
+        → IfErr result (λ e. e ≡ Foreign → ¬ AllByRecursion (λ r. is_card r ≡ true) (cards_of_lot_rows lot.now (state S.Store tx.old.conn.now).now.trees)) }
+    ensures same { HasCleanDisk (state S.Store tx.new.conn.now) → IsReady (state S.Store tx.old.conn.now).now → OnOk result (IsUnchanged (state S.Store tx.old.conn.now) (state S.Store tx.new.conn.now)) }
+    ensures kept { HasCleanDisk (state S.Store tx.new.conn.now) → IsReady (state S.Store tx.old.conn.now).now → KeepsCommit (state S.Store tx.old.conn.now) (state S.Store tx.new.conn.now) }
+    ensures survives { Survives (state S.Store tx.old.conn.now) (state S.Store tx.new.conn.now) (λ _. ⊥) }
+{
+    let rows = tx.query_all(
+        "SELECT gtin, lot, act, day, kind, note, qty, rest FROM cards WHERE gtin = ?1 AND lot = ?2 ORDER BY rowid",
+        &[of_gtin(&lot.gtin), of_lot(&lot.lot)],
+    )?;
+    to_rows(alloc, rows.as_slice())
+}

@@ -1,0 +1,155 @@
+//! The table `shiplines`.
+
+ghost use Rattle.std.specs.Prelude.{◌≡◌, ◌≤◌, true, false, find, map, OnOk, IfOk, IfErr, bytes_eq, nat_eq, if◌then◌else◌};
+ghost use Rattle.std.specs.List.{AllByRecursion};
+ghost use Rattle.sqlite.specs.State.{HasCleanDisk, Survives, KeepsCommit, IsUnchanged};
+ghost use Rattle.sqlite.specs.Held.{state};
+ghost use Rattle.table_words.specs.Found.{AreRows};
+ghost use Rattle.table_words.specs.Steps.{IsReady, Goes};
+ghost use Rattle.table_words.specs.Typed.{tables_in, same_lot_id, with_shipline, without_shipline, is_shipline, has_shipline, shipline_read, shipline_key, same_shipline, ShiplineKey, shiplines_of_lot_rows};
+ghost use Rattle.table_words.specs.declared.error.TableFault.TheVariants.{Foreign};
+
+use commands::ShiplineRow;
+use commands::limits::{ACTS_MAX, UNITS_MAX};
+use label::LotId;
+use sqlite::{Alter, Row, Transaction};
+use std::alloc::Global;
+use table_words::error::TableFault;
+use table_words::values::{gtin_at, lot_at, number_at, of_gtin, of_lot, of_number};
+
+/// Drops the row with this key, if there is one. A number above the limit is refused as too big.
+pub fn drop_shipline<S: Alter>(
+    tx: &mut Transaction<'_, S>,
+    number: u64,
+    lot: &LotId,
+) -> Result<(), TableFault>
+    ensures same_reference { tx.new.conn.ghost_name ≡ tx.old.conn.ghost_name }
+    ensures done { HasCleanDisk (state S.Store tx.new.conn.now) → IsReady (state S.Store tx.old.conn.now).now
+        → OnOk result (Goes (without_shipline number lot.now) (state S.Store tx.old.conn.now) (state S.Store tx.new.conn.now)) }
+    ensures kept { HasCleanDisk (state S.Store tx.new.conn.now) → KeepsCommit (state S.Store tx.old.conn.now) (state S.Store tx.new.conn.now) }
+    ensures survives { Survives (state S.Store tx.old.conn.now) (state S.Store tx.new.conn.now) (λ _. ⊥) }
+{
+    if number > ACTS_MAX {
+        return Err(TableFault::too_big());
+    }
+    tx.execute(
+        "DELETE FROM shiplines WHERE number = ?1 AND gtin = ?2 AND lot = ?3",
+        &[of_number(number), of_gtin(&lot.gtin), of_lot(&lot.lot)],
+    )?;
+    Ok(())
+}
+
+/// Writes the row over one with its key, and tells whether there was one.
+fn change_shipline<S: Alter>(
+    tx: &mut Transaction<'_, S>,
+    row: &ShiplineRow,
+) -> Result<bool, TableFault>
+    requires fits_number { row.now.number ≤ ACTS_MAX }
+    requires fits_qty { row.now.qty ≤ UNITS_MAX }
+    ensures same_reference { tx.new.conn.ghost_name ≡ tx.old.conn.ghost_name }
+    ensures done { HasCleanDisk (state S.Store tx.new.conn.now) → IsReady (state S.Store tx.old.conn.now).now
+        → IfOk result (λ had. Goes (if had then with_shipline row.now else (λ t. t)) (state S.Store tx.old.conn.now) (state S.Store tx.new.conn.now)) }
+    ensures kept { HasCleanDisk (state S.Store tx.new.conn.now) → KeepsCommit (state S.Store tx.old.conn.now) (state S.Store tx.new.conn.now) }
+    ensures survives { Survives (state S.Store tx.old.conn.now) (state S.Store tx.new.conn.now) (λ _. ⊥) }
+{
+    let count = tx.execute(
+        "UPDATE shiplines SET number = ?1, gtin = ?2, lot = ?3, qty = ?4 WHERE number = ?1 AND gtin = ?2 AND lot = ?3",
+        &[
+            of_number(row.number),
+            of_gtin(&row.lot.gtin),
+            of_lot(&row.lot.lot),
+            of_number(row.qty),
+        ],
+    )?;
+    Ok(count != 0)
+}
+
+/// Puts a row whose key is new.
+fn add_shipline<S: Alter>(tx: &mut Transaction<'_, S>, row: &ShiplineRow) -> Result<(), TableFault>
+    requires fits_number { row.now.number ≤ ACTS_MAX }
+    requires fits_qty { row.now.qty ≤ UNITS_MAX }
+    ensures same_reference { tx.new.conn.ghost_name ≡ tx.old.conn.ghost_name }
+    ensures done { HasCleanDisk (state S.Store tx.new.conn.now) → IsReady (state S.Store tx.old.conn.now).now
+        → OnOk result (Goes (with_shipline row.now) (state S.Store tx.old.conn.now) (state S.Store tx.new.conn.now)) }
+    ensures kept { HasCleanDisk (state S.Store tx.new.conn.now) → KeepsCommit (state S.Store tx.old.conn.now) (state S.Store tx.new.conn.now) }
+    ensures survives { Survives (state S.Store tx.old.conn.now) (state S.Store tx.new.conn.now) (λ _. ⊥) }
+{
+    tx.execute(
+        "INSERT INTO shiplines (number, gtin, lot, qty) VALUES (?1, ?2, ?3, ?4)",
+        &[
+            of_number(row.number),
+            of_gtin(&row.lot.gtin),
+            of_lot(&row.lot.lot),
+            of_number(row.qty),
+        ],
+    )?;
+    Ok(())
+}
+
+/// Puts the row, in place of one with its key. A number above its limit is refused as too big.
+pub fn put_shipline<S: Alter>(
+    tx: &mut Transaction<'_, S>,
+    row: &ShiplineRow,
+) -> Result<(), TableFault>
+    ensures same_reference { tx.new.conn.ghost_name ≡ tx.old.conn.ghost_name }
+    ensures done { HasCleanDisk (state S.Store tx.new.conn.now) → IsReady (state S.Store tx.old.conn.now).now
+        → OnOk result (Goes (with_shipline row.now) (state S.Store tx.old.conn.now) (state S.Store tx.new.conn.now)) }
+    ensures kept { HasCleanDisk (state S.Store tx.new.conn.now) → KeepsCommit (state S.Store tx.old.conn.now) (state S.Store tx.new.conn.now) }
+    ensures survives { Survives (state S.Store tx.old.conn.now) (state S.Store tx.new.conn.now) (λ _. ⊥) }
+{
+    if row.number > ACTS_MAX || row.qty > UNITS_MAX {
+        return Err(TableFault::too_big());
+    }
+    if change_shipline(tx, row)? {
+        return Ok(());
+    }
+    add_shipline(tx, row)
+}
+
+fn to_row(row: &Row) -> Result<ShiplineRow, TableFault>
+    ensures ok { IfOk result (λ s. (has_shipline row.now ≡ true) × (shipline_read row.now ≡ s)) }
+    ensures foreign { IfErr result (λ e. e ≡ Foreign → has_shipline row.now ≡ false) }
+{
+    Ok(ShiplineRow {
+        number: number_at(row, 0, ACTS_MAX)?,
+        lot: LotId {
+            gtin: gtin_at(row, 1)?,
+            lot: lot_at(row, 2)?,
+        },
+        qty: number_at(row, 3, UNITS_MAX)?,
+    })
+}
+
+fn to_rows(alloc: Global, rows: &[Row]) -> Result<Vec<ShiplineRow>, TableFault>
+    ensures typed { IfOk result (λ found. AllByRecursion (λ v. has_shipline v ≡ true) rows.now) }
+    ensures ok { IfOk result (λ found. map shipline_read rows.now ≡ found.items) }
+    ensures foreign { IfErr result (λ e. e ≡ Foreign → ¬ AllByRecursion (λ v. has_shipline v ≡ true) rows.now) }
+{
+    let mut found = Vec::new(alloc);
+    for row in rows {
+        found.push(to_row(row)?)?;
+    }
+    Ok(found)
+}
+
+/// The rows of this lot, the oldest first; `Foreign` where one of them has a value that no row has.
+pub fn shiplines_of_lot<S: Alter>(
+    alloc: Global,
+    tx: &mut Transaction<'_, S>,
+    lot: &LotId,
+) -> Result<Vec<ShiplineRow>, TableFault>
+    ensures same_reference { tx.new.conn.ghost_name ≡ tx.old.conn.ghost_name }
+    ensures rows { HasCleanDisk (state S.Store tx.new.conn.now) → IsReady (state S.Store tx.old.conn.now).now
+        → IfOk result (λ rows. AreRows {K = ShiplineKey} same_shipline shipline_key (λ key. same_lot_id lot.now key.1) (λ key. (tables_in (state S.Store tx.old.conn.now).now.trees).shipline key.0 key.1) rows.items) }
+    ensures foreign { HasCleanDisk (state S.Store tx.new.conn.now) → IsReady (state S.Store tx.old.conn.now).now
+        → IfErr result (λ e. e ≡ Foreign → ¬ AllByRecursion (λ r. is_shipline r ≡ true) (shiplines_of_lot_rows lot.now (state S.Store tx.old.conn.now).now.trees)) }
+    ensures same { HasCleanDisk (state S.Store tx.new.conn.now) → IsReady (state S.Store tx.old.conn.now).now → OnOk result (IsUnchanged (state S.Store tx.old.conn.now) (state S.Store tx.new.conn.now)) }
+    ensures kept { HasCleanDisk (state S.Store tx.new.conn.now) → IsReady (state S.Store tx.old.conn.now).now → KeepsCommit (state S.Store tx.old.conn.now) (state S.Store tx.new.conn.now) }
+    ensures survives { Survives (state S.Store tx.old.conn.now) (state S.Store tx.new.conn.now) (λ _. ⊥) }
+{
+    let rows = tx.query_all(
+        "SELECT number, gtin, lot, qty FROM shiplines WHERE gtin = ?1 AND lot = ?2 ORDER BY rowid",
+        &[of_gtin(&lot.gtin), of_lot(&lot.lot)],
+    )?;
+    to_rows(alloc, rows.as_slice())
+}

@@ -1,0 +1,153 @@
+//! The table `shipments`.
+
+ghost use Rattle.std.specs.Prelude.{◌≡◌, ◌≤◌, true, false, find, map, OnOk, IfOk, IfErr, bytes_eq, nat_eq, if◌then◌else◌};
+ghost use Rattle.std.specs.List.{AllByRecursion};
+ghost use Rattle.sqlite.specs.State.{HasCleanDisk, Survives, KeepsCommit, IsUnchanged};
+ghost use Rattle.sqlite.specs.Held.{state};
+ghost use Rattle.table_words.specs.Found.{AreRows};
+ghost use Rattle.table_words.specs.Steps.{IsReady, Goes};
+ghost use Rattle.table_words.specs.Typed.{tables_in, same_lot_id, with_shipment, without_shipment, is_shipment, has_shipment, shipment_read, shipment_key, same_shipment, ShipmentKey, shipments_of_rows};
+ghost use Rattle.table_words.specs.declared.error.TableFault.TheVariants.{Foreign};
+
+use commands::ShipmentRow;
+use commands::limits::ACTS_MAX;
+use sqlite::{Alter, Row, Transaction};
+use std::alloc::Global;
+use table_words::error::TableFault;
+use table_words::values::{
+    business_day_at, name_at, number_at, of_business_day, of_name, of_number,
+};
+
+/// Drops the row with this key, if there is one. A number above the limit is refused as too big.
+pub fn drop_shipment<S: Alter>(tx: &mut Transaction<'_, S>, number: u64) -> Result<(), TableFault>
+    ensures same_reference { tx.new.conn.ghost_name ≡ tx.old.conn.ghost_name }
+    ensures done { HasCleanDisk (state S.Store tx.new.conn.now) → IsReady (state S.Store tx.old.conn.now).now
+        → OnOk result (Goes (without_shipment number) (state S.Store tx.old.conn.now) (state S.Store tx.new.conn.now)) }
+    ensures kept { HasCleanDisk (state S.Store tx.new.conn.now) → KeepsCommit (state S.Store tx.old.conn.now) (state S.Store tx.new.conn.now) }
+    ensures survives { Survives (state S.Store tx.old.conn.now) (state S.Store tx.new.conn.now) (λ _. ⊥) }
+{
+    if number > ACTS_MAX {
+        return Err(TableFault::too_big());
+    }
+    tx.execute(
+        "DELETE FROM shipments WHERE number = ?1",
+        &[of_number(number)],
+    )?;
+    Ok(())
+}
+
+/// Writes the row over one with its key, and tells whether there was one.
+fn change_shipment<S: Alter>(
+    tx: &mut Transaction<'_, S>,
+    row: &ShipmentRow,
+) -> Result<bool, TableFault>
+    requires fits_number { row.now.number ≤ ACTS_MAX }
+    requires fits_act { row.now.act ≤ ACTS_MAX }
+    ensures same_reference { tx.new.conn.ghost_name ≡ tx.old.conn.ghost_name }
+    ensures done { HasCleanDisk (state S.Store tx.new.conn.now) → IsReady (state S.Store tx.old.conn.now).now
+        → IfOk result (λ had. Goes (if had then with_shipment row.now else (λ t. t)) (state S.Store tx.old.conn.now) (state S.Store tx.new.conn.now)) }
+    ensures kept { HasCleanDisk (state S.Store tx.new.conn.now) → KeepsCommit (state S.Store tx.old.conn.now) (state S.Store tx.new.conn.now) }
+    ensures survives { Survives (state S.Store tx.old.conn.now) (state S.Store tx.new.conn.now) (λ _. ⊥) }
+{
+    let count = tx.execute(
+        "UPDATE shipments SET act = ?2, day = ?3, ord = ?4 WHERE number = ?1",
+        &[
+            of_number(row.number),
+            of_number(row.act),
+            of_business_day(row.day),
+            of_name(&row.order),
+        ],
+    )?;
+    Ok(count != 0)
+}
+
+/// Puts a row whose key is new.
+fn add_shipment<S: Alter>(tx: &mut Transaction<'_, S>, row: &ShipmentRow) -> Result<(), TableFault>
+    requires fits_number { row.now.number ≤ ACTS_MAX }
+    requires fits_act { row.now.act ≤ ACTS_MAX }
+    ensures same_reference { tx.new.conn.ghost_name ≡ tx.old.conn.ghost_name }
+    ensures done { HasCleanDisk (state S.Store tx.new.conn.now) → IsReady (state S.Store tx.old.conn.now).now
+        → OnOk result (Goes (with_shipment row.now) (state S.Store tx.old.conn.now) (state S.Store tx.new.conn.now)) }
+    ensures kept { HasCleanDisk (state S.Store tx.new.conn.now) → KeepsCommit (state S.Store tx.old.conn.now) (state S.Store tx.new.conn.now) }
+    ensures survives { Survives (state S.Store tx.old.conn.now) (state S.Store tx.new.conn.now) (λ _. ⊥) }
+{
+    tx.execute(
+        "INSERT INTO shipments (number, act, day, ord) VALUES (?1, ?2, ?3, ?4)",
+        &[
+            of_number(row.number),
+            of_number(row.act),
+            of_business_day(row.day),
+            of_name(&row.order),
+        ],
+    )?;
+    Ok(())
+}
+
+/// Puts the row, in place of one with its key. A number above its limit is refused as too big.
+pub fn put_shipment<S: Alter>(
+    tx: &mut Transaction<'_, S>,
+    row: &ShipmentRow,
+) -> Result<(), TableFault>
+    ensures same_reference { tx.new.conn.ghost_name ≡ tx.old.conn.ghost_name }
+    ensures done { HasCleanDisk (state S.Store tx.new.conn.now) → IsReady (state S.Store tx.old.conn.now).now
+        → OnOk result (Goes (with_shipment row.now) (state S.Store tx.old.conn.now) (state S.Store tx.new.conn.now)) }
+    ensures kept { HasCleanDisk (state S.Store tx.new.conn.now) → KeepsCommit (state S.Store tx.old.conn.now) (state S.Store tx.new.conn.now) }
+    ensures survives { Survives (state S.Store tx.old.conn.now) (state S.Store tx.new.conn.now) (λ _. ⊥) }
+{
+    if row.number > ACTS_MAX || row.act > ACTS_MAX {
+        return Err(TableFault::too_big());
+    }
+    if change_shipment(tx, row)? {
+        return Ok(());
+    }
+    add_shipment(tx, row)
+}
+
+fn to_row(row: &Row) -> Result<ShipmentRow, TableFault>
+    ensures ok { IfOk result (λ s. (has_shipment row.now ≡ true) × (shipment_read row.now ≡ s)) }
+    ensures foreign { IfErr result (λ e. e ≡ Foreign → has_shipment row.now ≡ false) }
+{
+    Ok(ShipmentRow {
+        number: number_at(row, 0, ACTS_MAX)?,
+        act: number_at(row, 1, ACTS_MAX)?,
+        day: business_day_at(row, 2)?,
+        order: name_at(row, 3)?,
+    })
+}
+
+fn to_rows(alloc: Global, rows: &[Row]) -> Result<Vec<ShipmentRow>, TableFault>
+    ensures typed { IfOk result (λ found. AllByRecursion (λ v. has_shipment v ≡ true) rows.now) }
+    ensures ok { IfOk result (λ found. map shipment_read rows.now ≡ found.items) }
+    ensures foreign { IfErr result (λ e. e ≡ Foreign → ¬ AllByRecursion (λ v. has_shipment v ≡ true) rows.now) }
+{
+    let mut found = Vec::new(alloc);
+    for row in rows {
+        found.push(to_row(row)?)?;
+    }
+    Ok(found)
+}
+
+/// The rows of this number, the oldest first; `Foreign` where one of them has a value that no row has.
+pub fn shipments_of<S: Alter>(
+    alloc: Global,
+    tx: &mut Transaction<'_, S>,
+    number: u64,
+) -> Result<Vec<ShipmentRow>, TableFault>
+    ensures same_reference { tx.new.conn.ghost_name ≡ tx.old.conn.ghost_name }
+    ensures rows { HasCleanDisk (state S.Store tx.new.conn.now) → IsReady (state S.Store tx.old.conn.now).now
+        → IfOk result (λ rows. AreRows {K = ShipmentKey} same_shipment shipment_key (λ key. nat_eq number key) (λ key. (tables_in (state S.Store tx.old.conn.now).now.trees).shipment key) rows.items) }
+    ensures foreign { HasCleanDisk (state S.Store tx.new.conn.now) → IsReady (state S.Store tx.old.conn.now).now
+        → IfErr result (λ e. e ≡ Foreign → ¬ AllByRecursion (λ r. is_shipment r ≡ true) (shipments_of_rows number (state S.Store tx.old.conn.now).now.trees)) }
+    ensures same { HasCleanDisk (state S.Store tx.new.conn.now) → IsReady (state S.Store tx.old.conn.now).now → OnOk result (IsUnchanged (state S.Store tx.old.conn.now) (state S.Store tx.new.conn.now)) }
+    ensures kept { HasCleanDisk (state S.Store tx.new.conn.now) → IsReady (state S.Store tx.old.conn.now).now → KeepsCommit (state S.Store tx.old.conn.now) (state S.Store tx.new.conn.now) }
+    ensures survives { Survives (state S.Store tx.old.conn.now) (state S.Store tx.new.conn.now) (λ _. ⊥) }
+{
+    if number > ACTS_MAX {
+        return Err(TableFault::too_big());
+    }
+    let rows = tx.query_all(
+        "SELECT number, act, day, ord FROM shipments WHERE number = ?1",
+        &[of_number(number)],
+    )?;
+    to_rows(alloc, rows.as_slice())
+}

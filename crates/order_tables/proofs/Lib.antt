@@ -1,0 +1,4 @@
+pub mod OrderLemmas
+pub mod LineLemmas
+pub mod StagedLemmas
+pub mod ReservedLemmas

@@ -1,0 +1,236 @@
+-- What the statements on `orders` mean, and what they make of the tables.
+use Rattle.std.proofs.Common.{◌≡◌, ◌≢◌, ◌≤◌, ℕ, ℤ, Bool, true, false, not, ◌&&◌, ◌||◌, cond, List, [], ◌∷◌, codes, map, filter, find, length, pos, Ok, Err, Some, None, inl, inr, IsTrue, refl, sym, ap, ap₂, subst, ◌∙◌, bytes_eq, Equal}
+use Rattle.std.specs.Prelude.{nat_eq, if◌then◌else◌, Option}
+use Rattle.std.specs.List.{AllByRecursion}
+use Rattle.std.proofs.lemmas.Bool.{and_parts}
+use Rattle.sqlite.specs.declared.types.Value.{Value}
+use Rattle.sqlite.specs.declared.types.Value.TheVariants.{Null, Int, Text}
+use Rattle.sqlite.specs.Order.{Row, column, bytes}
+use Rattle.sqlite.specs.Term.{Term, lit, col}
+use Rattle.sqlite.specs.Command.TheVariants.{Delete, Insert, Update, Select}
+use Rattle.sqlite.specs.Source.TheVariants.{Values}
+use Rattle.sqlite.specs.Tree.{Trees, with_tree}
+use Rattle.sqlite.specs.Edit.{next_rowid}
+use Rattle.sqlite.specs.Effect.{Database}
+use Rattle.sqlite_tied.specs.Compute.{everything}
+use Rattle.sqlite.specs.Listing.{understood, reads_listing}
+use Rattle.sqlite.specs.State.{State, ExecutesInside, Shown}
+use Rattle.sqlite.proofs.Callers.{IsPlain, command_of, runs_as, reads_as}
+use Rattle.sqlite_schema.specs.declared.schema.Constraint.TheVariants.{Unique}
+use Rattle.sqlite_trees.specs.Tree.{rowid, put_row}
+use Rattle.sqlite_trees.specs.View.{is_int}
+use Rattle.sqlite_rules.specs.Lists.{Has}
+use Rattle.sqlite_rules.specs.Cast.{cast_all}
+use Rattle.sqlite_value.specs.Order.{value_cmp}
+use Rattle.sqlite_keyed.proofs.ListLemmas.{all-filter, all_map, all_weaker}
+use Rattle.sqlite_rules.proofs.ListLemmas.{all_has}
+use Rattle.label.specs.Values.{is_gtin, is_lot_text, is_name, is_title, is_day, is_business_day}
+use Rattle.label.specs.declared.lot.LotId.{LotId}
+use Rattle.commands.specs.Spelling.{kind_text}
+use Rattle.commands.specs.declared.limits.TheConstants.{UNITS_MAX, ACTS_MAX, SHORT_MAX, KEY_TEXT_MAX, CARD_NOTE_MAX, SCHEMA_VERSION}
+use Rattle.commands.specs.declared.rows.OrderRow.{OrderRow}
+use Rattle.table_words.specs.Cells.{typed, is_word, is_the_text, fits_in, is_any, is_number, is_the_number, number_in, is_signed, is_any_number, signed_in, flag_number, flag_in, bin_kind_in, order_state_text, order_state_in, card_kind_text, card_kind_in}
+use Rattle.table_words.specs.Schema.{the_schema, orders_tree, orders_table}
+use Rattle.table_words.specs.Typed.{same_lot_id, is_order, order_in, has_order, order_read, OrderKey, same_order, order_key, order_cells, with_order, without_order, tables_in, Tables, AreTyped, orders_of_rows}
+use Rattle.table_words.specs.Steps.{IsReady, Goes}
+use Rattle.table_words.specs.Found.{AreRows}
+use Rattle.table_words.proofs.Plans.{same, scan, by_rowid, alone}
+use Rattle.table_words.proofs.ListLemmas.{over, IsRows-filter, IsRows-over, IsRows-put_row, all_over, all_put_row, any_counted, none_counted_pass, none_over, stays_put, filter_same_on}
+use Rattle.table_words.proofs.ScanLemmas.{passes, show, in_order, scanned}
+use Rattle.table_words.proofs.WriteLemmas.{deletes, inserts, inserts_at, updates, only_shown, cast_number, cast_null}
+use Rattle.table_words.proofs.CellLemmas.{and_true, and_assoc, same_word, same_count, same_the_number, equals_text, equals_number, same_number, itself_number, same_lots, itself_lot, id_is, typed-filter, shown_typed, flag_back, bin_kind_back, order_state_back, card_kind_back}
+use Rattle.table_words.proofs.StepLemmas.{ready_after, goes}
+use Rattle.table_words.proofs.KeyLemmas.{AtMostOne, one_by_key, one_by_rowid, few, none_had, IsSame, same_bytes, same_both, itself_bytes, itself_both, meets, found_without, found_put, found_over, are_rows}
+
+abbrev pub tests : List Term
+tests = same 1 0 ∷ []
+
+abbrev pub key_cells : List ℕ → Row
+key_cells order = Text order ∷ []
+
+-- the tests find the key that the parameters begin with
+at_key : (params : Row) (order : List ℕ) → column params 0 ≡ Text order → (r : Row) → is_order r ≡ true → passes params tests r ≡ same_order order (order_key (order_in r))
+at_key params order e0 r h =
+    let p0 = and_parts _ _ h in
+    and_true _ ∙ same_word is_name (column r 1) (column params 0) order p0.0 e0
+
+one_key : IsSame {K = OrderKey} same_order
+one_key = same_bytes
+
+-- no key comes twice
+one_row : (db : Database) → IsReady db → (params : Row) → AtMostOne (passes params tests) (db.trees orders_tree)
+one_row db ready params =
+    one_by_key the_schema db.trees (orders_table orders_tree) (1 ∷ []) _ (inr (inr (inr (inr (inr (inl refl)))))) refl refl refl
+    (ready.sound.obeys.rules Unique).1.1.1.1.1.1.0 ready.rows.1.1.1.1.1.1.0 params
+
+-- ---- DELETE
+
+abbrev pub drop_text : List ℕ
+drop_text = codes "DELETE FROM orders WHERE ord = ?1"
+
+drop_is : command_of (understood the_schema drop_text) ≡ Delete 6 (alone (scan orders_tree tests (col 1 0 ∷ []) []))
+unfolding understood everything
+drop_is = refl
+
+drop_plain : IsPlain (understood the_schema drop_text)
+unfolding understood everything
+drop_plain = (refl, refl)
+
+pub drops : (old new : State) (order : List ℕ) (count : ℕ) → IsReady old.now → IsTrue old.in_transaction → ExecutesInside 0 drop_text (key_cells order) old new (Ok count) → Goes (without_order order) old new
+drops old new order count ready inside h =
+    let params = key_cells order in
+    let p = passes params tests in
+    let rows = old.now.trees orders_tree in
+    let left = filter (λ r. not (p r)) rows in
+    let w = runs_as drop_text params old new the_schema ready.schema_is _ drop_is drop_plain count h.0 in
+    let c = deletes the_schema 6 orders_tree _ _ _ _ _ _ refl (λ _ _. refl) old new tests _ params count ready.schema_is ready.rows.1.1.1.1.1.1.0 w in
+    goes old new orders_tree left _ ready (IsRows-filter _ rows ready.rows.1.1.1.1.1.1.0) c (h.1.mode ∙ sym inside)
+    (λ i. let t : Tables = record (tables_in old.now.trees) {
+      order = λ at_order. found_without is_order order_in p (λ s. same_order order (order_key s)) (λ s. same_order at_order (order_key s)) (same_order at_order order)
+          (meets same_order order_key one_key order at_order) (at_key params order refl) rows i;
+    } in t)
+    (λ are. record { meta = are.meta; items = are.items; bins = are.bins; lots = are.lots; recalls = are.recalls; stock = are.stock; orders = all-filter (λ r. is_order r ≡ true) _ rows are.orders; lines = are.lines; staged = are.staged; reserved = are.reserved; shipments = are.shipments; shiplines = are.shiplines; cards = are.cards; repeats = are.repeats })
+
+-- ---- UPDATE
+
+abbrev pub change_text : List ℕ
+change_text = codes "UPDATE orders SET ord = ?1, act = ?2, customer = ?3, state = ?4 WHERE ord = ?1"
+
+abbrev change_terms : List Term
+change_terms = col 0 0 ∷ col 0 1 ∷ col 0 2 ∷ col 0 3 ∷ []
+
+abbrev pub values : OrderRow → Row
+values s = order_cells s
+
+change_is : command_of (understood the_schema change_text) ≡ Update 6 (alone (scan orders_tree tests (col 1 0 ∷ col 1 0 ∷ change_terms) []))
+unfolding understood everything
+change_is = refl
+
+change_plain : IsPlain (understood the_schema change_text)
+unfolding understood everything
+change_plain = (refl, refl)
+
+fits : (s : OrderRow) → cast_all (orders_table orders_tree).columns (values s) ≡ values s
+fits s = rw (cast_number (pos s.act)) refl
+
+-- what is written reads as the row
+back : (id : Value) (s : OrderRow) → order_in (id ∷ values s) ≡ s
+back id s = ap (λ x. let r : OrderRow = record { order = s.order; act = s.act; customer = s.customer; state = x } in r) (order_state_back s.state)
+
+-- whether there was a row with the key
+pub changes : (old new : State) (s : OrderRow) (count : ℕ) → is_order (Null ∷ values s) ≡ true → IsReady old.now → IsTrue old.in_transaction → ExecutesInside 0 change_text (order_cells s) old new (Ok count)
+    → (count ≢ 0 → Goes (with_order s) old new) × (count ≡ 0 → Goes (λ t. t) old new)
+changes old new s count sound ready inside h =
+    let params = order_cells s in
+    let p = passes params tests in
+    let rows = old.now.trees orders_tree in
+    let kept = ready.rows.1.1.1.1.1.1.0 in
+    let after = over p (values s) rows in
+    let w = runs_as change_text params old new the_schema ready.schema_is _ change_is change_plain count h.0 in
+    let u = updates the_schema 6 orders_tree _ _ _ _ _ _ refl (λ _ _. refl) old new tests change_terms _ params (values s) count ready.schema_is kept (λ r. refl) (fits s) (few p rows kept.0 (one_row old.now ready params)) w in
+    let mode = h.1.mode ∙ sym inside in
+    let typed_after : AreTyped old.now.trees → AreTyped (with_tree old.now.trees orders_tree after) = λ are. record { meta = are.meta; items = are.items; bins = are.bins; lots = are.lots; recalls = are.recalls; stock = are.stock; orders = all_over (λ r. is_order r ≡ true) p (values s) rows (λ r h e. sound) are.orders; lines = are.lines; staged = are.staged; reserved = are.reserved; shipments = are.shipments; shiplines = are.shiplines; cards = are.cards; repeats = are.repeats } in (
+      λ some. goes old new orders_tree after _ ready (IsRows-over p (values s) rows kept) u.0 mode
+          (λ i. let t : Tables = record (tables_in old.now.trees) { order = λ at_order. found_over is_order order_in p (λ x. same_order s.order (order_key x)) (λ x. same_order at_order (order_key x)) (same_order at_order s.order) (meets same_order order_key one_key s.order at_order) (at_key params s.order refl) s refl (values s) rows kept.1 (λ r _ _. (sound, back (rowid r) s)) (any_counted p rows (λ none. some (u.1 ∙ none))) i } in t)
+          typed_after,
+      λ none. goes old new orders_tree after _ ready (IsRows-over p (values s) rows kept) u.0 mode
+          (ap (λ l. tables_in (with_tree old.now.trees orders_tree l)) (none_over p (values s) rows (none_counted_pass p rows (sym u.1 ∙ none))))
+          typed_after,
+    )
+
+-- ---- INSERT
+
+abbrev pub add_text : List ℕ
+add_text = codes "INSERT INTO orders (ord, act, customer, state) VALUES (?1, ?2, ?3, ?4)"
+
+abbrev add_terms : List Term
+add_terms = lit Null ∷ col 0 0 ∷ col 0 1 ∷ col 0 2 ∷ col 0 3 ∷ []
+
+add_is : command_of (understood the_schema add_text) ≡ Insert 6 (Values add_terms 5)
+unfolding understood everything
+add_is = refl
+
+add_plain : IsPlain (understood the_schema add_text)
+unfolding understood everything
+add_plain = (refl, refl)
+
+itself : (k : OrderKey) → same_order k k ≡ true
+itself k = itself_bytes k
+
+-- it is refused where the key is there
+pub adds : (old new : State) (s : OrderRow) (count : ℕ) → is_order (Null ∷ values s) ≡ true → IsReady old.now → IsTrue old.in_transaction → ExecutesInside 0 add_text (order_cells s) old new (Ok count) → Goes (with_order s) old new
+adds old new s count sound ready inside h =
+    let params = order_cells s in
+    let p = passes params tests in
+    let rows = old.now.trees orders_tree in
+    let kept = ready.rows.1.1.1.1.1.1.0 in
+    let row : Row = Int (next_rowid rows) ∷ values s in
+    let after = put_row row rows in
+    let w = runs_as add_text params old new the_schema ready.schema_is _ add_is add_plain count h.0 in
+    let u = inserts the_schema 6 orders_tree _ _ _ _ _ _ refl (λ _ _. refl) old new add_terms 5 _ params (values s) count ready.schema_is refl (fits s) w in
+    let good = IsRows-put_row row rows refl kept in
+    let ready_now = ready_after old.now new.now orders_tree after ready good u.0 in
+    let there : p row ≡ true = at_key params s.order refl row sound ∙ itself s.order in
+    let none = none_had p row rows u.1 there (subst (AtMostOne p) u.0.trees_are.1.1.1.1.1.1.0 (one_row new.now ready_now params)) (stays_put row rows u.1) in
+    goes old new orders_tree after _ ready good u.0 (h.1.mode ∙ sym inside)
+    (λ i. let t : Tables = record (tables_in old.now.trees) { order = λ at_order. found_put is_order order_in p (λ x. same_order s.order (order_key x)) (λ x. same_order at_order (order_key x)) (same_order at_order s.order) (meets same_order order_key one_key s.order at_order) (at_key params s.order refl) s refl row rows sound (back (Int (next_rowid rows)) s) u.1 none i } in t)
+    (λ are. record { meta = are.meta; items = are.items; bins = are.bins; lots = are.lots; recalls = are.recalls; stock = are.stock; orders = all_put_row (λ r. is_order r ≡ true) row rows sound are.orders; lines = are.lines; staged = are.staged; reserved = are.reserved; shipments = are.shipments; shiplines = are.shiplines; cards = are.cards; repeats = are.repeats })
+
+-- ---- SELECT
+
+abbrev shown : List Term
+shown = col 1 1 ∷ col 1 2 ∷ col 1 3 ∷ col 1 4 ∷ []
+
+apart : (db : Database) (ready : IsReady db) (a b : Row) → Has (db.trees orders_tree) a → Has (db.trees orders_tree) b → is_order a ≡ true → is_order b ≡ true
+    → same_order (order_key (order_in a)) (order_key (order_in b)) ≡ true → value_cmp (rowid a) (rowid b) ≡ Equal
+apart db ready a b ha hb ta tb e =
+    let s = order_in a in
+    let params = key_cells s.order in
+    one_row db ready params b a hb ha (at_key params s.order refl b tb ∙ e) (at_key params s.order refl a ta ∙ itself s.order)
+
+abbrev pub orders_of_text : List ℕ
+orders_of_text = codes "SELECT ord, act, customer, state FROM orders WHERE ord = ?1 ORDER BY rowid"
+
+abbrev orders_of_tests : List Term
+orders_of_tests = same 1 0 ∷ []
+
+orders_of_is : (command_of (understood the_schema orders_of_text) ≡ Select (alone (scan orders_tree orders_of_tests shown by_rowid)) (codes "ord" ∷ codes "act" ∷ codes "customer" ∷ codes "state" ∷ [])) × (reads_listing the_schema orders_of_text ≡ false)
+unfolding understood everything
+orders_of_is = (refl, refl)
+
+pub orders_of_plain : IsPlain (understood the_schema orders_of_text)
+unfolding understood everything
+orders_of_plain = (refl, refl)
+
+orders_of_at : (order : List ℕ) (r : Row) → is_order r ≡ true → passes (Text order ∷ []) orders_of_tests r ≡ (let key = order_key (order_in r) in bytes_eq order key)
+orders_of_at order r h =
+    let p0 = and_parts _ _ h in
+    and_true _ ∙ same_word is_name (column r 1) (Text order) order p0.0 refl
+
+orders_of_turn : (old new : State) (order : List ℕ) (rows : List Row) → IsReady old.now → Shown orders_of_text (Text order ∷ []) old new rows
+    → rows ≡ map (show (Text order ∷ []) shown) (filter (passes (Text order ∷ []) orders_of_tests) (old.now.trees orders_tree))
+orders_of_turn old new order rows ready h =
+    let params = Text order ∷ [] in
+    let read = reads_as orders_of_text params old new the_schema ready.schema_is _ orders_of_is.0 orders_of_plain orders_of_is.1 rows h in
+    in_order old.now.trees params orders_tree orders_of_tests shown rows ready.rows.1.1.1.1.1.1.0.0 (read.answer Null)
+
+-- the rows that were read
+pub orders_of_reads : (old new : State) (order : List ℕ) (rows : List Row) (xs : List OrderRow) → IsReady old.now → Shown orders_of_text (Text order ∷ []) old new rows
+    → AllByRecursion (λ v. has_order v ≡ true) rows → map order_read rows ≡ xs
+    → AreRows {K = OrderKey} same_order order_key (λ key. bytes_eq order key) (λ key. (tables_in old.now.trees).order key) xs
+orders_of_reads old new order rows xs ready h has are =
+    let params = Text order ∷ [] in
+    let all = old.now.trees orders_tree in
+    are_rows same_order order_key one_key (λ key. bytes_eq order key) is_order order_in all xs ready.rows.1.1.1.1.1.1.0.0 (apart old.now ready)
+    (shown_typed is_order order_in has_order order_read (show params shown) (λ r. refl) (λ r. refl) _ rows xs (orders_of_turn old new order rows ready h) has are
+    ∙ typed-filter is_order order_in (passes params orders_of_tests) (λ x. let key = order_key x in bytes_eq order key) (orders_of_at order) all)
+
+-- each of them reads as a typed row
+pub orders_of_typed : (old new : State) (order : List ℕ) (rows : List Row) → IsReady old.now → Shown orders_of_text (Text order ∷ []) old new rows
+    → AllByRecursion (λ r. is_order r ≡ true) (orders_of_rows order old.now.trees) → AllByRecursion (λ v. has_order v ≡ true) rows
+orders_of_typed old new order rows ready h are =
+    let params = Text order ∷ [] in
+    let all = old.now.trees orders_tree in
+    let same_rows = filter_same_on (passes params orders_of_tests) (λ r. is_the_text order (column r 1)) all (λ r there. and_true _ ∙ equals_text (column r 1) order) in
+    subst (AllByRecursion (λ v. has_order v ≡ true)) (sym (orders_of_turn old new order rows ready h))
+    (all_map (λ v. has_order v ≡ true) (show params shown) _ (subst (AllByRecursion (λ r. is_order r ≡ true)) (sym same_rows) are))

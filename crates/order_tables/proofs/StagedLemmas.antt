@@ -1,0 +1,285 @@
+-- What the statements on `staged` mean, and what they make of the tables.
+use Rattle.std.proofs.Common.{◌≡◌, ◌≢◌, ◌≤◌, ℕ, ℤ, Bool, true, false, not, ◌&&◌, ◌||◌, cond, List, [], ◌∷◌, codes, map, filter, find, length, pos, Ok, Err, Some, None, inl, inr, IsTrue, refl, sym, ap, ap₂, subst, ◌∙◌, bytes_eq, Equal}
+use Rattle.std.specs.Prelude.{nat_eq, if◌then◌else◌, Option}
+use Rattle.std.specs.List.{AllByRecursion}
+use Rattle.std.proofs.lemmas.Bool.{and_parts}
+use Rattle.sqlite.specs.declared.types.Value.{Value}
+use Rattle.sqlite.specs.declared.types.Value.TheVariants.{Null, Int, Text}
+use Rattle.sqlite.specs.Order.{Row, column, bytes}
+use Rattle.sqlite.specs.Term.{Term, lit, col}
+use Rattle.sqlite.specs.Command.TheVariants.{Delete, Insert, Update, Select}
+use Rattle.sqlite.specs.Source.TheVariants.{Values}
+use Rattle.sqlite.specs.Tree.{Trees, with_tree}
+use Rattle.sqlite.specs.Edit.{next_rowid}
+use Rattle.sqlite.specs.Effect.{Database}
+use Rattle.sqlite_tied.specs.Compute.{everything}
+use Rattle.sqlite.specs.Listing.{understood, reads_listing}
+use Rattle.sqlite.specs.State.{State, ExecutesInside, Shown}
+use Rattle.sqlite.proofs.Callers.{IsPlain, command_of, runs_as, reads_as}
+use Rattle.sqlite_schema.specs.declared.schema.Constraint.TheVariants.{Unique}
+use Rattle.sqlite_trees.specs.Tree.{rowid, put_row}
+use Rattle.sqlite_trees.specs.View.{is_int}
+use Rattle.sqlite_rules.specs.Lists.{Has}
+use Rattle.sqlite_rules.specs.Cast.{cast_all}
+use Rattle.sqlite_value.specs.Order.{value_cmp}
+use Rattle.sqlite_keyed.proofs.ListLemmas.{all-filter, all_map, all_weaker}
+use Rattle.sqlite_rules.proofs.ListLemmas.{all_has}
+use Rattle.label.specs.Values.{is_gtin, is_lot_text, is_name, is_title, is_day, is_business_day}
+use Rattle.label.specs.declared.lot.LotId.{LotId}
+use Rattle.commands.specs.Spelling.{kind_text}
+use Rattle.commands.specs.declared.limits.TheConstants.{UNITS_MAX, ACTS_MAX, SHORT_MAX, KEY_TEXT_MAX, CARD_NOTE_MAX, SCHEMA_VERSION}
+use Rattle.commands.specs.declared.rows.StagedRow.{StagedRow}
+use Rattle.table_words.specs.Cells.{typed, is_word, is_the_text, fits_in, is_any, is_number, is_the_number, number_in, is_signed, is_any_number, signed_in, flag_number, flag_in, bin_kind_in, order_state_text, order_state_in, card_kind_text, card_kind_in}
+use Rattle.table_words.specs.Schema.{the_schema, staged_tree, staged_table}
+use Rattle.table_words.specs.Typed.{same_lot_id, is_staged, staged_in, has_staged, staged_read, StagedKey, same_staged, staged_key, staged_cells, with_staged, without_staged, tables_in, Tables, AreTyped, staged_of_item_rows, all_staged_rows}
+use Rattle.table_words.specs.Steps.{IsReady, Goes}
+use Rattle.table_words.specs.Found.{AreRows}
+use Rattle.table_words.proofs.Plans.{same, scan, by_rowid, alone}
+use Rattle.table_words.proofs.ListLemmas.{over, IsRows-filter, IsRows-over, IsRows-put_row, all_over, all_put_row, any_counted, none_counted_pass, none_over, stays_put, filter_same_on}
+use Rattle.table_words.proofs.ScanLemmas.{passes, show, in_order, scanned}
+use Rattle.table_words.proofs.WriteLemmas.{deletes, inserts, inserts_at, updates, only_shown, cast_number, cast_null}
+use Rattle.table_words.proofs.CellLemmas.{and_true, and_assoc, same_word, same_count, same_the_number, equals_text, equals_number, same_number, itself_number, same_lots, itself_lot, id_is, typed-filter, shown_typed, flag_back, bin_kind_back, order_state_back, card_kind_back}
+use Rattle.table_words.proofs.StepLemmas.{ready_after, goes}
+use Rattle.table_words.proofs.KeyLemmas.{AtMostOne, one_by_key, one_by_rowid, few, none_had, IsSame, same_bytes, same_both, itself_bytes, itself_both, meets, found_without, found_put, found_over, are_rows}
+
+abbrev pub tests : List Term
+tests = same 1 0 ∷ same 2 1 ∷ same 3 2 ∷ []
+
+abbrev pub key_cells : List ℕ → LotId → Row
+key_cells order lot = Text order ∷ Text lot.gtin ∷ Text lot.lot ∷ []
+
+-- the tests find the key that the parameters begin with
+at_key : (params : Row) (order : List ℕ) (lot : LotId) → column params 0 ≡ Text order → column params 1 ≡ Text lot.gtin → column params 2 ≡ Text lot.lot → (r : Row) → is_staged r ≡ true → passes params tests r ≡ same_staged (order, lot) (staged_key (staged_in r))
+at_key params order lot e0 e1 e2 r h =
+    let p0 = and_parts _ _ h in
+    let p1 = and_parts _ _ p0.1 in
+    let p2 = and_parts _ _ p1.1 in
+    ap₂ ◌&&◌ (same_word is_name (column r 1) (column params 0) order p0.0 e0) (ap₂ ◌&&◌ (same_word is_gtin (column r 2) (column params 1) lot.gtin p1.0 e1) (and_true _ ∙ same_word is_lot_text (column r 3) (column params 2) lot.lot p2.0 e2))
+
+one_key : IsSame {K = StagedKey} same_staged
+one_key = same_both bytes_eq same_lot_id same_bytes same_lots
+
+-- no key comes twice
+one_row : (db : Database) → IsReady db → (params : Row) → AtMostOne (passes params tests) (db.trees staged_tree)
+one_row db ready params =
+    one_by_key the_schema db.trees (staged_table staged_tree) (1 ∷ 2 ∷ 3 ∷ []) _ (inr (inr (inr (inr (inr (inr (inr (inl refl)))))))) refl refl refl
+    (ready.sound.obeys.rules Unique).1.1.1.1.1.1.1.1.0 ready.rows.1.1.1.1.1.1.1.1.0 params
+
+-- ---- DELETE
+
+abbrev pub drop_text : List ℕ
+drop_text = codes "DELETE FROM staged WHERE ord = ?1 AND gtin = ?2 AND lot = ?3"
+
+drop_is : command_of (understood the_schema drop_text) ≡ Delete 8 (alone (scan staged_tree tests (col 1 0 ∷ []) []))
+unfolding understood everything
+drop_is = refl
+
+drop_plain : IsPlain (understood the_schema drop_text)
+unfolding understood everything
+drop_plain = (refl, refl)
+
+pub drops : (old new : State) (order : List ℕ) (lot : LotId) (count : ℕ) → IsReady old.now → IsTrue old.in_transaction → ExecutesInside 0 drop_text (key_cells order lot) old new (Ok count) → Goes (without_staged order lot) old new
+drops old new order lot count ready inside h =
+    let params = key_cells order lot in
+    let p = passes params tests in
+    let rows = old.now.trees staged_tree in
+    let left = filter (λ r. not (p r)) rows in
+    let w = runs_as drop_text params old new the_schema ready.schema_is _ drop_is drop_plain count h.0 in
+    let c = deletes the_schema 8 staged_tree _ _ _ _ _ _ refl (λ _ _. refl) old new tests _ params count ready.schema_is ready.rows.1.1.1.1.1.1.1.1.0 w in
+    goes old new staged_tree left _ ready (IsRows-filter _ rows ready.rows.1.1.1.1.1.1.1.1.0) c (h.1.mode ∙ sym inside)
+    (λ i. let t : Tables = record (tables_in old.now.trees) {
+      staged = λ at_order at_lot. found_without is_staged staged_in p (λ s. same_staged (order, lot) (staged_key s)) (λ s. same_staged (at_order, at_lot) (staged_key s)) (same_staged (at_order, at_lot) (order, lot))
+          (meets same_staged staged_key one_key (order, lot) (at_order, at_lot)) (at_key params order lot refl refl refl) rows i;
+    } in t)
+    (λ are. record { meta = are.meta; items = are.items; bins = are.bins; lots = are.lots; recalls = are.recalls; stock = are.stock; orders = are.orders; lines = are.lines; staged = all-filter (λ r. is_staged r ≡ true) _ rows are.staged; reserved = are.reserved; shipments = are.shipments; shiplines = are.shiplines; cards = are.cards; repeats = are.repeats })
+
+-- ---- UPDATE
+
+abbrev pub change_text : List ℕ
+change_text = codes "UPDATE staged SET ord = ?1, gtin = ?2, lot = ?3, qty = ?4 WHERE ord = ?1 AND gtin = ?2 AND lot = ?3"
+
+abbrev change_terms : List Term
+change_terms = col 0 0 ∷ col 0 1 ∷ col 0 2 ∷ col 0 3 ∷ []
+
+abbrev pub values : StagedRow → Row
+values s = staged_cells s
+
+change_is : command_of (understood the_schema change_text) ≡ Update 8 (alone (scan staged_tree tests (col 1 0 ∷ col 1 0 ∷ change_terms) []))
+unfolding understood everything
+change_is = refl
+
+change_plain : IsPlain (understood the_schema change_text)
+unfolding understood everything
+change_plain = (refl, refl)
+
+fits : (s : StagedRow) → cast_all (staged_table staged_tree).columns (values s) ≡ values s
+fits s = rw (cast_number (pos s.qty)) refl
+
+-- what is written reads as the row
+back : (id : Value) (s : StagedRow) → staged_in (id ∷ values s) ≡ s
+back id s = refl
+
+-- whether there was a row with the key
+pub changes : (old new : State) (s : StagedRow) (count : ℕ) → is_staged (Null ∷ values s) ≡ true → IsReady old.now → IsTrue old.in_transaction → ExecutesInside 0 change_text (staged_cells s) old new (Ok count)
+    → (count ≢ 0 → Goes (with_staged s) old new) × (count ≡ 0 → Goes (λ t. t) old new)
+changes old new s count sound ready inside h =
+    let params = staged_cells s in
+    let p = passes params tests in
+    let rows = old.now.trees staged_tree in
+    let kept = ready.rows.1.1.1.1.1.1.1.1.0 in
+    let after = over p (values s) rows in
+    let w = runs_as change_text params old new the_schema ready.schema_is _ change_is change_plain count h.0 in
+    let u = updates the_schema 8 staged_tree _ _ _ _ _ _ refl (λ _ _. refl) old new tests change_terms _ params (values s) count ready.schema_is kept (λ r. refl) (fits s) (few p rows kept.0 (one_row old.now ready params)) w in
+    let mode = h.1.mode ∙ sym inside in
+    let typed_after : AreTyped old.now.trees → AreTyped (with_tree old.now.trees staged_tree after) = λ are. record { meta = are.meta; items = are.items; bins = are.bins; lots = are.lots; recalls = are.recalls; stock = are.stock; orders = are.orders; lines = are.lines; staged = all_over (λ r. is_staged r ≡ true) p (values s) rows (λ r h e. sound) are.staged; reserved = are.reserved; shipments = are.shipments; shiplines = are.shiplines; cards = are.cards; repeats = are.repeats } in (
+      λ some. goes old new staged_tree after _ ready (IsRows-over p (values s) rows kept) u.0 mode
+          (λ i. let t : Tables = record (tables_in old.now.trees) { staged = λ at_order at_lot. found_over is_staged staged_in p (λ x. same_staged (s.order, s.lot) (staged_key x)) (λ x. same_staged (at_order, at_lot) (staged_key x)) (same_staged (at_order, at_lot) (s.order, s.lot)) (meets same_staged staged_key one_key (s.order, s.lot) (at_order, at_lot)) (at_key params s.order s.lot refl refl refl) s refl (values s) rows kept.1 (λ r _ _. (sound, back (rowid r) s)) (any_counted p rows (λ none. some (u.1 ∙ none))) i } in t)
+          typed_after,
+      λ none. goes old new staged_tree after _ ready (IsRows-over p (values s) rows kept) u.0 mode
+          (ap (λ l. tables_in (with_tree old.now.trees staged_tree l)) (none_over p (values s) rows (none_counted_pass p rows (sym u.1 ∙ none))))
+          typed_after,
+    )
+
+-- ---- INSERT
+
+abbrev pub add_text : List ℕ
+add_text = codes "INSERT INTO staged (ord, gtin, lot, qty) VALUES (?1, ?2, ?3, ?4)"
+
+abbrev add_terms : List Term
+add_terms = lit Null ∷ col 0 0 ∷ col 0 1 ∷ col 0 2 ∷ col 0 3 ∷ []
+
+add_is : command_of (understood the_schema add_text) ≡ Insert 8 (Values add_terms 5)
+unfolding understood everything
+add_is = refl
+
+add_plain : IsPlain (understood the_schema add_text)
+unfolding understood everything
+add_plain = (refl, refl)
+
+itself : (k : StagedKey) → same_staged k k ≡ true
+itself k = itself_both _ _ (itself_bytes k.0) (itself_lot k.1)
+
+-- it is refused where the key is there
+pub adds : (old new : State) (s : StagedRow) (count : ℕ) → is_staged (Null ∷ values s) ≡ true → IsReady old.now → IsTrue old.in_transaction → ExecutesInside 0 add_text (staged_cells s) old new (Ok count) → Goes (with_staged s) old new
+adds old new s count sound ready inside h =
+    let params = staged_cells s in
+    let p = passes params tests in
+    let rows = old.now.trees staged_tree in
+    let kept = ready.rows.1.1.1.1.1.1.1.1.0 in
+    let row : Row = Int (next_rowid rows) ∷ values s in
+    let after = put_row row rows in
+    let w = runs_as add_text params old new the_schema ready.schema_is _ add_is add_plain count h.0 in
+    let u = inserts the_schema 8 staged_tree _ _ _ _ _ _ refl (λ _ _. refl) old new add_terms 5 _ params (values s) count ready.schema_is refl (fits s) w in
+    let good = IsRows-put_row row rows refl kept in
+    let ready_now = ready_after old.now new.now staged_tree after ready good u.0 in
+    let there : p row ≡ true = at_key params s.order s.lot refl refl refl row sound ∙ itself (s.order, s.lot) in
+    let none = none_had p row rows u.1 there (subst (AtMostOne p) u.0.trees_are.1.1.1.1.1.1.1.1.0 (one_row new.now ready_now params)) (stays_put row rows u.1) in
+    goes old new staged_tree after _ ready good u.0 (h.1.mode ∙ sym inside)
+    (λ i. let t : Tables = record (tables_in old.now.trees) { staged = λ at_order at_lot. found_put is_staged staged_in p (λ x. same_staged (s.order, s.lot) (staged_key x)) (λ x. same_staged (at_order, at_lot) (staged_key x)) (same_staged (at_order, at_lot) (s.order, s.lot)) (meets same_staged staged_key one_key (s.order, s.lot) (at_order, at_lot)) (at_key params s.order s.lot refl refl refl) s refl row rows sound (back (Int (next_rowid rows)) s) u.1 none i } in t)
+    (λ are. record { meta = are.meta; items = are.items; bins = are.bins; lots = are.lots; recalls = are.recalls; stock = are.stock; orders = are.orders; lines = are.lines; staged = all_put_row (λ r. is_staged r ≡ true) row rows sound are.staged; reserved = are.reserved; shipments = are.shipments; shiplines = are.shiplines; cards = are.cards; repeats = are.repeats })
+
+-- ---- SELECT
+
+abbrev shown : List Term
+shown = col 1 1 ∷ col 1 2 ∷ col 1 3 ∷ col 1 4 ∷ []
+
+apart : (db : Database) (ready : IsReady db) (a b : Row) → Has (db.trees staged_tree) a → Has (db.trees staged_tree) b → is_staged a ≡ true → is_staged b ≡ true
+    → same_staged (staged_key (staged_in a)) (staged_key (staged_in b)) ≡ true → value_cmp (rowid a) (rowid b) ≡ Equal
+apart db ready a b ha hb ta tb e =
+    let s = staged_in a in
+    let params = key_cells s.order s.lot in
+    one_row db ready params b a hb ha (at_key params s.order s.lot refl refl refl b tb ∙ e) (at_key params s.order s.lot refl refl refl a ta ∙ itself (s.order, s.lot))
+
+abbrev pub staged_of_item_text : List ℕ
+staged_of_item_text = codes "SELECT ord, gtin, lot, qty FROM staged WHERE gtin = ?1 ORDER BY rowid"
+
+abbrev staged_of_item_tests : List Term
+staged_of_item_tests = same 2 0 ∷ []
+
+staged_of_item_is : (command_of (understood the_schema staged_of_item_text) ≡ Select (alone (scan staged_tree staged_of_item_tests shown by_rowid)) (codes "ord" ∷ codes "gtin" ∷ codes "lot" ∷ codes "qty" ∷ [])) × (reads_listing the_schema staged_of_item_text ≡ false)
+unfolding understood everything
+staged_of_item_is = (refl, refl)
+
+pub staged_of_item_plain : IsPlain (understood the_schema staged_of_item_text)
+unfolding understood everything
+staged_of_item_plain = (refl, refl)
+
+staged_of_item_at : (gtin : List ℕ) (r : Row) → is_staged r ≡ true → passes (Text gtin ∷ []) staged_of_item_tests r ≡ (let key = staged_key (staged_in r) in bytes_eq gtin key.1.gtin)
+staged_of_item_at gtin r h =
+    let p0 = and_parts _ _ h in
+    let p1 = and_parts _ _ p0.1 in
+    and_true _ ∙ same_word is_gtin (column r 2) (Text gtin) gtin p1.0 refl
+
+staged_of_item_turn : (old new : State) (gtin : List ℕ) (rows : List Row) → IsReady old.now → Shown staged_of_item_text (Text gtin ∷ []) old new rows
+    → rows ≡ map (show (Text gtin ∷ []) shown) (filter (passes (Text gtin ∷ []) staged_of_item_tests) (old.now.trees staged_tree))
+staged_of_item_turn old new gtin rows ready h =
+    let params = Text gtin ∷ [] in
+    let read = reads_as staged_of_item_text params old new the_schema ready.schema_is _ staged_of_item_is.0 staged_of_item_plain staged_of_item_is.1 rows h in
+    in_order old.now.trees params staged_tree staged_of_item_tests shown rows ready.rows.1.1.1.1.1.1.1.1.0.0 (read.answer Null)
+
+-- the rows that were read
+pub staged_of_item_reads : (old new : State) (gtin : List ℕ) (rows : List Row) (xs : List StagedRow) → IsReady old.now → Shown staged_of_item_text (Text gtin ∷ []) old new rows
+    → AllByRecursion (λ v. has_staged v ≡ true) rows → map staged_read rows ≡ xs
+    → AreRows {K = StagedKey} same_staged staged_key (λ key. bytes_eq gtin key.1.gtin) (λ key. (tables_in old.now.trees).staged key.0 key.1) xs
+staged_of_item_reads old new gtin rows xs ready h has are =
+    let params = Text gtin ∷ [] in
+    let all = old.now.trees staged_tree in
+    are_rows same_staged staged_key one_key (λ key. bytes_eq gtin key.1.gtin) is_staged staged_in all xs ready.rows.1.1.1.1.1.1.1.1.0.0 (apart old.now ready)
+    (shown_typed is_staged staged_in has_staged staged_read (show params shown) (λ r. refl) (λ r. refl) _ rows xs (staged_of_item_turn old new gtin rows ready h) has are
+    ∙ typed-filter is_staged staged_in (passes params staged_of_item_tests) (λ x. let key = staged_key x in bytes_eq gtin key.1.gtin) (staged_of_item_at gtin) all)
+
+-- each of them reads as a typed row
+pub staged_of_item_typed : (old new : State) (gtin : List ℕ) (rows : List Row) → IsReady old.now → Shown staged_of_item_text (Text gtin ∷ []) old new rows
+    → AllByRecursion (λ r. is_staged r ≡ true) (staged_of_item_rows gtin old.now.trees) → AllByRecursion (λ v. has_staged v ≡ true) rows
+staged_of_item_typed old new gtin rows ready h are =
+    let params = Text gtin ∷ [] in
+    let all = old.now.trees staged_tree in
+    let same_rows = filter_same_on (passes params staged_of_item_tests) (λ r. is_the_text gtin (column r 2)) all (λ r there. and_true _ ∙ equals_text (column r 2) gtin) in
+    subst (AllByRecursion (λ v. has_staged v ≡ true)) (sym (staged_of_item_turn old new gtin rows ready h))
+    (all_map (λ v. has_staged v ≡ true) (show params shown) _ (subst (AllByRecursion (λ r. is_staged r ≡ true)) (sym same_rows) are))
+
+abbrev pub all_staged_text : List ℕ
+all_staged_text = codes "SELECT ord, gtin, lot, qty FROM staged ORDER BY rowid"
+
+abbrev all_staged_tests : List Term
+all_staged_tests = []
+
+all_staged_is : (command_of (understood the_schema all_staged_text) ≡ Select (alone (scan staged_tree all_staged_tests shown by_rowid)) (codes "ord" ∷ codes "gtin" ∷ codes "lot" ∷ codes "qty" ∷ [])) × (reads_listing the_schema all_staged_text ≡ false)
+unfolding understood everything
+all_staged_is = (refl, refl)
+
+pub all_staged_plain : IsPlain (understood the_schema all_staged_text)
+unfolding understood everything
+all_staged_plain = (refl, refl)
+
+all_staged_at : (r : Row) → is_staged r ≡ true → passes ([]) all_staged_tests r ≡ (let key = staged_key (staged_in r) in true)
+all_staged_at r h =
+    refl
+
+all_staged_turn : (old new : State) (rows : List Row) → IsReady old.now → Shown all_staged_text ([]) old new rows
+    → rows ≡ map (show ([]) shown) (filter (passes ([]) all_staged_tests) (old.now.trees staged_tree))
+all_staged_turn old new rows ready h =
+    let params = [] in
+    let read = reads_as all_staged_text params old new the_schema ready.schema_is _ all_staged_is.0 all_staged_plain all_staged_is.1 rows h in
+    in_order old.now.trees params staged_tree all_staged_tests shown rows ready.rows.1.1.1.1.1.1.1.1.0.0 (read.answer Null)
+
+-- the rows that were read
+pub all_staged_reads : (old new : State) (rows : List Row) (xs : List StagedRow) → IsReady old.now → Shown all_staged_text ([]) old new rows
+    → AllByRecursion (λ v. has_staged v ≡ true) rows → map staged_read rows ≡ xs
+    → AreRows {K = StagedKey} same_staged staged_key (λ key. true) (λ key. (tables_in old.now.trees).staged key.0 key.1) xs
+all_staged_reads old new rows xs ready h has are =
+    let params = [] in
+    let all = old.now.trees staged_tree in
+    are_rows same_staged staged_key one_key (λ key. true) is_staged staged_in all xs ready.rows.1.1.1.1.1.1.1.1.0.0 (apart old.now ready)
+    (shown_typed is_staged staged_in has_staged staged_read (show params shown) (λ r. refl) (λ r. refl) _ rows xs (all_staged_turn old new rows ready h) has are
+    ∙ typed-filter is_staged staged_in (passes params all_staged_tests) (λ x. let key = staged_key x in true) (all_staged_at) all)
+
+-- each of them reads as a typed row
+pub all_staged_typed : (old new : State) (rows : List Row) → IsReady old.now → Shown all_staged_text ([]) old new rows
+    → AllByRecursion (λ r. is_staged r ≡ true) (all_staged_rows old.now.trees) → AllByRecursion (λ v. has_staged v ≡ true) rows
+all_staged_typed old new rows ready h are =
+    let params = [] in
+    let all = old.now.trees staged_tree in
+    let same_rows = filter_same_on (passes params all_staged_tests) (λ r. true) all (λ r there. refl) in
+    subst (AllByRecursion (λ v. has_staged v ≡ true)) (sym (all_staged_turn old new rows ready h))
+    (all_map (λ v. has_staged v ≡ true) (show params shown) _ (subst (AllByRecursion (λ r. is_staged r ≡ true)) (sym same_rows) are))

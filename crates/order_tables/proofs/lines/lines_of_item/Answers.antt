@@ -1,0 +1,31 @@
+use Rattle.std.proofs.Common.{◌≡◌, true, map, refl, sym, ap, subst, ◌∙◌}
+use Rattle.sqlite.specs.Held.{state}
+use Rattle.sqlite.proofs.Callers.{IsPlain}
+use Rattle.sqlite.specs.Listing.{understood}
+use Rattle.std.specs.List.{AllByRecursion}
+use Rattle.table_words.specs.Typed.{has_line, line_read}
+use Rattle.table_words.proofs.CallLemmas.{kept_unchanged, query_keeps, query_same, on_ok, if_ok, if_err, if_both}
+use Rattle.order_tables.proofs.LineLemmas.{lines_of_item_text, lines_of_item_plain, lines_of_item_reads, lines_of_item_typed}
+use Rattle.order_tables.proofs.lines.lines_of_item.Goals as goal
+
+pub returns-in_err-rows-clause-kept : goal.returns-in_err-rows-clause-kept
+returns-in_err-rows-clause-kept g c clean ready = query_keeps lines_of_item_text _ (state g.S.Store c.args.tx.now.conn.now) (state g.S.Store c.query_all.new.self.conn.now) _ (subst (λ s. IsPlain (understood s lines_of_item_text)) (sym ready.schema_is) lines_of_item_plain) (c.in_err-rows.ensures.err clean)
+
+pub returns-clause-rows : goal.returns-clause-rows
+returns-clause-rows g c clean ready =
+    let shown = rw c.of_gtin.ensures.value at (c.in_ok-rows.ensures.ok clean) in
+    if_ok c.to_rows.result _ _ (if_both c.to_rows.result _ _ c.to_rows.ensures.typed c.to_rows.ensures.ok) (λ found are.
+    lines_of_item_reads (state g.S.Store c.args.tx.now.conn.now) (state g.S.Store c.query_all.new.self.conn.now) c.args.gtin.now c.in_ok-rows.rows.items found.items ready shown
+    (subst (AllByRecursion (λ v. has_line v ≡ true)) c.as_slice.ensures.value are.0) (ap (map line_read) (sym c.as_slice.ensures.value) ∙ are.1))
+
+pub returns-clause-foreign : goal.returns-clause-foreign
+returns-clause-foreign g c clean ready =
+    let shown = rw c.of_gtin.ensures.value at (c.in_ok-rows.ensures.ok clean) in
+    if_err c.to_rows.result _ _ c.to_rows.ensures.foreign (λ e untyped is are.
+    untyped is (subst (AllByRecursion (λ v. has_line v ≡ true)) (sym c.as_slice.ensures.value) (lines_of_item_typed (state g.S.Store c.args.tx.now.conn.now) (state g.S.Store c.query_all.new.self.conn.now) c.args.gtin.now c.in_ok-rows.rows.items ready shown are)))
+
+pub returns-clause-same : goal.returns-clause-same
+returns-clause-same g c clean ready = on_ok c.to_rows.result (query_same lines_of_item_text _ (state g.S.Store c.args.tx.now.conn.now) (state g.S.Store c.query_all.new.self.conn.now) c.in_ok-rows.rows.items (subst (λ s. IsPlain (understood s lines_of_item_text)) (sym ready.schema_is) lines_of_item_plain) (c.in_ok-rows.ensures.ok clean))
+
+pub returns-clause-kept : goal.returns-clause-kept
+returns-clause-kept g c clean ready = kept_unchanged (state g.S.Store c.args.tx.now.conn.now) (state g.S.Store c.query_all.new.self.conn.now) (query_same lines_of_item_text _ (state g.S.Store c.args.tx.now.conn.now) (state g.S.Store c.query_all.new.self.conn.now) c.in_ok-rows.rows.items (subst (λ s. IsPlain (understood s lines_of_item_text)) (sym ready.schema_is) lines_of_item_plain) (c.in_ok-rows.ensures.ok clean))

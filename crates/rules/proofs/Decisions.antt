@@ -1,0 +1,126 @@
+-- What has to be shown of a command's conditions and change, and that a decision then is the machine's.
+use Rattle.std.proofs.Common.{◌≡◌, ℕ, ◌+◌, ◌<◌, ◌≤◌, min, true, false, ◌++◌, List, [], ◌∷◌, refl, ap, sym, subst, ◌∙◌, arith}
+use Rattle.std.specs.Prelude.{ℤ, Option, Some, None, Result, Ok, Err, IsTrue, IfOk, codes, decimal, length, nat_le}
+use Rattle.std.proofs.lemmas.Bool.Decides.{nat_tests}
+use Rattle.commands.specs.Sound.{is_sound, is_sound_key}
+use Rattle.commands.specs.declared.limits.TheConstants.{ACTS_MAX}
+use Rattle.commands.specs.declared.key.Key.{Key}
+use Rattle.commands.specs.declared.refusal.Refusal.{Refusal}
+use Rattle.commands.specs.declared.command.Command.{Command}
+use Rattle.rules.specs.Acts.{Act, next_number}
+use Rattle.rules.specs.Standing.{today, shipments_so_far}
+use Rattle.rules.specs.Verdict.{Judgement, first_refusal, verdict}
+use Rattle.rules.specs.Once.{IsHistory, is_key_of, bearer}
+use Rattle.rules.specs.Replies.{reply, further_field}
+use Rattle.rules.specs.Tables.{tables_of, meta_row}
+use Rattle.rules.specs.Slices.{IsSlice, applied, tables_but_repeats, AreOnce, IsDecision, NamesChangedReservations}
+use Rattle.rules.specs.Seen.{capped, number_seen, plain_reply, meta_after}
+use Rattle.rules.specs.Decided.{IsMade}
+use Rattle.rules.specs.declared.slice.Slice.{Slice}
+use Rattle.rules.specs.declared.slice.Change.{Change}
+use Rattle.rules.specs.declared.slice.RuleFault.{RuleFault}
+use Rattle.rules.specs.declared.slice.RuleFault.TheVariants.{Refused, NoMemory, Foreign}
+
+-- the change is that of the accepted command
+pub record IsChange (first : ℤ) (act : Act) (acts : List Act) (change : Change) : Type 0 where
+  pub applies : applied change (tables_of first acts) ≡ tables_but_repeats first act acts
+  pub text : change.text ≡ reply first act acts
+  pub once : AreOnce change.put
+  pub named : NamesChangedReservations first act acts change
+
+-- the conditions judge as the machine, and where it accepts the change is that of the command
+pub record IsRight (first : ℤ) (act : Act) (acts : List Act) (seen : Judgement) (change : Change) : Type 0 where
+  pub judged : first_refusal seen ≡ verdict first acts act.command
+  pub changed : verdict first acts act.command ≡ None → IsHistory first (act ∷ acts) → IsChange first act acts change
+
+module _ (key : Key) (s : Slice) (result : Result Change RuleFault) where
+  -- on each slice of a history
+  abbrev pub AreRight : Command → Judgement → Change → Type 0
+  AreRight command seen change = (first : ℤ) (acts : List Act) → IsHistory first acts → IsSlice first (record { key = key; command = command }) acts (tables_of first acts) s
+      → IsRight first (record { key = key; command = command }) acts seen change
+
+  abbrev pub Decides : Command → Type 0
+  Decides command = (first : ℤ) (acts : List Act) → IsHistory first acts → IsTrue (is_key_of key command) → bearer key acts ≡ None
+      → IsSlice first (record { key = key; command = command }) acts (tables_of first acts) s → IsDecision first (record { key = key; command = command }) acts result
+
+  abbrev pub Reserves : Command → Type 0
+  Reserves command = IfOk result (λ change. (first : ℤ) (acts : List Act) → IsHistory first acts → IsTrue (is_key_of key command) → bearer key acts ≡ None
+      → IsSlice first (record { key = key; command = command }) acts (tables_of first acts) s → NamesChangedReservations first (record { key = key; command = command }) acts change)
+
+module _ (key : Key) (s : Slice) (command : Command) (sound_key : IsTrue (is_sound_key key)) (sound : IsTrue (is_sound command)) (seen : Judgement) (change : Change) where
+  abbrev act : Act
+  act = record { key = key; command = command }
+
+  next : (first : ℤ) (acts : List Act) → IsHistory first acts → IsTrue (is_key_of key command) → bearer key acts ≡ None → verdict first acts command ≡ None → IsHistory first (act ∷ acts)
+  next first acts history kind fresh ok = (history, record { passes = ok; fresh = fresh; sound = record { kind = kind; key = sound_key; command = sound } })
+
+  module _ (first : ℤ) (acts : List Act) (right : IsRight first act acts seen change) (going_on : verdict first acts command ≡ None → IsHistory first (act ∷ acts)) where
+    by_refusal : (result : Result Change RuleFault) (why : Option Refusal) → first_refusal seen ≡ why → IsMade why change result → IsDecision first act acts result
+    by_refusal result (Some why) e made = subst (IsDecision first act acts) (sym made) (sym right.judged ∙ e)
+    by_refusal (Ok c) None e made =
+        let ok : verdict first acts command ≡ None = sym right.judged ∙ e in
+        let h = right.changed ok (going_on ok) in
+        subst (λ (x : Change). IsDecision first act acts (Ok x)) (sym made) (ok, h.applies, h.text, h.once)
+    by_refusal (Err fault) None e made = subst (λ (x : RuleFault). IsDecision first act acts (Err x)) (sym made) (sym right.judged ∙ e)
+
+    names_by : (c : Change) (why : Option Refusal) → first_refusal seen ≡ why → IsMade why change (Ok c) → NamesChangedReservations first act acts c
+    names_by c (Some why) e made = cc
+    names_by c None e made =
+        let ok : verdict first acts command ≡ None = sym right.judged ∙ e in
+        subst (NamesChangedReservations first act acts) (sym made) (right.changed ok (going_on ok)).named
+
+  module _ (result : Result Change RuleFault) (made : IsMade (first_refusal seen) change result) (right : AreRight key s result command seen change) where
+    pub decided : Decides key s result command
+    decided first acts history kind fresh slice = by_refusal first acts (right first acts history slice) (next first acts history kind fresh) result (first_refusal seen) refl made
+
+  pub reserved_rows : (result : Result Change RuleFault) → IsMade (first_refusal seen) change result → AreRight key s result command seen change → Reserves key s result command
+  reserved_rows (Ok c) made right = λ first acts history kind fresh slice. names_by first acts (right first acts history slice) (next first acts history kind fresh) c (first_refusal seen) refl made
+  reserved_rows (Err fault) made right = tt
+
+-- So is it for a command that a match found to be another
+module _ (key : Key) (s : Slice) (command other : Command) (is : command ≡ other) (sound_key : IsTrue (is_sound_key key)) (sound : IsTrue (is_sound command))
+    (seen : Judgement) (change : Change) (result : Result Change RuleFault) (made : IsMade (first_refusal seen) change result) (right : AreRight key s result other seen change) where
+  pub decided_as : Decides key s result command
+  decided_as =
+      subst (λ (x : Command). Decides key s result x) (sym is) (decided key s other sound_key (subst (λ (x : Command). IsTrue (is_sound x)) is sound) seen change result made right)
+
+  pub reserved_as : Reserves key s result command
+  reserved_as =
+      subst (λ (x : Command). Reserves key s result x) (sym is) (reserved_rows key s other sound_key (subst (λ (x : Command). IsTrue (is_sound x)) is sound) seen change result made right)
+
+-- What the slice of any command tells of its act
+
+module _ (first : ℤ) (acts : List Act) (act : Act) (s : Slice) (slice : IsSlice first act acts (tables_of first acts) s) where
+  pub acts_seen : s.meta.acts ≡ length acts
+  unfolding tables_of
+  acts_seen = ap (λ m. m.acts) slice.meta
+
+  pub day_seen : s.meta.day ≡ today first acts
+  unfolding tables_of
+  day_seen = ap (λ m. m.day) slice.meta
+
+  pub shipments_seen : s.meta.shipments ≡ shipments_so_far first acts
+  unfolding tables_of
+  shipments_seen = ap (λ m. m.shipments) slice.meta
+
+  module _ (room : nat_le ACTS_MAX (length acts) ≡ false) where
+    pub number_same : number_seen s ≡ next_number acts
+    number_same =
+        let full : length acts < ACTS_MAX = grind (arith, nat_tests, room) in
+        ap (λ n. capped (n + 1)) acts_seen ∙ omega arith
+
+    -- a reply that has nothing beside the number
+    pub plain_same : further_field first act acts act.command ≡ [] → plain_reply s ≡ reply first act acts
+    plain_same none =
+        ap (λ n. codes "{\"act\":" ++ decimal n ++ codes "}") number_same ∙ ap (λ xs. xs ++ codes "}") (sym (no_more (codes "{\"act\":" ++ decimal (next_number acts))))
+        ∙ ap (λ xs. codes "{\"act\":" ++ decimal (next_number acts) ++ xs ++ codes "}") (sym none)
+      where
+        no_more : (xs : List ℕ) → xs ++ [] ≡ xs
+        no_more [] = refl
+        no_more (x ∷ xs) = ap (λ ys. x ∷ ys) (no_more xs)
+
+    pub meta_same : today first (act ∷ acts) ≡ today first acts → shipments_so_far first (act ∷ acts) ≡ shipments_so_far first acts → meta_after s ≡ meta_row first (act ∷ acts)
+    meta_same day shipped = (λ i. record { day = (day_seen ∙ sym day) i; acts = (number_same ∙ one_more) i; shipments = (shipments_seen ∙ sym shipped) i })
+      where
+        one_more : next_number acts ≡ length (act ∷ acts)
+        one_more = omega arith

@@ -1,0 +1,183 @@
+-- What a decision sees of the tables, and what a change makes of them.
+use Rattle.std.specs.Prelude.{◌≡◌, ℕ, Bool, true, false, not, ◌&&◌, ◌||◌, ◌==◌, if◌then◌else◌, List, [], ◌∷◌, length, find, Option, Some, None, Result, Ok, Err, is_some, ℤ}
+use Rattle.std.specs.List.{list_any}
+use Rattle.label.specs.Values.{same_text}
+use Rattle.label.specs.declared.lot.LotId.{LotId}
+use Rattle.commands.specs.declared.command.Command.{Command}
+use Rattle.commands.specs.declared.command.Command.TheVariants.{Item, Bin, Receive, Move, Count, Adjust, Order, Cancel, Pick, Unpick, Ship, Hold, Release, Recall, OpenDay}
+use Rattle.commands.specs.declared.rows.ReservedRow.{ReservedRow}
+use Rattle.rules.specs.Acts.{Act}
+use Rattle.rules.specs.Postings.{is_lot, of_item}
+use Rattle.rules.specs.Standing.{items, bins, has_line, lines_of, lots_of, orders, is_shippable}
+use Rattle.rules.specs.Planning.{staged_of_lot, is_open}
+use Rattle.rules.specs.Touched.{is_touched}
+use Rattle.rules.specs.Tables.{Tables, tables_of, repeat_row}
+use Rattle.rules.specs.Verdict.{verdict}
+use Rattle.rules.specs.Replies.{reply}
+use Rattle.rules.specs.declared.slice.Rows.{Rows}
+use Rattle.rules.specs.declared.slice.Slice.{Slice}
+use Rattle.rules.specs.declared.slice.Change.{Change}
+use Rattle.rules.specs.declared.slice.RuleFault.{RuleFault}
+use Rattle.rules.specs.declared.slice.RuleFault.TheVariants.{Refused, NoMemory, Foreign}
+
+-- Changes: a row that is put stands, one that is dropped is gone, and the others stay
+
+abbrev pub unless_put : {R : Type 0} → Option R → Bool → Option R → Option R
+unless_put (Some row) gone old = Some row
+unless_put None gone old = if gone then None else old
+
+-- what is found by the test among the rows put, or else what was there before, unless it is dropped
+abbrev pub changed : {R : Type 0} → (R → Bool) → List R → List R → Option R → Option R
+changed test put dropped old = unless_put (find test put) (list_any test dropped) old
+
+-- the tables after a change; `repeats` is written by others
+unfoldable pub applied : Change → Tables → Tables
+applied c t = record {
+  mark = t.mark;
+  version = t.version;
+  meta = c.meta;
+  item = λ g. changed (λ r. same_text g r.gtin) c.put.items c.dropped.items (t.item g);
+  bin = λ b. changed (λ r. same_text b r.name) c.put.bins c.dropped.bins (t.bin b);
+  lot = λ l. changed (λ r. is_lot l r.lot) c.put.lots c.dropped.lots (t.lot l);
+  recall = λ l. changed (λ r. is_lot l r.lot) c.put.recalls c.dropped.recalls (t.recall l);
+  stock = λ l b. changed (λ r. is_lot l r.lot && same_text b r.bin) c.put.stock c.dropped.stock (t.stock l b);
+  order = λ o. changed (λ r. same_text o r.order) c.put.orders c.dropped.orders (t.order o);
+  line = λ o g. changed (λ r. same_text o r.order && same_text g r.gtin) c.put.lines c.dropped.lines (t.line o g);
+  staged = λ o l. changed (λ r. same_text o r.order && is_lot l r.lot) c.put.staged c.dropped.staged (t.staged o l);
+  reserved = λ o l. changed (λ r. same_text o r.order && is_lot l r.lot) c.put.reserved c.dropped.reserved (t.reserved o l);
+  shipment = λ n. changed (λ r. n == r.number) c.put.shipments c.dropped.shipments (t.shipment n);
+  shipline = λ n l. changed (λ r. (n == r.number) && is_lot l r.lot) c.put.shiplines c.dropped.shiplines (t.shipline n l);
+  card = λ l n. changed (λ r. is_lot l r.lot && (n == r.act)) c.put.cards c.dropped.cards (t.card l n);
+  repeat = t.repeat;
+}
+
+-- Slices
+
+abbrev pub no_two : {R : Type 0} → (R → R → Bool) → List R → Bool
+no_two same [] = true
+no_two same (r ∷ rs) = not (list_any (same r) rs) && no_two same rs
+
+-- each of these rows is the table's under its key, and its key is allowed
+abbrev pub AreOwn : {K R : Type 0} → (R → K) → (K → Bool) → (K → Option R) → List R → Type 0
+AreOwn key allowed row [] = Unit {0}
+AreOwn key allowed row (r ∷ rs) = (allowed (key r) ≡ true) × (row (key r) ≡ Some r) × AreOwn key allowed row rs
+
+-- a needed key is found as the table has it; no row is foreign, and none is there twice
+pub record AreRows {K R : Type 0} (same : K → K → Bool) (key : R → K) (needed allowed : K → Bool) (row : K → Option R) (rows : List R) : Type 0 where
+  pub found : (k : K) → needed k ≡ true → find (λ r. same k (key r)) rows ≡ row k
+  pub own : AreOwn key allowed row rows
+  pub once : no_two (λ r s. same (key r) (key s)) rows ≡ true
+
+abbrev pub LotBin : Type 0
+LotBin = LotId × List ℕ
+
+abbrev pub OrderItem : Type 0
+OrderItem = List ℕ × List ℕ
+
+abbrev pub OrderLot : Type 0
+OrderLot = List ℕ × LotId
+
+-- whether the command names the order, and whether it names the bin
+abbrev pub names_order : Command → List ℕ → Bool
+names_order (Order p) o = same_text o p.order
+names_order (Cancel p) o = same_text o p
+names_order (Ship p) o = same_text o p
+names_order (Pick p) o = same_text o p.order
+names_order (Unpick p) o = same_text o p.order
+names_order _ o = false
+
+abbrev pub names_bin : Command → List ℕ → Bool
+names_bin (Bin c) b = same_text b c.bin
+names_bin (Receive r) b = same_text b r.bin
+names_bin (Move m) b = same_text b m.from || same_text b m.to
+names_bin (Count c) b = same_text b c.bin
+names_bin (Adjust a) b = same_text b a.bin
+names_bin (Pick p) b = same_text b p.bin
+names_bin (Unpick p) b = same_text b p.bin
+names_bin _ b = false
+
+abbrev pub has_touched_line : ℤ → Act → List Act → List ℕ → Bool
+has_touched_line first act acts o = list_any (λ l. is_touched first act acts l.gtin) (lines_of acts o)
+
+abbrev pub same_cell : LotBin → LotBin → Bool
+same_cell k m = is_lot k.0 m.0 && same_text k.1 m.1
+
+abbrev pub same_line : OrderItem → OrderItem → Bool
+same_line k m = same_text k.0 m.0 && same_text k.1 m.1
+
+abbrev pub same_share : OrderLot → OrderLot → Bool
+same_share k m = same_text k.0 m.0 && is_lot k.1 m.1
+
+-- the slice has the rows of the items that the command touches, with the rows of the order that it names, of the
+-- bins that it names or that hold units of those items, and of the orders with a line of those items
+pub record IsSlice (first : ℤ) (act : Act) (acts : List Act) (t : Tables) (s : Slice) : Type 0 where
+  pub meta : s.meta ≡ t.meta
+  pub items_counted : s.items ≡ length (items acts)
+  pub bins_counted : s.bins ≡ length (bins acts)
+  pub items : AreRows same_text (λ r. r.gtin) (is_touched first act acts) (is_touched first act acts) t.item s.rows.items
+  pub lots : AreRows is_lot (λ r. r.lot) (λ l. is_touched first act acts l.gtin) (λ l. is_touched first act acts l.gtin) t.lot s.rows.lots
+  pub recalls : AreRows is_lot (λ r. r.lot) (λ l. is_touched first act acts l.gtin) (λ l. is_touched first act acts l.gtin) t.recall s.rows.recalls
+  pub stock : AreRows same_cell (λ r. (r.lot, r.bin)) (λ k. is_touched first act acts k.0.gtin) (λ k. is_touched first act acts k.0.gtin) (λ k. t.stock k.0 k.1) s.rows.stock
+  pub bins : AreRows same_text (λ r. r.name)
+      (λ b. names_bin act.command b || list_any (λ r. same_text b r.bin) s.rows.stock)
+      (λ b. names_bin act.command b || list_any (λ r. same_text b r.bin) s.rows.stock) t.bin s.rows.bins
+  pub orders : AreRows same_text (λ r. r.order)
+      (λ o. names_order act.command o || (is_open first acts o && has_touched_line first act acts o))
+      (λ o. names_order act.command o || has_touched_line first act acts o) t.order s.rows.orders
+  pub lines : AreRows same_line (λ r. (r.order, r.gtin))
+      (λ k. names_order act.command k.0 || (is_open first acts k.0 && is_touched first act acts k.1))
+      (λ k. names_order act.command k.0 || is_touched first act acts k.1) (λ k. t.line k.0 k.1) s.rows.lines
+  pub staged : AreRows same_share (λ r. (r.order, r.lot))
+      (λ k. names_order act.command k.0 || is_touched first act acts k.1.gtin)
+      (λ k. names_order act.command k.0 || is_touched first act acts k.1.gtin) (λ k. t.staged k.0 k.1) s.rows.staged
+  pub reserved : AreRows same_share (λ r. (r.order, r.lot))
+      (λ k. names_order act.command k.0 || is_touched first act acts k.1.gtin)
+      (λ k. names_order act.command k.0 || is_touched first act acts k.1.gtin) (λ k. t.reserved k.0 k.1) s.rows.reserved
+
+-- no key twice, so that it does not matter in which order the rows are written
+pub record AreOnce (rows : Rows) : Type 0 where
+  pub items : no_two (λ r s. same_text r.gtin s.gtin) rows.items ≡ true
+  pub bins : no_two (λ r s. same_text r.name s.name) rows.bins ≡ true
+  pub lots : no_two (λ r s. is_lot r.lot s.lot) rows.lots ≡ true
+  pub recalls : no_two (λ r s. is_lot r.lot s.lot) rows.recalls ≡ true
+  pub stock : no_two (λ r s. is_lot r.lot s.lot && same_text r.bin s.bin) rows.stock ≡ true
+  pub orders : no_two (λ r s. same_text r.order s.order) rows.orders ≡ true
+  pub lines : no_two (λ r s. same_text r.order s.order && same_text r.gtin s.gtin) rows.lines ≡ true
+  pub staged : no_two (λ r s. same_text r.order s.order && is_lot r.lot s.lot) rows.staged ≡ true
+  pub reserved : no_two (λ r s. same_text r.order s.order && is_lot r.lot s.lot) rows.reserved ≡ true
+  pub shipments : no_two (λ r s. r.number == s.number) rows.shipments ≡ true
+  pub shiplines : no_two (λ r s. (r.number == s.number) && is_lot r.lot s.lot) rows.shiplines ≡ true
+  pub cards : no_two (λ r s. is_lot r.lot s.lot && (r.act == s.act)) rows.cards ≡ true
+
+-- Decisions
+
+-- the tables with the act, the `repeats` row aside
+abbrev pub tables_but_repeats : ℤ → Act → List Act → Tables
+tables_but_repeats first act acts = record (tables_of first (act ∷ acts)) { repeat = repeat_row first acts }
+
+-- what is decided of a command whose key is new, on the tables of these acts
+abbrev pub IsDecision : ℤ → Act → List Act → Result Change RuleFault → Type 0
+IsDecision first act acts (Ok change) =
+    (verdict first acts act.command ≡ None)
+    × (applied change (tables_of first acts) ≡ tables_but_repeats first act acts)
+    × (change.text ≡ reply first act acts)
+    × AreOnce change.put
+IsDecision first act acts (Err (Refused why)) = verdict first acts act.command ≡ Some why
+IsDecision first act acts (Err NoMemory) = verdict first acts act.command ≡ None
+IsDecision first act acts (Err Foreign) = ⊥
+
+-- whether the row before and the row after differ
+abbrev pub differs : Option ReservedRow → Option ReservedRow → Bool
+differs None None = false
+differs None (Some r) = true
+differs (Some r) None = true
+differs (Some r) (Some s) = not (r.qty == s.qty)
+
+-- the change names a row of `reserved` exactly where the row before and the row after differ
+abbrev pub NamesChangedReservations : ℤ → Act → List Act → Change → Type 0
+NamesChangedReservations first act acts c =
+    (o : List ℕ) (l : LotId) →
+    let before = (tables_of first acts).reserved o l in
+    let after = (tables_of first (act ∷ acts)).reserved o l in
+    (find (λ r. same_text o r.order && is_lot l r.lot) c.put.reserved ≡ (if differs before after then after else None))
+    × (list_any (λ r. same_text o r.order && is_lot l r.lot) c.dropped.reserved ≡ (is_some before && not (is_some after)))

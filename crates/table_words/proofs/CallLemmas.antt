@@ -1,0 +1,121 @@
+-- What a call on a transaction leaves.
+use Rattle.std.proofs.Common.{◌≡◌, ◌⊎◌, inl, inr, ℕ, not, true≢false, Bool, true, false, List, Ok, Err, Result, OnOk, OnErr, IfOk, IfErr, IsTrue, refl, sym, ap, subst, ◌∙◌}
+use Rattle.std.proofs.lemmas.Bool.{cases_Bool}
+use Rattle.std.proofs.lemmas.Bool.Decides.{Decides-eqb}
+use Rattle.std.specs.Prelude.{nat_eq, if◌then◌else◌}
+use Rattle.sqlite.specs.Order.{Row}
+use Rattle.sqlite.specs.Store.{Ghosts}
+use Rattle.sqlite.specs.Held.{Held, state}
+use Rattle.sqlite.specs.declared.error.Error.{Error}
+use Rattle.sqlite.specs.Listing.{understood}
+use Rattle.sqlite.specs.Clock.{timed}
+use Rattle.sqlite.specs.State.{State, Survives, ExecutesInside, KeepsCommit, IsUnchanged, IsRolledBack, IsNotRun, FailsToQuery, FailsToShow, IsTooLate, Shown, ShowsRows}
+use Rattle.sqlite.specs.Steps.{FailsToCommit}
+use Rattle.sqlite.proofs.Callers.{IsPlain}
+use Rattle.sqlite.proofs.StateLemmas.{survives_then}
+use Rattle.table_words.specs.Typed.{Tables}
+use Rattle.table_words.specs.Steps.{Goes}
+
+-- a call that answered was made inside a transaction
+pub was_inside : {X E P : Type 0} (b : Bool) {x : X} {e : E} → (b ≡ false → ◌≡◌ {A = Result X E} (Ok x) (Err e) × P) → b ≡ true
+was_inside true h = refl
+was_inside false h = absurd (let k = (h refl).0 in cc)
+
+pub kept_unchanged : (old new : State) → IsUnchanged old new → KeepsCommit old new
+kept_unchanged old new h = record { was_open = λ _. h.0.was_open; committed = λ _. h.0.committed_is }
+
+pub kept_undone : (old new : State) → IsRolledBack old new → KeepsCommit old new
+kept_undone old new h = record { was_open = h.was_open; committed = λ up. (h.undone up).1 }
+
+pub kept_itself : (s : State) → KeepsCommit s s
+kept_itself s = record { was_open = λ up. up; committed = λ _. refl }
+
+pub kept_then : (a b c : State) → KeepsCommit a b → KeepsCommit b c → KeepsCommit a c
+kept_then a b c p q = record { was_open = λ up. p.was_open (q.was_open up); committed = λ up. q.committed up ∙ p.committed (q.was_open up) }
+
+ran_kept : (sql : List ℕ) (params : Row) (old new : State) (r : Result ℕ Error) → ExecutesInside 0 sql params old new r → KeepsCommit old new
+ran_kept sql params old new (Ok count) h = record { was_open = λ _. h.1.was_open; committed = λ _. h.1.committed_is }
+ran_kept sql params old new (Err e) (inl (h, inl same)) = kept_unchanged old new same
+ran_kept sql params old new (Err e) (inl (h, inr undone)) = kept_undone old new undone
+ran_kept sql params old new (Err e) (inr h) = kept_unchanged old new h.2
+
+-- whatever a call answers, nothing is committed
+pub keeps : {S : Type 0} (g : Ghosts S) (sql : List ℕ) (params : Row) (old new : Held S) (r : Result ℕ Error) {late : Result ℕ Error} → ((state g old).in_transaction ≡ false → (r ≡ late) × (new ≡ old))
+    → (IsTrue (state g old).in_transaction → ExecutesInside 0 sql params (state g old) (state g new) r) → KeepsCommit (state g old) (state g new)
+keeps g sql params old new r ended runs = elim (cases_Bool (state g old).in_transaction) [
+  | inl inside ↦ ran_kept sql params (state g old) (state g new) r (runs inside)
+  | inr late ↦ subst (λ h. KeepsCommit (state g old) (state g h)) (sym (ended late).1) (kept_itself (state g old))
+]
+
+pub goes_then : (f g : Tables → Tables) (a b c : State) → Goes f a b → Goes g b c → Goes (λ t. g (f t)) a c
+goes_then f g a b c p q = record { ready = q.ready; tables = q.tables ∙ ap g p.tables; mode = q.mode ∙ p.mode; typed = λ h. q.typed (p.typed h) }
+
+late_kept : (sql : List ℕ) (params : Row) (old new : State) (e : Error) → IsNotRun old new sql params e → KeepsCommit old new
+unfolding IsNotRun
+late_kept sql params old new e (inl h) = kept_unchanged old new h.1
+late_kept sql params old new e (inr h) = kept_undone old new h.3
+
+-- a query that fails commits nothing
+pub query_keeps : (sql : List ℕ) (params : Row) (old new : State) (e : Error) → IsPlain (understood old.now.schema sql) → FailsToQuery sql params old new e ⊎ IsTooLate sql params old new e → KeepsCommit old new
+unfolding FailsToQuery
+query_keeps sql params old new e plain (inl (inl h)) = late_kept sql params old new e h
+query_keeps sql params old new e plain (inl (inr h)) =
+    let none = (subst IsPlain h.1.is plain).0 in
+    kept_unchanged old new (subst (FailsToShow old new sql h.0 (timed params h.0.formats h.1.now) e) none h.2).3
+query_keeps sql params old new e plain (inr h) = kept_unchanged old new h.5
+
+-- a query that answers changes nothing
+pub query_same : (sql : List ℕ) (params : Row) (old new : State) (rows : List Row) → IsPlain (understood old.now.schema sql) → Shown sql params old new rows → IsUnchanged old new
+unfolding Shown
+query_same sql params old new rows plain h =
+    let none = (subst IsPlain h.1.is plain).0 in
+    (subst (ShowsRows old new sql h.0 (timed params h.0.formats h.1.now) rows) none h.2).3
+
+pub on_ok : {X E P : Type 0} (r : Result X E) → P → OnOk r P
+on_ok (Ok x) p = p
+on_ok (Err e) p = tt
+
+pub if_ok : {X E : Type 0} (r : Result X E) (P Q : X → Type 0) → IfOk r P → ((x : X) → P x → Q x) → IfOk r Q
+if_ok (Ok x) P Q h f = f x h
+if_ok (Err e) P Q h f = tt
+
+-- two calls that commit nothing commit nothing
+pub inside_then : (a b c : State) → Survives a b (λ _. ⊥) → Survives b c (λ _. ⊥) → Survives a c (λ _. ⊥)
+inside_then a b c = survives_then a b c (λ _. ⊥) (λ _. ⊥) (λ _. ⊥) (λ _ db none. none) (λ _ db none. none)
+
+-- ---- the end of a transaction
+
+-- what is rolled back is what was there before
+pub put_back : (old begun last new : State) → begun ≡ record old { in_transaction = true } → KeepsCommit begun last → IsRolledBack last new → (IsTrue old.is_open → old.now ≡ old.committed) → IsTrue new.is_open → new.now ≡ old.now
+put_back old begun last new is kept undone settled up =
+    let was : IsTrue begun.is_open = kept.was_open (undone.was_open up) in
+    (undone.undone up).0 ∙ kept.committed (undone.was_open up) ∙ ap (λ (s : State). s.committed) is ∙ sym (settled (rw is at was))
+
+-- a commit that fails puts it back too
+pub commit_back : (old begun last new : State) (e : Error) → begun ≡ record old { in_transaction = true } → KeepsCommit begun last → last.in_transaction ≡ begun.in_transaction → FailsToCommit last new e
+    → (IsTrue old.is_open → old.now ≡ old.committed) → IsTrue new.is_open → new.now ≡ old.now
+commit_back old begun last new e is kept mode (inl fails) settled up = put_back old begun last new is kept fails.3 settled up
+commit_back old begun last new e is kept mode (inr late) settled up = absurd (let inside : begun.in_transaction ≡ true = ap (λ (s : State). s.in_transaction) is in let out = late.1 in cc)
+
+pub commit_settled : (begun last new : State) (e : Error) → IsTrue begun.in_transaction → last.in_transaction ≡ begun.in_transaction → FailsToCommit last new e → IsTrue new.is_open → new.committed ≡ new.now
+commit_settled begun last new e inside mode (inl fails) up = (fails.3.undone up).1 ∙ sym (fails.3.undone up).0
+commit_settled begun last new e inside mode (inr late) up = absurd (let out = late.1 in cc)
+
+pub on_err : {X E P : Type 0} (r : Result X E) → P → OnErr r P
+on_err (Ok x) p = tt
+on_err (Err e) p = p
+
+pub if_both : {X E : Type 0} (r : Result X E) (P Q : X → Type 0) → IfOk r P → IfOk r Q → IfOk r (λ x. P x × Q x)
+if_both (Ok x) P Q h k = (h, k)
+if_both (Err e) P Q h k = tt
+
+-- by whether the count is 0
+pub if_any : (n : ℕ) (f : Tables → Tables) (old new : State) → ((n ≡ 0 → ⊥) → Goes f old new) × (n ≡ 0 → Goes (λ t. t) old new) → Goes (if not (nat_eq n 0) then f else (λ t. t)) old new
+if_any n f old new h = elim (cases_Bool (nat_eq n 0)) [
+  | inl e ↦ rw e (h.1 ((Decides-eqb n 0).0 e))
+  | inr e ↦ rw e (h.0 (λ none. true≢false (sym ((Decides-eqb n 0).1 none) ∙ e)))
+]
+
+pub if_err : {X E : Type 0} (r : Result X E) (P Q : E → Type 0) → IfErr r P → ((e : E) → P e → Q e) → IfErr r Q
+if_err (Ok x) P Q h f = tt
+if_err (Err e) P Q h f = f e h

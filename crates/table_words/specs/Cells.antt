@@ -1,0 +1,107 @@
+-- What a column of a stored row reads as.
+use Rattle.std.specs.Prelude.{ℕ, ℤ, Bool, true, false, ◌||◌, if◌then◌else◌, nat_eq, nat_le, bytes_eq, length, codes, List, [], ◌∷◌, map, filter, pos}
+use Rattle.sqlite_value.specs.declared.value.Value.{Value}
+use Rattle.sqlite_value.specs.declared.value.Value.TheVariants.{Int, Text}
+use Rattle.sqlite_value.specs.Order.{Row, bytes}
+use Rattle.commands.specs.declared.limits.TheConstants.{CARD_NOTE_MAX, KEY_TEXT_MAX, SHORT_MAX}
+use Rattle.commands.specs.Spelling.{kind_text}
+use Rattle.commands.specs.declared.command.BinKind.{BinKind}
+use Rattle.commands.specs.declared.command.BinKind.TheVariants.{Store, Hold}
+use Rattle.commands.specs.declared.rows.OrderState.{OrderState}
+use Rattle.commands.specs.declared.rows.OrderState.TheVariants.{Open, Done, Cancelled}
+use Rattle.commands.specs.declared.rows.CardKind.{CardKind}
+use Rattle.commands.specs.declared.rows.CardKind.TheVariants.{Receipt, WriteOn, WriteOff, Shipment}
+
+-- the rows that read as typed ones, the oldest first
+abbrev pub typed : {X : Type 0} → (Row → Bool) → (Row → X) → List Row → List X
+typed is read rows = map read (filter is rows)
+
+-- ---- texts
+
+-- a text that keeps the rule
+abbrev pub is_word : (List ℕ → Bool) → Value → Bool
+is_word rule (Text t) = rule t
+is_word rule _ = false
+
+-- whether the value is this text
+abbrev pub is_the_text : List ℕ → Value → Bool
+is_the_text t (Text s) = bytes_eq t s
+is_the_text t _ = false
+
+-- at most so many bytes
+abbrev pub fits_in : ℕ → List ℕ → Bool
+fits_in most t = nat_le (length t) most
+
+abbrev pub is_any : List ℕ → Bool
+is_any t = true
+
+-- ---- numbers
+
+-- a number from 0 to the limit
+abbrev pub is_number : ℕ → Value → Bool
+is_number limit (Int (pos n)) = nat_le n limit
+is_number limit _ = false
+
+abbrev pub number_in : Value → ℕ
+number_in (Int (pos n)) = n
+number_in _ = 0
+
+-- whether the value is this number
+abbrev pub is_the_number : ℕ → Value → Bool
+is_the_number n (Int (pos m)) = nat_eq n m
+is_the_number n _ = false
+
+-- a number, below 0 or not, that keeps the rule
+abbrev pub is_signed : (ℤ → Bool) → Value → Bool
+is_signed rule (Int n) = rule n
+is_signed rule _ = false
+
+abbrev pub signed_in : Value → ℤ
+signed_in (Int n) = n
+signed_in _ = pos 0
+
+abbrev pub is_any_number : ℤ → Bool
+is_any_number n = true
+
+-- ---- yes and no, as 1 and 0
+
+abbrev pub flag_number : Bool → ℕ
+flag_number true = 1
+flag_number false = 0
+
+abbrev pub flag_in : Value → Bool
+flag_in v = nat_eq (number_in v) 1
+
+-- ---- words of a few
+
+abbrev pub is_bin_kind : List ℕ → Bool
+is_bin_kind t = bytes_eq t (codes "STORE") || bytes_eq t (codes "HOLD")
+
+abbrev pub bin_kind_in : Value → BinKind
+bin_kind_in v = if bytes_eq (bytes v) (codes "STORE") then Store else Hold
+
+abbrev pub order_state_text : OrderState → List ℕ
+order_state_text Open = codes "OPEN"
+order_state_text Done = codes "DONE"
+order_state_text Cancelled = codes "CANCELLED"
+
+abbrev pub is_order_state : List ℕ → Bool
+is_order_state t = bytes_eq t (codes "OPEN") || (bytes_eq t (codes "DONE") || bytes_eq t (codes "CANCELLED"))
+
+abbrev pub order_state_in : Value → OrderState
+order_state_in v = if bytes_eq (bytes v) (codes "OPEN") then Open else if bytes_eq (bytes v) (codes "DONE") then Done else Cancelled
+
+abbrev pub card_kind_text : CardKind → List ℕ
+card_kind_text Receipt = codes "RECEIPT"
+card_kind_text WriteOn = codes "WRITEON"
+card_kind_text WriteOff = codes "WRITEOFF"
+card_kind_text Shipment = codes "SHIPMENT"
+
+abbrev pub is_card_kind : List ℕ → Bool
+is_card_kind t = bytes_eq t (codes "RECEIPT") || (bytes_eq t (codes "WRITEON") || (bytes_eq t (codes "WRITEOFF") || bytes_eq t (codes "SHIPMENT")))
+
+abbrev pub card_kind_in : Value → CardKind
+card_kind_in v =
+    if bytes_eq (bytes v) (codes "RECEIPT") then Receipt
+    else if bytes_eq (bytes v) (codes "WRITEON") then WriteOn
+    else if bytes_eq (bytes v) (codes "WRITEOFF") then WriteOff else Shipment

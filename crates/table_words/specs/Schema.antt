@@ -1,0 +1,241 @@
+-- The schema, a table at a time, and the indexes after them.
+use Rattle.std.specs.Prelude.{true, false, [], ◌∷◌, Option, None, Some, List, ℕ, codes}
+use Rattle.sqlite.specs.Collation.TheVariants.{Binary}
+use Rattle.sqlite.specs.declared.types.Value.TheVariants.{Null}
+use Rattle.sqlite.specs.Kind.{Kind}
+use Rattle.sqlite.specs.Kind.TheVariants.{Integer, Text}
+use Rattle.sqlite_schema.specs.declared.schema.Column.{Column}
+use Rattle.sqlite.specs.Table.{Table}
+use Rattle.sqlite_schema.specs.declared.schema.Index.{Index}
+use Rattle.sqlite.specs.Schema.{Schema}
+use Rattle.sqlite.specs.Change.{created, indexed}
+use Rattle.sqlite_value.specs.declared.keys.Order.{Order}
+use Rattle.sqlite_value.specs.Keys.{plain}
+
+abbrev pub column : List ℕ → Kind → Column
+column name kind = record { name = name; kind = kind; is_strict = true; not_null = true; default = Null; collation = Binary }
+
+abbrev pub text_column : List ℕ → Column
+text_column name = column name Text
+
+abbrev pub number_column : List ℕ → Column
+number_column name = column name Integer
+
+-- a STRICT table whose columns are NOT NULL, and nothing more
+abbrev pub plain_table : ℕ → List ℕ → List Column → Option ℕ → List ℕ → List (List ℕ) → List Order → Table
+plain_table tree name columns key places uniques orders = record {
+  name = name;
+  tree = tree;
+  columns = columns;
+  key = key;
+  primary = places;
+  uniques = uniques;
+  orders = orders;
+  checks = [];
+  references = [];
+  computed = [];
+  stamps = record { places = []; terms = []; formats = [] };
+  is_counted = false;
+}
+
+-- its PRIMARY KEY is not the rowid
+abbrev pub keyed_table : ℕ → List ℕ → List Column → List ℕ → Table
+keyed_table tree name columns places = plain_table tree name columns None places (places ∷ []) (plain ∷ [])
+
+-- its PRIMARY KEY is the first column, which is the rowid
+abbrev pub id_table : ℕ → List ℕ → List Column → Table
+id_table tree name columns = plain_table tree name columns (Some 0) (0 ∷ []) [] []
+
+-- an index that a CREATE INDEX makes of these places
+abbrev pub plain_index : List ℕ → ℕ → ℕ → List ℕ → Index
+plain_index name tree table places = record { name = name; tree = tree; table = table; columns = places; order = plain; is_unique = false }
+
+-- the index of a PRIMARY KEY at these places
+abbrev pub key_index : List ℕ → ℕ → ℕ → List ℕ → Index
+key_index name tree table places = record { name = name; tree = tree; table = table; columns = places; order = plain; is_unique = true }
+
+abbrev pub meta_table : ℕ → Table
+meta_table tree = id_table tree (codes "meta") (number_column (codes "id") ∷ text_column (codes "mark") ∷ number_column (codes "version") ∷ number_column (codes "day") ∷ number_column (codes "acts") ∷ number_column (codes "shipments") ∷ [])
+
+abbrev pub items_table : ℕ → Table
+items_table tree = keyed_table tree (codes "items") (text_column (codes "gtin") ∷ text_column (codes "name") ∷ []) (1 ∷ [])
+
+abbrev pub bins_table : ℕ → Table
+bins_table tree = keyed_table tree (codes "bins") (text_column (codes "name") ∷ text_column (codes "kind") ∷ []) (1 ∷ [])
+
+abbrev pub lots_table : ℕ → Table
+lots_table tree = keyed_table tree (codes "lots") (text_column (codes "gtin") ∷ text_column (codes "lot") ∷ number_column (codes "expiry") ∷ number_column (codes "came") ∷ number_column (codes "held") ∷ []) (1 ∷ 2 ∷ [])
+
+abbrev pub recalls_table : ℕ → Table
+recalls_table tree = keyed_table tree (codes "recalls") (text_column (codes "gtin") ∷ text_column (codes "lot") ∷ number_column (codes "act") ∷ []) (1 ∷ 2 ∷ [])
+
+abbrev pub stock_table : ℕ → Table
+stock_table tree = keyed_table tree (codes "stock") (text_column (codes "gtin") ∷ text_column (codes "lot") ∷ text_column (codes "bin") ∷ number_column (codes "qty") ∷ []) (1 ∷ 2 ∷ 3 ∷ [])
+
+abbrev pub orders_table : ℕ → Table
+orders_table tree = keyed_table tree (codes "orders") (text_column (codes "ord") ∷ number_column (codes "act") ∷ text_column (codes "customer") ∷ text_column (codes "state") ∷ []) (1 ∷ [])
+
+abbrev pub lines_table : ℕ → Table
+lines_table tree = keyed_table tree (codes "lines") (text_column (codes "ord") ∷ text_column (codes "gtin") ∷ number_column (codes "ordered") ∷ number_column (codes "shipped") ∷ []) (1 ∷ 2 ∷ [])
+
+abbrev pub staged_table : ℕ → Table
+staged_table tree = keyed_table tree (codes "staged") (text_column (codes "ord") ∷ text_column (codes "gtin") ∷ text_column (codes "lot") ∷ number_column (codes "qty") ∷ []) (1 ∷ 2 ∷ 3 ∷ [])
+
+abbrev pub reserved_table : ℕ → Table
+reserved_table tree = keyed_table tree (codes "reserved") (text_column (codes "ord") ∷ text_column (codes "gtin") ∷ text_column (codes "lot") ∷ number_column (codes "qty") ∷ []) (1 ∷ 2 ∷ 3 ∷ [])
+
+abbrev pub shipments_table : ℕ → Table
+shipments_table tree = id_table tree (codes "shipments") (number_column (codes "number") ∷ number_column (codes "act") ∷ number_column (codes "day") ∷ text_column (codes "ord") ∷ [])
+
+abbrev pub shiplines_table : ℕ → Table
+shiplines_table tree = keyed_table tree (codes "shiplines") (number_column (codes "number") ∷ text_column (codes "gtin") ∷ text_column (codes "lot") ∷ number_column (codes "qty") ∷ []) (1 ∷ 2 ∷ 3 ∷ [])
+
+abbrev pub cards_table : ℕ → Table
+cards_table tree = keyed_table tree (codes "cards") (text_column (codes "gtin") ∷ text_column (codes "lot") ∷ number_column (codes "act") ∷ number_column (codes "day") ∷ text_column (codes "kind") ∷ text_column (codes "note") ∷ number_column (codes "qty") ∷ number_column (codes "rest") ∷ []) (1 ∷ 2 ∷ 3 ∷ [])
+
+abbrev pub repeats_table : ℕ → Table
+repeats_table tree = keyed_table tree (codes "repeats") (text_column (codes "k") ∷ number_column (codes "act") ∷ text_column (codes "spell") ∷ text_column (codes "reply") ∷ []) (1 ∷ [])
+
+-- the trees of the tables; those between them are the indexes of their keys
+abbrev pub meta_tree : ℕ
+meta_tree = 0
+
+abbrev pub items_tree : ℕ
+items_tree = 1
+
+abbrev pub bins_tree : ℕ
+bins_tree = 3
+
+abbrev pub lots_tree : ℕ
+lots_tree = 5
+
+abbrev pub recalls_tree : ℕ
+recalls_tree = 7
+
+abbrev pub stock_tree : ℕ
+stock_tree = 9
+
+abbrev pub orders_tree : ℕ
+orders_tree = 11
+
+abbrev pub lines_tree : ℕ
+lines_tree = 13
+
+abbrev pub staged_tree : ℕ
+staged_tree = 15
+
+abbrev pub reserved_tree : ℕ
+reserved_tree = 17
+
+abbrev pub shipments_tree : ℕ
+shipments_tree = 19
+
+abbrev pub shiplines_tree : ℕ
+shiplines_tree = 20
+
+abbrev pub cards_tree : ℕ
+cards_tree = 22
+
+abbrev pub repeats_tree : ℕ
+repeats_tree = 24
+
+-- the schema after each statement that makes it
+abbrev pub schema_0 : Schema
+schema_0 = record { tables = []; indexes = []; views = [] }
+
+abbrev pub schema_1 : Schema
+schema_1 = created schema_0 (meta_table 0)
+
+abbrev pub schema_2 : Schema
+schema_2 = created schema_1 (items_table 0)
+
+abbrev pub schema_3 : Schema
+schema_3 = created schema_2 (bins_table 0)
+
+abbrev pub schema_4 : Schema
+schema_4 = created schema_3 (lots_table 0)
+
+abbrev pub schema_5 : Schema
+schema_5 = created schema_4 (recalls_table 0)
+
+abbrev pub schema_6 : Schema
+schema_6 = created schema_5 (stock_table 0)
+
+abbrev pub schema_7 : Schema
+schema_7 = created schema_6 (orders_table 0)
+
+abbrev pub schema_8 : Schema
+schema_8 = created schema_7 (lines_table 0)
+
+abbrev pub schema_9 : Schema
+schema_9 = created schema_8 (staged_table 0)
+
+abbrev pub schema_10 : Schema
+schema_10 = created schema_9 (reserved_table 0)
+
+abbrev pub schema_11 : Schema
+schema_11 = created schema_10 (shipments_table 0)
+
+abbrev pub schema_12 : Schema
+schema_12 = created schema_11 (shiplines_table 0)
+
+abbrev pub schema_13 : Schema
+schema_13 = created schema_12 (cards_table 0)
+
+abbrev pub schema_14 : Schema
+schema_14 = created schema_13 (repeats_table 0)
+
+abbrev pub lines_by_gtin : ℕ → Index
+lines_by_gtin tree = plain_index (codes "lines_by_gtin") tree 13 (2 ∷ [])
+
+abbrev pub schema_15 : Schema
+schema_15 = indexed schema_14 (lines_table 13) (lines_by_gtin 0)
+
+abbrev pub staged_by_gtin : ℕ → Index
+staged_by_gtin tree = plain_index (codes "staged_by_gtin") tree 15 (2 ∷ [])
+
+abbrev pub schema_16 : Schema
+schema_16 = indexed schema_15 (staged_table 15) (staged_by_gtin 0)
+
+abbrev pub reserved_by_gtin : ℕ → Index
+reserved_by_gtin tree = plain_index (codes "reserved_by_gtin") tree 17 (2 ∷ [])
+
+abbrev pub schema_17 : Schema
+schema_17 = indexed schema_16 (reserved_table 17) (reserved_by_gtin 0)
+
+abbrev pub shiplines_by_lot : ℕ → Index
+shiplines_by_lot tree = plain_index (codes "shiplines_by_lot") tree 20 (2 ∷ 3 ∷ [])
+
+abbrev pub schema_18 : Schema
+schema_18 = indexed schema_17 (shiplines_table 20) (shiplines_by_lot 0)
+
+abbrev pub orders_by_state : ℕ → Index
+orders_by_state tree = plain_index (codes "orders_by_state") tree 11 (4 ∷ [])
+
+abbrev pub schema_19 : Schema
+schema_19 = indexed schema_18 (orders_table 11) (orders_by_state 0)
+
+abbrev pub the_schema : Schema
+the_schema = schema_19
+
+-- its indexes, written out
+abbrev pub the_indexes : List Index
+the_indexes =
+    key_index (codes "sqlite_autoindex_items_1") 2 1 (1 ∷ [])
+    ∷ key_index (codes "sqlite_autoindex_bins_1") 4 3 (1 ∷ [])
+    ∷ key_index (codes "sqlite_autoindex_lots_1") 6 5 (1 ∷ 2 ∷ [])
+    ∷ key_index (codes "sqlite_autoindex_recalls_1") 8 7 (1 ∷ 2 ∷ [])
+    ∷ key_index (codes "sqlite_autoindex_stock_1") 10 9 (1 ∷ 2 ∷ 3 ∷ [])
+    ∷ key_index (codes "sqlite_autoindex_orders_1") 12 11 (1 ∷ [])
+    ∷ key_index (codes "sqlite_autoindex_lines_1") 14 13 (1 ∷ 2 ∷ [])
+    ∷ key_index (codes "sqlite_autoindex_staged_1") 16 15 (1 ∷ 2 ∷ 3 ∷ [])
+    ∷ key_index (codes "sqlite_autoindex_reserved_1") 18 17 (1 ∷ 2 ∷ 3 ∷ [])
+    ∷ key_index (codes "sqlite_autoindex_shiplines_1") 21 20 (1 ∷ 2 ∷ 3 ∷ [])
+    ∷ key_index (codes "sqlite_autoindex_cards_1") 23 22 (1 ∷ 2 ∷ 3 ∷ [])
+    ∷ key_index (codes "sqlite_autoindex_repeats_1") 25 24 (1 ∷ [])
+    ∷ lines_by_gtin 26
+    ∷ staged_by_gtin 27
+    ∷ reserved_by_gtin 28
+    ∷ shiplines_by_lot 29
+    ∷ orders_by_state 30
+    ∷ []

@@ -1,0 +1,678 @@
+-- The rows of each table as typed ones, the tables as look-ups by primary key, and what the calls make of them.
+use Rattle.std.specs.Prelude.{◌≡◌, ℕ, Bool, true, false, ◌&&◌, if◌then◌else◌, bytes_eq, nat_eq, codes, List, [], ◌∷◌, filter, find, pos, Option, Some, None}
+use Rattle.std.specs.List.{AllByRecursion}
+use Rattle.sqlite_value.specs.declared.value.Value.TheVariants.{Int, Text}
+use Rattle.sqlite_value.specs.Order.{Row, column, bytes}
+use Rattle.sqlite.specs.Tree.{Trees}
+use Rattle.label.specs.Values.{is_gtin, is_lot_text, is_name, is_title, is_day, is_business_day}
+use Rattle.label.specs.declared.lot.LotId.{LotId}
+use Rattle.commands.specs.Spelling.{kind_text}
+use Rattle.commands.specs.declared.limits.TheConstants.{UNITS_MAX, ACTS_MAX, SHORT_MAX, KEY_TEXT_MAX, CARD_NOTE_MAX, SCHEMA_VERSION}
+use Rattle.table_words.specs.Cells.{typed, is_word, is_the_text, fits_in, is_any, is_number, is_the_number, number_in, is_signed, is_any_number, signed_in, flag_number, flag_in, is_bin_kind, bin_kind_in, order_state_text, is_order_state, order_state_in, card_kind_text, is_card_kind, card_kind_in}
+use Rattle.commands.specs.declared.rows.MetaRow.{MetaRow}
+use Rattle.commands.specs.declared.rows.ItemRow.{ItemRow}
+use Rattle.commands.specs.declared.rows.BinRow.{BinRow}
+use Rattle.commands.specs.declared.rows.LotRow.{LotRow}
+use Rattle.commands.specs.declared.rows.RecallRow.{RecallRow}
+use Rattle.commands.specs.declared.rows.StockRow.{StockRow}
+use Rattle.commands.specs.declared.rows.OrderRow.{OrderRow}
+use Rattle.commands.specs.declared.rows.LineRow.{LineRow}
+use Rattle.commands.specs.declared.rows.StagedRow.{StagedRow}
+use Rattle.commands.specs.declared.rows.ReservedRow.{ReservedRow}
+use Rattle.commands.specs.declared.rows.ShipmentRow.{ShipmentRow}
+use Rattle.commands.specs.declared.rows.ShiplineRow.{ShiplineRow}
+use Rattle.commands.specs.declared.rows.CardRow.{CardRow}
+use Rattle.commands.specs.declared.rows.RepeatRow.{RepeatRow}
+use Rattle.table_words.specs.Schema.{meta_tree, items_tree, bins_tree, lots_tree, recalls_tree, stock_tree, orders_tree, lines_tree, staged_tree, reserved_tree, shipments_tree, shiplines_tree, cards_tree, repeats_tree}
+
+abbrev pub same_lot_id : LotId → LotId → Bool
+same_lot_id a b = bytes_eq a.gtin b.gtin && bytes_eq a.lot b.lot
+
+-- ---- meta
+
+-- whether the row reads as a typed one
+abbrev pub is_meta : Row → Bool
+is_meta r = is_the_number 1 (column r 0) && (is_the_text (codes "LOTSTOCK") (column r 2) && (is_the_number SCHEMA_VERSION (column r 3) && (is_signed is_business_day (column r 4) && (is_number ACTS_MAX (column r 5) && is_number ACTS_MAX (column r 6)))))
+
+-- what it reads as
+abbrev pub meta_in : Row → MetaRow
+meta_in r = record { day = signed_in (column r 4); acts = number_in (column r 5); shipments = number_in (column r 6) }
+
+-- the same of its columns in their order, as a statement answers them
+abbrev pub has_meta : Row → Bool
+has_meta v = is_the_number 1 (column v 0) && (is_the_text (codes "LOTSTOCK") (column v 1) && (is_the_number SCHEMA_VERSION (column v 2) && (is_signed is_business_day (column v 3) && (is_number ACTS_MAX (column v 4) && is_number ACTS_MAX (column v 5)))))
+
+abbrev pub meta_read : Row → MetaRow
+meta_read v = record { day = signed_in (column v 3); acts = number_in (column v 4); shipments = number_in (column v 5) }
+
+abbrev pub MetaKey : Type 0
+MetaKey = ℕ
+
+abbrev pub same_meta : MetaKey → MetaKey → Bool
+same_meta a b = nat_eq a b
+
+abbrev pub meta_key : MetaRow → MetaKey
+meta_key s = 1
+
+-- its values, in the order of the columns
+abbrev pub meta_cells : MetaRow → Row
+meta_cells s = Int (pos 1) ∷ Text (codes "LOTSTOCK") ∷ Int (pos SCHEMA_VERSION) ∷ Int s.day ∷ Int (pos s.acts) ∷ Int (pos s.shipments) ∷ []
+
+-- the stored rows of this id
+abbrev pub meta_rows_rows : ℕ → Trees → List Row
+meta_rows_rows id trees = filter (λ r. is_the_number id (column r 0)) (trees meta_tree)
+
+-- ---- items
+
+-- whether the row reads as a typed one
+abbrev pub is_item : Row → Bool
+is_item r = is_word is_gtin (column r 1) && is_word is_title (column r 2)
+
+-- what it reads as
+abbrev pub item_in : Row → ItemRow
+item_in r = record { gtin = bytes (column r 1); name = bytes (column r 2) }
+
+-- the same of its columns in their order, as a statement answers them
+abbrev pub has_item : Row → Bool
+has_item v = is_word is_gtin (column v 0) && is_word is_title (column v 1)
+
+abbrev pub item_read : Row → ItemRow
+item_read v = record { gtin = bytes (column v 0); name = bytes (column v 1) }
+
+abbrev pub ItemKey : Type 0
+ItemKey = List ℕ
+
+abbrev pub same_item : ItemKey → ItemKey → Bool
+same_item a b = bytes_eq a b
+
+abbrev pub item_key : ItemRow → ItemKey
+item_key s = s.gtin
+
+-- its values, in the order of the columns
+abbrev pub item_cells : ItemRow → Row
+item_cells s = Text s.gtin ∷ Text s.name ∷ []
+
+-- the stored rows of this gtin
+abbrev pub items_of_rows : List ℕ → Trees → List Row
+items_of_rows gtin trees = filter (λ r. is_the_text gtin (column r 1)) (trees items_tree)
+
+-- the stored rows of the whole table
+abbrev pub all_items_rows : Trees → List Row
+all_items_rows trees = filter (λ r. true) (trees items_tree)
+
+-- ---- bins
+
+-- whether the row reads as a typed one
+abbrev pub is_bin : Row → Bool
+is_bin r = is_word is_name (column r 1) && is_word is_bin_kind (column r 2)
+
+-- what it reads as
+abbrev pub bin_in : Row → BinRow
+bin_in r = record { name = bytes (column r 1); kind = bin_kind_in (column r 2) }
+
+-- the same of its columns in their order, as a statement answers them
+abbrev pub has_bin : Row → Bool
+has_bin v = is_word is_name (column v 0) && is_word is_bin_kind (column v 1)
+
+abbrev pub bin_read : Row → BinRow
+bin_read v = record { name = bytes (column v 0); kind = bin_kind_in (column v 1) }
+
+abbrev pub BinKey : Type 0
+BinKey = List ℕ
+
+abbrev pub same_bin : BinKey → BinKey → Bool
+same_bin a b = bytes_eq a b
+
+abbrev pub bin_key : BinRow → BinKey
+bin_key s = s.name
+
+-- its values, in the order of the columns
+abbrev pub bin_cells : BinRow → Row
+bin_cells s = Text s.name ∷ Text (kind_text s.kind) ∷ []
+
+-- the stored rows of this name
+abbrev pub bins_of_rows : List ℕ → Trees → List Row
+bins_of_rows name trees = filter (λ r. is_the_text name (column r 1)) (trees bins_tree)
+
+-- the stored rows of the whole table
+abbrev pub all_bins_rows : Trees → List Row
+all_bins_rows trees = filter (λ r. true) (trees bins_tree)
+
+-- ---- lots
+
+-- whether the row reads as a typed one
+abbrev pub is_lot : Row → Bool
+is_lot r = is_word is_gtin (column r 1) && (is_word is_lot_text (column r 2) && (is_signed is_day (column r 3) && (is_number ACTS_MAX (column r 4) && is_number 1 (column r 5))))
+
+-- what it reads as
+abbrev pub lot_in : Row → LotRow
+lot_in r = record { lot = record { gtin = bytes (column r 1); lot = bytes (column r 2) }; expiry = signed_in (column r 3); came = number_in (column r 4); held = flag_in (column r 5) }
+
+-- the same of its columns in their order, as a statement answers them
+abbrev pub has_lot : Row → Bool
+has_lot v = is_word is_gtin (column v 0) && (is_word is_lot_text (column v 1) && (is_signed is_day (column v 2) && (is_number ACTS_MAX (column v 3) && is_number 1 (column v 4))))
+
+abbrev pub lot_read : Row → LotRow
+lot_read v = record { lot = record { gtin = bytes (column v 0); lot = bytes (column v 1) }; expiry = signed_in (column v 2); came = number_in (column v 3); held = flag_in (column v 4) }
+
+abbrev pub LotKey : Type 0
+LotKey = LotId
+
+abbrev pub same_lot : LotKey → LotKey → Bool
+same_lot a b = same_lot_id a b
+
+abbrev pub lot_key : LotRow → LotKey
+lot_key s = s.lot
+
+-- its values, in the order of the columns
+abbrev pub lot_cells : LotRow → Row
+lot_cells s = Text s.lot.gtin ∷ Text s.lot.lot ∷ Int s.expiry ∷ Int (pos s.came) ∷ Int (pos (flag_number s.held)) ∷ []
+
+-- the stored rows of this gtin
+abbrev pub lots_of_rows : List ℕ → Trees → List Row
+lots_of_rows gtin trees = filter (λ r. is_the_text gtin (column r 1)) (trees lots_tree)
+
+-- the stored rows of the whole table
+abbrev pub all_lots_rows : Trees → List Row
+all_lots_rows trees = filter (λ r. true) (trees lots_tree)
+
+-- ---- recalls
+
+-- whether the row reads as a typed one
+abbrev pub is_recall : Row → Bool
+is_recall r = is_word is_gtin (column r 1) && (is_word is_lot_text (column r 2) && is_number ACTS_MAX (column r 3))
+
+-- what it reads as
+abbrev pub recall_in : Row → RecallRow
+recall_in r = record { lot = record { gtin = bytes (column r 1); lot = bytes (column r 2) }; act = number_in (column r 3) }
+
+-- the same of its columns in their order, as a statement answers them
+abbrev pub has_recall : Row → Bool
+has_recall v = is_word is_gtin (column v 0) && (is_word is_lot_text (column v 1) && is_number ACTS_MAX (column v 2))
+
+abbrev pub recall_read : Row → RecallRow
+recall_read v = record { lot = record { gtin = bytes (column v 0); lot = bytes (column v 1) }; act = number_in (column v 2) }
+
+abbrev pub RecallKey : Type 0
+RecallKey = LotId
+
+abbrev pub same_recall : RecallKey → RecallKey → Bool
+same_recall a b = same_lot_id a b
+
+abbrev pub recall_key : RecallRow → RecallKey
+recall_key s = s.lot
+
+-- its values, in the order of the columns
+abbrev pub recall_cells : RecallRow → Row
+recall_cells s = Text s.lot.gtin ∷ Text s.lot.lot ∷ Int (pos s.act) ∷ []
+
+-- the stored rows of this gtin
+abbrev pub recalls_of_rows : List ℕ → Trees → List Row
+recalls_of_rows gtin trees = filter (λ r. is_the_text gtin (column r 1)) (trees recalls_tree)
+
+-- ---- stock
+
+-- whether the row reads as a typed one
+abbrev pub is_stock : Row → Bool
+is_stock r = is_word is_gtin (column r 1) && (is_word is_lot_text (column r 2) && (is_word is_name (column r 3) && is_number UNITS_MAX (column r 4)))
+
+-- what it reads as
+abbrev pub stock_in : Row → StockRow
+stock_in r = record { lot = record { gtin = bytes (column r 1); lot = bytes (column r 2) }; bin = bytes (column r 3); qty = number_in (column r 4) }
+
+-- the same of its columns in their order, as a statement answers them
+abbrev pub has_stock : Row → Bool
+has_stock v = is_word is_gtin (column v 0) && (is_word is_lot_text (column v 1) && (is_word is_name (column v 2) && is_number UNITS_MAX (column v 3)))
+
+abbrev pub stock_read : Row → StockRow
+stock_read v = record { lot = record { gtin = bytes (column v 0); lot = bytes (column v 1) }; bin = bytes (column v 2); qty = number_in (column v 3) }
+
+abbrev pub StockKey : Type 0
+StockKey = LotId × List ℕ
+
+abbrev pub same_stock : StockKey → StockKey → Bool
+same_stock a b = same_lot_id a.0 b.0 && bytes_eq a.1 b.1
+
+abbrev pub stock_key : StockRow → StockKey
+stock_key s = (s.lot, s.bin)
+
+-- its values, in the order of the columns
+abbrev pub stock_cells : StockRow → Row
+stock_cells s = Text s.lot.gtin ∷ Text s.lot.lot ∷ Text s.bin ∷ Int (pos s.qty) ∷ []
+
+-- the stored rows of this gtin
+abbrev pub stock_of_rows : List ℕ → Trees → List Row
+stock_of_rows gtin trees = filter (λ r. is_the_text gtin (column r 1)) (trees stock_tree)
+
+-- ---- orders
+
+-- whether the row reads as a typed one
+abbrev pub is_order : Row → Bool
+is_order r = is_word is_name (column r 1) && (is_number ACTS_MAX (column r 2) && (is_word is_title (column r 3) && is_word is_order_state (column r 4)))
+
+-- what it reads as
+abbrev pub order_in : Row → OrderRow
+order_in r = record { order = bytes (column r 1); act = number_in (column r 2); customer = bytes (column r 3); state = order_state_in (column r 4) }
+
+-- the same of its columns in their order, as a statement answers them
+abbrev pub has_order : Row → Bool
+has_order v = is_word is_name (column v 0) && (is_number ACTS_MAX (column v 1) && (is_word is_title (column v 2) && is_word is_order_state (column v 3)))
+
+abbrev pub order_read : Row → OrderRow
+order_read v = record { order = bytes (column v 0); act = number_in (column v 1); customer = bytes (column v 2); state = order_state_in (column v 3) }
+
+abbrev pub OrderKey : Type 0
+OrderKey = List ℕ
+
+abbrev pub same_order : OrderKey → OrderKey → Bool
+same_order a b = bytes_eq a b
+
+abbrev pub order_key : OrderRow → OrderKey
+order_key s = s.order
+
+-- its values, in the order of the columns
+abbrev pub order_cells : OrderRow → Row
+order_cells s = Text s.order ∷ Int (pos s.act) ∷ Text s.customer ∷ Text (order_state_text s.state) ∷ []
+
+-- the stored rows of this order
+abbrev pub orders_of_rows : List ℕ → Trees → List Row
+orders_of_rows order trees = filter (λ r. is_the_text order (column r 1)) (trees orders_tree)
+
+-- ---- lines
+
+-- whether the row reads as a typed one
+abbrev pub is_line : Row → Bool
+is_line r = is_word is_name (column r 1) && (is_word is_gtin (column r 2) && (is_number UNITS_MAX (column r 3) && is_number UNITS_MAX (column r 4)))
+
+-- what it reads as
+abbrev pub line_in : Row → LineRow
+line_in r = record { order = bytes (column r 1); gtin = bytes (column r 2); ordered = number_in (column r 3); shipped = number_in (column r 4) }
+
+-- the same of its columns in their order, as a statement answers them
+abbrev pub has_line : Row → Bool
+has_line v = is_word is_name (column v 0) && (is_word is_gtin (column v 1) && (is_number UNITS_MAX (column v 2) && is_number UNITS_MAX (column v 3)))
+
+abbrev pub line_read : Row → LineRow
+line_read v = record { order = bytes (column v 0); gtin = bytes (column v 1); ordered = number_in (column v 2); shipped = number_in (column v 3) }
+
+abbrev pub LineKey : Type 0
+LineKey = List ℕ × List ℕ
+
+abbrev pub same_line : LineKey → LineKey → Bool
+same_line a b = bytes_eq a.0 b.0 && bytes_eq a.1 b.1
+
+abbrev pub line_key : LineRow → LineKey
+line_key s = (s.order, s.gtin)
+
+-- its values, in the order of the columns
+abbrev pub line_cells : LineRow → Row
+line_cells s = Text s.order ∷ Text s.gtin ∷ Int (pos s.ordered) ∷ Int (pos s.shipped) ∷ []
+
+-- the stored rows of this order
+abbrev pub lines_of_order_rows : List ℕ → Trees → List Row
+lines_of_order_rows order trees = filter (λ r. is_the_text order (column r 1)) (trees lines_tree)
+
+-- the stored rows of this gtin
+abbrev pub lines_of_item_rows : List ℕ → Trees → List Row
+lines_of_item_rows gtin trees = filter (λ r. is_the_text gtin (column r 2)) (trees lines_tree)
+
+-- ---- staged
+
+-- whether the row reads as a typed one
+abbrev pub is_staged : Row → Bool
+is_staged r = is_word is_name (column r 1) && (is_word is_gtin (column r 2) && (is_word is_lot_text (column r 3) && is_number UNITS_MAX (column r 4)))
+
+-- what it reads as
+abbrev pub staged_in : Row → StagedRow
+staged_in r = record { order = bytes (column r 1); lot = record { gtin = bytes (column r 2); lot = bytes (column r 3) }; qty = number_in (column r 4) }
+
+-- the same of its columns in their order, as a statement answers them
+abbrev pub has_staged : Row → Bool
+has_staged v = is_word is_name (column v 0) && (is_word is_gtin (column v 1) && (is_word is_lot_text (column v 2) && is_number UNITS_MAX (column v 3)))
+
+abbrev pub staged_read : Row → StagedRow
+staged_read v = record { order = bytes (column v 0); lot = record { gtin = bytes (column v 1); lot = bytes (column v 2) }; qty = number_in (column v 3) }
+
+abbrev pub StagedKey : Type 0
+StagedKey = List ℕ × LotId
+
+abbrev pub same_staged : StagedKey → StagedKey → Bool
+same_staged a b = bytes_eq a.0 b.0 && same_lot_id a.1 b.1
+
+abbrev pub staged_key : StagedRow → StagedKey
+staged_key s = (s.order, s.lot)
+
+-- its values, in the order of the columns
+abbrev pub staged_cells : StagedRow → Row
+staged_cells s = Text s.order ∷ Text s.lot.gtin ∷ Text s.lot.lot ∷ Int (pos s.qty) ∷ []
+
+-- the stored rows of this gtin
+abbrev pub staged_of_item_rows : List ℕ → Trees → List Row
+staged_of_item_rows gtin trees = filter (λ r. is_the_text gtin (column r 2)) (trees staged_tree)
+
+-- the stored rows of the whole table
+abbrev pub all_staged_rows : Trees → List Row
+all_staged_rows trees = filter (λ r. true) (trees staged_tree)
+
+-- ---- reserved
+
+-- whether the row reads as a typed one
+abbrev pub is_reserved : Row → Bool
+is_reserved r = is_word is_name (column r 1) && (is_word is_gtin (column r 2) && (is_word is_lot_text (column r 3) && is_number UNITS_MAX (column r 4)))
+
+-- what it reads as
+abbrev pub reserved_in : Row → ReservedRow
+reserved_in r = record { order = bytes (column r 1); lot = record { gtin = bytes (column r 2); lot = bytes (column r 3) }; qty = number_in (column r 4) }
+
+-- the same of its columns in their order, as a statement answers them
+abbrev pub has_reserved : Row → Bool
+has_reserved v = is_word is_name (column v 0) && (is_word is_gtin (column v 1) && (is_word is_lot_text (column v 2) && is_number UNITS_MAX (column v 3)))
+
+abbrev pub reserved_read : Row → ReservedRow
+reserved_read v = record { order = bytes (column v 0); lot = record { gtin = bytes (column v 1); lot = bytes (column v 2) }; qty = number_in (column v 3) }
+
+abbrev pub ReservedKey : Type 0
+ReservedKey = List ℕ × LotId
+
+abbrev pub same_reserved : ReservedKey → ReservedKey → Bool
+same_reserved a b = bytes_eq a.0 b.0 && same_lot_id a.1 b.1
+
+abbrev pub reserved_key : ReservedRow → ReservedKey
+reserved_key s = (s.order, s.lot)
+
+-- its values, in the order of the columns
+abbrev pub reserved_cells : ReservedRow → Row
+reserved_cells s = Text s.order ∷ Text s.lot.gtin ∷ Text s.lot.lot ∷ Int (pos s.qty) ∷ []
+
+-- the stored rows of this gtin
+abbrev pub reserved_of_item_rows : List ℕ → Trees → List Row
+reserved_of_item_rows gtin trees = filter (λ r. is_the_text gtin (column r 2)) (trees reserved_tree)
+
+-- ---- shipments
+
+-- whether the row reads as a typed one
+abbrev pub is_shipment : Row → Bool
+is_shipment r = is_number ACTS_MAX (column r 0) && (is_number ACTS_MAX (column r 2) && (is_signed is_business_day (column r 3) && is_word is_name (column r 4)))
+
+-- what it reads as
+abbrev pub shipment_in : Row → ShipmentRow
+shipment_in r = record { number = number_in (column r 0); act = number_in (column r 2); day = signed_in (column r 3); order = bytes (column r 4) }
+
+-- the same of its columns in their order, as a statement answers them
+abbrev pub has_shipment : Row → Bool
+has_shipment v = is_number ACTS_MAX (column v 0) && (is_number ACTS_MAX (column v 1) && (is_signed is_business_day (column v 2) && is_word is_name (column v 3)))
+
+abbrev pub shipment_read : Row → ShipmentRow
+shipment_read v = record { number = number_in (column v 0); act = number_in (column v 1); day = signed_in (column v 2); order = bytes (column v 3) }
+
+abbrev pub ShipmentKey : Type 0
+ShipmentKey = ℕ
+
+abbrev pub same_shipment : ShipmentKey → ShipmentKey → Bool
+same_shipment a b = nat_eq a b
+
+abbrev pub shipment_key : ShipmentRow → ShipmentKey
+shipment_key s = s.number
+
+-- its values, in the order of the columns
+abbrev pub shipment_cells : ShipmentRow → Row
+shipment_cells s = Int (pos s.number) ∷ Int (pos s.act) ∷ Int s.day ∷ Text s.order ∷ []
+
+-- the stored rows of this number
+abbrev pub shipments_of_rows : ℕ → Trees → List Row
+shipments_of_rows number trees = filter (λ r. is_the_number number (column r 0)) (trees shipments_tree)
+
+-- ---- shiplines
+
+-- whether the row reads as a typed one
+abbrev pub is_shipline : Row → Bool
+is_shipline r = is_number ACTS_MAX (column r 1) && (is_word is_gtin (column r 2) && (is_word is_lot_text (column r 3) && is_number UNITS_MAX (column r 4)))
+
+-- what it reads as
+abbrev pub shipline_in : Row → ShiplineRow
+shipline_in r = record { number = number_in (column r 1); lot = record { gtin = bytes (column r 2); lot = bytes (column r 3) }; qty = number_in (column r 4) }
+
+-- the same of its columns in their order, as a statement answers them
+abbrev pub has_shipline : Row → Bool
+has_shipline v = is_number ACTS_MAX (column v 0) && (is_word is_gtin (column v 1) && (is_word is_lot_text (column v 2) && is_number UNITS_MAX (column v 3)))
+
+abbrev pub shipline_read : Row → ShiplineRow
+shipline_read v = record { number = number_in (column v 0); lot = record { gtin = bytes (column v 1); lot = bytes (column v 2) }; qty = number_in (column v 3) }
+
+abbrev pub ShiplineKey : Type 0
+ShiplineKey = ℕ × LotId
+
+abbrev pub same_shipline : ShiplineKey → ShiplineKey → Bool
+same_shipline a b = nat_eq a.0 b.0 && same_lot_id a.1 b.1
+
+abbrev pub shipline_key : ShiplineRow → ShiplineKey
+shipline_key s = (s.number, s.lot)
+
+-- its values, in the order of the columns
+abbrev pub shipline_cells : ShiplineRow → Row
+shipline_cells s = Int (pos s.number) ∷ Text s.lot.gtin ∷ Text s.lot.lot ∷ Int (pos s.qty) ∷ []
+
+-- the stored rows of this lot
+abbrev pub shiplines_of_lot_rows : LotId → Trees → List Row
+shiplines_of_lot_rows lot trees = filter (λ r. is_the_text lot.gtin (column r 2) && is_the_text lot.lot (column r 3)) (trees shiplines_tree)
+
+-- ---- cards
+
+-- whether the row reads as a typed one
+abbrev pub is_card : Row → Bool
+is_card r = is_word is_gtin (column r 1) && (is_word is_lot_text (column r 2) && (is_number ACTS_MAX (column r 3) && (is_signed is_business_day (column r 4) && (is_word is_card_kind (column r 5) && (is_word (fits_in CARD_NOTE_MAX) (column r 6) && (is_signed is_any_number (column r 7) && is_number UNITS_MAX (column r 8)))))))
+
+-- what it reads as
+abbrev pub card_in : Row → CardRow
+card_in r = record { lot = record { gtin = bytes (column r 1); lot = bytes (column r 2) }; act = number_in (column r 3); day = signed_in (column r 4); kind = card_kind_in (column r 5); note = bytes (column r 6); qty = signed_in (column r 7); rest = number_in (column r 8) }
+
+-- the same of its columns in their order, as a statement answers them
+abbrev pub has_card : Row → Bool
+has_card v = is_word is_gtin (column v 0) && (is_word is_lot_text (column v 1) && (is_number ACTS_MAX (column v 2) && (is_signed is_business_day (column v 3) && (is_word is_card_kind (column v 4) && (is_word (fits_in CARD_NOTE_MAX) (column v 5) && (is_signed is_any_number (column v 6) && is_number UNITS_MAX (column v 7)))))))
+
+abbrev pub card_read : Row → CardRow
+card_read v = record { lot = record { gtin = bytes (column v 0); lot = bytes (column v 1) }; act = number_in (column v 2); day = signed_in (column v 3); kind = card_kind_in (column v 4); note = bytes (column v 5); qty = signed_in (column v 6); rest = number_in (column v 7) }
+
+abbrev pub CardKey : Type 0
+CardKey = LotId × ℕ
+
+abbrev pub same_card : CardKey → CardKey → Bool
+same_card a b = same_lot_id a.0 b.0 && nat_eq a.1 b.1
+
+abbrev pub card_key : CardRow → CardKey
+card_key s = (s.lot, s.act)
+
+-- its values, in the order of the columns
+abbrev pub card_cells : CardRow → Row
+card_cells s = Text s.lot.gtin ∷ Text s.lot.lot ∷ Int (pos s.act) ∷ Int s.day ∷ Text (card_kind_text s.kind) ∷ Text s.note ∷ Int s.qty ∷ Int (pos s.rest) ∷ []
+
+-- the stored rows of this lot
+abbrev pub cards_of_lot_rows : LotId → Trees → List Row
+cards_of_lot_rows lot trees = filter (λ r. is_the_text lot.gtin (column r 1) && is_the_text lot.lot (column r 2)) (trees cards_tree)
+
+-- ---- repeats
+
+-- whether the row reads as a typed one
+abbrev pub is_repeat : Row → Bool
+is_repeat r = is_word (fits_in KEY_TEXT_MAX) (column r 1) && (is_number ACTS_MAX (column r 2) && (is_word is_any (column r 3) && is_word (fits_in SHORT_MAX) (column r 4)))
+
+-- what it reads as
+abbrev pub repeat_in : Row → RepeatRow
+repeat_in r = record { k = bytes (column r 1); act = number_in (column r 2); spell = bytes (column r 3); reply = bytes (column r 4) }
+
+-- the same of its columns in their order, as a statement answers them
+abbrev pub has_repeat : Row → Bool
+has_repeat v = is_word (fits_in KEY_TEXT_MAX) (column v 0) && (is_number ACTS_MAX (column v 1) && (is_word is_any (column v 2) && is_word (fits_in SHORT_MAX) (column v 3)))
+
+abbrev pub repeat_read : Row → RepeatRow
+repeat_read v = record { k = bytes (column v 0); act = number_in (column v 1); spell = bytes (column v 2); reply = bytes (column v 3) }
+
+abbrev pub RepeatKey : Type 0
+RepeatKey = List ℕ
+
+abbrev pub same_repeat : RepeatKey → RepeatKey → Bool
+same_repeat a b = bytes_eq a b
+
+abbrev pub repeat_key : RepeatRow → RepeatKey
+repeat_key s = s.k
+
+-- its values, in the order of the columns
+abbrev pub repeat_cells : RepeatRow → Row
+repeat_cells s = Text s.k ∷ Int (pos s.act) ∷ Text s.spell ∷ Text s.reply ∷ []
+
+-- the stored rows of this k
+abbrev pub repeats_of_rows : List ℕ → Trees → List Row
+repeats_of_rows k trees = filter (λ r. is_the_text k (column r 1)) (trees repeats_tree)
+
+-- ---- the tables
+
+pub record Tables : Type 0 where
+  pub meta : Option MetaRow
+  pub item : List ℕ → Option ItemRow
+  pub bin : List ℕ → Option BinRow
+  pub lot : LotId → Option LotRow
+  pub recall : LotId → Option RecallRow
+  pub stock : LotId → List ℕ → Option StockRow
+  pub order : List ℕ → Option OrderRow
+  pub line : List ℕ → List ℕ → Option LineRow
+  pub staged : List ℕ → LotId → Option StagedRow
+  pub reserved : List ℕ → LotId → Option ReservedRow
+  pub shipment : ℕ → Option ShipmentRow
+  pub shipline : ℕ → LotId → Option ShiplineRow
+  pub card : LotId → ℕ → Option CardRow
+  pub repeat : List ℕ → Option RepeatRow
+
+abbrev pub tables_in : Trees → Tables
+tables_in trees = record {
+  meta = find (λ s. same_meta 1 (meta_key s)) (typed is_meta meta_in (trees meta_tree));
+  item = λ gtin. find (λ s. same_item gtin (item_key s)) (typed is_item item_in (trees items_tree));
+  bin = λ name. find (λ s. same_bin name (bin_key s)) (typed is_bin bin_in (trees bins_tree));
+  lot = λ lot. find (λ s. same_lot lot (lot_key s)) (typed is_lot lot_in (trees lots_tree));
+  recall = λ lot. find (λ s. same_recall lot (recall_key s)) (typed is_recall recall_in (trees recalls_tree));
+  stock = λ lot bin. find (λ s. same_stock (lot, bin) (stock_key s)) (typed is_stock stock_in (trees stock_tree));
+  order = λ order. find (λ s. same_order order (order_key s)) (typed is_order order_in (trees orders_tree));
+  line = λ order gtin. find (λ s. same_line (order, gtin) (line_key s)) (typed is_line line_in (trees lines_tree));
+  staged = λ order lot. find (λ s. same_staged (order, lot) (staged_key s)) (typed is_staged staged_in (trees staged_tree));
+  reserved = λ order lot. find (λ s. same_reserved (order, lot) (reserved_key s)) (typed is_reserved reserved_in (trees reserved_tree));
+  shipment = λ number. find (λ s. same_shipment number (shipment_key s)) (typed is_shipment shipment_in (trees shipments_tree));
+  shipline = λ number lot. find (λ s. same_shipline (number, lot) (shipline_key s)) (typed is_shipline shipline_in (trees shiplines_tree));
+  card = λ lot act. find (λ s. same_card (lot, act) (card_key s)) (typed is_card card_in (trees cards_tree));
+  repeat = λ k. find (λ s. same_repeat k (repeat_key s)) (typed is_repeat repeat_in (trees repeats_tree));
+}
+
+-- each stored row reads as a typed one
+pub record AreTyped (trees : Trees) : Type 0 where
+  pub meta : AllByRecursion (λ r. is_meta r ≡ true) (trees meta_tree)
+  pub items : AllByRecursion (λ r. is_item r ≡ true) (trees items_tree)
+  pub bins : AllByRecursion (λ r. is_bin r ≡ true) (trees bins_tree)
+  pub lots : AllByRecursion (λ r. is_lot r ≡ true) (trees lots_tree)
+  pub recalls : AllByRecursion (λ r. is_recall r ≡ true) (trees recalls_tree)
+  pub stock : AllByRecursion (λ r. is_stock r ≡ true) (trees stock_tree)
+  pub orders : AllByRecursion (λ r. is_order r ≡ true) (trees orders_tree)
+  pub lines : AllByRecursion (λ r. is_line r ≡ true) (trees lines_tree)
+  pub staged : AllByRecursion (λ r. is_staged r ≡ true) (trees staged_tree)
+  pub reserved : AllByRecursion (λ r. is_reserved r ≡ true) (trees reserved_tree)
+  pub shipments : AllByRecursion (λ r. is_shipment r ≡ true) (trees shipments_tree)
+  pub shiplines : AllByRecursion (λ r. is_shipline r ≡ true) (trees shiplines_tree)
+  pub cards : AllByRecursion (λ r. is_card r ≡ true) (trees cards_tree)
+  pub repeats : AllByRecursion (λ r. is_repeat r ≡ true) (trees repeats_tree)
+
+-- ---- what the calls make of them
+
+-- the row takes the place of the one that there is
+abbrev pub with_meta : MetaRow → Tables → Tables
+with_meta s t = record t { meta = Some s }
+
+-- the row takes the place of one with its key
+abbrev pub with_item : ItemRow → Tables → Tables
+with_item s t = record t { item = λ at_gtin. if same_item at_gtin (item_key s) then Some s else t.item at_gtin }
+
+abbrev pub without_item : List ℕ → Tables → Tables
+without_item gtin t = record t { item = λ at_gtin. if same_item at_gtin gtin then None else t.item at_gtin }
+
+-- the row takes the place of one with its key
+abbrev pub with_bin : BinRow → Tables → Tables
+with_bin s t = record t { bin = λ at_name. if same_bin at_name (bin_key s) then Some s else t.bin at_name }
+
+abbrev pub without_bin : List ℕ → Tables → Tables
+without_bin name t = record t { bin = λ at_name. if same_bin at_name name then None else t.bin at_name }
+
+-- the row takes the place of one with its key
+abbrev pub with_lot : LotRow → Tables → Tables
+with_lot s t = record t { lot = λ at_lot. if same_lot at_lot (lot_key s) then Some s else t.lot at_lot }
+
+abbrev pub without_lot : LotId → Tables → Tables
+without_lot lot t = record t { lot = λ at_lot. if same_lot at_lot lot then None else t.lot at_lot }
+
+-- the row takes the place of one with its key
+abbrev pub with_recall : RecallRow → Tables → Tables
+with_recall s t = record t { recall = λ at_lot. if same_recall at_lot (recall_key s) then Some s else t.recall at_lot }
+
+abbrev pub without_recall : LotId → Tables → Tables
+without_recall lot t = record t { recall = λ at_lot. if same_recall at_lot lot then None else t.recall at_lot }
+
+-- the row takes the place of one with its key
+abbrev pub with_stock : StockRow → Tables → Tables
+with_stock s t = record t { stock = λ at_lot at_bin. if same_stock (at_lot, at_bin) (stock_key s) then Some s else t.stock at_lot at_bin }
+
+abbrev pub without_stock : LotId → List ℕ → Tables → Tables
+without_stock lot bin t = record t { stock = λ at_lot at_bin. if same_stock (at_lot, at_bin) (lot, bin) then None else t.stock at_lot at_bin }
+
+-- the row takes the place of one with its key
+abbrev pub with_order : OrderRow → Tables → Tables
+with_order s t = record t { order = λ at_order. if same_order at_order (order_key s) then Some s else t.order at_order }
+
+abbrev pub without_order : List ℕ → Tables → Tables
+without_order order t = record t { order = λ at_order. if same_order at_order order then None else t.order at_order }
+
+-- the row takes the place of one with its key
+abbrev pub with_line : LineRow → Tables → Tables
+with_line s t = record t { line = λ at_order at_gtin. if same_line (at_order, at_gtin) (line_key s) then Some s else t.line at_order at_gtin }
+
+abbrev pub without_line : List ℕ → List ℕ → Tables → Tables
+without_line order gtin t = record t { line = λ at_order at_gtin. if same_line (at_order, at_gtin) (order, gtin) then None else t.line at_order at_gtin }
+
+-- the row takes the place of one with its key
+abbrev pub with_staged : StagedRow → Tables → Tables
+with_staged s t = record t { staged = λ at_order at_lot. if same_staged (at_order, at_lot) (staged_key s) then Some s else t.staged at_order at_lot }
+
+abbrev pub without_staged : List ℕ → LotId → Tables → Tables
+without_staged order lot t = record t { staged = λ at_order at_lot. if same_staged (at_order, at_lot) (order, lot) then None else t.staged at_order at_lot }
+
+-- the row takes the place of one with its key
+abbrev pub with_reserved : ReservedRow → Tables → Tables
+with_reserved s t = record t { reserved = λ at_order at_lot. if same_reserved (at_order, at_lot) (reserved_key s) then Some s else t.reserved at_order at_lot }
+
+abbrev pub without_reserved : List ℕ → LotId → Tables → Tables
+without_reserved order lot t = record t { reserved = λ at_order at_lot. if same_reserved (at_order, at_lot) (order, lot) then None else t.reserved at_order at_lot }
+
+-- the row takes the place of one with its key
+abbrev pub with_shipment : ShipmentRow → Tables → Tables
+with_shipment s t = record t { shipment = λ at_number. if same_shipment at_number (shipment_key s) then Some s else t.shipment at_number }
+
+abbrev pub without_shipment : ℕ → Tables → Tables
+without_shipment number t = record t { shipment = λ at_number. if same_shipment at_number number then None else t.shipment at_number }
+
+-- the row takes the place of one with its key
+abbrev pub with_shipline : ShiplineRow → Tables → Tables
+with_shipline s t = record t { shipline = λ at_number at_lot. if same_shipline (at_number, at_lot) (shipline_key s) then Some s else t.shipline at_number at_lot }
+
+abbrev pub without_shipline : ℕ → LotId → Tables → Tables
+without_shipline number lot t = record t { shipline = λ at_number at_lot. if same_shipline (at_number, at_lot) (number, lot) then None else t.shipline at_number at_lot }
+
+-- the row takes the place of one with its key
+abbrev pub with_card : CardRow → Tables → Tables
+with_card s t = record t { card = λ at_lot at_act. if same_card (at_lot, at_act) (card_key s) then Some s else t.card at_lot at_act }
+
+abbrev pub without_card : LotId → ℕ → Tables → Tables
+without_card lot act t = record t { card = λ at_lot at_act. if same_card (at_lot, at_act) (lot, act) then None else t.card at_lot at_act }
+
+-- the row takes the place of one with its key
+abbrev pub with_repeat : RepeatRow → Tables → Tables
+with_repeat s t = record t { repeat = λ at_k. if same_repeat at_k (repeat_key s) then Some s else t.repeat at_k }
+
+abbrev pub without_repeat : List ℕ → Tables → Tables
+without_repeat k t = record t { repeat = λ at_k. if same_repeat at_k k then None else t.repeat at_k }
+
+abbrev pub no_rows : Tables
+no_rows = record { meta = None; item = λ _. None; bin = λ _. None; lot = λ _. None; recall = λ _. None; stock = λ _ _. None; order = λ _. None; line = λ _ _. None; staged = λ _ _. None; reserved = λ _ _. None; shipment = λ _. None; shipline = λ _ _. None; card = λ _ _. None; repeat = λ _. None }

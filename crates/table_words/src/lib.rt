@@ -1,0 +1,5 @@
+//! What the fourteen tables of the books are, and what their columns read as.
+#![tactic(auto)]
+
+pub mod error;
+pub mod values;

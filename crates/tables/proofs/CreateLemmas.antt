@@ -1,0 +1,100 @@
+-- What CREATE TABLE makes of a database whose tables are empty.
+use Rattle.std.proofs.Common.{◌≡◌, ℕ, true, false, None, Some, slice_get, List, [], Ok, Err, Result, OnOk, refl, sym, ap, subst, ◌∙◌}
+use Rattle.std.specs.List.{AllByRecursion}
+use Rattle.sqlite.specs.Command.TheVariants.{CreateTable, CreateIndex}
+use Rattle.sqlite.specs.Compile.{table_defined_by, index_defined_by}
+use Rattle.sqlite.specs.Change.{created, indexed, next_tree}
+use Rattle.sqlite.specs.Does.{Tally, lacks_sequence, AtPlace, Defines, MakesIndex}
+use Rattle.sqlite.specs.Schema.{Schema}
+use Rattle.sqlite.specs.Table.{Table}
+use Rattle.sqlite_schema.specs.declared.schema.Index.{Index}
+use Rattle.sqlite.specs.Effect.{Database, IsDatabase}
+use Rattle.sqlite_catalog.specs.Listing.{IsSound}
+use Rattle.sqlite.specs.Listing.{understood}
+use Rattle.sqlite.specs.State.{State, mode_of, Writes, ExecutesInside}
+use Rattle.sqlite.proofs.Callers.{IsPlain, command_of, statement_of, runs_as}
+use Rattle.sqlite_keyed.proofs.ListLemmas.{all-append, all_both, all_weaker}
+use Rattle.table_words.specs.Schema.{the_schema}
+use Rattle.table_words.specs.Rows.{IsRows}
+use Rattle.table_words.specs.Typed.{tables_in, no_rows, AreTyped, is_meta, is_item, is_bin, is_lot, is_recall, is_stock, is_order, is_line, is_staged, is_reserved, is_shipment, is_shipline, is_card, is_repeat}
+use Rattle.table_words.specs.Steps.{IsReady, IsBlank}
+use Rattle.table_words.proofs.WriteLemmas.{went, same_value}
+
+-- the text makes the table
+abbrev pub Makes : Schema → List ℕ → Table → Type 0
+Makes schema text table =
+    (command_of (understood schema text) ≡ CreateTable) × (statement_of text (understood schema text) ≡ text) × (table_defined_by text ≡ Ok table) × (lacks_sequence (created schema table) ≡ false)
+    × IsPlain (understood schema text)
+
+pub creates : (schema : Schema) (text : List ℕ) (table : Table) → Makes schema text table → (old new : State) (count : ℕ) → IsBlank schema old.now → ExecutesInside 0 text [] old new (Ok count)
+    → IsBlank (created schema table) new.now
+creates schema text table m old new count blank h =
+    let w = subst (λ t. Writes old new None CreateTable t [] count) m.1 (runs_as text [] old new schema blank.schema_is CreateTable m.0 m.4 count h.0) in
+    let all = went w.changed in
+    let first = went all.1 in
+    let made = first.1 in
+    let both : Ok made.table ≡ Ok table = sym made.defined ∙ m.2 in
+    let same : made.table ≡ table = cc in
+    let after : first.0.schema ≡ created schema table = made.is ∙ ap (λ s. created s made.table) blank.schema_is ∙ ap (created schema) same in
+    let plain : lacks_sequence first.0.schema ≡ false = ap lacks_sequence after ∙ m.3 in
+    let now : new.now ≡ first.0 = ap (λ (p : Tally × Database). p.1) (same_value all.2) ∙ same_value (rw plain at first.2) in
+    let here : first.0.trees (next_tree schema) ≡ [] = subst (λ s. first.0.trees (next_tree s) ≡ []) blank.schema_is made.empty in
+    let others : AllByRecursion (λ t. first.0.trees t.tree ≡ old.now.trees t.tree) schema.tables = subst (λ s. AllByRecursion (λ t. first.0.trees t.tree ≡ old.now.trees t.tree) s.tables) blank.schema_is made.others in
+    subst (IsBlank (created schema table)) (sym now) (record {
+      schema_is = after;
+      sound = subst IsDatabase now w.sound;
+      empty = all-append (λ t. first.0.trees t.tree ≡ []) schema.tables _
+          (all_both _ (λ t. old.now.trees t.tree ≡ []) (λ t. first.0.trees t.tree ≡ []) (λ t p q. p ∙ q) schema.tables others blank.empty) (here, tt);
+    })
+
+-- the text makes the index of the table at this place
+abbrev pub MakesTheIndex : Schema → ℕ → Table → List ℕ → Index → Type 0
+MakesTheIndex schema at table text index =
+    (command_of (understood schema text) ≡ CreateIndex at) × (statement_of text (understood schema text) ≡ text) × (slice_get schema.tables at ≡ Some table) × (index_defined_by table text ≡ Ok index)
+    × IsPlain (understood schema text)
+
+pub indexes_made : (schema : Schema) (at : ℕ) (table : Table) (text : List ℕ) (index : Index) → MakesTheIndex schema at table text index → (old new : State) (count : ℕ) → IsBlank schema old.now
+    → ExecutesInside 0 text [] old new (Ok count) → IsBlank (indexed schema table index) new.now
+indexes_made schema at table text index m old new count blank h =
+    let w = subst (λ t. Writes old new None (CreateIndex at) t [] count) m.1 (runs_as text [] old new schema blank.schema_is (CreateIndex at) m.0 m.4 count h.0) in
+    let found : slice_get old.now.schema.tables at ≡ Some table = ap (λ (s : Schema). slice_get s.tables at) blank.schema_is ∙ m.2 in
+    let all = went (subst (λ o. AtPlace (λ t. Defines (mode_of old) (MakesIndex text old.now t)) o (Ok (w.tally, new.now))) found w.changed) in
+    let made = all.1 in
+    let both : Ok made.index ≡ Ok index = sym made.defined ∙ m.3 in
+    let same : made.index ≡ index = cc in
+    let after : all.0.schema ≡ indexed schema table index = made.is ∙ ap (λ s. indexed s table made.index) blank.schema_is ∙ ap (indexed schema table) same in
+    let now : new.now ≡ all.0 = ap (λ (p : Tally × Database). p.1) (same_value all.2) in
+    let rows : AllByRecursion (λ t. all.0.trees t.tree ≡ old.now.trees t.tree) schema.tables = subst (λ s. AllByRecursion (λ t. all.0.trees t.tree ≡ old.now.trees t.tree) s.tables) blank.schema_is made.rows in
+    subst (IsBlank (indexed schema table index)) (sym now) (record {
+      schema_is = after;
+      sound = subst IsDatabase now w.sound;
+      empty = all_both (λ t. all.0.trees t.tree ≡ old.now.trees t.tree) (λ t. old.now.trees t.tree ≡ []) (λ t. all.0.trees t.tree ≡ []) (λ t p q. p ∙ q) schema.tables rows blank.empty;
+    })
+
+pub blank_ready : (db : Database) → IsBlank the_schema db → IsReady db
+blank_ready db blank = record { schema_is = blank.schema_is; rows = all_weaker (λ t. db.trees t.tree ≡ []) (λ t. IsRows (db.trees t.tree)) (λ t e. rw e (tt, tt)) the_schema.tables blank.empty; sound = subst (λ s. IsSound s db.trees) blank.schema_is blank.sound }
+
+pub blank_empty : (db : Database) → IsBlank the_schema db → tables_in db.trees ≡ no_rows
+blank_empty db blank = rw (blank.empty.0, blank.empty.1.0, blank.empty.1.1.0, blank.empty.1.1.1.0, blank.empty.1.1.1.1.0, blank.empty.1.1.1.1.1.0, blank.empty.1.1.1.1.1.1.0, blank.empty.1.1.1.1.1.1.1.0, blank.empty.1.1.1.1.1.1.1.1.0, blank.empty.1.1.1.1.1.1.1.1.1.0, blank.empty.1.1.1.1.1.1.1.1.1.1.0, blank.empty.1.1.1.1.1.1.1.1.1.1.1.0, blank.empty.1.1.1.1.1.1.1.1.1.1.1.1.0, blank.empty.1.1.1.1.1.1.1.1.1.1.1.1.1.0) refl
+
+pub blank_typed : (db : Database) → IsBlank the_schema db → AreTyped db.trees
+blank_typed db blank = record {
+  meta = rw blank.empty.0 tt;
+  items = rw blank.empty.1.0 tt;
+  bins = rw blank.empty.1.1.0 tt;
+  lots = rw blank.empty.1.1.1.0 tt;
+  recalls = rw blank.empty.1.1.1.1.0 tt;
+  stock = rw blank.empty.1.1.1.1.1.0 tt;
+  orders = rw blank.empty.1.1.1.1.1.1.0 tt;
+  lines = rw blank.empty.1.1.1.1.1.1.1.0 tt;
+  staged = rw blank.empty.1.1.1.1.1.1.1.1.0 tt;
+  reserved = rw blank.empty.1.1.1.1.1.1.1.1.1.0 tt;
+  shipments = rw blank.empty.1.1.1.1.1.1.1.1.1.1.0 tt;
+  shiplines = rw blank.empty.1.1.1.1.1.1.1.1.1.1.1.0 tt;
+  cards = rw blank.empty.1.1.1.1.1.1.1.1.1.1.1.1.0 tt;
+  repeats = rw blank.empty.1.1.1.1.1.1.1.1.1.1.1.1.1.0 tt;
+}
+
+pub on_ok_then : {X E P Q : Type 0} (r : Result X E) → (P → Q) → OnOk r P → OnOk r Q
+on_ok_then (Ok x) f p = f p
+on_ok_then (Err e) f p = tt

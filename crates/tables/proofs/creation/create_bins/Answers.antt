@@ -1,0 +1,17 @@
+use Rattle.sqlite.specs.Held.{state}
+use Rattle.table_words.specs.Schema.{schema_2, bins_table}
+use Rattle.table_words.proofs.CallLemmas.{was_inside, keeps}
+use Rattle.tables.proofs.CreateLemmas.{creates}
+use Rattle.tables.proofs.Texts.{create_bins, bins_made}
+use Rattle.tables.proofs.creation.create_bins.Goals as goal
+
+pub returns-in_err-execute-clause-kept : goal.returns-in_err-execute-clause-kept
+returns-in_err-execute-clause-kept g c clean = keeps g.S.Store _ _ c.args.tx.now.conn.now c.execute.new.self.conn.now _ c.execute.ensures.ended (c.execute.ensures.runs clean)
+
+pub returns-clause-kept : goal.returns-clause-kept
+returns-clause-kept g c clean = keeps g.S.Store _ _ c.args.tx.now.conn.now c.execute.new.self.conn.now _ c.execute.ensures.ended (c.execute.ensures.runs clean)
+
+pub returns-clause-done : goal.returns-clause-done
+returns-clause-done g c clean blank =
+    creates schema_2 create_bins (bins_table 0) bins_made (state g.S.Store c.args.tx.now.conn.now) (state g.S.Store c.execute.new.self.conn.now) _ blank
+    (c.in_ok-execute.ensures.runs clean (was_inside _ c.in_ok-execute.ensures.ended))

@@ -1,0 +1,17 @@
+use Rattle.sqlite.specs.Held.{state}
+use Rattle.table_words.specs.Schema.{schema_14, lines_table, lines_by_gtin}
+use Rattle.table_words.proofs.CallLemmas.{was_inside, keeps}
+use Rattle.tables.proofs.CreateLemmas.{indexes_made}
+use Rattle.tables.proofs.Texts.{index_lines_by_gtin, lines_by_gtin_made}
+use Rattle.tables.proofs.creation.index_lines_by_gtin.Goals as goal
+
+pub returns-in_err-execute-clause-kept : goal.returns-in_err-execute-clause-kept
+returns-in_err-execute-clause-kept g c clean = keeps g.S.Store _ _ c.args.tx.now.conn.now c.execute.new.self.conn.now _ c.execute.ensures.ended (c.execute.ensures.runs clean)
+
+pub returns-clause-kept : goal.returns-clause-kept
+returns-clause-kept g c clean = keeps g.S.Store _ _ c.args.tx.now.conn.now c.execute.new.self.conn.now _ c.execute.ensures.ended (c.execute.ensures.runs clean)
+
+pub returns-clause-done : goal.returns-clause-done
+returns-clause-done g c clean blank =
+    indexes_made schema_14 7 (lines_table 13) index_lines_by_gtin (lines_by_gtin 0) lines_by_gtin_made (state g.S.Store c.args.tx.now.conn.now) (state g.S.Store c.execute.new.self.conn.now) _ blank
+    (c.in_ok-execute.ensures.runs clean (was_inside _ c.in_ok-execute.ensures.ended))

@@ -1,0 +1,9 @@
+pub mod Head
+pub mod Routes
+pub mod Fields
+pub mod Bodies
+pub mod Requests
+pub mod Answers
+pub mod Shorts
+pub mod Views
+pub mod Laws

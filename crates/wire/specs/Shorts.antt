@@ -1,0 +1,89 @@
+-- The short JSON texts: an object of one to three members.
+use Rattle.std.specs.Prelude.{ℕ, ℤ, pos, negsuc, List, ◌++◌, codes, decimal, Option, Some, None}
+use Rattle.serde_json.specs.Data.{Data, number, unsigned, negative, string, object, Members, member, no_members}
+use Rattle.wire.specs.Views.{count}
+use Rattle.wire.specs.declared.method.Method.{Method as WireMethod}
+use Rattle.wire.specs.declared.fault.WireFault.{WireFault}
+use Rattle.wire.specs.declared.fault.WireFault.TheVariants.{Head, Length, Json, Field, Path, Method, TooLarge, Memory}
+
+-- the code of a text that is no request
+abbrev pub wire_code : WireFault → List ℕ
+wire_code Head = codes "W01"
+wire_code Length = codes "W02"
+wire_code Json = codes "W03"
+wire_code Field = codes "W04"
+wire_code Path = codes "W06"
+wire_code (Method m) = codes "W07"
+wire_code TooLarge = codes "W08"
+wire_code Memory = codes "W90"
+
+-- the status of the answer, and the method that it names
+abbrev pub wire_status : WireFault → ℕ
+wire_status Head = 400
+wire_status Length = 400
+wire_status Json = 400
+wire_status Field = 400
+wire_status Path = 404
+wire_status (Method m) = 405
+wire_status TooLarge = 413
+wire_status Memory = 503
+
+abbrev pub wire_allow : WireFault → Option WireMethod
+wire_allow Head = None
+wire_allow Length = None
+wire_allow Json = None
+wire_allow Field = None
+wire_allow Path = None
+wire_allow (Method m) = Some m
+wire_allow TooLarge = None
+wire_allow Memory = None
+
+-- Each text, and the value of which it is the compact JSON.
+
+-- a code
+abbrev pub code_text : List ℕ → List ℕ
+code_text code = codes "{\"code\":\"" ++ code ++ codes "\"}"
+
+abbrev pub code_data : List ℕ → Data
+code_data code = object (member (codes "code") (string code) no_members)
+
+-- a code, and the row that it is about
+abbrev pub code_row_text : List ℕ → ℕ → List ℕ
+code_row_text code row = codes "{\"code\":\"" ++ code ++ codes "\",\"row\":" ++ decimal row ++ codes "}"
+
+abbrev pub code_row_data : List ℕ → ℕ → Data
+code_row_data code row = object (member (codes "code") (string code) (member (codes "row") (count row) no_members))
+
+-- W05 with its cause
+abbrev pub cause_text : List ℕ → List ℕ
+cause_text cause = codes "{\"cause\":\"" ++ cause ++ codes "\",\"code\":\"W05\"}"
+
+abbrev pub cause_data : List ℕ → Data
+cause_data cause = object (member (codes "cause") (string cause) (member (codes "code") (string (codes "W05")) no_members))
+
+-- W05 with its cause and the row of the file
+abbrev pub cause_row_text : List ℕ → ℕ → List ℕ
+cause_row_text cause row = codes "{\"cause\":\"" ++ cause ++ codes "\",\"code\":\"W05\",\"row\":" ++ decimal row ++ codes "}"
+
+abbrev pub cause_row_data : List ℕ → ℕ → Data
+cause_row_data cause row =
+    object (member (codes "cause") (string cause) (member (codes "code") (string (codes "W05")) (member (codes "row") (count row) no_members)))
+
+-- how many rows of a file were accepted, and how many were repeated
+abbrev pub tally_text : ℕ → ℕ → List ℕ
+tally_text accepted repeated = codes "{\"accepted\":" ++ decimal accepted ++ codes ",\"repeated\":" ++ decimal repeated ++ codes "}"
+
+abbrev pub tally_data : ℕ → ℕ → Data
+tally_data accepted repeated = object (member (codes "accepted") (count accepted) (member (codes "repeated") (count repeated) no_members))
+
+-- the act of a command, with one field more or none
+abbrev pub act_text : ℕ → List ℕ → List ℕ
+act_text act further = codes "{\"act\":" ++ decimal act ++ further ++ codes "}"
+
+abbrev pub act_data : ℕ → Members → Data
+act_data act further = object (member (codes "act") (count act) further)
+
+-- a whole number of either sign
+abbrev pub whole : ℤ → Data
+whole (pos n) = number (unsigned n)
+whole (negsuc n) = number (negative (negsuc n))

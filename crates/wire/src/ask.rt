@@ -1,0 +1,38 @@
+use commands::{Command, Key, Listed};
+use label::{Gtin, LineNo, LotId, Name, Qty};
+
+/// What a GET shows.
+#[derive(Clone, Copy)]
+pub enum Query {
+    /// The stock of an item.
+    Stock(Gtin),
+    /// An order.
+    Order(Name),
+    /// The pick list of an order.
+    PickList(Name),
+    /// The bookings of an item that are short.
+    Shortages(Gtin),
+    /// The stock card of a lot.
+    Card(LotId),
+    /// The recall notice of a lot.
+    Notice(LotId),
+}
+
+/// What a request asks.
+#[derive(Drop)]
+pub enum Ask {
+    /// To act on a command.
+    Do(Key, Command),
+    /// To receive the goods whose label was scanned. The label is not yet read.
+    Scan {
+        delivery: Name,
+        line: LineNo,
+        label: Listed<u8>,
+        bin: Name,
+        qty: Qty,
+    },
+    /// To receive the goods of a file, which is not yet read.
+    GoodsIn(Listed<u8>),
+    /// To show something.
+    Show(Query),
+}

@@ -1,0 +1,108 @@
+ghost use Rattle.std.specs.Prelude.{◌≡◌, IfOk, map};
+ghost use Rattle.serde_json.specs.Data.{array};
+ghost use Rattle.serde_json.specs.View.{view, items_of};
+ghost use Rattle.serde_json.specs.Written.{compact_text};
+ghost use Rattle.wire.specs.Views.{bin_members, bin_data, status_text as status_text_lem, lot_members, lot_stock_data, stock_members, stock_data};
+
+use crate::text::{gtin_text, lot_text, name_text, readable, title_text};
+use commands::{BinUnits, LotStatus, LotView, StockView};
+use serde_json::{Value, json};
+use std::alloc::{AllocError, Global};
+
+fn bin_json(alloc: Global, bin: &str, qty: u64) -> Result<Value, AllocError>
+    ensures { IfOk result (λ v. view v ≡ bin_members bin.now qty) }
+{
+    json!(in alloc; {"bin": bin, "qty": qty})
+}
+
+fn bin_values(alloc: Global, bins: &[BinUnits]) -> Result<Vec<Value>, AllocError>
+    ensures { IfOk result (λ vs. map view vs.items ≡ map bin_data bins.now) }
+{
+    let mut values = Vec::new(alloc);
+    for one in bins {
+        values.push(bin_json(alloc, name_text(&one.bin), one.qty)?)?;
+    }
+    Ok(values)
+}
+
+fn status_text(status: LotStatus) -> &'static str
+    ensures { result.now ≡ status_text_lem status }
+{
+    match status {
+        LotStatus::Recalled => "RECALLED",
+        LotStatus::Held => "HELD",
+        LotStatus::Expired => "EXPIRED",
+        LotStatus::Free => "FREE",
+    }
+}
+
+fn lot_json(
+    alloc: Global,
+    bins: Vec<Value>,
+    expiry: &str,
+    lot: &str,
+    reserved: u64,
+    staged: u64,
+    status: &str,
+) -> Result<Value, AllocError>
+    ensures { IfOk result (λ v. view v
+        ≡ lot_members (array (items_of (map view bins.items))) expiry.now lot.now reserved staged status.now) }
+{
+    let bins = Value::Array(bins);
+    json!(in alloc; {"bins": bins, "expiry": expiry, "lot": lot, "reserved": reserved, "staged": staged, "status": status})
+}
+
+#[tactic(auto, using(crate::proofs::Texts::day_is_utf8))]
+fn lot_value(alloc: Global, lot: &LotView) -> Result<Value, AllocError>
+    ensures { IfOk result (λ v. view v ≡ lot_stock_data lot.now) }
+{
+    let bins = bin_values(alloc, lot.bins.as_slice())?;
+    let expiry = lot.expiry.text();
+    lot_json(
+        alloc,
+        bins,
+        readable(expiry.as_slice()),
+        lot_text(&lot.lot),
+        lot.reserved,
+        lot.staged,
+        status_text(lot.status),
+    )
+}
+
+fn lot_values(alloc: Global, lots: &[LotView]) -> Result<Vec<Value>, AllocError>
+    ensures { IfOk result (λ vs. map view vs.items ≡ map lot_stock_data lots.now) }
+{
+    let mut values = Vec::new(alloc);
+    for lot in lots {
+        values.push(lot_value(alloc, lot)?)?;
+    }
+    Ok(values)
+}
+
+fn object_json(alloc: Global, gtin: &str, lots: Vec<Value>, name: &str) -> Result<Value, AllocError>
+    ensures { IfOk result (λ v. view v
+        ≡ stock_members gtin.now (array (items_of (map view lots.items))) name.now) }
+{
+    let lots = Value::Array(lots);
+    json!(in alloc; {"gtin": gtin, "lots": lots, "name": name})
+}
+
+fn stock_value(alloc: Global, shown: &StockView) -> Result<Value, AllocError>
+    ensures { IfOk result (λ v. view v ≡ stock_data shown.now) }
+{
+    let lots = lot_values(alloc, shown.lots.as_slice())?;
+    object_json(
+        alloc,
+        gtin_text(&shown.item.gtin),
+        lots,
+        title_text(&shown.item.name),
+    )
+}
+
+/// The stock of an item as compact JSON.
+pub fn stock_json(alloc: Global, shown: &StockView) -> Result<Vec<u8>, AllocError>
+    ensures { IfOk result (λ b. b.items ≡ compact_text (stock_data shown.now)) }
+{
+    let value = stock_value(alloc, shown)?;
+    value.to_vec(alloc)
+}
