@@ -1,0 +1,320 @@
+ghost use Rattle.std.specs.Prelude.{◌≡◌, false, IsTrue, IfOk};
+ghost use Rattle.sqlite_disk.specs.Memory.{memory_is_usable};
+
+use crate::creation::create_tables;
+use crate::opening::{is_blank, ready};
+use crate::samples;
+use commands::{BinKind, CardKind, OrderState};
+use goods_tables::bins::{all_bins, bins_of, drop_bin, put_bin};
+use goods_tables::items::{all_items, drop_item, items_of, put_item};
+use goods_tables::lots::{all_lots, drop_lot, lots_of, put_lot};
+use goods_tables::meta::{meta_rows, put_meta};
+use goods_tables::recalls::{drop_recall, put_recall, recalls_of};
+use goods_tables::stock::{drop_stock, put_stock, stock_of};
+use history_tables::cards::{cards_of_lot, drop_card, put_card};
+use history_tables::repeats::{drop_repeat, put_repeat, repeats_of};
+use history_tables::shiplines::{drop_shipline, put_shipline, shiplines_of_lot};
+use history_tables::shipments::{drop_shipment, put_shipment, shipments_of};
+use order_tables::lines::{drop_line, lines_of_item, lines_of_order, put_line};
+use order_tables::orders::{drop_order, orders_of, put_order};
+use order_tables::reserved::{drop_reserved, put_reserved, reserved_of_item};
+use order_tables::staged::{all_staged, drop_staged, put_staged, staged_of_item};
+use sqlite::{Alter, Connection, Error, FileStore, Files, Options, Transaction};
+use sqlite_disk::Memory;
+use std::alloc::Global;
+use std::process::Abort;
+use std::test::Fail;
+
+fn makes<S: Alter>(tx: &mut Transaction<'_, S>) -> Result<(), Fail> {
+    create_tables(tx)?;
+    Ok(())
+}
+
+fn goods<S: Alter>(
+    rt: &impl Abort,
+    alloc: Global,
+    tx: &mut Transaction<'_, S>,
+) -> Result<(), Fail> {
+    put_meta(tx, &samples::meta(rt, 13))?;
+    put_meta(tx, &samples::meta(rt, 14))?;
+    put_item(tx, &samples::item(rt))?;
+    put_bin(tx, &samples::bin(rt))?;
+    put_lot(tx, &samples::known_lot(rt))?;
+    put_recall(tx, &samples::recall(rt))?;
+    put_stock(tx, &samples::stock(rt, b"A-01", 3))?;
+    put_stock(tx, &samples::stock(rt, b"B-02", 5))?;
+    put_stock(tx, &samples::stock(rt, b"A-01", 4))?;
+    Ok(())
+}
+
+fn orders<S: Alter>(
+    rt: &impl Abort,
+    alloc: Global,
+    tx: &mut Transaction<'_, S>,
+) -> Result<(), Fail> {
+    put_order(tx, &samples::order(rt))?;
+    put_line(tx, &samples::line(rt))?;
+    put_staged(tx, &samples::staged(rt))?;
+    put_reserved(tx, &samples::reserved(rt))?;
+    Ok(())
+}
+
+fn history<S: Alter>(
+    rt: &impl Abort,
+    alloc: Global,
+    tx: &mut Transaction<'_, S>,
+) -> Result<(), Fail> {
+    put_shipment(tx, &samples::shipment(rt, 13))?;
+    put_shipment(tx, &samples::shipment(rt, 14))?;
+    put_shipline(tx, &samples::shipline(rt))?;
+    put_card(tx, &samples::card(rt))?;
+    put_repeat(tx, &samples::repeat(rt, alloc)?)?;
+    Ok(())
+}
+
+fn finds_goods<S: Alter>(
+    rt: &impl Abort,
+    alloc: Global,
+    tx: &mut Transaction<'_, S>,
+) -> Result<(), Fail> {
+    let meta = meta_rows(alloc, tx)?;
+    assert_eq!(rt; meta.len(), 1);
+    assert_eq!(rt; meta[0].acts, 14);
+    let items = items_of(alloc, tx, &samples::gtin(rt))?;
+    assert_eq!(rt; items.len(), 1);
+    assert!(rt; items[0].name.as_bytes() == b"Oat drink 1 l".as_slice());
+    let bins = bins_of(alloc, tx, &samples::name(rt, b"A-01"))?;
+    assert_eq!(rt; bins.len(), 1);
+    assert!(rt; matches!(bins[0].kind, BinKind::Hold));
+    assert_eq!(rt; all_items(alloc, tx)?.len(), 1);
+    assert_eq!(rt; all_bins(alloc, tx)?.len(), 1);
+    Ok(())
+}
+
+fn finds_lots<S: Alter>(
+    rt: &impl Abort,
+    alloc: Global,
+    tx: &mut Transaction<'_, S>,
+) -> Result<(), Fail> {
+    let lots = lots_of(alloc, tx, &samples::gtin(rt))?;
+    assert_eq!(rt; lots.len(), 1);
+    assert_eq!(rt; lots[0].expiry.number(), -6940);
+    assert!(rt; lots[0].held);
+    assert_eq!(rt; all_lots(alloc, tx)?.len(), 1);
+    let recalls = recalls_of(alloc, tx, &samples::gtin(rt))?;
+    assert_eq!(rt; recalls.len(), 1);
+    assert_eq!(rt; recalls[0].act, 9);
+    let stock = stock_of(alloc, tx, &samples::gtin(rt))?;
+    assert_eq!(rt; stock.len(), 2);
+    assert_eq!(rt; stock[0].qty, 4);
+    assert_eq!(rt; stock[1].qty, 5);
+    Ok(())
+}
+
+fn finds_orders<S: Alter>(
+    rt: &impl Abort,
+    alloc: Global,
+    tx: &mut Transaction<'_, S>,
+) -> Result<(), Fail> {
+    let orders = orders_of(alloc, tx, &samples::name(rt, b"S-1"))?;
+    assert_eq!(rt; orders.len(), 1);
+    assert!(rt; matches!(orders[0].state, OrderState::Cancelled));
+    let lines = lines_of_order(alloc, tx, &samples::name(rt, b"S-1"))?;
+    assert_eq!(rt; lines.len(), 1);
+    assert_eq!(rt; lines[0].shipped, 5);
+    assert_eq!(rt; lines_of_item(alloc, tx, &samples::gtin(rt))?.len(), 1);
+    let staged = staged_of_item(alloc, tx, &samples::gtin(rt))?;
+    assert_eq!(rt; staged.len(), 1);
+    assert_eq!(rt; staged[0].qty, 7);
+    assert_eq!(rt; all_staged(alloc, tx)?.len(), 1);
+    let reserved = reserved_of_item(alloc, tx, &samples::gtin(rt))?;
+    assert_eq!(rt; reserved.len(), 1);
+    assert_eq!(rt; reserved[0].qty, 8);
+    Ok(())
+}
+
+fn finds_history<S: Alter>(
+    rt: &impl Abort,
+    alloc: Global,
+    tx: &mut Transaction<'_, S>,
+) -> Result<(), Fail> {
+    let shipments = shipments_of(alloc, tx, 1)?;
+    assert_eq!(rt; shipments.len(), 1);
+    assert_eq!(rt; shipments[0].act, 14);
+    let shipped = shiplines_of_lot(alloc, tx, &samples::lot(rt))?;
+    assert_eq!(rt; shipped.len(), 1);
+    assert_eq!(rt; shipped[0].qty, 5);
+    let cards = cards_of_lot(alloc, tx, &samples::lot(rt))?;
+    assert_eq!(rt; cards.len(), 1);
+    assert_eq!(rt; cards[0].qty, -3);
+    assert!(rt; matches!(cards[0].kind, CardKind::WriteOff));
+    let repeats = repeats_of(alloc, tx, &samples::key(rt))?;
+    assert_eq!(rt; repeats.len(), 1);
+    assert!(rt; repeats[0].spell.as_slice() == b"SHIP\nS-1".as_slice());
+    Ok(())
+}
+
+fn drops_goods<S: Alter>(
+    rt: &impl Abort,
+    alloc: Global,
+    tx: &mut Transaction<'_, S>,
+) -> Result<(), Fail> {
+    drop_item(tx, &samples::gtin(rt))?;
+    drop_bin(tx, &samples::name(rt, b"A-01"))?;
+    drop_lot(tx, &samples::lot(rt))?;
+    drop_recall(tx, &samples::lot(rt))?;
+    drop_stock(tx, &samples::lot(rt), &samples::name(rt, b"A-01"))?;
+    Ok(())
+}
+
+fn drops_orders<S: Alter>(
+    rt: &impl Abort,
+    alloc: Global,
+    tx: &mut Transaction<'_, S>,
+) -> Result<(), Fail> {
+    drop_order(tx, &samples::name(rt, b"S-1"))?;
+    drop_line(tx, &samples::name(rt, b"S-1"), &samples::gtin(rt))?;
+    drop_staged(tx, &samples::name(rt, b"S-1"), &samples::lot(rt))?;
+    drop_reserved(tx, &samples::name(rt, b"S-1"), &samples::lot(rt))?;
+    Ok(())
+}
+
+fn drops_history<S: Alter>(
+    rt: &impl Abort,
+    alloc: Global,
+    tx: &mut Transaction<'_, S>,
+) -> Result<(), Fail> {
+    drop_shipment(tx, 1)?;
+    drop_shipline(tx, 1, &samples::lot(rt))?;
+    drop_card(tx, &samples::lot(rt), 14)?;
+    drop_repeat(tx, &samples::key(rt))?;
+    Ok(())
+}
+
+fn left_of_goods<S: Alter>(
+    rt: &impl Abort,
+    alloc: Global,
+    tx: &mut Transaction<'_, S>,
+) -> Result<usize, Fail> {
+    let items = all_items(alloc, tx)?.len();
+    let bins = all_bins(alloc, tx)?.len();
+    let lots = all_lots(alloc, tx)?.len();
+    let recalls = recalls_of(alloc, tx, &samples::gtin(rt))?.len();
+    assert_eq!(rt; items, 0);
+    assert_eq!(rt; bins, 0);
+    assert_eq!(rt; lots, 0);
+    assert_eq!(rt; recalls, 0);
+    Ok(stock_of(alloc, tx, &samples::gtin(rt))?.len())
+}
+
+fn left_of_orders<S: Alter>(
+    rt: &impl Abort,
+    alloc: Global,
+    tx: &mut Transaction<'_, S>,
+) -> Result<(), Fail> {
+    assert_eq!(rt; orders_of(alloc, tx, &samples::name(rt, b"S-1"))?.len(), 0);
+    assert_eq!(rt; lines_of_item(alloc, tx, &samples::gtin(rt))?.len(), 0);
+    assert_eq!(rt; all_staged(alloc, tx)?.len(), 0);
+    assert_eq!(rt; reserved_of_item(alloc, tx, &samples::gtin(rt))?.len(), 0);
+    Ok(())
+}
+
+fn left_of_history<S: Alter>(
+    rt: &impl Abort,
+    alloc: Global,
+    tx: &mut Transaction<'_, S>,
+) -> Result<(), Fail> {
+    assert_eq!(rt; shipments_of(alloc, tx, 1)?.len(), 0);
+    assert_eq!(rt; shiplines_of_lot(alloc, tx, &samples::lot(rt))?.len(), 0);
+    assert_eq!(rt; cards_of_lot(alloc, tx, &samples::lot(rt))?.len(), 0);
+    assert_eq!(rt; repeats_of(alloc, tx, &samples::key(rt))?.len(), 0);
+    Ok(())
+}
+
+fn fills<S: Alter>(rt: &impl Abort, alloc: Global, conn: &mut Connection<S>) -> Result<(), Fail> {
+    assert!(rt; is_blank(conn));
+    if !conn.is_autocommit() {
+        return Ok(());
+    }
+    let mut tx = conn.transaction();
+    makes(&mut tx)?;
+    goods(rt, alloc, &mut tx)?;
+    orders(rt, alloc, &mut tx)?;
+    history(rt, alloc, &mut tx)?;
+    tx.commit()?;
+    assert!(rt; !is_blank(conn));
+    Ok(())
+}
+
+fn finds<S: Alter>(rt: &impl Abort, alloc: Global, conn: &mut Connection<S>) -> Result<(), Fail> {
+    if !conn.is_autocommit() {
+        return Ok(());
+    }
+    let mut tx = conn.transaction();
+    finds_goods(rt, alloc, &mut tx)?;
+    finds_lots(rt, alloc, &mut tx)?;
+    finds_orders(rt, alloc, &mut tx)?;
+    finds_history(rt, alloc, &mut tx)?;
+    tx.commit()?;
+    Ok(())
+}
+
+fn drops<S: Alter>(rt: &impl Abort, alloc: Global, conn: &mut Connection<S>) -> Result<(), Fail> {
+    if !conn.is_autocommit() {
+        return Ok(());
+    }
+    let mut tx = conn.transaction();
+    drops_goods(rt, alloc, &mut tx)?;
+    drops_orders(rt, alloc, &mut tx)?;
+    drops_history(rt, alloc, &mut tx)?;
+    assert_eq!(rt; left_of_goods(rt, alloc, &mut tx)?, 1);
+    left_of_orders(rt, alloc, &mut tx)?;
+    left_of_history(rt, alloc, &mut tx)?;
+    tx.commit()?;
+    Ok(())
+}
+
+#[test]
+fn each_table_in_memory(rt: HostRuntime) -> Result<(), Fail> {
+    let mut made = Connection::open_in_memory(rt.alloc())?;
+    fills(&rt, rt.alloc(), &mut made)?;
+    let mut conn = ready(rt.alloc(), made)?;
+    finds(&rt, rt.alloc(), &mut conn)?;
+    drops(&rt, rt.alloc(), &mut conn)
+}
+
+fn open(alloc: Global, log: Memory, db: Memory) -> Result<Connection<FileStore<Memory>>, Error>
+    requires { IsTrue (memory_is_usable log) × IsTrue (memory_is_usable db) }
+{
+    match Connection::open_files(alloc, Files { log, db }, Options::new(1)) {
+        Ok(conn) => Ok(conn),
+        Err((error, _)) => Err(error),
+    }
+}
+
+fn close(conn: Connection<FileStore<Memory>>) -> Result<Memory, Error>
+    ensures { IfOk result (λ db. IsTrue (memory_is_usable db)) }
+{
+    match conn.close_files() {
+        Ok(Files { log: _, db }) => Ok(db),
+        Err(failed) => Err(failed.0),
+    }
+}
+
+#[test]
+fn each_table_in_a_file(rt: HostRuntime) -> Result<(), Fail> {
+    let mut made = open(rt.alloc(), Memory::new(rt.alloc()), Memory::new(rt.alloc()))?;
+    fills(&rt, rt.alloc(), &mut made)?;
+    let db = close(made)?;
+    let mut conn = ready(rt.alloc(), open(rt.alloc(), Memory::new(rt.alloc()), db)?)?;
+    finds(&rt, rt.alloc(), &mut conn)?;
+    drops(&rt, rt.alloc(), &mut conn)
+}
+
+// A database with another table, or with none, is not one of books.
+#[test]
+fn another_schema_is_foreign(rt: HostRuntime) -> Result<(), Fail> {
+    let made = Connection::open_in_memory(rt.alloc())?;
+    assert!(rt; ready(rt.alloc(), made).is_err());
+    Ok(())
+}
