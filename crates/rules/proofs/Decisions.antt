@@ -7,6 +7,7 @@ use Rattle.commands.specs.declared.limits.TheConstants.{ACTS_MAX}
 use Rattle.commands.specs.declared.key.Key.{Key}
 use Rattle.commands.specs.declared.refusal.Refusal.{Refusal}
 use Rattle.commands.specs.declared.command.Command.{Command}
+use Rattle.commands.specs.declared.rows.MetaRow.{MetaRow}
 use Rattle.rules.specs.Acts.{Act, next_number}
 use Rattle.rules.specs.Standing.{today, shipments_so_far}
 use Rattle.rules.specs.Verdict.{Judgement, first_refusal, verdict}
@@ -90,18 +91,23 @@ module _ (key : Key) (s : Slice) (command other : Command) (is : command ≡ oth
 
 -- What the slice of any command tells of its act
 
+meta_or : MetaRow → Option MetaRow → MetaRow
+meta_or other None = other
+meta_or other (Some row) = row
+
 module _ (first : ℤ) (acts : List Act) (act : Act) (s : Slice) (slice : IsSlice first act acts (tables_of first acts) s) where
+  pub meta_seen : s.meta ≡ meta_row first acts
+  unfolding tables_of meta_or
+  meta_seen = ap (meta_or s.meta) (sym slice.meta)
+
   pub acts_seen : s.meta.acts ≡ length acts
-  unfolding tables_of
-  acts_seen = ap (λ m. m.acts) slice.meta
+  acts_seen = ap (λ m. m.acts) meta_seen
 
   pub day_seen : s.meta.day ≡ today first acts
-  unfolding tables_of
-  day_seen = ap (λ m. m.day) slice.meta
+  day_seen = ap (λ m. m.day) meta_seen
 
   pub shipments_seen : s.meta.shipments ≡ shipments_so_far first acts
-  unfolding tables_of
-  shipments_seen = ap (λ m. m.shipments) slice.meta
+  shipments_seen = ap (λ m. m.shipments) meta_seen
 
   module _ (room : nat_le ACTS_MAX (length acts) ≡ false) where
     pub number_same : number_seen s ≡ next_number acts

@@ -125,15 +125,7 @@ the_card_ends_with_the_write_off = refl
 
 -- the tables
 
-the_books_are_marked : (tables_of may_4 []).mark ≡ codes "LOTSTOCK"
-unfolding tables_of
-the_books_are_marked = refl
-
-the_schema_is_the_first : (tables_of may_4 []).version ≡ 1
-unfolding tables_of
-the_schema_is_the_first = refl
-
-the_acts_are_counted : (tables_of may_4 with_early_lot).meta ≡ record { day = may_4; acts = 10; shipments = 0 }
+the_acts_are_counted : (tables_of may_4 with_early_lot).meta ≡ Some (record { day = may_4; acts = 10; shipments = 0 })
 unfolding tables_of
 the_acts_are_counted = refl
 

@@ -63,7 +63,7 @@ module _ (first : ℤ) (acts : List Act) (act : Act) (s : Slice) (slice : IsSlic
   unfolding tables_of
   stock_are = slice.stock
 
-  staged_are : AreRows same_share (λ r. (r.order, r.lot)) (λ (k : OrderLot). names_order act.command k.0 || is_touched first act acts k.1.gtin) (λ (k : OrderLot). names_order act.command k.0 || is_touched first act acts k.1.gtin) (λ k. staged_row first acts k.0 k.1) s.rows.staged
+  staged_are : AreRows same_share (λ r. (r.order, r.lot)) (λ (k : OrderLot). is_touched first act acts k.1.gtin) (λ (k : OrderLot). is_touched first act acts k.1.gtin) (λ k. staged_row first acts k.0 k.1) s.rows.staged
   unfolding tables_of
   staged_are = slice.staged
 
@@ -73,7 +73,7 @@ module _ (first : ℤ) (acts : List Act) (act : Act) (s : Slice) (slice : IsSlic
       let legal = legal_history first acts history in
       holds_split (postings first acts) legal (bin_cells (λ l b. of_item g l)) (λ p l. in_house p && of_item g l) (record { supplier = λ m. refl; write_off = λ m. refl }) (record { supplier = λ m. refl; write_off = λ m. refl }) bins_inside
       ∙ (λ i. stock_holds first acts legal (λ l b. of_item g l) _ _ s.rows.stock stock_are (λ l b e. touched_item l e) i
-      + ((λ j. holds (λ p l. stages_left p l j) (postings first acts)) ∙ staged_holds first acts legal (λ l o. of_item g l) _ _ s.rows.staged staged_are (λ l o e. or_later (names_order act.command o) _ (touched_item l e))) i)
+      + ((λ j. holds (λ p l. stages_left p l j) (postings first acts)) ∙ staged_holds first acts legal (λ l o. of_item g l) _ _ s.rows.staged staged_are (λ l o e. touched_item l e)) i)
 
   more_than : (a b m n : ℕ) → n ≡ a + b → nat_lt UNITS_MAX (capped (capped (capped a + capped b) + m)) ≡ nat_lt (UNITS_MAX + 0) (n + m)
   more_than a b m n e =

@@ -51,7 +51,7 @@ module _ (first : ℤ) (acts : List Act) (key : Key) (s : Slice) where
 
     item_step : (text : List ℕ) → applied (item_change text) (tables_of first acts) ≡ tables_but_repeats first item_act acts
     unfolding applied tables_of
-    item_step text = same_tables (applied (item_change text) (tables_of first acts)) (tables_but_repeats first item_act acts) refl refl refl
+    item_step text = same_tables (applied (item_change text) (tables_of first acts)) (tables_but_repeats first item_act acts) refl
         (λ g. put_found shown_item (same_text g i.gtin) i (find (λ x. same_text g x.gtin) (items acts)))
         (λ b. refl) (λ l. refl) (λ l. refl) (λ l b. refl) (λ o. refl) (λ o g. refl) (λ o l. refl) (reserved_changed first item_act acts [] [] item_named) (λ n. refl) (λ n l. refl) (λ l n. refl) (λ k. refl)
 
@@ -89,7 +89,7 @@ module _ (first : ℤ) (acts : List Act) (key : Key) (s : Slice) where
 
       bin_step : (text : List ℕ) → applied (bin_change text) (tables_of first acts) ≡ tables_but_repeats first bin_act acts
       unfolding applied tables_of
-      bin_step text = same_tables (applied (bin_change text) (tables_of first acts)) (tables_but_repeats first bin_act acts) refl refl refl
+      bin_step text = same_tables (applied (bin_change text) (tables_of first acts)) (tables_but_repeats first bin_act acts) refl
           (λ g. refl)
           (λ n. put_found shown_bin (same_text n b.bin) b (find (λ x. same_text n x.bin) (bins acts)))
           (λ l. refl) (λ l. refl) (λ l b. refl) (λ o. refl) (λ o g. refl) (λ o l. refl) (reserved_changed first bin_act acts [] [] bin_named) (λ n. refl) (λ n l. refl) (λ l n. refl) (λ k. refl)

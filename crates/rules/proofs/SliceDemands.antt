@@ -44,7 +44,7 @@ module _ (first : ℤ) (acts : List Act) (act : Act) (s : Slice) (slice : IsSlic
   unfolding tables_of
   line_are = slice.lines
 
-  staged_are : AreRows same_share (λ (r : StagedRow). (r.order, r.lot)) (λ (k : OrderLot). names_order act.command k.0 || is_touched first act acts k.1.gtin) (λ (k : OrderLot). names_order act.command k.0 || is_touched first act acts k.1.gtin) (λ k. staged_row first acts k.0 k.1) s.rows.staged
+  staged_are : AreRows same_share (λ (r : StagedRow). (r.order, r.lot)) (λ (k : OrderLot). is_touched first act acts k.1.gtin) (λ (k : OrderLot). is_touched first act acts k.1.gtin) (λ k. staged_row first acts k.0 k.1) s.rows.staged
   unfolding tables_of
   staged_are = slice.staged
 
@@ -55,5 +55,5 @@ module _ (first : ℤ) (acts : List Act) (act : Act) (s : Slice) (slice : IsSlic
     lines = loosened same_line (λ (r : LineRow). (r.order, r.gtin)) _ (λ k. is_open first acts k.0 && same_text g k.1) _ (λ k. true) (λ k. line_row first acts k.0 k.1) (λ k. line_row first acts k.0 k.1) s.rows.lines
         (λ k e. let two = and_both (is_open first acts k.0) (same_text g k.1) e in or_later (names_order act.command k.0) _ (λ i. two.0 i && touched_item k.1 two.1 i)) (λ k e. refl) (λ k. refl) line_are;
     staged = loosened same_share (λ (r : StagedRow). (r.order, r.lot)) _ (λ k. of_item g k.1) _ (λ k. true) (λ k. staged_row first acts k.0 k.1) (λ k. staged_row first acts k.0 k.1) s.rows.staged
-        (λ k e. or_later (names_order act.command k.0) _ (touched_item k.1.gtin e)) (λ k e. refl) (λ k. refl) staged_are;
+        (λ k e. touched_item k.1.gtin e) (λ k e. refl) (λ k. refl) staged_are;
   }

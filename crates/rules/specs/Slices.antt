@@ -33,9 +33,7 @@ changed test put dropped old = unless_put (find test put) (list_any test dropped
 -- the tables after a change; `repeats` is written by others
 unfoldable pub applied : Change → Tables → Tables
 applied c t = record {
-  mark = t.mark;
-  version = t.version;
-  meta = c.meta;
+  meta = Some c.meta;
   item = λ g. changed (λ r. same_text g r.gtin) c.put.items c.dropped.items (t.item g);
   bin = λ b. changed (λ r. same_text b r.name) c.put.bins c.dropped.bins (t.bin b);
   lot = λ l. changed (λ r. is_lot l r.lot) c.put.lots c.dropped.lots (t.lot l);
@@ -111,7 +109,7 @@ same_share k m = same_text k.0 m.0 && is_lot k.1 m.1
 -- the slice has the rows of the items that the command touches, with the rows of the order that it names, of the
 -- bins that it names or that hold units of those items, and of the orders with a line of those items
 pub record IsSlice (first : ℤ) (act : Act) (acts : List Act) (t : Tables) (s : Slice) : Type 0 where
-  pub meta : s.meta ≡ t.meta
+  pub meta : t.meta ≡ Some s.meta
   pub items_counted : s.items ≡ length (items acts)
   pub bins_counted : s.bins ≡ length (bins acts)
   pub items : AreRows same_text (λ r. r.gtin) (is_touched first act acts) (is_touched first act acts) t.item s.rows.items
@@ -128,11 +126,9 @@ pub record IsSlice (first : ℤ) (act : Act) (acts : List Act) (t : Tables) (s :
       (λ k. names_order act.command k.0 || (is_open first acts k.0 && is_touched first act acts k.1))
       (λ k. names_order act.command k.0 || is_touched first act acts k.1) (λ k. t.line k.0 k.1) s.rows.lines
   pub staged : AreRows same_share (λ r. (r.order, r.lot))
-      (λ k. names_order act.command k.0 || is_touched first act acts k.1.gtin)
-      (λ k. names_order act.command k.0 || is_touched first act acts k.1.gtin) (λ k. t.staged k.0 k.1) s.rows.staged
+      (λ k. is_touched first act acts k.1.gtin) (λ k. is_touched first act acts k.1.gtin) (λ k. t.staged k.0 k.1) s.rows.staged
   pub reserved : AreRows same_share (λ r. (r.order, r.lot))
-      (λ k. names_order act.command k.0 || is_touched first act acts k.1.gtin)
-      (λ k. names_order act.command k.0 || is_touched first act acts k.1.gtin) (λ k. t.reserved k.0 k.1) s.rows.reserved
+      (λ k. is_touched first act acts k.1.gtin) (λ k. is_touched first act acts k.1.gtin) (λ k. t.reserved k.0 k.1) s.rows.reserved
 
 -- no key twice, so that it does not matter in which order the rows are written
 pub record AreOnce (rows : Rows) : Type 0 where

@@ -1,9 +1,9 @@
--- The rows of the tables that the acts give. A table is seen as a look-up by its primary key.
+-- The rows of the tables that the acts give.
 use Rattle.std.specs.Prelude.{ℕ, ◌&&◌, ◌==◌, if◌then◌else◌, List, [], ◌∷◌, length, find, Option, Some, None, option_map, ℤ}
 use Rattle.label.specs.Values.{same_text}
 use Rattle.label.specs.declared.lot.LotId.{LotId}
-use Rattle.commands.specs.declared.limits.TheConstants.{MARK, SCHEMA_VERSION}
 use Rattle.commands.specs.Spelling.{key_text, spelling}
+pub use Rattle.commands.specs.Tables.{Tables}
 use Rattle.commands.specs.declared.rows.MetaRow.{MetaRow}
 use Rattle.commands.specs.declared.rows.ItemRow.{ItemRow}
 use Rattle.commands.specs.declared.rows.BinRow.{BinRow}
@@ -25,26 +25,6 @@ use Rattle.rules.specs.Ledger.{postings}
 use Rattle.rules.specs.Planning.{in_bin, staged_of_lot, shipped_of, reserved, order_state}
 use Rattle.rules.specs.Cards.{cards}
 use Rattle.rules.specs.Replies.{reply}
-
--- the fourteen tables; `mark`, `version` and `meta` are the one row of `meta`, the first two saying what the books are
--- and in which schema
-pub record Tables : Type 0 where
-  pub mark : List ℕ
-  pub version : ℕ
-  pub meta : MetaRow
-  pub item : (gtin : List ℕ) → Option ItemRow
-  pub bin : (name : List ℕ) → Option BinRow
-  pub lot : LotId → Option LotRow
-  pub recall : LotId → Option RecallRow
-  pub stock : LotId → (bin : List ℕ) → Option StockRow
-  pub order : (order : List ℕ) → Option OrderRow
-  pub line : (order gtin : List ℕ) → Option LineRow
-  pub staged : (order : List ℕ) → LotId → Option StagedRow
-  pub reserved : (order : List ℕ) → LotId → Option ReservedRow
-  pub shipment : (number : ℕ) → Option ShipmentRow
-  pub shipline : (number : ℕ) → LotId → Option ShiplineRow
-  pub card : LotId → (act : ℕ) → Option CardRow
-  pub repeat : (k : List ℕ) → Option RepeatRow
 
 -- a row of a quantity, where it is not 0
 abbrev pub if_any : {X : Type 0} → ℕ → X → Option X
@@ -101,9 +81,7 @@ meta_row first acts = record { day = today first acts; acts = length acts; shipm
 -- the tables of the acts
 unfoldable pub tables_of : ℤ → List Act → Tables
 tables_of first acts = record {
-  mark = MARK.now;
-  version = SCHEMA_VERSION;
-  meta = meta_row first acts;
+  meta = Some (meta_row first acts);
   item = item_row acts;
   bin = bin_row acts;
   lot = lot_row acts;

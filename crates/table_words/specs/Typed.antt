@@ -7,6 +7,7 @@ use Rattle.sqlite.specs.Tree.{Trees}
 use Rattle.label.specs.Values.{is_gtin, is_lot_text, is_name, is_title, is_day, is_business_day}
 use Rattle.label.specs.declared.lot.LotId.{LotId}
 use Rattle.commands.specs.Spelling.{kind_text}
+pub use Rattle.commands.specs.Tables.{Tables}
 use Rattle.commands.specs.declared.limits.TheConstants.{UNITS_MAX, ACTS_MAX, SHORT_MAX, KEY_TEXT_MAX, CARD_NOTE_MAX, SCHEMA_VERSION}
 use Rattle.table_words.specs.Cells.{typed, is_word, is_the_text, fits_in, is_any, is_number, is_the_number, number_in, is_signed, is_any_number, signed_in, flag_number, flag_in, is_bin_kind, bin_kind_in, order_state_text, is_order_state, order_state_in, card_kind_text, is_card_kind, card_kind_in}
 use Rattle.commands.specs.declared.rows.MetaRow.{MetaRow}
@@ -525,22 +526,6 @@ abbrev pub repeats_of_rows : List ℕ → Trees → List Row
 repeats_of_rows k trees = filter (λ r. is_the_text k (column r 1)) (trees repeats_tree)
 
 -- ---- the tables
-
-pub record Tables : Type 0 where
-  pub meta : Option MetaRow
-  pub item : List ℕ → Option ItemRow
-  pub bin : List ℕ → Option BinRow
-  pub lot : LotId → Option LotRow
-  pub recall : LotId → Option RecallRow
-  pub stock : LotId → List ℕ → Option StockRow
-  pub order : List ℕ → Option OrderRow
-  pub line : List ℕ → List ℕ → Option LineRow
-  pub staged : List ℕ → LotId → Option StagedRow
-  pub reserved : List ℕ → LotId → Option ReservedRow
-  pub shipment : ℕ → Option ShipmentRow
-  pub shipline : ℕ → LotId → Option ShiplineRow
-  pub card : LotId → ℕ → Option CardRow
-  pub repeat : List ℕ → Option RepeatRow
 
 abbrev pub tables_in : Trees → Tables
 tables_in trees = record {
