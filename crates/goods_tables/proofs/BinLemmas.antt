@@ -1,6 +1,6 @@
 -- What the statements on `bins` mean, and what they make of the tables.
 use Rattle.std.proofs.Common.{◌≡◌, ◌≢◌, ◌≤◌, ℕ, ℤ, Bool, true, false, not, ◌&&◌, ◌||◌, cond, List, [], ◌∷◌, codes, map, filter, find, length, pos, Ok, Err, Some, None, inl, inr, IsTrue, refl, sym, ap, ap₂, subst, ◌∙◌, bytes_eq, Equal}
-use Rattle.std.specs.Prelude.{nat_eq, if◌then◌else◌, Option}
+use Rattle.std.specs.Prelude.{◌↔◌, nat_eq, if◌then◌else◌, Option}
 use Rattle.std.specs.List.{AllByRecursion}
 use Rattle.std.proofs.lemmas.Bool.{and_parts}
 use Rattle.sqlite.specs.declared.types.Value.{Value}
@@ -29,6 +29,7 @@ use Rattle.label.specs.declared.lot.LotId.{LotId}
 use Rattle.commands.specs.Spelling.{kind_text}
 use Rattle.commands.specs.declared.limits.TheConstants.{UNITS_MAX, ACTS_MAX, SHORT_MAX, KEY_TEXT_MAX, CARD_NOTE_MAX, SCHEMA_VERSION}
 use Rattle.commands.specs.declared.rows.BinRow.{BinRow}
+use Rattle.goods_tables.specs.declared.texts.TheConstants.{DROP_BIN, CHANGE_BIN, ADD_BIN, BINS_OF, ALL_BINS}
 use Rattle.table_words.specs.Cells.{typed, is_word, is_the_text, fits_in, is_any, is_number, is_the_number, number_in, is_signed, is_any_number, signed_in, flag_number, flag_in, bin_kind_in, order_state_text, order_state_in, card_kind_text, card_kind_in}
 use Rattle.table_words.specs.Schema.{the_schema, bins_tree, bins_table}
 use Rattle.table_words.specs.Typed.{same_lot_id, is_bin, bin_in, has_bin, bin_read, BinKey, same_bin, bin_key, bin_cells, with_bin, without_bin, tables_in, Tables, AreTyped, bins_of_rows, all_bins_rows}
@@ -38,7 +39,7 @@ use Rattle.table_words.proofs.Plans.{same, scan, by_rowid, alone}
 use Rattle.table_words.proofs.ListLemmas.{over, IsRows-filter, IsRows-over, IsRows-put_row, all_over, all_put_row, any_counted, none_counted_pass, none_over, stays_put, filter_same_on}
 use Rattle.table_words.proofs.ScanLemmas.{passes, show, in_order, scanned}
 use Rattle.table_words.proofs.WriteLemmas.{deletes, inserts, inserts_at, updates, only_shown, cast_number, cast_null}
-use Rattle.table_words.proofs.CellLemmas.{and_true, and_assoc, same_word, same_count, same_the_number, equals_text, equals_number, same_number, itself_number, same_lots, itself_lot, id_is, typed-filter, shown_typed, flag_back, bin_kind_back, order_state_back, card_kind_back}
+use Rattle.table_words.proofs.CellLemmas.{and_true, and_assoc, same_word, same_count, same_the_number, equals_text, equals_number, same_number, itself_number, same_lots, itself_lot, id_is, typed-filter, both_typed, shown_typed, flag_back, bin_kind_back, order_state_back, card_kind_back}
 use Rattle.table_words.proofs.StepLemmas.{ready_after, goes}
 use Rattle.table_words.proofs.KeyLemmas.{AtMostOne, one_by_key, one_by_rowid, few, none_had, IsSame, same_bytes, same_both, itself_bytes, itself_both, meets, found_without, found_put, found_over, are_rows}
 
@@ -66,7 +67,7 @@ one_row db ready params =
 -- ---- DELETE
 
 abbrev pub drop_text : List ℕ
-drop_text = codes "DELETE FROM bins WHERE name = ?1"
+drop_text = DROP_BIN.now
 
 drop_is : command_of (understood the_schema drop_text) ≡ Delete 2 (alone (scan bins_tree tests (col 1 0 ∷ []) []))
 unfolding understood everything
@@ -94,7 +95,7 @@ drops old new name count ready inside h =
 -- ---- UPDATE
 
 abbrev pub change_text : List ℕ
-change_text = codes "UPDATE bins SET name = ?1, kind = ?2 WHERE name = ?1"
+change_text = CHANGE_BIN.now
 
 abbrev change_terms : List Term
 change_terms = col 0 0 ∷ col 0 1 ∷ []
@@ -141,7 +142,7 @@ changes old new s count sound ready inside h =
 -- ---- INSERT
 
 abbrev pub add_text : List ℕ
-add_text = codes "INSERT INTO bins (name, kind) VALUES (?1, ?2)"
+add_text = ADD_BIN.now
 
 abbrev add_terms : List Term
 add_terms = lit Null ∷ col 0 0 ∷ col 0 1 ∷ []
@@ -189,7 +190,7 @@ apart db ready a b ha hb ta tb e =
     one_row db ready params b a hb ha (at_key params s.name refl b tb ∙ e) (at_key params s.name refl a ta ∙ itself s.name)
 
 abbrev pub bins_of_text : List ℕ
-bins_of_text = codes "SELECT name, kind FROM bins WHERE name = ?1 ORDER BY rowid"
+bins_of_text = BINS_OF.now
 
 abbrev bins_of_tests : List Term
 bins_of_tests = same 1 0 ∷ []
@@ -225,18 +226,17 @@ bins_of_reads old new name rows xs ready h has are =
     (shown_typed is_bin bin_in has_bin bin_read (show params shown) (λ r. refl) (λ r. refl) _ rows xs (bins_of_turn old new name rows ready h) has are
     ∙ typed-filter is_bin bin_in (passes params bins_of_tests) (λ x. let key = bin_key x in bytes_eq name key) (bins_of_at name) all)
 
--- each of them reads as a typed row
+-- they read as typed rows exactly if the stored ones do
 pub bins_of_typed : (old new : State) (name : List ℕ) (rows : List Row) → IsReady old.now → Shown bins_of_text (Text name ∷ []) old new rows
-    → AllByRecursion (λ r. is_bin r ≡ true) (bins_of_rows name old.now.trees) → AllByRecursion (λ v. has_bin v ≡ true) rows
-bins_of_typed old new name rows ready h are =
+    → AllByRecursion (λ r. is_bin r ≡ true) (bins_of_rows name old.now.trees) ↔ AllByRecursion (λ v. has_bin v ≡ true) rows
+bins_of_typed old new name rows ready h =
     let params = Text name ∷ [] in
     let all = old.now.trees bins_tree in
     let same_rows = filter_same_on (passes params bins_of_tests) (λ r. is_the_text name (column r 1)) all (λ r there. and_true _ ∙ equals_text (column r 1) name) in
-    subst (AllByRecursion (λ v. has_bin v ≡ true)) (sym (bins_of_turn old new name rows ready h))
-    (all_map (λ v. has_bin v ≡ true) (show params shown) _ (subst (AllByRecursion (λ r. is_bin r ≡ true)) (sym same_rows) are))
+    both_typed has_bin is_bin (show params shown) (λ r. refl) (bins_of_rows name old.now.trees) rows (bins_of_turn old new name rows ready h ∙ ap (map (show params shown)) same_rows)
 
 abbrev pub all_bins_text : List ℕ
-all_bins_text = codes "SELECT name, kind FROM bins ORDER BY rowid"
+all_bins_text = ALL_BINS.now
 
 abbrev all_bins_tests : List Term
 all_bins_tests = []
@@ -271,12 +271,11 @@ all_bins_reads old new rows xs ready h has are =
     (shown_typed is_bin bin_in has_bin bin_read (show params shown) (λ r. refl) (λ r. refl) _ rows xs (all_bins_turn old new rows ready h) has are
     ∙ typed-filter is_bin bin_in (passes params all_bins_tests) (λ x. let key = bin_key x in true) (all_bins_at) all)
 
--- each of them reads as a typed row
+-- they read as typed rows exactly if the stored ones do
 pub all_bins_typed : (old new : State) (rows : List Row) → IsReady old.now → Shown all_bins_text ([]) old new rows
-    → AllByRecursion (λ r. is_bin r ≡ true) (all_bins_rows old.now.trees) → AllByRecursion (λ v. has_bin v ≡ true) rows
-all_bins_typed old new rows ready h are =
+    → AllByRecursion (λ r. is_bin r ≡ true) (all_bins_rows old.now.trees) ↔ AllByRecursion (λ v. has_bin v ≡ true) rows
+all_bins_typed old new rows ready h =
     let params = [] in
     let all = old.now.trees bins_tree in
     let same_rows = filter_same_on (passes params all_bins_tests) (λ r. true) all (λ r there. refl) in
-    subst (AllByRecursion (λ v. has_bin v ≡ true)) (sym (all_bins_turn old new rows ready h))
-    (all_map (λ v. has_bin v ≡ true) (show params shown) _ (subst (AllByRecursion (λ r. is_bin r ≡ true)) (sym same_rows) are))
+    both_typed has_bin is_bin (show params shown) (λ r. refl) (all_bins_rows old.now.trees) rows (all_bins_turn old new rows ready h ∙ ap (map (show params shown)) same_rows)

@@ -1,6 +1,6 @@
 -- What the statements on `lots` mean, and what they make of the tables.
 use Rattle.std.proofs.Common.{◌≡◌, ◌≢◌, ◌≤◌, ℕ, ℤ, Bool, true, false, not, ◌&&◌, ◌||◌, cond, List, [], ◌∷◌, codes, map, filter, find, length, pos, Ok, Err, Some, None, inl, inr, IsTrue, refl, sym, ap, ap₂, subst, ◌∙◌, bytes_eq, Equal}
-use Rattle.std.specs.Prelude.{nat_eq, if◌then◌else◌, Option}
+use Rattle.std.specs.Prelude.{◌↔◌, nat_eq, if◌then◌else◌, Option}
 use Rattle.std.specs.List.{AllByRecursion}
 use Rattle.std.proofs.lemmas.Bool.{and_parts}
 use Rattle.sqlite.specs.declared.types.Value.{Value}
@@ -29,6 +29,7 @@ use Rattle.label.specs.declared.lot.LotId.{LotId}
 use Rattle.commands.specs.Spelling.{kind_text}
 use Rattle.commands.specs.declared.limits.TheConstants.{UNITS_MAX, ACTS_MAX, SHORT_MAX, KEY_TEXT_MAX, CARD_NOTE_MAX, SCHEMA_VERSION}
 use Rattle.commands.specs.declared.rows.LotRow.{LotRow}
+use Rattle.goods_tables.specs.declared.texts.TheConstants.{DROP_LOT, CHANGE_LOT, ADD_LOT, LOTS_OF, ALL_LOTS}
 use Rattle.table_words.specs.Cells.{typed, is_word, is_the_text, fits_in, is_any, is_number, is_the_number, number_in, is_signed, is_any_number, signed_in, flag_number, flag_in, bin_kind_in, order_state_text, order_state_in, card_kind_text, card_kind_in}
 use Rattle.table_words.specs.Schema.{the_schema, lots_tree, lots_table}
 use Rattle.table_words.specs.Typed.{same_lot_id, is_lot, lot_in, has_lot, lot_read, LotKey, same_lot, lot_key, lot_cells, with_lot, without_lot, tables_in, Tables, AreTyped, lots_of_rows, all_lots_rows}
@@ -38,7 +39,7 @@ use Rattle.table_words.proofs.Plans.{same, scan, by_rowid, alone}
 use Rattle.table_words.proofs.ListLemmas.{over, IsRows-filter, IsRows-over, IsRows-put_row, all_over, all_put_row, any_counted, none_counted_pass, none_over, stays_put, filter_same_on}
 use Rattle.table_words.proofs.ScanLemmas.{passes, show, in_order, scanned}
 use Rattle.table_words.proofs.WriteLemmas.{deletes, inserts, inserts_at, updates, only_shown, cast_number, cast_null}
-use Rattle.table_words.proofs.CellLemmas.{and_true, and_assoc, same_word, same_count, same_the_number, equals_text, equals_number, same_number, itself_number, same_lots, itself_lot, id_is, typed-filter, shown_typed, flag_back, bin_kind_back, order_state_back, card_kind_back}
+use Rattle.table_words.proofs.CellLemmas.{and_true, and_assoc, same_word, same_count, same_the_number, equals_text, equals_number, same_number, itself_number, same_lots, itself_lot, id_is, typed-filter, both_typed, shown_typed, flag_back, bin_kind_back, order_state_back, card_kind_back}
 use Rattle.table_words.proofs.StepLemmas.{ready_after, goes}
 use Rattle.table_words.proofs.KeyLemmas.{AtMostOne, one_by_key, one_by_rowid, few, none_had, IsSame, same_bytes, same_both, itself_bytes, itself_both, meets, found_without, found_put, found_over, are_rows}
 
@@ -67,7 +68,7 @@ one_row db ready params =
 -- ---- DELETE
 
 abbrev pub drop_text : List ℕ
-drop_text = codes "DELETE FROM lots WHERE gtin = ?1 AND lot = ?2"
+drop_text = DROP_LOT.now
 
 drop_is : command_of (understood the_schema drop_text) ≡ Delete 3 (alone (scan lots_tree tests (col 1 0 ∷ []) []))
 unfolding understood everything
@@ -95,7 +96,7 @@ drops old new lot count ready inside h =
 -- ---- UPDATE
 
 abbrev pub change_text : List ℕ
-change_text = codes "UPDATE lots SET gtin = ?1, lot = ?2, expiry = ?3, came = ?4, held = ?5 WHERE gtin = ?1 AND lot = ?2"
+change_text = CHANGE_LOT.now
 
 abbrev change_terms : List Term
 change_terms = col 0 0 ∷ col 0 1 ∷ col 0 2 ∷ col 0 3 ∷ col 0 4 ∷ []
@@ -142,7 +143,7 @@ changes old new s count sound ready inside h =
 -- ---- INSERT
 
 abbrev pub add_text : List ℕ
-add_text = codes "INSERT INTO lots (gtin, lot, expiry, came, held) VALUES (?1, ?2, ?3, ?4, ?5)"
+add_text = ADD_LOT.now
 
 abbrev add_terms : List Term
 add_terms = lit Null ∷ col 0 0 ∷ col 0 1 ∷ col 0 2 ∷ col 0 3 ∷ col 0 4 ∷ []
@@ -190,7 +191,7 @@ apart db ready a b ha hb ta tb e =
     one_row db ready params b a hb ha (at_key params s.lot refl refl b tb ∙ e) (at_key params s.lot refl refl a ta ∙ itself s.lot)
 
 abbrev pub lots_of_text : List ℕ
-lots_of_text = codes "SELECT gtin, lot, expiry, came, held FROM lots WHERE gtin = ?1 ORDER BY rowid"
+lots_of_text = LOTS_OF.now
 
 abbrev lots_of_tests : List Term
 lots_of_tests = same 1 0 ∷ []
@@ -226,18 +227,17 @@ lots_of_reads old new gtin rows xs ready h has are =
     (shown_typed is_lot lot_in has_lot lot_read (show params shown) (λ r. refl) (λ r. refl) _ rows xs (lots_of_turn old new gtin rows ready h) has are
     ∙ typed-filter is_lot lot_in (passes params lots_of_tests) (λ x. let key = lot_key x in bytes_eq gtin key.gtin) (lots_of_at gtin) all)
 
--- each of them reads as a typed row
+-- they read as typed rows exactly if the stored ones do
 pub lots_of_typed : (old new : State) (gtin : List ℕ) (rows : List Row) → IsReady old.now → Shown lots_of_text (Text gtin ∷ []) old new rows
-    → AllByRecursion (λ r. is_lot r ≡ true) (lots_of_rows gtin old.now.trees) → AllByRecursion (λ v. has_lot v ≡ true) rows
-lots_of_typed old new gtin rows ready h are =
+    → AllByRecursion (λ r. is_lot r ≡ true) (lots_of_rows gtin old.now.trees) ↔ AllByRecursion (λ v. has_lot v ≡ true) rows
+lots_of_typed old new gtin rows ready h =
     let params = Text gtin ∷ [] in
     let all = old.now.trees lots_tree in
     let same_rows = filter_same_on (passes params lots_of_tests) (λ r. is_the_text gtin (column r 1)) all (λ r there. and_true _ ∙ equals_text (column r 1) gtin) in
-    subst (AllByRecursion (λ v. has_lot v ≡ true)) (sym (lots_of_turn old new gtin rows ready h))
-    (all_map (λ v. has_lot v ≡ true) (show params shown) _ (subst (AllByRecursion (λ r. is_lot r ≡ true)) (sym same_rows) are))
+    both_typed has_lot is_lot (show params shown) (λ r. refl) (lots_of_rows gtin old.now.trees) rows (lots_of_turn old new gtin rows ready h ∙ ap (map (show params shown)) same_rows)
 
 abbrev pub all_lots_text : List ℕ
-all_lots_text = codes "SELECT gtin, lot, expiry, came, held FROM lots ORDER BY rowid"
+all_lots_text = ALL_LOTS.now
 
 abbrev all_lots_tests : List Term
 all_lots_tests = []
@@ -272,12 +272,11 @@ all_lots_reads old new rows xs ready h has are =
     (shown_typed is_lot lot_in has_lot lot_read (show params shown) (λ r. refl) (λ r. refl) _ rows xs (all_lots_turn old new rows ready h) has are
     ∙ typed-filter is_lot lot_in (passes params all_lots_tests) (λ x. let key = lot_key x in true) (all_lots_at) all)
 
--- each of them reads as a typed row
+-- they read as typed rows exactly if the stored ones do
 pub all_lots_typed : (old new : State) (rows : List Row) → IsReady old.now → Shown all_lots_text ([]) old new rows
-    → AllByRecursion (λ r. is_lot r ≡ true) (all_lots_rows old.now.trees) → AllByRecursion (λ v. has_lot v ≡ true) rows
-all_lots_typed old new rows ready h are =
+    → AllByRecursion (λ r. is_lot r ≡ true) (all_lots_rows old.now.trees) ↔ AllByRecursion (λ v. has_lot v ≡ true) rows
+all_lots_typed old new rows ready h =
     let params = [] in
     let all = old.now.trees lots_tree in
     let same_rows = filter_same_on (passes params all_lots_tests) (λ r. true) all (λ r there. refl) in
-    subst (AllByRecursion (λ v. has_lot v ≡ true)) (sym (all_lots_turn old new rows ready h))
-    (all_map (λ v. has_lot v ≡ true) (show params shown) _ (subst (AllByRecursion (λ r. is_lot r ≡ true)) (sym same_rows) are))
+    both_typed has_lot is_lot (show params shown) (λ r. refl) (all_lots_rows old.now.trees) rows (all_lots_turn old new rows ready h ∙ ap (map (show params shown)) same_rows)

@@ -1,6 +1,6 @@
 -- What the statements on `meta` mean, and what they make of the tables.
 use Rattle.std.proofs.Common.{◌≡◌, ◌≢◌, ◌≤◌, ℕ, ℤ, Bool, true, false, not, ◌&&◌, ◌||◌, cond, List, [], ◌∷◌, codes, map, filter, find, length, pos, Ok, Err, Some, None, inl, inr, IsTrue, refl, sym, ap, ap₂, subst, ◌∙◌, bytes_eq, Equal}
-use Rattle.std.specs.Prelude.{nat_eq, if◌then◌else◌, Option}
+use Rattle.std.specs.Prelude.{◌↔◌, nat_eq, if◌then◌else◌, Option}
 use Rattle.std.specs.List.{AllByRecursion}
 use Rattle.std.proofs.lemmas.Bool.{and_parts}
 use Rattle.sqlite.specs.declared.types.Value.{Value}
@@ -29,6 +29,7 @@ use Rattle.label.specs.declared.lot.LotId.{LotId}
 use Rattle.commands.specs.Spelling.{kind_text}
 use Rattle.commands.specs.declared.limits.TheConstants.{UNITS_MAX, ACTS_MAX, SHORT_MAX, KEY_TEXT_MAX, CARD_NOTE_MAX, SCHEMA_VERSION}
 use Rattle.commands.specs.declared.rows.MetaRow.{MetaRow}
+use Rattle.goods_tables.specs.declared.texts.TheConstants.{CHANGE_META, ADD_META, META_ROWS}
 use Rattle.table_words.specs.Cells.{typed, is_word, is_the_text, fits_in, is_any, is_number, is_the_number, number_in, is_signed, is_any_number, signed_in, flag_number, flag_in, bin_kind_in, order_state_text, order_state_in, card_kind_text, card_kind_in}
 use Rattle.table_words.specs.Schema.{the_schema, meta_tree, meta_table}
 use Rattle.table_words.specs.Typed.{same_lot_id, is_meta, meta_in, has_meta, meta_read, MetaKey, same_meta, meta_key, meta_cells, with_meta, tables_in, Tables, AreTyped, meta_rows_rows}
@@ -38,7 +39,7 @@ use Rattle.table_words.proofs.Plans.{same, scan, by_rowid, alone}
 use Rattle.table_words.proofs.ListLemmas.{over, IsRows-filter, IsRows-over, IsRows-put_row, all_over, all_put_row, any_counted, none_counted_pass, none_over, stays_put, filter_same_on}
 use Rattle.table_words.proofs.ScanLemmas.{passes, show, in_order, scanned}
 use Rattle.table_words.proofs.WriteLemmas.{deletes, inserts, inserts_at, updates, only_shown, cast_number, cast_null}
-use Rattle.table_words.proofs.CellLemmas.{and_true, and_assoc, same_word, same_count, same_the_number, equals_text, equals_number, same_number, itself_number, same_lots, itself_lot, id_is, typed-filter, shown_typed, flag_back, bin_kind_back, order_state_back, card_kind_back}
+use Rattle.table_words.proofs.CellLemmas.{and_true, and_assoc, same_word, same_count, same_the_number, equals_text, equals_number, same_number, itself_number, same_lots, itself_lot, id_is, typed-filter, both_typed, shown_typed, flag_back, bin_kind_back, order_state_back, card_kind_back}
 use Rattle.table_words.proofs.StepLemmas.{ready_after, goes}
 use Rattle.table_words.proofs.KeyLemmas.{AtMostOne, one_by_key, one_by_rowid, few, none_had, IsSame, same_bytes, same_both, itself_bytes, itself_both, meets, found_without, found_put, found_over, are_rows}
 
@@ -64,7 +65,7 @@ one_row db ready params = one_by_rowid (db.trees meta_tree) params
 -- ---- UPDATE
 
 abbrev pub change_text : List ℕ
-change_text = codes "UPDATE meta SET mark = ?2, version = ?3, day = ?4, acts = ?5, shipments = ?6 WHERE id = ?1"
+change_text = CHANGE_META.now
 
 abbrev change_terms : List Term
 change_terms = lit Null ∷ col 0 1 ∷ col 0 2 ∷ col 0 3 ∷ col 0 4 ∷ col 0 5 ∷ []
@@ -111,7 +112,7 @@ changes old new s count sound ready inside h =
 -- ---- INSERT
 
 abbrev pub add_text : List ℕ
-add_text = codes "INSERT INTO meta (id, mark, version, day, acts, shipments) VALUES (?1, ?2, ?3, ?4, ?5, ?6)"
+add_text = ADD_META.now
 
 abbrev add_terms : List Term
 add_terms = col 0 0 ∷ lit Null ∷ col 0 1 ∷ col 0 2 ∷ col 0 3 ∷ col 0 4 ∷ col 0 5 ∷ []
@@ -159,7 +160,7 @@ apart db ready a b ha hb ta tb e =
     one_row db ready params b a hb ha (at_key params 1 refl b tb ∙ e) (at_key params 1 refl a ta ∙ itself 1)
 
 abbrev pub meta_rows_text : List ℕ
-meta_rows_text = codes "SELECT id, mark, version, day, acts, shipments FROM meta WHERE id = ?1"
+meta_rows_text = META_ROWS.now
 
 abbrev meta_rows_tests : List Term
 meta_rows_tests = same 0 0 ∷ []
@@ -197,12 +198,11 @@ meta_rows_reads old new id rows xs ready h has are =
     (shown_typed is_meta meta_in has_meta meta_read (show params shown) (λ r. refl) (λ r. refl) _ rows xs (meta_rows_turn old new id rows ready h) has are
     ∙ typed-filter is_meta meta_in (passes params meta_rows_tests) (λ x. let key = meta_key x in nat_eq id key) (meta_rows_at id) all)
 
--- each of them reads as a typed row
+-- they read as typed rows exactly if the stored ones do
 pub meta_rows_typed : (old new : State) (id : ℕ) (rows : List Row) → IsReady old.now → Shown meta_rows_text (Int (pos id) ∷ []) old new rows
-    → AllByRecursion (λ r. is_meta r ≡ true) (meta_rows_rows id old.now.trees) → AllByRecursion (λ v. has_meta v ≡ true) rows
-meta_rows_typed old new id rows ready h are =
+    → AllByRecursion (λ r. is_meta r ≡ true) (meta_rows_rows id old.now.trees) ↔ AllByRecursion (λ v. has_meta v ≡ true) rows
+meta_rows_typed old new id rows ready h =
     let params = Int (pos id) ∷ [] in
     let all = old.now.trees meta_tree in
     let same_rows = filter_same_on (passes params meta_rows_tests) (λ r. is_the_number id (column r 0)) all (λ r there. and_true _ ∙ equals_number (column r 0) id (all_has (λ r. IsTrue (is_int (rowid r))) all r ready.rows.0.1 there)) in
-    subst (AllByRecursion (λ v. has_meta v ≡ true)) (sym (meta_rows_turn old new id rows ready h))
-    (all_map (λ v. has_meta v ≡ true) (show params shown) _ (subst (AllByRecursion (λ r. is_meta r ≡ true)) (sym same_rows) are))
+    both_typed has_meta is_meta (show params shown) (λ r. refl) (meta_rows_rows id old.now.trees) rows (meta_rows_turn old new id rows ready h ∙ ap (map (show params shown)) same_rows)

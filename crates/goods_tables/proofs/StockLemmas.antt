@@ -1,6 +1,6 @@
 -- What the statements on `stock` mean, and what they make of the tables.
 use Rattle.std.proofs.Common.{◌≡◌, ◌≢◌, ◌≤◌, ℕ, ℤ, Bool, true, false, not, ◌&&◌, ◌||◌, cond, List, [], ◌∷◌, codes, map, filter, find, length, pos, Ok, Err, Some, None, inl, inr, IsTrue, refl, sym, ap, ap₂, subst, ◌∙◌, bytes_eq, Equal}
-use Rattle.std.specs.Prelude.{nat_eq, if◌then◌else◌, Option}
+use Rattle.std.specs.Prelude.{◌↔◌, nat_eq, if◌then◌else◌, Option}
 use Rattle.std.specs.List.{AllByRecursion}
 use Rattle.std.proofs.lemmas.Bool.{and_parts}
 use Rattle.sqlite.specs.declared.types.Value.{Value}
@@ -29,6 +29,7 @@ use Rattle.label.specs.declared.lot.LotId.{LotId}
 use Rattle.commands.specs.Spelling.{kind_text}
 use Rattle.commands.specs.declared.limits.TheConstants.{UNITS_MAX, ACTS_MAX, SHORT_MAX, KEY_TEXT_MAX, CARD_NOTE_MAX, SCHEMA_VERSION}
 use Rattle.commands.specs.declared.rows.StockRow.{StockRow}
+use Rattle.goods_tables.specs.declared.texts.TheConstants.{DROP_STOCK, CHANGE_STOCK, ADD_STOCK, STOCK_OF}
 use Rattle.table_words.specs.Cells.{typed, is_word, is_the_text, fits_in, is_any, is_number, is_the_number, number_in, is_signed, is_any_number, signed_in, flag_number, flag_in, bin_kind_in, order_state_text, order_state_in, card_kind_text, card_kind_in}
 use Rattle.table_words.specs.Schema.{the_schema, stock_tree, stock_table}
 use Rattle.table_words.specs.Typed.{same_lot_id, is_stock, stock_in, has_stock, stock_read, StockKey, same_stock, stock_key, stock_cells, with_stock, without_stock, tables_in, Tables, AreTyped, stock_of_rows}
@@ -38,7 +39,7 @@ use Rattle.table_words.proofs.Plans.{same, scan, by_rowid, alone}
 use Rattle.table_words.proofs.ListLemmas.{over, IsRows-filter, IsRows-over, IsRows-put_row, all_over, all_put_row, any_counted, none_counted_pass, none_over, stays_put, filter_same_on}
 use Rattle.table_words.proofs.ScanLemmas.{passes, show, in_order, scanned}
 use Rattle.table_words.proofs.WriteLemmas.{deletes, inserts, inserts_at, updates, only_shown, cast_number, cast_null}
-use Rattle.table_words.proofs.CellLemmas.{and_true, and_assoc, same_word, same_count, same_the_number, equals_text, equals_number, same_number, itself_number, same_lots, itself_lot, id_is, typed-filter, shown_typed, flag_back, bin_kind_back, order_state_back, card_kind_back}
+use Rattle.table_words.proofs.CellLemmas.{and_true, and_assoc, same_word, same_count, same_the_number, equals_text, equals_number, same_number, itself_number, same_lots, itself_lot, id_is, typed-filter, both_typed, shown_typed, flag_back, bin_kind_back, order_state_back, card_kind_back}
 use Rattle.table_words.proofs.StepLemmas.{ready_after, goes}
 use Rattle.table_words.proofs.KeyLemmas.{AtMostOne, one_by_key, one_by_rowid, few, none_had, IsSame, same_bytes, same_both, itself_bytes, itself_both, meets, found_without, found_put, found_over, are_rows}
 
@@ -68,7 +69,7 @@ one_row db ready params =
 -- ---- DELETE
 
 abbrev pub drop_text : List ℕ
-drop_text = codes "DELETE FROM stock WHERE gtin = ?1 AND lot = ?2 AND bin = ?3"
+drop_text = DROP_STOCK.now
 
 drop_is : command_of (understood the_schema drop_text) ≡ Delete 5 (alone (scan stock_tree tests (col 1 0 ∷ []) []))
 unfolding understood everything
@@ -96,7 +97,7 @@ drops old new lot bin count ready inside h =
 -- ---- UPDATE
 
 abbrev pub change_text : List ℕ
-change_text = codes "UPDATE stock SET gtin = ?1, lot = ?2, bin = ?3, qty = ?4 WHERE gtin = ?1 AND lot = ?2 AND bin = ?3"
+change_text = CHANGE_STOCK.now
 
 abbrev change_terms : List Term
 change_terms = col 0 0 ∷ col 0 1 ∷ col 0 2 ∷ col 0 3 ∷ []
@@ -143,7 +144,7 @@ changes old new s count sound ready inside h =
 -- ---- INSERT
 
 abbrev pub add_text : List ℕ
-add_text = codes "INSERT INTO stock (gtin, lot, bin, qty) VALUES (?1, ?2, ?3, ?4)"
+add_text = ADD_STOCK.now
 
 abbrev add_terms : List Term
 add_terms = lit Null ∷ col 0 0 ∷ col 0 1 ∷ col 0 2 ∷ col 0 3 ∷ []
@@ -191,7 +192,7 @@ apart db ready a b ha hb ta tb e =
     one_row db ready params b a hb ha (at_key params s.lot s.bin refl refl refl b tb ∙ e) (at_key params s.lot s.bin refl refl refl a ta ∙ itself (s.lot, s.bin))
 
 abbrev pub stock_of_text : List ℕ
-stock_of_text = codes "SELECT gtin, lot, bin, qty FROM stock WHERE gtin = ?1 ORDER BY rowid"
+stock_of_text = STOCK_OF.now
 
 abbrev stock_of_tests : List Term
 stock_of_tests = same 1 0 ∷ []
@@ -227,12 +228,11 @@ stock_of_reads old new gtin rows xs ready h has are =
     (shown_typed is_stock stock_in has_stock stock_read (show params shown) (λ r. refl) (λ r. refl) _ rows xs (stock_of_turn old new gtin rows ready h) has are
     ∙ typed-filter is_stock stock_in (passes params stock_of_tests) (λ x. let key = stock_key x in bytes_eq gtin key.0.gtin) (stock_of_at gtin) all)
 
--- each of them reads as a typed row
+-- they read as typed rows exactly if the stored ones do
 pub stock_of_typed : (old new : State) (gtin : List ℕ) (rows : List Row) → IsReady old.now → Shown stock_of_text (Text gtin ∷ []) old new rows
-    → AllByRecursion (λ r. is_stock r ≡ true) (stock_of_rows gtin old.now.trees) → AllByRecursion (λ v. has_stock v ≡ true) rows
-stock_of_typed old new gtin rows ready h are =
+    → AllByRecursion (λ r. is_stock r ≡ true) (stock_of_rows gtin old.now.trees) ↔ AllByRecursion (λ v. has_stock v ≡ true) rows
+stock_of_typed old new gtin rows ready h =
     let params = Text gtin ∷ [] in
     let all = old.now.trees stock_tree in
     let same_rows = filter_same_on (passes params stock_of_tests) (λ r. is_the_text gtin (column r 1)) all (λ r there. and_true _ ∙ equals_text (column r 1) gtin) in
-    subst (AllByRecursion (λ v. has_stock v ≡ true)) (sym (stock_of_turn old new gtin rows ready h))
-    (all_map (λ v. has_stock v ≡ true) (show params shown) _ (subst (AllByRecursion (λ r. is_stock r ≡ true)) (sym same_rows) are))
+    both_typed has_stock is_stock (show params shown) (λ r. refl) (stock_of_rows gtin old.now.trees) rows (stock_of_turn old new gtin rows ready h ∙ ap (map (show params shown)) same_rows)

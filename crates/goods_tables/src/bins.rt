@@ -1,6 +1,6 @@
 //! The table `bins`.
 
-ghost use Rattle.std.specs.Prelude.{◌≡◌, ◌≤◌, true, false, find, map, OnOk, IfOk, IfErr, bytes_eq, nat_eq, if◌then◌else◌};
+ghost use Rattle.std.specs.Prelude.{◌≡◌, ◌≢◌, ◌≤◌, true, false, find, map, OnOk, IfOk, IfErr, bytes_eq, nat_eq, if◌then◌else◌};
 ghost use Rattle.std.specs.List.{AllByRecursion};
 ghost use Rattle.sqlite.specs.State.{HasCleanDisk, Survives, KeepsCommit, IsUnchanged};
 ghost use Rattle.sqlite.specs.Held.{state};
@@ -9,6 +9,7 @@ ghost use Rattle.table_words.specs.Steps.{IsReady, Goes};
 ghost use Rattle.table_words.specs.Typed.{tables_in, same_lot_id, with_bin, without_bin, is_bin, has_bin, bin_read, bin_key, same_bin, BinKey, bins_of_rows, all_bins_rows};
 ghost use Rattle.table_words.specs.declared.error.TableFault.TheVariants.{Foreign};
 
+use crate::texts::{ADD_BIN, ALL_BINS, BINS_OF, CHANGE_BIN, DROP_BIN};
 use commands::BinRow;
 use label::Name;
 use sqlite::{Alter, Row, Transaction};
@@ -23,8 +24,9 @@ pub fn drop_bin<S: Alter>(tx: &mut Transaction<'_, S>, name: &Name) -> Result<()
         → OnOk result (Goes (without_bin name.now) (state S.Store tx.old.conn.now) (state S.Store tx.new.conn.now)) }
     ensures kept { HasCleanDisk (state S.Store tx.new.conn.now) → KeepsCommit (state S.Store tx.old.conn.now) (state S.Store tx.new.conn.now) }
     ensures survives { Survives (state S.Store tx.old.conn.now) (state S.Store tx.new.conn.now) (λ _. ⊥) }
+    ensures never_foreign { IfErr result (λ e. e ≢ Foreign) }
 {
-    tx.execute("DELETE FROM bins WHERE name = ?1", &[of_name(name)])?;
+    tx.execute(DROP_BIN, &[of_name(name)])?;
     Ok(())
 }
 
@@ -35,11 +37,9 @@ fn change_bin<S: Alter>(tx: &mut Transaction<'_, S>, row: &BinRow) -> Result<boo
         → IfOk result (λ had. Goes (if had then with_bin row.now else (λ t. t)) (state S.Store tx.old.conn.now) (state S.Store tx.new.conn.now)) }
     ensures kept { HasCleanDisk (state S.Store tx.new.conn.now) → KeepsCommit (state S.Store tx.old.conn.now) (state S.Store tx.new.conn.now) }
     ensures survives { Survives (state S.Store tx.old.conn.now) (state S.Store tx.new.conn.now) (λ _. ⊥) }
+    ensures never_foreign { IfErr result (λ e. e ≢ Foreign) }
 {
-    let count = tx.execute(
-        "UPDATE bins SET name = ?1, kind = ?2 WHERE name = ?1",
-        &[of_name(&row.name), of_bin_kind(row.kind)],
-    )?;
+    let count = tx.execute(CHANGE_BIN, &[of_name(&row.name), of_bin_kind(row.kind)])?;
     Ok(count != 0)
 }
 
@@ -50,11 +50,9 @@ fn add_bin<S: Alter>(tx: &mut Transaction<'_, S>, row: &BinRow) -> Result<(), Ta
         → OnOk result (Goes (with_bin row.now) (state S.Store tx.old.conn.now) (state S.Store tx.new.conn.now)) }
     ensures kept { HasCleanDisk (state S.Store tx.new.conn.now) → KeepsCommit (state S.Store tx.old.conn.now) (state S.Store tx.new.conn.now) }
     ensures survives { Survives (state S.Store tx.old.conn.now) (state S.Store tx.new.conn.now) (λ _. ⊥) }
+    ensures never_foreign { IfErr result (λ e. e ≢ Foreign) }
 {
-    tx.execute(
-        "INSERT INTO bins (name, kind) VALUES (?1, ?2)",
-        &[of_name(&row.name), of_bin_kind(row.kind)],
-    )?;
+    tx.execute(ADD_BIN, &[of_name(&row.name), of_bin_kind(row.kind)])?;
     Ok(())
 }
 
@@ -65,6 +63,7 @@ pub fn put_bin<S: Alter>(tx: &mut Transaction<'_, S>, row: &BinRow) -> Result<()
         → OnOk result (Goes (with_bin row.now) (state S.Store tx.old.conn.now) (state S.Store tx.new.conn.now)) }
     ensures kept { HasCleanDisk (state S.Store tx.new.conn.now) → KeepsCommit (state S.Store tx.old.conn.now) (state S.Store tx.new.conn.now) }
     ensures survives { Survives (state S.Store tx.old.conn.now) (state S.Store tx.new.conn.now) (λ _. ⊥) }
+    ensures never_foreign { IfErr result (λ e. e ≢ Foreign) }
 {
     if change_bin(tx, row)? {
         return Ok(());
@@ -103,16 +102,15 @@ pub fn bins_of<S: Alter>(
     ensures same_reference { tx.new.conn.ghost_name ≡ tx.old.conn.ghost_name }
     ensures rows { HasCleanDisk (state S.Store tx.new.conn.now) → IsReady (state S.Store tx.old.conn.now).now
         → IfOk result (λ rows. AreRows {K = BinKey} same_bin bin_key (λ key. bytes_eq name.now key) (λ key. (tables_in (state S.Store tx.old.conn.now).now.trees).bin key) rows.items) }
+    ensures typed { HasCleanDisk (state S.Store tx.new.conn.now) → IsReady (state S.Store tx.old.conn.now).now
+        → OnOk result (AllByRecursion (λ r. is_bin r ≡ true) (bins_of_rows name.now (state S.Store tx.old.conn.now).now.trees)) }
     ensures foreign { HasCleanDisk (state S.Store tx.new.conn.now) → IsReady (state S.Store tx.old.conn.now).now
         → IfErr result (λ e. e ≡ Foreign → ¬ AllByRecursion (λ r. is_bin r ≡ true) (bins_of_rows name.now (state S.Store tx.old.conn.now).now.trees)) }
     ensures same { HasCleanDisk (state S.Store tx.new.conn.now) → IsReady (state S.Store tx.old.conn.now).now → OnOk result (IsUnchanged (state S.Store tx.old.conn.now) (state S.Store tx.new.conn.now)) }
     ensures kept { HasCleanDisk (state S.Store tx.new.conn.now) → IsReady (state S.Store tx.old.conn.now).now → KeepsCommit (state S.Store tx.old.conn.now) (state S.Store tx.new.conn.now) }
     ensures survives { Survives (state S.Store tx.old.conn.now) (state S.Store tx.new.conn.now) (λ _. ⊥) }
 {
-    let rows = tx.query_all(
-        "SELECT name, kind FROM bins WHERE name = ?1 ORDER BY rowid",
-        &[of_name(name)],
-    )?;
+    let rows = tx.query_all(BINS_OF, &[of_name(name)])?;
     to_rows(alloc, rows.as_slice())
 }
 
@@ -124,12 +122,14 @@ pub fn all_bins<S: Alter>(
     ensures same_reference { tx.new.conn.ghost_name ≡ tx.old.conn.ghost_name }
     ensures rows { HasCleanDisk (state S.Store tx.new.conn.now) → IsReady (state S.Store tx.old.conn.now).now
         → IfOk result (λ rows. AreRows {K = BinKey} same_bin bin_key (λ key. true) (λ key. (tables_in (state S.Store tx.old.conn.now).now.trees).bin key) rows.items) }
+    ensures typed { HasCleanDisk (state S.Store tx.new.conn.now) → IsReady (state S.Store tx.old.conn.now).now
+        → OnOk result (AllByRecursion (λ r. is_bin r ≡ true) (all_bins_rows (state S.Store tx.old.conn.now).now.trees)) }
     ensures foreign { HasCleanDisk (state S.Store tx.new.conn.now) → IsReady (state S.Store tx.old.conn.now).now
         → IfErr result (λ e. e ≡ Foreign → ¬ AllByRecursion (λ r. is_bin r ≡ true) (all_bins_rows (state S.Store tx.old.conn.now).now.trees)) }
     ensures same { HasCleanDisk (state S.Store tx.new.conn.now) → IsReady (state S.Store tx.old.conn.now).now → OnOk result (IsUnchanged (state S.Store tx.old.conn.now) (state S.Store tx.new.conn.now)) }
     ensures kept { HasCleanDisk (state S.Store tx.new.conn.now) → IsReady (state S.Store tx.old.conn.now).now → KeepsCommit (state S.Store tx.old.conn.now) (state S.Store tx.new.conn.now) }
     ensures survives { Survives (state S.Store tx.old.conn.now) (state S.Store tx.new.conn.now) (λ _. ⊥) }
 {
-    let rows = tx.query_all("SELECT name, kind FROM bins ORDER BY rowid", &[])?;
+    let rows = tx.query_all(ALL_BINS, &[])?;
     to_rows(alloc, rows.as_slice())
 }

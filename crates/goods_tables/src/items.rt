@@ -1,6 +1,6 @@
 //! The table `items`.
 
-ghost use Rattle.std.specs.Prelude.{◌≡◌, ◌≤◌, true, false, find, map, OnOk, IfOk, IfErr, bytes_eq, nat_eq, if◌then◌else◌};
+ghost use Rattle.std.specs.Prelude.{◌≡◌, ◌≢◌, ◌≤◌, true, false, find, map, OnOk, IfOk, IfErr, bytes_eq, nat_eq, if◌then◌else◌};
 ghost use Rattle.std.specs.List.{AllByRecursion};
 ghost use Rattle.sqlite.specs.State.{HasCleanDisk, Survives, KeepsCommit, IsUnchanged};
 ghost use Rattle.sqlite.specs.Held.{state};
@@ -9,6 +9,7 @@ ghost use Rattle.table_words.specs.Steps.{IsReady, Goes};
 ghost use Rattle.table_words.specs.Typed.{tables_in, same_lot_id, with_item, without_item, is_item, has_item, item_read, item_key, same_item, ItemKey, items_of_rows, all_items_rows};
 ghost use Rattle.table_words.specs.declared.error.TableFault.TheVariants.{Foreign};
 
+use crate::texts::{ADD_ITEM, ALL_ITEMS, CHANGE_ITEM, DROP_ITEM, ITEMS_OF};
 use commands::ItemRow;
 use label::Gtin;
 use sqlite::{Alter, Row, Transaction};
@@ -23,8 +24,9 @@ pub fn drop_item<S: Alter>(tx: &mut Transaction<'_, S>, gtin: &Gtin) -> Result<(
         → OnOk result (Goes (without_item gtin.now) (state S.Store tx.old.conn.now) (state S.Store tx.new.conn.now)) }
     ensures kept { HasCleanDisk (state S.Store tx.new.conn.now) → KeepsCommit (state S.Store tx.old.conn.now) (state S.Store tx.new.conn.now) }
     ensures survives { Survives (state S.Store tx.old.conn.now) (state S.Store tx.new.conn.now) (λ _. ⊥) }
+    ensures never_foreign { IfErr result (λ e. e ≢ Foreign) }
 {
-    tx.execute("DELETE FROM items WHERE gtin = ?1", &[of_gtin(gtin)])?;
+    tx.execute(DROP_ITEM, &[of_gtin(gtin)])?;
     Ok(())
 }
 
@@ -35,11 +37,9 @@ fn change_item<S: Alter>(tx: &mut Transaction<'_, S>, row: &ItemRow) -> Result<b
         → IfOk result (λ had. Goes (if had then with_item row.now else (λ t. t)) (state S.Store tx.old.conn.now) (state S.Store tx.new.conn.now)) }
     ensures kept { HasCleanDisk (state S.Store tx.new.conn.now) → KeepsCommit (state S.Store tx.old.conn.now) (state S.Store tx.new.conn.now) }
     ensures survives { Survives (state S.Store tx.old.conn.now) (state S.Store tx.new.conn.now) (λ _. ⊥) }
+    ensures never_foreign { IfErr result (λ e. e ≢ Foreign) }
 {
-    let count = tx.execute(
-        "UPDATE items SET gtin = ?1, name = ?2 WHERE gtin = ?1",
-        &[of_gtin(&row.gtin), of_title(&row.name)],
-    )?;
+    let count = tx.execute(CHANGE_ITEM, &[of_gtin(&row.gtin), of_title(&row.name)])?;
     Ok(count != 0)
 }
 
@@ -50,11 +50,9 @@ fn add_item<S: Alter>(tx: &mut Transaction<'_, S>, row: &ItemRow) -> Result<(), 
         → OnOk result (Goes (with_item row.now) (state S.Store tx.old.conn.now) (state S.Store tx.new.conn.now)) }
     ensures kept { HasCleanDisk (state S.Store tx.new.conn.now) → KeepsCommit (state S.Store tx.old.conn.now) (state S.Store tx.new.conn.now) }
     ensures survives { Survives (state S.Store tx.old.conn.now) (state S.Store tx.new.conn.now) (λ _. ⊥) }
+    ensures never_foreign { IfErr result (λ e. e ≢ Foreign) }
 {
-    tx.execute(
-        "INSERT INTO items (gtin, name) VALUES (?1, ?2)",
-        &[of_gtin(&row.gtin), of_title(&row.name)],
-    )?;
+    tx.execute(ADD_ITEM, &[of_gtin(&row.gtin), of_title(&row.name)])?;
     Ok(())
 }
 
@@ -65,6 +63,7 @@ pub fn put_item<S: Alter>(tx: &mut Transaction<'_, S>, row: &ItemRow) -> Result<
         → OnOk result (Goes (with_item row.now) (state S.Store tx.old.conn.now) (state S.Store tx.new.conn.now)) }
     ensures kept { HasCleanDisk (state S.Store tx.new.conn.now) → KeepsCommit (state S.Store tx.old.conn.now) (state S.Store tx.new.conn.now) }
     ensures survives { Survives (state S.Store tx.old.conn.now) (state S.Store tx.new.conn.now) (λ _. ⊥) }
+    ensures never_foreign { IfErr result (λ e. e ≢ Foreign) }
 {
     if change_item(tx, row)? {
         return Ok(());
@@ -103,16 +102,15 @@ pub fn items_of<S: Alter>(
     ensures same_reference { tx.new.conn.ghost_name ≡ tx.old.conn.ghost_name }
     ensures rows { HasCleanDisk (state S.Store tx.new.conn.now) → IsReady (state S.Store tx.old.conn.now).now
         → IfOk result (λ rows. AreRows {K = ItemKey} same_item item_key (λ key. bytes_eq gtin.now key) (λ key. (tables_in (state S.Store tx.old.conn.now).now.trees).item key) rows.items) }
+    ensures typed { HasCleanDisk (state S.Store tx.new.conn.now) → IsReady (state S.Store tx.old.conn.now).now
+        → OnOk result (AllByRecursion (λ r. is_item r ≡ true) (items_of_rows gtin.now (state S.Store tx.old.conn.now).now.trees)) }
     ensures foreign { HasCleanDisk (state S.Store tx.new.conn.now) → IsReady (state S.Store tx.old.conn.now).now
         → IfErr result (λ e. e ≡ Foreign → ¬ AllByRecursion (λ r. is_item r ≡ true) (items_of_rows gtin.now (state S.Store tx.old.conn.now).now.trees)) }
     ensures same { HasCleanDisk (state S.Store tx.new.conn.now) → IsReady (state S.Store tx.old.conn.now).now → OnOk result (IsUnchanged (state S.Store tx.old.conn.now) (state S.Store tx.new.conn.now)) }
     ensures kept { HasCleanDisk (state S.Store tx.new.conn.now) → IsReady (state S.Store tx.old.conn.now).now → KeepsCommit (state S.Store tx.old.conn.now) (state S.Store tx.new.conn.now) }
     ensures survives { Survives (state S.Store tx.old.conn.now) (state S.Store tx.new.conn.now) (λ _. ⊥) }
 {
-    let rows = tx.query_all(
-        "SELECT gtin, name FROM items WHERE gtin = ?1 ORDER BY rowid",
-        &[of_gtin(gtin)],
-    )?;
+    let rows = tx.query_all(ITEMS_OF, &[of_gtin(gtin)])?;
     to_rows(alloc, rows.as_slice())
 }
 
@@ -124,12 +122,14 @@ pub fn all_items<S: Alter>(
     ensures same_reference { tx.new.conn.ghost_name ≡ tx.old.conn.ghost_name }
     ensures rows { HasCleanDisk (state S.Store tx.new.conn.now) → IsReady (state S.Store tx.old.conn.now).now
         → IfOk result (λ rows. AreRows {K = ItemKey} same_item item_key (λ key. true) (λ key. (tables_in (state S.Store tx.old.conn.now).now.trees).item key) rows.items) }
+    ensures typed { HasCleanDisk (state S.Store tx.new.conn.now) → IsReady (state S.Store tx.old.conn.now).now
+        → OnOk result (AllByRecursion (λ r. is_item r ≡ true) (all_items_rows (state S.Store tx.old.conn.now).now.trees)) }
     ensures foreign { HasCleanDisk (state S.Store tx.new.conn.now) → IsReady (state S.Store tx.old.conn.now).now
         → IfErr result (λ e. e ≡ Foreign → ¬ AllByRecursion (λ r. is_item r ≡ true) (all_items_rows (state S.Store tx.old.conn.now).now.trees)) }
     ensures same { HasCleanDisk (state S.Store tx.new.conn.now) → IsReady (state S.Store tx.old.conn.now).now → OnOk result (IsUnchanged (state S.Store tx.old.conn.now) (state S.Store tx.new.conn.now)) }
     ensures kept { HasCleanDisk (state S.Store tx.new.conn.now) → IsReady (state S.Store tx.old.conn.now).now → KeepsCommit (state S.Store tx.old.conn.now) (state S.Store tx.new.conn.now) }
     ensures survives { Survives (state S.Store tx.old.conn.now) (state S.Store tx.new.conn.now) (λ _. ⊥) }
 {
-    let rows = tx.query_all("SELECT gtin, name FROM items ORDER BY rowid", &[])?;
+    let rows = tx.query_all(ALL_ITEMS, &[])?;
     to_rows(alloc, rows.as_slice())
 }

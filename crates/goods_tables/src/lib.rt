@@ -7,3 +7,4 @@ pub mod lots;
 pub mod meta;
 pub mod recalls;
 pub mod stock;
+pub mod texts;

@@ -1,14 +1,15 @@
 //! The table `lots`.
 
-ghost use Rattle.std.specs.Prelude.{◌≡◌, ◌≤◌, true, false, find, map, OnOk, IfOk, IfErr, bytes_eq, nat_eq, if◌then◌else◌};
+ghost use Rattle.std.specs.Prelude.{◌≡◌, ◌≢◌, ◌≤◌, ◌<◌, true, false, find, map, OnOk, IfOk, IfErr, bytes_eq, nat_eq, if◌then◌else◌};
 ghost use Rattle.std.specs.List.{AllByRecursion};
 ghost use Rattle.sqlite.specs.State.{HasCleanDisk, Survives, KeepsCommit, IsUnchanged};
 ghost use Rattle.sqlite.specs.Held.{state};
 ghost use Rattle.table_words.specs.Found.{AreRows};
-ghost use Rattle.table_words.specs.Steps.{IsReady, Goes};
+ghost use Rattle.table_words.specs.Steps.{IsReady, Goes, IsTooBig};
 ghost use Rattle.table_words.specs.Typed.{tables_in, same_lot_id, with_lot, without_lot, is_lot, has_lot, lot_read, lot_key, same_lot, LotKey, lots_of_rows, all_lots_rows};
 ghost use Rattle.table_words.specs.declared.error.TableFault.TheVariants.{Foreign};
 
+use crate::texts::{ADD_LOT, ALL_LOTS, CHANGE_LOT, DROP_LOT, LOTS_OF};
 use commands::LotRow;
 use commands::limits::ACTS_MAX;
 use label::{Gtin, LotId};
@@ -26,11 +27,9 @@ pub fn drop_lot<S: Alter>(tx: &mut Transaction<'_, S>, lot: &LotId) -> Result<()
         → OnOk result (Goes (without_lot lot.now) (state S.Store tx.old.conn.now) (state S.Store tx.new.conn.now)) }
     ensures kept { HasCleanDisk (state S.Store tx.new.conn.now) → KeepsCommit (state S.Store tx.old.conn.now) (state S.Store tx.new.conn.now) }
     ensures survives { Survives (state S.Store tx.old.conn.now) (state S.Store tx.new.conn.now) (λ _. ⊥) }
+    ensures never_foreign { IfErr result (λ e. e ≢ Foreign) }
 {
-    tx.execute(
-        "DELETE FROM lots WHERE gtin = ?1 AND lot = ?2",
-        &[of_gtin(&lot.gtin), of_lot(&lot.lot)],
-    )?;
+    tx.execute(DROP_LOT, &[of_gtin(&lot.gtin), of_lot(&lot.lot)])?;
     Ok(())
 }
 
@@ -42,9 +41,10 @@ fn change_lot<S: Alter>(tx: &mut Transaction<'_, S>, row: &LotRow) -> Result<boo
         → IfOk result (λ had. Goes (if had then with_lot row.now else (λ t. t)) (state S.Store tx.old.conn.now) (state S.Store tx.new.conn.now)) }
     ensures kept { HasCleanDisk (state S.Store tx.new.conn.now) → KeepsCommit (state S.Store tx.old.conn.now) (state S.Store tx.new.conn.now) }
     ensures survives { Survives (state S.Store tx.old.conn.now) (state S.Store tx.new.conn.now) (λ _. ⊥) }
+    ensures never_foreign { IfErr result (λ e. e ≢ Foreign) }
 {
     let count = tx.execute(
-        "UPDATE lots SET gtin = ?1, lot = ?2, expiry = ?3, came = ?4, held = ?5 WHERE gtin = ?1 AND lot = ?2",
+        CHANGE_LOT,
         &[
             of_gtin(&row.lot.gtin),
             of_lot(&row.lot.lot),
@@ -64,9 +64,10 @@ fn add_lot<S: Alter>(tx: &mut Transaction<'_, S>, row: &LotRow) -> Result<(), Ta
         → OnOk result (Goes (with_lot row.now) (state S.Store tx.old.conn.now) (state S.Store tx.new.conn.now)) }
     ensures kept { HasCleanDisk (state S.Store tx.new.conn.now) → KeepsCommit (state S.Store tx.old.conn.now) (state S.Store tx.new.conn.now) }
     ensures survives { Survives (state S.Store tx.old.conn.now) (state S.Store tx.new.conn.now) (λ _. ⊥) }
+    ensures never_foreign { IfErr result (λ e. e ≢ Foreign) }
 {
     tx.execute(
-        "INSERT INTO lots (gtin, lot, expiry, came, held) VALUES (?1, ?2, ?3, ?4, ?5)",
+        ADD_LOT,
         &[
             of_gtin(&row.lot.gtin),
             of_lot(&row.lot.lot),
@@ -85,6 +86,8 @@ pub fn put_lot<S: Alter>(tx: &mut Transaction<'_, S>, row: &LotRow) -> Result<()
         → OnOk result (Goes (with_lot row.now) (state S.Store tx.old.conn.now) (state S.Store tx.new.conn.now)) }
     ensures kept { HasCleanDisk (state S.Store tx.new.conn.now) → KeepsCommit (state S.Store tx.old.conn.now) (state S.Store tx.new.conn.now) }
     ensures survives { Survives (state S.Store tx.old.conn.now) (state S.Store tx.new.conn.now) (λ _. ⊥) }
+    ensures never_foreign { IfErr result (λ e. e ≢ Foreign) }
+    ensures size_came { ACTS_MAX < row.now.came → IsTooBig result tx.old.conn.now tx.new.conn.now }
 {
     if row.came > ACTS_MAX {
         return Err(TableFault::too_big());
@@ -131,16 +134,15 @@ pub fn lots_of<S: Alter>(
     ensures same_reference { tx.new.conn.ghost_name ≡ tx.old.conn.ghost_name }
     ensures rows { HasCleanDisk (state S.Store tx.new.conn.now) → IsReady (state S.Store tx.old.conn.now).now
         → IfOk result (λ rows. AreRows {K = LotKey} same_lot lot_key (λ key. bytes_eq gtin.now key.gtin) (λ key. (tables_in (state S.Store tx.old.conn.now).now.trees).lot key) rows.items) }
+    ensures typed { HasCleanDisk (state S.Store tx.new.conn.now) → IsReady (state S.Store tx.old.conn.now).now
+        → OnOk result (AllByRecursion (λ r. is_lot r ≡ true) (lots_of_rows gtin.now (state S.Store tx.old.conn.now).now.trees)) }
     ensures foreign { HasCleanDisk (state S.Store tx.new.conn.now) → IsReady (state S.Store tx.old.conn.now).now
         → IfErr result (λ e. e ≡ Foreign → ¬ AllByRecursion (λ r. is_lot r ≡ true) (lots_of_rows gtin.now (state S.Store tx.old.conn.now).now.trees)) }
     ensures same { HasCleanDisk (state S.Store tx.new.conn.now) → IsReady (state S.Store tx.old.conn.now).now → OnOk result (IsUnchanged (state S.Store tx.old.conn.now) (state S.Store tx.new.conn.now)) }
     ensures kept { HasCleanDisk (state S.Store tx.new.conn.now) → IsReady (state S.Store tx.old.conn.now).now → KeepsCommit (state S.Store tx.old.conn.now) (state S.Store tx.new.conn.now) }
     ensures survives { Survives (state S.Store tx.old.conn.now) (state S.Store tx.new.conn.now) (λ _. ⊥) }
 {
-    let rows = tx.query_all(
-        "SELECT gtin, lot, expiry, came, held FROM lots WHERE gtin = ?1 ORDER BY rowid",
-        &[of_gtin(gtin)],
-    )?;
+    let rows = tx.query_all(LOTS_OF, &[of_gtin(gtin)])?;
     to_rows(alloc, rows.as_slice())
 }
 
@@ -152,15 +154,14 @@ pub fn all_lots<S: Alter>(
     ensures same_reference { tx.new.conn.ghost_name ≡ tx.old.conn.ghost_name }
     ensures rows { HasCleanDisk (state S.Store tx.new.conn.now) → IsReady (state S.Store tx.old.conn.now).now
         → IfOk result (λ rows. AreRows {K = LotKey} same_lot lot_key (λ key. true) (λ key. (tables_in (state S.Store tx.old.conn.now).now.trees).lot key) rows.items) }
+    ensures typed { HasCleanDisk (state S.Store tx.new.conn.now) → IsReady (state S.Store tx.old.conn.now).now
+        → OnOk result (AllByRecursion (λ r. is_lot r ≡ true) (all_lots_rows (state S.Store tx.old.conn.now).now.trees)) }
     ensures foreign { HasCleanDisk (state S.Store tx.new.conn.now) → IsReady (state S.Store tx.old.conn.now).now
         → IfErr result (λ e. e ≡ Foreign → ¬ AllByRecursion (λ r. is_lot r ≡ true) (all_lots_rows (state S.Store tx.old.conn.now).now.trees)) }
     ensures same { HasCleanDisk (state S.Store tx.new.conn.now) → IsReady (state S.Store tx.old.conn.now).now → OnOk result (IsUnchanged (state S.Store tx.old.conn.now) (state S.Store tx.new.conn.now)) }
     ensures kept { HasCleanDisk (state S.Store tx.new.conn.now) → IsReady (state S.Store tx.old.conn.now).now → KeepsCommit (state S.Store tx.old.conn.now) (state S.Store tx.new.conn.now) }
     ensures survives { Survives (state S.Store tx.old.conn.now) (state S.Store tx.new.conn.now) (λ _. ⊥) }
 {
-    let rows = tx.query_all(
-        "SELECT gtin, lot, expiry, came, held FROM lots ORDER BY rowid",
-        &[],
-    )?;
+    let rows = tx.query_all(ALL_LOTS, &[])?;
     to_rows(alloc, rows.as_slice())
 }

@@ -1,14 +1,15 @@
 //! The table `meta`.
 
-ghost use Rattle.std.specs.Prelude.{◌≡◌, ◌≤◌, true, false, find, map, OnOk, IfOk, IfErr, bytes_eq, nat_eq, if◌then◌else◌};
+ghost use Rattle.std.specs.Prelude.{◌≡◌, ◌≢◌, ◌≤◌, ◌<◌, true, false, find, map, OnOk, IfOk, IfErr, bytes_eq, nat_eq, if◌then◌else◌};
 ghost use Rattle.std.specs.List.{AllByRecursion};
 ghost use Rattle.sqlite.specs.State.{HasCleanDisk, Survives, KeepsCommit, IsUnchanged};
 ghost use Rattle.sqlite.specs.Held.{state};
 ghost use Rattle.table_words.specs.Found.{AreRows};
-ghost use Rattle.table_words.specs.Steps.{IsReady, Goes};
+ghost use Rattle.table_words.specs.Steps.{IsReady, Goes, IsTooBig};
 ghost use Rattle.table_words.specs.Typed.{tables_in, same_lot_id, with_meta, is_meta, has_meta, meta_read, meta_key, same_meta, MetaKey, meta_rows_rows};
 ghost use Rattle.table_words.specs.declared.error.TableFault.TheVariants.{Foreign};
 
+use crate::texts::{ADD_META, CHANGE_META, META_ROWS};
 use commands::MetaRow;
 use commands::limits::{ACTS_MAX, SCHEMA_VERSION};
 use sqlite::{Alter, Row, Transaction};
@@ -27,9 +28,10 @@ fn change_meta<S: Alter>(tx: &mut Transaction<'_, S>, row: &MetaRow) -> Result<b
         → IfOk result (λ had. Goes (if had then with_meta row.now else (λ t. t)) (state S.Store tx.old.conn.now) (state S.Store tx.new.conn.now)) }
     ensures kept { HasCleanDisk (state S.Store tx.new.conn.now) → KeepsCommit (state S.Store tx.old.conn.now) (state S.Store tx.new.conn.now) }
     ensures survives { Survives (state S.Store tx.old.conn.now) (state S.Store tx.new.conn.now) (λ _. ⊥) }
+    ensures never_foreign { IfErr result (λ e. e ≢ Foreign) }
 {
     let count = tx.execute(
-        "UPDATE meta SET mark = ?2, version = ?3, day = ?4, acts = ?5, shipments = ?6 WHERE id = ?1",
+        CHANGE_META,
         &[
             of_number(1),
             of_mark(),
@@ -51,9 +53,10 @@ fn add_meta<S: Alter>(tx: &mut Transaction<'_, S>, row: &MetaRow) -> Result<(), 
         → OnOk result (Goes (with_meta row.now) (state S.Store tx.old.conn.now) (state S.Store tx.new.conn.now)) }
     ensures kept { HasCleanDisk (state S.Store tx.new.conn.now) → KeepsCommit (state S.Store tx.old.conn.now) (state S.Store tx.new.conn.now) }
     ensures survives { Survives (state S.Store tx.old.conn.now) (state S.Store tx.new.conn.now) (λ _. ⊥) }
+    ensures never_foreign { IfErr result (λ e. e ≢ Foreign) }
 {
     tx.execute(
-        "INSERT INTO meta (id, mark, version, day, acts, shipments) VALUES (?1, ?2, ?3, ?4, ?5, ?6)",
+        ADD_META,
         &[
             of_number(1),
             of_mark(),
@@ -73,6 +76,9 @@ pub fn put_meta<S: Alter>(tx: &mut Transaction<'_, S>, row: &MetaRow) -> Result<
         → OnOk result (Goes (with_meta row.now) (state S.Store tx.old.conn.now) (state S.Store tx.new.conn.now)) }
     ensures kept { HasCleanDisk (state S.Store tx.new.conn.now) → KeepsCommit (state S.Store tx.old.conn.now) (state S.Store tx.new.conn.now) }
     ensures survives { Survives (state S.Store tx.old.conn.now) (state S.Store tx.new.conn.now) (λ _. ⊥) }
+    ensures never_foreign { IfErr result (λ e. e ≢ Foreign) }
+    ensures size_acts { ACTS_MAX < row.now.acts → IsTooBig result tx.old.conn.now tx.new.conn.now }
+    ensures size_shipments { ACTS_MAX < row.now.shipments → IsTooBig result tx.old.conn.now tx.new.conn.now }
 {
     if row.acts > ACTS_MAX || row.shipments > ACTS_MAX {
         return Err(TableFault::too_big());
@@ -117,15 +123,14 @@ pub fn meta_rows<S: Alter>(
     ensures same_reference { tx.new.conn.ghost_name ≡ tx.old.conn.ghost_name }
     ensures rows { HasCleanDisk (state S.Store tx.new.conn.now) → IsReady (state S.Store tx.old.conn.now).now
         → IfOk result (λ rows. find (λ r. true) rows.items ≡ (tables_in (state S.Store tx.old.conn.now).now.trees).meta) }
+    ensures typed { HasCleanDisk (state S.Store tx.new.conn.now) → IsReady (state S.Store tx.old.conn.now).now
+        → OnOk result (AllByRecursion (λ r. is_meta r ≡ true) (meta_rows_rows 1 (state S.Store tx.old.conn.now).now.trees)) }
     ensures foreign { HasCleanDisk (state S.Store tx.new.conn.now) → IsReady (state S.Store tx.old.conn.now).now
         → IfErr result (λ e. e ≡ Foreign → ¬ AllByRecursion (λ r. is_meta r ≡ true) (meta_rows_rows 1 (state S.Store tx.old.conn.now).now.trees)) }
     ensures same { HasCleanDisk (state S.Store tx.new.conn.now) → IsReady (state S.Store tx.old.conn.now).now → OnOk result (IsUnchanged (state S.Store tx.old.conn.now) (state S.Store tx.new.conn.now)) }
     ensures kept { HasCleanDisk (state S.Store tx.new.conn.now) → IsReady (state S.Store tx.old.conn.now).now → KeepsCommit (state S.Store tx.old.conn.now) (state S.Store tx.new.conn.now) }
     ensures survives { Survives (state S.Store tx.old.conn.now) (state S.Store tx.new.conn.now) (λ _. ⊥) }
 {
-    let rows = tx.query_all(
-        "SELECT id, mark, version, day, acts, shipments FROM meta WHERE id = ?1",
-        &[of_number(1)],
-    )?;
+    let rows = tx.query_all(META_ROWS, &[of_number(1)])?;
     to_rows(alloc, rows.as_slice())
 }

@@ -1,14 +1,15 @@
 //! The table `recalls`.
 
-ghost use Rattle.std.specs.Prelude.{◌≡◌, ◌≤◌, true, false, find, map, OnOk, IfOk, IfErr, bytes_eq, nat_eq, if◌then◌else◌};
+ghost use Rattle.std.specs.Prelude.{◌≡◌, ◌≢◌, ◌≤◌, ◌<◌, true, false, find, map, OnOk, IfOk, IfErr, bytes_eq, nat_eq, if◌then◌else◌};
 ghost use Rattle.std.specs.List.{AllByRecursion};
 ghost use Rattle.sqlite.specs.State.{HasCleanDisk, Survives, KeepsCommit, IsUnchanged};
 ghost use Rattle.sqlite.specs.Held.{state};
 ghost use Rattle.table_words.specs.Found.{AreRows};
-ghost use Rattle.table_words.specs.Steps.{IsReady, Goes};
+ghost use Rattle.table_words.specs.Steps.{IsReady, Goes, IsTooBig};
 ghost use Rattle.table_words.specs.Typed.{tables_in, same_lot_id, with_recall, without_recall, is_recall, has_recall, recall_read, recall_key, same_recall, RecallKey, recalls_of_rows};
 ghost use Rattle.table_words.specs.declared.error.TableFault.TheVariants.{Foreign};
 
+use crate::texts::{ADD_RECALL, CHANGE_RECALL, DROP_RECALL, RECALLS_OF};
 use commands::RecallRow;
 use commands::limits::ACTS_MAX;
 use label::{Gtin, LotId};
@@ -24,11 +25,9 @@ pub fn drop_recall<S: Alter>(tx: &mut Transaction<'_, S>, lot: &LotId) -> Result
         → OnOk result (Goes (without_recall lot.now) (state S.Store tx.old.conn.now) (state S.Store tx.new.conn.now)) }
     ensures kept { HasCleanDisk (state S.Store tx.new.conn.now) → KeepsCommit (state S.Store tx.old.conn.now) (state S.Store tx.new.conn.now) }
     ensures survives { Survives (state S.Store tx.old.conn.now) (state S.Store tx.new.conn.now) (λ _. ⊥) }
+    ensures never_foreign { IfErr result (λ e. e ≢ Foreign) }
 {
-    tx.execute(
-        "DELETE FROM recalls WHERE gtin = ?1 AND lot = ?2",
-        &[of_gtin(&lot.gtin), of_lot(&lot.lot)],
-    )?;
+    tx.execute(DROP_RECALL, &[of_gtin(&lot.gtin), of_lot(&lot.lot)])?;
     Ok(())
 }
 
@@ -40,9 +39,10 @@ fn change_recall<S: Alter>(tx: &mut Transaction<'_, S>, row: &RecallRow) -> Resu
         → IfOk result (λ had. Goes (if had then with_recall row.now else (λ t. t)) (state S.Store tx.old.conn.now) (state S.Store tx.new.conn.now)) }
     ensures kept { HasCleanDisk (state S.Store tx.new.conn.now) → KeepsCommit (state S.Store tx.old.conn.now) (state S.Store tx.new.conn.now) }
     ensures survives { Survives (state S.Store tx.old.conn.now) (state S.Store tx.new.conn.now) (λ _. ⊥) }
+    ensures never_foreign { IfErr result (λ e. e ≢ Foreign) }
 {
     let count = tx.execute(
-        "UPDATE recalls SET gtin = ?1, lot = ?2, act = ?3 WHERE gtin = ?1 AND lot = ?2",
+        CHANGE_RECALL,
         &[
             of_gtin(&row.lot.gtin),
             of_lot(&row.lot.lot),
@@ -60,9 +60,10 @@ fn add_recall<S: Alter>(tx: &mut Transaction<'_, S>, row: &RecallRow) -> Result<
         → OnOk result (Goes (with_recall row.now) (state S.Store tx.old.conn.now) (state S.Store tx.new.conn.now)) }
     ensures kept { HasCleanDisk (state S.Store tx.new.conn.now) → KeepsCommit (state S.Store tx.old.conn.now) (state S.Store tx.new.conn.now) }
     ensures survives { Survives (state S.Store tx.old.conn.now) (state S.Store tx.new.conn.now) (λ _. ⊥) }
+    ensures never_foreign { IfErr result (λ e. e ≢ Foreign) }
 {
     tx.execute(
-        "INSERT INTO recalls (gtin, lot, act) VALUES (?1, ?2, ?3)",
+        ADD_RECALL,
         &[
             of_gtin(&row.lot.gtin),
             of_lot(&row.lot.lot),
@@ -79,6 +80,8 @@ pub fn put_recall<S: Alter>(tx: &mut Transaction<'_, S>, row: &RecallRow) -> Res
         → OnOk result (Goes (with_recall row.now) (state S.Store tx.old.conn.now) (state S.Store tx.new.conn.now)) }
     ensures kept { HasCleanDisk (state S.Store tx.new.conn.now) → KeepsCommit (state S.Store tx.old.conn.now) (state S.Store tx.new.conn.now) }
     ensures survives { Survives (state S.Store tx.old.conn.now) (state S.Store tx.new.conn.now) (λ _. ⊥) }
+    ensures never_foreign { IfErr result (λ e. e ≢ Foreign) }
+    ensures size_act { ACTS_MAX < row.now.act → IsTooBig result tx.old.conn.now tx.new.conn.now }
 {
     if row.act > ACTS_MAX {
         return Err(TableFault::too_big());
@@ -123,15 +126,14 @@ pub fn recalls_of<S: Alter>(
     ensures same_reference { tx.new.conn.ghost_name ≡ tx.old.conn.ghost_name }
     ensures rows { HasCleanDisk (state S.Store tx.new.conn.now) → IsReady (state S.Store tx.old.conn.now).now
         → IfOk result (λ rows. AreRows {K = RecallKey} same_recall recall_key (λ key. bytes_eq gtin.now key.gtin) (λ key. (tables_in (state S.Store tx.old.conn.now).now.trees).recall key) rows.items) }
+    ensures typed { HasCleanDisk (state S.Store tx.new.conn.now) → IsReady (state S.Store tx.old.conn.now).now
+        → OnOk result (AllByRecursion (λ r. is_recall r ≡ true) (recalls_of_rows gtin.now (state S.Store tx.old.conn.now).now.trees)) }
     ensures foreign { HasCleanDisk (state S.Store tx.new.conn.now) → IsReady (state S.Store tx.old.conn.now).now
         → IfErr result (λ e. e ≡ Foreign → ¬ AllByRecursion (λ r. is_recall r ≡ true) (recalls_of_rows gtin.now (state S.Store tx.old.conn.now).now.trees)) }
     ensures same { HasCleanDisk (state S.Store tx.new.conn.now) → IsReady (state S.Store tx.old.conn.now).now → OnOk result (IsUnchanged (state S.Store tx.old.conn.now) (state S.Store tx.new.conn.now)) }
     ensures kept { HasCleanDisk (state S.Store tx.new.conn.now) → IsReady (state S.Store tx.old.conn.now).now → KeepsCommit (state S.Store tx.old.conn.now) (state S.Store tx.new.conn.now) }
     ensures survives { Survives (state S.Store tx.old.conn.now) (state S.Store tx.new.conn.now) (λ _. ⊥) }
 {
-    let rows = tx.query_all(
-        "SELECT gtin, lot, act FROM recalls WHERE gtin = ?1 ORDER BY rowid",
-        &[of_gtin(gtin)],
-    )?;
+    let rows = tx.query_all(RECALLS_OF, &[of_gtin(gtin)])?;
     to_rows(alloc, rows.as_slice())
 }

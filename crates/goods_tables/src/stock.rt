@@ -1,14 +1,15 @@
 //! The table `stock`.
 
-ghost use Rattle.std.specs.Prelude.{◌≡◌, ◌≤◌, true, false, find, map, OnOk, IfOk, IfErr, bytes_eq, nat_eq, if◌then◌else◌};
+ghost use Rattle.std.specs.Prelude.{◌≡◌, ◌≢◌, ◌≤◌, ◌<◌, true, false, find, map, OnOk, IfOk, IfErr, bytes_eq, nat_eq, if◌then◌else◌};
 ghost use Rattle.std.specs.List.{AllByRecursion};
 ghost use Rattle.sqlite.specs.State.{HasCleanDisk, Survives, KeepsCommit, IsUnchanged};
 ghost use Rattle.sqlite.specs.Held.{state};
 ghost use Rattle.table_words.specs.Found.{AreRows};
-ghost use Rattle.table_words.specs.Steps.{IsReady, Goes};
+ghost use Rattle.table_words.specs.Steps.{IsReady, Goes, IsTooBig};
 ghost use Rattle.table_words.specs.Typed.{tables_in, same_lot_id, with_stock, without_stock, is_stock, has_stock, stock_read, stock_key, same_stock, StockKey, stock_of_rows};
 ghost use Rattle.table_words.specs.declared.error.TableFault.TheVariants.{Foreign};
 
+use crate::texts::{ADD_STOCK, CHANGE_STOCK, DROP_STOCK, STOCK_OF};
 use commands::StockRow;
 use commands::limits::UNITS_MAX;
 use label::{Gtin, LotId, Name};
@@ -30,9 +31,10 @@ pub fn drop_stock<S: Alter>(
         → OnOk result (Goes (without_stock lot.now bin.now) (state S.Store tx.old.conn.now) (state S.Store tx.new.conn.now)) }
     ensures kept { HasCleanDisk (state S.Store tx.new.conn.now) → KeepsCommit (state S.Store tx.old.conn.now) (state S.Store tx.new.conn.now) }
     ensures survives { Survives (state S.Store tx.old.conn.now) (state S.Store tx.new.conn.now) (λ _. ⊥) }
+    ensures never_foreign { IfErr result (λ e. e ≢ Foreign) }
 {
     tx.execute(
-        "DELETE FROM stock WHERE gtin = ?1 AND lot = ?2 AND bin = ?3",
+        DROP_STOCK,
         &[of_gtin(&lot.gtin), of_lot(&lot.lot), of_name(bin)],
     )?;
     Ok(())
@@ -46,9 +48,10 @@ fn change_stock<S: Alter>(tx: &mut Transaction<'_, S>, row: &StockRow) -> Result
         → IfOk result (λ had. Goes (if had then with_stock row.now else (λ t. t)) (state S.Store tx.old.conn.now) (state S.Store tx.new.conn.now)) }
     ensures kept { HasCleanDisk (state S.Store tx.new.conn.now) → KeepsCommit (state S.Store tx.old.conn.now) (state S.Store tx.new.conn.now) }
     ensures survives { Survives (state S.Store tx.old.conn.now) (state S.Store tx.new.conn.now) (λ _. ⊥) }
+    ensures never_foreign { IfErr result (λ e. e ≢ Foreign) }
 {
     let count = tx.execute(
-        "UPDATE stock SET gtin = ?1, lot = ?2, bin = ?3, qty = ?4 WHERE gtin = ?1 AND lot = ?2 AND bin = ?3",
+        CHANGE_STOCK,
         &[
             of_gtin(&row.lot.gtin),
             of_lot(&row.lot.lot),
@@ -67,9 +70,10 @@ fn add_stock<S: Alter>(tx: &mut Transaction<'_, S>, row: &StockRow) -> Result<()
         → OnOk result (Goes (with_stock row.now) (state S.Store tx.old.conn.now) (state S.Store tx.new.conn.now)) }
     ensures kept { HasCleanDisk (state S.Store tx.new.conn.now) → KeepsCommit (state S.Store tx.old.conn.now) (state S.Store tx.new.conn.now) }
     ensures survives { Survives (state S.Store tx.old.conn.now) (state S.Store tx.new.conn.now) (λ _. ⊥) }
+    ensures never_foreign { IfErr result (λ e. e ≢ Foreign) }
 {
     tx.execute(
-        "INSERT INTO stock (gtin, lot, bin, qty) VALUES (?1, ?2, ?3, ?4)",
+        ADD_STOCK,
         &[
             of_gtin(&row.lot.gtin),
             of_lot(&row.lot.lot),
@@ -87,6 +91,8 @@ pub fn put_stock<S: Alter>(tx: &mut Transaction<'_, S>, row: &StockRow) -> Resul
         → OnOk result (Goes (with_stock row.now) (state S.Store tx.old.conn.now) (state S.Store tx.new.conn.now)) }
     ensures kept { HasCleanDisk (state S.Store tx.new.conn.now) → KeepsCommit (state S.Store tx.old.conn.now) (state S.Store tx.new.conn.now) }
     ensures survives { Survives (state S.Store tx.old.conn.now) (state S.Store tx.new.conn.now) (λ _. ⊥) }
+    ensures never_foreign { IfErr result (λ e. e ≢ Foreign) }
+    ensures size_qty { UNITS_MAX < row.now.qty → IsTooBig result tx.old.conn.now tx.new.conn.now }
 {
     if row.qty > UNITS_MAX {
         return Err(TableFault::too_big());
@@ -132,15 +138,14 @@ pub fn stock_of<S: Alter>(
     ensures same_reference { tx.new.conn.ghost_name ≡ tx.old.conn.ghost_name }
     ensures rows { HasCleanDisk (state S.Store tx.new.conn.now) → IsReady (state S.Store tx.old.conn.now).now
         → IfOk result (λ rows. AreRows {K = StockKey} same_stock stock_key (λ key. bytes_eq gtin.now key.0.gtin) (λ key. (tables_in (state S.Store tx.old.conn.now).now.trees).stock key.0 key.1) rows.items) }
+    ensures typed { HasCleanDisk (state S.Store tx.new.conn.now) → IsReady (state S.Store tx.old.conn.now).now
+        → OnOk result (AllByRecursion (λ r. is_stock r ≡ true) (stock_of_rows gtin.now (state S.Store tx.old.conn.now).now.trees)) }
     ensures foreign { HasCleanDisk (state S.Store tx.new.conn.now) → IsReady (state S.Store tx.old.conn.now).now
         → IfErr result (λ e. e ≡ Foreign → ¬ AllByRecursion (λ r. is_stock r ≡ true) (stock_of_rows gtin.now (state S.Store tx.old.conn.now).now.trees)) }
     ensures same { HasCleanDisk (state S.Store tx.new.conn.now) → IsReady (state S.Store tx.old.conn.now).now → OnOk result (IsUnchanged (state S.Store tx.old.conn.now) (state S.Store tx.new.conn.now)) }
     ensures kept { HasCleanDisk (state S.Store tx.new.conn.now) → IsReady (state S.Store tx.old.conn.now).now → KeepsCommit (state S.Store tx.old.conn.now) (state S.Store tx.new.conn.now) }
     ensures survives { Survives (state S.Store tx.old.conn.now) (state S.Store tx.new.conn.now) (λ _. ⊥) }
 {
-    let rows = tx.query_all(
-        "SELECT gtin, lot, bin, qty FROM stock WHERE gtin = ?1 ORDER BY rowid",
-        &[of_gtin(gtin)],
-    )?;
+    let rows = tx.query_all(STOCK_OF, &[of_gtin(gtin)])?;
     to_rows(alloc, rows.as_slice())
 }

@@ -1,6 +1,6 @@
 -- What the statements on `cards` mean, and what they make of the tables.
 use Rattle.std.proofs.Common.{◌≡◌, ◌≢◌, ◌≤◌, ℕ, ℤ, Bool, true, false, not, ◌&&◌, ◌||◌, cond, List, [], ◌∷◌, codes, map, filter, find, length, pos, Ok, Err, Some, None, inl, inr, IsTrue, refl, sym, ap, ap₂, subst, ◌∙◌, bytes_eq, Equal}
-use Rattle.std.specs.Prelude.{nat_eq, if◌then◌else◌, Option}
+use Rattle.std.specs.Prelude.{◌↔◌, nat_eq, if◌then◌else◌, Option}
 use Rattle.std.specs.List.{AllByRecursion}
 use Rattle.std.proofs.lemmas.Bool.{and_parts}
 use Rattle.sqlite.specs.declared.types.Value.{Value}
@@ -29,6 +29,7 @@ use Rattle.label.specs.declared.lot.LotId.{LotId}
 use Rattle.commands.specs.Spelling.{kind_text}
 use Rattle.commands.specs.declared.limits.TheConstants.{UNITS_MAX, ACTS_MAX, SHORT_MAX, KEY_TEXT_MAX, CARD_NOTE_MAX, SCHEMA_VERSION}
 use Rattle.commands.specs.declared.rows.CardRow.{CardRow}
+use Rattle.history_tables.specs.declared.texts.TheConstants.{DROP_CARD, CHANGE_CARD, ADD_CARD, CARDS_OF_LOT}
 use Rattle.table_words.specs.Cells.{typed, is_word, is_the_text, fits_in, is_any, is_number, is_the_number, number_in, is_signed, is_any_number, signed_in, flag_number, flag_in, bin_kind_in, order_state_text, order_state_in, card_kind_text, card_kind_in}
 use Rattle.table_words.specs.Schema.{the_schema, cards_tree, cards_table}
 use Rattle.table_words.specs.Typed.{same_lot_id, is_card, card_in, has_card, card_read, CardKey, same_card, card_key, card_cells, with_card, without_card, tables_in, Tables, AreTyped, cards_of_lot_rows}
@@ -38,7 +39,7 @@ use Rattle.table_words.proofs.Plans.{same, scan, by_rowid, alone}
 use Rattle.table_words.proofs.ListLemmas.{over, IsRows-filter, IsRows-over, IsRows-put_row, all_over, all_put_row, any_counted, none_counted_pass, none_over, stays_put, filter_same_on}
 use Rattle.table_words.proofs.ScanLemmas.{passes, show, in_order, scanned}
 use Rattle.table_words.proofs.WriteLemmas.{deletes, inserts, inserts_at, updates, only_shown, cast_number, cast_null}
-use Rattle.table_words.proofs.CellLemmas.{and_true, and_assoc, same_word, same_count, same_the_number, equals_text, equals_number, same_number, itself_number, same_lots, itself_lot, id_is, typed-filter, shown_typed, flag_back, bin_kind_back, order_state_back, card_kind_back}
+use Rattle.table_words.proofs.CellLemmas.{and_true, and_assoc, same_word, same_count, same_the_number, equals_text, equals_number, same_number, itself_number, same_lots, itself_lot, id_is, typed-filter, both_typed, shown_typed, flag_back, bin_kind_back, order_state_back, card_kind_back}
 use Rattle.table_words.proofs.StepLemmas.{ready_after, goes}
 use Rattle.table_words.proofs.KeyLemmas.{AtMostOne, one_by_key, one_by_rowid, few, none_had, IsSame, same_bytes, same_both, itself_bytes, itself_both, meets, found_without, found_put, found_over, are_rows}
 
@@ -68,7 +69,7 @@ one_row db ready params =
 -- ---- DELETE
 
 abbrev pub drop_text : List ℕ
-drop_text = codes "DELETE FROM cards WHERE gtin = ?1 AND lot = ?2 AND act = ?3"
+drop_text = DROP_CARD.now
 
 drop_is : command_of (understood the_schema drop_text) ≡ Delete 12 (alone (scan cards_tree tests (col 1 0 ∷ []) []))
 unfolding understood everything
@@ -96,7 +97,7 @@ drops old new lot act count ready inside h =
 -- ---- UPDATE
 
 abbrev pub change_text : List ℕ
-change_text = codes "UPDATE cards SET gtin = ?1, lot = ?2, act = ?3, day = ?4, kind = ?5, note = ?6, qty = ?7, rest = ?8 WHERE gtin = ?1 AND lot = ?2 AND act = ?3"
+change_text = CHANGE_CARD.now
 
 abbrev change_terms : List Term
 change_terms = col 0 0 ∷ col 0 1 ∷ col 0 2 ∷ col 0 3 ∷ col 0 4 ∷ col 0 5 ∷ col 0 6 ∷ col 0 7 ∷ []
@@ -143,7 +144,7 @@ changes old new s count sound ready inside h =
 -- ---- INSERT
 
 abbrev pub add_text : List ℕ
-add_text = codes "INSERT INTO cards (gtin, lot, act, day, kind, note, qty, rest) VALUES (?1, ?2, ?3, ?4, ?5, ?6, ?7, ?8)"
+add_text = ADD_CARD.now
 
 abbrev add_terms : List Term
 add_terms = lit Null ∷ col 0 0 ∷ col 0 1 ∷ col 0 2 ∷ col 0 3 ∷ col 0 4 ∷ col 0 5 ∷ col 0 6 ∷ col 0 7 ∷ []
@@ -191,7 +192,7 @@ apart db ready a b ha hb ta tb e =
     one_row db ready params b a hb ha (at_key params s.lot s.act refl refl refl b tb ∙ e) (at_key params s.lot s.act refl refl refl a ta ∙ itself (s.lot, s.act))
 
 abbrev pub cards_of_lot_text : List ℕ
-cards_of_lot_text = codes "SELECT gtin, lot, act, day, kind, note, qty, rest FROM cards WHERE gtin = ?1 AND lot = ?2 ORDER BY rowid"
+cards_of_lot_text = CARDS_OF_LOT.now
 
 abbrev cards_of_lot_tests : List Term
 cards_of_lot_tests = same 1 0 ∷ same 2 1 ∷ []
@@ -228,12 +229,11 @@ cards_of_lot_reads old new lot rows xs ready h has are =
     (shown_typed is_card card_in has_card card_read (show params shown) (λ r. refl) (λ r. refl) _ rows xs (cards_of_lot_turn old new lot rows ready h) has are
     ∙ typed-filter is_card card_in (passes params cards_of_lot_tests) (λ x. let key = card_key x in same_lot_id lot key.0) (cards_of_lot_at lot) all)
 
--- each of them reads as a typed row
+-- they read as typed rows exactly if the stored ones do
 pub cards_of_lot_typed : (old new : State) (lot : LotId) (rows : List Row) → IsReady old.now → Shown cards_of_lot_text (Text lot.gtin ∷ Text lot.lot ∷ []) old new rows
-    → AllByRecursion (λ r. is_card r ≡ true) (cards_of_lot_rows lot old.now.trees) → AllByRecursion (λ v. has_card v ≡ true) rows
-cards_of_lot_typed old new lot rows ready h are =
+    → AllByRecursion (λ r. is_card r ≡ true) (cards_of_lot_rows lot old.now.trees) ↔ AllByRecursion (λ v. has_card v ≡ true) rows
+cards_of_lot_typed old new lot rows ready h =
     let params = Text lot.gtin ∷ Text lot.lot ∷ [] in
     let all = old.now.trees cards_tree in
     let same_rows = filter_same_on (passes params cards_of_lot_tests) (λ r. is_the_text lot.gtin (column r 1) && is_the_text lot.lot (column r 2)) all (λ r there. ap₂ ◌&&◌ (equals_text (column r 1) lot.gtin) (and_true _ ∙ equals_text (column r 2) lot.lot)) in
-    subst (AllByRecursion (λ v. has_card v ≡ true)) (sym (cards_of_lot_turn old new lot rows ready h))
-    (all_map (λ v. has_card v ≡ true) (show params shown) _ (subst (AllByRecursion (λ r. is_card r ≡ true)) (sym same_rows) are))
+    both_typed has_card is_card (show params shown) (λ r. refl) (cards_of_lot_rows lot old.now.trees) rows (cards_of_lot_turn old new lot rows ready h ∙ ap (map (show params shown)) same_rows)

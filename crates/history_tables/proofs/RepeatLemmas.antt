@@ -1,6 +1,6 @@
 -- What the statements on `repeats` mean, and what they make of the tables.
 use Rattle.std.proofs.Common.{◌≡◌, ◌≢◌, ◌≤◌, ℕ, ℤ, Bool, true, false, not, ◌&&◌, ◌||◌, cond, List, [], ◌∷◌, codes, map, filter, find, length, pos, Ok, Err, Some, None, inl, inr, IsTrue, refl, sym, ap, ap₂, subst, ◌∙◌, bytes_eq, Equal}
-use Rattle.std.specs.Prelude.{nat_eq, if◌then◌else◌, Option}
+use Rattle.std.specs.Prelude.{◌↔◌, nat_eq, if◌then◌else◌, Option}
 use Rattle.std.specs.List.{AllByRecursion}
 use Rattle.std.proofs.lemmas.Bool.{and_parts}
 use Rattle.sqlite.specs.declared.types.Value.{Value}
@@ -29,16 +29,17 @@ use Rattle.label.specs.declared.lot.LotId.{LotId}
 use Rattle.commands.specs.Spelling.{kind_text}
 use Rattle.commands.specs.declared.limits.TheConstants.{UNITS_MAX, ACTS_MAX, SHORT_MAX, KEY_TEXT_MAX, CARD_NOTE_MAX, SCHEMA_VERSION}
 use Rattle.commands.specs.declared.rows.RepeatRow.{RepeatRow}
+use Rattle.history_tables.specs.declared.texts.TheConstants.{CHANGE_REPEAT, ADD_REPEAT, REPEATS_OF}
 use Rattle.table_words.specs.Cells.{typed, is_word, is_the_text, fits_in, is_any, is_number, is_the_number, number_in, is_signed, is_any_number, signed_in, flag_number, flag_in, bin_kind_in, order_state_text, order_state_in, card_kind_text, card_kind_in}
 use Rattle.table_words.specs.Schema.{the_schema, repeats_tree, repeats_table}
-use Rattle.table_words.specs.Typed.{same_lot_id, is_repeat, repeat_in, has_repeat, repeat_read, RepeatKey, same_repeat, repeat_key, repeat_cells, with_repeat, without_repeat, tables_in, Tables, AreTyped, repeats_of_rows}
+use Rattle.table_words.specs.Typed.{same_lot_id, is_repeat, repeat_in, has_repeat, repeat_read, RepeatKey, same_repeat, repeat_key, repeat_cells, with_repeat, tables_in, Tables, AreTyped, repeats_of_rows}
 use Rattle.table_words.specs.Steps.{IsReady, Goes}
 use Rattle.table_words.specs.Found.{AreRows}
 use Rattle.table_words.proofs.Plans.{same, scan, by_rowid, alone}
 use Rattle.table_words.proofs.ListLemmas.{over, IsRows-filter, IsRows-over, IsRows-put_row, all_over, all_put_row, any_counted, none_counted_pass, none_over, stays_put, filter_same_on}
 use Rattle.table_words.proofs.ScanLemmas.{passes, show, in_order, scanned}
 use Rattle.table_words.proofs.WriteLemmas.{deletes, inserts, inserts_at, updates, only_shown, cast_number, cast_null}
-use Rattle.table_words.proofs.CellLemmas.{and_true, and_assoc, same_word, same_count, same_the_number, equals_text, equals_number, same_number, itself_number, same_lots, itself_lot, id_is, typed-filter, shown_typed, flag_back, bin_kind_back, order_state_back, card_kind_back}
+use Rattle.table_words.proofs.CellLemmas.{and_true, and_assoc, same_word, same_count, same_the_number, equals_text, equals_number, same_number, itself_number, same_lots, itself_lot, id_is, typed-filter, both_typed, shown_typed, flag_back, bin_kind_back, order_state_back, card_kind_back}
 use Rattle.table_words.proofs.StepLemmas.{ready_after, goes}
 use Rattle.table_words.proofs.KeyLemmas.{AtMostOne, one_by_key, one_by_rowid, few, none_had, IsSame, same_bytes, same_both, itself_bytes, itself_both, meets, found_without, found_put, found_over, are_rows}
 
@@ -63,38 +64,10 @@ one_row db ready params =
     one_by_key the_schema db.trees (repeats_table repeats_tree) (1 ∷ []) _ (inr (inr (inr (inr (inr (inr (inr (inr (inr (inr (inr (inl refl)))))))))))) refl refl refl
     (ready.sound.obeys.rules Unique).1.1.1.1.1.1.1.1.1.1.1.1.1.0 ready.rows.1.1.1.1.1.1.1.1.1.1.1.1.1.0 params
 
--- ---- DELETE
-
-abbrev pub drop_text : List ℕ
-drop_text = codes "DELETE FROM repeats WHERE k = ?1"
-
-drop_is : command_of (understood the_schema drop_text) ≡ Delete 13 (alone (scan repeats_tree tests (col 1 0 ∷ []) []))
-unfolding understood everything
-drop_is = refl
-
-drop_plain : IsPlain (understood the_schema drop_text)
-unfolding understood everything
-drop_plain = (refl, refl)
-
-pub drops : (old new : State) (k : List ℕ) (count : ℕ) → IsReady old.now → IsTrue old.in_transaction → ExecutesInside 0 drop_text (key_cells k) old new (Ok count) → Goes (without_repeat k) old new
-drops old new k count ready inside h =
-    let params = key_cells k in
-    let p = passes params tests in
-    let rows = old.now.trees repeats_tree in
-    let left = filter (λ r. not (p r)) rows in
-    let w = runs_as drop_text params old new the_schema ready.schema_is _ drop_is drop_plain count h.0 in
-    let c = deletes the_schema 13 repeats_tree _ _ _ _ _ _ refl (λ _ _. refl) old new tests _ params count ready.schema_is ready.rows.1.1.1.1.1.1.1.1.1.1.1.1.1.0 w in
-    goes old new repeats_tree left _ ready (IsRows-filter _ rows ready.rows.1.1.1.1.1.1.1.1.1.1.1.1.1.0) c (h.1.mode ∙ sym inside)
-    (λ i. let t : Tables = record (tables_in old.now.trees) {
-      repeat = λ at_k. found_without is_repeat repeat_in p (λ s. same_repeat k (repeat_key s)) (λ s. same_repeat at_k (repeat_key s)) (same_repeat at_k k)
-          (meets same_repeat repeat_key one_key k at_k) (at_key params k refl) rows i;
-    } in t)
-    (λ are. record { meta = are.meta; items = are.items; bins = are.bins; lots = are.lots; recalls = are.recalls; stock = are.stock; orders = are.orders; lines = are.lines; staged = are.staged; reserved = are.reserved; shipments = are.shipments; shiplines = are.shiplines; cards = are.cards; repeats = all-filter (λ r. is_repeat r ≡ true) _ rows are.repeats })
-
 -- ---- UPDATE
 
 abbrev pub change_text : List ℕ
-change_text = codes "UPDATE repeats SET k = ?1, act = ?2, spell = ?3, reply = ?4 WHERE k = ?1"
+change_text = CHANGE_REPEAT.now
 
 abbrev change_terms : List Term
 change_terms = col 0 0 ∷ col 0 1 ∷ col 0 2 ∷ col 0 3 ∷ []
@@ -141,7 +114,7 @@ changes old new s count sound ready inside h =
 -- ---- INSERT
 
 abbrev pub add_text : List ℕ
-add_text = codes "INSERT INTO repeats (k, act, spell, reply) VALUES (?1, ?2, ?3, ?4)"
+add_text = ADD_REPEAT.now
 
 abbrev add_terms : List Term
 add_terms = lit Null ∷ col 0 0 ∷ col 0 1 ∷ col 0 2 ∷ col 0 3 ∷ []
@@ -189,7 +162,7 @@ apart db ready a b ha hb ta tb e =
     one_row db ready params b a hb ha (at_key params s.k refl b tb ∙ e) (at_key params s.k refl a ta ∙ itself s.k)
 
 abbrev pub repeats_of_text : List ℕ
-repeats_of_text = codes "SELECT k, act, spell, reply FROM repeats WHERE k = ?1 ORDER BY rowid"
+repeats_of_text = REPEATS_OF.now
 
 abbrev repeats_of_tests : List Term
 repeats_of_tests = same 1 0 ∷ []
@@ -225,12 +198,11 @@ repeats_of_reads old new k rows xs ready h has are =
     (shown_typed is_repeat repeat_in has_repeat repeat_read (show params shown) (λ r. refl) (λ r. refl) _ rows xs (repeats_of_turn old new k rows ready h) has are
     ∙ typed-filter is_repeat repeat_in (passes params repeats_of_tests) (λ x. let key = repeat_key x in bytes_eq k key) (repeats_of_at k) all)
 
--- each of them reads as a typed row
+-- they read as typed rows exactly if the stored ones do
 pub repeats_of_typed : (old new : State) (k : List ℕ) (rows : List Row) → IsReady old.now → Shown repeats_of_text (Text k ∷ []) old new rows
-    → AllByRecursion (λ r. is_repeat r ≡ true) (repeats_of_rows k old.now.trees) → AllByRecursion (λ v. has_repeat v ≡ true) rows
-repeats_of_typed old new k rows ready h are =
+    → AllByRecursion (λ r. is_repeat r ≡ true) (repeats_of_rows k old.now.trees) ↔ AllByRecursion (λ v. has_repeat v ≡ true) rows
+repeats_of_typed old new k rows ready h =
     let params = Text k ∷ [] in
     let all = old.now.trees repeats_tree in
     let same_rows = filter_same_on (passes params repeats_of_tests) (λ r. is_the_text k (column r 1)) all (λ r there. and_true _ ∙ equals_text (column r 1) k) in
-    subst (AllByRecursion (λ v. has_repeat v ≡ true)) (sym (repeats_of_turn old new k rows ready h))
-    (all_map (λ v. has_repeat v ≡ true) (show params shown) _ (subst (AllByRecursion (λ r. is_repeat r ≡ true)) (sym same_rows) are))
+    both_typed has_repeat is_repeat (show params shown) (λ r. refl) (repeats_of_rows k old.now.trees) rows (repeats_of_turn old new k rows ready h ∙ ap (map (show params shown)) same_rows)

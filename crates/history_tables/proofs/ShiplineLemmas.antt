@@ -1,6 +1,6 @@
 -- What the statements on `shiplines` mean, and what they make of the tables.
 use Rattle.std.proofs.Common.{◌≡◌, ◌≢◌, ◌≤◌, ℕ, ℤ, Bool, true, false, not, ◌&&◌, ◌||◌, cond, List, [], ◌∷◌, codes, map, filter, find, length, pos, Ok, Err, Some, None, inl, inr, IsTrue, refl, sym, ap, ap₂, subst, ◌∙◌, bytes_eq, Equal}
-use Rattle.std.specs.Prelude.{nat_eq, if◌then◌else◌, Option}
+use Rattle.std.specs.Prelude.{◌↔◌, nat_eq, if◌then◌else◌, Option}
 use Rattle.std.specs.List.{AllByRecursion}
 use Rattle.std.proofs.lemmas.Bool.{and_parts}
 use Rattle.sqlite.specs.declared.types.Value.{Value}
@@ -29,6 +29,7 @@ use Rattle.label.specs.declared.lot.LotId.{LotId}
 use Rattle.commands.specs.Spelling.{kind_text}
 use Rattle.commands.specs.declared.limits.TheConstants.{UNITS_MAX, ACTS_MAX, SHORT_MAX, KEY_TEXT_MAX, CARD_NOTE_MAX, SCHEMA_VERSION}
 use Rattle.commands.specs.declared.rows.ShiplineRow.{ShiplineRow}
+use Rattle.history_tables.specs.declared.texts.TheConstants.{DROP_SHIPLINE, CHANGE_SHIPLINE, ADD_SHIPLINE, SHIPLINES_OF_LOT}
 use Rattle.table_words.specs.Cells.{typed, is_word, is_the_text, fits_in, is_any, is_number, is_the_number, number_in, is_signed, is_any_number, signed_in, flag_number, flag_in, bin_kind_in, order_state_text, order_state_in, card_kind_text, card_kind_in}
 use Rattle.table_words.specs.Schema.{the_schema, shiplines_tree, shiplines_table}
 use Rattle.table_words.specs.Typed.{same_lot_id, is_shipline, shipline_in, has_shipline, shipline_read, ShiplineKey, same_shipline, shipline_key, shipline_cells, with_shipline, without_shipline, tables_in, Tables, AreTyped, shiplines_of_lot_rows}
@@ -38,7 +39,7 @@ use Rattle.table_words.proofs.Plans.{same, scan, by_rowid, alone}
 use Rattle.table_words.proofs.ListLemmas.{over, IsRows-filter, IsRows-over, IsRows-put_row, all_over, all_put_row, any_counted, none_counted_pass, none_over, stays_put, filter_same_on}
 use Rattle.table_words.proofs.ScanLemmas.{passes, show, in_order, scanned}
 use Rattle.table_words.proofs.WriteLemmas.{deletes, inserts, inserts_at, updates, only_shown, cast_number, cast_null}
-use Rattle.table_words.proofs.CellLemmas.{and_true, and_assoc, same_word, same_count, same_the_number, equals_text, equals_number, same_number, itself_number, same_lots, itself_lot, id_is, typed-filter, shown_typed, flag_back, bin_kind_back, order_state_back, card_kind_back}
+use Rattle.table_words.proofs.CellLemmas.{and_true, and_assoc, same_word, same_count, same_the_number, equals_text, equals_number, same_number, itself_number, same_lots, itself_lot, id_is, typed-filter, both_typed, shown_typed, flag_back, bin_kind_back, order_state_back, card_kind_back}
 use Rattle.table_words.proofs.StepLemmas.{ready_after, goes}
 use Rattle.table_words.proofs.KeyLemmas.{AtMostOne, one_by_key, one_by_rowid, few, none_had, IsSame, same_bytes, same_both, itself_bytes, itself_both, meets, found_without, found_put, found_over, are_rows}
 
@@ -68,7 +69,7 @@ one_row db ready params =
 -- ---- DELETE
 
 abbrev pub drop_text : List ℕ
-drop_text = codes "DELETE FROM shiplines WHERE number = ?1 AND gtin = ?2 AND lot = ?3"
+drop_text = DROP_SHIPLINE.now
 
 drop_is : command_of (understood the_schema drop_text) ≡ Delete 11 (alone (scan shiplines_tree tests (col 1 0 ∷ []) []))
 unfolding understood everything
@@ -96,7 +97,7 @@ drops old new number lot count ready inside h =
 -- ---- UPDATE
 
 abbrev pub change_text : List ℕ
-change_text = codes "UPDATE shiplines SET number = ?1, gtin = ?2, lot = ?3, qty = ?4 WHERE number = ?1 AND gtin = ?2 AND lot = ?3"
+change_text = CHANGE_SHIPLINE.now
 
 abbrev change_terms : List Term
 change_terms = col 0 0 ∷ col 0 1 ∷ col 0 2 ∷ col 0 3 ∷ []
@@ -143,7 +144,7 @@ changes old new s count sound ready inside h =
 -- ---- INSERT
 
 abbrev pub add_text : List ℕ
-add_text = codes "INSERT INTO shiplines (number, gtin, lot, qty) VALUES (?1, ?2, ?3, ?4)"
+add_text = ADD_SHIPLINE.now
 
 abbrev add_terms : List Term
 add_terms = lit Null ∷ col 0 0 ∷ col 0 1 ∷ col 0 2 ∷ col 0 3 ∷ []
@@ -191,7 +192,7 @@ apart db ready a b ha hb ta tb e =
     one_row db ready params b a hb ha (at_key params s.number s.lot refl refl refl b tb ∙ e) (at_key params s.number s.lot refl refl refl a ta ∙ itself (s.number, s.lot))
 
 abbrev pub shiplines_of_lot_text : List ℕ
-shiplines_of_lot_text = codes "SELECT number, gtin, lot, qty FROM shiplines WHERE gtin = ?1 AND lot = ?2 ORDER BY rowid"
+shiplines_of_lot_text = SHIPLINES_OF_LOT.now
 
 abbrev shiplines_of_lot_tests : List Term
 shiplines_of_lot_tests = same 2 0 ∷ same 3 1 ∷ []
@@ -229,12 +230,11 @@ shiplines_of_lot_reads old new lot rows xs ready h has are =
     (shown_typed is_shipline shipline_in has_shipline shipline_read (show params shown) (λ r. refl) (λ r. refl) _ rows xs (shiplines_of_lot_turn old new lot rows ready h) has are
     ∙ typed-filter is_shipline shipline_in (passes params shiplines_of_lot_tests) (λ x. let key = shipline_key x in same_lot_id lot key.1) (shiplines_of_lot_at lot) all)
 
--- each of them reads as a typed row
+-- they read as typed rows exactly if the stored ones do
 pub shiplines_of_lot_typed : (old new : State) (lot : LotId) (rows : List Row) → IsReady old.now → Shown shiplines_of_lot_text (Text lot.gtin ∷ Text lot.lot ∷ []) old new rows
-    → AllByRecursion (λ r. is_shipline r ≡ true) (shiplines_of_lot_rows lot old.now.trees) → AllByRecursion (λ v. has_shipline v ≡ true) rows
-shiplines_of_lot_typed old new lot rows ready h are =
+    → AllByRecursion (λ r. is_shipline r ≡ true) (shiplines_of_lot_rows lot old.now.trees) ↔ AllByRecursion (λ v. has_shipline v ≡ true) rows
+shiplines_of_lot_typed old new lot rows ready h =
     let params = Text lot.gtin ∷ Text lot.lot ∷ [] in
     let all = old.now.trees shiplines_tree in
     let same_rows = filter_same_on (passes params shiplines_of_lot_tests) (λ r. is_the_text lot.gtin (column r 2) && is_the_text lot.lot (column r 3)) all (λ r there. ap₂ ◌&&◌ (equals_text (column r 2) lot.gtin) (and_true _ ∙ equals_text (column r 3) lot.lot)) in
-    subst (AllByRecursion (λ v. has_shipline v ≡ true)) (sym (shiplines_of_lot_turn old new lot rows ready h))
-    (all_map (λ v. has_shipline v ≡ true) (show params shown) _ (subst (AllByRecursion (λ r. is_shipline r ≡ true)) (sym same_rows) are))
+    both_typed has_shipline is_shipline (show params shown) (λ r. refl) (shiplines_of_lot_rows lot old.now.trees) rows (shiplines_of_lot_turn old new lot rows ready h ∙ ap (map (show params shown)) same_rows)

@@ -1,6 +1,6 @@
 -- What the statements on `shipments` mean, and what they make of the tables.
 use Rattle.std.proofs.Common.{◌≡◌, ◌≢◌, ◌≤◌, ℕ, ℤ, Bool, true, false, not, ◌&&◌, ◌||◌, cond, List, [], ◌∷◌, codes, map, filter, find, length, pos, Ok, Err, Some, None, inl, inr, IsTrue, refl, sym, ap, ap₂, subst, ◌∙◌, bytes_eq, Equal}
-use Rattle.std.specs.Prelude.{nat_eq, if◌then◌else◌, Option}
+use Rattle.std.specs.Prelude.{◌↔◌, nat_eq, if◌then◌else◌, Option}
 use Rattle.std.specs.List.{AllByRecursion}
 use Rattle.std.proofs.lemmas.Bool.{and_parts}
 use Rattle.sqlite.specs.declared.types.Value.{Value}
@@ -29,6 +29,7 @@ use Rattle.label.specs.declared.lot.LotId.{LotId}
 use Rattle.commands.specs.Spelling.{kind_text}
 use Rattle.commands.specs.declared.limits.TheConstants.{UNITS_MAX, ACTS_MAX, SHORT_MAX, KEY_TEXT_MAX, CARD_NOTE_MAX, SCHEMA_VERSION}
 use Rattle.commands.specs.declared.rows.ShipmentRow.{ShipmentRow}
+use Rattle.history_tables.specs.declared.texts.TheConstants.{DROP_SHIPMENT, CHANGE_SHIPMENT, ADD_SHIPMENT, SHIPMENTS_OF}
 use Rattle.table_words.specs.Cells.{typed, is_word, is_the_text, fits_in, is_any, is_number, is_the_number, number_in, is_signed, is_any_number, signed_in, flag_number, flag_in, bin_kind_in, order_state_text, order_state_in, card_kind_text, card_kind_in}
 use Rattle.table_words.specs.Schema.{the_schema, shipments_tree, shipments_table}
 use Rattle.table_words.specs.Typed.{same_lot_id, is_shipment, shipment_in, has_shipment, shipment_read, ShipmentKey, same_shipment, shipment_key, shipment_cells, with_shipment, without_shipment, tables_in, Tables, AreTyped, shipments_of_rows}
@@ -38,7 +39,7 @@ use Rattle.table_words.proofs.Plans.{same, scan, by_rowid, alone}
 use Rattle.table_words.proofs.ListLemmas.{over, IsRows-filter, IsRows-over, IsRows-put_row, all_over, all_put_row, any_counted, none_counted_pass, none_over, stays_put, filter_same_on}
 use Rattle.table_words.proofs.ScanLemmas.{passes, show, in_order, scanned}
 use Rattle.table_words.proofs.WriteLemmas.{deletes, inserts, inserts_at, updates, only_shown, cast_number, cast_null}
-use Rattle.table_words.proofs.CellLemmas.{and_true, and_assoc, same_word, same_count, same_the_number, equals_text, equals_number, same_number, itself_number, same_lots, itself_lot, id_is, typed-filter, shown_typed, flag_back, bin_kind_back, order_state_back, card_kind_back}
+use Rattle.table_words.proofs.CellLemmas.{and_true, and_assoc, same_word, same_count, same_the_number, equals_text, equals_number, same_number, itself_number, same_lots, itself_lot, id_is, typed-filter, both_typed, shown_typed, flag_back, bin_kind_back, order_state_back, card_kind_back}
 use Rattle.table_words.proofs.StepLemmas.{ready_after, goes}
 use Rattle.table_words.proofs.KeyLemmas.{AtMostOne, one_by_key, one_by_rowid, few, none_had, IsSame, same_bytes, same_both, itself_bytes, itself_both, meets, found_without, found_put, found_over, are_rows}
 
@@ -64,7 +65,7 @@ one_row db ready params = one_by_rowid (db.trees shipments_tree) params
 -- ---- DELETE
 
 abbrev pub drop_text : List ℕ
-drop_text = codes "DELETE FROM shipments WHERE number = ?1"
+drop_text = DROP_SHIPMENT.now
 
 drop_is : command_of (understood the_schema drop_text) ≡ Delete 10 (alone (scan shipments_tree tests (col 1 0 ∷ []) []))
 unfolding understood everything
@@ -92,7 +93,7 @@ drops old new number count ready inside h =
 -- ---- UPDATE
 
 abbrev pub change_text : List ℕ
-change_text = codes "UPDATE shipments SET act = ?2, day = ?3, ord = ?4 WHERE number = ?1"
+change_text = CHANGE_SHIPMENT.now
 
 abbrev change_terms : List Term
 change_terms = lit Null ∷ col 0 1 ∷ col 0 2 ∷ col 0 3 ∷ []
@@ -139,7 +140,7 @@ changes old new s count sound ready inside h =
 -- ---- INSERT
 
 abbrev pub add_text : List ℕ
-add_text = codes "INSERT INTO shipments (number, act, day, ord) VALUES (?1, ?2, ?3, ?4)"
+add_text = ADD_SHIPMENT.now
 
 abbrev add_terms : List Term
 add_terms = col 0 0 ∷ lit Null ∷ col 0 1 ∷ col 0 2 ∷ col 0 3 ∷ []
@@ -187,7 +188,7 @@ apart db ready a b ha hb ta tb e =
     one_row db ready params b a hb ha (at_key params s.number refl b tb ∙ e) (at_key params s.number refl a ta ∙ itself s.number)
 
 abbrev pub shipments_of_text : List ℕ
-shipments_of_text = codes "SELECT number, act, day, ord FROM shipments WHERE number = ?1"
+shipments_of_text = SHIPMENTS_OF.now
 
 abbrev shipments_of_tests : List Term
 shipments_of_tests = same 0 0 ∷ []
@@ -225,12 +226,11 @@ shipments_of_reads old new number rows xs ready h has are =
     (shown_typed is_shipment shipment_in has_shipment shipment_read (show params shown) (λ r. refl) (λ r. refl) _ rows xs (shipments_of_turn old new number rows ready h) has are
     ∙ typed-filter is_shipment shipment_in (passes params shipments_of_tests) (λ x. let key = shipment_key x in nat_eq number key) (shipments_of_at number) all)
 
--- each of them reads as a typed row
+-- they read as typed rows exactly if the stored ones do
 pub shipments_of_typed : (old new : State) (number : ℕ) (rows : List Row) → IsReady old.now → Shown shipments_of_text (Int (pos number) ∷ []) old new rows
-    → AllByRecursion (λ r. is_shipment r ≡ true) (shipments_of_rows number old.now.trees) → AllByRecursion (λ v. has_shipment v ≡ true) rows
-shipments_of_typed old new number rows ready h are =
+    → AllByRecursion (λ r. is_shipment r ≡ true) (shipments_of_rows number old.now.trees) ↔ AllByRecursion (λ v. has_shipment v ≡ true) rows
+shipments_of_typed old new number rows ready h =
     let params = Int (pos number) ∷ [] in
     let all = old.now.trees shipments_tree in
     let same_rows = filter_same_on (passes params shipments_of_tests) (λ r. is_the_number number (column r 0)) all (λ r there. and_true _ ∙ equals_number (column r 0) number (all_has (λ r. IsTrue (is_int (rowid r))) all r ready.rows.1.1.1.1.1.1.1.1.1.1.0.1 there)) in
-    subst (AllByRecursion (λ v. has_shipment v ≡ true)) (sym (shipments_of_turn old new number rows ready h))
-    (all_map (λ v. has_shipment v ≡ true) (show params shown) _ (subst (AllByRecursion (λ r. is_shipment r ≡ true)) (sym same_rows) are))
+    both_typed has_shipment is_shipment (show params shown) (λ r. refl) (shipments_of_rows number old.now.trees) rows (shipments_of_turn old new number rows ready h ∙ ap (map (show params shown)) same_rows)

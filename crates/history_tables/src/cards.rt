@@ -1,14 +1,15 @@
 //! The table `cards`.
 
-ghost use Rattle.std.specs.Prelude.{◌≡◌, ◌≤◌, true, false, find, map, OnOk, IfOk, IfErr, bytes_eq, nat_eq, if◌then◌else◌};
+ghost use Rattle.std.specs.Prelude.{◌≡◌, ◌≢◌, ◌≤◌, ◌<◌, true, false, find, map, OnOk, IfOk, IfErr, bytes_eq, nat_eq, if◌then◌else◌};
 ghost use Rattle.std.specs.List.{AllByRecursion};
 ghost use Rattle.sqlite.specs.State.{HasCleanDisk, Survives, KeepsCommit, IsUnchanged};
 ghost use Rattle.sqlite.specs.Held.{state};
 ghost use Rattle.table_words.specs.Found.{AreRows};
-ghost use Rattle.table_words.specs.Steps.{IsReady, Goes};
+ghost use Rattle.table_words.specs.Steps.{IsReady, Goes, IsTooBig};
 ghost use Rattle.table_words.specs.Typed.{tables_in, same_lot_id, with_card, without_card, is_card, has_card, card_read, card_key, same_card, CardKey, cards_of_lot_rows};
 ghost use Rattle.table_words.specs.declared.error.TableFault.TheVariants.{Foreign};
 
+use crate::texts::{ADD_CARD, CARDS_OF_LOT, CHANGE_CARD, DROP_CARD};
 use commands::CardRow;
 use commands::limits::{ACTS_MAX, UNITS_MAX};
 use label::LotId;
@@ -31,12 +32,14 @@ pub fn drop_card<S: Alter>(
         → OnOk result (Goes (without_card lot.now act) (state S.Store tx.old.conn.now) (state S.Store tx.new.conn.now)) }
     ensures kept { HasCleanDisk (state S.Store tx.new.conn.now) → KeepsCommit (state S.Store tx.old.conn.now) (state S.Store tx.new.conn.now) }
     ensures survives { Survives (state S.Store tx.old.conn.now) (state S.Store tx.new.conn.now) (λ _. ⊥) }
+    ensures never_foreign { IfErr result (λ e. e ≢ Foreign) }
+    ensures size_act { ACTS_MAX < act → IsTooBig result tx.old.conn.now tx.new.conn.now }
 {
     if act > ACTS_MAX {
         return Err(TableFault::too_big());
     }
     tx.execute(
-        "DELETE FROM cards WHERE gtin = ?1 AND lot = ?2 AND act = ?3",
+        DROP_CARD,
         &[of_gtin(&lot.gtin), of_lot(&lot.lot), of_number(act)],
     )?;
     Ok(())
@@ -51,9 +54,10 @@ fn change_card<S: Alter>(tx: &mut Transaction<'_, S>, row: &CardRow) -> Result<b
         → IfOk result (λ had. Goes (if had then with_card row.now else (λ t. t)) (state S.Store tx.old.conn.now) (state S.Store tx.new.conn.now)) }
     ensures kept { HasCleanDisk (state S.Store tx.new.conn.now) → KeepsCommit (state S.Store tx.old.conn.now) (state S.Store tx.new.conn.now) }
     ensures survives { Survives (state S.Store tx.old.conn.now) (state S.Store tx.new.conn.now) (λ _. ⊥) }
+    ensures never_foreign { IfErr result (λ e. e ≢ Foreign) }
 {
     let count = tx.execute(
-        "UPDATE cards SET gtin = ?1, lot = ?2, act = ?3, day = ?4, kind = ?5, note = ?6, qty = ?7, rest = ?8 WHERE gtin = ?1 AND lot = ?2 AND act = ?3",
+        CHANGE_CARD,
         &[
             of_gtin(&row.lot.gtin),
             of_lot(&row.lot.lot),
@@ -77,9 +81,10 @@ fn add_card<S: Alter>(tx: &mut Transaction<'_, S>, row: &CardRow) -> Result<(), 
         → OnOk result (Goes (with_card row.now) (state S.Store tx.old.conn.now) (state S.Store tx.new.conn.now)) }
     ensures kept { HasCleanDisk (state S.Store tx.new.conn.now) → KeepsCommit (state S.Store tx.old.conn.now) (state S.Store tx.new.conn.now) }
     ensures survives { Survives (state S.Store tx.old.conn.now) (state S.Store tx.new.conn.now) (λ _. ⊥) }
+    ensures never_foreign { IfErr result (λ e. e ≢ Foreign) }
 {
     tx.execute(
-        "INSERT INTO cards (gtin, lot, act, day, kind, note, qty, rest) VALUES (?1, ?2, ?3, ?4, ?5, ?6, ?7, ?8)",
+        ADD_CARD,
         &[
             of_gtin(&row.lot.gtin),
             of_lot(&row.lot.lot),
@@ -101,6 +106,9 @@ pub fn put_card<S: Alter>(tx: &mut Transaction<'_, S>, row: &CardRow) -> Result<
         → OnOk result (Goes (with_card row.now) (state S.Store tx.old.conn.now) (state S.Store tx.new.conn.now)) }
     ensures kept { HasCleanDisk (state S.Store tx.new.conn.now) → KeepsCommit (state S.Store tx.old.conn.now) (state S.Store tx.new.conn.now) }
     ensures survives { Survives (state S.Store tx.old.conn.now) (state S.Store tx.new.conn.now) (λ _. ⊥) }
+    ensures never_foreign { IfErr result (λ e. e ≢ Foreign) }
+    ensures size_act { ACTS_MAX < row.now.act → IsTooBig result tx.old.conn.now tx.new.conn.now }
+    ensures size_rest { UNITS_MAX < row.now.rest → IsTooBig result tx.old.conn.now tx.new.conn.now }
 {
     if row.act > ACTS_MAX || row.rest > UNITS_MAX {
         return Err(TableFault::too_big());
@@ -150,15 +158,14 @@ pub fn cards_of_lot<S: Alter>(
     ensures same_reference { tx.new.conn.ghost_name ≡ tx.old.conn.ghost_name }
     ensures rows { HasCleanDisk (state S.Store tx.new.conn.now) → IsReady (state S.Store tx.old.conn.now).now
         → IfOk result (λ rows. AreRows {K = CardKey} same_card card_key (λ key. same_lot_id lot.now key.0) (λ key. (tables_in (state S.Store tx.old.conn.now).now.trees).card key.0 key.1) rows.items) }
+    ensures typed { HasCleanDisk (state S.Store tx.new.conn.now) → IsReady (state S.Store tx.old.conn.now).now
+        → OnOk result (AllByRecursion (λ r. is_card r ≡ true) (cards_of_lot_rows lot.now (state S.Store tx.old.conn.now).now.trees)) }
     ensures foreign { HasCleanDisk (state S.Store tx.new.conn.now) → IsReady (state S.Store tx.old.conn.now).now
         → IfErr result (λ e. e ≡ Foreign → ¬ AllByRecursion (λ r. is_card r ≡ true) (cards_of_lot_rows lot.now (state S.Store tx.old.conn.now).now.trees)) }
     ensures same { HasCleanDisk (state S.Store tx.new.conn.now) → IsReady (state S.Store tx.old.conn.now).now → OnOk result (IsUnchanged (state S.Store tx.old.conn.now) (state S.Store tx.new.conn.now)) }
     ensures kept { HasCleanDisk (state S.Store tx.new.conn.now) → IsReady (state S.Store tx.old.conn.now).now → KeepsCommit (state S.Store tx.old.conn.now) (state S.Store tx.new.conn.now) }
     ensures survives { Survives (state S.Store tx.old.conn.now) (state S.Store tx.new.conn.now) (λ _. ⊥) }
 {
-    let rows = tx.query_all(
-        "SELECT gtin, lot, act, day, kind, note, qty, rest FROM cards WHERE gtin = ?1 AND lot = ?2 ORDER BY rowid",
-        &[of_gtin(&lot.gtin), of_lot(&lot.lot)],
-    )?;
+    let rows = tx.query_all(CARDS_OF_LOT, &[of_gtin(&lot.gtin), of_lot(&lot.lot)])?;
     to_rows(alloc, rows.as_slice())
 }

@@ -5,3 +5,4 @@ pub mod cards;
 pub mod repeats;
 pub mod shiplines;
 pub mod shipments;
+pub mod texts;

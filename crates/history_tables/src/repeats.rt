@@ -1,14 +1,15 @@
 //! The table `repeats`.
 
-ghost use Rattle.std.specs.Prelude.{◌≡◌, ◌≤◌, true, false, find, map, OnOk, IfOk, IfErr, bytes_eq, nat_eq, if◌then◌else◌};
+ghost use Rattle.std.specs.Prelude.{◌≡◌, ◌≢◌, ◌≤◌, ◌<◌, true, false, find, map, OnOk, IfOk, IfErr, bytes_eq, nat_eq, if◌then◌else◌};
 ghost use Rattle.std.specs.List.{AllByRecursion};
 ghost use Rattle.sqlite.specs.State.{HasCleanDisk, Survives, KeepsCommit, IsUnchanged};
 ghost use Rattle.sqlite.specs.Held.{state};
 ghost use Rattle.table_words.specs.Found.{AreRows};
-ghost use Rattle.table_words.specs.Steps.{IsReady, Goes};
-ghost use Rattle.table_words.specs.Typed.{tables_in, same_lot_id, with_repeat, without_repeat, is_repeat, has_repeat, repeat_read, repeat_key, same_repeat, RepeatKey, repeats_of_rows};
+ghost use Rattle.table_words.specs.Steps.{IsReady, Goes, IsTooBig};
+ghost use Rattle.table_words.specs.Typed.{tables_in, same_lot_id, with_repeat, is_repeat, has_repeat, repeat_read, repeat_key, same_repeat, RepeatKey, repeats_of_rows};
 ghost use Rattle.table_words.specs.declared.error.TableFault.TheVariants.{Foreign};
 
+use crate::texts::{ADD_REPEAT, CHANGE_REPEAT, REPEATS_OF};
 use commands::RepeatRow;
 use commands::limits::{ACTS_MAX, KEY_TEXT_MAX};
 use label::Text;
@@ -19,21 +20,6 @@ use table_words::values::{
     key_text_at, number_at, of_number, of_short, of_spelling, of_text, short_at, spelling_at,
 };
 
-/// Drops the row with this key, if there is one.
-pub fn drop_repeat<S: Alter>(
-    tx: &mut Transaction<'_, S>,
-    k: &Text<KEY_TEXT_MAX>,
-) -> Result<(), TableFault>
-    ensures same_reference { tx.new.conn.ghost_name ≡ tx.old.conn.ghost_name }
-    ensures done { HasCleanDisk (state S.Store tx.new.conn.now) → IsReady (state S.Store tx.old.conn.now).now
-        → OnOk result (Goes (without_repeat k.now) (state S.Store tx.old.conn.now) (state S.Store tx.new.conn.now)) }
-    ensures kept { HasCleanDisk (state S.Store tx.new.conn.now) → KeepsCommit (state S.Store tx.old.conn.now) (state S.Store tx.new.conn.now) }
-    ensures survives { Survives (state S.Store tx.old.conn.now) (state S.Store tx.new.conn.now) (λ _. ⊥) }
-{
-    tx.execute("DELETE FROM repeats WHERE k = ?1", &[of_text(k)])?;
-    Ok(())
-}
-
 /// Writes the row over one with its key, and tells whether there was one.
 fn change_repeat<S: Alter>(tx: &mut Transaction<'_, S>, row: &RepeatRow) -> Result<bool, TableFault>
     requires fits_act { row.now.act ≤ ACTS_MAX }
@@ -42,9 +28,10 @@ fn change_repeat<S: Alter>(tx: &mut Transaction<'_, S>, row: &RepeatRow) -> Resu
         → IfOk result (λ had. Goes (if had then with_repeat row.now else (λ t. t)) (state S.Store tx.old.conn.now) (state S.Store tx.new.conn.now)) }
     ensures kept { HasCleanDisk (state S.Store tx.new.conn.now) → KeepsCommit (state S.Store tx.old.conn.now) (state S.Store tx.new.conn.now) }
     ensures survives { Survives (state S.Store tx.old.conn.now) (state S.Store tx.new.conn.now) (λ _. ⊥) }
+    ensures never_foreign { IfErr result (λ e. e ≢ Foreign) }
 {
     let count = tx.execute(
-        "UPDATE repeats SET k = ?1, act = ?2, spell = ?3, reply = ?4 WHERE k = ?1",
+        CHANGE_REPEAT,
         &[
             of_text(&row.k),
             of_number(row.act),
@@ -63,9 +50,10 @@ fn add_repeat<S: Alter>(tx: &mut Transaction<'_, S>, row: &RepeatRow) -> Result<
         → OnOk result (Goes (with_repeat row.now) (state S.Store tx.old.conn.now) (state S.Store tx.new.conn.now)) }
     ensures kept { HasCleanDisk (state S.Store tx.new.conn.now) → KeepsCommit (state S.Store tx.old.conn.now) (state S.Store tx.new.conn.now) }
     ensures survives { Survives (state S.Store tx.old.conn.now) (state S.Store tx.new.conn.now) (λ _. ⊥) }
+    ensures never_foreign { IfErr result (λ e. e ≢ Foreign) }
 {
     tx.execute(
-        "INSERT INTO repeats (k, act, spell, reply) VALUES (?1, ?2, ?3, ?4)",
+        ADD_REPEAT,
         &[
             of_text(&row.k),
             of_number(row.act),
@@ -83,6 +71,8 @@ pub fn put_repeat<S: Alter>(tx: &mut Transaction<'_, S>, row: &RepeatRow) -> Res
         → OnOk result (Goes (with_repeat row.now) (state S.Store tx.old.conn.now) (state S.Store tx.new.conn.now)) }
     ensures kept { HasCleanDisk (state S.Store tx.new.conn.now) → KeepsCommit (state S.Store tx.old.conn.now) (state S.Store tx.new.conn.now) }
     ensures survives { Survives (state S.Store tx.old.conn.now) (state S.Store tx.new.conn.now) (λ _. ⊥) }
+    ensures never_foreign { IfErr result (λ e. e ≢ Foreign) }
+    ensures size_act { ACTS_MAX < row.now.act → IsTooBig result tx.old.conn.now tx.new.conn.now }
 {
     if row.act > ACTS_MAX {
         return Err(TableFault::too_big());
@@ -126,15 +116,14 @@ pub fn repeats_of<S: Alter>(
     ensures same_reference { tx.new.conn.ghost_name ≡ tx.old.conn.ghost_name }
     ensures rows { HasCleanDisk (state S.Store tx.new.conn.now) → IsReady (state S.Store tx.old.conn.now).now
         → IfOk result (λ rows. AreRows {K = RepeatKey} same_repeat repeat_key (λ key. bytes_eq k.now key) (λ key. (tables_in (state S.Store tx.old.conn.now).now.trees).repeat key) rows.items) }
+    ensures typed { HasCleanDisk (state S.Store tx.new.conn.now) → IsReady (state S.Store tx.old.conn.now).now
+        → OnOk result (AllByRecursion (λ r. is_repeat r ≡ true) (repeats_of_rows k.now (state S.Store tx.old.conn.now).now.trees)) }
     ensures foreign { HasCleanDisk (state S.Store tx.new.conn.now) → IsReady (state S.Store tx.old.conn.now).now
         → IfErr result (λ e. e ≡ Foreign → ¬ AllByRecursion (λ r. is_repeat r ≡ true) (repeats_of_rows k.now (state S.Store tx.old.conn.now).now.trees)) }
     ensures same { HasCleanDisk (state S.Store tx.new.conn.now) → IsReady (state S.Store tx.old.conn.now).now → OnOk result (IsUnchanged (state S.Store tx.old.conn.now) (state S.Store tx.new.conn.now)) }
     ensures kept { HasCleanDisk (state S.Store tx.new.conn.now) → IsReady (state S.Store tx.old.conn.now).now → KeepsCommit (state S.Store tx.old.conn.now) (state S.Store tx.new.conn.now) }
     ensures survives { Survives (state S.Store tx.old.conn.now) (state S.Store tx.new.conn.now) (λ _. ⊥) }
 {
-    let rows = tx.query_all(
-        "SELECT k, act, spell, reply FROM repeats WHERE k = ?1 ORDER BY rowid",
-        &[of_text(k)],
-    )?;
+    let rows = tx.query_all(REPEATS_OF, &[of_text(k)])?;
     to_rows(alloc, rows.as_slice())
 }

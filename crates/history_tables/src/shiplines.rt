@@ -1,14 +1,15 @@
 //! The table `shiplines`.
 
-ghost use Rattle.std.specs.Prelude.{◌≡◌, ◌≤◌, true, false, find, map, OnOk, IfOk, IfErr, bytes_eq, nat_eq, if◌then◌else◌};
+ghost use Rattle.std.specs.Prelude.{◌≡◌, ◌≢◌, ◌≤◌, ◌<◌, true, false, find, map, OnOk, IfOk, IfErr, bytes_eq, nat_eq, if◌then◌else◌};
 ghost use Rattle.std.specs.List.{AllByRecursion};
 ghost use Rattle.sqlite.specs.State.{HasCleanDisk, Survives, KeepsCommit, IsUnchanged};
 ghost use Rattle.sqlite.specs.Held.{state};
 ghost use Rattle.table_words.specs.Found.{AreRows};
-ghost use Rattle.table_words.specs.Steps.{IsReady, Goes};
+ghost use Rattle.table_words.specs.Steps.{IsReady, Goes, IsTooBig};
 ghost use Rattle.table_words.specs.Typed.{tables_in, same_lot_id, with_shipline, without_shipline, is_shipline, has_shipline, shipline_read, shipline_key, same_shipline, ShiplineKey, shiplines_of_lot_rows};
 ghost use Rattle.table_words.specs.declared.error.TableFault.TheVariants.{Foreign};
 
+use crate::texts::{ADD_SHIPLINE, CHANGE_SHIPLINE, DROP_SHIPLINE, SHIPLINES_OF_LOT};
 use commands::ShiplineRow;
 use commands::limits::{ACTS_MAX, UNITS_MAX};
 use label::LotId;
@@ -28,12 +29,14 @@ pub fn drop_shipline<S: Alter>(
         → OnOk result (Goes (without_shipline number lot.now) (state S.Store tx.old.conn.now) (state S.Store tx.new.conn.now)) }
     ensures kept { HasCleanDisk (state S.Store tx.new.conn.now) → KeepsCommit (state S.Store tx.old.conn.now) (state S.Store tx.new.conn.now) }
     ensures survives { Survives (state S.Store tx.old.conn.now) (state S.Store tx.new.conn.now) (λ _. ⊥) }
+    ensures never_foreign { IfErr result (λ e. e ≢ Foreign) }
+    ensures size_number { ACTS_MAX < number → IsTooBig result tx.old.conn.now tx.new.conn.now }
 {
     if number > ACTS_MAX {
         return Err(TableFault::too_big());
     }
     tx.execute(
-        "DELETE FROM shiplines WHERE number = ?1 AND gtin = ?2 AND lot = ?3",
+        DROP_SHIPLINE,
         &[of_number(number), of_gtin(&lot.gtin), of_lot(&lot.lot)],
     )?;
     Ok(())
@@ -51,9 +54,10 @@ fn change_shipline<S: Alter>(
         → IfOk result (λ had. Goes (if had then with_shipline row.now else (λ t. t)) (state S.Store tx.old.conn.now) (state S.Store tx.new.conn.now)) }
     ensures kept { HasCleanDisk (state S.Store tx.new.conn.now) → KeepsCommit (state S.Store tx.old.conn.now) (state S.Store tx.new.conn.now) }
     ensures survives { Survives (state S.Store tx.old.conn.now) (state S.Store tx.new.conn.now) (λ _. ⊥) }
+    ensures never_foreign { IfErr result (λ e. e ≢ Foreign) }
 {
     let count = tx.execute(
-        "UPDATE shiplines SET number = ?1, gtin = ?2, lot = ?3, qty = ?4 WHERE number = ?1 AND gtin = ?2 AND lot = ?3",
+        CHANGE_SHIPLINE,
         &[
             of_number(row.number),
             of_gtin(&row.lot.gtin),
@@ -73,9 +77,10 @@ fn add_shipline<S: Alter>(tx: &mut Transaction<'_, S>, row: &ShiplineRow) -> Res
         → OnOk result (Goes (with_shipline row.now) (state S.Store tx.old.conn.now) (state S.Store tx.new.conn.now)) }
     ensures kept { HasCleanDisk (state S.Store tx.new.conn.now) → KeepsCommit (state S.Store tx.old.conn.now) (state S.Store tx.new.conn.now) }
     ensures survives { Survives (state S.Store tx.old.conn.now) (state S.Store tx.new.conn.now) (λ _. ⊥) }
+    ensures never_foreign { IfErr result (λ e. e ≢ Foreign) }
 {
     tx.execute(
-        "INSERT INTO shiplines (number, gtin, lot, qty) VALUES (?1, ?2, ?3, ?4)",
+        ADD_SHIPLINE,
         &[
             of_number(row.number),
             of_gtin(&row.lot.gtin),
@@ -96,6 +101,9 @@ pub fn put_shipline<S: Alter>(
         → OnOk result (Goes (with_shipline row.now) (state S.Store tx.old.conn.now) (state S.Store tx.new.conn.now)) }
     ensures kept { HasCleanDisk (state S.Store tx.new.conn.now) → KeepsCommit (state S.Store tx.old.conn.now) (state S.Store tx.new.conn.now) }
     ensures survives { Survives (state S.Store tx.old.conn.now) (state S.Store tx.new.conn.now) (λ _. ⊥) }
+    ensures never_foreign { IfErr result (λ e. e ≢ Foreign) }
+    ensures size_number { ACTS_MAX < row.now.number → IsTooBig result tx.old.conn.now tx.new.conn.now }
+    ensures size_qty { UNITS_MAX < row.now.qty → IsTooBig result tx.old.conn.now tx.new.conn.now }
 {
     if row.number > ACTS_MAX || row.qty > UNITS_MAX {
         return Err(TableFault::too_big());
@@ -141,15 +149,14 @@ pub fn shiplines_of_lot<S: Alter>(
     ensures same_reference { tx.new.conn.ghost_name ≡ tx.old.conn.ghost_name }
     ensures rows { HasCleanDisk (state S.Store tx.new.conn.now) → IsReady (state S.Store tx.old.conn.now).now
         → IfOk result (λ rows. AreRows {K = ShiplineKey} same_shipline shipline_key (λ key. same_lot_id lot.now key.1) (λ key. (tables_in (state S.Store tx.old.conn.now).now.trees).shipline key.0 key.1) rows.items) }
+    ensures typed { HasCleanDisk (state S.Store tx.new.conn.now) → IsReady (state S.Store tx.old.conn.now).now
+        → OnOk result (AllByRecursion (λ r. is_shipline r ≡ true) (shiplines_of_lot_rows lot.now (state S.Store tx.old.conn.now).now.trees)) }
     ensures foreign { HasCleanDisk (state S.Store tx.new.conn.now) → IsReady (state S.Store tx.old.conn.now).now
         → IfErr result (λ e. e ≡ Foreign → ¬ AllByRecursion (λ r. is_shipline r ≡ true) (shiplines_of_lot_rows lot.now (state S.Store tx.old.conn.now).now.trees)) }
     ensures same { HasCleanDisk (state S.Store tx.new.conn.now) → IsReady (state S.Store tx.old.conn.now).now → OnOk result (IsUnchanged (state S.Store tx.old.conn.now) (state S.Store tx.new.conn.now)) }
     ensures kept { HasCleanDisk (state S.Store tx.new.conn.now) → IsReady (state S.Store tx.old.conn.now).now → KeepsCommit (state S.Store tx.old.conn.now) (state S.Store tx.new.conn.now) }
     ensures survives { Survives (state S.Store tx.old.conn.now) (state S.Store tx.new.conn.now) (λ _. ⊥) }
 {
-    let rows = tx.query_all(
-        "SELECT number, gtin, lot, qty FROM shiplines WHERE gtin = ?1 AND lot = ?2 ORDER BY rowid",
-        &[of_gtin(&lot.gtin), of_lot(&lot.lot)],
-    )?;
+    let rows = tx.query_all(SHIPLINES_OF_LOT, &[of_gtin(&lot.gtin), of_lot(&lot.lot)])?;
     to_rows(alloc, rows.as_slice())
 }

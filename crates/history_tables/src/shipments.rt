@@ -1,14 +1,15 @@
 //! The table `shipments`.
 
-ghost use Rattle.std.specs.Prelude.{◌≡◌, ◌≤◌, true, false, find, map, OnOk, IfOk, IfErr, bytes_eq, nat_eq, if◌then◌else◌};
+ghost use Rattle.std.specs.Prelude.{◌≡◌, ◌≢◌, ◌≤◌, ◌<◌, true, false, find, map, OnOk, IfOk, IfErr, bytes_eq, nat_eq, if◌then◌else◌};
 ghost use Rattle.std.specs.List.{AllByRecursion};
 ghost use Rattle.sqlite.specs.State.{HasCleanDisk, Survives, KeepsCommit, IsUnchanged};
 ghost use Rattle.sqlite.specs.Held.{state};
 ghost use Rattle.table_words.specs.Found.{AreRows};
-ghost use Rattle.table_words.specs.Steps.{IsReady, Goes};
+ghost use Rattle.table_words.specs.Steps.{IsReady, Goes, IsTooBig};
 ghost use Rattle.table_words.specs.Typed.{tables_in, same_lot_id, with_shipment, without_shipment, is_shipment, has_shipment, shipment_read, shipment_key, same_shipment, ShipmentKey, shipments_of_rows};
 ghost use Rattle.table_words.specs.declared.error.TableFault.TheVariants.{Foreign};
 
+use crate::texts::{ADD_SHIPMENT, CHANGE_SHIPMENT, DROP_SHIPMENT, SHIPMENTS_OF};
 use commands::ShipmentRow;
 use commands::limits::ACTS_MAX;
 use sqlite::{Alter, Row, Transaction};
@@ -25,14 +26,13 @@ pub fn drop_shipment<S: Alter>(tx: &mut Transaction<'_, S>, number: u64) -> Resu
         → OnOk result (Goes (without_shipment number) (state S.Store tx.old.conn.now) (state S.Store tx.new.conn.now)) }
     ensures kept { HasCleanDisk (state S.Store tx.new.conn.now) → KeepsCommit (state S.Store tx.old.conn.now) (state S.Store tx.new.conn.now) }
     ensures survives { Survives (state S.Store tx.old.conn.now) (state S.Store tx.new.conn.now) (λ _. ⊥) }
+    ensures never_foreign { IfErr result (λ e. e ≢ Foreign) }
+    ensures size_number { ACTS_MAX < number → IsTooBig result tx.old.conn.now tx.new.conn.now }
 {
     if number > ACTS_MAX {
         return Err(TableFault::too_big());
     }
-    tx.execute(
-        "DELETE FROM shipments WHERE number = ?1",
-        &[of_number(number)],
-    )?;
+    tx.execute(DROP_SHIPMENT, &[of_number(number)])?;
     Ok(())
 }
 
@@ -48,9 +48,10 @@ fn change_shipment<S: Alter>(
         → IfOk result (λ had. Goes (if had then with_shipment row.now else (λ t. t)) (state S.Store tx.old.conn.now) (state S.Store tx.new.conn.now)) }
     ensures kept { HasCleanDisk (state S.Store tx.new.conn.now) → KeepsCommit (state S.Store tx.old.conn.now) (state S.Store tx.new.conn.now) }
     ensures survives { Survives (state S.Store tx.old.conn.now) (state S.Store tx.new.conn.now) (λ _. ⊥) }
+    ensures never_foreign { IfErr result (λ e. e ≢ Foreign) }
 {
     let count = tx.execute(
-        "UPDATE shipments SET act = ?2, day = ?3, ord = ?4 WHERE number = ?1",
+        CHANGE_SHIPMENT,
         &[
             of_number(row.number),
             of_number(row.act),
@@ -70,9 +71,10 @@ fn add_shipment<S: Alter>(tx: &mut Transaction<'_, S>, row: &ShipmentRow) -> Res
         → OnOk result (Goes (with_shipment row.now) (state S.Store tx.old.conn.now) (state S.Store tx.new.conn.now)) }
     ensures kept { HasCleanDisk (state S.Store tx.new.conn.now) → KeepsCommit (state S.Store tx.old.conn.now) (state S.Store tx.new.conn.now) }
     ensures survives { Survives (state S.Store tx.old.conn.now) (state S.Store tx.new.conn.now) (λ _. ⊥) }
+    ensures never_foreign { IfErr result (λ e. e ≢ Foreign) }
 {
     tx.execute(
-        "INSERT INTO shipments (number, act, day, ord) VALUES (?1, ?2, ?3, ?4)",
+        ADD_SHIPMENT,
         &[
             of_number(row.number),
             of_number(row.act),
@@ -93,6 +95,9 @@ pub fn put_shipment<S: Alter>(
         → OnOk result (Goes (with_shipment row.now) (state S.Store tx.old.conn.now) (state S.Store tx.new.conn.now)) }
     ensures kept { HasCleanDisk (state S.Store tx.new.conn.now) → KeepsCommit (state S.Store tx.old.conn.now) (state S.Store tx.new.conn.now) }
     ensures survives { Survives (state S.Store tx.old.conn.now) (state S.Store tx.new.conn.now) (λ _. ⊥) }
+    ensures never_foreign { IfErr result (λ e. e ≢ Foreign) }
+    ensures size_number { ACTS_MAX < row.now.number → IsTooBig result tx.old.conn.now tx.new.conn.now }
+    ensures size_act { ACTS_MAX < row.now.act → IsTooBig result tx.old.conn.now tx.new.conn.now }
 {
     if row.number > ACTS_MAX || row.act > ACTS_MAX {
         return Err(TableFault::too_big());
@@ -136,18 +141,18 @@ pub fn shipments_of<S: Alter>(
     ensures same_reference { tx.new.conn.ghost_name ≡ tx.old.conn.ghost_name }
     ensures rows { HasCleanDisk (state S.Store tx.new.conn.now) → IsReady (state S.Store tx.old.conn.now).now
         → IfOk result (λ rows. AreRows {K = ShipmentKey} same_shipment shipment_key (λ key. nat_eq number key) (λ key. (tables_in (state S.Store tx.old.conn.now).now.trees).shipment key) rows.items) }
+    ensures typed { HasCleanDisk (state S.Store tx.new.conn.now) → IsReady (state S.Store tx.old.conn.now).now
+        → OnOk result (AllByRecursion (λ r. is_shipment r ≡ true) (shipments_of_rows number (state S.Store tx.old.conn.now).now.trees)) }
     ensures foreign { HasCleanDisk (state S.Store tx.new.conn.now) → IsReady (state S.Store tx.old.conn.now).now
         → IfErr result (λ e. e ≡ Foreign → ¬ AllByRecursion (λ r. is_shipment r ≡ true) (shipments_of_rows number (state S.Store tx.old.conn.now).now.trees)) }
     ensures same { HasCleanDisk (state S.Store tx.new.conn.now) → IsReady (state S.Store tx.old.conn.now).now → OnOk result (IsUnchanged (state S.Store tx.old.conn.now) (state S.Store tx.new.conn.now)) }
     ensures kept { HasCleanDisk (state S.Store tx.new.conn.now) → IsReady (state S.Store tx.old.conn.now).now → KeepsCommit (state S.Store tx.old.conn.now) (state S.Store tx.new.conn.now) }
     ensures survives { Survives (state S.Store tx.old.conn.now) (state S.Store tx.new.conn.now) (λ _. ⊥) }
+    ensures size_number { ACTS_MAX < number → IsTooBig result tx.old.conn.now tx.new.conn.now }
 {
     if number > ACTS_MAX {
         return Err(TableFault::too_big());
     }
-    let rows = tx.query_all(
-        "SELECT number, act, day, ord FROM shipments WHERE number = ?1",
-        &[of_number(number)],
-    )?;
+    let rows = tx.query_all(SHIPMENTS_OF, &[of_number(number)])?;
     to_rows(alloc, rows.as_slice())
 }

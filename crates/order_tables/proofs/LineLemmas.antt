@@ -1,6 +1,6 @@
 -- What the statements on `lines` mean, and what they make of the tables.
-use Rattle.std.proofs.Common.{◌≡◌, ◌≢◌, ◌≤◌, ℕ, ℤ, Bool, true, false, not, ◌&&◌, ◌||◌, cond, List, [], ◌∷◌, codes, map, filter, find, length, pos, Ok, Err, Some, None, inl, inr, IsTrue, refl, sym, ap, ap₂, subst, ◌∙◌, bytes_eq, Equal}
-use Rattle.std.specs.Prelude.{nat_eq, if◌then◌else◌, Option}
+use Rattle.std.proofs.Common.{◌≡◌, ◌≢◌, ◌≤◌, ℕ, ℤ, Bool, true, false, not, ◌&&◌, ◌||◌, cond, List, [], ◌∷◌, codes, map, filter, find, length, slice_get, pos, Ok, Err, Some, None, inl, inr, IsTrue, refl, sym, ap, ap₂, subst, ◌∙◌, bytes_eq, Equal}
+use Rattle.std.specs.Prelude.{◌↔◌, nat_eq, if◌then◌else◌, Option}
 use Rattle.std.specs.List.{AllByRecursion}
 use Rattle.std.proofs.lemmas.Bool.{and_parts}
 use Rattle.sqlite.specs.declared.types.Value.{Value}
@@ -29,18 +29,19 @@ use Rattle.label.specs.declared.lot.LotId.{LotId}
 use Rattle.commands.specs.Spelling.{kind_text}
 use Rattle.commands.specs.declared.limits.TheConstants.{UNITS_MAX, ACTS_MAX, SHORT_MAX, KEY_TEXT_MAX, CARD_NOTE_MAX, SCHEMA_VERSION}
 use Rattle.commands.specs.declared.rows.LineRow.{LineRow}
+use Rattle.order_tables.specs.declared.texts.TheConstants.{DROP_LINE, CHANGE_LINE, ADD_LINE, LINES_OF_ORDER, LINE_OF}
 use Rattle.table_words.specs.Cells.{typed, is_word, is_the_text, fits_in, is_any, is_number, is_the_number, number_in, is_signed, is_any_number, signed_in, flag_number, flag_in, bin_kind_in, order_state_text, order_state_in, card_kind_text, card_kind_in}
 use Rattle.table_words.specs.Schema.{the_schema, lines_tree, lines_table}
-use Rattle.table_words.specs.Typed.{same_lot_id, is_line, line_in, has_line, line_read, LineKey, same_line, line_key, line_cells, with_line, without_line, tables_in, Tables, AreTyped, lines_of_order_rows, lines_of_item_rows}
+use Rattle.table_words.specs.Typed.{same_lot_id, is_line, line_in, has_line, line_read, LineKey, same_line, line_key, line_cells, with_line, without_line, tables_in, Tables, AreTyped, lines_of_order_rows, line_of_rows}
 use Rattle.table_words.specs.Steps.{IsReady, Goes}
 use Rattle.table_words.specs.Found.{AreRows}
 use Rattle.table_words.proofs.Plans.{same, scan, by_rowid, alone}
 use Rattle.table_words.proofs.ListLemmas.{over, IsRows-filter, IsRows-over, IsRows-put_row, all_over, all_put_row, any_counted, none_counted_pass, none_over, stays_put, filter_same_on}
 use Rattle.table_words.proofs.ScanLemmas.{passes, show, in_order, scanned}
 use Rattle.table_words.proofs.WriteLemmas.{deletes, inserts, inserts_at, updates, only_shown, cast_number, cast_null}
-use Rattle.table_words.proofs.CellLemmas.{and_true, and_assoc, same_word, same_count, same_the_number, equals_text, equals_number, same_number, itself_number, same_lots, itself_lot, id_is, typed-filter, shown_typed, flag_back, bin_kind_back, order_state_back, card_kind_back}
+use Rattle.table_words.proofs.CellLemmas.{and_true, and_assoc, same_word, same_count, same_the_number, equals_text, equals_number, same_number, itself_number, same_lots, itself_lot, id_is, typed-filter, both_typed, shown_typed, flag_back, bin_kind_back, order_state_back, card_kind_back}
 use Rattle.table_words.proofs.StepLemmas.{ready_after, goes}
-use Rattle.table_words.proofs.KeyLemmas.{AtMostOne, one_by_key, one_by_rowid, few, none_had, IsSame, same_bytes, same_both, itself_bytes, itself_both, meets, found_without, found_put, found_over, are_rows}
+use Rattle.table_words.proofs.KeyLemmas.{AtMostOne, one_by_key, one_by_rowid, few, none_had, IsSame, same_bytes, same_both, itself_bytes, itself_both, meets, found_without, found_put, found_over, are_rows, first_row}
 
 abbrev pub tests : List Term
 tests = same 1 0 ∷ same 2 1 ∷ []
@@ -67,7 +68,7 @@ one_row db ready params =
 -- ---- DELETE
 
 abbrev pub drop_text : List ℕ
-drop_text = codes "DELETE FROM lines WHERE ord = ?1 AND gtin = ?2"
+drop_text = DROP_LINE.now
 
 drop_is : command_of (understood the_schema drop_text) ≡ Delete 7 (alone (scan lines_tree tests (col 1 0 ∷ []) []))
 unfolding understood everything
@@ -95,7 +96,7 @@ drops old new order gtin count ready inside h =
 -- ---- UPDATE
 
 abbrev pub change_text : List ℕ
-change_text = codes "UPDATE lines SET ord = ?1, gtin = ?2, ordered = ?3, shipped = ?4 WHERE ord = ?1 AND gtin = ?2"
+change_text = CHANGE_LINE.now
 
 abbrev change_terms : List Term
 change_terms = col 0 0 ∷ col 0 1 ∷ col 0 2 ∷ col 0 3 ∷ []
@@ -142,7 +143,7 @@ changes old new s count sound ready inside h =
 -- ---- INSERT
 
 abbrev pub add_text : List ℕ
-add_text = codes "INSERT INTO lines (ord, gtin, ordered, shipped) VALUES (?1, ?2, ?3, ?4)"
+add_text = ADD_LINE.now
 
 abbrev add_terms : List Term
 add_terms = lit Null ∷ col 0 0 ∷ col 0 1 ∷ col 0 2 ∷ col 0 3 ∷ []
@@ -190,7 +191,7 @@ apart db ready a b ha hb ta tb e =
     one_row db ready params b a hb ha (at_key params s.order s.gtin refl refl b tb ∙ e) (at_key params s.order s.gtin refl refl a ta ∙ itself (s.order, s.gtin))
 
 abbrev pub lines_of_order_text : List ℕ
-lines_of_order_text = codes "SELECT ord, gtin, ordered, shipped FROM lines WHERE ord = ?1 ORDER BY rowid"
+lines_of_order_text = LINES_OF_ORDER.now
 
 abbrev lines_of_order_tests : List Term
 lines_of_order_tests = same 1 0 ∷ []
@@ -226,60 +227,50 @@ lines_of_order_reads old new order rows xs ready h has are =
     (shown_typed is_line line_in has_line line_read (show params shown) (λ r. refl) (λ r. refl) _ rows xs (lines_of_order_turn old new order rows ready h) has are
     ∙ typed-filter is_line line_in (passes params lines_of_order_tests) (λ x. let key = line_key x in bytes_eq order key.0) (lines_of_order_at order) all)
 
--- each of them reads as a typed row
+-- they read as typed rows exactly if the stored ones do
 pub lines_of_order_typed : (old new : State) (order : List ℕ) (rows : List Row) → IsReady old.now → Shown lines_of_order_text (Text order ∷ []) old new rows
-    → AllByRecursion (λ r. is_line r ≡ true) (lines_of_order_rows order old.now.trees) → AllByRecursion (λ v. has_line v ≡ true) rows
-lines_of_order_typed old new order rows ready h are =
+    → AllByRecursion (λ r. is_line r ≡ true) (lines_of_order_rows order old.now.trees) ↔ AllByRecursion (λ v. has_line v ≡ true) rows
+lines_of_order_typed old new order rows ready h =
     let params = Text order ∷ [] in
     let all = old.now.trees lines_tree in
     let same_rows = filter_same_on (passes params lines_of_order_tests) (λ r. is_the_text order (column r 1)) all (λ r there. and_true _ ∙ equals_text (column r 1) order) in
-    subst (AllByRecursion (λ v. has_line v ≡ true)) (sym (lines_of_order_turn old new order rows ready h))
-    (all_map (λ v. has_line v ≡ true) (show params shown) _ (subst (AllByRecursion (λ r. is_line r ≡ true)) (sym same_rows) are))
+    both_typed has_line is_line (show params shown) (λ r. refl) (lines_of_order_rows order old.now.trees) rows (lines_of_order_turn old new order rows ready h ∙ ap (map (show params shown)) same_rows)
 
-abbrev pub lines_of_item_text : List ℕ
-lines_of_item_text = codes "SELECT ord, gtin, ordered, shipped FROM lines WHERE gtin = ?1 ORDER BY rowid"
+abbrev pub line_of_text : List ℕ
+line_of_text = LINE_OF.now
 
-abbrev lines_of_item_tests : List Term
-lines_of_item_tests = same 2 0 ∷ []
-
-lines_of_item_is : (command_of (understood the_schema lines_of_item_text) ≡ Select (alone (scan lines_tree lines_of_item_tests shown by_rowid)) (codes "ord" ∷ codes "gtin" ∷ codes "ordered" ∷ codes "shipped" ∷ [])) × (reads_listing the_schema lines_of_item_text ≡ false)
+line_of_is : (command_of (understood the_schema line_of_text) ≡ Select (alone (scan lines_tree tests shown by_rowid)) (codes "ord" ∷ codes "gtin" ∷ codes "ordered" ∷ codes "shipped" ∷ [])) × (reads_listing the_schema line_of_text ≡ false)
 unfolding understood everything
-lines_of_item_is = (refl, refl)
+line_of_is = (refl, refl)
 
-pub lines_of_item_plain : IsPlain (understood the_schema lines_of_item_text)
+pub line_of_plain : IsPlain (understood the_schema line_of_text)
 unfolding understood everything
-lines_of_item_plain = (refl, refl)
+line_of_plain = (refl, refl)
 
-lines_of_item_at : (gtin : List ℕ) (r : Row) → is_line r ≡ true → passes (Text gtin ∷ []) lines_of_item_tests r ≡ (let key = line_key (line_in r) in bytes_eq gtin key.1)
-lines_of_item_at gtin r h =
-    let p0 = and_parts _ _ h in
-    let p1 = and_parts _ _ p0.1 in
-    and_true _ ∙ same_word is_gtin (column r 2) (Text gtin) gtin p1.0 refl
+line_of_turn : (old new : State) (order gtin : List ℕ) (rows : List Row) → IsReady old.now → Shown line_of_text (key_cells order gtin) old new rows
+    → rows ≡ map (show (key_cells order gtin) shown) (filter (passes (key_cells order gtin) tests) (old.now.trees lines_tree))
+line_of_turn old new order gtin rows ready h =
+    let params = key_cells order gtin in
+    let read = reads_as line_of_text params old new the_schema ready.schema_is _ line_of_is.0 line_of_plain line_of_is.1 rows h in
+    in_order old.now.trees params lines_tree tests shown rows ready.rows.1.1.1.1.1.1.1.0.0 (read.answer Null)
 
-lines_of_item_turn : (old new : State) (gtin : List ℕ) (rows : List Row) → IsReady old.now → Shown lines_of_item_text (Text gtin ∷ []) old new rows
-    → rows ≡ map (show (Text gtin ∷ []) shown) (filter (passes (Text gtin ∷ []) lines_of_item_tests) (old.now.trees lines_tree))
-lines_of_item_turn old new gtin rows ready h =
-    let params = Text gtin ∷ [] in
-    let read = reads_as lines_of_item_text params old new the_schema ready.schema_is _ lines_of_item_is.0 lines_of_item_plain lines_of_item_is.1 rows h in
-    in_order old.now.trees params lines_tree lines_of_item_tests shown rows ready.rows.1.1.1.1.1.1.1.0.0 (read.answer Null)
-
--- the rows that were read
-pub lines_of_item_reads : (old new : State) (gtin : List ℕ) (rows : List Row) (xs : List LineRow) → IsReady old.now → Shown lines_of_item_text (Text gtin ∷ []) old new rows
-    → AllByRecursion (λ v. has_line v ≡ true) rows → map line_read rows ≡ xs
-    → AreRows {K = LineKey} same_line line_key (λ key. bytes_eq gtin key.1) (λ key. (tables_in old.now.trees).line key.0 key.1) xs
-lines_of_item_reads old new gtin rows xs ready h has are =
-    let params = Text gtin ∷ [] in
+-- the row that was read
+pub line_of_reads : (old new : State) (order gtin : List ℕ) (rows : List Row) (found : Option LineRow) → IsReady old.now → Shown line_of_text (key_cells order gtin) old new rows
+    → AllByRecursion (λ v. has_line v ≡ true) rows → slice_get (map line_read rows) 0 ≡ found → found ≡ (tables_in old.now.trees).line order gtin
+line_of_reads old new order gtin rows found ready h has are =
+    let params = key_cells order gtin in
     let all = old.now.trees lines_tree in
-    are_rows same_line line_key one_key (λ key. bytes_eq gtin key.1) is_line line_in all xs ready.rows.1.1.1.1.1.1.1.0.0 (apart old.now ready)
-    (shown_typed is_line line_in has_line line_read (show params shown) (λ r. refl) (λ r. refl) _ rows xs (lines_of_item_turn old new gtin rows ready h) has are
-    ∙ typed-filter is_line line_in (passes params lines_of_item_tests) (λ x. let key = line_key x in bytes_eq gtin key.1) (lines_of_item_at gtin) all)
+    let key : LineKey = (order, gtin) in
+    sym are ∙ first_row same_line line_key key (λ (k : LineKey). (tables_in old.now.trees).line k.0 k.1) (map line_read rows) (itself key)
+    (are_rows same_line line_key one_key (same_line key) is_line line_in all (map line_read rows) ready.rows.1.1.1.1.1.1.1.0.0 (apart old.now ready)
+    (shown_typed is_line line_in has_line line_read (show params shown) (λ r. refl) (λ r. refl) _ rows _ (line_of_turn old new order gtin rows ready h) has refl
+    ∙ typed-filter is_line line_in (passes params tests) (λ x. same_line key (line_key x)) (at_key params order gtin refl refl) all))
 
--- each of them reads as a typed row
-pub lines_of_item_typed : (old new : State) (gtin : List ℕ) (rows : List Row) → IsReady old.now → Shown lines_of_item_text (Text gtin ∷ []) old new rows
-    → AllByRecursion (λ r. is_line r ≡ true) (lines_of_item_rows gtin old.now.trees) → AllByRecursion (λ v. has_line v ≡ true) rows
-lines_of_item_typed old new gtin rows ready h are =
-    let params = Text gtin ∷ [] in
+-- they read as typed rows exactly if the stored ones do
+pub line_of_typed : (old new : State) (order gtin : List ℕ) (rows : List Row) → IsReady old.now → Shown line_of_text (key_cells order gtin) old new rows
+    → AllByRecursion (λ r. is_line r ≡ true) (line_of_rows order gtin old.now.trees) ↔ AllByRecursion (λ v. has_line v ≡ true) rows
+line_of_typed old new order gtin rows ready h =
+    let params = key_cells order gtin in
     let all = old.now.trees lines_tree in
-    let same_rows = filter_same_on (passes params lines_of_item_tests) (λ r. is_the_text gtin (column r 2)) all (λ r there. and_true _ ∙ equals_text (column r 2) gtin) in
-    subst (AllByRecursion (λ v. has_line v ≡ true)) (sym (lines_of_item_turn old new gtin rows ready h))
-    (all_map (λ v. has_line v ≡ true) (show params shown) _ (subst (AllByRecursion (λ r. is_line r ≡ true)) (sym same_rows) are))
+    let same_rows = filter_same_on (passes params tests) (λ r. is_the_text order (column r 1) && is_the_text gtin (column r 2)) all (λ r there. ap₂ ◌&&◌ (equals_text (column r 1) order) (and_true _ ∙ equals_text (column r 2) gtin)) in
+    both_typed has_line is_line (show params shown) (λ r. refl) (line_of_rows order gtin old.now.trees) rows (line_of_turn old new order gtin rows ready h ∙ ap (map (show params shown)) same_rows)

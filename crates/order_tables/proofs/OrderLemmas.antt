@@ -1,6 +1,6 @@
 -- What the statements on `orders` mean, and what they make of the tables.
 use Rattle.std.proofs.Common.{◌≡◌, ◌≢◌, ◌≤◌, ℕ, ℤ, Bool, true, false, not, ◌&&◌, ◌||◌, cond, List, [], ◌∷◌, codes, map, filter, find, length, pos, Ok, Err, Some, None, inl, inr, IsTrue, refl, sym, ap, ap₂, subst, ◌∙◌, bytes_eq, Equal}
-use Rattle.std.specs.Prelude.{nat_eq, if◌then◌else◌, Option}
+use Rattle.std.specs.Prelude.{◌↔◌, nat_eq, if◌then◌else◌, Option}
 use Rattle.std.specs.List.{AllByRecursion}
 use Rattle.std.proofs.lemmas.Bool.{and_parts}
 use Rattle.sqlite.specs.declared.types.Value.{Value}
@@ -29,18 +29,19 @@ use Rattle.label.specs.declared.lot.LotId.{LotId}
 use Rattle.commands.specs.Spelling.{kind_text}
 use Rattle.commands.specs.declared.limits.TheConstants.{UNITS_MAX, ACTS_MAX, SHORT_MAX, KEY_TEXT_MAX, CARD_NOTE_MAX, SCHEMA_VERSION}
 use Rattle.commands.specs.declared.rows.OrderRow.{OrderRow}
-use Rattle.table_words.specs.Cells.{typed, is_word, is_the_text, fits_in, is_any, is_number, is_the_number, number_in, is_signed, is_any_number, signed_in, flag_number, flag_in, bin_kind_in, order_state_text, order_state_in, card_kind_text, card_kind_in}
+use Rattle.order_tables.specs.declared.texts.TheConstants.{CHANGE_ORDER, ADD_ORDER, ORDERS_OF, OPEN_ORDERS, DROP_ORDER}
+use Rattle.table_words.specs.Cells.{typed, is_word, is_the_text, fits_in, is_any, is_number, is_the_number, number_in, is_signed, is_any_number, signed_in, flag_number, flag_in, bin_kind_in, order_state_text, is_order_state, order_state_in, card_kind_text, card_kind_in}
 use Rattle.table_words.specs.Schema.{the_schema, orders_tree, orders_table}
-use Rattle.table_words.specs.Typed.{same_lot_id, is_order, order_in, has_order, order_read, OrderKey, same_order, order_key, order_cells, with_order, without_order, tables_in, Tables, AreTyped, orders_of_rows}
+use Rattle.table_words.specs.Typed.{same_lot_id, is_order, order_in, has_order, order_read, OrderKey, same_order, order_key, order_cells, with_order, without_order, tables_in, Tables, AreTyped, orders_of_rows, is_open_order, open_orders_rows}
 use Rattle.table_words.specs.Steps.{IsReady, Goes}
-use Rattle.table_words.specs.Found.{AreRows}
+use Rattle.table_words.specs.Found.{AreRows, only_if}
 use Rattle.table_words.proofs.Plans.{same, scan, by_rowid, alone}
 use Rattle.table_words.proofs.ListLemmas.{over, IsRows-filter, IsRows-over, IsRows-put_row, all_over, all_put_row, any_counted, none_counted_pass, none_over, stays_put, filter_same_on}
 use Rattle.table_words.proofs.ScanLemmas.{passes, show, in_order, scanned}
 use Rattle.table_words.proofs.WriteLemmas.{deletes, inserts, inserts_at, updates, only_shown, cast_number, cast_null}
-use Rattle.table_words.proofs.CellLemmas.{and_true, and_assoc, same_word, same_count, same_the_number, equals_text, equals_number, same_number, itself_number, same_lots, itself_lot, id_is, typed-filter, shown_typed, flag_back, bin_kind_back, order_state_back, card_kind_back}
+use Rattle.table_words.proofs.CellLemmas.{and_true, and_assoc, same_word, same_count, same_the_number, equals_text, equals_number, same_number, itself_number, same_lots, itself_lot, id_is, typed-filter, both_typed, shown_typed, flag_back, bin_kind_back, order_state_back, card_kind_back, open_is}
 use Rattle.table_words.proofs.StepLemmas.{ready_after, goes}
-use Rattle.table_words.proofs.KeyLemmas.{AtMostOne, one_by_key, one_by_rowid, few, none_had, IsSame, same_bytes, same_both, itself_bytes, itself_both, meets, found_without, found_put, found_over, are_rows}
+use Rattle.table_words.proofs.KeyLemmas.{AtMostOne, one_by_key, one_by_rowid, few, none_had, IsSame, same_bytes, same_both, itself_bytes, itself_both, meets, found_without, found_put, found_over, are_rows, are_rows_if}
 
 abbrev pub tests : List Term
 tests = same 1 0 ∷ []
@@ -66,7 +67,7 @@ one_row db ready params =
 -- ---- DELETE
 
 abbrev pub drop_text : List ℕ
-drop_text = codes "DELETE FROM orders WHERE ord = ?1"
+drop_text = DROP_ORDER.now
 
 drop_is : command_of (understood the_schema drop_text) ≡ Delete 6 (alone (scan orders_tree tests (col 1 0 ∷ []) []))
 unfolding understood everything
@@ -94,7 +95,7 @@ drops old new order count ready inside h =
 -- ---- UPDATE
 
 abbrev pub change_text : List ℕ
-change_text = codes "UPDATE orders SET ord = ?1, act = ?2, customer = ?3, state = ?4 WHERE ord = ?1"
+change_text = CHANGE_ORDER.now
 
 abbrev change_terms : List Term
 change_terms = col 0 0 ∷ col 0 1 ∷ col 0 2 ∷ col 0 3 ∷ []
@@ -141,7 +142,7 @@ changes old new s count sound ready inside h =
 -- ---- INSERT
 
 abbrev pub add_text : List ℕ
-add_text = codes "INSERT INTO orders (ord, act, customer, state) VALUES (?1, ?2, ?3, ?4)"
+add_text = ADD_ORDER.now
 
 abbrev add_terms : List Term
 add_terms = lit Null ∷ col 0 0 ∷ col 0 1 ∷ col 0 2 ∷ col 0 3 ∷ []
@@ -189,7 +190,7 @@ apart db ready a b ha hb ta tb e =
     one_row db ready params b a hb ha (at_key params s.order refl b tb ∙ e) (at_key params s.order refl a ta ∙ itself s.order)
 
 abbrev pub orders_of_text : List ℕ
-orders_of_text = codes "SELECT ord, act, customer, state FROM orders WHERE ord = ?1 ORDER BY rowid"
+orders_of_text = ORDERS_OF.now
 
 abbrev orders_of_tests : List Term
 orders_of_tests = same 1 0 ∷ []
@@ -225,12 +226,59 @@ orders_of_reads old new order rows xs ready h has are =
     (shown_typed is_order order_in has_order order_read (show params shown) (λ r. refl) (λ r. refl) _ rows xs (orders_of_turn old new order rows ready h) has are
     ∙ typed-filter is_order order_in (passes params orders_of_tests) (λ x. let key = order_key x in bytes_eq order key) (orders_of_at order) all)
 
--- each of them reads as a typed row
+-- they read as typed rows exactly if the stored ones do
 pub orders_of_typed : (old new : State) (order : List ℕ) (rows : List Row) → IsReady old.now → Shown orders_of_text (Text order ∷ []) old new rows
-    → AllByRecursion (λ r. is_order r ≡ true) (orders_of_rows order old.now.trees) → AllByRecursion (λ v. has_order v ≡ true) rows
-orders_of_typed old new order rows ready h are =
+    → AllByRecursion (λ r. is_order r ≡ true) (orders_of_rows order old.now.trees) ↔ AllByRecursion (λ v. has_order v ≡ true) rows
+orders_of_typed old new order rows ready h =
     let params = Text order ∷ [] in
     let all = old.now.trees orders_tree in
     let same_rows = filter_same_on (passes params orders_of_tests) (λ r. is_the_text order (column r 1)) all (λ r there. and_true _ ∙ equals_text (column r 1) order) in
-    subst (AllByRecursion (λ v. has_order v ≡ true)) (sym (orders_of_turn old new order rows ready h))
-    (all_map (λ v. has_order v ≡ true) (show params shown) _ (subst (AllByRecursion (λ r. is_order r ≡ true)) (sym same_rows) are))
+    both_typed has_order is_order (show params shown) (λ r. refl) (orders_of_rows order old.now.trees) rows (orders_of_turn old new order rows ready h ∙ ap (map (show params shown)) same_rows)
+
+abbrev pub open_orders_text : List ℕ
+open_orders_text = OPEN_ORDERS.now
+
+abbrev open_orders_tests : List Term
+open_orders_tests = same 4 0 ∷ []
+
+open_orders_is : (command_of (understood the_schema open_orders_text) ≡ Select (alone (scan orders_tree open_orders_tests shown by_rowid)) (codes "ord" ∷ codes "act" ∷ codes "customer" ∷ codes "state" ∷ [])) × (reads_listing the_schema open_orders_text ≡ false)
+unfolding understood everything
+open_orders_is = (refl, refl)
+
+pub open_orders_plain : IsPlain (understood the_schema open_orders_text)
+unfolding understood everything
+open_orders_plain = (refl, refl)
+
+abbrev pub open_orders_cells : Row
+open_orders_cells = Text (codes "OPEN") ∷ []
+
+open_orders_at : (r : Row) → is_order r ≡ true → passes open_orders_cells open_orders_tests r ≡ is_open_order (order_in r)
+open_orders_at r h =
+    let p0 = and_parts (is_word is_name (column r 1)) _ h in
+    let p1 = and_parts (is_number ACTS_MAX (column r 2)) _ p0.1 in
+    let p2 = and_parts (is_word is_title (column r 3)) _ p1.1 in
+    and_true _ ∙ same_word is_order_state (column r 4) (Text (codes "OPEN")) (codes "OPEN") p2.1 refl ∙ open_is (column r 4)
+
+open_orders_turn : (old new : State) (rows : List Row) → IsReady old.now → Shown open_orders_text open_orders_cells old new rows
+    → rows ≡ map (show open_orders_cells shown) (filter (passes open_orders_cells open_orders_tests) (old.now.trees orders_tree))
+open_orders_turn old new rows ready h =
+    let read = reads_as open_orders_text open_orders_cells old new the_schema ready.schema_is _ open_orders_is.0 open_orders_plain open_orders_is.1 rows h in
+    in_order old.now.trees open_orders_cells orders_tree open_orders_tests shown rows ready.rows.1.1.1.1.1.1.0.0 (read.answer Null)
+
+-- the rows that were read
+pub open_orders_reads : (old new : State) (rows : List Row) (xs : List OrderRow) → IsReady old.now → Shown open_orders_text open_orders_cells old new rows
+    → AllByRecursion (λ v. has_order v ≡ true) rows → map order_read rows ≡ xs
+    → AreRows {K = OrderKey} same_order order_key (λ key. true) (λ key. only_if is_open_order ((tables_in old.now.trees).order key)) xs
+open_orders_reads old new rows xs ready h has are =
+    let all = old.now.trees orders_tree in
+    are_rows_if same_order order_key one_key is_open_order is_order order_in all xs ready.rows.1.1.1.1.1.1.0.0 (apart old.now ready)
+    (shown_typed is_order order_in has_order order_read (show open_orders_cells shown) (λ r. refl) (λ r. refl) _ rows xs (open_orders_turn old new rows ready h) has are
+    ∙ typed-filter is_order order_in (passes open_orders_cells open_orders_tests) is_open_order open_orders_at all)
+
+-- they read as typed rows exactly if the stored ones do
+pub open_orders_typed : (old new : State) (rows : List Row) → IsReady old.now → Shown open_orders_text open_orders_cells old new rows
+    → AllByRecursion (λ r. is_order r ≡ true) (open_orders_rows old.now.trees) ↔ AllByRecursion (λ v. has_order v ≡ true) rows
+open_orders_typed old new rows ready h =
+    let all = old.now.trees orders_tree in
+    let same_rows = filter_same_on (passes open_orders_cells open_orders_tests) (λ r. is_the_text (codes "OPEN") (column r 4)) all (λ r there. and_true _ ∙ equals_text (column r 4) (codes "OPEN")) in
+    both_typed has_order is_order (show open_orders_cells shown) (λ r. refl) (open_orders_rows old.now.trees) rows (open_orders_turn old new rows ready h ∙ ap (map (show open_orders_cells shown)) same_rows)

@@ -1,6 +1,6 @@
 -- What the statements on `reserved` mean, and what they make of the tables.
 use Rattle.std.proofs.Common.{◌≡◌, ◌≢◌, ◌≤◌, ℕ, ℤ, Bool, true, false, not, ◌&&◌, ◌||◌, cond, List, [], ◌∷◌, codes, map, filter, find, length, pos, Ok, Err, Some, None, inl, inr, IsTrue, refl, sym, ap, ap₂, subst, ◌∙◌, bytes_eq, Equal}
-use Rattle.std.specs.Prelude.{nat_eq, if◌then◌else◌, Option}
+use Rattle.std.specs.Prelude.{◌↔◌, nat_eq, if◌then◌else◌, Option}
 use Rattle.std.specs.List.{AllByRecursion}
 use Rattle.std.proofs.lemmas.Bool.{and_parts}
 use Rattle.sqlite.specs.declared.types.Value.{Value}
@@ -29,6 +29,7 @@ use Rattle.label.specs.declared.lot.LotId.{LotId}
 use Rattle.commands.specs.Spelling.{kind_text}
 use Rattle.commands.specs.declared.limits.TheConstants.{UNITS_MAX, ACTS_MAX, SHORT_MAX, KEY_TEXT_MAX, CARD_NOTE_MAX, SCHEMA_VERSION}
 use Rattle.commands.specs.declared.rows.ReservedRow.{ReservedRow}
+use Rattle.order_tables.specs.declared.texts.TheConstants.{DROP_RESERVED, CHANGE_RESERVED, ADD_RESERVED, RESERVED_OF_ITEM}
 use Rattle.table_words.specs.Cells.{typed, is_word, is_the_text, fits_in, is_any, is_number, is_the_number, number_in, is_signed, is_any_number, signed_in, flag_number, flag_in, bin_kind_in, order_state_text, order_state_in, card_kind_text, card_kind_in}
 use Rattle.table_words.specs.Schema.{the_schema, reserved_tree, reserved_table}
 use Rattle.table_words.specs.Typed.{same_lot_id, is_reserved, reserved_in, has_reserved, reserved_read, ReservedKey, same_reserved, reserved_key, reserved_cells, with_reserved, without_reserved, tables_in, Tables, AreTyped, reserved_of_item_rows}
@@ -38,7 +39,7 @@ use Rattle.table_words.proofs.Plans.{same, scan, by_rowid, alone}
 use Rattle.table_words.proofs.ListLemmas.{over, IsRows-filter, IsRows-over, IsRows-put_row, all_over, all_put_row, any_counted, none_counted_pass, none_over, stays_put, filter_same_on}
 use Rattle.table_words.proofs.ScanLemmas.{passes, show, in_order, scanned}
 use Rattle.table_words.proofs.WriteLemmas.{deletes, inserts, inserts_at, updates, only_shown, cast_number, cast_null}
-use Rattle.table_words.proofs.CellLemmas.{and_true, and_assoc, same_word, same_count, same_the_number, equals_text, equals_number, same_number, itself_number, same_lots, itself_lot, id_is, typed-filter, shown_typed, flag_back, bin_kind_back, order_state_back, card_kind_back}
+use Rattle.table_words.proofs.CellLemmas.{and_true, and_assoc, same_word, same_count, same_the_number, equals_text, equals_number, same_number, itself_number, same_lots, itself_lot, id_is, typed-filter, both_typed, shown_typed, flag_back, bin_kind_back, order_state_back, card_kind_back}
 use Rattle.table_words.proofs.StepLemmas.{ready_after, goes}
 use Rattle.table_words.proofs.KeyLemmas.{AtMostOne, one_by_key, one_by_rowid, few, none_had, IsSame, same_bytes, same_both, itself_bytes, itself_both, meets, found_without, found_put, found_over, are_rows}
 
@@ -68,7 +69,7 @@ one_row db ready params =
 -- ---- DELETE
 
 abbrev pub drop_text : List ℕ
-drop_text = codes "DELETE FROM reserved WHERE ord = ?1 AND gtin = ?2 AND lot = ?3"
+drop_text = DROP_RESERVED.now
 
 drop_is : command_of (understood the_schema drop_text) ≡ Delete 9 (alone (scan reserved_tree tests (col 1 0 ∷ []) []))
 unfolding understood everything
@@ -96,7 +97,7 @@ drops old new order lot count ready inside h =
 -- ---- UPDATE
 
 abbrev pub change_text : List ℕ
-change_text = codes "UPDATE reserved SET ord = ?1, gtin = ?2, lot = ?3, qty = ?4 WHERE ord = ?1 AND gtin = ?2 AND lot = ?3"
+change_text = CHANGE_RESERVED.now
 
 abbrev change_terms : List Term
 change_terms = col 0 0 ∷ col 0 1 ∷ col 0 2 ∷ col 0 3 ∷ []
@@ -143,7 +144,7 @@ changes old new s count sound ready inside h =
 -- ---- INSERT
 
 abbrev pub add_text : List ℕ
-add_text = codes "INSERT INTO reserved (ord, gtin, lot, qty) VALUES (?1, ?2, ?3, ?4)"
+add_text = ADD_RESERVED.now
 
 abbrev add_terms : List Term
 add_terms = lit Null ∷ col 0 0 ∷ col 0 1 ∷ col 0 2 ∷ col 0 3 ∷ []
@@ -191,7 +192,7 @@ apart db ready a b ha hb ta tb e =
     one_row db ready params b a hb ha (at_key params s.order s.lot refl refl refl b tb ∙ e) (at_key params s.order s.lot refl refl refl a ta ∙ itself (s.order, s.lot))
 
 abbrev pub reserved_of_item_text : List ℕ
-reserved_of_item_text = codes "SELECT ord, gtin, lot, qty FROM reserved WHERE gtin = ?1 ORDER BY rowid"
+reserved_of_item_text = RESERVED_OF_ITEM.now
 
 abbrev reserved_of_item_tests : List Term
 reserved_of_item_tests = same 2 0 ∷ []
@@ -228,12 +229,11 @@ reserved_of_item_reads old new gtin rows xs ready h has are =
     (shown_typed is_reserved reserved_in has_reserved reserved_read (show params shown) (λ r. refl) (λ r. refl) _ rows xs (reserved_of_item_turn old new gtin rows ready h) has are
     ∙ typed-filter is_reserved reserved_in (passes params reserved_of_item_tests) (λ x. let key = reserved_key x in bytes_eq gtin key.1.gtin) (reserved_of_item_at gtin) all)
 
--- each of them reads as a typed row
+-- they read as typed rows exactly if the stored ones do
 pub reserved_of_item_typed : (old new : State) (gtin : List ℕ) (rows : List Row) → IsReady old.now → Shown reserved_of_item_text (Text gtin ∷ []) old new rows
-    → AllByRecursion (λ r. is_reserved r ≡ true) (reserved_of_item_rows gtin old.now.trees) → AllByRecursion (λ v. has_reserved v ≡ true) rows
-reserved_of_item_typed old new gtin rows ready h are =
+    → AllByRecursion (λ r. is_reserved r ≡ true) (reserved_of_item_rows gtin old.now.trees) ↔ AllByRecursion (λ v. has_reserved v ≡ true) rows
+reserved_of_item_typed old new gtin rows ready h =
     let params = Text gtin ∷ [] in
     let all = old.now.trees reserved_tree in
     let same_rows = filter_same_on (passes params reserved_of_item_tests) (λ r. is_the_text gtin (column r 2)) all (λ r there. and_true _ ∙ equals_text (column r 2) gtin) in
-    subst (AllByRecursion (λ v. has_reserved v ≡ true)) (sym (reserved_of_item_turn old new gtin rows ready h))
-    (all_map (λ v. has_reserved v ≡ true) (show params shown) _ (subst (AllByRecursion (λ r. is_reserved r ≡ true)) (sym same_rows) are))
+    both_typed has_reserved is_reserved (show params shown) (λ r. refl) (reserved_of_item_rows gtin old.now.trees) rows (reserved_of_item_turn old new gtin rows ready h ∙ ap (map (show params shown)) same_rows)

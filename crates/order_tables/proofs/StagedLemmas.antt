@@ -1,6 +1,6 @@
 -- What the statements on `staged` mean, and what they make of the tables.
 use Rattle.std.proofs.Common.{◌≡◌, ◌≢◌, ◌≤◌, ℕ, ℤ, Bool, true, false, not, ◌&&◌, ◌||◌, cond, List, [], ◌∷◌, codes, map, filter, find, length, pos, Ok, Err, Some, None, inl, inr, IsTrue, refl, sym, ap, ap₂, subst, ◌∙◌, bytes_eq, Equal}
-use Rattle.std.specs.Prelude.{nat_eq, if◌then◌else◌, Option}
+use Rattle.std.specs.Prelude.{◌↔◌, nat_eq, if◌then◌else◌, Option}
 use Rattle.std.specs.List.{AllByRecursion}
 use Rattle.std.proofs.lemmas.Bool.{and_parts}
 use Rattle.sqlite.specs.declared.types.Value.{Value}
@@ -29,6 +29,7 @@ use Rattle.label.specs.declared.lot.LotId.{LotId}
 use Rattle.commands.specs.Spelling.{kind_text}
 use Rattle.commands.specs.declared.limits.TheConstants.{UNITS_MAX, ACTS_MAX, SHORT_MAX, KEY_TEXT_MAX, CARD_NOTE_MAX, SCHEMA_VERSION}
 use Rattle.commands.specs.declared.rows.StagedRow.{StagedRow}
+use Rattle.order_tables.specs.declared.texts.TheConstants.{DROP_STAGED, CHANGE_STAGED, ADD_STAGED, STAGED_OF_ITEM, ALL_STAGED}
 use Rattle.table_words.specs.Cells.{typed, is_word, is_the_text, fits_in, is_any, is_number, is_the_number, number_in, is_signed, is_any_number, signed_in, flag_number, flag_in, bin_kind_in, order_state_text, order_state_in, card_kind_text, card_kind_in}
 use Rattle.table_words.specs.Schema.{the_schema, staged_tree, staged_table}
 use Rattle.table_words.specs.Typed.{same_lot_id, is_staged, staged_in, has_staged, staged_read, StagedKey, same_staged, staged_key, staged_cells, with_staged, without_staged, tables_in, Tables, AreTyped, staged_of_item_rows, all_staged_rows}
@@ -38,7 +39,7 @@ use Rattle.table_words.proofs.Plans.{same, scan, by_rowid, alone}
 use Rattle.table_words.proofs.ListLemmas.{over, IsRows-filter, IsRows-over, IsRows-put_row, all_over, all_put_row, any_counted, none_counted_pass, none_over, stays_put, filter_same_on}
 use Rattle.table_words.proofs.ScanLemmas.{passes, show, in_order, scanned}
 use Rattle.table_words.proofs.WriteLemmas.{deletes, inserts, inserts_at, updates, only_shown, cast_number, cast_null}
-use Rattle.table_words.proofs.CellLemmas.{and_true, and_assoc, same_word, same_count, same_the_number, equals_text, equals_number, same_number, itself_number, same_lots, itself_lot, id_is, typed-filter, shown_typed, flag_back, bin_kind_back, order_state_back, card_kind_back}
+use Rattle.table_words.proofs.CellLemmas.{and_true, and_assoc, same_word, same_count, same_the_number, equals_text, equals_number, same_number, itself_number, same_lots, itself_lot, id_is, typed-filter, both_typed, shown_typed, flag_back, bin_kind_back, order_state_back, card_kind_back}
 use Rattle.table_words.proofs.StepLemmas.{ready_after, goes}
 use Rattle.table_words.proofs.KeyLemmas.{AtMostOne, one_by_key, one_by_rowid, few, none_had, IsSame, same_bytes, same_both, itself_bytes, itself_both, meets, found_without, found_put, found_over, are_rows}
 
@@ -68,7 +69,7 @@ one_row db ready params =
 -- ---- DELETE
 
 abbrev pub drop_text : List ℕ
-drop_text = codes "DELETE FROM staged WHERE ord = ?1 AND gtin = ?2 AND lot = ?3"
+drop_text = DROP_STAGED.now
 
 drop_is : command_of (understood the_schema drop_text) ≡ Delete 8 (alone (scan staged_tree tests (col 1 0 ∷ []) []))
 unfolding understood everything
@@ -96,7 +97,7 @@ drops old new order lot count ready inside h =
 -- ---- UPDATE
 
 abbrev pub change_text : List ℕ
-change_text = codes "UPDATE staged SET ord = ?1, gtin = ?2, lot = ?3, qty = ?4 WHERE ord = ?1 AND gtin = ?2 AND lot = ?3"
+change_text = CHANGE_STAGED.now
 
 abbrev change_terms : List Term
 change_terms = col 0 0 ∷ col 0 1 ∷ col 0 2 ∷ col 0 3 ∷ []
@@ -143,7 +144,7 @@ changes old new s count sound ready inside h =
 -- ---- INSERT
 
 abbrev pub add_text : List ℕ
-add_text = codes "INSERT INTO staged (ord, gtin, lot, qty) VALUES (?1, ?2, ?3, ?4)"
+add_text = ADD_STAGED.now
 
 abbrev add_terms : List Term
 add_terms = lit Null ∷ col 0 0 ∷ col 0 1 ∷ col 0 2 ∷ col 0 3 ∷ []
@@ -191,7 +192,7 @@ apart db ready a b ha hb ta tb e =
     one_row db ready params b a hb ha (at_key params s.order s.lot refl refl refl b tb ∙ e) (at_key params s.order s.lot refl refl refl a ta ∙ itself (s.order, s.lot))
 
 abbrev pub staged_of_item_text : List ℕ
-staged_of_item_text = codes "SELECT ord, gtin, lot, qty FROM staged WHERE gtin = ?1 ORDER BY rowid"
+staged_of_item_text = STAGED_OF_ITEM.now
 
 abbrev staged_of_item_tests : List Term
 staged_of_item_tests = same 2 0 ∷ []
@@ -228,18 +229,17 @@ staged_of_item_reads old new gtin rows xs ready h has are =
     (shown_typed is_staged staged_in has_staged staged_read (show params shown) (λ r. refl) (λ r. refl) _ rows xs (staged_of_item_turn old new gtin rows ready h) has are
     ∙ typed-filter is_staged staged_in (passes params staged_of_item_tests) (λ x. let key = staged_key x in bytes_eq gtin key.1.gtin) (staged_of_item_at gtin) all)
 
--- each of them reads as a typed row
+-- they read as typed rows exactly if the stored ones do
 pub staged_of_item_typed : (old new : State) (gtin : List ℕ) (rows : List Row) → IsReady old.now → Shown staged_of_item_text (Text gtin ∷ []) old new rows
-    → AllByRecursion (λ r. is_staged r ≡ true) (staged_of_item_rows gtin old.now.trees) → AllByRecursion (λ v. has_staged v ≡ true) rows
-staged_of_item_typed old new gtin rows ready h are =
+    → AllByRecursion (λ r. is_staged r ≡ true) (staged_of_item_rows gtin old.now.trees) ↔ AllByRecursion (λ v. has_staged v ≡ true) rows
+staged_of_item_typed old new gtin rows ready h =
     let params = Text gtin ∷ [] in
     let all = old.now.trees staged_tree in
     let same_rows = filter_same_on (passes params staged_of_item_tests) (λ r. is_the_text gtin (column r 2)) all (λ r there. and_true _ ∙ equals_text (column r 2) gtin) in
-    subst (AllByRecursion (λ v. has_staged v ≡ true)) (sym (staged_of_item_turn old new gtin rows ready h))
-    (all_map (λ v. has_staged v ≡ true) (show params shown) _ (subst (AllByRecursion (λ r. is_staged r ≡ true)) (sym same_rows) are))
+    both_typed has_staged is_staged (show params shown) (λ r. refl) (staged_of_item_rows gtin old.now.trees) rows (staged_of_item_turn old new gtin rows ready h ∙ ap (map (show params shown)) same_rows)
 
 abbrev pub all_staged_text : List ℕ
-all_staged_text = codes "SELECT ord, gtin, lot, qty FROM staged ORDER BY rowid"
+all_staged_text = ALL_STAGED.now
 
 abbrev all_staged_tests : List Term
 all_staged_tests = []
@@ -274,12 +274,11 @@ all_staged_reads old new rows xs ready h has are =
     (shown_typed is_staged staged_in has_staged staged_read (show params shown) (λ r. refl) (λ r. refl) _ rows xs (all_staged_turn old new rows ready h) has are
     ∙ typed-filter is_staged staged_in (passes params all_staged_tests) (λ x. let key = staged_key x in true) (all_staged_at) all)
 
--- each of them reads as a typed row
+-- they read as typed rows exactly if the stored ones do
 pub all_staged_typed : (old new : State) (rows : List Row) → IsReady old.now → Shown all_staged_text ([]) old new rows
-    → AllByRecursion (λ r. is_staged r ≡ true) (all_staged_rows old.now.trees) → AllByRecursion (λ v. has_staged v ≡ true) rows
-all_staged_typed old new rows ready h are =
+    → AllByRecursion (λ r. is_staged r ≡ true) (all_staged_rows old.now.trees) ↔ AllByRecursion (λ v. has_staged v ≡ true) rows
+all_staged_typed old new rows ready h =
     let params = [] in
     let all = old.now.trees staged_tree in
     let same_rows = filter_same_on (passes params all_staged_tests) (λ r. true) all (λ r there. refl) in
-    subst (AllByRecursion (λ v. has_staged v ≡ true)) (sym (all_staged_turn old new rows ready h))
-    (all_map (λ v. has_staged v ≡ true) (show params shown) _ (subst (AllByRecursion (λ r. is_staged r ≡ true)) (sym same_rows) are))
+    both_typed has_staged is_staged (show params shown) (λ r. refl) (all_staged_rows old.now.trees) rows (all_staged_turn old new rows ready h ∙ ap (map (show params shown)) same_rows)

@@ -5,3 +5,4 @@ pub mod lines;
 pub mod orders;
 pub mod reserved;
 pub mod staged;
+pub mod texts;

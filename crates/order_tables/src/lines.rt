@@ -1,14 +1,15 @@
 //! The table `lines`.
 
-ghost use Rattle.std.specs.Prelude.{◌≡◌, ◌≤◌, true, false, find, map, OnOk, IfOk, IfErr, bytes_eq, nat_eq, if◌then◌else◌};
+ghost use Rattle.std.specs.Prelude.{◌≡◌, ◌≢◌, ◌≤◌, ◌<◌, true, false, find, map, slice_get, OnOk, IfOk, IfErr, bytes_eq, nat_eq, if◌then◌else◌};
 ghost use Rattle.std.specs.List.{AllByRecursion};
 ghost use Rattle.sqlite.specs.State.{HasCleanDisk, Survives, KeepsCommit, IsUnchanged};
 ghost use Rattle.sqlite.specs.Held.{state};
 ghost use Rattle.table_words.specs.Found.{AreRows};
-ghost use Rattle.table_words.specs.Steps.{IsReady, Goes};
-ghost use Rattle.table_words.specs.Typed.{tables_in, same_lot_id, with_line, without_line, is_line, has_line, line_read, line_key, same_line, LineKey, lines_of_order_rows, lines_of_item_rows};
+ghost use Rattle.table_words.specs.Steps.{IsReady, Goes, IsTooBig};
+ghost use Rattle.table_words.specs.Typed.{tables_in, same_lot_id, with_line, without_line, is_line, has_line, line_read, line_key, same_line, LineKey, lines_of_order_rows, line_of_rows};
 ghost use Rattle.table_words.specs.declared.error.TableFault.TheVariants.{Foreign};
 
+use crate::texts::{ADD_LINE, CHANGE_LINE, DROP_LINE, LINE_OF, LINES_OF_ORDER};
 use commands::LineRow;
 use commands::limits::UNITS_MAX;
 use label::{Gtin, Name};
@@ -28,11 +29,9 @@ pub fn drop_line<S: Alter>(
         → OnOk result (Goes (without_line order.now gtin.now) (state S.Store tx.old.conn.now) (state S.Store tx.new.conn.now)) }
     ensures kept { HasCleanDisk (state S.Store tx.new.conn.now) → KeepsCommit (state S.Store tx.old.conn.now) (state S.Store tx.new.conn.now) }
     ensures survives { Survives (state S.Store tx.old.conn.now) (state S.Store tx.new.conn.now) (λ _. ⊥) }
+    ensures never_foreign { IfErr result (λ e. e ≢ Foreign) }
 {
-    tx.execute(
-        "DELETE FROM lines WHERE ord = ?1 AND gtin = ?2",
-        &[of_name(order), of_gtin(gtin)],
-    )?;
+    tx.execute(DROP_LINE, &[of_name(order), of_gtin(gtin)])?;
     Ok(())
 }
 
@@ -45,9 +44,10 @@ fn change_line<S: Alter>(tx: &mut Transaction<'_, S>, row: &LineRow) -> Result<b
         → IfOk result (λ had. Goes (if had then with_line row.now else (λ t. t)) (state S.Store tx.old.conn.now) (state S.Store tx.new.conn.now)) }
     ensures kept { HasCleanDisk (state S.Store tx.new.conn.now) → KeepsCommit (state S.Store tx.old.conn.now) (state S.Store tx.new.conn.now) }
     ensures survives { Survives (state S.Store tx.old.conn.now) (state S.Store tx.new.conn.now) (λ _. ⊥) }
+    ensures never_foreign { IfErr result (λ e. e ≢ Foreign) }
 {
     let count = tx.execute(
-        "UPDATE lines SET ord = ?1, gtin = ?2, ordered = ?3, shipped = ?4 WHERE ord = ?1 AND gtin = ?2",
+        CHANGE_LINE,
         &[
             of_name(&row.order),
             of_gtin(&row.gtin),
@@ -67,9 +67,10 @@ fn add_line<S: Alter>(tx: &mut Transaction<'_, S>, row: &LineRow) -> Result<(), 
         → OnOk result (Goes (with_line row.now) (state S.Store tx.old.conn.now) (state S.Store tx.new.conn.now)) }
     ensures kept { HasCleanDisk (state S.Store tx.new.conn.now) → KeepsCommit (state S.Store tx.old.conn.now) (state S.Store tx.new.conn.now) }
     ensures survives { Survives (state S.Store tx.old.conn.now) (state S.Store tx.new.conn.now) (λ _. ⊥) }
+    ensures never_foreign { IfErr result (λ e. e ≢ Foreign) }
 {
     tx.execute(
-        "INSERT INTO lines (ord, gtin, ordered, shipped) VALUES (?1, ?2, ?3, ?4)",
+        ADD_LINE,
         &[
             of_name(&row.order),
             of_gtin(&row.gtin),
@@ -87,6 +88,9 @@ pub fn put_line<S: Alter>(tx: &mut Transaction<'_, S>, row: &LineRow) -> Result<
         → OnOk result (Goes (with_line row.now) (state S.Store tx.old.conn.now) (state S.Store tx.new.conn.now)) }
     ensures kept { HasCleanDisk (state S.Store tx.new.conn.now) → KeepsCommit (state S.Store tx.old.conn.now) (state S.Store tx.new.conn.now) }
     ensures survives { Survives (state S.Store tx.old.conn.now) (state S.Store tx.new.conn.now) (λ _. ⊥) }
+    ensures never_foreign { IfErr result (λ e. e ≢ Foreign) }
+    ensures size_ordered { UNITS_MAX < row.now.ordered → IsTooBig result tx.old.conn.now tx.new.conn.now }
+    ensures size_shipped { UNITS_MAX < row.now.shipped → IsTooBig result tx.old.conn.now tx.new.conn.now }
 {
     if row.ordered > UNITS_MAX || row.shipped > UNITS_MAX {
         return Err(TableFault::too_big());
@@ -121,6 +125,15 @@ fn to_rows(alloc: Global, rows: &[Row]) -> Result<Vec<LineRow>, TableFault>
     Ok(found)
 }
 
+fn first_row(alloc: Global, rows: &[Row]) -> Result<Option<LineRow>, TableFault>
+    ensures typed { IfOk result (λ found. AllByRecursion (λ v. has_line v ≡ true) rows.now) }
+    ensures ok { IfOk result (λ found. slice_get (map line_read rows.now) 0 ≡ found) }
+    ensures foreign { IfErr result (λ e. e ≡ Foreign → ¬ AllByRecursion (λ v. has_line v ≡ true) rows.now) }
+{
+    let found = to_rows(alloc, rows)?;
+    Ok(found.first().copied())
+}
+
 /// The rows of this order, the oldest first; `Foreign` where one of them has a value that no row has.
 pub fn lines_of_order<S: Alter>(
     alloc: Global,
@@ -130,37 +143,36 @@ pub fn lines_of_order<S: Alter>(
     ensures same_reference { tx.new.conn.ghost_name ≡ tx.old.conn.ghost_name }
     ensures rows { HasCleanDisk (state S.Store tx.new.conn.now) → IsReady (state S.Store tx.old.conn.now).now
         → IfOk result (λ rows. AreRows {K = LineKey} same_line line_key (λ key. bytes_eq order.now key.0) (λ key. (tables_in (state S.Store tx.old.conn.now).now.trees).line key.0 key.1) rows.items) }
+    ensures typed { HasCleanDisk (state S.Store tx.new.conn.now) → IsReady (state S.Store tx.old.conn.now).now
+        → OnOk result (AllByRecursion (λ r. is_line r ≡ true) (lines_of_order_rows order.now (state S.Store tx.old.conn.now).now.trees)) }
     ensures foreign { HasCleanDisk (state S.Store tx.new.conn.now) → IsReady (state S.Store tx.old.conn.now).now
         → IfErr result (λ e. e ≡ Foreign → ¬ AllByRecursion (λ r. is_line r ≡ true) (lines_of_order_rows order.now (state S.Store tx.old.conn.now).now.trees)) }
     ensures same { HasCleanDisk (state S.Store tx.new.conn.now) → IsReady (state S.Store tx.old.conn.now).now → OnOk result (IsUnchanged (state S.Store tx.old.conn.now) (state S.Store tx.new.conn.now)) }
     ensures kept { HasCleanDisk (state S.Store tx.new.conn.now) → IsReady (state S.Store tx.old.conn.now).now → KeepsCommit (state S.Store tx.old.conn.now) (state S.Store tx.new.conn.now) }
     ensures survives { Survives (state S.Store tx.old.conn.now) (state S.Store tx.new.conn.now) (λ _. ⊥) }
 {
-    let rows = tx.query_all(
-        "SELECT ord, gtin, ordered, shipped FROM lines WHERE ord = ?1 ORDER BY rowid",
-        &[of_name(order)],
-    )?;
+    let rows = tx.query_all(LINES_OF_ORDER, &[of_name(order)])?;
     to_rows(alloc, rows.as_slice())
 }
 
-/// The rows of this gtin, the oldest first; `Foreign` where one of them has a value that no row has.
-pub fn lines_of_item<S: Alter>(
+/// The row with this key, if there is one; `Foreign` where it has a value that no row has.
+pub fn line_of<S: Alter>(
     alloc: Global,
     tx: &mut Transaction<'_, S>,
+    order: &Name,
     gtin: &Gtin,
-) -> Result<Vec<LineRow>, TableFault>
+) -> Result<Option<LineRow>, TableFault>
     ensures same_reference { tx.new.conn.ghost_name ≡ tx.old.conn.ghost_name }
-    ensures rows { HasCleanDisk (state S.Store tx.new.conn.now) → IsReady (state S.Store tx.old.conn.now).now
-        → IfOk result (λ rows. AreRows {K = LineKey} same_line line_key (λ key. bytes_eq gtin.now key.1) (λ key. (tables_in (state S.Store tx.old.conn.now).now.trees).line key.0 key.1) rows.items) }
+    ensures row { HasCleanDisk (state S.Store tx.new.conn.now) → IsReady (state S.Store tx.old.conn.now).now
+        → IfOk result (λ row. row ≡ (tables_in (state S.Store tx.old.conn.now).now.trees).line order.now gtin.now) }
+    ensures typed { HasCleanDisk (state S.Store tx.new.conn.now) → IsReady (state S.Store tx.old.conn.now).now
+        → OnOk result (AllByRecursion (λ r. is_line r ≡ true) (line_of_rows order.now gtin.now (state S.Store tx.old.conn.now).now.trees)) }
     ensures foreign { HasCleanDisk (state S.Store tx.new.conn.now) → IsReady (state S.Store tx.old.conn.now).now
-        → IfErr result (λ e. e ≡ Foreign → ¬ AllByRecursion (λ r. is_line r ≡ true) (lines_of_item_rows gtin.now (state S.Store tx.old.conn.now).now.trees)) }
+        → IfErr result (λ e. e ≡ Foreign → ¬ AllByRecursion (λ r. is_line r ≡ true) (line_of_rows order.now gtin.now (state S.Store tx.old.conn.now).now.trees)) }
     ensures same { HasCleanDisk (state S.Store tx.new.conn.now) → IsReady (state S.Store tx.old.conn.now).now → OnOk result (IsUnchanged (state S.Store tx.old.conn.now) (state S.Store tx.new.conn.now)) }
     ensures kept { HasCleanDisk (state S.Store tx.new.conn.now) → IsReady (state S.Store tx.old.conn.now).now → KeepsCommit (state S.Store tx.old.conn.now) (state S.Store tx.new.conn.now) }
     ensures survives { Survives (state S.Store tx.old.conn.now) (state S.Store tx.new.conn.now) (λ _. ⊥) }
 {
-    let rows = tx.query_all(
-        "SELECT ord, gtin, ordered, shipped FROM lines WHERE gtin = ?1 ORDER BY rowid",
-        &[of_gtin(gtin)],
-    )?;
-    to_rows(alloc, rows.as_slice())
+    let rows = tx.query_all(LINE_OF, &[of_name(order), of_gtin(gtin)])?;
+    first_row(alloc, rows.as_slice())
 }

@@ -1,16 +1,17 @@
 //! The table `orders`.
 
-ghost use Rattle.std.specs.Prelude.{◌≡◌, ◌≤◌, true, false, find, map, OnOk, IfOk, IfErr, bytes_eq, nat_eq, if◌then◌else◌};
+ghost use Rattle.std.specs.Prelude.{◌≡◌, ◌≢◌, ◌≤◌, ◌<◌, true, false, find, map, OnOk, IfOk, IfErr, bytes_eq, nat_eq, if◌then◌else◌};
 ghost use Rattle.std.specs.List.{AllByRecursion};
 ghost use Rattle.sqlite.specs.State.{HasCleanDisk, Survives, KeepsCommit, IsUnchanged};
 ghost use Rattle.sqlite.specs.Held.{state};
-ghost use Rattle.table_words.specs.Found.{AreRows};
-ghost use Rattle.table_words.specs.Steps.{IsReady, Goes};
-ghost use Rattle.table_words.specs.Typed.{tables_in, same_lot_id, with_order, without_order, is_order, has_order, order_read, order_key, same_order, OrderKey, orders_of_rows};
+ghost use Rattle.table_words.specs.Found.{AreRows, only_if};
+ghost use Rattle.table_words.specs.Steps.{IsReady, Goes, IsTooBig};
+ghost use Rattle.table_words.specs.Typed.{tables_in, same_lot_id, with_order, without_order, is_order, has_order, order_read, order_key, same_order, OrderKey, orders_of_rows, is_open_order, open_orders_rows};
 ghost use Rattle.table_words.specs.declared.error.TableFault.TheVariants.{Foreign};
 
-use commands::OrderRow;
+use crate::texts::{ADD_ORDER, CHANGE_ORDER, DROP_ORDER, OPEN_ORDERS, ORDERS_OF};
 use commands::limits::ACTS_MAX;
+use commands::{OrderRow, OrderState};
 use label::Name;
 use sqlite::{Alter, Row, Transaction};
 use std::alloc::Global;
@@ -26,8 +27,9 @@ pub fn drop_order<S: Alter>(tx: &mut Transaction<'_, S>, order: &Name) -> Result
         → OnOk result (Goes (without_order order.now) (state S.Store tx.old.conn.now) (state S.Store tx.new.conn.now)) }
     ensures kept { HasCleanDisk (state S.Store tx.new.conn.now) → KeepsCommit (state S.Store tx.old.conn.now) (state S.Store tx.new.conn.now) }
     ensures survives { Survives (state S.Store tx.old.conn.now) (state S.Store tx.new.conn.now) (λ _. ⊥) }
+    ensures never_foreign { IfErr result (λ e. e ≢ Foreign) }
 {
-    tx.execute("DELETE FROM orders WHERE ord = ?1", &[of_name(order)])?;
+    tx.execute(DROP_ORDER, &[of_name(order)])?;
     Ok(())
 }
 
@@ -39,9 +41,10 @@ fn change_order<S: Alter>(tx: &mut Transaction<'_, S>, row: &OrderRow) -> Result
         → IfOk result (λ had. Goes (if had then with_order row.now else (λ t. t)) (state S.Store tx.old.conn.now) (state S.Store tx.new.conn.now)) }
     ensures kept { HasCleanDisk (state S.Store tx.new.conn.now) → KeepsCommit (state S.Store tx.old.conn.now) (state S.Store tx.new.conn.now) }
     ensures survives { Survives (state S.Store tx.old.conn.now) (state S.Store tx.new.conn.now) (λ _. ⊥) }
+    ensures never_foreign { IfErr result (λ e. e ≢ Foreign) }
 {
     let count = tx.execute(
-        "UPDATE orders SET ord = ?1, act = ?2, customer = ?3, state = ?4 WHERE ord = ?1",
+        CHANGE_ORDER,
         &[
             of_name(&row.order),
             of_number(row.act),
@@ -60,9 +63,10 @@ fn add_order<S: Alter>(tx: &mut Transaction<'_, S>, row: &OrderRow) -> Result<()
         → OnOk result (Goes (with_order row.now) (state S.Store tx.old.conn.now) (state S.Store tx.new.conn.now)) }
     ensures kept { HasCleanDisk (state S.Store tx.new.conn.now) → KeepsCommit (state S.Store tx.old.conn.now) (state S.Store tx.new.conn.now) }
     ensures survives { Survives (state S.Store tx.old.conn.now) (state S.Store tx.new.conn.now) (λ _. ⊥) }
+    ensures never_foreign { IfErr result (λ e. e ≢ Foreign) }
 {
     tx.execute(
-        "INSERT INTO orders (ord, act, customer, state) VALUES (?1, ?2, ?3, ?4)",
+        ADD_ORDER,
         &[
             of_name(&row.order),
             of_number(row.act),
@@ -80,6 +84,8 @@ pub fn put_order<S: Alter>(tx: &mut Transaction<'_, S>, row: &OrderRow) -> Resul
         → OnOk result (Goes (with_order row.now) (state S.Store tx.old.conn.now) (state S.Store tx.new.conn.now)) }
     ensures kept { HasCleanDisk (state S.Store tx.new.conn.now) → KeepsCommit (state S.Store tx.old.conn.now) (state S.Store tx.new.conn.now) }
     ensures survives { Survives (state S.Store tx.old.conn.now) (state S.Store tx.new.conn.now) (λ _. ⊥) }
+    ensures never_foreign { IfErr result (λ e. e ≢ Foreign) }
+    ensures size_act { ACTS_MAX < row.now.act → IsTooBig result tx.old.conn.now tx.new.conn.now }
 {
     if row.act > ACTS_MAX {
         return Err(TableFault::too_big());
@@ -123,15 +129,34 @@ pub fn orders_of<S: Alter>(
     ensures same_reference { tx.new.conn.ghost_name ≡ tx.old.conn.ghost_name }
     ensures rows { HasCleanDisk (state S.Store tx.new.conn.now) → IsReady (state S.Store tx.old.conn.now).now
         → IfOk result (λ rows. AreRows {K = OrderKey} same_order order_key (λ key. bytes_eq order.now key) (λ key. (tables_in (state S.Store tx.old.conn.now).now.trees).order key) rows.items) }
+    ensures typed { HasCleanDisk (state S.Store tx.new.conn.now) → IsReady (state S.Store tx.old.conn.now).now
+        → OnOk result (AllByRecursion (λ r. is_order r ≡ true) (orders_of_rows order.now (state S.Store tx.old.conn.now).now.trees)) }
     ensures foreign { HasCleanDisk (state S.Store tx.new.conn.now) → IsReady (state S.Store tx.old.conn.now).now
         → IfErr result (λ e. e ≡ Foreign → ¬ AllByRecursion (λ r. is_order r ≡ true) (orders_of_rows order.now (state S.Store tx.old.conn.now).now.trees)) }
     ensures same { HasCleanDisk (state S.Store tx.new.conn.now) → IsReady (state S.Store tx.old.conn.now).now → OnOk result (IsUnchanged (state S.Store tx.old.conn.now) (state S.Store tx.new.conn.now)) }
     ensures kept { HasCleanDisk (state S.Store tx.new.conn.now) → IsReady (state S.Store tx.old.conn.now).now → KeepsCommit (state S.Store tx.old.conn.now) (state S.Store tx.new.conn.now) }
     ensures survives { Survives (state S.Store tx.old.conn.now) (state S.Store tx.new.conn.now) (λ _. ⊥) }
 {
-    let rows = tx.query_all(
-        "SELECT ord, act, customer, state FROM orders WHERE ord = ?1 ORDER BY rowid",
-        &[of_name(order)],
-    )?;
+    let rows = tx.query_all(ORDERS_OF, &[of_name(order)])?;
+    to_rows(alloc, rows.as_slice())
+}
+
+/// The rows of the open orders, the oldest first; `Foreign` where one of them has a value that no row has.
+pub fn open_orders<S: Alter>(
+    alloc: Global,
+    tx: &mut Transaction<'_, S>,
+) -> Result<Vec<OrderRow>, TableFault>
+    ensures same_reference { tx.new.conn.ghost_name ≡ tx.old.conn.ghost_name }
+    ensures rows { HasCleanDisk (state S.Store tx.new.conn.now) → IsReady (state S.Store tx.old.conn.now).now
+        → IfOk result (λ rows. AreRows {K = OrderKey} same_order order_key (λ key. true) (λ key. only_if is_open_order ((tables_in (state S.Store tx.old.conn.now).now.trees).order key)) rows.items) }
+    ensures typed { HasCleanDisk (state S.Store tx.new.conn.now) → IsReady (state S.Store tx.old.conn.now).now
+        → OnOk result (AllByRecursion (λ r. is_order r ≡ true) (open_orders_rows (state S.Store tx.old.conn.now).now.trees)) }
+    ensures foreign { HasCleanDisk (state S.Store tx.new.conn.now) → IsReady (state S.Store tx.old.conn.now).now
+        → IfErr result (λ e. e ≡ Foreign → ¬ AllByRecursion (λ r. is_order r ≡ true) (open_orders_rows (state S.Store tx.old.conn.now).now.trees)) }
+    ensures same { HasCleanDisk (state S.Store tx.new.conn.now) → IsReady (state S.Store tx.old.conn.now).now → OnOk result (IsUnchanged (state S.Store tx.old.conn.now) (state S.Store tx.new.conn.now)) }
+    ensures kept { HasCleanDisk (state S.Store tx.new.conn.now) → IsReady (state S.Store tx.old.conn.now).now → KeepsCommit (state S.Store tx.old.conn.now) (state S.Store tx.new.conn.now) }
+    ensures survives { Survives (state S.Store tx.old.conn.now) (state S.Store tx.new.conn.now) (λ _. ⊥) }
+{
+    let rows = tx.query_all(OPEN_ORDERS, &[of_order_state(OrderState::Open)])?;
     to_rows(alloc, rows.as_slice())
 }

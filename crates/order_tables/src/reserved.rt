@@ -1,14 +1,15 @@
 //! The table `reserved`.
 
-ghost use Rattle.std.specs.Prelude.{◌≡◌, ◌≤◌, true, false, find, map, OnOk, IfOk, IfErr, bytes_eq, nat_eq, if◌then◌else◌};
+ghost use Rattle.std.specs.Prelude.{◌≡◌, ◌≢◌, ◌≤◌, ◌<◌, true, false, find, map, OnOk, IfOk, IfErr, bytes_eq, nat_eq, if◌then◌else◌};
 ghost use Rattle.std.specs.List.{AllByRecursion};
 ghost use Rattle.sqlite.specs.State.{HasCleanDisk, Survives, KeepsCommit, IsUnchanged};
 ghost use Rattle.sqlite.specs.Held.{state};
 ghost use Rattle.table_words.specs.Found.{AreRows};
-ghost use Rattle.table_words.specs.Steps.{IsReady, Goes};
+ghost use Rattle.table_words.specs.Steps.{IsReady, Goes, IsTooBig};
 ghost use Rattle.table_words.specs.Typed.{tables_in, same_lot_id, with_reserved, without_reserved, is_reserved, has_reserved, reserved_read, reserved_key, same_reserved, ReservedKey, reserved_of_item_rows};
 ghost use Rattle.table_words.specs.declared.error.TableFault.TheVariants.{Foreign};
 
+use crate::texts::{ADD_RESERVED, CHANGE_RESERVED, DROP_RESERVED, RESERVED_OF_ITEM};
 use commands::ReservedRow;
 use commands::limits::UNITS_MAX;
 use label::{Gtin, LotId, Name};
@@ -30,9 +31,10 @@ pub fn drop_reserved<S: Alter>(
         → OnOk result (Goes (without_reserved order.now lot.now) (state S.Store tx.old.conn.now) (state S.Store tx.new.conn.now)) }
     ensures kept { HasCleanDisk (state S.Store tx.new.conn.now) → KeepsCommit (state S.Store tx.old.conn.now) (state S.Store tx.new.conn.now) }
     ensures survives { Survives (state S.Store tx.old.conn.now) (state S.Store tx.new.conn.now) (λ _. ⊥) }
+    ensures never_foreign { IfErr result (λ e. e ≢ Foreign) }
 {
     tx.execute(
-        "DELETE FROM reserved WHERE ord = ?1 AND gtin = ?2 AND lot = ?3",
+        DROP_RESERVED,
         &[of_name(order), of_gtin(&lot.gtin), of_lot(&lot.lot)],
     )?;
     Ok(())
@@ -49,9 +51,10 @@ fn change_reserved<S: Alter>(
         → IfOk result (λ had. Goes (if had then with_reserved row.now else (λ t. t)) (state S.Store tx.old.conn.now) (state S.Store tx.new.conn.now)) }
     ensures kept { HasCleanDisk (state S.Store tx.new.conn.now) → KeepsCommit (state S.Store tx.old.conn.now) (state S.Store tx.new.conn.now) }
     ensures survives { Survives (state S.Store tx.old.conn.now) (state S.Store tx.new.conn.now) (λ _. ⊥) }
+    ensures never_foreign { IfErr result (λ e. e ≢ Foreign) }
 {
     let count = tx.execute(
-        "UPDATE reserved SET ord = ?1, gtin = ?2, lot = ?3, qty = ?4 WHERE ord = ?1 AND gtin = ?2 AND lot = ?3",
+        CHANGE_RESERVED,
         &[
             of_name(&row.order),
             of_gtin(&row.lot.gtin),
@@ -70,9 +73,10 @@ fn add_reserved<S: Alter>(tx: &mut Transaction<'_, S>, row: &ReservedRow) -> Res
         → OnOk result (Goes (with_reserved row.now) (state S.Store tx.old.conn.now) (state S.Store tx.new.conn.now)) }
     ensures kept { HasCleanDisk (state S.Store tx.new.conn.now) → KeepsCommit (state S.Store tx.old.conn.now) (state S.Store tx.new.conn.now) }
     ensures survives { Survives (state S.Store tx.old.conn.now) (state S.Store tx.new.conn.now) (λ _. ⊥) }
+    ensures never_foreign { IfErr result (λ e. e ≢ Foreign) }
 {
     tx.execute(
-        "INSERT INTO reserved (ord, gtin, lot, qty) VALUES (?1, ?2, ?3, ?4)",
+        ADD_RESERVED,
         &[
             of_name(&row.order),
             of_gtin(&row.lot.gtin),
@@ -93,6 +97,8 @@ pub fn put_reserved<S: Alter>(
         → OnOk result (Goes (with_reserved row.now) (state S.Store tx.old.conn.now) (state S.Store tx.new.conn.now)) }
     ensures kept { HasCleanDisk (state S.Store tx.new.conn.now) → KeepsCommit (state S.Store tx.old.conn.now) (state S.Store tx.new.conn.now) }
     ensures survives { Survives (state S.Store tx.old.conn.now) (state S.Store tx.new.conn.now) (λ _. ⊥) }
+    ensures never_foreign { IfErr result (λ e. e ≢ Foreign) }
+    ensures size_qty { UNITS_MAX < row.now.qty → IsTooBig result tx.old.conn.now tx.new.conn.now }
 {
     if row.qty > UNITS_MAX {
         return Err(TableFault::too_big());
@@ -138,15 +144,14 @@ pub fn reserved_of_item<S: Alter>(
     ensures same_reference { tx.new.conn.ghost_name ≡ tx.old.conn.ghost_name }
     ensures rows { HasCleanDisk (state S.Store tx.new.conn.now) → IsReady (state S.Store tx.old.conn.now).now
         → IfOk result (λ rows. AreRows {K = ReservedKey} same_reserved reserved_key (λ key. bytes_eq gtin.now key.1.gtin) (λ key. (tables_in (state S.Store tx.old.conn.now).now.trees).reserved key.0 key.1) rows.items) }
+    ensures typed { HasCleanDisk (state S.Store tx.new.conn.now) → IsReady (state S.Store tx.old.conn.now).now
+        → OnOk result (AllByRecursion (λ r. is_reserved r ≡ true) (reserved_of_item_rows gtin.now (state S.Store tx.old.conn.now).now.trees)) }
     ensures foreign { HasCleanDisk (state S.Store tx.new.conn.now) → IsReady (state S.Store tx.old.conn.now).now
         → IfErr result (λ e. e ≡ Foreign → ¬ AllByRecursion (λ r. is_reserved r ≡ true) (reserved_of_item_rows gtin.now (state S.Store tx.old.conn.now).now.trees)) }
     ensures same { HasCleanDisk (state S.Store tx.new.conn.now) → IsReady (state S.Store tx.old.conn.now).now → OnOk result (IsUnchanged (state S.Store tx.old.conn.now) (state S.Store tx.new.conn.now)) }
     ensures kept { HasCleanDisk (state S.Store tx.new.conn.now) → IsReady (state S.Store tx.old.conn.now).now → KeepsCommit (state S.Store tx.old.conn.now) (state S.Store tx.new.conn.now) }
     ensures survives { Survives (state S.Store tx.old.conn.now) (state S.Store tx.new.conn.now) (λ _. ⊥) }
 {
-    let rows = tx.query_all(
-        "SELECT ord, gtin, lot, qty FROM reserved WHERE gtin = ?1 ORDER BY rowid",
-        &[of_gtin(gtin)],
-    )?;
+    let rows = tx.query_all(RESERVED_OF_ITEM, &[of_gtin(gtin)])?;
     to_rows(alloc, rows.as_slice())
 }

@@ -1,14 +1,15 @@
 //! The table `staged`.
 
-ghost use Rattle.std.specs.Prelude.{◌≡◌, ◌≤◌, true, false, find, map, OnOk, IfOk, IfErr, bytes_eq, nat_eq, if◌then◌else◌};
+ghost use Rattle.std.specs.Prelude.{◌≡◌, ◌≢◌, ◌≤◌, ◌<◌, true, false, find, map, OnOk, IfOk, IfErr, bytes_eq, nat_eq, if◌then◌else◌};
 ghost use Rattle.std.specs.List.{AllByRecursion};
 ghost use Rattle.sqlite.specs.State.{HasCleanDisk, Survives, KeepsCommit, IsUnchanged};
 ghost use Rattle.sqlite.specs.Held.{state};
 ghost use Rattle.table_words.specs.Found.{AreRows};
-ghost use Rattle.table_words.specs.Steps.{IsReady, Goes};
+ghost use Rattle.table_words.specs.Steps.{IsReady, Goes, IsTooBig};
 ghost use Rattle.table_words.specs.Typed.{tables_in, same_lot_id, with_staged, without_staged, is_staged, has_staged, staged_read, staged_key, same_staged, StagedKey, staged_of_item_rows, all_staged_rows};
 ghost use Rattle.table_words.specs.declared.error.TableFault.TheVariants.{Foreign};
 
+use crate::texts::{ADD_STAGED, ALL_STAGED, CHANGE_STAGED, DROP_STAGED, STAGED_OF_ITEM};
 use commands::StagedRow;
 use commands::limits::UNITS_MAX;
 use label::{Gtin, LotId, Name};
@@ -30,9 +31,10 @@ pub fn drop_staged<S: Alter>(
         → OnOk result (Goes (without_staged order.now lot.now) (state S.Store tx.old.conn.now) (state S.Store tx.new.conn.now)) }
     ensures kept { HasCleanDisk (state S.Store tx.new.conn.now) → KeepsCommit (state S.Store tx.old.conn.now) (state S.Store tx.new.conn.now) }
     ensures survives { Survives (state S.Store tx.old.conn.now) (state S.Store tx.new.conn.now) (λ _. ⊥) }
+    ensures never_foreign { IfErr result (λ e. e ≢ Foreign) }
 {
     tx.execute(
-        "DELETE FROM staged WHERE ord = ?1 AND gtin = ?2 AND lot = ?3",
+        DROP_STAGED,
         &[of_name(order), of_gtin(&lot.gtin), of_lot(&lot.lot)],
     )?;
     Ok(())
@@ -46,9 +48,10 @@ fn change_staged<S: Alter>(tx: &mut Transaction<'_, S>, row: &StagedRow) -> Resu
         → IfOk result (λ had. Goes (if had then with_staged row.now else (λ t. t)) (state S.Store tx.old.conn.now) (state S.Store tx.new.conn.now)) }
     ensures kept { HasCleanDisk (state S.Store tx.new.conn.now) → KeepsCommit (state S.Store tx.old.conn.now) (state S.Store tx.new.conn.now) }
     ensures survives { Survives (state S.Store tx.old.conn.now) (state S.Store tx.new.conn.now) (λ _. ⊥) }
+    ensures never_foreign { IfErr result (λ e. e ≢ Foreign) }
 {
     let count = tx.execute(
-        "UPDATE staged SET ord = ?1, gtin = ?2, lot = ?3, qty = ?4 WHERE ord = ?1 AND gtin = ?2 AND lot = ?3",
+        CHANGE_STAGED,
         &[
             of_name(&row.order),
             of_gtin(&row.lot.gtin),
@@ -67,9 +70,10 @@ fn add_staged<S: Alter>(tx: &mut Transaction<'_, S>, row: &StagedRow) -> Result<
         → OnOk result (Goes (with_staged row.now) (state S.Store tx.old.conn.now) (state S.Store tx.new.conn.now)) }
     ensures kept { HasCleanDisk (state S.Store tx.new.conn.now) → KeepsCommit (state S.Store tx.old.conn.now) (state S.Store tx.new.conn.now) }
     ensures survives { Survives (state S.Store tx.old.conn.now) (state S.Store tx.new.conn.now) (λ _. ⊥) }
+    ensures never_foreign { IfErr result (λ e. e ≢ Foreign) }
 {
     tx.execute(
-        "INSERT INTO staged (ord, gtin, lot, qty) VALUES (?1, ?2, ?3, ?4)",
+        ADD_STAGED,
         &[
             of_name(&row.order),
             of_gtin(&row.lot.gtin),
@@ -87,6 +91,8 @@ pub fn put_staged<S: Alter>(tx: &mut Transaction<'_, S>, row: &StagedRow) -> Res
         → OnOk result (Goes (with_staged row.now) (state S.Store tx.old.conn.now) (state S.Store tx.new.conn.now)) }
     ensures kept { HasCleanDisk (state S.Store tx.new.conn.now) → KeepsCommit (state S.Store tx.old.conn.now) (state S.Store tx.new.conn.now) }
     ensures survives { Survives (state S.Store tx.old.conn.now) (state S.Store tx.new.conn.now) (λ _. ⊥) }
+    ensures never_foreign { IfErr result (λ e. e ≢ Foreign) }
+    ensures size_qty { UNITS_MAX < row.now.qty → IsTooBig result tx.old.conn.now tx.new.conn.now }
 {
     if row.qty > UNITS_MAX {
         return Err(TableFault::too_big());
@@ -132,16 +138,15 @@ pub fn staged_of_item<S: Alter>(
     ensures same_reference { tx.new.conn.ghost_name ≡ tx.old.conn.ghost_name }
     ensures rows { HasCleanDisk (state S.Store tx.new.conn.now) → IsReady (state S.Store tx.old.conn.now).now
         → IfOk result (λ rows. AreRows {K = StagedKey} same_staged staged_key (λ key. bytes_eq gtin.now key.1.gtin) (λ key. (tables_in (state S.Store tx.old.conn.now).now.trees).staged key.0 key.1) rows.items) }
+    ensures typed { HasCleanDisk (state S.Store tx.new.conn.now) → IsReady (state S.Store tx.old.conn.now).now
+        → OnOk result (AllByRecursion (λ r. is_staged r ≡ true) (staged_of_item_rows gtin.now (state S.Store tx.old.conn.now).now.trees)) }
     ensures foreign { HasCleanDisk (state S.Store tx.new.conn.now) → IsReady (state S.Store tx.old.conn.now).now
         → IfErr result (λ e. e ≡ Foreign → ¬ AllByRecursion (λ r. is_staged r ≡ true) (staged_of_item_rows gtin.now (state S.Store tx.old.conn.now).now.trees)) }
     ensures same { HasCleanDisk (state S.Store tx.new.conn.now) → IsReady (state S.Store tx.old.conn.now).now → OnOk result (IsUnchanged (state S.Store tx.old.conn.now) (state S.Store tx.new.conn.now)) }
     ensures kept { HasCleanDisk (state S.Store tx.new.conn.now) → IsReady (state S.Store tx.old.conn.now).now → KeepsCommit (state S.Store tx.old.conn.now) (state S.Store tx.new.conn.now) }
     ensures survives { Survives (state S.Store tx.old.conn.now) (state S.Store tx.new.conn.now) (λ _. ⊥) }
 {
-    let rows = tx.query_all(
-        "SELECT ord, gtin, lot, qty FROM staged WHERE gtin = ?1 ORDER BY rowid",
-        &[of_gtin(gtin)],
-    )?;
+    let rows = tx.query_all(STAGED_OF_ITEM, &[of_gtin(gtin)])?;
     to_rows(alloc, rows.as_slice())
 }
 
@@ -153,12 +158,14 @@ pub fn all_staged<S: Alter>(
     ensures same_reference { tx.new.conn.ghost_name ≡ tx.old.conn.ghost_name }
     ensures rows { HasCleanDisk (state S.Store tx.new.conn.now) → IsReady (state S.Store tx.old.conn.now).now
         → IfOk result (λ rows. AreRows {K = StagedKey} same_staged staged_key (λ key. true) (λ key. (tables_in (state S.Store tx.old.conn.now).now.trees).staged key.0 key.1) rows.items) }
+    ensures typed { HasCleanDisk (state S.Store tx.new.conn.now) → IsReady (state S.Store tx.old.conn.now).now
+        → OnOk result (AllByRecursion (λ r. is_staged r ≡ true) (all_staged_rows (state S.Store tx.old.conn.now).now.trees)) }
     ensures foreign { HasCleanDisk (state S.Store tx.new.conn.now) → IsReady (state S.Store tx.old.conn.now).now
         → IfErr result (λ e. e ≡ Foreign → ¬ AllByRecursion (λ r. is_staged r ≡ true) (all_staged_rows (state S.Store tx.old.conn.now).now.trees)) }
     ensures same { HasCleanDisk (state S.Store tx.new.conn.now) → IsReady (state S.Store tx.old.conn.now).now → OnOk result (IsUnchanged (state S.Store tx.old.conn.now) (state S.Store tx.new.conn.now)) }
     ensures kept { HasCleanDisk (state S.Store tx.new.conn.now) → IsReady (state S.Store tx.old.conn.now).now → KeepsCommit (state S.Store tx.old.conn.now) (state S.Store tx.new.conn.now) }
     ensures survives { Survives (state S.Store tx.old.conn.now) (state S.Store tx.new.conn.now) (λ _. ⊥) }
 {
-    let rows = tx.query_all("SELECT ord, gtin, lot, qty FROM staged ORDER BY rowid", &[])?;
+    let rows = tx.query_all(ALL_STAGED, &[])?;
     to_rows(alloc, rows.as_slice())
 }

@@ -75,6 +75,11 @@ pub on_ok : {X E P : Type 0} (r : Result X E) → P → OnOk r P
 on_ok (Ok x) p = p
 on_ok (Err e) p = tt
 
+-- what is so of each answer is so where there is one
+pub on_ok_if : {X E Q : Type 0} (r : Result X E) (P : X → Type 0) → IfOk r P → ((x : X) → P x → Q) → OnOk r Q
+on_ok_if (Ok x) P h f = f x h
+on_ok_if (Err e) P h f = tt
+
 pub if_ok : {X E : Type 0} (r : Result X E) (P Q : X → Type 0) → IfOk r P → ((x : X) → P x → Q x) → IfOk r Q
 if_ok (Ok x) P Q h f = f x h
 if_ok (Err e) P Q h f = tt

@@ -1,5 +1,5 @@
 -- Columns and typed rows under what is done to stored rows.
-use Rattle.std.proofs.Common.{◌≡◌, inl, inr, ℕ, Bool, true, false, not, ◌&&◌, bytes_eq, List, [], ◌∷◌, ◌++◌, map, filter, cond, pos, negsuc, ℤ, int_eq, int_cmp, arith, true≢false, subst, refl, sym, ap, ap₂, ◌∙◌, is_eq, Equal}
+use Rattle.std.proofs.Common.{◌≡◌, inl, inr, ℕ, Bool, true, false, not, ◌&&◌, bytes_eq, List, [], ◌∷◌, ◌++◌, map, filter, cond, pos, negsuc, ℤ, int_eq, int_cmp, arith, true≢false, subst, refl, sym, ap, ap₂, ◌∙◌, is_eq, Equal, codes}
 use Rattle.std.specs.List.{AllByRecursion}
 use Rattle.std.proofs.lemmas.Bool.{cases_Bool, cases_eq, eq-eqb, ne_eqb}
 use Rattle.std.proofs.lemmas.Map.Text.{is_eq-slice_cmp}
@@ -11,11 +11,11 @@ use Rattle.sqlite_value.proofs.OrderLemmas.{value_cmp-Text, value_cmp-Int, value
 use Rattle.std.proofs.lemmas.Slice.Eq.{bytes_eq-Decides}
 use Rattle.std.proofs.lemmas.Bool.Decides.{nat_tests, Decides-eqb, Decides-int_eq}
 use Rattle.std.proofs.lemmas.Int.{ints}
-use Rattle.std.specs.Prelude.{nat_eq}
+use Rattle.std.specs.Prelude.{◌↔◌, nat_eq, if◌then◌else◌}
 use Rattle.sqlite_trees.specs.View.{is_int}
 use Rattle.table_words.proofs.KeyLemmas.{IsSame, ties, same_bytes, itself_bytes, itself_both}
 use Rattle.std.proofs.lemmas.Bool.{and_parts}
-use Rattle.sqlite_keyed.proofs.ListLemmas.{map-map, all-append}
+use Rattle.sqlite_keyed.proofs.ListLemmas.{map-map, all-append, all_map, all_weaker}
 use Rattle.std.proofs.lemmas.List.{take_more, map-append}
 use Rattle.std.proofs.Common.{length, get_or, take, ◌+◌, ◌<◌}
 use Rattle.sqlite_schema.specs.Rules.{equal}
@@ -23,7 +23,7 @@ use Rattle.sqlite_sql.specs.declared.ops.BinaryOp.TheVariants.{Compare}
 use Rattle.sqlite_sql.specs.declared.ops.CompareOp.TheVariants.{Eq}
 use Rattle.sqlite_sql.specs.Ops.{binary, is_true, from_truth}
 use Rattle.table_words.specs.Typed.{same_lot_id}
-use Rattle.table_words.specs.Cells.{typed, is_word, is_the_text, is_number, is_the_number, number_in, is_signed, signed_in, flag_number, flag_in, is_bin_kind, bin_kind_in, order_state_text, is_order_state, order_state_in, card_kind_text, is_card_kind, card_kind_in}
+use Rattle.table_words.specs.Cells.{typed, is_word, is_the_text, is_number, is_the_number, number_in, is_signed, signed_in, flag_number, flag_in, is_bin_kind, bin_kind_in, order_state_text, is_order_state, is_open_state, order_state_in, card_kind_text, is_card_kind, card_kind_in}
 use Rattle.label.specs.declared.lot.LotId.{LotId}
 use Rattle.commands.specs.Spelling.{kind_text}
 use Rattle.commands.specs.declared.command.BinKind.{BinKind}
@@ -33,6 +33,19 @@ use Rattle.commands.specs.declared.rows.OrderState.TheVariants.{Open, Done, Canc
 use Rattle.commands.specs.declared.rows.CardKind.{CardKind}
 use Rattle.commands.specs.declared.rows.CardKind.TheVariants.{Receipt, WriteOn, WriteOff, Shipment}
 use Rattle.std.specs.Prelude.{nat_le, ◌≤◌}
+
+-- where all that is shown reads as typed rows, all that is stored does
+unmapped : (has is : Row → Bool) (show : Row → Row) → ((r : Row) → has (show r) ≡ is r) → (rows : List Row) → AllByRecursion (λ v. has v ≡ true) (map show rows) → AllByRecursion (λ r. is r ≡ true) rows
+unmapped has is show same [] h = tt
+unmapped has is show same (r ∷ rows) h = (sym (same r) ∙ h.0, unmapped has is show same rows h.1)
+
+-- the rows shown read as typed ones exactly if the stored ones do
+pub both_typed : (has is : Row → Bool) (show : Row → Row) → ((r : Row) → has (show r) ≡ is r) → (stored shown : List Row) → shown ≡ map show stored
+    → AllByRecursion (λ r. is r ≡ true) stored ↔ AllByRecursion (λ v. has v ≡ true) shown
+both_typed has is show same stored shown are = (
+  λ good. subst (AllByRecursion (λ v. has v ≡ true)) (sym are) (all_map (λ v. has v ≡ true) show stored (all_weaker (λ r. is r ≡ true) (λ r. has (show r) ≡ true) (λ r h. same r ∙ h) stored good)),
+  λ good. unmapped has is show same stored (subst (AllByRecursion (λ v. has v ≡ true)) are good),
+)
 
 module _ {X : Type 0} (is : Row → Bool) (read : Row → X) where
   pub typed-filter : (p : Row → Bool) (q : X → Bool) → ((r : Row) → is r ≡ true → p r ≡ q (read r)) → (rows : List Row) → typed is read (filter p rows) ≡ filter q (typed is read rows)
@@ -53,12 +66,8 @@ module _ {X : Type 0} (is : Row → Bool) (read : Row → X) where
   pub shown_typed : (has : Row → Bool) (seen : Row → X) (show : Row → Row) → ((r : Row) → has (show r) ≡ is r) → ((r : Row) → seen (show r) ≡ read r) → (rows found : List Row) (xs : List X) → found ≡ map show rows
       → AllByRecursion (λ v. has v ≡ true) found → map seen found ≡ xs → xs ≡ typed is read rows
   shown_typed has seen show same_has same_seen rows found xs are good xs_are =
-      let shown : AllByRecursion (λ v. has v ≡ true) (map show rows) = subst (AllByRecursion (λ v. has v ≡ true)) are good in
-      sym xs_are ∙ ap (map seen) are ∙ map-map seen show rows ∙ (λ i. map (λ r. same_seen r i) rows) ∙ all_read rows (unmapped rows shown)
-    where
-      unmapped : (rows : List Row) → AllByRecursion (λ v. has v ≡ true) (map show rows) → AllByRecursion (λ r. is r ≡ true) rows
-      unmapped [] h = tt
-      unmapped (r ∷ rows) h = (sym (same_has r) ∙ h.0, unmapped rows h.1)
+      sym xs_are ∙ ap (map seen) are ∙ map-map seen show rows ∙ (λ i. map (λ r. same_seen r i) rows)
+      ∙ all_read rows (unmapped has is show same_has rows (subst (AllByRecursion (λ v. has v ≡ true)) are good))
 
 -- ---- values
 
@@ -189,6 +198,16 @@ pub order_state_back : (s : OrderState) → order_state_in (Text (order_state_te
 order_state_back Open = refl
 order_state_back Done = refl
 order_state_back Cancelled = refl
+
+-- the word of open orders tells which are open
+open_word : (t : List ℕ) → bytes_eq (codes "OPEN") t ≡ is_open_state (if bytes_eq t (codes "OPEN") then Open else if bytes_eq t (codes "DONE") then Done else Cancelled)
+open_word t = turned (codes "OPEN") t ∙ elim (cases_Bool (bytes_eq t (codes "OPEN"))) [
+  | inl e ↦ rw e refl
+  | inr e ↦ rw e (elim (cases_Bool (bytes_eq t (codes "DONE"))) [ inl f ↦ rw f refl | inr f ↦ rw f refl ])
+]
+
+pub open_is : (v : Value) → bytes_eq (codes "OPEN") (bytes v) ≡ is_open_state (order_state_in v)
+open_is v = open_word (bytes v)
 
 pub card_kind_sound : (k : CardKind) → is_card_kind (card_kind_text k) ≡ true
 card_kind_sound Receipt = refl

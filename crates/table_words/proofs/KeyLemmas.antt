@@ -1,5 +1,5 @@
 -- No two rows of a table have one key, and what a look-up by key finds after a write.
-use Rattle.std.proofs.Common.{◌≡◌, ◌≤◌, ℕ, ◌+◌, inl, inr, Bool, true, false, not, ◌&&◌, ◌||◌, cond, List, [], ◌∷◌, map, filter, find, length, Option, Some, None, refl, sym, ap, ap₂, ◌∙◌, subst, arith, IsTrue, Ordering, Less, Equal, Greater, is_eq, bytes_eq, true≢false}
+use Rattle.std.proofs.Common.{◌≡◌, ◌≤◌, ℕ, ◌+◌, inl, inr, Bool, true, false, not, ◌&&◌, ◌||◌, cond, List, [], ◌∷◌, map, filter, find, length, slice_get, Option, Some, None, refl, sym, ap, ap₂, ◌∙◌, subst, arith, IsTrue, Ordering, Less, Equal, Greater, is_eq, bytes_eq, true≢false}
 use Rattle.std.proofs.lemmas.Bool.{cases_Bool, and_parts, and_from, not-true, both_ways, false_from_ne_true}
 use Rattle.std.specs.List.{AllByRecursion, list_any, list_all}
 use Rattle.std.specs.Ordering.{is_ne, match_ordering, ordering_reverse}
@@ -28,7 +28,7 @@ use Rattle.sqlite_rules.proofs.TableLemmas.{int_is, has_put, put_has}
 use Rattle.sqlite_keyed.proofs.ListLemmas.{ascending-filter}
 use Rattle.table_words.specs.Rows.{IsRows}
 use Rattle.table_words.specs.Cells.{typed}
-use Rattle.table_words.specs.Found.{AreRows, no_two}
+use Rattle.table_words.specs.Found.{AreRows, no_two, only_if}
 use Rattle.table_words.proofs.Plans.{same, tests_from}
 use Rattle.table_words.proofs.ScanLemmas.{passes}
 use Rattle.table_words.proofs.ListLemmas.{over}
@@ -290,3 +290,76 @@ module _ {K X : Type 0} (eq : K → K → Bool) (key : X → K) (is_same : IsSam
       only = only_wanted (typed is read rows);
       once = once rows up apart;
     })
+
+-- ---- rows that were read by a test of the row itself
+
+module _ {K X : Type 0} (eq : K → K → Bool) (key : X → K) (is_same : IsSame eq) (test : X → Bool) where
+  none_left : (p : X → Bool) (xs : List X) → list_any p xs ≡ false → list_any p (filter test xs) ≡ false
+  none_left p [] none = refl
+  none_left p (x ∷ xs) none = elim (cases_Bool (p x)) [
+    | inl e ↦ absurd (true≢false (rw e at none))
+    | inr e ↦
+        let later = none_left p xs (rw e at none) in
+        elim (cases_Bool (test x)) [ inl f ↦ rw (f, e) later | inr f ↦ rw f later ]
+  ]
+
+  none_found : (p : X → Bool) (xs : List X) → list_any p xs ≡ false → find p xs ≡ None
+  none_found p [] none = refl
+  none_found p (x ∷ xs) none = elim (cases_Bool (p x)) [
+    | inl e ↦ absurd (true≢false (rw e at none))
+    | inr e ↦ rw e (none_found p xs (rw e at none))
+  ]
+
+  once_left : (same : X → X → Bool) (xs : List X) → no_two same xs ≡ true → no_two same (filter test xs) ≡ true
+  once_left same [] once_all = refl
+  once_left same (x ∷ xs) once_all =
+      let both = and_parts _ _ once_all in
+      let later = once_left same xs both.1 in
+      elim (cases_Bool (test x)) [
+        | inl f ↦ rw f (and_from _ _ (ap not (none_left (same x) xs (not-true _ both.0))) later)
+        | inr f ↦ rw f later
+      ]
+
+  -- where no key comes twice, the row with a key is found among those that pass if it passes
+  found_left : (k : K) (xs : List X) → no_two (λ x y. eq (key x) (key y)) xs ≡ true → find (λ x. eq k (key x)) (filter test xs) ≡ only_if test (find (λ x. eq k (key x)) xs)
+  found_left k [] once_all = refl
+  found_left k (x ∷ xs) once_all =
+      let both = and_parts _ _ once_all in
+      let more = found_left k xs both.1 in
+      elim (cases_Bool (eq k (key x))) [
+        | inl e ↦
+            let alone : list_any (λ y. eq k (key y)) xs ≡ false =
+            subst (λ c. list_any (λ y. eq c (key y)) xs ≡ false) (sym (is_same k (key x) e)) (not-true _ both.0) in
+            elim (cases_Bool (test x)) [
+              | inl f ↦ rw (f, e, f) refl
+              | inr f ↦ rw (f, e, f) (none_found (λ y. eq k (key y)) (filter test xs) (none_left (λ y. eq k (key y)) xs alone))
+            ]
+        | inr e ↦ elim (cases_Bool (test x)) [ inl f ↦ rw (f, e) more | inr f ↦ rw (f, e) more ]
+      ]
+
+  any_key : (xs : List X) → list_all (λ x. true) xs ≡ true
+  any_key [] = refl
+  any_key (x ∷ xs) = any_key xs
+
+  all_stay : (xs : List X) → filter (λ x. true) xs ≡ xs
+  all_stay [] = refl
+  all_stay (x ∷ xs) = ap (λ l. x ∷ l) (all_stay xs)
+
+  -- what a scan of the rows that pass gives
+  pub are_rows_if : (is : Row → Bool) (read : Row → X) (rows : List Row) (xs : List X) → IsTable rows → AreApart eq key is_same (λ k. true) is read rows → xs ≡ filter test (typed is read rows)
+      → AreRows eq key (λ k. true) (λ k. only_if test (find (λ x. eq k (key x)) (typed is read rows))) xs
+  are_rows_if is read rows xs up apart is_filter =
+      let once_all : no_two (λ x y. eq (key x) (key y)) (typed is read rows) ≡ true =
+      subst (λ l. no_two (λ x y. eq (key x) (key y)) l ≡ true) (all_stay (typed is read rows)) (once eq key is_same (λ k. true) is read rows up apart) in
+      subst (AreRows eq key (λ k. true) (λ k. only_if test (find (λ x. eq k (key x)) (typed is read rows)))) (sym is_filter) (record {
+        found = λ k w. found_left k (typed is read rows) once_all;
+        only = any_key (filter test (typed is read rows));
+        once = once_left (λ x y. eq (key x) (key y)) (typed is read rows) once_all;
+      })
+
+-- of the rows with one key the first is the row there
+pub first_row : {K X : Type 0} (eq : K → K → Bool) (key : X → K) (k : K) (row : K → Option X) (xs : List X) → eq k k ≡ true → AreRows eq key (λ c. eq k c) row xs → slice_get xs 0 ≡ row k
+first_row eq key k row [] itself are = are.found k itself
+first_row eq key k row (x ∷ xs) itself are =
+    let own : eq k (key x) ≡ true = (and_parts _ _ are.only).0 in
+    rw own at (are.found k itself)

@@ -88,6 +88,11 @@ order_state_text Cancelled = codes "CANCELLED"
 abbrev pub is_order_state : List ℕ → Bool
 is_order_state t = bytes_eq t (codes "OPEN") || (bytes_eq t (codes "DONE") || bytes_eq t (codes "CANCELLED"))
 
+abbrev pub is_open_state : OrderState → Bool
+is_open_state Open = true
+is_open_state Done = false
+is_open_state Cancelled = false
+
 abbrev pub order_state_in : Value → OrderState
 order_state_in v = if bytes_eq (bytes v) (codes "OPEN") then Open else if bytes_eq (bytes v) (codes "DONE") then Done else Cancelled
 

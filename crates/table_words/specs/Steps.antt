@@ -1,5 +1,5 @@
 -- What a call makes of the tables.
-use Rattle.std.specs.Prelude.{◌≡◌, []}
+use Rattle.std.specs.Prelude.{◌≡◌, [], Result, Err}
 use Rattle.std.specs.List.{AllByRecursion}
 use Rattle.sqlite.specs.State.{State}
 use Rattle.sqlite.specs.Effect.{Database, IsDatabase}
@@ -8,6 +8,10 @@ use Rattle.sqlite.specs.Schema.{Schema}
 use Rattle.table_words.specs.Schema.{the_schema}
 use Rattle.table_words.specs.Rows.{IsRows}
 use Rattle.table_words.specs.Typed.{Tables, tables_in, AreTyped}
+use Rattle.table_words.specs.declared.error.TableFault.{TableFault}
+use Rattle.table_words.specs.declared.error.TableFault.TheVariants.{Store}
+use Rattle.sqlite.specs.declared.error.Error.TheVariants.{SqliteFailure}
+use Rattle.sqlite.specs.declared.error.ErrorCode.TheVariants.{TooBig}
 
 -- the database has the schema and keeps its rules, and the rowids of each table rise
 pub record IsReady (db : Database) : Type 0 where
@@ -27,3 +31,7 @@ pub record IsBlank (schema : Schema) (db : Database) : Type 0 where
   pub schema_is : db.schema ≡ schema
   pub sound : IsDatabase db
   pub empty : AllByRecursion (λ t. db.trees t.tree ≡ []) schema.tables
+
+-- the call was refused for size, and nothing was done
+abbrev pub IsTooBig : {X S : Type 0} → Result X TableFault → S → S → Type 0
+IsTooBig result old new = (result ≡ Err (Store (SqliteFailure TooBig))) × (new ≡ old)

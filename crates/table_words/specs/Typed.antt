@@ -9,7 +9,7 @@ use Rattle.label.specs.declared.lot.LotId.{LotId}
 use Rattle.commands.specs.Spelling.{kind_text}
 pub use Rattle.commands.specs.Tables.{Tables}
 use Rattle.commands.specs.declared.limits.TheConstants.{UNITS_MAX, ACTS_MAX, SHORT_MAX, KEY_TEXT_MAX, CARD_NOTE_MAX, SCHEMA_VERSION}
-use Rattle.table_words.specs.Cells.{typed, is_word, is_the_text, fits_in, is_any, is_number, is_the_number, number_in, is_signed, is_any_number, signed_in, flag_number, flag_in, is_bin_kind, bin_kind_in, order_state_text, is_order_state, order_state_in, card_kind_text, is_card_kind, card_kind_in}
+use Rattle.table_words.specs.Cells.{typed, is_word, is_the_text, fits_in, is_any, is_number, is_the_number, number_in, is_signed, is_any_number, signed_in, flag_number, flag_in, is_bin_kind, bin_kind_in, order_state_text, is_order_state, is_open_state, order_state_in, card_kind_text, is_card_kind, card_kind_in}
 use Rattle.commands.specs.declared.rows.MetaRow.{MetaRow}
 use Rattle.commands.specs.declared.rows.ItemRow.{ItemRow}
 use Rattle.commands.specs.declared.rows.BinRow.{BinRow}
@@ -279,6 +279,13 @@ order_cells s = Text s.order ∷ Int (pos s.act) ∷ Text s.customer ∷ Text (o
 abbrev pub orders_of_rows : List ℕ → Trees → List Row
 orders_of_rows order trees = filter (λ r. is_the_text order (column r 1)) (trees orders_tree)
 
+abbrev pub is_open_order : OrderRow → Bool
+is_open_order s = is_open_state s.state
+
+-- the stored rows of the open orders
+abbrev pub open_orders_rows : Trees → List Row
+open_orders_rows trees = filter (λ r. is_the_text (codes "OPEN") (column r 4)) (trees orders_tree)
+
 -- ---- lines
 
 -- whether the row reads as a typed one
@@ -313,9 +320,9 @@ line_cells s = Text s.order ∷ Text s.gtin ∷ Int (pos s.ordered) ∷ Int (pos
 abbrev pub lines_of_order_rows : List ℕ → Trees → List Row
 lines_of_order_rows order trees = filter (λ r. is_the_text order (column r 1)) (trees lines_tree)
 
--- the stored rows of this gtin
-abbrev pub lines_of_item_rows : List ℕ → Trees → List Row
-lines_of_item_rows gtin trees = filter (λ r. is_the_text gtin (column r 2)) (trees lines_tree)
+-- the stored rows of this order and gtin
+abbrev pub line_of_rows : List ℕ → List ℕ → Trees → List Row
+line_of_rows order gtin trees = filter (λ r. is_the_text order (column r 1) && is_the_text gtin (column r 2)) (trees lines_tree)
 
 -- ---- staged
 
@@ -655,9 +662,6 @@ without_card lot act t = record t { card = λ at_lot at_act. if same_card (at_lo
 -- the row takes the place of one with its key
 abbrev pub with_repeat : RepeatRow → Tables → Tables
 with_repeat s t = record t { repeat = λ at_k. if same_repeat at_k (repeat_key s) then Some s else t.repeat at_k }
-
-abbrev pub without_repeat : List ℕ → Tables → Tables
-without_repeat k t = record t { repeat = λ at_k. if same_repeat at_k k then None else t.repeat at_k }
 
 abbrev pub no_rows : Tables
 no_rows = record { meta = None; item = λ _. None; bin = λ _. None; lot = λ _. None; recall = λ _. None; stock = λ _ _. None; order = λ _. None; line = λ _ _. None; staged = λ _ _. None; reserved = λ _ _. None; shipment = λ _. None; shipline = λ _ _. None; card = λ _ _. None; repeat = λ _. None }

@@ -1,5 +1,15 @@
 -- The rowids of each table rise where the store was just opened.
-use Rattle.std.proofs.Common.{◌≡◌, Bool, IsTrue, inl, inr, true, false, List, [], ◌∷◌, codes, refl, sym, subst, ◌∙◌}
+use Rattle.std.proofs.Common.{◌≡◌, ◌⊎◌, ℕ, ◌≤◌, Bool, IsTrue, IfErr, Result, Ok, Err, inl, inr, true, false, List, [], ◌∷◌, codes, refl, sym, ap, subst, ◌∙◌, arith}
+use Rattle.sqlite_disk.specs.Disk.{MoreFaults}
+use Rattle.sqlite_trees.specs.Tree.{Trees}
+use Rattle.sqlite_trees.specs.declared.error.StoreError.{StoreError}
+use Rattle.sqlite_trees.specs.declared.error.StoreError.TheVariants as stored
+use Rattle.sqlite_rules.specs.Calls.{Excuses}
+use Rattle.sqlite.specs.declared.error.Error.{Error}
+use Rattle.sqlite.specs.declared.error.Error.TheVariants.{SqliteFailure}
+use Rattle.sqlite.specs.declared.error.ErrorCode.TheVariants.{OutOfMemory}
+use Rattle.sqlite.specs.State.{store_error}
+use Rattle.sqlite.specs.Steps.{FailsToOpen}
 use Rattle.sqlite.specs.Schema.{Schema}
 use Rattle.sqlite_schema.specs.declared.schema.Index.{Index}
 use Rattle.std.proofs.lemmas.Bool.{cases_Bool}
@@ -9,6 +19,7 @@ use Rattle.sqlite.specs.Effect.{Database, IsDatabase}
 use Rattle.sqlite_trees.specs.Objects.{catalog_tree, IsListed}
 use Rattle.sqlite_catalog.specs.Listing.{Lists, IsSound}
 use Rattle.sqlite_catalog.proofs.LayoutLemmas.{table_shape, objects_rise}
+use Rattle.sqlite_catalog.proofs.ReadLemmas.{lists_once}
 use Rattle.sqlite_rules.proofs.ListLemmas.{all_from}
 use Rattle.table_words.specs.Schema.{the_schema, the_indexes}
 use Rattle.table_words.specs.Rows.{IsRows}
@@ -27,6 +38,29 @@ ready_over v db listed ordered sound trees schema =
 pub open_if_sound : (v : View) → (v.is_open ≡ false → v.is_broken ≡ true) → v.is_broken ≡ false → v.is_open ≡ true
 open_if_sound v law sound = elim (cases_Bool v.is_open) [ inl e ↦ e | inr e ↦ absurd (let bad = law e in cc) ]
 
+-- what is listed and obeyed is opened again, but for memory and the disk
+pub fails_for : (was : Database) (trees : Trees) (e : Error) (first mid last : ℕ) → IsDatabase was → trees ≡ was.trees → first ≤ mid → FailsToOpen trees (MoreFaults mid last) e
+    → (e ≡ SqliteFailure OutOfMemory) ⊎ MoreFaults first last
+fails_for was trees e first mid last database same counts (inl none) = absurd (none.1 was.schema (subst (IsSound was.schema) (sym same) database))
+fails_for was trees e first mid last database same counts (inr why) = by_cause why.0 why.1 why.2
+  where
+    by_cause : (cause : StoreError) → e ≡ store_error cause → Excuses (MoreFaults mid last) ⊥ cause → (e ≡ SqliteFailure OutOfMemory) ⊎ MoreFaults first last
+    by_cause stored.OutOfMemory is excused = inl is
+    by_cause stored.Io is excused = inr (omega (arith, counts, excused))
+    by_cause stored.Corrupt is excused = inr (omega (arith, counts, excused))
+    by_cause stored.Full is excused = inr (omega (arith, counts, excused))
+    by_cause stored.Broken is excused = absurd excused
+    by_cause stored.Unstorable is excused = absurd excused
+
+-- the trees tell their schema
+pub same_schema : (old new : Database) → IsDatabase old → IsDatabase new → new.trees ≡ old.trees → new.schema ≡ old.schema
+same_schema old new p q same = lists_once (old.trees catalog_tree) new.schema old.schema (subst (λ t. Lists (t catalog_tree) new.schema) same q.lists) p.lists
+
+-- two facts of one error
+pub if_err_both : {X E : Type 0} (r : Result X E) (P Q : E → Type 0) → IfErr r P → IfErr r Q → IfErr r (λ e. P e × Q e)
+if_err_both (Ok x) P Q h k = tt
+if_err_both (Err e) P Q h k = (h, k)
+
 written_out : the_schema ≡ record { tables = the_schema.tables; indexes = the_indexes; views = [] }
 unfolding Rattle.std.specs.Fmt.digits
 written_out = refl
@@ -35,6 +69,9 @@ pub schema_is : (s : Schema) → s.tables ≡ the_schema.tables → s.indexes �
 schema_is s tables indexes views =
     let same : s ≡ record { tables = the_schema.tables; indexes = the_indexes; views = [] } = rw (← tables, ← indexes, ← views) refl in
     same ∙ sym written_out
+
+pub indexes_are : (s : Schema) → s ≡ the_schema → s.indexes ≡ the_indexes
+indexes_are s e = ap (λ (t : Schema). t.indexes) (e ∙ written_out)
 
 pub when_not : (b : Bool) → b ≡ true → IsTrue b
 when_not b h = h

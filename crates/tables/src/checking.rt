@@ -1,6 +1,6 @@
 //! Whether a schema that was found is the expected one.
 
-ghost use Rattle.std.specs.Prelude.{◌≡◌, IsTrue, IfOk, [], ◌∷◌, map, codes, Some, take, drop};
+ghost use Rattle.std.specs.Prelude.{◌≡◌, ◌↔◌, IsTrue, IfOk, [], ◌∷◌, map, codes, Some, take, drop};
 ghost use Rattle.sqlite_value.specs.declared.value.Value.TheVariants.{Null};
 ghost use Rattle.sqlite_value.specs.Keys.{plain};
 ghost use Rattle.table_words.specs.Schema.{column, plain_table, keyed_table, id_table, key_index, plain_index, the_schema, the_indexes, schema_0, meta_table, meta_tree, items_table, items_tree, bins_table, bins_tree, lots_table, lots_tree, recalls_table, recalls_tree, stock_table, stock_tree, orders_table, orders_tree, lines_table, lines_tree, staged_table, staged_tree, reserved_table, reserved_tree, shipments_table, shipments_tree, shiplines_table, shiplines_tree, cards_table, cards_tree, repeats_table, repeats_tree, lines_by_gtin, staged_by_gtin, reserved_by_gtin, shiplines_by_lot, orders_by_state};
@@ -13,14 +13,14 @@ use sqlite_value::value::Value;
 use std::alloc::{AllocError, Global};
 
 fn is_null(value: &Value) -> bool
-    ensures { IsTrue result → value.now ≡ Null }
+    ensures { IsTrue result ↔ (value.now ≡ Null) }
 {
     matches!(value, Value::Null)
 }
 
 /// Whether it is a NOT NULL column of this name and type.
 pub fn is_column(found: &Column, name: &[u8], kind: Kind) -> bool
-    ensures { IsTrue result → found.now ≡ column name.now kind }
+    ensures { IsTrue result ↔ (found.now ≡ column name.now kind) }
 {
     found.name.as_slice() == name
         && found.kind == kind
@@ -31,14 +31,14 @@ pub fn is_column(found: &Column, name: &[u8], kind: Kind) -> bool
 }
 
 pub fn are_none(alloc: Global, terms: &Terms) -> Result<bool, AllocError>
-    ensures { IfOk result (λ none. IsTrue none → terms.now ≡ []) }
+    ensures { IfOk result (λ none. IsTrue none ↔ (terms.now ≡ [])) }
 {
     let lent = terms.lend(alloc)?;
     Ok(lent.roots.is_empty())
 }
 
 fn are_columns(found: &[Column], columns: &[(&[u8], Kind)]) -> bool
-    ensures { IsTrue result → found.now ≡ map (λ c. column c.0.now c.1) columns.now }
+    ensures { IsTrue result ↔ (found.now ≡ map (λ c. column c.0.now c.1) columns.now) }
 {
     if found.len() != columns.len() {
         return false;
@@ -53,7 +53,7 @@ fn are_columns(found: &[Column], columns: &[(&[u8], Kind)]) -> bool
 }
 
 fn is_one_key(found: &Items<Items<usize>>, places: &[usize]) -> bool
-    ensures { IsTrue result → found.now ≡ places.now ∷ [] }
+    ensures { IsTrue result ↔ (found.now ≡ places.now ∷ []) }
 {
     match found.as_slice() {
         [only] => only.as_slice() == places,
@@ -62,7 +62,7 @@ fn is_one_key(found: &Items<Items<usize>>, places: &[usize]) -> bool
 }
 
 fn is_plain(found: &Items<Order>) -> bool
-    ensures { IsTrue result → found.now ≡ plain ∷ [] }
+    ensures { IsTrue result ↔ (found.now ≡ plain ∷ []) }
 {
     match found.as_slice() {
         [only] => only.digits == 0,
@@ -71,7 +71,7 @@ fn is_plain(found: &Items<Order>) -> bool
 }
 
 fn has_no_stamps(alloc: Global, stamps: &Stamps) -> Result<bool, AllocError>
-    ensures { IfOk result (λ none. IsTrue none → (stamps.now.places ≡ []) × (stamps.now.terms ≡ []) × (stamps.now.formats ≡ [])) }
+    ensures { IfOk result (λ none. IsTrue none ↔ ((stamps.now.places ≡ []) × (stamps.now.terms ≡ []) × (stamps.now.formats ≡ []))) }
 {
     Ok(are_none(alloc, &stamps.terms)? && stamps.places.is_empty() && stamps.formats.is_empty())
 }
@@ -85,7 +85,7 @@ fn is_plain_table(
     columns: &[(&[u8], Kind)],
     places: &[usize],
 ) -> Result<bool, AllocError>
-    ensures { IfOk result (λ yes. IsTrue yes → found.now ≡ plain_table tree name.now (map (λ c. column c.0.now c.1) columns.now) found.now.key places.now found.now.uniques found.now.orders) }
+    ensures { IfOk result (λ yes. IsTrue yes ↔ (found.now ≡ plain_table tree name.now (map (λ c. column c.0.now c.1) columns.now) found.now.key places.now found.now.uniques found.now.orders)) }
 {
     if !are_none(alloc, &found.checks)? {
         return Ok(false);
@@ -113,7 +113,7 @@ pub fn is_keyed_table(
     columns: &[(&[u8], Kind)],
     places: &[usize],
 ) -> Result<bool, AllocError>
-    ensures { IfOk result (λ yes. IsTrue yes → found.now ≡ keyed_table tree name.now (map (λ c. column c.0.now c.1) columns.now) places.now) }
+    ensures { IfOk result (λ yes. IsTrue yes ↔ (found.now ≡ keyed_table tree name.now (map (λ c. column c.0.now c.1) columns.now) places.now)) }
 {
     if !is_plain_table(alloc, found, tree, name, columns, places)? {
         return Ok(false);
@@ -122,7 +122,7 @@ pub fn is_keyed_table(
 }
 
 fn is_first(key: Option<usize>) -> bool
-    ensures { IsTrue result → key ≡ Some 0 }
+    ensures { IsTrue result ↔ (key ≡ Some 0) }
 {
     key == Some(0)
 }
@@ -135,7 +135,7 @@ pub fn is_id_table(
     name: &[u8],
     columns: &[(&[u8], Kind)],
 ) -> Result<bool, AllocError>
-    ensures { IfOk result (λ yes. IsTrue yes → found.now ≡ id_table tree name.now (map (λ c. column c.0.now c.1) columns.now)) }
+    ensures { IfOk result (λ yes. IsTrue yes ↔ (found.now ≡ id_table tree name.now (map (λ c. column c.0.now c.1) columns.now))) }
 {
     if !is_plain_table(alloc, found, tree, name, columns, &[0])? {
         return Ok(false);
@@ -145,7 +145,7 @@ pub fn is_id_table(
 
 /// Whether it is the index of a PRIMARY KEY at these places.
 fn is_key_index(found: &Index, name: &[u8], tree: u32, table: u32, places: &[usize]) -> bool
-    ensures { IsTrue result → found.now ≡ key_index name.now tree table places.now }
+    ensures { IsTrue result ↔ (found.now ≡ key_index name.now tree table places.now) }
 {
     found.name.as_slice() == name
         && found.tree == tree
@@ -156,7 +156,7 @@ fn is_key_index(found: &Index, name: &[u8], tree: u32, table: u32, places: &[usi
 }
 
 fn is_meta(alloc: Global, found: &Table) -> Result<bool, AllocError>
-    ensures { IfOk result (λ same. IsTrue same → found.now ≡ meta_table meta_tree) }
+    ensures { IfOk result (λ same. IsTrue same ↔ (found.now ≡ meta_table meta_tree)) }
 {
     let columns = [
         (b"id".as_slice(), Kind::Integer),
@@ -170,7 +170,7 @@ fn is_meta(alloc: Global, found: &Table) -> Result<bool, AllocError>
 }
 
 fn is_items(alloc: Global, found: &Table) -> Result<bool, AllocError>
-    ensures { IfOk result (λ same. IsTrue same → found.now ≡ items_table items_tree) }
+    ensures { IfOk result (λ same. IsTrue same ↔ (found.now ≡ items_table items_tree)) }
 {
     let columns = [
         (b"gtin".as_slice(), Kind::Text),
@@ -180,7 +180,7 @@ fn is_items(alloc: Global, found: &Table) -> Result<bool, AllocError>
 }
 
 fn is_bins(alloc: Global, found: &Table) -> Result<bool, AllocError>
-    ensures { IfOk result (λ same. IsTrue same → found.now ≡ bins_table bins_tree) }
+    ensures { IfOk result (λ same. IsTrue same ↔ (found.now ≡ bins_table bins_tree)) }
 {
     let columns = [
         (b"name".as_slice(), Kind::Text),
@@ -190,7 +190,7 @@ fn is_bins(alloc: Global, found: &Table) -> Result<bool, AllocError>
 }
 
 fn is_lots(alloc: Global, found: &Table) -> Result<bool, AllocError>
-    ensures { IfOk result (λ same. IsTrue same → found.now ≡ lots_table lots_tree) }
+    ensures { IfOk result (λ same. IsTrue same ↔ (found.now ≡ lots_table lots_tree)) }
 {
     let columns = [
         (b"gtin".as_slice(), Kind::Text),
@@ -203,7 +203,7 @@ fn is_lots(alloc: Global, found: &Table) -> Result<bool, AllocError>
 }
 
 fn is_recalls(alloc: Global, found: &Table) -> Result<bool, AllocError>
-    ensures { IfOk result (λ same. IsTrue same → found.now ≡ recalls_table recalls_tree) }
+    ensures { IfOk result (λ same. IsTrue same ↔ (found.now ≡ recalls_table recalls_tree)) }
 {
     let columns = [
         (b"gtin".as_slice(), Kind::Text),
@@ -214,7 +214,7 @@ fn is_recalls(alloc: Global, found: &Table) -> Result<bool, AllocError>
 }
 
 fn is_stock(alloc: Global, found: &Table) -> Result<bool, AllocError>
-    ensures { IfOk result (λ same. IsTrue same → found.now ≡ stock_table stock_tree) }
+    ensures { IfOk result (λ same. IsTrue same ↔ (found.now ≡ stock_table stock_tree)) }
 {
     let columns = [
         (b"gtin".as_slice(), Kind::Text),
@@ -226,7 +226,7 @@ fn is_stock(alloc: Global, found: &Table) -> Result<bool, AllocError>
 }
 
 fn is_orders(alloc: Global, found: &Table) -> Result<bool, AllocError>
-    ensures { IfOk result (λ same. IsTrue same → found.now ≡ orders_table orders_tree) }
+    ensures { IfOk result (λ same. IsTrue same ↔ (found.now ≡ orders_table orders_tree)) }
 {
     let columns = [
         (b"ord".as_slice(), Kind::Text),
@@ -238,7 +238,7 @@ fn is_orders(alloc: Global, found: &Table) -> Result<bool, AllocError>
 }
 
 fn is_lines(alloc: Global, found: &Table) -> Result<bool, AllocError>
-    ensures { IfOk result (λ same. IsTrue same → found.now ≡ lines_table lines_tree) }
+    ensures { IfOk result (λ same. IsTrue same ↔ (found.now ≡ lines_table lines_tree)) }
 {
     let columns = [
         (b"ord".as_slice(), Kind::Text),
@@ -250,7 +250,7 @@ fn is_lines(alloc: Global, found: &Table) -> Result<bool, AllocError>
 }
 
 fn is_staged(alloc: Global, found: &Table) -> Result<bool, AllocError>
-    ensures { IfOk result (λ same. IsTrue same → found.now ≡ staged_table staged_tree) }
+    ensures { IfOk result (λ same. IsTrue same ↔ (found.now ≡ staged_table staged_tree)) }
 {
     let columns = [
         (b"ord".as_slice(), Kind::Text),
@@ -262,7 +262,7 @@ fn is_staged(alloc: Global, found: &Table) -> Result<bool, AllocError>
 }
 
 fn is_reserved(alloc: Global, found: &Table) -> Result<bool, AllocError>
-    ensures { IfOk result (λ same. IsTrue same → found.now ≡ reserved_table reserved_tree) }
+    ensures { IfOk result (λ same. IsTrue same ↔ (found.now ≡ reserved_table reserved_tree)) }
 {
     let columns = [
         (b"ord".as_slice(), Kind::Text),
@@ -274,7 +274,7 @@ fn is_reserved(alloc: Global, found: &Table) -> Result<bool, AllocError>
 }
 
 fn is_shipments(alloc: Global, found: &Table) -> Result<bool, AllocError>
-    ensures { IfOk result (λ same. IsTrue same → found.now ≡ shipments_table shipments_tree) }
+    ensures { IfOk result (λ same. IsTrue same ↔ (found.now ≡ shipments_table shipments_tree)) }
 {
     let columns = [
         (b"number".as_slice(), Kind::Integer),
@@ -286,7 +286,7 @@ fn is_shipments(alloc: Global, found: &Table) -> Result<bool, AllocError>
 }
 
 fn is_shiplines(alloc: Global, found: &Table) -> Result<bool, AllocError>
-    ensures { IfOk result (λ same. IsTrue same → found.now ≡ shiplines_table shiplines_tree) }
+    ensures { IfOk result (λ same. IsTrue same ↔ (found.now ≡ shiplines_table shiplines_tree)) }
 {
     let columns = [
         (b"number".as_slice(), Kind::Integer),
@@ -298,7 +298,7 @@ fn is_shiplines(alloc: Global, found: &Table) -> Result<bool, AllocError>
 }
 
 fn is_cards(alloc: Global, found: &Table) -> Result<bool, AllocError>
-    ensures { IfOk result (λ same. IsTrue same → found.now ≡ cards_table cards_tree) }
+    ensures { IfOk result (λ same. IsTrue same ↔ (found.now ≡ cards_table cards_tree)) }
 {
     let columns = [
         (b"gtin".as_slice(), Kind::Text),
@@ -314,7 +314,7 @@ fn is_cards(alloc: Global, found: &Table) -> Result<bool, AllocError>
 }
 
 fn is_repeats(alloc: Global, found: &Table) -> Result<bool, AllocError>
-    ensures { IfOk result (λ same. IsTrue same → found.now ≡ repeats_table repeats_tree) }
+    ensures { IfOk result (λ same. IsTrue same ↔ (found.now ≡ repeats_table repeats_tree)) }
 {
     let columns = [
         (b"k".as_slice(), Kind::Text),
@@ -326,7 +326,7 @@ fn is_repeats(alloc: Global, found: &Table) -> Result<bool, AllocError>
 }
 
 fn is_plain_index(found: &Index, name: &[u8], tree: u32, table: u32, places: &[usize]) -> bool
-    ensures { IsTrue result → found.now ≡ plain_index name.now tree table places.now }
+    ensures { IsTrue result ↔ (found.now ≡ plain_index name.now tree table places.now) }
 {
     found.name.as_slice() == name
         && found.tree == tree
@@ -337,7 +337,7 @@ fn is_plain_index(found: &Index, name: &[u8], tree: u32, table: u32, places: &[u
 }
 
 fn are_first_tables(alloc: Global, found: &[Table]) -> Result<bool, AllocError>
-    ensures { IfOk result (λ same. IsTrue same → found.now ≡ meta_table meta_tree ∷ items_table items_tree ∷ bins_table bins_tree ∷ lots_table lots_tree ∷ recalls_table recalls_tree ∷ []) }
+    ensures { IfOk result (λ same. IsTrue same ↔ (found.now ≡ meta_table meta_tree ∷ items_table items_tree ∷ bins_table bins_tree ∷ lots_table lots_tree ∷ recalls_table recalls_tree ∷ [])) }
 {
     match found {
         [first, second, third, fourth, fifth] => Ok(
@@ -352,7 +352,7 @@ fn are_first_tables(alloc: Global, found: &[Table]) -> Result<bool, AllocError>
 }
 
 fn are_next_tables(alloc: Global, found: &[Table]) -> Result<bool, AllocError>
-    ensures { IfOk result (λ same. IsTrue same → found.now ≡ stock_table stock_tree ∷ orders_table orders_tree ∷ lines_table lines_tree ∷ staged_table staged_tree ∷ reserved_table reserved_tree ∷ []) }
+    ensures { IfOk result (λ same. IsTrue same ↔ (found.now ≡ stock_table stock_tree ∷ orders_table orders_tree ∷ lines_table lines_tree ∷ staged_table staged_tree ∷ reserved_table reserved_tree ∷ [])) }
 {
     match found {
         [first, second, third, fourth, fifth] => Ok(
@@ -367,7 +367,7 @@ fn are_next_tables(alloc: Global, found: &[Table]) -> Result<bool, AllocError>
 }
 
 fn are_last_tables(alloc: Global, found: &[Table]) -> Result<bool, AllocError>
-    ensures { IfOk result (λ same. IsTrue same → found.now ≡ shipments_table shipments_tree ∷ shiplines_table shiplines_tree ∷ cards_table cards_tree ∷ repeats_table repeats_tree ∷ []) }
+    ensures { IfOk result (λ same. IsTrue same ↔ (found.now ≡ shipments_table shipments_tree ∷ shiplines_table shiplines_tree ∷ cards_table cards_tree ∷ repeats_table repeats_tree ∷ [])) }
 {
     match found {
         [first, second, third, fourth] => Ok(
@@ -381,7 +381,7 @@ fn are_last_tables(alloc: Global, found: &[Table]) -> Result<bool, AllocError>
 }
 
 fn are_tables(alloc: Global, found: &[Table]) -> Result<bool, AllocError>
-    ensures { IfOk result (λ same. IsTrue same → found.now ≡ the_schema.tables) }
+    ensures { IfOk result (λ same. IsTrue same ↔ (found.now ≡ the_schema.tables)) }
 {
     if found.len() != 14 {
         return Ok(false);
@@ -394,7 +394,7 @@ fn are_tables(alloc: Global, found: &[Table]) -> Result<bool, AllocError>
 }
 
 fn are_item_and_bin_keys(found: &[Index]) -> bool
-    ensures { IsTrue result → found.now ≡ key_index (codes "sqlite_autoindex_items_1") 2 1 (1 ∷ []) ∷ key_index (codes "sqlite_autoindex_bins_1") 4 3 (1 ∷ []) ∷ [] }
+    ensures { IsTrue result ↔ (found.now ≡ key_index (codes "sqlite_autoindex_items_1") 2 1 (1 ∷ []) ∷ key_index (codes "sqlite_autoindex_bins_1") 4 3 (1 ∷ []) ∷ []) }
 {
     match found {
         [first, second] => {
@@ -406,7 +406,7 @@ fn are_item_and_bin_keys(found: &[Index]) -> bool
 }
 
 fn are_lot_and_recall_keys(found: &[Index]) -> bool
-    ensures { IsTrue result → found.now ≡ key_index (codes "sqlite_autoindex_lots_1") 6 5 (1 ∷ 2 ∷ []) ∷ key_index (codes "sqlite_autoindex_recalls_1") 8 7 (1 ∷ 2 ∷ []) ∷ [] }
+    ensures { IsTrue result ↔ (found.now ≡ key_index (codes "sqlite_autoindex_lots_1") 6 5 (1 ∷ 2 ∷ []) ∷ key_index (codes "sqlite_autoindex_recalls_1") 8 7 (1 ∷ 2 ∷ []) ∷ []) }
 {
     match found {
         [first, second] => {
@@ -418,7 +418,7 @@ fn are_lot_and_recall_keys(found: &[Index]) -> bool
 }
 
 fn are_first_indexes(found: &[Index]) -> bool
-    ensures { IsTrue result → found.now ≡ key_index (codes "sqlite_autoindex_items_1") 2 1 (1 ∷ []) ∷ key_index (codes "sqlite_autoindex_bins_1") 4 3 (1 ∷ []) ∷ key_index (codes "sqlite_autoindex_lots_1") 6 5 (1 ∷ 2 ∷ []) ∷ key_index (codes "sqlite_autoindex_recalls_1") 8 7 (1 ∷ 2 ∷ []) ∷ [] }
+    ensures { IsTrue result ↔ (found.now ≡ key_index (codes "sqlite_autoindex_items_1") 2 1 (1 ∷ []) ∷ key_index (codes "sqlite_autoindex_bins_1") 4 3 (1 ∷ []) ∷ key_index (codes "sqlite_autoindex_lots_1") 6 5 (1 ∷ 2 ∷ []) ∷ key_index (codes "sqlite_autoindex_recalls_1") 8 7 (1 ∷ 2 ∷ []) ∷ []) }
 {
     if found.len() != 4 {
         return false;
@@ -427,7 +427,7 @@ fn are_first_indexes(found: &[Index]) -> bool
 }
 
 fn are_stock_and_order_keys(found: &[Index]) -> bool
-    ensures { IsTrue result → found.now ≡ key_index (codes "sqlite_autoindex_stock_1") 10 9 (1 ∷ 2 ∷ 3 ∷ []) ∷ key_index (codes "sqlite_autoindex_orders_1") 12 11 (1 ∷ []) ∷ [] }
+    ensures { IsTrue result ↔ (found.now ≡ key_index (codes "sqlite_autoindex_stock_1") 10 9 (1 ∷ 2 ∷ 3 ∷ []) ∷ key_index (codes "sqlite_autoindex_orders_1") 12 11 (1 ∷ []) ∷ []) }
 {
     match found {
         [first, second] => {
@@ -439,7 +439,7 @@ fn are_stock_and_order_keys(found: &[Index]) -> bool
 }
 
 fn are_line_and_staged_keys(found: &[Index]) -> bool
-    ensures { IsTrue result → found.now ≡ key_index (codes "sqlite_autoindex_lines_1") 14 13 (1 ∷ 2 ∷ []) ∷ key_index (codes "sqlite_autoindex_staged_1") 16 15 (1 ∷ 2 ∷ 3 ∷ []) ∷ [] }
+    ensures { IsTrue result ↔ (found.now ≡ key_index (codes "sqlite_autoindex_lines_1") 14 13 (1 ∷ 2 ∷ []) ∷ key_index (codes "sqlite_autoindex_staged_1") 16 15 (1 ∷ 2 ∷ 3 ∷ []) ∷ []) }
 {
     match found {
         [first, second] => {
@@ -451,7 +451,7 @@ fn are_line_and_staged_keys(found: &[Index]) -> bool
 }
 
 fn are_second_indexes(found: &[Index]) -> bool
-    ensures { IsTrue result → found.now ≡ key_index (codes "sqlite_autoindex_stock_1") 10 9 (1 ∷ 2 ∷ 3 ∷ []) ∷ key_index (codes "sqlite_autoindex_orders_1") 12 11 (1 ∷ []) ∷ key_index (codes "sqlite_autoindex_lines_1") 14 13 (1 ∷ 2 ∷ []) ∷ key_index (codes "sqlite_autoindex_staged_1") 16 15 (1 ∷ 2 ∷ 3 ∷ []) ∷ [] }
+    ensures { IsTrue result ↔ (found.now ≡ key_index (codes "sqlite_autoindex_stock_1") 10 9 (1 ∷ 2 ∷ 3 ∷ []) ∷ key_index (codes "sqlite_autoindex_orders_1") 12 11 (1 ∷ []) ∷ key_index (codes "sqlite_autoindex_lines_1") 14 13 (1 ∷ 2 ∷ []) ∷ key_index (codes "sqlite_autoindex_staged_1") 16 15 (1 ∷ 2 ∷ 3 ∷ []) ∷ []) }
 {
     if found.len() != 4 {
         return false;
@@ -460,7 +460,7 @@ fn are_second_indexes(found: &[Index]) -> bool
 }
 
 fn are_reserved_and_shipline_keys(found: &[Index]) -> bool
-    ensures { IsTrue result → found.now ≡ key_index (codes "sqlite_autoindex_reserved_1") 18 17 (1 ∷ 2 ∷ 3 ∷ []) ∷ key_index (codes "sqlite_autoindex_shiplines_1") 21 20 (1 ∷ 2 ∷ 3 ∷ []) ∷ [] }
+    ensures { IsTrue result ↔ (found.now ≡ key_index (codes "sqlite_autoindex_reserved_1") 18 17 (1 ∷ 2 ∷ 3 ∷ []) ∷ key_index (codes "sqlite_autoindex_shiplines_1") 21 20 (1 ∷ 2 ∷ 3 ∷ []) ∷ []) }
 {
     match found {
         [first, second] => {
@@ -472,7 +472,7 @@ fn are_reserved_and_shipline_keys(found: &[Index]) -> bool
 }
 
 fn are_card_and_repeat_keys(found: &[Index]) -> bool
-    ensures { IsTrue result → found.now ≡ key_index (codes "sqlite_autoindex_cards_1") 23 22 (1 ∷ 2 ∷ 3 ∷ []) ∷ key_index (codes "sqlite_autoindex_repeats_1") 25 24 (1 ∷ []) ∷ [] }
+    ensures { IsTrue result ↔ (found.now ≡ key_index (codes "sqlite_autoindex_cards_1") 23 22 (1 ∷ 2 ∷ 3 ∷ []) ∷ key_index (codes "sqlite_autoindex_repeats_1") 25 24 (1 ∷ []) ∷ []) }
 {
     match found {
         [first, second] => {
@@ -484,7 +484,7 @@ fn are_card_and_repeat_keys(found: &[Index]) -> bool
 }
 
 fn are_third_indexes(found: &[Index]) -> bool
-    ensures { IsTrue result → found.now ≡ key_index (codes "sqlite_autoindex_reserved_1") 18 17 (1 ∷ 2 ∷ 3 ∷ []) ∷ key_index (codes "sqlite_autoindex_shiplines_1") 21 20 (1 ∷ 2 ∷ 3 ∷ []) ∷ key_index (codes "sqlite_autoindex_cards_1") 23 22 (1 ∷ 2 ∷ 3 ∷ []) ∷ key_index (codes "sqlite_autoindex_repeats_1") 25 24 (1 ∷ []) ∷ [] }
+    ensures { IsTrue result ↔ (found.now ≡ key_index (codes "sqlite_autoindex_reserved_1") 18 17 (1 ∷ 2 ∷ 3 ∷ []) ∷ key_index (codes "sqlite_autoindex_shiplines_1") 21 20 (1 ∷ 2 ∷ 3 ∷ []) ∷ key_index (codes "sqlite_autoindex_cards_1") 23 22 (1 ∷ 2 ∷ 3 ∷ []) ∷ key_index (codes "sqlite_autoindex_repeats_1") 25 24 (1 ∷ []) ∷ []) }
 {
     if found.len() != 4 {
         return false;
@@ -493,7 +493,7 @@ fn are_third_indexes(found: &[Index]) -> bool
 }
 
 fn are_last_indexes(found: &[Index]) -> bool
-    ensures { IsTrue result → found.now ≡ lines_by_gtin 26 ∷ staged_by_gtin 27 ∷ reserved_by_gtin 28 ∷ shiplines_by_lot 29 ∷ orders_by_state 30 ∷ [] }
+    ensures { IsTrue result ↔ (found.now ≡ lines_by_gtin 26 ∷ staged_by_gtin 27 ∷ reserved_by_gtin 28 ∷ shiplines_by_lot 29 ∷ orders_by_state 30 ∷ []) }
 {
     match found {
         [first, second, third, fourth, fifth] => {
@@ -508,7 +508,7 @@ fn are_last_indexes(found: &[Index]) -> bool
 }
 
 fn are_indexes(found: &[Index]) -> bool
-    ensures { IsTrue result → found.now ≡ the_indexes }
+    ensures { IsTrue result ↔ (found.now ≡ the_indexes) }
 {
     if found.len() != 17 {
         return false;
@@ -521,7 +521,7 @@ fn are_indexes(found: &[Index]) -> bool
 
 /// Whether the schema is the expected one.
 pub fn is_expected(alloc: Global, found: &Schema) -> Result<bool, AllocError>
-    ensures { IfOk result (λ same. IsTrue same → found.now ≡ the_schema) }
+    ensures { IfOk result (λ same. IsTrue same ↔ (found.now ≡ the_schema)) }
 {
     if !are_tables(alloc, found.tables.as_slice())? {
         return Ok(false);
@@ -534,7 +534,7 @@ pub fn is_expected(alloc: Global, found: &Schema) -> Result<bool, AllocError>
 
 /// Whether there is no table, no index and no view.
 pub fn is_empty_schema(found: &Schema) -> bool
-    ensures { IsTrue result → found.now ≡ schema_0 }
+    ensures { IsTrue result ↔ (found.now ≡ schema_0) }
 {
     found.tables.is_empty() && found.indexes.is_empty() && found.views.is_empty()
 }

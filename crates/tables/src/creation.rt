@@ -1,19 +1,26 @@
-//! Makes the tables and their indexes.
+//! Makes the tables, their indexes and the first rows.
 
-ghost use Rattle.std.specs.Prelude.{◌≡◌, OnOk};
+ghost use Rattle.std.specs.Prelude.{◌≡◌, ◌≢◌, ◌↔◌, true, false, IsTrue, IfErr, IsErrOf, OnOk, OnErr};
 ghost use Rattle.sqlite.specs.State.{HasCleanDisk, Survives, KeepsCommit};
 ghost use Rattle.sqlite.specs.Held.{state};
 ghost use Rattle.table_words.specs.Schema.{schema_0, schema_1, schema_2, schema_3, schema_4, schema_5, schema_6, schema_7, schema_8, schema_9, schema_10, schema_11, schema_12, schema_13, schema_14, schema_15, schema_16, schema_17, schema_18, schema_19};
-ghost use Rattle.table_words.specs.Typed.{tables_in, no_rows, AreTyped};
-ghost use Rattle.table_words.specs.Steps.{IsReady, IsBlank};
+ghost use Rattle.table_words.specs.Typed.{tables_in, AreTyped};
+ghost use Rattle.table_words.specs.Steps.{IsReady};
+ghost use Rattle.table_words.specs.declared.error.TableFault.TheVariants.{Foreign};
+ghost use Rattle.tables.specs.Creation.{IsMaking, IsFilled, first_rows};
 
-use sqlite::{Alter, Transaction};
+use crate::checking::is_empty_schema;
+use commands::{BinRow, MetaRow};
+use goods_tables::bins::put_bin;
+use goods_tables::meta::put_meta;
+use sqlite::{Alter, Connection, Error, Transaction};
 use table_words::error::TableFault;
 
-fn create_meta<S: Alter>(tx: &mut Transaction<'_, S>) -> Result<(), TableFault>
+fn create_meta<S: Alter>(tx: &mut Transaction<'_, S>) -> Result<(), Error>
     ensures same_reference { tx.new.conn.ghost_name ≡ tx.old.conn.ghost_name }
-    ensures done { HasCleanDisk (state S.Store tx.new.conn.now) → IsBlank schema_0 (state S.Store tx.old.conn.now).now
-        → OnOk result (IsBlank schema_1 (state S.Store tx.new.conn.now).now) }
+    ensures done { HasCleanDisk (state S.Store tx.new.conn.now) → IsMaking schema_0 (state S.Store tx.old.conn.now)
+        → OnOk result (IsMaking schema_1 (state S.Store tx.new.conn.now)) }
+    ensures was_open { HasCleanDisk (state S.Store tx.new.conn.now) → OnOk result (IsTrue (state S.Store tx.old.conn.now).is_open) }
     ensures kept { HasCleanDisk (state S.Store tx.new.conn.now) → KeepsCommit (state S.Store tx.old.conn.now) (state S.Store tx.new.conn.now) }
     ensures survives { Survives (state S.Store tx.old.conn.now) (state S.Store tx.new.conn.now) (λ _. ⊥) }
 {
@@ -24,10 +31,10 @@ fn create_meta<S: Alter>(tx: &mut Transaction<'_, S>) -> Result<(), TableFault>
     Ok(())
 }
 
-fn create_items<S: Alter>(tx: &mut Transaction<'_, S>) -> Result<(), TableFault>
+fn create_items<S: Alter>(tx: &mut Transaction<'_, S>) -> Result<(), Error>
     ensures same_reference { tx.new.conn.ghost_name ≡ tx.old.conn.ghost_name }
-    ensures done { HasCleanDisk (state S.Store tx.new.conn.now) → IsBlank schema_1 (state S.Store tx.old.conn.now).now
-        → OnOk result (IsBlank schema_2 (state S.Store tx.new.conn.now).now) }
+    ensures done { HasCleanDisk (state S.Store tx.new.conn.now) → IsMaking schema_1 (state S.Store tx.old.conn.now)
+        → OnOk result (IsMaking schema_2 (state S.Store tx.new.conn.now)) }
     ensures kept { HasCleanDisk (state S.Store tx.new.conn.now) → KeepsCommit (state S.Store tx.old.conn.now) (state S.Store tx.new.conn.now) }
     ensures survives { Survives (state S.Store tx.old.conn.now) (state S.Store tx.new.conn.now) (λ _. ⊥) }
 {
@@ -38,10 +45,10 @@ fn create_items<S: Alter>(tx: &mut Transaction<'_, S>) -> Result<(), TableFault>
     Ok(())
 }
 
-fn create_bins<S: Alter>(tx: &mut Transaction<'_, S>) -> Result<(), TableFault>
+fn create_bins<S: Alter>(tx: &mut Transaction<'_, S>) -> Result<(), Error>
     ensures same_reference { tx.new.conn.ghost_name ≡ tx.old.conn.ghost_name }
-    ensures done { HasCleanDisk (state S.Store tx.new.conn.now) → IsBlank schema_2 (state S.Store tx.old.conn.now).now
-        → OnOk result (IsBlank schema_3 (state S.Store tx.new.conn.now).now) }
+    ensures done { HasCleanDisk (state S.Store tx.new.conn.now) → IsMaking schema_2 (state S.Store tx.old.conn.now)
+        → OnOk result (IsMaking schema_3 (state S.Store tx.new.conn.now)) }
     ensures kept { HasCleanDisk (state S.Store tx.new.conn.now) → KeepsCommit (state S.Store tx.old.conn.now) (state S.Store tx.new.conn.now) }
     ensures survives { Survives (state S.Store tx.old.conn.now) (state S.Store tx.new.conn.now) (λ _. ⊥) }
 {
@@ -52,10 +59,10 @@ fn create_bins<S: Alter>(tx: &mut Transaction<'_, S>) -> Result<(), TableFault>
     Ok(())
 }
 
-fn create_lots<S: Alter>(tx: &mut Transaction<'_, S>) -> Result<(), TableFault>
+fn create_lots<S: Alter>(tx: &mut Transaction<'_, S>) -> Result<(), Error>
     ensures same_reference { tx.new.conn.ghost_name ≡ tx.old.conn.ghost_name }
-    ensures done { HasCleanDisk (state S.Store tx.new.conn.now) → IsBlank schema_3 (state S.Store tx.old.conn.now).now
-        → OnOk result (IsBlank schema_4 (state S.Store tx.new.conn.now).now) }
+    ensures done { HasCleanDisk (state S.Store tx.new.conn.now) → IsMaking schema_3 (state S.Store tx.old.conn.now)
+        → OnOk result (IsMaking schema_4 (state S.Store tx.new.conn.now)) }
     ensures kept { HasCleanDisk (state S.Store tx.new.conn.now) → KeepsCommit (state S.Store tx.old.conn.now) (state S.Store tx.new.conn.now) }
     ensures survives { Survives (state S.Store tx.old.conn.now) (state S.Store tx.new.conn.now) (λ _. ⊥) }
 {
@@ -66,10 +73,10 @@ fn create_lots<S: Alter>(tx: &mut Transaction<'_, S>) -> Result<(), TableFault>
     Ok(())
 }
 
-fn create_recalls<S: Alter>(tx: &mut Transaction<'_, S>) -> Result<(), TableFault>
+fn create_recalls<S: Alter>(tx: &mut Transaction<'_, S>) -> Result<(), Error>
     ensures same_reference { tx.new.conn.ghost_name ≡ tx.old.conn.ghost_name }
-    ensures done { HasCleanDisk (state S.Store tx.new.conn.now) → IsBlank schema_4 (state S.Store tx.old.conn.now).now
-        → OnOk result (IsBlank schema_5 (state S.Store tx.new.conn.now).now) }
+    ensures done { HasCleanDisk (state S.Store tx.new.conn.now) → IsMaking schema_4 (state S.Store tx.old.conn.now)
+        → OnOk result (IsMaking schema_5 (state S.Store tx.new.conn.now)) }
     ensures kept { HasCleanDisk (state S.Store tx.new.conn.now) → KeepsCommit (state S.Store tx.old.conn.now) (state S.Store tx.new.conn.now) }
     ensures survives { Survives (state S.Store tx.old.conn.now) (state S.Store tx.new.conn.now) (λ _. ⊥) }
 {
@@ -80,10 +87,10 @@ fn create_recalls<S: Alter>(tx: &mut Transaction<'_, S>) -> Result<(), TableFaul
     Ok(())
 }
 
-fn create_stock<S: Alter>(tx: &mut Transaction<'_, S>) -> Result<(), TableFault>
+fn create_stock<S: Alter>(tx: &mut Transaction<'_, S>) -> Result<(), Error>
     ensures same_reference { tx.new.conn.ghost_name ≡ tx.old.conn.ghost_name }
-    ensures done { HasCleanDisk (state S.Store tx.new.conn.now) → IsBlank schema_5 (state S.Store tx.old.conn.now).now
-        → OnOk result (IsBlank schema_6 (state S.Store tx.new.conn.now).now) }
+    ensures done { HasCleanDisk (state S.Store tx.new.conn.now) → IsMaking schema_5 (state S.Store tx.old.conn.now)
+        → OnOk result (IsMaking schema_6 (state S.Store tx.new.conn.now)) }
     ensures kept { HasCleanDisk (state S.Store tx.new.conn.now) → KeepsCommit (state S.Store tx.old.conn.now) (state S.Store tx.new.conn.now) }
     ensures survives { Survives (state S.Store tx.old.conn.now) (state S.Store tx.new.conn.now) (λ _. ⊥) }
 {
@@ -94,10 +101,10 @@ fn create_stock<S: Alter>(tx: &mut Transaction<'_, S>) -> Result<(), TableFault>
     Ok(())
 }
 
-fn create_orders<S: Alter>(tx: &mut Transaction<'_, S>) -> Result<(), TableFault>
+fn create_orders<S: Alter>(tx: &mut Transaction<'_, S>) -> Result<(), Error>
     ensures same_reference { tx.new.conn.ghost_name ≡ tx.old.conn.ghost_name }
-    ensures done { HasCleanDisk (state S.Store tx.new.conn.now) → IsBlank schema_6 (state S.Store tx.old.conn.now).now
-        → OnOk result (IsBlank schema_7 (state S.Store tx.new.conn.now).now) }
+    ensures done { HasCleanDisk (state S.Store tx.new.conn.now) → IsMaking schema_6 (state S.Store tx.old.conn.now)
+        → OnOk result (IsMaking schema_7 (state S.Store tx.new.conn.now)) }
     ensures kept { HasCleanDisk (state S.Store tx.new.conn.now) → KeepsCommit (state S.Store tx.old.conn.now) (state S.Store tx.new.conn.now) }
     ensures survives { Survives (state S.Store tx.old.conn.now) (state S.Store tx.new.conn.now) (λ _. ⊥) }
 {
@@ -108,10 +115,10 @@ fn create_orders<S: Alter>(tx: &mut Transaction<'_, S>) -> Result<(), TableFault
     Ok(())
 }
 
-fn create_lines<S: Alter>(tx: &mut Transaction<'_, S>) -> Result<(), TableFault>
+fn create_lines<S: Alter>(tx: &mut Transaction<'_, S>) -> Result<(), Error>
     ensures same_reference { tx.new.conn.ghost_name ≡ tx.old.conn.ghost_name }
-    ensures done { HasCleanDisk (state S.Store tx.new.conn.now) → IsBlank schema_7 (state S.Store tx.old.conn.now).now
-        → OnOk result (IsBlank schema_8 (state S.Store tx.new.conn.now).now) }
+    ensures done { HasCleanDisk (state S.Store tx.new.conn.now) → IsMaking schema_7 (state S.Store tx.old.conn.now)
+        → OnOk result (IsMaking schema_8 (state S.Store tx.new.conn.now)) }
     ensures kept { HasCleanDisk (state S.Store tx.new.conn.now) → KeepsCommit (state S.Store tx.old.conn.now) (state S.Store tx.new.conn.now) }
     ensures survives { Survives (state S.Store tx.old.conn.now) (state S.Store tx.new.conn.now) (λ _. ⊥) }
 {
@@ -122,10 +129,10 @@ fn create_lines<S: Alter>(tx: &mut Transaction<'_, S>) -> Result<(), TableFault>
     Ok(())
 }
 
-fn create_staged<S: Alter>(tx: &mut Transaction<'_, S>) -> Result<(), TableFault>
+fn create_staged<S: Alter>(tx: &mut Transaction<'_, S>) -> Result<(), Error>
     ensures same_reference { tx.new.conn.ghost_name ≡ tx.old.conn.ghost_name }
-    ensures done { HasCleanDisk (state S.Store tx.new.conn.now) → IsBlank schema_8 (state S.Store tx.old.conn.now).now
-        → OnOk result (IsBlank schema_9 (state S.Store tx.new.conn.now).now) }
+    ensures done { HasCleanDisk (state S.Store tx.new.conn.now) → IsMaking schema_8 (state S.Store tx.old.conn.now)
+        → OnOk result (IsMaking schema_9 (state S.Store tx.new.conn.now)) }
     ensures kept { HasCleanDisk (state S.Store tx.new.conn.now) → KeepsCommit (state S.Store tx.old.conn.now) (state S.Store tx.new.conn.now) }
     ensures survives { Survives (state S.Store tx.old.conn.now) (state S.Store tx.new.conn.now) (λ _. ⊥) }
 {
@@ -136,10 +143,10 @@ fn create_staged<S: Alter>(tx: &mut Transaction<'_, S>) -> Result<(), TableFault
     Ok(())
 }
 
-fn create_reserved<S: Alter>(tx: &mut Transaction<'_, S>) -> Result<(), TableFault>
+fn create_reserved<S: Alter>(tx: &mut Transaction<'_, S>) -> Result<(), Error>
     ensures same_reference { tx.new.conn.ghost_name ≡ tx.old.conn.ghost_name }
-    ensures done { HasCleanDisk (state S.Store tx.new.conn.now) → IsBlank schema_9 (state S.Store tx.old.conn.now).now
-        → OnOk result (IsBlank schema_10 (state S.Store tx.new.conn.now).now) }
+    ensures done { HasCleanDisk (state S.Store tx.new.conn.now) → IsMaking schema_9 (state S.Store tx.old.conn.now)
+        → OnOk result (IsMaking schema_10 (state S.Store tx.new.conn.now)) }
     ensures kept { HasCleanDisk (state S.Store tx.new.conn.now) → KeepsCommit (state S.Store tx.old.conn.now) (state S.Store tx.new.conn.now) }
     ensures survives { Survives (state S.Store tx.old.conn.now) (state S.Store tx.new.conn.now) (λ _. ⊥) }
 {
@@ -150,10 +157,10 @@ fn create_reserved<S: Alter>(tx: &mut Transaction<'_, S>) -> Result<(), TableFau
     Ok(())
 }
 
-fn create_shipments<S: Alter>(tx: &mut Transaction<'_, S>) -> Result<(), TableFault>
+fn create_shipments<S: Alter>(tx: &mut Transaction<'_, S>) -> Result<(), Error>
     ensures same_reference { tx.new.conn.ghost_name ≡ tx.old.conn.ghost_name }
-    ensures done { HasCleanDisk (state S.Store tx.new.conn.now) → IsBlank schema_10 (state S.Store tx.old.conn.now).now
-        → OnOk result (IsBlank schema_11 (state S.Store tx.new.conn.now).now) }
+    ensures done { HasCleanDisk (state S.Store tx.new.conn.now) → IsMaking schema_10 (state S.Store tx.old.conn.now)
+        → OnOk result (IsMaking schema_11 (state S.Store tx.new.conn.now)) }
     ensures kept { HasCleanDisk (state S.Store tx.new.conn.now) → KeepsCommit (state S.Store tx.old.conn.now) (state S.Store tx.new.conn.now) }
     ensures survives { Survives (state S.Store tx.old.conn.now) (state S.Store tx.new.conn.now) (λ _. ⊥) }
 {
@@ -164,10 +171,10 @@ fn create_shipments<S: Alter>(tx: &mut Transaction<'_, S>) -> Result<(), TableFa
     Ok(())
 }
 
-fn create_shiplines<S: Alter>(tx: &mut Transaction<'_, S>) -> Result<(), TableFault>
+fn create_shiplines<S: Alter>(tx: &mut Transaction<'_, S>) -> Result<(), Error>
     ensures same_reference { tx.new.conn.ghost_name ≡ tx.old.conn.ghost_name }
-    ensures done { HasCleanDisk (state S.Store tx.new.conn.now) → IsBlank schema_11 (state S.Store tx.old.conn.now).now
-        → OnOk result (IsBlank schema_12 (state S.Store tx.new.conn.now).now) }
+    ensures done { HasCleanDisk (state S.Store tx.new.conn.now) → IsMaking schema_11 (state S.Store tx.old.conn.now)
+        → OnOk result (IsMaking schema_12 (state S.Store tx.new.conn.now)) }
     ensures kept { HasCleanDisk (state S.Store tx.new.conn.now) → KeepsCommit (state S.Store tx.old.conn.now) (state S.Store tx.new.conn.now) }
     ensures survives { Survives (state S.Store tx.old.conn.now) (state S.Store tx.new.conn.now) (λ _. ⊥) }
 {
@@ -178,10 +185,10 @@ fn create_shiplines<S: Alter>(tx: &mut Transaction<'_, S>) -> Result<(), TableFa
     Ok(())
 }
 
-fn create_cards<S: Alter>(tx: &mut Transaction<'_, S>) -> Result<(), TableFault>
+fn create_cards<S: Alter>(tx: &mut Transaction<'_, S>) -> Result<(), Error>
     ensures same_reference { tx.new.conn.ghost_name ≡ tx.old.conn.ghost_name }
-    ensures done { HasCleanDisk (state S.Store tx.new.conn.now) → IsBlank schema_12 (state S.Store tx.old.conn.now).now
-        → OnOk result (IsBlank schema_13 (state S.Store tx.new.conn.now).now) }
+    ensures done { HasCleanDisk (state S.Store tx.new.conn.now) → IsMaking schema_12 (state S.Store tx.old.conn.now)
+        → OnOk result (IsMaking schema_13 (state S.Store tx.new.conn.now)) }
     ensures kept { HasCleanDisk (state S.Store tx.new.conn.now) → KeepsCommit (state S.Store tx.old.conn.now) (state S.Store tx.new.conn.now) }
     ensures survives { Survives (state S.Store tx.old.conn.now) (state S.Store tx.new.conn.now) (λ _. ⊥) }
 {
@@ -192,10 +199,10 @@ fn create_cards<S: Alter>(tx: &mut Transaction<'_, S>) -> Result<(), TableFault>
     Ok(())
 }
 
-fn create_repeats<S: Alter>(tx: &mut Transaction<'_, S>) -> Result<(), TableFault>
+fn create_repeats<S: Alter>(tx: &mut Transaction<'_, S>) -> Result<(), Error>
     ensures same_reference { tx.new.conn.ghost_name ≡ tx.old.conn.ghost_name }
-    ensures done { HasCleanDisk (state S.Store tx.new.conn.now) → IsBlank schema_13 (state S.Store tx.old.conn.now).now
-        → OnOk result (IsBlank schema_14 (state S.Store tx.new.conn.now).now) }
+    ensures done { HasCleanDisk (state S.Store tx.new.conn.now) → IsMaking schema_13 (state S.Store tx.old.conn.now)
+        → OnOk result (IsMaking schema_14 (state S.Store tx.new.conn.now)) }
     ensures kept { HasCleanDisk (state S.Store tx.new.conn.now) → KeepsCommit (state S.Store tx.old.conn.now) (state S.Store tx.new.conn.now) }
     ensures survives { Survives (state S.Store tx.old.conn.now) (state S.Store tx.new.conn.now) (λ _. ⊥) }
 {
@@ -206,10 +213,10 @@ fn create_repeats<S: Alter>(tx: &mut Transaction<'_, S>) -> Result<(), TableFaul
     Ok(())
 }
 
-fn index_lines_by_gtin<S: Alter>(tx: &mut Transaction<'_, S>) -> Result<(), TableFault>
+fn index_lines_by_gtin<S: Alter>(tx: &mut Transaction<'_, S>) -> Result<(), Error>
     ensures same_reference { tx.new.conn.ghost_name ≡ tx.old.conn.ghost_name }
-    ensures done { HasCleanDisk (state S.Store tx.new.conn.now) → IsBlank schema_14 (state S.Store tx.old.conn.now).now
-        → OnOk result (IsBlank schema_15 (state S.Store tx.new.conn.now).now) }
+    ensures done { HasCleanDisk (state S.Store tx.new.conn.now) → IsMaking schema_14 (state S.Store tx.old.conn.now)
+        → OnOk result (IsMaking schema_15 (state S.Store tx.new.conn.now)) }
     ensures kept { HasCleanDisk (state S.Store tx.new.conn.now) → KeepsCommit (state S.Store tx.old.conn.now) (state S.Store tx.new.conn.now) }
     ensures survives { Survives (state S.Store tx.old.conn.now) (state S.Store tx.new.conn.now) (λ _. ⊥) }
 {
@@ -217,10 +224,10 @@ fn index_lines_by_gtin<S: Alter>(tx: &mut Transaction<'_, S>) -> Result<(), Tabl
     Ok(())
 }
 
-fn index_staged_by_gtin<S: Alter>(tx: &mut Transaction<'_, S>) -> Result<(), TableFault>
+fn index_staged_by_gtin<S: Alter>(tx: &mut Transaction<'_, S>) -> Result<(), Error>
     ensures same_reference { tx.new.conn.ghost_name ≡ tx.old.conn.ghost_name }
-    ensures done { HasCleanDisk (state S.Store tx.new.conn.now) → IsBlank schema_15 (state S.Store tx.old.conn.now).now
-        → OnOk result (IsBlank schema_16 (state S.Store tx.new.conn.now).now) }
+    ensures done { HasCleanDisk (state S.Store tx.new.conn.now) → IsMaking schema_15 (state S.Store tx.old.conn.now)
+        → OnOk result (IsMaking schema_16 (state S.Store tx.new.conn.now)) }
     ensures kept { HasCleanDisk (state S.Store tx.new.conn.now) → KeepsCommit (state S.Store tx.old.conn.now) (state S.Store tx.new.conn.now) }
     ensures survives { Survives (state S.Store tx.old.conn.now) (state S.Store tx.new.conn.now) (λ _. ⊥) }
 {
@@ -228,10 +235,10 @@ fn index_staged_by_gtin<S: Alter>(tx: &mut Transaction<'_, S>) -> Result<(), Tab
     Ok(())
 }
 
-fn index_reserved_by_gtin<S: Alter>(tx: &mut Transaction<'_, S>) -> Result<(), TableFault>
+fn index_reserved_by_gtin<S: Alter>(tx: &mut Transaction<'_, S>) -> Result<(), Error>
     ensures same_reference { tx.new.conn.ghost_name ≡ tx.old.conn.ghost_name }
-    ensures done { HasCleanDisk (state S.Store tx.new.conn.now) → IsBlank schema_16 (state S.Store tx.old.conn.now).now
-        → OnOk result (IsBlank schema_17 (state S.Store tx.new.conn.now).now) }
+    ensures done { HasCleanDisk (state S.Store tx.new.conn.now) → IsMaking schema_16 (state S.Store tx.old.conn.now)
+        → OnOk result (IsMaking schema_17 (state S.Store tx.new.conn.now)) }
     ensures kept { HasCleanDisk (state S.Store tx.new.conn.now) → KeepsCommit (state S.Store tx.old.conn.now) (state S.Store tx.new.conn.now) }
     ensures survives { Survives (state S.Store tx.old.conn.now) (state S.Store tx.new.conn.now) (λ _. ⊥) }
 {
@@ -239,10 +246,10 @@ fn index_reserved_by_gtin<S: Alter>(tx: &mut Transaction<'_, S>) -> Result<(), T
     Ok(())
 }
 
-fn index_shiplines_by_lot<S: Alter>(tx: &mut Transaction<'_, S>) -> Result<(), TableFault>
+fn index_shiplines_by_lot<S: Alter>(tx: &mut Transaction<'_, S>) -> Result<(), Error>
     ensures same_reference { tx.new.conn.ghost_name ≡ tx.old.conn.ghost_name }
-    ensures done { HasCleanDisk (state S.Store tx.new.conn.now) → IsBlank schema_17 (state S.Store tx.old.conn.now).now
-        → OnOk result (IsBlank schema_18 (state S.Store tx.new.conn.now).now) }
+    ensures done { HasCleanDisk (state S.Store tx.new.conn.now) → IsMaking schema_17 (state S.Store tx.old.conn.now)
+        → OnOk result (IsMaking schema_18 (state S.Store tx.new.conn.now)) }
     ensures kept { HasCleanDisk (state S.Store tx.new.conn.now) → KeepsCommit (state S.Store tx.old.conn.now) (state S.Store tx.new.conn.now) }
     ensures survives { Survives (state S.Store tx.old.conn.now) (state S.Store tx.new.conn.now) (λ _. ⊥) }
 {
@@ -253,10 +260,10 @@ fn index_shiplines_by_lot<S: Alter>(tx: &mut Transaction<'_, S>) -> Result<(), T
     Ok(())
 }
 
-fn index_orders_by_state<S: Alter>(tx: &mut Transaction<'_, S>) -> Result<(), TableFault>
+fn index_orders_by_state<S: Alter>(tx: &mut Transaction<'_, S>) -> Result<(), Error>
     ensures same_reference { tx.new.conn.ghost_name ≡ tx.old.conn.ghost_name }
-    ensures done { HasCleanDisk (state S.Store tx.new.conn.now) → IsBlank schema_18 (state S.Store tx.old.conn.now).now
-        → OnOk result (IsBlank schema_19 (state S.Store tx.new.conn.now).now) }
+    ensures done { HasCleanDisk (state S.Store tx.new.conn.now) → IsMaking schema_18 (state S.Store tx.old.conn.now)
+        → OnOk result (IsMaking schema_19 (state S.Store tx.new.conn.now)) }
     ensures kept { HasCleanDisk (state S.Store tx.new.conn.now) → KeepsCommit (state S.Store tx.old.conn.now) (state S.Store tx.new.conn.now) }
     ensures survives { Survives (state S.Store tx.old.conn.now) (state S.Store tx.new.conn.now) (λ _. ⊥) }
 {
@@ -264,10 +271,11 @@ fn index_orders_by_state<S: Alter>(tx: &mut Transaction<'_, S>) -> Result<(), Ta
     Ok(())
 }
 
-fn create_goods_tables<S: Alter>(tx: &mut Transaction<'_, S>) -> Result<(), TableFault>
+fn create_goods_tables<S: Alter>(tx: &mut Transaction<'_, S>) -> Result<(), Error>
     ensures same_reference { tx.new.conn.ghost_name ≡ tx.old.conn.ghost_name }
-    ensures done { HasCleanDisk (state S.Store tx.new.conn.now) → IsBlank schema_0 (state S.Store tx.old.conn.now).now
-        → OnOk result (IsBlank schema_6 (state S.Store tx.new.conn.now).now) }
+    ensures done { HasCleanDisk (state S.Store tx.new.conn.now) → IsMaking schema_0 (state S.Store tx.old.conn.now)
+        → OnOk result (IsMaking schema_6 (state S.Store tx.new.conn.now)) }
+    ensures was_open { HasCleanDisk (state S.Store tx.new.conn.now) → OnOk result (IsTrue (state S.Store tx.old.conn.now).is_open) }
     ensures kept { HasCleanDisk (state S.Store tx.new.conn.now) → KeepsCommit (state S.Store tx.old.conn.now) (state S.Store tx.new.conn.now) }
     ensures survives { Survives (state S.Store tx.old.conn.now) (state S.Store tx.new.conn.now) (λ _. ⊥) }
 {
@@ -279,10 +287,10 @@ fn create_goods_tables<S: Alter>(tx: &mut Transaction<'_, S>) -> Result<(), Tabl
     create_stock(tx)
 }
 
-fn create_order_tables<S: Alter>(tx: &mut Transaction<'_, S>) -> Result<(), TableFault>
+fn create_order_tables<S: Alter>(tx: &mut Transaction<'_, S>) -> Result<(), Error>
     ensures same_reference { tx.new.conn.ghost_name ≡ tx.old.conn.ghost_name }
-    ensures done { HasCleanDisk (state S.Store tx.new.conn.now) → IsBlank schema_6 (state S.Store tx.old.conn.now).now
-        → OnOk result (IsBlank schema_10 (state S.Store tx.new.conn.now).now) }
+    ensures done { HasCleanDisk (state S.Store tx.new.conn.now) → IsMaking schema_6 (state S.Store tx.old.conn.now)
+        → OnOk result (IsMaking schema_10 (state S.Store tx.new.conn.now)) }
     ensures kept { HasCleanDisk (state S.Store tx.new.conn.now) → KeepsCommit (state S.Store tx.old.conn.now) (state S.Store tx.new.conn.now) }
     ensures survives { Survives (state S.Store tx.old.conn.now) (state S.Store tx.new.conn.now) (λ _. ⊥) }
 {
@@ -292,10 +300,10 @@ fn create_order_tables<S: Alter>(tx: &mut Transaction<'_, S>) -> Result<(), Tabl
     create_reserved(tx)
 }
 
-fn create_history_tables<S: Alter>(tx: &mut Transaction<'_, S>) -> Result<(), TableFault>
+fn create_history_tables<S: Alter>(tx: &mut Transaction<'_, S>) -> Result<(), Error>
     ensures same_reference { tx.new.conn.ghost_name ≡ tx.old.conn.ghost_name }
-    ensures done { HasCleanDisk (state S.Store tx.new.conn.now) → IsBlank schema_10 (state S.Store tx.old.conn.now).now
-        → OnOk result (IsBlank schema_14 (state S.Store tx.new.conn.now).now) }
+    ensures done { HasCleanDisk (state S.Store tx.new.conn.now) → IsMaking schema_10 (state S.Store tx.old.conn.now)
+        → OnOk result (IsMaking schema_14 (state S.Store tx.new.conn.now)) }
     ensures kept { HasCleanDisk (state S.Store tx.new.conn.now) → KeepsCommit (state S.Store tx.old.conn.now) (state S.Store tx.new.conn.now) }
     ensures survives { Survives (state S.Store tx.old.conn.now) (state S.Store tx.new.conn.now) (λ _. ⊥) }
 {
@@ -305,10 +313,10 @@ fn create_history_tables<S: Alter>(tx: &mut Transaction<'_, S>) -> Result<(), Ta
     create_repeats(tx)
 }
 
-fn create_indexes<S: Alter>(tx: &mut Transaction<'_, S>) -> Result<(), TableFault>
+fn create_indexes<S: Alter>(tx: &mut Transaction<'_, S>) -> Result<(), Error>
     ensures same_reference { tx.new.conn.ghost_name ≡ tx.old.conn.ghost_name }
-    ensures done { HasCleanDisk (state S.Store tx.new.conn.now) → IsBlank schema_14 (state S.Store tx.old.conn.now).now
-        → OnOk result (IsBlank schema_19 (state S.Store tx.new.conn.now).now) }
+    ensures done { HasCleanDisk (state S.Store tx.new.conn.now) → IsMaking schema_14 (state S.Store tx.old.conn.now)
+        → OnOk result (IsMaking schema_19 (state S.Store tx.new.conn.now)) }
     ensures kept { HasCleanDisk (state S.Store tx.new.conn.now) → KeepsCommit (state S.Store tx.old.conn.now) (state S.Store tx.new.conn.now) }
     ensures survives { Survives (state S.Store tx.old.conn.now) (state S.Store tx.new.conn.now) (λ _. ⊥) }
 {
@@ -319,10 +327,11 @@ fn create_indexes<S: Alter>(tx: &mut Transaction<'_, S>) -> Result<(), TableFaul
     index_orders_by_state(tx)
 }
 
-fn create_all<S: Alter>(tx: &mut Transaction<'_, S>) -> Result<(), TableFault>
+fn create_tables<S: Alter>(tx: &mut Transaction<'_, S>) -> Result<(), Error>
     ensures same_reference { tx.new.conn.ghost_name ≡ tx.old.conn.ghost_name }
-    ensures done { HasCleanDisk (state S.Store tx.new.conn.now) → IsBlank schema_0 (state S.Store tx.old.conn.now).now
-        → OnOk result (IsBlank schema_19 (state S.Store tx.new.conn.now).now) }
+    ensures done { HasCleanDisk (state S.Store tx.new.conn.now) → IsMaking schema_0 (state S.Store tx.old.conn.now)
+        → OnOk result (IsMaking schema_19 (state S.Store tx.new.conn.now)) }
+    ensures was_open { HasCleanDisk (state S.Store tx.new.conn.now) → OnOk result (IsTrue (state S.Store tx.old.conn.now).is_open) }
     ensures kept { HasCleanDisk (state S.Store tx.new.conn.now) → KeepsCommit (state S.Store tx.old.conn.now) (state S.Store tx.new.conn.now) }
     ensures survives { Survives (state S.Store tx.old.conn.now) (state S.Store tx.new.conn.now) (λ _. ⊥) }
 {
@@ -332,17 +341,54 @@ fn create_all<S: Alter>(tx: &mut Transaction<'_, S>) -> Result<(), TableFault>
     create_indexes(tx)
 }
 
-/// Makes the fourteen tables and their indexes in a database that has no table; inside the caller's transaction.
-pub fn create_tables<S: Alter>(tx: &mut Transaction<'_, S>) -> Result<(), TableFault>
+/// Makes the tables and puts the first rows.
+fn fill<S: Alter>(
+    tx: &mut Transaction<'_, S>,
+    meta: &MetaRow,
+    bin: &BinRow,
+) -> Result<(), TableFault>
     ensures same_reference { tx.new.conn.ghost_name ≡ tx.old.conn.ghost_name }
-    ensures ready { HasCleanDisk (state S.Store tx.new.conn.now) → IsBlank schema_0 (state S.Store tx.old.conn.now).now
-        → OnOk result (IsReady (state S.Store tx.new.conn.now).now) }
-    ensures empty { HasCleanDisk (state S.Store tx.new.conn.now) → IsBlank schema_0 (state S.Store tx.old.conn.now).now
-        → OnOk result (tables_in (state S.Store tx.new.conn.now).now.trees ≡ no_rows) }
-    ensures typed { HasCleanDisk (state S.Store tx.new.conn.now) → IsBlank schema_0 (state S.Store tx.old.conn.now).now
-        → OnOk result (AreTyped (state S.Store tx.new.conn.now).now.trees) }
+    ensures done { HasCleanDisk (state S.Store tx.new.conn.now) → IsMaking schema_0 (state S.Store tx.old.conn.now)
+        → OnOk result (IsFilled meta.now bin.now (state S.Store tx.new.conn.now)) }
+    ensures was_open { HasCleanDisk (state S.Store tx.new.conn.now) → OnOk result (IsTrue (state S.Store tx.old.conn.now).is_open) }
     ensures kept { HasCleanDisk (state S.Store tx.new.conn.now) → KeepsCommit (state S.Store tx.old.conn.now) (state S.Store tx.new.conn.now) }
     ensures survives { Survives (state S.Store tx.old.conn.now) (state S.Store tx.new.conn.now) (λ _. ⊥) }
+    ensures never_foreign { IfErr result (λ e. e ≢ Foreign) }
 {
-    create_all(tx)
+    create_tables(tx)?;
+    put_meta(tx, meta)?;
+    put_bin(tx, bin)
+}
+
+/// Makes the tables of the books with their first rows, all in one transaction of its own. `Foreign` where the database
+/// has a table, an index or a view, whoever made it: nothing is done then. `Store` where memory, the disk or a size does
+/// not suffice: the database is as it was.
+pub fn create<S: Alter>(
+    conn: &mut Connection<S>,
+    meta: &MetaRow,
+    bin: &BinRow,
+) -> Result<(), TableFault>
+    requires outside { conn.old.in_transaction ≡ false }
+    ensures foreign { IsErrOf result Foreign ↔ ((state S.Store conn.old).now.schema ≢ schema_0) }
+    ensures unchanged { IsErrOf result Foreign → conn.new ≡ conn.old }
+    ensures open { HasCleanDisk (state S.Store conn.new) → OnOk result (IsTrue (state S.Store conn.new).is_open) }
+    ensures ready { HasCleanDisk (state S.Store conn.new) → OnOk result (IsReady (state S.Store conn.new).now) }
+    ensures tables { HasCleanDisk (state S.Store conn.new) → OnOk result (tables_in (state S.Store conn.new).now.trees ≡ first_rows meta.now bin.now) }
+    ensures typed { HasCleanDisk (state S.Store conn.new) → OnOk result (AreTyped (state S.Store conn.new).now.trees) }
+    ensures failed { HasCleanDisk (state S.Store conn.new) → IsTrue (state S.Store conn.new).is_open
+        → OnErr result ((state S.Store conn.new).now ≡ (state S.Store conn.old).now) }
+    ensures settled { HasCleanDisk (state S.Store conn.new) → IsTrue (state S.Store conn.new).is_open
+        → (state S.Store conn.new).committed ≡ (state S.Store conn.new).now }
+    ensures survives { Survives (state S.Store conn.old) (state S.Store conn.new) (λ trees. (tables_in trees ≡ first_rows meta.now bin.now) × AreTyped trees) }
+    ensures outside { conn.new.in_transaction ≡ false }
+{
+    // Outside a transaction the connection shows what is committed.
+    let _outside = conn.is_autocommit();
+    if !is_empty_schema(conn.schema()) {
+        return Err(TableFault::Foreign);
+    }
+    let mut tx = conn.transaction();
+    fill(&mut tx, meta, bin)?;
+    tx.commit()?;
+    Ok(())
 }

@@ -55,6 +55,13 @@ pub(super) fn bin(rt: &impl Abort) -> BinRow {
     }
 }
 
+pub(super) fn other_bin(rt: &impl Abort) -> BinRow {
+    BinRow {
+        name: name(rt, b"B-02"),
+        kind: BinKind::Store,
+    }
+}
+
 pub(super) fn known_lot(rt: &impl Abort) -> LotRow {
     LotRow {
         lot: lot(rt),
@@ -85,6 +92,14 @@ pub(super) fn order(rt: &impl Abort) -> OrderRow {
         act: 4,
         customer: title(rt, b"Corner Shop"),
         state: OrderState::Cancelled,
+    }
+}
+
+pub(super) fn open_order(rt: &impl Abort) -> OrderRow {
+    OrderRow {
+        order: name(rt, b"S-2"),
+        state: OrderState::Open,
+        ..order(rt)
     }
 }
 

@@ -1,8 +1,8 @@
 ghost use Rattle.std.specs.Prelude.{◌≡◌, false, IsTrue, IfOk};
 ghost use Rattle.sqlite_disk.specs.Memory.{memory_is_usable};
 
-use crate::creation::create_tables;
-use crate::opening::{is_blank, ready};
+use crate::creation::create;
+use crate::opening::{Leftover, ready};
 use crate::samples;
 use commands::{BinKind, CardKind, OrderState};
 use goods_tables::bins::{all_bins, bins_of, drop_bin, put_bin};
@@ -12,21 +12,59 @@ use goods_tables::meta::{meta_rows, put_meta};
 use goods_tables::recalls::{drop_recall, put_recall, recalls_of};
 use goods_tables::stock::{drop_stock, put_stock, stock_of};
 use history_tables::cards::{cards_of_lot, drop_card, put_card};
-use history_tables::repeats::{drop_repeat, put_repeat, repeats_of};
+use history_tables::repeats::{put_repeat, repeats_of};
 use history_tables::shiplines::{drop_shipline, put_shipline, shiplines_of_lot};
 use history_tables::shipments::{drop_shipment, put_shipment, shipments_of};
-use order_tables::lines::{drop_line, lines_of_item, lines_of_order, put_line};
-use order_tables::orders::{drop_order, orders_of, put_order};
+use order_tables::lines::{drop_line, line_of, lines_of_order, put_line};
+use order_tables::orders::{drop_order, open_orders, orders_of, put_order};
 use order_tables::reserved::{drop_reserved, put_reserved, reserved_of_item};
 use order_tables::staged::{all_staged, drop_staged, put_staged, staged_of_item};
-use sqlite::{Alter, Connection, Error, FileStore, Files, Options, Transaction};
+use sqlite::{Alter, Connection, Error, FileStore, Files, MemStore, Options, Transaction};
 use sqlite_disk::Memory;
 use std::alloc::Global;
 use std::process::Abort;
 use std::test::Fail;
+use table_words::error::TableFault;
 
-fn makes<S: Alter>(tx: &mut Transaction<'_, S>) -> Result<(), Fail> {
-    create_tables(tx)?;
+/// The connection over the tables, or the failure of the test.
+fn opened<S: Alter + Drop>(alloc: Global, conn: Connection<S>) -> Result<Connection<S>, Fail> {
+    if !conn.is_autocommit() {
+        return Err(Fail::new("a transaction is open"));
+    }
+    match ready(alloc, conn) {
+        Ok(conn) => Ok(conn),
+        Err((_, fault)) => Err(Fail::from(fault)),
+    }
+}
+
+/// The connection as it comes back from an opening that is refused, since the schema is another.
+fn refused<S: Alter + Drop>(
+    rt: &impl Abort,
+    alloc: Global,
+    conn: Connection<S>,
+) -> Result<Connection<S>, Fail> {
+    if !conn.is_autocommit() {
+        return Err(Fail::new("a transaction is open"));
+    }
+    match ready(alloc, conn) {
+        Ok(_) => Err(Fail::new("another schema was opened")),
+        Err((left, fault)) => {
+            assert!(rt; matches!(fault, TableFault::Foreign));
+            match left {
+                Leftover::Connection(conn) => Ok(conn),
+                Leftover::Store(_) => Err(Fail::new("the connection is lost")),
+            }
+        }
+    }
+}
+
+/// Creation where there is a table.
+fn creates_nothing<S: Alter>(rt: &impl Abort, conn: &mut Connection<S>) -> Result<(), Fail> {
+    if !conn.is_autocommit() {
+        return Err(Fail::new("a transaction is open"));
+    }
+    let again = create(conn, &samples::meta(rt, 1), &samples::other_bin(rt));
+    assert!(rt; matches!(again, Err(TableFault::Foreign)));
     Ok(())
 }
 
@@ -35,7 +73,6 @@ fn goods<S: Alter>(
     alloc: Global,
     tx: &mut Transaction<'_, S>,
 ) -> Result<(), Fail> {
-    put_meta(tx, &samples::meta(rt, 13))?;
     put_meta(tx, &samples::meta(rt, 14))?;
     put_item(tx, &samples::item(rt))?;
     put_bin(tx, &samples::bin(rt))?;
@@ -53,6 +90,7 @@ fn orders<S: Alter>(
     tx: &mut Transaction<'_, S>,
 ) -> Result<(), Fail> {
     put_order(tx, &samples::order(rt))?;
+    put_order(tx, &samples::open_order(rt))?;
     put_line(tx, &samples::line(rt))?;
     put_staged(tx, &samples::staged(rt))?;
     put_reserved(tx, &samples::reserved(rt))?;
@@ -122,7 +160,13 @@ fn finds_orders<S: Alter>(
     let lines = lines_of_order(alloc, tx, &samples::name(rt, b"S-1"))?;
     assert_eq!(rt; lines.len(), 1);
     assert_eq!(rt; lines[0].shipped, 5);
-    assert_eq!(rt; lines_of_item(alloc, tx, &samples::gtin(rt))?.len(), 1);
+    let open = open_orders(alloc, tx)?;
+    assert_eq!(rt; open.len(), 1);
+    assert!(rt; open[0].order.as_bytes() == b"S-2".as_slice());
+    let line = line_of(alloc, tx, &samples::name(rt, b"S-1"), &samples::gtin(rt))?;
+    assert_eq!(rt; line.map(|line| line.ordered), Some(12));
+    let none = line_of(alloc, tx, &samples::name(rt, b"S-2"), &samples::gtin(rt))?;
+    assert!(rt; none.is_none());
     let staged = staged_of_item(alloc, tx, &samples::gtin(rt))?;
     assert_eq!(rt; staged.len(), 1);
     assert_eq!(rt; staged[0].qty, 7);
@@ -173,6 +217,7 @@ fn drops_orders<S: Alter>(
     tx: &mut Transaction<'_, S>,
 ) -> Result<(), Fail> {
     drop_order(tx, &samples::name(rt, b"S-1"))?;
+    drop_order(tx, &samples::name(rt, b"S-2"))?;
     drop_line(tx, &samples::name(rt, b"S-1"), &samples::gtin(rt))?;
     drop_staged(tx, &samples::name(rt, b"S-1"), &samples::lot(rt))?;
     drop_reserved(tx, &samples::name(rt, b"S-1"), &samples::lot(rt))?;
@@ -187,7 +232,6 @@ fn drops_history<S: Alter>(
     drop_shipment(tx, 1)?;
     drop_shipline(tx, 1, &samples::lot(rt))?;
     drop_card(tx, &samples::lot(rt), 14)?;
-    drop_repeat(tx, &samples::key(rt))?;
     Ok(())
 }
 
@@ -213,7 +257,11 @@ fn left_of_orders<S: Alter>(
     tx: &mut Transaction<'_, S>,
 ) -> Result<(), Fail> {
     assert_eq!(rt; orders_of(alloc, tx, &samples::name(rt, b"S-1"))?.len(), 0);
-    assert_eq!(rt; lines_of_item(alloc, tx, &samples::gtin(rt))?.len(), 0);
+    assert_eq!(rt; open_orders(alloc, tx)?.len(), 0);
+    assert_eq!(rt;
+        lines_of_order(alloc, tx, &samples::name(rt, b"S-1"))?.len(),
+        0
+    );
     assert_eq!(rt; all_staged(alloc, tx)?.len(), 0);
     assert_eq!(rt; reserved_of_item(alloc, tx, &samples::gtin(rt))?.len(), 0);
     Ok(())
@@ -227,28 +275,26 @@ fn left_of_history<S: Alter>(
     assert_eq!(rt; shipments_of(alloc, tx, 1)?.len(), 0);
     assert_eq!(rt; shiplines_of_lot(alloc, tx, &samples::lot(rt))?.len(), 0);
     assert_eq!(rt; cards_of_lot(alloc, tx, &samples::lot(rt))?.len(), 0);
-    assert_eq!(rt; repeats_of(alloc, tx, &samples::key(rt))?.len(), 0);
+    assert_eq!(rt; repeats_of(alloc, tx, &samples::key(rt))?.len(), 1);
     Ok(())
 }
 
 fn fills<S: Alter>(rt: &impl Abort, alloc: Global, conn: &mut Connection<S>) -> Result<(), Fail> {
-    assert!(rt; is_blank(conn));
     if !conn.is_autocommit() {
-        return Ok(());
+        return Err(Fail::new("a transaction is open"));
     }
+    create(conn, &samples::meta(rt, 13), &samples::bin(rt))?;
     let mut tx = conn.transaction();
-    makes(&mut tx)?;
     goods(rt, alloc, &mut tx)?;
     orders(rt, alloc, &mut tx)?;
     history(rt, alloc, &mut tx)?;
     tx.commit()?;
-    assert!(rt; !is_blank(conn));
-    Ok(())
+    creates_nothing(rt, conn)
 }
 
 fn finds<S: Alter>(rt: &impl Abort, alloc: Global, conn: &mut Connection<S>) -> Result<(), Fail> {
     if !conn.is_autocommit() {
-        return Ok(());
+        return Err(Fail::new("a transaction is open"));
     }
     let mut tx = conn.transaction();
     finds_goods(rt, alloc, &mut tx)?;
@@ -261,7 +307,7 @@ fn finds<S: Alter>(rt: &impl Abort, alloc: Global, conn: &mut Connection<S>) -> 
 
 fn drops<S: Alter>(rt: &impl Abort, alloc: Global, conn: &mut Connection<S>) -> Result<(), Fail> {
     if !conn.is_autocommit() {
-        return Ok(());
+        return Err(Fail::new("a transaction is open"));
     }
     let mut tx = conn.transaction();
     drops_goods(rt, alloc, &mut tx)?;
@@ -278,7 +324,7 @@ fn drops<S: Alter>(rt: &impl Abort, alloc: Global, conn: &mut Connection<S>) -> 
 fn each_table_in_memory(rt: HostRuntime) -> Result<(), Fail> {
     let mut made = Connection::open_in_memory(rt.alloc())?;
     fills(&rt, rt.alloc(), &mut made)?;
-    let mut conn = ready(rt.alloc(), made)?;
+    let mut conn = opened(rt.alloc(), made)?;
     finds(&rt, rt.alloc(), &mut conn)?;
     drops(&rt, rt.alloc(), &mut conn)
 }
@@ -306,15 +352,58 @@ fn each_table_in_a_file(rt: HostRuntime) -> Result<(), Fail> {
     let mut made = open(rt.alloc(), Memory::new(rt.alloc()), Memory::new(rt.alloc()))?;
     fills(&rt, rt.alloc(), &mut made)?;
     let db = close(made)?;
-    let mut conn = ready(rt.alloc(), open(rt.alloc(), Memory::new(rt.alloc()), db)?)?;
+    let mut conn = opened(rt.alloc(), open(rt.alloc(), Memory::new(rt.alloc()), db)?)?;
     finds(&rt, rt.alloc(), &mut conn)?;
     drops(&rt, rt.alloc(), &mut conn)
 }
 
-// A database with another table, or with none, is not one of books.
+/// How many notes there are.
+fn notes(conn: &mut Connection<MemStore>) -> Result<usize, Error> {
+    Ok(conn.query_all("SELECT text FROM notes", &[])?.len())
+}
+
+// A database with another table, or with none, is not one of books, and no books are made beside another table.
 #[test]
 fn another_schema_is_foreign(rt: HostRuntime) -> Result<(), Fail> {
     let made = Connection::open_in_memory(rt.alloc())?;
-    assert!(rt; ready(rt.alloc(), made).is_err());
+    let mut conn = refused(&rt, rt.alloc(), made)?;
+    conn.execute("CREATE TABLE notes (text TEXT NOT NULL) STRICT", &[])?;
+    conn.execute("INSERT INTO notes (text) VALUES ('Count the bin')", &[])?;
+    let mut conn = refused(&rt, rt.alloc(), conn)?;
+    creates_nothing(&rt, &mut conn)?;
+    assert_eq!(rt; notes(&mut conn)?, 1);
+    Ok(())
+}
+
+// Books that lack an index or a table are not opened.
+#[test]
+fn missing_parts_are_foreign(rt: HostRuntime) -> Result<(), Fail> {
+    let mut made = Connection::open_in_memory(rt.alloc())?;
+    fills(&rt, rt.alloc(), &mut made)?;
+    made.execute("DROP INDEX lines_by_gtin", &[])?;
+    let mut conn = refused(&rt, rt.alloc(), made)?;
+    conn.execute("CREATE INDEX lines_by_gtin ON lines (gtin)", &[])?;
+    conn.execute("DROP TABLE recalls", &[])?;
+    let mut left = refused(&rt, rt.alloc(), conn)?;
+    creates_nothing(&rt, &mut left)
+}
+
+// A connection keeps the plans of its last 64 texts: with more in turn nearly each call would be planned again.
+#[test]
+fn statements_have_at_most_sixty_texts(rt: HostRuntime) -> Result<(), Fail> {
+    let mut texts = Vec::new(rt.alloc());
+    let crates: [&[&str]; 3] = [
+        &goods_tables::texts::TEXTS,
+        &order_tables::texts::TEXTS,
+        &history_tables::texts::TEXTS,
+    ];
+    for list in crates {
+        for text in list {
+            if !texts.contains(text) {
+                texts.push(*text)?;
+            }
+        }
+    }
+    assert!(rt; texts.len() <= 60, "{} texts", texts.len());
     Ok(())
 }

@@ -4,7 +4,7 @@ use Rattle.sqlite.proofs.Callers.{IsPlain}
 use Rattle.sqlite.specs.Listing.{understood}
 use Rattle.std.specs.List.{AllByRecursion}
 use Rattle.table_words.specs.Typed.{has_item, item_read}
-use Rattle.table_words.proofs.CallLemmas.{kept_unchanged, query_keeps, query_same, on_ok, if_ok, if_err, if_both}
+use Rattle.table_words.proofs.CallLemmas.{kept_unchanged, query_keeps, query_same, on_ok, on_ok_if, if_ok, if_err, if_both}
 use Rattle.goods_tables.proofs.ItemLemmas.{items_of_text, items_of_plain, items_of_reads, items_of_typed}
 use Rattle.goods_tables.proofs.items.items_of.Goals as goal
 
@@ -18,11 +18,17 @@ returns-clause-rows g c clean ready =
     items_of_reads (state g.S.Store c.args.tx.now.conn.now) (state g.S.Store c.query_all.new.self.conn.now) c.args.gtin.now c.in_ok-rows.rows.items found.items ready shown
     (subst (AllByRecursion (λ v. has_item v ≡ true)) c.as_slice.ensures.value are.0) (ap (map item_read) (sym c.as_slice.ensures.value) ∙ are.1))
 
+pub returns-clause-typed : goal.returns-clause-typed
+returns-clause-typed g c clean ready =
+    let shown = rw c.of_gtin.ensures.value at (c.in_ok-rows.ensures.ok clean) in
+    on_ok_if c.to_rows.result _ c.to_rows.ensures.typed (λ found good.
+    (items_of_typed (state g.S.Store c.args.tx.now.conn.now) (state g.S.Store c.query_all.new.self.conn.now) c.args.gtin.now c.in_ok-rows.rows.items ready shown).1 (subst (AllByRecursion (λ v. has_item v ≡ true)) c.as_slice.ensures.value good))
+
 pub returns-clause-foreign : goal.returns-clause-foreign
 returns-clause-foreign g c clean ready =
     let shown = rw c.of_gtin.ensures.value at (c.in_ok-rows.ensures.ok clean) in
     if_err c.to_rows.result _ _ c.to_rows.ensures.foreign (λ e untyped is are.
-    untyped is (subst (AllByRecursion (λ v. has_item v ≡ true)) (sym c.as_slice.ensures.value) (items_of_typed (state g.S.Store c.args.tx.now.conn.now) (state g.S.Store c.query_all.new.self.conn.now) c.args.gtin.now c.in_ok-rows.rows.items ready shown are)))
+    untyped is (subst (AllByRecursion (λ v. has_item v ≡ true)) (sym c.as_slice.ensures.value) ((items_of_typed (state g.S.Store c.args.tx.now.conn.now) (state g.S.Store c.query_all.new.self.conn.now) c.args.gtin.now c.in_ok-rows.rows.items ready shown).0 are)))
 
 pub returns-clause-same : goal.returns-clause-same
 returns-clause-same g c clean ready = on_ok c.to_rows.result (query_same items_of_text _ (state g.S.Store c.args.tx.now.conn.now) (state g.S.Store c.query_all.new.self.conn.now) c.in_ok-rows.rows.items (subst (λ s. IsPlain (understood s items_of_text)) (sym ready.schema_is) items_of_plain) (c.in_ok-rows.ensures.ok clean))

@@ -4,7 +4,7 @@ use Rattle.sqlite.proofs.Callers.{IsPlain}
 use Rattle.sqlite.specs.Listing.{understood}
 use Rattle.std.specs.List.{AllByRecursion}
 use Rattle.table_words.specs.Typed.{has_shipment, shipment_read}
-use Rattle.table_words.proofs.CallLemmas.{kept_unchanged, query_keeps, query_same, on_ok, if_ok, if_err, if_both}
+use Rattle.table_words.proofs.CallLemmas.{kept_unchanged, query_keeps, query_same, on_ok, on_ok_if, if_ok, if_err, if_both}
 use Rattle.history_tables.proofs.ShipmentLemmas.{shipments_of_text, shipments_of_plain, shipments_of_reads, shipments_of_typed}
 use Rattle.history_tables.proofs.shipments.shipments_of.Goals as goal
 
@@ -18,11 +18,17 @@ returns-clause-rows g c clean ready =
     shipments_of_reads (state g.S.Store c.args.tx.now.conn.now) (state g.S.Store c.query_all.new.self.conn.now) c.args.number c.in_ok-rows.rows.items found.items ready shown
     (subst (AllByRecursion (λ v. has_shipment v ≡ true)) c.as_slice.ensures.value are.0) (ap (map shipment_read) (sym c.as_slice.ensures.value) ∙ are.1))
 
+pub returns-clause-typed : goal.returns-clause-typed
+returns-clause-typed g c clean ready =
+    let shown = rw c.of_number.ensures.value at (c.in_ok-rows.ensures.ok clean) in
+    on_ok_if c.to_rows.result _ c.to_rows.ensures.typed (λ found good.
+    (shipments_of_typed (state g.S.Store c.args.tx.now.conn.now) (state g.S.Store c.query_all.new.self.conn.now) c.args.number c.in_ok-rows.rows.items ready shown).1 (subst (AllByRecursion (λ v. has_shipment v ≡ true)) c.as_slice.ensures.value good))
+
 pub returns-clause-foreign : goal.returns-clause-foreign
 returns-clause-foreign g c clean ready =
     let shown = rw c.of_number.ensures.value at (c.in_ok-rows.ensures.ok clean) in
     if_err c.to_rows.result _ _ c.to_rows.ensures.foreign (λ e untyped is are.
-    untyped is (subst (AllByRecursion (λ v. has_shipment v ≡ true)) (sym c.as_slice.ensures.value) (shipments_of_typed (state g.S.Store c.args.tx.now.conn.now) (state g.S.Store c.query_all.new.self.conn.now) c.args.number c.in_ok-rows.rows.items ready shown are)))
+    untyped is (subst (AllByRecursion (λ v. has_shipment v ≡ true)) (sym c.as_slice.ensures.value) ((shipments_of_typed (state g.S.Store c.args.tx.now.conn.now) (state g.S.Store c.query_all.new.self.conn.now) c.args.number c.in_ok-rows.rows.items ready shown).0 are)))
 
 pub returns-clause-same : goal.returns-clause-same
 returns-clause-same g c clean ready = on_ok c.to_rows.result (query_same shipments_of_text _ (state g.S.Store c.args.tx.now.conn.now) (state g.S.Store c.query_all.new.self.conn.now) c.in_ok-rows.rows.items (subst (λ s. IsPlain (understood s shipments_of_text)) (sym ready.schema_is) shipments_of_plain) (c.in_ok-rows.ensures.ok clean))

@@ -12,6 +12,6 @@ pub returns-clause-kept : goal.returns-clause-kept
 returns-clause-kept g c clean = keeps g.S.Store _ _ c.args.tx.now.conn.now c.execute.new.self.conn.now _ c.execute.ensures.ended (c.execute.ensures.runs clean)
 
 pub returns-clause-done : goal.returns-clause-done
-returns-clause-done g c clean blank =
-    indexes_made schema_18 6 (orders_table 11) index_orders_by_state (orders_by_state 0) orders_by_state_made (state g.S.Store c.args.tx.now.conn.now) (state g.S.Store c.execute.new.self.conn.now) _ blank
+returns-clause-done g c clean making =
+    indexes_made schema_18 6 (orders_table 11) index_orders_by_state (orders_by_state 0) orders_by_state_made (state g.S.Store c.args.tx.now.conn.now) (state g.S.Store c.execute.new.self.conn.now) _ making
     (c.in_ok-execute.ensures.runs clean (was_inside _ c.in_ok-execute.ensures.ended))

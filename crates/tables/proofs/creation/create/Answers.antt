@@ -1,0 +1,21 @@
+use Rattle.std.proofs.Common.{◌≡◌, sym, ◌∙◌, arith, rules}
+use Rattle.sqlite.specs.Held.{state}
+use Rattle.sqlite.specs.State.{HasCleanDisk, Survives}
+use Rattle.table_words.specs.Schema.{schema_0}
+use Rattle.table_words.specs.Typed.{tables_in, AreTyped}
+use Rattle.tables.specs.Creation.{first_rows}
+use Rattle.tables.proofs.CreateLemmas.{begins_blank, crash_made}
+use Rattle.tables.proofs.creation.create.Goals as goal
+
+pub returns-in_err-commit-clause-survives : goal.returns-in_err-commit-clause-survives
+returns-in_err-commit-clause-survives g c =
+    let old = c.args.conn.now in
+    let begun = c.transaction-tx.result.conn.now in
+    let last = state g.S.Store c.fill.new.tx.conn.now in
+    let whole : Survives (state g.S.Store old) (state g.S.Store c.commit.new.self.0) (λ trees. (tables_in trees ≡ first_rows c.args.meta.now c.args.bin.now) × AreTyped trees) =
+    crash_made g.S.Store old begun last _ _ c.transaction-tx.ensures.begun c.fill.ensures.survives c.commit.ensures.survives (λ clean.
+    let clean_last : HasCleanDisk last = omega (arith, clean, c.commit.ensures.survives.clean) in
+    let blank : (state g.S.Store old).now.schema ≡ schema_0 = sym c.schema.ensures.value ∙ c.is_empty_schema.ensures.0 c.if-not-is_empty_schema.false in
+    let filled = c.in_ok-fill.ensures.done clean_last (begins_blank g.S.Store old begun c.transaction-tx.ensures.begun c.schema.ensures.live blank (c.in_ok-fill.ensures.was_open clean_last)) in
+    (filled.tables, filled.typed)) in
+    search (rules, whole)
