@@ -23,4 +23,6 @@ pub use method::Method;
 pub use request::{Read, read_request};
 
 #[cfg(test)]
+mod answer_tests;
+#[cfg(test)]
 mod tests;

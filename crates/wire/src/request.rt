@@ -111,7 +111,7 @@ fn lot_in(alloc: Global, target: &[u8]) -> Result<LotId, WireFault>
     }
 }
 
-fn query_of(alloc: Global, shown: Shown, target: &[u8]) -> Result<Query, WireFault>
+pub(crate) fn query_of(alloc: Global, shown: Shown, target: &[u8]) -> Result<Query, WireFault>
     ensures ok { IfOk result (λ q. query_of_lem shown target.now ≡ Some q) }
     ensures err { IfErr result (λ e. e ≢ WireFault.Memory → (e ≡ WireFault.Field)
         × (query_of_lem shown target.now ≡ None)) }

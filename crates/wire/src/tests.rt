@@ -1,25 +1,20 @@
 use crate::bodies::body_of;
 use crate::fields::json_value;
-use crate::routes::Posted;
-use crate::short::{
-    cause_row_text, cause_text, code_text, fault_text, label_fault_text, refusal_row_text,
-    refusal_text, tally_text,
-};
-use crate::{
-    Answer, Ask, Method, Query, Read, WireFault, laws, read_request, write_answer, write_short,
-};
-use commands::{
-    BinUnits, Command, ItemRow, Key, LineView, Listed, LotStatus, LotView, OrderState, OrderView,
-    Refusal, ReservedLot, Short, StagedLot, StockView, decimal_text, spell,
-};
-use http::StatusCode;
-use label::{Day, Gtin, LabelFault, Lot, Name, Title};
+use crate::request::query_of;
+use crate::routes::{Posted, Shown};
+use crate::{Ask, Method, Query, Read, WireFault, read_request};
+use commands::{decimal_text, spell};
 use std::alloc::{AllocError, Global};
 use std::process::Abort;
 use std::test::Fail;
 
 const OPEN_A_DAY: &[u8] =
     b"POST /days HTTP/1.1\r\nContent-Length: 32\r\n\r\n{\"key\":\"K-9\",\"day\":\"2026-05-05\"}";
+
+// The length of the head of that request, and of its first two lines.
+const DAY_HEAD: usize = 43;
+
+const DAY_LINES: usize = 41;
 
 const ADD_AN_ITEM: &[u8] =
     b"POST /items HTTP/1.1\r\nContent-Length: 56\r\n\r\n{\"key\":\"K-9\",\"gtin\":\"09506000134352\",\"name\":\"Oat drink\"}";
@@ -33,7 +28,7 @@ enum Outcome {
 }
 
 // The reading of a text, read again where there was no memory.
-fn read(alloc: Global, text: &[u8]) -> Read {
+pub fn read(alloc: Global, text: &[u8]) -> Read {
     match read_request(alloc, text) {
         Read::Bad(WireFault::Memory) => read_request(alloc, text),
         other => other,
@@ -48,122 +43,219 @@ fn told(alloc: Global, text: &[u8]) -> Outcome {
     }
 }
 
-// The text of a POST with its length.
-fn post(alloc: Global, path: &str, body: &[u8]) -> Result<Vec<u8>, AllocError> {
-    let mut text = Vec::new(alloc);
-    text.extend_from_slice(b"POST ")?;
-    text.extend_from_slice(path.as_bytes())?;
-    text.extend_from_slice(b" HTTP/1.1\r\nContent-Length: ")?;
-    text.extend_from_slice(decimal_text(body.len() as u64).as_bytes())?;
-    text.extend_from_slice(b"\r\n\r\n")?;
-    text.extend_from_slice(body)?;
-    Ok(text)
+// The outcome of each text.
+fn expect(rt: &impl Abort, alloc: Global, rows: &[(&str, Outcome)]) {
+    for row in rows {
+        assert_eq!(rt; told(alloc, row.0.as_bytes()), row.1, "{:?}", row.0);
+    }
 }
 
-// What a body posted to a path is read as.
-fn posted(alloc: Global, path: &str, body: &[u8]) -> Result<Outcome, AllocError> {
-    let text = match post(alloc, path, body) {
-        Ok(text) => text,
-        Err(_) => post(alloc, path, body)?,
-    };
-    Ok(told(alloc, text.as_slice()))
-}
-
-#[test]
-fn asks_for_more(rt: HostRuntime) {
-    for n in 0..OPEN_A_DAY.len() {
-        let (front, _) = OPEN_A_DAY.split_at(n);
-        let want = if n < 43 {
+// Each beginning of a text needs more, of its head and then of its body.
+fn expect_need(rt: &impl Abort, alloc: Global, text: &[u8], head: usize) {
+    for n in 0..text.len() {
+        let (front, _) = text.split_at(n);
+        let want = if n < head {
             WireFault::Head
         } else {
             WireFault::Length
         };
-        assert_eq!(rt; told(rt.alloc(), front), Outcome::Need(want), "at {n}");
+        assert_eq!(rt; told(alloc, front), Outcome::Need(want), "at {n}");
     }
+}
+
+#[test]
+fn asks_for_more(rt: HostRuntime) {
     assert_eq!(rt; OPEN_A_DAY.len(), 75);
+    expect_need(&rt, rt.alloc(), OPEN_A_DAY, DAY_HEAD);
     assert_eq!(rt; told(rt.alloc(), OPEN_A_DAY), Outcome::Bad(WireFault::Path));
+    expect_need(&rt, rt.alloc(), ADD_AN_ITEM, 44);
     assert_eq!(rt; told(rt.alloc(), ADD_AN_ITEM), Outcome::Request);
 }
 
+// The request that opens a day, changed. Its path is not served yet, so it is `W06` where nothing
+// before the path is wrong.
+static CHANGED: [(&str, Outcome); 10] = [
+    (
+        "POST /days HTTP/1.1\r\nContent-Length: 33\r\n\r\n{\"key\":\"K-9\",\"day\":\"2026-05-05\"}",
+        Outcome::Need(WireFault::Length),
+    ),
+    (
+        "POST /days HTTP/1.1\r\nContent-Length: 262145\r\n\r\n{\"key\":\"K-9\",\"day\":\"2026-05-05\"}",
+        Outcome::Bad(WireFault::TooLarge),
+    ),
+    (
+        "POST /days HTTP/1.1\r\nContent-Length: +32\r\n\r\n{\"key\":\"K-9\",\"day\":\"2026-05-05\"}",
+        Outcome::Bad(WireFault::Length),
+    ),
+    (
+        "POST /days HTTP/1.1\r\nContent-Length: 0000000032\r\n\r\n{\"key\":\"K-9\",\"day\":\"2026-05-05\"}",
+        Outcome::Bad(WireFault::Length),
+    ),
+    (
+        "POST /days HTTP/1.1\r\nContent-Length: \t 000000032 \t\r\n\r\n{\"key\":\"K-9\",\"day\":\"2026-05-05\"}",
+        Outcome::Bad(WireFault::Path),
+    ),
+    (
+        "POST /days HTTP/1.1\r\nContent-Length: 32\r\nContent-Length: 32\r\n\r\n{\"key\":\"K-9\",\"day\":\"2026-05-05\"}",
+        Outcome::Bad(WireFault::Length),
+    ),
+    (
+        "POST /days HTTP/1.1\r\nContent-Length: 32\r\nTransfer-Encoding: chunked\r\n\r\n{\"key\":\"K-9\",\"day\":\"2026-05-05\"}",
+        Outcome::Bad(WireFault::Length),
+    ),
+    (
+        "GET /days HTTP/1.1\r\nContent-Length: 32\r\n\r\n{\"key\":\"K-9\",\"day\":\"2026-05-05\"}",
+        Outcome::Bad(WireFault::Path),
+    ),
+    (
+        "POST /days?x=1 HTTP/1.1\r\nContent-Length: 32\r\n\r\n{\"key\":\"K-9\",\"day\":\"2026-05-05\"}",
+        Outcome::Bad(WireFault::Path),
+    ),
+    (
+        "POST /days HTTP/1.1\r\nContent-Length: 32\r\n\r\n{\"key\":\"K-9\",\"day\":\"2026-05-05\"}more",
+        Outcome::Bad(WireFault::Path),
+    ),
+];
+
+static HEADS: [(&str, Outcome); 19] = [
+    (
+        "POST /items HTTP/1.1\r\nContent-Length: +56\r\n\r\n{\"key\":\"K-9\",\"gtin\":\"09506000134352\",\"name\":\"Oat drink\"}",
+        Outcome::Bad(WireFault::Length),
+    ),
+    (
+        "POST /items HTTP/1.1\r\nContent-Length: 0000000056\r\n\r\n{\"key\":\"K-9\",\"gtin\":\"09506000134352\",\"name\":\"Oat drink\"}",
+        Outcome::Bad(WireFault::Length),
+    ),
+    (
+        "POST /items HTTP/1.1\r\nContent-Length:\r\n\r\n",
+        Outcome::Bad(WireFault::Length),
+    ),
+    (
+        "POST /items HTTP/1.1\r\nContent-Length: 1\r\ncontent-length: 1\r\n\r\n1",
+        Outcome::Bad(WireFault::Length),
+    ),
+    (
+        "POST /items HTTP/1.1\r\nTransfer-Encoding: chunked\r\n\r\n",
+        Outcome::Bad(WireFault::Length),
+    ),
+    (
+        "POST /items HTTP/1.1\r\nContent-Length: 262144\r\n\r\n",
+        Outcome::Need(WireFault::Length),
+    ),
+    (
+        "POST /items HTTP/1.1\r\nContent-Length: 262145\r\n\r\n",
+        Outcome::Bad(WireFault::TooLarge),
+    ),
+    (
+        "POST /items HTTP/2.0\r\n\r\n",
+        Outcome::Bad(WireFault::Head),
+    ),
+    (
+        "GET /orders/S-1 HTTP/1.1\n\nHost: a\r\n\r\n",
+        Outcome::Bad(WireFault::Head),
+    ),
+    (
+        "GET /items HTTP/1.1\r\nContent-Length: 56\r\n\r\n{\"key\":\"K-9\",\"gtin\":\"09506000134352\",\"name\":\"Oat drink\"}",
+        Outcome::Bad(WireFault::Method(Method::Post)),
+    ),
+    (
+        "POST /orders/S-1 HTTP/1.1\r\n\r\n",
+        Outcome::Bad(WireFault::Method(Method::Get)),
+    ),
+    (
+        "get /orders/S-1 HTTP/1.1\r\n\r\n",
+        Outcome::Bad(WireFault::Method(Method::Get)),
+    ),
+    (
+        "POST /items?x=1 HTTP/1.1\r\nContent-Length: 56\r\n\r\n{\"key\":\"K-9\",\"gtin\":\"09506000134352\",\"name\":\"Oat drink\"}",
+        Outcome::Bad(WireFault::Path),
+    ),
+    ("POST items HTTP/1.1\r\n\r\n", Outcome::Bad(WireFault::Path)),
+    (
+        "GET /stock/09506000134352 HTTP/1.1\r\n\r\n",
+        Outcome::Bad(WireFault::Path),
+    ),
+    (
+        "GET /orders/%zz HTTP/1.1\r\n\r\n",
+        Outcome::Bad(WireFault::Field),
+    ),
+    (
+        "POST /items HTTP/1.1\r\n\r\n",
+        Outcome::Bad(WireFault::Json),
+    ),
+    (
+        "POST /items HTTP/1.0\r\nCONTENT-LENGTH: \t000000056 \t\r\n\r\n{\"key\":\"K-9\",\"gtin\":\"09506000134352\",\"name\":\"Oat drink\"}",
+        Outcome::Request,
+    ),
+    (
+        "POST /items HTTP/1.1\r\nContent-Length: 56\r\n\r\n{\"key\":\"K-9\",\"gtin\":\"09506000134352\",\"name\":\"Oat drink\"}more",
+        Outcome::Request,
+    ),
+];
+
 #[test]
 fn judges_heads(rt: HostRuntime) {
-    for (text, want) in [
-        (
-            "POST /items HTTP/1.1\r\nContent-Length: +56\r\n\r\n",
-            WireFault::Length,
-        ),
-        (
-            "POST /items HTTP/1.1\r\nContent-Length: 0000000056\r\n\r\n",
-            WireFault::Length,
-        ),
-        (
-            "POST /items HTTP/1.1\r\nContent-Length:\r\n\r\n",
-            WireFault::Length,
-        ),
-        (
-            "POST /items HTTP/1.1\r\nContent-Length: 1\r\ncontent-length: 1\r\n\r\n1",
-            WireFault::Length,
-        ),
-        (
-            "POST /items HTTP/1.1\r\nTransfer-Encoding: chunked\r\n\r\n",
-            WireFault::Length,
-        ),
-        (
-            "POST /items HTTP/1.1\r\nContent-Length: 262145\r\n\r\n",
-            WireFault::TooLarge,
-        ),
-        ("POST /items HTTP/2.0\r\n\r\n", WireFault::Head),
-        (
-            "GET /orders/S-1 HTTP/1.1\n\nHost: a\r\n\r\n",
-            WireFault::Head,
-        ),
-        (
-            "GET /items HTTP/1.1\r\n\r\n",
-            WireFault::Method(Method::Post),
-        ),
-        (
-            "POST /orders/S-1 HTTP/1.1\r\n\r\n",
-            WireFault::Method(Method::Get),
-        ),
-        (
-            "get /orders/S-1 HTTP/1.1\r\n\r\n",
-            WireFault::Method(Method::Get),
-        ),
-        ("POST /items?x=1 HTTP/1.1\r\n\r\n", WireFault::Path),
-        ("POST items HTTP/1.1\r\n\r\n", WireFault::Path),
-        (
-            "GET /stock/09506000134352 HTTP/1.1\r\n\r\n",
-            WireFault::Path,
-        ),
-        ("GET /orders/%zz HTTP/1.1\r\n\r\n", WireFault::Field),
-        ("POST /items HTTP/1.1\r\n\r\n", WireFault::Json),
-    ] {
-        assert_eq!(rt;
-            told(rt.alloc(), text.as_bytes()),
-            Outcome::Bad(want),
-            "{text:?}"
-        );
-    }
-    for text in [
-        "POST /items HTTP/1.0\r\nCONTENT-LENGTH: \t000000056 \t\r\n\r\n{\"key\":\"K-9\",\"gtin\":\"09506000134352\",\"name\":\"Oat drink\"}",
-        "POST /items HTTP/1.1\r\nContent-Length: 56\r\n\r\n{\"key\":\"K-9\",\"gtin\":\"09506000134352\",\"name\":\"Oat drink\"}more",
-    ] {
-        assert_eq!(rt;
-            told(rt.alloc(), text.as_bytes()),
-            Outcome::Request,
-            "{text:?}"
-        );
+    expect(&rt, rt.alloc(), CHANGED.as_slice());
+    expect(&rt, rt.alloc(), HEADS.as_slice());
+}
+
+fn once_joined(
+    alloc: Global,
+    front: &[u8],
+    middle: &[u8],
+    rest: &[u8],
+) -> Result<Vec<u8>, AllocError> {
+    let mut text = Vec::from_slice(alloc, front)?;
+    text.extend_from_slice(middle)?;
+    text.extend_from_slice(rest)?;
+    Ok(text)
+}
+
+// Three parts as one text, joined again where there was no memory.
+fn joined(alloc: Global, front: &[u8], middle: &[u8], rest: &[u8]) -> Result<Vec<u8>, AllocError> {
+    match once_joined(alloc, front, middle, rest) {
+        Ok(text) => Ok(text),
+        Err(_) => once_joined(alloc, front, middle, rest),
     }
 }
 
+// The text of a POST with its length.
+fn post(alloc: Global, path: &str, body: &[u8]) -> Result<Vec<u8>, AllocError> {
+    let size = decimal_text(body.len() as u64);
+    let line = joined(
+        alloc,
+        b"POST ",
+        path.as_bytes(),
+        b" HTTP/1.1\r\nContent-Length: ",
+    )?;
+    let head = joined(alloc, line.as_slice(), size.as_bytes(), b"\r\n\r\n")?;
+    joined(alloc, head.as_slice(), body, b"")
+}
+
+// What a body posted to a path is read as.
+fn posted(alloc: Global, path: &str, body: &[u8]) -> Result<Outcome, AllocError> {
+    let text = post(alloc, path, body)?;
+    Ok(told(alloc, text.as_slice()))
+}
+
+// Fields that are not looked at, 32 of four bytes.
+const FIELDS: &[u8] =
+    b"a:\r\na:\r\na:\r\na:\r\na:\r\na:\r\na:\r\na:\r\na:\r\na:\r\na:\r\na:\r\na:\r\na:\r\na:\r\na:\r\na:\r\na:\r\na:\r\na:\r\na:\r\na:\r\na:\r\na:\r\na:\r\na:\r\na:\r\na:\r\na:\r\na:\r\na:\r\na:\r\n";
+
 #[test]
 fn limits_heads(rt: HostRuntime) -> Result<(), Fail> {
-    let many =
-        b"GET /orders/S-1 HTTP/1.1\r\na:\r\na:\r\na:\r\na:\r\na:\r\na:\r\na:\r\na:\r\na:\r\na:\r\na:\r\na:\r\na:\r\na:\r\na:\r\na:\r\na:\r\na:\r\na:\r\na:\r\na:\r\na:\r\na:\r\na:\r\na:\r\na:\r\na:\r\na:\r\na:\r\na:\r\na:\r\na:\r\n\r\n";
-    assert_eq!(rt; told(rt.alloc(), many), Outcome::Request);
-    let more =
-        b"GET /orders/S-1 HTTP/1.1\r\nb:\r\na:\r\na:\r\na:\r\na:\r\na:\r\na:\r\na:\r\na:\r\na:\r\na:\r\na:\r\na:\r\na:\r\na:\r\na:\r\na:\r\na:\r\na:\r\na:\r\na:\r\na:\r\na:\r\na:\r\na:\r\na:\r\na:\r\na:\r\na:\r\na:\r\na:\r\na:\r\na:\r\n\r\n";
-    assert_eq!(rt; told(rt.alloc(), more), Outcome::Bad(WireFault::Head));
+    let (lines, rest) = OPEN_A_DAY.split_at(DAY_LINES);
+    let (fewer, _) = FIELDS.split_at(124);
+    let many = joined(rt.alloc(), lines, fewer, rest)?;
+    assert_eq!(rt;
+        told(rt.alloc(), many.as_slice()),
+        Outcome::Bad(WireFault::Path)
+    );
+    let more = joined(rt.alloc(), lines, FIELDS, rest)?;
+    assert_eq!(rt;
+        told(rt.alloc(), more.as_slice()),
+        Outcome::Bad(WireFault::Head)
+    );
     let long = [b'a'; 8_193];
     let (full, _) = long.split_at(8_192);
     assert_eq!(rt; told(rt.alloc(), full), Outcome::Need(WireFault::Head));
@@ -171,8 +263,57 @@ fn limits_heads(rt: HostRuntime) -> Result<(), Fail> {
         told(rt.alloc(), long.as_slice()),
         Outcome::Bad(WireFault::TooLarge)
     );
+    let endless = joined(rt.alloc(), lines, full, b"")?;
+    assert_eq!(rt;
+        told(rt.alloc(), endless.as_slice()),
+        Outcome::Bad(WireFault::TooLarge)
+    );
     Ok(())
 }
+
+static BROKEN_BODIES: [(&str, &str); 11] = [
+    ("/items", "[]"),
+    (
+        "/items",
+        "{\"key\":\"K-9\",\"gtin\":\"09506000134352\",\"name\":\"Oat drink\",\"day\":1}",
+    ),
+    (
+        "/items",
+        "{\"key\":\"K-9\",\"gtin\":\"09506000134353\",\"name\":\"Oat drink\"}",
+    ),
+    (
+        "/items",
+        "{\"key\":\"k-9\",\"gtin\":\"09506000134352\",\"name\":\"Oat drink\"}",
+    ),
+    (
+        "/bins",
+        "{\"key\":\"K-1\",\"bin\":\"A-01\",\"kind\":\"Store\"}",
+    ),
+    (
+        "/receipts",
+        "{\"delivery\":\"D-1\",\"line\":1,\"label\":\"\",\"bin\":\"A-01\",\"qty\":1.0}",
+    ),
+    (
+        "/receipts",
+        "{\"delivery\":\"D-1\",\"line\":1,\"label\":\"\",\"bin\":\"A-01\",\"qty\":1e2}",
+    ),
+    (
+        "/receipts",
+        "{\"delivery\":\"D-1\",\"line\":0,\"label\":\"\",\"bin\":\"A-01\",\"qty\":1}",
+    ),
+    (
+        "/receipts",
+        "{\"delivery\":\"D-1\",\"line\":1,\"label\":\"\",\"bin\":\"A-01\",\"qty\":\"1\"}",
+    ),
+    (
+        "/orders",
+        "{\"key\":\"K-1\",\"order\":\"S-1\",\"customer\":\"Corner Shop\",\"lines\":[]}",
+    ),
+    (
+        "/orders",
+        "{\"key\":\"K-1\",\"order\":\"S-1\",\"customer\":\"Corner Shop\",\"lines\":[{\"gtin\":\"09506000134352\",\"qty\":12,\"lot\":\"L1\"}]}",
+    ),
+];
 
 #[test]
 fn judges_bodies(rt: HostRuntime) -> Result<(), Fail> {
@@ -185,51 +326,9 @@ fn judges_bodies(rt: HostRuntime) -> Result<(), Fail> {
         posted(rt.alloc(), "/items", b"\xff")?,
         Outcome::Bad(WireFault::Json)
     );
-    for (path, body) in [
-        ("/items", "[]"),
-        (
-            "/items",
-            "{\"key\":\"K-9\",\"gtin\":\"09506000134352\",\"name\":\"Oat drink\",\"day\":1}",
-        ),
-        (
-            "/items",
-            "{\"key\":\"K-9\",\"gtin\":\"09506000134353\",\"name\":\"Oat drink\"}",
-        ),
-        (
-            "/items",
-            "{\"key\":\"k-9\",\"gtin\":\"09506000134352\",\"name\":\"Oat drink\"}",
-        ),
-        (
-            "/bins",
-            "{\"key\":\"K-1\",\"bin\":\"A-01\",\"kind\":\"Store\"}",
-        ),
-        (
-            "/receipts",
-            "{\"delivery\":\"D-1\",\"line\":1,\"label\":\"\",\"bin\":\"A-01\",\"qty\":1.0}",
-        ),
-        (
-            "/receipts",
-            "{\"delivery\":\"D-1\",\"line\":1,\"label\":\"\",\"bin\":\"A-01\",\"qty\":1e2}",
-        ),
-        (
-            "/receipts",
-            "{\"delivery\":\"D-1\",\"line\":0,\"label\":\"\",\"bin\":\"A-01\",\"qty\":1}",
-        ),
-        (
-            "/receipts",
-            "{\"delivery\":\"D-1\",\"line\":1,\"label\":\"\",\"bin\":\"A-01\",\"qty\":\"1\"}",
-        ),
-        (
-            "/orders",
-            "{\"key\":\"K-1\",\"order\":\"S-1\",\"customer\":\"Corner Shop\",\"lines\":[]}",
-        ),
-        (
-            "/orders",
-            "{\"key\":\"K-1\",\"order\":\"S-1\",\"customer\":\"Corner Shop\",\"lines\":[{\"gtin\":\"09506000134352\",\"qty\":12,\"lot\":\"L1\"}]}",
-        ),
-    ] {
-        let was = posted(rt.alloc(), path, body.as_bytes())?;
-        assert_eq!(rt; was, Outcome::Bad(WireFault::Field), "{path} {body:?}");
+    for row in BROKEN_BODIES.as_slice() {
+        let was = posted(rt.alloc(), row.0, row.1.as_bytes())?;
+        assert_eq!(rt; was, Outcome::Bad(WireFault::Field), "{:?}", row.1);
     }
     Ok(())
 }
@@ -255,37 +354,33 @@ fn asks(
     Ok(())
 }
 
+static COMMANDS: [(&str, &str, &str, &str); 3] = [
+    (
+        "/items",
+        "{\"name\":\"Oat drink\",\"key\":\"K-1\",\"gtin\":\"09506000134352\"}",
+        "K/K-1",
+        "ITEM\n09506000134352\nOat drink",
+    ),
+    (
+        "/bins",
+        "{\"key\":\"K-2\", \"bin\":\"A-01\", \"kind\":\"STORE\"}",
+        "K/K-2",
+        "BIN\nA-01\nSTORE",
+    ),
+    (
+        "/orders",
+        "{\"key\":\"K-8\",\"order\":\"S-1\",\"customer\":\"Corner Shop\",\"lines\":[{\"gtin\":\"09506000134352\",\"qty\":12},{\"qty\":1,\"gtin\":\"04012345000016\"}]}",
+        "K/K-8",
+        "ORDER\nS-1\nCorner Shop\n09506000134352\n12\n04012345000016\n1",
+    ),
+];
+
 #[test]
 fn reads_commands(rt: HostRuntime) -> Result<(), Fail> {
-    for (path, body, key, command) in [
-        (
-            "/items",
-            "{\"name\":\"Oat drink\",\"key\":\"K-1\",\"gtin\":\"09506000134352\"}",
-            "K/K-1",
-            "ITEM\n09506000134352\nOat drink",
-        ),
-        (
-            "/bins",
-            "{\"key\":\"K-2\", \"bin\":\"A-01\", \"kind\":\"STORE\"}",
-            "K/K-2",
-            "BIN\nA-01\nSTORE",
-        ),
-        (
-            "/orders",
-            "{\"key\":\"K-8\",\"order\":\"S-1\",\"customer\":\"Corner Shop\",\"lines\":[{\"gtin\":\"09506000134352\",\"qty\":12},{\"qty\":1,\"gtin\":\"04012345000016\"}]}",
-            "K/K-8",
-            "ORDER\nS-1\nCorner Shop\n09506000134352\n12\n04012345000016\n1",
-        ),
-    ] {
-        let text = match post(rt.alloc(), path, body.as_bytes()) {
-            Ok(text) => text,
-            Err(_) => post(rt.alloc(), path, body.as_bytes())?,
-        };
-        if let Read::Request(ask) = read(rt.alloc(), text.as_slice()) {
-            asks(&rt, ask, rt.alloc(), key, command)?;
-        } else {
-            assert!(rt; false, "{path} {body:?}");
-        }
+    for row in COMMANDS.as_slice() {
+        let text = post(rt.alloc(), row.0, row.1.as_bytes())?;
+        let ask = ask_of(rt.alloc(), text.as_slice()).ok_or("a request")?;
+        asks(&rt, ask, rt.alloc(), row.2, row.3)?;
     }
     Ok(())
 }
@@ -302,74 +397,148 @@ fn asked(alloc: Global, posted: Posted, body: &[u8]) -> Result<Ask, WireFault> {
     }
 }
 
+static TO_COME: [(Posted, &str, &str); 11] = [
+    (
+        Posted::Moves,
+        "{\"key\":\"K-1\",\"gtin\":\"09506000134352\",\"lot\":\"L1\",\"from\":\"A-01\",\"to\":\"A-02\",\"qty\":3}",
+        "MOVE\n09506000134352\nL1\nA-01\nA-02\n3",
+    ),
+    (
+        Posted::Counts,
+        "{\"key\":\"K-1\",\"gtin\":\"09506000134352\",\"lot\":\"L1\",\"bin\":\"A-01\",\"qty\":0}",
+        "COUNT\n09506000134352\nL1\nA-01\n0",
+    ),
+    (
+        Posted::Adjustments,
+        "{\"key\":\"K-1\",\"gtin\":\"09506000134352\",\"lot\":\"L1\",\"bin\":\"A-01\",\"change\":-10}",
+        "ADJUST\n09506000134352\nL1\nA-01\n-10",
+    ),
+    (
+        Posted::Cancels,
+        "{\"key\":\"K-1\",\"order\":\"S-1\"}",
+        "CANCEL\nS-1",
+    ),
+    (
+        Posted::Shipments,
+        "{\"key\":\"K-1\",\"order\":\"S-1\"}",
+        "SHIP\nS-1",
+    ),
+    (
+        Posted::Picks,
+        "{\"key\":\"K-1\",\"order\":\"S-1\",\"gtin\":\"09506000134352\",\"lot\":\"L1\",\"bin\":\"A-01\",\"qty\":8}",
+        "PICK\nS-1\n09506000134352\nL1\nA-01\n8",
+    ),
+    (
+        Posted::Unpicks,
+        "{\"key\":\"K-1\",\"order\":\"S-1\",\"gtin\":\"09506000134352\",\"lot\":\"L1\",\"bin\":\"A-01\",\"qty\":8}",
+        "UNPICK\nS-1\n09506000134352\nL1\nA-01\n8",
+    ),
+    (
+        Posted::Holds,
+        "{\"key\":\"K-1\",\"gtin\":\"09506000134352\",\"lot\":\"L1\"}",
+        "HOLD\n09506000134352\nL1",
+    ),
+    (
+        Posted::Releases,
+        "{\"key\":\"K-1\",\"gtin\":\"09506000134352\",\"lot\":\"L1\"}",
+        "RELEASE\n09506000134352\nL1",
+    ),
+    (
+        Posted::Recalls,
+        "{\"key\":\"K-1\",\"gtin\":\"09506000134352\",\"lot\":\"L1\"}",
+        "RECALL\n09506000134352\nL1",
+    ),
+    (
+        Posted::Days,
+        "{\"key\":\"K-1\",\"day\":\"2026-05-05\"}",
+        "OPENDAY\n2026-05-05",
+    ),
+];
+
+static BROKEN_DAYS: [&str; 3] = [
+    "[]",
+    "{\"key\":\"K-1\",\"day\":\"2026-05-05\",\"more\":1}",
+    "{\"key\":\"K-1\",\"day\":\"1999-12-31\"}",
+];
+
 #[test]
 fn reads_bodies_to_come(rt: HostRuntime) -> Result<(), Fail> {
-    for (posted, body, command) in [
-        (
-            Posted::Moves,
-            "{\"key\":\"K-1\",\"gtin\":\"09506000134352\",\"lot\":\"L1\",\"from\":\"A-01\",\"to\":\"A-02\",\"qty\":3}",
-            "MOVE\n09506000134352\nL1\nA-01\nA-02\n3",
-        ),
-        (
-            Posted::Counts,
-            "{\"key\":\"K-1\",\"gtin\":\"09506000134352\",\"lot\":\"L1\",\"bin\":\"A-01\",\"qty\":0}",
-            "COUNT\n09506000134352\nL1\nA-01\n0",
-        ),
-        (
-            Posted::Adjustments,
-            "{\"key\":\"K-1\",\"gtin\":\"09506000134352\",\"lot\":\"L1\",\"bin\":\"A-01\",\"change\":-10}",
-            "ADJUST\n09506000134352\nL1\nA-01\n-10",
-        ),
-        (
-            Posted::Cancels,
-            "{\"key\":\"K-1\",\"order\":\"S-1\"}",
-            "CANCEL\nS-1",
-        ),
-        (
-            Posted::Shipments,
-            "{\"key\":\"K-1\",\"order\":\"S-1\"}",
-            "SHIP\nS-1",
-        ),
-        (
-            Posted::Picks,
-            "{\"key\":\"K-1\",\"order\":\"S-1\",\"gtin\":\"09506000134352\",\"lot\":\"L1\",\"bin\":\"A-01\",\"qty\":8}",
-            "PICK\nS-1\n09506000134352\nL1\nA-01\n8",
-        ),
-        (
-            Posted::Unpicks,
-            "{\"key\":\"K-1\",\"order\":\"S-1\",\"gtin\":\"09506000134352\",\"lot\":\"L1\",\"bin\":\"A-01\",\"qty\":8}",
-            "UNPICK\nS-1\n09506000134352\nL1\nA-01\n8",
-        ),
-        (
-            Posted::Holds,
-            "{\"key\":\"K-1\",\"gtin\":\"09506000134352\",\"lot\":\"L1\"}",
-            "HOLD\n09506000134352\nL1",
-        ),
-        (
-            Posted::Releases,
-            "{\"key\":\"K-1\",\"gtin\":\"09506000134352\",\"lot\":\"L1\"}",
-            "RELEASE\n09506000134352\nL1",
-        ),
-        (
-            Posted::Recalls,
-            "{\"key\":\"K-1\",\"gtin\":\"09506000134352\",\"lot\":\"L1\"}",
-            "RECALL\n09506000134352\nL1",
-        ),
-        (
-            Posted::Days,
-            "{\"key\":\"K-1\",\"day\":\"2026-05-05\"}",
-            "OPENDAY\n2026-05-05",
-        ),
-    ] {
-        let ask = asked(rt.alloc(), posted, body.as_bytes()).map_err(WireFault::code)?;
-        asks(&rt, ask, rt.alloc(), "K/K-1", command)?;
+    for row in TO_COME.as_slice() {
+        let ask = asked(rt.alloc(), row.0, row.1.as_bytes()).map_err(WireFault::code)?;
+        asks(&rt, ask, rt.alloc(), "K/K-1", row.2)?;
     }
-    let early = asked(
-        rt.alloc(),
-        Posted::Days,
-        b"{\"key\":\"K-1\",\"day\":\"1999-12-31\"}",
-    );
-    assert!(rt; early.is_err());
+    for body in BROKEN_DAYS.as_slice() {
+        let was = asked(rt.alloc(), Posted::Days, body.as_bytes());
+        assert!(rt; matches!(was, Err(WireFault::Field)), "{body:?}");
+    }
+    Ok(())
+}
+
+// What a path asks to be shown, read again where there was no memory.
+fn shown(alloc: Global, kind: Shown, path: &str) -> Result<Query, WireFault> {
+    match query_of(alloc, kind, path.as_bytes()) {
+        Err(WireFault::Memory) => query_of(alloc, kind, path.as_bytes()),
+        other => other,
+    }
+}
+
+// The name of a query, and its values.
+fn parts(query: &Query) -> (&'static str, &[u8], &[u8]) {
+    match query {
+        Query::Stock(gtin) => ("stock", gtin.as_bytes(), b"".as_slice()),
+        Query::Order(order) => ("order", order.as_bytes(), b"".as_slice()),
+        Query::PickList(order) => ("pick list", order.as_bytes(), b"".as_slice()),
+        Query::Shortages(gtin) => ("shortages", gtin.as_bytes(), b"".as_slice()),
+        Query::Card(lot) => ("card", lot.gtin.as_bytes(), lot.lot.as_bytes()),
+        Query::Notice(lot) => ("notice", lot.gtin.as_bytes(), lot.lot.as_bytes()),
+    }
+}
+
+static PATHS: [(Shown, &str, &str, &str, &str); 5] = [
+    (
+        Shown::Stock,
+        "/stock/0950600013435%32",
+        "stock",
+        "09506000134352",
+        "",
+    ),
+    (Shown::PickList, "/picklists/S-1", "pick list", "S-1", ""),
+    (
+        Shown::Shortages,
+        "/shortages/09506000134352",
+        "shortages",
+        "09506000134352",
+        "",
+    ),
+    (
+        Shown::Card,
+        "/cards/09506000134352/A%2FB",
+        "card",
+        "09506000134352",
+        "A/B",
+    ),
+    (
+        Shown::Notice,
+        "/notices/09506000134352/L2",
+        "notice",
+        "09506000134352",
+        "L2",
+    ),
+];
+
+#[test]
+fn reads_paths_to_come(rt: HostRuntime) -> Result<(), Fail> {
+    for row in PATHS.as_slice() {
+        let query = shown(rt.alloc(), row.0, row.1).map_err(WireFault::code)?;
+        let (name, first, second) = parts(&query);
+        assert_eq!(rt; name, row.2);
+        assert_eq!(rt; first, row.3.as_bytes());
+        assert_eq!(rt; second, row.4.as_bytes());
+    }
+    let off = shown(rt.alloc(), Shown::Stock, "/stock/09506000134353");
+    assert!(rt; matches!(off, Err(WireFault::Field)));
+    let broken = shown(rt.alloc(), Shown::Stock, "/stock/%zz");
+    assert!(rt; matches!(broken, Err(WireFault::Field)));
     Ok(())
 }
 
@@ -414,169 +583,5 @@ fn reads_a_path(rt: HostRuntime) -> Result<(), Fail> {
     } else {
         assert!(rt; false, "an order");
     }
-    Ok(())
-}
-
-#[test]
-fn writes_short_answers(rt: HostRuntime) -> Result<(), Fail> {
-    let opened = Short::new(b"{\"act\":6,\"returned\":0}").ok_or("a short text")?;
-    assert_eq!(rt;
-        write_short(StatusCode::OK, None, &opened).as_bytes(),
-        b"HTTP/1.1 200 OK\r\ncontent-type: application/json\r\ncontent-length: 22\r\nconnection: close\r\n\r\n{\"act\":6,\"returned\":0}".as_slice()
-    );
-    let fault = WireFault::Method(Method::Post);
-    assert_eq!(rt;
-        write_short(fault.status(), fault.allow(), &fault_text(fault)).as_bytes(),
-        b"HTTP/1.1 405 Method Not Allowed\r\ncontent-type: application/json\r\ncontent-length: 14\r\nconnection: close\r\nallow: POST\r\n\r\n{\"code\":\"W07\"}".as_slice()
-    );
-    for (status, line) in [
-        (StatusCode::BAD_REQUEST, "HTTP/1.1 400 Bad Request\r\n"),
-        (StatusCode::NOT_FOUND, "HTTP/1.1 404 Not Found\r\n"),
-        (StatusCode::CONFLICT, "HTTP/1.1 409 Conflict\r\n"),
-        (
-            StatusCode::PAYLOAD_TOO_LARGE,
-            "HTTP/1.1 413 Content Too Large\r\n",
-        ),
-        (
-            StatusCode::SERVICE_UNAVAILABLE,
-            "HTTP/1.1 503 Service Unavailable\r\n",
-        ),
-    ] {
-        let answer = write_short(status, None, &code_text("W91"));
-        assert!(rt; answer.as_bytes().starts_with(line.as_bytes()), "{line:?}");
-    }
-    Ok(())
-}
-
-#[test]
-fn writes_short_texts(rt: HostRuntime) {
-    for (text, want) in [
-        (fault_text(WireFault::Head), "{\"code\":\"W01\"}"),
-        (fault_text(WireFault::Memory), "{\"code\":\"W90\"}"),
-        (refusal_text(Refusal::OverReserved), "{\"code\":\"Q02\"}"),
-        (
-            refusal_row_text(Refusal::UnknownBin, 3),
-            "{\"code\":\"U02\",\"row\":3}",
-        ),
-        (
-            label_fault_text(LabelFault::CheckDigit),
-            "{\"cause\":\"L05\",\"code\":\"W05\"}",
-        ),
-        (cause_text("G01"), "{\"cause\":\"G01\",\"code\":\"W05\"}"),
-        (
-            cause_row_text("G02", 2),
-            "{\"cause\":\"G02\",\"code\":\"W05\",\"row\":2}",
-        ),
-        (tally_text(3, 0), "{\"accepted\":3,\"repeated\":0}"),
-    ] {
-        assert_eq!(rt; text.as_bytes(), want.as_bytes());
-    }
-    laws::has_one_reading();
-    laws::is_settled();
-    laws::command_answers_are_json();
-}
-
-fn reserved(alloc: Global, text: &[u8], expiry: &[u8], qty: u64) -> Option<ReservedLot> {
-    Some(ReservedLot {
-        lot: Lot::new(text).ok()?,
-        expiry: Day::parse(expiry)?,
-        qty,
-        bins: Listed::from_vec(vec![in alloc].ok()?),
-    })
-}
-
-// The bytes of an answer, written again where there was no memory.
-fn written(alloc: Global, answer: &Answer) -> Result<Vec<u8>, AllocError> {
-    match write_answer(alloc, answer) {
-        Ok(bytes) => Ok(bytes),
-        Err(_) => write_answer(alloc, answer),
-    }
-}
-
-fn an_order(alloc: Global) -> Option<OrderView> {
-    let first = reserved(alloc, b"L0", b"2026-05-10", 5)?;
-    let second = reserved(alloc, b"L2", b"2026-05-31", 7)?;
-    let line = LineView {
-        gtin: Gtin::new(b"09506000134352").ok()?,
-        ordered: 12,
-        reserved: Listed::from_vec(vec![in alloc; first, second].ok()?),
-        shipped: 0,
-        short: 0,
-        staged: Listed::from_vec(vec![in alloc].ok()?),
-    };
-    Some(OrderView {
-        customer: Title::new(b"Corner Shop")?,
-        lines: Listed::from_vec(vec![in alloc; line].ok()?),
-        order: Name::new(b"S-1")?,
-        state: OrderState::Open,
-    })
-}
-
-#[test]
-fn writes_an_order(rt: HostRuntime) -> Result<(), Fail> {
-    let shown = match an_order(rt.alloc()) {
-        Some(shown) => shown,
-        None => an_order(rt.alloc()).ok_or("memory")?,
-    };
-    let bytes = written(rt.alloc(), &Answer::Order(shown))?;
-    assert_eq!(rt;
-        bytes.as_slice(),
-        b"HTTP/1.1 200 OK\r\ncontent-type: application/json\r\ncontent-length: 193\r\nconnection: close\r\n\r\n{\"customer\":\"Corner Shop\",\"lines\":[{\"gtin\":\"09506000134352\",\"ordered\":12,\"reserved\":[{\"lot\":\"L0\",\"qty\":5},{\"lot\":\"L2\",\"qty\":7}],\"shipped\":0,\"short\":0,\"staged\":[]}],\"order\":\"S-1\",\"state\":\"OPEN\"}".as_slice()
-    );
-    Ok(())
-}
-
-// The stock of an item of which a lot is recalled.
-fn a_stock(alloc: Global) -> Option<StockView> {
-    let kept = BinUnits {
-        bin: Name::new(b"A-01")?,
-        qty: 3,
-    };
-    let returned = BinUnits {
-        bin: Name::new(b"RETURNS")?,
-        qty: 7,
-    };
-    let recalled = LotView {
-        bins: Listed::from_vec(vec![in alloc; kept, returned].ok()?),
-        expiry: Day::parse(b"2026-05-31")?,
-        lot: Lot::new(b"L2").ok()?,
-        reserved: 0,
-        staged: 0,
-        status: LotStatus::Recalled,
-    };
-    Some(StockView {
-        item: ItemRow {
-            gtin: Gtin::new(b"09506000134352").ok()?,
-            name: Title::new(b"Oat drink")?,
-        },
-        lots: Listed::from_vec(vec![in alloc; recalled].ok()?),
-    })
-}
-
-#[test]
-fn writes_stock(rt: HostRuntime) -> Result<(), Fail> {
-    let shown = match a_stock(rt.alloc()) {
-        Some(shown) => shown,
-        None => a_stock(rt.alloc()).ok_or("memory")?,
-    };
-    let bytes = written(rt.alloc(), &Answer::Stock(shown))?;
-    assert_eq!(rt;
-        bytes.as_slice(),
-        b"HTTP/1.1 200 OK\r\ncontent-type: application/json\r\ncontent-length: 190\r\nconnection: close\r\n\r\n{\"gtin\":\"09506000134352\",\"lots\":[{\"bins\":[{\"bin\":\"A-01\",\"qty\":3},{\"bin\":\"RETURNS\",\"qty\":7}],\"expiry\":\"2026-05-31\",\"lot\":\"L2\",\"reserved\":0,\"staged\":0,\"status\":\"RECALLED\"}],\"name\":\"Oat drink\"}".as_slice()
-    );
-    Ok(())
-}
-
-#[test]
-fn writes_a_text(rt: HostRuntime) -> Result<(), Fail> {
-    let text = match b"TOTAL 4\n".to_vec(rt.alloc()) {
-        Ok(text) => text,
-        Err(_) => b"TOTAL 4\n".to_vec(rt.alloc())?,
-    };
-    let bytes = written(rt.alloc(), &Answer::Text(Listed::from_vec(text)))?;
-    assert_eq!(rt;
-        bytes.as_slice(),
-        b"HTTP/1.1 200 OK\r\ncontent-type: text/plain\r\ncontent-length: 8\r\nconnection: close\r\n\r\nTOTAL 4\n".as_slice()
-    );
     Ok(())
 }
