@@ -1,8 +1,8 @@
 -- Rows with one more in the place of that under its key are the rows of the look-up that has it.
-use Rattle.std.proofs.Common.{◌≡◌, Bool, true, false, ◌&&◌, not, List, [], ◌∷◌, refl, ap, sym, ◌∙◌}
+use Rattle.std.proofs.Common.{◌≡◌, Bool, true, false, ◌&&◌, not, List, [], ◌∷◌, refl, ap, sym, subst, ◌∙◌}
 use Rattle.std.specs.Prelude.{◌||◌, if◌then◌else◌, Option, Some, None, find, filter}
 use Rattle.std.specs.List.{list_any}
-use Rattle.rules.specs.Slices.{AreRows, AreOwn, no_two}
+use Rattle.rules.specs.Slices.{AreRows, AreOwn, no_two, unless_put}
 use Rattle.rules.proofs.Tests.{and_both, not_true}
 
 -- fewer keys are needed, and more are allowed
@@ -83,3 +83,19 @@ module _ {K R : Type 0} (same : K → K → Bool) (same_is : (a b : K) → same 
     own = (refl, ap (λ b. if b then Some new else row (key new)) (itself (key new)), own_kept rows are.own);
     once = (λ i. not (none_left rows i) && once_kept (λ r. not (same (key new) (key r))) rows are.once i);
   }
+
+  all_kept : (rows : List R) → find (λ r. same (key new) (key r)) rows ≡ None → filter (λ r. not (same (key new) (key r))) rows ≡ rows
+  all_kept [] e = refl
+  all_kept (r ∷ rs) e = elim (same (key new) (key r)) as (λ b. (if b then Some r else find (λ r. same (key new) (key r)) rs) ≡ None → (if not b then r ∷ filter (λ r. not (same (key new) (key r))) rs else filter (λ r. not (same (key new) (key r))) rs) ≡ r ∷ rs) [
+    | true ↦ λ h. cc
+    | false ↦ λ h. ap (λ xs. r ∷ xs) (all_kept rs h)
+  ] e
+
+  -- where no row is under its key
+  pub rows_added : (rows : List R) → find (λ r. same (key new) (key r)) rows ≡ None → AreRows same key needed (λ k. true) row rows → AreRows same key needed (λ k. true) with_row (new ∷ rows)
+  rows_added rows none are = subst (λ xs. AreRows same key needed (λ k. true) with_row (new ∷ xs)) (all_kept rows none) (rows_after rows are)
+
+-- a row that is put is the one that is found
+pub put_one : {R : Type 0} (found : Bool) (new : R) (old : Option R) → (if found then Some new else old) ≡ unless_put (if found then Some new else None) false old
+put_one true new old = refl
+put_one false new old = refl

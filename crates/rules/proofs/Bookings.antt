@@ -166,7 +166,7 @@ total_over : (f : Booking → ℕ) (bs cs : List Booking) → total f (bs ++ cs)
 total_over f [] cs = omega arith
 total_over f (b ∷ bs) cs = omega (arith, total_over f bs cs)
 
-total_flat : (f : Booking → ℕ) (g : List ℕ) (os : List Placed) → total f (flat_map (lines_of_item g) os) ≡ total (λ p. total f (lines_of_item g p)) os
+pub total_flat : (f : Booking → ℕ) (g : List ℕ) (os : List Placed) → total f (flat_map (lines_of_item g) os) ≡ total (λ p. total f (lines_of_item g p)) os
 total_flat f g [] = refl
 total_flat f g (p ∷ os) = omega (arith, total_over f (lines_of_item g p) (flat_map (lines_of_item g) os), total_flat f g os)
 

@@ -1,5 +1,5 @@
 -- What has to be shown of a command's conditions and change, and that a decision then is the machine's.
-use Rattle.std.proofs.Common.{◌≡◌, ℕ, ◌+◌, ◌<◌, ◌≤◌, min, true, false, ◌++◌, List, [], ◌∷◌, refl, ap, sym, subst, ◌∙◌, arith}
+use Rattle.std.proofs.Common.{◌≡◌, ℕ, ◌+◌, ◌<◌, false, ◌++◌, List, [], ◌∷◌, refl, ap, sym, subst, ◌∙◌, arith}
 use Rattle.std.specs.Prelude.{ℤ, Option, Some, None, Result, Ok, Err, IsTrue, IfOk, codes, decimal, length, nat_le}
 use Rattle.std.proofs.lemmas.Bool.Decides.{nat_tests}
 use Rattle.commands.specs.Sound.{is_sound, is_sound_key}
@@ -20,7 +20,6 @@ use Rattle.rules.specs.Decided.{IsMade}
 use Rattle.rules.specs.declared.slice.Slice.{Slice}
 use Rattle.rules.specs.declared.slice.Change.{Change}
 use Rattle.rules.specs.declared.slice.RuleFault.{RuleFault}
-use Rattle.rules.specs.declared.slice.RuleFault.TheVariants.{Refused, NoMemory, Foreign}
 
 -- the change is that of the accepted command
 pub record IsChange (first : ℤ) (act : Act) (acts : List Act) (change : Change) : Type 0 where

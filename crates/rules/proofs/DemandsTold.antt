@@ -1,6 +1,6 @@
 -- The order rows, lines and staged rows of an item tell its demands.
-use Rattle.std.proofs.Common.{◌≡◌, ℕ, ◌+◌, ◌-◌, ◌≤◌, ◌<◌, min, Bool, true, false, ◌&&◌, not, List, [], ◌∷◌, refl, ap, sym, subst, ◌∙◌, arith, eq-eqb}
-use Rattle.std.specs.Prelude.{◌==◌, ◌||◌, nat_lt, if◌then◌else◌, ℤ, Option, Some, None, find, filter, map, option_map}
+use Rattle.std.proofs.Common.{◌≡◌, ℕ, ◌+◌, ◌-◌, ◌≤◌, ◌<◌, Bool, true, false, ◌&&◌, not, List, [], ◌∷◌, refl, ap, sym, subst, ◌∙◌, arith, eq-eqb}
+use Rattle.std.specs.Prelude.{◌==◌, nat_lt, if◌then◌else◌, ℤ, Option, Some, None, find, filter, map, option_map}
 use Rattle.std.specs.List.{list_any}
 use Rattle.std.proofs.lemmas.Bool.{eqb-true}
 use borrow.Author.Tests.{ltb-false, ltb-true, lt-ltb}
@@ -8,29 +8,27 @@ use Rattle.label.specs.Values.{same_text}
 use Rattle.label.specs.declared.lot.LotId.{LotId}
 use Rattle.commands.specs.Lists.{total}
 use Rattle.commands.specs.declared.command.OrderLine.{OrderLine}
-use Rattle.commands.specs.declared.rows.OrderState.{OrderState}
 use Rattle.commands.specs.declared.rows.OrderState.TheVariants.{Open, Done, Cancelled}
 use Rattle.commands.specs.declared.rows.OrderRow.{OrderRow}
 use Rattle.commands.specs.declared.rows.LineRow.{LineRow}
 use Rattle.commands.specs.declared.rows.StagedRow.{StagedRow}
-use Rattle.commands.specs.declared.limits.TheConstants.{UNITS_MAX}
 use Rattle.plan.specs.Lists.{total as plan_total}
 use Rattle.plan.specs.declared.Demand.{Demand}
 use Rattle.plan.proofs.Nothing.{wanted}
 use Rattle.rules.specs.Acts.{Act}
-use Rattle.rules.specs.Postings.{Posting, Place, Supplier, InBin, Stage, Shipped, WriteOff, balance, is_stage, is_lot, of_item, in_house}
-use Rattle.rules.specs.Standing.{Placed, orders, order_named, lines_of, lines_placed, has_line, is_cancelled}
+use Rattle.rules.specs.Postings.{Posting, Place, Supplier, InBin, Stage, Shipped, WriteOff, is_stage, of_item, in_house}
+use Rattle.rules.specs.Standing.{Placed, orders, order_named, lines_placed, has_line, is_cancelled}
 use Rattle.rules.specs.Ledger.{postings}
-use Rattle.rules.specs.Planning.{Booking, booking_of, lines_of_item, need, demands, item_postings, staged, shipped, shipped_of, is_open, is_open_state, is_shipped_in_full, order_state, units_in_house}
+use Rattle.rules.specs.Planning.{Booking, booking_of, lines_of_item, need, demands, item_postings, staged, shipped, shipped_of, is_open, is_open_state, is_shipped_in_full, order_state}
 use Rattle.rules.specs.Once.{IsHistory}
 use Rattle.rules.specs.Tables.{order_row, line_row, staged_row}
-use Rattle.rules.specs.Slices.{AreRows, AreOwn, OrderItem, OrderLot, no_two, same_line, same_share}
+use Rattle.rules.specs.Slices.{AreRows, AreOwn, no_two, same_line, same_share}
 use Rattle.rules.specs.Verdict.{names_item_twice}
-use Rattle.rules.specs.Seen.{CAP, capped}
+use Rattle.rules.specs.Seen.{capped}
 use Rattle.rules.specs.Plans.{staged_seen, line_need, need_seen, demand_seen, is_earlier, demands_seen}
-use Rattle.rules.proofs.Tests.{and_both, or_none, not_true, same_text_is, same_text_refl, same_text_turned, some_one}
+use Rattle.rules.proofs.Tests.{and_both, or_none, not_true, same_text_is, same_text_refl, same_text_turned}
 use Rattle.rules.proofs.Apart.{AllFound}
-use Rattle.rules.proofs.Cells.{Cells, Inner, Legal, holds, holds_split}
+use Rattle.rules.proofs.Cells.{Cells, holds, holds_split}
 use Rattle.rules.proofs.ItemBalances.{balance-of_item}
 use Rattle.rules.proofs.LegalHistories.{legal_history}
 use Rattle.rules.proofs.Orders.{AllSingle, NoNeed, same_order, orders_apart, orders_found, orders_single, closed_needs_none, act_names_order}
@@ -63,11 +61,11 @@ no_need_wants acts ps n (b ∷ bs) h = omega (arith, nothing (n == b.act) (need 
     nothing false q e = refl
 
 -- a single line of the item
-abbrev listed : Option OrderLine → List OrderLine
+abbrev pub listed : Option OrderLine → List OrderLine
 listed None = []
 listed (Some l) = l ∷ []
 
-line_found : (g : List ℕ) (ls : List OrderLine) → names_item_twice ls ≡ false → filter (λ l. same_text g l.gtin) ls ≡ listed (find (λ l. same_text g l.gtin) ls)
+pub line_found : (g : List ℕ) (ls : List OrderLine) → names_item_twice ls ≡ false → filter (λ l. same_text g l.gtin) ls ≡ listed (find (λ l. same_text g l.gtin) ls)
 line_found g [] e = refl
 line_found g (l ∷ ls) e =
     let two = or_none (list_any (λ m. same_text l.gtin m.gtin) ls) (names_item_twice ls) e in
@@ -82,7 +80,7 @@ no_line g (l ∷ ls) e =
     let two = or_none (same_text g l.gtin) (list_any (λ l. same_text g l.gtin) ls) e in
     ap (λ b. if b then l ∷ filter (λ l. same_text g l.gtin) ls else filter (λ l. same_text g l.gtin) ls) two.0 ∙ no_line g ls two.1
 
-single_of : (all ps : List Placed) → AllSingle all → (o : List ℕ) (p : Placed) → find (λ q. same_text o q.order) all ≡ Some p → names_item_twice p.lines ≡ false
+pub single_of : (all ps : List Placed) → AllSingle all → (o : List ℕ) (p : Placed) → find (λ q. same_text o q.order) all ≡ Some p → names_item_twice p.lines ≡ false
 single_of [] ps h o p e = cc
 single_of (q ∷ qs) ps h o p e = elim (same_text o q.order) as (λ b. (if b then Some q else find (λ q. same_text o q.order) qs) ≡ Some p → names_item_twice p.lines ≡ false) [
   | true ↦ λ f. let own : q ≡ p = cc in ap (λ (x : Placed). names_item_twice x.lines) (sym own) ∙ h.0
@@ -169,7 +167,7 @@ module _ (first : ℤ) (acts : List Act) (history : IsHistory first acts) (g : L
       let house = holds_split (postings first acts) legal cells (λ p l. in_house p && of_item g l) (record { supplier = λ m. refl; write_off = λ m. refl }) (record { supplier = λ m. refl; write_off = λ m. refl }) (in_the_house o) in
       omega (arith, all, told, house, units_within_limit first acts history g)
 
-  line_told : (p : Placed) → order_named acts p.order ≡ Some p → is_open first acts p.order ≡ true
+  pub line_told : (p : Placed) → order_named acts p.order ≡ Some p → is_open first acts p.order ≡ true
       → find (λ l. same_text p.order l.order && same_text g l.gtin) line_rows ≡ option_map (λ l. record { order = p.order; gtin = g; ordered = l.qty; shipped = shipped_of first acts p.order g }) (find (λ l. same_text g l.gtin) p.lines)
   line_told p named e =
       tells.lines.found (p.order, g) (λ i. (e i) && same_text_refl g i)
@@ -210,7 +208,7 @@ module _ (first : ℤ) (acts : List Act) (history : IsHistory first acts) (g : L
   rows_told n [] h = refl
   rows_told n (r ∷ rs) h = λ i. row_told n r h.1 i + rows_told n rs h.2 i
 
-  either : (a b : Bool) → a && b ≡ false → a ≡ true → b ≡ false
+  pub either : (a b : Bool) → a && b ≡ false → a ≡ true → b ≡ false
   either true b e f = e
   either false b e f = cc
 

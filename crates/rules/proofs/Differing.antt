@@ -1,6 +1,6 @@
 -- The rows that differ: what is put and dropped of an item's reservations.
 use Rattle.std.proofs.Common.{◌≡◌, ℕ, Bool, true, false, ◌&&◌, not, List, [], ◌∷◌, refl, ap, sym, ◌∙◌}
-use Rattle.std.specs.Prelude.{◌==◌, ◌||◌, if◌then◌else◌, Option, Some, None, find, filter, is_some}
+use Rattle.std.specs.Prelude.{◌||◌, if◌then◌else◌, Option, Some, None, find, filter, is_some}
 use Rattle.std.specs.List.{list_any}
 use Rattle.label.specs.Values.{same_text}
 use Rattle.label.specs.declared.lot.LotId.{LotId}
@@ -8,9 +8,9 @@ use Rattle.commands.specs.declared.rows.ReservedRow.{ReservedRow}
 use Rattle.rules.specs.Postings.{is_lot, of_item}
 use Rattle.rules.specs.Slices.{no_two, differs}
 use Rattle.rules.specs.Plans.{is_share_of, has_qty, rows_to_put, rows_to_drop}
-use Rattle.rules.proofs.Tests.{and_both, not_true, same_text_is, same_text_turned, is_lot_is, is_lot_turned}
-use Rattle.rules.proofs.Apart.{any_found}
-use Rattle.rules.proofs.TableSteps.{IsNamed, share_row}
+use Rattle.rules.proofs.Tests.{and_both, not_true, same_text_is, is_lot_is}
+use Rattle.rules.proofs.Apart.{any_found, none_in_filter}
+use Rattle.rules.proofs.TableSteps.{IsNamed, share_row, nothing_named}
 
 module _ (o : List ℕ) (l : LotId) where
   abbrev test : ReservedRow → Bool
@@ -103,3 +103,36 @@ module _ (o : List ℕ) (l : LotId) where
     -- the item's reservation is named where it changes
     pub named_of_item : IsNamed o l p q (rows_to_put olds news) (rows_to_drop g olds news)
     named_of_item = record { put = put_by (share_row o l q) (share_row o l p) after before; dropped = drop_by (share_row o l q) (share_row o l p) after before }
+
+  -- a reservation of another item, which stays as it was
+  module _ (g : List ℕ) (p q : ℕ) (olds news : List ReservedRow) (other : of_item g l ≡ false) (same : q ≡ p) (after : find test news ≡ None) where
+    none_dropped : (rows : List ReservedRow) → list_any test (rows_to_drop g rows news) ≡ false
+    none_dropped [] = refl
+    none_dropped (r ∷ rs) = elim (of_item g r.lot) as (λ b. of_item g r.lot ≡ b → list_any test (if b && not (list_any (is_share_of r) news) then r ∷ rows_to_drop g rs news else rows_to_drop g rs news) ≡ false) [
+      | true ↦ λ e. elim (not (list_any (is_share_of r) news)) as (λ c. list_any test (if c then r ∷ rows_to_drop g rs news else rows_to_drop g rs news) ≡ false) [
+        | true ↦ (λ i. elsewhere r e i || none_dropped rs i)
+        | false ↦ none_dropped rs
+      ]
+      | false ↦ λ e. none_dropped rs
+    ] refl
+      where
+        elsewhere : (r : ReservedRow) → of_item g r.lot ≡ true → test r ≡ false
+        elsewhere r e = elim (test r) as (λ b. test r ≡ b → b ≡ false) [
+          | true ↦ λ t. let f : true ≡ false = sym e ∙ ap (λ (m : LotId). of_item g m) (sym (is_lot_is l r.lot (and_both (same_text o r.order) (is_lot l r.lot) t).1)) ∙ other in cc
+          | false ↦ λ t. refl
+        ] refl
+
+    pub named_elsewhere : IsNamed o l p q (rows_to_put olds news) (rows_to_drop g olds news)
+    named_elsewhere =
+        let h = nothing_named o l p q same in
+        record { put = kept_none _ news (none_any news after) ∙ h.put; dropped = none_dropped olds ∙ h.dropped }
+
+-- no row is put twice
+pub put_once : (olds news : List ReservedRow) → no_two is_share_of news ≡ true → no_two is_share_of (rows_to_put olds news) ≡ true
+put_once olds [] e = refl
+put_once olds (n ∷ ns) e =
+    let two = and_both (not (list_any (is_share_of n) ns)) (no_two is_share_of ns) e in
+    elim (not (has_qty (find (is_share_of n) olds) n.qty)) as (λ b. no_two is_share_of (if b then n ∷ rows_to_put olds ns else rows_to_put olds ns) ≡ true) [
+      | true ↦ (λ i. not (none_in_filter (is_share_of n) (λ x. not (has_qty (find (is_share_of x) olds) x.qty)) ns (not_true _ two.0) i) && put_once olds ns two.1 i)
+      | false ↦ put_once olds ns two.1
+    ]

@@ -50,5 +50,22 @@ pub mod Telling
 pub mod Ordering
 pub mod Cutting
 pub mod Naming
+pub mod LotUnits
+pub mod SameKeys
+pub mod ReceiveTells
+pub mod ReceiveDecided
 pub mod Walking
 pub mod PlaceRows
+mod ExampleOrderDecisions
+pub mod OpenUnits
+pub mod OrderJudged
+pub mod NewOrders
+pub mod OrderStep
+pub mod AddedRows
+pub mod SliceSupplies
+pub mod OrderTells
+pub mod OrderShares
+pub mod OrderReply
+pub mod OrdersDecided
+pub mod Quantities
+pub mod Gathering

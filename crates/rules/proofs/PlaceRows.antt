@@ -1,6 +1,6 @@
 -- Rows of bins, or of stages, add up to what their cells hold.
-use Rattle.std.proofs.Common.{◌≡◌, ℕ, ◌+◌, Bool, true, false, ◌&&◌, not, List, [], ◌∷◌, refl, ap, sym, subst, ◌∙◌}
-use Rattle.std.specs.Prelude.{◌==◌, ◌||◌, if◌then◌else◌, find, Option, Some, None, ℤ}
+use Rattle.std.proofs.Common.{◌≡◌, ℕ, Bool, true, false, ◌&&◌, not, List, [], ◌∷◌, refl, ap, sym, subst, ◌∙◌}
+use Rattle.std.specs.Prelude.{◌==◌, if◌then◌else◌, find, Some, None, ℤ}
 use Rattle.std.specs.List.{list_any}
 use Rattle.label.specs.Values.{same_text}
 use Rattle.label.specs.declared.lot.LotId.{LotId}
@@ -8,7 +8,7 @@ use Rattle.commands.specs.Lists.{total}
 use Rattle.commands.specs.declared.rows.StockRow.{StockRow}
 use Rattle.commands.specs.declared.rows.StagedRow.{StagedRow}
 use Rattle.rules.specs.Acts.{Act}
-use Rattle.rules.specs.Postings.{Place, Supplier, InBin, Stage, Shipped, WriteOff, Posting, is_lot, of_item}
+use Rattle.rules.specs.Postings.{Place, Supplier, InBin, Stage, Shipped, WriteOff, Posting, is_lot}
 use Rattle.rules.specs.Ledger.{postings}
 use Rattle.rules.specs.Planning.{in_bin, staged_of_lot}
 use Rattle.rules.specs.Tables.{if_any, stock_row, staged_row}

@@ -1,6 +1,6 @@
 -- In the plan of an item no booking has two rows of one lot, and no row is of nothing.
-use Rattle.std.proofs.Common.{◌≡◌, ℕ, ◌+◌, ◌≤◌, ◌<◌, Bool, true, false, ◌&&◌, not, List, [], ◌∷◌, ◌++◌, refl, ap, sym, ◌∙◌, arith, eq-eqb}
-use Rattle.std.specs.Prelude.{◌==◌, ◌||◌, nat_lt, if◌then◌else◌, ℤ, filter, map}
+use Rattle.std.proofs.Common.{◌≡◌, ℕ, ◌+◌, ◌<◌, Bool, true, false, ◌&&◌, not, List, [], ◌∷◌, ◌++◌, refl, ap, sym, ◌∙◌, arith, eq-eqb}
+use Rattle.std.specs.Prelude.{◌==◌, ◌||◌, if◌then◌else◌, ℤ, filter, map}
 use Rattle.std.specs.List.{list_any}
 use Rattle.std.proofs.lemmas.Bool.{eqb-true}
 use borrow.Author.Tests.{ltb-true}
@@ -8,13 +8,13 @@ use Rattle.commands.specs.Lists.{placed, in_order}
 use Rattle.plan.specs.declared.Demand.{Demand}
 use Rattle.plan.specs.declared.Supply.{Supply}
 use Rattle.plan.specs.declared.Row.{Row}
-use Rattle.plan.specs.Overlap.{Stretch, overlap, row_of, rows_of_demand, rows_of_stretches, demands_laid, supplies_laid, plan_rows}
+use Rattle.plan.specs.Overlap.{Stretch, overlap, row_of, rows_of_demand, rows_of_stretches, demands_laid, supplies_laid}
 use Rattle.rules.specs.Acts.{Act}
 use Rattle.rules.specs.Standing.{KnownLot, lots, lots_of, is_shippable}
 use Rattle.rules.specs.Planning.{demands, supplies, supply_of, goes_before, shippable_lots, item_postings, plan}
 use Rattle.rules.specs.Once.{IsHistory}
 use Rattle.rules.specs.Slices.{no_two}
-use Rattle.rules.proofs.Tests.{and_both, or_none, not_true}
+use Rattle.rules.proofs.Tests.{or_none}
 use Rattle.rules.proofs.Falling.{AllBelow, AreFalling}
 use Rattle.rules.proofs.Lots.{lots_numbered}
 use Rattle.rules.proofs.Bookings.{RisingDemands, AfterDemands, demands_rise}

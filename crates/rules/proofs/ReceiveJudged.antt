@@ -1,6 +1,6 @@
 -- A receipt judged by its slice is judged as by the acts.
 use Rattle.std.proofs.Common.{◌≡◌, ℕ, ◌+◌, ◌≤◌, ◌<◌, Bool, true, false, ◌&&◌, not, List, [], ◌∷◌, refl, ap, sym, ◌∙◌, arith}
-use Rattle.std.specs.Prelude.{◌||◌, nat_lt, nat_le, if◌then◌else◌, ℤ}
+use Rattle.std.specs.Prelude.{nat_lt, nat_le, ℤ}
 use Rattle.label.specs.Values.{same_text}
 use Rattle.label.specs.declared.lot.LotId.{LotId}
 use Rattle.commands.specs.declared.limits.TheConstants.{UNITS_MAX, ACTS_MAX}
@@ -17,13 +17,13 @@ use Rattle.rules.specs.Planning.{units_in_house}
 use Rattle.rules.specs.Once.{IsHistory}
 use Rattle.rules.specs.Tables.{tables_of, stock_row, staged_row}
 use Rattle.rules.specs.Touched.{is_touched}
-use Rattle.rules.specs.Slices.{IsSlice, AreRows, LotBin, OrderLot, same_cell, same_share, names_order}
+use Rattle.rules.specs.Slices.{IsSlice, AreRows, LotBin, OrderLot, same_cell, same_share}
 use Rattle.rules.specs.Seen.{capped, is_over, stock_units, staged_units}
 use Rattle.rules.specs.Decided.{receive_seen}
 use Rattle.rules.specs.Verdict.{first_refusal, verdict}
 use Rattle.rules.specs.declared.slice.Slice.{Slice}
 use Rattle.rules.proofs.Tests.{same_text_is, same_text_refl}
-use Rattle.rules.proofs.Cells.{Cells, without, holds, holds_split}
+use Rattle.rules.proofs.Cells.{without, holds, holds_split}
 use Rattle.rules.proofs.LegalHistories.{legal_history}
 use Rattle.rules.proofs.PlaceRows.{bin_cells, stage_cells, stock_holds, staged_holds}
 use Rattle.rules.proofs.Decisions.{acts_seen, day_seen}
@@ -32,10 +32,6 @@ use Rattle.rules.proofs.SliceTells.{item_told, bin_told, expiry_told, recall_tol
 module _ (first : ℤ) (acts : List Act) (act : Act) (s : Slice) (slice : IsSlice first act acts (tables_of first acts) s) (history : IsHistory first acts) (g : List ℕ) (touched : is_touched first act acts g ≡ true) where
   touched_item : (l : LotId) → of_item g l ≡ true → is_touched first act acts l.gtin ≡ true
   touched_item l e = ap (λ (x : List ℕ). is_touched first act acts x) (sym (same_text_is g l.gtin e)) ∙ touched
-
-  or_later : (a b : Bool) → b ≡ true → a || b ≡ true
-  or_later true b e = refl
-  or_later false b e = e
 
   own_gone : (a : Bool) → a && not a ≡ false
   own_gone true = refl

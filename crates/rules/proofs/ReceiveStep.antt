@@ -18,7 +18,7 @@ use Rattle.rules.specs.Acts.{Act, next_number}
 use Rattle.rules.specs.Postings.{Supplier, InBin, is_lot, is_stage, is_shipped_to, is_shipment, of_item}
 use Rattle.rules.specs.Ledger.{postings}
 use Rattle.rules.specs.Standing.{KnownLot, lots, lot_known, is_held, order_named, lines_of, is_cancelled, today}
-use Rattle.rules.specs.Planning.{in_bin, shipped_of}
+use Rattle.rules.specs.Planning.{in_bin, shipped_of, is_open, is_open_state}
 use Rattle.rules.specs.Cards.{cards, card_lines, delivery_note, lot_units_in_house}
 use Rattle.rules.specs.Tables.{tables_of, meta_row, if_any, stock_row, lot_row, order_row, line_row, staged_row, shipline_row, card_row, reserved_row}
 use Rattle.rules.specs.Slices.{applied, tables_but_repeats, changed, unless_put}
@@ -100,6 +100,9 @@ module _ (first : ℤ) (acts : List Act) (key : Key) (r : Receipt) (text : List 
 
   shipped_same : (o g : List ℕ) → shipped_of first acts o g ≡ shipped_of first after o g
   shipped_same o g = sym (balance-elsewhere_of g (is_shipped_to o) (of_item g) (next_number acts) r.lot Supplier (InBin r.bin) r.qty (postings first acts) refl refl)
+
+  pub open_at : (o : List ℕ) → is_open first acts o ≡ is_open first after o
+  open_at o = λ i. is_open_state (if is_cancelled acts o then Cancelled else (if list_all (λ l. shipped_same o l.gtin i == l.qty) (lines_of acts o) then Done else Open))
 
   pub order_at : (o : List ℕ) → order_row first acts o ≡ order_row first after o
   order_at o = λ i. option_map (λ p. record {

@@ -3,7 +3,7 @@ use Rattle.std.proofs.Common.{◌≡◌, ℕ, ◌+◌, Bool, true, false, ◌&&�
 use Rattle.std.specs.Prelude.{if◌then◌else◌}
 use Rattle.label.specs.declared.lot.LotId.{LotId}
 use Rattle.commands.specs.Lists.{total}
-use Rattle.rules.specs.Postings.{is_lot, Place, Supplier, InBin, Stage, Shipped, WriteOff, Posting}
+use Rattle.rules.specs.Postings.{Place, Supplier, InBin, Stage, Shipped, WriteOff, Posting}
 use Rattle.rules.proofs.Tests.{and_both, not_true, same_text_refl, is_lot_refl}
 use Rattle.rules.proofs.Cells.{Cells, into, without, IsPart, Legal, Inner, inner_without, holds, holds_split, bin_cell, stage_cell, bin_part, stage_part, inner_bin, inner_stage}
 

@@ -1,19 +1,17 @@
 -- New items and bins are decided as the machine decides them.
 use Rattle.std.proofs.Common.{◌≡◌, ℕ, Bool, true, false, List, [], ◌∷◌, refl, ap, ◌∙◌}
-use Rattle.std.specs.Prelude.{◌||◌, if◌then◌else◌, nat_le, ℤ, Option, Some, None, Result, find, option_map, length}
+use Rattle.std.specs.Prelude.{◌||◌, if◌then◌else◌, nat_le, ℤ, Option, Some, None, Result, find, option_map}
 use Rattle.label.specs.Values.{same_text}
-use Rattle.label.specs.declared.lot.LotId.{LotId}
 use Rattle.commands.specs.declared.limits.TheConstants.{ITEMS_MAX, BINS_MAX, ACTS_MAX}
 use Rattle.commands.specs.declared.key.Key.{Key}
 use Rattle.commands.specs.declared.refusal.Refusal.TheVariants.{ActsFull, ItemExists, BinExists}
 use Rattle.commands.specs.declared.command.NewItem.{NewItem}
 use Rattle.commands.specs.declared.command.NewBin.{NewBin}
-use Rattle.commands.specs.declared.command.Command.{Command}
 use Rattle.commands.specs.declared.command.Command.TheVariants.{Item, Bin}
 use Rattle.commands.specs.declared.rows.ItemRow.{ItemRow}
 use Rattle.commands.specs.declared.rows.BinRow.{BinRow}
-use Rattle.rules.specs.Acts.{Act, gathered}
-use Rattle.rules.specs.Standing.{items, bins, bin_in, returns_bin}
+use Rattle.rules.specs.Acts.{Act}
+use Rattle.rules.specs.Standing.{items, bins}
 use Rattle.rules.specs.Verdict.{first_refusal, verdict}
 use Rattle.rules.specs.Planning.{reserved}
 use Rattle.rules.specs.Once.{IsHistory}

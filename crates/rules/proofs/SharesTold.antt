@@ -1,5 +1,5 @@
 -- The plan's rows by names are the reserved rows of the item.
-use Rattle.std.proofs.Common.{◌≡◌, ℕ, ◌+◌, ◌≤◌, Bool, true, false, ◌&&◌, not, List, [], ◌∷◌, refl, ap, sym, ◌∙◌, arith, eq-eqb, inl, inr}
+use Rattle.std.proofs.Common.{◌≡◌, ℕ, ◌≤◌, Bool, true, false, ◌&&◌, not, List, [], ◌∷◌, refl, ap, sym, ◌∙◌, arith, eq-eqb, inl, inr}
 use Rattle.std.specs.Prelude.{◌==◌, ◌||◌, if◌then◌else◌, ℤ, Option, Some, None, find, filter, map, option_map, ◌⊎◌}
 use Rattle.std.specs.List.{list_any, cons_option}
 use Rattle.std.proofs.lemmas.Bool.{eqb-true}
@@ -10,22 +10,26 @@ use Rattle.commands.specs.declared.rows.OrderRow.{OrderRow}
 use Rattle.commands.specs.declared.rows.LotRow.{LotRow}
 use Rattle.commands.specs.declared.rows.ReservedRow.{ReservedRow}
 use Rattle.plan.specs.declared.Row.{Row}
-use Rattle.plan.specs.Overlap.{reserved_in}
+use Rattle.plan.specs.Overlap.{reserved_in, reserved_on}
+use Rattle.plan.specs.declared.Supply.{Supply}
 use Rattle.rules.specs.Acts.{Act}
 use Rattle.rules.specs.Postings.{is_lot, of_item}
-use Rattle.rules.specs.Standing.{Placed, KnownLot, order_named, lot_known, lines_placed, orders, lots, has_line, is_held}
-use Rattle.rules.specs.Planning.{plan, reserved, reserved_of, is_open, order_state, item_postings, need, booking_of}
+use Rattle.rules.specs.Standing.{Placed, KnownLot, order_named, lot_known, lots_of, lines_placed, orders, lots, has_line, is_held, is_shippable}
+use Rattle.rules.specs.Planning.{plan, reserved, reserved_of, is_open, order_state, item_postings, need, booking_of, demands, supplies, supply_of, shippable_lots, goes_before, store_units}
 use Rattle.rules.specs.Once.{IsHistory}
 use Rattle.rules.specs.Tables.{order_row, lot_row}
 use Rattle.rules.specs.Slices.{AreRows, AreOwn, no_two}
 use Rattle.rules.specs.Plans.{named_row, named_rows, is_share_of}
 use Rattle.rules.proofs.Tests.{and_both, or_none, not_true, same_text_is, same_text_refl, is_lot_is, is_lot_refl, some_one}
 use Rattle.rules.proofs.Orders.{act_names_order, found_order}
-use Rattle.rules.proofs.Lots.{receipt_names_lot, found_lot}
+use Rattle.rules.proofs.Apart.{AllFound}
+use Rattle.rules.proofs.Lots.{same_known, lots_found, receipt_names_lot, found_lot}
+use Rattle.rules.proofs.Ordering.{total_ordered, total_filter, total_map}
+use Rattle.rules.proofs.Reservations.{there_under, reserved_within_supply}
 use Rattle.rules.proofs.Needs.{reserved_within_needs}
 use Rattle.rules.proofs.ClosedOrders.{closed_orders_are_empty}
 use Rattle.rules.proofs.Telling.{some_of_mapped}
-use Rattle.rules.proofs.DemandsTold.{no_line}
+use Rattle.rules.proofs.DemandsTold.{no_line, same_total}
 use Rattle.rules.proofs.TableSteps.{share_row}
 use Rattle.rules.proofs.PlanRows.{same_pair, AllSome, plan_once, plan_some}
 
@@ -280,3 +284,64 @@ module _ (first : ℤ) (acts : List Act) (history : IsHistory first acts) (g : L
 
     pub shares_told : find (λ (r : ReservedRow). same_text o r.order && is_lot l r.lot) (named_rows order_rows lot_rows (plan first acts g)) ≡ share_row o l (reserved first acts o l)
     shares_told = told (order_named acts o) (lot_known acts l) refl refl ∙ ap (share_row o l) (sym by_plan)
+
+  -- a lot of another item has no share
+  module _ (o : List ℕ) (l : LotId) (other : of_item g l ≡ false) where
+    module _ (k : KnownLot) (known : lot_known acts l ≡ Some k) where
+      abbrev avail_of : KnownLot → ℕ
+      avail_of j = if j.came == k.came then store_units acts (item_postings first acts g) j.lot else 0
+
+      abbrev counted : KnownLot → ℕ
+      counted j = if of_item g j.lot then (if is_shippable first acts j then avail_of j else 0) else 0
+
+      not_counted : (j : KnownLot) → lot_known acts j.lot ≡ Some j → counted j ≡ 0
+      not_counted j e = elim (of_item g j.lot) as (λ b. of_item g j.lot ≡ b → (if b then (if is_shippable first acts j then avail_of j else 0) else 0) ≡ 0) [
+        | true ↦ λ t. nothing_if (is_shippable first acts j) (avail_of j) (elim (j.came == k.came) as (λ b. (j.came == k.came) ≡ b → (if b then store_units acts (item_postings first acts g) j.lot else 0) ≡ 0) [
+          | true ↦ λ f.
+              let own : j.lot ≡ l = receipt_names_lot acts j.lot l j k e known (eqb-true j.came k.came f) in
+              let no : true ≡ false = sym t ∙ ap (λ (m : LotId). of_item g m) own ∙ other in
+              cc
+          | false ↦ λ f. refl
+        ] refl)
+        | false ↦ λ t. refl
+      ] refl
+        where
+          nothing_if : (b : Bool) (q : ℕ) → q ≡ 0 → (if b then q else 0) ≡ 0
+          nothing_if true q e = e
+          nothing_if false q e = refl
+
+      none_counted : (ks : List KnownLot) → AllFound same_known (lots acts) ks → total counted ks ≡ 0
+      none_counted [] h = refl
+      none_counted (j ∷ js) h = omega (arith, not_counted j h.0, none_counted js h.1)
+
+      none_there : there_under k.came (supplies first acts g) ≡ 0
+      none_there =
+          same_total (λ (x : Supply). if x.lot == k.came then x.avail else 0) (supplies first acts g)
+          ∙ total_map (λ (x : Supply). if x.lot == k.came then x.avail else 0) (supply_of acts (item_postings first acts g)) (shippable_lots first acts g)
+          ∙ total_ordered goes_before avail_of (filter (is_shippable first acts) (lots_of acts g))
+          ∙ total_filter avail_of (is_shippable first acts) (lots_of acts g)
+          ∙ total_filter (λ j. if is_shippable first acts j then avail_of j else 0) (λ j. of_item g j.lot) (lots acts)
+          ∙ none_counted (lots acts) (lots_found acts)
+
+      in_lot : (b : ℕ) (rows : List Row) → reserved_in b k.came rows ≤ reserved_on k.came rows
+      in_lot b [] = omega arith
+      in_lot b (r ∷ rs) = omega (arith, fewer (r.booking == b) (r.lot == k.came) r.qty, in_lot b rs)
+        where
+          fewer : (x y : Bool) (q : ℕ) → (if x && y then q else 0) ≤ (if y then q else 0)
+          fewer true y q = omega arith
+          fewer false true q = omega arith
+          fewer false false q = omega arith
+
+      none_reserved : (b : ℕ) → reserved_in b k.came (plan first acts g) ≡ 0
+      none_reserved b = omega (arith, in_lot b (plan first acts g), reserved_within_supply k.came (demands first acts g) (supplies first acts g), none_there)
+
+    none_told : (x : Option Placed) (y : Option KnownLot) → order_named acts o ≡ x → lot_known acts l ≡ y
+        → find (λ (r : ReservedRow). same_text o r.order && is_lot l r.lot) (named_rows order_rows lot_rows (plan first acts g)) ≡ None
+    none_told None y e f = all_fail first acts order_rows lot_rows order_are.own lot_are.own o l (λ r n h t. let a = passing first acts order_rows lot_rows order_are.own lot_are.own o l r n h t in cc) (plan first acts g)
+    none_told (Some p) None e f = all_fail first acts order_rows lot_rows order_are.own lot_are.own o l (λ r n h t. let a = passing first acts order_rows lot_rows order_are.own lot_are.own o l r n h t in let b = a.3.1 in cc) (plan first acts g)
+    none_told (Some p) (Some k) e f =
+        told_by first acts order_rows lot_rows order_are.own lot_are.own o l p k e f (plan first acts g) (plan_some first acts history g) (plan_once first acts history g) (inr (none_reserved k f p.act))
+        ∙ ap (share_row o l) (none_reserved k f p.act)
+
+    pub shares_elsewhere : find (λ (r : ReservedRow). same_text o r.order && is_lot l r.lot) (named_rows order_rows lot_rows (plan first acts g)) ≡ None
+    shares_elsewhere = none_told (order_named acts o) (lot_known acts l) refl refl

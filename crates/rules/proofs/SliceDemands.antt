@@ -1,35 +1,30 @@
 -- The rows of a slice tell the demands of each item that the command touches.
-use Rattle.std.proofs.Common.{◌≡◌, ℕ, ◌+◌, ◌≤◌, Bool, true, false, ◌&&◌, not, List, [], ◌∷◌, refl, ap, sym, ◌∙◌}
-use Rattle.std.specs.Prelude.{◌||◌, if◌then◌else◌, ℤ, Option, Some, None, find}
+use Rattle.std.proofs.Common.{◌≡◌, ℕ, true, false, ◌&&◌, List, [], ◌∷◌, refl, ap, sym, ◌∙◌}
+use Rattle.std.specs.Prelude.{◌||◌, ℤ}
 use Rattle.std.specs.List.{list_any}
 use Rattle.label.specs.Values.{same_text}
-use Rattle.label.specs.declared.lot.LotId.{LotId}
 use Rattle.commands.specs.declared.command.OrderLine.{OrderLine}
 use Rattle.commands.specs.declared.rows.OrderRow.{OrderRow}
 use Rattle.commands.specs.declared.rows.LineRow.{LineRow}
 use Rattle.commands.specs.declared.rows.StagedRow.{StagedRow}
 use Rattle.rules.specs.Acts.{Act}
-use Rattle.rules.specs.Postings.{is_lot, of_item}
+use Rattle.rules.specs.Postings.{of_item}
 use Rattle.rules.specs.Standing.{has_line, lines_of}
 use Rattle.rules.specs.Planning.{is_open}
 use Rattle.rules.specs.Tables.{tables_of, order_row, line_row, staged_row}
 use Rattle.rules.specs.Touched.{is_touched}
 use Rattle.rules.specs.Slices.{IsSlice, AreRows, OrderItem, OrderLot, has_touched_line, names_order, same_line, same_share}
 use Rattle.rules.specs.declared.slice.Slice.{Slice}
-use Rattle.rules.proofs.Tests.{and_both, same_text_is}
+use Rattle.rules.proofs.Tests.{and_both, or_later, same_text_is}
 use Rattle.rules.proofs.AfterRows.{loosened}
 use Rattle.rules.proofs.DemandsTold.{TellsDemands}
-
-or_later : (a b : Bool) → b ≡ true → a || b ≡ true
-or_later true b e = refl
-or_later false b e = e
 
 -- The order rows, lines and staged rows of any slice tell the demands of each item that the command touches
 module _ (first : ℤ) (acts : List Act) (act : Act) (s : Slice) (slice : IsSlice first act acts (tables_of first acts) s) (g : List ℕ) (touched : is_touched first act acts g ≡ true) where
   touched_item : (h : List ℕ) → same_text g h ≡ true → is_touched first act acts h ≡ true
   touched_item h e = ap (λ (x : List ℕ). is_touched first act acts x) (sym (same_text_is g h e)) ∙ touched
 
-  line_touched : (ls : List OrderLine) → list_any (λ l. same_text g l.gtin) ls ≡ true → list_any (λ l. is_touched first act acts l.gtin) ls ≡ true
+  pub line_touched : (ls : List OrderLine) → list_any (λ l. same_text g l.gtin) ls ≡ true → list_any (λ l. is_touched first act acts l.gtin) ls ≡ true
   line_touched [] e = e
   line_touched (l ∷ ls) e = elim (same_text g l.gtin) as (λ b. same_text g l.gtin ≡ b → b || list_any (λ l. same_text g l.gtin) ls ≡ true → is_touched first act acts l.gtin || list_any (λ l. is_touched first act acts l.gtin) ls ≡ true) [
     | true ↦ λ t f. ap (λ b. b || list_any (λ l. is_touched first act acts l.gtin) ls) (touched_item l.gtin t)

@@ -1,6 +1,6 @@
 -- What the slice of any command tells of the items, bins and lots that it touches.
-use Rattle.std.proofs.Common.{◌≡◌, ℕ, Bool, true, false, List, refl, ap, ◌∙◌}
-use Rattle.std.specs.Prelude.{◌||◌, find, Option, Some, None, option_map, is_some, ℤ}
+use Rattle.std.proofs.Common.{◌≡◌, ℕ, true, List, refl, ap, ◌∙◌}
+use Rattle.std.specs.Prelude.{find, Option, Some, None, option_map, is_some, ℤ}
 use Rattle.label.specs.Values.{same_text}
 use Rattle.label.specs.declared.lot.LotId.{LotId}
 use Rattle.rules.specs.Acts.{Act}
@@ -12,14 +12,11 @@ use Rattle.rules.specs.Slices.{IsSlice, names_bin}
 use Rattle.rules.specs.Seen.{sees_item, sees_bin, lot_seen, sees_recall, expires_otherwise_than}
 use Rattle.rules.specs.Verdict.{expires_otherwise}
 use Rattle.rules.specs.declared.slice.Slice.{Slice}
+use Rattle.rules.proofs.Tests.{or_first}
 
 pub some_mapped : {A B : Type 0} (f : A → B) (x : Option A) → is_some (option_map f x) ≡ is_some x
 some_mapped f None = refl
 some_mapped f (Some a) = refl
-
-or_first : (a b : Bool) → a ≡ true → a || b ≡ true
-or_first true b e = refl
-or_first false b e = let f : false ≡ true = e in cc
 
 module _ (first : ℤ) (acts : List Act) (act : Act) (s : Slice) (slice : IsSlice first act acts (tables_of first acts) s) where
   found_item : (g : List ℕ) → is_touched first act acts g ≡ true → find (λ r. same_text g r.gtin) s.rows.items ≡ item_row acts g
@@ -47,7 +44,7 @@ module _ (first : ℤ) (acts : List Act) (act : Act) (s : Slice) (slice : IsSlic
   pub expiry_told : (l : LotId) (day : ℤ) → is_touched first act acts l.gtin ≡ true → expires_otherwise_than (lot_seen s l) day ≡ expires_otherwise (lot_known acts l) day
   expiry_told l day t = ap (λ k. expires_otherwise_than k day) (found_lot l t) ∙ expiry_same (lot_known acts l) day
 
-  found_recall : (l : LotId) → is_touched first act acts l.gtin ≡ true → find (λ r. is_lot l r.lot) s.rows.recalls ≡ recall_row acts l
+  pub found_recall : (l : LotId) → is_touched first act acts l.gtin ≡ true → find (λ r. is_lot l r.lot) s.rows.recalls ≡ recall_row acts l
   unfolding tables_of
   found_recall l t = slice.recalls.found l t
 

@@ -1,5 +1,5 @@
 -- The lot rows, stock rows, bins and recalls of an item tell its supplies.
-use Rattle.std.proofs.Common.{◌≡◌, ℕ, ◌+◌, ◌≤◌, ◌<◌, min, Bool, true, false, ◌&&◌, not, List, [], ◌∷◌, refl, ap, sym, subst, ◌∙◌, arith, eq-eqb}
+use Rattle.std.proofs.Common.{◌≡◌, ℕ, ◌+◌, ◌≤◌, ◌<◌, Bool, true, false, ◌&&◌, not, List, [], ◌∷◌, refl, ap, sym, subst, ◌∙◌, arith}
 use Rattle.std.specs.Prelude.{◌==◌, ◌||◌, nat_lt, if◌then◌else◌, ℤ, int_lt, Option, Some, None, find, filter, map, option_map, is_some}
 use Rattle.std.specs.List.{list_any}
 use Rattle.std.proofs.lemmas.Bool.{eqb-true}
@@ -7,7 +7,7 @@ use Rattle.std.proofs.lemmas.Int.{ints}
 use borrow.Author.Tests.{ltb-false, ltb-true, lt-ltb, le-ltb}
 use Rattle.label.specs.Values.{same_text}
 use Rattle.label.specs.declared.lot.LotId.{LotId}
-use Rattle.commands.specs.Lists.{total, in_order}
+use Rattle.commands.specs.Lists.{total}
 use Rattle.commands.specs.declared.command.NewBin.{NewBin}
 use Rattle.commands.specs.declared.rows.BinRow.{BinRow}
 use Rattle.commands.specs.declared.rows.LotRow.{LotRow}
@@ -20,22 +20,22 @@ use Rattle.plan.specs.declared.Supply.{Supply}
 use Rattle.plan.proofs.Nothing.{offered}
 use Rattle.plan.proofs.Ranked.{IsOrder, AllAfter, IsRising, same_non_zero, non_zero}
 use Rattle.rules.specs.Acts.{Act}
-use Rattle.rules.specs.Postings.{Posting, Place, Supplier, InBin, Stage, Shipped, WriteOff, balance, is_lot, of_item, in_house}
-use Rattle.rules.specs.Standing.{KnownLot, lots, lots_of, lot_known, bin_named, is_store_bin, is_store_row, is_held, is_recalled, recalling, is_expired, today, is_shippable}
+use Rattle.rules.specs.Postings.{Posting, Place, Supplier, InBin, Stage, Shipped, WriteOff, is_lot, of_item, in_house}
+use Rattle.rules.specs.Standing.{KnownLot, lots, lots_of, lot_known, bin_named, is_store_bin, is_store_row, is_held, recalling, is_expired, today, is_shippable}
 use Rattle.rules.specs.Ledger.{postings}
-use Rattle.rules.specs.Planning.{item_postings, in_store, store_units, goes_before, shippable_lots, supply_of, supplies, units_in_house}
+use Rattle.rules.specs.Planning.{item_postings, in_store, store_units, goes_before, shippable_lots, supplies}
 use Rattle.rules.specs.Once.{IsHistory}
 use Rattle.rules.specs.Tables.{lot_row, recall_row, stock_row, bin_row}
-use Rattle.rules.specs.Slices.{AreRows, AreOwn, LotBin, no_two, same_cell}
-use Rattle.rules.specs.Seen.{CAP, capped}
+use Rattle.rules.specs.Slices.{AreRows, AreOwn, no_two, same_cell}
+use Rattle.rules.specs.Seen.{capped}
 use Rattle.rules.specs.Plans.{is_store_found, store_seen, is_usable, goes_first, usable_lots, supply_seen, supplies_seen}
-use Rattle.rules.proofs.Tests.{and_both, or_none, not_true, same_text_is, same_text_refl, is_lot_is, is_lot_refl, is_lot_turned, is_lot_item}
-use Rattle.rules.proofs.Apart.{AreApart, AllFound}
+use Rattle.rules.proofs.Tests.{and_both, or_none, not_true, same_text_refl, is_lot_is, is_lot_refl, is_lot_turned}
+use Rattle.rules.proofs.Apart.{AllFound}
 use Rattle.rules.proofs.Falling.{AllBelow, AreFalling}
-use Rattle.rules.proofs.Cells.{Cells, Inner, Legal, holds, holds_split}
+use Rattle.rules.proofs.Cells.{Cells, holds, holds_split}
 use Rattle.rules.proofs.ItemBalances.{balance-of_item}
 use Rattle.rules.proofs.LegalHistories.{legal_history}
-use Rattle.rules.proofs.Lots.{same_known, lots_apart, lots_found, lots_numbered, found_lot, receipt_names_lot}
+use Rattle.rules.proofs.Lots.{same_known, lots_apart, lots_found, lots_numbered, receipt_names_lot}
 use Rattle.rules.proofs.UnitsLimit.{units_within_limit}
 use Rattle.rules.proofs.PlaceRows.{stock_holds, bin_cells}
 use Rattle.rules.proofs.Telling.{rows_tell, some_of_mapped, totals_swapped, none_picked}

@@ -18,6 +18,22 @@ pub or_none : (a b : Bool) → a || b ≡ false → (a ≡ false) × (b ≡ fals
 or_none true b e = let f : true ≡ false = e in cc
 or_none false b e = (refl, e)
 
+pub or_first : (a b : Bool) → a ≡ true → a || b ≡ true
+or_first true b e = refl
+or_first false b e = let f : false ≡ true = e in cc
+
+pub or_later : (a b : Bool) → b ≡ true → a || b ≡ true
+or_later true b e = refl
+or_later false b e = e
+
+pub or_false : (a : Bool) → a || false ≡ a
+or_false true = refl
+or_false false = refl
+
+pub and_false : (a : Bool) → a && false ≡ false
+and_false true = refl
+and_false false = refl
+
 pub not_false : (a : Bool) → not a ≡ false → a ≡ true
 not_false true e = refl
 not_false false e = let f : true ≡ false = e in cc

@@ -7,7 +7,7 @@ use Rattle.commands.specs.declared.key.Key.{Key}
 use Rattle.commands.specs.declared.command.Command.{Command}
 use Rattle.commands.specs.declared.command.Command.TheVariants.{Item, Bin, Receive, Move, Count, Adjust, Order, Cancel, Pick, Unpick, Ship, Hold, Release, Recall, OpenDay}
 use Rattle.rules.specs.Acts.{Act, next_number}
-use Rattle.rules.specs.Postings.{Place, Supplier, InBin, Stage, Shipped, WriteOff, Posting, balance, is_bin, is_stage, is_lot, of_item, in_house}
+use Rattle.rules.specs.Postings.{Place, Supplier, InBin, Stage, Shipped, WriteOff, Posting, balance, is_stage, is_lot, of_item, in_house}
 use Rattle.rules.specs.Standing.{KnownLot, Placed, RETURNS, lots, orders, shipments_so_far}
 use Rattle.rules.specs.Ledger.{posting, correction, written, cleared, shipped_off, lot_returned, returned, made_unshippable, posted, postings}
 use Rattle.rules.specs.Planning.{in_bin, units_in_house}

@@ -17,7 +17,7 @@ use Rattle.commands.specs.declared.rows.ReservedRow.{ReservedRow}
 use Rattle.commands.specs.declared.command.NewItem.{NewItem}
 use Rattle.commands.specs.declared.command.NewBin.{NewBin}
 use Rattle.commands.specs.declared.command.Command.{Command}
-use Rattle.commands.specs.declared.command.Command.TheVariants.{Item, Bin}
+use Rattle.commands.specs.declared.command.Command.TheVariants.{Item, Bin, Receive, Order}
 use Rattle.rules.specs.Verdict.{Judgement}
 use Rattle.rules.specs.Postings.{is_lot}
 use Rattle.rules.specs.Standing.{is_expired}
@@ -27,12 +27,14 @@ use Rattle.rules.specs.Plans.{demands_seen, supplies_seen, plan_within, named_ro
 use Rattle.rules.specs.declared.slice.Slice.{Slice}
 use Rattle.rules.specs.declared.slice.Change.{Change}
 use Rattle.rules.specs.declared.slice.RuleFault.{RuleFault}
-use Rattle.rules.specs.declared.slice.RuleFault.TheVariants.{Refused, NoMemory, Foreign}
+use Rattle.rules.specs.declared.slice.RuleFault.TheVariants.{Refused, NoMemory}
 
 -- the commands that are decided so far
 abbrev pub is_decided : Command → Bool
 is_decided (Item i) = true
 is_decided (Bin b) = true
+is_decided (Receive r) = true
+is_decided (Order o) = true
 is_decided _ = false
 
 -- a refusal is told; otherwise the change is made, but for want of memory

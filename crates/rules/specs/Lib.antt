@@ -17,3 +17,5 @@ pub mod Slices
 pub mod Seen
 pub mod Plans
 pub mod Decided
+pub mod DecidedOrder
+pub mod Booked

@@ -1,5 +1,5 @@
 -- What a decision reads of the rows of its slice, as the code reads it: look-ups and sums over lists.
-use Rattle.std.specs.Prelude.{ℕ, ◌+◌, min, Bool, false, not, ◌&&◌, nat_lt, if◌then◌else◌, List, [], ◌∷◌, ◌++◌, codes, decimal, find, Option, Some, None, is_some, ℤ, int_le}
+use Rattle.std.specs.Prelude.{ℕ, ◌+◌, min, Bool, false, not, ◌&&◌, nat_lt, if◌then◌else◌, List, [], ◌++◌, codes, decimal, find, Option, Some, None, is_some, ℤ, int_le}
 use Rattle.label.specs.Values.{same_text}
 use Rattle.label.specs.declared.lot.LotId.{LotId}
 use Rattle.commands.specs.Lists.{total}

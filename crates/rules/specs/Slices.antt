@@ -4,12 +4,12 @@ use Rattle.std.specs.List.{list_any}
 use Rattle.label.specs.Values.{same_text}
 use Rattle.label.specs.declared.lot.LotId.{LotId}
 use Rattle.commands.specs.declared.command.Command.{Command}
-use Rattle.commands.specs.declared.command.Command.TheVariants.{Item, Bin, Receive, Move, Count, Adjust, Order, Cancel, Pick, Unpick, Ship, Hold, Release, Recall, OpenDay}
+use Rattle.commands.specs.declared.command.Command.TheVariants.{Bin, Receive, Move, Count, Adjust, Order, Cancel, Pick, Unpick, Ship}
 use Rattle.commands.specs.declared.rows.ReservedRow.{ReservedRow}
 use Rattle.rules.specs.Acts.{Act}
-use Rattle.rules.specs.Postings.{is_lot, of_item}
-use Rattle.rules.specs.Standing.{items, bins, has_line, lines_of, lots_of, orders, is_shippable}
-use Rattle.rules.specs.Planning.{staged_of_lot, is_open}
+use Rattle.rules.specs.Postings.{is_lot}
+use Rattle.rules.specs.Standing.{items, bins, lines_of}
+use Rattle.rules.specs.Planning.{is_open}
 use Rattle.rules.specs.Touched.{is_touched}
 use Rattle.rules.specs.Tables.{Tables, tables_of, repeat_row}
 use Rattle.rules.specs.Verdict.{verdict}

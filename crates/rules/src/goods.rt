@@ -6,15 +6,20 @@ ghost use Rattle.rules.specs.Postings.{is_lot};
 ghost use Rattle.rules.specs.Standing.{is_expired as is_expired_lem};
 ghost use Rattle.rules.specs.Verdict.{first_refusal};
 ghost use Rattle.rules.specs.Seen.{capped, units_seen, lot_seen as lot_seen_lem, sees_recall as sees_recall_lem, expires_otherwise_than, is_over as is_over_lem};
-ghost use Rattle.rules.specs.Decided.{receive_seen, stock_after as stock_after_lem, stock_qty};
+ghost use Rattle.rules.specs.Decided.{receive_seen, receive_changes, receive_shares as receive_shares_lem, receive_card as receive_card_lem, stock_after as stock_after_lem, stock_rows_after as stock_rows_after_lem, stock_qty, lots_put as lots_put_lem, lots_if_new as lots_if_new_lem, new_lot_row as new_lot_row_lem, lot_rows_after as lot_rows_after_lem};
 
-use crate::Slice;
+use crate::cards::{delivery_note, lot_units};
+use crate::changing::{empty, meta_next, number_seen, one, plain_reply};
+use crate::demands::demands_seen;
 use crate::judging::first_of;
 use crate::looking::{find_lot, find_recall, find_stock, is_same_lot};
+use crate::plans::{planned_rows, rows_to_drop, rows_to_put};
 use crate::seeing::{sees_bin, sees_item};
 use crate::summing::{sum_of_staged, sum_of_stock};
+use crate::supplies::supplies_seen;
+use crate::{Change, Rows, Slice};
 use commands::limits::{ACTS_MAX, UNITS_MAX};
-use commands::{LotRow, Receipt, Refusal, StockRow};
+use commands::{CardKind, CardRow, Key, Listed, LotRow, Receipt, Refusal, ReservedRow, StockRow};
 use label::{Day, Gtin, LotId};
 use std::alloc::{AllocError, Global};
 
@@ -83,6 +88,138 @@ fn units_in_house(slice: &Slice, gtin: &Gtin) -> u64
     let stock = sum_of_stock(slice.rows.stock.as_slice(), gtin);
     let staged = sum_of_staged(slice.rows.staged.as_slice(), gtin);
     stock.saturating_add(staged)
+}
+
+/// What a receipt changes.
+pub fn change_receive(
+    alloc: Global,
+    slice: &Slice,
+    key: &Key,
+    r: &Receipt,
+) -> Result<Change, AllocError>
+    ensures { IfOk result (λ change. change ≡ receive_changes slice.now key.now r.now) }
+{
+    let stock = stock_rows_after(alloc, slice, r)?;
+    let shares = receive_shares(alloc, slice, r, stock.as_slice())?;
+    let reserved = slice.rows.reserved.as_slice();
+    let put = Rows {
+        lots: Listed::from_vec(lots_put(alloc, slice, r)?),
+        stock: one(alloc, stock_after(slice, r))?,
+        reserved: Listed::from_vec(rows_to_put(alloc, reserved, shares.as_slice())?),
+        cards: one(alloc, receive_card(slice, key, r, stock.as_slice()))?,
+        ..empty(alloc)
+    };
+    let gone = rows_to_drop(alloc, &r.lot.gtin, reserved, shares.as_slice())?;
+    let dropped = Rows {
+        reserved: Listed::from_vec(gone),
+        ..empty(alloc)
+    };
+    Ok(Change {
+        meta: meta_next(slice),
+        put,
+        dropped,
+        text: plain_reply(slice),
+    })
+}
+
+// The card line of a receipt, after which these are the stock rows.
+fn receive_card(slice: &Slice, key: &Key, r: &Receipt, stock: &[StockRow]) -> CardRow
+    ensures { stock.now ≡ stock_rows_after_lem slice.now r.now → result ≡ receive_card_lem slice.now key.now r.now }
+{
+    CardRow {
+        lot: r.lot,
+        act: number_seen(slice),
+        day: slice.meta.day,
+        kind: CardKind::Receipt,
+        note: delivery_note(key),
+        qty: i64::from(r.qty.units()),
+        rest: lot_units(&r.lot, stock, slice.rows.staged.as_slice()),
+    }
+}
+
+// The reserved rows of the item after a receipt, after which these are the stock rows.
+fn receive_shares(
+    alloc: Global,
+    slice: &Slice,
+    r: &Receipt,
+    stock: &[StockRow],
+) -> Result<Vec<ReservedRow>, AllocError>
+    ensures { IfOk result (λ v. stock.now ≡ stock_rows_after_lem slice.now r.now → v.items ≡ receive_shares_lem slice.now r.now) }
+{
+    let gtin = &r.lot.gtin;
+    let rows = &slice.rows;
+    let orders = rows.orders.as_slice();
+    let lots = lot_rows_after(alloc, slice, r)?;
+    let demands = demands_seen(
+        alloc,
+        gtin,
+        rows.lines.as_slice(),
+        rows.staged.as_slice(),
+        orders,
+    )?;
+    let supplies = supplies_seen(
+        alloc,
+        gtin,
+        slice.meta.day,
+        rows.recalls.as_slice(),
+        rows.bins.as_slice(),
+        stock,
+        lots.as_slice(),
+    )?;
+    planned_rows(
+        alloc,
+        orders,
+        lots.as_slice(),
+        demands.as_slice(),
+        supplies.as_slice(),
+    )
+}
+
+// The rows of lots with the lot that is received, if it is new.
+fn lot_rows_after(alloc: Global, slice: &Slice, r: &Receipt) -> Result<Vec<LotRow>, AllocError>
+    ensures { IfOk result (λ v. v.items ≡ lot_rows_after_lem slice.now r.now) }
+{
+    let mut rows = lots_put(alloc, slice, r)?;
+    rows.extend_from_slice(slice.rows.lots.as_slice())?;
+    Ok(rows)
+}
+
+fn lots_put(alloc: Global, slice: &Slice, r: &Receipt) -> Result<Vec<LotRow>, AllocError>
+    ensures { IfOk result (λ v. v.items ≡ lots_put_lem slice.now r.now) }
+{
+    let known = lot_seen(slice, &r.lot);
+    lots_if_new(alloc, known, new_lot_row(slice, r))
+}
+
+fn lots_if_new(alloc: Global, known: Option<LotRow>, row: LotRow) -> Result<Vec<LotRow>, AllocError>
+    ensures { IfOk result (λ v. v.items ≡ lots_if_new_lem known row) }
+{
+    let mut rows = Vec::new(alloc);
+    match known {
+        None => {
+            rows.push(row)?;
+            Ok(rows)
+        }
+        Some(_) => Ok(rows),
+    }
+}
+
+fn new_lot_row(slice: &Slice, r: &Receipt) -> LotRow
+    ensures { result ≡ new_lot_row_lem slice.now r.now }
+{
+    LotRow {
+        lot: r.lot,
+        expiry: r.expiry,
+        came: number_seen(slice),
+        held: false,
+    }
+}
+
+// The stock rows after a receipt.
+fn stock_rows_after(alloc: Global, slice: &Slice, r: &Receipt) -> Result<Vec<StockRow>, AllocError>
+    ensures { IfOk result (λ v. v.items ≡ stock_rows_after_lem slice.now r.now) }
+{
+    with_stock(alloc, slice.rows.stock.as_slice(), stock_after(slice, r))
 }
 
 fn stock_after(slice: &Slice, r: &Receipt) -> StockRow

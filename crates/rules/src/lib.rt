@@ -1,7 +1,10 @@
 //! The rules of the warehouse: which commands are accepted, and which rows they change.
 #![tactic(auto)]
 
+mod booking;
+mod cards;
 mod changing;
+mod customer_orders;
 mod deciding;
 mod demands;
 mod goods;
@@ -18,5 +21,11 @@ mod supplies;
 pub use deciding::decide;
 pub use slice::{Change, Rows, RuleFault, Slice};
 
+#[cfg(test)]
+mod listing;
+#[cfg(test)]
+mod samples;
+#[cfg(test)]
+mod setup_tests;
 #[cfg(test)]
 mod worked;

@@ -4,7 +4,7 @@ ghost use Rattle.std.specs.Prelude.{◌≡◌, ◌&&◌, find};
 ghost use Rattle.label.specs.Values.{same_text};
 ghost use Rattle.rules.specs.Postings.{is_lot};
 
-use commands::{BinRow, ItemRow, LotRow, RecallRow, StockRow};
+use commands::{BinRow, ItemRow, LotRow, OrderRow, RecallRow, StockRow};
 use label::{Gtin, LotId, Name};
 
 /// Whether the two are one lot.
@@ -68,6 +68,18 @@ pub fn find_stock(rows: &[StockRow], lot: &LotId, bin: &Name) -> Option<StockRow
 {
     for row in rows {
         if is_same_lot(lot, &row.lot) && *bin == row.bin {
+            return Some(*row);
+        }
+    }
+    None
+}
+
+/// The row of an order.
+pub fn find_order(rows: &[OrderRow], order: &Name) -> Option<OrderRow>
+    ensures { result ≡ find (λ r. same_text order.now r.order) rows.now }
+{
+    for row in rows {
+        if *order == row.order {
             return Some(*row);
         }
     }

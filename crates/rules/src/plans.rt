@@ -25,6 +25,20 @@ pub fn plan_within(
     whole(alloc, wanted.as_slice(), offered.as_slice())
 }
 
+/// What the plan of demands over supplies reserves, by the names of orders and lots.
+pub fn planned_rows(
+    alloc: Global,
+    orders: &[OrderRow],
+    lots: &[LotRow],
+    demands: &[Demand],
+    supplies: &[Supply],
+) -> Result<Vec<ReservedRow>, AllocError>
+    ensures { IfOk result (λ v. v.items ≡ named_rows_lem orders.now lots.now (plan_within_lem demands.now supplies.now)) }
+{
+    let plan = plan_within(alloc, demands, supplies)?;
+    named_rows(alloc, orders, lots, plan.rows())
+}
+
 /// The plan's rows by the names of orders and lots.
 pub fn named_rows(
     alloc: Global,
