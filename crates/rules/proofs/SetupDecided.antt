@@ -57,7 +57,7 @@ module _ (first : ℤ) (acts : List Act) (key : Key) (s : Slice) where
       item_judged : first_refusal (item_seen s i) ≡ verdict first acts (Item i)
       item_judged = λ j. first_refusal (
           (nat_le ACTS_MAX (acts_seen first acts item_act s slice j), ActsFull)
-          ∷ (item_told first acts item_act s slice i.gtin (same_text_refl i.gtin) j || nat_le ITEMS_MAX (slice.items_counted j), ItemExists) ∷ [])
+          ∷ (item_told first acts item_act s slice i.gtin (same_text_refl i.gtin) j || nat_le ITEMS_MAX (slice.items_counted refl j), ItemExists) ∷ [])
 
       item_changed : verdict first acts (Item i) ≡ None → IsChange first item_act acts (item_changes s i)
       item_changed ok =
@@ -96,7 +96,7 @@ module _ (first : ℤ) (acts : List Act) (key : Key) (s : Slice) where
       bin_judged : first_refusal (bin_seen s b) ≡ verdict first acts (Bin b)
       bin_judged = λ j. first_refusal (
           (nat_le ACTS_MAX (acts_seen first acts bin_act s slice j), ActsFull)
-          ∷ (bin_told first acts bin_act s slice b.bin (same_text_refl b.bin) j || nat_le BINS_MAX (slice.bins_counted j), BinExists) ∷ [])
+          ∷ (bin_told first acts bin_act s slice b.bin (same_text_refl b.bin) j || nat_le BINS_MAX (slice.bins_counted refl j), BinExists) ∷ [])
 
       bin_changed : verdict first acts (Bin b) ≡ None → IsHistory first (bin_act ∷ acts) → IsChange first bin_act acts (bin_changes s b)
       bin_changed ok next =

@@ -4,7 +4,7 @@ use Rattle.std.specs.List.{list_any}
 use Rattle.label.specs.Values.{same_text}
 use Rattle.label.specs.declared.lot.LotId.{LotId}
 use Rattle.commands.specs.declared.command.Command.{Command}
-use Rattle.commands.specs.declared.command.Command.TheVariants.{Bin, Receive, Move, Count, Adjust, Order, Cancel, Pick, Unpick, Ship}
+use Rattle.commands.specs.declared.command.Command.TheVariants.{Item, Bin, Receive, Move, Count, Adjust, Order, Cancel, Pick, Unpick, Ship}
 use Rattle.commands.specs.declared.rows.ReservedRow.{ReservedRow}
 use Rattle.rules.specs.Acts.{Act}
 use Rattle.rules.specs.Postings.{is_lot}
@@ -106,12 +106,22 @@ same_line k m = same_text k.0 m.0 && same_text k.1 m.1
 abbrev pub same_share : OrderLot → OrderLot → Bool
 same_share k m = same_text k.0 m.0 && is_lot k.1 m.1
 
+-- whether the command is judged by how many items there are, and whether by how many bins
+abbrev pub counts_items : Command → Bool
+counts_items (Item i) = true
+counts_items _ = false
+
+abbrev pub counts_bins : Command → Bool
+counts_bins (Bin b) = true
+counts_bins _ = false
+
 -- the slice has the rows of the items that the command touches, with the rows of the order that it names, of the
--- bins that it names or that hold units of those items, and of the orders with a line of those items
+-- bins that it names or that hold units of those items, and of the orders with a line of those items. The number of
+-- items, and that of bins, is told where the command is judged by it.
 pub record IsSlice (first : ℤ) (act : Act) (acts : List Act) (t : Tables) (s : Slice) : Type 0 where
   pub meta : t.meta ≡ Some s.meta
-  pub items_counted : s.items ≡ length (items acts)
-  pub bins_counted : s.bins ≡ length (bins acts)
+  pub items_counted : counts_items act.command ≡ true → s.items ≡ length (items acts)
+  pub bins_counted : counts_bins act.command ≡ true → s.bins ≡ length (bins acts)
   pub items : AreRows same_text (λ r. r.gtin) (is_touched first act acts) (is_touched first act acts) t.item s.rows.items
   pub lots : AreRows is_lot (λ r. r.lot) (λ l. is_touched first act acts l.gtin) (λ l. is_touched first act acts l.gtin) t.lot s.rows.lots
   pub recalls : AreRows is_lot (λ r. r.lot) (λ l. is_touched first act acts l.gtin) (λ l. is_touched first act acts l.gtin) t.recall s.rows.recalls
