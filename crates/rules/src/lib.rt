@@ -24,8 +24,8 @@ pub use slice::{Change, Rows, RuleFault, Slice};
 #[cfg(test)]
 mod listing;
 #[cfg(test)]
-mod samples;
+mod refusals;
 #[cfg(test)]
-mod setup_tests;
+mod samples;
 #[cfg(test)]
 mod worked;

@@ -1,147 +1,401 @@
-//! The warehouse of the worked examples: an item, its lots, a bin.
+//! Slices and commands as the tests write them down, and what is decided of them.
 
-use crate::changing::empty;
-use crate::listing::Listing;
-use crate::{Change, RuleFault, Slice, decide};
+use crate::{Change, Rows, RuleFault, Slice, decide};
 use commands::{
-    BinKind, BinRow, Command, ItemRow, Key, Listed, LotRow, MetaRow, Receipt, StockRow,
+    BinKind, BinRow, Command, ItemRow, Key, LineRow, Lines, Listed, LotRow, MetaRow, NewBin,
+    NewItem, NewOrder, OrderLine, OrderRow, OrderState, RecallRow, Receipt, ReservedRow, StagedRow,
+    StockRow,
 };
 use label::{BusinessDay, Day, Gtin, LineNo, Lot, LotId, Name, Qty, Title};
 use std::alloc::{AllocError, Global};
 use std::process::Abort;
 
-pub fn name(rt: &impl Abort, text: &[u8]) -> Name {
-    Name::new(text).expect(rt, "a name")
+/// The oat drink. Every lot of the tests is of it.
+pub const OATS: &str = "09506000134352";
+
+/// The rye bread, of which there are no units.
+pub const BREAD: &str = "04012345000016";
+
+/// The rows of a slice on 2026-05-04.
+#[derive(Clone, Copy)]
+pub struct Sample {
+    /// The acts so far.
+    pub acts: u64,
+    /// How many items and bins there are.
+    pub counts: (u64, u64),
+    pub items: &'static [Item],
+    pub bins: &'static [Bin],
+    pub lots: &'static [KnownLot],
+    pub recalls: &'static [Recalled],
+    pub stock: &'static [Stock],
+    pub orders: &'static [Taken],
+    pub lines: &'static [Line],
+    pub staged: &'static [Staged],
+    pub reserved: &'static [Reserved],
 }
 
-pub fn title(rt: &impl Abort, text: &[u8]) -> Title {
-    Title::new(text).expect(rt, "a title")
+/// An item: its GTIN and its name.
+#[derive(Clone, Copy)]
+pub struct Item(pub &'static str, pub &'static str);
+
+/// A bin: its name and its kind.
+#[derive(Clone, Copy)]
+pub struct Bin(pub &'static str, pub BinKind);
+
+/// A lot: its text, its expiry, the act of its first receipt, whether it is held.
+#[derive(Clone, Copy)]
+pub struct KnownLot(pub &'static str, pub &'static str, pub u64, pub bool);
+
+/// A lot that is recalled.
+#[derive(Clone, Copy)]
+pub struct Recalled(pub &'static str);
+
+/// The units of a lot in a bin: the lot, the bin, the units.
+#[derive(Clone, Copy)]
+pub struct Stock(pub &'static str, pub &'static str, pub u64);
+
+/// An order: its name, its act, its customer, its state.
+#[derive(Clone, Copy)]
+pub struct Taken(pub &'static str, pub u64, pub &'static str, pub OrderState);
+
+/// A line of an order: the order, the item, the units ordered and those shipped.
+#[derive(Clone, Copy)]
+pub struct Line(pub &'static str, pub &'static str, pub u64, pub u64);
+
+/// Units staged: the order, the lot, the units.
+#[derive(Clone, Copy)]
+pub struct Staged(pub &'static str, pub &'static str, pub u64);
+
+/// Units reserved: the order, the lot, the units.
+#[derive(Clone, Copy)]
+pub struct Reserved(pub &'static str, pub &'static str, pub u64);
+
+/// A command.
+#[derive(Clone, Copy)]
+pub enum Told {
+    Item(Item),
+    Bin(Bin),
+    /// A receipt into A-01: the delivery, its line, the lot, the expiry, the units.
+    Receive(&'static str, u64, &'static str, &'static str, u64),
+    /// An order: its name, its customer, its lines.
+    Order(&'static str, &'static str, &'static [Ordered]),
+    /// The cancelling of an order.
+    Cancel(&'static str),
 }
 
-pub fn day(rt: &impl Abort, text: &[u8]) -> Day {
-    Day::parse(text).expect(rt, "a day")
+/// A line of a new order: the item and the units.
+#[derive(Clone, Copy)]
+pub struct Ordered(pub &'static str, pub u64);
+
+/// No rows, after five acts.
+pub const NO_ROWS: Sample = Sample {
+    acts: 5,
+    counts: (2, 4),
+    items: &[],
+    bins: &[],
+    lots: &[],
+    recalls: &[],
+    stock: &[],
+    orders: &[],
+    lines: &[],
+    staged: &[],
+    reserved: &[],
+};
+
+// Values
+
+fn name(rt: &impl Abort, text: &str) -> Name {
+    Name::new(text.as_bytes()).expect(rt, "a name")
 }
 
-pub fn qty(rt: &impl Abort, units: u64) -> Qty {
+fn title(rt: &impl Abort, text: &str) -> Title {
+    Title::new(text.as_bytes()).expect(rt, "a title")
+}
+
+fn day(rt: &impl Abort, text: &str) -> Day {
+    Day::parse(text.as_bytes()).expect(rt, "a day")
+}
+
+fn qty(rt: &impl Abort, units: u64) -> Qty {
     Qty::new(units).expect(rt, "a quantity")
 }
 
-pub fn oats(rt: &impl Abort) -> Gtin {
-    Gtin::new(b"09506000134352").ok().expect(rt, "a GTIN")
+fn gtin(rt: &impl Abort, text: &str) -> Gtin {
+    Gtin::new(text.as_bytes()).ok().expect(rt, "a GTIN")
 }
 
-// A lot of the oat drink.
-pub fn lot(rt: &impl Abort, text: &[u8]) -> LotId {
+fn lot(rt: &impl Abort, text: &str) -> LotId {
     LotId {
-        gtin: oats(rt),
-        lot: Lot::new(text).ok().expect(rt, "a lot"),
+        gtin: gtin(rt, OATS),
+        lot: Lot::new(text.as_bytes()).ok().expect(rt, "a lot"),
     }
-}
-
-pub fn delivery(rt: &impl Abort, text: &[u8], line: u64) -> Key {
-    Key::Line(name(rt, text), LineNo::new(line).expect(rt, "a line"))
 }
 
 // Rows
 
-pub fn oat_row(rt: &impl Abort) -> ItemRow {
-    ItemRow {
-        gtin: oats(rt),
-        name: title(rt, b"Oat drink"),
+/// What stands for a row.
+trait Written {
+    type Row: Copy;
+
+    fn row(&self, rt: &impl Abort) -> Self::Row;
+}
+
+fn rows_of<W: Written>(
+    rt: &impl Abort,
+    alloc: Global,
+    written: &[W],
+) -> Result<Vec<W::Row>, AllocError> {
+    let mut rows = Vec::new(alloc);
+    for one in written {
+        rows.push(one.row(rt))?;
+    }
+    Ok(rows)
+}
+
+fn listed<W: Written>(
+    rt: &impl Abort,
+    alloc: Global,
+    written: &[W],
+) -> Result<Listed<W::Row>, AllocError> {
+    Ok(Listed::from_vec(rows_of(rt, alloc, written)?))
+}
+
+impl Written for Item {
+    type Row = ItemRow;
+
+    fn row(&self, rt: &impl Abort) -> ItemRow {
+        ItemRow {
+            gtin: gtin(rt, self.0),
+            name: title(rt, self.1),
+        }
     }
 }
 
-pub fn store_bin(rt: &impl Abort) -> BinRow {
-    BinRow {
-        name: name(rt, b"A-01"),
-        kind: BinKind::Store,
+impl Written for Bin {
+    type Row = BinRow;
+
+    fn row(&self, rt: &impl Abort) -> BinRow {
+        BinRow {
+            name: name(rt, self.0),
+            kind: self.1,
+        }
     }
 }
 
-pub fn lot_row(rt: &impl Abort, text: &[u8], expiry: &[u8], came: u64) -> LotRow {
-    LotRow {
-        lot: lot(rt, text),
-        expiry: day(rt, expiry),
-        came,
-        held: false,
+impl Written for KnownLot {
+    type Row = LotRow;
+
+    fn row(&self, rt: &impl Abort) -> LotRow {
+        LotRow {
+            lot: lot(rt, self.0),
+            expiry: day(rt, self.1),
+            came: self.2,
+            held: self.3,
+        }
     }
 }
 
-pub fn stock_row(rt: &impl Abort, text: &[u8], bin: &[u8], units: u64) -> StockRow {
-    StockRow {
-        lot: lot(rt, text),
-        bin: name(rt, bin),
-        qty: units,
+impl Written for Recalled {
+    type Row = RecallRow;
+
+    fn row(&self, rt: &impl Abort) -> RecallRow {
+        RecallRow {
+            lot: lot(rt, self.0),
+            act: 5,
+        }
     }
 }
 
-// A list of these rows.
-pub fn listed<T: Copy>(rt: &impl Abort, alloc: Global, rows: &[T]) -> Listed<T> {
-    match copied(alloc, rows) {
-        Ok(list) => list,
-        Err(_) => copied(alloc, rows).ok().expect(rt, "memory"),
+impl Written for Stock {
+    type Row = StockRow;
+
+    fn row(&self, rt: &impl Abort) -> StockRow {
+        StockRow {
+            lot: lot(rt, self.0),
+            bin: name(rt, self.1),
+            qty: self.2,
+        }
     }
 }
 
-fn copied<T: Copy>(alloc: Global, rows: &[T]) -> Result<Listed<T>, AllocError> {
-    let mut list = Vec::new(alloc);
-    list.extend_from_slice(rows)?;
-    Ok(Listed::from_vec(list))
+impl Written for Taken {
+    type Row = OrderRow;
+
+    fn row(&self, rt: &impl Abort) -> OrderRow {
+        OrderRow {
+            order: name(rt, self.0),
+            act: self.1,
+            customer: title(rt, self.2),
+            state: self.3,
+        }
+    }
+}
+
+impl Written for Line {
+    type Row = LineRow;
+
+    fn row(&self, rt: &impl Abort) -> LineRow {
+        LineRow {
+            order: name(rt, self.0),
+            gtin: gtin(rt, self.1),
+            ordered: self.2,
+            shipped: self.3,
+        }
+    }
+}
+
+impl Written for Staged {
+    type Row = StagedRow;
+
+    fn row(&self, rt: &impl Abort) -> StagedRow {
+        StagedRow {
+            order: name(rt, self.0),
+            lot: lot(rt, self.1),
+            qty: self.2,
+        }
+    }
+}
+
+impl Written for Reserved {
+    type Row = ReservedRow;
+
+    fn row(&self, rt: &impl Abort) -> ReservedRow {
+        ReservedRow {
+            order: name(rt, self.0),
+            lot: lot(rt, self.1),
+            qty: self.2,
+        }
+    }
+}
+
+impl Written for Ordered {
+    type Row = OrderLine;
+
+    fn row(&self, rt: &impl Abort) -> OrderLine {
+        OrderLine {
+            gtin: gtin(rt, self.0),
+            qty: qty(rt, self.1),
+        }
+    }
 }
 
 // Slices
 
-// A slice with no rows after that many acts, on 2026-05-04.
-pub fn slice_after(rt: &impl Abort, alloc: Global, acts: u64) -> Slice {
-    Slice {
-        meta: MetaRow {
-            day: BusinessDay::new(day(rt, b"2026-05-04")).expect(rt, "a business day"),
-            acts,
-            shipments: 0,
-        },
-        items: 2,
-        bins: 4,
-        rows: empty(alloc),
+fn rows(rt: &impl Abort, alloc: Global, sample: &Sample) -> Result<Rows, AllocError> {
+    Ok(Rows {
+        items: listed(rt, alloc, sample.items)?,
+        bins: listed(rt, alloc, sample.bins)?,
+        lots: listed(rt, alloc, sample.lots)?,
+        recalls: listed(rt, alloc, sample.recalls)?,
+        stock: listed(rt, alloc, sample.stock)?,
+        orders: listed(rt, alloc, sample.orders)?,
+        lines: listed(rt, alloc, sample.lines)?,
+        staged: listed(rt, alloc, sample.staged)?,
+        reserved: listed(rt, alloc, sample.reserved)?,
+        shipments: Listed::from_vec(Vec::new(alloc)),
+        shiplines: Listed::from_vec(Vec::new(alloc)),
+        cards: Listed::from_vec(Vec::new(alloc)),
+    })
+}
+
+fn meta(rt: &impl Abort, acts: u64) -> MetaRow {
+    MetaRow {
+        day: BusinessDay::new(day(rt, "2026-05-04")).expect(rt, "a business day"),
+        acts,
+        shipments: 0,
     }
 }
 
-// A slice of the oat drink with bin A-01.
-pub fn oat_slice(rt: &impl Abort, alloc: Global, acts: u64) -> Slice {
-    let mut slice = slice_after(rt, alloc, acts);
-    slice.rows.items = listed(rt, alloc, &[oat_row(rt)]);
-    slice.rows.bins = listed(rt, alloc, &[store_bin(rt)]);
-    slice
+fn slice(rt: &impl Abort, alloc: Global, sample: &Sample) -> Result<Slice, AllocError> {
+    Ok(Slice {
+        meta: meta(rt, sample.acts),
+        items: sample.counts.0,
+        bins: sample.counts.1,
+        rows: rows(rt, alloc, sample)?,
+    })
 }
 
 // Commands
 
-pub fn receive(rt: &impl Abort, text: &[u8], expiry: &[u8], units: u64) -> Command {
+fn receipt(rt: &impl Abort, text: &str, expiry: &str, units: u64) -> Command {
     Command::Receive(Receipt {
         lot: lot(rt, text),
         expiry: day(rt, expiry),
-        bin: name(rt, b"A-01"),
+        bin: name(rt, "A-01"),
         qty: qty(rt, units),
     })
 }
 
-// Decisions. With a flag of `rt try --test --fail-alloc N` the Nth request for memory is refused: a
-// decision that is refused memory is made again.
-
-pub fn decided(
+fn order(
+    rt: &impl Abort,
     alloc: Global,
-    slice: &Slice,
-    key: &Key,
-    command: &Command,
-) -> Result<Change, RuleFault> {
-    match decide(alloc, slice, key, command) {
-        Err(RuleFault::NoMemory) => decide(alloc, slice, key, command),
-        made => made,
+    order: &str,
+    customer: &str,
+    lines: &[Ordered],
+) -> Result<Command, AllocError> {
+    let lines = rows_of(rt, alloc, lines)?;
+    Ok(Command::Order(NewOrder {
+        order: name(rt, order),
+        customer: title(rt, customer),
+        lines: Lines::new(lines).expect(rt, "lines"),
+    }))
+}
+
+fn command(rt: &impl Abort, alloc: Global, told: &Told) -> Result<Command, AllocError> {
+    match *told {
+        Told::Item(item) => Ok(Command::Item(NewItem {
+            gtin: gtin(rt, item.0),
+            name: title(rt, item.1),
+        })),
+        Told::Bin(bin) => Ok(Command::Bin(NewBin {
+            bin: name(rt, bin.0),
+            kind: bin.1,
+        })),
+        Told::Receive(_, _, lot, expiry, units) => Ok(receipt(rt, lot, expiry, units)),
+        Told::Order(name, customer, lines) => order(rt, alloc, name, customer, lines),
+        Told::Cancel(order) => Ok(Command::Cancel(name(rt, order))),
     }
 }
 
-pub fn changes(rt: &impl Abort, made: Result<Change, RuleFault>, text: &[u8]) {
-    assert!(rt; made.is_ok());
-    if let Ok(change) = made {
-        assert_eq!(rt; Listing::of(&change).as_bytes(), text);
+fn key(rt: &impl Abort, told: &Told) -> Key {
+    match *told {
+        Told::Receive(delivery, line, _, _, _) => Key::Line(
+            name(rt, delivery),
+            LineNo::new(line).expect(rt, "a line"),
+        ),
+        _ => Key::Plain(name(rt, "K-1")),
+    }
+}
+
+// Decisions. Under `rt try --test --fail-alloc N` the Nth request for memory is refused. What that
+// stops is done again, so that the tests still pass.
+
+fn slice_of(rt: &impl Abort, alloc: Global, sample: &Sample) -> Slice {
+    match slice(rt, alloc, sample) {
+        Ok(made) => made,
+        Err(_) => slice(rt, alloc, sample).ok().expect(rt, "memory"),
+    }
+}
+
+fn command_of(rt: &impl Abort, alloc: Global, told: &Told) -> Command {
+    match command(rt, alloc, told) {
+        Ok(made) => made,
+        Err(_) => command(rt, alloc, told).ok().expect(rt, "memory"),
+    }
+}
+
+/// What is decided of the command on the slice.
+pub fn decided(
+    rt: &impl Abort,
+    alloc: Global,
+    sample: &Sample,
+    told: &Told,
+) -> Result<Change, RuleFault> {
+    let slice = slice_of(rt, alloc, sample);
+    let key = key(rt, told);
+    let command = command_of(rt, alloc, told);
+    match decide(alloc, &slice, &key, &command) {
+        Err(RuleFault::NoMemory) => decide(alloc, &slice, &key, &command),
+        made => made,
     }
 }
