@@ -1,0 +1,2 @@
+pub mod TableWritten
+pub mod ChangeWritten

@@ -1,0 +1,166 @@
+//! A change, written within a transaction.
+
+ghost use Rattle.std.specs.Prelude.{◌≡◌, ◌≢◌, OnOk, IfErr};
+ghost use Rattle.sqlite.specs.State.{HasCleanDisk, Survives, KeepsCommit};
+ghost use Rattle.sqlite.specs.Held.{state};
+ghost use Rattle.table_words.specs.Steps.{IsReady, Goes};
+ghost use Rattle.table_words.specs.declared.error.TableFault.TheVariants.{Foreign};
+ghost use Rattle.rules.specs.Slices.{AreOnce, applied};
+ghost use Rattle.changes.specs.Written.{names_written, lots_written, goods_written, lines_written, shares_written, orders_written, history_written, change_written};
+
+use crate::stored::write_rows;
+use goods_tables::meta::put_meta;
+use rules::{Change, Rows};
+use sqlite::{Alter, Transaction};
+use table_words::error::TableFault;
+
+/// Items and bins.
+fn write_names<S: Alter>(
+    tx: &mut Transaction<'_, S>,
+    put: &Rows,
+    dropped: &Rows,
+) -> Result<(), TableFault>
+    ensures same_reference { tx.new.conn.ghost_name ≡ tx.old.conn.ghost_name }
+    ensures done { HasCleanDisk (state S.Store tx.new.conn.now) → IsReady (state S.Store tx.old.conn.now).now
+        → OnOk result (Goes (names_written put.now dropped.now) (state S.Store tx.old.conn.now) (state S.Store tx.new.conn.now)) }
+    ensures kept { HasCleanDisk (state S.Store tx.new.conn.now) → KeepsCommit (state S.Store tx.old.conn.now) (state S.Store tx.new.conn.now) }
+    ensures survives { Survives (state S.Store tx.old.conn.now) (state S.Store tx.new.conn.now) (λ _. ⊥) }
+    ensures never_foreign { IfErr result (λ e. e ≢ Foreign) }
+{
+    write_rows(tx, put.items.as_slice(), dropped.items.as_slice())?;
+    write_rows(tx, put.bins.as_slice(), dropped.bins.as_slice())
+}
+
+/// Lots, their recalls and their units in bins.
+fn write_lots<S: Alter>(
+    tx: &mut Transaction<'_, S>,
+    put: &Rows,
+    dropped: &Rows,
+) -> Result<(), TableFault>
+    ensures same_reference { tx.new.conn.ghost_name ≡ tx.old.conn.ghost_name }
+    ensures done { HasCleanDisk (state S.Store tx.new.conn.now) → IsReady (state S.Store tx.old.conn.now).now
+        → OnOk result (Goes (lots_written put.now dropped.now) (state S.Store tx.old.conn.now) (state S.Store tx.new.conn.now)) }
+    ensures kept { HasCleanDisk (state S.Store tx.new.conn.now) → KeepsCommit (state S.Store tx.old.conn.now) (state S.Store tx.new.conn.now) }
+    ensures survives { Survives (state S.Store tx.old.conn.now) (state S.Store tx.new.conn.now) (λ _. ⊥) }
+    ensures never_foreign { IfErr result (λ e. e ≢ Foreign) }
+{
+    write_rows(tx, put.lots.as_slice(), dropped.lots.as_slice())?;
+    write_rows(tx, put.recalls.as_slice(), dropped.recalls.as_slice())?;
+    write_rows(tx, put.stock.as_slice(), dropped.stock.as_slice())
+}
+
+/// Goods.
+fn write_goods<S: Alter>(
+    tx: &mut Transaction<'_, S>,
+    put: &Rows,
+    dropped: &Rows,
+) -> Result<(), TableFault>
+    ensures same_reference { tx.new.conn.ghost_name ≡ tx.old.conn.ghost_name }
+    ensures done { HasCleanDisk (state S.Store tx.new.conn.now) → IsReady (state S.Store tx.old.conn.now).now
+        → OnOk result (Goes (goods_written put.now dropped.now) (state S.Store tx.old.conn.now) (state S.Store tx.new.conn.now)) }
+    ensures kept { HasCleanDisk (state S.Store tx.new.conn.now) → KeepsCommit (state S.Store tx.old.conn.now) (state S.Store tx.new.conn.now) }
+    ensures survives { Survives (state S.Store tx.old.conn.now) (state S.Store tx.new.conn.now) (λ _. ⊥) }
+    ensures never_foreign { IfErr result (λ e. e ≢ Foreign) }
+{
+    write_names(tx, put, dropped)?;
+    write_lots(tx, put, dropped)
+}
+
+/// Orders and their lines.
+fn write_lines<S: Alter>(
+    tx: &mut Transaction<'_, S>,
+    put: &Rows,
+    dropped: &Rows,
+) -> Result<(), TableFault>
+    ensures same_reference { tx.new.conn.ghost_name ≡ tx.old.conn.ghost_name }
+    ensures done { HasCleanDisk (state S.Store tx.new.conn.now) → IsReady (state S.Store tx.old.conn.now).now
+        → OnOk result (Goes (lines_written put.now dropped.now) (state S.Store tx.old.conn.now) (state S.Store tx.new.conn.now)) }
+    ensures kept { HasCleanDisk (state S.Store tx.new.conn.now) → KeepsCommit (state S.Store tx.old.conn.now) (state S.Store tx.new.conn.now) }
+    ensures survives { Survives (state S.Store tx.old.conn.now) (state S.Store tx.new.conn.now) (λ _. ⊥) }
+    ensures never_foreign { IfErr result (λ e. e ≢ Foreign) }
+{
+    write_rows(tx, put.orders.as_slice(), dropped.orders.as_slice())?;
+    write_rows(tx, put.lines.as_slice(), dropped.lines.as_slice())
+}
+
+/// What is staged and reserved for orders.
+fn write_shares<S: Alter>(
+    tx: &mut Transaction<'_, S>,
+    put: &Rows,
+    dropped: &Rows,
+) -> Result<(), TableFault>
+    ensures same_reference { tx.new.conn.ghost_name ≡ tx.old.conn.ghost_name }
+    ensures done { HasCleanDisk (state S.Store tx.new.conn.now) → IsReady (state S.Store tx.old.conn.now).now
+        → OnOk result (Goes (shares_written put.now dropped.now) (state S.Store tx.old.conn.now) (state S.Store tx.new.conn.now)) }
+    ensures kept { HasCleanDisk (state S.Store tx.new.conn.now) → KeepsCommit (state S.Store tx.old.conn.now) (state S.Store tx.new.conn.now) }
+    ensures survives { Survives (state S.Store tx.old.conn.now) (state S.Store tx.new.conn.now) (λ _. ⊥) }
+    ensures never_foreign { IfErr result (λ e. e ≢ Foreign) }
+{
+    write_rows(tx, put.staged.as_slice(), dropped.staged.as_slice())?;
+    write_rows(tx, put.reserved.as_slice(), dropped.reserved.as_slice())
+}
+
+/// Orders.
+fn write_orders<S: Alter>(
+    tx: &mut Transaction<'_, S>,
+    put: &Rows,
+    dropped: &Rows,
+) -> Result<(), TableFault>
+    ensures same_reference { tx.new.conn.ghost_name ≡ tx.old.conn.ghost_name }
+    ensures done { HasCleanDisk (state S.Store tx.new.conn.now) → IsReady (state S.Store tx.old.conn.now).now
+        → OnOk result (Goes (orders_written put.now dropped.now) (state S.Store tx.old.conn.now) (state S.Store tx.new.conn.now)) }
+    ensures kept { HasCleanDisk (state S.Store tx.new.conn.now) → KeepsCommit (state S.Store tx.old.conn.now) (state S.Store tx.new.conn.now) }
+    ensures survives { Survives (state S.Store tx.old.conn.now) (state S.Store tx.new.conn.now) (λ _. ⊥) }
+    ensures never_foreign { IfErr result (λ e. e ≢ Foreign) }
+{
+    write_lines(tx, put, dropped)?;
+    write_shares(tx, put, dropped)
+}
+
+/// What has gone.
+fn write_history<S: Alter>(
+    tx: &mut Transaction<'_, S>,
+    put: &Rows,
+    dropped: &Rows,
+) -> Result<(), TableFault>
+    ensures same_reference { tx.new.conn.ghost_name ≡ tx.old.conn.ghost_name }
+    ensures done { HasCleanDisk (state S.Store tx.new.conn.now) → IsReady (state S.Store tx.old.conn.now).now
+        → OnOk result (Goes (history_written put.now dropped.now) (state S.Store tx.old.conn.now) (state S.Store tx.new.conn.now)) }
+    ensures kept { HasCleanDisk (state S.Store tx.new.conn.now) → KeepsCommit (state S.Store tx.old.conn.now) (state S.Store tx.new.conn.now) }
+    ensures survives { Survives (state S.Store tx.old.conn.now) (state S.Store tx.new.conn.now) (λ _. ⊥) }
+    ensures never_foreign { IfErr result (λ e. e ≢ Foreign) }
+{
+    write_rows(tx, put.shipments.as_slice(), dropped.shipments.as_slice())?;
+    write_rows(tx, put.shiplines.as_slice(), dropped.shiplines.as_slice())?;
+    write_rows(tx, put.cards.as_slice(), dropped.cards.as_slice())
+}
+
+/// Every table in turn.
+fn write_tables<S: Alter>(tx: &mut Transaction<'_, S>, change: &Change) -> Result<(), TableFault>
+    ensures same_reference { tx.new.conn.ghost_name ≡ tx.old.conn.ghost_name }
+    ensures done { HasCleanDisk (state S.Store tx.new.conn.now) → IsReady (state S.Store tx.old.conn.now).now
+        → OnOk result (Goes (change_written change.now) (state S.Store tx.old.conn.now) (state S.Store tx.new.conn.now)) }
+    ensures kept { HasCleanDisk (state S.Store tx.new.conn.now) → KeepsCommit (state S.Store tx.old.conn.now) (state S.Store tx.new.conn.now) }
+    ensures survives { Survives (state S.Store tx.old.conn.now) (state S.Store tx.new.conn.now) (λ _. ⊥) }
+    ensures never_foreign { IfErr result (λ e. e ≢ Foreign) }
+{
+    write_goods(tx, &change.put, &change.dropped)?;
+    write_orders(tx, &change.put, &change.dropped)?;
+    write_history(tx, &change.put, &change.dropped)?;
+    put_meta(tx, &change.meta)
+}
+
+/// Writes a change: drops its rows and puts its rows, and the row of `meta`.
+pub fn write_change<S: Alter>(
+    tx: &mut Transaction<'_, S>,
+    change: &Change,
+) -> Result<(), TableFault>
+    ensures same_reference { tx.new.conn.ghost_name ≡ tx.old.conn.ghost_name }
+    ensures done { HasCleanDisk (state S.Store tx.new.conn.now) → IsReady (state S.Store tx.old.conn.now).now
+        → AreOnce change.now.put → OnOk result (Goes (applied change.now) (state S.Store tx.old.conn.now) (state S.Store tx.new.conn.now)) }
+    ensures kept { HasCleanDisk (state S.Store tx.new.conn.now) → KeepsCommit (state S.Store tx.old.conn.now) (state S.Store tx.new.conn.now) }
+    ensures survives { Survives (state S.Store tx.old.conn.now) (state S.Store tx.new.conn.now) (λ _. ⊥) }
+    ensures never_foreign { IfErr result (λ e. e ≢ Foreign) }
+{
+    write_tables(tx, change)
+}
