@@ -1,4 +1,4 @@
--- The bodies of the requests: which fields each has, and what it asks.
+-- The bodies of the requests: which fields each has, and what it asks. Step 9 of `Requests`.
 use Rattle.std.specs.Prelude.{ℕ, List, [], ◌∷◌, codes, if◌then◌else◌, Option, Some, None, option_map, option_and_then}
 use Rattle.label.specs.Values.{checked}
 use Rattle.label.specs.declared.lot.LotId.{LotId}
@@ -145,7 +145,7 @@ order_of d =
     (lines_at (codes "lines") d)) (title_at (codes "customer") d)) (name_at (codes "order") d)) (name_at (codes "key") d)
     else None
 
--- what a value posted to a route asks, where it has the fields of that route
+-- step 9: what a value posted to a route asks, where it has exactly the fields of that route
 abbrev pub body_of : Posted → Data → Option Ask
 body_of ToItems d = item_of d
 body_of Bins d = bin_of d

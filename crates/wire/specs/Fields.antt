@@ -1,4 +1,4 @@
--- The fields of a JSON object, each read by the rule of its value.
+-- JSON, and the fields of an object, each read by the rule of its value: steps 8 and 9 of `Requests`.
 use Rattle.std.specs.Prelude.{ℕ, ℤ, List, codes, Bool, false, ◌==◌, if◌then◌else◌, Option, Some, None, option_map, option_and_then}
 use Rattle.std.specs.Str.{is_utf8, bytes_eq}
 use Rattle.label.specs.Values.{checked, is_name, is_title, is_gtin, is_lot_text, is_qty, is_counted, is_delta, is_line_no, is_business_day}
@@ -11,7 +11,7 @@ use Rattle.serde_json.specs.Events.{members_len}
 use Rattle.serde_json.specs.Find.{get, as_object, as_str, as_u64, as_i64, as_number}
 use Rattle.serde_json.specs.Read.{read}
 
--- the value that a text of JSON is
+-- step 8: the value that a text of JSON is
 abbrev pub json : List ℕ → Option Data
 json text = if is_utf8 text then read text else None
 

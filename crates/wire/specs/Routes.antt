@@ -1,4 +1,4 @@
--- The routes that the server has, and the route of a target.
+-- The routes that the server has, the route of a target, and its method: steps 5 and 6 of `Requests`.
 use Rattle.std.specs.Prelude.{ℕ, List, [], ◌∷◌, map, Bool, ◌||◌, ◌&&◌, not, ◌==◌, if◌then◌else◌, Option, None, option_map, Result, Ok, Err, codes, slice_index}
 use Rattle.std.specs.Borrow.{Bor}
 use Rattle.std.specs.List.{list_any}
@@ -57,11 +57,11 @@ ends_path c = c == 63 || c == 35
 abbrev pub is_path : List ℕ → Bool
 is_path target = slice_index target 0 == 47 && not (list_any ends_path target)
 
--- the route of a target, taken as it stands
+-- step 5: the route of a target, taken as it stands
 abbrev pub route_of : List ℕ → Option Route
 route_of target = if is_path target then option_map (λ r. r.value) (first table target) else None
 
--- the route's one method, and how it is spelled
+-- step 6: the route's one method, and how it is spelled
 abbrev pub method_of : Route → Method
 method_of (PostTo p) = Post
 method_of (GetOf g) = Get
