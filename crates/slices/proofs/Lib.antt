@@ -1,0 +1,10 @@
+pub mod Counted
+pub mod TypedRows
+pub mod ReadSteps
+pub mod RowsTold
+pub mod SeekSteps
+pub mod KeysTold
+pub mod SliceTold
+pub mod OrdersTold
+pub mod SliceRight
+pub mod SliceRead

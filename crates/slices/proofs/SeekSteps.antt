@@ -1,0 +1,69 @@
+-- Rows sought by one text after another.
+use Rattle.std.proofs.Common.{◌≡◌, ℕ, ◌+◌, ◌<◌, length, map, take, Option, Bool, true, false, ◌&&◌, not, List, [], ◌∷◌, ◌++◌, Result, Ok, refl, ap, sym, subst, ◌∙◌, append_assoc}
+use Rattle.std.specs.Prelude.{◌||◌, get_or}
+use Rattle.std.proofs.lemmas.List.{map_more}
+use Rattle.std.specs.List.{list_any}
+use Rattle.label.specs.Values.{same_text}
+use Rattle.sqlite.specs.State.{State}
+use Rattle.commands.specs.declared.rows.LineRow.{LineRow}
+use Rattle.table_words.specs.Typed.{Tables}
+use Rattle.table_words.specs.Found as read
+use Rattle.rules.specs.Slices.{no_two}
+use Rattle.rules.proofs.Tests.{and_both, or_none, not_true, same_text_is, same_text_turned}
+use Rattle.slices.specs.Slicing.{IsRead, Each, is_among, texts, listed, AreLinesOf}
+use Rattle.slices.proofs.ReadSteps.{then_answers}
+use Rattle.slices.proofs.RowsTold.{read_none, read_both}
+
+none_behind : {X : Type 0} (xs : List X) → xs ≡ xs ++ []
+none_behind [] = refl
+none_behind (x ∷ xs) = ap (λ l. x ∷ l) (none_behind xs)
+
+pub and_false : (a : Bool) → a && false ≡ false
+and_false true = refl
+and_false false = refl
+
+-- the rows of one more text
+pub each_more : {R : Type 0} (P : List ℕ → List R → Type 0) (ks : List (List ℕ)) (k : List ℕ) (xs ys : List R) → Each P ks xs → P k ys → Each P (ks ++ k ∷ []) (xs ++ ys)
+each_more P [] k xs ys e h = (ys, [], h, refl, ap (λ l. l ++ ys) e ∙ none_behind ys)
+each_more P (j ∷ ks) k xs ys (first, rest, p, more, e) h = (first, rest ++ ys, p, each_more P ks k rest ys more h, ap (λ l. l ++ ys) e ∙ append_assoc first rest ys)
+
+module _ {R : Type 0} (are_of : List ℕ → Tables → List R → Type 0) where
+  pub seek_step : {X : Type 0} (rows : X → List R) (a b c : State) (done : List (List ℕ)) (k : List ℕ) (xs : List R) (found : X)
+      → IsRead {X = List R} (λ t rows. Each (λ j part. are_of j t part) done rows) a b (Ok xs) → IsRead {X = X} (λ t found. are_of k t (rows found)) b c (Ok found)
+      → IsRead {X = List R} (λ t rows. Each (λ j part. are_of j t part) (done ++ k ∷ []) rows) a c (Ok (xs ++ rows found))
+  seek_step {X = X} rows a b c done k xs found one two =
+      then_answers {X = List R} {Y = X} {Z = List R} (λ t rows. Each (λ j part. are_of j t part) done rows) (λ t found. are_of k t (rows found)) (λ t rows. Each (λ j part. are_of j t part) (done ++ k ∷ []) rows) a b c xs found (xs ++ rows found) one two
+      (λ t h g. each_more (λ j part. are_of j t part) done k xs (rows found) h g)
+
+-- the rows of each of some texts, of which none is there twice
+pub each_read : {K R : Type 0} (same : K → K → Bool) (key : R → K) → ((k m : K) → same k m ≡ true → k ≡ m) → ((k : K) → same k k ≡ true) → (given : K → Bool) (text : K → List ℕ) (row : K → Option R) (ks : List (List ℕ)) (rows : List R) → no_two same_text ks ≡ true
+    → Each (λ j part. read.AreRows same key (λ k. given k && same_text j (text k)) row part) ks rows → read.AreRows same key (λ k. given k && is_among ks (text k)) row rows
+each_read {K = K} {R = R} same key is own given text row [] rows once e =
+    subst (λ (l : List R). read.AreRows same key (λ k. given k && false) row l) (sym e) (subst (λ (w : K → Bool). read.AreRows same key w row []) (λ i k. sym (and_false (given k)) i) (read_none same key is own row))
+each_read {K = K} {R = R} same key is own given text row (j ∷ ks) rows once (xs, ys, p, more, e) =
+    let two = and_both (not (list_any (same_text j) ks)) (no_two same_text ks) once in
+    let rest = each_read same key is own given text row ks ys two.1 more in
+    let both = read_both same key is own (λ k. given k && same_text j (text k)) (λ k. given k && is_among ks (text k)) row xs ys (λ k f. apart k f (not_true _ two.0)) p rest in
+    subst (λ (l : List R). read.AreRows same key (λ k. given k && is_among (j ∷ ks) (text k)) row l) (sym e) (subst (λ (w : K → Bool). read.AreRows same key w row (xs ++ ys)) (λ i k. joined (given k) (text k) i) both)
+  where
+    apart : (k : K) → given k && same_text j (text k) ≡ true → list_any (same_text j) ks ≡ false → given k && is_among ks (text k) ≡ false
+    apart k f none =
+        let here : j ≡ text k = same_text_is j (text k) (and_both (given k) (same_text j (text k)) f).1 in
+        ap (λ b. given k && b) (subst (λ (x : List ℕ). is_among ks x ≡ false) here none) ∙ and_false (given k)
+
+    joined : (g : Bool) (x : List ℕ) → (g && same_text j x) || (g && is_among ks x) ≡ g && is_among (j ∷ ks) x
+    joined true x = ap (λ b. b || is_among ks x) (same_text_turned j x)
+    joined false x = refl
+
+-- the texts before a place, and the one there
+pub each_place : {X : Type 0} (f : X → List ℕ) (xs : List X) (i : ℕ) (x : X) → i < length xs → x ≡ get_or xs i x → map f (take (i + 1) xs) ≡ map f (take i xs) ++ f x ∷ []
+each_place f xs i x less at = map_more f xs i x less ∙ ap (λ y. map f (take i xs) ++ f y ∷ []) (sym at)
+
+-- an order's line for one more item
+pub line_step : (gtins : List (List ℕ)) (o : List ℕ) (a b c : State) (i : ℕ) (g : List ℕ) (xs : List LineRow) (row : Option LineRow) → i < length gtins → g ≡ get_or gtins i g
+    → IsRead {X = List LineRow} (λ t rows. AreLinesOf (take i gtins) t o rows) a b (Ok xs) → IsRead {X = Option LineRow} (λ t r. r ≡ t.line o g) b c (Ok row)
+    → IsRead {X = List LineRow} (λ t rows. AreLinesOf (take (i + 1) gtins) t o rows) a c (Ok (xs ++ listed row))
+line_step gtins o a b c i g xs row less at one two =
+    then_answers {X = List LineRow} {Y = Option LineRow} {Z = List LineRow} (λ t rows. AreLinesOf (take i gtins) t o rows) (λ t r. r ≡ t.line o g) (λ t rows. AreLinesOf (take (i + 1) gtins) t o rows) a b c xs row (xs ++ listed row) one two
+    (λ t h e. subst (λ (l : List (List ℕ)). Each (λ j part. part ≡ listed (t.line o j)) l (xs ++ listed row)) (sym (each_place (λ x. x) gtins i g less at))
+    (each_more (λ j part. part ≡ listed (t.line o j)) (texts (take i gtins)) g xs (listed row) h (ap listed e)))

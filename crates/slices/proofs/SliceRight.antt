@@ -1,0 +1,220 @@
+-- What is read of the tables of a history is the slice of the command.
+use Rattle.std.proofs.Common.{◌≡◌, ℕ, Bool, true, false, ◌&&◌, not, List, [], ◌∷◌, length, refl, ap, sym, subst, ◌∙◌}
+use Rattle.std.specs.Prelude.{◌||◌, ◌==◌, if◌then◌else◌, find, Option, Some, None, option_map, is_some, ℤ}
+use Rattle.std.specs.List.{list_any, list_all, cons_option}
+use Rattle.label.specs.Values.{same_text}
+use Rattle.commands.specs.Tables.{Tables}
+use Rattle.commands.specs.declared.key.Key.{Key}
+use Rattle.commands.specs.declared.command.NewItem.{NewItem}
+use Rattle.commands.specs.declared.command.NewBin.{NewBin}
+use Rattle.commands.specs.declared.command.OrderLine.{OrderLine}
+use Rattle.commands.specs.declared.command.Command.{Command}
+use Rattle.commands.specs.declared.command.Command.TheVariants.{Item, Bin, Receive, Order}
+use Rattle.commands.specs.declared.rows.StockRow.{StockRow}
+use Rattle.commands.specs.declared.rows.LineRow.{LineRow}
+use Rattle.commands.specs.declared.rows.OrderRow.{OrderRow}
+use Rattle.commands.specs.declared.rows.OrderState.{OrderState}
+use Rattle.commands.specs.declared.rows.OrderState.TheVariants.{Open, Done, Cancelled}
+use Rattle.table_words.specs.Typed.{ItemKey, same_item, item_key, BinKey, same_bin, bin_key, LotKey, same_lot, lot_key, RecallKey, same_recall, recall_key, StockKey, same_stock, stock_key, StagedKey, same_staged, staged_key, ReservedKey, same_reserved, reserved_key, OrderKey, same_order, order_key, LineKey, same_line, line_key, is_open_order}
+use Rattle.rules.specs.Acts.{Act, gathered, next_number}
+use Rattle.rules.specs.Standing.{items, item_in, bins, Placed, orders, order_named, lines_of, lines_placed, is_cancelled}
+use Rattle.rules.specs.Planning.{order_state, is_open_state, is_open, is_shipped_in_full, shipped_of}
+use Rattle.rules.specs.Touched.{touches}
+use Rattle.rules.specs.Tables.{tables_of, line_row, order_row}
+use Rattle.rules.specs.Once.{IsHistory}
+use Rattle.rules.specs.Verdict.{verdict}
+use Rattle.rules.specs.Slices.{IsSlice, AreRows, no_two, names_order, names_bin, counts_items, counts_bins, has_touched_line}
+use Rattle.rules.specs.Decided.{is_decided}
+use Rattle.rules.specs.declared.slice.Slice.{Slice}
+use Rattle.rules.proofs.Tests.{and_both, same_text_is, same_text_refl, same_text_turned, is_lot_is, is_lot_refl}
+use Rattle.rules.proofs.Apart.{AreApart, any_found}
+use Rattle.rules.proofs.Accepted.{item_accepted}
+use Rattle.rules.proofs.Notices.{bins_apart}
+use Rattle.rules.proofs.Orders.{found_order}
+use Rattle.rules.proofs.SliceTells.{some_mapped}
+use Rattle.slices.specs.Slicing.{is_among, with_names, items_named, orders_named, bins_named, AreSliced, IsSliceIn}
+use Rattle.slices.proofs.Counted.{as_many}
+use Rattle.slices.proofs.KeysTold.{same_cell_is, same_cell_refl, same_share_is, same_share_refl, same_line_is, same_line_refl}
+use Rattle.slices.proofs.RowsTold.{or_false, and_true, is_passed, rows_read, rows_as}
+use Rattle.slices.proofs.SliceTold.{among_names, once_names, sought}
+use Rattle.slices.proofs.OrdersTold.{is_open_in, has_line_of, orders_told, lines_told}
+
+-- Names
+
+items_told : (first : ℤ) (act : Act) (acts : List Act) (command : Command) → is_decided command ≡ true → (x : List ℕ) → is_among (items_named command) x ≡ touches first act acts command x
+items_told first act acts (Item i) e x = or_false (same_text x i.gtin)
+items_told first act acts (Bin b) e x = refl
+items_told first act acts (Receive r) e x = or_false (same_text x r.lot.gtin)
+items_told first act acts (Order o) e x = among_names (λ l. l.gtin) o.lines [] x
+items_told first act acts _ e x = absurd (let none : false ≡ true = e in cc)
+
+items_once : (command : Command) → no_two same_text (items_named command) ≡ true
+items_once (Item i) = refl
+items_once (Receive r) = refl
+items_once (Order o) = once_names (λ l. l.gtin) o.lines [] refl
+items_once _ = refl
+
+order_told : (command : Command) → is_decided command ≡ true → (o : List ℕ) → is_among (orders_named command) o ≡ names_order command o
+order_told (Item i) e o = refl
+order_told (Bin b) e o = refl
+order_told (Receive r) e o = refl
+order_told (Order p) e o = or_false (same_text o p.order)
+order_told _ e o = absurd (let none : false ≡ true = e in cc)
+
+order_once : (command : Command) → no_two same_text (orders_named command) ≡ true
+order_once (Order o) = refl
+order_once _ = refl
+
+bin_told : (command : Command) → is_decided command ≡ true → (b : List ℕ) → is_among (bins_named command) b ≡ names_bin command b
+bin_told (Item i) e b = refl
+bin_told (Bin x) e b = or_false (same_text b x.bin)
+bin_told (Receive r) e b = or_false (same_text b r.bin)
+bin_told (Order o) e b = refl
+bin_told _ e b = absurd (let none : false ≡ true = e in cc)
+
+bin_once : (command : Command) → no_two same_text (bins_named command) ≡ true
+bin_once (Bin b) = refl
+bin_once (Receive r) = refl
+bin_once _ = refl
+
+-- Counts
+
+items_apart_after : (first : ℤ) (before : List Act) (c : Command) → verdict first before c ≡ None → AreApart (λ (x y : NewItem). same_text x.gtin y.gtin) (items before) → AreApart (λ (x y : NewItem). same_text x.gtin y.gtin) (cons_option (item_in (next_number before) c) (items before))
+items_apart_after first before (Item i) ok h = (sym (any_found (λ (x : NewItem). same_text i.gtin x.gtin) (items before)) ∙ (item_accepted first before i ok).new, h)
+items_apart_after first before _ ok h = h
+
+items_apart : (first : ℤ) (acts : List Act) → IsHistory first acts → AreApart (λ (x y : NewItem). same_text x.gtin y.gtin) (items acts)
+items_apart first [] h = tt
+items_apart first (act ∷ before) h = items_apart_after first before act.command h.1.passes (items_apart first before h.0)
+
+-- Lists of lists
+
+any_never : {X : Type 0} (xs : List X) → list_any (λ (x : X). false) xs ≡ false
+any_never [] = refl
+any_never (x ∷ xs) = any_never xs
+
+any_or : {X : Type 0} (p q : X → Bool) (xs : List X) → list_any p xs || list_any q xs ≡ list_any (λ x. p x || q x) xs
+any_or p q [] = refl
+any_or p q (x ∷ xs) = grouped (p x) (list_any p xs) (q x) (list_any q xs) ∙ ap (λ b. (p x || q x) || b) (any_or p q xs)
+  where
+    grouped : (a b c d : Bool) → (a || b) || (c || d) ≡ (a || c) || (b || d)
+    grouped true b c d = refl
+    grouped false true true d = refl
+    grouped false true false d = refl
+    grouped false false c d = refl
+
+any_swapped : {X Y : Type 0} (r : X → Y → Bool) (xs : List X) (ys : List Y) → list_any (λ x. list_any (r x) ys) xs ≡ list_any (λ y. list_any (λ x. r x y) xs) ys
+any_swapped r [] ys = sym (any_never ys)
+any_swapped r (x ∷ xs) ys = ap (λ b. list_any (r x) ys || b) (any_swapped r xs ys) ∙ any_or (r x) (λ y. list_any (λ x. r x y) xs) ys
+
+any_same : {X : Type 0} (p q : X → Bool) (xs : List X) → ((x : X) → p x ≡ q x) → list_any p xs ≡ list_any q xs
+any_same {X = X} p q xs same = ap (λ (f : X → Bool). list_any f xs) (λ i x. same x i)
+
+-- Orders
+
+module _ (first : ℤ) (acts : List Act) where
+  -- an open order has an open row
+  open_by : (o : List ℕ) (x : Option Placed) → order_named acts o ≡ x → is_open first acts o ≡ true → is_passed is_open_order (option_map (λ p. record { order = p.order; act = p.act; customer = p.customer; state = order_state first acts p.order }) x) ≡ true
+  open_by o None e h =
+      absurd (closed (is_cancelled acts o) (subst (λ (y : Option Placed). is_open_state (if is_cancelled acts o then Cancelled else (if list_all (λ l. shipped_of first acts o l.gtin == l.qty) (lines_placed y) then Done else Open)) ≡ true) e h))
+    where
+      closed : (b : Bool) → is_open_state (if b then Cancelled else Done) ≡ true → ⊥
+      closed true f = let none : false ≡ true = f in cc
+      closed false f = let none : false ≡ true = f in cc
+  open_by o (Some p) e h = subst (λ (y : List ℕ). is_open first acts y ≡ true) (found_order o (orders acts) p e) h
+
+  open_told : (o : List ℕ) → is_open first acts o ≡ true → is_open_in (tables_of first acts) o ≡ true
+  unfolding tables_of
+  open_told o h = open_by o (order_named acts o) refl h
+
+  -- an order's line of an item has a row
+  line_some : (o g : List ℕ) → is_some ((tables_of first acts).line o g) ≡ list_any (λ l. same_text g l.gtin) (lines_of acts o)
+  unfolding tables_of
+  line_some o g = some_mapped _ (find (λ l. same_text g l.gtin) (lines_of acts o)) ∙ any_found (λ l. same_text g l.gtin) (lines_of acts o)
+
+  keyed_by : (o g : List ℕ) (x : Option OrderLine) (r : LineRow) → option_map (λ l. record { order = o; gtin = g; ordered = l.qty; shipped = shipped_of first acts o g }) x ≡ Some r → same_line (o, g) (line_key r) ≡ true
+  keyed_by o g None r e = absurd cc
+  keyed_by o g (Some l) r e =
+      let is_order : o ≡ r.order = cc in
+      let is_item : g ≡ r.gtin = cc in
+      subst (λ (x : List ℕ). same_line (o, g) (x, r.gtin) ≡ true) is_order (subst (λ (x : List ℕ). same_line (o, g) (o, x) ≡ true) is_item (same_line_refl (o, g)))
+
+  keyed : (o g : List ℕ) (r : LineRow) → (tables_of first acts).line o g ≡ Some r → same_line (o, g) (line_key r) ≡ true
+  unfolding tables_of
+  keyed o g r e = keyed_by o g (find (λ l. same_text g l.gtin) (lines_of acts o)) r e
+
+  module _ (key : Key) (command : Command) (sliced : is_decided command ≡ true) where
+    abbrev act : Act
+    act = record { key = key; command = command }
+
+    touched_line : (o : List ℕ) → has_line_of (items_named command) (tables_of first acts) o ≡ has_touched_line first act acts o
+    touched_line o =
+        any_same (λ g. is_some ((tables_of first acts).line o g)) (λ g. list_any (λ l. same_text g l.gtin) (lines_of acts o)) (items_named command) (line_some o)
+        ∙ any_swapped (λ g (l : OrderLine). same_text g l.gtin) (items_named command) (lines_of acts o)
+        ∙ any_same (λ (l : OrderLine). list_any (λ g. same_text g l.gtin) (items_named command)) (λ l. touches first act acts command l.gtin) (lines_of acts o)
+        (λ l. any_same (λ g. same_text g l.gtin) (same_text l.gtin) (items_named command) (λ g. same_text_turned g l.gtin) ∙ items_told first act acts command sliced l.gtin)
+
+    module _ (history : IsHistory first acts) (s : Slice) (slice : IsSliceIn command (tables_of first acts) s) where
+      abbrev rows : AreSliced command (tables_of first acts) s.rows
+      rows = slice.rows
+
+      counted_items : counts_items command ≡ true → s.items ≡ length (items acts)
+      unfolding tables_of
+      counted_items e =
+          let count = slice.counted.items e in
+          let read = rows_read {K = ItemKey} same_item item_key same_text_is same_text_refl (λ k. true) (tables_of first acts).item count.0 count.1 in
+          sym count.2 ∙ as_many item_key (λ (i : NewItem). i.gtin) count.0 (items acts) read.once (items_apart first acts history)
+          (λ k. ap is_some (read.found k refl) ∙ some_mapped _ (find (λ i. same_text k i.gtin) (items acts)))
+
+      counted_bins : counts_bins command ≡ true → s.bins ≡ length (bins acts)
+      unfolding tables_of
+      counted_bins e =
+          let count = slice.counted.bins e in
+          let read = rows_read {K = BinKey} same_bin bin_key same_text_is same_text_refl (λ k. true) (tables_of first acts).bin count.0 count.1 in
+          sym count.2 ∙ as_many bin_key (λ (b : NewBin). b.bin) count.0 (bins acts) read.once (bins_apart first acts history)
+          (λ k. ap is_some (read.found k refl) ∙ some_mapped _ (find (λ b. same_text k b.bin) (bins acts)))
+
+      abbrev t : Tables
+      t = tables_of first acts
+
+      abbrev gtins : List (List ℕ)
+      gtins = items_named command
+
+      abbrev touched : List ℕ → Bool
+      touched = touches first act acts command
+
+      abbrev told : (x : List ℕ) → is_among gtins x ≡ touched x
+      told = items_told first act acts command sliced
+
+      pub slice_right : IsSlice first act acts (tables_of first acts) s
+      slice_right = record {
+        meta = slice.meta;
+        items_counted = counted_items;
+        bins_counted = counted_bins;
+        items = sought {K = ItemKey} same_item item_key same_text_is same_text_refl (λ k. k) t.item gtins touched s.rows.items (items_once command) told rows.goods.items;
+        lots = sought {K = LotKey} same_lot lot_key is_lot_is is_lot_refl (λ k. k.gtin) t.lot gtins touched s.rows.lots (items_once command) told rows.goods.lots;
+        recalls = sought {K = RecallKey} same_recall recall_key is_lot_is is_lot_refl (λ k. k.gtin) t.recall gtins touched s.rows.recalls (items_once command) told rows.goods.recalls;
+        stock = sought {K = StockKey} same_stock stock_key same_cell_is same_cell_refl (λ k. k.0.gtin) (λ k. t.stock k.0 k.1) gtins touched s.rows.stock (items_once command) told rows.goods.stock;
+        bins = sought {K = BinKey} same_bin bin_key same_text_is same_text_refl (λ k. k) t.bin (with_names (λ (r : StockRow). r.bin) s.rows.stock (bins_named command)) (λ b. names_bin command b || list_any (λ r. same_text b r.bin) s.rows.stock) s.rows.bins
+            (once_names (λ (r : StockRow). r.bin) s.rows.stock (bins_named command) (bin_once command))
+            (λ b. among_names (λ (r : StockRow). r.bin) s.rows.stock (bins_named command) b ∙ ap (λ c. c || list_any (λ r. same_text b r.bin) s.rows.stock) (bin_told command sliced b)) rows.bins;
+        orders = rows_as {K = OrderKey} same_order order_key same_text_is same_text_refl
+            (λ o. is_among (orders_named command) o || (is_open_in t o && has_line_of gtins t o)) (λ o. is_among (orders_named command) o || has_line_of gtins t o)
+            (λ o. names_order command o || (is_open first acts o && has_touched_line first act acts o)) (λ o. names_order command o || has_touched_line first act acts o) t.order s.rows.orders
+            (λ o e. needs (is_among (orders_named command) o) (names_order command o) (is_open first acts o) (is_open_in t o) (has_touched_line first act acts o) (has_line_of gtins t o) (order_told command sliced o) (open_told o) (touched_line o) e)
+            (λ o e. ap (λ b. b || has_touched_line first act acts o) (sym (order_told command sliced o)) ∙ ap (λ b. is_among (orders_named command) o || b) (sym (touched_line o)) ∙ e)
+            (orders_told (orders_named command) gtins t keyed (order_once command) (items_once command) s.rows.orders s.rows.lines rows.ordered);
+        lines = rows_as {K = LineKey} same_line line_key same_line_is same_line_refl
+            (λ k. is_among (orders_named command) k.0 || (is_open_in t k.0 && is_among gtins k.1)) (λ k. is_among (orders_named command) k.0 || is_among gtins k.1)
+            (λ k. names_order command k.0 || (is_open first acts k.0 && touched k.1)) (λ k. names_order command k.0 || touched k.1) (λ k. t.line k.0 k.1) s.rows.lines
+            (λ k e. needs (is_among (orders_named command) k.0) (names_order command k.0) (is_open first acts k.0) (is_open_in t k.0) (touched k.1) (is_among gtins k.1) (order_told command sliced k.0) (open_told k.0) (told k.1) e)
+            (λ k e. ap (λ b. b || touched k.1) (sym (order_told command sliced k.0)) ∙ ap (λ b. is_among (orders_named command) k.0 || b) (sym (told k.1)) ∙ e)
+            (lines_told (orders_named command) gtins t keyed (order_once command) (items_once command) s.rows.orders s.rows.lines rows.ordered);
+        staged = sought {K = StagedKey} same_staged staged_key same_share_is same_share_refl (λ k. k.1.gtin) (λ k. t.staged k.0 k.1) gtins touched s.rows.staged (items_once command) told rows.booked.staged;
+        reserved = sought {K = ReservedKey} same_reserved reserved_key same_share_is same_share_refl (λ k. k.1.gtin) (λ k. t.reserved k.0 k.1) gtins touched s.rows.reserved (items_once command) told rows.booked.reserved;
+      }
+        where
+          needs : (a n p q h g : Bool) → a ≡ n → (p ≡ true → q ≡ true) → g ≡ h → n || (p && h) ≡ true → a || (q && g) ≡ true
+          needs a true p q h g e f same w = ap (λ b. b || (q && g)) e
+          needs a false true q h g e f same w = ap (λ b. b || (q && g)) e ∙ ap (λ b. b && g) (f refl) ∙ same ∙ w
+          needs a false false q h g e f same w = absurd (let none : false ≡ true = w in cc)

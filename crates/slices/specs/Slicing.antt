@@ -1,0 +1,160 @@
+-- What a read leaves and answers, and the rows that a slice is made of.
+use Rattle.std.specs.Prelude.{◌≡◌, ℕ, Bool, true, false, not, ◌&&◌, ◌||◌, if◌then◌else◌, List, [], ◌∷◌, ◌++◌, map, filter, Option, Some, None, IsSome, Result, Ok, Err, IsTrue}
+use Rattle.std.specs.List.{list_any}
+use Rattle.label.specs.Values.{same_text}
+use Rattle.sqlite.specs.State.{State, HasCleanDisk, Survives, KeepsCommit, IsUnchanged}
+use Rattle.commands.specs.Tables.{Tables}
+use Rattle.commands.specs.declared.command.Command.{Command}
+use Rattle.commands.specs.declared.command.Command.TheVariants.{Item, Bin, Receive, Order}
+use Rattle.commands.specs.declared.rows.ItemRow.{ItemRow}
+use Rattle.commands.specs.declared.rows.BinRow.{BinRow}
+use Rattle.commands.specs.declared.rows.LotRow.{LotRow}
+use Rattle.commands.specs.declared.rows.RecallRow.{RecallRow}
+use Rattle.commands.specs.declared.rows.StockRow.{StockRow}
+use Rattle.commands.specs.declared.rows.OrderRow.{OrderRow}
+use Rattle.commands.specs.declared.rows.LineRow.{LineRow}
+use Rattle.commands.specs.declared.rows.StagedRow.{StagedRow}
+use Rattle.commands.specs.declared.rows.ReservedRow.{ReservedRow}
+use Rattle.table_words.specs.Found.{AreRows, only_if}
+use Rattle.table_words.specs.Steps.{IsReady}
+use Rattle.table_words.specs.Typed.{tables_in, AreTyped, ItemKey, same_item, item_key, BinKey, same_bin, bin_key, LotKey, same_lot, lot_key, RecallKey, same_recall, recall_key, StockKey, same_stock, stock_key, OrderKey, same_order, order_key, is_open_order, LineKey, same_line, line_key, StagedKey, same_staged, staged_key, ReservedKey, same_reserved, reserved_key}
+use Rattle.table_words.specs.declared.error.TableFault.{TableFault}
+use Rattle.table_words.specs.declared.error.TableFault.TheVariants.{Foreign}
+use Rattle.rules.specs.Slices.{counts_items, counts_bins}
+use Rattle.rules.specs.declared.slice.Rows.{Rows}
+use Rattle.rules.specs.declared.slice.Slice.{Slice}
+use Rattle.slices.specs.Reading.{IsCount}
+
+-- Reads
+
+-- a read that answers changes nothing, and its answer holds of the tables; one that fails commits nothing, and finds
+-- a row foreign only where a stored row is not typed, or where the books have no row of their own
+abbrev pub Answers : {X : Type 0} → (Tables → X → Type 0) → State → State → Result X TableFault → Type 0
+Answers holds old new (Ok x) = IsUnchanged old new × holds (tables_in old.now.trees) x
+Answers holds old new (Err e) = KeepsCommit old new × (AreTyped old.now.trees → IsSome (tables_in old.now.trees).meta → e ≡ Foreign → ⊥)
+
+-- the same of an open connection to the books, as long as the disk is clean; whatever it answers, nothing is committed
+pub record IsRead {X : Type 0} (holds : Tables → X → Type 0) (old new : State) (result : Result X TableFault) : Type 0 where
+  pub survives : Survives old new (λ _. ⊥)
+  pub answers : HasCleanDisk new → IsReady old.now → IsTrue old.is_open → Answers holds old new result
+
+-- the rows of one text after another
+abbrev pub Each : {R : Type 0} → (List ℕ → List R → Type 0) → List (List ℕ) → List R → Type 0
+Each P [] rows = rows ≡ []
+Each {R} P (k ∷ ks) rows = (xs : List R) × (ys : List R) × P k xs × Each P ks ys × (rows ≡ xs ++ ys)
+
+-- Names
+
+-- the text is one of these
+abbrev pub is_among : List (List ℕ) → List ℕ → Bool
+is_among xs x = list_any (same_text x) xs
+
+-- the names with one more, if it is new
+abbrev pub with_name : List ℕ → List (List ℕ) → List (List ℕ)
+with_name x xs = if is_among xs x then xs else xs ++ x ∷ []
+
+-- and with those of each element
+abbrev pub with_names : {X : Type 0} → (X → List ℕ) → List X → List (List ℕ) → List (List ℕ)
+with_names name [] xs = xs
+with_names name (r ∷ rs) xs = with_names name rs (with_name (name r) xs)
+
+abbrev pub texts : List (List ℕ) → List (List ℕ)
+texts = map (λ x. x)
+
+-- what a command names, of those that are decided
+abbrev pub items_named : Command → List (List ℕ)
+items_named (Item i) = i.gtin ∷ []
+items_named (Receive r) = r.lot.gtin ∷ []
+items_named (Order o) = with_names (λ l. l.gtin) o.lines []
+items_named _ = []
+
+abbrev pub orders_named : Command → List (List ℕ)
+orders_named (Order o) = o.order ∷ []
+orders_named _ = []
+
+abbrev pub bins_named : Command → List (List ℕ)
+bins_named (Bin b) = b.bin ∷ []
+bins_named (Receive r) = r.bin ∷ []
+bins_named _ = []
+
+-- Rows
+
+-- the row, where there is one
+abbrev pub listed : {R : Type 0} → Option R → List R
+listed None = []
+listed (Some r) = r ∷ []
+
+-- the rows of the items: each item's in turn
+pub record AreGoods (gtins : List (List ℕ)) (t : Tables) (item_rows : List ItemRow) (lot_rows : List LotRow) (recall_rows : List RecallRow) (stock_rows : List StockRow) : Type 0 where
+  pub items : Each (λ g found. AreRows {K = ItemKey} same_item item_key (λ k. same_text g k) t.item found) (texts gtins) item_rows
+  pub lots : Each (λ g found. AreRows {K = LotKey} same_lot lot_key (λ k. same_text g k.gtin) t.lot found) (texts gtins) lot_rows
+  pub recalls : Each (λ g found. AreRows {K = RecallKey} same_recall recall_key (λ k. same_text g k.gtin) t.recall found) (texts gtins) recall_rows
+  pub stock : Each (λ g found. AreRows {K = StockKey} same_stock stock_key (λ k. same_text g k.0.gtin) (λ k. t.stock k.0 k.1) found) (texts gtins) stock_rows
+
+pub record AreBooked (gtins : List (List ℕ)) (t : Tables) (staged_rows : List StagedRow) (reserved_rows : List ReservedRow) : Type 0 where
+  pub staged : Each (λ g found. AreRows {K = StagedKey} same_staged staged_key (λ k. same_text g k.1.gtin) (λ k. t.staged k.0 k.1) found) (texts gtins) staged_rows
+  pub reserved : Each (λ g found. AreRows {K = ReservedKey} same_reserved reserved_key (λ k. same_text g k.1.gtin) (λ k. t.reserved k.0 k.1) found) (texts gtins) reserved_rows
+
+-- the rows of the bins, one bin after another
+abbrev pub AreBins : List (List ℕ) → Tables → List BinRow → Type 0
+AreBins names t bin_rows = Each (λ b found. AreRows {K = BinKey} same_bin bin_key (λ k. same_text b k) t.bin found) (texts names) bin_rows
+
+-- the lines of an order for items, one item after another, and those of orders, one order after another
+abbrev pub AreLinesOf : List (List ℕ) → Tables → List ℕ → List LineRow → Type 0
+AreLinesOf gtins t o line_rows = Each (λ g found. found ≡ listed (t.line o g)) (texts gtins) line_rows
+
+abbrev pub AreLines : List (List ℕ) → List OrderRow → Tables → List LineRow → Type 0
+AreLines gtins order_rows t line_rows = Each (λ o found. AreLinesOf gtins t o found) (map order_key order_rows) line_rows
+
+-- the orders that are not named, and those that have one of the lines
+abbrev pub others : List (List ℕ) → List OrderRow → List OrderRow
+others named order_rows = filter (λ r. not (is_among named r.order)) order_rows
+
+abbrev pub has_line_in : List LineRow → List ℕ → Bool
+has_line_in line_rows o = list_any (λ l. same_text o l.order) line_rows
+
+abbrev pub with_lines : List LineRow → List OrderRow → List OrderRow
+with_lines line_rows order_rows = filter (λ r. has_line_in line_rows r.order) order_rows
+
+-- the rows and all lines of the orders named
+pub record AreNamed (named : List (List ℕ)) (t : Tables) (order_rows : List OrderRow) (line_rows : List LineRow) : Type 0 where
+  pub orders : Each (λ o found. AreRows {K = OrderKey} same_order order_key (λ k. same_text o k) t.order found) (texts named) order_rows
+  pub lines : Each (λ o found. AreRows {K = LineKey} same_line line_key (λ k. same_text o k.0) (λ k. t.line k.0 k.1) found) (texts named) line_rows
+
+-- the lines of the items in open orders that are not named, and the rows of those orders
+pub record AreOpen (named gtins : List (List ℕ)) (t : Tables) (order_rows : List OrderRow) (line_rows : List LineRow) : Type 0 where
+  pub all : List OrderRow
+  pub read : AreRows {K = OrderKey} same_order order_key (λ key. true) (λ key. only_if is_open_order (t.order key)) all
+  pub lines : AreLines gtins (others named all) t line_rows
+  pub orders : order_rows ≡ with_lines line_rows (others named all)
+
+-- the two together
+pub record AreOrdered (named gtins : List (List ℕ)) (t : Tables) (order_rows : List OrderRow) (line_rows : List LineRow) : Type 0 where
+  pub own : List OrderRow
+  pub own_lines : List LineRow
+  pub rest : List OrderRow
+  pub rest_lines : List LineRow
+  pub is_own : AreNamed named t own own_lines
+  pub is_rest : AreOpen named gtins t rest rest_lines
+  pub orders : order_rows ≡ own ++ rest
+  pub lines : line_rows ≡ own_lines ++ rest_lines
+
+-- Slices
+
+-- the counts that the command is judged by
+pub record AreCounts (command : Command) (t : Tables) (item_count bin_count : ℕ) : Type 0 where
+  pub items : counts_items command ≡ true → IsCount {K = ItemKey} same_item item_key t.item item_count
+  pub bins : counts_bins command ≡ true → IsCount {K = BinKey} same_bin bin_key t.bin bin_count
+
+-- the rows that the command asks for
+pub record AreSliced (command : Command) (t : Tables) (rows : Rows) : Type 0 where
+  pub goods : AreGoods (items_named command) t rows.items rows.lots rows.recalls rows.stock
+  pub bins : AreBins (with_names (λ r. r.bin) rows.stock (bins_named command)) t rows.bins
+  pub ordered : AreOrdered (orders_named command) (items_named command) t rows.orders rows.lines
+  pub booked : AreBooked (items_named command) t rows.staged rows.reserved
+
+-- the slice of a command, as it is read
+pub record IsSliceIn (command : Command) (t : Tables) (s : Slice) : Type 0 where
+  pub meta : t.meta ≡ Some s.meta
+  pub counted : AreCounts command t s.items s.bins
+  pub rows : AreSliced command t s.rows

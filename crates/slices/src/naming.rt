@@ -1,0 +1,117 @@
+//! The items, the order and the bins that a command names.
+
+ghost use Rattle.std.specs.Prelude.{◌≡◌, ◌++◌, [], ◌∷◌, OnOk, IfOk};
+ghost use Rattle.slices.specs.Slicing.{is_among, with_name, with_names, items_named, orders_named, bins_named};
+
+use commands::{Command, OrderLine, StockRow};
+use label::{Gtin, Name};
+use std::alloc::{AllocError, Global};
+
+/// Whether the item is one of these.
+fn has_item(gtins: &[Gtin], gtin: &Gtin) -> bool
+    ensures { result ≡ is_among gtins.now gtin.now }
+{
+    for other in gtins {
+        if *gtin == *other {
+            return true;
+        }
+    }
+    false
+}
+
+/// Whether the name is one of these.
+pub fn has_name(names: &[Name], name: &Name) -> bool
+    ensures { result ≡ is_among names.now name.now }
+{
+    for other in names {
+        if *name == *other {
+            return true;
+        }
+    }
+    false
+}
+
+fn add_item(gtins: &mut Vec<Gtin>, gtin: Gtin) -> Result<(), AllocError>
+    ensures { OnOk result (gtins.new.items ≡ with_name gtin gtins.old.items) }
+{
+    if has_item(gtins.as_slice(), &gtin) {
+        return Ok(());
+    }
+    gtins.push(gtin)?;
+    Ok(())
+}
+
+fn add_name(names: &mut Vec<Name>, name: Name) -> Result<(), AllocError>
+    ensures { OnOk result (names.new.items ≡ with_name name names.old.items) }
+{
+    if has_name(names.as_slice(), &name) {
+        return Ok(());
+    }
+    names.push(name)?;
+    Ok(())
+}
+
+fn one<T: Copy>(alloc: Global, name: T) -> Result<Vec<T>, AllocError>
+    ensures { IfOk result (λ names. names.items ≡ name ∷ []) }
+{
+    let mut names = Vec::new(alloc);
+    names.push(name)?;
+    Ok(names)
+}
+
+fn items_of_lines(alloc: Global, lines: &[OrderLine]) -> Result<Vec<Gtin>, AllocError>
+    ensures { IfOk result (λ gtins. gtins.items ≡ with_names (λ l. l.gtin) lines.now []) }
+{
+    let mut gtins = Vec::new(alloc);
+    for line in lines {
+        add_item(&mut gtins, line.gtin)?;
+    }
+    Ok(gtins)
+}
+
+/// The items that a command names, each once.
+pub fn named_items(alloc: Global, command: &Command) -> Result<Vec<Gtin>, AllocError>
+    ensures { IfOk result (λ gtins. gtins.items ≡ items_named command.now) }
+{
+    match command {
+        Command::Item(item) => one(alloc, item.gtin),
+        Command::Receive(receipt) => one(alloc, receipt.lot.gtin),
+        Command::Order(order) => items_of_lines(alloc, order.lines.as_slice()),
+        _ => Ok(Vec::new(alloc)),
+    }
+}
+
+/// The order that a command names, if it names one.
+pub fn named_orders(alloc: Global, command: &Command) -> Result<Vec<Name>, AllocError>
+    ensures { IfOk result (λ names. names.items ≡ orders_named command.now) }
+{
+    match command {
+        Command::Order(order) => one(alloc, order.order),
+        _ => Ok(Vec::new(alloc)),
+    }
+}
+
+fn named_bins(alloc: Global, command: &Command) -> Result<Vec<Name>, AllocError>
+    ensures { IfOk result (λ names. names.items ≡ bins_named command.now) }
+{
+    match command {
+        Command::Bin(bin) => one(alloc, bin.bin),
+        Command::Receive(receipt) => one(alloc, receipt.bin),
+        _ => Ok(Vec::new(alloc)),
+    }
+}
+
+/// The bin that a command names, if it names one, and those of the stock, each once.
+pub fn bins_with(
+    alloc: Global,
+    command: &Command,
+    stock: &[StockRow],
+) -> Result<Vec<Name>, AllocError>
+    ensures { IfOk result (λ names. names.items ≡ with_names (λ r. r.bin) stock.now (bins_named command.now)) }
+{
+    let mut names = named_bins(alloc, command)?;
+    for row in stock {
+        add_name(&mut names, row.bin)?;
+    }
+    Ok(names)
+}

@@ -1,0 +1,199 @@
+//! The slice of the tables that a command is decided by.
+
+ghost use Rattle.std.specs.Prelude.{◌≡◌, ℤ, false, List, Some, Err, OnOk, IfOk, IfErr, IsTrue};
+ghost use Rattle.sqlite.specs.State.{HasCleanDisk, Survives, KeepsCommit, IsUnchanged};
+ghost use Rattle.sqlite.specs.Held.{state};
+ghost use Rattle.table_words.specs.Steps.{IsReady};
+ghost use Rattle.table_words.specs.declared.error.TableFault.TheVariants.{Foreign};
+ghost use Rattle.commands.specs.declared.key.Key.{Key};
+ghost use Rattle.rules.specs.Acts.{Act};
+ghost use Rattle.rules.specs.Once.{IsHistory};
+ghost use Rattle.rules.specs.Tables.{tables_of};
+ghost use Rattle.rules.specs.Slices.{IsSlice};
+ghost use Rattle.rules.specs.Decided.{is_decided};
+ghost use Rattle.slices.specs.Books.{IsBooksOf};
+ghost use Rattle.slices.specs.Slicing.{IsRead, AreGoods, AreBooked, AreBins, AreCounts, AreSliced, IsSliceIn, bins_named, with_names};
+
+use crate::naming::{bins_with, named_items, named_orders};
+use crate::order_slices::read_orders;
+use crate::reading::{count_bins, count_items, meta_row};
+use crate::sought::seek_all;
+use commands::{
+    BinRow, Command, ItemRow, Listed, LotRow, MetaRow, RecallRow, ReservedRow, StagedRow, StockRow,
+};
+use label::Gtin;
+use rules::{Rows, Slice};
+use sqlite::{Alter, Transaction};
+use std::alloc::Global;
+use table_words::error::TableFault;
+
+/// The rows of the items.
+fn read_goods<S: Alter>(
+    alloc: Global,
+    tx: &mut Transaction<'_, S>,
+    gtins: &[Gtin],
+) -> Result<(Vec<ItemRow>, Vec<LotRow>, Vec<RecallRow>, Vec<StockRow>), TableFault>
+    ensures same_reference { tx.new.conn.ghost_name ≡ tx.old.conn.ghost_name }
+    ensures read { IsRead (λ t rows. AreGoods gtins.now t rows.0.items rows.1.items rows.2.items rows.3.items) (state S.Store tx.old.conn.now) (state S.Store tx.new.conn.now) result }
+{
+    let items = seek_all::<ItemRow, S>(alloc, tx, gtins)?;
+    let lots = seek_all::<LotRow, S>(alloc, tx, gtins)?;
+    let recalls = seek_all::<RecallRow, S>(alloc, tx, gtins)?;
+    let stock = seek_all::<StockRow, S>(alloc, tx, gtins)?;
+    Ok((items, lots, recalls, stock))
+}
+
+/// What is staged and what is reserved of the items.
+fn read_booked<S: Alter>(
+    alloc: Global,
+    tx: &mut Transaction<'_, S>,
+    gtins: &[Gtin],
+) -> Result<(Vec<StagedRow>, Vec<ReservedRow>), TableFault>
+    ensures same_reference { tx.new.conn.ghost_name ≡ tx.old.conn.ghost_name }
+    ensures read { IsRead (λ t rows. AreBooked gtins.now t rows.0.items rows.1.items) (state S.Store tx.old.conn.now) (state S.Store tx.new.conn.now) result }
+{
+    let staged = seek_all::<StagedRow, S>(alloc, tx, gtins)?;
+    let reserved = seek_all::<ReservedRow, S>(alloc, tx, gtins)?;
+    Ok((staged, reserved))
+}
+
+/// The bins that the command names or that hold the stock.
+fn read_bins<S: Alter>(
+    alloc: Global,
+    tx: &mut Transaction<'_, S>,
+    command: &Command,
+    stock: &[StockRow],
+) -> Result<Vec<BinRow>, TableFault>
+    ensures same_reference { tx.new.conn.ghost_name ≡ tx.old.conn.ghost_name }
+    ensures read { IsRead (λ t rows. AreBins (with_names (λ r. r.bin) stock.now (bins_named command.now)) t rows.items) (state S.Store tx.old.conn.now) (state S.Store tx.new.conn.now) result }
+{
+    let names = bins_with(alloc, command, stock)?;
+    seek_all::<BinRow, S>(alloc, tx, names.as_slice())
+}
+
+/// The number of items and that of bins, where the command is judged by them, and else 0.
+fn read_counts<S: Alter>(
+    alloc: Global,
+    tx: &mut Transaction<'_, S>,
+    command: &Command,
+) -> Result<(u64, u64), TableFault>
+    ensures same_reference { tx.new.conn.ghost_name ≡ tx.old.conn.ghost_name }
+    ensures read { IsRead (λ t counts. AreCounts command.now t counts.0 counts.1) (state S.Store tx.old.conn.now) (state S.Store tx.new.conn.now) result }
+{
+    match command {
+        Command::Item(_) => {
+            let items = count_items(alloc, tx)?;
+            Ok((items, 0))
+        }
+        Command::Bin(_) => {
+            let bins = count_bins(alloc, tx)?;
+            Ok((0, bins))
+        }
+        _ => Ok((0, 0)),
+    }
+}
+
+/// The rows of the slice.
+fn read_rows<S: Alter>(
+    alloc: Global,
+    tx: &mut Transaction<'_, S>,
+    command: &Command,
+) -> Result<Rows, TableFault>
+    ensures same_reference { tx.new.conn.ghost_name ≡ tx.old.conn.ghost_name }
+    ensures read { IsRead (λ t rows. AreSliced command.now t rows) (state S.Store tx.old.conn.now) (state S.Store tx.new.conn.now) result }
+{
+    let gtins = named_items(alloc, command)?;
+    let named = named_orders(alloc, command)?;
+    let (items, lots, recalls, stock) = read_goods(alloc, tx, gtins.as_slice())?;
+    let bins = read_bins(alloc, tx, command, stock.as_slice())?;
+    let (orders, lines) = read_orders(alloc, tx, named.as_slice(), gtins.as_slice())?;
+    let (staged, reserved) = read_booked(alloc, tx, gtins.as_slice())?;
+    Ok(Rows {
+        items: Listed::from_vec(items),
+        bins: Listed::from_vec(bins),
+        lots: Listed::from_vec(lots),
+        recalls: Listed::from_vec(recalls),
+        stock: Listed::from_vec(stock),
+        orders: Listed::from_vec(orders),
+        lines: Listed::from_vec(lines),
+        staged: Listed::from_vec(staged),
+        reserved: Listed::from_vec(reserved),
+        shipments: Listed::from_vec(Vec::new(alloc)),
+        shiplines: Listed::from_vec(Vec::new(alloc)),
+        cards: Listed::from_vec(Vec::new(alloc)),
+    })
+}
+
+/// The counts and the rows of the slice, beside the row of `meta`.
+fn read_rest<S: Alter>(
+    alloc: Global,
+    tx: &mut Transaction<'_, S>,
+    command: &Command,
+    meta: MetaRow,
+) -> Result<Slice, TableFault>
+    ensures same_reference { tx.new.conn.ghost_name ≡ tx.old.conn.ghost_name }
+    ensures read { IsRead (λ t s. (t.meta ≡ Some meta → IsSliceIn command.now t s)) (state S.Store tx.old.conn.now) (state S.Store tx.new.conn.now) result }
+{
+    let (items, bins) = read_counts(alloc, tx, command)?;
+    let rows = read_rows(alloc, tx, command)?;
+    Ok(Slice {
+        meta,
+        items,
+        bins,
+        rows,
+    })
+}
+
+/// The slice of a command, as the tables have it.
+fn slice_in<S: Alter>(
+    alloc: Global,
+    tx: &mut Transaction<'_, S>,
+    command: &Command,
+) -> Result<Slice, TableFault>
+    ensures same_reference { tx.new.conn.ghost_name ≡ tx.old.conn.ghost_name }
+    ensures read { IsRead (λ t s. IsSliceIn command.now t s) (state S.Store tx.old.conn.now) (state S.Store tx.new.conn.now) result }
+{
+    let meta = meta_row(alloc, tx)?;
+    read_rest(alloc, tx, command, meta)
+}
+
+/// Whether the command is decided.
+fn is_known(command: &Command) -> bool
+    ensures { result ≡ is_decided command.now }
+{
+    match command {
+        Command::Item(_) => true,
+        Command::Bin(_) => true,
+        Command::Receive(_) => true,
+        Command::Order(_) => true,
+        _ => false,
+    }
+}
+
+/// The slice of the tables that the command is decided by. It changes nothing. `Foreign` where a
+/// row that is read breaks a rule of its values or the books have no row of their own, and for the
+/// commands that are not decided yet: those other than `Item`, `Bin`, `Receive` and `Order`.
+pub fn read_slice<S: Alter>(
+    alloc: Global,
+    tx: &mut Transaction<'_, S>,
+    command: &Command,
+) -> Result<Slice, TableFault>
+    ensures same_reference { tx.new.conn.ghost_name ≡ tx.old.conn.ghost_name }
+    ensures read { HasCleanDisk (state S.Store tx.new.conn.now) → IsTrue (is_decided command.now) → IsTrue (state S.Store tx.old.conn.now).is_open
+        → (first : ℤ) (acts : List Act) (key : Key) → IsHistory first acts → IsBooksOf first acts (state S.Store tx.old.conn.now).now
+        → IfOk result (IsSlice first (record { key = key; command = command.now }) acts (tables_of first acts)) }
+    ensures fault { HasCleanDisk (state S.Store tx.new.conn.now) → IsTrue (is_decided command.now) → IsTrue (state S.Store tx.old.conn.now).is_open
+        → (first : ℤ) (acts : List Act) → IsBooksOf first acts (state S.Store tx.old.conn.now).now
+        → IfErr result (λ e. e ≡ Foreign → ⊥) }
+    ensures unknown { is_decided command.now ≡ false → result ≡ Err Foreign }
+    ensures same { HasCleanDisk (state S.Store tx.new.conn.now) → IsReady (state S.Store tx.old.conn.now).now → IsTrue (state S.Store tx.old.conn.now).is_open
+        → OnOk result (IsUnchanged (state S.Store tx.old.conn.now) (state S.Store tx.new.conn.now)) }
+    ensures kept { HasCleanDisk (state S.Store tx.new.conn.now) → IsReady (state S.Store tx.old.conn.now).now → IsTrue (state S.Store tx.old.conn.now).is_open
+        → KeepsCommit (state S.Store tx.old.conn.now) (state S.Store tx.new.conn.now) }
+    ensures survives { Survives (state S.Store tx.old.conn.now) (state S.Store tx.new.conn.now) (λ _. ⊥) }
+{
+    if !is_known(command) {
+        return Err(TableFault::Foreign);
+    }
+    slice_in(alloc, tx, command)
+}
