@@ -5,17 +5,13 @@ use Rattle.std.specs.List.{list_any}
 use Rattle.label.specs.Values.{same_text}
 use Rattle.rules.specs.Slices.{no_two}
 use Rattle.rules.proofs.Apart.{AreApart, apart-filter, any_found}
-use Rattle.rules.proofs.Tests.{and_both, or_none, not_true, same_text_refl, same_text_is, same_text_turned}
+use Rattle.rules.proofs.Tests.{and_both, and_false, or_none, not_true, same_text_refl, same_text_is, same_text_turned}
 
 abbrev has : List (List ℕ) → List ℕ → Bool
 has xs k = list_any (same_text k) xs
 
 abbrev without : List ℕ → List (List ℕ) → List (List ℕ)
 without a xs = filter (λ x. not (same_text a x)) xs
-
-and_false : (a : Bool) → a && false ≡ false
-and_false true = refl
-and_false false = refl
 
 and_true : (a : Bool) → a && true ≡ a
 and_true true = refl
@@ -75,7 +71,7 @@ same_length (x ∷ xs) ys a b same =
 
 -- ---- lists of rows under their names
 
-any_mapped : {X Y : Type 0} (f : X → Y) (test : Y → Bool) (xs : List X) → list_any test (map f xs) ≡ list_any (λ x. test (f x)) xs
+pub any_mapped : {X Y : Type 0} (f : X → Y) (test : Y → Bool) (xs : List X) → list_any test (map f xs) ≡ list_any (λ x. test (f x)) xs
 any_mapped f test [] = refl
 any_mapped f test (x ∷ xs) = ap (λ b. test (f x) || b) (any_mapped f test xs)
 

@@ -1,7 +1,6 @@
 -- Keys that a look-up finds equal are the same.
-use Rattle.std.proofs.Common.{◌≡◌, true, ◌&&◌, List, ℕ}
+use Rattle.std.proofs.Common.{◌≡◌, true, ◌&&◌}
 use Rattle.std.specs.Prelude.{bytes_eq}
-use Rattle.label.specs.declared.lot.LotId.{LotId}
 use Rattle.table_words.specs.Typed.{same_lot_id, StockKey, same_stock, StagedKey, same_staged, LineKey, same_line}
 use Rattle.rules.proofs.Tests.{and_both}
 pub use Rattle.rules.proofs.Tests.{same_text_is, same_text_refl, is_lot_is, is_lot_refl}

@@ -1,6 +1,6 @@
 -- The rows of the order named, and of the open orders that have a line of an item, are those of a slice.
-use Rattle.std.proofs.Common.{◌≡◌, ℕ, Bool, true, false, ◌&&◌, not, List, [], ◌∷◌, ◌++◌, map, filter, refl, ap, sym, subst, ◌∙◌}
-use Rattle.std.specs.Prelude.{◌||◌, if◌then◌else◌, find, Option, Some, None, is_some}
+use Rattle.std.proofs.Common.{◌≡◌, ℕ, Bool, true, false, ◌&&◌, not, List, [], ◌∷◌, ◌++◌, map, refl, ap, sym, subst, ◌∙◌}
+use Rattle.std.specs.Prelude.{◌||◌, Option, Some, None, is_some}
 use Rattle.std.specs.List.{list_any}
 use Rattle.label.specs.Values.{same_text}
 use Rattle.commands.specs.Tables.{Tables}
@@ -10,17 +10,13 @@ use Rattle.table_words.specs.Found as read
 use Rattle.table_words.specs.Found.{only_if}
 use Rattle.table_words.specs.Typed.{OrderKey, same_order, order_key, is_open_order, LineKey, same_line, line_key}
 use Rattle.rules.specs.Slices.{AreRows, AreOwn, no_two}
-use Rattle.rules.proofs.Tests.{and_both, or_none, same_tests, same_text_is, same_text_refl, same_text_turned}
-use Rattle.rules.proofs.Apart.{any_found}
-use Rattle.slices.specs.Slicing.{Each, is_among, texts, listed, others, has_line_in, with_lines, AreLinesOf, AreLines, AreNamed, AreOpen, AreOrdered}
+use Rattle.rules.proofs.Tests.{and_both, same_text_is, same_text_refl}
+use Rattle.slices.specs.Slicing.{Each, is_among, listed, others, has_line_in, with_lines, AreLinesOf, AreLines, AreOrdered}
+use Rattle.slices.proofs.Counted.{any_mapped}
 use Rattle.slices.proofs.KeysTold.{same_line_is, same_line_refl}
-use Rattle.slices.proofs.RowsTold.{and_true, or_true, or_false, is_passed, rows_read, read_rows, rows_joined, rows_kept, rows_passed, rows_as, any_read, one_read}
-use Rattle.slices.proofs.SeekSteps.{each_read, and_false}
+use Rattle.slices.proofs.RowsTold.{and_true, or_true, is_passed, rows_read, rows_joined, rows_kept, rows_passed, rows_as, any_read, one_read}
+use Rattle.slices.proofs.SeekSteps.{each_read}
 use Rattle.slices.proofs.SliceTold.{sought, texts_same}
-
-any_mapped : {X Y : Type 0} (f : X → Y) (test : Y → Bool) (xs : List X) → list_any test (map f xs) ≡ list_any (λ x. test (f x)) xs
-any_mapped f test [] = refl
-any_mapped f test (x ∷ xs) = ap (λ b. test (f x) || b) (any_mapped f test xs)
 
 any_more : {X : Type 0} (p q : X → Bool) (xs : List X) → ((x : X) → p x ≡ true → q x ≡ true) → list_any p xs ≡ true → list_any q xs ≡ true
 any_more p q [] more e = e

@@ -1,16 +1,16 @@
 -- Reads one after another.
-use Rattle.std.proofs.Common.{◌≡◌, ◌≤◌, ◌⊎◌, inl, inr, Bool, true, List, Result, Ok, Err, OnOk, IfOk, IfErr, IsTrue, refl, sym, ap, subst, ◌∙◌, arith}
-use Rattle.std.specs.Prelude.{IsErr, IsErrAnd, IsSome}
+use Rattle.std.proofs.Common.{◌≡◌, inl, List, Result, Ok, Err, OnOk, IfOk, IfErr, IsTrue, refl, sym, subst, ◌∙◌, arith}
+use Rattle.std.specs.Prelude.{Option, None, IsErr, IsErrAnd, IsSome}
+use Rattle.commands.specs.declared.rows.MetaRow.{MetaRow}
 use Rattle.std.specs.List.{AllByRecursion}
 use Rattle.sqlite.specs.declared.error.Error.{Error}
 use Rattle.sqlite.specs.State.{State, HasCleanDisk, Survives, KeepsCommit, IsUnchanged}
-use Rattle.sqlite.proofs.StateLemmas.{survives_then}
 use Rattle.table_words.specs.Typed.{Tables, tables_in, AreTyped}
 use Rattle.table_words.specs.Steps.{IsReady}
 use Rattle.table_words.specs.declared.error.TableFault.{TableFault}
 use Rattle.table_words.specs.declared.error.TableFault.TheVariants.{Store, Foreign}
 use Rattle.table_words.proofs.CallLemmas.{kept_unchanged, kept_itself, kept_then, inside_then}
-use Rattle.slices.specs.Slicing.{Answers, IsRead}
+use Rattle.slices.specs.Reading.{IsRead}
 
 -- whatever is done on the way, nothing is committed where no step commits
 survives_itself : (s : State) → Survives s s (λ _. ⊥)
@@ -77,15 +77,11 @@ answers_as P Q a b x y one more = record { survives = one.survives; answers = λ
 pub answered_fails : {X Y : Type 0} (P : Tables → X → Type 0) (Q : Tables → Y → Type 0) (a b : State) (x : X) (e : TableFault) → IsRead P a b (Ok x) → (e ≡ Foreign → ⊥) → IsRead Q a b (Err e)
 answered_fails P Q a b x e one other = record { survives = one.survives; answers = λ clean ready up. let p = one.answers clean ready up in (kept_unchanged a b p.0, λ typed known is. other is) }
 
--- a call on one table is a read, also where it fails if the books have no row of their own
-pub read_known : {X : Type 0} (P : Tables → X → Type 0) (a b : State) (r : Result X TableFault) → Survives a b (λ _. ⊥) → (HasCleanDisk b → IsReady a.now → OnOk r (IsUnchanged a b)) → (HasCleanDisk b → IsReady a.now → KeepsCommit a b)
-    → (HasCleanDisk b → IsReady a.now → IfOk r (P (tables_in a.now.trees))) → (HasCleanDisk b → IsReady a.now → AreTyped a.now.trees → IsSome (tables_in a.now.trees).meta → IfErr r (λ e. e ≡ Foreign → ⊥)) → IsRead P a b r
-read_known P a b (Ok x) survives same kept told typed = record { survives = survives; answers = λ clean ready up. (same clean ready, told clean ready) }
-read_known P a b (Err e) survives same kept told typed = record { survives = survives; answers = λ clean ready up. (kept clean ready, λ all known is. typed clean ready all known is) }
-
+-- a call on one table is a read
 pub read_of : {X : Type 0} (P : Tables → X → Type 0) (a b : State) (r : Result X TableFault) → Survives a b (λ _. ⊥) → (HasCleanDisk b → IsReady a.now → OnOk r (IsUnchanged a b)) → (HasCleanDisk b → IsReady a.now → KeepsCommit a b)
     → (HasCleanDisk b → IsReady a.now → IfOk r (P (tables_in a.now.trees))) → (HasCleanDisk b → IsReady a.now → AreTyped a.now.trees → IfErr r (λ e. e ≡ Foreign → ⊥)) → IsRead P a b r
-read_of P a b r survives same kept told typed = read_known P a b r survives same kept told (λ clean ready all known. typed clean ready all)
+read_of P a b (Ok x) survives same kept told typed = record { survives = survives; answers = λ clean ready up. (same clean ready, told clean ready) }
+read_of P a b (Err e) survives same kept told typed = record { survives = survives; answers = λ clean ready up. (kept clean ready, λ all known is. typed clean ready all is) }
 
 -- a failure that is handed on
 pub same_error : {X : Type 0} (r : Result X TableFault) (f : TableFault) → IsErr r × IsErrAnd r (λ e. e ≡ f) → (P : Result X TableFault → Type 0) → P (Err f) → P r
@@ -95,11 +91,6 @@ same_error (Err e) f h P p = subst (λ (x : TableFault). P (Err x)) (sym h.1) p
 -- want of memory is no foreign row
 pub no_room : (why : Error) → ◌≡◌ {A = TableFault} (Store why) Foreign → ⊥
 no_room why e = cc
-
--- want of memory after two reads that answered
-pub then_no_room : {X Y Z : Type 0} (P : Tables → X → Type 0) (Q : Tables → Y → Type 0) (R : Tables → Z → Type 0) (a b c : State) (x : X) (y : Y) (why : Error) → IsRead P a b (Ok x) → IsRead Q b c (Ok y) → IsRead R a c (Err (Store why))
-then_no_room {X} {Y} {Z} P Q R a b c x y why one two =
-    answered_fails {X = Y} {Y = Z} (λ _ _. Unit {0}) R a c y (Store why) (then_answers {X = X} {Y = Y} {Z = Y} P Q (λ _ _. Unit {0}) a b c x y y one two (λ t p q. tt)) (no_room why)
 
 -- a read of typed rows finds none foreign
 pub never_foreign : {R X : Type 0} (P : R → Type 0) (rows : List R) (r : Result X TableFault) → AllByRecursion P rows → IfErr r (λ e. e ≡ Foreign → ¬ AllByRecursion P rows) → IfErr r (λ e. e ≡ Foreign → ⊥)
@@ -143,3 +134,12 @@ no_room_left {Q = Q} {a = a} {b = b} {r = r} why before same = same_error r (Sto
 pub then_read : {X Y : Type 0} {P : Tables → X → Type 0} {Q R : Tables → Y → Type 0} {a b c : State} {x : X} {r : Result Y TableFault} → IsRead P a b (Ok x) → IsRead Q b c r → ((t : Tables) (y : Y) → P t x → Q t y → R t y) → IsRead R a c r
 then_read {X = X} {Y = Y} {P = P} {Q = Q} {R = R} {a = a} {b = b} {c = c} {x = x} {r = Ok y} one two both = then_answers {X = X} {Y = Y} {Z = Y} P Q R a b c x y y one two (λ t p q. both t y p q)
 then_read {X = X} {Y = Y} {P = P} {Q = Q} {R = R} {a = a} {b = b} {c = c} {x = x} {r = Err e} one two both = then_fails {X = X} {Y = Y} {Z = Y} P Q R a b c x e one two
+
+-- there is no row of the books where they have to have one
+pub none_known : {X Y : Type 0} {P : Tables → X → Type 0} {Q : Tables → Y → Type 0} {a b : State} {x : X} → IsRead P a b (Ok x) → ((t : Tables) → P t x → t.meta ≡ None) → IsRead Q a b (Err Foreign)
+none_known {a = a} {b = b} one none = record {
+  survives = one.survives;
+  answers = λ clean ready up.
+      let told = one.answers clean ready up in
+      (kept_unchanged a b told.0, λ typed known is. absurd (let never = subst (λ (m : Option MetaRow). IsSome m) (none (tables_in a.now.trees) told.1) known in cc));
+}

@@ -5,23 +5,20 @@ use Rattle.std.specs.List.{list_any, list_all}
 use Rattle.table_words.specs.Found as read
 use Rattle.table_words.specs.Found.{only_if}
 use Rattle.rules.specs.Slices.{AreRows, AreOwn, no_two}
-use Rattle.rules.proofs.Tests.{and_both, or_none, not_true, not_false, same_tests}
+use Rattle.rules.proofs.Tests.{and_both, or_none, not_true, same_tests}
 use Rattle.slices.specs.Slicing.{listed}
-use Rattle.rules.proofs.Apart.{AreApart, AllFound, all_found, any_found}
+use Rattle.slices.proofs.Counted.{apart_if_once}
+use Rattle.rules.proofs.Apart.{AllFound, all_found, any_found}
 
 pub or_true : (a : Bool) → a || true ≡ true
 or_true true = refl
 or_true false = refl
 
-pub or_false : (a : Bool) → a || false ≡ a
-or_false true = refl
-or_false false = refl
-
 pub and_true : (a b : Bool) → a ≡ true → b ≡ true → a && b ≡ true
 and_true true b e f = f
 and_true false b e f = absurd (let none : false ≡ true = e in cc)
 
-any_append : {X : Type 0} (test : X → Bool) (xs ys : List X) → list_any test (xs ++ ys) ≡ list_any test xs || list_any test ys
+pub any_append : {X : Type 0} (test : X → Bool) (xs ys : List X) → list_any test (xs ++ ys) ≡ list_any test xs || list_any test ys
 any_append test [] ys = refl
 any_append test (x ∷ xs) ys = elim (test x) as (λ b. b || list_any test (xs ++ ys) ≡ (b || list_any test xs) || list_any test ys) [ true ↦ refl | false ↦ any_append test xs ys ]
 
@@ -40,10 +37,6 @@ none_found test (x ∷ xs) e = elim (test x) as (λ b. b || list_any test xs ≡
 pub same_no_two : {R : Type 0} (same : R → R → Bool) (rows : List R) → read.no_two same rows ≡ no_two same rows
 same_no_two same [] = refl
 same_no_two same (r ∷ rows) = ap (λ b. not (list_any (same r) rows) && b) (same_no_two same rows)
-
-pub apart_rows : {R : Type 0} (same : R → R → Bool) (rows : List R) → no_two same rows ≡ true → AreApart same rows
-apart_rows same [] e = tt
-apart_rows same (r ∷ rows) e = let two = and_both (not (list_any (same r) rows)) (no_two same rows) e in (not_true _ two.0, apart_rows same rows two.1)
 
 -- the row passes
 abbrev pub is_passed : {R : Type 0} → (R → Bool) → Option R → Bool
@@ -116,9 +109,9 @@ module _ {K R : Type 0} (same : K → K → Bool) (key : R → K) (is : (k m : K
             let kept : f (key r) ≡ true = subst (λ (x : K). f x ≡ true) (is k (key r) t) e in
             ap (λ c. find (λ r. same k (key r)) (if c then r ∷ filter (λ r. f (key r)) rows else filter (λ r. f (key r)) rows)) kept ∙ ap (λ c. if c then Some r else find (λ r. same k (key r)) (filter (λ r. f (key r)) rows)) t
         | false ↦ λ t. elim (f (key r)) as (λ c. find (λ r. same k (key r)) (if c then r ∷ filter (λ r. f (key r)) rows else filter (λ r. f (key r)) rows) ≡ find (λ r. same k (key r)) rows) [
-            | true ↦ ap (λ c. if c then Some r else find (λ r. same k (key r)) (filter (λ r. f (key r)) rows)) t ∙ find_kept f rows k e
-            | false ↦ find_kept f rows k e
-          ]
+          | true ↦ ap (λ c. if c then Some r else find (λ r. same k (key r)) (filter (λ r. f (key r)) rows)) t ∙ find_kept f rows k e
+          | false ↦ find_kept f rows k e
+        ]
       ] refl
 
   own_kept : (f a : K → Bool) (row : K → Option R) (rows : List R) → AreOwn key a row rows → AreOwn key (λ k. a k && f k) row (filter (λ r. f (key r)) rows)
@@ -174,7 +167,7 @@ module _ {K R : Type 0} (same : K → K → Bool) (key : R → K) (is : (k m : K
       let once : no_two (λ r s. same (key r) (key s)) rows ≡ true = sym (same_no_two (λ r s. same (key r) (key s)) rows) ∙ h.once in
       record {
         found = h.found;
-        own = own_read w row rows rows h.found (all_found (λ r s. same (key r) (key s)) (λ r. own (key r)) (λ r s. turned (key r) (key s)) rows (apart_rows _ rows once)) h.only;
+        own = own_read w row rows rows h.found (all_found (λ r s. same (key r) (key s)) (λ r. own (key r)) (λ r s. turned (key r) (key s)) rows (apart_if_once _ rows once)) h.only;
         once = once;
       }
 

@@ -1,5 +1,5 @@
 -- Rows sought by one text after another.
-use Rattle.std.proofs.Common.{◌≡◌, ℕ, ◌+◌, ◌<◌, length, map, take, Option, Bool, true, false, ◌&&◌, not, List, [], ◌∷◌, ◌++◌, Result, Ok, refl, ap, sym, subst, ◌∙◌, append_assoc}
+use Rattle.std.proofs.Common.{◌≡◌, ℕ, ◌+◌, ◌<◌, length, map, take, Option, Bool, true, false, ◌&&◌, not, List, [], ◌∷◌, ◌++◌, Ok, refl, ap, sym, subst, ◌∙◌, append_assoc}
 use Rattle.std.specs.Prelude.{◌||◌, get_or}
 use Rattle.std.proofs.lemmas.List.{map_more}
 use Rattle.std.specs.List.{list_any}
@@ -9,22 +9,16 @@ use Rattle.commands.specs.declared.rows.LineRow.{LineRow}
 use Rattle.table_words.specs.Typed.{Tables}
 use Rattle.table_words.specs.Found as read
 use Rattle.rules.specs.Slices.{no_two}
-use Rattle.rules.proofs.Tests.{and_both, or_none, not_true, same_text_is, same_text_turned}
-use Rattle.slices.specs.Slicing.{IsRead, Each, is_among, texts, listed, AreLinesOf}
+use Rattle.rules.proofs.Walking.{append_none}
+use Rattle.rules.proofs.Tests.{and_both, and_false, not_true, same_text_is, same_text_turned}
+use Rattle.slices.specs.Reading.{IsRead}
+use Rattle.slices.specs.Slicing.{Each, is_among, texts, listed, AreLinesOf}
 use Rattle.slices.proofs.ReadSteps.{then_answers}
 use Rattle.slices.proofs.RowsTold.{read_none, read_both}
 
-none_behind : {X : Type 0} (xs : List X) → xs ≡ xs ++ []
-none_behind [] = refl
-none_behind (x ∷ xs) = ap (λ l. x ∷ l) (none_behind xs)
-
-pub and_false : (a : Bool) → a && false ≡ false
-and_false true = refl
-and_false false = refl
-
 -- the rows of one more text
 pub each_more : {R : Type 0} (P : List ℕ → List R → Type 0) (ks : List (List ℕ)) (k : List ℕ) (xs ys : List R) → Each P ks xs → P k ys → Each P (ks ++ k ∷ []) (xs ++ ys)
-each_more P [] k xs ys e h = (ys, [], h, refl, ap (λ l. l ++ ys) e ∙ none_behind ys)
+each_more P [] k xs ys e h = (ys, [], h, refl, ap (λ l. l ++ ys) e ∙ sym (append_none ys))
 each_more P (j ∷ ks) k xs ys (first, rest, p, more, e) h = (first, rest ++ ys, p, each_more P ks k rest ys more h, ap (λ l. l ++ ys) e ∙ append_assoc first rest ys)
 
 module _ {R : Type 0} (are_of : List ℕ → Tables → List R → Type 0) where

@@ -18,7 +18,8 @@ use Rattle.rules.specs.Slices.{IsSlice}
 use Rattle.rules.specs.Decided.{is_decided}
 use Rattle.rules.specs.declared.slice.Slice.{Slice}
 use Rattle.slices.specs.Books.{IsBooksOf}
-use Rattle.slices.specs.Slicing.{IsRead, IsSliceIn}
+use Rattle.slices.specs.Reading.{IsRead}
+use Rattle.slices.specs.Slicing.{IsSliceIn}
 use Rattle.slices.proofs.SliceRight.{slice_right}
 
 -- the tables of a history have the row of `meta`

@@ -1,5 +1,5 @@
 -- What is read of the tables of a history is the slice of the command.
-use Rattle.std.proofs.Common.{◌≡◌, ℕ, Bool, true, false, ◌&&◌, not, List, [], ◌∷◌, length, refl, ap, sym, subst, ◌∙◌}
+use Rattle.std.proofs.Common.{◌≡◌, ℕ, Bool, true, false, ◌&&◌, List, [], ◌∷◌, length, refl, ap, sym, subst, ◌∙◌}
 use Rattle.std.specs.Prelude.{◌||◌, ◌==◌, if◌then◌else◌, find, Option, Some, None, option_map, is_some, ℤ}
 use Rattle.std.specs.List.{list_any, list_all, cons_option}
 use Rattle.label.specs.Values.{same_text}
@@ -12,21 +12,19 @@ use Rattle.commands.specs.declared.command.Command.{Command}
 use Rattle.commands.specs.declared.command.Command.TheVariants.{Item, Bin, Receive, Order}
 use Rattle.commands.specs.declared.rows.StockRow.{StockRow}
 use Rattle.commands.specs.declared.rows.LineRow.{LineRow}
-use Rattle.commands.specs.declared.rows.OrderRow.{OrderRow}
-use Rattle.commands.specs.declared.rows.OrderState.{OrderState}
 use Rattle.commands.specs.declared.rows.OrderState.TheVariants.{Open, Done, Cancelled}
 use Rattle.table_words.specs.Typed.{ItemKey, same_item, item_key, BinKey, same_bin, bin_key, LotKey, same_lot, lot_key, RecallKey, same_recall, recall_key, StockKey, same_stock, stock_key, StagedKey, same_staged, staged_key, ReservedKey, same_reserved, reserved_key, OrderKey, same_order, order_key, LineKey, same_line, line_key, is_open_order}
-use Rattle.rules.specs.Acts.{Act, gathered, next_number}
+use Rattle.rules.specs.Acts.{Act, next_number}
 use Rattle.rules.specs.Standing.{items, item_in, bins, Placed, orders, order_named, lines_of, lines_placed, is_cancelled}
-use Rattle.rules.specs.Planning.{order_state, is_open_state, is_open, is_shipped_in_full, shipped_of}
+use Rattle.rules.specs.Planning.{order_state, is_open_state, is_open, shipped_of}
 use Rattle.rules.specs.Touched.{touches}
-use Rattle.rules.specs.Tables.{tables_of, line_row, order_row}
+use Rattle.rules.specs.Tables.{tables_of}
 use Rattle.rules.specs.Once.{IsHistory}
 use Rattle.rules.specs.Verdict.{verdict}
-use Rattle.rules.specs.Slices.{IsSlice, AreRows, no_two, names_order, names_bin, counts_items, counts_bins, has_touched_line}
+use Rattle.rules.specs.Slices.{IsSlice, no_two, names_order, names_bin, counts_items, counts_bins, has_touched_line}
 use Rattle.rules.specs.Decided.{is_decided}
 use Rattle.rules.specs.declared.slice.Slice.{Slice}
-use Rattle.rules.proofs.Tests.{and_both, same_text_is, same_text_refl, same_text_turned, is_lot_is, is_lot_refl}
+use Rattle.rules.proofs.Tests.{or_false, same_text_is, same_text_refl, same_text_turned, is_lot_is, is_lot_refl}
 use Rattle.rules.proofs.Apart.{AreApart, any_found}
 use Rattle.rules.proofs.Accepted.{item_accepted}
 use Rattle.rules.proofs.Notices.{bins_apart}
@@ -35,7 +33,7 @@ use Rattle.rules.proofs.SliceTells.{some_mapped}
 use Rattle.slices.specs.Slicing.{is_among, with_names, items_named, orders_named, bins_named, AreSliced, IsSliceIn}
 use Rattle.slices.proofs.Counted.{as_many}
 use Rattle.slices.proofs.KeysTold.{same_cell_is, same_cell_refl, same_share_is, same_share_refl, same_line_is, same_line_refl}
-use Rattle.slices.proofs.RowsTold.{or_false, and_true, is_passed, rows_read, rows_as}
+use Rattle.slices.proofs.RowsTold.{is_passed, rows_read, rows_as}
 use Rattle.slices.proofs.SliceTold.{among_names, once_names, sought}
 use Rattle.slices.proofs.OrdersTold.{is_open_in, has_line_of, orders_told, lines_told}
 

@@ -1,19 +1,13 @@
 -- What is read of the tables of a history is the slice of the command.
-use Rattle.std.proofs.Common.{◌≡◌, ℕ, Bool, true, false, ◌&&◌, not, List, [], ◌∷◌, ◌++◌, map, filter, length, refl, ap, sym, subst, ◌∙◌}
-use Rattle.std.specs.Prelude.{◌||◌, if◌then◌else◌, find, Option, Some, None, option_map, is_some, ℤ, IsTrue}
+use Rattle.std.proofs.Common.{◌≡◌, ℕ, Bool, true, false, not, List, [], ◌∷◌, ◌++◌, refl, ap, sym, subst, ◌∙◌}
+use Rattle.std.specs.Prelude.{◌||◌, if◌then◌else◌, Option}
 use Rattle.std.specs.List.{list_any}
 use Rattle.label.specs.Values.{same_text}
-use Rattle.commands.specs.Tables.{Tables}
-use Rattle.commands.specs.declared.key.Key.{Key}
-use Rattle.commands.specs.declared.command.Command.{Command}
-use Rattle.commands.specs.declared.command.Command.TheVariants.{Item, Bin, Receive, Order}
 use Rattle.table_words.specs.Found as read
-use Rattle.table_words.specs.Typed.{ItemKey, same_item, item_key, BinKey, same_bin, bin_key, LotKey, same_lot, lot_key, RecallKey, same_recall, recall_key, StockKey, same_stock, stock_key, StagedKey, same_staged, staged_key, ReservedKey, same_reserved, reserved_key}
-use Rattle.rules.specs.Slices.{AreRows, no_two, names_order, names_bin}
-use Rattle.rules.proofs.Tests.{and_both, or_none, same_text_is, same_text_refl, same_text_turned, is_lot_is, is_lot_refl}
+use Rattle.rules.specs.Slices.{AreRows, no_two}
+use Rattle.rules.proofs.Tests.{and_both, or_false, or_none, same_text_is, same_text_turned}
 use Rattle.slices.specs.Slicing.{Each, is_among, with_name, with_names, texts}
-use Rattle.slices.proofs.KeysTold.{same_cell_is, same_cell_refl, same_share_is, same_share_refl}
-use Rattle.slices.proofs.RowsTold.{or_false, and_true, rows_read, rows_as}
+use Rattle.slices.proofs.RowsTold.{and_true, any_append, rows_read, rows_as}
 use Rattle.slices.proofs.SeekSteps.{each_read}
 
 -- Names
@@ -21,10 +15,6 @@ use Rattle.slices.proofs.SeekSteps.{each_read}
 pub texts_same : (xs : List (List ℕ)) → texts xs ≡ xs
 texts_same [] = refl
 texts_same (x ∷ xs) = ap (λ l. x ∷ l) (texts_same xs)
-
-any_append : {X : Type 0} (test : X → Bool) (xs ys : List X) → list_any test (xs ++ ys) ≡ list_any test xs || list_any test ys
-any_append test [] ys = refl
-any_append test (x ∷ xs) ys = elim (test x) as (λ b. b || list_any test (xs ++ ys) ≡ (b || list_any test xs) || list_any test ys) [ true ↦ refl | false ↦ any_append test xs ys ]
 
 among_more : (xs : List (List ℕ)) (x y : List ℕ) → is_among (xs ++ x ∷ []) y ≡ is_among xs y || same_text y x
 among_more xs x y = any_append (same_text y) xs (x ∷ []) ∙ ap (λ b. is_among xs y || b) (or_false (same_text y x))

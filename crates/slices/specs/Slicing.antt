@@ -1,8 +1,7 @@
--- What a read leaves and answers, and the rows that a slice is made of.
-use Rattle.std.specs.Prelude.{◌≡◌, ℕ, Bool, true, false, not, ◌&&◌, ◌||◌, if◌then◌else◌, List, [], ◌∷◌, ◌++◌, map, filter, Option, Some, None, IsSome, Result, Ok, Err, IsTrue}
+-- The rows that a slice is made of.
+use Rattle.std.specs.Prelude.{◌≡◌, ℕ, Bool, true, not, if◌then◌else◌, List, [], ◌∷◌, ◌++◌, map, filter, Option, Some, None}
 use Rattle.std.specs.List.{list_any}
 use Rattle.label.specs.Values.{same_text}
-use Rattle.sqlite.specs.State.{State, HasCleanDisk, Survives, KeepsCommit, IsUnchanged}
 use Rattle.commands.specs.Tables.{Tables}
 use Rattle.commands.specs.declared.command.Command.{Command}
 use Rattle.commands.specs.declared.command.Command.TheVariants.{Item, Bin, Receive, Order}
@@ -16,27 +15,13 @@ use Rattle.commands.specs.declared.rows.LineRow.{LineRow}
 use Rattle.commands.specs.declared.rows.StagedRow.{StagedRow}
 use Rattle.commands.specs.declared.rows.ReservedRow.{ReservedRow}
 use Rattle.table_words.specs.Found.{AreRows, only_if}
-use Rattle.table_words.specs.Steps.{IsReady}
-use Rattle.table_words.specs.Typed.{tables_in, AreTyped, ItemKey, same_item, item_key, BinKey, same_bin, bin_key, LotKey, same_lot, lot_key, RecallKey, same_recall, recall_key, StockKey, same_stock, stock_key, OrderKey, same_order, order_key, is_open_order, LineKey, same_line, line_key, StagedKey, same_staged, staged_key, ReservedKey, same_reserved, reserved_key}
-use Rattle.table_words.specs.declared.error.TableFault.{TableFault}
-use Rattle.table_words.specs.declared.error.TableFault.TheVariants.{Foreign}
+use Rattle.table_words.specs.Typed.{ItemKey, same_item, item_key, BinKey, same_bin, bin_key, LotKey, same_lot, lot_key, RecallKey, same_recall, recall_key, StockKey, same_stock, stock_key, OrderKey, same_order, order_key, is_open_order, LineKey, same_line, line_key, StagedKey, same_staged, staged_key, ReservedKey, same_reserved, reserved_key}
 use Rattle.rules.specs.Slices.{counts_items, counts_bins}
 use Rattle.rules.specs.declared.slice.Rows.{Rows}
 use Rattle.rules.specs.declared.slice.Slice.{Slice}
 use Rattle.slices.specs.Reading.{IsCount}
 
--- Reads
-
--- a read that answers changes nothing, and its answer holds of the tables; one that fails commits nothing, and finds
--- a row foreign only where a stored row is not typed, or where the books have no row of their own
-abbrev pub Answers : {X : Type 0} → (Tables → X → Type 0) → State → State → Result X TableFault → Type 0
-Answers holds old new (Ok x) = IsUnchanged old new × holds (tables_in old.now.trees) x
-Answers holds old new (Err e) = KeepsCommit old new × (AreTyped old.now.trees → IsSome (tables_in old.now.trees).meta → e ≡ Foreign → ⊥)
-
--- the same of an open connection to the books, as long as the disk is clean; whatever it answers, nothing is committed
-pub record IsRead {X : Type 0} (holds : Tables → X → Type 0) (old new : State) (result : Result X TableFault) : Type 0 where
-  pub survives : Survives old new (λ _. ⊥)
-  pub answers : HasCleanDisk new → IsReady old.now → IsTrue old.is_open → Answers holds old new result
+-- Reads one after another
 
 -- the rows of one text after another
 abbrev pub Each : {R : Type 0} → (List ℕ → List R → Type 0) → List (List ℕ) → List R → Type 0

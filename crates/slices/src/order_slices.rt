@@ -2,14 +2,14 @@
 
 ghost use Rattle.std.specs.Prelude.{◌≡◌, ◌++◌, OnOk, IfOk};
 ghost use Rattle.sqlite.specs.Held.{state};
-ghost use Rattle.slices.specs.Slicing.{IsRead, listed, AreLinesOf, AreLines, others as others_lem, with_lines as with_lines_lem, AreNamed, AreOpen, AreOrdered, has_line_in};
+ghost use Rattle.slices.specs.Reading.{IsRead};
+ghost use Rattle.slices.specs.Slicing.{listed, AreLinesOf, AreLines, others as others_lem, with_lines as with_lines_lem, AreNamed, AreOpen, AreOrdered, has_line_in};
 
 use crate::naming::has_name;
+use crate::reading::{line_row, open_order_rows};
 use crate::sought::seek_all;
 use commands::{LineRow, OrderRow};
 use label::{Gtin, Name};
-use order_tables::lines::line_of;
-use order_tables::orders::open_orders;
 use sqlite::{Alter, Transaction};
 use std::alloc::{AllocError, Global};
 use table_words::error::TableFault;
@@ -35,7 +35,7 @@ fn lines_of_items<S: Alter>(
 {
     let mut found = Vec::new(alloc);
     for gtin in gtins {
-        let row = line_of(alloc, tx, order, gtin)?;
+        let row = line_row(alloc, tx, order, gtin)?;
         add_line(&mut found, row)?;
     }
     Ok(found)
@@ -125,7 +125,7 @@ fn read_open<S: Alter>(
     ensures same_reference { tx.new.conn.ghost_name ≡ tx.old.conn.ghost_name }
     ensures read { IsRead (λ t rows. AreOpen named.now gtins.now t rows.0.items rows.1.items) (state S.Store tx.old.conn.now) (state S.Store tx.new.conn.now) result }
 {
-    let open = open_orders(alloc, tx)?;
+    let open = open_order_rows(alloc, tx)?;
     let rest = others(alloc, open.as_slice(), named)?;
     let lines = lines_of_orders(alloc, tx, rest.as_slice(), gtins)?;
     let orders = with_lines(alloc, rest.as_slice(), lines.as_slice())?;

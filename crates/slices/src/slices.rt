@@ -12,7 +12,8 @@ ghost use Rattle.rules.specs.Tables.{tables_of};
 ghost use Rattle.rules.specs.Slices.{IsSlice};
 ghost use Rattle.rules.specs.Decided.{is_decided};
 ghost use Rattle.slices.specs.Books.{IsBooksOf};
-ghost use Rattle.slices.specs.Slicing.{IsRead, AreGoods, AreBooked, AreBins, AreCounts, AreSliced, IsSliceIn, bins_named, with_names};
+ghost use Rattle.slices.specs.Reading.{IsRead};
+ghost use Rattle.slices.specs.Slicing.{AreGoods, AreBooked, AreBins, AreCounts, AreSliced, IsSliceIn, bins_named, with_names};
 
 use crate::naming::{bins_with, named_items, named_orders};
 use crate::order_slices::read_orders;

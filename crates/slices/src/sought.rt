@@ -2,7 +2,8 @@
 
 ghost use Rattle.std.specs.Prelude.{◌≡◌, map};
 ghost use Rattle.sqlite.specs.Held.{state};
-ghost use Rattle.slices.specs.Slicing.{IsRead, Each};
+ghost use Rattle.slices.specs.Reading.{IsRead};
+ghost use Rattle.slices.specs.Slicing.{Each};
 
 use sqlite::{Alter, Transaction};
 use std::alloc::Global;

@@ -1,4 +1,4 @@
-use Rattle.std.proofs.Common.{Vec, Global, ◌≡◌, ℕ, ◌+◌, ◌<◌, length, map, take, List, [], ◌∷◌, ◌++◌, Ok, Err, sym, ap, subst, ◌∙◌, arith}
+use Rattle.std.proofs.Common.{Vec, Global, ◌≡◌, ℕ, ◌+◌, ◌<◌, length, map, take, List, [], ◌∷◌, ◌++◌, Ok, sym, ap, subst, ◌∙◌, arith}
 use Rattle.std.proofs.lemmas.List.{take_all}
 use Rattle.commands.specs.declared.rows.LineRow.{LineRow}
 use Rattle.commands.specs.declared.rows.OrderRow.{OrderRow}
@@ -6,7 +6,8 @@ use Rattle.sqlite.specs.Held.{state}
 use Rattle.sqlite.specs.declared.error.Error.TheVariants.{SqliteFailure}
 use Rattle.sqlite.specs.declared.error.ErrorCode.TheVariants.{OutOfMemory}
 use Rattle.table_words.specs.Typed.{order_key}
-use Rattle.slices.specs.Slicing.{IsRead, Each, AreLinesOf, AreLines}
+use Rattle.slices.specs.Reading.{IsRead}
+use Rattle.slices.specs.Slicing.{Each, AreLinesOf, AreLines}
 use Rattle.slices.proofs.ReadSteps.{has_read, read_on, so_told, fails_later, no_room_left}
 use Rattle.slices.proofs.SeekSteps.{seek_step, each_place}
 use Rattle.slices.proofs.order_slices.lines_of_orders.Goals as goal

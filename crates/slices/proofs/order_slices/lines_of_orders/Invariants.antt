@@ -1,7 +1,8 @@
-use Rattle.std.proofs.Common.{◌≡◌, List, map, take, Ok}
+use Rattle.std.proofs.Common.{◌≡◌, List, take, Ok}
 use Rattle.commands.specs.declared.rows.LineRow.{LineRow}
 use Rattle.sqlite.specs.Held.{state}
-use Rattle.slices.specs.Slicing.{IsRead, AreLines}
+use Rattle.slices.specs.Reading.{IsRead}
+use Rattle.slices.specs.Slicing.{AreLines}
 use Rattle.slices.proofs.order_slices.lines_of_orders.Given as goal
 
 -- so far the lines of the first orders are read
