@@ -1,0 +1,48 @@
+-- The tables of books in which nothing has been done.
+use Rattle.std.proofs.Common.{◌≡◌, ℕ, true, false, List, [], IsTrue, Result, Ok, Err, OnOk, inl, inr, refl, sym, ap, ◌∙◌}
+use Rattle.std.specs.Prelude.{ℤ, Some, None, option_map, if◌then◌else◌}
+use Rattle.label.specs.Values.{same_text}
+use Rattle.commands.specs.Tables.{Tables}
+use Rattle.commands.specs.declared.command.BinKind.TheVariants.{Hold}
+use Rattle.commands.specs.declared.rows.MetaRow.{MetaRow}
+use Rattle.commands.specs.declared.rows.BinRow.{BinRow}
+use Rattle.rules.specs.Standing.{RETURNS, returns_bin}
+use Rattle.rules.specs.Tables.{tables_of, bin_row}
+use Rattle.sqlite.specs.State.{State, Survives}
+use Rattle.sqlite.specs.Tree.{Trees}
+use Rattle.table_words.specs.Steps.{IsReady}
+use Rattle.table_words.specs.Typed.{tables_in, AreTyped}
+use Rattle.tables.specs.Creation.{first_rows}
+use Rattle.store.specs.Books.{AreRowsOf, KeepsBooks}
+
+abbrev pub first_meta : ℤ → MetaRow
+first_meta day = record { day = day; acts = 0; shipments = 0 }
+
+abbrev pub returns_row : BinRow
+returns_row = record { name = RETURNS; kind = Hold }
+
+bin_found : (name : List ℕ) → bin_row [] name ≡ (if same_text name RETURNS then Some returns_row else None)
+bin_found name = elim (same_text name RETURNS) as (λ b. option_map (λ x. record { name = x.bin; kind = x.kind }) (if b then Some returns_bin else None) ≡ (if b then Some returns_row else None)) [ true ↦ refl | false ↦ refl ]
+
+pub first_tables : (day : ℤ) → first_rows (first_meta day) returns_row ≡ tables_of day []
+unfolding tables_of
+first_tables day = λ i. let t : Tables = record (tables_of day []) { bin = λ b. sym (bin_found b) i } in t
+
+pub rows_are : (day : ℤ) (name : List ℕ) (trees : Trees) → name ≡ RETURNS → tables_in trees ≡ first_rows (first_meta day) (record { name = name; kind = Hold }) → AreTyped trees → AreRowsOf day [] trees
+rows_are day name trees is tables typed = record { tables = tables ∙ ap (λ n. first_rows (first_meta day) (record { name = n; kind = Hold })) is ∙ first_tables day; typed = typed }
+
+pub books_made : {X E : Type 0} (r : Result X E) (day : ℤ) (name : List ℕ) (s : State) → name ≡ RETURNS → OnOk r (IsTrue s.is_open) → OnOk r (IsReady s.now)
+    → OnOk r (tables_in s.now.trees ≡ first_rows (first_meta day) (record { name = name; kind = Hold })) → OnOk r (AreTyped s.now.trees) → (IsTrue s.is_open → s.committed ≡ s.now) → OnOk r (KeepsBooks day [] s × IsTrue s.is_open)
+books_made (Ok x) day name s is up ready tables typed settled = (record { books = λ _. record { ready = ready; rows = rows_are day name s.now.trees is tables typed }; settled = settled }, up)
+books_made (Err e) day name s is up ready tables typed settled = tt
+
+-- a crash leaves what there was, or what the rows are
+pub survives_with : (old new : State) (P Q : Trees → Type 0) → ((db : Trees) → P db → Q db) → Survives old new P → Survives old new Q
+survives_with old new P Q so s = record {
+  clean = s.clean;
+  shield = s.shield;
+  counts = s.counts;
+  limit = s.limit;
+  closes = s.closes;
+  crash = λ clean db left. elim (s.crash clean db left) [ inl before ↦ inl before | inr made ↦ inr (so db made) ];
+}

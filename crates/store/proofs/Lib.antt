@@ -1,0 +1,9 @@
+pub mod TypedRows
+pub mod FaultsTold
+pub mod RepeatRead
+pub mod RepeatTold
+pub mod DecidedAs
+pub mod ActsInside
+pub mod ActsWhole
+pub mod EmptyTables
+pub mod OpenedBooks

@@ -1,0 +1,54 @@
+use Rattle.std.proofs.Common.{◌≡◌, Option, Some, None, subst, sym, ap, ◌∙◌, arith}
+use Rattle.sqlite.specs.State.{HasCleanDisk}
+use Rattle.sqlite.specs.Held.{state}
+use Rattle.commands.specs.Spelling.{key_text}
+use Rattle.commands.specs.declared.rows.RepeatRow.{RepeatRow}
+use Rattle.table_words.specs.Steps.{IsReady}
+use Rattle.table_words.specs.Typed.{tables_in}
+use Rattle.table_words.proofs.CallLemmas.{kept_unchanged, kept_then}
+use Rattle.rules.specs.Acts.{Act}
+use Rattle.store.specs.Acting.{IsActedInside}
+use Rattle.store.specs.Faults.{fault_of}
+use Rattle.store.proofs.FaultsTold.{by_error}
+use Rattle.store.proofs.ActsInside.{books_kept, inside_from, fails_inside, told_inside, key_is_fresh, row_is_found}
+use Rattle.store.proofs.acting.act_open.Goals as goal
+
+pub returns-in_err-found-clause-acted : goal.returns-in_err-found-clause-acted
+returns-in_err-found-clause-acted g c clean decided kind first acts history up books =
+    let act : Act = record { key = c.args.key.now; command = c.args.command.now } in
+    let old = state g.S.Store c.args.tx.now.conn.now in
+    let new = state g.S.Store c.earlier.new.tx.conn.now in
+    by_error c.from_residual.result (fault_of c.in_err-found.field-0.0) c.from_residual.ensures (λ r. IsActedInside first acts act r old new)
+    (fails_inside first acts act c.in_err-found.field-0.0 old new (c.in_err-found.ensures.typed clean books.ready books.rows.typed))
+
+pub returns-in-Some-clause-acted : goal.returns-in-Some-clause-acted
+returns-in-Some-clause-acted g c clean decided kind first acts history up books =
+    let act : Act = record { key = c.args.key.now; command = c.args.command.now } in
+    let old = state g.S.Store c.args.tx.now.conn.now in
+    let new = state g.S.Store c.earlier.new.tx.conn.now in
+    let same = c.in_ok-found.ensures.same clean books.ready in
+    let read : ◌≡◌ {A = Option RepeatRow} (Some c.in-Some.row) ((tables_in old.now.trees).repeat (key_text c.args.key.now)) =
+    sym c.in-Some.is ∙ c.in_ok-found.ensures.read clean books.ready ∙ ap (λ k. (tables_in old.now.trees).repeat k) c.text.ensures in
+    told_inside first acts act c.in-Some.row (row_is_found first acts (key_text c.args.key.now) old.now c.in-Some.row books read) c.told_again.result old new up books same c.told_again.ensures
+
+pub returns-in-None-clause-acted : goal.returns-in-None-clause-acted
+returns-in-None-clause-acted g c clean decided kind first acts history up books =
+    let act : Act = record { key = c.args.key.now; command = c.args.command.now } in
+    let old = state g.S.Store c.args.tx.now.conn.now in
+    let mid = state g.S.Store c.earlier.new.tx.conn.now in
+    let new = state g.S.Store c.act_anew.new.tx.conn.now in
+    let was : HasCleanDisk mid = omega (arith, clean, c.act_anew.ensures.survives.clean) in
+    let same = c.in_ok-found.ensures.same was books.ready in
+    let read : ◌≡◌ {A = Option RepeatRow} None ((tables_in old.now.trees).repeat (key_text c.args.key.now)) =
+    sym c.in-None.is ∙ c.in_ok-found.ensures.read was books.ready ∙ ap (λ k. (tables_in old.now.trees).repeat k) c.text.ensures in
+    inside_from first acts act c.act_anew.result old mid new same
+    (c.act_anew.ensures.acted clean decided kind first acts history same.0.is_open (books_kept first acts old mid same books) (key_is_fresh first acts act old.now books read))
+
+pub returns-in-None-clause-kept : goal.returns-in-None-clause-kept
+returns-in-None-clause-kept g c clean ready up =
+    let old = state g.S.Store c.args.tx.now.conn.now in
+    let mid = state g.S.Store c.earlier.new.tx.conn.now in
+    let new = state g.S.Store c.act_anew.new.tx.conn.now in
+    let was : HasCleanDisk mid = omega (arith, clean, c.act_anew.ensures.survives.clean) in
+    let same = c.in_ok-found.ensures.same was ready in
+    kept_then old mid new (kept_unchanged old mid same) (c.act_anew.ensures.kept clean (subst IsReady (sym same.0.now_is) ready) same.0.is_open)

@@ -1,0 +1,14 @@
+use Rattle.std.specs.Prelude.{[]}
+use Rattle.sqlite.specs.Held.{state}
+use Rattle.store.specs.Books.{AreRowsOf}
+use Rattle.store.proofs.EmptyTables.{rows_are, books_made, survives_with}
+use Rattle.store.proofs.books.make_tables.Goals as goal
+
+pub returns-clause-made : goal.returns-clause-made
+returns-clause-made g c clean =
+    let made = c.create.ensures in
+    books_made c.create.result c.args.day c.returns.result (state g.S.Store c.create.new.conn) c.returns.ensures (made.open clean) (made.ready clean) (made.tables clean) (made.typed clean) (made.settled clean)
+
+pub returns-clause-survives : goal.returns-clause-survives
+returns-clause-survives g c =
+    survives_with (state g.S.Store c.args.conn.now) (state g.S.Store c.create.new.conn) _ (AreRowsOf c.args.day []) (λ db made. rows_are c.args.day c.returns.result db c.returns.ensures made.0 made.1) c.create.ensures.survives

@@ -1,0 +1,11 @@
+use Rattle.std.proofs.Common.{◌≡◌, Err, sym, subst}
+use Rattle.rules.specs.Acts.{Act}
+use Rattle.store.specs.Acting.{IsDecided}
+use Rattle.store.specs.declared.fault.Fault.{Fault}
+use Rattle.store.proofs.DecidedAs.{fault_told}
+use Rattle.store.proofs.telling.decided.Goals as goal
+
+pub returns-in-Err : goal.returns-in-Err
+returns-in-Err c first acts decided history kind fresh slice =
+    let act : Act = record { key = c.args.key.now; command = c.args.command.now } in
+    subst (λ (x : Fault). IsDecided first act acts (Err x)) (sym c.from.ensures) (fault_told first act acts c.in-Err.fault (c.in-Err.ensures.decides first acts decided history kind fresh slice))

@@ -1,0 +1,50 @@
+-- What an act answers, and what it leaves of the books.
+use Rattle.std.specs.Prelude.{◌≡◌, Bool, if◌then◌else◌, List, Some, Result, Ok, Err, ℤ, IsTrue}
+use Rattle.sqlite_trees.specs.declared.store.Store.{Ghosts}
+use Rattle.sqlite.specs.State.{State}
+use Rattle.table_words.specs.Steps.{Goes}
+use Rattle.rules.specs.Acts.{Act}
+use Rattle.rules.specs.Tables.{tables_of}
+use Rattle.rules.specs.Slices.{IsDecision}
+use Rattle.rules.specs.Verdict.{verdict}
+use Rattle.rules.specs.declared.slice.Change.{Change}
+use Rattle.rules.specs.Once as once
+use Rattle.rules.specs.Once.{Outcome, outcome, acts_after}
+use Rattle.store.specs.Books.{KeepsBooks, HoldsBooks}
+use Rattle.store.specs.Connected.{Connected}
+use Rattle.store.specs.declared.reply.Reply.{Reply}
+use Rattle.store.specs.declared.fault.Fault.{Fault}
+use Rattle.store.specs.declared.fault.Fault.TheVariants.{Refused, Store, Foreign}
+
+-- the outcome that a reply tells
+abbrev pub told : Reply → Outcome
+told reply = if reply.repeated then once.Repeated reply.text else once.Accepted reply.text
+
+-- an act on the books of the acts answers as the machine does, and leaves the books of the acts after; or it answers
+-- `Store` and leaves them
+abbrev pub IsActedOn : ℤ → List Act → Act → Result Reply Fault → State → Type 0
+IsActedOn first acts act (Ok reply) new = (told reply ≡ outcome first acts act) × IsTrue new.is_open × KeepsBooks first (acts_after first acts act) new
+IsActedOn first acts act (Err (Refused why)) new = (once.Refused why ≡ outcome first acts act) × KeepsBooks first acts new
+IsActedOn first acts act (Err Store) new = KeepsBooks first acts new
+IsActedOn first acts act (Err Foreign) new = ⊥
+
+-- the same of the books, which know their business day
+abbrev pub IsActed : {S : Type 0} → Ghosts S → ℤ → List Act → Act → Result Reply Fault → Connected S → Type 0
+IsActed g first acts act (Ok reply) new = (told reply ≡ outcome first acts act) × HoldsBooks g first (acts_after first acts act) new
+IsActed g first acts act (Err (Refused why)) new = (once.Refused why ≡ outcome first acts act) × HoldsBooks g first acts new
+IsActed g first acts act (Err Store) new = HoldsBooks g first acts new
+IsActed g first acts act (Err Foreign) new = ⊥
+
+-- the same within the transaction, where what is refused is not yet undone
+abbrev pub IsActedInside : ℤ → List Act → Act → Result Reply Fault → State → State → Type 0
+IsActedInside first acts act (Ok reply) old new = (told reply ≡ outcome first acts act) × IsTrue old.is_open × Goes (λ _. tables_of first (acts_after first acts act)) old new
+IsActedInside first acts act (Err (Refused why)) old new = once.Refused why ≡ outcome first acts act
+IsActedInside first acts act (Err Store) old new = Unit {0}
+IsActedInside first acts act (Err Foreign) old new = ⊥
+
+-- a decision, with the faults of the books
+abbrev pub IsDecided : ℤ → Act → List Act → Result Change Fault → Type 0
+IsDecided first act acts (Ok change) = IsDecision first act acts (Ok change)
+IsDecided first act acts (Err (Refused why)) = verdict first acts act.command ≡ Some why
+IsDecided first act acts (Err Store) = Unit {0}
+IsDecided first act acts (Err Foreign) = ⊥

@@ -1,0 +1,27 @@
+-- The books of a history.
+use Rattle.std.specs.Prelude.{◌≡◌, List, ℤ, IsTrue}
+use Rattle.sqlite_trees.specs.declared.store.Store.{Ghosts}
+use Rattle.sqlite.specs.State.{State, HasCleanDisk}
+use Rattle.sqlite.specs.Held.{state}
+use Rattle.rules.specs.Acts.{Act}
+use Rattle.rules.specs.Standing.{today}
+pub use Rattle.slices.specs.Books.{AreRowsOf, IsBooksOf}
+use Rattle.store.specs.Connected.{Connected}
+
+-- as long as a fault of the disk has not shut the connection, it shows the books of the acts, and all is committed
+pub record KeepsBooks (first : ℤ) (acts : List Act) (s : State) : Type 0 where
+  pub books : IsTrue s.is_open → IsBooksOf first acts s.now
+  pub settled : IsTrue s.is_open → s.committed ≡ s.now
+
+-- so far the disk has returned what was written: the books are in memory, or in a file that nobody else writes
+abbrev pub IsClean : {S : Type 0} → Ghosts S → Connected S → Type 0
+IsClean g books = HasCleanDisk (state g books.conn)
+
+-- the business day of the books
+abbrev pub day_of : {S : Type 0} → Connected S → ℤ
+day_of books = books.day
+
+-- the books are those of the acts
+pub record HoldsBooks {S : Type 0} (g : Ghosts S) (first : ℤ) (acts : List Act) (books : Connected S) : Type 0 where
+  pub keeps : KeepsBooks first acts (state g books.conn)
+  pub day : day_of books ≡ today first acts

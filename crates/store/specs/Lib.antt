@@ -1,0 +1,6 @@
+pub mod Faults
+pub mod Acting
+pub mod Answers
+pub mod Connected
+pub mod Books
+pub mod Opening

@@ -1,0 +1,158 @@
+//! An act as one transaction.
+
+ghost use Rattle.std.specs.Prelude.{◌≡◌, false, None, ℤ, List, IsTrue, OnOk, IfOk, IfErr};
+ghost use Rattle.sqlite.specs.State.{HasCleanDisk, Survives, KeepsCommit, IsUnchanged};
+ghost use Rattle.sqlite.specs.Held.{state};
+ghost use Rattle.commands.specs.Spelling.{key_text, spelling};
+ghost use Rattle.table_words.specs.Steps.{IsReady, Goes};
+ghost use Rattle.table_words.specs.Typed.{with_repeat};
+ghost use Rattle.rules.specs.Acts.{Act};
+ghost use Rattle.rules.specs.Decided.{is_decided};
+ghost use Rattle.rules.specs.Once.{IsHistory, is_key_of, bearer, acts_after};
+ghost use Rattle.rules.specs.Slices.{AreOnce, applied};
+ghost use Rattle.slices.specs.Books.{AreRowsOf, IsBooksOf};
+ghost use Rattle.store.specs.Books.{KeepsBooks};
+ghost use Rattle.store.specs.Acting.{IsActedOn, IsActedInside, IsDecided};
+
+use crate::repeats::{earlier, find_open, keep_act};
+use crate::telling::{decided, told_again};
+use crate::{Fault, Reply};
+use changes::write_change;
+use commands::{Command, Key, Listed, spell};
+use rules::Change;
+use slices::read_slice;
+use sqlite::{Alter, Connection, Transaction};
+use std::alloc::Global;
+
+/// Acts on the command under its key, in one transaction.
+///
+/// A key that an earlier act bears is looked at before every other rule: the same command gets that
+/// act's answer again, and another is refused (K01). Under a new key the rules decide, and an accepted
+/// command is written with its key and its answer. What is refused, and what fails, leaves the books as
+/// they were. A stop leaves them without the act or with the whole of it.
+///
+/// This is promised of the commands that are decided so far: `Item`, `Bin`, `Receive` and `Order`.
+pub fn act_once<S: Alter>(
+    alloc: Global,
+    conn: &mut Connection<S>,
+    key: &Key,
+    command: &Command,
+) -> Result<Reply, Fault>
+    requires outside { conn.old.in_transaction ≡ false }
+    ensures outside { conn.new.in_transaction ≡ false }
+    ensures acted { HasCleanDisk (state S.Store conn.new) → IsTrue (is_decided command.now) → IsTrue (is_key_of key.now command.now) → (first : ℤ) (acts : List Act) → IsHistory first acts → KeepsBooks first acts (state S.Store conn.old)
+        → IsActedOn first acts (record { key = key.now; command = command.now }) result (state S.Store conn.new) }
+    ensures survives { Survives (state S.Store conn.old) (state S.Store conn.new) (λ trees. IsTrue (is_decided command.now) → IsTrue (is_key_of key.now command.now) → (first : ℤ) (acts : List Act) → IsHistory first acts → KeepsBooks first acts (state S.Store conn.old)
+        → AreRowsOf first (acts_after first acts (record { key = key.now; command = command.now })) trees) }
+{
+    let _outside = conn.is_autocommit();
+    let mut tx = conn.transaction();
+    let reply = act_inside(alloc, &mut tx, key, command)?;
+    tx.commit()?;
+    Ok(reply)
+}
+
+// The act within its transaction.
+fn act_inside<S: Alter>(
+    alloc: Global,
+    tx: &mut Transaction<'_, S>,
+    key: &Key,
+    command: &Command,
+) -> Result<Reply, Fault>
+    ensures same_reference { tx.new.conn.ghost_name ≡ tx.old.conn.ghost_name }
+    ensures acted { HasCleanDisk (state S.Store tx.new.conn.now) → IsTrue (is_decided command.now) → IsTrue (is_key_of key.now command.now) → (first : ℤ) (acts : List Act) → IsHistory first acts
+        → (IsTrue (state S.Store tx.old.conn.now).is_open → IsBooksOf first acts (state S.Store tx.old.conn.now).now)
+        → IsActedInside first acts (record { key = key.now; command = command.now }) result (state S.Store tx.old.conn.now) (state S.Store tx.new.conn.now) }
+    ensures kept { HasCleanDisk (state S.Store tx.new.conn.now) → (IsTrue (state S.Store tx.old.conn.now).is_open → IsReady (state S.Store tx.old.conn.now).now) → KeepsCommit (state S.Store tx.old.conn.now) (state S.Store tx.new.conn.now) }
+    ensures survives { Survives (state S.Store tx.old.conn.now) (state S.Store tx.new.conn.now) (λ _. ⊥) }
+{
+    find_open(tx)?;
+    act_open(alloc, tx, key, command)
+}
+
+// The key's row of `repeats` is looked up before every other rule.
+fn act_open<S: Alter>(
+    alloc: Global,
+    tx: &mut Transaction<'_, S>,
+    key: &Key,
+    command: &Command,
+) -> Result<Reply, Fault>
+    ensures same_reference { tx.new.conn.ghost_name ≡ tx.old.conn.ghost_name }
+    ensures acted { HasCleanDisk (state S.Store tx.new.conn.now) → IsTrue (is_decided command.now) → IsTrue (is_key_of key.now command.now) → (first : ℤ) (acts : List Act) → IsHistory first acts
+        → IsTrue (state S.Store tx.old.conn.now).is_open → IsBooksOf first acts (state S.Store tx.old.conn.now).now
+        → IsActedInside first acts (record { key = key.now; command = command.now }) result (state S.Store tx.old.conn.now) (state S.Store tx.new.conn.now) }
+    ensures kept { HasCleanDisk (state S.Store tx.new.conn.now) → IsReady (state S.Store tx.old.conn.now).now → IsTrue (state S.Store tx.old.conn.now).is_open
+        → KeepsCommit (state S.Store tx.old.conn.now) (state S.Store tx.new.conn.now) }
+    ensures survives { Survives (state S.Store tx.old.conn.now) (state S.Store tx.new.conn.now) (λ _. ⊥) }
+{
+    let found = earlier(alloc, tx, &key.text())?;
+    match found {
+        Some(row) => told_again(alloc, &row, command),
+        None => act_anew(alloc, tx, key, command),
+    }
+}
+
+// A command whose key is new: its change is decided, and then written with its answer.
+fn act_anew<S: Alter>(
+    alloc: Global,
+    tx: &mut Transaction<'_, S>,
+    key: &Key,
+    command: &Command,
+) -> Result<Reply, Fault>
+    ensures same_reference { tx.new.conn.ghost_name ≡ tx.old.conn.ghost_name }
+    ensures acted { HasCleanDisk (state S.Store tx.new.conn.now) → IsTrue (is_decided command.now) → IsTrue (is_key_of key.now command.now) → (first : ℤ) (acts : List Act) → IsHistory first acts
+        → IsTrue (state S.Store tx.old.conn.now).is_open → IsBooksOf first acts (state S.Store tx.old.conn.now).now → bearer key.now acts ≡ None
+        → IsActedInside first acts (record { key = key.now; command = command.now }) result (state S.Store tx.old.conn.now) (state S.Store tx.new.conn.now) }
+    ensures kept { HasCleanDisk (state S.Store tx.new.conn.now) → IsReady (state S.Store tx.old.conn.now).now → IsTrue (state S.Store tx.old.conn.now).is_open
+        → KeepsCommit (state S.Store tx.old.conn.now) (state S.Store tx.new.conn.now) }
+    ensures survives { Survives (state S.Store tx.old.conn.now) (state S.Store tx.new.conn.now) (λ _. ⊥) }
+{
+    let change = change_of(alloc, tx, key, command)?;
+    accept(alloc, tx, key, command, &change)
+}
+
+// The decision on a command whose key is new, by the rows that it touches.
+fn change_of<S: Alter>(
+    alloc: Global,
+    tx: &mut Transaction<'_, S>,
+    key: &Key,
+    command: &Command,
+) -> Result<Change, Fault>
+    ensures same_reference { tx.new.conn.ghost_name ≡ tx.old.conn.ghost_name }
+    ensures decided { HasCleanDisk (state S.Store tx.new.conn.now) → IsTrue (is_decided command.now) → IsTrue (is_key_of key.now command.now) → (first : ℤ) (acts : List Act) → IsHistory first acts
+        → IsTrue (state S.Store tx.old.conn.now).is_open → IsBooksOf first acts (state S.Store tx.old.conn.now).now → bearer key.now acts ≡ None
+        → IsDecided first (record { key = key.now; command = command.now }) acts result }
+    ensures same { HasCleanDisk (state S.Store tx.new.conn.now) → IsReady (state S.Store tx.old.conn.now).now → IsTrue (state S.Store tx.old.conn.now).is_open
+        → OnOk result (IsUnchanged (state S.Store tx.old.conn.now) (state S.Store tx.new.conn.now)) }
+    ensures kept { HasCleanDisk (state S.Store tx.new.conn.now) → IsReady (state S.Store tx.old.conn.now).now → IsTrue (state S.Store tx.old.conn.now).is_open
+        → KeepsCommit (state S.Store tx.old.conn.now) (state S.Store tx.new.conn.now) }
+    ensures survives { Survives (state S.Store tx.old.conn.now) (state S.Store tx.new.conn.now) (λ _. ⊥) }
+{
+    let slice = read_slice(alloc, tx, command)?;
+    decided(alloc, &slice, key, command)
+}
+
+// Writes what an accepted command changes, and then its row of `repeats`.
+fn accept<S: Alter>(
+    alloc: Global,
+    tx: &mut Transaction<'_, S>,
+    key: &Key,
+    command: &Command,
+    change: &Change,
+) -> Result<Reply, Fault>
+    ensures same_reference { tx.new.conn.ghost_name ≡ tx.old.conn.ghost_name }
+    ensures done { HasCleanDisk (state S.Store tx.new.conn.now) → IsReady (state S.Store tx.old.conn.now).now → AreOnce change.now.put
+        → OnOk result (Goes (λ t. with_repeat (record { k = key_text key.now; act = change.now.meta.acts; spell = spelling command.now; reply = change.now.text }) (applied change.now t)) (state S.Store tx.old.conn.now) (state S.Store tx.new.conn.now)) }
+    ensures told { IfOk result (λ reply. reply ≡ record { text = change.now.text; repeated = false }) }
+    ensures fault { IfErr result (λ e. e ≡ Fault.Store) }
+    ensures kept { HasCleanDisk (state S.Store tx.new.conn.now) → KeepsCommit (state S.Store tx.old.conn.now) (state S.Store tx.new.conn.now) }
+    ensures survives { Survives (state S.Store tx.old.conn.now) (state S.Store tx.new.conn.now) (λ _. ⊥) }
+{
+    let spelled = spell(alloc, command)?;
+    write_change(tx, change)?;
+    keep_act(tx, key, Listed::from_vec(spelled), change)?;
+    Ok(Reply {
+        text: change.text,
+        repeated: false,
+    })
+}

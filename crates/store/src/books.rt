@@ -1,0 +1,226 @@
+//! The books over a connection.
+
+ghost use Rattle.std.specs.Prelude.{◌≡◌, ◌≢◌, ◌⊎◌, ◌↔◌, ℤ, None, [], List, false, IsTrue, IsErrOf, IsErrAnd, OnOk, OnErr, IfOk, IfErr};
+ghost use Rattle.sqlite.specs.State.{HasCleanDisk, Survives};
+ghost use Rattle.sqlite.specs.Held.{state};
+ghost use Rattle.label.specs.Values.{is_business_day};
+ghost use Rattle.table_words.specs.Schema.{schema_0, the_schema};
+ghost use Rattle.table_words.specs.Steps.{IsReady};
+ghost use Rattle.table_words.specs.declared.error.TableFault.TheVariants.{Foreign as ForeignTable};
+ghost use Rattle.rules.specs.Acts.{Act};
+ghost use Rattle.rules.specs.Once.{IsHistory};
+ghost use Rattle.rules.specs.Standing.{today, RETURNS};
+ghost use Rattle.rules.specs.Decided.{is_decided};
+ghost use Rattle.rules.specs.Once.{is_key_of, acts_after};
+ghost use Rattle.store.specs.Acting.{IsActed};
+ghost use Rattle.store.specs.Books.{AreRowsOf, KeepsBooks, HoldsBooks, IsClean};
+ghost use Rattle.store.specs.Opening.{HasDay, unlimited, IsLeftUnfilled, IsReopened, IsLeftOver, IsCleanLeft};
+
+use crate::acting::act_once;
+use crate::{Fault, Reply};
+use commands::{BinKind, BinRow, Command, Key, MetaRow};
+use goods_tables::meta::meta_rows;
+use label::{BusinessDay, Day, Name};
+use sqlite::{Alter, Connection};
+use std::alloc::Global;
+use std::marker::Model;
+use table_words::error::TableFault;
+use tables::creation;
+use tables::opening::{Leftover, ready};
+
+/// The books over a connection, which is outside a transaction between calls and has no limit on steps.
+#[derive(Drop)]
+pub struct Books<S: Alter> {
+    conn: Connection<S>,
+    day: BusinessDay,
+    alloc: Global,
+}
+
+impl<S: Alter> Model for Books<S> {
+    ghost use Rattle.store.specs.Connected.{Connected, connected_code, IsIdle};
+
+    ghost Value = { Connected S };
+
+    ghost coded = { connected_code S.code };
+
+    ghost view = { λ b. record { conn = b.conn; day = b.day } };
+
+    ghost invariant = { λ b. IsIdle b.conn };
+}
+
+/// Why no books were made or opened.
+#[derive(Drop)]
+pub struct OpenFault<S: Alter> {
+    /// What is left of the connection.
+    pub left: Leftover<S>,
+    pub fault: Fault,
+}
+
+/// The name of the bin that is there from the start.
+fn returns() -> Name
+    ensures { result ≡ RETURNS }
+{
+    Name::new(b"RETURNS").unwrap()
+}
+
+/// Makes the tables of books of this day in which nothing has been done.
+fn make_tables<S: Alter>(conn: &mut Connection<S>, day: BusinessDay) -> Result<(), TableFault>
+    requires outside { conn.old.in_transaction ≡ false }
+    ensures foreign { IsErrOf result ForeignTable ↔ ((state S.Store conn.old).now.schema ≢ schema_0) }
+    ensures unchanged { IsErrOf result ForeignTable → conn.new ≡ conn.old }
+    ensures made { HasCleanDisk (state S.Store conn.new) → OnOk result (KeepsBooks day [] (state S.Store conn.new) × IsTrue (state S.Store conn.new).is_open) }
+    ensures failed { HasCleanDisk (state S.Store conn.new) → IsTrue (state S.Store conn.new).is_open
+        → OnErr result ((state S.Store conn.new).now ≡ (state S.Store conn.old).now) }
+    ensures settled { HasCleanDisk (state S.Store conn.new) → IsTrue (state S.Store conn.new).is_open
+        → (state S.Store conn.new).committed ≡ (state S.Store conn.new).now }
+    ensures survives { Survives (state S.Store conn.old) (state S.Store conn.new) (AreRowsOf day []) }
+    ensures outside { conn.new.in_transaction ≡ false }
+{
+    let meta = MetaRow {
+        day,
+        acts: 0,
+        shipments: 0,
+    };
+    let bin = BinRow {
+        name: returns(),
+        kind: BinKind::Hold,
+    };
+    creation::create(conn, &meta, &bin)
+}
+
+/// The business day in the row of `meta`; `Foreign` where there is no such row, or one with a value that no row has.
+fn stored_day<S: Alter>(alloc: Global, conn: &mut Connection<S>) -> Result<BusinessDay, TableFault>
+    requires outside { conn.old.in_transaction ≡ false }
+    ensures day { HasCleanDisk (state S.Store conn.new) → IsReady (state S.Store conn.old).now → IfOk result (HasDay (state S.Store conn.old).now.trees) }
+    ensures foreign { HasCleanDisk (state S.Store conn.new) → IsReady (state S.Store conn.old).now
+        → IfErr result (λ e. e ≡ ForeignTable → (day : ℤ) → ¬ HasDay (state S.Store conn.old).now.trees day) }
+    ensures kept { HasCleanDisk (state S.Store conn.new) → IsReady (state S.Store conn.old).now → IsTrue (state S.Store conn.new).is_open
+        → ((state S.Store conn.new).now ≡ (state S.Store conn.old).committed) × ((state S.Store conn.new).committed ≡ (state S.Store conn.old).committed) }
+    ensures survives { Survives (state S.Store conn.old) (state S.Store conn.new) (λ _. ⊥) }
+    ensures outside { conn.new.in_transaction ≡ false }
+{
+    let mut tx = conn.transaction();
+    let rows = meta_rows(alloc, &mut tx)?;
+    tx.rollback();
+    match rows.as_slice().first() {
+        Some(row) => Ok(row.day),
+        None => Err(TableFault::Foreign),
+    }
+}
+
+impl<S: Alter + Drop> Books<S> {
+    /// Makes books of this business day, in which nothing has been done. `Foreign` where the database has a table, an
+    /// index or a view: the connection is then as it was. `Store` where memory, the disk or a size does not suffice: the
+    /// tables are as they were.
+    pub fn create(
+        alloc: Global,
+        conn: Connection<S>,
+        day: BusinessDay,
+    ) -> Result<Books<S>, OpenFault<S>>
+        requires outside { conn.in_transaction ≡ false }
+        ensures books { IfOk result (λ b. HasCleanDisk (state S.Store b.conn) → KeepsBooks day [] (state S.Store b.conn) × IsTrue (state S.Store b.conn).is_open) }
+        ensures day { IfOk result (λ b. b.day ≡ day) }
+        ensures survives { IfOk result (λ b. Survives (unlimited (state S.Store conn)) (state S.Store b.conn) (AreRowsOf day [])) }
+        ensures foreign { IsErrAnd result (λ e. e.fault ≡ Fault.Foreign) ↔ ((state S.Store conn).now.schema ≢ schema_0) }
+        ensures unchanged { IfErr result (λ e. e.fault ≡ Fault.Foreign → e.left ≡ Leftover.Connection conn) }
+        ensures left { IfErr result (λ e. IsLeftUnfilled S.Store conn day e.left) }
+        ensures fault { IfErr result (λ e. (e.fault ≡ Fault.Foreign) ⊎ (e.fault ≡ Fault.Store)) }
+    {
+        let mut conn = conn;
+        match make_tables(&mut conn, day) {
+            Ok(()) => {}
+            Err(fault) => {
+                return Err(OpenFault {
+                    left: Leftover::Connection(conn),
+                    fault: Fault::from(fault),
+                });
+            }
+        }
+        conn.set_step_limit(None);
+        Ok(Books { conn, day, alloc })
+    }
+
+    /// Opens the books that are in the tables. `Foreign` where the database has another schema, or where the row of
+    /// `meta` is missing or has a value that no row has; `Store` where memory or the disk fails. The tables are as they
+    /// were.
+    pub fn open(alloc: Global, conn: Connection<S>) -> Result<Books<S>, OpenFault<S>>
+        requires outside { conn.in_transaction ≡ false }
+        ensures books { IfOk result (λ b. HasCleanDisk (state S.Store b.conn) → (first : ℤ) (acts : List Act) → IsHistory first acts → AreRowsOf first acts (state S.Store conn).committed.trees
+            → KeepsBooks first acts (state S.Store b.conn)) }
+        ensures day { IfOk result (λ b. HasCleanDisk (state S.Store b.conn) → HasDay (state S.Store conn).committed.trees b.day) }
+        ensures today { IfOk result (λ b. HasCleanDisk (state S.Store b.conn) → (first : ℤ) (acts : List Act) → IsHistory first acts → AreRowsOf first acts (state S.Store conn).committed.trees
+            → b.day ≡ today first acts) }
+        ensures opens { IfOk result (λ b. IsReopened S.Store conn b.conn) }
+        ensures foreign { IfErr result (λ e. IsCleanLeft S.Store e.left → e.fault ≡ Fault.Foreign
+            → ((state S.Store conn).now.schema ≢ the_schema) ⊎ ((day : ℤ) → ¬ HasDay (state S.Store conn).committed.trees day)) }
+        ensures known { IfErr result (λ e. IsCleanLeft S.Store e.left → (state S.Store conn).now.schema ≡ the_schema → (first : ℤ) (acts : List Act) → IsHistory first acts
+            → AreRowsOf first acts (state S.Store conn).committed.trees → e.fault ≡ Fault.Store) }
+        ensures other { (state S.Store conn).now.schema ≢ the_schema
+            → IsErrAnd result (λ e. (e.left ≡ Leftover.Connection conn) × ((e.fault ≡ Fault.Foreign) ⊎ (e.fault ≡ Fault.Store))) }
+        ensures left { IfErr result (λ e. IsLeftOver S.Store conn e.left) }
+        ensures fault { IfErr result (λ e. (e.fault ≡ Fault.Foreign) ⊎ (e.fault ≡ Fault.Store)) }
+    {
+        let mut again = match ready(alloc, conn) {
+            Ok(again) => again,
+            Err((left, fault)) => {
+                return Err(OpenFault {
+                    left,
+                    fault: Fault::from(fault),
+                });
+            }
+        };
+        match stored_day(alloc, &mut again) {
+            Ok(day) => Ok(Books {
+                conn: again,
+                day,
+                alloc,
+            }),
+            Err(fault) => Err(OpenFault {
+                left: Leftover::Connection(again),
+                fault: Fault::from(fault),
+            }),
+        }
+    }
+}
+
+impl<S: Alter> Books<S> {
+    /// The connection of the books, outside a transaction.
+    pub fn close(self) -> Connection<S>
+        ensures same { result ≡ self.conn }
+        ensures outside { result.in_transaction ≡ false }
+    {
+        let Books {
+            conn,
+            day: _,
+            alloc: _,
+        } = self;
+        conn
+    }
+
+    /// The business day.
+    pub fn day(&self) -> Day
+        ensures value { result ≡ self.now.day }
+        ensures business { IsTrue (is_business_day result) }
+    {
+        self.day.day()
+    }
+
+    /// Acts on the command under its key. An act is one transaction: a stop leaves the books without it or with the whole
+    /// of it, its row of `repeats` too.
+    ///
+    /// A key that an earlier act bears is looked at before every other rule: the same command gets that act's answer
+    /// again, and another is refused (K01). Under a new key the rules decide. What is refused leaves the books as they
+    /// were, and so does `Store`, where memory, the disk or a size did not suffice; `Foreign` is never answered on books
+    /// of a history. This is promised of the commands that are decided so far: `Item`, `Bin`, `Receive` and `Order`.
+    pub fn act(&mut self, key: &Key, command: &Command) -> Result<Reply, Fault>
+        ensures clean { IsClean S.Store self.new → IsClean S.Store self.old }
+        ensures acted { IsClean S.Store self.new → IsTrue (is_decided command.now) → IsTrue (is_key_of key.now command.now)
+            → (first : ℤ) (acts : List Act) → IsHistory first acts → HoldsBooks S.Store first acts self.old
+            → IsActed S.Store first acts (record { key = key.now; command = command.now }) result self.new }
+        ensures survives { Survives (state S.Store self.old.conn) (state S.Store self.new.conn) (λ trees. IsTrue (is_decided command.now) → IsTrue (is_key_of key.now command.now)
+            → (first : ℤ) (acts : List Act) → IsHistory first acts → KeepsBooks first acts (state S.Store self.old.conn)
+            → AreRowsOf first (acts_after first acts (record { key = key.now; command = command.now })) trees) }
+    {
+        act_once(self.alloc, &mut self.conn, key, command)
+    }
+}

@@ -1,0 +1,81 @@
+//! The rows of `repeats`: the keys, the commands and the answers of the acts.
+
+ghost use Rattle.std.specs.Prelude.{◌≡◌, OnOk, IfOk, IfErr};
+ghost use Rattle.sqlite.specs.State.{HasCleanDisk, Survives, KeepsCommit, IsUnchanged};
+ghost use Rattle.sqlite.specs.Held.{state};
+ghost use Rattle.commands.specs.Spelling.{key_text};
+ghost use Rattle.table_words.specs.Steps.{IsReady, Goes};
+ghost use Rattle.table_words.specs.Typed.{tables_in, AreTyped, with_repeat};
+ghost use Rattle.table_words.specs.declared.error.TableFault.TheVariants.{Foreign};
+
+use crate::Fault;
+use commands::limits::KEY_TEXT_MAX;
+use commands::{Key, Listed, RepeatRow};
+use history_tables::repeats::{put_repeat, repeats_of};
+use label::Text;
+use rules::Change;
+use sqlite::{Alter, Transaction};
+use std::alloc::Global;
+use table_words::error::TableFault;
+
+// The look-up of a key, in the words of `history_tables`.
+const LOOK_UP: &str = "SELECT k, act, spell, reply FROM repeats WHERE k = ?1 ORDER BY rowid";
+
+/// Finds the connection open, or fails: makes the look-up of a key ready, whose plan the connection
+/// keeps. What a connection shows once the disk has shut it says nothing of the books.
+pub fn find_open<S: Alter>(tx: &mut Transaction<'_, S>) -> Result<(), Fault>
+    ensures same_reference { tx.new.conn.ghost_name ≡ tx.old.conn.ghost_name }
+    ensures open { HasCleanDisk (state S.Store tx.new.conn.now) → OnOk result (IsUnchanged (state S.Store tx.old.conn.now) (state S.Store tx.new.conn.now)) }
+    ensures fault { IfErr result (λ e. e ≡ Fault.Store) }
+    ensures kept { HasCleanDisk (state S.Store tx.new.conn.now) → KeepsCommit (state S.Store tx.old.conn.now) (state S.Store tx.new.conn.now) }
+    ensures survives { Survives (state S.Store tx.old.conn.now) (state S.Store tx.new.conn.now) (λ _. ⊥) }
+{
+    tx.prepare(LOOK_UP)?;
+    Ok(())
+}
+
+/// The row under this key, if an act bears it.
+pub fn earlier<S: Alter>(
+    alloc: Global,
+    tx: &mut Transaction<'_, S>,
+    k: &Text<KEY_TEXT_MAX>,
+) -> Result<Option<RepeatRow>, TableFault>
+    ensures same_reference { tx.new.conn.ghost_name ≡ tx.old.conn.ghost_name }
+    ensures read { HasCleanDisk (state S.Store tx.new.conn.now) → IsReady (state S.Store tx.old.conn.now).now
+        → IfOk result (λ row. row ≡ (tables_in (state S.Store tx.old.conn.now).now.trees).repeat k.now) }
+    ensures typed { HasCleanDisk (state S.Store tx.new.conn.now) → IsReady (state S.Store tx.old.conn.now).now → AreTyped (state S.Store tx.old.conn.now).now.trees
+        → IfErr result (λ e. e ≡ Foreign → ⊥) }
+    ensures same { HasCleanDisk (state S.Store tx.new.conn.now) → IsReady (state S.Store tx.old.conn.now).now → OnOk result (IsUnchanged (state S.Store tx.old.conn.now) (state S.Store tx.new.conn.now)) }
+    ensures kept { HasCleanDisk (state S.Store tx.new.conn.now) → IsReady (state S.Store tx.old.conn.now).now → KeepsCommit (state S.Store tx.old.conn.now) (state S.Store tx.new.conn.now) }
+    ensures survives { Survives (state S.Store tx.old.conn.now) (state S.Store tx.new.conn.now) (λ _. ⊥) }
+{
+    let mut rows = repeats_of(alloc, tx, k)?;
+    if rows.is_empty() {
+        return Ok(None);
+    }
+    Ok(Some(rows.remove(0)))
+}
+
+/// Keeps the key, the spelling and the answer of an act.
+pub fn keep_act<S: Alter>(
+    tx: &mut Transaction<'_, S>,
+    key: &Key,
+    spell: Listed<u8>,
+    change: &Change,
+) -> Result<(), Fault>
+    ensures same_reference { tx.new.conn.ghost_name ≡ tx.old.conn.ghost_name }
+    ensures done { HasCleanDisk (state S.Store tx.new.conn.now) → IsReady (state S.Store tx.old.conn.now).now
+        → OnOk result (Goes (with_repeat (record { k = key_text key.now; act = change.now.meta.acts; spell = spell; reply = change.now.text })) (state S.Store tx.old.conn.now) (state S.Store tx.new.conn.now)) }
+    ensures fault { IfErr result (λ e. e ≡ Fault.Store) }
+    ensures kept { HasCleanDisk (state S.Store tx.new.conn.now) → KeepsCommit (state S.Store tx.old.conn.now) (state S.Store tx.new.conn.now) }
+    ensures survives { Survives (state S.Store tx.old.conn.now) (state S.Store tx.new.conn.now) (λ _. ⊥) }
+{
+    let row = RepeatRow {
+        k: key.text(),
+        act: change.meta.acts,
+        spell,
+        reply: change.text,
+    };
+    put_repeat(tx, &row)?;
+    Ok(())
+}

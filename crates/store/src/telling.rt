@@ -1,0 +1,45 @@
+//! What an act is told: by the row that an earlier act left, or by the decision.
+
+ghost use Rattle.std.specs.Prelude.{◌≡◌, true, false, None, ℤ, List, IsTrue, IfOk, IfErr};
+ghost use Rattle.label.specs.Values.{same_text};
+ghost use Rattle.commands.specs.Spelling.{spelling};
+ghost use Rattle.rules.specs.Acts.{Act};
+ghost use Rattle.rules.specs.Once.{IsHistory, is_key_of, bearer};
+ghost use Rattle.rules.specs.Decided.{is_decided};
+ghost use Rattle.rules.specs.Slices.{IsSlice};
+ghost use Rattle.rules.specs.Tables.{tables_of};
+ghost use Rattle.store.specs.Acting.{IsDecided};
+ghost use Rattle.store.specs.Answers.{IsToldAgain};
+
+use crate::{Fault, Reply};
+use commands::{Command, Key, Refusal, RepeatRow, spell};
+use rules::{Change, Slice, decide};
+use std::alloc::Global;
+
+/// The answer to a command whose key an earlier act bears: that act's answer, if the command is the
+/// same, and K01 if it is another.
+pub fn told_again(alloc: Global, row: &RepeatRow, command: &Command) -> Result<Reply, Fault>
+    ensures { IsToldAgain (spelling command.now) row.now result }
+{
+    let spelled = spell(alloc, command)?;
+    if spelled.as_slice() != row.spell.as_slice() {
+        return Err(Fault::Refused(Refusal::KeyUsed));
+    }
+    Ok(Reply {
+        text: row.reply,
+        repeated: true,
+    })
+}
+
+/// The decision on a command whose key is new.
+pub fn decided(alloc: Global, slice: &Slice, key: &Key, command: &Command) -> Result<Change, Fault>
+    ensures { (first : ℤ) (acts : List Act) →
+        let act : Act = record { key = key.now; command = command.now } in
+        IsTrue (is_decided command.now) → IsHistory first acts → IsTrue (is_key_of key.now command.now) → bearer key.now acts ≡ None →
+        IsSlice first act acts (tables_of first acts) slice.now → IsDecided first act acts result }
+{
+    match decide(alloc, slice, key, command) {
+        Ok(change) => Ok(change),
+        Err(fault) => Err(Fault::from(fault)),
+    }
+}
