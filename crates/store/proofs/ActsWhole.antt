@@ -1,20 +1,25 @@
 -- An act within a transaction, and then the transaction's end.
-use Rattle.std.proofs.Common.{◌≡◌, ◌⊎◌, inl, inr, Bool, true, false, List, ◌∷◌, Ok, Err, Result, refl, sym, ap, subst, ◌∙◌, IsTrue, arith}
+use Rattle.std.proofs.Common.{◌≡◌, inl, inr, true, false, List, Ok, Err, Result, refl, sym, ap, subst, ◌∙◌, IsTrue, arith}
 use Rattle.std.specs.Prelude.{ℤ}
 use Rattle.std.specs.Result.{IsErr, IsErrAnd}
-use Rattle.sqlite.specs.Tree.{Trees}
-use Rattle.sqlite.specs.State.{State, Shows, KeepsCommit, IsRolledBack, Survives}
+use Rattle.sqlite.specs.State.{State, HasCleanDisk, Shows, KeepsCommit, IsRolledBack, Survives}
+use Rattle.sqlite.proofs.StateLemmas.{survives_then, survives_weaker}
 use Rattle.sqlite.specs.Steps.{FailsToCommit}
+use Rattle.sqlite.specs.Store.{Ghosts}
+use Rattle.sqlite.specs.Held.{Held, state}
 use Rattle.sqlite.specs.declared.error.Error.{Error}
-use Rattle.table_words.proofs.CallLemmas.{put_back}
+use Rattle.table_words.specs.Steps.{IsReady}
+use Rattle.table_words.proofs.CallLemmas.{put_back, inside_then}
 use Rattle.rules.specs.Acts.{Act}
-use Rattle.rules.specs.Once.{acts_after}
+use Rattle.rules.specs.Decided.{is_decided}
+use Rattle.rules.specs.Once.{IsHistory, is_key_of, acts_after}
 use Rattle.store.specs.declared.reply.Reply.{Reply}
 use Rattle.store.specs.declared.fault.Fault.{Fault}
 use Rattle.store.specs.declared.fault.Fault.TheVariants.{Refused, Store, Foreign}
 use Rattle.slices.specs.Books.{AreRowsOf, IsBooksOf}
 use Rattle.store.specs.Books.{KeepsBooks}
 use Rattle.store.specs.Acting.{IsActedOn, IsActedInside}
+use Rattle.store.proofs.FaultsTold.{by_error}
 
 module _ (first : ℤ) (acts : List Act) (old begun : State) (is : begun ≡ record old { in_transaction = true }) (held : KeepsBooks first acts old) where
   was_open : IsTrue begun.is_open → IsTrue old.is_open
@@ -24,11 +29,11 @@ module _ (first : ℤ) (acts : List Act) (old begun : State) (is : begun ≡ rec
   books_begun up = subst (IsBooksOf first acts) (sym (ap (λ (s : State). s.now) is)) (held.books (was_open up))
 
   -- rows of the acts after, once the act is done
-  pub rows_after : (act : Act) (reply : Reply) (last : State) → IsActedInside first acts act (Ok reply) begun last → AreRowsOf first (acts_after first acts act) last.now.trees
+  rows_after : (act : Act) (reply : Reply) (last : State) → IsActedInside first acts act (Ok reply) begun last → AreRowsOf first (acts_after first acts act) last.now.trees
   rows_after act reply last done = record { tables = done.2.tables; typed = done.2.typed (books_begun done.1).rows.typed }
 
   -- it is committed
-  pub acted_whole : (act : Act) (reply : Reply) (last new : State) → IsActedInside first acts act (Ok reply) begun last → Shows last new last.now last.now false → IsActedOn first acts act (Ok reply) new
+  acted_whole : (act : Act) (reply : Reply) (last new : State) → IsActedInside first acts act (Ok reply) begun last → Shows last new last.now last.now false → IsActedOn first acts act (Ok reply) new
   acted_whole act reply last new done shows = (
     done.0,
     shows.is_open,
@@ -46,18 +51,21 @@ module _ (first : ℤ) (acts : List Act) (old begun : State) (is : begun ≡ rec
   }
 
   -- the commit fails
-  pub not_committed : (last new : State) (e : Error) → KeepsCommit begun last → last.in_transaction ≡ begun.in_transaction → FailsToCommit last new e → KeepsBooks first acts new
+  not_committed : (last new : State) (e : Error) → KeepsCommit begun last → last.in_transaction ≡ begun.in_transaction → FailsToCommit last new e → KeepsBooks first acts new
   not_committed last new e kept mode (inl fails) = undone_whole last new kept fails.3
   not_committed last new e kept mode (inr late) = absurd (let inside : begun.in_transaction ≡ true = ap (λ (s : State). s.in_transaction) is in let out = late.1 in cc)
 
   -- what is refused, and what fails, leaves the books
-  pub refused_whole : (act : Act) (fault : Fault) (last new : State) → IsActedInside first acts act (Err fault) begun last → KeepsBooks first acts new → IsActedOn first acts act (Err fault) new
+  refused_whole : (act : Act) (fault : Fault) (last new : State) → IsActedInside first acts act (Err fault) begun last → KeepsBooks first acts new → IsActedOn first acts act (Err fault) new
   refused_whole act (Refused why) last new done kept = (done, kept)
   refused_whole act Store last new done kept = kept
   refused_whole act Foreign last new done kept = absurd done
 
+pub begun_state : {S : Type 0} (g : Ghosts S) (old begun : Held S) → begun ≡ record old { in_transaction = true } → state g begun ≡ record (state g old) { in_transaction = true }
+begun_state g old begun is = ap (state g) is
+
 -- to begin a transaction writes nothing
-pub begun_survives : (old begun : State) → begun ≡ record old { in_transaction = true } → Survives old begun (λ _. ⊥)
+begun_survives : (old begun : State) → begun ≡ record old { in_transaction = true } → Survives old begun (λ _. ⊥)
 begun_survives old begun is =
     subst (λ (s : State). Survives old s (λ _. ⊥)) (sym is) (record {
       clean = omega arith;
@@ -67,3 +75,57 @@ begun_survives old begun is =
       closes = λ _ up. inl up;
       crash = λ _ db left. inl left;
     })
+
+-- what is promised of an act on every history: within its transaction, of the whole of it, and of a stop in it
+
+abbrev pub ActsInside : Act → Result Reply Fault → State → State → Type 0
+ActsInside act r old new =
+    HasCleanDisk new → IsTrue (is_decided act.command) → IsTrue (is_key_of act.key act.command) → (first : ℤ) (acts : List Act) → IsHistory first acts
+    → (IsTrue old.is_open → IsBooksOf first acts old.now) → IsActedInside first acts act r old new
+
+abbrev pub KeepsInside : State → State → Type 0
+KeepsInside old new = HasCleanDisk new → (IsTrue old.is_open → IsReady old.now) → KeepsCommit old new
+
+abbrev pub ActsWhole : Act → Result Reply Fault → State → State → Type 0
+ActsWhole act r old new =
+    HasCleanDisk new → IsTrue (is_decided act.command) → IsTrue (is_key_of act.key act.command) → (first : ℤ) (acts : List Act) → IsHistory first acts → KeepsBooks first acts old
+    → IsActedOn first acts act r new
+
+abbrev pub SurvivesWhole : Act → State → State → Type 0
+SurvivesWhole act old new =
+    Survives old new (λ trees. IsTrue (is_decided act.command) → IsTrue (is_key_of act.key act.command) → (first : ℤ) (acts : List Act) → IsHistory first acts → KeepsBooks first acts old
+    → AreRowsOf first (acts_after first acts act) trees)
+
+module _ (act : Act) (old begun last new : State) (is : begun ≡ record old { in_transaction = true }) where
+  pub act_committed : (reply : Reply) → ActsInside act (Ok reply) begun last → Survives last new (λ db. db ≡ last.now.trees) → (HasCleanDisk new → Shows last new last.now last.now false) → ActsWhole act (Ok reply) old new
+  act_committed reply inside ends shows clean known kind first acts history held =
+      let was : HasCleanDisk last = omega (arith, clean, ends.clean) in
+      acted_whole first acts old begun is held act reply last new (inside was known kind first acts history (books_begun first acts old begun is held)) (shows clean)
+
+  pub act_not_committed : (reply : Reply) (e : Error) (r : Result Reply Fault) → ActsInside act (Ok reply) begun last → KeepsInside begun last → Survives last new (λ db. db ≡ last.now.trees)
+      → (HasCleanDisk new → FailsToCommit last new e) → IsErr r × IsErrAnd r (λ x. x ≡ Store) → ActsWhole act r old new
+  act_not_committed reply e r inside keeps ends fails told clean known kind first acts history held =
+      let was : HasCleanDisk last = omega (arith, clean, ends.clean) in
+      let done = inside was known kind first acts history (books_begun first acts old begun is held) in
+      let kept : KeepsCommit begun last = keeps was (λ up. (books_begun first acts old begun is held up).ready) in
+      by_error r Store told (λ x. IsActedOn first acts act x new) (not_committed first acts old begun is held last new e kept done.2.mode (fails clean))
+
+  pub act_undone : (fault : Fault) (r : Result Reply Fault) → ActsInside act (Err fault) begun last → KeepsInside begun last → Survives last new (λ _. ⊥)
+      → (HasCleanDisk new → IsRolledBack last new) → IsErr r × IsErrAnd r (λ x. x ≡ fault) → ActsWhole act r old new
+  act_undone fault r inside keeps ends undone told clean known kind first acts history held =
+      let was : HasCleanDisk last = omega (arith, clean, ends.clean) in
+      let done = inside was known kind first acts history (books_begun first acts old begun is held) in
+      let kept : KeepsCommit begun last = keeps was (λ up. (books_begun first acts old begun is held up).ready) in
+      by_error r fault told (λ x. IsActedOn first acts act x new) (refused_whole first acts old begun is held act fault last new done (undone_whole first acts old begun is held last new kept (undone clean)))
+
+  -- a stop in the commit leaves the books before or with the whole act
+  pub stop_in_commit : (reply : Reply) → ActsInside act (Ok reply) begun last → Survives begun last (λ _. ⊥) → Survives last new (λ db. db ≡ last.now.trees) → SurvivesWhole act old new
+  stop_in_commit reply inside before ends =
+      survives_then old last new (λ _. ⊥) (λ db. db ≡ last.now.trees) _ (λ _ db none. absurd none) (λ clean db e known kind first acts history held.
+      let was : HasCleanDisk last = omega (arith, clean, ends.clean) in
+      subst (AreRowsOf first (acts_after first acts act)) (sym e) (rows_after first acts old begun is held act reply last (inside was known kind first acts history (books_begun first acts old begun is held))))
+      (inside_then old begun last (begun_survives old begun is) before) ends
+
+  -- a stop before it leaves the books before
+  pub stop_before_commit : Survives begun last (λ _. ⊥) → Survives last new (λ _. ⊥) → SurvivesWhole act old new
+  stop_before_commit before ends = survives_weaker old new (λ _. ⊥) _ (λ _ db none. absurd none) (inside_then old last new (inside_then old begun last (begun_survives old begun is) before) ends)

@@ -1,10 +1,6 @@
-ghost use Rattle.std.specs.Prelude.{IsTrue, IfOk};
-ghost use Rattle.sqlite_disk.specs.Memory.{memory_is_usable};
-
 use crate::{Books, Fault, OpenFault};
 use label::{BusinessDay, Day};
-use sqlite::{Alter, Connection, Error, FileStore, Files, Options};
-use sqlite_disk::Memory;
+use sqlite::{Alter, Connection};
 use std::alloc::Global;
 use std::process::Abort;
 use std::test::Fail;
@@ -151,38 +147,4 @@ fn another_row_of_meta_is_foreign(rt: HostRuntime) -> Result<(), Fail> {
     conn.execute("DELETE FROM meta", &[])?;
     not_opened(&rt, rt.alloc(), conn)?;
     Ok(())
-}
-
-fn file_connection(
-    alloc: Global,
-    log: Memory,
-    db: Memory,
-) -> Result<Connection<FileStore<Memory>>, Error>
-    requires { IsTrue (memory_is_usable log) × IsTrue (memory_is_usable db) }
-{
-    match Connection::open_files(alloc, Files { log, db }, Options::new(1)) {
-        Ok(conn) => Ok(conn),
-        Err((error, _)) => Err(error),
-    }
-}
-
-fn file_left(conn: Connection<FileStore<Memory>>) -> Result<Memory, Error>
-    ensures { IfOk result (λ db. IsTrue (memory_is_usable db)) }
-{
-    match conn.close_files() {
-        Ok(Files { log: _, db }) => Ok(db),
-        Err(failed) => Err(failed.0),
-    }
-}
-
-#[test]
-fn books_in_a_file_are_opened_again(rt: HostRuntime) -> Result<(), Fail> {
-    let conn = file_connection(rt.alloc(), Memory::new(rt.alloc()), Memory::new(rt.alloc()))?;
-    let books = made(&rt, rt.alloc(), conn)?;
-    let db = file_left(books.close())?;
-    let conn = file_connection(rt.alloc(), Memory::new(rt.alloc()), db)?;
-    let again = opened(rt.alloc(), conn)?;
-    is_of_may_fourth(&rt, &again);
-    let mut conn = again.close();
-    has_first_bin(&rt, &mut conn)
 }

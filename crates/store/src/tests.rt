@@ -1,8 +1,11 @@
-ghost use Rattle.std.specs.Prelude.{◌≡◌, false};
+ghost use Rattle.std.specs.Prelude.{◌≡◌, false, IfOk};
 
 use crate::{Fault, Reply, act_once};
-use commands::{BinKind, BinRow, Command, Key, MetaRow, NewBin, Refusal};
-use label::{BusinessDay, Day, Name};
+use commands::{
+    BinKind, BinRow, Command, Key, Lines, MetaRow, NewBin, NewItem, NewOrder, OrderLine, Receipt,
+    Refusal,
+};
+use label::{BusinessDay, Day, Gtin, LineNo, Lot, LotId, Name, Qty, Title};
 use sqlite::{Alter, Connection, MemStore};
 use std::alloc::Global;
 use std::process::Abort;
@@ -22,6 +25,48 @@ fn bin(rt: &impl Abort, text: &[u8], kind: BinKind) -> Command {
         bin: name(rt, text),
         kind,
     })
+}
+
+fn title(rt: &impl Abort, text: &[u8]) -> Title {
+    Title::new(text).expect(rt, "a title")
+}
+
+fn oats(rt: &impl Abort) -> Gtin {
+    Gtin::new(b"09506000134352").ok().expect(rt, "a GTIN")
+}
+
+fn item(rt: &impl Abort) -> Command {
+    Command::Item(NewItem {
+        gtin: oats(rt),
+        name: title(rt, b"Oat drink 1 l"),
+    })
+}
+
+/// Units of the lot L1 of the oat drink into A-01.
+fn receipt(rt: &impl Abort, units: u64) -> Command {
+    Command::Receive(Receipt {
+        lot: LotId {
+            gtin: oats(rt),
+            lot: Lot::new(b"L1").ok().expect(rt, "a lot"),
+        },
+        expiry: Day::parse(b"2026-06-30").expect(rt, "a day"),
+        bin: name(rt, b"A-01"),
+        qty: Qty::new(units).expect(rt, "a quantity"),
+    })
+}
+
+/// The order S-1 of units of the oat drink.
+fn order(rt: &impl Abort, alloc: Global, units: u64) -> Result<Command, Fail> {
+    let mut lines = Vec::new(alloc);
+    lines.push(OrderLine {
+        gtin: oats(rt),
+        qty: Qty::new(units).expect(rt, "a quantity"),
+    })?;
+    Ok(Command::Order(NewOrder {
+        order: name(rt, b"S-1"),
+        customer: title(rt, b"Corner Shop"),
+        lines: Lines::new(lines).expect(rt, "lines"),
+    }))
 }
 
 /// Books of no acts on 2026-05-04, with the bin RETURNS.
@@ -82,13 +127,13 @@ fn a_key_acts_once(rt: HostRuntime) -> Result<(), Fail> {
     let mut conn = books(&rt, rt.alloc())?;
     let first = bin(&rt, b"A-01", BinKind::Store);
     let second = bin(&rt, b"B-02", BinKind::Hold);
-    let told = acted(rt.alloc(), &mut conn, &key(&rt, b"k-1"), &first);
+    let told = acted(rt.alloc(), &mut conn, &key(&rt, b"K-1"), &first);
     tells(&rt, told, b"{\"act\":1}", false);
-    let told = acted(rt.alloc(), &mut conn, &key(&rt, b"k-1"), &first);
+    let told = acted(rt.alloc(), &mut conn, &key(&rt, b"K-1"), &first);
     tells(&rt, told, b"{\"act\":1}", true);
-    let told = acted(rt.alloc(), &mut conn, &key(&rt, b"k-1"), &second);
+    let told = acted(rt.alloc(), &mut conn, &key(&rt, b"K-1"), &second);
     refuses(&rt, told, Refusal::KeyUsed);
-    let told = acted(rt.alloc(), &mut conn, &key(&rt, b"k-2"), &second);
+    let told = acted(rt.alloc(), &mut conn, &key(&rt, b"K-2"), &second);
     tells(&rt, told, b"{\"act\":2}", false);
     Ok(())
 }
@@ -98,12 +143,36 @@ fn a_key_acts_once(rt: HostRuntime) -> Result<(), Fail> {
 fn a_refused_command_bears_no_key(rt: HostRuntime) -> Result<(), Fail> {
     let mut conn = books(&rt, rt.alloc())?;
     let first = bin(&rt, b"A-01", BinKind::Store);
-    let told = acted(rt.alloc(), &mut conn, &key(&rt, b"k-1"), &first);
+    let told = acted(rt.alloc(), &mut conn, &key(&rt, b"K-1"), &first);
     tells(&rt, told, b"{\"act\":1}", false);
-    let told = acted(rt.alloc(), &mut conn, &key(&rt, b"k-2"), &first);
+    let told = acted(rt.alloc(), &mut conn, &key(&rt, b"K-2"), &first);
     refuses(&rt, told, Refusal::BinExists);
     let other = bin(&rt, b"B-02", BinKind::Store);
-    let told = acted(rt.alloc(), &mut conn, &key(&rt, b"k-2"), &other);
+    let told = acted(rt.alloc(), &mut conn, &key(&rt, b"K-2"), &other);
     tells(&rt, told, b"{\"act\":2}", false);
+    Ok(())
+}
+
+// Ten units come in and twelve are ordered: the order is short of two. A delivery's line acts once too.
+#[test]
+fn goods_come_in_and_are_ordered(rt: HostRuntime) -> Result<(), Fail> {
+    let mut conn = books(&rt, rt.alloc())?;
+    let told = acted(rt.alloc(), &mut conn, &key(&rt, b"K-1"), &item(&rt));
+    tells(&rt, told, b"{\"act\":1}", false);
+    let store = bin(&rt, b"A-01", BinKind::Store);
+    let told = acted(rt.alloc(), &mut conn, &key(&rt, b"K-2"), &store);
+    tells(&rt, told, b"{\"act\":2}", false);
+    let line = Key::Line(name(&rt, b"D-1"), LineNo::new(1).expect(&rt, "a line"));
+    let told = acted(rt.alloc(), &mut conn, &line, &receipt(&rt, 10));
+    tells(&rt, told, b"{\"act\":3}", false);
+    let told = acted(rt.alloc(), &mut conn, &line, &receipt(&rt, 10));
+    tells(&rt, told, b"{\"act\":3}", true);
+    let told = acted(rt.alloc(), &mut conn, &line, &receipt(&rt, 11));
+    refuses(&rt, told, Refusal::KeyUsed);
+    let wanted = order(&rt, rt.alloc(), 12)?;
+    let told = acted(rt.alloc(), &mut conn, &key(&rt, b"K-3"), &wanted);
+    tells(&rt, told, b"{\"act\":4,\"short\":2}", false);
+    let told = acted(rt.alloc(), &mut conn, &key(&rt, b"K-3"), &wanted);
+    tells(&rt, told, b"{\"act\":4,\"short\":2}", true);
     Ok(())
 }
