@@ -141,7 +141,7 @@ const IN_THREE_PLACES: Sample = Sample {
     ..TWO_LOTS
 };
 
-// One unit less than the item may have in the house, on the day before the last act.
+// One unit less than the item may have in the house, before the last act.
 const NEARLY_FULL: Sample = Sample {
     acts: ACTS_MAX - 1,
     bins: &[Bin("A-01", BinKind::Store), Bin("Q-01", BinKind::Hold)],
