@@ -8,7 +8,7 @@ use Rattle.label.specs.Labels.{label_read}
 use Rattle.label.specs.declared.fault.LabelFault.{LabelFault}
 use Rattle.label.specs.declared.gs1.Label.{Label as LabelSaid}
 use Rattle.lotd.specs.declared.fault.Fault.{Fault}
-use Rattle.lotd.specs.declared.fault.Fault.TheVariants.{Usage, Label, Value, Io, Store}
+use Rattle.lotd.specs.declared.fault.Fault.TheVariants.{Usage, Label, Value, Io, Store, Foreign}
 
 -- what `lotd label` prints
 abbrev pub label_lines : LabelSaid → List ℕ
@@ -21,6 +21,7 @@ told_code (Label fault) = fault_code fault
 told_code Value = codes "value"
 told_code Io = codes "io"
 told_code Store = codes "store"
+told_code Foreign = codes "foreign books"
 
 -- the day is a business day, the text is a label on it, and what the label says was printed
 pub record IsPrinted (day text : List ℕ) (old new : Option (List ℕ)) : Type 0 where
@@ -48,3 +49,4 @@ IsRefused day text Value = IsNoBusinessDay day
 IsRefused day text Io = Unit {0}
 IsRefused day text (Usage error) = ⊥
 IsRefused day text Store = ⊥
+IsRefused day text Foreign = ⊥

@@ -1,4 +1,4 @@
-use clap::{Arg, ArgAction, ArgMatches, Command, Error};
+use clap::{Arg, ArgAction, ArgMatches, Command, Error, value_parser};
 use std::alloc::{AllocError, Global};
 use std::convert::AsStr;
 
@@ -7,9 +7,18 @@ use std::convert::AsStr;
 pub enum Line<'a> {
     /// `lotd label --day DATE TEXT`: what the label TEXT says on that business day.
     Label { day: &'a str, text: &'a str },
+    /// `lotd init --db PATH --day DATE`: makes books in the file PATH that begin on that business day.
+    Init { db: &'a str, day: &'a str },
+    /// `lotd serve --db PATH --port N --max M`: answers M connections to the port N of 127.0.0.1.
+    Serve { db: &'a str, port: u16, max: u32 },
     /// No line that the program has. `clap` refuses such words before.
     Unknown,
 }
+
+const EXAMPLES: &str = "Examples:
+  lotd init --db stock.db --day 2026-05-04
+  lotd serve --db stock.db --port 8080 --max 1000
+  lotd label --day 2026-05-04 ']C101095060001343521726093010AB12'";
 
 const LABEL_EXAMPLES: &str = "Examples:
   lotd label --day 2026-05-04 ']C101095060001343521726093010AB12'
@@ -24,6 +33,8 @@ pub(crate) fn read_line<'a, S: AsStr>(alloc: Global, words: &'a [S]) -> Result<L
     let matches = program(alloc)?.try_get_matches_from(words)?;
     match matches.subcommand() {
         Some(("label", found)) => Ok(label_line(found)),
+        Some(("init", found)) => Ok(init_line(found)),
+        Some(("serve", found)) => Ok(serve_line(found)),
         _ => Ok(Line::Unknown),
     }
 }
@@ -35,12 +46,68 @@ fn label_line<'a>(found: &ArgMatches<'a>) -> Line<'a> {
     }
 }
 
+fn init_line<'a>(found: &ArgMatches<'a>) -> Line<'a> {
+    match (found.get_str("db"), found.get_str("day")) {
+        (Some(db), Some(day)) => Line::Init { db, day },
+        _ => Line::Unknown,
+    }
+}
+
+fn serve_line<'a>(found: &ArgMatches<'a>) -> Line<'a> {
+    let (port, max) = (found.get_one::<u16>("port"), found.get_one::<u32>("max"));
+    match (found.get_str("db"), port, max) {
+        (Some(db), Some(port), Some(max)) => Line::Serve { db, port, max },
+        _ => Line::Unknown,
+    }
+}
+
 fn program<'a>(alloc: Global) -> Result<Command<'a>, AllocError> {
     Command::new(alloc, "lotd")
         .about("Lot stock: the stock of a food wholesaler, lot by lot")
-        .after_help("Examples:\n  lotd label --day 2026-05-04 ']C101095060001343521726093010AB12'")
+        .after_help(EXAMPLES)
         .subcommand_required(true)
+        .subcommand(init_command(alloc)?)?
+        .subcommand(serve_command(alloc)?)?
         .subcommand(label_command(alloc)?)
+}
+
+fn init_command<'a>(alloc: Global) -> Result<Command<'a>, AllocError> {
+    let day = required(
+        alloc,
+        "day",
+        "DATE",
+        "The first business day, as 2026-05-04",
+    )
+    .long("day");
+    Command::new(alloc, "init")
+        .about("Make new books")
+        .after_help("Example:\n  lotd init --db stock.db --day 2026-05-04")
+        .arg(books(alloc))?
+        .arg(day)
+}
+
+fn serve_command<'a>(alloc: Global) -> Result<Command<'a>, AllocError> {
+    let port = required(alloc, "port", "N", "The port on 127.0.0.1, 1024 to 65535")
+        .long("port")
+        .value_parser(value_parser!(u16).range(1024..=65535));
+    let max = required(
+        alloc,
+        "max",
+        "M",
+        "How many connections to serve before the end, 1 to 1000000",
+    )
+    .long("max")
+    .value_parser(value_parser!(u32).range(1..=1_000_000));
+    Command::new(alloc, "serve")
+        .about("Answer the requests of scanners, one connection after another")
+        .after_help("Example:\n  lotd serve --db stock.db --port 8080 --max 1000")
+        .arg(books(alloc))?
+        .arg(port)?
+        .arg(max)
+}
+
+fn books<'a>(alloc: Global) -> Arg<'a> {
+    required(alloc, "db", "PATH", "The file of the books").long("db")
 }
 
 fn label_command<'a>(alloc: Global) -> Result<Command<'a>, AllocError> {

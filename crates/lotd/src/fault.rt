@@ -3,7 +3,9 @@ ghost use Rattle.std.specs.Prelude.{◌≡◌};
 use clap::Error;
 use clap::error::ErrorKind;
 use label::LabelFault;
+use sqlite::Alter;
 use std::io;
+use store::OpenFault;
 
 /// Why a line of the program is not done.
 #[derive(Drop)]
@@ -16,8 +18,10 @@ pub enum Fault {
     Value,
     /// The output could not be written.
     Io,
-    /// No memory was left.
+    /// Memory, the disk or a size did not suffice, or the path is no database.
     Store,
+    /// The database has other tables than the books, or the books are there already.
+    Foreign,
 }
 
 impl Fault {
@@ -33,6 +37,7 @@ impl Fault {
             Fault::Value => "value",
             Fault::Io => "io",
             Fault::Store => "store",
+            Fault::Foreign => "foreign books",
         }
     }
 }
@@ -50,5 +55,20 @@ impl From<Error> for Fault {
 impl From<io::Error> for Fault {
     fn from(_error: io::Error) -> Fault {
         Fault::Io
+    }
+}
+
+impl<S: Alter + Drop> From<OpenFault<S>> for Fault {
+    fn from(fault: OpenFault<S>) -> Fault {
+        match fault.fault {
+            store::Fault::Foreign => Fault::Foreign,
+            _ => Fault::Store,
+        }
+    }
+}
+
+impl From<sqlite::Error> for Fault {
+    fn from(_error: sqlite::Error) -> Fault {
+        Fault::Store
     }
 }

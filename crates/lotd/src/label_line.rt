@@ -25,7 +25,8 @@ pub(crate) fn print_label<W: Write>(day: &str, text: &str, out: &mut W) -> Resul
     }
 }
 
-fn business_day(text: &str) -> Result<Day, Fault>
+/// The business day that a DATE is.
+pub(crate) fn business_day(text: &str) -> Result<Day, Fault>
     ensures day { IfOk result (λ day. parsed_day text.now ≡ Some day) }
     ensures business { IfOk result (λ day. IsTrue (is_business_day day)) }
     ensures none { IfErr result (λ fault. IsNoBusinessDay text.now) }

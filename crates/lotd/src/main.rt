@@ -1,10 +1,12 @@
 // The program `lotd`: the stock system on the command line.
 #![tactic(auto)]
 
+mod books_lines;
 mod command_line;
 mod fault;
 mod label_line;
 mod run;
+mod serve;
 #[cfg(test)]
 mod tests;
 
@@ -27,5 +29,5 @@ fn main(rt: HostRuntime) -> ExitCode {
         Err(_) => return ExitCode::from(run::tell(&Fault::Store, &mut err)),
     };
     let mut out = rt.stdout();
-    ExitCode::from(run::run(rt.alloc(), words.as_slice(), &mut out, &mut err))
+    ExitCode::from(run::run(&rt, words.as_slice(), &mut out, &mut err))
 }

@@ -1,10 +1,10 @@
 ghost use Rattle.std.specs.Prelude.{◌≤◌};
 
+use crate::books_lines::{init_books, serve_books};
 use crate::command_line::{Line, read_line};
 use crate::fault::Fault;
 use crate::label_line::print_label;
 use clap::Error;
-use std::alloc::Global;
 use std::convert::AsStr;
 use std::io;
 use std::io::Write;
@@ -21,14 +21,14 @@ pub const MISUSED: u8 = 2;
 /// Runs the line that the words are, the program's name first: what it prints goes to `out`, and a
 /// fault to `err` as one line, `lotd: ` and its code. The result is the exit status.
 pub fn run<'a, S: AsStr, W: Write, E: Write>(
-    alloc: Global,
+    rt: &HostRuntime,
     words: &'a [S],
     out: &mut W,
     err: &mut E,
 ) -> u8
     ensures { result ≤ MISUSED }
 {
-    match do_line(alloc, words, out) {
+    match do_line(rt, words, out) {
         Ok(()) => DONE,
         Err(Fault::Usage(error)) => tell_usage(&error, out, err),
         Err(fault) => tell(&fault, err),
@@ -36,11 +36,13 @@ pub fn run<'a, S: AsStr, W: Write, E: Write>(
 }
 
 fn do_line<'a, S: AsStr, W: Write>(
-    alloc: Global,
+    rt: &HostRuntime,
     words: &'a [S],
     out: &mut W,
 ) -> Result<(), Fault> {
-    match read_line(alloc, words)? {
+    match read_line(rt.alloc(), words)? {
+        Line::Init { db, day } => init_books(rt, db, day)?,
+        Line::Serve { db, port, max } => serve_books(rt, db, port, max, out)?,
         Line::Label { day, text } => print_label(day, text, out)?,
         Line::Unknown => return Err(Fault::Value),
     }

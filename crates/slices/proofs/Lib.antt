@@ -7,4 +7,7 @@ pub mod KeysTold
 pub mod SliceTold
 pub mod OrdersTold
 pub mod SliceRight
+pub mod OrderRight
+pub mod ReadTold
 pub mod SliceRead
+pub mod OrderRead

@@ -126,7 +126,7 @@ module _ (first : ℤ) (acts : List Act) where
   open_told o h = open_by o (order_named acts o) refl h
 
   -- an order's line of an item has a row
-  line_some : (o g : List ℕ) → is_some ((tables_of first acts).line o g) ≡ list_any (λ l. same_text g l.gtin) (lines_of acts o)
+  pub line_some : (o g : List ℕ) → is_some ((tables_of first acts).line o g) ≡ list_any (λ l. same_text g l.gtin) (lines_of acts o)
   unfolding tables_of
   line_some o g = some_mapped _ (find (λ l. same_text g l.gtin) (lines_of acts o)) ∙ any_found (λ l. same_text g l.gtin) (lines_of acts o)
 

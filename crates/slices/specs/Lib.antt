@@ -1,3 +1,4 @@
 pub mod Books
 pub mod Reading
 pub mod Slicing
+pub mod ShownOrders

@@ -3,7 +3,7 @@
 ghost use Rattle.std.specs.Prelude.{◌≡◌, ◌++◌, [], ◌∷◌, OnOk, IfOk};
 ghost use Rattle.slices.specs.Slicing.{is_among, with_name, with_names, items_named, orders_named, bins_named};
 
-use commands::{Command, OrderLine, StockRow};
+use commands::{Command, LineRow, OrderLine, StockRow};
 use label::{Gtin, Name};
 use std::alloc::{AllocError, Global};
 
@@ -69,6 +69,17 @@ fn items_of_lines(alloc: Global, lines: &[OrderLine]) -> Result<Vec<Gtin>, Alloc
     Ok(gtins)
 }
 
+/// The items of rows of lines, each once.
+pub fn items_of_rows(alloc: Global, lines: &[LineRow]) -> Result<Vec<Gtin>, AllocError>
+    ensures { IfOk result (λ gtins. gtins.items ≡ with_names (λ r. r.gtin) lines.now []) }
+{
+    let mut gtins = Vec::new(alloc);
+    for line in lines {
+        add_item(&mut gtins, line.gtin)?;
+    }
+    Ok(gtins)
+}
+
 /// The items that a command names, each once.
 pub fn named_items(alloc: Global, command: &Command) -> Result<Vec<Gtin>, AllocError>
     ensures { IfOk result (λ gtins. gtins.items ≡ items_named command.now) }
@@ -101,6 +112,16 @@ fn named_bins(alloc: Global, command: &Command) -> Result<Vec<Name>, AllocError>
     }
 }
 
+/// The names, and those of the bins of the stock, each once.
+fn with_bins(mut names: Vec<Name>, stock: &[StockRow]) -> Result<Vec<Name>, AllocError>
+    ensures { IfOk result (λ all. all.items ≡ with_names (λ r. r.bin) stock.now names.items) }
+{
+    for row in stock {
+        add_name(&mut names, row.bin)?;
+    }
+    Ok(names)
+}
+
 /// The bin that a command names, if it names one, and those of the stock, each once.
 pub fn bins_with(
     alloc: Global,
@@ -109,9 +130,13 @@ pub fn bins_with(
 ) -> Result<Vec<Name>, AllocError>
     ensures { IfOk result (λ names. names.items ≡ with_names (λ r. r.bin) stock.now (bins_named command.now)) }
 {
-    let mut names = named_bins(alloc, command)?;
-    for row in stock {
-        add_name(&mut names, row.bin)?;
-    }
-    Ok(names)
+    let names = named_bins(alloc, command)?;
+    with_bins(names, stock)
+}
+
+/// The bins of the stock, each once.
+pub fn bins_of_stock(alloc: Global, stock: &[StockRow]) -> Result<Vec<Name>, AllocError>
+    ensures { IfOk result (λ names. names.items ≡ with_names (λ r. r.bin) stock.now []) }
+{
+    with_bins(Vec::new(alloc), stock)
 }

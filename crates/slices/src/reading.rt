@@ -12,7 +12,7 @@ use goods_tables::items::all_items;
 use goods_tables::meta::meta_rows;
 use label::{Gtin, Name};
 use order_tables::lines::line_of;
-use order_tables::orders::open_orders;
+use order_tables::orders::{open_orders, orders_of};
 use sqlite::{Alter, Transaction};
 use std::alloc::Global;
 use table_words::error::TableFault;
@@ -27,6 +27,19 @@ pub fn meta_row<S: Alter>(alloc: Global, tx: &mut Transaction<'_, S>) -> Result<
         Some(row) => Ok(*row),
         None => Err(TableFault::Foreign),
     }
+}
+
+/// The row of an order, if there is one.
+pub fn order_row<S: Alter>(
+    alloc: Global,
+    tx: &mut Transaction<'_, S>,
+    order: &Name,
+) -> Result<Option<OrderRow>, TableFault>
+    ensures same_reference { tx.new.conn.ghost_name ≡ tx.old.conn.ghost_name }
+    ensures read { IsRead (λ t row. row ≡ t.order order.now) (state S.Store tx.old.conn.now) (state S.Store tx.new.conn.now) result }
+{
+    let rows = orders_of(alloc, tx, order)?;
+    Ok(rows.as_slice().first().copied())
 }
 
 /// The number of items.

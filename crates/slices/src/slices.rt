@@ -29,7 +29,7 @@ use std::alloc::Global;
 use table_words::error::TableFault;
 
 /// The rows of the items.
-fn read_goods<S: Alter>(
+pub fn read_goods<S: Alter>(
     alloc: Global,
     tx: &mut Transaction<'_, S>,
     gtins: &[Gtin],
@@ -45,7 +45,7 @@ fn read_goods<S: Alter>(
 }
 
 /// What is staged and what is reserved of the items.
-fn read_booked<S: Alter>(
+pub fn read_booked<S: Alter>(
     alloc: Global,
     tx: &mut Transaction<'_, S>,
     gtins: &[Gtin],

@@ -7,3 +7,4 @@ pub mod ActsInside
 pub mod ActsWhole
 pub mod EmptyTables
 pub mod OpenedBooks
+pub mod ShownWhole

@@ -4,3 +4,5 @@ pub mod Answers
 pub mod Connected
 pub mod Books
 pub mod Opening
+pub mod Showing
+pub mod Queries

@@ -13,12 +13,15 @@ ghost use Rattle.rules.specs.Standing.{today, RETURNS};
 ghost use Rattle.rules.specs.Decided.{is_decided};
 ghost use Rattle.rules.specs.Once.{is_key_of, acts_after};
 ghost use Rattle.store.specs.Acting.{IsActed};
+ghost use Rattle.rules.specs.Queries.{order_shown};
+ghost use Rattle.store.specs.Queries.{IsShown};
 ghost use Rattle.store.specs.Books.{AreRowsOf, KeepsBooks, HoldsBooks, IsClean};
 ghost use Rattle.store.specs.Opening.{HasDay, unlimited, IsLeftUnfilled, IsReopened, IsLeftOver, IsCleanLeft};
 
 use crate::acting::act_once;
+use crate::showing::show_order;
 use crate::{Fault, Reply};
-use commands::{BinKind, BinRow, Command, Key, MetaRow};
+use commands::{BinKind, BinRow, Command, Key, MetaRow, OrderView};
 use goods_tables::meta::meta_rows;
 use label::{BusinessDay, Day, Name};
 use sqlite::{Alter, Connection};
@@ -222,5 +225,17 @@ impl<S: Alter> Books<S> {
             → AreRowsOf first (acts_after first acts (record { key = key.now; command = command.now })) trees) }
     {
         act_once(self.alloc, &mut self.conn, key, command)
+    }
+
+    /// Shows an order as it stands: its lines by GTIN, what is reserved and staged for them by lot, and what is short. An
+    /// order that is not known is refused (U04). Nothing is changed; `Store` where memory or the disk did not suffice, and
+    /// `Foreign` never on books of a history.
+    pub fn order_rows(&mut self, order: &Name) -> Result<OrderView, Fault>
+        ensures clean { IsClean S.Store self.new → IsClean S.Store self.old }
+        ensures shown { IsClean S.Store self.new → (first : ℤ) (acts : List Act) → IsHistory first acts → HoldsBooks S.Store first acts self.old
+            → IsShown S.Store first acts (order_shown first acts order.now) result self.new }
+        ensures survives { Survives (state S.Store self.old.conn) (state S.Store self.new.conn) (λ _. ⊥) }
+    {
+        show_order(self.alloc, &mut self.conn, order)
     }
 }

@@ -8,6 +8,7 @@ mod books_tests;
 mod fault;
 mod repeats;
 mod reply;
+mod showing;
 mod telling;
 
 pub use books::{Books, OpenFault};

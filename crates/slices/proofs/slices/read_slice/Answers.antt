@@ -1,18 +1,20 @@
 use Rattle.sqlite.specs.Held.{state}
-use Rattle.slices.proofs.SliceRead.{slice_read, slice_fault, slice_same, slice_kept}
+use Rattle.slices.specs.Slicing.{IsSliceIn}
+use Rattle.slices.proofs.ReadTold.{read_fault, read_same, read_kept}
+use Rattle.slices.proofs.SliceRead.{slice_read}
 use Rattle.slices.proofs.slices.read_slice.Goals as goal
 
 pub returns-clause-read : goal.returns-clause-read
 returns-clause-read g c = slice_read c.args.command.now (state g.S.Store c.args.tx.now.conn.now) (state g.S.Store c.slice_in.new.tx.conn.now) c.slice_in.result c.slice_in.ensures.read
 
 pub returns-clause-fault : goal.returns-clause-fault
-returns-clause-fault g c clean known = slice_fault c.args.command.now (state g.S.Store c.args.tx.now.conn.now) (state g.S.Store c.slice_in.new.tx.conn.now) c.slice_in.result c.slice_in.ensures.read clean
+returns-clause-fault g c clean known = read_fault (λ t s. IsSliceIn c.args.command.now t s) (state g.S.Store c.args.tx.now.conn.now) (state g.S.Store c.slice_in.new.tx.conn.now) c.slice_in.result c.slice_in.ensures.read clean
 
 pub returns-clause-same : goal.returns-clause-same
-returns-clause-same g c = slice_same c.args.command.now (state g.S.Store c.args.tx.now.conn.now) (state g.S.Store c.slice_in.new.tx.conn.now) c.slice_in.result c.slice_in.ensures.read
+returns-clause-same g c = read_same (λ t s. IsSliceIn c.args.command.now t s) (state g.S.Store c.args.tx.now.conn.now) (state g.S.Store c.slice_in.new.tx.conn.now) c.slice_in.result c.slice_in.ensures.read
 
 pub returns-clause-kept : goal.returns-clause-kept
-returns-clause-kept g c = slice_kept c.args.command.now (state g.S.Store c.args.tx.now.conn.now) (state g.S.Store c.slice_in.new.tx.conn.now) c.slice_in.result c.slice_in.ensures.read
+returns-clause-kept g c = read_kept (λ t s. IsSliceIn c.args.command.now t s) (state g.S.Store c.args.tx.now.conn.now) (state g.S.Store c.slice_in.new.tx.conn.now) c.slice_in.result c.slice_in.ensures.read
 
 pub returns-clause-survives : goal.returns-clause-survives
 returns-clause-survives g c = c.slice_in.ensures.read.survives

@@ -1,0 +1,40 @@
+-- Runs over texts.
+use Rattle.std.proofs.Common.{◌≡◌, ℕ, ◌+◌, ◌<◌, List, [], ◌∷◌, ◌++◌, length, take, get_or, refl, ap, sym, subst, ◌∙◌, add-one}
+use Rattle.std.proofs.Math.Seq.{take-suc}
+use Rattle.std.proofs.lemmas.List.{map-append}
+use Rattle.std.specs.Prelude.{ℤ, map, Vec}
+use Rattle.rules.specs.Acts.{Act}
+use Rattle.rules.specs.Once.{IsHistory}
+use Rattle.sqlite_trees.specs.declared.store.Store.{Ghosts}
+use Rattle.store.specs.Connected.{Connected}
+use Rattle.store.specs.Books.{HoldsBooks}
+use Rattle.house.specs.House.{Step, Run, StepsTo, RunsTo, texts_of, bytes_of}
+use Rattle.house.specs.declared.answered.Answered.{Answered}
+
+-- a run, and one step more
+pub one_more : (first : ℤ) (old : List Act) (texts answers : List (List ℕ)) (mid : List Act) (text bytes : List ℕ) (new : List Act)
+    → Run first old texts answers mid → Step first mid text bytes new → Run first old (texts ++ text ∷ []) (answers ++ bytes ∷ []) new
+one_more first old [] [] mid text bytes new run step = (new, subst (λ a. Step first a text bytes new) run step, refl)
+one_more first old [] (a ∷ answers) mid text bytes new run step = absurd run
+one_more first old (t ∷ texts) [] mid text bytes new run step = absurd run
+one_more first old (t ∷ texts) (a ∷ answers) mid text bytes new run step =
+    (run.0, run.1, one_more first run.0 texts answers mid text bytes new run.2 step)
+
+-- the same of the books
+pub run_on : {S : Type 0} (g : Ghosts S) (first : ℤ) (acts : List Act) (texts answers : List (List ℕ)) (mid new : Connected S) (text bytes : List ℕ)
+    → RunsTo g first acts texts answers mid → ((a : List Act) → IsHistory first a → HoldsBooks g first a mid → StepsTo g first a text bytes new)
+    → RunsTo g first acts (texts ++ text ∷ []) (answers ++ bytes ∷ []) new
+run_on g first acts texts answers mid new text bytes r f =
+    let s = f r.after r.history r.holds in
+    record { after = s.after; run = one_more first acts texts answers r.after text bytes s.after r.run s.step; history = s.history; holds = s.holds }
+
+-- one text more
+pub texts_more : {A : Type 0} (requests : List (Vec ℕ A)) (i : ℕ) (x : Vec ℕ A) → i < length requests → x ≡ get_or requests i x
+    → texts_of (take (i + 1) requests) ≡ texts_of (take i requests) ++ x.items ∷ []
+texts_more requests i x h e =
+    let one : take (i + 1) requests ≡ take i requests ++ x ∷ [] = rw add-one (take-suc requests i x h ∙ ap (λ y. take i requests ++ y ∷ []) (sym e)) in
+    ap texts_of one ∙ map-append (λ t. t.items) (take i requests) (x ∷ [])
+
+-- and one answer more
+pub answers_more : (old new : List Answered) (answer : Answered) → new ≡ old ++ answer ∷ [] → map bytes_of new ≡ map bytes_of old ++ bytes_of answer ∷ []
+answers_more old new answer e = ap (map bytes_of) e ∙ map-append bytes_of old (answer ∷ [])

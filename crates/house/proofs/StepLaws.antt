@@ -1,0 +1,142 @@
+-- What is true of every step over a text.
+use Rattle.std.proofs.Common.{◌≡◌, ◌≢◌, ℕ, true, false, ◌<◌, List, get_or, lit<, arith, refl, sym, ap, ◌∙◌, inl, inr}
+use Rattle.std.specs.Fmt.{digits}
+use Rattle.std.specs.Prelude.{Bool, if◌then◌else◌, codes, Result, Ok, Err, ℤ}
+use Rattle.label.specs.Labels.{label_read}
+use Rattle.label.specs.declared.gs1.Label.{Label}
+use Rattle.label.specs.declared.fault.LabelFault.{LabelFault}
+use Rattle.commands.specs.Refusals.{refusal_code}
+use Rattle.commands.specs.declared.refusal.Refusal.{Refusal}
+use Rattle.commands.specs.declared.views.OrderView.{OrderView}
+use Rattle.rules.specs.Acts.{Act}
+use Rattle.rules.specs.Standing.{today}
+use Rattle.rules.specs.Once.{Outcome, Accepted, Repeated, Refused, outcome, appended}
+use Rattle.rules.specs.Queries.{order_shown}
+use Rattle.wire.specs.Answers.{head_text}
+use Rattle.wire.specs.Shorts.{code_text}
+use Rattle.wire.specs.declared.fault.WireFault.{WireFault}
+use Rattle.wire.specs.declared.fault.WireFault.TheVariants.{Head, Length, Json, Field, Path, Method, TooLarge, Memory}
+use Rattle.wire.specs.declared.ask.Ask.{Ask}
+use Rattle.wire.specs.declared.ask.Ask.TheVariants.{Do, Scan, GoodsIn, Show}
+use Rattle.wire.specs.declared.ask.Query.{Query}
+use Rattle.wire.specs.declared.ask.Query.TheVariants.{Order, Stock, PickList, Shortages, Card, Notice}
+use Rattle.wire.specs.declared.request.Read.{Read}
+use Rattle.wire.specs.declared.request.Read.TheVariants.{Need, Bad, Request}
+use Rattle.house.specs.Answers.{short_answer, fault_answer, not_served, foreign_books, outcome_answer, is_served, act_answer, acts_with, Delivered, receipt, label_answer, scan_answer, acts_scanned, view_answer, query_answer, ask_answer, acts_asked, answer_of, acts_of}
+use Rattle.house.specs.Laws.{status_of, RefusedRequestsChangeNothing, BooksAreNeverForeign}
+
+-- What is not answered 200 changes nothing
+
+ok_status : (text : List ℕ) → status_of (short_answer 200 text) ≡ codes "HTTP/1.1 200"
+unfolding head_text digits
+ok_status text = refl
+
+kept_outcome : (act : Act) (acts : List Act) (o : Outcome) → status_of (outcome_answer o) ≢ codes "HTTP/1.1 200" → appended act acts o ≡ acts
+kept_outcome act acts (Accepted text) ne = absurd (ne (ok_status text))
+kept_outcome act acts (Repeated text) ne = refl
+kept_outcome act acts (Refused why) ne = refl
+
+kept_if : (act : Act) (acts : List Act) (o : Outcome) (b : Bool) → status_of (if b then outcome_answer o else not_served) ≢ codes "HTTP/1.1 200"
+    → (if b then appended act acts o else acts) ≡ acts
+kept_if act acts o true ne = kept_outcome act acts o ne
+kept_if act acts o false ne = refl
+
+kept_act : (first : ℤ) (acts : List Act) (act : Act) → status_of (act_answer first acts act) ≢ codes "HTTP/1.1 200" → acts_with first acts act ≡ acts
+kept_act first acts act ne = kept_if act acts (outcome first acts act) (is_served act) ne
+
+kept_scan : (first : ℤ) (acts : List Act) (d : Delivered) (r : Result Label LabelFault) → status_of (scan_answer first acts d r) ≢ codes "HTTP/1.1 200" → acts_scanned first acts d r ≡ acts
+kept_scan first acts d (Ok label) ne = kept_act first acts (receipt d label) ne
+kept_scan first acts d (Err fault) ne = refl
+
+kept_ask : (first : ℤ) (acts : List Act) (ask : Ask) → status_of (ask_answer first acts ask) ≢ codes "HTTP/1.1 200" → acts_asked first acts ask ≡ acts
+kept_ask first acts (Do key command) ne = kept_act first acts (record { key = key; command = command }) ne
+kept_ask first acts (Scan delivery line label bin qty) ne = kept_scan first acts (record { delivery = delivery; line = line; bin = bin; qty = qty }) (label_read (today first acts) label) ne
+kept_ask first acts (GoodsIn file) ne = refl
+kept_ask first acts (Show query) ne = refl
+
+kept_reading : (first : ℤ) (acts : List Act) (r : Read) → status_of (answer_of first acts r) ≢ codes "HTTP/1.1 200" → acts_of first acts r ≡ acts
+kept_reading first acts (Need e) ne = refl
+kept_reading first acts (Bad e) ne = refl
+kept_reading first acts (Request ask) ne = kept_ask first acts ask ne
+
+pub refused_requests_change_nothing : RefusedRequestsChangeNothing
+refused_requests_change_nothing first old text bytes new (inl h) ne = h.acts ∙ kept_reading first old h.reading (λ e. ne (ap status_of h.answer ∙ e))
+refused_requests_change_nothing first old text bytes new (inr h) ne = h.acts
+
+-- No answer is 503 W91
+
+-- the first digit of the status
+abbrev class_of : List ℕ → ℕ
+class_of bytes = get_or bytes 9 0
+
+foreign_class : class_of foreign_books ≡ 53
+unfolding head_text digits
+foreign_class = refl
+
+-- an answer of another class
+other : (bytes : List ℕ) (class : ℕ) → class_of bytes ≡ class → class < 53 → bytes ≢ foreign_books
+other bytes class is less e = let same : class ≡ 53 = sym is ∙ ap class_of e ∙ foreign_class in omega arith
+
+differ : (a b : ℕ) → a ≡ b → a < b → ⊥
+differ a b e less = omega arith
+
+fault_not_foreign : (e : WireFault) → fault_answer e ≢ foreign_books
+unfolding head_text digits
+fault_not_foreign Head = other (fault_answer Head) 52 refl (lit< tt)
+fault_not_foreign Length = other (fault_answer Length) 52 refl (lit< tt)
+fault_not_foreign Json = other (fault_answer Json) 52 refl (lit< tt)
+fault_not_foreign Field = other (fault_answer Field) 52 refl (lit< tt)
+fault_not_foreign Path = other (fault_answer Path) 52 refl (lit< tt)
+fault_not_foreign (Method m) = other (fault_answer (Method m)) 52 refl (lit< tt)
+fault_not_foreign TooLarge = other (fault_answer TooLarge) 52 refl (lit< tt)
+fault_not_foreign Memory = λ e. differ 48 49 (ap (λ bytes. get_or bytes 118 0) e) (lit< tt)
+
+ok_not_foreign : (text : List ℕ) → short_answer 200 text ≢ foreign_books
+unfolding head_text digits
+ok_not_foreign text = other (short_answer 200 text) 50 refl (lit< tt)
+
+conflict_not_foreign : (text : List ℕ) → short_answer 409 text ≢ foreign_books
+unfolding head_text digits
+conflict_not_foreign text = other (short_answer 409 text) 52 refl (lit< tt)
+
+outcome_not_foreign : (o : Outcome) → outcome_answer o ≢ foreign_books
+outcome_not_foreign (Accepted text) = ok_not_foreign text
+outcome_not_foreign (Repeated text) = ok_not_foreign text
+outcome_not_foreign (Refused why) = conflict_not_foreign (code_text (refusal_code why))
+
+if_not_foreign : (o : Outcome) (b : Bool) → (if b then outcome_answer o else not_served) ≢ foreign_books
+if_not_foreign o true = outcome_not_foreign o
+if_not_foreign o false = fault_not_foreign Path
+
+scan_not_foreign : (first : ℤ) (acts : List Act) (d : Delivered) (r : Result Label LabelFault) → scan_answer first acts d r ≢ foreign_books
+unfolding head_text digits
+scan_not_foreign first acts d (Ok label) = if_not_foreign (outcome first acts (receipt d label)) (is_served (receipt d label))
+scan_not_foreign first acts d (Err fault) = other (label_answer fault) 52 refl (lit< tt)
+
+view_not_foreign : (r : Result OrderView Refusal) → view_answer r ≢ foreign_books
+unfolding head_text digits
+view_not_foreign (Ok view) = other (view_answer (Ok view)) 50 refl (lit< tt)
+view_not_foreign (Err why) = other (view_answer (Err why)) 52 refl (lit< tt)
+
+query_not_foreign : (first : ℤ) (acts : List Act) (q : Query) → query_answer first acts q ≢ foreign_books
+query_not_foreign first acts (Order order) = view_not_foreign (order_shown first acts order)
+query_not_foreign first acts (Stock gtin) = fault_not_foreign Path
+query_not_foreign first acts (PickList order) = fault_not_foreign Path
+query_not_foreign first acts (Shortages gtin) = fault_not_foreign Path
+query_not_foreign first acts (Card lot) = fault_not_foreign Path
+query_not_foreign first acts (Notice lot) = fault_not_foreign Path
+
+ask_not_foreign : (first : ℤ) (acts : List Act) (ask : Ask) → ask_answer first acts ask ≢ foreign_books
+ask_not_foreign first acts (Do key command) = if_not_foreign (outcome first acts (record { key = key; command = command })) (is_served (record { key = key; command = command }))
+ask_not_foreign first acts (Scan delivery line label bin qty) = scan_not_foreign first acts (record { delivery = delivery; line = line; bin = bin; qty = qty }) (label_read (today first acts) label)
+ask_not_foreign first acts (GoodsIn file) = fault_not_foreign Path
+ask_not_foreign first acts (Show query) = query_not_foreign first acts query
+
+reading_not_foreign : (first : ℤ) (acts : List Act) (r : Read) → answer_of first acts r ≢ foreign_books
+reading_not_foreign first acts (Need e) = fault_not_foreign e
+reading_not_foreign first acts (Bad e) = fault_not_foreign e
+reading_not_foreign first acts (Request ask) = ask_not_foreign first acts ask
+
+pub books_are_never_foreign : BooksAreNeverForeign
+books_are_never_foreign first old text bytes new (inl h) e = reading_not_foreign first old h.reading (sym h.answer ∙ e)
+books_are_never_foreign first old text bytes new (inr h) e = fault_not_foreign Memory (sym h.answer ∙ e)

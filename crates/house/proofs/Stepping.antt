@@ -1,0 +1,71 @@
+-- What a reading, answered, is as a step.
+use Rattle.std.proofs.Common.{◌≡◌, ◌≢◌, ℕ, true, false, List, refl, sym, subst, ◌∙◌, inl, inr, ◌⊎◌}
+use Rattle.std.specs.Prelude.{Bool, ◌&&◌, ℤ, IsTrue}
+use Rattle.sqlite_trees.specs.declared.store.Store.{Ghosts}
+use Rattle.rules.specs.Acts.{Act}
+use Rattle.rules.specs.Once.{IsHistory}
+use Rattle.wire.specs.Requests.{IsReading}
+use Rattle.wire.specs.declared.ask.Ask.{Ask}
+use Rattle.wire.specs.declared.fault.WireFault.{WireFault}
+use Rattle.wire.specs.declared.fault.WireFault.TheVariants.{Head, Length, Json, Field, Path, Method, TooLarge, Memory}
+use Rattle.wire.specs.declared.request.Read.{Read}
+use Rattle.wire.specs.declared.request.Read.TheVariants.{Need, Bad, Request}
+use Rattle.store.specs.Connected.{Connected}
+use Rattle.store.specs.Books.{HoldsBooks}
+use Rattle.house.specs.Answers.{fault_answer, ask_answer, acts_asked}
+use Rattle.house.specs.Asking.{IsDone, IsUndone}
+use Rattle.house.specs.House.{Step, StepsTo, IsInPlace, IsAskedInPlace}
+use Rattle.house.specs.declared.answered.Answered.{Answered}
+use Rattle.house.specs.declared.answered.Answered.TheVariants.{Short, Long}
+
+pub both : (a b : Bool) → a && b ≡ true → IsTrue a × IsTrue b
+both true true e = (refl, refl)
+both true false e = absurd cc
+both false b e = absurd cc
+
+-- a text that is no request, or for which there was no memory
+needed_step : (first : ℤ) (acts : List Act) (text : List ℕ) (e : WireFault) → IsReading text (Need e) → Step first acts text (fault_answer e) acts
+needed_step first acts text e h = inl (record { reading = Need e; read = h; answer = refl; acts = refl })
+
+refused_step : (first : ℤ) (acts : List Act) (text : List ℕ) (e : WireFault) → IsReading text (Bad e) → Step first acts text (fault_answer e) acts
+refused_step first acts text e h = inl (record { reading = Bad e; read = h; answer = refl; acts = refl })
+
+bad_step : (first : ℤ) (acts : List Act) (text : List ℕ) (e : WireFault) → (Bad e ≢ Bad Memory → IsReading text (Bad e)) → Step first acts text (fault_answer e) acts
+bad_step first acts text Memory h = inr (record { answer = refl; acts = refl })
+bad_step first acts text Head h = refused_step first acts text Head (h (λ p. cc))
+bad_step first acts text Length h = refused_step first acts text Length (h (λ p. cc))
+bad_step first acts text Json h = refused_step first acts text Json (h (λ p. cc))
+bad_step first acts text Field h = refused_step first acts text Field (h (λ p. cc))
+bad_step first acts text Path h = refused_step first acts text Path (h (λ p. cc))
+bad_step first acts text (Method m) h = refused_step first acts text (Method m) (h (λ p. cc))
+bad_step first acts text TooLarge h = refused_step first acts text TooLarge (h (λ p. cc))
+
+module _ {S : Type 0} (g : Ghosts S) (first : ℤ) (acts : List Act) (history : IsHistory first acts) (text : List ℕ) (books : Connected S) where
+  stays : (bytes : List ℕ) → Step first acts text bytes acts → HoldsBooks g first acts books → StepsTo g first acts text bytes books
+  stays bytes step holds = record { after = acts; step = step; history = history; holds = holds }
+
+  needed : (e : WireFault) (bytes : List ℕ) → bytes ≡ fault_answer e → HoldsBooks g first acts books → IsReading text (Need e) → StepsTo g first acts text bytes books
+  needed e bytes is holds read = stays bytes (subst (λ b. Step first acts text b acts) (sym is) (needed_step first acts text e read)) holds
+
+  bad : (e : WireFault) (bytes : List ℕ) → bytes ≡ fault_answer e → HoldsBooks g first acts books → (Bad e ≢ Bad Memory → IsReading text (Bad e)) → StepsTo g first acts text bytes books
+  bad e bytes is holds read = stays bytes (subst (λ b. Step first acts text b acts) (sym is) (bad_step first acts text e read)) holds
+
+  pub told_fault : (reading : Read) (e : WireFault) (bytes : List ℕ) → bytes ≡ fault_answer e → HoldsBooks g first acts books
+      → (reading ≢ Bad Memory → IsReading text reading) → (reading ≡ Need e) ⊎ (reading ≡ Bad e) → StepsTo g first acts text bytes books
+  told_fault reading e bytes is holds read (inl n) = needed e bytes is holds (subst (IsReading text) n (read (λ p. cc)))
+  told_fault reading e bytes is holds read (inr b) = bad e bytes is holds (λ ne. subst (IsReading text) b (read (λ p. ne (sym b ∙ p))))
+
+  pub asked : (ask : Ask) (bytes : List ℕ) → IsReading text (Request ask)
+      → IsDone g first (ask_answer first acts ask) (acts_asked first acts ask) bytes books ⊎ IsUndone g first acts bytes books → StepsTo g first acts text bytes books
+  asked ask bytes read (inl d) = record {
+    after = acts_asked first acts ask;
+    step = inl (record { reading = Request ask; read = read; answer = d.answer; acts = refl });
+    history = d.history;
+    holds = d.holds;
+  }
+  asked ask bytes read (inr u) = stays bytes (inr (record { answer = u.answer; acts = refl })) u.holds
+
+-- an answer to what is asked is in place, or the request shows an order
+pub in_place : (text : List ℕ) (ask : Ask) (answer : Answered) → IsReading text (Request ask) → IsAskedInPlace ask answer → IsInPlace text answer
+in_place text ask (Short block) read h = tt
+in_place text ask (Long bytes) read h = (h.0, subst (λ a. IsReading text (Request a)) h.1 read)

@@ -1,0 +1,26 @@
+use Rattle.std.proofs.Common.{◌≡◌, ◌+◌, take, true, sym, ap, subst, subst₂, ◌∙◌, rules, arith}
+use Rattle.std.specs.Prelude.{map, is_ok}
+use Rattle.house.specs.House.{books_of, bytes_of, texts_of, StepsTo, RunsTo}
+use Rattle.house.proofs.Running.{run_on, texts_more, answers_more}
+use Rattle.house.proofs.house.House.answer_all.Goals as goal
+
+pub loop-request-preserved : goal.loop-request-preserved
+loop-request-preserved g c =
+    let was = c.loop-request.invariant in
+    let pushed : is_ok c.push.result ≡ true = search rules in
+    let more = rw pushed at c.push.ensures.items in
+    let len = rw pushed at c.push.ensures.len in
+    record {
+      room = omega arith;
+      full = len ∙ ap (λ n. n + 1) was.full;
+      clean = λ clean. was.clean (c.answer-answer.ensures.clean clean);
+      run = λ clean first acts history holds.
+          let grown = run_on g.S.Store first acts (texts_of (take c.loop-request.request-index c.args.requests.now)) (map bytes_of c.loop-request.answers.items)
+          (books_of c.loop-request.self) (books_of c.answer-answer.new.self) c.request-item.result.items (bytes_of c.answer-answer.result)
+          (was.run (c.answer-answer.ensures.clean clean) first acts history holds)
+          (λ a h b. subst (λ t. StepsTo g.S.Store first a t (bytes_of c.answer-answer.result) (books_of c.answer-answer.new.self)) c.as_slice.ensures.value
+          (c.answer-answer.ensures.step clean first a h b)) in
+          subst₂ (λ texts answers. RunsTo g.S.Store first acts texts answers (books_of c.answer-answer.new.self))
+          (sym (texts_more c.args.requests.now c.loop-request.request-index c.request-item.result c.loop-request-test.true c.request-item.is))
+          (sym (answers_more c.loop-request.answers.items c.push.new.self.items c.answer-answer.result more)) grown;
+    }

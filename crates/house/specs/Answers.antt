@@ -1,0 +1,138 @@
+-- What each reading of a text is answered, and the acts after it. An answer is its bytes.
+use Rattle.std.specs.Prelude.{ℕ, ◌&&◌, if◌then◌else◌, Bool, codes, List, None, Result, Ok, Err, ℤ}
+use Rattle.label.specs.Faults.{fault_code}
+use Rattle.label.specs.Labels.{label_read}
+use Rattle.label.specs.declared.gs1.Label.{Label}
+use Rattle.label.specs.declared.fault.LabelFault.{LabelFault}
+use Rattle.commands.specs.Refusals.{refusal_code}
+use Rattle.commands.specs.declared.refusal.Refusal.{Refusal}
+use Rattle.commands.specs.declared.key.Key.TheVariants.{Line}
+use Rattle.commands.specs.declared.command.Command.TheVariants.{Receive}
+use Rattle.commands.specs.declared.views.OrderView.{OrderView}
+use Rattle.rules.specs.Acts.{Act}
+use Rattle.rules.specs.Standing.{today}
+use Rattle.rules.specs.Once.{Outcome, Accepted, Repeated, Refused, outcome, acts_after, is_key_of}
+use Rattle.rules.specs.Decided.{is_decided}
+use Rattle.rules.specs.Queries.{order_shown}
+use Rattle.wire.specs.Answers.{answer_text, answer_bytes, json_type}
+use Rattle.wire.specs.Shorts.{wire_code, wire_status, wire_allow, code_text, cause_text}
+use Rattle.wire.specs.declared.answer.Answer.TheVariants.{Order as OrderAnswer}
+use Rattle.wire.specs.declared.fault.WireFault.{WireFault}
+use Rattle.wire.specs.declared.fault.WireFault.TheVariants.{Path, Memory}
+use Rattle.wire.specs.declared.ask.Ask.{Ask}
+use Rattle.wire.specs.declared.ask.Ask.TheVariants.{Do, Scan, GoodsIn, Show}
+use Rattle.wire.specs.declared.ask.Query.{Query}
+use Rattle.wire.specs.declared.ask.Query.TheVariants.{Order, Stock, PickList, Shortages, Card, Notice}
+use Rattle.wire.specs.declared.request.Read.{Read}
+use Rattle.wire.specs.declared.request.Read.TheVariants.{Need, Bad, Request}
+
+-- Short answers: a status and a text of JSON
+
+abbrev pub short_answer : ℕ → List ℕ → List ℕ
+short_answer status text = answer_text status json_type None text
+
+-- to a text that is no request, by its fault
+abbrev pub fault_answer : WireFault → List ℕ
+fault_answer e = answer_text (wire_status e) json_type (wire_allow e) (code_text (wire_code e))
+
+-- 404 W06: no such path
+abbrev pub not_served : List ℕ
+not_served = fault_answer Path
+
+-- 503 W90: memory, disk or size did not suffice
+abbrev pub no_memory : List ℕ
+no_memory = fault_answer Memory
+
+-- 503 W91: the books hold rows that no list of acts leaves
+abbrev pub foreign_books : List ℕ
+foreign_books = short_answer 503 (code_text (codes "W91"))
+
+-- Commands
+
+-- 200 with the reply of the act, the first time and when it comes again; 409 with the refusal's code
+abbrev pub outcome_answer : Outcome → List ℕ
+outcome_answer (Accepted text) = short_answer 200 text
+outcome_answer (Repeated text) = short_answer 200 text
+outcome_answer (Refused why) = short_answer 409 (code_text (refusal_code why))
+
+-- the command is one of those that are decided, and its key is of its kind
+abbrev pub is_served : Act → Bool
+is_served act = is_decided act.command && is_key_of act.key act.command
+
+-- what an act that is asked for is answered, and the acts after it
+abbrev pub act_answer : ℤ → List Act → Act → List ℕ
+act_answer first acts act = if is_served act then outcome_answer (outcome first acts act) else not_served
+
+abbrev pub acts_with : ℤ → List Act → Act → List Act
+acts_with first acts act = if is_served act then acts_after first acts act else acts
+
+-- Scanned labels
+
+-- what stands beside the label: the delivery and its line, the bin and the quantity
+pub record Delivered : Type 0 where
+  pub delivery : List ℕ
+  pub line : ℕ
+  pub bin : List ℕ
+  pub qty : ℕ
+
+-- the receipt of what the label says, under the key of its delivery and line
+abbrev pub receipt : Delivered → Label → Act
+receipt d label = record {
+  key = Line d.delivery d.line;
+  command = Receive (record { lot = record { gtin = label.gtin; lot = label.lot }; expiry = label.expiry; bin = d.bin; qty = d.qty });
+}
+
+-- 400 W05 with the cause
+abbrev pub label_answer : LabelFault → List ℕ
+label_answer fault = short_answer 400 (cause_text (fault_code fault))
+
+abbrev pub scan_answer : ℤ → List Act → Delivered → Result Label LabelFault → List ℕ
+scan_answer first acts d (Ok label) = act_answer first acts (receipt d label)
+scan_answer first acts d (Err fault) = label_answer fault
+
+abbrev pub acts_scanned : ℤ → List Act → Delivered → Result Label LabelFault → List Act
+acts_scanned first acts d (Ok label) = acts_with first acts (receipt d label)
+acts_scanned first acts d (Err fault) = acts
+
+-- Queries
+
+-- 200 with the order, or 404 with the refusal's code
+abbrev pub view_answer : Result OrderView Refusal → List ℕ
+view_answer (Ok view) = answer_bytes (OrderAnswer view)
+view_answer (Err why) = short_answer 404 (code_text (refusal_code why))
+
+abbrev pub query_answer : ℤ → List Act → Query → List ℕ
+query_answer first acts (Order order) = view_answer (order_shown first acts order)
+query_answer first acts (Stock gtin) = not_served
+query_answer first acts (PickList order) = not_served
+query_answer first acts (Shortages gtin) = not_served
+query_answer first acts (Card lot) = not_served
+query_answer first acts (Notice lot) = not_served
+
+-- Requests. A label is read at the business day.
+
+abbrev pub ask_answer : ℤ → List Act → Ask → List ℕ
+ask_answer first acts (Do key command) = act_answer first acts (record { key = key; command = command })
+ask_answer first acts (Scan delivery line label bin qty) =
+    scan_answer first acts (record { delivery = delivery; line = line; bin = bin; qty = qty }) (label_read (today first acts) label)
+ask_answer first acts (GoodsIn file) = not_served
+ask_answer first acts (Show query) = query_answer first acts query
+
+abbrev pub acts_asked : ℤ → List Act → Ask → List Act
+acts_asked first acts (Do key command) = acts_with first acts (record { key = key; command = command })
+acts_asked first acts (Scan delivery line label bin qty) =
+    acts_scanned first acts (record { delivery = delivery; line = line; bin = bin; qty = qty }) (label_read (today first acts) label)
+acts_asked first acts (GoodsIn file) = acts
+acts_asked first acts (Show query) = acts
+
+-- Readings. The text is taken as ended, so one that needs more bytes is told the fault of what is missing.
+
+abbrev pub answer_of : ℤ → List Act → Read → List ℕ
+answer_of first acts (Need e) = fault_answer e
+answer_of first acts (Bad e) = fault_answer e
+answer_of first acts (Request ask) = ask_answer first acts ask
+
+abbrev pub acts_of : ℤ → List Act → Read → List Act
+acts_of first acts (Need e) = acts
+acts_of first acts (Bad e) = acts
+acts_of first acts (Request ask) = acts_asked first acts ask

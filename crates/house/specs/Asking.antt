@@ -1,0 +1,52 @@
+-- What the parts of a house do: the words of the functions below `answer`.
+use Rattle.std.specs.Prelude.{◌≡◌, ◌⊎◌, ℕ, List, Result, Ok, Err, ℤ}
+use Rattle.label.specs.Labels.{label_read}
+use Rattle.commands.specs.Refusals.{refusal_code}
+use Rattle.commands.specs.declared.key.Key.{Key}
+use Rattle.commands.specs.declared.command.Command.{Command}
+use Rattle.sqlite_trees.specs.declared.store.Store.{Ghosts}
+use Rattle.rules.specs.Acts.{Act}
+use Rattle.rules.specs.Once.{IsHistory}
+use Rattle.rules.specs.Standing.{today}
+use Rattle.wire.specs.Shorts.{code_text}
+use Rattle.store.specs.Connected.{Connected}
+use Rattle.store.specs.declared.reply.Reply.{Reply}
+use Rattle.store.specs.declared.fault.Fault.{Fault}
+use Rattle.store.specs.declared.fault.Fault.TheVariants.{Refused, Store, Foreign}
+use Rattle.store.specs.Books.{HoldsBooks}
+use Rattle.house.specs.Answers.{short_answer, no_memory, foreign_books, Delivered, scan_answer, acts_scanned}
+
+abbrev pub act_of : Key → Command → Act
+act_of key command = record { key = key; command = command }
+
+abbrev pub delivered : List ℕ → ℕ → List ℕ → ℕ → Delivered
+delivered delivery line bin qty = record { delivery = delivery; line = line; bin = bin; qty = qty }
+
+abbrev pub scanned_answer : ℤ → List Act → Delivered → List ℕ → List ℕ
+scanned_answer first acts d label = scan_answer first acts d (label_read (today first acts) label)
+
+abbrev pub scanned_acts : ℤ → List Act → Delivered → List ℕ → List Act
+scanned_acts first acts d label = acts_scanned first acts d (label_read (today first acts) label)
+
+-- how an act went
+abbrev pub told_answer : Result Reply Fault → List ℕ
+told_answer (Ok reply) = short_answer 200 reply.text
+told_answer (Err (Refused why)) = short_answer 409 (code_text (refusal_code why))
+told_answer (Err Store) = no_memory
+told_answer (Err Foreign) = foreign_books
+
+-- what is wanted is told and done
+pub record IsDone {S : Type 0} (g : Ghosts S) (first : ℤ) (wanted : List ℕ) (next : List Act) (bytes : List ℕ) (books : Connected S) : Type 0 where
+  pub answer : bytes ≡ wanted
+  pub history : IsHistory first next
+  pub holds : HoldsBooks g first next books
+
+-- there was no memory, and nothing is done
+pub record IsUndone {S : Type 0} (g : Ghosts S) (first : ℤ) (acts : List Act) (bytes : List ℕ) (books : Connected S) : Type 0 where
+  pub answer : bytes ≡ no_memory
+  pub holds : HoldsBooks g first acts books
+
+-- the books of the acts do what is wanted, or find no memory
+abbrev pub Does : {S : Type 0} → Ghosts S → ℤ → List Act → Connected S → List ℕ → List Act → List ℕ → Connected S → Type 0
+Does g first acts old wanted next bytes new =
+    HoldsBooks g first acts old → IsDone g first wanted next bytes new ⊎ IsUndone g first acts bytes new

@@ -1,0 +1,76 @@
+-- The machine over texts: a step, a run, and the house whose books are those of the acts.
+use Rattle.std.specs.Prelude.{◌≡◌, ◌⊎◌, ℕ, List, [], ◌∷◌, map, Vec, ℤ}
+use Rattle.sqlite_trees.specs.declared.store.Store.{Ghosts}
+use Rattle.rules.specs.Acts.{Act}
+use Rattle.rules.specs.Once.{IsHistory}
+use Rattle.wire.specs.Requests.{IsReading}
+use Rattle.wire.specs.declared.ask.Ask.{Ask}
+use Rattle.wire.specs.declared.ask.Ask.TheVariants.{Show}
+use Rattle.wire.specs.declared.ask.Query.TheVariants.{Order}
+use Rattle.wire.specs.declared.request.Read.{Read}
+use Rattle.wire.specs.declared.request.Read.TheVariants.{Request}
+use Rattle.store.specs.Connected.{Connected}
+use Rattle.store.specs.Books.{HoldsBooks}
+use Rattle.house.specs.Answers.{answer_of, acts_of, no_memory}
+use Rattle.house.specs.declared.answered.Answered.{Answered}
+use Rattle.house.specs.declared.answered.Answered.TheVariants.{Short, Long}
+use Rattle.house.specs.declared.house.House.{House}
+
+-- the text is read and answered as the machine does, and the acts are those after it
+pub record IsAnswered (first : ℤ) (old : List Act) (text bytes : List ℕ) (new : List Act) : Type 0 where
+  pub reading : Read
+  pub read : IsReading text reading
+  pub answer : bytes ≡ answer_of first old reading
+  pub acts : new ≡ acts_of first old reading
+
+-- the answer is 503 W90, and the acts stay
+pub record HasNoMemory (old : List Act) (bytes : List ℕ) (new : List Act) : Type 0 where
+  pub answer : bytes ≡ no_memory
+  pub acts : new ≡ old
+
+-- one step over a text
+abbrev pub Step : ℤ → List Act → List ℕ → List ℕ → List Act → Type 0
+Step first old text bytes new = IsAnswered first old text bytes new ⊎ HasNoMemory old bytes new
+
+-- steps, one after another
+abbrev pub Run : ℤ → List Act → List (List ℕ) → List (List ℕ) → List Act → Type 0
+Run first old [] [] new = new ≡ old
+Run first old (text ∷ texts) (bytes ∷ answers) new = (mid : List Act) × Step first old text bytes mid × Run first mid texts answers new
+Run first old [] (bytes ∷ answers) new = ⊥
+Run first old (text ∷ texts) [] new = ⊥
+
+-- the books of a house
+abbrev pub books_of : {S : Type 0} → House S → Connected S
+books_of house = house.books
+
+-- the bytes of an answer
+abbrev pub bytes_of : Answered → List ℕ
+bytes_of (Short block) = block
+bytes_of (Long bytes) = bytes.items
+
+-- the texts of requests
+abbrev pub texts_of : {A : Type 0} → List (Vec ℕ A) → List (List ℕ)
+texts_of requests = map (λ t. t.items) requests
+
+-- the books are those of the acts after one step
+pub record StepsTo {S : Type 0} (g : Ghosts S) (first : ℤ) (old : List Act) (text bytes : List ℕ) (books : Connected S) : Type 0 where
+  pub after : List Act
+  pub step : Step first old text bytes after
+  pub history : IsHistory first after
+  pub holds : HoldsBooks g first after books
+
+-- the books are those of the acts after a run
+pub record RunsTo {S : Type 0} (g : Ghosts S) (first : ℤ) (old : List Act) (texts answers : List (List ℕ)) (books : Connected S) : Type 0 where
+  pub after : List Act
+  pub run : Run first old texts answers after
+  pub history : IsHistory first after
+  pub holds : HoldsBooks g first after books
+
+-- an answer that is not written in place is to a request that shows an order
+abbrev pub IsAskedInPlace : Ask → Answered → Type 0
+IsAskedInPlace ask (Short block) = Unit {0}
+IsAskedInPlace ask (Long bytes) = (order : List ℕ) × (ask ≡ Show (Order order))
+
+abbrev pub IsInPlace : List ℕ → Answered → Type 0
+IsInPlace text (Short block) = Unit {0}
+IsInPlace text (Long bytes) = (order : List ℕ) × IsReading text (Request (Show (Order order)))

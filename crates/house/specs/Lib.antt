@@ -1,0 +1,5 @@
+pub mod Answers
+pub mod Asking
+pub mod House
+pub mod Laws
+pub mod Serving

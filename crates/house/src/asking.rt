@@ -1,0 +1,111 @@
+//! What is asked of the books, and the answer to it.
+
+ghost use Rattle.std.specs.Prelude.{◌≡◌, ℤ, List};
+ghost use Rattle.rules.specs.Acts.{Act};
+ghost use Rattle.rules.specs.Once.{IsHistory};
+ghost use Rattle.rules.specs.Queries.{order_shown};
+ghost use Rattle.store.specs.Books.{IsClean};
+ghost use Rattle.house.specs.Answers.{is_served as is_served_lem, act_answer, acts_with, view_answer};
+ghost use Rattle.house.specs.Asking.{Does, told_answer, act_of, delivered, scanned_answer, scanned_acts};
+ghost use Rattle.house.specs.House.{bytes_of};
+
+use crate::Answered;
+use crate::answered::{
+    conflict, fault_answer, foreign_books, label_answer, not_found, reply_answer,
+};
+use commands::laws::{every_command_is_sound, every_key_is_sound};
+use commands::{Command, Key, Receipt};
+use label::{LineNo, LotId, Name, Qty, read};
+use sqlite::Alter;
+use std::alloc::Global;
+use store::{Books, Fault, Reply};
+use wire::{Answer, Block, WireFault, write_answer};
+
+/// Whether the command is one of those that are decided, and the key is of its kind.
+fn is_served(key: &Key, command: &Command) -> bool
+    ensures { result ≡ is_served_lem (act_of key.now command.now) }
+{
+    match (key, command) {
+        (Key::Line(_, _), Command::Receive(_)) => true,
+        (Key::Plain(_), Command::Item(_) | Command::Bin(_) | Command::Order(_)) => true,
+        _ => false,
+    }
+}
+
+/// The answer that tells how an act went. It takes no memory.
+fn told(done: Result<Reply, Fault>) -> Block
+    ensures { result ≡ told_answer done }
+{
+    match done {
+        Ok(reply) => reply_answer(&reply.text),
+        Err(Fault::Refused(why)) => conflict(why),
+        Err(Fault::Store) => fault_answer(WireFault::Memory),
+        Err(Fault::Foreign) => foreign_books(),
+    }
+}
+
+/// Acts on a command, and tells how it went.
+pub(crate) fn act<S: Alter>(books: &mut Books<S>, key: &Key, command: &Command) -> Block
+    ensures clean { IsClean S.Store books.new → IsClean S.Store books.old }
+    ensures acted { IsClean S.Store books.new → (first : ℤ) (acts : List Act) → IsHistory first acts
+        → Does S.Store first acts books.old (act_answer first acts (act_of key.now command.now)) (acts_with first acts (act_of key.now command.now)) result books.new }
+{
+    every_command_is_sound(command);
+    every_key_is_sound(*key);
+    if !is_served(key, command) {
+        return fault_answer(WireFault::Path);
+    }
+    told(books.act(key, command))
+}
+
+/// Receives what a scanned label says. The label is read at the business day of the books.
+pub(crate) fn scan<S: Alter>(
+    books: &mut Books<S>,
+    delivery: Name,
+    line: LineNo,
+    label: &[u8],
+    bin: Name,
+    qty: Qty,
+) -> Block
+    ensures clean { IsClean S.Store books.new → IsClean S.Store books.old }
+    ensures acted { IsClean S.Store books.new → (first : ℤ) (acts : List Act) → IsHistory first acts
+        → Does S.Store first acts books.old (scanned_answer first acts (delivered delivery line bin qty) label.now) (scanned_acts first acts (delivered delivery line bin qty) label.now) result books.new }
+{
+    match read(label, books.day()) {
+        Ok(label) => {
+            let lot = LotId {
+                gtin: label.gtin,
+                lot: label.lot,
+            };
+            let receipt = Receipt {
+                lot,
+                expiry: label.expiry,
+                bin,
+                qty,
+            };
+            act(
+                books,
+                &Key::Line(delivery, line),
+                &Command::Receive(receipt),
+            )
+        }
+        Err(fault) => label_answer(fault),
+    }
+}
+
+/// Shows an order.
+pub(crate) fn show_order<S: Alter>(alloc: Global, books: &mut Books<S>, order: &Name) -> Answered
+    ensures clean { IsClean S.Store books.new → IsClean S.Store books.old }
+    ensures shown { IsClean S.Store books.new → (first : ℤ) (acts : List Act) → IsHistory first acts
+        → Does S.Store first acts books.old (view_answer (order_shown first acts order.now)) acts (bytes_of result) books.new }
+{
+    match books.order_rows(order) {
+        Ok(view) => match write_answer(alloc, &Answer::Order(view)) {
+            Ok(bytes) => Answered::Long(bytes),
+            Err(_) => Answered::Short(fault_answer(WireFault::Memory)),
+        },
+        Err(Fault::Refused(why)) => Answered::Short(not_found(why)),
+        Err(Fault::Store) => Answered::Short(fault_answer(WireFault::Memory)),
+        Err(Fault::Foreign) => Answered::Short(foreign_books()),
+    }
+}

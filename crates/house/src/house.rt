@@ -1,0 +1,109 @@
+//! The house: books, and the answers to texts.
+
+ghost use Rattle.std.specs.Prelude.{◌≡◌, ◌≢◌, ℕ, ℤ, List, map, IfOk, OnErr};
+ghost use Rattle.rules.specs.Acts.{Act};
+ghost use Rattle.rules.specs.Once.{IsHistory};
+ghost use Rattle.wire.specs.Requests.{IsReading};
+ghost use Rattle.store.specs.Books.{IsClean, HoldsBooks};
+ghost use Rattle.house.specs.Answers.{ask_answer, acts_asked, no_memory};
+ghost use Rattle.house.specs.Asking.{Does};
+ghost use Rattle.house.specs.House.{books_of, bytes_of, texts_of, StepsTo, RunsTo, IsInPlace, IsAskedInPlace};
+
+use crate::Answered;
+use crate::answered::fault_answer;
+use crate::asking::{act, scan, show_order};
+use sqlite::Alter;
+use std::alloc::{AllocError, Global};
+use store::Books;
+use wire::{Ask, Query, Read, WireFault, read_request};
+
+/// Answers requests from the books of a warehouse.
+#[derive(Drop)]
+pub struct House<S: Alter> {
+    pub(crate) alloc: Global,
+    books: Books<S>,
+}
+
+impl<S: Alter> House<S> {
+    /// A house with these books. It takes no memory.
+    pub fn new(alloc: Global, books: Books<S>) -> House<S>
+        ensures { books_of result ≡ books }
+    {
+        House { alloc, books }
+    }
+
+    /// The books back. It takes no memory.
+    pub fn close(self) -> Books<S>
+        ensures { result ≡ books_of self }
+    {
+        let House { alloc: _, books } = self;
+        books
+    }
+
+    /// Answers a text, which is taken as ended: a head that is not complete is `W01`, and a body `W02`. The books go on
+    /// by one step: as the rules say, or not at all, and then the answer is `W90`.
+    pub fn answer(&mut self, request: &[u8]) -> Answered
+        ensures clean { IsClean S.Store (books_of self.new) → IsClean S.Store (books_of self.old) }
+        ensures step { IsClean S.Store (books_of self.new)
+            → (first : ℤ) (acts : List Act) → IsHistory first acts → HoldsBooks S.Store first acts (books_of self.old)
+            → StepsTo S.Store first acts request.now (bytes_of result) (books_of self.new) }
+        ensures in_place { IsInPlace request.now result }
+    {
+        let reading = read_request(self.alloc, request);
+        self.answer_reading(&reading)
+    }
+
+    /// Answers each text in turn. Room for all the answers is taken first, so where there is none, nothing was answered.
+    pub fn answer_all(&mut self, requests: &[Vec<u8>]) -> Result<Vec<Answered>, AllocError>
+        ensures clean { IsClean S.Store (books_of self.new) → IsClean S.Store (books_of self.old) }
+        ensures run { IsClean S.Store (books_of self.new)
+            → (first : ℤ) (acts : List Act) → IsHistory first acts → HoldsBooks S.Store first acts (books_of self.old)
+            → IfOk result (λ answers. RunsTo S.Store first acts (texts_of requests.now) (map bytes_of answers.items) (books_of self.new)) }
+        ensures untouched { OnErr result (books_of self.new ≡ books_of self.old) }
+    {
+        let mut answers = Vec::with_capacity(self.alloc, requests.len())?;
+        for request in requests {
+            let answer = self.answer(request.as_slice());
+            answers.push(answer).unwrap();
+        }
+        Ok(answers)
+    }
+
+    /// Answers what a text was read as.
+    pub(crate) fn answer_reading(&mut self, reading: &Read) -> Answered
+        ensures clean { IsClean S.Store (books_of self.new) → IsClean S.Store (books_of self.old) }
+        ensures step { IsClean S.Store (books_of self.new)
+            → (first : ℤ) (acts : List Act) → IsHistory first acts → HoldsBooks S.Store first acts (books_of self.old)
+            → (text : List ℕ) → (reading.now ≢ Read.Bad WireFault.Memory → IsReading text reading.now)
+            → StepsTo S.Store first acts text (bytes_of result) (books_of self.new) }
+        ensures in_place { (text : List ℕ) → (reading.now ≢ Read.Bad WireFault.Memory → IsReading text reading.now)
+            → IsInPlace text result }
+        ensures memory { reading.now ≡ Read.Bad WireFault.Memory → bytes_of result ≡ no_memory }
+    {
+        match reading {
+            Read::Need(fault) | Read::Bad(fault) => Answered::Short(fault_answer(*fault)),
+            Read::Request(ask) => answer_ask(self.alloc, &mut self.books, ask),
+        }
+    }
+}
+
+/// Answers what a request asks.
+fn answer_ask<S: Alter>(alloc: Global, books: &mut Books<S>, ask: &Ask) -> Answered
+    ensures clean { IsClean S.Store books.new → IsClean S.Store books.old }
+    ensures done { IsClean S.Store books.new → (first : ℤ) (acts : List Act) → IsHistory first acts
+        → Does S.Store first acts books.old (ask_answer first acts ask.now) (acts_asked first acts ask.now) (bytes_of result) books.new }
+    ensures in_place { IsAskedInPlace ask.now result }
+{
+    match ask {
+        Ask::Do(key, command) => Answered::Short(act(books, key, command)),
+        Ask::Scan {
+            delivery,
+            line,
+            label,
+            bin,
+            qty,
+        } => Answered::Short(scan(books, *delivery, *line, label.as_slice(), *bin, *qty)),
+        Ask::Show(Query::Order(order)) => show_order(alloc, books, order),
+        _ => Answered::Short(fault_answer(WireFault::Path)),
+    }
+}

@@ -1,0 +1,15 @@
+//! One request, whole: the bytes of a request in, the bytes of its answer out, and the books after it.
+#![tactic(auto)]
+
+mod answered;
+mod asking;
+mod house;
+pub mod laws;
+mod serve;
+
+pub use answered::Answered;
+pub use house::House;
+pub use serve::ServeFault;
+
+#[cfg(test)]
+mod tests;

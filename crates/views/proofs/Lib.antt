@@ -1,0 +1,11 @@
+pub mod Walks
+pub mod Sorting
+pub mod Ranks
+pub mod Members
+pub mod LotsShown
+pub mod QuantitiesShown
+pub mod BinsShown
+pub mod ReservedShown
+pub mod ShortShown
+pub mod LinesShown
+pub mod OrderShown

@@ -1,0 +1,25 @@
+-- The rows by which an order is shown.
+use Rattle.std.specs.Prelude.{ℕ, Bool, true, ◌&&◌, List}
+use Rattle.std.specs.List.{list_any}
+use Rattle.label.specs.Values.{same_text}
+use Rattle.rules.specs.Postings.{is_lot}
+use Rattle.rules.specs.Standing.{Placed}
+use Rattle.rules.specs.Tables.{Tables}
+use Rattle.rules.specs.Slices.{AreRows, same_cell, same_line, same_share}
+use Rattle.rules.specs.declared.slice.Rows.{Rows}
+
+-- the order has a line of the item
+abbrev pub orders_item : Placed → List ℕ → Bool
+orders_item p g = list_any (λ l. same_text g l.gtin) p.lines
+
+-- The lines of the order; the lots, stock, staged and reserved rows of their items; and the bins of that stock. Other rows
+-- of the tables may be there too.
+pub record AreShown (p : Placed) (t : Tables) (rows : Rows) : Type 0 where
+  pub lines : AreRows same_line (λ r. (r.order, r.gtin)) (λ k. same_text p.order k.0) (λ k. true) (λ k. t.line k.0 k.1) rows.lines
+  pub lots : AreRows is_lot (λ r. r.lot) (λ l. orders_item p l.gtin) (λ l. true) t.lot rows.lots
+  pub stock : AreRows same_cell (λ r. (r.lot, r.bin)) (λ k. orders_item p k.0.gtin) (λ k. true) (λ k. t.stock k.0 k.1) rows.stock
+  pub bins : AreRows same_text (λ r. r.name) (λ b. list_any (λ r. same_text b r.bin) rows.stock) (λ b. true) t.bin rows.bins
+  pub staged : AreRows same_share (λ r. (r.order, r.lot))
+      (λ k. same_text p.order k.0 && orders_item p k.1.gtin) (λ k. true) (λ k. t.staged k.0 k.1) rows.staged
+  pub reserved : AreRows same_share (λ r. (r.order, r.lot))
+      (λ k. same_text p.order k.0 && orders_item p k.1.gtin) (λ k. true) (λ k. t.reserved k.0 k.1) rows.reserved

@@ -1,0 +1,93 @@
+//! Views as texts, a row a line, so that tests compare them whole.
+
+use commands::{LineView, OrderState, OrderView, ReservedLot, decimal_text};
+
+const ROOM: usize = 512;
+
+/// A text that is written in place. What goes past its room is left out.
+#[derive(Drop)]
+pub struct Listing {
+    bytes: [u8; ROOM],
+    len: usize,
+}
+
+impl Listing {
+    /// The order, each line with its reserved lots, their bins, and its staged lots.
+    pub fn of(view: &OrderView) -> Listing {
+        let mut listing = Listing {
+            bytes: [0; ROOM],
+            len: 0,
+        };
+        listing.word(view.order.as_bytes());
+        listing.field(view.customer.as_bytes());
+        listing.state(view.state);
+        for line in view.lines.as_slice() {
+            listing.line(line);
+        }
+        listing
+    }
+
+    pub fn as_bytes(&self) -> &[u8] {
+        &self.bytes[..self.len.min(ROOM)]
+    }
+
+    fn push(&mut self, byte: u8) {
+        if self.len < ROOM {
+            self.bytes[self.len] = byte;
+            self.len += 1;
+        }
+    }
+
+    fn word(&mut self, text: &[u8]) {
+        for byte in text {
+            self.push(*byte);
+        }
+    }
+
+    // A blank and the text.
+    fn field(&mut self, text: &[u8]) {
+        self.push(b' ');
+        self.word(text);
+    }
+
+    fn number(&mut self, n: u64) {
+        self.field(decimal_text(n).as_bytes());
+    }
+
+    fn state(&mut self, state: OrderState) {
+        match state {
+            OrderState::Open => self.word(b" OPEN\n"),
+            OrderState::Done => self.word(b" DONE\n"),
+            OrderState::Cancelled => self.word(b" CANCELLED\n"),
+        }
+    }
+
+    fn line(&mut self, line: &LineView) {
+        self.word(line.gtin.as_bytes());
+        self.number(line.ordered);
+        self.number(line.shipped);
+        self.number(line.short);
+        self.push(b'\n');
+        for lot in line.reserved.as_slice() {
+            self.reserved(lot);
+        }
+        for lot in line.staged.as_slice() {
+            self.word(b"staged");
+            self.field(lot.lot.as_bytes());
+            self.number(lot.qty);
+            self.push(b'\n');
+        }
+    }
+
+    fn reserved(&mut self, lot: &ReservedLot) {
+        self.word(b"reserved");
+        self.field(lot.lot.as_bytes());
+        self.field(lot.expiry.text().as_slice());
+        self.number(lot.qty);
+        for bin in lot.bins.as_slice() {
+            self.field(bin.bin.as_bytes());
+            self.number(bin.qty);
+        }
+        self.push(b'\n');
+    }
+}

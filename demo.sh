@@ -1,0 +1,72 @@
+#!/bin/sh
+# The main job of Lot stock, from nothing: builds lotd, reads a label, makes books, receives goods by
+# their label, takes an order and shows what is reserved for it. Needs the Rattle kit and curl.
+# Exit status 0 only if every answer was the expected one.
+set -eu
+cd "$(dirname "$0")"
+
+port=${PORT:-18080}
+room=$(mktemp -d)
+db=$room/stock.db
+lotd=$PWD/crates/lotd/out/lotd
+server=
+
+end() {
+    if [ -n "$server" ]; then kill "$server" 2>/dev/null || true; fi
+    rm -rf "$room"
+}
+trap end EXIT
+
+# expect WHAT EXPECTED GOT
+expect() {
+    echo "$3"
+    if [ "$2" != "$3" ]; then
+        echo "demo: $1: expected: $2" >&2
+        exit 1
+    fi
+}
+
+# post PATH BODY STATUS ANSWER
+post() {
+    echo "> POST $1 $2"
+    expect "POST $1" "$4 $3" "$(curl -s -X POST -d "$2" -w ' %{http_code}' "http://127.0.0.1:$port$1")"
+}
+
+# get PATH STATUS ANSWER
+get() {
+    echo "> GET $1"
+    expect "GET $1" "$3 $2" "$(curl -s -w ' %{http_code}' "http://127.0.0.1:$port$1")"
+}
+
+echo "> build lotd"
+(cd crates/lotd && rt run -- label --day 2026-05-04 ']C101095060001343521726093010AB12' >/dev/null)
+
+label=']C101095060001343521726093010AB12'
+echo "> lotd label --day 2026-05-04 '$label'"
+expect "the label" "GTIN 09506000134352
+LOT AB12
+EXPIRY 2026-09-30" "$("$lotd" label --day 2026-05-04 "$label")"
+
+echo "> lotd init --db stock.db --day 2026-05-04"
+"$lotd" init --db "$db" --day 2026-05-04
+
+echo "> lotd serve --db stock.db --port $port --max 6"
+"$lotd" serve --db "$db" --port "$port" --max 6 >"$room/out" &
+server=$!
+for _ in 1 2 3 4 5 6 7 8 9 10; do
+    if [ -s "$room/out" ]; then break; fi
+    sleep 1
+done
+expect "the server" "listening on 127.0.0.1:$port" "$(cat "$room/out")"
+
+post /items '{"key":"K-1","gtin":"09506000134352","name":"Oat drink"}' 200 '{"act":1}'
+post /bins '{"key":"K-2","bin":"A-01","kind":"STORE"}' 200 '{"act":2}'
+post /receipts "{\"delivery\":\"D-1\",\"line\":1,\"label\":\"$label\",\"bin\":\"A-01\",\"qty\":10}" 200 '{"act":3}'
+post /orders '{"key":"K-3","order":"S-1","customer":"Corner Shop","lines":[{"gtin":"09506000134352","qty":12}]}' 200 '{"act":4,"short":2}'
+get /orders/S-1 200 '{"customer":"Corner Shop","lines":[{"gtin":"09506000134352","ordered":12,"reserved":[{"lot":"AB12","qty":10}],"shipped":0,"short":2,"staged":[]}],"order":"S-1","state":"OPEN"}'
+# The same order sent again acts once.
+post /orders '{"key":"K-3","order":"S-1","customer":"Corner Shop","lines":[{"gtin":"09506000134352","qty":12}]}' 200 '{"act":4,"short":2}'
+
+wait "$server"
+server=
+echo "demo: every answer was the expected one"
