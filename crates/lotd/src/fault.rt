@@ -3,9 +3,7 @@ ghost use Rattle.std.specs.Prelude.{◌≡◌};
 use clap::Error;
 use clap::error::ErrorKind;
 use label::LabelFault;
-use sqlite::Alter;
 use std::io;
-use store::OpenFault;
 
 /// Why a line of the program is not done.
 #[derive(Drop)]
@@ -55,20 +53,5 @@ impl From<Error> for Fault {
 impl From<io::Error> for Fault {
     fn from(_error: io::Error) -> Fault {
         Fault::Io
-    }
-}
-
-impl<S: Alter + Drop> From<OpenFault<S>> for Fault {
-    fn from(fault: OpenFault<S>) -> Fault {
-        match fault.fault {
-            store::Fault::Foreign => Fault::Foreign,
-            _ => Fault::Store,
-        }
-    }
-}
-
-impl From<sqlite::Error> for Fault {
-    fn from(_error: sqlite::Error) -> Fault {
-        Fault::Store
     }
 }
