@@ -1,6 +1,7 @@
 ghost use Rattle.std.specs.Prelude.{◌≡◌, false, IfOk};
 
-use crate::{Fault, Reply, act_once};
+use crate::acting::act_once;
+use crate::{Fault, Reply};
 use commands::{
     BinKind, BinRow, Command, Key, Lines, MetaRow, NewBin, NewItem, NewOrder, OrderLine, Receipt,
     Refusal,
