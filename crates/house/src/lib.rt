@@ -12,4 +12,6 @@ pub use house::House;
 pub use serve::ServeFault;
 
 #[cfg(test)]
+mod tables_tests;
+#[cfg(test)]
 mod tests;

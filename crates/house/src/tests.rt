@@ -2,7 +2,7 @@
 
 use crate::{Answered, House, ServeFault, laws};
 use label::{BusinessDay, Day};
-use sqlite::{Connection, MemStore};
+use sqlite::{Alter, Connection, MemStore};
 use std::alloc::{AllocError, Global};
 use std::process::Abort;
 use std::test::Fail;
@@ -41,7 +41,7 @@ static NO_REQUESTS: [(&str, &str); 7] = [
 ];
 
 // Two items and three bins.
-static GOODS_AND_BINS: [(&str, &str); 5] = [
+pub(crate) static GOODS_AND_BINS: [(&str, &str); 5] = [
     (
         "POST /items HTTP/1.1\r\nContent-Length: 56\r\n\r\n{\"key\":\"K-1\",\"gtin\":\"09506000134352\",\"name\":\"Oat drink\"}",
         "HTTP/1.1 200 OK\r\ncontent-type: application/json\r\ncontent-length: 9\r\nconnection: close\r\n\r\n{\"act\":1}",
@@ -77,7 +77,7 @@ static REFUSED: [(&str, &str); 2] = [
 ];
 
 // Two deliveries and two customers; the last receipt comes again, and then with another quantity.
-static TWO_CUSTOMERS: [(&str, &str); 11] = [
+pub(crate) static TWO_CUSTOMERS: [(&str, &str); 11] = [
     (
         "POST /receipts HTTP/1.1\r\nContent-Length: 88\r\n\r\n{\"delivery\":\"D-1\",\"line\":1,\"label\":\"01095060001343521726063010L1\",\"bin\":\"A-01\",\"qty\":10}",
         "HTTP/1.1 200 OK\r\ncontent-type: application/json\r\ncontent-length: 9\r\nconnection: close\r\n\r\n{\"act\":6}",
@@ -124,10 +124,12 @@ static TWO_CUSTOMERS: [(&str, &str); 11] = [
     ),
 ];
 
-fn new_books(alloc: Global) -> Result<Books<MemStore>, Fail> {
+pub(crate) fn new_books<S: Alter + Drop>(
+    alloc: Global,
+    conn: Connection<S>,
+) -> Result<Books<S>, Fail> {
     let day = Day::parse(b"2026-05-04").ok_or("a day")?;
     let day = BusinessDay::new(day).ok_or("a business day")?;
-    let conn = Connection::open_in_memory(alloc)?;
     if !conn.is_autocommit() {
         return Err(Fail::new("a transaction is open"));
     }
@@ -138,7 +140,8 @@ fn new_books(alloc: Global) -> Result<Books<MemStore>, Fail> {
 }
 
 fn new_house(alloc: Global) -> Result<House<MemStore>, Fail> {
-    Ok(House::new(alloc, new_books(alloc)?))
+    let conn = Connection::open_in_memory(alloc)?;
+    Ok(House::new(alloc, new_books(alloc, conn)?))
 }
 
 // Each text gets its answer.
