@@ -11,7 +11,7 @@ const PATIENCE: u64 = 10;
 const READS_AFTER_ANSWER: u32 = 1024;
 
 /// Answers so many connections, one after another. One that breaks counts as the others do.
-pub fn serve_on<S: Alter + Drop>(listener: &TcpListener, house: &mut House<S>, max: u32) {
+pub(crate) fn serve_on<S: Alter + Drop>(listener: &TcpListener, house: &mut House<S>, max: u32) {
     for stream in listener.incoming().take(max as usize) {
         match stream {
             Ok(stream) => serve_stream(&stream, house),

@@ -18,7 +18,7 @@ pub struct Listing {
 
 impl Listing {
     /// The change, a row a line: the row of `meta`, the rows put and dropped, and the answer.
-    pub fn of(change: &Change) -> Listing {
+    pub(crate) fn of(change: &Change) -> Listing {
         let mut listing = Listing {
             bytes: [0; ROOM],
             len: 0,
@@ -34,7 +34,7 @@ impl Listing {
         listing
     }
 
-    pub fn as_bytes(&self) -> &[u8] {
+    pub(crate) fn as_bytes(&self) -> &[u8] {
         &self.bytes[..self.len.min(ROOM)]
     }
 

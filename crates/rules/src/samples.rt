@@ -385,7 +385,7 @@ fn command_of(rt: &impl Abort, alloc: Global, told: &Told) -> Command {
 }
 
 /// What is decided of the command on the slice.
-pub fn decided(
+pub(crate) fn decided(
     rt: &impl Abort,
     alloc: Global,
     sample: &Sample,

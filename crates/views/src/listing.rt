@@ -13,7 +13,7 @@ pub struct Listing {
 
 impl Listing {
     /// The order, each line with its reserved lots, their bins, and its staged lots.
-    pub fn of(view: &OrderView) -> Listing {
+    pub(crate) fn of(view: &OrderView) -> Listing {
         let mut listing = Listing {
             bytes: [0; ROOM],
             len: 0,
@@ -27,7 +27,7 @@ impl Listing {
         listing
     }
 
-    pub fn as_bytes(&self) -> &[u8] {
+    pub(crate) fn as_bytes(&self) -> &[u8] {
         &self.bytes[..self.len.min(ROOM)]
     }
 
