@@ -8,3 +8,5 @@ pub mod Naming
 pub mod Priority
 pub mod Ranked
 pub mod Nothing
+pub mod Taking
+pub mod Removing

@@ -1,7 +1,7 @@
 -- Lists of which no two elements pass a test of sameness: each is the one that is found by it.
 use Rattle.std.proofs.Common.{◌≡◌, Bool, true, false, List, [], ◌∷◌, refl, ap, ◌∙◌}
-use Rattle.std.specs.Prelude.{◌||◌, if◌then◌else◌, Some, find, is_some, filter}
-use Rattle.std.specs.List.{list_any}
+use Rattle.std.specs.Prelude.{◌||◌, if◌then◌else◌, Some, find, is_some, filter, map}
+use Rattle.std.specs.List.{list_any, IsDistinct, AllByRecursion}
 use Rattle.rules.proofs.Tests.{or_none}
 
 pub any_found : {X : Type 0} (test : X → Bool) (xs : List X) → is_some (find test xs) ≡ list_any test xs
@@ -44,3 +44,13 @@ module _ {X : Type 0} (same : X → X → Bool) where
     pub all_found : (xs : List X) → AreApart xs → AllFound xs xs
     all_found [] h = tt
     all_found (x ∷ xs) h = (ap (λ b. if b then Some x else find (same x) xs) (own x), found_behind x xs xs h.0 (all_found xs h.1))
+
+-- names apart are distinct
+none_same : {X K : Type 0} (same : K → K → Bool) (name : X → K) (k : K) (xs : List X) → list_any (λ x. same k (name x)) xs ≡ false → AllByRecursion (λ j. same k j ≡ false) (map name xs)
+none_same same name k [] e = tt
+none_same same name k (x ∷ xs) e = let two = or_none (same k (name x)) (list_any (λ x. same k (name x)) xs) e in (two.0, none_same same name k xs two.1)
+
+pub distinct_names : {X K : Type 0} (same : K → K → Bool) (name : X → K) (xs : List X) → AreApart (λ x y. same (name x) (name y)) xs → IsDistinct same (map name xs)
+unfolding IsDistinct
+distinct_names same name [] h = tt
+distinct_names same name (x ∷ xs) h = (none_same same name (name x) xs h.0, distinct_names same name xs h.1)

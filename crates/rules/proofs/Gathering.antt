@@ -17,17 +17,17 @@ use Rattle.commands.specs.Lists.{total}
 pub record IsGathered {X Y : Type 0} (f : X → List Y) (xs : List X) (i : ℕ) (out : List Y) : Type 0 where
   pub so_far : out ++ flat_map f (drop i xs) ≡ flat_map f xs
 
-gathered_none : {X Y : Type 0} (f : X → List Y) (xs : List X) (out : List Y) → out ≡ [] → IsGathered f xs 0 out
+pub gathered_none : {X Y : Type 0} (f : X → List Y) (xs : List X) (out : List Y) → out ≡ [] → IsGathered f xs 0 out
 gathered_none f xs out e = record { so_far = ap (λ ys. ys ++ flat_map f xs) e }
 
-gathered_more : {X Y : Type 0} (f : X → List Y) (xs : List X) (i : ℕ) (out : List Y) (none : X) (new : List Y) → i < length xs → IsGathered f xs i out → new ≡ out ++ f (get_or xs i none) → IsGathered f xs (i + 1) new
+pub gathered_more : {X Y : Type 0} (f : X → List Y) (xs : List X) (i : ℕ) (out : List Y) (none : X) (new : List Y) → i < length xs → IsGathered f xs i out → new ≡ out ++ f (get_or xs i none) → IsGathered f xs (i + 1) new
 gathered_more f xs i out none new h s e = record {
   so_far =
       ap (λ ys. ys ++ flat_map f (drop (i + 1) xs)) e ∙ append_assoc out (f (get_or xs i none)) (flat_map f (drop (i + 1) xs))
       ∙ sym (ap (λ ys. out ++ flat_map f ys) (drop_from xs i none h)) ∙ s.so_far;
 }
 
-gathered_all : {X Y : Type 0} (f : X → List Y) (xs : List X) (i : ℕ) (out : List Y) → i ≡ length xs → IsGathered f xs i out → out ≡ flat_map f xs
+pub gathered_all : {X Y : Type 0} (f : X → List Y) (xs : List X) (i : ℕ) (out : List Y) → i ≡ length xs → IsGathered f xs i out → out ≡ flat_map f xs
 gathered_all f xs i out e s = sym (append_none out) ∙ sym (ap (λ ys. out ++ flat_map f ys) (drop_end xs i e)) ∙ s.so_far
 
 -- the rows put and dropped and the units short, line by line

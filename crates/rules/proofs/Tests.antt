@@ -34,6 +34,17 @@ pub and_false : (a : Bool) → a && false ≡ false
 and_false true = refl
 and_false false = refl
 
+pub and_first_false : (a b : Bool) → a ≡ false → a && b ≡ false
+and_first_false a b e = ap (λ t. t && b) e
+
+pub and_later_false : (a b : Bool) → b ≡ false → a && b ≡ false
+and_later_false true b e = e
+and_later_false false b e = refl
+
+pub and_not_itself : (a : Bool) → a && not a ≡ false
+and_not_itself true = refl
+and_not_itself false = refl
+
 pub not_false : (a : Bool) → not a ≡ false → a ≡ true
 not_false true e = refl
 not_false false e = let f : true ≡ false = e in cc

@@ -1,5 +1,5 @@
 -- What is decided of each command by the rows of its slice: the conditions judged, and the rows changed.
-use Rattle.std.specs.Prelude.{◌≡◌, ℕ, ◌+◌, Bool, true, false, not, ◌&&◌, ◌||◌, if◌then◌else◌, nat_le, List, [], ◌∷◌, ◌++◌, filter, find, Option, Some, None, Result, Ok, Err, pos}
+use Rattle.std.specs.Prelude.{◌≡◌, ℕ, ◌+◌, false, not, ◌&&◌, ◌||◌, if◌then◌else◌, nat_le, List, [], ◌∷◌, ◌++◌, filter, find, Option, Some, None, Result, Ok, Err, pos}
 use Rattle.commands.specs.declared.limits.TheConstants.{ITEMS_MAX, BINS_MAX, ACTS_MAX}
 use Rattle.commands.specs.declared.refusal.Refusal.{Refusal}
 use Rattle.commands.specs.declared.refusal.Refusal.TheVariants.{ActsFull, UnknownItem, UnknownBin, ItemExists, BinExists, OtherExpiry, LotRecalled, LotExpired, OverUnits}
@@ -16,26 +16,16 @@ use Rattle.commands.specs.declared.rows.StagedRow.{StagedRow}
 use Rattle.commands.specs.declared.rows.ReservedRow.{ReservedRow}
 use Rattle.commands.specs.declared.command.NewItem.{NewItem}
 use Rattle.commands.specs.declared.command.NewBin.{NewBin}
-use Rattle.commands.specs.declared.command.Command.{Command}
-use Rattle.commands.specs.declared.command.Command.TheVariants.{Item, Bin, Receive, Order}
 use Rattle.rules.specs.Verdict.{Judgement}
 use Rattle.rules.specs.Postings.{is_lot}
 use Rattle.rules.specs.Standing.{is_expired}
 use Rattle.rules.specs.Cards.{delivery_note}
 use Rattle.rules.specs.Seen.{capped, sees_item, sees_bin, lot_seen, sees_recall, expires_otherwise_than, is_over, number_seen, meta_after, plain_reply, no_rows}
-use Rattle.rules.specs.Plans.{demands_seen, supplies_seen, plan_within, named_rows, rows_to_put, rows_to_drop}
+use Rattle.rules.specs.Plans.{shares_over, rows_to_put, rows_to_drop}
 use Rattle.rules.specs.declared.slice.Slice.{Slice}
 use Rattle.rules.specs.declared.slice.Change.{Change}
 use Rattle.rules.specs.declared.slice.RuleFault.{RuleFault}
 use Rattle.rules.specs.declared.slice.RuleFault.TheVariants.{Refused, NoMemory}
-
--- the commands that are decided so far
-abbrev pub is_decided : Command → Bool
-is_decided (Item i) = true
-is_decided (Bin b) = true
-is_decided (Receive r) = true
-is_decided (Order o) = true
-is_decided _ = false
 
 -- a refusal is told; otherwise the change is made, but for want of memory
 abbrev pub IsMade : Option Refusal → Change → Result Change RuleFault → Type 0
@@ -116,8 +106,7 @@ lot_rows_after s r = lots_put s r ++ s.rows.lots
 -- the reserved rows of the item after the receipt
 abbrev pub receive_shares : Slice → Receipt → List ReservedRow
 receive_shares s r =
-    named_rows s.rows.orders (lot_rows_after s r)
-    (plan_within (demands_seen r.lot.gtin s.rows.lines s.rows.staged s.rows.orders) (supplies_seen r.lot.gtin s.meta.day s.rows.recalls s.rows.bins (stock_rows_after s r) (lot_rows_after s r)))
+    shares_over r.lot.gtin s.meta.day s.rows.orders s.rows.lines s.rows.staged (lot_rows_after s r) s.rows.recalls s.rows.bins (stock_rows_after s r)
 
 -- the units of a lot in bins and on stages
 abbrev pub lot_units : LotId → List StockRow → List StagedRow → ℕ

@@ -1,5 +1,5 @@
 -- What is decided of an order by the rows of its slice: the conditions judged, and the rows changed.
-use Rattle.std.specs.Prelude.{ℕ, ◌+◌, ◌-◌, Bool, not, ◌&&◌, nat_lt, nat_le, if◌then◌else◌, List, [], ◌∷◌, ◌++◌, map, flat_map, find, codes, decimal, Option, Some, None, is_some}
+use Rattle.std.specs.Prelude.{ℕ, ◌+◌, ◌-◌, Bool, not, ◌&&◌, nat_lt, nat_le, if◌then◌else◌, List, [], ◌∷◌, ◌++◌, map, flat_map, find, codes, decimal, Option, Some, None}
 use Rattle.std.specs.List.{list_any}
 use Rattle.label.specs.Values.{same_text}
 use Rattle.commands.specs.Lists.{total}
@@ -17,14 +17,12 @@ use Rattle.rules.specs.Planning.{is_open_state}
 use Rattle.rules.specs.Verdict.{Judgement, names_item_twice}
 use Rattle.rules.specs.Replies.{short_field}
 use Rattle.rules.specs.Seen.{capped, sees_item, number_seen, meta_after, no_rows}
+use Rattle.rules.specs.SeenOrders.{sees_order}
 use Rattle.rules.specs.Plans.{demands_seen, supplies_seen, plan_within, named_rows, rows_to_put, rows_to_drop}
 use Rattle.rules.specs.declared.slice.Slice.{Slice}
 use Rattle.rules.specs.declared.slice.Change.{Change}
 
 -- Judging
-
-abbrev pub sees_order : Slice → List ℕ → Bool
-sees_order s o = is_some (find (λ r. same_text o r.order) s.rows.orders)
 
 -- one of the lines is of an item that the slice does not have
 abbrev pub misses_item : Slice → List OrderLine → Bool

@@ -1,20 +1,21 @@
 -- Laws over all histories and all runs.
-use Rattle.std.specs.Prelude.{◌≡◌, ◌≢◌, ℕ, ◌+◌, ◌≤◌, Bool, true, false, not, ◌==◌, ◌&&◌, if◌then◌else◌, List, [], ◌∷◌, ◌++◌, map, Some, ℤ, unsigned_abs}
+use Rattle.std.specs.Prelude.{◌≡◌, ◌≢◌, ℕ, ◌+◌, ◌≤◌, Bool, true, false, not, ◌==◌, ◌&&◌, ◌||◌, if◌then◌else◌, List, [], ◌∷◌, ◌++◌, map, Some, ℤ, unsigned_abs}
 use Rattle.std.specs.List.{list_any, list_all, IsDistinct}
 use Rattle.label.specs.Values.{same_text}
 use Rattle.label.specs.declared.lot.LotId.{LotId}
 use Rattle.commands.specs.Lists.{total}
 use Rattle.commands.specs.declared.key.Key.{Key}
-use Rattle.commands.specs.declared.command.Command.TheVariants.{Ship}
+use Rattle.commands.specs.declared.command.Command.TheVariants.{Pick, Ship, Recall}
+use Rattle.commands.specs.declared.command.Picking.{Picking}
 use Rattle.commands.specs.declared.rows.ItemRow.{ItemRow}
 use Rattle.commands.specs.declared.rows.CardKind.{CardKind}
 use Rattle.commands.specs.declared.rows.CardKind.TheVariants.{Receipt, WriteOn, WriteOff as WrittenOff, Shipment}
 use Rattle.commands.specs.declared.rows.CardRow.{CardRow}
 use Rattle.rules.specs.Acts.{Act}
-use Rattle.rules.specs.Postings.{Place, Supplier, WriteOff, is_lot, is_shipment, units_in, units_out, balance}
+use Rattle.rules.specs.Postings.{Place, Supplier, WriteOff, of_item, is_lot, is_shipment, units_in, units_out, balance}
 use Rattle.rules.specs.Standing.{KnownLot, lot_known, is_shippable, bins, orders, shipments}
 use Rattle.rules.specs.Ledger.{postings, postings_of}
-use Rattle.rules.specs.Planning.{in_bin, in_store, staged_of_lot, is_open, reserved}
+use Rattle.rules.specs.Planning.{Booking, bookings, in_bin, in_store, staged_of_lot, is_open, reserved}
 use Rattle.rules.specs.Once.{IsHistory, Outcome, outcome, acts_after, acts_after_file, same_key, same_command, Accepted, Repeated}
 use Rattle.rules.specs.Machine.{Answer, Told, Run, AllSound, acts_after_all, outcomes}
 use Rattle.rules.specs.Cards.{cards}
@@ -119,6 +120,32 @@ RunsWithMemory = (first : ℤ) (old requests : List Act) (told : List Outcome) (
 abbrev pub Covered : Type 0
 Covered = (first : ℤ) (acts : List Act) (l : LotId) → IsHistory first acts →
     total (λ p. reserved first acts p.order l) (orders acts) ≤ balance (in_store acts) (is_lot l) (postings first acts)
+
+-- a pick lowers its own reservation by its quantity and changes no other
+abbrev pub PickDisturbsNone : Type 0
+PickDisturbsNone = (first : ℤ) (before : List Act) (key : Key) (p : Picking) (o : List ℕ) (l : LotId) →
+    let act : Act = record { key = key; command = Pick p } in
+    IsHistory first (act ∷ before) →
+    reserved first before o l ≡ reserved first (act ∷ before) o l + (if same_text o p.order && is_lot l p.lot then p.qty else 0)
+
+-- the booking has units of the lot, reserved or staged
+abbrev pub has_of_lot : ℤ → List Act → LotId → Booking → Bool
+has_of_lot first acts l b = not (reserved first acts b.order l == 0) || not (staged_of_lot first acts b.order l == 0)
+
+-- a recall changes no reservation of the bookings of the item before the first one with units of the lot, reserved or staged
+abbrev pub RecallDisturbsNone : Type 0
+RecallDisturbsNone = (first : ℤ) (before : List Act) (key : Key) (l : LotId) (earlier later : List Booking) (o : List ℕ) (m : LotId) →
+    let act : Act = record { key = key; command = Recall l } in
+    IsHistory first (act ∷ before) → bookings before l.gtin ≡ earlier ++ later → list_any (has_of_lot first before l) earlier ≡ false →
+    list_any (λ b. same_text o b.order) earlier ≡ true → reserved first (act ∷ before) o m ≡ reserved first before o m
+
+-- and changes only reservations on lots of the item, of orders with one of the later bookings: where there is none, it changes no
+-- reservation
+abbrev pub RecallDisturbsLaterAlone : Type 0
+RecallDisturbsLaterAlone = (first : ℤ) (before : List Act) (key : Key) (l : LotId) (earlier later : List Booking) (o : List ℕ) (m : LotId) →
+    let act : Act = record { key = key; command = Recall l } in
+    IsHistory first (act ∷ before) → bookings before l.gtin ≡ earlier ++ later → list_any (has_of_lot first before l) earlier ≡ false →
+    of_item l.gtin m && list_any (λ b. same_text o b.order) later ≡ false → reserved first (act ∷ before) o m ≡ reserved first before o m
 
 -- Conservation
 

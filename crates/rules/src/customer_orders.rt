@@ -8,18 +8,18 @@ ghost use Rattle.commands.specs.Lists.{total};
 ghost use Rattle.rules.specs.Replies.{short_field};
 ghost use Rattle.rules.specs.Verdict.{first_refusal, names_item_twice as names_item_twice_lem};
 ghost use Rattle.rules.specs.Seen.{capped, number_seen as number_seen_lem};
-ghost use Rattle.rules.specs.DecidedOrder.{order_seen, order_changes, misses_item as misses_item_lem, sees_order as sees_order_lem, orders_too_much as orders_too_much_lem, open_units_seen as open_units_seen_lem, open_units_of as open_units_of_lem, open_units_of_line as open_units_of_line_lem};
+ghost use Rattle.rules.specs.DecidedOrder.{order_seen, order_changes, misses_item as misses_item_lem, orders_too_much as orders_too_much_lem, open_units_seen as open_units_seen_lem, open_units_of as open_units_of_lem, open_units_of_line as open_units_of_line_lem};
 
 use crate::booking::{Booked, book_order, new_line_rows, new_order_row};
 use crate::changing::{empty, meta_next, number_seen, one};
 use crate::demands::{find_line, is_open};
 use crate::judging::first_of;
-use crate::looking::find_order;
+use crate::orders_seen::sees_order;
 use crate::seeing::sees_item;
 use crate::{Change, Rows, Slice};
 use commands::limits::{ACTS_MAX, OPEN_MAX};
 use commands::{Buffer, LineRow, Listed, NewOrder, OrderLine, OrderRow, Refusal, Short};
-use label::{Gtin, Name};
+use label::Gtin;
 use std::alloc::{AllocError, Global};
 
 /// The refusal of an order, if it is refused.
@@ -51,12 +51,6 @@ fn misses_item(slice: &Slice, lines: &[OrderLine]) -> bool
         }
     }
     false
-}
-
-fn sees_order(slice: &Slice, order: &Name) -> bool
-    ensures { result ≡ sees_order_lem slice.now order.now }
-{
-    find_order(slice.rows.orders.as_slice(), order).is_some()
 }
 
 fn names_item_twice(lines: &[OrderLine]) -> bool

@@ -1,22 +1,23 @@
 //! Goods that come in.
 
-ghost use Rattle.std.specs.Prelude.{◌≡◌, ◌+◌, ◌&&◌, ◌++◌, [], ◌∷◌, not, filter, find, if◌then◌else◌, IfOk, OnOk};
+ghost use Rattle.std.specs.Prelude.{◌≡◌, ◌&&◌, ◌∷◌, not, filter, IfOk};
 ghost use Rattle.label.specs.Values.{same_text};
 ghost use Rattle.rules.specs.Postings.{is_lot};
 ghost use Rattle.rules.specs.Standing.{is_expired as is_expired_lem};
 ghost use Rattle.rules.specs.Verdict.{first_refusal};
-ghost use Rattle.rules.specs.Seen.{capped, units_seen, lot_seen as lot_seen_lem, sees_recall as sees_recall_lem, expires_otherwise_than, is_over as is_over_lem};
-ghost use Rattle.rules.specs.Decided.{receive_seen, receive_changes, receive_shares as receive_shares_lem, receive_card as receive_card_lem, stock_after as stock_after_lem, stock_rows_after as stock_rows_after_lem, stock_qty, lots_put as lots_put_lem, lots_if_new as lots_if_new_lem, new_lot_row as new_lot_row_lem, lot_rows_after as lot_rows_after_lem};
+ghost use Rattle.rules.specs.Seen.{units_seen, lot_seen as lot_seen_lem, sees_recall as sees_recall_lem, expires_otherwise_than, is_over as is_over_lem};
+ghost use Rattle.rules.specs.SeenLots.{is_held_row as is_held_row_lem, sees_hold as sees_hold_lem};
+ghost use Rattle.rules.specs.Decided.{receive_seen, receive_changes, receive_shares as receive_shares_lem, receive_card as receive_card_lem, stock_after as stock_after_lem, stock_rows_after as stock_rows_after_lem, lots_put as lots_put_lem, lots_if_new as lots_if_new_lem, new_lot_row as new_lot_row_lem, lot_rows_after as lot_rows_after_lem};
 
 use crate::cards::{delivery_note, lot_units};
 use crate::changing::{empty, meta_next, number_seen, one, plain_reply};
-use crate::demands::demands_seen;
 use crate::judging::first_of;
-use crate::looking::{find_lot, find_recall, find_stock, is_same_lot};
-use crate::plans::{planned_rows, rows_to_drop, rows_to_put};
+use crate::looking::{find_lot, find_recall, is_same_lot};
+use crate::plans::{ItemRows, item_rows, rows_to_drop, rows_to_put, shares_over};
+use crate::pushing::push_if;
 use crate::seeing::{sees_bin, sees_item};
+use crate::stock::units_in_bin;
 use crate::summing::{sum_of_staged, sum_of_stock};
-use crate::supplies::supplies_seen;
 use crate::{Change, Rows, Slice};
 use commands::limits::{ACTS_MAX, UNITS_MAX};
 use commands::{CardKind, CardRow, Key, Listed, LotRow, Receipt, Refusal, ReservedRow, StockRow};
@@ -45,13 +46,29 @@ pub fn judge_receive(slice: &Slice, r: &Receipt) -> Option<Refusal>
     ])
 }
 
-fn lot_seen(slice: &Slice, lot: &LotId) -> Option<LotRow>
+pub fn lot_seen(slice: &Slice, lot: &LotId) -> Option<LotRow>
     ensures { result ≡ lot_seen_lem slice.now lot.now }
 {
     find_lot(slice.rows.lots.as_slice(), lot)
 }
 
-fn sees_recall(slice: &Slice, lot: &LotId) -> bool
+/// Whether the slice has the lot, and it is held.
+pub fn sees_hold(slice: &Slice, lot: &LotId) -> bool
+    ensures { result ≡ sees_hold_lem slice.now lot.now }
+{
+    is_held_row(lot_seen(slice, lot))
+}
+
+fn is_held_row(row: Option<LotRow>) -> bool
+    ensures { result ≡ is_held_row_lem row }
+{
+    match row {
+        None => false,
+        Some(k) => k.held,
+    }
+}
+
+pub fn sees_recall(slice: &Slice, lot: &LotId) -> bool
     ensures { result ≡ sees_recall_lem slice.now lot.now }
 {
     find_recall(slice.rows.recalls.as_slice(), lot).is_some()
@@ -146,33 +163,13 @@ fn receive_shares(
 ) -> Result<Vec<ReservedRow>, AllocError>
     ensures { IfOk result (λ v. stock.now ≡ stock_rows_after_lem slice.now r.now → v.items ≡ receive_shares_lem slice.now r.now) }
 {
-    let gtin = &r.lot.gtin;
-    let rows = &slice.rows;
-    let orders = rows.orders.as_slice();
     let lots = lot_rows_after(alloc, slice, r)?;
-    let demands = demands_seen(
-        alloc,
-        gtin,
-        rows.lines.as_slice(),
-        rows.staged.as_slice(),
-        orders,
-    )?;
-    let supplies = supplies_seen(
-        alloc,
-        gtin,
-        slice.meta.day,
-        rows.recalls.as_slice(),
-        rows.bins.as_slice(),
+    let rows = ItemRows {
+        lots: lots.as_slice(),
         stock,
-        lots.as_slice(),
-    )?;
-    planned_rows(
-        alloc,
-        orders,
-        lots.as_slice(),
-        demands.as_slice(),
-        supplies.as_slice(),
-    )
+        ..item_rows(&slice.rows)
+    };
+    shares_over(alloc, &r.lot.gtin, slice.meta.day, &rows)
 }
 
 // The rows of lots with the lot that is received, if it is new.
@@ -235,29 +232,7 @@ fn stock_after(slice: &Slice, r: &Receipt) -> StockRow
 fn units_after(slice: &Slice, r: &Receipt) -> u64
     ensures { result ≡ (stock_after_lem slice.now r.now).qty }
 {
-    let row = stock_seen(slice, r);
-    units_with(row, u64::from(r.qty.units()))
-}
-
-fn stock_seen(slice: &Slice, r: &Receipt) -> Option<StockRow>
-    ensures { result ≡ find (λ q. is_lot r.now.lot q.lot && same_text r.now.bin q.bin) slice.now.rows.stock }
-{
-    find_stock(slice.rows.stock.as_slice(), &r.lot, &r.bin)
-}
-
-fn units_with(row: Option<StockRow>, more: u64) -> u64
-    ensures { result ≡ capped (stock_qty row + more) }
-{
-    units_of(row).saturating_add(more)
-}
-
-fn units_of(row: Option<StockRow>) -> u64
-    ensures { result ≡ stock_qty row }
-{
-    match row {
-        None => 0,
-        Some(r) => r.qty,
-    }
+    units_in_bin(slice, &r.bin, &r.lot).saturating_add(u64::from(r.qty.units()))
 }
 
 // The stock rows with this one in the place of that under its key.
@@ -268,7 +243,7 @@ fn with_stock(alloc: Global, rows: &[StockRow], new: StockRow) -> Result<Vec<Sto
     after.push(new)?;
     for row in rows {
         let same = is_same_stock(&new, row);
-        push_stock_if(&mut after, !same, *row)?;
+        push_if(&mut after, !same, *row)?;
     }
     Ok(after)
 }
@@ -279,13 +254,4 @@ fn is_same_stock(a: &StockRow, b: &StockRow) -> bool
     let lot = is_same_lot(&a.lot, &b.lot);
     let bin = a.bin == b.bin;
     lot && bin
-}
-
-fn push_stock_if(rows: &mut Vec<StockRow>, wanted: bool, row: StockRow) -> Result<(), AllocError>
-    ensures { OnOk result (rows.new.items ≡ rows.old.items ++ (if wanted then row ∷ [] else [])) }
-{
-    if wanted {
-        rows.push(row)?;
-    }
-    Ok(())
 }

@@ -1,6 +1,6 @@
 //! Laws over all histories and all runs: functions without effect, whose contracts are the laws.
 
-ghost use Rattle.rules.specs.Laws.{NeverOverdrawn, Conserved, Covered, StagedLotsAreShippable, ShippedLotsAreShippable, ClosedOrdersAreEmpty, OtherItemsAreLeftAlone, Traced, RunsGoOn, FilesGoOn, RunsWithMemory, RepeatsActOnce, RepeatsGetTheFirstReply};
+ghost use Rattle.rules.specs.Laws.{NeverOverdrawn, Conserved, Covered, PickDisturbsNone, RecallDisturbsNone, RecallDisturbsLaterAlone, StagedLotsAreShippable, ShippedLotsAreShippable, ClosedOrdersAreEmpty, OtherItemsAreLeftAlone, Traced, RunsGoOn, FilesGoOn, RunsWithMemory, RepeatsActOnce, RepeatsGetTheFirstReply};
 
 /// No more is taken out of places in the warehouse or out of shipments than was brought there.
 pub fn never_overdrawn()
@@ -22,6 +22,18 @@ pub fn conserved()
 /// The reservations on a lot never add up to more than its units in STORE bins.
 pub fn covered()
     ensures { Covered }
+{}
+
+/// A pick lowers its own reservation by its quantity and changes no other.
+pub fn pick_disturbs_none()
+    ensures { PickDisturbsNone }
+{}
+
+/// A recall changes no reservation of the bookings of the item before the first one with units of the lot, reserved or
+/// staged; where there is none, it changes no reservation.
+pub fn recall_disturbs_none()
+    ensures earlier { RecallDisturbsNone }
+    ensures later_alone { RecallDisturbsLaterAlone }
 {}
 
 /// A closed order has nothing staged and nothing reserved.

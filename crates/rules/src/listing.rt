@@ -3,7 +3,8 @@
 use crate::{Change, Rows};
 use commands::{
     BinKind, BinRow, CardKind, CardRow, ItemRow, LineRow, LotRow, MetaRow, OrderRow, OrderState,
-    ReservedRow, StockRow, decimal_text, signed_text,
+    RecallRow, ReservedRow, ShiplineRow, ShipmentRow, StagedRow, StockRow, decimal_text,
+    signed_text,
 };
 use label::{BusinessDay, Day, LotId};
 
@@ -26,10 +27,10 @@ impl Listing {
         listing.meta(&change.meta);
         listing.goods(b"put", &change.put);
         listing.orders(b"put", &change.put);
-        listing.others(b"put", &change.put);
+        listing.shipped(b"put", &change.put);
         listing.goods(b"drop", &change.dropped);
         listing.orders(b"drop", &change.dropped);
-        listing.others(b"drop", &change.dropped);
+        listing.shipped(b"drop", &change.dropped);
         listing.word(change.text.as_bytes());
         listing
     }
@@ -96,6 +97,7 @@ impl Listing {
         self.items(change, rows.items.as_slice());
         self.bins(change, rows.bins.as_slice());
         self.lots(change, rows.lots.as_slice());
+        self.recalls(change, rows.recalls.as_slice());
         self.stock(change, rows.stock.as_slice());
         self.cards(change, rows.cards.as_slice());
     }
@@ -103,24 +105,16 @@ impl Listing {
     fn orders(&mut self, change: &[u8], rows: &Rows) {
         self.order_rows(change, rows.orders.as_slice());
         self.lines(change, rows.lines.as_slice());
+        self.staged(change, rows.staged.as_slice());
         self.reserved(change, rows.reserved.as_slice());
     }
 
+    fn shipped(&mut self, change: &[u8], rows: &Rows) {
+        self.shipments(change, rows.shipments.as_slice());
+        self.shiplines(change, rows.shiplines.as_slice());
+    }
+
     // The tables of which no row is expected.
-    fn others(&mut self, change: &[u8], rows: &Rows) {
-        self.count(change, b"recalls", rows.recalls.as_slice().len());
-        self.count(change, b"staged", rows.staged.as_slice().len());
-        self.count(change, b"shipments", rows.shipments.as_slice().len());
-        self.count(change, b"shiplines", rows.shiplines.as_slice().len());
-    }
-
-    fn count(&mut self, change: &[u8], table: &[u8], rows: usize) {
-        if rows > 0 {
-            self.row(change, table);
-            self.end();
-        }
-    }
-
     fn items(&mut self, change: &[u8], rows: &[ItemRow]) {
         for row in rows {
             self.row(change, b"item");
@@ -149,6 +143,15 @@ impl Listing {
             self.day(row.expiry);
             self.number(row.came);
             self.field(if row.held { b"held" } else { b"free" });
+            self.end();
+        }
+    }
+
+    fn recalls(&mut self, change: &[u8], rows: &[RecallRow]) {
+        for row in rows {
+            self.row(change, b"recall");
+            self.lot(&row.lot);
+            self.number(row.act);
             self.end();
         }
     }
@@ -195,6 +198,37 @@ impl Listing {
             self.field(row.gtin.as_bytes());
             self.number(row.ordered);
             self.number(row.shipped);
+            self.end();
+        }
+    }
+
+    fn staged(&mut self, change: &[u8], rows: &[StagedRow]) {
+        for row in rows {
+            self.row(change, b"staged");
+            self.field(row.order.as_bytes());
+            self.lot(&row.lot);
+            self.number(row.qty);
+            self.end();
+        }
+    }
+
+    fn shipments(&mut self, change: &[u8], rows: &[ShipmentRow]) {
+        for row in rows {
+            self.row(change, b"shipment");
+            self.number(row.number);
+            self.number(row.act);
+            self.business_day(row.day);
+            self.field(row.order.as_bytes());
+            self.end();
+        }
+    }
+
+    fn shiplines(&mut self, change: &[u8], rows: &[ShiplineRow]) {
+        for row in rows {
+            self.row(change, b"shipline");
+            self.number(row.number);
+            self.lot(&row.lot);
+            self.number(row.qty);
             self.end();
         }
     }

@@ -1,16 +1,79 @@
 //! The plan of an item, and the reserved rows that it changes.
 
-ghost use Rattle.std.specs.Prelude.{◌≡◌, ◌==◌, ◌++◌, ◌∷◌, [], find, if◌then◌else◌, IfOk, OnOk};
-ghost use Rattle.std.specs.List.{list_any, cons_option};
-ghost use Rattle.rules.specs.Plans.{plan_within as plan_within_lem, named_row, named_rows as named_rows_lem, is_share_of, has_qty, rows_to_put as rows_to_put_lem, rows_to_drop as rows_to_drop_lem};
+ghost use Rattle.std.specs.Prelude.{◌≡◌, ◌==◌, find, IfOk};
+ghost use Rattle.std.specs.List.{list_any};
+ghost use Rattle.rules.specs.Plans.{plan_within as plan_within_lem, named_row, named_rows as named_rows_lem, is_share_of, has_qty, shares_over as shares_over_lem, rows_to_put as rows_to_put_lem, rows_to_drop as rows_to_drop_lem};
 
-use crate::demands::cut_demands;
+use crate::Rows;
+use crate::demands::{cut_demands, demands_seen};
 use crate::looking::is_same_lot;
-use crate::supplies::cut_supplies;
-use commands::{LotRow, OrderRow, ReservedRow};
-use label::Gtin;
+use crate::pushing::{push_found, push_if};
+use crate::supplies::{cut_supplies, supplies_seen};
+use commands::{BinRow, LineRow, LotRow, OrderRow, RecallRow, ReservedRow, StagedRow, StockRow};
+use label::{BusinessDay, Gtin};
 use plan::{Demand, Plan, Row, Supply, whole};
 use std::alloc::{AllocError, Global};
+
+/// The rows that tell the demands and supplies of an item, some of them as they are after an act.
+#[derive(Clone, Copy)]
+pub struct ItemRows<'a> {
+    pub orders: &'a [OrderRow],
+    pub lines: &'a [LineRow],
+    pub staged: &'a [StagedRow],
+    pub lots: &'a [LotRow],
+    pub recalls: &'a [RecallRow],
+    pub bins: &'a [BinRow],
+    pub stock: &'a [StockRow],
+}
+
+/// The rows as they are before the act.
+pub fn item_rows(rows: &Rows) -> ItemRows<'_>
+    ensures orders { result.orders.now ≡ rows.now.orders }
+    ensures lines { result.lines.now ≡ rows.now.lines }
+    ensures staged { result.staged.now ≡ rows.now.staged }
+    ensures lots { result.lots.now ≡ rows.now.lots }
+    ensures recalls { result.recalls.now ≡ rows.now.recalls }
+    ensures bins { result.bins.now ≡ rows.now.bins }
+    ensures stock { result.stock.now ≡ rows.now.stock }
+{
+    ItemRows {
+        orders: rows.orders.as_slice(),
+        lines: rows.lines.as_slice(),
+        staged: rows.staged.as_slice(),
+        lots: rows.lots.as_slice(),
+        recalls: rows.recalls.as_slice(),
+        bins: rows.bins.as_slice(),
+        stock: rows.stock.as_slice(),
+    }
+}
+
+/// What these rows reserve of an item.
+pub fn shares_over(
+    alloc: Global,
+    gtin: &Gtin,
+    day: BusinessDay,
+    rows: &ItemRows<'_>,
+) -> Result<Vec<ReservedRow>, AllocError>
+    ensures { IfOk result (λ v. v.items ≡ shares_over_lem gtin.now day rows.now.orders.now rows.now.lines.now rows.now.staged.now rows.now.lots.now rows.now.recalls.now rows.now.bins.now rows.now.stock.now) }
+{
+    let demands = demands_seen(alloc, gtin, rows.lines, rows.staged, rows.orders)?;
+    let supplies = supplies_seen(
+        alloc,
+        gtin,
+        day,
+        rows.recalls,
+        rows.bins,
+        rows.stock,
+        rows.lots,
+    )?;
+    planned_rows(
+        alloc,
+        rows.orders,
+        rows.lots,
+        demands.as_slice(),
+        supplies.as_slice(),
+    )
+}
 
 /// The plan of demands over supplies, each up to the limit of a list's sum.
 pub fn plan_within(
@@ -25,8 +88,8 @@ pub fn plan_within(
     whole(alloc, wanted.as_slice(), offered.as_slice())
 }
 
-/// What the plan of demands over supplies reserves, by the names of orders and lots.
-pub fn planned_rows(
+// What the plan of demands over supplies reserves, by the names of orders and lots.
+fn planned_rows(
     alloc: Global,
     orders: &[OrderRow],
     lots: &[LotRow],
@@ -52,7 +115,7 @@ pub fn named_rows(
     for row in rows {
         let order = order_numbered(orders, row.booking);
         let lot = lot_that_came(lots, row.lot);
-        push_some(&mut named, name_row(order, lot, row.qty))?;
+        push_found(&mut named, name_row(order, lot, row.qty))?;
     }
     Ok(named)
 }
@@ -164,22 +227,4 @@ fn is_qty(row: Option<ReservedRow>, qty: u64) -> bool
         None => false,
         Some(r) => r.qty == qty,
     }
-}
-
-fn push_some(rows: &mut Vec<ReservedRow>, row: Option<ReservedRow>) -> Result<(), AllocError>
-    ensures { OnOk result (rows.new.items ≡ rows.old.items ++ cons_option row []) }
-{
-    if let Some(r) = row {
-        rows.push(r)?;
-    }
-    Ok(())
-}
-
-fn push_if(rows: &mut Vec<ReservedRow>, wanted: bool, row: ReservedRow) -> Result<(), AllocError>
-    ensures { OnOk result (rows.new.items ≡ rows.old.items ++ (if wanted then row ∷ [] else [])) }
-{
-    if wanted {
-        rows.push(row)?;
-    }
-    Ok(())
 }

@@ -3,22 +3,21 @@
 
 use crate::RuleFault;
 use crate::samples::{
-    BREAD, Bin, Item, KnownLot, Line, NO_ROWS, OATS, Ordered, Recalled, Sample, Staged, Stock,
-    Taken, Told, decided,
+    Bin, Item, KnownLot, NO_ROWS, OATS, Recalled, Sample, Staged, Stock, Told, decided,
 };
 use commands::limits::{ACTS_MAX, BINS_MAX, ITEMS_MAX};
-use commands::{BinKind, OrderState, Refusal};
+use commands::{BinKind, Refusal};
 use std::alloc::Global;
 use std::process::Abort;
 
 // A command that is refused, and why.
-struct Refused {
-    before: Sample,
-    told: Told,
-    why: Refusal,
+pub(crate) struct Refused {
+    pub(crate) before: Sample,
+    pub(crate) told: Told,
+    pub(crate) why: Refusal,
 }
 
-fn expect(rt: &impl Abort, alloc: Global, cases: &[Refused]) {
+pub(crate) fn expect(rt: &impl Abort, alloc: Global, cases: &[Refused]) {
     for (index, case) in cases.iter().enumerate() {
         let made = decided(rt, alloc, &case.before, &case.told);
         assert_eq!(rt;
@@ -34,12 +33,12 @@ const ACTS_ARE_FULL: Sample = Sample {
     ..NO_ROWS
 };
 
-const LAST_ACT: Sample = Sample {
+pub(crate) const LAST_ACT: Sample = Sample {
     acts: ACTS_MAX - 1,
     ..NO_ROWS
 };
 
-const OAT_DRINK: Item = Item(OATS, "Oat drink");
+pub(crate) const OAT_DRINK: Item = Item(OATS, "Oat drink");
 
 static ITEMS: [Refused; 3] = [
     Refused {
@@ -73,7 +72,7 @@ fn refuses_items(rt: HostRuntime) {
     expect(&rt, rt.alloc(), ITEMS.as_slice());
 }
 
-const STORE_BIN: Bin = Bin("A-01", BinKind::Store);
+pub(crate) const STORE_BIN: Bin = Bin("A-01", BinKind::Store);
 
 static BINS: [Refused; 3] = [
     Refused {
@@ -196,80 +195,323 @@ fn refuses_receipts(rt: HostRuntime) {
     expect(&rt, rt.alloc(), RECEIPTS.as_slice());
 }
 
-// There is an order S-1, and one of which 999,999,989 units are open.
-const ORDER_KNOWN: Sample = Sample {
-    orders: &[
-        Taken("S-1", 8, "Corner Shop", OrderState::Open),
-        Taken("S-2", 9, "Harbour Cafe", OrderState::Open),
-    ],
-    lines: &[Line("S-2", OATS, 1_000_000_000, 11)],
+// There are 10 units of lot L1 in A-01.
+const TEN_UNITS: Sample = Sample {
+    stock: &[Stock("L1", "A-01", 10)],
     ..LAST_ACT
 };
 
-const ORDER_KNOWN_OF_ITEM: Sample = Sample {
+const TEN_UNITS_OF_ITEM: Sample = Sample {
     items: &[OAT_DRINK],
-    ..ORDER_KNOWN
+    ..TEN_UNITS
 };
 
-const OTHER_ORDER: Sample = Sample {
-    orders: &[Taken("S-2", 9, "Harbour Cafe", OrderState::Open)],
-    ..ORDER_KNOWN_OF_ITEM
+const TEN_UNITS_IN_BIN: Sample = Sample {
+    bins: &[STORE_BIN],
+    ..TEN_UNITS_OF_ITEM
 };
 
-const TWICE: Told = Told::Order(
-    "S-1",
-    "Corner Shop",
-    &[Ordered(OATS, 12), Ordered(OATS, 12)],
-);
+const TEN_UNITS_OF_LOT: Sample = Sample {
+    lots: &[KnownLot("L1", "2026-06-30", 6, false)],
+    ..TEN_UNITS_IN_BIN
+};
 
-static ORDERS: [Refused; 6] = [
+const TOO_MANY_MOVED: Told = Told::Move("L1", "A-01", "A-01", 11);
+
+static MOVES: [Refused; 8] = [
     Refused {
         before: Sample {
             acts: ACTS_MAX,
-            ..ORDER_KNOWN
+            ..TEN_UNITS
         },
-        told: TWICE,
+        told: TOO_MANY_MOVED,
         why: Refusal::ActsFull,
     },
     Refused {
-        before: ORDER_KNOWN,
-        told: TWICE,
+        before: TEN_UNITS,
+        told: TOO_MANY_MOVED,
         why: Refusal::UnknownItem,
     },
     Refused {
-        before: ORDER_KNOWN_OF_ITEM,
-        told: TWICE,
-        why: Refusal::OrderExists,
+        before: TEN_UNITS_OF_ITEM,
+        told: TOO_MANY_MOVED,
+        why: Refusal::UnknownBin,
+    },
+    // One of the two bins is unknown.
+    Refused {
+        before: TEN_UNITS_IN_BIN,
+        told: Told::Move("L1", "Q-01", "A-01", 11),
+        why: Refusal::UnknownBin,
     },
     Refused {
-        before: OTHER_ORDER,
-        told: TWICE,
-        why: Refusal::ItemTwice,
+        before: TEN_UNITS_IN_BIN,
+        told: Told::Move("L1", "A-01", "Q-01", 11),
+        why: Refusal::UnknownBin,
     },
     Refused {
-        before: OTHER_ORDER,
-        told: Told::Order("S-1", "Corner Shop", &[Ordered(OATS, 12)]),
-        why: Refusal::OverOrdered,
+        before: TEN_UNITS_IN_BIN,
+        told: TOO_MANY_MOVED,
+        why: Refusal::UnknownLot,
     },
-    // The second item is unknown.
     Refused {
-        before: OTHER_ORDER,
-        told: Told::Order(
-            "S-1",
-            "Corner Shop",
-            &[Ordered(OATS, 11), Ordered(BREAD, 1)],
-        ),
-        why: Refusal::UnknownItem,
+        before: TEN_UNITS_OF_LOT,
+        told: TOO_MANY_MOVED,
+        why: Refusal::NotInBin,
+    },
+    Refused {
+        before: TEN_UNITS_OF_LOT,
+        told: Told::Move("L1", "A-01", "A-01", 10),
+        why: Refusal::SameBin,
     },
 ];
 
 #[test]
-fn refuses_orders(rt: HostRuntime) {
-    expect(&rt, rt.alloc(), ORDERS.as_slice());
+fn refuses_moves(rt: HostRuntime) {
+    expect(&rt, rt.alloc(), MOVES.as_slice());
 }
 
+static COUNTS: [Refused; 6] = [
+    Refused {
+        before: Sample {
+            acts: ACTS_MAX,
+            ..LOT_RECALLED
+        },
+        told: Told::Count("L4", "A-01", 2),
+        why: Refusal::ActsFull,
+    },
+    Refused {
+        before: LOT_RECALLED,
+        told: Told::Count("L4", "A-01", 2),
+        why: Refusal::UnknownItem,
+    },
+    Refused {
+        before: ITEM_KNOWN,
+        told: Told::Count("L4", "A-01", 2),
+        why: Refusal::UnknownBin,
+    },
+    Refused {
+        before: BIN_KNOWN,
+        told: Told::Count("L4", "A-01", 2),
+        why: Refusal::UnknownLot,
+    },
+    Refused {
+        before: BIN_KNOWN,
+        told: Told::Count("L1", "A-01", 2),
+        why: Refusal::OverUnits,
+    },
+    // Two more than there were.
+    Refused {
+        before: Sample {
+            stock: &[Stock("L1", "A-01", 5), Stock("L2", "Q-01", 599_999_995)],
+            ..BIN_KNOWN
+        },
+        told: Told::Count("L1", "A-01", 7),
+        why: Refusal::OverUnits,
+    },
+];
+
 #[test]
-fn other_commands_are_not_decided_yet(rt: HostRuntime) {
-    let made = decided(&rt, rt.alloc(), &NO_ROWS, &Told::Cancel("S-1"));
-    assert_eq!(&rt; made.err(), Some(RuleFault::Foreign));
+fn refuses_counts(rt: HostRuntime) {
+    expect(&rt, rt.alloc(), COUNTS.as_slice());
+}
+
+// Ten units of lot L1.
+const TEN_IN_BIN: Sample = Sample {
+    stock: &[Stock("L1", "A-01", 10), Stock("L2", "Q-01", 599_999_990)],
+    ..BIN_KNOWN
+};
+
+static ADJUSTMENTS: [Refused; 6] = [
+    Refused {
+        before: Sample {
+            acts: ACTS_MAX,
+            ..LOT_RECALLED
+        },
+        told: Told::Adjust("L4", "A-01", -11),
+        why: Refusal::ActsFull,
+    },
+    Refused {
+        before: LOT_RECALLED,
+        told: Told::Adjust("L4", "A-01", -11),
+        why: Refusal::UnknownItem,
+    },
+    Refused {
+        before: ITEM_KNOWN,
+        told: Told::Adjust("L4", "A-01", -11),
+        why: Refusal::UnknownBin,
+    },
+    Refused {
+        before: BIN_KNOWN,
+        told: Told::Adjust("L4", "A-01", -11),
+        why: Refusal::UnknownLot,
+    },
+    Refused {
+        before: TEN_IN_BIN,
+        told: Told::Adjust("L1", "A-01", -11),
+        why: Refusal::NotInBin,
+    },
+    Refused {
+        before: TEN_IN_BIN,
+        told: Told::Adjust("L1", "A-01", 2),
+        why: Refusal::OverUnits,
+    },
+];
+
+#[test]
+fn refuses_adjustments(rt: HostRuntime) {
+    expect(&rt, rt.alloc(), ADJUSTMENTS.as_slice());
+}
+
+// Lot L1 is recalled, and not known.
+const UNKNOWN_RECALLED: Sample = Sample {
+    recalls: &[Recalled("L1")],
+    ..LAST_ACT
+};
+
+const UNKNOWN_RECALLED_OF_ITEM: Sample = Sample {
+    items: &[OAT_DRINK],
+    ..UNKNOWN_RECALLED
+};
+
+// It is known, and held.
+const HELD_RECALLED: Sample = Sample {
+    lots: &[KnownLot("L1", "2026-06-30", 6, true)],
+    ..UNKNOWN_RECALLED_OF_ITEM
+};
+
+const HELD: Sample = Sample {
+    recalls: &[],
+    ..HELD_RECALLED
+};
+
+static HOLDS: [Refused; 5] = [
+    Refused {
+        before: Sample {
+            acts: ACTS_MAX,
+            ..UNKNOWN_RECALLED
+        },
+        told: Told::Hold("L1"),
+        why: Refusal::ActsFull,
+    },
+    Refused {
+        before: UNKNOWN_RECALLED,
+        told: Told::Hold("L1"),
+        why: Refusal::UnknownItem,
+    },
+    Refused {
+        before: UNKNOWN_RECALLED_OF_ITEM,
+        told: Told::Hold("L1"),
+        why: Refusal::UnknownLot,
+    },
+    Refused {
+        before: HELD_RECALLED,
+        told: Told::Hold("L1"),
+        why: Refusal::LotRecalled,
+    },
+    Refused {
+        before: HELD,
+        told: Told::Hold("L1"),
+        why: Refusal::LotHeld,
+    },
+];
+
+#[test]
+fn refuses_holds(rt: HostRuntime) {
+    expect(&rt, rt.alloc(), HOLDS.as_slice());
+}
+
+// Lot L1 is known, and not held.
+const FREE: Sample = Sample {
+    items: &[OAT_DRINK],
+    lots: &[KnownLot("L1", "2026-06-30", 6, false)],
+    ..LAST_ACT
+};
+
+static RELEASES: [Refused; 5] = [
+    Refused {
+        before: Sample {
+            acts: ACTS_MAX,
+            ..UNKNOWN_RECALLED
+        },
+        told: Told::Release("L1"),
+        why: Refusal::ActsFull,
+    },
+    Refused {
+        before: UNKNOWN_RECALLED,
+        told: Told::Release("L1"),
+        why: Refusal::UnknownItem,
+    },
+    Refused {
+        before: UNKNOWN_RECALLED_OF_ITEM,
+        told: Told::Release("L1"),
+        why: Refusal::UnknownLot,
+    },
+    Refused {
+        before: Sample {
+            recalls: &[Recalled("L1")],
+            ..FREE
+        },
+        told: Told::Release("L1"),
+        why: Refusal::LotRecalled,
+    },
+    Refused {
+        before: FREE,
+        told: Told::Release("L1"),
+        why: Refusal::LotNotHeld,
+    },
+];
+
+#[test]
+fn refuses_releases(rt: HostRuntime) {
+    expect(&rt, rt.alloc(), RELEASES.as_slice());
+}
+
+static RECALLS: [Refused; 3] = [
+    Refused {
+        before: Sample {
+            acts: ACTS_MAX,
+            ..UNKNOWN_RECALLED
+        },
+        told: Told::Recall(OATS, "L1"),
+        why: Refusal::ActsFull,
+    },
+    Refused {
+        before: UNKNOWN_RECALLED,
+        told: Told::Recall(OATS, "L1"),
+        why: Refusal::UnknownItem,
+    },
+    Refused {
+        before: UNKNOWN_RECALLED_OF_ITEM,
+        told: Told::Recall(OATS, "L1"),
+        why: Refusal::AlreadyRecalled,
+    },
+];
+
+#[test]
+fn refuses_recalls(rt: HostRuntime) {
+    expect(&rt, rt.alloc(), RECALLS.as_slice());
+}
+
+static DAYS: [Refused; 3] = [
+    Refused {
+        before: ACTS_ARE_FULL,
+        told: Told::OpenDay("2026-05-04"),
+        why: Refusal::ActsFull,
+    },
+    // A day is opened once.
+    Refused {
+        before: LAST_ACT,
+        told: Told::OpenDay("2026-05-04"),
+        why: Refusal::DayNotLater,
+    },
+    Refused {
+        before: LAST_ACT,
+        told: Told::OpenDay("2026-05-03"),
+        why: Refusal::DayNotLater,
+    },
+];
+
+#[test]
+fn refuses_days(rt: HostRuntime) {
+    expect(&rt, rt.alloc(), DAYS.as_slice());
 }

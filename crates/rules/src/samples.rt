@@ -2,15 +2,15 @@
 
 use crate::{Change, Rows, RuleFault, Slice, decide};
 use commands::{
-    BinKind, BinRow, Command, ItemRow, Key, LineRow, Lines, Listed, LotRow, MetaRow, NewBin,
-    NewItem, NewOrder, OrderLine, OrderRow, OrderState, RecallRow, Receipt, ReservedRow, StagedRow,
-    StockRow,
+    Adjustment, BinKind, BinRow, Command, ItemRow, Key, LineRow, Lines, Listed, LotRow, MetaRow,
+    Movement, NewBin, NewItem, NewOrder, OrderLine, OrderRow, OrderState, Picking, RecallRow,
+    Receipt, Recount, ReservedRow, StagedRow, StockRow,
 };
-use label::{BusinessDay, Day, Gtin, LineNo, Lot, LotId, Name, Qty, Title};
+use label::{BusinessDay, Counted, Day, Delta, Gtin, LineNo, Lot, LotId, Name, Qty, Title};
 use std::alloc::{AllocError, Global};
 use std::process::Abort;
 
-/// The oat drink. Every lot of the tests is of it.
+/// The oat drink. Every lot in the rows of the tests is of it.
 pub const OATS: &str = "09506000134352";
 
 /// The rye bread, of which there are no units.
@@ -77,10 +77,30 @@ pub enum Told {
     Bin(Bin),
     /// A receipt into A-01: the delivery, its line, the lot, the expiry, the units.
     Receive(&'static str, u64, &'static str, &'static str, u64),
+    /// A move: the lot, the bin that it leaves, the bin that it comes to, the units.
+    Move(&'static str, &'static str, &'static str, u64),
+    /// What is found in a bin: the lot, the bin, the units.
+    Count(&'static str, &'static str, u64),
+    /// Units written on or off: the lot, the bin, the change.
+    Adjust(&'static str, &'static str, i64),
     /// An order: its name, its customer, its lines.
     Order(&'static str, &'static str, &'static [Ordered]),
+    /// A picking: the order, the lot, the bin, the units.
+    Pick(&'static str, &'static str, &'static str, u64),
+    /// Units put back: the order, the lot, the bin, the units.
+    Unpick(&'static str, &'static str, &'static str, u64),
     /// The cancelling of an order.
     Cancel(&'static str),
+    /// The opening of a day.
+    OpenDay(&'static str),
+    /// A lot that is held.
+    Hold(&'static str),
+    /// A lot that is released.
+    Release(&'static str),
+    /// A lot that is recalled: its item and its text.
+    Recall(&'static str, &'static str),
+    /// The shipping of an order.
+    Ship(&'static str),
 }
 
 /// A line of a new order: the item and the units.
@@ -116,6 +136,10 @@ fn day(rt: &impl Abort, text: &str) -> Day {
     Day::parse(text.as_bytes()).expect(rt, "a day")
 }
 
+fn business_day(rt: &impl Abort, text: &str) -> BusinessDay {
+    BusinessDay::new(day(rt, text)).expect(rt, "a business day")
+}
+
 fn qty(rt: &impl Abort, units: u64) -> Qty {
     Qty::new(units).expect(rt, "a quantity")
 }
@@ -124,11 +148,15 @@ fn gtin(rt: &impl Abort, text: &str) -> Gtin {
     Gtin::new(text.as_bytes()).ok().expect(rt, "a GTIN")
 }
 
-fn lot(rt: &impl Abort, text: &str) -> LotId {
+fn lot_of_item(rt: &impl Abort, item: &str, text: &str) -> LotId {
     LotId {
-        gtin: gtin(rt, OATS),
+        gtin: gtin(rt, item),
         lot: Lot::new(text.as_bytes()).ok().expect(rt, "a lot"),
     }
+}
+
+fn lot(rt: &impl Abort, text: &str) -> LotId {
+    lot_of_item(rt, OATS, text)
 }
 
 // Rows
@@ -300,7 +328,7 @@ fn rows(rt: &impl Abort, alloc: Global, sample: &Sample) -> Result<Rows, AllocEr
 
 fn meta(rt: &impl Abort, acts: u64) -> MetaRow {
     MetaRow {
-        day: BusinessDay::new(day(rt, "2026-05-04")).expect(rt, "a business day"),
+        day: business_day(rt, "2026-05-04"),
         acts,
         shipments: 0,
     }
@@ -326,6 +354,22 @@ fn receipt(rt: &impl Abort, text: &str, expiry: &str, units: u64) -> Command {
     })
 }
 
+fn count(rt: &impl Abort, text: &str, bin: &str, units: u64) -> Command {
+    Command::Count(Recount {
+        lot: lot(rt, text),
+        bin: name(rt, bin),
+        qty: Counted::new(units).expect(rt, "a counted quantity"),
+    })
+}
+
+fn adjust(rt: &impl Abort, text: &str, bin: &str, change: i64) -> Command {
+    Command::Adjust(Adjustment {
+        lot: lot(rt, text),
+        bin: name(rt, bin),
+        change: Delta::new(change).expect(rt, "a change"),
+    })
+}
+
 fn order(
     rt: &impl Abort,
     alloc: Global,
@@ -341,6 +385,24 @@ fn order(
     }))
 }
 
+fn movement(rt: &impl Abort, text: &str, from: &str, to: &str, units: u64) -> Command {
+    Command::Move(Movement {
+        lot: lot(rt, text),
+        from: name(rt, from),
+        to: name(rt, to),
+        qty: qty(rt, units),
+    })
+}
+
+fn picking(rt: &impl Abort, order: &str, text: &str, bin: &str, units: u64) -> Picking {
+    Picking {
+        order: name(rt, order),
+        lot: lot(rt, text),
+        bin: name(rt, bin),
+        qty: qty(rt, units),
+    }
+}
+
 fn command(rt: &impl Abort, alloc: Global, told: &Told) -> Result<Command, AllocError> {
     match *told {
         Told::Item(item) => Ok(Command::Item(NewItem {
@@ -352,8 +414,22 @@ fn command(rt: &impl Abort, alloc: Global, told: &Told) -> Result<Command, Alloc
             kind: bin.1,
         })),
         Told::Receive(_, _, lot, expiry, units) => Ok(receipt(rt, lot, expiry, units)),
+        Told::Move(lot, from, to, units) => Ok(movement(rt, lot, from, to, units)),
+        Told::Count(lot, bin, units) => Ok(count(rt, lot, bin, units)),
+        Told::Adjust(lot, bin, change) => Ok(adjust(rt, lot, bin, change)),
         Told::Order(name, customer, lines) => order(rt, alloc, name, customer, lines),
+        Told::Pick(order, lot, bin, units) => {
+            Ok(Command::Pick(picking(rt, order, lot, bin, units)))
+        }
+        Told::Unpick(order, lot, bin, units) => {
+            Ok(Command::Unpick(picking(rt, order, lot, bin, units)))
+        }
         Told::Cancel(order) => Ok(Command::Cancel(name(rt, order))),
+        Told::OpenDay(day) => Ok(Command::OpenDay(business_day(rt, day))),
+        Told::Hold(text) => Ok(Command::Hold(lot(rt, text))),
+        Told::Release(text) => Ok(Command::Release(lot(rt, text))),
+        Told::Recall(item, text) => Ok(Command::Recall(lot_of_item(rt, item, text))),
+        Told::Ship(order) => Ok(Command::Ship(name(rt, order))),
     }
 }
 

@@ -2,8 +2,8 @@
 
 use crate::listing::Listing;
 use crate::samples::{
-    BREAD, Bin, Item, KnownLot, Line, NO_ROWS, OATS, Ordered, Recalled, Reserved, Sample, Staged,
-    Stock, Taken, Told, decided,
+    BREAD, Bin, Item, KnownLot, Line, NO_ROWS, OATS, Reserved, Sample, Staged, Stock, Taken, Told,
+    decided,
 };
 use commands::limits::{ACTS_MAX, BINS_MAX, ITEMS_MAX};
 use commands::{BinKind, OrderState};
@@ -11,13 +11,13 @@ use std::alloc::Global;
 use std::process::Abort;
 
 // A command that is accepted, and its change as a text.
-struct Worked {
-    before: Sample,
-    told: Told,
-    changes: &'static str,
+pub(crate) struct Worked {
+    pub(crate) before: Sample,
+    pub(crate) told: Told,
+    pub(crate) changes: &'static str,
 }
 
-fn expect(rt: &impl Abort, alloc: Global, cases: &[Worked]) {
+pub(crate) fn expect(rt: &impl Abort, alloc: Global, cases: &[Worked]) {
     for (index, case) in cases.iter().enumerate() {
         let made = decided(rt, alloc, &case.before, &case.told);
         assert!(rt; made.is_ok(), "at {index}");
@@ -78,7 +78,7 @@ fn takes_items_and_bins(rt: HostRuntime) {
 }
 
 // The oat drink and its bin, before any receipt.
-const OATS_ALONE: Sample = Sample {
+pub(crate) const OATS_ALONE: Sample = Sample {
     items: &[Item(OATS, "Oat drink")],
     bins: &[Bin("A-01", BinKind::Store)],
     ..NO_ROWS
@@ -92,7 +92,7 @@ const ONE_LOT: Sample = Sample {
     ..OATS_ALONE
 };
 
-const TWO_LOTS: Sample = Sample {
+pub(crate) const TWO_LOTS: Sample = Sample {
     acts: 7,
     lots: &[
         KnownLot("L1", "2026-06-30", 6, false),
@@ -103,7 +103,7 @@ const TWO_LOTS: Sample = Sample {
 };
 
 // After the order S-1 of 12, and after the order S-2 of 12.
-const ONE_ORDER: Sample = Sample {
+pub(crate) const ONE_ORDER: Sample = Sample {
     acts: 8,
     orders: &[Taken("S-1", 8, "Corner Shop", OrderState::Open)],
     lines: &[Line("S-1", OATS, 12, 0)],
@@ -111,7 +111,7 @@ const ONE_ORDER: Sample = Sample {
     ..TWO_LOTS
 };
 
-const TWO_ORDERS: Sample = Sample {
+pub(crate) const TWO_ORDERS: Sample = Sample {
     acts: 9,
     orders: &[
         Taken("S-1", 8, "Corner Shop", OrderState::Open),
@@ -216,107 +216,408 @@ fn receives_goods(rt: HostRuntime) {
     expect(&rt, rt.alloc(), RECEIVING.as_slice());
 }
 
-// Two lots of one expiry, whose texts are in the other order than their receipts, one of them in a
-// HOLD bin too; a held lot, a recalled one, one that expired yesterday, one that expires today.
-const LOTS_OF_ALL_KINDS: Sample = Sample {
-    acts: 20,
-    bins: &[Bin("A-01", BinKind::Store), Bin("Q-01", BinKind::Hold)],
+// The two orders after the receipt of lot L0, which expires first, with a second STORE bin and one for goods on hold.
+pub(crate) const THREE_LOTS: Sample = Sample {
+    acts: 10,
+    bins: &[
+        Bin("A-01", BinKind::Store),
+        Bin("A-02", BinKind::Store),
+        Bin("Q-01", BinKind::Hold),
+    ],
     lots: &[
-        KnownLot("A9", "2026-06-30", 7, false),
-        KnownLot("B1", "2026-06-30", 6, false),
-        KnownLot("L5", "2026-05-05", 8, true),
-        KnownLot("L6", "2026-05-05", 9, false),
-        KnownLot("L7", "2026-05-03", 10, false),
-        KnownLot("L8", "2026-05-04", 11, false),
+        KnownLot("L1", "2026-06-30", 6, false),
+        KnownLot("L2", "2026-05-31", 7, false),
+        KnownLot("L0", "2026-05-10", 10, false),
     ],
-    recalls: &[Recalled("L6")],
     stock: &[
-        Stock("A9", "A-01", 5),
-        Stock("B1", "A-01", 5),
-        Stock("B1", "Q-01", 50),
-        Stock("L5", "A-01", 50),
-        Stock("L6", "A-01", 50),
-        Stock("L7", "A-01", 50),
-        Stock("L8", "A-01", 1),
+        Stock("L1", "A-01", 10),
+        Stock("L2", "A-01", 10),
+        Stock("L0", "A-01", 5),
     ],
-    ..OATS_ALONE
-};
-
-// The two orders, and a second item.
-const TWO_ITEMS: Sample = Sample {
-    items: &[Item(OATS, "Oat drink"), Item(BREAD, "Rye bread")],
+    reserved: &[
+        Reserved("S-1", "L0", 5),
+        Reserved("S-1", "L2", 7),
+        Reserved("S-2", "L2", 3),
+        Reserved("S-2", "L1", 9),
+    ],
     ..TWO_ORDERS
 };
 
-// 11 units less than open orders may want, and an order that is closed.
-const NEARLY_ALL_ORDERED: Sample = Sample {
-    acts: ACTS_MAX - 1,
-    orders: &[
-        Taken("S-2", 8, "Harbour Cafe", OrderState::Open),
-        Taken("S-3", 9, "Harbour Cafe", OrderState::Cancelled),
+// Lot L2 is on the stage of the first order. Lot L0 was held and came back to RETURNS, and is free
+// again.
+const RELEASED: Sample = Sample {
+    acts: 14,
+    bins: &[
+        Bin("A-01", BinKind::Store),
+        Bin("A-02", BinKind::Store),
+        Bin("RETURNS", BinKind::Hold),
     ],
-    lines: &[
-        Line("S-2", OATS, 1_000_000_000, 11),
-        Line("S-3", OATS, 1_000_000, 0),
+    stock: &[
+        Stock("L1", "A-01", 10),
+        Stock("L2", "A-01", 3),
+        Stock("L0", "RETURNS", 5),
     ],
-    ..OATS_ALONE
+    staged: &[Staged("S-1", "L2", 7)],
+    reserved: &[
+        Reserved("S-1", "L2", 3),
+        Reserved("S-1", "L1", 2),
+        Reserved("S-2", "L1", 8),
+    ],
+    ..THREE_LOTS
 };
 
-static ORDERING: [Worked; 5] = [
+static MOVING: [Worked; 4] = [
+    // All units of a lot go to a HOLD bin, and are reserved no more.
     Worked {
-        before: TWO_LOTS,
-        told: Told::Order("S-1", "Corner Shop", &[Ordered(OATS, 12)]),
-        changes: "meta 2026-05-04 8 0\n\
-            put order S-1 8 Corner Shop OPEN\n\
-            put line S-1 09506000134352 12 0\n\
-            put reserved S-1 09506000134352 L2 10\n\
-            put reserved S-1 09506000134352 L1 2\n\
-            {\"act\":8,\"short\":0}",
+        before: THREE_LOTS,
+        told: Told::Move("L1", "A-01", "Q-01", 10),
+        changes: "meta 2026-05-04 11 0\n\
+            put stock 09506000134352 L1 Q-01 10\n\
+            drop stock 09506000134352 L1 A-01 10\n\
+            drop reserved S-2 09506000134352 L1 9\n\
+            {\"act\":11}",
     },
-    // The second order gets what is left.
+    // Some of them.
     Worked {
-        before: ONE_ORDER,
-        told: Told::Order("S-2", "Harbour Cafe", &[Ordered(OATS, 12)]),
-        changes: "meta 2026-05-04 9 0\n\
-            put order S-2 9 Harbour Cafe OPEN\n\
-            put line S-2 09506000134352 12 0\n\
-            put reserved S-2 09506000134352 L1 8\n\
-            {\"act\":9,\"short\":4}",
+        before: THREE_LOTS,
+        told: Told::Move("L1", "A-01", "Q-01", 4),
+        changes: "meta 2026-05-04 11 0\n\
+            put stock 09506000134352 L1 Q-01 4\n\
+            put stock 09506000134352 L1 A-01 6\n\
+            put reserved S-2 09506000134352 L1 6\n\
+            {\"act\":11}",
     },
-    // Two lots of one expiry are used in the order in which they first came. Held, recalled and
-    // expired lots are not used, nor is what stands in a HOLD bin.
+    // Into a bin that has units of the lot already.
     Worked {
-        before: LOTS_OF_ALL_KINDS,
-        told: Told::Order("S-1", "Corner Shop", &[Ordered(OATS, 20)]),
-        changes: "meta 2026-05-04 21 0\n\
-            put order S-1 21 Corner Shop OPEN\n\
-            put line S-1 09506000134352 20 0\n\
-            put reserved S-1 09506000134352 L8 1\n\
-            put reserved S-1 09506000134352 B1 5\n\
-            put reserved S-1 09506000134352 A9 5\n\
-            {\"act\":21,\"short\":9}",
-    },
-    // What both lines are short of, and not what another order is short of.
-    Worked {
-        before: TWO_ITEMS,
-        told: Told::Order("S-3", "Corner Shop", &[Ordered(OATS, 3), Ordered(BREAD, 7)]),
+        before: IN_THREE_PLACES,
+        told: Told::Move("L1", "Q-01", "A-01", 4),
         changes: "meta 2026-05-04 10 0\n\
-            put order S-3 10 Corner Shop OPEN\n\
-            put line S-3 09506000134352 3 0\n\
-            put line S-3 04012345000016 7 0\n\
-            {\"act\":10,\"short\":10}",
+            put stock 09506000134352 L1 A-01 14\n\
+            drop stock 09506000134352 L1 Q-01 4\n\
+            {\"act\":10}",
     },
+    // Out of RETURNS into a STORE bin: the lot that expires first is reserved first again.
     Worked {
-        before: NEARLY_ALL_ORDERED,
-        told: Told::Order("S-1", "Corner Shop", &[Ordered(OATS, 11)]),
-        changes: "meta 2026-05-04 1000000000000 0\n\
-            put order S-1 1000000000000 Corner Shop OPEN\n\
-            put line S-1 09506000134352 11 0\n\
-            {\"act\":1000000000000,\"short\":11}",
+        before: RELEASED,
+        told: Told::Move("L0", "RETURNS", "A-02", 5),
+        changes: "meta 2026-05-04 15 0\n\
+            put stock 09506000134352 L0 A-02 5\n\
+            put reserved S-1 09506000134352 L0 5\n\
+            put reserved S-2 09506000134352 L2 3\n\
+            put reserved S-2 09506000134352 L1 9\n\
+            drop stock 09506000134352 L0 RETURNS 5\n\
+            drop reserved S-1 09506000134352 L2 3\n\
+            drop reserved S-1 09506000134352 L1 2\n\
+            {\"act\":15}",
     },
 ];
 
 #[test]
-fn takes_orders(rt: HostRuntime) {
-    expect(&rt, rt.alloc(), ORDERING.as_slice());
+fn moves_goods(rt: HostRuntime) {
+    expect(&rt, rt.alloc(), MOVING.as_slice());
+}
+
+// Both orders, with ten units of L1 alone, of which the first has all.
+const LOT_ALONE: Sample = Sample {
+    lots: &[KnownLot("L1", "2026-06-30", 6, false)],
+    stock: &[Stock("L1", "A-01", 10)],
+    reserved: &[Reserved("S-1", "L1", 10)],
+    ..TWO_ORDERS
+};
+
+static COUNTING: [Worked; 6] = [
+    Worked {
+        before: THREE_LOTS,
+        told: Told::Count("L2", "A-01", 8),
+        changes: "meta 2026-05-04 11 0\n\
+            put stock 09506000134352 L2 A-01 8\n\
+            put card 09506000134352 L2 11 2026-05-04 WRITEOFF A-01 -2 8\n\
+            put reserved S-2 09506000134352 L2 1\n\
+            put reserved S-2 09506000134352 L1 10\n\
+            {\"act\":11,\"change\":-2}",
+    },
+    // What is found as it was has no line on the card.
+    Worked {
+        before: THREE_LOTS,
+        told: Told::Count("L2", "A-01", 10),
+        changes: "meta 2026-05-04 11 0\n\
+            put stock 09506000134352 L2 A-01 10\n\
+            {\"act\":11,\"change\":0}",
+    },
+    // Nothing is left.
+    Worked {
+        before: LOT_ALONE,
+        told: Told::Count("L1", "A-01", 0),
+        changes: "meta 2026-05-04 10 0\n\
+            put card 09506000134352 L1 10 2026-05-04 WRITEOFF A-01 -10 0\n\
+            drop stock 09506000134352 L1 A-01 10\n\
+            drop reserved S-1 09506000134352 L1 10\n\
+            {\"act\":10,\"change\":-10}",
+    },
+    // Nothing was there, and nothing is.
+    Worked {
+        before: Sample {
+            stock: &[],
+            reserved: &[],
+            ..LOT_ALONE
+        },
+        told: Told::Count("L1", "A-01", 0),
+        changes: "meta 2026-05-04 10 0\n\
+            {\"act\":10,\"change\":0}",
+    },
+    // Units of the lot elsewhere are on the card, and those in a HOLD bin are not reserved.
+    Worked {
+        before: IN_THREE_PLACES,
+        told: Told::Count("L1", "Q-01", 1_000_000),
+        changes: "meta 2026-05-04 10 0\n\
+            put stock 09506000134352 L1 Q-01 1000000\n\
+            put card 09506000134352 L1 10 2026-05-04 WRITEON Q-01 999996 1000013\n\
+            {\"act\":10,\"change\":999996}",
+    },
+    // The last unit that the item may have.
+    Worked {
+        before: Sample {
+            stock: &[Stock("L2", "Q-01", 599_999_995), Stock("L3", "Q-01", 5)],
+            ..NEARLY_FULL
+        },
+        told: Told::Count("L3", "Q-01", 6),
+        changes: "meta 2026-05-04 1000000000000 0\n\
+            put stock 09506000134352 L3 Q-01 6\n\
+            put card 09506000134352 L3 1000000000000 2026-05-04 WRITEON Q-01 1 400000005\n\
+            {\"act\":1000000000000,\"change\":1}",
+    },
+];
+
+#[test]
+fn counts_bins(rt: HostRuntime) {
+    expect(&rt, rt.alloc(), COUNTING.as_slice());
+}
+
+static ADJUSTING: [Worked; 4] = [
+    Worked {
+        before: THREE_LOTS,
+        told: Told::Adjust("L1", "A-01", -10),
+        changes: "meta 2026-05-04 11 0\n\
+            put card 09506000134352 L1 11 2026-05-04 WRITEOFF A-01 -10 0\n\
+            drop stock 09506000134352 L1 A-01 10\n\
+            drop reserved S-2 09506000134352 L1 9\n\
+            {\"act\":11,\"change\":-10}",
+    },
+    Worked {
+        before: TWO_ORDERS,
+        told: Told::Adjust("L1", "A-01", -1),
+        changes: "meta 2026-05-04 10 0\n\
+            put stock 09506000134352 L1 A-01 9\n\
+            put card 09506000134352 L1 10 2026-05-04 WRITEOFF A-01 -1 9\n\
+            put reserved S-2 09506000134352 L1 7\n\
+            {\"act\":10,\"change\":-1}",
+    },
+    // A lot comes into another bin.
+    Worked {
+        before: IN_THREE_PLACES,
+        told: Told::Adjust("L2", "Q-01", 5),
+        changes: "meta 2026-05-04 10 0\n\
+            put stock 09506000134352 L2 Q-01 5\n\
+            put card 09506000134352 L2 10 2026-05-04 WRITEON Q-01 5 15\n\
+            {\"act\":10,\"change\":5}",
+    },
+    // The last unit that the item may have, of a held lot.
+    Worked {
+        before: NEARLY_FULL,
+        told: Told::Adjust("L2", "Q-01", 1),
+        changes: "meta 2026-05-04 1000000000000 0\n\
+            put stock 09506000134352 L2 Q-01 600000001\n\
+            put card 09506000134352 L2 1000000000000 2026-05-04 WRITEON Q-01 1 600000001\n\
+            {\"act\":1000000000000,\"change\":1}",
+    },
+];
+
+#[test]
+fn adjusts_stock(rt: HostRuntime) {
+    expect(&rt, rt.alloc(), ADJUSTING.as_slice());
+}
+
+// After the picking of S-1 from lots L0 and L2.
+const ALL_PICKED: Sample = Sample {
+    acts: 12,
+    stock: &[Stock("L1", "A-01", 10), Stock("L2", "A-01", 3)],
+    staged: &[Staged("S-1", "L0", 5), Staged("S-1", "L2", 7)],
+    reserved: &[Reserved("S-2", "L2", 3), Reserved("S-2", "L1", 9)],
+    ..THREE_LOTS
+};
+
+// After lot L0 is held.
+const ONE_HELD: Sample = Sample {
+    acts: 13,
+    bins: &[Bin("A-01", BinKind::Store), Bin("RETURNS", BinKind::Hold)],
+    lots: &[
+        KnownLot("L1", "2026-06-30", 6, false),
+        KnownLot("L2", "2026-05-31", 7, false),
+        KnownLot("L0", "2026-05-10", 10, true),
+    ],
+    stock: &[
+        Stock("L1", "A-01", 10),
+        Stock("L2", "A-01", 3),
+        Stock("L0", "RETURNS", 5),
+    ],
+    staged: &[Staged("S-1", "L2", 7)],
+    reserved: &[
+        Reserved("S-1", "L2", 3),
+        Reserved("S-1", "L1", 2),
+        Reserved("S-2", "L1", 8),
+    ],
+    ..ALL_PICKED
+};
+
+// Units of a lot on two stages, and in RETURNS.
+const ON_TWO_STAGES: Sample = Sample {
+    acts: ACTS_MAX - 1,
+    bins: &[Bin("A-01", BinKind::Store), Bin("RETURNS", BinKind::Hold)],
+    stock: &[Stock("L1", "RETURNS", 4), Stock("L2", "RETURNS", 6)],
+    lines: &[Line("S-1", OATS, 3, 0), Line("S-2", OATS, 2, 0)],
+    staged: &[Staged("S-1", "L1", 3), Staged("S-2", "L1", 2)],
+    reserved: &[],
+    ..TWO_ORDERS
+};
+
+static HOLDING: [Worked; 3] = [
+    // What is staged goes to RETURNS, and its order is served again at its old place.
+    Worked {
+        before: ALL_PICKED,
+        told: Told::Hold("L0"),
+        changes: "meta 2026-05-04 13 0\n\
+            put lot 09506000134352 L0 2026-05-10 10 held\n\
+            put stock 09506000134352 L0 RETURNS 5\n\
+            put reserved S-1 09506000134352 L2 3\n\
+            put reserved S-1 09506000134352 L1 2\n\
+            put reserved S-2 09506000134352 L1 8\n\
+            drop staged S-1 09506000134352 L0 5\n\
+            drop reserved S-2 09506000134352 L2 3\n\
+            {\"act\":13,\"returned\":5}",
+    },
+    // Nothing is staged.
+    Worked {
+        before: TWO_LOTS,
+        told: Told::Hold("L2"),
+        changes: "meta 2026-05-04 8 0\n\
+            put lot 09506000134352 L2 2026-05-31 7 held\n\
+            {\"act\":8,\"returned\":0}",
+    },
+    Worked {
+        before: ON_TWO_STAGES,
+        told: Told::Hold("L1"),
+        changes: "meta 2026-05-04 1000000000000 0\n\
+            put lot 09506000134352 L1 2026-06-30 6 held\n\
+            put stock 09506000134352 L1 RETURNS 9\n\
+            drop staged S-1 09506000134352 L1 3\n\
+            drop staged S-2 09506000134352 L1 2\n\
+            {\"act\":1000000000000,\"returned\":5}",
+    },
+];
+
+#[test]
+fn holds_lots(rt: HostRuntime) {
+    expect(&rt, rt.alloc(), HOLDING.as_slice());
+}
+
+// The order S-1 of 12, while lot L2 is held.
+const HELD_IN_STORE: Sample = Sample {
+    acts: ACTS_MAX - 1,
+    lots: &[
+        KnownLot("L1", "2026-06-30", 6, false),
+        KnownLot("L2", "2026-05-31", 7, true),
+    ],
+    reserved: &[Reserved("S-1", "L1", 10)],
+    ..ONE_ORDER
+};
+
+static RELEASING: [Worked; 2] = [
+    // In RETURNS the lot supplies nothing.
+    Worked {
+        before: ONE_HELD,
+        told: Told::Release("L0"),
+        changes: "meta 2026-05-04 14 0\n\
+            put lot 09506000134352 L0 2026-05-10 10 free\n\
+            {\"act\":14}",
+    },
+    Worked {
+        before: HELD_IN_STORE,
+        told: Told::Release("L2"),
+        changes: "meta 2026-05-04 1000000000000 0\n\
+            put lot 09506000134352 L2 2026-05-31 7 free\n\
+            put reserved S-1 09506000134352 L2 10\n\
+            put reserved S-1 09506000134352 L1 2\n\
+            {\"act\":1000000000000}",
+    },
+];
+
+#[test]
+fn releases_lots(rt: HostRuntime) {
+    expect(&rt, rt.alloc(), RELEASING.as_slice());
+}
+
+static RECALLING: [Worked; 5] = [
+    Worked {
+        before: THREE_LOTS,
+        told: Told::Recall(OATS, "L2"),
+        changes: "meta 2026-05-04 11 0\n\
+            put recall 09506000134352 L2 11\n\
+            put reserved S-1 09506000134352 L1 7\n\
+            put reserved S-2 09506000134352 L1 3\n\
+            drop reserved S-1 09506000134352 L2 7\n\
+            drop reserved S-2 09506000134352 L2 3\n\
+            {\"act\":11,\"returned\":0}",
+    },
+    // What is staged goes to RETURNS.
+    Worked {
+        before: ALL_PICKED,
+        told: Told::Recall(OATS, "L2"),
+        changes: "meta 2026-05-04 13 0\n\
+            put recall 09506000134352 L2 13\n\
+            put stock 09506000134352 L2 RETURNS 7\n\
+            put reserved S-1 09506000134352 L1 7\n\
+            put reserved S-2 09506000134352 L1 3\n\
+            drop staged S-1 09506000134352 L2 7\n\
+            drop reserved S-2 09506000134352 L2 3\n\
+            {\"act\":13,\"returned\":7}",
+    },
+    Worked {
+        before: THREE_LOTS,
+        told: Told::Recall(OATS, "L0"),
+        changes: "meta 2026-05-04 11 0\n\
+            put recall 09506000134352 L0 11\n\
+            put reserved S-1 09506000134352 L2 10\n\
+            put reserved S-1 09506000134352 L1 2\n\
+            put reserved S-2 09506000134352 L1 8\n\
+            drop reserved S-1 09506000134352 L0 5\n\
+            drop reserved S-2 09506000134352 L2 3\n\
+            {\"act\":11,\"returned\":0}",
+    },
+    // A lot that was never received.
+    Worked {
+        before: Sample {
+            items: &[Item(BREAD, "Rye bread")],
+            ..NO_ROWS
+        },
+        told: Told::Recall(BREAD, "Z9"),
+        changes: "meta 2026-05-04 6 0\n\
+            put recall 04012345000016 Z9 6\n\
+            {\"act\":6,\"returned\":0}",
+    },
+    // A lot that is held, before the last act.
+    Worked {
+        before: Sample {
+            acts: ACTS_MAX - 1,
+            ..ONE_HELD
+        },
+        told: Told::Recall(OATS, "L0"),
+        changes: "meta 2026-05-04 1000000000000 0\n\
+            put recall 09506000134352 L0 1000000000000\n\
+            {\"act\":1000000000000,\"returned\":0}",
+    },
+];
+
+#[test]
+fn recalls_lots(rt: HostRuntime) {
+    expect(&rt, rt.alloc(), RECALLING.as_slice());
 }

@@ -1,4 +1,4 @@
-use Rattle.rules.proofs.StagedLots as lots
+use Rattle.rules.proofs.histories.StagedLots as lots
 use Rattle.rules.proofs.laws.clean.Goals as goal
 
 pub returns : goal.returns

@@ -1,4 +1,4 @@
-use Rattle.rules.proofs.ClosedOrders as orders
+use Rattle.rules.proofs.histories.ClosedOrders as orders
 use Rattle.rules.proofs.laws.closed_orders_are_empty.Goals as goal
 
 pub returns : goal.returns

@@ -1,4 +1,4 @@
-use Rattle.rules.proofs.Conservation as conservation
+use Rattle.rules.proofs.histories.Conservation as conservation
 use Rattle.rules.proofs.laws.conserved.Goals as goal
 
 pub returns : goal.returns

@@ -1,4 +1,4 @@
-use Rattle.rules.proofs.Covering as covering
+use Rattle.rules.proofs.histories.Covering as covering
 use Rattle.rules.proofs.laws.covered.Goals as goal
 
 pub returns : goal.returns

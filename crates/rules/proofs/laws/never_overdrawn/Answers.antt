@@ -1,4 +1,4 @@
-use Rattle.rules.proofs.LegalHistories as histories
+use Rattle.rules.proofs.histories.LegalHistories as histories
 use Rattle.rules.proofs.laws.never_overdrawn.Goals as goal
 
 pub returns : goal.returns

@@ -1,4 +1,4 @@
-use Rattle.rules.proofs.OtherItems as items
+use Rattle.rules.proofs.histories.OtherItems as items
 use Rattle.rules.proofs.laws.other_items_are_left_alone.Goals as goal
 
 pub returns : goal.returns

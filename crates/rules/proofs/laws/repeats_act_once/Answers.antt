@@ -1,4 +1,4 @@
-use Rattle.rules.proofs.Repeats as repeats
+use Rattle.rules.proofs.histories.Repeats as repeats
 use Rattle.rules.proofs.laws.repeats_act_once.Goals as goal
 
 pub returns : goal.returns

@@ -1,4 +1,4 @@
-use Rattle.rules.proofs.Runs as runs
+use Rattle.rules.proofs.histories.Runs as runs
 use Rattle.rules.proofs.laws.runs_go_on.Goals as goal
 
 pub returns : goal.returns

@@ -1,4 +1,4 @@
-use Rattle.rules.proofs.Notices as notices
+use Rattle.rules.proofs.histories.Notices as notices
 use Rattle.rules.proofs.laws.traced.Goals as goal
 
 pub returns : goal.returns

@@ -1,4 +1,4 @@
-use Rattle.rules.proofs.Naming.{IsNaming}
+use Rattle.rules.proofs.rows.Naming.{IsNaming}
 use Rattle.rules.proofs.plans.named_rows.Given as goal
 
 abbrev pub invariant-loop-row : goal.invariant-loop-row

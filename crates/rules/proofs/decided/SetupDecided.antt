@@ -1,0 +1,112 @@
+-- New items and bins are decided as the machine decides them.
+use Rattle.std.proofs.Common.{◌≡◌, ℕ, List, [], ◌∷◌, refl, ap, ◌∙◌}
+use Rattle.std.specs.Prelude.{◌||◌, nat_le, ℤ, None, Result, find}
+use Rattle.label.specs.Values.{same_text}
+use Rattle.commands.specs.declared.limits.TheConstants.{ITEMS_MAX, BINS_MAX, ACTS_MAX}
+use Rattle.commands.specs.declared.key.Key.{Key}
+use Rattle.commands.specs.declared.refusal.Refusal.TheVariants.{ActsFull, ItemExists, BinExists}
+use Rattle.commands.specs.declared.command.NewItem.{NewItem}
+use Rattle.commands.specs.declared.command.NewBin.{NewBin}
+use Rattle.commands.specs.declared.command.Command.TheVariants.{Item, Bin}
+use Rattle.commands.specs.declared.rows.ItemRow.{ItemRow}
+use Rattle.commands.specs.declared.rows.BinRow.{BinRow}
+use Rattle.rules.specs.Acts.{Act}
+use Rattle.rules.specs.Standing.{items, bins}
+use Rattle.rules.specs.Verdict.{first_refusal, verdict}
+use Rattle.rules.specs.Planning.{reserved}
+use Rattle.rules.specs.Once.{IsHistory}
+use Rattle.rules.specs.Tables.{tables_of, meta_row}
+use Rattle.rules.specs.Slices.{IsSlice, applied, tables_but_repeats}
+use Rattle.rules.specs.Seen.{no_rows}
+use Rattle.rules.specs.Decided.{item_seen, item_changes, bin_seen, bin_changes}
+use Rattle.rules.specs.declared.slice.Slice.{Slice}
+use Rattle.rules.specs.declared.slice.Change.{Change}
+use Rattle.rules.specs.declared.slice.RuleFault.{RuleFault}
+use Rattle.rules.proofs.Tests.{same_text_refl}
+use Rattle.rules.proofs.histories.Accepted.{room_for_acts}
+use Rattle.rules.proofs.histories.OtherItems.{other_items_are_left_alone}
+use Rattle.rules.proofs.rows.TableSteps.{same_tables, AreNamed, nothing_named, names_changed, reserved_changed, put_found}
+use Rattle.rules.proofs.decided.Decisions.{AreRight, IsChange, acts_seen, plain_same, meta_same}
+use Rattle.rules.proofs.rows.SliceTells.{item_told, bin_told}
+
+module _ (first : ℤ) (acts : List Act) (key : Key) (s : Slice) where
+  module _ (i : NewItem) where
+    abbrev item_act : Act
+    item_act = record { key = key; command = Item i }
+
+    abbrev shown_item : NewItem → ItemRow
+    shown_item x = record { gtin = x.gtin; name = x.name }
+
+    item_named : AreNamed first item_act acts [] []
+    item_named o l = nothing_named o l (reserved first acts o l) (reserved first (item_act ∷ acts) o l) refl
+
+    abbrev item_change : List ℕ → Change
+    item_change text = record { meta = meta_row first (item_act ∷ acts); put = record no_rows { items = shown_item i ∷ [] }; dropped = no_rows; text = text }
+
+    item_step : (text : List ℕ) → applied (item_change text) (tables_of first acts) ≡ tables_but_repeats first item_act acts
+    unfolding applied tables_of
+    item_step text = same_tables (applied (item_change text) (tables_of first acts)) (tables_but_repeats first item_act acts) refl
+        (λ g. put_found shown_item (same_text g i.gtin) i (find (λ x. same_text g x.gtin) (items acts)))
+        (λ b. refl) (λ l. refl) (λ l. refl) (λ l b. refl) (λ o. refl) (λ o g. refl) (λ o l. refl) (reserved_changed first item_act acts [] [] item_named) (λ n. refl) (λ n l. refl) (λ l n. refl) (λ k. refl)
+
+    module _ (slice : IsSlice first item_act acts (tables_of first acts) s) where
+      item_judged : first_refusal (item_seen s i) ≡ verdict first acts (Item i)
+      item_judged = λ j. first_refusal (
+          (nat_le ACTS_MAX (acts_seen first acts item_act s slice j), ActsFull)
+          ∷ (item_told first acts item_act s slice i.gtin (same_text_refl i.gtin) j || nat_le ITEMS_MAX (slice.items_counted refl j), ItemExists) ∷ [])
+
+      item_changed : verdict first acts (Item i) ≡ None → IsChange first item_act acts (item_changes s i)
+      item_changed ok =
+          let room = room_for_acts first acts (Item i) ok in
+          let text = plain_same first acts item_act s slice room refl in
+          record {
+            applies = ap (λ m. applied (record { meta = m; put = record no_rows { items = shown_item i ∷ [] }; dropped = no_rows; text = (item_changes s i).text }) (tables_of first acts)) (meta_same first acts item_act s slice room refl refl)
+                ∙ item_step (item_changes s i).text;
+            text = text;
+            once = record { items = refl; bins = refl; lots = refl; recalls = refl; stock = refl; orders = refl; lines = refl; staged = refl; reserved = refl; shipments = refl; shiplines = refl; cards = refl };
+            named = names_changed first item_act acts (item_changes s i) item_named;
+          }
+
+  module _ (b : NewBin) where
+    abbrev bin_act : Act
+    bin_act = record { key = key; command = Bin b }
+
+    abbrev shown_bin : NewBin → BinRow
+    shown_bin x = record { name = x.bin; kind = x.kind }
+
+    abbrev bin_change : List ℕ → Change
+    bin_change text = record { meta = meta_row first (bin_act ∷ acts); put = record no_rows { bins = shown_bin b ∷ [] }; dropped = no_rows; text = text }
+
+    module _ (next : IsHistory first (bin_act ∷ acts)) where
+      bin_named : AreNamed first bin_act acts [] []
+      bin_named o l = nothing_named o l (reserved first acts o l) (reserved first (bin_act ∷ acts) o l) ((other_items_are_left_alone first bin_act acts l.gtin next refl).reserved o l (same_text_refl l.gtin))
+
+      bin_step : (text : List ℕ) → applied (bin_change text) (tables_of first acts) ≡ tables_but_repeats first bin_act acts
+      unfolding applied tables_of
+      bin_step text = same_tables (applied (bin_change text) (tables_of first acts)) (tables_but_repeats first bin_act acts) refl
+          (λ g. refl)
+          (λ n. put_found shown_bin (same_text n b.bin) b (find (λ x. same_text n x.bin) (bins acts)))
+          (λ l. refl) (λ l. refl) (λ l b. refl) (λ o. refl) (λ o g. refl) (λ o l. refl) (reserved_changed first bin_act acts [] [] bin_named) (λ n. refl) (λ n l. refl) (λ l n. refl) (λ k. refl)
+
+    module _ (slice : IsSlice first bin_act acts (tables_of first acts) s) where
+      bin_judged : first_refusal (bin_seen s b) ≡ verdict first acts (Bin b)
+      bin_judged = λ j. first_refusal (
+          (nat_le ACTS_MAX (acts_seen first acts bin_act s slice j), ActsFull)
+          ∷ (bin_told first acts bin_act s slice b.bin (same_text_refl b.bin) j || nat_le BINS_MAX (slice.bins_counted refl j), BinExists) ∷ [])
+
+      bin_changed : verdict first acts (Bin b) ≡ None → IsHistory first (bin_act ∷ acts) → IsChange first bin_act acts (bin_changes s b)
+      bin_changed ok next =
+          let room = room_for_acts first acts (Bin b) ok in
+          record {
+            applies = ap (λ m. applied (record { meta = m; put = record no_rows { bins = shown_bin b ∷ [] }; dropped = no_rows; text = (bin_changes s b).text }) (tables_of first acts)) (meta_same first acts bin_act s slice room refl refl)
+                ∙ bin_step next (bin_changes s b).text;
+            text = plain_same first acts bin_act s slice room refl;
+            once = record { items = refl; bins = refl; lots = refl; recalls = refl; stock = refl; orders = refl; lines = refl; staged = refl; reserved = refl; shipments = refl; shiplines = refl; cards = refl };
+            named = names_changed first bin_act acts (bin_changes s b) (bin_named next);
+          }
+
+pub items_right : (key : Key) (s : Slice) (result : Result Change RuleFault) (i : NewItem) → AreRight key s result (Item i) (item_seen s i) (item_changes s i)
+items_right key s result i first acts history slice = record { judged = item_judged first acts key s i slice; changed = λ ok next. item_changed first acts key s i slice ok }
+
+pub bins_right : (key : Key) (s : Slice) (result : Result Change RuleFault) (b : NewBin) → AreRight key s result (Bin b) (bin_seen s b) (bin_changes s b)
+bins_right key s result b first acts history slice = record { judged = bin_judged first acts key s b slice; changed = bin_changed first acts key s b slice }

@@ -1,0 +1,70 @@
+-- A count judged by its slice is judged as by the acts; and the limit of an item's units, where some come and some go.
+use Rattle.std.proofs.Common.{◌≡◌, ℕ, suc, ◌+◌, ◌-◌, ◌≤◌, true, false, not, List, [], ◌∷◌, refl, ap, sym, ◌∙◌, arith, lit≤}
+use Rattle.std.specs.Prelude.{nat_lt, nat_le, ℤ, pos, negsuc}
+use Rattle.commands.specs.declared.limits.TheConstants.{UNITS_MAX, ACTS_MAX}
+use Rattle.commands.specs.declared.key.Key.{Key}
+use Rattle.commands.specs.declared.command.Recount.{Recount}
+use Rattle.commands.specs.declared.command.Command.TheVariants.{Count}
+use Rattle.commands.specs.declared.refusal.Refusal.TheVariants.{ActsFull, UnknownItem, UnknownBin, UnknownLot, OverUnits}
+use borrow.Author.Tests.{ltb-false, ltb-true, lt-ltb, le-ltb}
+use Rattle.rules.specs.Acts.{Act}
+use Rattle.rules.specs.Planning.{in_bin, units_in_house}
+use Rattle.rules.specs.Once.{IsHistory}
+use Rattle.rules.specs.Tables.{tables_of}
+use Rattle.rules.specs.Touched.{is_touched}
+use Rattle.rules.specs.Slices.{IsSlice}
+use Rattle.rules.specs.Seen.{capped, stock_units, staged_units}
+use Rattle.rules.specs.DecidedCount.{is_over_without, count_seen}
+use Rattle.rules.specs.Verdict.{first_refusal, verdict, taken_off, put_on}
+use Rattle.rules.specs.declared.slice.Slice.{Slice}
+use Rattle.rules.proofs.Tests.{same_text_refl}
+use Rattle.rules.proofs.histories.UnitsLimit.{units_within_limit}
+use Rattle.rules.proofs.rows.LotUnits.{bin_within_limit}
+use Rattle.rules.proofs.rows.SliceTells.{item_told, bin_told}
+use Rattle.rules.proofs.rows.LotTold.{lot_known_told, in_bin_told}
+use Rattle.rules.proofs.decided.Decisions.{acts_seen}
+use Rattle.rules.proofs.decided.goods.ReceiveJudged.{units_are}
+
+-- the limit is passed or not whether the sums are held or not, if what goes is within the limit
+over_same : (a b more fewer n : ℕ) → n ≡ a + b → n ≤ UNITS_MAX → fewer ≤ UNITS_MAX → nat_lt UNITS_MAX (capped (capped (capped a + capped b) + more) - fewer) ≡ nat_lt (UNITS_MAX + fewer) (n + more)
+over_same a b more fewer n e within fits =
+    elim (nat_lt (UNITS_MAX + fewer) (n + more)) as (λ t. nat_lt (UNITS_MAX + fewer) (n + more) ≡ t → nat_lt UNITS_MAX (capped (capped (capped a + capped b) + more) - fewer) ≡ t) [
+      | true ↦ λ f. let h = ltb-true (UNITS_MAX + fewer) (n + more) f in lt-ltb _ _ (omega (arith, h, e, within, fits))
+      | false ↦ λ f. let h = ltb-false (UNITS_MAX + fewer) (n + more) f in le-ltb _ _ (omega (arith, h, e, within, fits))
+    ] refl
+
+-- nor if nothing comes
+over_less : (a b fewer n : ℕ) → n ≡ a + b → n ≤ UNITS_MAX → nat_lt UNITS_MAX (capped (capped (capped a + capped b) + 0) - fewer) ≡ nat_lt (UNITS_MAX + fewer) (n + 0)
+over_less a b fewer n e within = le-ltb _ _ (omega (arith, e, within)) ∙ sym (le-ltb (UNITS_MAX + fewer) (n + 0) (omega (arith, within)))
+
+module _ (first : ℤ) (acts : List Act) (act : Act) (s : Slice) (slice : IsSlice first act acts (tables_of first acts) s) (history : IsHistory first acts) (g : List ℕ) (touched : is_touched first act acts g ≡ true) where
+  pub over_told_without : (more fewer : ℕ) → fewer ≤ UNITS_MAX → is_over_without s g more fewer ≡ nat_lt (UNITS_MAX + fewer) (units_in_house first acts g + more)
+  over_told_without more fewer fits =
+      over_same (stock_units g s.rows.stock) (staged_units g s.rows.staged) more fewer (units_in_house first acts g) (units_are first acts act s slice history g touched) (units_within_limit first acts history g) fits
+
+  pub over_told_change : (z : ℤ) → is_over_without s g (put_on z) (taken_off z) ≡ nat_lt (UNITS_MAX + taken_off z) (units_in_house first acts g + put_on z)
+  over_told_change (pos k) = over_told_without k 0 (lit≤ tt)
+  over_told_change (negsuc k) =
+      over_less (stock_units g s.rows.stock) (staged_units g s.rows.staged) (suc k) (units_in_house first acts g) (units_are first acts act s slice history g touched) (units_within_limit first acts history g)
+
+-- Counts
+
+module _ (first : ℤ) (acts : List Act) (key : Key) (c : Recount) (s : Slice)
+    (slice : IsSlice first (record { key = key; command = Count c }) acts (tables_of first acts) s) (history : IsHistory first acts) where
+  abbrev act : Act
+  act = record { key = key; command = Count c }
+
+  touched : is_touched first act acts c.lot.gtin ≡ true
+  touched = same_text_refl c.lot.gtin
+
+  over : is_over_without s c.lot.gtin c.qty (in_bin first acts c.bin c.lot) ≡ nat_lt (UNITS_MAX + in_bin first acts c.bin c.lot) (units_in_house first acts c.lot.gtin + c.qty)
+  over = over_told_without first acts act s slice history c.lot.gtin touched c.qty (in_bin first acts c.bin c.lot) (bin_within_limit first acts history c.lot.gtin c.lot touched c.bin)
+
+  pub count_judged : first_refusal (count_seen s c) ≡ verdict first acts (Count c)
+  count_judged =
+      λ i. first_refusal (
+      (nat_le ACTS_MAX (acts_seen first acts act s slice i), ActsFull)
+      ∷ (not (item_told first acts act s slice c.lot.gtin touched i), UnknownItem)
+      ∷ (not (bin_told first acts act s slice c.bin (same_text_refl c.bin) i), UnknownBin)
+      ∷ (not (lot_known_told first acts act s slice c.lot touched i), UnknownLot)
+      ∷ ((ap (is_over_without s c.lot.gtin c.qty) (in_bin_told first acts act s slice c.bin c.lot touched) ∙ over) i, OverUnits) ∷ [])

@@ -1,0 +1,43 @@
+-- A move judged by its slice is judged as by the acts.
+use Rattle.std.proofs.Common.{◌≡◌, true, not, List, [], ◌∷◌}
+use Rattle.std.specs.Prelude.{◌||◌, nat_lt, nat_le, ℤ}
+use Rattle.label.specs.Values.{same_text}
+use Rattle.commands.specs.declared.limits.TheConstants.{ACTS_MAX}
+use Rattle.commands.specs.declared.key.Key.{Key}
+use Rattle.commands.specs.declared.command.Movement.{Movement}
+use Rattle.commands.specs.declared.command.Command.TheVariants.{Move}
+use Rattle.commands.specs.declared.refusal.Refusal.TheVariants.{ActsFull, UnknownItem, UnknownBin, UnknownLot, NotInBin, SameBin}
+use Rattle.rules.specs.Acts.{Act}
+use Rattle.rules.specs.Tables.{tables_of}
+use Rattle.rules.specs.Slices.{IsSlice}
+use Rattle.rules.specs.Verdict.{first_refusal, verdict}
+use Rattle.rules.specs.DecidedMove.{move_seen}
+use Rattle.rules.specs.declared.slice.Slice.{Slice}
+use Rattle.rules.proofs.Tests.{same_text_refl, or_first, or_later}
+use Rattle.rules.proofs.decided.Decisions.{acts_seen}
+use Rattle.rules.proofs.rows.SliceTells.{item_told, bin_told}
+use Rattle.rules.proofs.rows.LotTold.{lot_known_told, in_bin_told}
+
+module _ (first : ℤ) (acts : List Act) (key : Key) (m : Movement) (s : Slice) (slice : IsSlice first (record { key = key; command = Move m }) acts (tables_of first acts) s) where
+  abbrev act : Act
+  act = record { key = key; command = Move m }
+
+  touched : same_text m.lot.gtin m.lot.gtin ≡ true
+  touched = same_text_refl m.lot.gtin
+
+  from_named : same_text m.from m.from || same_text m.from m.to ≡ true
+  from_named = or_first (same_text m.from m.from) (same_text m.from m.to) (same_text_refl m.from)
+
+  to_named : same_text m.to m.from || same_text m.to m.to ≡ true
+  to_named = or_later (same_text m.to m.from) (same_text m.to m.to) (same_text_refl m.to)
+
+  pub move_judged : first_refusal (move_seen s m) ≡ verdict first acts (Move m)
+  move_judged =
+      λ i. first_refusal (
+      (nat_le ACTS_MAX (acts_seen first acts act s slice i), ActsFull)
+      ∷ (not (item_told first acts act s slice m.lot.gtin touched i), UnknownItem)
+      ∷ (not (bin_told first acts act s slice m.from from_named i), UnknownBin)
+      ∷ (not (bin_told first acts act s slice m.to to_named i), UnknownBin)
+      ∷ (not (lot_known_told first acts act s slice m.lot touched i), UnknownLot)
+      ∷ (nat_lt (in_bin_told first acts act s slice m.from m.lot touched i) m.qty, NotInBin)
+      ∷ (same_text m.from m.to, SameBin) ∷ [])

@@ -1,0 +1,148 @@
+-- Holds are decided as the machine decides them.
+use Rattle.std.proofs.Common.{◌≡◌, ℕ, true, false, ◌&&◌, not, List, [], ◌∷◌, refl, ap, sym, ◌∙◌}
+use Rattle.std.specs.Prelude.{ℤ, Result, Some, find, option_map, if◌then◌else◌, nat_le}
+use Rattle.label.specs.Values.{same_text}
+use Rattle.label.specs.declared.lot.LotId.{LotId}
+use Rattle.commands.specs.declared.limits.TheConstants.{ACTS_MAX}
+use Rattle.commands.specs.declared.key.Key.{Key}
+use Rattle.commands.specs.declared.refusal.Refusal.TheVariants.{ActsFull, UnknownItem, UnknownLot, LotRecalled, LotHeld}
+use Rattle.commands.specs.declared.command.Command.TheVariants.{Hold}
+use Rattle.commands.specs.declared.rows.LotRow.{LotRow}
+use Rattle.commands.specs.declared.rows.ReservedRow.{ReservedRow}
+use Rattle.rules.specs.Acts.{Act, gathered}
+use Rattle.rules.specs.Postings.{is_lot, of_item}
+use Rattle.rules.specs.Standing.{Holding, hold_in, says_held, is_held, is_recalled, is_expired, today}
+use Rattle.rules.specs.Verdict.{first_refusal, verdict}
+use Rattle.rules.specs.Once.{IsHistory}
+use Rattle.rules.specs.Tables.{tables_of, lot_row, meta_row, reserved_row}
+use Rattle.rules.specs.Slices.{IsSlice, AreRows, applied, tables_but_repeats, changed}
+use Rattle.rules.specs.Seen.{lot_seen, no_rows}
+use Rattle.rules.specs.Plans.{rows_to_put, rows_to_drop}
+use Rattle.rules.specs.DecidedHold.{hold_seen, hold_shares, hold_changes, with_hold, lot_rows_with_hold, lot_put, staged_kept, staged_returned, stock_with_returned, returned_put, bins_with_returns, returned_reply}
+use Rattle.rules.specs.declared.slice.Slice.{Slice}
+use Rattle.rules.specs.declared.slice.Change.{Change}
+use Rattle.rules.specs.declared.slice.RuleFault.{RuleFault}
+use Rattle.rules.proofs.Tests.{same_text_refl, same_text_turned, is_lot_turned}
+use Rattle.rules.proofs.histories.Accepted.{room_for_acts}
+use Rattle.rules.proofs.rows.AfterRows.{loosened}
+use Rattle.rules.proofs.rows.MappedRows.{rows_mapped}
+use Rattle.rules.proofs.rows.LotTold.{lot_known_told}
+use Rattle.rules.proofs.rows.LotStateTold.{held_told}
+use Rattle.rules.proofs.rows.HeldLots.{lot_put_once, held_after, held_at}
+use Rattle.rules.proofs.rows.SliceTells.{item_told, recall_told, found_lot}
+use Rattle.rules.proofs.rows.SliceSupplies.{slice_tells_supplies}
+use Rattle.rules.proofs.rows.SuppliesTold.{TellsSupplies}
+use Rattle.rules.proofs.rows.TableSteps.{same_tables, AreNamed, names_changed, reserved_changed}
+use Rattle.rules.proofs.rows.Replanned.{TouchesOnly, replanned, replanned_once}
+use Rattle.rules.proofs.rows.UnshippableLots.{MakesUnshippable, order_row_still, line_row_still, shipline_row_still, card_row_still}
+use Rattle.rules.proofs.rows.ReturnedRows.{returned_once, returned_stock_at, returned_staged_at, demands_after, supplies_after, returned_text}
+use Rattle.rules.proofs.decided.Decisions.{AreRight, IsChange, acts_seen, day_seen, meta_same}
+
+module _ (first : ℤ) (acts : List Act) (key : Key) (l : LotId) (s : Slice) (slice : IsSlice first (record { key = key; command = Hold l }) acts (tables_of first acts) s) where
+  abbrev act : Act
+  act = record { key = key; command = Hold l }
+
+  abbrev after : List Act
+  after = act ∷ acts
+
+  abbrev g : List ℕ
+  g = l.gtin
+
+  touched : same_text g g ≡ true
+  touched = same_text_refl g
+
+  hold_judged : IsHistory first acts → first_refusal (hold_seen s l) ≡ verdict first acts (Hold l)
+  hold_judged history =
+      λ i. first_refusal (
+      (nat_le ACTS_MAX (acts_seen first acts act s slice i), ActsFull)
+      ∷ (not (item_told first acts act s slice g touched i), UnknownItem)
+      ∷ (not (lot_known_told first acts act s slice l touched i), UnknownLot)
+      ∷ (recall_told first acts act s slice l touched i, LotRecalled)
+      ∷ (held_told first acts act s slice history l touched i, LotHeld) ∷ [])
+
+  -- The lot is held after it
+
+  held_is : (m : LotId) → is_held after m ≡ (if is_lot m l then true else is_held acts m)
+  held_is m = elim (is_lot m l) as (λ b. says_held (if b then Some (record { lot = l; held = true }) else find (λ (w : Holding). is_lot m w.lot) (gathered hold_in acts)) ≡ (if b then true else is_held acts m)) [ true ↦ refl | false ↦ refl ]
+
+  lot_at : (m : LotId) → changed (λ (q : LotRow). is_lot m q.lot) (lot_put l true (lot_seen s l)) [] (lot_row acts m) ≡ lot_row after m
+  lot_at = held_at acts after l true refl held_is (lot_seen s l) (sym (found_lot first acts act s slice l touched))
+
+  makes : MakesUnshippable first acts act l
+  makes = record {
+    posts = refl;
+    itself = λ k e. ap (λ b. not b && not (is_recalled acts k.lot) && not (is_expired (today first acts) k.expiry)) (held_is k.lot ∙ ap (λ t. if t then true else is_held acts k.lot) (is_lot_turned k.lot l ∙ e));
+    others = λ k e. ap (λ b. not b && not (is_recalled acts k.lot) && not (is_expired (today first acts) k.expiry)) (held_is k.lot ∙ ap (λ t. if t then true else is_held acts k.lot) (is_lot_turned k.lot l ∙ e));
+    same_orders = refl;
+    same_cancels = refl;
+    same_bins = refl;
+  }
+
+  lots_after : AreRows is_lot (λ (k : LotRow). k.lot) (λ m. of_item g m) (λ m. true) (lot_row after) (lot_rows_with_hold s l true)
+  lots_after =
+      loosened is_lot (λ (k : LotRow). k.lot) (λ m. of_item g m) (λ m. of_item g m) (λ m. true) (λ m. true) (λ m. option_map (with_hold l true) (lot_row acts m)) (lot_row after) (lot_rows_with_hold s l true)
+      (λ m e. e) (λ m e. e) (λ m. sym (held_after acts after l true refl held_is m))
+      (rows_mapped is_lot (λ (k : LotRow). k.lot) (with_hold l true) (λ k. refl) (λ m. of_item g m) (λ m. true) (lot_row acts) s.rows.lots (slice_tells_supplies first acts act s slice g touched).lots)
+
+  abbrev puts : List ReservedRow
+  puts = rows_to_put s.rows.reserved (hold_shares s l)
+
+  abbrev drops : List ReservedRow
+  drops = rows_to_drop g s.rows.reserved (hold_shares s l)
+
+  abbrev hold_change : Change
+  hold_change = record {
+    meta = meta_row first after;
+    put = record no_rows { lots = lot_put l true (lot_seen s l); stock = returned_put s l; reserved = puts };
+    dropped = record no_rows { staged = staged_returned s l; reserved = drops };
+    text = returned_reply s l;
+  }
+
+  module _ (next : IsHistory first (record { key = key; command = Hold l } ∷ acts)) where
+    supplies_are : TellsSupplies first after g (lot_rows_with_hold s l true) s.rows.recalls (stock_with_returned s l) (bins_with_returns s)
+    supplies_are = supplies_after first acts act l s slice touched makes next (lot_rows_with_hold s l true) s.rows.recalls lots_after (slice_tells_supplies first acts act s slice g touched).recalls
+
+    only : TouchesOnly first acts act s slice next g
+    only = record { own = touched; others = λ h e. same_text_turned h g ∙ e }
+
+    are_named : AreNamed first act acts puts drops
+    are_named =
+        replanned first acts act s slice next g only s.meta.day (day_seen first acts act s slice) s.rows.orders s.rows.lines (staged_kept s l) (lot_rows_with_hold s l true) s.rows.recalls (bins_with_returns s) (stock_with_returned s l)
+        (demands_after first acts act l s slice touched makes next) supplies_are
+
+    hold_step : ((o : List ℕ) (m : LotId) → changed (λ (q : ReservedRow). same_text o q.order && is_lot m q.lot) puts drops (reserved_row first acts o m) ≡ reserved_row first after o m)
+        → applied hold_change (tables_of first acts) ≡ tables_but_repeats first act acts
+    unfolding applied tables_of
+    hold_step reserved_at =
+        same_tables (applied hold_change (tables_of first acts)) (tables_but_repeats first act acts) refl
+        (λ g. refl) (λ b. refl) lot_at (λ l. refl) (returned_stock_at first acts act l s slice touched makes next) (order_row_still first acts act l makes next) (line_row_still first acts act l makes next)
+        (returned_staged_at first acts act l s slice touched makes next) reserved_at (λ n. refl) (shipline_row_still first acts act l makes next) (card_row_still first acts act l makes next) (λ k. refl)
+
+    hold_changed : IsChange first act acts (hold_changes s l)
+    hold_changed =
+        let room = room_for_acts first acts (Hold l) next.1.passes in
+        record {
+          applies = (λ i. applied (record hold_change { meta = meta_same first acts act s slice room refl refl i }) (tables_of first acts))
+              ∙ hold_step (reserved_changed first act acts puts drops are_named);
+          text = returned_text first acts act l s slice touched makes next room refl;
+          once = record {
+            items = refl;
+            bins = refl;
+            lots = lot_put_once l true (lot_seen s l);
+            recalls = refl;
+            stock = returned_once s l;
+            orders = refl;
+            lines = refl;
+            staged = refl;
+            reserved =
+                replanned_once first acts act s slice next g only s.meta.day (day_seen first acts act s slice) s.rows.orders s.rows.lines (staged_kept s l) (lot_rows_with_hold s l true) s.rows.recalls (bins_with_returns s) (stock_with_returned s l)
+                (demands_after first acts act l s slice touched makes next) supplies_are;
+            shipments = refl;
+            shiplines = refl;
+            cards = refl;
+          };
+          named = names_changed first act acts (hold_changes s l) are_named;
+        }
+
+pub holds_right : (key : Key) (s : Slice) (result : Result Change RuleFault) (l : LotId) → AreRight key s result (Hold l) (hold_seen s l) (hold_changes s l)
+holds_right key s result l first acts history slice = record { judged = hold_judged first acts key l s slice history; changed = λ ok next. hold_changed first acts key l s slice next }

@@ -1,0 +1,162 @@
+-- Recalls are decided as the machine decides them.
+use Rattle.std.proofs.Common.{◌≡◌, ℕ, Bool, true, false, ◌&&◌, not, List, [], ◌∷◌, refl, ap, ◌∙◌}
+use Rattle.std.specs.Prelude.{ℤ, Result, Option, Some, find, option_map, is_some, if◌then◌else◌, nat_le}
+use Rattle.label.specs.Values.{same_text}
+use Rattle.label.specs.declared.lot.LotId.{LotId}
+use Rattle.commands.specs.declared.limits.TheConstants.{ACTS_MAX}
+use Rattle.commands.specs.declared.key.Key.{Key}
+use Rattle.commands.specs.declared.refusal.Refusal.TheVariants.{ActsFull, UnknownItem, AlreadyRecalled}
+use Rattle.commands.specs.declared.command.Command.TheVariants.{Recall}
+use Rattle.commands.specs.declared.rows.LotRow.{LotRow}
+use Rattle.commands.specs.declared.rows.RecallRow.{RecallRow}
+use Rattle.commands.specs.declared.rows.ReservedRow.{ReservedRow}
+use Rattle.rules.specs.Acts.{Act, next_number}
+use Rattle.rules.specs.Postings.{is_lot, of_item}
+use Rattle.rules.specs.Standing.{Recalling, recalling, is_held, is_recalled, is_expired, today}
+use Rattle.rules.specs.Verdict.{first_refusal, verdict}
+use Rattle.rules.specs.Once.{IsHistory}
+use Rattle.rules.specs.Tables.{tables_of, lot_row, recall_row, meta_row, reserved_row}
+use Rattle.rules.specs.Slices.{IsSlice, AreRows, applied, tables_but_repeats, changed}
+use Rattle.rules.specs.Seen.{no_rows}
+use Rattle.rules.specs.Plans.{rows_to_put, rows_to_drop}
+use Rattle.rules.specs.DecidedHold.{recall_seen, recall_shares, recall_changes, new_recall_row, recall_rows_after, staged_kept, staged_returned, stock_with_returned, returned_put, bins_with_returns, returned_reply}
+use Rattle.rules.specs.declared.slice.Slice.{Slice}
+use Rattle.rules.specs.declared.slice.Change.{Change}
+use Rattle.rules.specs.declared.slice.RuleFault.{RuleFault}
+use Rattle.rules.proofs.Tests.{and_false, same_text_refl, same_text_turned, is_lot_turned}
+use Rattle.rules.proofs.histories.Accepted.{room_for_acts}
+use Rattle.rules.proofs.rows.SliceTells.{item_told, recall_told}
+use Rattle.rules.proofs.rows.SliceSupplies.{slice_tells_supplies}
+use Rattle.rules.proofs.rows.SuppliesTold.{TellsSupplies}
+use Rattle.rules.proofs.rows.TableSteps.{same_tables, AreNamed, names_changed, reserved_changed, put_found}
+use Rattle.rules.proofs.rows.Replanned.{TouchesOnly, replanned, replanned_once}
+use Rattle.rules.proofs.rows.UnshippableLots.{MakesUnshippable, order_row_still, line_row_still, shipline_row_still, card_row_still}
+use Rattle.rules.proofs.rows.ReturnedRows.{returned_once, returned_stock_at, returned_staged_at, demands_after, supplies_after, returned_text}
+use Rattle.rules.proofs.decided.Decisions.{AreRight, IsChange, acts_seen, day_seen, number_same, meta_same}
+
+module _ (first : ℤ) (acts : List Act) (key : Key) (l : LotId) (s : Slice) (slice : IsSlice first (record { key = key; command = Recall l }) acts (tables_of first acts) s) where
+  abbrev act : Act
+  act = record { key = key; command = Recall l }
+
+  abbrev after : List Act
+  after = act ∷ acts
+
+  abbrev g : List ℕ
+  g = l.gtin
+
+  touched : same_text g g ≡ true
+  touched = same_text_refl g
+
+  recall_judged : first_refusal (recall_seen s l) ≡ verdict first acts (Recall l)
+  recall_judged =
+      λ i. first_refusal (
+      (nat_le ACTS_MAX (acts_seen first acts act s slice i), ActsFull)
+      ∷ (not (item_told first acts act s slice g touched i), UnknownItem)
+      ∷ (recall_told first acts act s slice l touched i, AlreadyRecalled) ∷ [])
+
+  -- The lot is recalled after it
+
+  abbrev shown : Recalling → RecallRow
+  shown r = record { lot = r.lot; act = r.act }
+
+  abbrev newest : Recalling
+  newest = record { lot = l; act = next_number acts }
+
+  recalled_is : (m : LotId) → is_recalled after m ≡ (if is_lot m l then true else is_recalled acts m)
+  recalled_is m = elim (is_lot m l) as (λ b. is_some (if b then Some newest else recalling acts m) ≡ (if b then true else is_recalled acts m)) [ true ↦ refl | false ↦ refl ]
+
+  makes : MakesUnshippable first acts act l
+  makes = record {
+    posts = refl;
+    itself = λ k e.
+        ap (λ b. not (is_held acts k.lot) && not b && not (is_expired (today first acts) k.expiry)) (recalled_is k.lot ∙ ap (λ t. if t then true else is_recalled acts k.lot) (is_lot_turned k.lot l ∙ e))
+        ∙ ap (λ b. b && not (is_expired (today first acts) k.expiry)) (and_false (not (is_held acts k.lot)));
+    others = λ k e. ap (λ b. not (is_held acts k.lot) && not b && not (is_expired (today first acts) k.expiry)) (recalled_is k.lot ∙ ap (λ t. if t then true else is_recalled acts k.lot) (is_lot_turned k.lot l ∙ e));
+    same_orders = refl;
+    same_cancels = refl;
+    same_bins = refl;
+  }
+
+  recall_at : (m : LotId) → changed (λ (r : RecallRow). is_lot m r.lot) (shown newest ∷ []) [] (recall_row acts m) ≡ recall_row after m
+  recall_at m = put_found shown (is_lot m l) newest (recalling acts m)
+
+  abbrev puts : List ReservedRow
+  puts = rows_to_put s.rows.reserved (recall_shares s l)
+
+  abbrev drops : List ReservedRow
+  drops = rows_to_drop g s.rows.reserved (recall_shares s l)
+
+  abbrev recall_change : Change
+  recall_change = record {
+    meta = meta_row first after;
+    put = record no_rows { recalls = shown newest ∷ []; stock = returned_put s l; reserved = puts };
+    dropped = record no_rows { staged = staged_returned s l; reserved = drops };
+    text = returned_reply s l;
+  }
+
+  module _ (next : IsHistory first (record { key = key; command = Recall l } ∷ acts)) where
+    new_row_is : new_recall_row s l ≡ shown newest
+    new_row_is = λ i. record { lot = l; act = number_same first acts act s slice (room_for_acts first acts (Recall l) next.1.passes) i }
+
+    recalls_after : (m : LotId) → of_item g m ≡ true → find (λ (r : RecallRow). is_lot m r.lot) (recall_rows_after s l) ≡ recall_row after m
+    recalls_after m e =
+        (λ i. if is_lot m l then Some (new_row_is i) else (slice_tells_supplies first acts act s slice g touched).recalls m e i)
+        ∙ either (is_lot m l) (recalling acts m)
+      where
+        either : (b : Bool) (rest : Option Recalling) → (if b then Some (shown newest) else option_map shown rest) ≡ option_map shown (if b then Some newest else rest)
+        either true rest = refl
+        either false rest = refl
+
+    lots_still : AreRows is_lot (λ (r : LotRow). r.lot) (λ m. of_item g m) (λ m. true) (lot_row after) s.rows.lots
+    lots_still = (slice_tells_supplies first acts act s slice g touched).lots
+
+    supplies_are : TellsSupplies first after g s.rows.lots (recall_rows_after s l) (stock_with_returned s l) (bins_with_returns s)
+    supplies_are = supplies_after first acts act l s slice touched makes next s.rows.lots (recall_rows_after s l) lots_still recalls_after
+
+    only : TouchesOnly first acts act s slice next g
+    only = record { own = touched; others = λ h e. same_text_turned h g ∙ e }
+
+    are_named : AreNamed first act acts puts drops
+    are_named =
+        replanned first acts act s slice next g only s.meta.day (day_seen first acts act s slice) s.rows.orders s.rows.lines (staged_kept s l) s.rows.lots (recall_rows_after s l) (bins_with_returns s) (stock_with_returned s l)
+        (demands_after first acts act l s slice touched makes next) supplies_are
+
+    recall_step : ((o : List ℕ) (m : LotId) → changed (λ (q : ReservedRow). same_text o q.order && is_lot m q.lot) puts drops (reserved_row first acts o m) ≡ reserved_row first after o m)
+        → applied recall_change (tables_of first acts) ≡ tables_but_repeats first act acts
+    unfolding applied tables_of
+    recall_step reserved_at =
+        same_tables (applied recall_change (tables_of first acts)) (tables_but_repeats first act acts) refl
+        (λ g. refl) (λ b. refl) (λ l. refl) recall_at (returned_stock_at first acts act l s slice touched makes next) (order_row_still first acts act l makes next) (line_row_still first acts act l makes next)
+        (returned_staged_at first acts act l s slice touched makes next) reserved_at (λ n. refl) (shipline_row_still first acts act l makes next) (card_row_still first acts act l makes next) (λ k. refl)
+
+    recall_changed : IsChange first act acts (recall_changes s l)
+    recall_changed =
+        let room = room_for_acts first acts (Recall l) next.1.passes in
+        record {
+          applies = (λ i. applied (record recall_change {
+            meta = meta_same first acts act s slice room refl refl i;
+            put = record no_rows { recalls = new_row_is i ∷ []; stock = returned_put s l; reserved = puts };
+          }) (tables_of first acts))
+              ∙ recall_step (reserved_changed first act acts puts drops are_named);
+          text = returned_text first acts act l s slice touched makes next room refl;
+          once = record {
+            items = refl;
+            bins = refl;
+            lots = refl;
+            recalls = refl;
+            stock = returned_once s l;
+            orders = refl;
+            lines = refl;
+            staged = refl;
+            reserved =
+                replanned_once first acts act s slice next g only s.meta.day (day_seen first acts act s slice) s.rows.orders s.rows.lines (staged_kept s l) s.rows.lots (recall_rows_after s l) (bins_with_returns s) (stock_with_returned s l)
+                (demands_after first acts act l s slice touched makes next) supplies_are;
+            shipments = refl;
+            shiplines = refl;
+            cards = refl;
+          };
+          named = names_changed first act acts (recall_changes s l) are_named;
+        }
+
+pub recalls_right : (key : Key) (s : Slice) (result : Result Change RuleFault) (l : LotId) → AreRight key s result (Recall l) (recall_seen s l) (recall_changes s l)
+recalls_right key s result l first acts history slice = record { judged = recall_judged first acts key l s slice; changed = λ ok next. recall_changed first acts key l s slice next }

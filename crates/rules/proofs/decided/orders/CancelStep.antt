@@ -1,0 +1,91 @@
+-- The change of an order that is cancelled takes the tables to those with the act, if its reserved rows do.
+use Rattle.std.proofs.Common.{◌≡◌, ℕ, true, false, ◌&&◌, List, [], ◌∷◌, refl, ap, sym, ◌∙◌}
+use Rattle.std.specs.Prelude.{◌||◌, if◌then◌else◌, ℤ, Option, Some, None, option_map}
+use Rattle.label.specs.Values.{same_text}
+use Rattle.label.specs.declared.lot.LotId.{LotId}
+use Rattle.commands.specs.declared.key.Key.{Key}
+use Rattle.commands.specs.declared.command.Command.TheVariants.{Cancel}
+use Rattle.commands.specs.declared.rows.OrderState.TheVariants.{Open, Done, Cancelled}
+use Rattle.commands.specs.declared.rows.OrderRow.{OrderRow}
+use Rattle.commands.specs.declared.rows.ReservedRow.{ReservedRow}
+use Rattle.rules.specs.Acts.{Act}
+use Rattle.rules.specs.Postings.{is_lot}
+use Rattle.rules.specs.Standing.{Placed, orders, order_named, is_cancelled}
+use Rattle.rules.specs.Planning.{order_state, is_open, is_open_state, is_shipped_in_full}
+use Rattle.rules.specs.Tables.{tables_of, meta_row, order_row, reserved_row}
+use Rattle.rules.specs.Slices.{applied, tables_but_repeats, changed, unless_put}
+use Rattle.rules.specs.Seen.{no_rows}
+use Rattle.rules.specs.declared.slice.Change.{Change}
+use Rattle.rules.proofs.Tests.{same_text_is, same_text_refl}
+use Rattle.rules.proofs.histories.Orders.{found_order}
+use Rattle.rules.proofs.rows.TableSteps.{same_tables}
+
+module _ (first : ℤ) (acts : List Act) (key : Key) (o : List ℕ) where
+  abbrev pub act : Act
+  act = record { key = key; command = Cancel o }
+
+  abbrev pub after : List Act
+  after = act ∷ acts
+
+  -- The order is cancelled, and the others are as they were
+
+  pub now_cancelled : order_state first after o ≡ Cancelled
+  now_cancelled = ap (λ b. if b || is_cancelled acts o then Cancelled else (if is_shipped_in_full first acts o then Done else Open)) (same_text_refl o)
+
+  pub state_same : (q : List ℕ) → same_text q o ≡ false → order_state first after q ≡ order_state first acts q
+  state_same q e = ap (λ b. if b || is_cancelled acts q then Cancelled else (if is_shipped_in_full first acts q then Done else Open)) e
+
+  pub not_open : is_open first after o ≡ false
+  not_open = ap is_open_state now_cancelled
+
+  pub open_same : (q : List ℕ) → same_text q o ≡ false → is_open first after q ≡ is_open first acts q
+  open_same q e = ap is_open_state (state_same q e)
+
+  abbrev pub row_of : Placed → OrderRow
+  row_of p = record { order = p.order; act = p.act; customer = p.customer; state = order_state first acts p.order }
+
+  abbrev row_after : Placed → OrderRow
+  row_after p = record { order = p.order; act = p.act; customer = p.customer; state = order_state first after p.order }
+
+  others_same : (q : List ℕ) → same_text q o ≡ false → (p : Option Placed) → order_named acts q ≡ p → option_map row_of p ≡ option_map row_after p
+  others_same q e None f = refl
+  others_same q e (Some p) f =
+      let other : same_text p.order o ≡ false = ap (λ (x : List ℕ). same_text x o) (sym (found_order q (orders acts) p f)) ∙ e in
+      (λ i. Some (record { order = p.order; act = p.act; customer = p.customer; state = sym (state_same p.order other) i }))
+
+  pub other_row : (q : List ℕ) → same_text q o ≡ false → order_row first acts q ≡ order_row first after q
+  other_row q e = others_same q e (order_named acts q) refl
+
+  module _ (p : Placed) (named : order_named acts o ≡ Some p) where
+    -- the order's row
+    abbrev pub new_row : OrderRow
+    new_row = record { order = p.order; act = p.act; customer = p.customer; state = Cancelled }
+
+    abbrev pub cancel_change : List ℕ → List ReservedRow → List ReservedRow → Change
+    cancel_change text put dropped = record {
+      meta = meta_row first after;
+      put = record no_rows { orders = new_row ∷ []; reserved = put };
+      dropped = record no_rows { reserved = dropped };
+      text = text;
+    }
+
+    own : o ≡ p.order
+    own = found_order o (orders acts) p named
+
+    order_at : (q : List ℕ) → changed (λ (r : OrderRow). same_text q r.order) (new_row ∷ []) [] (order_row first acts q) ≡ order_row first after q
+    order_at q = elim (same_text q o) as (λ b. same_text q o ≡ b → unless_put (if same_text q p.order then Some new_row else None) false (order_row first acts q) ≡ order_row first after q) [
+      | true ↦ λ e.
+          let same : q ≡ o = same_text_is q o e in
+          ap (λ b. unless_put (if b then Some new_row else None) false (order_row first acts q)) (ap (same_text q) (sym own) ∙ e)
+          ∙ (λ i. Some (record { order = p.order; act = p.act; customer = p.customer; state = (sym now_cancelled ∙ ap (order_state first after) own) i }))
+          ∙ sym (ap (option_map row_after) (ap (order_named acts) same ∙ named))
+      | false ↦ λ e. ap (λ b. unless_put (if b then Some new_row else None) false (order_row first acts q)) (ap (same_text q) (sym own) ∙ e) ∙ other_row q e
+    ] refl
+
+    pub cancel_step : (text : List ℕ) (put dropped : List ReservedRow)
+        → ((q : List ℕ) (l : LotId) → changed (λ (r : ReservedRow). same_text q r.order && is_lot l r.lot) put dropped (reserved_row first acts q l) ≡ reserved_row first after q l)
+        → applied (cancel_change text put dropped) (tables_of first acts) ≡ tables_but_repeats first act acts
+    unfolding applied tables_of
+    cancel_step text put dropped reserved_at =
+        same_tables (applied (cancel_change text put dropped) (tables_of first acts)) (tables_but_repeats first act acts) refl
+        (λ g. refl) (λ b. refl) (λ l. refl) (λ l. refl) (λ l b. refl) order_at (λ q g. refl) (λ q l. refl) reserved_at (λ n. refl) (λ n l. refl) (λ l n. refl) (λ k. refl)

@@ -1,0 +1,69 @@
+-- The rows of a slice without the order that is cancelled tell the plan of each of its items after the act.
+use Rattle.std.proofs.Common.{◌≡◌, ℕ, true, false, ◌&&◌, not, List, ◌∷◌, refl, ap, sym, ◌∙◌}
+use Rattle.std.specs.Prelude.{ℤ}
+use Rattle.label.specs.Values.{same_text}
+use Rattle.commands.specs.declared.key.Key.{Key}
+use Rattle.commands.specs.declared.command.Command.TheVariants.{Cancel}
+use Rattle.commands.specs.declared.rows.OrderRow.{OrderRow}
+use Rattle.commands.specs.declared.rows.LineRow.{LineRow}
+use Rattle.rules.specs.Acts.{Act}
+use Rattle.rules.specs.Standing.{has_line}
+use Rattle.rules.specs.Planning.{is_open}
+use Rattle.rules.specs.Tables.{tables_of, order_row, line_row}
+use Rattle.rules.specs.Touched.{is_touched}
+use Rattle.rules.specs.Slices.{IsSlice, AreRows, same_line}
+use Rattle.rules.specs.DecidedCancel.{other_orders}
+use Rattle.rules.specs.declared.slice.Slice.{Slice}
+use Rattle.rules.proofs.Tests.{and_both, not_true, same_text_is, same_text_turned}
+use Rattle.rules.proofs.rows.AfterRows.{loosened}
+use Rattle.rules.proofs.rows.KeptRows.{kept_rows}
+use Rattle.rules.proofs.rows.DemandsTold.{TellsDemands}
+use Rattle.rules.proofs.rows.SuppliesTold.{TellsSupplies}
+use Rattle.rules.proofs.rows.SliceDemands.{slice_tells_demands}
+use Rattle.rules.proofs.rows.SliceSupplies.{slice_tells_supplies}
+use Rattle.rules.proofs.decided.orders.CancelStep.{not_open, open_same, other_row}
+
+module _ (first : ℤ) (acts : List Act) (key : Key) (o : List ℕ) (s : Slice) (slice : IsSlice first (record { key = key; command = Cancel o }) acts (tables_of first acts) s)
+    (g : List ℕ) (touched : is_touched first (record { key = key; command = Cancel o }) acts g ≡ true) where
+  abbrev act : Act
+  act = record { key = key; command = Cancel o }
+
+  abbrev after : List Act
+  after = act ∷ acts
+
+  before : TellsDemands first acts g s.rows.orders s.rows.lines s.rows.staged
+  before = slice_tells_demands first acts act s slice g touched
+
+  -- an order that is open after the act is another, and was open
+  other : (q : List ℕ) → is_open first after q ≡ true → same_text q o ≡ false
+  other q e = elim (same_text q o) as (λ b. same_text q o ≡ b → b ≡ false) [
+    | true ↦ λ t. let f : true ≡ false = sym e ∙ ap (is_open first after) (same_text_is q o t) ∙ not_open first acts key o in cc
+    | false ↦ λ t. refl
+  ] refl
+
+  was_open : (q : List ℕ) → is_open first after q ≡ true → is_open first acts q ≡ true
+  was_open q e = sym (open_same first acts key o q (other q e)) ∙ e
+
+  few : (q : List ℕ) → is_open first after q && has_line after q g ≡ true → (is_open first acts q && has_line acts q g ≡ true) × (not (same_text o q) ≡ true)
+  few q e =
+      let two = and_both (is_open first after q) (has_line after q g) e in
+      ((λ i. was_open q two.0 i && two.1 i), ap not (same_text_turned o q ∙ other q two.0))
+
+  orders_after : AreRows same_text (λ (r : OrderRow). r.order) (λ q. is_open first after q && has_line after q g) (λ q. true) (order_row first after) (other_orders s o)
+  orders_after =
+      kept_rows same_text same_text_is (λ (r : OrderRow). r.order) (λ q. not (same_text o q)) (λ q. is_open first acts q && has_line acts q g) (λ q. is_open first after q && has_line after q g) (λ q. true) (λ q. true)
+      (order_row first acts) (order_row first after) few (λ q e. e) (λ q e. other_row first acts key o q (same_text_turned q o ∙ not_true (same_text o q) e)) s.rows.orders before.orders
+
+  lines_after : AreRows same_line (λ (r : LineRow). (r.order, r.gtin)) (λ k. is_open first after k.0 && same_text g k.1) (λ k. true) (λ k. line_row first after k.0 k.1) s.rows.lines
+  lines_after =
+      loosened same_line (λ (r : LineRow). (r.order, r.gtin)) (λ k. is_open first acts k.0 && same_text g k.1) (λ k. is_open first after k.0 && same_text g k.1) (λ k. true) (λ k. true)
+      (λ k. line_row first acts k.0 k.1) (λ k. line_row first after k.0 k.1) s.rows.lines
+      (λ k e. let two = and_both (is_open first after k.0) (same_text g k.1) e in (λ i. was_open k.0 two.0 i && two.1 i)) (λ k e. e) (λ k. refl) before.lines
+
+  pub demands_after : TellsDemands first after g (other_orders s o) s.rows.lines s.rows.staged
+  demands_after = record { orders = orders_after; lines = lines_after; staged = before.staged }
+
+  pub supplies_after : TellsSupplies first after g s.rows.lots s.rows.recalls s.rows.stock s.rows.bins
+  supplies_after =
+      let same = slice_tells_supplies first acts act s slice g touched in
+      record { lots = same.lots; recalls = same.recalls; stock = same.stock; bins = same.bins }

@@ -1,0 +1,78 @@
+-- An order judged by its slice is judged as by the acts.
+use Rattle.std.proofs.Common.{◌≡◌, ℕ, ◌+◌, ◌≤◌, ◌<◌, true, false, not, List, [], ◌∷◌, refl, ap, arith}
+use Rattle.std.specs.Prelude.{◌||◌, nat_lt, nat_le, ℤ}
+use Rattle.std.specs.List.{list_any}
+use Rattle.label.specs.Values.{same_text}
+use Rattle.commands.specs.declared.limits.TheConstants.{OPEN_MAX, ACTS_MAX}
+use Rattle.commands.specs.declared.key.Key.{Key}
+use Rattle.commands.specs.declared.command.OrderLine.{OrderLine}
+use Rattle.commands.specs.declared.command.NewOrder.{NewOrder}
+use Rattle.commands.specs.declared.command.Command.TheVariants.{Order}
+use Rattle.commands.specs.declared.refusal.Refusal.TheVariants.{ActsFull, UnknownItem, OrderExists, ItemTwice, OverOrdered}
+use Rattle.commands.specs.Lists.{total}
+use borrow.Author.Tests.{ltb-false, ltb-true, lt-ltb, le-ltb}
+use Rattle.rules.specs.Acts.{Act}
+use Rattle.rules.specs.Standing.{has_item}
+use Rattle.rules.specs.Planning.{open_units}
+use Rattle.rules.specs.Once.{IsHistory}
+use Rattle.rules.specs.Tables.{tables_of}
+use Rattle.rules.specs.Touched.{is_touched}
+use Rattle.rules.specs.Slices.{IsSlice}
+use Rattle.rules.specs.Seen.{capped}
+use Rattle.rules.specs.Verdict.{first_refusal, verdict, names_item_twice}
+use Rattle.rules.specs.DecidedOrder.{order_seen, misses_item, orders_too_much, open_units_of}
+use Rattle.rules.specs.declared.slice.Slice.{Slice}
+use Rattle.rules.proofs.Tests.{or_later, same_text_refl}
+use Rattle.rules.proofs.decided.Decisions.{acts_seen}
+use Rattle.rules.proofs.rows.SliceTells.{item_told}
+use Rattle.rules.proofs.rows.OrderTold.{order_told}
+use Rattle.rules.proofs.rows.SliceDemands.{slice_tells_demands}
+use Rattle.rules.proofs.rows.OpenUnits.{rows_tell_open_units}
+
+-- Lines of the order are of items that it touches
+
+-- each of these lines is of an item of the order
+abbrev pub AllAmong : List OrderLine → List OrderLine → Type 0
+AllAmong all [] = Unit {0}
+AllAmong all (l ∷ ls) = (list_any (λ m. same_text l.gtin m.gtin) all ≡ true) × AllAmong all ls
+
+among_more : (m : OrderLine) (all ls : List OrderLine) → AllAmong all ls → AllAmong (m ∷ all) ls
+among_more m all [] h = tt
+among_more m all (l ∷ ls) h = (or_later (same_text l.gtin m.gtin) _ h.0, among_more m all ls h.1)
+
+pub all_among : (ls : List OrderLine) → AllAmong ls ls
+all_among [] = tt
+all_among (l ∷ ls) = (ap (λ b. b || list_any (λ m. same_text l.gtin m.gtin) ls) (same_text_refl l.gtin), among_more l ls ls (all_among ls))
+
+-- a comparison with the limit is the same with and without the caps
+more_than : (a m n : ℕ) → a ≡ n → nat_lt OPEN_MAX (capped (capped a + m)) ≡ nat_lt OPEN_MAX (n + m)
+more_than a m n e =
+    elim (nat_lt OPEN_MAX (n + m)) as (λ t. nat_lt OPEN_MAX (n + m) ≡ t → nat_lt OPEN_MAX (capped (capped a + m)) ≡ t) [
+      | true ↦ λ f. let h : OPEN_MAX < n + m = ltb-true OPEN_MAX (n + m) f in lt-ltb _ _ (omega arith)
+      | false ↦ λ f. let h : n + m ≤ OPEN_MAX = ltb-false OPEN_MAX (n + m) f in le-ltb _ _ (omega arith)
+    ] refl
+
+module _ (first : ℤ) (acts : List Act) (key : Key) (o : NewOrder) (s : Slice)
+    (slice : IsSlice first (record { key = key; command = Order o }) acts (tables_of first acts) s) (history : IsHistory first acts) where
+  abbrev act : Act
+  act = record { key = key; command = Order o }
+
+  items_told : (ls : List OrderLine) → AllAmong o.lines ls → misses_item s ls ≡ list_any (λ l. not (has_item acts l.gtin)) ls
+  items_told [] h = refl
+  items_told (l ∷ ls) h = λ i. not (item_told first acts act s slice l.gtin h.0 i) || items_told ls h.1 i
+
+  units_told : (g : List ℕ) → is_touched first act acts g ≡ true → total (open_units_of g s.rows.lines) s.rows.orders ≡ open_units first acts g
+  units_told g t = rows_tell_open_units first acts history g s.rows.orders s.rows.lines s.rows.staged (slice_tells_demands first acts act s slice g t)
+
+  too_much_told : (ls : List OrderLine) → AllAmong o.lines ls → orders_too_much s ls ≡ list_any (λ l. nat_lt OPEN_MAX (open_units first acts l.gtin + l.qty)) ls
+  too_much_told [] h = refl
+  too_much_told (l ∷ ls) h = λ i. more_than (total (open_units_of l.gtin s.rows.lines) s.rows.orders) l.qty (open_units first acts l.gtin) (units_told l.gtin h.0) i || too_much_told ls h.1 i
+
+  pub order_judged : first_refusal (order_seen s o) ≡ verdict first acts (Order o)
+  order_judged =
+      λ i. first_refusal (
+      (nat_le ACTS_MAX (acts_seen first acts act s slice i), ActsFull)
+      ∷ (items_told o.lines (all_among o.lines) i, UnknownItem)
+      ∷ (order_told first acts act s slice o.order (same_text_refl o.order) i, OrderExists)
+      ∷ (names_item_twice o.lines, ItemTwice)
+      ∷ (too_much_told o.lines (all_among o.lines) i, OverOrdered) ∷ [])

@@ -1,0 +1,52 @@
+-- New orders are decided as the machine decides them.
+use Rattle.std.proofs.Common.{◌≡◌, List, [], ◌∷◌, refl, ap, ◌∙◌}
+use Rattle.std.specs.Prelude.{ℤ, Result}
+use Rattle.commands.specs.declared.key.Key.{Key}
+use Rattle.commands.specs.declared.command.NewOrder.{NewOrder}
+use Rattle.commands.specs.declared.command.Command.TheVariants.{Order}
+use Rattle.rules.specs.Acts.{Act}
+use Rattle.rules.specs.Once.{IsHistory}
+use Rattle.rules.specs.Tables.{tables_of}
+use Rattle.rules.specs.Slices.{IsSlice, applied}
+use Rattle.rules.specs.Seen.{no_rows}
+use Rattle.rules.specs.DecidedOrder.{new_line_rows, order_rows_to_put, order_rows_to_drop, order_reply, order_seen, order_changes}
+use Rattle.rules.specs.declared.slice.Slice.{Slice}
+use Rattle.rules.specs.declared.slice.Change.{Change}
+use Rattle.rules.specs.declared.slice.RuleFault.{RuleFault}
+use Rattle.rules.proofs.histories.Accepted.{room_for_acts}
+use Rattle.rules.proofs.rows.TableSteps.{names_changed, reserved_changed}
+use Rattle.rules.proofs.decided.Decisions.{AreRight, IsChange, meta_same}
+use Rattle.rules.proofs.decided.orders.OrderJudged.{order_judged}
+use Rattle.rules.proofs.decided.orders.OrderStep.{order_change, order_step}
+use Rattle.rules.proofs.decided.orders.OrderTells.{row_is, is_new, some_wanted, new_lines_once}
+use Rattle.rules.proofs.decided.orders.OrderShares.{order_named_rows, order_put_once}
+use Rattle.rules.proofs.decided.orders.OrderReply.{order_text}
+
+module _ (first : ℤ) (acts : List Act) (key : Key) (o : NewOrder) (s : Slice) (slice : IsSlice first (record { key = key; command = Order o }) acts (tables_of first acts) s)
+    (next : IsHistory first (record { key = key; command = Order o } ∷ acts)) where
+  abbrev act : Act
+  act = record { key = key; command = Order o }
+
+  -- what is made of the rows is the change of the act
+  change_same : order_changes s o ≡ order_change first acts key o (order_reply s o) (order_rows_to_put s o o.lines) (order_rows_to_drop s o o.lines)
+  change_same = λ i. record {
+    meta = meta_same first acts act s slice (room_for_acts first acts (Order o) next.1.passes) refl refl i;
+    put = record no_rows { orders = row_is first acts key o s slice next i ∷ []; lines = new_line_rows o; reserved = order_rows_to_put s o o.lines };
+    dropped = record no_rows { reserved = order_rows_to_drop s o o.lines };
+    text = order_reply s o;
+  }
+
+  order_changed : IsChange first act acts (order_changes s o)
+  order_changed =
+      let named = order_named_rows first acts key o s slice next in
+      record {
+        applies = ap (λ c. applied c (tables_of first acts)) change_same
+            ∙ order_step first acts key o next.0 (is_new first acts key o s slice next) (some_wanted first acts key o s slice next) (order_reply s o) (order_rows_to_put s o o.lines) (order_rows_to_drop s o o.lines)
+            (reserved_changed first act acts (order_rows_to_put s o o.lines) (order_rows_to_drop s o o.lines) named);
+        text = order_text first acts key o s slice next;
+        once = record { items = refl; bins = refl; lots = refl; recalls = refl; stock = refl; orders = refl; lines = new_lines_once first acts key o s slice next; staged = refl; reserved = order_put_once first acts key o s slice next; shipments = refl; shiplines = refl; cards = refl };
+        named = names_changed first act acts (order_changes s o) named;
+      }
+
+pub orders_right : (key : Key) (s : Slice) (result : Result Change RuleFault) (o : NewOrder) → AreRight key s result (Order o) (order_seen s o) (order_changes s o)
+orders_right key s result o first acts history slice = record { judged = order_judged first acts key o s slice history; changed = λ ok next. order_changed first acts key o s slice next }

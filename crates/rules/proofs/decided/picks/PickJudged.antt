@@ -1,0 +1,58 @@
+-- A picking judged by its slice is judged as by the acts.
+use Rattle.std.proofs.Common.{◌≡◌, true, not, List, [], ◌∷◌, ap, ◌∙◌}
+use Rattle.std.specs.Prelude.{nat_lt, nat_le, ℤ}
+use Rattle.label.specs.Values.{same_text}
+use Rattle.commands.specs.declared.limits.TheConstants.{ACTS_MAX}
+use Rattle.commands.specs.declared.key.Key.{Key}
+use Rattle.commands.specs.declared.command.Picking.{Picking}
+use Rattle.commands.specs.declared.command.Command.TheVariants.{Pick}
+use Rattle.commands.specs.declared.refusal.Refusal.TheVariants.{ActsFull, UnknownItem, UnknownBin, UnknownLot, UnknownOrder, NoSuchLine, LotRecalled, LotExpired, LotHeld, NotStoreBin, OrderClosed, NotInBin, OverReserved}
+use Rattle.rules.specs.Acts.{Act}
+use Rattle.rules.specs.Standing.{lot_known, today}
+use Rattle.rules.specs.Once.{IsHistory}
+use Rattle.rules.specs.Tables.{tables_of}
+use Rattle.rules.specs.Slices.{IsSlice}
+use Rattle.rules.specs.Seen.{lot_seen}
+use Rattle.rules.specs.Verdict.{first_refusal, verdict, is_past}
+use Rattle.rules.specs.DecidedPick.{is_past_row, pick_seen}
+use Rattle.rules.specs.declared.slice.Slice.{Slice}
+use Rattle.rules.proofs.Tests.{same_text_refl}
+use Rattle.rules.proofs.decided.Decisions.{acts_seen, day_seen}
+use Rattle.rules.proofs.rows.SliceTells.{item_told, bin_told, recall_told}
+use Rattle.rules.proofs.rows.OrderTold.{order_told, open_told, line_told}
+use Rattle.rules.proofs.rows.LotTold.{lot_known_told, in_bin_told}
+use Rattle.rules.proofs.rows.LotStateTold.{past_told, held_told, store_told}
+use Rattle.rules.proofs.rows.StageTold.{reserved_told}
+
+module _ (first : ℤ) (acts : List Act) (key : Key) (p : Picking) (s : Slice) (slice : IsSlice first (record { key = key; command = Pick p }) acts (tables_of first acts) s) (history : IsHistory first acts) where
+  abbrev act : Act
+  act = record { key = key; command = Pick p }
+
+  touched : same_text p.lot.gtin p.lot.gtin ≡ true
+  touched = same_text_refl p.lot.gtin
+
+  named : same_text p.order p.order ≡ true
+  named = same_text_refl p.order
+
+  in_bin : same_text p.bin p.bin ≡ true
+  in_bin = same_text_refl p.bin
+
+  past : is_past_row (lot_seen s p.lot) s.meta.day ≡ is_past (lot_known acts p.lot) (today first acts)
+  past = past_told first acts act s slice p.lot s.meta.day touched ∙ ap (is_past (lot_known acts p.lot)) (day_seen first acts act s slice)
+
+  pub pick_judged : first_refusal (pick_seen s p) ≡ verdict first acts (Pick p)
+  pick_judged =
+      λ i. first_refusal (
+      (nat_le ACTS_MAX (acts_seen first acts act s slice i), ActsFull)
+      ∷ (not (item_told first acts act s slice p.lot.gtin touched i), UnknownItem)
+      ∷ (not (bin_told first acts act s slice p.bin in_bin i), UnknownBin)
+      ∷ (not (lot_known_told first acts act s slice p.lot touched i), UnknownLot)
+      ∷ (not (order_told first acts act s slice p.order named i), UnknownOrder)
+      ∷ (not (line_told first acts act s slice p.order named p.lot.gtin i), NoSuchLine)
+      ∷ (recall_told first acts act s slice p.lot touched i, LotRecalled)
+      ∷ (past i, LotExpired)
+      ∷ (held_told first acts act s slice history p.lot touched i, LotHeld)
+      ∷ (not (store_told first acts act s slice p.bin in_bin i), NotStoreBin)
+      ∷ (not (open_told first acts act s slice p.order named i), OrderClosed)
+      ∷ (nat_lt (in_bin_told first acts act s slice p.bin p.lot touched i) p.qty, NotInBin)
+      ∷ (nat_lt (reserved_told first acts act s slice p.order p.lot touched i) p.qty, OverReserved) ∷ [])

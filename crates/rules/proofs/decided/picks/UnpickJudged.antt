@@ -1,0 +1,46 @@
+-- Units put back judged by their slice are judged as by the acts.
+use Rattle.std.proofs.Common.{◌≡◌, true, not, List, [], ◌∷◌}
+use Rattle.std.specs.Prelude.{nat_lt, nat_le, ℤ}
+use Rattle.label.specs.Values.{same_text}
+use Rattle.commands.specs.declared.limits.TheConstants.{ACTS_MAX}
+use Rattle.commands.specs.declared.key.Key.{Key}
+use Rattle.commands.specs.declared.command.Picking.{Picking}
+use Rattle.commands.specs.declared.command.Command.TheVariants.{Unpick}
+use Rattle.commands.specs.declared.refusal.Refusal.TheVariants.{ActsFull, UnknownItem, UnknownBin, UnknownLot, UnknownOrder, NoSuchLine, OrderClosed, OverStaged}
+use Rattle.rules.specs.Acts.{Act}
+use Rattle.rules.specs.Tables.{tables_of}
+use Rattle.rules.specs.Slices.{IsSlice}
+use Rattle.rules.specs.Verdict.{first_refusal, verdict}
+use Rattle.rules.specs.DecidedPick.{unpick_seen}
+use Rattle.rules.specs.declared.slice.Slice.{Slice}
+use Rattle.rules.proofs.Tests.{same_text_refl}
+use Rattle.rules.proofs.decided.Decisions.{acts_seen}
+use Rattle.rules.proofs.rows.SliceTells.{item_told, bin_told}
+use Rattle.rules.proofs.rows.OrderTold.{order_told, open_told, line_told}
+use Rattle.rules.proofs.rows.LotTold.{lot_known_told}
+use Rattle.rules.proofs.rows.StageTold.{on_stage_told}
+
+module _ (first : ℤ) (acts : List Act) (key : Key) (p : Picking) (s : Slice) (slice : IsSlice first (record { key = key; command = Unpick p }) acts (tables_of first acts) s) where
+  abbrev act : Act
+  act = record { key = key; command = Unpick p }
+
+  touched : same_text p.lot.gtin p.lot.gtin ≡ true
+  touched = same_text_refl p.lot.gtin
+
+  named : same_text p.order p.order ≡ true
+  named = same_text_refl p.order
+
+  in_bin : same_text p.bin p.bin ≡ true
+  in_bin = same_text_refl p.bin
+
+  pub unpick_judged : first_refusal (unpick_seen s p) ≡ verdict first acts (Unpick p)
+  unpick_judged =
+      λ i. first_refusal (
+      (nat_le ACTS_MAX (acts_seen first acts act s slice i), ActsFull)
+      ∷ (not (item_told first acts act s slice p.lot.gtin touched i), UnknownItem)
+      ∷ (not (bin_told first acts act s slice p.bin in_bin i), UnknownBin)
+      ∷ (not (lot_known_told first acts act s slice p.lot touched i), UnknownLot)
+      ∷ (not (order_told first acts act s slice p.order named i), UnknownOrder)
+      ∷ (not (line_told first acts act s slice p.order named p.lot.gtin i), NoSuchLine)
+      ∷ (not (open_told first acts act s slice p.order named i), OrderClosed)
+      ∷ (nat_lt (on_stage_told first acts act s slice p.order p.lot touched i) p.qty, OverStaged) ∷ [])

@@ -1,0 +1,106 @@
+-- The open units of an item as the rows of a slice tell them.
+use Rattle.std.proofs.Common.{◌≡◌, ℕ, ◌+◌, ◌-◌, true, false, ◌&&◌, List, [], ◌∷◌, ◌++◌, refl, ap, sym, subst, ◌∙◌, arith}
+use Rattle.std.specs.Prelude.{if◌then◌else◌, ℤ, Option, Some, None, find, filter, map, flat_map, reverse, option_map}
+use Rattle.std.specs.List.{list_any}
+use Rattle.std.proofs.lemmas.List.{reverse-append}
+use Rattle.label.specs.Values.{same_text}
+use Rattle.commands.specs.Lists.{total}
+use Rattle.commands.specs.declared.command.OrderLine.{OrderLine}
+use Rattle.commands.specs.declared.rows.OrderRow.{OrderRow}
+use Rattle.commands.specs.declared.rows.LineRow.{LineRow}
+use Rattle.commands.specs.declared.rows.StagedRow.{StagedRow}
+use Rattle.rules.specs.Acts.{Act}
+use Rattle.rules.specs.Standing.{Placed, orders, order_named, lines_placed, has_line}
+use Rattle.rules.specs.Planning.{Booking, booking_of, lines_of_item, shipped_of, is_open, order_state, open_units}
+use Rattle.rules.specs.Once.{IsHistory}
+use Rattle.rules.specs.Tables.{order_row}
+use Rattle.rules.specs.Slices.{AreOwn}
+use Rattle.rules.specs.DecidedOrder.{open_units_of, open_units_of_line}
+use Rattle.rules.proofs.Tests.{same_text_is, same_text_turned}
+use Rattle.rules.proofs.Apart.{AllFound}
+use Rattle.rules.proofs.histories.Orders.{same_order, orders_apart, orders_found, orders_single}
+use Rattle.rules.proofs.histories.Bookings.{total_flat}
+use Rattle.rules.proofs.rows.Telling.{rows_tell, some_of_mapped, found_key}
+use Rattle.rules.proofs.rows.DemandsTold.{TellsDemands, listed, line_found, single_of, line_told, no_line, either}
+
+pub total_append : {X : Type 0} (f : X → ℕ) (xs ys : List X) → total f (xs ++ ys) ≡ total f xs + total f ys
+total_append f [] ys = omega arith
+total_append f (x ∷ xs) ys = omega (arith, total_append f xs ys)
+
+pub total_reversed : {X : Type 0} (f : X → ℕ) (xs : List X) → total f (reverse xs) ≡ total f xs
+total_reversed f [] = refl
+total_reversed f (x ∷ xs) = ap (total f) (reverse-append (x ∷ []) xs) ∙ omega (arith, total_append f (reverse xs) (x ∷ []), total_reversed f xs)
+
+module _ (first : ℤ) (acts : List Act) (history : IsHistory first acts) (g : List ℕ) (order_rows : List OrderRow) (line_rows : List LineRow) (staged_rows : List StagedRow)
+    (tells : TellsDemands first acts g order_rows line_rows staged_rows) where
+  abbrev show : Placed → OrderRow
+  show p = record { order = p.order; act = p.act; customer = p.customer; state = order_state first acts p.order }
+
+  -- what a booking still has open
+  abbrev booking_open : Booking → ℕ
+  booking_open b = if is_open first acts b.order then b.ordered - shipped_of first acts b.order b.item else 0
+
+  abbrev open_of : Option Placed → ℕ
+  open_of None = 0
+  open_of (Some p) = total booking_open (lines_of_item g p)
+
+  abbrev order_open : List ℕ → ℕ
+  order_open o = open_of (order_named acts o)
+
+  none_open : (p : Placed) → is_open first acts p.order ≡ false → (ls : List OrderLine) → total booking_open (map (booking_of p) ls) ≡ 0
+  none_open p e [] = refl
+  none_open p e (l ∷ ls) = let z : booking_open (booking_of p l) ≡ 0 = ap (λ b. if b then l.qty - shipped_of first acts p.order l.gtin else 0) e in omega (arith, z, none_open p e ls)
+
+  by_line : (p : Placed) → is_open first acts p.order ≡ true → (x : Option OrderLine) → find (λ l. same_text g l.gtin) p.lines ≡ x
+      → open_units_of_line (option_map (λ l. record { order = p.order; gtin = g; ordered = l.qty; shipped = shipped_of first acts p.order g }) x) ≡ total booking_open (map (booking_of p) (listed x))
+  by_line p e None f = refl
+  by_line p e (Some l) f =
+      let own : g ≡ l.gtin = found_key same_text same_text_is same_text_turned (λ (m : OrderLine). m.gtin) g p.lines l f in
+      let still : booking_open (booking_of p l) ≡ l.qty - shipped_of first acts p.order l.gtin = ap (λ b. if b then l.qty - shipped_of first acts p.order l.gtin else 0) e in
+      let same : l.qty - shipped_of first acts p.order g ≡ l.qty - shipped_of first acts p.order l.gtin = ap (λ (x : List ℕ). l.qty - shipped_of first acts p.order x) own in
+      same ∙ sym still ∙ omega arith
+
+  at_placed : (p : Placed) → order_named acts p.order ≡ Some p → open_units_of g line_rows (show p) ≡ order_open p.order
+  at_placed p named =
+      elim (is_open first acts p.order) as (λ b. is_open first acts p.order ≡ b
+      → (if b then open_units_of_line (find (λ l. same_text p.order l.order && same_text g l.gtin) line_rows) else 0) ≡ total booking_open (lines_of_item g p)) [
+        | true ↦ λ e.
+            ap open_units_of_line (line_told first acts history g order_rows line_rows staged_rows tells p named e) ∙ by_line p e (find (λ l. same_text g l.gtin) p.lines) refl
+            ∙ ap (λ ls. total booking_open (map (booking_of p) ls)) (sym (line_found g p.lines (single_of (orders acts) [] (orders_single first acts history) p.order p named)))
+        | false ↦ λ e. sym (none_open p e (filter (λ l. same_text g l.gtin) p.lines))
+      ] refl
+      ∙ sym (ap open_of named)
+
+  row_told : (r : OrderRow) → order_row first acts r.order ≡ Some r → open_units_of g line_rows r ≡ order_open r.order
+  row_told r e =
+      let m = some_of_mapped show (order_named acts r.order) r e in
+      let P : OrderRow → Type 0 = λ x. open_units_of g line_rows x ≡ order_open x.order in
+      subst P m.2 (at_placed m.0 (ap (λ (x : OrderRow). order_named acts x.order) m.2 ∙ m.1))
+
+  rows_told : (rows : List OrderRow) → AreOwn (λ (r : OrderRow). r.order) (λ o. true) (order_row first acts) rows → total (open_units_of g line_rows) rows ≡ total (λ (r : OrderRow). order_open r.order) rows
+  rows_told [] h = refl
+  rows_told (r ∷ rs) h = λ i. row_told r h.1 i + rows_told rs h.2 i
+
+  none_if_not_needed : (p : Placed) → order_named acts p.order ≡ Some p → is_open first acts p.order && has_line acts p.order g ≡ false → order_open p.order ≡ 0
+  none_if_not_needed p named e =
+      ap open_of named
+      ∙ elim (is_open first acts p.order) as (λ b. is_open first acts p.order ≡ b → total booking_open (lines_of_item g p) ≡ 0) [
+        | true ↦ λ t.
+            let none : list_any (λ l. same_text g l.gtin) p.lines ≡ false =
+            ap (λ q. list_any (λ l. same_text g l.gtin) (lines_placed q)) (sym named) ∙ either first acts history g order_rows line_rows staged_rows tells (is_open first acts p.order) (has_line acts p.order g) e t in
+            ap (λ ls. total booking_open (map (booking_of p) ls)) (no_line g p.lines none)
+        | false ↦ λ t. none_open p t (filter (λ l. same_text g l.gtin) p.lines)
+      ] refl
+
+  each_named : (ps : List Placed) → AllFound same_order (orders acts) ps → total (λ (p : Placed). order_open p.order) ps ≡ total (λ (p : Placed). total booking_open (lines_of_item g p)) ps
+  each_named [] h = refl
+  each_named (p ∷ ps) h = λ i. open_of (h.0 i) + each_named ps h.1 i
+
+  -- the rows tell the open units of the item
+  pub rows_tell_open_units : total (open_units_of g line_rows) order_rows ≡ open_units first acts g
+  rows_tell_open_units =
+      rows_told order_rows tells.orders.own
+      ∙ rows_tell same_text same_text_is same_text_turned (λ (p : Placed). p.order) (λ (r : OrderRow). r.order) show (orders acts) (orders_apart first acts history) (orders_found first acts history)
+      order_open (λ o. is_open first acts o && has_line acts o g) (λ o. true) order_rows tells.orders.found tells.orders.own tells.orders.once none_if_not_needed
+      ∙ each_named (orders acts) (orders_found first acts history) ∙ sym (total_flat booking_open g (orders acts))
+      ∙ sym (total_reversed booking_open (flat_map (lines_of_item g) (orders acts)))

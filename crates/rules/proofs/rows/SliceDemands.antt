@@ -1,0 +1,54 @@
+-- The rows of a slice tell the demands of each item that the command touches.
+use Rattle.std.proofs.Common.{◌≡◌, ℕ, true, false, ◌&&◌, List, [], ◌∷◌, refl, ap, sym, ◌∙◌}
+use Rattle.std.specs.Prelude.{◌||◌, ℤ}
+use Rattle.std.specs.List.{list_any}
+use Rattle.label.specs.Values.{same_text}
+use Rattle.commands.specs.declared.command.OrderLine.{OrderLine}
+use Rattle.commands.specs.declared.rows.OrderRow.{OrderRow}
+use Rattle.commands.specs.declared.rows.LineRow.{LineRow}
+use Rattle.commands.specs.declared.rows.StagedRow.{StagedRow}
+use Rattle.rules.specs.Acts.{Act}
+use Rattle.rules.specs.Postings.{of_item}
+use Rattle.rules.specs.Standing.{has_line, lines_of}
+use Rattle.rules.specs.Planning.{is_open}
+use Rattle.rules.specs.Tables.{tables_of, order_row, line_row, staged_row}
+use Rattle.rules.specs.Touched.{is_touched}
+use Rattle.rules.specs.Slices.{IsSlice, AreRows, OrderItem, OrderLot, has_touched_line, names_order, same_line, same_share}
+use Rattle.rules.specs.declared.slice.Slice.{Slice}
+use Rattle.rules.proofs.Tests.{and_both, or_later, same_text_is}
+use Rattle.rules.proofs.rows.AfterRows.{loosened}
+use Rattle.rules.proofs.rows.DemandsTold.{TellsDemands}
+
+-- The order rows, lines and staged rows of any slice tell the demands of each item that the command touches
+module _ (first : ℤ) (acts : List Act) (act : Act) (s : Slice) (slice : IsSlice first act acts (tables_of first acts) s) (g : List ℕ) (touched : is_touched first act acts g ≡ true) where
+  touched_item : (h : List ℕ) → same_text g h ≡ true → is_touched first act acts h ≡ true
+  touched_item h e = ap (λ (x : List ℕ). is_touched first act acts x) (sym (same_text_is g h e)) ∙ touched
+
+  pub line_touched : (ls : List OrderLine) → list_any (λ l. same_text g l.gtin) ls ≡ true → list_any (λ l. is_touched first act acts l.gtin) ls ≡ true
+  line_touched [] e = e
+  line_touched (l ∷ ls) e = elim (same_text g l.gtin) as (λ b. same_text g l.gtin ≡ b → b || list_any (λ l. same_text g l.gtin) ls ≡ true → is_touched first act acts l.gtin || list_any (λ l. is_touched first act acts l.gtin) ls ≡ true) [
+    | true ↦ λ t f. ap (λ b. b || list_any (λ l. is_touched first act acts l.gtin) ls) (touched_item l.gtin t)
+    | false ↦ λ t f. or_later (is_touched first act acts l.gtin) _ (line_touched ls f)
+  ] refl e
+
+  order_are : AreRows same_text (λ (r : OrderRow). r.order) (λ o. names_order act.command o || (is_open first acts o && has_touched_line first act acts o)) (λ o. names_order act.command o || has_touched_line first act acts o) (order_row first acts) s.rows.orders
+  unfolding tables_of
+  order_are = slice.orders
+
+  line_are : AreRows same_line (λ (r : LineRow). (r.order, r.gtin)) (λ (k : OrderItem). names_order act.command k.0 || (is_open first acts k.0 && is_touched first act acts k.1)) (λ (k : OrderItem). names_order act.command k.0 || is_touched first act acts k.1) (λ k. line_row first acts k.0 k.1) s.rows.lines
+  unfolding tables_of
+  line_are = slice.lines
+
+  staged_are : AreRows same_share (λ (r : StagedRow). (r.order, r.lot)) (λ (k : OrderLot). is_touched first act acts k.1.gtin) (λ (k : OrderLot). is_touched first act acts k.1.gtin) (λ k. staged_row first acts k.0 k.1) s.rows.staged
+  unfolding tables_of
+  staged_are = slice.staged
+
+  pub slice_tells_demands : TellsDemands first acts g s.rows.orders s.rows.lines s.rows.staged
+  slice_tells_demands = record {
+    orders = loosened same_text (λ (r : OrderRow). r.order) _ (λ o. is_open first acts o && has_line acts o g) _ (λ o. true) (order_row first acts) (order_row first acts) s.rows.orders
+        (λ o e. let two = and_both (is_open first acts o) (has_line acts o g) e in or_later (names_order act.command o) _ (λ i. two.0 i && line_touched (lines_of acts o) two.1 i)) (λ o e. refl) (λ o. refl) order_are;
+    lines = loosened same_line (λ (r : LineRow). (r.order, r.gtin)) _ (λ k. is_open first acts k.0 && same_text g k.1) _ (λ k. true) (λ k. line_row first acts k.0 k.1) (λ k. line_row first acts k.0 k.1) s.rows.lines
+        (λ k e. let two = and_both (is_open first acts k.0) (same_text g k.1) e in or_later (names_order act.command k.0) _ (λ i. two.0 i && touched_item k.1 two.1 i)) (λ k e. refl) (λ k. refl) line_are;
+    staged = loosened same_share (λ (r : StagedRow). (r.order, r.lot)) _ (λ k. of_item g k.1) _ (λ k. true) (λ k. staged_row first acts k.0 k.1) (λ k. staged_row first acts k.0 k.1) s.rows.staged
+        (λ k e. touched_item k.1.gtin e) (λ k e. refl) (λ k. refl) staged_are;
+  }

@@ -1,0 +1,36 @@
+-- What the slice of any command tells of the units of a lot that are staged and reserved for an order, if it touches the lot.
+use Rattle.std.proofs.Common.{◌≡◌, ℕ, true, false, List, refl, ap, sym, ◌∙◌}
+use Rattle.std.specs.Prelude.{◌==◌, ◌&&◌, if◌then◌else◌, find, ℤ, Some, None}
+use Rattle.label.specs.Values.{same_text}
+use Rattle.label.specs.declared.lot.LotId.{LotId}
+use Rattle.rules.specs.Acts.{Act}
+use Rattle.rules.specs.Postings.{is_lot}
+use Rattle.rules.specs.Planning.{staged_of_lot, reserved}
+use Rattle.rules.specs.Tables.{tables_of, if_any, staged_row, reserved_row}
+use Rattle.rules.specs.Touched.{is_touched}
+use Rattle.rules.specs.Slices.{IsSlice}
+use Rattle.rules.specs.SeenStages.{reserved_qty, reserved_seen, staged_qty, staged_found, on_stage_seen}
+use Rattle.rules.specs.declared.slice.Slice.{Slice}
+use Rattle.rules.proofs.Tests.{is_zero}
+
+-- what a row of a quantity, if any, has
+any_staged : (q : ℕ) (o : List ℕ) (l : LotId) → staged_qty (if_any q (record { order = o; lot = l; qty = q })) ≡ q
+any_staged q o l = elim (q == 0) as (λ t. (q == 0) ≡ t → staged_qty (if t then None else Some (record { order = o; lot = l; qty = q })) ≡ q) [ true ↦ λ e. sym (is_zero q e) | false ↦ λ e. refl ] refl
+
+any_reserved : (q : ℕ) (o : List ℕ) (l : LotId) → reserved_qty (if_any q (record { order = o; lot = l; qty = q })) ≡ q
+any_reserved q o l = elim (q == 0) as (λ t. (q == 0) ≡ t → reserved_qty (if t then None else Some (record { order = o; lot = l; qty = q })) ≡ q) [ true ↦ λ e. sym (is_zero q e) | false ↦ λ e. refl ] refl
+
+module _ (first : ℤ) (acts : List Act) (act : Act) (s : Slice) (slice : IsSlice first act acts (tables_of first acts) s) where
+  pub found_staged : (o : List ℕ) (l : LotId) → is_touched first act acts l.gtin ≡ true → staged_found s.rows.staged o l ≡ staged_row first acts o l
+  unfolding tables_of
+  found_staged o l t = slice.staged.found (o, l) t
+
+  pub on_stage_told : (o : List ℕ) (l : LotId) → is_touched first act acts l.gtin ≡ true → on_stage_seen s o l ≡ staged_of_lot first acts o l
+  on_stage_told o l t = ap staged_qty (found_staged o l t) ∙ any_staged (staged_of_lot first acts o l) o l
+
+  found_reserved : (o : List ℕ) (l : LotId) → is_touched first act acts l.gtin ≡ true → find (λ r. same_text o r.order && is_lot l r.lot) s.rows.reserved ≡ reserved_row first acts o l
+  unfolding tables_of
+  found_reserved o l t = slice.reserved.found (o, l) t
+
+  pub reserved_told : (o : List ℕ) (l : LotId) → is_touched first act acts l.gtin ≡ true → reserved_seen s o l ≡ reserved first acts o l
+  reserved_told o l t = ap reserved_qty (found_reserved o l t) ∙ any_reserved (reserved first acts o l) o l

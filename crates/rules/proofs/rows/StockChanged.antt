@@ -1,0 +1,122 @@
+-- Stock rows where the units of one lot in one bin have changed, and what a posting out of a bin or into a bin changes.
+use Rattle.std.proofs.Common.{◌≡◌, ℕ, ◌+◌, ◌-◌, ◌≤◌, Bool, true, false, ◌&&◌, not, List, [], ◌∷◌, ◌++◌, refl, ap, sym, ◌∙◌, arith}
+use Rattle.std.specs.Prelude.{◌==◌, ◌||◌, if◌then◌else◌, ℤ, Option, Some, None, filter}
+use Rattle.std.specs.List.{list_any, cons_option}
+use Rattle.label.specs.Values.{same_text}
+use Rattle.label.specs.declared.lot.LotId.{LotId}
+use Rattle.commands.specs.declared.rows.StockRow.{StockRow}
+use Rattle.rules.specs.Acts.{Act}
+use Rattle.rules.specs.Postings.{Place, InBin, balance, is_lot, is_bin}
+use Rattle.rules.specs.Ledger.{posting, postings}
+use Rattle.rules.specs.Planning.{in_bin}
+use Rattle.rules.specs.Tables.{if_any, stock_row}
+use Rattle.rules.specs.Slices.{AreRows, LotBin, changed, same_cell}
+use Rattle.rules.specs.SeenLots.{stock_found, stock_put, stock_gone, stock_rows_with}
+use Rattle.rules.proofs.Tests.{or_false, same_text_refl, is_lot_refl, or_later}
+use Rattle.rules.proofs.Apart.{none_in_filter}
+use Rattle.rules.proofs.histories.Cells.{Legal, CanTake}
+use Rattle.rules.proofs.histories.Balances.{bin_balance-posted}
+use Rattle.rules.proofs.rows.SameKeys.{same_cell_is, same_cell_refl, same_cell_turned}
+use Rattle.rules.proofs.rows.PlaceRows.{and_turned}
+use Rattle.rules.proofs.rows.AfterRows.{rows_after, put_one}
+use Rattle.rules.proofs.rows.WithoutRows.{rows_without}
+
+-- Rows
+
+-- what passes among the rows kept passes among all
+pub any_kept : {X : Type 0} (test keep : X → Bool) (xs : List X) → list_any test (filter keep xs) ≡ true → list_any test xs ≡ true
+any_kept test keep xs e = elim (list_any test xs) as (λ b. list_any test xs ≡ b → b ≡ true) [ true ↦ λ t. refl | false ↦ λ t. let f = none_in_filter test keep xs t in cc ] refl
+
+module _ (l : LotId) (b : List ℕ) (q : ℕ) where
+  abbrev pub units_row : ℕ → StockRow
+  units_row n = record { lot = l; bin = b; qty = n }
+
+  -- a look-up of stock rows where the lot has q units in the bin
+  abbrev pub with_units : (LotBin → Option StockRow) → LotBin → Option StockRow
+  with_units row k = if same_cell k (l, b) then if_any q (units_row q) else row k
+
+  -- the rows so changed are those of that look-up
+  pub stock_rows_are : (needed : LotBin → Bool) (row : LotBin → Option StockRow) (rows : List StockRow)
+      → AreRows same_cell (λ (r : StockRow). (r.lot, r.bin)) needed (λ k. true) row rows → AreRows same_cell (λ (r : StockRow). (r.lot, r.bin)) needed (λ k. true) (with_units row) (stock_rows_with l b q rows)
+  stock_rows_are needed row rows are =
+      elim (q == 0) as (λ t. AreRows same_cell (λ (r : StockRow). (r.lot, r.bin)) needed (λ k. true) (λ k. if same_cell k (l, b) then if t then None else Some (units_row q) else row k) ((if t then [] else units_row q ∷ []) ++ filter (λ r. not (is_lot l r.lot && same_text b r.bin)) rows)) [
+        | true ↦ rows_without same_cell same_cell_is same_cell_refl same_cell_turned (λ (r : StockRow). (r.lot, r.bin)) needed row (units_row q) rows are
+        | false ↦ rows_after same_cell same_cell_is same_cell_refl same_cell_turned (λ (r : StockRow). (r.lot, r.bin)) needed row (units_row q) rows are
+      ]
+
+  -- no other bin comes into them
+  pub bins_with : (c : List ℕ) (rows : List StockRow) → list_any (λ (r : StockRow). same_text c r.bin) (stock_rows_with l b q rows) ≡ true → same_text c b || list_any (λ (r : StockRow). same_text c r.bin) rows ≡ true
+  bins_with c rows = elim (q == 0) as (λ t. list_any (λ (r : StockRow). same_text c r.bin) ((if t then [] else units_row q ∷ []) ++ filter (λ r. not (is_lot l r.lot && same_text b r.bin)) rows) ≡ true → same_text c b || list_any (λ (r : StockRow). same_text c r.bin) rows ≡ true) [
+    | true ↦ λ e. or_later (same_text c b) _ (any_kept (λ (r : StockRow). same_text c r.bin) (λ r. not (is_lot l r.lot && same_text b r.bin)) rows e)
+    | false ↦ λ e. either (same_text c b) _ _ (any_kept (λ (r : StockRow). same_text c r.bin) (λ r. not (is_lot l r.lot && same_text b r.bin)) rows) e
+  ]
+    where
+      either : (x y z : Bool) → (y ≡ true → z ≡ true) → x || y ≡ true → x || z ≡ true
+      either true y z h e = refl
+      either false y z h e = h e
+
+  -- the row put or dropped makes that look-up of the one before
+  pub cell_changed : (row : LotBin → Option StockRow) (p : ℕ) (rows : List StockRow) → stock_found rows l b ≡ row (l, b) → row (l, b) ≡ if_any p (units_row p)
+      → (k : LotBin) → changed (λ (r : StockRow). is_lot k.0 r.lot && same_text k.1 r.bin) (stock_put l b q) (stock_gone rows l b q) (row k) ≡ with_units row k
+  cell_changed row p rows found there k =
+      elim (q == 0) as (λ t. changed (λ (r : StockRow). is_lot k.0 r.lot && same_text k.1 r.bin) (if t then [] else units_row q ∷ []) (if t then cons_option (stock_found rows l b) [] else []) (row k) ≡ (if same_cell k (l, b) then if t then None else Some (units_row q) else row k)) [
+        | true ↦ ap (λ x. if list_any (λ (r : StockRow). is_lot k.0 r.lot && same_text k.1 r.bin) (cons_option x []) then None else row k) (found ∙ there) ∙ gone
+        | false ↦ sym (put_one (same_cell k (l, b)) (units_row q) (row k))
+      ]
+    where
+      at_cell : (x : Option StockRow) → row (l, b) ≡ x → same_cell k (l, b) ≡ true → row k ≡ x
+      at_cell x e t = ap row (same_cell_is k (l, b) t) ∙ e
+
+      gone : (if list_any (λ (r : StockRow). is_lot k.0 r.lot && same_text k.1 r.bin) (cons_option (if_any p (units_row p)) []) then None else row k) ≡ (if same_cell k (l, b) then None else row k)
+      gone = elim (p == 0) as (λ z. row (l, b) ≡ (if z then None else Some (units_row p)) → (if list_any (λ (r : StockRow). is_lot k.0 r.lot && same_text k.1 r.bin) (cons_option (if z then None else Some (units_row p)) []) then None else row k) ≡ (if same_cell k (l, b) then None else row k)) [
+        | true ↦ λ e. elim (same_cell k (l, b)) as (λ t. same_cell k (l, b) ≡ t → row k ≡ (if t then None else row k)) [ true ↦ at_cell None e | false ↦ λ t. refl ] refl
+        | false ↦ λ e. ap (λ t. if t then None else row k) (or_false (same_cell k (l, b)))
+      ] there
+
+-- Acts
+
+module _ (first : ℤ) (acts after : List Act) (l : LotId) (b : List ℕ) (q : ℕ) where
+  -- where an act leaves the lot q units in the bin, and changes no other lot or bin, the look-up is that of its stock rows
+  pub stock_row_with : in_bin first after b l ≡ q → ((m : LotId) (c : List ℕ) → same_cell (m, c) (l, b) ≡ false → in_bin first after c m ≡ in_bin first acts c m)
+      → (k : LotBin) → with_units l b q (λ k. stock_row first acts k.0 k.1) k ≡ stock_row first after k.0 k.1
+  stock_row_with here elsewhere k = elim (same_cell k (l, b)) as (λ t. same_cell k (l, b) ≡ t → (if t then if_any q (units_row l b q q) else stock_row first acts k.0 k.1) ≡ stock_row first after k.0 k.1) [
+    | true ↦ λ t. ap (λ n. if_any n (units_row l b q n)) (sym here) ∙ ap (λ (x : LotBin). stock_row first after x.0 x.1) (sym (same_cell_is k (l, b) t))
+    | false ↦ λ t. ap (λ n. if_any n (record { lot = k.0; bin = k.1; qty = n })) (sym (elsewhere k.0 k.1 t))
+  ] refl
+
+module _ (first : ℤ) (acts after : List Act) (n : ℕ) (l : LotId) (b : List ℕ) (q : ℕ) (legal : Legal (postings first acts)) where
+  own_cell : same_text b b && is_lot l l ≡ true
+  own_cell = λ i. same_text_refl b i && is_lot_refl l i
+
+  other_cell : (m : LotId) (c : List ℕ) → same_cell (m, c) (l, b) ≡ false → same_text c b && is_lot m l ≡ false
+  other_cell m c e = and_turned (same_text c b) (is_lot m l) ∙ e
+
+  none_there : (a t : Bool) → a ≡ false → (if a && t then q else 0) ≡ 0
+  none_there true t e = let f : true ≡ false = e in cc
+  none_there false t e = refl
+
+  -- units that go out of a bin, to a place that is none
+  module _ (to : Place) (posts : postings first after ≡ posting n l (InBin b) to q ++ postings first acts) (no_bin : (c : List ℕ) → is_bin c to ≡ false) (there : q ≤ in_bin first acts b l) where
+    out_of_cell : (m : LotId) (c : List ℕ) → in_bin first after c m + (if same_text c b && is_lot m l then q else 0) ≡ in_bin first acts c m
+    out_of_cell m c =
+        let e = bin_balance-posted c m n l (InBin b) to q (postings first acts) there legal in
+        ap (λ ps. balance (is_bin c) (is_lot m) ps + (if same_text c b && is_lot m l then q else 0)) posts ∙ omega (arith, e, none_there (is_bin c to) (is_lot m l) (no_bin c))
+
+    pub taken_out : in_bin first after b l ≡ in_bin first acts b l - q
+    taken_out = let e = out_of_cell l b in let f = ap (λ t. if t then q else 0) own_cell in omega (arith, e, f)
+
+    pub taken_elsewhere : (m : LotId) (c : List ℕ) → same_cell (m, c) (l, b) ≡ false → in_bin first after c m ≡ in_bin first acts c m
+    taken_elsewhere m c h = let e = out_of_cell m c in let f = ap (λ t. if t then q else 0) (other_cell m c h) in omega (arith, e, f)
+
+  -- units that come into a bin, from a place that is none
+  module _ (from : Place) (posts : postings first after ≡ posting n l from (InBin b) q ++ postings first acts) (no_bin : (c : List ℕ) → is_bin c from ≡ false) (there : CanTake from l q (postings first acts)) where
+    into_cell : (m : LotId) (c : List ℕ) → in_bin first after c m ≡ in_bin first acts c m + (if same_text c b && is_lot m l then q else 0)
+    into_cell m c =
+        let e = bin_balance-posted c m n l from (InBin b) q (postings first acts) there legal in
+        ap (λ ps. balance (is_bin c) (is_lot m) ps) posts ∙ omega (arith, e, none_there (is_bin c from) (is_lot m l) (no_bin c))
+
+    pub brought_in : in_bin first after b l ≡ in_bin first acts b l + q
+    brought_in = let e = into_cell l b in let f = ap (λ t. if t then q else 0) own_cell in omega (arith, e, f)
+
+    pub brought_elsewhere : (m : LotId) (c : List ℕ) → same_cell (m, c) (l, b) ≡ false → in_bin first after c m ≡ in_bin first acts c m
+    brought_elsewhere m c h = let e = into_cell m c in let f = ap (λ t. if t then q else 0) (other_cell m c h) in omega (arith, e, f)

@@ -1,0 +1,26 @@
+//! Rows that are kept where they are wanted or found.
+
+ghost use Rattle.std.specs.Prelude.{◌≡◌, ◌++◌, [], ◌∷◌, if◌then◌else◌, OnOk};
+ghost use Rattle.std.specs.List.{cons_option};
+
+use std::alloc::AllocError;
+
+/// One more row, if it is wanted.
+pub fn push_if<T: Copy>(rows: &mut Vec<T>, wanted: bool, row: T) -> Result<(), AllocError>
+    ensures { OnOk result (rows.new.items ≡ rows.old.items ++ (if wanted then row ∷ [] else [])) }
+{
+    if wanted {
+        rows.push(row)?;
+    }
+    Ok(())
+}
+
+/// One more row, if there is one.
+pub fn push_found<T: Copy>(rows: &mut Vec<T>, row: Option<T>) -> Result<(), AllocError>
+    ensures { OnOk result (rows.new.items ≡ rows.old.items ++ cons_option row []) }
+{
+    if let Some(r) = row {
+        rows.push(r)?;
+    }
+    Ok(())
+}

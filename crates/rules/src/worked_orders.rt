@@ -1,0 +1,386 @@
+// The worked examples of orders: the rows that a command puts and drops, whole.
+
+use crate::samples::{
+    BREAD, Bin, Item, KnownLot, Line, OATS, Ordered, Recalled, Reserved, Sample, Staged, Stock,
+    Taken, Told,
+};
+use crate::worked::{OATS_ALONE, ONE_ORDER, THREE_LOTS, TWO_LOTS, TWO_ORDERS, Worked, expect};
+use commands::limits::ACTS_MAX;
+use commands::{BinKind, OrderState};
+
+// Before the last act, two orders of both items. Of the first 4 units are shipped, for the second 3
+// are staged. There is no bread.
+const PARTLY_SERVED: Sample = Sample {
+    acts: ACTS_MAX - 1,
+    items: &[Item(OATS, "Oat drink"), Item(BREAD, "Rye bread")],
+    lines: &[
+        Line("S-1", OATS, 12, 4),
+        Line("S-1", BREAD, 7, 0),
+        Line("S-2", OATS, 12, 0),
+        Line("S-2", BREAD, 2, 0),
+    ],
+    staged: &[Staged("S-2", "L2", 3)],
+    reserved: &[
+        Reserved("S-1", "L2", 8),
+        Reserved("S-2", "L2", 2),
+        Reserved("S-2", "L1", 7),
+    ],
+    ..TWO_ORDERS
+};
+
+static CANCELLING: [Worked; 3] = [
+    // The other order is served again from the first lots.
+    Worked {
+        before: THREE_LOTS,
+        told: Told::Cancel("S-1"),
+        changes: "meta 2026-05-04 11 0\n\
+            put order S-1 8 Corner Shop CANCELLED\n\
+            put reserved S-2 09506000134352 L0 5\n\
+            put reserved S-2 09506000134352 L2 7\n\
+            drop reserved S-1 09506000134352 L0 5\n\
+            drop reserved S-1 09506000134352 L2 7\n\
+            drop reserved S-2 09506000134352 L1 9\n\
+            {\"act\":11}",
+    },
+    // An order before it keeps what it has.
+    Worked {
+        before: THREE_LOTS,
+        told: Told::Cancel("S-2"),
+        changes: "meta 2026-05-04 11 0\n\
+            put order S-2 9 Harbour Cafe CANCELLED\n\
+            drop reserved S-2 09506000134352 L2 3\n\
+            drop reserved S-2 09506000134352 L1 9\n\
+            {\"act\":11}",
+    },
+    Worked {
+        before: PARTLY_SERVED,
+        told: Told::Cancel("S-1"),
+        changes: "meta 2026-05-04 1000000000000 0\n\
+            put order S-1 8 Corner Shop CANCELLED\n\
+            put reserved S-2 09506000134352 L2 9\n\
+            drop reserved S-1 09506000134352 L2 8\n\
+            drop reserved S-2 09506000134352 L1 7\n\
+            {\"act\":1000000000000}",
+    },
+];
+
+#[test]
+fn cancels_orders(rt: HostRuntime) {
+    expect(&rt, rt.alloc(), CANCELLING.as_slice());
+}
+
+// After the picking of lot L0, and after that of lot L2: all of S-1 is staged.
+const L0_STAGED: Sample = Sample {
+    acts: 11,
+    stock: &[Stock("L1", "A-01", 10), Stock("L2", "A-01", 10)],
+    staged: &[Staged("S-1", "L0", 5)],
+    reserved: &[
+        Reserved("S-1", "L2", 7),
+        Reserved("S-2", "L2", 3),
+        Reserved("S-2", "L1", 9),
+    ],
+    ..THREE_LOTS
+};
+
+const ALL_STAGED: Sample = Sample {
+    acts: 12,
+    stock: &[Stock("L1", "A-01", 10), Stock("L2", "A-01", 3)],
+    staged: &[Staged("S-1", "L0", 5), Staged("S-1", "L2", 7)],
+    reserved: &[Reserved("S-2", "L2", 3), Reserved("S-2", "L1", 9)],
+    ..L0_STAGED
+};
+
+static PICKING: [Worked; 4] = [
+    // All that is in the bin. What is reserved for others stays.
+    Worked {
+        before: THREE_LOTS,
+        told: Told::Pick("S-1", "L0", "A-01", 5),
+        changes: "meta 2026-05-04 11 0\n\
+            put staged S-1 09506000134352 L0 5\n\
+            drop stock 09506000134352 L0 A-01 5\n\
+            drop reserved S-1 09506000134352 L0 5\n\
+            {\"act\":11}",
+    },
+    Worked {
+        before: L0_STAGED,
+        told: Told::Pick("S-1", "L2", "A-01", 7),
+        changes: "meta 2026-05-04 12 0\n\
+            put stock 09506000134352 L2 A-01 3\n\
+            put staged S-1 09506000134352 L2 7\n\
+            drop reserved S-1 09506000134352 L2 7\n\
+            {\"act\":12}",
+    },
+    // The later order may be served first.
+    Worked {
+        before: L0_STAGED,
+        told: Told::Pick("S-2", "L2", "A-01", 3),
+        changes: "meta 2026-05-04 12 0\n\
+            put stock 09506000134352 L2 A-01 7\n\
+            put staged S-2 09506000134352 L2 3\n\
+            drop reserved S-2 09506000134352 L2 3\n\
+            {\"act\":12}",
+    },
+    // More units of a lot onto a stage that has some, in the last act.
+    Worked {
+        before: Sample {
+            acts: ACTS_MAX - 1,
+            staged: &[Staged("S-1", "L0", 5), Staged("S-1", "L2", 4)],
+            stock: &[Stock("L1", "A-01", 10), Stock("L2", "A-01", 6)],
+            reserved: &[
+                Reserved("S-1", "L2", 3),
+                Reserved("S-2", "L2", 3),
+                Reserved("S-2", "L1", 9),
+            ],
+            ..L0_STAGED
+        },
+        told: Told::Pick("S-1", "L2", "A-01", 2),
+        changes: "meta 2026-05-04 1000000000000 0\n\
+            put stock 09506000134352 L2 A-01 4\n\
+            put staged S-1 09506000134352 L2 6\n\
+            put reserved S-1 09506000134352 L2 1\n\
+            {\"act\":1000000000000}",
+    },
+];
+
+#[test]
+fn picks_units(rt: HostRuntime) {
+    expect(&rt, rt.alloc(), PICKING.as_slice());
+}
+
+static UNPICKING: [Worked; 3] = [
+    // The order is served again at its place, and the later one is short of what lies in a HOLD bin.
+    Worked {
+        before: ALL_STAGED,
+        told: Told::Unpick("S-1", "L2", "Q-01", 3),
+        changes: "meta 2026-05-04 13 0\n\
+            put stock 09506000134352 L2 Q-01 3\n\
+            put staged S-1 09506000134352 L2 4\n\
+            put reserved S-1 09506000134352 L2 3\n\
+            put reserved S-2 09506000134352 L1 10\n\
+            drop reserved S-2 09506000134352 L2 3\n\
+            {\"act\":13}",
+    },
+    // Units picked and put back where they were leave all as it was.
+    Worked {
+        before: ALL_STAGED,
+        told: Told::Unpick("S-1", "L2", "A-01", 7),
+        changes: "meta 2026-05-04 13 0\n\
+            put stock 09506000134352 L2 A-01 10\n\
+            put reserved S-1 09506000134352 L2 7\n\
+            drop staged S-1 09506000134352 L2 7\n\
+            {\"act\":13}",
+    },
+    Worked {
+        before: L0_STAGED,
+        told: Told::Unpick("S-1", "L0", "A-01", 5),
+        changes: "meta 2026-05-04 12 0\n\
+            put stock 09506000134352 L0 A-01 5\n\
+            put reserved S-1 09506000134352 L0 5\n\
+            drop staged S-1 09506000134352 L0 5\n\
+            {\"act\":12}",
+    },
+];
+
+#[test]
+fn puts_units_back(rt: HostRuntime) {
+    expect(&rt, rt.alloc(), UNPICKING.as_slice());
+}
+
+// Two lots of one expiry, whose texts are in the other order than their receipts, one of them in a
+// HOLD bin too; a held lot, a recalled one, one that expired yesterday, one that expires today.
+const LOTS_OF_ALL_KINDS: Sample = Sample {
+    acts: 20,
+    bins: &[Bin("A-01", BinKind::Store), Bin("Q-01", BinKind::Hold)],
+    lots: &[
+        KnownLot("A9", "2026-06-30", 7, false),
+        KnownLot("B1", "2026-06-30", 6, false),
+        KnownLot("L5", "2026-05-05", 8, true),
+        KnownLot("L6", "2026-05-05", 9, false),
+        KnownLot("L7", "2026-05-03", 10, false),
+        KnownLot("L8", "2026-05-04", 11, false),
+    ],
+    recalls: &[Recalled("L6")],
+    stock: &[
+        Stock("A9", "A-01", 5),
+        Stock("B1", "A-01", 5),
+        Stock("B1", "Q-01", 50),
+        Stock("L5", "A-01", 50),
+        Stock("L6", "A-01", 50),
+        Stock("L7", "A-01", 50),
+        Stock("L8", "A-01", 1),
+    ],
+    ..OATS_ALONE
+};
+
+// The two orders, and a second item.
+const TWO_ITEMS: Sample = Sample {
+    items: &[Item(OATS, "Oat drink"), Item(BREAD, "Rye bread")],
+    ..TWO_ORDERS
+};
+
+// 11 units less than open orders may want, and an order that is closed.
+const NEARLY_ALL_ORDERED: Sample = Sample {
+    acts: ACTS_MAX - 1,
+    orders: &[
+        Taken("S-2", 8, "Harbour Cafe", OrderState::Open),
+        Taken("S-3", 9, "Harbour Cafe", OrderState::Cancelled),
+    ],
+    lines: &[
+        Line("S-2", OATS, 1_000_000_000, 11),
+        Line("S-3", OATS, 1_000_000, 0),
+    ],
+    ..OATS_ALONE
+};
+
+static ORDERING: [Worked; 5] = [
+    Worked {
+        before: TWO_LOTS,
+        told: Told::Order("S-1", "Corner Shop", &[Ordered(OATS, 12)]),
+        changes: "meta 2026-05-04 8 0\n\
+            put order S-1 8 Corner Shop OPEN\n\
+            put line S-1 09506000134352 12 0\n\
+            put reserved S-1 09506000134352 L2 10\n\
+            put reserved S-1 09506000134352 L1 2\n\
+            {\"act\":8,\"short\":0}",
+    },
+    // The second order gets what is left.
+    Worked {
+        before: ONE_ORDER,
+        told: Told::Order("S-2", "Harbour Cafe", &[Ordered(OATS, 12)]),
+        changes: "meta 2026-05-04 9 0\n\
+            put order S-2 9 Harbour Cafe OPEN\n\
+            put line S-2 09506000134352 12 0\n\
+            put reserved S-2 09506000134352 L1 8\n\
+            {\"act\":9,\"short\":4}",
+    },
+    // Two lots of one expiry are used in the order in which they first came. Held, recalled and
+    // expired lots are not used, nor is what stands in a HOLD bin.
+    Worked {
+        before: LOTS_OF_ALL_KINDS,
+        told: Told::Order("S-1", "Corner Shop", &[Ordered(OATS, 20)]),
+        changes: "meta 2026-05-04 21 0\n\
+            put order S-1 21 Corner Shop OPEN\n\
+            put line S-1 09506000134352 20 0\n\
+            put reserved S-1 09506000134352 L8 1\n\
+            put reserved S-1 09506000134352 B1 5\n\
+            put reserved S-1 09506000134352 A9 5\n\
+            {\"act\":21,\"short\":9}",
+    },
+    // What both lines are short of, and not what another order is short of.
+    Worked {
+        before: TWO_ITEMS,
+        told: Told::Order("S-3", "Corner Shop", &[Ordered(OATS, 3), Ordered(BREAD, 7)]),
+        changes: "meta 2026-05-04 10 0\n\
+            put order S-3 10 Corner Shop OPEN\n\
+            put line S-3 09506000134352 3 0\n\
+            put line S-3 04012345000016 7 0\n\
+            {\"act\":10,\"short\":10}",
+    },
+    Worked {
+        before: NEARLY_ALL_ORDERED,
+        told: Told::Order("S-1", "Corner Shop", &[Ordered(OATS, 11)]),
+        changes: "meta 2026-05-04 1000000000000 0\n\
+            put order S-1 1000000000000 Corner Shop OPEN\n\
+            put line S-1 09506000134352 11 0\n\
+            {\"act\":1000000000000,\"short\":11}",
+    },
+];
+
+#[test]
+fn takes_orders(rt: HostRuntime) {
+    expect(&rt, rt.alloc(), ORDERING.as_slice());
+}
+
+// After the order S-1 is picked: 5 of lot L0 and 7 of lot L2.
+const PICKED: Sample = Sample {
+    acts: 12,
+    lots: &[
+        KnownLot("L1", "2026-06-30", 6, false),
+        KnownLot("L2", "2026-05-31", 7, false),
+        KnownLot("L0", "2026-05-10", 10, false),
+    ],
+    stock: &[Stock("L1", "A-01", 10), Stock("L2", "A-01", 3)],
+    staged: &[Staged("S-1", "L0", 5), Staged("S-1", "L2", 7)],
+    reserved: &[Reserved("S-2", "L2", 3), Reserved("S-2", "L1", 9)],
+    ..TWO_ORDERS
+};
+
+// After lot L2 is recalled then.
+const PICKED_AND_RECALLED: Sample = Sample {
+    acts: 13,
+    bins: &[Bin("A-01", BinKind::Store), Bin("RETURNS", BinKind::Hold)],
+    recalls: &[Recalled("L2")],
+    stock: &[
+        Stock("L1", "A-01", 10),
+        Stock("L2", "A-01", 3),
+        Stock("L2", "RETURNS", 7),
+    ],
+    staged: &[Staged("S-1", "L0", 5)],
+    reserved: &[Reserved("S-1", "L1", 7), Reserved("S-2", "L1", 3)],
+    ..PICKED
+};
+
+// The rest of an order of two items, the other of which is shipped. Lot L1 is on two stages.
+const REST_STAGED: Sample = Sample {
+    acts: ACTS_MAX - 1,
+    items: &[Item(OATS, "Oat drink"), Item(BREAD, "Rye bread")],
+    bins: &[Bin("A-01", BinKind::Store), Bin("Q-01", BinKind::Hold)],
+    stock: &[Stock("L1", "A-01", 2), Stock("L1", "Q-01", 1)],
+    lines: &[
+        Line("S-1", BREAD, 3, 3),
+        Line("S-2", OATS, 5, 0),
+        Line("S-1", OATS, 10, 4),
+    ],
+    staged: &[Staged("S-2", "L1", 5), Staged("S-1", "L1", 6)],
+    reserved: &[],
+    ..TWO_ORDERS
+};
+
+static SHIPPING: [Worked; 3] = [
+    Worked {
+        before: PICKED,
+        told: Told::Ship("S-1"),
+        changes: "meta 2026-05-04 13 1\n\
+            put card 09506000134352 L0 13 2026-05-04 SHIPMENT 1 -5 0\n\
+            put card 09506000134352 L2 13 2026-05-04 SHIPMENT 1 -7 3\n\
+            put order S-1 8 Corner Shop DONE\n\
+            put line S-1 09506000134352 12 12\n\
+            put shipment 1 13 2026-05-04 S-1\n\
+            put shipline 1 09506000134352 L0 5\n\
+            put shipline 1 09506000134352 L2 7\n\
+            drop staged S-1 09506000134352 L0 5\n\
+            drop staged S-1 09506000134352 L2 7\n\
+            {\"act\":13,\"shipment\":1}",
+    },
+    // What is not shipped in full stays open.
+    Worked {
+        before: PICKED_AND_RECALLED,
+        told: Told::Ship("S-1"),
+        changes: "meta 2026-05-04 14 1\n\
+            put card 09506000134352 L0 14 2026-05-04 SHIPMENT 1 -5 0\n\
+            put line S-1 09506000134352 12 5\n\
+            put shipment 1 14 2026-05-04 S-1\n\
+            put shipline 1 09506000134352 L0 5\n\
+            drop staged S-1 09506000134352 L0 5\n\
+            {\"act\":14,\"shipment\":1}",
+    },
+    // What is staged for another order stays, and is in the house.
+    Worked {
+        before: REST_STAGED,
+        told: Told::Ship("S-1"),
+        changes: "meta 2026-05-04 1000000000000 1\n\
+            put card 09506000134352 L1 1000000000000 2026-05-04 SHIPMENT 1 -6 8\n\
+            put order S-1 8 Corner Shop DONE\n\
+            put line S-1 04012345000016 3 3\n\
+            put line S-1 09506000134352 10 10\n\
+            put shipment 1 1000000000000 2026-05-04 S-1\n\
+            put shipline 1 09506000134352 L1 6\n\
+            drop staged S-1 09506000134352 L1 6\n\
+            {\"act\":1000000000000,\"shipment\":1}",
+    },
+];
+
+#[test]
+fn ships_orders(rt: HostRuntime) {
+    expect(&rt, rt.alloc(), SHIPPING.as_slice());
+}
