@@ -5,9 +5,13 @@ pub mod RowsTold
 pub mod SeekSteps
 pub mod KeysTold
 pub mod SliceTold
+pub mod LinesTold
+pub mod DayTold
 pub mod OrdersTold
 pub mod SliceRight
 pub mod OrderRight
 pub mod ReadTold
 pub mod SliceRead
 pub mod OrderRead
+pub mod StockRight
+pub mod StockRead

@@ -1,7 +1,7 @@
 -- What is read of the tables of a history are the rows by which the order is shown.
-use Rattle.std.proofs.Common.{◌≡◌, ℕ, true, ◌&&◌, List, [], ◌∷◌, refl, ap, sym, subst, ◌∙◌}
-use Rattle.std.specs.Prelude.{◌||◌, Option, Some, None, option_map, ℤ}
-use Rattle.std.specs.List.{list_any, list_all}
+use Rattle.std.proofs.Common.{◌≡◌, ℕ, true, ◌&&◌, List, [], refl, ap, sym, subst, ◌∙◌}
+use Rattle.std.specs.Prelude.{Option, Some, None, option_map, ℤ}
+use Rattle.std.specs.List.{list_any}
 use Rattle.label.specs.Values.{same_text}
 use Rattle.commands.specs.Tables.{Tables}
 use Rattle.commands.specs.declared.rows.StockRow.{StockRow}
@@ -15,23 +15,14 @@ use Rattle.rules.specs.Tables.{tables_of}
 use Rattle.rules.specs.Slices.{AreRows, no_two}
 use Rattle.rules.specs.declared.slice.Rows.{Rows}
 use Rattle.rules.proofs.Tests.{and_both, same_text_is, same_text_refl, is_lot_is, is_lot_refl}
-use Rattle.rules.proofs.Orders.{found_order}
+use Rattle.rules.proofs.histories.Orders.{found_order}
 use Rattle.slices.specs.Slicing.{is_among, with_names}
 use Rattle.slices.specs.ShownOrders.{items_of_rows, AreOfOrder, IsOrderIn, IsOrderRead}
 use Rattle.slices.proofs.KeysTold.{same_cell_is, same_cell_refl, same_share_is, same_share_refl, same_line_is, same_line_refl}
-use Rattle.slices.proofs.RowsTold.{rows_read, rows_as, any_read}
+use Rattle.slices.proofs.RowsTold.{rows_read, rows_as}
 use Rattle.slices.proofs.SliceTold.{among_names, once_names, sought}
-use Rattle.slices.proofs.SliceRight.{line_some}
+use Rattle.slices.proofs.LinesTold.{line_items}
 use Rattle.views.specs.Shown.{AreShown, orders_item}
-
--- The items of the lines
-
--- among the lines of one order, an item's line is the order's line for it
-any_line : (order : List ℕ) (g : List ℕ) (rows : List LineRow) → list_all (λ r. same_text order r.order) rows ≡ true → list_any (λ r. same_text g r.gtin) rows ≡ list_any (λ r. same_line (order, g) (line_key r)) rows
-any_line order g [] all = refl
-any_line order g (r ∷ rows) all =
-    let two = and_both (same_text order r.order) (list_all (λ r. same_text order r.order) rows) all in
-    λ i. (sym two.0 i && same_text g r.gtin) || any_line order g rows two.1 i
 
 module _ (first : ℤ) (acts : List Act) (order : List ℕ) (p : Placed) (named : order_named acts order ≡ Some p) (rows : Rows) (are : AreOfOrder order (tables_of first acts) rows) where
   abbrev t : Tables
@@ -49,9 +40,7 @@ module _ (first : ℤ) (acts : List Act) (order : List ℕ) (p : Placed) (named 
   told : (g : List ℕ) → is_among gtins g ≡ orders_item p g
   told g =
       among_names (λ (r : LineRow). r.gtin) rows.lines [] g
-      ∙ any_line order g rows.lines are.lines.only
-      ∙ any_read {K = LineKey} same_line line_key same_line_is same_line_refl (λ k. same_text order k.0) (λ k. same_text order k.0) (λ k. t.line k.0 k.1) rows.lines own_lines (order, g) (same_text_refl order)
-      ∙ line_some first acts order g
+      ∙ line_items first acts order rows.lines are.lines g
       ∙ ap (λ x. list_any (λ l. same_text g l.gtin) (lines_placed x)) named
 
   once : no_two same_text gtins ≡ true

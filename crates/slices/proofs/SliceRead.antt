@@ -10,15 +10,14 @@ use Rattle.rules.specs.Acts.{Act}
 use Rattle.rules.specs.Once.{IsHistory}
 use Rattle.rules.specs.Tables.{tables_of}
 use Rattle.rules.specs.Slices.{IsSlice}
-use Rattle.rules.specs.Decided.{is_decided}
 use Rattle.rules.specs.declared.slice.Slice.{Slice}
 use Rattle.slices.specs.Books.{IsBooksOf}
 use Rattle.slices.specs.Reading.{IsRead}
 use Rattle.slices.specs.Slicing.{IsSliceIn}
 use Rattle.slices.proofs.SliceRight.{slice_right}
 
-pub slice_read : (command : Command) (old new : State) (r : Result Slice TableFault) → IsRead (λ t s. IsSliceIn command t s) old new r → HasCleanDisk new → IsTrue (is_decided command) → IsTrue old.is_open → (first : ℤ) (acts : List Act) (key : Key) → IsHistory first acts → IsBooksOf first acts old.now
+pub slice_read : (command : Command) (old new : State) (r : Result Slice TableFault) → IsRead (λ t s. IsSliceIn command t s) old new r → HasCleanDisk new → IsTrue old.is_open → (first : ℤ) (acts : List Act) (key : Key) → IsHistory first acts → IsBooksOf first acts old.now
     → IfOk r (IsSlice first (record { key = key; command = command }) acts (tables_of first acts))
-slice_read command old new (Ok s) one clean known up first acts key history books =
-    slice_right first acts key command known history s (subst (λ (t : Tables). IsSliceIn command t s) books.rows.tables (one.answers clean books.ready up).1)
-slice_read command old new (Err e) one clean known up first acts key history books = tt
+slice_read command old new (Ok s) one clean up first acts key history books =
+    slice_right first acts key command history s (subst (λ (t : Tables). IsSliceIn command t s) books.rows.tables (one.answers clean books.ready up).1)
+slice_read command old new (Err e) one clean up first acts key history books = tt

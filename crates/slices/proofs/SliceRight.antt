@@ -1,5 +1,5 @@
 -- What is read of the tables of a history is the slice of the command.
-use Rattle.std.proofs.Common.{◌≡◌, ℕ, Bool, true, false, ◌&&◌, List, [], ◌∷◌, length, refl, ap, sym, subst, ◌∙◌}
+use Rattle.std.proofs.Common.{◌≡◌, ℕ, Bool, true, false, ◌&&◌, List, [], ◌∷◌, ◌++◌, length, refl, ap, sym, subst, ◌∙◌}
 use Rattle.std.specs.Prelude.{◌||◌, ◌==◌, if◌then◌else◌, find, Option, Some, None, option_map, is_some, ℤ}
 use Rattle.std.specs.List.{list_any, list_all, cons_option}
 use Rattle.label.specs.Values.{same_text}
@@ -9,70 +9,117 @@ use Rattle.commands.specs.declared.command.NewItem.{NewItem}
 use Rattle.commands.specs.declared.command.NewBin.{NewBin}
 use Rattle.commands.specs.declared.command.OrderLine.{OrderLine}
 use Rattle.commands.specs.declared.command.Command.{Command}
-use Rattle.commands.specs.declared.command.Command.TheVariants.{Item, Bin, Receive, Order}
+use Rattle.commands.specs.declared.command.Command.TheVariants.{Item, Bin, Receive, Move, Count, Adjust, Order, Cancel, Pick, Unpick, Ship, Hold, Release, Recall, OpenDay}
 use Rattle.commands.specs.declared.rows.StockRow.{StockRow}
 use Rattle.commands.specs.declared.rows.LineRow.{LineRow}
 use Rattle.commands.specs.declared.rows.OrderState.TheVariants.{Open, Done, Cancelled}
 use Rattle.table_words.specs.Typed.{ItemKey, same_item, item_key, BinKey, same_bin, bin_key, LotKey, same_lot, lot_key, RecallKey, same_recall, recall_key, StockKey, same_stock, stock_key, StagedKey, same_staged, staged_key, ReservedKey, same_reserved, reserved_key, OrderKey, same_order, order_key, LineKey, same_line, line_key, is_open_order}
 use Rattle.rules.specs.Acts.{Act, next_number}
-use Rattle.rules.specs.Standing.{items, item_in, bins, Placed, orders, order_named, lines_of, lines_placed, is_cancelled}
+use Rattle.rules.specs.Standing.{items, item_in, bins, Placed, orders, order_named, lines_of, lines_placed, has_line, is_cancelled}
 use Rattle.rules.specs.Planning.{order_state, is_open_state, is_open, shipped_of}
 use Rattle.rules.specs.Touched.{touches}
 use Rattle.rules.specs.Tables.{tables_of}
 use Rattle.rules.specs.Once.{IsHistory}
 use Rattle.rules.specs.Verdict.{verdict}
 use Rattle.rules.specs.Slices.{IsSlice, no_two, names_order, names_bin, counts_items, counts_bins, has_touched_line}
-use Rattle.rules.specs.Decided.{is_decided}
 use Rattle.rules.specs.declared.slice.Slice.{Slice}
 use Rattle.rules.proofs.Tests.{or_false, same_text_is, same_text_refl, same_text_turned, is_lot_is, is_lot_refl}
 use Rattle.rules.proofs.Apart.{AreApart, any_found}
-use Rattle.rules.proofs.Accepted.{item_accepted}
-use Rattle.rules.proofs.Notices.{bins_apart}
-use Rattle.rules.proofs.Orders.{found_order}
-use Rattle.rules.proofs.SliceTells.{some_mapped}
-use Rattle.slices.specs.Slicing.{is_among, with_names, items_named, orders_named, bins_named, AreSliced, IsSliceIn}
+use Rattle.rules.proofs.histories.Accepted.{item_accepted}
+use Rattle.rules.proofs.histories.Notices.{bins_apart}
+use Rattle.rules.proofs.histories.Orders.{found_order}
+use Rattle.rules.proofs.rows.SliceTells.{some_mapped}
+use Rattle.slices.specs.Slicing.{is_among, with_names, items_named, orders_named, bins_named, whole_orders, day_opened, AreAllLines, AreTaken, AreTouched, AreSliced, IsSliceIn}
 use Rattle.slices.proofs.Counted.{as_many}
 use Rattle.slices.proofs.KeysTold.{same_cell_is, same_cell_refl, same_share_is, same_share_refl, same_line_is, same_line_refl}
-use Rattle.slices.proofs.RowsTold.{is_passed, rows_read, rows_as}
-use Rattle.slices.proofs.SliceTold.{among_names, once_names, sought}
+use Rattle.slices.proofs.RowsTold.{any_append, is_passed, rows_read, rows_as}
+use Rattle.slices.proofs.SliceTold.{among_with, once_with, among_names, once_names, sought}
+use Rattle.slices.proofs.LinesTold.{line_some, line_items}
+use Rattle.slices.proofs.DayTold.{affected_told, affected_once}
 use Rattle.slices.proofs.OrdersTold.{is_open_in, has_line_of, orders_told, lines_told}
 
 -- Names
 
-items_told : (first : ℤ) (act : Act) (acts : List Act) (command : Command) → is_decided command ≡ true → (x : List ℕ) → is_among (items_named command) x ≡ touches first act acts command x
-items_told first act acts (Item i) e x = or_false (same_text x i.gtin)
-items_told first act acts (Bin b) e x = refl
-items_told first act acts (Receive r) e x = or_false (same_text x r.lot.gtin)
-items_told first act acts (Order o) e x = among_names (λ l. l.gtin) o.lines [] x
-items_told first act acts _ e x = absurd (let none : false ≡ true = e in cc)
+-- the rows of one order's lines, or of no order's
+taken : (first : ℤ) (acts : List Act) (o : List ℕ) (lines : List LineRow) → AreAllLines (o ∷ []) (tables_of first acts) lines → (x : List ℕ) → list_any (λ r. same_text x r.gtin) lines ≡ has_line acts o x
+taken first acts o lines (xs, ys, own, none, all) x =
+    ap (λ l. list_any (λ r. same_text x r.gtin) l) (all ∙ ap (λ l. xs ++ l) none) ∙ any_append (λ r. same_text x r.gtin) xs [] ∙ or_false (list_any (λ r. same_text x r.gtin) xs) ∙ line_items first acts o xs own x
 
-items_once : (command : Command) → no_two same_text (items_named command) ≡ true
-items_once (Item i) = refl
-items_once (Receive r) = refl
-items_once (Order o) = once_names (λ l. l.gtin) o.lines [] refl
-items_once _ = refl
+named_only : (x : List ℕ) (lines : List LineRow) (own : Bool) → lines ≡ [] → own || list_any (λ r. same_text x r.gtin) lines ≡ own
+named_only x lines own none = ap (λ l. own || list_any (λ r. same_text x r.gtin) l) none ∙ or_false own
 
-order_told : (command : Command) → is_decided command ≡ true → (o : List ℕ) → is_among (orders_named command) o ≡ names_order command o
-order_told (Item i) e o = refl
-order_told (Bin b) e o = refl
-order_told (Receive r) e o = refl
-order_told (Order p) e o = or_false (same_text o p.order)
-order_told _ e o = absurd (let none : false ≡ true = e in cc)
+-- the items that a command names, with those of the lines that it takes, are those that it touches
+named_told : (first : ℤ) (act : Act) (acts : List Act) (command : Command) → day_opened command ≡ None → (lines : List LineRow) → AreAllLines (whole_orders command) (tables_of first acts) lines
+    → (x : List ℕ) → is_among (items_named command) x || list_any (λ r. same_text x r.gtin) lines ≡ touches first act acts command x
+named_told first act acts (Item i) e lines none x = named_only x lines (is_among (i.gtin ∷ []) x) none ∙ or_false (same_text x i.gtin)
+named_told first act acts (Bin b) e lines none x = named_only x lines false none
+named_told first act acts (Receive r) e lines none x = named_only x lines (is_among (r.lot.gtin ∷ []) x) none ∙ or_false (same_text x r.lot.gtin)
+named_told first act acts (Move m) e lines none x = named_only x lines (is_among (m.lot.gtin ∷ []) x) none ∙ or_false (same_text x m.lot.gtin)
+named_told first act acts (Count c) e lines none x = named_only x lines (is_among (c.lot.gtin ∷ []) x) none ∙ or_false (same_text x c.lot.gtin)
+named_told first act acts (Adjust a) e lines none x = named_only x lines (is_among (a.lot.gtin ∷ []) x) none ∙ or_false (same_text x a.lot.gtin)
+named_told first act acts (Order o) e lines none x = named_only x lines (is_among (with_names (λ l. l.gtin) o.lines []) x) none ∙ among_names (λ l. l.gtin) o.lines [] x
+named_told first act acts (Cancel o) e lines all x = taken first acts o lines all x
+named_told first act acts (Pick p) e lines none x = named_only x lines (is_among (p.lot.gtin ∷ []) x) none ∙ or_false (same_text x p.lot.gtin)
+named_told first act acts (Unpick p) e lines none x = named_only x lines (is_among (p.lot.gtin ∷ []) x) none ∙ or_false (same_text x p.lot.gtin)
+named_told first act acts (Ship o) e lines all x = taken first acts o lines all x
+named_told first act acts (Hold l) e lines none x = named_only x lines (is_among (l.gtin ∷ []) x) none ∙ or_false (same_text x l.gtin)
+named_told first act acts (Release l) e lines none x = named_only x lines (is_among (l.gtin ∷ []) x) none ∙ or_false (same_text x l.gtin)
+named_told first act acts (Recall l) e lines none x = named_only x lines (is_among (l.gtin ∷ []) x) none ∙ or_false (same_text x l.gtin)
+named_told first act acts (OpenDay day) e lines none x = absurd cc
+
+taken_told : (first : ℤ) (act : Act) (acts : List Act) (command : Command) → day_opened command ≡ None → (gtins : List (List ℕ)) → AreTaken command (tables_of first acts) gtins → (x : List ℕ) → is_among gtins x ≡ touches first act acts command x
+taken_told first act acts command e gtins are x =
+    ap (λ l. is_among l x) are.items ∙ among_names (λ (r : LineRow). r.gtin) are.lines (items_named command) x ∙ named_told first act acts command e are.lines are.read x
+
+items_told : (first : ℤ) (key : Key) (command : Command) (acts : List Act) → IsHistory first acts → (gtins : List (List ℕ)) → AreTouched command (tables_of first acts) gtins → (x : List ℕ) → is_among gtins x ≡ touches first (record { key = key; command = command }) acts command x
+items_told first key (OpenDay day) acts history gtins are x = affected_told first key day acts history gtins are x
+items_told first key command acts history gtins are x = taken_told first (record { key = key; command = command }) acts command refl gtins are x
+
+named_once : (command : Command) → no_two same_text (items_named command) ≡ true
+named_once (Order o) = once_names (λ l. l.gtin) o.lines [] refl
+named_once _ = refl
+
+taken_once : (command : Command) (t : Tables) (gtins : List (List ℕ)) → AreTaken command t gtins → no_two same_text gtins ≡ true
+taken_once command t gtins are = ap (no_two same_text) are.items ∙ once_names (λ (r : LineRow). r.gtin) are.lines (items_named command) (named_once command)
+
+items_once : (command : Command) (t : Tables) (gtins : List (List ℕ)) → AreTouched command t gtins → no_two same_text gtins ≡ true
+items_once (OpenDay day) t gtins are = affected_once day t gtins are
+items_once command t gtins are = taken_once command t gtins are
+
+order_told : (command : Command) (o : List ℕ) → is_among (orders_named command) o ≡ names_order command o
+order_told (Order p) o = or_false (same_text o p.order)
+order_told (Cancel p) o = or_false (same_text o p)
+order_told (Pick p) o = or_false (same_text o p.order)
+order_told (Unpick p) o = or_false (same_text o p.order)
+order_told (Ship p) o = or_false (same_text o p)
+order_told _ o = refl
 
 order_once : (command : Command) → no_two same_text (orders_named command) ≡ true
 order_once (Order o) = refl
+order_once (Cancel o) = refl
+order_once (Pick p) = refl
+order_once (Unpick p) = refl
+order_once (Ship o) = refl
 order_once _ = refl
 
-bin_told : (command : Command) → is_decided command ≡ true → (b : List ℕ) → is_among (bins_named command) b ≡ names_bin command b
-bin_told (Item i) e b = refl
-bin_told (Bin x) e b = or_false (same_text b x.bin)
-bin_told (Receive r) e b = or_false (same_text b r.bin)
-bin_told (Order o) e b = refl
-bin_told _ e b = absurd (let none : false ≡ true = e in cc)
+bin_told : (command : Command) (b : List ℕ) → is_among (bins_named command) b ≡ names_bin command b
+bin_told (Bin x) b = or_false (same_text b x.bin)
+bin_told (Receive r) b = or_false (same_text b r.bin)
+bin_told (Move m) b = among_with m.to (m.from ∷ []) b ∙ ap (λ c. c || same_text b m.to) (or_false (same_text b m.from))
+bin_told (Count c) b = or_false (same_text b c.bin)
+bin_told (Adjust a) b = or_false (same_text b a.bin)
+bin_told (Pick p) b = or_false (same_text b p.bin)
+bin_told (Unpick p) b = or_false (same_text b p.bin)
+bin_told _ b = refl
 
 bin_once : (command : Command) → no_two same_text (bins_named command) ≡ true
 bin_once (Bin b) = refl
 bin_once (Receive r) = refl
+bin_once (Move m) = once_with m.to (m.from ∷ []) refl
+bin_once (Count c) = refl
+bin_once (Adjust a) = refl
+bin_once (Pick p) = refl
+bin_once (Unpick p) = refl
 bin_once _ = refl
 
 -- Counts
@@ -125,11 +172,6 @@ module _ (first : ℤ) (acts : List Act) where
   unfolding tables_of
   open_told o h = open_by o (order_named acts o) refl h
 
-  -- an order's line of an item has a row
-  pub line_some : (o g : List ℕ) → is_some ((tables_of first acts).line o g) ≡ list_any (λ l. same_text g l.gtin) (lines_of acts o)
-  unfolding tables_of
-  line_some o g = some_mapped _ (find (λ l. same_text g l.gtin) (lines_of acts o)) ∙ any_found (λ l. same_text g l.gtin) (lines_of acts o)
-
   keyed_by : (o g : List ℕ) (x : Option OrderLine) (r : LineRow) → option_map (λ l. record { order = o; gtin = g; ordered = l.qty; shipped = shipped_of first acts o g }) x ≡ Some r → same_line (o, g) (line_key r) ≡ true
   keyed_by o g None r e = absurd cc
   keyed_by o g (Some l) r e =
@@ -141,20 +183,35 @@ module _ (first : ℤ) (acts : List Act) where
   unfolding tables_of
   keyed o g r e = keyed_by o g (find (λ l. same_text g l.gtin) (lines_of acts o)) r e
 
-  module _ (key : Key) (command : Command) (sliced : is_decided command ≡ true) where
+  module _ (key : Key) (command : Command) where
     abbrev act : Act
     act = record { key = key; command = command }
-
-    touched_line : (o : List ℕ) → has_line_of (items_named command) (tables_of first acts) o ≡ has_touched_line first act acts o
-    touched_line o =
-        any_same (λ g. is_some ((tables_of first acts).line o g)) (λ g. list_any (λ l. same_text g l.gtin) (lines_of acts o)) (items_named command) (line_some o)
-        ∙ any_swapped (λ g (l : OrderLine). same_text g l.gtin) (items_named command) (lines_of acts o)
-        ∙ any_same (λ (l : OrderLine). list_any (λ g. same_text g l.gtin) (items_named command)) (λ l. touches first act acts command l.gtin) (lines_of acts o)
-        (λ l. any_same (λ g. same_text g l.gtin) (same_text l.gtin) (items_named command) (λ g. same_text_turned g l.gtin) ∙ items_told first act acts command sliced l.gtin)
 
     module _ (history : IsHistory first acts) (s : Slice) (slice : IsSliceIn command (tables_of first acts) s) where
       abbrev rows : AreSliced command (tables_of first acts) s.rows
       rows = slice.rows
+
+      abbrev t : Tables
+      t = tables_of first acts
+
+      abbrev gtins : List (List ℕ)
+      gtins = rows.gtins
+
+      abbrev touched : List ℕ → Bool
+      touched = touches first act acts command
+
+      told : (x : List ℕ) → is_among gtins x ≡ touched x
+      told = items_told first key command acts history gtins rows.touched
+
+      once : no_two same_text gtins ≡ true
+      once = items_once command t gtins rows.touched
+
+      touched_line : (o : List ℕ) → has_line_of gtins t o ≡ has_touched_line first act acts o
+      touched_line o =
+          any_same (λ g. is_some (t.line o g)) (λ g. list_any (λ l. same_text g l.gtin) (lines_of acts o)) gtins (line_some first acts o)
+          ∙ any_swapped (λ g (l : OrderLine). same_text g l.gtin) gtins (lines_of acts o)
+          ∙ any_same (λ (l : OrderLine). list_any (λ g. same_text g l.gtin) gtins) (λ l. touched l.gtin) (lines_of acts o)
+          (λ l. any_same (λ g. same_text g l.gtin) (same_text l.gtin) gtins (λ g. same_text_turned g l.gtin) ∙ told l.gtin)
 
       counted_items : counts_items command ≡ true → s.items ≡ length (items acts)
       unfolding tables_of
@@ -172,44 +229,32 @@ module _ (first : ℤ) (acts : List Act) where
           sym count.2 ∙ as_many bin_key (λ (b : NewBin). b.bin) count.0 (bins acts) read.once (bins_apart first acts history)
           (λ k. ap is_some (read.found k refl) ∙ some_mapped _ (find (λ b. same_text k b.bin) (bins acts)))
 
-      abbrev t : Tables
-      t = tables_of first acts
-
-      abbrev gtins : List (List ℕ)
-      gtins = items_named command
-
-      abbrev touched : List ℕ → Bool
-      touched = touches first act acts command
-
-      abbrev told : (x : List ℕ) → is_among gtins x ≡ touched x
-      told = items_told first act acts command sliced
-
       pub slice_right : IsSlice first act acts (tables_of first acts) s
       slice_right = record {
         meta = slice.meta;
         items_counted = counted_items;
         bins_counted = counted_bins;
-        items = sought {K = ItemKey} same_item item_key same_text_is same_text_refl (λ k. k) t.item gtins touched s.rows.items (items_once command) told rows.goods.items;
-        lots = sought {K = LotKey} same_lot lot_key is_lot_is is_lot_refl (λ k. k.gtin) t.lot gtins touched s.rows.lots (items_once command) told rows.goods.lots;
-        recalls = sought {K = RecallKey} same_recall recall_key is_lot_is is_lot_refl (λ k. k.gtin) t.recall gtins touched s.rows.recalls (items_once command) told rows.goods.recalls;
-        stock = sought {K = StockKey} same_stock stock_key same_cell_is same_cell_refl (λ k. k.0.gtin) (λ k. t.stock k.0 k.1) gtins touched s.rows.stock (items_once command) told rows.goods.stock;
+        items = sought {K = ItemKey} same_item item_key same_text_is same_text_refl (λ k. k) t.item gtins touched s.rows.items once told rows.goods.items;
+        lots = sought {K = LotKey} same_lot lot_key is_lot_is is_lot_refl (λ k. k.gtin) t.lot gtins touched s.rows.lots once told rows.goods.lots;
+        recalls = sought {K = RecallKey} same_recall recall_key is_lot_is is_lot_refl (λ k. k.gtin) t.recall gtins touched s.rows.recalls once told rows.goods.recalls;
+        stock = sought {K = StockKey} same_stock stock_key same_cell_is same_cell_refl (λ k. k.0.gtin) (λ k. t.stock k.0 k.1) gtins touched s.rows.stock once told rows.goods.stock;
         bins = sought {K = BinKey} same_bin bin_key same_text_is same_text_refl (λ k. k) t.bin (with_names (λ (r : StockRow). r.bin) s.rows.stock (bins_named command)) (λ b. names_bin command b || list_any (λ r. same_text b r.bin) s.rows.stock) s.rows.bins
             (once_names (λ (r : StockRow). r.bin) s.rows.stock (bins_named command) (bin_once command))
-            (λ b. among_names (λ (r : StockRow). r.bin) s.rows.stock (bins_named command) b ∙ ap (λ c. c || list_any (λ r. same_text b r.bin) s.rows.stock) (bin_told command sliced b)) rows.bins;
+            (λ b. among_names (λ (r : StockRow). r.bin) s.rows.stock (bins_named command) b ∙ ap (λ c. c || list_any (λ r. same_text b r.bin) s.rows.stock) (bin_told command b)) rows.bins;
         orders = rows_as {K = OrderKey} same_order order_key same_text_is same_text_refl
             (λ o. is_among (orders_named command) o || (is_open_in t o && has_line_of gtins t o)) (λ o. is_among (orders_named command) o || has_line_of gtins t o)
             (λ o. names_order command o || (is_open first acts o && has_touched_line first act acts o)) (λ o. names_order command o || has_touched_line first act acts o) t.order s.rows.orders
-            (λ o e. needs (is_among (orders_named command) o) (names_order command o) (is_open first acts o) (is_open_in t o) (has_touched_line first act acts o) (has_line_of gtins t o) (order_told command sliced o) (open_told o) (touched_line o) e)
-            (λ o e. ap (λ b. b || has_touched_line first act acts o) (sym (order_told command sliced o)) ∙ ap (λ b. is_among (orders_named command) o || b) (sym (touched_line o)) ∙ e)
-            (orders_told (orders_named command) gtins t keyed (order_once command) (items_once command) s.rows.orders s.rows.lines rows.ordered);
+            (λ o e. needs (is_among (orders_named command) o) (names_order command o) (is_open first acts o) (is_open_in t o) (has_touched_line first act acts o) (has_line_of gtins t o) (order_told command o) (open_told o) (touched_line o) e)
+            (λ o e. ap (λ b. b || has_touched_line first act acts o) (sym (order_told command o)) ∙ ap (λ b. is_among (orders_named command) o || b) (sym (touched_line o)) ∙ e)
+            (orders_told (orders_named command) gtins t keyed (order_once command) once s.rows.orders s.rows.lines rows.ordered);
         lines = rows_as {K = LineKey} same_line line_key same_line_is same_line_refl
             (λ k. is_among (orders_named command) k.0 || (is_open_in t k.0 && is_among gtins k.1)) (λ k. is_among (orders_named command) k.0 || is_among gtins k.1)
             (λ k. names_order command k.0 || (is_open first acts k.0 && touched k.1)) (λ k. names_order command k.0 || touched k.1) (λ k. t.line k.0 k.1) s.rows.lines
-            (λ k e. needs (is_among (orders_named command) k.0) (names_order command k.0) (is_open first acts k.0) (is_open_in t k.0) (touched k.1) (is_among gtins k.1) (order_told command sliced k.0) (open_told k.0) (told k.1) e)
-            (λ k e. ap (λ b. b || touched k.1) (sym (order_told command sliced k.0)) ∙ ap (λ b. is_among (orders_named command) k.0 || b) (sym (told k.1)) ∙ e)
-            (lines_told (orders_named command) gtins t keyed (order_once command) (items_once command) s.rows.orders s.rows.lines rows.ordered);
-        staged = sought {K = StagedKey} same_staged staged_key same_share_is same_share_refl (λ k. k.1.gtin) (λ k. t.staged k.0 k.1) gtins touched s.rows.staged (items_once command) told rows.booked.staged;
-        reserved = sought {K = ReservedKey} same_reserved reserved_key same_share_is same_share_refl (λ k. k.1.gtin) (λ k. t.reserved k.0 k.1) gtins touched s.rows.reserved (items_once command) told rows.booked.reserved;
+            (λ k e. needs (is_among (orders_named command) k.0) (names_order command k.0) (is_open first acts k.0) (is_open_in t k.0) (touched k.1) (is_among gtins k.1) (order_told command k.0) (open_told k.0) (told k.1) e)
+            (λ k e. ap (λ b. b || touched k.1) (sym (order_told command k.0)) ∙ ap (λ b. is_among (orders_named command) k.0 || b) (sym (told k.1)) ∙ e)
+            (lines_told (orders_named command) gtins t keyed (order_once command) once s.rows.orders s.rows.lines rows.ordered);
+        staged = sought {K = StagedKey} same_staged staged_key same_share_is same_share_refl (λ k. k.1.gtin) (λ k. t.staged k.0 k.1) gtins touched s.rows.staged once told rows.booked.staged;
+        reserved = sought {K = ReservedKey} same_reserved reserved_key same_share_is same_share_refl (λ k. k.1.gtin) (λ k. t.reserved k.0 k.1) gtins touched s.rows.reserved once told rows.booked.reserved;
       }
         where
           needs : (a n p q h g : Bool) → a ≡ n → (p ≡ true → q ≡ true) → g ≡ h → n || (p && h) ≡ true → a || (q && g) ≡ true

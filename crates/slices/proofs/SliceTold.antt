@@ -19,7 +19,7 @@ texts_same (x ∷ xs) = ap (λ l. x ∷ l) (texts_same xs)
 among_more : (xs : List (List ℕ)) (x y : List ℕ) → is_among (xs ++ x ∷ []) y ≡ is_among xs y || same_text y x
 among_more xs x y = any_append (same_text y) xs (x ∷ []) ∙ ap (λ b. is_among xs y || b) (or_false (same_text y x))
 
-among_with : (x : List ℕ) (xs : List (List ℕ)) (y : List ℕ) → is_among (with_name x xs) y ≡ is_among xs y || same_text y x
+pub among_with : (x : List ℕ) (xs : List (List ℕ)) (y : List ℕ) → is_among (with_name x xs) y ≡ is_among xs y || same_text y x
 among_with x xs y = elim (is_among xs x) as (λ b. is_among xs x ≡ b → is_among (if b then xs else xs ++ x ∷ []) y ≡ is_among xs y || same_text y x) [
   | true ↦ λ e. known (same_text y x) refl e
   | false ↦ λ e. among_more xs x y
@@ -47,7 +47,7 @@ once_more x (y ∷ ys) e h =
     both true b f g = absurd (let no : false ≡ true = f in cc)
     both false b f g = or_false b ∙ g
 
-once_with : (x : List ℕ) (xs : List (List ℕ)) → no_two same_text xs ≡ true → no_two same_text (with_name x xs) ≡ true
+pub once_with : (x : List ℕ) (xs : List (List ℕ)) → no_two same_text xs ≡ true → no_two same_text (with_name x xs) ≡ true
 once_with x xs h = elim (is_among xs x) as (λ b. is_among xs x ≡ b → no_two same_text (if b then xs else xs ++ x ∷ []) ≡ true) [ true ↦ λ e. h | false ↦ λ e. once_more x xs e h ] refl
 
 pub among_names : {X : Type 0} (name : X → List ℕ) (rs : List X) (xs : List (List ℕ)) (y : List ℕ) → is_among (with_names name rs xs) y ≡ is_among xs y || list_any (λ r. same_text y (name r)) rs

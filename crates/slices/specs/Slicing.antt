@@ -1,10 +1,12 @@
 -- The rows that a slice is made of.
-use Rattle.std.specs.Prelude.{◌≡◌, ℕ, Bool, true, not, if◌then◌else◌, List, [], ◌∷◌, ◌++◌, map, filter, Option, Some, None}
+use Rattle.std.specs.Prelude.{◌≡◌, ℕ, ℤ, Bool, true, not, ◌&&◌, if◌then◌else◌, List, [], ◌∷◌, ◌++◌, map, filter, Option, Some, None}
 use Rattle.std.specs.List.{list_any}
 use Rattle.label.specs.Values.{same_text}
+use Rattle.label.specs.declared.lot.LotId.{LotId}
 use Rattle.commands.specs.Tables.{Tables}
 use Rattle.commands.specs.declared.command.Command.{Command}
-use Rattle.commands.specs.declared.command.Command.TheVariants.{Item, Bin, Receive, Order}
+use Rattle.commands.specs.declared.command.Command.TheVariants.{Item, Bin, Receive, Move, Count, Adjust, Order, Cancel, Pick, Unpick, Ship, Hold, Release, Recall, OpenDay}
+use Rattle.commands.specs.declared.rows.MetaRow.{MetaRow}
 use Rattle.commands.specs.declared.rows.ItemRow.{ItemRow}
 use Rattle.commands.specs.declared.rows.BinRow.{BinRow}
 use Rattle.commands.specs.declared.rows.LotRow.{LotRow}
@@ -16,6 +18,8 @@ use Rattle.commands.specs.declared.rows.StagedRow.{StagedRow}
 use Rattle.commands.specs.declared.rows.ReservedRow.{ReservedRow}
 use Rattle.table_words.specs.Found.{AreRows, only_if}
 use Rattle.table_words.specs.Typed.{ItemKey, same_item, item_key, BinKey, same_bin, bin_key, LotKey, same_lot, lot_key, RecallKey, same_recall, recall_key, StockKey, same_stock, stock_key, OrderKey, same_order, order_key, is_open_order, LineKey, same_line, line_key, StagedKey, same_staged, staged_key, ReservedKey, same_reserved, reserved_key}
+use Rattle.rules.specs.Postings.{is_lot}
+use Rattle.rules.specs.Standing.{is_expired}
 use Rattle.rules.specs.Slices.{counts_items, counts_bins}
 use Rattle.rules.specs.declared.slice.Rows.{Rows}
 use Rattle.rules.specs.declared.slice.Slice.{Slice}
@@ -46,21 +50,49 @@ with_names name (r ∷ rs) xs = with_names name rs (with_name (name r) xs)
 abbrev pub texts : List (List ℕ) → List (List ℕ)
 texts = map (λ x. x)
 
--- what a command names, of those that are decided
+-- what a command names
 abbrev pub items_named : Command → List (List ℕ)
 items_named (Item i) = i.gtin ∷ []
 items_named (Receive r) = r.lot.gtin ∷ []
+items_named (Move m) = m.lot.gtin ∷ []
+items_named (Count c) = c.lot.gtin ∷ []
+items_named (Adjust a) = a.lot.gtin ∷ []
 items_named (Order o) = with_names (λ l. l.gtin) o.lines []
+items_named (Pick p) = p.lot.gtin ∷ []
+items_named (Unpick p) = p.lot.gtin ∷ []
+items_named (Hold l) = l.gtin ∷ []
+items_named (Release l) = l.gtin ∷ []
+items_named (Recall l) = l.gtin ∷ []
 items_named _ = []
 
 abbrev pub orders_named : Command → List (List ℕ)
 orders_named (Order o) = o.order ∷ []
+orders_named (Cancel o) = o ∷ []
+orders_named (Pick p) = p.order ∷ []
+orders_named (Unpick p) = p.order ∷ []
+orders_named (Ship o) = o ∷ []
 orders_named _ = []
 
 abbrev pub bins_named : Command → List (List ℕ)
 bins_named (Bin b) = b.bin ∷ []
 bins_named (Receive r) = r.bin ∷ []
+bins_named (Move m) = with_name m.to (m.from ∷ [])
+bins_named (Count c) = c.bin ∷ []
+bins_named (Adjust a) = a.bin ∷ []
+bins_named (Pick p) = p.bin ∷ []
+bins_named (Unpick p) = p.bin ∷ []
 bins_named _ = []
+
+-- the order that a command takes whole: it touches the item of each of its lines
+abbrev pub whole_orders : Command → List (List ℕ)
+whole_orders (Cancel o) = o ∷ []
+whole_orders (Ship o) = o ∷ []
+whole_orders _ = []
+
+-- the business day that a command opens
+abbrev pub day_opened : Command → Option ℤ
+day_opened (OpenDay day) = Some day
+day_opened _ = None
 
 -- Rows
 
@@ -101,10 +133,14 @@ has_line_in line_rows o = list_any (λ l. same_text o l.order) line_rows
 abbrev pub with_lines : List LineRow → List OrderRow → List OrderRow
 with_lines line_rows order_rows = filter (λ r. has_line_in line_rows r.order) order_rows
 
+-- all lines of orders, one order after another
+abbrev pub AreAllLines : List (List ℕ) → Tables → List LineRow → Type 0
+AreAllLines named t line_rows = Each (λ o found. AreRows {K = LineKey} same_line line_key (λ k. same_text o k.0) (λ k. t.line k.0 k.1) found) (texts named) line_rows
+
 -- the rows and all lines of the orders named
 pub record AreNamed (named : List (List ℕ)) (t : Tables) (order_rows : List OrderRow) (line_rows : List LineRow) : Type 0 where
   pub orders : Each (λ o found. AreRows {K = OrderKey} same_order order_key (λ k. same_text o k) t.order found) (texts named) order_rows
-  pub lines : Each (λ o found. AreRows {K = LineKey} same_line line_key (λ k. same_text o k.0) (λ k. t.line k.0 k.1) found) (texts named) line_rows
+  pub lines : AreAllLines named t line_rows
 
 -- the lines of the items in open orders that are not named, and the rows of those orders
 pub record AreOpen (named gtins : List (List ℕ)) (t : Tables) (order_rows : List OrderRow) (line_rows : List LineRow) : Type 0 where
@@ -124,6 +160,43 @@ pub record AreOrdered (named gtins : List (List ℕ)) (t : Tables) (order_rows :
   pub orders : order_rows ≡ own ++ rest
   pub lines : line_rows ≡ own_lines ++ rest_lines
 
+-- Openings of a day
+
+-- a lot that is not held and expires on the old day or later, but before the new one
+abbrev pub is_ending : ℤ → ℤ → LotRow → Bool
+is_ending old new r = not r.held && (not (is_expired old r.expiry) && is_expired new r.expiry)
+
+abbrev pub has_recall_in : List RecallRow → LotId → Bool
+has_recall_in recall_rows l = list_any (λ r. is_lot l r.lot) recall_rows
+
+abbrev pub not_recalled : List RecallRow → List LotRow → List LotRow
+not_recalled recall_rows lot_rows = filter (λ r. not (has_recall_in recall_rows r.lot)) lot_rows
+
+-- the items of lots and of staged units, each once
+abbrev pub items_of_lots : List LotRow → List (List ℕ)
+items_of_lots lot_rows = with_names (λ r. r.lot.gtin) lot_rows []
+
+abbrev pub with_staged : List StagedRow → List (List ℕ) → List (List ℕ)
+with_staged staged_rows gtins = with_names (λ r. r.lot.gtin) staged_rows gtins
+
+-- of all lots those that end between the days and are not among the recalls of their items
+pub record AreEnding (old new : ℤ) (t : Tables) (lot_rows : List LotRow) : Type 0 where
+  pub all : List LotRow
+  pub read : AreRows {K = LotKey} same_lot lot_key (λ key. true) t.lot all
+  pub recalls : List RecallRow
+  pub recalls_read : Each (λ g found. AreRows {K = RecallKey} same_recall recall_key (λ k. same_text g k.gtin) t.recall found) (texts (items_of_lots (filter (is_ending old new) all))) recalls
+  pub lots : lot_rows ≡ not_recalled recalls (filter (is_ending old new) all)
+
+-- the items that the opening of the day touches: those of such lots, and those with staged units
+pub record AreAffected (day : ℤ) (t : Tables) (gtins : List (List ℕ)) : Type 0 where
+  pub meta : MetaRow
+  pub is_meta : t.meta ≡ Some meta
+  pub ending : List LotRow
+  pub are_ending : AreEnding meta.day day t ending
+  pub staged : List StagedRow
+  pub read : AreRows {K = StagedKey} same_staged staged_key (λ key. true) (λ key. t.staged key.0 key.1) staged
+  pub items : gtins ≡ with_staged staged (items_of_lots ending)
+
 -- Slices
 
 -- the counts that the command is judged by
@@ -131,12 +204,28 @@ pub record AreCounts (command : Command) (t : Tables) (item_count bin_count : �
   pub items : counts_items command ≡ true → IsCount {K = ItemKey} same_item item_key t.item item_count
   pub bins : counts_bins command ≡ true → IsCount {K = BinKey} same_bin bin_key t.bin bin_count
 
+-- the items that the command names, and those of the lines of the order that it takes whole, each once
+pub record AreTaken (command : Command) (t : Tables) (gtins : List (List ℕ)) : Type 0 where
+  pub lines : List LineRow
+  pub read : AreAllLines (whole_orders command) t lines
+  pub items : gtins ≡ with_names (λ r. r.gtin) lines (items_named command)
+
+-- the items that the command touches
+abbrev pub AreTouchedOn : Option ℤ → Command → Tables → List (List ℕ) → Type 0
+AreTouchedOn None command t gtins = AreTaken command t gtins
+AreTouchedOn (Some day) command t gtins = AreAffected day t gtins
+
+abbrev pub AreTouched : Command → Tables → List (List ℕ) → Type 0
+AreTouched command = AreTouchedOn (day_opened command) command
+
 -- the rows that the command asks for
 pub record AreSliced (command : Command) (t : Tables) (rows : Rows) : Type 0 where
-  pub goods : AreGoods (items_named command) t rows.items rows.lots rows.recalls rows.stock
+  pub gtins : List (List ℕ)
+  pub touched : AreTouched command t gtins
+  pub goods : AreGoods gtins t rows.items rows.lots rows.recalls rows.stock
   pub bins : AreBins (with_names (λ r. r.bin) rows.stock (bins_named command)) t rows.bins
-  pub ordered : AreOrdered (orders_named command) (items_named command) t rows.orders rows.lines
-  pub booked : AreBooked (items_named command) t rows.staged rows.reserved
+  pub ordered : AreOrdered (orders_named command) gtins t rows.orders rows.lines
+  pub booked : AreBooked gtins t rows.staged rows.reserved
 
 -- the slice of a command, as it is read
 pub record IsSliceIn (command : Command) (t : Tables) (s : Slice) : Type 0 where

@@ -10,23 +10,53 @@ ghost use Rattle.rules.specs.Acts.{Act};
 ghost use Rattle.rules.specs.Once.{IsHistory};
 ghost use Rattle.rules.specs.Tables.{tables_of};
 ghost use Rattle.rules.specs.Slices.{IsSlice};
-ghost use Rattle.rules.specs.Decided.{is_decided};
 ghost use Rattle.slices.specs.Books.{IsBooksOf};
 ghost use Rattle.slices.specs.Reading.{IsRead};
-ghost use Rattle.slices.specs.Slicing.{AreGoods, AreBooked, AreBins, AreCounts, AreSliced, IsSliceIn, bins_named, with_names};
+ghost use Rattle.slices.specs.Slicing.{AreGoods, AreBooked, AreBins, AreCounts, AreTaken, AreTouched, AreSliced, IsSliceIn, bins_named, with_names};
 
-use crate::naming::{bins_with, named_items, named_orders};
+use crate::naming::{bins_with, items_with, named_orders, whole_orders};
+use crate::opening::{affected_items, day_opened};
 use crate::order_slices::read_orders;
 use crate::reading::{count_bins, count_items, meta_row};
 use crate::sought::seek_all;
 use commands::{
-    BinRow, Command, ItemRow, Listed, LotRow, MetaRow, RecallRow, ReservedRow, StagedRow, StockRow,
+    BinRow, Command, ItemRow, LineRow, Listed, LotRow, MetaRow, RecallRow, ReservedRow, StagedRow,
+    StockRow,
 };
 use label::Gtin;
 use rules::{Rows, Slice};
 use sqlite::{Alter, Transaction};
 use std::alloc::Global;
 use table_words::error::TableFault;
+
+/// The items that the command names, and those of the lines of the order that it takes whole.
+fn taken_items<S: Alter>(
+    alloc: Global,
+    tx: &mut Transaction<'_, S>,
+    command: &Command,
+) -> Result<Vec<Gtin>, TableFault>
+    ensures same_reference { tx.new.conn.ghost_name ≡ tx.old.conn.ghost_name }
+    ensures read { IsRead (λ t gtins. AreTaken command.now t gtins.items) (state S.Store tx.old.conn.now) (state S.Store tx.new.conn.now) result }
+{
+    let orders = whole_orders(alloc, command)?;
+    let lines = seek_all::<LineRow, S>(alloc, tx, orders.as_slice())?;
+    Ok(items_with(alloc, command, lines.as_slice())?)
+}
+
+/// The items that the command touches.
+fn touched_items<S: Alter>(
+    alloc: Global,
+    tx: &mut Transaction<'_, S>,
+    command: &Command,
+) -> Result<Vec<Gtin>, TableFault>
+    ensures same_reference { tx.new.conn.ghost_name ≡ tx.old.conn.ghost_name }
+    ensures read { IsRead (λ t gtins. AreTouched command.now t gtins.items) (state S.Store tx.old.conn.now) (state S.Store tx.new.conn.now) result }
+{
+    match day_opened(command) {
+        Some(day) => affected_items(alloc, tx, day),
+        None => taken_items(alloc, tx, command),
+    }
+}
 
 /// The rows of the items.
 pub fn read_goods<S: Alter>(
@@ -103,7 +133,7 @@ fn read_rows<S: Alter>(
     ensures same_reference { tx.new.conn.ghost_name ≡ tx.old.conn.ghost_name }
     ensures read { IsRead (λ t rows. AreSliced command.now t rows) (state S.Store tx.old.conn.now) (state S.Store tx.new.conn.now) result }
 {
-    let gtins = named_items(alloc, command)?;
+    let gtins = touched_items(alloc, tx, command)?;
     let named = named_orders(alloc, command)?;
     let (items, lots, recalls, stock) = read_goods(alloc, tx, gtins.as_slice())?;
     let bins = read_bins(alloc, tx, command, stock.as_slice())?;
@@ -158,43 +188,25 @@ fn slice_in<S: Alter>(
     read_rest(alloc, tx, command, meta)
 }
 
-/// Whether the command is decided.
-fn is_known(command: &Command) -> bool
-    ensures { result ≡ is_decided command.now }
-{
-    match command {
-        Command::Item(_) => true,
-        Command::Bin(_) => true,
-        Command::Receive(_) => true,
-        Command::Order(_) => true,
-        _ => false,
-    }
-}
-
 /// The slice of the tables that the command is decided by. It changes nothing. `Foreign` where a
-/// row that is read breaks a rule of its values or the books have no row of their own, and for the
-/// commands that are not decided yet: those other than `Item`, `Bin`, `Receive` and `Order`.
+/// row that is read breaks a rule of its values or the books have no row of their own.
 pub fn read_slice<S: Alter>(
     alloc: Global,
     tx: &mut Transaction<'_, S>,
     command: &Command,
 ) -> Result<Slice, TableFault>
     ensures same_reference { tx.new.conn.ghost_name ≡ tx.old.conn.ghost_name }
-    ensures read { HasCleanDisk (state S.Store tx.new.conn.now) → IsTrue (is_decided command.now) → IsTrue (state S.Store tx.old.conn.now).is_open
+    ensures read { HasCleanDisk (state S.Store tx.new.conn.now) → IsTrue (state S.Store tx.old.conn.now).is_open
         → (first : ℤ) (acts : List Act) (key : Key) → IsHistory first acts → IsBooksOf first acts (state S.Store tx.old.conn.now).now
         → IfOk result (IsSlice first (record { key = key; command = command.now }) acts (tables_of first acts)) }
-    ensures fault { HasCleanDisk (state S.Store tx.new.conn.now) → IsTrue (is_decided command.now) → IsTrue (state S.Store tx.old.conn.now).is_open
+    ensures fault { HasCleanDisk (state S.Store tx.new.conn.now) → IsTrue (state S.Store tx.old.conn.now).is_open
         → (first : ℤ) (acts : List Act) → IsBooksOf first acts (state S.Store tx.old.conn.now).now
         → IfErr result (λ e. e ≡ Foreign → ⊥) }
-    ensures unknown { is_decided command.now ≡ false → result ≡ Err Foreign }
     ensures same { HasCleanDisk (state S.Store tx.new.conn.now) → IsReady (state S.Store tx.old.conn.now).now → IsTrue (state S.Store tx.old.conn.now).is_open
         → OnOk result (IsUnchanged (state S.Store tx.old.conn.now) (state S.Store tx.new.conn.now)) }
     ensures kept { HasCleanDisk (state S.Store tx.new.conn.now) → IsReady (state S.Store tx.old.conn.now).now → IsTrue (state S.Store tx.old.conn.now).is_open
         → KeepsCommit (state S.Store tx.old.conn.now) (state S.Store tx.new.conn.now) }
     ensures survives { Survives (state S.Store tx.old.conn.now) (state S.Store tx.new.conn.now) (λ _. ⊥) }
 {
-    if !is_known(command) {
-        return Err(TableFault::Foreign);
-    }
     slice_in(alloc, tx, command)
 }

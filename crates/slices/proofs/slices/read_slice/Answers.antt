@@ -8,7 +8,7 @@ pub returns-clause-read : goal.returns-clause-read
 returns-clause-read g c = slice_read c.args.command.now (state g.S.Store c.args.tx.now.conn.now) (state g.S.Store c.slice_in.new.tx.conn.now) c.slice_in.result c.slice_in.ensures.read
 
 pub returns-clause-fault : goal.returns-clause-fault
-returns-clause-fault g c clean known = read_fault (λ t s. IsSliceIn c.args.command.now t s) (state g.S.Store c.args.tx.now.conn.now) (state g.S.Store c.slice_in.new.tx.conn.now) c.slice_in.result c.slice_in.ensures.read clean
+returns-clause-fault g c clean = read_fault (λ t s. IsSliceIn c.args.command.now t s) (state g.S.Store c.args.tx.now.conn.now) (state g.S.Store c.slice_in.new.tx.conn.now) c.slice_in.result c.slice_in.ensures.read clean
 
 pub returns-clause-same : goal.returns-clause-same
 returns-clause-same g c = read_same (λ t s. IsSliceIn c.args.command.now t s) (state g.S.Store c.args.tx.now.conn.now) (state g.S.Store c.slice_in.new.tx.conn.now) c.slice_in.result c.slice_in.ensures.read
