@@ -5,7 +5,7 @@ use Rattle.sqlite_trees.specs.declared.store.Store.{Ghosts}
 use Rattle.commands.specs.Refusals.{refusal_code}
 use Rattle.rules.specs.Acts.{Act}
 use Rattle.rules.specs.Once.{Accepted, Repeated, outcome, appended, acts_after, IsHistory, IsSoundRequest}
-use Rattle.rules.proofs.Runs.{history_after}
+use Rattle.rules.proofs.histories.Runs.{history_after}
 use Rattle.wire.specs.Shorts.{code_text}
 use Rattle.store.specs.Connected.{Connected}
 use Rattle.store.specs.declared.reply.Reply.{Reply}

@@ -1,16 +1,17 @@
 -- Worked examples: what readings are answered, and the acts after them.
-use Rattle.std.specs.Prelude.{◌≡◌, ℕ, List, [], ◌++◌, codes, refl, None}
+use Rattle.std.specs.Prelude.{◌≡◌, ℕ, List, [], ◌++◌, codes, refl}
 use Rattle.std.specs.Fmt.{digits}
+use Rattle.serde_json.proofs.OnLiterals.{serde_json_on_literals}
 use Rattle.label.specs.Days.{date_of, date_after, date_in_year}
 use Rattle.label.proofs.OnLiterals.{dates_on_literals}
 use Rattle.commands.specs.Spelling.{spelling}
 use Rattle.commands.specs.declared.key.Key.TheVariants.{Plain, Line}
-use Rattle.commands.specs.declared.command.Command.TheVariants.{Item, Cancel}
-use Rattle.rules.proofs.ExampleHistories.{may_4, warehouse, with_one_lot, with_stock, with_one_order, with_early_lot, OATS, A1, S1, order}
+use Rattle.commands.specs.declared.command.Command.TheVariants.{Item, OpenDay}
+use Rattle.rules.proofs.examples.ExampleHistories.{may_4, warehouse, with_one_lot, with_stock, with_one_order, with_early_lot, OATS, A1, S1, order}
 use Rattle.wire.specs.Answers.{CRLF, head_text}
 use Rattle.wire.specs.declared.fault.WireFault.TheVariants.{Length}
-use Rattle.wire.specs.declared.ask.Ask.TheVariants.{Do, Scan, GoodsIn, Show}
-use Rattle.wire.specs.declared.ask.Query.TheVariants.{Order, Stock}
+use Rattle.wire.specs.declared.ask.Ask.TheVariants.{Do, Scan, Show}
+use Rattle.wire.specs.declared.ask.Query.TheVariants.{Order, Stock, PickList}
 use Rattle.wire.specs.declared.request.Read.{Read}
 use Rattle.wire.specs.declared.request.Read.TheVariants.{Need, Request}
 use Rattle.house.specs.Answers.{short_answer, not_served, no_memory, answer_of, acts_of}
@@ -62,8 +63,8 @@ an_order_is_an_act : acts_of may_4 with_stock (Request (Do (Plain (codes "K-8"))
 unfolding digits
 an_order_is_an_act = refl
 
-a_cancel_is_not_served : answer_of may_4 with_one_order (Request (Do (Plain (codes "K-9")) (Cancel S1))) ≡ not_served
-a_cancel_is_not_served = refl
+a_day_that_is_not_later : answer_of may_4 with_one_order (Request (Do (Plain (codes "K-9")) (OpenDay may_4))) ≡ short_answer 409 (codes "{\"code\":\"S10\"}")
+a_day_that_is_not_later = refl
 
 an_item_has_a_plain_key : answer_of may_4 [] (Request (Do (Line (codes "D-1") 1) (Item (record { gtin = OATS; name = codes "Oat drink" })))) ≡ not_served
 an_item_has_a_plain_key = refl
@@ -73,8 +74,16 @@ an_item_has_a_plain_key = refl
 an_order_that_nobody_placed : answer_of may_4 with_stock (Request (Show (Order S1))) ≡ short_answer 404 (codes "{\"code\":\"U04\"}")
 an_order_that_nobody_placed = refl
 
-stock_is_not_served : answer_of may_4 with_stock (Request (Show (Stock OATS))) ≡ not_served
-stock_is_not_served = refl
+the_stock_of_an_unknown_item : answer_of may_4 [] (Request (Show (Stock OATS))) ≡ short_answer 404 (codes "{\"code\":\"U01\"}")
+the_stock_of_an_unknown_item = refl
+
+the_stock_of_one_lot : answer_of may_4 with_one_lot (Request (Show (Stock OATS)))
+    ≡ short_answer 200 (codes "{\"gtin\":\"09506000134352\",\"lots\":[{\"bins\":[{\"bin\":\"A-01\",\"qty\":10}],\"expiry\":\"2026-06-30\",\"lot\":\"L1\",\"reserved\":0,\"staged\":0,\"status\":\"FREE\"}],\"name\":\"Oat drink\"}")
+unfolding serde_json_on_literals dates_on_literals digits
+the_stock_of_one_lot = refl
+
+a_pick_list_is_not_served : answer_of may_4 with_one_order (Request (Show (PickList S1))) ≡ not_served
+a_pick_list_is_not_served = refl
 
 -- Faults, whole
 

@@ -8,12 +8,14 @@ use Rattle.label.specs.declared.fault.LabelFault.{LabelFault}
 use Rattle.commands.specs.Refusals.{refusal_code}
 use Rattle.commands.specs.declared.refusal.Refusal.{Refusal}
 use Rattle.commands.specs.declared.views.OrderView.{OrderView}
+use Rattle.commands.specs.declared.views.StockView.{StockView}
 use Rattle.rules.specs.Acts.{Act}
 use Rattle.rules.specs.Standing.{today}
 use Rattle.rules.specs.Once.{Outcome, Accepted, Repeated, Refused, outcome, appended}
-use Rattle.rules.specs.Queries.{order_shown}
+use Rattle.rules.specs.Queries.{order_shown, stock_shown}
 use Rattle.wire.specs.Answers.{head_text}
 use Rattle.wire.specs.Shorts.{code_text}
+use Rattle.wire.specs.declared.answer.Answer.TheVariants.{Order as OrderAnswer, Stock as StockAnswer}
 use Rattle.wire.specs.declared.fault.WireFault.{WireFault}
 use Rattle.wire.specs.declared.fault.WireFault.TheVariants.{Head, Length, Json, Field, Path, Method, TooLarge, Memory}
 use Rattle.wire.specs.declared.ask.Ask.{Ask}
@@ -113,14 +115,19 @@ unfolding head_text digits
 scan_not_foreign first acts d (Ok label) = if_not_foreign (outcome first acts (receipt d label)) (is_served (receipt d label))
 scan_not_foreign first acts d (Err fault) = other (label_answer fault) 52 refl (lit< tt)
 
-view_not_foreign : (r : Result OrderView Refusal) → view_answer r ≢ foreign_books
+order_not_foreign : (r : Result OrderView Refusal) → view_answer OrderAnswer r ≢ foreign_books
 unfolding head_text digits
-view_not_foreign (Ok view) = other (view_answer (Ok view)) 50 refl (lit< tt)
-view_not_foreign (Err why) = other (view_answer (Err why)) 52 refl (lit< tt)
+order_not_foreign (Ok view) = other (view_answer OrderAnswer (Ok view)) 50 refl (lit< tt)
+order_not_foreign (Err why) = other (view_answer OrderAnswer (Err why)) 52 refl (lit< tt)
+
+stock_not_foreign : (r : Result StockView Refusal) → view_answer StockAnswer r ≢ foreign_books
+unfolding head_text digits
+stock_not_foreign (Ok view) = other (view_answer StockAnswer (Ok view)) 50 refl (lit< tt)
+stock_not_foreign (Err why) = other (view_answer StockAnswer (Err why)) 52 refl (lit< tt)
 
 query_not_foreign : (first : ℤ) (acts : List Act) (q : Query) → query_answer first acts q ≢ foreign_books
-query_not_foreign first acts (Order order) = view_not_foreign (order_shown first acts order)
-query_not_foreign first acts (Stock gtin) = fault_not_foreign Path
+query_not_foreign first acts (Order order) = order_not_foreign (order_shown first acts order)
+query_not_foreign first acts (Stock gtin) = stock_not_foreign (stock_shown first acts gtin)
 query_not_foreign first acts (PickList order) = fault_not_foreign Path
 query_not_foreign first acts (Shortages gtin) = fault_not_foreign Path
 query_not_foreign first acts (Card lot) = fault_not_foreign Path

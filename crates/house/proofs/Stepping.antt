@@ -1,6 +1,6 @@
 -- What a reading, answered, is as a step.
-use Rattle.std.proofs.Common.{◌≡◌, ◌≢◌, ℕ, true, false, List, refl, sym, subst, ◌∙◌, inl, inr, ◌⊎◌}
-use Rattle.std.specs.Prelude.{Bool, ◌&&◌, ℤ, IsTrue}
+use Rattle.std.proofs.Common.{◌≡◌, ◌≢◌, ℕ, List, refl, sym, subst, ◌∙◌, inl, inr, ◌⊎◌}
+use Rattle.std.specs.Prelude.{ℤ}
 use Rattle.sqlite_trees.specs.declared.store.Store.{Ghosts}
 use Rattle.rules.specs.Acts.{Act}
 use Rattle.rules.specs.Once.{IsHistory}
@@ -17,11 +17,6 @@ use Rattle.house.specs.Asking.{IsDone, IsUndone}
 use Rattle.house.specs.House.{Step, StepsTo, IsInPlace, IsAskedInPlace}
 use Rattle.house.specs.declared.answered.Answered.{Answered}
 use Rattle.house.specs.declared.answered.Answered.TheVariants.{Short, Long}
-
-pub both : (a b : Bool) → a && b ≡ true → IsTrue a × IsTrue b
-both true true e = (refl, refl)
-both true false e = absurd cc
-both false b e = absurd cc
 
 -- a text that is no request, or for which there was no memory
 needed_step : (first : ℤ) (acts : List Act) (text : List ℕ) (e : WireFault) → IsReading text (Need e) → Step first acts text (fault_answer e) acts
@@ -65,7 +60,7 @@ module _ {S : Type 0} (g : Ghosts S) (first : ℤ) (acts : List Act) (history : 
   }
   asked ask bytes read (inr u) = stays bytes (inr (record { answer = u.answer; acts = refl })) u.holds
 
--- an answer to what is asked is in place, or the request shows an order
+-- an answer to what is asked is in place, or the request shows something
 pub in_place : (text : List ℕ) (ask : Ask) (answer : Answered) → IsReading text (Request ask) → IsAskedInPlace ask answer → IsInPlace text answer
 in_place text ask (Short block) read h = tt
 in_place text ask (Long bytes) read h = (h.0, subst (λ a. IsReading text (Request a)) h.1 read)

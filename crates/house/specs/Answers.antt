@@ -1,5 +1,5 @@
 -- What each reading of a text is answered, and the acts after it. An answer is its bytes.
-use Rattle.std.specs.Prelude.{ℕ, ◌&&◌, if◌then◌else◌, Bool, codes, List, None, Result, Ok, Err, ℤ}
+use Rattle.std.specs.Prelude.{ℕ, if◌then◌else◌, Bool, codes, List, None, Result, Ok, Err, ℤ}
 use Rattle.label.specs.Faults.{fault_code}
 use Rattle.label.specs.Labels.{label_read}
 use Rattle.label.specs.declared.gs1.Label.{Label}
@@ -8,15 +8,14 @@ use Rattle.commands.specs.Refusals.{refusal_code}
 use Rattle.commands.specs.declared.refusal.Refusal.{Refusal}
 use Rattle.commands.specs.declared.key.Key.TheVariants.{Line}
 use Rattle.commands.specs.declared.command.Command.TheVariants.{Receive}
-use Rattle.commands.specs.declared.views.OrderView.{OrderView}
 use Rattle.rules.specs.Acts.{Act}
 use Rattle.rules.specs.Standing.{today}
 use Rattle.rules.specs.Once.{Outcome, Accepted, Repeated, Refused, outcome, acts_after, is_key_of}
-use Rattle.rules.specs.Decided.{is_decided}
-use Rattle.rules.specs.Queries.{order_shown}
+use Rattle.rules.specs.Queries.{order_shown, stock_shown}
 use Rattle.wire.specs.Answers.{answer_text, answer_bytes, json_type}
 use Rattle.wire.specs.Shorts.{wire_code, wire_status, wire_allow, code_text, cause_text}
-use Rattle.wire.specs.declared.answer.Answer.TheVariants.{Order as OrderAnswer}
+use Rattle.wire.specs.declared.answer.Answer.{Answer}
+use Rattle.wire.specs.declared.answer.Answer.TheVariants.{Order as OrderAnswer, Stock as StockAnswer}
 use Rattle.wire.specs.declared.fault.WireFault.{WireFault}
 use Rattle.wire.specs.declared.fault.WireFault.TheVariants.{Path, Memory}
 use Rattle.wire.specs.declared.ask.Ask.{Ask}
@@ -55,9 +54,9 @@ outcome_answer (Accepted text) = short_answer 200 text
 outcome_answer (Repeated text) = short_answer 200 text
 outcome_answer (Refused why) = short_answer 409 (code_text (refusal_code why))
 
--- the command is one of those that are decided, and its key is of its kind
+-- the key is of the command's kind
 abbrev pub is_served : Act → Bool
-is_served act = is_decided act.command && is_key_of act.key act.command
+is_served act = is_key_of act.key act.command
 
 -- what an act that is asked for is answered, and the acts after it
 abbrev pub act_answer : ℤ → List Act → Act → List ℕ
@@ -96,14 +95,20 @@ acts_scanned first acts d (Err fault) = acts
 
 -- Queries
 
--- 200 with the order, or 404 with the refusal's code
-abbrev pub view_answer : Result OrderView Refusal → List ℕ
-view_answer (Ok view) = answer_bytes (OrderAnswer view)
-view_answer (Err why) = short_answer 404 (code_text (refusal_code why))
+-- 200 with the view, or 404 with the refusal's code
+abbrev pub view_answer : {V : Type 0} → (V → Answer) → Result V Refusal → List ℕ
+view_answer answer (Ok view) = answer_bytes (answer view)
+view_answer answer (Err why) = short_answer 404 (code_text (refusal_code why))
+
+abbrev pub order_answer : ℤ → List Act → List ℕ → List ℕ
+order_answer first acts order = view_answer OrderAnswer (order_shown first acts order)
+
+abbrev pub stock_answer : ℤ → List Act → List ℕ → List ℕ
+stock_answer first acts gtin = view_answer StockAnswer (stock_shown first acts gtin)
 
 abbrev pub query_answer : ℤ → List Act → Query → List ℕ
-query_answer first acts (Order order) = view_answer (order_shown first acts order)
-query_answer first acts (Stock gtin) = not_served
+query_answer first acts (Order order) = order_answer first acts order
+query_answer first acts (Stock gtin) = stock_answer first acts gtin
 query_answer first acts (PickList order) = not_served
 query_answer first acts (Shortages gtin) = not_served
 query_answer first acts (Card lot) = not_served

@@ -6,7 +6,7 @@ use Rattle.rules.specs.Once.{IsHistory}
 use Rattle.wire.specs.Requests.{IsReading}
 use Rattle.wire.specs.declared.ask.Ask.{Ask}
 use Rattle.wire.specs.declared.ask.Ask.TheVariants.{Show}
-use Rattle.wire.specs.declared.ask.Query.TheVariants.{Order}
+use Rattle.wire.specs.declared.ask.Query.{Query}
 use Rattle.wire.specs.declared.request.Read.{Read}
 use Rattle.wire.specs.declared.request.Read.TheVariants.{Request}
 use Rattle.store.specs.Connected.{Connected}
@@ -66,11 +66,11 @@ pub record RunsTo {S : Type 0} (g : Ghosts S) (first : ℤ) (old : List Act) (te
   pub history : IsHistory first after
   pub holds : HoldsBooks g first after books
 
--- an answer that is not written in place is to a request that shows an order
+-- an answer that is not written in place is to a request that shows something
 abbrev pub IsAskedInPlace : Ask → Answered → Type 0
 IsAskedInPlace ask (Short block) = Unit {0}
-IsAskedInPlace ask (Long bytes) = (order : List ℕ) × (ask ≡ Show (Order order))
+IsAskedInPlace ask (Long bytes) = (query : Query) × (ask ≡ Show query)
 
 abbrev pub IsInPlace : List ℕ → Answered → Type 0
 IsInPlace text (Short block) = Unit {0}
-IsInPlace text (Long bytes) = (order : List ℕ) × IsReading text (Request (Show (Order order)))
+IsInPlace text (Long bytes) = (query : Query) × IsReading text (Request (Show query))

@@ -3,9 +3,8 @@
 ghost use Rattle.std.specs.Prelude.{◌≡◌, ℤ, List};
 ghost use Rattle.rules.specs.Acts.{Act};
 ghost use Rattle.rules.specs.Once.{IsHistory};
-ghost use Rattle.rules.specs.Queries.{order_shown};
 ghost use Rattle.store.specs.Books.{IsClean};
-ghost use Rattle.house.specs.Answers.{is_served as is_served_lem, act_answer, acts_with, view_answer};
+ghost use Rattle.house.specs.Answers.{is_served as is_served_lem, act_answer, acts_with, order_answer};
 ghost use Rattle.house.specs.Asking.{Does, told_answer, act_of, delivered, scanned_answer, scanned_acts};
 ghost use Rattle.house.specs.House.{bytes_of};
 
@@ -21,14 +20,16 @@ use std::alloc::Global;
 use store::{Books, Fault, Reply};
 use wire::{Answer, Block, WireFault, write_answer};
 
-/// Whether the command is one of those that are decided, and the key is of its kind.
+/// Whether the key is of the command's kind: a receipt bears a delivery and a line, every other
+/// command a plain key.
 fn is_served(key: &Key, command: &Command) -> bool
     ensures { result ≡ is_served_lem (act_of key.now command.now) }
 {
     match (key, command) {
         (Key::Line(_, _), Command::Receive(_)) => true,
-        (Key::Plain(_), Command::Item(_) | Command::Bin(_) | Command::Order(_)) => true,
-        _ => false,
+        (Key::Line(_, _), _) => false,
+        (Key::Plain(_), Command::Receive(_)) => false,
+        (Key::Plain(_), _) => true,
     }
 }
 
@@ -97,7 +98,7 @@ pub(crate) fn scan<S: Alter>(
 pub(crate) fn show_order<S: Alter>(alloc: Global, books: &mut Books<S>, order: &Name) -> Answered
     ensures clean { IsClean S.Store books.new → IsClean S.Store books.old }
     ensures shown { IsClean S.Store books.new → (first : ℤ) (acts : List Act) → IsHistory first acts
-        → Does S.Store first acts books.old (view_answer (order_shown first acts order.now)) acts (bytes_of result) books.new }
+        → Does S.Store first acts books.old (order_answer first acts order.now) acts (bytes_of result) books.new }
 {
     match books.order_rows(order) {
         Ok(view) => match write_answer(alloc, &Answer::Order(view)) {

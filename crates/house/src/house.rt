@@ -12,6 +12,7 @@ ghost use Rattle.house.specs.House.{books_of, bytes_of, texts_of, StepsTo, RunsT
 use crate::Answered;
 use crate::answered::fault_answer;
 use crate::asking::{act, scan, show_order};
+use crate::showing_stock::show_stock;
 use sqlite::Alter;
 use std::alloc::{AllocError, Global};
 use store::Books;
@@ -104,6 +105,7 @@ fn answer_ask<S: Alter>(alloc: Global, books: &mut Books<S>, ask: &Ask) -> Answe
             qty,
         } => Answered::Short(scan(books, *delivery, *line, label.as_slice(), *bin, *qty)),
         Ask::Show(Query::Order(order)) => show_order(alloc, books, order),
+        Ask::Show(Query::Stock(gtin)) => show_stock(alloc, books, gtin),
         _ => Answered::Short(fault_answer(WireFault::Path)),
     }
 }

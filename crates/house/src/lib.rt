@@ -6,11 +6,20 @@ mod asking;
 mod house;
 pub mod laws;
 mod serve;
+mod showing_stock;
 
 pub use answered::Answered;
 pub use house::House;
 pub use serve::ServeFault;
 
+#[cfg(test)]
+mod days_tests;
+#[cfg(test)]
+mod goods_tests;
+#[cfg(test)]
+mod picking_tables_tests;
+#[cfg(test)]
+mod picking_tests;
 #[cfg(test)]
 mod tables_tests;
 #[cfg(test)]

@@ -84,7 +84,7 @@ fn opened<S: Alter + Drop>(alloc: Global, conn: Connection<S>) -> Result<Books<S
 }
 
 // Each text gets its answer, and the books are closed.
-fn answered<S: Alter + Drop>(
+pub(crate) fn answered<S: Alter + Drop>(
     rt: &impl Abort,
     alloc: Global,
     conn: Connection<S>,
@@ -106,6 +106,21 @@ fn rows_of<S: Alter>(alloc: Global, conn: &mut Connection<S>, query: &str) -> Re
         text.push_str("\n")?;
     }
     Ok(text)
+}
+
+// Each table has these rows, in the order of the tables above.
+pub(crate) fn has_rows<S: Alter>(
+    rt: &impl Abort,
+    alloc: Global,
+    conn: &mut Connection<S>,
+    expected: &[&str],
+) -> Result<(), Fail> {
+    assert_eq!(rt; expected.len(), TABLES.len());
+    for (table, rows) in TABLES.as_slice().iter().zip(expected) {
+        let found = rows_of(alloc, conn, table.0)?;
+        assert_eq!(rt; found.as_str(), *rows, "{:?}", table.0);
+    }
+    Ok(())
 }
 
 fn has_every_row<S: Alter>(

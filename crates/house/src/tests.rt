@@ -27,7 +27,7 @@ static NO_REQUESTS: [(&str, &str); 7] = [
         "HTTP/1.1 405 Method Not Allowed\r\ncontent-type: application/json\r\ncontent-length: 14\r\nconnection: close\r\nallow: POST\r\n\r\n{\"code\":\"W07\"}",
     ),
     (
-        "GET /stock/09506000134352 HTTP/1.1\r\n\r\n",
+        "GET /picklists/S-1 HTTP/1.1\r\n\r\n",
         "HTTP/1.1 404 Not Found\r\ncontent-type: application/json\r\ncontent-length: 14\r\nconnection: close\r\n\r\n{\"code\":\"W06\"}",
     ),
     (
@@ -75,6 +75,34 @@ static REFUSED: [(&str, &str); 2] = [
         "HTTP/1.1 404 Not Found\r\ncontent-type: application/json\r\ncontent-length: 14\r\nconnection: close\r\n\r\n{\"code\":\"U04\"}",
     ),
 ];
+
+// The stock of an item with no lot, of one whose number is spelled with an escape, and of one that
+// nobody took into the range.
+static STOCK_BEFORE: [(&str, &str); 3] = [
+    (
+        "GET /stock/04012345000016 HTTP/1.1\r\n\r\n",
+        "HTTP/1.1 200 OK\r\ncontent-type: application/json\r\ncontent-length: 54\r\nconnection: close\r\n\r\n{\"gtin\":\"04012345000016\",\"lots\":[],\"name\":\"Rye bread\"}",
+    ),
+    (
+        "GET /stock/0401234500001%36 HTTP/1.1\r\n\r\n",
+        "HTTP/1.1 200 OK\r\ncontent-type: application/json\r\ncontent-length: 54\r\nconnection: close\r\n\r\n{\"gtin\":\"04012345000016\",\"lots\":[],\"name\":\"Rye bread\"}",
+    ),
+    (
+        "GET /stock/04012345000023 HTTP/1.1\r\n\r\n",
+        "HTTP/1.1 404 Not Found\r\ncontent-type: application/json\r\ncontent-length: 14\r\nconnection: close\r\n\r\n{\"code\":\"U01\"}",
+    ),
+];
+
+// The stock after the first receipt, and after all that the two customers ordered.
+static STOCK_OF_ONE_LOT: [(&str, &str); 1] = [(
+    "GET /stock/09506000134352 HTTP/1.1\r\n\r\n",
+    "HTTP/1.1 200 OK\r\ncontent-type: application/json\r\ncontent-length: 161\r\nconnection: close\r\n\r\n{\"gtin\":\"09506000134352\",\"lots\":[{\"bins\":[{\"bin\":\"A-01\",\"qty\":10}],\"expiry\":\"2026-06-30\",\"lot\":\"L1\",\"reserved\":0,\"staged\":0,\"status\":\"FREE\"}],\"name\":\"Oat drink\"}",
+)];
+
+static STOCK_OF_THREE_LOTS: [(&str, &str); 1] = [(
+    "GET /stock/09506000134352 HTTP/1.1\r\n\r\n",
+    "HTTP/1.1 200 OK\r\ncontent-type: application/json\r\ncontent-length: 377\r\nconnection: close\r\n\r\n{\"gtin\":\"09506000134352\",\"lots\":[{\"bins\":[{\"bin\":\"A-01\",\"qty\":5}],\"expiry\":\"2026-05-10\",\"lot\":\"L0\",\"reserved\":5,\"staged\":0,\"status\":\"FREE\"},{\"bins\":[{\"bin\":\"A-01\",\"qty\":10}],\"expiry\":\"2026-05-31\",\"lot\":\"L2\",\"reserved\":10,\"staged\":0,\"status\":\"FREE\"},{\"bins\":[{\"bin\":\"A-01\",\"qty\":10}],\"expiry\":\"2026-06-30\",\"lot\":\"L1\",\"reserved\":9,\"staged\":0,\"status\":\"FREE\"}],\"name\":\"Oat drink\"}",
+)];
 
 // Two deliveries and two customers; the last receipt comes again, and then with another quantity.
 pub(crate) static TWO_CUSTOMERS: [(&str, &str); 11] = [
@@ -139,13 +167,13 @@ pub(crate) fn new_books<S: Alter + Drop>(
     }
 }
 
-fn new_house(alloc: Global) -> Result<House<MemStore>, Fail> {
+pub(crate) fn new_house(alloc: Global) -> Result<House<MemStore>, Fail> {
     let conn = Connection::open_in_memory(alloc)?;
     Ok(House::new(alloc, new_books(alloc, conn)?))
 }
 
 // Each text gets its answer.
-fn expect(rt: &impl Abort, house: &mut House<MemStore>, rows: &[(&str, &str)]) {
+pub(crate) fn expect(rt: &impl Abort, house: &mut House<MemStore>, rows: &[(&str, &str)]) {
     for row in rows {
         let answer = house.answer(row.0.as_bytes());
         assert_eq!(rt; answer.as_bytes(), row.1.as_bytes(), "{:?}", row.0);
@@ -171,6 +199,19 @@ fn answers_the_two_customers(rt: HostRuntime) -> Result<(), Fail> {
     expect(&rt, &mut house, GOODS_AND_BINS.as_slice());
     expect(&rt, &mut house, REFUSED.as_slice());
     expect(&rt, &mut house, TWO_CUSTOMERS.as_slice());
+    Ok(())
+}
+
+#[test]
+fn shows_stock(rt: HostRuntime) -> Result<(), Fail> {
+    let mut house = new_house(rt.alloc())?;
+    expect(&rt, &mut house, GOODS_AND_BINS.as_slice());
+    expect(&rt, &mut house, STOCK_BEFORE.as_slice());
+    let (first, later) = TWO_CUSTOMERS.as_slice().split_at(1);
+    expect(&rt, &mut house, first);
+    expect(&rt, &mut house, STOCK_OF_ONE_LOT.as_slice());
+    expect(&rt, &mut house, later);
+    expect(&rt, &mut house, STOCK_OF_THREE_LOTS.as_slice());
     Ok(())
 }
 

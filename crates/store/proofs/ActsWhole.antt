@@ -11,7 +11,6 @@ use Rattle.sqlite.specs.declared.error.Error.{Error}
 use Rattle.table_words.specs.Steps.{IsReady}
 use Rattle.table_words.proofs.CallLemmas.{put_back, inside_then}
 use Rattle.rules.specs.Acts.{Act}
-use Rattle.rules.specs.Decided.{is_decided}
 use Rattle.rules.specs.Once.{IsHistory, is_key_of, acts_after}
 use Rattle.store.specs.declared.reply.Reply.{Reply}
 use Rattle.store.specs.declared.fault.Fault.{Fault}
@@ -80,7 +79,7 @@ begun_survives old begun is =
 
 abbrev pub ActsInside : Act → Result Reply Fault → State → State → Type 0
 ActsInside act r old new =
-    HasCleanDisk new → IsTrue (is_decided act.command) → IsTrue (is_key_of act.key act.command) → (first : ℤ) (acts : List Act) → IsHistory first acts
+    HasCleanDisk new → IsTrue (is_key_of act.key act.command) → (first : ℤ) (acts : List Act) → IsHistory first acts
     → (IsTrue old.is_open → IsBooksOf first acts old.now) → IsActedInside first acts act r old new
 
 abbrev pub KeepsInside : State → State → Type 0
@@ -88,42 +87,42 @@ KeepsInside old new = HasCleanDisk new → (IsTrue old.is_open → IsReady old.n
 
 abbrev pub ActsWhole : Act → Result Reply Fault → State → State → Type 0
 ActsWhole act r old new =
-    HasCleanDisk new → IsTrue (is_decided act.command) → IsTrue (is_key_of act.key act.command) → (first : ℤ) (acts : List Act) → IsHistory first acts → KeepsBooks first acts old
+    HasCleanDisk new → IsTrue (is_key_of act.key act.command) → (first : ℤ) (acts : List Act) → IsHistory first acts → KeepsBooks first acts old
     → IsActedOn first acts act r new
 
 abbrev pub SurvivesWhole : Act → State → State → Type 0
 SurvivesWhole act old new =
-    Survives old new (λ trees. IsTrue (is_decided act.command) → IsTrue (is_key_of act.key act.command) → (first : ℤ) (acts : List Act) → IsHistory first acts → KeepsBooks first acts old
+    Survives old new (λ trees. IsTrue (is_key_of act.key act.command) → (first : ℤ) (acts : List Act) → IsHistory first acts → KeepsBooks first acts old
     → AreRowsOf first (acts_after first acts act) trees)
 
 module _ (act : Act) (old begun last new : State) (is : begun ≡ record old { in_transaction = true }) where
   pub act_committed : (reply : Reply) → ActsInside act (Ok reply) begun last → Survives last new (λ db. db ≡ last.now.trees) → (HasCleanDisk new → Shows last new last.now last.now false) → ActsWhole act (Ok reply) old new
-  act_committed reply inside ends shows clean known kind first acts history held =
+  act_committed reply inside ends shows clean kind first acts history held =
       let was : HasCleanDisk last = omega (arith, clean, ends.clean) in
-      acted_whole first acts old begun is held act reply last new (inside was known kind first acts history (books_begun first acts old begun is held)) (shows clean)
+      acted_whole first acts old begun is held act reply last new (inside was kind first acts history (books_begun first acts old begun is held)) (shows clean)
 
   pub act_not_committed : (reply : Reply) (e : Error) (r : Result Reply Fault) → ActsInside act (Ok reply) begun last → KeepsInside begun last → Survives last new (λ db. db ≡ last.now.trees)
       → (HasCleanDisk new → FailsToCommit last new e) → IsErr r × IsErrAnd r (λ x. x ≡ Store) → ActsWhole act r old new
-  act_not_committed reply e r inside keeps ends fails told clean known kind first acts history held =
+  act_not_committed reply e r inside keeps ends fails told clean kind first acts history held =
       let was : HasCleanDisk last = omega (arith, clean, ends.clean) in
-      let done = inside was known kind first acts history (books_begun first acts old begun is held) in
+      let done = inside was kind first acts history (books_begun first acts old begun is held) in
       let kept : KeepsCommit begun last = keeps was (λ up. (books_begun first acts old begun is held up).ready) in
       by_error r Store told (λ x. IsActedOn first acts act x new) (not_committed first acts old begun is held last new e kept done.2.mode (fails clean))
 
   pub act_undone : (fault : Fault) (r : Result Reply Fault) → ActsInside act (Err fault) begun last → KeepsInside begun last → Survives last new (λ _. ⊥)
       → (HasCleanDisk new → IsRolledBack last new) → IsErr r × IsErrAnd r (λ x. x ≡ fault) → ActsWhole act r old new
-  act_undone fault r inside keeps ends undone told clean known kind first acts history held =
+  act_undone fault r inside keeps ends undone told clean kind first acts history held =
       let was : HasCleanDisk last = omega (arith, clean, ends.clean) in
-      let done = inside was known kind first acts history (books_begun first acts old begun is held) in
+      let done = inside was kind first acts history (books_begun first acts old begun is held) in
       let kept : KeepsCommit begun last = keeps was (λ up. (books_begun first acts old begun is held up).ready) in
       by_error r fault told (λ x. IsActedOn first acts act x new) (refused_whole first acts old begun is held act fault last new done (undone_whole first acts old begun is held last new kept (undone clean)))
 
   -- a stop in the commit leaves the books before or with the whole act
   pub stop_in_commit : (reply : Reply) → ActsInside act (Ok reply) begun last → Survives begun last (λ _. ⊥) → Survives last new (λ db. db ≡ last.now.trees) → SurvivesWhole act old new
   stop_in_commit reply inside before ends =
-      survives_then old last new (λ _. ⊥) (λ db. db ≡ last.now.trees) _ (λ _ db none. absurd none) (λ clean db e known kind first acts history held.
+      survives_then old last new (λ _. ⊥) (λ db. db ≡ last.now.trees) _ (λ _ db none. absurd none) (λ clean db e kind first acts history held.
       let was : HasCleanDisk last = omega (arith, clean, ends.clean) in
-      subst (AreRowsOf first (acts_after first acts act)) (sym e) (rows_after first acts old begun is held act reply last (inside was known kind first acts history (books_begun first acts old begun is held))))
+      subst (AreRowsOf first (acts_after first acts act)) (sym e) (rows_after first acts old begun is held act reply last (inside was kind first acts history (books_begun first acts old begun is held))))
       (inside_then old begun last (begun_survives old begun is) before) ends
 
   -- a stop before it leaves the books before

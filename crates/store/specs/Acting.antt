@@ -3,7 +3,9 @@ use Rattle.std.specs.Prelude.{◌≡◌, Bool, if◌then◌else◌, List, Some, 
 use Rattle.sqlite_trees.specs.declared.store.Store.{Ghosts}
 use Rattle.sqlite.specs.State.{State}
 use Rattle.table_words.specs.Steps.{Goes}
+use Rattle.commands.specs.declared.command.Command.{Command}
 use Rattle.rules.specs.Acts.{Act}
+use Rattle.rules.specs.Standing.{day_after_command}
 use Rattle.rules.specs.Tables.{tables_of}
 use Rattle.rules.specs.Slices.{IsDecision}
 use Rattle.rules.specs.Verdict.{verdict}
@@ -48,3 +50,7 @@ IsDecided first act acts (Ok change) = IsDecision first act acts (Ok change)
 IsDecided first act acts (Err (Refused why)) = verdict first acts act.command ≡ Some why
 IsDecided first act acts (Err Store) = Unit {0}
 IsDecided first act acts (Err Foreign) = ⊥
+
+-- the business day after a command that was accepted, or that came again and so opens no day
+abbrev pub day_left : ℤ → Command → Bool → ℤ
+day_left day command repeated = if repeated then day else day_after_command command day

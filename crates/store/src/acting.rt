@@ -7,7 +7,6 @@ ghost use Rattle.commands.specs.Spelling.{key_text, spelling};
 ghost use Rattle.table_words.specs.Steps.{IsReady, Goes};
 ghost use Rattle.table_words.specs.Typed.{with_repeat};
 ghost use Rattle.rules.specs.Acts.{Act};
-ghost use Rattle.rules.specs.Decided.{is_decided};
 ghost use Rattle.rules.specs.Once.{IsHistory, is_key_of, bearer, acts_after};
 ghost use Rattle.rules.specs.Slices.{AreOnce, applied};
 ghost use Rattle.slices.specs.Books.{AreRowsOf, IsBooksOf};
@@ -30,8 +29,6 @@ use std::alloc::Global;
 /// act's answer again, and another is refused (K01). Under a new key the rules decide, and an accepted
 /// command is written with its key and its answer. What is refused, and what fails, leaves the books as
 /// they were. A stop leaves them without the act or with the whole of it.
-///
-/// This is promised of the commands that are decided so far: `Item`, `Bin`, `Receive` and `Order`.
 pub fn act_once<S: Alter>(
     alloc: Global,
     conn: &mut Connection<S>,
@@ -40,9 +37,9 @@ pub fn act_once<S: Alter>(
 ) -> Result<Reply, Fault>
     requires outside { conn.old.in_transaction ≡ false }
     ensures outside { conn.new.in_transaction ≡ false }
-    ensures acted { HasCleanDisk (state S.Store conn.new) → IsTrue (is_decided command.now) → IsTrue (is_key_of key.now command.now) → (first : ℤ) (acts : List Act) → IsHistory first acts → KeepsBooks first acts (state S.Store conn.old)
+    ensures acted { HasCleanDisk (state S.Store conn.new) → IsTrue (is_key_of key.now command.now) → (first : ℤ) (acts : List Act) → IsHistory first acts → KeepsBooks first acts (state S.Store conn.old)
         → IsActedOn first acts (record { key = key.now; command = command.now }) result (state S.Store conn.new) }
-    ensures survives { Survives (state S.Store conn.old) (state S.Store conn.new) (λ trees. IsTrue (is_decided command.now) → IsTrue (is_key_of key.now command.now) → (first : ℤ) (acts : List Act) → IsHistory first acts → KeepsBooks first acts (state S.Store conn.old)
+    ensures survives { Survives (state S.Store conn.old) (state S.Store conn.new) (λ trees. IsTrue (is_key_of key.now command.now) → (first : ℤ) (acts : List Act) → IsHistory first acts → KeepsBooks first acts (state S.Store conn.old)
         → AreRowsOf first (acts_after first acts (record { key = key.now; command = command.now })) trees) }
 {
     let _outside = conn.is_autocommit();
@@ -60,7 +57,7 @@ fn act_inside<S: Alter>(
     command: &Command,
 ) -> Result<Reply, Fault>
     ensures same_reference { tx.new.conn.ghost_name ≡ tx.old.conn.ghost_name }
-    ensures acted { HasCleanDisk (state S.Store tx.new.conn.now) → IsTrue (is_decided command.now) → IsTrue (is_key_of key.now command.now) → (first : ℤ) (acts : List Act) → IsHistory first acts
+    ensures acted { HasCleanDisk (state S.Store tx.new.conn.now) → IsTrue (is_key_of key.now command.now) → (first : ℤ) (acts : List Act) → IsHistory first acts
         → (IsTrue (state S.Store tx.old.conn.now).is_open → IsBooksOf first acts (state S.Store tx.old.conn.now).now)
         → IsActedInside first acts (record { key = key.now; command = command.now }) result (state S.Store tx.old.conn.now) (state S.Store tx.new.conn.now) }
     ensures kept { HasCleanDisk (state S.Store tx.new.conn.now) → (IsTrue (state S.Store tx.old.conn.now).is_open → IsReady (state S.Store tx.old.conn.now).now) → KeepsCommit (state S.Store tx.old.conn.now) (state S.Store tx.new.conn.now) }
@@ -78,7 +75,7 @@ fn act_open<S: Alter>(
     command: &Command,
 ) -> Result<Reply, Fault>
     ensures same_reference { tx.new.conn.ghost_name ≡ tx.old.conn.ghost_name }
-    ensures acted { HasCleanDisk (state S.Store tx.new.conn.now) → IsTrue (is_decided command.now) → IsTrue (is_key_of key.now command.now) → (first : ℤ) (acts : List Act) → IsHistory first acts
+    ensures acted { HasCleanDisk (state S.Store tx.new.conn.now) → IsTrue (is_key_of key.now command.now) → (first : ℤ) (acts : List Act) → IsHistory first acts
         → IsTrue (state S.Store tx.old.conn.now).is_open → IsBooksOf first acts (state S.Store tx.old.conn.now).now
         → IsActedInside first acts (record { key = key.now; command = command.now }) result (state S.Store tx.old.conn.now) (state S.Store tx.new.conn.now) }
     ensures kept { HasCleanDisk (state S.Store tx.new.conn.now) → IsReady (state S.Store tx.old.conn.now).now → IsTrue (state S.Store tx.old.conn.now).is_open
@@ -100,7 +97,7 @@ fn act_anew<S: Alter>(
     command: &Command,
 ) -> Result<Reply, Fault>
     ensures same_reference { tx.new.conn.ghost_name ≡ tx.old.conn.ghost_name }
-    ensures acted { HasCleanDisk (state S.Store tx.new.conn.now) → IsTrue (is_decided command.now) → IsTrue (is_key_of key.now command.now) → (first : ℤ) (acts : List Act) → IsHistory first acts
+    ensures acted { HasCleanDisk (state S.Store tx.new.conn.now) → IsTrue (is_key_of key.now command.now) → (first : ℤ) (acts : List Act) → IsHistory first acts
         → IsTrue (state S.Store tx.old.conn.now).is_open → IsBooksOf first acts (state S.Store tx.old.conn.now).now → bearer key.now acts ≡ None
         → IsActedInside first acts (record { key = key.now; command = command.now }) result (state S.Store tx.old.conn.now) (state S.Store tx.new.conn.now) }
     ensures kept { HasCleanDisk (state S.Store tx.new.conn.now) → IsReady (state S.Store tx.old.conn.now).now → IsTrue (state S.Store tx.old.conn.now).is_open
@@ -119,7 +116,7 @@ fn change_of<S: Alter>(
     command: &Command,
 ) -> Result<Change, Fault>
     ensures same_reference { tx.new.conn.ghost_name ≡ tx.old.conn.ghost_name }
-    ensures decided { HasCleanDisk (state S.Store tx.new.conn.now) → IsTrue (is_decided command.now) → IsTrue (is_key_of key.now command.now) → (first : ℤ) (acts : List Act) → IsHistory first acts
+    ensures decided { HasCleanDisk (state S.Store tx.new.conn.now) → IsTrue (is_key_of key.now command.now) → (first : ℤ) (acts : List Act) → IsHistory first acts
         → IsTrue (state S.Store tx.old.conn.now).is_open → IsBooksOf first acts (state S.Store tx.old.conn.now).now → bearer key.now acts ≡ None
         → IsDecided first (record { key = key.now; command = command.now }) acts result }
     ensures same { HasCleanDisk (state S.Store tx.new.conn.now) → IsReady (state S.Store tx.old.conn.now).now → IsTrue (state S.Store tx.old.conn.now).is_open

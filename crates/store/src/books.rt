@@ -9,21 +9,21 @@ ghost use Rattle.table_words.specs.Steps.{IsReady};
 ghost use Rattle.table_words.specs.declared.error.TableFault.TheVariants.{Foreign as ForeignTable};
 ghost use Rattle.rules.specs.Acts.{Act};
 ghost use Rattle.rules.specs.Once.{IsHistory};
-ghost use Rattle.rules.specs.Standing.{today, RETURNS};
-ghost use Rattle.rules.specs.Decided.{is_decided};
+ghost use Rattle.rules.specs.Standing.{today, day_after_command, RETURNS};
 ghost use Rattle.rules.specs.Once.{is_key_of, acts_after};
-ghost use Rattle.store.specs.Acting.{IsActed};
-ghost use Rattle.rules.specs.Queries.{order_shown};
+ghost use Rattle.store.specs.Acting.{IsActed, day_left as day_left_lem};
+ghost use Rattle.rules.specs.Queries.{order_shown, stock_shown};
 ghost use Rattle.store.specs.Queries.{IsShown};
 ghost use Rattle.store.specs.Books.{AreRowsOf, KeepsBooks, HoldsBooks, IsClean};
 ghost use Rattle.store.specs.Opening.{HasDay, unlimited, IsLeftUnfilled, IsReopened, IsLeftOver, IsCleanLeft};
 
 use crate::acting::act_once;
 use crate::showing::show_order;
+use crate::showing_stock::show_stock;
 use crate::{Fault, Reply};
-use commands::{BinKind, BinRow, Command, Key, MetaRow, OrderView};
+use commands::{BinKind, BinRow, Command, Key, MetaRow, OrderView, StockView};
 use goods_tables::meta::meta_rows;
-use label::{BusinessDay, Day, Name};
+use label::{BusinessDay, Day, Gtin, Name};
 use sqlite::{Alter, Connection};
 use std::alloc::Global;
 use std::marker::Model;
@@ -57,6 +57,26 @@ pub struct OpenFault<S: Alter> {
     /// What is left of the connection.
     pub left: Leftover<S>,
     pub fault: Fault,
+}
+
+/// The business day after a command that the rules accepted.
+fn day_after(day: BusinessDay, command: &Command) -> BusinessDay
+    ensures { result ≡ day_after_command command.now day }
+{
+    match command {
+        Command::OpenDay(opened) => *opened,
+        _ => day,
+    }
+}
+
+/// The business day after a command that was accepted, or that came again and so opens no day.
+fn day_left(day: BusinessDay, command: &Command, repeated: bool) -> BusinessDay
+    ensures { result ≡ day_left_lem day command.now repeated }
+{
+    if repeated {
+        return day;
+    }
+    day_after(day, command)
 }
 
 /// The name of the bin that is there from the start.
@@ -214,17 +234,24 @@ impl<S: Alter> Books<S> {
     /// A key that an earlier act bears is looked at before every other rule: the same command gets that act's answer
     /// again, and another is refused (K01). Under a new key the rules decide. What is refused leaves the books as they
     /// were, and so does `Store`, where memory, the disk or a size did not suffice; `Foreign` is never answered on books
-    /// of a history. This is promised of the commands that are decided so far: `Item`, `Bin`, `Receive` and `Order`.
+    /// of a history.
     pub fn act(&mut self, key: &Key, command: &Command) -> Result<Reply, Fault>
         ensures clean { IsClean S.Store self.new → IsClean S.Store self.old }
-        ensures acted { IsClean S.Store self.new → IsTrue (is_decided command.now) → IsTrue (is_key_of key.now command.now)
+        ensures acted { IsClean S.Store self.new → IsTrue (is_key_of key.now command.now)
             → (first : ℤ) (acts : List Act) → IsHistory first acts → HoldsBooks S.Store first acts self.old
             → IsActed S.Store first acts (record { key = key.now; command = command.now }) result self.new }
-        ensures survives { Survives (state S.Store self.old.conn) (state S.Store self.new.conn) (λ trees. IsTrue (is_decided command.now) → IsTrue (is_key_of key.now command.now)
+        ensures survives { Survives (state S.Store self.old.conn) (state S.Store self.new.conn) (λ trees. IsTrue (is_key_of key.now command.now)
             → (first : ℤ) (acts : List Act) → IsHistory first acts → KeepsBooks first acts (state S.Store self.old.conn)
             → AreRowsOf first (acts_after first acts (record { key = key.now; command = command.now })) trees) }
     {
-        act_once(self.alloc, &mut self.conn, key, command)
+        match act_once(self.alloc, &mut self.conn, key, command) {
+            Ok(reply) => {
+                let day = day_left(self.day, command, reply.repeated);
+                self.day = day;
+                Ok(reply)
+            }
+            Err(why) => Err(why),
+        }
     }
 
     /// Shows an order as it stands: its lines by GTIN, what is reserved and staged for them by lot, and what is short. An
@@ -237,5 +264,18 @@ impl<S: Alter> Books<S> {
         ensures survives { Survives (state S.Store self.old.conn) (state S.Store self.new.conn) (λ _. ⊥) }
     {
         show_order(self.alloc, &mut self.conn, order)
+    }
+
+    /// Shows the stock of an item as it stands: its lots by expiry and first receipt, each with the units in its bins,
+    /// what is reserved and staged of it for all orders together, and its status. An item that is not known is refused
+    /// (U01). Nothing is changed; `Store` where memory or the disk did not suffice, and `Foreign` never on books of a
+    /// history.
+    pub fn stock(&mut self, gtin: &Gtin) -> Result<StockView, Fault>
+        ensures clean { IsClean S.Store self.new → IsClean S.Store self.old }
+        ensures shown { IsClean S.Store self.new → (first : ℤ) (acts : List Act) → IsHistory first acts → HoldsBooks S.Store first acts self.old
+            → IsShown S.Store first acts (stock_shown first acts gtin.now) result self.new }
+        ensures survives { Survives (state S.Store self.old.conn) (state S.Store self.new.conn) (λ _. ⊥) }
+    {
+        show_stock(self.alloc, &mut self.conn, self.day, gtin)
     }
 }

@@ -9,11 +9,14 @@ mod fault;
 mod repeats;
 mod reply;
 mod showing;
+mod showing_stock;
 mod telling;
 
 pub use books::{Books, OpenFault};
 pub use fault::Fault;
 pub use reply::Reply;
 
+#[cfg(test)]
+mod stock_tests;
 #[cfg(test)]
 mod tests;

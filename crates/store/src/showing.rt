@@ -1,4 +1,4 @@
-//! What is shown of the books.
+//! An order as the books show it.
 
 ghost use Rattle.std.specs.Prelude.{◌≡◌, ℕ, false, ℤ, List, IsTrue, IfOk, IfErr};
 ghost use Rattle.sqlite.specs.State.{HasCleanDisk, Survives, KeepsCommit};
@@ -6,6 +6,7 @@ ghost use Rattle.sqlite.specs.Held.{state};
 ghost use Rattle.table_words.specs.Steps.{IsReady};
 ghost use Rattle.rules.specs.Acts.{Act};
 ghost use Rattle.rules.specs.Once.{IsHistory};
+ghost use Rattle.rules.specs.Queries.{order_shown};
 ghost use Rattle.slices.specs.Books.{IsBooksOf};
 ghost use Rattle.slices.specs.ShownOrders.{IsOrderRead};
 ghost use Rattle.store.specs.Books.{KeepsBooks};
@@ -30,7 +31,7 @@ pub fn show_order<S: Alter>(
     requires outside { conn.old.in_transaction ≡ false }
     ensures outside { conn.new.in_transaction ≡ false }
     ensures shown { HasCleanDisk (state S.Store conn.new) → (first : ℤ) (acts : List Act) → IsHistory first acts → KeepsBooks first acts (state S.Store conn.old)
-        → IsShownOn first acts order.now result (state S.Store conn.new) }
+        → IsShownOn first acts (order_shown first acts order.now) result (state S.Store conn.new) }
     ensures survives { Survives (state S.Store conn.old) (state S.Store conn.new) (λ _. ⊥) }
 {
     let _outside = conn.is_autocommit();
@@ -62,7 +63,7 @@ fn find_order<S: Alter>(
 }
 
 fn view_of(alloc: Global, found: Option<(OrderRow, Rows)>) -> Result<OrderView, Fault>
-    ensures { (first : ℤ) (acts : List Act) (o : List ℕ) → IsHistory first acts → IsOrderRead first acts o found → IsShownAs first acts o result }
+    ensures { (first : ℤ) (acts : List Act) (o : List ℕ) → IsHistory first acts → IsOrderRead first acts o found → IsShownAs (order_shown first acts o) result }
 {
     match found {
         None => Err(Fault::Refused(Refusal::UnknownOrder)),

@@ -5,7 +5,6 @@ ghost use Rattle.label.specs.Values.{same_text};
 ghost use Rattle.commands.specs.Spelling.{spelling};
 ghost use Rattle.rules.specs.Acts.{Act};
 ghost use Rattle.rules.specs.Once.{IsHistory, is_key_of, bearer};
-ghost use Rattle.rules.specs.Decided.{is_decided};
 ghost use Rattle.rules.specs.Slices.{IsSlice};
 ghost use Rattle.rules.specs.Tables.{tables_of};
 ghost use Rattle.store.specs.Acting.{IsDecided};
@@ -35,7 +34,7 @@ pub fn told_again(alloc: Global, row: &RepeatRow, command: &Command) -> Result<R
 pub fn decided(alloc: Global, slice: &Slice, key: &Key, command: &Command) -> Result<Change, Fault>
     ensures { (first : ℤ) (acts : List Act) →
         let act : Act = record { key = key.now; command = command.now } in
-        IsTrue (is_decided command.now) → IsHistory first acts → IsTrue (is_key_of key.now command.now) → bearer key.now acts ≡ None →
+        IsHistory first acts → IsTrue (is_key_of key.now command.now) → bearer key.now acts ≡ None →
         IsSlice first act acts (tables_of first acts) slice.now → IsDecided first act acts result }
 {
     match decide(alloc, slice, key, command) {

@@ -13,15 +13,15 @@ use std::process::Abort;
 use std::test::Fail;
 use tables::creation::create;
 
-fn name(rt: &impl Abort, text: &[u8]) -> Name {
+pub(crate) fn name(rt: &impl Abort, text: &[u8]) -> Name {
     Name::new(text).expect(rt, "a name")
 }
 
-fn key(rt: &impl Abort, text: &[u8]) -> Key {
+pub(crate) fn key(rt: &impl Abort, text: &[u8]) -> Key {
     Key::Plain(name(rt, text))
 }
 
-fn bin(rt: &impl Abort, text: &[u8], kind: BinKind) -> Command {
+pub(crate) fn bin(rt: &impl Abort, text: &[u8], kind: BinKind) -> Command {
     Command::Bin(NewBin {
         bin: name(rt, text),
         kind,
@@ -32,11 +32,11 @@ fn title(rt: &impl Abort, text: &[u8]) -> Title {
     Title::new(text).expect(rt, "a title")
 }
 
-fn oats(rt: &impl Abort) -> Gtin {
+pub(crate) fn oats(rt: &impl Abort) -> Gtin {
     Gtin::new(b"09506000134352").ok().expect(rt, "a GTIN")
 }
 
-fn item(rt: &impl Abort) -> Command {
+pub(crate) fn item(rt: &impl Abort) -> Command {
     Command::Item(NewItem {
         gtin: oats(rt),
         name: title(rt, b"Oat drink 1 l"),
@@ -44,7 +44,7 @@ fn item(rt: &impl Abort) -> Command {
 }
 
 /// Units of the lot L1 of the oat drink into A-01.
-fn receipt(rt: &impl Abort, units: u64) -> Command {
+pub(crate) fn receipt(rt: &impl Abort, units: u64) -> Command {
     Command::Receive(Receipt {
         lot: LotId {
             gtin: oats(rt),
@@ -57,7 +57,7 @@ fn receipt(rt: &impl Abort, units: u64) -> Command {
 }
 
 /// The order S-1 of units of the oat drink.
-fn order(rt: &impl Abort, alloc: Global, units: u64) -> Result<Command, Fail> {
+pub(crate) fn order(rt: &impl Abort, alloc: Global, units: u64) -> Result<Command, Fail> {
     let mut lines = Vec::new(alloc);
     lines.push(OrderLine {
         gtin: oats(rt),
@@ -71,7 +71,7 @@ fn order(rt: &impl Abort, alloc: Global, units: u64) -> Result<Command, Fail> {
 }
 
 /// Books of no acts on 2026-05-04, with the bin RETURNS.
-fn books(rt: &impl Abort, alloc: Global) -> Result<Connection<MemStore>, Fail>
+pub(crate) fn books(rt: &impl Abort, alloc: Global) -> Result<Connection<MemStore>, Fail>
     ensures { IfOk result (λ conn. conn.in_transaction ≡ false) }
 {
     let mut conn = Connection::open_in_memory(alloc)?;
@@ -90,7 +90,7 @@ fn books(rt: &impl Abort, alloc: Global) -> Result<Connection<MemStore>, Fail>
 }
 
 /// An act; one that fails for want of memory or disk is made again.
-fn acted<S: Alter>(
+pub(crate) fn acted<S: Alter>(
     alloc: Global,
     conn: &mut Connection<S>,
     key: &Key,

@@ -18,10 +18,10 @@ use Rattle.rules.specs.Tables.{bin_row, stock_row}
 use Rattle.rules.specs.Slices.{AreRows, LotBin, same_cell}
 use Rattle.rules.specs.Views.{has_bin_units, bins_of_lot, store_bins_of_lot}
 use Rattle.rules.proofs.Tests.{and_both, same_text_is, same_text_refl, same_text_turned, is_lot_is, is_lot_refl}
-use Rattle.rules.proofs.Notices.{bins_apart}
-use Rattle.rules.proofs.Ordering.{AreRising, rising_inserted, rising_ordered, ordered_kept}
-use Rattle.rules.proofs.PlaceRows.{any_some}
-use Rattle.rules.proofs.Telling.{once_apart}
+use Rattle.rules.proofs.histories.Notices.{bins_apart}
+use Rattle.rules.proofs.rows.Ordering.{AreRising, rising_inserted, rising_ordered, ordered_kept}
+use Rattle.rules.proofs.rows.PlaceRows.{any_some}
+use Rattle.rules.proofs.rows.Telling.{once_apart}
 use Rattle.views.specs.Seen.{bin_before, bin_units, is_in_store, store_bins_seen}
 use Rattle.views.proofs.Sorting.{IsIn, in_map, of_map, in_filter, of_filter, found_in, in_any, in_ordered, of_ordered, in_inserted, of_inserted, same_rising, rising_kept, ordered_map, once_kept}
 use Rattle.views.proofs.Ranks.{IsEither, text_strict, text_further, text_either, are_ordered}

@@ -9,3 +9,6 @@ pub mod ReservedShown
 pub mod ShortShown
 pub mod LinesShown
 pub mod OrderShown
+pub mod AllBinsShown
+pub mod LotTotals
+pub mod StockTold

@@ -14,8 +14,8 @@ use Rattle.rules.specs.Slices.{AreRows, OrderItem, same_line}
 use Rattle.rules.specs.Views.{text_before}
 use Rattle.rules.proofs.Tests.{same_text_is, same_text_refl, same_text_turned}
 use Rattle.rules.proofs.Apart.{all_found}
-use Rattle.rules.proofs.Ordering.{AreRising, rising_inserted, rising_ordered}
-use Rattle.rules.proofs.Telling.{some_of_mapped, once_apart}
+use Rattle.rules.proofs.rows.Ordering.{AreRising, rising_inserted, rising_ordered}
+use Rattle.rules.proofs.rows.Telling.{some_of_mapped, once_apart}
 use Rattle.views.specs.Seen.{line_before, lines_seen}
 use Rattle.views.proofs.Sorting.{IsIn, in_map, of_map, in_filter, of_filter, found_in, in_ordered, of_ordered, in_inserted, of_inserted, same_rising, rising_map, once_kept}
 use Rattle.views.proofs.Ranks.{IsEither, second_differs, text_strict, text_further, text_either, are_ordered}

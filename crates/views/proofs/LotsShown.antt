@@ -13,9 +13,9 @@ use Rattle.rules.specs.Tables.{lot_row}
 use Rattle.rules.specs.Slices.{AreRows}
 use Rattle.rules.specs.Views.{lots_in_order}
 use Rattle.rules.proofs.Tests.{is_lot_is, is_lot_refl, is_lot_turned}
-use Rattle.rules.proofs.Lots.{same_known, lots_apart, lots_found, receipt_names_lot}
-use Rattle.rules.proofs.Ordering.{AreRising, rising_inserted, rising_ordered, ordered_kept}
-use Rattle.rules.proofs.Telling.{some_of_mapped, once_apart}
+use Rattle.rules.proofs.histories.Lots.{same_known, lots_apart, lots_found, receipt_names_lot}
+use Rattle.rules.proofs.rows.Ordering.{AreRising, rising_inserted, rising_ordered, ordered_kept}
+use Rattle.rules.proofs.rows.Telling.{some_of_mapped, once_apart}
 use Rattle.views.specs.Seen.{lots_seen}
 use Rattle.views.proofs.Sorting.{IsIn, in_map, of_map, in_filter, of_filter, found_in, in_ordered, of_ordered, in_inserted, of_inserted, same_rising, rising_map}
 use Rattle.views.proofs.Ranks.{IsEither, rank_strict, rank_further, rank_either, are_ordered}

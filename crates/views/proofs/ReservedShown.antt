@@ -19,12 +19,12 @@ use Rattle.rules.specs.Slices.{AreRows, OrderLot, same_share, no_two}
 use Rattle.rules.specs.Views.{text_before}
 use Rattle.rules.proofs.Tests.{and_both, is_zero, not_true, same_tests, same_text_is, same_text_refl, is_lot_is, is_lot_turned}
 use Rattle.rules.proofs.Apart.{any_found}
-use Rattle.rules.proofs.DemandsTold.{same_total}
-use Rattle.rules.proofs.Falling.{AllBelow, AreFalling}
-use Rattle.rules.proofs.Lots.{same_known, lots_apart, lots_numbered}
-use Rattle.rules.proofs.Ordering.{AreRising, rising_ordered, total_ordered, total_filter, total_map}
-use Rattle.rules.proofs.PlaceRows.{any_some}
-use Rattle.rules.proofs.Telling.{once_apart, picked, totals_swapped}
+use Rattle.rules.proofs.rows.DemandsTold.{same_total}
+use Rattle.rules.proofs.histories.Falling.{AllBelow, AreFalling}
+use Rattle.rules.proofs.histories.Lots.{same_known, lots_apart, lots_numbered}
+use Rattle.rules.proofs.rows.Ordering.{AreRising, rising_ordered, total_ordered, total_filter, total_map}
+use Rattle.rules.proofs.rows.PlaceRows.{any_some}
+use Rattle.rules.proofs.rows.Telling.{once_apart, picked, totals_swapped}
 use Rattle.views.specs.Seen.{reserved_seen}
 use Rattle.views.proofs.Sorting.{IsIn, in_map, of_map, in_filter, of_filter, found_in, in_any, in_ordered, of_ordered, same_rising, ordered_map, once_kept, of_flat_map}
 use Rattle.views.proofs.Ranks.{IsEither, second_differs, text_strict, text_further, text_either, are_ordered}

@@ -24,16 +24,16 @@ use Rattle.rules.specs.Verdict.{names_item_twice}
 use Rattle.rules.specs.Views.{short_of_line}
 use Rattle.rules.proofs.Tests.{and_both, or_none, same_text_is, same_text_refl, same_text_turned}
 use Rattle.rules.proofs.Apart.{AreApart, all_found}
-use Rattle.rules.proofs.Bookings.{total_flat}
-use Rattle.rules.proofs.Cells.{holds}
-use Rattle.rules.proofs.DemandsTold.{listed, line_found, single_of}
-use Rattle.rules.proofs.ItemBalances.{balance-of_item}
-use Rattle.rules.proofs.LegalHistories.{legal_history}
-use Rattle.rules.proofs.OpenUnits.{total_reversed}
-use Rattle.rules.proofs.Ordering.{total_map}
-use Rattle.rules.proofs.Orders.{orders_apart, orders_single}
-use Rattle.rules.proofs.PlaceRows.{staged_holds, stage_cells}
-use Rattle.rules.proofs.Telling.{once_apart, picked}
+use Rattle.rules.proofs.histories.Bookings.{total_flat}
+use Rattle.rules.proofs.histories.Cells.{holds}
+use Rattle.rules.proofs.rows.DemandsTold.{listed, line_found, single_of}
+use Rattle.rules.proofs.histories.ItemBalances.{balance-of_item}
+use Rattle.rules.proofs.histories.LegalHistories.{legal_history}
+use Rattle.rules.proofs.rows.OpenUnits.{total_reversed}
+use Rattle.rules.proofs.rows.Ordering.{total_map}
+use Rattle.rules.proofs.histories.Orders.{orders_apart, orders_single}
+use Rattle.rules.proofs.rows.PlaceRows.{staged_holds, stage_cells}
+use Rattle.rules.proofs.rows.Telling.{once_apart, picked}
 use Rattle.views.specs.Seen.{is_cancelled_state, reserved_seen, line_need}
 use Rattle.views.proofs.Sorting.{IsIn}
 use Rattle.views.proofs.Members.{member_found}

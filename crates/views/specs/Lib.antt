@@ -1,2 +1,4 @@
 pub mod Seen
 pub mod Shown
+pub mod SeenStock
+pub mod ShownStock

@@ -7,10 +7,15 @@ mod looking;
 mod lots;
 mod order;
 mod short;
+mod stock;
+mod summing;
 
 pub use order::order_view;
+pub use stock::stock_view;
 
 #[cfg(test)]
 mod listing;
+#[cfg(test)]
+mod stock_tests;
 #[cfg(test)]
 mod tests;

@@ -1,6 +1,9 @@
 //! Views as texts, a row a line, so that tests compare them whole.
 
-use commands::{LineView, OrderState, OrderView, ReservedLot, decimal_text};
+use commands::{
+    BinUnits, LineView, LotStatus, LotView, OrderState, OrderView, ReservedLot, StockView,
+    decimal_text,
+};
 
 const ROOM: usize = 512;
 
@@ -14,10 +17,7 @@ pub struct Listing {
 impl Listing {
     /// The order, each line with its reserved lots, their bins, and its staged lots.
     pub(crate) fn of(view: &OrderView) -> Listing {
-        let mut listing = Listing {
-            bytes: [0; ROOM],
-            len: 0,
-        };
+        let mut listing = Listing::empty();
         listing.word(view.order.as_bytes());
         listing.field(view.customer.as_bytes());
         listing.state(view.state);
@@ -25,6 +25,25 @@ impl Listing {
             listing.line(line);
         }
         listing
+    }
+
+    /// The item, and each lot with its status, what is reserved and staged of it, and its bins.
+    pub(crate) fn of_stock(view: &StockView) -> Listing {
+        let mut listing = Listing::empty();
+        listing.word(view.item.gtin.as_bytes());
+        listing.field(view.item.name.as_bytes());
+        listing.push(b'\n');
+        for lot in view.lots.as_slice() {
+            listing.lot(lot);
+        }
+        listing
+    }
+
+    fn empty() -> Listing {
+        Listing {
+            bytes: [0; ROOM],
+            len: 0,
+        }
     }
 
     pub(crate) fn as_bytes(&self) -> &[u8] {
@@ -84,10 +103,32 @@ impl Listing {
         self.field(lot.lot.as_bytes());
         self.field(lot.expiry.text().as_slice());
         self.number(lot.qty);
-        for bin in lot.bins.as_slice() {
+        self.bins(lot.bins.as_slice());
+    }
+
+    fn bins(&mut self, bins: &[BinUnits]) {
+        for bin in bins {
             self.field(bin.bin.as_bytes());
             self.number(bin.qty);
         }
         self.push(b'\n');
+    }
+
+    fn lot(&mut self, lot: &LotView) {
+        self.word(lot.lot.as_bytes());
+        self.field(lot.expiry.text().as_slice());
+        self.status(lot.status);
+        self.number(lot.reserved);
+        self.number(lot.staged);
+        self.bins(lot.bins.as_slice());
+    }
+
+    fn status(&mut self, status: LotStatus) {
+        match status {
+            LotStatus::Recalled => self.field(b"RECALLED"),
+            LotStatus::Held => self.field(b"HELD"),
+            LotStatus::Expired => self.field(b"EXPIRED"),
+            LotStatus::Free => self.field(b"FREE"),
+        }
     }
 }

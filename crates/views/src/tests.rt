@@ -12,15 +12,15 @@ use rules::Rows;
 use std::alloc::{AllocError, Global};
 use std::process::Abort;
 
-fn name(rt: &impl Abort, text: &[u8]) -> Name {
+pub(crate) fn name(rt: &impl Abort, text: &[u8]) -> Name {
     Name::new(text).expect(rt, "a name")
 }
 
-fn oats(rt: &impl Abort) -> Gtin {
+pub(crate) fn oats(rt: &impl Abort) -> Gtin {
     Gtin::new(b"09506000134352").ok().expect(rt, "a GTIN")
 }
 
-fn lot(rt: &impl Abort, text: &[u8]) -> LotId {
+pub(crate) fn lot(rt: &impl Abort, text: &[u8]) -> LotId {
     LotId {
         gtin: oats(rt),
         lot: Lot::new(text).ok().expect(rt, "a lot"),
@@ -29,7 +29,7 @@ fn lot(rt: &impl Abort, text: &[u8]) -> LotId {
 
 // Rows
 
-fn lot_row(rt: &impl Abort, text: &[u8], expiry: &[u8], came: u64) -> LotRow {
+pub(crate) fn lot_row(rt: &impl Abort, text: &[u8], expiry: &[u8], came: u64) -> LotRow {
     LotRow {
         lot: lot(rt, text),
         expiry: Day::parse(expiry).expect(rt, "a day"),
@@ -38,7 +38,7 @@ fn lot_row(rt: &impl Abort, text: &[u8], expiry: &[u8], came: u64) -> LotRow {
     }
 }
 
-fn stock_row(rt: &impl Abort, text: &[u8], bin: &[u8], qty: u64) -> StockRow {
+pub(crate) fn stock_row(rt: &impl Abort, text: &[u8], bin: &[u8], qty: u64) -> StockRow {
     StockRow {
         lot: lot(rt, text),
         bin: name(rt, bin),
@@ -71,7 +71,7 @@ fn line_row(rt: &impl Abort, order: &[u8]) -> LineRow {
     }
 }
 
-fn reserved_row(rt: &impl Abort, order: &[u8], text: &[u8], qty: u64) -> ReservedRow {
+pub(crate) fn reserved_row(rt: &impl Abort, order: &[u8], text: &[u8], qty: u64) -> ReservedRow {
     ReservedRow {
         order: name(rt, order),
         lot: lot(rt, text),
@@ -79,7 +79,7 @@ fn reserved_row(rt: &impl Abort, order: &[u8], text: &[u8], qty: u64) -> Reserve
     }
 }
 
-fn staged_row(rt: &impl Abort, order: &[u8], text: &[u8], qty: u64) -> StagedRow {
+pub(crate) fn staged_row(rt: &impl Abort, order: &[u8], text: &[u8], qty: u64) -> StagedRow {
     StagedRow {
         order: name(rt, order),
         lot: lot(rt, text),
@@ -88,7 +88,7 @@ fn staged_row(rt: &impl Abort, order: &[u8], text: &[u8], qty: u64) -> StagedRow
 }
 
 // A list of these rows. Where memory is refused, it is asked for once more.
-fn listed<T: Copy>(rt: &impl Abort, alloc: Global, rows: &[T]) -> Listed<T> {
+pub(crate) fn listed<T: Copy>(rt: &impl Abort, alloc: Global, rows: &[T]) -> Listed<T> {
     match copied(alloc, rows) {
         Ok(list) => list,
         Err(_) => copied(alloc, rows).ok().expect(rt, "memory"),

@@ -18,8 +18,8 @@ use Rattle.commands.specs.declared.command.Command.TheVariants.{Item, Count}
 use Rattle.wire.specs.declared.fault.WireFault.TheVariants.{Length, Path, Field, TooLarge, Method as OtherMethod}
 use Rattle.wire.specs.declared.method.Method.TheVariants.{Get, Post}
 use Rattle.wire.specs.declared.routes.Route.TheVariants.{Post as PostTo, Get as GetOf}
-use Rattle.wire.specs.declared.routes.Posted.TheVariants.{Items, Bins, Receipts, Orders}
-use Rattle.wire.specs.declared.routes.Shown.TheVariants.{Order as AnOrder, Card}
+use Rattle.wire.specs.declared.routes.Posted.TheVariants.{Items, Bins, Receipts, Orders, Recalls, Days}
+use Rattle.wire.specs.declared.routes.Shown.TheVariants.{Order as AnOrder, Stock as TheStock, Card}
 use Rattle.wire.specs.declared.ask.Ask.TheVariants.{Do}
 use Rattle.wire.specs.declared.ask.Query.TheVariants.{Card as CardOf}
 
@@ -41,9 +41,25 @@ pub orders : route_of (codes "/orders") ≡ Some (PostTo Orders)
 unfolding matchit_on_literals table
 orders = refl
 
+pub recalls : route_of (codes "/recalls") ≡ Some (PostTo Recalls)
+unfolding matchit_on_literals table
+recalls = refl
+
+pub days : route_of (codes "/days") ≡ Some (PostTo Days)
+unfolding matchit_on_literals table
+days = refl
+
+pub no_goods_in_yet : route_of (codes "/goodsin") ≡ None
+unfolding matchit_on_literals table
+no_goods_in_yet = refl
+
 pub an_order : route_of (codes "/orders/S-1") ≡ Some (GetOf AnOrder)
 unfolding matchit_on_literals table
 an_order = refl
+
+pub the_stock : route_of (codes "/stock/09506000134352") ≡ Some (GetOf TheStock)
+unfolding matchit_on_literals table
+the_stock = refl
 
 pub no_order : route_of (codes "/orders/") ≡ None
 unfolding matchit_on_literals table
@@ -72,6 +88,14 @@ small_letters_are_another_method = refl
 pub a_broken_escape : read_ask (codes "GET") (codes "/orders/%zz") [] ≡ Err Field
 unfolding matchit_on_literals table percent_decode
 a_broken_escape = refl
+
+pub stock_is_not_posted : read_ask (codes "POST") (codes "/stock/09506000134352") [] ≡ Err (OtherMethod Get)
+unfolding matchit_on_literals table
+stock_is_not_posted = refl
+
+pub a_pick_list_is_not_served : read_ask (codes "GET") (codes "/picklists/S-1") [] ≡ Err Path
+unfolding matchit_on_literals table
+a_pick_list_is_not_served = refl
 
 -- values in a path
 

@@ -12,8 +12,8 @@ use Rattle.wire.specs.declared.method.Method.{Method}
 use Rattle.wire.specs.declared.method.Method.TheVariants.{Get, Post}
 use Rattle.wire.specs.declared.routes.Route.{Route}
 use Rattle.wire.specs.declared.routes.Route.TheVariants.{Post as PostTo, Get as GetOf}
-use Rattle.wire.specs.declared.routes.Posted.TheVariants.{Items, Bins, Receipts, Orders}
-use Rattle.wire.specs.declared.routes.Shown.TheVariants.{Order}
+use Rattle.wire.specs.declared.routes.Posted.TheVariants.{Items, Bins, Receipts, Moves, Counts, Adjustments, Orders, Cancels, Picks, Unpicks, Shipments, Holds, Releases, Recalls, Days}
+use Rattle.wire.specs.declared.routes.Shown.TheVariants.{Order, Stock}
 
 -- the rows of a table
 abbrev pub Rows : Type 0
@@ -42,8 +42,20 @@ served =
     (codes "/items", PostTo Items)
     ∷ (codes "/bins", PostTo Bins)
     ∷ (codes "/receipts", PostTo Receipts)
+    ∷ (codes "/moves", PostTo Moves)
+    ∷ (codes "/counts", PostTo Counts)
+    ∷ (codes "/adjustments", PostTo Adjustments)
     ∷ (codes "/orders", PostTo Orders)
+    ∷ (codes "/cancels", PostTo Cancels)
+    ∷ (codes "/picks", PostTo Picks)
+    ∷ (codes "/unpicks", PostTo Unpicks)
+    ∷ (codes "/shipments", PostTo Shipments)
+    ∷ (codes "/holds", PostTo Holds)
+    ∷ (codes "/releases", PostTo Releases)
+    ∷ (codes "/recalls", PostTo Recalls)
+    ∷ (codes "/days", PostTo Days)
     ∷ (codes "/orders/{order}", GetOf Order)
+    ∷ (codes "/stock/{gtin}", GetOf Stock)
     ∷ []
 
 unfoldable pub table : Rows

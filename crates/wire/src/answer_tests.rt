@@ -49,7 +49,7 @@ fn answer_to(alloc: Global, text: &[u8]) -> Option<Block> {
     }
 }
 
-// Texts that are no request, and their answers. POST `/days` is not served yet.
+// Texts that are no request, and their answers.
 static ANSWERS: [(&str, &str); 5] = [
     (
         "POST /days HTTP/1.1\r\nContent-Length: 32\r\n",
@@ -64,7 +64,7 @@ static ANSWERS: [(&str, &str); 5] = [
         "HTTP/1.1 413 Content Too Large\r\ncontent-type: application/json\r\ncontent-length: 14\r\nconnection: close\r\n\r\n{\"code\":\"W08\"}",
     ),
     (
-        "POST /days HTTP/1.1\r\nContent-Length: 32\r\n\r\n{\"key\":\"K-9\",\"day\":\"2026-05-05\"}",
+        "POST /days?x=1 HTTP/1.1\r\nContent-Length: 32\r\n\r\n{\"key\":\"K-9\",\"day\":\"2026-05-05\"}",
         "HTTP/1.1 404 Not Found\r\ncontent-type: application/json\r\ncontent-length: 14\r\nconnection: close\r\n\r\n{\"code\":\"W06\"}",
     ),
     (

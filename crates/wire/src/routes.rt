@@ -47,12 +47,24 @@ pub enum Route {
 }
 
 /// The routes that are served.
-pub static ROUTES: [(&str, Route); 5] = [
+pub static ROUTES: [(&str, Route); 17] = [
     ("/items", Route::Post(Posted::Items)),
     ("/bins", Route::Post(Posted::Bins)),
     ("/receipts", Route::Post(Posted::Receipts)),
+    ("/moves", Route::Post(Posted::Moves)),
+    ("/counts", Route::Post(Posted::Counts)),
+    ("/adjustments", Route::Post(Posted::Adjustments)),
     ("/orders", Route::Post(Posted::Orders)),
+    ("/cancels", Route::Post(Posted::Cancels)),
+    ("/picks", Route::Post(Posted::Picks)),
+    ("/unpicks", Route::Post(Posted::Unpicks)),
+    ("/shipments", Route::Post(Posted::Shipments)),
+    ("/holds", Route::Post(Posted::Holds)),
+    ("/releases", Route::Post(Posted::Releases)),
+    ("/recalls", Route::Post(Posted::Recalls)),
+    ("/days", Route::Post(Posted::Days)),
     ("/orders/{order}", Route::Get(Shown::Order)),
+    ("/stock/{gtin}", Route::Get(Shown::Stock)),
 ];
 
 fn add_route(router: &mut Router<Route>, text: &str, value: Route) -> Result<(), InsertError>

@@ -4,7 +4,6 @@ use Rattle.rules.specs.Once.{IsSoundRequest}
 use Rattle.house.specs.Answers.{is_served, act_answer, acts_with}
 use Rattle.house.specs.Asking.{act_of, IsDone, IsUndone}
 use Rattle.house.proofs.Acting.{acted}
-use Rattle.house.proofs.Stepping.{both}
 use Rattle.house.proofs.asking.act.Goals as goal
 
 pub returns-clause-acted : goal.returns-clause-acted
@@ -12,8 +11,7 @@ returns-clause-acted g c clean first acts history holds =
     let key = c.args.key.now in
     let command = c.args.command.now in
     let yes : is_served (act_of key command) ≡ true = search rules in
-    let parts = both _ _ yes in
-    let sound : IsSoundRequest (act_of key command) = record { kind = parts.1; key = c.every_key_is_sound.ensures.sound; command = c.every_command_is_sound.ensures.sound } in
+    let sound : IsSoundRequest (act_of key command) = record { kind = yes; key = c.every_key_is_sound.ensures.sound; command = c.every_command_is_sound.ensures.sound } in
     subst (λ b. IsDone g.S.Store first (act_answer first acts (act_of key command)) (acts_with first acts (act_of key command)) b c.act.new.self ⊎ IsUndone g.S.Store first acts b c.act.new.self)
     (sym c.told.ensures)
-    (acted g.S.Store first acts (act_of key command) yes sound history c.act.result c.act.new.self (c.act.ensures.acted clean parts.0 parts.1 first acts history holds))
+    (acted g.S.Store first acts (act_of key command) yes sound history c.act.result c.act.new.self (c.act.ensures.acted clean yes first acts history holds))

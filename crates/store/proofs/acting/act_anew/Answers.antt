@@ -10,22 +10,22 @@ use Rattle.store.proofs.ActsInside.{accepted_inside, undecided_inside}
 use Rattle.store.proofs.acting.act_anew.Goals as goal
 
 pub returns-in_err-change-clause-acted : goal.returns-in_err-change-clause-acted
-returns-in_err-change-clause-acted g c clean known kind first acts history up books fresh =
+returns-in_err-change-clause-acted g c clean kind first acts history up books fresh =
     let act : Act = record { key = c.args.key.now; command = c.args.command.now } in
     let old = state g.S.Store c.args.tx.now.conn.now in
     let new = state g.S.Store c.change_of.new.tx.conn.now in
     by_error c.from_residual.result c.in_err-change.field-0.0 c.from_residual.ensures (λ r. IsActedInside first acts act r old new)
-    (undecided_inside first acts act c.in_err-change.field-0.0 old new fresh (c.in_err-change.ensures.decided clean known kind first acts history up books fresh))
+    (undecided_inside first acts act c.in_err-change.field-0.0 old new fresh (c.in_err-change.ensures.decided clean kind first acts history up books fresh))
 
 pub returns-clause-acted : goal.returns-clause-acted
-returns-clause-acted g c clean known kind first acts history up books fresh =
+returns-clause-acted g c clean kind first acts history up books fresh =
     let act : Act = record { key = c.args.key.now; command = c.args.command.now } in
     let old = state g.S.Store c.args.tx.now.conn.now in
     let mid = state g.S.Store c.change_of.new.tx.conn.now in
     let new = state g.S.Store c.accept.new.tx.conn.now in
     let was : HasCleanDisk mid = omega (arith, clean, c.accept.ensures.survives.clean) in
     let same = c.in_ok-change.ensures.same was books.ready up in
-    let decision = c.in_ok-change.ensures.decided was known kind first acts history up books fresh in
+    let decision = c.in_ok-change.ensures.decided was kind first acts history up books fresh in
     accepted_inside first acts act c.in_ok-change.change old mid new up books same fresh decision c.accept.result
     (c.accept.ensures.done clean (subst IsReady (sym same.0.now_is) books.ready) decision.3) c.accept.ensures.told c.accept.ensures.fault
 

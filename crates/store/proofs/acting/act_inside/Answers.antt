@@ -10,7 +10,7 @@ use Rattle.store.proofs.ActsInside.{books_kept, inside_from, store_inside}
 use Rattle.store.proofs.acting.act_inside.Goals as goal
 
 pub returns-in_err-find_open-clause-acted : goal.returns-in_err-find_open-clause-acted
-returns-in_err-find_open-clause-acted g c clean decided kind first acts history books =
+returns-in_err-find_open-clause-acted g c clean kind first acts history books =
     let act : Act = record { key = c.args.key.now; command = c.args.command.now } in
     let old = state g.S.Store c.args.tx.now.conn.now in
     let new = state g.S.Store c.find_open.new.tx.conn.now in
@@ -18,7 +18,7 @@ returns-in_err-find_open-clause-acted g c clean decided kind first acts history 
     (store_inside first acts act c.in_err-find_open.field-0.0 old new c.in_err-find_open.ensures.fault)
 
 pub returns-clause-acted : goal.returns-clause-acted
-returns-clause-acted g c clean decided kind first acts history books =
+returns-clause-acted g c clean kind first acts history books =
     let act : Act = record { key = c.args.key.now; command = c.args.command.now } in
     let old = state g.S.Store c.args.tx.now.conn.now in
     let mid = state g.S.Store c.find_open.new.tx.conn.now in
@@ -26,7 +26,7 @@ returns-clause-acted g c clean decided kind first acts history books =
     let was : HasCleanDisk mid = omega (arith, clean, c.act_open.ensures.survives.clean) in
     let same = c.in_ok-find_open.ensures.open was in
     inside_from first acts act c.act_open.result old mid new same
-    (c.act_open.ensures.acted clean decided kind first acts history same.0.is_open (books_kept first acts old mid same (books same.0.was_open)))
+    (c.act_open.ensures.acted clean kind first acts history same.0.is_open (books_kept first acts old mid same (books same.0.was_open)))
 
 pub returns-clause-kept : goal.returns-clause-kept
 returns-clause-kept g c clean ready =

@@ -14,7 +14,7 @@ use Rattle.store.proofs.ActsInside.{books_kept, inside_from, fails_inside, told_
 use Rattle.store.proofs.acting.act_open.Goals as goal
 
 pub returns-in_err-found-clause-acted : goal.returns-in_err-found-clause-acted
-returns-in_err-found-clause-acted g c clean decided kind first acts history up books =
+returns-in_err-found-clause-acted g c clean kind first acts history up books =
     let act : Act = record { key = c.args.key.now; command = c.args.command.now } in
     let old = state g.S.Store c.args.tx.now.conn.now in
     let new = state g.S.Store c.earlier.new.tx.conn.now in
@@ -22,7 +22,7 @@ returns-in_err-found-clause-acted g c clean decided kind first acts history up b
     (fails_inside first acts act c.in_err-found.field-0.0 old new (c.in_err-found.ensures.typed clean books.ready books.rows.typed))
 
 pub returns-in-Some-clause-acted : goal.returns-in-Some-clause-acted
-returns-in-Some-clause-acted g c clean decided kind first acts history up books =
+returns-in-Some-clause-acted g c clean kind first acts history up books =
     let act : Act = record { key = c.args.key.now; command = c.args.command.now } in
     let old = state g.S.Store c.args.tx.now.conn.now in
     let new = state g.S.Store c.earlier.new.tx.conn.now in
@@ -32,7 +32,7 @@ returns-in-Some-clause-acted g c clean decided kind first acts history up books 
     told_inside first acts act c.in-Some.row (row_is_found first acts (key_text c.args.key.now) old.now c.in-Some.row books read) c.told_again.result old new up books same c.told_again.ensures
 
 pub returns-in-None-clause-acted : goal.returns-in-None-clause-acted
-returns-in-None-clause-acted g c clean decided kind first acts history up books =
+returns-in-None-clause-acted g c clean kind first acts history up books =
     let act : Act = record { key = c.args.key.now; command = c.args.command.now } in
     let old = state g.S.Store c.args.tx.now.conn.now in
     let mid = state g.S.Store c.earlier.new.tx.conn.now in
@@ -42,7 +42,7 @@ returns-in-None-clause-acted g c clean decided kind first acts history up books 
     let read : ◌≡◌ {A = Option RepeatRow} None ((tables_in old.now.trees).repeat (key_text c.args.key.now)) =
     sym c.in-None.is ∙ c.in_ok-found.ensures.read was books.ready ∙ ap (λ k. (tables_in old.now.trees).repeat k) c.text.ensures in
     inside_from first acts act c.act_anew.result old mid new same
-    (c.act_anew.ensures.acted clean decided kind first acts history same.0.is_open (books_kept first acts old mid same books) (key_is_fresh first acts act old.now books read))
+    (c.act_anew.ensures.acted clean kind first acts history same.0.is_open (books_kept first acts old mid same books) (key_is_fresh first acts act old.now books read))
 
 pub returns-in-None-clause-kept : goal.returns-in-None-clause-kept
 returns-in-None-clause-kept g c clean ready up =

@@ -8,11 +8,11 @@ use Rattle.store.proofs.ActsInside.{fails_before}
 use Rattle.store.proofs.acting.change_of.Goals as goal
 
 pub returns-in_err-slice-clause-decided : goal.returns-in_err-slice-clause-decided
-returns-in_err-slice-clause-decided g c clean known kind first acts history up books fresh =
+returns-in_err-slice-clause-decided g c clean kind first acts history up books fresh =
     let act : Act = record { key = c.args.key.now; command = c.args.command.now } in
     by_error c.from_residual.result (fault_of c.in_err-slice.field-0.0) c.from_residual.ensures (λ r. IsDecided first act acts r)
-    (fails_before first acts act c.in_err-slice.field-0.0 (c.in_err-slice.ensures.fault clean known up first acts books))
+    (fails_before first acts act c.in_err-slice.field-0.0 (c.in_err-slice.ensures.fault clean up first acts books))
 
 pub returns-clause-decided : goal.returns-clause-decided
-returns-clause-decided g c clean known kind first acts history up books fresh =
-    c.decided.ensures first acts known history kind fresh (c.in_ok-slice.ensures.read clean known up first acts c.args.key.now history books)
+returns-clause-decided g c clean kind first acts history up books fresh =
+    c.decided.ensures first acts history kind fresh (c.in_ok-slice.ensures.read clean up first acts c.args.key.now history books)

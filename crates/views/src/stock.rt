@@ -1,0 +1,91 @@
+//! What is shown of the stock of an item.
+
+ghost use Rattle.std.specs.Prelude.{◌≡◌, map, IfOk, ℤ, List, Some};
+ghost use Rattle.rules.specs.Acts.{Act};
+ghost use Rattle.rules.specs.Once.{IsHistory};
+ghost use Rattle.rules.specs.Standing.{today};
+ghost use Rattle.rules.specs.Tables.{item_row, tables_of};
+ghost use Rattle.rules.specs.Views.{stock_view as stock_view_lem};
+ghost use Rattle.views.specs.SeenStock.{stock_seen, lot_seen, status_seen};
+ghost use Rattle.views.specs.ShownStock.{AreStocked};
+
+use crate::bins::bins_of_lot;
+use crate::looking::has_recall;
+use crate::lots::lots_of_item;
+use crate::summing::{reserved_on_lot, staged_on_lot};
+use commands::{ItemRow, Listed, LotRow, LotStatus, LotView, RecallRow, StockView};
+use label::BusinessDay;
+use rules::Rows;
+use std::alloc::{AllocError, Global};
+
+/// What is shown on a business day of the stock of an item whose row this is. The rows are those of
+/// its lots, of their recalls and stock, and of what is staged and reserved of these; others may be
+/// among them. It fails for want of memory alone.
+pub fn stock_view(
+    alloc: Global,
+    day: BusinessDay,
+    rows: &Rows,
+    item: &ItemRow,
+) -> Result<StockView, AllocError>
+    ensures seen { IfOk result (λ view. view ≡ stock_seen day rows.now item.now) }
+    ensures shown { (first : ℤ) (acts : List Act) → IsHistory first acts → today first acts ≡ day → AreStocked item.now.gtin (tables_of first acts) rows.now → IfOk result (λ view. view ≡ stock_view_lem first acts item.now) }
+{
+    let lots = lots_of_item(alloc, rows.lots.as_slice(), &item.gtin)?;
+    let views = lot_views(alloc, day, rows, lots.as_slice())?;
+    Ok(StockView {
+        item: *item,
+        lots: Listed::from_vec(views),
+    })
+}
+
+fn lot_views(
+    alloc: Global,
+    day: BusinessDay,
+    rows: &Rows,
+    lots: &[LotRow],
+) -> Result<Vec<LotView>, AllocError>
+    ensures { IfOk result (λ v. v.items ≡ map (lot_seen day rows.now) lots.now) }
+{
+    let mut views = Vec::new(alloc);
+    for lot in lots {
+        let view = lot_view(alloc, day, rows, lot)?;
+        views.push(view)?;
+    }
+    Ok(views)
+}
+
+fn lot_view(
+    alloc: Global,
+    day: BusinessDay,
+    rows: &Rows,
+    lot: &LotRow,
+) -> Result<LotView, AllocError>
+    ensures { IfOk result (λ view. view ≡ lot_seen day rows.now lot.now) }
+{
+    let bins = bins_of_lot(alloc, rows.stock.as_slice(), &lot.lot)?;
+    let reserved = reserved_on_lot(rows.reserved.as_slice(), &lot.lot);
+    let staged = staged_on_lot(rows.staged.as_slice(), &lot.lot);
+    Ok(LotView {
+        bins: Listed::from_vec(bins),
+        expiry: lot.expiry,
+        lot: lot.lot.lot,
+        reserved,
+        staged,
+        status: lot_status(day, rows.recalls.as_slice(), lot),
+    })
+}
+
+// A recalled lot may be held too, and either may be expired.
+fn lot_status(day: BusinessDay, recalls: &[RecallRow], lot: &LotRow) -> LotStatus
+    ensures { result ≡ status_seen day recalls.now lot.now }
+{
+    if has_recall(recalls, &lot.lot) {
+        LotStatus::Recalled
+    } else if lot.held {
+        LotStatus::Held
+    } else if lot.expiry.number() < day.day().number() {
+        LotStatus::Expired
+    } else {
+        LotStatus::Free
+    }
+}
