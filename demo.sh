@@ -1,6 +1,7 @@
 #!/bin/sh
 # The main job of Lot stock, from nothing: builds lotd, reads a label, makes books, receives goods by
-# their label, takes an order and shows what is reserved for it. Needs the Rattle kit and curl.
+# their label, takes an order, shows what is reserved for it and the item's stock, picks, ships and
+# recalls. Needs the Rattle kit and curl.
 # Exit status 0 only if every answer was the expected one.
 set -eu
 cd "$(dirname "$0")"
@@ -50,8 +51,8 @@ EXPIRY 2026-09-30" "$("$lotd" label --day 2026-05-04 "$label")"
 echo "> lotd init --db stock.db --day 2026-05-04"
 "$lotd" init --db "$db" --day 2026-05-04
 
-echo "> lotd serve --db stock.db --port $port --max 6"
-"$lotd" serve --db "$db" --port "$port" --max 6 >"$room/out" &
+echo "> lotd serve --db stock.db --port $port --max 12"
+"$lotd" serve --db "$db" --port "$port" --max 12 >"$room/out" &
 server=$!
 for _ in 1 2 3 4 5 6 7 8 9 10; do
     if [ -s "$room/out" ]; then break; fi
@@ -64,8 +65,15 @@ post /bins '{"key":"K-2","bin":"A-01","kind":"STORE"}' 200 '{"act":2}'
 post /receipts "{\"delivery\":\"D-1\",\"line\":1,\"label\":\"$label\",\"bin\":\"A-01\",\"qty\":10}" 200 '{"act":3}'
 post /orders '{"key":"K-3","order":"S-1","customer":"Corner Shop","lines":[{"gtin":"09506000134352","qty":12}]}' 200 '{"act":4,"short":2}'
 get /orders/S-1 200 '{"customer":"Corner Shop","lines":[{"gtin":"09506000134352","ordered":12,"reserved":[{"lot":"AB12","qty":10}],"shipped":0,"short":2,"staged":[]}],"order":"S-1","state":"OPEN"}'
+get /stock/09506000134352 200 '{"gtin":"09506000134352","lots":[{"bins":[{"bin":"A-01","qty":10}],"expiry":"2026-09-30","lot":"AB12","reserved":10,"staged":0,"status":"FREE"}],"name":"Oat drink"}'
 # The same order sent again acts once.
 post /orders '{"key":"K-3","order":"S-1","customer":"Corner Shop","lines":[{"gtin":"09506000134352","qty":12}]}' 200 '{"act":4,"short":2}'
+# More is not picked than is reserved; what is reserved is picked and shipped, and then the lot is recalled.
+post /picks '{"key":"K-4","order":"S-1","gtin":"09506000134352","lot":"AB12","bin":"A-01","qty":11}' 409 '{"code":"Q01"}'
+post /picks '{"key":"K-4","order":"S-1","gtin":"09506000134352","lot":"AB12","bin":"A-01","qty":7}' 200 '{"act":5}'
+post /shipments '{"key":"K-5","order":"S-1"}' 200 '{"act":6,"shipment":1}'
+post /recalls '{"key":"K-6","gtin":"09506000134352","lot":"AB12"}' 200 '{"act":7,"returned":0}'
+get /stock/09506000134352 200 '{"gtin":"09506000134352","lots":[{"bins":[{"bin":"A-01","qty":3}],"expiry":"2026-09-30","lot":"AB12","reserved":0,"staged":0,"status":"RECALLED"}],"name":"Oat drink"}'
 
 wait "$server"
 server=
