@@ -2,8 +2,8 @@
 use Rattle.std.proofs.Common.{◌≡◌, ℕ, Bool, true, ◌&&◌, List, refl, ap, subst, ◌∙◌}
 use Rattle.std.specs.Prelude.{◌==◌, Result, Ok, Err, OnOk}
 use Rattle.std.proofs.lemmas.Bool.{eqb-true}
-use Rattle.label.specs.Values.{same_text}
-use Rattle.label.specs.declared.lot.LotId.{LotId}
+use Rattle.values.specs.Values.{same_text}
+use Rattle.values.specs.declared.lot.LotId.{LotId}
 use Rattle.commands.specs.Tables.{Tables}
 use Rattle.commands.specs.declared.rows.ItemRow.{ItemRow}
 use Rattle.commands.specs.declared.rows.BinRow.{BinRow}
@@ -20,11 +20,12 @@ use Rattle.commands.specs.declared.rows.CardRow.{CardRow}
 use Rattle.sqlite.specs.State.{State}
 use Rattle.table_words.specs.Steps.{Goes}
 use Rattle.table_words.specs.Typed.{tables_in, with_meta, with_item, without_item, with_bin, without_bin, with_lot, without_lot, with_recall, without_recall, with_stock, without_stock, with_order, without_order, with_line, without_line, with_staged, without_staged, with_reserved, without_reserved, with_shipment, without_shipment, with_shipline, without_shipline, with_card, without_card}
-use Rattle.rules.specs.Postings.{is_lot}
-use Rattle.rules.specs.Slices.{applied, changed, no_two, AreOnce}
-use Rattle.rules.specs.declared.slice.Rows.{Rows}
-use Rattle.rules.specs.declared.slice.Change.{Change}
-use Rattle.rules.proofs.Tests.{and_both, same_text_is, is_lot_is}
+use Rattle.machine.specs.Postings.{is_lot}
+use Rattle.machine.specs.KeyedRows.{no_two}
+use Rattle.rules.specs.Slices.{applied, changed, AreOnce}
+use Rattle.row_rules.specs.declared.slice.Rows.{Rows}
+use Rattle.row_rules.specs.declared.slice.Change.{Change}
+use Rattle.machine.proofs.Tests.{and_both, same_text_is, is_lot_is}
 use Rattle.changes.specs.Written.{rows_written, goods_written, orders_written, history_written, change_written}
 use Rattle.changes.proofs.TableWritten.{table_written}
 

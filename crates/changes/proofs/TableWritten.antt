@@ -3,8 +3,9 @@ use Rattle.std.proofs.Common.{◌≡◌, Bool, true, false, List, [], ◌∷◌,
 use Rattle.std.specs.Prelude.{◌||◌, not, if◌then◌else◌, Option, Some, None, find}
 use Rattle.std.specs.List.{list_any}
 use Rattle.commands.specs.Tables.{Tables}
-use Rattle.rules.specs.Slices.{unless_put, changed, no_two}
-use Rattle.rules.proofs.Tests.{and_both, or_none, not_true}
+use Rattle.machine.specs.KeyedRows.{no_two}
+use Rattle.rules.specs.Slices.{unless_put, changed}
+use Rattle.machine.proofs.Tests.{and_both, or_none, not_true}
 use Rattle.changes.specs.Written.{each_written, rows_written}
 
 -- ---- one key

@@ -2,8 +2,8 @@
 use Rattle.std.specs.Prelude.{List, [], ◌∷◌}
 use Rattle.commands.specs.Tables.{Tables}
 use Rattle.table_words.specs.Typed.{with_meta, with_item, without_item, with_bin, without_bin, with_lot, without_lot, with_recall, without_recall, with_stock, without_stock, with_order, without_order, with_line, without_line, with_staged, without_staged, with_reserved, without_reserved, with_shipment, without_shipment, with_shipline, without_shipline, with_card, without_card}
-use Rattle.rules.specs.declared.slice.Rows.{Rows}
-use Rattle.rules.specs.declared.slice.Change.{Change}
+use Rattle.row_rules.specs.declared.slice.Rows.{Rows}
+use Rattle.row_rules.specs.declared.slice.Change.{Change}
 
 -- each row in turn makes this of the tables
 abbrev pub each_written : {R : Type 0} → (R → Tables → Tables) → List R → Tables → Tables

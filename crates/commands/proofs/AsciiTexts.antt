@@ -4,7 +4,7 @@ use Rattle.std.specs.Prelude.{nat_lt, codes, decimal}
 use Rattle.std.specs.Str.{IsAscii}
 use Rattle.std.specs.List.{list_all, join_with_byte}
 use Rattle.std.proofs.lemmas.Bool.Decides.{nat_tests}
-use Rattle.label.specs.Values.{is_name, is_line_no}
+use Rattle.values.specs.Values.{is_name, is_line_no}
 use Rattle.commands.specs.Spelling.{fields, spelling, key_text}
 use Rattle.commands.specs.Sound.{is_sound, is_sound_key}
 use Rattle.commands.specs.declared.key.Key.{Key}

@@ -3,7 +3,7 @@ use Rattle.std.proofs.lemmas.Fmt.{decimal_step, length-decimal-le}
 use Rattle.std.specs.Prelude.{◌&&◌, codes, decimal}
 use Rattle.std.specs.List.{list_all}
 use Rattle.std.proofs.lemmas.Bool.Decides.{nat_tests}
-use Rattle.label.specs.Values.{is_between, is_name, is_name_char}
+use Rattle.values.specs.Values.{is_between, is_name, is_name_char}
 use Rattle.std.proofs.Common.{List, ◌++◌, ◌<◌, ◌+◌, ◌/◌, ◌%◌, ◌^◌, ◌∷◌, [], ◌≡◌, ℕ, ◌≤◌, length, length-append, refl, ap, ◌∙◌, arith, lit<, Bool, true}
 
 -- a number of two digits or more has one digit more than its tenth

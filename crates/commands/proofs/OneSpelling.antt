@@ -4,9 +4,9 @@ use Rattle.std.specs.Prelude.{ℤ, pos, negsuc, ◌&&◌, ◌==◌, codes, decim
 use Rattle.std.specs.Fmt.{signed_decimal}
 use Rattle.std.specs.List.{list_all}
 use Rattle.std.proofs.lemmas.Bool.Decides.{nat_tests}
-use Rattle.label.specs.Values.{is_name, is_title, is_gtin, is_day, is_business_day, is_qty, is_counted, is_delta}
-use Rattle.label.specs.Days.{day_text}
-use Rattle.label.specs.declared.lot.LotId.{LotId}
+use Rattle.values.specs.Values.{is_name, is_title, is_gtin, is_qty, is_counted, is_delta}
+use Rattle.label.specs.Days.{is_day, is_business_day, day_text}
+use Rattle.values.specs.declared.lot.LotId.{LotId}
 use Rattle.commands.specs.Limits.{has_order_lines}
 use Rattle.commands.specs.Spelling.{fields, spelling, kind_text, lines_fields, picking_fields}
 use Rattle.commands.specs.Sound.{is_sound, is_lot_id, is_order_line, are_lines, is_picking}

@@ -3,7 +3,7 @@ use Rattle.std.proofs.Common.{◌≡◌, ℕ, ◌<◌, ◌^◌, true, List, [], 
 use Rattle.std.specs.Prelude.{IsTrue, decimal}
 use Rattle.std.proofs.lemmas.Fmt.{decimal_injective}
 use Rattle.std.proofs.lemmas.Bool.Decides.{nat_tests}
-use Rattle.label.specs.Values.{is_name, is_line_no}
+use Rattle.values.specs.Values.{is_name, is_line_no}
 use Rattle.commands.specs.Spelling.{key_text}
 use Rattle.commands.specs.Sound.{is_sound_key}
 use Rattle.commands.specs.declared.key.Key.{Key}

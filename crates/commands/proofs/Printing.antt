@@ -6,7 +6,7 @@ use Rattle.std.specs.List.{list_all, list_any}
 use Rattle.std.proofs.lemmas.Fmt.{decimal_by_steps}
 use Rattle.std.proofs.lemmas.Bool.{eqb-true}
 use Rattle.std.proofs.lemmas.Bool.Decides.{nat_tests}
-use Rattle.label.specs.Values.{is_name, is_title, is_gtin, is_lot_text, is_delta, is_between, is_one_of, is_upper, is_lower, is_digit, is_name_char, is_set_82, has_no_edge_space, QTY_MAX, LOT_MAX, TITLE_MAX}
+use Rattle.values.specs.Values.{is_name, is_title, is_gtin, is_lot_text, is_delta, is_between, is_one_of, is_upper, is_lower, is_digit, is_name_char, is_set_82, has_no_edge_space, QTY_MAX, LOT_MAX, TITLE_MAX}
 use Rattle.label.specs.Days.{last_digits, day_text, date_of}
 use Rattle.commands.proofs.Joining.{Lacks, lacks_failing, and_both, and_true, all_wider, all-append}
 

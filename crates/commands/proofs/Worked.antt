@@ -3,7 +3,7 @@ use Rattle.std.proofs.Common.{◌≡◌, ℕ, true, false, List, [], ◌∷◌, 
 use Rattle.std.specs.Prelude.{pos, negsuc, codes}
 use Rattle.std.specs.Fmt.{digits}
 use Rattle.label.specs.Days.{date_in_year, date_after, date_of}
-use Rattle.label.specs.declared.lot.LotId.{LotId}
+use Rattle.values.specs.declared.lot.LotId.{LotId}
 use Rattle.commands.specs.Limits.{ORDER_LINES_MAX, ITEMS_MAX, BINS_MAX, UNITS_MAX, OPEN_MAX, ACTS_MAX, SHORT_MAX, KEY_TEXT_MAX, CARD_NOTE_MAX, MARK, SCHEMA_VERSION}
 use Rattle.commands.specs.Refusals.{refusal_code}
 use Rattle.commands.specs.Spelling.{spelling, key_text}

@@ -1,6 +1,6 @@
 -- The fourteen tables of the books, each as a look-up by its primary key.
 use Rattle.std.specs.Prelude.{ℕ, List, Option}
-use Rattle.label.specs.declared.lot.LotId.{LotId}
+use Rattle.values.specs.declared.lot.LotId.{LotId}
 use Rattle.commands.specs.declared.rows.MetaRow.{MetaRow}
 use Rattle.commands.specs.declared.rows.ItemRow.{ItemRow}
 use Rattle.commands.specs.declared.rows.BinRow.{BinRow}

@@ -1,8 +1,8 @@
 ghost use Rattle.std.specs.Prelude.{◌≡◌, ◌+◌, ◌≤◌, ◌<◌, ◌++◌, ◌∷◌, [], length, decimal, ℤ};
 ghost use Rattle.std.specs.Fmt.{signed_decimal};
 
-use label::Text;
 use std::marker::Model;
+use values::Text;
 
 /// A text of at most N bytes that is written in place, piece after piece.
 #[derive(Drop)]

@@ -1,11 +1,12 @@
 ghost use Rattle.std.specs.Prelude.{◌≡◌, IsTrue};
-ghost use Rattle.label.specs.Values.{checked};
+ghost use Rattle.values.specs.Values.{checked};
 ghost use Rattle.commands.specs.Limits.{has_order_lines};
 
 use crate::Listed;
 use crate::limits::ORDER_LINES_MAX;
-use label::{BusinessDay, Counted, Day, Delta, Gtin, LotId, Name, Qty, Title};
+use label::{BusinessDay, Day};
 use std::marker::Model;
+use values::{Counted, Delta, Gtin, LotId, Name, Qty, Title};
 
 /// What a bin is for: units in a STORE bin may be picked, those in a HOLD bin may not.
 #[derive(Clone, Copy)]
@@ -77,7 +78,7 @@ pub struct Lines {
 
 impl Model for Lines {
     ghost use Rattle.std.specs.Prelude.{List, length, IsTrue};
-    ghost use Rattle.label.specs.Values.{is_between};
+    ghost use Rattle.values.specs.Values.{is_between};
     ghost use Rattle.commands.specs.Limits.{ORDER_LINES_MAX};
     ghost use Rattle.commands.specs.declared.command.OrderLine.{OrderLine};
 

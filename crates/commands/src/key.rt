@@ -3,7 +3,7 @@ ghost use Rattle.commands.specs.Spelling.{key_text};
 
 use crate::Buffer;
 use crate::limits::KEY_TEXT_MAX;
-use label::{LineNo, Name, Text};
+use values::{LineNo, Name, Text};
 
 /// What makes a request the same request when it is sent again.
 #[derive(Clone, Copy)]

@@ -8,7 +8,7 @@ ghost use Rattle.commands.specs.Spelling.{key_text, spelling};
 ghost use Rattle.commands.specs.Sound.{is_lot_id, is_order_line, is_picking, is_sound, is_sound_key};
 
 use crate::{Command, Key, OrderLine, Picking};
-use label::LotId;
+use values::LotId;
 
 /// Two commands with one spelling are one command, where every value keeps its rule.
 pub fn one_spelling_a_command()

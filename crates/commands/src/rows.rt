@@ -2,7 +2,8 @@
 
 use crate::limits::{CARD_NOTE_MAX, KEY_TEXT_MAX};
 use crate::{BinKind, Listed, Short};
-use label::{BusinessDay, Day, Gtin, LotId, Name, Text, Title};
+use label::{BusinessDay, Day};
+use values::{Gtin, LotId, Name, Text, Title};
 
 /// The row of `meta`, less its mark and schema number, which are constants.
 #[derive(Clone, Copy)]

@@ -2,8 +2,8 @@ ghost use Rattle.std.specs.Prelude.{◌≡◌, ◌≤◌, ◌<◌, length, Some,
 
 use crate::Buffer;
 use crate::limits::SHORT_MAX;
-use label::Text;
 use std::marker::Model;
+use values::Text;
 
 /// The answer to a command: a text of at most 96 bytes, kept in place.
 #[derive(Clone, Copy)]

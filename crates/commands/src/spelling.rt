@@ -11,8 +11,9 @@ use crate::{
     Adjustment, BinKind, Command, Movement, NewBin, NewItem, NewOrder, OrderLine, Picking, Receipt,
     Recount,
 };
-use label::{BusinessDay, Day, LotId, Name};
+use label::{BusinessDay, Day};
 use std::alloc::{AllocError, Global};
+use values::{LotId, Name};
 
 /// The text of a command, by which a repeated command is known again: its word and its fields,
 /// joined by single line feeds. No two commands have one text.

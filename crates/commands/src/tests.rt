@@ -1,8 +1,9 @@
 use crate::limits::SHORT_MAX;
 use crate::*;
-use label::{BusinessDay, Counted, Day, Delta, Gtin, LineNo, Lot, LotId, Name, Qty, Title};
+use label::{BusinessDay, Day};
 use std::alloc::Global;
 use std::process::Abort;
+use values::{Counted, Delta, Gtin, LineNo, Lot, LotId, Name, Qty, Title};
 
 fn name(rt: &impl Abort, text: &[u8]) -> Name {
     Name::new(text).expect(rt, "a name")

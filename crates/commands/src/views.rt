@@ -1,7 +1,8 @@
 // The records that queries answer.
 
 use crate::{CardRow, ItemRow, Listed, OrderState};
-use label::{BusinessDay, Day, Gtin, Lot, Name, Title};
+use label::{BusinessDay, Day};
+use values::{Gtin, Lot, Name, Title};
 
 /// Units of a lot in a bin.
 #[derive(Clone, Copy)]

@@ -11,11 +11,11 @@ ghost use Rattle.table_words.specs.declared.error.TableFault.TheVariants.{Foreig
 
 use crate::texts::{ADD_BIN, ALL_BINS, BINS_OF, CHANGE_BIN, DROP_BIN};
 use commands::BinRow;
-use label::Name;
 use sqlite::{Alter, Row, Transaction};
 use std::alloc::Global;
+use table_words::columns::{bin_kind_at, name_at, of_bin_kind, of_name};
 use table_words::error::TableFault;
-use table_words::values::{bin_kind_at, name_at, of_bin_kind, of_name};
+use values::Name;
 
 /// Drops the row with this key, if there is one.
 pub fn drop_bin<S: Alter>(tx: &mut Transaction<'_, S>, name: &Name) -> Result<(), TableFault>

@@ -11,11 +11,11 @@ ghost use Rattle.table_words.specs.declared.error.TableFault.TheVariants.{Foreig
 
 use crate::texts::{ADD_ITEM, ALL_ITEMS, CHANGE_ITEM, DROP_ITEM, ITEMS_OF};
 use commands::ItemRow;
-use label::Gtin;
 use sqlite::{Alter, Row, Transaction};
 use std::alloc::Global;
+use table_words::columns::{gtin_at, of_gtin, of_title, title_at};
 use table_words::error::TableFault;
-use table_words::values::{gtin_at, of_gtin, of_title, title_at};
+use values::Gtin;
 
 /// Drops the row with this key, if there is one.
 pub fn drop_item<S: Alter>(tx: &mut Transaction<'_, S>, gtin: &Gtin) -> Result<(), TableFault>

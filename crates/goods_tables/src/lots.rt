@@ -12,13 +12,13 @@ ghost use Rattle.table_words.specs.declared.error.TableFault.TheVariants.{Foreig
 use crate::texts::{ADD_LOT, ALL_LOTS, CHANGE_LOT, DROP_LOT, LOTS_OF};
 use commands::LotRow;
 use commands::limits::ACTS_MAX;
-use label::{Gtin, LotId};
 use sqlite::{Alter, Row, Transaction};
 use std::alloc::Global;
-use table_words::error::TableFault;
-use table_words::values::{
+use table_words::columns::{
     day_at, flag_at, gtin_at, lot_at, number_at, of_day, of_flag, of_gtin, of_lot, of_number,
 };
+use table_words::error::TableFault;
+use values::{Gtin, LotId};
 
 /// Drops the row with this key, if there is one.
 pub fn drop_lot<S: Alter>(tx: &mut Transaction<'_, S>, lot: &LotId) -> Result<(), TableFault>

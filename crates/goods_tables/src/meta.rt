@@ -14,10 +14,10 @@ use commands::MetaRow;
 use commands::limits::{ACTS_MAX, SCHEMA_VERSION};
 use sqlite::{Alter, Row, Transaction};
 use std::alloc::Global;
-use table_words::error::TableFault;
-use table_words::values::{
+use table_words::columns::{
     business_day_at, expect_mark, expect_number, number_at, of_business_day, of_mark, of_number,
 };
+use table_words::error::TableFault;
 
 /// Writes the row over one with its key, and tells whether there was one.
 fn change_meta<S: Alter>(tx: &mut Transaction<'_, S>, row: &MetaRow) -> Result<bool, TableFault>

@@ -12,11 +12,11 @@ ghost use Rattle.table_words.specs.declared.error.TableFault.TheVariants.{Foreig
 use crate::texts::{ADD_RECALL, CHANGE_RECALL, DROP_RECALL, RECALLS_OF};
 use commands::RecallRow;
 use commands::limits::ACTS_MAX;
-use label::{Gtin, LotId};
 use sqlite::{Alter, Row, Transaction};
 use std::alloc::Global;
+use table_words::columns::{gtin_at, lot_at, number_at, of_gtin, of_lot, of_number};
 use table_words::error::TableFault;
-use table_words::values::{gtin_at, lot_at, number_at, of_gtin, of_lot, of_number};
+use values::{Gtin, LotId};
 
 /// Drops the row with this key, if there is one.
 pub fn drop_recall<S: Alter>(tx: &mut Transaction<'_, S>, lot: &LotId) -> Result<(), TableFault>

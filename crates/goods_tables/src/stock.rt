@@ -12,13 +12,13 @@ ghost use Rattle.table_words.specs.declared.error.TableFault.TheVariants.{Foreig
 use crate::texts::{ADD_STOCK, CHANGE_STOCK, DROP_STOCK, STOCK_OF};
 use commands::StockRow;
 use commands::limits::UNITS_MAX;
-use label::{Gtin, LotId, Name};
 use sqlite::{Alter, Row, Transaction};
 use std::alloc::Global;
-use table_words::error::TableFault;
-use table_words::values::{
+use table_words::columns::{
     gtin_at, lot_at, name_at, number_at, of_gtin, of_lot, of_name, of_number,
 };
+use table_words::error::TableFault;
+use values::{Gtin, LotId, Name};
 
 /// Drops the row with this key, if there is one.
 pub fn drop_stock<S: Alter>(

@@ -12,14 +12,14 @@ ghost use Rattle.table_words.specs.declared.error.TableFault.TheVariants.{Foreig
 use crate::texts::{ADD_CARD, CARDS_OF_LOT, CHANGE_CARD, DROP_CARD};
 use commands::CardRow;
 use commands::limits::{ACTS_MAX, UNITS_MAX};
-use label::LotId;
 use sqlite::{Alter, Row, Transaction};
 use std::alloc::Global;
-use table_words::error::TableFault;
-use table_words::values::{
+use table_words::columns::{
     business_day_at, card_kind_at, gtin_at, lot_at, note_at, number_at, of_business_day,
     of_card_kind, of_gtin, of_lot, of_number, of_signed, of_text, signed_at,
 };
+use table_words::error::TableFault;
+use values::LotId;
 
 /// Drops the row with this key, if there is one. A number above the limit is refused as too big.
 pub fn drop_card<S: Alter>(

@@ -12,13 +12,13 @@ ghost use Rattle.table_words.specs.declared.error.TableFault.TheVariants.{Foreig
 use crate::texts::{ADD_REPEAT, CHANGE_REPEAT, REPEATS_OF};
 use commands::RepeatRow;
 use commands::limits::{ACTS_MAX, KEY_TEXT_MAX};
-use label::Text;
 use sqlite::{Alter, Row, Transaction};
 use std::alloc::Global;
-use table_words::error::TableFault;
-use table_words::values::{
+use table_words::columns::{
     key_text_at, number_at, of_number, of_short, of_spelling, of_text, short_at, spelling_at,
 };
+use table_words::error::TableFault;
+use values::Text;
 
 /// Writes the row over one with its key, and tells whether there was one.
 fn change_repeat<S: Alter>(tx: &mut Transaction<'_, S>, row: &RepeatRow) -> Result<bool, TableFault>

@@ -12,11 +12,11 @@ ghost use Rattle.table_words.specs.declared.error.TableFault.TheVariants.{Foreig
 use crate::texts::{ADD_SHIPLINE, CHANGE_SHIPLINE, DROP_SHIPLINE, SHIPLINES_OF_LOT};
 use commands::ShiplineRow;
 use commands::limits::{ACTS_MAX, UNITS_MAX};
-use label::LotId;
 use sqlite::{Alter, Row, Transaction};
 use std::alloc::Global;
+use table_words::columns::{gtin_at, lot_at, number_at, of_gtin, of_lot, of_number};
 use table_words::error::TableFault;
-use table_words::values::{gtin_at, lot_at, number_at, of_gtin, of_lot, of_number};
+use values::LotId;
 
 /// Drops the row with this key, if there is one. A number above the limit is refused as too big.
 pub fn drop_shipline<S: Alter>(

@@ -14,10 +14,10 @@ use commands::ShipmentRow;
 use commands::limits::ACTS_MAX;
 use sqlite::{Alter, Row, Transaction};
 use std::alloc::Global;
-use table_words::error::TableFault;
-use table_words::values::{
+use table_words::columns::{
     business_day_at, name_at, number_at, of_business_day, of_name, of_number,
 };
+use table_words::error::TableFault;
 
 /// Drops the row with this key, if there is one. A number above the limit is refused as too big.
 pub fn drop_shipment<S: Alter>(tx: &mut Transaction<'_, S>, number: u64) -> Result<(), TableFault>

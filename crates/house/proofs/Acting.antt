@@ -2,10 +2,14 @@
 use Rattle.std.proofs.Common.{◌≡◌, ℕ, true, false, List, refl, ap, sym, subst, ◌∙◌, inl, inr, ◌⊎◌}
 use Rattle.std.specs.Prelude.{if◌then◌else◌, Bool, ℤ, Result, Ok, Err}
 use Rattle.sqlite_trees.specs.declared.store.Store.{Ghosts}
+use Rattle.label.specs.Labels.{label_read}
+use Rattle.label.specs.declared.gs1.Label.{Label}
+use Rattle.values.specs.declared.fault.LabelFault.{LabelFault}
 use Rattle.commands.specs.Refusals.{refusal_code}
-use Rattle.rules.specs.Acts.{Act}
-use Rattle.rules.specs.Once.{Accepted, Repeated, outcome, appended, acts_after, IsHistory, IsSoundRequest}
-use Rattle.rules.proofs.histories.Runs.{history_after}
+use Rattle.machine.specs.Acts.{Act}
+use Rattle.machine.specs.Standing.{today}
+use Rattle.machine.specs.Once.{Accepted, Repeated, outcome, appended, acts_after, IsHistory, IsSoundRequest}
+use Rattle.machine.proofs.histories.Runs.{history_after}
 use Rattle.wire.specs.Shorts.{code_text}
 use Rattle.store.specs.Connected.{Connected}
 use Rattle.store.specs.declared.reply.Reply.{Reply}
@@ -13,8 +17,8 @@ use Rattle.store.specs.declared.fault.Fault.{Fault}
 use Rattle.store.specs.declared.fault.Fault.TheVariants.{Refused, Store, Foreign}
 use Rattle.store.specs.Books.{HoldsBooks}
 use Rattle.store.specs.Acting.{IsActed}
-use Rattle.house.specs.Answers.{short_answer, outcome_answer, not_served, is_served, act_answer, acts_with}
-use Rattle.house.specs.Asking.{told_answer, IsDone, IsUndone}
+use Rattle.house.specs.Answers.{short_answer, outcome_answer, not_served, is_served, act_answer, acts_with, Delivered, scan_answer, acts_scanned}
+use Rattle.house.specs.Asking.{told_answer, IsDone, IsUndone, scanned_answer, scanned_acts}
 
 -- a reply is answered alike the first time and when it comes again
 reply_told : (repeated : Bool) (text : List ℕ) → outcome_answer (if repeated then Repeated text else Accepted text) ≡ short_answer 200 text
@@ -48,6 +52,14 @@ module _ {S : Type 0} (g : Ghosts S) (first : ℤ) (acts : List Act) where
         history = subst (IsHistory first) same history;
         holds = subst (λ a. HoldsBooks g first a books) same holds;
       })
+
+  -- what is done with a label that was read at the business day
+  pub scanned : (d : Delivered) (text : List ℕ) (day : ℤ) (read : Result Label LabelFault) (bytes : List ℕ) (books : Connected S) → read ≡ label_read day text → day ≡ today first acts
+      → IsDone g first (scan_answer first acts d read) (acts_scanned first acts d read) bytes books ⊎ IsUndone g first acts bytes books
+      → IsDone g first (scanned_answer first acts d text) (scanned_acts first acts d text) bytes books ⊎ IsUndone g first acts bytes books
+  scanned d text day read bytes books is_read is_today h =
+      subst (λ r. IsDone g first (scan_answer first acts d r) (acts_scanned first acts d r) bytes books ⊎ IsUndone g first acts bytes books)
+      (is_read ∙ ap (λ t. label_read t text) is_today) h
 
   module _ (act : Act) (yes : is_served act ≡ true) (sound : IsSoundRequest act) (history : IsHistory first acts) where
     done : (bytes : List ℕ) (books : Connected S) → bytes ≡ outcome_answer (outcome first acts act) → HoldsBooks g first (acts_after first acts act) books

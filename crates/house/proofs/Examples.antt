@@ -7,7 +7,7 @@ use Rattle.label.proofs.OnLiterals.{dates_on_literals}
 use Rattle.commands.specs.Spelling.{spelling}
 use Rattle.commands.specs.declared.key.Key.TheVariants.{Plain, Line}
 use Rattle.commands.specs.declared.command.Command.TheVariants.{Item, OpenDay}
-use Rattle.rules.proofs.examples.ExampleHistories.{may_4, warehouse, with_one_lot, with_stock, with_one_order, with_early_lot, OATS, A1, S1, order}
+use Rattle.machine.proofs.examples.ExampleHistories.{may_4, warehouse, with_one_lot, with_stock, with_one_order, with_early_lot, OATS, A1, S1, order}
 use Rattle.wire.specs.Answers.{CRLF, head_text}
 use Rattle.wire.specs.declared.fault.WireFault.TheVariants.{Length}
 use Rattle.wire.specs.declared.ask.Ask.TheVariants.{Do, Scan, Show}

@@ -4,15 +4,15 @@ use Rattle.std.specs.Fmt.{digits}
 use Rattle.std.specs.Prelude.{Bool, if◌then◌else◌, codes, Result, Ok, Err, ℤ}
 use Rattle.label.specs.Labels.{label_read}
 use Rattle.label.specs.declared.gs1.Label.{Label}
-use Rattle.label.specs.declared.fault.LabelFault.{LabelFault}
+use Rattle.values.specs.declared.fault.LabelFault.{LabelFault}
 use Rattle.commands.specs.Refusals.{refusal_code}
 use Rattle.commands.specs.declared.refusal.Refusal.{Refusal}
 use Rattle.commands.specs.declared.views.OrderView.{OrderView}
 use Rattle.commands.specs.declared.views.StockView.{StockView}
-use Rattle.rules.specs.Acts.{Act}
-use Rattle.rules.specs.Standing.{today}
-use Rattle.rules.specs.Once.{Outcome, Accepted, Repeated, Refused, outcome, appended}
-use Rattle.rules.specs.Queries.{order_shown, stock_shown}
+use Rattle.machine.specs.Acts.{Act}
+use Rattle.machine.specs.Standing.{today}
+use Rattle.machine.specs.Once.{Outcome, Accepted, Repeated, Refused, outcome, appended}
+use Rattle.machine.specs.Queries.{order_shown, stock_shown}
 use Rattle.wire.specs.Answers.{head_text}
 use Rattle.wire.specs.Shorts.{code_text}
 use Rattle.wire.specs.declared.answer.Answer.TheVariants.{Order as OrderAnswer, Stock as StockAnswer}

@@ -2,8 +2,8 @@
 use Rattle.std.proofs.Common.{◌≡◌, ◌≢◌, ℕ, List, refl, sym, subst, ◌∙◌, inl, inr, ◌⊎◌}
 use Rattle.std.specs.Prelude.{ℤ}
 use Rattle.sqlite_trees.specs.declared.store.Store.{Ghosts}
-use Rattle.rules.specs.Acts.{Act}
-use Rattle.rules.specs.Once.{IsHistory}
+use Rattle.machine.specs.Acts.{Act}
+use Rattle.machine.specs.Once.{IsHistory}
 use Rattle.wire.specs.Requests.{IsReading}
 use Rattle.wire.specs.declared.ask.Ask.{Ask}
 use Rattle.wire.specs.declared.fault.WireFault.{WireFault}

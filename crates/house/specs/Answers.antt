@@ -1,17 +1,17 @@
 -- What each reading of a text is answered, and the acts after it. An answer is its bytes.
 use Rattle.std.specs.Prelude.{ℕ, if◌then◌else◌, Bool, codes, List, None, Result, Ok, Err, ℤ}
-use Rattle.label.specs.Faults.{fault_code}
+use Rattle.values.specs.Faults.{fault_code}
 use Rattle.label.specs.Labels.{label_read}
 use Rattle.label.specs.declared.gs1.Label.{Label}
-use Rattle.label.specs.declared.fault.LabelFault.{LabelFault}
+use Rattle.values.specs.declared.fault.LabelFault.{LabelFault}
 use Rattle.commands.specs.Refusals.{refusal_code}
 use Rattle.commands.specs.declared.refusal.Refusal.{Refusal}
 use Rattle.commands.specs.declared.key.Key.TheVariants.{Line}
 use Rattle.commands.specs.declared.command.Command.TheVariants.{Receive}
-use Rattle.rules.specs.Acts.{Act}
-use Rattle.rules.specs.Standing.{today}
-use Rattle.rules.specs.Once.{Outcome, Accepted, Repeated, Refused, outcome, acts_after, is_key_of}
-use Rattle.rules.specs.Queries.{order_shown, stock_shown}
+use Rattle.machine.specs.Acts.{Act}
+use Rattle.machine.specs.Standing.{today}
+use Rattle.machine.specs.Once.{Outcome, Accepted, Repeated, Refused, outcome, acts_after, is_key_of}
+use Rattle.machine.specs.Queries.{order_shown, stock_shown}
 use Rattle.wire.specs.Answers.{answer_text, answer_bytes, json_type}
 use Rattle.wire.specs.Shorts.{wire_code, wire_status, wire_allow, code_text, cause_text}
 use Rattle.wire.specs.declared.answer.Answer.{Answer}

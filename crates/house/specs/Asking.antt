@@ -5,9 +5,9 @@ use Rattle.commands.specs.Refusals.{refusal_code}
 use Rattle.commands.specs.declared.key.Key.{Key}
 use Rattle.commands.specs.declared.command.Command.{Command}
 use Rattle.sqlite_trees.specs.declared.store.Store.{Ghosts}
-use Rattle.rules.specs.Acts.{Act}
-use Rattle.rules.specs.Once.{IsHistory}
-use Rattle.rules.specs.Standing.{today}
+use Rattle.machine.specs.Acts.{Act}
+use Rattle.machine.specs.Once.{IsHistory}
+use Rattle.machine.specs.Standing.{today}
 use Rattle.wire.specs.Shorts.{code_text}
 use Rattle.store.specs.Connected.{Connected}
 use Rattle.store.specs.declared.reply.Reply.{Reply}

@@ -1,8 +1,8 @@
 -- The machine over texts: a step, a run, and the house whose books are those of the acts.
 use Rattle.std.specs.Prelude.{◌≡◌, ◌⊎◌, ℕ, List, [], ◌∷◌, map, Vec, ℤ}
 use Rattle.sqlite_trees.specs.declared.store.Store.{Ghosts}
-use Rattle.rules.specs.Acts.{Act}
-use Rattle.rules.specs.Once.{IsHistory}
+use Rattle.machine.specs.Acts.{Act}
+use Rattle.machine.specs.Once.{IsHistory}
 use Rattle.wire.specs.Requests.{IsReading}
 use Rattle.wire.specs.declared.ask.Ask.{Ask}
 use Rattle.wire.specs.declared.ask.Ask.TheVariants.{Show}

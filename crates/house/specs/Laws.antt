@@ -1,6 +1,6 @@
 -- What is true of every step over a text.
 use Rattle.std.specs.Prelude.{◌≡◌, ◌≢◌, ℕ, List, take, codes, ℤ}
-use Rattle.rules.specs.Acts.{Act}
+use Rattle.machine.specs.Acts.{Act}
 use Rattle.house.specs.Answers.{foreign_books}
 use Rattle.house.specs.House.{Step}
 

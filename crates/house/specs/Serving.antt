@@ -2,7 +2,7 @@
 use Rattle.std.specs.Prelude.{◌≡◌, ◌≢◌, ◌⊎◌, ℕ, ◌<◌, List, [], ◌++◌, length, false, Option, Result, Ok, Err, ℤ}
 use Rattle.std.specs.Io.KnownBytes.{Appends, Consumes, IsAtEnd}
 use Rattle.sqlite_trees.specs.declared.store.Store.{Ghosts}
-use Rattle.rules.specs.Acts.{Act}
+use Rattle.machine.specs.Acts.{Act}
 use Rattle.wire.specs.Requests.{IsReading}
 use Rattle.wire.specs.Laws.{needs_more}
 use Rattle.wire.specs.declared.fault.WireFault.TheVariants.{Memory}

@@ -7,7 +7,7 @@ ghost use Rattle.house.specs.Answers.{fault_answer as fault_answer_lem, label_an
 
 use commands::{Refusal, Short};
 use http::StatusCode;
-use label::LabelFault;
+use values::LabelFault;
 use wire::short::{code_text, fault_text, label_fault_text, refusal_text};
 use wire::{Block, WireFault, write_short};
 

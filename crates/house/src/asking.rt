@@ -1,8 +1,8 @@
 //! What is asked of the books, and the answer to it.
 
 ghost use Rattle.std.specs.Prelude.{◌≡◌, ℤ, List};
-ghost use Rattle.rules.specs.Acts.{Act};
-ghost use Rattle.rules.specs.Once.{IsHistory};
+ghost use Rattle.machine.specs.Acts.{Act};
+ghost use Rattle.machine.specs.Once.{IsHistory};
 ghost use Rattle.store.specs.Books.{IsClean};
 ghost use Rattle.house.specs.Answers.{is_served as is_served_lem, act_answer, acts_with, order_answer};
 ghost use Rattle.house.specs.Asking.{Does, told_answer, act_of, delivered, scanned_answer, scanned_acts};
@@ -14,10 +14,11 @@ use crate::answered::{
 };
 use commands::laws::{every_command_is_sound, every_key_is_sound};
 use commands::{Command, Key, Receipt};
-use label::{LineNo, LotId, Name, Qty, read};
+use label::read;
 use sqlite::Alter;
 use std::alloc::Global;
 use store::{Books, Fault, Reply};
+use values::{LineNo, LotId, Name, Qty};
 use wire::{Answer, Block, WireFault, write_answer};
 
 /// Whether the key is of the command's kind: a receipt bears a delivery and a line, every other
@@ -72,7 +73,8 @@ pub(crate) fn scan<S: Alter>(
     ensures acted { IsClean S.Store books.new → (first : ℤ) (acts : List Act) → IsHistory first acts
         → Does S.Store first acts books.old (scanned_answer first acts (delivered delivery line bin qty) label.now) (scanned_acts first acts (delivered delivery line bin qty) label.now) result books.new }
 {
-    match read(label, books.day()) {
+    let today = books.day();
+    match read(label, today) {
         Ok(label) => {
             let lot = LotId {
                 gtin: label.gtin,

@@ -11,16 +11,3 @@ mod showing_stock;
 pub use answered::Answered;
 pub use house::House;
 pub use serve::ServeFault;
-
-#[cfg(test)]
-mod days_tests;
-#[cfg(test)]
-mod goods_tests;
-#[cfg(test)]
-mod picking_tables_tests;
-#[cfg(test)]
-mod picking_tests;
-#[cfg(test)]
-mod tables_tests;
-#[cfg(test)]
-mod tests;

@@ -2,8 +2,8 @@
 
 ghost use Rattle.std.specs.Prelude.{◌≡◌, ◌≢◌, ℤ, List, Result, Err, IfOk, IfErr, OnOk};
 ghost use Rattle.std.specs.Io.KnownBytes.{Appends, Keeps};
-ghost use Rattle.rules.specs.Acts.{Act};
-ghost use Rattle.rules.specs.Once.{IsHistory};
+ghost use Rattle.machine.specs.Acts.{Act};
+ghost use Rattle.machine.specs.Once.{IsHistory};
 ghost use Rattle.wire.specs.Laws.{needs_more as needs_more_lem};
 ghost use Rattle.store.specs.Books.{IsClean, HoldsBooks};
 ghost use Rattle.house.specs.House.{books_of};

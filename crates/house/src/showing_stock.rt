@@ -1,8 +1,8 @@
 //! The stock of an item, shown.
 
 ghost use Rattle.std.specs.Prelude.{ℤ, List};
-ghost use Rattle.rules.specs.Acts.{Act};
-ghost use Rattle.rules.specs.Once.{IsHistory};
+ghost use Rattle.machine.specs.Acts.{Act};
+ghost use Rattle.machine.specs.Once.{IsHistory};
 ghost use Rattle.store.specs.Books.{IsClean};
 ghost use Rattle.house.specs.Answers.{stock_answer};
 ghost use Rattle.house.specs.Asking.{Does};
@@ -10,10 +10,10 @@ ghost use Rattle.house.specs.House.{bytes_of};
 
 use crate::Answered;
 use crate::answered::{fault_answer, foreign_books, not_found};
-use label::Gtin;
 use sqlite::Alter;
 use std::alloc::Global;
 use store::{Books, Fault};
+use values::Gtin;
 use wire::{Answer, WireFault, write_answer};
 
 /// Shows the stock of an item.

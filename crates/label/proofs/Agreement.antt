@@ -4,13 +4,13 @@ use Rattle.std.specs.Prelude.{unwrap_or, ◌==◌, if◌then◌else◌, is_some,
 use Rattle.std.specs.Option.{option_or, ok_or}
 use Rattle.std.specs.Str.{all_ascii_digits}
 use Rattle.std.proofs.lemmas.Slice.Eq.{bytes_eq-Decides}
-use Rattle.label.specs.Values.{same_text, first_is}
-use Rattle.label.specs.Faults.{first_fault, sound_or, gtin_text_fault}
+use Rattle.values.specs.Values.{same_text, first_is}
+use Rattle.values.specs.Faults.{first_fault, sound_or, gtin_text_fault}
 use Rattle.label.specs.Expiry.{expiry_day, expiry_read}
 use Rattle.label.specs.Labels.{LabelParts, GTIN_IDENTIFIER, LOT_IDENTIFIER, EXPIRY_IDENTIFIER, SEPARATOR, is_listed, identifier_fault, expiry_text_fault, data_fault, lot_fault, up_to_separator, after_separator, after_data, elements_fault, rest_fault, has_bad_prefix, without_prefix, with_element, elements_parts, rest_parts, label_of, label_read}
 use Rattle.label.specs.Reading.{Step, identifier_at, new_field_read, label_found, elements_read, body_read, body_of, and_then, nothing_found}
-use Rattle.label.specs.declared.fault.LabelFault.{LabelFault}
-use Rattle.label.specs.declared.fault.LabelFault.TheVariants.{BadPrefix, UnknownIdentifier, CutShort, NotADigit, NoSuchDate, SeparatorMisplaced}
+use Rattle.values.specs.declared.fault.LabelFault.{LabelFault}
+use Rattle.values.specs.declared.fault.LabelFault.TheVariants.{BadPrefix, UnknownIdentifier, CutShort, NotADigit, NoSuchDate, SeparatorMisplaced}
 use Rattle.label.specs.declared.gs1.Label.{Label}
 use Rattle.label.specs.declared.reader.Found.{Found}
 

@@ -3,7 +3,7 @@ use Rattle.std.proofs.Common.{◌≡◌, ℕ, zero, suc, ◌<◌, true, false, L
 use Rattle.std.specs.Prelude.{IsTrue, ℤ, slice_index_or}
 use Rattle.std.specs.List.{list_all}
 use Rattle.std.proofs.lemmas.List.{append-nil}
-use Rattle.label.specs.Values.{is_gtin, is_lot_text, first_is}
+use Rattle.values.specs.Values.{is_gtin, is_lot_text, first_is}
 use Rattle.label.specs.Expiry.{expiry_day}
 use Rattle.label.specs.Labels.{SEPARATOR, GTIN_IDENTIFIER, LOT_IDENTIFIER, EXPIRY_IDENTIFIER, LabelParts, arrangements, is_listed, identifiers, rest_fault, rest_parts}
 use Rattle.label.proofs.LotEnds.{ended}

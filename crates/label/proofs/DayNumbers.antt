@@ -12,8 +12,8 @@ use Rattle.jiff.specs.Types.{Date as CivilDate}
 use Rattle.jiff.specs.Words.{IsYmd, epoch_day}
 use Rattle.jiff.proofs.Family.{epoch_day_injective}
 use Rattle.jiff.proofs.OnLiterals.{jiff_on_literals}
-use Rattle.label.specs.Values.{checked, is_day, is_business_day, is_between}
-use Rattle.label.specs.Days.{day_number, is_date, Date, date_in_year, date_after, date_of, dated_day}
+use Rattle.values.specs.Values.{checked, is_between}
+use Rattle.label.specs.Days.{is_day, is_business_day, day_number, is_date, Date, date_in_year, date_after, date_of, dated_day}
 
 -- the date is in the year y and has n days of that year before it
 record IsInYear (y n : ℕ) (d : Date) : Type 0 where

@@ -1,19 +1,15 @@
 -- The texts of days: reading and writing are inverse to each other.
 use Rattle.std.proofs.Common.{◌≡◌, ℕ, ◌+◌, ◌-◌, ◌*◌, ◌/◌, ◌%◌, ◌<◌, ◌≤◌, Bool, true, false, ◌&&◌, ◌==◌, cond, IsTrue, List, [], ◌∷◌, ◌++◌, length, get_or, drop, map, refl, sym, ap, ◌∙◌, arith, ℤ, Option, Some, None, IfSome, pos, nat_le}
-use Rattle.std.specs.List.{range_with_len, list_all}
+use Rattle.std.specs.List.{range_with_len}
 use Rattle.std.specs.Char.{is_ascii_digit}
 use Rattle.std.specs.Str.{all_ascii_digits}
 use Rattle.std.proofs.lemmas.Bool.{and_parts, and_from, cond-true, leb-true, eqb-true}
 use Rattle.std.proofs.lemmas.Bool.Decides.{nat_tests}
 use Rattle.std.proofs.lemmas.List.FromFn.{fill_by_all}
-use Rattle.std.proofs.lemmas.List.Recursion.{same_from_clauses}
 use Rattle.jiff_core.proofs.CalendarLemmas.{days_in_month_bounds}
-use Rattle.label.specs.Values.{checked, is_day}
-use Rattle.label.specs.Days.{day_number, is_date, Date, date_of, dated_day, last_digits, day_text, two_digits, is_day_form, parsed_day}
+use Rattle.values.specs.Values.{checked}
+use Rattle.label.specs.Days.{is_day, day_number, is_date, Date, date_of, dated_day, last_digits, day_text, two_digits, is_day_form, parsed_day}
 use Rattle.label.proofs.DayNumbers.{date_of_is, is_day-day_number, day_number-date_of, is_date-date_of, date_of-day_number}
-
-pub all_ascii_digits-list_all : (s : List ℕ) → list_all is_ascii_digit s ≡ all_ascii_digits s
-all_ascii_digits-list_all s = same_from_clauses (list_all is_ascii_digit) all_ascii_digits (λ c b. is_ascii_digit c && b) refl (λ _ _. refl) (λ _ _. refl) s
 
 -- a text of n bytes, byte for byte
 pub listed : (n : ℕ) (s : List ℕ) → length s ≡ n → s ≡ map (λ k. get_or s k 0) (range_with_len 0 n)

@@ -4,12 +4,12 @@ use Rattle.std.proofs.lemmas.List.{length-drop}
 use Rattle.std.specs.Prelude.{unwrap_or, cond, nat_lt, if◌then◌else◌, ◌==◌}
 use Rattle.std.specs.List.{position_or_len}
 use Rattle.std.proofs.lemmas.Bool.Decides.{nat_tests}
-use Rattle.label.specs.declared.fault.LabelFault.{LabelFault}
-use Rattle.label.specs.declared.fault.LabelFault.TheVariants.{IdentifierRepeated}
+use Rattle.values.specs.declared.fault.LabelFault.{LabelFault}
+use Rattle.values.specs.declared.fault.LabelFault.TheVariants.{IdentifierRepeated}
 use Rattle.label.specs.declared.reader.Found.{Found}
 use Rattle.label.specs.declared.reader.Identifier.{Identifier}
 use Rattle.label.specs.declared.reader.Identifier.TheVariants.{ForGtin, ForLot, ForExpiry}
-use Rattle.label.specs.Faults.{sound_or, gtin_text_fault}
+use Rattle.values.specs.Faults.{sound_or, gtin_text_fault}
 use Rattle.label.specs.Labels.{SEPARATOR, lot_fault, up_to_separator}
 use Rattle.label.specs.Reading.{Step, and_then, identifier_at, has_found, field_read, new_field_read, element_read, elements_read, label_found}
 use Rattle.label.specs.Expiry.{expiry_read}

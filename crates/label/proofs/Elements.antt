@@ -3,14 +3,14 @@ use Rattle.std.proofs.Common.{◌≡◌, ℕ, zero, suc, ◌<◌, ◌≤◌, Boo
 use Rattle.std.specs.Prelude.{IsTrue, ℤ}
 use Rattle.std.specs.Option.{option_or}
 use Rattle.std.proofs.lemmas.List.{take_at, drop_at, length-drop}
-use Rattle.label.specs.Values.{is_gtin, is_lot_text}
-use Rattle.label.specs.Faults.{first_fault, gtin_text_fault}
+use Rattle.values.specs.Values.{is_gtin, is_lot_text}
+use Rattle.values.specs.Faults.{first_fault, gtin_text_fault}
 use Rattle.label.specs.Expiry.{expiry_day}
 use Rattle.label.specs.Labels.{GTIN_IDENTIFIER, LOT_IDENTIFIER, EXPIRY_IDENTIFIER, is_listed, identifier_fault, expiry_text_fault, lot_fault, data_fault, after_data, elements_fault, rest_fault, with_element, elements_parts, rest_parts}
 use Rattle.label.proofs.FaultOrder.{gtin_text_fault-none, gtin_length, lot_text_fault-none, lot_characters, six_digits, expiry_text_fault-none}
 use Rattle.label.proofs.LotEnds.{ended, up_to_separator-lot, after_separator-lot, not_trailing}
-use Rattle.label.specs.declared.fault.LabelFault.{LabelFault}
-use Rattle.label.specs.declared.fault.LabelFault.TheVariants.{IdentifierRepeated}
+use Rattle.values.specs.declared.fault.LabelFault.{LabelFault}
+use Rattle.values.specs.declared.fault.LabelFault.TheVariants.{IdentifierRepeated}
 
 -- FUEL
 after_data_within : (id s : List ℕ) → length (after_data id s) ≤ length s

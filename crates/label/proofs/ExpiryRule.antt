@@ -5,13 +5,12 @@ use Rattle.std.proofs.lemmas.Bool.{cases_eq, and_parts, and_from, cond-true, con
 use Rattle.std.proofs.lemmas.Bool.Decides.{nat_tests}
 use Rattle.jiff_core.specs.Calendar.{days_in_month}
 use Rattle.jiff_core.proofs.CalendarLemmas.{days_in_month_bounds}
-use Rattle.label.specs.Values.{is_day, is_business_day}
-use Rattle.label.specs.Days.{day_number, is_date, date_of, year_of_day, dated_day, last_digits, two_digits}
+use Rattle.label.specs.Days.{is_day, is_business_day, day_number, is_date, date_of, year_of_day, dated_day, last_digits, two_digits}
 use Rattle.label.specs.Expiry.{full_year, day_in_month, expiry_day, IsExpiry, expiry_read, expiry_text}
 use Rattle.label.proofs.DayNumbers.{date_of_is, is_date-parts, is_date-true, is_day-day_number, is_business_day-day_number, day_number-date_of, is_date-date_of}
 use Rattle.std.specs.Option.{ok_or}
-use Rattle.label.specs.declared.fault.LabelFault.{LabelFault}
-use Rattle.label.specs.declared.fault.LabelFault.TheVariants.{CutShort, NotADigit, NoSuchDate}
+use Rattle.values.specs.declared.fault.LabelFault.{LabelFault}
+use Rattle.values.specs.declared.fault.LabelFault.TheVariants.{CutShort, NotADigit, NoSuchDate}
 use Rattle.label.proofs.DayTexts.{listed, some_cond, two_are_digits, two_digits-bound, is_ascii_digit-last}
 
 -- a business day is a day of the years 2000 to 2199

@@ -7,12 +7,12 @@ use Rattle.std.specs.Str.{all_ascii_digits}
 use Rattle.std.proofs.lemmas.Bool.{and_parts, eqb-true}
 use Rattle.std.proofs.lemmas.Option.{cond_some}
 use Rattle.std.proofs.lemmas.Bool.Decides.{nat_tests}
-use Rattle.label.specs.Values.{is_gtin, is_lot_text, is_digit, is_set_82, is_between, first_is, weighted_sum}
-use Rattle.label.specs.Faults.{first_fault, gtin_text_fault, lot_text_fault}
+use Rattle.values.specs.Values.{is_gtin, is_lot_text, is_digit, is_set_82, is_between, first_is, weighted_sum}
+use Rattle.values.specs.Faults.{first_fault, gtin_text_fault, lot_text_fault}
 use Rattle.label.specs.Expiry.{expiry_day}
 use Rattle.label.specs.Labels.{expiry_text_fault}
-use Rattle.label.specs.declared.fault.LabelFault.{LabelFault}
-use Rattle.label.specs.declared.fault.LabelFault.TheVariants.{CutShort, NotADigit, CheckDigit, VariableMeasure, LotEmpty, LotTooLong, LotCharacter, NoSuchDate}
+use Rattle.values.specs.declared.fault.LabelFault.{LabelFault}
+use Rattle.values.specs.declared.fault.LabelFault.TheVariants.{CutShort, NotADigit, CheckDigit, VariableMeasure, LotEmpty, LotTooLong, LotCharacter, NoSuchDate}
 
 pub both_none : {X : Type 0} (a b : Option X) → option_or a b ≡ None → (a ≡ None) × (b ≡ None)
 both_none None b e = (refl, e)

@@ -3,7 +3,7 @@ use Rattle.std.proofs.Common.{◌≡◌, ℕ, List, [], ◌++◌, Some, None, sy
 use Rattle.std.specs.Prelude.{ℤ}
 use Rattle.label.specs.Expiry.{expiry_day}
 use Rattle.label.specs.Labels.{LabelParts, IsLabel, rest_fault, rest_parts, has_bad_prefix, without_prefix, label_fault, label_parts}
-use Rattle.label.specs.declared.fault.LabelFault.TheVariants.{BadPrefix}
+use Rattle.values.specs.declared.fault.LabelFault.TheVariants.{BadPrefix}
 use Rattle.label.proofs.SoundBody.{body_from_sound}
 use Rattle.label.proofs.ArrangedBody.{reads_arrangement, begins_otherwise}
 use Rattle.label.proofs.Prefixes.{past_prefix, prefix_of, label_fault-good_prefix, good_prefix}

@@ -1,4 +1,3 @@
-pub mod Padding
 pub mod DayNumbers
 pub mod DayTexts
 pub mod ExpiryRule

@@ -5,7 +5,7 @@ use Rattle.std.specs.List.{list_all, position_or_len}
 use Rattle.std.proofs.lemmas.Bool.{and_parts, eqb-true, eqb-false, ne_eqb, cases_lt, false≢true}
 use Rattle.std.proofs.lemmas.List.{append-nil, take_at, take_all, drop_all}
 use Rattle.std.proofs.lemmas.List.Sums.{split_at_first, passes_at_first}
-use Rattle.label.specs.Values.{is_set_82}
+use Rattle.values.specs.Values.{is_set_82}
 use Rattle.label.specs.Labels.{SEPARATOR, up_to_separator, after_separator}
 
 -- a lot's text, with what follows it: the separator stands between them exactly if something follows

@@ -4,9 +4,9 @@ use Rattle.std.specs.Prelude.{if◌then◌else◌, ℤ, Contains, slice_index_or
 use Rattle.std.proofs.lemmas.Bool.{or_cases, false≢true, not-false}
 use Rattle.std.proofs.lemmas.List.{take-append-drop}
 use Rattle.std.proofs.lemmas.Slice.Eq.{bytes_eq-Decides}
-use Rattle.label.specs.Values.{same_text, first_is}
+use Rattle.values.specs.Values.{same_text, first_is}
 use Rattle.label.specs.Labels.{prefixes, is_listed, rest_fault, has_bad_prefix, without_prefix, label_fault}
-use Rattle.label.specs.declared.fault.LabelFault.{LabelFault}
+use Rattle.values.specs.declared.fault.LabelFault.{LabelFault}
 
 -- what is left of a text with a prefix
 pub past_prefix : (prefix body : List ℕ) → first_is 93 body ≡ false → (k : ℕ) → k < 4 → slice_index_or prefixes k prefix ≡ prefix

@@ -1,11 +1,11 @@
 -- What a text reads as: `Ok` exactly at the labels, with their values, and `Err` exactly at the faults.
 use Rattle.std.proofs.Common.{◌≡◌, ℕ, List, [], Option, Some, None, Ok, Err, refl, sym, ap, ◌∙◌, subst, arith, append_assoc}
 use Rattle.std.specs.Prelude.{IsTrue, ℤ, ◌↔◌}
-use Rattle.label.specs.Values.{is_gtin, is_lot_text}
-use Rattle.label.specs.Faults.{sound_or}
+use Rattle.values.specs.Values.{is_gtin, is_lot_text}
+use Rattle.values.specs.Faults.{sound_or}
 use Rattle.label.specs.Expiry.{expiry_day}
 use Rattle.label.specs.Labels.{LabelParts, IsLabelOf, label_fault, label_parts, label_of, label_read, label_text}
-use Rattle.label.specs.declared.fault.LabelFault.{LabelFault}
+use Rattle.values.specs.declared.fault.LabelFault.{LabelFault}
 use Rattle.label.specs.declared.gs1.Label.{Label}
 use Rattle.label.proofs.Grammar.{label_has_no_fault, IsLabel-from_none}
 

@@ -4,7 +4,7 @@ use Rattle.std.specs.Prelude.{IsTrue, ℤ, Contains}
 use Rattle.std.specs.List.{list_all}
 use Rattle.std.proofs.lemmas.Bool.{and_parts, both_ways, false≢true}
 use Rattle.std.proofs.lemmas.List.{append-nil}
-use Rattle.label.specs.Values.{is_gtin, is_lot_text}
+use Rattle.values.specs.Values.{is_gtin, is_lot_text}
 use Rattle.label.specs.Expiry.{expiry_day}
 use Rattle.label.specs.Labels.{SEPARATOR, GTIN_IDENTIFIER, LOT_IDENTIFIER, EXPIRY_IDENTIFIER, LabelParts, arrangements, is_listed, identifiers, rest_fault}
 use Rattle.label.proofs.LotEnds.{ended}

@@ -1,8 +1,15 @@
 -- Days of the proleptic Gregorian calendar, by their numbers. Day 0 is 1970-01-01.
-use Rattle.std.specs.Prelude.{ℕ, zero, suc, ◌-◌, ◌+◌, ◌*◌, ◌/◌, ◌%◌, Bool, ◌&&◌, ◌==◌, if◌then◌else◌, nat_lt, nat_le, slice_index, List, [], ◌∷◌, ◌++◌, length, take, drop, ℤ, pos, ◌+ℤ◌, unsigned_abs, Option, None}
+use Rattle.std.specs.Prelude.{ℕ, zero, suc, ◌-◌, ◌+◌, ◌*◌, ◌/◌, ◌%◌, Bool, ◌&&◌, ◌==◌, if◌then◌else◌, nat_lt, nat_le, slice_index, List, [], ◌∷◌, ◌++◌, length, take, drop, ℤ, pos, negsuc, int_le, ◌+ℤ◌, unsigned_abs, Option, None}
 use Rattle.std.specs.Str.{all_ascii_digits}
 use Rattle.jiff_core.specs.Calendar.{days_from_civil, days_in_month, days_in_year}
-use Rattle.label.specs.Values.{checked, is_day}
+use Rattle.values.specs.Values.{checked}
+
+-- the days that a `Day` may be, 1951-01-01 to 2249-12-31, and those that books may have, 2000-01-01 to 2199-12-31
+abbrev pub is_day : ℤ → Bool
+is_day n = int_le (negsuc 6939) n && int_le n (pos 102_267)
+
+abbrev pub is_business_day : ℤ → Bool
+is_business_day n = int_le (pos 10_957) n && int_le n (pos 84_005)
 
 -- the day number of a date
 abbrev pub day_number : ℕ → ℕ → ℕ → ℤ

@@ -4,8 +4,8 @@ use Rattle.std.specs.Option.{ok_or}
 use Rattle.std.specs.Str.{all_ascii_digits}
 use Rattle.jiff_core.specs.Calendar.{days_in_month}
 use Rattle.label.specs.Days.{day_number, is_date, date_of, year_of_day, last_digits}
-use Rattle.label.specs.declared.fault.LabelFault.{LabelFault}
-use Rattle.label.specs.declared.fault.LabelFault.TheVariants.{CutShort, NotADigit, NoSuchDate}
+use Rattle.values.specs.declared.fault.LabelFault.{LabelFault}
+use Rattle.values.specs.declared.fault.LabelFault.TheVariants.{CutShort, NotADigit, NoSuchDate}
 pub use Rattle.label.specs.Days.{two_digits}
 
 -- the first year with these last two digits from 49 years before the present one on: it lies at most 50 years after it

@@ -4,11 +4,11 @@ use Rattle.std.specs.Prelude.{◌≡◌, ℕ, zero, suc, ◌+◌, Bool, not, ◌
 use Rattle.std.specs.List.{list_all, list_any, before_first, after_first}
 use Rattle.std.specs.Option.{option_or}
 use Rattle.std.specs.Str.{all_ascii_digits}
-use Rattle.label.specs.Values.{same_text, is_gtin, is_lot_text, first_is}
-use Rattle.label.specs.Faults.{first_fault, sound_or, gtin_text_fault, lot_text_fault}
+use Rattle.values.specs.Values.{same_text, is_gtin, is_lot_text, first_is}
+use Rattle.values.specs.Faults.{first_fault, sound_or, gtin_text_fault, lot_text_fault}
 use Rattle.label.specs.Expiry.{expiry_day}
-use Rattle.label.specs.declared.fault.LabelFault.{LabelFault}
-use Rattle.label.specs.declared.fault.LabelFault.TheVariants.{BadPrefix, UnknownIdentifier, CutShort, NotADigit, NoSuchDate, IdentifierRepeated, IdentifierMissing, SeparatorMisplaced}
+use Rattle.values.specs.declared.fault.LabelFault.{LabelFault}
+use Rattle.values.specs.declared.fault.LabelFault.TheVariants.{BadPrefix, UnknownIdentifier, CutShort, NotADigit, NoSuchDate, IdentifierRepeated, IdentifierMissing, SeparatorMisplaced}
 use Rattle.label.specs.declared.gs1.Label.{Label}
 
 -- the Application Identifiers, and the byte that ends a lot which is not last

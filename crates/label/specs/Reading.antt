@@ -1,11 +1,11 @@
 -- A label read element by element: what was found so far, and what one element adds.
 use Rattle.std.specs.Prelude.{◌≡◌, ℕ, zero, suc, Bool, ◌==◌, if◌then◌else◌, List, [], ◌∷◌, length, take, drop, ℤ, Option, Some, None, Result, Ok, Err, is_some}
-use Rattle.label.specs.Values.{same_text, first_is}
-use Rattle.label.specs.Faults.{sound_or, gtin_text_fault}
+use Rattle.values.specs.Values.{same_text, first_is}
+use Rattle.values.specs.Faults.{sound_or, gtin_text_fault}
 use Rattle.label.specs.Expiry.{expiry_read}
 use Rattle.label.specs.Labels.{GTIN_IDENTIFIER, LOT_IDENTIFIER, EXPIRY_IDENTIFIER, SEPARATOR, has_bad_prefix, without_prefix, lot_fault, up_to_separator, after_separator}
-use Rattle.label.specs.declared.fault.LabelFault.{LabelFault}
-use Rattle.label.specs.declared.fault.LabelFault.TheVariants.{BadPrefix, UnknownIdentifier, CutShort, IdentifierRepeated, IdentifierMissing, SeparatorMisplaced}
+use Rattle.values.specs.declared.fault.LabelFault.{LabelFault}
+use Rattle.values.specs.declared.fault.LabelFault.TheVariants.{BadPrefix, UnknownIdentifier, CutShort, IdentifierRepeated, IdentifierMissing, SeparatorMisplaced}
 use Rattle.label.specs.declared.gs1.Label.{Label}
 use Rattle.label.specs.declared.reader.Found.{Found}
 use Rattle.label.specs.declared.reader.Identifier.{Identifier}

@@ -1,12 +1,13 @@
 ghost use Rattle.std.specs.Prelude.{◌≡◌, ◌≤◌, ◌<◌, ◌+◌, ◌%◌, ℤ, pos, length, drop, IsTrue, Some, IfSome};
 ghost use Rattle.std.specs.Str.{all_ascii_digits};
 ghost use Rattle.jiff.specs.Words.{epoch_day};
-ghost use Rattle.label.specs.Values.{checked, is_day, is_business_day};
-ghost use Rattle.label.specs.Days.{date_of, year_of_day, dated_day, day_text, parsed_day, is_day_form, two_digits as two_digits_lem};
+ghost use Rattle.values.specs.Values.{checked};
+ghost use Rattle.label.specs.Days.{is_day, is_business_day, date_of, year_of_day, dated_day, day_text, parsed_day, is_day_form, two_digits as two_digits_lem};
 
-use crate::digits::{are_digits, digit, two_digits};
+use crate::digits::{digit, two_digits};
 use jiff::civil::Date;
 use std::marker::Model;
+use values::are_digits;
 
 /// A day of the proleptic Gregorian calendar, from 1951-01-01 to 2249-12-31.
 ///
@@ -18,7 +19,7 @@ pub struct Day {
 
 impl Model for Day {
     ghost use Rattle.std.specs.Prelude.{ℤ, IsTrue};
-    ghost use Rattle.label.specs.Values.{is_day};
+    ghost use Rattle.label.specs.Days.{is_day};
 
     ghost Value = { ℤ };
 
@@ -39,7 +40,7 @@ pub struct BusinessDay {
 
 impl Model for BusinessDay {
     ghost use Rattle.std.specs.Prelude.{ℤ, IsTrue};
-    ghost use Rattle.label.specs.Values.{is_business_day};
+    ghost use Rattle.label.specs.Days.{is_business_day};
 
     ghost Value = { ℤ };
 

@@ -1,13 +1,5 @@
 ghost use Rattle.std.specs.Prelude.{◌≡◌, ◌≤◌, ◌+◌, ◌%◌, length, drop};
-ghost use Rattle.std.specs.Str.{all_ascii_digits};
 ghost use Rattle.label.specs.Days.{two_digits as two_digits_lem};
-
-/// Whether each byte is a decimal digit.
-pub(crate) fn are_digits(text: &[u8]) -> bool
-    ensures { result ≡ all_ascii_digits text.now }
-{
-    text.iter().all(|c| c.is_ascii_digit())
-}
 
 /// The number that two bytes write, if they are digits.
 pub(crate) fn two_digits(text: &[u8], at: usize) -> u32

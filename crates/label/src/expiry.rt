@@ -1,13 +1,13 @@
 ghost use Rattle.std.specs.Prelude.{◌≡◌, ◌≤◌, ◌↔◌, ℤ, pos, length, IsTrue, Ok};
 ghost use Rattle.jiff.specs.Words.{days_in_month};
-ghost use Rattle.label.specs.Values.{is_business_day, is_day};
-ghost use Rattle.label.specs.Days.{dated_day};
+ghost use Rattle.label.specs.Days.{is_business_day, is_day, dated_day};
 ghost use Rattle.label.specs.Expiry.{full_year as full_year_lem, day_in_month, expiry_read, expiry_text, IsExpiry};
 
+use crate::Day;
 use crate::day::DateParts;
-use crate::digits::{are_digits, digit, two_digits};
-use crate::{Day, LabelFault};
+use crate::digits::{digit, two_digits};
 use jiff::civil::Date;
+use values::{LabelFault, are_digits};
 
 /// The expiry day that the digits YYMMDD name on a business day, by the data of Application Identifier (17) in the
 /// GS1 General Specifications: the year lies from 49 years before to 50 years after that of `today`, and DD 00 is the

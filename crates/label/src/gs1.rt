@@ -1,4 +1,5 @@
-use crate::{Day, Gtin, Lot};
+use crate::Day;
+use values::{Gtin, Lot};
 
 /// What a label says: Application Identifiers 01 (GTIN), 10 (batch or lot) and 17 (expiration
 /// date).

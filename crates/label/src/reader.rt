@@ -1,14 +1,15 @@
 ghost use Rattle.std.specs.Prelude.{◌≡◌, ◌↔◌, ◌+◌, ◌==◌, ◌<◌, ◌≤◌, length, take, drop, IsTrue, IfOk, IfErr, Ok, Err, Some};
 ghost use Rattle.std.specs.List.{position, position_or_len};
-ghost use Rattle.label.specs.Values.{is_business_day};
-ghost use Rattle.label.specs.Faults.{sound_or};
+ghost use Rattle.label.specs.Days.{is_business_day};
+ghost use Rattle.values.specs.Faults.{sound_or};
 ghost use Rattle.label.specs.Labels.{lot_fault, up_to_separator, after_separator, label_fault, label_read, IsLabelOf};
 ghost use Rattle.label.specs.declared.gs1.Label.{Label as LabelSaid};
-ghost use Rattle.label.specs.declared.fault.LabelFault.{LabelFault as Fault};
+ghost use Rattle.values.specs.declared.fault.LabelFault.{LabelFault as Fault};
 ghost use Rattle.label.specs.Reading.{identifier_at, has_found, nothing_found, element_read, field_read, label_found, body_of, body_read, IsStep};
 
 use crate::gs1::SEPARATOR;
-use crate::{Day, Gtin, Label, LabelFault, Lot, expiry_of};
+use crate::{Day, Label, expiry_of};
+use values::{Gtin, LabelFault, Lot};
 
 /// The Application Identifiers of the profile.
 #[derive(Clone, Copy)]

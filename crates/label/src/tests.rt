@@ -1,12 +1,10 @@
 ghost use Rattle.std.specs.Prelude.{IsTrue};
-ghost use Rattle.label.specs.Values.{is_business_day};
+ghost use Rattle.label.specs.Days.{is_business_day};
 
-use crate::{
-    BusinessDay, Counted, Day, Delta, Gtin, Label, LabelFault, LineNo, Lot, Name, Qty, Text, Title,
-    expiry_of, read, write,
-};
+use crate::{BusinessDay, Day, Label, expiry_of, read, write};
 use std::process::Abort;
 use std::test::Fail;
+use values::{Gtin, LabelFault, Lot};
 
 // A business day of a test.
 fn day(rt: &impl Abort, text: &str) -> Day
@@ -104,33 +102,6 @@ fn writes_a_label(rt: HostRuntime) -> Result<(), Fail> {
         b"01095060001343521726093010AB12".as_slice()
     );
     assert_eq!(rt; read(text.as_slice(), day(&rt, "2026-05-04")), Ok(label));
-    Ok(())
-}
-
-#[test]
-fn makes_values(rt: HostRuntime) -> Result<(), Fail> {
-    let name = Name::new(b"S-1").ok_or("a name")?;
-    assert_eq!(rt; name.as_bytes(), b"S-1".as_slice());
-    assert_eq!(rt; Name::new(b"s-1"), None);
-    let title = Title::new(b"Corner Shop").ok_or("a title")?;
-    assert_eq!(rt; title.as_bytes(), b"Corner Shop".as_slice());
-    assert_eq!(rt; Title::new(b"Corner Shop "), None);
-    let short = Text::<4>::new(b"AB12").ok_or("a text")?;
-    assert_eq!(rt; (short.len(), short.as_bytes()), (4, b"AB12".as_slice()));
-    assert_eq!(rt; Qty::new(1_000_000).map(Qty::units), Some(1_000_000));
-    assert_eq!(rt; Qty::new(0), None);
-    assert_eq!(rt; Counted::new(0).map(Counted::units), Some(0));
-    assert_eq!(rt; Counted::new(1_000_001), None);
-    assert_eq!(rt; Delta::new(-1_000_000).map(Delta::change), Some(-1_000_000));
-    assert_eq!(rt; Delta::new(0), None);
-    assert_eq!(rt; LineNo::new(9_999).map(LineNo::number), Some(9_999));
-    assert_eq!(rt; LineNo::new(10_000), None);
-    assert_eq!(rt;
-        Gtin::new(b"99506000134352"),
-        Err(LabelFault::VariableMeasure)
-    );
-    assert_eq!(rt; Lot::new(b"A B"), Err(LabelFault::LotCharacter));
-    assert_eq!(rt; LabelFault::OutOfMemory.code(), "L90");
     Ok(())
 }
 

@@ -1,12 +1,13 @@
 ghost use Rattle.std.specs.Prelude.{◌≡◌, ◌++◌, List, ℕ, ℤ, IsTrue, IfOk, IfErr, OnOk, Ok};
-ghost use Rattle.label.specs.Values.{is_business_day};
+ghost use Rattle.label.specs.Days.{is_business_day};
 ghost use Rattle.label.specs.Labels.{label_text, label_read};
 ghost use Rattle.label.specs.Expiry.{expiry_text, IsWithinCentury};
-ghost use Rattle.label.specs.declared.fault.LabelFault.TheVariants.{OutOfMemory};
+ghost use Rattle.values.specs.declared.fault.LabelFault.TheVariants.{OutOfMemory};
 
+use crate::Label;
 use crate::expiry::expiry_digits;
-use crate::{Label, LabelFault};
 use std::alloc::{AllocError, Global};
+use values::LabelFault;
 
 /// The text of a label: no symbology identifier, the GTIN, the expiration date with its day of the
 /// month written out, and the lot last, so that no separator is needed. Refused with `L90` for want

@@ -1,11 +1,10 @@
 -- What the lines of the program print and tell.
 use Rattle.std.specs.Prelude.{◌≡◌, ℕ, ℤ, List, ◌++◌, codes, IsTrue, Option, Some, Ok, Err}
 use Rattle.std.specs.Io.KnownBytes.{Appends}
-use Rattle.label.specs.Values.{is_business_day}
-use Rattle.label.specs.Days.{day_text, parsed_day}
-use Rattle.label.specs.Faults.{fault_code}
+use Rattle.label.specs.Days.{is_business_day, day_text, parsed_day}
+use Rattle.values.specs.Faults.{fault_code}
 use Rattle.label.specs.Labels.{label_read}
-use Rattle.label.specs.declared.fault.LabelFault.{LabelFault}
+use Rattle.values.specs.declared.fault.LabelFault.{LabelFault}
 use Rattle.label.specs.declared.gs1.Label.{Label as LabelSaid}
 use Rattle.lotd.specs.declared.fault.Fault.{Fault}
 use Rattle.lotd.specs.declared.fault.Fault.TheVariants.{Usage, Label, Value, Io, Store, Foreign}

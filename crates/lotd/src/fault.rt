@@ -2,8 +2,8 @@ ghost use Rattle.std.specs.Prelude.{◌≡◌};
 
 use clap::Error;
 use clap::error::ErrorKind;
-use label::LabelFault;
 use std::io;
+use values::LabelFault;
 
 /// Why a line of the program is not done.
 #[derive(Drop)]

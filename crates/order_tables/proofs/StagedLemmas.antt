@@ -24,8 +24,9 @@ use Rattle.sqlite_rules.specs.Cast.{cast_all}
 use Rattle.sqlite_value.specs.Order.{value_cmp}
 use Rattle.sqlite_keyed.proofs.ListLemmas.{all-filter, all_map, all_weaker}
 use Rattle.sqlite_rules.proofs.ListLemmas.{all_has}
-use Rattle.label.specs.Values.{is_gtin, is_lot_text, is_name, is_title, is_day, is_business_day}
-use Rattle.label.specs.declared.lot.LotId.{LotId}
+use Rattle.values.specs.Values.{is_gtin, is_lot_text, is_name, is_title}
+use Rattle.label.specs.Days.{is_day, is_business_day}
+use Rattle.values.specs.declared.lot.LotId.{LotId}
 use Rattle.commands.specs.Spelling.{kind_text}
 use Rattle.commands.specs.declared.limits.TheConstants.{UNITS_MAX, ACTS_MAX, SHORT_MAX, KEY_TEXT_MAX, CARD_NOTE_MAX, SCHEMA_VERSION}
 use Rattle.commands.specs.declared.rows.StagedRow.{StagedRow}

@@ -12,11 +12,11 @@ ghost use Rattle.table_words.specs.declared.error.TableFault.TheVariants.{Foreig
 use crate::texts::{ADD_LINE, CHANGE_LINE, DROP_LINE, LINE_OF, LINES_OF_ORDER};
 use commands::LineRow;
 use commands::limits::UNITS_MAX;
-use label::{Gtin, Name};
 use sqlite::{Alter, Row, Transaction};
 use std::alloc::Global;
+use table_words::columns::{gtin_at, name_at, number_at, of_gtin, of_name, of_number};
 use table_words::error::TableFault;
-use table_words::values::{gtin_at, name_at, number_at, of_gtin, of_name, of_number};
+use values::{Gtin, Name};
 
 /// Drops the row with this key, if there is one.
 pub fn drop_line<S: Alter>(

@@ -12,13 +12,13 @@ ghost use Rattle.table_words.specs.declared.error.TableFault.TheVariants.{Foreig
 use crate::texts::{ADD_ORDER, CHANGE_ORDER, DROP_ORDER, OPEN_ORDERS, ORDERS_OF};
 use commands::limits::ACTS_MAX;
 use commands::{OrderRow, OrderState};
-use label::Name;
 use sqlite::{Alter, Row, Transaction};
 use std::alloc::Global;
-use table_words::error::TableFault;
-use table_words::values::{
+use table_words::columns::{
     name_at, number_at, of_name, of_number, of_order_state, of_title, order_state_at, title_at,
 };
+use table_words::error::TableFault;
+use values::Name;
 
 /// Drops the row with this key, if there is one.
 pub fn drop_order<S: Alter>(tx: &mut Transaction<'_, S>, order: &Name) -> Result<(), TableFault>

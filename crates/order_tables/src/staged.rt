@@ -12,13 +12,13 @@ ghost use Rattle.table_words.specs.declared.error.TableFault.TheVariants.{Foreig
 use crate::texts::{ADD_STAGED, ALL_STAGED, CHANGE_STAGED, DROP_STAGED, STAGED_OF_ITEM};
 use commands::StagedRow;
 use commands::limits::UNITS_MAX;
-use label::{Gtin, LotId, Name};
 use sqlite::{Alter, Row, Transaction};
 use std::alloc::Global;
-use table_words::error::TableFault;
-use table_words::values::{
+use table_words::columns::{
     gtin_at, lot_at, name_at, number_at, of_gtin, of_lot, of_name, of_number,
 };
+use table_words::error::TableFault;
+use values::{Gtin, LotId, Name};
 
 /// Drops the row with this key, if there is one.
 pub fn drop_staged<S: Alter>(

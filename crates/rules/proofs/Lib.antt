@@ -1,14 +1,3 @@
-pub mod Tests
-pub mod Numbers
-pub mod Mapping
-pub mod histories
-pub mod Apart
-pub mod examples
-pub mod Searching
-pub mod Capping
 pub mod rows
 pub mod decided
-pub mod Walking
-pub mod Making
-pub mod Gathering
-pub mod GatheringShares
+mod ExampleOrderDecisions

@@ -1,7 +1,6 @@
 -- That each command is decided as the machine decides it.
 pub mod Decisions
 pub mod SetupDecided
-pub mod Quantities
 pub mod goods
 pub mod counts
 pub mod orders

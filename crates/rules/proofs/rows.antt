@@ -1,7 +1,6 @@
 -- What typed rows tell of a history, and what changing them does.
 pub mod TableSteps
 pub mod SliceTells
-pub mod RowSums
 pub mod SliceDemands
 pub mod AfterRows
 pub mod SharesTold
@@ -12,11 +11,8 @@ pub mod SuppliesTold
 pub mod DemandsTold
 pub mod Telling
 pub mod Ordering
-pub mod Cutting
-pub mod Naming
 pub mod LotUnits
 pub mod SameKeys
-pub mod PlaceRows
 pub mod OpenUnits
 pub mod LotTold
 pub mod WithoutRows
@@ -33,7 +29,6 @@ pub mod LotStateTold
 pub mod StagedChanged
 pub mod StageUnits
 pub mod DroppedRows
-pub mod UnshippableLots
 pub mod ReturnedRows
 pub mod MappedRows
 pub mod HeldLots

@@ -1,24 +1,25 @@
 -- What a decision sees of the tables, and what a change makes of them.
 use Rattle.std.specs.Prelude.{◌≡◌, ℕ, Bool, true, false, not, ◌&&◌, ◌||◌, ◌==◌, if◌then◌else◌, List, [], ◌∷◌, length, find, Option, Some, None, Result, Ok, Err, is_some, ℤ}
 use Rattle.std.specs.List.{list_any}
-use Rattle.label.specs.Values.{same_text}
-use Rattle.label.specs.declared.lot.LotId.{LotId}
+use Rattle.values.specs.Values.{same_text}
+use Rattle.values.specs.declared.lot.LotId.{LotId}
 use Rattle.commands.specs.declared.command.Command.{Command}
 use Rattle.commands.specs.declared.command.Command.TheVariants.{Item, Bin, Receive, Move, Count, Adjust, Order, Cancel, Pick, Unpick, Ship}
 use Rattle.commands.specs.declared.rows.ReservedRow.{ReservedRow}
-use Rattle.rules.specs.Acts.{Act}
-use Rattle.rules.specs.Postings.{is_lot}
-use Rattle.rules.specs.Standing.{items, bins, lines_of}
-use Rattle.rules.specs.Planning.{is_open}
-use Rattle.rules.specs.Touched.{is_touched}
-use Rattle.rules.specs.Tables.{Tables, tables_of, repeat_row}
-use Rattle.rules.specs.Verdict.{verdict}
-use Rattle.rules.specs.Replies.{reply}
-use Rattle.rules.specs.declared.slice.Rows.{Rows}
-use Rattle.rules.specs.declared.slice.Slice.{Slice}
-use Rattle.rules.specs.declared.slice.Change.{Change}
-use Rattle.rules.specs.declared.slice.RuleFault.{RuleFault}
-use Rattle.rules.specs.declared.slice.RuleFault.TheVariants.{Refused, NoMemory, Foreign}
+use Rattle.machine.specs.KeyedRows.{no_two, AreOwn, AreRows, LotBin, OrderItem, OrderLot, same_cell, same_line, same_share}
+use Rattle.machine.specs.Acts.{Act}
+use Rattle.machine.specs.Postings.{is_lot}
+use Rattle.machine.specs.Standing.{items, bins, lines_of}
+use Rattle.machine.specs.Planning.{is_open}
+use Rattle.machine.specs.Touched.{is_touched}
+use Rattle.machine.specs.Tables.{Tables, tables_of, repeat_row}
+use Rattle.machine.specs.Verdict.{verdict}
+use Rattle.machine.specs.Replies.{reply}
+use Rattle.row_rules.specs.declared.slice.Rows.{Rows}
+use Rattle.row_rules.specs.declared.slice.Slice.{Slice}
+use Rattle.row_rules.specs.declared.slice.Change.{Change}
+use Rattle.row_rules.specs.declared.slice.RuleFault.{RuleFault}
+use Rattle.row_rules.specs.declared.slice.RuleFault.TheVariants.{Refused, NoMemory, Foreign}
 
 -- Changes: a row that is put stands, one that is dropped is gone, and the others stay
 
@@ -51,30 +52,6 @@ applied c t = record {
 
 -- Slices
 
-abbrev pub no_two : {R : Type 0} → (R → R → Bool) → List R → Bool
-no_two same [] = true
-no_two same (r ∷ rs) = not (list_any (same r) rs) && no_two same rs
-
--- each of these rows is the table's under its key, and its key is allowed
-abbrev pub AreOwn : {K R : Type 0} → (R → K) → (K → Bool) → (K → Option R) → List R → Type 0
-AreOwn key allowed row [] = Unit {0}
-AreOwn key allowed row (r ∷ rs) = (allowed (key r) ≡ true) × (row (key r) ≡ Some r) × AreOwn key allowed row rs
-
--- a needed key is found as the table has it; no row is foreign, and none is there twice
-pub record AreRows {K R : Type 0} (same : K → K → Bool) (key : R → K) (needed allowed : K → Bool) (row : K → Option R) (rows : List R) : Type 0 where
-  pub found : (k : K) → needed k ≡ true → find (λ r. same k (key r)) rows ≡ row k
-  pub own : AreOwn key allowed row rows
-  pub once : no_two (λ r s. same (key r) (key s)) rows ≡ true
-
-abbrev pub LotBin : Type 0
-LotBin = LotId × List ℕ
-
-abbrev pub OrderItem : Type 0
-OrderItem = List ℕ × List ℕ
-
-abbrev pub OrderLot : Type 0
-OrderLot = List ℕ × LotId
-
 -- whether the command names the order, and whether it names the bin
 abbrev pub names_order : Command → List ℕ → Bool
 names_order (Order p) o = same_text o p.order
@@ -96,15 +73,6 @@ names_bin _ b = false
 
 abbrev pub has_touched_line : ℤ → Act → List Act → List ℕ → Bool
 has_touched_line first act acts o = list_any (λ l. is_touched first act acts l.gtin) (lines_of acts o)
-
-abbrev pub same_cell : LotBin → LotBin → Bool
-same_cell k m = is_lot k.0 m.0 && same_text k.1 m.1
-
-abbrev pub same_line : OrderItem → OrderItem → Bool
-same_line k m = same_text k.0 m.0 && same_text k.1 m.1
-
-abbrev pub same_share : OrderLot → OrderLot → Bool
-same_share k m = same_text k.0 m.0 && is_lot k.1 m.1
 
 -- whether the command is judged by how many items there are, and whether by how many bins
 abbrev pub counts_items : Command → Bool

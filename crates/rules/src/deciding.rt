@@ -1,40 +1,36 @@
 //! The decision on a command.
 
 ghost use Rattle.std.specs.Prelude.{◌≡◌, false, ℤ, List, IsTrue, None, Ok, Err, IfOk, IfErr};
-ghost use Rattle.rules.specs.Acts.{Act};
-ghost use Rattle.rules.specs.Once.{IsHistory, is_key_of, bearer};
-ghost use Rattle.rules.specs.Tables.{tables_of};
+ghost use Rattle.machine.specs.Acts.{Act};
+ghost use Rattle.machine.specs.Once.{IsHistory, is_key_of, bearer};
+ghost use Rattle.machine.specs.Tables.{tables_of};
 ghost use Rattle.rules.specs.Slices.{IsSlice, IsDecision, NamesChangedReservations};
-ghost use Rattle.rules.specs.Verdict.{first_refusal};
-ghost use Rattle.rules.specs.DecidedOrder.{order_seen, order_changes};
-ghost use Rattle.rules.specs.DecidedMove.{move_seen, move_changes};
-ghost use Rattle.rules.specs.DecidedCount.{count_seen, count_changes, adjust_seen, adjust_changes};
-ghost use Rattle.rules.specs.DecidedCancel.{cancel_seen, cancel_changes};
-ghost use Rattle.rules.specs.DecidedPick.{pick_seen, pick_changes, unpick_seen, unpick_changes};
-ghost use Rattle.rules.specs.DecidedHold.{hold_seen, hold_changes, release_seen, release_changes, recall_seen, recall_changes};
-ghost use Rattle.rules.specs.DecidedShip.{ship_seen, ship_changes};
-ghost use Rattle.rules.specs.DecidedDay.{day_judged, day_changes};
-ghost use Rattle.rules.specs.Decided.{IsMade, item_seen, item_changes, bin_seen, bin_changes, receive_seen, receive_changes};
+ghost use Rattle.machine.specs.Verdict.{first_refusal};
+ghost use Rattle.row_rules.specs.DecidedOrder.{order_seen, order_changes};
+ghost use Rattle.row_rules.specs.DecidedMove.{move_seen, move_changes};
+ghost use Rattle.row_rules.specs.DecidedCount.{count_seen, count_changes, adjust_seen, adjust_changes};
+ghost use Rattle.row_rules.specs.DecidedCancel.{cancel_seen, cancel_changes};
+ghost use Rattle.row_rules.specs.DecidedPick.{pick_seen, pick_changes, unpick_seen, unpick_changes};
+ghost use Rattle.row_rules.specs.DecidedHold.{hold_seen, hold_changes, release_seen, release_changes, recall_seen, recall_changes};
+ghost use Rattle.row_rules.specs.DecidedShip.{ship_seen, ship_changes};
+ghost use Rattle.row_rules.specs.DecidedDay.{day_judged, day_changes};
+ghost use Rattle.row_rules.specs.Decided.{IsMade, item_seen, item_changes, bin_seen, bin_changes, receive_seen, receive_changes};
 
-use crate::cancelling::{change_cancel, judge_cancel};
-use crate::counts::{change_adjust, change_count, judge_adjust, judge_count};
-use crate::customer_orders::{change_order, judge_order};
-use crate::goods::{change_receive, judge_receive};
-use crate::holding::{
-    change_hold, change_recall, change_release, judge_hold, judge_recall, judge_release,
-};
-use crate::moves::{change_move, judge_move};
-use crate::opening::{change_day, judge_day};
-use crate::picking::{change_pick, change_unpick, judge_pick, judge_unpick};
-use crate::setup::{change_bin, change_item, judge_bin, judge_item};
-use crate::shipments::{change_ship, judge_ship};
 use crate::{Change, RuleFault, Slice};
 use commands::laws::{every_command_is_sound, every_key_is_sound};
 use commands::{
     Adjustment, Command, Key, Movement, NewBin, NewItem, NewOrder, Picking, Receipt, Recount,
 };
-use label::{BusinessDay, LotId, Name};
+use label::BusinessDay;
+use row_rules::{
+    change_adjust, change_bin, change_cancel, change_count, change_day, change_hold, change_item,
+    change_move, change_order, change_pick, change_recall, change_receive, change_release,
+    change_ship, change_unpick, judge_adjust, judge_bin, judge_cancel, judge_count, judge_day,
+    judge_hold, judge_item, judge_move, judge_order, judge_pick, judge_recall, judge_receive,
+    judge_release, judge_ship, judge_unpick,
+};
 use std::alloc::{AllocError, Global};
+use values::{LotId, Name};
 
 /// Judges a command by the rows that it touches, and says what it changes.
 ///

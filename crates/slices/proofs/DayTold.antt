@@ -2,8 +2,8 @@
 use Rattle.std.proofs.Common.{◌≡◌, ℕ, Bool, true, false, ◌&&◌, not, List, [], ◌∷◌, filter, refl, ap, sym, subst, ◌∙◌}
 use Rattle.std.specs.Prelude.{◌||◌, ◌==◌, if◌then◌else◌, find, Option, Some, None, option_map, is_some, ℤ}
 use Rattle.std.specs.List.{list_any}
-use Rattle.label.specs.Values.{same_text}
-use Rattle.label.specs.declared.lot.LotId.{LotId}
+use Rattle.values.specs.Values.{same_text}
+use Rattle.values.specs.declared.lot.LotId.{LotId}
 use Rattle.commands.specs.Tables.{Tables}
 use Rattle.commands.specs.declared.key.Key.{Key}
 use Rattle.commands.specs.declared.command.Command.TheVariants.{OpenDay}
@@ -12,19 +12,19 @@ use Rattle.commands.specs.declared.rows.LotRow.{LotRow}
 use Rattle.commands.specs.declared.rows.StagedRow.{StagedRow}
 use Rattle.table_words.specs.Typed.{LotKey, same_lot, lot_key, RecallKey, same_recall, recall_key, StagedKey, same_staged, staged_key}
 use Rattle.table_words.specs.Found as read
-use Rattle.rules.specs.Acts.{Act}
-use Rattle.rules.specs.Postings.{of_item, is_lot}
-use Rattle.rules.specs.Standing.{KnownLot, lots, lots_of, lot_known, has_lot, is_held, recalling, is_recalled, is_expired, today, is_shippable, orders, order_named, has_order}
-use Rattle.rules.specs.Planning.{staged_of_lot}
-use Rattle.rules.specs.Tables.{tables_of, if_any}
-use Rattle.rules.specs.Touched.{is_affected}
-use Rattle.rules.specs.Once.{IsHistory}
-use Rattle.rules.specs.Slices.{AreOwn, AreRows, no_two}
-use Rattle.rules.proofs.Tests.{and_both, and_false, or_first, or_later, not_true, same_tests, some_one, same_text_refl, is_lot_is, is_lot_refl}
-use Rattle.rules.proofs.Apart.{AllFound}
-use Rattle.rules.proofs.histories.KnownPlaces.{unknown_order_is_unstaged, unknown_lot_is_nowhere}
-use Rattle.rules.proofs.histories.Lots.{same_known, lots_found, found_lot}
-use Rattle.rules.proofs.histories.Orders.{found_order}
+use Rattle.machine.specs.Acts.{Act}
+use Rattle.machine.specs.Postings.{of_item, is_lot}
+use Rattle.machine.specs.Standing.{KnownLot, lots, lots_of, lot_known, has_lot, is_held, recalling, is_recalled, is_expired, today, is_shippable, orders, order_named, has_order}
+use Rattle.machine.specs.Planning.{staged_of_lot}
+use Rattle.machine.specs.Tables.{tables_of, if_any}
+use Rattle.machine.specs.Touched.{is_affected}
+use Rattle.machine.specs.Once.{IsHistory}
+use Rattle.machine.specs.KeyedRows.{AreOwn, AreRows, no_two}
+use Rattle.machine.proofs.Tests.{and_both, and_false, or_first, or_later, not_true, same_tests, some_one, same_text_refl, is_lot_is, is_lot_refl}
+use Rattle.machine.proofs.Apart.{AllFound}
+use Rattle.machine.proofs.histories.KnownPlaces.{unknown_order_is_unstaged, unknown_lot_is_nowhere}
+use Rattle.machine.proofs.histories.Lots.{same_known, lots_found, found_lot}
+use Rattle.machine.proofs.histories.Orders.{found_order}
 use Rattle.rules.proofs.rows.SliceTells.{some_mapped}
 use Rattle.slices.specs.Slicing.{is_among, is_ending, has_recall_in, items_of_lots, AreEnding, AreAffected}
 use Rattle.slices.proofs.KeysTold.{same_share_is, same_share_refl}

@@ -2,15 +2,15 @@
 use Rattle.std.proofs.Common.{◌≡◌, ℕ, Bool, true, false, ◌&&◌, not, List, [], ◌∷◌, ◌++◌, map, refl, ap, sym, subst, ◌∙◌}
 use Rattle.std.specs.Prelude.{◌||◌, Option, Some, None, is_some}
 use Rattle.std.specs.List.{list_any}
-use Rattle.label.specs.Values.{same_text}
+use Rattle.values.specs.Values.{same_text}
 use Rattle.commands.specs.Tables.{Tables}
 use Rattle.commands.specs.declared.rows.OrderRow.{OrderRow}
 use Rattle.commands.specs.declared.rows.LineRow.{LineRow}
 use Rattle.table_words.specs.Found as read
 use Rattle.table_words.specs.Found.{only_if}
 use Rattle.table_words.specs.Typed.{OrderKey, same_order, order_key, is_open_order, LineKey, same_line, line_key}
-use Rattle.rules.specs.Slices.{AreRows, AreOwn, no_two}
-use Rattle.rules.proofs.Tests.{and_both, same_text_is, same_text_refl}
+use Rattle.machine.specs.KeyedRows.{AreRows, AreOwn, no_two}
+use Rattle.machine.proofs.Tests.{and_both, same_text_is, same_text_refl}
 use Rattle.slices.specs.Slicing.{Each, is_among, listed, others, has_line_in, with_lines, AreLinesOf, AreLines, AreOrdered}
 use Rattle.slices.proofs.Counted.{any_mapped}
 use Rattle.slices.proofs.KeysTold.{same_line_is, same_line_refl}

@@ -3,14 +3,14 @@ use Rattle.std.proofs.Common.{◌≡◌, ℕ, ◌+◌, ◌<◌, length, map, tak
 use Rattle.std.specs.Prelude.{◌||◌, get_or}
 use Rattle.std.proofs.lemmas.List.{map_more}
 use Rattle.std.specs.List.{list_any}
-use Rattle.label.specs.Values.{same_text}
+use Rattle.values.specs.Values.{same_text}
 use Rattle.sqlite.specs.State.{State}
 use Rattle.commands.specs.declared.rows.LineRow.{LineRow}
 use Rattle.table_words.specs.Typed.{Tables}
 use Rattle.table_words.specs.Found as read
-use Rattle.rules.specs.Slices.{no_two}
-use Rattle.rules.proofs.Walking.{append_none}
-use Rattle.rules.proofs.Tests.{and_both, and_false, not_true, same_text_is, same_text_turned}
+use Rattle.machine.specs.KeyedRows.{no_two}
+use Rattle.row_rules.proofs.Walking.{append_none}
+use Rattle.machine.proofs.Tests.{and_both, and_false, not_true, same_text_is, same_text_turned}
 use Rattle.slices.specs.Reading.{IsRead}
 use Rattle.slices.specs.Slicing.{Each, is_among, texts, listed, AreLinesOf}
 use Rattle.slices.proofs.ReadSteps.{then_answers}

@@ -6,11 +6,11 @@ use Rattle.commands.specs.declared.key.Key.{Key}
 use Rattle.commands.specs.declared.command.Command.{Command}
 use Rattle.sqlite.specs.State.{State, HasCleanDisk}
 use Rattle.table_words.specs.declared.error.TableFault.{TableFault}
-use Rattle.rules.specs.Acts.{Act}
-use Rattle.rules.specs.Once.{IsHistory}
-use Rattle.rules.specs.Tables.{tables_of}
+use Rattle.machine.specs.Acts.{Act}
+use Rattle.machine.specs.Once.{IsHistory}
+use Rattle.machine.specs.Tables.{tables_of}
 use Rattle.rules.specs.Slices.{IsSlice}
-use Rattle.rules.specs.declared.slice.Slice.{Slice}
+use Rattle.row_rules.specs.declared.slice.Slice.{Slice}
 use Rattle.slices.specs.Books.{IsBooksOf}
 use Rattle.slices.specs.Reading.{IsRead}
 use Rattle.slices.specs.Slicing.{IsSliceIn}

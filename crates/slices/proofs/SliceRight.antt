@@ -2,7 +2,7 @@
 use Rattle.std.proofs.Common.{◌≡◌, ℕ, Bool, true, false, ◌&&◌, List, [], ◌∷◌, ◌++◌, length, refl, ap, sym, subst, ◌∙◌}
 use Rattle.std.specs.Prelude.{◌||◌, ◌==◌, if◌then◌else◌, find, Option, Some, None, option_map, is_some, ℤ}
 use Rattle.std.specs.List.{list_any, list_all, cons_option}
-use Rattle.label.specs.Values.{same_text}
+use Rattle.values.specs.Values.{same_text}
 use Rattle.commands.specs.Tables.{Tables}
 use Rattle.commands.specs.declared.key.Key.{Key}
 use Rattle.commands.specs.declared.command.NewItem.{NewItem}
@@ -14,20 +14,21 @@ use Rattle.commands.specs.declared.rows.StockRow.{StockRow}
 use Rattle.commands.specs.declared.rows.LineRow.{LineRow}
 use Rattle.commands.specs.declared.rows.OrderState.TheVariants.{Open, Done, Cancelled}
 use Rattle.table_words.specs.Typed.{ItemKey, same_item, item_key, BinKey, same_bin, bin_key, LotKey, same_lot, lot_key, RecallKey, same_recall, recall_key, StockKey, same_stock, stock_key, StagedKey, same_staged, staged_key, ReservedKey, same_reserved, reserved_key, OrderKey, same_order, order_key, LineKey, same_line, line_key, is_open_order}
-use Rattle.rules.specs.Acts.{Act, next_number}
-use Rattle.rules.specs.Standing.{items, item_in, bins, Placed, orders, order_named, lines_of, lines_placed, has_line, is_cancelled}
-use Rattle.rules.specs.Planning.{order_state, is_open_state, is_open, shipped_of}
-use Rattle.rules.specs.Touched.{touches}
-use Rattle.rules.specs.Tables.{tables_of}
-use Rattle.rules.specs.Once.{IsHistory}
-use Rattle.rules.specs.Verdict.{verdict}
-use Rattle.rules.specs.Slices.{IsSlice, no_two, names_order, names_bin, counts_items, counts_bins, has_touched_line}
-use Rattle.rules.specs.declared.slice.Slice.{Slice}
-use Rattle.rules.proofs.Tests.{or_false, same_text_is, same_text_refl, same_text_turned, is_lot_is, is_lot_refl}
-use Rattle.rules.proofs.Apart.{AreApart, any_found}
-use Rattle.rules.proofs.histories.Accepted.{item_accepted}
-use Rattle.rules.proofs.histories.Notices.{bins_apart}
-use Rattle.rules.proofs.histories.Orders.{found_order}
+use Rattle.machine.specs.Acts.{Act, next_number}
+use Rattle.machine.specs.Standing.{items, item_in, bins, Placed, orders, order_named, lines_of, lines_placed, has_line, is_cancelled}
+use Rattle.machine.specs.Planning.{order_state, is_open_state, is_open, shipped_of}
+use Rattle.machine.specs.Touched.{touches}
+use Rattle.machine.specs.Tables.{tables_of}
+use Rattle.machine.specs.Once.{IsHistory}
+use Rattle.machine.specs.Verdict.{verdict}
+use Rattle.machine.specs.KeyedRows.{no_two}
+use Rattle.rules.specs.Slices.{IsSlice, names_order, names_bin, counts_items, counts_bins, has_touched_line}
+use Rattle.row_rules.specs.declared.slice.Slice.{Slice}
+use Rattle.machine.proofs.Tests.{or_false, same_text_is, same_text_refl, same_text_turned, is_lot_is, is_lot_refl}
+use Rattle.machine.proofs.Apart.{AreApart, any_found}
+use Rattle.machine.proofs.histories.Accepted.{item_accepted}
+use Rattle.machine.proofs.histories.Notices.{bins_apart}
+use Rattle.machine.proofs.histories.Orders.{found_order}
 use Rattle.rules.proofs.rows.SliceTells.{some_mapped}
 use Rattle.slices.specs.Slicing.{is_among, with_names, items_named, orders_named, bins_named, whole_orders, day_opened, AreAllLines, AreTaken, AreTouched, AreSliced, IsSliceIn}
 use Rattle.slices.proofs.Counted.{as_many}

@@ -4,8 +4,8 @@ ghost use Rattle.std.specs.Prelude.{◌≡◌, ◌++◌, [], ◌∷◌, OnOk, If
 ghost use Rattle.slices.specs.Slicing.{is_among, with_name, with_names, items_named, orders_named, bins_named, whole_orders as whole_orders_lem};
 
 use commands::{Command, LineRow, OrderLine, StockRow};
-use label::{Gtin, Name};
 use std::alloc::{AllocError, Global};
+use values::{Gtin, Name};
 
 /// Whether the item is one of these.
 fn has_item(gtins: &[Gtin], gtin: &Gtin) -> bool

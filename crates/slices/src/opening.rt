@@ -5,7 +5,7 @@ ghost use Rattle.std.specs.Prelude.{◌≡◌, true, filter, IfOk};
 ghost use Rattle.sqlite.specs.Held.{state};
 ghost use Rattle.table_words.specs.Found.{AreRows};
 ghost use Rattle.table_words.specs.Typed.{LotKey, same_lot, lot_key, StagedKey, same_staged, staged_key};
-ghost use Rattle.rules.specs.Postings.{is_lot};
+ghost use Rattle.machine.specs.Postings.{is_lot};
 ghost use Rattle.slices.specs.Reading.{IsRead};
 ghost use Rattle.slices.specs.Slicing.{day_opened as day_opened_lem, is_ending as is_ending_lem, has_recall_in, not_recalled as not_recalled_lem, items_of_lots as items_of_lots_lem, with_staged as with_staged_lem, AreEnding, AreAffected};
 
@@ -14,11 +14,12 @@ use crate::reading::meta_row;
 use crate::sought::seek_all;
 use commands::{Command, LotRow, RecallRow, StagedRow};
 use goods_tables::lots::all_lots;
-use label::{BusinessDay, Gtin, LotId};
+use label::BusinessDay;
 use order_tables::staged::all_staged;
 use sqlite::{Alter, Transaction};
 use std::alloc::{AllocError, Global};
 use table_words::error::TableFault;
+use values::{Gtin, LotId};
 
 /// The business day that a command opens, if it opens one.
 pub fn day_opened(command: &Command) -> Option<BusinessDay>

@@ -9,10 +9,10 @@ use crate::naming::has_name;
 use crate::reading::{line_row, open_order_rows};
 use crate::sought::seek_all;
 use commands::{LineRow, OrderRow};
-use label::{Gtin, Name};
 use sqlite::{Alter, Transaction};
 use std::alloc::{AllocError, Global};
 use table_words::error::TableFault;
+use values::{Gtin, Name};
 
 fn add_line(found: &mut Vec<LineRow>, row: Option<LineRow>) -> Result<(), AllocError>
     ensures { OnOk result (found.new.items ≡ found.old.items ++ listed row) }

@@ -5,19 +5,19 @@ ghost use Rattle.sqlite.specs.State.{HasCleanDisk, Survives, KeepsCommit, IsUnch
 ghost use Rattle.sqlite.specs.Held.{state};
 ghost use Rattle.table_words.specs.Steps.{IsReady};
 ghost use Rattle.table_words.specs.declared.error.TableFault.TheVariants.{Foreign};
-ghost use Rattle.rules.specs.Acts.{Act};
-ghost use Rattle.rules.specs.Once.{IsHistory};
+ghost use Rattle.machine.specs.Acts.{Act};
+ghost use Rattle.machine.specs.Once.{IsHistory};
 ghost use Rattle.slices.specs.Books.{IsBooksOf};
 ghost use Rattle.slices.specs.Reading.{IsRead};
 ghost use Rattle.slices.specs.ShownStock.{AreOfItem, IsStockIn, IsStockRead};
 
 use crate::sought::Sought;
 use commands::{ItemRow, Listed, LotRow, RecallRow, ReservedRow, StagedRow, StockRow};
-use label::Gtin;
 use rules::Rows;
 use sqlite::{Alter, Transaction};
 use std::alloc::Global;
 use table_words::error::TableFault;
+use values::Gtin;
 
 /// The row of the item, if there is one.
 fn item_row<S: Alter>(
@@ -30,6 +30,37 @@ fn item_row<S: Alter>(
 {
     let rows = ItemRow::seek::<S>(alloc, tx, gtin)?;
     Ok(rows.as_slice().first().copied())
+}
+
+/// The rows of an item.
+fn of_item(
+    alloc: Global,
+    lots: Vec<LotRow>,
+    recalls: Vec<RecallRow>,
+    stock: Vec<StockRow>,
+    staged: Vec<StagedRow>,
+    reserved: Vec<ReservedRow>,
+) -> Rows
+    ensures same_lots { result.lots ≡ lots.items }
+    ensures same_recalls { result.recalls ≡ recalls.items }
+    ensures same_stock { result.stock ≡ stock.items }
+    ensures same_staged { result.staged ≡ staged.items }
+    ensures same_reserved { result.reserved ≡ reserved.items }
+{
+    Rows {
+        items: Listed::from_vec(Vec::new(alloc)),
+        bins: Listed::from_vec(Vec::new(alloc)),
+        lots: Listed::from_vec(lots),
+        recalls: Listed::from_vec(recalls),
+        stock: Listed::from_vec(stock),
+        orders: Listed::from_vec(Vec::new(alloc)),
+        lines: Listed::from_vec(Vec::new(alloc)),
+        staged: Listed::from_vec(staged),
+        reserved: Listed::from_vec(reserved),
+        shipments: Listed::from_vec(Vec::new(alloc)),
+        shiplines: Listed::from_vec(Vec::new(alloc)),
+        cards: Listed::from_vec(Vec::new(alloc)),
+    }
 }
 
 /// The lots of the item, their recalls and stock, and what is staged and reserved of them.
@@ -46,20 +77,7 @@ fn read_lots<S: Alter>(
     let stock = StockRow::seek::<S>(alloc, tx, gtin)?;
     let staged = StagedRow::seek::<S>(alloc, tx, gtin)?;
     let reserved = ReservedRow::seek::<S>(alloc, tx, gtin)?;
-    Ok(Rows {
-        items: Listed::from_vec(Vec::new(alloc)),
-        bins: Listed::from_vec(Vec::new(alloc)),
-        lots: Listed::from_vec(lots),
-        recalls: Listed::from_vec(recalls),
-        stock: Listed::from_vec(stock),
-        orders: Listed::from_vec(Vec::new(alloc)),
-        lines: Listed::from_vec(Vec::new(alloc)),
-        staged: Listed::from_vec(staged),
-        reserved: Listed::from_vec(reserved),
-        shipments: Listed::from_vec(Vec::new(alloc)),
-        shiplines: Listed::from_vec(Vec::new(alloc)),
-        cards: Listed::from_vec(Vec::new(alloc)),
-    })
+    Ok(of_item(alloc, lots, recalls, stock, staged, reserved))
 }
 
 /// The item and its stock, as the tables have it.

@@ -6,9 +6,9 @@ ghost use Rattle.sqlite.specs.Held.{state};
 ghost use Rattle.table_words.specs.Steps.{IsReady};
 ghost use Rattle.table_words.specs.declared.error.TableFault.TheVariants.{Foreign};
 ghost use Rattle.commands.specs.declared.key.Key.{Key};
-ghost use Rattle.rules.specs.Acts.{Act};
-ghost use Rattle.rules.specs.Once.{IsHistory};
-ghost use Rattle.rules.specs.Tables.{tables_of};
+ghost use Rattle.machine.specs.Acts.{Act};
+ghost use Rattle.machine.specs.Once.{IsHistory};
+ghost use Rattle.machine.specs.Tables.{tables_of};
 ghost use Rattle.rules.specs.Slices.{IsSlice};
 ghost use Rattle.slices.specs.Books.{IsBooksOf};
 ghost use Rattle.slices.specs.Reading.{IsRead};
@@ -23,11 +23,11 @@ use commands::{
     BinRow, Command, ItemRow, LineRow, Listed, LotRow, MetaRow, RecallRow, ReservedRow, StagedRow,
     StockRow,
 };
-use label::Gtin;
 use rules::{Rows, Slice};
 use sqlite::{Alter, Transaction};
 use std::alloc::Global;
 use table_words::error::TableFault;
+use values::Gtin;
 
 /// The items that the command names, and those of the lines of the order that it takes whole.
 fn taken_items<S: Alter>(

@@ -1,7 +1,7 @@
 -- What an act comes to within its transaction: by its row of `repeats`, or by the decision and the rows written.
 use Rattle.std.proofs.Common.{◌≡◌, ℕ, inl, inr, true, false, List, Ok, Err, Result, OnOk, IfOk, IfErr, refl, sym, ap, subst, ◌∙◌, IsTrue}
 use Rattle.std.specs.Prelude.{ℤ, Option, Some, None, if◌then◌else◌}
-use Rattle.label.specs.Values.{same_text}
+use Rattle.values.specs.Values.{same_text}
 use Rattle.commands.specs.Spelling.{key_text, spelling}
 use Rattle.commands.specs.Tables.{Tables}
 use Rattle.commands.specs.declared.refusal.Refusal.{Refusal}
@@ -13,13 +13,13 @@ use Rattle.table_words.specs.Typed.{tables_in, AreTyped, with_repeat}
 use Rattle.table_words.specs.Steps.{IsReady, Goes}
 use Rattle.table_words.specs.declared.error.TableFault.{TableFault}
 use Rattle.table_words.specs.declared.error.TableFault.TheVariants as table
-use Rattle.rules.specs.Acts.{Act}
-use Rattle.rules.specs.Once.{bearer, outcome, acts_after, appended, judged, Outcome, Accepted, Repeated, Refused}
-use Rattle.rules.specs.Replies.{reply}
+use Rattle.machine.specs.Acts.{Act}
+use Rattle.machine.specs.Once.{bearer, outcome, acts_after, appended, judged, Outcome, Accepted, Repeated, Refused}
+use Rattle.machine.specs.Replies.{reply}
 use Rattle.rules.specs.Slices.{IsDecision, applied}
-use Rattle.rules.specs.Tables.{tables_of}
-use Rattle.rules.specs.Verdict.{verdict}
-use Rattle.rules.specs.declared.slice.Change.{Change}
+use Rattle.machine.specs.Tables.{tables_of}
+use Rattle.machine.specs.Verdict.{verdict}
+use Rattle.row_rules.specs.declared.slice.Change.{Change}
 use Rattle.slices.specs.Books.{IsBooksOf}
 use Rattle.store.specs.declared.reply.Reply.{Reply}
 use Rattle.store.specs.declared.fault.Fault.{Fault}

@@ -10,8 +10,8 @@ use Rattle.sqlite.specs.Held.{Held, state}
 use Rattle.sqlite.specs.declared.error.Error.{Error}
 use Rattle.table_words.specs.Steps.{IsReady}
 use Rattle.table_words.proofs.CallLemmas.{put_back, inside_then}
-use Rattle.rules.specs.Acts.{Act}
-use Rattle.rules.specs.Once.{IsHistory, is_key_of, acts_after}
+use Rattle.machine.specs.Acts.{Act}
+use Rattle.machine.specs.Once.{IsHistory, is_key_of, acts_after}
 use Rattle.store.specs.declared.reply.Reply.{Reply}
 use Rattle.store.specs.declared.fault.Fault.{Fault}
 use Rattle.store.specs.declared.fault.Fault.TheVariants.{Refused, Store, Foreign}

@@ -1,10 +1,10 @@
 -- A decision told with the faults of the books.
 use Rattle.std.proofs.Common.{◌≡◌, List, Ok, Err, Result, subst, sym}
 use Rattle.std.specs.Prelude.{ℤ}
-use Rattle.rules.specs.Acts.{Act}
+use Rattle.machine.specs.Acts.{Act}
 use Rattle.rules.specs.Slices.{IsDecision}
-use Rattle.rules.specs.declared.slice.RuleFault.{RuleFault}
-use Rattle.rules.specs.declared.slice.RuleFault.TheVariants.{Refused, NoMemory, Foreign}
+use Rattle.row_rules.specs.declared.slice.RuleFault.{RuleFault}
+use Rattle.row_rules.specs.declared.slice.RuleFault.TheVariants.{Refused, NoMemory, Foreign}
 use Rattle.store.specs.Faults.{fault_of_rule}
 use Rattle.store.specs.Acting.{IsDecided}
 

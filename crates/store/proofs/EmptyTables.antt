@@ -1,13 +1,13 @@
 -- The tables of books in which nothing has been done.
 use Rattle.std.proofs.Common.{◌≡◌, ℕ, true, false, List, [], IsTrue, Result, Ok, Err, OnOk, inl, inr, refl, sym, ap, ◌∙◌}
 use Rattle.std.specs.Prelude.{ℤ, Some, None, option_map, if◌then◌else◌}
-use Rattle.label.specs.Values.{same_text}
+use Rattle.values.specs.Values.{same_text}
 use Rattle.commands.specs.Tables.{Tables}
 use Rattle.commands.specs.declared.command.BinKind.TheVariants.{Hold}
 use Rattle.commands.specs.declared.rows.MetaRow.{MetaRow}
 use Rattle.commands.specs.declared.rows.BinRow.{BinRow}
-use Rattle.rules.specs.Standing.{RETURNS, returns_bin}
-use Rattle.rules.specs.Tables.{tables_of, bin_row}
+use Rattle.machine.specs.Standing.{RETURNS, returns_bin}
+use Rattle.machine.specs.Tables.{tables_of, bin_row}
 use Rattle.sqlite.specs.State.{State, Survives}
 use Rattle.sqlite.specs.Tree.{Trees}
 use Rattle.table_words.specs.Steps.{IsReady}

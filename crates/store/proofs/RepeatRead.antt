@@ -4,7 +4,7 @@ use Rattle.std.specs.Prelude.{bytes_eq, slice_index_or, Option, Some, None, find
 use Rattle.commands.specs.declared.rows.RepeatRow.{RepeatRow}
 use Rattle.table_words.specs.Found.{AreRows}
 use Rattle.table_words.specs.Typed.{RepeatKey, same_repeat, repeat_key}
-use Rattle.rules.proofs.Tests.{and_both, same_text_refl}
+use Rattle.machine.proofs.Tests.{and_both, same_text_refl}
 
 module _ (k : List ℕ) (row : RepeatKey → Option RepeatRow) where
   pub none_read : (rows : List RepeatRow) → AreRows {K = RepeatKey} same_repeat repeat_key (λ key. bytes_eq k key) row rows → length rows ≡ 0 → ◌≡◌ {A = Option RepeatRow} None (row k)

@@ -1,7 +1,7 @@
 -- The rows of `repeats` tell which act bears a key, and what its repeat is told.
 use Rattle.std.proofs.Common.{◌≡◌, ℕ, ◌+◌, Bool, true, false, List, [], ◌∷◌, refl, ap, sym, subst, ◌∙◌, arith}
 use Rattle.std.specs.Prelude.{ℤ, Option, Some, None, option_map, if◌then◌else◌, length}
-use Rattle.label.specs.Values.{same_text}
+use Rattle.values.specs.Values.{same_text}
 use Rattle.commands.specs.Spelling.{key_text, spelling}
 use Rattle.commands.specs.declared.key.Key.{Key}
 use Rattle.commands.specs.declared.refusal.Refusal.TheVariants.{KeyUsed}
@@ -9,14 +9,14 @@ use Rattle.commands.specs.declared.rows.MetaRow.{MetaRow}
 use Rattle.commands.specs.declared.rows.RepeatRow.{RepeatRow}
 use Rattle.commands.specs.Tables.{Tables}
 use Rattle.table_words.specs.Typed.{with_repeat}
-use Rattle.rules.specs.Acts.{Act, next_number}
-use Rattle.rules.specs.Once.{Earlier, bearer, Outcome, Repeated, Refused, told_again, outcome, judged}
-use Rattle.rules.specs.Replies.{reply}
+use Rattle.machine.specs.Acts.{Act, next_number}
+use Rattle.machine.specs.Once.{Earlier, bearer, Outcome, Repeated, Refused, told_again, outcome, judged}
+use Rattle.machine.specs.Replies.{reply}
 use Rattle.rules.specs.Slices.{applied, tables_but_repeats}
-use Rattle.rules.specs.Tables.{tables_of, repeat_row, meta_row}
-use Rattle.rules.specs.Verdict.{verdict}
-use Rattle.rules.specs.declared.slice.Change.{Change}
-use Rattle.rules.proofs.Tests.{some_one}
+use Rattle.machine.specs.Tables.{tables_of, repeat_row, meta_row}
+use Rattle.machine.specs.Verdict.{verdict}
+use Rattle.row_rules.specs.declared.slice.Change.{Change}
+use Rattle.machine.proofs.Tests.{some_one}
 
 abbrev row_of : ℤ → Earlier → RepeatRow
 row_of first e = record { k = key_text e.act.key; act = next_number e.before; spell = spelling e.act.command; reply = reply first e.act e.before }

@@ -4,14 +4,14 @@ use Rattle.sqlite_trees.specs.declared.store.Store.{Ghosts}
 use Rattle.sqlite.specs.State.{State}
 use Rattle.table_words.specs.Steps.{Goes}
 use Rattle.commands.specs.declared.command.Command.{Command}
-use Rattle.rules.specs.Acts.{Act}
-use Rattle.rules.specs.Standing.{day_after_command}
-use Rattle.rules.specs.Tables.{tables_of}
+use Rattle.machine.specs.Acts.{Act}
+use Rattle.machine.specs.Standing.{day_after_command}
+use Rattle.machine.specs.Tables.{tables_of}
 use Rattle.rules.specs.Slices.{IsDecision}
-use Rattle.rules.specs.Verdict.{verdict}
-use Rattle.rules.specs.declared.slice.Change.{Change}
-use Rattle.rules.specs.Once as once
-use Rattle.rules.specs.Once.{Outcome, outcome, acts_after}
+use Rattle.machine.specs.Verdict.{verdict}
+use Rattle.row_rules.specs.declared.slice.Change.{Change}
+use Rattle.machine.specs.Once as once
+use Rattle.machine.specs.Once.{Outcome, outcome, acts_after}
 use Rattle.store.specs.Books.{KeepsBooks, HoldsBooks}
 use Rattle.store.specs.Connected.{Connected}
 use Rattle.store.specs.declared.reply.Reply.{Reply}

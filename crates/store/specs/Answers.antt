@@ -1,6 +1,6 @@
 -- What a repeated key is told.
 use Rattle.std.specs.Prelude.{◌≡◌, ◌⊎◌, ℕ, true, false, List, Result, Ok, Err}
-use Rattle.label.specs.Values.{same_text}
+use Rattle.values.specs.Values.{same_text}
 use Rattle.commands.specs.declared.refusal.Refusal.TheVariants.{KeyUsed}
 use Rattle.commands.specs.declared.rows.RepeatRow.{RepeatRow}
 use Rattle.store.specs.declared.reply.Reply.{Reply}

@@ -3,8 +3,8 @@ use Rattle.std.specs.Prelude.{◌≡◌, List, ℤ, IsTrue}
 use Rattle.sqlite_trees.specs.declared.store.Store.{Ghosts}
 use Rattle.sqlite.specs.State.{State, HasCleanDisk}
 use Rattle.sqlite.specs.Held.{state}
-use Rattle.rules.specs.Acts.{Act}
-use Rattle.rules.specs.Standing.{today}
+use Rattle.machine.specs.Acts.{Act}
+use Rattle.machine.specs.Standing.{today}
 pub use Rattle.slices.specs.Books.{AreRowsOf, IsBooksOf}
 use Rattle.store.specs.Connected.{Connected}
 

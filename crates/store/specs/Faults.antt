@@ -1,8 +1,8 @@
 -- What a fault of the tables, and one of the rules, is to the books.
 use Rattle.table_words.specs.declared.error.TableFault.{TableFault}
 use Rattle.table_words.specs.declared.error.TableFault.TheVariants.{Store as TableStore, Foreign as TableForeign}
-use Rattle.rules.specs.declared.slice.RuleFault.{RuleFault}
-use Rattle.rules.specs.declared.slice.RuleFault.TheVariants.{Refused as RefusedByRule, NoMemory, Foreign as ForeignRows}
+use Rattle.row_rules.specs.declared.slice.RuleFault.{RuleFault}
+use Rattle.row_rules.specs.declared.slice.RuleFault.TheVariants.{Refused as RefusedByRule, NoMemory, Foreign as ForeignRows}
 use Rattle.store.specs.declared.fault.Fault.{Fault}
 use Rattle.store.specs.declared.fault.Fault.TheVariants.{Refused, Store, Foreign}
 

@@ -2,7 +2,7 @@
 use Rattle.std.specs.Prelude.{◌≡◌, List, Result, Ok, Err, ℤ}
 use Rattle.sqlite_trees.specs.declared.store.Store.{Ghosts}
 use Rattle.commands.specs.declared.refusal.Refusal.{Refusal}
-use Rattle.rules.specs.Acts.{Act}
+use Rattle.machine.specs.Acts.{Act}
 use Rattle.store.specs.Books.{HoldsBooks}
 use Rattle.store.specs.Connected.{Connected}
 use Rattle.store.specs.declared.fault.Fault.{Fault}

@@ -3,16 +3,15 @@
 ghost use Rattle.std.specs.Prelude.{◌≡◌, ◌≢◌, ◌⊎◌, ◌↔◌, ℤ, None, [], List, false, IsTrue, IsErrOf, IsErrAnd, OnOk, OnErr, IfOk, IfErr};
 ghost use Rattle.sqlite.specs.State.{HasCleanDisk, Survives};
 ghost use Rattle.sqlite.specs.Held.{state};
-ghost use Rattle.label.specs.Values.{is_business_day};
+ghost use Rattle.label.specs.Days.{is_business_day};
 ghost use Rattle.table_words.specs.Schema.{schema_0, the_schema};
 ghost use Rattle.table_words.specs.Steps.{IsReady};
 ghost use Rattle.table_words.specs.declared.error.TableFault.TheVariants.{Foreign as ForeignTable};
-ghost use Rattle.rules.specs.Acts.{Act};
-ghost use Rattle.rules.specs.Once.{IsHistory};
-ghost use Rattle.rules.specs.Standing.{today, day_after_command, RETURNS};
-ghost use Rattle.rules.specs.Once.{is_key_of, acts_after};
+ghost use Rattle.machine.specs.Acts.{Act};
+ghost use Rattle.machine.specs.Once.{IsHistory, is_key_of, acts_after};
+ghost use Rattle.machine.specs.Standing.{today, day_after_command, RETURNS};
 ghost use Rattle.store.specs.Acting.{IsActed, day_left as day_left_lem};
-ghost use Rattle.rules.specs.Queries.{order_shown, stock_shown};
+ghost use Rattle.machine.specs.Queries.{order_shown, stock_shown};
 ghost use Rattle.store.specs.Queries.{IsShown};
 ghost use Rattle.store.specs.Books.{AreRowsOf, KeepsBooks, HoldsBooks, IsClean};
 ghost use Rattle.store.specs.Opening.{HasDay, unlimited, IsLeftUnfilled, IsReopened, IsLeftOver, IsCleanLeft};
@@ -23,13 +22,14 @@ use crate::showing_stock::show_stock;
 use crate::{Fault, Reply};
 use commands::{BinKind, BinRow, Command, Key, MetaRow, OrderView, StockView};
 use goods_tables::meta::meta_rows;
-use label::{BusinessDay, Day, Gtin, Name};
+use label::{BusinessDay, Day};
 use sqlite::{Alter, Connection};
 use std::alloc::Global;
 use std::marker::Model;
 use table_words::error::TableFault;
 use tables::creation;
 use tables::opening::{Leftover, ready};
+use values::{Gtin, Name};
 
 /// The books over a connection, which is outside a transaction between calls and has no limit on steps.
 #[derive(Drop)]

@@ -3,8 +3,6 @@
 
 mod acting;
 mod books;
-#[cfg(test)]
-mod books_tests;
 mod fault;
 mod repeats;
 mod reply;
@@ -15,8 +13,3 @@ mod telling;
 pub use books::{Books, OpenFault};
 pub use fault::Fault;
 pub use reply::Reply;
-
-#[cfg(test)]
-mod stock_tests;
-#[cfg(test)]
-mod tests;

@@ -12,11 +12,11 @@ use crate::Fault;
 use commands::limits::KEY_TEXT_MAX;
 use commands::{Key, Listed, RepeatRow};
 use history_tables::repeats::{put_repeat, repeats_of};
-use label::Text;
 use rules::Change;
 use sqlite::{Alter, Transaction};
 use std::alloc::Global;
 use table_words::error::TableFault;
+use values::Text;
 
 // The look-up of a key, in the words of `history_tables`.
 const LOOK_UP: &str = "SELECT k, act, spell, reply FROM repeats WHERE k = ?1 ORDER BY rowid";

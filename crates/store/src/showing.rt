@@ -4,9 +4,9 @@ ghost use Rattle.std.specs.Prelude.{◌≡◌, ℕ, false, ℤ, List, IsTrue, If
 ghost use Rattle.sqlite.specs.State.{HasCleanDisk, Survives, KeepsCommit};
 ghost use Rattle.sqlite.specs.Held.{state};
 ghost use Rattle.table_words.specs.Steps.{IsReady};
-ghost use Rattle.rules.specs.Acts.{Act};
-ghost use Rattle.rules.specs.Once.{IsHistory};
-ghost use Rattle.rules.specs.Queries.{order_shown};
+ghost use Rattle.machine.specs.Acts.{Act};
+ghost use Rattle.machine.specs.Once.{IsHistory};
+ghost use Rattle.machine.specs.Queries.{order_shown};
 ghost use Rattle.slices.specs.Books.{IsBooksOf};
 ghost use Rattle.slices.specs.ShownOrders.{IsOrderRead};
 ghost use Rattle.store.specs.Books.{KeepsBooks};
@@ -15,11 +15,11 @@ ghost use Rattle.store.specs.Showing.{IsShownAs, IsShownOn};
 use crate::Fault;
 use crate::repeats::find_open;
 use commands::{OrderRow, OrderView, Refusal};
-use label::Name;
 use rules::Rows;
 use slices::read_order;
 use sqlite::{Alter, Connection, Transaction};
 use std::alloc::Global;
+use values::Name;
 use views::order_view;
 
 /// Shows an order as it stands, and changes nothing. An order that is not known is refused (U04).

@@ -4,10 +4,10 @@ ghost use Rattle.std.specs.Prelude.{◌≡◌, ℕ, false, ℤ, List, IsTrue, If
 ghost use Rattle.sqlite.specs.State.{HasCleanDisk, Survives, KeepsCommit};
 ghost use Rattle.sqlite.specs.Held.{state};
 ghost use Rattle.table_words.specs.Steps.{IsReady};
-ghost use Rattle.rules.specs.Acts.{Act};
-ghost use Rattle.rules.specs.Once.{IsHistory};
-ghost use Rattle.rules.specs.Standing.{today};
-ghost use Rattle.rules.specs.Queries.{stock_shown};
+ghost use Rattle.machine.specs.Acts.{Act};
+ghost use Rattle.machine.specs.Once.{IsHistory};
+ghost use Rattle.machine.specs.Standing.{today};
+ghost use Rattle.machine.specs.Queries.{stock_shown};
 ghost use Rattle.slices.specs.Books.{IsBooksOf};
 ghost use Rattle.slices.specs.ShownStock.{IsStockRead};
 ghost use Rattle.store.specs.Books.{KeepsBooks};
@@ -16,11 +16,12 @@ ghost use Rattle.store.specs.Showing.{IsShownAs, IsShownOn};
 use crate::Fault;
 use crate::repeats::find_open;
 use commands::{ItemRow, Refusal, StockView};
-use label::{BusinessDay, Gtin};
+use label::BusinessDay;
 use rules::Rows;
 use slices::read_stock;
 use sqlite::{Alter, Connection, Transaction};
 use std::alloc::Global;
+use values::Gtin;
 use views::stock_view;
 
 /// Shows the stock of an item as it stands on the business day, and changes nothing. An item that is

@@ -1,12 +1,12 @@
 //! What an act is told: by the row that an earlier act left, or by the decision.
 
 ghost use Rattle.std.specs.Prelude.{◌≡◌, true, false, None, ℤ, List, IsTrue, IfOk, IfErr};
-ghost use Rattle.label.specs.Values.{same_text};
+ghost use Rattle.values.specs.Values.{same_text};
 ghost use Rattle.commands.specs.Spelling.{spelling};
-ghost use Rattle.rules.specs.Acts.{Act};
-ghost use Rattle.rules.specs.Once.{IsHistory, is_key_of, bearer};
+ghost use Rattle.machine.specs.Acts.{Act};
+ghost use Rattle.machine.specs.Once.{IsHistory, is_key_of, bearer};
 ghost use Rattle.rules.specs.Slices.{IsSlice};
-ghost use Rattle.rules.specs.Tables.{tables_of};
+ghost use Rattle.machine.specs.Tables.{tables_of};
 ghost use Rattle.store.specs.Acting.{IsDecided};
 ghost use Rattle.store.specs.Answers.{IsToldAgain};
 

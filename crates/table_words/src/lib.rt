@@ -1,5 +1,5 @@
 //! What the fourteen tables of the books are, and what their columns read as.
 #![tactic(auto)]
 
+pub mod columns;
 pub mod error;
-pub mod values;

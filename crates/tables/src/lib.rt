@@ -7,10 +7,6 @@
 mod checking;
 pub mod creation;
 pub mod opening;
-#[cfg(test)]
-mod samples;
-#[cfg(test)]
-mod tests;
 
 pub use goods_tables as goods;
 pub use history_tables as history;

@@ -2,25 +2,25 @@
 use Rattle.std.proofs.Common.{◌≡◌, ℕ, Bool, true, false, ◌&&◌, not, List, refl, ap, sym, subst, ◌∙◌}
 use Rattle.std.specs.Prelude.{◌==◌, ℤ, Option, Some, None, find, filter, map, option_map}
 use Rattle.std.specs.List.{list_any}
-use Rattle.label.specs.Values.{same_text}
-use Rattle.label.specs.declared.lot.LotId.{LotId}
+use Rattle.values.specs.Values.{same_text}
+use Rattle.values.specs.declared.lot.LotId.{LotId}
 use Rattle.commands.specs.declared.command.NewBin.{NewBin}
 use Rattle.commands.specs.declared.rows.BinRow.{BinRow}
 use Rattle.commands.specs.declared.rows.StockRow.{StockRow}
 use Rattle.commands.specs.declared.views.BinUnits.{BinUnits}
-use Rattle.rules.specs.Acts.{Act}
-use Rattle.rules.specs.Postings.{is_lot}
-use Rattle.rules.specs.Standing.{bins, bin_named, is_store_bin, is_store_row}
-use Rattle.rules.specs.Planning.{in_bin}
-use Rattle.rules.specs.Once.{IsHistory}
-use Rattle.rules.specs.Plans.{is_store_found}
-use Rattle.rules.specs.Tables.{bin_row, stock_row}
-use Rattle.rules.specs.Slices.{AreRows, LotBin, same_cell}
-use Rattle.rules.specs.Views.{has_bin_units, bins_of_lot, store_bins_of_lot}
-use Rattle.rules.proofs.Tests.{and_both, same_text_is, same_text_refl, same_text_turned, is_lot_is, is_lot_refl}
-use Rattle.rules.proofs.histories.Notices.{bins_apart}
+use Rattle.machine.specs.Acts.{Act}
+use Rattle.machine.specs.Postings.{is_lot}
+use Rattle.machine.specs.Standing.{bins, bin_named, is_store_bin, is_store_row}
+use Rattle.machine.specs.Planning.{in_bin}
+use Rattle.machine.specs.Once.{IsHistory}
+use Rattle.row_rules.specs.Plans.{is_store_found}
+use Rattle.machine.specs.Tables.{bin_row, stock_row}
+use Rattle.machine.specs.KeyedRows.{AreRows, LotBin, same_cell}
+use Rattle.machine.specs.Views.{has_bin_units, bins_of_lot, store_bins_of_lot}
+use Rattle.machine.proofs.Tests.{and_both, same_text_is, same_text_refl, same_text_turned, is_lot_is, is_lot_refl}
+use Rattle.machine.proofs.histories.Notices.{bins_apart}
 use Rattle.rules.proofs.rows.Ordering.{AreRising, rising_inserted, rising_ordered, ordered_kept}
-use Rattle.rules.proofs.rows.PlaceRows.{any_some}
+use Rattle.machine.proofs.histories.PlaceRows.{any_some}
 use Rattle.rules.proofs.rows.Telling.{once_apart}
 use Rattle.views.specs.Seen.{bin_before, bin_units, is_in_store, store_bins_seen}
 use Rattle.views.proofs.Sorting.{IsIn, in_map, of_map, in_filter, of_filter, found_in, in_any, in_ordered, of_ordered, in_inserted, of_inserted, same_rising, rising_kept, ordered_map, once_kept}

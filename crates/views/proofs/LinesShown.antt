@@ -1,19 +1,19 @@
 -- The line rows of an order stand as its lines do.
 use Rattle.std.proofs.Common.{◌≡◌, ℕ, Bool, true, false, List, ap, sym, subst, ◌∙◌}
 use Rattle.std.specs.Prelude.{ℤ, Some, find, filter, map, option_map}
-use Rattle.label.specs.Values.{same_text}
+use Rattle.values.specs.Values.{same_text}
 use Rattle.commands.specs.Lists.{in_order}
 use Rattle.commands.specs.declared.command.OrderLine.{OrderLine}
 use Rattle.commands.specs.declared.rows.LineRow.{LineRow}
-use Rattle.rules.specs.Acts.{Act}
-use Rattle.rules.specs.Standing.{Placed, order_named, lines_placed}
-use Rattle.rules.specs.Planning.{shipped_of}
-use Rattle.rules.specs.Once.{IsHistory}
-use Rattle.rules.specs.Tables.{line_row}
-use Rattle.rules.specs.Slices.{AreRows, OrderItem, same_line}
-use Rattle.rules.specs.Views.{text_before}
-use Rattle.rules.proofs.Tests.{same_text_is, same_text_refl, same_text_turned}
-use Rattle.rules.proofs.Apart.{all_found}
+use Rattle.machine.specs.Acts.{Act}
+use Rattle.machine.specs.Standing.{Placed, order_named, lines_placed}
+use Rattle.machine.specs.Planning.{shipped_of}
+use Rattle.machine.specs.Once.{IsHistory}
+use Rattle.machine.specs.Tables.{line_row}
+use Rattle.machine.specs.KeyedRows.{AreRows, OrderItem, same_line}
+use Rattle.machine.specs.Views.{text_before}
+use Rattle.machine.proofs.Tests.{same_text_is, same_text_refl, same_text_turned}
+use Rattle.machine.proofs.Apart.{all_found}
 use Rattle.rules.proofs.rows.Ordering.{AreRising, rising_inserted, rising_ordered}
 use Rattle.rules.proofs.rows.Telling.{some_of_mapped, once_apart}
 use Rattle.views.specs.Seen.{line_before, lines_seen}

@@ -2,18 +2,18 @@
 use Rattle.std.proofs.Common.{◌≡◌, ℕ, Bool, true, false, List, refl, ap, sym, subst, ◌∙◌}
 use Rattle.std.specs.Prelude.{◌==◌, Some, find, filter, map, option_map}
 use Rattle.std.proofs.lemmas.Bool.{eqb-true}
-use Rattle.label.specs.declared.lot.LotId.{LotId}
+use Rattle.values.specs.declared.lot.LotId.{LotId}
 use Rattle.commands.specs.declared.rows.LotRow.{LotRow}
-use Rattle.rules.specs.Acts.{Act}
-use Rattle.rules.specs.Postings.{is_lot, of_item}
-use Rattle.rules.specs.Standing.{KnownLot, lots, lots_of, lot_known, is_held}
-use Rattle.rules.specs.Planning.{goes_before}
-use Rattle.rules.specs.Plans.{goes_first}
-use Rattle.rules.specs.Tables.{lot_row}
-use Rattle.rules.specs.Slices.{AreRows}
-use Rattle.rules.specs.Views.{lots_in_order}
-use Rattle.rules.proofs.Tests.{is_lot_is, is_lot_refl, is_lot_turned}
-use Rattle.rules.proofs.histories.Lots.{same_known, lots_apart, lots_found, receipt_names_lot}
+use Rattle.machine.specs.Acts.{Act}
+use Rattle.machine.specs.Postings.{is_lot, of_item}
+use Rattle.machine.specs.Standing.{KnownLot, lots, lots_of, lot_known, is_held}
+use Rattle.machine.specs.Planning.{goes_before}
+use Rattle.row_rules.specs.Plans.{goes_first}
+use Rattle.machine.specs.Tables.{lot_row}
+use Rattle.machine.specs.KeyedRows.{AreRows}
+use Rattle.machine.specs.Views.{lots_in_order}
+use Rattle.machine.proofs.Tests.{is_lot_is, is_lot_refl, is_lot_turned}
+use Rattle.machine.proofs.histories.Lots.{same_known, lots_apart, lots_found, receipt_names_lot}
 use Rattle.rules.proofs.rows.Ordering.{AreRising, rising_inserted, rising_ordered, ordered_kept}
 use Rattle.rules.proofs.rows.Telling.{some_of_mapped, once_apart}
 use Rattle.views.specs.Seen.{lots_seen}

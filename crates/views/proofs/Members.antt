@@ -1,10 +1,10 @@
 -- Rows of a table, as elements of the list that was read.
 use Rattle.std.proofs.Common.{◌≡◌, ℕ, Bool, true, false, not, List, [], ◌∷◌, ap, refl, sym, ◌∙◌, inl, inr}
 use Rattle.std.specs.Prelude.{◌==◌, if◌then◌else◌, Option, Some, None, find}
-use Rattle.rules.specs.Slices.{AreOwn}
-use Rattle.rules.specs.Tables.{if_any}
-use Rattle.rules.proofs.Tests.{not_true}
-use Rattle.rules.proofs.Apart.{AllFound}
+use Rattle.machine.specs.KeyedRows.{AreOwn}
+use Rattle.machine.specs.Tables.{if_any}
+use Rattle.machine.proofs.Tests.{not_true}
+use Rattle.machine.proofs.Apart.{AllFound}
 use Rattle.views.proofs.Sorting.{IsIn}
 use Rattle.views.proofs.Ranks.{AllHave}
 

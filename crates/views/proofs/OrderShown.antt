@@ -2,8 +2,8 @@
 use Rattle.std.proofs.Common.{◌≡◌, ℕ, true, ◌&&◌, not, List, [], ◌∷◌, refl, ap, sym, ◌∙◌, inl, inr}
 use Rattle.std.specs.Prelude.{◌==◌, ℤ, Some, find, filter, map, option_map}
 use Rattle.std.specs.List.{list_any}
-use Rattle.label.specs.Values.{same_text}
-use Rattle.label.specs.declared.lot.LotId.{LotId}
+use Rattle.values.specs.Values.{same_text}
+use Rattle.values.specs.declared.lot.LotId.{LotId}
 use Rattle.commands.specs.declared.command.OrderLine.{OrderLine}
 use Rattle.commands.specs.declared.rows.BinRow.{BinRow}
 use Rattle.commands.specs.declared.rows.LineRow.{LineRow}
@@ -14,16 +14,16 @@ use Rattle.commands.specs.declared.rows.StagedRow.{StagedRow}
 use Rattle.commands.specs.declared.rows.StockRow.{StockRow}
 use Rattle.commands.specs.declared.views.ReservedLot.{ReservedLot}
 use Rattle.commands.specs.declared.views.StagedLot.{StagedLot}
-use Rattle.rules.specs.Acts.{Act}
-use Rattle.rules.specs.Postings.{is_lot, of_item}
-use Rattle.rules.specs.Standing.{KnownLot, Placed, lots, lots_of, order_named}
-use Rattle.rules.specs.Planning.{reserved, staged_of_lot, goes_before, order_state}
-use Rattle.rules.specs.Once.{IsHistory}
-use Rattle.rules.specs.Tables.{tables_of, bin_row, lot_row, stock_row, line_row, staged_row, reserved_row, order_row}
-use Rattle.rules.specs.Slices.{AreRows, same_cell, same_line, same_share}
-use Rattle.rules.specs.Views.{lots_in_order, store_bins_of_lot, reserved_lots, staged_lots, line_view, order_view, text_before}
-use Rattle.rules.specs.declared.slice.Rows.{Rows}
-use Rattle.rules.proofs.Tests.{same_text_refl, same_text_turned, some_one}
+use Rattle.machine.specs.Acts.{Act}
+use Rattle.machine.specs.Postings.{is_lot, of_item}
+use Rattle.machine.specs.Standing.{KnownLot, Placed, lots, lots_of, order_named}
+use Rattle.machine.specs.Planning.{reserved, staged_of_lot, goes_before, order_state}
+use Rattle.machine.specs.Once.{IsHistory}
+use Rattle.machine.specs.Tables.{tables_of, bin_row, lot_row, stock_row, line_row, staged_row, reserved_row, order_row}
+use Rattle.machine.specs.KeyedRows.{AreRows, same_cell, same_line, same_share}
+use Rattle.machine.specs.Views.{lots_in_order, store_bins_of_lot, reserved_lots, staged_lots, line_view, order_view, text_before}
+use Rattle.row_rules.specs.declared.slice.Rows.{Rows}
+use Rattle.machine.proofs.Tests.{same_text_refl, same_text_turned, some_one}
 use Rattle.views.specs.Seen.{lots_seen, reserved_lot, reserved_lots_seen, staged_lot, staged_lots_seen, line_seen, order_seen}
 use Rattle.views.specs.Shown.{AreShown, orders_item}
 use Rattle.views.proofs.Sorting.{IsIn, of_filter, of_ordered, in_any}

@@ -1,16 +1,16 @@
 -- The reserved and the staged row of a lot for an order have its quantities.
 use Rattle.std.proofs.Common.{◌≡◌, ℕ, Bool, true, false, ◌&&◌, List, refl, ap, sym, ◌∙◌}
 use Rattle.std.specs.Prelude.{◌==◌, if◌then◌else◌, ℤ, Some, None, find}
-use Rattle.label.specs.Values.{same_text}
-use Rattle.label.specs.declared.lot.LotId.{LotId}
+use Rattle.values.specs.Values.{same_text}
+use Rattle.values.specs.declared.lot.LotId.{LotId}
 use Rattle.commands.specs.declared.rows.ReservedRow.{ReservedRow}
 use Rattle.commands.specs.declared.rows.StagedRow.{StagedRow}
-use Rattle.rules.specs.Acts.{Act}
-use Rattle.rules.specs.Postings.{is_lot}
-use Rattle.rules.specs.Planning.{reserved, staged_of_lot}
-use Rattle.rules.specs.Tables.{if_any, reserved_row, staged_row}
-use Rattle.rules.specs.Slices.{AreRows, OrderLot, same_share}
-use Rattle.rules.proofs.Tests.{is_zero}
+use Rattle.machine.specs.Acts.{Act}
+use Rattle.machine.specs.Postings.{is_lot}
+use Rattle.machine.specs.Planning.{reserved, staged_of_lot}
+use Rattle.machine.specs.Tables.{if_any, reserved_row, staged_row}
+use Rattle.machine.specs.KeyedRows.{AreRows, OrderLot, same_share}
+use Rattle.machine.proofs.Tests.{is_zero}
 use Rattle.views.specs.Seen.{reserved_qty, staged_qty}
 
 module _ (first : ℤ) (acts : List Act) (o : List ℕ) (l : LotId) (needed : OrderLot → Bool) (wanted : needed (o, l) ≡ true) where

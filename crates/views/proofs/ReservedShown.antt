@@ -3,27 +3,27 @@ use Rattle.std.proofs.Common.{◌≡◌, ℕ, ◌+◌, ◌<◌, Bool, true, fals
 use Rattle.std.specs.Prelude.{◌==◌, ◌||◌, if◌then◌else◌, ℤ, Option, Some, None, find, filter, map, is_some}
 use Rattle.std.specs.List.{list_any}
 use Rattle.std.proofs.lemmas.Bool.{eqb-true}
-use Rattle.label.specs.Values.{same_text}
-use Rattle.label.specs.declared.lot.LotId.{LotId}
+use Rattle.values.specs.Values.{same_text}
+use Rattle.values.specs.declared.lot.LotId.{LotId}
 use Rattle.commands.specs.Lists.{total, in_order}
 use Rattle.commands.specs.declared.rows.ReservedRow.{ReservedRow}
 use Rattle.plan.specs.declared.Row.{Row}
 use Rattle.plan.specs.declared.Supply.{Supply}
 use Rattle.plan.specs.Overlap.{Stretch, row_of, rows_of_demand, demands_laid, supplies_laid, reserved_in, reserved_for}
-use Rattle.rules.specs.Acts.{Act}
-use Rattle.rules.specs.Postings.{is_lot, of_item}
-use Rattle.rules.specs.Standing.{KnownLot, Placed, lots, lots_of, lot_known, order_named, is_shippable}
-use Rattle.rules.specs.Planning.{plan, demands, supplies, supply_of, item_postings, goes_before, shippable_lots, reserved, reserved_of}
-use Rattle.rules.specs.Tables.{reserved_row}
-use Rattle.rules.specs.Slices.{AreRows, OrderLot, same_share, no_two}
-use Rattle.rules.specs.Views.{text_before}
-use Rattle.rules.proofs.Tests.{and_both, is_zero, not_true, same_tests, same_text_is, same_text_refl, is_lot_is, is_lot_turned}
-use Rattle.rules.proofs.Apart.{any_found}
+use Rattle.machine.specs.Acts.{Act}
+use Rattle.machine.specs.Postings.{is_lot, of_item}
+use Rattle.machine.specs.Standing.{KnownLot, Placed, lots, lots_of, lot_known, order_named, is_shippable}
+use Rattle.machine.specs.Planning.{plan, demands, supplies, supply_of, item_postings, goes_before, shippable_lots, reserved, reserved_of}
+use Rattle.machine.specs.Tables.{reserved_row}
+use Rattle.machine.specs.KeyedRows.{AreRows, OrderLot, same_share, no_two}
+use Rattle.machine.specs.Views.{text_before}
+use Rattle.machine.proofs.Tests.{and_both, is_zero, not_true, same_tests, same_text_is, same_text_refl, is_lot_is, is_lot_turned}
+use Rattle.machine.proofs.Apart.{any_found}
 use Rattle.rules.proofs.rows.DemandsTold.{same_total}
-use Rattle.rules.proofs.histories.Falling.{AllBelow, AreFalling}
-use Rattle.rules.proofs.histories.Lots.{same_known, lots_apart, lots_numbered}
+use Rattle.machine.proofs.histories.Falling.{AllBelow, AreFalling}
+use Rattle.machine.proofs.histories.Lots.{same_known, lots_apart, lots_numbered}
 use Rattle.rules.proofs.rows.Ordering.{AreRising, rising_ordered, total_ordered, total_filter, total_map}
-use Rattle.rules.proofs.rows.PlaceRows.{any_some}
+use Rattle.machine.proofs.histories.PlaceRows.{any_some}
 use Rattle.rules.proofs.rows.Telling.{once_apart, picked, totals_swapped}
 use Rattle.views.specs.Seen.{reserved_seen}
 use Rattle.views.proofs.Sorting.{IsIn, in_map, of_map, in_filter, of_filter, found_in, in_any, in_ordered, of_ordered, same_rising, ordered_map, once_kept, of_flat_map}

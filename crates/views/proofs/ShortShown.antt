@@ -2,8 +2,8 @@
 use Rattle.std.proofs.Common.{◌≡◌, ℕ, ◌+◌, ◌-◌, Bool, true, false, ◌&&◌, List, [], ◌∷◌, refl, ap, sym, ◌∙◌, arith}
 use Rattle.std.specs.Prelude.{if◌then◌else◌, ℤ, Some, find, filter, flat_map}
 use Rattle.std.specs.List.{list_any}
-use Rattle.label.specs.Values.{same_text}
-use Rattle.label.specs.declared.lot.LotId.{LotId}
+use Rattle.values.specs.Values.{same_text}
+use Rattle.values.specs.declared.lot.LotId.{LotId}
 use Rattle.commands.specs.Lists.{total}
 use Rattle.commands.specs.declared.command.OrderLine.{OrderLine}
 use Rattle.commands.specs.declared.rows.LineRow.{LineRow}
@@ -11,28 +11,28 @@ use Rattle.commands.specs.declared.rows.OrderRow.{OrderRow}
 use Rattle.commands.specs.declared.rows.OrderState.TheVariants.{Open, Done, Cancelled}
 use Rattle.commands.specs.declared.rows.ReservedRow.{ReservedRow}
 use Rattle.commands.specs.declared.rows.StagedRow.{StagedRow}
-use Rattle.rules.specs.Acts.{Act}
-use Rattle.rules.specs.Postings.{Place, Supplier, InBin, Stage, Shipped, WriteOff, is_stage, of_item}
-use Rattle.rules.specs.Standing.{Placed, orders, order_named, is_cancelled}
-use Rattle.rules.specs.Ledger.{postings}
-use Rattle.rules.specs.Planning.{Booking, booking_of, lines_of_item, item_postings, need, staged, shipped_of, short_of, order_state, is_shipped_in_full}
-use Rattle.rules.specs.Once.{IsHistory}
-use Rattle.rules.specs.Tables.{reserved_row, staged_row}
-use Rattle.rules.specs.Slices.{AreRows, OrderLot, same_share}
-use Rattle.rules.specs.Plans.{staged_seen}
-use Rattle.rules.specs.Verdict.{names_item_twice}
-use Rattle.rules.specs.Views.{short_of_line}
-use Rattle.rules.proofs.Tests.{and_both, or_none, same_text_is, same_text_refl, same_text_turned}
-use Rattle.rules.proofs.Apart.{AreApart, all_found}
-use Rattle.rules.proofs.histories.Bookings.{total_flat}
-use Rattle.rules.proofs.histories.Cells.{holds}
+use Rattle.machine.specs.Acts.{Act}
+use Rattle.machine.specs.Postings.{Place, Supplier, InBin, Stage, Shipped, WriteOff, is_stage, of_item}
+use Rattle.machine.specs.Standing.{Placed, orders, order_named, is_cancelled}
+use Rattle.machine.specs.Ledger.{postings}
+use Rattle.machine.specs.Planning.{Booking, booking_of, lines_of_item, item_postings, need, staged, shipped_of, short_of, order_state, is_shipped_in_full}
+use Rattle.machine.specs.Once.{IsHistory}
+use Rattle.machine.specs.Tables.{reserved_row, staged_row}
+use Rattle.machine.specs.KeyedRows.{AreRows, OrderLot, same_share}
+use Rattle.row_rules.specs.Plans.{staged_seen}
+use Rattle.machine.specs.Verdict.{names_item_twice}
+use Rattle.machine.specs.Views.{short_of_line}
+use Rattle.machine.proofs.Tests.{and_both, or_none, same_text_is, same_text_refl, same_text_turned}
+use Rattle.machine.proofs.Apart.{AreApart, all_found}
+use Rattle.machine.proofs.histories.Bookings.{total_flat}
+use Rattle.machine.proofs.histories.Cells.{holds}
 use Rattle.rules.proofs.rows.DemandsTold.{listed, line_found, single_of}
-use Rattle.rules.proofs.histories.ItemBalances.{balance-of_item}
-use Rattle.rules.proofs.histories.LegalHistories.{legal_history}
+use Rattle.machine.proofs.histories.ItemBalances.{balance-of_item}
+use Rattle.machine.proofs.histories.LegalHistories.{legal_history}
 use Rattle.rules.proofs.rows.OpenUnits.{total_reversed}
 use Rattle.rules.proofs.rows.Ordering.{total_map}
-use Rattle.rules.proofs.histories.Orders.{orders_apart, orders_single}
-use Rattle.rules.proofs.rows.PlaceRows.{staged_holds, stage_cells}
+use Rattle.machine.proofs.histories.Orders.{orders_apart, orders_single}
+use Rattle.machine.proofs.histories.PlaceRows.{staged_holds, stage_cells}
 use Rattle.rules.proofs.rows.Telling.{once_apart, picked}
 use Rattle.views.specs.Seen.{is_cancelled_state, reserved_seen, line_need}
 use Rattle.views.proofs.Sorting.{IsIn}

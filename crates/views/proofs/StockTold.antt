@@ -1,7 +1,7 @@
 -- What is seen of an item's stock by the rows of its tables is what the machine shows.
 use Rattle.std.proofs.Common.{◌≡◌, ℕ, ◌≤◌, true, List, refl, ap, sym, ◌∙◌, arith}
 use Rattle.std.specs.Prelude.{if◌then◌else◌, ℤ, Option, Some, None, map, option_map, is_some}
-use Rattle.label.specs.declared.lot.LotId.{LotId}
+use Rattle.values.specs.declared.lot.LotId.{LotId}
 use Rattle.commands.specs.declared.limits.TheConstants.{UNITS_MAX}
 use Rattle.commands.specs.declared.rows.ItemRow.{ItemRow}
 use Rattle.commands.specs.declared.rows.LotRow.{LotRow}
@@ -10,18 +10,18 @@ use Rattle.commands.specs.declared.rows.ReservedRow.{ReservedRow}
 use Rattle.commands.specs.declared.rows.StagedRow.{StagedRow}
 use Rattle.commands.specs.declared.rows.StockRow.{StockRow}
 use Rattle.commands.specs.declared.views.LotStatus.TheVariants.{Recalled, Held, Expired, Free}
-use Rattle.rules.specs.Acts.{Act}
-use Rattle.rules.specs.Postings.{is_lot, of_item}
-use Rattle.rules.specs.Standing.{KnownLot, Recalling, lots, lots_of, is_held, is_expired, is_recalled, recalling, today}
-use Rattle.rules.specs.Planning.{goes_before}
-use Rattle.rules.specs.Once.{IsHistory}
-use Rattle.rules.specs.Seen.{capped}
-use Rattle.rules.specs.Tables.{tables_of, lot_row, recall_row, stock_row, staged_row, reserved_row}
-use Rattle.rules.specs.Slices.{AreRows, same_cell, same_share}
-use Rattle.rules.specs.Views.{lots_in_order, lot_status, lot_view, stock_view, reserved_on_lot, staged_on_lot}
-use Rattle.rules.specs.declared.slice.Rows.{Rows}
-use Rattle.rules.proofs.Tests.{is_lot_is}
-use Rattle.rules.proofs.Apart.{any_found}
+use Rattle.machine.specs.Acts.{Act}
+use Rattle.machine.specs.Postings.{is_lot, of_item}
+use Rattle.machine.specs.Standing.{KnownLot, Recalling, lots, lots_of, is_held, is_expired, is_recalled, recalling, today}
+use Rattle.machine.specs.Planning.{goes_before}
+use Rattle.machine.specs.Once.{IsHistory}
+use Rattle.row_rules.specs.Seen.{capped}
+use Rattle.machine.specs.Tables.{tables_of, lot_row, recall_row, stock_row, staged_row, reserved_row}
+use Rattle.machine.specs.KeyedRows.{AreRows, same_cell, same_share}
+use Rattle.machine.specs.Views.{lots_in_order, lot_status, lot_view, stock_view, reserved_on_lot, staged_on_lot}
+use Rattle.row_rules.specs.declared.slice.Rows.{Rows}
+use Rattle.machine.proofs.Tests.{is_lot_is}
+use Rattle.machine.proofs.Apart.{any_found}
 use Rattle.views.specs.Seen.{lots_seen}
 use Rattle.views.specs.SeenStock.{has_recall, reserved_on, staged_on, status_seen, lot_seen, stock_seen}
 use Rattle.views.specs.ShownStock.{AreStocked}

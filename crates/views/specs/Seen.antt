@@ -1,7 +1,7 @@
 -- What is shown of an order, from rows alone.
 use Rattle.std.specs.Prelude.{ℕ, ◌-◌, Bool, true, false, not, ◌&&◌, ◌==◌, if◌then◌else◌, List, [], filter, find, map, Option, Some, None}
-use Rattle.label.specs.Values.{same_text}
-use Rattle.label.specs.declared.lot.LotId.{LotId}
+use Rattle.values.specs.Values.{same_text}
+use Rattle.values.specs.declared.lot.LotId.{LotId}
 use Rattle.commands.specs.Lists.{total}
 use Rattle.commands.specs.declared.rows.BinRow.{BinRow}
 use Rattle.commands.specs.declared.rows.LineRow.{LineRow}
@@ -17,10 +17,10 @@ use Rattle.commands.specs.declared.views.LineView.{LineView}
 use Rattle.commands.specs.declared.views.OrderView.{OrderView}
 use Rattle.commands.specs.declared.views.ReservedLot.{ReservedLot}
 use Rattle.commands.specs.declared.views.StagedLot.{StagedLot}
-use Rattle.rules.specs.Postings.{is_lot, of_item}
-use Rattle.rules.specs.Plans.{inserted, goes_first, is_store_found, staged_seen}
-use Rattle.rules.specs.Views.{text_before}
-use Rattle.rules.specs.declared.slice.Rows.{Rows}
+use Rattle.machine.specs.Postings.{is_lot, of_item}
+use Rattle.row_rules.specs.Plans.{inserted, goes_first, is_store_found, staged_seen}
+use Rattle.machine.specs.Views.{text_before}
+use Rattle.row_rules.specs.declared.slice.Rows.{Rows}
 
 -- Lines, lots and bins in their order
 

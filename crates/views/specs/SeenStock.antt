@@ -1,7 +1,7 @@
 -- What is shown of the stock of an item, from rows alone.
 use Rattle.std.specs.Prelude.{ℕ, Bool, if◌then◌else◌, List, [], filter, map, ℤ}
 use Rattle.std.specs.List.{list_any}
-use Rattle.label.specs.declared.lot.LotId.{LotId}
+use Rattle.values.specs.declared.lot.LotId.{LotId}
 use Rattle.commands.specs.Lists.{total}
 use Rattle.commands.specs.declared.rows.ItemRow.{ItemRow}
 use Rattle.commands.specs.declared.rows.LotRow.{LotRow}
@@ -14,11 +14,11 @@ use Rattle.commands.specs.declared.views.LotStatus.{LotStatus}
 use Rattle.commands.specs.declared.views.LotStatus.TheVariants.{Recalled, Held, Expired, Free}
 use Rattle.commands.specs.declared.views.LotView.{LotView}
 use Rattle.commands.specs.declared.views.StockView.{StockView}
-use Rattle.rules.specs.Postings.{is_lot}
-use Rattle.rules.specs.Standing.{is_expired}
-use Rattle.rules.specs.Plans.{inserted}
-use Rattle.rules.specs.Seen.{capped}
-use Rattle.rules.specs.declared.slice.Rows.{Rows}
+use Rattle.machine.specs.Postings.{is_lot}
+use Rattle.machine.specs.Standing.{is_expired}
+use Rattle.row_rules.specs.Plans.{inserted}
+use Rattle.row_rules.specs.Seen.{capped}
+use Rattle.row_rules.specs.declared.slice.Rows.{Rows}
 use Rattle.views.specs.Seen.{bin_before, bin_units, lots_seen}
 
 -- the bins with units of a lot, by name

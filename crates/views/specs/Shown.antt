@@ -1,12 +1,12 @@
 -- The rows by which an order is shown.
 use Rattle.std.specs.Prelude.{ℕ, Bool, true, ◌&&◌, List}
 use Rattle.std.specs.List.{list_any}
-use Rattle.label.specs.Values.{same_text}
-use Rattle.rules.specs.Postings.{is_lot}
-use Rattle.rules.specs.Standing.{Placed}
-use Rattle.rules.specs.Tables.{Tables}
-use Rattle.rules.specs.Slices.{AreRows, same_cell, same_line, same_share}
-use Rattle.rules.specs.declared.slice.Rows.{Rows}
+use Rattle.values.specs.Values.{same_text}
+use Rattle.machine.specs.Postings.{is_lot}
+use Rattle.machine.specs.Standing.{Placed}
+use Rattle.machine.specs.Tables.{Tables}
+use Rattle.machine.specs.KeyedRows.{AreRows, same_cell, same_line, same_share}
+use Rattle.row_rules.specs.declared.slice.Rows.{Rows}
 
 -- the order has a line of the item
 abbrev pub orders_item : Placed → List ℕ → Bool

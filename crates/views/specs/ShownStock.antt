@@ -1,9 +1,9 @@
 -- The rows by which the stock of an item is shown.
 use Rattle.std.specs.Prelude.{ℕ, true, List}
-use Rattle.rules.specs.Postings.{is_lot, of_item}
-use Rattle.rules.specs.Tables.{Tables}
-use Rattle.rules.specs.Slices.{AreRows, same_cell, same_share}
-use Rattle.rules.specs.declared.slice.Rows.{Rows}
+use Rattle.machine.specs.Postings.{is_lot, of_item}
+use Rattle.machine.specs.Tables.{Tables}
+use Rattle.machine.specs.KeyedRows.{AreRows, same_cell, same_share}
+use Rattle.row_rules.specs.declared.slice.Rows.{Rows}
 
 -- The lots of the item, their recalls and stock, and what is staged and reserved of them. Other rows of the tables may be
 -- there too.

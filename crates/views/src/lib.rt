@@ -12,10 +12,3 @@ mod summing;
 
 pub use order::order_view;
 pub use stock::stock_view;
-
-#[cfg(test)]
-mod listing;
-#[cfg(test)]
-mod stock_tests;
-#[cfg(test)]
-mod tests;

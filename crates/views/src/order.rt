@@ -1,11 +1,11 @@
 //! What is shown of an order.
 
 ghost use Rattle.std.specs.Prelude.{◌≡◌, ◌==◌, ◌++◌, ◌∷◌, [], not, map, if◌then◌else◌, IfOk, OnOk, ℤ, List, Some};
-ghost use Rattle.rules.specs.Acts.{Act};
-ghost use Rattle.rules.specs.Once.{IsHistory};
-ghost use Rattle.rules.specs.Standing.{Placed, order_named};
-ghost use Rattle.rules.specs.Tables.{order_row, tables_of};
-ghost use Rattle.rules.specs.Views.{order_view as order_view_lem};
+ghost use Rattle.machine.specs.Acts.{Act};
+ghost use Rattle.machine.specs.Once.{IsHistory};
+ghost use Rattle.machine.specs.Standing.{Placed, order_named};
+ghost use Rattle.machine.specs.Tables.{order_row, tables_of};
+ghost use Rattle.machine.specs.Views.{order_view as order_view_lem};
 ghost use Rattle.views.specs.Seen.{order_seen, line_seen, reserved_lot as reserved_lot_lem, reserved_lots_seen, staged_lot as staged_lot_lem, staged_lots_seen};
 ghost use Rattle.views.specs.Shown.{AreShown};
 
@@ -17,9 +17,9 @@ use crate::short::line_short;
 use commands::{
     LineRow, LineView, Listed, LotRow, OrderRow, OrderView, ReservedLot, StagedLot, StagedRow,
 };
-use label::Name;
 use rules::Rows;
 use std::alloc::{AllocError, Global};
+use values::Name;
 
 /// What is shown of an order whose row this is. The rows are those of its lines, of the lots of
 /// their items with their stock, and of what is staged and reserved of these; others may be among

@@ -1,14 +1,14 @@
 //! What a line is short of.
 
 ghost use Rattle.std.specs.Prelude.{◌≡◌, ◌-◌, ◌&&◌, if◌then◌else◌};
-ghost use Rattle.label.specs.Values.{same_text};
-ghost use Rattle.rules.specs.Postings.{of_item};
-ghost use Rattle.rules.specs.Plans.{staged_seen};
+ghost use Rattle.values.specs.Values.{same_text};
+ghost use Rattle.machine.specs.Postings.{of_item};
+ghost use Rattle.row_rules.specs.Plans.{staged_seen};
 ghost use Rattle.views.specs.Seen.{reserved_seen, line_need as line_need_lem, line_short as line_short_lem};
 
 use commands::{LineRow, OrderRow, OrderState, ReservedRow, StagedRow};
-use label::{Gtin, Name};
 use rules::Rows;
+use values::{Gtin, Name};
 
 /// What the line needs less what is reserved for it.
 pub fn line_short(rows: &Rows, order: &OrderRow, line: &LineRow) -> u64

@@ -1,11 +1,11 @@
 //! What is shown of the stock of an item.
 
 ghost use Rattle.std.specs.Prelude.{◌≡◌, map, IfOk, ℤ, List, Some};
-ghost use Rattle.rules.specs.Acts.{Act};
-ghost use Rattle.rules.specs.Once.{IsHistory};
-ghost use Rattle.rules.specs.Standing.{today};
-ghost use Rattle.rules.specs.Tables.{item_row, tables_of};
-ghost use Rattle.rules.specs.Views.{stock_view as stock_view_lem};
+ghost use Rattle.machine.specs.Acts.{Act};
+ghost use Rattle.machine.specs.Once.{IsHistory};
+ghost use Rattle.machine.specs.Standing.{today};
+ghost use Rattle.machine.specs.Tables.{item_row, tables_of};
+ghost use Rattle.machine.specs.Views.{stock_view as stock_view_lem};
 ghost use Rattle.views.specs.SeenStock.{stock_seen, lot_seen, status_seen};
 ghost use Rattle.views.specs.ShownStock.{AreStocked};
 

@@ -1,12 +1,12 @@
 //! Sums over rows. They are held at the greatest `u64`, since rows are not trusted.
 
 ghost use Rattle.std.specs.Prelude.{◌≡◌};
-ghost use Rattle.rules.specs.Seen.{capped};
+ghost use Rattle.row_rules.specs.Seen.{capped};
 ghost use Rattle.views.specs.SeenStock.{reserved_on, staged_on};
 
 use crate::looking::is_same_lot;
 use commands::{ReservedRow, StagedRow};
-use label::LotId;
+use values::LotId;
 
 /// The units of a lot that are reserved, for whatever order.
 pub fn reserved_on_lot(rows: &[ReservedRow], lot: &LotId) -> u64

@@ -7,7 +7,7 @@ use Rattle.std.proofs.lemmas.Bool.Decides.{nat_tests}
 use Rattle.json.specs.Print.{escape, escape_byte}
 use Rattle.serde_json.proofs.OnLiterals.{serde_json_on_literals}
 use Rattle.serde_json.specs.Written.{compact_text}
-use Rattle.label.specs.Values.{is_name, is_name_char, is_between, NAME_MAX}
+use Rattle.values.specs.Values.{is_name, is_name_char, is_between, NAME_MAX}
 use Rattle.commands.proofs.Joining.{and_both}
 use Rattle.wire.specs.Shorts.{code_text, code_data, code_row_text, code_row_data, cause_text, cause_data, cause_row_text, cause_row_data, tally_text, tally_data, act_text, act_data, whole}
 use Rattle.wire.specs.Laws.{one, CommandAnswersAreJson}

@@ -5,7 +5,7 @@ use Rattle.std.specs.List.{list_all}
 use Rattle.std.specs.Str.{IsAscii}
 use Rattle.std.proofs.lemmas.Bool.Decides.{nat_tests}
 use Rattle.std.proofs.lemmas.Str.{IsUtf8-from_ascii}
-use Rattle.label.specs.Values.{is_name, is_title, is_gtin, is_lot_text}
+use Rattle.values.specs.Values.{is_name, is_title, is_gtin, is_lot_text}
 use Rattle.label.specs.Days.{day_text}
 use Rattle.commands.proofs.Joining.{and_both}
 use Rattle.commands.proofs.Printing.{is_printable, Printable, name_printable, title_printable, gtin_printable, lot_printable, day_printable}

@@ -1,7 +1,7 @@
 -- The bodies of the requests: which fields each has, and what it asks. Step 9 of `Requests`.
 use Rattle.std.specs.Prelude.{ℕ, List, [], ◌∷◌, codes, if◌then◌else◌, Option, Some, None, option_map, option_and_then}
-use Rattle.label.specs.Values.{checked}
-use Rattle.label.specs.declared.lot.LotId.{LotId}
+use Rattle.values.specs.Values.{checked}
+use Rattle.values.specs.declared.lot.LotId.{LotId}
 use Rattle.commands.specs.Limits.{has_order_lines}
 use Rattle.commands.specs.declared.key.Key.{Key}
 use Rattle.commands.specs.declared.key.Key.TheVariants.{Plain}

@@ -1,9 +1,9 @@
 -- JSON, and the fields of an object, each read by the rule of its value: steps 8 and 9 of `Requests`.
 use Rattle.std.specs.Prelude.{ℕ, ℤ, List, codes, Bool, false, ◌==◌, if◌then◌else◌, Option, Some, None, option_map, option_and_then}
 use Rattle.std.specs.Str.{is_utf8, bytes_eq}
-use Rattle.label.specs.Values.{checked, is_name, is_title, is_gtin, is_lot_text, is_qty, is_counted, is_delta, is_line_no, is_business_day}
-use Rattle.label.specs.Days.{parsed_day}
-use Rattle.label.specs.declared.lot.LotId.{LotId}
+use Rattle.values.specs.Values.{checked, is_name, is_title, is_gtin, is_lot_text, is_qty, is_counted, is_delta, is_line_no}
+use Rattle.label.specs.Days.{is_business_day, parsed_day}
+use Rattle.values.specs.declared.lot.LotId.{LotId}
 use Rattle.commands.specs.declared.command.BinKind.{BinKind}
 use Rattle.commands.specs.declared.command.BinKind.TheVariants.{Store, Hold}
 use Rattle.serde_json.specs.Data.{Data}

@@ -15,8 +15,8 @@ use Rattle.std.specs.Option.{ok_or}
 use Rattle.httparse.specs.Grammar.{RequestHead}
 use Rattle.percent_encoding.specs.Percent.{percent_decode}
 use Rattle.serde_json.specs.Data.{Data}
-use Rattle.label.specs.Values.{checked, is_name, is_gtin, is_lot_text}
-use Rattle.label.specs.declared.lot.LotId.{LotId}
+use Rattle.values.specs.Values.{checked, is_name, is_gtin, is_lot_text}
+use Rattle.values.specs.declared.lot.LotId.{LotId}
 use Rattle.wire.specs.Head.{HEAD_MAX, head_end, IsHead, fields_of, body_length}
 use Rattle.wire.specs.Routes.{route_of, method_of, method_name}
 use Rattle.wire.specs.Fields.{json}

@@ -9,10 +9,11 @@ use commands::{
     ReservedLot, Short, StagedLot, StockView,
 };
 use http::StatusCode;
-use label::{Day, Gtin, LabelFault, Lot, Name, Title};
+use label::Day;
 use std::alloc::{AllocError, Global};
 use std::process::Abort;
 use std::test::Fail;
+use values::{Gtin, LabelFault, Lot, Name, Title};
 
 #[test]
 fn writes_short_answers(rt: HostRuntime) -> Result<(), Fail> {

@@ -1,5 +1,5 @@
 use commands::{Command, Key, Listed};
-use label::{Gtin, LineNo, LotId, Name, Qty};
+use values::{Gtin, LineNo, LotId, Name, Qty};
 
 /// What a GET shows.
 #[derive(Clone, Copy)]

@@ -12,9 +12,9 @@ use commands::{
     Adjustment, Command, Key, Lines, Listed, Movement, NewBin, NewItem, NewOrder, OrderLine,
     Picking, Recount,
 };
-use label::{LotId, Name};
 use serde_json::Value;
 use std::alloc::Global;
+use values::{LotId, Name};
 
 fn item_of(value: &Value) -> Option<Ask>
     ensures { result ≡ item_of_lem (view value.now) }

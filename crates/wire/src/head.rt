@@ -1,7 +1,7 @@
 ghost use Rattle.std.specs.Prelude.{◌≡◌, ◌≤◌, ◌+◌, ◌<◌, ◌||◌, length, take, map, IfOk, OnErr, IfSome, All, Some, None, Ok, Err, option_map, IsTrue};
 ghost use Rattle.std.specs.List.{list_any, list_all, find, count_by};
 ghost use Rattle.std.specs.Str.{bytes_eq};
-ghost use Rattle.label.specs.Values.{is_digit as is_digit_lem};
+ghost use Rattle.values.specs.Values.{is_digit as is_digit_lem};
 ghost use Rattle.httparse.specs.Grammar.{RequestHead};
 ghost use Rattle.httparse.specs.Spans.{header_bytes, IsHeaderWithin};
 ghost use Rattle.wire.specs.Head.{BLANK_LINE, head_end as head_end_lem, IsHead, fields_of, is_named as is_named_lem, number_from, length_value as length_value_lem, body_length as body_length_lem};

@@ -9,9 +9,9 @@ use crate::head::{Head, LONGEST_HEAD, head_end, read_head};
 use crate::routes::{Posted, Route, Shown, method_of, route_of};
 use crate::{Ask, Query, WireFault};
 use commands::Listed;
-use label::{Gtin, LotId, Name};
 use percent_encoding::percent_decode;
 use std::alloc::Global;
+use values::{Gtin, LotId, Name};
 
 /// What a text is read as.
 #[derive(Drop)]

@@ -1,6 +1,6 @@
 ghost use Rattle.std.specs.Prelude.{◌≡◌, IsUtf8};
 
-use label::{Gtin, Lot, Name, Title};
+use values::{Gtin, Lot, Name, Title};
 
 /// The text of these bytes.
 pub fn readable(bytes: &[u8]) -> &str

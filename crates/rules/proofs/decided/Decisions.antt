@@ -8,18 +8,18 @@ use Rattle.commands.specs.declared.key.Key.{Key}
 use Rattle.commands.specs.declared.refusal.Refusal.{Refusal}
 use Rattle.commands.specs.declared.command.Command.{Command}
 use Rattle.commands.specs.declared.rows.MetaRow.{MetaRow}
-use Rattle.rules.specs.Acts.{Act, next_number}
-use Rattle.rules.specs.Standing.{today, shipments_so_far}
-use Rattle.rules.specs.Verdict.{Judgement, first_refusal, verdict}
-use Rattle.rules.specs.Once.{IsHistory, is_key_of, bearer}
-use Rattle.rules.specs.Replies.{reply, further_field}
-use Rattle.rules.specs.Tables.{tables_of, meta_row}
+use Rattle.machine.specs.Acts.{Act, next_number}
+use Rattle.machine.specs.Standing.{today, shipments_so_far}
+use Rattle.machine.specs.Verdict.{Judgement, first_refusal, verdict}
+use Rattle.machine.specs.Once.{IsHistory, is_key_of, bearer}
+use Rattle.machine.specs.Replies.{reply, further_field}
+use Rattle.machine.specs.Tables.{tables_of, meta_row}
 use Rattle.rules.specs.Slices.{IsSlice, applied, tables_but_repeats, AreOnce, IsDecision, NamesChangedReservations}
-use Rattle.rules.specs.Seen.{capped, number_seen, plain_reply, meta_after}
-use Rattle.rules.specs.Decided.{IsMade}
-use Rattle.rules.specs.declared.slice.Slice.{Slice}
-use Rattle.rules.specs.declared.slice.Change.{Change}
-use Rattle.rules.specs.declared.slice.RuleFault.{RuleFault}
+use Rattle.row_rules.specs.Seen.{capped, number_seen, plain_reply, meta_after}
+use Rattle.row_rules.specs.Decided.{IsMade}
+use Rattle.row_rules.specs.declared.slice.Slice.{Slice}
+use Rattle.row_rules.specs.declared.slice.Change.{Change}
+use Rattle.row_rules.specs.declared.slice.RuleFault.{RuleFault}
 
 -- the change is that of the accepted command
 pub record IsChange (first : ℤ) (act : Act) (acts : List Act) (change : Change) : Type 0 where

@@ -1,7 +1,7 @@
 -- New items and bins are decided as the machine decides them.
 use Rattle.std.proofs.Common.{◌≡◌, ℕ, List, [], ◌∷◌, refl, ap, ◌∙◌}
 use Rattle.std.specs.Prelude.{◌||◌, nat_le, ℤ, None, Result, find}
-use Rattle.label.specs.Values.{same_text}
+use Rattle.values.specs.Values.{same_text}
 use Rattle.commands.specs.declared.limits.TheConstants.{ITEMS_MAX, BINS_MAX, ACTS_MAX}
 use Rattle.commands.specs.declared.key.Key.{Key}
 use Rattle.commands.specs.declared.refusal.Refusal.TheVariants.{ActsFull, ItemExists, BinExists}
@@ -10,21 +10,21 @@ use Rattle.commands.specs.declared.command.NewBin.{NewBin}
 use Rattle.commands.specs.declared.command.Command.TheVariants.{Item, Bin}
 use Rattle.commands.specs.declared.rows.ItemRow.{ItemRow}
 use Rattle.commands.specs.declared.rows.BinRow.{BinRow}
-use Rattle.rules.specs.Acts.{Act}
-use Rattle.rules.specs.Standing.{items, bins}
-use Rattle.rules.specs.Verdict.{first_refusal, verdict}
-use Rattle.rules.specs.Planning.{reserved}
-use Rattle.rules.specs.Once.{IsHistory}
-use Rattle.rules.specs.Tables.{tables_of, meta_row}
+use Rattle.machine.specs.Acts.{Act}
+use Rattle.machine.specs.Standing.{items, bins}
+use Rattle.machine.specs.Verdict.{first_refusal, verdict}
+use Rattle.machine.specs.Planning.{reserved}
+use Rattle.machine.specs.Once.{IsHistory}
+use Rattle.machine.specs.Tables.{tables_of, meta_row}
 use Rattle.rules.specs.Slices.{IsSlice, applied, tables_but_repeats}
-use Rattle.rules.specs.Seen.{no_rows}
-use Rattle.rules.specs.Decided.{item_seen, item_changes, bin_seen, bin_changes}
-use Rattle.rules.specs.declared.slice.Slice.{Slice}
-use Rattle.rules.specs.declared.slice.Change.{Change}
-use Rattle.rules.specs.declared.slice.RuleFault.{RuleFault}
-use Rattle.rules.proofs.Tests.{same_text_refl}
-use Rattle.rules.proofs.histories.Accepted.{room_for_acts}
-use Rattle.rules.proofs.histories.OtherItems.{other_items_are_left_alone}
+use Rattle.row_rules.specs.Seen.{no_rows}
+use Rattle.row_rules.specs.Decided.{item_seen, item_changes, bin_seen, bin_changes}
+use Rattle.row_rules.specs.declared.slice.Slice.{Slice}
+use Rattle.row_rules.specs.declared.slice.Change.{Change}
+use Rattle.row_rules.specs.declared.slice.RuleFault.{RuleFault}
+use Rattle.machine.proofs.Tests.{same_text_refl}
+use Rattle.machine.proofs.histories.Accepted.{room_for_acts}
+use Rattle.machine.proofs.histories.OtherItems.{other_items_are_left_alone}
 use Rattle.rules.proofs.rows.TableSteps.{same_tables, AreNamed, nothing_named, names_changed, reserved_changed, put_found}
 use Rattle.rules.proofs.decided.Decisions.{AreRight, IsChange, acts_seen, plain_same, meta_same}
 use Rattle.rules.proofs.rows.SliceTells.{item_told, bin_told}

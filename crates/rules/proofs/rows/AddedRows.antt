@@ -2,8 +2,9 @@
 use Rattle.std.proofs.Common.{◌≡◌, Bool, true, false, not, List, [], ◌∷◌, ◌++◌, refl, ◌∙◌}
 use Rattle.std.specs.Prelude.{◌||◌, if◌then◌else◌, Option, Some, None, find}
 use Rattle.std.specs.List.{list_any}
-use Rattle.rules.specs.Slices.{AreRows, no_two, unless_put}
-use Rattle.rules.proofs.Tests.{and_both, not_true}
+use Rattle.machine.specs.KeyedRows.{AreRows, no_two}
+use Rattle.rules.specs.Slices.{unless_put}
+use Rattle.machine.proofs.Tests.{and_both, not_true}
 use Rattle.rules.proofs.rows.AfterRows.{loosened, rows_added}
 
 -- Look-ups in one list after another

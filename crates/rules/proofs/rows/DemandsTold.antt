@@ -4,8 +4,8 @@ use Rattle.std.specs.Prelude.{◌==◌, nat_lt, if◌then◌else◌, ℤ, Option
 use Rattle.std.specs.List.{list_any}
 use Rattle.std.proofs.lemmas.Bool.{eqb-true}
 use borrow.Author.Tests.{ltb-false, lt-ltb}
-use Rattle.label.specs.Values.{same_text}
-use Rattle.label.specs.declared.lot.LotId.{LotId}
+use Rattle.values.specs.Values.{same_text}
+use Rattle.values.specs.declared.lot.LotId.{LotId}
 use Rattle.commands.specs.Lists.{total}
 use Rattle.commands.specs.declared.command.OrderLine.{OrderLine}
 use Rattle.commands.specs.declared.rows.OrderState.TheVariants.{Open, Done, Cancelled}
@@ -15,27 +15,27 @@ use Rattle.commands.specs.declared.rows.StagedRow.{StagedRow}
 use Rattle.plan.specs.Lists.{total as plan_total}
 use Rattle.plan.specs.declared.Demand.{Demand}
 use Rattle.plan.proofs.Nothing.{wanted}
-use Rattle.rules.specs.Acts.{Act}
-use Rattle.rules.specs.Postings.{Posting, Place, Supplier, InBin, Stage, Shipped, WriteOff, is_stage, of_item, in_house}
-use Rattle.rules.specs.Standing.{Placed, orders, order_named, lines_placed, has_line, is_cancelled}
-use Rattle.rules.specs.Ledger.{postings}
-use Rattle.rules.specs.Planning.{Booking, booking_of, lines_of_item, need, demands, item_postings, staged, shipped, shipped_of, is_open, is_open_state, is_shipped_in_full, order_state}
-use Rattle.rules.specs.Once.{IsHistory}
-use Rattle.rules.specs.Tables.{order_row, line_row, staged_row}
-use Rattle.rules.specs.Slices.{AreRows, AreOwn, no_two, same_line, same_share}
-use Rattle.rules.specs.Verdict.{names_item_twice}
-use Rattle.rules.specs.Seen.{capped}
-use Rattle.rules.specs.Plans.{staged_seen, line_need, need_seen, demand_seen, is_earlier, demands_seen}
-use Rattle.rules.proofs.Numbers.{unequal_turned, later_than, nothing_if}
-use Rattle.rules.proofs.Tests.{and_both, or_none, not_true, same_text_is, same_text_refl, same_text_turned}
-use Rattle.rules.proofs.Apart.{AllFound}
-use Rattle.rules.proofs.histories.Cells.{Cells, holds, holds_split}
-use Rattle.rules.proofs.histories.ItemBalances.{balance-of_item}
-use Rattle.rules.proofs.histories.LegalHistories.{legal_history}
-use Rattle.rules.proofs.histories.Orders.{AllSingle, NoNeed, same_order, orders_apart, orders_found, orders_single, closed_needs_none, act_names_order}
-use Rattle.rules.proofs.histories.Bookings.{RisingDemands, AfterDemands, wanted_by, demands_told, same_wanted, none_more}
-use Rattle.rules.proofs.histories.UnitsLimit.{units_within_limit}
-use Rattle.rules.proofs.rows.PlaceRows.{staged_holds, stage_cells}
+use Rattle.machine.specs.Acts.{Act}
+use Rattle.machine.specs.Postings.{Posting, Place, Supplier, InBin, Stage, Shipped, WriteOff, is_stage, of_item, in_house}
+use Rattle.machine.specs.Standing.{Placed, orders, order_named, lines_placed, has_line, is_cancelled}
+use Rattle.machine.specs.Ledger.{postings}
+use Rattle.machine.specs.Planning.{Booking, booking_of, lines_of_item, need, demands, item_postings, staged, shipped, shipped_of, is_open, is_open_state, is_shipped_in_full, order_state}
+use Rattle.machine.specs.Once.{IsHistory}
+use Rattle.machine.specs.Tables.{order_row, line_row, staged_row}
+use Rattle.machine.specs.KeyedRows.{AreRows, AreOwn, no_two, same_line, same_share}
+use Rattle.machine.specs.Verdict.{names_item_twice}
+use Rattle.row_rules.specs.Seen.{capped}
+use Rattle.row_rules.specs.Plans.{staged_seen, line_need, need_seen, demand_seen, is_earlier, demands_seen}
+use Rattle.machine.proofs.Numbers.{unequal_turned, later_than, nothing_if}
+use Rattle.machine.proofs.Tests.{and_both, or_none, not_true, same_text_is, same_text_refl, same_text_turned}
+use Rattle.machine.proofs.Apart.{AllFound}
+use Rattle.machine.proofs.histories.Cells.{Cells, holds, holds_split}
+use Rattle.machine.proofs.histories.ItemBalances.{balance-of_item}
+use Rattle.machine.proofs.histories.LegalHistories.{legal_history}
+use Rattle.machine.proofs.histories.Orders.{AllSingle, NoNeed, same_order, orders_apart, orders_found, orders_single, closed_needs_none, act_names_order}
+use Rattle.machine.proofs.histories.Bookings.{RisingDemands, AfterDemands, wanted_by, demands_told, same_wanted, none_more}
+use Rattle.machine.proofs.histories.UnitsLimit.{units_within_limit}
+use Rattle.machine.proofs.histories.PlaceRows.{staged_holds, stage_cells}
 use Rattle.rules.proofs.rows.Telling.{rows_tell, some_of_mapped, found_key}
 use Rattle.rules.proofs.rows.Ordering.{AllBehind, AreRising, AllOrdered, AreOrdered, rising_inserted, total_inserted, total_map}
 

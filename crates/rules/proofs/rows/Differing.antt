@@ -2,14 +2,15 @@
 use Rattle.std.proofs.Common.{◌≡◌, ℕ, Bool, true, false, ◌&&◌, not, List, [], ◌∷◌, refl, ap, sym, ◌∙◌}
 use Rattle.std.specs.Prelude.{◌||◌, if◌then◌else◌, Option, Some, None, find, filter, is_some}
 use Rattle.std.specs.List.{list_any}
-use Rattle.label.specs.Values.{same_text}
-use Rattle.label.specs.declared.lot.LotId.{LotId}
+use Rattle.values.specs.Values.{same_text}
+use Rattle.values.specs.declared.lot.LotId.{LotId}
 use Rattle.commands.specs.declared.rows.ReservedRow.{ReservedRow}
-use Rattle.rules.specs.Postings.{is_lot, of_item}
-use Rattle.rules.specs.Slices.{no_two, differs}
-use Rattle.rules.specs.Plans.{is_share_of, has_qty, rows_to_put, rows_to_drop}
-use Rattle.rules.proofs.Tests.{and_both, not_true, same_text_is, is_lot_is}
-use Rattle.rules.proofs.Apart.{any_found, none_in_filter}
+use Rattle.machine.specs.Postings.{is_lot, of_item}
+use Rattle.machine.specs.KeyedRows.{no_two}
+use Rattle.rules.specs.Slices.{differs}
+use Rattle.row_rules.specs.Plans.{is_share_of, has_qty, rows_to_put, rows_to_drop}
+use Rattle.machine.proofs.Tests.{and_both, not_true, same_text_is, is_lot_is}
+use Rattle.machine.proofs.Apart.{any_found, none_in_filter}
 use Rattle.rules.proofs.rows.TableSteps.{IsNamed, share_row, nothing_named}
 
 module _ (o : List ℕ) (l : LotId) where

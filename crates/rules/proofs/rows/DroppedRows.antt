@@ -2,9 +2,10 @@
 use Rattle.std.proofs.Common.{◌≡◌, Bool, true, false, ◌&&◌, not, List, [], ◌∷◌, refl, ap, sym, ◌∙◌}
 use Rattle.std.specs.Prelude.{◌||◌, if◌then◌else◌, Option, Some, None, find, filter, is_some}
 use Rattle.std.specs.List.{list_any}
-use Rattle.rules.specs.Slices.{AreRows, AreOwn, no_two, changed}
-use Rattle.rules.proofs.Tests.{and_both, not_true}
-use Rattle.rules.proofs.Apart.{any_found, none_in_filter}
+use Rattle.machine.specs.KeyedRows.{AreRows, AreOwn, no_two}
+use Rattle.rules.specs.Slices.{changed}
+use Rattle.machine.proofs.Tests.{and_both, not_true}
+use Rattle.machine.proofs.Apart.{any_found, none_in_filter}
 
 module _ {K R : Type 0} (same : K → K → Bool) (same_is : (a b : K) → same a b ≡ true → a ≡ b) (key : R → K) (gone : K → Bool) (row : K → Option R) where
   -- the look-up without the rows under these keys

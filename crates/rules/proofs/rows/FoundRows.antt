@@ -2,8 +2,8 @@
 use Rattle.std.proofs.Common.{◌≡◌, Bool, true, false, ◌&&◌, not, List, [], ◌∷◌, refl, ap, sym, ◌∙◌}
 use Rattle.std.specs.Prelude.{if◌then◌else◌, Option, Some, find, filter, ◌||◌, None, map, option_map}
 use Rattle.std.specs.List.{list_any}
-use Rattle.rules.specs.Slices.{AreOwn, no_two}
-use Rattle.rules.proofs.Tests.{and_both, not_true}
+use Rattle.machine.specs.KeyedRows.{AreOwn, no_two}
+use Rattle.machine.proofs.Tests.{and_both, not_true}
 
 -- what is found passes the test
 pub found_passes : {X : Type 0} (test : X → Bool) (xs : List X) (x : X) → find test xs ≡ Some x → test x ≡ true

@@ -2,8 +2,8 @@
 use Rattle.std.proofs.Common.{◌≡◌, ℕ, Bool, true, false, ◌&&◌, not, List, [], ◌∷◌, ◌++◌, refl, ap, sym, ◌∙◌}
 use Rattle.std.specs.Prelude.{◌||◌, if◌then◌else◌, ℤ, Option, Some, None, find, filter, flat_map, is_some}
 use Rattle.std.specs.List.{list_any}
-use Rattle.label.specs.Values.{same_text}
-use Rattle.label.specs.declared.lot.LotId.{LotId}
+use Rattle.values.specs.Values.{same_text}
+use Rattle.values.specs.declared.lot.LotId.{LotId}
 use Rattle.commands.specs.declared.rows.BinRow.{BinRow}
 use Rattle.commands.specs.declared.rows.LotRow.{LotRow}
 use Rattle.commands.specs.declared.rows.RecallRow.{RecallRow}
@@ -12,20 +12,21 @@ use Rattle.commands.specs.declared.rows.OrderRow.{OrderRow}
 use Rattle.commands.specs.declared.rows.LineRow.{LineRow}
 use Rattle.commands.specs.declared.rows.StagedRow.{StagedRow}
 use Rattle.commands.specs.declared.rows.ReservedRow.{ReservedRow}
-use Rattle.rules.specs.Acts.{Act}
-use Rattle.rules.specs.Postings.{is_lot, of_item}
-use Rattle.rules.specs.Standing.{today}
-use Rattle.rules.specs.Planning.{plan, reserved}
-use Rattle.rules.specs.Once.{IsHistory}
-use Rattle.rules.specs.Tables.{tables_of}
-use Rattle.rules.specs.Touched.{is_touched}
-use Rattle.rules.specs.Slices.{IsSlice, no_two, unless_put}
-use Rattle.rules.specs.Plans.{is_share_of, named_rows, shares_over}
-use Rattle.rules.specs.Replanning.{item_put, item_dropped}
-use Rattle.rules.specs.declared.slice.Slice.{Slice}
-use Rattle.rules.proofs.Tests.{and_both, or_false, or_later, or_none, not_true, same_text_is, same_text_refl, same_text_turned, is_lot_refl}
-use Rattle.rules.proofs.Apart.{any_found}
-use Rattle.rules.proofs.histories.OtherItems.{other_items_are_left_alone}
+use Rattle.machine.specs.Acts.{Act}
+use Rattle.machine.specs.Postings.{is_lot, of_item}
+use Rattle.machine.specs.Standing.{today}
+use Rattle.machine.specs.Planning.{plan, reserved}
+use Rattle.machine.specs.Once.{IsHistory}
+use Rattle.machine.specs.Tables.{tables_of}
+use Rattle.machine.specs.Touched.{is_touched}
+use Rattle.machine.specs.KeyedRows.{no_two}
+use Rattle.rules.specs.Slices.{IsSlice, unless_put}
+use Rattle.row_rules.specs.Plans.{is_share_of, named_rows, shares_over}
+use Rattle.row_rules.specs.Replanning.{item_put, item_dropped}
+use Rattle.row_rules.specs.declared.slice.Slice.{Slice}
+use Rattle.machine.proofs.Tests.{and_both, or_false, or_later, or_none, not_true, same_text_is, same_text_refl, same_text_turned, is_lot_refl}
+use Rattle.machine.proofs.Apart.{any_found}
+use Rattle.machine.proofs.histories.OtherItems.{other_items_are_left_alone}
 use Rattle.rules.proofs.rows.TableSteps.{IsNamed, AreNamed, share_row, nothing_named}
 use Rattle.rules.proofs.rows.Differing.{named_of_item, named_elsewhere, put_once}
 use Rattle.rules.proofs.rows.DemandsTold.{TellsDemands}

@@ -2,9 +2,9 @@
 use Rattle.std.proofs.Common.{◌≡◌, Bool, true, false, ◌&&◌, not, List, [], ◌∷◌, refl, ap, sym, ◌∙◌}
 use Rattle.std.specs.Prelude.{if◌then◌else◌, Option, Some, find, filter}
 use Rattle.std.specs.List.{list_any}
-use Rattle.rules.specs.Slices.{AreRows, AreOwn, no_two}
-use Rattle.rules.proofs.Tests.{and_both, not_true}
-use Rattle.rules.proofs.Apart.{none_in_filter}
+use Rattle.machine.specs.KeyedRows.{AreRows, AreOwn, no_two}
+use Rattle.machine.proofs.Tests.{and_both, not_true}
+use Rattle.machine.proofs.Apart.{none_in_filter}
 
 module _ {K R : Type 0} (same : K → K → Bool) (same_is : (a b : K) → same a b ≡ true → a ≡ b) (key : R → K) (keep : K → Bool) where
   abbrev pub rows_kept : List R → List R

@@ -2,30 +2,30 @@
 use Rattle.std.proofs.Common.{◌≡◌, ℕ, ◌+◌, ◌≤◌, Bool, true, false, ◌&&◌, List, ◌∷◌, ◌++◌, refl, ap, sym, subst, ◌∙◌, arith, eq-eqb}
 use Rattle.std.specs.Prelude.{◌==◌, if◌then◌else◌, Some, find, filter, flat_map, option_map, ℤ}
 use Rattle.std.specs.List.{list_any, list_all}
-use Rattle.label.specs.Values.{same_text}
-use Rattle.label.specs.declared.lot.LotId.{LotId}
+use Rattle.values.specs.Values.{same_text}
+use Rattle.values.specs.declared.lot.LotId.{LotId}
 use Rattle.commands.specs.Lists.{total}
 use Rattle.commands.specs.declared.rows.OrderState.TheVariants.{Open, Done, Cancelled}
 use Rattle.commands.specs.declared.rows.CardRow.{CardRow}
-use Rattle.rules.specs.Acts.{Act, gathered, next_number}
-use Rattle.rules.specs.Postings.{Place, Supplier, InBin, Stage, Shipped, WriteOff, Posting, is_bin, is_lot, is_stage, is_shipped_to, is_shipment, of_item}
-use Rattle.rules.specs.Standing.{KnownLot, Placed, RETURNS, bins, lots, lot_known, is_shippable, orders, lines_placed, has_line, cancel_in}
-use Rattle.rules.specs.Ledger.{returned, postings, postings_of}
-use Rattle.rules.specs.Planning.{in_bin, staged_of_lot, shipped_of, is_open, is_open_state}
-use Rattle.rules.specs.Cards.{cards, card_lines}
-use Rattle.rules.specs.Replies.{units_returned}
-use Rattle.rules.specs.Once.{IsHistory}
-use Rattle.rules.specs.Tables.{if_any, order_row, line_row, shipline_row, card_row}
-use Rattle.rules.proofs.Tests.{and_false, is_zero, is_lot_is, same_text_refl}
-use Rattle.rules.proofs.histories.Cells.{Cells, into, out_of, into-append, out_of-append, holds, never_overdrawn}
-use Rattle.rules.proofs.histories.ItemBalances.{balance-of_item}
-use Rattle.rules.proofs.histories.LegalHistories.{legal_history}
-use Rattle.rules.proofs.histories.Staging.{IsStaging, none_returned}
-use Rattle.rules.proofs.histories.StagedLots.{staged_lots_are_shippable}
-use Rattle.rules.proofs.histories.ReturnedUnits.{returned_kept, units_taken, returned_has_no_line}
-use Rattle.rules.proofs.rows.RowSums.{cell_at, holds_nothing}
-use Rattle.rules.proofs.rows.PlaceRows.{stage_cells}
-use Rattle.rules.proofs.rows.UnshippableLots.{stages_of, both, both_hold, inner_stages}
+use Rattle.machine.specs.Acts.{Act, gathered, next_number}
+use Rattle.machine.specs.Postings.{Place, Supplier, InBin, Stage, Shipped, WriteOff, Posting, is_bin, is_lot, is_stage, is_shipped_to, is_shipment, of_item}
+use Rattle.machine.specs.Standing.{KnownLot, Placed, RETURNS, bins, lots, lot_known, is_shippable, orders, lines_placed, has_line, cancel_in}
+use Rattle.machine.specs.Ledger.{returned, postings, postings_of}
+use Rattle.machine.specs.Planning.{in_bin, staged_of_lot, shipped_of, is_open, is_open_state}
+use Rattle.machine.specs.Cards.{cards, card_lines}
+use Rattle.machine.specs.Replies.{units_returned}
+use Rattle.machine.specs.Once.{IsHistory}
+use Rattle.machine.specs.Tables.{if_any, order_row, line_row, shipline_row, card_row}
+use Rattle.machine.proofs.Tests.{and_false, is_zero, is_lot_is, same_text_refl}
+use Rattle.machine.proofs.histories.Cells.{Cells, into, out_of, into-append, out_of-append, holds, never_overdrawn}
+use Rattle.machine.proofs.histories.ItemBalances.{balance-of_item}
+use Rattle.machine.proofs.histories.LegalHistories.{legal_history}
+use Rattle.machine.proofs.histories.Staging.{IsStaging, none_returned}
+use Rattle.machine.proofs.histories.StagedLots.{staged_lots_are_shippable}
+use Rattle.machine.proofs.histories.ReturnedUnits.{returned_kept, units_taken, returned_has_no_line}
+use Rattle.machine.proofs.histories.RowSums.{cell_at, holds_nothing}
+use Rattle.machine.proofs.histories.PlaceRows.{stage_cells}
+use Rattle.machine.proofs.histories.UnshippableLots.{stages_of, both, both_hold, inner_stages}
 
 module _ (first : ℤ) (acts : List Act) (act : Act) (gone : LotId → Bool) where
   -- no lot under these names is shippable after the act, and the act returns only such lots; it makes no order or bin, and

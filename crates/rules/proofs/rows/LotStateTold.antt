@@ -1,23 +1,23 @@
 -- What the slice of any command tells of the state of a lot that it touches, and of the kind of a bin that it names.
 use Rattle.std.proofs.Common.{◌≡◌, true, List, refl, ap, sym, ◌∙◌, ℕ}
 use Rattle.std.specs.Prelude.{ℤ, Option, Some, None, option_map}
-use Rattle.label.specs.declared.lot.LotId.{LotId}
+use Rattle.values.specs.declared.lot.LotId.{LotId}
 use Rattle.commands.specs.declared.command.NewBin.{NewBin}
-use Rattle.rules.specs.Acts.{Act}
-use Rattle.rules.specs.Postings.{is_lot}
-use Rattle.rules.specs.Standing.{KnownLot, lots, lot_known, is_held, bin_named, is_store_row, is_store_bin}
-use Rattle.rules.specs.Once.{IsHistory}
-use Rattle.rules.specs.Tables.{tables_of}
-use Rattle.rules.specs.Touched.{is_touched}
+use Rattle.machine.specs.Acts.{Act}
+use Rattle.machine.specs.Postings.{is_lot}
+use Rattle.machine.specs.Standing.{KnownLot, lots, lot_known, is_held, bin_named, is_store_row, is_store_bin}
+use Rattle.machine.specs.Once.{IsHistory}
+use Rattle.machine.specs.Tables.{tables_of}
+use Rattle.machine.specs.Touched.{is_touched}
 use Rattle.rules.specs.Slices.{IsSlice, names_bin}
-use Rattle.rules.specs.Seen.{lot_seen}
-use Rattle.rules.specs.Plans.{is_store_found}
-use Rattle.rules.specs.Verdict.{is_past}
-use Rattle.rules.specs.SeenLots.{is_held_row, sees_hold}
-use Rattle.rules.specs.DecidedPick.{is_past_row, sees_store}
-use Rattle.rules.specs.declared.slice.Slice.{Slice}
-use Rattle.rules.proofs.Tests.{is_lot_is, is_lot_turned}
-use Rattle.rules.proofs.histories.Lots.{not_held}
+use Rattle.row_rules.specs.Seen.{lot_seen}
+use Rattle.row_rules.specs.Plans.{is_store_found}
+use Rattle.machine.specs.Verdict.{is_past}
+use Rattle.row_rules.specs.SeenLots.{is_held_row, sees_hold}
+use Rattle.row_rules.specs.DecidedPick.{is_past_row, sees_store}
+use Rattle.row_rules.specs.declared.slice.Slice.{Slice}
+use Rattle.machine.proofs.Tests.{is_lot_is, is_lot_turned}
+use Rattle.machine.proofs.histories.Lots.{not_held}
 use Rattle.rules.proofs.rows.Telling.{found_key}
 use Rattle.rules.proofs.rows.SliceTells.{found_lot, found_bin}
 

@@ -1,17 +1,17 @@
 -- What the slice of any command tells of a lot that it touches: whether it is known, and its units in a bin.
 use Rattle.std.proofs.Common.{◌≡◌, ℕ, true, false, List, refl, ap, sym, ◌∙◌}
 use Rattle.std.specs.Prelude.{◌==◌, if◌then◌else◌, ℤ, Some, None, is_some}
-use Rattle.label.specs.declared.lot.LotId.{LotId}
-use Rattle.rules.specs.Acts.{Act}
-use Rattle.rules.specs.Standing.{lot_known, has_lot}
-use Rattle.rules.specs.Planning.{in_bin}
-use Rattle.rules.specs.Tables.{tables_of, if_any, stock_row}
-use Rattle.rules.specs.Touched.{is_touched}
+use Rattle.values.specs.declared.lot.LotId.{LotId}
+use Rattle.machine.specs.Acts.{Act}
+use Rattle.machine.specs.Standing.{lot_known, has_lot}
+use Rattle.machine.specs.Planning.{in_bin}
+use Rattle.machine.specs.Tables.{tables_of, if_any, stock_row}
+use Rattle.machine.specs.Touched.{is_touched}
 use Rattle.rules.specs.Slices.{IsSlice}
-use Rattle.rules.specs.Decided.{stock_qty}
-use Rattle.rules.specs.SeenLots.{sees_lot, stock_found, in_bin_seen}
-use Rattle.rules.specs.declared.slice.Slice.{Slice}
-use Rattle.rules.proofs.Tests.{is_zero}
+use Rattle.row_rules.specs.Decided.{stock_qty}
+use Rattle.row_rules.specs.SeenLots.{sees_lot, stock_found, in_bin_seen}
+use Rattle.row_rules.specs.declared.slice.Slice.{Slice}
+use Rattle.machine.proofs.Tests.{is_zero}
 use Rattle.rules.proofs.rows.SliceTells.{found_lot, some_mapped}
 
 -- what a row of a quantity, if any, has

@@ -3,23 +3,23 @@ use Rattle.std.proofs.Common.{◌≡◌, ℕ, ◌+◌, ◌-◌, true, false, ◌
 use Rattle.std.specs.Prelude.{if◌then◌else◌, ℤ, Option, Some, None, find, filter, map, flat_map, reverse, option_map}
 use Rattle.std.specs.List.{list_any}
 use Rattle.std.proofs.lemmas.List.{reverse-append}
-use Rattle.label.specs.Values.{same_text}
+use Rattle.values.specs.Values.{same_text}
 use Rattle.commands.specs.Lists.{total}
 use Rattle.commands.specs.declared.command.OrderLine.{OrderLine}
 use Rattle.commands.specs.declared.rows.OrderRow.{OrderRow}
 use Rattle.commands.specs.declared.rows.LineRow.{LineRow}
 use Rattle.commands.specs.declared.rows.StagedRow.{StagedRow}
-use Rattle.rules.specs.Acts.{Act}
-use Rattle.rules.specs.Standing.{Placed, orders, order_named, lines_placed, has_line}
-use Rattle.rules.specs.Planning.{Booking, booking_of, lines_of_item, shipped_of, is_open, order_state, open_units}
-use Rattle.rules.specs.Once.{IsHistory}
-use Rattle.rules.specs.Tables.{order_row}
-use Rattle.rules.specs.Slices.{AreOwn}
-use Rattle.rules.specs.DecidedOrder.{open_units_of, open_units_of_line}
-use Rattle.rules.proofs.Tests.{same_text_is, same_text_turned}
-use Rattle.rules.proofs.Apart.{AllFound}
-use Rattle.rules.proofs.histories.Orders.{same_order, orders_apart, orders_found, orders_single}
-use Rattle.rules.proofs.histories.Bookings.{total_flat}
+use Rattle.machine.specs.Acts.{Act}
+use Rattle.machine.specs.Standing.{Placed, orders, order_named, lines_placed, has_line}
+use Rattle.machine.specs.Planning.{Booking, booking_of, lines_of_item, shipped_of, is_open, order_state, open_units}
+use Rattle.machine.specs.Once.{IsHistory}
+use Rattle.machine.specs.Tables.{order_row}
+use Rattle.machine.specs.KeyedRows.{AreOwn}
+use Rattle.row_rules.specs.DecidedOrder.{open_units_of, open_units_of_line}
+use Rattle.machine.proofs.Tests.{same_text_is, same_text_turned}
+use Rattle.machine.proofs.Apart.{AllFound}
+use Rattle.machine.proofs.histories.Orders.{same_order, orders_apart, orders_found, orders_single}
+use Rattle.machine.proofs.histories.Bookings.{total_flat}
 use Rattle.rules.proofs.rows.Telling.{rows_tell, some_of_mapped, found_key}
 use Rattle.rules.proofs.rows.DemandsTold.{TellsDemands, listed, line_found, single_of, line_told, no_line, either}
 

@@ -2,16 +2,17 @@
 use Rattle.std.proofs.Common.{◌≡◌, ℕ, true, false, ◌&&◌, not, List, [], ◌∷◌, refl, ap, sym, ◌∙◌}
 use Rattle.std.specs.Prelude.{◌||◌, if◌then◌else◌, filter, map, ℤ}
 use Rattle.std.specs.List.{list_any}
-use Rattle.label.specs.Values.{same_text}
+use Rattle.values.specs.Values.{same_text}
 use Rattle.commands.specs.declared.rows.LineRow.{LineRow}
-use Rattle.rules.specs.Acts.{Act}
-use Rattle.rules.specs.Standing.{has_line}
-use Rattle.rules.specs.Tables.{tables_of}
-use Rattle.rules.specs.Slices.{IsSlice, no_two, names_order}
-use Rattle.rules.specs.SeenOrders.{items_seen}
-use Rattle.rules.specs.declared.slice.Slice.{Slice}
-use Rattle.rules.proofs.Tests.{and_both, not_true, same_text_is}
-use Rattle.rules.proofs.Apart.{any_found}
+use Rattle.machine.specs.Acts.{Act}
+use Rattle.machine.specs.Standing.{has_line}
+use Rattle.machine.specs.Tables.{tables_of}
+use Rattle.machine.specs.KeyedRows.{no_two}
+use Rattle.rules.specs.Slices.{IsSlice, names_order}
+use Rattle.row_rules.specs.SeenOrders.{items_seen}
+use Rattle.row_rules.specs.declared.slice.Slice.{Slice}
+use Rattle.machine.proofs.Tests.{and_both, not_true, same_text_is}
+use Rattle.machine.proofs.Apart.{any_found}
 use Rattle.rules.proofs.rows.OrderTold.{line_told}
 
 abbrev gtins : List LineRow → List (List ℕ)

@@ -9,12 +9,12 @@ use Rattle.commands.specs.declared.rows.OrderRow.{OrderRow}
 use Rattle.commands.specs.declared.rows.LineRow.{LineRow}
 use Rattle.commands.specs.declared.rows.StagedRow.{StagedRow}
 use Rattle.plan.proofs.Nothing.{same_plan}
-use Rattle.rules.specs.Acts.{Act}
-use Rattle.rules.specs.Standing.{today}
-use Rattle.rules.specs.Planning.{demands, supplies, plan}
-use Rattle.rules.specs.Once.{IsHistory}
-use Rattle.rules.specs.Plans.{demands_seen, supplies_seen, plan_within}
-use Rattle.rules.proofs.rows.Cutting.{plan_of_cut}
+use Rattle.machine.specs.Acts.{Act}
+use Rattle.machine.specs.Standing.{today}
+use Rattle.machine.specs.Planning.{demands, supplies, plan}
+use Rattle.machine.specs.Once.{IsHistory}
+use Rattle.row_rules.specs.Plans.{demands_seen, supplies_seen, plan_within}
+use Rattle.row_rules.proofs.Cutting.{plan_of_cut}
 use Rattle.rules.proofs.rows.DemandsTold.{TellsDemands, rows_tell_demands}
 use Rattle.rules.proofs.rows.SuppliesTold.{TellsSupplies, rows_tell_supplies, supplies_within_limit}
 

@@ -1,7 +1,7 @@
 -- An act that touches one item: rows that tell its demands and supplies after the act tell which reserved rows differ.
 use Rattle.std.proofs.Common.{◌≡◌, ℕ, true, false, ◌&&◌, List, ◌∷◌, refl, ap, subst, ◌∙◌}
 use Rattle.std.specs.Prelude.{ℤ, find}
-use Rattle.label.specs.Values.{same_text}
+use Rattle.values.specs.Values.{same_text}
 use Rattle.commands.specs.declared.rows.BinRow.{BinRow}
 use Rattle.commands.specs.declared.rows.LotRow.{LotRow}
 use Rattle.commands.specs.declared.rows.RecallRow.{RecallRow}
@@ -10,18 +10,19 @@ use Rattle.commands.specs.declared.rows.OrderRow.{OrderRow}
 use Rattle.commands.specs.declared.rows.LineRow.{LineRow}
 use Rattle.commands.specs.declared.rows.StagedRow.{StagedRow}
 use Rattle.commands.specs.declared.rows.ReservedRow.{ReservedRow}
-use Rattle.rules.specs.Acts.{Act}
-use Rattle.rules.specs.Postings.{is_lot, of_item}
-use Rattle.rules.specs.Standing.{today}
-use Rattle.rules.specs.Planning.{plan, reserved}
-use Rattle.rules.specs.Once.{IsHistory}
-use Rattle.rules.specs.Tables.{tables_of, reserved_row}
-use Rattle.rules.specs.Touched.{is_touched}
-use Rattle.rules.specs.Slices.{IsSlice, AreRows, OrderLot, same_share, no_two}
-use Rattle.rules.specs.Plans.{named_rows, shares_over, rows_to_put, rows_to_drop, is_share_of}
-use Rattle.rules.specs.declared.slice.Slice.{Slice}
-use Rattle.rules.proofs.Tests.{same_text_refl, same_text_is}
-use Rattle.rules.proofs.histories.OtherItems.{other_items_are_left_alone}
+use Rattle.machine.specs.Acts.{Act}
+use Rattle.machine.specs.Postings.{is_lot, of_item}
+use Rattle.machine.specs.Standing.{today}
+use Rattle.machine.specs.Planning.{plan, reserved}
+use Rattle.machine.specs.Once.{IsHistory}
+use Rattle.machine.specs.Tables.{tables_of, reserved_row}
+use Rattle.machine.specs.Touched.{is_touched}
+use Rattle.machine.specs.KeyedRows.{AreRows, OrderLot, same_share, no_two}
+use Rattle.rules.specs.Slices.{IsSlice}
+use Rattle.row_rules.specs.Plans.{named_rows, shares_over, rows_to_put, rows_to_drop, is_share_of}
+use Rattle.row_rules.specs.declared.slice.Slice.{Slice}
+use Rattle.machine.proofs.Tests.{same_text_refl, same_text_is}
+use Rattle.machine.proofs.histories.OtherItems.{other_items_are_left_alone}
 use Rattle.rules.proofs.rows.TableSteps.{AreNamed, IsNamed}
 use Rattle.rules.proofs.rows.Differing.{named_of_item, named_elsewhere, put_once}
 use Rattle.rules.proofs.rows.DemandsTold.{TellsDemands}

@@ -2,8 +2,8 @@
 use Rattle.std.proofs.Common.{◌≡◌, ℕ, ◌≤◌, true, false, ◌&&◌, List, [], ◌∷◌, ◌++◌, refl, ap, sym, ◌∙◌, arith, eq-eqb}
 use Rattle.std.specs.Prelude.{◌==◌, ◌||◌, if◌then◌else◌, Some, None, find, length, option_map, nat_le, codes, decimal, ℤ}
 use Rattle.std.specs.List.{list_any}
-use Rattle.label.specs.Values.{same_text}
-use Rattle.label.specs.declared.lot.LotId.{LotId}
+use Rattle.values.specs.Values.{same_text}
+use Rattle.values.specs.declared.lot.LotId.{LotId}
 use Rattle.commands.specs.Lists.{total}
 use Rattle.commands.specs.declared.limits.TheConstants.{ACTS_MAX}
 use Rattle.commands.specs.declared.command.NewBin.{NewBin}
@@ -14,35 +14,36 @@ use Rattle.commands.specs.declared.rows.StockRow.{StockRow}
 use Rattle.commands.specs.declared.rows.StagedRow.{StagedRow}
 use Rattle.commands.specs.declared.rows.OrderRow.{OrderRow}
 use Rattle.commands.specs.declared.rows.LineRow.{LineRow}
-use Rattle.rules.specs.Acts.{Act, next_number}
-use Rattle.rules.specs.Postings.{is_lot, of_item}
-use Rattle.rules.specs.Standing.{RETURNS, has_line}
-use Rattle.rules.specs.Ledger.{postings}
-use Rattle.rules.specs.Planning.{in_bin, staged_of_lot, is_open}
-use Rattle.rules.specs.Replies.{reply, further_field, returned_field, units_returned}
-use Rattle.rules.specs.Once.{IsHistory}
-use Rattle.rules.specs.Tables.{tables_of, if_any, bin_row, lot_row, recall_row, stock_row, order_row, line_row, staged_row}
-use Rattle.rules.specs.Touched.{is_touched}
-use Rattle.rules.specs.Slices.{IsSlice, AreRows, LotBin, OrderLot, changed, no_two, same_cell, same_line, same_share}
-use Rattle.rules.specs.SeenLots.{stock_put, stock_gone}
-use Rattle.rules.specs.DecidedHold.{staged_of_seen, staged_kept, staged_returned, units_in_returns, returned_put, stock_with_returned, returns_bin_row, bins_with_returns, returned_reply}
-use Rattle.rules.specs.declared.slice.Slice.{Slice}
-use Rattle.rules.proofs.Tests.{and_both, is_zero, same_text_refl, same_text_is, is_lot_is, is_lot_item}
-use Rattle.rules.proofs.histories.Cells.{holds}
-use Rattle.rules.proofs.histories.LegalHistories.{legal_history}
-use Rattle.rules.proofs.histories.ReturnsBin.{returns_named}
+use Rattle.machine.specs.Acts.{Act, next_number}
+use Rattle.machine.specs.Postings.{is_lot, of_item}
+use Rattle.machine.specs.Standing.{RETURNS, has_line}
+use Rattle.machine.specs.Ledger.{postings}
+use Rattle.machine.specs.Planning.{in_bin, staged_of_lot, is_open}
+use Rattle.machine.specs.Replies.{reply, further_field, returned_field, units_returned}
+use Rattle.machine.specs.Once.{IsHistory}
+use Rattle.machine.specs.Tables.{tables_of, if_any, bin_row, lot_row, recall_row, stock_row, order_row, line_row, staged_row}
+use Rattle.machine.specs.Touched.{is_touched}
+use Rattle.machine.specs.KeyedRows.{AreRows, LotBin, OrderLot, no_two, same_cell, same_line, same_share}
+use Rattle.rules.specs.Slices.{IsSlice, changed}
+use Rattle.row_rules.specs.SeenLots.{stock_put, stock_gone}
+use Rattle.row_rules.specs.DecidedHold.{staged_of_seen, staged_kept, staged_returned, units_in_returns, returned_put, stock_with_returned, returns_bin_row, bins_with_returns, returned_reply}
+use Rattle.row_rules.specs.declared.slice.Slice.{Slice}
+use Rattle.machine.proofs.Tests.{and_both, is_zero, same_text_refl, same_text_is, is_lot_is, is_lot_item}
+use Rattle.machine.proofs.histories.Cells.{holds}
+use Rattle.machine.proofs.histories.LegalHistories.{legal_history}
+use Rattle.machine.proofs.histories.ReturnsBin.{returns_named}
 use Rattle.rules.proofs.rows.AfterRows.{loosened}
 use Rattle.rules.proofs.rows.DemandsTold.{TellsDemands}
 use Rattle.rules.proofs.rows.DroppedRows.{rows_left, dropped_at}
 use Rattle.rules.proofs.rows.LotTold.{found_stock, in_bin_told}
 use Rattle.rules.proofs.rows.LotUnits.{bin_within_limit}
-use Rattle.rules.proofs.rows.PlaceRows.{staged_holds}
+use Rattle.machine.proofs.histories.PlaceRows.{staged_holds}
 use Rattle.rules.proofs.rows.SameKeys.{same_share_is}
 use Rattle.rules.proofs.rows.SliceDemands.{slice_tells_demands}
 use Rattle.rules.proofs.rows.SliceSupplies.{slice_tells_supplies}
 use Rattle.rules.proofs.rows.StockChanged.{with_units, stock_rows_are, bins_with, cell_changed, stock_row_with}
 use Rattle.rules.proofs.rows.SuppliesTold.{TellsSupplies}
-use Rattle.rules.proofs.rows.UnshippableLots.{MakesUnshippable, stages_of, unstaged, staged_still, in_bin_still, in_returns, all_returned, open_still, line_still, order_row_still, line_row_still}
+use Rattle.machine.proofs.histories.UnshippableLots.{MakesUnshippable, stages_of, unstaged, staged_still, in_bin_still, in_returns, all_returned, open_still, line_still, order_row_still, line_row_still}
 use Rattle.rules.proofs.decided.Decisions.{number_same}
 
 pub still_some : (a b : ℕ) → (a == 0) ≡ false → a ≤ b → (b == 0) ≡ false

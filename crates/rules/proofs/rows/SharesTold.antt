@@ -3,8 +3,8 @@ use Rattle.std.proofs.Common.{◌≡◌, ℕ, ◌≤◌, Bool, true, false, ◌&
 use Rattle.std.specs.Prelude.{◌==◌, ◌||◌, if◌then◌else◌, ℤ, Option, Some, None, find, filter, map, option_map, ◌⊎◌}
 use Rattle.std.specs.List.{list_any, cons_option}
 use Rattle.std.proofs.lemmas.Bool.{eqb-true}
-use Rattle.label.specs.Values.{same_text}
-use Rattle.label.specs.declared.lot.LotId.{LotId}
+use Rattle.values.specs.Values.{same_text}
+use Rattle.values.specs.declared.lot.LotId.{LotId}
 use Rattle.commands.specs.Lists.{total}
 use Rattle.commands.specs.declared.rows.OrderRow.{OrderRow}
 use Rattle.commands.specs.declared.rows.LotRow.{LotRow}
@@ -12,26 +12,26 @@ use Rattle.commands.specs.declared.rows.ReservedRow.{ReservedRow}
 use Rattle.plan.specs.declared.Row.{Row}
 use Rattle.plan.specs.Overlap.{reserved_in, reserved_on}
 use Rattle.plan.specs.declared.Supply.{Supply}
-use Rattle.rules.specs.Acts.{Act}
-use Rattle.rules.specs.Postings.{is_lot, of_item}
-use Rattle.rules.specs.Standing.{Placed, KnownLot, order_named, lot_known, lots_of, lines_placed, orders, lots, has_line, is_held, is_shippable}
-use Rattle.rules.specs.Planning.{plan, reserved, reserved_of, is_open, order_state, item_postings, need, booking_of, demands, supplies, supply_of, shippable_lots, goes_before, store_units}
-use Rattle.rules.specs.Once.{IsHistory}
-use Rattle.rules.specs.Tables.{order_row, lot_row}
-use Rattle.rules.specs.Slices.{AreRows, AreOwn, no_two}
-use Rattle.rules.specs.Plans.{named_row, named_rows, is_share_of}
-use Rattle.rules.proofs.Tests.{and_both, or_none, not_true, same_text_is, same_text_refl, is_lot_is, is_lot_refl, some_one}
-use Rattle.rules.proofs.histories.Orders.{act_names_order, found_order}
-use Rattle.rules.proofs.Apart.{AllFound}
-use Rattle.rules.proofs.histories.Lots.{same_known, lots_found, receipt_names_lot, found_lot}
+use Rattle.machine.specs.Acts.{Act}
+use Rattle.machine.specs.Postings.{is_lot, of_item}
+use Rattle.machine.specs.Standing.{Placed, KnownLot, order_named, lot_known, lots_of, lines_placed, orders, lots, has_line, is_held, is_shippable}
+use Rattle.machine.specs.Planning.{plan, reserved, reserved_of, is_open, order_state, item_postings, need, booking_of, demands, supplies, supply_of, shippable_lots, goes_before, store_units}
+use Rattle.machine.specs.Once.{IsHistory}
+use Rattle.machine.specs.Tables.{order_row, lot_row}
+use Rattle.machine.specs.KeyedRows.{AreRows, AreOwn, no_two}
+use Rattle.row_rules.specs.Plans.{named_row, named_rows, is_share_of}
+use Rattle.machine.proofs.Tests.{and_both, or_none, not_true, same_text_is, same_text_refl, is_lot_is, is_lot_refl, some_one}
+use Rattle.machine.proofs.histories.Orders.{act_names_order, found_order}
+use Rattle.machine.proofs.Apart.{AllFound}
+use Rattle.machine.proofs.histories.Lots.{same_known, lots_found, receipt_names_lot, found_lot}
 use Rattle.rules.proofs.rows.Ordering.{total_ordered, total_filter, total_map}
-use Rattle.rules.proofs.histories.Reservations.{there_under, reserved_within_supply}
-use Rattle.rules.proofs.histories.Needs.{reserved_within_needs}
-use Rattle.rules.proofs.histories.ClosedOrders.{closed_orders_are_empty}
+use Rattle.machine.proofs.histories.Reservations.{there_under, reserved_within_supply}
+use Rattle.machine.proofs.histories.Needs.{reserved_within_needs}
+use Rattle.machine.proofs.histories.ClosedOrders.{closed_orders_are_empty}
 use Rattle.rules.proofs.rows.Telling.{some_of_mapped}
 use Rattle.rules.proofs.rows.DemandsTold.{no_line, same_total}
 use Rattle.rules.proofs.rows.TableSteps.{share_row}
-use Rattle.rules.proofs.histories.PlanRows.{same_pair, AllSome, plan_once, plan_some}
+use Rattle.machine.proofs.histories.PlanRows.{same_pair, AllSome, plan_once, plan_some}
 
 -- Rows found by their numbers
 

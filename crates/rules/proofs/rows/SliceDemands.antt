@@ -2,20 +2,21 @@
 use Rattle.std.proofs.Common.{◌≡◌, ℕ, true, false, ◌&&◌, List, [], ◌∷◌, refl, ap, sym, ◌∙◌}
 use Rattle.std.specs.Prelude.{◌||◌, ℤ}
 use Rattle.std.specs.List.{list_any}
-use Rattle.label.specs.Values.{same_text}
+use Rattle.values.specs.Values.{same_text}
 use Rattle.commands.specs.declared.command.OrderLine.{OrderLine}
 use Rattle.commands.specs.declared.rows.OrderRow.{OrderRow}
 use Rattle.commands.specs.declared.rows.LineRow.{LineRow}
 use Rattle.commands.specs.declared.rows.StagedRow.{StagedRow}
-use Rattle.rules.specs.Acts.{Act}
-use Rattle.rules.specs.Postings.{of_item}
-use Rattle.rules.specs.Standing.{has_line, lines_of}
-use Rattle.rules.specs.Planning.{is_open}
-use Rattle.rules.specs.Tables.{tables_of, order_row, line_row, staged_row}
-use Rattle.rules.specs.Touched.{is_touched}
-use Rattle.rules.specs.Slices.{IsSlice, AreRows, OrderItem, OrderLot, has_touched_line, names_order, same_line, same_share}
-use Rattle.rules.specs.declared.slice.Slice.{Slice}
-use Rattle.rules.proofs.Tests.{and_both, or_later, same_text_is}
+use Rattle.machine.specs.Acts.{Act}
+use Rattle.machine.specs.Postings.{of_item}
+use Rattle.machine.specs.Standing.{has_line, lines_of}
+use Rattle.machine.specs.Planning.{is_open}
+use Rattle.machine.specs.Tables.{tables_of, order_row, line_row, staged_row}
+use Rattle.machine.specs.Touched.{is_touched}
+use Rattle.machine.specs.KeyedRows.{AreRows, OrderItem, OrderLot, same_line, same_share}
+use Rattle.rules.specs.Slices.{IsSlice, has_touched_line, names_order}
+use Rattle.row_rules.specs.declared.slice.Slice.{Slice}
+use Rattle.machine.proofs.Tests.{and_both, or_later, same_text_is}
 use Rattle.rules.proofs.rows.AfterRows.{loosened}
 use Rattle.rules.proofs.rows.DemandsTold.{TellsDemands}
 

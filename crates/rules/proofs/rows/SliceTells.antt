@@ -1,18 +1,18 @@
 -- What the slice of any command tells of the items, bins and lots that it touches.
 use Rattle.std.proofs.Common.{◌≡◌, ℕ, true, List, refl, ap, ◌∙◌}
 use Rattle.std.specs.Prelude.{find, Option, Some, None, option_map, is_some, ℤ}
-use Rattle.label.specs.Values.{same_text}
-use Rattle.label.specs.declared.lot.LotId.{LotId}
-use Rattle.rules.specs.Acts.{Act}
-use Rattle.rules.specs.Postings.{is_lot}
-use Rattle.rules.specs.Standing.{has_item, item_named, has_bin, bin_named, KnownLot, lot_known, is_held, is_recalled, recalling}
-use Rattle.rules.specs.Tables.{tables_of, item_row, bin_row, lot_row, recall_row}
-use Rattle.rules.specs.Touched.{is_touched}
+use Rattle.values.specs.Values.{same_text}
+use Rattle.values.specs.declared.lot.LotId.{LotId}
+use Rattle.machine.specs.Acts.{Act}
+use Rattle.machine.specs.Postings.{is_lot}
+use Rattle.machine.specs.Standing.{has_item, item_named, has_bin, bin_named, KnownLot, lot_known, is_held, is_recalled, recalling}
+use Rattle.machine.specs.Tables.{tables_of, item_row, bin_row, lot_row, recall_row}
+use Rattle.machine.specs.Touched.{is_touched}
 use Rattle.rules.specs.Slices.{IsSlice, names_bin}
-use Rattle.rules.specs.Seen.{sees_item, sees_bin, lot_seen, sees_recall, expires_otherwise_than}
-use Rattle.rules.specs.Verdict.{expires_otherwise}
-use Rattle.rules.specs.declared.slice.Slice.{Slice}
-use Rattle.rules.proofs.Tests.{or_first}
+use Rattle.row_rules.specs.Seen.{sees_item, sees_bin, lot_seen, sees_recall, expires_otherwise_than}
+use Rattle.machine.specs.Verdict.{expires_otherwise}
+use Rattle.row_rules.specs.declared.slice.Slice.{Slice}
+use Rattle.machine.proofs.Tests.{or_first}
 
 pub some_mapped : {A B : Type 0} (f : A → B) (x : Option A) → is_some (option_map f x) ≡ is_some x
 some_mapped f None = refl

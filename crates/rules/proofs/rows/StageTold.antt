@@ -1,17 +1,17 @@
 -- What the slice of any command tells of the units of a lot that are staged and reserved for an order, if it touches the lot.
 use Rattle.std.proofs.Common.{◌≡◌, ℕ, true, false, List, refl, ap, sym, ◌∙◌}
 use Rattle.std.specs.Prelude.{◌==◌, ◌&&◌, if◌then◌else◌, find, ℤ, Some, None}
-use Rattle.label.specs.Values.{same_text}
-use Rattle.label.specs.declared.lot.LotId.{LotId}
-use Rattle.rules.specs.Acts.{Act}
-use Rattle.rules.specs.Postings.{is_lot}
-use Rattle.rules.specs.Planning.{staged_of_lot, reserved}
-use Rattle.rules.specs.Tables.{tables_of, if_any, staged_row, reserved_row}
-use Rattle.rules.specs.Touched.{is_touched}
+use Rattle.values.specs.Values.{same_text}
+use Rattle.values.specs.declared.lot.LotId.{LotId}
+use Rattle.machine.specs.Acts.{Act}
+use Rattle.machine.specs.Postings.{is_lot}
+use Rattle.machine.specs.Planning.{staged_of_lot, reserved}
+use Rattle.machine.specs.Tables.{tables_of, if_any, staged_row, reserved_row}
+use Rattle.machine.specs.Touched.{is_touched}
 use Rattle.rules.specs.Slices.{IsSlice}
-use Rattle.rules.specs.SeenStages.{reserved_qty, reserved_seen, staged_qty, staged_found, on_stage_seen}
-use Rattle.rules.specs.declared.slice.Slice.{Slice}
-use Rattle.rules.proofs.Tests.{is_zero}
+use Rattle.row_rules.specs.SeenStages.{reserved_qty, reserved_seen, staged_qty, staged_found, on_stage_seen}
+use Rattle.row_rules.specs.declared.slice.Slice.{Slice}
+use Rattle.machine.proofs.Tests.{is_zero}
 
 -- what a row of a quantity, if any, has
 any_staged : (q : ℕ) (o : List ℕ) (l : LotId) → staged_qty (if_any q (record { order = o; lot = l; qty = q })) ≡ q

@@ -1,17 +1,17 @@
 -- No more units of a lot are staged for an order than the limit of its item.
 use Rattle.std.proofs.Common.{◌≡◌, ◌≤◌, true, false, ◌&&◌, List, ℕ, refl, arith}
 use Rattle.std.specs.Prelude.{ℤ}
-use Rattle.label.specs.Values.{same_text}
-use Rattle.label.specs.declared.lot.LotId.{LotId}
+use Rattle.values.specs.Values.{same_text}
+use Rattle.values.specs.declared.lot.LotId.{LotId}
 use Rattle.commands.specs.declared.limits.TheConstants.{UNITS_MAX}
-use Rattle.rules.specs.Acts.{Act}
-use Rattle.rules.specs.Postings.{Place, Supplier, InBin, Stage, Shipped, WriteOff, in_house, is_lot, is_stage}
-use Rattle.rules.specs.Ledger.{postings}
-use Rattle.rules.specs.Planning.{staged_of_lot}
-use Rattle.rules.specs.Once.{IsHistory}
-use Rattle.rules.proofs.Tests.{and_both, same_text_refl}
-use Rattle.rules.proofs.histories.Cells.{holds_split}
-use Rattle.rules.proofs.histories.LegalHistories.{legal_history}
+use Rattle.machine.specs.Acts.{Act}
+use Rattle.machine.specs.Postings.{Place, Supplier, InBin, Stage, Shipped, WriteOff, in_house, is_lot, is_stage}
+use Rattle.machine.specs.Ledger.{postings}
+use Rattle.machine.specs.Planning.{staged_of_lot}
+use Rattle.machine.specs.Once.{IsHistory}
+use Rattle.machine.proofs.Tests.{and_both, same_text_refl}
+use Rattle.machine.proofs.histories.Cells.{holds_split}
+use Rattle.machine.proofs.histories.LegalHistories.{legal_history}
 use Rattle.rules.proofs.rows.LotUnits.{lot_within_limit}
 
 module _ (first : ℤ) (acts : List Act) (history : IsHistory first acts) (o : List ℕ) (l : LotId) where

@@ -2,19 +2,20 @@
 use Rattle.std.proofs.Common.{◌≡◌, ℕ, ◌+◌, ◌-◌, ◌≤◌, Bool, true, false, ◌&&◌, not, List, [], ◌∷◌, ◌++◌, refl, ap, sym, ◌∙◌, arith}
 use Rattle.std.specs.Prelude.{◌==◌, if◌then◌else◌, ℤ, Option, Some, None, filter}
 use Rattle.std.specs.List.{list_any, cons_option}
-use Rattle.label.specs.Values.{same_text}
-use Rattle.label.specs.declared.lot.LotId.{LotId}
+use Rattle.values.specs.Values.{same_text}
+use Rattle.values.specs.declared.lot.LotId.{LotId}
 use Rattle.commands.specs.declared.rows.StagedRow.{StagedRow}
-use Rattle.rules.specs.Acts.{Act}
-use Rattle.rules.specs.Postings.{Place, Stage, balance, is_lot, is_stage}
-use Rattle.rules.specs.Ledger.{posting, postings}
-use Rattle.rules.specs.Planning.{staged_of_lot}
-use Rattle.rules.specs.Tables.{if_any, staged_row}
-use Rattle.rules.specs.Slices.{AreRows, OrderLot, changed, same_share}
-use Rattle.rules.specs.SeenStages.{staged_found, staged_put, staged_gone, staged_rows_with}
-use Rattle.rules.proofs.Tests.{or_false, same_text_refl, is_lot_refl}
-use Rattle.rules.proofs.histories.Cells.{Legal, CanTake}
-use Rattle.rules.proofs.histories.Balances.{stage_balance-posted}
+use Rattle.machine.specs.Acts.{Act}
+use Rattle.machine.specs.Postings.{Place, Stage, balance, is_lot, is_stage}
+use Rattle.machine.specs.Ledger.{posting, postings}
+use Rattle.machine.specs.Planning.{staged_of_lot}
+use Rattle.machine.specs.Tables.{if_any, staged_row}
+use Rattle.machine.specs.KeyedRows.{AreRows, OrderLot, same_share}
+use Rattle.rules.specs.Slices.{changed}
+use Rattle.row_rules.specs.SeenStages.{staged_found, staged_put, staged_gone, staged_rows_with}
+use Rattle.machine.proofs.Tests.{or_false, same_text_refl, is_lot_refl}
+use Rattle.machine.proofs.histories.Cells.{Legal, CanTake}
+use Rattle.machine.proofs.histories.Balances.{stage_balance-posted}
 use Rattle.rules.proofs.rows.SameKeys.{same_share_is, same_share_refl, same_share_turned}
 use Rattle.rules.proofs.rows.AfterRows.{rows_after, put_one}
 use Rattle.rules.proofs.rows.WithoutRows.{rows_without}

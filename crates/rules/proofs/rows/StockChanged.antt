@@ -2,22 +2,23 @@
 use Rattle.std.proofs.Common.{◌≡◌, ℕ, ◌+◌, ◌-◌, ◌≤◌, Bool, true, false, ◌&&◌, not, List, [], ◌∷◌, ◌++◌, refl, ap, sym, ◌∙◌, arith}
 use Rattle.std.specs.Prelude.{◌==◌, ◌||◌, if◌then◌else◌, ℤ, Option, Some, None, filter}
 use Rattle.std.specs.List.{list_any, cons_option}
-use Rattle.label.specs.Values.{same_text}
-use Rattle.label.specs.declared.lot.LotId.{LotId}
+use Rattle.values.specs.Values.{same_text}
+use Rattle.values.specs.declared.lot.LotId.{LotId}
 use Rattle.commands.specs.declared.rows.StockRow.{StockRow}
-use Rattle.rules.specs.Acts.{Act}
-use Rattle.rules.specs.Postings.{Place, InBin, balance, is_lot, is_bin}
-use Rattle.rules.specs.Ledger.{posting, postings}
-use Rattle.rules.specs.Planning.{in_bin}
-use Rattle.rules.specs.Tables.{if_any, stock_row}
-use Rattle.rules.specs.Slices.{AreRows, LotBin, changed, same_cell}
-use Rattle.rules.specs.SeenLots.{stock_found, stock_put, stock_gone, stock_rows_with}
-use Rattle.rules.proofs.Tests.{or_false, same_text_refl, is_lot_refl, or_later}
-use Rattle.rules.proofs.Apart.{none_in_filter}
-use Rattle.rules.proofs.histories.Cells.{Legal, CanTake}
-use Rattle.rules.proofs.histories.Balances.{bin_balance-posted}
+use Rattle.machine.specs.Acts.{Act}
+use Rattle.machine.specs.Postings.{Place, InBin, balance, is_lot, is_bin}
+use Rattle.machine.specs.Ledger.{posting, postings}
+use Rattle.machine.specs.Planning.{in_bin}
+use Rattle.machine.specs.Tables.{if_any, stock_row}
+use Rattle.machine.specs.KeyedRows.{AreRows, LotBin, same_cell}
+use Rattle.rules.specs.Slices.{changed}
+use Rattle.row_rules.specs.SeenLots.{stock_found, stock_put, stock_gone, stock_rows_with}
+use Rattle.machine.proofs.Tests.{or_false, same_text_refl, is_lot_refl, or_later}
+use Rattle.machine.proofs.Apart.{none_in_filter}
+use Rattle.machine.proofs.histories.Cells.{Legal, CanTake}
+use Rattle.machine.proofs.histories.Balances.{bin_balance-posted}
 use Rattle.rules.proofs.rows.SameKeys.{same_cell_is, same_cell_refl, same_cell_turned}
-use Rattle.rules.proofs.rows.PlaceRows.{and_turned}
+use Rattle.machine.proofs.histories.PlaceRows.{and_turned}
 use Rattle.rules.proofs.rows.AfterRows.{rows_after, put_one}
 use Rattle.rules.proofs.rows.WithoutRows.{rows_without}
 

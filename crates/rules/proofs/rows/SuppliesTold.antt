@@ -5,8 +5,8 @@ use Rattle.std.specs.List.{list_any}
 use Rattle.std.proofs.lemmas.Bool.{eqb-true}
 use Rattle.std.proofs.lemmas.Int.{ints}
 use borrow.Author.Tests.{ltb-false, le-ltb}
-use Rattle.label.specs.Values.{same_text}
-use Rattle.label.specs.declared.lot.LotId.{LotId}
+use Rattle.values.specs.Values.{same_text}
+use Rattle.values.specs.declared.lot.LotId.{LotId}
 use Rattle.commands.specs.Lists.{total}
 use Rattle.commands.specs.declared.command.NewBin.{NewBin}
 use Rattle.commands.specs.declared.rows.BinRow.{BinRow}
@@ -19,26 +19,26 @@ use Rattle.plan.specs.Overlap.{supply_total}
 use Rattle.plan.specs.declared.Supply.{Supply}
 use Rattle.plan.proofs.Nothing.{offered}
 use Rattle.plan.proofs.Ranked.{IsOrder, AllAfter, IsRising, same_non_zero, non_zero}
-use Rattle.rules.specs.Acts.{Act}
-use Rattle.rules.specs.Postings.{Posting, Place, Supplier, InBin, Stage, Shipped, WriteOff, is_lot, of_item, in_house}
-use Rattle.rules.specs.Standing.{KnownLot, lots, lots_of, lot_known, bin_named, is_store_bin, is_store_row, is_held, recalling, is_expired, today, is_shippable}
-use Rattle.rules.specs.Ledger.{postings}
-use Rattle.rules.specs.Planning.{item_postings, in_store, store_units, goes_before, shippable_lots, supplies}
-use Rattle.rules.specs.Once.{IsHistory}
-use Rattle.rules.specs.Tables.{lot_row, recall_row, stock_row, bin_row}
-use Rattle.rules.specs.Slices.{AreRows, AreOwn, no_two, same_cell}
-use Rattle.rules.specs.Seen.{capped}
-use Rattle.rules.specs.Plans.{is_store_found, store_seen, is_usable, goes_first, usable_lots, supply_seen, supplies_seen}
-use Rattle.rules.proofs.Numbers.{unequal_above, later_than}
-use Rattle.rules.proofs.Tests.{and_both, or_none, not_true, same_text_refl, is_lot_is, is_lot_refl, is_lot_turned, or_later}
-use Rattle.rules.proofs.Apart.{AllFound}
-use Rattle.rules.proofs.histories.Falling.{AllBelow, AreFalling}
-use Rattle.rules.proofs.histories.Cells.{Cells, holds, holds_split}
-use Rattle.rules.proofs.histories.ItemBalances.{balance-of_item}
-use Rattle.rules.proofs.histories.LegalHistories.{legal_history}
-use Rattle.rules.proofs.histories.Lots.{same_known, lots_apart, lots_found, lots_numbered, receipt_names_lot}
-use Rattle.rules.proofs.histories.UnitsLimit.{units_within_limit}
-use Rattle.rules.proofs.rows.PlaceRows.{stock_holds, bin_cells}
+use Rattle.machine.specs.Acts.{Act}
+use Rattle.machine.specs.Postings.{Posting, Place, Supplier, InBin, Stage, Shipped, WriteOff, is_lot, of_item, in_house}
+use Rattle.machine.specs.Standing.{KnownLot, lots, lots_of, lot_known, bin_named, is_store_bin, is_store_row, is_held, recalling, is_expired, today, is_shippable}
+use Rattle.machine.specs.Ledger.{postings}
+use Rattle.machine.specs.Planning.{item_postings, in_store, store_units, goes_before, shippable_lots, supplies}
+use Rattle.machine.specs.Once.{IsHistory}
+use Rattle.machine.specs.Tables.{lot_row, recall_row, stock_row, bin_row}
+use Rattle.machine.specs.KeyedRows.{AreRows, AreOwn, no_two, same_cell}
+use Rattle.row_rules.specs.Seen.{capped}
+use Rattle.row_rules.specs.Plans.{is_store_found, store_seen, is_usable, goes_first, usable_lots, supply_seen, supplies_seen}
+use Rattle.machine.proofs.Numbers.{unequal_above, later_than}
+use Rattle.machine.proofs.Tests.{and_both, or_none, not_true, same_text_refl, is_lot_is, is_lot_refl, is_lot_turned, or_later}
+use Rattle.machine.proofs.Apart.{AllFound}
+use Rattle.machine.proofs.histories.Falling.{AllBelow, AreFalling}
+use Rattle.machine.proofs.histories.Cells.{Cells, holds, holds_split}
+use Rattle.machine.proofs.histories.ItemBalances.{balance-of_item}
+use Rattle.machine.proofs.histories.LegalHistories.{legal_history}
+use Rattle.machine.proofs.histories.Lots.{same_known, lots_apart, lots_found, lots_numbered, receipt_names_lot}
+use Rattle.machine.proofs.histories.UnitsLimit.{units_within_limit}
+use Rattle.machine.proofs.histories.PlaceRows.{stock_holds, bin_cells}
 use Rattle.rules.proofs.rows.Telling.{rows_tell, some_of_mapped, totals_swapped, none_picked}
 use Rattle.rules.proofs.rows.Ordering.{AllBehind, AreRising, AllOrdered, AreOrdered, rising_inserted, rising_ordered, ordered_kept, total_inserted, total_ordered, total_filter, total_map}
 use Rattle.rules.proofs.rows.SliceTells.{some_mapped}

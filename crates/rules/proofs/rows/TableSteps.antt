@@ -3,15 +3,15 @@ use Rattle.std.proofs.Common.{◌≡◌, ℕ, Bool, true, false, ◌&&◌, not, 
 use Rattle.std.specs.Prelude.{◌==◌, if◌then◌else◌, Option, Some, None, option_map, find, is_some, ℤ}
 use Rattle.std.specs.List.{list_any}
 use Rattle.std.proofs.lemmas.Bool.{eqb-true}
-use Rattle.label.specs.Values.{same_text}
-use Rattle.label.specs.declared.lot.LotId.{LotId}
+use Rattle.values.specs.Values.{same_text}
+use Rattle.values.specs.declared.lot.LotId.{LotId}
 use Rattle.commands.specs.declared.rows.ReservedRow.{ReservedRow}
-use Rattle.rules.specs.Acts.{Act}
-use Rattle.rules.specs.Postings.{is_lot}
-use Rattle.rules.specs.Planning.{reserved}
-use Rattle.rules.specs.Tables.{Tables, tables_of, if_any, reserved_row}
+use Rattle.machine.specs.Acts.{Act}
+use Rattle.machine.specs.Postings.{is_lot}
+use Rattle.machine.specs.Planning.{reserved}
+use Rattle.machine.specs.Tables.{Tables, tables_of, if_any, reserved_row}
 use Rattle.rules.specs.Slices.{changed, unless_put, differs, NamesChangedReservations}
-use Rattle.rules.specs.declared.slice.Change.{Change}
+use Rattle.row_rules.specs.declared.slice.Change.{Change}
 
 pub same_tables : (t u : Tables) → t.meta ≡ u.meta → ((g : List ℕ) → t.item g ≡ u.item g) → ((b : List ℕ) → t.bin b ≡ u.bin b)
     → ((l : LotId) → t.lot l ≡ u.lot l) → ((l : LotId) → t.recall l ≡ u.recall l) → ((l : LotId) (b : List ℕ) → t.stock l b ≡ u.stock l b)

@@ -2,8 +2,8 @@
 use Rattle.std.proofs.Common.{◌≡◌, Bool, true, false, not, List, [], ◌∷◌, refl, ap, sym, ◌∙◌}
 use Rattle.std.specs.Prelude.{if◌then◌else◌, Option, Some, None, find, filter}
 use Rattle.std.specs.List.{list_any}
-use Rattle.rules.specs.Slices.{AreRows, AreOwn, no_two}
-use Rattle.rules.proofs.Tests.{and_both, or_none, not_true}
+use Rattle.machine.specs.KeyedRows.{AreRows, AreOwn, no_two}
+use Rattle.machine.proofs.Tests.{and_both, or_none, not_true}
 use Rattle.rules.proofs.rows.AfterRows.{rows_after}
 use Rattle.rules.proofs.rows.AddedRows.{not_found}
 

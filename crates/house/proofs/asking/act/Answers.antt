@@ -1,6 +1,6 @@
 use Rattle.std.proofs.Common.{◌≡◌, true, sym, subst, rules}
 use Rattle.std.specs.Prelude.{◌⊎◌}
-use Rattle.rules.specs.Once.{IsSoundRequest}
+use Rattle.machine.specs.Once.{IsSoundRequest}
 use Rattle.house.specs.Answers.{is_served, act_answer, acts_with}
 use Rattle.house.specs.Asking.{act_of, IsDone, IsUndone}
 use Rattle.house.proofs.Acting.{acted}

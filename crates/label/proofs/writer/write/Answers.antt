@@ -1,5 +1,5 @@
 use Rattle.std.proofs.Common.{IsTrue, ap, subst, ◌∙◌}
-use Rattle.label.specs.Values.{is_gtin, is_lot_text}
+use Rattle.values.specs.Values.{is_gtin, is_lot_text}
 use Rattle.label.specs.Labels.{label_text, label_read}
 use Rattle.label.specs.Expiry.{expiry_text}
 use Rattle.label.proofs.ReadLaws.{label_read-label_text}

@@ -1,27 +1,27 @@
 -- Adjustments are decided as the machine decides them.
 use Rattle.std.proofs.Common.{◌≡◌, ℕ, ◌+◌, ◌-◌, ◌≤◌, List, ◌∷◌, ◌++◌, refl, ap, sym, subst, ◌∙◌, arith, lit≤}
 use Rattle.std.specs.Prelude.{ℤ, pos, negsuc, Result}
-use Rattle.label.specs.declared.lot.LotId.{LotId}
+use Rattle.values.specs.declared.lot.LotId.{LotId}
 use Rattle.commands.specs.declared.limits.TheConstants.{UNITS_MAX}
 use Rattle.commands.specs.declared.key.Key.{Key}
 use Rattle.commands.specs.declared.command.Adjustment.{Adjustment}
 use Rattle.commands.specs.declared.command.Command.TheVariants.{Adjust}
-use Rattle.rules.specs.Acts.{Act, next_number}
-use Rattle.rules.specs.Postings.{InBin, WriteOff}
-use Rattle.rules.specs.Ledger.{posting, written}
-use Rattle.rules.specs.Planning.{in_bin, units_in_house}
-use Rattle.rules.specs.Verdict.{taken_off, put_on}
-use Rattle.rules.specs.Once.{IsHistory}
-use Rattle.rules.specs.Tables.{tables_of}
+use Rattle.machine.specs.Acts.{Act, next_number}
+use Rattle.machine.specs.Postings.{InBin, WriteOff}
+use Rattle.machine.specs.Ledger.{posting, written}
+use Rattle.machine.specs.Planning.{in_bin, units_in_house}
+use Rattle.machine.specs.Verdict.{taken_off, put_on}
+use Rattle.machine.specs.Once.{IsHistory}
+use Rattle.machine.specs.Tables.{tables_of}
 use Rattle.rules.specs.Slices.{IsSlice}
-use Rattle.rules.specs.Seen.{capped}
-use Rattle.rules.specs.DecidedCount.{units_adjusted, adjust_seen, adjust_changes, corrections}
-use Rattle.rules.specs.declared.slice.Slice.{Slice}
-use Rattle.rules.specs.declared.slice.Change.{Change}
-use Rattle.rules.specs.declared.slice.RuleFault.{RuleFault}
-use Rattle.rules.proofs.Walking.{append_none}
-use Rattle.rules.proofs.Tests.{same_text_refl}
-use Rattle.rules.proofs.histories.Accepted.{adjust_accepted}
+use Rattle.row_rules.specs.Seen.{capped}
+use Rattle.row_rules.specs.DecidedCount.{units_adjusted, adjust_seen, adjust_changes, corrections}
+use Rattle.row_rules.specs.declared.slice.Slice.{Slice}
+use Rattle.row_rules.specs.declared.slice.Change.{Change}
+use Rattle.row_rules.specs.declared.slice.RuleFault.{RuleFault}
+use Rattle.row_rules.proofs.Walking.{append_none}
+use Rattle.machine.proofs.Tests.{same_text_refl}
+use Rattle.machine.proofs.histories.Accepted.{adjust_accepted}
 use Rattle.rules.proofs.rows.LotUnits.{bin_within_limit}
 use Rattle.rules.proofs.rows.LotTold.{in_bin_told}
 use Rattle.rules.proofs.decided.Decisions.{AreRight, IsChange}

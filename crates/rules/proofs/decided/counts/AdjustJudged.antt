@@ -6,15 +6,15 @@ use Rattle.commands.specs.declared.key.Key.{Key}
 use Rattle.commands.specs.declared.command.Adjustment.{Adjustment}
 use Rattle.commands.specs.declared.command.Command.TheVariants.{Adjust}
 use Rattle.commands.specs.declared.refusal.Refusal.TheVariants.{ActsFull, UnknownItem, UnknownBin, UnknownLot, NotInBin, OverUnits}
-use Rattle.rules.specs.Acts.{Act}
-use Rattle.rules.specs.Once.{IsHistory}
-use Rattle.rules.specs.Tables.{tables_of}
-use Rattle.rules.specs.Touched.{is_touched}
+use Rattle.machine.specs.Acts.{Act}
+use Rattle.machine.specs.Once.{IsHistory}
+use Rattle.machine.specs.Tables.{tables_of}
+use Rattle.machine.specs.Touched.{is_touched}
 use Rattle.rules.specs.Slices.{IsSlice}
-use Rattle.rules.specs.DecidedCount.{adjust_seen}
-use Rattle.rules.specs.Verdict.{first_refusal, verdict, taken_off}
-use Rattle.rules.specs.declared.slice.Slice.{Slice}
-use Rattle.rules.proofs.Tests.{same_text_refl}
+use Rattle.row_rules.specs.DecidedCount.{adjust_seen}
+use Rattle.machine.specs.Verdict.{first_refusal, verdict, taken_off}
+use Rattle.row_rules.specs.declared.slice.Slice.{Slice}
+use Rattle.machine.proofs.Tests.{same_text_refl}
 use Rattle.rules.proofs.rows.SliceTells.{item_told, bin_told}
 use Rattle.rules.proofs.rows.LotTold.{lot_known_told, in_bin_told}
 use Rattle.rules.proofs.decided.Decisions.{acts_seen}

@@ -2,8 +2,8 @@
 use Rattle.std.proofs.Common.{◌≡◌, ℕ, Bool, true, false, ◌&&◌, List, [], ◌∷◌, ◌++◌, refl, ap, sym, ◌∙◌}
 use Rattle.std.specs.Prelude.{◌==◌, ◌||◌, if◌then◌else◌, nat_le, length, codes, decimal, find, ℤ, pos, int_lt}
 use Rattle.std.specs.List.{list_any}
-use Rattle.label.specs.Values.{same_text}
-use Rattle.label.specs.declared.lot.LotId.{LotId}
+use Rattle.values.specs.Values.{same_text}
+use Rattle.values.specs.declared.lot.LotId.{LotId}
 use Rattle.commands.specs.declared.limits.TheConstants.{ACTS_MAX}
 use Rattle.commands.specs.declared.rows.CardKind.{CardKind}
 use Rattle.commands.specs.declared.rows.CardKind.TheVariants.{WriteOn, WriteOff as WrittenOff}
@@ -15,26 +15,27 @@ use Rattle.commands.specs.declared.rows.LineRow.{LineRow}
 use Rattle.commands.specs.declared.rows.StagedRow.{StagedRow}
 use Rattle.commands.specs.declared.rows.CardRow.{CardRow}
 use Rattle.commands.specs.declared.rows.ReservedRow.{ReservedRow}
-use Rattle.rules.specs.Acts.{Act}
-use Rattle.rules.specs.Postings.{is_lot, of_item}
-use Rattle.rules.specs.Standing.{has_line, today}
-use Rattle.rules.specs.Ledger.{postings}
-use Rattle.rules.specs.Planning.{is_open}
-use Rattle.rules.specs.Cards.{lot_units_in_house}
-use Rattle.rules.specs.Once.{IsHistory}
-use Rattle.rules.specs.Tables.{tables_of, bin_row, lot_row, stock_row, order_row, line_row, staged_row}
-use Rattle.rules.specs.Touched.{is_touched}
-use Rattle.rules.specs.Slices.{IsSlice, applied, no_two, same_cell, same_line, same_share}
-use Rattle.rules.specs.Seen.{no_rows}
-use Rattle.rules.specs.SeenLots.{stock_put, stock_gone}
-use Rattle.rules.specs.Plans.{rows_to_put, rows_to_drop}
-use Rattle.rules.specs.Decided.{lot_units}
-use Rattle.rules.specs.DecidedCount.{stock_corrected, shares_corrected, correction_card, correction_cards, change_reply, corrections}
-use Rattle.rules.specs.declared.slice.Slice.{Slice}
-use Rattle.rules.proofs.Tests.{same_text_refl, same_text_turned}
-use Rattle.rules.proofs.histories.Accepted.{room_for_acts}
-use Rattle.rules.proofs.histories.Cells.{Legal}
-use Rattle.rules.proofs.histories.LegalHistories.{legal_history}
+use Rattle.machine.specs.Acts.{Act}
+use Rattle.machine.specs.Postings.{is_lot, of_item}
+use Rattle.machine.specs.Standing.{has_line, today}
+use Rattle.machine.specs.Ledger.{postings}
+use Rattle.machine.specs.Planning.{is_open}
+use Rattle.machine.specs.Cards.{lot_units_in_house}
+use Rattle.machine.specs.Once.{IsHistory}
+use Rattle.machine.specs.Tables.{tables_of, bin_row, lot_row, stock_row, order_row, line_row, staged_row}
+use Rattle.machine.specs.Touched.{is_touched}
+use Rattle.machine.specs.KeyedRows.{no_two, same_cell, same_line, same_share}
+use Rattle.rules.specs.Slices.{IsSlice, applied}
+use Rattle.row_rules.specs.Seen.{no_rows}
+use Rattle.row_rules.specs.SeenLots.{stock_put, stock_gone}
+use Rattle.row_rules.specs.Plans.{rows_to_put, rows_to_drop}
+use Rattle.row_rules.specs.Decided.{lot_units}
+use Rattle.row_rules.specs.DecidedCount.{stock_corrected, shares_corrected, correction_card, correction_cards, change_reply, corrections}
+use Rattle.row_rules.specs.declared.slice.Slice.{Slice}
+use Rattle.machine.proofs.Tests.{same_text_refl, same_text_turned}
+use Rattle.machine.proofs.histories.Accepted.{room_for_acts}
+use Rattle.machine.proofs.histories.Cells.{Legal}
+use Rattle.machine.proofs.histories.LegalHistories.{legal_history}
 use Rattle.rules.proofs.rows.AfterRows.{loosened}
 use Rattle.rules.proofs.rows.DemandsTold.{TellsDemands}
 use Rattle.rules.proofs.rows.SuppliesTold.{TellsSupplies}

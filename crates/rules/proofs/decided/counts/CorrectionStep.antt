@@ -4,8 +4,8 @@ use Rattle.std.specs.Prelude.{zero, ◌==◌, if◌then◌else◌, ℤ, pos, neg
 use Rattle.std.specs.List.{list_all, list_any}
 use Rattle.std.proofs.lemmas.Bool.Decides.{nat_tests}
 use borrow.Author.Tests.{lt-ltb}
-use Rattle.label.specs.Values.{same_text}
-use Rattle.label.specs.declared.lot.LotId.{LotId}
+use Rattle.values.specs.Values.{same_text}
+use Rattle.values.specs.declared.lot.LotId.{LotId}
 use Rattle.commands.specs.declared.command.NewItem.{NewItem}
 use Rattle.commands.specs.declared.command.NewBin.{NewBin}
 use Rattle.commands.specs.declared.command.OrderLine.{OrderLine}
@@ -16,27 +16,28 @@ use Rattle.commands.specs.declared.rows.CardKind.TheVariants.{WriteOn, WriteOff 
 use Rattle.commands.specs.declared.rows.StockRow.{StockRow}
 use Rattle.commands.specs.declared.rows.CardRow.{CardRow}
 use Rattle.commands.specs.declared.rows.ReservedRow.{ReservedRow}
-use Rattle.rules.specs.Acts.{Act, gathered, next_number}
-use Rattle.rules.specs.Postings.{Place, InBin, WriteOff, Posting, balance, is_lot, is_stage, is_shipped_to, is_shipment, of_item, is_bin}
-use Rattle.rules.specs.Standing.{items, bins, lots, hold_in, recall_in, orders, cancel_in, says_held, KnownLot, Recalling, Placed, lines_placed, today, shipments, lines_of, has_line}
-use Rattle.rules.specs.Ledger.{posting, postings, postings_of}
-use Rattle.rules.specs.Planning.{in_bin, shipped_of, shipped, is_open, is_open_state, order_state}
-use Rattle.rules.specs.Verdict.{taken_off, put_on}
-use Rattle.rules.specs.Cards.{cards, card_lines, lot_units_in_house}
-use Rattle.rules.specs.Replies.{further_field, change_field}
-use Rattle.rules.specs.Touched.{is_touched}
-use Rattle.rules.specs.Tables.{tables_of, meta_row, if_any, item_row, bin_row, lot_row, recall_row, stock_row, order_row, line_row, staged_row, shipment_row, shipline_row, card_row, reserved_row}
-use Rattle.rules.specs.Slices.{applied, tables_but_repeats, changed, unless_put, names_bin, LotBin, same_cell}
-use Rattle.rules.specs.Seen.{no_rows}
-use Rattle.rules.specs.SeenLots.{stock_found, stock_put, stock_gone}
-use Rattle.rules.specs.declared.slice.Change.{Change}
-use Rattle.rules.proofs.histories.Cells.{Legal}
-use Rattle.rules.proofs.histories.LegalHistories.{legal_posting}
-use Rattle.rules.proofs.histories.Balances.{bin_balance-posted, balance-elsewhere, balance-elsewhere_of}
+use Rattle.machine.specs.Acts.{Act, gathered, next_number}
+use Rattle.machine.specs.Postings.{Place, InBin, WriteOff, Posting, balance, is_lot, is_stage, is_shipped_to, is_shipment, of_item, is_bin}
+use Rattle.machine.specs.Standing.{items, bins, lots, hold_in, recall_in, orders, cancel_in, says_held, KnownLot, Recalling, Placed, lines_placed, today, shipments, lines_of, has_line}
+use Rattle.machine.specs.Ledger.{posting, postings, postings_of}
+use Rattle.machine.specs.Planning.{in_bin, shipped_of, shipped, is_open, is_open_state, order_state}
+use Rattle.machine.specs.Verdict.{taken_off, put_on}
+use Rattle.machine.specs.Cards.{cards, card_lines, lot_units_in_house}
+use Rattle.machine.specs.Replies.{further_field, change_field}
+use Rattle.machine.specs.Touched.{is_touched}
+use Rattle.machine.specs.Tables.{tables_of, meta_row, if_any, item_row, bin_row, lot_row, recall_row, stock_row, order_row, line_row, staged_row, shipment_row, shipline_row, card_row, reserved_row}
+use Rattle.machine.specs.KeyedRows.{LotBin, same_cell}
+use Rattle.rules.specs.Slices.{applied, tables_but_repeats, changed, unless_put, names_bin}
+use Rattle.row_rules.specs.Seen.{no_rows}
+use Rattle.row_rules.specs.SeenLots.{stock_found, stock_put, stock_gone}
+use Rattle.row_rules.specs.declared.slice.Change.{Change}
+use Rattle.machine.proofs.histories.Cells.{Legal}
+use Rattle.machine.proofs.histories.LegalHistories.{legal_posting}
+use Rattle.machine.proofs.histories.Balances.{bin_balance-posted, balance-elsewhere, balance-elsewhere_of}
 use Rattle.rules.proofs.rows.TableSteps.{same_tables}
 use Rattle.rules.proofs.rows.StockChanged.{with_units, cell_changed, stock_row_with}
-use Rattle.rules.proofs.rows.PlaceRows.{and_turned}
-use Rattle.rules.proofs.Tests.{same_text_refl, is_lot_refl}
+use Rattle.machine.proofs.histories.PlaceRows.{and_turned}
+use Rattle.machine.proofs.Tests.{same_text_refl, is_lot_refl}
 
 -- the act makes nothing known: no item, bin, lot, hold, recall, order, shipment or day
 pub record MakesNothingKnown (first : ℤ) (act : Act) (acts : List Act) : Type 0 where

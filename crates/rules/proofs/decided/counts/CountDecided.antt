@@ -5,20 +5,20 @@ use borrow.Author.Tests.{ltb-false, ltb-true}
 use Rattle.commands.specs.declared.key.Key.{Key}
 use Rattle.commands.specs.declared.command.Recount.{Recount}
 use Rattle.commands.specs.declared.command.Command.TheVariants.{Count}
-use Rattle.rules.specs.Acts.{Act, next_number}
-use Rattle.rules.specs.Postings.{InBin, WriteOff}
-use Rattle.rules.specs.Ledger.{posting}
-use Rattle.rules.specs.Planning.{in_bin}
-use Rattle.rules.specs.Verdict.{taken_off, put_on}
-use Rattle.rules.specs.Once.{IsHistory}
-use Rattle.rules.specs.Tables.{tables_of}
+use Rattle.machine.specs.Acts.{Act, next_number}
+use Rattle.machine.specs.Postings.{InBin, WriteOff}
+use Rattle.machine.specs.Ledger.{posting}
+use Rattle.machine.specs.Planning.{in_bin}
+use Rattle.machine.specs.Verdict.{taken_off, put_on}
+use Rattle.machine.specs.Once.{IsHistory}
+use Rattle.machine.specs.Tables.{tables_of}
 use Rattle.rules.specs.Slices.{IsSlice}
-use Rattle.rules.specs.SeenLots.{in_bin_seen}
-use Rattle.rules.specs.DecidedCount.{SIGNED_CAP, found_less, count_seen, count_changes, corrections}
-use Rattle.rules.specs.declared.slice.Slice.{Slice}
-use Rattle.rules.specs.declared.slice.Change.{Change}
-use Rattle.rules.specs.declared.slice.RuleFault.{RuleFault}
-use Rattle.rules.proofs.Tests.{same_text_refl}
+use Rattle.row_rules.specs.SeenLots.{in_bin_seen}
+use Rattle.row_rules.specs.DecidedCount.{SIGNED_CAP, found_less, count_seen, count_changes, corrections}
+use Rattle.row_rules.specs.declared.slice.Slice.{Slice}
+use Rattle.row_rules.specs.declared.slice.Change.{Change}
+use Rattle.row_rules.specs.declared.slice.RuleFault.{RuleFault}
+use Rattle.machine.proofs.Tests.{same_text_refl}
 use Rattle.rules.proofs.rows.LotUnits.{bin_within_limit}
 use Rattle.rules.proofs.rows.LotTold.{in_bin_told}
 use Rattle.rules.proofs.decided.Decisions.{AreRight, IsChange}

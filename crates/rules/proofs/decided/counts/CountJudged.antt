@@ -7,18 +7,18 @@ use Rattle.commands.specs.declared.command.Recount.{Recount}
 use Rattle.commands.specs.declared.command.Command.TheVariants.{Count}
 use Rattle.commands.specs.declared.refusal.Refusal.TheVariants.{ActsFull, UnknownItem, UnknownBin, UnknownLot, OverUnits}
 use borrow.Author.Tests.{ltb-false, ltb-true, lt-ltb, le-ltb}
-use Rattle.rules.specs.Acts.{Act}
-use Rattle.rules.specs.Planning.{in_bin, units_in_house}
-use Rattle.rules.specs.Once.{IsHistory}
-use Rattle.rules.specs.Tables.{tables_of}
-use Rattle.rules.specs.Touched.{is_touched}
+use Rattle.machine.specs.Acts.{Act}
+use Rattle.machine.specs.Planning.{in_bin, units_in_house}
+use Rattle.machine.specs.Once.{IsHistory}
+use Rattle.machine.specs.Tables.{tables_of}
+use Rattle.machine.specs.Touched.{is_touched}
 use Rattle.rules.specs.Slices.{IsSlice}
-use Rattle.rules.specs.Seen.{capped, stock_units, staged_units}
-use Rattle.rules.specs.DecidedCount.{is_over_without, count_seen}
-use Rattle.rules.specs.Verdict.{first_refusal, verdict, taken_off, put_on}
-use Rattle.rules.specs.declared.slice.Slice.{Slice}
-use Rattle.rules.proofs.Tests.{same_text_refl}
-use Rattle.rules.proofs.histories.UnitsLimit.{units_within_limit}
+use Rattle.row_rules.specs.Seen.{capped, stock_units, staged_units}
+use Rattle.row_rules.specs.DecidedCount.{is_over_without, count_seen}
+use Rattle.machine.specs.Verdict.{first_refusal, verdict, taken_off, put_on}
+use Rattle.row_rules.specs.declared.slice.Slice.{Slice}
+use Rattle.machine.proofs.Tests.{same_text_refl}
+use Rattle.machine.proofs.histories.UnitsLimit.{units_within_limit}
 use Rattle.rules.proofs.rows.LotUnits.{bin_within_limit}
 use Rattle.rules.proofs.rows.SliceTells.{item_told, bin_told}
 use Rattle.rules.proofs.rows.LotTold.{lot_known_told, in_bin_told}

@@ -1,25 +1,26 @@
 -- The opening of a day is decided as the machine decides it.
 use Rattle.std.proofs.Common.{◌≡◌, ℕ, true, false, ◌&&◌, List, ◌∷◌, refl, ◌∙◌, arith}
 use Rattle.std.specs.Prelude.{ℤ, Result, nat_le, length}
-use Rattle.label.specs.Values.{same_text}
-use Rattle.label.specs.declared.lot.LotId.{LotId}
+use Rattle.values.specs.Values.{same_text}
+use Rattle.values.specs.declared.lot.LotId.{LotId}
 use Rattle.commands.specs.declared.limits.TheConstants.{ACTS_MAX}
 use Rattle.commands.specs.declared.key.Key.{Key}
 use Rattle.commands.specs.declared.command.Command.TheVariants.{OpenDay}
 use Rattle.commands.specs.declared.rows.ReservedRow.{ReservedRow}
-use Rattle.rules.specs.Acts.{Act, next_number}
-use Rattle.rules.specs.Postings.{is_lot}
-use Rattle.rules.specs.Once.{IsHistory}
-use Rattle.rules.specs.Tables.{tables_of, meta_row, reserved_row}
-use Rattle.rules.specs.Slices.{IsSlice, applied, tables_but_repeats, changed, no_two}
-use Rattle.rules.specs.Seen.{no_rows}
-use Rattle.rules.specs.Plans.{is_share_of}
-use Rattle.rules.specs.DecidedHold.{bins_with_returns}
-use Rattle.rules.specs.DecidedDay.{day_judged, day_changes, day_put, day_dropped, day_reply, gtins_seen, meta_on, staged_kept_on, staged_gone_on, stock_on, stock_returned}
-use Rattle.rules.specs.declared.slice.Slice.{Slice}
-use Rattle.rules.specs.declared.slice.Change.{Change}
-use Rattle.rules.specs.declared.slice.RuleFault.{RuleFault}
-use Rattle.rules.proofs.histories.Accepted.{room_for_acts}
+use Rattle.machine.specs.Acts.{Act, next_number}
+use Rattle.machine.specs.Postings.{is_lot}
+use Rattle.machine.specs.Once.{IsHistory}
+use Rattle.machine.specs.Tables.{tables_of, meta_row, reserved_row}
+use Rattle.machine.specs.KeyedRows.{no_two}
+use Rattle.rules.specs.Slices.{IsSlice, applied, tables_but_repeats, changed}
+use Rattle.row_rules.specs.Seen.{no_rows}
+use Rattle.row_rules.specs.Plans.{is_share_of}
+use Rattle.row_rules.specs.DecidedHold.{bins_with_returns}
+use Rattle.row_rules.specs.DecidedDay.{day_judged, day_changes, day_put, day_dropped, day_reply, gtins_seen, meta_on, staged_kept_on, staged_gone_on, stock_on, stock_returned}
+use Rattle.row_rules.specs.declared.slice.Slice.{Slice}
+use Rattle.row_rules.specs.declared.slice.Change.{Change}
+use Rattle.row_rules.specs.declared.slice.RuleFault.{RuleFault}
+use Rattle.machine.proofs.histories.Accepted.{room_for_acts}
 use Rattle.rules.proofs.rows.TableSteps.{same_tables, AreNamed, names_changed, reserved_changed}
 use Rattle.rules.proofs.rows.ItemsReplanned.{items_replanned, items_put_once}
 use Rattle.rules.proofs.rows.LeavingLots.{order_row_still, line_row_still, shipline_row_still, card_row_still}

@@ -5,12 +5,12 @@ use Rattle.commands.specs.declared.limits.TheConstants.{ACTS_MAX}
 use Rattle.commands.specs.declared.key.Key.{Key}
 use Rattle.commands.specs.declared.command.Command.TheVariants.{OpenDay}
 use Rattle.commands.specs.declared.refusal.Refusal.TheVariants.{ActsFull, DayNotLater}
-use Rattle.rules.specs.Acts.{Act}
-use Rattle.rules.specs.Tables.{tables_of}
+use Rattle.machine.specs.Acts.{Act}
+use Rattle.machine.specs.Tables.{tables_of}
 use Rattle.rules.specs.Slices.{IsSlice}
-use Rattle.rules.specs.Verdict.{first_refusal, verdict}
-use Rattle.rules.specs.DecidedDay.{day_judged}
-use Rattle.rules.specs.declared.slice.Slice.{Slice}
+use Rattle.machine.specs.Verdict.{first_refusal, verdict}
+use Rattle.row_rules.specs.DecidedDay.{day_judged}
+use Rattle.row_rules.specs.declared.slice.Slice.{Slice}
 use Rattle.rules.proofs.decided.Decisions.{acts_seen, day_seen}
 
 module _ (first : ℤ) (acts : List Act) (key : Key) (day : ℤ) (s : Slice) (slice : IsSlice first (record { key = key; command = OpenDay day }) acts (tables_of first acts) s) where

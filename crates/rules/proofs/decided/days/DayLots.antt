@@ -2,30 +2,31 @@
 use Rattle.std.proofs.Common.{◌≡◌, ℕ, Bool, true, false, ◌&&◌, not, List, [], ◌∷◌, refl, ap, sym, ◌∙◌}
 use Rattle.std.specs.Prelude.{◌||◌, ◌==◌, if◌then◌else◌, ℤ, Option, Some, None, find, filter, map, is_some}
 use Rattle.std.specs.List.{list_any}
-use Rattle.label.specs.Values.{same_text}
-use Rattle.label.specs.declared.lot.LotId.{LotId}
+use Rattle.values.specs.Values.{same_text}
+use Rattle.values.specs.declared.lot.LotId.{LotId}
 use Rattle.commands.specs.declared.key.Key.{Key}
 use Rattle.commands.specs.declared.command.Command.TheVariants.{OpenDay}
 use Rattle.commands.specs.declared.rows.ItemRow.{ItemRow}
 use Rattle.commands.specs.declared.rows.LotRow.{LotRow}
-use Rattle.rules.specs.Acts.{Act, next_number}
-use Rattle.rules.specs.Postings.{is_lot, of_item}
-use Rattle.rules.specs.Standing.{KnownLot, Placed, lots, lots_of, lot_known, is_held, is_recalled, is_expired, is_shippable, has_item, orders, today}
-use Rattle.rules.specs.Ledger.{returned, postings}
-use Rattle.rules.specs.Planning.{staged_of_lot}
-use Rattle.rules.specs.Once.{IsHistory}
-use Rattle.rules.specs.Tables.{tables_of, lot_row, item_row}
-use Rattle.rules.specs.Touched.{is_touched}
-use Rattle.rules.specs.Slices.{IsSlice, AreRows, AreOwn, no_two}
-use Rattle.rules.specs.Verdict.{is_past}
-use Rattle.rules.specs.Seen.{lot_seen}
-use Rattle.rules.specs.DecidedPick.{is_past_row}
-use Rattle.rules.specs.DecidedDay.{is_out, gtins_seen}
-use Rattle.rules.specs.declared.slice.Slice.{Slice}
-use Rattle.rules.proofs.Tests.{or_first, same_text_is, same_text_refl, is_lot_is}
-use Rattle.rules.proofs.Apart.{AllFound, any_found}
-use Rattle.rules.proofs.histories.Lots.{same_known, lots_found}
-use Rattle.rules.proofs.histories.LotItems.{lots_have_items, item_of_lot}
+use Rattle.machine.specs.Acts.{Act, next_number}
+use Rattle.machine.specs.Postings.{is_lot, of_item}
+use Rattle.machine.specs.Standing.{KnownLot, Placed, lots, lots_of, lot_known, is_held, is_recalled, is_expired, is_shippable, has_item, orders, today}
+use Rattle.machine.specs.Ledger.{returned, postings}
+use Rattle.machine.specs.Planning.{staged_of_lot}
+use Rattle.machine.specs.Once.{IsHistory}
+use Rattle.machine.specs.Tables.{tables_of, lot_row, item_row}
+use Rattle.machine.specs.Touched.{is_touched}
+use Rattle.machine.specs.KeyedRows.{AreRows, AreOwn, no_two}
+use Rattle.rules.specs.Slices.{IsSlice}
+use Rattle.machine.specs.Verdict.{is_past}
+use Rattle.row_rules.specs.Seen.{lot_seen}
+use Rattle.row_rules.specs.DecidedPick.{is_past_row}
+use Rattle.row_rules.specs.DecidedDay.{is_out, gtins_seen}
+use Rattle.row_rules.specs.declared.slice.Slice.{Slice}
+use Rattle.machine.proofs.Tests.{or_first, same_text_is, same_text_refl, is_lot_is}
+use Rattle.machine.proofs.Apart.{AllFound, any_found}
+use Rattle.machine.proofs.histories.Lots.{same_known, lots_found}
+use Rattle.machine.proofs.histories.LotItems.{lots_have_items, item_of_lot}
 use Rattle.rules.proofs.rows.FoundRows.{found_passes}
 use Rattle.rules.proofs.rows.LotStateTold.{past_told}
 use Rattle.rules.proofs.rows.SliceTells.{item_told}

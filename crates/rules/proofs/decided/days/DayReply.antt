@@ -2,31 +2,31 @@
 use Rattle.std.proofs.Common.{◌≡◌, ℕ, ◌+◌, ◌*◌, ◌≤◌, Bool, true, false, ◌&&◌, List, [], ◌∷◌, ◌++◌, refl, ap, sym, ◌∙◌, arith}
 use Rattle.std.specs.Prelude.{◌||◌, if◌then◌else◌, ℤ, length, nat_le, codes, decimal}
 use Rattle.std.specs.List.{list_any}
-use Rattle.label.specs.Values.{same_text}
-use Rattle.label.specs.declared.lot.LotId.{LotId}
+use Rattle.values.specs.Values.{same_text}
+use Rattle.values.specs.declared.lot.LotId.{LotId}
 use Rattle.commands.specs.Lists.{total}
 use Rattle.commands.specs.declared.limits.TheConstants.{ACTS_MAX, UNITS_MAX}
 use Rattle.commands.specs.declared.key.Key.{Key}
 use Rattle.commands.specs.declared.command.NewItem.{NewItem}
 use Rattle.commands.specs.declared.command.Command.TheVariants.{OpenDay}
 use Rattle.commands.specs.declared.rows.StagedRow.{StagedRow}
-use Rattle.rules.specs.Acts.{Act}
-use Rattle.rules.specs.Postings.{Place, Supplier, InBin, Stage, Shipped, WriteOff, in_house, of_item}
-use Rattle.rules.specs.Standing.{items}
-use Rattle.rules.specs.Ledger.{postings}
-use Rattle.rules.specs.Once.{IsHistory}
-use Rattle.rules.specs.Replies.{reply, returned_field, units_returned}
-use Rattle.rules.specs.Tables.{tables_of}
+use Rattle.machine.specs.Acts.{Act}
+use Rattle.machine.specs.Postings.{Place, Supplier, InBin, Stage, Shipped, WriteOff, in_house, of_item}
+use Rattle.machine.specs.Standing.{items}
+use Rattle.machine.specs.Ledger.{postings}
+use Rattle.machine.specs.Once.{IsHistory}
+use Rattle.machine.specs.Replies.{reply, returned_field, units_returned}
+use Rattle.machine.specs.Tables.{tables_of}
 use Rattle.rules.specs.Slices.{IsSlice}
-use Rattle.rules.specs.DecidedDay.{is_out, units_out, day_reply}
-use Rattle.rules.specs.declared.slice.Slice.{Slice}
-use Rattle.rules.proofs.Tests.{and_both, same_text_turned}
-use Rattle.rules.proofs.Apart.{any_found}
-use Rattle.rules.proofs.histories.Cells.{Cells, holds, holds_split}
-use Rattle.rules.proofs.histories.LegalHistories.{legal_history}
-use Rattle.rules.proofs.histories.LotItems.{items_within_limit}
-use Rattle.rules.proofs.histories.UnitsLimit.{units_within_limit}
-use Rattle.rules.proofs.rows.PlaceRows.{stage_cells, staged_holds}
+use Rattle.row_rules.specs.DecidedDay.{is_out, units_out, day_reply}
+use Rattle.row_rules.specs.declared.slice.Slice.{Slice}
+use Rattle.machine.proofs.Tests.{and_both, same_text_turned}
+use Rattle.machine.proofs.Apart.{any_found}
+use Rattle.machine.proofs.histories.Cells.{Cells, holds, holds_split}
+use Rattle.machine.proofs.histories.LegalHistories.{legal_history}
+use Rattle.machine.proofs.histories.LotItems.{items_within_limit}
+use Rattle.machine.proofs.histories.UnitsLimit.{units_within_limit}
+use Rattle.machine.proofs.histories.PlaceRows.{stage_cells, staged_holds}
 use Rattle.rules.proofs.rows.LeavingLots.{stages_gone, all_returned}
 use Rattle.rules.proofs.decided.Decisions.{number_same}
 use Rattle.rules.proofs.decided.days.DayLots.{out_touched, makes, item_known}

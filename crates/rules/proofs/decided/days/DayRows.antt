@@ -2,8 +2,8 @@
 use Rattle.std.proofs.Common.{◌≡◌, ℕ, ◌+◌, Bool, true, false, ◌&&◌, not, List, [], ◌∷◌, ◌++◌, refl, ap, sym, subst, ◌∙◌, arith}
 use Rattle.std.specs.Prelude.{◌==◌, ◌||◌, if◌then◌else◌, Option, Some, None, find, filter, flat_map, is_some, option_map, ℤ}
 use Rattle.std.specs.List.{list_any}
-use Rattle.label.specs.Values.{same_text}
-use Rattle.label.specs.declared.lot.LotId.{LotId}
+use Rattle.values.specs.Values.{same_text}
+use Rattle.values.specs.declared.lot.LotId.{LotId}
 use Rattle.commands.specs.Lists.{total}
 use Rattle.commands.specs.declared.key.Key.{Key}
 use Rattle.commands.specs.declared.command.NewBin.{NewBin}
@@ -14,33 +14,34 @@ use Rattle.commands.specs.declared.rows.StockRow.{StockRow}
 use Rattle.commands.specs.declared.rows.StagedRow.{StagedRow}
 use Rattle.commands.specs.declared.rows.OrderRow.{OrderRow}
 use Rattle.commands.specs.declared.rows.LineRow.{LineRow}
-use Rattle.rules.specs.Acts.{Act}
-use Rattle.rules.specs.Postings.{is_lot, of_item}
-use Rattle.rules.specs.Standing.{RETURNS, has_line}
-use Rattle.rules.specs.Ledger.{postings}
-use Rattle.rules.specs.Planning.{in_bin, is_open}
-use Rattle.rules.specs.Once.{IsHistory}
-use Rattle.rules.specs.Tables.{tables_of, if_any, bin_row, stock_row, order_row, line_row, staged_row}
-use Rattle.rules.specs.Touched.{is_touched}
-use Rattle.rules.specs.Slices.{IsSlice, AreRows, OrderLot, changed, unless_put, no_two, same_cell, same_line, same_share}
-use Rattle.rules.specs.Seen.{lot_seen}
-use Rattle.rules.specs.SeenLots.{stock_put}
-use Rattle.rules.specs.DecidedPick.{is_past_row}
-use Rattle.rules.specs.DecidedHold.{staged_of_seen, units_in_returns, returned_put, returns_bin_row, bins_with_returns}
-use Rattle.rules.specs.DecidedDay.{is_out, staged_kept_on, staged_gone_on, lot_returned_on, stock_returned, stands_in, stock_on}
-use Rattle.rules.specs.declared.slice.Slice.{Slice}
-use Rattle.rules.proofs.Tests.{and_both, and_false, is_zero, not_true, same_text_refl, same_text_is, is_lot_is, is_lot_item, is_lot_refl}
-use Rattle.rules.proofs.Apart.{any_found}
-use Rattle.rules.proofs.histories.Cells.{holds}
-use Rattle.rules.proofs.histories.LegalHistories.{legal_history}
-use Rattle.rules.proofs.histories.ReturnsBin.{returns_named}
+use Rattle.machine.specs.Acts.{Act}
+use Rattle.machine.specs.Postings.{is_lot, of_item}
+use Rattle.machine.specs.Standing.{RETURNS, has_line}
+use Rattle.machine.specs.Ledger.{postings}
+use Rattle.machine.specs.Planning.{in_bin, is_open}
+use Rattle.machine.specs.Once.{IsHistory}
+use Rattle.machine.specs.Tables.{tables_of, if_any, bin_row, stock_row, order_row, line_row, staged_row}
+use Rattle.machine.specs.Touched.{is_touched}
+use Rattle.machine.specs.KeyedRows.{AreRows, OrderLot, no_two, same_cell, same_line, same_share}
+use Rattle.rules.specs.Slices.{IsSlice, changed, unless_put}
+use Rattle.row_rules.specs.Seen.{lot_seen}
+use Rattle.row_rules.specs.SeenLots.{stock_put}
+use Rattle.row_rules.specs.DecidedPick.{is_past_row}
+use Rattle.row_rules.specs.DecidedHold.{staged_of_seen, units_in_returns, returned_put, returns_bin_row, bins_with_returns}
+use Rattle.row_rules.specs.DecidedDay.{is_out, staged_kept_on, staged_gone_on, lot_returned_on, stock_returned, stands_in, stock_on}
+use Rattle.row_rules.specs.declared.slice.Slice.{Slice}
+use Rattle.machine.proofs.Tests.{and_both, and_false, is_zero, not_true, same_text_refl, same_text_is, is_lot_is, is_lot_item, is_lot_refl}
+use Rattle.machine.proofs.Apart.{any_found}
+use Rattle.machine.proofs.histories.Cells.{holds}
+use Rattle.machine.proofs.histories.LegalHistories.{legal_history}
+use Rattle.machine.proofs.histories.ReturnsBin.{returns_named}
 use Rattle.rules.proofs.rows.AfterRows.{loosened}
 use Rattle.rules.proofs.rows.AddedRows.{find_appended, any_appended}
 use Rattle.rules.proofs.rows.DemandsTold.{TellsDemands}
 use Rattle.rules.proofs.rows.DroppedRows.{rows_left, dropped_at}
 use Rattle.rules.proofs.rows.LotTold.{in_bin_told}
 use Rattle.rules.proofs.rows.LotUnits.{bin_within_limit}
-use Rattle.rules.proofs.rows.PlaceRows.{staged_holds}
+use Rattle.machine.proofs.histories.PlaceRows.{staged_holds}
 use Rattle.rules.proofs.rows.PutRows.{rows_over}
 use Rattle.rules.proofs.rows.ReturnedRows.{still_some}
 use Rattle.rules.proofs.rows.SameKeys.{same_share_is, same_cell_is, same_cell_refl, same_cell_turned}
@@ -48,7 +49,7 @@ use Rattle.rules.proofs.rows.SliceDemands.{slice_tells_demands}
 use Rattle.rules.proofs.rows.SliceSupplies.{slice_tells_supplies}
 use Rattle.rules.proofs.rows.StockChanged.{any_kept}
 use Rattle.rules.proofs.rows.SuppliesTold.{TellsSupplies}
-use Rattle.rules.proofs.rows.UnshippableLots.{stages_of}
+use Rattle.machine.proofs.histories.UnshippableLots.{stages_of}
 use Rattle.rules.proofs.rows.LeavingLots.{MakesThemUnshippable, unstaged, staged_still, in_bin_still, in_returns, open_still, line_still, order_row_still, line_row_still}
 use Rattle.rules.proofs.decided.days.DayLots.{out_touched, makes}
 

@@ -3,30 +3,31 @@ use Rattle.std.proofs.Common.{◌≡◌, ℕ, ◌+◌, ◌-◌, ◌≤◌, Bool,
 use Rattle.std.specs.Prelude.{◌==◌, ◌||◌, if◌then◌else◌, ℤ, Option, Some, None, find, option_map, flat_map}
 use Rattle.std.proofs.lemmas.Bool.{eqb-true}
 use Rattle.std.specs.List.{list_all, list_any}
-use Rattle.label.specs.Values.{same_text}
-use Rattle.label.specs.declared.lot.LotId.{LotId}
+use Rattle.values.specs.Values.{same_text}
+use Rattle.values.specs.declared.lot.LotId.{LotId}
 use Rattle.commands.specs.declared.key.Key.{Key}
 use Rattle.commands.specs.declared.command.Movement.{Movement}
 use Rattle.commands.specs.declared.command.Command.TheVariants.{Move}
 use Rattle.commands.specs.declared.rows.OrderState.TheVariants.{Open, Done, Cancelled}
 use Rattle.commands.specs.declared.rows.StockRow.{StockRow}
 use Rattle.commands.specs.declared.rows.ReservedRow.{ReservedRow}
-use Rattle.rules.specs.Acts.{Act, next_number}
-use Rattle.rules.specs.Postings.{InBin, is_lot, is_stage, is_shipped_to, is_shipment, of_item}
-use Rattle.rules.specs.Ledger.{postings}
-use Rattle.rules.specs.Standing.{order_named, lines_of, is_cancelled}
-use Rattle.rules.specs.Planning.{in_bin, shipped_of, is_open, is_open_state}
-use Rattle.rules.specs.Cards.{cards, card_lines}
-use Rattle.rules.specs.Tables.{tables_of, meta_row, if_any, stock_row, order_row, line_row, staged_row, shipline_row, card_row, reserved_row}
-use Rattle.rules.specs.Slices.{LotBin, applied, tables_but_repeats, changed, unless_put, same_cell, no_two}
-use Rattle.rules.specs.SeenLots.{stock_found, stock_put, stock_gone}
-use Rattle.rules.specs.declared.slice.Change.{Change}
-use Rattle.rules.specs.Seen.{no_rows}
-use Rattle.rules.proofs.Tests.{same_text_refl, same_text_turned, is_lot_refl, and_false}
-use Rattle.rules.proofs.histories.Cells.{Legal}
-use Rattle.rules.proofs.histories.Balances.{bin_balance-posted, balance-elsewhere, balance-elsewhere_of}
+use Rattle.machine.specs.Acts.{Act, next_number}
+use Rattle.machine.specs.Postings.{InBin, is_lot, is_stage, is_shipped_to, is_shipment, of_item}
+use Rattle.machine.specs.Ledger.{postings}
+use Rattle.machine.specs.Standing.{order_named, lines_of, is_cancelled}
+use Rattle.machine.specs.Planning.{in_bin, shipped_of, is_open, is_open_state}
+use Rattle.machine.specs.Cards.{cards, card_lines}
+use Rattle.machine.specs.Tables.{tables_of, meta_row, if_any, stock_row, order_row, line_row, staged_row, shipline_row, card_row, reserved_row}
+use Rattle.machine.specs.KeyedRows.{LotBin, same_cell, no_two}
+use Rattle.rules.specs.Slices.{applied, tables_but_repeats, changed, unless_put}
+use Rattle.row_rules.specs.SeenLots.{stock_found, stock_put, stock_gone}
+use Rattle.row_rules.specs.declared.slice.Change.{Change}
+use Rattle.row_rules.specs.Seen.{no_rows}
+use Rattle.machine.proofs.Tests.{same_text_refl, same_text_turned, is_lot_refl, and_false}
+use Rattle.machine.proofs.histories.Cells.{Legal}
+use Rattle.machine.proofs.histories.Balances.{bin_balance-posted, balance-elsewhere, balance-elsewhere_of}
 use Rattle.rules.proofs.rows.SameKeys.{same_cell_is}
-use Rattle.rules.proofs.rows.PlaceRows.{and_turned}
+use Rattle.machine.proofs.histories.PlaceRows.{and_turned}
 use Rattle.rules.proofs.rows.AfterRows.{put_one}
 use Rattle.rules.proofs.rows.AddedRows.{find_appended}
 use Rattle.rules.proofs.rows.StockChanged.{with_units, cell_changed}

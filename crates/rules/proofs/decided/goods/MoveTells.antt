@@ -2,7 +2,7 @@
 use Rattle.std.proofs.Common.{◌≡◌, ℕ, ◌-◌, ◌≤◌, Bool, true, false, ◌&&◌, List, ◌∷◌, refl, ap, ◌∙◌, arith}
 use Rattle.std.specs.Prelude.{◌||◌, ℤ, Option, find}
 use Rattle.std.specs.List.{list_any}
-use Rattle.label.specs.Values.{same_text, is_qty, is_name}
+use Rattle.values.specs.Values.{same_text, is_qty, is_name}
 use Rattle.commands.specs.Sound.{is_lot_id}
 use Rattle.commands.specs.declared.key.Key.{Key}
 use Rattle.commands.specs.declared.command.Movement.{Movement}
@@ -12,23 +12,24 @@ use Rattle.commands.specs.declared.rows.StockRow.{StockRow}
 use Rattle.commands.specs.declared.rows.OrderRow.{OrderRow}
 use Rattle.commands.specs.declared.rows.LineRow.{LineRow}
 use Rattle.commands.specs.declared.rows.StagedRow.{StagedRow}
-use Rattle.rules.specs.Acts.{Act}
-use Rattle.rules.specs.Postings.{of_item}
-use Rattle.rules.specs.Standing.{has_line}
-use Rattle.rules.specs.Ledger.{postings}
-use Rattle.rules.specs.Planning.{is_open}
-use Rattle.rules.specs.Once.{IsHistory}
-use Rattle.rules.specs.Tables.{tables_of, bin_row, stock_row, order_row, line_row, staged_row}
-use Rattle.rules.specs.Slices.{IsSlice, AreRows, LotBin, same_cell, same_line, same_share}
-use Rattle.rules.specs.Seen.{plain_reply}
-use Rattle.rules.specs.SeenLots.{stock_rows_with}
-use Rattle.rules.specs.DecidedMove.{units_left, units_brought, stock_rows_moved}
-use Rattle.rules.specs.declared.slice.Slice.{Slice}
-use Rattle.rules.proofs.Tests.{and_both, same_text_refl}
-use Rattle.rules.proofs.decided.Quantities.{at_least_one, at_most_limit}
-use Rattle.rules.proofs.histories.Accepted.{MoveAccepted, move_accepted}
-use Rattle.rules.proofs.histories.Cells.{Legal}
-use Rattle.rules.proofs.histories.LegalHistories.{legal_history}
+use Rattle.machine.specs.Acts.{Act}
+use Rattle.machine.specs.Postings.{of_item}
+use Rattle.machine.specs.Standing.{has_line}
+use Rattle.machine.specs.Ledger.{postings}
+use Rattle.machine.specs.Planning.{is_open}
+use Rattle.machine.specs.Once.{IsHistory}
+use Rattle.machine.specs.Tables.{tables_of, bin_row, stock_row, order_row, line_row, staged_row}
+use Rattle.machine.specs.KeyedRows.{AreRows, LotBin, same_cell, same_line, same_share}
+use Rattle.rules.specs.Slices.{IsSlice}
+use Rattle.row_rules.specs.Seen.{plain_reply}
+use Rattle.row_rules.specs.SeenLots.{stock_rows_with}
+use Rattle.row_rules.specs.DecidedMove.{units_left, units_brought, stock_rows_moved}
+use Rattle.row_rules.specs.declared.slice.Slice.{Slice}
+use Rattle.machine.proofs.Tests.{and_both, same_text_refl}
+use Rattle.machine.proofs.histories.Quantities.{at_least_one, at_most_limit}
+use Rattle.machine.proofs.histories.Accepted.{MoveAccepted, move_accepted}
+use Rattle.machine.proofs.histories.Cells.{Legal}
+use Rattle.machine.proofs.histories.LegalHistories.{legal_history}
 use Rattle.rules.proofs.rows.AfterRows.{loosened}
 use Rattle.rules.proofs.rows.LotUnits.{bin_within_limit}
 use Rattle.rules.proofs.rows.LotTold.{in_bin_told}

@@ -1,26 +1,27 @@
 -- Moves are decided as the machine decides them.
 use Rattle.std.proofs.Common.{◌≡◌, ℕ, true, ◌&&◌, List, ◌∷◌, ◌++◌, refl, ap, ◌∙◌}
 use Rattle.std.specs.Prelude.{ℤ, Result}
-use Rattle.label.specs.Values.{same_text}
+use Rattle.values.specs.Values.{same_text}
 use Rattle.commands.specs.declared.key.Key.{Key}
 use Rattle.commands.specs.declared.command.Movement.{Movement}
 use Rattle.commands.specs.declared.command.Command.TheVariants.{Move}
 use Rattle.commands.specs.declared.rows.StockRow.{StockRow}
 use Rattle.commands.specs.declared.rows.ReservedRow.{ReservedRow}
-use Rattle.rules.specs.Acts.{Act}
-use Rattle.rules.specs.Postings.{is_lot}
-use Rattle.rules.specs.Once.{IsHistory}
-use Rattle.rules.specs.Tables.{tables_of}
-use Rattle.rules.specs.Slices.{IsSlice, applied, no_two}
-use Rattle.rules.specs.Seen.{no_rows, plain_reply}
-use Rattle.rules.specs.SeenLots.{stock_put, stock_gone}
-use Rattle.rules.specs.Plans.{rows_to_put, rows_to_drop}
-use Rattle.rules.specs.DecidedMove.{move_seen, move_shares, move_changes, stock_rows_moved}
-use Rattle.rules.specs.declared.slice.Slice.{Slice}
-use Rattle.rules.specs.declared.slice.Change.{Change}
-use Rattle.rules.specs.declared.slice.RuleFault.{RuleFault}
-use Rattle.rules.proofs.Tests.{same_text_refl, same_text_turned}
-use Rattle.rules.proofs.histories.Accepted.{room_for_acts}
+use Rattle.machine.specs.Acts.{Act}
+use Rattle.machine.specs.Postings.{is_lot}
+use Rattle.machine.specs.Once.{IsHistory}
+use Rattle.machine.specs.Tables.{tables_of}
+use Rattle.machine.specs.KeyedRows.{no_two}
+use Rattle.rules.specs.Slices.{IsSlice, applied}
+use Rattle.row_rules.specs.Seen.{no_rows, plain_reply}
+use Rattle.row_rules.specs.SeenLots.{stock_put, stock_gone}
+use Rattle.row_rules.specs.Plans.{rows_to_put, rows_to_drop}
+use Rattle.row_rules.specs.DecidedMove.{move_seen, move_shares, move_changes, stock_rows_moved}
+use Rattle.row_rules.specs.declared.slice.Slice.{Slice}
+use Rattle.row_rules.specs.declared.slice.Change.{Change}
+use Rattle.row_rules.specs.declared.slice.RuleFault.{RuleFault}
+use Rattle.machine.proofs.Tests.{same_text_refl, same_text_turned}
+use Rattle.machine.proofs.histories.Accepted.{room_for_acts}
 use Rattle.rules.proofs.rows.LotTold.{found_stock}
 use Rattle.rules.proofs.rows.TableSteps.{AreNamed, names_changed, reserved_changed}
 use Rattle.rules.proofs.rows.Replanned.{TouchesOnly, replanned, replanned_once}

@@ -7,20 +7,21 @@ use Rattle.commands.specs.declared.command.Command.TheVariants.{Receive}
 use Rattle.commands.specs.declared.rows.CardKind.TheVariants.{Receipt as ReceiptCard}
 use Rattle.commands.specs.declared.rows.LotRow.{LotRow}
 use Rattle.commands.specs.declared.rows.ReservedRow.{ReservedRow}
-use Rattle.rules.specs.Acts.{Act}
-use Rattle.rules.specs.Postings.{is_lot, of_item}
-use Rattle.rules.specs.Cards.{delivery_note}
-use Rattle.rules.specs.Once.{IsHistory}
-use Rattle.rules.specs.Tables.{tables_of}
-use Rattle.rules.specs.Slices.{IsSlice, applied, no_two}
-use Rattle.rules.specs.Seen.{no_rows, plain_reply}
-use Rattle.rules.specs.Plans.{rows_to_put, rows_to_drop}
-use Rattle.rules.specs.Decided.{receive_seen, receive_shares, receive_changes, lot_rows_after, stock_rows_after, lots_if_new, new_lot_row, lot_units}
-use Rattle.rules.specs.declared.slice.Slice.{Slice}
-use Rattle.rules.specs.declared.slice.Change.{Change}
-use Rattle.rules.specs.declared.slice.RuleFault.{RuleFault}
-use Rattle.rules.proofs.Tests.{same_text_refl, same_text_turned}
-use Rattle.rules.proofs.histories.Accepted.{room_for_acts}
+use Rattle.machine.specs.Acts.{Act}
+use Rattle.machine.specs.Postings.{is_lot, of_item}
+use Rattle.machine.specs.Cards.{delivery_note}
+use Rattle.machine.specs.Once.{IsHistory}
+use Rattle.machine.specs.Tables.{tables_of}
+use Rattle.machine.specs.KeyedRows.{no_two}
+use Rattle.rules.specs.Slices.{IsSlice, applied}
+use Rattle.row_rules.specs.Seen.{no_rows, plain_reply}
+use Rattle.row_rules.specs.Plans.{rows_to_put, rows_to_drop}
+use Rattle.row_rules.specs.Decided.{receive_seen, receive_shares, receive_changes, lot_rows_after, stock_rows_after, lots_if_new, new_lot_row, lot_units}
+use Rattle.row_rules.specs.declared.slice.Slice.{Slice}
+use Rattle.row_rules.specs.declared.slice.Change.{Change}
+use Rattle.row_rules.specs.declared.slice.RuleFault.{RuleFault}
+use Rattle.machine.proofs.Tests.{same_text_refl, same_text_turned}
+use Rattle.machine.proofs.histories.Accepted.{room_for_acts}
 use Rattle.rules.proofs.rows.TableSteps.{AreNamed, names_changed, reserved_changed}
 use Rattle.rules.proofs.rows.Replanned.{TouchesOnly, replanned, replanned_once}
 use Rattle.rules.proofs.rows.LotUnits.{lot_units_told}

@@ -1,31 +1,32 @@
 -- A receipt judged by its slice is judged as by the acts.
 use Rattle.std.proofs.Common.{◌≡◌, ℕ, ◌+◌, ◌≤◌, ◌<◌, Bool, true, false, ◌&&◌, not, List, [], ◌∷◌, refl, ap, sym, ◌∙◌, arith}
 use Rattle.std.specs.Prelude.{nat_lt, nat_le, ℤ}
-use Rattle.label.specs.Values.{same_text}
-use Rattle.label.specs.declared.lot.LotId.{LotId}
+use Rattle.values.specs.Values.{same_text}
+use Rattle.values.specs.declared.lot.LotId.{LotId}
 use Rattle.commands.specs.declared.limits.TheConstants.{UNITS_MAX, ACTS_MAX}
 use Rattle.commands.specs.declared.key.Key.{Key}
 use Rattle.commands.specs.declared.command.Receipt.{Receipt}
 use Rattle.commands.specs.declared.command.Command.TheVariants.{Receive}
 use Rattle.commands.specs.declared.refusal.Refusal.TheVariants.{ActsFull, UnknownItem, UnknownBin, OtherExpiry, LotRecalled, LotExpired, OverUnits}
 use borrow.Author.Tests.{ltb-false, ltb-true, lt-ltb, le-ltb}
-use Rattle.rules.specs.Acts.{Act}
-use Rattle.rules.specs.Postings.{Place, Supplier, InBin, Stage, Shipped, WriteOff, in_house, of_item}
-use Rattle.rules.specs.Standing.{is_expired}
-use Rattle.rules.specs.Ledger.{postings}
-use Rattle.rules.specs.Planning.{units_in_house}
-use Rattle.rules.specs.Once.{IsHistory}
-use Rattle.rules.specs.Tables.{tables_of, stock_row, staged_row}
-use Rattle.rules.specs.Touched.{is_touched}
-use Rattle.rules.specs.Slices.{IsSlice, AreRows, LotBin, OrderLot, same_cell, same_share}
-use Rattle.rules.specs.Seen.{capped, is_over, stock_units, staged_units}
-use Rattle.rules.specs.Decided.{receive_seen}
-use Rattle.rules.specs.Verdict.{first_refusal, verdict}
-use Rattle.rules.specs.declared.slice.Slice.{Slice}
-use Rattle.rules.proofs.Tests.{same_text_is, same_text_refl, and_not_itself}
-use Rattle.rules.proofs.histories.Cells.{without, holds, holds_split}
-use Rattle.rules.proofs.histories.LegalHistories.{legal_history}
-use Rattle.rules.proofs.rows.PlaceRows.{bin_cells, stage_cells, stock_holds, staged_holds}
+use Rattle.machine.specs.Acts.{Act}
+use Rattle.machine.specs.Postings.{Place, Supplier, InBin, Stage, Shipped, WriteOff, in_house, of_item}
+use Rattle.machine.specs.Standing.{is_expired}
+use Rattle.machine.specs.Ledger.{postings}
+use Rattle.machine.specs.Planning.{units_in_house}
+use Rattle.machine.specs.Once.{IsHistory}
+use Rattle.machine.specs.Tables.{tables_of, stock_row, staged_row}
+use Rattle.machine.specs.Touched.{is_touched}
+use Rattle.machine.specs.KeyedRows.{AreRows, LotBin, OrderLot, same_cell, same_share}
+use Rattle.rules.specs.Slices.{IsSlice}
+use Rattle.row_rules.specs.Seen.{capped, is_over, stock_units, staged_units}
+use Rattle.row_rules.specs.Decided.{receive_seen}
+use Rattle.machine.specs.Verdict.{first_refusal, verdict}
+use Rattle.row_rules.specs.declared.slice.Slice.{Slice}
+use Rattle.machine.proofs.Tests.{same_text_is, same_text_refl, and_not_itself}
+use Rattle.machine.proofs.histories.Cells.{without, holds, holds_split}
+use Rattle.machine.proofs.histories.LegalHistories.{legal_history}
+use Rattle.machine.proofs.histories.PlaceRows.{bin_cells, stage_cells, stock_holds, staged_holds}
 use Rattle.rules.proofs.decided.Decisions.{acts_seen, day_seen}
 use Rattle.rules.proofs.rows.SliceTells.{item_told, bin_told, expiry_told, recall_told}
 

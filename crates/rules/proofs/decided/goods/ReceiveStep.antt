@@ -3,8 +3,8 @@ use Rattle.std.proofs.Common.{◌≡◌, ℕ, ◌+◌, ◌≤◌, Bool, true, fa
 use Rattle.std.specs.Prelude.{◌==◌, if◌then◌else◌, ℤ, pos, Option, Some, None, find, option_map, is_some, flat_map}
 use Rattle.std.proofs.lemmas.Bool.{eqb-true}
 use Rattle.std.specs.List.{list_all}
-use Rattle.label.specs.Values.{same_text}
-use Rattle.label.specs.declared.lot.LotId.{LotId}
+use Rattle.values.specs.Values.{same_text}
+use Rattle.values.specs.declared.lot.LotId.{LotId}
 use Rattle.commands.specs.declared.key.Key.{Key}
 use Rattle.commands.specs.declared.command.Receipt.{Receipt}
 use Rattle.commands.specs.declared.command.Command.TheVariants.{Receive}
@@ -14,20 +14,20 @@ use Rattle.commands.specs.declared.rows.LotRow.{LotRow}
 use Rattle.commands.specs.declared.rows.StockRow.{StockRow}
 use Rattle.commands.specs.declared.rows.CardRow.{CardRow}
 use Rattle.commands.specs.declared.rows.ReservedRow.{ReservedRow}
-use Rattle.rules.specs.Acts.{Act, next_number}
-use Rattle.rules.specs.Postings.{Supplier, InBin, is_lot, is_stage, is_shipped_to, is_shipment, of_item}
-use Rattle.rules.specs.Ledger.{postings}
-use Rattle.rules.specs.Standing.{KnownLot, lots, lot_known, is_held, order_named, lines_of, is_cancelled, today}
-use Rattle.rules.specs.Planning.{in_bin, shipped_of, is_open, is_open_state}
-use Rattle.rules.specs.Cards.{cards, card_lines, delivery_note, lot_units_in_house}
-use Rattle.rules.specs.Tables.{tables_of, meta_row, if_any, stock_row, lot_row, order_row, line_row, staged_row, shipline_row, card_row, reserved_row}
+use Rattle.machine.specs.Acts.{Act, next_number}
+use Rattle.machine.specs.Postings.{Supplier, InBin, is_lot, is_stage, is_shipped_to, is_shipment, of_item}
+use Rattle.machine.specs.Ledger.{postings}
+use Rattle.machine.specs.Standing.{KnownLot, lots, lot_known, is_held, order_named, lines_of, is_cancelled, today}
+use Rattle.machine.specs.Planning.{in_bin, shipped_of, is_open, is_open_state}
+use Rattle.machine.specs.Cards.{cards, card_lines, delivery_note, lot_units_in_house}
+use Rattle.machine.specs.Tables.{tables_of, meta_row, if_any, stock_row, lot_row, order_row, line_row, staged_row, shipline_row, card_row, reserved_row}
 use Rattle.rules.specs.Slices.{applied, tables_but_repeats, changed, unless_put}
-use Rattle.rules.specs.declared.slice.Change.{Change}
-use Rattle.rules.specs.Seen.{no_rows}
-use Rattle.rules.proofs.Tests.{and_both, same_text_is, is_lot_is}
-use Rattle.rules.proofs.histories.Cells.{Legal}
-use Rattle.rules.proofs.rows.PlaceRows.{and_turned}
-use Rattle.rules.proofs.histories.Balances.{bin_balance-posted, balance-elsewhere, balance-elsewhere_of}
+use Rattle.row_rules.specs.declared.slice.Change.{Change}
+use Rattle.row_rules.specs.Seen.{no_rows}
+use Rattle.machine.proofs.Tests.{and_both, same_text_is, is_lot_is}
+use Rattle.machine.proofs.histories.Cells.{Legal}
+use Rattle.machine.proofs.histories.PlaceRows.{and_turned}
+use Rattle.machine.proofs.histories.Balances.{bin_balance-posted, balance-elsewhere, balance-elsewhere_of}
 use Rattle.rules.proofs.rows.TableSteps.{same_tables}
 
 some_any : {X : Type 0} (q : ℕ) (x : X) → 1 ≤ q → Some x ≡ if_any q x

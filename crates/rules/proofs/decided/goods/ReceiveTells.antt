@@ -2,8 +2,9 @@
 use Rattle.std.proofs.Common.{◌≡◌, ℕ, ◌+◌, ◌≤◌, Bool, true, false, ◌&&◌, not, List, [], ◌∷◌, ◌++◌, refl, ap, sym, subst, ◌∙◌, arith}
 use Rattle.std.specs.Prelude.{◌||◌, if◌then◌else◌, ℤ, Option, Some, None, find, filter, is_some, option_map}
 use Rattle.std.specs.List.{list_any}
-use Rattle.label.specs.Values.{same_text, is_qty, is_day, is_name}
-use Rattle.label.specs.declared.lot.LotId.{LotId}
+use Rattle.values.specs.Values.{same_text, is_qty, is_name}
+use Rattle.label.specs.Days.{is_day}
+use Rattle.values.specs.declared.lot.LotId.{LotId}
 use Rattle.commands.specs.Sound.{is_lot_id}
 use Rattle.commands.specs.declared.key.Key.{Key}
 use Rattle.commands.specs.declared.command.Receipt.{Receipt}
@@ -14,25 +15,26 @@ use Rattle.commands.specs.declared.rows.StockRow.{StockRow}
 use Rattle.commands.specs.declared.rows.OrderRow.{OrderRow}
 use Rattle.commands.specs.declared.rows.LineRow.{LineRow}
 use Rattle.commands.specs.declared.rows.StagedRow.{StagedRow}
-use Rattle.rules.specs.Acts.{Act}
-use Rattle.rules.specs.Postings.{is_lot, of_item}
-use Rattle.rules.specs.Standing.{KnownLot, lot_known, is_held, has_line}
-use Rattle.rules.specs.Ledger.{postings}
-use Rattle.rules.specs.Planning.{in_bin, is_open}
-use Rattle.rules.specs.Once.{IsHistory}
-use Rattle.rules.specs.Tables.{tables_of, bin_row, lot_row, stock_row, order_row, line_row, staged_row}
-use Rattle.rules.specs.Touched.{is_touched}
-use Rattle.rules.specs.Slices.{IsSlice, AreRows, LotBin, changed, same_cell, same_line, same_share}
-use Rattle.rules.specs.Seen.{capped, plain_reply}
-use Rattle.rules.specs.Decided.{stock_qty, stock_after, stock_rows_after, lots_if_new, new_lot_row, lots_put, lot_rows_after}
-use Rattle.rules.specs.declared.slice.Slice.{Slice}
-use Rattle.rules.proofs.Tests.{and_both, same_text_refl, same_text_turned, is_lot_is, is_lot_refl, is_lot_turned}
-use Rattle.rules.proofs.decided.Quantities.{at_least_one}
+use Rattle.machine.specs.Acts.{Act}
+use Rattle.machine.specs.Postings.{is_lot, of_item}
+use Rattle.machine.specs.Standing.{KnownLot, lot_known, is_held, has_line}
+use Rattle.machine.specs.Ledger.{postings}
+use Rattle.machine.specs.Planning.{in_bin, is_open}
+use Rattle.machine.specs.Once.{IsHistory}
+use Rattle.machine.specs.Tables.{tables_of, bin_row, lot_row, stock_row, order_row, line_row, staged_row}
+use Rattle.machine.specs.Touched.{is_touched}
+use Rattle.machine.specs.KeyedRows.{AreRows, LotBin, same_cell, same_line, same_share}
+use Rattle.rules.specs.Slices.{IsSlice, changed}
+use Rattle.row_rules.specs.Seen.{capped, plain_reply}
+use Rattle.row_rules.specs.Decided.{stock_qty, stock_after, stock_rows_after, lots_if_new, new_lot_row, lots_put, lot_rows_after}
+use Rattle.row_rules.specs.declared.slice.Slice.{Slice}
+use Rattle.machine.proofs.Tests.{and_both, same_text_refl, same_text_turned, is_lot_is, is_lot_refl, is_lot_turned}
+use Rattle.machine.proofs.histories.Quantities.{at_least_one}
 use Rattle.rules.proofs.rows.SameKeys.{same_cell_is, same_cell_refl, same_cell_turned}
-use Rattle.rules.proofs.histories.Accepted.{room_for_acts, receive_accepted}
-use Rattle.rules.proofs.histories.Cells.{Legal}
-use Rattle.rules.proofs.histories.LegalHistories.{legal_history}
-use Rattle.rules.proofs.histories.Lots.{not_held}
+use Rattle.machine.proofs.histories.Accepted.{room_for_acts, receive_accepted}
+use Rattle.machine.proofs.histories.Cells.{Legal}
+use Rattle.machine.proofs.histories.LegalHistories.{legal_history}
+use Rattle.machine.proofs.histories.Lots.{not_held}
 use Rattle.rules.proofs.rows.AfterRows.{loosened, rows_after, rows_added, put_one}
 use Rattle.rules.proofs.rows.LotUnits.{bin_within_limit}
 use Rattle.rules.proofs.rows.LotTold.{any_qty}

@@ -1,8 +1,8 @@
 -- Recalls are decided as the machine decides them.
 use Rattle.std.proofs.Common.{◌≡◌, ℕ, Bool, true, false, ◌&&◌, not, List, [], ◌∷◌, refl, ap, ◌∙◌}
 use Rattle.std.specs.Prelude.{ℤ, Result, Option, Some, find, option_map, is_some, if◌then◌else◌, nat_le}
-use Rattle.label.specs.Values.{same_text}
-use Rattle.label.specs.declared.lot.LotId.{LotId}
+use Rattle.values.specs.Values.{same_text}
+use Rattle.values.specs.declared.lot.LotId.{LotId}
 use Rattle.commands.specs.declared.limits.TheConstants.{ACTS_MAX}
 use Rattle.commands.specs.declared.key.Key.{Key}
 use Rattle.commands.specs.declared.refusal.Refusal.TheVariants.{ActsFull, UnknownItem, AlreadyRecalled}
@@ -10,27 +10,28 @@ use Rattle.commands.specs.declared.command.Command.TheVariants.{Recall}
 use Rattle.commands.specs.declared.rows.LotRow.{LotRow}
 use Rattle.commands.specs.declared.rows.RecallRow.{RecallRow}
 use Rattle.commands.specs.declared.rows.ReservedRow.{ReservedRow}
-use Rattle.rules.specs.Acts.{Act, next_number}
-use Rattle.rules.specs.Postings.{is_lot, of_item}
-use Rattle.rules.specs.Standing.{Recalling, recalling, is_held, is_recalled, is_expired, today}
-use Rattle.rules.specs.Verdict.{first_refusal, verdict}
-use Rattle.rules.specs.Once.{IsHistory}
-use Rattle.rules.specs.Tables.{tables_of, lot_row, recall_row, meta_row, reserved_row}
-use Rattle.rules.specs.Slices.{IsSlice, AreRows, applied, tables_but_repeats, changed}
-use Rattle.rules.specs.Seen.{no_rows}
-use Rattle.rules.specs.Plans.{rows_to_put, rows_to_drop}
-use Rattle.rules.specs.DecidedHold.{recall_seen, recall_shares, recall_changes, new_recall_row, recall_rows_after, staged_kept, staged_returned, stock_with_returned, returned_put, bins_with_returns, returned_reply}
-use Rattle.rules.specs.declared.slice.Slice.{Slice}
-use Rattle.rules.specs.declared.slice.Change.{Change}
-use Rattle.rules.specs.declared.slice.RuleFault.{RuleFault}
-use Rattle.rules.proofs.Tests.{and_false, same_text_refl, same_text_turned, is_lot_turned}
-use Rattle.rules.proofs.histories.Accepted.{room_for_acts}
+use Rattle.machine.specs.Acts.{Act, next_number}
+use Rattle.machine.specs.Postings.{is_lot, of_item}
+use Rattle.machine.specs.Standing.{Recalling, recalling, is_held, is_recalled, is_expired, today}
+use Rattle.machine.specs.Verdict.{first_refusal, verdict}
+use Rattle.machine.specs.Once.{IsHistory}
+use Rattle.machine.specs.Tables.{tables_of, lot_row, recall_row, meta_row, reserved_row}
+use Rattle.machine.specs.KeyedRows.{AreRows}
+use Rattle.rules.specs.Slices.{IsSlice, applied, tables_but_repeats, changed}
+use Rattle.row_rules.specs.Seen.{no_rows}
+use Rattle.row_rules.specs.Plans.{rows_to_put, rows_to_drop}
+use Rattle.row_rules.specs.DecidedHold.{recall_seen, recall_shares, recall_changes, new_recall_row, recall_rows_after, staged_kept, staged_returned, stock_with_returned, returned_put, bins_with_returns, returned_reply}
+use Rattle.row_rules.specs.declared.slice.Slice.{Slice}
+use Rattle.row_rules.specs.declared.slice.Change.{Change}
+use Rattle.row_rules.specs.declared.slice.RuleFault.{RuleFault}
+use Rattle.machine.proofs.Tests.{and_false, same_text_refl, same_text_turned, is_lot_turned}
+use Rattle.machine.proofs.histories.Accepted.{room_for_acts}
 use Rattle.rules.proofs.rows.SliceTells.{item_told, recall_told}
 use Rattle.rules.proofs.rows.SliceSupplies.{slice_tells_supplies}
 use Rattle.rules.proofs.rows.SuppliesTold.{TellsSupplies}
 use Rattle.rules.proofs.rows.TableSteps.{same_tables, AreNamed, names_changed, reserved_changed, put_found}
 use Rattle.rules.proofs.rows.Replanned.{TouchesOnly, replanned, replanned_once}
-use Rattle.rules.proofs.rows.UnshippableLots.{MakesUnshippable, order_row_still, line_row_still, shipline_row_still, card_row_still}
+use Rattle.machine.proofs.histories.UnshippableLots.{MakesUnshippable, order_row_still, line_row_still, shipline_row_still, card_row_still}
 use Rattle.rules.proofs.rows.ReturnedRows.{returned_once, returned_stock_at, returned_staged_at, demands_after, supplies_after, returned_text}
 use Rattle.rules.proofs.decided.Decisions.{AreRight, IsChange, acts_seen, day_seen, number_same, meta_same}
 

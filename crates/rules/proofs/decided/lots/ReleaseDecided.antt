@@ -1,29 +1,29 @@
 -- Releases are decided as the machine decides them.
 use Rattle.std.proofs.Common.{◌≡◌, ℕ, true, false, ◌&&◌, not, List, [], ◌∷◌, refl, sym, ◌∙◌}
 use Rattle.std.specs.Prelude.{ℤ, Result, Some, find, option_map, if◌then◌else◌, nat_le}
-use Rattle.label.specs.Values.{same_text}
-use Rattle.label.specs.declared.lot.LotId.{LotId}
+use Rattle.values.specs.Values.{same_text}
+use Rattle.values.specs.declared.lot.LotId.{LotId}
 use Rattle.commands.specs.declared.limits.TheConstants.{ACTS_MAX}
 use Rattle.commands.specs.declared.key.Key.{Key}
 use Rattle.commands.specs.declared.refusal.Refusal.TheVariants.{ActsFull, UnknownItem, UnknownLot, LotRecalled, LotNotHeld}
 use Rattle.commands.specs.declared.command.Command.TheVariants.{Release}
 use Rattle.commands.specs.declared.rows.LotRow.{LotRow}
 use Rattle.commands.specs.declared.rows.ReservedRow.{ReservedRow}
-use Rattle.rules.specs.Acts.{Act, gathered}
-use Rattle.rules.specs.Postings.{is_lot, of_item}
-use Rattle.rules.specs.Standing.{Holding, hold_in, says_held, is_held}
-use Rattle.rules.specs.Verdict.{first_refusal, verdict}
-use Rattle.rules.specs.Once.{IsHistory}
-use Rattle.rules.specs.Tables.{tables_of, lot_row, meta_row, reserved_row}
+use Rattle.machine.specs.Acts.{Act, gathered}
+use Rattle.machine.specs.Postings.{is_lot, of_item}
+use Rattle.machine.specs.Standing.{Holding, hold_in, says_held, is_held}
+use Rattle.machine.specs.Verdict.{first_refusal, verdict}
+use Rattle.machine.specs.Once.{IsHistory}
+use Rattle.machine.specs.Tables.{tables_of, lot_row, meta_row, reserved_row}
 use Rattle.rules.specs.Slices.{IsSlice, applied, tables_but_repeats, changed}
-use Rattle.rules.specs.Seen.{lot_seen, no_rows, plain_reply}
-use Rattle.rules.specs.Plans.{rows_to_put, rows_to_drop}
-use Rattle.rules.specs.DecidedHold.{release_seen, release_shares, release_changes, with_hold, lot_rows_with_hold, lot_put}
-use Rattle.rules.specs.declared.slice.Slice.{Slice}
-use Rattle.rules.specs.declared.slice.Change.{Change}
-use Rattle.rules.specs.declared.slice.RuleFault.{RuleFault}
-use Rattle.rules.proofs.Tests.{same_text_refl, same_text_turned}
-use Rattle.rules.proofs.histories.Accepted.{room_for_acts}
+use Rattle.row_rules.specs.Seen.{lot_seen, no_rows, plain_reply}
+use Rattle.row_rules.specs.Plans.{rows_to_put, rows_to_drop}
+use Rattle.row_rules.specs.DecidedHold.{release_seen, release_shares, release_changes, with_hold, lot_rows_with_hold, lot_put}
+use Rattle.row_rules.specs.declared.slice.Slice.{Slice}
+use Rattle.row_rules.specs.declared.slice.Change.{Change}
+use Rattle.row_rules.specs.declared.slice.RuleFault.{RuleFault}
+use Rattle.machine.proofs.Tests.{same_text_refl, same_text_turned}
+use Rattle.machine.proofs.histories.Accepted.{room_for_acts}
 use Rattle.rules.proofs.rows.AfterRows.{loosened}
 use Rattle.rules.proofs.rows.MappedRows.{rows_mapped}
 use Rattle.rules.proofs.rows.LotTold.{lot_known_told}

@@ -1,25 +1,26 @@
 -- The cancelling of orders is decided as the machine decides it.
 use Rattle.std.proofs.Common.{◌≡◌, ℕ, true, false, List, [], ◌∷◌, refl, ap, ◌∙◌}
 use Rattle.std.specs.Prelude.{ℤ, Option, Some, None, Result, option_map, is_some, nat_le, length}
-use Rattle.label.specs.Values.{same_text}
+use Rattle.values.specs.Values.{same_text}
 use Rattle.commands.specs.declared.limits.TheConstants.{ACTS_MAX}
 use Rattle.commands.specs.declared.key.Key.{Key}
 use Rattle.commands.specs.declared.command.Command.TheVariants.{Cancel}
 use Rattle.commands.specs.declared.rows.OrderRow.{OrderRow}
-use Rattle.rules.specs.Acts.{Act}
-use Rattle.rules.specs.Standing.{Placed, order_named}
-use Rattle.rules.specs.Once.{IsHistory}
-use Rattle.rules.specs.Tables.{tables_of}
-use Rattle.rules.specs.Slices.{IsSlice, applied, no_two}
-use Rattle.rules.specs.Seen.{no_rows, plain_reply}
-use Rattle.rules.specs.Plans.{is_share_of}
-use Rattle.rules.specs.SeenOrders.{order_row_seen, items_seen}
-use Rattle.rules.specs.DecidedCancel.{cancelled_row, other_orders, cancel_put, cancel_dropped, cancel_seen, cancel_changes}
-use Rattle.rules.specs.declared.slice.Slice.{Slice}
-use Rattle.rules.specs.declared.slice.Change.{Change}
-use Rattle.rules.specs.declared.slice.RuleFault.{RuleFault}
-use Rattle.rules.proofs.Tests.{same_text_refl}
-use Rattle.rules.proofs.histories.Accepted.{room_for_acts, cancel_accepted}
+use Rattle.machine.specs.Acts.{Act}
+use Rattle.machine.specs.Standing.{Placed, order_named}
+use Rattle.machine.specs.Once.{IsHistory}
+use Rattle.machine.specs.Tables.{tables_of}
+use Rattle.machine.specs.KeyedRows.{no_two}
+use Rattle.rules.specs.Slices.{IsSlice, applied}
+use Rattle.row_rules.specs.Seen.{no_rows, plain_reply}
+use Rattle.row_rules.specs.Plans.{is_share_of}
+use Rattle.row_rules.specs.SeenOrders.{order_row_seen, items_seen}
+use Rattle.row_rules.specs.DecidedCancel.{cancelled_row, other_orders, cancel_put, cancel_dropped, cancel_seen, cancel_changes}
+use Rattle.row_rules.specs.declared.slice.Slice.{Slice}
+use Rattle.row_rules.specs.declared.slice.Change.{Change}
+use Rattle.row_rules.specs.declared.slice.RuleFault.{RuleFault}
+use Rattle.machine.proofs.Tests.{same_text_refl}
+use Rattle.machine.proofs.histories.Accepted.{room_for_acts, cancel_accepted}
 use Rattle.rules.proofs.rows.TableSteps.{AreNamed, names_changed, reserved_changed}
 use Rattle.rules.proofs.rows.OrderTold.{found_order_row}
 use Rattle.rules.proofs.rows.OrderItems.{items_told, items_apart}

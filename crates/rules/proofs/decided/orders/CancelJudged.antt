@@ -5,14 +5,14 @@ use Rattle.commands.specs.declared.limits.TheConstants.{ACTS_MAX}
 use Rattle.commands.specs.declared.key.Key.{Key}
 use Rattle.commands.specs.declared.command.Command.TheVariants.{Cancel}
 use Rattle.commands.specs.declared.refusal.Refusal.TheVariants.{ActsFull, UnknownOrder, OrderClosed, StillStaged}
-use Rattle.rules.specs.Acts.{Act}
-use Rattle.rules.specs.Once.{IsHistory}
-use Rattle.rules.specs.Tables.{tables_of}
+use Rattle.machine.specs.Acts.{Act}
+use Rattle.machine.specs.Once.{IsHistory}
+use Rattle.machine.specs.Tables.{tables_of}
 use Rattle.rules.specs.Slices.{IsSlice}
-use Rattle.rules.specs.Verdict.{first_refusal, verdict}
-use Rattle.rules.specs.DecidedCancel.{cancel_seen}
-use Rattle.rules.specs.declared.slice.Slice.{Slice}
-use Rattle.rules.proofs.Tests.{same_text_refl}
+use Rattle.machine.specs.Verdict.{first_refusal, verdict}
+use Rattle.row_rules.specs.DecidedCancel.{cancel_seen}
+use Rattle.row_rules.specs.declared.slice.Slice.{Slice}
+use Rattle.machine.proofs.Tests.{same_text_refl}
 use Rattle.rules.proofs.decided.Decisions.{acts_seen}
 use Rattle.rules.proofs.rows.OrderTold.{order_told, open_told, staged_for_order_told}
 

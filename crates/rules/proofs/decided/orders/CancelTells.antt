@@ -1,20 +1,21 @@
 -- The rows of a slice without the order that is cancelled tell the plan of each of its items after the act.
 use Rattle.std.proofs.Common.{◌≡◌, ℕ, true, false, ◌&&◌, not, List, ◌∷◌, refl, ap, sym, ◌∙◌}
 use Rattle.std.specs.Prelude.{ℤ}
-use Rattle.label.specs.Values.{same_text}
+use Rattle.values.specs.Values.{same_text}
 use Rattle.commands.specs.declared.key.Key.{Key}
 use Rattle.commands.specs.declared.command.Command.TheVariants.{Cancel}
 use Rattle.commands.specs.declared.rows.OrderRow.{OrderRow}
 use Rattle.commands.specs.declared.rows.LineRow.{LineRow}
-use Rattle.rules.specs.Acts.{Act}
-use Rattle.rules.specs.Standing.{has_line}
-use Rattle.rules.specs.Planning.{is_open}
-use Rattle.rules.specs.Tables.{tables_of, order_row, line_row}
-use Rattle.rules.specs.Touched.{is_touched}
-use Rattle.rules.specs.Slices.{IsSlice, AreRows, same_line}
-use Rattle.rules.specs.DecidedCancel.{other_orders}
-use Rattle.rules.specs.declared.slice.Slice.{Slice}
-use Rattle.rules.proofs.Tests.{and_both, not_true, same_text_is, same_text_turned}
+use Rattle.machine.specs.Acts.{Act}
+use Rattle.machine.specs.Standing.{has_line}
+use Rattle.machine.specs.Planning.{is_open}
+use Rattle.machine.specs.Tables.{tables_of, order_row, line_row}
+use Rattle.machine.specs.Touched.{is_touched}
+use Rattle.machine.specs.KeyedRows.{AreRows, same_line}
+use Rattle.rules.specs.Slices.{IsSlice}
+use Rattle.row_rules.specs.DecidedCancel.{other_orders}
+use Rattle.row_rules.specs.declared.slice.Slice.{Slice}
+use Rattle.machine.proofs.Tests.{and_both, not_true, same_text_is, same_text_turned}
 use Rattle.rules.proofs.rows.AfterRows.{loosened}
 use Rattle.rules.proofs.rows.KeptRows.{kept_rows}
 use Rattle.rules.proofs.rows.DemandsTold.{TellsDemands}

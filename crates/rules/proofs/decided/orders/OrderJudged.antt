@@ -2,7 +2,7 @@
 use Rattle.std.proofs.Common.{◌≡◌, ℕ, ◌+◌, ◌≤◌, ◌<◌, true, false, not, List, [], ◌∷◌, refl, ap, arith}
 use Rattle.std.specs.Prelude.{◌||◌, nat_lt, nat_le, ℤ}
 use Rattle.std.specs.List.{list_any}
-use Rattle.label.specs.Values.{same_text}
+use Rattle.values.specs.Values.{same_text}
 use Rattle.commands.specs.declared.limits.TheConstants.{OPEN_MAX, ACTS_MAX}
 use Rattle.commands.specs.declared.key.Key.{Key}
 use Rattle.commands.specs.declared.command.OrderLine.{OrderLine}
@@ -11,18 +11,18 @@ use Rattle.commands.specs.declared.command.Command.TheVariants.{Order}
 use Rattle.commands.specs.declared.refusal.Refusal.TheVariants.{ActsFull, UnknownItem, OrderExists, ItemTwice, OverOrdered}
 use Rattle.commands.specs.Lists.{total}
 use borrow.Author.Tests.{ltb-false, ltb-true, lt-ltb, le-ltb}
-use Rattle.rules.specs.Acts.{Act}
-use Rattle.rules.specs.Standing.{has_item}
-use Rattle.rules.specs.Planning.{open_units}
-use Rattle.rules.specs.Once.{IsHistory}
-use Rattle.rules.specs.Tables.{tables_of}
-use Rattle.rules.specs.Touched.{is_touched}
+use Rattle.machine.specs.Acts.{Act}
+use Rattle.machine.specs.Standing.{has_item}
+use Rattle.machine.specs.Planning.{open_units}
+use Rattle.machine.specs.Once.{IsHistory}
+use Rattle.machine.specs.Tables.{tables_of}
+use Rattle.machine.specs.Touched.{is_touched}
 use Rattle.rules.specs.Slices.{IsSlice}
-use Rattle.rules.specs.Seen.{capped}
-use Rattle.rules.specs.Verdict.{first_refusal, verdict, names_item_twice}
-use Rattle.rules.specs.DecidedOrder.{order_seen, misses_item, orders_too_much, open_units_of}
-use Rattle.rules.specs.declared.slice.Slice.{Slice}
-use Rattle.rules.proofs.Tests.{or_later, same_text_refl}
+use Rattle.row_rules.specs.Seen.{capped}
+use Rattle.machine.specs.Verdict.{first_refusal, verdict, names_item_twice}
+use Rattle.row_rules.specs.DecidedOrder.{order_seen, misses_item, orders_too_much, open_units_of}
+use Rattle.row_rules.specs.declared.slice.Slice.{Slice}
+use Rattle.machine.proofs.Tests.{or_later, same_text_refl}
 use Rattle.rules.proofs.decided.Decisions.{acts_seen}
 use Rattle.rules.proofs.rows.SliceTells.{item_told}
 use Rattle.rules.proofs.rows.OrderTold.{order_told}

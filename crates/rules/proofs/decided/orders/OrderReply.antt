@@ -3,7 +3,7 @@ use Rattle.std.proofs.Common.{◌≡◌, ℕ, ◌+◌, ◌-◌, ◌*◌, ◌≤�
 use Rattle.std.specs.Prelude.{if◌then◌else◌, ℤ, Some, find, filter, map, flat_map, length, codes, decimal, nat_le}
 use Rattle.std.specs.List.{list_all, list_any}
 use Rattle.std.proofs.lemmas.Bool.Decides.{nat_tests}
-use Rattle.label.specs.Values.{QTY_MAX, same_text, is_qty, is_gtin}
+use Rattle.values.specs.Values.{QTY_MAX, same_text, is_qty, is_gtin}
 use Rattle.commands.specs.Lists.{total}
 use Rattle.commands.specs.Limits.{has_order_lines}
 use Rattle.commands.specs.declared.limits.TheConstants.{ORDER_LINES_MAX}
@@ -13,24 +13,24 @@ use Rattle.commands.specs.declared.command.OrderLine.{OrderLine}
 use Rattle.commands.specs.declared.command.NewOrder.{NewOrder}
 use Rattle.commands.specs.declared.command.Command.TheVariants.{Order}
 use Rattle.plan.specs.Overlap.{reserved_for}
-use Rattle.rules.specs.Acts.{Act, next_number}
-use Rattle.rules.specs.Standing.{Placed, orders, order_named, lines_placed, is_cancelled}
-use Rattle.rules.specs.Planning.{Booking, booking_of, bookings, lines_of_item, plan, short_of, short_of_order, staged, shipped_of, item_postings}
-use Rattle.rules.specs.Once.{IsHistory}
-use Rattle.rules.specs.Replies.{reply, short_field}
-use Rattle.rules.specs.Tables.{tables_of}
-use Rattle.rules.specs.Verdict.{names_item_twice}
+use Rattle.machine.specs.Acts.{Act, next_number}
+use Rattle.machine.specs.Standing.{Placed, orders, order_named, lines_placed, is_cancelled}
+use Rattle.machine.specs.Planning.{Booking, booking_of, bookings, lines_of_item, plan, short_of, short_of_order, staged, shipped_of, item_postings}
+use Rattle.machine.specs.Once.{IsHistory}
+use Rattle.machine.specs.Replies.{reply, short_field}
+use Rattle.machine.specs.Tables.{tables_of}
+use Rattle.machine.specs.Verdict.{names_item_twice}
 use Rattle.rules.specs.Slices.{IsSlice}
-use Rattle.rules.specs.Seen.{capped, number_seen}
-use Rattle.rules.specs.DecidedOrder.{plan_with_order, short_seen, order_reply}
-use Rattle.rules.specs.declared.slice.Slice.{Slice}
-use Rattle.rules.proofs.Tests.{and_both, or_none, same_text_refl, same_text_turned}
-use Rattle.rules.proofs.decided.Quantities.{at_most_limit}
-use Rattle.rules.proofs.Apart.{AreApart, AllFound, all_found, any_found}
+use Rattle.row_rules.specs.Seen.{capped, number_seen}
+use Rattle.row_rules.specs.DecidedOrder.{plan_with_order, short_seen, order_reply}
+use Rattle.row_rules.specs.declared.slice.Slice.{Slice}
+use Rattle.machine.proofs.Tests.{and_both, or_none, same_text_refl, same_text_turned}
+use Rattle.machine.proofs.histories.Quantities.{at_most_limit}
+use Rattle.machine.proofs.Apart.{AreApart, AllFound, all_found, any_found}
 use Rattle.rules.proofs.rows.Ordering.{total_filter}
 use Rattle.rules.proofs.rows.OpenUnits.{total_append, total_reversed}
 use Rattle.rules.proofs.rows.DemandsTold.{listed, line_found}
-use Rattle.rules.proofs.histories.NewOrders.{new_is_not_cancelled, new_has_nothing_staged, new_has_nothing_shipped}
+use Rattle.machine.proofs.histories.NewOrders.{new_is_not_cancelled, new_has_nothing_staged, new_has_nothing_shipped}
 use Rattle.rules.proofs.decided.orders.OrderJudged.{AllAmong, all_among}
 use Rattle.rules.proofs.decided.orders.OrderStep.{placed}
 use Rattle.rules.proofs.decided.orders.OrderTells.{is_new, is_single, are_sound, number_is, plan_told}

@@ -2,20 +2,21 @@
 use Rattle.std.proofs.Common.{◌≡◌, true, false, ◌&&◌, not, List, [], ◌∷◌, refl}
 use Rattle.std.specs.Prelude.{ℤ}
 use Rattle.std.specs.List.{list_any}
-use Rattle.label.specs.Values.{same_text}
+use Rattle.values.specs.Values.{same_text}
 use Rattle.commands.specs.declared.key.Key.{Key}
 use Rattle.commands.specs.declared.command.OrderLine.{OrderLine}
 use Rattle.commands.specs.declared.command.NewOrder.{NewOrder}
 use Rattle.commands.specs.declared.command.Command.TheVariants.{Order}
-use Rattle.rules.specs.Acts.{Act}
-use Rattle.rules.specs.Once.{IsHistory}
-use Rattle.rules.specs.Tables.{tables_of}
-use Rattle.rules.specs.Verdict.{names_item_twice}
-use Rattle.rules.specs.Slices.{IsSlice, no_two}
-use Rattle.rules.specs.Plans.{is_share_of}
-use Rattle.rules.specs.DecidedOrder.{order_rows_after, line_rows_after, order_rows_to_put, order_rows_to_drop}
-use Rattle.rules.specs.declared.slice.Slice.{Slice}
-use Rattle.rules.proofs.Tests.{or_none}
+use Rattle.machine.specs.Acts.{Act}
+use Rattle.machine.specs.Once.{IsHistory}
+use Rattle.machine.specs.Tables.{tables_of}
+use Rattle.machine.specs.Verdict.{names_item_twice}
+use Rattle.machine.specs.KeyedRows.{no_two}
+use Rattle.rules.specs.Slices.{IsSlice}
+use Rattle.row_rules.specs.Plans.{is_share_of}
+use Rattle.row_rules.specs.DecidedOrder.{order_rows_after, line_rows_after, order_rows_to_put, order_rows_to_drop}
+use Rattle.row_rules.specs.declared.slice.Slice.{Slice}
+use Rattle.machine.proofs.Tests.{or_none}
 use Rattle.rules.proofs.rows.TableSteps.{AreNamed}
 use Rattle.rules.proofs.rows.ItemsReplanned.{items_replanned, items_put_once}
 use Rattle.rules.proofs.decided.Decisions.{day_seen}

@@ -3,8 +3,8 @@ use Rattle.std.proofs.Common.{◌≡◌, ℕ, ◌≤◌, true, false, ◌&&◌, 
 use Rattle.std.specs.Prelude.{◌==◌, if◌then◌else◌, ℤ, Option, Some, None, find, map, option_map}
 use Rattle.std.specs.List.{list_all}
 use Rattle.std.proofs.lemmas.Bool.{eqb-true}
-use Rattle.label.specs.Values.{same_text}
-use Rattle.label.specs.declared.lot.LotId.{LotId}
+use Rattle.values.specs.Values.{same_text}
+use Rattle.values.specs.declared.lot.LotId.{LotId}
 use Rattle.commands.specs.declared.key.Key.{Key}
 use Rattle.commands.specs.declared.command.OrderLine.{OrderLine}
 use Rattle.commands.specs.declared.command.NewOrder.{NewOrder}
@@ -13,19 +13,19 @@ use Rattle.commands.specs.declared.rows.OrderState.TheVariants.{Open, Done, Canc
 use Rattle.commands.specs.declared.rows.OrderRow.{OrderRow}
 use Rattle.commands.specs.declared.rows.LineRow.{LineRow}
 use Rattle.commands.specs.declared.rows.ReservedRow.{ReservedRow}
-use Rattle.rules.specs.Acts.{Act, next_number}
-use Rattle.rules.specs.Postings.{is_lot}
-use Rattle.rules.specs.Standing.{Placed, orders, order_named, has_order, lines_of, lines_placed, is_cancelled}
-use Rattle.rules.specs.Planning.{shipped_of, order_state}
-use Rattle.rules.specs.Once.{IsHistory}
-use Rattle.rules.specs.Tables.{tables_of, meta_row, order_row, line_row, reserved_row}
+use Rattle.machine.specs.Acts.{Act, next_number}
+use Rattle.machine.specs.Postings.{is_lot}
+use Rattle.machine.specs.Standing.{Placed, orders, order_named, has_order, lines_of, lines_placed, is_cancelled}
+use Rattle.machine.specs.Planning.{shipped_of, order_state}
+use Rattle.machine.specs.Once.{IsHistory}
+use Rattle.machine.specs.Tables.{tables_of, meta_row, order_row, line_row, reserved_row}
 use Rattle.rules.specs.Slices.{applied, tables_but_repeats, changed, unless_put}
-use Rattle.rules.specs.Seen.{no_rows}
-use Rattle.rules.specs.DecidedOrder.{new_line_rows}
-use Rattle.rules.specs.declared.slice.Change.{Change}
-use Rattle.rules.proofs.Tests.{same_text_is}
-use Rattle.rules.proofs.histories.Orders.{found_order}
-use Rattle.rules.proofs.histories.NewOrders.{new_is_not_cancelled, new_is_not_named, new_has_nothing_shipped}
+use Rattle.row_rules.specs.Seen.{no_rows}
+use Rattle.row_rules.specs.DecidedOrder.{new_line_rows}
+use Rattle.row_rules.specs.declared.slice.Change.{Change}
+use Rattle.machine.proofs.Tests.{same_text_is}
+use Rattle.machine.proofs.histories.Orders.{found_order}
+use Rattle.machine.proofs.histories.NewOrders.{new_is_not_cancelled, new_is_not_named, new_has_nothing_shipped}
 use Rattle.rules.proofs.rows.TableSteps.{same_tables}
 use Rattle.rules.proofs.rows.AddedRows.{put_over_none}
 

@@ -2,7 +2,7 @@
 use Rattle.std.proofs.Common.{◌≡◌, ℕ, Bool, true, false, ◌&&◌, not, List, [], ◌∷◌, refl, ap, sym, ◌∙◌}
 use Rattle.std.specs.Prelude.{◌||◌, if◌then◌else◌, ℤ, Some, None, find, map, option_map}
 use Rattle.std.specs.List.{list_all, list_any}
-use Rattle.label.specs.Values.{same_text, is_qty, is_gtin, is_name, is_title}
+use Rattle.values.specs.Values.{same_text, is_qty, is_gtin, is_name, is_title}
 use Rattle.commands.specs.Limits.{has_order_lines}
 use Rattle.commands.specs.Sound.{is_order_line, are_lines}
 use Rattle.commands.specs.declared.key.Key.{Key}
@@ -12,22 +12,23 @@ use Rattle.commands.specs.declared.command.Command.TheVariants.{Order}
 use Rattle.commands.specs.declared.rows.OrderRow.{OrderRow}
 use Rattle.commands.specs.declared.rows.OrderState.TheVariants.{Open}
 use Rattle.commands.specs.declared.rows.LineRow.{LineRow}
-use Rattle.rules.specs.Acts.{Act, next_number}
-use Rattle.rules.specs.Standing.{has_order, has_line, lines_of, lines_placed}
-use Rattle.rules.specs.Planning.{is_open, is_open_state, plan}
-use Rattle.rules.specs.Once.{IsHistory}
-use Rattle.rules.specs.Tables.{tables_of, order_row, line_row}
-use Rattle.rules.specs.Touched.{is_touched}
-use Rattle.rules.specs.Verdict.{names_item_twice}
-use Rattle.rules.specs.Slices.{IsSlice, AreRows, OrderItem, has_touched_line, names_order, no_two, same_line}
-use Rattle.rules.specs.Seen.{number_seen}
-use Rattle.rules.specs.Plans.{demands_seen, supplies_seen, plan_within}
-use Rattle.rules.specs.DecidedOrder.{new_order_row, new_line_rows, order_rows_after, line_rows_after, plan_with_order}
-use Rattle.rules.specs.declared.slice.Slice.{Slice}
-use Rattle.rules.proofs.Tests.{and_both, and_false, or_first, or_later, or_none, same_text_is, same_text_refl, same_text_turned}
-use Rattle.rules.proofs.decided.Quantities.{at_least_one}
+use Rattle.machine.specs.Acts.{Act, next_number}
+use Rattle.machine.specs.Standing.{has_order, has_line, lines_of, lines_placed}
+use Rattle.machine.specs.Planning.{is_open, is_open_state, plan}
+use Rattle.machine.specs.Once.{IsHistory}
+use Rattle.machine.specs.Tables.{tables_of, order_row, line_row}
+use Rattle.machine.specs.Touched.{is_touched}
+use Rattle.machine.specs.Verdict.{names_item_twice}
+use Rattle.machine.specs.KeyedRows.{AreRows, OrderItem, no_two, same_line}
+use Rattle.rules.specs.Slices.{IsSlice, has_touched_line, names_order}
+use Rattle.row_rules.specs.Seen.{number_seen}
+use Rattle.row_rules.specs.Plans.{demands_seen, supplies_seen, plan_within}
+use Rattle.row_rules.specs.DecidedOrder.{new_order_row, new_line_rows, order_rows_after, line_rows_after, plan_with_order}
+use Rattle.row_rules.specs.declared.slice.Slice.{Slice}
+use Rattle.machine.proofs.Tests.{and_both, and_false, or_first, or_later, or_none, same_text_is, same_text_refl, same_text_turned}
+use Rattle.machine.proofs.histories.Quantities.{at_least_one}
 use Rattle.rules.proofs.rows.SameKeys.{same_line_is, same_line_refl, same_line_turned}
-use Rattle.rules.proofs.histories.Accepted.{room_for_acts, order_accepted}
+use Rattle.machine.proofs.histories.Accepted.{room_for_acts, order_accepted}
 use Rattle.rules.proofs.rows.AfterRows.{loosened, rows_added, put_one}
 use Rattle.rules.proofs.rows.AddedRows.{AllNew, all_added, with_rows}
 use Rattle.rules.proofs.rows.DemandsTold.{TellsDemands}
@@ -35,7 +36,7 @@ use Rattle.rules.proofs.rows.SuppliesTold.{TellsSupplies}
 use Rattle.rules.proofs.rows.PlanTold.{rows_tell_plan}
 use Rattle.rules.proofs.rows.SliceDemands.{slice_tells_demands, line_touched}
 use Rattle.rules.proofs.rows.SliceSupplies.{slice_tells_supplies}
-use Rattle.rules.proofs.histories.NewOrders.{new_is_not_named}
+use Rattle.machine.proofs.histories.NewOrders.{new_is_not_named}
 use Rattle.rules.proofs.rows.OrderTold.{found_order_row}
 use Rattle.rules.proofs.decided.orders.OrderStep.{WantsUnits, new_row, named_same, state_same, order_at, line_at, no_line_before}
 use Rattle.rules.proofs.decided.Decisions.{number_same, day_seen}

@@ -4,16 +4,16 @@ use Rattle.std.specs.Prelude.{ℤ, Result}
 use Rattle.commands.specs.declared.key.Key.{Key}
 use Rattle.commands.specs.declared.command.NewOrder.{NewOrder}
 use Rattle.commands.specs.declared.command.Command.TheVariants.{Order}
-use Rattle.rules.specs.Acts.{Act}
-use Rattle.rules.specs.Once.{IsHistory}
-use Rattle.rules.specs.Tables.{tables_of}
+use Rattle.machine.specs.Acts.{Act}
+use Rattle.machine.specs.Once.{IsHistory}
+use Rattle.machine.specs.Tables.{tables_of}
 use Rattle.rules.specs.Slices.{IsSlice, applied}
-use Rattle.rules.specs.Seen.{no_rows}
-use Rattle.rules.specs.DecidedOrder.{new_line_rows, order_rows_to_put, order_rows_to_drop, order_reply, order_seen, order_changes}
-use Rattle.rules.specs.declared.slice.Slice.{Slice}
-use Rattle.rules.specs.declared.slice.Change.{Change}
-use Rattle.rules.specs.declared.slice.RuleFault.{RuleFault}
-use Rattle.rules.proofs.histories.Accepted.{room_for_acts}
+use Rattle.row_rules.specs.Seen.{no_rows}
+use Rattle.row_rules.specs.DecidedOrder.{new_line_rows, order_rows_to_put, order_rows_to_drop, order_reply, order_seen, order_changes}
+use Rattle.row_rules.specs.declared.slice.Slice.{Slice}
+use Rattle.row_rules.specs.declared.slice.Change.{Change}
+use Rattle.row_rules.specs.declared.slice.RuleFault.{RuleFault}
+use Rattle.machine.proofs.histories.Accepted.{room_for_acts}
 use Rattle.rules.proofs.rows.TableSteps.{names_changed, reserved_changed}
 use Rattle.rules.proofs.decided.Decisions.{AreRight, IsChange, meta_same}
 use Rattle.rules.proofs.decided.orders.OrderJudged.{order_judged}

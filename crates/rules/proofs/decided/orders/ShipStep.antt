@@ -3,8 +3,8 @@ use Rattle.std.proofs.Common.{◌≡◌, ℕ, ◌+◌, ◌-◌, Bool, true, fals
 use Rattle.std.specs.Prelude.{◌==◌, ◌||◌, if◌then◌else◌, min, find, map, flat_map, Option, Some, None, option_map, ℤ, pos, neg_ℤ, decimal}
 use Rattle.std.specs.List.{list_any}
 use Rattle.std.proofs.lemmas.Bool.{eqb-true}
-use Rattle.label.specs.Values.{same_text}
-use Rattle.label.specs.declared.lot.LotId.{LotId}
+use Rattle.values.specs.Values.{same_text}
+use Rattle.values.specs.declared.lot.LotId.{LotId}
 use Rattle.commands.specs.declared.limits.TheConstants.{UNITS_MAX}
 use Rattle.commands.specs.declared.key.Key.{Key}
 use Rattle.commands.specs.declared.command.Command.TheVariants.{Ship}
@@ -13,27 +13,27 @@ use Rattle.commands.specs.declared.rows.StagedRow.{StagedRow}
 use Rattle.commands.specs.declared.rows.ShipmentRow.{ShipmentRow}
 use Rattle.commands.specs.declared.rows.ShiplineRow.{ShiplineRow}
 use Rattle.commands.specs.declared.rows.CardRow.{CardRow}
-use Rattle.rules.specs.Acts.{Act, next_number}
-use Rattle.rules.specs.Postings.{Stage, Shipped, Posting, balance, is_lot, is_stage, is_shipment, of_item}
-use Rattle.rules.specs.Ledger.{shipped_off, postings}
-use Rattle.rules.specs.Standing.{KnownLot, lots, has_line, today, shipments, shipments_so_far}
-use Rattle.rules.specs.Planning.{staged_of_lot, reserved}
-use Rattle.rules.specs.Cards.{cards, card_lines, lot_units_in_house}
-use Rattle.rules.specs.Once.{IsHistory}
-use Rattle.rules.specs.Tables.{tables_of, if_any, stock_row, staged_row, shipment_row, shipline_row, card_row}
+use Rattle.machine.specs.Acts.{Act, next_number}
+use Rattle.machine.specs.Postings.{Stage, Shipped, Posting, balance, is_lot, is_stage, is_shipment, of_item}
+use Rattle.machine.specs.Ledger.{shipped_off, postings}
+use Rattle.machine.specs.Standing.{KnownLot, lots, has_line, today, shipments, shipments_so_far}
+use Rattle.machine.specs.Planning.{staged_of_lot, reserved}
+use Rattle.machine.specs.Cards.{cards, card_lines, lot_units_in_house}
+use Rattle.machine.specs.Once.{IsHistory}
+use Rattle.machine.specs.Tables.{tables_of, if_any, stock_row, staged_row, shipment_row, shipline_row, card_row}
 use Rattle.rules.specs.Slices.{IsSlice, applied, tables_but_repeats, changed, unless_put}
-use Rattle.rules.specs.Seen.{number_seen}
-use Rattle.rules.specs.Decided.{lot_units}
-use Rattle.rules.specs.DecidedShip.{shipment_seen, rows_shipped, shipment_put, shipline, ship_card, ship_changes}
-use Rattle.rules.specs.declared.slice.Slice.{Slice}
-use Rattle.rules.proofs.Tests.{or_none, and_false, is_lot_is, is_lot_refl, same_text_refl}
-use Rattle.rules.proofs.Apart.{AreApart, any_found}
-use Rattle.rules.proofs.histories.Lots.{same_known, lots_apart}
-use Rattle.rules.proofs.histories.KnownPlaces.{unknown_line_is_unstaged, unknown_shipment_is_empty}
-use Rattle.rules.proofs.histories.Notices.{shipments_apart}
-use Rattle.rules.proofs.histories.AfterShipping.{bin_after, shipment_after, house_after, unknown_unstaged, reserved_after}
+use Rattle.row_rules.specs.Seen.{number_seen}
+use Rattle.row_rules.specs.Decided.{lot_units}
+use Rattle.row_rules.specs.DecidedShip.{shipment_seen, rows_shipped, shipment_put, shipline, ship_card, ship_changes}
+use Rattle.row_rules.specs.declared.slice.Slice.{Slice}
+use Rattle.machine.proofs.Tests.{or_none, and_false, is_lot_is, is_lot_refl, same_text_refl}
+use Rattle.machine.proofs.Apart.{AreApart, any_found}
+use Rattle.machine.proofs.histories.Lots.{same_known, lots_apart}
+use Rattle.machine.proofs.histories.KnownPlaces.{unknown_line_is_unstaged, unknown_shipment_is_empty}
+use Rattle.machine.proofs.histories.Notices.{shipments_apart}
+use Rattle.machine.proofs.histories.AfterShipping.{bin_after, shipment_after, house_after, unknown_unstaged, reserved_after}
 use Rattle.rules.proofs.rows.AddedRows.{find_appended, put_over_none}
-use Rattle.rules.proofs.rows.PlaceRows.{and_turned}
+use Rattle.machine.proofs.histories.PlaceRows.{and_turned}
 use Rattle.rules.proofs.rows.FoundRows.{same_finds, find_never, find_kept, find_mapped}
 use Rattle.rules.proofs.rows.LotUnits.{lot_units_told, lot_within_limit}
 use Rattle.rules.proofs.rows.SliceDemands.{slice_tells_demands}

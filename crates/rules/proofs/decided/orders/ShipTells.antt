@@ -3,36 +3,37 @@ use Rattle.std.proofs.Common.{◌≡◌, ℕ, ◌+◌, ◌<◌, Bool, true, fals
 use Rattle.std.specs.Prelude.{if◌then◌else◌, length, find, Option, Some, None, option_map, is_some, ℤ}
 use Rattle.std.specs.List.{list_any}
 use Rattle.std.proofs.lemmas.Bool.Decides.{nat_tests}
-use Rattle.label.specs.Values.{same_text}
-use Rattle.label.specs.declared.lot.LotId.{LotId}
+use Rattle.values.specs.Values.{same_text}
+use Rattle.values.specs.declared.lot.LotId.{LotId}
 use Rattle.commands.specs.declared.limits.TheConstants.{ACTS_MAX}
 use Rattle.commands.specs.declared.key.Key.{Key}
 use Rattle.commands.specs.declared.command.OrderLine.{OrderLine}
 use Rattle.commands.specs.declared.command.Command.TheVariants.{Ship}
 use Rattle.commands.specs.declared.rows.LineRow.{LineRow}
 use Rattle.commands.specs.declared.rows.StagedRow.{StagedRow}
-use Rattle.rules.specs.Acts.{Act, next_number}
-use Rattle.rules.specs.Postings.{balance, is_lot, is_stage, of_item}
-use Rattle.rules.specs.Ledger.{postings}
-use Rattle.rules.specs.Standing.{has_line, lines_of, shipments_so_far}
-use Rattle.rules.specs.Planning.{staged_of_lot, shipped_of}
-use Rattle.rules.specs.Once.{IsHistory}
-use Rattle.rules.specs.Tables.{tables_of, meta_row, if_any, line_row, staged_row}
-use Rattle.rules.specs.Touched.{is_touched}
-use Rattle.rules.specs.Slices.{IsSlice, AreRows, OrderLot, changed, unless_put, same_share}
-use Rattle.rules.specs.Seen.{capped, number_seen}
-use Rattle.rules.specs.Plans.{staged_seen}
-use Rattle.rules.specs.SeenOrders.{lines_seen}
-use Rattle.rules.specs.DecidedShip.{shipment_seen, meta_shipped, rows_shipped, line_shipped, lines_shipped}
-use Rattle.rules.specs.declared.slice.Slice.{Slice}
-use Rattle.rules.proofs.Tests.{and_both, same_text_is, same_text_refl, is_lot_is}
-use Rattle.rules.proofs.Apart.{any_found}
-use Rattle.rules.proofs.histories.Accepted.{room_for_acts}
-use Rattle.rules.proofs.histories.LegalHistories.{legal_history}
-use Rattle.rules.proofs.histories.KnownPlaces.{unknown_line_is_unstaged}
-use Rattle.rules.proofs.histories.ClosedOrders.{served_is, served_within_ordered}
-use Rattle.rules.proofs.histories.LineLimits.{ordered_within_limit, shipments_within_acts}
-use Rattle.rules.proofs.histories.AfterShipping.{stage_after, shipped_after, of_postings}
+use Rattle.machine.specs.Acts.{Act, next_number}
+use Rattle.machine.specs.Postings.{balance, is_lot, is_stage, of_item}
+use Rattle.machine.specs.Ledger.{postings}
+use Rattle.machine.specs.Standing.{has_line, lines_of, shipments_so_far}
+use Rattle.machine.specs.Planning.{staged_of_lot, shipped_of}
+use Rattle.machine.specs.Once.{IsHistory}
+use Rattle.machine.specs.Tables.{tables_of, meta_row, if_any, line_row, staged_row}
+use Rattle.machine.specs.Touched.{is_touched}
+use Rattle.machine.specs.KeyedRows.{AreRows, OrderLot, same_share}
+use Rattle.rules.specs.Slices.{IsSlice, changed, unless_put}
+use Rattle.row_rules.specs.Seen.{capped, number_seen}
+use Rattle.row_rules.specs.Plans.{staged_seen}
+use Rattle.row_rules.specs.SeenOrders.{lines_seen}
+use Rattle.row_rules.specs.DecidedShip.{shipment_seen, meta_shipped, rows_shipped, line_shipped, lines_shipped}
+use Rattle.row_rules.specs.declared.slice.Slice.{Slice}
+use Rattle.machine.proofs.Tests.{and_both, same_text_is, same_text_refl, is_lot_is}
+use Rattle.machine.proofs.Apart.{any_found}
+use Rattle.machine.proofs.histories.Accepted.{room_for_acts}
+use Rattle.machine.proofs.histories.LegalHistories.{legal_history}
+use Rattle.machine.proofs.histories.KnownPlaces.{unknown_line_is_unstaged}
+use Rattle.machine.proofs.histories.ClosedOrders.{served_is, served_within_ordered}
+use Rattle.machine.proofs.histories.LineLimits.{ordered_within_limit, shipments_within_acts}
+use Rattle.machine.proofs.histories.AfterShipping.{stage_after, shipped_after, of_postings}
 use Rattle.rules.proofs.rows.FoundRows.{found_passes, found_own, same_finds, find_never, find_kept, find_mapped}
 use Rattle.rules.proofs.rows.OrderTold.{found_line_row}
 use Rattle.rules.proofs.rows.DemandsTold.{staged_same}

@@ -1,36 +1,36 @@
 -- Pickings are decided as the machine decides them.
 use Rattle.std.proofs.Common.{◌≡◌, ◌+◌, ◌-◌, ◌≤◌, true, ◌&&◌, List, ◌∷◌, refl, ap, sym, ◌∙◌, arith}
 use Rattle.std.specs.Prelude.{ℤ, Result}
-use Rattle.label.specs.Values.{same_text, QTY_MAX, is_name, is_qty}
+use Rattle.values.specs.Values.{same_text, QTY_MAX, is_name, is_qty}
 use Rattle.commands.specs.Sound.{is_lot_id}
 use Rattle.commands.specs.declared.key.Key.{Key}
 use Rattle.commands.specs.declared.command.Picking.{Picking}
 use Rattle.commands.specs.declared.command.Command.TheVariants.{Pick}
-use Rattle.rules.specs.Acts.{Act, next_number}
-use Rattle.rules.specs.Postings.{InBin, Stage}
-use Rattle.rules.specs.Ledger.{postings}
-use Rattle.rules.specs.Planning.{in_bin, staged_of_lot}
-use Rattle.rules.specs.Once.{IsHistory}
-use Rattle.rules.specs.Tables.{tables_of}
+use Rattle.machine.specs.Acts.{Act, next_number}
+use Rattle.machine.specs.Postings.{InBin, Stage}
+use Rattle.machine.specs.Ledger.{postings}
+use Rattle.machine.specs.Planning.{in_bin, staged_of_lot}
+use Rattle.machine.specs.Once.{IsHistory}
+use Rattle.machine.specs.Tables.{tables_of}
 use Rattle.rules.specs.Slices.{IsSlice}
-use Rattle.rules.specs.Seen.{capped}
-use Rattle.rules.specs.SeenLots.{in_bin_seen}
-use Rattle.rules.specs.SeenStages.{on_stage_seen}
-use Rattle.rules.specs.DecidedPick.{pick_seen, pick_changes}
-use Rattle.rules.specs.declared.slice.Slice.{Slice}
-use Rattle.rules.specs.declared.slice.Change.{Change}
-use Rattle.rules.specs.declared.slice.RuleFault.{RuleFault}
-use Rattle.rules.proofs.Tests.{and_both, same_text_refl}
-use Rattle.rules.proofs.histories.Accepted.{pick_accepted}
-use Rattle.rules.proofs.histories.Cells.{Legal}
-use Rattle.rules.proofs.histories.LegalHistories.{legal_history}
+use Rattle.row_rules.specs.Seen.{capped}
+use Rattle.row_rules.specs.SeenLots.{in_bin_seen}
+use Rattle.row_rules.specs.SeenStages.{on_stage_seen}
+use Rattle.row_rules.specs.DecidedPick.{pick_seen, pick_changes}
+use Rattle.row_rules.specs.declared.slice.Slice.{Slice}
+use Rattle.row_rules.specs.declared.slice.Change.{Change}
+use Rattle.row_rules.specs.declared.slice.RuleFault.{RuleFault}
+use Rattle.machine.proofs.Tests.{and_both, same_text_refl}
+use Rattle.machine.proofs.histories.Accepted.{pick_accepted}
+use Rattle.machine.proofs.histories.Cells.{Legal}
+use Rattle.machine.proofs.histories.LegalHistories.{legal_history}
 use Rattle.rules.proofs.rows.LotTold.{in_bin_told}
 use Rattle.rules.proofs.rows.StageTold.{on_stage_told}
 use Rattle.rules.proofs.rows.StageUnits.{stage_within_limit}
 use Rattle.rules.proofs.rows.StockChanged.{taken_out, taken_elsewhere}
 use Rattle.rules.proofs.rows.StagedChanged.{staged_here, staged_elsewhere}
 use Rattle.rules.proofs.decided.Decisions.{AreRight, IsChange}
-use Rattle.rules.proofs.decided.Quantities.{at_most_limit}
+use Rattle.machine.proofs.histories.Quantities.{at_most_limit}
 use Rattle.rules.proofs.decided.picks.PickJudged.{pick_judged}
 use Rattle.rules.proofs.decided.picks.StagingStep.{IsStaging, IsLeft}
 use Rattle.rules.proofs.decided.picks.StagingTells.{staging_changed}

@@ -1,22 +1,22 @@
 -- A picking judged by its slice is judged as by the acts.
 use Rattle.std.proofs.Common.{◌≡◌, true, not, List, [], ◌∷◌, ap, ◌∙◌}
 use Rattle.std.specs.Prelude.{nat_lt, nat_le, ℤ}
-use Rattle.label.specs.Values.{same_text}
+use Rattle.values.specs.Values.{same_text}
 use Rattle.commands.specs.declared.limits.TheConstants.{ACTS_MAX}
 use Rattle.commands.specs.declared.key.Key.{Key}
 use Rattle.commands.specs.declared.command.Picking.{Picking}
 use Rattle.commands.specs.declared.command.Command.TheVariants.{Pick}
 use Rattle.commands.specs.declared.refusal.Refusal.TheVariants.{ActsFull, UnknownItem, UnknownBin, UnknownLot, UnknownOrder, NoSuchLine, LotRecalled, LotExpired, LotHeld, NotStoreBin, OrderClosed, NotInBin, OverReserved}
-use Rattle.rules.specs.Acts.{Act}
-use Rattle.rules.specs.Standing.{lot_known, today}
-use Rattle.rules.specs.Once.{IsHistory}
-use Rattle.rules.specs.Tables.{tables_of}
+use Rattle.machine.specs.Acts.{Act}
+use Rattle.machine.specs.Standing.{lot_known, today}
+use Rattle.machine.specs.Once.{IsHistory}
+use Rattle.machine.specs.Tables.{tables_of}
 use Rattle.rules.specs.Slices.{IsSlice}
-use Rattle.rules.specs.Seen.{lot_seen}
-use Rattle.rules.specs.Verdict.{first_refusal, verdict, is_past}
-use Rattle.rules.specs.DecidedPick.{is_past_row, pick_seen}
-use Rattle.rules.specs.declared.slice.Slice.{Slice}
-use Rattle.rules.proofs.Tests.{same_text_refl}
+use Rattle.row_rules.specs.Seen.{lot_seen}
+use Rattle.machine.specs.Verdict.{first_refusal, verdict, is_past}
+use Rattle.row_rules.specs.DecidedPick.{is_past_row, pick_seen}
+use Rattle.row_rules.specs.declared.slice.Slice.{Slice}
+use Rattle.machine.proofs.Tests.{same_text_refl}
 use Rattle.rules.proofs.decided.Decisions.{acts_seen, day_seen}
 use Rattle.rules.proofs.rows.SliceTells.{item_told, bin_told, recall_told}
 use Rattle.rules.proofs.rows.OrderTold.{order_told, open_told, line_told}

@@ -3,27 +3,28 @@
 use Rattle.std.proofs.Common.{◌≡◌, ℕ, true, false, ◌&&◌, List, [], ◌∷◌, ◌++◌, refl, ap, sym, ◌∙◌}
 use Rattle.std.specs.Prelude.{◌==◌, if◌then◌else◌, ℤ, Some, find, filter, option_map, flat_map}
 use Rattle.std.specs.List.{list_any, list_all}
-use Rattle.label.specs.Values.{same_text}
-use Rattle.label.specs.declared.lot.LotId.{LotId}
+use Rattle.values.specs.Values.{same_text}
+use Rattle.values.specs.declared.lot.LotId.{LotId}
 use Rattle.commands.specs.declared.command.OrderLine.{OrderLine}
 use Rattle.commands.specs.declared.command.Picking.{Picking}
 use Rattle.commands.specs.declared.rows.OrderState.TheVariants.{Open, Done, Cancelled}
-use Rattle.rules.specs.Acts.{Act, next_number}
-use Rattle.rules.specs.Postings.{Place, Posting, balance, is_lot, is_shipped_to, is_shipment, of_item}
-use Rattle.rules.specs.Ledger.{posting, postings, postings_of}
-use Rattle.rules.specs.Standing.{Placed, order_named, lines_of, lines_placed, has_line, is_cancelled, today, shipments_so_far}
-use Rattle.rules.specs.Planning.{in_bin, staged_of_lot, shipped_of, is_open, is_open_state, order_state}
-use Rattle.rules.specs.Cards.{cards, card_lines}
-use Rattle.rules.specs.Replies.{further_field}
-use Rattle.rules.specs.Tables.{tables_of, meta_row, if_any, item_row, bin_row, lot_row, recall_row, stock_row, order_row, line_row, staged_row, shipment_row, shipline_row, card_row}
-use Rattle.rules.specs.Touched.{is_touched}
-use Rattle.rules.specs.Slices.{IsSlice, applied, tables_but_repeats, changed, names_bin, same_cell, same_share}
-use Rattle.rules.specs.SeenLots.{stock_put, stock_gone}
-use Rattle.rules.specs.SeenStages.{staged_put, staged_gone}
-use Rattle.rules.specs.Plans.{rows_to_put, rows_to_drop}
-use Rattle.rules.specs.DecidedPick.{shares_with, changes_with}
-use Rattle.rules.specs.declared.slice.Slice.{Slice}
-use Rattle.rules.proofs.histories.Balances.{balance-elsewhere, balance-elsewhere_of}
+use Rattle.machine.specs.Acts.{Act, next_number}
+use Rattle.machine.specs.Postings.{Place, Posting, balance, is_lot, is_shipped_to, is_shipment, of_item}
+use Rattle.machine.specs.Ledger.{posting, postings, postings_of}
+use Rattle.machine.specs.Standing.{Placed, order_named, lines_of, lines_placed, has_line, is_cancelled, today, shipments_so_far}
+use Rattle.machine.specs.Planning.{in_bin, staged_of_lot, shipped_of, is_open, is_open_state, order_state}
+use Rattle.machine.specs.Cards.{cards, card_lines}
+use Rattle.machine.specs.Replies.{further_field}
+use Rattle.machine.specs.Tables.{tables_of, meta_row, if_any, item_row, bin_row, lot_row, recall_row, stock_row, order_row, line_row, staged_row, shipment_row, shipline_row, card_row}
+use Rattle.machine.specs.Touched.{is_touched}
+use Rattle.machine.specs.KeyedRows.{same_cell, same_share}
+use Rattle.rules.specs.Slices.{IsSlice, applied, tables_but_repeats, changed, names_bin}
+use Rattle.row_rules.specs.SeenLots.{stock_put, stock_gone}
+use Rattle.row_rules.specs.SeenStages.{staged_put, staged_gone}
+use Rattle.row_rules.specs.Plans.{rows_to_put, rows_to_drop}
+use Rattle.row_rules.specs.DecidedPick.{shares_with, changes_with}
+use Rattle.row_rules.specs.declared.slice.Slice.{Slice}
+use Rattle.machine.proofs.histories.Balances.{balance-elsewhere, balance-elsewhere_of}
 use Rattle.rules.proofs.rows.TableSteps.{AreNamed, same_tables, reserved_changed}
 use Rattle.rules.proofs.rows.LotTold.{found_stock}
 use Rattle.rules.proofs.rows.StageTold.{found_staged}

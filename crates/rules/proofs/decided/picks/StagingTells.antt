@@ -3,7 +3,7 @@
 use Rattle.std.proofs.Common.{◌≡◌, ℕ, true, false, ◌&&◌, List, [], ◌∷◌, refl, ap, sym, ◌∙◌}
 use Rattle.std.specs.Prelude.{◌==◌, ◌||◌, if◌then◌else◌, ℤ, find}
 use Rattle.std.specs.List.{list_any}
-use Rattle.label.specs.Values.{same_text}
+use Rattle.values.specs.Values.{same_text}
 use Rattle.commands.specs.declared.command.Picking.{Picking}
 use Rattle.commands.specs.declared.rows.BinRow.{BinRow}
 use Rattle.commands.specs.declared.rows.LotRow.{LotRow}
@@ -11,21 +11,22 @@ use Rattle.commands.specs.declared.rows.StockRow.{StockRow}
 use Rattle.commands.specs.declared.rows.OrderRow.{OrderRow}
 use Rattle.commands.specs.declared.rows.LineRow.{LineRow}
 use Rattle.commands.specs.declared.rows.StagedRow.{StagedRow}
-use Rattle.rules.specs.Acts.{Act}
-use Rattle.rules.specs.Postings.{Place, is_lot, of_item}
-use Rattle.rules.specs.Standing.{has_line}
-use Rattle.rules.specs.Planning.{is_open}
-use Rattle.rules.specs.Once.{IsHistory}
-use Rattle.rules.specs.Tables.{tables_of, bin_row, lot_row, stock_row, order_row, line_row, staged_row}
-use Rattle.rules.specs.Touched.{is_touched}
-use Rattle.rules.specs.Slices.{IsSlice, same_cell, same_line, same_share, no_two}
-use Rattle.rules.specs.SeenLots.{stock_put, stock_rows_with}
-use Rattle.rules.specs.SeenStages.{staged_put, staged_rows_with}
-use Rattle.rules.specs.Plans.{rows_to_put, rows_to_drop}
-use Rattle.rules.specs.DecidedPick.{shares_with, changes_with}
-use Rattle.rules.specs.declared.slice.Slice.{Slice}
-use Rattle.rules.proofs.Tests.{same_text_refl, same_text_turned}
-use Rattle.rules.proofs.histories.Accepted.{room_for_acts}
+use Rattle.machine.specs.Acts.{Act}
+use Rattle.machine.specs.Postings.{Place, is_lot, of_item}
+use Rattle.machine.specs.Standing.{has_line}
+use Rattle.machine.specs.Planning.{is_open}
+use Rattle.machine.specs.Once.{IsHistory}
+use Rattle.machine.specs.Tables.{tables_of, bin_row, lot_row, stock_row, order_row, line_row, staged_row}
+use Rattle.machine.specs.Touched.{is_touched}
+use Rattle.machine.specs.KeyedRows.{same_cell, same_line, same_share, no_two}
+use Rattle.rules.specs.Slices.{IsSlice}
+use Rattle.row_rules.specs.SeenLots.{stock_put, stock_rows_with}
+use Rattle.row_rules.specs.SeenStages.{staged_put, staged_rows_with}
+use Rattle.row_rules.specs.Plans.{rows_to_put, rows_to_drop}
+use Rattle.row_rules.specs.DecidedPick.{shares_with, changes_with}
+use Rattle.row_rules.specs.declared.slice.Slice.{Slice}
+use Rattle.machine.proofs.Tests.{same_text_refl, same_text_turned}
+use Rattle.machine.proofs.histories.Accepted.{room_for_acts}
 use Rattle.rules.proofs.rows.AfterRows.{loosened}
 use Rattle.rules.proofs.rows.TableSteps.{AreNamed, names_changed}
 use Rattle.rules.proofs.rows.StockChanged.{with_units, stock_rows_are, stock_row_with, bins_with}

@@ -1,19 +1,19 @@
 -- Units put back judged by their slice are judged as by the acts.
 use Rattle.std.proofs.Common.{◌≡◌, true, not, List, [], ◌∷◌}
 use Rattle.std.specs.Prelude.{nat_lt, nat_le, ℤ}
-use Rattle.label.specs.Values.{same_text}
+use Rattle.values.specs.Values.{same_text}
 use Rattle.commands.specs.declared.limits.TheConstants.{ACTS_MAX}
 use Rattle.commands.specs.declared.key.Key.{Key}
 use Rattle.commands.specs.declared.command.Picking.{Picking}
 use Rattle.commands.specs.declared.command.Command.TheVariants.{Unpick}
 use Rattle.commands.specs.declared.refusal.Refusal.TheVariants.{ActsFull, UnknownItem, UnknownBin, UnknownLot, UnknownOrder, NoSuchLine, OrderClosed, OverStaged}
-use Rattle.rules.specs.Acts.{Act}
-use Rattle.rules.specs.Tables.{tables_of}
+use Rattle.machine.specs.Acts.{Act}
+use Rattle.machine.specs.Tables.{tables_of}
 use Rattle.rules.specs.Slices.{IsSlice}
-use Rattle.rules.specs.Verdict.{first_refusal, verdict}
-use Rattle.rules.specs.DecidedPick.{unpick_seen}
-use Rattle.rules.specs.declared.slice.Slice.{Slice}
-use Rattle.rules.proofs.Tests.{same_text_refl}
+use Rattle.machine.specs.Verdict.{first_refusal, verdict}
+use Rattle.row_rules.specs.DecidedPick.{unpick_seen}
+use Rattle.row_rules.specs.declared.slice.Slice.{Slice}
+use Rattle.machine.proofs.Tests.{same_text_refl}
 use Rattle.rules.proofs.decided.Decisions.{acts_seen}
 use Rattle.rules.proofs.rows.SliceTells.{item_told, bin_told}
 use Rattle.rules.proofs.rows.OrderTold.{order_told, open_told, line_told}

@@ -1,5 +1,5 @@
-use Rattle.label.specs.Values.{same_text}
-use Rattle.rules.proofs.Searching.{IsTested}
+use Rattle.values.specs.Values.{same_text}
+use Rattle.row_rules.proofs.Searching.{IsTested}
 use Rattle.slices.proofs.naming.has_item.Given as goal
 
 abbrev pub invariant-loop-other : goal.invariant-loop-other

@@ -1,5 +1,5 @@
 use Rattle.commands.specs.declared.rows.LotRow.{LotRow}
-use Rattle.rules.proofs.Walking.{IsKept}
+use Rattle.row_rules.proofs.Walking.{IsKept}
 use Rattle.slices.specs.Slicing.{is_ending}
 use Rattle.slices.proofs.opening.ending_lots.Given as goal
 

@@ -1,6 +1,6 @@
 use Rattle.std.specs.Prelude.{not}
 use Rattle.commands.specs.declared.rows.LotRow.{LotRow}
-use Rattle.rules.proofs.Walking.{IsKept}
+use Rattle.row_rules.proofs.Walking.{IsKept}
 use Rattle.slices.specs.Slicing.{has_recall_in}
 use Rattle.slices.proofs.opening.not_recalled.Given as goal
 

@@ -1,6 +1,6 @@
-use Rattle.label.specs.Values.{same_text}
+use Rattle.values.specs.Values.{same_text}
 use Rattle.commands.specs.declared.rows.LineRow.{LineRow}
-use Rattle.rules.proofs.Searching.{IsTested}
+use Rattle.row_rules.proofs.Searching.{IsTested}
 use Rattle.slices.proofs.order_slices.has_line.Given as goal
 
 abbrev pub invariant-loop-line : goal.invariant-loop-line

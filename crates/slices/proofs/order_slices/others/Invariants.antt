@@ -1,6 +1,6 @@
 use Rattle.std.specs.Prelude.{not}
 use Rattle.commands.specs.declared.rows.OrderRow.{OrderRow}
-use Rattle.rules.proofs.Walking.{IsKept}
+use Rattle.row_rules.proofs.Walking.{IsKept}
 use Rattle.slices.specs.Slicing.{is_among}
 use Rattle.slices.proofs.order_slices.others.Given as goal
 

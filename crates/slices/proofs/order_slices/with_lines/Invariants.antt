@@ -1,5 +1,5 @@
 use Rattle.commands.specs.declared.rows.OrderRow.{OrderRow}
-use Rattle.rules.proofs.Walking.{IsKept}
+use Rattle.row_rules.proofs.Walking.{IsKept}
 use Rattle.slices.specs.Slicing.{has_line_in}
 use Rattle.slices.proofs.order_slices.with_lines.Given as goal
 

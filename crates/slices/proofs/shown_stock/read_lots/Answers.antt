@@ -20,9 +20,9 @@ pub returns-clause-read : goal.returns-clause-read
 returns-clause-read g c =
     so_told (and_then (and_then (and_then (and_then c.in_ok-lots.ensures.read c.in_ok-recalls.ensures.read) c.in_ok-stock.ensures.read) c.in_ok-staged.ensures.read) c.in_ok-reserved.ensures.read)
     (λ t h. record {
-      lots = rw c.from_vec-3.ensures h.0.0.0.0;
-      recalls = rw c.from_vec-4.ensures h.0.0.0.1;
-      stock = rw c.from_vec-5.ensures h.0.0.1;
-      staged = rw c.from_vec-8.ensures h.0.1;
-      reserved = rw c.from_vec-9.ensures h.1;
+      lots = rw c.of_item.ensures.same_lots h.0.0.0.0;
+      recalls = rw c.of_item.ensures.same_recalls h.0.0.0.1;
+      stock = rw c.of_item.ensures.same_stock h.0.0.1;
+      staged = rw c.of_item.ensures.same_staged h.0.1;
+      reserved = rw c.of_item.ensures.same_reserved h.1;
     })

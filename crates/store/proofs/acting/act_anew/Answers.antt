@@ -3,7 +3,7 @@ use Rattle.sqlite.specs.State.{HasCleanDisk}
 use Rattle.sqlite.specs.Held.{state}
 use Rattle.table_words.specs.Steps.{IsReady}
 use Rattle.table_words.proofs.CallLemmas.{kept_then}
-use Rattle.rules.specs.Acts.{Act}
+use Rattle.machine.specs.Acts.{Act}
 use Rattle.store.specs.Acting.{IsActedInside}
 use Rattle.store.proofs.FaultsTold.{by_error}
 use Rattle.store.proofs.ActsInside.{accepted_inside, undecided_inside}

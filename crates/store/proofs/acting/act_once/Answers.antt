@@ -1,6 +1,6 @@
 use Rattle.std.proofs.Common.{Ok, rules}
 use Rattle.sqlite.specs.Held.{state}
-use Rattle.rules.specs.Acts.{Act}
+use Rattle.machine.specs.Acts.{Act}
 use Rattle.store.proofs.ActsWhole.{ActsWhole, SurvivesWhole, begun_state, act_committed, act_not_committed, act_undone, stop_in_commit, stop_before_commit}
 use Rattle.store.proofs.acting.act_once.Goals as goal
 

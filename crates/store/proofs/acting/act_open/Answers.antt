@@ -6,7 +6,7 @@ use Rattle.commands.specs.declared.rows.RepeatRow.{RepeatRow}
 use Rattle.table_words.specs.Steps.{IsReady}
 use Rattle.table_words.specs.Typed.{tables_in}
 use Rattle.table_words.proofs.CallLemmas.{kept_unchanged, kept_then}
-use Rattle.rules.specs.Acts.{Act}
+use Rattle.machine.specs.Acts.{Act}
 use Rattle.store.specs.Acting.{IsActedInside}
 use Rattle.store.specs.Faults.{fault_of}
 use Rattle.store.proofs.FaultsTold.{by_error}

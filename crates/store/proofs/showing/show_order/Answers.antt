@@ -3,9 +3,9 @@ use Rattle.std.specs.Prelude.{ℤ}
 use Rattle.commands.specs.declared.views.OrderView.{OrderView}
 use Rattle.sqlite.specs.State.{State, HasCleanDisk}
 use Rattle.sqlite.specs.Held.{state}
-use Rattle.rules.specs.Acts.{Act}
-use Rattle.rules.specs.Once.{IsHistory}
-use Rattle.rules.specs.Queries.{order_shown}
+use Rattle.machine.specs.Acts.{Act}
+use Rattle.machine.specs.Once.{IsHistory}
+use Rattle.machine.specs.Queries.{order_shown}
 use Rattle.slices.specs.ShownOrders.{IsOrderRead}
 use Rattle.store.specs.Books.{KeepsBooks}
 use Rattle.store.specs.Showing.{IsShownOn}

@@ -1,7 +1,7 @@
 use Rattle.std.proofs.Common.{rules, ◌≡◌}
 use Rattle.sqlite.specs.Held.{state}
-use Rattle.rules.specs.Standing.{today}
-use Rattle.rules.specs.Queries.{stock_shown}
+use Rattle.machine.specs.Standing.{today}
+use Rattle.machine.specs.Queries.{stock_shown}
 use Rattle.slices.specs.ShownStock.{IsStockRead}
 use Rattle.store.proofs.ActsWhole.{begun_state}
 use Rattle.store.proofs.ShownWhole.{ShownWhole, found_shown, not_shown}

@@ -1,5 +1,5 @@
 use Rattle.std.proofs.Common.{◌≡◌, Err, sym, subst}
-use Rattle.rules.specs.Acts.{Act}
+use Rattle.machine.specs.Acts.{Act}
 use Rattle.store.specs.Acting.{IsDecided}
 use Rattle.store.specs.declared.fault.Fault.{Fault}
 use Rattle.store.proofs.DecidedAs.{fault_told}

@@ -1,4 +1,4 @@
-use Rattle.rules.proofs.Walking.{IsMapped}
+use Rattle.row_rules.proofs.Walking.{IsMapped}
 use Rattle.views.specs.Seen.{line_seen}
 use Rattle.views.proofs.order.line_views.Given as goal
 

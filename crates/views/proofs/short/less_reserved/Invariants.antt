@@ -1,7 +1,7 @@
 use Rattle.std.specs.Prelude.{◌&&◌, if◌then◌else◌}
-use Rattle.label.specs.Values.{same_text}
+use Rattle.values.specs.Values.{same_text}
 use Rattle.commands.specs.declared.rows.ReservedRow.{ReservedRow}
-use Rattle.rules.specs.Postings.{of_item}
+use Rattle.machine.specs.Postings.{of_item}
 use Rattle.views.proofs.Walks.{IsLessened}
 use Rattle.views.proofs.short.less_reserved.Given as goal
 

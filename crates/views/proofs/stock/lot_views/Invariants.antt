@@ -1,4 +1,4 @@
-use Rattle.rules.proofs.Walking.{IsMapped}
+use Rattle.row_rules.proofs.Walking.{IsMapped}
 use Rattle.views.specs.SeenStock.{lot_seen}
 use Rattle.views.proofs.stock.lot_views.Given as goal
 

@@ -1,7 +1,7 @@
 use Rattle.std.specs.Prelude.{if◌then◌else◌}
 use Rattle.commands.specs.declared.rows.ReservedRow.{ReservedRow}
-use Rattle.rules.specs.Postings.{is_lot}
-use Rattle.rules.proofs.Capping.{IsCapped}
+use Rattle.machine.specs.Postings.{is_lot}
+use Rattle.row_rules.proofs.Capping.{IsCapped}
 use Rattle.views.proofs.summing.reserved_on_lot.Given as goal
 
 abbrev pub invariant-loop-row : goal.invariant-loop-row

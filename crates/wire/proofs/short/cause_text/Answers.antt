@@ -1,10 +1,10 @@
-use Rattle.std.proofs.Common.{◌≡◌, ◌∙◌, refl}
-use Rattle.wire.specs.Shorts.{cause_text}
+use Rattle.std.proofs.Common.{◌∙◌, refl}
 use Rattle.wire.proofs.ShortTexts.{cause_is_json}
 use Rattle.wire.proofs.short.cause_text.Goals as goal
 
+pub returns-clause-text : goal.returns-clause-text
+returns-clause-text c =
+    rw (c.of.ensures, c.push_all-3.ensures.text, c.push_all-2.ensures.text, c.as_bytes.ensures.value, c.push_all.ensures.text, c.new-text.ensures) refl
+
 pub returns-clause-json : goal.returns-clause-json
-returns-clause-json c =
-    let text : c.of.result ≡ cause_text c.args.cause.now =
-    rw (c.of.ensures, c.push_all-3.ensures.text, c.push_all-2.ensures.text, c.as_bytes.ensures.value, c.push_all.ensures.text, c.new-text.ensures) refl in
-    text ∙ cause_is_json c.args.cause.now c.requires
+returns-clause-json c = returns-clause-text c ∙ cause_is_json c.args.cause.now c.requires

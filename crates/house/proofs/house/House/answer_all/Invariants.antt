@@ -1,7 +1,7 @@
 use Rattle.std.proofs.Common.{◌≡◌, ◌≤◌, ℤ, List, length, take}
 use Rattle.std.specs.Prelude.{map, vec_len, vec_capacity}
-use Rattle.rules.specs.Acts.{Act}
-use Rattle.rules.specs.Once.{IsHistory}
+use Rattle.machine.specs.Acts.{Act}
+use Rattle.machine.specs.Once.{IsHistory}
 use Rattle.store.specs.Books.{IsClean, HoldsBooks}
 use Rattle.house.specs.House.{books_of, bytes_of, texts_of, RunsTo}
 use Rattle.house.proofs.house.House.answer_all.Given as goal

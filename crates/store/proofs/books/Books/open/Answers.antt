@@ -2,7 +2,7 @@ use Rattle.std.proofs.Common.{inr, sym, subst, ◌∙◌, arith}
 use Rattle.sqlite.specs.Held.{state}
 use Rattle.sqlite.specs.State.{HasCleanDisk}
 use Rattle.sqlite.specs.Tree.{Trees}
-use Rattle.rules.specs.Standing.{today}
+use Rattle.machine.specs.Standing.{today}
 use Rattle.store.specs.Opening.{HasDay}
 use Rattle.store.proofs.OpenedBooks.{reopened, keeps_books, has_day, one_day, foreign_if, store_else}
 use Rattle.store.proofs.books.Books.open.Goals as goal

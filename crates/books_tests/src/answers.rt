@@ -1,0 +1,261 @@
+//! The worked examples, sent to a house whose books are in memory.
+
+use house::{Answered, House, ServeFault, laws};
+use label::{BusinessDay, Day};
+use sqlite::{Alter, Connection, MemStore};
+use std::alloc::{AllocError, Global};
+use std::process::Abort;
+use std::test::Fail;
+use store::Books;
+
+// Texts that are no request, or ask for what is not served, and labels that are refused.
+static NO_REQUESTS: [(&str, &str); 7] = [
+    (
+        "POST /items HTTP/1.1\r\nContent-Length: 56\r\n\r\n{\"key\":\"K-1\",\"gtin\":\"09506000134352\",\"name\":\"Oat drink\"",
+        "HTTP/1.1 400 Bad Request\r\ncontent-type: application/json\r\ncontent-length: 14\r\nconnection: close\r\n\r\n{\"code\":\"W02\"}",
+    ),
+    (
+        "POST /items HTTP/1.1\r\nContent-Length: 262145\r\n\r\n{\"key\":\"K-1\",\"gtin\":\"09506000134352\",\"name\":\"Oat drink\"}",
+        "HTTP/1.1 413 Content Too Large\r\ncontent-type: application/json\r\ncontent-length: 14\r\nconnection: close\r\n\r\n{\"code\":\"W08\"}",
+    ),
+    (
+        "POST /items HTTP/1.1\r\nContent-Length: 56\r\n",
+        "HTTP/1.1 400 Bad Request\r\ncontent-type: application/json\r\ncontent-length: 14\r\nconnection: close\r\n\r\n{\"code\":\"W01\"}",
+    ),
+    (
+        "GET /items HTTP/1.1\r\n\r\n",
+        "HTTP/1.1 405 Method Not Allowed\r\ncontent-type: application/json\r\ncontent-length: 14\r\nconnection: close\r\nallow: POST\r\n\r\n{\"code\":\"W07\"}",
+    ),
+    (
+        "GET /picklists/S-1 HTTP/1.1\r\n\r\n",
+        "HTTP/1.1 404 Not Found\r\ncontent-type: application/json\r\ncontent-length: 14\r\nconnection: close\r\n\r\n{\"code\":\"W06\"}",
+    ),
+    (
+        "POST /receipts HTTP/1.1\r\nContent-Length: 88\r\n\r\n{\"delivery\":\"D-1\",\"line\":1,\"label\":\"01095060001343521726093110L1\",\"bin\":\"A-01\",\"qty\":10}",
+        "HTTP/1.1 400 Bad Request\r\ncontent-type: application/json\r\ncontent-length: 28\r\nconnection: close\r\n\r\n{\"cause\":\"L10\",\"code\":\"W05\"}",
+    ),
+    (
+        "POST /receipts HTTP/1.1\r\nContent-Length: 90\r\n\r\n{\"delivery\":\"D-1\",\"line\":1,\"label\":\"0109506000134353172606301010L1\",\"bin\":\"A-01\",\"qty\":10}",
+        "HTTP/1.1 400 Bad Request\r\ncontent-type: application/json\r\ncontent-length: 28\r\nconnection: close\r\n\r\n{\"cause\":\"L05\",\"code\":\"W05\"}",
+    ),
+];
+
+// Two items and three bins.
+pub(crate) static GOODS_AND_BINS: [(&str, &str); 5] = [
+    (
+        "POST /items HTTP/1.1\r\nContent-Length: 56\r\n\r\n{\"key\":\"K-1\",\"gtin\":\"09506000134352\",\"name\":\"Oat drink\"}",
+        "HTTP/1.1 200 OK\r\ncontent-type: application/json\r\ncontent-length: 9\r\nconnection: close\r\n\r\n{\"act\":1}",
+    ),
+    (
+        "POST /items HTTP/1.1\r\nContent-Length: 56\r\n\r\n{\"key\":\"K-2\",\"gtin\":\"04012345000016\",\"name\":\"Rye bread\"}",
+        "HTTP/1.1 200 OK\r\ncontent-type: application/json\r\ncontent-length: 9\r\nconnection: close\r\n\r\n{\"act\":2}",
+    ),
+    (
+        "POST /bins HTTP/1.1\r\nContent-Length: 41\r\n\r\n{\"key\":\"K-3\",\"bin\":\"A-01\",\"kind\":\"STORE\"}",
+        "HTTP/1.1 200 OK\r\ncontent-type: application/json\r\ncontent-length: 9\r\nconnection: close\r\n\r\n{\"act\":3}",
+    ),
+    (
+        "POST /bins HTTP/1.1\r\nContent-Length: 41\r\n\r\n{\"key\":\"K-4\",\"bin\":\"A-02\",\"kind\":\"STORE\"}",
+        "HTTP/1.1 200 OK\r\ncontent-type: application/json\r\ncontent-length: 9\r\nconnection: close\r\n\r\n{\"act\":4}",
+    ),
+    (
+        "POST /bins HTTP/1.1\r\nContent-Length: 40\r\n\r\n{\"key\":\"K-5\",\"bin\":\"Q-01\",\"kind\":\"HOLD\"}",
+        "HTTP/1.1 200 OK\r\ncontent-type: application/json\r\ncontent-length: 9\r\nconnection: close\r\n\r\n{\"act\":5}",
+    ),
+];
+
+// What is refused on these: a lot that is expired, and an order that nobody placed.
+static REFUSED: [(&str, &str); 2] = [
+    (
+        "POST /receipts HTTP/1.1\r\nContent-Length: 90\r\n\r\n{\"delivery\":\"D-0\",\"line\":1,\"label\":\"01095060001343521777010110AB12\",\"bin\":\"A-01\",\"qty\":10}",
+        "HTTP/1.1 409 Conflict\r\ncontent-type: application/json\r\ncontent-length: 14\r\nconnection: close\r\n\r\n{\"code\":\"S02\"}",
+    ),
+    (
+        "GET /orders/S-1 HTTP/1.1\r\n\r\n",
+        "HTTP/1.1 404 Not Found\r\ncontent-type: application/json\r\ncontent-length: 14\r\nconnection: close\r\n\r\n{\"code\":\"U04\"}",
+    ),
+];
+
+// The stock of an item with no lot, of one whose number is spelled with an escape, and of one that
+// nobody took into the range.
+static STOCK_BEFORE: [(&str, &str); 3] = [
+    (
+        "GET /stock/04012345000016 HTTP/1.1\r\n\r\n",
+        "HTTP/1.1 200 OK\r\ncontent-type: application/json\r\ncontent-length: 54\r\nconnection: close\r\n\r\n{\"gtin\":\"04012345000016\",\"lots\":[],\"name\":\"Rye bread\"}",
+    ),
+    (
+        "GET /stock/0401234500001%36 HTTP/1.1\r\n\r\n",
+        "HTTP/1.1 200 OK\r\ncontent-type: application/json\r\ncontent-length: 54\r\nconnection: close\r\n\r\n{\"gtin\":\"04012345000016\",\"lots\":[],\"name\":\"Rye bread\"}",
+    ),
+    (
+        "GET /stock/04012345000023 HTTP/1.1\r\n\r\n",
+        "HTTP/1.1 404 Not Found\r\ncontent-type: application/json\r\ncontent-length: 14\r\nconnection: close\r\n\r\n{\"code\":\"U01\"}",
+    ),
+];
+
+// The stock after the first receipt, and after all that the two customers ordered.
+static STOCK_OF_ONE_LOT: [(&str, &str); 1] = [(
+    "GET /stock/09506000134352 HTTP/1.1\r\n\r\n",
+    "HTTP/1.1 200 OK\r\ncontent-type: application/json\r\ncontent-length: 161\r\nconnection: close\r\n\r\n{\"gtin\":\"09506000134352\",\"lots\":[{\"bins\":[{\"bin\":\"A-01\",\"qty\":10}],\"expiry\":\"2026-06-30\",\"lot\":\"L1\",\"reserved\":0,\"staged\":0,\"status\":\"FREE\"}],\"name\":\"Oat drink\"}",
+)];
+
+static STOCK_OF_THREE_LOTS: [(&str, &str); 1] = [(
+    "GET /stock/09506000134352 HTTP/1.1\r\n\r\n",
+    "HTTP/1.1 200 OK\r\ncontent-type: application/json\r\ncontent-length: 377\r\nconnection: close\r\n\r\n{\"gtin\":\"09506000134352\",\"lots\":[{\"bins\":[{\"bin\":\"A-01\",\"qty\":5}],\"expiry\":\"2026-05-10\",\"lot\":\"L0\",\"reserved\":5,\"staged\":0,\"status\":\"FREE\"},{\"bins\":[{\"bin\":\"A-01\",\"qty\":10}],\"expiry\":\"2026-05-31\",\"lot\":\"L2\",\"reserved\":10,\"staged\":0,\"status\":\"FREE\"},{\"bins\":[{\"bin\":\"A-01\",\"qty\":10}],\"expiry\":\"2026-06-30\",\"lot\":\"L1\",\"reserved\":9,\"staged\":0,\"status\":\"FREE\"}],\"name\":\"Oat drink\"}",
+)];
+
+// Two deliveries and two customers; the last receipt comes again, and then with another quantity.
+pub(crate) static TWO_CUSTOMERS: [(&str, &str); 11] = [
+    (
+        "POST /receipts HTTP/1.1\r\nContent-Length: 88\r\n\r\n{\"delivery\":\"D-1\",\"line\":1,\"label\":\"01095060001343521726063010L1\",\"bin\":\"A-01\",\"qty\":10}",
+        "HTTP/1.1 200 OK\r\ncontent-type: application/json\r\ncontent-length: 9\r\nconnection: close\r\n\r\n{\"act\":6}",
+    ),
+    (
+        "POST /receipts HTTP/1.1\r\nContent-Length: 88\r\n\r\n{\"delivery\":\"D-1\",\"line\":2,\"label\":\"01095060001343521726053110L2\",\"bin\":\"A-01\",\"qty\":10}",
+        "HTTP/1.1 200 OK\r\ncontent-type: application/json\r\ncontent-length: 9\r\nconnection: close\r\n\r\n{\"act\":7}",
+    ),
+    (
+        "POST /orders HTTP/1.1\r\nContent-Length: 97\r\n\r\n{\"key\":\"K-8\",\"order\":\"S-1\",\"customer\":\"Corner Shop\",\"lines\":[{\"gtin\":\"09506000134352\",\"qty\":12}]}",
+        "HTTP/1.1 200 OK\r\ncontent-type: application/json\r\ncontent-length: 19\r\nconnection: close\r\n\r\n{\"act\":8,\"short\":0}",
+    ),
+    (
+        "GET /orders/S-1 HTTP/1.1\r\n\r\n",
+        "HTTP/1.1 200 OK\r\ncontent-type: application/json\r\ncontent-length: 194\r\nconnection: close\r\n\r\n{\"customer\":\"Corner Shop\",\"lines\":[{\"gtin\":\"09506000134352\",\"ordered\":12,\"reserved\":[{\"lot\":\"L2\",\"qty\":10},{\"lot\":\"L1\",\"qty\":2}],\"shipped\":0,\"short\":0,\"staged\":[]}],\"order\":\"S-1\",\"state\":\"OPEN\"}",
+    ),
+    (
+        "POST /orders HTTP/1.1\r\nContent-Length: 98\r\n\r\n{\"key\":\"K-9\",\"order\":\"S-2\",\"customer\":\"Harbour Cafe\",\"lines\":[{\"gtin\":\"09506000134352\",\"qty\":12}]}",
+        "HTTP/1.1 200 OK\r\ncontent-type: application/json\r\ncontent-length: 19\r\nconnection: close\r\n\r\n{\"act\":9,\"short\":4}",
+    ),
+    (
+        "GET /orders/S-2 HTTP/1.1\r\n\r\n",
+        "HTTP/1.1 200 OK\r\ncontent-type: application/json\r\ncontent-length: 173\r\nconnection: close\r\n\r\n{\"customer\":\"Harbour Cafe\",\"lines\":[{\"gtin\":\"09506000134352\",\"ordered\":12,\"reserved\":[{\"lot\":\"L1\",\"qty\":8}],\"shipped\":0,\"short\":4,\"staged\":[]}],\"order\":\"S-2\",\"state\":\"OPEN\"}",
+    ),
+    (
+        "POST /receipts HTTP/1.1\r\nContent-Length: 87\r\n\r\n{\"delivery\":\"D-2\",\"line\":1,\"label\":\"01095060001343521726051010L0\",\"bin\":\"A-01\",\"qty\":5}",
+        "HTTP/1.1 200 OK\r\ncontent-type: application/json\r\ncontent-length: 10\r\nconnection: close\r\n\r\n{\"act\":10}",
+    ),
+    (
+        "GET /orders/S-1 HTTP/1.1\r\n\r\n",
+        "HTTP/1.1 200 OK\r\ncontent-type: application/json\r\ncontent-length: 193\r\nconnection: close\r\n\r\n{\"customer\":\"Corner Shop\",\"lines\":[{\"gtin\":\"09506000134352\",\"ordered\":12,\"reserved\":[{\"lot\":\"L0\",\"qty\":5},{\"lot\":\"L2\",\"qty\":7}],\"shipped\":0,\"short\":0,\"staged\":[]}],\"order\":\"S-1\",\"state\":\"OPEN\"}",
+    ),
+    (
+        "GET /orders/S-2 HTTP/1.1\r\n\r\n",
+        "HTTP/1.1 200 OK\r\ncontent-type: application/json\r\ncontent-length: 194\r\nconnection: close\r\n\r\n{\"customer\":\"Harbour Cafe\",\"lines\":[{\"gtin\":\"09506000134352\",\"ordered\":12,\"reserved\":[{\"lot\":\"L2\",\"qty\":3},{\"lot\":\"L1\",\"qty\":9}],\"shipped\":0,\"short\":0,\"staged\":[]}],\"order\":\"S-2\",\"state\":\"OPEN\"}",
+    ),
+    (
+        "POST /receipts HTTP/1.1\r\nContent-Length: 87\r\n\r\n{\"delivery\":\"D-2\",\"line\":1,\"label\":\"01095060001343521726051010L0\",\"bin\":\"A-01\",\"qty\":5}",
+        "HTTP/1.1 200 OK\r\ncontent-type: application/json\r\ncontent-length: 10\r\nconnection: close\r\n\r\n{\"act\":10}",
+    ),
+    (
+        "POST /receipts HTTP/1.1\r\nContent-Length: 87\r\n\r\n{\"delivery\":\"D-2\",\"line\":1,\"label\":\"01095060001343521726051010L0\",\"bin\":\"A-01\",\"qty\":6}",
+        "HTTP/1.1 409 Conflict\r\ncontent-type: application/json\r\ncontent-length: 14\r\nconnection: close\r\n\r\n{\"code\":\"K01\"}",
+    ),
+];
+
+pub(crate) fn new_books<S: Alter + Drop>(
+    alloc: Global,
+    conn: Connection<S>,
+) -> Result<Books<S>, Fail> {
+    let day = Day::parse(b"2026-05-04").ok_or("a day")?;
+    let day = BusinessDay::new(day).ok_or("a business day")?;
+    if !conn.is_autocommit() {
+        return Err(Fail::new("a transaction is open"));
+    }
+    match Books::create(alloc, conn, day) {
+        Ok(books) => Ok(books),
+        Err(_) => Err(Fail::new("no books")),
+    }
+}
+
+pub(crate) fn new_house(alloc: Global) -> Result<House<MemStore>, Fail> {
+    let conn = Connection::open_in_memory(alloc)?;
+    Ok(House::new(alloc, new_books(alloc, conn)?))
+}
+
+// Each text gets its answer.
+pub(crate) fn expect(rt: &impl Abort, house: &mut House<MemStore>, rows: &[(&str, &str)]) {
+    for row in rows {
+        let answer = house.answer(row.0.as_bytes());
+        assert_eq!(rt; answer.as_bytes(), row.1.as_bytes(), "{:?}", row.0);
+    }
+}
+
+#[test]
+fn answers_what_is_no_request(rt: HostRuntime) -> Result<(), Fail> {
+    let mut house = new_house(rt.alloc())?;
+    expect(&rt, &mut house, NO_REQUESTS.as_slice());
+    assert_eq!(rt;
+        house.close().day(),
+        Day::parse(b"2026-05-04").ok_or("a day")?
+    );
+    laws::refused_requests_change_nothing();
+    laws::books_are_never_foreign();
+    Ok(())
+}
+
+#[test]
+fn answers_the_two_customers(rt: HostRuntime) -> Result<(), Fail> {
+    let mut house = new_house(rt.alloc())?;
+    expect(&rt, &mut house, GOODS_AND_BINS.as_slice());
+    expect(&rt, &mut house, REFUSED.as_slice());
+    expect(&rt, &mut house, TWO_CUSTOMERS.as_slice());
+    Ok(())
+}
+
+#[test]
+fn shows_stock(rt: HostRuntime) -> Result<(), Fail> {
+    let mut house = new_house(rt.alloc())?;
+    expect(&rt, &mut house, GOODS_AND_BINS.as_slice());
+    expect(&rt, &mut house, STOCK_BEFORE.as_slice());
+    let (first, later) = TWO_CUSTOMERS.as_slice().split_at(1);
+    expect(&rt, &mut house, first);
+    expect(&rt, &mut house, STOCK_OF_ONE_LOT.as_slice());
+    expect(&rt, &mut house, later);
+    expect(&rt, &mut house, STOCK_OF_THREE_LOTS.as_slice());
+    Ok(())
+}
+
+fn texts(alloc: Global, rows: &[(&str, &str)]) -> Result<Vec<Vec<u8>>, AllocError> {
+    let mut texts = Vec::new(alloc);
+    for row in rows {
+        texts.push(row.0.as_bytes().to_vec(alloc)?)?;
+    }
+    Ok(texts)
+}
+
+#[test]
+fn answers_all_in_turn(rt: HostRuntime) -> Result<(), Fail> {
+    let mut house = new_house(rt.alloc())?;
+    expect(&rt, &mut house, GOODS_AND_BINS.as_slice());
+    let texts = texts(rt.alloc(), TWO_CUSTOMERS.as_slice())?;
+    let answers: Vec<Answered> = house.answer_all(texts.as_slice())?;
+    assert_eq!(rt; answers.len(), TWO_CUSTOMERS.len());
+    for (answer, row) in answers.iter().zip(TWO_CUSTOMERS.as_slice()) {
+        assert_eq!(rt; answer.as_bytes(), row.1.as_bytes(), "{:?}", row.0);
+    }
+    Ok(())
+}
+
+#[test]
+fn serves_one(rt: HostRuntime) -> Result<(), Fail> {
+    let mut house = new_house(rt.alloc())?;
+    for row in NO_REQUESTS.as_slice() {
+        let mut reader = row.0.as_bytes();
+        let mut writer: Vec<u8> = Vec::new(rt.alloc());
+        let served = house.serve_one(&mut reader, &mut writer);
+        assert!(rt; served == Ok(()));
+        assert_eq!(rt; writer.as_slice(), row.1.as_bytes(), "{:?}", row.0);
+    }
+    Ok(())
+}
+
+#[test]
+fn a_full_writer_is_a_fault(rt: HostRuntime) -> Result<(), Fail> {
+    let mut house = new_house(rt.alloc())?;
+    let mut reader = b"GET /items HTTP/1.1\r\n\r\n".as_slice();
+    let mut room = [0; 8];
+    let mut writer = room.as_mut_slice();
+    let served = house.serve_one(&mut reader, &mut writer);
+    assert!(rt; served == Err(ServeFault::Write));
+    Ok(())
+}

@@ -1,0 +1,28 @@
+//! The tests over a connection: those of the tables, of the books and of the house.
+//!
+//! They are a crate of their own: the tests of a crate are proved together with all of that crate once more, and each
+//! program over a connection makes the code of the whole database.
+#![tactic(auto)]
+
+#[cfg(test)]
+mod acts;
+#[cfg(test)]
+mod answers;
+#[cfg(test)]
+mod days;
+#[cfg(test)]
+mod goods;
+#[cfg(test)]
+mod opening;
+#[cfg(test)]
+mod order_rows;
+#[cfg(test)]
+mod picking;
+#[cfg(test)]
+mod picking_rows;
+#[cfg(test)]
+mod samples;
+#[cfg(test)]
+mod stock;
+#[cfg(test)]
+mod table_rows;

@@ -1,0 +1,171 @@
+//! Every row of every table after picks, shipments, recalls and stocktaking.
+
+use crate::answers::{GOODS_AND_BINS, TWO_CUSTOMERS, new_books};
+use crate::order_rows::{answered, has_rows};
+use crate::picking::{PICKED, RETURNED_AND_SHIPPED, SHIPPED_AND_RECALLED};
+use sqlite::{Connection, MemStore};
+use std::alloc::Global;
+use std::process::Abort;
+use std::test::Fail;
+
+// Lots are counted, adjusted, moved and held, and the first customer cancels.
+static STOCK_TAKEN: [(&str, &str); 8] = [
+    (
+        "POST /counts HTTP/1.1\r\nContent-Length: 70\r\n\r\n{\"key\":\"K-11\",\"gtin\":\"09506000134352\",\"lot\":\"L2\",\"bin\":\"A-01\",\"qty\":8}",
+        "HTTP/1.1 200 OK\r\ncontent-type: application/json\r\ncontent-length: 22\r\nconnection: close\r\n\r\n{\"act\":11,\"change\":-2}",
+    ),
+    (
+        "POST /adjustments HTTP/1.1\r\nContent-Length: 73\r\n\r\n{\"key\":\"K-12\",\"gtin\":\"09506000134352\",\"lot\":\"L1\",\"bin\":\"A-02\",\"change\":3}",
+        "HTTP/1.1 200 OK\r\ncontent-type: application/json\r\ncontent-length: 21\r\nconnection: close\r\n\r\n{\"act\":12,\"change\":3}",
+    ),
+    (
+        "POST /moves HTTP/1.1\r\nContent-Length: 84\r\n\r\n{\"key\":\"K-13\",\"gtin\":\"09506000134352\",\"lot\":\"L1\",\"from\":\"A-01\",\"to\":\"Q-01\",\"qty\":10}",
+        "HTTP/1.1 200 OK\r\ncontent-type: application/json\r\ncontent-length: 10\r\nconnection: close\r\n\r\n{\"act\":13}",
+    ),
+    (
+        "POST /holds HTTP/1.1\r\nContent-Length: 49\r\n\r\n{\"key\":\"K-14\",\"gtin\":\"09506000134352\",\"lot\":\"L0\"}",
+        "HTTP/1.1 200 OK\r\ncontent-type: application/json\r\ncontent-length: 23\r\nconnection: close\r\n\r\n{\"act\":14,\"returned\":0}",
+    ),
+    (
+        "POST /cancels HTTP/1.1\r\nContent-Length: 28\r\n\r\n{\"key\":\"K-15\",\"order\":\"S-1\"}",
+        "HTTP/1.1 200 OK\r\ncontent-type: application/json\r\ncontent-length: 10\r\nconnection: close\r\n\r\n{\"act\":15}",
+    ),
+    (
+        "POST /counts HTTP/1.1\r\nContent-Length: 70\r\n\r\n{\"key\":\"K-16\",\"gtin\":\"09506000134352\",\"lot\":\"L2\",\"bin\":\"A-01\",\"qty\":8}",
+        "HTTP/1.1 200 OK\r\ncontent-type: application/json\r\ncontent-length: 21\r\nconnection: close\r\n\r\n{\"act\":16,\"change\":0}",
+    ),
+    (
+        "GET /orders/S-1 HTTP/1.1\r\n\r\n",
+        "HTTP/1.1 200 OK\r\ncontent-type: application/json\r\ncontent-length: 157\r\nconnection: close\r\n\r\n{\"customer\":\"Corner Shop\",\"lines\":[{\"gtin\":\"09506000134352\",\"ordered\":12,\"reserved\":[],\"shipped\":0,\"short\":0,\"staged\":[]}],\"order\":\"S-1\",\"state\":\"CANCELLED\"}",
+    ),
+    (
+        "GET /orders/S-2 HTTP/1.1\r\n\r\n",
+        "HTTP/1.1 200 OK\r\ncontent-type: application/json\r\ncontent-length: 194\r\nconnection: close\r\n\r\n{\"customer\":\"Harbour Cafe\",\"lines\":[{\"gtin\":\"09506000134352\",\"ordered\":12,\"reserved\":[{\"lot\":\"L2\",\"qty\":8},{\"lot\":\"L1\",\"qty\":3}],\"shipped\":0,\"short\":1,\"staged\":[]}],\"order\":\"S-2\",\"state\":\"OPEN\"}",
+    ),
+];
+
+// The rows after both picks.
+static PICKED_ROWS: [&str; 14] = [
+    "1|LOTSTOCK|1|20577|12|0\n",
+    "04012345000016|Rye bread\n09506000134352|Oat drink\n",
+    "A-01|STORE\nA-02|STORE\nQ-01|HOLD\nRETURNS|HOLD\n",
+    "09506000134352|L0|20583|10|0\n09506000134352|L1|20634|6|0\n09506000134352|L2|20604|7|0\n",
+    "",
+    "09506000134352|L1|A-01|10\n09506000134352|L2|A-01|3\n",
+    "S-1|8|Corner Shop|OPEN\nS-2|9|Harbour Cafe|OPEN\n",
+    "S-1|09506000134352|12|0\nS-2|09506000134352|12|0\n",
+    "S-1|09506000134352|L0|5\nS-1|09506000134352|L2|7\n",
+    "S-2|09506000134352|L1|9\nS-2|09506000134352|L2|3\n",
+    "",
+    "",
+    "09506000134352|L0|10|20577|RECEIPT|D-2/1|5|5\n09506000134352|L1|6|20577|RECEIPT|D-1/1|10|10\n09506000134352|L2|7|20577|RECEIPT|D-1/2|10|10\n",
+    "K/K-1|1|ITEM\n09506000134352\nOat drink|{\"act\":1}\nK/K-2|2|ITEM\n04012345000016\nRye bread|{\"act\":2}\nK/K-3|3|BIN\nA-01\nSTORE|{\"act\":3}\nK/K-4|4|BIN\nA-02\nSTORE|{\"act\":4}\nK/K-5|5|BIN\nQ-01\nHOLD|{\"act\":5}\nD/D-1/1|6|RECEIVE\n09506000134352\nL1\n2026-06-30\nA-01\n10|{\"act\":6}\nD/D-1/2|7|RECEIVE\n09506000134352\nL2\n2026-05-31\nA-01\n10|{\"act\":7}\nK/K-8|8|ORDER\nS-1\nCorner Shop\n09506000134352\n12|{\"act\":8,\"short\":0}\nK/K-9|9|ORDER\nS-2\nHarbour Cafe\n09506000134352\n12|{\"act\":9,\"short\":4}\nD/D-2/1|10|RECEIVE\n09506000134352\nL0\n2026-05-10\nA-01\n5|{\"act\":10}\nK/K-11|11|PICK\nS-1\n09506000134352\nL0\nA-01\n5|{\"act\":11}\nK/K-12|12|PICK\nS-1\n09506000134352\nL2\nA-01\n7|{\"act\":12}\n",
+];
+
+// The rows after a recall that returned units, and the shipment of the others.
+static RETURNED_ROWS: [&str; 14] = [
+    "1|LOTSTOCK|1|20577|14|1\n",
+    "04012345000016|Rye bread\n09506000134352|Oat drink\n",
+    "A-01|STORE\nA-02|STORE\nQ-01|HOLD\nRETURNS|HOLD\n",
+    "09506000134352|L0|20583|10|0\n09506000134352|L1|20634|6|0\n09506000134352|L2|20604|7|0\n",
+    "09506000134352|L2|13\n",
+    "09506000134352|L1|A-01|10\n09506000134352|L2|A-01|3\n09506000134352|L2|RETURNS|7\n",
+    "S-1|8|Corner Shop|OPEN\nS-2|9|Harbour Cafe|OPEN\n",
+    "S-1|09506000134352|12|5\nS-2|09506000134352|12|0\n",
+    "",
+    "S-1|09506000134352|L1|7\nS-2|09506000134352|L1|3\n",
+    "1|14|20577|S-1\n",
+    "1|09506000134352|L0|5\n",
+    "09506000134352|L0|10|20577|RECEIPT|D-2/1|5|5\n09506000134352|L0|14|20577|SHIPMENT|1|-5|0\n09506000134352|L1|6|20577|RECEIPT|D-1/1|10|10\n09506000134352|L2|7|20577|RECEIPT|D-1/2|10|10\n",
+    "K/K-1|1|ITEM\n09506000134352\nOat drink|{\"act\":1}\nK/K-2|2|ITEM\n04012345000016\nRye bread|{\"act\":2}\nK/K-3|3|BIN\nA-01\nSTORE|{\"act\":3}\nK/K-4|4|BIN\nA-02\nSTORE|{\"act\":4}\nK/K-5|5|BIN\nQ-01\nHOLD|{\"act\":5}\nD/D-1/1|6|RECEIVE\n09506000134352\nL1\n2026-06-30\nA-01\n10|{\"act\":6}\nD/D-1/2|7|RECEIVE\n09506000134352\nL2\n2026-05-31\nA-01\n10|{\"act\":7}\nK/K-8|8|ORDER\nS-1\nCorner Shop\n09506000134352\n12|{\"act\":8,\"short\":0}\nK/K-9|9|ORDER\nS-2\nHarbour Cafe\n09506000134352\n12|{\"act\":9,\"short\":4}\nD/D-2/1|10|RECEIVE\n09506000134352\nL0\n2026-05-10\nA-01\n5|{\"act\":10}\nK/K-11|11|PICK\nS-1\n09506000134352\nL0\nA-01\n5|{\"act\":11}\nK/K-12|12|PICK\nS-1\n09506000134352\nL2\nA-01\n7|{\"act\":12}\nK/K-13|13|RECALL\n09506000134352\nL2|{\"act\":13,\"returned\":7}\nK/K-14|14|SHIP\nS-1|{\"act\":14,\"shipment\":1}\n",
+];
+
+// The rows after a shipment, and the recall of a lot that it holds.
+static SHIPPED_ROWS: [&str; 14] = [
+    "1|LOTSTOCK|1|20577|14|1\n",
+    "04012345000016|Rye bread\n09506000134352|Oat drink\n",
+    "A-01|STORE\nA-02|STORE\nQ-01|HOLD\nRETURNS|HOLD\n",
+    "09506000134352|L0|20583|10|0\n09506000134352|L1|20634|6|0\n09506000134352|L2|20604|7|0\n",
+    "09506000134352|L2|14\n",
+    "09506000134352|L1|A-01|10\n09506000134352|L2|A-01|3\n",
+    "S-1|8|Corner Shop|DONE\nS-2|9|Harbour Cafe|OPEN\n",
+    "S-1|09506000134352|12|12\nS-2|09506000134352|12|0\n",
+    "",
+    "S-2|09506000134352|L1|10\n",
+    "1|13|20577|S-1\n",
+    "1|09506000134352|L0|5\n1|09506000134352|L2|7\n",
+    "09506000134352|L0|10|20577|RECEIPT|D-2/1|5|5\n09506000134352|L0|13|20577|SHIPMENT|1|-5|0\n09506000134352|L1|6|20577|RECEIPT|D-1/1|10|10\n09506000134352|L2|7|20577|RECEIPT|D-1/2|10|10\n09506000134352|L2|13|20577|SHIPMENT|1|-7|3\n",
+    "K/K-1|1|ITEM\n09506000134352\nOat drink|{\"act\":1}\nK/K-2|2|ITEM\n04012345000016\nRye bread|{\"act\":2}\nK/K-3|3|BIN\nA-01\nSTORE|{\"act\":3}\nK/K-4|4|BIN\nA-02\nSTORE|{\"act\":4}\nK/K-5|5|BIN\nQ-01\nHOLD|{\"act\":5}\nD/D-1/1|6|RECEIVE\n09506000134352\nL1\n2026-06-30\nA-01\n10|{\"act\":6}\nD/D-1/2|7|RECEIVE\n09506000134352\nL2\n2026-05-31\nA-01\n10|{\"act\":7}\nK/K-8|8|ORDER\nS-1\nCorner Shop\n09506000134352\n12|{\"act\":8,\"short\":0}\nK/K-9|9|ORDER\nS-2\nHarbour Cafe\n09506000134352\n12|{\"act\":9,\"short\":4}\nD/D-2/1|10|RECEIVE\n09506000134352\nL0\n2026-05-10\nA-01\n5|{\"act\":10}\nK/K-11|11|PICK\nS-1\n09506000134352\nL0\nA-01\n5|{\"act\":11}\nK/K-12|12|PICK\nS-1\n09506000134352\nL2\nA-01\n7|{\"act\":12}\nK/K-13|13|SHIP\nS-1|{\"act\":13,\"shipment\":1}\nK/K-14|14|RECALL\n09506000134352\nL2|{\"act\":14,\"returned\":0}\n",
+];
+
+// The rows after these.
+static STOCK_TAKEN_ROWS: [&str; 14] = [
+    "1|LOTSTOCK|1|20577|16|0\n",
+    "04012345000016|Rye bread\n09506000134352|Oat drink\n",
+    "A-01|STORE\nA-02|STORE\nQ-01|HOLD\nRETURNS|HOLD\n",
+    "09506000134352|L0|20583|10|1\n09506000134352|L1|20634|6|0\n09506000134352|L2|20604|7|0\n",
+    "",
+    "09506000134352|L0|A-01|5\n09506000134352|L1|A-02|3\n09506000134352|L1|Q-01|10\n09506000134352|L2|A-01|8\n",
+    "S-1|8|Corner Shop|CANCELLED\nS-2|9|Harbour Cafe|OPEN\n",
+    "S-1|09506000134352|12|0\nS-2|09506000134352|12|0\n",
+    "",
+    "S-2|09506000134352|L1|3\nS-2|09506000134352|L2|8\n",
+    "",
+    "",
+    "09506000134352|L0|10|20577|RECEIPT|D-2/1|5|5\n09506000134352|L1|6|20577|RECEIPT|D-1/1|10|10\n09506000134352|L1|12|20577|WRITEON|A-02|3|13\n09506000134352|L2|7|20577|RECEIPT|D-1/2|10|10\n09506000134352|L2|11|20577|WRITEOFF|A-01|-2|8\n",
+    "K/K-1|1|ITEM\n09506000134352\nOat drink|{\"act\":1}\nK/K-2|2|ITEM\n04012345000016\nRye bread|{\"act\":2}\nK/K-3|3|BIN\nA-01\nSTORE|{\"act\":3}\nK/K-4|4|BIN\nA-02\nSTORE|{\"act\":4}\nK/K-5|5|BIN\nQ-01\nHOLD|{\"act\":5}\nD/D-1/1|6|RECEIVE\n09506000134352\nL1\n2026-06-30\nA-01\n10|{\"act\":6}\nD/D-1/2|7|RECEIVE\n09506000134352\nL2\n2026-05-31\nA-01\n10|{\"act\":7}\nK/K-8|8|ORDER\nS-1\nCorner Shop\n09506000134352\n12|{\"act\":8,\"short\":0}\nK/K-9|9|ORDER\nS-2\nHarbour Cafe\n09506000134352\n12|{\"act\":9,\"short\":4}\nD/D-2/1|10|RECEIVE\n09506000134352\nL0\n2026-05-10\nA-01\n5|{\"act\":10}\nK/K-11|11|COUNT\n09506000134352\nL2\nA-01\n8|{\"act\":11,\"change\":-2}\nK/K-12|12|ADJUST\n09506000134352\nL1\nA-02\n3|{\"act\":12,\"change\":3}\nK/K-13|13|MOVE\n09506000134352\nL1\nA-01\nQ-01\n10|{\"act\":13}\nK/K-14|14|HOLD\n09506000134352\nL0|{\"act\":14,\"returned\":0}\nK/K-15|15|CANCEL\nS-1|{\"act\":15}\nK/K-16|16|COUNT\n09506000134352\nL2\nA-01\n8|{\"act\":16,\"change\":0}\n",
+];
+
+// The books after the two customers and these texts, closed and opened again after each text.
+fn kept_after(
+    rt: &impl Abort,
+    alloc: Global,
+    rows: &[(&str, &str)],
+) -> Result<Connection<MemStore>, Fail> {
+    let mut conn = new_books(alloc, Connection::open_in_memory(alloc)?)?.close();
+    conn = answered(rt, alloc, conn, GOODS_AND_BINS.as_slice())?;
+    conn = answered(rt, alloc, conn, TWO_CUSTOMERS.as_slice())?;
+    for row in rows.chunks(1) {
+        conn = answered(rt, alloc, conn, row)?;
+    }
+    Ok(conn)
+}
+
+#[test]
+fn keeps_the_rows_of_stocktaking(rt: HostRuntime) -> Result<(), Fail> {
+    let mut conn = kept_after(&rt, rt.alloc(), STOCK_TAKEN.as_slice())?;
+    has_rows(&rt, rt.alloc(), &mut conn, STOCK_TAKEN_ROWS.as_slice())
+}
+
+// The rows after the picks, and after these texts.
+fn keeps(
+    rt: &impl Abort,
+    alloc: Global,
+    then: &[(&str, &str)],
+    expected: &[&str],
+) -> Result<(), Fail> {
+    let mut conn = kept_after(rt, alloc, PICKED.as_slice())?;
+    has_rows(rt, alloc, &mut conn, PICKED_ROWS.as_slice())?;
+    conn = answered(rt, alloc, conn, then)?;
+    has_rows(rt, alloc, &mut conn, expected)
+}
+
+#[test]
+fn keeps_the_rows_of_a_recall_with_returns(rt: HostRuntime) -> Result<(), Fail> {
+    keeps(
+        &rt,
+        rt.alloc(),
+        RETURNED_AND_SHIPPED.as_slice(),
+        RETURNED_ROWS.as_slice(),
+    )
+}
+
+#[test]
+fn keeps_the_rows_of_a_shipment(rt: HostRuntime) -> Result<(), Fail> {
+    keeps(
+        &rt,
+        rt.alloc(),
+        SHIPPED_AND_RECALLED.as_slice(),
+        SHIPPED_ROWS.as_slice(),
+    )
+}

@@ -1,0 +1,175 @@
+-- The demands of an item stand by number, and are told by what each order wants.
+use Rattle.std.proofs.Common.{◌≡◌, ℕ, ◌+◌, ◌≤◌, ◌<◌, true, false, List, [], ◌∷◌, ◌++◌, refl, ap, sym, ◌∙◌, subst, arith, eq-eqb}
+use Rattle.std.specs.Prelude.{◌==◌, ◌||◌, if◌then◌else◌, ℤ, filter, map, flat_map, reverse, nat_lt}
+use Rattle.std.specs.List.{list_any}
+use Rattle.std.specs.Cmp.Lexicographic.{same_text as equal_texts}
+use Rattle.std.proofs.lemmas.List.{reverse-append}
+use borrow.Author.Tests.{ltb-false, ltb-true, lt-ltb}
+use Rattle.values.specs.Values.{same_text}
+use Rattle.commands.specs.declared.command.OrderLine.{OrderLine}
+use Rattle.commands.specs.Lists.{total}
+use Rattle.plan.specs.Lists.{total as plan_total}
+use Rattle.plan.specs.declared.Demand.{Demand}
+use Rattle.plan.proofs.Ranked.{IsOrder, AllAfter, IsRising, at_rank, same_non_zero}
+use Rattle.plan.proofs.Nothing.{wanted}
+use Rattle.machine.specs.Acts.{Act}
+use Rattle.machine.specs.Postings.{Posting}
+use Rattle.machine.specs.Standing.{Placed, orders}
+use Rattle.machine.specs.Planning.{Booking, booking_of, lines_of_item, need, demand_of, demands, item_postings}
+use Rattle.machine.specs.Verdict.{names_item_twice}
+use Rattle.machine.specs.Once.{IsHistory}
+use Rattle.machine.proofs.Tests.{or_none}
+use Rattle.machine.proofs.Numbers.{unequal_below, unequal_above}
+use Rattle.machine.proofs.histories.Falling.{AllBelow, AreFalling}
+use Rattle.machine.proofs.histories.Orders.{AllSingle, orders_single, orders_numbered}
+
+-- Falling along the newest first, rising along the reverse
+
+abbrev AllLower : ℕ → List Booking → Type 0
+AllLower n [] = Unit {0}
+AllLower n (b ∷ bs) = (b.act < n) × AllLower n bs
+
+abbrev AreLower : List Booking → Type 0
+AreLower [] = Unit {0}
+AreLower (b ∷ bs) = AllLower b.act bs × AreLower bs
+
+lower_append : (n : ℕ) (bs cs : List Booking) → AllLower n bs → AllLower n cs → AllLower n (bs ++ cs)
+lower_append n [] cs h k = k
+lower_append n (b ∷ bs) cs h k = (h.0, lower_append n bs cs h.1 k)
+
+-- a line of the item is the only one
+pub none_more : (g : List ℕ) (l : OrderLine) (ls : List OrderLine) → same_text g l.gtin ≡ true → list_any (λ m. same_text l.gtin m.gtin) ls ≡ false → filter (λ m. same_text g m.gtin) ls ≡ []
+none_more g l [] e h = refl
+none_more g l (m ∷ ms) e h =
+    let same : g ≡ l.gtin = equal_texts g l.gtin (sym e) in
+    elim (same_text l.gtin m.gtin) as (λ b. same_text l.gtin m.gtin ≡ b → b || list_any (λ m. same_text l.gtin m.gtin) ms ≡ false → (if same_text g m.gtin then m ∷ filter (λ m. same_text g m.gtin) ms else filter (λ m. same_text g m.gtin) ms) ≡ []) [
+      | true ↦ λ t f. cc
+      | false ↦ λ t f.
+          ap (λ b. if b then m ∷ filter (λ m. same_text g m.gtin) ms else filter (λ m. same_text g m.gtin) ms) (ap (λ (x : List ℕ). same_text x m.gtin) same ∙ t) ∙ none_more g l ms e f
+    ] refl h
+
+module _ (g : List ℕ) (p : Placed) (more : List Booking) where
+  lower_lines : (n : ℕ) (ls : List OrderLine) → p.act < n → AllLower n (map (booking_of p) (filter (λ l. same_text g l.gtin) ls))
+  lower_lines n [] h = tt
+  lower_lines n (l ∷ ls) h =
+      elim (same_text g l.gtin) as (λ b. AllLower n (map (booking_of p) (if b then l ∷ filter (λ l. same_text g l.gtin) ls else filter (λ l. same_text g l.gtin) ls))) [
+        | true ↦ (h, lower_lines n ls h)
+        | false ↦ lower_lines n ls h
+      ]
+
+  lines_lower : (ls : List OrderLine) → names_item_twice ls ≡ false → AllLower p.act more → AreLower more → AreLower (map (booking_of p) (filter (λ l. same_text g l.gtin) ls) ++ more)
+  lines_lower [] e h k = k
+  lines_lower (l ∷ ls) e h k =
+      let two = or_none (list_any (λ m. same_text l.gtin m.gtin) ls) (names_item_twice ls) e in
+      elim (same_text g l.gtin) as (λ b. same_text g l.gtin ≡ b → AreLower (map (booking_of p) (if b then l ∷ filter (λ l. same_text g l.gtin) ls else filter (λ l. same_text g l.gtin) ls) ++ more)) [
+        | true ↦ λ t. subst (λ (xs : List OrderLine). AreLower (map (booking_of p) (l ∷ xs) ++ more)) (sym (none_more g l ls t two.0)) (h, k)
+        | false ↦ λ t. lines_lower ls two.1 h k
+      ] refl
+
+all_lower : (g : List ℕ) (n : ℕ) (os : List Placed) → AllBelow (λ (p : Placed). p.act) n os → AllLower n (flat_map (lines_of_item g) os)
+all_lower g n [] h = tt
+all_lower g n (p ∷ os) h = lower_append n (lines_of_item g p) (flat_map (lines_of_item g) os) (lower_lines g p [] n p.lines h.0) (all_lower g n os h.1)
+
+are_lower : (g : List ℕ) (os : List Placed) → AllSingle os → AreFalling (λ (p : Placed). p.act) os → AreLower (flat_map (lines_of_item g) os)
+are_lower g [] s h = tt
+are_lower g (p ∷ os) s h = lines_lower g p (flat_map (lines_of_item g) os) p.lines s.0 (all_lower g p.act os h.0) (are_lower g os s.1 h.1)
+
+-- Demands
+
+abbrev pub RisingDemands : List Demand → Type 0
+RisingDemands ds = IsRising nat_lt (λ a b. a == b) (λ d. d.booking) (λ d. d.need) ds
+
+abbrev pub AfterDemands : ℕ → List Demand → Type 0
+AfterDemands n ds = AllAfter nat_lt (λ a b. a == b) (λ d. d.booking) (λ d. d.need) n ds
+
+abbrev pub wanted_by : ℕ → List Demand → ℕ
+wanted_by n ds = at_rank nat_lt (λ a b. a == b) (λ d. d.booking) (λ d. d.need) n ds
+
+after_append : (n : ℕ) (ds : List Demand) (d : Demand) → AfterDemands n ds → nat_lt n d.booking ≡ true → AfterDemands n (ds ++ d ∷ [])
+after_append n [] d h e = (e, tt)
+after_append n (c ∷ ds) d h e = (h.0, after_append n ds d h.1 e)
+
+abbrev AllEarlier : ℕ → List Demand → Type 0
+AllEarlier n [] = Unit {0}
+AllEarlier n (d ∷ ds) = (d.booking < n) × AllEarlier n ds
+
+earlier_append : (n : ℕ) (ds es : List Demand) → AllEarlier n ds → AllEarlier n es → AllEarlier n (ds ++ es)
+earlier_append n [] es h k = k
+earlier_append n (d ∷ ds) es h k = (h.0, earlier_append n ds es h.1 k)
+
+rising_append : (ds : List Demand) (d : Demand) → RisingDemands ds → AllEarlier d.booking ds → RisingDemands (ds ++ d ∷ [])
+rising_append [] d h k = (tt, tt)
+rising_append (c ∷ ds) d h k = (after_append c.booking ds d h.0 (lt-ltb c.booking d.booking k.0), rising_append ds d h.1 k.1)
+
+map_append : (f : Booking → Demand) (bs cs : List Booking) → map f (bs ++ cs) ≡ map f bs ++ map f cs
+map_append f [] cs = refl
+map_append f (b ∷ bs) cs = ap (λ ds. f b ∷ ds) (map_append f bs cs)
+
+module _ (acts : List Act) (ps : List Posting) where
+  abbrev turned : List Booking → List Demand
+  turned bs = map (demand_of acts ps) (reverse bs)
+
+  turned_cons : (b : Booking) (bs : List Booking) → turned (b ∷ bs) ≡ turned bs ++ demand_of acts ps b ∷ []
+  turned_cons b bs = ap (map (demand_of acts ps)) (reverse-append (b ∷ []) bs) ∙ map_append (demand_of acts ps) (reverse bs) (b ∷ [])
+
+  earlier_turned : (n : ℕ) (bs : List Booking) → AllLower n bs → AllEarlier n (turned bs)
+  earlier_turned n [] h = tt
+  earlier_turned n (b ∷ bs) h = subst (AllEarlier n) (sym (turned_cons b bs)) (earlier_append n (turned bs) (demand_of acts ps b ∷ []) (earlier_turned n bs h.1) (h.0, tt))
+
+  rising_turned : (bs : List Booking) → AreLower bs → RisingDemands (turned bs)
+  rising_turned [] h = tt
+  rising_turned (b ∷ bs) h = subst RisingDemands (sym (turned_cons b bs)) (rising_append (turned bs) (demand_of acts ps b) (rising_turned bs h.1) (earlier_turned b.act bs h.0))
+
+  total_append : (f : Demand → ℕ) (ds es : List Demand) → plan_total f (ds ++ es) ≡ plan_total f ds + plan_total f es
+  total_append f [] es = omega arith
+  total_append f (d ∷ ds) es = omega (arith, total_append f ds es)
+
+  total_turned : (f : Demand → ℕ) (bs : List Booking) → plan_total f (turned bs) ≡ total (λ b. f (demand_of acts ps b)) bs
+  total_turned f [] = refl
+  total_turned f (b ∷ bs) = ap (plan_total f) (turned_cons b bs) ∙ omega (arith, total_append f (turned bs) (demand_of acts ps b ∷ []), total_turned f bs)
+
+-- numbers in their order
+numbers : IsOrder nat_lt (λ a b. a == b)
+numbers = record {
+  own = λ a. itself a;
+  apart = λ a b h. unequal_below a b (ltb-true a b h);
+  apart_back = λ a b h. unequal_above a b (ltb-true a b h);
+  further = λ a b c h k. further a b c (ltb-true a b h) (ltb-true b c k);
+  one = λ a b h k. one a b (ltb-false a b h) (ltb-false b a k);
+}
+  where
+    itself : (a : ℕ) → (a == a) ≡ true
+    itself a = eq-eqb a a refl
+
+    further : (a b c : ℕ) → a < b → b < c → nat_lt a c ≡ true
+    further a b c h k = lt-ltb a c (omega arith)
+
+    one : (a b : ℕ) → b ≤ a → a ≤ b → a ≡ b
+    one a b h k = omega arith
+
+-- the demands of an item rise by number
+pub demands_rise : (first : ℤ) (acts : List Act) (g : List ℕ) → IsHistory first acts → RisingDemands (demands first acts g)
+demands_rise first acts g history =
+    let n = orders_numbered acts in
+    rising_turned acts (item_postings first acts g) (flat_map (lines_of_item g) (orders acts)) (are_lower g (orders acts) (orders_single first acts history) n.falling)
+
+total_over : (f : Booking → ℕ) (bs cs : List Booking) → total f (bs ++ cs) ≡ total f bs + total f cs
+total_over f [] cs = omega arith
+total_over f (b ∷ bs) cs = omega (arith, total_over f bs cs)
+
+pub total_flat : (f : Booking → ℕ) (g : List ℕ) (os : List Placed) → total f (flat_map (lines_of_item g) os) ≡ total (λ p. total f (lines_of_item g p)) os
+total_flat f g [] = refl
+total_flat f g (p ∷ os) = omega (arith, total_over f (lines_of_item g p) (flat_map (lines_of_item g) os), total_flat f g os)
+
+-- what is wanted under a number, order by order
+pub demands_told : (first : ℤ) (acts : List Act) (g : List ℕ) (n : ℕ)
+    → wanted_by n (demands first acts g) ≡ total (λ p. total (λ b. if n == b.act then need acts (item_postings first acts g) b else 0) (lines_of_item g p)) (orders acts)
+demands_told first acts g n =
+    total_turned acts (item_postings first acts g) (λ d. if n == d.booking then d.need else 0) (flat_map (lines_of_item g) (orders acts))
+    ∙ total_flat (λ b. if n == b.act then need acts (item_postings first acts g) b else 0) g (orders acts)
+
+-- demands that rise and want the same under each number make the same plan
+pub same_wanted : (first : ℤ) (acts : List Act) (g : List ℕ) → IsHistory first acts → (ds : List Demand) → RisingDemands ds
+    → ((n : ℕ) → wanted_by n ds ≡ wanted_by n (demands first acts g)) → wanted ds ≡ wanted (demands first acts g)
+same_wanted first acts g history ds rise told =
+    same_non_zero nat_lt (λ a b. a == b) (λ d. d.booking) (λ d. d.need) numbers (λ c d e f. (λ i. record { booking = e i; need = f i })) ds (demands first acts g) rise (demands_rise first acts g history) told

@@ -1,0 +1,353 @@
+-- On a history units stand only in known bins, on stages of known order lines and in known shipments, and only of known lots.
+use Rattle.std.proofs.Common.{◌≡◌, ℕ, suc, ◌+◌, ◌-◌, Bool, true, false, ◌&&◌, List, [], ◌∷◌, ◌++◌, refl, ap, sym, ◌∙◌, arith, eq-eqb}
+use Rattle.std.specs.Prelude.{◌==◌, if◌then◌else◌, find, Option, Some, None, is_some, ℤ, pos, negsuc}
+use Rattle.std.specs.List.{list_any}
+use Rattle.std.proofs.lemmas.Bool.{eqb-true}
+use Rattle.values.specs.Values.{same_text}
+use Rattle.values.specs.declared.lot.LotId.{LotId}
+use Rattle.commands.specs.declared.key.Key.{Key}
+use Rattle.commands.specs.declared.command.NewBin.{NewBin}
+use Rattle.commands.specs.declared.command.Receipt.{Receipt}
+use Rattle.commands.specs.declared.command.Command.{Command}
+use Rattle.commands.specs.declared.command.Command.TheVariants.{Item, Bin, Receive, Move, Count, Adjust, Order, Cancel, Pick, Unpick, Ship, Hold, Release, Recall, OpenDay}
+use Rattle.commands.specs.declared.rows.ShipmentRow.{ShipmentRow}
+use Rattle.machine.specs.Acts.{Act, next_number, gathered}
+use Rattle.machine.specs.Postings.{Place, Supplier, InBin, Stage, Shipped, WriteOff, Posting, balance, is_bin, is_stage, is_lot, is_shipment}
+use Rattle.machine.specs.Standing.{KnownLot, Placed, RETURNS, bin_in, bins, has_bin, returns_bin, lots, lots_after, lot_among, has_lot, with_receipt, orders, order_named, has_order, has_line, lines_placed, shipments, shipments_so_far, today}
+use Rattle.machine.specs.Ledger.{posting, correction, written, cleared, shipped_off, lot_returned, returned, made_unshippable, posted, postings}
+use Rattle.machine.specs.Verdict.{verdict}
+use Rattle.machine.specs.Once.{IsHistory}
+use Rattle.machine.proofs.Tests.{same_text_is, is_lot_refl, is_lot_is, and_both, and_later_false}
+use Rattle.machine.proofs.histories.Accepted.{receive_accepted, move_accepted, count_accepted, adjust_accepted, pick_accepted, unpick_accepted, order_accepted}
+use Rattle.machine.proofs.histories.Cells.{Cells, into, holds}
+
+abbrev pub has_shipment : ℤ → List Act → ℕ → Bool
+has_shipment first acts n = is_some (find (λ s. n == s.number) (shipments first acts))
+
+-- a place is known to the acts, for a lot
+abbrev pub KnownPlace : ℤ → List Act → Place → LotId → Type 0
+KnownPlace first acts Supplier l = Unit {0}
+KnownPlace first acts WriteOff l = Unit {0}
+KnownPlace first acts (InBin b) l = has_bin acts b ≡ true
+KnownPlace first acts (Stage o) l = has_line acts o l.gtin ≡ true
+KnownPlace first acts (Shipped n o) l = has_shipment first acts n ≡ true
+
+pub record IsKnown (first : ℤ) (acts : List Act) (p : Posting) : Type 0 where
+  pub lot : has_lot acts p.lot ≡ true
+  pub to : KnownPlace first acts p.to p.lot
+  pub from : KnownPlace first acts p.from p.lot
+
+abbrev pub AllKnown : ℤ → List Act → List Posting → Type 0
+AllKnown first acts [] = Unit {0}
+AllKnown first acts (p ∷ ps) = IsKnown first acts p × AllKnown first acts ps
+
+-- What is known stays known
+
+still_found : {X : Type 0} (test : X → Bool) (x : X) (xs : List X) → is_some (find test xs) ≡ true → is_some (find test (x ∷ xs)) ≡ true
+still_found test x xs h = elim (test x) as (λ b. is_some (if b then Some x else find test xs) ≡ true) [ true ↦ refl | false ↦ h ]
+
+still_received : (n : ℕ) (r : Receipt) (l : LotId) (ks : List KnownLot) → is_some (lot_among l ks) ≡ true → is_some (lot_among l (with_receipt n r ks)) ≡ true
+still_received n r l ks h =
+    elim (is_some (lot_among r.lot ks)) as (λ b. is_some (lot_among l (if b then ks else record { lot = r.lot; expiry = r.expiry; came = n } ∷ ks)) ≡ true) [
+      | true ↦ h
+      | false ↦ still_found (λ (k : KnownLot). is_lot l k.lot) (record { lot = r.lot; expiry = r.expiry; came = n }) ks h
+    ]
+
+-- a line of an order is that of an order under its name
+pub line_known : (acts : List Act) (o g : List ℕ) → has_line acts o g ≡ true → has_order acts o ≡ true
+line_known acts o g = by_order (order_named acts o)
+  where
+    by_order : (p : Option Placed) → list_any (λ l. same_text g l.gtin) (lines_placed p) ≡ true → is_some p ≡ true
+    by_order None h = let f : false ≡ true = h in cc
+    by_order (Some p) h = refl
+
+module _ (first : ℤ) (act : Act) (before : List Act) (ok : verdict first before act.command ≡ None) where
+  abbrev after : List Act
+  after = act ∷ before
+
+  lot_stays : (l : LotId) → has_lot before l ≡ true → has_lot after l ≡ true
+  lot_stays l h = by_command act.command
+    where
+      by_command : (c : Command) → is_some (lot_among l (lots_after (next_number before) c (lots before))) ≡ true
+      by_command (Receive r) = still_received (next_number before) r l (lots before) h
+      by_command _ = h
+
+  bin_stays : (b : List ℕ) → has_bin before b ≡ true → has_bin after b ≡ true
+  bin_stays b h = by_command act.command
+    where
+      by_command : (c : Command) → has_bin (record { key = act.key; command = c } ∷ before) b ≡ true
+      by_command (Bin x) = still_found (λ y. same_text b y.bin) x (bins before) h
+      by_command _ = h
+
+  line_stays : (o g : List ℕ) → has_line before o g ≡ true → has_line after o g ≡ true
+  line_stays o g h = by_command act.command ok
+    where
+      by_command : (c : Command) → verdict first before c ≡ None → has_line (record { key = act.key; command = c } ∷ before) o g ≡ true
+      by_command (Order n) fine =
+          elim (same_text o n.order) as (λ b. same_text o n.order ≡ b
+          → list_any (λ l. same_text g l.gtin) (lines_placed (if b then Some (record { order = n.order; act = next_number before; customer = n.customer; lines = n.lines }) else order_named before o)) ≡ true) [
+            | true ↦ λ e.
+                let f : true ≡ false = sym (line_known before o g h) ∙ ap (λ (x : List ℕ). has_order before x) (same_text_is o n.order e) ∙ (order_accepted first before n fine).new in
+                cc
+            | false ↦ λ e. h
+          ] refl
+      by_command _ fine = h
+
+  shipment_stays : (n : ℕ) → has_shipment first before n ≡ true → has_shipment first after n ≡ true
+  shipment_stays n h = by_command act.command
+    where
+      by_command : (c : Command) → has_shipment first (record { key = act.key; command = c } ∷ before) n ≡ true
+      by_command (Ship o) = still_found (λ (s : ShipmentRow). n == s.number) _ (shipments first before) h
+      by_command _ = h
+
+  place_stays : (p : Place) (l : LotId) → KnownPlace first before p l → KnownPlace first after p l
+  place_stays Supplier l h = tt
+  place_stays WriteOff l h = tt
+  place_stays (InBin b) l h = bin_stays b h
+  place_stays (Stage o) l h = line_stays o l.gtin h
+  place_stays (Shipped n o) l h = shipment_stays n h
+
+  all_stay : (ps : List Posting) → AllKnown first before ps → AllKnown first after ps
+  all_stay [] h = tt
+  all_stay (p ∷ ps) h = (
+    record { lot = lot_stays p.lot (h.0).lot; to = place_stays p.to p.lot (h.0).to; from = place_stays p.from p.lot (h.0).from },
+    all_stay ps h.1,
+  )
+
+known-append : (first : ℤ) (acts : List Act) (ps qs : List Posting) → AllKnown first acts ps → AllKnown first acts qs → AllKnown first acts (ps ++ qs)
+known-append first acts [] qs h k = k
+known-append first acts (p ∷ ps) qs h k = (h.0, known-append first acts ps qs h.1 k)
+
+known_posting : (first : ℤ) (acts : List Act) (n : ℕ) (l : LotId) (from to : Place) (q : ℕ)
+    → ((q == 0) ≡ false → IsKnown first acts (record { act = n; lot = l; from = from; to = to; qty = q })) → AllKnown first acts (posting n l from to q)
+known_posting first acts n l from to q h =
+    elim (q == 0) as (λ b. (q == 0) ≡ b → AllKnown first acts (if b then [] else record { act = n; lot = l; from = from; to = to; qty = q } ∷ [])) [ true ↦ λ e. tt | false ↦ λ e. (h e, tt) ] refl
+
+-- Cells that no known place has
+
+abbrev pub Misses : ℤ → List Act → Cells → Type 0
+Misses first acts w = (p : Place) (l : LotId) → KnownPlace first acts p l → has_lot acts l ≡ true → w p l ≡ false
+
+missed_into : (first : ℤ) (acts : List Act) (w : Cells) → Misses first acts w → (ps : List Posting) → AllKnown first acts ps → into w ps ≡ 0
+missed_into first acts w misses [] h = refl
+missed_into first acts w misses (p ∷ ps) h =
+    omega (arith, ap (λ b. if b then p.qty else 0) (misses p.to p.lot (h.0).to (h.0).lot), missed_into first acts w misses ps h.1)
+
+-- What is on a stage came there by a posting
+
+record OnStage (first : ℤ) (acts : List Act) (o : List ℕ) (l : LotId) : Type 0 where
+  lot : has_lot acts l ≡ true
+  line : has_line acts o l.gtin ≡ true
+
+on_stage : (first : ℤ) (acts : List Act) (o : List ℕ) (l : LotId) (ps : List Posting) → AllKnown first acts ps → (into (λ p m. is_stage o p && is_lot l m) ps == 0) ≡ false → OnStage first acts o l
+on_stage first acts o l [] h e = cc
+on_stage first acts o l (p ∷ ps) h e =
+    elim (is_stage o p.to && is_lot l p.lot) as (λ b. is_stage o p.to && is_lot l p.lot ≡ b → ((if b then p.qty else 0) + into (λ p m. is_stage o p && is_lot l m) ps == 0) ≡ false → OnStage first acts o l) [
+      | true ↦ λ t f. at_place p.to (h.0).to t
+      | false ↦ λ t f. on_stage first acts o l ps h.1 (ap (λ n. n == 0) (none_more (into (λ p m. is_stage o p && is_lot l m) ps)) ∙ f)
+    ] refl e
+  where
+    none_more : (n : ℕ) → n ≡ 0 + n
+    none_more n = omega arith
+
+    at_place : (to : Place) → KnownPlace first acts to p.lot → is_stage o to && is_lot l p.lot ≡ true → OnStage first acts o l
+    at_place (Stage u) k t =
+        let two = and_both (same_text o u) (is_lot l p.lot) t in
+        let lot : l ≡ p.lot = is_lot_is l p.lot two.1 in
+        record {
+          lot = ap (λ (x : LotId). has_lot acts x) lot ∙ (h.0).lot;
+          line = (λ i. has_line acts (same_text_is o u two.0 i) (lot i).gtin) ∙ k;
+        }
+    at_place (InBin b) k t = let f : false ≡ true = t in cc
+    at_place Supplier k t = let f : false ≡ true = t in cc
+    at_place WriteOff k t = let f : false ≡ true = t in cc
+    at_place (Shipped n u) k t = let f : false ≡ true = t in cc
+
+less_zero : (a b : ℕ) → (a - b == 0) ≡ false → (a == 0) ≡ false
+less_zero a b e =
+    elim (a == 0) as (λ t. (a == 0) ≡ t → t ≡ false) [
+      | true ↦ λ f.
+          let z : a ≡ 0 = eqb-true a 0 f in
+          let d : a - b ≡ 0 = omega arith in
+          sym (eq-eqb (a - b) 0 d) ∙ e
+      | false ↦ λ f. refl
+    ] refl
+
+has_returns : (acts : List Act) → has_bin acts RETURNS ≡ true
+has_returns acts = among (gathered bin_in acts)
+  where
+    among : (bs : List NewBin) → is_some (find (λ b. same_text RETURNS b.bin) (bs ++ returns_bin ∷ [])) ≡ true
+    among [] = refl
+    among (b ∷ bs) = elim (same_text RETURNS b.bin) as (λ t. is_some (if t then Some b else find (λ b. same_text RETURNS b.bin) (bs ++ returns_bin ∷ [])) ≡ true) [ true ↦ refl | false ↦ among bs ]
+
+module _ (first : ℤ) (act : Act) (before : List Act) (ok : verdict first before act.command ≡ None) (known : AllKnown first before (postings first before)) where
+  abbrev acts : List Act
+  acts = act ∷ before
+
+  abbrev n : ℕ
+  n = next_number before
+
+  abbrev ps : List Posting
+  ps = postings first before
+
+  known_cleared : (to : Place) (o : List ℕ) (l : LotId) → KnownPlace first acts to l → AllKnown first acts (cleared n ps to o l)
+  known_cleared to o l k =
+      known_posting first acts n l (Stage o) to (balance (is_stage o) (is_lot l) ps)
+      (λ e. let s = on_stage first before o l ps known (less_zero _ _ e) in record { lot = lot_stays first act before ok l s.lot; to = k; from = line_stays first act before ok o l.gtin s.line })
+
+  known_shipped : (s : ℕ) (o : List ℕ) (ks : List KnownLot) → has_shipment first acts s ≡ true → AllKnown first acts (shipped_off n s o ks ps)
+  known_shipped s o [] h = tt
+  known_shipped s o (k ∷ ks) h = known-append first acts (cleared n ps (Shipped s o) o k.lot) (shipped_off n s o ks ps) (known_cleared (Shipped s o) o k.lot h) (known_shipped s o ks h)
+
+  known_lot_returned : (k : KnownLot) (os : List Placed) → AllKnown first acts (lot_returned n os ps k)
+  known_lot_returned k [] = tt
+  known_lot_returned k (p ∷ os) =
+      known-append first acts (cleared n ps (InBin RETURNS) p.order k.lot) (lot_returned n os ps k) (known_cleared (InBin RETURNS) p.order k.lot (has_returns acts)) (known_lot_returned k os)
+
+  known_returned : (ks : List KnownLot) (os : List Placed) → AllKnown first acts (returned n ks os ps)
+  known_returned [] os = tt
+  known_returned (k ∷ ks) os = known-append first acts (lot_returned n os ps k) (returned n ks os ps) (known_lot_returned k os) (known_returned ks os)
+
+  known_correction : (l : LotId) (b : List ℕ) (have found : ℕ) → has_lot acts l ≡ true → has_bin acts b ≡ true → AllKnown first acts (correction n l b have found)
+  known_correction l b have found h k =
+      known-append first acts (posting n l WriteOff (InBin b) (found - have)) (posting n l (InBin b) WriteOff (have - found))
+      (known_posting first acts n l WriteOff (InBin b) (found - have) (λ e. record { lot = h; to = k; from = tt }))
+      (known_posting first acts n l (InBin b) WriteOff (have - found) (λ e. record { lot = h; to = tt; from = k }))
+
+  known_written : (l : LotId) (b : List ℕ) (z : ℤ) → has_lot acts l ≡ true → has_bin acts b ≡ true → AllKnown first acts (written n l b z)
+  known_written l b (pos k) h e = known_posting first acts n l WriteOff (InBin b) k (λ f. record { lot = h; to = e; from = tt })
+  known_written l b (negsuc k) h e = known_posting first acts n l (InBin b) WriteOff (suc k) (λ f. record { lot = h; to = tt; from = e })
+
+-- The postings of an act, by its command
+
+now_received : (n : ℕ) (r : Receipt) (ks : List KnownLot) → is_some (lot_among r.lot (with_receipt n r ks)) ≡ true
+now_received n r ks =
+    elim (is_some (lot_among r.lot ks)) as (λ b. is_some (lot_among r.lot ks) ≡ b → is_some (lot_among r.lot (if b then ks else record { lot = r.lot; expiry = r.expiry; came = n } ∷ ks)) ≡ true) [
+      | true ↦ λ e. e
+      | false ↦ λ e. ap (λ t. is_some (if t then Some (record { lot = r.lot; expiry = r.expiry; came = n }) else lot_among r.lot ks)) (is_lot_refl r.lot)
+    ] refl
+
+known_posted : (first : ℤ) (key : Key) (before : List Act) (c : Command) → verdict first before c ≡ None → AllKnown first before (postings first before)
+    → AllKnown first (record { key = key; command = c } ∷ before) (posted first (record { key = key; command = c }) before (postings first before) c)
+known_posted first key before (Receive r) ok known =
+    let a : Act = record { key = key; command = Receive r } in
+    known_posting first (a ∷ before) (next_number before) r.lot Supplier (InBin r.bin) r.qty
+    (λ e. record { lot = now_received (next_number before) r (lots before); to = bin_stays first a before ok r.bin (receive_accepted first before r ok).bin; from = tt })
+known_posted first key before (Move m) ok known =
+    let a : Act = record { key = key; command = Move m } in
+    let h = move_accepted first before m ok in
+    known_posting first (a ∷ before) (next_number before) m.lot (InBin m.from) (InBin m.to) m.qty
+    (λ e. record { lot = lot_stays first a before ok m.lot h.lot; to = bin_stays first a before ok m.to h.to; from = bin_stays first a before ok m.from h.from })
+known_posted first key before (Count c) ok known =
+    let a : Act = record { key = key; command = Count c } in
+    let h = count_accepted first before c ok in
+    known_correction first a before ok known c.lot c.bin (balance (is_bin c.bin) (is_lot c.lot) (postings first before)) c.qty (lot_stays first a before ok c.lot h.lot) (bin_stays first a before ok c.bin h.bin)
+known_posted first key before (Adjust j) ok known =
+    let a : Act = record { key = key; command = Adjust j } in
+    let h = adjust_accepted first before j ok in
+    known_written first a before ok known j.lot j.bin j.change (lot_stays first a before ok j.lot h.lot) (bin_stays first a before ok j.bin h.bin)
+known_posted first key before (Pick p) ok known =
+    let a : Act = record { key = key; command = Pick p } in
+    let h = pick_accepted first before p ok in
+    known_posting first (a ∷ before) (next_number before) p.lot (InBin p.bin) (Stage p.order) p.qty
+    (λ e. record { lot = lot_stays first a before ok p.lot h.lot; to = line_stays first a before ok p.order p.lot.gtin h.line; from = bin_stays first a before ok p.bin h.bin })
+known_posted first key before (Unpick p) ok known =
+    let a : Act = record { key = key; command = Unpick p } in
+    let h = unpick_accepted first before p ok in
+    known_posting first (a ∷ before) (next_number before) p.lot (Stage p.order) (InBin p.bin) p.qty
+    (λ e. record { lot = lot_stays first a before ok p.lot h.lot; to = bin_stays first a before ok p.bin h.bin; from = line_stays first a before ok p.order p.lot.gtin h.line })
+known_posted first key before (Ship o) ok known =
+    known_shipped first (record { key = key; command = Ship o }) before ok known (shipments_so_far first before + 1) o (lots before)
+    (ap (λ t. is_some (if t then Some (record { number = shipments_so_far first before + 1; act = next_number before; day = today first before; order = o }) else find (λ s. shipments_so_far first before + 1 == s.number) (shipments first before))) (eq-eqb (shipments_so_far first before + 1) _ refl))
+known_posted first key before (Hold l) ok known = known_returned first (record { key = key; command = Hold l }) before ok known (made_unshippable first (record { key = key; command = Hold l }) before) (orders before)
+known_posted first key before (Recall l) ok known = known_returned first (record { key = key; command = Recall l }) before ok known (made_unshippable first (record { key = key; command = Recall l }) before) (orders before)
+known_posted first key before (OpenDay d) ok known = known_returned first (record { key = key; command = OpenDay d }) before ok known (made_unshippable first (record { key = key; command = OpenDay d }) before) (orders before)
+known_posted first key before (Item i) ok known = tt
+known_posted first key before (Bin b) ok known = tt
+known_posted first key before (Order o) ok known = tt
+known_posted first key before (Cancel o) ok known = tt
+known_posted first key before (Release l) ok known = tt
+
+-- every posting of a history names known places and a known lot
+pub known_postings : (first : ℤ) (acts : List Act) → IsHistory first acts → AllKnown first acts (postings first acts)
+known_postings first [] h = tt
+known_postings first (act ∷ before) h =
+    let known = known_postings first before h.0 in
+    known-append first (act ∷ before) (posted first act before (postings first before) act.command) (postings first before)
+    (known_posted first act.key before act.command h.1.passes known) (all_stay first act before h.1.passes (postings first before) known)
+
+module _ (first : ℤ) (acts : List Act) (history : IsHistory first acts) where
+  -- cells that no known place has hold nothing
+  pub unknown_holds_nothing : (w : Cells) → Misses first acts w → holds w (postings first acts) ≡ 0
+  unknown_holds_nothing w misses = omega (arith, missed_into first acts w misses (postings first acts) (known_postings first acts history))
+
+  pub unknown_bin_is_empty : (b : List ℕ) (lots : LotId → Bool) → has_bin acts b ≡ false → balance (is_bin b) lots (postings first acts) ≡ 0
+  unknown_bin_is_empty b lots e = unknown_holds_nothing (λ p l. is_bin b p && lots l) at_place
+    where
+      at_place : (p : Place) (l : LotId) → KnownPlace first acts p l → has_lot acts l ≡ true → is_bin b p && lots l ≡ false
+      at_place (InBin c) l k h =
+          elim (same_text b c) as (λ t. same_text b c ≡ t → t && lots l ≡ false) [
+            | true ↦ λ t. let f : true ≡ false = sym k ∙ ap (λ (x : List ℕ). has_bin acts x) (sym (same_text_is b c t)) ∙ e in cc
+            | false ↦ λ t. refl
+          ] refl
+      at_place (Stage o) l k h = refl
+      at_place (Shipped n o) l k h = refl
+      at_place Supplier l k h = refl
+      at_place WriteOff l k h = refl
+
+  pub unknown_order_is_unstaged : (o : List ℕ) (lots : LotId → Bool) → has_order acts o ≡ false → balance (is_stage o) lots (postings first acts) ≡ 0
+  unknown_order_is_unstaged o lots e = unknown_holds_nothing (λ p l. is_stage o p && lots l) at_place
+    where
+      at_place : (p : Place) (l : LotId) → KnownPlace first acts p l → has_lot acts l ≡ true → is_stage o p && lots l ≡ false
+      at_place (Stage u) l k h =
+          elim (same_text o u) as (λ t. same_text o u ≡ t → t && lots l ≡ false) [
+            | true ↦ λ t. let f : true ≡ false = sym (line_known acts u l.gtin k) ∙ ap (λ (x : List ℕ). has_order acts x) (sym (same_text_is o u t)) ∙ e in cc
+            | false ↦ λ t. refl
+          ] refl
+      at_place (InBin c) l k h = refl
+      at_place (Shipped n u) l k h = refl
+      at_place Supplier l k h = refl
+      at_place WriteOff l k h = refl
+
+  pub unknown_shipment_is_empty : (n : ℕ) (lots : LotId → Bool) → has_shipment first acts n ≡ false → balance (is_shipment n) lots (postings first acts) ≡ 0
+  unknown_shipment_is_empty n lots e = unknown_holds_nothing (λ p l. is_shipment n p && lots l) at_place
+    where
+      at_place : (p : Place) (l : LotId) → KnownPlace first acts p l → has_lot acts l ≡ true → is_shipment n p && lots l ≡ false
+      at_place (Shipped m u) l k h =
+          elim (n == m) as (λ t. (n == m) ≡ t → t && lots l ≡ false) [
+            | true ↦ λ t. let f : true ≡ false = sym k ∙ ap (λ (x : ℕ). has_shipment first acts x) (sym (eqb-true n m t)) ∙ e in cc
+            | false ↦ λ t. refl
+          ] refl
+      at_place (InBin c) l k h = refl
+      at_place (Stage u) l k h = refl
+      at_place Supplier l k h = refl
+      at_place WriteOff l k h = refl
+
+  pub unknown_lot_is_nowhere : (l : LotId) (places : Place → Bool) → has_lot acts l ≡ false → balance places (is_lot l) (postings first acts) ≡ 0
+  unknown_lot_is_nowhere l places e = unknown_holds_nothing (λ p m. places p && is_lot l m) other
+    where
+      other : (p : Place) (m : LotId) → KnownPlace first acts p m → has_lot acts m ≡ true → places p && is_lot l m ≡ false
+      other p m k h =
+          and_later_false (places p) (is_lot l m)
+          (elim (is_lot l m) as (λ t. is_lot l m ≡ t → t ≡ false) [
+            | true ↦ λ t. let f : true ≡ false = sym h ∙ ap (λ (x : LotId). has_lot acts x) (sym (is_lot_is l m t)) ∙ e in cc
+            | false ↦ λ t. refl
+          ] refl)
+
+  pub unknown_line_is_unstaged : (o : List ℕ) (l : LotId) → has_line acts o l.gtin ≡ false → balance (is_stage o) (is_lot l) (postings first acts) ≡ 0
+  unknown_line_is_unstaged o l e = unknown_holds_nothing (λ p m. is_stage o p && is_lot l m) at_place
+    where
+      at_place : (p : Place) (m : LotId) → KnownPlace first acts p m → has_lot acts m ≡ true → is_stage o p && is_lot l m ≡ false
+      at_place (Stage u) m k h =
+          elim (same_text o u && is_lot l m) as (λ t. same_text o u && is_lot l m ≡ t → t ≡ false) [
+            | true ↦ λ t.
+                let two = and_both (same_text o u) (is_lot l m) t in
+                let same : has_line acts u m.gtin ≡ has_line acts o l.gtin = λ i. has_line acts (sym (same_text_is o u two.0) i) (sym (is_lot_is l m two.1) i).gtin in
+                let f : true ≡ false = sym k ∙ same ∙ e in
+                cc
+            | false ↦ λ t. refl
+          ] refl
+      at_place (InBin c) m k h = refl
+      at_place (Shipped n u) m k h = refl
+      at_place Supplier m k h = refl
+      at_place WriteOff m k h = refl

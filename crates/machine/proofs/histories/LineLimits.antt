@@ -1,0 +1,53 @@
+-- No line asks for more units than a quantity may have, and there are no more shipments than acts.
+use Rattle.std.proofs.Common.{◌≡◌, ℕ, ◌+◌, ◌≤◌, true, false, ◌&&◌, List, [], ◌∷◌, arith, lit≤}
+use Rattle.std.specs.Prelude.{if◌then◌else◌, find, length, Some, ℤ}
+use Rattle.std.specs.List.{list_all}
+use Rattle.values.specs.Values.{QTY_MAX, same_text, is_qty, is_gtin, is_name, is_title}
+use Rattle.commands.specs.Limits.{has_order_lines}
+use Rattle.commands.specs.Sound.{is_sound, is_order_line, are_lines}
+use Rattle.commands.specs.declared.command.OrderLine.{OrderLine}
+use Rattle.commands.specs.declared.command.Command.{Command}
+use Rattle.commands.specs.declared.command.Command.TheVariants.{Order, Ship}
+use Rattle.machine.specs.Acts.{Act, next_number}
+use Rattle.machine.specs.Standing.{order_named, lines_placed, shipments, shipments_after, shipments_so_far}
+use Rattle.machine.specs.Once.{IsHistory}
+use Rattle.machine.proofs.Tests.{and_both}
+use Rattle.machine.proofs.histories.Quantities.{at_most_limit}
+use Rattle.machine.proofs.histories.Needs.{line_qty}
+use Rattle.machine.proofs.histories.ClosedOrders.{ordered_of}
+
+-- Lines
+
+sound_line : (g : List ℕ) (ls : List OrderLine) → list_all is_order_line ls ≡ true → line_qty (find (λ l. same_text g l.gtin) ls) ≤ QTY_MAX
+sound_line g [] e = lit≤ tt
+sound_line g (l ∷ ls) e =
+    let two = and_both (is_order_line l) (list_all is_order_line ls) e in
+    elim (same_text g l.gtin) as (λ b. line_qty (if b then Some l else find (λ l. same_text g l.gtin) ls) ≤ QTY_MAX) [
+      | true ↦ at_most_limit l.qty (and_both (is_gtin l.gtin) (is_qty l.qty) two.0).1
+      | false ↦ sound_line g ls two.1
+    ]
+
+ordered_after : (act : Act) (before : List Act) (o g : List ℕ) → ordered_of before o g ≤ QTY_MAX → (c : Command) → is_sound c ≡ true → ordered_of (record { key = act.key; command = c } ∷ before) o g ≤ QTY_MAX
+ordered_after act before o g h (Order n) e =
+    elim (same_text o n.order) as (λ b. line_qty (find (λ l. same_text g l.gtin) (lines_placed (if b then Some (record { order = n.order; act = next_number before; customer = n.customer; lines = n.lines }) else order_named before o))) ≤ QTY_MAX) [
+      | true ↦
+          let lines : are_lines n.lines ≡ true = (and_both (is_name n.order && is_title n.customer) (are_lines n.lines) e).1 in
+          sound_line g n.lines (and_both (has_order_lines n.lines) (list_all is_order_line n.lines) lines).1
+      | false ↦ h
+    ]
+ordered_after act before o g h _ e = h
+
+-- an order asks for no more units of an item than a quantity may have
+pub ordered_within_limit : (first : ℤ) (acts : List Act) → IsHistory first acts → (o g : List ℕ) → ordered_of acts o g ≤ QTY_MAX
+ordered_within_limit first [] h o g = lit≤ tt
+ordered_within_limit first (act ∷ before) h o g = ordered_after act before o g (ordered_within_limit first before h.0 o g) act.command h.1.sound.command
+
+-- Shipments
+
+shipped_after : (first : ℤ) (before : List Act) (c : Command) → length (shipments first before) ≤ length before → length (shipments_after first before c (shipments first before)) ≤ length before + 1
+shipped_after first before (Ship o) h = omega (arith, h)
+shipped_after first before _ h = omega (arith, h)
+
+pub shipments_within_acts : (first : ℤ) (acts : List Act) → shipments_so_far first acts ≤ length acts
+shipments_within_acts first [] = lit≤ tt
+shipments_within_acts first (act ∷ before) = omega (arith, shipped_after first before act.command (shipments_within_acts first before))

@@ -1,0 +1,385 @@
+-- An act leaves the items alone that it does not touch.
+use Rattle.std.proofs.Common.{◌≡◌, ℕ, suc, ◌+◌, ◌-◌, Bool, true, false, ◌&&◌, not, List, [], ◌∷◌, ◌++◌, refl, ap, sym, ◌∙◌, arith}
+use Rattle.std.specs.Prelude.{◌==◌, ◌||◌, if◌then◌else◌, find, filter, map, reverse, flat_map, Option, Some, None, is_some, ℤ, pos, negsuc, int_lt, int_le}
+use Rattle.std.specs.List.{list_any}
+use Rattle.std.proofs.lemmas.Int.{ints}
+use Rattle.values.specs.Values.{same_text}
+use Rattle.values.specs.declared.lot.LotId.{LotId}
+use Rattle.commands.specs.Lists.{total, in_order}
+use Rattle.commands.specs.declared.key.Key.{Key}
+use Rattle.commands.specs.declared.command.NewBin.{NewBin}
+use Rattle.commands.specs.declared.command.NewOrder.{NewOrder}
+use Rattle.commands.specs.declared.command.Receipt.{Receipt}
+use Rattle.commands.specs.declared.command.OrderLine.{OrderLine}
+use Rattle.commands.specs.declared.command.Command.{Command}
+use Rattle.commands.specs.declared.command.Command.TheVariants.{Item, Bin, Receive, Move, Count, Adjust, Order, Cancel, Pick, Unpick, Ship, Hold, Release, Recall, OpenDay}
+use Rattle.plan.specs.Overlap.{plan_rows}
+use Rattle.machine.specs.Acts.{Act, gathered, next_number}
+use Rattle.machine.specs.Postings.{Place, Supplier, InBin, Stage, Shipped, WriteOff, Posting, balance, units_in, units_out, is_bin, is_stage, is_lot, of_item}
+use Rattle.machine.specs.Standing.{KnownLot, Placed, RETURNS, lots, lots_of, lot_among, lot_known, has_bin, bin_named, is_store_bin, is_store_row, orders, order_named, lines_placed, has_line, is_cancelled, is_shippable, is_held, is_recalled, is_expired, says_held, hold_in, recall_in, today, shipments_so_far}
+use Rattle.machine.specs.Ledger.{posting, written, cleared, shipped_off, lot_returned, returned, posted, postings}
+use Rattle.machine.specs.Planning.{booking_of, lines_of_item, bookings, need, demands, demand_of, supplies, supply_of, goes_before, item_postings, staged, shipped, in_store, plan, reserved, reserved_of}
+use Rattle.machine.specs.Touched.{touches}
+use Rattle.machine.specs.Verdict.{verdict}
+use Rattle.machine.specs.Once.{IsHistory}
+use Rattle.machine.specs.Laws.{OtherItemsAreLeftAlone}
+use Rattle.machine.proofs.Mapping.{map_reversed, map_appended}
+use Rattle.machine.proofs.Tests.{same_text_is, same_text_refl, is_lot_is, or_none}
+use Rattle.machine.proofs.histories.Accepted.{bin_accepted, order_accepted, day_accepted}
+use Rattle.machine.proofs.histories.Orders.{orders_found, same_order}
+use Rattle.machine.proofs.Apart.{AllFound}
+use Rattle.machine.proofs.histories.KnownPlaces.{AllKnown, KnownPlace, known_postings, unknown_line_is_unstaged}
+use Rattle.machine.proofs.histories.Needs.{needs, reserved_within_needs, unknown_is_unreserved}
+
+-- Postings of other items
+
+abbrev AllOther : List ℕ → List Posting → Type 0
+AllOther g [] = Unit {0}
+AllOther g (p ∷ ps) = (of_item g p.lot ≡ false) × AllOther g ps
+
+others_filtered : (g : List ℕ) (qs ps : List Posting) → AllOther g qs → filter (λ p. of_item g p.lot) (qs ++ ps) ≡ filter (λ p. of_item g p.lot) ps
+others_filtered g [] ps h = refl
+others_filtered g (q ∷ qs) ps h = ap (λ b. if b then q ∷ filter (λ p. of_item g p.lot) (qs ++ ps) else filter (λ p. of_item g p.lot) (qs ++ ps)) h.0 ∙ others_filtered g qs ps h.1
+
+other-append : (g : List ℕ) (ps qs : List Posting) → AllOther g ps → AllOther g qs → AllOther g (ps ++ qs)
+other-append g [] qs h k = k
+other-append g (p ∷ ps) qs h k = (h.0, other-append g ps qs h.1 k)
+
+-- none of its own, as it is of another item or of no units
+other_posting : (g : List ℕ) (n : ℕ) (l : LotId) (from to : Place) (q : ℕ) → (of_item g l ≡ true → (q == 0) ≡ true) → AllOther g (posting n l from to q)
+other_posting g n l from to q h =
+    elim (q == 0) as (λ b. (q == 0) ≡ b → AllOther g (if b then [] else record { act = n; lot = l; from = from; to = to; qty = q } ∷ [])) [
+      | true ↦ λ e. tt
+      | false ↦ λ e. (not_own e, tt)
+    ] refl
+  where
+    not_own : (q == 0) ≡ false → of_item g l ≡ false
+    not_own e = elim (of_item g l) as (λ b. of_item g l ≡ b → b ≡ false) [ true ↦ λ t. let f = h t in cc | false ↦ λ t. refl ] refl
+
+other_lot : (g : List ℕ) (n : ℕ) (l : LotId) (from to : Place) (q : ℕ) → of_item g l ≡ false → AllOther g (posting n l from to q)
+other_lot g n l from to q e = other_posting g n l from to q (λ t. let f : true ≡ false = sym t ∙ e in cc)
+
+other_written : (g : List ℕ) (n : ℕ) (l : LotId) (b : List ℕ) (z : ℤ) → of_item g l ≡ false → AllOther g (written n l b z)
+other_written g n l b (pos k) e = other_lot g n l WriteOff (InBin b) k e
+other_written g n l b (negsuc k) e = other_lot g n l (InBin b) WriteOff (suc k) e
+
+other_returned_lot : (g : List ℕ) (n : ℕ) (ps : List Posting) (k : KnownLot) → of_item g k.lot ≡ false → (os : List Placed) → AllOther g (lot_returned n os ps k)
+other_returned_lot g n ps k e [] = tt
+other_returned_lot g n ps k e (p ∷ os) =
+    other-append g (cleared n ps (InBin RETURNS) p.order k.lot) (lot_returned n os ps k) (other_lot g n k.lot (Stage p.order) (InBin RETURNS) (balance (is_stage p.order) (is_lot k.lot) ps) e) (other_returned_lot g n ps k e os)
+
+-- no lot of the item passes the test
+abbrev NonePasses : List ℕ → (KnownLot → Bool) → List KnownLot → Type 0
+NonePasses g test [] = Unit {0}
+NonePasses g test (k ∷ ks) = (of_item g k.lot ≡ true → test k ≡ false) × NonePasses g test ks
+
+other_returned : (g : List ℕ) (n : ℕ) (ps : List Posting) (os : List Placed) (test : KnownLot → Bool) (ks : List KnownLot) → NonePasses g test ks → AllOther g (returned n (filter test ks) os ps)
+other_returned g n ps os test [] h = tt
+other_returned g n ps os test (k ∷ ks) h =
+    elim (test k) as (λ b. test k ≡ b → AllOther g (returned n (if b then k ∷ filter test ks else filter test ks) os ps)) [
+      | true ↦ λ e.
+          let other : of_item g k.lot ≡ false = elim (of_item g k.lot) as (λ b. of_item g k.lot ≡ b → b ≡ false) [ true ↦ λ t. let f = h.0 t in cc | false ↦ λ t. refl ] refl in
+          other-append g (lot_returned n os ps k) (returned n (filter test ks) os ps) (other_returned_lot g n ps k other os) (other_returned g n ps os test ks h.1)
+      | false ↦ λ e. other_returned g n ps os test ks h.1
+    ] refl
+
+none_pass_by : (g : List ℕ) (test : KnownLot → Bool) → ((k : KnownLot) → of_item g k.lot ≡ true → test k ≡ false) → (ks : List KnownLot) → NonePasses g test ks
+none_pass_by g test h [] = tt
+none_pass_by g test h (k ∷ ks) = (h k, none_pass_by g test h ks)
+
+none_pass_of : (g : List ℕ) (test : KnownLot → Bool) (ks : List KnownLot) → list_any test (filter (λ k. of_item g k.lot) ks) ≡ false → NonePasses g test ks
+none_pass_of g test [] e = tt
+none_pass_of g test (k ∷ ks) e =
+    elim (of_item g k.lot) as (λ b. of_item g k.lot ≡ b → list_any test (if b then k ∷ filter (λ k. of_item g k.lot) ks else filter (λ k. of_item g k.lot) ks) ≡ false → NonePasses g test (k ∷ ks)) [
+      | true ↦ λ t f. let two = or_none (test k) (list_any test (filter (λ k. of_item g k.lot) ks)) f in (λ u. two.0, none_pass_of g test ks two.1)
+      | false ↦ λ t f. (λ u. let v : true ≡ false = sym u ∙ t in cc, none_pass_of g test ks f)
+    ] refl e
+
+-- Tests that agree on the lots of an item keep the same of them
+
+abbrev NoneDiffers : List ℕ → (KnownLot → Bool) → (KnownLot → Bool) → List KnownLot → Type 0
+NoneDiffers g f h [] = Unit {0}
+NoneDiffers g f h (k ∷ ks) = (of_item g k.lot ≡ true → f k ≡ h k) × NoneDiffers g f h ks
+
+none_differs_by : (g : List ℕ) (f h : KnownLot → Bool) → ((k : KnownLot) → of_item g k.lot ≡ true → f k ≡ h k) → (ks : List KnownLot) → NoneDiffers g f h ks
+none_differs_by g f h e [] = tt
+none_differs_by g f h e (k ∷ ks) = (e k, none_differs_by g f h e ks)
+
+same_kept : (g : List ℕ) (f h : KnownLot → Bool) (ks : List KnownLot) → NoneDiffers g f h ks → filter f (filter (λ k. of_item g k.lot) ks) ≡ filter h (filter (λ k. of_item g k.lot) ks)
+same_kept g f h [] e = refl
+same_kept g f h (k ∷ ks) e =
+    elim (of_item g k.lot) as (λ b. of_item g k.lot ≡ b → filter f (if b then k ∷ filter (λ k. of_item g k.lot) ks else filter (λ k. of_item g k.lot) ks) ≡ filter h (if b then k ∷ filter (λ k. of_item g k.lot) ks else filter (λ k. of_item g k.lot) ks)) [
+      | true ↦ λ t. (λ i. if e.0 t i then k ∷ same_kept g f h ks e.1 i else same_kept g f h ks e.1 i)
+      | false ↦ λ t. same_kept g f h ks e.1
+    ] refl
+
+-- Days
+
+expired_later : (expiry old new : ℤ) → int_le new old ≡ false → int_lt expiry old ≡ true → int_lt expiry new ≡ true
+expired_later expiry old new e f = grind (arith, ints)
+
+-- A bin that is new holds nothing
+
+module _ (first : ℤ) (key : Key) (before : List Act) (g : List ℕ) where
+  abbrev done : Command → Act
+  done c = record { key = key; command = c }
+
+  abbrev old : List Posting
+  old = postings first before
+
+  -- what of an item a plan is made of
+  record IsSame (c : Command) : Type 0 where
+    postings : item_postings first (done c ∷ before) g ≡ item_postings first before g
+    demands : demands first (done c ∷ before) g ≡ demands first before g
+    supplies : supplies first (done c ∷ before) g ≡ supplies first before g
+
+  same_by : (c : Command) → AllOther g (posted first (done c) before old c) → demands first (done c ∷ before) g ≡ map (demand_of before (item_postings first (done c ∷ before) g)) (bookings before g)
+      → supplies first (done c ∷ before) g ≡ map (supply_of before (item_postings first (done c ∷ before) g)) (in_order goes_before (filter (is_shippable first before) (lots_of before g))) → IsSame c
+  same_by c others d s =
+      let own : item_postings first (done c ∷ before) g ≡ item_postings first before g = others_filtered g (posted first (done c) before old c) old others in
+      record {
+        postings = own;
+        demands = d ∙ (λ i. map (demand_of before (own i)) (bookings before g));
+        supplies = s ∙ (λ i. map (supply_of before (own i)) (in_order goes_before (filter (is_shippable first before) (lots_of before g))));
+      }
+
+  other_shipped : IsHistory first before → (o : List ℕ) → has_line before o g ≡ false → (s : ℕ) (ks : List KnownLot) → AllOther g (shipped_off (next_number before) s o ks old)
+  other_shipped history o none s [] = tt
+  other_shipped history o none s (k ∷ ks) =
+      other-append g (cleared (next_number before) old (Shipped s o) o k.lot) (shipped_off (next_number before) s o ks old)
+      (other_posting g (next_number before) k.lot (Stage o) (Shipped s o) (balance (is_stage o) (is_lot k.lot) old)
+      (λ e. ap (λ n. n == 0) (unknown_line_is_unstaged first before history o k.lot (ap (λ (x : List ℕ). has_line before o x) (sym (same_text_is g k.lot.gtin e)) ∙ none))))
+      (other_shipped history o none s ks)
+
+  -- Holds, releases, recalls and days
+
+  other_of : (l m : LotId) → of_item g l ≡ false → of_item g m ≡ true → is_lot m l ≡ false
+  other_of l m e f =
+      elim (is_lot m l) as (λ b. is_lot m l ≡ b → b ≡ false) [
+        | true ↦ λ t. let h : true ≡ false = sym f ∙ ap (λ (x : LotId). of_item g x) (is_lot_is m l t) ∙ e in cc
+        | false ↦ λ t. refl
+      ] refl
+
+  never_made : (a b : Bool) → a ≡ b → b && not a ≡ false
+  never_made true true e = refl
+  never_made true false e = refl
+  never_made false true e = cc
+  never_made false false e = refl
+
+  held_same : (l : LotId) → of_item g l ≡ false → (k : KnownLot) → of_item g k.lot ≡ true → is_shippable first (done (Hold l) ∷ before) k ≡ is_shippable first before k
+  held_same l e k f =
+      ap (λ b. not (says_held (if b then Some (record { lot = l; held = true }) else find (λ w. is_lot k.lot w.lot) (gathered hold_in before))) && not (is_recalled before k.lot) && not (is_expired (today first before) k.expiry))
+      (other_of l k.lot e f)
+
+  released_same : (l : LotId) → of_item g l ≡ false → (k : KnownLot) → of_item g k.lot ≡ true → is_shippable first (done (Release l) ∷ before) k ≡ is_shippable first before k
+  released_same l e k f =
+      ap (λ b. not (says_held (if b then Some (record { lot = l; held = false }) else find (λ w. is_lot k.lot w.lot) (gathered hold_in before))) && not (is_recalled before k.lot) && not (is_expired (today first before) k.expiry))
+      (other_of l k.lot e f)
+
+  recalled_same : (l : LotId) → of_item g l ≡ false → (k : KnownLot) → of_item g k.lot ≡ true → is_shippable first (done (Recall l) ∷ before) k ≡ is_shippable first before k
+  recalled_same l e k f =
+      ap (λ b. not (is_held before k.lot) && not (is_some (if b then Some (record { lot = l; act = next_number before }) else find (λ r. is_lot k.lot r.lot) (gathered recall_in before))) && not (is_expired (today first before) k.expiry))
+      (other_of l k.lot e f)
+
+  agree : (x a b : Bool) → (a ≡ true → b ≡ true) → x && not a && not (x && not b) ≡ false → x && not b ≡ x && not a
+  agree false a b h e = refl
+  agree true true b h e = ap not (h refl)
+  agree true false true h e = let f : true ≡ false = e in cc
+  agree true false false h e = refl
+
+  day_same : (day : ℤ) → int_le day (today first before) ≡ false → (ks : List KnownLot) → NonePasses g (λ k. is_shippable first before k && not (is_shippable first (done (OpenDay day) ∷ before) k)) ks
+      → NoneDiffers g (is_shippable first (done (OpenDay day) ∷ before)) (is_shippable first before) ks
+  day_same day later [] h = tt
+  day_same day later (k ∷ ks) h = (
+    λ e. agree (not (is_held before k.lot) && not (is_recalled before k.lot)) (is_expired (today first before) k.expiry) (is_expired day k.expiry) (expired_later k.expiry (today first before) day later) (h.0 e),
+    day_same day later ks h.1,
+  )
+
+  -- Receipts
+
+  lots_received : (r : Receipt) → of_item g r.lot ≡ false → lots_of (done (Receive r) ∷ before) g ≡ lots_of before g
+  lots_received r e =
+      elim (is_some (lot_among r.lot (lots before))) as (λ b. filter (λ k. of_item g k.lot) (if b then lots before else record { lot = r.lot; expiry = r.expiry; came = next_number before } ∷ lots before) ≡ lots_of before g) [
+        | true ↦ refl
+        | false ↦ ap (λ b. if b then record { lot = r.lot; expiry = r.expiry; came = next_number before } ∷ lots_of before g else lots_of before g) e
+      ]
+
+  -- Orders and cancels
+
+  no_line : (ls : List OrderLine) → list_any (λ l. same_text g l.gtin) ls ≡ false → filter (λ l. same_text g l.gtin) ls ≡ []
+  no_line [] e = refl
+  no_line (l ∷ ls) e =
+      let two = or_none (same_text g l.gtin) (list_any (λ l. same_text g l.gtin) ls) e in
+      ap (λ b. if b then l ∷ filter (λ l. same_text g l.gtin) ls else filter (λ l. same_text g l.gtin) ls) two.0 ∙ no_line ls two.1
+
+  cancelled_same : (o : List ℕ) → has_line before o g ≡ false → (ps : List Posting) (os : List Placed) → AllFound same_order (orders before) os
+      → map (demand_of (done (Cancel o) ∷ before) ps) (flat_map (lines_of_item g) os) ≡ map (demand_of before ps) (flat_map (lines_of_item g) os)
+  cancelled_same o none ps [] h = refl
+  cancelled_same o none ps (p ∷ os) h =
+      map_appended (demand_of (done (Cancel o) ∷ before) ps) (lines_of_item g p) (flat_map (lines_of_item g) os)
+      ∙ (λ i. own i ++ cancelled_same o none ps os h.1 i)
+      ∙ sym (map_appended (demand_of before ps) (lines_of_item g p) (flat_map (lines_of_item g) os))
+    where
+      others : same_text p.order o ≡ false → (ls : List OrderLine) → map (demand_of (done (Cancel o) ∷ before) ps) (map (booking_of p) ls) ≡ map (demand_of before ps) (map (booking_of p) ls)
+      others e [] = refl
+      others e (l ∷ ls) =
+          let own : demand_of (done (Cancel o) ∷ before) ps (booking_of p l) ≡ demand_of before ps (booking_of p l) =
+          λ i. record { booking = p.act; need = if e i || is_cancelled before p.order then 0 else l.qty - staged ps p.order l.gtin - shipped ps p.order l.gtin } in
+          (λ i. own i ∷ others e ls i)
+
+      own : map (demand_of (done (Cancel o) ∷ before) ps) (lines_of_item g p) ≡ map (demand_of before ps) (lines_of_item g p)
+      own =
+          elim (same_text p.order o) as (λ b. same_text p.order o ≡ b → map (demand_of (done (Cancel o) ∷ before) ps) (lines_of_item g p) ≡ map (demand_of before ps) (lines_of_item g p)) [
+            | true ↦ λ t.
+                let order : p.order ≡ o = same_text_is p.order o t in
+                let lines : list_any (λ l. same_text g l.gtin) p.lines ≡ false =
+                ap (λ q. list_any (λ l. same_text g l.gtin) (lines_placed q)) (sym h.0) ∙ ap (λ (x : List ℕ). has_line before x g) order ∙ none in
+                (λ i. map (demand_of (done (Cancel o) ∷ before) ps) (map (booking_of p) (no_line p.lines lines i))) ∙ sym (λ i. map (demand_of before ps) (map (booking_of p) (no_line p.lines lines i)))
+            | false ↦ λ t. others t (filter (λ l. same_text g l.gtin) p.lines)
+          ] refl
+
+  -- Bins
+
+  in_store_same : (b : NewBin) → has_bin before b.bin ≡ false → (p : Place) (l : LotId) → KnownPlace first before p l → in_store (done (Bin b) ∷ before) p ≡ in_store before p
+  in_store_same b new (InBin c) l k =
+      elim (same_text c b.bin) as (λ t. same_text c b.bin ≡ t → is_store_row (if t then Some b else bin_named before c) ≡ is_store_bin before c) [
+        | true ↦ λ t. let f : true ≡ false = sym k ∙ ap (λ (x : List ℕ). has_bin before x) (same_text_is c b.bin t) ∙ new in cc
+        | false ↦ λ t. refl
+      ] refl
+  in_store_same b new Supplier l k = refl
+  in_store_same b new WriteOff l k = refl
+  in_store_same b new (Stage o) l k = refl
+  in_store_same b new (Shipped n o) l k = refl
+
+  store_in_same : (b : NewBin) → has_bin before b.bin ≡ false → (l : LotId) (ps : List Posting) → AllKnown first before ps
+      → units_in (in_store (done (Bin b) ∷ before)) (is_lot l) ps ≡ units_in (in_store before) (is_lot l) ps
+  store_in_same b new l [] h = refl
+  store_in_same b new l (p ∷ ps) h = λ i. (if in_store_same b new p.to p.lot (h.0).to i && is_lot l p.lot then p.qty else 0) + store_in_same b new l ps h.1 i
+
+  store_out_same : (b : NewBin) → has_bin before b.bin ≡ false → (l : LotId) (ps : List Posting) → AllKnown first before ps
+      → units_out (in_store (done (Bin b) ∷ before)) (is_lot l) ps ≡ units_out (in_store before) (is_lot l) ps
+  store_out_same b new l [] h = refl
+  store_out_same b new l (p ∷ ps) h = λ i. (if in_store_same b new p.from p.lot (h.0).from i && is_lot l p.lot then p.qty else 0) + store_out_same b new l ps h.1 i
+
+  known_of_item : (ps : List Posting) → AllKnown first before ps → AllKnown first before (filter (λ p. of_item g p.lot) ps)
+  known_of_item [] h = tt
+  known_of_item (p ∷ ps) h = elim (of_item g p.lot) as (λ b. AllKnown first before (if b then p ∷ filter (λ p. of_item g p.lot) ps else filter (λ p. of_item g p.lot) ps)) [
+    | true ↦ (h.0, known_of_item ps h.1)
+    | false ↦ known_of_item ps h.1
+  ]
+
+  -- Each command
+
+  same_after : (c : Command) → IsHistory first before → verdict first before c ≡ None → touches first (done c) before c g ≡ false → IsSame c
+  same_after (Item i) h ok e = same_by (Item i) tt refl refl
+  same_after (Bin b) h ok e =
+      let known = known_of_item old (known_postings first before h) in
+      let new = (bin_accepted first before b ok).new in
+      let ps = item_postings first before g in
+      same_by (Bin b) tt refl
+      (λ i. map (λ k. record { lot = k.came; avail = store_in_same b new k.lot ps known i - store_out_same b new k.lot ps known i }) (in_order goes_before (filter (is_shippable first before) (lots_of before g))))
+  same_after (Receive r) h ok e =
+      same_by (Receive r) (other_lot g (next_number before) r.lot Supplier (InBin r.bin) r.qty e) refl
+      (λ i. map (supply_of before (item_postings first (done (Receive r) ∷ before) g)) (in_order goes_before (filter (is_shippable first before) (lots_received r e i))))
+  same_after (Move m) h ok e = same_by (Move m) (other_lot g (next_number before) m.lot (InBin m.from) (InBin m.to) m.qty e) refl refl
+  same_after (Count c) h ok e =
+      let have = balance (is_bin c.bin) (is_lot c.lot) old in
+      same_by (Count c)
+      (other-append g (posting (next_number before) c.lot WriteOff (InBin c.bin) (c.qty - have)) (posting (next_number before) c.lot (InBin c.bin) WriteOff (have - c.qty))
+      (other_lot g (next_number before) c.lot WriteOff (InBin c.bin) (c.qty - have) e) (other_lot g (next_number before) c.lot (InBin c.bin) WriteOff (have - c.qty) e)) refl refl
+  same_after (Adjust a) h ok e = same_by (Adjust a) (other_written g (next_number before) a.lot a.bin a.change e) refl refl
+  same_after (Order o) h ok e =
+      same_by (Order o) tt
+      (λ i. map (demand_of before (item_postings first before g)) (reverse (map (booking_of (record { order = o.order; act = next_number before; customer = o.customer; lines = o.lines })) (no_line o.lines e i) ++ flat_map (lines_of_item g) (orders before))))
+      refl
+  same_after (Cancel o) h ok e =
+      same_by (Cancel o) tt
+      (map_reversed (demand_of (done (Cancel o) ∷ before) (item_postings first before g)) (demand_of before (item_postings first before g)) (flat_map (lines_of_item g) (orders before))
+      (cancelled_same o e (item_postings first before g) (orders before) (orders_found first before h)))
+      refl
+  same_after (Pick p) h ok e = same_by (Pick p) (other_lot g (next_number before) p.lot (InBin p.bin) (Stage p.order) p.qty e) refl refl
+  same_after (Unpick p) h ok e = same_by (Unpick p) (other_lot g (next_number before) p.lot (Stage p.order) (InBin p.bin) p.qty e) refl refl
+  same_after (Ship o) h ok e = same_by (Ship o) (other_shipped h o e (shipments_so_far first before + 1) (lots before)) refl refl
+  same_after (Hold l) h ok e =
+      same_by (Hold l)
+      (other_returned g (next_number before) old (orders before) _ (lots before) (none_pass_by g _ (λ k f. never_made _ _ (held_same l e k f)) (lots before)))
+      refl
+      (λ i. map (supply_of before (item_postings first (done (Hold l) ∷ before) g)) (in_order goes_before (same_kept g _ _ (lots before) (none_differs_by g (is_shippable first (done (Hold l) ∷ before)) (is_shippable first before) (held_same l e) (lots before)) i)))
+  same_after (Release l) h ok e =
+      same_by (Release l) tt refl
+      (λ i. map (supply_of before (item_postings first before g)) (in_order goes_before (same_kept g _ _ (lots before) (none_differs_by g (is_shippable first (done (Release l) ∷ before)) (is_shippable first before) (released_same l e) (lots before)) i)))
+  same_after (Recall l) h ok e =
+      same_by (Recall l)
+      (other_returned g (next_number before) old (orders before) _ (lots before) (none_pass_by g _ (λ k f. never_made _ _ (recalled_same l e k f)) (lots before)))
+      refl
+      (λ i. map (supply_of before (item_postings first (done (Recall l) ∷ before) g)) (in_order goes_before (same_kept g _ _ (lots before) (none_differs_by g (is_shippable first (done (Recall l) ∷ before)) (is_shippable first before) (recalled_same l e) (lots before)) i)))
+  same_after (OpenDay day) h ok e =
+      let two = or_none _ _ e in
+      let none = none_pass_of g (λ k. is_shippable first before k && not (is_shippable first (done (OpenDay day) ∷ before) k)) (lots before) two.0 in
+      same_by (OpenDay day) (other_returned g (next_number before) old (orders before) _ (lots before) none) refl
+      (λ i. map (supply_of before (item_postings first (done (OpenDay day) ∷ before) g)) (in_order goes_before (same_kept g _ _ (lots before) (day_same day (day_accepted first before day ok) (lots before) none) i)))
+
+  plan_same : (c : Command) → IsSame c → plan first (done c ∷ before) g ≡ plan first before g
+  plan_same c s = λ i. plan_rows (s.demands i) (s.supplies i)
+
+  -- Reservations
+
+  module _ (o : List ℕ) (l : LotId) (item : g ≡ l.gtin) where
+    by_plan : (c : Command) → IsSame c → reserved first (done c ∷ before) o l ≡ reserved_of (order_named (done c ∷ before) o) (lot_known (done c ∷ before) l) (plan first before l.gtin)
+    by_plan c s =
+        let there : plan first (done c ∷ before) l.gtin ≡ plan first before l.gtin =
+        ap (λ (x : List ℕ). plan first (done c ∷ before) x) (sym item) ∙ plan_same c s ∙ ap (λ (x : List ℕ). plan first before x) item in
+        ap (reserved_of (order_named (done c ∷ before) o) (lot_known (done c ∷ before) l)) there
+
+    known_same : (r : Receipt) → is_lot l r.lot ≡ false → lot_known (done (Receive r) ∷ before) l ≡ lot_known before l
+    known_same r e =
+        elim (is_some (lot_among r.lot (lots before))) as (λ b. lot_among l (if b then lots before else record { lot = r.lot; expiry = r.expiry; came = next_number before } ∷ lots before) ≡ lot_known before l) [
+          | true ↦ refl
+          | false ↦ ap (λ b. if b then Some (record { lot = r.lot; expiry = r.expiry; came = next_number before }) else lot_known before l) e
+        ]
+
+    -- a new order without the item has nothing of it
+    new_order : (n : NewOrder) → verdict first before (Order n) ≡ None → list_any (λ x. same_text g x.gtin) n.lines ≡ false → IsSame (Order n) → reserved first (done (Order n) ∷ before) o l ≡ reserved first before o l
+    new_order n ok e s =
+        elim (same_text o n.order) as (λ b. same_text o n.order ≡ b → reserved first (done (Order n) ∷ before) o l ≡ reserved first before o l) [
+          | true ↦ λ t.
+              let new : Placed = record { order = n.order; act = next_number before; customer = n.customer; lines = n.lines } in
+              let named : order_named (done (Order n) ∷ before) o ≡ Some new = ap (λ b. if b then Some new else order_named before o) t in
+              let none : filter (λ (x : OrderLine). same_text l.gtin x.gtin) n.lines ≡ [] = ap (λ (x : List ℕ). filter (λ (y : OrderLine). same_text x y.gtin) n.lines) (sym item) ∙ no_line n.lines e in
+              let nothing : needs (done (Order n) ∷ before) (item_postings first (done (Order n) ∷ before) l.gtin) l.gtin new ≡ 0 =
+              ap (λ (xs : List OrderLine). total (λ b. need (done (Order n) ∷ before) (item_postings first (done (Order n) ∷ before) l.gtin) b) (map (booking_of new) xs)) none in
+              let unknown : is_some (order_named before o) ≡ false = ap (λ (x : List ℕ). is_some (order_named before x)) (same_text_is o n.order t) ∙ (order_accepted first before n ok).new in
+              omega (arith, reserved_within_needs first (done (Order n) ∷ before) o l new named, nothing, unknown_is_unreserved first before o l (not_some (order_named before o) unknown))
+          | false ↦ λ t. by_plan (Order n) s ∙ ap (λ b. reserved_of (if b then Some (record { order = n.order; act = next_number before; customer = n.customer; lines = n.lines }) else order_named before o) (lot_known before l) (plan first before l.gtin)) t
+        ] refl
+      where
+        not_some : (p : Option Placed) → is_some p ≡ false → p ≡ None
+        not_some None f = refl
+        not_some (Some p) f = let h : true ≡ false = f in cc
+
+    reserved_after : (c : Command) → IsHistory first before → verdict first before c ≡ None → touches first (done c) before c g ≡ false → IsSame c → reserved first (done c ∷ before) o l ≡ reserved first before o l
+    reserved_after (Receive r) h ok e s =
+        by_plan (Receive r) s ∙ ap (λ k. reserved_of (order_named before o) k (plan first before l.gtin)) (known_same r (other_of r.lot l e (ap (same_text g) (sym item) ∙ same_text_refl g)))
+    reserved_after (Order n) h ok e s = new_order n ok e s
+    reserved_after (Item i) h ok e s = by_plan (Item i) s
+    reserved_after (Bin b) h ok e s = by_plan (Bin b) s
+    reserved_after (Move m) h ok e s = by_plan (Move m) s
+    reserved_after (Count c) h ok e s = by_plan (Count c) s
+    reserved_after (Adjust a) h ok e s = by_plan (Adjust a) s
+    reserved_after (Cancel u) h ok e s = by_plan (Cancel u) s
+    reserved_after (Pick p) h ok e s = by_plan (Pick p) s
+    reserved_after (Unpick p) h ok e s = by_plan (Unpick p) s
+    reserved_after (Ship u) h ok e s = by_plan (Ship u) s
+    reserved_after (Hold m) h ok e s = by_plan (Hold m) s
+    reserved_after (Release m) h ok e s = by_plan (Release m) s
+    reserved_after (Recall m) h ok e s = by_plan (Recall m) s
+    reserved_after (OpenDay d) h ok e s = by_plan (OpenDay d) s
+
+pub other_items_are_left_alone : OtherItemsAreLeftAlone
+other_items_are_left_alone first act before g h e =
+    let s = same_after first act.key before g act.command h.0 h.1.passes e in
+    record {
+      postings = s.postings;
+      plan = plan_same first act.key before g act.command s;
+      reserved = λ o l of. reserved_after first act.key before g o l (same_text_is g l.gtin of) act.command h.0 h.1.passes e s;
+    }

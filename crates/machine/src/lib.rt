@@ -1,0 +1,4 @@
+//! The machine: what the warehouse does, as definitions over lists of acts, and its laws.
+#![tactic(auto)]
+
+pub mod laws;

@@ -1,0 +1,36 @@
+-- Sums that stop at the cap, and the first refusal along a list.
+use Rattle.std.proofs.Common.{◌≡◌, ℕ, ◌+◌, ◌≤◌, ◌<◌, min, Bool, true, false, List, length, get_or, drop, ap, sym, ◌∙◌, arith}
+use Rattle.std.specs.Prelude.{Some, if◌then◌else◌}
+use Rattle.std.proofs.Math.Seq.{drop-length}
+use Rattle.plan.proofs.Running.{drop_from}
+use Rattle.commands.specs.Lists.{total}
+use Rattle.row_rules.specs.Seen.{CAP, capped}
+use Rattle.machine.specs.Verdict.{Judgement, first_refusal}
+use Rattle.commands.specs.declared.refusal.Refusal.{Refusal}
+
+pub record IsCapped {X : Type 0} (f : X → ℕ) (xs : List X) (i sum : ℕ) : Type 0 where
+  pub so_far : capped (sum + total f (drop i xs)) ≡ capped (total f xs)
+  pub within : sum ≤ CAP
+
+pub capped_none : {X : Type 0} (f : X → ℕ) (xs : List X) → IsCapped f xs 0 0
+capped_none f xs = record { so_far = omega arith; within = omega arith }
+
+pub capped_more : {X : Type 0} (f : X → ℕ) (xs : List X) (i sum more : ℕ) (none : X) → i < length xs → IsCapped f xs i sum
+    → more ≡ min (sum + f (get_or xs i none)) CAP → IsCapped f xs (i + 1) more
+capped_more f xs i sum more none h s e = record { so_far = omega (arith, s.so_far, ap (total f) (drop_from xs i none h), e); within = omega arith }
+
+pub capped_all : {X : Type 0} (f : X → ℕ) (xs : List X) (i sum : ℕ) → i ≡ length xs → IsCapped f xs i sum → sum ≡ capped (total f xs)
+capped_all f xs i sum e s = omega (arith, s.so_far, s.within, ap (λ n. total f (drop n xs)) e, ap (total f) (drop-length xs))
+
+pub record IsJudged (cs : Judgement) (i : ℕ) : Type 0 where
+  pub rest : first_refusal (drop i cs) ≡ first_refusal cs
+
+judge_step : (cs : Judgement) (i : ℕ) (none : Bool × Refusal) → i < length cs → IsJudged cs i
+    → (if (get_or cs i none).0 then Some (get_or cs i none).1 else first_refusal (drop (i + 1) cs)) ≡ first_refusal cs
+judge_step cs i none h s = sym (ap first_refusal (drop_from cs i none h)) ∙ s.rest
+
+pub judged_more : (cs : Judgement) (i : ℕ) (none : Bool × Refusal) → i < length cs → (get_or cs i none).0 ≡ false → IsJudged cs i → IsJudged cs (i + 1)
+judged_more cs i none h e s = record { rest = sym (ap (λ b. if b then Some (get_or cs i none).1 else first_refusal (drop (i + 1) cs)) e) ∙ judge_step cs i none h s }
+
+pub judged_at : (cs : Judgement) (i : ℕ) (none : Bool × Refusal) → i < length cs → (get_or cs i none).0 ≡ true → IsJudged cs i → Some (get_or cs i none).1 ≡ first_refusal cs
+judged_at cs i none h e s = sym (ap (λ b. if b then Some (get_or cs i none).1 else first_refusal (drop (i + 1) cs)) e) ∙ judge_step cs i none h s

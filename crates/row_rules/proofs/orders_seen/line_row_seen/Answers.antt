@@ -1,0 +1,11 @@
+use Rattle.std.proofs.Common.{List, ◌&&◌, ap, ◌∙◌}
+use Rattle.std.specs.Prelude.{find}
+use Rattle.values.specs.Values.{same_text}
+use Rattle.commands.specs.declared.rows.LineRow.{LineRow}
+use Rattle.row_rules.proofs.orders_seen.line_row_seen.Goals as goal
+
+pub returns : goal.returns
+returns c =
+    let o = c.args.order.now in
+    let g = c.args.gtin.now in
+    c.find_line.ensures ∙ ap (λ (rows : List LineRow). find (λ l. same_text o l.order && same_text g l.gtin) rows) c.as_slice.ensures

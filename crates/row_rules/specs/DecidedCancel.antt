@@ -1,0 +1,50 @@
+-- What is decided of the cancelling of an order by the rows of its slice: the conditions judged, and the rows changed.
+use Rattle.std.specs.Prelude.{ℕ, not, ◌==◌, nat_le, List, [], ◌∷◌, filter, flat_map, Option, Some, None}
+use Rattle.values.specs.Values.{same_text}
+use Rattle.commands.specs.declared.limits.TheConstants.{ACTS_MAX}
+use Rattle.commands.specs.declared.refusal.Refusal.TheVariants.{ActsFull, UnknownOrder, OrderClosed, StillStaged}
+use Rattle.commands.specs.declared.rows.OrderState.TheVariants.{Cancelled}
+use Rattle.commands.specs.declared.rows.OrderRow.{OrderRow}
+use Rattle.commands.specs.declared.rows.ReservedRow.{ReservedRow}
+use Rattle.machine.specs.Verdict.{Judgement}
+use Rattle.row_rules.specs.Seen.{meta_after, plain_reply, no_rows}
+use Rattle.row_rules.specs.SeenOrders.{order_row_seen, sees_order, sees_open, staged_for_seen, items_seen}
+use Rattle.row_rules.specs.Replanning.{item_put, item_dropped}
+use Rattle.row_rules.specs.declared.slice.Slice.{Slice}
+use Rattle.row_rules.specs.declared.slice.Change.{Change}
+
+-- Judging
+
+abbrev pub cancel_seen : Slice → List ℕ → Judgement
+cancel_seen s o =
+    (nat_le ACTS_MAX s.meta.acts, ActsFull)
+    ∷ (not (sees_order s o), UnknownOrder)
+    ∷ (not (sees_open s o), OrderClosed)
+    ∷ (not (staged_for_seen s o == 0), StillStaged) ∷ []
+
+-- Changing
+
+abbrev pub cancelled_row : Option OrderRow → List OrderRow
+cancelled_row None = []
+cancelled_row (Some r) = record { order = r.order; act = r.act; customer = r.customer; state = Cancelled } ∷ []
+
+-- the other orders: only these want units after the act
+abbrev pub other_orders : Slice → List ℕ → List OrderRow
+other_orders s o = filter (λ r. not (same_text o r.order)) s.rows.orders
+
+-- the rows of reservations that differ, item after item
+abbrev pub cancel_put : Slice → List ℕ → List ReservedRow
+cancel_put s o =
+    flat_map (item_put s.meta.day (other_orders s o) s.rows.lines s.rows.staged s.rows.lots s.rows.recalls s.rows.bins s.rows.stock s.rows.reserved) (items_seen s o)
+
+abbrev pub cancel_dropped : Slice → List ℕ → List ReservedRow
+cancel_dropped s o =
+    flat_map (item_dropped s.meta.day (other_orders s o) s.rows.lines s.rows.staged s.rows.lots s.rows.recalls s.rows.bins s.rows.stock s.rows.reserved) (items_seen s o)
+
+abbrev pub cancel_changes : Slice → List ℕ → Change
+cancel_changes s o = record {
+  meta = meta_after s;
+  put = record no_rows { orders = cancelled_row (order_row_seen s o); reserved = cancel_put s o };
+  dropped = record no_rows { reserved = cancel_dropped s o };
+  text = plain_reply s;
+}

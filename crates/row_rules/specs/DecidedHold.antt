@@ -1,0 +1,141 @@
+-- What is decided of a lot that is held, released or recalled: the conditions judged, and the rows changed.
+use Rattle.std.specs.Prelude.{ℕ, ◌+◌, Bool, true, false, not, ◌==◌, nat_le, if◌then◌else◌, List, [], ◌∷◌, ◌++◌, codes, decimal, map, filter, Option, Some, None}
+use Rattle.values.specs.declared.lot.LotId.{LotId}
+use Rattle.commands.specs.Lists.{total}
+use Rattle.commands.specs.declared.limits.TheConstants.{ACTS_MAX}
+use Rattle.commands.specs.declared.refusal.Refusal.TheVariants.{ActsFull, UnknownItem, UnknownLot, LotRecalled, LotHeld, LotNotHeld, AlreadyRecalled}
+use Rattle.commands.specs.declared.command.BinKind.TheVariants.{Hold as HoldBin}
+use Rattle.commands.specs.declared.rows.BinRow.{BinRow}
+use Rattle.commands.specs.declared.rows.LotRow.{LotRow}
+use Rattle.commands.specs.declared.rows.RecallRow.{RecallRow}
+use Rattle.commands.specs.declared.rows.StockRow.{StockRow}
+use Rattle.commands.specs.declared.rows.StagedRow.{StagedRow}
+use Rattle.commands.specs.declared.rows.ReservedRow.{ReservedRow}
+use Rattle.machine.specs.Verdict.{Judgement}
+use Rattle.machine.specs.Postings.{is_lot}
+use Rattle.machine.specs.Standing.{RETURNS}
+use Rattle.machine.specs.Replies.{returned_field}
+use Rattle.row_rules.specs.Seen.{capped, sees_item, lot_seen, sees_recall, number_seen, meta_after, plain_reply, no_rows}
+use Rattle.row_rules.specs.SeenLots.{sees_lot, sees_hold, in_bin_seen, stock_put, stock_rows_with}
+use Rattle.row_rules.specs.Plans.{shares_over, rows_to_put, rows_to_drop}
+use Rattle.row_rules.specs.declared.slice.Slice.{Slice}
+use Rattle.row_rules.specs.declared.slice.Change.{Change}
+
+-- Lots
+
+-- the row of a lot, held or not if it is this lot's
+abbrev pub with_hold : LotId → Bool → LotRow → LotRow
+with_hold l held k = record { lot = k.lot; expiry = k.expiry; came = k.came; held = if is_lot l k.lot then held else k.held }
+
+abbrev pub lot_rows_with_hold : Slice → LotId → Bool → List LotRow
+lot_rows_with_hold s l held = map (with_hold l held) s.rows.lots
+
+abbrev pub lot_put : LotId → Bool → Option LotRow → List LotRow
+lot_put l held None = []
+lot_put l held (Some k) = with_hold l held k ∷ []
+
+-- Release
+
+abbrev pub release_seen : Slice → LotId → Judgement
+release_seen s l =
+    (nat_le ACTS_MAX s.meta.acts, ActsFull)
+    ∷ (not (sees_item s l.gtin), UnknownItem)
+    ∷ (not (sees_lot s l), UnknownLot)
+    ∷ (sees_recall s l, LotRecalled)
+    ∷ (not (sees_hold s l), LotNotHeld) ∷ []
+
+-- the reserved rows of the item after the release
+abbrev pub release_shares : Slice → LotId → List ReservedRow
+release_shares s l =
+    shares_over l.gtin s.meta.day s.rows.orders s.rows.lines s.rows.staged (lot_rows_with_hold s l false) s.rows.recalls s.rows.bins s.rows.stock
+
+abbrev pub release_changes : Slice → LotId → Change
+release_changes s l = record {
+  meta = meta_after s;
+  put = record no_rows { lots = lot_put l false (lot_seen s l); reserved = rows_to_put s.rows.reserved (release_shares s l) };
+  dropped = record no_rows { reserved = rows_to_drop l.gtin s.rows.reserved (release_shares s l) };
+  text = plain_reply s;
+}
+
+-- What is staged of a lot goes to RETURNS, which is a HOLD bin
+
+abbrev pub staged_of_seen : Slice → LotId → ℕ
+staged_of_seen s l = capped (total (λ r. if is_lot l r.lot then r.qty else 0) s.rows.staged)
+
+abbrev pub staged_kept : Slice → LotId → List StagedRow
+staged_kept s l = filter (λ r. not (is_lot l r.lot)) s.rows.staged
+
+abbrev pub staged_returned : Slice → LotId → List StagedRow
+staged_returned s l = filter (λ r. is_lot l r.lot) s.rows.staged
+
+-- the units of the lot in RETURNS after it
+abbrev pub units_in_returns : Slice → LotId → ℕ
+units_in_returns s l = capped (in_bin_seen s RETURNS l + staged_of_seen s l)
+
+-- no row is put where nothing is staged
+abbrev pub returned_put : Slice → LotId → List StockRow
+returned_put s l = if staged_of_seen s l == 0 then [] else stock_put l RETURNS (units_in_returns s l)
+
+abbrev pub stock_with_returned : Slice → LotId → List StockRow
+stock_with_returned s l = stock_rows_with l RETURNS (units_in_returns s l) s.rows.stock
+
+abbrev pub returns_bin_row : BinRow
+returns_bin_row = record { name = RETURNS; kind = HoldBin }
+
+abbrev pub bins_with_returns : Slice → List BinRow
+bins_with_returns s = returns_bin_row ∷ s.rows.bins
+
+-- the reserved rows of the item where its lots and recalls are these after the act
+abbrev pub shares_with_returned : Slice → LotId → List LotRow → List RecallRow → List ReservedRow
+shares_with_returned s l lots recalls =
+    shares_over l.gtin s.meta.day s.rows.orders s.rows.lines (staged_kept s l) lots recalls (bins_with_returns s) (stock_with_returned s l)
+
+abbrev pub returned_reply : Slice → LotId → List ℕ
+returned_reply s l = codes "{\"act\":" ++ decimal (number_seen s) ++ returned_field (staged_of_seen s l) ++ codes "}"
+
+-- a change by which a lot stops being shippable, with these rows of lots and recalls put and these reserved rows after it
+abbrev pub returning_change : Slice → LotId → List LotRow → List RecallRow → List ReservedRow → Change
+returning_change s l lots recalls shares = record {
+  meta = meta_after s;
+  put = record no_rows { lots = lots; recalls = recalls; stock = returned_put s l; reserved = rows_to_put s.rows.reserved shares };
+  dropped = record no_rows { staged = staged_returned s l; reserved = rows_to_drop l.gtin s.rows.reserved shares };
+  text = returned_reply s l;
+}
+
+-- Hold
+
+abbrev pub hold_seen : Slice → LotId → Judgement
+hold_seen s l =
+    (nat_le ACTS_MAX s.meta.acts, ActsFull)
+    ∷ (not (sees_item s l.gtin), UnknownItem)
+    ∷ (not (sees_lot s l), UnknownLot)
+    ∷ (sees_recall s l, LotRecalled)
+    ∷ (sees_hold s l, LotHeld) ∷ []
+
+-- the reserved rows of the item after the hold
+abbrev pub hold_shares : Slice → LotId → List ReservedRow
+hold_shares s l = shares_with_returned s l (lot_rows_with_hold s l true) s.rows.recalls
+
+abbrev pub hold_changes : Slice → LotId → Change
+hold_changes s l = returning_change s l (lot_put l true (lot_seen s l)) [] (hold_shares s l)
+
+-- Recall. A lot that was never received can be recalled too.
+
+abbrev pub recall_seen : Slice → LotId → Judgement
+recall_seen s l =
+    (nat_le ACTS_MAX s.meta.acts, ActsFull)
+    ∷ (not (sees_item s l.gtin), UnknownItem)
+    ∷ (sees_recall s l, AlreadyRecalled) ∷ []
+
+abbrev pub new_recall_row : Slice → LotId → RecallRow
+new_recall_row s l = record { lot = l; act = number_seen s }
+
+abbrev pub recall_rows_after : Slice → LotId → List RecallRow
+recall_rows_after s l = new_recall_row s l ∷ s.rows.recalls
+
+-- the reserved rows of the item after the recall
+abbrev pub recall_shares : Slice → LotId → List ReservedRow
+recall_shares s l = shares_with_returned s l s.rows.lots (recall_rows_after s l)
+
+abbrev pub recall_changes : Slice → LotId → Change
+recall_changes s l = returning_change s l [] (new_recall_row s l ∷ []) (recall_shares s l)

@@ -1,0 +1,52 @@
+-- What is decided of a move by the rows of its slice: the conditions judged, and the rows changed.
+use Rattle.std.specs.Prelude.{ℕ, ◌+◌, ◌-◌, not, nat_lt, nat_le, List, [], ◌∷◌, ◌++◌}
+use Rattle.values.specs.Values.{same_text}
+use Rattle.commands.specs.declared.limits.TheConstants.{ACTS_MAX}
+use Rattle.commands.specs.declared.refusal.Refusal.TheVariants.{ActsFull, UnknownItem, UnknownBin, UnknownLot, NotInBin, SameBin}
+use Rattle.commands.specs.declared.command.Movement.{Movement}
+use Rattle.commands.specs.declared.rows.StockRow.{StockRow}
+use Rattle.commands.specs.declared.rows.ReservedRow.{ReservedRow}
+use Rattle.machine.specs.Verdict.{Judgement}
+use Rattle.row_rules.specs.Seen.{capped, sees_item, sees_bin, meta_after, plain_reply, no_rows}
+use Rattle.row_rules.specs.SeenLots.{sees_lot, in_bin_seen, stock_put, stock_gone, stock_rows_with}
+use Rattle.row_rules.specs.Plans.{shares_over, rows_to_put, rows_to_drop}
+use Rattle.row_rules.specs.declared.slice.Slice.{Slice}
+use Rattle.row_rules.specs.declared.slice.Change.{Change}
+
+abbrev pub move_seen : Slice → Movement → Judgement
+move_seen s m =
+    (nat_le ACTS_MAX s.meta.acts, ActsFull)
+    ∷ (not (sees_item s m.lot.gtin), UnknownItem)
+    ∷ (not (sees_bin s m.from), UnknownBin)
+    ∷ (not (sees_bin s m.to), UnknownBin)
+    ∷ (not (sees_lot s m.lot), UnknownLot)
+    ∷ (nat_lt (in_bin_seen s m.from m.lot) m.qty, NotInBin)
+    ∷ (same_text m.from m.to, SameBin) ∷ []
+
+-- the units that the two bins have of the lot after the move
+abbrev pub units_left : Slice → Movement → ℕ
+units_left s m = in_bin_seen s m.from m.lot - m.qty
+
+abbrev pub units_brought : Slice → Movement → ℕ
+units_brought s m = capped (in_bin_seen s m.to m.lot + m.qty)
+
+abbrev pub stock_rows_moved : Slice → Movement → List StockRow
+stock_rows_moved s m = stock_rows_with m.lot m.to (units_brought s m) (stock_rows_with m.lot m.from (units_left s m) s.rows.stock)
+
+-- the reserved rows of the item after the move
+abbrev pub move_shares : Slice → Movement → List ReservedRow
+move_shares s m = shares_over m.lot.gtin s.meta.day s.rows.orders s.rows.lines s.rows.staged s.rows.lots s.rows.recalls s.rows.bins (stock_rows_moved s m)
+
+abbrev pub move_changes : Slice → Movement → Change
+move_changes s m = record {
+  meta = meta_after s;
+  put = record no_rows {
+    stock = stock_put m.lot m.to (units_brought s m) ++ stock_put m.lot m.from (units_left s m);
+    reserved = rows_to_put s.rows.reserved (move_shares s m);
+  };
+  dropped = record no_rows {
+    stock = stock_gone s.rows.stock m.lot m.from (units_left s m);
+    reserved = rows_to_drop m.lot.gtin s.rows.reserved (move_shares s m);
+  };
+  text = plain_reply s;
+}

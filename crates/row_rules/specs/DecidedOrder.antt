@@ -1,0 +1,100 @@
+-- What is decided of an order by the rows of its slice: the conditions judged, and the rows changed.
+use Rattle.std.specs.Prelude.{ℕ, ◌+◌, ◌-◌, Bool, not, ◌&&◌, nat_lt, nat_le, if◌then◌else◌, List, [], ◌∷◌, ◌++◌, map, flat_map, find, codes, decimal, Option, Some, None}
+use Rattle.std.specs.List.{list_any}
+use Rattle.values.specs.Values.{same_text}
+use Rattle.commands.specs.Lists.{total}
+use Rattle.commands.specs.declared.limits.TheConstants.{OPEN_MAX, ACTS_MAX}
+use Rattle.commands.specs.declared.refusal.Refusal.TheVariants.{ActsFull, UnknownItem, OrderExists, ItemTwice, OverOrdered}
+use Rattle.commands.specs.declared.command.OrderLine.{OrderLine}
+use Rattle.commands.specs.declared.command.NewOrder.{NewOrder}
+use Rattle.commands.specs.declared.rows.OrderState.TheVariants.{Open}
+use Rattle.commands.specs.declared.rows.OrderRow.{OrderRow}
+use Rattle.commands.specs.declared.rows.LineRow.{LineRow}
+use Rattle.commands.specs.declared.rows.ReservedRow.{ReservedRow}
+use Rattle.plan.specs.declared.Row.{Row}
+use Rattle.plan.specs.Overlap.{reserved_for}
+use Rattle.machine.specs.Planning.{is_open_state}
+use Rattle.machine.specs.Verdict.{Judgement, names_item_twice}
+use Rattle.machine.specs.Replies.{short_field}
+use Rattle.row_rules.specs.Seen.{capped, sees_item, number_seen, meta_after, no_rows}
+use Rattle.row_rules.specs.SeenOrders.{sees_order}
+use Rattle.row_rules.specs.Plans.{demands_seen, supplies_seen, plan_within, named_rows, rows_to_put, rows_to_drop}
+use Rattle.row_rules.specs.declared.slice.Slice.{Slice}
+use Rattle.row_rules.specs.declared.slice.Change.{Change}
+
+-- Judging
+
+-- one of the lines is of an item that the slice does not have
+abbrev pub misses_item : Slice → List OrderLine → Bool
+misses_item s lines = list_any (λ l. not (sees_item s l.gtin)) lines
+
+abbrev pub open_units_of_line : Option LineRow → ℕ
+open_units_of_line None = 0
+open_units_of_line (Some l) = l.ordered - l.shipped
+
+-- ordered less shipped of the item, if the order is open
+abbrev pub open_units_of : List ℕ → List LineRow → OrderRow → ℕ
+open_units_of g lines o =
+    if is_open_state o.state then open_units_of_line (find (λ l. same_text o.order l.order && same_text g l.gtin) lines) else 0
+
+-- and of all orders
+abbrev pub open_units_seen : Slice → List ℕ → ℕ
+open_units_seen s g = capped (total (open_units_of g s.rows.lines) s.rows.orders)
+
+-- with one of the lines more units of its item would be ordered than the limit
+abbrev pub orders_too_much : Slice → List OrderLine → Bool
+orders_too_much s lines = list_any (λ l. nat_lt OPEN_MAX (capped (open_units_seen s l.gtin + l.qty))) lines
+
+abbrev pub order_seen : Slice → NewOrder → Judgement
+order_seen s o =
+    (nat_le ACTS_MAX s.meta.acts, ActsFull)
+    ∷ (misses_item s o.lines, UnknownItem)
+    ∷ (sees_order s o.order, OrderExists)
+    ∷ (names_item_twice o.lines, ItemTwice)
+    ∷ (orders_too_much s o.lines, OverOrdered) ∷ []
+
+-- Changing
+
+abbrev pub new_order_row : Slice → NewOrder → OrderRow
+new_order_row s o = record { order = o.order; act = number_seen s; customer = o.customer; state = Open }
+
+abbrev pub new_line_rows : NewOrder → List LineRow
+new_line_rows o = map (λ l. record { order = o.order; gtin = l.gtin; ordered = l.qty; shipped = 0 }) o.lines
+
+abbrev pub order_rows_after : Slice → NewOrder → List OrderRow
+order_rows_after s o = new_order_row s o ∷ s.rows.orders
+
+abbrev pub line_rows_after : Slice → NewOrder → List LineRow
+line_rows_after s o = new_line_rows o ++ s.rows.lines
+
+-- the plan of an item with the order
+abbrev pub plan_with_order : Slice → NewOrder → List ℕ → List Row
+plan_with_order s o g =
+    plan_within (demands_seen g (line_rows_after s o) s.rows.staged (order_rows_after s o))
+    (supplies_seen g s.meta.day s.rows.recalls s.rows.bins s.rows.stock s.rows.lots)
+
+-- the reserved rows of an item with the order
+abbrev pub order_shares : Slice → NewOrder → List ℕ → List ReservedRow
+order_shares s o g = named_rows (order_rows_after s o) s.rows.lots (plan_with_order s o g)
+
+-- the rows that differ, item after item
+abbrev pub order_rows_to_put : Slice → NewOrder → List OrderLine → List ReservedRow
+order_rows_to_put s o lines = flat_map (λ l. rows_to_put s.rows.reserved (order_shares s o l.gtin)) lines
+
+abbrev pub order_rows_to_drop : Slice → NewOrder → List OrderLine → List ReservedRow
+order_rows_to_drop s o lines = flat_map (λ l. rows_to_drop l.gtin s.rows.reserved (order_shares s o l.gtin)) lines
+
+-- what the plans leave short of the lines
+abbrev pub short_seen : Slice → NewOrder → List OrderLine → ℕ
+short_seen s o lines = capped (total (λ l. l.qty - reserved_for (number_seen s) (plan_with_order s o l.gtin)) lines)
+
+abbrev pub order_reply : Slice → NewOrder → List ℕ
+order_reply s o = codes "{\"act\":" ++ decimal (number_seen s) ++ short_field (short_seen s o o.lines) ++ codes "}"
+
+abbrev pub order_changes : Slice → NewOrder → Change
+order_changes s o = record {
+  meta = meta_after s;
+  put = record no_rows { orders = new_order_row s o ∷ []; lines = new_line_rows o; reserved = order_rows_to_put s o o.lines };
+  dropped = record no_rows { reserved = order_rows_to_drop s o o.lines };
+  text = order_reply s o;
+}

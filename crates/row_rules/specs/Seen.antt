@@ -1,0 +1,84 @@
+-- What a decision reads of the rows of its slice, as the code reads it: look-ups and sums over lists.
+use Rattle.std.specs.Prelude.{ℕ, ◌+◌, min, Bool, false, not, ◌&&◌, nat_lt, if◌then◌else◌, List, [], ◌++◌, codes, decimal, find, Option, Some, None, is_some, ℤ, int_le}
+use Rattle.values.specs.Values.{same_text}
+use Rattle.values.specs.declared.lot.LotId.{LotId}
+use Rattle.commands.specs.Lists.{total}
+use Rattle.commands.specs.declared.limits.TheConstants.{UNITS_MAX}
+use Rattle.commands.specs.declared.rows.MetaRow.{MetaRow}
+use Rattle.commands.specs.declared.rows.LotRow.{LotRow}
+use Rattle.commands.specs.declared.rows.StockRow.{StockRow}
+use Rattle.commands.specs.declared.rows.StagedRow.{StagedRow}
+use Rattle.machine.specs.Postings.{is_lot, of_item}
+use Rattle.row_rules.specs.declared.slice.Rows.{Rows}
+use Rattle.row_rules.specs.declared.slice.Slice.{Slice}
+
+-- what a sum is held at
+abbrev pub CAP : ℕ
+CAP = 18_446_744_073_709_551_615
+
+abbrev pub capped : ℕ → ℕ
+capped n = min n CAP
+
+-- Items, bins and lots
+
+abbrev pub sees_item : Slice → List ℕ → Bool
+sees_item s g = is_some (find (λ i. same_text g i.gtin) s.rows.items)
+
+abbrev pub sees_bin : Slice → List ℕ → Bool
+sees_bin s b = is_some (find (λ r. same_text b r.name) s.rows.bins)
+
+abbrev pub lot_seen : Slice → LotId → Option LotRow
+lot_seen s l = find (λ k. is_lot l k.lot) s.rows.lots
+
+abbrev pub expires_otherwise_than : Option LotRow → ℤ → Bool
+expires_otherwise_than None expiry = false
+expires_otherwise_than (Some k) expiry = not (int_le k.expiry expiry && int_le expiry k.expiry)
+
+abbrev pub sees_recall : Slice → LotId → Bool
+sees_recall s l = is_some (find (λ k. is_lot l k.lot) s.rows.recalls)
+
+-- Units of an item
+
+abbrev pub stock_units : List ℕ → List StockRow → ℕ
+stock_units g rows = total (λ r. if of_item g r.lot then r.qty else 0) rows
+
+abbrev pub staged_units : List ℕ → List StagedRow → ℕ
+staged_units g rows = total (λ r. if of_item g r.lot then r.qty else 0) rows
+
+abbrev pub units_seen : Slice → List ℕ → ℕ
+units_seen s g = capped (capped (stock_units g s.rows.stock) + capped (staged_units g s.rows.staged))
+
+-- with `more` units the item would exceed the limit
+abbrev pub is_over : Slice → List ℕ → ℕ → Bool
+is_over s g more = nat_lt UNITS_MAX (capped (units_seen s g + more))
+
+-- The act that is decided
+
+abbrev pub number_seen : Slice → ℕ
+number_seen s = capped (s.meta.acts + 1)
+
+-- the row of `meta` after a command that neither opens a day nor ships
+abbrev pub meta_after : Slice → MetaRow
+meta_after s = record { day = s.meta.day; acts = number_seen s; shipments = s.meta.shipments }
+
+-- the reply with nothing beside the number
+abbrev pub plain_reply : Slice → List ℕ
+plain_reply s = codes "{\"act\":" ++ decimal (number_seen s) ++ codes "}"
+
+-- Changes
+
+abbrev pub no_rows : Rows
+no_rows = record {
+  items = [];
+  bins = [];
+  lots = [];
+  recalls = [];
+  stock = [];
+  orders = [];
+  lines = [];
+  staged = [];
+  reserved = [];
+  shipments = [];
+  shiplines = [];
+  cards = [];
+}

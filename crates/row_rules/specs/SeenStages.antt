@@ -1,0 +1,43 @@
+-- What a decision reads of the units of a lot that are staged or reserved for an order, and the staged rows where these have changed.
+use Rattle.std.specs.Prelude.{ℕ, not, ◌&&◌, ◌==◌, if◌then◌else◌, List, [], ◌∷◌, ◌++◌, filter, find, Option, Some, None}
+use Rattle.std.specs.List.{cons_option}
+use Rattle.values.specs.Values.{same_text}
+use Rattle.values.specs.declared.lot.LotId.{LotId}
+use Rattle.commands.specs.declared.rows.StagedRow.{StagedRow}
+use Rattle.commands.specs.declared.rows.ReservedRow.{ReservedRow}
+use Rattle.machine.specs.Postings.{is_lot}
+use Rattle.row_rules.specs.declared.slice.Slice.{Slice}
+
+abbrev pub reserved_qty : Option ReservedRow → ℕ
+reserved_qty None = 0
+reserved_qty (Some r) = r.qty
+
+-- the units of a lot that are reserved for an order
+abbrev pub reserved_seen : Slice → List ℕ → LotId → ℕ
+reserved_seen s o l = reserved_qty (find (λ r. same_text o r.order && is_lot l r.lot) s.rows.reserved)
+
+abbrev pub staged_qty : Option StagedRow → ℕ
+staged_qty None = 0
+staged_qty (Some r) = r.qty
+
+-- the row of a lot on the stage of an order
+abbrev pub staged_found : List StagedRow → List ℕ → LotId → Option StagedRow
+staged_found rows o l = find (λ r. same_text o r.order && is_lot l r.lot) rows
+
+-- the units of a lot that are staged for an order
+abbrev pub on_stage_seen : Slice → List ℕ → LotId → ℕ
+on_stage_seen s o l = staged_qty (staged_found s.rows.staged o l)
+
+-- Where so many units of a lot are staged for an order after the act: a row of no units is not kept
+
+-- the row put
+abbrev pub staged_put : List ℕ → LotId → ℕ → List StagedRow
+staged_put o l q = if q == 0 then [] else record { order = o; lot = l; qty = q } ∷ []
+
+-- the row dropped, if there was one
+abbrev pub staged_gone : List StagedRow → List ℕ → LotId → ℕ → List StagedRow
+staged_gone rows o l q = if q == 0 then cons_option (staged_found rows o l) [] else []
+
+-- all staged rows
+abbrev pub staged_rows_with : List ℕ → LotId → ℕ → List StagedRow → List StagedRow
+staged_rows_with o l q rows = staged_put o l q ++ filter (λ r. not (same_text o r.order && is_lot l r.lot)) rows

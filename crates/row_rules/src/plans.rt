@@ -1,0 +1,231 @@
+//! The plan of an item, and the reserved rows that it changes.
+
+ghost use Rattle.std.specs.Prelude.{◌≡◌, ◌==◌, find, IfOk};
+ghost use Rattle.std.specs.List.{list_any};
+ghost use Rattle.row_rules.specs.Plans.{plan_within as plan_within_lem, named_row, named_rows as named_rows_lem, is_share_of, has_qty, shares_over as shares_over_lem, rows_to_put as rows_to_put_lem, rows_to_drop as rows_to_drop_lem};
+
+use crate::Rows;
+use crate::demands::{cut_demands, demands_seen};
+use crate::looking::is_same_lot;
+use crate::pushing::{push_found, push_if};
+use crate::supplies::{cut_supplies, supplies_seen};
+use commands::{BinRow, LineRow, LotRow, OrderRow, RecallRow, ReservedRow, StagedRow, StockRow};
+use label::BusinessDay;
+use plan::{Demand, Plan, Row, Supply, whole};
+use std::alloc::{AllocError, Global};
+use values::Gtin;
+
+/// The rows that tell the demands and supplies of an item, some of them as they are after an act.
+#[derive(Clone, Copy)]
+pub struct ItemRows<'a> {
+    pub orders: &'a [OrderRow],
+    pub lines: &'a [LineRow],
+    pub staged: &'a [StagedRow],
+    pub lots: &'a [LotRow],
+    pub recalls: &'a [RecallRow],
+    pub bins: &'a [BinRow],
+    pub stock: &'a [StockRow],
+}
+
+/// The rows as they are before the act.
+pub fn item_rows(rows: &Rows) -> ItemRows<'_>
+    ensures orders { result.orders.now ≡ rows.now.orders }
+    ensures lines { result.lines.now ≡ rows.now.lines }
+    ensures staged { result.staged.now ≡ rows.now.staged }
+    ensures lots { result.lots.now ≡ rows.now.lots }
+    ensures recalls { result.recalls.now ≡ rows.now.recalls }
+    ensures bins { result.bins.now ≡ rows.now.bins }
+    ensures stock { result.stock.now ≡ rows.now.stock }
+{
+    ItemRows {
+        orders: rows.orders.as_slice(),
+        lines: rows.lines.as_slice(),
+        staged: rows.staged.as_slice(),
+        lots: rows.lots.as_slice(),
+        recalls: rows.recalls.as_slice(),
+        bins: rows.bins.as_slice(),
+        stock: rows.stock.as_slice(),
+    }
+}
+
+/// What these rows reserve of an item.
+pub fn shares_over(
+    alloc: Global,
+    gtin: &Gtin,
+    day: BusinessDay,
+    rows: &ItemRows<'_>,
+) -> Result<Vec<ReservedRow>, AllocError>
+    ensures { IfOk result (λ v. v.items ≡ shares_over_lem gtin.now day rows.now.orders.now rows.now.lines.now rows.now.staged.now rows.now.lots.now rows.now.recalls.now rows.now.bins.now rows.now.stock.now) }
+{
+    let demands = demands_seen(alloc, gtin, rows.lines, rows.staged, rows.orders)?;
+    let supplies = supplies_seen(
+        alloc,
+        gtin,
+        day,
+        rows.recalls,
+        rows.bins,
+        rows.stock,
+        rows.lots,
+    )?;
+    planned_rows(
+        alloc,
+        rows.orders,
+        rows.lots,
+        demands.as_slice(),
+        supplies.as_slice(),
+    )
+}
+
+/// The plan of demands over supplies, each up to the limit of a list's sum.
+pub fn plan_within(
+    alloc: Global,
+    demands: &[Demand],
+    supplies: &[Supply],
+) -> Result<Plan, AllocError>
+    ensures { IfOk result (λ plan. plan ≡ plan_within_lem demands.now supplies.now) }
+{
+    let wanted = cut_demands(alloc, demands)?;
+    let offered = cut_supplies(alloc, supplies)?;
+    whole(alloc, wanted.as_slice(), offered.as_slice())
+}
+
+// What the plan of demands over supplies reserves, by the names of orders and lots.
+fn planned_rows(
+    alloc: Global,
+    orders: &[OrderRow],
+    lots: &[LotRow],
+    demands: &[Demand],
+    supplies: &[Supply],
+) -> Result<Vec<ReservedRow>, AllocError>
+    ensures { IfOk result (λ v. v.items ≡ named_rows_lem orders.now lots.now (plan_within_lem demands.now supplies.now)) }
+{
+    let plan = plan_within(alloc, demands, supplies)?;
+    named_rows(alloc, orders, lots, plan.rows())
+}
+
+/// The plan's rows by the names of orders and lots.
+pub fn named_rows(
+    alloc: Global,
+    orders: &[OrderRow],
+    lots: &[LotRow],
+    rows: &[Row],
+) -> Result<Vec<ReservedRow>, AllocError>
+    ensures { IfOk result (λ v. v.items ≡ named_rows_lem orders.now lots.now rows.now) }
+{
+    let mut named = Vec::new(alloc);
+    for row in rows {
+        let order = order_numbered(orders, row.booking);
+        let lot = lot_that_came(lots, row.lot);
+        push_found(&mut named, name_row(order, lot, row.qty))?;
+    }
+    Ok(named)
+}
+
+fn name_row(order: Option<OrderRow>, lot: Option<LotRow>, qty: u64) -> Option<ReservedRow>
+    ensures { result ≡ named_row order lot qty }
+{
+    match order {
+        None => None,
+        Some(o) => match lot {
+            None => None,
+            Some(k) => Some(ReservedRow {
+                order: o.order,
+                lot: k.lot,
+                qty,
+            }),
+        },
+    }
+}
+
+fn order_numbered(rows: &[OrderRow], act: u64) -> Option<OrderRow>
+    ensures { result ≡ find (λ o. act == o.act) rows.now }
+{
+    for row in rows {
+        if act == row.act {
+            return Some(*row);
+        }
+    }
+    None
+}
+
+fn lot_that_came(rows: &[LotRow], came: u64) -> Option<LotRow>
+    ensures { result ≡ find (λ k. came == k.came) rows.now }
+{
+    for row in rows {
+        if came == row.came {
+            return Some(*row);
+        }
+    }
+    None
+}
+
+/// The new rows that are not there as they are.
+pub fn rows_to_put(
+    alloc: Global,
+    olds: &[ReservedRow],
+    news: &[ReservedRow],
+) -> Result<Vec<ReservedRow>, AllocError>
+    ensures { IfOk result (λ v. v.items ≡ rows_to_put_lem olds.now news.now) }
+{
+    let mut put = Vec::new(alloc);
+    for row in news {
+        let same = is_qty(find_share(olds, row), row.qty);
+        push_if(&mut put, !same, *row)?;
+    }
+    Ok(put)
+}
+
+/// The old rows of an item that are there no more.
+pub fn rows_to_drop(
+    alloc: Global,
+    gtin: &Gtin,
+    olds: &[ReservedRow],
+    news: &[ReservedRow],
+) -> Result<Vec<ReservedRow>, AllocError>
+    ensures { IfOk result (λ v. v.items ≡ rows_to_drop_lem gtin.now olds.now news.now) }
+{
+    let mut dropped = Vec::new(alloc);
+    for row in olds {
+        let own = *gtin == row.lot.gtin;
+        let stays = has_share(news, row);
+        push_if(&mut dropped, own && !stays, *row)?;
+    }
+    Ok(dropped)
+}
+
+fn is_same_share(a: &ReservedRow, b: &ReservedRow) -> bool
+    ensures { result ≡ is_share_of a.now b.now }
+{
+    a.order == b.order && is_same_lot(&a.lot, &b.lot)
+}
+
+fn find_share(rows: &[ReservedRow], share: &ReservedRow) -> Option<ReservedRow>
+    ensures { result ≡ find (is_share_of share.now) rows.now }
+{
+    for row in rows {
+        if is_same_share(share, row) {
+            return Some(*row);
+        }
+    }
+    None
+}
+
+fn has_share(rows: &[ReservedRow], share: &ReservedRow) -> bool
+    ensures { result ≡ list_any (is_share_of share.now) rows.now }
+{
+    for row in rows {
+        if is_same_share(share, row) {
+            return true;
+        }
+    }
+    false
+}
+
+fn is_qty(row: Option<ReservedRow>, qty: u64) -> bool
+    ensures { result ≡ has_qty row qty }
+{
+    match row {
+        None => false,
+        Some(r) => r.qty == qty,
+    }
+}

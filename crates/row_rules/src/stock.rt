@@ -1,0 +1,123 @@
+//! The units of a lot in a bin, and the stock rows where these have changed.
+
+ghost use Rattle.std.specs.Prelude.{◌≡◌, ◌&&◌, not, filter, IfOk};
+ghost use Rattle.values.specs.Values.{same_text};
+ghost use Rattle.machine.specs.Postings.{is_lot};
+ghost use Rattle.row_rules.specs.Decided.{stock_qty};
+ghost use Rattle.row_rules.specs.SeenLots.{sees_lot as sees_lot_lem, stock_found as stock_found_lem, in_bin_seen, stock_put as stock_put_lem, stock_gone as stock_gone_lem, stock_rows_with as stock_rows_with_lem};
+
+use crate::Slice;
+use crate::looking::{find_lot, find_stock, is_same_lot};
+use crate::pushing::{push_found, push_if};
+use commands::StockRow;
+use std::alloc::{AllocError, Global};
+use values::{LotId, Name};
+
+/// Whether the slice has the lot.
+pub fn sees_lot(slice: &Slice, lot: &LotId) -> bool
+    ensures { result ≡ sees_lot_lem slice.now lot.now }
+{
+    find_lot(slice.rows.lots.as_slice(), lot).is_some()
+}
+
+/// The units of a lot in a bin.
+pub fn units_in_bin(slice: &Slice, bin: &Name, lot: &LotId) -> u64
+    ensures { result ≡ in_bin_seen slice.now bin.now lot.now }
+{
+    let row = stock_found(slice, lot, bin);
+    units_of(row)
+}
+
+fn stock_found(slice: &Slice, lot: &LotId, bin: &Name) -> Option<StockRow>
+    ensures { result ≡ stock_found_lem slice.now.rows.stock lot.now bin.now }
+{
+    find_stock(slice.rows.stock.as_slice(), lot, bin)
+}
+
+fn units_of(row: Option<StockRow>) -> u64
+    ensures { result ≡ stock_qty row }
+{
+    match row {
+        None => 0,
+        Some(r) => r.qty,
+    }
+}
+
+/// The stock row that is put where a lot has so many units in a bin.
+pub fn stock_put(
+    alloc: Global,
+    lot: &LotId,
+    bin: &Name,
+    qty: u64,
+) -> Result<Vec<StockRow>, AllocError>
+    ensures { IfOk result (λ v. v.items ≡ stock_put_lem lot.now bin.now qty) }
+{
+    let mut put = Vec::new(alloc);
+    if qty != 0 {
+        put.push(StockRow {
+            lot: *lot,
+            bin: *bin,
+            qty,
+        })?;
+    }
+    Ok(put)
+}
+
+/// The stock row that is dropped where a lot has so many units in a bin.
+pub fn stock_gone(
+    alloc: Global,
+    rows: &[StockRow],
+    lot: &LotId,
+    bin: &Name,
+    qty: u64,
+) -> Result<Vec<StockRow>, AllocError>
+    ensures { IfOk result (λ v. v.items ≡ stock_gone_lem rows.now lot.now bin.now qty) }
+{
+    let old = find_stock(rows, lot, bin);
+    let mut gone = Vec::new(alloc);
+    if qty == 0 {
+        push_found(&mut gone, old)?;
+    }
+    Ok(gone)
+}
+
+/// The stock rows, where a lot has so many units in a bin.
+pub fn stock_rows_with(
+    alloc: Global,
+    rows: &[StockRow],
+    lot: &LotId,
+    bin: &Name,
+    qty: u64,
+) -> Result<Vec<StockRow>, AllocError>
+    ensures { IfOk result (λ v. v.items ≡ stock_rows_with_lem lot.now bin.now qty rows.now) }
+{
+    let mut after = stock_put(alloc, lot, bin, qty)?;
+    let others = other_stock(alloc, rows, lot, bin)?;
+    after.extend_from_slice(others.as_slice())?;
+    Ok(after)
+}
+
+// The stock rows of other lots and of other bins.
+fn other_stock(
+    alloc: Global,
+    rows: &[StockRow],
+    lot: &LotId,
+    bin: &Name,
+) -> Result<Vec<StockRow>, AllocError>
+    ensures { IfOk result (λ v. v.items ≡ filter (λ r. not (is_lot lot.now r.lot && same_text bin.now r.bin)) rows.now) }
+{
+    let mut others = Vec::new(alloc);
+    for row in rows {
+        let same = is_stock_of(row, lot, bin);
+        push_if(&mut others, !same, *row)?;
+    }
+    Ok(others)
+}
+
+fn is_stock_of(row: &StockRow, lot: &LotId, bin: &Name) -> bool
+    ensures { result ≡ is_lot lot.now row.now.lot && same_text bin.now row.now.bin }
+{
+    let same_lot = is_same_lot(lot, &row.lot);
+    let same_bin = *bin == row.bin;
+    same_lot && same_bin
+}

@@ -1,0 +1,25 @@
+//! The tests of decisions and views on rows made by hand, beside what a person wrote down.
+//!
+//! They are a crate of their own, since the tests of a crate are proved together with all of that crate once more.
+#![tactic(auto)]
+
+#[cfg(test)]
+mod listing;
+#[cfg(test)]
+mod order_views;
+#[cfg(test)]
+mod refusals;
+#[cfg(test)]
+mod refused_orders;
+#[cfg(test)]
+mod samples;
+#[cfg(test)]
+mod stock_views;
+#[cfg(test)]
+mod view_listing;
+#[cfg(test)]
+mod worked;
+#[cfg(test)]
+mod worked_days;
+#[cfg(test)]
+mod worked_orders;

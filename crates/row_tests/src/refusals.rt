@@ -1,0 +1,517 @@
+// Each refusal, in the order of judging: at first every condition holds and the first is told, and
+// they are taken away one after another.
+
+use crate::samples::{
+    Bin, Item, KnownLot, NO_ROWS, OATS, Recalled, Sample, Staged, Stock, Told, decided,
+};
+use commands::limits::{ACTS_MAX, BINS_MAX, ITEMS_MAX};
+use commands::{BinKind, Refusal};
+use rules::RuleFault;
+use std::alloc::Global;
+use std::process::Abort;
+
+// A command that is refused, and why.
+pub(crate) struct Refused {
+    pub(crate) before: Sample,
+    pub(crate) told: Told,
+    pub(crate) why: Refusal,
+}
+
+pub(crate) fn expect(rt: &impl Abort, alloc: Global, cases: &[Refused]) {
+    for (index, case) in cases.iter().enumerate() {
+        let made = decided(rt, alloc, &case.before, &case.told);
+        assert_eq!(rt;
+            made.err(),
+            Some(RuleFault::Refused(case.why)),
+            "at {index}"
+        );
+    }
+}
+
+const ACTS_ARE_FULL: Sample = Sample {
+    acts: ACTS_MAX,
+    ..NO_ROWS
+};
+
+pub(crate) const LAST_ACT: Sample = Sample {
+    acts: ACTS_MAX - 1,
+    ..NO_ROWS
+};
+
+pub(crate) const OAT_DRINK: Item = Item(OATS, "Oat drink");
+
+static ITEMS: [Refused; 3] = [
+    Refused {
+        before: Sample {
+            items: &[OAT_DRINK],
+            ..ACTS_ARE_FULL
+        },
+        told: Told::Item(OAT_DRINK),
+        why: Refusal::ActsFull,
+    },
+    Refused {
+        before: Sample {
+            items: &[OAT_DRINK],
+            ..LAST_ACT
+        },
+        told: Told::Item(OAT_DRINK),
+        why: Refusal::ItemExists,
+    },
+    Refused {
+        before: Sample {
+            counts: (ITEMS_MAX, 4),
+            ..LAST_ACT
+        },
+        told: Told::Item(OAT_DRINK),
+        why: Refusal::ItemExists,
+    },
+];
+
+#[test]
+fn refuses_items(rt: HostRuntime) {
+    expect(&rt, rt.alloc(), ITEMS.as_slice());
+}
+
+pub(crate) const STORE_BIN: Bin = Bin("A-01", BinKind::Store);
+
+static BINS: [Refused; 3] = [
+    Refused {
+        before: Sample {
+            bins: &[STORE_BIN],
+            ..ACTS_ARE_FULL
+        },
+        told: Told::Bin(STORE_BIN),
+        why: Refusal::ActsFull,
+    },
+    Refused {
+        before: Sample {
+            bins: &[STORE_BIN],
+            ..LAST_ACT
+        },
+        told: Told::Bin(STORE_BIN),
+        why: Refusal::BinExists,
+    },
+    Refused {
+        before: Sample {
+            counts: (2, BINS_MAX),
+            ..LAST_ACT
+        },
+        told: Told::Bin(STORE_BIN),
+        why: Refusal::BinExists,
+    },
+];
+
+#[test]
+fn refuses_bins(rt: HostRuntime) {
+    expect(&rt, rt.alloc(), BINS.as_slice());
+}
+
+// Lot L1 is known with another expiry and recalled, and of its item there is one unit less than may
+// be in the house.
+const LOT_RECALLED: Sample = Sample {
+    lots: &[KnownLot("L1", "2026-06-30", 6, false)],
+    recalls: &[Recalled("L1")],
+    stock: &[Stock("L2", "Q-01", 600_000_000)],
+    staged: &[Staged("S-1", "L3", 399_999_999)],
+    ..LAST_ACT
+};
+
+const ITEM_KNOWN: Sample = Sample {
+    items: &[OAT_DRINK],
+    ..LOT_RECALLED
+};
+
+const BIN_KNOWN: Sample = Sample {
+    bins: &[STORE_BIN, Bin("Q-01", BinKind::Hold)],
+    ..ITEM_KNOWN
+};
+
+const LOT_UNKNOWN: Sample = Sample {
+    lots: &[],
+    ..BIN_KNOWN
+};
+
+const NO_RECALL: Sample = Sample {
+    recalls: &[],
+    ..LOT_UNKNOWN
+};
+
+const EXPIRED: Told = Told::Receive("D-1", 1, "L1", "2026-05-03", 2);
+
+static RECEIPTS: [Refused; 8] = [
+    Refused {
+        before: Sample {
+            acts: ACTS_MAX,
+            ..LOT_RECALLED
+        },
+        told: EXPIRED,
+        why: Refusal::ActsFull,
+    },
+    Refused {
+        before: LOT_RECALLED,
+        told: EXPIRED,
+        why: Refusal::UnknownItem,
+    },
+    Refused {
+        before: ITEM_KNOWN,
+        told: EXPIRED,
+        why: Refusal::UnknownBin,
+    },
+    Refused {
+        before: BIN_KNOWN,
+        told: EXPIRED,
+        why: Refusal::OtherExpiry,
+    },
+    Refused {
+        before: LOT_UNKNOWN,
+        told: EXPIRED,
+        why: Refusal::LotRecalled,
+    },
+    Refused {
+        before: NO_RECALL,
+        told: EXPIRED,
+        why: Refusal::LotExpired,
+    },
+    Refused {
+        before: NO_RECALL,
+        told: Told::Receive("D-1", 1, "L1", "2026-05-04", 2),
+        why: Refusal::OverUnits,
+    },
+    // A label whose expiry is 770101 is of 1977.
+    Refused {
+        before: Sample {
+            acts: 5,
+            stock: &[],
+            staged: &[],
+            ..NO_RECALL
+        },
+        told: Told::Receive("D-1", 1, "L1", "1977-01-01", 10),
+        why: Refusal::LotExpired,
+    },
+];
+
+#[test]
+fn refuses_receipts(rt: HostRuntime) {
+    expect(&rt, rt.alloc(), RECEIPTS.as_slice());
+}
+
+// There are 10 units of lot L1 in A-01.
+const TEN_UNITS: Sample = Sample {
+    stock: &[Stock("L1", "A-01", 10)],
+    ..LAST_ACT
+};
+
+const TEN_UNITS_OF_ITEM: Sample = Sample {
+    items: &[OAT_DRINK],
+    ..TEN_UNITS
+};
+
+const TEN_UNITS_IN_BIN: Sample = Sample {
+    bins: &[STORE_BIN],
+    ..TEN_UNITS_OF_ITEM
+};
+
+const TEN_UNITS_OF_LOT: Sample = Sample {
+    lots: &[KnownLot("L1", "2026-06-30", 6, false)],
+    ..TEN_UNITS_IN_BIN
+};
+
+const TOO_MANY_MOVED: Told = Told::Move("L1", "A-01", "A-01", 11);
+
+static MOVES: [Refused; 8] = [
+    Refused {
+        before: Sample {
+            acts: ACTS_MAX,
+            ..TEN_UNITS
+        },
+        told: TOO_MANY_MOVED,
+        why: Refusal::ActsFull,
+    },
+    Refused {
+        before: TEN_UNITS,
+        told: TOO_MANY_MOVED,
+        why: Refusal::UnknownItem,
+    },
+    Refused {
+        before: TEN_UNITS_OF_ITEM,
+        told: TOO_MANY_MOVED,
+        why: Refusal::UnknownBin,
+    },
+    // One of the two bins is unknown.
+    Refused {
+        before: TEN_UNITS_IN_BIN,
+        told: Told::Move("L1", "Q-01", "A-01", 11),
+        why: Refusal::UnknownBin,
+    },
+    Refused {
+        before: TEN_UNITS_IN_BIN,
+        told: Told::Move("L1", "A-01", "Q-01", 11),
+        why: Refusal::UnknownBin,
+    },
+    Refused {
+        before: TEN_UNITS_IN_BIN,
+        told: TOO_MANY_MOVED,
+        why: Refusal::UnknownLot,
+    },
+    Refused {
+        before: TEN_UNITS_OF_LOT,
+        told: TOO_MANY_MOVED,
+        why: Refusal::NotInBin,
+    },
+    Refused {
+        before: TEN_UNITS_OF_LOT,
+        told: Told::Move("L1", "A-01", "A-01", 10),
+        why: Refusal::SameBin,
+    },
+];
+
+#[test]
+fn refuses_moves(rt: HostRuntime) {
+    expect(&rt, rt.alloc(), MOVES.as_slice());
+}
+
+static COUNTS: [Refused; 6] = [
+    Refused {
+        before: Sample {
+            acts: ACTS_MAX,
+            ..LOT_RECALLED
+        },
+        told: Told::Count("L4", "A-01", 2),
+        why: Refusal::ActsFull,
+    },
+    Refused {
+        before: LOT_RECALLED,
+        told: Told::Count("L4", "A-01", 2),
+        why: Refusal::UnknownItem,
+    },
+    Refused {
+        before: ITEM_KNOWN,
+        told: Told::Count("L4", "A-01", 2),
+        why: Refusal::UnknownBin,
+    },
+    Refused {
+        before: BIN_KNOWN,
+        told: Told::Count("L4", "A-01", 2),
+        why: Refusal::UnknownLot,
+    },
+    Refused {
+        before: BIN_KNOWN,
+        told: Told::Count("L1", "A-01", 2),
+        why: Refusal::OverUnits,
+    },
+    // Two more than there were.
+    Refused {
+        before: Sample {
+            stock: &[Stock("L1", "A-01", 5), Stock("L2", "Q-01", 599_999_995)],
+            ..BIN_KNOWN
+        },
+        told: Told::Count("L1", "A-01", 7),
+        why: Refusal::OverUnits,
+    },
+];
+
+#[test]
+fn refuses_counts(rt: HostRuntime) {
+    expect(&rt, rt.alloc(), COUNTS.as_slice());
+}
+
+// Ten units of lot L1.
+const TEN_IN_BIN: Sample = Sample {
+    stock: &[Stock("L1", "A-01", 10), Stock("L2", "Q-01", 599_999_990)],
+    ..BIN_KNOWN
+};
+
+static ADJUSTMENTS: [Refused; 6] = [
+    Refused {
+        before: Sample {
+            acts: ACTS_MAX,
+            ..LOT_RECALLED
+        },
+        told: Told::Adjust("L4", "A-01", -11),
+        why: Refusal::ActsFull,
+    },
+    Refused {
+        before: LOT_RECALLED,
+        told: Told::Adjust("L4", "A-01", -11),
+        why: Refusal::UnknownItem,
+    },
+    Refused {
+        before: ITEM_KNOWN,
+        told: Told::Adjust("L4", "A-01", -11),
+        why: Refusal::UnknownBin,
+    },
+    Refused {
+        before: BIN_KNOWN,
+        told: Told::Adjust("L4", "A-01", -11),
+        why: Refusal::UnknownLot,
+    },
+    Refused {
+        before: TEN_IN_BIN,
+        told: Told::Adjust("L1", "A-01", -11),
+        why: Refusal::NotInBin,
+    },
+    Refused {
+        before: TEN_IN_BIN,
+        told: Told::Adjust("L1", "A-01", 2),
+        why: Refusal::OverUnits,
+    },
+];
+
+#[test]
+fn refuses_adjustments(rt: HostRuntime) {
+    expect(&rt, rt.alloc(), ADJUSTMENTS.as_slice());
+}
+
+// Lot L1 is recalled, and not known.
+const UNKNOWN_RECALLED: Sample = Sample {
+    recalls: &[Recalled("L1")],
+    ..LAST_ACT
+};
+
+const UNKNOWN_RECALLED_OF_ITEM: Sample = Sample {
+    items: &[OAT_DRINK],
+    ..UNKNOWN_RECALLED
+};
+
+// It is known, and held.
+const HELD_RECALLED: Sample = Sample {
+    lots: &[KnownLot("L1", "2026-06-30", 6, true)],
+    ..UNKNOWN_RECALLED_OF_ITEM
+};
+
+const HELD: Sample = Sample {
+    recalls: &[],
+    ..HELD_RECALLED
+};
+
+static HOLDS: [Refused; 5] = [
+    Refused {
+        before: Sample {
+            acts: ACTS_MAX,
+            ..UNKNOWN_RECALLED
+        },
+        told: Told::Hold("L1"),
+        why: Refusal::ActsFull,
+    },
+    Refused {
+        before: UNKNOWN_RECALLED,
+        told: Told::Hold("L1"),
+        why: Refusal::UnknownItem,
+    },
+    Refused {
+        before: UNKNOWN_RECALLED_OF_ITEM,
+        told: Told::Hold("L1"),
+        why: Refusal::UnknownLot,
+    },
+    Refused {
+        before: HELD_RECALLED,
+        told: Told::Hold("L1"),
+        why: Refusal::LotRecalled,
+    },
+    Refused {
+        before: HELD,
+        told: Told::Hold("L1"),
+        why: Refusal::LotHeld,
+    },
+];
+
+#[test]
+fn refuses_holds(rt: HostRuntime) {
+    expect(&rt, rt.alloc(), HOLDS.as_slice());
+}
+
+// Lot L1 is known, and not held.
+const FREE: Sample = Sample {
+    items: &[OAT_DRINK],
+    lots: &[KnownLot("L1", "2026-06-30", 6, false)],
+    ..LAST_ACT
+};
+
+static RELEASES: [Refused; 5] = [
+    Refused {
+        before: Sample {
+            acts: ACTS_MAX,
+            ..UNKNOWN_RECALLED
+        },
+        told: Told::Release("L1"),
+        why: Refusal::ActsFull,
+    },
+    Refused {
+        before: UNKNOWN_RECALLED,
+        told: Told::Release("L1"),
+        why: Refusal::UnknownItem,
+    },
+    Refused {
+        before: UNKNOWN_RECALLED_OF_ITEM,
+        told: Told::Release("L1"),
+        why: Refusal::UnknownLot,
+    },
+    Refused {
+        before: Sample {
+            recalls: &[Recalled("L1")],
+            ..FREE
+        },
+        told: Told::Release("L1"),
+        why: Refusal::LotRecalled,
+    },
+    Refused {
+        before: FREE,
+        told: Told::Release("L1"),
+        why: Refusal::LotNotHeld,
+    },
+];
+
+#[test]
+fn refuses_releases(rt: HostRuntime) {
+    expect(&rt, rt.alloc(), RELEASES.as_slice());
+}
+
+static RECALLS: [Refused; 3] = [
+    Refused {
+        before: Sample {
+            acts: ACTS_MAX,
+            ..UNKNOWN_RECALLED
+        },
+        told: Told::Recall(OATS, "L1"),
+        why: Refusal::ActsFull,
+    },
+    Refused {
+        before: UNKNOWN_RECALLED,
+        told: Told::Recall(OATS, "L1"),
+        why: Refusal::UnknownItem,
+    },
+    Refused {
+        before: UNKNOWN_RECALLED_OF_ITEM,
+        told: Told::Recall(OATS, "L1"),
+        why: Refusal::AlreadyRecalled,
+    },
+];
+
+#[test]
+fn refuses_recalls(rt: HostRuntime) {
+    expect(&rt, rt.alloc(), RECALLS.as_slice());
+}
+
+static DAYS: [Refused; 3] = [
+    Refused {
+        before: ACTS_ARE_FULL,
+        told: Told::OpenDay("2026-05-04"),
+        why: Refusal::ActsFull,
+    },
+    // A day is opened once.
+    Refused {
+        before: LAST_ACT,
+        told: Told::OpenDay("2026-05-04"),
+        why: Refusal::DayNotLater,
+    },
+    Refused {
+        before: LAST_ACT,
+        told: Told::OpenDay("2026-05-03"),
+        why: Refusal::DayNotLater,
+    },
+];
+
+#[test]
+fn refuses_days(rt: HostRuntime) {
+    expect(&rt, rt.alloc(), DAYS.as_slice());
+}

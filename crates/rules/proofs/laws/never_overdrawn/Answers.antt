@@ -1,5 +1,0 @@
-use Rattle.rules.proofs.histories.LegalHistories as histories
-use Rattle.rules.proofs.laws.never_overdrawn.Goals as goal
-
-pub returns : goal.returns
-returns c = histories.history_never_overdrawn

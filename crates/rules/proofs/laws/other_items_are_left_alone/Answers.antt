@@ -1,5 +1,0 @@
-use Rattle.rules.proofs.histories.OtherItems as items
-use Rattle.rules.proofs.laws.other_items_are_left_alone.Goals as goal
-
-pub returns : goal.returns
-returns c = items.other_items_are_left_alone

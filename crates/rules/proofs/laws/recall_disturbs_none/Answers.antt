@@ -1,5 +1,0 @@
-use Rattle.rules.proofs.histories.Recalls as recalls
-use Rattle.rules.proofs.laws.recall_disturbs_none.Goals as goal
-
-pub returns : goal.returns
-returns c = record { earlier = recalls.recall_disturbs_none; later_alone = recalls.recall_disturbs_later_alone }

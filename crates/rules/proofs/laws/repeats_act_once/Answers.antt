@@ -1,5 +1,0 @@
-use Rattle.rules.proofs.histories.Repeats as repeats
-use Rattle.rules.proofs.laws.repeats_act_once.Goals as goal
-
-pub returns : goal.returns
-returns c = record { same_acts = repeats.repeats_act_once; first_reply = repeats.repeats_get_the_first_reply }

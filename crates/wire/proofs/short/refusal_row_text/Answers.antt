@@ -1,0 +1,10 @@
+use Rattle.std.proofs.Common.{◌∙◌, ap}
+use Rattle.serde_json.specs.Written.{compact_text}
+use Rattle.wire.specs.Shorts.{code_row_text, code_row_data}
+use Rattle.wire.proofs.short.refusal_row_text.Goals as goal
+
+pub returns-clause-text : goal.returns-clause-text
+returns-clause-text c = c.code_row_text.ensures.text ∙ ap (λ s. code_row_text s c.args.row) c.code.ensures.code
+
+pub returns-clause-json : goal.returns-clause-json
+returns-clause-json c = c.code_row_text.ensures.json ∙ ap (λ s. compact_text (code_row_data s c.args.row)) c.code.ensures.code
