@@ -1,2 +1,3 @@
 pub mod TableWritten
 pub mod ChangeWritten
+pub mod Steps

@@ -20,10 +20,14 @@ names_written puts drops t =
     rows_written with_bin (λ r. without_bin r.name) puts.bins drops.bins
     (rows_written with_item (λ r. without_item r.gtin) puts.items drops.items t)
 
+-- units of lots in bins
+abbrev pub units_written : (puts drops : Rows) → Tables → Tables
+units_written puts drops = rows_written with_stock (λ r. without_stock r.lot r.bin) puts.stock drops.stock
+
 -- lots, their recalls and their units in bins
 abbrev pub lots_written : (puts drops : Rows) → Tables → Tables
 lots_written puts drops t =
-    rows_written with_stock (λ r. without_stock r.lot r.bin) puts.stock drops.stock
+    units_written puts drops
     (rows_written with_recall (λ r. without_recall r.lot) puts.recalls drops.recalls
     (rows_written with_lot (λ r. without_lot r.lot) puts.lots drops.lots t))
 

@@ -6,7 +6,7 @@ ghost use Rattle.sqlite.specs.Held.{state};
 ghost use Rattle.table_words.specs.Steps.{IsReady, Goes};
 ghost use Rattle.table_words.specs.declared.error.TableFault.TheVariants.{Foreign};
 ghost use Rattle.rules.specs.Slices.{AreOnce, applied};
-ghost use Rattle.changes.specs.Written.{names_written, lots_written, goods_written, lines_written, shares_written, orders_written, history_written, change_written};
+ghost use Rattle.changes.specs.Written.{names_written, units_written, lots_written, goods_written, lines_written, shares_written, orders_written, history_written, change_written};
 
 use crate::stored::write_rows;
 use goods_tables::meta::put_meta;
@@ -31,6 +31,22 @@ fn write_names<S: Alter>(
     write_rows(tx, put.bins.as_slice(), dropped.bins.as_slice())
 }
 
+/// Units of lots in bins.
+fn write_stock<S: Alter>(
+    tx: &mut Transaction<'_, S>,
+    put: &Rows,
+    dropped: &Rows,
+) -> Result<(), TableFault>
+    ensures same_reference { tx.new.conn.ghost_name ≡ tx.old.conn.ghost_name }
+    ensures done { HasCleanDisk (state S.Store tx.new.conn.now) → IsReady (state S.Store tx.old.conn.now).now
+        → OnOk result (Goes (units_written put.now dropped.now) (state S.Store tx.old.conn.now) (state S.Store tx.new.conn.now)) }
+    ensures kept { HasCleanDisk (state S.Store tx.new.conn.now) → KeepsCommit (state S.Store tx.old.conn.now) (state S.Store tx.new.conn.now) }
+    ensures survives { Survives (state S.Store tx.old.conn.now) (state S.Store tx.new.conn.now) (λ _. ⊥) }
+    ensures never_foreign { IfErr result (λ e. e ≢ Foreign) }
+{
+    write_rows(tx, put.stock.as_slice(), dropped.stock.as_slice())
+}
+
 /// Lots, their recalls and their units in bins.
 fn write_lots<S: Alter>(
     tx: &mut Transaction<'_, S>,
@@ -46,7 +62,7 @@ fn write_lots<S: Alter>(
 {
     write_rows(tx, put.lots.as_slice(), dropped.lots.as_slice())?;
     write_rows(tx, put.recalls.as_slice(), dropped.recalls.as_slice())?;
-    write_rows(tx, put.stock.as_slice(), dropped.stock.as_slice())
+    write_stock(tx, put, dropped)
 }
 
 /// Goods.

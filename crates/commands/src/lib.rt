@@ -31,6 +31,3 @@ pub use views::{
     BinUnits, CardView, LineView, LotStatus, LotView, NoticeView, OrderView, ReservedLot,
     ShippedUnits, ShortLine, ShortView, StagedLot, StockView,
 };
-
-#[cfg(test)]
-mod tests;

@@ -3,14 +3,14 @@ use Rattle.std.proofs.Common.{◌≡◌, ℕ, ◌+◌, ◌-◌, ◌<◌, ◌≤�
 use Rattle.std.specs.Prelude.{Bool, ◌||◌, nat_lt, if◌then◌else◌, Result, Ok, Err, MatchOption, option_map, codes}
 use Rattle.std.specs.List.{list_any, find, count_by}
 use Rattle.std.proofs.lemmas.Bool.Decides.{nat_tests}
-use Rattle.wire.specs.Head.{HEAD_MAX, BODY_MAX, head_end, fields_of, body_length, is_named, length_field, number_from, Named}
-use Rattle.wire.specs.Requests.{headless, answered, after_head, read_ask, IsCutReading, IsReading}
-use Rattle.wire.specs.Laws.{needs_more}
-use Rattle.wire.specs.declared.fault.WireFault.{WireFault}
-use Rattle.wire.specs.declared.fault.WireFault.TheVariants.{Head, Length, TooLarge}
-use Rattle.wire.specs.declared.ask.Ask.{Ask}
-use Rattle.wire.specs.declared.request.Read.{Read}
-use Rattle.wire.specs.declared.request.Read.TheVariants.{Need, Bad}
+use Rattle.requests.specs.Head.{HEAD_MAX, BODY_MAX, head_end, fields_of, body_length, is_named, length_field, number_from, Named}
+use Rattle.requests.specs.Requests.{headless, answered, after_head, read_ask, IsCutReading, IsReading}
+use Rattle.requests.specs.Laws.{needs_more}
+use Rattle.requests.specs.declared.fault.WireFault.{WireFault}
+use Rattle.requests.specs.declared.fault.WireFault.TheVariants.{Head, Length, TooLarge}
+use Rattle.requests.specs.declared.ask.Ask.{Ask}
+use Rattle.requests.specs.declared.request.Read.{Read}
+use Rattle.requests.specs.declared.request.Read.TheVariants.{Need, Bad}
 
 -- the length of a body is within its limit
 within : (small large : Bool) (v n : ℕ) → nat_lt BODY_MAX v ≡ large → (if small then Err Length else (if large then Err TooLarge else Ok v)) ≡ Ok n → n ≤ 262144

@@ -8,12 +8,12 @@ use Rattle.commands.specs.Spelling.{spelling}
 use Rattle.commands.specs.declared.key.Key.TheVariants.{Plain, Line}
 use Rattle.commands.specs.declared.command.Command.TheVariants.{Item, OpenDay}
 use Rattle.machine.proofs.examples.ExampleHistories.{may_4, warehouse, with_one_lot, with_stock, with_one_order, with_early_lot, OATS, A1, S1, order}
+use Rattle.requests.specs.declared.fault.WireFault.TheVariants.{Length}
+use Rattle.requests.specs.declared.ask.Ask.TheVariants.{Do, Scan, Show}
+use Rattle.requests.specs.declared.ask.Query.TheVariants.{Order, Stock, PickList}
+use Rattle.requests.specs.declared.request.Read.{Read}
+use Rattle.requests.specs.declared.request.Read.TheVariants.{Need, Request}
 use Rattle.wire.specs.Answers.{CRLF, head_text}
-use Rattle.wire.specs.declared.fault.WireFault.TheVariants.{Length}
-use Rattle.wire.specs.declared.ask.Ask.TheVariants.{Do, Scan, Show}
-use Rattle.wire.specs.declared.ask.Query.TheVariants.{Order, Stock, PickList}
-use Rattle.wire.specs.declared.request.Read.{Read}
-use Rattle.wire.specs.declared.request.Read.TheVariants.{Need, Request}
 use Rattle.house.specs.Answers.{short_answer, not_served, no_memory, answer_of, acts_of}
 
 abbrev label_of : List ℕ → List ℕ → List ℕ

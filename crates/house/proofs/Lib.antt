@@ -3,5 +3,6 @@ pub mod Bounded
 pub mod Examples
 pub mod Running
 pub mod Serving
+pub mod Showing
 pub mod StepLaws
 pub mod Stepping

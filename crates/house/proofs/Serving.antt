@@ -3,11 +3,11 @@ use Rattle.std.proofs.Common.{◌≡◌, ◌≢◌, ℕ, ◌+◌, ◌-◌, ◌<�
 use Rattle.std.specs.Prelude.{Result, Ok, Err, OnOk}
 use Rattle.std.specs.Io.KnownBytes.{Appends, Consumes, IsAtEnd}
 use Rattle.std.proofs.KnownBytes.{Consumes-trans}
-use Rattle.wire.specs.Requests.{IsReading}
-use Rattle.wire.specs.Laws.{needs_more}
-use Rattle.wire.specs.declared.fault.WireFault.TheVariants.{Head, Length, Json, Field, Path, Method, TooLarge, Memory}
-use Rattle.wire.specs.declared.request.Read.{Read}
-use Rattle.wire.specs.declared.request.Read.TheVariants.{Need, Bad, Request}
+use Rattle.requests.specs.Requests.{IsReading}
+use Rattle.requests.specs.Laws.{needs_more}
+use Rattle.requests.specs.declared.fault.WireFault.TheVariants.{Head, Length, Json, Field, Path, Method, TooLarge, Memory}
+use Rattle.requests.specs.declared.request.Read.{Read}
+use Rattle.requests.specs.declared.request.Read.TheVariants.{Need, Bad, Request}
 use Rattle.house.specs.Answers.{no_memory}
 use Rattle.house.specs.Serving.{IsWhole, Writes, IsRead, IsTaken}
 use Rattle.house.specs.declared.serve.ServeFault.{ServeFault}

@@ -13,17 +13,17 @@ use Rattle.machine.specs.Acts.{Act}
 use Rattle.machine.specs.Standing.{today}
 use Rattle.machine.specs.Once.{Outcome, Accepted, Repeated, Refused, outcome, appended}
 use Rattle.machine.specs.Queries.{order_shown, stock_shown}
+use Rattle.requests.specs.declared.fault.WireFault.{WireFault}
+use Rattle.requests.specs.declared.fault.WireFault.TheVariants.{Head, Length, Json, Field, Path, Method, TooLarge, Memory}
+use Rattle.requests.specs.declared.ask.Ask.{Ask}
+use Rattle.requests.specs.declared.ask.Ask.TheVariants.{Do, Scan, GoodsIn, Show}
+use Rattle.requests.specs.declared.ask.Query.{Query}
+use Rattle.requests.specs.declared.ask.Query.TheVariants.{Order, Stock, PickList, Shortages, Card, Notice}
+use Rattle.requests.specs.declared.request.Read.{Read}
+use Rattle.requests.specs.declared.request.Read.TheVariants.{Need, Bad, Request}
 use Rattle.wire.specs.Answers.{head_text}
 use Rattle.wire.specs.Shorts.{code_text}
 use Rattle.wire.specs.declared.answer.Answer.TheVariants.{Order as OrderAnswer, Stock as StockAnswer}
-use Rattle.wire.specs.declared.fault.WireFault.{WireFault}
-use Rattle.wire.specs.declared.fault.WireFault.TheVariants.{Head, Length, Json, Field, Path, Method, TooLarge, Memory}
-use Rattle.wire.specs.declared.ask.Ask.{Ask}
-use Rattle.wire.specs.declared.ask.Ask.TheVariants.{Do, Scan, GoodsIn, Show}
-use Rattle.wire.specs.declared.ask.Query.{Query}
-use Rattle.wire.specs.declared.ask.Query.TheVariants.{Order, Stock, PickList, Shortages, Card, Notice}
-use Rattle.wire.specs.declared.request.Read.{Read}
-use Rattle.wire.specs.declared.request.Read.TheVariants.{Need, Bad, Request}
 use Rattle.house.specs.Answers.{short_answer, fault_answer, not_served, foreign_books, outcome_answer, is_served, act_answer, acts_with, Delivered, receipt, label_answer, scan_answer, acts_scanned, view_answer, query_answer, ask_answer, acts_asked, answer_of, acts_of}
 use Rattle.house.specs.Laws.{status_of, RefusedRequestsChangeNothing, BooksAreNeverForeign}
 

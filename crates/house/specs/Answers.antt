@@ -12,18 +12,19 @@ use Rattle.machine.specs.Acts.{Act}
 use Rattle.machine.specs.Standing.{today}
 use Rattle.machine.specs.Once.{Outcome, Accepted, Repeated, Refused, outcome, acts_after, is_key_of}
 use Rattle.machine.specs.Queries.{order_shown, stock_shown}
+use Rattle.requests.specs.Faults.{wire_code, wire_status, wire_allow}
+use Rattle.requests.specs.declared.fault.WireFault.{WireFault}
+use Rattle.requests.specs.declared.fault.WireFault.TheVariants.{Path, Memory}
+use Rattle.requests.specs.declared.ask.Ask.{Ask}
+use Rattle.requests.specs.declared.ask.Ask.TheVariants.{Do, Scan, GoodsIn, Show}
+use Rattle.requests.specs.declared.ask.Query.{Query}
+use Rattle.requests.specs.declared.ask.Query.TheVariants.{Order, Stock, PickList, Shortages, Card, Notice}
+use Rattle.requests.specs.declared.request.Read.{Read}
+use Rattle.requests.specs.declared.request.Read.TheVariants.{Need, Bad, Request}
 use Rattle.wire.specs.Answers.{answer_text, answer_bytes, json_type}
-use Rattle.wire.specs.Shorts.{wire_code, wire_status, wire_allow, code_text, cause_text}
+use Rattle.wire.specs.Shorts.{code_text, cause_text}
 use Rattle.wire.specs.declared.answer.Answer.{Answer}
 use Rattle.wire.specs.declared.answer.Answer.TheVariants.{Order as OrderAnswer, Stock as StockAnswer}
-use Rattle.wire.specs.declared.fault.WireFault.{WireFault}
-use Rattle.wire.specs.declared.fault.WireFault.TheVariants.{Path, Memory}
-use Rattle.wire.specs.declared.ask.Ask.{Ask}
-use Rattle.wire.specs.declared.ask.Ask.TheVariants.{Do, Scan, GoodsIn, Show}
-use Rattle.wire.specs.declared.ask.Query.{Query}
-use Rattle.wire.specs.declared.ask.Query.TheVariants.{Order, Stock, PickList, Shortages, Card, Notice}
-use Rattle.wire.specs.declared.request.Read.{Read}
-use Rattle.wire.specs.declared.request.Read.TheVariants.{Need, Bad, Request}
 
 -- Short answers: a status and a text of JSON
 

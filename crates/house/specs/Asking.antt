@@ -35,6 +35,12 @@ told_answer (Err (Refused why)) = short_answer 409 (code_text (refusal_code why)
 told_answer (Err Store) = no_memory
 told_answer (Err Foreign) = foreign_books
 
+-- a query that is refused, or that failed
+abbrev pub fault_shown : Fault → List ℕ
+fault_shown (Refused why) = short_answer 404 (code_text (refusal_code why))
+fault_shown Store = no_memory
+fault_shown Foreign = foreign_books
+
 -- what is wanted is told and done
 pub record IsDone {S : Type 0} (g : Ghosts S) (first : ℤ) (wanted : List ℕ) (next : List Act) (bytes : List ℕ) (books : Connected S) : Type 0 where
   pub answer : bytes ≡ wanted

@@ -3,12 +3,12 @@ use Rattle.std.specs.Prelude.{◌≡◌, ◌⊎◌, ℕ, List, [], ◌∷◌, ma
 use Rattle.sqlite_trees.specs.declared.store.Store.{Ghosts}
 use Rattle.machine.specs.Acts.{Act}
 use Rattle.machine.specs.Once.{IsHistory}
-use Rattle.wire.specs.Requests.{IsReading}
-use Rattle.wire.specs.declared.ask.Ask.{Ask}
-use Rattle.wire.specs.declared.ask.Ask.TheVariants.{Show}
-use Rattle.wire.specs.declared.ask.Query.{Query}
-use Rattle.wire.specs.declared.request.Read.{Read}
-use Rattle.wire.specs.declared.request.Read.TheVariants.{Request}
+use Rattle.requests.specs.Requests.{IsReading}
+use Rattle.requests.specs.declared.ask.Ask.{Ask}
+use Rattle.requests.specs.declared.ask.Ask.TheVariants.{Show}
+use Rattle.requests.specs.declared.ask.Query.{Query}
+use Rattle.requests.specs.declared.request.Read.{Read}
+use Rattle.requests.specs.declared.request.Read.TheVariants.{Request}
 use Rattle.store.specs.Connected.{Connected}
 use Rattle.store.specs.Books.{HoldsBooks}
 use Rattle.house.specs.Answers.{answer_of, acts_of, no_memory}

@@ -3,11 +3,11 @@ use Rattle.std.specs.Prelude.{◌≡◌, ◌≢◌, ◌⊎◌, ℕ, ◌<◌, Lis
 use Rattle.std.specs.Io.KnownBytes.{Appends, Consumes, IsAtEnd}
 use Rattle.sqlite_trees.specs.declared.store.Store.{Ghosts}
 use Rattle.machine.specs.Acts.{Act}
-use Rattle.wire.specs.Requests.{IsReading}
-use Rattle.wire.specs.Laws.{needs_more}
-use Rattle.wire.specs.declared.fault.WireFault.TheVariants.{Memory}
-use Rattle.wire.specs.declared.request.Read.{Read}
-use Rattle.wire.specs.declared.request.Read.TheVariants.{Bad}
+use Rattle.requests.specs.Requests.{IsReading}
+use Rattle.requests.specs.Laws.{needs_more}
+use Rattle.requests.specs.declared.fault.WireFault.TheVariants.{Memory}
+use Rattle.requests.specs.declared.request.Read.{Read}
+use Rattle.requests.specs.declared.request.Read.TheVariants.{Bad}
 use Rattle.store.specs.Connected.{Connected}
 use Rattle.house.specs.Answers.{no_memory}
 use Rattle.house.specs.House.{StepsTo}

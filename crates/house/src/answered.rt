@@ -4,12 +4,16 @@ ghost use Rattle.std.specs.Prelude.{◌≡◌, None, Result};
 ghost use Rattle.commands.specs.Refusals.{refusal_code};
 ghost use Rattle.wire.specs.Shorts.{code_text as code_text_lem};
 ghost use Rattle.house.specs.Answers.{fault_answer as fault_answer_lem, label_answer as label_answer_lem, short_answer, foreign_books as foreign_books_lem};
+ghost use Rattle.house.specs.Asking.{fault_shown};
+ghost use Rattle.house.specs.House.{bytes_of};
 
 use commands::{Refusal, Short};
 use http::StatusCode;
+use requests::WireFault;
+use store::Fault;
 use values::LabelFault;
 use wire::short::{code_text, fault_text, label_fault_text, refusal_text};
-use wire::{Block, WireFault, write_short};
+use wire::{Block, write_short};
 
 /// The bytes of an answer.
 #[derive(Drop)]
@@ -67,6 +71,17 @@ pub(crate) fn not_found(why: Refusal) -> Block
     ensures { result ≡ short_answer 404 (code_text_lem (refusal_code why)) }
 {
     write_short(StatusCode::NOT_FOUND, None, &refusal_text(why))
+}
+
+/// The answer to a query that is refused, or that failed.
+pub(crate) fn not_shown(fault: Fault) -> Answered
+    ensures { bytes_of result ≡ fault_shown fault }
+{
+    match fault {
+        Fault::Refused(why) => Answered::Short(not_found(why)),
+        Fault::Store => Answered::Short(fault_answer(WireFault::Memory)),
+        Fault::Foreign => Answered::Short(foreign_books()),
+    }
 }
 
 /// The answer where the books hold rows that no list of acts leaves.

@@ -3,7 +3,7 @@
 ghost use Rattle.std.specs.Prelude.{◌≡◌, ◌≢◌, ℕ, ℤ, List, map, IfOk, OnErr};
 ghost use Rattle.machine.specs.Acts.{Act};
 ghost use Rattle.machine.specs.Once.{IsHistory};
-ghost use Rattle.wire.specs.Requests.{IsReading};
+ghost use Rattle.requests.specs.Requests.{IsReading};
 ghost use Rattle.store.specs.Books.{IsClean, HoldsBooks};
 ghost use Rattle.house.specs.Answers.{ask_answer, acts_asked, no_memory};
 ghost use Rattle.house.specs.Asking.{Does};
@@ -13,10 +13,10 @@ use crate::Answered;
 use crate::answered::fault_answer;
 use crate::asking::{act, scan, show_order};
 use crate::showing_stock::show_stock;
+use requests::{Ask, Query, Read, WireFault, read_request};
 use sqlite::Alter;
 use std::alloc::{AllocError, Global};
 use store::Books;
-use wire::{Ask, Query, Read, WireFault, read_request};
 
 /// Answers requests from the books of a warehouse.
 #[derive(Drop)]

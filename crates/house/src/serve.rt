@@ -4,16 +4,16 @@ ghost use Rattle.std.specs.Prelude.{◌≡◌, ◌≢◌, ℤ, List, Result, Err
 ghost use Rattle.std.specs.Io.KnownBytes.{Appends, Keeps};
 ghost use Rattle.machine.specs.Acts.{Act};
 ghost use Rattle.machine.specs.Once.{IsHistory};
-ghost use Rattle.wire.specs.Laws.{needs_more as needs_more_lem};
+ghost use Rattle.requests.specs.Laws.{needs_more as needs_more_lem};
 ghost use Rattle.store.specs.Books.{IsClean, HoldsBooks};
 ghost use Rattle.house.specs.House.{books_of};
 ghost use Rattle.house.specs.Serving.{IsServed, Writes, IsRead, IsTaken};
 
 use crate::House;
+use requests::{Read as Reading, WireFault, read_request};
 use sqlite::Alter;
 use std::alloc::Global;
 use std::io::{Read, Write};
-use wire::{Read as Reading, WireFault, read_request};
 
 /// Why a request was not served.
 #[derive(Clone, Copy, PartialEq, Eq, Debug)]

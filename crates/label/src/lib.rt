@@ -7,8 +7,6 @@ mod digits;
 mod expiry;
 mod gs1;
 mod reader;
-#[cfg(test)]
-mod tests;
 mod writer;
 
 pub use day::{BusinessDay, Day};

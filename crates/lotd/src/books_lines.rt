@@ -30,11 +30,27 @@ pub(crate) fn serve_books<W: Write>(
 ) -> Result<(), Fault> {
     let conn = open_file(rt, db)?;
     let books = opened(rt.alloc(), conn)?;
+    serve_and_close(rt, books, port, max, out)
+}
+
+fn serve_and_close<W: Write>(
+    rt: &HostRuntime,
+    books: Books<FileStore<File>>,
+    port: u16,
+    max: u32,
+    out: &mut W,
+) -> Result<(), Fault> {
     let mut house = House::new(rt.alloc(), books);
     let served = serve_port(rt, port, max, out, &mut house);
     let closed = close_books(house.close());
-    served?;
-    closed
+    first_fault(served, closed)
+}
+
+fn first_fault(served: Result<(), Fault>, closed: Result<(), Fault>) -> Result<(), Fault> {
+    match served {
+        Ok(()) => closed,
+        Err(fault) => Err(fault),
+    }
 }
 
 fn open_file(rt: &HostRuntime, db: &str) -> Result<Connection<FileStore<File>>, Fault> {

@@ -72,57 +72,54 @@ fn program<'a>(alloc: Global) -> Result<Command<'a>, AllocError> {
 }
 
 fn init_command<'a>(alloc: Global) -> Result<Command<'a>, AllocError> {
-    let day = required(
-        alloc,
-        "day",
-        "DATE",
-        "The first business day, as 2026-05-04",
-    )
-    .long("day");
     Command::new(alloc, "init")
         .about("Make new books")
         .after_help("Example:\n  lotd init --db stock.db --day 2026-05-04")
         .arg(books(alloc))?
-        .arg(day)
+        .arg(day(alloc, "The first business day, as 2026-05-04"))
 }
 
 fn serve_command<'a>(alloc: Global) -> Result<Command<'a>, AllocError> {
-    let port = required(alloc, "port", "N", "The port on 127.0.0.1, 1024 to 65535")
-        .long("port")
-        .value_parser(value_parser!(u16).range(1024..=65535));
-    let max = required(
-        alloc,
-        "max",
-        "M",
-        "How many connections to serve before the end, 1 to 1000000",
-    )
-    .long("max")
-    .value_parser(value_parser!(u32).range(1..=1_000_000));
     Command::new(alloc, "serve")
         .about("Answer the requests of scanners, one connection after another")
         .after_help("Example:\n  lotd serve --db stock.db --port 8080 --max 1000")
         .arg(books(alloc))?
-        .arg(port)?
-        .arg(max)
+        .arg(port(alloc))?
+        .arg(max(alloc))
+}
+
+fn label_command<'a>(alloc: Global) -> Result<Command<'a>, AllocError> {
+    Command::new(alloc, "label")
+        .about("Print the GTIN, the lot and the expiry day of a GS1 label")
+        .after_help(LABEL_EXAMPLES)
+        .arg(day(alloc, "The business day, as 2026-05-04"))?
+        .arg(text(alloc))
 }
 
 fn books<'a>(alloc: Global) -> Arg<'a> {
     required(alloc, "db", "PATH", "The file of the books").long("db")
 }
 
-fn label_command<'a>(alloc: Global) -> Result<Command<'a>, AllocError> {
-    let day = required(alloc, "day", "DATE", "The business day, as 2026-05-04").long("day");
-    let text = required(
-        alloc,
-        "text",
-        "TEXT",
-        "The text of the label, as a scanner gives it",
-    );
-    Command::new(alloc, "label")
-        .about("Print the GTIN, the lot and the expiry day of a GS1 label")
-        .after_help(LABEL_EXAMPLES)
-        .arg(day)?
-        .arg(text)
+fn day<'a>(alloc: Global, help: &'a str) -> Arg<'a> {
+    required(alloc, "day", "DATE", help).long("day")
+}
+
+fn port<'a>(alloc: Global) -> Arg<'a> {
+    required(alloc, "port", "N", "The port on 127.0.0.1, 1024 to 65535")
+        .long("port")
+        .value_parser(value_parser!(u16).range(1024..=65535))
+}
+
+fn max<'a>(alloc: Global) -> Arg<'a> {
+    let help = "How many connections to serve before the end, 1 to 1000000";
+    required(alloc, "max", "M", help)
+        .long("max")
+        .value_parser(value_parser!(u32).range(1..=1_000_000))
+}
+
+fn text<'a>(alloc: Global) -> Arg<'a> {
+    let help = "The text of the label, as a scanner gives it";
+    required(alloc, "text", "TEXT", help)
 }
 
 fn required<'a>(alloc: Global, id: &'a str, value: &'a str, help: &'a str) -> Arg<'a> {

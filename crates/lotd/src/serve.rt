@@ -31,13 +31,20 @@ fn serve_stream<S: Alter + Drop>(stream: &TcpStream, house: &mut House<S>) {
 
 /// A stream that is closed while its client still sends is reset, and the client may lose the answer.
 /// So the answer is ended, and what still comes is read, within bounds.
-fn read_to_the_end(mut stream: &TcpStream) {
+fn read_to_the_end(stream: &TcpStream) {
     let _ = stream.shutdown(Shutdown::Write);
     let mut room = [0u8; 1024];
     for _ in 0..READS_AFTER_ANSWER {
-        match stream.read(&mut room) {
-            Ok(0) | Err(_) => return,
-            Ok(_) => {}
+        if !reads_more(stream, &mut room) {
+            return;
         }
+    }
+}
+
+// Whether a read brings more.
+fn reads_more(mut stream: &TcpStream, room: &mut [u8]) -> bool {
+    match stream.read(room) {
+        Ok(n) => n != 0,
+        Err(_) => false,
     }
 }

@@ -1,6 +1,6 @@
 //! The table `staged`.
 
-ghost use Rattle.std.specs.Prelude.{◌≡◌, ◌≢◌, ◌≤◌, ◌<◌, true, false, find, map, OnOk, IfOk, IfErr, bytes_eq, nat_eq, if◌then◌else◌};
+ghost use Rattle.std.specs.Prelude.{◌≡◌, ◌≢◌, ◌≤◌, ◌<◌, ◌++◌, [], ◌∷◌, true, false, find, map, OnOk, IfOk, IfErr, bytes_eq, nat_eq, if◌then◌else◌};
 ghost use Rattle.std.specs.List.{AllByRecursion};
 ghost use Rattle.sqlite.specs.State.{HasCleanDisk, Survives, KeepsCommit, IsUnchanged};
 ghost use Rattle.sqlite.specs.Held.{state};
@@ -117,6 +117,15 @@ fn to_row(row: &Row) -> Result<StagedRow, TableFault>
     })
 }
 
+/// Adds what the row reads as.
+fn add_row(found: &mut Vec<StagedRow>, row: &Row) -> Result<(), TableFault>
+    ensures ok { OnOk result ((has_staged row.now ≡ true) × (found.new.items ≡ found.old.items ++ staged_read row.now ∷ [])) }
+    ensures foreign { IfErr result (λ e. e ≡ Foreign → has_staged row.now ≡ false) }
+{
+    found.push(to_row(row)?)?;
+    Ok(())
+}
+
 fn to_rows(alloc: Global, rows: &[Row]) -> Result<Vec<StagedRow>, TableFault>
     ensures typed { IfOk result (λ found. AllByRecursion (λ v. has_staged v ≡ true) rows.now) }
     ensures ok { IfOk result (λ found. map staged_read rows.now ≡ found.items) }
@@ -124,7 +133,7 @@ fn to_rows(alloc: Global, rows: &[Row]) -> Result<Vec<StagedRow>, TableFault>
 {
     let mut found = Vec::new(alloc);
     for row in rows {
-        found.push(to_row(row)?)?;
+        add_row(&mut found, row)?;
     }
     Ok(found)
 }

@@ -11,8 +11,6 @@ ghost use Rattle.plan.specs.Laws.{IsOverlapOf, IsBeyondSupplies};
 pub mod laws;
 mod summing;
 mod sweep;
-#[cfg(test)]
-mod tests;
 
 use std::marker::Model;
 pub use sweep::whole;

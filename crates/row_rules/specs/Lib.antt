@@ -1,16 +1,6 @@
 pub mod Seen
 pub mod SeenOrders
 pub mod Plans
-pub mod Decided
-pub mod DecidedOrder
-pub mod DecidedCancel
 pub mod Replanning
-pub mod DecidedCount
-pub mod DecidedShip
-pub mod Booked
 pub mod SeenLots
-pub mod DecidedMove
 pub mod SeenStages
-pub mod DecidedPick
-pub mod DecidedHold
-pub mod DecidedDay

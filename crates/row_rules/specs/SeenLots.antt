@@ -6,8 +6,7 @@ use Rattle.values.specs.declared.lot.LotId.{LotId}
 use Rattle.commands.specs.declared.rows.LotRow.{LotRow}
 use Rattle.commands.specs.declared.rows.StockRow.{StockRow}
 use Rattle.machine.specs.Postings.{is_lot}
-use Rattle.row_rules.specs.Seen.{lot_seen}
-use Rattle.row_rules.specs.Decided.{stock_qty}
+use Rattle.row_rules.specs.Seen.{lot_seen, stock_qty}
 use Rattle.row_rules.specs.declared.slice.Slice.{Slice}
 
 -- the lot is known

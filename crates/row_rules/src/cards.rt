@@ -1,8 +1,8 @@
 //! The lines of stock cards.
 
-ghost use Rattle.std.specs.Prelude.{◌≡◌, [], pos};
+ghost use Rattle.std.specs.Prelude.{◌≡◌, []};
 ghost use Rattle.machine.specs.Cards.{delivery_note as delivery_note_lem};
-ghost use Rattle.row_rules.specs.Decided.{lot_units as lot_units_lem};
+ghost use Rattle.row_rules.specs.Seen.{lot_units as lot_units_lem};
 
 use crate::summing::{sum_of_lot_in_bins, sum_of_lot_staged};
 use commands::limits::CARD_NOTE_MAX;

@@ -3,7 +3,7 @@
 ghost use Rattle.std.specs.Prelude.{◌≡◌, ◌&&◌, not, filter, IfOk};
 ghost use Rattle.values.specs.Values.{same_text};
 ghost use Rattle.machine.specs.Postings.{is_lot};
-ghost use Rattle.row_rules.specs.Decided.{stock_qty};
+ghost use Rattle.row_rules.specs.Seen.{stock_qty};
 ghost use Rattle.row_rules.specs.SeenLots.{sees_lot as sees_lot_lem, stock_found as stock_found_lem, in_bin_seen, stock_put as stock_put_lem, stock_gone as stock_gone_lem, stock_rows_with as stock_rows_with_lem};
 
 use crate::Slice;

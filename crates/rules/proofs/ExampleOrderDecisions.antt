@@ -7,7 +7,7 @@ use Rattle.commands.specs.declared.refusal.Refusal.TheVariants.{UnknownItem, Ord
 use Rattle.commands.specs.declared.rows.OrderState.TheVariants.{Open}
 use Rattle.machine.specs.Verdict.{first_refusal}
 use Rattle.row_rules.specs.Seen.{no_rows}
-use Rattle.row_rules.specs.DecidedOrder.{order_seen, order_changes, open_units_seen}
+use Rattle.order_rules.specs.DecidedOrder.{order_seen, order_changes, open_units_seen}
 use Rattle.row_rules.specs.declared.slice.Slice.{Slice}
 use Rattle.machine.proofs.examples.ExampleHistories.{may_4, may_31, june_30, OATS, RYE, A1, S1, S2, L1, L2}
 

@@ -6,28 +6,35 @@ ghost use Rattle.machine.specs.Once.{IsHistory, is_key_of, bearer};
 ghost use Rattle.machine.specs.Tables.{tables_of};
 ghost use Rattle.rules.specs.Slices.{IsSlice, IsDecision, NamesChangedReservations};
 ghost use Rattle.machine.specs.Verdict.{first_refusal};
-ghost use Rattle.row_rules.specs.DecidedOrder.{order_seen, order_changes};
-ghost use Rattle.row_rules.specs.DecidedMove.{move_seen, move_changes};
-ghost use Rattle.row_rules.specs.DecidedCount.{count_seen, count_changes, adjust_seen, adjust_changes};
-ghost use Rattle.row_rules.specs.DecidedCancel.{cancel_seen, cancel_changes};
-ghost use Rattle.row_rules.specs.DecidedPick.{pick_seen, pick_changes, unpick_seen, unpick_changes};
-ghost use Rattle.row_rules.specs.DecidedHold.{hold_seen, hold_changes, release_seen, release_changes, recall_seen, recall_changes};
-ghost use Rattle.row_rules.specs.DecidedShip.{ship_seen, ship_changes};
-ghost use Rattle.row_rules.specs.DecidedDay.{day_judged, day_changes};
-ghost use Rattle.row_rules.specs.Decided.{IsMade, item_seen, item_changes, bin_seen, bin_changes, receive_seen, receive_changes};
+ghost use Rattle.order_rules.specs.DecidedOrder.{order_seen, order_changes};
+ghost use Rattle.goods_rules.specs.DecidedMove.{move_seen, move_changes};
+ghost use Rattle.goods_rules.specs.DecidedCount.{count_seen, count_changes, adjust_seen, adjust_changes};
+ghost use Rattle.order_rules.specs.DecidedCancel.{cancel_seen, cancel_changes};
+ghost use Rattle.order_rules.specs.DecidedPick.{pick_seen, pick_changes, unpick_seen, unpick_changes};
+ghost use Rattle.lot_rules.specs.DecidedHold.{hold_seen, hold_changes, release_seen, release_changes, recall_seen, recall_changes};
+ghost use Rattle.order_rules.specs.DecidedShip.{ship_seen, ship_changes};
+ghost use Rattle.lot_rules.specs.DecidedDay.{day_judged, day_changes};
+ghost use Rattle.rules.specs.Made.{IsMade};
+ghost use Rattle.goods_rules.specs.DecidedSetup.{item_seen, item_changes, bin_seen, bin_changes};
+ghost use Rattle.goods_rules.specs.DecidedReceive.{receive_seen, receive_changes};
 
 use crate::{Change, RuleFault, Slice};
 use commands::laws::{every_command_is_sound, every_key_is_sound};
 use commands::{
     Adjustment, Command, Key, Movement, NewBin, NewItem, NewOrder, Picking, Receipt, Recount,
 };
+use goods_rules::{
+    change_adjust, change_bin, change_count, change_item, change_move, change_receive,
+    judge_adjust, judge_bin, judge_count, judge_item, judge_move, judge_receive,
+};
 use label::BusinessDay;
-use row_rules::{
-    change_adjust, change_bin, change_cancel, change_count, change_day, change_hold, change_item,
-    change_move, change_order, change_pick, change_recall, change_receive, change_release,
-    change_ship, change_unpick, judge_adjust, judge_bin, judge_cancel, judge_count, judge_day,
-    judge_hold, judge_item, judge_move, judge_order, judge_pick, judge_recall, judge_receive,
-    judge_release, judge_ship, judge_unpick,
+use lot_rules::{
+    change_day, change_hold, change_recall, change_release, judge_day, judge_hold, judge_recall,
+    judge_release,
+};
+use order_rules::{
+    change_cancel, change_order, change_pick, change_ship, change_unpick, judge_cancel,
+    judge_order, judge_pick, judge_ship, judge_unpick,
 };
 use std::alloc::{AllocError, Global};
 use values::{LotId, Name};

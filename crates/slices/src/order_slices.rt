@@ -1,9 +1,9 @@
 //! The rows of orders and of their lines that a slice has.
 
-ghost use Rattle.std.specs.Prelude.{◌≡◌, ◌++◌, OnOk, IfOk};
+ghost use Rattle.std.specs.Prelude.{◌≡◌, ◌++◌, not, OnOk, IfOk};
 ghost use Rattle.sqlite.specs.Held.{state};
 ghost use Rattle.slices.specs.Reading.{IsRead};
-ghost use Rattle.slices.specs.Slicing.{listed, AreLinesOf, AreLines, others as others_lem, with_lines as with_lines_lem, AreNamed, AreOpen, AreOrdered, has_line_in};
+ghost use Rattle.slices.specs.Slicing.{is_among, listed, AreLinesOf, AreLines, others as others_lem, with_lines as with_lines_lem, AreNamed, AreOpen, AreOrdered, has_line_in};
 
 use crate::naming::has_name;
 use crate::reading::{line_row, open_order_rows};
@@ -59,13 +59,20 @@ fn lines_of_orders<S: Alter>(
     Ok(found)
 }
 
+/// Whether the order is not named.
+fn is_other(named: &[Name], order: &OrderRow) -> bool
+    ensures { result ≡ not (is_among named.now order.now.order) }
+{
+    !has_name(named, &order.order)
+}
+
 /// The orders that are not named.
 fn others(alloc: Global, orders: &[OrderRow], named: &[Name]) -> Result<Vec<OrderRow>, AllocError>
     ensures { IfOk result (λ rows. rows.items ≡ others_lem named.now orders.now) }
 {
     let mut rows = Vec::new(alloc);
     for order in orders {
-        if !has_name(named, &order.order) {
+        if is_other(named, order) {
             rows.push(*order)?;
         }
     }

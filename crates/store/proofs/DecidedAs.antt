@@ -1,5 +1,5 @@
 -- A decision told with the faults of the books.
-use Rattle.std.proofs.Common.{◌≡◌, List, Ok, Err, Result, subst, sym}
+use Rattle.std.proofs.Common.{List, Err}
 use Rattle.std.specs.Prelude.{ℤ}
 use Rattle.machine.specs.Acts.{Act}
 use Rattle.rules.specs.Slices.{IsDecision}

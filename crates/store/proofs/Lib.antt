@@ -8,3 +8,4 @@ pub mod ActsWhole
 pub mod EmptyTables
 pub mod OpenedBooks
 pub mod ShownWhole
+pub mod DayTold

@@ -1,6 +1,6 @@
 -- The rows of `repeats` tell which act bears a key, and what its repeat is told.
-use Rattle.std.proofs.Common.{◌≡◌, ℕ, ◌+◌, Bool, true, false, List, [], ◌∷◌, refl, ap, sym, subst, ◌∙◌, arith}
-use Rattle.std.specs.Prelude.{ℤ, Option, Some, None, option_map, if◌then◌else◌, length}
+use Rattle.std.proofs.Common.{◌≡◌, true, false, List, [], ◌∷◌, refl, ap, sym, ◌∙◌, arith}
+use Rattle.std.specs.Prelude.{ℤ, Option, Some, None, option_map, if◌then◌else◌}
 use Rattle.values.specs.Values.{same_text}
 use Rattle.commands.specs.Spelling.{key_text, spelling}
 use Rattle.commands.specs.declared.key.Key.{Key}
@@ -10,7 +10,7 @@ use Rattle.commands.specs.declared.rows.RepeatRow.{RepeatRow}
 use Rattle.commands.specs.Tables.{Tables}
 use Rattle.table_words.specs.Typed.{with_repeat}
 use Rattle.machine.specs.Acts.{Act, next_number}
-use Rattle.machine.specs.Once.{Earlier, bearer, Outcome, Repeated, Refused, told_again, outcome, judged}
+use Rattle.machine.specs.Once.{Earlier, bearer, Repeated, Refused, told_again, outcome, judged}
 use Rattle.machine.specs.Replies.{reply}
 use Rattle.rules.specs.Slices.{applied, tables_but_repeats}
 use Rattle.machine.specs.Tables.{tables_of, repeat_row, meta_row}

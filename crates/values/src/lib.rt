@@ -8,8 +8,6 @@ mod gtin;
 mod lot;
 mod name;
 mod quantities;
-#[cfg(test)]
-mod tests;
 mod text;
 mod title;
 

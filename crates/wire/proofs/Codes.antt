@@ -8,9 +8,9 @@ use Rattle.values.specs.declared.fault.LabelFault.TheVariants.{BadPrefix, Unknow
 use Rattle.commands.specs.Refusals.{refusal_code}
 use Rattle.commands.specs.declared.refusal.Refusal.{Refusal}
 use Rattle.commands.specs.declared.refusal.Refusal.TheVariants.{KeyUsed, ActsFull, UnknownItem, UnknownBin, UnknownLot, UnknownOrder, NoSuchLine, ItemExists, BinExists, OrderExists, ItemTwice, OtherExpiry, LotRecalled, LotExpired, LotHeld, LotNotHeld, AlreadyRecalled, NotStoreBin, OrderClosed, StillStaged, NothingStaged, DayNotLater, NotInBin, OverReserved, OverStaged, SameBin, OverUnits, OverOrdered, NoNotice}
-use Rattle.wire.specs.Shorts.{wire_code}
-use Rattle.wire.specs.declared.fault.WireFault.{WireFault}
-use Rattle.wire.specs.declared.fault.WireFault.TheVariants.{Head, Length, Json, Field, Path, Method, TooLarge, Memory}
+use Rattle.requests.specs.Faults.{wire_code}
+use Rattle.requests.specs.declared.fault.WireFault.{WireFault}
+use Rattle.requests.specs.declared.fault.WireFault.TheVariants.{Head, Length, Json, Field, Path, Method, TooLarge, Memory}
 
 pub refusal_is_name : (x : Refusal) → IsTrue (is_name (refusal_code x))
 refusal_is_name KeyUsed = refl

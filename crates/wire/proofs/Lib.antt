@@ -1,11 +1,5 @@
-pub mod HeadEnds
-pub mod Json
-pub mod Lines
-pub mod Readings
-pub mod OneReading
 pub mod Floats
 pub mod Texts
-pub mod LongerTexts
 pub mod ShortTexts
 pub mod Codes
 pub mod Values

@@ -1,9 +1,9 @@
 -- The bytes of an answer.
 use Rattle.std.specs.Prelude.{ℕ, List, [], ◌∷◌, ◌++◌, codes, length, decimal, ◌==◌, if◌then◌else◌, Option, Some, None}
 use Rattle.serde_json.specs.Written.{compact_text}
-use Rattle.wire.specs.Routes.{method_name}
+use Rattle.requests.specs.Routes.{method_name}
+use Rattle.requests.specs.declared.method.Method.{Method}
 use Rattle.wire.specs.Views.{order_data, stock_data}
-use Rattle.wire.specs.declared.method.Method.{Method}
 use Rattle.wire.specs.declared.answer.Answer.{Answer}
 use Rattle.wire.specs.declared.answer.Answer.TheVariants.{Stock, Order, Text}
 

@@ -1,8 +1,3 @@
-pub mod Head
-pub mod Routes
-pub mod Fields
-pub mod Bodies
-pub mod Requests
 pub mod Answers
 pub mod Shorts
 pub mod Views

@@ -1,42 +1,7 @@
 -- The short JSON texts: an object of one to three members.
-use Rattle.std.specs.Prelude.{ℕ, ℤ, pos, negsuc, List, ◌++◌, codes, decimal, Option, Some, None}
+use Rattle.std.specs.Prelude.{ℕ, ℤ, pos, negsuc, List, ◌++◌, codes, decimal}
 use Rattle.serde_json.specs.Data.{Data, number, unsigned, negative, string, object, Members, member, no_members}
 use Rattle.wire.specs.Views.{count}
-use Rattle.wire.specs.declared.method.Method.{Method as WireMethod}
-use Rattle.wire.specs.declared.fault.WireFault.{WireFault}
-use Rattle.wire.specs.declared.fault.WireFault.TheVariants.{Head, Length, Json, Field, Path, Method, TooLarge, Memory}
-
--- the code of a text that is no request
-abbrev pub wire_code : WireFault → List ℕ
-wire_code Head = codes "W01"
-wire_code Length = codes "W02"
-wire_code Json = codes "W03"
-wire_code Field = codes "W04"
-wire_code Path = codes "W06"
-wire_code (Method m) = codes "W07"
-wire_code TooLarge = codes "W08"
-wire_code Memory = codes "W90"
-
--- the status of the answer, and the method that it names
-abbrev pub wire_status : WireFault → ℕ
-wire_status Head = 400
-wire_status Length = 400
-wire_status Json = 400
-wire_status Field = 400
-wire_status Path = 404
-wire_status (Method m) = 405
-wire_status TooLarge = 413
-wire_status Memory = 503
-
-abbrev pub wire_allow : WireFault → Option WireMethod
-wire_allow Head = None
-wire_allow Length = None
-wire_allow Json = None
-wire_allow Field = None
-wire_allow Path = None
-wire_allow (Method m) = Some m
-wire_allow TooLarge = None
-wire_allow Memory = None
 
 -- Each text, and the value of which it is the compact JSON.
 

@@ -1,11 +1,11 @@
 ghost use Rattle.std.specs.Prelude.{◌≡◌, ◌+◌, ◌≤◌, ◌++◌, length, codes, decimal, IfOk, Some, None};
 ghost use Rattle.wire.specs.Answers.{phrase as phrase_lem, CRLF, json_type, allow_line, head_text, answer_text, answer_bytes};
 
-use crate::Method;
 use crate::order::order_json;
 use crate::stock::stock_json;
 use commands::{Buffer, Listed, OrderView, Short, StockView};
 use http::StatusCode;
+use requests::Method;
 use std::alloc::{AllocError, Global};
 
 /// An answer that is written in place, of at most 512 bytes.

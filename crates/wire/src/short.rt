@@ -3,11 +3,12 @@ ghost use Rattle.values.specs.Values.{is_name};
 ghost use Rattle.values.specs.Faults.{fault_code};
 ghost use Rattle.commands.specs.Refusals.{refusal_code};
 ghost use Rattle.serde_json.specs.Written.{compact_text};
-ghost use Rattle.wire.specs.Shorts.{wire_code, code_text as code_text_lem, code_data, code_row_text as code_row_text_lem, code_row_data, cause_text as cause_text_lem, cause_data, cause_row_text as cause_row_text_lem, cause_row_data, tally_text as tally_text_lem, tally_data};
+ghost use Rattle.requests.specs.Faults.{wire_code};
+ghost use Rattle.wire.specs.Shorts.{code_text as code_text_lem, code_data, code_row_text as code_row_text_lem, code_row_data, cause_text as cause_text_lem, cause_data, cause_row_text as cause_row_text_lem, cause_row_data, tally_text as tally_text_lem, tally_data};
 
-use crate::WireFault;
 use commands::limits::SHORT_MAX;
 use commands::{Buffer, Refusal, Short};
+use requests::WireFault;
 use values::LabelFault;
 
 /// `{"code":"CODE"}`, for a code that is a name.

@@ -16,7 +16,7 @@ use Rattle.machine.specs.Replies.{reply, further_field}
 use Rattle.machine.specs.Tables.{tables_of, meta_row}
 use Rattle.rules.specs.Slices.{IsSlice, applied, tables_but_repeats, AreOnce, IsDecision, NamesChangedReservations}
 use Rattle.row_rules.specs.Seen.{capped, number_seen, plain_reply, meta_after}
-use Rattle.row_rules.specs.Decided.{IsMade}
+use Rattle.rules.specs.Made.{IsMade}
 use Rattle.row_rules.specs.declared.slice.Slice.{Slice}
 use Rattle.row_rules.specs.declared.slice.Change.{Change}
 use Rattle.row_rules.specs.declared.slice.RuleFault.{RuleFault}

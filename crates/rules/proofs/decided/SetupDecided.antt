@@ -18,7 +18,7 @@ use Rattle.machine.specs.Once.{IsHistory}
 use Rattle.machine.specs.Tables.{tables_of, meta_row}
 use Rattle.rules.specs.Slices.{IsSlice, applied, tables_but_repeats}
 use Rattle.row_rules.specs.Seen.{no_rows}
-use Rattle.row_rules.specs.Decided.{item_seen, item_changes, bin_seen, bin_changes}
+use Rattle.goods_rules.specs.DecidedSetup.{item_seen, item_changes, bin_seen, bin_changes}
 use Rattle.row_rules.specs.declared.slice.Slice.{Slice}
 use Rattle.row_rules.specs.declared.slice.Change.{Change}
 use Rattle.row_rules.specs.declared.slice.RuleFault.{RuleFault}

@@ -9,7 +9,7 @@ use Rattle.machine.specs.Standing.{KnownLot, lots, lot_known, lot_among, is_held
 use Rattle.machine.specs.Tables.{lot_row}
 use Rattle.machine.specs.KeyedRows.{no_two}
 use Rattle.rules.specs.Slices.{changed, unless_put}
-use Rattle.row_rules.specs.DecidedHold.{with_hold, lot_put}
+use Rattle.lot_rules.specs.DecidedHold.{with_hold, lot_put}
 use Rattle.machine.proofs.Tests.{is_lot_is, is_lot_turned}
 use Rattle.machine.proofs.histories.Lots.{found_lot as found_known}
 

@@ -8,7 +8,7 @@ use Rattle.machine.specs.Planning.{in_bin}
 use Rattle.machine.specs.Tables.{tables_of, if_any, stock_row}
 use Rattle.machine.specs.Touched.{is_touched}
 use Rattle.rules.specs.Slices.{IsSlice}
-use Rattle.row_rules.specs.Decided.{stock_qty}
+use Rattle.row_rules.specs.Seen.{stock_qty}
 use Rattle.row_rules.specs.SeenLots.{sees_lot, stock_found, in_bin_seen}
 use Rattle.row_rules.specs.declared.slice.Slice.{Slice}
 use Rattle.machine.proofs.Tests.{is_zero}

@@ -14,7 +14,7 @@ use Rattle.machine.specs.Cards.{lot_units_in_house}
 use Rattle.machine.specs.Once.{IsHistory}
 use Rattle.machine.specs.Tables.{stock_row, staged_row}
 use Rattle.machine.specs.KeyedRows.{AreRows, LotBin, OrderLot, same_cell, same_share}
-use Rattle.row_rules.specs.Decided.{lot_units}
+use Rattle.row_rules.specs.Seen.{lot_units}
 use Rattle.machine.proofs.Tests.{and_both, is_lot_is, and_not_itself}
 use Rattle.machine.proofs.histories.Cells.{Cells, without, holds, holds_split}
 use Rattle.machine.proofs.histories.LegalHistories.{legal_history}

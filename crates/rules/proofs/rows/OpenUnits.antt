@@ -15,7 +15,7 @@ use Rattle.machine.specs.Planning.{Booking, booking_of, lines_of_item, shipped_o
 use Rattle.machine.specs.Once.{IsHistory}
 use Rattle.machine.specs.Tables.{order_row}
 use Rattle.machine.specs.KeyedRows.{AreOwn}
-use Rattle.row_rules.specs.DecidedOrder.{open_units_of, open_units_of_line}
+use Rattle.order_rules.specs.DecidedOrder.{open_units_of, open_units_of_line}
 use Rattle.machine.proofs.Tests.{same_text_is, same_text_turned}
 use Rattle.machine.proofs.Apart.{AllFound}
 use Rattle.machine.proofs.histories.Orders.{same_order, orders_apart, orders_found, orders_single}

@@ -26,7 +26,7 @@ use Rattle.machine.specs.Touched.{is_touched}
 use Rattle.machine.specs.KeyedRows.{AreRows, LotBin, OrderLot, no_two, same_cell, same_line, same_share}
 use Rattle.rules.specs.Slices.{IsSlice, changed}
 use Rattle.row_rules.specs.SeenLots.{stock_put, stock_gone}
-use Rattle.row_rules.specs.DecidedHold.{staged_of_seen, staged_kept, staged_returned, units_in_returns, returned_put, stock_with_returned, returns_bin_row, bins_with_returns, returned_reply}
+use Rattle.lot_rules.specs.DecidedHold.{staged_of_seen, staged_kept, staged_returned, units_in_returns, returned_put, stock_with_returned, returns_bin_row, bins_with_returns, returned_reply}
 use Rattle.row_rules.specs.declared.slice.Slice.{Slice}
 use Rattle.machine.proofs.Tests.{and_both, is_zero, same_text_refl, same_text_is, is_lot_is, is_lot_item}
 use Rattle.machine.proofs.histories.Cells.{holds}

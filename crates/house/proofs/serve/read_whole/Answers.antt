@@ -1,8 +1,8 @@
 use Rattle.std.proofs.Common.{◌≡◌, true, false, inl, sym, subst, rules}
 use Rattle.std.specs.Io.KnownBytes.{Consumes}
 use Rattle.std.proofs.KnownBytes.{Consumes-nil}
-use Rattle.wire.specs.Requests.{IsReading}
-use Rattle.wire.specs.Laws.{needs_more}
+use Rattle.requests.specs.Requests.{IsReading}
+use Rattle.requests.specs.Laws.{needs_more}
 use Rattle.house.proofs.Bounded.{bounded}
 use Rattle.house.proofs.Serving.{needing_has_memory, nearer, taken_on, without_room}
 use Rattle.house.proofs.serve.read_whole.Goals as goal

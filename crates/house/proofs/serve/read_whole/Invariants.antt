@@ -1,8 +1,8 @@
 use Rattle.std.proofs.Common.{◌≢◌, ◌-◌, length}
 use Rattle.std.specs.Io.KnownBytes.{Consumes}
-use Rattle.wire.specs.Requests.{IsReading}
-use Rattle.wire.specs.declared.fault.WireFault.TheVariants.{Memory}
-use Rattle.wire.specs.declared.request.Read.TheVariants.{Bad}
+use Rattle.requests.specs.Requests.{IsReading}
+use Rattle.requests.specs.declared.fault.WireFault.TheVariants.{Memory}
+use Rattle.requests.specs.declared.request.Read.TheVariants.{Bad}
 use Rattle.house.proofs.serve.read_whole.Given as goal
 
 abbrev pub invariant-loop-alloc : goal.invariant-loop-alloc

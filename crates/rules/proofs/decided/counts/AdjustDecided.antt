@@ -15,7 +15,7 @@ use Rattle.machine.specs.Once.{IsHistory}
 use Rattle.machine.specs.Tables.{tables_of}
 use Rattle.rules.specs.Slices.{IsSlice}
 use Rattle.row_rules.specs.Seen.{capped}
-use Rattle.row_rules.specs.DecidedCount.{units_adjusted, adjust_seen, adjust_changes, corrections}
+use Rattle.goods_rules.specs.DecidedCount.{units_adjusted, adjust_seen, adjust_changes, corrections}
 use Rattle.row_rules.specs.declared.slice.Slice.{Slice}
 use Rattle.row_rules.specs.declared.slice.Change.{Change}
 use Rattle.row_rules.specs.declared.slice.RuleFault.{RuleFault}

@@ -11,7 +11,7 @@ use Rattle.machine.specs.Once.{IsHistory}
 use Rattle.machine.specs.Tables.{tables_of}
 use Rattle.machine.specs.Touched.{is_touched}
 use Rattle.rules.specs.Slices.{IsSlice}
-use Rattle.row_rules.specs.DecidedCount.{adjust_seen}
+use Rattle.goods_rules.specs.DecidedCount.{adjust_seen}
 use Rattle.machine.specs.Verdict.{first_refusal, verdict, taken_off}
 use Rattle.row_rules.specs.declared.slice.Slice.{Slice}
 use Rattle.machine.proofs.Tests.{same_text_refl}

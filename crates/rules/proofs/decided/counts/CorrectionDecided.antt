@@ -26,11 +26,10 @@ use Rattle.machine.specs.Tables.{tables_of, bin_row, lot_row, stock_row, order_r
 use Rattle.machine.specs.Touched.{is_touched}
 use Rattle.machine.specs.KeyedRows.{no_two, same_cell, same_line, same_share}
 use Rattle.rules.specs.Slices.{IsSlice, applied}
-use Rattle.row_rules.specs.Seen.{no_rows}
+use Rattle.row_rules.specs.Seen.{no_rows, lot_units}
 use Rattle.row_rules.specs.SeenLots.{stock_put, stock_gone}
 use Rattle.row_rules.specs.Plans.{rows_to_put, rows_to_drop}
-use Rattle.row_rules.specs.Decided.{lot_units}
-use Rattle.row_rules.specs.DecidedCount.{stock_corrected, shares_corrected, correction_card, correction_cards, change_reply, corrections}
+use Rattle.goods_rules.specs.DecidedCount.{stock_corrected, shares_corrected, correction_card, correction_cards, change_reply, corrections}
 use Rattle.row_rules.specs.declared.slice.Slice.{Slice}
 use Rattle.machine.proofs.Tests.{same_text_refl, same_text_turned}
 use Rattle.machine.proofs.histories.Accepted.{room_for_acts}

@@ -14,7 +14,7 @@ use Rattle.machine.specs.Once.{IsHistory}
 use Rattle.machine.specs.Tables.{tables_of}
 use Rattle.rules.specs.Slices.{IsSlice}
 use Rattle.row_rules.specs.SeenLots.{in_bin_seen}
-use Rattle.row_rules.specs.DecidedCount.{SIGNED_CAP, found_less, count_seen, count_changes, corrections}
+use Rattle.goods_rules.specs.DecidedCount.{SIGNED_CAP, found_less, count_seen, count_changes, corrections}
 use Rattle.row_rules.specs.declared.slice.Slice.{Slice}
 use Rattle.row_rules.specs.declared.slice.Change.{Change}
 use Rattle.row_rules.specs.declared.slice.RuleFault.{RuleFault}

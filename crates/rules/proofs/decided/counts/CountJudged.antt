@@ -14,7 +14,7 @@ use Rattle.machine.specs.Tables.{tables_of}
 use Rattle.machine.specs.Touched.{is_touched}
 use Rattle.rules.specs.Slices.{IsSlice}
 use Rattle.row_rules.specs.Seen.{capped, stock_units, staged_units}
-use Rattle.row_rules.specs.DecidedCount.{is_over_without, count_seen}
+use Rattle.goods_rules.specs.DecidedCount.{is_over_without, count_seen}
 use Rattle.machine.specs.Verdict.{first_refusal, verdict, taken_off, put_on}
 use Rattle.row_rules.specs.declared.slice.Slice.{Slice}
 use Rattle.machine.proofs.Tests.{same_text_refl}

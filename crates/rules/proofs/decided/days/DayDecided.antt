@@ -15,8 +15,8 @@ use Rattle.machine.specs.KeyedRows.{no_two}
 use Rattle.rules.specs.Slices.{IsSlice, applied, tables_but_repeats, changed}
 use Rattle.row_rules.specs.Seen.{no_rows}
 use Rattle.row_rules.specs.Plans.{is_share_of}
-use Rattle.row_rules.specs.DecidedHold.{bins_with_returns}
-use Rattle.row_rules.specs.DecidedDay.{day_judged, day_changes, day_put, day_dropped, day_reply, gtins_seen, meta_on, staged_kept_on, staged_gone_on, stock_on, stock_returned}
+use Rattle.lot_rules.specs.DecidedHold.{bins_with_returns}
+use Rattle.lot_rules.specs.DecidedDay.{day_judged, day_changes, day_put, day_dropped, day_reply, gtins_seen, meta_on, staged_kept_on, staged_gone_on, stock_on, stock_returned}
 use Rattle.row_rules.specs.declared.slice.Slice.{Slice}
 use Rattle.row_rules.specs.declared.slice.Change.{Change}
 use Rattle.row_rules.specs.declared.slice.RuleFault.{RuleFault}

@@ -9,7 +9,7 @@ use Rattle.machine.specs.Acts.{Act}
 use Rattle.machine.specs.Tables.{tables_of}
 use Rattle.rules.specs.Slices.{IsSlice}
 use Rattle.machine.specs.Verdict.{first_refusal, verdict}
-use Rattle.row_rules.specs.DecidedDay.{day_judged}
+use Rattle.lot_rules.specs.DecidedDay.{day_judged}
 use Rattle.row_rules.specs.declared.slice.Slice.{Slice}
 use Rattle.rules.proofs.decided.Decisions.{acts_seen, day_seen}
 

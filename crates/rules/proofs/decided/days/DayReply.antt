@@ -18,7 +18,7 @@ use Rattle.machine.specs.Once.{IsHistory}
 use Rattle.machine.specs.Replies.{reply, returned_field, units_returned}
 use Rattle.machine.specs.Tables.{tables_of}
 use Rattle.rules.specs.Slices.{IsSlice}
-use Rattle.row_rules.specs.DecidedDay.{is_out, units_out, day_reply}
+use Rattle.lot_rules.specs.DecidedDay.{is_out, units_out, day_reply}
 use Rattle.row_rules.specs.declared.slice.Slice.{Slice}
 use Rattle.machine.proofs.Tests.{and_both, same_text_turned}
 use Rattle.machine.proofs.Apart.{any_found}

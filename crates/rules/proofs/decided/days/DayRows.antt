@@ -24,11 +24,10 @@ use Rattle.machine.specs.Tables.{tables_of, if_any, bin_row, stock_row, order_ro
 use Rattle.machine.specs.Touched.{is_touched}
 use Rattle.machine.specs.KeyedRows.{AreRows, OrderLot, no_two, same_cell, same_line, same_share}
 use Rattle.rules.specs.Slices.{IsSlice, changed, unless_put}
-use Rattle.row_rules.specs.Seen.{lot_seen}
+use Rattle.row_rules.specs.Seen.{lot_seen, is_past_row}
 use Rattle.row_rules.specs.SeenLots.{stock_put}
-use Rattle.row_rules.specs.DecidedPick.{is_past_row}
-use Rattle.row_rules.specs.DecidedHold.{staged_of_seen, units_in_returns, returned_put, returns_bin_row, bins_with_returns}
-use Rattle.row_rules.specs.DecidedDay.{is_out, staged_kept_on, staged_gone_on, lot_returned_on, stock_returned, stands_in, stock_on}
+use Rattle.lot_rules.specs.DecidedHold.{staged_of_seen, units_in_returns, returned_put, returns_bin_row, bins_with_returns}
+use Rattle.lot_rules.specs.DecidedDay.{is_out, staged_kept_on, staged_gone_on, lot_returned_on, stock_returned, stands_in, stock_on}
 use Rattle.row_rules.specs.declared.slice.Slice.{Slice}
 use Rattle.machine.proofs.Tests.{and_both, and_false, is_zero, not_true, same_text_refl, same_text_is, is_lot_is, is_lot_item, is_lot_refl}
 use Rattle.machine.proofs.Apart.{any_found}

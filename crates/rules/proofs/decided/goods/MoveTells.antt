@@ -23,7 +23,7 @@ use Rattle.machine.specs.KeyedRows.{AreRows, LotBin, same_cell, same_line, same_
 use Rattle.rules.specs.Slices.{IsSlice}
 use Rattle.row_rules.specs.Seen.{plain_reply}
 use Rattle.row_rules.specs.SeenLots.{stock_rows_with}
-use Rattle.row_rules.specs.DecidedMove.{units_left, units_brought, stock_rows_moved}
+use Rattle.goods_rules.specs.DecidedMove.{units_left, units_brought, stock_rows_moved}
 use Rattle.row_rules.specs.declared.slice.Slice.{Slice}
 use Rattle.machine.proofs.Tests.{and_both, same_text_refl}
 use Rattle.machine.proofs.histories.Quantities.{at_least_one, at_most_limit}

@@ -16,7 +16,7 @@ use Rattle.rules.specs.Slices.{IsSlice, applied}
 use Rattle.row_rules.specs.Seen.{no_rows, plain_reply}
 use Rattle.row_rules.specs.SeenLots.{stock_put, stock_gone}
 use Rattle.row_rules.specs.Plans.{rows_to_put, rows_to_drop}
-use Rattle.row_rules.specs.DecidedMove.{move_seen, move_shares, move_changes, stock_rows_moved}
+use Rattle.goods_rules.specs.DecidedMove.{move_seen, move_shares, move_changes, stock_rows_moved}
 use Rattle.row_rules.specs.declared.slice.Slice.{Slice}
 use Rattle.row_rules.specs.declared.slice.Change.{Change}
 use Rattle.row_rules.specs.declared.slice.RuleFault.{RuleFault}

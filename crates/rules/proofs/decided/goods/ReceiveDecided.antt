@@ -14,9 +14,9 @@ use Rattle.machine.specs.Once.{IsHistory}
 use Rattle.machine.specs.Tables.{tables_of}
 use Rattle.machine.specs.KeyedRows.{no_two}
 use Rattle.rules.specs.Slices.{IsSlice, applied}
-use Rattle.row_rules.specs.Seen.{no_rows, plain_reply}
+use Rattle.row_rules.specs.Seen.{no_rows, plain_reply, lot_units}
 use Rattle.row_rules.specs.Plans.{rows_to_put, rows_to_drop}
-use Rattle.row_rules.specs.Decided.{receive_seen, receive_shares, receive_changes, lot_rows_after, stock_rows_after, lots_if_new, new_lot_row, lot_units}
+use Rattle.goods_rules.specs.DecidedReceive.{receive_seen, receive_shares, receive_changes, lot_rows_after, stock_rows_after, lots_if_new, new_lot_row}
 use Rattle.row_rules.specs.declared.slice.Slice.{Slice}
 use Rattle.row_rules.specs.declared.slice.Change.{Change}
 use Rattle.row_rules.specs.declared.slice.RuleFault.{RuleFault}

@@ -20,7 +20,7 @@ use Rattle.machine.specs.Touched.{is_touched}
 use Rattle.machine.specs.KeyedRows.{AreRows, LotBin, OrderLot, same_cell, same_share}
 use Rattle.rules.specs.Slices.{IsSlice}
 use Rattle.row_rules.specs.Seen.{capped, is_over, stock_units, staged_units}
-use Rattle.row_rules.specs.Decided.{receive_seen}
+use Rattle.goods_rules.specs.DecidedReceive.{receive_seen}
 use Rattle.machine.specs.Verdict.{first_refusal, verdict}
 use Rattle.row_rules.specs.declared.slice.Slice.{Slice}
 use Rattle.machine.proofs.Tests.{same_text_is, same_text_refl, and_not_itself}

@@ -25,8 +25,8 @@ use Rattle.machine.specs.Tables.{tables_of, bin_row, lot_row, stock_row, order_r
 use Rattle.machine.specs.Touched.{is_touched}
 use Rattle.machine.specs.KeyedRows.{AreRows, LotBin, same_cell, same_line, same_share}
 use Rattle.rules.specs.Slices.{IsSlice, changed}
-use Rattle.row_rules.specs.Seen.{capped, plain_reply}
-use Rattle.row_rules.specs.Decided.{stock_qty, stock_after, stock_rows_after, lots_if_new, new_lot_row, lots_put, lot_rows_after}
+use Rattle.row_rules.specs.Seen.{capped, plain_reply, stock_qty}
+use Rattle.goods_rules.specs.DecidedReceive.{stock_after, stock_rows_after, lots_if_new, new_lot_row, lots_put, lot_rows_after}
 use Rattle.row_rules.specs.declared.slice.Slice.{Slice}
 use Rattle.machine.proofs.Tests.{and_both, same_text_refl, same_text_turned, is_lot_is, is_lot_refl, is_lot_turned}
 use Rattle.machine.proofs.histories.Quantities.{at_least_one}

@@ -20,7 +20,7 @@ use Rattle.machine.specs.KeyedRows.{AreRows}
 use Rattle.rules.specs.Slices.{IsSlice, applied, tables_but_repeats, changed}
 use Rattle.row_rules.specs.Seen.{no_rows}
 use Rattle.row_rules.specs.Plans.{rows_to_put, rows_to_drop}
-use Rattle.row_rules.specs.DecidedHold.{recall_seen, recall_shares, recall_changes, new_recall_row, recall_rows_after, staged_kept, staged_returned, stock_with_returned, returned_put, bins_with_returns, returned_reply}
+use Rattle.lot_rules.specs.DecidedHold.{recall_seen, recall_shares, recall_changes, new_recall_row, recall_rows_after, staged_kept, staged_returned, stock_with_returned, returned_put, bins_with_returns, returned_reply}
 use Rattle.row_rules.specs.declared.slice.Slice.{Slice}
 use Rattle.row_rules.specs.declared.slice.Change.{Change}
 use Rattle.row_rules.specs.declared.slice.RuleFault.{RuleFault}

@@ -18,7 +18,7 @@ use Rattle.machine.specs.Tables.{tables_of, lot_row, meta_row, reserved_row}
 use Rattle.rules.specs.Slices.{IsSlice, applied, tables_but_repeats, changed}
 use Rattle.row_rules.specs.Seen.{lot_seen, no_rows, plain_reply}
 use Rattle.row_rules.specs.Plans.{rows_to_put, rows_to_drop}
-use Rattle.row_rules.specs.DecidedHold.{release_seen, release_shares, release_changes, with_hold, lot_rows_with_hold, lot_put}
+use Rattle.lot_rules.specs.DecidedHold.{release_seen, release_shares, release_changes, with_hold, lot_rows_with_hold, lot_put}
 use Rattle.row_rules.specs.declared.slice.Slice.{Slice}
 use Rattle.row_rules.specs.declared.slice.Change.{Change}
 use Rattle.row_rules.specs.declared.slice.RuleFault.{RuleFault}

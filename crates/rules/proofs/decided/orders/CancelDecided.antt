@@ -15,7 +15,7 @@ use Rattle.rules.specs.Slices.{IsSlice, applied}
 use Rattle.row_rules.specs.Seen.{no_rows, plain_reply}
 use Rattle.row_rules.specs.Plans.{is_share_of}
 use Rattle.row_rules.specs.SeenOrders.{order_row_seen, items_seen}
-use Rattle.row_rules.specs.DecidedCancel.{cancelled_row, other_orders, cancel_put, cancel_dropped, cancel_seen, cancel_changes}
+use Rattle.order_rules.specs.DecidedCancel.{cancelled_row, other_orders, cancel_put, cancel_dropped, cancel_seen, cancel_changes}
 use Rattle.row_rules.specs.declared.slice.Slice.{Slice}
 use Rattle.row_rules.specs.declared.slice.Change.{Change}
 use Rattle.row_rules.specs.declared.slice.RuleFault.{RuleFault}

@@ -10,7 +10,7 @@ use Rattle.machine.specs.Once.{IsHistory}
 use Rattle.machine.specs.Tables.{tables_of}
 use Rattle.rules.specs.Slices.{IsSlice}
 use Rattle.machine.specs.Verdict.{first_refusal, verdict}
-use Rattle.row_rules.specs.DecidedCancel.{cancel_seen}
+use Rattle.order_rules.specs.DecidedCancel.{cancel_seen}
 use Rattle.row_rules.specs.declared.slice.Slice.{Slice}
 use Rattle.machine.proofs.Tests.{same_text_refl}
 use Rattle.rules.proofs.decided.Decisions.{acts_seen}

@@ -13,7 +13,7 @@ use Rattle.machine.specs.Tables.{tables_of, order_row, line_row}
 use Rattle.machine.specs.Touched.{is_touched}
 use Rattle.machine.specs.KeyedRows.{AreRows, same_line}
 use Rattle.rules.specs.Slices.{IsSlice}
-use Rattle.row_rules.specs.DecidedCancel.{other_orders}
+use Rattle.order_rules.specs.DecidedCancel.{other_orders}
 use Rattle.row_rules.specs.declared.slice.Slice.{Slice}
 use Rattle.machine.proofs.Tests.{and_both, not_true, same_text_is, same_text_turned}
 use Rattle.rules.proofs.rows.AfterRows.{loosened}

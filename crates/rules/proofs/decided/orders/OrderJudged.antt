@@ -20,7 +20,7 @@ use Rattle.machine.specs.Touched.{is_touched}
 use Rattle.rules.specs.Slices.{IsSlice}
 use Rattle.row_rules.specs.Seen.{capped}
 use Rattle.machine.specs.Verdict.{first_refusal, verdict, names_item_twice}
-use Rattle.row_rules.specs.DecidedOrder.{order_seen, misses_item, orders_too_much, open_units_of}
+use Rattle.order_rules.specs.DecidedOrder.{order_seen, misses_item, orders_too_much, open_units_of}
 use Rattle.row_rules.specs.declared.slice.Slice.{Slice}
 use Rattle.machine.proofs.Tests.{or_later, same_text_refl}
 use Rattle.rules.proofs.decided.Decisions.{acts_seen}

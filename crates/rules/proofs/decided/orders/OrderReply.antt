@@ -22,7 +22,7 @@ use Rattle.machine.specs.Tables.{tables_of}
 use Rattle.machine.specs.Verdict.{names_item_twice}
 use Rattle.rules.specs.Slices.{IsSlice}
 use Rattle.row_rules.specs.Seen.{capped, number_seen}
-use Rattle.row_rules.specs.DecidedOrder.{plan_with_order, short_seen, order_reply}
+use Rattle.order_rules.specs.DecidedOrder.{plan_with_order, short_seen, order_reply}
 use Rattle.row_rules.specs.declared.slice.Slice.{Slice}
 use Rattle.machine.proofs.Tests.{and_both, or_none, same_text_refl, same_text_turned}
 use Rattle.machine.proofs.histories.Quantities.{at_most_limit}

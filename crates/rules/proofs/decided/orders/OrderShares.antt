@@ -14,7 +14,7 @@ use Rattle.machine.specs.Verdict.{names_item_twice}
 use Rattle.machine.specs.KeyedRows.{no_two}
 use Rattle.rules.specs.Slices.{IsSlice}
 use Rattle.row_rules.specs.Plans.{is_share_of}
-use Rattle.row_rules.specs.DecidedOrder.{order_rows_after, line_rows_after, order_rows_to_put, order_rows_to_drop}
+use Rattle.order_rules.specs.DecidedOrder.{order_rows_after, line_rows_after, order_rows_to_put, order_rows_to_drop}
 use Rattle.row_rules.specs.declared.slice.Slice.{Slice}
 use Rattle.machine.proofs.Tests.{or_none}
 use Rattle.rules.proofs.rows.TableSteps.{AreNamed}

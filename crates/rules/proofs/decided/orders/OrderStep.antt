@@ -21,7 +21,7 @@ use Rattle.machine.specs.Once.{IsHistory}
 use Rattle.machine.specs.Tables.{tables_of, meta_row, order_row, line_row, reserved_row}
 use Rattle.rules.specs.Slices.{applied, tables_but_repeats, changed, unless_put}
 use Rattle.row_rules.specs.Seen.{no_rows}
-use Rattle.row_rules.specs.DecidedOrder.{new_line_rows}
+use Rattle.order_rules.specs.DecidedOrder.{new_line_rows}
 use Rattle.row_rules.specs.declared.slice.Change.{Change}
 use Rattle.machine.proofs.Tests.{same_text_is}
 use Rattle.machine.proofs.histories.Orders.{found_order}

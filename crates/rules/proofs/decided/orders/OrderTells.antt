@@ -23,7 +23,7 @@ use Rattle.machine.specs.KeyedRows.{AreRows, OrderItem, no_two, same_line}
 use Rattle.rules.specs.Slices.{IsSlice, has_touched_line, names_order}
 use Rattle.row_rules.specs.Seen.{number_seen}
 use Rattle.row_rules.specs.Plans.{demands_seen, supplies_seen, plan_within}
-use Rattle.row_rules.specs.DecidedOrder.{new_order_row, new_line_rows, order_rows_after, line_rows_after, plan_with_order}
+use Rattle.order_rules.specs.DecidedOrder.{new_order_row, new_line_rows, order_rows_after, line_rows_after, plan_with_order}
 use Rattle.row_rules.specs.declared.slice.Slice.{Slice}
 use Rattle.machine.proofs.Tests.{and_both, and_false, or_first, or_later, or_none, same_text_is, same_text_refl, same_text_turned}
 use Rattle.machine.proofs.histories.Quantities.{at_least_one}

@@ -9,7 +9,7 @@ use Rattle.machine.specs.Once.{IsHistory}
 use Rattle.machine.specs.Tables.{tables_of}
 use Rattle.rules.specs.Slices.{IsSlice, applied}
 use Rattle.row_rules.specs.Seen.{no_rows}
-use Rattle.row_rules.specs.DecidedOrder.{new_line_rows, order_rows_to_put, order_rows_to_drop, order_reply, order_seen, order_changes}
+use Rattle.order_rules.specs.DecidedOrder.{new_line_rows, order_rows_to_put, order_rows_to_drop, order_reply, order_seen, order_changes}
 use Rattle.row_rules.specs.declared.slice.Slice.{Slice}
 use Rattle.row_rules.specs.declared.slice.Change.{Change}
 use Rattle.row_rules.specs.declared.slice.RuleFault.{RuleFault}

@@ -19,7 +19,7 @@ use Rattle.machine.specs.KeyedRows.{AreRows, AreOwn, OrderItem, same_line}
 use Rattle.rules.specs.Slices.{IsSlice, changed, unless_put}
 use Rattle.machine.specs.Verdict.{names_item_twice}
 use Rattle.row_rules.specs.SeenOrders.{order_row_seen}
-use Rattle.row_rules.specs.DecidedShip.{line_shipped, lines_shipped, lacks_units, done_row, order_put}
+use Rattle.order_rules.specs.DecidedShip.{line_shipped, lines_shipped, lacks_units, done_row, order_put}
 use Rattle.row_rules.specs.declared.slice.Slice.{Slice}
 use Rattle.rules.proofs.decided.orders.OrderReply.{single_apart}
 use Rattle.machine.proofs.Tests.{and_both, or_none, not_false, same_text_is, same_text_refl, same_text_turned}

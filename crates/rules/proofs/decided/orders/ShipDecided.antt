@@ -20,7 +20,7 @@ use Rattle.machine.specs.KeyedRows.{no_two}
 use Rattle.rules.specs.Slices.{IsSlice}
 use Rattle.row_rules.specs.Seen.{number_seen}
 use Rattle.row_rules.specs.SeenOrders.{order_row_seen}
-use Rattle.row_rules.specs.DecidedShip.{ship_seen, shipment_seen, lines_shipped, line_shipped, rows_shipped, lacks_units, order_put, shipline, ship_card, ship_reply, ship_changes}
+use Rattle.order_rules.specs.DecidedShip.{ship_seen, shipment_seen, lines_shipped, line_shipped, rows_shipped, lacks_units, order_put, shipline, ship_card, ship_reply, ship_changes}
 use Rattle.row_rules.specs.declared.slice.Slice.{Slice}
 use Rattle.row_rules.specs.declared.slice.Change.{Change}
 use Rattle.row_rules.specs.declared.slice.RuleFault.{RuleFault}

@@ -22,9 +22,8 @@ use Rattle.machine.specs.Cards.{cards, card_lines, lot_units_in_house}
 use Rattle.machine.specs.Once.{IsHistory}
 use Rattle.machine.specs.Tables.{tables_of, if_any, stock_row, staged_row, shipment_row, shipline_row, card_row}
 use Rattle.rules.specs.Slices.{IsSlice, applied, tables_but_repeats, changed, unless_put}
-use Rattle.row_rules.specs.Seen.{number_seen}
-use Rattle.row_rules.specs.Decided.{lot_units}
-use Rattle.row_rules.specs.DecidedShip.{shipment_seen, rows_shipped, shipment_put, shipline, ship_card, ship_changes}
+use Rattle.row_rules.specs.Seen.{number_seen, lot_units}
+use Rattle.order_rules.specs.DecidedShip.{shipment_seen, rows_shipped, shipment_put, shipline, ship_card, ship_changes}
 use Rattle.row_rules.specs.declared.slice.Slice.{Slice}
 use Rattle.machine.proofs.Tests.{or_none, and_false, is_lot_is, is_lot_refl, same_text_refl}
 use Rattle.machine.proofs.Apart.{AreApart, any_found}

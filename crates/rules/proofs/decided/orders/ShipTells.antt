@@ -24,7 +24,7 @@ use Rattle.rules.specs.Slices.{IsSlice, changed, unless_put}
 use Rattle.row_rules.specs.Seen.{capped, number_seen}
 use Rattle.row_rules.specs.Plans.{staged_seen}
 use Rattle.row_rules.specs.SeenOrders.{lines_seen}
-use Rattle.row_rules.specs.DecidedShip.{shipment_seen, meta_shipped, rows_shipped, line_shipped, lines_shipped}
+use Rattle.order_rules.specs.DecidedShip.{shipment_seen, meta_shipped, rows_shipped, line_shipped, lines_shipped}
 use Rattle.row_rules.specs.declared.slice.Slice.{Slice}
 use Rattle.machine.proofs.Tests.{and_both, same_text_is, same_text_refl, is_lot_is}
 use Rattle.machine.proofs.Apart.{any_found}

@@ -12,9 +12,9 @@ use Rattle.machine.specs.Standing.{lot_known, today}
 use Rattle.machine.specs.Once.{IsHistory}
 use Rattle.machine.specs.Tables.{tables_of}
 use Rattle.rules.specs.Slices.{IsSlice}
-use Rattle.row_rules.specs.Seen.{lot_seen}
+use Rattle.row_rules.specs.Seen.{lot_seen, is_past_row}
 use Rattle.machine.specs.Verdict.{first_refusal, verdict, is_past}
-use Rattle.row_rules.specs.DecidedPick.{is_past_row, pick_seen}
+use Rattle.order_rules.specs.DecidedPick.{pick_seen}
 use Rattle.row_rules.specs.declared.slice.Slice.{Slice}
 use Rattle.machine.proofs.Tests.{same_text_refl}
 use Rattle.rules.proofs.decided.Decisions.{acts_seen, day_seen}

@@ -22,7 +22,7 @@ use Rattle.rules.specs.Slices.{IsSlice, applied, tables_but_repeats, changed, na
 use Rattle.row_rules.specs.SeenLots.{stock_put, stock_gone}
 use Rattle.row_rules.specs.SeenStages.{staged_put, staged_gone}
 use Rattle.row_rules.specs.Plans.{rows_to_put, rows_to_drop}
-use Rattle.row_rules.specs.DecidedPick.{shares_with, changes_with}
+use Rattle.order_rules.specs.DecidedPick.{shares_with, changes_with}
 use Rattle.row_rules.specs.declared.slice.Slice.{Slice}
 use Rattle.machine.proofs.histories.Balances.{balance-elsewhere, balance-elsewhere_of}
 use Rattle.rules.proofs.rows.TableSteps.{AreNamed, same_tables, reserved_changed}

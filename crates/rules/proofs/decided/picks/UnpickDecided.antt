@@ -16,7 +16,7 @@ use Rattle.rules.specs.Slices.{IsSlice}
 use Rattle.row_rules.specs.Seen.{capped}
 use Rattle.row_rules.specs.SeenLots.{in_bin_seen}
 use Rattle.row_rules.specs.SeenStages.{on_stage_seen}
-use Rattle.row_rules.specs.DecidedPick.{unpick_seen, unpick_changes}
+use Rattle.order_rules.specs.DecidedPick.{unpick_seen, unpick_changes}
 use Rattle.row_rules.specs.declared.slice.Slice.{Slice}
 use Rattle.row_rules.specs.declared.slice.Change.{Change}
 use Rattle.row_rules.specs.declared.slice.RuleFault.{RuleFault}

@@ -11,7 +11,7 @@ use Rattle.machine.specs.Acts.{Act}
 use Rattle.machine.specs.Tables.{tables_of}
 use Rattle.rules.specs.Slices.{IsSlice}
 use Rattle.machine.specs.Verdict.{first_refusal, verdict}
-use Rattle.row_rules.specs.DecidedPick.{unpick_seen}
+use Rattle.order_rules.specs.DecidedPick.{unpick_seen}
 use Rattle.row_rules.specs.declared.slice.Slice.{Slice}
 use Rattle.machine.proofs.Tests.{same_text_refl}
 use Rattle.rules.proofs.decided.Decisions.{acts_seen}

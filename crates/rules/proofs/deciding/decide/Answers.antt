@@ -1,13 +1,14 @@
 use Rattle.commands.specs.declared.command.Command.TheVariants.{Item, Bin, Receive, Move, Order, Cancel, Pick, Unpick, Hold, Release, Recall, Count, Adjust, Ship, OpenDay}
-use Rattle.row_rules.specs.Decided.{item_seen, item_changes, bin_seen, bin_changes, receive_seen, receive_changes}
-use Rattle.row_rules.specs.DecidedMove.{move_seen, move_changes}
-use Rattle.row_rules.specs.DecidedOrder.{order_seen, order_changes}
-use Rattle.row_rules.specs.DecidedCancel.{cancel_seen, cancel_changes}
-use Rattle.row_rules.specs.DecidedPick.{pick_seen, pick_changes, unpick_seen, unpick_changes}
-use Rattle.row_rules.specs.DecidedHold.{hold_seen, hold_changes, release_seen, release_changes, recall_seen, recall_changes}
-use Rattle.row_rules.specs.DecidedCount.{count_seen, count_changes, adjust_seen, adjust_changes}
-use Rattle.row_rules.specs.DecidedShip.{ship_seen, ship_changes}
-use Rattle.row_rules.specs.DecidedDay.{day_judged, day_changes}
+use Rattle.goods_rules.specs.DecidedSetup.{item_seen, item_changes, bin_seen, bin_changes}
+use Rattle.goods_rules.specs.DecidedReceive.{receive_seen, receive_changes}
+use Rattle.goods_rules.specs.DecidedMove.{move_seen, move_changes}
+use Rattle.order_rules.specs.DecidedOrder.{order_seen, order_changes}
+use Rattle.order_rules.specs.DecidedCancel.{cancel_seen, cancel_changes}
+use Rattle.order_rules.specs.DecidedPick.{pick_seen, pick_changes, unpick_seen, unpick_changes}
+use Rattle.lot_rules.specs.DecidedHold.{hold_seen, hold_changes, release_seen, release_changes, recall_seen, recall_changes}
+use Rattle.goods_rules.specs.DecidedCount.{count_seen, count_changes, adjust_seen, adjust_changes}
+use Rattle.order_rules.specs.DecidedShip.{ship_seen, ship_changes}
+use Rattle.lot_rules.specs.DecidedDay.{day_judged, day_changes}
 use Rattle.rules.proofs.decided.Decisions.{decided_as, reserved_as}
 use Rattle.rules.proofs.decided.SetupDecided.{items_right, bins_right}
 use Rattle.rules.proofs.decided.goods.ReceiveDecided.{receives_right}

@@ -1,4 +1,4 @@
-use Rattle.std.proofs.Common.{ℕ, List, subst, ◌∙◌, arith}
+use Rattle.std.proofs.Common.{ℕ, List, refl, subst, ◌∙◌, arith}
 use Rattle.sqlite.specs.State.{HasCleanDisk}
 use Rattle.sqlite.specs.Held.{state}
 use Rattle.commands.specs.Spelling.{key_text}
@@ -24,6 +24,9 @@ returns-clause-done g c clean ready once =
     subst (λ (s : List ℕ). Goes (λ t. with_repeat (record { k = key_text c.args.key.now; act = change.meta.acts; spell = s; reply = change.text }) (applied change t)) old new)
     (c.from_vec.ensures ∙ c.in_ok-spelled.ensures)
     (goes_then (applied change) (with_repeat (record { k = key_text c.args.key.now; act = change.meta.acts; spell = c.from_vec.result; reply = change.text })) old mid new wrote (c.in_ok-keep_act.ensures.done clean wrote.ready))
+
+pub returns-clause-told : goal.returns-clause-told
+returns-clause-told g c = refl
 
 pub returns-clause-kept : goal.returns-clause-kept
 returns-clause-kept g c clean =

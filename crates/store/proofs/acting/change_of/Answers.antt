@@ -1,6 +1,4 @@
-use Rattle.std.proofs.Common.{◌≡◌, Err, Result, arith}
 use Rattle.machine.specs.Acts.{Act}
-use Rattle.row_rules.specs.declared.slice.Change.{Change}
 use Rattle.store.specs.Acting.{IsDecided}
 use Rattle.store.specs.Faults.{fault_of}
 use Rattle.store.proofs.FaultsTold.{by_error}

@@ -1,4 +1,4 @@
-use Rattle.std.proofs.Common.{◌≡◌, Err, sym, subst}
+use Rattle.std.proofs.Common.{Err, sym, subst}
 use Rattle.machine.specs.Acts.{Act}
 use Rattle.store.specs.Acting.{IsDecided}
 use Rattle.store.specs.declared.fault.Fault.{Fault}

@@ -1,5 +1,5 @@
 use Rattle.std.proofs.Common.{subst}
-use Rattle.wire.specs.Requests.{IsReading}
+use Rattle.requests.specs.Requests.{IsReading}
 use Rattle.house.proofs.Stepping.{told_fault, asked, in_place}
 use Rattle.house.proofs.house.House.answer_reading.Goals as goal
 

@@ -1,0 +1,11 @@
+use Rattle.goods_rules.specs.DecidedCount.{corrections, count_changes}
+use Rattle.row_rules.proofs.Making.{made_same}
+use Rattle.goods_rules.proofs.counts.change_count.Goals as goal
+
+pub returns : goal.returns
+returns c =
+    let s = c.args.slice.now in
+    let made = c.counted-made.result in
+    let is = c.counted-made.ensures in
+    made_same c.corrections.result (corrections s made.lot made.bin made.left made.change) (count_changes s c.args.c.now) c.corrections.ensures
+    (λ i. corrections s (is.lot i) (is.bin i) (is.left i) (is.change i))

@@ -1,0 +1,78 @@
+-- What is decided of a receipt: the conditions judged, and the rows changed.
+use Rattle.std.specs.Prelude.{◌+◌, false, not, ◌&&◌, nat_le, List, [], ◌∷◌, ◌++◌, filter, find, Option, Some, None, pos}
+use Rattle.commands.specs.declared.limits.TheConstants.{ACTS_MAX}
+use Rattle.commands.specs.declared.refusal.Refusal.TheVariants.{ActsFull, UnknownItem, UnknownBin, OtherExpiry, LotRecalled, LotExpired, OverUnits}
+use Rattle.values.specs.Values.{same_text}
+use Rattle.commands.specs.declared.key.Key.{Key}
+use Rattle.commands.specs.declared.command.Receipt.{Receipt}
+use Rattle.commands.specs.declared.rows.CardKind.TheVariants.{Receipt as ReceiptCard}
+use Rattle.commands.specs.declared.rows.CardRow.{CardRow}
+use Rattle.commands.specs.declared.rows.LotRow.{LotRow}
+use Rattle.commands.specs.declared.rows.StockRow.{StockRow}
+use Rattle.commands.specs.declared.rows.ReservedRow.{ReservedRow}
+use Rattle.machine.specs.Verdict.{Judgement}
+use Rattle.machine.specs.Postings.{is_lot}
+use Rattle.machine.specs.Standing.{is_expired}
+use Rattle.machine.specs.Cards.{delivery_note}
+use Rattle.row_rules.specs.Seen.{capped, sees_item, sees_bin, lot_seen, sees_recall, expires_otherwise_than, is_over, number_seen, meta_after, plain_reply, no_rows, stock_qty, lot_units}
+use Rattle.row_rules.specs.Plans.{shares_over, rows_to_put, rows_to_drop}
+use Rattle.row_rules.specs.declared.slice.Slice.{Slice}
+use Rattle.row_rules.specs.declared.slice.Change.{Change}
+
+abbrev pub receive_seen : Slice → Receipt → Judgement
+receive_seen s r =
+    (nat_le ACTS_MAX s.meta.acts, ActsFull)
+    ∷ (not (sees_item s r.lot.gtin), UnknownItem)
+    ∷ (not (sees_bin s r.bin), UnknownBin)
+    ∷ (expires_otherwise_than (lot_seen s r.lot) r.expiry, OtherExpiry)
+    ∷ (sees_recall s r.lot, LotRecalled)
+    ∷ (is_expired s.meta.day r.expiry, LotExpired)
+    ∷ (is_over s r.lot.gtin r.qty, OverUnits) ∷ []
+
+abbrev pub stock_after : Slice → Receipt → StockRow
+stock_after s r = record {
+  lot = r.lot;
+  bin = r.bin;
+  qty = capped (stock_qty (find (λ q. is_lot r.lot q.lot && same_text r.bin q.bin) s.rows.stock) + r.qty);
+}
+
+-- the stock rows with this one in the place of that under its key
+abbrev pub stock_rows_after : Slice → Receipt → List StockRow
+stock_rows_after s r = stock_after s r ∷ filter (λ q. not (is_lot r.lot q.lot && same_text r.bin q.bin)) s.rows.stock
+
+abbrev pub lots_if_new : Option LotRow → LotRow → List LotRow
+lots_if_new None row = row ∷ []
+lots_if_new (Some k) row = []
+
+abbrev pub new_lot_row : Slice → Receipt → LotRow
+new_lot_row s r = record { lot = r.lot; expiry = r.expiry; came = number_seen s; held = false }
+
+abbrev pub lots_put : Slice → Receipt → List LotRow
+lots_put s r = lots_if_new (lot_seen s r.lot) (new_lot_row s r)
+
+abbrev pub lot_rows_after : Slice → Receipt → List LotRow
+lot_rows_after s r = lots_put s r ++ s.rows.lots
+
+-- the reserved rows of the item after the receipt
+abbrev pub receive_shares : Slice → Receipt → List ReservedRow
+receive_shares s r =
+    shares_over r.lot.gtin s.meta.day s.rows.orders s.rows.lines s.rows.staged (lot_rows_after s r) s.rows.recalls s.rows.bins (stock_rows_after s r)
+
+abbrev pub receive_card : Slice → Key → Receipt → CardRow
+receive_card s key r = record {
+  lot = r.lot;
+  act = number_seen s;
+  day = s.meta.day;
+  kind = ReceiptCard;
+  note = delivery_note key;
+  qty = pos r.qty;
+  rest = lot_units r.lot (stock_rows_after s r) s.rows.staged;
+}
+
+abbrev pub receive_changes : Slice → Key → Receipt → Change
+receive_changes s key r = record {
+  meta = meta_after s;
+  put = record no_rows { lots = lots_put s r; stock = stock_after s r ∷ []; reserved = rows_to_put s.rows.reserved (receive_shares s r); cards = receive_card s key r ∷ [] };
+  dropped = record no_rows { reserved = rows_to_drop r.lot.gtin s.rows.reserved (receive_shares s r) };
+  text = plain_reply s;
+}

@@ -1,0 +1,40 @@
+-- What is decided of a new item and of a new bin: the conditions judged, and the rows written.
+use Rattle.std.specs.Prelude.{◌||◌, nat_le, [], ◌∷◌}
+use Rattle.commands.specs.declared.limits.TheConstants.{ITEMS_MAX, BINS_MAX, ACTS_MAX}
+use Rattle.commands.specs.declared.refusal.Refusal.TheVariants.{ActsFull, ItemExists, BinExists}
+use Rattle.commands.specs.declared.command.NewItem.{NewItem}
+use Rattle.commands.specs.declared.command.NewBin.{NewBin}
+use Rattle.machine.specs.Verdict.{Judgement}
+use Rattle.row_rules.specs.Seen.{sees_item, sees_bin, meta_after, plain_reply, no_rows}
+use Rattle.row_rules.specs.declared.slice.Slice.{Slice}
+use Rattle.row_rules.specs.declared.slice.Change.{Change}
+
+-- Item
+
+abbrev pub item_seen : Slice → NewItem → Judgement
+item_seen s i =
+    (nat_le ACTS_MAX s.meta.acts, ActsFull)
+    ∷ (sees_item s i.gtin || nat_le ITEMS_MAX s.items, ItemExists) ∷ []
+
+abbrev pub item_changes : Slice → NewItem → Change
+item_changes s i = record {
+  meta = meta_after s;
+  put = record no_rows { items = record { gtin = i.gtin; name = i.name } ∷ [] };
+  dropped = no_rows;
+  text = plain_reply s;
+}
+
+-- Bin
+
+abbrev pub bin_seen : Slice → NewBin → Judgement
+bin_seen s b =
+    (nat_le ACTS_MAX s.meta.acts, ActsFull)
+    ∷ (sees_bin s b.bin || nat_le BINS_MAX s.bins, BinExists) ∷ []
+
+abbrev pub bin_changes : Slice → NewBin → Change
+bin_changes s b = record {
+  meta = meta_after s;
+  put = record no_rows { bins = record { name = b.bin; kind = b.kind } ∷ [] };
+  dropped = no_rows;
+  text = plain_reply s;
+}

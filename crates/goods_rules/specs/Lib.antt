@@ -1,0 +1,4 @@
+pub mod DecidedCount
+pub mod DecidedMove
+pub mod DecidedReceive
+pub mod DecidedSetup

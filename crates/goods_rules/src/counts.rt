@@ -1,0 +1,263 @@
+//! What a bin is found to have of a lot, counted or adjusted.
+
+ghost use Rattle.std.specs.Prelude.{◌≡◌, IfOk};
+ghost use Rattle.machine.specs.Verdict.{first_refusal, taken_off as taken_off_lem, put_on as put_on_lem};
+ghost use Rattle.row_rules.specs.SeenLots.{in_bin_seen};
+ghost use Rattle.goods_rules.specs.DecidedCount.{count_seen, count_changes, adjust_seen, adjust_changes, is_over_without as is_over_without_lem, found_less as found_less_lem, stock_corrected, shares_corrected as shares_corrected_lem, correction_card as correction_card_lem, correction_cards as correction_cards_lem, change_reply as change_reply_lem, corrections as corrections_lem, units_adjusted as units_adjusted_lem};
+
+use commands::limits::{ACTS_MAX, CARD_NOTE_MAX, UNITS_MAX};
+use commands::{
+    Adjustment, Buffer, CardKind, CardRow, Listed, Recount, Refusal, ReservedRow, Short, StockRow,
+};
+use row_rules::cards::lot_units;
+use row_rules::changing::{empty, meta_next, number_seen};
+use row_rules::judging::first_of;
+use row_rules::plans::{ItemRows, item_rows, rows_to_drop, rows_to_put, shares_over};
+use row_rules::seeing::{sees_bin, sees_item};
+use row_rules::stock::{sees_lot, stock_gone, stock_put, stock_rows_with, units_in_bin};
+use row_rules::summing::{sum_of_staged, sum_of_stock};
+use row_rules::{Change, Rows, Slice};
+use std::alloc::{AllocError, Global};
+use values::{Gtin, LotId, Name, Text};
+
+// Judging
+
+/// The refusal of a count, if it is refused.
+pub fn judge_count(slice: &Slice, c: &Recount) -> Option<Refusal>
+    ensures { result ≡ first_refusal (count_seen slice.now c.now) }
+{
+    let full = ACTS_MAX <= slice.meta.acts;
+    let known_item = sees_item(slice, &c.lot.gtin);
+    let known_bin = sees_bin(slice, &c.bin);
+    let known_lot = sees_lot(slice, &c.lot);
+    let have = units_in_bin(slice, &c.bin, &c.lot);
+    let over = is_over_without(slice, &c.lot.gtin, u64::from(c.qty.units()), have);
+    first_of(&[
+        (full, Refusal::ActsFull),
+        (!known_item, Refusal::UnknownItem),
+        (!known_bin, Refusal::UnknownBin),
+        (!known_lot, Refusal::UnknownLot),
+        (over, Refusal::OverUnits),
+    ])
+}
+
+/// The refusal of an adjustment, if it is refused.
+pub fn judge_adjust(slice: &Slice, a: &Adjustment) -> Option<Refusal>
+    ensures { result ≡ first_refusal (adjust_seen slice.now a.now) }
+{
+    let full = ACTS_MAX <= slice.meta.acts;
+    let known_item = sees_item(slice, &a.lot.gtin);
+    let known_bin = sees_bin(slice, &a.bin);
+    let known_lot = sees_lot(slice, &a.lot);
+    let have = units_in_bin(slice, &a.bin, &a.lot);
+    let more = put_on(a.change.change());
+    let fewer = taken_off(a.change.change());
+    let over = is_over_without(slice, &a.lot.gtin, more, fewer);
+    first_of(&[
+        (full, Refusal::ActsFull),
+        (!known_item, Refusal::UnknownItem),
+        (!known_bin, Refusal::UnknownBin),
+        (!known_lot, Refusal::UnknownLot),
+        (have < fewer, Refusal::NotInBin),
+        (over, Refusal::OverUnits),
+    ])
+}
+
+// Whether the item would exceed its limit with `more` units put in and `fewer` taken out.
+fn is_over_without(slice: &Slice, gtin: &Gtin, more: u64, fewer: u64) -> bool
+    ensures { result ≡ is_over_without_lem slice.now gtin.now more fewer }
+{
+    let stock = sum_of_stock(slice.rows.stock.as_slice(), gtin);
+    let staged = sum_of_staged(slice.rows.staged.as_slice(), gtin);
+    let house = stock.saturating_add(staged);
+    UNITS_MAX < house.saturating_add(more).saturating_sub(fewer)
+}
+
+fn put_on(change: i32) -> u64
+    ensures { result ≡ put_on_lem change }
+{
+    if change < 0 {
+        return 0;
+    }
+    u64::from(change.unsigned_abs())
+}
+
+fn taken_off(change: i32) -> u64
+    ensures { result ≡ taken_off_lem change }
+{
+    if change < 0 {
+        return u64::from(change.unsigned_abs());
+    }
+    0
+}
+
+// Changing
+
+/// What a bin has of a lot after units of it are written on or off.
+#[derive(Clone, Copy)]
+struct Correction {
+    lot: LotId,
+    bin: Name,
+    /// The units that are left in the bin.
+    left: u64,
+    /// The units written on, below 0 where they are written off.
+    change: i64,
+}
+
+/// What a count changes.
+pub fn change_count(alloc: Global, slice: &Slice, c: &Recount) -> Result<Change, AllocError>
+    ensures { IfOk result (λ change. change ≡ count_changes slice.now c.now) }
+{
+    let made = counted(slice, c);
+    corrections(alloc, slice, &made)
+}
+
+/// What an adjustment changes.
+pub fn change_adjust(alloc: Global, slice: &Slice, a: &Adjustment) -> Result<Change, AllocError>
+    ensures { IfOk result (λ change. change ≡ adjust_changes slice.now a.now) }
+{
+    let made = adjusted(slice, a);
+    corrections(alloc, slice, &made)
+}
+
+fn counted(slice: &Slice, c: &Recount) -> Correction
+    ensures lot { result.lot ≡ c.now.lot }
+    ensures bin { result.bin ≡ c.now.bin }
+    ensures left { result.left ≡ c.now.qty }
+    ensures change { result.change ≡ found_less_lem c.now.qty (in_bin_seen slice.now c.now.bin c.now.lot) }
+{
+    let have = units_in_bin(slice, &c.bin, &c.lot);
+    Correction {
+        lot: c.lot,
+        bin: c.bin,
+        left: u64::from(c.qty.units()),
+        change: found_less(c.qty.units(), have),
+    }
+}
+
+// What was found less what was there.
+fn found_less(found: u32, have: u64) -> i64
+    ensures { result ≡ found_less_lem found have }
+{
+    i64::from(found) - have.min(i64::MAX as u64) as i64
+}
+
+fn adjusted(slice: &Slice, a: &Adjustment) -> Correction
+    ensures lot { result.lot ≡ a.now.lot }
+    ensures bin { result.bin ≡ a.now.bin }
+    ensures left { result.left ≡ units_adjusted_lem slice.now a.now }
+    ensures change { result.change ≡ a.now.change }
+{
+    Correction {
+        lot: a.lot,
+        bin: a.bin,
+        left: units_adjusted(slice, a),
+        change: i64::from(a.change.change()),
+    }
+}
+
+fn units_adjusted(slice: &Slice, a: &Adjustment) -> u64
+    ensures { result ≡ units_adjusted_lem slice.now a.now }
+{
+    let have = units_in_bin(slice, &a.bin, &a.lot);
+    let more = put_on(a.change.change());
+    have.saturating_add(more)
+        .saturating_sub(taken_off(a.change.change()))
+}
+
+fn corrections(alloc: Global, slice: &Slice, made: &Correction) -> Result<Change, AllocError>
+    ensures { IfOk result (λ change. change ≡ corrections_lem slice.now made.now.lot made.now.bin made.now.left made.now.change) }
+{
+    let olds = slice.rows.stock.as_slice();
+    let stock = stock_rows_with(alloc, olds, &made.lot, &made.bin, made.left)?;
+    let shares = shares_corrected(alloc, slice, made, stock.as_slice())?;
+    let reserved = slice.rows.reserved.as_slice();
+    let cards = correction_cards(alloc, slice, made, stock.as_slice())?;
+    let put = Rows {
+        stock: Listed::from_vec(stock_put(alloc, &made.lot, &made.bin, made.left)?),
+        reserved: Listed::from_vec(rows_to_put(alloc, reserved, shares.as_slice())?),
+        cards: Listed::from_vec(cards),
+        ..empty(alloc)
+    };
+    let gone = rows_to_drop(alloc, &made.lot.gtin, reserved, shares.as_slice())?;
+    let stock_dropped = stock_gone(alloc, olds, &made.lot, &made.bin, made.left)?;
+    let dropped = Rows {
+        stock: Listed::from_vec(stock_dropped),
+        reserved: Listed::from_vec(gone),
+        ..empty(alloc)
+    };
+    Ok(Change {
+        meta: meta_next(slice),
+        put,
+        dropped,
+        text: change_reply(slice, made.change),
+    })
+}
+
+// The reserved rows of the item after it, after which these are the stock rows.
+fn shares_corrected(
+    alloc: Global,
+    slice: &Slice,
+    made: &Correction,
+    stock: &[StockRow],
+) -> Result<Vec<ReservedRow>, AllocError>
+    ensures { IfOk result (λ v. stock.now ≡ stock_corrected slice.now made.now.lot made.now.bin made.now.left → v.items ≡ shares_corrected_lem slice.now made.now.lot made.now.bin made.now.left) }
+{
+    let rows = ItemRows {
+        stock,
+        ..item_rows(&slice.rows)
+    };
+    shares_over(alloc, &made.lot.gtin, slice.meta.day, &rows)
+}
+
+// The card line of units written on or off, after which these are the stock rows.
+fn correction_cards(
+    alloc: Global,
+    slice: &Slice,
+    made: &Correction,
+    stock: &[StockRow],
+) -> Result<Vec<CardRow>, AllocError>
+    ensures { IfOk result (λ v. stock.now ≡ stock_corrected slice.now made.now.lot made.now.bin made.now.left → v.items ≡ correction_cards_lem slice.now made.now.lot made.now.bin made.now.left made.now.change) }
+{
+    let mut cards = Vec::new(alloc);
+    if 0 < made.change {
+        cards.push(correction_card(slice, made, CardKind::WriteOn, stock))?;
+    } else if made.change < 0 {
+        cards.push(correction_card(slice, made, CardKind::WriteOff, stock))?;
+    }
+    Ok(cards)
+}
+
+fn correction_card(slice: &Slice, made: &Correction, kind: CardKind, stock: &[StockRow]) -> CardRow
+    ensures { stock.now ≡ stock_corrected slice.now made.now.lot made.now.bin made.now.left → result ≡ correction_card_lem slice.now made.now.lot made.now.bin made.now.left made.now.change kind }
+{
+    CardRow {
+        lot: made.lot,
+        act: number_seen(slice),
+        day: slice.meta.day,
+        kind,
+        note: bin_note(&made.bin),
+        qty: made.change,
+        rest: lot_units(&made.lot, stock, slice.rows.staged.as_slice()),
+    }
+}
+
+// The reference of what is written on or off: the bin.
+fn bin_note(bin: &Name) -> Text<CARD_NOTE_MAX>
+    ensures { result ≡ bin.now }
+{
+    Text::new(bin.as_bytes()).unwrap()
+}
+
+// The reply with the change.
+fn change_reply(slice: &Slice, change: i64) -> Short
+    ensures { result ≡ change_reply_lem slice.now change }
+{
+    let mut text = Buffer::<96>::new();
+    text.push_all(b"{\"act\":");
+    text.push_decimal(number_seen(slice));
+    text.push_all(b",\"change\":");
+    text.push_signed(change);
+    text.push(b'}');
+    Short::of(&text)
+}

@@ -1,0 +1,229 @@
+//! Goods that come in.
+
+ghost use Rattle.std.specs.Prelude.{◌≡◌, ◌&&◌, ◌∷◌, not, filter, IfOk};
+ghost use Rattle.values.specs.Values.{same_text};
+ghost use Rattle.machine.specs.Postings.{is_lot};
+ghost use Rattle.machine.specs.Standing.{is_expired as is_expired_lem};
+ghost use Rattle.machine.specs.Verdict.{first_refusal};
+ghost use Rattle.row_rules.specs.Seen.{units_seen, expires_otherwise_than, is_over as is_over_lem};
+ghost use Rattle.goods_rules.specs.DecidedReceive.{receive_seen, receive_changes, receive_shares as receive_shares_lem, receive_card as receive_card_lem, stock_after as stock_after_lem, stock_rows_after as stock_rows_after_lem, lots_put as lots_put_lem, lots_if_new as lots_if_new_lem, new_lot_row as new_lot_row_lem, lot_rows_after as lot_rows_after_lem};
+
+use commands::limits::{ACTS_MAX, UNITS_MAX};
+use commands::{CardKind, CardRow, Key, Listed, LotRow, Receipt, Refusal, ReservedRow, StockRow};
+use label::Day;
+use row_rules::cards::{delivery_note, lot_units};
+use row_rules::changing::{empty, meta_next, number_seen, one, plain_reply};
+use row_rules::judging::first_of;
+use row_rules::looking::is_same_lot;
+use row_rules::plans::{ItemRows, item_rows, rows_to_drop, rows_to_put, shares_over};
+use row_rules::pushing::push_if;
+use row_rules::seeing::{lot_seen, sees_bin, sees_item, sees_recall};
+use row_rules::stock::units_in_bin;
+use row_rules::summing::{sum_of_staged, sum_of_stock};
+use row_rules::{Change, Rows, Slice};
+use std::alloc::{AllocError, Global};
+use values::{Gtin, LotId};
+
+/// The refusal of a receipt, if it is refused.
+pub fn judge_receive(slice: &Slice, r: &Receipt) -> Option<Refusal>
+    ensures { result ≡ first_refusal (receive_seen slice.now r.now) }
+{
+    let full = ACTS_MAX <= slice.meta.acts;
+    let known_item = sees_item(slice, &r.lot.gtin);
+    let known_bin = sees_bin(slice, &r.bin);
+    let other_expiry = expires_otherwise(lot_seen(slice, &r.lot), r.expiry);
+    let recalled = sees_recall(slice, &r.lot);
+    let expired = is_expired(slice, r.expiry);
+    let over = is_over(slice, &r.lot.gtin, u64::from(r.qty.units()));
+    first_of(&[
+        (full, Refusal::ActsFull),
+        (!known_item, Refusal::UnknownItem),
+        (!known_bin, Refusal::UnknownBin),
+        (other_expiry, Refusal::OtherExpiry),
+        (recalled, Refusal::LotRecalled),
+        (expired, Refusal::LotExpired),
+        (over, Refusal::OverUnits),
+    ])
+}
+
+fn is_expired(slice: &Slice, expiry: Day) -> bool
+    ensures { result ≡ is_expired_lem slice.now.meta.day expiry }
+{
+    expiry.number() < slice.meta.day.day().number()
+}
+
+fn is_over(slice: &Slice, gtin: &Gtin, more: u64) -> bool
+    ensures { result ≡ is_over_lem slice.now gtin.now more }
+{
+    UNITS_MAX < units_in_house(slice, gtin).saturating_add(more)
+}
+
+fn expires_otherwise(lot: Option<LotRow>, expiry: Day) -> bool
+    ensures { result ≡ expires_otherwise_than lot expiry }
+{
+    match lot {
+        None => false,
+        Some(row) => {
+            let day = row.expiry.number();
+            !(day <= expiry.number() && expiry.number() <= day)
+        }
+    }
+}
+
+// The units of an item in bins or staged.
+fn units_in_house(slice: &Slice, gtin: &Gtin) -> u64
+    ensures { result ≡ units_seen slice.now gtin.now }
+{
+    let stock = sum_of_stock(slice.rows.stock.as_slice(), gtin);
+    let staged = sum_of_staged(slice.rows.staged.as_slice(), gtin);
+    stock.saturating_add(staged)
+}
+
+/// What a receipt changes.
+pub fn change_receive(
+    alloc: Global,
+    slice: &Slice,
+    key: &Key,
+    r: &Receipt,
+) -> Result<Change, AllocError>
+    ensures { IfOk result (λ change. change ≡ receive_changes slice.now key.now r.now) }
+{
+    let stock = stock_rows_after(alloc, slice, r)?;
+    let shares = receive_shares(alloc, slice, r, stock.as_slice())?;
+    let reserved = slice.rows.reserved.as_slice();
+    let put = Rows {
+        lots: Listed::from_vec(lots_put(alloc, slice, r)?),
+        stock: one(alloc, stock_after(slice, r))?,
+        reserved: Listed::from_vec(rows_to_put(alloc, reserved, shares.as_slice())?),
+        cards: one(alloc, receive_card(slice, key, r, stock.as_slice()))?,
+        ..empty(alloc)
+    };
+    let gone = rows_to_drop(alloc, &r.lot.gtin, reserved, shares.as_slice())?;
+    let dropped = Rows {
+        reserved: Listed::from_vec(gone),
+        ..empty(alloc)
+    };
+    Ok(Change {
+        meta: meta_next(slice),
+        put,
+        dropped,
+        text: plain_reply(slice),
+    })
+}
+
+// The card line of a receipt, after which these are the stock rows.
+fn receive_card(slice: &Slice, key: &Key, r: &Receipt, stock: &[StockRow]) -> CardRow
+    ensures { stock.now ≡ stock_rows_after_lem slice.now r.now → result ≡ receive_card_lem slice.now key.now r.now }
+{
+    CardRow {
+        lot: r.lot,
+        act: number_seen(slice),
+        day: slice.meta.day,
+        kind: CardKind::Receipt,
+        note: delivery_note(key),
+        qty: i64::from(r.qty.units()),
+        rest: lot_units(&r.lot, stock, slice.rows.staged.as_slice()),
+    }
+}
+
+// The reserved rows of the item after a receipt, after which these are the stock rows.
+fn receive_shares(
+    alloc: Global,
+    slice: &Slice,
+    r: &Receipt,
+    stock: &[StockRow],
+) -> Result<Vec<ReservedRow>, AllocError>
+    ensures { IfOk result (λ v. stock.now ≡ stock_rows_after_lem slice.now r.now → v.items ≡ receive_shares_lem slice.now r.now) }
+{
+    let lots = lot_rows_after(alloc, slice, r)?;
+    let rows = ItemRows {
+        lots: lots.as_slice(),
+        stock,
+        ..item_rows(&slice.rows)
+    };
+    shares_over(alloc, &r.lot.gtin, slice.meta.day, &rows)
+}
+
+// The rows of lots with the lot that is received, if it is new.
+fn lot_rows_after(alloc: Global, slice: &Slice, r: &Receipt) -> Result<Vec<LotRow>, AllocError>
+    ensures { IfOk result (λ v. v.items ≡ lot_rows_after_lem slice.now r.now) }
+{
+    let mut rows = lots_put(alloc, slice, r)?;
+    rows.extend_from_slice(slice.rows.lots.as_slice())?;
+    Ok(rows)
+}
+
+fn lots_put(alloc: Global, slice: &Slice, r: &Receipt) -> Result<Vec<LotRow>, AllocError>
+    ensures { IfOk result (λ v. v.items ≡ lots_put_lem slice.now r.now) }
+{
+    let known = lot_seen(slice, &r.lot);
+    lots_if_new(alloc, known, new_lot_row(slice, r))
+}
+
+fn lots_if_new(alloc: Global, known: Option<LotRow>, row: LotRow) -> Result<Vec<LotRow>, AllocError>
+    ensures { IfOk result (λ v. v.items ≡ lots_if_new_lem known row) }
+{
+    let mut rows = Vec::new(alloc);
+    match known {
+        None => {
+            rows.push(row)?;
+            Ok(rows)
+        }
+        Some(_) => Ok(rows),
+    }
+}
+
+fn new_lot_row(slice: &Slice, r: &Receipt) -> LotRow
+    ensures { result ≡ new_lot_row_lem slice.now r.now }
+{
+    LotRow {
+        lot: r.lot,
+        expiry: r.expiry,
+        came: number_seen(slice),
+        held: false,
+    }
+}
+
+// The stock rows after a receipt.
+fn stock_rows_after(alloc: Global, slice: &Slice, r: &Receipt) -> Result<Vec<StockRow>, AllocError>
+    ensures { IfOk result (λ v. v.items ≡ stock_rows_after_lem slice.now r.now) }
+{
+    with_stock(alloc, slice.rows.stock.as_slice(), stock_after(slice, r))
+}
+
+fn stock_after(slice: &Slice, r: &Receipt) -> StockRow
+    ensures { result ≡ stock_after_lem slice.now r.now }
+{
+    StockRow {
+        lot: r.lot,
+        bin: r.bin,
+        qty: units_after(slice, r),
+    }
+}
+
+fn units_after(slice: &Slice, r: &Receipt) -> u64
+    ensures { result ≡ (stock_after_lem slice.now r.now).qty }
+{
+    units_in_bin(slice, &r.bin, &r.lot).saturating_add(u64::from(r.qty.units()))
+}
+
+// The stock rows with this one in the place of that under its key.
+fn with_stock(alloc: Global, rows: &[StockRow], new: StockRow) -> Result<Vec<StockRow>, AllocError>
+    ensures { IfOk result (λ v. v.items ≡ new ∷ filter (λ q. not (is_lot new.lot q.lot && same_text new.bin q.bin)) rows.now) }
+{
+    let mut after = Vec::new(alloc);
+    after.push(new)?;
+    for row in rows {
+        let same = is_same_stock(&new, row);
+        push_if(&mut after, !same, *row)?;
+    }
+    Ok(after)
+}
+
+fn is_same_stock(a: &StockRow, b: &StockRow) -> bool
+    ensures { result ≡ is_lot a.now.lot b.now.lot && same_text a.now.bin b.now.bin }
+{
+    let lot = is_same_lot(&a.lot, &b.lot);
+    let bin = a.bin == b.bin;
+    lot && bin
+}

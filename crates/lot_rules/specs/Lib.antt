@@ -1,0 +1,2 @@
+pub mod DecidedDay
+pub mod DecidedHold

@@ -1,0 +1,252 @@
+//! Lots that are held, released and recalled.
+
+ghost use Rattle.std.specs.Prelude.{◌≡◌, false, map, IfOk};
+ghost use Rattle.machine.specs.Verdict.{first_refusal};
+ghost use Rattle.lot_rules.specs.DecidedHold.{release_seen, release_changes, release_shares as release_shares_lem, hold_seen, hold_changes, hold_shares as hold_shares_lem, recall_seen, recall_changes, recall_shares as recall_shares_lem, new_recall_row as new_recall_row_lem, recall_rows_after as recall_rows_after_lem, with_hold as with_hold_lem, lot_rows_with_hold as lot_rows_with_hold_lem, lot_put as lot_put_lem};
+
+use crate::returning::{returning_change, shares_with_returned};
+use commands::limits::ACTS_MAX;
+use commands::{Listed, LotRow, RecallRow, Refusal, ReservedRow};
+use row_rules::changing::{empty, meta_next, number_seen, one, plain_reply};
+use row_rules::judging::first_of;
+use row_rules::looking::is_same_lot;
+use row_rules::plans::{ItemRows, item_rows, rows_to_drop, rows_to_put, shares_over};
+use row_rules::seeing::{lot_seen, sees_hold, sees_item, sees_recall};
+use row_rules::stock::sees_lot;
+use row_rules::{Change, Rows, Slice};
+use std::alloc::{AllocError, Global};
+use values::LotId;
+
+// Lots
+
+// The row of a lot, held or not if it is this lot's.
+fn with_hold(lot: &LotId, held: bool, row: LotRow) -> LotRow
+    ensures { result ≡ with_hold_lem lot.now held row }
+{
+    LotRow {
+        lot: row.lot,
+        expiry: row.expiry,
+        came: row.came,
+        held: if is_same_lot(lot, &row.lot) {
+            held
+        } else {
+            row.held
+        },
+    }
+}
+
+// The rows of lots, with this one held or not.
+fn lot_rows_with_hold(
+    alloc: Global,
+    slice: &Slice,
+    lot: &LotId,
+    held: bool,
+) -> Result<Vec<LotRow>, AllocError>
+    ensures { IfOk result (λ v. v.items ≡ lot_rows_with_hold_lem slice.now lot.now held) }
+{
+    lots_with_hold(alloc, slice.rows.lots.as_slice(), lot, held)
+}
+
+fn lots_with_hold(
+    alloc: Global,
+    rows: &[LotRow],
+    lot: &LotId,
+    held: bool,
+) -> Result<Vec<LotRow>, AllocError>
+    ensures { IfOk result (λ v. v.items ≡ map (with_hold_lem lot.now held) rows.now) }
+{
+    let mut after = Vec::new(alloc);
+    for row in rows {
+        after.push(with_hold(lot, held, *row))?;
+    }
+    Ok(after)
+}
+
+// The row of the lot, if it is known, held or not.
+fn lot_put(
+    alloc: Global,
+    lot: &LotId,
+    held: bool,
+    known: Option<LotRow>,
+) -> Result<Vec<LotRow>, AllocError>
+    ensures { IfOk result (λ v. v.items ≡ lot_put_lem lot.now held known) }
+{
+    let mut rows = Vec::new(alloc);
+    match known {
+        None => Ok(rows),
+        Some(row) => {
+            rows.push(with_hold(lot, held, row))?;
+            Ok(rows)
+        }
+    }
+}
+
+// Release
+
+/// The refusal of a release, if it is refused.
+pub fn judge_release(slice: &Slice, lot: &LotId) -> Option<Refusal>
+    ensures { result ≡ first_refusal (release_seen slice.now lot.now) }
+{
+    let full = ACTS_MAX <= slice.meta.acts;
+    let known_item = sees_item(slice, &lot.gtin);
+    let known_lot = sees_lot(slice, lot);
+    let recalled = sees_recall(slice, lot);
+    let held = sees_hold(slice, lot);
+    first_of(&[
+        (full, Refusal::ActsFull),
+        (!known_item, Refusal::UnknownItem),
+        (!known_lot, Refusal::UnknownLot),
+        (recalled, Refusal::LotRecalled),
+        (!held, Refusal::LotNotHeld),
+    ])
+}
+
+/// What a release changes.
+pub fn change_release(alloc: Global, slice: &Slice, lot: &LotId) -> Result<Change, AllocError>
+    ensures { IfOk result (λ change. change ≡ release_changes slice.now lot.now) }
+{
+    let lots = lot_rows_with_hold(alloc, slice, lot, false)?;
+    let shares = release_shares(alloc, slice, lot, lots.as_slice())?;
+    let reserved = slice.rows.reserved.as_slice();
+    let put = Rows {
+        lots: Listed::from_vec(lot_put(alloc, lot, false, lot_seen(slice, lot))?),
+        reserved: Listed::from_vec(rows_to_put(alloc, reserved, shares.as_slice())?),
+        ..empty(alloc)
+    };
+    let gone = rows_to_drop(alloc, &lot.gtin, reserved, shares.as_slice())?;
+    let dropped = Rows {
+        reserved: Listed::from_vec(gone),
+        ..empty(alloc)
+    };
+    Ok(Change {
+        meta: meta_next(slice),
+        put,
+        dropped,
+        text: plain_reply(slice),
+    })
+}
+
+// The reserved rows of the item after a release, after which these are the rows of lots.
+fn release_shares(
+    alloc: Global,
+    slice: &Slice,
+    lot: &LotId,
+    lots: &[LotRow],
+) -> Result<Vec<ReservedRow>, AllocError>
+    ensures { IfOk result (λ v. lots.now ≡ lot_rows_with_hold_lem slice.now lot.now false → v.items ≡ release_shares_lem slice.now lot.now) }
+{
+    let rows = ItemRows {
+        lots,
+        ..item_rows(&slice.rows)
+    };
+    shares_over(alloc, &lot.gtin, slice.meta.day, &rows)
+}
+
+// Hold
+
+/// The refusal of a hold, if it is refused.
+pub fn judge_hold(slice: &Slice, lot: &LotId) -> Option<Refusal>
+    ensures { result ≡ first_refusal (hold_seen slice.now lot.now) }
+{
+    let full = ACTS_MAX <= slice.meta.acts;
+    let known_item = sees_item(slice, &lot.gtin);
+    let known_lot = sees_lot(slice, lot);
+    let recalled = sees_recall(slice, lot);
+    let held = sees_hold(slice, lot);
+    first_of(&[
+        (full, Refusal::ActsFull),
+        (!known_item, Refusal::UnknownItem),
+        (!known_lot, Refusal::UnknownLot),
+        (recalled, Refusal::LotRecalled),
+        (held, Refusal::LotHeld),
+    ])
+}
+
+/// What a hold changes.
+pub fn change_hold(alloc: Global, slice: &Slice, lot: &LotId) -> Result<Change, AllocError>
+    ensures { IfOk result (λ change. change ≡ hold_changes slice.now lot.now) }
+{
+    let shares = hold_shares(alloc, slice, lot)?;
+    let lots = lot_put(alloc, lot, true, lot_seen(slice, lot))?;
+    returning_change(
+        alloc,
+        slice,
+        lot,
+        Listed::from_vec(lots),
+        Listed::from_vec(Vec::new(alloc)),
+        shares.as_slice(),
+    )
+}
+
+// The reserved rows of the item after a hold.
+fn hold_shares(alloc: Global, slice: &Slice, lot: &LotId) -> Result<Vec<ReservedRow>, AllocError>
+    ensures { IfOk result (λ v. v.items ≡ hold_shares_lem slice.now lot.now) }
+{
+    let lots = lot_rows_with_hold(alloc, slice, lot, true)?;
+    let recalls = slice.rows.recalls.as_slice();
+    shares_with_returned(alloc, slice, lot, lots.as_slice(), recalls)
+}
+
+// Recall
+
+/// The refusal of a recall, if it is refused.
+pub fn judge_recall(slice: &Slice, lot: &LotId) -> Option<Refusal>
+    ensures { result ≡ first_refusal (recall_seen slice.now lot.now) }
+{
+    let full = ACTS_MAX <= slice.meta.acts;
+    let known_item = sees_item(slice, &lot.gtin);
+    let recalled = sees_recall(slice, lot);
+    first_of(&[
+        (full, Refusal::ActsFull),
+        (!known_item, Refusal::UnknownItem),
+        (recalled, Refusal::AlreadyRecalled),
+    ])
+}
+
+/// What a recall changes.
+pub fn change_recall(alloc: Global, slice: &Slice, lot: &LotId) -> Result<Change, AllocError>
+    ensures { IfOk result (λ change. change ≡ recall_changes slice.now lot.now) }
+{
+    let shares = recall_shares(alloc, slice, lot)?;
+    let recalls = one(alloc, new_recall_row(slice, lot))?;
+    returning_change(
+        alloc,
+        slice,
+        lot,
+        Listed::from_vec(Vec::new(alloc)),
+        recalls,
+        shares.as_slice(),
+    )
+}
+
+fn new_recall_row(slice: &Slice, lot: &LotId) -> RecallRow
+    ensures { result ≡ new_recall_row_lem slice.now lot.now }
+{
+    RecallRow {
+        lot: *lot,
+        act: number_seen(slice),
+    }
+}
+
+// The rows of recalls with the lot that is recalled.
+fn recall_rows_after(
+    alloc: Global,
+    slice: &Slice,
+    lot: &LotId,
+) -> Result<Vec<RecallRow>, AllocError>
+    ensures { IfOk result (λ v. v.items ≡ recall_rows_after_lem slice.now lot.now) }
+{
+    let mut rows = Vec::new(alloc);
+    rows.push(new_recall_row(slice, lot))?;
+    rows.extend_from_slice(slice.rows.recalls.as_slice())?;
+    Ok(rows)
+}
+
+// The reserved rows of the item after a recall.
+fn recall_shares(alloc: Global, slice: &Slice, lot: &LotId) -> Result<Vec<ReservedRow>, AllocError>
+    ensures { IfOk result (λ v. v.items ≡ recall_shares_lem slice.now lot.now) }
+{
+    let recalls = recall_rows_after(alloc, slice, lot)?;
+    let lots = slice.rows.lots.as_slice();
+    shares_with_returned(alloc, slice, lot, lots, recalls.as_slice())
+}

@@ -1,0 +1,201 @@
+//! Staged units of a lot that go to the bin RETURNS, as the lot stops being shippable.
+
+ghost use Rattle.std.specs.Prelude.{◌≡◌, not, filter, IfOk};
+ghost use Rattle.machine.specs.Postings.{is_lot};
+ghost use Rattle.machine.specs.Standing.{RETURNS};
+ghost use Rattle.lot_rules.specs.DecidedHold.{staged_of_seen, staged_kept as staged_kept_lem, staged_returned as staged_returned_lem, units_in_returns as units_in_returns_lem, returned_put as returned_put_lem, stock_with_returned as stock_with_returned_lem, bins_with_returns as bins_with_returns_lem, returns_bin_row as returns_bin_row_lem, shares_with_returned as shares_with_returned_lem, returned_reply as returned_reply_lem, returning_change as returning_change_lem};
+
+use commands::{
+    BinKind, BinRow, Buffer, Listed, LotRow, RecallRow, ReservedRow, Short, StagedRow, StockRow,
+};
+use row_rules::changing::{empty, meta_next, number_seen};
+use row_rules::looking::is_same_lot;
+use row_rules::plans::{ItemRows, item_rows, rows_to_drop, rows_to_put, shares_over};
+use row_rules::pushing::push_if;
+use row_rules::stock::{stock_put, stock_rows_with, units_in_bin};
+use row_rules::summing::sum_of_lot_staged;
+use row_rules::{Change, Rows, Slice};
+use std::alloc::{AllocError, Global};
+use values::{LotId, Name};
+
+// The bin RETURNS, which is there from the start and is a HOLD bin.
+
+fn returns() -> Name
+    ensures { result ≡ RETURNS }
+{
+    Name::new(b"RETURNS").unwrap()
+}
+
+fn returns_bin_row() -> BinRow
+    ensures { result ≡ returns_bin_row_lem }
+{
+    BinRow {
+        name: returns(),
+        kind: BinKind::Hold,
+    }
+}
+
+/// The rows of bins with that of RETURNS, which units of the lot may come into for the first time.
+pub fn bins_with_returns(alloc: Global, slice: &Slice) -> Result<Vec<BinRow>, AllocError>
+    ensures { IfOk result (λ v. v.items ≡ bins_with_returns_lem slice.now) }
+{
+    let mut rows = Vec::new(alloc);
+    rows.push(returns_bin_row())?;
+    rows.extend_from_slice(slice.rows.bins.as_slice())?;
+    Ok(rows)
+}
+
+// Staged rows
+
+fn staged_of(slice: &Slice, lot: &LotId) -> u64
+    ensures { result ≡ staged_of_seen slice.now lot.now }
+{
+    sum_of_lot_staged(slice.rows.staged.as_slice(), lot)
+}
+
+fn staged_kept(alloc: Global, slice: &Slice, lot: &LotId) -> Result<Vec<StagedRow>, AllocError>
+    ensures { IfOk result (λ v. v.items ≡ staged_kept_lem slice.now lot.now) }
+{
+    staged_of_others(alloc, slice.rows.staged.as_slice(), lot)
+}
+
+fn staged_of_others(
+    alloc: Global,
+    rows: &[StagedRow],
+    lot: &LotId,
+) -> Result<Vec<StagedRow>, AllocError>
+    ensures { IfOk result (λ v. v.items ≡ filter (λ r. not (is_lot lot.now r.lot)) rows.now) }
+{
+    let mut others = Vec::new(alloc);
+    for row in rows {
+        let own = is_same_lot(lot, &row.lot);
+        push_if(&mut others, !own, *row)?;
+    }
+    Ok(others)
+}
+
+fn staged_returned(alloc: Global, slice: &Slice, lot: &LotId) -> Result<Vec<StagedRow>, AllocError>
+    ensures { IfOk result (λ v. v.items ≡ staged_returned_lem slice.now lot.now) }
+{
+    staged_of_lot(alloc, slice.rows.staged.as_slice(), lot)
+}
+
+fn staged_of_lot(
+    alloc: Global,
+    rows: &[StagedRow],
+    lot: &LotId,
+) -> Result<Vec<StagedRow>, AllocError>
+    ensures { IfOk result (λ v. v.items ≡ filter (λ r. is_lot lot.now r.lot) rows.now) }
+{
+    let mut own = Vec::new(alloc);
+    for row in rows {
+        let same = is_same_lot(lot, &row.lot);
+        push_if(&mut own, same, *row)?;
+    }
+    Ok(own)
+}
+
+// Stock rows
+
+fn units_in_returns(slice: &Slice, lot: &LotId) -> u64
+    ensures { result ≡ units_in_returns_lem slice.now lot.now }
+{
+    let there = units_in_bin(slice, &returns(), lot);
+    there.saturating_add(staged_of(slice, lot))
+}
+
+/// The stock row of the lot in RETURNS, if anything comes into it.
+pub fn returned_put(alloc: Global, slice: &Slice, lot: &LotId) -> Result<Vec<StockRow>, AllocError>
+    ensures { IfOk result (λ v. v.items ≡ returned_put_lem slice.now lot.now) }
+{
+    if staged_of(slice, lot) == 0 {
+        return Ok(Vec::new(alloc));
+    }
+    stock_put(alloc, lot, &returns(), units_in_returns(slice, lot))
+}
+
+fn stock_with_returned(
+    alloc: Global,
+    slice: &Slice,
+    lot: &LotId,
+) -> Result<Vec<StockRow>, AllocError>
+    ensures { IfOk result (λ v. v.items ≡ stock_with_returned_lem slice.now lot.now) }
+{
+    let units = units_in_returns(slice, lot);
+    stock_rows_with(alloc, slice.rows.stock.as_slice(), lot, &returns(), units)
+}
+
+// Reserved rows
+
+/// The reserved rows of the item where what is staged of the lot goes to RETURNS, and these are the
+/// rows of lots and recalls after it.
+pub fn shares_with_returned(
+    alloc: Global,
+    slice: &Slice,
+    lot: &LotId,
+    lots: &[LotRow],
+    recalls: &[RecallRow],
+) -> Result<Vec<ReservedRow>, AllocError>
+    ensures { IfOk result (λ v. v.items ≡ shares_with_returned_lem slice.now lot.now lots.now recalls.now) }
+{
+    let staged = staged_kept(alloc, slice, lot)?;
+    let bins = bins_with_returns(alloc, slice)?;
+    let stock = stock_with_returned(alloc, slice, lot)?;
+    let rows = ItemRows {
+        staged: staged.as_slice(),
+        lots,
+        recalls,
+        bins: bins.as_slice(),
+        stock: stock.as_slice(),
+        ..item_rows(&slice.rows)
+    };
+    shares_over(alloc, &lot.gtin, slice.meta.day, &rows)
+}
+
+// The change
+
+/// What changes where a lot stops being shippable, with these rows of lots and recalls put, and
+/// these reserved rows after it.
+pub fn returning_change(
+    alloc: Global,
+    slice: &Slice,
+    lot: &LotId,
+    lots: Listed<LotRow>,
+    recalls: Listed<RecallRow>,
+    shares: &[ReservedRow],
+) -> Result<Change, AllocError>
+    ensures { IfOk result (λ change. change ≡ returning_change_lem slice.now lot.now lots recalls shares.now) }
+{
+    let reserved = slice.rows.reserved.as_slice();
+    let put = Rows {
+        lots,
+        recalls,
+        stock: Listed::from_vec(returned_put(alloc, slice, lot)?),
+        reserved: Listed::from_vec(rows_to_put(alloc, reserved, shares)?),
+        ..empty(alloc)
+    };
+    let dropped = Rows {
+        staged: Listed::from_vec(staged_returned(alloc, slice, lot)?),
+        reserved: Listed::from_vec(rows_to_drop(alloc, &lot.gtin, reserved, shares)?),
+        ..empty(alloc)
+    };
+    Ok(Change {
+        meta: meta_next(slice),
+        put,
+        dropped,
+        text: returned_reply(slice, lot),
+    })
+}
+
+// The reply says how many units were returned.
+fn returned_reply(slice: &Slice, lot: &LotId) -> Short
+    ensures { result ≡ returned_reply_lem slice.now lot.now }
+{
+    let mut text = Buffer::<96>::new();
+    text.push_all(b"{\"act\":");
+    text.push_decimal(number_seen(slice));
+    text.push_all(b",\"returned\":");
+    text.push_decimal(staged_of(slice, lot));
+    text.push(b'}');
+    Short::of(&text)
+}

@@ -1,0 +1,78 @@
+-- What is decided of units picked for an order, and of those put back, by the rows of the slice: the conditions judged, and the rows changed.
+use Rattle.std.specs.Prelude.{ℕ, ◌+◌, ◌-◌, Bool, not, nat_lt, nat_le, List, [], ◌∷◌, find}
+use Rattle.values.specs.Values.{same_text}
+use Rattle.commands.specs.declared.limits.TheConstants.{ACTS_MAX}
+use Rattle.commands.specs.declared.refusal.Refusal.TheVariants.{ActsFull, UnknownItem, UnknownBin, UnknownLot, UnknownOrder, NoSuchLine, LotRecalled, LotExpired, LotHeld, NotStoreBin, OrderClosed, NotInBin, OverReserved, OverStaged}
+use Rattle.commands.specs.declared.command.Picking.{Picking}
+use Rattle.commands.specs.declared.rows.ReservedRow.{ReservedRow}
+use Rattle.machine.specs.Verdict.{Judgement}
+use Rattle.row_rules.specs.Seen.{capped, sees_item, sees_bin, lot_seen, sees_recall, meta_after, plain_reply, no_rows, is_past_row}
+use Rattle.row_rules.specs.SeenOrders.{sees_order, sees_open, sees_line}
+use Rattle.row_rules.specs.SeenLots.{sees_lot, sees_hold, in_bin_seen, stock_put, stock_gone, stock_rows_with}
+use Rattle.row_rules.specs.SeenStages.{reserved_seen, on_stage_seen, staged_put, staged_gone, staged_rows_with}
+use Rattle.row_rules.specs.Plans.{is_store_found, shares_over, rows_to_put, rows_to_drop}
+use Rattle.row_rules.specs.declared.slice.Slice.{Slice}
+use Rattle.row_rules.specs.declared.slice.Change.{Change}
+
+-- Judging
+
+-- the bin is a STORE bin
+abbrev pub sees_store : Slice → List ℕ → Bool
+sees_store s b = is_store_found (find (λ r. same_text b r.name) s.rows.bins)
+
+abbrev pub pick_seen : Slice → Picking → Judgement
+pick_seen s p =
+    (nat_le ACTS_MAX s.meta.acts, ActsFull)
+    ∷ (not (sees_item s p.lot.gtin), UnknownItem)
+    ∷ (not (sees_bin s p.bin), UnknownBin)
+    ∷ (not (sees_lot s p.lot), UnknownLot)
+    ∷ (not (sees_order s p.order), UnknownOrder)
+    ∷ (not (sees_line s p.order p.lot.gtin), NoSuchLine)
+    ∷ (sees_recall s p.lot, LotRecalled)
+    ∷ (is_past_row (lot_seen s p.lot) s.meta.day, LotExpired)
+    ∷ (sees_hold s p.lot, LotHeld)
+    ∷ (not (sees_store s p.bin), NotStoreBin)
+    ∷ (not (sees_open s p.order), OrderClosed)
+    ∷ (nat_lt (in_bin_seen s p.bin p.lot) p.qty, NotInBin)
+    ∷ (nat_lt (reserved_seen s p.order p.lot) p.qty, OverReserved) ∷ []
+
+abbrev pub unpick_seen : Slice → Picking → Judgement
+unpick_seen s p =
+    (nat_le ACTS_MAX s.meta.acts, ActsFull)
+    ∷ (not (sees_item s p.lot.gtin), UnknownItem)
+    ∷ (not (sees_bin s p.bin), UnknownBin)
+    ∷ (not (sees_lot s p.lot), UnknownLot)
+    ∷ (not (sees_order s p.order), UnknownOrder)
+    ∷ (not (sees_line s p.order p.lot.gtin), NoSuchLine)
+    ∷ (not (sees_open s p.order), OrderClosed)
+    ∷ (nat_lt (on_stage_seen s p.order p.lot) p.qty, OverStaged) ∷ []
+
+-- Changing. Units go from the bin onto the stage, or back: each command says how many of the lot are in the bin and on the
+-- stage after it.
+
+-- the reserved rows of the item after the act
+abbrev pub shares_with : Slice → Picking → ℕ → ℕ → List ReservedRow
+shares_with s p stock staged =
+    shares_over p.lot.gtin s.meta.day s.rows.orders s.rows.lines (staged_rows_with p.order p.lot staged s.rows.staged) s.rows.lots s.rows.recalls s.rows.bins (stock_rows_with p.lot p.bin stock s.rows.stock)
+
+abbrev pub changes_with : Slice → Picking → ℕ → ℕ → Change
+changes_with s p stock staged = record {
+  meta = meta_after s;
+  put = record no_rows {
+    stock = stock_put p.lot p.bin stock;
+    staged = staged_put p.order p.lot staged;
+    reserved = rows_to_put s.rows.reserved (shares_with s p stock staged);
+  };
+  dropped = record no_rows {
+    stock = stock_gone s.rows.stock p.lot p.bin stock;
+    staged = staged_gone s.rows.staged p.order p.lot staged;
+    reserved = rows_to_drop p.lot.gtin s.rows.reserved (shares_with s p stock staged);
+  };
+  text = plain_reply s;
+}
+
+abbrev pub pick_changes : Slice → Picking → Change
+pick_changes s p = changes_with s p (in_bin_seen s p.bin p.lot - p.qty) (capped (on_stage_seen s p.order p.lot + p.qty))
+
+abbrev pub unpick_changes : Slice → Picking → Change
+unpick_changes s p = changes_with s p (capped (in_bin_seen s p.bin p.lot + p.qty)) (on_stage_seen s p.order p.lot - p.qty)

@@ -1,0 +1,5 @@
+pub mod Booked
+pub mod DecidedCancel
+pub mod DecidedOrder
+pub mod DecidedPick
+pub mod DecidedShip

@@ -1,0 +1,101 @@
+//! Orders that are cancelled.
+
+ghost use Rattle.std.specs.Prelude.{◌≡◌, not, filter, IfOk};
+ghost use Rattle.values.specs.Values.{same_text};
+ghost use Rattle.machine.specs.Verdict.{first_refusal};
+ghost use Rattle.order_rules.specs.DecidedCancel.{cancel_seen, cancel_changes, cancelled_row as cancelled_row_lem, cancel_put, cancel_dropped};
+
+use commands::limits::ACTS_MAX;
+use commands::{Listed, OrderRow, OrderState, Refusal};
+use row_rules::changing::{empty, meta_next, plain_reply};
+use row_rules::judging::first_of;
+use row_rules::orders_seen::{items_seen, order_row_seen, sees_open, sees_order, staged_for_seen};
+use row_rules::plans::{ItemRows, item_rows};
+use row_rules::pushing::push_if;
+use row_rules::replanning::{Replanned, replan_items};
+use row_rules::{Change, Rows, Slice};
+use std::alloc::{AllocError, Global};
+use values::Name;
+
+/// The refusal of the cancelling of an order, if it is refused.
+pub fn judge_cancel(slice: &Slice, order: &Name) -> Option<Refusal>
+    ensures { result ≡ first_refusal (cancel_seen slice.now order.now) }
+{
+    let full = ACTS_MAX <= slice.meta.acts;
+    let known = sees_order(slice, order);
+    let open = sees_open(slice, order);
+    let staged = staged_for_seen(slice, order);
+    first_of(&[
+        (full, Refusal::ActsFull),
+        (!known, Refusal::UnknownOrder),
+        (!open, Refusal::OrderClosed),
+        (staged != 0, Refusal::StillStaged),
+    ])
+}
+
+/// What the cancelling of an order changes.
+pub fn change_cancel(alloc: Global, slice: &Slice, order: &Name) -> Result<Change, AllocError>
+    ensures { IfOk result (λ change. change ≡ cancel_changes slice.now order.now) }
+{
+    let Replanned { put, dropped } = replan_without(alloc, slice, order)?;
+    let row = cancelled_row(alloc, order_row_seen(slice, order))?;
+    let put = Rows {
+        orders: Listed::from_vec(row),
+        reserved: put,
+        ..empty(alloc)
+    };
+    let dropped = Rows {
+        reserved: dropped,
+        ..empty(alloc)
+    };
+    Ok(Change {
+        meta: meta_next(slice),
+        put,
+        dropped,
+        text: plain_reply(slice),
+    })
+}
+
+// The row of the order after the act.
+fn cancelled_row(alloc: Global, row: Option<OrderRow>) -> Result<Vec<OrderRow>, AllocError>
+    ensures { IfOk result (λ v. v.items ≡ cancelled_row_lem row) }
+{
+    let mut rows = Vec::new(alloc);
+    match row {
+        None => Ok(rows),
+        Some(r) => {
+            rows.push(OrderRow {
+                state: OrderState::Cancelled,
+                ..r
+            })?;
+            Ok(rows)
+        }
+    }
+}
+
+// What the plans of its items reserve without the order.
+fn replan_without(alloc: Global, slice: &Slice, order: &Name) -> Result<Replanned, AllocError>
+    ensures put { IfOk result (λ r. r.put ≡ cancel_put slice.now order.now) }
+    ensures dropped { IfOk result (λ r. r.dropped ≡ cancel_dropped slice.now order.now) }
+{
+    let items = items_seen(alloc, slice, order)?;
+    let others = other_orders(alloc, slice.rows.orders.as_slice(), order)?;
+    let rows = ItemRows {
+        orders: others.as_slice(),
+        ..item_rows(&slice.rows)
+    };
+    let olds = slice.rows.reserved.as_slice();
+    replan_items(alloc, items.as_slice(), slice.meta.day, &rows, olds)
+}
+
+// The rows of the other orders.
+fn other_orders(alloc: Global, rows: &[OrderRow], order: &Name) -> Result<Vec<OrderRow>, AllocError>
+    ensures { IfOk result (λ v. v.items ≡ filter (λ r. not (same_text order.now r.order)) rows.now) }
+{
+    let mut others = Vec::new(alloc);
+    for row in rows {
+        let same = *order == row.order;
+        push_if(&mut others, !same, *row)?;
+    }
+    Ok(others)
+}

@@ -1,0 +1,173 @@
+//! Orders that come in.
+
+ghost use Rattle.std.specs.Prelude.{◌≡◌, ◌+◌, not, nat_lt, ◌++◌, codes, decimal, IfOk};
+ghost use Rattle.std.specs.List.{list_any};
+ghost use Rattle.values.specs.Values.{same_text};
+ghost use Rattle.commands.specs.declared.limits.TheConstants.{OPEN_MAX};
+ghost use Rattle.commands.specs.Lists.{total};
+ghost use Rattle.machine.specs.Replies.{short_field};
+ghost use Rattle.machine.specs.Verdict.{first_refusal, names_item_twice as names_item_twice_lem};
+ghost use Rattle.row_rules.specs.Seen.{capped, number_seen as number_seen_lem};
+ghost use Rattle.order_rules.specs.DecidedOrder.{order_seen, order_changes, misses_item as misses_item_lem, orders_too_much as orders_too_much_lem, open_units_seen as open_units_seen_lem, open_units_of as open_units_of_lem, open_units_of_line as open_units_of_line_lem};
+
+use crate::booking::{Booked, book_order, new_line_rows, new_order_row};
+use commands::limits::{ACTS_MAX, OPEN_MAX};
+use commands::{Buffer, LineRow, Listed, NewOrder, OrderLine, OrderRow, Refusal, Short};
+use row_rules::changing::{empty, meta_next, number_seen, one};
+use row_rules::demands::{find_line, is_open};
+use row_rules::judging::first_of;
+use row_rules::orders_seen::sees_order;
+use row_rules::seeing::sees_item;
+use row_rules::{Change, Rows, Slice};
+use std::alloc::{AllocError, Global};
+use values::Gtin;
+
+/// The refusal of an order, if it is refused.
+pub fn judge_order(slice: &Slice, o: &NewOrder) -> Option<Refusal>
+    ensures { result ≡ first_refusal (order_seen slice.now o.now) }
+{
+    let lines = o.lines.as_slice();
+    let full = ACTS_MAX <= slice.meta.acts;
+    let unknown = misses_item(slice, lines);
+    let known = sees_order(slice, &o.order);
+    let twice = names_item_twice(lines);
+    let over = orders_too_much(slice, lines);
+    first_of(&[
+        (full, Refusal::ActsFull),
+        (unknown, Refusal::UnknownItem),
+        (known, Refusal::OrderExists),
+        (twice, Refusal::ItemTwice),
+        (over, Refusal::OverOrdered),
+    ])
+}
+
+// Whether one of the lines is of an item that the slice does not have.
+fn misses_item(slice: &Slice, lines: &[OrderLine]) -> bool
+    ensures { result ≡ misses_item_lem slice.now lines.now }
+{
+    for line in lines {
+        if !sees_item(slice, &line.gtin) {
+            return true;
+        }
+    }
+    false
+}
+
+fn names_item_twice(lines: &[OrderLine]) -> bool
+    ensures { result ≡ names_item_twice_lem lines.now }
+{
+    for (index, line) in lines.iter().enumerate() {
+        if names_item(&lines[index + 1..], &line.gtin) {
+            return true;
+        }
+    }
+    false
+}
+
+fn names_item(lines: &[OrderLine], gtin: &Gtin) -> bool
+    ensures { result ≡ list_any (λ m. same_text gtin.now m.gtin) lines.now }
+{
+    for line in lines {
+        if *gtin == line.gtin {
+            return true;
+        }
+    }
+    false
+}
+
+// Whether more units of an item would be ordered with one of the lines than the limit.
+fn orders_too_much(slice: &Slice, lines: &[OrderLine]) -> bool
+    ensures { result ≡ orders_too_much_lem slice.now lines.now }
+{
+    for line in lines {
+        if exceeds_open(slice, line) {
+            return true;
+        }
+    }
+    false
+}
+
+fn exceeds_open(slice: &Slice, line: &OrderLine) -> bool
+    ensures { result ≡ nat_lt OPEN_MAX (capped (open_units_seen_lem slice.now line.now.gtin + line.now.qty)) }
+{
+    let open = open_units(slice, &line.gtin);
+    OPEN_MAX < open.saturating_add(u64::from(line.qty.units()))
+}
+
+fn open_units(slice: &Slice, gtin: &Gtin) -> u64
+    ensures { result ≡ open_units_seen_lem slice.now gtin.now }
+{
+    sum_of_open_units(
+        slice.rows.orders.as_slice(),
+        slice.rows.lines.as_slice(),
+        gtin,
+    )
+}
+
+fn sum_of_open_units(orders: &[OrderRow], lines: &[LineRow], gtin: &Gtin) -> u64
+    ensures { result ≡ capped (total (open_units_of_lem gtin.now lines.now) orders.now) }
+{
+    let mut sum = 0_u64;
+    for order in orders {
+        sum = sum.saturating_add(open_units_of(gtin, lines, order));
+    }
+    sum
+}
+
+// Ordered less shipped of the item, if the order is open.
+fn open_units_of(gtin: &Gtin, lines: &[LineRow], order: &OrderRow) -> u64
+    ensures { result ≡ open_units_of_lem gtin.now lines.now order.now }
+{
+    let open = is_open(order.state);
+    let units = open_units_of_line(find_line(lines, &order.order, gtin));
+    if open { units } else { 0 }
+}
+
+fn open_units_of_line(line: Option<LineRow>) -> u64
+    ensures { result ≡ open_units_of_line_lem line }
+{
+    match line {
+        None => 0,
+        Some(l) => l.ordered.saturating_sub(l.shipped),
+    }
+}
+
+/// What an order changes.
+pub fn change_order(alloc: Global, slice: &Slice, o: &NewOrder) -> Result<Change, AllocError>
+    ensures { IfOk result (λ change. change ≡ order_changes slice.now o.now) }
+{
+    let Booked {
+        put,
+        dropped,
+        short,
+    } = book_order(alloc, slice, o)?;
+    let put = Rows {
+        orders: one(alloc, new_order_row(slice, o))?,
+        lines: Listed::from_vec(new_line_rows(alloc, o)?),
+        reserved: put,
+        ..empty(alloc)
+    };
+    let dropped = Rows {
+        reserved: dropped,
+        ..empty(alloc)
+    };
+    Ok(Change {
+        meta: meta_next(slice),
+        put,
+        dropped,
+        text: short_reply(slice, short),
+    })
+}
+
+// The reply with the units that are short.
+fn short_reply(slice: &Slice, short: u64) -> Short
+    ensures { result ≡ codes "{\"act\":" ++ decimal (number_seen_lem slice.now) ++ short_field short ++ codes "}" }
+{
+    let mut text = Buffer::<96>::new();
+    text.push_all(b"{\"act\":");
+    text.push_decimal(number_seen(slice));
+    text.push_all(b",\"short\":");
+    text.push_decimal(short);
+    text.push(b'}');
+    Short::of(&text)
+}

@@ -1,0 +1,13 @@
+//! The rules of orders over rows: new orders, cancelled ones, picks, and shipments.
+#![tactic(auto)]
+
+mod booking;
+mod cancelling;
+mod customer_orders;
+mod picking;
+mod shipments;
+
+pub use cancelling::{change_cancel, judge_cancel};
+pub use customer_orders::{change_order, judge_order};
+pub use picking::{change_pick, change_unpick, judge_pick, judge_unpick};
+pub use shipments::{change_ship, judge_ship};

@@ -1,0 +1,213 @@
+//! Units that go from a bin onto the stage of an order, and back.
+
+ghost use Rattle.std.specs.Prelude.{◌≡◌, ◌+◌, ◌-◌, IfOk};
+ghost use Rattle.machine.specs.Verdict.{first_refusal};
+ghost use Rattle.row_rules.specs.Seen.{capped, is_past_row as is_past_row_lem};
+ghost use Rattle.order_rules.specs.DecidedPick.{pick_seen, unpick_seen, pick_changes, unpick_changes, changes_with, shares_with as shares_with_lem, sees_store as sees_store_lem};
+
+use commands::limits::ACTS_MAX;
+use commands::{Listed, LotRow, Picking, Refusal, ReservedRow};
+use label::BusinessDay;
+use row_rules::changing::{empty, meta_next, plain_reply};
+use row_rules::judging::first_of;
+use row_rules::looking::find_bin;
+use row_rules::orders_seen::{sees_line, sees_open, sees_order};
+use row_rules::plans::{ItemRows, item_rows, rows_to_drop, rows_to_put, shares_over};
+use row_rules::seeing::{lot_seen, sees_bin, sees_hold, sees_item, sees_recall};
+use row_rules::stages::{on_stage_seen, reserved_seen, staged_gone, staged_put, staged_rows_with};
+use row_rules::stock::{sees_lot, stock_gone, stock_put, stock_rows_with, units_in_bin};
+use row_rules::supplies::is_store;
+use row_rules::{Change, Rows, Slice};
+use std::alloc::{AllocError, Global};
+use values::{Name, Qty};
+
+/// The refusal of a picking, if it is refused.
+pub fn judge_pick(slice: &Slice, p: &Picking) -> Option<Refusal>
+    ensures { result ≡ first_refusal (pick_seen slice.now p.now) }
+{
+    let full = ACTS_MAX <= slice.meta.acts;
+    let known_item = sees_item(slice, &p.lot.gtin);
+    let known_bin = sees_bin(slice, &p.bin);
+    let known_lot = sees_lot(slice, &p.lot);
+    let known_order = sees_order(slice, &p.order);
+    let known_line = sees_line(slice, &p.order, &p.lot.gtin);
+    let recalled = sees_recall(slice, &p.lot);
+    let past = is_past_row(lot_seen(slice, &p.lot), slice.meta.day);
+    let held = sees_hold(slice, &p.lot);
+    let store = sees_store(slice, &p.bin);
+    let open = sees_open(slice, &p.order);
+    let in_bin = units_in_bin(slice, &p.bin, &p.lot);
+    let reserved = reserved_seen(slice, &p.order, &p.lot);
+    let units = u64::from(p.qty.units());
+    first_of(&[
+        (full, Refusal::ActsFull),
+        (!known_item, Refusal::UnknownItem),
+        (!known_bin, Refusal::UnknownBin),
+        (!known_lot, Refusal::UnknownLot),
+        (!known_order, Refusal::UnknownOrder),
+        (!known_line, Refusal::NoSuchLine),
+        (recalled, Refusal::LotRecalled),
+        (past, Refusal::LotExpired),
+        (held, Refusal::LotHeld),
+        (!store, Refusal::NotStoreBin),
+        (!open, Refusal::OrderClosed),
+        (in_bin < units, Refusal::NotInBin),
+        (reserved < units, Refusal::OverReserved),
+    ])
+}
+
+/// The refusal of units put back, if they are refused.
+pub fn judge_unpick(slice: &Slice, p: &Picking) -> Option<Refusal>
+    ensures { result ≡ first_refusal (unpick_seen slice.now p.now) }
+{
+    let full = ACTS_MAX <= slice.meta.acts;
+    let known_item = sees_item(slice, &p.lot.gtin);
+    let known_bin = sees_bin(slice, &p.bin);
+    let known_lot = sees_lot(slice, &p.lot);
+    let known_order = sees_order(slice, &p.order);
+    let known_line = sees_line(slice, &p.order, &p.lot.gtin);
+    let open = sees_open(slice, &p.order);
+    let staged = on_stage_seen(slice, &p.order, &p.lot);
+    let units = u64::from(p.qty.units());
+    first_of(&[
+        (full, Refusal::ActsFull),
+        (!known_item, Refusal::UnknownItem),
+        (!known_bin, Refusal::UnknownBin),
+        (!known_lot, Refusal::UnknownLot),
+        (!known_order, Refusal::UnknownOrder),
+        (!known_line, Refusal::NoSuchLine),
+        (!open, Refusal::OrderClosed),
+        (staged < units, Refusal::OverStaged),
+    ])
+}
+
+fn is_past_row(row: Option<LotRow>, day: BusinessDay) -> bool
+    ensures { result ≡ is_past_row_lem row day }
+{
+    match row {
+        None => false,
+        Some(k) => k.expiry.number() < day.day().number(),
+    }
+}
+
+// Whether the bin is a STORE bin.
+fn sees_store(slice: &Slice, bin: &Name) -> bool
+    ensures { result ≡ sees_store_lem slice.now bin.now }
+{
+    is_store(find_bin(slice.rows.bins.as_slice(), bin))
+}
+
+/// What a picking changes.
+pub fn change_pick(alloc: Global, slice: &Slice, p: &Picking) -> Result<Change, AllocError>
+    ensures { IfOk result (λ change. change ≡ pick_changes slice.now p.now) }
+{
+    let in_bin = less(units_in_bin(slice, &p.bin, &p.lot), p.qty);
+    let staged = more(on_stage_seen(slice, &p.order, &p.lot), p.qty);
+    change_with(alloc, slice, p, in_bin, staged)
+}
+
+/// What units put back change.
+pub fn change_unpick(alloc: Global, slice: &Slice, p: &Picking) -> Result<Change, AllocError>
+    ensures { IfOk result (λ change. change ≡ unpick_changes slice.now p.now) }
+{
+    let in_bin = more(units_in_bin(slice, &p.bin, &p.lot), p.qty);
+    let staged = less(on_stage_seen(slice, &p.order, &p.lot), p.qty);
+    change_with(alloc, slice, p, in_bin, staged)
+}
+
+fn less(units: u64, qty: Qty) -> u64
+    ensures { result ≡ units - qty }
+{
+    units.saturating_sub(u64::from(qty.units()))
+}
+
+fn more(units: u64, qty: Qty) -> u64
+    ensures { result ≡ capped (units + qty) }
+{
+    units.saturating_add(u64::from(qty.units()))
+}
+
+// The change after which so many units of the lot are in the bin and on the stage.
+fn change_with(
+    alloc: Global,
+    slice: &Slice,
+    p: &Picking,
+    in_bin: u64,
+    staged: u64,
+) -> Result<Change, AllocError>
+    ensures { IfOk result (λ change. change ≡ changes_with slice.now p.now in_bin staged) }
+{
+    let shares = shares_with(alloc, slice, p, in_bin, staged)?;
+    let put = rows_put(alloc, slice, p, in_bin, staged, shares.as_slice())?;
+    let dropped = rows_dropped(alloc, slice, p, in_bin, staged, shares.as_slice())?;
+    Ok(Change {
+        meta: meta_next(slice),
+        put,
+        dropped,
+        text: plain_reply(slice),
+    })
+}
+
+fn rows_put(
+    alloc: Global,
+    slice: &Slice,
+    p: &Picking,
+    in_bin: u64,
+    staged: u64,
+    shares: &[ReservedRow],
+) -> Result<Rows, AllocError>
+    ensures { IfOk result (λ rows. shares.now ≡ shares_with_lem slice.now p.now in_bin staged → rows ≡ (changes_with slice.now p.now in_bin staged).put) }
+{
+    let stock = stock_put(alloc, &p.lot, &p.bin, in_bin)?;
+    let on_stage = staged_put(alloc, &p.order, &p.lot, staged)?;
+    let reserved = rows_to_put(alloc, slice.rows.reserved.as_slice(), shares)?;
+    Ok(Rows {
+        stock: Listed::from_vec(stock),
+        staged: Listed::from_vec(on_stage),
+        reserved: Listed::from_vec(reserved),
+        ..empty(alloc)
+    })
+}
+
+fn rows_dropped(
+    alloc: Global,
+    slice: &Slice,
+    p: &Picking,
+    in_bin: u64,
+    staged: u64,
+    shares: &[ReservedRow],
+) -> Result<Rows, AllocError>
+    ensures { IfOk result (λ rows. shares.now ≡ shares_with_lem slice.now p.now in_bin staged → rows ≡ (changes_with slice.now p.now in_bin staged).dropped) }
+{
+    let rows = &slice.rows;
+    let stock = stock_gone(alloc, rows.stock.as_slice(), &p.lot, &p.bin, in_bin)?;
+    let on_stage = staged_gone(alloc, rows.staged.as_slice(), &p.order, &p.lot, staged)?;
+    let reserved = rows_to_drop(alloc, &p.lot.gtin, rows.reserved.as_slice(), shares)?;
+    Ok(Rows {
+        stock: Listed::from_vec(stock),
+        staged: Listed::from_vec(on_stage),
+        reserved: Listed::from_vec(reserved),
+        ..empty(alloc)
+    })
+}
+
+// The reserved rows of the item after the act.
+fn shares_with(
+    alloc: Global,
+    slice: &Slice,
+    p: &Picking,
+    in_bin: u64,
+    staged: u64,
+) -> Result<Vec<ReservedRow>, AllocError>
+    ensures { IfOk result (λ v. v.items ≡ shares_with_lem slice.now p.now in_bin staged) }
+{
+    let before = &slice.rows;
+    let stock = stock_rows_with(alloc, before.stock.as_slice(), &p.lot, &p.bin, in_bin)?;
+    let on_stage = staged_rows_with(alloc, before.staged.as_slice(), &p.order, &p.lot, staged)?;
+    let rows = ItemRows {
+        staged: on_stage.as_slice(),
+        stock: stock.as_slice(),
+        ..item_rows(before)
+    };
+    shares_over(alloc, &p.lot.gtin, slice.meta.day, &rows)
+}

@@ -1,0 +1,256 @@
+//! Orders that are shipped.
+
+ghost use Rattle.std.specs.Prelude.{◌≡◌, map, min, pos, neg_ℤ, decimal, IfOk};
+ghost use Rattle.std.specs.List.{list_any};
+ghost use Rattle.commands.specs.declared.limits.TheConstants.{UNITS_MAX};
+ghost use Rattle.machine.specs.Verdict.{first_refusal};
+ghost use Rattle.order_rules.specs.DecidedShip.{ship_seen, ship_changes, shipment_seen as shipment_seen_lem, meta_shipped as meta_shipped_lem, rows_shipped as rows_shipped_lem, lines_shipped as lines_shipped_lem, line_shipped as line_shipped_lem, lacks_units as lacks_units_lem, order_put as order_put_lem, done_row as done_row_lem, shipment_put as shipment_put_lem, shipline as shipline_lem, ship_card as ship_card_lem, ship_reply as ship_reply_lem};
+
+use commands::limits::{ACTS_MAX, CARD_NOTE_MAX, UNITS_MAX};
+use commands::{
+    Buffer, CardKind, CardRow, LineRow, Listed, MetaRow, OrderRow, OrderState, Refusal,
+    ShiplineRow, ShipmentRow, Short, StagedRow,
+};
+use row_rules::cards::lot_units;
+use row_rules::changing::{empty, number_seen, one};
+use row_rules::demands::sum_staged_for;
+use row_rules::judging::first_of;
+use row_rules::orders_seen::{lines_seen, order_row_seen, sees_open, sees_order, staged_for_seen};
+use row_rules::pushing::push_if;
+use row_rules::{Change, Rows, Slice};
+use std::alloc::{AllocError, Global};
+use values::{Name, Text};
+
+/// The refusal of the shipping of an order, if it is refused.
+pub fn judge_ship(slice: &Slice, order: &Name) -> Option<Refusal>
+    ensures { result ≡ first_refusal (ship_seen slice.now order.now) }
+{
+    let full = ACTS_MAX <= slice.meta.acts;
+    let known = sees_order(slice, order);
+    let open = sees_open(slice, order);
+    let staged = staged_for_seen(slice, order);
+    first_of(&[
+        (full, Refusal::ActsFull),
+        (!known, Refusal::UnknownOrder),
+        (!open, Refusal::OrderClosed),
+        (staged == 0, Refusal::NothingStaged),
+    ])
+}
+
+/// What the shipping of an order changes.
+pub fn change_ship(alloc: Global, slice: &Slice, order: &Name) -> Result<Change, AllocError>
+    ensures { IfOk result (λ change. change ≡ ship_changes slice.now order.now) }
+{
+    let staged = rows_shipped(alloc, slice.rows.staged.as_slice(), order)?;
+    let lines = lines_shipped(alloc, slice, order)?;
+    let lacking = any_lacks_units(lines.as_slice());
+    let put = Rows {
+        orders: Listed::from_vec(order_put(alloc, order_row_seen(slice, order), lacking)?),
+        shipments: one(alloc, shipment_put(slice, order))?,
+        shiplines: Listed::from_vec(shiplines(alloc, shipment_seen(slice), staged.as_slice())?),
+        cards: Listed::from_vec(ship_cards(alloc, slice, staged.as_slice())?),
+        lines: Listed::from_vec(lines),
+        ..empty(alloc)
+    };
+    let dropped = Rows {
+        staged: Listed::from_vec(staged),
+        ..empty(alloc)
+    };
+    Ok(Change {
+        meta: meta_shipped(slice),
+        put,
+        dropped,
+        text: ship_reply(slice),
+    })
+}
+
+// The number of the shipment.
+fn shipment_seen(slice: &Slice) -> u64
+    ensures { result ≡ shipment_seen_lem slice.now }
+{
+    slice.meta.shipments.saturating_add(1)
+}
+
+fn meta_shipped(slice: &Slice) -> MetaRow
+    ensures { result ≡ meta_shipped_lem slice.now }
+{
+    MetaRow {
+        day: slice.meta.day,
+        acts: number_seen(slice),
+        shipments: shipment_seen(slice),
+    }
+}
+
+// The rows of what is staged for the order.
+fn rows_shipped(
+    alloc: Global,
+    rows: &[StagedRow],
+    order: &Name,
+) -> Result<Vec<StagedRow>, AllocError>
+    ensures { IfOk result (λ v. v.items ≡ rows_shipped_lem order.now rows.now) }
+{
+    let mut own = Vec::new(alloc);
+    for row in rows {
+        push_if(&mut own, *order == row.order, *row)?;
+    }
+    Ok(own)
+}
+
+// The lines of the order after the act.
+fn lines_shipped(alloc: Global, slice: &Slice, order: &Name) -> Result<Vec<LineRow>, AllocError>
+    ensures { IfOk result (λ v. v.items ≡ lines_shipped_lem slice.now order.now) }
+{
+    let lines = lines_seen(alloc, slice, order)?;
+    ship_lines(alloc, lines.as_slice(), slice.rows.staged.as_slice())
+}
+
+fn ship_lines(
+    alloc: Global,
+    rows: &[LineRow],
+    staged: &[StagedRow],
+) -> Result<Vec<LineRow>, AllocError>
+    ensures { IfOk result (λ v. v.items ≡ map (line_shipped_lem staged.now) rows.now) }
+{
+    let mut shipped = Vec::new(alloc);
+    for row in rows {
+        shipped.push(line_shipped(staged, row))?;
+    }
+    Ok(shipped)
+}
+
+// A line with what was staged of its item.
+fn line_shipped(staged: &[StagedRow], row: &LineRow) -> LineRow
+    ensures { result ≡ line_shipped_lem staged.now row.now }
+{
+    let more = sum_staged_for(staged, &row.order, &row.gtin);
+    LineRow {
+        order: row.order,
+        gtin: row.gtin,
+        ordered: row.ordered,
+        shipped: row.shipped.saturating_add(more),
+    }
+}
+
+// Whether a line is not shipped in full.
+fn any_lacks_units(rows: &[LineRow]) -> bool
+    ensures { result ≡ list_any lacks_units_lem rows.now }
+{
+    for row in rows {
+        if row.shipped != row.ordered {
+            return true;
+        }
+    }
+    false
+}
+
+// The order's row, where it is done.
+fn order_put(
+    alloc: Global,
+    row: Option<OrderRow>,
+    lacking: bool,
+) -> Result<Vec<OrderRow>, AllocError>
+    ensures { IfOk result (λ v. v.items ≡ order_put_lem row lacking) }
+{
+    let mut rows = Vec::new(alloc);
+    match row {
+        None => Ok(rows),
+        Some(r) => {
+            if !lacking {
+                rows.push(done_row(&r))?;
+            }
+            Ok(rows)
+        }
+    }
+}
+
+fn done_row(row: &OrderRow) -> OrderRow
+    ensures { result ≡ done_row_lem row.now }
+{
+    OrderRow {
+        order: row.order,
+        act: row.act,
+        customer: row.customer,
+        state: OrderState::Done,
+    }
+}
+
+fn shipment_put(slice: &Slice, order: &Name) -> ShipmentRow
+    ensures { result ≡ shipment_put_lem slice.now order.now }
+{
+    ShipmentRow {
+        number: shipment_seen(slice),
+        act: number_seen(slice),
+        day: slice.meta.day,
+        order: *order,
+    }
+}
+
+fn shiplines(alloc: Global, number: u64, rows: &[StagedRow]) -> Result<Vec<ShiplineRow>, AllocError>
+    ensures { IfOk result (λ v. v.items ≡ map (shipline_lem number) rows.now) }
+{
+    let mut lines = Vec::new(alloc);
+    for row in rows {
+        lines.push(ShiplineRow {
+            number,
+            lot: row.lot,
+            qty: row.qty,
+        })?;
+    }
+    Ok(lines)
+}
+
+fn ship_cards(alloc: Global, slice: &Slice, rows: &[StagedRow]) -> Result<Vec<CardRow>, AllocError>
+    ensures { IfOk result (λ v. v.items ≡ map (ship_card_lem slice.now) rows.now) }
+{
+    let mut cards = Vec::new(alloc);
+    for row in rows {
+        cards.push(ship_card(slice, row))?;
+    }
+    Ok(cards)
+}
+
+// The card line of what is shipped of a lot.
+fn ship_card(slice: &Slice, row: &StagedRow) -> CardRow
+    ensures { result ≡ ship_card_lem slice.now row.now }
+{
+    let rows = &slice.rows;
+    let units = lot_units(&row.lot, rows.stock.as_slice(), rows.staged.as_slice());
+    CardRow {
+        lot: row.lot,
+        act: number_seen(slice),
+        day: slice.meta.day,
+        kind: CardKind::Shipment,
+        note: shipment_note(shipment_seen(slice)),
+        qty: units_gone(row.qty),
+        rest: units.saturating_sub(row.qty),
+    }
+}
+
+fn shipment_note(number: u64) -> Text<CARD_NOTE_MAX>
+    ensures { result ≡ decimal number }
+{
+    let mut text = Buffer::<CARD_NOTE_MAX>::new();
+    text.push_decimal(number);
+    text.text()
+}
+
+// Units as a card shows that they went: below 0.
+fn units_gone(units: u64) -> i64
+    ensures { result ≡ neg_ℤ (pos (min units UNITS_MAX)) }
+{
+    let units = units.min(UNITS_MAX) as i64;
+    -units
+}
+
+// The reply with the shipment's number.
+fn ship_reply(slice: &Slice) -> Short
+    ensures { result ≡ ship_reply_lem slice.now }
+{
+    let mut text = Buffer::<96>::new();
+    text.push_all(b"{\"act\":");
+    text.push_decimal(number_seen(slice));
+    text.push_all(b",\"shipment\":");
+    text.push_decimal(shipment_seen(slice));
+    text.push(b'}');
+    Short::of(&text)
+}

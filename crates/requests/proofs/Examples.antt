@@ -1,0 +1,169 @@
+-- Readings of some texts.
+use Rattle.std.proofs.Common.{◌≡◌, codes, refl, [], ◌∷◌, Some, None, Ok, Err, option_map}
+use Rattle.std.specs.Prelude.{negsuc}
+use Rattle.serde_json.proofs.OnLiterals.{serde_json_on_literals}
+use Rattle.matchit.proofs.OnLiterals.{matchit_on_literals}
+use Rattle.percent_encoding.specs.Percent.{percent_decode}
+use Rattle.serde_json.specs.Read.{read}
+use Rattle.requests.specs.Routes.{table, route_of}
+use Rattle.requests.specs.Head.{length_value, body_length}
+use Rattle.requests.specs.Requests.{read_ask, second_segment, third_segment, query_of}
+use Rattle.requests.specs.Fields.{whole_at, delta_at}
+use Rattle.requests.specs.Bodies.{item_of, count_of}
+use Rattle.commands.specs.declared.key.Key.TheVariants.{Plain}
+use Rattle.commands.specs.declared.command.Command.TheVariants.{Item, Count}
+use Rattle.requests.specs.declared.fault.WireFault.TheVariants.{Length, Path, Field, TooLarge, Method as OtherMethod}
+use Rattle.requests.specs.declared.method.Method.TheVariants.{Get, Post}
+use Rattle.requests.specs.declared.routes.Route.TheVariants.{Post as PostTo, Get as GetOf}
+use Rattle.requests.specs.declared.routes.Posted.TheVariants.{Items, Bins, Receipts, Orders, Recalls, Days}
+use Rattle.requests.specs.declared.routes.Shown.TheVariants.{Order as AnOrder, Stock as TheStock, Card}
+use Rattle.requests.specs.declared.ask.Ask.TheVariants.{Do}
+use Rattle.requests.specs.declared.ask.Query.TheVariants.{Card as CardOf}
+
+-- routes
+
+pub items : route_of (codes "/items") ≡ Some (PostTo Items)
+unfolding matchit_on_literals table
+items = refl
+
+pub bins : route_of (codes "/bins") ≡ Some (PostTo Bins)
+unfolding matchit_on_literals table
+bins = refl
+
+pub receipts : route_of (codes "/receipts") ≡ Some (PostTo Receipts)
+unfolding matchit_on_literals table
+receipts = refl
+
+pub orders : route_of (codes "/orders") ≡ Some (PostTo Orders)
+unfolding matchit_on_literals table
+orders = refl
+
+pub recalls : route_of (codes "/recalls") ≡ Some (PostTo Recalls)
+unfolding matchit_on_literals table
+recalls = refl
+
+pub days : route_of (codes "/days") ≡ Some (PostTo Days)
+unfolding matchit_on_literals table
+days = refl
+
+pub no_goods_in_yet : route_of (codes "/goodsin") ≡ None
+unfolding matchit_on_literals table
+no_goods_in_yet = refl
+
+pub an_order : route_of (codes "/orders/S-1") ≡ Some (GetOf AnOrder)
+unfolding matchit_on_literals table
+an_order = refl
+
+pub the_stock : route_of (codes "/stock/09506000134352") ≡ Some (GetOf TheStock)
+unfolding matchit_on_literals table
+the_stock = refl
+
+pub no_order : route_of (codes "/orders/") ≡ None
+unfolding matchit_on_literals table
+no_order = refl
+
+pub two_orders : route_of (codes "/orders/S-1/S-2") ≡ None
+unfolding matchit_on_literals table
+two_orders = refl
+
+pub escaped_route : route_of (codes "/%69tems") ≡ None
+unfolding matchit_on_literals table
+escaped_route = refl
+
+pub a_query_is_no_path : read_ask (codes "POST") (codes "/items?x=1") [] ≡ Err Path
+unfolding matchit_on_literals table
+a_query_is_no_path = refl
+
+pub another_method : read_ask (codes "GET") (codes "/items") [] ≡ Err (OtherMethod Post)
+unfolding matchit_on_literals table
+another_method = refl
+
+pub small_letters_are_another_method : read_ask (codes "get") (codes "/orders/S-1") [] ≡ Err (OtherMethod Get)
+unfolding matchit_on_literals table
+small_letters_are_another_method = refl
+
+pub a_broken_escape : read_ask (codes "GET") (codes "/orders/%zz") [] ≡ Err Field
+unfolding matchit_on_literals table percent_decode
+a_broken_escape = refl
+
+pub stock_is_not_posted : read_ask (codes "POST") (codes "/stock/09506000134352") [] ≡ Err (OtherMethod Get)
+unfolding matchit_on_literals table
+stock_is_not_posted = refl
+
+pub a_pick_list_is_not_served : read_ask (codes "GET") (codes "/picklists/S-1") [] ≡ Err Path
+unfolding matchit_on_literals table
+a_pick_list_is_not_served = refl
+
+-- values in a path
+
+pub an_escaped_digit : second_segment (codes "/stock/0950600013435%32") ≡ codes "09506000134352"
+unfolding percent_decode
+an_escaped_digit = refl
+
+pub an_escaped_slash : query_of Card (codes "/cards/09506000134352/A%2FB")
+    ≡ Some (CardOf (record { gtin = codes "09506000134352"; lot = codes "A/B" }))
+unfolding percent_decode
+an_escaped_slash = refl
+
+pub a_percent_sign_in_a_lot : third_segment (codes "/cards/09506000134352/%zz") ≡ codes "%zz"
+unfolding percent_decode
+a_percent_sign_in_a_lot = refl
+
+-- lengths
+
+pub a_sign_is_no_digit : length_value (codes "+32") ≡ Err Length
+a_sign_is_no_digit = refl
+
+pub nine_digits : length_value (codes "000000032") ≡ Ok 32
+nine_digits = refl
+
+pub ten_digits : length_value (codes "0000000032") ≡ Err Length
+ten_digits = refl
+
+pub the_largest_body : length_value (codes "262144") ≡ Ok 262144
+the_largest_body = refl
+
+pub one_byte_more : length_value (codes "262145") ≡ Err TooLarge
+one_byte_more = refl
+
+pub no_length : body_length ((codes "Host", codes "a") ∷ []) ≡ Ok 0
+no_length = refl
+
+pub two_lengths : body_length ((codes "Content-Length", codes "1") ∷ (codes "content-length", codes "1") ∷ []) ≡ Err Length
+two_lengths = refl
+
+pub a_coding : body_length ((codes "Transfer-Encoding", codes "chunked") ∷ []) ≡ Err Length
+a_coding = refl
+
+-- bodies
+
+pub an_item : option_map item_of (read (codes "{\"key\":\"K-1\",\"gtin\":\"09506000134352\",\"name\":\"Oat drink\"}"))
+    ≡ Some (Some (Do (Plain (codes "K-1")) (Item (record { gtin = codes "09506000134352"; name = codes "Oat drink" }))))
+unfolding serde_json_on_literals
+an_item = refl
+
+pub a_field_more : option_map item_of (read (codes "{\"key\":\"K-1\",\"gtin\":\"09506000134352\",\"name\":\"Oat drink\",\"kind\":\"HOLD\"}")) ≡ Some None
+unfolding serde_json_on_literals
+a_field_more = refl
+
+pub nothing_is_counted : option_map count_of (read (codes "{\"key\":\"K-1\",\"gtin\":\"09506000134352\",\"lot\":\"L1\",\"bin\":\"A-01\",\"qty\":0}"))
+    ≡ Some (Some (Do (Plain (codes "K-1"))
+    (Count (record { lot = record { gtin = codes "09506000134352"; lot = codes "L1" }; bin = codes "A-01"; qty = 0 }))))
+unfolding serde_json_on_literals
+nothing_is_counted = refl
+
+pub a_change_down : option_map (delta_at (codes "change")) (read (codes "{\"change\":-10}")) ≡ Some (Some (negsuc 9))
+unfolding serde_json_on_literals
+a_change_down = refl
+
+pub a_change_of_nothing : option_map (delta_at (codes "change")) (read (codes "{\"change\":0}")) ≡ Some None
+unfolding serde_json_on_literals
+a_change_of_nothing = refl
+
+pub a_whole_number_with_a_point : option_map (whole_at (codes "qty")) (read (codes "{\"qty\":1.0}")) ≡ Some None
+unfolding serde_json_on_literals
+a_whole_number_with_a_point = refl
+
+pub a_whole_number_with_an_exponent : option_map (whole_at (codes "qty")) (read (codes "{\"qty\":1e2}")) ≡ Some None
+unfolding serde_json_on_literals
+a_whole_number_with_an_exponent = refl

@@ -1,0 +1,17 @@
+-- Bytes that are no JSON.
+use Rattle.std.proofs.Common.{◌≡◌, refl, ℕ, List, Bool, true, false, Option, Some, None, if◌then◌else◌}
+use Rattle.std.specs.Str.{IsUtf8, is_utf8}
+use Rattle.std.proofs.lemmas.Str.{IsUtf8-from_is_utf8, is_utf8-from_IsUtf8}
+use Rattle.serde_json.specs.Data.{Data}
+use Rattle.serde_json.specs.Read.{read}
+use Rattle.requests.specs.Fields.{json}
+
+pick : (b : Bool) (x : Option Data) → (b ≡ true → x ≡ None) → (if b then x else None) ≡ None
+pick true x h = h refl
+pick false x h = refl
+
+pub json_none : (body : List ℕ) → (IsUtf8 body → read body ≡ None) → json body ≡ None
+json_none body h = pick (is_utf8 body) (read body) (λ e. h (IsUtf8-from_is_utf8 body e))
+
+pub json_some : (body : List ℕ) (d : Data) → IsUtf8 body → read body ≡ Some d → json body ≡ Some d
+json_some body d u e = rw (is_utf8-from_IsUtf8 body u) e

@@ -1,0 +1,8 @@
+use Rattle.std.proofs.Common.{rules}
+use Rattle.matchit.proofs.OnLiterals.{matchit_on_literals}
+use Rattle.requests.specs.Routes.{table}
+use Rattle.requests.proofs.routes.server_routes.Goals as goal
+
+pub returns : goal.returns
+unfolding matchit_on_literals table
+returns c = search rules

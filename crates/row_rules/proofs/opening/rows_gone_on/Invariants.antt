@@ -1,7 +1,0 @@
-use Rattle.commands.specs.declared.rows.StagedRow.{StagedRow}
-use Rattle.row_rules.specs.DecidedDay.{is_out}
-use Rattle.row_rules.proofs.Walking.{IsKept}
-use Rattle.row_rules.proofs.opening.rows_gone_on.Given as goal
-
-abbrev pub invariant-loop-row : goal.invariant-loop-row
-invariant-loop-row l = IsKept {X = StagedRow} (λ r. is_out l.slice l.day r.lot) l.rows l.row-index l.gone.items

@@ -1,0 +1,17 @@
+-- The business day after an act.
+use Rattle.std.proofs.Common.{◌≡◌, ℕ, Bool, true, false, List, ap, ◌∙◌}
+use Rattle.std.specs.Prelude.{ℤ, if◌then◌else◌}
+use Rattle.machine.specs.Acts.{Act}
+use Rattle.machine.specs.Standing.{today, day_after_command}
+use Rattle.machine.specs.Once.{Repeated, Accepted, outcome, appended, acts_after}
+use Rattle.store.specs.Acting.{told, day_left}
+use Rattle.store.specs.declared.reply.Reply.{Reply}
+
+by_repeated : (first : ℤ) (acts : List Act) (act : Act) (day : ℤ) (text : List ℕ) (repeated : Bool) → day ≡ today first acts
+    → day_left day act.command repeated ≡ today first (appended act acts (if repeated then Repeated text else Accepted text))
+by_repeated first acts act day text true is = is
+by_repeated first acts act day text false is = ap (day_after_command act.command) is
+
+pub day_told : (first : ℤ) (acts : List Act) (act : Act) (day : ℤ) (reply : Reply) → told reply ≡ outcome first acts act → day ≡ today first acts
+    → day_left day act.command reply.repeated ≡ today first (acts_after first acts act)
+day_told first acts act day reply e is = by_repeated first acts act day reply.text reply.repeated is ∙ ap (λ o. today first (appended act acts o)) e

@@ -1,0 +1,13 @@
+//! The tests of what commands are made of: of values, labels, plans and commands.
+//!
+//! They are a crate of their own, since the tests of a crate are proved together with all of that crate once more.
+#![tactic(auto)]
+
+#[cfg(test)]
+mod commands_tests;
+#[cfg(test)]
+mod label_tests;
+#[cfg(test)]
+mod plan_tests;
+#[cfg(test)]
+mod values_tests;

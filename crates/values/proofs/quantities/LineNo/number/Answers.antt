@@ -1,0 +1,11 @@
+use Rattle.std.proofs.Common.{rules}
+use Rattle.values.proofs.quantities.LineNo.number.Goals as goal
+
+pub returns-clause-value : goal.returns-clause-value
+returns-clause-value c = search rules
+
+pub returns-clause-some : goal.returns-clause-some
+returns-clause-some c = search rules
+
+pub returns-clause-limit : goal.returns-clause-limit
+returns-clause-limit c = search rules

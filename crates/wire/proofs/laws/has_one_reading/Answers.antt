@@ -1,5 +1,0 @@
-use Rattle.wire.proofs.OneReading.{one_reading}
-use Rattle.wire.proofs.laws.has_one_reading.Goals as goal
-
-pub returns : goal.returns
-returns c = one_reading

@@ -1,8 +1,0 @@
-use Rattle.std.proofs.Common.{rules}
-use Rattle.matchit.proofs.OnLiterals.{matchit_on_literals}
-use Rattle.wire.specs.Routes.{table}
-use Rattle.wire.proofs.routes.server_routes.Goals as goal
-
-pub returns : goal.returns
-unfolding matchit_on_literals table
-returns c = search rules
