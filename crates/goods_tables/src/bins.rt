@@ -1,18 +1,21 @@
 //! The table `bins`.
 
-ghost use Rattle.std.specs.Prelude.{◌≡◌, ◌≢◌, ◌≤◌, true, false, find, map, OnOk, IfOk, IfErr, bytes_eq, nat_eq, if◌then◌else◌};
+ghost use Rattle.std.specs.Prelude.{◌≡◌, ◌≢◌, ◌≤◌, true, false, find, map, OnOk, IfOk, IfErr, bytes_eq};
 ghost use Rattle.std.specs.List.{AllByRecursion};
 ghost use Rattle.sqlite.specs.State.{HasCleanDisk, Survives, KeepsCommit, IsUnchanged};
 ghost use Rattle.sqlite.specs.Held.{state};
+ghost use Rattle.sqlite.specs.Values.{bound};
 ghost use Rattle.table_words.specs.Found.{AreRows};
 ghost use Rattle.table_words.specs.Steps.{IsReady, Goes};
-ghost use Rattle.table_words.specs.Typed.{tables_in, same_lot_id, with_bin, without_bin, is_bin, has_bin, bin_read, bin_key, same_bin, BinKey, bins_of_rows, all_bins_rows};
+ghost use Rattle.table_words.specs.Typed.{tables_in, same_lot_id, with_bin, without_bin, is_bin, has_bin, bin_cells, bin_read, bin_key, same_bin, BinKey, bins_of_rows, all_bins_rows};
 ghost use Rattle.table_words.specs.declared.error.TableFault.TheVariants.{Foreign};
 
 use crate::texts::{ADD_BIN, ALL_BINS, BINS_OF, CHANGE_BIN, DROP_BIN};
 use commands::BinRow;
+use sqlite::types::ValueRef;
 use sqlite::{Alter, Row, Transaction};
 use std::alloc::Global;
+use table_words::calls::{put, run};
 use table_words::columns::{bin_kind_at, name_at, of_bin_kind, of_name};
 use table_words::error::TableFault;
 use values::Name;
@@ -26,34 +29,15 @@ pub fn drop_bin<S: Alter>(tx: &mut Transaction<'_, S>, name: &Name) -> Result<()
     ensures survives { Survives (state S.Store tx.old.conn.now) (state S.Store tx.new.conn.now) (λ _. ⊥) }
     ensures never_foreign { IfErr result (λ e. e ≢ Foreign) }
 {
-    tx.execute(DROP_BIN, &[of_name(name)])?;
-    Ok(())
+    run(tx, DROP_BIN, &[of_name(name)])
 }
 
-/// Writes the row over one with its key, and tells whether there was one.
-fn change_bin<S: Alter>(tx: &mut Transaction<'_, S>, row: &BinRow) -> Result<bool, TableFault>
-    ensures same_reference { tx.new.conn.ghost_name ≡ tx.old.conn.ghost_name }
-    ensures done { HasCleanDisk (state S.Store tx.new.conn.now) → IsReady (state S.Store tx.old.conn.now).now
-        → IfOk result (λ had. Goes (if had then with_bin row.now else (λ t. t)) (state S.Store tx.old.conn.now) (state S.Store tx.new.conn.now)) }
-    ensures kept { HasCleanDisk (state S.Store tx.new.conn.now) → KeepsCommit (state S.Store tx.old.conn.now) (state S.Store tx.new.conn.now) }
-    ensures survives { Survives (state S.Store tx.old.conn.now) (state S.Store tx.new.conn.now) (λ _. ⊥) }
-    ensures never_foreign { IfErr result (λ e. e ≢ Foreign) }
+/// The values of the columns, in their order.
+fn cells(row: &BinRow) -> [ValueRef<'_>; 2]
+    ensures value { bound result ≡ bin_cells row.now }
+    ensures rule { has_bin (bin_cells row.now) ≡ true }
 {
-    let count = tx.execute(CHANGE_BIN, &[of_name(&row.name), of_bin_kind(row.kind)])?;
-    Ok(count != 0)
-}
-
-/// Puts a row whose key is new.
-fn add_bin<S: Alter>(tx: &mut Transaction<'_, S>, row: &BinRow) -> Result<(), TableFault>
-    ensures same_reference { tx.new.conn.ghost_name ≡ tx.old.conn.ghost_name }
-    ensures done { HasCleanDisk (state S.Store tx.new.conn.now) → IsReady (state S.Store tx.old.conn.now).now
-        → OnOk result (Goes (with_bin row.now) (state S.Store tx.old.conn.now) (state S.Store tx.new.conn.now)) }
-    ensures kept { HasCleanDisk (state S.Store tx.new.conn.now) → KeepsCommit (state S.Store tx.old.conn.now) (state S.Store tx.new.conn.now) }
-    ensures survives { Survives (state S.Store tx.old.conn.now) (state S.Store tx.new.conn.now) (λ _. ⊥) }
-    ensures never_foreign { IfErr result (λ e. e ≢ Foreign) }
-{
-    tx.execute(ADD_BIN, &[of_name(&row.name), of_bin_kind(row.kind)])?;
-    Ok(())
+    [of_name(&row.name), of_bin_kind(row.kind)]
 }
 
 /// Puts the row, in place of one with its key.
@@ -65,20 +49,17 @@ pub fn put_bin<S: Alter>(tx: &mut Transaction<'_, S>, row: &BinRow) -> Result<()
     ensures survives { Survives (state S.Store tx.old.conn.now) (state S.Store tx.new.conn.now) (λ _. ⊥) }
     ensures never_foreign { IfErr result (λ e. e ≢ Foreign) }
 {
-    if change_bin(tx, row)? {
-        return Ok(());
-    }
-    add_bin(tx, row)
+    put(tx, CHANGE_BIN, ADD_BIN, &cells(row))
 }
 
 fn to_row(row: &Row) -> Result<BinRow, TableFault>
     ensures ok { IfOk result (λ s. (has_bin row.now ≡ true) × (bin_read row.now ≡ s)) }
     ensures foreign { IfErr result (λ e. e ≡ Foreign → has_bin row.now ≡ false) }
 {
-    Ok(BinRow {
-        name: name_at(row, 0)?,
-        kind: bin_kind_at(row, 1)?,
-    })
+    match (name_at(row, 0), bin_kind_at(row, 1)) {
+        (Ok(name), Ok(kind)) => Ok(BinRow { name, kind }),
+        _ => Err(TableFault::Foreign),
+    }
 }
 
 fn to_rows(alloc: Global, rows: &[Row]) -> Result<Vec<BinRow>, TableFault>

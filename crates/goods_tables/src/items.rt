@@ -1,18 +1,21 @@
 //! The table `items`.
 
-ghost use Rattle.std.specs.Prelude.{◌≡◌, ◌≢◌, ◌≤◌, true, false, find, map, OnOk, IfOk, IfErr, bytes_eq, nat_eq, if◌then◌else◌};
+ghost use Rattle.std.specs.Prelude.{◌≡◌, ◌≢◌, ◌≤◌, true, false, find, map, OnOk, IfOk, IfErr, bytes_eq};
 ghost use Rattle.std.specs.List.{AllByRecursion};
 ghost use Rattle.sqlite.specs.State.{HasCleanDisk, Survives, KeepsCommit, IsUnchanged};
 ghost use Rattle.sqlite.specs.Held.{state};
+ghost use Rattle.sqlite.specs.Values.{bound};
 ghost use Rattle.table_words.specs.Found.{AreRows};
 ghost use Rattle.table_words.specs.Steps.{IsReady, Goes};
-ghost use Rattle.table_words.specs.Typed.{tables_in, same_lot_id, with_item, without_item, is_item, has_item, item_read, item_key, same_item, ItemKey, items_of_rows, all_items_rows};
+ghost use Rattle.table_words.specs.Typed.{tables_in, same_lot_id, with_item, without_item, is_item, has_item, item_cells, item_read, item_key, same_item, ItemKey, items_of_rows, all_items_rows};
 ghost use Rattle.table_words.specs.declared.error.TableFault.TheVariants.{Foreign};
 
 use crate::texts::{ADD_ITEM, ALL_ITEMS, CHANGE_ITEM, DROP_ITEM, ITEMS_OF};
 use commands::ItemRow;
+use sqlite::types::ValueRef;
 use sqlite::{Alter, Row, Transaction};
 use std::alloc::Global;
+use table_words::calls::{put, run};
 use table_words::columns::{gtin_at, of_gtin, of_title, title_at};
 use table_words::error::TableFault;
 use values::Gtin;
@@ -26,34 +29,15 @@ pub fn drop_item<S: Alter>(tx: &mut Transaction<'_, S>, gtin: &Gtin) -> Result<(
     ensures survives { Survives (state S.Store tx.old.conn.now) (state S.Store tx.new.conn.now) (λ _. ⊥) }
     ensures never_foreign { IfErr result (λ e. e ≢ Foreign) }
 {
-    tx.execute(DROP_ITEM, &[of_gtin(gtin)])?;
-    Ok(())
+    run(tx, DROP_ITEM, &[of_gtin(gtin)])
 }
 
-/// Writes the row over one with its key, and tells whether there was one.
-fn change_item<S: Alter>(tx: &mut Transaction<'_, S>, row: &ItemRow) -> Result<bool, TableFault>
-    ensures same_reference { tx.new.conn.ghost_name ≡ tx.old.conn.ghost_name }
-    ensures done { HasCleanDisk (state S.Store tx.new.conn.now) → IsReady (state S.Store tx.old.conn.now).now
-        → IfOk result (λ had. Goes (if had then with_item row.now else (λ t. t)) (state S.Store tx.old.conn.now) (state S.Store tx.new.conn.now)) }
-    ensures kept { HasCleanDisk (state S.Store tx.new.conn.now) → KeepsCommit (state S.Store tx.old.conn.now) (state S.Store tx.new.conn.now) }
-    ensures survives { Survives (state S.Store tx.old.conn.now) (state S.Store tx.new.conn.now) (λ _. ⊥) }
-    ensures never_foreign { IfErr result (λ e. e ≢ Foreign) }
+/// The values of the columns, in their order.
+fn cells(row: &ItemRow) -> [ValueRef<'_>; 2]
+    ensures value { bound result ≡ item_cells row.now }
+    ensures rule { has_item (item_cells row.now) ≡ true }
 {
-    let count = tx.execute(CHANGE_ITEM, &[of_gtin(&row.gtin), of_title(&row.name)])?;
-    Ok(count != 0)
-}
-
-/// Puts a row whose key is new.
-fn add_item<S: Alter>(tx: &mut Transaction<'_, S>, row: &ItemRow) -> Result<(), TableFault>
-    ensures same_reference { tx.new.conn.ghost_name ≡ tx.old.conn.ghost_name }
-    ensures done { HasCleanDisk (state S.Store tx.new.conn.now) → IsReady (state S.Store tx.old.conn.now).now
-        → OnOk result (Goes (with_item row.now) (state S.Store tx.old.conn.now) (state S.Store tx.new.conn.now)) }
-    ensures kept { HasCleanDisk (state S.Store tx.new.conn.now) → KeepsCommit (state S.Store tx.old.conn.now) (state S.Store tx.new.conn.now) }
-    ensures survives { Survives (state S.Store tx.old.conn.now) (state S.Store tx.new.conn.now) (λ _. ⊥) }
-    ensures never_foreign { IfErr result (λ e. e ≢ Foreign) }
-{
-    tx.execute(ADD_ITEM, &[of_gtin(&row.gtin), of_title(&row.name)])?;
-    Ok(())
+    [of_gtin(&row.gtin), of_title(&row.name)]
 }
 
 /// Puts the row, in place of one with its key.
@@ -65,20 +49,17 @@ pub fn put_item<S: Alter>(tx: &mut Transaction<'_, S>, row: &ItemRow) -> Result<
     ensures survives { Survives (state S.Store tx.old.conn.now) (state S.Store tx.new.conn.now) (λ _. ⊥) }
     ensures never_foreign { IfErr result (λ e. e ≢ Foreign) }
 {
-    if change_item(tx, row)? {
-        return Ok(());
-    }
-    add_item(tx, row)
+    put(tx, CHANGE_ITEM, ADD_ITEM, &cells(row))
 }
 
 fn to_row(row: &Row) -> Result<ItemRow, TableFault>
     ensures ok { IfOk result (λ s. (has_item row.now ≡ true) × (item_read row.now ≡ s)) }
     ensures foreign { IfErr result (λ e. e ≡ Foreign → has_item row.now ≡ false) }
 {
-    Ok(ItemRow {
-        gtin: gtin_at(row, 0)?,
-        name: title_at(row, 1)?,
-    })
+    match (gtin_at(row, 0), title_at(row, 1)) {
+        (Ok(gtin), Ok(name)) => Ok(ItemRow { gtin, name }),
+        _ => Err(TableFault::Foreign),
+    }
 }
 
 fn to_rows(alloc: Global, rows: &[Row]) -> Result<Vec<ItemRow>, TableFault>

@@ -1,19 +1,22 @@
 //! The table `lots`.
 
-ghost use Rattle.std.specs.Prelude.{◌≡◌, ◌≢◌, ◌≤◌, ◌<◌, true, false, find, map, OnOk, IfOk, IfErr, bytes_eq, nat_eq, if◌then◌else◌};
+ghost use Rattle.std.specs.Prelude.{◌≡◌, ◌≢◌, ◌≤◌, ◌<◌, true, false, find, map, OnOk, IfOk, IfErr, bytes_eq};
 ghost use Rattle.std.specs.List.{AllByRecursion};
 ghost use Rattle.sqlite.specs.State.{HasCleanDisk, Survives, KeepsCommit, IsUnchanged};
 ghost use Rattle.sqlite.specs.Held.{state};
+ghost use Rattle.sqlite.specs.Values.{bound};
 ghost use Rattle.table_words.specs.Found.{AreRows};
 ghost use Rattle.table_words.specs.Steps.{IsReady, Goes, IsTooBig};
-ghost use Rattle.table_words.specs.Typed.{tables_in, same_lot_id, with_lot, without_lot, is_lot, has_lot, lot_read, lot_key, same_lot, LotKey, lots_of_rows, all_lots_rows};
+ghost use Rattle.table_words.specs.Typed.{tables_in, same_lot_id, with_lot, without_lot, is_lot, has_lot, lot_cells, lot_read, lot_key, same_lot, LotKey, lots_of_rows, all_lots_rows};
 ghost use Rattle.table_words.specs.declared.error.TableFault.TheVariants.{Foreign};
 
 use crate::texts::{ADD_LOT, ALL_LOTS, CHANGE_LOT, DROP_LOT, LOTS_OF};
 use commands::LotRow;
 use commands::limits::ACTS_MAX;
+use sqlite::types::ValueRef;
 use sqlite::{Alter, Row, Transaction};
 use std::alloc::Global;
+use table_words::calls::{put, run};
 use table_words::columns::{
     day_at, flag_at, gtin_at, lot_at, number_at, of_day, of_flag, of_gtin, of_lot, of_number,
 };
@@ -29,54 +32,22 @@ pub fn drop_lot<S: Alter>(tx: &mut Transaction<'_, S>, lot: &LotId) -> Result<()
     ensures survives { Survives (state S.Store tx.old.conn.now) (state S.Store tx.new.conn.now) (λ _. ⊥) }
     ensures never_foreign { IfErr result (λ e. e ≢ Foreign) }
 {
-    tx.execute(DROP_LOT, &[of_gtin(&lot.gtin), of_lot(&lot.lot)])?;
-    Ok(())
+    run(tx, DROP_LOT, &[of_gtin(&lot.gtin), of_lot(&lot.lot)])
 }
 
-/// Writes the row over one with its key, and tells whether there was one.
-fn change_lot<S: Alter>(tx: &mut Transaction<'_, S>, row: &LotRow) -> Result<bool, TableFault>
+/// The values of the columns, in their order.
+fn cells(row: &LotRow) -> [ValueRef<'_>; 5]
     requires fits_came { row.now.came ≤ ACTS_MAX }
-    ensures same_reference { tx.new.conn.ghost_name ≡ tx.old.conn.ghost_name }
-    ensures done { HasCleanDisk (state S.Store tx.new.conn.now) → IsReady (state S.Store tx.old.conn.now).now
-        → IfOk result (λ had. Goes (if had then with_lot row.now else (λ t. t)) (state S.Store tx.old.conn.now) (state S.Store tx.new.conn.now)) }
-    ensures kept { HasCleanDisk (state S.Store tx.new.conn.now) → KeepsCommit (state S.Store tx.old.conn.now) (state S.Store tx.new.conn.now) }
-    ensures survives { Survives (state S.Store tx.old.conn.now) (state S.Store tx.new.conn.now) (λ _. ⊥) }
-    ensures never_foreign { IfErr result (λ e. e ≢ Foreign) }
+    ensures value { bound result ≡ lot_cells row.now }
+    ensures rule { has_lot (lot_cells row.now) ≡ true }
 {
-    let count = tx.execute(
-        CHANGE_LOT,
-        &[
-            of_gtin(&row.lot.gtin),
-            of_lot(&row.lot.lot),
-            of_day(row.expiry),
-            of_number(row.came),
-            of_flag(row.held),
-        ],
-    )?;
-    Ok(count != 0)
-}
-
-/// Puts a row whose key is new.
-fn add_lot<S: Alter>(tx: &mut Transaction<'_, S>, row: &LotRow) -> Result<(), TableFault>
-    requires fits_came { row.now.came ≤ ACTS_MAX }
-    ensures same_reference { tx.new.conn.ghost_name ≡ tx.old.conn.ghost_name }
-    ensures done { HasCleanDisk (state S.Store tx.new.conn.now) → IsReady (state S.Store tx.old.conn.now).now
-        → OnOk result (Goes (with_lot row.now) (state S.Store tx.old.conn.now) (state S.Store tx.new.conn.now)) }
-    ensures kept { HasCleanDisk (state S.Store tx.new.conn.now) → KeepsCommit (state S.Store tx.old.conn.now) (state S.Store tx.new.conn.now) }
-    ensures survives { Survives (state S.Store tx.old.conn.now) (state S.Store tx.new.conn.now) (λ _. ⊥) }
-    ensures never_foreign { IfErr result (λ e. e ≢ Foreign) }
-{
-    tx.execute(
-        ADD_LOT,
-        &[
-            of_gtin(&row.lot.gtin),
-            of_lot(&row.lot.lot),
-            of_day(row.expiry),
-            of_number(row.came),
-            of_flag(row.held),
-        ],
-    )?;
-    Ok(())
+    [
+        of_gtin(&row.lot.gtin),
+        of_lot(&row.lot.lot),
+        of_day(row.expiry),
+        of_number(row.came),
+        of_flag(row.held),
+    ]
 }
 
 /// Puts the row, in place of one with its key. A number above its limit is refused as too big.
@@ -92,25 +63,28 @@ pub fn put_lot<S: Alter>(tx: &mut Transaction<'_, S>, row: &LotRow) -> Result<()
     if row.came > ACTS_MAX {
         return Err(TableFault::too_big());
     }
-    if change_lot(tx, row)? {
-        return Ok(());
-    }
-    add_lot(tx, row)
+    put(tx, CHANGE_LOT, ADD_LOT, &cells(row))
 }
 
 fn to_row(row: &Row) -> Result<LotRow, TableFault>
     ensures ok { IfOk result (λ s. (has_lot row.now ≡ true) × (lot_read row.now ≡ s)) }
     ensures foreign { IfErr result (λ e. e ≡ Foreign → has_lot row.now ≡ false) }
 {
-    Ok(LotRow {
-        lot: LotId {
-            gtin: gtin_at(row, 0)?,
-            lot: lot_at(row, 1)?,
-        },
-        expiry: day_at(row, 2)?,
-        came: number_at(row, 3, ACTS_MAX)?,
-        held: flag_at(row, 4)?,
-    })
+    match (
+        gtin_at(row, 0),
+        lot_at(row, 1),
+        day_at(row, 2),
+        number_at(row, 3, ACTS_MAX),
+        flag_at(row, 4),
+    ) {
+        (Ok(gtin), Ok(lot), Ok(expiry), Ok(came), Ok(held)) => Ok(LotRow {
+            lot: LotId { gtin, lot },
+            expiry,
+            came,
+            held,
+        }),
+        _ => Err(TableFault::Foreign),
+    }
 }
 
 fn to_rows(alloc: Global, rows: &[Row]) -> Result<Vec<LotRow>, TableFault>

@@ -1,72 +1,42 @@
 //! The table `meta`.
 
-ghost use Rattle.std.specs.Prelude.{◌≡◌, ◌≢◌, ◌≤◌, ◌<◌, true, false, find, map, OnOk, IfOk, IfErr, bytes_eq, nat_eq, if◌then◌else◌};
+ghost use Rattle.std.specs.Prelude.{◌≡◌, ◌≢◌, ◌≤◌, ◌<◌, true, false, find, map, OnOk, IfOk, IfErr, bytes_eq};
 ghost use Rattle.std.specs.List.{AllByRecursion};
 ghost use Rattle.sqlite.specs.State.{HasCleanDisk, Survives, KeepsCommit, IsUnchanged};
 ghost use Rattle.sqlite.specs.Held.{state};
+ghost use Rattle.sqlite.specs.Values.{bound};
 ghost use Rattle.table_words.specs.Found.{AreRows};
 ghost use Rattle.table_words.specs.Steps.{IsReady, Goes, IsTooBig};
-ghost use Rattle.table_words.specs.Typed.{tables_in, same_lot_id, with_meta, is_meta, has_meta, meta_read, meta_key, same_meta, MetaKey, meta_rows_rows};
+ghost use Rattle.table_words.specs.Typed.{tables_in, same_lot_id, with_meta, is_meta, has_meta, meta_cells, meta_read, meta_key, same_meta, MetaKey, meta_rows_rows};
 ghost use Rattle.table_words.specs.declared.error.TableFault.TheVariants.{Foreign};
 
 use crate::texts::{ADD_META, CHANGE_META, META_ROWS};
 use commands::MetaRow;
 use commands::limits::{ACTS_MAX, SCHEMA_VERSION};
+use sqlite::types::ValueRef;
 use sqlite::{Alter, Row, Transaction};
 use std::alloc::Global;
+use table_words::calls::put;
 use table_words::columns::{
     business_day_at, expect_mark, expect_number, number_at, of_business_day, of_mark, of_number,
 };
 use table_words::error::TableFault;
 
-/// Writes the row over one with its key, and tells whether there was one.
-fn change_meta<S: Alter>(tx: &mut Transaction<'_, S>, row: &MetaRow) -> Result<bool, TableFault>
+/// The values of the columns, in their order.
+fn cells(row: &MetaRow) -> [ValueRef<'_>; 6]
     requires fits_acts { row.now.acts ≤ ACTS_MAX }
     requires fits_shipments { row.now.shipments ≤ ACTS_MAX }
-    ensures same_reference { tx.new.conn.ghost_name ≡ tx.old.conn.ghost_name }
-    ensures done { HasCleanDisk (state S.Store tx.new.conn.now) → IsReady (state S.Store tx.old.conn.now).now
-        → IfOk result (λ had. Goes (if had then with_meta row.now else (λ t. t)) (state S.Store tx.old.conn.now) (state S.Store tx.new.conn.now)) }
-    ensures kept { HasCleanDisk (state S.Store tx.new.conn.now) → KeepsCommit (state S.Store tx.old.conn.now) (state S.Store tx.new.conn.now) }
-    ensures survives { Survives (state S.Store tx.old.conn.now) (state S.Store tx.new.conn.now) (λ _. ⊥) }
-    ensures never_foreign { IfErr result (λ e. e ≢ Foreign) }
+    ensures value { bound result ≡ meta_cells row.now }
+    ensures rule { has_meta (meta_cells row.now) ≡ true }
 {
-    let count = tx.execute(
-        CHANGE_META,
-        &[
-            of_number(1),
-            of_mark(),
-            of_number(SCHEMA_VERSION),
-            of_business_day(row.day),
-            of_number(row.acts),
-            of_number(row.shipments),
-        ],
-    )?;
-    Ok(count != 0)
-}
-
-/// Puts a row whose key is new.
-fn add_meta<S: Alter>(tx: &mut Transaction<'_, S>, row: &MetaRow) -> Result<(), TableFault>
-    requires fits_acts { row.now.acts ≤ ACTS_MAX }
-    requires fits_shipments { row.now.shipments ≤ ACTS_MAX }
-    ensures same_reference { tx.new.conn.ghost_name ≡ tx.old.conn.ghost_name }
-    ensures done { HasCleanDisk (state S.Store tx.new.conn.now) → IsReady (state S.Store tx.old.conn.now).now
-        → OnOk result (Goes (with_meta row.now) (state S.Store tx.old.conn.now) (state S.Store tx.new.conn.now)) }
-    ensures kept { HasCleanDisk (state S.Store tx.new.conn.now) → KeepsCommit (state S.Store tx.old.conn.now) (state S.Store tx.new.conn.now) }
-    ensures survives { Survives (state S.Store tx.old.conn.now) (state S.Store tx.new.conn.now) (λ _. ⊥) }
-    ensures never_foreign { IfErr result (λ e. e ≢ Foreign) }
-{
-    tx.execute(
-        ADD_META,
-        &[
-            of_number(1),
-            of_mark(),
-            of_number(SCHEMA_VERSION),
-            of_business_day(row.day),
-            of_number(row.acts),
-            of_number(row.shipments),
-        ],
-    )?;
-    Ok(())
+    [
+        of_number(1),
+        of_mark(),
+        of_number(SCHEMA_VERSION),
+        of_business_day(row.day),
+        of_number(row.acts),
+        of_number(row.shipments),
+    ]
 }
 
 /// Puts the row, in place of one with its key. A number above its limit is refused as too big.
@@ -83,24 +53,28 @@ pub fn put_meta<S: Alter>(tx: &mut Transaction<'_, S>, row: &MetaRow) -> Result<
     if row.acts > ACTS_MAX || row.shipments > ACTS_MAX {
         return Err(TableFault::too_big());
     }
-    if change_meta(tx, row)? {
-        return Ok(());
-    }
-    add_meta(tx, row)
+    put(tx, CHANGE_META, ADD_META, &cells(row))
 }
 
 fn to_row(row: &Row) -> Result<MetaRow, TableFault>
     ensures ok { IfOk result (λ s. (has_meta row.now ≡ true) × (meta_read row.now ≡ s)) }
     ensures foreign { IfErr result (λ e. e ≡ Foreign → has_meta row.now ≡ false) }
 {
-    expect_number(row, 0, 1)?;
-    expect_mark(row, 1)?;
-    expect_number(row, 2, SCHEMA_VERSION)?;
-    Ok(MetaRow {
-        day: business_day_at(row, 3)?,
-        acts: number_at(row, 4, ACTS_MAX)?,
-        shipments: number_at(row, 5, ACTS_MAX)?,
-    })
+    match (
+        expect_number(row, 0, 1),
+        expect_mark(row, 1),
+        expect_number(row, 2, SCHEMA_VERSION),
+        business_day_at(row, 3),
+        number_at(row, 4, ACTS_MAX),
+        number_at(row, 5, ACTS_MAX),
+    ) {
+        (Ok(()), Ok(()), Ok(()), Ok(day), Ok(acts), Ok(shipments)) => Ok(MetaRow {
+            day,
+            acts,
+            shipments,
+        }),
+        _ => Err(TableFault::Foreign),
+    }
 }
 
 fn to_rows(alloc: Global, rows: &[Row]) -> Result<Vec<MetaRow>, TableFault>

@@ -1,19 +1,22 @@
 //! The table `recalls`.
 
-ghost use Rattle.std.specs.Prelude.{◌≡◌, ◌≢◌, ◌≤◌, ◌<◌, true, false, find, map, OnOk, IfOk, IfErr, bytes_eq, nat_eq, if◌then◌else◌};
+ghost use Rattle.std.specs.Prelude.{◌≡◌, ◌≢◌, ◌≤◌, ◌<◌, true, false, find, map, OnOk, IfOk, IfErr, bytes_eq};
 ghost use Rattle.std.specs.List.{AllByRecursion};
 ghost use Rattle.sqlite.specs.State.{HasCleanDisk, Survives, KeepsCommit, IsUnchanged};
 ghost use Rattle.sqlite.specs.Held.{state};
+ghost use Rattle.sqlite.specs.Values.{bound};
 ghost use Rattle.table_words.specs.Found.{AreRows};
 ghost use Rattle.table_words.specs.Steps.{IsReady, Goes, IsTooBig};
-ghost use Rattle.table_words.specs.Typed.{tables_in, same_lot_id, with_recall, without_recall, is_recall, has_recall, recall_read, recall_key, same_recall, RecallKey, recalls_of_rows};
+ghost use Rattle.table_words.specs.Typed.{tables_in, same_lot_id, with_recall, without_recall, is_recall, has_recall, recall_cells, recall_read, recall_key, same_recall, RecallKey, recalls_of_rows};
 ghost use Rattle.table_words.specs.declared.error.TableFault.TheVariants.{Foreign};
 
 use crate::texts::{ADD_RECALL, CHANGE_RECALL, DROP_RECALL, RECALLS_OF};
 use commands::RecallRow;
 use commands::limits::ACTS_MAX;
+use sqlite::types::ValueRef;
 use sqlite::{Alter, Row, Transaction};
 use std::alloc::Global;
+use table_words::calls::{put, run};
 use table_words::columns::{gtin_at, lot_at, number_at, of_gtin, of_lot, of_number};
 use table_words::error::TableFault;
 use values::{Gtin, LotId};
@@ -27,50 +30,20 @@ pub fn drop_recall<S: Alter>(tx: &mut Transaction<'_, S>, lot: &LotId) -> Result
     ensures survives { Survives (state S.Store tx.old.conn.now) (state S.Store tx.new.conn.now) (λ _. ⊥) }
     ensures never_foreign { IfErr result (λ e. e ≢ Foreign) }
 {
-    tx.execute(DROP_RECALL, &[of_gtin(&lot.gtin), of_lot(&lot.lot)])?;
-    Ok(())
+    run(tx, DROP_RECALL, &[of_gtin(&lot.gtin), of_lot(&lot.lot)])
 }
 
-/// Writes the row over one with its key, and tells whether there was one.
-fn change_recall<S: Alter>(tx: &mut Transaction<'_, S>, row: &RecallRow) -> Result<bool, TableFault>
+/// The values of the columns, in their order.
+fn cells(row: &RecallRow) -> [ValueRef<'_>; 3]
     requires fits_act { row.now.act ≤ ACTS_MAX }
-    ensures same_reference { tx.new.conn.ghost_name ≡ tx.old.conn.ghost_name }
-    ensures done { HasCleanDisk (state S.Store tx.new.conn.now) → IsReady (state S.Store tx.old.conn.now).now
-        → IfOk result (λ had. Goes (if had then with_recall row.now else (λ t. t)) (state S.Store tx.old.conn.now) (state S.Store tx.new.conn.now)) }
-    ensures kept { HasCleanDisk (state S.Store tx.new.conn.now) → KeepsCommit (state S.Store tx.old.conn.now) (state S.Store tx.new.conn.now) }
-    ensures survives { Survives (state S.Store tx.old.conn.now) (state S.Store tx.new.conn.now) (λ _. ⊥) }
-    ensures never_foreign { IfErr result (λ e. e ≢ Foreign) }
+    ensures value { bound result ≡ recall_cells row.now }
+    ensures rule { has_recall (recall_cells row.now) ≡ true }
 {
-    let count = tx.execute(
-        CHANGE_RECALL,
-        &[
-            of_gtin(&row.lot.gtin),
-            of_lot(&row.lot.lot),
-            of_number(row.act),
-        ],
-    )?;
-    Ok(count != 0)
-}
-
-/// Puts a row whose key is new.
-fn add_recall<S: Alter>(tx: &mut Transaction<'_, S>, row: &RecallRow) -> Result<(), TableFault>
-    requires fits_act { row.now.act ≤ ACTS_MAX }
-    ensures same_reference { tx.new.conn.ghost_name ≡ tx.old.conn.ghost_name }
-    ensures done { HasCleanDisk (state S.Store tx.new.conn.now) → IsReady (state S.Store tx.old.conn.now).now
-        → OnOk result (Goes (with_recall row.now) (state S.Store tx.old.conn.now) (state S.Store tx.new.conn.now)) }
-    ensures kept { HasCleanDisk (state S.Store tx.new.conn.now) → KeepsCommit (state S.Store tx.old.conn.now) (state S.Store tx.new.conn.now) }
-    ensures survives { Survives (state S.Store tx.old.conn.now) (state S.Store tx.new.conn.now) (λ _. ⊥) }
-    ensures never_foreign { IfErr result (λ e. e ≢ Foreign) }
-{
-    tx.execute(
-        ADD_RECALL,
-        &[
-            of_gtin(&row.lot.gtin),
-            of_lot(&row.lot.lot),
-            of_number(row.act),
-        ],
-    )?;
-    Ok(())
+    [
+        of_gtin(&row.lot.gtin),
+        of_lot(&row.lot.lot),
+        of_number(row.act),
+    ]
 }
 
 /// Puts the row, in place of one with its key. A number above its limit is refused as too big.
@@ -86,23 +59,20 @@ pub fn put_recall<S: Alter>(tx: &mut Transaction<'_, S>, row: &RecallRow) -> Res
     if row.act > ACTS_MAX {
         return Err(TableFault::too_big());
     }
-    if change_recall(tx, row)? {
-        return Ok(());
-    }
-    add_recall(tx, row)
+    put(tx, CHANGE_RECALL, ADD_RECALL, &cells(row))
 }
 
 fn to_row(row: &Row) -> Result<RecallRow, TableFault>
     ensures ok { IfOk result (λ s. (has_recall row.now ≡ true) × (recall_read row.now ≡ s)) }
     ensures foreign { IfErr result (λ e. e ≡ Foreign → has_recall row.now ≡ false) }
 {
-    Ok(RecallRow {
-        lot: LotId {
-            gtin: gtin_at(row, 0)?,
-            lot: lot_at(row, 1)?,
-        },
-        act: number_at(row, 2, ACTS_MAX)?,
-    })
+    match (gtin_at(row, 0), lot_at(row, 1), number_at(row, 2, ACTS_MAX)) {
+        (Ok(gtin), Ok(lot), Ok(act)) => Ok(RecallRow {
+            lot: LotId { gtin, lot },
+            act,
+        }),
+        _ => Err(TableFault::Foreign),
+    }
 }
 
 fn to_rows(alloc: Global, rows: &[Row]) -> Result<Vec<RecallRow>, TableFault>

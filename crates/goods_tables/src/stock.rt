@@ -1,24 +1,35 @@
 //! The table `stock`.
 
-ghost use Rattle.std.specs.Prelude.{◌≡◌, ◌≢◌, ◌≤◌, ◌<◌, true, false, find, map, OnOk, IfOk, IfErr, bytes_eq, nat_eq, if◌then◌else◌};
+ghost use Rattle.std.specs.Prelude.{◌≡◌, ◌≢◌, ◌≤◌, ◌<◌, true, false, [], ◌∷◌, find, map, OnOk, IfOk, IfErr, bytes_eq};
 ghost use Rattle.std.specs.List.{AllByRecursion};
 ghost use Rattle.sqlite.specs.State.{HasCleanDisk, Survives, KeepsCommit, IsUnchanged};
 ghost use Rattle.sqlite.specs.Held.{state};
+ghost use Rattle.sqlite.specs.Values.{bound};
+ghost use Rattle.sqlite_value.specs.declared.value.Value.TheVariants.{Text as TextValue};
 ghost use Rattle.table_words.specs.Found.{AreRows};
 ghost use Rattle.table_words.specs.Steps.{IsReady, Goes, IsTooBig};
-ghost use Rattle.table_words.specs.Typed.{tables_in, same_lot_id, with_stock, without_stock, is_stock, has_stock, stock_read, stock_key, same_stock, StockKey, stock_of_rows};
+ghost use Rattle.table_words.specs.Typed.{tables_in, same_lot_id, with_stock, without_stock, is_stock, has_stock, stock_cells, stock_read, stock_key, same_stock, StockKey, stock_of_rows};
 ghost use Rattle.table_words.specs.declared.error.TableFault.TheVariants.{Foreign};
 
 use crate::texts::{ADD_STOCK, CHANGE_STOCK, DROP_STOCK, STOCK_OF};
 use commands::StockRow;
 use commands::limits::UNITS_MAX;
+use sqlite::types::ValueRef;
 use sqlite::{Alter, Row, Transaction};
 use std::alloc::Global;
+use table_words::calls::{put, run};
 use table_words::columns::{
     gtin_at, lot_at, name_at, number_at, of_gtin, of_lot, of_name, of_number,
 };
 use table_words::error::TableFault;
 use values::{Gtin, LotId, Name};
+
+/// The values of the columns of the key.
+fn key_cells<'a>(lot: &'a LotId, bin: &'a Name) -> [ValueRef<'a>; 3]
+    ensures { bound result ≡ TextValue lot.now.gtin ∷ TextValue lot.now.lot ∷ TextValue bin.now ∷ [] }
+{
+    [of_gtin(&lot.gtin), of_lot(&lot.lot), of_name(bin)]
+}
 
 /// Drops the row with this key, if there is one.
 pub fn drop_stock<S: Alter>(
@@ -33,55 +44,21 @@ pub fn drop_stock<S: Alter>(
     ensures survives { Survives (state S.Store tx.old.conn.now) (state S.Store tx.new.conn.now) (λ _. ⊥) }
     ensures never_foreign { IfErr result (λ e. e ≢ Foreign) }
 {
-    tx.execute(
-        DROP_STOCK,
-        &[of_gtin(&lot.gtin), of_lot(&lot.lot), of_name(bin)],
-    )?;
-    Ok(())
+    run(tx, DROP_STOCK, &key_cells(lot, bin))
 }
 
-/// Writes the row over one with its key, and tells whether there was one.
-fn change_stock<S: Alter>(tx: &mut Transaction<'_, S>, row: &StockRow) -> Result<bool, TableFault>
+/// The values of the columns, in their order.
+fn cells(row: &StockRow) -> [ValueRef<'_>; 4]
     requires fits_qty { row.now.qty ≤ UNITS_MAX }
-    ensures same_reference { tx.new.conn.ghost_name ≡ tx.old.conn.ghost_name }
-    ensures done { HasCleanDisk (state S.Store tx.new.conn.now) → IsReady (state S.Store tx.old.conn.now).now
-        → IfOk result (λ had. Goes (if had then with_stock row.now else (λ t. t)) (state S.Store tx.old.conn.now) (state S.Store tx.new.conn.now)) }
-    ensures kept { HasCleanDisk (state S.Store tx.new.conn.now) → KeepsCommit (state S.Store tx.old.conn.now) (state S.Store tx.new.conn.now) }
-    ensures survives { Survives (state S.Store tx.old.conn.now) (state S.Store tx.new.conn.now) (λ _. ⊥) }
-    ensures never_foreign { IfErr result (λ e. e ≢ Foreign) }
+    ensures value { bound result ≡ stock_cells row.now }
+    ensures rule { has_stock (stock_cells row.now) ≡ true }
 {
-    let count = tx.execute(
-        CHANGE_STOCK,
-        &[
-            of_gtin(&row.lot.gtin),
-            of_lot(&row.lot.lot),
-            of_name(&row.bin),
-            of_number(row.qty),
-        ],
-    )?;
-    Ok(count != 0)
-}
-
-/// Puts a row whose key is new.
-fn add_stock<S: Alter>(tx: &mut Transaction<'_, S>, row: &StockRow) -> Result<(), TableFault>
-    requires fits_qty { row.now.qty ≤ UNITS_MAX }
-    ensures same_reference { tx.new.conn.ghost_name ≡ tx.old.conn.ghost_name }
-    ensures done { HasCleanDisk (state S.Store tx.new.conn.now) → IsReady (state S.Store tx.old.conn.now).now
-        → OnOk result (Goes (with_stock row.now) (state S.Store tx.old.conn.now) (state S.Store tx.new.conn.now)) }
-    ensures kept { HasCleanDisk (state S.Store tx.new.conn.now) → KeepsCommit (state S.Store tx.old.conn.now) (state S.Store tx.new.conn.now) }
-    ensures survives { Survives (state S.Store tx.old.conn.now) (state S.Store tx.new.conn.now) (λ _. ⊥) }
-    ensures never_foreign { IfErr result (λ e. e ≢ Foreign) }
-{
-    tx.execute(
-        ADD_STOCK,
-        &[
-            of_gtin(&row.lot.gtin),
-            of_lot(&row.lot.lot),
-            of_name(&row.bin),
-            of_number(row.qty),
-        ],
-    )?;
-    Ok(())
+    [
+        of_gtin(&row.lot.gtin),
+        of_lot(&row.lot.lot),
+        of_name(&row.bin),
+        of_number(row.qty),
+    ]
 }
 
 /// Puts the row, in place of one with its key. A number above its limit is refused as too big.
@@ -97,24 +74,26 @@ pub fn put_stock<S: Alter>(tx: &mut Transaction<'_, S>, row: &StockRow) -> Resul
     if row.qty > UNITS_MAX {
         return Err(TableFault::too_big());
     }
-    if change_stock(tx, row)? {
-        return Ok(());
-    }
-    add_stock(tx, row)
+    put(tx, CHANGE_STOCK, ADD_STOCK, &cells(row))
 }
 
 fn to_row(row: &Row) -> Result<StockRow, TableFault>
     ensures ok { IfOk result (λ s. (has_stock row.now ≡ true) × (stock_read row.now ≡ s)) }
     ensures foreign { IfErr result (λ e. e ≡ Foreign → has_stock row.now ≡ false) }
 {
-    Ok(StockRow {
-        lot: LotId {
-            gtin: gtin_at(row, 0)?,
-            lot: lot_at(row, 1)?,
-        },
-        bin: name_at(row, 2)?,
-        qty: number_at(row, 3, UNITS_MAX)?,
-    })
+    match (
+        gtin_at(row, 0),
+        lot_at(row, 1),
+        name_at(row, 2),
+        number_at(row, 3, UNITS_MAX),
+    ) {
+        (Ok(gtin), Ok(lot), Ok(bin), Ok(qty)) => Ok(StockRow {
+            lot: LotId { gtin, lot },
+            bin,
+            qty,
+        }),
+        _ => Err(TableFault::Foreign),
+    }
 }
 
 fn to_rows(alloc: Global, rows: &[Row]) -> Result<Vec<StockRow>, TableFault>

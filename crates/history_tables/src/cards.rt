@@ -1,25 +1,37 @@
 //! The table `cards`.
 
-ghost use Rattle.std.specs.Prelude.{◌≡◌, ◌≢◌, ◌≤◌, ◌<◌, true, false, find, map, OnOk, IfOk, IfErr, bytes_eq, nat_eq, if◌then◌else◌};
+ghost use Rattle.std.specs.Prelude.{◌≡◌, ◌≢◌, ◌≤◌, ◌<◌, true, false, [], ◌∷◌, pos, find, map, OnOk, IfOk, IfErr, bytes_eq};
 ghost use Rattle.std.specs.List.{AllByRecursion};
 ghost use Rattle.sqlite.specs.State.{HasCleanDisk, Survives, KeepsCommit, IsUnchanged};
 ghost use Rattle.sqlite.specs.Held.{state};
+ghost use Rattle.sqlite.specs.Values.{bound};
+ghost use Rattle.sqlite_value.specs.declared.value.Value.TheVariants.{Int, Text as TextValue};
 ghost use Rattle.table_words.specs.Found.{AreRows};
 ghost use Rattle.table_words.specs.Steps.{IsReady, Goes, IsTooBig};
-ghost use Rattle.table_words.specs.Typed.{tables_in, same_lot_id, with_card, without_card, is_card, has_card, card_read, card_key, same_card, CardKey, cards_of_lot_rows};
+ghost use Rattle.table_words.specs.Typed.{tables_in, same_lot_id, with_card, without_card, is_card, has_card, card_cells, card_read, card_key, same_card, CardKey, cards_of_lot_rows};
 ghost use Rattle.table_words.specs.declared.error.TableFault.TheVariants.{Foreign};
 
 use crate::texts::{ADD_CARD, CARDS_OF_LOT, CHANGE_CARD, DROP_CARD};
 use commands::CardRow;
 use commands::limits::{ACTS_MAX, UNITS_MAX};
+use sqlite::types::ValueRef;
 use sqlite::{Alter, Row, Transaction};
 use std::alloc::Global;
+use table_words::calls::{put, run};
 use table_words::columns::{
     business_day_at, card_kind_at, gtin_at, lot_at, note_at, number_at, of_business_day,
     of_card_kind, of_gtin, of_lot, of_number, of_signed, of_text, signed_at,
 };
 use table_words::error::TableFault;
 use values::LotId;
+
+/// The values of the columns of the key.
+fn key_cells<'a>(lot: &'a LotId, act: u64) -> [ValueRef<'a>; 3]
+    requires { act ≤ ACTS_MAX }
+    ensures { bound result ≡ TextValue lot.now.gtin ∷ TextValue lot.now.lot ∷ Int (pos act) ∷ [] }
+{
+    [of_gtin(&lot.gtin), of_lot(&lot.lot), of_number(act)]
+}
 
 /// Drops the row with this key, if there is one. A number above the limit is refused as too big.
 pub fn drop_card<S: Alter>(
@@ -38,65 +50,26 @@ pub fn drop_card<S: Alter>(
     if act > ACTS_MAX {
         return Err(TableFault::too_big());
     }
-    tx.execute(
-        DROP_CARD,
-        &[of_gtin(&lot.gtin), of_lot(&lot.lot), of_number(act)],
-    )?;
-    Ok(())
+    run(tx, DROP_CARD, &key_cells(lot, act))
 }
 
-/// Writes the row over one with its key, and tells whether there was one.
-fn change_card<S: Alter>(tx: &mut Transaction<'_, S>, row: &CardRow) -> Result<bool, TableFault>
+/// The values of the columns, in their order.
+fn cells(row: &CardRow) -> [ValueRef<'_>; 8]
     requires fits_act { row.now.act ≤ ACTS_MAX }
     requires fits_rest { row.now.rest ≤ UNITS_MAX }
-    ensures same_reference { tx.new.conn.ghost_name ≡ tx.old.conn.ghost_name }
-    ensures done { HasCleanDisk (state S.Store tx.new.conn.now) → IsReady (state S.Store tx.old.conn.now).now
-        → IfOk result (λ had. Goes (if had then with_card row.now else (λ t. t)) (state S.Store tx.old.conn.now) (state S.Store tx.new.conn.now)) }
-    ensures kept { HasCleanDisk (state S.Store tx.new.conn.now) → KeepsCommit (state S.Store tx.old.conn.now) (state S.Store tx.new.conn.now) }
-    ensures survives { Survives (state S.Store tx.old.conn.now) (state S.Store tx.new.conn.now) (λ _. ⊥) }
-    ensures never_foreign { IfErr result (λ e. e ≢ Foreign) }
+    ensures value { bound result ≡ card_cells row.now }
+    ensures rule { has_card (card_cells row.now) ≡ true }
 {
-    let count = tx.execute(
-        CHANGE_CARD,
-        &[
-            of_gtin(&row.lot.gtin),
-            of_lot(&row.lot.lot),
-            of_number(row.act),
-            of_business_day(row.day),
-            of_card_kind(row.kind),
-            of_text(&row.note),
-            of_signed(&row.qty),
-            of_number(row.rest),
-        ],
-    )?;
-    Ok(count != 0)
-}
-
-/// Puts a row whose key is new.
-fn add_card<S: Alter>(tx: &mut Transaction<'_, S>, row: &CardRow) -> Result<(), TableFault>
-    requires fits_act { row.now.act ≤ ACTS_MAX }
-    requires fits_rest { row.now.rest ≤ UNITS_MAX }
-    ensures same_reference { tx.new.conn.ghost_name ≡ tx.old.conn.ghost_name }
-    ensures done { HasCleanDisk (state S.Store tx.new.conn.now) → IsReady (state S.Store tx.old.conn.now).now
-        → OnOk result (Goes (with_card row.now) (state S.Store tx.old.conn.now) (state S.Store tx.new.conn.now)) }
-    ensures kept { HasCleanDisk (state S.Store tx.new.conn.now) → KeepsCommit (state S.Store tx.old.conn.now) (state S.Store tx.new.conn.now) }
-    ensures survives { Survives (state S.Store tx.old.conn.now) (state S.Store tx.new.conn.now) (λ _. ⊥) }
-    ensures never_foreign { IfErr result (λ e. e ≢ Foreign) }
-{
-    tx.execute(
-        ADD_CARD,
-        &[
-            of_gtin(&row.lot.gtin),
-            of_lot(&row.lot.lot),
-            of_number(row.act),
-            of_business_day(row.day),
-            of_card_kind(row.kind),
-            of_text(&row.note),
-            of_signed(&row.qty),
-            of_number(row.rest),
-        ],
-    )?;
-    Ok(())
+    [
+        of_gtin(&row.lot.gtin),
+        of_lot(&row.lot.lot),
+        of_number(row.act),
+        of_business_day(row.day),
+        of_card_kind(row.kind),
+        of_text(&row.note),
+        of_signed(&row.qty),
+        of_number(row.rest),
+    ]
 }
 
 /// Puts the row, in place of one with its key. A number above its limit is refused as too big.
@@ -113,28 +86,36 @@ pub fn put_card<S: Alter>(tx: &mut Transaction<'_, S>, row: &CardRow) -> Result<
     if row.act > ACTS_MAX || row.rest > UNITS_MAX {
         return Err(TableFault::too_big());
     }
-    if change_card(tx, row)? {
-        return Ok(());
-    }
-    add_card(tx, row)
+    put(tx, CHANGE_CARD, ADD_CARD, &cells(row))
 }
 
 fn to_row(row: &Row) -> Result<CardRow, TableFault>
     ensures ok { IfOk result (λ s. (has_card row.now ≡ true) × (card_read row.now ≡ s)) }
     ensures foreign { IfErr result (λ e. e ≡ Foreign → has_card row.now ≡ false) }
 {
-    Ok(CardRow {
-        lot: LotId {
-            gtin: gtin_at(row, 0)?,
-            lot: lot_at(row, 1)?,
-        },
-        act: number_at(row, 2, ACTS_MAX)?,
-        day: business_day_at(row, 3)?,
-        kind: card_kind_at(row, 4)?,
-        note: note_at(row, 5)?,
-        qty: signed_at(row, 6)?,
-        rest: number_at(row, 7, UNITS_MAX)?,
-    })
+    match (
+        gtin_at(row, 0),
+        lot_at(row, 1),
+        number_at(row, 2, ACTS_MAX),
+        business_day_at(row, 3),
+        card_kind_at(row, 4),
+        note_at(row, 5),
+        signed_at(row, 6),
+        number_at(row, 7, UNITS_MAX),
+    ) {
+        (Ok(gtin), Ok(lot), Ok(act), Ok(day), Ok(kind), Ok(note), Ok(qty), Ok(rest)) => Ok(
+            CardRow {
+                lot: LotId { gtin, lot },
+                act,
+                day,
+                kind,
+                note,
+                qty,
+                rest,
+            },
+        ),
+        _ => Err(TableFault::Foreign),
+    }
 }
 
 fn to_rows(alloc: Global, rows: &[Row]) -> Result<Vec<CardRow>, TableFault>

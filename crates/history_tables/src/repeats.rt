@@ -1,67 +1,40 @@
 //! The table `repeats`.
 
-ghost use Rattle.std.specs.Prelude.{◌≡◌, ◌≢◌, ◌≤◌, ◌<◌, true, false, find, map, OnOk, IfOk, IfErr, bytes_eq, nat_eq, if◌then◌else◌};
+ghost use Rattle.std.specs.Prelude.{◌≡◌, ◌≢◌, ◌≤◌, ◌<◌, true, false, find, map, OnOk, IfOk, IfErr, bytes_eq};
 ghost use Rattle.std.specs.List.{AllByRecursion};
 ghost use Rattle.sqlite.specs.State.{HasCleanDisk, Survives, KeepsCommit, IsUnchanged};
 ghost use Rattle.sqlite.specs.Held.{state};
+ghost use Rattle.sqlite.specs.Values.{bound};
 ghost use Rattle.table_words.specs.Found.{AreRows};
 ghost use Rattle.table_words.specs.Steps.{IsReady, Goes, IsTooBig};
-ghost use Rattle.table_words.specs.Typed.{tables_in, same_lot_id, with_repeat, is_repeat, has_repeat, repeat_read, repeat_key, same_repeat, RepeatKey, repeats_of_rows};
+ghost use Rattle.table_words.specs.Typed.{tables_in, same_lot_id, with_repeat, is_repeat, has_repeat, repeat_cells, repeat_read, repeat_key, same_repeat, RepeatKey, repeats_of_rows};
 ghost use Rattle.table_words.specs.declared.error.TableFault.TheVariants.{Foreign};
 
 use crate::texts::{ADD_REPEAT, CHANGE_REPEAT, REPEATS_OF};
 use commands::RepeatRow;
 use commands::limits::{ACTS_MAX, KEY_TEXT_MAX};
+use sqlite::types::ValueRef;
 use sqlite::{Alter, Row, Transaction};
 use std::alloc::Global;
+use table_words::calls::put;
 use table_words::columns::{
     key_text_at, number_at, of_number, of_short, of_spelling, of_text, short_at, spelling_at,
 };
 use table_words::error::TableFault;
 use values::Text;
 
-/// Writes the row over one with its key, and tells whether there was one.
-fn change_repeat<S: Alter>(tx: &mut Transaction<'_, S>, row: &RepeatRow) -> Result<bool, TableFault>
+/// The values of the columns, in their order.
+fn cells(row: &RepeatRow) -> [ValueRef<'_>; 4]
     requires fits_act { row.now.act ≤ ACTS_MAX }
-    ensures same_reference { tx.new.conn.ghost_name ≡ tx.old.conn.ghost_name }
-    ensures done { HasCleanDisk (state S.Store tx.new.conn.now) → IsReady (state S.Store tx.old.conn.now).now
-        → IfOk result (λ had. Goes (if had then with_repeat row.now else (λ t. t)) (state S.Store tx.old.conn.now) (state S.Store tx.new.conn.now)) }
-    ensures kept { HasCleanDisk (state S.Store tx.new.conn.now) → KeepsCommit (state S.Store tx.old.conn.now) (state S.Store tx.new.conn.now) }
-    ensures survives { Survives (state S.Store tx.old.conn.now) (state S.Store tx.new.conn.now) (λ _. ⊥) }
-    ensures never_foreign { IfErr result (λ e. e ≢ Foreign) }
+    ensures value { bound result ≡ repeat_cells row.now }
+    ensures rule { has_repeat (repeat_cells row.now) ≡ true }
 {
-    let count = tx.execute(
-        CHANGE_REPEAT,
-        &[
-            of_text(&row.k),
-            of_number(row.act),
-            of_spelling(&row.spell),
-            of_short(&row.reply),
-        ],
-    )?;
-    Ok(count != 0)
-}
-
-/// Puts a row whose key is new.
-fn add_repeat<S: Alter>(tx: &mut Transaction<'_, S>, row: &RepeatRow) -> Result<(), TableFault>
-    requires fits_act { row.now.act ≤ ACTS_MAX }
-    ensures same_reference { tx.new.conn.ghost_name ≡ tx.old.conn.ghost_name }
-    ensures done { HasCleanDisk (state S.Store tx.new.conn.now) → IsReady (state S.Store tx.old.conn.now).now
-        → OnOk result (Goes (with_repeat row.now) (state S.Store tx.old.conn.now) (state S.Store tx.new.conn.now)) }
-    ensures kept { HasCleanDisk (state S.Store tx.new.conn.now) → KeepsCommit (state S.Store tx.old.conn.now) (state S.Store tx.new.conn.now) }
-    ensures survives { Survives (state S.Store tx.old.conn.now) (state S.Store tx.new.conn.now) (λ _. ⊥) }
-    ensures never_foreign { IfErr result (λ e. e ≢ Foreign) }
-{
-    tx.execute(
-        ADD_REPEAT,
-        &[
-            of_text(&row.k),
-            of_number(row.act),
-            of_spelling(&row.spell),
-            of_short(&row.reply),
-        ],
-    )?;
-    Ok(())
+    [
+        of_text(&row.k),
+        of_number(row.act),
+        of_spelling(&row.spell),
+        of_short(&row.reply),
+    ]
 }
 
 /// Puts the row, in place of one with its key. A number above its limit is refused as too big.
@@ -77,22 +50,29 @@ pub fn put_repeat<S: Alter>(tx: &mut Transaction<'_, S>, row: &RepeatRow) -> Res
     if row.act > ACTS_MAX {
         return Err(TableFault::too_big());
     }
-    if change_repeat(tx, row)? {
-        return Ok(());
-    }
-    add_repeat(tx, row)
+    put(tx, CHANGE_REPEAT, ADD_REPEAT, &cells(row))
 }
 
 fn to_row(alloc: Global, row: &Row) -> Result<RepeatRow, TableFault>
     ensures ok { IfOk result (λ s. (has_repeat row.now ≡ true) × (repeat_read row.now ≡ s)) }
     ensures foreign { IfErr result (λ e. e ≡ Foreign → has_repeat row.now ≡ false) }
 {
-    Ok(RepeatRow {
-        k: key_text_at(row, 0)?,
-        act: number_at(row, 1, ACTS_MAX)?,
-        spell: spelling_at(alloc, row, 2)?,
-        reply: short_at(row, 3)?,
-    })
+    match (
+        key_text_at(row, 0),
+        number_at(row, 1, ACTS_MAX),
+        short_at(row, 3),
+    ) {
+        (Ok(k), Ok(act), Ok(reply)) => match spelling_at(alloc, row, 2) {
+            Ok(spell) => Ok(RepeatRow {
+                k,
+                act,
+                spell,
+                reply,
+            }),
+            Err(fault) => Err(fault),
+        },
+        _ => Err(TableFault::Foreign),
+    }
 }
 
 fn to_rows(alloc: Global, rows: &[Row]) -> Result<Vec<RepeatRow>, TableFault>

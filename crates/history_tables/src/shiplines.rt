@@ -1,22 +1,34 @@
 //! The table `shiplines`.
 
-ghost use Rattle.std.specs.Prelude.{◌≡◌, ◌≢◌, ◌≤◌, ◌<◌, true, false, find, map, OnOk, IfOk, IfErr, bytes_eq, nat_eq, if◌then◌else◌};
+ghost use Rattle.std.specs.Prelude.{◌≡◌, ◌≢◌, ◌≤◌, ◌<◌, true, false, [], ◌∷◌, pos, find, map, OnOk, IfOk, IfErr, bytes_eq};
 ghost use Rattle.std.specs.List.{AllByRecursion};
 ghost use Rattle.sqlite.specs.State.{HasCleanDisk, Survives, KeepsCommit, IsUnchanged};
 ghost use Rattle.sqlite.specs.Held.{state};
+ghost use Rattle.sqlite.specs.Values.{bound};
+ghost use Rattle.sqlite_value.specs.declared.value.Value.TheVariants.{Int, Text as TextValue};
 ghost use Rattle.table_words.specs.Found.{AreRows};
 ghost use Rattle.table_words.specs.Steps.{IsReady, Goes, IsTooBig};
-ghost use Rattle.table_words.specs.Typed.{tables_in, same_lot_id, with_shipline, without_shipline, is_shipline, has_shipline, shipline_read, shipline_key, same_shipline, ShiplineKey, shiplines_of_lot_rows};
+ghost use Rattle.table_words.specs.Typed.{tables_in, same_lot_id, with_shipline, without_shipline, is_shipline, has_shipline, shipline_cells, shipline_read, shipline_key, same_shipline, ShiplineKey, shiplines_of_lot_rows};
 ghost use Rattle.table_words.specs.declared.error.TableFault.TheVariants.{Foreign};
 
 use crate::texts::{ADD_SHIPLINE, CHANGE_SHIPLINE, DROP_SHIPLINE, SHIPLINES_OF_LOT};
 use commands::ShiplineRow;
 use commands::limits::{ACTS_MAX, UNITS_MAX};
+use sqlite::types::ValueRef;
 use sqlite::{Alter, Row, Transaction};
 use std::alloc::Global;
+use table_words::calls::{put, run};
 use table_words::columns::{gtin_at, lot_at, number_at, of_gtin, of_lot, of_number};
 use table_words::error::TableFault;
 use values::LotId;
+
+/// The values of the columns of the key.
+fn key_cells<'a>(number: u64, lot: &'a LotId) -> [ValueRef<'a>; 3]
+    requires { number ≤ ACTS_MAX }
+    ensures { bound result ≡ Int (pos number) ∷ TextValue lot.now.gtin ∷ TextValue lot.now.lot ∷ [] }
+{
+    [of_number(number), of_gtin(&lot.gtin), of_lot(&lot.lot)]
+}
 
 /// Drops the row with this key, if there is one. A number above the limit is refused as too big.
 pub fn drop_shipline<S: Alter>(
@@ -35,60 +47,22 @@ pub fn drop_shipline<S: Alter>(
     if number > ACTS_MAX {
         return Err(TableFault::too_big());
     }
-    tx.execute(
-        DROP_SHIPLINE,
-        &[of_number(number), of_gtin(&lot.gtin), of_lot(&lot.lot)],
-    )?;
-    Ok(())
+    run(tx, DROP_SHIPLINE, &key_cells(number, lot))
 }
 
-/// Writes the row over one with its key, and tells whether there was one.
-fn change_shipline<S: Alter>(
-    tx: &mut Transaction<'_, S>,
-    row: &ShiplineRow,
-) -> Result<bool, TableFault>
+/// The values of the columns, in their order.
+fn cells(row: &ShiplineRow) -> [ValueRef<'_>; 4]
     requires fits_number { row.now.number ≤ ACTS_MAX }
     requires fits_qty { row.now.qty ≤ UNITS_MAX }
-    ensures same_reference { tx.new.conn.ghost_name ≡ tx.old.conn.ghost_name }
-    ensures done { HasCleanDisk (state S.Store tx.new.conn.now) → IsReady (state S.Store tx.old.conn.now).now
-        → IfOk result (λ had. Goes (if had then with_shipline row.now else (λ t. t)) (state S.Store tx.old.conn.now) (state S.Store tx.new.conn.now)) }
-    ensures kept { HasCleanDisk (state S.Store tx.new.conn.now) → KeepsCommit (state S.Store tx.old.conn.now) (state S.Store tx.new.conn.now) }
-    ensures survives { Survives (state S.Store tx.old.conn.now) (state S.Store tx.new.conn.now) (λ _. ⊥) }
-    ensures never_foreign { IfErr result (λ e. e ≢ Foreign) }
+    ensures value { bound result ≡ shipline_cells row.now }
+    ensures rule { has_shipline (shipline_cells row.now) ≡ true }
 {
-    let count = tx.execute(
-        CHANGE_SHIPLINE,
-        &[
-            of_number(row.number),
-            of_gtin(&row.lot.gtin),
-            of_lot(&row.lot.lot),
-            of_number(row.qty),
-        ],
-    )?;
-    Ok(count != 0)
-}
-
-/// Puts a row whose key is new.
-fn add_shipline<S: Alter>(tx: &mut Transaction<'_, S>, row: &ShiplineRow) -> Result<(), TableFault>
-    requires fits_number { row.now.number ≤ ACTS_MAX }
-    requires fits_qty { row.now.qty ≤ UNITS_MAX }
-    ensures same_reference { tx.new.conn.ghost_name ≡ tx.old.conn.ghost_name }
-    ensures done { HasCleanDisk (state S.Store tx.new.conn.now) → IsReady (state S.Store tx.old.conn.now).now
-        → OnOk result (Goes (with_shipline row.now) (state S.Store tx.old.conn.now) (state S.Store tx.new.conn.now)) }
-    ensures kept { HasCleanDisk (state S.Store tx.new.conn.now) → KeepsCommit (state S.Store tx.old.conn.now) (state S.Store tx.new.conn.now) }
-    ensures survives { Survives (state S.Store tx.old.conn.now) (state S.Store tx.new.conn.now) (λ _. ⊥) }
-    ensures never_foreign { IfErr result (λ e. e ≢ Foreign) }
-{
-    tx.execute(
-        ADD_SHIPLINE,
-        &[
-            of_number(row.number),
-            of_gtin(&row.lot.gtin),
-            of_lot(&row.lot.lot),
-            of_number(row.qty),
-        ],
-    )?;
-    Ok(())
+    [
+        of_number(row.number),
+        of_gtin(&row.lot.gtin),
+        of_lot(&row.lot.lot),
+        of_number(row.qty),
+    ]
 }
 
 /// Puts the row, in place of one with its key. A number above its limit is refused as too big.
@@ -108,24 +82,26 @@ pub fn put_shipline<S: Alter>(
     if row.number > ACTS_MAX || row.qty > UNITS_MAX {
         return Err(TableFault::too_big());
     }
-    if change_shipline(tx, row)? {
-        return Ok(());
-    }
-    add_shipline(tx, row)
+    put(tx, CHANGE_SHIPLINE, ADD_SHIPLINE, &cells(row))
 }
 
 fn to_row(row: &Row) -> Result<ShiplineRow, TableFault>
     ensures ok { IfOk result (λ s. (has_shipline row.now ≡ true) × (shipline_read row.now ≡ s)) }
     ensures foreign { IfErr result (λ e. e ≡ Foreign → has_shipline row.now ≡ false) }
 {
-    Ok(ShiplineRow {
-        number: number_at(row, 0, ACTS_MAX)?,
-        lot: LotId {
-            gtin: gtin_at(row, 1)?,
-            lot: lot_at(row, 2)?,
-        },
-        qty: number_at(row, 3, UNITS_MAX)?,
-    })
+    match (
+        number_at(row, 0, ACTS_MAX),
+        gtin_at(row, 1),
+        lot_at(row, 2),
+        number_at(row, 3, UNITS_MAX),
+    ) {
+        (Ok(number), Ok(gtin), Ok(lot), Ok(qty)) => Ok(ShiplineRow {
+            number,
+            lot: LotId { gtin, lot },
+            qty,
+        }),
+        _ => Err(TableFault::Foreign),
+    }
 }
 
 fn to_rows(alloc: Global, rows: &[Row]) -> Result<Vec<ShiplineRow>, TableFault>

@@ -1,19 +1,22 @@
 //! The table `shipments`.
 
-ghost use Rattle.std.specs.Prelude.{◌≡◌, ◌≢◌, ◌≤◌, ◌<◌, true, false, find, map, OnOk, IfOk, IfErr, bytes_eq, nat_eq, if◌then◌else◌};
+ghost use Rattle.std.specs.Prelude.{◌≡◌, ◌≢◌, ◌≤◌, ◌<◌, true, false, find, map, OnOk, IfOk, IfErr, bytes_eq, nat_eq};
 ghost use Rattle.std.specs.List.{AllByRecursion};
 ghost use Rattle.sqlite.specs.State.{HasCleanDisk, Survives, KeepsCommit, IsUnchanged};
 ghost use Rattle.sqlite.specs.Held.{state};
+ghost use Rattle.sqlite.specs.Values.{bound};
 ghost use Rattle.table_words.specs.Found.{AreRows};
 ghost use Rattle.table_words.specs.Steps.{IsReady, Goes, IsTooBig};
-ghost use Rattle.table_words.specs.Typed.{tables_in, same_lot_id, with_shipment, without_shipment, is_shipment, has_shipment, shipment_read, shipment_key, same_shipment, ShipmentKey, shipments_of_rows};
+ghost use Rattle.table_words.specs.Typed.{tables_in, same_lot_id, with_shipment, without_shipment, is_shipment, has_shipment, shipment_cells, shipment_read, shipment_key, same_shipment, ShipmentKey, shipments_of_rows};
 ghost use Rattle.table_words.specs.declared.error.TableFault.TheVariants.{Foreign};
 
 use crate::texts::{ADD_SHIPMENT, CHANGE_SHIPMENT, DROP_SHIPMENT, SHIPMENTS_OF};
 use commands::ShipmentRow;
 use commands::limits::ACTS_MAX;
+use sqlite::types::ValueRef;
 use sqlite::{Alter, Row, Transaction};
 use std::alloc::Global;
+use table_words::calls::{put, run};
 use table_words::columns::{
     business_day_at, name_at, number_at, of_business_day, of_name, of_number,
 };
@@ -32,57 +35,22 @@ pub fn drop_shipment<S: Alter>(tx: &mut Transaction<'_, S>, number: u64) -> Resu
     if number > ACTS_MAX {
         return Err(TableFault::too_big());
     }
-    tx.execute(DROP_SHIPMENT, &[of_number(number)])?;
-    Ok(())
+    run(tx, DROP_SHIPMENT, &[of_number(number)])
 }
 
-/// Writes the row over one with its key, and tells whether there was one.
-fn change_shipment<S: Alter>(
-    tx: &mut Transaction<'_, S>,
-    row: &ShipmentRow,
-) -> Result<bool, TableFault>
+/// The values of the columns, in their order.
+fn cells(row: &ShipmentRow) -> [ValueRef<'_>; 4]
     requires fits_number { row.now.number ≤ ACTS_MAX }
     requires fits_act { row.now.act ≤ ACTS_MAX }
-    ensures same_reference { tx.new.conn.ghost_name ≡ tx.old.conn.ghost_name }
-    ensures done { HasCleanDisk (state S.Store tx.new.conn.now) → IsReady (state S.Store tx.old.conn.now).now
-        → IfOk result (λ had. Goes (if had then with_shipment row.now else (λ t. t)) (state S.Store tx.old.conn.now) (state S.Store tx.new.conn.now)) }
-    ensures kept { HasCleanDisk (state S.Store tx.new.conn.now) → KeepsCommit (state S.Store tx.old.conn.now) (state S.Store tx.new.conn.now) }
-    ensures survives { Survives (state S.Store tx.old.conn.now) (state S.Store tx.new.conn.now) (λ _. ⊥) }
-    ensures never_foreign { IfErr result (λ e. e ≢ Foreign) }
+    ensures value { bound result ≡ shipment_cells row.now }
+    ensures rule { has_shipment (shipment_cells row.now) ≡ true }
 {
-    let count = tx.execute(
-        CHANGE_SHIPMENT,
-        &[
-            of_number(row.number),
-            of_number(row.act),
-            of_business_day(row.day),
-            of_name(&row.order),
-        ],
-    )?;
-    Ok(count != 0)
-}
-
-/// Puts a row whose key is new.
-fn add_shipment<S: Alter>(tx: &mut Transaction<'_, S>, row: &ShipmentRow) -> Result<(), TableFault>
-    requires fits_number { row.now.number ≤ ACTS_MAX }
-    requires fits_act { row.now.act ≤ ACTS_MAX }
-    ensures same_reference { tx.new.conn.ghost_name ≡ tx.old.conn.ghost_name }
-    ensures done { HasCleanDisk (state S.Store tx.new.conn.now) → IsReady (state S.Store tx.old.conn.now).now
-        → OnOk result (Goes (with_shipment row.now) (state S.Store tx.old.conn.now) (state S.Store tx.new.conn.now)) }
-    ensures kept { HasCleanDisk (state S.Store tx.new.conn.now) → KeepsCommit (state S.Store tx.old.conn.now) (state S.Store tx.new.conn.now) }
-    ensures survives { Survives (state S.Store tx.old.conn.now) (state S.Store tx.new.conn.now) (λ _. ⊥) }
-    ensures never_foreign { IfErr result (λ e. e ≢ Foreign) }
-{
-    tx.execute(
-        ADD_SHIPMENT,
-        &[
-            of_number(row.number),
-            of_number(row.act),
-            of_business_day(row.day),
-            of_name(&row.order),
-        ],
-    )?;
-    Ok(())
+    [
+        of_number(row.number),
+        of_number(row.act),
+        of_business_day(row.day),
+        of_name(&row.order),
+    ]
 }
 
 /// Puts the row, in place of one with its key. A number above its limit is refused as too big.
@@ -102,22 +70,27 @@ pub fn put_shipment<S: Alter>(
     if row.number > ACTS_MAX || row.act > ACTS_MAX {
         return Err(TableFault::too_big());
     }
-    if change_shipment(tx, row)? {
-        return Ok(());
-    }
-    add_shipment(tx, row)
+    put(tx, CHANGE_SHIPMENT, ADD_SHIPMENT, &cells(row))
 }
 
 fn to_row(row: &Row) -> Result<ShipmentRow, TableFault>
     ensures ok { IfOk result (λ s. (has_shipment row.now ≡ true) × (shipment_read row.now ≡ s)) }
     ensures foreign { IfErr result (λ e. e ≡ Foreign → has_shipment row.now ≡ false) }
 {
-    Ok(ShipmentRow {
-        number: number_at(row, 0, ACTS_MAX)?,
-        act: number_at(row, 1, ACTS_MAX)?,
-        day: business_day_at(row, 2)?,
-        order: name_at(row, 3)?,
-    })
+    match (
+        number_at(row, 0, ACTS_MAX),
+        number_at(row, 1, ACTS_MAX),
+        business_day_at(row, 2),
+        name_at(row, 3),
+    ) {
+        (Ok(number), Ok(act), Ok(day), Ok(order)) => Ok(ShipmentRow {
+            number,
+            act,
+            day,
+            order,
+        }),
+        _ => Err(TableFault::Foreign),
+    }
 }
 
 fn to_rows(alloc: Global, rows: &[Row]) -> Result<Vec<ShipmentRow>, TableFault>

@@ -1,19 +1,22 @@
 //! The table `lines`.
 
-ghost use Rattle.std.specs.Prelude.{◌≡◌, ◌≢◌, ◌≤◌, ◌<◌, true, false, find, map, slice_get, OnOk, IfOk, IfErr, bytes_eq, nat_eq, if◌then◌else◌};
+ghost use Rattle.std.specs.Prelude.{◌≡◌, ◌≢◌, ◌≤◌, ◌<◌, true, false, find, map, slice_get, OnOk, IfOk, IfErr, bytes_eq};
 ghost use Rattle.std.specs.List.{AllByRecursion};
 ghost use Rattle.sqlite.specs.State.{HasCleanDisk, Survives, KeepsCommit, IsUnchanged};
 ghost use Rattle.sqlite.specs.Held.{state};
+ghost use Rattle.sqlite.specs.Values.{bound};
 ghost use Rattle.table_words.specs.Found.{AreRows};
 ghost use Rattle.table_words.specs.Steps.{IsReady, Goes, IsTooBig};
-ghost use Rattle.table_words.specs.Typed.{tables_in, same_lot_id, with_line, without_line, is_line, has_line, line_read, line_key, same_line, LineKey, lines_of_order_rows, line_of_rows};
+ghost use Rattle.table_words.specs.Typed.{tables_in, same_lot_id, with_line, without_line, is_line, has_line, line_cells, line_read, line_key, same_line, LineKey, lines_of_order_rows, line_of_rows};
 ghost use Rattle.table_words.specs.declared.error.TableFault.TheVariants.{Foreign};
 
 use crate::texts::{ADD_LINE, CHANGE_LINE, DROP_LINE, LINE_OF, LINES_OF_ORDER};
 use commands::LineRow;
 use commands::limits::UNITS_MAX;
+use sqlite::types::ValueRef;
 use sqlite::{Alter, Row, Transaction};
 use std::alloc::Global;
+use table_words::calls::{put, run};
 use table_words::columns::{gtin_at, name_at, number_at, of_gtin, of_name, of_number};
 use table_words::error::TableFault;
 use values::{Gtin, Name};
@@ -31,54 +34,22 @@ pub fn drop_line<S: Alter>(
     ensures survives { Survives (state S.Store tx.old.conn.now) (state S.Store tx.new.conn.now) (λ _. ⊥) }
     ensures never_foreign { IfErr result (λ e. e ≢ Foreign) }
 {
-    tx.execute(DROP_LINE, &[of_name(order), of_gtin(gtin)])?;
-    Ok(())
+    run(tx, DROP_LINE, &[of_name(order), of_gtin(gtin)])
 }
 
-/// Writes the row over one with its key, and tells whether there was one.
-fn change_line<S: Alter>(tx: &mut Transaction<'_, S>, row: &LineRow) -> Result<bool, TableFault>
+/// The values of the columns, in their order.
+fn cells(row: &LineRow) -> [ValueRef<'_>; 4]
     requires fits_ordered { row.now.ordered ≤ UNITS_MAX }
     requires fits_shipped { row.now.shipped ≤ UNITS_MAX }
-    ensures same_reference { tx.new.conn.ghost_name ≡ tx.old.conn.ghost_name }
-    ensures done { HasCleanDisk (state S.Store tx.new.conn.now) → IsReady (state S.Store tx.old.conn.now).now
-        → IfOk result (λ had. Goes (if had then with_line row.now else (λ t. t)) (state S.Store tx.old.conn.now) (state S.Store tx.new.conn.now)) }
-    ensures kept { HasCleanDisk (state S.Store tx.new.conn.now) → KeepsCommit (state S.Store tx.old.conn.now) (state S.Store tx.new.conn.now) }
-    ensures survives { Survives (state S.Store tx.old.conn.now) (state S.Store tx.new.conn.now) (λ _. ⊥) }
-    ensures never_foreign { IfErr result (λ e. e ≢ Foreign) }
+    ensures value { bound result ≡ line_cells row.now }
+    ensures rule { has_line (line_cells row.now) ≡ true }
 {
-    let count = tx.execute(
-        CHANGE_LINE,
-        &[
-            of_name(&row.order),
-            of_gtin(&row.gtin),
-            of_number(row.ordered),
-            of_number(row.shipped),
-        ],
-    )?;
-    Ok(count != 0)
-}
-
-/// Puts a row whose key is new.
-fn add_line<S: Alter>(tx: &mut Transaction<'_, S>, row: &LineRow) -> Result<(), TableFault>
-    requires fits_ordered { row.now.ordered ≤ UNITS_MAX }
-    requires fits_shipped { row.now.shipped ≤ UNITS_MAX }
-    ensures same_reference { tx.new.conn.ghost_name ≡ tx.old.conn.ghost_name }
-    ensures done { HasCleanDisk (state S.Store tx.new.conn.now) → IsReady (state S.Store tx.old.conn.now).now
-        → OnOk result (Goes (with_line row.now) (state S.Store tx.old.conn.now) (state S.Store tx.new.conn.now)) }
-    ensures kept { HasCleanDisk (state S.Store tx.new.conn.now) → KeepsCommit (state S.Store tx.old.conn.now) (state S.Store tx.new.conn.now) }
-    ensures survives { Survives (state S.Store tx.old.conn.now) (state S.Store tx.new.conn.now) (λ _. ⊥) }
-    ensures never_foreign { IfErr result (λ e. e ≢ Foreign) }
-{
-    tx.execute(
-        ADD_LINE,
-        &[
-            of_name(&row.order),
-            of_gtin(&row.gtin),
-            of_number(row.ordered),
-            of_number(row.shipped),
-        ],
-    )?;
-    Ok(())
+    [
+        of_name(&row.order),
+        of_gtin(&row.gtin),
+        of_number(row.ordered),
+        of_number(row.shipped),
+    ]
 }
 
 /// Puts the row, in place of one with its key. A number above its limit is refused as too big.
@@ -95,22 +66,27 @@ pub fn put_line<S: Alter>(tx: &mut Transaction<'_, S>, row: &LineRow) -> Result<
     if row.ordered > UNITS_MAX || row.shipped > UNITS_MAX {
         return Err(TableFault::too_big());
     }
-    if change_line(tx, row)? {
-        return Ok(());
-    }
-    add_line(tx, row)
+    put(tx, CHANGE_LINE, ADD_LINE, &cells(row))
 }
 
 fn to_row(row: &Row) -> Result<LineRow, TableFault>
     ensures ok { IfOk result (λ s. (has_line row.now ≡ true) × (line_read row.now ≡ s)) }
     ensures foreign { IfErr result (λ e. e ≡ Foreign → has_line row.now ≡ false) }
 {
-    Ok(LineRow {
-        order: name_at(row, 0)?,
-        gtin: gtin_at(row, 1)?,
-        ordered: number_at(row, 2, UNITS_MAX)?,
-        shipped: number_at(row, 3, UNITS_MAX)?,
-    })
+    match (
+        name_at(row, 0),
+        gtin_at(row, 1),
+        number_at(row, 2, UNITS_MAX),
+        number_at(row, 3, UNITS_MAX),
+    ) {
+        (Ok(order), Ok(gtin), Ok(ordered), Ok(shipped)) => Ok(LineRow {
+            order,
+            gtin,
+            ordered,
+            shipped,
+        }),
+        _ => Err(TableFault::Foreign),
+    }
 }
 
 fn to_rows(alloc: Global, rows: &[Row]) -> Result<Vec<LineRow>, TableFault>

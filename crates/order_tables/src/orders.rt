@@ -1,19 +1,22 @@
 //! The table `orders`.
 
-ghost use Rattle.std.specs.Prelude.{◌≡◌, ◌≢◌, ◌≤◌, ◌<◌, true, false, find, map, OnOk, IfOk, IfErr, bytes_eq, nat_eq, if◌then◌else◌};
+ghost use Rattle.std.specs.Prelude.{◌≡◌, ◌≢◌, ◌≤◌, ◌<◌, true, false, find, map, OnOk, IfOk, IfErr, bytes_eq};
 ghost use Rattle.std.specs.List.{AllByRecursion};
 ghost use Rattle.sqlite.specs.State.{HasCleanDisk, Survives, KeepsCommit, IsUnchanged};
 ghost use Rattle.sqlite.specs.Held.{state};
+ghost use Rattle.sqlite.specs.Values.{bound};
 ghost use Rattle.table_words.specs.Found.{AreRows, only_if};
 ghost use Rattle.table_words.specs.Steps.{IsReady, Goes, IsTooBig};
-ghost use Rattle.table_words.specs.Typed.{tables_in, same_lot_id, with_order, without_order, is_order, has_order, order_read, order_key, same_order, OrderKey, orders_of_rows, is_open_order, open_orders_rows};
+ghost use Rattle.table_words.specs.Typed.{tables_in, same_lot_id, with_order, without_order, is_order, has_order, order_cells, order_read, order_key, same_order, OrderKey, orders_of_rows, is_open_order, open_orders_rows};
 ghost use Rattle.table_words.specs.declared.error.TableFault.TheVariants.{Foreign};
 
 use crate::texts::{ADD_ORDER, CHANGE_ORDER, DROP_ORDER, OPEN_ORDERS, ORDERS_OF};
 use commands::limits::ACTS_MAX;
 use commands::{OrderRow, OrderState};
+use sqlite::types::ValueRef;
 use sqlite::{Alter, Row, Transaction};
 use std::alloc::Global;
+use table_words::calls::{put, run};
 use table_words::columns::{
     name_at, number_at, of_name, of_number, of_order_state, of_title, order_state_at, title_at,
 };
@@ -29,52 +32,21 @@ pub fn drop_order<S: Alter>(tx: &mut Transaction<'_, S>, order: &Name) -> Result
     ensures survives { Survives (state S.Store tx.old.conn.now) (state S.Store tx.new.conn.now) (λ _. ⊥) }
     ensures never_foreign { IfErr result (λ e. e ≢ Foreign) }
 {
-    tx.execute(DROP_ORDER, &[of_name(order)])?;
-    Ok(())
+    run(tx, DROP_ORDER, &[of_name(order)])
 }
 
-/// Writes the row over one with its key, and tells whether there was one.
-fn change_order<S: Alter>(tx: &mut Transaction<'_, S>, row: &OrderRow) -> Result<bool, TableFault>
+/// The values of the columns, in their order.
+fn cells(row: &OrderRow) -> [ValueRef<'_>; 4]
     requires fits_act { row.now.act ≤ ACTS_MAX }
-    ensures same_reference { tx.new.conn.ghost_name ≡ tx.old.conn.ghost_name }
-    ensures done { HasCleanDisk (state S.Store tx.new.conn.now) → IsReady (state S.Store tx.old.conn.now).now
-        → IfOk result (λ had. Goes (if had then with_order row.now else (λ t. t)) (state S.Store tx.old.conn.now) (state S.Store tx.new.conn.now)) }
-    ensures kept { HasCleanDisk (state S.Store tx.new.conn.now) → KeepsCommit (state S.Store tx.old.conn.now) (state S.Store tx.new.conn.now) }
-    ensures survives { Survives (state S.Store tx.old.conn.now) (state S.Store tx.new.conn.now) (λ _. ⊥) }
-    ensures never_foreign { IfErr result (λ e. e ≢ Foreign) }
+    ensures value { bound result ≡ order_cells row.now }
+    ensures rule { has_order (order_cells row.now) ≡ true }
 {
-    let count = tx.execute(
-        CHANGE_ORDER,
-        &[
-            of_name(&row.order),
-            of_number(row.act),
-            of_title(&row.customer),
-            of_order_state(row.state),
-        ],
-    )?;
-    Ok(count != 0)
-}
-
-/// Puts a row whose key is new.
-fn add_order<S: Alter>(tx: &mut Transaction<'_, S>, row: &OrderRow) -> Result<(), TableFault>
-    requires fits_act { row.now.act ≤ ACTS_MAX }
-    ensures same_reference { tx.new.conn.ghost_name ≡ tx.old.conn.ghost_name }
-    ensures done { HasCleanDisk (state S.Store tx.new.conn.now) → IsReady (state S.Store tx.old.conn.now).now
-        → OnOk result (Goes (with_order row.now) (state S.Store tx.old.conn.now) (state S.Store tx.new.conn.now)) }
-    ensures kept { HasCleanDisk (state S.Store tx.new.conn.now) → KeepsCommit (state S.Store tx.old.conn.now) (state S.Store tx.new.conn.now) }
-    ensures survives { Survives (state S.Store tx.old.conn.now) (state S.Store tx.new.conn.now) (λ _. ⊥) }
-    ensures never_foreign { IfErr result (λ e. e ≢ Foreign) }
-{
-    tx.execute(
-        ADD_ORDER,
-        &[
-            of_name(&row.order),
-            of_number(row.act),
-            of_title(&row.customer),
-            of_order_state(row.state),
-        ],
-    )?;
-    Ok(())
+    [
+        of_name(&row.order),
+        of_number(row.act),
+        of_title(&row.customer),
+        of_order_state(row.state),
+    ]
 }
 
 /// Puts the row, in place of one with its key. A number above its limit is refused as too big.
@@ -90,22 +62,27 @@ pub fn put_order<S: Alter>(tx: &mut Transaction<'_, S>, row: &OrderRow) -> Resul
     if row.act > ACTS_MAX {
         return Err(TableFault::too_big());
     }
-    if change_order(tx, row)? {
-        return Ok(());
-    }
-    add_order(tx, row)
+    put(tx, CHANGE_ORDER, ADD_ORDER, &cells(row))
 }
 
 fn to_row(row: &Row) -> Result<OrderRow, TableFault>
     ensures ok { IfOk result (λ s. (has_order row.now ≡ true) × (order_read row.now ≡ s)) }
     ensures foreign { IfErr result (λ e. e ≡ Foreign → has_order row.now ≡ false) }
 {
-    Ok(OrderRow {
-        order: name_at(row, 0)?,
-        act: number_at(row, 1, ACTS_MAX)?,
-        customer: title_at(row, 2)?,
-        state: order_state_at(row, 3)?,
-    })
+    match (
+        name_at(row, 0),
+        number_at(row, 1, ACTS_MAX),
+        title_at(row, 2),
+        order_state_at(row, 3),
+    ) {
+        (Ok(order), Ok(act), Ok(customer), Ok(state)) => Ok(OrderRow {
+            order,
+            act,
+            customer,
+            state,
+        }),
+        _ => Err(TableFault::Foreign),
+    }
 }
 
 fn to_rows(alloc: Global, rows: &[Row]) -> Result<Vec<OrderRow>, TableFault>

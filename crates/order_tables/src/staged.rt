@@ -1,24 +1,35 @@
 //! The table `staged`.
 
-ghost use Rattle.std.specs.Prelude.{◌≡◌, ◌≢◌, ◌≤◌, ◌<◌, ◌++◌, [], ◌∷◌, true, false, find, map, OnOk, IfOk, IfErr, bytes_eq, nat_eq, if◌then◌else◌};
+ghost use Rattle.std.specs.Prelude.{◌≡◌, ◌≢◌, ◌≤◌, ◌<◌, ◌++◌, [], ◌∷◌, true, false, [], ◌∷◌, find, map, OnOk, IfOk, IfErr, bytes_eq};
 ghost use Rattle.std.specs.List.{AllByRecursion};
 ghost use Rattle.sqlite.specs.State.{HasCleanDisk, Survives, KeepsCommit, IsUnchanged};
 ghost use Rattle.sqlite.specs.Held.{state};
+ghost use Rattle.sqlite.specs.Values.{bound};
+ghost use Rattle.sqlite_value.specs.declared.value.Value.TheVariants.{Text as TextValue};
 ghost use Rattle.table_words.specs.Found.{AreRows};
 ghost use Rattle.table_words.specs.Steps.{IsReady, Goes, IsTooBig};
-ghost use Rattle.table_words.specs.Typed.{tables_in, same_lot_id, with_staged, without_staged, is_staged, has_staged, staged_read, staged_key, same_staged, StagedKey, staged_of_item_rows, all_staged_rows};
+ghost use Rattle.table_words.specs.Typed.{tables_in, same_lot_id, with_staged, without_staged, is_staged, has_staged, staged_cells, staged_read, staged_key, same_staged, StagedKey, staged_of_item_rows, all_staged_rows};
 ghost use Rattle.table_words.specs.declared.error.TableFault.TheVariants.{Foreign};
 
 use crate::texts::{ADD_STAGED, ALL_STAGED, CHANGE_STAGED, DROP_STAGED, STAGED_OF_ITEM};
 use commands::StagedRow;
 use commands::limits::UNITS_MAX;
+use sqlite::types::ValueRef;
 use sqlite::{Alter, Row, Transaction};
 use std::alloc::Global;
+use table_words::calls::{put, run};
 use table_words::columns::{
     gtin_at, lot_at, name_at, number_at, of_gtin, of_lot, of_name, of_number,
 };
 use table_words::error::TableFault;
 use values::{Gtin, LotId, Name};
+
+/// The values of the columns of the key.
+fn key_cells<'a>(order: &'a Name, lot: &'a LotId) -> [ValueRef<'a>; 3]
+    ensures { bound result ≡ TextValue order.now ∷ TextValue lot.now.gtin ∷ TextValue lot.now.lot ∷ [] }
+{
+    [of_name(order), of_gtin(&lot.gtin), of_lot(&lot.lot)]
+}
 
 /// Drops the row with this key, if there is one.
 pub fn drop_staged<S: Alter>(
@@ -33,55 +44,21 @@ pub fn drop_staged<S: Alter>(
     ensures survives { Survives (state S.Store tx.old.conn.now) (state S.Store tx.new.conn.now) (λ _. ⊥) }
     ensures never_foreign { IfErr result (λ e. e ≢ Foreign) }
 {
-    tx.execute(
-        DROP_STAGED,
-        &[of_name(order), of_gtin(&lot.gtin), of_lot(&lot.lot)],
-    )?;
-    Ok(())
+    run(tx, DROP_STAGED, &key_cells(order, lot))
 }
 
-/// Writes the row over one with its key, and tells whether there was one.
-fn change_staged<S: Alter>(tx: &mut Transaction<'_, S>, row: &StagedRow) -> Result<bool, TableFault>
+/// The values of the columns, in their order.
+fn cells(row: &StagedRow) -> [ValueRef<'_>; 4]
     requires fits_qty { row.now.qty ≤ UNITS_MAX }
-    ensures same_reference { tx.new.conn.ghost_name ≡ tx.old.conn.ghost_name }
-    ensures done { HasCleanDisk (state S.Store tx.new.conn.now) → IsReady (state S.Store tx.old.conn.now).now
-        → IfOk result (λ had. Goes (if had then with_staged row.now else (λ t. t)) (state S.Store tx.old.conn.now) (state S.Store tx.new.conn.now)) }
-    ensures kept { HasCleanDisk (state S.Store tx.new.conn.now) → KeepsCommit (state S.Store tx.old.conn.now) (state S.Store tx.new.conn.now) }
-    ensures survives { Survives (state S.Store tx.old.conn.now) (state S.Store tx.new.conn.now) (λ _. ⊥) }
-    ensures never_foreign { IfErr result (λ e. e ≢ Foreign) }
+    ensures value { bound result ≡ staged_cells row.now }
+    ensures rule { has_staged (staged_cells row.now) ≡ true }
 {
-    let count = tx.execute(
-        CHANGE_STAGED,
-        &[
-            of_name(&row.order),
-            of_gtin(&row.lot.gtin),
-            of_lot(&row.lot.lot),
-            of_number(row.qty),
-        ],
-    )?;
-    Ok(count != 0)
-}
-
-/// Puts a row whose key is new.
-fn add_staged<S: Alter>(tx: &mut Transaction<'_, S>, row: &StagedRow) -> Result<(), TableFault>
-    requires fits_qty { row.now.qty ≤ UNITS_MAX }
-    ensures same_reference { tx.new.conn.ghost_name ≡ tx.old.conn.ghost_name }
-    ensures done { HasCleanDisk (state S.Store tx.new.conn.now) → IsReady (state S.Store tx.old.conn.now).now
-        → OnOk result (Goes (with_staged row.now) (state S.Store tx.old.conn.now) (state S.Store tx.new.conn.now)) }
-    ensures kept { HasCleanDisk (state S.Store tx.new.conn.now) → KeepsCommit (state S.Store tx.old.conn.now) (state S.Store tx.new.conn.now) }
-    ensures survives { Survives (state S.Store tx.old.conn.now) (state S.Store tx.new.conn.now) (λ _. ⊥) }
-    ensures never_foreign { IfErr result (λ e. e ≢ Foreign) }
-{
-    tx.execute(
-        ADD_STAGED,
-        &[
-            of_name(&row.order),
-            of_gtin(&row.lot.gtin),
-            of_lot(&row.lot.lot),
-            of_number(row.qty),
-        ],
-    )?;
-    Ok(())
+    [
+        of_name(&row.order),
+        of_gtin(&row.lot.gtin),
+        of_lot(&row.lot.lot),
+        of_number(row.qty),
+    ]
 }
 
 /// Puts the row, in place of one with its key. A number above its limit is refused as too big.
@@ -97,24 +74,26 @@ pub fn put_staged<S: Alter>(tx: &mut Transaction<'_, S>, row: &StagedRow) -> Res
     if row.qty > UNITS_MAX {
         return Err(TableFault::too_big());
     }
-    if change_staged(tx, row)? {
-        return Ok(());
-    }
-    add_staged(tx, row)
+    put(tx, CHANGE_STAGED, ADD_STAGED, &cells(row))
 }
 
 fn to_row(row: &Row) -> Result<StagedRow, TableFault>
     ensures ok { IfOk result (λ s. (has_staged row.now ≡ true) × (staged_read row.now ≡ s)) }
     ensures foreign { IfErr result (λ e. e ≡ Foreign → has_staged row.now ≡ false) }
 {
-    Ok(StagedRow {
-        order: name_at(row, 0)?,
-        lot: LotId {
-            gtin: gtin_at(row, 1)?,
-            lot: lot_at(row, 2)?,
-        },
-        qty: number_at(row, 3, UNITS_MAX)?,
-    })
+    match (
+        name_at(row, 0),
+        gtin_at(row, 1),
+        lot_at(row, 2),
+        number_at(row, 3, UNITS_MAX),
+    ) {
+        (Ok(order), Ok(gtin), Ok(lot), Ok(qty)) => Ok(StagedRow {
+            order,
+            lot: LotId { gtin, lot },
+            qty,
+        }),
+        _ => Err(TableFault::Foreign),
+    }
 }
 
 /// Adds what the row reads as.

@@ -1,8 +1,7 @@
 -- What a call on a transaction leaves.
-use Rattle.std.proofs.Common.{◌≡◌, ◌⊎◌, inl, inr, ℕ, not, true≢false, Bool, true, false, List, Ok, Err, Result, OnOk, OnErr, IfOk, IfErr, IsTrue, refl, sym, ap, subst, ◌∙◌}
+use Rattle.std.proofs.Common.{◌≡◌, ◌⊎◌, inl, inr, ℕ, Bool, true, false, List, Ok, Err, Result, OnOk, OnErr, IfOk, IfErr, IsTrue, refl, sym, ap, subst, ◌∙◌}
 use Rattle.std.proofs.lemmas.Bool.{cases_Bool}
-use Rattle.std.proofs.lemmas.Bool.Decides.{Decides-eqb}
-use Rattle.std.specs.Prelude.{nat_eq, if◌then◌else◌}
+use Rattle.std.specs.Prelude.{◌≢◌}
 use Rattle.sqlite.specs.Order.{Row}
 use Rattle.sqlite.specs.Store.{Ghosts}
 use Rattle.sqlite.specs.Held.{Held, state}
@@ -14,7 +13,9 @@ use Rattle.sqlite.specs.Steps.{FailsToCommit}
 use Rattle.sqlite.proofs.Callers.{IsPlain}
 use Rattle.sqlite.proofs.StateLemmas.{survives_then}
 use Rattle.table_words.specs.Typed.{Tables}
-use Rattle.table_words.specs.Steps.{Goes}
+use Rattle.table_words.specs.Steps.{IsReady, Goes}
+use Rattle.table_words.specs.Calls.{Counts, Puts}
+use Rattle.table_words.specs.Calls.Puts.{Changed, Added}
 
 -- a call that answered was made inside a transaction
 pub was_inside : {X E P : Type 0} (b : Bool) {x : X} {e : E} → (b ≡ false → ◌≡◌ {A = Result X E} (Ok x) (Err e) × P) → b ≡ true
@@ -114,13 +115,21 @@ pub if_both : {X E : Type 0} (r : Result X E) (P Q : X → Type 0) → IfOk r P 
 if_both (Ok x) P Q h k = (h, k)
 if_both (Err e) P Q h k = tt
 
--- by whether the count is 0
-pub if_any : (n : ℕ) (f : Tables → Tables) (old new : State) → ((n ≡ 0 → ⊥) → Goes f old new) × (n ≡ 0 → Goes (λ t. t) old new) → Goes (if not (nat_eq n 0) then f else (λ t. t)) old new
-if_any n f old new h = elim (cases_Bool (nat_eq n 0)) [
-  | inl e ↦ rw e (h.1 ((Decides-eqb n 0).0 e))
-  | inr e ↦ rw e (h.0 (λ none. true≢false (sym ((Decides-eqb n 0).1 none) ∙ e)))
-]
-
 pub if_err : {X E : Type 0} (r : Result X E) (P Q : E → Type 0) → IfErr r P → ((e : E) → P e → Q e) → IfErr r Q
 if_err (Ok x) P Q h f = tt
 if_err (Err e) P Q h f = f e h
+
+-- what follows from what is so where there is an answer
+pub on_ok_then : {X E P Q : Type 0} (r : Result X E) → OnOk r P → (P → Q) → OnOk r Q
+on_ok_then (Ok x) h f = f h
+on_ok_then (Err e) h f = tt
+
+-- a row is put where a change of it, or else its adding, puts it
+pub puts : {S : Type 0} (g : Ghosts S) (change add : List ℕ) (params : Row) (f : Tables → Tables) (old new : Held S)
+    → ((mid : State) (count : ℕ) → Counts count change params (state g old) mid → (count ≢ 0 → Goes f (state g old) mid) × (count ≡ 0 → Goes (λ t. t) (state g old) mid))
+    → ((mid : State) (count : ℕ) → IsReady mid.now → Counts count add params mid (state g new) → Goes f mid (state g new))
+    → Puts g change add params old new → Goes f (state g old) (state g new)
+puts g change add params f old new changes adds (Changed count some h) = (changes (state g new) count h).0 some
+puts g change add params f old new changes adds (Added mid none h) =
+    let kept = (changes (state g mid) 0 none).1 refl in
+    goes_then (λ t. t) f (state g old) (state g mid) (state g new) kept (adds (state g mid) h.count kept.ready h.counts)

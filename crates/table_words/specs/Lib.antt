@@ -5,3 +5,4 @@ pub mod Changed
 pub mod Found
 pub mod Typed
 pub mod Steps
+pub mod Calls

@@ -1,14 +1,8 @@
-use Rattle.std.proofs.Common.{refl}
 use Rattle.sqlite.specs.Held.{state}
-use Rattle.commands.specs.declared.limits.TheConstants.{UNITS_MAX, ACTS_MAX}
-use Rattle.table_words.specs.Typed.{with_reserved}
-use Rattle.table_words.proofs.KeyLemmas.{itself_both}
-use Rattle.table_words.proofs.CellLemmas.{at_most, flag_sound, bin_kind_sound, order_state_sound, card_kind_sound}
-use Rattle.table_words.proofs.CallLemmas.{was_inside, if_any}
+use Rattle.table_words.proofs.CallLemmas.{on_ok_then}
 use Rattle.order_tables.proofs.ReservedLemmas.{drops}
 use Rattle.order_tables.proofs.reserved.drop_reserved.Goals as goal
 
 pub returns-clause-done : goal.returns-clause-done
 returns-clause-done g c clean ready =
-    drops (state g.S.Store c.args.tx.now.conn.now) (state g.S.Store c.execute.new.self.conn.now) c.args.order.now c.args.lot.now _ ready (was_inside _ c.in_ok-execute.ensures.ended)
-    (rw (c.of_name.ensures.value, c.of_gtin.ensures.value, c.of_lot.ensures.value) at (c.in_ok-execute.ensures.runs clean (was_inside _ c.in_ok-execute.ensures.ended)))
+    on_ok_then c.run.result (rw c.key_cells.ensures at (c.run.ensures.ran clean)) (λ h. drops (state g.S.Store c.args.tx.now.conn.now) (state g.S.Store c.run.new.tx.conn.now) c.args.order.now c.args.lot.now h.count ready h.counts.inside h.counts.executes)

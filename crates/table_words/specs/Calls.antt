@@ -1,0 +1,21 @@
+-- What a statement that is run inside a transaction does.
+use Rattle.std.specs.Prelude.{◌≢◌, ℕ, List, Ok, IsTrue}
+use Rattle.sqlite_value.specs.Order.{Row}
+use Rattle.sqlite.specs.Store.{Ghosts}
+use Rattle.sqlite.specs.Held.{Held, state}
+use Rattle.sqlite.specs.State.{State, ExecutesInside}
+
+-- it ran inside the transaction, and wrote so many rows
+pub record Counts (count : ℕ) (sql : List ℕ) (params : Row) (old new : State) : Type 0 where
+  pub inside : IsTrue old.in_transaction
+  pub executes : ExecutesInside 0 sql params old new (Ok count)
+
+-- it ran inside the transaction, however many rows it wrote
+pub record Runs (sql : List ℕ) (params : Row) (old new : State) : Type 0 where
+  pub count : ℕ
+  pub counts : Counts count sql params old new
+
+-- the statement that changes a row changed one, or it changed none and the one that adds a row ran after it
+pub data Puts {S : Type 0} (g : Ghosts S) (change add : List ℕ) (params : Row) (old new : Held S) : Type 0 where
+  Changed : (count : ℕ) → count ≢ 0 → Counts count change params (state g old) (state g new) → Puts g change add params old new
+  Added : (between : Held S) → Counts 0 change params (state g old) (state g between) → Runs add params (state g between) (state g new) → Puts g change add params old new
