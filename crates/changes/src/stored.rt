@@ -7,6 +7,7 @@ ghost use Rattle.table_words.specs.Steps.{IsReady, Goes};
 ghost use Rattle.table_words.specs.declared.error.TableFault.TheVariants.{Foreign};
 ghost use Rattle.changes.specs.Written.{each_written, rows_written};
 
+use commands::Listed;
 use sqlite::{Alter, Transaction};
 use table_words::error::TableFault;
 
@@ -75,8 +76,8 @@ fn remove_all<T: Stored, S: Alter>(
 /// Drops rows of a table, and then puts others.
 pub fn write_rows<T: Stored, S: Alter>(
     tx: &mut Transaction<'_, S>,
-    put: &[T],
-    dropped: &[T],
+    put: &Listed<T>,
+    dropped: &Listed<T>,
 ) -> Result<(), TableFault>
     ensures same_reference { tx.new.conn.ghost_name ≡ tx.old.conn.ghost_name }
     ensures done { HasCleanDisk (state S.Store tx.new.conn.now) → IsReady (state S.Store tx.old.conn.now).now
@@ -85,6 +86,6 @@ pub fn write_rows<T: Stored, S: Alter>(
     ensures survives { Survives (state S.Store tx.old.conn.now) (state S.Store tx.new.conn.now) (λ _. ⊥) }
     ensures never_foreign { IfErr result (λ e. e ≢ Foreign) }
 {
-    remove_all(tx, dropped)?;
-    put_all(tx, put)
+    remove_all(tx, dropped.as_slice())?;
+    put_all(tx, put.as_slice())
 }

@@ -27,8 +27,8 @@ fn write_names<S: Alter>(
     ensures survives { Survives (state S.Store tx.old.conn.now) (state S.Store tx.new.conn.now) (λ _. ⊥) }
     ensures never_foreign { IfErr result (λ e. e ≢ Foreign) }
 {
-    write_rows(tx, put.items.as_slice(), dropped.items.as_slice())?;
-    write_rows(tx, put.bins.as_slice(), dropped.bins.as_slice())
+    write_rows(tx, &put.items, &dropped.items)?;
+    write_rows(tx, &put.bins, &dropped.bins)
 }
 
 /// Units of lots in bins.
@@ -44,7 +44,7 @@ fn write_stock<S: Alter>(
     ensures survives { Survives (state S.Store tx.old.conn.now) (state S.Store tx.new.conn.now) (λ _. ⊥) }
     ensures never_foreign { IfErr result (λ e. e ≢ Foreign) }
 {
-    write_rows(tx, put.stock.as_slice(), dropped.stock.as_slice())
+    write_rows(tx, &put.stock, &dropped.stock)
 }
 
 /// Lots, their recalls and their units in bins.
@@ -60,8 +60,8 @@ fn write_lots<S: Alter>(
     ensures survives { Survives (state S.Store tx.old.conn.now) (state S.Store tx.new.conn.now) (λ _. ⊥) }
     ensures never_foreign { IfErr result (λ e. e ≢ Foreign) }
 {
-    write_rows(tx, put.lots.as_slice(), dropped.lots.as_slice())?;
-    write_rows(tx, put.recalls.as_slice(), dropped.recalls.as_slice())?;
+    write_rows(tx, &put.lots, &dropped.lots)?;
+    write_rows(tx, &put.recalls, &dropped.recalls)?;
     write_stock(tx, put, dropped)
 }
 
@@ -95,8 +95,8 @@ fn write_lines<S: Alter>(
     ensures survives { Survives (state S.Store tx.old.conn.now) (state S.Store tx.new.conn.now) (λ _. ⊥) }
     ensures never_foreign { IfErr result (λ e. e ≢ Foreign) }
 {
-    write_rows(tx, put.orders.as_slice(), dropped.orders.as_slice())?;
-    write_rows(tx, put.lines.as_slice(), dropped.lines.as_slice())
+    write_rows(tx, &put.orders, &dropped.orders)?;
+    write_rows(tx, &put.lines, &dropped.lines)
 }
 
 /// What is staged and reserved for orders.
@@ -112,8 +112,8 @@ fn write_shares<S: Alter>(
     ensures survives { Survives (state S.Store tx.old.conn.now) (state S.Store tx.new.conn.now) (λ _. ⊥) }
     ensures never_foreign { IfErr result (λ e. e ≢ Foreign) }
 {
-    write_rows(tx, put.staged.as_slice(), dropped.staged.as_slice())?;
-    write_rows(tx, put.reserved.as_slice(), dropped.reserved.as_slice())
+    write_rows(tx, &put.staged, &dropped.staged)?;
+    write_rows(tx, &put.reserved, &dropped.reserved)
 }
 
 /// Orders.
@@ -146,9 +146,9 @@ fn write_history<S: Alter>(
     ensures survives { Survives (state S.Store tx.old.conn.now) (state S.Store tx.new.conn.now) (λ _. ⊥) }
     ensures never_foreign { IfErr result (λ e. e ≢ Foreign) }
 {
-    write_rows(tx, put.shipments.as_slice(), dropped.shipments.as_slice())?;
-    write_rows(tx, put.shiplines.as_slice(), dropped.shiplines.as_slice())?;
-    write_rows(tx, put.cards.as_slice(), dropped.cards.as_slice())
+    write_rows(tx, &put.shipments, &dropped.shipments)?;
+    write_rows(tx, &put.shiplines, &dropped.shiplines)?;
+    write_rows(tx, &put.cards, &dropped.cards)
 }
 
 /// Every table in turn.

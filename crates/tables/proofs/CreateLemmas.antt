@@ -1,8 +1,7 @@
 -- What CREATE TABLE makes of a database whose tables are empty.
-use Rattle.std.proofs.Common.{◌≡◌, ℕ, IsTrue, true, false, None, Some, slice_get, List, [], Ok, Err, Result, OnOk, refl, sym, ap, subst, ◌∙◌}
+use Rattle.std.proofs.Common.{◌≡◌, inl, inr, ℕ, IsTrue, true, false, None, Some, slice_get, List, [], ◌∷◌, Ok, Err, Result, OnOk, refl, sym, ap, subst, ◌∙◌}
 use Rattle.std.specs.List.{AllByRecursion}
 use Rattle.sqlite.specs.Command.TheVariants.{CreateTable, CreateIndex}
-use Rattle.sqlite.specs.Compile.{table_defined_by, index_defined_by}
 use Rattle.sqlite.specs.Change.{created, indexed, next_tree}
 use Rattle.sqlite.specs.Does.{Tally, lacks_sequence, AtPlace, Defines, MakesIndex}
 use Rattle.sqlite.specs.Schema.{Schema}
@@ -10,28 +9,21 @@ use Rattle.sqlite.specs.Table.{Table}
 use Rattle.sqlite_schema.specs.declared.schema.Index.{Index}
 use Rattle.sqlite.specs.Effect.{Database, IsDatabase}
 use Rattle.sqlite_catalog.specs.Listing.{IsSound}
-use Rattle.sqlite.specs.Listing.{understood}
 use Rattle.sqlite.specs.Store.{Ghosts}
 use Rattle.sqlite.specs.Tree.{Trees}
 use Rattle.sqlite.specs.Held.{Held, state}
 use Rattle.sqlite.specs.State.{State, HasCleanDisk, IsLive, Survives, mode_of, Writes, ExecutesInside}
 use Rattle.sqlite.proofs.StateLemmas.{survives_then}
-use Rattle.sqlite.proofs.Callers.{IsPlain, command_of, statement_of, runs_as}
+use Rattle.sqlite.proofs.Callers.{runs_as}
 use Rattle.sqlite_keyed.proofs.ListLemmas.{all-append, all_both, all_weaker}
 use Rattle.table_words.specs.Schema.{the_schema, schema_0}
 use Rattle.table_words.specs.Rows.{IsRows}
 use Rattle.commands.specs.declared.rows.MetaRow.{MetaRow}
 use Rattle.commands.specs.declared.rows.BinRow.{BinRow}
-use Rattle.table_words.specs.Typed.{tables_in, no_rows, with_meta, with_bin, AreTyped, is_meta, is_item, is_bin, is_lot, is_recall, is_stock, is_order, is_line, is_staged, is_reserved, is_shipment, is_shipline, is_card, is_repeat}
+use Rattle.table_words.specs.Typed.{tables_in, no_rows, with_meta, with_bin, AreTyped}
 use Rattle.table_words.specs.Steps.{IsReady, IsBlank, Goes}
 use Rattle.table_words.proofs.WriteLemmas.{went, same_value}
-use Rattle.tables.specs.Creation.{IsMaking, IsFilled}
-
--- the text makes the table
-abbrev pub Makes : Schema → List ℕ → Table → Type 0
-Makes schema text table =
-    (command_of (understood schema text) ≡ CreateTable) × (statement_of text (understood schema text) ≡ text) × (table_defined_by text ≡ Ok table) × (lacks_sequence (created schema table) ≡ false)
-    × IsPlain (understood schema text)
+use Rattle.tables.specs.Creation.{IsMaking, Makes, MakesTheIndex, Leads, IsFilled}
 
 pub creates : (schema : Schema) (text : List ℕ) (table : Table) → Makes schema text table → (old new : State) (count : ℕ) → IsMaking schema old → ExecutesInside 0 text [] old new (Ok count)
     → IsMaking (created schema table) new
@@ -58,12 +50,6 @@ creates schema text table m old new count making h =
       inside = h.1.mode;
     }
 
--- the text makes the index of the table at this place
-abbrev pub MakesTheIndex : Schema → ℕ → Table → List ℕ → Index → Type 0
-MakesTheIndex schema at table text index =
-    (command_of (understood schema text) ≡ CreateIndex at) × (statement_of text (understood schema text) ≡ text) × (slice_get schema.tables at ≡ Some table) × (index_defined_by table text ≡ Ok index)
-    × IsPlain (understood schema text)
-
 pub indexes_made : (schema : Schema) (at : ℕ) (table : Table) (text : List ℕ) (index : Index) → MakesTheIndex schema at table text index → (old new : State) (count : ℕ) → IsMaking schema old
     → ExecutesInside 0 text [] old new (Ok count) → IsMaking (indexed schema table index) new
 indexes_made schema at table text index m old new count making h =
@@ -85,6 +71,12 @@ indexes_made schema at table text index m old new count making h =
       });
       inside = h.1.mode;
     }
+
+-- what the first of the statements makes, and where the others lead from there
+pub leads_on : (from to : Schema) (text : List ℕ) (texts : List (List ℕ)) → Leads from (text ∷ texts) to → (old new : State) (count : ℕ) → IsMaking from old → ExecutesInside 0 text [] old new (Ok count)
+    → (next : Schema) × IsMaking next new × Leads next texts to
+leads_on from to text texts (next, inl table, rest) old new count making h = (next, rw table.2 (creates from text table.0 table.1 old new count making h), rest)
+leads_on from to text texts (next, inr index, rest) old new count making h = (next, rw index.4 (indexes_made from index.0 index.1 text index.2 index.3 old new count making h), rest)
 
 pub blank_ready : (db : Database) → IsBlank the_schema db → IsReady db
 blank_ready db blank = record { schema_is = blank.schema_is; rows = all_weaker (λ t. db.trees t.tree ≡ []) (λ t. IsRows (db.trees t.tree)) (λ t e. rw e (tt, tt)) the_schema.tables blank.empty; sound = subst (λ s. IsSound s db.trees) blank.schema_is blank.sound }

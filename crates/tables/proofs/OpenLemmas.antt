@@ -1,5 +1,5 @@
 -- The rowids of each table rise where the store was just opened.
-use Rattle.std.proofs.Common.{◌≡◌, ◌⊎◌, ℕ, ◌≤◌, Bool, IsTrue, IfErr, Result, Ok, Err, inl, inr, true, false, List, [], ◌∷◌, codes, refl, sym, ap, subst, ◌∙◌, arith}
+use Rattle.std.proofs.Common.{◌≡◌, ◌⊎◌, ℕ, ◌≤◌, Bool, IsTrue, IfErr, Result, Ok, Err, inl, inr, true, false, [], refl, sym, ap, subst, ◌∙◌, arith}
 use Rattle.sqlite_disk.specs.Disk.{MoreFaults}
 use Rattle.sqlite_trees.specs.Tree.{Trees}
 use Rattle.sqlite_trees.specs.declared.error.StoreError.{StoreError}
@@ -11,7 +11,6 @@ use Rattle.sqlite.specs.declared.error.ErrorCode.TheVariants.{OutOfMemory}
 use Rattle.sqlite.specs.State.{store_error}
 use Rattle.sqlite.specs.Steps.{FailsToOpen}
 use Rattle.sqlite.specs.Schema.{Schema}
-use Rattle.sqlite_schema.specs.declared.schema.Index.{Index}
 use Rattle.std.proofs.lemmas.Bool.{cases_Bool}
 use Rattle.std.specs.List.{AllByRecursion}
 use Rattle.sqlite.specs.View.{View, IsOrdered, IsShaped}

@@ -1,9 +1,9 @@
 -- What each text makes of the schema before it.
-use Rattle.std.proofs.Common.{ℕ, List, [], ◌∷◌, codes, refl}
+use Rattle.std.proofs.Common.{inl, inr, ℕ, List, [], ◌∷◌, codes, refl}
 use Rattle.sqlite_tied.specs.Compute.{everything}
 use Rattle.sqlite.specs.Listing.{understood}
-use Rattle.tables.proofs.CreateLemmas.{Makes, MakesTheIndex}
-use Rattle.table_words.specs.Schema.{schema_0, schema_1, schema_2, schema_3, schema_4, schema_5, schema_6, schema_7, schema_8, schema_9, schema_10, schema_11, schema_12, schema_13, schema_14, schema_15, schema_16, schema_17, schema_18, meta_table, items_table, bins_table, lots_table, recalls_table, stock_table, orders_table, lines_table, staged_table, reserved_table, shipments_table, shiplines_table, cards_table, repeats_table, lines_by_gtin, staged_by_gtin, reserved_by_gtin, shiplines_by_lot, orders_by_state}
+use Rattle.tables.specs.Creation.{Makes, MakesTheIndex, Leads}
+use Rattle.table_words.specs.Schema.{schema_0, schema_1, schema_2, schema_3, schema_4, schema_5, schema_6, schema_7, schema_8, schema_9, schema_10, schema_11, schema_12, schema_13, schema_14, schema_15, schema_16, schema_17, schema_18, schema_19, meta_table, items_table, bins_table, lots_table, recalls_table, stock_table, orders_table, lines_table, staged_table, reserved_table, shipments_table, shiplines_table, cards_table, repeats_table, lines_by_gtin, staged_by_gtin, reserved_by_gtin, shiplines_by_lot, orders_by_state}
 
 abbrev pub create_meta : List ℕ
 create_meta = codes "CREATE TABLE meta (id INTEGER NOT NULL, mark TEXT NOT NULL, version INTEGER NOT NULL, day INTEGER NOT NULL, acts INTEGER NOT NULL, shipments INTEGER NOT NULL, PRIMARY KEY (id)) STRICT"
@@ -137,3 +137,83 @@ index_orders_by_state = codes "CREATE INDEX orders_by_state ON orders (state)"
 pub orders_by_state_made : MakesTheIndex schema_18 6 (orders_table 11) index_orders_by_state (orders_by_state 0)
 unfolding understood everything
 orders_by_state_made = (refl, refl, refl, refl, (refl, refl))
+
+-- ---- the statements after the first one
+
+abbrev pub others : List (List ℕ)
+others = create_items ∷ create_bins ∷ create_lots ∷ create_recalls ∷ create_stock ∷ create_orders ∷ create_lines ∷ create_staged ∷ create_reserved ∷ create_shipments ∷ create_shiplines ∷ create_cards ∷ create_repeats ∷ index_lines_by_gtin ∷ index_staged_by_gtin ∷ index_reserved_by_gtin ∷ index_shiplines_by_lot ∷ index_orders_by_state ∷ []
+
+pub others_lead : Leads schema_1 others schema_19
+others_lead = (
+  schema_2,
+  inl (items_table 0, items_made, refl),
+  (
+    schema_3,
+    inl (bins_table 0, bins_made, refl),
+    (
+      schema_4,
+      inl (lots_table 0, lots_made, refl),
+      (
+        schema_5,
+        inl (recalls_table 0, recalls_made, refl),
+        (
+          schema_6,
+          inl (stock_table 0, stock_made, refl),
+          (
+            schema_7,
+            inl (orders_table 0, orders_made, refl),
+            (
+              schema_8,
+              inl (lines_table 0, lines_made, refl),
+              (
+                schema_9,
+                inl (staged_table 0, staged_made, refl),
+                (
+                  schema_10,
+                  inl (reserved_table 0, reserved_made, refl),
+                  (
+                    schema_11,
+                    inl (shipments_table 0, shipments_made, refl),
+                    (
+                      schema_12,
+                      inl (shiplines_table 0, shiplines_made, refl),
+                      (
+                        schema_13,
+                        inl (cards_table 0, cards_made, refl),
+                        (
+                          schema_14,
+                          inl (repeats_table 0, repeats_made, refl),
+                          (
+                            schema_15,
+                            inr (7, lines_table 13, lines_by_gtin 0, lines_by_gtin_made, refl),
+                            (
+                              schema_16,
+                              inr (8, staged_table 15, staged_by_gtin 0, staged_by_gtin_made, refl),
+                              (
+                                schema_17,
+                                inr (9, reserved_table 17, reserved_by_gtin 0, reserved_by_gtin_made, refl),
+                                (
+                                  schema_18,
+                                  inr (11, shiplines_table 20, shiplines_by_lot 0, shiplines_by_lot_made, refl),
+                                  (
+                                    schema_19,
+                                    inr (6, orders_table 11, orders_by_state 0, orders_by_state_made, refl),
+                                    refl,
+                                  ),
+                                ),
+                              ),
+                            ),
+                          ),
+                        ),
+                      ),
+                    ),
+                  ),
+                ),
+              ),
+            ),
+          ),
+        ),
+      ),
+    ),
+  ),
+)

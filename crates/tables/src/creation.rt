@@ -1,13 +1,14 @@
 //! Makes the tables, their indexes and the first rows.
 
-ghost use Rattle.std.specs.Prelude.{◌≡◌, ◌≢◌, ◌↔◌, true, false, IsTrue, IfErr, IsErrOf, OnOk, OnErr};
+ghost use Rattle.std.specs.Prelude.{◌≡◌, ◌≢◌, ◌↔◌, true, false, map, IsTrue, IfErr, IsErrOf, OnOk, OnErr};
+ghost use Rattle.sqlite.specs.Schema.{Schema};
 ghost use Rattle.sqlite.specs.State.{HasCleanDisk, Survives, KeepsCommit};
 ghost use Rattle.sqlite.specs.Held.{state};
-ghost use Rattle.table_words.specs.Schema.{schema_0, schema_1, schema_2, schema_3, schema_4, schema_5, schema_6, schema_7, schema_8, schema_9, schema_10, schema_11, schema_12, schema_13, schema_14, schema_15, schema_16, schema_17, schema_18, schema_19};
+ghost use Rattle.table_words.specs.Schema.{schema_0, schema_1, schema_19};
 ghost use Rattle.table_words.specs.Typed.{tables_in, AreTyped};
 ghost use Rattle.table_words.specs.Steps.{IsReady};
 ghost use Rattle.table_words.specs.declared.error.TableFault.TheVariants.{Foreign};
-ghost use Rattle.tables.specs.Creation.{IsMaking, IsFilled, first_rows};
+ghost use Rattle.tables.specs.Creation.{IsMaking, Leads, IsFilled, first_rows};
 
 use crate::checking::is_empty_schema;
 use commands::{BinRow, MetaRow};
@@ -31,300 +32,49 @@ fn create_meta<S: Alter>(tx: &mut Transaction<'_, S>) -> Result<(), Error>
     Ok(())
 }
 
-fn create_items<S: Alter>(tx: &mut Transaction<'_, S>) -> Result<(), Error>
+/// Runs each of these statements in turn.
+fn run_all<S: Alter>(tx: &mut Transaction<'_, S>, texts: &[&str]) -> Result<(), Error>
+    ensures same_reference { tx.new.conn.ghost_name ≡ tx.old.conn.ghost_name }
+    ensures done { HasCleanDisk (state S.Store tx.new.conn.now) → (from to : Schema) → Leads from (map (λ text. text.now) texts.now) to
+        → IsMaking from (state S.Store tx.old.conn.now) → OnOk result (IsMaking to (state S.Store tx.new.conn.now)) }
+    ensures kept { HasCleanDisk (state S.Store tx.new.conn.now) → KeepsCommit (state S.Store tx.old.conn.now) (state S.Store tx.new.conn.now) }
+    ensures survives { Survives (state S.Store tx.old.conn.now) (state S.Store tx.new.conn.now) (λ _. ⊥) }
+{
+    for text in texts {
+        tx.execute(text, &[])?;
+    }
+    Ok(())
+}
+
+/// Makes the other tables and the indexes.
+fn create_others<S: Alter>(tx: &mut Transaction<'_, S>) -> Result<(), Error>
     ensures same_reference { tx.new.conn.ghost_name ≡ tx.old.conn.ghost_name }
     ensures done { HasCleanDisk (state S.Store tx.new.conn.now) → IsMaking schema_1 (state S.Store tx.old.conn.now)
-        → OnOk result (IsMaking schema_2 (state S.Store tx.new.conn.now)) }
+        → OnOk result (IsMaking schema_19 (state S.Store tx.new.conn.now)) }
     ensures kept { HasCleanDisk (state S.Store tx.new.conn.now) → KeepsCommit (state S.Store tx.old.conn.now) (state S.Store tx.new.conn.now) }
     ensures survives { Survives (state S.Store tx.old.conn.now) (state S.Store tx.new.conn.now) (λ _. ⊥) }
 {
-    tx.execute(
+    let texts = [
         "CREATE TABLE items (gtin TEXT NOT NULL, name TEXT NOT NULL, PRIMARY KEY (gtin)) STRICT",
-        &[],
-    )?;
-    Ok(())
-}
-
-fn create_bins<S: Alter>(tx: &mut Transaction<'_, S>) -> Result<(), Error>
-    ensures same_reference { tx.new.conn.ghost_name ≡ tx.old.conn.ghost_name }
-    ensures done { HasCleanDisk (state S.Store tx.new.conn.now) → IsMaking schema_2 (state S.Store tx.old.conn.now)
-        → OnOk result (IsMaking schema_3 (state S.Store tx.new.conn.now)) }
-    ensures kept { HasCleanDisk (state S.Store tx.new.conn.now) → KeepsCommit (state S.Store tx.old.conn.now) (state S.Store tx.new.conn.now) }
-    ensures survives { Survives (state S.Store tx.old.conn.now) (state S.Store tx.new.conn.now) (λ _. ⊥) }
-{
-    tx.execute(
         "CREATE TABLE bins (name TEXT NOT NULL, kind TEXT NOT NULL, PRIMARY KEY (name)) STRICT",
-        &[],
-    )?;
-    Ok(())
-}
-
-fn create_lots<S: Alter>(tx: &mut Transaction<'_, S>) -> Result<(), Error>
-    ensures same_reference { tx.new.conn.ghost_name ≡ tx.old.conn.ghost_name }
-    ensures done { HasCleanDisk (state S.Store tx.new.conn.now) → IsMaking schema_3 (state S.Store tx.old.conn.now)
-        → OnOk result (IsMaking schema_4 (state S.Store tx.new.conn.now)) }
-    ensures kept { HasCleanDisk (state S.Store tx.new.conn.now) → KeepsCommit (state S.Store tx.old.conn.now) (state S.Store tx.new.conn.now) }
-    ensures survives { Survives (state S.Store tx.old.conn.now) (state S.Store tx.new.conn.now) (λ _. ⊥) }
-{
-    tx.execute(
         "CREATE TABLE lots (gtin TEXT NOT NULL, lot TEXT NOT NULL, expiry INTEGER NOT NULL, came INTEGER NOT NULL, held INTEGER NOT NULL, PRIMARY KEY (gtin, lot)) STRICT",
-        &[],
-    )?;
-    Ok(())
-}
-
-fn create_recalls<S: Alter>(tx: &mut Transaction<'_, S>) -> Result<(), Error>
-    ensures same_reference { tx.new.conn.ghost_name ≡ tx.old.conn.ghost_name }
-    ensures done { HasCleanDisk (state S.Store tx.new.conn.now) → IsMaking schema_4 (state S.Store tx.old.conn.now)
-        → OnOk result (IsMaking schema_5 (state S.Store tx.new.conn.now)) }
-    ensures kept { HasCleanDisk (state S.Store tx.new.conn.now) → KeepsCommit (state S.Store tx.old.conn.now) (state S.Store tx.new.conn.now) }
-    ensures survives { Survives (state S.Store tx.old.conn.now) (state S.Store tx.new.conn.now) (λ _. ⊥) }
-{
-    tx.execute(
         "CREATE TABLE recalls (gtin TEXT NOT NULL, lot TEXT NOT NULL, act INTEGER NOT NULL, PRIMARY KEY (gtin, lot)) STRICT",
-        &[],
-    )?;
-    Ok(())
-}
-
-fn create_stock<S: Alter>(tx: &mut Transaction<'_, S>) -> Result<(), Error>
-    ensures same_reference { tx.new.conn.ghost_name ≡ tx.old.conn.ghost_name }
-    ensures done { HasCleanDisk (state S.Store tx.new.conn.now) → IsMaking schema_5 (state S.Store tx.old.conn.now)
-        → OnOk result (IsMaking schema_6 (state S.Store tx.new.conn.now)) }
-    ensures kept { HasCleanDisk (state S.Store tx.new.conn.now) → KeepsCommit (state S.Store tx.old.conn.now) (state S.Store tx.new.conn.now) }
-    ensures survives { Survives (state S.Store tx.old.conn.now) (state S.Store tx.new.conn.now) (λ _. ⊥) }
-{
-    tx.execute(
         "CREATE TABLE stock (gtin TEXT NOT NULL, lot TEXT NOT NULL, bin TEXT NOT NULL, qty INTEGER NOT NULL, PRIMARY KEY (gtin, lot, bin)) STRICT",
-        &[],
-    )?;
-    Ok(())
-}
-
-fn create_orders<S: Alter>(tx: &mut Transaction<'_, S>) -> Result<(), Error>
-    ensures same_reference { tx.new.conn.ghost_name ≡ tx.old.conn.ghost_name }
-    ensures done { HasCleanDisk (state S.Store tx.new.conn.now) → IsMaking schema_6 (state S.Store tx.old.conn.now)
-        → OnOk result (IsMaking schema_7 (state S.Store tx.new.conn.now)) }
-    ensures kept { HasCleanDisk (state S.Store tx.new.conn.now) → KeepsCommit (state S.Store tx.old.conn.now) (state S.Store tx.new.conn.now) }
-    ensures survives { Survives (state S.Store tx.old.conn.now) (state S.Store tx.new.conn.now) (λ _. ⊥) }
-{
-    tx.execute(
         "CREATE TABLE orders (ord TEXT NOT NULL, act INTEGER NOT NULL, customer TEXT NOT NULL, state TEXT NOT NULL, PRIMARY KEY (ord)) STRICT",
-        &[],
-    )?;
-    Ok(())
-}
-
-fn create_lines<S: Alter>(tx: &mut Transaction<'_, S>) -> Result<(), Error>
-    ensures same_reference { tx.new.conn.ghost_name ≡ tx.old.conn.ghost_name }
-    ensures done { HasCleanDisk (state S.Store tx.new.conn.now) → IsMaking schema_7 (state S.Store tx.old.conn.now)
-        → OnOk result (IsMaking schema_8 (state S.Store tx.new.conn.now)) }
-    ensures kept { HasCleanDisk (state S.Store tx.new.conn.now) → KeepsCommit (state S.Store tx.old.conn.now) (state S.Store tx.new.conn.now) }
-    ensures survives { Survives (state S.Store tx.old.conn.now) (state S.Store tx.new.conn.now) (λ _. ⊥) }
-{
-    tx.execute(
         "CREATE TABLE lines (ord TEXT NOT NULL, gtin TEXT NOT NULL, ordered INTEGER NOT NULL, shipped INTEGER NOT NULL, PRIMARY KEY (ord, gtin)) STRICT",
-        &[],
-    )?;
-    Ok(())
-}
-
-fn create_staged<S: Alter>(tx: &mut Transaction<'_, S>) -> Result<(), Error>
-    ensures same_reference { tx.new.conn.ghost_name ≡ tx.old.conn.ghost_name }
-    ensures done { HasCleanDisk (state S.Store tx.new.conn.now) → IsMaking schema_8 (state S.Store tx.old.conn.now)
-        → OnOk result (IsMaking schema_9 (state S.Store tx.new.conn.now)) }
-    ensures kept { HasCleanDisk (state S.Store tx.new.conn.now) → KeepsCommit (state S.Store tx.old.conn.now) (state S.Store tx.new.conn.now) }
-    ensures survives { Survives (state S.Store tx.old.conn.now) (state S.Store tx.new.conn.now) (λ _. ⊥) }
-{
-    tx.execute(
         "CREATE TABLE staged (ord TEXT NOT NULL, gtin TEXT NOT NULL, lot TEXT NOT NULL, qty INTEGER NOT NULL, PRIMARY KEY (ord, gtin, lot)) STRICT",
-        &[],
-    )?;
-    Ok(())
-}
-
-fn create_reserved<S: Alter>(tx: &mut Transaction<'_, S>) -> Result<(), Error>
-    ensures same_reference { tx.new.conn.ghost_name ≡ tx.old.conn.ghost_name }
-    ensures done { HasCleanDisk (state S.Store tx.new.conn.now) → IsMaking schema_9 (state S.Store tx.old.conn.now)
-        → OnOk result (IsMaking schema_10 (state S.Store tx.new.conn.now)) }
-    ensures kept { HasCleanDisk (state S.Store tx.new.conn.now) → KeepsCommit (state S.Store tx.old.conn.now) (state S.Store tx.new.conn.now) }
-    ensures survives { Survives (state S.Store tx.old.conn.now) (state S.Store tx.new.conn.now) (λ _. ⊥) }
-{
-    tx.execute(
         "CREATE TABLE reserved (ord TEXT NOT NULL, gtin TEXT NOT NULL, lot TEXT NOT NULL, qty INTEGER NOT NULL, PRIMARY KEY (ord, gtin, lot)) STRICT",
-        &[],
-    )?;
-    Ok(())
-}
-
-fn create_shipments<S: Alter>(tx: &mut Transaction<'_, S>) -> Result<(), Error>
-    ensures same_reference { tx.new.conn.ghost_name ≡ tx.old.conn.ghost_name }
-    ensures done { HasCleanDisk (state S.Store tx.new.conn.now) → IsMaking schema_10 (state S.Store tx.old.conn.now)
-        → OnOk result (IsMaking schema_11 (state S.Store tx.new.conn.now)) }
-    ensures kept { HasCleanDisk (state S.Store tx.new.conn.now) → KeepsCommit (state S.Store tx.old.conn.now) (state S.Store tx.new.conn.now) }
-    ensures survives { Survives (state S.Store tx.old.conn.now) (state S.Store tx.new.conn.now) (λ _. ⊥) }
-{
-    tx.execute(
         "CREATE TABLE shipments (number INTEGER NOT NULL, act INTEGER NOT NULL, day INTEGER NOT NULL, ord TEXT NOT NULL, PRIMARY KEY (number)) STRICT",
-        &[],
-    )?;
-    Ok(())
-}
-
-fn create_shiplines<S: Alter>(tx: &mut Transaction<'_, S>) -> Result<(), Error>
-    ensures same_reference { tx.new.conn.ghost_name ≡ tx.old.conn.ghost_name }
-    ensures done { HasCleanDisk (state S.Store tx.new.conn.now) → IsMaking schema_11 (state S.Store tx.old.conn.now)
-        → OnOk result (IsMaking schema_12 (state S.Store tx.new.conn.now)) }
-    ensures kept { HasCleanDisk (state S.Store tx.new.conn.now) → KeepsCommit (state S.Store tx.old.conn.now) (state S.Store tx.new.conn.now) }
-    ensures survives { Survives (state S.Store tx.old.conn.now) (state S.Store tx.new.conn.now) (λ _. ⊥) }
-{
-    tx.execute(
         "CREATE TABLE shiplines (number INTEGER NOT NULL, gtin TEXT NOT NULL, lot TEXT NOT NULL, qty INTEGER NOT NULL, PRIMARY KEY (number, gtin, lot)) STRICT",
-        &[],
-    )?;
-    Ok(())
-}
-
-fn create_cards<S: Alter>(tx: &mut Transaction<'_, S>) -> Result<(), Error>
-    ensures same_reference { tx.new.conn.ghost_name ≡ tx.old.conn.ghost_name }
-    ensures done { HasCleanDisk (state S.Store tx.new.conn.now) → IsMaking schema_12 (state S.Store tx.old.conn.now)
-        → OnOk result (IsMaking schema_13 (state S.Store tx.new.conn.now)) }
-    ensures kept { HasCleanDisk (state S.Store tx.new.conn.now) → KeepsCommit (state S.Store tx.old.conn.now) (state S.Store tx.new.conn.now) }
-    ensures survives { Survives (state S.Store tx.old.conn.now) (state S.Store tx.new.conn.now) (λ _. ⊥) }
-{
-    tx.execute(
         "CREATE TABLE cards (gtin TEXT NOT NULL, lot TEXT NOT NULL, act INTEGER NOT NULL, day INTEGER NOT NULL, kind TEXT NOT NULL, note TEXT NOT NULL, qty INTEGER NOT NULL, rest INTEGER NOT NULL, PRIMARY KEY (gtin, lot, act)) STRICT",
-        &[],
-    )?;
-    Ok(())
-}
-
-fn create_repeats<S: Alter>(tx: &mut Transaction<'_, S>) -> Result<(), Error>
-    ensures same_reference { tx.new.conn.ghost_name ≡ tx.old.conn.ghost_name }
-    ensures done { HasCleanDisk (state S.Store tx.new.conn.now) → IsMaking schema_13 (state S.Store tx.old.conn.now)
-        → OnOk result (IsMaking schema_14 (state S.Store tx.new.conn.now)) }
-    ensures kept { HasCleanDisk (state S.Store tx.new.conn.now) → KeepsCommit (state S.Store tx.old.conn.now) (state S.Store tx.new.conn.now) }
-    ensures survives { Survives (state S.Store tx.old.conn.now) (state S.Store tx.new.conn.now) (λ _. ⊥) }
-{
-    tx.execute(
         "CREATE TABLE repeats (k TEXT NOT NULL, act INTEGER NOT NULL, spell TEXT NOT NULL, reply TEXT NOT NULL, PRIMARY KEY (k)) STRICT",
-        &[],
-    )?;
-    Ok(())
-}
-
-fn index_lines_by_gtin<S: Alter>(tx: &mut Transaction<'_, S>) -> Result<(), Error>
-    ensures same_reference { tx.new.conn.ghost_name ≡ tx.old.conn.ghost_name }
-    ensures done { HasCleanDisk (state S.Store tx.new.conn.now) → IsMaking schema_14 (state S.Store tx.old.conn.now)
-        → OnOk result (IsMaking schema_15 (state S.Store tx.new.conn.now)) }
-    ensures kept { HasCleanDisk (state S.Store tx.new.conn.now) → KeepsCommit (state S.Store tx.old.conn.now) (state S.Store tx.new.conn.now) }
-    ensures survives { Survives (state S.Store tx.old.conn.now) (state S.Store tx.new.conn.now) (λ _. ⊥) }
-{
-    tx.execute("CREATE INDEX lines_by_gtin ON lines (gtin)", &[])?;
-    Ok(())
-}
-
-fn index_staged_by_gtin<S: Alter>(tx: &mut Transaction<'_, S>) -> Result<(), Error>
-    ensures same_reference { tx.new.conn.ghost_name ≡ tx.old.conn.ghost_name }
-    ensures done { HasCleanDisk (state S.Store tx.new.conn.now) → IsMaking schema_15 (state S.Store tx.old.conn.now)
-        → OnOk result (IsMaking schema_16 (state S.Store tx.new.conn.now)) }
-    ensures kept { HasCleanDisk (state S.Store tx.new.conn.now) → KeepsCommit (state S.Store tx.old.conn.now) (state S.Store tx.new.conn.now) }
-    ensures survives { Survives (state S.Store tx.old.conn.now) (state S.Store tx.new.conn.now) (λ _. ⊥) }
-{
-    tx.execute("CREATE INDEX staged_by_gtin ON staged (gtin)", &[])?;
-    Ok(())
-}
-
-fn index_reserved_by_gtin<S: Alter>(tx: &mut Transaction<'_, S>) -> Result<(), Error>
-    ensures same_reference { tx.new.conn.ghost_name ≡ tx.old.conn.ghost_name }
-    ensures done { HasCleanDisk (state S.Store tx.new.conn.now) → IsMaking schema_16 (state S.Store tx.old.conn.now)
-        → OnOk result (IsMaking schema_17 (state S.Store tx.new.conn.now)) }
-    ensures kept { HasCleanDisk (state S.Store tx.new.conn.now) → KeepsCommit (state S.Store tx.old.conn.now) (state S.Store tx.new.conn.now) }
-    ensures survives { Survives (state S.Store tx.old.conn.now) (state S.Store tx.new.conn.now) (λ _. ⊥) }
-{
-    tx.execute("CREATE INDEX reserved_by_gtin ON reserved (gtin)", &[])?;
-    Ok(())
-}
-
-fn index_shiplines_by_lot<S: Alter>(tx: &mut Transaction<'_, S>) -> Result<(), Error>
-    ensures same_reference { tx.new.conn.ghost_name ≡ tx.old.conn.ghost_name }
-    ensures done { HasCleanDisk (state S.Store tx.new.conn.now) → IsMaking schema_17 (state S.Store tx.old.conn.now)
-        → OnOk result (IsMaking schema_18 (state S.Store tx.new.conn.now)) }
-    ensures kept { HasCleanDisk (state S.Store tx.new.conn.now) → KeepsCommit (state S.Store tx.old.conn.now) (state S.Store tx.new.conn.now) }
-    ensures survives { Survives (state S.Store tx.old.conn.now) (state S.Store tx.new.conn.now) (λ _. ⊥) }
-{
-    tx.execute(
+        "CREATE INDEX lines_by_gtin ON lines (gtin)",
+        "CREATE INDEX staged_by_gtin ON staged (gtin)",
+        "CREATE INDEX reserved_by_gtin ON reserved (gtin)",
         "CREATE INDEX shiplines_by_lot ON shiplines (gtin, lot)",
-        &[],
-    )?;
-    Ok(())
-}
-
-fn index_orders_by_state<S: Alter>(tx: &mut Transaction<'_, S>) -> Result<(), Error>
-    ensures same_reference { tx.new.conn.ghost_name ≡ tx.old.conn.ghost_name }
-    ensures done { HasCleanDisk (state S.Store tx.new.conn.now) → IsMaking schema_18 (state S.Store tx.old.conn.now)
-        → OnOk result (IsMaking schema_19 (state S.Store tx.new.conn.now)) }
-    ensures kept { HasCleanDisk (state S.Store tx.new.conn.now) → KeepsCommit (state S.Store tx.old.conn.now) (state S.Store tx.new.conn.now) }
-    ensures survives { Survives (state S.Store tx.old.conn.now) (state S.Store tx.new.conn.now) (λ _. ⊥) }
-{
-    tx.execute("CREATE INDEX orders_by_state ON orders (state)", &[])?;
-    Ok(())
-}
-
-fn create_goods_tables<S: Alter>(tx: &mut Transaction<'_, S>) -> Result<(), Error>
-    ensures same_reference { tx.new.conn.ghost_name ≡ tx.old.conn.ghost_name }
-    ensures done { HasCleanDisk (state S.Store tx.new.conn.now) → IsMaking schema_0 (state S.Store tx.old.conn.now)
-        → OnOk result (IsMaking schema_6 (state S.Store tx.new.conn.now)) }
-    ensures was_open { HasCleanDisk (state S.Store tx.new.conn.now) → OnOk result (IsTrue (state S.Store tx.old.conn.now).is_open) }
-    ensures kept { HasCleanDisk (state S.Store tx.new.conn.now) → KeepsCommit (state S.Store tx.old.conn.now) (state S.Store tx.new.conn.now) }
-    ensures survives { Survives (state S.Store tx.old.conn.now) (state S.Store tx.new.conn.now) (λ _. ⊥) }
-{
-    create_meta(tx)?;
-    create_items(tx)?;
-    create_bins(tx)?;
-    create_lots(tx)?;
-    create_recalls(tx)?;
-    create_stock(tx)
-}
-
-fn create_order_tables<S: Alter>(tx: &mut Transaction<'_, S>) -> Result<(), Error>
-    ensures same_reference { tx.new.conn.ghost_name ≡ tx.old.conn.ghost_name }
-    ensures done { HasCleanDisk (state S.Store tx.new.conn.now) → IsMaking schema_6 (state S.Store tx.old.conn.now)
-        → OnOk result (IsMaking schema_10 (state S.Store tx.new.conn.now)) }
-    ensures kept { HasCleanDisk (state S.Store tx.new.conn.now) → KeepsCommit (state S.Store tx.old.conn.now) (state S.Store tx.new.conn.now) }
-    ensures survives { Survives (state S.Store tx.old.conn.now) (state S.Store tx.new.conn.now) (λ _. ⊥) }
-{
-    create_orders(tx)?;
-    create_lines(tx)?;
-    create_staged(tx)?;
-    create_reserved(tx)
-}
-
-fn create_history_tables<S: Alter>(tx: &mut Transaction<'_, S>) -> Result<(), Error>
-    ensures same_reference { tx.new.conn.ghost_name ≡ tx.old.conn.ghost_name }
-    ensures done { HasCleanDisk (state S.Store tx.new.conn.now) → IsMaking schema_10 (state S.Store tx.old.conn.now)
-        → OnOk result (IsMaking schema_14 (state S.Store tx.new.conn.now)) }
-    ensures kept { HasCleanDisk (state S.Store tx.new.conn.now) → KeepsCommit (state S.Store tx.old.conn.now) (state S.Store tx.new.conn.now) }
-    ensures survives { Survives (state S.Store tx.old.conn.now) (state S.Store tx.new.conn.now) (λ _. ⊥) }
-{
-    create_shipments(tx)?;
-    create_shiplines(tx)?;
-    create_cards(tx)?;
-    create_repeats(tx)
-}
-
-fn create_indexes<S: Alter>(tx: &mut Transaction<'_, S>) -> Result<(), Error>
-    ensures same_reference { tx.new.conn.ghost_name ≡ tx.old.conn.ghost_name }
-    ensures done { HasCleanDisk (state S.Store tx.new.conn.now) → IsMaking schema_14 (state S.Store tx.old.conn.now)
-        → OnOk result (IsMaking schema_19 (state S.Store tx.new.conn.now)) }
-    ensures kept { HasCleanDisk (state S.Store tx.new.conn.now) → KeepsCommit (state S.Store tx.old.conn.now) (state S.Store tx.new.conn.now) }
-    ensures survives { Survives (state S.Store tx.old.conn.now) (state S.Store tx.new.conn.now) (λ _. ⊥) }
-{
-    index_lines_by_gtin(tx)?;
-    index_staged_by_gtin(tx)?;
-    index_reserved_by_gtin(tx)?;
-    index_shiplines_by_lot(tx)?;
-    index_orders_by_state(tx)
+        "CREATE INDEX orders_by_state ON orders (state)",
+    ];
+    run_all(tx, &texts)
 }
 
 fn create_tables<S: Alter>(tx: &mut Transaction<'_, S>) -> Result<(), Error>
@@ -335,10 +85,8 @@ fn create_tables<S: Alter>(tx: &mut Transaction<'_, S>) -> Result<(), Error>
     ensures kept { HasCleanDisk (state S.Store tx.new.conn.now) → KeepsCommit (state S.Store tx.old.conn.now) (state S.Store tx.new.conn.now) }
     ensures survives { Survives (state S.Store tx.old.conn.now) (state S.Store tx.new.conn.now) (λ _. ⊥) }
 {
-    create_goods_tables(tx)?;
-    create_order_tables(tx)?;
-    create_history_tables(tx)?;
-    create_indexes(tx)
+    create_meta(tx)?;
+    create_others(tx)
 }
 
 /// Makes the tables and puts the first rows.
