@@ -2,6 +2,8 @@
 
 ghost use Rattle.std.specs.Prelude.{◌≡◌, IfOk};
 ghost use Rattle.machine.specs.Verdict.{first_refusal, taken_off as taken_off_lem, put_on as put_on_lem};
+ghost use Rattle.row_rules.specs.Plans.{rows_to_put, rows_to_drop};
+ghost use Rattle.row_rules.specs.Seen.{meta_after, no_rows};
 ghost use Rattle.row_rules.specs.SeenLots.{in_bin_seen};
 ghost use Rattle.goods_rules.specs.DecidedCount.{count_seen, count_changes, adjust_seen, adjust_changes, is_over_without as is_over_without_lem, found_less as found_less_lem, stock_corrected, shares_corrected as shares_corrected_lem, correction_card as correction_card_lem, correction_cards as correction_cards_lem, change_reply as change_reply_lem, corrections as corrections_lem, units_adjusted as units_adjusted_lem};
 
@@ -12,7 +14,8 @@ use commands::{
 use row_rules::cards::lot_units;
 use row_rules::changing::{empty, meta_next, number_seen};
 use row_rules::judging::first_of;
-use row_rules::plans::{ItemRows, item_rows, rows_to_drop, rows_to_put, shares_over};
+use row_rules::plans::{ItemRows, item_rows, shares_over};
+use row_rules::replanning::{Replanned, shares_changed};
 use row_rules::seeing::{sees_bin, sees_item};
 use row_rules::stock::{sees_lot, stock_gone, stock_put, stock_rows_with, units_in_bin};
 use row_rules::summing::{sum_of_staged, sum_of_stock};
@@ -170,28 +173,55 @@ fn corrections(alloc: Global, slice: &Slice, made: &Correction) -> Result<Change
 {
     let olds = slice.rows.stock.as_slice();
     let stock = stock_rows_with(alloc, olds, &made.lot, &made.bin, made.left)?;
-    let shares = shares_corrected(alloc, slice, made, stock.as_slice())?;
-    let reserved = slice.rows.reserved.as_slice();
+    let put = stock_put(alloc, &made.lot, &made.bin, made.left)?;
+    let gone = stock_gone(alloc, olds, &made.lot, &made.bin, made.left)?;
     let cards = correction_cards(alloc, slice, made, stock.as_slice())?;
-    let put = Rows {
-        stock: Listed::from_vec(stock_put(alloc, &made.lot, &made.bin, made.left)?),
-        reserved: Listed::from_vec(rows_to_put(alloc, reserved, shares.as_slice())?),
-        cards: Listed::from_vec(cards),
-        ..empty(alloc)
-    };
-    let gone = rows_to_drop(alloc, &made.lot.gtin, reserved, shares.as_slice())?;
-    let stock_dropped = stock_gone(alloc, olds, &made.lot, &made.bin, made.left)?;
-    let dropped = Rows {
-        stock: Listed::from_vec(stock_dropped),
-        reserved: Listed::from_vec(gone),
-        ..empty(alloc)
-    };
-    Ok(Change {
+    let reserved = reserved_corrected(alloc, slice, made, stock.as_slice())?;
+    Ok(corrected(alloc, slice, made.change, put, gone, cards, reserved))
+}
+
+// The change by these rows.
+fn corrected(
+    alloc: Global,
+    slice: &Slice,
+    change: i64,
+    put: Vec<StockRow>,
+    gone: Vec<StockRow>,
+    cards: Vec<CardRow>,
+    reserved: Replanned,
+) -> Change
+    ensures { result ≡ record { meta = meta_after slice.now; put = record no_rows { stock = put.items; reserved = reserved.put; cards = cards.items }; dropped = record no_rows { stock = gone.items; reserved = reserved.dropped }; text = change_reply_lem slice.now change } }
+{
+    Change {
         meta: meta_next(slice),
-        put,
-        dropped,
-        text: change_reply(slice, made.change),
-    })
+        put: Rows {
+            stock: Listed::from_vec(put),
+            reserved: reserved.put,
+            cards: Listed::from_vec(cards),
+            ..empty(alloc)
+        },
+        dropped: Rows {
+            stock: Listed::from_vec(gone),
+            reserved: reserved.dropped,
+            ..empty(alloc)
+        },
+        text: change_reply(slice, change),
+    }
+}
+
+// What changes of the reserved rows, where these are the stock rows after it.
+fn reserved_corrected(
+    alloc: Global,
+    slice: &Slice,
+    made: &Correction,
+    stock: &[StockRow],
+) -> Result<Replanned, AllocError>
+    ensures put { IfOk result (λ r. stock.now ≡ stock_corrected slice.now made.now.lot made.now.bin made.now.left → r.put ≡ rows_to_put slice.now.rows.reserved (shares_corrected_lem slice.now made.now.lot made.now.bin made.now.left)) }
+    ensures dropped { IfOk result (λ r. stock.now ≡ stock_corrected slice.now made.now.lot made.now.bin made.now.left → r.dropped ≡ rows_to_drop made.now.lot.gtin slice.now.rows.reserved (shares_corrected_lem slice.now made.now.lot made.now.bin made.now.left)) }
+{
+    let shares = shares_corrected(alloc, slice, made, stock)?;
+    let olds = slice.rows.reserved.as_slice();
+    shares_changed(alloc, &made.lot.gtin, olds, shares.as_slice())
 }
 
 // The reserved rows of the item after it, after which these are the stock rows.

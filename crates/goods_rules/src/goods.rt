@@ -5,7 +5,8 @@ ghost use Rattle.values.specs.Values.{same_text};
 ghost use Rattle.machine.specs.Postings.{is_lot};
 ghost use Rattle.machine.specs.Standing.{is_expired as is_expired_lem};
 ghost use Rattle.machine.specs.Verdict.{first_refusal};
-ghost use Rattle.row_rules.specs.Seen.{units_seen, expires_otherwise_than, is_over as is_over_lem};
+ghost use Rattle.row_rules.specs.Plans.{rows_to_put, rows_to_drop};
+ghost use Rattle.row_rules.specs.Seen.{meta_after, no_rows, plain_reply as plain_reply_lem, units_seen, expires_otherwise_than, is_over as is_over_lem};
 ghost use Rattle.goods_rules.specs.DecidedReceive.{receive_seen, receive_changes, receive_shares as receive_shares_lem, receive_card as receive_card_lem, stock_after as stock_after_lem, stock_rows_after as stock_rows_after_lem, lots_put as lots_put_lem, lots_if_new as lots_if_new_lem, new_lot_row as new_lot_row_lem, lot_rows_after as lot_rows_after_lem};
 
 use commands::limits::{ACTS_MAX, UNITS_MAX};
@@ -15,8 +16,9 @@ use row_rules::cards::{delivery_note, lot_units};
 use row_rules::changing::{empty, meta_next, number_seen, one, plain_reply};
 use row_rules::judging::first_of;
 use row_rules::looking::is_same_lot;
-use row_rules::plans::{ItemRows, item_rows, rows_to_drop, rows_to_put, shares_over};
+use row_rules::plans::{ItemRows, item_rows, shares_over};
 use row_rules::pushing::push_if;
+use row_rules::replanning::{Replanned, shares_changed};
 use row_rules::seeing::{lot_seen, sees_bin, sees_item, sees_recall};
 use row_rules::stock::units_in_bin;
 use row_rules::summing::{sum_of_staged, sum_of_stock};
@@ -89,26 +91,54 @@ pub fn change_receive(
     ensures { IfOk result (λ change. change ≡ receive_changes slice.now key.now r.now) }
 {
     let stock = stock_rows_after(alloc, slice, r)?;
-    let shares = receive_shares(alloc, slice, r, stock.as_slice())?;
-    let reserved = slice.rows.reserved.as_slice();
-    let put = Rows {
-        lots: Listed::from_vec(lots_put(alloc, slice, r)?),
-        stock: one(alloc, stock_after(slice, r))?,
-        reserved: Listed::from_vec(rows_to_put(alloc, reserved, shares.as_slice())?),
-        cards: one(alloc, receive_card(slice, key, r, stock.as_slice()))?,
-        ..empty(alloc)
-    };
-    let gone = rows_to_drop(alloc, &r.lot.gtin, reserved, shares.as_slice())?;
-    let dropped = Rows {
-        reserved: Listed::from_vec(gone),
-        ..empty(alloc)
-    };
-    Ok(Change {
+    let lots = lots_put(alloc, slice, r)?;
+    let put = one(alloc, stock_after(slice, r))?;
+    let cards = one(alloc, receive_card(slice, key, r, stock.as_slice()))?;
+    let reserved = receive_reserved(alloc, slice, r, stock.as_slice())?;
+    Ok(received(alloc, slice, lots, put, cards, reserved))
+}
+
+// The change by these rows.
+fn received(
+    alloc: Global,
+    slice: &Slice,
+    lots: Vec<LotRow>,
+    put: Listed<StockRow>,
+    cards: Listed<CardRow>,
+    reserved: Replanned,
+) -> Change
+    ensures { result ≡ record { meta = meta_after slice.now; put = record no_rows { lots = lots.items; stock = put; reserved = reserved.put; cards = cards }; dropped = record no_rows { reserved = reserved.dropped }; text = plain_reply_lem slice.now } }
+{
+    Change {
         meta: meta_next(slice),
-        put,
-        dropped,
+        put: Rows {
+            lots: Listed::from_vec(lots),
+            stock: put,
+            reserved: reserved.put,
+            cards,
+            ..empty(alloc)
+        },
+        dropped: Rows {
+            reserved: reserved.dropped,
+            ..empty(alloc)
+        },
         text: plain_reply(slice),
-    })
+    }
+}
+
+// What a receipt changes of the reserved rows, where these are the stock rows after it.
+fn receive_reserved(
+    alloc: Global,
+    slice: &Slice,
+    r: &Receipt,
+    stock: &[StockRow],
+) -> Result<Replanned, AllocError>
+    ensures put { IfOk result (λ c. stock.now ≡ stock_rows_after_lem slice.now r.now → c.put ≡ rows_to_put slice.now.rows.reserved (receive_shares_lem slice.now r.now)) }
+    ensures dropped { IfOk result (λ c. stock.now ≡ stock_rows_after_lem slice.now r.now → c.dropped ≡ rows_to_drop r.now.lot.gtin slice.now.rows.reserved (receive_shares_lem slice.now r.now)) }
+{
+    let shares = receive_shares(alloc, slice, r, stock)?;
+    let olds = slice.rows.reserved.as_slice();
+    shares_changed(alloc, &r.lot.gtin, olds, shares.as_slice())
 }
 
 // The card line of a receipt, after which these are the stock rows.

@@ -2,6 +2,8 @@
 
 ghost use Rattle.std.specs.Prelude.{◌≡◌, ◌++◌, nat_lt, IfOk};
 ghost use Rattle.machine.specs.Verdict.{first_refusal};
+ghost use Rattle.row_rules.specs.Plans.{rows_to_put, rows_to_drop};
+ghost use Rattle.row_rules.specs.Seen.{meta_after, no_rows, plain_reply as plain_reply_lem};
 ghost use Rattle.row_rules.specs.SeenLots.{in_bin_seen, stock_put as stock_put_lem, stock_gone as stock_gone_lem};
 ghost use Rattle.goods_rules.specs.DecidedMove.{move_seen, move_changes, move_shares as move_shares_lem, units_left as units_left_lem, units_brought as units_brought_lem, stock_rows_moved as stock_rows_moved_lem};
 
@@ -9,7 +11,8 @@ use commands::limits::ACTS_MAX;
 use commands::{Listed, Movement, Refusal, ReservedRow, StockRow};
 use row_rules::changing::{empty, meta_next, plain_reply};
 use row_rules::judging::first_of;
-use row_rules::plans::{ItemRows, item_rows, rows_to_drop, rows_to_put, shares_over};
+use row_rules::plans::{ItemRows, item_rows, shares_over};
+use row_rules::replanning::{Replanned, shares_changed};
 use row_rules::seeing::{sees_bin, sees_item};
 use row_rules::stock::{sees_lot, stock_gone, stock_put, stock_rows_with, units_in_bin};
 use row_rules::{Change, Rows, Slice};
@@ -48,25 +51,46 @@ fn is_missing(slice: &Slice, m: &Movement) -> bool
 pub fn change_move(alloc: Global, slice: &Slice, m: &Movement) -> Result<Change, AllocError>
     ensures { IfOk result (λ change. change ≡ move_changes slice.now m.now) }
 {
-    let shares = move_shares(alloc, slice, m)?;
-    let reserved = slice.rows.reserved.as_slice();
-    let put = Rows {
-        stock: Listed::from_vec(moved_put(alloc, slice, m)?),
-        reserved: Listed::from_vec(rows_to_put(alloc, reserved, shares.as_slice())?),
-        ..empty(alloc)
-    };
-    let gone = rows_to_drop(alloc, &m.lot.gtin, reserved, shares.as_slice())?;
-    let dropped = Rows {
-        stock: Listed::from_vec(moved_gone(alloc, slice, m)?),
-        reserved: Listed::from_vec(gone),
-        ..empty(alloc)
-    };
-    Ok(Change {
+    let put = moved_put(alloc, slice, m)?;
+    let gone = moved_gone(alloc, slice, m)?;
+    let reserved = move_reserved(alloc, slice, m)?;
+    Ok(moved(alloc, slice, put, gone, reserved))
+}
+
+// The change by these stock rows and reserved rows.
+fn moved(
+    alloc: Global,
+    slice: &Slice,
+    put: Vec<StockRow>,
+    gone: Vec<StockRow>,
+    reserved: Replanned,
+) -> Change
+    ensures { result ≡ record { meta = meta_after slice.now; put = record no_rows { stock = put.items; reserved = reserved.put }; dropped = record no_rows { stock = gone.items; reserved = reserved.dropped }; text = plain_reply_lem slice.now } }
+{
+    Change {
         meta: meta_next(slice),
-        put,
-        dropped,
+        put: Rows {
+            stock: Listed::from_vec(put),
+            reserved: reserved.put,
+            ..empty(alloc)
+        },
+        dropped: Rows {
+            stock: Listed::from_vec(gone),
+            reserved: reserved.dropped,
+            ..empty(alloc)
+        },
         text: plain_reply(slice),
-    })
+    }
+}
+
+// What a move changes of the reserved rows.
+fn move_reserved(alloc: Global, slice: &Slice, m: &Movement) -> Result<Replanned, AllocError>
+    ensures put { IfOk result (λ r. r.put ≡ rows_to_put slice.now.rows.reserved (move_shares_lem slice.now m.now)) }
+    ensures dropped { IfOk result (λ r. r.dropped ≡ rows_to_drop m.now.lot.gtin slice.now.rows.reserved (move_shares_lem slice.now m.now)) }
+{
+    let shares = move_shares(alloc, slice, m)?;
+    let olds = slice.rows.reserved.as_slice();
+    shares_changed(alloc, &m.lot.gtin, olds, shares.as_slice())
 }
 
 // The reserved rows of the item after a move.

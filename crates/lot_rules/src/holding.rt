@@ -2,6 +2,8 @@
 
 ghost use Rattle.std.specs.Prelude.{◌≡◌, false, map, IfOk};
 ghost use Rattle.machine.specs.Verdict.{first_refusal};
+ghost use Rattle.row_rules.specs.Plans.{rows_to_put, rows_to_drop};
+ghost use Rattle.row_rules.specs.Seen.{meta_after, no_rows, plain_reply as plain_reply_lem};
 ghost use Rattle.lot_rules.specs.DecidedHold.{release_seen, release_changes, release_shares as release_shares_lem, hold_seen, hold_changes, hold_shares as hold_shares_lem, recall_seen, recall_changes, recall_shares as recall_shares_lem, new_recall_row as new_recall_row_lem, recall_rows_after as recall_rows_after_lem, with_hold as with_hold_lem, lot_rows_with_hold as lot_rows_with_hold_lem, lot_put as lot_put_lem};
 
 use crate::returning::{returning_change, shares_with_returned};
@@ -10,7 +12,8 @@ use commands::{Listed, LotRow, RecallRow, Refusal, ReservedRow};
 use row_rules::changing::{empty, meta_next, number_seen, one, plain_reply};
 use row_rules::judging::first_of;
 use row_rules::looking::is_same_lot;
-use row_rules::plans::{ItemRows, item_rows, rows_to_drop, rows_to_put, shares_over};
+use row_rules::plans::{ItemRows, item_rows, shares_over};
+use row_rules::replanning::{Replanned, shares_changed};
 use row_rules::seeing::{lot_seen, sees_hold, sees_item, sees_recall};
 use row_rules::stock::sees_lot;
 use row_rules::{Change, Rows, Slice};
@@ -106,24 +109,43 @@ pub fn change_release(alloc: Global, slice: &Slice, lot: &LotId) -> Result<Chang
     ensures { IfOk result (λ change. change ≡ release_changes slice.now lot.now) }
 {
     let lots = lot_rows_with_hold(alloc, slice, lot, false)?;
-    let shares = release_shares(alloc, slice, lot, lots.as_slice())?;
-    let reserved = slice.rows.reserved.as_slice();
-    let put = Rows {
-        lots: Listed::from_vec(lot_put(alloc, lot, false, lot_seen(slice, lot))?),
-        reserved: Listed::from_vec(rows_to_put(alloc, reserved, shares.as_slice())?),
-        ..empty(alloc)
-    };
-    let gone = rows_to_drop(alloc, &lot.gtin, reserved, shares.as_slice())?;
-    let dropped = Rows {
-        reserved: Listed::from_vec(gone),
-        ..empty(alloc)
-    };
-    Ok(Change {
+    let put = lot_put(alloc, lot, false, lot_seen(slice, lot))?;
+    let reserved = release_reserved(alloc, slice, lot, lots.as_slice())?;
+    Ok(released(alloc, slice, put, reserved))
+}
+
+// The change by these rows.
+fn released(alloc: Global, slice: &Slice, put: Vec<LotRow>, reserved: Replanned) -> Change
+    ensures { result ≡ record { meta = meta_after slice.now; put = record no_rows { lots = put.items; reserved = reserved.put }; dropped = record no_rows { reserved = reserved.dropped }; text = plain_reply_lem slice.now } }
+{
+    Change {
         meta: meta_next(slice),
-        put,
-        dropped,
+        put: Rows {
+            lots: Listed::from_vec(put),
+            reserved: reserved.put,
+            ..empty(alloc)
+        },
+        dropped: Rows {
+            reserved: reserved.dropped,
+            ..empty(alloc)
+        },
         text: plain_reply(slice),
-    })
+    }
+}
+
+// What a release changes of the reserved rows, where these are the rows of lots after it.
+fn release_reserved(
+    alloc: Global,
+    slice: &Slice,
+    lot: &LotId,
+    lots: &[LotRow],
+) -> Result<Replanned, AllocError>
+    ensures put { IfOk result (λ r. lots.now ≡ lot_rows_with_hold_lem slice.now lot.now false → r.put ≡ rows_to_put slice.now.rows.reserved (release_shares_lem slice.now lot.now)) }
+    ensures dropped { IfOk result (λ r. lots.now ≡ lot_rows_with_hold_lem slice.now lot.now false → r.dropped ≡ rows_to_drop lot.now.gtin slice.now.rows.reserved (release_shares_lem slice.now lot.now)) }
+{
+    let shares = release_shares(alloc, slice, lot, lots)?;
+    let olds = slice.rows.reserved.as_slice();
+    shares_changed(alloc, &lot.gtin, olds, shares.as_slice())
 }
 
 // The reserved rows of the item after a release, after which these are the rows of lots.

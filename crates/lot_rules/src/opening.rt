@@ -5,7 +5,7 @@ ghost use Rattle.values.specs.Values.{same_text};
 ghost use Rattle.commands.specs.Lists.{total};
 ghost use Rattle.machine.specs.Verdict.{first_refusal};
 ghost use Rattle.machine.specs.Postings.{is_lot};
-ghost use Rattle.row_rules.specs.Seen.{capped, is_past_row};
+ghost use Rattle.row_rules.specs.Seen.{capped, is_past_row, no_rows};
 ghost use Rattle.lot_rules.specs.DecidedDay.{day_judged, is_out as is_out_lem, staged_kept_on as staged_kept_on_lem, staged_gone_on as staged_gone_on_lem, units_out as units_out_lem, lot_returned_on as lot_returned_on_lem, stock_returned as stock_returned_lem, stands_in as stands_in_lem, stock_on as stock_on_lem, gtins_seen as gtins_seen_lem, day_put, day_dropped, meta_on as meta_on_lem, day_reply as day_reply_lem, day_changes};
 
 use crate::returning::{bins_with_returns, returned_put};
@@ -252,25 +252,37 @@ fn replan_on(alloc: Global, slice: &Slice, day: BusinessDay) -> Result<Replanned
 pub fn change_day(alloc: Global, slice: &Slice, day: BusinessDay) -> Result<Change, AllocError>
     ensures { IfOk result (λ change. change ≡ day_changes slice.now day) }
 {
-    let Replanned { put, dropped } = replan_on(alloc, slice, day)?;
     let stock = stock_returned(alloc, slice, day)?;
     let staged = staged_gone_on(alloc, slice, day)?;
-    let put = Rows {
-        stock: Listed::from_vec(stock),
-        reserved: put,
-        ..empty(alloc)
-    };
-    let dropped = Rows {
-        staged: Listed::from_vec(staged),
-        reserved: dropped,
-        ..empty(alloc)
-    };
-    Ok(Change {
+    let reserved = replan_on(alloc, slice, day)?;
+    Ok(opened(alloc, slice, day, stock, staged, reserved))
+}
+
+// The change by these rows.
+fn opened(
+    alloc: Global,
+    slice: &Slice,
+    day: BusinessDay,
+    stock: Vec<StockRow>,
+    staged: Vec<StagedRow>,
+    reserved: Replanned,
+) -> Change
+    ensures { result ≡ record { meta = meta_on_lem slice.now day; put = record no_rows { stock = stock.items; reserved = reserved.put }; dropped = record no_rows { staged = staged.items; reserved = reserved.dropped }; text = day_reply_lem slice.now day } }
+{
+    Change {
         meta: meta_on(slice, day),
-        put,
-        dropped,
+        put: Rows {
+            stock: Listed::from_vec(stock),
+            reserved: reserved.put,
+            ..empty(alloc)
+        },
+        dropped: Rows {
+            staged: Listed::from_vec(staged),
+            reserved: reserved.dropped,
+            ..empty(alloc)
+        },
         text: day_reply(slice, day),
-    })
+    }
 }
 
 fn meta_on(slice: &Slice, day: BusinessDay) -> MetaRow

@@ -3,6 +3,8 @@
 ghost use Rattle.std.specs.Prelude.{◌≡◌, not, filter, IfOk};
 ghost use Rattle.machine.specs.Postings.{is_lot};
 ghost use Rattle.machine.specs.Standing.{RETURNS};
+ghost use Rattle.row_rules.specs.Plans.{rows_to_put, rows_to_drop};
+ghost use Rattle.row_rules.specs.Seen.{meta_after, no_rows};
 ghost use Rattle.lot_rules.specs.DecidedHold.{staged_of_seen, staged_kept as staged_kept_lem, staged_returned as staged_returned_lem, units_in_returns as units_in_returns_lem, returned_put as returned_put_lem, stock_with_returned as stock_with_returned_lem, bins_with_returns as bins_with_returns_lem, returns_bin_row as returns_bin_row_lem, shares_with_returned as shares_with_returned_lem, returned_reply as returned_reply_lem, returning_change as returning_change_lem};
 
 use commands::{
@@ -10,8 +12,9 @@ use commands::{
 };
 use row_rules::changing::{empty, meta_next, number_seen};
 use row_rules::looking::is_same_lot;
-use row_rules::plans::{ItemRows, item_rows, rows_to_drop, rows_to_put, shares_over};
+use row_rules::plans::{ItemRows, item_rows, shares_over};
 use row_rules::pushing::push_if;
+use row_rules::replanning::{Replanned, shares_changed};
 use row_rules::stock::{stock_put, stock_rows_with, units_in_bin};
 use row_rules::summing::sum_of_lot_staged;
 use row_rules::{Change, Rows, Slice};
@@ -166,25 +169,74 @@ pub fn returning_change(
 ) -> Result<Change, AllocError>
     ensures { IfOk result (λ change. change ≡ returning_change_lem slice.now lot.now lots recalls shares.now) }
 {
-    let reserved = slice.rows.reserved.as_slice();
-    let put = Rows {
-        lots,
-        recalls,
-        stock: Listed::from_vec(returned_put(alloc, slice, lot)?),
-        reserved: Listed::from_vec(rows_to_put(alloc, reserved, shares)?),
-        ..empty(alloc)
-    };
-    let dropped = Rows {
-        staged: Listed::from_vec(staged_returned(alloc, slice, lot)?),
-        reserved: Listed::from_vec(rows_to_drop(alloc, &lot.gtin, reserved, shares)?),
-        ..empty(alloc)
-    };
-    Ok(Change {
-        meta: meta_next(slice),
-        put,
-        dropped,
-        text: returned_reply(slice, lot),
+    let rows = rows_returned(alloc, slice, lot, shares)?;
+    Ok(change_returning(alloc, slice, lot, lots, recalls, rows))
+}
+
+/// The rows besides lots and recalls that change where a lot stops being shippable.
+#[derive(Drop)]
+struct Returned {
+    /// The stock row put in RETURNS, if anything comes into it.
+    stock: Vec<StockRow>,
+    /// The staged rows dropped.
+    staged: Vec<StagedRow>,
+    reserved: Replanned,
+}
+
+fn rows_returned(
+    alloc: Global,
+    slice: &Slice,
+    lot: &LotId,
+    shares: &[ReservedRow],
+) -> Result<Returned, AllocError>
+    ensures stock { IfOk result (λ r. r.stock.items ≡ returned_put_lem slice.now lot.now) }
+    ensures staged { IfOk result (λ r. r.staged.items ≡ staged_returned_lem slice.now lot.now) }
+    ensures put { IfOk result (λ r. r.reserved.put ≡ rows_to_put slice.now.rows.reserved shares.now) }
+    ensures dropped { IfOk result (λ r. r.reserved.dropped ≡ rows_to_drop lot.now.gtin slice.now.rows.reserved shares.now) }
+{
+    let stock = returned_put(alloc, slice, lot)?;
+    let staged = staged_returned(alloc, slice, lot)?;
+    let olds = slice.rows.reserved.as_slice();
+    let reserved = shares_changed(alloc, &lot.gtin, olds, shares)?;
+    Ok(Returned {
+        stock,
+        staged,
+        reserved,
     })
+}
+
+// The change by these rows.
+fn change_returning(
+    alloc: Global,
+    slice: &Slice,
+    lot: &LotId,
+    lots: Listed<LotRow>,
+    recalls: Listed<RecallRow>,
+    rows: Returned,
+) -> Change
+    ensures { result ≡ record { meta = meta_after slice.now; put = record no_rows { lots = lots; recalls = recalls; stock = rows.stock.items; reserved = rows.reserved.put }; dropped = record no_rows { staged = rows.staged.items; reserved = rows.reserved.dropped }; text = returned_reply_lem slice.now lot.now } }
+{
+    let Returned {
+        stock,
+        staged,
+        reserved,
+    } = rows;
+    Change {
+        meta: meta_next(slice),
+        put: Rows {
+            lots,
+            recalls,
+            stock: Listed::from_vec(stock),
+            reserved: reserved.put,
+            ..empty(alloc)
+        },
+        dropped: Rows {
+            staged: Listed::from_vec(staged),
+            reserved: reserved.dropped,
+            ..empty(alloc)
+        },
+        text: returned_reply(slice, lot),
+    }
 }
 
 // The reply says how many units were returned.

@@ -3,6 +3,7 @@
 ghost use Rattle.std.specs.Prelude.{◌≡◌, not, filter, IfOk};
 ghost use Rattle.values.specs.Values.{same_text};
 ghost use Rattle.machine.specs.Verdict.{first_refusal};
+ghost use Rattle.row_rules.specs.Seen.{meta_after, no_rows, plain_reply as plain_reply_lem};
 ghost use Rattle.order_rules.specs.DecidedCancel.{cancel_seen, cancel_changes, cancelled_row as cancelled_row_lem, cancel_put, cancel_dropped};
 
 use commands::limits::ACTS_MAX;
@@ -37,23 +38,28 @@ pub fn judge_cancel(slice: &Slice, order: &Name) -> Option<Refusal>
 pub fn change_cancel(alloc: Global, slice: &Slice, order: &Name) -> Result<Change, AllocError>
     ensures { IfOk result (λ change. change ≡ cancel_changes slice.now order.now) }
 {
-    let Replanned { put, dropped } = replan_without(alloc, slice, order)?;
     let row = cancelled_row(alloc, order_row_seen(slice, order))?;
-    let put = Rows {
-        orders: Listed::from_vec(row),
-        reserved: put,
-        ..empty(alloc)
-    };
-    let dropped = Rows {
-        reserved: dropped,
-        ..empty(alloc)
-    };
-    Ok(Change {
+    let reserved = replan_without(alloc, slice, order)?;
+    Ok(cancelled(alloc, slice, row, reserved))
+}
+
+// The change by these rows.
+fn cancelled(alloc: Global, slice: &Slice, row: Vec<OrderRow>, reserved: Replanned) -> Change
+    ensures { result ≡ record { meta = meta_after slice.now; put = record no_rows { orders = row.items; reserved = reserved.put }; dropped = record no_rows { reserved = reserved.dropped }; text = plain_reply_lem slice.now } }
+{
+    Change {
         meta: meta_next(slice),
-        put,
-        dropped,
+        put: Rows {
+            orders: Listed::from_vec(row),
+            reserved: reserved.put,
+            ..empty(alloc)
+        },
+        dropped: Rows {
+            reserved: reserved.dropped,
+            ..empty(alloc)
+        },
         text: plain_reply(slice),
-    })
+    }
 }
 
 // The row of the order after the act.

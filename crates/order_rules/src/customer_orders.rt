@@ -7,7 +7,7 @@ ghost use Rattle.commands.specs.declared.limits.TheConstants.{OPEN_MAX};
 ghost use Rattle.commands.specs.Lists.{total};
 ghost use Rattle.machine.specs.Replies.{short_field};
 ghost use Rattle.machine.specs.Verdict.{first_refusal, names_item_twice as names_item_twice_lem};
-ghost use Rattle.row_rules.specs.Seen.{capped, number_seen as number_seen_lem};
+ghost use Rattle.row_rules.specs.Seen.{capped, meta_after, no_rows, number_seen as number_seen_lem};
 ghost use Rattle.order_rules.specs.DecidedOrder.{order_seen, order_changes, misses_item as misses_item_lem, orders_too_much as orders_too_much_lem, open_units_seen as open_units_seen_lem, open_units_of as open_units_of_lem, open_units_of_line as open_units_of_line_lem};
 
 use crate::booking::{Booked, book_order, new_line_rows, new_order_row};
@@ -136,27 +136,36 @@ fn open_units_of_line(line: Option<LineRow>) -> u64
 pub fn change_order(alloc: Global, slice: &Slice, o: &NewOrder) -> Result<Change, AllocError>
     ensures { IfOk result (λ change. change ≡ order_changes slice.now o.now) }
 {
-    let Booked {
-        put,
-        dropped,
-        short,
-    } = book_order(alloc, slice, o)?;
-    let put = Rows {
-        orders: one(alloc, new_order_row(slice, o))?,
-        lines: Listed::from_vec(new_line_rows(alloc, o)?),
-        reserved: put,
-        ..empty(alloc)
-    };
-    let dropped = Rows {
-        reserved: dropped,
-        ..empty(alloc)
-    };
-    Ok(Change {
+    let orders = one(alloc, new_order_row(slice, o))?;
+    let lines = new_line_rows(alloc, o)?;
+    let booked = book_order(alloc, slice, o)?;
+    Ok(ordered(alloc, slice, orders, lines, booked))
+}
+
+// The change by these rows.
+fn ordered(
+    alloc: Global,
+    slice: &Slice,
+    orders: Listed<OrderRow>,
+    lines: Vec<LineRow>,
+    booked: Booked,
+) -> Change
+    ensures { result ≡ record { meta = meta_after slice.now; put = record no_rows { orders = orders; lines = lines.items; reserved = booked.put }; dropped = record no_rows { reserved = booked.dropped }; text = codes "{\"act\":" ++ decimal (number_seen_lem slice.now) ++ short_field booked.short ++ codes "}" } }
+{
+    Change {
         meta: meta_next(slice),
-        put,
-        dropped,
-        text: short_reply(slice, short),
-    })
+        put: Rows {
+            orders,
+            lines: Listed::from_vec(lines),
+            reserved: booked.put,
+            ..empty(alloc)
+        },
+        dropped: Rows {
+            reserved: booked.dropped,
+            ..empty(alloc)
+        },
+        text: short_reply(slice, booked.short),
+    }
 }
 
 // The reply with the units that are short.

@@ -42,16 +42,7 @@ pub fn change_ship(alloc: Global, slice: &Slice, order: &Name) -> Result<Change,
     ensures { IfOk result (λ change. change ≡ ship_changes slice.now order.now) }
 {
     let staged = rows_shipped(alloc, slice.rows.staged.as_slice(), order)?;
-    let lines = lines_shipped(alloc, slice, order)?;
-    let lacking = any_lacks_units(lines.as_slice());
-    let put = Rows {
-        orders: Listed::from_vec(order_put(alloc, order_row_seen(slice, order), lacking)?),
-        shipments: one(alloc, shipment_put(slice, order))?,
-        shiplines: Listed::from_vec(shiplines(alloc, shipment_seen(slice), staged.as_slice())?),
-        cards: Listed::from_vec(ship_cards(alloc, slice, staged.as_slice())?),
-        lines: Listed::from_vec(lines),
-        ..empty(alloc)
-    };
+    let put = ship_put(alloc, slice, order, staged.as_slice())?;
     let dropped = Rows {
         staged: Listed::from_vec(staged),
         ..empty(alloc)
@@ -61,6 +52,31 @@ pub fn change_ship(alloc: Global, slice: &Slice, order: &Name) -> Result<Change,
         put,
         dropped,
         text: ship_reply(slice),
+    })
+}
+
+// The rows that are put, where these are the rows of what is shipped.
+fn ship_put(
+    alloc: Global,
+    slice: &Slice,
+    order: &Name,
+    staged: &[StagedRow],
+) -> Result<Rows, AllocError>
+    ensures { IfOk result (λ rows. staged.now ≡ rows_shipped_lem order.now slice.now.rows.staged → rows ≡ (ship_changes slice.now order.now).put) }
+{
+    let lines = lines_shipped(alloc, slice, order)?;
+    let lacking = any_lacks_units(lines.as_slice());
+    let orders = order_put(alloc, order_row_seen(slice, order), lacking)?;
+    let shipments = one(alloc, shipment_put(slice, order))?;
+    let shiplines = shiplines(alloc, shipment_seen(slice), staged)?;
+    let cards = ship_cards(alloc, slice, staged)?;
+    Ok(Rows {
+        orders: Listed::from_vec(orders),
+        lines: Listed::from_vec(lines),
+        shipments,
+        shiplines: Listed::from_vec(shiplines),
+        cards: Listed::from_vec(cards),
+        ..empty(alloc)
     })
 }
 

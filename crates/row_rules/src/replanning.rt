@@ -1,6 +1,7 @@
 //! The plans of several items after an act.
 
 ghost use Rattle.std.specs.Prelude.{◌≡◌, flat_map, IfOk};
+ghost use Rattle.row_rules.specs.Plans.{rows_to_put as rows_to_put_lem, rows_to_drop as rows_to_drop_lem};
 ghost use Rattle.row_rules.specs.Replanning.{item_put, item_dropped};
 
 use crate::plans::{ItemRows, rows_to_drop, rows_to_put, shares_over};
@@ -52,8 +53,21 @@ pub fn replan_item(
     ensures dropped { IfOk result (λ r. r.dropped ≡ item_dropped day rows.now.orders.now rows.now.lines.now rows.now.staged.now rows.now.lots.now rows.now.recalls.now rows.now.bins.now rows.now.stock.now olds.now gtin.now) }
 {
     let shares = shares_over(alloc, gtin, day, rows)?;
-    let put = rows_to_put(alloc, olds, shares.as_slice())?;
-    let dropped = rows_to_drop(alloc, gtin, olds, shares.as_slice())?;
+    shares_changed(alloc, gtin, olds, shares.as_slice())
+}
+
+/// What changes of the reserved rows where these are the new ones of an item.
+pub fn shares_changed(
+    alloc: Global,
+    gtin: &Gtin,
+    olds: &[ReservedRow],
+    news: &[ReservedRow],
+) -> Result<Replanned, AllocError>
+    ensures put { IfOk result (λ r. r.put ≡ rows_to_put_lem olds.now news.now) }
+    ensures dropped { IfOk result (λ r. r.dropped ≡ rows_to_drop_lem gtin.now olds.now news.now) }
+{
+    let put = rows_to_put(alloc, olds, news)?;
+    let dropped = rows_to_drop(alloc, gtin, olds, news)?;
     Ok(Replanned {
         put: Listed::from_vec(put),
         dropped: Listed::from_vec(dropped),
