@@ -1,4 +1,4 @@
-use Rattle.std.proofs.Common.{IsTrue, ap, subst, ◌∙◌}
+use Rattle.std.proofs.Common.{IsTrue, ap, subst, ◌∙◌, rules}
 use Rattle.values.specs.Values.{is_gtin, is_lot_text}
 use Rattle.label.specs.Labels.{label_text, label_read}
 use Rattle.label.specs.Expiry.{expiry_text}
@@ -14,3 +14,6 @@ returns-in-Ok-clause-reads_back c today business within =
     (subst (λ g. IsTrue (is_gtin g)) c.as_bytes.ensures.text c.as_bytes.ensures.rule)
     (subst (λ l. IsTrue (is_lot_text l)) c.as_bytes-2.ensures.text c.as_bytes-2.ensures.rule)
     (expiry_day-expiry_text today label.expiry business c.expiry_digits-yymmdd.ensures.range within.from within.to)
+
+pub returns-in-Err-clause-memory : goal.returns-in-Err-clause-memory
+returns-in-Err-clause-memory c = search rules
