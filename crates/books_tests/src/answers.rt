@@ -1,11 +1,13 @@
 //! The worked examples, sent to a house whose books are in memory.
 
+use crate::opening::is_of_may_fourth;
+use crate::order_rows::opened;
+use crate::scenes::{Scene, play, play_answers};
 use house::{Answered, House, ServeFault, laws};
 use label::{BusinessDay, Day};
-use sqlite::{Alter, Connection, MemStore};
-use std::alloc::{AllocError, Global};
+use sqlite::{Alter, Connection};
+use std::alloc::Global;
 use std::process::Abort;
-use std::test::Fail;
 use store::Books;
 
 // Texts that are no request, or ask for what is not served, and labels that are refused.
@@ -152,110 +154,190 @@ pub(crate) static TWO_CUSTOMERS: [(&str, &str); 11] = [
     ),
 ];
 
+pub(crate) fn business_day(rt: &impl Abort, text: &[u8]) -> BusinessDay {
+    BusinessDay::new(Day::parse(text).expect(rt, "a day")).expect(rt, "a business day")
+}
+
+/// Makes books of 2026-05-04.
 pub(crate) fn new_books<S: Alter + Drop>(
+    rt: &impl Abort,
     alloc: Global,
     conn: Connection<S>,
-) -> Result<Books<S>, Fail> {
-    let day = Day::parse(b"2026-05-04").ok_or("a day")?;
-    let day = BusinessDay::new(day).ok_or("a business day")?;
-    if !conn.is_autocommit() {
-        return Err(Fail::new("a transaction is open"));
-    }
-    match Books::create(alloc, conn, day) {
-        Ok(books) => Ok(books),
-        Err(_) => Err(Fail::new("no books")),
+) -> Books<S> {
+    assert!(rt; conn.is_autocommit());
+    match Books::create(alloc, conn, business_day(rt, b"2026-05-04")) {
+        Ok(books) => books,
+        Err(_) => panic!(rt; "no books were made"),
     }
 }
 
-pub(crate) fn new_house(alloc: Global) -> Result<House<MemStore>, Fail> {
-    let conn = Connection::open_in_memory(alloc)?;
-    Ok(House::new(alloc, new_books(alloc, conn)?))
+fn new_house<S: Alter + Drop>(rt: &impl Abort, alloc: Global, conn: Connection<S>) -> House<S> {
+    House::new(alloc, new_books(rt, alloc, conn))
+}
+
+fn is_answered<S: Alter>(rt: &impl Abort, house: &mut House<S>, row: &(&str, &str)) {
+    let answer = house.answer(row.0.as_bytes());
+    assert_eq!(rt; answer.as_bytes(), row.1.as_bytes(), "{:?}", row.0);
 }
 
 // Each text gets its answer.
-pub(crate) fn expect(rt: &impl Abort, house: &mut House<MemStore>, rows: &[(&str, &str)]) {
+pub(crate) fn expect<S: Alter>(rt: &impl Abort, house: &mut House<S>, rows: &[(&str, &str)]) {
     for row in rows {
-        let answer = house.answer(row.0.as_bytes());
-        assert_eq!(rt; answer.as_bytes(), row.1.as_bytes(), "{:?}", row.0);
+        is_answered(rt, house, row);
     }
 }
 
+// Each text of these tables gets its answer.
+fn expect_all<S: Alter>(rt: &impl Abort, house: &mut House<S>, tables: &[&[(&str, &str)]]) {
+    for rows in tables {
+        expect(rt, house, rows);
+    }
+}
+
+pub(crate) fn answers<S: Alter + Drop>(
+    rt: &impl Abort,
+    alloc: Global,
+    conn: Connection<S>,
+    tables: &[&[(&str, &str)]],
+) -> Connection<S> {
+    let mut house = House::new(alloc, opened(rt, alloc, conn));
+    expect_all(rt, &mut house, tables);
+    house.close().close()
+}
+
+pub(crate) fn answers_in_new_books<S: Alter + Drop>(
+    rt: &impl Abort,
+    alloc: Global,
+    conn: Connection<S>,
+    tables: &[&[(&str, &str)]],
+) -> Connection<S> {
+    let mut house = new_house(rt, alloc, conn);
+    expect_all(rt, &mut house, tables);
+    house.close().close()
+}
+
+pub(crate) fn no_request<S: Alter + Drop>(
+    rt: &impl Abort,
+    alloc: Global,
+    conn: Connection<S>,
+) -> Connection<S> {
+    let mut house = new_house(rt, alloc, conn);
+    expect(rt, &mut house, NO_REQUESTS.as_slice());
+    let books = house.close();
+    is_of_may_fourth(rt, &books);
+    books.close()
+}
+
 #[test]
-fn answers_what_is_no_request(rt: HostRuntime) -> Result<(), Fail> {
-    let mut house = new_house(rt.alloc())?;
-    expect(&rt, &mut house, NO_REQUESTS.as_slice());
-    assert_eq!(rt;
-        house.close().day(),
-        Day::parse(b"2026-05-04").ok_or("a day")?
-    );
+fn answers_what_is_no_request(rt: HostRuntime) {
+    play(&rt, rt.alloc(), Scene::AnswersNoRequest);
     laws::refused_requests_change_nothing();
     laws::books_are_never_foreign();
-    Ok(())
 }
 
 #[test]
-fn answers_the_two_customers(rt: HostRuntime) -> Result<(), Fail> {
-    let mut house = new_house(rt.alloc())?;
-    expect(&rt, &mut house, GOODS_AND_BINS.as_slice());
-    expect(&rt, &mut house, REFUSED.as_slice());
-    expect(&rt, &mut house, TWO_CUSTOMERS.as_slice());
-    Ok(())
+fn answers_the_two_customers(rt: HostRuntime) {
+    play_answers(
+        &rt,
+        rt.alloc(),
+        &[
+            GOODS_AND_BINS.as_slice(),
+            REFUSED.as_slice(),
+            TWO_CUSTOMERS.as_slice(),
+        ],
+    );
 }
 
 #[test]
-fn shows_stock(rt: HostRuntime) -> Result<(), Fail> {
-    let mut house = new_house(rt.alloc())?;
-    expect(&rt, &mut house, GOODS_AND_BINS.as_slice());
-    expect(&rt, &mut house, STOCK_BEFORE.as_slice());
-    let (first, later) = TWO_CUSTOMERS.as_slice().split_at(1);
-    expect(&rt, &mut house, first);
-    expect(&rt, &mut house, STOCK_OF_ONE_LOT.as_slice());
-    expect(&rt, &mut house, later);
-    expect(&rt, &mut house, STOCK_OF_THREE_LOTS.as_slice());
-    Ok(())
+fn shows_stock(rt: HostRuntime) {
+    play_answers(
+        &rt,
+        rt.alloc(),
+        &[
+            GOODS_AND_BINS.as_slice(),
+            STOCK_BEFORE.as_slice(),
+            &TWO_CUSTOMERS[..1],
+            STOCK_OF_ONE_LOT.as_slice(),
+            &TWO_CUSTOMERS[1..],
+            STOCK_OF_THREE_LOTS.as_slice(),
+        ],
+    );
 }
 
-fn texts(alloc: Global, rows: &[(&str, &str)]) -> Result<Vec<Vec<u8>>, AllocError> {
+fn texts(rt: &impl Abort, alloc: Global, rows: &[(&str, &str)]) -> Vec<Vec<u8>> {
     let mut texts = Vec::new(alloc);
     for row in rows {
-        texts.push(row.0.as_bytes().to_vec(alloc)?)?;
+        let text = row.0.as_bytes().to_vec(alloc).expect(rt, "a text");
+        assert!(rt; texts.push(text).is_ok());
     }
-    Ok(texts)
+    texts
 }
 
-#[test]
-fn answers_all_in_turn(rt: HostRuntime) -> Result<(), Fail> {
-    let mut house = new_house(rt.alloc())?;
-    expect(&rt, &mut house, GOODS_AND_BINS.as_slice());
-    let texts = texts(rt.alloc(), TWO_CUSTOMERS.as_slice())?;
-    let answers: Vec<Answered> = house.answer_all(texts.as_slice())?;
-    assert_eq!(rt; answers.len(), TWO_CUSTOMERS.len());
-    for (answer, row) in answers.iter().zip(TWO_CUSTOMERS.as_slice()) {
+fn are_answers(rt: &impl Abort, answers: &[Answered], rows: &[(&str, &str)]) {
+    assert_eq!(rt; answers.len(), rows.len());
+    for (answer, row) in answers.iter().zip(rows) {
         assert_eq!(rt; answer.as_bytes(), row.1.as_bytes(), "{:?}", row.0);
     }
-    Ok(())
+}
+
+pub(crate) fn in_turn<S: Alter + Drop>(
+    rt: &impl Abort,
+    alloc: Global,
+    conn: Connection<S>,
+) -> Connection<S> {
+    let texts = texts(rt, alloc, TWO_CUSTOMERS.as_slice());
+    let mut house = new_house(rt, alloc, conn);
+    expect(rt, &mut house, GOODS_AND_BINS.as_slice());
+    let answers = house.answer_all(texts.as_slice()).expect(rt, "answers");
+    are_answers(rt, answers.as_slice(), TWO_CUSTOMERS.as_slice());
+    house.close().close()
 }
 
 #[test]
-fn serves_one(rt: HostRuntime) -> Result<(), Fail> {
-    let mut house = new_house(rt.alloc())?;
+fn answers_all_in_turn(rt: HostRuntime) {
+    play(&rt, rt.alloc(), Scene::AnswersInTurn);
+}
+
+fn is_served<S: Alter>(rt: &impl Abort, alloc: Global, house: &mut House<S>, row: &(&str, &str)) {
+    let mut reader = row.0.as_bytes();
+    let mut writer: Vec<u8> = Vec::new(alloc);
+    let served = house.serve_one(&mut reader, &mut writer);
+    assert!(rt; served == Ok(()));
+    assert_eq!(rt; writer.as_slice(), row.1.as_bytes(), "{:?}", row.0);
+}
+
+pub(crate) fn one_by_one<S: Alter + Drop>(
+    rt: &impl Abort,
+    alloc: Global,
+    conn: Connection<S>,
+) -> Connection<S> {
+    let mut house = new_house(rt, alloc, conn);
     for row in NO_REQUESTS.as_slice() {
-        let mut reader = row.0.as_bytes();
-        let mut writer: Vec<u8> = Vec::new(rt.alloc());
-        let served = house.serve_one(&mut reader, &mut writer);
-        assert!(rt; served == Ok(()));
-        assert_eq!(rt; writer.as_slice(), row.1.as_bytes(), "{:?}", row.0);
+        is_served(rt, alloc, &mut house, row);
     }
-    Ok(())
+    house.close().close()
 }
 
 #[test]
-fn a_full_writer_is_a_fault(rt: HostRuntime) -> Result<(), Fail> {
-    let mut house = new_house(rt.alloc())?;
+fn serves_one(rt: HostRuntime) {
+    play(&rt, rt.alloc(), Scene::ServesOne);
+}
+
+pub(crate) fn full_writer<S: Alter + Drop>(
+    rt: &impl Abort,
+    alloc: Global,
+    conn: Connection<S>,
+) -> Connection<S> {
+    let mut house = new_house(rt, alloc, conn);
     let mut reader = b"GET /items HTTP/1.1\r\n\r\n".as_slice();
     let mut room = [0; 8];
     let mut writer = room.as_mut_slice();
     let served = house.serve_one(&mut reader, &mut writer);
     assert!(rt; served == Err(ServeFault::Write));
-    Ok(())
+    house.close().close()
+}
+
+#[test]
+fn a_full_writer_is_a_fault(rt: HostRuntime) {
+    play(&rt, rt.alloc(), Scene::FullWriter);
 }

@@ -1,7 +1,6 @@
 //! Days opened after the two-customer example.
 
 use crate::picking::continues;
-use std::test::Fail;
 
 // A lot may ship on its expiry day. On the day after, what is staged of it returns, and its units serve nobody.
 static OPENED: [(&str, &str); 12] = [
@@ -56,6 +55,6 @@ static OPENED: [(&str, &str); 12] = [
 ];
 
 #[test]
-fn opens_days(rt: HostRuntime) -> Result<(), Fail> {
+fn opens_days(rt: HostRuntime) {
     continues(&rt, rt.alloc(), &[OPENED.as_slice()])
 }

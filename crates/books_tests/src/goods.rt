@@ -1,8 +1,8 @@
 //! Moves, counts, adjustments, holds and recalls after the two-customer example.
 
-use crate::answers::{GOODS_AND_BINS, expect, new_house};
+use crate::answers::GOODS_AND_BINS;
 use crate::picking::{PICKED, continues};
-use std::test::Fail;
+use crate::scenes::play_answers;
 
 // A lot is moved to where it serves no orders.
 static MOVED: [(&str, &str); 15] = [
@@ -373,39 +373,40 @@ static NEVER_RECEIVED: [(&str, &str); 5] = [
 ];
 
 #[test]
-fn moves_a_lot(rt: HostRuntime) -> Result<(), Fail> {
+fn moves_a_lot(rt: HostRuntime) {
     continues(&rt, rt.alloc(), &[MOVED.as_slice()])
 }
 
 #[test]
-fn adjusts_a_lot(rt: HostRuntime) -> Result<(), Fail> {
+fn adjusts_a_lot(rt: HostRuntime) {
     continues(&rt, rt.alloc(), &[ADJUSTED.as_slice()])
 }
 
 #[test]
-fn counts_a_lot(rt: HostRuntime) -> Result<(), Fail> {
+fn counts_a_lot(rt: HostRuntime) {
     continues(&rt, rt.alloc(), &[COUNTED.as_slice()])
 }
 
 #[test]
-fn holds_and_releases_a_lot(rt: HostRuntime) -> Result<(), Fail> {
+fn holds_and_releases_a_lot(rt: HostRuntime) {
     continues(&rt, rt.alloc(), &[PICKED.as_slice(), HELD.as_slice()])
 }
 
 #[test]
-fn recalls_a_lot(rt: HostRuntime) -> Result<(), Fail> {
+fn recalls_a_lot(rt: HostRuntime) {
     continues(&rt, rt.alloc(), &[RECALLED.as_slice()])
 }
 
 #[test]
-fn receives_no_recalled_lot(rt: HostRuntime) -> Result<(), Fail> {
+fn receives_no_recalled_lot(rt: HostRuntime) {
     continues(&rt, rt.alloc(), &[RECEIVED_AND_RECALLED.as_slice()])
 }
 
 #[test]
-fn recalls_a_lot_never_received(rt: HostRuntime) -> Result<(), Fail> {
-    let mut house = new_house(rt.alloc())?;
-    expect(&rt, &mut house, GOODS_AND_BINS.as_slice());
-    expect(&rt, &mut house, NEVER_RECEIVED.as_slice());
-    Ok(())
+fn recalls_a_lot_never_received(rt: HostRuntime) {
+    play_answers(
+        &rt,
+        rt.alloc(),
+        &[GOODS_AND_BINS.as_slice(), NEVER_RECEIVED.as_slice()],
+    );
 }

@@ -23,6 +23,8 @@ mod picking_rows;
 #[cfg(test)]
 mod samples;
 #[cfg(test)]
+mod scenes;
+#[cfg(test)]
 mod stock;
 #[cfg(test)]
 mod table_rows;

@@ -1,85 +1,63 @@
 //! Every row of every table after the two-customer example.
 
-ghost use Rattle.std.specs.Prelude.{IsTrue, IfOk};
+ghost use Rattle.std.specs.Prelude.{IsTrue};
 ghost use Rattle.sqlite_disk.specs.Memory.{memory_is_usable};
 
-use crate::answers::{GOODS_AND_BINS, TWO_CUSTOMERS, new_books};
+use crate::answers::{GOODS_AND_BINS, TWO_CUSTOMERS, expect, new_books};
+use crate::scenes::{Scene, play, plays_in_file};
 use house::House;
-use sqlite::{Alter, Connection, FileStore, Files, Options};
+use sqlite::{Alter, Connection, Row};
 use sqlite_disk::Memory;
 use std::alloc::Global;
 use std::process::Abort;
-use std::test::Fail;
 use store::Books;
 
-// The rows of each table, by their keys.
-static TABLES: [(&str, &str); 14] = [
-    (
-        "SELECT id || '|' || mark || '|' || version || '|' || day || '|' || acts || '|' || shipments FROM meta ORDER BY id",
-        "1|LOTSTOCK|1|20577|10|0\n",
-    ),
-    (
-        "SELECT gtin || '|' || name FROM items ORDER BY gtin",
-        "04012345000016|Rye bread\n09506000134352|Oat drink\n",
-    ),
-    (
-        "SELECT name || '|' || kind FROM bins ORDER BY name",
-        "A-01|STORE\nA-02|STORE\nQ-01|HOLD\nRETURNS|HOLD\n",
-    ),
-    (
-        "SELECT gtin || '|' || lot || '|' || expiry || '|' || came || '|' || held FROM lots ORDER BY gtin, lot",
-        "09506000134352|L0|20583|10|0\n09506000134352|L1|20634|6|0\n09506000134352|L2|20604|7|0\n",
-    ),
-    (
-        "SELECT gtin || '|' || lot || '|' || act FROM recalls ORDER BY gtin, lot",
-        "",
-    ),
-    (
-        "SELECT gtin || '|' || lot || '|' || bin || '|' || qty FROM stock ORDER BY gtin, lot, bin",
-        "09506000134352|L0|A-01|5\n09506000134352|L1|A-01|10\n09506000134352|L2|A-01|10\n",
-    ),
-    (
-        "SELECT ord || '|' || act || '|' || customer || '|' || state FROM orders ORDER BY ord",
-        "S-1|8|Corner Shop|OPEN\nS-2|9|Harbour Cafe|OPEN\n",
-    ),
-    (
-        "SELECT ord || '|' || gtin || '|' || ordered || '|' || shipped FROM lines ORDER BY ord, gtin",
-        "S-1|09506000134352|12|0\nS-2|09506000134352|12|0\n",
-    ),
-    (
-        "SELECT ord || '|' || gtin || '|' || lot || '|' || qty FROM staged ORDER BY ord, gtin, lot",
-        "",
-    ),
-    (
-        "SELECT ord || '|' || gtin || '|' || lot || '|' || qty FROM reserved ORDER BY ord, gtin, lot",
-        "S-1|09506000134352|L0|5\nS-1|09506000134352|L2|7\nS-2|09506000134352|L1|9\nS-2|09506000134352|L2|3\n",
-    ),
-    (
-        "SELECT number || '|' || act || '|' || day || '|' || ord FROM shipments ORDER BY number",
-        "",
-    ),
-    (
-        "SELECT number || '|' || gtin || '|' || lot || '|' || qty FROM shiplines ORDER BY number, gtin, lot",
-        "",
-    ),
-    (
-        "SELECT gtin || '|' || lot || '|' || act || '|' || day || '|' || kind || '|' || note || '|' || qty || '|' || rest FROM cards ORDER BY gtin, lot, act",
-        "09506000134352|L0|10|20577|RECEIPT|D-2/1|5|5\n09506000134352|L1|6|20577|RECEIPT|D-1/1|10|10\n09506000134352|L2|7|20577|RECEIPT|D-1/2|10|10\n",
-    ),
-    (
-        "SELECT k || '|' || act || '|' || spell || '|' || reply FROM repeats ORDER BY act",
-        "K/K-1|1|ITEM\n09506000134352\nOat drink|{\"act\":1}\nK/K-2|2|ITEM\n04012345000016\nRye bread|{\"act\":2}\nK/K-3|3|BIN\nA-01\nSTORE|{\"act\":3}\nK/K-4|4|BIN\nA-02\nSTORE|{\"act\":4}\nK/K-5|5|BIN\nQ-01\nHOLD|{\"act\":5}\nD/D-1/1|6|RECEIVE\n09506000134352\nL1\n2026-06-30\nA-01\n10|{\"act\":6}\nD/D-1/2|7|RECEIVE\n09506000134352\nL2\n2026-05-31\nA-01\n10|{\"act\":7}\nK/K-8|8|ORDER\nS-1\nCorner Shop\n09506000134352\n12|{\"act\":8,\"short\":0}\nK/K-9|9|ORDER\nS-2\nHarbour Cafe\n09506000134352\n12|{\"act\":9,\"short\":4}\nD/D-2/1|10|RECEIVE\n09506000134352\nL0\n2026-05-10\nA-01\n5|{\"act\":10}\n",
-    ),
+// What reads the rows of each table, by their keys.
+static QUERIES: [&str; 14] = [
+    "SELECT id || '|' || mark || '|' || version || '|' || day || '|' || acts || '|' || shipments FROM meta ORDER BY id",
+    "SELECT gtin || '|' || name FROM items ORDER BY gtin",
+    "SELECT name || '|' || kind FROM bins ORDER BY name",
+    "SELECT gtin || '|' || lot || '|' || expiry || '|' || came || '|' || held FROM lots ORDER BY gtin, lot",
+    "SELECT gtin || '|' || lot || '|' || act FROM recalls ORDER BY gtin, lot",
+    "SELECT gtin || '|' || lot || '|' || bin || '|' || qty FROM stock ORDER BY gtin, lot, bin",
+    "SELECT ord || '|' || act || '|' || customer || '|' || state FROM orders ORDER BY ord",
+    "SELECT ord || '|' || gtin || '|' || ordered || '|' || shipped FROM lines ORDER BY ord, gtin",
+    "SELECT ord || '|' || gtin || '|' || lot || '|' || qty FROM staged ORDER BY ord, gtin, lot",
+    "SELECT ord || '|' || gtin || '|' || lot || '|' || qty FROM reserved ORDER BY ord, gtin, lot",
+    "SELECT number || '|' || act || '|' || day || '|' || ord FROM shipments ORDER BY number",
+    "SELECT number || '|' || gtin || '|' || lot || '|' || qty FROM shiplines ORDER BY number, gtin, lot",
+    "SELECT gtin || '|' || lot || '|' || act || '|' || day || '|' || kind || '|' || note || '|' || qty || '|' || rest FROM cards ORDER BY gtin, lot, act",
+    "SELECT k || '|' || act || '|' || spell || '|' || reply FROM repeats ORDER BY act",
+];
+
+// The rows after the two customers.
+static TWO_CUSTOMERS_ROWS: [&str; 14] = [
+    "1|LOTSTOCK|1|20577|10|0\n",
+    "04012345000016|Rye bread\n09506000134352|Oat drink\n",
+    "A-01|STORE\nA-02|STORE\nQ-01|HOLD\nRETURNS|HOLD\n",
+    "09506000134352|L0|20583|10|0\n09506000134352|L1|20634|6|0\n09506000134352|L2|20604|7|0\n",
+    "",
+    "09506000134352|L0|A-01|5\n09506000134352|L1|A-01|10\n09506000134352|L2|A-01|10\n",
+    "S-1|8|Corner Shop|OPEN\nS-2|9|Harbour Cafe|OPEN\n",
+    "S-1|09506000134352|12|0\nS-2|09506000134352|12|0\n",
+    "",
+    "S-1|09506000134352|L0|5\nS-1|09506000134352|L2|7\nS-2|09506000134352|L1|9\nS-2|09506000134352|L2|3\n",
+    "",
+    "",
+    "09506000134352|L0|10|20577|RECEIPT|D-2/1|5|5\n09506000134352|L1|6|20577|RECEIPT|D-1/1|10|10\n09506000134352|L2|7|20577|RECEIPT|D-1/2|10|10\n",
+    "K/K-1|1|ITEM\n09506000134352\nOat drink|{\"act\":1}\nK/K-2|2|ITEM\n04012345000016\nRye bread|{\"act\":2}\nK/K-3|3|BIN\nA-01\nSTORE|{\"act\":3}\nK/K-4|4|BIN\nA-02\nSTORE|{\"act\":4}\nK/K-5|5|BIN\nQ-01\nHOLD|{\"act\":5}\nD/D-1/1|6|RECEIVE\n09506000134352\nL1\n2026-06-30\nA-01\n10|{\"act\":6}\nD/D-1/2|7|RECEIVE\n09506000134352\nL2\n2026-05-31\nA-01\n10|{\"act\":7}\nK/K-8|8|ORDER\nS-1\nCorner Shop\n09506000134352\n12|{\"act\":8,\"short\":0}\nK/K-9|9|ORDER\nS-2\nHarbour Cafe\n09506000134352\n12|{\"act\":9,\"short\":4}\nD/D-2/1|10|RECEIVE\n09506000134352\nL0\n2026-05-10\nA-01\n5|{\"act\":10}\n",
 ];
 
 // Books over a connection that another owner left.
-fn opened<S: Alter + Drop>(alloc: Global, conn: Connection<S>) -> Result<Books<S>, Fail> {
-    if !conn.is_autocommit() {
-        return Err(Fail::new("a transaction is open"));
-    }
+pub(crate) fn opened<S: Alter + Drop>(
+    rt: &impl Abort,
+    alloc: Global,
+    conn: Connection<S>,
+) -> Books<S> {
+    assert!(rt; conn.is_autocommit());
     match Books::open(alloc, conn) {
-        Ok(books) => Ok(books),
-        Err(_) => Err(Fail::new("the books do not open")),
+        Ok(books) => books,
+        Err(_) => panic!(rt; "the books do not open"),
     }
 }
 
@@ -89,110 +67,113 @@ pub(crate) fn answered<S: Alter + Drop>(
     alloc: Global,
     conn: Connection<S>,
     rows: &[(&str, &str)],
-) -> Result<Connection<S>, Fail> {
-    let mut house = House::new(alloc, opened(alloc, conn)?);
-    for row in rows {
-        let answer = house.answer(row.0.as_bytes());
-        assert_eq!(rt; answer.as_bytes(), row.1.as_bytes(), "{:?}", row.0);
-    }
-    Ok(house.close().close())
+) -> Connection<S> {
+    let mut house = House::new(alloc, opened(rt, alloc, conn));
+    expect(rt, &mut house, rows);
+    house.close().close()
 }
 
-fn rows_of<S: Alter>(alloc: Global, conn: &mut Connection<S>, query: &str) -> Result<String, Fail> {
-    let rows = conn.query_all(query, &[])?;
+// The first column of each row, in a line of its own.
+fn lines_of(rt: &impl Abort, alloc: Global, rows: &[Row]) -> String {
     let mut text = String::new(alloc);
-    for row in rows.iter() {
-        text.push_str(row.get::<String>(0)?.as_str())?;
-        text.push_str("\n")?;
+    for row in rows {
+        let column = row.get::<String>(0).expect(rt, "a text");
+        assert!(rt; text.push_str(column.as_str()).is_ok());
+        assert!(rt; text.push_str("\n").is_ok());
     }
-    Ok(text)
+    text
 }
 
-// Each table has these rows, in the order of the tables above.
+// The query gives these rows.
+pub(crate) fn gives<S: Alter>(
+    rt: &impl Abort,
+    alloc: Global,
+    conn: &mut Connection<S>,
+    query: &str,
+    expected: &str,
+) {
+    let rows = conn.query_all(query, &[]).expect(rt, "rows");
+    let found = lines_of(rt, alloc, rows.as_slice());
+    assert_eq!(rt; found.as_str(), expected, "{query:?}");
+}
+
+// Each table has these rows, in the order of the queries above.
 pub(crate) fn has_rows<S: Alter>(
     rt: &impl Abort,
     alloc: Global,
     conn: &mut Connection<S>,
     expected: &[&str],
-) -> Result<(), Fail> {
-    assert_eq!(rt; expected.len(), TABLES.len());
-    for (table, rows) in TABLES.as_slice().iter().zip(expected) {
-        let found = rows_of(alloc, conn, table.0)?;
-        assert_eq!(rt; found.as_str(), *rows, "{:?}", table.0);
+) {
+    assert_eq!(rt; expected.len(), QUERIES.len());
+    for (query, rows) in QUERIES.as_slice().iter().zip(expected) {
+        gives(rt, alloc, conn, query, rows);
     }
-    Ok(())
 }
 
-fn has_every_row<S: Alter>(
+// The rows are those after the two customers.
+pub(crate) fn two_customers<S: Alter + Drop>(
     rt: &impl Abort,
     alloc: Global,
-    conn: &mut Connection<S>,
-) -> Result<(), Fail> {
-    for table in TABLES.as_slice() {
-        let rows = rows_of(alloc, conn, table.0)?;
-        assert_eq!(rt; rows.as_str(), table.1, "{:?}", table.0);
-    }
-    Ok(())
+    conn: Connection<S>,
+) -> Connection<S> {
+    let mut conn = conn;
+    has_rows(rt, alloc, &mut conn, TWO_CUSTOMERS_ROWS.as_slice());
+    conn
 }
 
-// The books are closed and opened again after each request.
+// Each text gets its answer, and the books are closed and opened again after it.
+pub(crate) fn answered_in_turn<S: Alter + Drop>(
+    rt: &impl Abort,
+    alloc: Global,
+    conn: Connection<S>,
+    rows: &[(&str, &str)],
+) -> Connection<S> {
+    let mut conn = conn;
+    for row in rows.chunks(1) {
+        conn = answered(rt, alloc, conn, row);
+    }
+    conn
+}
+
+// The books are closed and opened again after each of the two customers' requests.
+pub(crate) fn two_customers_in_turn<S: Alter + Drop>(
+    rt: &impl Abort,
+    alloc: Global,
+    conn: Connection<S>,
+) -> Connection<S> {
+    let conn = new_books(rt, alloc, conn).close();
+    let conn = answered(rt, alloc, conn, GOODS_AND_BINS.as_slice());
+    let conn = answered_in_turn(rt, alloc, conn, TWO_CUSTOMERS.as_slice());
+    two_customers(rt, alloc, conn)
+}
+
 #[test]
-fn keeps_every_row_in_memory(rt: HostRuntime) -> Result<(), Fail> {
-    let mut conn = new_books(rt.alloc(), Connection::open_in_memory(rt.alloc())?)?.close();
-    conn = answered(&rt, rt.alloc(), conn, GOODS_AND_BINS.as_slice())?;
-    for rows in TWO_CUSTOMERS.as_slice().chunks(1) {
-        conn = answered(&rt, rt.alloc(), conn, rows)?;
-    }
-    has_every_row(&rt, rt.alloc(), &mut conn)
+fn keeps_every_row_on_a_connection(rt: HostRuntime) {
+    play(&rt, rt.alloc(), Scene::TwoCustomersInTurn);
 }
 
-fn open_file(alloc: Global, db: Memory) -> Result<Connection<FileStore<Memory>>, Fail>
-    requires { IsTrue (memory_is_usable db) }
-{
-    let files = Files {
-        log: Memory::new(alloc),
-        db,
-    };
-    match Connection::open_files(alloc, files, Options::new(1)) {
-        Ok(conn) => Ok(conn),
-        Err((error, _)) => Err(Fail::from(error)),
-    }
-}
-
-fn close_file(conn: Connection<FileStore<Memory>>) -> Result<Memory, Fail>
-    ensures { IfOk result (λ db. IsTrue (memory_is_usable db)) }
-{
-    match conn.close_files() {
-        Ok(Files { log: _, db }) => Ok(db),
-        Err((error, _)) => Err(Fail::from(error)),
-    }
-}
-
-// The file is opened, and closed after these texts.
 fn answered_in_file(
     rt: &impl Abort,
     alloc: Global,
     db: Memory,
-    rows: &[(&str, &str)],
-) -> Result<Memory, Fail>
+    tables: &[&[(&str, &str)]],
+) -> Memory
     requires { IsTrue (memory_is_usable db) }
-    ensures { IfOk result (λ db. IsTrue (memory_is_usable db)) }
+    ensures { IsTrue (memory_is_usable result) }
 {
-    let conn = open_file(alloc, db)?;
-    close_file(answered(rt, alloc, conn, rows)?)
+    plays_in_file(rt, alloc, db, Scene::Answers, tables)
 }
 
 // The file is closed and opened again between the receipts and the orders.
 #[test]
-fn keeps_every_row_in_a_file(rt: HostRuntime) -> Result<(), Fail> {
-    let conn = open_file(rt.alloc(), Memory::new(rt.alloc()))?;
-    let db = close_file(new_books(rt.alloc(), conn)?.close())?;
-    let db = answered_in_file(&rt, rt.alloc(), db, GOODS_AND_BINS.as_slice())?;
-    let db = answered_in_file(&rt, rt.alloc(), db, &TWO_CUSTOMERS[..1])?;
-    let db = answered_in_file(&rt, rt.alloc(), db, &TWO_CUSTOMERS[1..2])?;
-    let db = answered_in_file(&rt, rt.alloc(), db, &TWO_CUSTOMERS[2..4])?;
-    let db = answered_in_file(&rt, rt.alloc(), db, &TWO_CUSTOMERS[4..6])?;
-    let db = answered_in_file(&rt, rt.alloc(), db, &TWO_CUSTOMERS[6..])?;
-    let mut conn = open_file(rt.alloc(), db)?;
-    has_every_row(&rt, rt.alloc(), &mut conn)
+fn keeps_every_row_in_a_file(rt: HostRuntime) {
+    let db = Memory::new(rt.alloc());
+    let db = plays_in_file(&rt, rt.alloc(), db, Scene::Made, &[]);
+    let db = answered_in_file(&rt, rt.alloc(), db, &[GOODS_AND_BINS.as_slice()]);
+    let db = answered_in_file(&rt, rt.alloc(), db, &[&TWO_CUSTOMERS[..1]]);
+    let db = answered_in_file(&rt, rt.alloc(), db, &[&TWO_CUSTOMERS[1..2]]);
+    let db = answered_in_file(&rt, rt.alloc(), db, &[&TWO_CUSTOMERS[2..4]]);
+    let db = answered_in_file(&rt, rt.alloc(), db, &[&TWO_CUSTOMERS[4..6]]);
+    let db = answered_in_file(&rt, rt.alloc(), db, &[&TWO_CUSTOMERS[6..]]);
+    plays_in_file(&rt, rt.alloc(), db, Scene::TwoCustomers, &[]);
 }

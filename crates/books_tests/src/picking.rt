@@ -1,9 +1,10 @@
 //! Picks, shipments and cancellations after the two-customer example.
 
-use crate::answers::{GOODS_AND_BINS, TWO_CUSTOMERS, expect, new_house};
+use crate::answers::{GOODS_AND_BINS, TWO_CUSTOMERS};
+use crate::scenes::{Scene, plays_in_file};
+use sqlite_disk::Memory;
 use std::alloc::Global;
 use std::process::Abort;
-use std::test::Fail;
 
 // Both lots that the first customer has are picked, and one pick comes again.
 pub(crate) static PICKED: [(&str, &str); 10] = [
@@ -349,38 +350,31 @@ static CANCELLED: [(&str, &str); 11] = [
     ),
 ];
 
-// A house that has answered the two customers answers these tables in turn.
-pub(crate) fn continues(
-    rt: &impl Abort,
-    alloc: Global,
-    tables: &[&[(&str, &str)]],
-) -> Result<(), Fail> {
-    let mut house = new_house(alloc)?;
-    expect(rt, &mut house, GOODS_AND_BINS.as_slice());
-    expect(rt, &mut house, TWO_CUSTOMERS.as_slice());
-    for rows in tables {
-        expect(rt, &mut house, rows);
-    }
-    Ok(())
+// The two customers are answered in a new file. It is closed, and a house over it answers these tables in turn.
+pub(crate) fn continues(rt: &impl Abort, alloc: Global, tables: &[&[(&str, &str)]]) {
+    let first = [GOODS_AND_BINS.as_slice(), TWO_CUSTOMERS.as_slice()];
+    let scene = Scene::AnswersInNewBooks;
+    let db = plays_in_file(rt, alloc, Memory::new(alloc), scene, &first);
+    plays_in_file(rt, alloc, db, Scene::Answers, tables);
 }
 
 #[test]
-fn picks_under_a_key_that_was_refused(rt: HostRuntime) -> Result<(), Fail> {
+fn picks_under_a_key_that_was_refused(rt: HostRuntime) {
     continues(&rt, rt.alloc(), &[KEY_LEFT_FREE.as_slice()])
 }
 
 #[test]
-fn refuses_picks(rt: HostRuntime) -> Result<(), Fail> {
+fn refuses_picks(rt: HostRuntime) {
     continues(&rt, rt.alloc(), &[PICKS_REFUSED.as_slice()])
 }
 
 #[test]
-fn picks_and_puts_back(rt: HostRuntime) -> Result<(), Fail> {
+fn picks_and_puts_back(rt: HostRuntime) {
     continues(&rt, rt.alloc(), &[PICKED.as_slice(), UNPICKED.as_slice()])
 }
 
 #[test]
-fn recalls_what_is_staged(rt: HostRuntime) -> Result<(), Fail> {
+fn recalls_what_is_staged(rt: HostRuntime) {
     continues(
         &rt,
         rt.alloc(),
@@ -389,7 +383,7 @@ fn recalls_what_is_staged(rt: HostRuntime) -> Result<(), Fail> {
 }
 
 #[test]
-fn ships_what_is_staged(rt: HostRuntime) -> Result<(), Fail> {
+fn ships_what_is_staged(rt: HostRuntime) {
     continues(
         &rt,
         rt.alloc(),
@@ -402,6 +396,6 @@ fn ships_what_is_staged(rt: HostRuntime) -> Result<(), Fail> {
 }
 
 #[test]
-fn cancels_an_order(rt: HostRuntime) -> Result<(), Fail> {
+fn cancels_an_order(rt: HostRuntime) {
     continues(&rt, rt.alloc(), &[CANCELLED.as_slice()])
 }

@@ -1,12 +1,12 @@
 //! Every row of every table after picks, shipments, recalls and stocktaking.
 
 use crate::answers::{GOODS_AND_BINS, TWO_CUSTOMERS, new_books};
-use crate::order_rows::{answered, has_rows};
+use crate::order_rows::{answered, answered_in_turn, has_rows};
 use crate::picking::{PICKED, RETURNED_AND_SHIPPED, SHIPPED_AND_RECALLED};
-use sqlite::{Connection, MemStore};
+use crate::scenes::{Scene, play};
+use sqlite::{Alter, Connection};
 use std::alloc::Global;
 use std::process::Abort;
-use std::test::Fail;
 
 // Lots are counted, adjusted, moved and held, and the first customer cancels.
 static STOCK_TAKEN: [(&str, &str); 8] = [
@@ -117,55 +117,72 @@ static STOCK_TAKEN_ROWS: [&str; 14] = [
 ];
 
 // The books after the two customers and these texts, closed and opened again after each text.
-fn kept_after(
+fn kept_after<S: Alter + Drop>(
     rt: &impl Abort,
     alloc: Global,
+    conn: Connection<S>,
     rows: &[(&str, &str)],
-) -> Result<Connection<MemStore>, Fail> {
-    let mut conn = new_books(alloc, Connection::open_in_memory(alloc)?)?.close();
-    conn = answered(rt, alloc, conn, GOODS_AND_BINS.as_slice())?;
-    conn = answered(rt, alloc, conn, TWO_CUSTOMERS.as_slice())?;
-    for row in rows.chunks(1) {
-        conn = answered(rt, alloc, conn, row)?;
-    }
-    Ok(conn)
+) -> Connection<S> {
+    let conn = new_books(rt, alloc, conn).close();
+    let conn = answered(rt, alloc, conn, GOODS_AND_BINS.as_slice());
+    let conn = answered(rt, alloc, conn, TWO_CUSTOMERS.as_slice());
+    answered_in_turn(rt, alloc, conn, rows)
+}
+
+pub(crate) fn stocktaking<S: Alter + Drop>(
+    rt: &impl Abort,
+    alloc: Global,
+    conn: Connection<S>,
+) -> Connection<S> {
+    let mut conn = kept_after(rt, alloc, conn, STOCK_TAKEN.as_slice());
+    has_rows(rt, alloc, &mut conn, STOCK_TAKEN_ROWS.as_slice());
+    conn
 }
 
 #[test]
-fn keeps_the_rows_of_stocktaking(rt: HostRuntime) -> Result<(), Fail> {
-    let mut conn = kept_after(&rt, rt.alloc(), STOCK_TAKEN.as_slice())?;
-    has_rows(&rt, rt.alloc(), &mut conn, STOCK_TAKEN_ROWS.as_slice())
+fn keeps_the_rows_of_stocktaking(rt: HostRuntime) {
+    play(&rt, rt.alloc(), Scene::Stocktaking);
 }
 
 // The rows after the picks, and after these texts.
-fn keeps(
+fn keeps<S: Alter + Drop>(
     rt: &impl Abort,
     alloc: Global,
+    conn: Connection<S>,
     then: &[(&str, &str)],
     expected: &[&str],
-) -> Result<(), Fail> {
-    let mut conn = kept_after(rt, alloc, PICKED.as_slice())?;
-    has_rows(rt, alloc, &mut conn, PICKED_ROWS.as_slice())?;
-    conn = answered(rt, alloc, conn, then)?;
-    has_rows(rt, alloc, &mut conn, expected)
+) -> Connection<S> {
+    let mut conn = kept_after(rt, alloc, conn, PICKED.as_slice());
+    has_rows(rt, alloc, &mut conn, PICKED_ROWS.as_slice());
+    let mut conn = answered(rt, alloc, conn, then);
+    has_rows(rt, alloc, &mut conn, expected);
+    conn
+}
+
+pub(crate) fn recall_with_returns<S: Alter + Drop>(
+    rt: &impl Abort,
+    alloc: Global,
+    conn: Connection<S>,
+) -> Connection<S> {
+    let then = RETURNED_AND_SHIPPED.as_slice();
+    keeps(rt, alloc, conn, then, RETURNED_ROWS.as_slice())
 }
 
 #[test]
-fn keeps_the_rows_of_a_recall_with_returns(rt: HostRuntime) -> Result<(), Fail> {
-    keeps(
-        &rt,
-        rt.alloc(),
-        RETURNED_AND_SHIPPED.as_slice(),
-        RETURNED_ROWS.as_slice(),
-    )
+fn keeps_the_rows_of_a_recall_with_returns(rt: HostRuntime) {
+    play(&rt, rt.alloc(), Scene::RecallWithReturns);
+}
+
+pub(crate) fn shipment<S: Alter + Drop>(
+    rt: &impl Abort,
+    alloc: Global,
+    conn: Connection<S>,
+) -> Connection<S> {
+    let then = SHIPPED_AND_RECALLED.as_slice();
+    keeps(rt, alloc, conn, then, SHIPPED_ROWS.as_slice())
 }
 
 #[test]
-fn keeps_the_rows_of_a_shipment(rt: HostRuntime) -> Result<(), Fail> {
-    keeps(
-        &rt,
-        rt.alloc(),
-        SHIPPED_AND_RECALLED.as_slice(),
-        SHIPPED_ROWS.as_slice(),
-    )
+fn keeps_the_rows_of_a_shipment(rt: HostRuntime) {
+    play(&rt, rt.alloc(), Scene::Shipment);
 }

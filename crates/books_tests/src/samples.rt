@@ -8,7 +8,6 @@ use commands::{
 use label::{BusinessDay, Day};
 use std::alloc::Global;
 use std::process::Abort;
-use std::test::Fail;
 use values::{Gtin, Lot, LotId, Name, Text, Title};
 
 pub(crate) fn name(rt: &impl Abort, text: &[u8]) -> Name {
@@ -162,13 +161,13 @@ pub(crate) fn key(rt: &impl Abort) -> Text<KEY_TEXT_MAX> {
     Text::new(b"K/R-1").expect(rt, "a key")
 }
 
-pub(crate) fn repeat(rt: &impl Abort, alloc: Global) -> Result<RepeatRow, Fail> {
+pub(crate) fn repeat(rt: &impl Abort, alloc: Global) -> RepeatRow {
     let mut spell = Vec::new(alloc);
-    spell.extend_from_slice(b"SHIP\nS-1")?;
-    Ok(RepeatRow {
+    assert!(rt; spell.extend_from_slice(b"SHIP\nS-1").is_ok());
+    RepeatRow {
         k: key(rt),
         act: 14,
         spell: Listed::from_vec(spell),
         reply: Short::new(b"{\"act\":14}").expect(rt, "an answer"),
-    })
+    }
 }

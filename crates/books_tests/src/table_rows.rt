@@ -1,8 +1,8 @@
-ghost use Rattle.std.specs.Prelude.{◌≡◌, false, IsTrue, IfOk};
-ghost use Rattle.sqlite_disk.specs.Memory.{memory_is_usable};
-
+use crate::opening::executes;
+use crate::order_rows::gives;
 use crate::samples;
-use commands::{BinKind, CardKind, OrderState};
+use crate::scenes::{Scene, play, plays_in_file};
+use commands::{BinKind, CardKind, LineRow, OrderState, RepeatRow, StockRow};
 use goods_tables::bins::{all_bins, bins_of, drop_bin, put_bin};
 use goods_tables::items::{all_items, drop_item, items_of, put_item};
 use goods_tables::lots::{all_lots, drop_lot, lots_of, put_lot};
@@ -17,386 +17,367 @@ use order_tables::lines::{drop_line, line_of, lines_of_order, put_line};
 use order_tables::orders::{drop_order, open_orders, orders_of, put_order};
 use order_tables::reserved::{drop_reserved, put_reserved, reserved_of_item};
 use order_tables::staged::{all_staged, drop_staged, put_staged, staged_of_item};
-use sqlite::{Alter, Connection, Error, FileStore, Files, Options, Transaction};
+use sqlite::{Alter, Connection, Transaction};
 use sqlite_disk::Memory;
 use std::alloc::Global;
 use std::process::Abort;
-use std::test::Fail;
 use table_words::error::TableFault;
 use tables::creation::create;
 use tables::opening::{Leftover, ready};
 
-/// The one row of a list.
-fn only<T: Copy>(rt: &impl Abort, rows: Vec<T>) -> T {
+/// The rows that a table gives.
+fn listed<T>(rt: &impl Abort, rows: Result<Vec<T>, TableFault>) -> Vec<T> {
+    rows.expect(rt, "rows")
+}
+
+/// How many rows a table gives.
+fn count<T: Drop>(rt: &impl Abort, rows: Result<Vec<T>, TableFault>) -> usize {
+    listed(rt, rows).len()
+}
+
+/// The one row that a table gives.
+fn only<T: Copy>(rt: &impl Abort, rows: Result<Vec<T>, TableFault>) -> T {
+    let rows = listed(rt, rows);
     assert_eq!(rt; rows.len(), 1);
     rows[0]
 }
 
-/// The connection over the tables, or the failure of the test.
-fn opened<S: Alter + Drop>(alloc: Global, conn: Connection<S>) -> Result<Connection<S>, Fail> {
-    if !conn.is_autocommit() {
-        return Err(Fail::new("a transaction is open"));
-    }
+fn is_done(rt: &impl Abort, done: Result<(), TableFault>) {
+    done.expect(rt, "a change of a table");
+}
+
+/// The connection over the tables.
+fn opened<S: Alter + Drop>(rt: &impl Abort, alloc: Global, conn: Connection<S>) -> Connection<S> {
+    assert!(rt; conn.is_autocommit());
     match ready(alloc, conn) {
-        Ok(conn) => Ok(conn),
-        Err((_, fault)) => Err(Fail::from(fault)),
+        Ok(conn) => conn,
+        Err((_, fault)) => panic!(rt; "{fault:?}"),
+    }
+}
+
+/// The connection as it comes back from an opening that fails, since the schema is another.
+fn handed_back<S: Alter + Drop>(
+    rt: &impl Abort,
+    left: Leftover<S>,
+    fault: TableFault,
+) -> Connection<S> {
+    assert!(rt; matches!(fault, TableFault::Foreign));
+    match left {
+        Leftover::Connection(conn) => conn,
+        Leftover::Store(_) => panic!(rt; "the connection is lost"),
     }
 }
 
 /// The connection as it comes back from an opening that is refused, since the schema is another.
-fn refused<S: Alter + Drop>(
-    rt: &impl Abort,
-    alloc: Global,
-    conn: Connection<S>,
-) -> Result<Connection<S>, Fail> {
-    if !conn.is_autocommit() {
-        return Err(Fail::new("a transaction is open"));
-    }
+fn refused<S: Alter + Drop>(rt: &impl Abort, alloc: Global, conn: Connection<S>) -> Connection<S> {
+    assert!(rt; conn.is_autocommit());
     match ready(alloc, conn) {
-        Ok(_) => Err(Fail::new("another schema was opened")),
-        Err((left, fault)) => {
-            assert!(rt; matches!(fault, TableFault::Foreign));
-            match left {
-                Leftover::Connection(conn) => Ok(conn),
-                Leftover::Store(_) => Err(Fail::new("the connection is lost")),
-            }
-        }
+        Ok(_) => panic!(rt; "another schema was opened"),
+        Err((left, fault)) => handed_back(rt, left, fault),
     }
 }
 
 /// Creation where there is a table.
-fn creates_nothing<S: Alter>(rt: &impl Abort, conn: &mut Connection<S>) -> Result<(), Fail> {
-    if !conn.is_autocommit() {
-        return Err(Fail::new("a transaction is open"));
-    }
+fn creates_nothing<S: Alter>(rt: &impl Abort, conn: &mut Connection<S>) {
+    assert!(rt; conn.is_autocommit());
     let again = create(conn, &samples::meta(rt, 1), &samples::other_bin(rt));
     assert!(rt; matches!(again, Err(TableFault::Foreign)));
-    Ok(())
 }
 
-fn goods<S: Alter>(
-    rt: &impl Abort,
-    alloc: Global,
-    tx: &mut Transaction<'_, S>,
-) -> Result<(), Fail> {
-    put_meta(tx, &samples::meta(rt, 14))?;
-    put_item(tx, &samples::item(rt))?;
-    put_bin(tx, &samples::bin(rt))?;
-    put_lot(tx, &samples::known_lot(rt))?;
-    put_recall(tx, &samples::recall(rt))?;
-    put_stock(tx, &samples::stock(rt, b"A-01", 3))?;
-    put_stock(tx, &samples::stock(rt, b"B-02", 5))?;
-    put_stock(tx, &samples::stock(rt, b"A-01", 4))?;
-    Ok(())
+fn puts_goods<S: Alter>(rt: &impl Abort, tx: &mut Transaction<'_, S>) {
+    is_done(rt, put_meta(tx, &samples::meta(rt, 14)));
+    is_done(rt, put_item(tx, &samples::item(rt)));
+    is_done(rt, put_bin(tx, &samples::bin(rt)));
+    is_done(rt, put_lot(tx, &samples::known_lot(rt)));
+    is_done(rt, put_recall(tx, &samples::recall(rt)));
 }
 
-fn orders<S: Alter>(
-    rt: &impl Abort,
-    alloc: Global,
-    tx: &mut Transaction<'_, S>,
-) -> Result<(), Fail> {
-    put_order(tx, &samples::order(rt))?;
-    put_order(tx, &samples::open_order(rt))?;
-    put_line(tx, &samples::line(rt))?;
-    put_staged(tx, &samples::staged(rt))?;
-    put_reserved(tx, &samples::reserved(rt))?;
-    Ok(())
+fn puts_stock<S: Alter>(rt: &impl Abort, tx: &mut Transaction<'_, S>) {
+    is_done(rt, put_stock(tx, &samples::stock(rt, b"A-01", 3)));
+    is_done(rt, put_stock(tx, &samples::stock(rt, b"B-02", 5)));
+    is_done(rt, put_stock(tx, &samples::stock(rt, b"A-01", 4)));
 }
 
-fn history<S: Alter>(
-    rt: &impl Abort,
-    alloc: Global,
-    tx: &mut Transaction<'_, S>,
-) -> Result<(), Fail> {
-    put_shipment(tx, &samples::shipment(rt, 13))?;
-    put_shipment(tx, &samples::shipment(rt, 14))?;
-    put_shipline(tx, &samples::shipline(rt))?;
-    put_card(tx, &samples::card(rt))?;
-    put_repeat(tx, &samples::repeat(rt, alloc)?)?;
-    Ok(())
+fn puts_orders<S: Alter>(rt: &impl Abort, tx: &mut Transaction<'_, S>) {
+    is_done(rt, put_order(tx, &samples::order(rt)));
+    is_done(rt, put_order(tx, &samples::open_order(rt)));
+    is_done(rt, put_line(tx, &samples::line(rt)));
+    is_done(rt, put_staged(tx, &samples::staged(rt)));
+    is_done(rt, put_reserved(tx, &samples::reserved(rt)));
 }
 
-fn finds_goods<S: Alter>(
-    rt: &impl Abort,
-    alloc: Global,
-    tx: &mut Transaction<'_, S>,
-) -> Result<(), Fail> {
-    let meta = only(rt, meta_rows(alloc, tx)?);
-    assert_eq!(rt; meta.acts, 14);
-    let item = only(rt, items_of(alloc, tx, &samples::gtin(rt))?);
+fn puts_history<S: Alter>(rt: &impl Abort, alloc: Global, tx: &mut Transaction<'_, S>) {
+    is_done(rt, put_shipment(tx, &samples::shipment(rt, 13)));
+    is_done(rt, put_shipment(tx, &samples::shipment(rt, 14)));
+    is_done(rt, put_shipline(tx, &samples::shipline(rt)));
+    is_done(rt, put_card(tx, &samples::card(rt)));
+    is_done(rt, put_repeat(tx, &samples::repeat(rt, alloc)));
+}
+
+fn finds_goods<S: Alter>(rt: &impl Abort, alloc: Global, tx: &mut Transaction<'_, S>) {
+    assert_eq!(rt; only(rt, meta_rows(alloc, tx)).acts, 14);
+    let item = only(rt, items_of(alloc, tx, &samples::gtin(rt)));
     assert!(rt; item.name.as_bytes() == b"Oat drink 1 l".as_slice());
-    let bin = only(rt, bins_of(alloc, tx, &samples::name(rt, b"A-01"))?);
+    let bin = only(rt, bins_of(alloc, tx, &samples::name(rt, b"A-01")));
     assert!(rt; matches!(bin.kind, BinKind::Hold));
-    assert_eq!(rt; all_items(alloc, tx)?.len(), 1);
-    assert_eq!(rt; all_bins(alloc, tx)?.len(), 1);
-    Ok(())
+    let all = [
+        count(rt, all_items(alloc, tx)),
+        count(rt, all_bins(alloc, tx)),
+    ];
+    assert_eq!(rt; all, [1, 1]);
 }
 
-fn finds_lots<S: Alter>(
-    rt: &impl Abort,
-    alloc: Global,
-    tx: &mut Transaction<'_, S>,
-) -> Result<(), Fail> {
-    let lot = only(rt, lots_of(alloc, tx, &samples::gtin(rt))?);
+fn finds_lots<S: Alter>(rt: &impl Abort, alloc: Global, tx: &mut Transaction<'_, S>) {
+    let lot = only(rt, lots_of(alloc, tx, &samples::gtin(rt)));
     assert_eq!(rt; lot.expiry.number(), -6940);
     assert!(rt; lot.held);
-    assert_eq!(rt; all_lots(alloc, tx)?.len(), 1);
-    let recall = only(rt, recalls_of(alloc, tx, &samples::gtin(rt))?);
+    assert_eq!(rt; count(rt, all_lots(alloc, tx)), 1);
+    let recall = only(rt, recalls_of(alloc, tx, &samples::gtin(rt)));
     assert_eq!(rt; recall.act, 9);
-    let stock = stock_of(alloc, tx, &samples::gtin(rt))?;
+    has_stock(rt, stock_of(alloc, tx, &samples::gtin(rt)));
+}
+
+fn has_stock(rt: &impl Abort, rows: Result<Vec<StockRow>, TableFault>) {
+    let stock = listed(rt, rows);
     assert_eq!(rt; stock.len(), 2);
-    assert_eq!(rt; stock[0].qty, 4);
-    assert_eq!(rt; stock[1].qty, 5);
-    Ok(())
+    assert_eq!(rt; [stock[0].qty, stock[1].qty], [4, 5]);
 }
 
-fn finds_orders<S: Alter>(
-    rt: &impl Abort,
-    alloc: Global,
-    tx: &mut Transaction<'_, S>,
-) -> Result<(), Fail> {
-    let order = only(rt, orders_of(alloc, tx, &samples::name(rt, b"S-1"))?);
+fn finds_orders<S: Alter>(rt: &impl Abort, alloc: Global, tx: &mut Transaction<'_, S>) {
+    let order = only(rt, orders_of(alloc, tx, &samples::name(rt, b"S-1")));
     assert!(rt; matches!(order.state, OrderState::Cancelled));
-    let line = only(rt, lines_of_order(alloc, tx, &samples::name(rt, b"S-1"))?);
-    assert_eq!(rt; line.shipped, 5);
-    let open = only(rt, open_orders(alloc, tx)?);
+    let open = only(rt, open_orders(alloc, tx));
     assert!(rt; open.order.as_bytes() == b"S-2".as_slice());
-    let line = line_of(alloc, tx, &samples::name(rt, b"S-1"), &samples::gtin(rt))?;
-    match line {
-        Some(line) => assert_eq!(rt; line.ordered, 12),
-        None => assert!(rt; false, "no line"),
-    }
-    let none = line_of(alloc, tx, &samples::name(rt, b"S-2"), &samples::gtin(rt))?;
-    assert!(rt; none.is_none());
-    let staged = only(rt, staged_of_item(alloc, tx, &samples::gtin(rt))?);
+    let staged = only(rt, staged_of_item(alloc, tx, &samples::gtin(rt)));
     assert_eq!(rt; staged.qty, 7);
-    assert_eq!(rt; all_staged(alloc, tx)?.len(), 1);
-    let reserved = only(rt, reserved_of_item(alloc, tx, &samples::gtin(rt))?);
+    assert_eq!(rt; count(rt, all_staged(alloc, tx)), 1);
+    let reserved = only(rt, reserved_of_item(alloc, tx, &samples::gtin(rt)));
     assert_eq!(rt; reserved.qty, 8);
-    Ok(())
 }
 
-fn finds_history<S: Alter>(
-    rt: &impl Abort,
-    alloc: Global,
-    tx: &mut Transaction<'_, S>,
-) -> Result<(), Fail> {
-    let shipment = only(rt, shipments_of(alloc, tx, 1)?);
-    assert_eq!(rt; shipment.act, 14);
-    let shipped = only(rt, shiplines_of_lot(alloc, tx, &samples::lot(rt))?);
-    assert_eq!(rt; shipped.qty, 5);
-    let card = only(rt, cards_of_lot(alloc, tx, &samples::lot(rt))?);
-    assert_eq!(rt; card.qty, -3);
-    assert!(rt; matches!(card.kind, CardKind::WriteOff));
-    let repeats = repeats_of(alloc, tx, &samples::key(rt))?;
+/// How many units are ordered in a line, if there is one.
+fn ordered(rt: &impl Abort, line: Result<Option<LineRow>, TableFault>) -> Option<u64> {
+    line.expect(rt, "a line").map(|line| line.ordered)
+}
+
+fn finds_lines<S: Alter>(rt: &impl Abort, alloc: Global, tx: &mut Transaction<'_, S>) {
+    let gtin = samples::gtin(rt);
+    let (first, second) = (samples::name(rt, b"S-1"), samples::name(rt, b"S-2"));
+    assert_eq!(rt; only(rt, lines_of_order(alloc, tx, &first)).shipped, 5);
+    let line = ordered(rt, line_of(alloc, tx, &first, &gtin));
+    assert_eq!(rt; line, Some(12));
+    let none = ordered(rt, line_of(alloc, tx, &second, &gtin));
+    assert!(rt; none.is_none());
+}
+
+fn has_repeat(rt: &impl Abort, rows: Result<Vec<RepeatRow>, TableFault>) {
+    let repeats = listed(rt, rows);
     assert_eq!(rt; repeats.len(), 1);
     assert!(rt; repeats[0].spell.as_slice() == b"SHIP\nS-1".as_slice());
-    Ok(())
 }
 
-fn drops_goods<S: Alter>(
-    rt: &impl Abort,
-    alloc: Global,
-    tx: &mut Transaction<'_, S>,
-) -> Result<(), Fail> {
-    drop_item(tx, &samples::gtin(rt))?;
-    drop_bin(tx, &samples::name(rt, b"A-01"))?;
-    drop_lot(tx, &samples::lot(rt))?;
-    drop_recall(tx, &samples::lot(rt))?;
-    drop_stock(tx, &samples::lot(rt), &samples::name(rt, b"A-01"))?;
-    Ok(())
+fn finds_history<S: Alter>(rt: &impl Abort, alloc: Global, tx: &mut Transaction<'_, S>) {
+    let lot = samples::lot(rt);
+    assert_eq!(rt; only(rt, shipments_of(alloc, tx, 1)).act, 14);
+    assert_eq!(rt; only(rt, shiplines_of_lot(alloc, tx, &lot)).qty, 5);
+    let card = only(rt, cards_of_lot(alloc, tx, &lot));
+    assert_eq!(rt; card.qty, -3);
+    assert!(rt; matches!(card.kind, CardKind::WriteOff));
+    has_repeat(rt, repeats_of(alloc, tx, &samples::key(rt)));
 }
 
-fn drops_orders<S: Alter>(
-    rt: &impl Abort,
-    alloc: Global,
-    tx: &mut Transaction<'_, S>,
-) -> Result<(), Fail> {
-    drop_order(tx, &samples::name(rt, b"S-1"))?;
-    drop_order(tx, &samples::name(rt, b"S-2"))?;
-    drop_line(tx, &samples::name(rt, b"S-1"), &samples::gtin(rt))?;
-    drop_staged(tx, &samples::name(rt, b"S-1"), &samples::lot(rt))?;
-    drop_reserved(tx, &samples::name(rt, b"S-1"), &samples::lot(rt))?;
-    Ok(())
+fn drops_goods<S: Alter>(rt: &impl Abort, tx: &mut Transaction<'_, S>) {
+    let (lot, bin) = (samples::lot(rt), samples::name(rt, b"A-01"));
+    is_done(rt, drop_item(tx, &samples::gtin(rt)));
+    is_done(rt, drop_bin(tx, &bin));
+    is_done(rt, drop_lot(tx, &lot));
+    is_done(rt, drop_recall(tx, &lot));
+    is_done(rt, drop_stock(tx, &lot, &bin));
 }
 
-fn drops_history<S: Alter>(
-    rt: &impl Abort,
-    alloc: Global,
-    tx: &mut Transaction<'_, S>,
-) -> Result<(), Fail> {
-    drop_shipment(tx, 1)?;
-    drop_shipline(tx, 1, &samples::lot(rt))?;
-    drop_card(tx, &samples::lot(rt), 14)?;
-    Ok(())
+fn drops_orders<S: Alter>(rt: &impl Abort, tx: &mut Transaction<'_, S>) {
+    let (order, lot) = (samples::name(rt, b"S-1"), samples::lot(rt));
+    is_done(rt, drop_order(tx, &order));
+    is_done(rt, drop_order(tx, &samples::name(rt, b"S-2")));
+    is_done(rt, drop_line(tx, &order, &samples::gtin(rt)));
+    is_done(rt, drop_staged(tx, &order, &lot));
+    is_done(rt, drop_reserved(tx, &order, &lot));
 }
 
-fn left_of_goods<S: Alter>(
-    rt: &impl Abort,
-    alloc: Global,
-    tx: &mut Transaction<'_, S>,
-) -> Result<usize, Fail> {
-    let items = all_items(alloc, tx)?.len();
-    let bins = all_bins(alloc, tx)?.len();
-    let lots = all_lots(alloc, tx)?.len();
-    let recalls = recalls_of(alloc, tx, &samples::gtin(rt))?.len();
-    assert_eq!(rt; items, 0);
-    assert_eq!(rt; bins, 0);
-    assert_eq!(rt; lots, 0);
-    assert_eq!(rt; recalls, 0);
-    Ok(stock_of(alloc, tx, &samples::gtin(rt))?.len())
+fn drops_history<S: Alter>(rt: &impl Abort, tx: &mut Transaction<'_, S>) {
+    let lot = samples::lot(rt);
+    is_done(rt, drop_shipment(tx, 1));
+    is_done(rt, drop_shipline(tx, 1, &lot));
+    is_done(rt, drop_card(tx, &lot, 14));
 }
 
-fn left_of_orders<S: Alter>(
-    rt: &impl Abort,
-    alloc: Global,
-    tx: &mut Transaction<'_, S>,
-) -> Result<(), Fail> {
-    assert_eq!(rt; orders_of(alloc, tx, &samples::name(rt, b"S-1"))?.len(), 0);
-    assert_eq!(rt; open_orders(alloc, tx)?.len(), 0);
-    assert_eq!(rt;
-        lines_of_order(alloc, tx, &samples::name(rt, b"S-1"))?.len(),
-        0
-    );
-    assert_eq!(rt; all_staged(alloc, tx)?.len(), 0);
-    assert_eq!(rt; reserved_of_item(alloc, tx, &samples::gtin(rt))?.len(), 0);
-    Ok(())
+fn left_of_goods<S: Alter>(rt: &impl Abort, alloc: Global, tx: &mut Transaction<'_, S>) {
+    let gtin = samples::gtin(rt);
+    let left = [
+        count(rt, all_items(alloc, tx)),
+        count(rt, all_bins(alloc, tx)),
+        count(rt, all_lots(alloc, tx)),
+        count(rt, recalls_of(alloc, tx, &gtin)),
+        count(rt, stock_of(alloc, tx, &gtin)),
+    ];
+    assert_eq!(rt; left, [0, 0, 0, 0, 1]);
 }
 
-fn left_of_history<S: Alter>(
-    rt: &impl Abort,
-    alloc: Global,
-    tx: &mut Transaction<'_, S>,
-) -> Result<(), Fail> {
-    assert_eq!(rt; shipments_of(alloc, tx, 1)?.len(), 0);
-    assert_eq!(rt; shiplines_of_lot(alloc, tx, &samples::lot(rt))?.len(), 0);
-    assert_eq!(rt; cards_of_lot(alloc, tx, &samples::lot(rt))?.len(), 0);
-    assert_eq!(rt; repeats_of(alloc, tx, &samples::key(rt))?.len(), 1);
-    Ok(())
+fn left_of_orders<S: Alter>(rt: &impl Abort, alloc: Global, tx: &mut Transaction<'_, S>) {
+    let order = samples::name(rt, b"S-1");
+    let left = [
+        count(rt, orders_of(alloc, tx, &order)),
+        count(rt, open_orders(alloc, tx)),
+        count(rt, lines_of_order(alloc, tx, &order)),
+        count(rt, all_staged(alloc, tx)),
+        count(rt, reserved_of_item(alloc, tx, &samples::gtin(rt))),
+    ];
+    assert_eq!(rt; left, [0, 0, 0, 0, 0]);
 }
 
-fn fills<S: Alter>(rt: &impl Abort, alloc: Global, conn: &mut Connection<S>) -> Result<(), Fail> {
-    if !conn.is_autocommit() {
-        return Err(Fail::new("a transaction is open"));
-    }
-    create(conn, &samples::meta(rt, 13), &samples::bin(rt))?;
+fn left_of_history<S: Alter>(rt: &impl Abort, alloc: Global, tx: &mut Transaction<'_, S>) {
+    let lot = samples::lot(rt);
+    let left = [
+        count(rt, shipments_of(alloc, tx, 1)),
+        count(rt, shiplines_of_lot(alloc, tx, &lot)),
+        count(rt, cards_of_lot(alloc, tx, &lot)),
+        count(rt, repeats_of(alloc, tx, &samples::key(rt))),
+    ];
+    assert_eq!(rt; left, [0, 0, 0, 1]);
+}
+
+fn creates<S: Alter>(rt: &impl Abort, conn: &mut Connection<S>) {
+    assert!(rt; conn.is_autocommit());
+    is_done(rt, create(conn, &samples::meta(rt, 13), &samples::bin(rt)));
+}
+
+fn puts<S: Alter>(rt: &impl Abort, alloc: Global, conn: &mut Connection<S>) {
+    assert!(rt; conn.is_autocommit());
     let mut tx = conn.transaction();
-    goods(rt, alloc, &mut tx)?;
-    orders(rt, alloc, &mut tx)?;
-    history(rt, alloc, &mut tx)?;
-    tx.commit()?;
-    creates_nothing(rt, conn)
+    puts_goods(rt, &mut tx);
+    puts_stock(rt, &mut tx);
+    puts_orders(rt, &mut tx);
+    puts_history(rt, alloc, &mut tx);
+    tx.commit().expect(rt, "a commit");
 }
 
-fn finds<S: Alter>(rt: &impl Abort, alloc: Global, conn: &mut Connection<S>) -> Result<(), Fail> {
-    if !conn.is_autocommit() {
-        return Err(Fail::new("a transaction is open"));
-    }
+fn fills<S: Alter>(rt: &impl Abort, alloc: Global, conn: &mut Connection<S>) {
+    creates(rt, conn);
+    puts(rt, alloc, conn);
+    creates_nothing(rt, conn);
+}
+
+fn finds<S: Alter>(rt: &impl Abort, alloc: Global, conn: &mut Connection<S>) {
+    assert!(rt; conn.is_autocommit());
     let mut tx = conn.transaction();
-    finds_goods(rt, alloc, &mut tx)?;
-    finds_lots(rt, alloc, &mut tx)?;
-    finds_orders(rt, alloc, &mut tx)?;
-    finds_history(rt, alloc, &mut tx)?;
-    tx.commit()?;
-    Ok(())
+    finds_goods(rt, alloc, &mut tx);
+    finds_lots(rt, alloc, &mut tx);
+    finds_orders(rt, alloc, &mut tx);
+    finds_lines(rt, alloc, &mut tx);
+    finds_history(rt, alloc, &mut tx);
+    tx.commit().expect(rt, "a commit");
 }
 
-fn drops<S: Alter>(rt: &impl Abort, alloc: Global, conn: &mut Connection<S>) -> Result<(), Fail> {
-    if !conn.is_autocommit() {
-        return Err(Fail::new("a transaction is open"));
-    }
+fn drops<S: Alter>(rt: &impl Abort, alloc: Global, conn: &mut Connection<S>) {
+    assert!(rt; conn.is_autocommit());
     let mut tx = conn.transaction();
-    drops_goods(rt, alloc, &mut tx)?;
-    drops_orders(rt, alloc, &mut tx)?;
-    drops_history(rt, alloc, &mut tx)?;
-    assert_eq!(rt; left_of_goods(rt, alloc, &mut tx)?, 1);
-    left_of_orders(rt, alloc, &mut tx)?;
-    left_of_history(rt, alloc, &mut tx)?;
-    tx.commit()?;
-    Ok(())
+    drops_goods(rt, &mut tx);
+    drops_orders(rt, &mut tx);
+    drops_history(rt, &mut tx);
+    left_of_goods(rt, alloc, &mut tx);
+    left_of_orders(rt, alloc, &mut tx);
+    left_of_history(rt, alloc, &mut tx);
+    tx.commit().expect(rt, "a commit");
 }
 
-fn open(alloc: Global, log: Memory, db: Memory) -> Result<Connection<FileStore<Memory>>, Error>
-    requires { IsTrue (memory_is_usable log) × IsTrue (memory_is_usable db) }
-{
-    match Connection::open_files(alloc, Files { log, db }, Options::new(1)) {
-        Ok(conn) => Ok(conn),
-        Err((error, _)) => Err(error),
-    }
+/// A row in each table.
+pub(crate) fn filled<S: Alter + Drop>(
+    rt: &impl Abort,
+    alloc: Global,
+    conn: Connection<S>,
+) -> Connection<S> {
+    let mut made = conn;
+    fills(rt, alloc, &mut made);
+    made
 }
 
-/// A connection over new files.
-fn open_new(alloc: Global) -> Result<Connection<FileStore<Memory>>, Error> {
-    open(alloc, Memory::new(alloc), Memory::new(alloc))
-}
-
-fn close(conn: Connection<FileStore<Memory>>) -> Result<Memory, Error>
-    ensures { IfOk result (λ db. IsTrue (memory_is_usable db)) }
-{
-    match conn.close_files() {
-        Ok(Files { log: _, db }) => Ok(db),
-        Err(failed) => Err(failed.0),
-    }
-}
-
-/// A file with a row in each table.
-fn filled(rt: &impl Abort, alloc: Global) -> Result<Memory, Fail>
-    ensures { IfOk result (λ db. IsTrue (memory_is_usable db)) }
-{
-    let mut made = open_new(alloc)?;
-    fills(rt, alloc, &mut made)?;
-    Ok(close(made)?)
-}
-
-/// The tables of a file.
-fn reopened(alloc: Global, db: Memory) -> Result<Connection<FileStore<Memory>>, Fail>
-    requires { IsTrue (memory_is_usable db) }
-{
-    opened(alloc, open(alloc, Memory::new(alloc), db)?)
+pub(crate) fn each_table<S: Alter + Drop>(
+    rt: &impl Abort,
+    alloc: Global,
+    conn: Connection<S>,
+) -> Connection<S> {
+    let mut conn = opened(rt, alloc, conn);
+    finds(rt, alloc, &mut conn);
+    drops(rt, alloc, &mut conn);
+    conn
 }
 
 #[test]
-fn each_table_in_a_file(rt: HostRuntime) -> Result<(), Fail> {
-    let db = filled(&rt, rt.alloc())?;
-    let mut conn = reopened(rt.alloc(), db)?;
-    finds(&rt, rt.alloc(), &mut conn)?;
-    drops(&rt, rt.alloc(), &mut conn)
-}
-
-/// How many notes there are.
-fn notes<S: Alter>(conn: &mut Connection<S>) -> Result<usize, Error> {
-    Ok(conn.query_all("SELECT text FROM notes", &[])?.len())
+fn each_table_in_a_file(rt: HostRuntime) {
+    let db = Memory::new(rt.alloc());
+    let db = plays_in_file(&rt, rt.alloc(), db, Scene::Filled, &[]);
+    plays_in_file(&rt, rt.alloc(), db, Scene::EachTable, &[]);
 }
 
 // A database with another table, or with none, is not one of books, and no books are made beside another table.
+pub(crate) fn other_schema<S: Alter + Drop>(
+    rt: &impl Abort,
+    alloc: Global,
+    conn: Connection<S>,
+) -> Connection<S> {
+    let mut conn = refused(rt, alloc, conn);
+    executes(
+        rt,
+        &mut conn,
+        "CREATE TABLE notes (text TEXT NOT NULL) STRICT",
+    );
+    executes(
+        rt,
+        &mut conn,
+        "INSERT INTO notes (text) VALUES ('Count the bin')",
+    );
+    let mut conn = refused(rt, alloc, conn);
+    creates_nothing(rt, &mut conn);
+    gives(
+        rt,
+        alloc,
+        &mut conn,
+        "SELECT text FROM notes",
+        "Count the bin\n",
+    );
+    conn
+}
+
 #[test]
-fn another_schema_is_foreign(rt: HostRuntime) -> Result<(), Fail> {
-    let made = open_new(rt.alloc())?;
-    let mut conn = refused(&rt, rt.alloc(), made)?;
-    conn.execute("CREATE TABLE notes (text TEXT NOT NULL) STRICT", &[])?;
-    conn.execute("INSERT INTO notes (text) VALUES ('Count the bin')", &[])?;
-    let mut conn = refused(&rt, rt.alloc(), conn)?;
-    creates_nothing(&rt, &mut conn)?;
-    assert_eq!(rt; notes(&mut conn)?, 1);
-    Ok(())
+fn another_schema_is_foreign(rt: HostRuntime) {
+    play(&rt, rt.alloc(), Scene::OtherSchema);
 }
 
 // Books that lack an index or a table are not opened.
+pub(crate) fn missing_parts<S: Alter + Drop>(
+    rt: &impl Abort,
+    alloc: Global,
+    conn: Connection<S>,
+) -> Connection<S> {
+    let mut made = conn;
+    fills(rt, alloc, &mut made);
+    executes(rt, &mut made, "DROP INDEX lines_by_gtin");
+    let mut conn = refused(rt, alloc, made);
+    executes(rt, &mut conn, "CREATE INDEX lines_by_gtin ON lines (gtin)");
+    executes(rt, &mut conn, "DROP TABLE recalls");
+    let mut left = refused(rt, alloc, conn);
+    creates_nothing(rt, &mut left);
+    left
+}
+
 #[test]
-fn missing_parts_are_foreign(rt: HostRuntime) -> Result<(), Fail> {
-    let mut made = open_new(rt.alloc())?;
-    fills(&rt, rt.alloc(), &mut made)?;
-    made.execute("DROP INDEX lines_by_gtin", &[])?;
-    let mut conn = refused(&rt, rt.alloc(), made)?;
-    conn.execute("CREATE INDEX lines_by_gtin ON lines (gtin)", &[])?;
-    conn.execute("DROP TABLE recalls", &[])?;
-    let mut left = refused(&rt, rt.alloc(), conn)?;
-    creates_nothing(&rt, &mut left)
+fn missing_parts_are_foreign(rt: HostRuntime) {
+    play(&rt, rt.alloc(), Scene::MissingParts);
 }
 
 // A connection keeps the plans of its last 64 texts: with more in turn nearly each call would be planned again.
 #[test]
-fn statements_have_at_most_sixty_texts(rt: HostRuntime) -> Result<(), Fail> {
+fn statements_have_at_most_sixty_texts(rt: HostRuntime) {
     let mut texts = Vec::new(rt.alloc());
     let crates: [&[&str]; 3] = [
         &goods_tables::texts::TEXTS,
@@ -406,10 +387,9 @@ fn statements_have_at_most_sixty_texts(rt: HostRuntime) -> Result<(), Fail> {
     for list in crates {
         for text in list {
             if !texts.contains(text) {
-                texts.push(*text)?;
+                assert!(rt; texts.push(*text).is_ok());
             }
         }
     }
     assert!(rt; texts.len() <= 60, "{} texts", texts.len());
-    Ok(())
 }

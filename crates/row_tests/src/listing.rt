@@ -21,10 +21,7 @@ pub struct Listing {
 impl Listing {
     /// The change, a row a line: the row of `meta`, the rows put and dropped, and the answer.
     pub(crate) fn of(change: &Change) -> Listing {
-        let mut listing = Listing {
-            bytes: [0; ROOM],
-            len: 0,
-        };
+        let mut listing = Listing::empty();
         listing.meta(&change.meta);
         listing.goods(b"put", &change.put);
         listing.orders(b"put", &change.put);
@@ -34,6 +31,14 @@ impl Listing {
         listing.shipped(b"drop", &change.dropped);
         listing.word(change.text.as_bytes());
         listing
+    }
+
+    /// A text of no bytes.
+    pub(crate) fn empty() -> Listing {
+        Listing {
+            bytes: [0; ROOM],
+            len: 0,
+        }
     }
 
     pub(crate) fn as_bytes(&self) -> &[u8] {
@@ -47,23 +52,23 @@ impl Listing {
         }
     }
 
-    fn word(&mut self, text: &[u8]) {
+    pub(crate) fn word(&mut self, text: &[u8]) {
         for byte in text {
             self.push(*byte);
         }
     }
 
     // A blank and the text.
-    fn field(&mut self, text: &[u8]) {
+    pub(crate) fn field(&mut self, text: &[u8]) {
         self.push(b' ');
         self.word(text);
     }
 
-    fn number(&mut self, n: u64) {
+    pub(crate) fn number(&mut self, n: u64) {
         self.field(decimal_text(n).as_bytes());
     }
 
-    fn day(&mut self, day: Day) {
+    pub(crate) fn day(&mut self, day: Day) {
         self.field(day.text().as_slice());
     }
 
@@ -76,7 +81,7 @@ impl Listing {
         self.field(lot.lot.as_bytes());
     }
 
-    fn end(&mut self) {
+    pub(crate) fn end(&mut self) {
         self.push(b'\n');
     }
 
@@ -254,7 +259,7 @@ fn kind_name(kind: CardKind) -> &'static [u8] {
     }
 }
 
-fn state_name(state: OrderState) -> &'static [u8] {
+pub(crate) fn state_name(state: OrderState) -> &'static [u8] {
     match state {
         OrderState::Open => b"OPEN",
         OrderState::Done => b"DONE",

@@ -110,7 +110,7 @@ fn refuses_bins(rt: HostRuntime) {
 // be in the house.
 const LOT_RECALLED: Sample = Sample {
     lots: &[KnownLot("L1", "2026-06-30", 6, false)],
-    recalls: &[Recalled("L1")],
+    recalls: &[Recalled("L1", 5)],
     stock: &[Stock("L2", "Q-01", 600_000_000)],
     staged: &[Staged("S-1", "L3", 399_999_999)],
     ..LAST_ACT
@@ -364,7 +364,7 @@ fn refuses_adjustments(rt: HostRuntime) {
 
 // Lot L1 is recalled, and not known.
 const UNKNOWN_RECALLED: Sample = Sample {
-    recalls: &[Recalled("L1")],
+    recalls: &[Recalled("L1", 5)],
     ..LAST_ACT
 };
 
@@ -448,7 +448,7 @@ static RELEASES: [Refused; 5] = [
     },
     Refused {
         before: Sample {
-            recalls: &[Recalled("L1")],
+            recalls: &[Recalled("L1", 5)],
             ..FREE
         },
         told: Told::Release("L1"),

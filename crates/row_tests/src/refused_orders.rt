@@ -137,7 +137,7 @@ fn refuses_cancels(rt: HostRuntime) {
 
 // A picking of a recalled lot of which nothing is known, for an order of which nothing is known.
 const NOTHING_KNOWN: Sample = Sample {
-    recalls: &[Recalled("L1")],
+    recalls: &[Recalled("L1", 5)],
     ..LAST_ACT
 };
 

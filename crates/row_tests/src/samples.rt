@@ -7,7 +7,7 @@ use commands::{
 };
 use label::{BusinessDay, Day};
 use rules::{Change, Rows, RuleFault, Slice, decide};
-use std::alloc::{AllocError, Global};
+use std::alloc::Global;
 use std::process::Abort;
 use values::{Counted, Delta, Gtin, LineNo, Lot, LotId, Name, Qty, Title};
 
@@ -17,9 +17,11 @@ pub const OATS: &str = "09506000134352";
 /// The rye bread, of which there are no units.
 pub const BREAD: &str = "04012345000016";
 
-/// The rows of a slice on 2026-05-04.
+/// The rows of a slice.
 #[derive(Clone, Copy)]
 pub struct Sample {
+    /// The day that is open.
+    pub day: &'static str,
     /// The acts so far.
     pub acts: u64,
     /// How many items and bins there are.
@@ -47,9 +49,9 @@ pub struct Bin(pub &'static str, pub BinKind);
 #[derive(Clone, Copy)]
 pub struct KnownLot(pub &'static str, pub &'static str, pub u64, pub bool);
 
-/// A lot that is recalled.
+/// A lot that is recalled, and the act.
 #[derive(Clone, Copy)]
-pub struct Recalled(pub &'static str);
+pub struct Recalled(pub &'static str, pub u64);
 
 /// The units of a lot in a bin: the lot, the bin, the units.
 #[derive(Clone, Copy)]
@@ -108,8 +110,9 @@ pub enum Told {
 #[derive(Clone, Copy)]
 pub struct Ordered(pub &'static str, pub u64);
 
-/// No rows, after five acts.
+/// No rows, on 2026-05-04, after five acts.
 pub const NO_ROWS: Sample = Sample {
+    day: "2026-05-04",
     acts: 5,
     counts: (2, 4),
     items: &[],
@@ -137,7 +140,7 @@ fn day(rt: &impl Abort, text: &str) -> Day {
     Day::parse(text.as_bytes()).expect(rt, "a day")
 }
 
-fn business_day(rt: &impl Abort, text: &str) -> BusinessDay {
+pub(crate) fn business_day(rt: &impl Abort, text: &str) -> BusinessDay {
     BusinessDay::new(day(rt, text)).expect(rt, "a business day")
 }
 
@@ -163,30 +166,30 @@ fn lot(rt: &impl Abort, text: &str) -> LotId {
 // Rows
 
 /// What stands for a row.
-trait Written {
+pub(crate) trait Written {
     type Row: Copy;
 
     fn row(&self, rt: &impl Abort) -> Self::Row;
 }
 
-fn rows_of<W: Written>(
-    rt: &impl Abort,
-    alloc: Global,
-    written: &[W],
-) -> Result<Vec<W::Row>, AllocError> {
-    let mut rows = Vec::new(alloc);
-    for one in written {
-        rows.push(one.row(rt))?;
+// Under `rt try --test --fail-alloc N` the Nth request for memory is refused. What that stops is done
+// again, so that the tests still pass.
+fn add<T: Copy>(rt: &impl Abort, rows: &mut Vec<T>, row: T) {
+    if rows.push(row).is_err() {
+        rows.push(row).ok().expect(rt, "memory");
     }
-    Ok(rows)
 }
 
-fn listed<W: Written>(
-    rt: &impl Abort,
-    alloc: Global,
-    written: &[W],
-) -> Result<Listed<W::Row>, AllocError> {
-    Ok(Listed::from_vec(rows_of(rt, alloc, written)?))
+fn rows_of<W: Written>(rt: &impl Abort, alloc: Global, written: &[W]) -> Vec<W::Row> {
+    let mut rows = Vec::new(alloc);
+    for one in written {
+        add(rt, &mut rows, one.row(rt));
+    }
+    rows
+}
+
+fn listed<W: Written>(rt: &impl Abort, alloc: Global, written: &[W]) -> Listed<W::Row> {
+    Listed::from_vec(rows_of(rt, alloc, written))
 }
 
 impl Written for Item {
@@ -230,7 +233,7 @@ impl Written for Recalled {
     fn row(&self, rt: &impl Abort) -> RecallRow {
         RecallRow {
             lot: lot(rt, self.0),
-            act: 5,
+            act: self.1,
         }
     }
 }
@@ -310,38 +313,39 @@ impl Written for Ordered {
 
 // Slices
 
-fn rows(rt: &impl Abort, alloc: Global, sample: &Sample) -> Result<Rows, AllocError> {
-    Ok(Rows {
-        items: listed(rt, alloc, sample.items)?,
-        bins: listed(rt, alloc, sample.bins)?,
-        lots: listed(rt, alloc, sample.lots)?,
-        recalls: listed(rt, alloc, sample.recalls)?,
-        stock: listed(rt, alloc, sample.stock)?,
-        orders: listed(rt, alloc, sample.orders)?,
-        lines: listed(rt, alloc, sample.lines)?,
-        staged: listed(rt, alloc, sample.staged)?,
-        reserved: listed(rt, alloc, sample.reserved)?,
+/// The rows of the sample.
+pub(crate) fn rows(rt: &impl Abort, alloc: Global, sample: &Sample) -> Rows {
+    Rows {
+        items: listed(rt, alloc, sample.items),
+        bins: listed(rt, alloc, sample.bins),
+        lots: listed(rt, alloc, sample.lots),
+        recalls: listed(rt, alloc, sample.recalls),
+        stock: listed(rt, alloc, sample.stock),
+        orders: listed(rt, alloc, sample.orders),
+        lines: listed(rt, alloc, sample.lines),
+        staged: listed(rt, alloc, sample.staged),
+        reserved: listed(rt, alloc, sample.reserved),
         shipments: Listed::from_vec(Vec::new(alloc)),
         shiplines: Listed::from_vec(Vec::new(alloc)),
         cards: Listed::from_vec(Vec::new(alloc)),
-    })
+    }
 }
 
-fn meta(rt: &impl Abort, acts: u64) -> MetaRow {
+fn meta(rt: &impl Abort, sample: &Sample) -> MetaRow {
     MetaRow {
-        day: business_day(rt, "2026-05-04"),
-        acts,
+        day: business_day(rt, sample.day),
+        acts: sample.acts,
         shipments: 0,
     }
 }
 
-fn slice(rt: &impl Abort, alloc: Global, sample: &Sample) -> Result<Slice, AllocError> {
-    Ok(Slice {
-        meta: meta(rt, sample.acts),
+fn slice(rt: &impl Abort, alloc: Global, sample: &Sample) -> Slice {
+    Slice {
+        meta: meta(rt, sample),
         items: sample.counts.0,
         bins: sample.counts.1,
-        rows: rows(rt, alloc, sample)?,
-    })
+        rows: rows(rt, alloc, sample),
+    }
 }
 
 // Commands
@@ -377,13 +381,13 @@ fn order(
     order: &str,
     customer: &str,
     lines: &[Ordered],
-) -> Result<Command, AllocError> {
-    let lines = rows_of(rt, alloc, lines)?;
-    Ok(Command::Order(NewOrder {
+) -> Command {
+    let lines = rows_of(rt, alloc, lines);
+    Command::Order(NewOrder {
         order: name(rt, order),
         customer: title(rt, customer),
         lines: Lines::new(lines).expect(rt, "lines"),
-    }))
+    })
 }
 
 fn movement(rt: &impl Abort, text: &str, from: &str, to: &str, units: u64) -> Command {
@@ -404,33 +408,31 @@ fn picking(rt: &impl Abort, order: &str, text: &str, bin: &str, units: u64) -> P
     }
 }
 
-fn command(rt: &impl Abort, alloc: Global, told: &Told) -> Result<Command, AllocError> {
+fn command(rt: &impl Abort, alloc: Global, told: &Told) -> Command {
     match *told {
-        Told::Item(item) => Ok(Command::Item(NewItem {
+        Told::Item(item) => Command::Item(NewItem {
             gtin: gtin(rt, item.0),
             name: title(rt, item.1),
-        })),
-        Told::Bin(bin) => Ok(Command::Bin(NewBin {
+        }),
+        Told::Bin(bin) => Command::Bin(NewBin {
             bin: name(rt, bin.0),
             kind: bin.1,
-        })),
-        Told::Receive(_, _, lot, expiry, units) => Ok(receipt(rt, lot, expiry, units)),
-        Told::Move(lot, from, to, units) => Ok(movement(rt, lot, from, to, units)),
-        Told::Count(lot, bin, units) => Ok(count(rt, lot, bin, units)),
-        Told::Adjust(lot, bin, change) => Ok(adjust(rt, lot, bin, change)),
+        }),
+        Told::Receive(_, _, lot, expiry, units) => receipt(rt, lot, expiry, units),
+        Told::Move(lot, from, to, units) => movement(rt, lot, from, to, units),
+        Told::Count(lot, bin, units) => count(rt, lot, bin, units),
+        Told::Adjust(lot, bin, change) => adjust(rt, lot, bin, change),
         Told::Order(name, customer, lines) => order(rt, alloc, name, customer, lines),
-        Told::Pick(order, lot, bin, units) => {
-            Ok(Command::Pick(picking(rt, order, lot, bin, units)))
-        }
+        Told::Pick(order, lot, bin, units) => Command::Pick(picking(rt, order, lot, bin, units)),
         Told::Unpick(order, lot, bin, units) => {
-            Ok(Command::Unpick(picking(rt, order, lot, bin, units)))
+            Command::Unpick(picking(rt, order, lot, bin, units))
         }
-        Told::Cancel(order) => Ok(Command::Cancel(name(rt, order))),
-        Told::OpenDay(day) => Ok(Command::OpenDay(business_day(rt, day))),
-        Told::Hold(text) => Ok(Command::Hold(lot(rt, text))),
-        Told::Release(text) => Ok(Command::Release(lot(rt, text))),
-        Told::Recall(item, text) => Ok(Command::Recall(lot_of_item(rt, item, text))),
-        Told::Ship(order) => Ok(Command::Ship(name(rt, order))),
+        Told::Cancel(order) => Command::Cancel(name(rt, order)),
+        Told::OpenDay(day) => Command::OpenDay(business_day(rt, day)),
+        Told::Hold(text) => Command::Hold(lot(rt, text)),
+        Told::Release(text) => Command::Release(lot(rt, text)),
+        Told::Recall(item, text) => Command::Recall(lot_of_item(rt, item, text)),
+        Told::Ship(order) => Command::Ship(name(rt, order)),
     }
 }
 
@@ -444,20 +446,13 @@ fn key(rt: &impl Abort, told: &Told) -> Key {
     }
 }
 
-// Decisions. Under `rt try --test --fail-alloc N` the Nth request for memory is refused. What that
-// stops is done again, so that the tests still pass.
+// Decisions
 
-fn slice_of(rt: &impl Abort, alloc: Global, sample: &Sample) -> Slice {
-    match slice(rt, alloc, sample) {
-        Ok(made) => made,
-        Err(_) => slice(rt, alloc, sample).ok().expect(rt, "memory"),
-    }
-}
-
-fn command_of(rt: &impl Abort, alloc: Global, told: &Told) -> Command {
-    match command(rt, alloc, told) {
-        Ok(made) => made,
-        Err(_) => command(rt, alloc, told).ok().expect(rt, "memory"),
+// What is decided, decided again where there was no memory.
+fn again(alloc: Global, slice: &Slice, key: &Key, command: &Command) -> Result<Change, RuleFault> {
+    match decide(alloc, slice, key, command) {
+        Err(RuleFault::NoMemory) => decide(alloc, slice, key, command),
+        made => made,
     }
 }
 
@@ -468,11 +463,8 @@ pub(crate) fn decided(
     sample: &Sample,
     told: &Told,
 ) -> Result<Change, RuleFault> {
-    let slice = slice_of(rt, alloc, sample);
+    let slice = slice(rt, alloc, sample);
     let key = key(rt, told);
-    let command = command_of(rt, alloc, told);
-    match decide(alloc, &slice, &key, &command) {
-        Err(RuleFault::NoMemory) => decide(alloc, &slice, &key, &command),
-        made => made,
-    }
+    let command = command(rt, alloc, told);
+    again(alloc, &slice, &key, &command)
 }

@@ -14,20 +14,22 @@ use std::process::Abort;
 pub(crate) struct Worked {
     pub(crate) before: Sample,
     pub(crate) told: Told,
-    pub(crate) changes: &'static str,
+    pub(crate) changes: &'static [u8],
+}
+
+// What the command changes, as a text.
+fn listing_of(rt: &impl Abort, alloc: Global, case: &Worked) -> Listing {
+    let made = decided(rt, alloc, &case.before, &case.told);
+    let change = made.ok().expect(rt, "a change");
+    let listing = Listing::of(&change);
+    drop(change);
+    listing
 }
 
 pub(crate) fn expect(rt: &impl Abort, alloc: Global, cases: &[Worked]) {
     for (index, case) in cases.iter().enumerate() {
-        let made = decided(rt, alloc, &case.before, &case.told);
-        assert!(rt; made.is_ok(), "at {index}");
-        if let Ok(change) = made {
-            assert_eq!(rt;
-                Listing::of(&change).as_bytes(),
-                case.changes.as_bytes(),
-                "at {index}"
-            );
-        }
+        let listing = listing_of(rt, alloc, case);
+        assert_eq!(rt; listing.as_bytes(), case.changes, "at {index}");
     }
 }
 
@@ -37,14 +39,14 @@ static SETTING_UP: [Worked; 4] = [
     Worked {
         before: Sample { acts: 0, ..NO_ROWS },
         told: Told::Item(Item(OATS, "Oat drink")),
-        changes: "meta 2026-05-04 1 0\n\
+        changes: b"meta 2026-05-04 1 0\n\
             put item 09506000134352 Oat drink\n\
             {\"act\":1}",
     },
     Worked {
         before: Sample { acts: 4, ..NO_ROWS },
         told: Told::Bin(Bin("Q-01", BinKind::Hold)),
-        changes: "meta 2026-05-04 5 0\n\
+        changes: b"meta 2026-05-04 5 0\n\
             put bin Q-01 HOLD\n\
             {\"act\":5}",
     },
@@ -55,7 +57,7 @@ static SETTING_UP: [Worked; 4] = [
             ..NO_ROWS
         },
         told: Told::Item(Item(BREAD, "Rye bread")),
-        changes: "meta 2026-05-04 1000000000000 0\n\
+        changes: b"meta 2026-05-04 1000000000000 0\n\
             put item 04012345000016 Rye bread\n\
             {\"act\":1000000000000}",
     },
@@ -66,7 +68,7 @@ static SETTING_UP: [Worked; 4] = [
             ..NO_ROWS
         },
         told: Told::Bin(Bin("A-01", BinKind::Store)),
-        changes: "meta 2026-05-04 1000000000000 0\n\
+        changes: b"meta 2026-05-04 1000000000000 0\n\
             put bin A-01 STORE\n\
             {\"act\":1000000000000}",
     },
@@ -160,7 +162,7 @@ static RECEIVING: [Worked; 5] = [
     Worked {
         before: OATS_ALONE,
         told: Told::Receive("D-1", 1, "L1", "2026-06-30", 10),
-        changes: "meta 2026-05-04 6 0\n\
+        changes: b"meta 2026-05-04 6 0\n\
             put lot 09506000134352 L1 2026-06-30 6 free\n\
             put stock 09506000134352 L1 A-01 10\n\
             put card 09506000134352 L1 6 2026-05-04 RECEIPT D-1/1 10 10\n\
@@ -169,7 +171,7 @@ static RECEIVING: [Worked; 5] = [
     Worked {
         before: ONE_LOT,
         told: Told::Receive("D-1", 2, "L2", "2026-05-31", 10),
-        changes: "meta 2026-05-04 7 0\n\
+        changes: b"meta 2026-05-04 7 0\n\
             put lot 09506000134352 L2 2026-05-31 7 free\n\
             put stock 09506000134352 L2 A-01 10\n\
             put card 09506000134352 L2 7 2026-05-04 RECEIPT D-1/2 10 10\n\
@@ -179,7 +181,7 @@ static RECEIVING: [Worked; 5] = [
     Worked {
         before: TWO_ORDERS,
         told: Told::Receive("D-2", 1, "L0", "2026-05-10", 5),
-        changes: "meta 2026-05-04 10 0\n\
+        changes: b"meta 2026-05-04 10 0\n\
             put lot 09506000134352 L0 2026-05-10 10 free\n\
             put stock 09506000134352 L0 A-01 5\n\
             put card 09506000134352 L0 10 2026-05-04 RECEIPT D-2/1 5 5\n\
@@ -194,7 +196,7 @@ static RECEIVING: [Worked; 5] = [
     Worked {
         before: IN_THREE_PLACES,
         told: Told::Receive("D-3", 9_999, "L1", "2026-06-30", 5),
-        changes: "meta 2026-05-04 10 0\n\
+        changes: b"meta 2026-05-04 10 0\n\
             put stock 09506000134352 L1 A-01 15\n\
             put card 09506000134352 L1 10 2026-05-04 RECEIPT D-3/9999 5 22\n\
             {\"act\":10}",
@@ -203,7 +205,7 @@ static RECEIVING: [Worked; 5] = [
     Worked {
         before: NEARLY_FULL,
         told: Told::Receive("D-1", 1, "L1", "2026-05-04", 1),
-        changes: "meta 2026-05-04 1000000000000 0\n\
+        changes: b"meta 2026-05-04 1000000000000 0\n\
             put lot 09506000134352 L1 2026-05-04 1000000000000 free\n\
             put stock 09506000134352 L1 A-01 1\n\
             put card 09506000134352 L1 1000000000000 2026-05-04 RECEIPT D-1/1 1 1\n\
@@ -271,7 +273,7 @@ static MOVING: [Worked; 4] = [
     Worked {
         before: THREE_LOTS,
         told: Told::Move("L1", "A-01", "Q-01", 10),
-        changes: "meta 2026-05-04 11 0\n\
+        changes: b"meta 2026-05-04 11 0\n\
             put stock 09506000134352 L1 Q-01 10\n\
             drop stock 09506000134352 L1 A-01 10\n\
             drop reserved S-2 09506000134352 L1 9\n\
@@ -281,7 +283,7 @@ static MOVING: [Worked; 4] = [
     Worked {
         before: THREE_LOTS,
         told: Told::Move("L1", "A-01", "Q-01", 4),
-        changes: "meta 2026-05-04 11 0\n\
+        changes: b"meta 2026-05-04 11 0\n\
             put stock 09506000134352 L1 Q-01 4\n\
             put stock 09506000134352 L1 A-01 6\n\
             put reserved S-2 09506000134352 L1 6\n\
@@ -291,7 +293,7 @@ static MOVING: [Worked; 4] = [
     Worked {
         before: IN_THREE_PLACES,
         told: Told::Move("L1", "Q-01", "A-01", 4),
-        changes: "meta 2026-05-04 10 0\n\
+        changes: b"meta 2026-05-04 10 0\n\
             put stock 09506000134352 L1 A-01 14\n\
             drop stock 09506000134352 L1 Q-01 4\n\
             {\"act\":10}",
@@ -300,7 +302,7 @@ static MOVING: [Worked; 4] = [
     Worked {
         before: RELEASED,
         told: Told::Move("L0", "RETURNS", "A-02", 5),
-        changes: "meta 2026-05-04 15 0\n\
+        changes: b"meta 2026-05-04 15 0\n\
             put stock 09506000134352 L0 A-02 5\n\
             put reserved S-1 09506000134352 L0 5\n\
             put reserved S-2 09506000134352 L2 3\n\
@@ -329,7 +331,7 @@ static COUNTING: [Worked; 6] = [
     Worked {
         before: THREE_LOTS,
         told: Told::Count("L2", "A-01", 8),
-        changes: "meta 2026-05-04 11 0\n\
+        changes: b"meta 2026-05-04 11 0\n\
             put stock 09506000134352 L2 A-01 8\n\
             put card 09506000134352 L2 11 2026-05-04 WRITEOFF A-01 -2 8\n\
             put reserved S-2 09506000134352 L2 1\n\
@@ -340,7 +342,7 @@ static COUNTING: [Worked; 6] = [
     Worked {
         before: THREE_LOTS,
         told: Told::Count("L2", "A-01", 10),
-        changes: "meta 2026-05-04 11 0\n\
+        changes: b"meta 2026-05-04 11 0\n\
             put stock 09506000134352 L2 A-01 10\n\
             {\"act\":11,\"change\":0}",
     },
@@ -348,7 +350,7 @@ static COUNTING: [Worked; 6] = [
     Worked {
         before: LOT_ALONE,
         told: Told::Count("L1", "A-01", 0),
-        changes: "meta 2026-05-04 10 0\n\
+        changes: b"meta 2026-05-04 10 0\n\
             put card 09506000134352 L1 10 2026-05-04 WRITEOFF A-01 -10 0\n\
             drop stock 09506000134352 L1 A-01 10\n\
             drop reserved S-1 09506000134352 L1 10\n\
@@ -362,14 +364,14 @@ static COUNTING: [Worked; 6] = [
             ..LOT_ALONE
         },
         told: Told::Count("L1", "A-01", 0),
-        changes: "meta 2026-05-04 10 0\n\
+        changes: b"meta 2026-05-04 10 0\n\
             {\"act\":10,\"change\":0}",
     },
     // Units of the lot elsewhere are on the card, and those in a HOLD bin are not reserved.
     Worked {
         before: IN_THREE_PLACES,
         told: Told::Count("L1", "Q-01", 1_000_000),
-        changes: "meta 2026-05-04 10 0\n\
+        changes: b"meta 2026-05-04 10 0\n\
             put stock 09506000134352 L1 Q-01 1000000\n\
             put card 09506000134352 L1 10 2026-05-04 WRITEON Q-01 999996 1000013\n\
             {\"act\":10,\"change\":999996}",
@@ -381,7 +383,7 @@ static COUNTING: [Worked; 6] = [
             ..NEARLY_FULL
         },
         told: Told::Count("L3", "Q-01", 6),
-        changes: "meta 2026-05-04 1000000000000 0\n\
+        changes: b"meta 2026-05-04 1000000000000 0\n\
             put stock 09506000134352 L3 Q-01 6\n\
             put card 09506000134352 L3 1000000000000 2026-05-04 WRITEON Q-01 1 400000005\n\
             {\"act\":1000000000000,\"change\":1}",
@@ -397,7 +399,7 @@ static ADJUSTING: [Worked; 4] = [
     Worked {
         before: THREE_LOTS,
         told: Told::Adjust("L1", "A-01", -10),
-        changes: "meta 2026-05-04 11 0\n\
+        changes: b"meta 2026-05-04 11 0\n\
             put card 09506000134352 L1 11 2026-05-04 WRITEOFF A-01 -10 0\n\
             drop stock 09506000134352 L1 A-01 10\n\
             drop reserved S-2 09506000134352 L1 9\n\
@@ -406,7 +408,7 @@ static ADJUSTING: [Worked; 4] = [
     Worked {
         before: TWO_ORDERS,
         told: Told::Adjust("L1", "A-01", -1),
-        changes: "meta 2026-05-04 10 0\n\
+        changes: b"meta 2026-05-04 10 0\n\
             put stock 09506000134352 L1 A-01 9\n\
             put card 09506000134352 L1 10 2026-05-04 WRITEOFF A-01 -1 9\n\
             put reserved S-2 09506000134352 L1 7\n\
@@ -416,7 +418,7 @@ static ADJUSTING: [Worked; 4] = [
     Worked {
         before: IN_THREE_PLACES,
         told: Told::Adjust("L2", "Q-01", 5),
-        changes: "meta 2026-05-04 10 0\n\
+        changes: b"meta 2026-05-04 10 0\n\
             put stock 09506000134352 L2 Q-01 5\n\
             put card 09506000134352 L2 10 2026-05-04 WRITEON Q-01 5 15\n\
             {\"act\":10,\"change\":5}",
@@ -425,7 +427,7 @@ static ADJUSTING: [Worked; 4] = [
     Worked {
         before: NEARLY_FULL,
         told: Told::Adjust("L2", "Q-01", 1),
-        changes: "meta 2026-05-04 1000000000000 0\n\
+        changes: b"meta 2026-05-04 1000000000000 0\n\
             put stock 09506000134352 L2 Q-01 600000001\n\
             put card 09506000134352 L2 1000000000000 2026-05-04 WRITEON Q-01 1 600000001\n\
             {\"act\":1000000000000,\"change\":1}",
@@ -485,7 +487,7 @@ static HOLDING: [Worked; 3] = [
     Worked {
         before: ALL_PICKED,
         told: Told::Hold("L0"),
-        changes: "meta 2026-05-04 13 0\n\
+        changes: b"meta 2026-05-04 13 0\n\
             put lot 09506000134352 L0 2026-05-10 10 held\n\
             put stock 09506000134352 L0 RETURNS 5\n\
             put reserved S-1 09506000134352 L2 3\n\
@@ -499,14 +501,14 @@ static HOLDING: [Worked; 3] = [
     Worked {
         before: TWO_LOTS,
         told: Told::Hold("L2"),
-        changes: "meta 2026-05-04 8 0\n\
+        changes: b"meta 2026-05-04 8 0\n\
             put lot 09506000134352 L2 2026-05-31 7 held\n\
             {\"act\":8,\"returned\":0}",
     },
     Worked {
         before: ON_TWO_STAGES,
         told: Told::Hold("L1"),
-        changes: "meta 2026-05-04 1000000000000 0\n\
+        changes: b"meta 2026-05-04 1000000000000 0\n\
             put lot 09506000134352 L1 2026-06-30 6 held\n\
             put stock 09506000134352 L1 RETURNS 9\n\
             drop staged S-1 09506000134352 L1 3\n\
@@ -536,14 +538,14 @@ static RELEASING: [Worked; 2] = [
     Worked {
         before: ONE_HELD,
         told: Told::Release("L0"),
-        changes: "meta 2026-05-04 14 0\n\
+        changes: b"meta 2026-05-04 14 0\n\
             put lot 09506000134352 L0 2026-05-10 10 free\n\
             {\"act\":14}",
     },
     Worked {
         before: HELD_IN_STORE,
         told: Told::Release("L2"),
-        changes: "meta 2026-05-04 1000000000000 0\n\
+        changes: b"meta 2026-05-04 1000000000000 0\n\
             put lot 09506000134352 L2 2026-05-31 7 free\n\
             put reserved S-1 09506000134352 L2 10\n\
             put reserved S-1 09506000134352 L1 2\n\
@@ -560,7 +562,7 @@ static RECALLING: [Worked; 5] = [
     Worked {
         before: THREE_LOTS,
         told: Told::Recall(OATS, "L2"),
-        changes: "meta 2026-05-04 11 0\n\
+        changes: b"meta 2026-05-04 11 0\n\
             put recall 09506000134352 L2 11\n\
             put reserved S-1 09506000134352 L1 7\n\
             put reserved S-2 09506000134352 L1 3\n\
@@ -572,7 +574,7 @@ static RECALLING: [Worked; 5] = [
     Worked {
         before: ALL_PICKED,
         told: Told::Recall(OATS, "L2"),
-        changes: "meta 2026-05-04 13 0\n\
+        changes: b"meta 2026-05-04 13 0\n\
             put recall 09506000134352 L2 13\n\
             put stock 09506000134352 L2 RETURNS 7\n\
             put reserved S-1 09506000134352 L1 7\n\
@@ -584,7 +586,7 @@ static RECALLING: [Worked; 5] = [
     Worked {
         before: THREE_LOTS,
         told: Told::Recall(OATS, "L0"),
-        changes: "meta 2026-05-04 11 0\n\
+        changes: b"meta 2026-05-04 11 0\n\
             put recall 09506000134352 L0 11\n\
             put reserved S-1 09506000134352 L2 10\n\
             put reserved S-1 09506000134352 L1 2\n\
@@ -600,7 +602,7 @@ static RECALLING: [Worked; 5] = [
             ..NO_ROWS
         },
         told: Told::Recall(BREAD, "Z9"),
-        changes: "meta 2026-05-04 6 0\n\
+        changes: b"meta 2026-05-04 6 0\n\
             put recall 04012345000016 Z9 6\n\
             {\"act\":6,\"returned\":0}",
     },
@@ -611,7 +613,7 @@ static RECALLING: [Worked; 5] = [
             ..ONE_HELD
         },
         told: Told::Recall(OATS, "L0"),
-        changes: "meta 2026-05-04 1000000000000 0\n\
+        changes: b"meta 2026-05-04 1000000000000 0\n\
             put recall 09506000134352 L0 1000000000000\n\
             {\"act\":1000000000000,\"returned\":0}",
     },

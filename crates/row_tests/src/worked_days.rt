@@ -51,14 +51,14 @@ static OPENING: [Worked; 5] = [
     Worked {
         before: NO_ROWS,
         told: Told::OpenDay("2026-05-05"),
-        changes: "meta 2026-05-05 6 0\n\
+        changes: b"meta 2026-05-05 6 0\n\
             {\"act\":6,\"returned\":0}",
     },
     // A lot ships on its expiry day, and is out the day after.
     Worked {
         before: THREE_LOTS,
         told: Told::OpenDay("2026-05-31"),
-        changes: "meta 2026-05-31 11 0\n\
+        changes: b"meta 2026-05-31 11 0\n\
             put reserved S-1 09506000134352 L2 10\n\
             put reserved S-1 09506000134352 L1 2\n\
             put reserved S-2 09506000134352 L1 8\n\
@@ -69,7 +69,7 @@ static OPENING: [Worked; 5] = [
     Worked {
         before: PICKED_LATE,
         told: Told::OpenDay("2026-06-01"),
-        changes: "meta 2026-06-01 13 0\n\
+        changes: b"meta 2026-06-01 13 0\n\
             put stock 09506000134352 L2 RETURNS 4\n\
             put reserved S-1 09506000134352 L1 10\n\
             drop staged S-1 09506000134352 L2 4\n\
@@ -81,7 +81,7 @@ static OPENING: [Worked; 5] = [
     Worked {
         before: TWO_LOTS_STAGED,
         told: Told::OpenDay("2026-05-31"),
-        changes: "meta 2026-05-31 13 0\n\
+        changes: b"meta 2026-05-31 13 0\n\
             put stock 09506000134352 L0 RETURNS 5\n\
             put reserved S-1 09506000134352 L2 3\n\
             put reserved S-1 09506000134352 L1 2\n\
@@ -94,7 +94,7 @@ static OPENING: [Worked; 5] = [
     Worked {
         before: ON_TWO_STAGES,
         told: Told::OpenDay("2026-07-01"),
-        changes: "meta 2026-07-01 1000000000000 0\n\
+        changes: b"meta 2026-07-01 1000000000000 0\n\
             put stock 09506000134352 L1 RETURNS 9\n\
             drop staged S-1 09506000134352 L1 3\n\
             drop staged S-2 09506000134352 L1 2\n\

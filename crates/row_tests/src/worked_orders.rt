@@ -33,7 +33,7 @@ static CANCELLING: [Worked; 3] = [
     Worked {
         before: THREE_LOTS,
         told: Told::Cancel("S-1"),
-        changes: "meta 2026-05-04 11 0\n\
+        changes: b"meta 2026-05-04 11 0\n\
             put order S-1 8 Corner Shop CANCELLED\n\
             put reserved S-2 09506000134352 L0 5\n\
             put reserved S-2 09506000134352 L2 7\n\
@@ -46,7 +46,7 @@ static CANCELLING: [Worked; 3] = [
     Worked {
         before: THREE_LOTS,
         told: Told::Cancel("S-2"),
-        changes: "meta 2026-05-04 11 0\n\
+        changes: b"meta 2026-05-04 11 0\n\
             put order S-2 9 Harbour Cafe CANCELLED\n\
             drop reserved S-2 09506000134352 L2 3\n\
             drop reserved S-2 09506000134352 L1 9\n\
@@ -55,7 +55,7 @@ static CANCELLING: [Worked; 3] = [
     Worked {
         before: PARTLY_SERVED,
         told: Told::Cancel("S-1"),
-        changes: "meta 2026-05-04 1000000000000 0\n\
+        changes: b"meta 2026-05-04 1000000000000 0\n\
             put order S-1 8 Corner Shop CANCELLED\n\
             put reserved S-2 09506000134352 L2 9\n\
             drop reserved S-1 09506000134352 L2 8\n\
@@ -95,7 +95,7 @@ static PICKING: [Worked; 4] = [
     Worked {
         before: THREE_LOTS,
         told: Told::Pick("S-1", "L0", "A-01", 5),
-        changes: "meta 2026-05-04 11 0\n\
+        changes: b"meta 2026-05-04 11 0\n\
             put staged S-1 09506000134352 L0 5\n\
             drop stock 09506000134352 L0 A-01 5\n\
             drop reserved S-1 09506000134352 L0 5\n\
@@ -104,7 +104,7 @@ static PICKING: [Worked; 4] = [
     Worked {
         before: L0_STAGED,
         told: Told::Pick("S-1", "L2", "A-01", 7),
-        changes: "meta 2026-05-04 12 0\n\
+        changes: b"meta 2026-05-04 12 0\n\
             put stock 09506000134352 L2 A-01 3\n\
             put staged S-1 09506000134352 L2 7\n\
             drop reserved S-1 09506000134352 L2 7\n\
@@ -114,7 +114,7 @@ static PICKING: [Worked; 4] = [
     Worked {
         before: L0_STAGED,
         told: Told::Pick("S-2", "L2", "A-01", 3),
-        changes: "meta 2026-05-04 12 0\n\
+        changes: b"meta 2026-05-04 12 0\n\
             put stock 09506000134352 L2 A-01 7\n\
             put staged S-2 09506000134352 L2 3\n\
             drop reserved S-2 09506000134352 L2 3\n\
@@ -134,7 +134,7 @@ static PICKING: [Worked; 4] = [
             ..L0_STAGED
         },
         told: Told::Pick("S-1", "L2", "A-01", 2),
-        changes: "meta 2026-05-04 1000000000000 0\n\
+        changes: b"meta 2026-05-04 1000000000000 0\n\
             put stock 09506000134352 L2 A-01 4\n\
             put staged S-1 09506000134352 L2 6\n\
             put reserved S-1 09506000134352 L2 1\n\
@@ -152,7 +152,7 @@ static UNPICKING: [Worked; 3] = [
     Worked {
         before: ALL_STAGED,
         told: Told::Unpick("S-1", "L2", "Q-01", 3),
-        changes: "meta 2026-05-04 13 0\n\
+        changes: b"meta 2026-05-04 13 0\n\
             put stock 09506000134352 L2 Q-01 3\n\
             put staged S-1 09506000134352 L2 4\n\
             put reserved S-1 09506000134352 L2 3\n\
@@ -164,7 +164,7 @@ static UNPICKING: [Worked; 3] = [
     Worked {
         before: ALL_STAGED,
         told: Told::Unpick("S-1", "L2", "A-01", 7),
-        changes: "meta 2026-05-04 13 0\n\
+        changes: b"meta 2026-05-04 13 0\n\
             put stock 09506000134352 L2 A-01 10\n\
             put reserved S-1 09506000134352 L2 7\n\
             drop staged S-1 09506000134352 L2 7\n\
@@ -173,7 +173,7 @@ static UNPICKING: [Worked; 3] = [
     Worked {
         before: L0_STAGED,
         told: Told::Unpick("S-1", "L0", "A-01", 5),
-        changes: "meta 2026-05-04 12 0\n\
+        changes: b"meta 2026-05-04 12 0\n\
             put stock 09506000134352 L0 A-01 5\n\
             put reserved S-1 09506000134352 L0 5\n\
             drop staged S-1 09506000134352 L0 5\n\
@@ -199,7 +199,7 @@ const LOTS_OF_ALL_KINDS: Sample = Sample {
         KnownLot("L7", "2026-05-03", 10, false),
         KnownLot("L8", "2026-05-04", 11, false),
     ],
-    recalls: &[Recalled("L6")],
+    recalls: &[Recalled("L6", 5)],
     stock: &[
         Stock("A9", "A-01", 5),
         Stock("B1", "A-01", 5),
@@ -236,7 +236,7 @@ static ORDERING: [Worked; 5] = [
     Worked {
         before: TWO_LOTS,
         told: Told::Order("S-1", "Corner Shop", &[Ordered(OATS, 12)]),
-        changes: "meta 2026-05-04 8 0\n\
+        changes: b"meta 2026-05-04 8 0\n\
             put order S-1 8 Corner Shop OPEN\n\
             put line S-1 09506000134352 12 0\n\
             put reserved S-1 09506000134352 L2 10\n\
@@ -247,7 +247,7 @@ static ORDERING: [Worked; 5] = [
     Worked {
         before: ONE_ORDER,
         told: Told::Order("S-2", "Harbour Cafe", &[Ordered(OATS, 12)]),
-        changes: "meta 2026-05-04 9 0\n\
+        changes: b"meta 2026-05-04 9 0\n\
             put order S-2 9 Harbour Cafe OPEN\n\
             put line S-2 09506000134352 12 0\n\
             put reserved S-2 09506000134352 L1 8\n\
@@ -258,7 +258,7 @@ static ORDERING: [Worked; 5] = [
     Worked {
         before: LOTS_OF_ALL_KINDS,
         told: Told::Order("S-1", "Corner Shop", &[Ordered(OATS, 20)]),
-        changes: "meta 2026-05-04 21 0\n\
+        changes: b"meta 2026-05-04 21 0\n\
             put order S-1 21 Corner Shop OPEN\n\
             put line S-1 09506000134352 20 0\n\
             put reserved S-1 09506000134352 L8 1\n\
@@ -270,7 +270,7 @@ static ORDERING: [Worked; 5] = [
     Worked {
         before: TWO_ITEMS,
         told: Told::Order("S-3", "Corner Shop", &[Ordered(OATS, 3), Ordered(BREAD, 7)]),
-        changes: "meta 2026-05-04 10 0\n\
+        changes: b"meta 2026-05-04 10 0\n\
             put order S-3 10 Corner Shop OPEN\n\
             put line S-3 09506000134352 3 0\n\
             put line S-3 04012345000016 7 0\n\
@@ -279,7 +279,7 @@ static ORDERING: [Worked; 5] = [
     Worked {
         before: NEARLY_ALL_ORDERED,
         told: Told::Order("S-1", "Corner Shop", &[Ordered(OATS, 11)]),
-        changes: "meta 2026-05-04 1000000000000 0\n\
+        changes: b"meta 2026-05-04 1000000000000 0\n\
             put order S-1 1000000000000 Corner Shop OPEN\n\
             put line S-1 09506000134352 11 0\n\
             {\"act\":1000000000000,\"short\":11}",
@@ -309,7 +309,7 @@ const PICKED: Sample = Sample {
 const PICKED_AND_RECALLED: Sample = Sample {
     acts: 13,
     bins: &[Bin("A-01", BinKind::Store), Bin("RETURNS", BinKind::Hold)],
-    recalls: &[Recalled("L2")],
+    recalls: &[Recalled("L2", 5)],
     stock: &[
         Stock("L1", "A-01", 10),
         Stock("L2", "A-01", 3),
@@ -340,7 +340,7 @@ static SHIPPING: [Worked; 3] = [
     Worked {
         before: PICKED,
         told: Told::Ship("S-1"),
-        changes: "meta 2026-05-04 13 1\n\
+        changes: b"meta 2026-05-04 13 1\n\
             put card 09506000134352 L0 13 2026-05-04 SHIPMENT 1 -5 0\n\
             put card 09506000134352 L2 13 2026-05-04 SHIPMENT 1 -7 3\n\
             put order S-1 8 Corner Shop DONE\n\
@@ -356,7 +356,7 @@ static SHIPPING: [Worked; 3] = [
     Worked {
         before: PICKED_AND_RECALLED,
         told: Told::Ship("S-1"),
-        changes: "meta 2026-05-04 14 1\n\
+        changes: b"meta 2026-05-04 14 1\n\
             put card 09506000134352 L0 14 2026-05-04 SHIPMENT 1 -5 0\n\
             put line S-1 09506000134352 12 5\n\
             put shipment 1 14 2026-05-04 S-1\n\
@@ -368,7 +368,7 @@ static SHIPPING: [Worked; 3] = [
     Worked {
         before: REST_STAGED,
         told: Told::Ship("S-1"),
-        changes: "meta 2026-05-04 1000000000000 1\n\
+        changes: b"meta 2026-05-04 1000000000000 1\n\
             put card 09506000134352 L1 1000000000000 2026-05-04 SHIPMENT 1 -6 8\n\
             put order S-1 8 Corner Shop DONE\n\
             put line S-1 04012345000016 3 3\n\

@@ -127,7 +127,7 @@ fn spells_goods(rt: HostRuntime) {
 }
 
 #[test]
-fn spells_orders(rt: HostRuntime) -> Result<(), std::test::Fail> {
+fn spells_orders(rt: HostRuntime) {
     let lines = vec![in rt.alloc();
         OrderLine {
             gtin: gtin(&rt),
@@ -137,7 +137,9 @@ fn spells_orders(rt: HostRuntime) -> Result<(), std::test::Fail> {
             gtin: bread(&rt),
             qty: qty(&rt, 3)
         },
-    ]?;
+    ]
+    .ok()
+    .expect(&rt, "memory");
     let order = NewOrder {
         order: name(&rt, b"S-1"),
         customer: title(&rt, b"Corner Shop"),
@@ -173,7 +175,6 @@ fn spells_orders(rt: HostRuntime) -> Result<(), std::test::Fail> {
         Command::Ship(name(&rt, b"S-1")),
         b"SHIP\nS-1",
     );
-    Ok(())
 }
 
 #[test]
@@ -205,61 +206,88 @@ fn spells_lots_and_days(rt: HostRuntime) {
     );
 }
 
-#[test]
-fn tells_keys(rt: HostRuntime) {
-    let plain = Key::Plain(name(&rt, b"K-9"));
-    assert_eq!(rt; plain.text().as_bytes(), b"K/K-9".as_slice());
-    let line = Key::Line(name(&rt, b"D-1"), LineNo::new(2).expect(&rt, "a line"));
-    assert_eq!(rt; line.text().as_bytes(), b"D/D-1/2".as_slice());
-    let long = Key::Line(
-        name(&rt, b"ABCDEFGHIJKLMNOPQRST"),
-        LineNo::new(9_999).expect(&rt, "a line"),
-    );
-    assert_eq!(rt;
-        long.text().as_bytes(),
-        b"D/ABCDEFGHIJKLMNOPQRST/9999".as_slice()
-    );
-}
+// The name of a key, its line where it has one, and its text.
+static KEYS: [(&str, Option<u64>, &str); 3] = [
+    ("K-9", None, "K/K-9"),
+    ("D-1", Some(2), "D/D-1/2"),
+    (
+        "ABCDEFGHIJKLMNOPQRST",
+        Some(9_999),
+        "D/ABCDEFGHIJKLMNOPQRST/9999",
+    ),
+];
 
-#[test]
-fn codes_refusals(rt: HostRuntime) {
-    for (refusal, code) in [
-        (Refusal::KeyUsed, "K01"),
-        (Refusal::ActsFull, "F01"),
-        (Refusal::NoSuchLine, "U05"),
-        (Refusal::OtherExpiry, "X05"),
-        (Refusal::DayNotLater, "S10"),
-        (Refusal::OverReserved, "Q02"),
-        (Refusal::OverOrdered, "Q06"),
-        (Refusal::NoNotice, "N01"),
-    ] {
-        assert_eq!(rt; refusal.code(), code);
+fn key(rt: &impl Abort, text: &str, line: Option<u64>) -> Key {
+    let name = name(rt, text.as_bytes());
+    match line {
+        Some(number) => Key::Line(name, LineNo::new(number).expect(rt, "a line")),
+        None => Key::Plain(name),
     }
 }
 
 #[test]
-fn keeps_lengths(rt: HostRuntime) -> Result<(), std::test::Fail> {
-    let short = Short::new(&[b'x'; 96]).expect(&rt, "96 bytes");
-    assert_eq!(rt; short.as_bytes().len(), 96);
-    assert!(rt; Short::new(&[b'x'; 97]).is_none());
-    assert!(rt; Lines::new(vec![in rt.alloc()]?).is_none());
-    let line = OrderLine {
-        gtin: gtin(&rt),
-        qty: qty(&rt, 1),
-    };
-    assert!(rt; Lines::new(vec![in rt.alloc(); line; 21]?).is_none());
-    let lines = Lines::new(vec![in rt.alloc(); line; 20]?).expect(&rt, "twenty lines");
-    assert_eq!(rt; lines.as_slice().len(), 20);
-    assert_eq!(rt; lines.into_vec().len(), 20);
-    Ok(())
+fn tells_keys(rt: HostRuntime) {
+    for row in KEYS.as_slice() {
+        let text = key(&rt, row.0, row.1).text();
+        assert_eq!(rt; text.as_bytes(), row.2.as_bytes());
+    }
+}
+
+static CODES: [(Refusal, &str); 8] = [
+    (Refusal::KeyUsed, "K01"),
+    (Refusal::ActsFull, "F01"),
+    (Refusal::NoSuchLine, "U05"),
+    (Refusal::OtherExpiry, "X05"),
+    (Refusal::DayNotLater, "S10"),
+    (Refusal::OverReserved, "Q02"),
+    (Refusal::OverOrdered, "Q06"),
+    (Refusal::NoNotice, "N01"),
+];
+
+#[test]
+fn codes_refusals(rt: HostRuntime) {
+    for row in CODES.as_slice() {
+        assert_eq!(rt; row.0.code(), row.1);
+    }
 }
 
 #[test]
-fn writes_in_place(rt: HostRuntime) -> Result<(), std::test::Fail> {
+fn keeps_lengths(rt: HostRuntime) {
+    let long = [b'x'; 97];
+    let (full, _) = long.split_at(96);
+    let short = Short::new(full).expect(&rt, "96 bytes");
+    assert_eq!(rt; short.as_bytes().len(), 96);
+    assert!(rt; Short::new(long.as_slice()).is_none());
+}
+
+// So many lines of an order.
+fn lines(rt: &impl Abort, alloc: Global, count: usize) -> Vec<OrderLine> {
+    let line = OrderLine {
+        gtin: gtin(rt),
+        qty: qty(rt, 1),
+    };
+    vec![in alloc; line; count].ok().expect(rt, "memory")
+}
+
+#[test]
+fn keeps_lines(rt: HostRuntime) {
+    assert!(rt; Lines::new(lines(&rt, rt.alloc(), 0)).is_none());
+    assert!(rt; Lines::new(lines(&rt, rt.alloc(), 21)).is_none());
+    let twenty = Lines::new(lines(&rt, rt.alloc(), 20)).expect(&rt, "twenty lines");
+    assert_eq!(rt; twenty.as_slice().len(), 20);
+    assert_eq!(rt; twenty.into_vec().len(), 20);
+}
+
+#[test]
+fn writes_in_place(rt: HostRuntime) {
     let mut text = Buffer::<12>::new();
     text.push(b'a');
     text.push_all(b"bc");
     assert_eq!(rt; text.text().as_bytes(), b"abc".as_slice());
+}
+
+#[test]
+fn writes_short_texts(rt: HostRuntime) {
     let mut answer = Buffer::<SHORT_MAX>::new();
     answer.push_all(b"{\"act\":");
     answer.push_decimal(8);
@@ -268,6 +296,10 @@ fn writes_in_place(rt: HostRuntime) -> Result<(), std::test::Fail> {
     answer.push_all(b"}");
     let short = Short::of(&answer);
     assert_eq!(rt; short.as_bytes(), b"{\"act\":8,\"change\":-2}".as_slice());
+}
+
+#[test]
+fn writes_numbers(rt: HostRuntime) {
     assert_eq!(rt;
         decimal_text(u64::MAX).as_bytes(),
         b"18446744073709551615".as_slice()
@@ -276,8 +308,12 @@ fn writes_in_place(rt: HostRuntime) -> Result<(), std::test::Fail> {
         signed_text(i64::MIN).as_bytes(),
         b"-9223372036854775808".as_slice()
     );
-    let listed = Listed::from_vec(vec![in rt.alloc(); 7u8, 9]?);
+}
+
+#[test]
+fn keeps_lists(rt: HostRuntime) {
+    let values = vec![in rt.alloc(); 7u8, 9].ok().expect(&rt, "memory");
+    let listed = Listed::from_vec(values);
     assert_eq!(rt; listed.as_slice(), [7, 9].as_slice());
     assert_eq!(rt; listed.into_vec().as_slice(), [7, 9].as_slice());
-    Ok(())
 }

@@ -2,15 +2,14 @@ ghost use Rattle.std.specs.Prelude.{◌≡◌, IfOk};
 ghost use Rattle.plan.specs.Limits.{AreSmall};
 
 use plan::{Demand, Plan, Row, Supply, whole};
-use std::alloc::{AllocError, Global};
+use std::alloc::Global;
 use std::process::Abort;
-use std::test::Fail;
 
 // `rt try --test --fail-alloc N -- plan_tests` refuses the Nth request for memory of each test here.
 // A call that is refused is made again, so each test passes at every N, and without a refusal too.
 
 #[test]
-fn plans_are_those_of_the_table(rt: HostRuntime) -> Result<(), Fail> {
+fn plans_are_those_of_the_table(rt: HostRuntime) {
     let two = [demand(8, 12), demand(9, 12)];
     let shared = [row(8, 7, 10), row(8, 6, 2), row(9, 6, 8)];
     expect_plan(
@@ -20,7 +19,7 @@ fn plans_are_those_of_the_table(rt: HostRuntime) -> Result<(), Fail> {
         &[supply(7, 10), supply(6, 10)],
         &shared,
         &[0, 4],
-    )?;
+    );
 
     let even = [row(1, 3, 5), row(2, 4, 5)];
     expect_plan(
@@ -30,7 +29,7 @@ fn plans_are_those_of_the_table(rt: HostRuntime) -> Result<(), Fail> {
         &[supply(3, 5), supply(4, 5)],
         &even,
         &[0, 0],
-    )?;
+    );
 
     expect_plan(
         &rt,
@@ -39,14 +38,14 @@ fn plans_are_those_of_the_table(rt: HostRuntime) -> Result<(), Fail> {
         &[supply(5, 3)],
         &[row(2, 5, 3)],
         &[0, 0],
-    )?;
+    );
 
-    expect_plan(&rt, rt.alloc(), &[demand(1, 4)], &[], &[], &[4])
+    expect_plan(&rt, rt.alloc(), &[demand(1, 4)], &[], &[], &[4]);
 }
 
 // Nine rows: more than one request for memory.
 #[test]
-fn plans_grow(rt: HostRuntime) -> Result<(), Fail> {
+fn plans_grow(rt: HostRuntime) {
     let supplies = [
         supply(1, 1),
         supply(2, 1),
@@ -58,22 +57,20 @@ fn plans_grow(rt: HostRuntime) -> Result<(), Fail> {
         supply(8, 1),
         supply(9, 1),
     ];
-    let plan = whole_again(rt.alloc(), &[demand(10, 20)], &supplies)?;
+    let plan = whole_again(&rt, rt.alloc(), &[demand(10, 20)], &supplies);
     assert_eq!(rt; plan.rows().len(), 9);
     assert_eq!(rt; plan.reserved(10, 9), 1);
     assert_eq!(rt; plan.reserved(10, 10), 0);
     assert_eq!(rt; plan.short(demand(10, 20)), 11);
-    Ok(())
 }
 
 #[test]
-fn plans_hold_rows(rt: HostRuntime) -> Result<(), Fail> {
+fn plans_hold_rows(rt: HostRuntime) {
     let rows = [row(8, 7, 10), row(9, 6, 8)];
-    let plan = Plan::of(copy_again(rt.alloc(), &rows)?);
+    let plan = Plan::of(copy_again(&rt, rt.alloc(), &rows));
     assert_eq!(rt; plan.rows(), rows.as_slice());
     assert_eq!(rt; plan.reserved(9, 6), 8);
     assert_eq!(rt; plan.reserved(9, 7), 0);
-    Ok(())
 }
 
 fn expect_plan(
@@ -83,10 +80,10 @@ fn expect_plan(
     supplies: &[Supply],
     rows: &[Row],
     short: &[u64],
-) -> Result<(), Fail>
+)
     requires { AreSmall demands.now supplies.now }
 {
-    let plan = whole_again(alloc, demands, supplies)?;
+    let plan = whole_again(rt, alloc, demands, supplies);
     assert_eq!(rt; plan.rows(), rows);
     for row in rows {
         assert_eq!(rt; plan.reserved(row.booking, row.lot), row.qty);
@@ -94,24 +91,23 @@ fn expect_plan(
     for (demand, short) in demands.iter().zip(short) {
         assert_eq!(rt; plan.short(*demand), *short);
     }
-    Ok(())
 }
 
-fn whole_again(alloc: Global, demands: &[Demand], supplies: &[Supply]) -> Result<Plan, AllocError>
+fn whole_again(rt: &impl Abort, alloc: Global, demands: &[Demand], supplies: &[Supply]) -> Plan
     requires { AreSmall demands.now supplies.now }
 {
     match whole(alloc, demands, supplies) {
-        Ok(plan) => Ok(plan),
-        Err(_) => whole(alloc, demands, supplies),
+        Ok(plan) => plan,
+        Err(_) => whole(alloc, demands, supplies).ok().expect(rt, "memory"),
     }
 }
 
-fn copy_again(alloc: Global, rows: &[Row]) -> Result<Vec<Row>, AllocError>
-    ensures { IfOk result (λ copy. copy.items ≡ rows.now) }
+fn copy_again(rt: &impl Abort, alloc: Global, rows: &[Row]) -> Vec<Row>
+    ensures { result.items ≡ rows.now }
 {
     match rows.to_vec(alloc) {
-        Ok(copy) => Ok(copy),
-        Err(_) => rows.to_vec(alloc),
+        Ok(copy) => copy,
+        Err(_) => rows.to_vec(alloc).ok().expect(rt, "memory"),
     }
 }
 

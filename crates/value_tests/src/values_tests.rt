@@ -1,31 +1,76 @@
-use std::test::Fail;
 use values::{Counted, Delta, Gtin, LabelFault, LineNo, Lot, Name, Qty, Text, Title, are_digits};
 
+// A text, and whether it is a name.
+static NAMES: [(&str, bool); 2] = [("S-1", true), ("s-1", false)];
+
+// A text, and whether it is a title.
+static TITLES: [(&str, bool); 2] = [("Corner Shop", true), ("Corner Shop ", false)];
+
 #[test]
-fn makes_values(rt: HostRuntime) -> Result<(), Fail> {
-    let name = Name::new(b"S-1").ok_or("a name")?;
-    assert_eq!(rt; name.as_bytes(), b"S-1".as_slice());
-    assert_eq!(rt; Name::new(b"s-1"), None);
-    let title = Title::new(b"Corner Shop").ok_or("a title")?;
-    assert_eq!(rt; title.as_bytes(), b"Corner Shop".as_slice());
-    assert_eq!(rt; Title::new(b"Corner Shop "), None);
-    let short = Text::<4>::new(b"AB12").ok_or("a text")?;
-    assert_eq!(rt; (short.len(), short.as_bytes()), (4, b"AB12".as_slice()));
-    assert_eq!(rt; Qty::new(1_000_000).map(Qty::units), Some(1_000_000));
-    assert_eq!(rt; Qty::new(0), None);
-    assert_eq!(rt; Counted::new(0).map(Counted::units), Some(0));
-    assert_eq!(rt; Counted::new(1_000_001), None);
-    assert_eq!(rt; Delta::new(-1_000_000).map(Delta::change), Some(-1_000_000));
-    assert_eq!(rt; Delta::new(0), None);
-    assert_eq!(rt; LineNo::new(9_999).map(LineNo::number), Some(9_999));
-    assert_eq!(rt; LineNo::new(10_000), None);
+fn makes_names(rt: HostRuntime) {
+    for row in NAMES.as_slice() {
+        let text = row.0.as_bytes();
+        let name = Name::new(text);
+        assert_eq!(rt; name.as_ref().map(Name::as_bytes), row.1.then_some(text));
+    }
+}
+
+#[test]
+fn makes_titles(rt: HostRuntime) {
+    for row in TITLES.as_slice() {
+        let text = row.0.as_bytes();
+        let title = Title::new(text);
+        assert_eq!(rt; title.as_ref().map(Title::as_bytes), row.1.then_some(text));
+    }
+}
+
+#[test]
+fn keeps_texts(rt: HostRuntime) {
+    let text = "AB12".as_bytes();
+    let short = Text::<4>::new(text).expect(&rt, "a text");
+    assert_eq!(rt; (short.len(), short.as_bytes()), (4, text));
+}
+
+// A number, and what is made of it.
+static QUANTITIES: [(u64, Option<u32>); 2] = [(1_000_000, Some(1_000_000)), (0, None)];
+
+static COUNTS: [(u64, Option<u32>); 2] = [(0, Some(0)), (1_000_001, None)];
+
+static CHANGES: [(i64, Option<i32>); 2] = [(-1_000_000, Some(-1_000_000)), (0, None)];
+
+static LINES: [(u64, Option<u16>); 2] = [(9_999, Some(9_999)), (10_000, None)];
+
+#[test]
+fn makes_quantities(rt: HostRuntime) {
+    for row in QUANTITIES.as_slice() {
+        assert_eq!(rt; Qty::new(row.0).map(Qty::units), row.1);
+    }
+    for row in COUNTS.as_slice() {
+        assert_eq!(rt; Counted::new(row.0).map(Counted::units), row.1);
+    }
+    for row in CHANGES.as_slice() {
+        assert_eq!(rt; Delta::new(row.0).map(Delta::change), row.1);
+    }
+    for row in LINES.as_slice() {
+        assert_eq!(rt; LineNo::new(row.0).map(LineNo::number), row.1);
+    }
+}
+
+// A text, and whether it is of digits.
+static DIGITS: [(&str, bool); 2] = [("0123456789", true), ("12:4", false)];
+
+#[test]
+fn tells_faults(rt: HostRuntime) {
     assert_eq!(rt;
-        Gtin::new(b"99506000134352"),
-        Err(LabelFault::VariableMeasure)
+        Gtin::new("99506000134352".as_bytes()).err(),
+        Some(LabelFault::VariableMeasure)
     );
-    assert_eq!(rt; Lot::new(b"A B"), Err(LabelFault::LotCharacter));
+    assert_eq!(rt;
+        Lot::new("A B".as_bytes()).err(),
+        Some(LabelFault::LotCharacter)
+    );
     assert_eq!(rt; LabelFault::OutOfMemory.code(), "L90");
-    assert_eq!(rt; are_digits(b"0123456789"), true);
-    assert_eq!(rt; are_digits(b"12:4"), false);
-    Ok(())
+    for row in DIGITS.as_slice() {
+        assert_eq!(rt; are_digits(row.0.as_bytes()), row.1);
+    }
 }
