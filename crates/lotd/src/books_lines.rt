@@ -1,5 +1,5 @@
 use crate::fault::Fault;
-use crate::label_line::business_day;
+use crate::run::{BooksAt, Work};
 use crate::serve::serve_on;
 use house::House;
 use label::BusinessDay;
@@ -9,41 +9,42 @@ use std::io::{self, Write};
 use std::net::TcpListener;
 use store::{Books, OpenFault};
 
-/// Makes books in the file, which begin on the business day. The day is judged first.
-pub(crate) fn init_books(rt: &HostRuntime, db: &str, day: &str) -> Result<(), Fault> {
-    let Some(day) = BusinessDay::new(business_day(day)?) else {
-        return Err(Fault::Value);
-    };
-    let conn = open_file(rt, db)?;
-    let books = made(rt.alloc(), conn, day)?;
-    close_books(books)
+/// The books in files of the host.
+#[derive(Clone, Copy)]
+pub(crate) struct InFiles<'a> {
+    pub(crate) rt: &'a HostRuntime,
 }
 
-/// Opens the books in the file, listens on the port and answers so many connections. What the log
-/// still holds is copied into the file at the end, also where the port cannot be had.
-pub(crate) fn serve_books<W: Write>(
-    rt: &HostRuntime,
-    db: &str,
-    port: u16,
-    max: u32,
-    out: &mut W,
-) -> Result<(), Fault> {
-    let conn = open_file(rt, db)?;
-    let books = opened(rt.alloc(), conn)?;
-    serve_and_close(rt, books, port, max, out)
+impl BooksAt for InFiles<'_> {
+    /// What the log still holds is copied into the file at the end, also where the port cannot be had.
+    fn work<W: Write>(&self, db: &str, work: Work, out: &mut W) -> Result<(), Fault> {
+        match open_file(self.rt, db) {
+            Ok(conn) => close_worked(worked(self.rt, conn, work, out)),
+            Err(fault) => Err(fault),
+        }
+    }
 }
 
-fn serve_and_close<W: Write>(
+/// A connection after the work over it, and how that ended.
+type Worked<S> = (Connection<S>, Result<(), Fault>);
+
+fn close_worked(worked: Result<Worked<FileStore<File>>, Fault>) -> Result<(), Fault> {
+    match worked {
+        Ok((conn, end)) => first_fault(end, close_file(conn)),
+        Err(fault) => Err(fault),
+    }
+}
+
+fn worked<S: Alter + Drop, W: Write>(
     rt: &HostRuntime,
-    books: Books<FileStore<File>>,
-    port: u16,
-    max: u32,
+    conn: Connection<S>,
+    work: Work,
     out: &mut W,
-) -> Result<(), Fault> {
-    let mut house = House::new(rt.alloc(), books);
-    let served = serve_port(rt, port, max, out, &mut house);
-    let closed = close_books(house.close());
-    first_fault(served, closed)
+) -> Result<Worked<S>, Fault> {
+    match work {
+        Work::Make(day) => made(rt.alloc(), conn, day),
+        Work::Serve { port, max } => served(rt, conn, port, max, out),
+    }
 }
 
 fn first_fault(served: Result<(), Fault>, closed: Result<(), Fault>) -> Result<(), Fault> {
@@ -60,18 +61,45 @@ fn open_file(rt: &HostRuntime, db: &str) -> Result<Connection<FileStore<File>>, 
     }
 }
 
+/// Makes the books.
 fn made<S: Alter + Drop>(
     alloc: Global,
     conn: Connection<S>,
     day: BusinessDay,
-) -> Result<Books<S>, Fault> {
+) -> Result<Worked<S>, Fault> {
     if !conn.is_autocommit() {
         return Err(Fault::Store);
     }
     match Books::create(alloc, conn, day) {
-        Ok(books) => Ok(books),
+        Ok(books) => Ok((books.close(), Ok(()))),
         Err(fault) => Err(cause(fault)),
     }
+}
+
+/// Opens the books, listens on the port and answers so many connections.
+fn served<S: Alter + Drop, W: Write>(
+    rt: &HostRuntime,
+    conn: Connection<S>,
+    port: u16,
+    max: u32,
+    out: &mut W,
+) -> Result<Worked<S>, Fault> {
+    match opened(rt.alloc(), conn) {
+        Ok(books) => Ok(serve_books(rt, books, port, max, out)),
+        Err(fault) => Err(fault),
+    }
+}
+
+fn serve_books<S: Alter + Drop, W: Write>(
+    rt: &HostRuntime,
+    books: Books<S>,
+    port: u16,
+    max: u32,
+    out: &mut W,
+) -> Worked<S> {
+    let mut house = House::new(rt.alloc(), books);
+    let end = serve_port(rt, port, max, out, &mut house);
+    (house.close().close(), end)
 }
 
 fn opened<S: Alter + Drop>(alloc: Global, conn: Connection<S>) -> Result<Books<S>, Fault> {
@@ -91,8 +119,8 @@ fn cause<S: Alter + Drop>(fault: OpenFault<S>) -> Fault {
     }
 }
 
-fn close_books(books: Books<FileStore<File>>) -> Result<(), Fault> {
-    match books.close().close() {
+fn close_file(conn: Connection<FileStore<File>>) -> Result<(), Fault> {
+    match conn.close() {
         Ok(()) => Ok(()),
         Err(_) => Err(Fault::Store),
     }

@@ -80,12 +80,18 @@ fn init_command<'a>(alloc: Global) -> Result<Command<'a>, AllocError> {
 }
 
 fn serve_command<'a>(alloc: Global) -> Result<Command<'a>, AllocError> {
+    match listen_command(alloc) {
+        Ok(command) => command.arg(max(alloc)),
+        Err(error) => Err(error),
+    }
+}
+
+fn listen_command<'a>(alloc: Global) -> Result<Command<'a>, AllocError> {
     Command::new(alloc, "serve")
         .about("Answer the requests of scanners, one connection after another")
         .after_help("Example:\n  lotd serve --db stock.db --port 8080 --max 1000")
         .arg(books(alloc))?
-        .arg(port(alloc))?
-        .arg(max(alloc))
+        .arg(port(alloc))
 }
 
 fn label_command<'a>(alloc: Global) -> Result<Command<'a>, AllocError> {

@@ -4,7 +4,7 @@ ghost use Rattle.label.specs.Days.{is_business_day, parsed_day};
 ghost use Rattle.lotd.specs.Lines.{label_lines, IsPrinted, IsRefused, IsNoBusinessDay};
 
 use crate::fault::Fault;
-use label::{Day, Label, read};
+use label::{BusinessDay, Day, Label, read};
 use std::io;
 use std::io::Write;
 
@@ -34,6 +34,14 @@ pub(crate) fn business_day(text: &str) -> Result<Day, Fault>
     match Day::parse(text.as_bytes()) {
         Some(day) if day.is_business() => Ok(day),
         _ => Err(Fault::Value),
+    }
+}
+
+/// The first day of new books: the business day that a DATE is.
+pub(crate) fn first_day(text: &str) -> Result<BusinessDay, Fault> {
+    match BusinessDay::new(business_day(text)?) {
+        Some(day) => Ok(day),
+        None => Err(Fault::Value),
     }
 }
 

@@ -10,6 +10,7 @@ mod serve;
 #[cfg(test)]
 mod tests;
 
+use books_lines::InFiles;
 use fault::Fault;
 use std::env;
 use std::io::ErrorKind;
@@ -29,5 +30,7 @@ fn main(rt: HostRuntime) -> ExitCode {
         Err(_) => return ExitCode::from(run::tell(&Fault::Store, &mut err)),
     };
     let mut out = rt.stdout();
-    ExitCode::from(run::run(&rt, words.as_slice(), &mut out, &mut err))
+    let books = InFiles { rt: &rt };
+    let status = run::run(rt.alloc(), &books, words.as_slice(), &mut out, &mut err);
+    ExitCode::from(status)
 }

@@ -1,10 +1,11 @@
 ghost use Rattle.std.specs.Prelude.{◌≤◌};
 
-use crate::books_lines::{init_books, serve_books};
 use crate::command_line::{Line, read_line};
 use crate::fault::Fault;
-use crate::label_line::print_label;
+use crate::label_line::{first_day, print_label};
 use clap::Error;
+use label::BusinessDay;
+use std::alloc::Global;
 use std::convert::AsStr;
 use std::io;
 use std::io::Write;
@@ -18,31 +19,48 @@ pub const REFUSED: u8 = 1;
 /// The exit status of words that are no line of the program.
 pub const MISUSED: u8 = 2;
 
+/// What a line does with the books in a file.
+#[derive(Clone, Copy)]
+pub(crate) enum Work {
+    /// Makes them; they begin on the business day.
+    Make(BusinessDay),
+    /// Opens them, listens on the port and answers so many connections.
+    Serve { port: u16, max: u32 },
+}
+
+/// Where the books are that the lines speak of.
+pub(crate) trait BooksAt {
+    /// Does the work with the books in the file. What it prints goes to `out`.
+    fn work<W: Write>(&self, db: &str, work: Work, out: &mut W) -> Result<(), Fault>;
+}
+
 /// Runs the line that the words are, the program's name first: what it prints goes to `out`, and a
 /// fault to `err` as one line, `lotd: ` and its code. The result is the exit status.
-pub fn run<'a, S: AsStr, W: Write, E: Write>(
-    rt: &HostRuntime,
+pub(crate) fn run<'a, B: BooksAt, S: AsStr, W: Write, E: Write>(
+    alloc: Global,
+    books: &B,
     words: &'a [S],
     out: &mut W,
     err: &mut E,
 ) -> u8
     ensures { result ≤ MISUSED }
 {
-    match do_line(rt, words, out) {
+    match do_line(alloc, books, words, out) {
         Ok(()) => DONE,
         Err(Fault::Usage(error)) => tell_usage(&error, out, err),
         Err(fault) => tell(&fault, err),
     }
 }
 
-fn do_line<'a, S: AsStr, W: Write>(
-    rt: &HostRuntime,
+fn do_line<'a, B: BooksAt, S: AsStr, W: Write>(
+    alloc: Global,
+    books: &B,
     words: &'a [S],
     out: &mut W,
 ) -> Result<(), Fault> {
-    match read_line(rt.alloc(), words)? {
-        Line::Init { db, day } => init_books(rt, db, day)?,
-        Line::Serve { db, port, max } => serve_books(rt, db, port, max, out)?,
+    match read_line(alloc, words)? {
+        Line::Init { db, day } => books.work(db, Work::Make(first_day(day)?), out)?,
+        Line::Serve { db, port, max } => books.work(db, Work::Serve { port, max }, out)?,
         Line::Label { day, text } => print_label(day, text, out)?,
         Line::Unknown => return Err(Fault::Value),
     }
