@@ -107,7 +107,8 @@ fn rows_shipped(
 {
     let mut own = Vec::new(alloc);
     for row in rows {
-        push_if(&mut own, *order == row.order, *row)?;
+        let wanted = *order == row.order;
+        push_if(&mut own, wanted, *row)?;
     }
     Ok(own)
 }

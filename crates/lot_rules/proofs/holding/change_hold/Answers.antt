@@ -1,5 +1,6 @@
-use Rattle.std.proofs.Common.{rules}
 use Rattle.lot_rules.proofs.holding.change_hold.Goals as goal
 
 pub returns : goal.returns
-returns c = search rules
+returns c =
+    rw (c.from_vec.ensures, c.in_ok-lots.ensures, c.lot_seen.ensures, c.from_vec-2.ensures, c.new.ensures.items, c.as_slice.ensures.value, c.in_ok-shares.ensures)
+    at c.returning_change.ensures
