@@ -1,13 +1,13 @@
 //! The table `bins`.
 
-ghost use Rattle.std.specs.Prelude.{◌≡◌, ◌≢◌, ◌≤◌, true, false, find, map, OnOk, IfOk, IfErr, bytes_eq};
+ghost use Rattle.std.specs.Prelude.{◌≡◌, ◌≢◌, ◌≤◌, true, find, OnOk, IfOk, IfErr, bytes_eq};
 ghost use Rattle.std.specs.List.{AllByRecursion};
 ghost use Rattle.sqlite.specs.State.{HasCleanDisk, Survives, KeepsCommit, IsUnchanged};
 ghost use Rattle.sqlite.specs.Held.{state};
 ghost use Rattle.sqlite.specs.Values.{bound};
 ghost use Rattle.table_words.specs.Found.{AreRows};
 ghost use Rattle.table_words.specs.Steps.{IsReady, Goes};
-ghost use Rattle.table_words.specs.Typed.{tables_in, same_lot_id, with_bin, without_bin, is_bin, has_bin, bin_cells, bin_read, bin_key, same_bin, BinKey, bins_of_rows, all_bins_rows};
+ghost use Rattle.table_words.specs.Typed.{tables_in, same_lot_id, with_bin, without_bin, is_bin, has_bin, bin_cells, bin_key, same_bin, BinKey, bins_of_rows, all_bins_rows};
 ghost use Rattle.table_words.specs.declared.error.TableFault.TheVariants.{Foreign};
 
 use crate::texts::{ADD_BIN, ALL_BINS, BINS_OF, CHANGE_BIN, DROP_BIN};
@@ -18,6 +18,7 @@ use std::alloc::Global;
 use table_words::calls::{put, run};
 use table_words::columns::{bin_kind_at, name_at, of_bin_kind, of_name};
 use table_words::error::TableFault;
+use table_words::reading::{Table, query};
 use values::Name;
 
 /// Drops the row with this key, if there is one.
@@ -52,26 +53,24 @@ pub fn put_bin<S: Alter>(tx: &mut Transaction<'_, S>, row: &BinRow) -> Result<()
     put(tx, CHANGE_BIN, ADD_BIN, &cells(row))
 }
 
-fn to_row(row: &Row) -> Result<BinRow, TableFault>
-    ensures ok { IfOk result (λ s. (has_bin row.now ≡ true) × (bin_read row.now ≡ s)) }
-    ensures foreign { IfErr result (λ e. e ≡ Foreign → has_bin row.now ≡ false) }
-{
-    match (name_at(row, 0), bin_kind_at(row, 1)) {
-        (Ok(name), Ok(kind)) => Ok(BinRow { name, kind }),
-        _ => Err(TableFault::Foreign),
-    }
-}
+/// How the rows of the table are read.
+struct Bins;
 
-fn to_rows(alloc: Global, rows: &[Row]) -> Result<Vec<BinRow>, TableFault>
-    ensures typed { IfOk result (λ found. AllByRecursion (λ v. has_bin v ≡ true) rows.now) }
-    ensures ok { IfOk result (λ found. map bin_read rows.now ≡ found.items) }
-    ensures foreign { IfErr result (λ e. e ≡ Foreign → ¬ AllByRecursion (λ v. has_bin v ≡ true) rows.now) }
-{
-    let mut found = Vec::new(alloc);
-    for row in rows {
-        found.push(to_row(row)?)?;
+impl Table for Bins {
+    ghost use Rattle.table_words.specs.Typed.{has_bin, bin_read};
+
+    type Record = BinRow;
+
+    ghost has = { has_bin };
+
+    ghost reads = { bin_read };
+
+    fn read(_: Global, row: &Row) -> Result<BinRow, TableFault> {
+        match (name_at(row, 0), bin_kind_at(row, 1)) {
+            (Ok(name), Ok(kind)) => Ok(BinRow { name, kind }),
+            _ => Err(TableFault::Foreign),
+        }
     }
-    Ok(found)
 }
 
 /// The rows of this name, the oldest first; `Foreign` where one of them has a value that no row has.
@@ -91,8 +90,7 @@ pub fn bins_of<S: Alter>(
     ensures kept { HasCleanDisk (state S.Store tx.new.conn.now) → IsReady (state S.Store tx.old.conn.now).now → KeepsCommit (state S.Store tx.old.conn.now) (state S.Store tx.new.conn.now) }
     ensures survives { Survives (state S.Store tx.old.conn.now) (state S.Store tx.new.conn.now) (λ _. ⊥) }
 {
-    let rows = tx.query_all(BINS_OF, &[of_name(name)])?;
-    to_rows(alloc, rows.as_slice())
+    query::<Bins, S>(alloc, tx, BINS_OF, &[of_name(name)])
 }
 
 /// The rows of the whole table, the oldest first; `Foreign` where one of them has a value that no row has.
@@ -111,6 +109,5 @@ pub fn all_bins<S: Alter>(
     ensures kept { HasCleanDisk (state S.Store tx.new.conn.now) → IsReady (state S.Store tx.old.conn.now).now → KeepsCommit (state S.Store tx.old.conn.now) (state S.Store tx.new.conn.now) }
     ensures survives { Survives (state S.Store tx.old.conn.now) (state S.Store tx.new.conn.now) (λ _. ⊥) }
 {
-    let rows = tx.query_all(ALL_BINS, &[])?;
-    to_rows(alloc, rows.as_slice())
+    query::<Bins, S>(alloc, tx, ALL_BINS, &[])
 }

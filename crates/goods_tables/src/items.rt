@@ -1,13 +1,13 @@
 //! The table `items`.
 
-ghost use Rattle.std.specs.Prelude.{◌≡◌, ◌≢◌, ◌≤◌, true, false, find, map, OnOk, IfOk, IfErr, bytes_eq};
+ghost use Rattle.std.specs.Prelude.{◌≡◌, ◌≢◌, ◌≤◌, true, find, OnOk, IfOk, IfErr, bytes_eq};
 ghost use Rattle.std.specs.List.{AllByRecursion};
 ghost use Rattle.sqlite.specs.State.{HasCleanDisk, Survives, KeepsCommit, IsUnchanged};
 ghost use Rattle.sqlite.specs.Held.{state};
 ghost use Rattle.sqlite.specs.Values.{bound};
 ghost use Rattle.table_words.specs.Found.{AreRows};
 ghost use Rattle.table_words.specs.Steps.{IsReady, Goes};
-ghost use Rattle.table_words.specs.Typed.{tables_in, same_lot_id, with_item, without_item, is_item, has_item, item_cells, item_read, item_key, same_item, ItemKey, items_of_rows, all_items_rows};
+ghost use Rattle.table_words.specs.Typed.{tables_in, same_lot_id, with_item, without_item, is_item, has_item, item_cells, item_key, same_item, ItemKey, items_of_rows, all_items_rows};
 ghost use Rattle.table_words.specs.declared.error.TableFault.TheVariants.{Foreign};
 
 use crate::texts::{ADD_ITEM, ALL_ITEMS, CHANGE_ITEM, DROP_ITEM, ITEMS_OF};
@@ -18,6 +18,7 @@ use std::alloc::Global;
 use table_words::calls::{put, run};
 use table_words::columns::{gtin_at, of_gtin, of_title, title_at};
 use table_words::error::TableFault;
+use table_words::reading::{Table, query};
 use values::Gtin;
 
 /// Drops the row with this key, if there is one.
@@ -52,26 +53,24 @@ pub fn put_item<S: Alter>(tx: &mut Transaction<'_, S>, row: &ItemRow) -> Result<
     put(tx, CHANGE_ITEM, ADD_ITEM, &cells(row))
 }
 
-fn to_row(row: &Row) -> Result<ItemRow, TableFault>
-    ensures ok { IfOk result (λ s. (has_item row.now ≡ true) × (item_read row.now ≡ s)) }
-    ensures foreign { IfErr result (λ e. e ≡ Foreign → has_item row.now ≡ false) }
-{
-    match (gtin_at(row, 0), title_at(row, 1)) {
-        (Ok(gtin), Ok(name)) => Ok(ItemRow { gtin, name }),
-        _ => Err(TableFault::Foreign),
-    }
-}
+/// How the rows of the table are read.
+struct Items;
 
-fn to_rows(alloc: Global, rows: &[Row]) -> Result<Vec<ItemRow>, TableFault>
-    ensures typed { IfOk result (λ found. AllByRecursion (λ v. has_item v ≡ true) rows.now) }
-    ensures ok { IfOk result (λ found. map item_read rows.now ≡ found.items) }
-    ensures foreign { IfErr result (λ e. e ≡ Foreign → ¬ AllByRecursion (λ v. has_item v ≡ true) rows.now) }
-{
-    let mut found = Vec::new(alloc);
-    for row in rows {
-        found.push(to_row(row)?)?;
+impl Table for Items {
+    ghost use Rattle.table_words.specs.Typed.{has_item, item_read};
+
+    type Record = ItemRow;
+
+    ghost has = { has_item };
+
+    ghost reads = { item_read };
+
+    fn read(_: Global, row: &Row) -> Result<ItemRow, TableFault> {
+        match (gtin_at(row, 0), title_at(row, 1)) {
+            (Ok(gtin), Ok(name)) => Ok(ItemRow { gtin, name }),
+            _ => Err(TableFault::Foreign),
+        }
     }
-    Ok(found)
 }
 
 /// The rows of this gtin, the oldest first; `Foreign` where one of them has a value that no row has.
@@ -91,8 +90,7 @@ pub fn items_of<S: Alter>(
     ensures kept { HasCleanDisk (state S.Store tx.new.conn.now) → IsReady (state S.Store tx.old.conn.now).now → KeepsCommit (state S.Store tx.old.conn.now) (state S.Store tx.new.conn.now) }
     ensures survives { Survives (state S.Store tx.old.conn.now) (state S.Store tx.new.conn.now) (λ _. ⊥) }
 {
-    let rows = tx.query_all(ITEMS_OF, &[of_gtin(gtin)])?;
-    to_rows(alloc, rows.as_slice())
+    query::<Items, S>(alloc, tx, ITEMS_OF, &[of_gtin(gtin)])
 }
 
 /// The rows of the whole table, the oldest first; `Foreign` where one of them has a value that no row has.
@@ -111,6 +109,5 @@ pub fn all_items<S: Alter>(
     ensures kept { HasCleanDisk (state S.Store tx.new.conn.now) → IsReady (state S.Store tx.old.conn.now).now → KeepsCommit (state S.Store tx.old.conn.now) (state S.Store tx.new.conn.now) }
     ensures survives { Survives (state S.Store tx.old.conn.now) (state S.Store tx.new.conn.now) (λ _. ⊥) }
 {
-    let rows = tx.query_all(ALL_ITEMS, &[])?;
-    to_rows(alloc, rows.as_slice())
+    query::<Items, S>(alloc, tx, ALL_ITEMS, &[])
 }

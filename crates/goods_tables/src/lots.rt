@@ -1,13 +1,13 @@
 //! The table `lots`.
 
-ghost use Rattle.std.specs.Prelude.{◌≡◌, ◌≢◌, ◌≤◌, ◌<◌, true, false, find, map, OnOk, IfOk, IfErr, bytes_eq};
+ghost use Rattle.std.specs.Prelude.{◌≡◌, ◌≢◌, ◌≤◌, ◌<◌, true, find, OnOk, IfOk, IfErr, bytes_eq};
 ghost use Rattle.std.specs.List.{AllByRecursion};
 ghost use Rattle.sqlite.specs.State.{HasCleanDisk, Survives, KeepsCommit, IsUnchanged};
 ghost use Rattle.sqlite.specs.Held.{state};
 ghost use Rattle.sqlite.specs.Values.{bound};
 ghost use Rattle.table_words.specs.Found.{AreRows};
 ghost use Rattle.table_words.specs.Steps.{IsReady, Goes, IsTooBig};
-ghost use Rattle.table_words.specs.Typed.{tables_in, same_lot_id, with_lot, without_lot, is_lot, has_lot, lot_cells, lot_read, lot_key, same_lot, LotKey, lots_of_rows, all_lots_rows};
+ghost use Rattle.table_words.specs.Typed.{tables_in, same_lot_id, with_lot, without_lot, is_lot, has_lot, lot_cells, lot_key, same_lot, LotKey, lots_of_rows, all_lots_rows};
 ghost use Rattle.table_words.specs.declared.error.TableFault.TheVariants.{Foreign};
 
 use crate::texts::{ADD_LOT, ALL_LOTS, CHANGE_LOT, DROP_LOT, LOTS_OF};
@@ -21,6 +21,7 @@ use table_words::columns::{
     day_at, flag_at, gtin_at, lot_at, number_at, of_day, of_flag, of_gtin, of_lot, of_number,
 };
 use table_words::error::TableFault;
+use table_words::reading::{Table, query};
 use values::{Gtin, LotId};
 
 /// Drops the row with this key, if there is one.
@@ -66,37 +67,35 @@ pub fn put_lot<S: Alter>(tx: &mut Transaction<'_, S>, row: &LotRow) -> Result<()
     put(tx, CHANGE_LOT, ADD_LOT, &cells(row))
 }
 
-fn to_row(row: &Row) -> Result<LotRow, TableFault>
-    ensures ok { IfOk result (λ s. (has_lot row.now ≡ true) × (lot_read row.now ≡ s)) }
-    ensures foreign { IfErr result (λ e. e ≡ Foreign → has_lot row.now ≡ false) }
-{
-    match (
-        gtin_at(row, 0),
-        lot_at(row, 1),
-        day_at(row, 2),
-        number_at(row, 3, ACTS_MAX),
-        flag_at(row, 4),
-    ) {
-        (Ok(gtin), Ok(lot), Ok(expiry), Ok(came), Ok(held)) => Ok(LotRow {
-            lot: LotId { gtin, lot },
-            expiry,
-            came,
-            held,
-        }),
-        _ => Err(TableFault::Foreign),
-    }
-}
+/// How the rows of the table are read.
+struct Lots;
 
-fn to_rows(alloc: Global, rows: &[Row]) -> Result<Vec<LotRow>, TableFault>
-    ensures typed { IfOk result (λ found. AllByRecursion (λ v. has_lot v ≡ true) rows.now) }
-    ensures ok { IfOk result (λ found. map lot_read rows.now ≡ found.items) }
-    ensures foreign { IfErr result (λ e. e ≡ Foreign → ¬ AllByRecursion (λ v. has_lot v ≡ true) rows.now) }
-{
-    let mut found = Vec::new(alloc);
-    for row in rows {
-        found.push(to_row(row)?)?;
+impl Table for Lots {
+    ghost use Rattle.table_words.specs.Typed.{has_lot, lot_read};
+
+    type Record = LotRow;
+
+    ghost has = { has_lot };
+
+    ghost reads = { lot_read };
+
+    fn read(_: Global, row: &Row) -> Result<LotRow, TableFault> {
+        match (
+            gtin_at(row, 0),
+            lot_at(row, 1),
+            day_at(row, 2),
+            number_at(row, 3, ACTS_MAX),
+            flag_at(row, 4),
+        ) {
+            (Ok(gtin), Ok(lot), Ok(expiry), Ok(came), Ok(held)) => Ok(LotRow {
+                lot: LotId { gtin, lot },
+                expiry,
+                came,
+                held,
+            }),
+            _ => Err(TableFault::Foreign),
+        }
     }
-    Ok(found)
 }
 
 /// The rows of this gtin, the oldest first; `Foreign` where one of them has a value that no row has.
@@ -116,8 +115,7 @@ pub fn lots_of<S: Alter>(
     ensures kept { HasCleanDisk (state S.Store tx.new.conn.now) → IsReady (state S.Store tx.old.conn.now).now → KeepsCommit (state S.Store tx.old.conn.now) (state S.Store tx.new.conn.now) }
     ensures survives { Survives (state S.Store tx.old.conn.now) (state S.Store tx.new.conn.now) (λ _. ⊥) }
 {
-    let rows = tx.query_all(LOTS_OF, &[of_gtin(gtin)])?;
-    to_rows(alloc, rows.as_slice())
+    query::<Lots, S>(alloc, tx, LOTS_OF, &[of_gtin(gtin)])
 }
 
 /// The rows of the whole table, the oldest first; `Foreign` where one of them has a value that no row has.
@@ -136,6 +134,5 @@ pub fn all_lots<S: Alter>(
     ensures kept { HasCleanDisk (state S.Store tx.new.conn.now) → IsReady (state S.Store tx.old.conn.now).now → KeepsCommit (state S.Store tx.old.conn.now) (state S.Store tx.new.conn.now) }
     ensures survives { Survives (state S.Store tx.old.conn.now) (state S.Store tx.new.conn.now) (λ _. ⊥) }
 {
-    let rows = tx.query_all(ALL_LOTS, &[])?;
-    to_rows(alloc, rows.as_slice())
+    query::<Lots, S>(alloc, tx, ALL_LOTS, &[])
 }

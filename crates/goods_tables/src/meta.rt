@@ -1,13 +1,13 @@
 //! The table `meta`.
 
-ghost use Rattle.std.specs.Prelude.{◌≡◌, ◌≢◌, ◌≤◌, ◌<◌, true, false, find, map, OnOk, IfOk, IfErr, bytes_eq};
+ghost use Rattle.std.specs.Prelude.{◌≡◌, ◌≢◌, ◌≤◌, ◌<◌, true, find, OnOk, IfOk, IfErr, bytes_eq};
 ghost use Rattle.std.specs.List.{AllByRecursion};
 ghost use Rattle.sqlite.specs.State.{HasCleanDisk, Survives, KeepsCommit, IsUnchanged};
 ghost use Rattle.sqlite.specs.Held.{state};
 ghost use Rattle.sqlite.specs.Values.{bound};
 ghost use Rattle.table_words.specs.Found.{AreRows};
 ghost use Rattle.table_words.specs.Steps.{IsReady, Goes, IsTooBig};
-ghost use Rattle.table_words.specs.Typed.{tables_in, same_lot_id, with_meta, is_meta, has_meta, meta_cells, meta_read, meta_key, same_meta, MetaKey, meta_rows_rows};
+ghost use Rattle.table_words.specs.Typed.{tables_in, same_lot_id, with_meta, is_meta, has_meta, meta_cells, meta_key, same_meta, MetaKey, meta_rows_rows};
 ghost use Rattle.table_words.specs.declared.error.TableFault.TheVariants.{Foreign};
 
 use crate::texts::{ADD_META, CHANGE_META, META_ROWS};
@@ -21,6 +21,7 @@ use table_words::columns::{
     business_day_at, expect_mark, expect_number, number_at, of_business_day, of_mark, of_number,
 };
 use table_words::error::TableFault;
+use table_words::reading::{Table, query};
 
 /// The values of the columns, in their order.
 fn cells(row: &MetaRow) -> [ValueRef<'_>; 6]
@@ -56,37 +57,35 @@ pub fn put_meta<S: Alter>(tx: &mut Transaction<'_, S>, row: &MetaRow) -> Result<
     put(tx, CHANGE_META, ADD_META, &cells(row))
 }
 
-fn to_row(row: &Row) -> Result<MetaRow, TableFault>
-    ensures ok { IfOk result (λ s. (has_meta row.now ≡ true) × (meta_read row.now ≡ s)) }
-    ensures foreign { IfErr result (λ e. e ≡ Foreign → has_meta row.now ≡ false) }
-{
-    match (
-        expect_number(row, 0, 1),
-        expect_mark(row, 1),
-        expect_number(row, 2, SCHEMA_VERSION),
-        business_day_at(row, 3),
-        number_at(row, 4, ACTS_MAX),
-        number_at(row, 5, ACTS_MAX),
-    ) {
-        (Ok(()), Ok(()), Ok(()), Ok(day), Ok(acts), Ok(shipments)) => Ok(MetaRow {
-            day,
-            acts,
-            shipments,
-        }),
-        _ => Err(TableFault::Foreign),
-    }
-}
+/// How the rows of the table are read.
+struct Meta;
 
-fn to_rows(alloc: Global, rows: &[Row]) -> Result<Vec<MetaRow>, TableFault>
-    ensures typed { IfOk result (λ found. AllByRecursion (λ v. has_meta v ≡ true) rows.now) }
-    ensures ok { IfOk result (λ found. map meta_read rows.now ≡ found.items) }
-    ensures foreign { IfErr result (λ e. e ≡ Foreign → ¬ AllByRecursion (λ v. has_meta v ≡ true) rows.now) }
-{
-    let mut found = Vec::new(alloc);
-    for row in rows {
-        found.push(to_row(row)?)?;
+impl Table for Meta {
+    ghost use Rattle.table_words.specs.Typed.{has_meta, meta_read};
+
+    type Record = MetaRow;
+
+    ghost has = { has_meta };
+
+    ghost reads = { meta_read };
+
+    fn read(_: Global, row: &Row) -> Result<MetaRow, TableFault> {
+        match (
+            expect_number(row, 0, 1),
+            expect_mark(row, 1),
+            expect_number(row, 2, SCHEMA_VERSION),
+            business_day_at(row, 3),
+            number_at(row, 4, ACTS_MAX),
+            number_at(row, 5, ACTS_MAX),
+        ) {
+            (Ok(()), Ok(()), Ok(()), Ok(day), Ok(acts), Ok(shipments)) => Ok(MetaRow {
+                day,
+                acts,
+                shipments,
+            }),
+            _ => Err(TableFault::Foreign),
+        }
     }
-    Ok(found)
 }
 
 /// The rows of `meta`, which is one at most, the oldest first; `Foreign` where one of them has a value that no row has.
@@ -105,6 +104,5 @@ pub fn meta_rows<S: Alter>(
     ensures kept { HasCleanDisk (state S.Store tx.new.conn.now) → IsReady (state S.Store tx.old.conn.now).now → KeepsCommit (state S.Store tx.old.conn.now) (state S.Store tx.new.conn.now) }
     ensures survives { Survives (state S.Store tx.old.conn.now) (state S.Store tx.new.conn.now) (λ _. ⊥) }
 {
-    let rows = tx.query_all(META_ROWS, &[of_number(1)])?;
-    to_rows(alloc, rows.as_slice())
+    query::<Meta, S>(alloc, tx, META_ROWS, &[of_number(1)])
 }

@@ -1,13 +1,13 @@
 //! The table `recalls`.
 
-ghost use Rattle.std.specs.Prelude.{◌≡◌, ◌≢◌, ◌≤◌, ◌<◌, true, false, find, map, OnOk, IfOk, IfErr, bytes_eq};
+ghost use Rattle.std.specs.Prelude.{◌≡◌, ◌≢◌, ◌≤◌, ◌<◌, true, find, OnOk, IfOk, IfErr, bytes_eq};
 ghost use Rattle.std.specs.List.{AllByRecursion};
 ghost use Rattle.sqlite.specs.State.{HasCleanDisk, Survives, KeepsCommit, IsUnchanged};
 ghost use Rattle.sqlite.specs.Held.{state};
 ghost use Rattle.sqlite.specs.Values.{bound};
 ghost use Rattle.table_words.specs.Found.{AreRows};
 ghost use Rattle.table_words.specs.Steps.{IsReady, Goes, IsTooBig};
-ghost use Rattle.table_words.specs.Typed.{tables_in, same_lot_id, with_recall, without_recall, is_recall, has_recall, recall_cells, recall_read, recall_key, same_recall, RecallKey, recalls_of_rows};
+ghost use Rattle.table_words.specs.Typed.{tables_in, same_lot_id, with_recall, without_recall, is_recall, has_recall, recall_cells, recall_key, same_recall, RecallKey, recalls_of_rows};
 ghost use Rattle.table_words.specs.declared.error.TableFault.TheVariants.{Foreign};
 
 use crate::texts::{ADD_RECALL, CHANGE_RECALL, DROP_RECALL, RECALLS_OF};
@@ -19,6 +19,7 @@ use std::alloc::Global;
 use table_words::calls::{put, run};
 use table_words::columns::{gtin_at, lot_at, number_at, of_gtin, of_lot, of_number};
 use table_words::error::TableFault;
+use table_words::reading::{Table, query};
 use values::{Gtin, LotId};
 
 /// Drops the row with this key, if there is one.
@@ -62,29 +63,27 @@ pub fn put_recall<S: Alter>(tx: &mut Transaction<'_, S>, row: &RecallRow) -> Res
     put(tx, CHANGE_RECALL, ADD_RECALL, &cells(row))
 }
 
-fn to_row(row: &Row) -> Result<RecallRow, TableFault>
-    ensures ok { IfOk result (λ s. (has_recall row.now ≡ true) × (recall_read row.now ≡ s)) }
-    ensures foreign { IfErr result (λ e. e ≡ Foreign → has_recall row.now ≡ false) }
-{
-    match (gtin_at(row, 0), lot_at(row, 1), number_at(row, 2, ACTS_MAX)) {
-        (Ok(gtin), Ok(lot), Ok(act)) => Ok(RecallRow {
-            lot: LotId { gtin, lot },
-            act,
-        }),
-        _ => Err(TableFault::Foreign),
-    }
-}
+/// How the rows of the table are read.
+struct Recalls;
 
-fn to_rows(alloc: Global, rows: &[Row]) -> Result<Vec<RecallRow>, TableFault>
-    ensures typed { IfOk result (λ found. AllByRecursion (λ v. has_recall v ≡ true) rows.now) }
-    ensures ok { IfOk result (λ found. map recall_read rows.now ≡ found.items) }
-    ensures foreign { IfErr result (λ e. e ≡ Foreign → ¬ AllByRecursion (λ v. has_recall v ≡ true) rows.now) }
-{
-    let mut found = Vec::new(alloc);
-    for row in rows {
-        found.push(to_row(row)?)?;
+impl Table for Recalls {
+    ghost use Rattle.table_words.specs.Typed.{has_recall, recall_read};
+
+    type Record = RecallRow;
+
+    ghost has = { has_recall };
+
+    ghost reads = { recall_read };
+
+    fn read(_: Global, row: &Row) -> Result<RecallRow, TableFault> {
+        match (gtin_at(row, 0), lot_at(row, 1), number_at(row, 2, ACTS_MAX)) {
+            (Ok(gtin), Ok(lot), Ok(act)) => Ok(RecallRow {
+                lot: LotId { gtin, lot },
+                act,
+            }),
+            _ => Err(TableFault::Foreign),
+        }
     }
-    Ok(found)
 }
 
 /// The rows of this gtin, the oldest first; `Foreign` where one of them has a value that no row has.
@@ -104,6 +103,5 @@ pub fn recalls_of<S: Alter>(
     ensures kept { HasCleanDisk (state S.Store tx.new.conn.now) → IsReady (state S.Store tx.old.conn.now).now → KeepsCommit (state S.Store tx.old.conn.now) (state S.Store tx.new.conn.now) }
     ensures survives { Survives (state S.Store tx.old.conn.now) (state S.Store tx.new.conn.now) (λ _. ⊥) }
 {
-    let rows = tx.query_all(RECALLS_OF, &[of_gtin(gtin)])?;
-    to_rows(alloc, rows.as_slice())
+    query::<Recalls, S>(alloc, tx, RECALLS_OF, &[of_gtin(gtin)])
 }

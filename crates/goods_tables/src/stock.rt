@@ -1,6 +1,6 @@
 //! The table `stock`.
 
-ghost use Rattle.std.specs.Prelude.{◌≡◌, ◌≢◌, ◌≤◌, ◌<◌, true, false, [], ◌∷◌, find, map, OnOk, IfOk, IfErr, bytes_eq};
+ghost use Rattle.std.specs.Prelude.{◌≡◌, ◌≢◌, ◌≤◌, ◌<◌, true, [], ◌∷◌, find, OnOk, IfOk, IfErr, bytes_eq};
 ghost use Rattle.std.specs.List.{AllByRecursion};
 ghost use Rattle.sqlite.specs.State.{HasCleanDisk, Survives, KeepsCommit, IsUnchanged};
 ghost use Rattle.sqlite.specs.Held.{state};
@@ -8,7 +8,7 @@ ghost use Rattle.sqlite.specs.Values.{bound};
 ghost use Rattle.sqlite_value.specs.declared.value.Value.TheVariants.{Text as TextValue};
 ghost use Rattle.table_words.specs.Found.{AreRows};
 ghost use Rattle.table_words.specs.Steps.{IsReady, Goes, IsTooBig};
-ghost use Rattle.table_words.specs.Typed.{tables_in, same_lot_id, with_stock, without_stock, is_stock, has_stock, stock_cells, stock_read, stock_key, same_stock, StockKey, stock_of_rows};
+ghost use Rattle.table_words.specs.Typed.{tables_in, same_lot_id, with_stock, without_stock, is_stock, has_stock, stock_cells, stock_key, same_stock, StockKey, stock_of_rows};
 ghost use Rattle.table_words.specs.declared.error.TableFault.TheVariants.{Foreign};
 
 use crate::texts::{ADD_STOCK, CHANGE_STOCK, DROP_STOCK, STOCK_OF};
@@ -22,6 +22,7 @@ use table_words::columns::{
     gtin_at, lot_at, name_at, number_at, of_gtin, of_lot, of_name, of_number,
 };
 use table_words::error::TableFault;
+use table_words::reading::{Table, query};
 use values::{Gtin, LotId, Name};
 
 /// The values of the columns of the key.
@@ -77,35 +78,33 @@ pub fn put_stock<S: Alter>(tx: &mut Transaction<'_, S>, row: &StockRow) -> Resul
     put(tx, CHANGE_STOCK, ADD_STOCK, &cells(row))
 }
 
-fn to_row(row: &Row) -> Result<StockRow, TableFault>
-    ensures ok { IfOk result (λ s. (has_stock row.now ≡ true) × (stock_read row.now ≡ s)) }
-    ensures foreign { IfErr result (λ e. e ≡ Foreign → has_stock row.now ≡ false) }
-{
-    match (
-        gtin_at(row, 0),
-        lot_at(row, 1),
-        name_at(row, 2),
-        number_at(row, 3, UNITS_MAX),
-    ) {
-        (Ok(gtin), Ok(lot), Ok(bin), Ok(qty)) => Ok(StockRow {
-            lot: LotId { gtin, lot },
-            bin,
-            qty,
-        }),
-        _ => Err(TableFault::Foreign),
-    }
-}
+/// How the rows of the table are read.
+struct Stock;
 
-fn to_rows(alloc: Global, rows: &[Row]) -> Result<Vec<StockRow>, TableFault>
-    ensures typed { IfOk result (λ found. AllByRecursion (λ v. has_stock v ≡ true) rows.now) }
-    ensures ok { IfOk result (λ found. map stock_read rows.now ≡ found.items) }
-    ensures foreign { IfErr result (λ e. e ≡ Foreign → ¬ AllByRecursion (λ v. has_stock v ≡ true) rows.now) }
-{
-    let mut found = Vec::new(alloc);
-    for row in rows {
-        found.push(to_row(row)?)?;
+impl Table for Stock {
+    ghost use Rattle.table_words.specs.Typed.{has_stock, stock_read};
+
+    type Record = StockRow;
+
+    ghost has = { has_stock };
+
+    ghost reads = { stock_read };
+
+    fn read(_: Global, row: &Row) -> Result<StockRow, TableFault> {
+        match (
+            gtin_at(row, 0),
+            lot_at(row, 1),
+            name_at(row, 2),
+            number_at(row, 3, UNITS_MAX),
+        ) {
+            (Ok(gtin), Ok(lot), Ok(bin), Ok(qty)) => Ok(StockRow {
+                lot: LotId { gtin, lot },
+                bin,
+                qty,
+            }),
+            _ => Err(TableFault::Foreign),
+        }
     }
-    Ok(found)
 }
 
 /// The rows of this gtin, the oldest first; `Foreign` where one of them has a value that no row has.
@@ -125,6 +124,5 @@ pub fn stock_of<S: Alter>(
     ensures kept { HasCleanDisk (state S.Store tx.new.conn.now) → IsReady (state S.Store tx.old.conn.now).now → KeepsCommit (state S.Store tx.old.conn.now) (state S.Store tx.new.conn.now) }
     ensures survives { Survives (state S.Store tx.old.conn.now) (state S.Store tx.new.conn.now) (λ _. ⊥) }
 {
-    let rows = tx.query_all(STOCK_OF, &[of_gtin(gtin)])?;
-    to_rows(alloc, rows.as_slice())
+    query::<Stock, S>(alloc, tx, STOCK_OF, &[of_gtin(gtin)])
 }

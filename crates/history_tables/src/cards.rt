@@ -1,6 +1,6 @@
 //! The table `cards`.
 
-ghost use Rattle.std.specs.Prelude.{◌≡◌, ◌≢◌, ◌≤◌, ◌<◌, true, false, [], ◌∷◌, pos, find, map, OnOk, IfOk, IfErr, bytes_eq};
+ghost use Rattle.std.specs.Prelude.{◌≡◌, ◌≢◌, ◌≤◌, ◌<◌, true, [], ◌∷◌, pos, find, OnOk, IfOk, IfErr, bytes_eq};
 ghost use Rattle.std.specs.List.{AllByRecursion};
 ghost use Rattle.sqlite.specs.State.{HasCleanDisk, Survives, KeepsCommit, IsUnchanged};
 ghost use Rattle.sqlite.specs.Held.{state};
@@ -8,7 +8,7 @@ ghost use Rattle.sqlite.specs.Values.{bound};
 ghost use Rattle.sqlite_value.specs.declared.value.Value.TheVariants.{Int, Text as TextValue};
 ghost use Rattle.table_words.specs.Found.{AreRows};
 ghost use Rattle.table_words.specs.Steps.{IsReady, Goes, IsTooBig};
-ghost use Rattle.table_words.specs.Typed.{tables_in, same_lot_id, with_card, without_card, is_card, has_card, card_cells, card_read, card_key, same_card, CardKey, cards_of_lot_rows};
+ghost use Rattle.table_words.specs.Typed.{tables_in, same_lot_id, with_card, without_card, is_card, has_card, card_cells, card_key, same_card, CardKey, cards_of_lot_rows};
 ghost use Rattle.table_words.specs.declared.error.TableFault.TheVariants.{Foreign};
 
 use crate::texts::{ADD_CARD, CARDS_OF_LOT, CHANGE_CARD, DROP_CARD};
@@ -23,6 +23,7 @@ use table_words::columns::{
     of_card_kind, of_gtin, of_lot, of_number, of_signed, of_text, signed_at,
 };
 use table_words::error::TableFault;
+use table_words::reading::{Table, query};
 use values::LotId;
 
 /// The values of the columns of the key.
@@ -89,45 +90,43 @@ pub fn put_card<S: Alter>(tx: &mut Transaction<'_, S>, row: &CardRow) -> Result<
     put(tx, CHANGE_CARD, ADD_CARD, &cells(row))
 }
 
-fn to_row(row: &Row) -> Result<CardRow, TableFault>
-    ensures ok { IfOk result (λ s. (has_card row.now ≡ true) × (card_read row.now ≡ s)) }
-    ensures foreign { IfErr result (λ e. e ≡ Foreign → has_card row.now ≡ false) }
-{
-    match (
-        gtin_at(row, 0),
-        lot_at(row, 1),
-        number_at(row, 2, ACTS_MAX),
-        business_day_at(row, 3),
-        card_kind_at(row, 4),
-        note_at(row, 5),
-        signed_at(row, 6),
-        number_at(row, 7, UNITS_MAX),
-    ) {
-        (Ok(gtin), Ok(lot), Ok(act), Ok(day), Ok(kind), Ok(note), Ok(qty), Ok(rest)) => Ok(
-            CardRow {
-                lot: LotId { gtin, lot },
-                act,
-                day,
-                kind,
-                note,
-                qty,
-                rest,
-            },
-        ),
-        _ => Err(TableFault::Foreign),
-    }
-}
+/// How the rows of the table are read.
+struct Cards;
 
-fn to_rows(alloc: Global, rows: &[Row]) -> Result<Vec<CardRow>, TableFault>
-    ensures typed { IfOk result (λ found. AllByRecursion (λ v. has_card v ≡ true) rows.now) }
-    ensures ok { IfOk result (λ found. map card_read rows.now ≡ found.items) }
-    ensures foreign { IfErr result (λ e. e ≡ Foreign → ¬ AllByRecursion (λ v. has_card v ≡ true) rows.now) }
-{
-    let mut found = Vec::new(alloc);
-    for row in rows {
-        found.push(to_row(row)?)?;
+impl Table for Cards {
+    ghost use Rattle.table_words.specs.Typed.{has_card, card_read};
+
+    type Record = CardRow;
+
+    ghost has = { has_card };
+
+    ghost reads = { card_read };
+
+    fn read(_: Global, row: &Row) -> Result<CardRow, TableFault> {
+        match (
+            gtin_at(row, 0),
+            lot_at(row, 1),
+            number_at(row, 2, ACTS_MAX),
+            business_day_at(row, 3),
+            card_kind_at(row, 4),
+            note_at(row, 5),
+            signed_at(row, 6),
+            number_at(row, 7, UNITS_MAX),
+        ) {
+            (Ok(gtin), Ok(lot), Ok(act), Ok(day), Ok(kind), Ok(note), Ok(qty), Ok(rest)) => Ok(
+                CardRow {
+                    lot: LotId { gtin, lot },
+                    act,
+                    day,
+                    kind,
+                    note,
+                    qty,
+                    rest,
+                },
+            ),
+            _ => Err(TableFault::Foreign),
+        }
     }
-    Ok(found)
 }
 
 /// The rows of this lot, the oldest first; `Foreign` where one of them has a value that no row has.
@@ -147,6 +146,10 @@ pub fn cards_of_lot<S: Alter>(
     ensures kept { HasCleanDisk (state S.Store tx.new.conn.now) → IsReady (state S.Store tx.old.conn.now).now → KeepsCommit (state S.Store tx.old.conn.now) (state S.Store tx.new.conn.now) }
     ensures survives { Survives (state S.Store tx.old.conn.now) (state S.Store tx.new.conn.now) (λ _. ⊥) }
 {
-    let rows = tx.query_all(CARDS_OF_LOT, &[of_gtin(&lot.gtin), of_lot(&lot.lot)])?;
-    to_rows(alloc, rows.as_slice())
+    query::<Cards, S>(
+        alloc,
+        tx,
+        CARDS_OF_LOT,
+        &[of_gtin(&lot.gtin), of_lot(&lot.lot)],
+    )
 }

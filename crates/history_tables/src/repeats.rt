@@ -1,13 +1,13 @@
 //! The table `repeats`.
 
-ghost use Rattle.std.specs.Prelude.{◌≡◌, ◌≢◌, ◌≤◌, ◌<◌, true, false, find, map, OnOk, IfOk, IfErr, bytes_eq};
+ghost use Rattle.std.specs.Prelude.{◌≡◌, ◌≢◌, ◌≤◌, ◌<◌, true, find, OnOk, IfOk, IfErr, bytes_eq};
 ghost use Rattle.std.specs.List.{AllByRecursion};
 ghost use Rattle.sqlite.specs.State.{HasCleanDisk, Survives, KeepsCommit, IsUnchanged};
 ghost use Rattle.sqlite.specs.Held.{state};
 ghost use Rattle.sqlite.specs.Values.{bound};
 ghost use Rattle.table_words.specs.Found.{AreRows};
 ghost use Rattle.table_words.specs.Steps.{IsReady, Goes, IsTooBig};
-ghost use Rattle.table_words.specs.Typed.{tables_in, same_lot_id, with_repeat, is_repeat, has_repeat, repeat_cells, repeat_read, repeat_key, same_repeat, RepeatKey, repeats_of_rows};
+ghost use Rattle.table_words.specs.Typed.{tables_in, same_lot_id, with_repeat, is_repeat, has_repeat, repeat_cells, repeat_key, same_repeat, RepeatKey, repeats_of_rows};
 ghost use Rattle.table_words.specs.declared.error.TableFault.TheVariants.{Foreign};
 
 use crate::texts::{ADD_REPEAT, CHANGE_REPEAT, REPEATS_OF};
@@ -21,6 +21,7 @@ use table_words::columns::{
     key_text_at, number_at, of_number, of_short, of_spelling, of_text, short_at, spelling_at,
 };
 use table_words::error::TableFault;
+use table_words::reading::{Table, query};
 use values::Text;
 
 /// The values of the columns, in their order.
@@ -53,38 +54,36 @@ pub fn put_repeat<S: Alter>(tx: &mut Transaction<'_, S>, row: &RepeatRow) -> Res
     put(tx, CHANGE_REPEAT, ADD_REPEAT, &cells(row))
 }
 
-fn to_row(alloc: Global, row: &Row) -> Result<RepeatRow, TableFault>
-    ensures ok { IfOk result (λ s. (has_repeat row.now ≡ true) × (repeat_read row.now ≡ s)) }
-    ensures foreign { IfErr result (λ e. e ≡ Foreign → has_repeat row.now ≡ false) }
-{
-    match (
-        key_text_at(row, 0),
-        number_at(row, 1, ACTS_MAX),
-        short_at(row, 3),
-    ) {
-        (Ok(k), Ok(act), Ok(reply)) => match spelling_at(alloc, row, 2) {
-            Ok(spell) => Ok(RepeatRow {
-                k,
-                act,
-                spell,
-                reply,
-            }),
-            Err(fault) => Err(fault),
-        },
-        _ => Err(TableFault::Foreign),
-    }
-}
+/// How the rows of the table are read.
+struct Repeats;
 
-fn to_rows(alloc: Global, rows: &[Row]) -> Result<Vec<RepeatRow>, TableFault>
-    ensures typed { IfOk result (λ found. AllByRecursion (λ v. has_repeat v ≡ true) rows.now) }
-    ensures ok { IfOk result (λ found. map repeat_read rows.now ≡ found.items) }
-    ensures foreign { IfErr result (λ e. e ≡ Foreign → ¬ AllByRecursion (λ v. has_repeat v ≡ true) rows.now) }
-{
-    let mut found = Vec::new(alloc);
-    for row in rows {
-        found.push(to_row(alloc, row)?)?;
+impl Table for Repeats {
+    ghost use Rattle.table_words.specs.Typed.{has_repeat, repeat_read};
+
+    type Record = RepeatRow;
+
+    ghost has = { has_repeat };
+
+    ghost reads = { repeat_read };
+
+    fn read(alloc: Global, row: &Row) -> Result<RepeatRow, TableFault> {
+        match (
+            key_text_at(row, 0),
+            number_at(row, 1, ACTS_MAX),
+            short_at(row, 3),
+        ) {
+            (Ok(k), Ok(act), Ok(reply)) => match spelling_at(alloc, row, 2) {
+                Ok(spell) => Ok(RepeatRow {
+                    k,
+                    act,
+                    spell,
+                    reply,
+                }),
+                Err(fault) => Err(fault),
+            },
+            _ => Err(TableFault::Foreign),
+        }
     }
-    Ok(found)
 }
 
 /// The rows of this k, the oldest first; `Foreign` where one of them has a value that no row has.
@@ -104,6 +103,5 @@ pub fn repeats_of<S: Alter>(
     ensures kept { HasCleanDisk (state S.Store tx.new.conn.now) → IsReady (state S.Store tx.old.conn.now).now → KeepsCommit (state S.Store tx.old.conn.now) (state S.Store tx.new.conn.now) }
     ensures survives { Survives (state S.Store tx.old.conn.now) (state S.Store tx.new.conn.now) (λ _. ⊥) }
 {
-    let rows = tx.query_all(REPEATS_OF, &[of_text(k)])?;
-    to_rows(alloc, rows.as_slice())
+    query::<Repeats, S>(alloc, tx, REPEATS_OF, &[of_text(k)])
 }

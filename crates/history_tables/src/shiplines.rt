@@ -1,6 +1,6 @@
 //! The table `shiplines`.
 
-ghost use Rattle.std.specs.Prelude.{◌≡◌, ◌≢◌, ◌≤◌, ◌<◌, true, false, [], ◌∷◌, pos, find, map, OnOk, IfOk, IfErr, bytes_eq};
+ghost use Rattle.std.specs.Prelude.{◌≡◌, ◌≢◌, ◌≤◌, ◌<◌, true, [], ◌∷◌, pos, find, OnOk, IfOk, IfErr, bytes_eq};
 ghost use Rattle.std.specs.List.{AllByRecursion};
 ghost use Rattle.sqlite.specs.State.{HasCleanDisk, Survives, KeepsCommit, IsUnchanged};
 ghost use Rattle.sqlite.specs.Held.{state};
@@ -8,7 +8,7 @@ ghost use Rattle.sqlite.specs.Values.{bound};
 ghost use Rattle.sqlite_value.specs.declared.value.Value.TheVariants.{Int, Text as TextValue};
 ghost use Rattle.table_words.specs.Found.{AreRows};
 ghost use Rattle.table_words.specs.Steps.{IsReady, Goes, IsTooBig};
-ghost use Rattle.table_words.specs.Typed.{tables_in, same_lot_id, with_shipline, without_shipline, is_shipline, has_shipline, shipline_cells, shipline_read, shipline_key, same_shipline, ShiplineKey, shiplines_of_lot_rows};
+ghost use Rattle.table_words.specs.Typed.{tables_in, same_lot_id, with_shipline, without_shipline, is_shipline, has_shipline, shipline_cells, shipline_key, same_shipline, ShiplineKey, shiplines_of_lot_rows};
 ghost use Rattle.table_words.specs.declared.error.TableFault.TheVariants.{Foreign};
 
 use crate::texts::{ADD_SHIPLINE, CHANGE_SHIPLINE, DROP_SHIPLINE, SHIPLINES_OF_LOT};
@@ -20,6 +20,7 @@ use std::alloc::Global;
 use table_words::calls::{put, run};
 use table_words::columns::{gtin_at, lot_at, number_at, of_gtin, of_lot, of_number};
 use table_words::error::TableFault;
+use table_words::reading::{Table, query};
 use values::LotId;
 
 /// The values of the columns of the key.
@@ -85,35 +86,33 @@ pub fn put_shipline<S: Alter>(
     put(tx, CHANGE_SHIPLINE, ADD_SHIPLINE, &cells(row))
 }
 
-fn to_row(row: &Row) -> Result<ShiplineRow, TableFault>
-    ensures ok { IfOk result (λ s. (has_shipline row.now ≡ true) × (shipline_read row.now ≡ s)) }
-    ensures foreign { IfErr result (λ e. e ≡ Foreign → has_shipline row.now ≡ false) }
-{
-    match (
-        number_at(row, 0, ACTS_MAX),
-        gtin_at(row, 1),
-        lot_at(row, 2),
-        number_at(row, 3, UNITS_MAX),
-    ) {
-        (Ok(number), Ok(gtin), Ok(lot), Ok(qty)) => Ok(ShiplineRow {
-            number,
-            lot: LotId { gtin, lot },
-            qty,
-        }),
-        _ => Err(TableFault::Foreign),
-    }
-}
+/// How the rows of the table are read.
+struct Shiplines;
 
-fn to_rows(alloc: Global, rows: &[Row]) -> Result<Vec<ShiplineRow>, TableFault>
-    ensures typed { IfOk result (λ found. AllByRecursion (λ v. has_shipline v ≡ true) rows.now) }
-    ensures ok { IfOk result (λ found. map shipline_read rows.now ≡ found.items) }
-    ensures foreign { IfErr result (λ e. e ≡ Foreign → ¬ AllByRecursion (λ v. has_shipline v ≡ true) rows.now) }
-{
-    let mut found = Vec::new(alloc);
-    for row in rows {
-        found.push(to_row(row)?)?;
+impl Table for Shiplines {
+    ghost use Rattle.table_words.specs.Typed.{has_shipline, shipline_read};
+
+    type Record = ShiplineRow;
+
+    ghost has = { has_shipline };
+
+    ghost reads = { shipline_read };
+
+    fn read(_: Global, row: &Row) -> Result<ShiplineRow, TableFault> {
+        match (
+            number_at(row, 0, ACTS_MAX),
+            gtin_at(row, 1),
+            lot_at(row, 2),
+            number_at(row, 3, UNITS_MAX),
+        ) {
+            (Ok(number), Ok(gtin), Ok(lot), Ok(qty)) => Ok(ShiplineRow {
+                number,
+                lot: LotId { gtin, lot },
+                qty,
+            }),
+            _ => Err(TableFault::Foreign),
+        }
     }
-    Ok(found)
 }
 
 /// The rows of this lot, the oldest first; `Foreign` where one of them has a value that no row has.
@@ -133,6 +132,10 @@ pub fn shiplines_of_lot<S: Alter>(
     ensures kept { HasCleanDisk (state S.Store tx.new.conn.now) → IsReady (state S.Store tx.old.conn.now).now → KeepsCommit (state S.Store tx.old.conn.now) (state S.Store tx.new.conn.now) }
     ensures survives { Survives (state S.Store tx.old.conn.now) (state S.Store tx.new.conn.now) (λ _. ⊥) }
 {
-    let rows = tx.query_all(SHIPLINES_OF_LOT, &[of_gtin(&lot.gtin), of_lot(&lot.lot)])?;
-    to_rows(alloc, rows.as_slice())
+    query::<Shiplines, S>(
+        alloc,
+        tx,
+        SHIPLINES_OF_LOT,
+        &[of_gtin(&lot.gtin), of_lot(&lot.lot)],
+    )
 }

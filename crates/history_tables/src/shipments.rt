@@ -1,13 +1,13 @@
 //! The table `shipments`.
 
-ghost use Rattle.std.specs.Prelude.{◌≡◌, ◌≢◌, ◌≤◌, ◌<◌, true, false, find, map, OnOk, IfOk, IfErr, bytes_eq, nat_eq};
+ghost use Rattle.std.specs.Prelude.{◌≡◌, ◌≢◌, ◌≤◌, ◌<◌, true, find, OnOk, IfOk, IfErr, bytes_eq, nat_eq};
 ghost use Rattle.std.specs.List.{AllByRecursion};
 ghost use Rattle.sqlite.specs.State.{HasCleanDisk, Survives, KeepsCommit, IsUnchanged};
 ghost use Rattle.sqlite.specs.Held.{state};
 ghost use Rattle.sqlite.specs.Values.{bound};
 ghost use Rattle.table_words.specs.Found.{AreRows};
 ghost use Rattle.table_words.specs.Steps.{IsReady, Goes, IsTooBig};
-ghost use Rattle.table_words.specs.Typed.{tables_in, same_lot_id, with_shipment, without_shipment, is_shipment, has_shipment, shipment_cells, shipment_read, shipment_key, same_shipment, ShipmentKey, shipments_of_rows};
+ghost use Rattle.table_words.specs.Typed.{tables_in, same_lot_id, with_shipment, without_shipment, is_shipment, has_shipment, shipment_cells, shipment_key, same_shipment, ShipmentKey, shipments_of_rows};
 ghost use Rattle.table_words.specs.declared.error.TableFault.TheVariants.{Foreign};
 
 use crate::texts::{ADD_SHIPMENT, CHANGE_SHIPMENT, DROP_SHIPMENT, SHIPMENTS_OF};
@@ -21,6 +21,7 @@ use table_words::columns::{
     business_day_at, name_at, number_at, of_business_day, of_name, of_number,
 };
 use table_words::error::TableFault;
+use table_words::reading::{Table, query};
 
 /// Drops the row with this key, if there is one. A number above the limit is refused as too big.
 pub fn drop_shipment<S: Alter>(tx: &mut Transaction<'_, S>, number: u64) -> Result<(), TableFault>
@@ -73,36 +74,34 @@ pub fn put_shipment<S: Alter>(
     put(tx, CHANGE_SHIPMENT, ADD_SHIPMENT, &cells(row))
 }
 
-fn to_row(row: &Row) -> Result<ShipmentRow, TableFault>
-    ensures ok { IfOk result (λ s. (has_shipment row.now ≡ true) × (shipment_read row.now ≡ s)) }
-    ensures foreign { IfErr result (λ e. e ≡ Foreign → has_shipment row.now ≡ false) }
-{
-    match (
-        number_at(row, 0, ACTS_MAX),
-        number_at(row, 1, ACTS_MAX),
-        business_day_at(row, 2),
-        name_at(row, 3),
-    ) {
-        (Ok(number), Ok(act), Ok(day), Ok(order)) => Ok(ShipmentRow {
-            number,
-            act,
-            day,
-            order,
-        }),
-        _ => Err(TableFault::Foreign),
-    }
-}
+/// How the rows of the table are read.
+struct Shipments;
 
-fn to_rows(alloc: Global, rows: &[Row]) -> Result<Vec<ShipmentRow>, TableFault>
-    ensures typed { IfOk result (λ found. AllByRecursion (λ v. has_shipment v ≡ true) rows.now) }
-    ensures ok { IfOk result (λ found. map shipment_read rows.now ≡ found.items) }
-    ensures foreign { IfErr result (λ e. e ≡ Foreign → ¬ AllByRecursion (λ v. has_shipment v ≡ true) rows.now) }
-{
-    let mut found = Vec::new(alloc);
-    for row in rows {
-        found.push(to_row(row)?)?;
+impl Table for Shipments {
+    ghost use Rattle.table_words.specs.Typed.{has_shipment, shipment_read};
+
+    type Record = ShipmentRow;
+
+    ghost has = { has_shipment };
+
+    ghost reads = { shipment_read };
+
+    fn read(_: Global, row: &Row) -> Result<ShipmentRow, TableFault> {
+        match (
+            number_at(row, 0, ACTS_MAX),
+            number_at(row, 1, ACTS_MAX),
+            business_day_at(row, 2),
+            name_at(row, 3),
+        ) {
+            (Ok(number), Ok(act), Ok(day), Ok(order)) => Ok(ShipmentRow {
+                number,
+                act,
+                day,
+                order,
+            }),
+            _ => Err(TableFault::Foreign),
+        }
     }
-    Ok(found)
 }
 
 /// The rows of this number, the oldest first; `Foreign` where one of them has a value that no row has.
@@ -126,6 +125,5 @@ pub fn shipments_of<S: Alter>(
     if number > ACTS_MAX {
         return Err(TableFault::too_big());
     }
-    let rows = tx.query_all(SHIPMENTS_OF, &[of_number(number)])?;
-    to_rows(alloc, rows.as_slice())
+    query::<Shipments, S>(alloc, tx, SHIPMENTS_OF, &[of_number(number)])
 }

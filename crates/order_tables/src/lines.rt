@@ -1,13 +1,13 @@
 //! The table `lines`.
 
-ghost use Rattle.std.specs.Prelude.{◌≡◌, ◌≢◌, ◌≤◌, ◌<◌, true, false, find, map, slice_get, OnOk, IfOk, IfErr, bytes_eq};
+ghost use Rattle.std.specs.Prelude.{◌≡◌, ◌≢◌, ◌≤◌, ◌<◌, true, find, slice_get, OnOk, IfOk, IfErr, bytes_eq};
 ghost use Rattle.std.specs.List.{AllByRecursion};
 ghost use Rattle.sqlite.specs.State.{HasCleanDisk, Survives, KeepsCommit, IsUnchanged};
 ghost use Rattle.sqlite.specs.Held.{state};
 ghost use Rattle.sqlite.specs.Values.{bound};
 ghost use Rattle.table_words.specs.Found.{AreRows};
 ghost use Rattle.table_words.specs.Steps.{IsReady, Goes, IsTooBig};
-ghost use Rattle.table_words.specs.Typed.{tables_in, same_lot_id, with_line, without_line, is_line, has_line, line_cells, line_read, line_key, same_line, LineKey, lines_of_order_rows, line_of_rows};
+ghost use Rattle.table_words.specs.Typed.{tables_in, same_lot_id, with_line, without_line, is_line, has_line, line_cells, line_key, same_line, LineKey, lines_of_order_rows, line_of_rows};
 ghost use Rattle.table_words.specs.declared.error.TableFault.TheVariants.{Foreign};
 
 use crate::texts::{ADD_LINE, CHANGE_LINE, DROP_LINE, LINE_OF, LINES_OF_ORDER};
@@ -19,6 +19,7 @@ use std::alloc::Global;
 use table_words::calls::{put, run};
 use table_words::columns::{gtin_at, name_at, number_at, of_gtin, of_name, of_number};
 use table_words::error::TableFault;
+use table_words::reading::{Table, query};
 use values::{Gtin, Name};
 
 /// Drops the row with this key, if there is one.
@@ -69,45 +70,41 @@ pub fn put_line<S: Alter>(tx: &mut Transaction<'_, S>, row: &LineRow) -> Result<
     put(tx, CHANGE_LINE, ADD_LINE, &cells(row))
 }
 
-fn to_row(row: &Row) -> Result<LineRow, TableFault>
-    ensures ok { IfOk result (λ s. (has_line row.now ≡ true) × (line_read row.now ≡ s)) }
-    ensures foreign { IfErr result (λ e. e ≡ Foreign → has_line row.now ≡ false) }
-{
-    match (
-        name_at(row, 0),
-        gtin_at(row, 1),
-        number_at(row, 2, UNITS_MAX),
-        number_at(row, 3, UNITS_MAX),
-    ) {
-        (Ok(order), Ok(gtin), Ok(ordered), Ok(shipped)) => Ok(LineRow {
-            order,
-            gtin,
-            ordered,
-            shipped,
-        }),
-        _ => Err(TableFault::Foreign),
+/// How the rows of the table are read.
+struct Lines;
+
+impl Table for Lines {
+    ghost use Rattle.table_words.specs.Typed.{has_line, line_read};
+
+    type Record = LineRow;
+
+    ghost has = { has_line };
+
+    ghost reads = { line_read };
+
+    fn read(_: Global, row: &Row) -> Result<LineRow, TableFault> {
+        match (
+            name_at(row, 0),
+            gtin_at(row, 1),
+            number_at(row, 2, UNITS_MAX),
+            number_at(row, 3, UNITS_MAX),
+        ) {
+            (Ok(order), Ok(gtin), Ok(ordered), Ok(shipped)) => Ok(LineRow {
+                order,
+                gtin,
+                ordered,
+                shipped,
+            }),
+            _ => Err(TableFault::Foreign),
+        }
     }
 }
 
-fn to_rows(alloc: Global, rows: &[Row]) -> Result<Vec<LineRow>, TableFault>
-    ensures typed { IfOk result (λ found. AllByRecursion (λ v. has_line v ≡ true) rows.now) }
-    ensures ok { IfOk result (λ found. map line_read rows.now ≡ found.items) }
-    ensures foreign { IfErr result (λ e. e ≡ Foreign → ¬ AllByRecursion (λ v. has_line v ≡ true) rows.now) }
+/// The first of the rows, if there is one.
+fn first(rows: Vec<LineRow>) -> Option<LineRow>
+    ensures { slice_get rows.items 0 ≡ result }
 {
-    let mut found = Vec::new(alloc);
-    for row in rows {
-        found.push(to_row(row)?)?;
-    }
-    Ok(found)
-}
-
-fn first_row(alloc: Global, rows: &[Row]) -> Result<Option<LineRow>, TableFault>
-    ensures typed { IfOk result (λ found. AllByRecursion (λ v. has_line v ≡ true) rows.now) }
-    ensures ok { IfOk result (λ found. slice_get (map line_read rows.now) 0 ≡ found) }
-    ensures foreign { IfErr result (λ e. e ≡ Foreign → ¬ AllByRecursion (λ v. has_line v ≡ true) rows.now) }
-{
-    let found = to_rows(alloc, rows)?;
-    Ok(found.first().copied())
+    rows.first().copied()
 }
 
 /// The rows of this order, the oldest first; `Foreign` where one of them has a value that no row has.
@@ -127,8 +124,7 @@ pub fn lines_of_order<S: Alter>(
     ensures kept { HasCleanDisk (state S.Store tx.new.conn.now) → IsReady (state S.Store tx.old.conn.now).now → KeepsCommit (state S.Store tx.old.conn.now) (state S.Store tx.new.conn.now) }
     ensures survives { Survives (state S.Store tx.old.conn.now) (state S.Store tx.new.conn.now) (λ _. ⊥) }
 {
-    let rows = tx.query_all(LINES_OF_ORDER, &[of_name(order)])?;
-    to_rows(alloc, rows.as_slice())
+    query::<Lines, S>(alloc, tx, LINES_OF_ORDER, &[of_name(order)])
 }
 
 /// The row with this key, if there is one; `Foreign` where it has a value that no row has.
@@ -149,6 +145,8 @@ pub fn line_of<S: Alter>(
     ensures kept { HasCleanDisk (state S.Store tx.new.conn.now) → IsReady (state S.Store tx.old.conn.now).now → KeepsCommit (state S.Store tx.old.conn.now) (state S.Store tx.new.conn.now) }
     ensures survives { Survives (state S.Store tx.old.conn.now) (state S.Store tx.new.conn.now) (λ _. ⊥) }
 {
-    let rows = tx.query_all(LINE_OF, &[of_name(order), of_gtin(gtin)])?;
-    first_row(alloc, rows.as_slice())
+    match query::<Lines, S>(alloc, tx, LINE_OF, &[of_name(order), of_gtin(gtin)]) {
+        Ok(rows) => Ok(first(rows)),
+        Err(fault) => Err(fault),
+    }
 }

@@ -1,13 +1,13 @@
 //! The table `orders`.
 
-ghost use Rattle.std.specs.Prelude.{◌≡◌, ◌≢◌, ◌≤◌, ◌<◌, true, false, find, map, OnOk, IfOk, IfErr, bytes_eq};
+ghost use Rattle.std.specs.Prelude.{◌≡◌, ◌≢◌, ◌≤◌, ◌<◌, true, find, OnOk, IfOk, IfErr, bytes_eq};
 ghost use Rattle.std.specs.List.{AllByRecursion};
 ghost use Rattle.sqlite.specs.State.{HasCleanDisk, Survives, KeepsCommit, IsUnchanged};
 ghost use Rattle.sqlite.specs.Held.{state};
 ghost use Rattle.sqlite.specs.Values.{bound};
 ghost use Rattle.table_words.specs.Found.{AreRows, only_if};
 ghost use Rattle.table_words.specs.Steps.{IsReady, Goes, IsTooBig};
-ghost use Rattle.table_words.specs.Typed.{tables_in, same_lot_id, with_order, without_order, is_order, has_order, order_cells, order_read, order_key, same_order, OrderKey, orders_of_rows, is_open_order, open_orders_rows};
+ghost use Rattle.table_words.specs.Typed.{tables_in, same_lot_id, with_order, without_order, is_order, has_order, order_cells, order_key, same_order, OrderKey, orders_of_rows, is_open_order, open_orders_rows};
 ghost use Rattle.table_words.specs.declared.error.TableFault.TheVariants.{Foreign};
 
 use crate::texts::{ADD_ORDER, CHANGE_ORDER, DROP_ORDER, OPEN_ORDERS, ORDERS_OF};
@@ -21,6 +21,7 @@ use table_words::columns::{
     name_at, number_at, of_name, of_number, of_order_state, of_title, order_state_at, title_at,
 };
 use table_words::error::TableFault;
+use table_words::reading::{Table, query};
 use values::Name;
 
 /// Drops the row with this key, if there is one.
@@ -65,36 +66,34 @@ pub fn put_order<S: Alter>(tx: &mut Transaction<'_, S>, row: &OrderRow) -> Resul
     put(tx, CHANGE_ORDER, ADD_ORDER, &cells(row))
 }
 
-fn to_row(row: &Row) -> Result<OrderRow, TableFault>
-    ensures ok { IfOk result (λ s. (has_order row.now ≡ true) × (order_read row.now ≡ s)) }
-    ensures foreign { IfErr result (λ e. e ≡ Foreign → has_order row.now ≡ false) }
-{
-    match (
-        name_at(row, 0),
-        number_at(row, 1, ACTS_MAX),
-        title_at(row, 2),
-        order_state_at(row, 3),
-    ) {
-        (Ok(order), Ok(act), Ok(customer), Ok(state)) => Ok(OrderRow {
-            order,
-            act,
-            customer,
-            state,
-        }),
-        _ => Err(TableFault::Foreign),
-    }
-}
+/// How the rows of the table are read.
+struct Orders;
 
-fn to_rows(alloc: Global, rows: &[Row]) -> Result<Vec<OrderRow>, TableFault>
-    ensures typed { IfOk result (λ found. AllByRecursion (λ v. has_order v ≡ true) rows.now) }
-    ensures ok { IfOk result (λ found. map order_read rows.now ≡ found.items) }
-    ensures foreign { IfErr result (λ e. e ≡ Foreign → ¬ AllByRecursion (λ v. has_order v ≡ true) rows.now) }
-{
-    let mut found = Vec::new(alloc);
-    for row in rows {
-        found.push(to_row(row)?)?;
+impl Table for Orders {
+    ghost use Rattle.table_words.specs.Typed.{has_order, order_read};
+
+    type Record = OrderRow;
+
+    ghost has = { has_order };
+
+    ghost reads = { order_read };
+
+    fn read(_: Global, row: &Row) -> Result<OrderRow, TableFault> {
+        match (
+            name_at(row, 0),
+            number_at(row, 1, ACTS_MAX),
+            title_at(row, 2),
+            order_state_at(row, 3),
+        ) {
+            (Ok(order), Ok(act), Ok(customer), Ok(state)) => Ok(OrderRow {
+                order,
+                act,
+                customer,
+                state,
+            }),
+            _ => Err(TableFault::Foreign),
+        }
     }
-    Ok(found)
 }
 
 /// The rows of this order, the oldest first; `Foreign` where one of them has a value that no row has.
@@ -114,8 +113,7 @@ pub fn orders_of<S: Alter>(
     ensures kept { HasCleanDisk (state S.Store tx.new.conn.now) → IsReady (state S.Store tx.old.conn.now).now → KeepsCommit (state S.Store tx.old.conn.now) (state S.Store tx.new.conn.now) }
     ensures survives { Survives (state S.Store tx.old.conn.now) (state S.Store tx.new.conn.now) (λ _. ⊥) }
 {
-    let rows = tx.query_all(ORDERS_OF, &[of_name(order)])?;
-    to_rows(alloc, rows.as_slice())
+    query::<Orders, S>(alloc, tx, ORDERS_OF, &[of_name(order)])
 }
 
 /// The rows of the open orders, the oldest first; `Foreign` where one of them has a value that no row has.
@@ -134,6 +132,5 @@ pub fn open_orders<S: Alter>(
     ensures kept { HasCleanDisk (state S.Store tx.new.conn.now) → IsReady (state S.Store tx.old.conn.now).now → KeepsCommit (state S.Store tx.old.conn.now) (state S.Store tx.new.conn.now) }
     ensures survives { Survives (state S.Store tx.old.conn.now) (state S.Store tx.new.conn.now) (λ _. ⊥) }
 {
-    let rows = tx.query_all(OPEN_ORDERS, &[of_order_state(OrderState::Open)])?;
-    to_rows(alloc, rows.as_slice())
+    query::<Orders, S>(alloc, tx, OPEN_ORDERS, &[of_order_state(OrderState::Open)])
 }

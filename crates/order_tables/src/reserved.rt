@@ -1,6 +1,6 @@
 //! The table `reserved`.
 
-ghost use Rattle.std.specs.Prelude.{◌≡◌, ◌≢◌, ◌≤◌, ◌<◌, true, false, [], ◌∷◌, find, map, OnOk, IfOk, IfErr, bytes_eq};
+ghost use Rattle.std.specs.Prelude.{◌≡◌, ◌≢◌, ◌≤◌, ◌<◌, true, [], ◌∷◌, find, OnOk, IfOk, IfErr, bytes_eq};
 ghost use Rattle.std.specs.List.{AllByRecursion};
 ghost use Rattle.sqlite.specs.State.{HasCleanDisk, Survives, KeepsCommit, IsUnchanged};
 ghost use Rattle.sqlite.specs.Held.{state};
@@ -8,7 +8,7 @@ ghost use Rattle.sqlite.specs.Values.{bound};
 ghost use Rattle.sqlite_value.specs.declared.value.Value.TheVariants.{Text as TextValue};
 ghost use Rattle.table_words.specs.Found.{AreRows};
 ghost use Rattle.table_words.specs.Steps.{IsReady, Goes, IsTooBig};
-ghost use Rattle.table_words.specs.Typed.{tables_in, same_lot_id, with_reserved, without_reserved, is_reserved, has_reserved, reserved_cells, reserved_read, reserved_key, same_reserved, ReservedKey, reserved_of_item_rows};
+ghost use Rattle.table_words.specs.Typed.{tables_in, same_lot_id, with_reserved, without_reserved, is_reserved, has_reserved, reserved_cells, reserved_key, same_reserved, ReservedKey, reserved_of_item_rows};
 ghost use Rattle.table_words.specs.declared.error.TableFault.TheVariants.{Foreign};
 
 use crate::texts::{ADD_RESERVED, CHANGE_RESERVED, DROP_RESERVED, RESERVED_OF_ITEM};
@@ -22,6 +22,7 @@ use table_words::columns::{
     gtin_at, lot_at, name_at, number_at, of_gtin, of_lot, of_name, of_number,
 };
 use table_words::error::TableFault;
+use table_words::reading::{Table, query};
 use values::{Gtin, LotId, Name};
 
 /// The values of the columns of the key.
@@ -80,35 +81,33 @@ pub fn put_reserved<S: Alter>(
     put(tx, CHANGE_RESERVED, ADD_RESERVED, &cells(row))
 }
 
-fn to_row(row: &Row) -> Result<ReservedRow, TableFault>
-    ensures ok { IfOk result (λ s. (has_reserved row.now ≡ true) × (reserved_read row.now ≡ s)) }
-    ensures foreign { IfErr result (λ e. e ≡ Foreign → has_reserved row.now ≡ false) }
-{
-    match (
-        name_at(row, 0),
-        gtin_at(row, 1),
-        lot_at(row, 2),
-        number_at(row, 3, UNITS_MAX),
-    ) {
-        (Ok(order), Ok(gtin), Ok(lot), Ok(qty)) => Ok(ReservedRow {
-            order,
-            lot: LotId { gtin, lot },
-            qty,
-        }),
-        _ => Err(TableFault::Foreign),
-    }
-}
+/// How the rows of the table are read.
+struct Reserved;
 
-fn to_rows(alloc: Global, rows: &[Row]) -> Result<Vec<ReservedRow>, TableFault>
-    ensures typed { IfOk result (λ found. AllByRecursion (λ v. has_reserved v ≡ true) rows.now) }
-    ensures ok { IfOk result (λ found. map reserved_read rows.now ≡ found.items) }
-    ensures foreign { IfErr result (λ e. e ≡ Foreign → ¬ AllByRecursion (λ v. has_reserved v ≡ true) rows.now) }
-{
-    let mut found = Vec::new(alloc);
-    for row in rows {
-        found.push(to_row(row)?)?;
+impl Table for Reserved {
+    ghost use Rattle.table_words.specs.Typed.{has_reserved, reserved_read};
+
+    type Record = ReservedRow;
+
+    ghost has = { has_reserved };
+
+    ghost reads = { reserved_read };
+
+    fn read(_: Global, row: &Row) -> Result<ReservedRow, TableFault> {
+        match (
+            name_at(row, 0),
+            gtin_at(row, 1),
+            lot_at(row, 2),
+            number_at(row, 3, UNITS_MAX),
+        ) {
+            (Ok(order), Ok(gtin), Ok(lot), Ok(qty)) => Ok(ReservedRow {
+                order,
+                lot: LotId { gtin, lot },
+                qty,
+            }),
+            _ => Err(TableFault::Foreign),
+        }
     }
-    Ok(found)
 }
 
 /// The rows of this gtin, the oldest first; `Foreign` where one of them has a value that no row has.
@@ -128,6 +127,5 @@ pub fn reserved_of_item<S: Alter>(
     ensures kept { HasCleanDisk (state S.Store tx.new.conn.now) → IsReady (state S.Store tx.old.conn.now).now → KeepsCommit (state S.Store tx.old.conn.now) (state S.Store tx.new.conn.now) }
     ensures survives { Survives (state S.Store tx.old.conn.now) (state S.Store tx.new.conn.now) (λ _. ⊥) }
 {
-    let rows = tx.query_all(RESERVED_OF_ITEM, &[of_gtin(gtin)])?;
-    to_rows(alloc, rows.as_slice())
+    query::<Reserved, S>(alloc, tx, RESERVED_OF_ITEM, &[of_gtin(gtin)])
 }

@@ -1,6 +1,6 @@
 //! The table `staged`.
 
-ghost use Rattle.std.specs.Prelude.{◌≡◌, ◌≢◌, ◌≤◌, ◌<◌, ◌++◌, [], ◌∷◌, true, false, [], ◌∷◌, find, map, OnOk, IfOk, IfErr, bytes_eq};
+ghost use Rattle.std.specs.Prelude.{◌≡◌, ◌≢◌, ◌≤◌, ◌<◌, [], ◌∷◌, true, [], ◌∷◌, find, OnOk, IfOk, IfErr, bytes_eq};
 ghost use Rattle.std.specs.List.{AllByRecursion};
 ghost use Rattle.sqlite.specs.State.{HasCleanDisk, Survives, KeepsCommit, IsUnchanged};
 ghost use Rattle.sqlite.specs.Held.{state};
@@ -8,7 +8,7 @@ ghost use Rattle.sqlite.specs.Values.{bound};
 ghost use Rattle.sqlite_value.specs.declared.value.Value.TheVariants.{Text as TextValue};
 ghost use Rattle.table_words.specs.Found.{AreRows};
 ghost use Rattle.table_words.specs.Steps.{IsReady, Goes, IsTooBig};
-ghost use Rattle.table_words.specs.Typed.{tables_in, same_lot_id, with_staged, without_staged, is_staged, has_staged, staged_cells, staged_read, staged_key, same_staged, StagedKey, staged_of_item_rows, all_staged_rows};
+ghost use Rattle.table_words.specs.Typed.{tables_in, same_lot_id, with_staged, without_staged, is_staged, has_staged, staged_cells, staged_key, same_staged, StagedKey, staged_of_item_rows, all_staged_rows};
 ghost use Rattle.table_words.specs.declared.error.TableFault.TheVariants.{Foreign};
 
 use crate::texts::{ADD_STAGED, ALL_STAGED, CHANGE_STAGED, DROP_STAGED, STAGED_OF_ITEM};
@@ -22,6 +22,7 @@ use table_words::columns::{
     gtin_at, lot_at, name_at, number_at, of_gtin, of_lot, of_name, of_number,
 };
 use table_words::error::TableFault;
+use table_words::reading::{Table, query};
 use values::{Gtin, LotId, Name};
 
 /// The values of the columns of the key.
@@ -77,44 +78,33 @@ pub fn put_staged<S: Alter>(tx: &mut Transaction<'_, S>, row: &StagedRow) -> Res
     put(tx, CHANGE_STAGED, ADD_STAGED, &cells(row))
 }
 
-fn to_row(row: &Row) -> Result<StagedRow, TableFault>
-    ensures ok { IfOk result (λ s. (has_staged row.now ≡ true) × (staged_read row.now ≡ s)) }
-    ensures foreign { IfErr result (λ e. e ≡ Foreign → has_staged row.now ≡ false) }
-{
-    match (
-        name_at(row, 0),
-        gtin_at(row, 1),
-        lot_at(row, 2),
-        number_at(row, 3, UNITS_MAX),
-    ) {
-        (Ok(order), Ok(gtin), Ok(lot), Ok(qty)) => Ok(StagedRow {
-            order,
-            lot: LotId { gtin, lot },
-            qty,
-        }),
-        _ => Err(TableFault::Foreign),
-    }
-}
+/// How the rows of the table are read.
+struct Staged;
 
-/// Adds what the row reads as.
-fn add_row(found: &mut Vec<StagedRow>, row: &Row) -> Result<(), TableFault>
-    ensures ok { OnOk result ((has_staged row.now ≡ true) × (found.new.items ≡ found.old.items ++ staged_read row.now ∷ [])) }
-    ensures foreign { IfErr result (λ e. e ≡ Foreign → has_staged row.now ≡ false) }
-{
-    found.push(to_row(row)?)?;
-    Ok(())
-}
+impl Table for Staged {
+    ghost use Rattle.table_words.specs.Typed.{has_staged, staged_read};
 
-fn to_rows(alloc: Global, rows: &[Row]) -> Result<Vec<StagedRow>, TableFault>
-    ensures typed { IfOk result (λ found. AllByRecursion (λ v. has_staged v ≡ true) rows.now) }
-    ensures ok { IfOk result (λ found. map staged_read rows.now ≡ found.items) }
-    ensures foreign { IfErr result (λ e. e ≡ Foreign → ¬ AllByRecursion (λ v. has_staged v ≡ true) rows.now) }
-{
-    let mut found = Vec::new(alloc);
-    for row in rows {
-        add_row(&mut found, row)?;
+    type Record = StagedRow;
+
+    ghost has = { has_staged };
+
+    ghost reads = { staged_read };
+
+    fn read(_: Global, row: &Row) -> Result<StagedRow, TableFault> {
+        match (
+            name_at(row, 0),
+            gtin_at(row, 1),
+            lot_at(row, 2),
+            number_at(row, 3, UNITS_MAX),
+        ) {
+            (Ok(order), Ok(gtin), Ok(lot), Ok(qty)) => Ok(StagedRow {
+                order,
+                lot: LotId { gtin, lot },
+                qty,
+            }),
+            _ => Err(TableFault::Foreign),
+        }
     }
-    Ok(found)
 }
 
 /// The rows of this gtin, the oldest first; `Foreign` where one of them has a value that no row has.
@@ -134,8 +124,7 @@ pub fn staged_of_item<S: Alter>(
     ensures kept { HasCleanDisk (state S.Store tx.new.conn.now) → IsReady (state S.Store tx.old.conn.now).now → KeepsCommit (state S.Store tx.old.conn.now) (state S.Store tx.new.conn.now) }
     ensures survives { Survives (state S.Store tx.old.conn.now) (state S.Store tx.new.conn.now) (λ _. ⊥) }
 {
-    let rows = tx.query_all(STAGED_OF_ITEM, &[of_gtin(gtin)])?;
-    to_rows(alloc, rows.as_slice())
+    query::<Staged, S>(alloc, tx, STAGED_OF_ITEM, &[of_gtin(gtin)])
 }
 
 /// The rows of the whole table, the oldest first; `Foreign` where one of them has a value that no row has.
@@ -154,6 +143,5 @@ pub fn all_staged<S: Alter>(
     ensures kept { HasCleanDisk (state S.Store tx.new.conn.now) → IsReady (state S.Store tx.old.conn.now).now → KeepsCommit (state S.Store tx.old.conn.now) (state S.Store tx.new.conn.now) }
     ensures survives { Survives (state S.Store tx.old.conn.now) (state S.Store tx.new.conn.now) (λ _. ⊥) }
 {
-    let rows = tx.query_all(ALL_STAGED, &[])?;
-    to_rows(alloc, rows.as_slice())
+    query::<Staged, S>(alloc, tx, ALL_STAGED, &[])
 }

@@ -4,3 +4,4 @@
 pub mod calls;
 pub mod columns;
 pub mod error;
+pub mod reading;

@@ -1,2 +1,3 @@
 pub mod Creation
 pub mod Opening
+pub mod Layouts

@@ -1,9 +1,10 @@
 //! Whether a schema that was found is the expected one.
 
-ghost use Rattle.std.specs.Prelude.{◌≡◌, ◌↔◌, IsTrue, IfOk, [], ◌∷◌, map, codes, Some, take, drop};
+ghost use Rattle.std.specs.Prelude.{◌≡◌, ◌↔◌, IsTrue, IfOk, [], ◌∷◌, map, Some};
 ghost use Rattle.sqlite_value.specs.declared.value.Value.TheVariants.{Null};
 ghost use Rattle.sqlite_value.specs.Keys.{plain};
-ghost use Rattle.table_words.specs.Schema.{column, plain_table, keyed_table, id_table, key_index, plain_index, the_schema, the_indexes, schema_0, meta_table, meta_tree, items_table, items_tree, bins_table, bins_tree, lots_table, lots_tree, recalls_table, recalls_tree, stock_table, stock_tree, orders_table, orders_tree, lines_table, lines_tree, staged_table, staged_tree, reserved_table, reserved_tree, shipments_table, shipments_tree, shiplines_table, shiplines_tree, cards_table, cards_tree, repeats_table, repeats_tree, lines_by_gtin, staged_by_gtin, reserved_by_gtin, shiplines_by_lot, orders_by_state};
+ghost use Rattle.tables.specs.Layouts.{table_of, index_of};
+ghost use Rattle.table_words.specs.Schema.{column, plain_table, keyed_table, id_table, the_schema, the_indexes, schema_0};
 
 use sqlite_items::Items;
 use sqlite_schema::code::Terms;
@@ -11,6 +12,318 @@ use sqlite_schema::schema::{Column, Index, Kind, Schema, Stamps, Table};
 use sqlite_value::keys::{Collation, Order};
 use sqlite_value::value::Value;
 use std::alloc::{AllocError, Global};
+
+/// A table as it has to be: STRICT, and each column NOT NULL.
+struct TableLayout {
+    tree: u32,
+    name: &'static [u8],
+    columns: &'static [(&'static [u8], Kind)],
+    /// The places of the PRIMARY KEY; not read where the first column is the rowid.
+    places: &'static [usize],
+    /// Whether the first column is the rowid.
+    has_id: bool,
+}
+
+/// An index as it has to be.
+struct IndexLayout {
+    name: &'static [u8],
+    tree: u32,
+    table: u32,
+    places: &'static [usize],
+    /// Whether it is that of a PRIMARY KEY.
+    is_key: bool,
+}
+
+/// The tables of the books.
+const TABLES: [TableLayout; 14] = [
+    TableLayout {
+        tree: 0,
+        name: b"meta",
+        columns: &[
+            (b"id", Kind::Integer),
+            (b"mark", Kind::Text),
+            (b"version", Kind::Integer),
+            (b"day", Kind::Integer),
+            (b"acts", Kind::Integer),
+            (b"shipments", Kind::Integer),
+        ],
+        places: &[0],
+        has_id: true,
+    },
+    TableLayout {
+        tree: 1,
+        name: b"items",
+        columns: &[(b"gtin", Kind::Text), (b"name", Kind::Text)],
+        places: &[1],
+        has_id: false,
+    },
+    TableLayout {
+        tree: 3,
+        name: b"bins",
+        columns: &[(b"name", Kind::Text), (b"kind", Kind::Text)],
+        places: &[1],
+        has_id: false,
+    },
+    TableLayout {
+        tree: 5,
+        name: b"lots",
+        columns: &[
+            (b"gtin", Kind::Text),
+            (b"lot", Kind::Text),
+            (b"expiry", Kind::Integer),
+            (b"came", Kind::Integer),
+            (b"held", Kind::Integer),
+        ],
+        places: &[1, 2],
+        has_id: false,
+    },
+    TableLayout {
+        tree: 7,
+        name: b"recalls",
+        columns: &[
+            (b"gtin", Kind::Text),
+            (b"lot", Kind::Text),
+            (b"act", Kind::Integer),
+        ],
+        places: &[1, 2],
+        has_id: false,
+    },
+    TableLayout {
+        tree: 9,
+        name: b"stock",
+        columns: &[
+            (b"gtin", Kind::Text),
+            (b"lot", Kind::Text),
+            (b"bin", Kind::Text),
+            (b"qty", Kind::Integer),
+        ],
+        places: &[1, 2, 3],
+        has_id: false,
+    },
+    TableLayout {
+        tree: 11,
+        name: b"orders",
+        columns: &[
+            (b"ord", Kind::Text),
+            (b"act", Kind::Integer),
+            (b"customer", Kind::Text),
+            (b"state", Kind::Text),
+        ],
+        places: &[1],
+        has_id: false,
+    },
+    TableLayout {
+        tree: 13,
+        name: b"lines",
+        columns: &[
+            (b"ord", Kind::Text),
+            (b"gtin", Kind::Text),
+            (b"ordered", Kind::Integer),
+            (b"shipped", Kind::Integer),
+        ],
+        places: &[1, 2],
+        has_id: false,
+    },
+    TableLayout {
+        tree: 15,
+        name: b"staged",
+        columns: &[
+            (b"ord", Kind::Text),
+            (b"gtin", Kind::Text),
+            (b"lot", Kind::Text),
+            (b"qty", Kind::Integer),
+        ],
+        places: &[1, 2, 3],
+        has_id: false,
+    },
+    TableLayout {
+        tree: 17,
+        name: b"reserved",
+        columns: &[
+            (b"ord", Kind::Text),
+            (b"gtin", Kind::Text),
+            (b"lot", Kind::Text),
+            (b"qty", Kind::Integer),
+        ],
+        places: &[1, 2, 3],
+        has_id: false,
+    },
+    TableLayout {
+        tree: 19,
+        name: b"shipments",
+        columns: &[
+            (b"number", Kind::Integer),
+            (b"act", Kind::Integer),
+            (b"day", Kind::Integer),
+            (b"ord", Kind::Text),
+        ],
+        places: &[0],
+        has_id: true,
+    },
+    TableLayout {
+        tree: 20,
+        name: b"shiplines",
+        columns: &[
+            (b"number", Kind::Integer),
+            (b"gtin", Kind::Text),
+            (b"lot", Kind::Text),
+            (b"qty", Kind::Integer),
+        ],
+        places: &[1, 2, 3],
+        has_id: false,
+    },
+    TableLayout {
+        tree: 22,
+        name: b"cards",
+        columns: &[
+            (b"gtin", Kind::Text),
+            (b"lot", Kind::Text),
+            (b"act", Kind::Integer),
+            (b"day", Kind::Integer),
+            (b"kind", Kind::Text),
+            (b"note", Kind::Text),
+            (b"qty", Kind::Integer),
+            (b"rest", Kind::Integer),
+        ],
+        places: &[1, 2, 3],
+        has_id: false,
+    },
+    TableLayout {
+        tree: 24,
+        name: b"repeats",
+        columns: &[
+            (b"k", Kind::Text),
+            (b"act", Kind::Integer),
+            (b"spell", Kind::Text),
+            (b"reply", Kind::Text),
+        ],
+        places: &[1],
+        has_id: false,
+    },
+];
+
+/// Their indexes, those of the keys first.
+const INDEXES: [IndexLayout; 17] = [
+    IndexLayout {
+        name: b"sqlite_autoindex_items_1",
+        tree: 2,
+        table: 1,
+        places: &[1],
+        is_key: true,
+    },
+    IndexLayout {
+        name: b"sqlite_autoindex_bins_1",
+        tree: 4,
+        table: 3,
+        places: &[1],
+        is_key: true,
+    },
+    IndexLayout {
+        name: b"sqlite_autoindex_lots_1",
+        tree: 6,
+        table: 5,
+        places: &[1, 2],
+        is_key: true,
+    },
+    IndexLayout {
+        name: b"sqlite_autoindex_recalls_1",
+        tree: 8,
+        table: 7,
+        places: &[1, 2],
+        is_key: true,
+    },
+    IndexLayout {
+        name: b"sqlite_autoindex_stock_1",
+        tree: 10,
+        table: 9,
+        places: &[1, 2, 3],
+        is_key: true,
+    },
+    IndexLayout {
+        name: b"sqlite_autoindex_orders_1",
+        tree: 12,
+        table: 11,
+        places: &[1],
+        is_key: true,
+    },
+    IndexLayout {
+        name: b"sqlite_autoindex_lines_1",
+        tree: 14,
+        table: 13,
+        places: &[1, 2],
+        is_key: true,
+    },
+    IndexLayout {
+        name: b"sqlite_autoindex_staged_1",
+        tree: 16,
+        table: 15,
+        places: &[1, 2, 3],
+        is_key: true,
+    },
+    IndexLayout {
+        name: b"sqlite_autoindex_reserved_1",
+        tree: 18,
+        table: 17,
+        places: &[1, 2, 3],
+        is_key: true,
+    },
+    IndexLayout {
+        name: b"sqlite_autoindex_shiplines_1",
+        tree: 21,
+        table: 20,
+        places: &[1, 2, 3],
+        is_key: true,
+    },
+    IndexLayout {
+        name: b"sqlite_autoindex_cards_1",
+        tree: 23,
+        table: 22,
+        places: &[1, 2, 3],
+        is_key: true,
+    },
+    IndexLayout {
+        name: b"sqlite_autoindex_repeats_1",
+        tree: 25,
+        table: 24,
+        places: &[1],
+        is_key: true,
+    },
+    IndexLayout {
+        name: b"lines_by_gtin",
+        tree: 26,
+        table: 13,
+        places: &[2],
+        is_key: false,
+    },
+    IndexLayout {
+        name: b"staged_by_gtin",
+        tree: 27,
+        table: 15,
+        places: &[2],
+        is_key: false,
+    },
+    IndexLayout {
+        name: b"reserved_by_gtin",
+        tree: 28,
+        table: 17,
+        places: &[2],
+        is_key: false,
+    },
+    IndexLayout {
+        name: b"shiplines_by_lot",
+        tree: 29,
+        table: 20,
+        places: &[2, 3],
+        is_key: false,
+    },
+    IndexLayout {
+        name: b"orders_by_state",
+        tree: 30,
+        table: 11,
+        places: &[4],
+        is_key: false,
+    },
+];
 
 fn is_null(value: &Value) -> bool
     ensures { IsTrue result ↔ (value.now ≡ Null) }
@@ -143,380 +456,75 @@ pub fn is_id_table(
     Ok(is_first(found.key) && found.uniques.is_empty() && found.orders.is_empty())
 }
 
-/// Whether it is the index of a PRIMARY KEY at these places.
-fn is_key_index(found: &Index, name: &[u8], tree: u32, table: u32, places: &[usize]) -> bool
-    ensures { IsTrue result ↔ (found.now ≡ key_index name.now tree table places.now) }
+/// Whether it is the table of this layout.
+fn is_table(alloc: Global, found: &Table, layout: &TableLayout) -> Result<bool, AllocError>
+    ensures { IfOk result (λ same. IsTrue same ↔ (found.now ≡ table_of layout.now)) }
 {
-    found.name.as_slice() == name
-        && found.tree == tree
-        && found.table == table
-        && found.columns.as_slice() == places
-        && found.order.digits == 0
-        && found.is_unique
-}
-
-fn is_meta(alloc: Global, found: &Table) -> Result<bool, AllocError>
-    ensures { IfOk result (λ same. IsTrue same ↔ (found.now ≡ meta_table meta_tree)) }
-{
-    let columns = [
-        (b"id".as_slice(), Kind::Integer),
-        (b"mark".as_slice(), Kind::Text),
-        (b"version".as_slice(), Kind::Integer),
-        (b"day".as_slice(), Kind::Integer),
-        (b"acts".as_slice(), Kind::Integer),
-        (b"shipments".as_slice(), Kind::Integer),
-    ];
-    is_id_table(alloc, found, 0, b"meta", &columns)
-}
-
-fn is_items(alloc: Global, found: &Table) -> Result<bool, AllocError>
-    ensures { IfOk result (λ same. IsTrue same ↔ (found.now ≡ items_table items_tree)) }
-{
-    let columns = [
-        (b"gtin".as_slice(), Kind::Text),
-        (b"name".as_slice(), Kind::Text),
-    ];
-    is_keyed_table(alloc, found, 1, b"items", &columns, &[1])
-}
-
-fn is_bins(alloc: Global, found: &Table) -> Result<bool, AllocError>
-    ensures { IfOk result (λ same. IsTrue same ↔ (found.now ≡ bins_table bins_tree)) }
-{
-    let columns = [
-        (b"name".as_slice(), Kind::Text),
-        (b"kind".as_slice(), Kind::Text),
-    ];
-    is_keyed_table(alloc, found, 3, b"bins", &columns, &[1])
-}
-
-fn is_lots(alloc: Global, found: &Table) -> Result<bool, AllocError>
-    ensures { IfOk result (λ same. IsTrue same ↔ (found.now ≡ lots_table lots_tree)) }
-{
-    let columns = [
-        (b"gtin".as_slice(), Kind::Text),
-        (b"lot".as_slice(), Kind::Text),
-        (b"expiry".as_slice(), Kind::Integer),
-        (b"came".as_slice(), Kind::Integer),
-        (b"held".as_slice(), Kind::Integer),
-    ];
-    is_keyed_table(alloc, found, 5, b"lots", &columns, &[1, 2])
-}
-
-fn is_recalls(alloc: Global, found: &Table) -> Result<bool, AllocError>
-    ensures { IfOk result (λ same. IsTrue same ↔ (found.now ≡ recalls_table recalls_tree)) }
-{
-    let columns = [
-        (b"gtin".as_slice(), Kind::Text),
-        (b"lot".as_slice(), Kind::Text),
-        (b"act".as_slice(), Kind::Integer),
-    ];
-    is_keyed_table(alloc, found, 7, b"recalls", &columns, &[1, 2])
-}
-
-fn is_stock(alloc: Global, found: &Table) -> Result<bool, AllocError>
-    ensures { IfOk result (λ same. IsTrue same ↔ (found.now ≡ stock_table stock_tree)) }
-{
-    let columns = [
-        (b"gtin".as_slice(), Kind::Text),
-        (b"lot".as_slice(), Kind::Text),
-        (b"bin".as_slice(), Kind::Text),
-        (b"qty".as_slice(), Kind::Integer),
-    ];
-    is_keyed_table(alloc, found, 9, b"stock", &columns, &[1, 2, 3])
-}
-
-fn is_orders(alloc: Global, found: &Table) -> Result<bool, AllocError>
-    ensures { IfOk result (λ same. IsTrue same ↔ (found.now ≡ orders_table orders_tree)) }
-{
-    let columns = [
-        (b"ord".as_slice(), Kind::Text),
-        (b"act".as_slice(), Kind::Integer),
-        (b"customer".as_slice(), Kind::Text),
-        (b"state".as_slice(), Kind::Text),
-    ];
-    is_keyed_table(alloc, found, 11, b"orders", &columns, &[1])
-}
-
-fn is_lines(alloc: Global, found: &Table) -> Result<bool, AllocError>
-    ensures { IfOk result (λ same. IsTrue same ↔ (found.now ≡ lines_table lines_tree)) }
-{
-    let columns = [
-        (b"ord".as_slice(), Kind::Text),
-        (b"gtin".as_slice(), Kind::Text),
-        (b"ordered".as_slice(), Kind::Integer),
-        (b"shipped".as_slice(), Kind::Integer),
-    ];
-    is_keyed_table(alloc, found, 13, b"lines", &columns, &[1, 2])
-}
-
-fn is_staged(alloc: Global, found: &Table) -> Result<bool, AllocError>
-    ensures { IfOk result (λ same. IsTrue same ↔ (found.now ≡ staged_table staged_tree)) }
-{
-    let columns = [
-        (b"ord".as_slice(), Kind::Text),
-        (b"gtin".as_slice(), Kind::Text),
-        (b"lot".as_slice(), Kind::Text),
-        (b"qty".as_slice(), Kind::Integer),
-    ];
-    is_keyed_table(alloc, found, 15, b"staged", &columns, &[1, 2, 3])
-}
-
-fn is_reserved(alloc: Global, found: &Table) -> Result<bool, AllocError>
-    ensures { IfOk result (λ same. IsTrue same ↔ (found.now ≡ reserved_table reserved_tree)) }
-{
-    let columns = [
-        (b"ord".as_slice(), Kind::Text),
-        (b"gtin".as_slice(), Kind::Text),
-        (b"lot".as_slice(), Kind::Text),
-        (b"qty".as_slice(), Kind::Integer),
-    ];
-    is_keyed_table(alloc, found, 17, b"reserved", &columns, &[1, 2, 3])
-}
-
-fn is_shipments(alloc: Global, found: &Table) -> Result<bool, AllocError>
-    ensures { IfOk result (λ same. IsTrue same ↔ (found.now ≡ shipments_table shipments_tree)) }
-{
-    let columns = [
-        (b"number".as_slice(), Kind::Integer),
-        (b"act".as_slice(), Kind::Integer),
-        (b"day".as_slice(), Kind::Integer),
-        (b"ord".as_slice(), Kind::Text),
-    ];
-    is_id_table(alloc, found, 19, b"shipments", &columns)
-}
-
-fn is_shiplines(alloc: Global, found: &Table) -> Result<bool, AllocError>
-    ensures { IfOk result (λ same. IsTrue same ↔ (found.now ≡ shiplines_table shiplines_tree)) }
-{
-    let columns = [
-        (b"number".as_slice(), Kind::Integer),
-        (b"gtin".as_slice(), Kind::Text),
-        (b"lot".as_slice(), Kind::Text),
-        (b"qty".as_slice(), Kind::Integer),
-    ];
-    is_keyed_table(alloc, found, 20, b"shiplines", &columns, &[1, 2, 3])
-}
-
-fn is_cards(alloc: Global, found: &Table) -> Result<bool, AllocError>
-    ensures { IfOk result (λ same. IsTrue same ↔ (found.now ≡ cards_table cards_tree)) }
-{
-    let columns = [
-        (b"gtin".as_slice(), Kind::Text),
-        (b"lot".as_slice(), Kind::Text),
-        (b"act".as_slice(), Kind::Integer),
-        (b"day".as_slice(), Kind::Integer),
-        (b"kind".as_slice(), Kind::Text),
-        (b"note".as_slice(), Kind::Text),
-        (b"qty".as_slice(), Kind::Integer),
-        (b"rest".as_slice(), Kind::Integer),
-    ];
-    is_keyed_table(alloc, found, 22, b"cards", &columns, &[1, 2, 3])
-}
-
-fn is_repeats(alloc: Global, found: &Table) -> Result<bool, AllocError>
-    ensures { IfOk result (λ same. IsTrue same ↔ (found.now ≡ repeats_table repeats_tree)) }
-{
-    let columns = [
-        (b"k".as_slice(), Kind::Text),
-        (b"act".as_slice(), Kind::Integer),
-        (b"spell".as_slice(), Kind::Text),
-        (b"reply".as_slice(), Kind::Text),
-    ];
-    is_keyed_table(alloc, found, 24, b"repeats", &columns, &[1])
-}
-
-fn is_plain_index(found: &Index, name: &[u8], tree: u32, table: u32, places: &[usize]) -> bool
-    ensures { IsTrue result ↔ (found.now ≡ plain_index name.now tree table places.now) }
-{
-    found.name.as_slice() == name
-        && found.tree == tree
-        && found.table == table
-        && found.columns.as_slice() == places
-        && found.order.digits == 0
-        && !found.is_unique
-}
-
-fn are_first_tables(alloc: Global, found: &[Table]) -> Result<bool, AllocError>
-    ensures { IfOk result (λ same. IsTrue same ↔ (found.now ≡ meta_table meta_tree ∷ items_table items_tree ∷ bins_table bins_tree ∷ lots_table lots_tree ∷ recalls_table recalls_tree ∷ [])) }
-{
-    match found {
-        [first, second, third, fourth, fifth] => Ok(
-            is_meta(alloc, first)?
-                && is_items(alloc, second)?
-                && is_bins(alloc, third)?
-                && is_lots(alloc, fourth)?
-                && is_recalls(alloc, fifth)?,
-        ),
-        _ => Ok(false),
+    if layout.has_id {
+        return is_id_table(alloc, found, layout.tree, layout.name, layout.columns);
     }
+    is_keyed_table(
+        alloc,
+        found,
+        layout.tree,
+        layout.name,
+        layout.columns,
+        layout.places,
+    )
 }
 
-fn are_next_tables(alloc: Global, found: &[Table]) -> Result<bool, AllocError>
-    ensures { IfOk result (λ same. IsTrue same ↔ (found.now ≡ stock_table stock_tree ∷ orders_table orders_tree ∷ lines_table lines_tree ∷ staged_table staged_tree ∷ reserved_table reserved_tree ∷ [])) }
+/// Whether they are the tables of these layouts, in their order.
+fn tables_match(alloc: Global, found: &[Table], layouts: &[TableLayout]) -> Result<bool, AllocError>
+    ensures { IfOk result (λ same. IsTrue same ↔ (found.now ≡ map table_of layouts.now)) }
 {
-    match found {
-        [first, second, third, fourth, fifth] => Ok(
-            is_stock(alloc, first)?
-                && is_orders(alloc, second)?
-                && is_lines(alloc, third)?
-                && is_staged(alloc, fourth)?
-                && is_reserved(alloc, fifth)?,
-        ),
-        _ => Ok(false),
+    if found.len() != layouts.len() {
+        return Ok(false);
     }
-}
-
-fn are_last_tables(alloc: Global, found: &[Table]) -> Result<bool, AllocError>
-    ensures { IfOk result (λ same. IsTrue same ↔ (found.now ≡ shipments_table shipments_tree ∷ shiplines_table shiplines_tree ∷ cards_table cards_tree ∷ repeats_table repeats_tree ∷ [])) }
-{
-    match found {
-        [first, second, third, fourth] => Ok(
-            is_shipments(alloc, first)?
-                && is_shiplines(alloc, second)?
-                && is_cards(alloc, third)?
-                && is_repeats(alloc, fourth)?,
-        ),
-        _ => Ok(false),
+    for at in 0..found.len() {
+        if !is_table(alloc, &found[at], &layouts[at])? {
+            return Ok(false);
+        }
     }
+    Ok(true)
 }
 
 fn are_tables(alloc: Global, found: &[Table]) -> Result<bool, AllocError>
     ensures { IfOk result (λ same. IsTrue same ↔ (found.now ≡ the_schema.tables)) }
 {
-    if found.len() != 14 {
-        return Ok(false);
-    }
-    Ok(
-        are_first_tables(alloc, &found[..5])?
-            && are_next_tables(alloc, &found[5..10])?
-            && are_last_tables(alloc, &found[10..])?,
-    )
+    tables_match(alloc, found, &TABLES)
 }
 
-fn are_item_and_bin_keys(found: &[Index]) -> bool
-    ensures { IsTrue result ↔ (found.now ≡ key_index (codes "sqlite_autoindex_items_1") 2 1 (1 ∷ []) ∷ key_index (codes "sqlite_autoindex_bins_1") 4 3 (1 ∷ []) ∷ []) }
+/// Whether it is the index of this layout.
+fn is_index(found: &Index, layout: &IndexLayout) -> bool
+    ensures { IsTrue result ↔ (found.now ≡ index_of layout.now) }
 {
-    match found {
-        [first, second] => {
-            is_key_index(first, b"sqlite_autoindex_items_1", 2, 1, &[1])
-                && is_key_index(second, b"sqlite_autoindex_bins_1", 4, 3, &[1])
-        }
-        _ => false,
-    }
+    found.name.as_slice() == layout.name
+        && found.tree == layout.tree
+        && found.table == layout.table
+        && found.columns.as_slice() == layout.places
+        && found.order.digits == 0
+        && found.is_unique == layout.is_key
 }
 
-fn are_lot_and_recall_keys(found: &[Index]) -> bool
-    ensures { IsTrue result ↔ (found.now ≡ key_index (codes "sqlite_autoindex_lots_1") 6 5 (1 ∷ 2 ∷ []) ∷ key_index (codes "sqlite_autoindex_recalls_1") 8 7 (1 ∷ 2 ∷ []) ∷ []) }
+/// Whether they are the indexes of these layouts, in their order.
+fn indexes_match(found: &[Index], layouts: &[IndexLayout]) -> bool
+    ensures { IsTrue result ↔ (found.now ≡ map index_of layouts.now) }
 {
-    match found {
-        [first, second] => {
-            is_key_index(first, b"sqlite_autoindex_lots_1", 6, 5, &[1, 2])
-                && is_key_index(second, b"sqlite_autoindex_recalls_1", 8, 7, &[1, 2])
-        }
-        _ => false,
-    }
-}
-
-fn are_first_indexes(found: &[Index]) -> bool
-    ensures { IsTrue result ↔ (found.now ≡ key_index (codes "sqlite_autoindex_items_1") 2 1 (1 ∷ []) ∷ key_index (codes "sqlite_autoindex_bins_1") 4 3 (1 ∷ []) ∷ key_index (codes "sqlite_autoindex_lots_1") 6 5 (1 ∷ 2 ∷ []) ∷ key_index (codes "sqlite_autoindex_recalls_1") 8 7 (1 ∷ 2 ∷ []) ∷ []) }
-{
-    if found.len() != 4 {
+    if found.len() != layouts.len() {
         return false;
     }
-    are_item_and_bin_keys(&found[..2]) && are_lot_and_recall_keys(&found[2..])
-}
-
-fn are_stock_and_order_keys(found: &[Index]) -> bool
-    ensures { IsTrue result ↔ (found.now ≡ key_index (codes "sqlite_autoindex_stock_1") 10 9 (1 ∷ 2 ∷ 3 ∷ []) ∷ key_index (codes "sqlite_autoindex_orders_1") 12 11 (1 ∷ []) ∷ []) }
-{
-    match found {
-        [first, second] => {
-            is_key_index(first, b"sqlite_autoindex_stock_1", 10, 9, &[1, 2, 3])
-                && is_key_index(second, b"sqlite_autoindex_orders_1", 12, 11, &[1])
+    for at in 0..found.len() {
+        if !is_index(&found[at], &layouts[at]) {
+            return false;
         }
-        _ => false,
     }
-}
-
-fn are_line_and_staged_keys(found: &[Index]) -> bool
-    ensures { IsTrue result ↔ (found.now ≡ key_index (codes "sqlite_autoindex_lines_1") 14 13 (1 ∷ 2 ∷ []) ∷ key_index (codes "sqlite_autoindex_staged_1") 16 15 (1 ∷ 2 ∷ 3 ∷ []) ∷ []) }
-{
-    match found {
-        [first, second] => {
-            is_key_index(first, b"sqlite_autoindex_lines_1", 14, 13, &[1, 2])
-                && is_key_index(second, b"sqlite_autoindex_staged_1", 16, 15, &[1, 2, 3])
-        }
-        _ => false,
-    }
-}
-
-fn are_second_indexes(found: &[Index]) -> bool
-    ensures { IsTrue result ↔ (found.now ≡ key_index (codes "sqlite_autoindex_stock_1") 10 9 (1 ∷ 2 ∷ 3 ∷ []) ∷ key_index (codes "sqlite_autoindex_orders_1") 12 11 (1 ∷ []) ∷ key_index (codes "sqlite_autoindex_lines_1") 14 13 (1 ∷ 2 ∷ []) ∷ key_index (codes "sqlite_autoindex_staged_1") 16 15 (1 ∷ 2 ∷ 3 ∷ []) ∷ []) }
-{
-    if found.len() != 4 {
-        return false;
-    }
-    are_stock_and_order_keys(&found[..2]) && are_line_and_staged_keys(&found[2..])
-}
-
-fn are_reserved_and_shipline_keys(found: &[Index]) -> bool
-    ensures { IsTrue result ↔ (found.now ≡ key_index (codes "sqlite_autoindex_reserved_1") 18 17 (1 ∷ 2 ∷ 3 ∷ []) ∷ key_index (codes "sqlite_autoindex_shiplines_1") 21 20 (1 ∷ 2 ∷ 3 ∷ []) ∷ []) }
-{
-    match found {
-        [first, second] => {
-            is_key_index(first, b"sqlite_autoindex_reserved_1", 18, 17, &[1, 2, 3])
-                && is_key_index(second, b"sqlite_autoindex_shiplines_1", 21, 20, &[1, 2, 3])
-        }
-        _ => false,
-    }
-}
-
-fn are_card_and_repeat_keys(found: &[Index]) -> bool
-    ensures { IsTrue result ↔ (found.now ≡ key_index (codes "sqlite_autoindex_cards_1") 23 22 (1 ∷ 2 ∷ 3 ∷ []) ∷ key_index (codes "sqlite_autoindex_repeats_1") 25 24 (1 ∷ []) ∷ []) }
-{
-    match found {
-        [first, second] => {
-            is_key_index(first, b"sqlite_autoindex_cards_1", 23, 22, &[1, 2, 3])
-                && is_key_index(second, b"sqlite_autoindex_repeats_1", 25, 24, &[1])
-        }
-        _ => false,
-    }
-}
-
-fn are_third_indexes(found: &[Index]) -> bool
-    ensures { IsTrue result ↔ (found.now ≡ key_index (codes "sqlite_autoindex_reserved_1") 18 17 (1 ∷ 2 ∷ 3 ∷ []) ∷ key_index (codes "sqlite_autoindex_shiplines_1") 21 20 (1 ∷ 2 ∷ 3 ∷ []) ∷ key_index (codes "sqlite_autoindex_cards_1") 23 22 (1 ∷ 2 ∷ 3 ∷ []) ∷ key_index (codes "sqlite_autoindex_repeats_1") 25 24 (1 ∷ []) ∷ []) }
-{
-    if found.len() != 4 {
-        return false;
-    }
-    are_reserved_and_shipline_keys(&found[..2]) && are_card_and_repeat_keys(&found[2..])
-}
-
-fn are_last_indexes(found: &[Index]) -> bool
-    ensures { IsTrue result ↔ (found.now ≡ lines_by_gtin 26 ∷ staged_by_gtin 27 ∷ reserved_by_gtin 28 ∷ shiplines_by_lot 29 ∷ orders_by_state 30 ∷ []) }
-{
-    match found {
-        [first, second, third, fourth, fifth] => {
-            is_plain_index(first, b"lines_by_gtin", 26, 13, &[2])
-                && is_plain_index(second, b"staged_by_gtin", 27, 15, &[2])
-                && is_plain_index(third, b"reserved_by_gtin", 28, 17, &[2])
-                && is_plain_index(fourth, b"shiplines_by_lot", 29, 20, &[2, 3])
-                && is_plain_index(fifth, b"orders_by_state", 30, 11, &[4])
-        }
-        _ => false,
-    }
+    true
 }
 
 fn are_indexes(found: &[Index]) -> bool
     ensures { IsTrue result ↔ (found.now ≡ the_indexes) }
 {
-    if found.len() != 17 {
-        return false;
-    }
-    are_first_indexes(&found[..4])
-        && are_second_indexes(&found[4..8])
-        && are_third_indexes(&found[8..12])
-        && are_last_indexes(&found[12..])
+    indexes_match(found, &INDEXES)
 }
 
 /// Whether the schema is the expected one.

@@ -1,37 +1,28 @@
-use Rattle.std.proofs.Common.{◌≡◌, true, map, refl, sym, ap, subst, ◌∙◌}
+use Rattle.std.proofs.Common.{◌≡◌, refl, sym, subst}
+use Rattle.sqlite.specs.Given.{IsPlain}
 use Rattle.sqlite.specs.Held.{state}
-use Rattle.sqlite.proofs.Callers.{IsPlain}
 use Rattle.sqlite.specs.Listing.{understood}
-use Rattle.std.specs.List.{AllByRecursion}
-use Rattle.table_words.specs.Typed.{has_meta, meta_read}
-use Rattle.table_words.proofs.CallLemmas.{kept_unchanged, query_keeps, query_same, on_ok, on_ok_if, if_ok, if_err, if_both}
+use Rattle.table_words.proofs.CallLemmas.{on_ok_if, if_ok, if_err}
 use Rattle.goods_tables.proofs.MetaLemmas.{meta_rows_text, meta_rows_plain, meta_rows_reads, meta_rows_typed}
 use Rattle.goods_tables.proofs.meta.meta_rows.Goals as goal
 
-pub returns-in_err-rows-clause-kept : goal.returns-in_err-rows-clause-kept
-returns-in_err-rows-clause-kept g c clean ready = query_keeps meta_rows_text _ (state g.S.Store c.args.tx.now.conn.now) (state g.S.Store c.query_all.new.self.conn.now) _ (subst (λ s. IsPlain (understood s meta_rows_text)) (sym ready.schema_is) meta_rows_plain) (c.in_err-rows.ensures.err clean)
-
 pub returns-clause-rows : goal.returns-clause-rows
 returns-clause-rows g c clean ready =
-    let shown = rw c.of_number.ensures.value at (c.in_ok-rows.ensures.ok clean) in
-    if_ok c.to_rows.result _ _ (if_both c.to_rows.result _ _ c.to_rows.ensures.typed c.to_rows.ensures.ok) (λ found are.
-    (meta_rows_reads (state g.S.Store c.args.tx.now.conn.now) (state g.S.Store c.query_all.new.self.conn.now) 1 c.in_ok-rows.rows.items found.items ready shown
-    (subst (AllByRecursion (λ v. has_meta v ≡ true)) c.as_slice.ensures.value are.0) (ap (map meta_read) (sym c.as_slice.ensures.value) ∙ are.1)).found 1 refl)
+    if_ok c.query.result _ _ (rw c.of_number.ensures.value at (c.query.ensures.rows clean)) (λ found h.
+    (meta_rows_reads (state g.S.Store c.args.tx.now.conn.now) (state g.S.Store c.query.new.tx.conn.now) 1 h.rows found.items ready h.shown h.typed h.read_as).found 1 refl)
 
 pub returns-clause-typed : goal.returns-clause-typed
 returns-clause-typed g c clean ready =
-    let shown = rw c.of_number.ensures.value at (c.in_ok-rows.ensures.ok clean) in
-    on_ok_if c.to_rows.result _ c.to_rows.ensures.typed (λ found good.
-    (meta_rows_typed (state g.S.Store c.args.tx.now.conn.now) (state g.S.Store c.query_all.new.self.conn.now) 1 c.in_ok-rows.rows.items ready shown).1 (subst (AllByRecursion (λ v. has_meta v ≡ true)) c.as_slice.ensures.value good))
+    on_ok_if c.query.result _ (rw c.of_number.ensures.value at (c.query.ensures.rows clean)) (λ found h.
+    (meta_rows_typed (state g.S.Store c.args.tx.now.conn.now) (state g.S.Store c.query.new.tx.conn.now) 1 h.rows ready h.shown).1 h.typed)
 
 pub returns-clause-foreign : goal.returns-clause-foreign
 returns-clause-foreign g c clean ready =
-    let shown = rw c.of_number.ensures.value at (c.in_ok-rows.ensures.ok clean) in
-    if_err c.to_rows.result _ _ c.to_rows.ensures.foreign (λ e untyped is are.
-    untyped is (subst (AllByRecursion (λ v. has_meta v ≡ true)) (sym c.as_slice.ensures.value) ((meta_rows_typed (state g.S.Store c.args.tx.now.conn.now) (state g.S.Store c.query_all.new.self.conn.now) 1 c.in_ok-rows.rows.items ready shown).0 are)))
+    if_err c.query.result _ _ (rw c.of_number.ensures.value at (c.query.ensures.foreign clean)) (λ e shows is are.
+    let h = shows is in h.untyped ((meta_rows_typed (state g.S.Store c.args.tx.now.conn.now) (state g.S.Store c.query.new.tx.conn.now) 1 h.rows ready h.shown).0 are))
 
 pub returns-clause-same : goal.returns-clause-same
-returns-clause-same g c clean ready = on_ok c.to_rows.result (query_same meta_rows_text _ (state g.S.Store c.args.tx.now.conn.now) (state g.S.Store c.query_all.new.self.conn.now) c.in_ok-rows.rows.items (subst (λ s. IsPlain (understood s meta_rows_text)) (sym ready.schema_is) meta_rows_plain) (c.in_ok-rows.ensures.ok clean))
+returns-clause-same g c clean ready = c.query.ensures.same clean (subst (λ s. IsPlain (understood s meta_rows_text)) (sym ready.schema_is) meta_rows_plain)
 
 pub returns-clause-kept : goal.returns-clause-kept
-returns-clause-kept g c clean ready = kept_unchanged (state g.S.Store c.args.tx.now.conn.now) (state g.S.Store c.query_all.new.self.conn.now) (query_same meta_rows_text _ (state g.S.Store c.args.tx.now.conn.now) (state g.S.Store c.query_all.new.self.conn.now) c.in_ok-rows.rows.items (subst (λ s. IsPlain (understood s meta_rows_text)) (sym ready.schema_is) meta_rows_plain) (c.in_ok-rows.ensures.ok clean))
+returns-clause-kept g c clean ready = c.query.ensures.kept clean (subst (λ s. IsPlain (understood s meta_rows_text)) (sym ready.schema_is) meta_rows_plain)

@@ -1,37 +1,28 @@
-use Rattle.std.proofs.Common.{◌≡◌, true, map, refl, sym, ap, subst, ◌∙◌}
+use Rattle.std.proofs.Common.{sym, subst}
+use Rattle.sqlite.specs.Given.{IsPlain}
 use Rattle.sqlite.specs.Held.{state}
-use Rattle.sqlite.proofs.Callers.{IsPlain}
 use Rattle.sqlite.specs.Listing.{understood}
-use Rattle.std.specs.List.{AllByRecursion}
-use Rattle.table_words.specs.Typed.{has_staged, staged_read}
-use Rattle.table_words.proofs.CallLemmas.{kept_unchanged, query_keeps, query_same, on_ok, on_ok_if, if_ok, if_err, if_both}
+use Rattle.table_words.proofs.CallLemmas.{on_ok_if, if_ok, if_err}
 use Rattle.order_tables.proofs.StagedLemmas.{staged_of_item_text, staged_of_item_plain, staged_of_item_reads, staged_of_item_typed}
 use Rattle.order_tables.proofs.staged.staged_of_item.Goals as goal
 
-pub returns-in_err-rows-clause-kept : goal.returns-in_err-rows-clause-kept
-returns-in_err-rows-clause-kept g c clean ready = query_keeps staged_of_item_text _ (state g.S.Store c.args.tx.now.conn.now) (state g.S.Store c.query_all.new.self.conn.now) _ (subst (λ s. IsPlain (understood s staged_of_item_text)) (sym ready.schema_is) staged_of_item_plain) (c.in_err-rows.ensures.err clean)
-
 pub returns-clause-rows : goal.returns-clause-rows
 returns-clause-rows g c clean ready =
-    let shown = rw c.of_gtin.ensures.value at (c.in_ok-rows.ensures.ok clean) in
-    if_ok c.to_rows.result _ _ (if_both c.to_rows.result _ _ c.to_rows.ensures.typed c.to_rows.ensures.ok) (λ found are.
-    staged_of_item_reads (state g.S.Store c.args.tx.now.conn.now) (state g.S.Store c.query_all.new.self.conn.now) c.args.gtin.now c.in_ok-rows.rows.items found.items ready shown
-    (subst (AllByRecursion (λ v. has_staged v ≡ true)) c.as_slice.ensures.value are.0) (ap (map staged_read) (sym c.as_slice.ensures.value) ∙ are.1))
+    if_ok c.query.result _ _ (rw c.of_gtin.ensures.value at (c.query.ensures.rows clean)) (λ found h.
+    staged_of_item_reads (state g.S.Store c.args.tx.now.conn.now) (state g.S.Store c.query.new.tx.conn.now) c.args.gtin.now h.rows found.items ready h.shown h.typed h.read_as)
 
 pub returns-clause-typed : goal.returns-clause-typed
 returns-clause-typed g c clean ready =
-    let shown = rw c.of_gtin.ensures.value at (c.in_ok-rows.ensures.ok clean) in
-    on_ok_if c.to_rows.result _ c.to_rows.ensures.typed (λ found good.
-    (staged_of_item_typed (state g.S.Store c.args.tx.now.conn.now) (state g.S.Store c.query_all.new.self.conn.now) c.args.gtin.now c.in_ok-rows.rows.items ready shown).1 (subst (AllByRecursion (λ v. has_staged v ≡ true)) c.as_slice.ensures.value good))
+    on_ok_if c.query.result _ (rw c.of_gtin.ensures.value at (c.query.ensures.rows clean)) (λ found h.
+    (staged_of_item_typed (state g.S.Store c.args.tx.now.conn.now) (state g.S.Store c.query.new.tx.conn.now) c.args.gtin.now h.rows ready h.shown).1 h.typed)
 
 pub returns-clause-foreign : goal.returns-clause-foreign
 returns-clause-foreign g c clean ready =
-    let shown = rw c.of_gtin.ensures.value at (c.in_ok-rows.ensures.ok clean) in
-    if_err c.to_rows.result _ _ c.to_rows.ensures.foreign (λ e untyped is are.
-    untyped is (subst (AllByRecursion (λ v. has_staged v ≡ true)) (sym c.as_slice.ensures.value) ((staged_of_item_typed (state g.S.Store c.args.tx.now.conn.now) (state g.S.Store c.query_all.new.self.conn.now) c.args.gtin.now c.in_ok-rows.rows.items ready shown).0 are)))
+    if_err c.query.result _ _ (rw c.of_gtin.ensures.value at (c.query.ensures.foreign clean)) (λ e shows is are.
+    let h = shows is in h.untyped ((staged_of_item_typed (state g.S.Store c.args.tx.now.conn.now) (state g.S.Store c.query.new.tx.conn.now) c.args.gtin.now h.rows ready h.shown).0 are))
 
 pub returns-clause-same : goal.returns-clause-same
-returns-clause-same g c clean ready = on_ok c.to_rows.result (query_same staged_of_item_text _ (state g.S.Store c.args.tx.now.conn.now) (state g.S.Store c.query_all.new.self.conn.now) c.in_ok-rows.rows.items (subst (λ s. IsPlain (understood s staged_of_item_text)) (sym ready.schema_is) staged_of_item_plain) (c.in_ok-rows.ensures.ok clean))
+returns-clause-same g c clean ready = c.query.ensures.same clean (subst (λ s. IsPlain (understood s staged_of_item_text)) (sym ready.schema_is) staged_of_item_plain)
 
 pub returns-clause-kept : goal.returns-clause-kept
-returns-clause-kept g c clean ready = kept_unchanged (state g.S.Store c.args.tx.now.conn.now) (state g.S.Store c.query_all.new.self.conn.now) (query_same staged_of_item_text _ (state g.S.Store c.args.tx.now.conn.now) (state g.S.Store c.query_all.new.self.conn.now) c.in_ok-rows.rows.items (subst (λ s. IsPlain (understood s staged_of_item_text)) (sym ready.schema_is) staged_of_item_plain) (c.in_ok-rows.ensures.ok clean))
+returns-clause-kept g c clean ready = c.query.ensures.kept clean (subst (λ s. IsPlain (understood s staged_of_item_text)) (sym ready.schema_is) staged_of_item_plain)

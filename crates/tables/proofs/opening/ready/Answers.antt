@@ -1,4 +1,4 @@
-use Rattle.std.proofs.Common.{◌≡◌, sym, ap, ◌∙◌}
+use Rattle.std.proofs.Common.{rules, ◌≡◌, sym, ap, ◌∙◌}
 use Rattle.std.specs.Prelude.{not, IsTrue}
 use Rattle.sqlite.specs.Effect.{Database}
 use Rattle.sqlite.specs.Held.{state}
@@ -21,3 +21,6 @@ pub returns-in-Ok-clause-crash : goal.returns-in-Ok-clause-crash
 returns-in-Ok-clause-crash g c clean db left =
     let opens = (c.in-Ok.ensures.opens clean).0 in
     g.met.S.Store.settled c.in-Ok.again.store db opens.is_open left ∙ sym (ap (λ (d : Database). d.trees) opens.clean) ∙ c.in-Ok.ensures.same clean
+
+pub returns-in-Ok-clause-other : goal.returns-in-Ok-clause-other
+returns-in-Ok-clause-other g c = search rules
