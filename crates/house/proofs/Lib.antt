@@ -1,5 +1,4 @@
 pub mod Acting
-pub mod Bounded
 pub mod Examples
 pub mod Running
 pub mod Serving

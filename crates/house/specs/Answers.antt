@@ -1,6 +1,5 @@
 -- What each reading of a text is answered, and the acts after it. An answer is its bytes.
-use Rattle.std.specs.Prelude.{ℕ, if◌then◌else◌, Bool, codes, List, None, Result, Ok, Err, ℤ}
-use Rattle.values.specs.Faults.{fault_code}
+use Rattle.std.specs.Prelude.{ℕ, if◌then◌else◌, Bool, List, Result, Ok, Err, ℤ}
 use Rattle.label.specs.Labels.{label_read}
 use Rattle.label.specs.declared.gs1.Label.{Label}
 use Rattle.values.specs.declared.fault.LabelFault.{LabelFault}
@@ -12,40 +11,17 @@ use Rattle.machine.specs.Acts.{Act}
 use Rattle.machine.specs.Standing.{today}
 use Rattle.machine.specs.Once.{Outcome, Accepted, Repeated, Refused, outcome, acts_after, is_key_of}
 use Rattle.machine.specs.Queries.{order_shown, stock_shown}
-use Rattle.requests.specs.Faults.{wire_code, wire_status, wire_allow}
-use Rattle.requests.specs.declared.fault.WireFault.{WireFault}
-use Rattle.requests.specs.declared.fault.WireFault.TheVariants.{Path, Memory}
 use Rattle.requests.specs.declared.ask.Ask.{Ask}
 use Rattle.requests.specs.declared.ask.Ask.TheVariants.{Do, Scan, GoodsIn, Show}
 use Rattle.requests.specs.declared.ask.Query.{Query}
 use Rattle.requests.specs.declared.ask.Query.TheVariants.{Order, Stock, PickList, Shortages, Card, Notice}
 use Rattle.requests.specs.declared.request.Read.{Read}
 use Rattle.requests.specs.declared.request.Read.TheVariants.{Need, Bad, Request}
-use Rattle.wire.specs.Answers.{answer_text, answer_bytes, json_type}
-use Rattle.wire.specs.Shorts.{code_text, cause_text}
+use Rattle.wire.specs.Answers.{answer_bytes}
+use Rattle.wire.specs.Shorts.{code_text}
+pub use Rattle.wire.specs.ShortAnswers.{short_answer, fault_answer, not_served, no_memory, foreign_books, label_answer}
 use Rattle.wire.specs.declared.answer.Answer.{Answer}
 use Rattle.wire.specs.declared.answer.Answer.TheVariants.{Order as OrderAnswer, Stock as StockAnswer}
-
--- Short answers: a status and a text of JSON
-
-abbrev pub short_answer : ℕ → List ℕ → List ℕ
-short_answer status text = answer_text status json_type None text
-
--- to a text that is no request, by its fault
-abbrev pub fault_answer : WireFault → List ℕ
-fault_answer e = answer_text (wire_status e) json_type (wire_allow e) (code_text (wire_code e))
-
--- 404 W06: no such path
-abbrev pub not_served : List ℕ
-not_served = fault_answer Path
-
--- 503 W90: memory, disk or size did not suffice
-abbrev pub no_memory : List ℕ
-no_memory = fault_answer Memory
-
--- 503 W91: the books hold rows that no list of acts leaves
-abbrev pub foreign_books : List ℕ
-foreign_books = short_answer 503 (code_text (codes "W91"))
 
 -- Commands
 
@@ -81,10 +57,6 @@ receipt d label = record {
   key = Line d.delivery d.line;
   command = Receive (record { lot = record { gtin = label.gtin; lot = label.lot }; expiry = label.expiry; bin = d.bin; qty = d.qty });
 }
-
--- 400 W05 with the cause
-abbrev pub label_answer : LabelFault → List ℕ
-label_answer fault = short_answer 400 (cause_text (fault_code fault))
 
 abbrev pub scan_answer : ℤ → List Act → Delivered → Result Label LabelFault → List ℕ
 scan_answer first acts d (Ok label) = act_answer first acts (receipt d label)

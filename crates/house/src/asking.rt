@@ -10,9 +10,7 @@ ghost use Rattle.house.specs.Asking.{Does, told_answer, act_of, delivered, scann
 ghost use Rattle.house.specs.House.{bytes_of};
 
 use crate::Answered;
-use crate::answered::{
-    conflict, fault_answer, foreign_books, label_answer, not_shown, reply_answer,
-};
+use crate::answered::not_shown;
 use commands::laws::{every_command_is_sound, every_key_is_sound};
 use commands::{Command, Key, OrderView, Receipt};
 use label::read;
@@ -21,6 +19,7 @@ use sqlite::Alter;
 use std::alloc::Global;
 use store::{Books, Fault, Reply};
 use values::{LineNo, LotId, Name, Qty};
+use wire::short_answers::{conflict, fault_answer, foreign_books, label_answer, reply_answer};
 use wire::{Answer, Block, write_answer};
 
 /// Whether the key is of the command's kind: a receipt bears a delivery and a line, every other

@@ -10,13 +10,13 @@ ghost use Rattle.house.specs.Asking.{Does};
 ghost use Rattle.house.specs.House.{books_of, bytes_of, texts_of, StepsTo, RunsTo, IsInPlace, IsAskedInPlace};
 
 use crate::Answered;
-use crate::answered::fault_answer;
 use crate::asking::{act, scan, show_order};
 use crate::showing_stock::show_stock;
 use requests::{Ask, Query, Read, WireFault, read_request};
 use sqlite::Alter;
 use std::alloc::{AllocError, Global};
 use store::Books;
+use wire::short_answers::fault_answer;
 
 /// Answers requests from the books of a warehouse.
 #[derive(Drop)]

@@ -10,4 +10,4 @@ mod showing_stock;
 
 pub use answered::Answered;
 pub use house::House;
-pub use serve::ServeFault;
+pub use wire::ServeFault;

@@ -10,13 +10,14 @@ ghost use Rattle.house.specs.Asking.{Does};
 ghost use Rattle.house.specs.House.{bytes_of};
 
 use crate::Answered;
-use crate::answered::{fault_answer, not_shown};
+use crate::answered::not_shown;
 use commands::StockView;
 use requests::WireFault;
 use sqlite::Alter;
 use std::alloc::Global;
 use store::Books;
 use values::Gtin;
+use wire::short_answers::fault_answer;
 use wire::{Answer, write_answer};
 
 /// Shows the stock of an item.

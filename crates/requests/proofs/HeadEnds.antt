@@ -1,5 +1,5 @@
 -- The end of a head.
-use Rattle.std.proofs.Common.{◌≡◌, ◌∙◌, ap, refl, sym, ℕ, ◌+◌, ◌<◌, List, ◌∷◌, length, take, drop, get_or, false, Option, Some, None, option_map, arith, add-one, drop-cons}
+use Rattle.std.proofs.Common.{◌≡◌, ◌∙◌, ap, refl, sym, ℕ, ◌+◌, ◌<◌, List, ◌∷◌, length, take, drop, get_or, true, false, Option, Some, None, option_map, arith, add-one, drop-cons}
 use Rattle.std.specs.Str.{bytes_eq}
 use Rattle.requests.specs.Head.{head_end, BLANK_LINE}
 
@@ -17,3 +17,14 @@ head_end_later s i h f inv =
     let g : bytes_eq (take 4 (get_or s i 0 ∷ drop (i + 1) s)) BLANK_LINE ≡ false = ap (λ z. bytes_eq (take 4 z) BLANK_LINE) (sym d) ∙ f in
     inv ∙ ap (λ z. option_map (λ n. n + i) (head_end z)) d ∙ ap (option_map (λ n. n + i)) (later (get_or s i 0) (drop (i + 1) s) g)
     ∙ further i (head_end (drop (i + 1) s))
+
+here : (x : ℕ) (r : List ℕ) → bytes_eq (take 4 (x ∷ r)) BLANK_LINE ≡ true → head_end (x ∷ r) ≡ Some 4
+here x r e = rw e refl
+
+pub head_end_here : (s : List ℕ) (i : ℕ) → i < length s → bytes_eq (take 4 (drop i s)) BLANK_LINE ≡ true
+    → head_end s ≡ option_map (λ n. n + i) (head_end (drop i s)) → Some (i + 4) ≡ head_end s
+head_end_here s i h f inv =
+    let d : drop i s ≡ get_or s i 0 ∷ drop (i + 1) s = rw (add-one, drop-cons s i 0) refl in
+    let g : bytes_eq (take 4 (get_or s i 0 ∷ drop (i + 1) s)) BLANK_LINE ≡ true = ap (λ z. bytes_eq (take 4 z) BLANK_LINE) (sym d) ∙ f in
+    let e : 4 + i ≡ i + 4 = omega arith in
+    sym (inv ∙ ap (λ z. option_map (λ n. n + i) (head_end z)) d ∙ ap (option_map (λ n. n + i)) (here (get_or s i 0) (drop (i + 1) s) g) ∙ ap Some e)

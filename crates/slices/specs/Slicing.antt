@@ -1,11 +1,8 @@
 -- The rows that a slice is made of.
-use Rattle.std.specs.Prelude.{◌≡◌, ℕ, ℤ, Bool, true, not, ◌&&◌, if◌then◌else◌, List, [], ◌∷◌, ◌++◌, map, filter, Option, Some, None}
-use Rattle.std.specs.List.{list_any}
+use Rattle.std.specs.Prelude.{◌≡◌, ℕ, ℤ, true, List, [], ◌∷◌, ◌++◌, map, filter, Option, Some, None}
 use Rattle.values.specs.Values.{same_text}
-use Rattle.values.specs.declared.lot.LotId.{LotId}
 use Rattle.commands.specs.Tables.{Tables}
 use Rattle.commands.specs.declared.command.Command.{Command}
-use Rattle.commands.specs.declared.command.Command.TheVariants.{Item, Bin, Receive, Move, Count, Adjust, Order, Cancel, Pick, Unpick, Ship, Hold, Release, Recall, OpenDay}
 use Rattle.commands.specs.declared.rows.MetaRow.{MetaRow}
 use Rattle.commands.specs.declared.rows.ItemRow.{ItemRow}
 use Rattle.commands.specs.declared.rows.BinRow.{BinRow}
@@ -18,12 +15,11 @@ use Rattle.commands.specs.declared.rows.StagedRow.{StagedRow}
 use Rattle.commands.specs.declared.rows.ReservedRow.{ReservedRow}
 use Rattle.table_words.specs.Found.{AreRows, only_if}
 use Rattle.table_words.specs.Typed.{ItemKey, same_item, item_key, BinKey, same_bin, bin_key, LotKey, same_lot, lot_key, RecallKey, same_recall, recall_key, StockKey, same_stock, stock_key, OrderKey, same_order, order_key, is_open_order, LineKey, same_line, line_key, StagedKey, same_staged, staged_key, ReservedKey, same_reserved, reserved_key}
-use Rattle.machine.specs.Postings.{is_lot}
-use Rattle.machine.specs.Standing.{is_expired}
 use Rattle.rules.specs.Slices.{counts_items, counts_bins}
 use Rattle.row_rules.specs.declared.slice.Rows.{Rows}
 use Rattle.row_rules.specs.declared.slice.Slice.{Slice}
 use Rattle.slices.specs.Reading.{IsCount}
+pub use Rattle.slice_parts.specs.Parts.{is_among, with_name, with_names, items_named, orders_named, bins_named, whole_orders, day_opened, others, has_line_in, with_lines, is_ending, has_recall_in, not_recalled, items_of_lots, with_staged}
 
 -- Reads one after another
 
@@ -34,65 +30,8 @@ Each {R} P (k ∷ ks) rows = (xs : List R) × (ys : List R) × P k xs × Each P 
 
 -- Names
 
--- the text is one of these
-abbrev pub is_among : List (List ℕ) → List ℕ → Bool
-is_among xs x = list_any (same_text x) xs
-
--- the names with one more, if it is new
-abbrev pub with_name : List ℕ → List (List ℕ) → List (List ℕ)
-with_name x xs = if is_among xs x then xs else xs ++ x ∷ []
-
--- and with those of each element
-abbrev pub with_names : {X : Type 0} → (X → List ℕ) → List X → List (List ℕ) → List (List ℕ)
-with_names name [] xs = xs
-with_names name (r ∷ rs) xs = with_names name rs (with_name (name r) xs)
-
 abbrev pub texts : List (List ℕ) → List (List ℕ)
 texts = map (λ x. x)
-
--- what a command names
-abbrev pub items_named : Command → List (List ℕ)
-items_named (Item i) = i.gtin ∷ []
-items_named (Receive r) = r.lot.gtin ∷ []
-items_named (Move m) = m.lot.gtin ∷ []
-items_named (Count c) = c.lot.gtin ∷ []
-items_named (Adjust a) = a.lot.gtin ∷ []
-items_named (Order o) = with_names (λ l. l.gtin) o.lines []
-items_named (Pick p) = p.lot.gtin ∷ []
-items_named (Unpick p) = p.lot.gtin ∷ []
-items_named (Hold l) = l.gtin ∷ []
-items_named (Release l) = l.gtin ∷ []
-items_named (Recall l) = l.gtin ∷ []
-items_named _ = []
-
-abbrev pub orders_named : Command → List (List ℕ)
-orders_named (Order o) = o.order ∷ []
-orders_named (Cancel o) = o ∷ []
-orders_named (Pick p) = p.order ∷ []
-orders_named (Unpick p) = p.order ∷ []
-orders_named (Ship o) = o ∷ []
-orders_named _ = []
-
-abbrev pub bins_named : Command → List (List ℕ)
-bins_named (Bin b) = b.bin ∷ []
-bins_named (Receive r) = r.bin ∷ []
-bins_named (Move m) = with_name m.to (m.from ∷ [])
-bins_named (Count c) = c.bin ∷ []
-bins_named (Adjust a) = a.bin ∷ []
-bins_named (Pick p) = p.bin ∷ []
-bins_named (Unpick p) = p.bin ∷ []
-bins_named _ = []
-
--- the order that a command takes whole: it touches the item of each of its lines
-abbrev pub whole_orders : Command → List (List ℕ)
-whole_orders (Cancel o) = o ∷ []
-whole_orders (Ship o) = o ∷ []
-whole_orders _ = []
-
--- the business day that a command opens
-abbrev pub day_opened : Command → Option ℤ
-day_opened (OpenDay day) = Some day
-day_opened _ = None
 
 -- Rows
 
@@ -123,16 +62,6 @@ AreLinesOf gtins t o line_rows = Each (λ g found. found ≡ listed (t.line o g)
 abbrev pub AreLines : List (List ℕ) → List OrderRow → Tables → List LineRow → Type 0
 AreLines gtins order_rows t line_rows = Each (λ o found. AreLinesOf gtins t o found) (map order_key order_rows) line_rows
 
--- the orders that are not named, and those that have one of the lines
-abbrev pub others : List (List ℕ) → List OrderRow → List OrderRow
-others named order_rows = filter (λ r. not (is_among named r.order)) order_rows
-
-abbrev pub has_line_in : List LineRow → List ℕ → Bool
-has_line_in line_rows o = list_any (λ l. same_text o l.order) line_rows
-
-abbrev pub with_lines : List LineRow → List OrderRow → List OrderRow
-with_lines line_rows order_rows = filter (λ r. has_line_in line_rows r.order) order_rows
-
 -- all lines of orders, one order after another
 abbrev pub AreAllLines : List (List ℕ) → Tables → List LineRow → Type 0
 AreAllLines named t line_rows = Each (λ o found. AreRows {K = LineKey} same_line line_key (λ k. same_text o k.0) (λ k. t.line k.0 k.1) found) (texts named) line_rows
@@ -161,23 +90,6 @@ pub record AreOrdered (named gtins : List (List ℕ)) (t : Tables) (order_rows :
   pub lines : line_rows ≡ own_lines ++ rest_lines
 
 -- Openings of a day
-
--- a lot that is not held and expires on the old day or later, but before the new one
-abbrev pub is_ending : ℤ → ℤ → LotRow → Bool
-is_ending old new r = not r.held && (not (is_expired old r.expiry) && is_expired new r.expiry)
-
-abbrev pub has_recall_in : List RecallRow → LotId → Bool
-has_recall_in recall_rows l = list_any (λ r. is_lot l r.lot) recall_rows
-
-abbrev pub not_recalled : List RecallRow → List LotRow → List LotRow
-not_recalled recall_rows lot_rows = filter (λ r. not (has_recall_in recall_rows r.lot)) lot_rows
-
--- the items of lots and of staged units, each once
-abbrev pub items_of_lots : List LotRow → List (List ℕ)
-items_of_lots lot_rows = with_names (λ r. r.lot.gtin) lot_rows []
-
-abbrev pub with_staged : List StagedRow → List (List ℕ) → List (List ℕ)
-with_staged staged_rows gtins = with_names (λ r. r.lot.gtin) staged_rows gtins
 
 -- of all lots those that end between the days and are not among the recalls of their items
 pub record AreEnding (old new : ℤ) (t : Tables) (lot_rows : List LotRow) : Type 0 where

@@ -2,7 +2,6 @@
 //! shown, read from the tables by seeks.
 #![tactic(auto)]
 
-mod naming;
 mod opening;
 mod order_slices;
 mod reading;

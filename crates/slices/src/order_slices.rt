@@ -1,14 +1,14 @@
 //! The rows of orders and of their lines that a slice has.
 
-ghost use Rattle.std.specs.Prelude.{◌≡◌, ◌++◌, not, OnOk, IfOk};
+ghost use Rattle.std.specs.Prelude.{◌≡◌, ◌++◌, OnOk};
 ghost use Rattle.sqlite.specs.Held.{state};
 ghost use Rattle.slices.specs.Reading.{IsRead};
-ghost use Rattle.slices.specs.Slicing.{is_among, listed, AreLinesOf, AreLines, others as others_lem, with_lines as with_lines_lem, AreNamed, AreOpen, AreOrdered, has_line_in};
+ghost use Rattle.slices.specs.Slicing.{listed, AreLinesOf, AreLines, AreNamed, AreOpen, AreOrdered};
 
-use crate::naming::has_name;
 use crate::reading::{line_row, open_order_rows};
 use crate::sought::seek_all;
 use commands::{LineRow, OrderRow};
+use slice_parts::order_rows::{others, with_lines};
 use sqlite::{Alter, Transaction};
 use std::alloc::{AllocError, Global};
 use table_words::error::TableFault;
@@ -57,55 +57,6 @@ fn lines_of_orders<S: Alter>(
         found.extend_from_slice(rows.as_slice())?;
     }
     Ok(found)
-}
-
-/// Whether the order is not named.
-fn is_other(named: &[Name], order: &OrderRow) -> bool
-    ensures { result ≡ not (is_among named.now order.now.order) }
-{
-    !has_name(named, &order.order)
-}
-
-/// The orders that are not named.
-fn others(alloc: Global, orders: &[OrderRow], named: &[Name]) -> Result<Vec<OrderRow>, AllocError>
-    ensures { IfOk result (λ rows. rows.items ≡ others_lem named.now orders.now) }
-{
-    let mut rows = Vec::new(alloc);
-    for order in orders {
-        if is_other(named, order) {
-            rows.push(*order)?;
-        }
-    }
-    Ok(rows)
-}
-
-/// Whether one of the lines is the order's.
-fn has_line(lines: &[LineRow], order: &Name) -> bool
-    ensures { result ≡ has_line_in lines.now order.now }
-{
-    for line in lines {
-        if *order == line.order {
-            return true;
-        }
-    }
-    false
-}
-
-/// The orders that have one of the lines.
-fn with_lines(
-    alloc: Global,
-    orders: &[OrderRow],
-    lines: &[LineRow],
-) -> Result<Vec<OrderRow>, AllocError>
-    ensures { IfOk result (λ rows. rows.items ≡ with_lines_lem lines.now orders.now) }
-{
-    let mut rows = Vec::new(alloc);
-    for order in orders {
-        if has_line(lines, &order.order) {
-            rows.push(*order)?;
-        }
-    }
-    Ok(rows)
 }
 
 /// The orders named, and their lines.

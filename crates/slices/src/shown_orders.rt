@@ -12,12 +12,12 @@ ghost use Rattle.slices.specs.Reading.{IsRead};
 ghost use Rattle.slices.specs.Slicing.{AreBins, with_names};
 ghost use Rattle.slices.specs.ShownOrders.{AreOfOrder, IsOrderIn, IsOrderRead};
 
-use crate::naming::{bins_of_stock, items_of_rows};
 use crate::reading::order_row;
 use crate::slices::{read_booked, read_goods};
 use crate::sought::{Sought, seek_all};
 use commands::{BinRow, LineRow, Listed, OrderRow, StockRow};
 use rules::Rows;
+use slice_parts::naming::{bins_of_stock, items_of_rows};
 use sqlite::{Alter, Transaction};
 use std::alloc::Global;
 use table_words::error::TableFault;

@@ -12,8 +12,9 @@ ghost use Rattle.slices.specs.Reading.{IsRead};
 ghost use Rattle.slices.specs.ShownStock.{AreOfItem, IsStockIn, IsStockRead};
 
 use crate::sought::Sought;
-use commands::{ItemRow, Listed, LotRow, RecallRow, ReservedRow, StagedRow, StockRow};
+use commands::{ItemRow, LotRow, RecallRow, ReservedRow, StagedRow, StockRow};
 use rules::Rows;
+use slice_parts::item_rows::of_item;
 use sqlite::{Alter, Transaction};
 use std::alloc::Global;
 use table_words::error::TableFault;
@@ -30,37 +31,6 @@ fn item_row<S: Alter>(
 {
     let rows = ItemRow::seek::<S>(alloc, tx, gtin)?;
     Ok(rows.as_slice().first().copied())
-}
-
-/// The rows of an item.
-fn of_item(
-    alloc: Global,
-    lots: Vec<LotRow>,
-    recalls: Vec<RecallRow>,
-    stock: Vec<StockRow>,
-    staged: Vec<StagedRow>,
-    reserved: Vec<ReservedRow>,
-) -> Rows
-    ensures same_lots { result.lots ≡ lots.items }
-    ensures same_recalls { result.recalls ≡ recalls.items }
-    ensures same_stock { result.stock ≡ stock.items }
-    ensures same_staged { result.staged ≡ staged.items }
-    ensures same_reserved { result.reserved ≡ reserved.items }
-{
-    Rows {
-        items: Listed::from_vec(Vec::new(alloc)),
-        bins: Listed::from_vec(Vec::new(alloc)),
-        lots: Listed::from_vec(lots),
-        recalls: Listed::from_vec(recalls),
-        stock: Listed::from_vec(stock),
-        orders: Listed::from_vec(Vec::new(alloc)),
-        lines: Listed::from_vec(Vec::new(alloc)),
-        staged: Listed::from_vec(staged),
-        reserved: Listed::from_vec(reserved),
-        shipments: Listed::from_vec(Vec::new(alloc)),
-        shiplines: Listed::from_vec(Vec::new(alloc)),
-        cards: Listed::from_vec(Vec::new(alloc)),
-    }
 }
 
 /// The lots of the item, their recalls and stock, and what is staged and reserved of them.

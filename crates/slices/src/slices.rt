@@ -14,8 +14,7 @@ ghost use Rattle.slices.specs.Books.{IsBooksOf};
 ghost use Rattle.slices.specs.Reading.{IsRead};
 ghost use Rattle.slices.specs.Slicing.{AreGoods, AreBooked, AreBins, AreCounts, AreTaken, AreTouched, AreSliced, IsSliceIn, bins_named, with_names};
 
-use crate::naming::{bins_with, items_with, named_orders, whole_orders};
-use crate::opening::{affected_items, day_opened};
+use crate::opening::affected_items;
 use crate::order_slices::read_orders;
 use crate::reading::{count_bins, count_items, meta_row};
 use crate::sought::seek_all;
@@ -24,6 +23,8 @@ use commands::{
     StockRow,
 };
 use rules::{Rows, Slice};
+use slice_parts::naming::{bins_with, items_with, named_orders, whole_orders};
+use slice_parts::opening::day_opened;
 use sqlite::{Alter, Transaction};
 use std::alloc::Global;
 use table_words::error::TableFault;

@@ -4,3 +4,5 @@ pub mod ShortTexts
 pub mod Codes
 pub mod Values
 pub mod Examples
+pub mod Bounded
+pub mod ReadOn

@@ -2,3 +2,5 @@ pub mod Answers
 pub mod Shorts
 pub mod Views
 pub mod Laws
+pub mod ShortAnswers
+pub mod Serving

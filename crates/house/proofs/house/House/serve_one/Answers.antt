@@ -11,5 +11,5 @@ returns-clause-served g c clean first acts history holds written =
       taken = r.taken;
       whole = whole r.text (bytes_of c.answer_reading-answer.result) _ c.in_ok-reading.reading r.read r.whole c.answer_reading-answer.ensures.memory;
       steps = c.answer_reading-answer.ensures.step clean first acts history holds r.text r.read;
-      written = writes c.write_answer.result _ _ _ _ c.as_bytes.ensures c.write_answer.ensures.written;
+      written = writes c.write_bytes.result _ _ _ _ c.as_bytes.ensures c.write_bytes.ensures.written;
     }

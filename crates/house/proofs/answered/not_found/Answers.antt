@@ -1,7 +1,0 @@
-use Rattle.std.proofs.Common.{ap, ◌∙◌}
-use Rattle.std.specs.Prelude.{None}
-use Rattle.wire.specs.Answers.{answer_text, json_type}
-use Rattle.house.proofs.answered.not_found.Goals as goal
-
-pub returns : goal.returns
-returns c = c.write_short.ensures.bytes ∙ ap (λ t. answer_text 404 json_type None t) c.refusal_text.ensures.text

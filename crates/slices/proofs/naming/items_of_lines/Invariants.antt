@@ -1,8 +1,0 @@
-use Rattle.std.proofs.Common.{◌≡◌, [], drop}
-use Rattle.commands.specs.declared.command.OrderLine.{OrderLine}
-use Rattle.slices.specs.Slicing.{with_names}
-use Rattle.slices.proofs.naming.items_of_lines.Given as goal
-
--- what the lines that are left make of the items so far is what all of them make of none
-abbrev pub invariant-loop-line : goal.invariant-loop-line
-invariant-loop-line l = with_names {X = OrderLine} (λ r. r.gtin) (drop l.line-index l.lines) l.gtins.items ≡ with_names {X = OrderLine} (λ r. r.gtin) l.lines []

@@ -1,8 +1,0 @@
-use Rattle.std.specs.Prelude.{not}
-use Rattle.commands.specs.declared.rows.LotRow.{LotRow}
-use Rattle.row_rules.proofs.Walking.{IsKept}
-use Rattle.slices.specs.Slicing.{has_recall_in}
-use Rattle.slices.proofs.opening.not_recalled.Given as goal
-
-abbrev pub invariant-loop-lot : goal.invariant-loop-lot
-invariant-loop-lot l = IsKept {X = LotRow} (λ r. not (has_recall_in l.recalls r.lot)) l.lots l.lot-index l.rows.items

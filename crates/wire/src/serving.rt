@@ -1,0 +1,100 @@
+//! A request from a reader, and the bytes of its answer to a writer.
+
+ghost use Rattle.std.specs.Prelude.{◌≡◌, IfOk, IfErr, OnOk};
+ghost use Rattle.std.specs.Io.KnownBytes.{Appends, Keeps};
+ghost use Rattle.requests.specs.Laws.{needs_more as needs_more_lem};
+ghost use Rattle.wire.specs.Serving.{IsRead, IsTaken};
+
+use requests::{Read as Reading, WireFault, read_request};
+use std::alloc::Global;
+use std::io::{Read, Write};
+
+/// Why a request was not served.
+#[derive(Clone, Copy, PartialEq, Eq, Debug)]
+pub enum ServeFault {
+    /// The reader failed, `Interrupted` too. Nothing was answered, and the books are unchanged.
+    Read,
+    /// The writer failed. The act stands, if it was accepted: the same request gets its answer when it comes again.
+    Write,
+}
+
+/// How much is read at a time.
+const CHUNK: usize = 4_096;
+
+/// What came of one read.
+enum Taken {
+    /// The text has grown.
+    More,
+    /// The reader has come to its end.
+    End,
+    /// There was no memory for what was read.
+    NoRoom,
+}
+
+/// Writes the bytes of an answer, and flushes. The fault is `Write` where the writer fails.
+pub fn write_bytes<W: Write>(writer: &mut W, bytes: &[u8]) -> Result<(), ServeFault>
+    ensures written { OnOk result (Appends (W.contents writer.old) (W.contents writer.new) bytes.now) }
+    ensures fault { IfErr result (λ e. e ≡ ServeFault.Write) }
+{
+    match writer.write_all(bytes) {
+        Ok(()) => flush(writer),
+        Err(_) => Err(ServeFault::Write),
+    }
+}
+
+fn flush<W: Write>(writer: &mut W) -> Result<(), ServeFault>
+    ensures kept { OnOk result (Keeps (W.contents writer.old) (W.contents writer.new)) }
+    ensures fault { IfErr result (λ e. e ≡ ServeFault.Write) }
+{
+    match writer.flush() {
+        Ok(()) => Ok(()),
+        Err(_) => Err(ServeFault::Write),
+    }
+}
+
+/// Whether a text of this reading needs more bytes.
+fn needs_more(reading: &Reading) -> bool
+    ensures { result ≡ needs_more_lem reading.now }
+{
+    match reading {
+        Reading::Need(_) => true,
+        Reading::Bad(_) | Reading::Request(_) => false,
+    }
+}
+
+/// Reads until no more bytes are needed or the reader comes to its end. What was read then has this reading, which is
+/// `Bad` with `W90` where there was no memory for what was read. The fault is `Read` where the reader fails.
+pub fn read_whole<R: Read>(alloc: Global, reader: &mut R) -> Result<Reading, ServeFault>
+    ensures read { IfOk result (IsRead (R.remaining reader.old) (R.remaining reader.new)) }
+    ensures fault { IfErr result (λ e. e ≡ ServeFault.Read) }
+{
+    let mut text = Vec::new(alloc);
+    let mut reading = read_request(alloc, text.as_slice());
+    while needs_more(&reading) {
+        match read_more(reader, &mut text)? {
+            Taken::More => reading = read_request(alloc, text.as_slice()),
+            Taken::End => return Ok(reading),
+            Taken::NoRoom => return Ok(Reading::Bad(WireFault::Memory)),
+        }
+    }
+    Ok(reading)
+}
+
+/// Reads once, at the end of the text.
+fn read_more<R: Read>(reader: &mut R, text: &mut Vec<u8>) -> Result<Taken, ServeFault>
+    ensures taken { IfOk result (IsTaken (R.remaining reader.old) (R.remaining reader.new) text.old.items text.new.items) }
+    ensures fault { IfErr result (λ e. e ≡ ServeFault.Read) }
+{
+    let mut chunk = [0; CHUNK];
+    let count = match reader.read(&mut chunk) {
+        Ok(count) => count,
+        Err(_) => return Err(ServeFault::Read),
+    };
+    if count == 0 {
+        return Ok(Taken::End);
+    }
+    match text.extend_from_slice(&chunk[..count]) {
+        Ok(()) => Ok(Taken::More),
+        Err(_) => Ok(Taken::NoRoom),
+    }
+}
