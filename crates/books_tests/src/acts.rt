@@ -1,5 +1,5 @@
 use crate::answers::new_books;
-use crate::scenes::{Scene, play};
+use crate::cases::{Case, run_in_new_file};
 use commands::{
     BinKind, Command, Key, Lines, NewBin, NewItem, NewOrder, OrderLine, Receipt, Refusal,
 };
@@ -145,7 +145,7 @@ pub(crate) fn key_acts_once<S: Alter + Drop>(
 
 #[test]
 fn a_key_acts_once(rt: HostRuntime) {
-    play(&rt, rt.alloc(), Scene::KeyActsOnce);
+    run_in_new_file(&rt, rt.alloc(), Case::KeyActsOnce);
 }
 
 // A key whose command was refused has not acted: it may bear another command.
@@ -166,7 +166,7 @@ pub(crate) fn refused_key<S: Alter + Drop>(
 
 #[test]
 fn a_refused_command_bears_no_key(rt: HostRuntime) {
-    play(&rt, rt.alloc(), Scene::RefusedKey);
+    run_in_new_file(&rt, rt.alloc(), Case::RefusedKey);
 }
 
 /// The item and a bin.
@@ -220,5 +220,5 @@ pub(crate) fn goods_come_in<S: Alter + Drop>(
 
 #[test]
 fn goods_come_in_and_are_ordered(rt: HostRuntime) {
-    play(&rt, rt.alloc(), Scene::GoodsComeIn);
+    run_in_new_file(&rt, rt.alloc(), Case::GoodsComeIn);
 }

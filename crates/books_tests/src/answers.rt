@@ -1,8 +1,8 @@
 //! The worked examples, sent to a house whose books are in memory.
 
+use crate::cases::{Case, run_answers, run_in_new_file};
 use crate::opening::is_of_may_fourth;
 use crate::order_rows::opened;
-use crate::scenes::{Scene, play, play_answers};
 use house::{Answered, House, ServeFault, laws};
 use label::{BusinessDay, Day};
 use sqlite::{Alter, Connection};
@@ -230,14 +230,14 @@ pub(crate) fn no_request<S: Alter + Drop>(
 
 #[test]
 fn answers_what_is_no_request(rt: HostRuntime) {
-    play(&rt, rt.alloc(), Scene::AnswersNoRequest);
+    run_in_new_file(&rt, rt.alloc(), Case::AnswersNoRequest);
     laws::refused_requests_change_nothing();
     laws::books_are_never_foreign();
 }
 
 #[test]
 fn answers_the_two_customers(rt: HostRuntime) {
-    play_answers(
+    run_answers(
         &rt,
         rt.alloc(),
         &[
@@ -250,7 +250,7 @@ fn answers_the_two_customers(rt: HostRuntime) {
 
 #[test]
 fn shows_stock(rt: HostRuntime) {
-    play_answers(
+    run_answers(
         &rt,
         rt.alloc(),
         &[
@@ -295,7 +295,7 @@ pub(crate) fn in_turn<S: Alter + Drop>(
 
 #[test]
 fn answers_all_in_turn(rt: HostRuntime) {
-    play(&rt, rt.alloc(), Scene::AnswersInTurn);
+    run_in_new_file(&rt, rt.alloc(), Case::AnswersInTurn);
 }
 
 fn is_served<S: Alter>(rt: &impl Abort, alloc: Global, house: &mut House<S>, row: &(&str, &str)) {
@@ -320,7 +320,7 @@ pub(crate) fn one_by_one<S: Alter + Drop>(
 
 #[test]
 fn serves_one(rt: HostRuntime) {
-    play(&rt, rt.alloc(), Scene::ServesOne);
+    run_in_new_file(&rt, rt.alloc(), Case::ServesOne);
 }
 
 pub(crate) fn full_writer<S: Alter + Drop>(
@@ -339,5 +339,5 @@ pub(crate) fn full_writer<S: Alter + Drop>(
 
 #[test]
 fn a_full_writer_is_a_fault(rt: HostRuntime) {
-    play(&rt, rt.alloc(), Scene::FullWriter);
+    run_in_new_file(&rt, rt.alloc(), Case::FullWriter);
 }

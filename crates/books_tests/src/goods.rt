@@ -1,8 +1,8 @@
 //! Moves, counts, adjustments, holds and recalls after the two-customer example.
 
 use crate::answers::GOODS_AND_BINS;
+use crate::cases::run_answers;
 use crate::picking::{PICKED, continues};
-use crate::scenes::play_answers;
 
 // A lot is moved to where it serves no orders.
 static MOVED: [(&str, &str); 15] = [
@@ -404,7 +404,7 @@ fn receives_no_recalled_lot(rt: HostRuntime) {
 
 #[test]
 fn recalls_a_lot_never_received(rt: HostRuntime) {
-    play_answers(
+    run_answers(
         &rt,
         rt.alloc(),
         &[GOODS_AND_BINS.as_slice(), NEVER_RECEIVED.as_slice()],

@@ -1,4 +1,4 @@
-//! The tests over a connection: those of the tables, of the books and of the house.
+//! The tests over a connection: those of the tables, of the books, of the house and of the service.
 //!
 //! They are a crate of their own: the tests of a crate are proved together with all of that crate once more, and each
 //! program over a connection makes the code of the whole database.
@@ -9,9 +9,13 @@ mod acts;
 #[cfg(test)]
 mod answers;
 #[cfg(test)]
+mod cases;
+#[cfg(test)]
 mod days;
 #[cfg(test)]
 mod goods;
+#[cfg(test)]
+mod lines;
 #[cfg(test)]
 mod opening;
 #[cfg(test)]
@@ -23,7 +27,7 @@ mod picking_rows;
 #[cfg(test)]
 mod samples;
 #[cfg(test)]
-mod scenes;
+mod serving;
 #[cfg(test)]
 mod stock;
 #[cfg(test)]

@@ -1,6 +1,6 @@
 use crate::answers::{business_day, new_books};
+use crate::cases::{Case, run_in_new_file};
 use crate::order_rows::{gives, opened};
-use crate::scenes::{Scene, play};
 use sqlite::{Alter, Connection};
 use std::alloc::Global;
 use std::process::Abort;
@@ -82,7 +82,7 @@ pub(crate) fn made_and_opened<S: Alter + Drop>(
 
 #[test]
 fn books_are_made_and_opened_again(rt: HostRuntime) {
-    play(&rt, rt.alloc(), Scene::MadeAndOpened);
+    run_in_new_file(&rt, rt.alloc(), Case::MadeAndOpened);
 }
 
 // Books are not made over books, and what is there stays.
@@ -99,7 +99,7 @@ pub(crate) fn made_once<S: Alter + Drop>(
 
 #[test]
 fn books_are_made_once(rt: HostRuntime) {
-    play(&rt, rt.alloc(), Scene::MadeOnce);
+    run_in_new_file(&rt, rt.alloc(), Case::MadeOnce);
 }
 
 pub(crate) fn empty<S: Alter + Drop>(
@@ -115,7 +115,7 @@ pub(crate) fn empty<S: Alter + Drop>(
 
 #[test]
 fn an_empty_database_is_no_books(rt: HostRuntime) {
-    play(&rt, rt.alloc(), Scene::Empty);
+    run_in_new_file(&rt, rt.alloc(), Case::Empty);
 }
 
 /// Books that this text changed are foreign.
@@ -143,5 +143,5 @@ pub(crate) fn other_meta<S: Alter + Drop>(
 
 #[test]
 fn another_row_of_meta_is_foreign(rt: HostRuntime) {
-    play(&rt, rt.alloc(), Scene::OtherMeta);
+    run_in_new_file(&rt, rt.alloc(), Case::OtherMeta);
 }

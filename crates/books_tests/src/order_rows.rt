@@ -4,7 +4,7 @@ ghost use Rattle.std.specs.Prelude.{IsTrue};
 ghost use Rattle.sqlite_disk.specs.Memory.{memory_is_usable};
 
 use crate::answers::{GOODS_AND_BINS, TWO_CUSTOMERS, expect, new_books};
-use crate::scenes::{Scene, play, plays_in_file};
+use crate::cases::{Case, run_in_file, run_in_new_file};
 use house::House;
 use sqlite::{Alter, Connection, Row};
 use sqlite_disk::Memory;
@@ -149,7 +149,7 @@ pub(crate) fn two_customers_in_turn<S: Alter + Drop>(
 
 #[test]
 fn keeps_every_row_on_a_connection(rt: HostRuntime) {
-    play(&rt, rt.alloc(), Scene::TwoCustomersInTurn);
+    run_in_new_file(&rt, rt.alloc(), Case::TwoCustomersInTurn);
 }
 
 fn answered_in_file(
@@ -161,19 +161,19 @@ fn answered_in_file(
     requires { IsTrue (memory_is_usable db) }
     ensures { IsTrue (memory_is_usable result) }
 {
-    plays_in_file(rt, alloc, db, Scene::Answers, tables)
+    run_in_file(rt, alloc, db, Case::Answers, tables)
 }
 
 // The file is closed and opened again between the receipts and the orders.
 #[test]
 fn keeps_every_row_in_a_file(rt: HostRuntime) {
     let db = Memory::new(rt.alloc());
-    let db = plays_in_file(&rt, rt.alloc(), db, Scene::Made, &[]);
+    let db = run_in_file(&rt, rt.alloc(), db, Case::Made, &[]);
     let db = answered_in_file(&rt, rt.alloc(), db, &[GOODS_AND_BINS.as_slice()]);
     let db = answered_in_file(&rt, rt.alloc(), db, &[&TWO_CUSTOMERS[..1]]);
     let db = answered_in_file(&rt, rt.alloc(), db, &[&TWO_CUSTOMERS[1..2]]);
     let db = answered_in_file(&rt, rt.alloc(), db, &[&TWO_CUSTOMERS[2..4]]);
     let db = answered_in_file(&rt, rt.alloc(), db, &[&TWO_CUSTOMERS[4..6]]);
     let db = answered_in_file(&rt, rt.alloc(), db, &[&TWO_CUSTOMERS[6..]]);
-    plays_in_file(&rt, rt.alloc(), db, Scene::TwoCustomers, &[]);
+    run_in_file(&rt, rt.alloc(), db, Case::TwoCustomers, &[]);
 }

@@ -1,7 +1,7 @@
 //! Picks, shipments and cancellations after the two-customer example.
 
 use crate::answers::{GOODS_AND_BINS, TWO_CUSTOMERS};
-use crate::scenes::{Scene, plays_in_file};
+use crate::cases::{Case, run_in_file};
 use sqlite_disk::Memory;
 use std::alloc::Global;
 use std::process::Abort;
@@ -353,9 +353,9 @@ static CANCELLED: [(&str, &str); 11] = [
 // The two customers are answered in a new file. It is closed, and a house over it answers these tables in turn.
 pub(crate) fn continues(rt: &impl Abort, alloc: Global, tables: &[&[(&str, &str)]]) {
     let first = [GOODS_AND_BINS.as_slice(), TWO_CUSTOMERS.as_slice()];
-    let scene = Scene::AnswersInNewBooks;
-    let db = plays_in_file(rt, alloc, Memory::new(alloc), scene, &first);
-    plays_in_file(rt, alloc, db, Scene::Answers, tables);
+    let case = Case::AnswersInNewBooks;
+    let db = run_in_file(rt, alloc, Memory::new(alloc), case, &first);
+    run_in_file(rt, alloc, db, Case::Answers, tables);
 }
 
 #[test]

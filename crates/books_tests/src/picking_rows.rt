@@ -1,9 +1,9 @@
 //! Every row of every table after picks, shipments, recalls and stocktaking.
 
 use crate::answers::{GOODS_AND_BINS, TWO_CUSTOMERS, new_books};
+use crate::cases::{Case, run_in_new_file};
 use crate::order_rows::{answered, answered_in_turn, has_rows};
 use crate::picking::{PICKED, RETURNED_AND_SHIPPED, SHIPPED_AND_RECALLED};
-use crate::scenes::{Scene, play};
 use sqlite::{Alter, Connection};
 use std::alloc::Global;
 use std::process::Abort;
@@ -141,7 +141,7 @@ pub(crate) fn stocktaking<S: Alter + Drop>(
 
 #[test]
 fn keeps_the_rows_of_stocktaking(rt: HostRuntime) {
-    play(&rt, rt.alloc(), Scene::Stocktaking);
+    run_in_new_file(&rt, rt.alloc(), Case::Stocktaking);
 }
 
 // The rows after the picks, and after these texts.
@@ -170,7 +170,7 @@ pub(crate) fn recall_with_returns<S: Alter + Drop>(
 
 #[test]
 fn keeps_the_rows_of_a_recall_with_returns(rt: HostRuntime) {
-    play(&rt, rt.alloc(), Scene::RecallWithReturns);
+    run_in_new_file(&rt, rt.alloc(), Case::RecallWithReturns);
 }
 
 pub(crate) fn shipment<S: Alter + Drop>(
@@ -184,5 +184,5 @@ pub(crate) fn shipment<S: Alter + Drop>(
 
 #[test]
 fn keeps_the_rows_of_a_shipment(rt: HostRuntime) {
-    play(&rt, rt.alloc(), Scene::Shipment);
+    run_in_new_file(&rt, rt.alloc(), Case::Shipment);
 }

@@ -1,6 +1,6 @@
 use crate::acts::{comes_in, is_ordered, known, oats, order};
 use crate::answers::new_books;
-use crate::scenes::{Scene, play};
+use crate::cases::{Case, run_in_new_file};
 use commands::{LotStatus, LotView, Refusal, StockView};
 use sqlite::{Alter, Connection};
 use std::alloc::Global;
@@ -65,5 +65,5 @@ pub(crate) fn shown<S: Alter + Drop>(
 
 #[test]
 fn stock_is_shown(rt: HostRuntime) {
-    play(&rt, rt.alloc(), Scene::StockShown);
+    run_in_new_file(&rt, rt.alloc(), Case::StockShown);
 }

@@ -1,7 +1,7 @@
+use crate::cases::{Case, run_in_file, run_in_new_file};
 use crate::opening::executes;
 use crate::order_rows::gives;
 use crate::samples;
-use crate::scenes::{Scene, play, plays_in_file};
 use commands::{BinKind, CardKind, LineRow, OrderState, RepeatRow, StockRow};
 use goods_tables::bins::{all_bins, bins_of, drop_bin, put_bin};
 use goods_tables::items::{all_items, drop_item, items_of, put_item};
@@ -315,8 +315,8 @@ pub(crate) fn each_table<S: Alter + Drop>(
 #[test]
 fn each_table_in_a_file(rt: HostRuntime) {
     let db = Memory::new(rt.alloc());
-    let db = plays_in_file(&rt, rt.alloc(), db, Scene::Filled, &[]);
-    plays_in_file(&rt, rt.alloc(), db, Scene::EachTable, &[]);
+    let db = run_in_file(&rt, rt.alloc(), db, Case::Filled, &[]);
+    run_in_file(&rt, rt.alloc(), db, Case::EachTable, &[]);
 }
 
 // A database with another table, or with none, is not one of books, and no books are made beside another table.
@@ -350,7 +350,7 @@ pub(crate) fn other_schema<S: Alter + Drop>(
 
 #[test]
 fn another_schema_is_foreign(rt: HostRuntime) {
-    play(&rt, rt.alloc(), Scene::OtherSchema);
+    run_in_new_file(&rt, rt.alloc(), Case::OtherSchema);
 }
 
 // Books that lack an index or a table are not opened.
@@ -372,7 +372,7 @@ pub(crate) fn missing_parts<S: Alter + Drop>(
 
 #[test]
 fn missing_parts_are_foreign(rt: HostRuntime) {
-    play(&rt, rt.alloc(), Scene::MissingParts);
+    run_in_new_file(&rt, rt.alloc(), Case::MissingParts);
 }
 
 // A connection keeps the plans of its last 64 texts: with more in turn nearly each call would be planned again.

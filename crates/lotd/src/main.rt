@@ -1,17 +1,10 @@
 // The program `lotd`: the stock system on the command line.
 #![tactic(auto)]
 
-mod books_lines;
-mod command_line;
-mod fault;
-mod label_line;
-mod run;
-mod serve;
-#[cfg(test)]
-mod tests;
+mod books_file;
 
-use books_lines::InFiles;
-use fault::Fault;
+use books_file::InFiles;
+use service::Fault;
 use std::env;
 use std::io::ErrorKind;
 use std::process::ExitCode;
@@ -21,16 +14,16 @@ fn main(rt: HostRuntime) -> ExitCode {
     let args = match env::args(&rt) {
         Ok(args) => args,
         Err(error) if error.kind() == ErrorKind::OutOfMemory => {
-            return ExitCode::from(run::tell(&Fault::Store, &mut err));
+            return ExitCode::from(service::tell(&Fault::Store, &mut err));
         }
-        Err(_) => return ExitCode::from(run::tell_words(&mut err)),
+        Err(_) => return ExitCode::from(service::tell_words(&mut err)),
     };
     let words: Vec<String> = match args.collect(rt.alloc()) {
         Ok(words) => words,
-        Err(_) => return ExitCode::from(run::tell(&Fault::Store, &mut err)),
+        Err(_) => return ExitCode::from(service::tell(&Fault::Store, &mut err)),
     };
     let mut out = rt.stdout();
     let books = InFiles { rt: &rt };
-    let status = run::run(rt.alloc(), &books, words.as_slice(), &mut out, &mut err);
+    let status = service::run(rt.alloc(), &books, words.as_slice(), &mut out, &mut err);
     ExitCode::from(status)
 }

@@ -1,3 +1,6 @@
+ghost use Rattle.store.specs.Books.{IsClean};
+ghost use Rattle.house.specs.House.{books_of};
+
 use house::House;
 use sqlite::Alter;
 use std::io::Read;
@@ -10,8 +13,11 @@ const PATIENCE: u64 = 10;
 /// How often at most more is read of a client that goes on sending after its answer.
 const READS_AFTER_ANSWER: u32 = 1024;
 
-/// Answers so many connections, one after another. One that breaks counts as the others do.
-pub(crate) fn serve_on<S: Alter + Drop>(listener: &TcpListener, house: &mut House<S>, max: u32) {
+/// Answers so many connections, one after another. One that breaks counts as the others do. A disk that has returned
+/// what was written until the end had done so before.
+pub fn serve_on<S: Alter + Drop>(listener: &TcpListener, house: &mut House<S>, max: u32)
+    ensures clean { IsClean S.Store (books_of house.new) → IsClean S.Store (books_of house.old) }
+{
     for stream in listener.incoming().take(max as usize) {
         match stream {
             Ok(stream) => serve_stream(&stream, house),
@@ -20,7 +26,9 @@ pub(crate) fn serve_on<S: Alter + Drop>(listener: &TcpListener, house: &mut Hous
     }
 }
 
-fn serve_stream<S: Alter + Drop>(stream: &TcpStream, house: &mut House<S>) {
+fn serve_stream<S: Alter + Drop>(stream: &TcpStream, house: &mut House<S>)
+    ensures clean { IsClean S.Store (books_of house.new) → IsClean S.Store (books_of house.old) }
+{
     let _ = stream.set_read_timeout(Some(Duration::from_secs(PATIENCE)));
     let _ = stream.set_write_timeout(Some(Duration::from_secs(PATIENCE)));
     let (mut reader, mut writer) = (stream, stream);

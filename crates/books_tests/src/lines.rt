@@ -1,16 +1,10 @@
-use crate::fault::Fault;
-use crate::run::{BooksAt, Work, run};
-use crate::serve::serve_on;
-use house::House;
-use label::{BusinessDay, Day};
-use sqlite::{Connection, MemStore};
+//! The lines of the program that need no books.
+
+use service::{BooksAt, Fault, Work, run};
 use std::alloc::Global;
 use std::io;
-use std::io::{Read, Write};
-use std::net::{TcpListener, TcpStream};
+use std::io::Write;
 use std::process::Abort;
-use std::test::Fail;
-use store::Books;
 
 // No line of these tests needs the file of the books.
 #[derive(Clone, Copy)]
@@ -146,42 +140,3 @@ fn tells_output_that_cannot_be_written(rt: HostRuntime) {
     assert_eq!(rt; status, 1);
     assert_eq!(rt; told.as_slice(), b"lotd: io\n".as_slice());
 }
-
-fn new_house(end: &impl Abort, alloc: Global) -> House<MemStore> {
-    let conn = Connection::open_in_memory(alloc).expect(end, "memory");
-    assert!(end; conn.is_autocommit());
-    let day = Day::parse(b"2026-05-04").expect(end, "a day");
-    let day = BusinessDay::new(day).expect(end, "a business day");
-    let books = Books::create(alloc, conn, day).ok();
-    House::new(alloc, books.expect(end, "books"))
-}
-
-// A client sends, one connection is served in the same thread, and the client reads to the end.
-fn serves(
-    house: &mut House<MemStore>,
-    listener: &TcpListener,
-    client: &mut TcpStream,
-    answer: &mut Vec<u8>,
-) -> io::Result<()> {
-    client.write_all(NEW_BIN)?;
-    serve_on(listener, house, 1);
-    client.read_to_end(answer)?;
-    Ok(())
-}
-
-#[test]
-fn serves_one_connection(rt: HostRuntime) -> Result<(), Fail> {
-    let listener = TcpListener::bind(&rt, "127.0.0.1:0")?;
-    let mut client = TcpStream::connect(&rt, listener.local_addr()?)?;
-    let mut answer = Vec::new(rt.alloc());
-    let mut house = new_house(&rt, rt.alloc());
-    serves(&mut house, &listener, &mut client, &mut answer)?;
-    assert_eq!(rt; answer.as_slice(), BIN_MADE);
-    Ok(())
-}
-
-const NEW_BIN: &[u8] =
-    b"POST /bins HTTP/1.1\r\nContent-Length: 41\r\n\r\n{\"key\":\"K-1\",\"bin\":\"A-01\",\"kind\":\"STORE\"}";
-
-const BIN_MADE: &[u8] =
-    b"HTTP/1.1 200 OK\r\ncontent-type: application/json\r\ncontent-length: 9\r\nconnection: close\r\n\r\n{\"act\":1}";

@@ -21,7 +21,7 @@ pub const MISUSED: u8 = 2;
 
 /// What a line does with the books in a file.
 #[derive(Clone, Copy)]
-pub(crate) enum Work {
+pub enum Work {
     /// Makes them; they begin on the business day.
     Make(BusinessDay),
     /// Opens them, listens on the port and answers so many connections.
@@ -29,14 +29,14 @@ pub(crate) enum Work {
 }
 
 /// Where the books are that the lines speak of.
-pub(crate) trait BooksAt {
+pub trait BooksAt {
     /// Does the work with the books in the file. What it prints goes to `out`.
     fn work<W: Write>(&self, db: &str, work: Work, out: &mut W) -> Result<(), Fault>;
 }
 
 /// Runs the line that the words are, the program's name first: what it prints goes to `out`, and a
 /// fault to `err` as one line, `lotd: ` and its code. The result is the exit status.
-pub(crate) fn run<'a, B: BooksAt, S: AsStr, W: Write, E: Write>(
+pub fn run<'a, B: BooksAt, S: AsStr, W: Write, E: Write>(
     alloc: Global,
     books: &B,
     words: &'a [S],

@@ -1,63 +1,34 @@
+ghost use Rattle.std.specs.Prelude.{◌≡◌, ◌⊎◌, IfErr};
+
 use crate::fault::Fault;
-use crate::run::{BooksAt, Work};
+use crate::running::Work;
 use crate::serve::serve_on;
 use house::House;
 use label::BusinessDay;
-use sqlite::{Alter, Connection, File, FileStore};
+use sqlite::{Alter, Connection};
 use std::alloc::Global;
 use std::io::{self, Write};
 use std::net::TcpListener;
 use store::{Books, OpenFault};
 
-/// The books in files of the host.
-#[derive(Clone, Copy)]
-pub(crate) struct InFiles<'a> {
-    pub(crate) rt: &'a HostRuntime,
-}
+/// A connection after the work over it, and how that work ended.
+pub type Worked<S> = (Connection<S>, Result<(), Fault>);
 
-impl BooksAt for InFiles<'_> {
-    /// What the log still holds is copied into the file at the end, also where the port cannot be had.
-    fn work<W: Write>(&self, db: &str, work: Work, out: &mut W) -> Result<(), Fault> {
-        match open_file(self.rt, db) {
-            Ok(conn) => close_worked(worked(self.rt, conn, work, out)),
-            Err(fault) => Err(fault),
-        }
-    }
-}
-
-/// A connection after the work over it, and how that ended.
-type Worked<S> = (Connection<S>, Result<(), Fault>);
-
-fn close_worked(worked: Result<Worked<FileStore<File>>, Fault>) -> Result<(), Fault> {
-    match worked {
-        Ok((conn, end)) => first_fault(end, close_file(conn)),
-        Err(fault) => Err(fault),
-    }
-}
-
-fn worked<S: Alter + Drop, W: Write>(
+/// Does the work with the books over this connection, and gives the connection back. What it prints goes to `out`.
+/// Where the books cannot be made or opened, the connection is dropped and the error is `Foreign` for other tables
+/// and else `Store`, also for a connection within a transaction. A port that cannot be had and output that cannot be
+/// written are `Io` beside the connection.
+pub fn worked<S: Alter + Drop, W: Write>(
     rt: &HostRuntime,
     conn: Connection<S>,
     work: Work,
     out: &mut W,
-) -> Result<Worked<S>, Fault> {
+) -> Result<Worked<S>, Fault>
+    ensures fault { IfErr result (λ fault. (fault ≡ Fault.Store) ⊎ (fault ≡ Fault.Foreign)) }
+{
     match work {
         Work::Make(day) => made(rt.alloc(), conn, day),
         Work::Serve { port, max } => served(rt, conn, port, max, out),
-    }
-}
-
-fn first_fault(served: Result<(), Fault>, closed: Result<(), Fault>) -> Result<(), Fault> {
-    match served {
-        Ok(()) => closed,
-        Err(fault) => Err(fault),
-    }
-}
-
-fn open_file(rt: &HostRuntime, db: &str) -> Result<Connection<FileStore<File>>, Fault> {
-    match Connection::open(rt, db) {
-        Ok(conn) => Ok(conn),
-        Err(_) => Err(Fault::Store),
     }
 }
 
@@ -66,7 +37,9 @@ fn made<S: Alter + Drop>(
     alloc: Global,
     conn: Connection<S>,
     day: BusinessDay,
-) -> Result<Worked<S>, Fault> {
+) -> Result<Worked<S>, Fault>
+    ensures fault { IfErr result (λ fault. (fault ≡ Fault.Store) ⊎ (fault ≡ Fault.Foreign)) }
+{
     if !conn.is_autocommit() {
         return Err(Fault::Store);
     }
@@ -83,7 +56,9 @@ fn served<S: Alter + Drop, W: Write>(
     port: u16,
     max: u32,
     out: &mut W,
-) -> Result<Worked<S>, Fault> {
+) -> Result<Worked<S>, Fault>
+    ensures fault { IfErr result (λ fault. (fault ≡ Fault.Store) ⊎ (fault ≡ Fault.Foreign)) }
+{
     match opened(rt.alloc(), conn) {
         Ok(books) => Ok(serve_books(rt, books, port, max, out)),
         Err(fault) => Err(fault),
@@ -102,7 +77,9 @@ fn serve_books<S: Alter + Drop, W: Write>(
     (house.close().close(), end)
 }
 
-fn opened<S: Alter + Drop>(alloc: Global, conn: Connection<S>) -> Result<Books<S>, Fault> {
+fn opened<S: Alter + Drop>(alloc: Global, conn: Connection<S>) -> Result<Books<S>, Fault>
+    ensures fault { IfErr result (λ fault. (fault ≡ Fault.Store) ⊎ (fault ≡ Fault.Foreign)) }
+{
     if !conn.is_autocommit() {
         return Err(Fault::Store);
     }
@@ -112,17 +89,12 @@ fn opened<S: Alter + Drop>(alloc: Global, conn: Connection<S>) -> Result<Books<S
     }
 }
 
-fn cause<S: Alter + Drop>(fault: OpenFault<S>) -> Fault {
+fn cause<S: Alter + Drop>(fault: OpenFault<S>) -> Fault
+    ensures { (result ≡ Fault.Store) ⊎ (result ≡ Fault.Foreign) }
+{
     match fault.fault {
         store::Fault::Foreign => Fault::Foreign,
         _ => Fault::Store,
-    }
-}
-
-fn close_file(conn: Connection<FileStore<File>>) -> Result<(), Fault> {
-    match conn.close() {
-        Ok(()) => Ok(()),
-        Err(_) => Err(Fault::Store),
     }
 }
 
