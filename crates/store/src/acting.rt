@@ -105,7 +105,9 @@ fn act_anew<S: Alter>(
     ensures survives { Survives (state S.Store tx.old.conn.now) (state S.Store tx.new.conn.now) (λ _. ⊥) }
 {
     let change = change_of(alloc, tx, key, command)?;
-    accept(alloc, tx, key, command, &change)
+    let reply = accept(alloc, tx, key, command, &change);
+    drop(change);
+    reply
 }
 
 // The decision on a command whose key is new, by the rows that it touches.
@@ -126,7 +128,9 @@ fn change_of<S: Alter>(
     ensures survives { Survives (state S.Store tx.old.conn.now) (state S.Store tx.new.conn.now) (λ _. ⊥) }
 {
     let slice = read_slice(alloc, tx, command)?;
-    decided(alloc, &slice, key, command)
+    let change = decided(alloc, &slice, key, command);
+    drop(slice);
+    change
 }
 
 // Writes what an accepted command changes, and then its row of `repeats`.

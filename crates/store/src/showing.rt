@@ -67,6 +67,10 @@ fn view_of(alloc: Global, found: Option<(OrderRow, Rows)>) -> Result<OrderView, 
 {
     match found {
         None => Err(Fault::Refused(Refusal::UnknownOrder)),
-        Some((row, rows)) => Ok(order_view(alloc, &rows, &row)?),
+        Some((row, rows)) => {
+            let view = order_view(alloc, &rows, &row);
+            drop(rows);
+            Ok(view?)
+        }
     }
 }

@@ -75,6 +75,10 @@ fn view_of(
 {
     match found {
         None => Err(Fault::Refused(Refusal::UnknownItem)),
-        Some((row, rows)) => Ok(stock_view(alloc, day, &rows, &row)?),
+        Some((row, rows)) => {
+            let view = stock_view(alloc, day, &rows, &row);
+            drop(rows);
+            Ok(view?)
+        }
     }
 }

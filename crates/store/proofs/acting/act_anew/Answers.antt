@@ -22,17 +22,17 @@ returns-clause-acted g c clean kind first acts history up books fresh =
     let act : Act = record { key = c.args.key.now; command = c.args.command.now } in
     let old = state g.S.Store c.args.tx.now.conn.now in
     let mid = state g.S.Store c.change_of.new.tx.conn.now in
-    let new = state g.S.Store c.accept.new.tx.conn.now in
-    let was : HasCleanDisk mid = omega (arith, clean, c.accept.ensures.survives.clean) in
+    let new = state g.S.Store c.accept-reply.new.tx.conn.now in
+    let was : HasCleanDisk mid = omega (arith, clean, c.accept-reply.ensures.survives.clean) in
     let same = c.in_ok-change.ensures.same was books.ready up in
     let decision = c.in_ok-change.ensures.decided was kind first acts history up books fresh in
-    accepted_inside first acts act c.in_ok-change.change old mid new up books same fresh decision c.accept.result
-    (c.accept.ensures.done clean (subst IsReady (sym same.0.now_is) books.ready) decision.3) c.accept.ensures.told c.accept.ensures.fault
+    accepted_inside first acts act c.in_ok-change.change old mid new up books same fresh decision c.accept-reply.result
+    (c.accept-reply.ensures.done clean (subst IsReady (sym same.0.now_is) books.ready) decision.3) c.accept-reply.ensures.told c.accept-reply.ensures.fault
 
 pub returns-clause-kept : goal.returns-clause-kept
 returns-clause-kept g c clean ready up =
     let old = state g.S.Store c.args.tx.now.conn.now in
     let mid = state g.S.Store c.change_of.new.tx.conn.now in
-    let new = state g.S.Store c.accept.new.tx.conn.now in
-    let was : HasCleanDisk mid = omega (arith, clean, c.accept.ensures.survives.clean) in
-    kept_then old mid new (c.in_ok-change.ensures.kept was ready up) (c.accept.ensures.kept clean)
+    let new = state g.S.Store c.accept-reply.new.tx.conn.now in
+    let was : HasCleanDisk mid = omega (arith, clean, c.accept-reply.ensures.survives.clean) in
+    kept_then old mid new (c.in_ok-change.ensures.kept was ready up) (c.accept-reply.ensures.kept clean)

@@ -13,4 +13,4 @@ returns-in_err-slice-clause-decided g c clean kind first acts history up books f
 
 pub returns-clause-decided : goal.returns-clause-decided
 returns-clause-decided g c clean kind first acts history up books fresh =
-    c.decided.ensures first acts history kind fresh (c.in_ok-slice.ensures.read clean up first acts c.args.key.now history books)
+    c.decided-change.ensures first acts history kind fresh (c.in_ok-slice.ensures.read clean up first acts c.args.key.now history books)

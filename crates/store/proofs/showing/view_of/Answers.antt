@@ -15,14 +15,14 @@ pub returns-in-None : goal.returns-in-None
 returns-in-None c first acts o history read =
     ap (λ p. if_known p UnknownOrder (λ p. Ok (order_view first acts p))) (subst (IsOrderRead first acts o) c.in-None.is read)
 
-pub returns-in_err-order_view-in-Some : goal.returns-in_err-order_view-in-Some
-returns-in_err-order_view-in-Some c first acts o history read =
+pub returns-in_err-view-in-Some : goal.returns-in_err-view-in-Some
+returns-in_err-view-in-Some c first acts o history read =
     by_error c.from_residual.result Store c.from_residual.ensures (λ r. IsShownAs (order_shown first acts o) r) tt
 
-pub returns-in_ok-order_view-in-Some : goal.returns-in_ok-order_view-in-Some
-returns-in_ok-order_view-in-Some c first acts o history read =
+pub returns-in_ok-view-in-Some : goal.returns-in_ok-view-in-Some
+returns-in_ok-view-in-Some c first acts o history read =
     let known = subst (IsOrderRead first acts o) c.in-Some.is read in
     let named = subst (λ n. order_named acts n ≡ Some known.0) (sym known.3) known.1 in
     let row = subst (λ n. order_row first acts n ≡ Some c.in-Some.row) (sym known.3) known.2 in
     ap (λ p. if_known p UnknownOrder (λ p. Ok (order_view first acts p))) known.1
-    ∙ ap (λ (v : OrderView). Ok v) (sym (c.in_ok-order_view-in-Some.ensures.shown first acts known.0 history named row known.4))
+    ∙ ap (λ (v : OrderView). Ok v) (sym (c.in_ok-view-in-Some.ensures.shown first acts known.0 history named row known.4))

@@ -15,13 +15,13 @@ pub returns-in-None : goal.returns-in-None
 returns-in-None c first acts g history day read =
     ap (λ o. if_known o UnknownItem (λ item. Ok (stock_view first acts item))) (subst (IsStockRead first acts g) c.in-None.is read)
 
-pub returns-in_err-stock_view-in-Some : goal.returns-in_err-stock_view-in-Some
-returns-in_err-stock_view-in-Some c first acts g history day read =
+pub returns-in_err-view-in-Some : goal.returns-in_err-view-in-Some
+returns-in_err-view-in-Some c first acts g history day read =
     by_error c.from_residual.result Store c.from_residual.ensures (λ r. IsShownAs (stock_shown first acts g) r) tt
 
-pub returns-in_ok-stock_view-in-Some : goal.returns-in_ok-stock_view-in-Some
-returns-in_ok-stock_view-in-Some c first acts g history day read =
+pub returns-in_ok-view-in-Some : goal.returns-in_ok-view-in-Some
+returns-in_ok-view-in-Some c first acts g history day read =
     let known = subst (IsStockRead first acts g) c.in-Some.is read in
     let stocked = subst (λ n. AreStocked n (tables_of first acts) c.in-Some.rows) (sym known.1) known.2 in
     ap (λ o. if_known o UnknownItem (λ item. Ok (stock_view first acts item))) known.0
-    ∙ ap (λ (v : StockView). Ok v) (sym (c.in_ok-stock_view-in-Some.ensures.shown first acts history day stocked))
+    ∙ ap (λ (v : StockView). Ok v) (sym (c.in_ok-view-in-Some.ensures.shown first acts history day stocked))
