@@ -19,7 +19,7 @@ use row_rules::replanning::{Replanned, shares_changed};
 use row_rules::seeing::{sees_bin, sees_item};
 use row_rules::stock::{sees_lot, stock_gone, stock_put, stock_rows_with, units_in_bin};
 use row_rules::summing::{sum_of_staged, sum_of_stock};
-use row_rules::{Change, Rows, Slice};
+use row_rules::{Change, Slice};
 use std::alloc::{AllocError, Global};
 use values::{Gtin, LotId, Name, Text};
 
@@ -192,19 +192,17 @@ fn corrected(
 ) -> Change
     ensures { result ≡ record { meta = meta_after slice.now; put = record no_rows { stock = put.items; reserved = reserved.put; cards = cards.items }; dropped = record no_rows { stock = gone.items; reserved = reserved.dropped }; text = change_reply_lem slice.now change } }
 {
+    let mut rows = empty(alloc);
+    rows.stock = Listed::from_vec(put);
+    rows.reserved = reserved.put;
+    rows.cards = Listed::from_vec(cards);
+    let mut dropped = empty(alloc);
+    dropped.stock = Listed::from_vec(gone);
+    dropped.reserved = reserved.dropped;
     Change {
         meta: meta_next(slice),
-        put: Rows {
-            stock: Listed::from_vec(put),
-            reserved: reserved.put,
-            cards: Listed::from_vec(cards),
-            ..empty(alloc)
-        },
-        dropped: Rows {
-            stock: Listed::from_vec(gone),
-            reserved: reserved.dropped,
-            ..empty(alloc)
-        },
+        put: rows,
+        dropped,
         text: change_reply(slice, change),
     }
 }

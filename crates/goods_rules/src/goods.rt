@@ -22,7 +22,7 @@ use row_rules::replanning::{Replanned, shares_changed};
 use row_rules::seeing::{lot_seen, sees_bin, sees_item, sees_recall};
 use row_rules::stock::units_in_bin;
 use row_rules::summing::{sum_of_staged, sum_of_stock};
-use row_rules::{Change, Rows, Slice};
+use row_rules::{Change, Slice};
 use std::alloc::{AllocError, Global};
 use values::{Gtin, LotId};
 
@@ -109,19 +109,17 @@ fn received(
 ) -> Change
     ensures { result ≡ record { meta = meta_after slice.now; put = record no_rows { lots = lots.items; stock = put; reserved = reserved.put; cards = cards }; dropped = record no_rows { reserved = reserved.dropped }; text = plain_reply_lem slice.now } }
 {
+    let mut rows = empty(alloc);
+    rows.lots = Listed::from_vec(lots);
+    rows.stock = put;
+    rows.reserved = reserved.put;
+    rows.cards = cards;
+    let mut dropped = empty(alloc);
+    dropped.reserved = reserved.dropped;
     Change {
         meta: meta_next(slice),
-        put: Rows {
-            lots: Listed::from_vec(lots),
-            stock: put,
-            reserved: reserved.put,
-            cards,
-            ..empty(alloc)
-        },
-        dropped: Rows {
-            reserved: reserved.dropped,
-            ..empty(alloc)
-        },
+        put: rows,
+        dropped,
         text: plain_reply(slice),
     }
 }

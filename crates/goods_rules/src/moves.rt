@@ -15,7 +15,7 @@ use row_rules::plans::{ItemRows, item_rows, shares_over};
 use row_rules::replanning::{Replanned, shares_changed};
 use row_rules::seeing::{sees_bin, sees_item};
 use row_rules::stock::{sees_lot, stock_gone, stock_put, stock_rows_with, units_in_bin};
-use row_rules::{Change, Rows, Slice};
+use row_rules::{Change, Slice};
 use std::alloc::{AllocError, Global};
 
 /// The refusal of a move, if it is refused.
@@ -67,18 +67,16 @@ fn moved(
 ) -> Change
     ensures { result ≡ record { meta = meta_after slice.now; put = record no_rows { stock = put.items; reserved = reserved.put }; dropped = record no_rows { stock = gone.items; reserved = reserved.dropped }; text = plain_reply_lem slice.now } }
 {
+    let mut rows = empty(alloc);
+    rows.stock = Listed::from_vec(put);
+    rows.reserved = reserved.put;
+    let mut dropped = empty(alloc);
+    dropped.stock = Listed::from_vec(gone);
+    dropped.reserved = reserved.dropped;
     Change {
         meta: meta_next(slice),
-        put: Rows {
-            stock: Listed::from_vec(put),
-            reserved: reserved.put,
-            ..empty(alloc)
-        },
-        dropped: Rows {
-            stock: Listed::from_vec(gone),
-            reserved: reserved.dropped,
-            ..empty(alloc)
-        },
+        put: rows,
+        dropped,
         text: plain_reply(slice),
     }
 }

@@ -14,7 +14,7 @@ use row_rules::orders_seen::{items_seen, order_row_seen, sees_open, sees_order, 
 use row_rules::plans::{ItemRows, item_rows};
 use row_rules::pushing::push_if;
 use row_rules::replanning::{Replanned, replan_items};
-use row_rules::{Change, Rows, Slice};
+use row_rules::{Change, Slice};
 use std::alloc::{AllocError, Global};
 use values::Name;
 
@@ -47,17 +47,15 @@ pub fn change_cancel(alloc: Global, slice: &Slice, order: &Name) -> Result<Chang
 fn cancelled(alloc: Global, slice: &Slice, row: Vec<OrderRow>, reserved: Replanned) -> Change
     ensures { result ≡ record { meta = meta_after slice.now; put = record no_rows { orders = row.items; reserved = reserved.put }; dropped = record no_rows { reserved = reserved.dropped }; text = plain_reply_lem slice.now } }
 {
+    let mut put = empty(alloc);
+    put.orders = Listed::from_vec(row);
+    put.reserved = reserved.put;
+    let mut dropped = empty(alloc);
+    dropped.reserved = reserved.dropped;
     Change {
         meta: meta_next(slice),
-        put: Rows {
-            orders: Listed::from_vec(row),
-            reserved: reserved.put,
-            ..empty(alloc)
-        },
-        dropped: Rows {
-            reserved: reserved.dropped,
-            ..empty(alloc)
-        },
+        put,
+        dropped,
         text: plain_reply(slice),
     }
 }

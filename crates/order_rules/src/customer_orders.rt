@@ -18,7 +18,7 @@ use row_rules::demands::{find_line, is_open};
 use row_rules::judging::first_of;
 use row_rules::orders_seen::sees_order;
 use row_rules::seeing::sees_item;
-use row_rules::{Change, Rows, Slice};
+use row_rules::{Change, Slice};
 use std::alloc::{AllocError, Global};
 use values::Gtin;
 
@@ -152,18 +152,16 @@ fn ordered(
 ) -> Change
     ensures { result ≡ record { meta = meta_after slice.now; put = record no_rows { orders = orders; lines = lines.items; reserved = booked.put }; dropped = record no_rows { reserved = booked.dropped }; text = codes "{\"act\":" ++ decimal (number_seen_lem slice.now) ++ short_field booked.short ++ codes "}" } }
 {
+    let mut put = empty(alloc);
+    put.orders = orders;
+    put.lines = Listed::from_vec(lines);
+    put.reserved = booked.put;
+    let mut dropped = empty(alloc);
+    dropped.reserved = booked.dropped;
     Change {
         meta: meta_next(slice),
-        put: Rows {
-            orders,
-            lines: Listed::from_vec(lines),
-            reserved: booked.put,
-            ..empty(alloc)
-        },
-        dropped: Rows {
-            reserved: booked.dropped,
-            ..empty(alloc)
-        },
+        put,
+        dropped,
         text: short_reply(slice, booked.short),
     }
 }

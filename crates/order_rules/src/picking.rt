@@ -2,11 +2,11 @@
 
 ghost use Rattle.std.specs.Prelude.{◌≡◌, ◌+◌, ◌-◌, IfOk};
 ghost use Rattle.machine.specs.Verdict.{first_refusal};
-ghost use Rattle.row_rules.specs.Seen.{capped, is_past_row as is_past_row_lem};
+ghost use Rattle.row_rules.specs.Seen.{capped, is_past_row as is_past_row_lem, no_rows};
 ghost use Rattle.order_rules.specs.DecidedPick.{pick_seen, unpick_seen, pick_changes, unpick_changes, changes_with, shares_with as shares_with_lem, sees_store as sees_store_lem};
 
 use commands::limits::ACTS_MAX;
-use commands::{Listed, LotRow, Picking, Refusal, ReservedRow};
+use commands::{Listed, LotRow, Picking, Refusal, ReservedRow, StagedRow, StockRow};
 use label::BusinessDay;
 use row_rules::changing::{empty, meta_next, plain_reply};
 use row_rules::judging::first_of;
@@ -139,13 +139,18 @@ fn change_with(
 {
     let shares = shares_with(alloc, slice, p, in_bin, staged)?;
     let put = rows_put(alloc, slice, p, in_bin, staged, shares.as_slice())?;
-    let dropped = rows_dropped(alloc, slice, p, in_bin, staged, shares.as_slice())?;
-    Ok(Change {
-        meta: meta_next(slice),
-        put,
-        dropped,
-        text: plain_reply(slice),
-    })
+    match rows_dropped(alloc, slice, p, in_bin, staged, shares.as_slice()) {
+        Err(e) => {
+            drop(put);
+            Err(e)
+        }
+        Ok(dropped) => Ok(Change {
+            meta: meta_next(slice),
+            put,
+            dropped,
+            text: plain_reply(slice),
+        }),
+    }
 }
 
 fn rows_put(
@@ -161,12 +166,7 @@ fn rows_put(
     let stock = stock_put(alloc, &p.lot, &p.bin, in_bin)?;
     let on_stage = staged_put(alloc, &p.order, &p.lot, staged)?;
     let reserved = rows_to_put(alloc, slice.rows.reserved.as_slice(), shares)?;
-    Ok(Rows {
-        stock: Listed::from_vec(stock),
-        staged: Listed::from_vec(on_stage),
-        reserved: Listed::from_vec(reserved),
-        ..empty(alloc)
-    })
+    Ok(rows_of(alloc, stock, on_stage, reserved))
 }
 
 fn rows_dropped(
@@ -183,12 +183,23 @@ fn rows_dropped(
     let stock = stock_gone(alloc, rows.stock.as_slice(), &p.lot, &p.bin, in_bin)?;
     let on_stage = staged_gone(alloc, rows.staged.as_slice(), &p.order, &p.lot, staged)?;
     let reserved = rows_to_drop(alloc, &p.lot.gtin, rows.reserved.as_slice(), shares)?;
-    Ok(Rows {
-        stock: Listed::from_vec(stock),
-        staged: Listed::from_vec(on_stage),
-        reserved: Listed::from_vec(reserved),
-        ..empty(alloc)
-    })
+    Ok(rows_of(alloc, stock, on_stage, reserved))
+}
+
+// These rows and no others.
+fn rows_of(
+    alloc: Global,
+    stock: Vec<StockRow>,
+    staged: Vec<StagedRow>,
+    reserved: Vec<ReservedRow>,
+) -> Rows
+    ensures { result ≡ record no_rows { stock = stock.items; staged = staged.items; reserved = reserved.items } }
+{
+    let mut rows = empty(alloc);
+    rows.stock = Listed::from_vec(stock);
+    rows.staged = Listed::from_vec(staged);
+    rows.reserved = Listed::from_vec(reserved);
+    rows
 }
 
 // The reserved rows of the item after the act.

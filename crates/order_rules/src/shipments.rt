@@ -4,6 +4,7 @@ ghost use Rattle.std.specs.Prelude.{◌≡◌, map, min, pos, neg_ℤ, decimal, 
 ghost use Rattle.std.specs.List.{list_any};
 ghost use Rattle.commands.specs.declared.limits.TheConstants.{UNITS_MAX};
 ghost use Rattle.machine.specs.Verdict.{first_refusal};
+ghost use Rattle.row_rules.specs.Seen.{no_rows};
 ghost use Rattle.order_rules.specs.DecidedShip.{ship_seen, ship_changes, shipment_seen as shipment_seen_lem, meta_shipped as meta_shipped_lem, rows_shipped as rows_shipped_lem, lines_shipped as lines_shipped_lem, line_shipped as line_shipped_lem, lacks_units as lacks_units_lem, order_put as order_put_lem, done_row as done_row_lem, shipment_put as shipment_put_lem, shipline as shipline_lem, ship_card as ship_card_lem, ship_reply as ship_reply_lem};
 
 use commands::limits::{ACTS_MAX, CARD_NOTE_MAX, UNITS_MAX};
@@ -43,10 +44,8 @@ pub fn change_ship(alloc: Global, slice: &Slice, order: &Name) -> Result<Change,
 {
     let staged = rows_shipped(alloc, slice.rows.staged.as_slice(), order)?;
     let put = ship_put(alloc, slice, order, staged.as_slice())?;
-    let dropped = Rows {
-        staged: Listed::from_vec(staged),
-        ..empty(alloc)
-    };
+    let mut dropped = empty(alloc);
+    dropped.staged = Listed::from_vec(staged);
     Ok(Change {
         meta: meta_shipped(slice),
         put,
@@ -67,17 +66,30 @@ fn ship_put(
     let lines = lines_shipped(alloc, slice, order)?;
     let lacking = any_lacks_units(lines.as_slice());
     let orders = order_put(alloc, order_row_seen(slice, order), lacking)?;
-    let shipments = one(alloc, shipment_put(slice, order))?;
     let shiplines = shiplines(alloc, shipment_seen(slice), staged)?;
     let cards = ship_cards(alloc, slice, staged)?;
-    Ok(Rows {
-        orders: Listed::from_vec(orders),
-        lines: Listed::from_vec(lines),
-        shipments,
-        shiplines: Listed::from_vec(shiplines),
-        cards: Listed::from_vec(cards),
-        ..empty(alloc)
-    })
+    let shipments = one(alloc, shipment_put(slice, order))?;
+    Ok(rows_of(alloc, orders, lines, shipments, shiplines, cards))
+}
+
+// These rows and no others.
+fn rows_of(
+    alloc: Global,
+    orders: Vec<OrderRow>,
+    lines: Vec<LineRow>,
+    shipments: Listed<ShipmentRow>,
+    shiplines: Vec<ShiplineRow>,
+    cards: Vec<CardRow>,
+) -> Rows
+    ensures { result ≡ record no_rows { orders = orders.items; lines = lines.items; shipments = shipments; shiplines = shiplines.items; cards = cards.items } }
+{
+    let mut rows = empty(alloc);
+    rows.orders = Listed::from_vec(orders);
+    rows.lines = Listed::from_vec(lines);
+    rows.shipments = shipments;
+    rows.shiplines = Listed::from_vec(shiplines);
+    rows.cards = Listed::from_vec(cards);
+    rows
 }
 
 // The number of the shipment.
