@@ -29,7 +29,10 @@ fn view_of(rt: &impl Abort, alloc: Global, rows: &Rows, order: &OrderRow) -> Ord
 fn expect(rt: &impl Abort, alloc: Global, case: &Viewed) {
     let rows = rows(rt, alloc, &case.rows);
     let view = view_of(rt, alloc, &rows, &case.order.row(rt));
-    assert_eq!(rt; Listing::of_order(&view).as_bytes(), case.text);
+    let listing = Listing::of_order(&view);
+    drop(rows);
+    drop(view);
+    assert_eq!(rt; listing.as_bytes(), case.text);
 }
 
 const CORNER_SHOP: Taken = Taken("S-1", 8, "Corner Shop", OrderState::Open);

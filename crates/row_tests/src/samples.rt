@@ -466,5 +466,7 @@ pub(crate) fn decided(
     let slice = slice(rt, alloc, sample);
     let key = key(rt, told);
     let command = command(rt, alloc, told);
-    again(alloc, &slice, &key, &command)
+    let made = again(alloc, &slice, &key, &command);
+    drop(slice);
+    made
 }

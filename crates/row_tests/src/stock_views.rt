@@ -37,7 +37,10 @@ fn expect(rt: &impl Abort, alloc: Global, case: &Viewed) {
     let day = business_day(rt, case.rows.day);
     let rows = rows(rt, alloc, &case.rows);
     let view = view_of(rt, alloc, day, &rows, &OAT_DRINK.row(rt));
-    assert_eq!(rt; Listing::of_stock(&view).as_bytes(), case.text);
+    let listing = Listing::of_stock(&view);
+    drop(rows);
+    drop(view);
+    assert_eq!(rt; listing.as_bytes(), case.text);
 }
 
 static VIEWED: [Viewed; 4] = [

@@ -18,25 +18,30 @@ use wire::short::{
 };
 use wire::{Answer, Block, write_answer, write_short};
 
+fn expect_short(rt: &impl Abort, status: StatusCode, text: &Short, want: &[u8]) {
+    assert_eq!(rt; write_short(status, None, text).as_bytes(), want);
+}
+
 #[test]
 fn writes_short_answers(rt: HostRuntime) -> Result<(), Fail> {
     let opened = Short::new(b"{\"act\":6,\"returned\":0}").ok_or("a short text")?;
-    assert_eq!(rt;
-        write_short(StatusCode::OK, None, &opened).as_bytes(),
-        b"HTTP/1.1 200 OK\r\ncontent-type: application/json\r\ncontent-length: 22\r\nconnection: close\r\n\r\n{\"act\":6,\"returned\":0}".as_slice()
+    expect_short(
+        &rt,
+        StatusCode::OK,
+        &opened,
+        b"HTTP/1.1 200 OK\r\ncontent-type: application/json\r\ncontent-length: 22\r\nconnection: close\r\n\r\n{\"act\":6,\"returned\":0}".as_slice(),
     );
-    assert_eq!(rt;
-        write_short(
-            StatusCode::CONFLICT,
-            None,
-            &refusal_text(Refusal::OverReserved)
-        )
-        .as_bytes(),
-        b"HTTP/1.1 409 Conflict\r\ncontent-type: application/json\r\ncontent-length: 14\r\nconnection: close\r\n\r\n{\"code\":\"Q02\"}".as_slice()
+    expect_short(
+        &rt,
+        StatusCode::CONFLICT,
+        &refusal_text(Refusal::OverReserved),
+        b"HTTP/1.1 409 Conflict\r\ncontent-type: application/json\r\ncontent-length: 14\r\nconnection: close\r\n\r\n{\"code\":\"Q02\"}".as_slice(),
     );
-    assert_eq!(rt;
-        write_short(StatusCode::SERVICE_UNAVAILABLE, None, &code_text("W91")).as_bytes(),
-        b"HTTP/1.1 503 Service Unavailable\r\ncontent-type: application/json\r\ncontent-length: 14\r\nconnection: close\r\n\r\n{\"code\":\"W91\"}".as_slice()
+    expect_short(
+        &rt,
+        StatusCode::SERVICE_UNAVAILABLE,
+        &code_text("W91"),
+        b"HTTP/1.1 503 Service Unavailable\r\ncontent-type: application/json\r\ncontent-length: 14\r\nconnection: close\r\n\r\n{\"code\":\"W91\"}".as_slice(),
     );
     Ok(())
 }
@@ -115,7 +120,7 @@ fn reserved(alloc: Global, text: &[u8], expiry: &[u8], qty: u64) -> Option<Reser
         lot: Lot::new(text).ok()?,
         expiry: Day::parse(expiry)?,
         qty,
-        bins: Listed::from_vec(vec![in alloc].ok()?),
+        bins: Listed::from_vec(Vec::new(alloc)),
     })
 }
 
@@ -127,21 +132,37 @@ fn written(alloc: Global, answer: &Answer) -> Result<Vec<u8>, AllocError> {
     }
 }
 
+fn expect_written(
+    rt: &impl Abort,
+    alloc: Global,
+    answer: Answer,
+    want: &[u8],
+) -> Result<(), AllocError> {
+    let bytes = written(alloc, &answer);
+    drop(answer);
+    let bytes = bytes?;
+    assert_eq!(rt; bytes.as_slice(), want);
+    Ok(())
+}
+
 fn an_order(alloc: Global) -> Option<OrderView> {
+    let gtin = Gtin::new(b"09506000134352").ok()?;
+    let customer = Title::new(b"Corner Shop")?;
+    let order = Name::new(b"S-1")?;
     let first = reserved(alloc, b"L0", b"2026-05-10", 5)?;
     let second = reserved(alloc, b"L2", b"2026-05-31", 7)?;
     let line = LineView {
-        gtin: Gtin::new(b"09506000134352").ok()?,
+        gtin,
         ordered: 12,
         reserved: Listed::from_vec(vec![in alloc; first, second].ok()?),
         shipped: 0,
         short: 0,
-        staged: Listed::from_vec(vec![in alloc].ok()?),
+        staged: Listed::from_vec(Vec::new(alloc)),
     };
     Some(OrderView {
-        customer: Title::new(b"Corner Shop")?,
+        customer,
         lines: Listed::from_vec(vec![in alloc; line].ok()?),
-        order: Name::new(b"S-1")?,
+        order,
         state: OrderState::Open,
     })
 }
@@ -152,11 +173,12 @@ fn writes_an_order(rt: HostRuntime) -> Result<(), Fail> {
         Some(shown) => shown,
         None => an_order(rt.alloc()).ok_or("memory")?,
     };
-    let bytes = written(rt.alloc(), &Answer::Order(shown))?;
-    assert_eq!(rt;
-        bytes.as_slice(),
-        b"HTTP/1.1 200 OK\r\ncontent-type: application/json\r\ncontent-length: 193\r\nconnection: close\r\n\r\n{\"customer\":\"Corner Shop\",\"lines\":[{\"gtin\":\"09506000134352\",\"ordered\":12,\"reserved\":[{\"lot\":\"L0\",\"qty\":5},{\"lot\":\"L2\",\"qty\":7}],\"shipped\":0,\"short\":0,\"staged\":[]}],\"order\":\"S-1\",\"state\":\"OPEN\"}".as_slice()
-    );
+    expect_written(
+        &rt,
+        rt.alloc(),
+        Answer::Order(shown),
+        b"HTTP/1.1 200 OK\r\ncontent-type: application/json\r\ncontent-length: 193\r\nconnection: close\r\n\r\n{\"customer\":\"Corner Shop\",\"lines\":[{\"gtin\":\"09506000134352\",\"ordered\":12,\"reserved\":[{\"lot\":\"L0\",\"qty\":5},{\"lot\":\"L2\",\"qty\":7}],\"shipped\":0,\"short\":0,\"staged\":[]}],\"order\":\"S-1\",\"state\":\"OPEN\"}".as_slice(),
+    )?;
     Ok(())
 }
 
@@ -170,19 +192,22 @@ fn a_stock(alloc: Global) -> Option<StockView> {
         bin: Name::new(b"RETURNS")?,
         qty: 7,
     };
+    let item = ItemRow {
+        gtin: Gtin::new(b"09506000134352").ok()?,
+        name: Title::new(b"Oat drink")?,
+    };
+    let expiry = Day::parse(b"2026-05-31")?;
+    let lot = Lot::new(b"L2").ok()?;
     let recalled = LotView {
         bins: Listed::from_vec(vec![in alloc; kept, returned].ok()?),
-        expiry: Day::parse(b"2026-05-31")?,
-        lot: Lot::new(b"L2").ok()?,
+        expiry,
+        lot,
         reserved: 0,
         staged: 0,
         status: LotStatus::Recalled,
     };
     Some(StockView {
-        item: ItemRow {
-            gtin: Gtin::new(b"09506000134352").ok()?,
-            name: Title::new(b"Oat drink")?,
-        },
+        item,
         lots: Listed::from_vec(vec![in alloc; recalled].ok()?),
     })
 }
@@ -193,11 +218,12 @@ fn writes_stock(rt: HostRuntime) -> Result<(), Fail> {
         Some(shown) => shown,
         None => a_stock(rt.alloc()).ok_or("memory")?,
     };
-    let bytes = written(rt.alloc(), &Answer::Stock(shown))?;
-    assert_eq!(rt;
-        bytes.as_slice(),
-        b"HTTP/1.1 200 OK\r\ncontent-type: application/json\r\ncontent-length: 190\r\nconnection: close\r\n\r\n{\"gtin\":\"09506000134352\",\"lots\":[{\"bins\":[{\"bin\":\"A-01\",\"qty\":3},{\"bin\":\"RETURNS\",\"qty\":7}],\"expiry\":\"2026-05-31\",\"lot\":\"L2\",\"reserved\":0,\"staged\":0,\"status\":\"RECALLED\"}],\"name\":\"Oat drink\"}".as_slice()
-    );
+    expect_written(
+        &rt,
+        rt.alloc(),
+        Answer::Stock(shown),
+        b"HTTP/1.1 200 OK\r\ncontent-type: application/json\r\ncontent-length: 190\r\nconnection: close\r\n\r\n{\"gtin\":\"09506000134352\",\"lots\":[{\"bins\":[{\"bin\":\"A-01\",\"qty\":3},{\"bin\":\"RETURNS\",\"qty\":7}],\"expiry\":\"2026-05-31\",\"lot\":\"L2\",\"reserved\":0,\"staged\":0,\"status\":\"RECALLED\"}],\"name\":\"Oat drink\"}".as_slice(),
+    )?;
     Ok(())
 }
 
@@ -207,10 +233,11 @@ fn writes_a_text(rt: HostRuntime) -> Result<(), Fail> {
         Ok(text) => text,
         Err(_) => b"TOTAL 4\n".to_vec(rt.alloc())?,
     };
-    let bytes = written(rt.alloc(), &Answer::Text(Listed::from_vec(text)))?;
-    assert_eq!(rt;
-        bytes.as_slice(),
-        b"HTTP/1.1 200 OK\r\ncontent-type: text/plain\r\ncontent-length: 8\r\nconnection: close\r\n\r\nTOTAL 4\n".as_slice()
-    );
+    expect_written(
+        &rt,
+        rt.alloc(),
+        Answer::Text(Listed::from_vec(text)),
+        b"HTTP/1.1 200 OK\r\ncontent-type: text/plain\r\ncontent-length: 8\r\nconnection: close\r\n\r\nTOTAL 4\n".as_slice(),
+    )?;
     Ok(())
 }

@@ -1,4 +1,4 @@
-use commands::{decimal_text, spell};
+use commands::{Command, decimal_text, spell};
 use requests::{
     Ask, Method, Posted, Query, Read, Shown, WireFault, body_of, json_value, query_of, read_request,
 };
@@ -41,6 +41,15 @@ fn told(alloc: Global, text: &[u8]) -> Outcome {
     }
 }
 
+// The outcome of one text.
+fn expect_one(rt: &impl Abort, alloc: Global, text: &[u8], want: Outcome) {
+    assert_eq!(rt; told(alloc, text), want);
+}
+
+fn expect_text(rt: &impl Abort, was: &[u8], want: &[u8]) {
+    assert_eq!(rt; was, want);
+}
+
 // The outcome of each text.
 fn expect(rt: &impl Abort, alloc: Global, rows: &[(&str, Outcome)]) {
     for row in rows {
@@ -65,9 +74,9 @@ fn expect_need(rt: &impl Abort, alloc: Global, text: &[u8], head: usize) {
 fn asks_for_more(rt: HostRuntime) {
     assert_eq!(rt; OPEN_A_DAY.len(), 75);
     expect_need(&rt, rt.alloc(), OPEN_A_DAY, DAY_HEAD);
-    assert_eq!(rt; told(rt.alloc(), OPEN_A_DAY), Outcome::Request);
+    expect_one(&rt, rt.alloc(), OPEN_A_DAY, Outcome::Request);
     expect_need(&rt, rt.alloc(), ADD_AN_ITEM, 44);
-    assert_eq!(rt; told(rt.alloc(), ADD_AN_ITEM), Outcome::Request);
+    expect_one(&rt, rt.alloc(), ADD_AN_ITEM, Outcome::Request);
 }
 
 // The request that opens a day, changed.
@@ -261,24 +270,19 @@ fn limits_heads(rt: HostRuntime) -> Result<(), Fail> {
     let (lines, rest) = OPEN_A_DAY.split_at(DAY_LINES);
     let (fewer, _) = FIELDS.split_at(124);
     let many = joined(rt.alloc(), lines, fewer, rest)?;
-    assert_eq!(rt; told(rt.alloc(), many.as_slice()), Outcome::Request);
+    expect_one(&rt, rt.alloc(), many.as_slice(), Outcome::Request);
+    drop(many);
     let more = joined(rt.alloc(), lines, FIELDS, rest)?;
-    assert_eq!(rt;
-        told(rt.alloc(), more.as_slice()),
-        Outcome::Bad(WireFault::Head)
-    );
+    let want = Outcome::Bad(WireFault::Head);
+    expect_one(&rt, rt.alloc(), more.as_slice(), want);
+    drop(more);
     let long = [b'a'; 8_193];
     let (full, _) = long.split_at(8_192);
-    assert_eq!(rt; told(rt.alloc(), full), Outcome::Need(WireFault::Head));
-    assert_eq!(rt;
-        told(rt.alloc(), long.as_slice()),
-        Outcome::Bad(WireFault::TooLarge)
-    );
+    expect_one(&rt, rt.alloc(), full, Outcome::Need(WireFault::Head));
+    let want = Outcome::Bad(WireFault::TooLarge);
+    expect_one(&rt, rt.alloc(), long.as_slice(), want);
     let endless = joined(rt.alloc(), lines, full, b"")?;
-    assert_eq!(rt;
-        told(rt.alloc(), endless.as_slice()),
-        Outcome::Bad(WireFault::TooLarge)
-    );
+    expect_one(&rt, rt.alloc(), endless.as_slice(), want);
     Ok(())
 }
 
@@ -344,7 +348,32 @@ fn judges_bodies(rt: HostRuntime) -> Result<(), Fail> {
     Ok(())
 }
 
+// A command as a text, spelled again where there was no memory.
+fn spelled(alloc: Global, command: &Command) -> Result<Vec<u8>, AllocError> {
+    match spell(alloc, command) {
+        Ok(text) => Ok(text),
+        Err(_) => spell(alloc, command),
+    }
+}
+
 // The command and its key that a body posted to a path asks for, as texts.
+fn asks_for(
+    rt: &impl Abort,
+    ask: &Ask,
+    alloc: Global,
+    key: &str,
+    command: &str,
+) -> Result<(), AllocError> {
+    if let Ask::Do(asked, told) = ask {
+        expect_text(rt, asked.text().as_bytes(), key.as_bytes());
+        let text = spelled(alloc, told)?;
+        expect_text(rt, text.as_slice(), command.as_bytes());
+    } else {
+        assert!(rt; false, "{command:?}");
+    }
+    Ok(())
+}
+
 fn asks(
     rt: &impl Abort,
     ask: Ask,
@@ -352,17 +381,9 @@ fn asks(
     key: &str,
     command: &str,
 ) -> Result<(), AllocError> {
-    if let Ask::Do(asked, told) = ask {
-        assert_eq!(rt; asked.text().as_bytes(), key.as_bytes());
-        let spelled = match spell(alloc, &told) {
-            Ok(spelled) => spelled,
-            Err(_) => spell(alloc, &told)?,
-        };
-        assert_eq!(rt; spelled.as_slice(), command.as_bytes());
-    } else {
-        assert!(rt; false, "{command:?}");
-    }
-    Ok(())
+    let compared = asks_for(rt, &ask, alloc, key, command);
+    drop(ask);
+    compared
 }
 
 static COMMANDS: [(&str, &str, &str, &str); 13] = [
@@ -462,10 +483,12 @@ fn asked(alloc: Global, posted: Posted, body: &[u8]) -> Result<Ask, WireFault> {
         Ok(value) => value,
         Err(_) => json_value(alloc, body)?,
     };
-    match body_of(alloc, posted, &value) {
+    let ask = match body_of(alloc, posted, &value) {
         Err(WireFault::Memory) => body_of(alloc, posted, &value),
         other => other,
-    }
+    };
+    drop(value);
+    ask
 }
 
 static TO_COME: [(Posted, &str, &str); 1] = [(
@@ -487,8 +510,8 @@ fn reads_bodies_to_come(rt: HostRuntime) -> Result<(), Fail> {
         asks(&rt, ask, rt.alloc(), "K/K-1", row.2)?;
     }
     for body in BROKEN_DAYS.as_slice() {
-        let was = asked(rt.alloc(), Posted::Days, body.as_bytes());
-        assert!(rt; matches!(was, Err(WireFault::Field)), "{body:?}");
+        let was = asked(rt.alloc(), Posted::Days, body.as_bytes()).err();
+        assert!(rt; matches!(was, Some(WireFault::Field)), "{body:?}");
     }
     Ok(())
 }
@@ -551,8 +574,8 @@ fn reads_paths(rt: HostRuntime) -> Result<(), Fail> {
         let query = shown(rt.alloc(), row.0, row.1).map_err(WireFault::code)?;
         let (name, first, second) = parts(&query);
         assert_eq!(rt; name, row.2);
-        assert_eq!(rt; first, row.3.as_bytes());
-        assert_eq!(rt; second, row.4.as_bytes());
+        expect_text(&rt, first, row.3.as_bytes());
+        expect_text(&rt, second, row.4.as_bytes());
     }
     let off = shown(rt.alloc(), Shown::Stock, "/stock/09506000134353");
     assert!(rt; matches!(off, Err(WireFault::Field)));
@@ -582,14 +605,15 @@ fn reads_receipts(rt: HostRuntime) -> Result<(), Fail> {
         qty,
     } = &ask
     {
-        assert_eq!(rt; delivery.as_bytes(), b"D-1".as_slice());
+        expect_text(&rt, delivery.as_bytes(), b"D-1");
         assert_eq!(rt; line.number(), 2);
-        assert_eq!(rt; label.as_slice(), b"]C101\x1d".as_slice());
-        assert_eq!(rt; bin.as_bytes(), b"A-01".as_slice());
+        expect_text(&rt, label.as_slice(), b"]C101\x1d");
+        expect_text(&rt, bin.as_bytes(), b"A-01");
         assert_eq!(rt; qty.units(), 10);
     } else {
         assert!(rt; false, "a receipt");
     }
+    drop(ask);
     Ok(())
 }
 
@@ -598,9 +622,10 @@ fn reads_a_path(rt: HostRuntime) -> Result<(), Fail> {
     let text = b"GET /orders/S%2D1 HTTP/1.1\r\nHost: a\r\n\r\n";
     let ask = ask_of(rt.alloc(), text).ok_or("a request")?;
     if let Ask::Show(Query::Order(order)) = &ask {
-        assert_eq!(rt; order.as_bytes(), b"S-1".as_slice());
+        expect_text(&rt, order.as_bytes(), b"S-1");
     } else {
         assert!(rt; false, "an order");
     }
+    drop(ask);
     Ok(())
 }
