@@ -16,7 +16,7 @@ use row_rules::plans::{ItemRows, item_rows, shares_over};
 use row_rules::replanning::{Replanned, shares_changed};
 use row_rules::seeing::{lot_seen, sees_hold, sees_item, sees_recall};
 use row_rules::stock::sees_lot;
-use row_rules::{Change, Rows, Slice};
+use row_rules::{Change, Slice};
 use std::alloc::{AllocError, Global};
 use values::LotId;
 
@@ -118,17 +118,15 @@ pub fn change_release(alloc: Global, slice: &Slice, lot: &LotId) -> Result<Chang
 fn released(alloc: Global, slice: &Slice, put: Vec<LotRow>, reserved: Replanned) -> Change
     ensures { result ≡ record { meta = meta_after slice.now; put = record no_rows { lots = put.items; reserved = reserved.put }; dropped = record no_rows { reserved = reserved.dropped }; text = plain_reply_lem slice.now } }
 {
+    let mut rows = empty(alloc);
+    rows.lots = Listed::from_vec(put);
+    rows.reserved = reserved.put;
+    let mut dropped = empty(alloc);
+    dropped.reserved = reserved.dropped;
     Change {
         meta: meta_next(slice),
-        put: Rows {
-            lots: Listed::from_vec(put),
-            reserved: reserved.put,
-            ..empty(alloc)
-        },
-        dropped: Rows {
-            reserved: reserved.dropped,
-            ..empty(alloc)
-        },
+        put: rows,
+        dropped,
         text: plain_reply(slice),
     }
 }

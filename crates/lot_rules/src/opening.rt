@@ -19,7 +19,7 @@ use row_rules::plans::{ItemRows, item_rows};
 use row_rules::pushing::push_if;
 use row_rules::replanning::{Replanned, replan_items};
 use row_rules::seeing::lot_seen;
-use row_rules::{Change, Rows, Slice};
+use row_rules::{Change, Slice};
 use std::alloc::{AllocError, Global};
 use values::{Gtin, LotId};
 
@@ -269,18 +269,16 @@ fn opened(
 ) -> Change
     ensures { result ≡ record { meta = meta_on_lem slice.now day; put = record no_rows { stock = stock.items; reserved = reserved.put }; dropped = record no_rows { staged = staged.items; reserved = reserved.dropped }; text = day_reply_lem slice.now day } }
 {
+    let mut put = empty(alloc);
+    put.stock = Listed::from_vec(stock);
+    put.reserved = reserved.put;
+    let mut dropped = empty(alloc);
+    dropped.staged = Listed::from_vec(staged);
+    dropped.reserved = reserved.dropped;
     Change {
         meta: meta_on(slice, day),
-        put: Rows {
-            stock: Listed::from_vec(stock),
-            reserved: reserved.put,
-            ..empty(alloc)
-        },
-        dropped: Rows {
-            staged: Listed::from_vec(staged),
-            reserved: reserved.dropped,
-            ..empty(alloc)
-        },
+        put,
+        dropped,
         text: day_reply(slice, day),
     }
 }

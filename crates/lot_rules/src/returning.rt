@@ -17,7 +17,7 @@ use row_rules::pushing::push_if;
 use row_rules::replanning::{Replanned, shares_changed};
 use row_rules::stock::{stock_put, stock_rows_with, units_in_bin};
 use row_rules::summing::sum_of_lot_staged;
-use row_rules::{Change, Rows, Slice};
+use row_rules::{Change, Slice};
 use std::alloc::{AllocError, Global};
 use values::{LotId, Name};
 
@@ -221,20 +221,18 @@ fn change_returning(
         staged,
         reserved,
     } = rows;
+    let mut put = empty(alloc);
+    put.lots = lots;
+    put.recalls = recalls;
+    put.stock = Listed::from_vec(stock);
+    put.reserved = reserved.put;
+    let mut dropped = empty(alloc);
+    dropped.staged = Listed::from_vec(staged);
+    dropped.reserved = reserved.dropped;
     Change {
         meta: meta_next(slice),
-        put: Rows {
-            lots,
-            recalls,
-            stock: Listed::from_vec(stock),
-            reserved: reserved.put,
-            ..empty(alloc)
-        },
-        dropped: Rows {
-            staged: Listed::from_vec(staged),
-            reserved: reserved.dropped,
-            ..empty(alloc)
-        },
+        put,
+        dropped,
         text: returned_reply(slice, lot),
     }
 }
