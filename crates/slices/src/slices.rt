@@ -19,8 +19,8 @@ use crate::order_slices::read_orders;
 use crate::reading::{count_bins, count_items, meta_row};
 use crate::sought::seek_all;
 use commands::{
-    BinRow, Command, ItemRow, LineRow, Listed, LotRow, MetaRow, RecallRow, ReservedRow, StagedRow,
-    StockRow,
+    BinRow, Command, ItemRow, LineRow, Listed, LotRow, MetaRow, OrderRow, RecallRow, ReservedRow,
+    StagedRow, StockRow,
 };
 use rules::{Rows, Slice};
 use slice_parts::naming::{bins_with, items_with, named_orders, whole_orders};
@@ -89,6 +89,43 @@ pub fn read_booked<S: Alter>(
     Ok((staged, reserved))
 }
 
+/// The rows that were read, together.
+pub fn rows_read(
+    alloc: Global,
+    goods: (Vec<ItemRow>, Vec<LotRow>, Vec<RecallRow>, Vec<StockRow>),
+    bins: Vec<BinRow>,
+    ordered: (Vec<OrderRow>, Vec<LineRow>),
+    booked: (Vec<StagedRow>, Vec<ReservedRow>),
+) -> Rows
+    ensures same_items { result.items ≡ goods.0.items }
+    ensures same_bins { result.bins ≡ bins.items }
+    ensures same_lots { result.lots ≡ goods.1.items }
+    ensures same_recalls { result.recalls ≡ goods.2.items }
+    ensures same_stock { result.stock ≡ goods.3.items }
+    ensures same_orders { result.orders ≡ ordered.0.items }
+    ensures same_lines { result.lines ≡ ordered.1.items }
+    ensures same_staged { result.staged ≡ booked.0.items }
+    ensures same_reserved { result.reserved ≡ booked.1.items }
+{
+    let (items, lots, recalls, stock) = goods;
+    let (orders, lines) = ordered;
+    let (staged, reserved) = booked;
+    Rows {
+        items: Listed::from_vec(items),
+        bins: Listed::from_vec(bins),
+        lots: Listed::from_vec(lots),
+        recalls: Listed::from_vec(recalls),
+        stock: Listed::from_vec(stock),
+        orders: Listed::from_vec(orders),
+        lines: Listed::from_vec(lines),
+        staged: Listed::from_vec(staged),
+        reserved: Listed::from_vec(reserved),
+        shipments: Listed::from_vec(Vec::new(alloc)),
+        shiplines: Listed::from_vec(Vec::new(alloc)),
+        cards: Listed::from_vec(Vec::new(alloc)),
+    }
+}
+
 /// The bins that the command names or that hold the stock.
 fn read_bins<S: Alter>(
     alloc: Global,
@@ -136,24 +173,11 @@ fn read_rows<S: Alter>(
 {
     let gtins = touched_items(alloc, tx, command)?;
     let named = named_orders(alloc, command)?;
-    let (items, lots, recalls, stock) = read_goods(alloc, tx, gtins.as_slice())?;
-    let bins = read_bins(alloc, tx, command, stock.as_slice())?;
-    let (orders, lines) = read_orders(alloc, tx, named.as_slice(), gtins.as_slice())?;
-    let (staged, reserved) = read_booked(alloc, tx, gtins.as_slice())?;
-    Ok(Rows {
-        items: Listed::from_vec(items),
-        bins: Listed::from_vec(bins),
-        lots: Listed::from_vec(lots),
-        recalls: Listed::from_vec(recalls),
-        stock: Listed::from_vec(stock),
-        orders: Listed::from_vec(orders),
-        lines: Listed::from_vec(lines),
-        staged: Listed::from_vec(staged),
-        reserved: Listed::from_vec(reserved),
-        shipments: Listed::from_vec(Vec::new(alloc)),
-        shiplines: Listed::from_vec(Vec::new(alloc)),
-        cards: Listed::from_vec(Vec::new(alloc)),
-    })
+    let goods = read_goods(alloc, tx, gtins.as_slice())?;
+    let bins = read_bins(alloc, tx, command, goods.3.as_slice())?;
+    let ordered = read_orders(alloc, tx, named.as_slice(), gtins.as_slice())?;
+    let booked = read_booked(alloc, tx, gtins.as_slice())?;
+    Ok(rows_read(alloc, goods, bins, ordered, booked))
 }
 
 /// The counts and the rows of the slice, beside the row of `meta`.
