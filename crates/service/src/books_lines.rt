@@ -1,4 +1,13 @@
-ghost use Rattle.std.specs.Prelude.{◌≡◌, ◌⊎◌, IfErr};
+ghost use Rattle.std.specs.Prelude.{◌≡◌, ◌≢◌, ◌⊎◌, ◌↔◌, ℤ, [], List, true, false, IsTrue, IsErr, IsErrOf, IfOk, IfErr};
+ghost use Rattle.sqlite.specs.Held.{state};
+ghost use Rattle.sqlite.specs.State.{HasCleanDisk};
+ghost use Rattle.table_words.specs.Schema.{schema_0, the_schema};
+ghost use Rattle.machine.specs.Acts.{Act};
+ghost use Rattle.machine.specs.Once.{IsHistory};
+ghost use Rattle.store.specs.declared.fault.Fault.TheVariants.{Foreign as ForeignBooks};
+ghost use Rattle.store.specs.Books.{AreRowsOf, KeepsBooks, HoldsBooks, IsClean};
+ghost use Rattle.house.specs.House.{books_of};
+ghost use Rattle.service.specs.Serving.{HasServed, KeepsRun, IsWorked, IsJudged};
 
 use crate::fault::Fault;
 use crate::running::Work;
@@ -15,15 +24,19 @@ use store::{Books, OpenFault};
 pub type Worked<S> = (Connection<S>, Result<(), Fault>);
 
 /// Does the work with the books over this connection, and gives the connection back. What it prints goes to `out`.
-/// Where the books cannot be made or opened, the connection is dropped and the error is `Foreign` for other tables
-/// and else `Store`, also for a connection within a transaction. A port that cannot be had and output that cannot be
-/// written are `Io` beside the connection.
+/// Books that were made are empty; books that were served are those of a run over at most as many texts as connections
+/// were to be answered. Where the books cannot be made or opened, the connection is dropped and the error is `Foreign`
+/// for other tables and else `Store`, also for a connection within a transaction. A port that cannot be had and output
+/// that cannot be written are `Io` beside the connection.
 pub fn worked<S: Alter + Drop, W: Write>(
     rt: &HostRuntime,
     conn: Connection<S>,
     work: Work,
     out: &mut W,
 ) -> Result<Worked<S>, Fault>
+    ensures worked { IfOk result (λ w. HasCleanDisk (state S.Store w.0) → IsWorked S.Store conn work w.0) }
+    ensures judged { IsJudged S.Store conn work result }
+    ensures within { conn.in_transaction ≡ true → IsErrOf result Fault.Store }
     ensures fault { IfErr result (λ fault. (fault ≡ Fault.Store) ⊎ (fault ≡ Fault.Foreign)) }
 {
     match work {
@@ -38,6 +51,9 @@ fn made<S: Alter + Drop>(
     conn: Connection<S>,
     day: BusinessDay,
 ) -> Result<Worked<S>, Fault>
+    ensures made { IfOk result (λ w. HasCleanDisk (state S.Store w.0) → KeepsBooks day [] (state S.Store w.0) × IsTrue (state S.Store w.0).is_open) }
+    ensures foreign { conn.in_transaction ≡ false → IsErrOf result Fault.Foreign ↔ ((state S.Store conn).now.schema ≢ schema_0) }
+    ensures within { conn.in_transaction ≡ true → IsErrOf result Fault.Store }
     ensures fault { IfErr result (λ fault. (fault ≡ Fault.Store) ⊎ (fault ≡ Fault.Foreign)) }
 {
     if !conn.is_autocommit() {
@@ -57,6 +73,10 @@ fn served<S: Alter + Drop, W: Write>(
     max: u32,
     out: &mut W,
 ) -> Result<Worked<S>, Fault>
+    ensures served { IfOk result (λ w. HasCleanDisk (state S.Store w.0) → (first : ℤ) (acts : List Act) → IsHistory first acts
+        → AreRowsOf first acts (state S.Store conn).committed.trees → KeepsRun S.Store first acts max w.0) }
+    ensures other { (state S.Store conn).now.schema ≢ the_schema → IsErr result }
+    ensures within { conn.in_transaction ≡ true → IsErrOf result Fault.Store }
     ensures fault { IfErr result (λ fault. (fault ≡ Fault.Store) ⊎ (fault ≡ Fault.Foreign)) }
 {
     match opened(rt.alloc(), conn) {
@@ -71,13 +91,21 @@ fn serve_books<S: Alter + Drop, W: Write>(
     port: u16,
     max: u32,
     out: &mut W,
-) -> Worked<S> {
+) -> Worked<S>
+    ensures clean { HasCleanDisk (state S.Store result.0) → IsClean S.Store books }
+    ensures served { HasCleanDisk (state S.Store result.0) → (first : ℤ) (acts : List Act) → IsHistory first acts → HoldsBooks S.Store first acts books
+        → KeepsRun S.Store first acts max result.0 }
+{
     let mut house = House::new(rt.alloc(), books);
     let end = serve_port(rt, port, max, out, &mut house);
     (house.close().close(), end)
 }
 
 fn opened<S: Alter + Drop>(alloc: Global, conn: Connection<S>) -> Result<Books<S>, Fault>
+    ensures books { IfOk result (λ b. IsClean S.Store b → (first : ℤ) (acts : List Act) → IsHistory first acts
+        → AreRowsOf first acts (state S.Store conn).committed.trees → HoldsBooks S.Store first acts b) }
+    ensures other { (state S.Store conn).now.schema ≢ the_schema → IsErr result }
+    ensures within { conn.in_transaction ≡ true → IsErrOf result Fault.Store }
     ensures fault { IfErr result (λ fault. (fault ≡ Fault.Store) ⊎ (fault ≡ Fault.Foreign)) }
 {
     if !conn.is_autocommit() {
@@ -90,7 +118,8 @@ fn opened<S: Alter + Drop>(alloc: Global, conn: Connection<S>) -> Result<Books<S
 }
 
 fn cause<S: Alter + Drop>(fault: OpenFault<S>) -> Fault
-    ensures { (result ≡ Fault.Store) ⊎ (result ≡ Fault.Foreign) }
+    ensures foreign { (result ≡ Fault.Foreign) ↔ (fault.fault ≡ ForeignBooks) }
+    ensures either { (result ≡ Fault.Store) ⊎ (result ≡ Fault.Foreign) }
 {
     match fault.fault {
         store::Fault::Foreign => Fault::Foreign,
@@ -104,7 +133,12 @@ fn serve_port<S: Alter + Drop, W: Write>(
     max: u32,
     out: &mut W,
     house: &mut House<S>,
-) -> Result<(), Fault> {
+) -> Result<(), Fault>
+    ensures clean { IsClean S.Store (books_of house.new) → IsClean S.Store (books_of house.old) }
+    ensures served { IsClean S.Store (books_of house.new)
+        → (first : ℤ) (acts : List Act) → IsHistory first acts → HoldsBooks S.Store first acts (books_of house.old)
+        → HasServed S.Store first acts max (books_of house.new) }
+{
     let listener = TcpListener::bind(rt, ("127.0.0.1", port))?;
     tell_port(port, out)?;
     serve_on(&listener, house, max);

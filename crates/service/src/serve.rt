@@ -1,5 +1,9 @@
-ghost use Rattle.store.specs.Books.{IsClean};
+ghost use Rattle.std.specs.Prelude.{ℤ, List};
+ghost use Rattle.machine.specs.Acts.{Act};
+ghost use Rattle.machine.specs.Once.{IsHistory};
+ghost use Rattle.store.specs.Books.{IsClean, HoldsBooks};
 ghost use Rattle.house.specs.House.{books_of};
+ghost use Rattle.service.specs.Serving.{GoesOn, HasServed};
 
 use house::House;
 use sqlite::Alter;
@@ -13,21 +17,37 @@ const PATIENCE: u64 = 10;
 /// How often at most more is read of a client that goes on sending after its answer.
 const READS_AFTER_ANSWER: u32 = 1024;
 
-/// Answers so many connections, one after another. One that breaks counts as the others do. A disk that has returned
-/// what was written until the end had done so before.
+/// Answers so many connections, one after another. One that breaks counts as the others do. Whatever the clients send,
+/// the books after are those of a run over as many texts at most. A disk that has returned what was written until the
+/// end had done so before.
 pub fn serve_on<S: Alter + Drop>(listener: &TcpListener, house: &mut House<S>, max: u32)
     ensures clean { IsClean S.Store (books_of house.new) → IsClean S.Store (books_of house.old) }
+    ensures served { IsClean S.Store (books_of house.new)
+        → (first : ℤ) (acts : List Act) → IsHistory first acts → HoldsBooks S.Store first acts (books_of house.old)
+        → HasServed S.Store first acts max (books_of house.new) }
 {
-    for stream in listener.incoming().take(max as usize) {
-        match stream {
-            Ok(stream) => serve_stream(&stream, house),
-            Err(_) => {}
-        }
+    for _ in 0..max {
+        serve_next(listener, house);
+    }
+}
+
+/// Waits for the next connection and answers it.
+fn serve_next<S: Alter + Drop>(listener: &TcpListener, house: &mut House<S>)
+    ensures clean { IsClean S.Store (books_of house.new) → IsClean S.Store (books_of house.old) }
+    ensures step { IsClean S.Store (books_of house.new)
+        → (first : ℤ) (acts : List Act) → IsHistory first acts → HoldsBooks S.Store first acts (books_of house.old)
+        → GoesOn S.Store first acts (books_of house.old) (books_of house.new) }
+{
+    if let Ok((stream, _)) = listener.accept() {
+        serve_stream(&stream, house);
     }
 }
 
 fn serve_stream<S: Alter + Drop>(stream: &TcpStream, house: &mut House<S>)
     ensures clean { IsClean S.Store (books_of house.new) → IsClean S.Store (books_of house.old) }
+    ensures step { IsClean S.Store (books_of house.new)
+        → (first : ℤ) (acts : List Act) → IsHistory first acts → HoldsBooks S.Store first acts (books_of house.old)
+        → GoesOn S.Store first acts (books_of house.old) (books_of house.new) }
 {
     let _ = stream.set_read_timeout(Some(Duration::from_secs(PATIENCE)));
     let _ = stream.set_write_timeout(Some(Duration::from_secs(PATIENCE)));

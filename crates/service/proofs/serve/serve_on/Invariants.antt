@@ -1,6 +1,14 @@
-use Rattle.store.specs.Books.{IsClean}
+use Rattle.std.proofs.Common.{ℤ, List}
+use Rattle.machine.specs.Acts.{Act}
+use Rattle.machine.specs.Once.{IsHistory}
+use Rattle.store.specs.Books.{IsClean, HoldsBooks}
 use Rattle.house.specs.House.{books_of}
+use Rattle.service.specs.Serving.{HasServed}
 use Rattle.service.proofs.serve.serve_on.Given as goal
 
-abbrev pub invariant-loop-stream : goal.invariant-loop-stream
-invariant-loop-stream g l = IsClean g.S.Store (books_of l.house) → IsClean g.S.Store (books_of l.initial.house)
+abbrev pub invariant-loop : goal.invariant-loop
+invariant-loop g l = record {
+  clean : IsClean g.S.Store (books_of l.house) → IsClean g.S.Store (books_of l.initial.house);
+  served : IsClean g.S.Store (books_of l.house) → (first : ℤ) (acts : List Act) → IsHistory first acts → HoldsBooks g.S.Store first acts (books_of l.initial.house)
+      → HasServed g.S.Store first acts l.counter (books_of l.house);
+}

@@ -1,0 +1,16 @@
+use Rattle.std.proofs.Common.{sym, subst}
+use Rattle.std.specs.Prelude.{IfOk}
+use Rattle.sqlite.specs.Held.{state}
+use Rattle.sqlite.specs.State.{HasCleanDisk}
+use Rattle.service.specs.Serving.{IsWorked, IsJudged}
+use Rattle.service.specs.declared.running.Work.TheVariants.{Make, Serve}
+use Rattle.service.proofs.books_lines.worked.Goals as goal
+
+pub returns-in-Make-clause-judged : goal.returns-in-Make-clause-judged
+returns-in-Make-clause-judged g c = subst (λ w. IsJudged g.S.Store c.args.conn w c.made.result) (sym c.in-Make.is) c.made.ensures.foreign
+
+pub returns-in-Serve-clause-worked : goal.returns-in-Serve-clause-worked
+returns-in-Serve-clause-worked g c = subst (λ work. IfOk c.served.result (λ w. HasCleanDisk (state g.S.Store w.0) → IsWorked g.S.Store c.args.conn work w.0)) (sym c.in-Serve.is) c.served.ensures.served
+
+pub returns-in-Serve-clause-judged : goal.returns-in-Serve-clause-judged
+returns-in-Serve-clause-judged g c = subst (λ w. IsJudged g.S.Store c.args.conn w c.served.result) (sym c.in-Serve.is) c.served.ensures.other

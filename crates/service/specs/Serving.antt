@@ -1,0 +1,45 @@
+-- What serving a port does to the books, and what a line's work does.
+use Rattle.std.specs.Prelude.{◌≡◌, ◌≢◌, ◌⊎◌, ◌↔◌, ◌≤◌, ℕ, ℤ, List, [], length, false, Result, IsErr, IsErrOf, IsTrue}
+use Rattle.sqlite_trees.specs.declared.store.Store.{Ghosts}
+use Rattle.sqlite.specs.Held.{Held, state}
+use Rattle.machine.specs.Acts.{Act}
+use Rattle.machine.specs.Once.{IsHistory}
+use Rattle.table_words.specs.Schema.{schema_0, the_schema}
+use Rattle.store.specs.Connected.{Connected}
+use Rattle.store.specs.Books.{AreRowsOf, KeepsBooks}
+use Rattle.house.specs.House.{Run, StepsTo, RunsTo}
+use Rattle.service.specs.declared.fault.Fault.{Fault}
+use Rattle.service.specs.declared.fault.Fault.TheVariants.{Foreign}
+use Rattle.service.specs.declared.running.Work.{Work}
+use Rattle.service.specs.declared.running.Work.TheVariants.{Make, Serve}
+
+-- the books are as they were, or one step over some text further
+abbrev pub GoesOn : {S : Type 0} → Ghosts S → ℤ → List Act → Connected S → Connected S → Type 0
+GoesOn g first acts old new = (new ≡ old) ⊎ ((text : List ℕ) × (bytes : List ℕ) × StepsTo g first acts text bytes new)
+
+-- the books are those of the acts after a run over so many texts at most
+pub record HasServed {S : Type 0} (g : Ghosts S) (first : ℤ) (acts : List Act) (max : ℕ) (books : Connected S) : Type 0 where
+  pub texts : List (List ℕ)
+  pub answers : List (List ℕ)
+  pub few : length texts ≤ max
+  pub runs : RunsTo g first acts texts answers books
+
+-- the connection keeps the books of the acts after a run over so many texts at most
+pub record KeepsRun {S : Type 0} (g : Ghosts S) (first : ℤ) (acts : List Act) (max : ℕ) (conn : Held S) : Type 0 where
+  pub texts : List (List ℕ)
+  pub answers : List (List ℕ)
+  pub after : List Act
+  pub few : length texts ≤ max
+  pub run : Run first acts texts answers after
+  pub history : IsHistory first after
+  pub keeps : KeepsBooks first after (state g conn)
+
+-- what the work makes of a connection
+abbrev pub IsWorked : {S : Type 0} → Ghosts S → Held S → Work → Held S → Type 0
+IsWorked g old (Make day) new = KeepsBooks day [] (state g new) × IsTrue (state g new).is_open
+IsWorked g old (Serve port max) new = (first : ℤ) (acts : List Act) → IsHistory first acts → AreRowsOf first acts (state g old).committed.trees → KeepsRun g first acts max new
+
+-- when the work is refused, and as what
+abbrev pub IsJudged : {S A : Type 0} → Ghosts S → Held S → Work → Result A Fault → Type 0
+IsJudged g old (Make day) result = old.in_transaction ≡ false → IsErrOf result Foreign ↔ ((state g old).now.schema ≢ schema_0)
+IsJudged g old (Serve port max) result = (state g old).now.schema ≢ the_schema → IsErr result
