@@ -16,6 +16,10 @@ use Rattle.slices.specs.Slicing.{Each, is_among, texts, listed, AreLinesOf}
 use Rattle.slices.proofs.ReadSteps.{then_answers}
 use Rattle.slices.proofs.RowsTold.{read_none, read_both}
 
+-- the rows of a text alone
+pub each_one : {R : Type 0} (P : List ℕ → List R → Type 0) (k : List ℕ) (rows : List R) → Each P (k ∷ []) rows → P k rows
+each_one P k rows (xs, ys, h, none, e) = subst (P k) (sym (e ∙ ap (λ l. xs ++ l) none ∙ append_none xs)) h
+
 -- the rows of one more text
 pub each_more : {R : Type 0} (P : List ℕ → List R → Type 0) (ks : List (List ℕ)) (k : List ℕ) (xs ys : List R) → Each P ks xs → P k ys → Each P (ks ++ k ∷ []) (xs ++ ys)
 each_more P [] k xs ys e h = (ys, [], h, refl, ap (λ l. l ++ ys) e ∙ sym (append_none ys))

@@ -6,7 +6,7 @@ ghost use Rattle.slices.specs.Reading.{IsRead};
 ghost use Rattle.slices.specs.Slicing.{listed, AreLinesOf, AreLines, AreNamed, AreOpen, AreOrdered};
 
 use crate::reading::{line_row, open_order_rows};
-use crate::sought::seek_all;
+use crate::sought::seek_both;
 use commands::{LineRow, OrderRow};
 use slice_parts::order_rows::{others, with_lines};
 use sqlite::{Alter, Transaction};
@@ -68,9 +68,7 @@ fn read_named<S: Alter>(
     ensures same_reference { tx.new.conn.ghost_name ≡ tx.old.conn.ghost_name }
     ensures read { IsRead (λ t rows. AreNamed named.now t rows.0.items rows.1.items) (state S.Store tx.old.conn.now) (state S.Store tx.new.conn.now) result }
 {
-    let orders = seek_all::<OrderRow, S>(alloc, tx, named)?;
-    let lines = seek_all::<LineRow, S>(alloc, tx, named)?;
-    Ok((orders, lines))
+    seek_both::<Name, OrderRow, LineRow, S>(alloc, tx, named)
 }
 
 /// The open orders that are not named and have a line of one of the items, and those lines.

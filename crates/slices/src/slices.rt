@@ -1,6 +1,6 @@
 //! The slice of the tables that a command is decided by.
 
-ghost use Rattle.std.specs.Prelude.{◌≡◌, ℤ, false, List, Some, Err, OnOk, IfOk, IfErr, IsTrue};
+ghost use Rattle.std.specs.Prelude.{◌≡◌, ℤ, false, [], List, Some, Err, OnOk, IfOk, IfErr, IsTrue};
 ghost use Rattle.sqlite.specs.State.{HasCleanDisk, Survives, KeepsCommit, IsUnchanged};
 ghost use Rattle.sqlite.specs.Held.{state};
 ghost use Rattle.table_words.specs.Steps.{IsReady};
@@ -17,7 +17,7 @@ ghost use Rattle.slices.specs.Slicing.{AreGoods, AreBooked, AreBins, AreCounts, 
 use crate::opening::affected_items;
 use crate::order_slices::read_orders;
 use crate::reading::{count_bins, count_items, meta_row};
-use crate::sought::seek_all;
+use crate::sought::{seek_all, seek_both};
 use commands::{
     BinRow, Command, ItemRow, LineRow, Listed, LotRow, MetaRow, OrderRow, RecallRow, ReservedRow,
     StagedRow, StockRow,
@@ -68,10 +68,8 @@ pub fn read_goods<S: Alter>(
     ensures same_reference { tx.new.conn.ghost_name ≡ tx.old.conn.ghost_name }
     ensures read { IsRead (λ t rows. AreGoods gtins.now t rows.0.items rows.1.items rows.2.items rows.3.items) (state S.Store tx.old.conn.now) (state S.Store tx.new.conn.now) result }
 {
-    let items = seek_all::<ItemRow, S>(alloc, tx, gtins)?;
-    let lots = seek_all::<LotRow, S>(alloc, tx, gtins)?;
-    let recalls = seek_all::<RecallRow, S>(alloc, tx, gtins)?;
-    let stock = seek_all::<StockRow, S>(alloc, tx, gtins)?;
+    let (items, lots) = seek_both::<Gtin, ItemRow, LotRow, S>(alloc, tx, gtins)?;
+    let (recalls, stock) = seek_both::<Gtin, RecallRow, StockRow, S>(alloc, tx, gtins)?;
     Ok((items, lots, recalls, stock))
 }
 
@@ -84,12 +82,10 @@ pub fn read_booked<S: Alter>(
     ensures same_reference { tx.new.conn.ghost_name ≡ tx.old.conn.ghost_name }
     ensures read { IsRead (λ t rows. AreBooked gtins.now t rows.0.items rows.1.items) (state S.Store tx.old.conn.now) (state S.Store tx.new.conn.now) result }
 {
-    let staged = seek_all::<StagedRow, S>(alloc, tx, gtins)?;
-    let reserved = seek_all::<ReservedRow, S>(alloc, tx, gtins)?;
-    Ok((staged, reserved))
+    seek_both::<Gtin, StagedRow, ReservedRow, S>(alloc, tx, gtins)
 }
 
-/// The rows that were read, together.
+/// The rows that were read, together; no shipment, no line of one and no card.
 pub fn rows_read(
     alloc: Global,
     goods: (Vec<ItemRow>, Vec<LotRow>, Vec<RecallRow>, Vec<StockRow>),
@@ -106,6 +102,9 @@ pub fn rows_read(
     ensures same_lines { result.lines ≡ ordered.1.items }
     ensures same_staged { result.staged ≡ booked.0.items }
     ensures same_reserved { result.reserved ≡ booked.1.items }
+    ensures no_shipments { result.shipments ≡ [] }
+    ensures no_shiplines { result.shiplines ≡ [] }
+    ensures no_cards { result.cards ≡ [] }
 {
     let (items, lots, recalls, stock) = goods;
     let (orders, lines) = ordered;
