@@ -3,6 +3,7 @@
 
 mod answer;
 pub mod laws;
+mod object;
 mod order;
 pub mod serving;
 pub mod short;

@@ -4,15 +4,18 @@ ghost use Rattle.serde_json.specs.View.{view, items_of};
 ghost use Rattle.serde_json.specs.Written.{compact_text};
 ghost use Rattle.wire.specs.Views.{lot_data, reserved_data, staged_data, line_members, line_data, state_text as state_text_lem, order_members, order_data};
 
+use crate::object::{with_count, with_list, with_text};
 use crate::text::{gtin_text, lot_text, name_text, title_text};
 use commands::{LineView, OrderState, OrderView, ReservedLot, StagedLot};
-use serde_json::{Value, json};
+use serde_json::{Map, Value};
 use std::alloc::{AllocError, Global};
 
 fn lot_json(alloc: Global, lot: &str, qty: u64) -> Result<Value, AllocError>
     ensures { IfOk result (λ v. view v ≡ lot_data lot.now qty) }
 {
-    json!(in alloc; {"lot": lot, "qty": qty})
+    let object = with_text(Map::new(alloc), alloc, "lot", lot)?;
+    let object = with_count(object, alloc, "qty", qty)?;
+    Ok(Value::Object(object))
 }
 
 fn reserved_values(alloc: Global, lots: &[ReservedLot]) -> Result<Vec<Value>, AllocError>
@@ -48,9 +51,13 @@ fn line_json(
         ≡ line_members gtin.now ordered (array (items_of (map view reserved.items))) shipped short
         (array (items_of (map view staged.items)))) }
 {
-    let reserved = Value::Array(reserved);
-    let staged = Value::Array(staged);
-    json!(in alloc; {"gtin": gtin, "ordered": ordered, "reserved": reserved, "shipped": shipped, "short": short, "staged": staged})
+    let object = with_list(Map::new(alloc), alloc, "reserved", reserved)?;
+    let object = with_list(object, alloc, "staged", staged)?;
+    let object = with_text(object, alloc, "gtin", gtin)?;
+    let object = with_count(object, alloc, "ordered", ordered)?;
+    let object = with_count(object, alloc, "shipped", shipped)?;
+    let object = with_count(object, alloc, "short", short)?;
+    Ok(Value::Object(object))
 }
 
 fn line_value(alloc: Global, line: &LineView) -> Result<Value, AllocError>
@@ -100,8 +107,11 @@ fn object_json(
     ensures { IfOk result (λ v. view v
         ≡ order_members customer.now (array (items_of (map view lines.items))) order.now state.now) }
 {
-    let lines = Value::Array(lines);
-    json!(in alloc; {"customer": customer, "lines": lines, "order": order, "state": state})
+    let object = with_list(Map::new(alloc), alloc, "lines", lines)?;
+    let object = with_text(object, alloc, "customer", customer)?;
+    let object = with_text(object, alloc, "order", order)?;
+    let object = with_text(object, alloc, "state", state)?;
+    Ok(Value::Object(object))
 }
 
 fn order_value(alloc: Global, shown: &OrderView) -> Result<Value, AllocError>

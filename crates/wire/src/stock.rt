@@ -4,15 +4,18 @@ ghost use Rattle.serde_json.specs.View.{view, items_of};
 ghost use Rattle.serde_json.specs.Written.{compact_text};
 ghost use Rattle.wire.specs.Views.{bin_members, bin_data, status_text as status_text_lem, lot_members, lot_stock_data, stock_members, stock_data};
 
+use crate::object::{with_count, with_list, with_text};
 use crate::text::{gtin_text, lot_text, name_text, readable, title_text};
 use commands::{BinUnits, LotStatus, LotView, StockView};
-use serde_json::{Value, json};
+use serde_json::{Map, Value};
 use std::alloc::{AllocError, Global};
 
 fn bin_json(alloc: Global, bin: &str, qty: u64) -> Result<Value, AllocError>
     ensures { IfOk result (λ v. view v ≡ bin_members bin.now qty) }
 {
-    json!(in alloc; {"bin": bin, "qty": qty})
+    let object = with_text(Map::new(alloc), alloc, "bin", bin)?;
+    let object = with_count(object, alloc, "qty", qty)?;
+    Ok(Value::Object(object))
 }
 
 fn bin_values(alloc: Global, bins: &[BinUnits]) -> Result<Vec<Value>, AllocError>
@@ -48,8 +51,13 @@ fn lot_json(
     ensures { IfOk result (λ v. view v
         ≡ lot_members (array (items_of (map view bins.items))) expiry.now lot.now reserved staged status.now) }
 {
-    let bins = Value::Array(bins);
-    json!(in alloc; {"bins": bins, "expiry": expiry, "lot": lot, "reserved": reserved, "staged": staged, "status": status})
+    let object = with_list(Map::new(alloc), alloc, "bins", bins)?;
+    let object = with_text(object, alloc, "expiry", expiry)?;
+    let object = with_text(object, alloc, "lot", lot)?;
+    let object = with_count(object, alloc, "reserved", reserved)?;
+    let object = with_count(object, alloc, "staged", staged)?;
+    let object = with_text(object, alloc, "status", status)?;
+    Ok(Value::Object(object))
 }
 
 #[tactic(auto, using(crate::proofs::Texts::day_is_utf8))]
@@ -83,8 +91,10 @@ fn object_json(alloc: Global, gtin: &str, lots: Vec<Value>, name: &str) -> Resul
     ensures { IfOk result (λ v. view v
         ≡ stock_members gtin.now (array (items_of (map view lots.items))) name.now) }
 {
-    let lots = Value::Array(lots);
-    json!(in alloc; {"gtin": gtin, "lots": lots, "name": name})
+    let object = with_list(Map::new(alloc), alloc, "lots", lots)?;
+    let object = with_text(object, alloc, "gtin", gtin)?;
+    let object = with_text(object, alloc, "name", name)?;
+    Ok(Value::Object(object))
 }
 
 fn stock_value(alloc: Global, shown: &StockView) -> Result<Value, AllocError>
