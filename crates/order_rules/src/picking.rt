@@ -141,6 +141,7 @@ fn change_with(
     let put = rows_put(alloc, slice, p, in_bin, staged, shares.as_slice())?;
     match rows_dropped(alloc, slice, p, in_bin, staged, shares.as_slice()) {
         Err(e) => {
+            // (a call: dropped at the end of its scope it is dropped field by field, docs/GATE.md)
             drop(put);
             Err(e)
         }

@@ -106,6 +106,7 @@ fn act_anew<S: Alter>(
 {
     let change = change_of(alloc, tx, key, command)?;
     let reply = accept(alloc, tx, key, command, &change);
+    // A call, and before any `?`: dropped at the end of its scope it is dropped field by field (docs/GATE.md).
     drop(change);
     reply
 }
@@ -129,6 +130,7 @@ fn change_of<S: Alter>(
 {
     let slice = read_slice(alloc, tx, command)?;
     let change = decided(alloc, &slice, key, command);
+    // (as `change` above)
     drop(slice);
     change
 }

@@ -69,6 +69,7 @@ fn view_of(alloc: Global, found: Option<(OrderRow, Rows)>) -> Result<OrderView, 
         None => Err(Fault::Refused(Refusal::UnknownOrder)),
         Some((row, rows)) => {
             let view = order_view(alloc, &rows, &row);
+            // A call, and before any `?`: dropped at the end of its scope it is dropped field by field (docs/GATE.md).
             drop(rows);
             Ok(view?)
         }

@@ -77,6 +77,7 @@ fn view_of(
         None => Err(Fault::Refused(Refusal::UnknownItem)),
         Some((row, rows)) => {
             let view = stock_view(alloc, day, &rows, &row);
+            // A call, and before any `?`: dropped at the end of its scope it is dropped field by field (docs/GATE.md).
             drop(rows);
             Ok(view?)
         }

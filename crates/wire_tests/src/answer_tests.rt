@@ -18,6 +18,7 @@ use wire::short::{
 };
 use wire::{Answer, Block, write_answer, write_short};
 
+// The bytes of a short answer.
 fn expect_short(rt: &impl Abort, status: StatusCode, text: &Short, want: &[u8]) {
     assert_eq!(rt; write_short(status, None, text).as_bytes(), want);
 }
@@ -132,6 +133,7 @@ fn written(alloc: Global, answer: &Answer) -> Result<Vec<u8>, AllocError> {
     }
 }
 
+// The bytes of an answer that shows something.
 fn expect_written(
     rt: &impl Abort,
     alloc: Global,

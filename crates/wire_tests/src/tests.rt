@@ -46,6 +46,7 @@ fn expect_one(rt: &impl Abort, alloc: Global, text: &[u8], want: Outcome) {
     assert_eq!(rt; told(alloc, text), want);
 }
 
+// The text, byte for byte.
 fn expect_text(rt: &impl Abort, was: &[u8], want: &[u8]) {
     assert_eq!(rt; was, want);
 }
