@@ -177,20 +177,20 @@ fn corrections(alloc: Global, slice: &Slice, made: &Correction) -> Result<Change
     let gone = stock_gone(alloc, olds, &made.lot, &made.bin, made.left)?;
     let cards = correction_cards(alloc, slice, made, stock.as_slice())?;
     let reserved = reserved_corrected(alloc, slice, made, stock.as_slice())?;
-    Ok(corrected(alloc, slice, made.change, put, gone, cards, reserved))
+    Ok(corrected(alloc, slice, made, put, gone, cards, reserved))
 }
 
 // The change by these rows.
 fn corrected(
     alloc: Global,
     slice: &Slice,
-    change: i64,
+    made: &Correction,
     put: Vec<StockRow>,
     gone: Vec<StockRow>,
     cards: Vec<CardRow>,
     reserved: Replanned,
 ) -> Change
-    ensures { result ≡ record { meta = meta_after slice.now; put = record no_rows { stock = put.items; reserved = reserved.put; cards = cards.items }; dropped = record no_rows { stock = gone.items; reserved = reserved.dropped }; text = change_reply_lem slice.now change } }
+    ensures { result ≡ record { meta = meta_after slice.now; put = record no_rows { stock = put.items; reserved = reserved.put; cards = cards.items }; dropped = record no_rows { stock = gone.items; reserved = reserved.dropped }; text = change_reply_lem slice.now made.now.change } }
 {
     let mut rows = empty(alloc);
     rows.stock = Listed::from_vec(put);
@@ -203,7 +203,7 @@ fn corrected(
         meta: meta_next(slice),
         put: rows,
         dropped,
-        text: change_reply(slice, change),
+        text: change_reply(slice, made.change),
     }
 }
 

@@ -192,13 +192,9 @@ fn lots_if_new(alloc: Global, known: Option<LotRow>, row: LotRow) -> Result<Vec<
     ensures { IfOk result (λ v. v.items ≡ lots_if_new_lem known row) }
 {
     let mut rows = Vec::new(alloc);
-    match known {
-        None => {
-            rows.push(row)?;
-            Ok(rows)
-        }
-        Some(_) => Ok(rows),
-    }
+    let there = known.is_some();
+    push_if(&mut rows, !there, row)?;
+    Ok(rows)
 }
 
 fn new_lot_row(slice: &Slice, r: &Receipt) -> LotRow

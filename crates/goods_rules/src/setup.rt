@@ -9,7 +9,7 @@ use commands::{BinRow, ItemRow, NewBin, NewItem, Refusal};
 use row_rules::changing::{empty, meta_next, one, plain_reply};
 use row_rules::judging::first_of;
 use row_rules::seeing::{sees_bin, sees_item};
-use row_rules::{Change, Rows, Slice};
+use row_rules::{Change, Slice};
 use std::alloc::{AllocError, Global};
 
 /// The refusal of a new item, if it is refused.
@@ -33,10 +33,9 @@ pub fn change_item(alloc: Global, slice: &Slice, item: &NewItem) -> Result<Chang
         gtin: item.gtin,
         name: item.name,
     };
-    let put = Rows {
-        items: one(alloc, row)?,
-        ..empty(alloc)
-    };
+    let items = one(alloc, row)?;
+    let mut put = empty(alloc);
+    put.items = items;
     Ok(Change {
         meta: meta_next(slice),
         put,
@@ -66,10 +65,9 @@ pub fn change_bin(alloc: Global, slice: &Slice, bin: &NewBin) -> Result<Change, 
         name: bin.bin,
         kind: bin.kind,
     };
-    let put = Rows {
-        bins: one(alloc, row)?,
-        ..empty(alloc)
-    };
+    let bins = one(alloc, row)?;
+    let mut put = empty(alloc);
+    put.bins = bins;
     Ok(Change {
         meta: meta_next(slice),
         put,

@@ -11,7 +11,8 @@ use plan::{Demand, Plan};
 use row_rules::Slice;
 use row_rules::changing::number_seen;
 use row_rules::demands::demands_seen;
-use row_rules::plans::{named_rows, plan_within, rows_to_drop, rows_to_put};
+use row_rules::plans::{named_rows, plan_within};
+use row_rules::replanning::shares_changed;
 use row_rules::supplies::supplies_seen;
 use std::alloc::{AllocError, Global};
 use values::{Gtin, Name};
@@ -135,15 +136,14 @@ fn book_line(
     let lots = slice.rows.lots.as_slice();
     let shares = named_rows(alloc, orders, lots, plan.rows())?;
     let olds = slice.rows.reserved.as_slice();
-    let put = rows_to_put(alloc, olds, shares.as_slice())?;
-    let dropped = rows_to_drop(alloc, &line.gtin, olds, shares.as_slice())?;
+    let changed = shares_changed(alloc, &line.gtin, olds, shares.as_slice())?;
     let demand = Demand {
         booking: number_seen(slice),
         need: u64::from(line.qty.units()),
     };
     Ok(Booked {
-        put: Listed::from_vec(put),
-        dropped: Listed::from_vec(dropped),
+        put: changed.put,
+        dropped: changed.dropped,
         short: plan.short(demand),
     })
 }

@@ -184,9 +184,7 @@ fn order_put(
     match row {
         None => Ok(rows),
         Some(r) => {
-            if !lacking {
-                rows.push(done_row(&r))?;
-            }
+            push_if(&mut rows, !lacking, done_row(&r))?;
             Ok(rows)
         }
     }

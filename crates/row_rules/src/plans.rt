@@ -1,7 +1,8 @@
 //! The plan of an item, and the reserved rows that it changes.
 
-ghost use Rattle.std.specs.Prelude.{◌≡◌, ◌==◌, find, IfOk};
+ghost use Rattle.std.specs.Prelude.{◌≡◌, ◌==◌, ◌&&◌, not, find, IfOk};
 ghost use Rattle.std.specs.List.{list_any};
+ghost use Rattle.machine.specs.Postings.{of_item};
 ghost use Rattle.row_rules.specs.Plans.{plan_within as plan_within_lem, named_row, named_rows as named_rows_lem, is_share_of, has_qty, shares_over as shares_over_lem, rows_to_put as rows_to_put_lem, rows_to_drop as rows_to_drop_lem};
 
 use crate::Rows;
@@ -186,11 +187,19 @@ pub fn rows_to_drop(
 {
     let mut dropped = Vec::new(alloc);
     for row in olds {
-        let own = *gtin == row.lot.gtin;
-        let stays = has_share(news, row);
-        push_if(&mut dropped, own && !stays, *row)?;
+        let gone = is_gone(gtin, news, row);
+        push_if(&mut dropped, gone, *row)?;
     }
     Ok(dropped)
+}
+
+// Whether the row is of the item and there no more.
+fn is_gone(gtin: &Gtin, news: &[ReservedRow], row: &ReservedRow) -> bool
+    ensures { result ≡ of_item gtin.now row.now.lot && not (list_any (is_share_of row.now) news.now) }
+{
+    let own = *gtin == row.lot.gtin;
+    let stays = has_share(news, row);
+    own && !stays
 }
 
 fn is_same_share(a: &ReservedRow, b: &ReservedRow) -> bool

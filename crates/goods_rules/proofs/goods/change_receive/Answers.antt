@@ -1,0 +1,21 @@
+use Rattle.std.proofs.Common.{[], ◌∷◌, ap, ◌∙◌}
+use Rattle.commands.specs.declared.rows.CardRow.{CardRow}
+use Rattle.commands.specs.declared.rows.StockRow.{StockRow}
+use Rattle.row_rules.specs.Seen.{meta_after, no_rows, plain_reply}
+use Rattle.goods_rules.proofs.goods.change_receive.Goals as goal
+
+pub returns : goal.returns
+returns c =
+    let s = c.args.slice.now in
+    let stock = c.in_ok-stock.ensures in
+    let cards = c.in_ok-cards.ensures ∙ ap (λ (k : CardRow). k ∷ []) (c.receive_card.ensures (c.as_slice.ensures.value ∙ stock)) in
+    let put = c.in_ok-reserved.ensures.put (c.as_slice-2.ensures.value ∙ stock) in
+    let dropped = c.in_ok-reserved.ensures.dropped (c.as_slice-2.ensures.value ∙ stock) in
+    let row = c.in_ok-put.ensures ∙ ap (λ (q : StockRow). q ∷ []) c.stock_after.ensures in
+    c.received.ensures
+    ∙ (λ i. record {
+      meta = meta_after s;
+      put = record no_rows { lots = c.in_ok-lots.ensures i; stock = row i; reserved = put i; cards = cards i };
+      dropped = record no_rows { reserved = dropped i };
+      text = plain_reply s;
+    })
