@@ -103,7 +103,8 @@ fn field<'b>(text: &'b [u8], headers: &[HeaderSpan], name: &[u8]) -> Option<&'b 
 fn is_digit(c: u8) -> bool
     ensures { result ≡ is_digit_lem c }
 {
-    b'0' <= c && c <= b'9'
+    // `&` and not `&&`: one value, without a branch.
+    (b'0' <= c) & (c <= b'9')
 }
 
 fn are_digits(text: &[u8]) -> bool

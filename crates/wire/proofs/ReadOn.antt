@@ -1,5 +1,5 @@
 -- What is read of a reader and written to a writer.
-use Rattle.std.proofs.Common.{◌≡◌, ◌≢◌, ℕ, ◌+◌, ◌-◌, ◌<◌, true, List, ◌++◌, length, Option, refl, sym, ap, ◌∙◌, subst, inl, arith, length-append}
+use Rattle.std.proofs.Common.{◌≡◌, ◌≢◌, ℕ, ◌+◌, ◌-◌, ◌<◌, true, List, [], ◌++◌, length, Option, refl, sym, ap, ◌∙◌, subst, inl, inr, arith, length-append, append-nil}
 use Rattle.std.specs.Io.KnownBytes.{Consumes}
 use Rattle.std.proofs.KnownBytes.{Consumes-trans}
 use Rattle.requests.specs.Requests.{IsReading}
@@ -7,9 +7,9 @@ use Rattle.requests.specs.Laws.{needs_more}
 use Rattle.requests.specs.declared.fault.WireFault.TheVariants.{Memory}
 use Rattle.requests.specs.declared.request.Read.{Read}
 use Rattle.requests.specs.declared.request.Read.TheVariants.{Need, Bad, Request}
-use Rattle.wire.specs.Serving.{IsRead, IsTaken}
+use Rattle.wire.specs.Serving.{IsRead, IsTaken, stopped}
 use Rattle.wire.specs.declared.serving.Taken.{Taken}
-use Rattle.wire.specs.declared.serving.Taken.TheVariants.{More, NoRoom}
+use Rattle.wire.specs.declared.serving.Taken.TheVariants.{More, End, NoRoom}
 
 pub needing_has_memory : (r : Read) → needs_more r ≡ true → r ≢ Bad Memory
 needing_has_memory (Need e) h p = cc
@@ -29,8 +29,11 @@ taken_on first from to old new t e was h =
     let taken = subst (IsTaken from to old new) e h in
     subst (Consumes first to) (sym taken.2) (Consumes-trans first from to old taken.0 was taken.1)
 
--- there was no memory for what was read
-pub without_room : (first from to : Option (List ℕ)) (old new : List ℕ) (t : Taken) → t ≡ NoRoom → Consumes first from old → IsTaken from to old new t → IsRead first to (Bad Memory)
-without_room first from to old new t e was h =
-    let taken = subst (IsTaken from to old new) e h in
-    record { text = old ++ taken.0; taken = Consumes-trans first from to old taken.0 was taken.1; read = λ has. absurd (has refl); whole = inl refl }
+-- no more is read
+pub at_stop : (first from to : Option (List ℕ)) (old new : List ℕ) (t : Taken) (r : Read) → t ≢ More → Consumes first from old
+    → (r ≢ Bad Memory → IsReading old r) → IsTaken from to old new t → IsRead first to (stopped t r)
+at_stop first from to old new More r n was read h = absurd (n refl)
+at_stop first from to old new End r n was read h =
+    record { text = old ++ []; taken = Consumes-trans first from to old [] was h.0; read = λ has. subst (λ t. IsReading t r) (sym (append-nil old)) (read has); whole = inr h.1 }
+at_stop first from to old new NoRoom r n was read h =
+    record { text = old ++ h.0; taken = Consumes-trans first from to old h.0 was h.1; read = λ has. absurd (has refl); whole = inl refl }

@@ -27,3 +27,9 @@ abbrev pub IsTaken : Option (List ℕ) → Option (List ℕ) → List ℕ → Li
 IsTaken from to old new More = (bytes : List ℕ) × Consumes from to bytes × (new ≡ old ++ bytes) × (0 < length bytes)
 IsTaken from to old new End = Consumes from to [] × IsAtEnd to
 IsTaken from to old new NoRoom = (bytes : List ℕ) × Consumes from to bytes
+
+-- the reading where no more is read
+abbrev pub stopped : Taken → Read → Read
+stopped More reading = reading
+stopped End reading = reading
+stopped NoRoom reading = Bad Memory

@@ -49,12 +49,9 @@ fn push_fields(block: &mut Block, kind: &[u8], size: u64)
 {
     block.push_all(b"content-type: ");
     block.push_all(kind);
-    block.push_all(b"\r\n");
-    block.push_all(b"content-length: ");
+    block.push_all(b"\r\ncontent-length: ");
     block.push_decimal(size);
-    block.push_all(b"\r\n");
-    block.push_all(b"connection: close");
-    block.push_all(b"\r\n");
+    block.push_all(b"\r\nconnection: close\r\n");
 }
 
 fn push_allow(block: &mut Block, allow: Option<Method>)

@@ -3,7 +3,7 @@
 ghost use Rattle.std.specs.Prelude.{◌≡◌, IfOk, IfErr, OnOk};
 ghost use Rattle.std.specs.Io.KnownBytes.{Appends, Keeps};
 ghost use Rattle.requests.specs.Laws.{needs_more as needs_more_lem};
-ghost use Rattle.wire.specs.Serving.{IsRead, IsTaken};
+ghost use Rattle.wire.specs.Serving.{IsRead, IsTaken, stopped as stopped_lem};
 
 use requests::{Read as Reading, WireFault, read_request};
 use std::alloc::Global;
@@ -62,6 +62,16 @@ fn needs_more(reading: &Reading) -> bool
     }
 }
 
+/// The reading where no more is read. In a function of its own, so that its caller has one exit for it.
+fn stopped(stop: Taken, reading: Reading) -> Reading
+    ensures { result ≡ stopped_lem stop reading }
+{
+    match stop {
+        Taken::More | Taken::End => reading,
+        Taken::NoRoom => Reading::Bad(WireFault::Memory),
+    }
+}
+
 /// Reads until no more bytes are needed or the reader comes to its end. What was read then has this reading, which is
 /// `Bad` with `W90` where there was no memory for what was read. The fault is `Read` where the reader fails.
 pub fn read_whole<R: Read>(alloc: Global, reader: &mut R) -> Result<Reading, ServeFault>
@@ -73,8 +83,7 @@ pub fn read_whole<R: Read>(alloc: Global, reader: &mut R) -> Result<Reading, Ser
     while needs_more(&reading) {
         match read_more(reader, &mut text)? {
             Taken::More => reading = read_request(alloc, text.as_slice()),
-            Taken::End => return Ok(reading),
-            Taken::NoRoom => return Ok(Reading::Bad(WireFault::Memory)),
+            stop => return Ok(stopped(stop, reading)),
         }
     }
     Ok(reading)

@@ -1,0 +1,43 @@
+-- What a request asks, step by step.
+use Rattle.std.proofs.Common.{◌≡◌, ◌≢◌, ◌∙◌, ap, refl, ℕ, List, Bool, Option, Some, Result, Err, if◌then◌else◌}
+use Rattle.std.specs.Option.{ok_or}
+use Rattle.std.specs.Str.{bytes_eq}
+use Rattle.serde_json.specs.Data.{Data}
+use Rattle.requests.specs.Fields.{json}
+use Rattle.requests.specs.Bodies.{body_of}
+use Rattle.requests.specs.Routes.{route_of, method_of, method_name}
+use Rattle.requests.specs.Requests.{valued, posted, read_route, read_method, read_ask}
+use Rattle.requests.specs.declared.ask.Ask.{Ask}
+use Rattle.requests.specs.declared.fault.WireFault.{WireFault}
+use Rattle.requests.specs.declared.fault.WireFault.TheVariants.{Field, Method}
+use Rattle.requests.specs.declared.routes.Route.{Route}
+use Rattle.requests.specs.declared.routes.Posted.{Posted}
+use Rattle.requests.specs.declared.routes.Posted.TheVariants.{Items, Bins, Receipts, Moves, Counts, Adjustments, Orders, Cancels, Picks, Unpicks, Shipments, Holds, Releases, Recalls, Days, GoodsIn}
+
+-- what is no file is JSON
+as_json : (p : Posted) (body : List ℕ) → p ≢ GoodsIn → posted p body ≡ valued p (json body)
+as_json Items body n = refl
+as_json Bins body n = refl
+as_json Receipts body n = refl
+as_json Moves body n = refl
+as_json Counts body n = refl
+as_json Adjustments body n = refl
+as_json Orders body n = refl
+as_json Cancels body n = refl
+as_json Picks body n = refl
+as_json Unpicks body n = refl
+as_json Shipments body n = refl
+as_json Holds body n = refl
+as_json Releases body n = refl
+as_json Recalls body n = refl
+as_json Days body n = refl
+as_json GoodsIn body n = absurd (n refl)
+
+pub with_json : (p : Posted) (body : List ℕ) (d : Data) (o : Option Ask) → p ≢ GoodsIn → json body ≡ Some d → body_of p d ≡ o
+    → posted p body ≡ ok_or o Field
+with_json p body d o n j b = as_json p body n ∙ ap (valued p) j ∙ ap (λ a. ok_or a Field) b
+
+pub with_route : (method target body : List ℕ) (r : Route) (b : Bool) → route_of target ≡ Some r → bytes_eq method (method_name (method_of r)) ≡ b
+    → read_ask method target body ≡ (if b then read_route r target body else Err (Method (method_of r)))
+with_route method target body r b e k =
+    ap (λ o. read_method o method target body) e ∙ ap (λ c. if c then read_route r target body else Err (Method (method_of r))) k
