@@ -51,6 +51,11 @@ last_digits-hundreds x y h k =
 same_dated : (y m d y₂ m₂ d₂ : ℕ) → y ≡ y₂ → m ≡ m₂ → d ≡ d₂ → dated_day y m d ≡ dated_day y₂ m₂ d₂
 same_dated y m d y₂ m₂ d₂ ey em ed = rw (ey, em, ed) refl
 
+-- what a text of this form is read as
+pub parsed_day-parts : (s : List ℕ) (y m d : ℕ) → is_day_form s ≡ true
+    → y ≡ 100 * two_digits s + two_digits (drop 2 s) → m ≡ two_digits (drop 5 s) → d ≡ two_digits (drop 8 s) → dated_day y m d ≡ parsed_day s
+parsed_day-parts s y m d form year month day = same_dated y m d _ _ _ year month day ∙ sym (cond-true (is_day_form s) _ _ form)
+
 -- the day of a day's date is the day
 pub dated_day-date_of : (n : ℤ) → IsTrue (is_day n) → dated_day (date_of n).year (date_of n).month (date_of n).day ≡ Some n
 dated_day-date_of n h =
@@ -75,11 +80,10 @@ parsed_day-day_text n h =
     let d = (date_of n).day in
     let s = day_text n in
     let month_length = days_in_month_bounds (pos y) m in
-    let year : 100 * two_digits s + two_digits (drop 2 s) ≡ y = omega (arith, i.year_high) in
-    let month : two_digits (drop 5 s) ≡ m = omega (arith, i.month_high) in
-    let day : two_digits (drop 8 s) ≡ d = omega (arith, i.day_high) in
-    cond-true (is_day_form s) _ _ (text_form y m d)
-    ∙ same_dated _ _ _ y m d year month day ∙ dated_day-date_of n h
+    let year : y ≡ 100 * two_digits s + two_digits (drop 2 s) = omega (arith, i.year_high) in
+    let month : m ≡ two_digits (drop 5 s) = omega (arith, i.month_high) in
+    let day : d ≡ two_digits (drop 8 s) = omega (arith, i.day_high) in
+    sym (parsed_day-parts s y m d (text_form y m d) year month day) ∙ dated_day-date_of n h
 
 -- what a date tells that is a day's
 pub record IsDated (y m d : ℕ) (n : ℤ) : Type 0 where

@@ -45,6 +45,13 @@ new_field_read-at_most today found identifier s =
       | false ↦ field_read-at_most today found identifier s
     ]
 
+-- the element of an identifier that was not found before
+pub element_read-new : (today : ℤ) (found : Found) (s : List ℕ) (identifier : Identifier) → identifier_at (take 2 s) ≡ Ok identifier → has_found found identifier ≡ false
+    → element_read today found s ≡ field_read today found identifier (drop 2 s)
+element_read-new today found s identifier e h =
+    ap (λ r. and_then r (λ i. new_field_read today found i (drop 2 s))) e
+    ∙ ap (λ b. if b then Err IdentifierRepeated else field_read today found identifier (drop 2 s)) h
+
 -- an element takes at least one byte of the text
 pub element_read-at_most : (today : ℤ) (found : Found) (c : ℕ) (cs : List ℕ) → LeavesAtMost (length cs) (element_read today found (c ∷ cs))
 element_read-at_most today found c cs =
