@@ -3,7 +3,7 @@ use std::alloc::{AllocError, Global};
 use std::convert::AsStr;
 
 /// A line of the program, with its words as they were given.
-#[derive(Clone, Copy, Debug, PartialEq)]
+#[derive(Clone, Copy)]
 pub enum Line<'a> {
     /// `lotd label --day DATE TEXT`: what the label TEXT says on that business day.
     Label { day: &'a str, text: &'a str },
@@ -31,11 +31,18 @@ A TEXT that begins with a dash goes after two dashes: lotd label --day DATE -- T
 /// are no line, or the help that was asked for; its kind is `OutOfMemory` where no memory was left.
 pub(crate) fn read_line<'a, S: AsStr>(alloc: Global, words: &'a [S]) -> Result<Line<'a>, Error> {
     let matches = program(alloc)?.try_get_matches_from(words)?;
+    let line = line_found(&matches);
+    // A call: dropped at the end of its scope it is dropped field by field (docs/GATE.md).
+    drop(matches);
+    Ok(line)
+}
+
+fn line_found<'a>(matches: &ArgMatches<'a>) -> Line<'a> {
     match matches.subcommand() {
-        Some(("label", found)) => Ok(label_line(found)),
-        Some(("init", found)) => Ok(init_line(found)),
-        Some(("serve", found)) => Ok(serve_line(found)),
-        _ => Ok(Line::Unknown),
+        Some(("label", found)) => label_line(found),
+        Some(("init", found)) => init_line(found),
+        Some(("serve", found)) => serve_line(found),
+        _ => Line::Unknown,
     }
 }
 
@@ -62,13 +69,30 @@ fn serve_line<'a>(found: &ArgMatches<'a>) -> Line<'a> {
 }
 
 fn program<'a>(alloc: Global) -> Result<Command<'a>, AllocError> {
+    let making = with_subcommand(bare_program(alloc), init_command(alloc))?;
+    let serving = with_subcommand(making, serve_command(alloc))?;
+    with_subcommand(serving, label_command(alloc))
+}
+
+fn bare_program<'a>(alloc: Global) -> Command<'a> {
     Command::new(alloc, "lotd")
         .about("Lot stock: the stock of a food wholesaler, lot by lot")
         .after_help(EXAMPLES)
         .subcommand_required(true)
-        .subcommand(init_command(alloc)?)?
-        .subcommand(serve_command(alloc)?)?
-        .subcommand(label_command(alloc)?)
+}
+
+fn with_subcommand<'a>(
+    program: Command<'a>,
+    subcommand: Result<Command<'a>, AllocError>,
+) -> Result<Command<'a>, AllocError> {
+    match subcommand {
+        Ok(subcommand) => program.subcommand(subcommand),
+        Err(error) => {
+            // (as `matches` above)
+            drop(program);
+            Err(error)
+        }
+    }
 }
 
 fn init_command<'a>(alloc: Global) -> Result<Command<'a>, AllocError> {

@@ -1,7 +1,8 @@
 -- What a call on a transaction leaves.
 use Rattle.std.proofs.Common.{◌≡◌, ◌⊎◌, inl, inr, ℕ, Bool, true, false, List, Ok, Err, Result, OnOk, OnErr, IfOk, IfErr, IsTrue, refl, sym, ap, subst, ◌∙◌}
 use Rattle.std.proofs.lemmas.Bool.{cases_Bool}
-use Rattle.std.specs.Prelude.{◌≢◌}
+use Rattle.std.specs.Prelude.{◌≢◌, map}
+use Rattle.std.specs.List.{AllByRecursion}
 use Rattle.sqlite.specs.Order.{Row}
 use Rattle.sqlite.specs.Store.{Ghosts}
 use Rattle.sqlite.specs.Held.{Held, state}
@@ -14,7 +15,7 @@ use Rattle.sqlite.proofs.Callers.{IsPlain}
 use Rattle.sqlite.proofs.StateLemmas.{survives_then}
 use Rattle.table_words.specs.Typed.{Tables}
 use Rattle.table_words.specs.Steps.{IsReady, Goes}
-use Rattle.table_words.specs.Calls.{Counts, Puts}
+use Rattle.table_words.specs.Calls.{Counts, Puts, Reads, ShowsForeign}
 use Rattle.table_words.specs.Calls.Puts.{Changed, Added}
 
 -- a call that answered was made inside a transaction
@@ -84,6 +85,17 @@ on_ok_if (Err e) P h f = tt
 pub if_ok : {X E : Type 0} (r : Result X E) (P Q : X → Type 0) → IfOk r P → ((x : X) → P x → Q x) → IfOk r Q
 if_ok (Ok x) P Q h f = f x h
 if_ok (Err e) P Q h f = tt
+
+-- what a query showed is a list of rows of the table where each of its rows reads as one, and shows a foreign row where one does not
+pub shown_rows_read : {V X E : Type 0} (items : V → List X) (has : Row → Bool) (read : Row → X) (sql : List ℕ) (params : Row) (old new : State) (rows seen : List Row) (r : Result V E) → seen ≡ rows → Shown sql params old new rows
+    → IfOk r (λ found. AllByRecursion (λ v. has v ≡ true) seen) → IfOk r (λ found. map read seen ≡ items found) → IfOk r (λ found. Reads has read sql params old new (items found))
+shown_rows_read items has read sql params old new rows seen (Ok found) is shown typed ok = record { rows = seen; shown = subst (Shown sql params old new) (sym is) shown; typed = typed; read_as = ok }
+shown_rows_read items has read sql params old new rows seen (Err e) is shown typed ok = tt
+
+pub shown_row_foreign : {V E : Type 0} (k : E) (has : Row → Bool) (sql : List ℕ) (params : Row) (old new : State) (rows seen : List Row) (r : Result V E) → seen ≡ rows → Shown sql params old new rows
+    → IfErr r (λ e. e ≡ k → ¬ AllByRecursion (λ v. has v ≡ true) seen) → IfErr r (λ e. e ≡ k → ShowsForeign has sql params old new)
+shown_row_foreign k has sql params old new rows seen (Ok found) is shown untyped = tt
+shown_row_foreign k has sql params old new rows seen (Err e) is shown untyped = λ same. record { rows = seen; shown = subst (Shown sql params old new) (sym is) shown; untyped = untyped same }
 
 -- two calls that commit nothing commit nothing
 pub inside_then : (a b c : State) → Survives a b (λ _. ⊥) → Survives b c (λ _. ⊥) → Survives a c (λ _. ⊥)
