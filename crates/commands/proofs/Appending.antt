@@ -1,8 +1,8 @@
 -- Fields added one after another.
-use Rattle.std.proofs.Common.{◌≡◌, ℕ, List, [], ◌∷◌, ◌++◌, append_assoc, append-nil, length, get_or, take, ◌+◌, ◌<◌, ap, sym, ◌∙◌}
+use Rattle.std.proofs.Common.{◌≡◌, ℕ, List, [], ◌∷◌, ◌++◌, append_assoc, append-nil, length, map, get_or, take, ◌+◌, ◌<◌, ap, sym, ◌∙◌, Bor}
 use Rattle.std.specs.List.{join_with_byte}
 use Rattle.std.specs.Prelude.{decimal}
-use Rattle.std.proofs.lemmas.List.{take_more}
+use Rattle.std.proofs.lemmas.List.{take_more, map-append}
 use Rattle.commands.specs.Spelling.{lines_fields, with_line_feeds}
 use Rattle.commands.specs.declared.command.OrderLine.{OrderLine}
 
@@ -13,6 +13,21 @@ appended a b c = append_assoc a b c
 pub joined_word : (w : List ℕ) (fs : List (List ℕ)) → join_with_byte 10 (w ∷ fs) ≡ w ++ with_line_feeds fs
 joined_word w [] = sym (append-nil w)
 joined_word w (f ∷ fs) = ap (λ t. w ++ 10 ∷ t) (joined_word f fs)
+
+-- one more field
+fields_push : (fs : List (List ℕ)) (f : List ℕ) → with_line_feeds (fs ++ f ∷ []) ≡ with_line_feeds fs ++ (10 ∷ f)
+fields_push [] f = append-nil (10 ∷ f)
+fields_push (g ∷ fs) f = ap (λ t. (10 ∷ g) ++ t) (fields_push fs f) ∙ sym (append_assoc (10 ∷ g) (with_line_feeds fs) (10 ∷ f))
+
+-- the step of a loop over the fields
+pub fields_more : (t : List ℕ) (fs : List (Bor (List ℕ))) (i : ℕ) (d : Bor (List ℕ)) → i < length fs → (t ++ with_line_feeds (map (λ f. f.now) (take i fs))) ++ (10 ∷ (get_or fs i d).now) ≡ t ++ with_line_feeds (map (λ f. f.now) (take (i + 1) fs))
+fields_more t fs i d low =
+    let now : Bor (List ℕ) → List ℕ = λ f. f.now in
+    let f = get_or fs i d in
+    append_assoc t (with_line_feeds (map now (take i fs))) (10 ∷ f.now)
+    ∙ ap (λ x. t ++ x) (sym (fields_push (map now (take i fs)) f.now))
+    ∙ ap (λ x. t ++ with_line_feeds x) (sym (map-append now (take i fs) (f ∷ [])))
+    ∙ ap (λ x. t ++ with_line_feeds (map now x)) (sym (take_more fs i d low))
 
 -- one more line
 lines_push : (ls : List OrderLine) (l : OrderLine) → with_line_feeds (lines_fields (ls ++ l ∷ [])) ≡ with_line_feeds (lines_fields ls) ++ ((10 ∷ l.gtin) ++ (10 ∷ decimal l.qty))

@@ -1,8 +1,6 @@
-use Rattle.std.proofs.Common.{arith}
 use Rattle.commands.specs.Spelling.{spelling}
-use Rattle.commands.proofs.Appending.{appended, joined_word}
 use Rattle.commands.proofs.spelling.spell_recount.Goals as goal
 
 pub returns : goal.returns
 unfolding spelling
-returns c = grind (arith, appended, joined_word)
+returns c = rw (c.as_bytes.ensures.text, c.as_bytes-2.ensures.text, c.as_bytes-3.ensures.text, c.as_bytes-4.ensures, c.number_text.ensures, c.units.ensures.value) at c.joined.ensures
