@@ -119,12 +119,12 @@ pub fn query_of(alloc: Global, shown: Shown, target: &[u8]) -> Result<Query, Wir
         × (query_of_lem shown target.now ≡ None)) }
 {
     match shown {
-        Shown::Stock => Ok(Query::Stock(gtin_in(alloc, target)?)),
-        Shown::Order => Ok(Query::Order(order_in(alloc, target)?)),
-        Shown::PickList => Ok(Query::PickList(order_in(alloc, target)?)),
-        Shown::Shortages => Ok(Query::Shortages(gtin_in(alloc, target)?)),
-        Shown::Card => Ok(Query::Card(lot_in(alloc, target)?)),
-        Shown::Notice => Ok(Query::Notice(lot_in(alloc, target)?)),
+        Shown::Stock => gtin_in(alloc, target).map(Query::Stock),
+        Shown::Order => order_in(alloc, target).map(Query::Order),
+        Shown::PickList => order_in(alloc, target).map(Query::PickList),
+        Shown::Shortages => gtin_in(alloc, target).map(Query::Shortages),
+        Shown::Card => lot_in(alloc, target).map(Query::Card),
+        Shown::Notice => lot_in(alloc, target).map(Query::Notice),
     }
 }
 

@@ -1,10 +1,10 @@
-ghost use Rattle.std.specs.Prelude.{◌≡◌, ◌≢◌, [], IfOk, IfErr, OnOk, option_map, Some, None, IsUtf8};
+ghost use Rattle.std.specs.Prelude.{◌≡◌, ◌≢◌, [], IfOk, IfErr, IsTrue, option_map, Some, None, IsUtf8};
 ghost use Rattle.std.specs.List.{list_any};
 ghost use Rattle.matchit.specs.Seek.{first};
 ghost use Rattle.requests.specs.Routes.{table, is_path as is_path_lem, route_of as route_of_lem, method_of as method_of_lem, ends_path as ends_path_lem, add, add_all, listed};
 
 use crate::{Method, WireFault};
-use matchit::{InsertError, Router};
+use matchit::Router;
 use std::alloc::Global;
 
 /// What is posted. The body of `GoodsIn` is a file, the others are JSON.
@@ -67,26 +67,29 @@ pub static ROUTES: [(&str, Route); 17] = [
     ("/stock/{gtin}", Route::Get(Shown::Stock)),
 ];
 
-fn add_route(router: &mut Router<Route>, text: &str, value: Route) -> Result<(), InsertError>
-    ensures { OnOk result (router.new ≡ add text.now value router.old) }
+// Adds a route. Nothing is added where there is no memory, or where it conflicts with another.
+fn add_route(router: &mut Router<Route>, text: &str, value: Route) -> bool
+    ensures { IsTrue result → router.new ≡ add text.now value router.old }
 {
-    router.insert(text, value)
+    router.insert(text, value).is_ok()
 }
 
-fn routes(alloc: Global, list: &[(&str, Route)]) -> Result<Router<Route>, InsertError>
-    ensures { IfOk result (λ r. r ≡ add_all (listed list.now) []) }
+fn add_routes(router: &mut Router<Route>, list: &[(&str, Route)]) -> bool
+    ensures { IsTrue result → router.new ≡ add_all (listed list.now) router.old }
 {
-    let mut router = Router::new(alloc);
     for route in list {
-        add_route(&mut router, route.0, route.1)?;
+        if !add_route(router, route.0, route.1) {
+            return false;
+        }
     }
-    Ok(router)
+    true
 }
 
-fn server_routes(alloc: Global) -> Result<Router<Route>, InsertError>
-    ensures { IfOk result (λ r. r ≡ table) }
+fn add_served(router: &mut Router<Route>) -> bool
+    requires { router.old ≡ [] }
+    ensures { IsTrue result → router.new ≡ table }
 {
-    routes(alloc, ROUTES.as_slice())
+    add_routes(router, ROUTES.as_slice())
 }
 
 fn found_at(router: &Router<Route>, path: &str) -> Option<Route>
@@ -120,6 +123,23 @@ fn is_path(target: &[u8]) -> bool
     !ended
 }
 
+// The route of a path, by a table that is made anew.
+fn served_at(alloc: Global, path: &str) -> Result<Route, WireFault>
+    ensures ok { IfOk result (λ r. option_map (λ x. x.value) (first table path.now) ≡ Some r) }
+    ensures err { IfErr result (λ e. e ≢ WireFault.Memory → (e ≡ WireFault.Path)
+        × (option_map (λ x. x.value) (first table path.now) ≡ None)) }
+{
+    let mut router = Router::new(alloc);
+    let added = add_served(&mut router);
+    let found = found_at(&router, path);
+    // A call, and before any exit: dropped at the end of its scope it is dropped field by field (docs/GATE.md).
+    drop(router);
+    if !added {
+        return Err(WireFault::Memory);
+    }
+    found.ok_or(WireFault::Path)
+}
+
 /// The route of a target. The table is made anew in each call; where there is no memory for it
 /// the fault is `W90`, and otherwise `W06` where no route fits.
 pub fn route_of(alloc: Global, target: &[u8]) -> Result<Route, WireFault>
@@ -131,14 +151,7 @@ pub fn route_of(alloc: Global, target: &[u8]) -> Result<Route, WireFault>
     if !is_path(target) {
         return Err(WireFault::Path);
     }
-    let path = std::str::from_utf8(target).unwrap();
-    let Ok(router) = server_routes(alloc) else {
-        return Err(WireFault::Memory);
-    };
-    match found_at(&router, path) {
-        Some(route) => Ok(route),
-        None => Err(WireFault::Path),
-    }
+    served_at(alloc, std::str::from_utf8(target).unwrap())
 }
 
 /// The method of a route.

@@ -1,7 +1,7 @@
 use Rattle.std.proofs.Common.{rules}
 use Rattle.matchit.proofs.OnLiterals.{matchit_on_literals}
 use Rattle.requests.specs.Routes.{table}
-use Rattle.requests.proofs.routes.server_routes.Goals as goal
+use Rattle.requests.proofs.routes.add_served.Goals as goal
 
 pub returns : goal.returns
 unfolding matchit_on_literals table

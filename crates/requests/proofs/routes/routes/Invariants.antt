@@ -1,6 +1,0 @@
-use Rattle.std.proofs.Common.{◌≡◌, [], drop}
-use Rattle.requests.specs.Routes.{add_all, listed}
-use Rattle.requests.proofs.routes.routes.Given as goal
-
-abbrev pub invariant-loop-route : goal.invariant-loop-route
-invariant-loop-route l = add_all (listed (drop l.route-index l.list)) l.router ≡ add_all (listed l.fn.list) []
