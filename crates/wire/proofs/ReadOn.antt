@@ -1,9 +1,10 @@
 -- What is read of a reader and written to a writer.
-use Rattle.std.proofs.Common.{◌≡◌, ◌≢◌, ℕ, ◌+◌, ◌-◌, ◌<◌, true, List, [], ◌++◌, length, Option, refl, sym, ap, ◌∙◌, subst, inl, inr, arith, length-append, append-nil}
+use Rattle.std.proofs.Common.{◌≡◌, ◌≢◌, ℕ, ◌+◌, ◌-◌, ◌<◌, true, false, List, [], ◌++◌, length, Option, refl, sym, ap, ◌∙◌, subst, inl, inr, arith, length-append, append-nil}
 use Rattle.std.specs.Io.KnownBytes.{Consumes}
 use Rattle.std.proofs.KnownBytes.{Consumes-trans}
 use Rattle.requests.specs.Requests.{IsReading}
 use Rattle.requests.specs.Laws.{needs_more}
+use Rattle.requests.specs.declared.fault.WireFault.{WireFault}
 use Rattle.requests.specs.declared.fault.WireFault.TheVariants.{Memory}
 use Rattle.requests.specs.declared.request.Read.{Read}
 use Rattle.requests.specs.declared.request.Read.TheVariants.{Need, Bad, Request}
@@ -37,3 +38,9 @@ at_stop first from to old new End r n was read h =
     record { text = old ++ []; taken = Consumes-trans first from to old [] was h.0; read = λ has. subst (λ t. IsReading t r) (sym (append-nil old)) (read has); whole = inr h.1 }
 at_stop first from to old new NoRoom r n was read h =
     record { text = old ++ h.0; taken = Consumes-trans first from to old h.0 was h.1; read = λ has. absurd (has refl); whole = inl refl }
+
+-- a reading that needs no more
+pub settled : (r : Read) → ((e : WireFault) → r ≡ Need e → ⊥) → needs_more r ≡ false
+settled (Need e) n = absurd (n e refl)
+settled (Bad e) n = refl
+settled (Request a) n = refl

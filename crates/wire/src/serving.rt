@@ -2,7 +2,7 @@
 
 ghost use Rattle.std.specs.Prelude.{◌≡◌, IfOk, IfErr, OnOk};
 ghost use Rattle.std.specs.Io.KnownBytes.{Appends, Keeps};
-ghost use Rattle.requests.specs.Laws.{needs_more as needs_more_lem};
+ghost use Rattle.requests.specs.declared.request.Read.TheVariants.{Need};
 ghost use Rattle.wire.specs.Serving.{IsRead, IsTaken, stopped as stopped_lem};
 
 use requests::{Read as Reading, WireFault, read_request};
@@ -52,22 +52,12 @@ fn flush<W: Write>(writer: &mut W) -> Result<(), ServeFault>
     }
 }
 
-/// Whether a text of this reading needs more bytes.
-fn needs_more(reading: &Reading) -> bool
-    ensures { result ≡ needs_more_lem reading.now }
-{
-    match reading {
-        Reading::Need(_) => true,
-        Reading::Bad(_) | Reading::Request(_) => false,
-    }
-}
-
 /// The reading where no more is read. In a function of its own, so that its caller has one exit for it.
-fn stopped(stop: Taken, reading: Reading) -> Reading
-    ensures { result ≡ stopped_lem stop reading }
+fn stopped(stop: Taken, fault: WireFault) -> Reading
+    ensures { result ≡ stopped_lem stop (Need fault) }
 {
     match stop {
-        Taken::More | Taken::End => reading,
+        Taken::More | Taken::End => Reading::Need(fault),
         Taken::NoRoom => Reading::Bad(WireFault::Memory),
     }
 }
@@ -79,14 +69,16 @@ pub fn read_whole<R: Read>(alloc: Global, reader: &mut R) -> Result<Reading, Ser
     ensures fault { IfErr result (λ e. e ≡ ServeFault.Read) }
 {
     let mut text = Vec::new(alloc);
-    let mut reading = read_request(alloc, text.as_slice());
-    while needs_more(&reading) {
+    loop {
+        let fault = match read_request(alloc, text.as_slice()) {
+            Reading::Need(fault) => fault,
+            reading => return Ok(reading),
+        };
         match read_more(reader, &mut text)? {
-            Taken::More => reading = read_request(alloc, text.as_slice()),
-            stop => return Ok(stopped(stop, reading)),
+            Taken::More => {}
+            stop => return Ok(stopped(stop, fault)),
         }
     }
-    Ok(reading)
 }
 
 /// Reads once, at the end of the text.
