@@ -1,6 +1,6 @@
 ghost use Rattle.std.specs.Prelude.{◌≡◌, ◌≢◌, ◌≤◌, Some, None, Ok, Err, IfOk, IfErr, IsUtf8, length, take};
 ghost use Rattle.percent_encoding.specs.Percent.{percent_decode as percent_decode_lem};
-ghost use Rattle.requests.specs.Requests.{after_slash as after_slash_lem, before_slash as before_slash_lem, second_segment as second_segment_lem, third_segment as third_segment_lem, gtin_in as gtin_in_lem, order_in as order_in_lem, lot_in as lot_in_lem, query_of as query_of_lem, posted as posted_lem, read_route as read_route_lem, read_ask as read_ask_lem, after_head as after_head_lem, IsReading};
+ghost use Rattle.requests.specs.Requests.{after_slash as after_slash_lem, before_slash as before_slash_lem, second_segment as second_segment_lem, third_segment as third_segment_lem, gtin_in as gtin_in_lem, order_in as order_in_lem, lot_in as lot_in_lem, query_of as query_of_lem, posted as posted_lem, read_route as read_route_lem, read_ask as read_ask_lem, answered as answered_lem, after_head as after_head_lem, IsReading};
 ghost use Rattle.requests.specs.Head.{HEAD_MAX};
 
 use crate::bodies::body_of;
@@ -80,10 +80,7 @@ fn gtin_in(alloc: Global, target: &[u8]) -> Result<Gtin, WireFault>
         × (gtin_in_lem target.now ≡ None)) }
 {
     let part = second_segment(alloc, target)?;
-    match gtin_of(part.as_slice()) {
-        Some(gtin) => Ok(gtin),
-        None => Err(WireFault::Field),
-    }
+    gtin_of(part.as_slice()).ok_or(WireFault::Field)
 }
 
 fn order_in(alloc: Global, target: &[u8]) -> Result<Name, WireFault>
@@ -92,10 +89,7 @@ fn order_in(alloc: Global, target: &[u8]) -> Result<Name, WireFault>
         × (order_in_lem target.now ≡ None)) }
 {
     let part = second_segment(alloc, target)?;
-    match Name::new(part.as_slice()) {
-        Some(order) => Ok(order),
-        None => Err(WireFault::Field),
-    }
+    Name::new(part.as_slice()).ok_or(WireFault::Field)
 }
 
 fn lot_in(alloc: Global, target: &[u8]) -> Result<LotId, WireFault>
@@ -170,6 +164,16 @@ fn read_ask(alloc: Global, method: &[u8], target: &[u8], body: &[u8]) -> Result<
     read_route(alloc, route, target, body)
 }
 
+// The reading of a text, by what it asks.
+fn answered(asked: Result<Ask, WireFault>) -> Read
+    ensures { result ≡ answered_lem asked }
+{
+    match asked {
+        Ok(ask) => Read::Request(ask),
+        Err(e) => Read::Bad(e),
+    }
+}
+
 fn after_head(alloc: Global, head: Head, rest: &[u8]) -> Read
     requires { IsUtf8 head.target.now }
     ensures { result ≢ Read.Bad WireFault.Memory
@@ -182,10 +186,7 @@ fn after_head(alloc: Global, head: Head, rest: &[u8]) -> Read
                 return Read::Need(WireFault::Length);
             }
             let (body, _) = rest.split_at(n as usize);
-            match read_ask(alloc, head.method, head.target, body) {
-                Ok(ask) => Read::Request(ask),
-                Err(e) => Read::Bad(e),
-            }
+            answered(read_ask(alloc, head.method, head.target, body))
         }
     }
 }
