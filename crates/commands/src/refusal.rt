@@ -1,7 +1,9 @@
 ghost use Rattle.std.specs.Prelude.{◌≡◌, length};
 
+use std::fmt;
+
 /// Why a command or a query is refused.
-#[derive(Clone, Copy, PartialEq, Eq, Debug)]
+#[derive(Clone, Copy, PartialEq, Eq)]
 pub enum Refusal {
     /// K01: an earlier act bears the key with another command.
     KeyUsed,
@@ -102,5 +104,12 @@ impl Refusal {
             Refusal::OverOrdered => "Q06",
             Refusal::NoNotice => "N01",
         }
+    }
+}
+
+/// The code.
+impl fmt::Debug for Refusal {
+    fn fmt<W: fmt::Write>(&self, f: &mut fmt::Formatter<W>) -> fmt::Result {
+        f.write_str(self.code())
     }
 }

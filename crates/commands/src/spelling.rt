@@ -13,7 +13,7 @@ use crate::{
 };
 use label::BusinessDay;
 use std::alloc::{AllocError, Global};
-use values::{LotId, Name};
+use values::{Delta, LotId, Name};
 
 /// The text of a command, by which a repeated command is known again: its word and its fields,
 /// joined by single line feeds. No two commands have one text.
@@ -81,10 +81,20 @@ fn number_text(n: u32) -> Buffer<20>
     decimal_text(u64::from(n))
 }
 
+fn change_text(delta: Delta) -> Buffer<21>
+    ensures { result ≡ signed_decimal delta }
+{
+    signed_text(i64::from(delta.change()))
+}
+
 fn spell_item(alloc: Global, item: &NewItem) -> Result<Vec<u8>, AllocError>
     ensures { IfOk result (λ text. text.items ≡ spelling (Command.Item item.now)) }
 {
-    joined(alloc, b"ITEM", &[item.gtin.as_bytes(), item.name.as_bytes()])
+    joined(
+        alloc,
+        b"ITEM",
+        &[item.gtin.as_bytes(), item.name.as_bytes()],
+    )
 }
 
 fn spell_bin(alloc: Global, bin: &NewBin) -> Result<Vec<u8>, AllocError>
@@ -150,7 +160,7 @@ fn spell_adjustment(alloc: Global, adjustment: &Adjustment) -> Result<Vec<u8>, A
             adjustment.lot.gtin.as_bytes(),
             adjustment.lot.lot.as_bytes(),
             adjustment.bin.as_bytes(),
-            signed_text(i64::from(adjustment.change.change())).as_bytes(),
+            change_text(adjustment.change).as_bytes(),
         ],
     )
 }
@@ -158,7 +168,11 @@ fn spell_adjustment(alloc: Global, adjustment: &Adjustment) -> Result<Vec<u8>, A
 fn spell_order(alloc: Global, order: &NewOrder) -> Result<Vec<u8>, AllocError>
     ensures { IfOk result (λ text. text.items ≡ spelling (Command.Order order.now)) }
 {
-    let mut text = joined(alloc, b"ORDER", &[order.order.as_bytes(), order.customer.as_bytes()])?;
+    let mut text = joined(
+        alloc,
+        b"ORDER",
+        &[order.order.as_bytes(), order.customer.as_bytes()],
+    )?;
     add_lines(&mut text, order.lines.as_slice())?;
     Ok(text)
 }
