@@ -1,23 +1,26 @@
 -- A look at the books within a transaction, which is then rolled back.
-use Rattle.std.proofs.Common.{◌≡◌, true, List, Err, Result, sym, subst, IsTrue, arith}
+use Rattle.std.proofs.Common.{◌≡◌, true, List, Ok, Err, Result, IfOk, IfErr, IsTrue, arith}
 use Rattle.std.specs.Prelude.{ℤ}
-use Rattle.std.specs.Result.{IsErr, IsErrAnd}
 use Rattle.commands.specs.declared.refusal.Refusal.{Refusal}
 use Rattle.sqlite.specs.State.{State, HasCleanDisk, KeepsCommit, IsRolledBack, Survives}
 use Rattle.machine.specs.Acts.{Act}
 use Rattle.machine.specs.Once.{IsHistory}
 use Rattle.slices.specs.Books.{IsBooksOf}
 use Rattle.store.specs.Books.{KeepsBooks}
-use Rattle.store.specs.Showing.{IsShownAs, IsShownOn}
+use Rattle.store.specs.Showing.{IsFoundAs, IsShownAs, IsShownOn}
 use Rattle.store.specs.declared.fault.Fault.{Fault}
 use Rattle.store.specs.declared.fault.Fault.TheVariants.{Store}
 use Rattle.store.proofs.ActsWhole.{KeepsInside, books_begun, undone_whole}
-use Rattle.store.proofs.FaultsTold.{by_error}
 
 -- what is promised of a look on every history of which P holds
 abbrev pub ShownWhole : {V : Type 0} → (ℤ → List Act → Type 0) → (ℤ → List Act → Result V Refusal) → Result V Fault → State → State → Type 0
 ShownWhole P shown r old new =
     HasCleanDisk new → (first : ℤ) (acts : List Act) → IsHistory first acts → KeepsBooks first acts old → P first acts → IsShownOn first acts (shown first acts) r new
+
+-- what was read is so, or there was no memory or a fault of the disk
+pub found_as : {X : Type 0} (Read : X → Type 0) (r : Result X Fault) → IfOk r Read → IfErr r (λ e. e ≡ Store) → IsFoundAs Read r
+found_as Read (Ok x) read failed = read
+found_as Read (Err e) read failed = failed
 
 module _ (old begun last new : State) (is : begun ≡ record old { in_transaction = true }) (keeps : KeepsInside begun last)
     (ends : Survives last new (λ _. ⊥)) (undone : HasCleanDisk new → IsRolledBack last new) where
@@ -35,13 +38,3 @@ module _ (old begun last new : State) (is : begun ≡ record old { in_transactio
     found_shown found r read view clean first acts history held p =
         let was : HasCleanDisk last = omega (arith, clean, ends.clean) in
         (view first acts history p (read was first acts history (books_begun first acts old begun is held)), left clean first acts held)
-
-  module _ {V : Type 0} (P : ℤ → List Act → Type 0) (shown : ℤ → List Act → Result V Refusal) where
-    -- the read failed
-    pub not_shown : (fault : Fault) (r : Result V Fault)
-        → (HasCleanDisk last → (first : ℤ) (acts : List Act) → (IsTrue begun.is_open → IsBooksOf first acts begun.now) → fault ≡ Store)
-        → IsErr r × IsErrAnd r (λ x. x ≡ fault) → ShownWhole P shown r old new
-    not_shown fault r fails told clean first acts history held p =
-        let was : HasCleanDisk last = omega (arith, clean, ends.clean) in
-        let is_store = fails was first acts (books_begun first acts old begun is held) in
-        (by_error r fault told (λ x. IsShownAs (shown first acts) x) (subst (λ f. IsShownAs {V = V} (shown first acts) (Err f)) (sym is_store) tt), left clean first acts held)

@@ -14,6 +14,11 @@ IsShownAs shown (Err (Refused why)) = shown ≡ Err why
 IsShownAs shown (Err Store) = Unit {0}
 IsShownAs shown (Err Foreign) = ⊥
 
+-- what was read is so, or memory or the disk did not suffice
+abbrev pub IsFoundAs : {X : Type 0} → (X → Type 0) → Result X Fault → Type 0
+IsFoundAs Read (Ok found) = Read found
+IsFoundAs Read (Err fault) = fault ≡ Store
+
 -- and the connection keeps the books
 abbrev pub IsShownOn : {V : Type 0} → ℤ → List Act → Result V Refusal → Result V Fault → State → Type 0
 IsShownOn first acts shown result new = IsShownAs shown result × KeepsBooks first acts new

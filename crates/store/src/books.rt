@@ -1,6 +1,6 @@
 //! The books over a connection.
 
-ghost use Rattle.std.specs.Prelude.{◌≡◌, ◌≢◌, ◌⊎◌, ◌↔◌, ℤ, None, [], List, false, IsTrue, IsErrOf, IsErrAnd, OnOk, OnErr, IfOk, IfErr};
+ghost use Rattle.std.specs.Prelude.{◌≡◌, ◌≢◌, ◌⊎◌, ◌↔◌, ℤ, None, [], List, false, IsTrue, IsErrOf, IsErrAnd, IsOkAnd, OnOk, OnErr, IfOk, IfErr, option_map, find, Some, true};
 ghost use Rattle.sqlite.specs.State.{HasCleanDisk, Survives};
 ghost use Rattle.sqlite.specs.Held.{state};
 ghost use Rattle.label.specs.Days.{is_business_day};
@@ -123,9 +123,17 @@ fn stored_day<S: Alter>(alloc: Global, conn: &mut Connection<S>) -> Result<Busin
     ensures outside { conn.new.in_transaction ≡ false }
 {
     let mut tx = conn.transaction();
-    let rows = meta_rows(alloc, &mut tx)?;
+    let rows = meta_rows(alloc, &mut tx);
     tx.rollback();
-    match rows.as_slice().first() {
+    day_in(rows)
+}
+
+/// The business day in the row of `meta` that was read; `Foreign` where there is none.
+fn day_in(rows: Result<Vec<MetaRow>, TableFault>) -> Result<BusinessDay, TableFault>
+    ensures day { IfOk result (λ day. IsOkAnd rows (λ rows. option_map (λ (m : MetaRow). m.day) (find (λ _. true) rows.items) ≡ Some day)) }
+    ensures fault { IfErr result (λ e. IsErrAnd rows (λ x. x ≡ e) ⊎ IsOkAnd rows (λ rows. find (λ _. true) rows.items ≡ None)) }
+{
+    match rows?.as_slice().first() {
         Some(row) => Ok(row.day),
         None => Err(TableFault::Foreign),
     }

@@ -10,7 +10,7 @@ ghost use Rattle.machine.specs.Queries.{order_shown};
 ghost use Rattle.slices.specs.Books.{IsBooksOf};
 ghost use Rattle.slices.specs.ShownOrders.{IsOrderRead};
 ghost use Rattle.store.specs.Books.{KeepsBooks};
-ghost use Rattle.store.specs.Showing.{IsShownAs, IsShownOn};
+ghost use Rattle.store.specs.Showing.{IsFoundAs, IsShownAs, IsShownOn};
 
 use crate::Fault;
 use crate::repeats::find_open;
@@ -36,7 +36,7 @@ pub fn show_order<S: Alter>(
 {
     let _outside = conn.is_autocommit();
     let mut tx = conn.transaction();
-    let found = find_order(alloc, &mut tx, order)?;
+    let found = find_order(alloc, &mut tx, order);
     tx.rollback();
     view_of(alloc, found)
 }
@@ -62,12 +62,17 @@ fn find_order<S: Alter>(
     }
 }
 
-fn view_of(alloc: Global, found: Option<(OrderRow, Rows)>) -> Result<OrderView, Fault>
-    ensures { (first : ℤ) (acts : List Act) (o : List ℕ) → IsHistory first acts → IsOrderRead first acts o found → IsShownAs (order_shown first acts o) result }
+// The view, where the rows were read.
+fn view_of(
+    alloc: Global,
+    found: Result<Option<(OrderRow, Rows)>, Fault>,
+) -> Result<OrderView, Fault>
+    ensures { (first : ℤ) (acts : List Act) (o : List ℕ) → IsHistory first acts → IsFoundAs (IsOrderRead first acts o) found → IsShownAs (order_shown first acts o) result }
 {
     match found {
-        None => Err(Fault::Refused(Refusal::UnknownOrder)),
-        Some((row, rows)) => {
+        Err(fault) => Err(fault),
+        Ok(None) => Err(Fault::Refused(Refusal::UnknownOrder)),
+        Ok(Some((row, rows))) => {
             let view = order_view(alloc, &rows, &row);
             // A call, and before any `?`: dropped at the end of its scope it is dropped field by field (docs/GATE.md).
             drop(rows);

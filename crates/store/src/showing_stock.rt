@@ -11,7 +11,7 @@ ghost use Rattle.machine.specs.Queries.{stock_shown};
 ghost use Rattle.slices.specs.Books.{IsBooksOf};
 ghost use Rattle.slices.specs.ShownStock.{IsStockRead};
 ghost use Rattle.store.specs.Books.{KeepsBooks};
-ghost use Rattle.store.specs.Showing.{IsShownAs, IsShownOn};
+ghost use Rattle.store.specs.Showing.{IsFoundAs, IsShownAs, IsShownOn};
 
 use crate::Fault;
 use crate::repeats::find_open;
@@ -40,7 +40,7 @@ pub fn show_stock<S: Alter>(
 {
     let _outside = conn.is_autocommit();
     let mut tx = conn.transaction();
-    let found = find_stock(alloc, &mut tx, gtin)?;
+    let found = find_stock(alloc, &mut tx, gtin);
     tx.rollback();
     view_of(alloc, day, found)
 }
@@ -66,16 +66,18 @@ fn find_stock<S: Alter>(
     }
 }
 
+// The view, where the rows were read.
 fn view_of(
     alloc: Global,
     day: BusinessDay,
-    found: Option<(ItemRow, Rows)>,
+    found: Result<Option<(ItemRow, Rows)>, Fault>,
 ) -> Result<StockView, Fault>
-    ensures { (first : ℤ) (acts : List Act) (g : List ℕ) → IsHistory first acts → today first acts ≡ day → IsStockRead first acts g found → IsShownAs (stock_shown first acts g) result }
+    ensures { (first : ℤ) (acts : List Act) (g : List ℕ) → IsHistory first acts → today first acts ≡ day → IsFoundAs (IsStockRead first acts g) found → IsShownAs (stock_shown first acts g) result }
 {
     match found {
-        None => Err(Fault::Refused(Refusal::UnknownItem)),
-        Some((row, rows)) => {
+        Err(fault) => Err(fault),
+        Ok(None) => Err(Fault::Refused(Refusal::UnknownItem)),
+        Ok(Some((row, rows))) => {
             let view = stock_view(alloc, day, &rows, &row);
             // A call, and before any `?`: dropped at the end of its scope it is dropped field by field (docs/GATE.md).
             drop(rows);

@@ -8,10 +8,10 @@ use Rattle.machine.specs.Once.{IsHistory}
 use Rattle.machine.specs.Queries.{order_shown}
 use Rattle.slices.specs.ShownOrders.{IsOrderRead}
 use Rattle.store.specs.Books.{KeepsBooks}
-use Rattle.store.specs.Showing.{IsShownOn}
+use Rattle.store.specs.Showing.{IsFoundAs, IsShownOn}
 use Rattle.store.specs.declared.fault.Fault.{Fault}
 use Rattle.store.proofs.ActsWhole.{begun_state}
-use Rattle.store.proofs.ShownWhole.{ShownWhole, found_shown, not_shown}
+use Rattle.store.proofs.ShownWhole.{found_as, found_shown}
 use Rattle.store.proofs.showing.show_order.Goals as goal
 
 abbrev IsAny : ℤ → List Act → Type 0
@@ -26,25 +26,12 @@ returns-clause-shown g c =
     let o = c.args.order.now in
     let old = state g.S.Store c.args.conn.now in
     let begun = state g.S.Store c.transaction-tx.result.conn.now in
-    let last = state g.S.Store c.find_order.new.tx.conn.now in
+    let last = state g.S.Store c.find_order-found.new.tx.conn.now in
     let new = state g.S.Store c.rollback.new.self.0 in
     let is = begun_state g.S.Store c.args.conn.now c.transaction-tx.result.conn.now c.transaction-tx.ensures.begun in
-    let whole : ShownWhole IsAny (λ first acts. order_shown first acts o) c.view_of.result old new =
-    found_shown old begun last new is c.in_ok-found.ensures.kept c.rollback.ensures.survives c.rollback.ensures.undone IsAny (λ first acts. order_shown first acts o) (λ first acts found. IsOrderRead first acts o found)
-    c.in_ok-found.found c.view_of.result c.in_ok-found.ensures.read (λ first acts history p read. c.view_of.ensures first acts o history read) in
-    let all : AnyShown o c.view_of.result old new = λ clean first acts history held. whole clean first acts history held tt in
-    search (rules, all)
-
-pub returns-in_err-found-clause-shown : goal.returns-in_err-found-clause-shown
-returns-in_err-found-clause-shown g c =
-    let o = c.args.order.now in
-    let old = state g.S.Store c.args.conn.now in
-    let begun = state g.S.Store c.transaction-tx.result.conn.now in
-    let last = state g.S.Store c.find_order.new.tx.conn.now in
-    let new = state g.S.Store c.drop-tx.new.self.0 in
-    let is = begun_state g.S.Store c.args.conn.now c.transaction-tx.result.conn.now c.transaction-tx.ensures.begun in
-    let whole : ShownWhole IsAny (λ first acts. order_shown first acts o) c.from_residual.result old new =
-    not_shown old begun last new is c.in_err-found.ensures.kept c.drop-tx.ensures.survives c.drop-tx.ensures.undone IsAny (λ first acts. order_shown first acts o)
-    c.in_err-found.field-0.0 c.from_residual.result c.in_err-found.ensures.fault c.from_residual.ensures in
-    let all : AnyShown o c.from_residual.result old new = λ clean first acts history held. whole clean first acts history held tt in
+    let found = c.find_order-found.ensures in
+    let all : AnyShown o c.view_of.result old new = λ clean first acts history held.
+    found_shown old begun last new is found.kept c.rollback.ensures.survives c.rollback.ensures.undone IsAny (λ first acts. order_shown first acts o) (λ first acts. IsFoundAs (IsOrderRead first acts o))
+    c.find_order-found.result c.view_of.result (λ clean first acts history books. found_as (IsOrderRead first acts o) c.find_order-found.result (found.read clean first acts history books) (found.fault clean first acts books))
+    (λ first acts history p read. c.view_of.ensures first acts o history read) clean first acts history held tt in
     search (rules, all)

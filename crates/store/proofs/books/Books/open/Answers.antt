@@ -1,10 +1,10 @@
-use Rattle.std.proofs.Common.{inr, sym, subst, ◌∙◌, arith}
+use Rattle.std.proofs.Common.{inl, inr, sym, subst, ◌∙◌, arith}
 use Rattle.sqlite.specs.Held.{state}
 use Rattle.sqlite.specs.State.{HasCleanDisk}
 use Rattle.sqlite.specs.Tree.{Trees}
 use Rattle.machine.specs.Standing.{today}
 use Rattle.store.specs.Opening.{HasDay}
-use Rattle.store.proofs.OpenedBooks.{reopened, keeps_books, has_day, one_day, foreign_if, store_else}
+use Rattle.store.proofs.OpenedBooks.{reopened, keeps_books, has_day, one_day, foreign_if, store_else, either_told, left_over}
 use Rattle.store.proofs.books.Books.open.Goals as goal
 
 pub returns-in-Ok-stored_day-clause-books : goal.returns-in-Ok-stored_day-clause-books
@@ -47,3 +47,33 @@ returns-in-Err-stored_day-clause-left g c =
     let was = c.in-Ok.ensures in
     let read = c.stored_day.ensures in
     inr (reopened g.S.Store c.args.conn c.in-Ok.again c.stored_day.new.conn was.ready was.opens was.same was.crash was.clean was.shield read.kept read.survives read.outside)
+
+pub returns-in-Ok-stored_day-clause-opens : goal.returns-in-Ok-stored_day-clause-opens
+returns-in-Ok-stored_day-clause-opens g c =
+    let was = c.in-Ok.ensures in
+    let read = c.stored_day.ensures in
+    reopened g.S.Store c.args.conn c.in-Ok.again c.stored_day.new.conn was.ready was.opens was.same was.crash was.clean was.shield read.kept read.survives read.outside
+
+pub returns-in-Ok-stored_day-clause-other : goal.returns-in-Ok-stored_day-clause-other
+returns-in-Ok-stored_day-clause-other g c schema = absurd (c.in-Ok.ensures.other schema)
+
+pub returns-in-Err-stored_day-clause-other : goal.returns-in-Err-stored_day-clause-other
+returns-in-Err-stored_day-clause-other g c schema = absurd (c.in-Ok.ensures.other schema)
+
+pub returns-in-Err-stored_day-clause-fault : goal.returns-in-Err-stored_day-clause-fault
+returns-in-Err-stored_day-clause-fault g c = either_told c.in-Err-stored_day.fault c.from-in-Err-stored_day.result c.from-in-Err-stored_day.ensures
+
+pub returns-in-Err-clause-foreign : goal.returns-in-Err-clause-foreign
+returns-in-Err-clause-foreign g c clean foreign = inl (c.in-Err.ensures.foreign (foreign_if c.in-Err.fault (sym c.from.ensures ∙ foreign)))
+
+pub returns-in-Err-clause-known : goal.returns-in-Err-clause-known
+returns-in-Err-clause-known g c clean schema first acts history rows = c.from.ensures ∙ store_else c.in-Err.fault (λ is. c.in-Err.ensures.foreign is schema)
+
+pub returns-in-Err-clause-other : goal.returns-in-Err-clause-other
+returns-in-Err-clause-other g c schema = ((c.in-Err.ensures.other schema).0, either_told c.in-Err.fault c.from.result c.from.ensures)
+
+pub returns-in-Err-clause-left : goal.returns-in-Err-clause-left
+returns-in-Err-clause-left g c = left_over g.S.Store c.args.conn c.in-Err.left c.in-Err.ensures.left
+
+pub returns-in-Err-clause-fault : goal.returns-in-Err-clause-fault
+returns-in-Err-clause-fault g c = either_told c.in-Err.fault c.from.result c.from.ensures
