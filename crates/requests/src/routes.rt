@@ -74,6 +74,7 @@ fn add_route(router: &mut Router<Route>, text: &str, value: Route) -> bool
     router.insert(text, value).is_ok()
 }
 
+// Adds the routes of the list, until one cannot be added.
 fn add_routes(router: &mut Router<Route>, list: &[(&str, Route)]) -> bool
     ensures { IsTrue result → router.new ≡ add_all (listed list.now) router.old }
 {
@@ -85,9 +86,9 @@ fn add_routes(router: &mut Router<Route>, list: &[(&str, Route)]) -> bool
     true
 }
 
+// Adds the routes that the server has; with no others before, the table is theirs.
 fn add_served(router: &mut Router<Route>) -> bool
-    requires { router.old ≡ [] }
-    ensures { IsTrue result → router.new ≡ table }
+    ensures { IsTrue result → router.old ≡ [] → router.new ≡ table }
 {
     add_routes(router, ROUTES.as_slice())
 }
