@@ -1,5 +1,9 @@
-use crate::answers::new_books;
-use crate::cases::{Case, run_in_new_file};
+//! Books act under keys, and show their stock.
+
+use crate::disk::run;
+use crate::opening::new_books;
+use crate::steps::Step;
+use crate::stock::is_stock;
 use commands::{
     BinKind, Command, Key, Lines, NewBin, NewItem, NewOrder, OrderLine, Receipt, Refusal,
 };
@@ -10,39 +14,64 @@ use std::process::Abort;
 use store::{Books, Fault, Reply};
 use values::{Gtin, LineNo, Lot, LotId, Name, Qty, Title};
 
-pub(crate) fn name(rt: &impl Abort, text: &[u8]) -> Name {
+/// The key of a command.
+#[derive(Clone, Copy)]
+pub(crate) enum Under {
+    Key(&'static [u8]),
+    /// The line 1 of the delivery D-1.
+    FirstLine,
+}
+
+/// A command.
+#[derive(Clone, Copy)]
+pub(crate) enum Wanted {
+    /// The oat drink.
+    Item,
+    Bin(&'static [u8], BinKind),
+    /// Units of the lot L1 of the oat drink into A-01.
+    Receipt(u64),
+    /// The order S-1 of units of the oat drink.
+    Order(u64),
+}
+
+/// What the books tell.
+#[derive(Clone, Copy)]
+pub(crate) enum Told {
+    /// The command acted for the first time.
+    New(&'static [u8]),
+    /// The answer again that the command had under its key.
+    Again(&'static [u8]),
+    Refused(Refusal),
+}
+
+#[derive(Clone, Copy)]
+pub(crate) enum Deed {
+    Act(Under, Wanted, Told),
+    /// The stock of the oat drink: its one lot with so many units reserved, or that there is no such item.
+    Stock(Option<u64>),
+}
+
+fn name(rt: &impl Abort, text: &[u8]) -> Name {
     Name::new(text).expect(rt, "a name")
-}
-
-pub(crate) fn key(rt: &impl Abort, text: &[u8]) -> Key {
-    Key::Plain(name(rt, text))
-}
-
-pub(crate) fn bin(rt: &impl Abort, text: &[u8], kind: BinKind) -> Command {
-    Command::Bin(NewBin {
-        bin: name(rt, text),
-        kind,
-    })
 }
 
 fn title(rt: &impl Abort, text: &[u8]) -> Title {
     Title::new(text).expect(rt, "a title")
 }
 
-pub(crate) fn oats(rt: &impl Abort) -> Gtin {
+fn oats(rt: &impl Abort) -> Gtin {
     Gtin::new(b"09506000134352").ok().expect(rt, "a GTIN")
 }
 
-pub(crate) fn item(rt: &impl Abort) -> Command {
-    Command::Item(NewItem {
-        gtin: oats(rt),
-        name: title(rt, b"Oat drink 1 l"),
-    })
+fn key(rt: &impl Abort, under: Under) -> Key {
+    match under {
+        Under::Key(text) => Key::Plain(name(rt, text)),
+        Under::FirstLine => Key::Line(name(rt, b"D-1"), LineNo::new(1).expect(rt, "a line")),
+    }
 }
 
-/// Units of the lot L1 of the oat drink into A-01.
-pub(crate) fn receipt(rt: &impl Abort, units: u64) -> Command {
-    Command::Receive(Receipt {
+fn receipt(rt: &impl Abort, units: u64) -> Receipt {
+    Receipt {
         lot: LotId {
             gtin: oats(rt),
             lot: Lot::new(b"L1").ok().expect(rt, "a lot"),
@@ -50,12 +79,7 @@ pub(crate) fn receipt(rt: &impl Abort, units: u64) -> Command {
         expiry: Day::parse(b"2026-06-30").expect(rt, "a day"),
         bin: name(rt, b"A-01"),
         qty: Qty::new(units).expect(rt, "a quantity"),
-    })
-}
-
-/// The line D-1/1 of a delivery.
-pub(crate) fn first_line(rt: &impl Abort) -> Key {
-    Key::Line(name(rt, b"D-1"), LineNo::new(1).expect(rt, "a line"))
+    }
 }
 
 fn lines(rt: &impl Abort, alloc: Global, units: u64) -> Lines {
@@ -68,157 +92,196 @@ fn lines(rt: &impl Abort, alloc: Global, units: u64) -> Lines {
     Lines::new(lines).expect(rt, "lines")
 }
 
-/// The order S-1 of units of the oat drink.
-pub(crate) fn order(rt: &impl Abort, alloc: Global, units: u64) -> Command {
-    Command::Order(NewOrder {
-        order: name(rt, b"S-1"),
-        customer: title(rt, b"Corner Shop"),
+fn order(rt: &impl Abort, alloc: Global, units: u64) -> NewOrder {
+    let (order, customer) = (name(rt, b"S-1"), title(rt, b"Corner Shop"));
+    NewOrder {
+        order,
+        customer,
         lines: lines(rt, alloc, units),
-    })
+    }
 }
 
-fn is_told(rt: &impl Abort, told: Result<Reply, Fault>, text: &[u8], repeated: bool) {
+fn item(rt: &impl Abort) -> NewItem {
+    NewItem {
+        gtin: oats(rt),
+        name: title(rt, b"Oat drink 1 l"),
+    }
+}
+
+fn command(rt: &impl Abort, alloc: Global, wanted: Wanted) -> Command {
+    match wanted {
+        Wanted::Item => Command::Item(item(rt)),
+        Wanted::Bin(text, kind) => Command::Bin(NewBin {
+            bin: name(rt, text),
+            kind,
+        }),
+        Wanted::Receipt(units) => Command::Receive(receipt(rt, units)),
+        Wanted::Order(units) => Command::Order(order(rt, alloc, units)),
+    }
+}
+
+fn is_reply(reply: &Reply, told: Told) -> bool {
     match told {
-        Ok(reply) => {
-            assert_eq!(rt; reply.text.as_bytes(), text);
-            assert_eq!(rt; reply.repeated, repeated);
+        Told::New(text) => !reply.repeated && reply.text.as_bytes() == text,
+        Told::Again(text) => reply.repeated && reply.text.as_bytes() == text,
+        Told::Refused(_) => false,
+    }
+}
+
+fn is_fault(fault: Fault, told: Told) -> bool {
+    match told {
+        Told::Refused(why) => fault == Fault::Refused(why),
+        _ => false,
+    }
+}
+
+fn is_told(rt: &impl Abort, found: Result<Reply, Fault>, told: Told) {
+    match found {
+        Ok(reply) => assert!(rt;
+            is_reply(&reply, told),
+            "accepted: {:?}",
+            reply.text.as_bytes()
+        ),
+        Err(fault) => assert!(rt; is_fault(fault, told), "{fault:?}"),
+    }
+}
+
+fn act<S: Alter>(
+    rt: &impl Abort,
+    alloc: Global,
+    books: &mut Books<S>,
+    under: Under,
+    wanted: Wanted,
+) -> Result<Reply, Fault> {
+    let key = key(rt, under);
+    let command = command(rt, alloc, wanted);
+    let found = books.act(&key, &command);
+    drop(command);
+    found
+}
+
+fn does<S: Alter>(rt: &impl Abort, alloc: Global, books: &mut Books<S>, deed: Deed) {
+    match deed {
+        Deed::Act(under, wanted, told) => {
+            is_told(rt, act(rt, alloc, books, under, wanted), told);
         }
-        Err(fault) => assert!(rt; false, "{fault:?}"),
+        Deed::Stock(reserved) => is_stock(rt, books.stock(&oats(rt)), reserved),
     }
 }
 
-fn is_refused(rt: &impl Abort, told: Result<Reply, Fault>, why: Refusal) {
-    match told {
-        Ok(_) => assert!(rt; false, "accepted"),
-        Err(fault) => assert_eq!(rt; fault, Fault::Refused(why)),
-    }
-}
-
-/// The books answer the command under its key for the first time.
-fn tells<S: Alter>(
-    rt: &impl Abort,
-    books: &mut Books<S>,
-    key: &Key,
-    command: &Command,
-    text: &[u8],
-) {
-    is_told(rt, books.act(key, command), text, false);
-}
-
-/// The books give the answer again that the command had under its key.
-fn repeats<S: Alter>(
-    rt: &impl Abort,
-    books: &mut Books<S>,
-    key: &Key,
-    command: &Command,
-    text: &[u8],
-) {
-    is_told(rt, books.act(key, command), text, true);
-}
-
-fn refuses<S: Alter>(
-    rt: &impl Abort,
-    books: &mut Books<S>,
-    key: &Key,
-    command: &Command,
-    why: Refusal,
-) {
-    is_refused(rt, books.act(key, command), why);
-}
-
-// A key acts once: its repeat is told the same answer, and another command under it is refused.
-pub(crate) fn key_acts_once<S: Alter + Drop>(
+/// New books act and show all this.
+pub(crate) fn done<S: Alter + Drop>(
     rt: &impl Abort,
     alloc: Global,
     conn: Connection<S>,
+    deeds: &[Deed],
 ) -> Connection<S> {
-    let keys = [key(rt, b"K-1"), key(rt, b"K-2")];
-    let first = bin(rt, b"A-01", BinKind::Store);
-    let second = bin(rt, b"B-02", BinKind::Hold);
     let mut books = new_books(rt, alloc, conn);
-    tells(rt, &mut books, &keys[0], &first, b"{\"act\":1}");
-    repeats(rt, &mut books, &keys[0], &first, b"{\"act\":1}");
-    refuses(rt, &mut books, &keys[0], &second, Refusal::KeyUsed);
-    tells(rt, &mut books, &keys[1], &second, b"{\"act\":2}");
+    for deed in deeds {
+        does(rt, alloc, &mut books, *deed);
+    }
     books.close()
 }
+
+const STORE_BIN: Wanted = Wanted::Bin(b"A-01", BinKind::Store);
+
+// A key acts once: its repeat is told the same answer, and another command under it is refused.
+static KEY_ACTS_ONCE: [&[Step]; 1] = [&[Step::Deeds(&[
+    Deed::Act(Under::Key(b"K-1"), STORE_BIN, Told::New(b"{\"act\":1}")),
+    Deed::Act(Under::Key(b"K-1"), STORE_BIN, Told::Again(b"{\"act\":1}")),
+    Deed::Act(
+        Under::Key(b"K-1"),
+        Wanted::Bin(b"B-02", BinKind::Hold),
+        Told::Refused(Refusal::KeyUsed),
+    ),
+    Deed::Act(
+        Under::Key(b"K-2"),
+        Wanted::Bin(b"B-02", BinKind::Hold),
+        Told::New(b"{\"act\":2}"),
+    ),
+])]];
 
 #[test]
 fn a_key_acts_once(rt: HostRuntime) {
-    run_in_new_file(&rt, rt.alloc(), Case::KeyActsOnce);
+    run(&rt, rt.alloc(), KEY_ACTS_ONCE.as_slice());
 }
 
 // A key whose command was refused has not acted: it may bear another command.
-pub(crate) fn refused_key<S: Alter + Drop>(
-    rt: &impl Abort,
-    alloc: Global,
-    conn: Connection<S>,
-) -> Connection<S> {
-    let keys = [key(rt, b"K-1"), key(rt, b"K-2")];
-    let first = bin(rt, b"A-01", BinKind::Store);
-    let other = bin(rt, b"B-02", BinKind::Store);
-    let mut books = new_books(rt, alloc, conn);
-    tells(rt, &mut books, &keys[0], &first, b"{\"act\":1}");
-    refuses(rt, &mut books, &keys[1], &first, Refusal::BinExists);
-    tells(rt, &mut books, &keys[1], &other, b"{\"act\":2}");
-    books.close()
-}
+static REFUSED_KEY: [&[Step]; 1] = [&[Step::Deeds(&[
+    Deed::Act(Under::Key(b"K-1"), STORE_BIN, Told::New(b"{\"act\":1}")),
+    Deed::Act(
+        Under::Key(b"K-2"),
+        STORE_BIN,
+        Told::Refused(Refusal::BinExists),
+    ),
+    Deed::Act(
+        Under::Key(b"K-2"),
+        Wanted::Bin(b"B-02", BinKind::Store),
+        Told::New(b"{\"act\":2}"),
+    ),
+])]];
 
 #[test]
 fn a_refused_command_bears_no_key(rt: HostRuntime) {
-    run_in_new_file(&rt, rt.alloc(), Case::RefusedKey);
-}
-
-/// The item and a bin.
-pub(crate) fn known<S: Alter>(rt: &impl Abort, books: &mut Books<S>) {
-    let keys = [key(rt, b"K-1"), key(rt, b"K-2")];
-    let store = bin(rt, b"A-01", BinKind::Store);
-    tells(rt, books, &keys[0], &item(rt), b"{\"act\":1}");
-    tells(rt, books, &keys[1], &store, b"{\"act\":2}");
-}
-
-/// Ten units come in by a line of a delivery.
-pub(crate) fn comes_in<S: Alter>(rt: &impl Abort, books: &mut Books<S>) {
-    tells(rt, books, &first_line(rt), &receipt(rt, 10), b"{\"act\":3}");
-}
-
-/// Twelve units are ordered, and two are short.
-pub(crate) fn is_ordered<S: Alter>(rt: &impl Abort, books: &mut Books<S>, wanted: &Command) {
-    tells(
-        rt,
-        books,
-        &key(rt, b"K-3"),
-        wanted,
-        b"{\"act\":4,\"short\":2}",
-    );
+    run(&rt, rt.alloc(), REFUSED_KEY.as_slice());
 }
 
 // Ten units come in and twelve are ordered: the order is short of two. A delivery's line acts once too.
-pub(crate) fn goods_come_in<S: Alter + Drop>(
-    rt: &impl Abort,
-    alloc: Global,
-    conn: Connection<S>,
-) -> Connection<S> {
-    let line = first_line(rt);
-    let wanted = order(rt, alloc, 12);
-    let receipts = [receipt(rt, 10), receipt(rt, 11)];
-    let mut books = new_books(rt, alloc, conn);
-    known(rt, &mut books);
-    comes_in(rt, &mut books);
-    repeats(rt, &mut books, &line, &receipts[0], b"{\"act\":3}");
-    refuses(rt, &mut books, &line, &receipts[1], Refusal::KeyUsed);
-    is_ordered(rt, &mut books, &wanted);
-    repeats(
-        rt,
-        &mut books,
-        &key(rt, b"K-3"),
-        &wanted,
-        b"{\"act\":4,\"short\":2}",
-    );
-    books.close()
-}
+static GOODS_COME_IN: [&[Step]; 1] = [&[Step::Deeds(&[
+    Deed::Act(Under::Key(b"K-1"), Wanted::Item, Told::New(b"{\"act\":1}")),
+    Deed::Act(Under::Key(b"K-2"), STORE_BIN, Told::New(b"{\"act\":2}")),
+    Deed::Act(
+        Under::FirstLine,
+        Wanted::Receipt(10),
+        Told::New(b"{\"act\":3}"),
+    ),
+    Deed::Act(
+        Under::FirstLine,
+        Wanted::Receipt(10),
+        Told::Again(b"{\"act\":3}"),
+    ),
+    Deed::Act(
+        Under::FirstLine,
+        Wanted::Receipt(11),
+        Told::Refused(Refusal::KeyUsed),
+    ),
+    Deed::Act(
+        Under::Key(b"K-3"),
+        Wanted::Order(12),
+        Told::New(b"{\"act\":4,\"short\":2}"),
+    ),
+    Deed::Act(
+        Under::Key(b"K-3"),
+        Wanted::Order(12),
+        Told::Again(b"{\"act\":4,\"short\":2}"),
+    ),
+])]];
 
 #[test]
 fn goods_come_in_and_are_ordered(rt: HostRuntime) {
-    run_in_new_file(&rt, rt.alloc(), Case::GoodsComeIn);
+    run(&rt, rt.alloc(), GOODS_COME_IN.as_slice());
+}
+
+// An item that nobody took into the range is refused; what an order reserves of its lot is shown.
+static STOCK_SHOWN: [&[Step]; 1] = [&[Step::Deeds(&[
+    Deed::Stock(None),
+    Deed::Act(Under::Key(b"K-1"), Wanted::Item, Told::New(b"{\"act\":1}")),
+    Deed::Act(Under::Key(b"K-2"), STORE_BIN, Told::New(b"{\"act\":2}")),
+    Deed::Act(
+        Under::FirstLine,
+        Wanted::Receipt(10),
+        Told::New(b"{\"act\":3}"),
+    ),
+    Deed::Stock(Some(0)),
+    Deed::Act(
+        Under::Key(b"K-3"),
+        Wanted::Order(12),
+        Told::New(b"{\"act\":4,\"short\":2}"),
+    ),
+    Deed::Stock(Some(10)),
+])]];
+
+#[test]
+fn stock_is_shown(rt: HostRuntime) {
+    run(&rt, rt.alloc(), STOCK_SHOWN.as_slice());
 }

@@ -1,17 +1,13 @@
 //! The worked examples, sent to a house whose books are in memory.
 
-use crate::cases::{Case, run_answers, run_in_new_file};
-use crate::opening::is_of_may_fourth;
-use crate::order_rows::opened;
-use house::{Answered, House, ServeFault, laws};
-use label::{BusinessDay, Day};
-use sqlite::{Alter, Connection};
-use std::alloc::Global;
-use std::process::Abort;
-use store::Books;
+use crate::asking::Asked;
+use crate::disk::run;
+use crate::steps::Step;
+use crate::table::Table;
+use house::laws;
 
 // Texts that are no request, or ask for what is not served, and labels that are refused.
-static NO_REQUESTS: [(&str, &str); 7] = [
+pub(crate) static NO_REQUESTS: [(&str, &str); 7] = [
     (
         "POST /items HTTP/1.1\r\nContent-Length: 56\r\n\r\n{\"key\":\"K-1\",\"gtin\":\"09506000134352\",\"name\":\"Oat drink\"",
         "HTTP/1.1 400 Bad Request\r\ncontent-type: application/json\r\ncontent-length: 14\r\nconnection: close\r\n\r\n{\"code\":\"W02\"}",
@@ -67,7 +63,7 @@ pub(crate) static GOODS_AND_BINS: [(&str, &str); 5] = [
 ];
 
 // What is refused on these: a lot that is expired, and an order that nobody placed.
-static REFUSED: [(&str, &str); 2] = [
+pub(crate) static REFUSED: [(&str, &str); 2] = [
     (
         "POST /receipts HTTP/1.1\r\nContent-Length: 90\r\n\r\n{\"delivery\":\"D-0\",\"line\":1,\"label\":\"01095060001343521777010110AB12\",\"bin\":\"A-01\",\"qty\":10}",
         "HTTP/1.1 409 Conflict\r\ncontent-type: application/json\r\ncontent-length: 14\r\nconnection: close\r\n\r\n{\"code\":\"S02\"}",
@@ -80,7 +76,7 @@ static REFUSED: [(&str, &str); 2] = [
 
 // The stock of an item with no lot, of one whose number is spelled with an escape, and of one that
 // nobody took into the range.
-static STOCK_BEFORE: [(&str, &str); 3] = [
+pub(crate) static STOCK_BEFORE: [(&str, &str); 3] = [
     (
         "GET /stock/04012345000016 HTTP/1.1\r\n\r\n",
         "HTTP/1.1 200 OK\r\ncontent-type: application/json\r\ncontent-length: 54\r\nconnection: close\r\n\r\n{\"gtin\":\"04012345000016\",\"lots\":[],\"name\":\"Rye bread\"}",
@@ -96,12 +92,12 @@ static STOCK_BEFORE: [(&str, &str); 3] = [
 ];
 
 // The stock after the first receipt, and after all that the two customers ordered.
-static STOCK_OF_ONE_LOT: [(&str, &str); 1] = [(
+pub(crate) static STOCK_OF_ONE_LOT: [(&str, &str); 1] = [(
     "GET /stock/09506000134352 HTTP/1.1\r\n\r\n",
     "HTTP/1.1 200 OK\r\ncontent-type: application/json\r\ncontent-length: 161\r\nconnection: close\r\n\r\n{\"gtin\":\"09506000134352\",\"lots\":[{\"bins\":[{\"bin\":\"A-01\",\"qty\":10}],\"expiry\":\"2026-06-30\",\"lot\":\"L1\",\"reserved\":0,\"staged\":0,\"status\":\"FREE\"}],\"name\":\"Oat drink\"}",
 )];
 
-static STOCK_OF_THREE_LOTS: [(&str, &str); 1] = [(
+pub(crate) static STOCK_OF_THREE_LOTS: [(&str, &str); 1] = [(
     "GET /stock/09506000134352 HTTP/1.1\r\n\r\n",
     "HTTP/1.1 200 OK\r\ncontent-type: application/json\r\ncontent-length: 377\r\nconnection: close\r\n\r\n{\"gtin\":\"09506000134352\",\"lots\":[{\"bins\":[{\"bin\":\"A-01\",\"qty\":5}],\"expiry\":\"2026-05-10\",\"lot\":\"L0\",\"reserved\":5,\"staged\":0,\"status\":\"FREE\"},{\"bins\":[{\"bin\":\"A-01\",\"qty\":10}],\"expiry\":\"2026-05-31\",\"lot\":\"L2\",\"reserved\":10,\"staged\":0,\"status\":\"FREE\"},{\"bins\":[{\"bin\":\"A-01\",\"qty\":10}],\"expiry\":\"2026-06-30\",\"lot\":\"L1\",\"reserved\":9,\"staged\":0,\"status\":\"FREE\"}],\"name\":\"Oat drink\"}",
 )];
@@ -154,190 +150,63 @@ pub(crate) static TWO_CUSTOMERS: [(&str, &str); 11] = [
     ),
 ];
 
-pub(crate) fn business_day(rt: &impl Abort, text: &[u8]) -> BusinessDay {
-    BusinessDay::new(Day::parse(text).expect(rt, "a day")).expect(rt, "a business day")
-}
-
-/// Makes books of 2026-05-04.
-pub(crate) fn new_books<S: Alter + Drop>(
-    rt: &impl Abort,
-    alloc: Global,
-    conn: Connection<S>,
-) -> Books<S> {
-    assert!(rt; conn.is_autocommit());
-    match Books::create(alloc, conn, business_day(rt, b"2026-05-04")) {
-        Ok(books) => books,
-        Err(_) => panic!(rt; "no books were made"),
-    }
-}
-
-fn new_house<S: Alter + Drop>(rt: &impl Abort, alloc: Global, conn: Connection<S>) -> House<S> {
-    House::new(alloc, new_books(rt, alloc, conn))
-}
-
-fn is_answered<S: Alter>(rt: &impl Abort, house: &mut House<S>, row: &(&str, &str)) {
-    let answer = house.answer(row.0.as_bytes());
-    assert_eq!(rt; answer.as_bytes(), row.1.as_bytes(), "{:?}", row.0);
-}
-
-// Each text gets its answer.
-pub(crate) fn expect<S: Alter>(rt: &impl Abort, house: &mut House<S>, rows: &[(&str, &str)]) {
-    for row in rows {
-        is_answered(rt, house, row);
-    }
-}
-
-// Each text of these tables gets its answer.
-fn expect_all<S: Alter>(rt: &impl Abort, house: &mut House<S>, tables: &[&[(&str, &str)]]) {
-    for rows in tables {
-        expect(rt, house, rows);
-    }
-}
-
-pub(crate) fn answers<S: Alter + Drop>(
-    rt: &impl Abort,
-    alloc: Global,
-    conn: Connection<S>,
-    tables: &[&[(&str, &str)]],
-) -> Connection<S> {
-    let mut house = House::new(alloc, opened(rt, alloc, conn));
-    expect_all(rt, &mut house, tables);
-    house.close().close()
-}
-
-pub(crate) fn answers_in_new_books<S: Alter + Drop>(
-    rt: &impl Abort,
-    alloc: Global,
-    conn: Connection<S>,
-    tables: &[&[(&str, &str)]],
-) -> Connection<S> {
-    let mut house = new_house(rt, alloc, conn);
-    expect_all(rt, &mut house, tables);
-    house.close().close()
-}
-
-pub(crate) fn no_request<S: Alter + Drop>(
-    rt: &impl Abort,
-    alloc: Global,
-    conn: Connection<S>,
-) -> Connection<S> {
-    let mut house = new_house(rt, alloc, conn);
-    expect(rt, &mut house, NO_REQUESTS.as_slice());
-    let books = house.close();
-    is_of_may_fourth(rt, &books);
-    books.close()
-}
+static NO_REQUESTS_ANSWERED: [&[Step]; 1] = [&[
+    Step::NewHouse(&[Asked::Each(Table::NoRequests)]),
+    Step::Open,
+]];
 
 #[test]
 fn answers_what_is_no_request(rt: HostRuntime) {
-    run_in_new_file(&rt, rt.alloc(), Case::AnswersNoRequest);
+    run(&rt, rt.alloc(), NO_REQUESTS_ANSWERED.as_slice());
     laws::refused_requests_change_nothing();
     laws::books_are_never_foreign();
 }
 
+static TWO_CUSTOMERS_ANSWERED: [&[Step]; 1] = [&[Step::NewHouse(&[
+    Asked::Each(Table::GoodsAndBins),
+    Asked::Each(Table::Refused),
+    Asked::Each(Table::TwoCustomers),
+])]];
+
 #[test]
 fn answers_the_two_customers(rt: HostRuntime) {
-    run_answers(
-        &rt,
-        rt.alloc(),
-        &[
-            GOODS_AND_BINS.as_slice(),
-            REFUSED.as_slice(),
-            TWO_CUSTOMERS.as_slice(),
-        ],
-    );
+    run(&rt, rt.alloc(), TWO_CUSTOMERS_ANSWERED.as_slice());
 }
+
+static STOCK_SHOWN: [&[Step]; 1] = [&[Step::NewHouse(&[
+    Asked::Each(Table::GoodsAndBins),
+    Asked::Each(Table::StockBefore),
+    Asked::Each(Table::FirstReceipt),
+    Asked::Each(Table::StockOfOneLot),
+    Asked::Each(Table::AfterFirstReceipt),
+    Asked::Each(Table::StockOfThreeLots),
+])]];
 
 #[test]
 fn shows_stock(rt: HostRuntime) {
-    run_answers(
-        &rt,
-        rt.alloc(),
-        &[
-            GOODS_AND_BINS.as_slice(),
-            STOCK_BEFORE.as_slice(),
-            &TWO_CUSTOMERS[..1],
-            STOCK_OF_ONE_LOT.as_slice(),
-            &TWO_CUSTOMERS[1..],
-            STOCK_OF_THREE_LOTS.as_slice(),
-        ],
-    );
+    run(&rt, rt.alloc(), STOCK_SHOWN.as_slice());
 }
 
-fn texts(rt: &impl Abort, alloc: Global, rows: &[(&str, &str)]) -> Vec<Vec<u8>> {
-    let mut texts = Vec::new(alloc);
-    for row in rows {
-        let text = row.0.as_bytes().to_vec(alloc).expect(rt, "a text");
-        assert!(rt; texts.push(text).is_ok());
-    }
-    texts
-}
-
-fn are_answers(rt: &impl Abort, answers: &[Answered], rows: &[(&str, &str)]) {
-    assert_eq!(rt; answers.len(), rows.len());
-    for (answer, row) in answers.iter().zip(rows) {
-        assert_eq!(rt; answer.as_bytes(), row.1.as_bytes(), "{:?}", row.0);
-    }
-}
-
-pub(crate) fn in_turn<S: Alter + Drop>(
-    rt: &impl Abort,
-    alloc: Global,
-    conn: Connection<S>,
-) -> Connection<S> {
-    let texts = texts(rt, alloc, TWO_CUSTOMERS.as_slice());
-    let mut house = new_house(rt, alloc, conn);
-    expect(rt, &mut house, GOODS_AND_BINS.as_slice());
-    let answers = house.answer_all(texts.as_slice()).expect(rt, "answers");
-    are_answers(rt, answers.as_slice(), TWO_CUSTOMERS.as_slice());
-    house.close().close()
-}
+static ANSWERED_IN_TURN: [&[Step]; 1] = [&[Step::NewHouse(&[
+    Asked::Each(Table::GoodsAndBins),
+    Asked::All(Table::TwoCustomers),
+])]];
 
 #[test]
 fn answers_all_in_turn(rt: HostRuntime) {
-    run_in_new_file(&rt, rt.alloc(), Case::AnswersInTurn);
+    run(&rt, rt.alloc(), ANSWERED_IN_TURN.as_slice());
 }
 
-fn is_served<S: Alter>(rt: &impl Abort, alloc: Global, house: &mut House<S>, row: &(&str, &str)) {
-    let mut reader = row.0.as_bytes();
-    let mut writer: Vec<u8> = Vec::new(alloc);
-    let served = house.serve_one(&mut reader, &mut writer);
-    assert!(rt; served == Ok(()));
-    assert_eq!(rt; writer.as_slice(), row.1.as_bytes(), "{:?}", row.0);
-}
-
-pub(crate) fn one_by_one<S: Alter + Drop>(
-    rt: &impl Abort,
-    alloc: Global,
-    conn: Connection<S>,
-) -> Connection<S> {
-    let mut house = new_house(rt, alloc, conn);
-    for row in NO_REQUESTS.as_slice() {
-        is_served(rt, alloc, &mut house, row);
-    }
-    house.close().close()
-}
+static SERVED: [&[Step]; 1] = [&[Step::NewHouse(&[Asked::Served(Table::NoRequests)])]];
 
 #[test]
 fn serves_one(rt: HostRuntime) {
-    run_in_new_file(&rt, rt.alloc(), Case::ServesOne);
+    run(&rt, rt.alloc(), SERVED.as_slice());
 }
 
-pub(crate) fn full_writer<S: Alter + Drop>(
-    rt: &impl Abort,
-    alloc: Global,
-    conn: Connection<S>,
-) -> Connection<S> {
-    let mut house = new_house(rt, alloc, conn);
-    let mut reader = b"GET /items HTTP/1.1\r\n\r\n".as_slice();
-    let mut room = [0; 8];
-    let mut writer = room.as_mut_slice();
-    let served = house.serve_one(&mut reader, &mut writer);
-    assert!(rt; served == Err(ServeFault::Write));
-    house.close().close()
-}
+static FULL_WRITER: [&[Step]; 1] = [&[Step::NewHouse(&[Asked::FullWriter])]];
 
 #[test]
 fn a_full_writer_is_a_fault(rt: HostRuntime) {
-    run_in_new_file(&rt, rt.alloc(), Case::FullWriter);
+    run(&rt, rt.alloc(), FULL_WRITER.as_slice());
 }

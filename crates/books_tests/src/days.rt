@@ -1,9 +1,12 @@
 //! Days opened after the two-customer example.
 
+use crate::asking::Asked;
 use crate::picking::continues;
+use crate::steps::Step;
+use crate::table::Table;
 
 // A lot may ship on its expiry day. On the day after, what is staged of it returns, and its units serve nobody.
-static OPENED: [(&str, &str); 12] = [
+pub(crate) static OPENED: [(&str, &str); 12] = [
     (
         "POST /days HTTP/1.1\r\nContent-Length: 33\r\n\r\n{\"key\":\"K-11\",\"day\":\"2026-05-04\"}",
         "HTTP/1.1 409 Conflict\r\ncontent-type: application/json\r\ncontent-length: 14\r\nconnection: close\r\n\r\n{\"code\":\"S10\"}",
@@ -54,7 +57,9 @@ static OPENED: [(&str, &str); 12] = [
     ),
 ];
 
+static DAYS_OPENED: [Step; 1] = [Step::House(&[Asked::Each(Table::Opened)])];
+
 #[test]
 fn opens_days(rt: HostRuntime) {
-    continues(&rt, rt.alloc(), &[OPENED.as_slice()])
+    continues(&rt, rt.alloc(), DAYS_OPENED.as_slice());
 }

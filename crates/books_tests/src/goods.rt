@@ -1,11 +1,13 @@
 //! Moves, counts, adjustments, holds and recalls after the two-customer example.
 
-use crate::answers::GOODS_AND_BINS;
-use crate::cases::run_answers;
-use crate::picking::{PICKED, continues};
+use crate::asking::Asked;
+use crate::disk::run;
+use crate::picking::continues;
+use crate::steps::Step;
+use crate::table::Table;
 
 // A lot is moved to where it serves no orders.
-static MOVED: [(&str, &str); 15] = [
+pub(crate) static MOVED: [(&str, &str); 15] = [
     (
         "POST /moves HTTP/1.1\r\nContent-Length: 83\r\n\r\n{\"key\":\"K-11\",\"gtin\":\"04012345000023\",\"lot\":\"L9\",\"from\":\"B-99\",\"to\":\"B-98\",\"qty\":1}",
         "HTTP/1.1 409 Conflict\r\ncontent-type: application/json\r\ncontent-length: 14\r\nconnection: close\r\n\r\n{\"code\":\"U01\"}",
@@ -69,7 +71,7 @@ static MOVED: [(&str, &str); 15] = [
 ];
 
 // A lot is written off, and some of it is written on in another bin.
-static ADJUSTED: [(&str, &str); 13] = [
+pub(crate) static ADJUSTED: [(&str, &str); 13] = [
     (
         "POST /adjustments HTTP/1.1\r\nContent-Length: 73\r\n\r\n{\"key\":\"K-11\",\"gtin\":\"04012345000023\",\"lot\":\"L9\",\"bin\":\"B-99\",\"change\":1}",
         "HTTP/1.1 409 Conflict\r\ncontent-type: application/json\r\ncontent-length: 14\r\nconnection: close\r\n\r\n{\"code\":\"U01\"}",
@@ -125,7 +127,7 @@ static ADJUSTED: [(&str, &str); 13] = [
 ];
 
 // A bin has less of a lot than the books say.
-static COUNTED: [(&str, &str); 14] = [
+pub(crate) static COUNTED: [(&str, &str); 14] = [
     (
         "POST /counts HTTP/1.1\r\nContent-Length: 70\r\n\r\n{\"key\":\"K-11\",\"gtin\":\"04012345000023\",\"lot\":\"L9\",\"bin\":\"B-99\",\"qty\":8}",
         "HTTP/1.1 409 Conflict\r\ncontent-type: application/json\r\ncontent-length: 14\r\nconnection: close\r\n\r\n{\"code\":\"U01\"}",
@@ -185,7 +187,7 @@ static COUNTED: [(&str, &str); 14] = [
 ];
 
 // After the picks: a lot is held, and its staged units are returned. It is released and moved back.
-static HELD: [(&str, &str); 18] = [
+pub(crate) static HELD: [(&str, &str); 18] = [
     (
         "POST /holds HTTP/1.1\r\nContent-Length: 49\r\n\r\n{\"key\":\"K-13\",\"gtin\":\"04012345000023\",\"lot\":\"L9\"}",
         "HTTP/1.1 409 Conflict\r\ncontent-type: application/json\r\ncontent-length: 14\r\nconnection: close\r\n\r\n{\"code\":\"U01\"}",
@@ -261,7 +263,7 @@ static HELD: [(&str, &str); 18] = [
 ];
 
 // A lot is recalled that orders were to be served from.
-static RECALLED: [(&str, &str); 12] = [
+pub(crate) static RECALLED: [(&str, &str); 12] = [
     (
         "POST /recalls HTTP/1.1\r\nContent-Length: 49\r\n\r\n{\"key\":\"K-11\",\"gtin\":\"04012345000023\",\"lot\":\"L9\"}",
         "HTTP/1.1 409 Conflict\r\ncontent-type: application/json\r\ncontent-length: 14\r\nconnection: close\r\n\r\n{\"code\":\"U01\"}",
@@ -313,7 +315,7 @@ static RECALLED: [(&str, &str); 12] = [
 ];
 
 // A receipt comes again after the recall of its lot.
-static RECEIVED_AND_RECALLED: [(&str, &str); 8] = [
+pub(crate) static RECEIVED_AND_RECALLED: [(&str, &str); 8] = [
     (
         "POST /recalls HTTP/1.1\r\nContent-Length: 49\r\n\r\n{\"key\":\"K-11\",\"gtin\":\"09506000134352\",\"lot\":\"L0\"}",
         "HTTP/1.1 200 OK\r\ncontent-type: application/json\r\ncontent-length: 23\r\nconnection: close\r\n\r\n{\"act\":11,\"returned\":0}",
@@ -349,7 +351,7 @@ static RECEIVED_AND_RECALLED: [(&str, &str); 8] = [
 ];
 
 // A recall names a lot that was never received.
-static NEVER_RECEIVED: [(&str, &str); 5] = [
+pub(crate) static NEVER_RECEIVED: [(&str, &str); 5] = [
     (
         "POST /recalls HTTP/1.1\r\nContent-Length: 49\r\n\r\n{\"key\":\"K-11\",\"gtin\":\"04012345000016\",\"lot\":\"Z9\"}",
         "HTTP/1.1 200 OK\r\ncontent-type: application/json\r\ncontent-length: 22\r\nconnection: close\r\n\r\n{\"act\":6,\"returned\":0}",
@@ -372,41 +374,54 @@ static NEVER_RECEIVED: [(&str, &str); 5] = [
     ),
 ];
 
+static LOT_MOVED: [Step; 1] = [Step::House(&[Asked::Each(Table::Moved)])];
+
 #[test]
 fn moves_a_lot(rt: HostRuntime) {
-    continues(&rt, rt.alloc(), &[MOVED.as_slice()])
+    continues(&rt, rt.alloc(), LOT_MOVED.as_slice());
 }
+
+static LOT_ADJUSTED: [Step; 1] = [Step::House(&[Asked::Each(Table::Adjusted)])];
 
 #[test]
 fn adjusts_a_lot(rt: HostRuntime) {
-    continues(&rt, rt.alloc(), &[ADJUSTED.as_slice()])
+    continues(&rt, rt.alloc(), LOT_ADJUSTED.as_slice());
 }
+
+static LOT_COUNTED: [Step; 1] = [Step::House(&[Asked::Each(Table::Counted)])];
 
 #[test]
 fn counts_a_lot(rt: HostRuntime) {
-    continues(&rt, rt.alloc(), &[COUNTED.as_slice()])
+    continues(&rt, rt.alloc(), LOT_COUNTED.as_slice());
 }
+
+static LOT_HELD: [Step; 1] = [Step::House(&[Asked::Each(Table::Picked), Asked::Each(Table::Held)])];
 
 #[test]
 fn holds_and_releases_a_lot(rt: HostRuntime) {
-    continues(&rt, rt.alloc(), &[PICKED.as_slice(), HELD.as_slice()])
+    continues(&rt, rt.alloc(), LOT_HELD.as_slice());
 }
+
+static LOT_RECALLED: [Step; 1] = [Step::House(&[Asked::Each(Table::Recalled)])];
 
 #[test]
 fn recalls_a_lot(rt: HostRuntime) {
-    continues(&rt, rt.alloc(), &[RECALLED.as_slice()])
+    continues(&rt, rt.alloc(), LOT_RECALLED.as_slice());
 }
+
+static RECALLED_LOT_RECEIVED: [Step; 1] = [Step::House(&[Asked::Each(Table::ReceivedAndRecalled)])];
 
 #[test]
 fn receives_no_recalled_lot(rt: HostRuntime) {
-    continues(&rt, rt.alloc(), &[RECEIVED_AND_RECALLED.as_slice()])
+    continues(&rt, rt.alloc(), RECALLED_LOT_RECEIVED.as_slice());
 }
+
+static UNKNOWN_LOT_RECALLED: [&[Step]; 1] = [&[Step::NewHouse(&[
+    Asked::Each(Table::GoodsAndBins),
+    Asked::Each(Table::NeverReceived),
+])]];
 
 #[test]
 fn recalls_a_lot_never_received(rt: HostRuntime) {
-    run_answers(
-        &rt,
-        rt.alloc(),
-        &[GOODS_AND_BINS.as_slice(), NEVER_RECEIVED.as_slice()],
-    );
+    run(&rt, rt.alloc(), UNKNOWN_LOT_RECALLED.as_slice());
 }

@@ -9,9 +9,11 @@ mod acts;
 #[cfg(test)]
 mod answers;
 #[cfg(test)]
-mod cases;
+mod asking;
 #[cfg(test)]
 mod days;
+#[cfg(test)]
+mod disk;
 #[cfg(test)]
 mod goods;
 #[cfg(test)]
@@ -29,6 +31,10 @@ mod samples;
 #[cfg(test)]
 mod serving;
 #[cfg(test)]
+mod steps;
+#[cfg(test)]
 mod stock;
+#[cfg(test)]
+mod table;
 #[cfg(test)]
 mod table_rows;

@@ -1,16 +1,12 @@
 //! Every row of every table after the two-customer example.
 
-ghost use Rattle.std.specs.Prelude.{IsTrue};
-ghost use Rattle.sqlite_disk.specs.Memory.{memory_is_usable};
-
-use crate::answers::{GOODS_AND_BINS, TWO_CUSTOMERS, expect, new_books};
-use crate::cases::{Case, run_in_file, run_in_new_file};
-use house::House;
+use crate::asking::Asked;
+use crate::disk::run;
+use crate::steps::{On, Step};
+use crate::table::{Left, Table};
 use sqlite::{Alter, Connection, Row};
-use sqlite_disk::Memory;
 use std::alloc::Global;
 use std::process::Abort;
-use store::Books;
 
 // What reads the rows of each table, by their keys.
 static QUERIES: [&str; 14] = [
@@ -31,7 +27,7 @@ static QUERIES: [&str; 14] = [
 ];
 
 // The rows after the two customers.
-static TWO_CUSTOMERS_ROWS: [&str; 14] = [
+pub(crate) static TWO_CUSTOMERS_ROWS: [&str; 14] = [
     "1|LOTSTOCK|1|20577|10|0\n",
     "04012345000016|Rye bread\n09506000134352|Oat drink\n",
     "A-01|STORE\nA-02|STORE\nQ-01|HOLD\nRETURNS|HOLD\n",
@@ -47,31 +43,6 @@ static TWO_CUSTOMERS_ROWS: [&str; 14] = [
     "09506000134352|L0|10|20577|RECEIPT|D-2/1|5|5\n09506000134352|L1|6|20577|RECEIPT|D-1/1|10|10\n09506000134352|L2|7|20577|RECEIPT|D-1/2|10|10\n",
     "K/K-1|1|ITEM\n09506000134352\nOat drink|{\"act\":1}\nK/K-2|2|ITEM\n04012345000016\nRye bread|{\"act\":2}\nK/K-3|3|BIN\nA-01\nSTORE|{\"act\":3}\nK/K-4|4|BIN\nA-02\nSTORE|{\"act\":4}\nK/K-5|5|BIN\nQ-01\nHOLD|{\"act\":5}\nD/D-1/1|6|RECEIVE\n09506000134352\nL1\n2026-06-30\nA-01\n10|{\"act\":6}\nD/D-1/2|7|RECEIVE\n09506000134352\nL2\n2026-05-31\nA-01\n10|{\"act\":7}\nK/K-8|8|ORDER\nS-1\nCorner Shop\n09506000134352\n12|{\"act\":8,\"short\":0}\nK/K-9|9|ORDER\nS-2\nHarbour Cafe\n09506000134352\n12|{\"act\":9,\"short\":4}\nD/D-2/1|10|RECEIVE\n09506000134352\nL0\n2026-05-10\nA-01\n5|{\"act\":10}\n",
 ];
-
-// Books over a connection that another owner left.
-pub(crate) fn opened<S: Alter + Drop>(
-    rt: &impl Abort,
-    alloc: Global,
-    conn: Connection<S>,
-) -> Books<S> {
-    assert!(rt; conn.is_autocommit());
-    match Books::open(alloc, conn) {
-        Ok(books) => books,
-        Err(_) => panic!(rt; "the books do not open"),
-    }
-}
-
-// Each text gets its answer, and the books are closed.
-pub(crate) fn answered<S: Alter + Drop>(
-    rt: &impl Abort,
-    alloc: Global,
-    conn: Connection<S>,
-    rows: &[(&str, &str)],
-) -> Connection<S> {
-    let mut house = House::new(alloc, opened(rt, alloc, conn));
-    expect(rt, &mut house, rows);
-    house.close().close()
-}
 
 // The first column of each row, in a line of its own.
 fn lines_of(rt: &impl Abort, alloc: Global, rows: &[Row]) -> String {
@@ -94,7 +65,8 @@ pub(crate) fn gives<S: Alter>(
 ) {
     let rows = conn.query_all(query, &[]).expect(rt, "rows");
     let found = lines_of(rt, alloc, rows.as_slice());
-    assert_eq!(rt; found.as_str(), expected, "{query:?}");
+    drop(rows);
+    assert!(rt; found.as_str() == expected, "{query:?}");
 }
 
 // Each table has these rows, in the order of the queries above.
@@ -104,76 +76,38 @@ pub(crate) fn has_rows<S: Alter>(
     conn: &mut Connection<S>,
     expected: &[&str],
 ) {
-    assert_eq!(rt; expected.len(), QUERIES.len());
+    assert!(rt; expected.len() == QUERIES.len());
     for (query, rows) in QUERIES.as_slice().iter().zip(expected) {
         gives(rt, alloc, conn, query, rows);
     }
 }
 
-// The rows are those after the two customers.
-pub(crate) fn two_customers<S: Alter + Drop>(
-    rt: &impl Abort,
-    alloc: Global,
-    conn: Connection<S>,
-) -> Connection<S> {
-    let mut conn = conn;
-    has_rows(rt, alloc, &mut conn, TWO_CUSTOMERS_ROWS.as_slice());
-    conn
-}
-
-// Each text gets its answer, and the books are closed and opened again after it.
-pub(crate) fn answered_in_turn<S: Alter + Drop>(
-    rt: &impl Abort,
-    alloc: Global,
-    conn: Connection<S>,
-    rows: &[(&str, &str)],
-) -> Connection<S> {
-    let mut conn = conn;
-    for row in rows.chunks(1) {
-        conn = answered(rt, alloc, conn, row);
-    }
-    conn
-}
-
 // The books are closed and opened again after each of the two customers' requests.
-pub(crate) fn two_customers_in_turn<S: Alter + Drop>(
-    rt: &impl Abort,
-    alloc: Global,
-    conn: Connection<S>,
-) -> Connection<S> {
-    let conn = new_books(rt, alloc, conn).close();
-    let conn = answered(rt, alloc, conn, GOODS_AND_BINS.as_slice());
-    let conn = answered_in_turn(rt, alloc, conn, TWO_CUSTOMERS.as_slice());
-    two_customers(rt, alloc, conn)
-}
+static ON_A_CONNECTION: [&[Step]; 1] = [&[
+    Step::Make,
+    Step::House(&[Asked::Each(Table::GoodsAndBins)]),
+    Step::InTurn(Table::TwoCustomers),
+    Step::On(On::HasRows(Left::TwoCustomers)),
+]];
 
 #[test]
 fn keeps_every_row_on_a_connection(rt: HostRuntime) {
-    run_in_new_file(&rt, rt.alloc(), Case::TwoCustomersInTurn);
-}
-
-fn answered_in_file(
-    rt: &impl Abort,
-    alloc: Global,
-    db: Memory,
-    tables: &[&[(&str, &str)]],
-) -> Memory
-    requires { IsTrue (memory_is_usable db) }
-    ensures { IsTrue (memory_is_usable result) }
-{
-    run_in_file(rt, alloc, db, Case::Answers, tables)
+    run(&rt, rt.alloc(), ON_A_CONNECTION.as_slice());
 }
 
 // The file is closed and opened again between the receipts and the orders.
+static IN_A_FILE: [&[Step]; 8] = [
+    &[Step::Make],
+    &[Step::House(&[Asked::Each(Table::GoodsAndBins)])],
+    &[Step::House(&[Asked::Each(Table::FirstReceipt)])],
+    &[Step::House(&[Asked::Each(Table::SecondReceipt)])],
+    &[Step::House(&[Asked::Each(Table::FirstOrder)])],
+    &[Step::House(&[Asked::Each(Table::SecondOrder)])],
+    &[Step::House(&[Asked::Each(Table::LastReceipt)])],
+    &[Step::On(On::HasRows(Left::TwoCustomers))],
+];
+
 #[test]
 fn keeps_every_row_in_a_file(rt: HostRuntime) {
-    let db = Memory::new(rt.alloc());
-    let db = run_in_file(&rt, rt.alloc(), db, Case::Made, &[]);
-    let db = answered_in_file(&rt, rt.alloc(), db, &[GOODS_AND_BINS.as_slice()]);
-    let db = answered_in_file(&rt, rt.alloc(), db, &[&TWO_CUSTOMERS[..1]]);
-    let db = answered_in_file(&rt, rt.alloc(), db, &[&TWO_CUSTOMERS[1..2]]);
-    let db = answered_in_file(&rt, rt.alloc(), db, &[&TWO_CUSTOMERS[2..4]]);
-    let db = answered_in_file(&rt, rt.alloc(), db, &[&TWO_CUSTOMERS[4..6]]);
-    let db = answered_in_file(&rt, rt.alloc(), db, &[&TWO_CUSTOMERS[6..]]);
-    run_in_file(&rt, rt.alloc(), db, Case::TwoCustomers, &[]);
+    run(&rt, rt.alloc(), IN_A_FILE.as_slice());
 }

@@ -1,8 +1,9 @@
 //! Picks, shipments and cancellations after the two-customer example.
 
-use crate::answers::{GOODS_AND_BINS, TWO_CUSTOMERS};
-use crate::cases::{Case, run_in_file};
-use sqlite_disk::Memory;
+use crate::asking::Asked;
+use crate::disk::run_after;
+use crate::steps::Step;
+use crate::table::Table;
 use std::alloc::Global;
 use std::process::Abort;
 
@@ -51,7 +52,7 @@ pub(crate) static PICKED: [(&str, &str); 10] = [
 ];
 
 // A key that was refused serves another pick, and then it is taken.
-static KEY_LEFT_FREE: [(&str, &str); 7] = [
+pub(crate) static KEY_LEFT_FREE: [(&str, &str); 7] = [
     (
         "POST /picks HTTP/1.1\r\nContent-Length: 83\r\n\r\n{\"key\":\"P-9\",\"order\":\"S-1\",\"gtin\":\"09506000134352\",\"lot\":\"L2\",\"bin\":\"A-01\",\"qty\":8}",
         "HTTP/1.1 409 Conflict\r\ncontent-type: application/json\r\ncontent-length: 14\r\nconnection: close\r\n\r\n{\"code\":\"Q02\"}",
@@ -83,7 +84,7 @@ static KEY_LEFT_FREE: [(&str, &str); 7] = [
 ];
 
 // What a pick is refused for, the first of the reasons that hold.
-static PICKS_REFUSED: [(&str, &str); 15] = [
+pub(crate) static PICKS_REFUSED: [(&str, &str); 15] = [
     (
         "POST /picks HTTP/1.1\r\nContent-Length: 83\r\n\r\n{\"key\":\"P-1\",\"order\":\"S-9\",\"gtin\":\"04012345000023\",\"lot\":\"L9\",\"bin\":\"B-99\",\"qty\":1}",
         "HTTP/1.1 409 Conflict\r\ncontent-type: application/json\r\ncontent-length: 14\r\nconnection: close\r\n\r\n{\"code\":\"U01\"}",
@@ -147,7 +148,7 @@ static PICKS_REFUSED: [(&str, &str); 15] = [
 ];
 
 // After the picks: three units go back into a bin that serves no orders.
-static UNPICKED: [(&str, &str); 12] = [
+pub(crate) static UNPICKED: [(&str, &str); 12] = [
     (
         "POST /cancels HTTP/1.1\r\nContent-Length: 28\r\n\r\n{\"key\":\"K-13\",\"order\":\"S-1\"}",
         "HTTP/1.1 409 Conflict\r\ncontent-type: application/json\r\ncontent-length: 14\r\nconnection: close\r\n\r\n{\"code\":\"S08\"}",
@@ -267,7 +268,7 @@ pub(crate) static SHIPPED_AND_RECALLED: [(&str, &str); 7] = [
 ];
 
 // What is refused for an order that is done, and answered again.
-static DONE: [(&str, &str); 8] = [
+pub(crate) static DONE: [(&str, &str); 8] = [
     (
         "POST /shipments HTTP/1.1\r\nContent-Length: 28\r\n\r\n{\"key\":\"K-15\",\"order\":\"S-1\"}",
         "HTTP/1.1 409 Conflict\r\ncontent-type: application/json\r\ncontent-length: 14\r\nconnection: close\r\n\r\n{\"code\":\"S07\"}",
@@ -303,7 +304,7 @@ static DONE: [(&str, &str); 8] = [
 ];
 
 // The first customer cancels, and the second has what was reserved.
-static CANCELLED: [(&str, &str); 11] = [
+pub(crate) static CANCELLED: [(&str, &str); 11] = [
     (
         "POST /cancels HTTP/1.1\r\nContent-Length: 28\r\n\r\n{\"key\":\"K-11\",\"order\":\"S-9\"}",
         "HTTP/1.1 409 Conflict\r\ncontent-type: application/json\r\ncontent-length: 14\r\nconnection: close\r\n\r\n{\"code\":\"U04\"}",
@@ -350,52 +351,64 @@ static CANCELLED: [(&str, &str); 11] = [
     ),
 ];
 
-// The two customers are answered in a new file. It is closed, and a house over it answers these tables in turn.
-pub(crate) fn continues(rt: &impl Abort, alloc: Global, tables: &[&[(&str, &str)]]) {
-    let first = [GOODS_AND_BINS.as_slice(), TWO_CUSTOMERS.as_slice()];
-    let case = Case::AnswersInNewBooks;
-    let db = run_in_file(rt, alloc, Memory::new(alloc), case, &first);
-    run_in_file(rt, alloc, db, Case::Answers, tables);
+static TWO_CUSTOMERS: [Step; 1] = [Step::NewHouse(&[
+    Asked::Each(Table::GoodsAndBins),
+    Asked::Each(Table::TwoCustomers),
+])];
+
+/// The two customers are answered in a new file. It is closed, and opened again for these steps.
+pub(crate) fn continues(rt: &impl Abort, alloc: Global, then: &[Step]) {
+    run_after(rt, alloc, TWO_CUSTOMERS.as_slice(), then);
 }
+
+static UNDER_A_KEY_LEFT_FREE: [Step; 1] = [Step::House(&[Asked::Each(Table::KeyLeftFree)])];
 
 #[test]
 fn picks_under_a_key_that_was_refused(rt: HostRuntime) {
-    continues(&rt, rt.alloc(), &[KEY_LEFT_FREE.as_slice()])
+    continues(&rt, rt.alloc(), UNDER_A_KEY_LEFT_FREE.as_slice());
 }
+
+static REFUSED_ASKED: [Step; 1] = [Step::House(&[Asked::Each(Table::PicksRefused)])];
 
 #[test]
 fn refuses_picks(rt: HostRuntime) {
-    continues(&rt, rt.alloc(), &[PICKS_REFUSED.as_slice()])
+    continues(&rt, rt.alloc(), REFUSED_ASKED.as_slice());
 }
+
+static PUT_BACK: [Step; 1] = [Step::House(&[
+    Asked::Each(Table::Picked),
+    Asked::Each(Table::Unpicked),
+])];
 
 #[test]
 fn picks_and_puts_back(rt: HostRuntime) {
-    continues(&rt, rt.alloc(), &[PICKED.as_slice(), UNPICKED.as_slice()])
+    continues(&rt, rt.alloc(), PUT_BACK.as_slice());
 }
+
+static STAGED_RECALLED: [Step; 1] = [Step::House(&[
+    Asked::Each(Table::Picked),
+    Asked::Each(Table::ReturnedAndShipped),
+])];
 
 #[test]
 fn recalls_what_is_staged(rt: HostRuntime) {
-    continues(
-        &rt,
-        rt.alloc(),
-        &[PICKED.as_slice(), RETURNED_AND_SHIPPED.as_slice()],
-    )
+    continues(&rt, rt.alloc(), STAGED_RECALLED.as_slice());
 }
+
+static STAGED_SHIPPED: [Step; 1] = [Step::House(&[
+    Asked::Each(Table::Picked),
+    Asked::Each(Table::ShippedAndRecalled),
+    Asked::Each(Table::Done),
+])];
 
 #[test]
 fn ships_what_is_staged(rt: HostRuntime) {
-    continues(
-        &rt,
-        rt.alloc(),
-        &[
-            PICKED.as_slice(),
-            SHIPPED_AND_RECALLED.as_slice(),
-            DONE.as_slice(),
-        ],
-    )
+    continues(&rt, rt.alloc(), STAGED_SHIPPED.as_slice());
 }
+
+static ORDER_CANCELLED: [Step; 1] = [Step::House(&[Asked::Each(Table::Cancelled)])];
 
 #[test]
 fn cancels_an_order(rt: HostRuntime) {
-    continues(&rt, rt.alloc(), &[CANCELLED.as_slice()])
+    continues(&rt, rt.alloc(), ORDER_CANCELLED.as_slice());
 }

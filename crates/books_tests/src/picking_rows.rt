@@ -1,15 +1,12 @@
 //! Every row of every table after picks, shipments, recalls and stocktaking.
 
-use crate::answers::{GOODS_AND_BINS, TWO_CUSTOMERS, new_books};
-use crate::cases::{Case, run_in_new_file};
-use crate::order_rows::{answered, answered_in_turn, has_rows};
-use crate::picking::{PICKED, RETURNED_AND_SHIPPED, SHIPPED_AND_RECALLED};
-use sqlite::{Alter, Connection};
-use std::alloc::Global;
-use std::process::Abort;
+use crate::asking::Asked;
+use crate::disk::run;
+use crate::steps::{On, Step};
+use crate::table::{Left, Table};
 
 // Lots are counted, adjusted, moved and held, and the first customer cancels.
-static STOCK_TAKEN: [(&str, &str); 8] = [
+pub(crate) static STOCK_TAKEN: [(&str, &str); 8] = [
     (
         "POST /counts HTTP/1.1\r\nContent-Length: 70\r\n\r\n{\"key\":\"K-11\",\"gtin\":\"09506000134352\",\"lot\":\"L2\",\"bin\":\"A-01\",\"qty\":8}",
         "HTTP/1.1 200 OK\r\ncontent-type: application/json\r\ncontent-length: 22\r\nconnection: close\r\n\r\n{\"act\":11,\"change\":-2}",
@@ -45,7 +42,7 @@ static STOCK_TAKEN: [(&str, &str); 8] = [
 ];
 
 // The rows after both picks.
-static PICKED_ROWS: [&str; 14] = [
+pub(crate) static PICKED_ROWS: [&str; 14] = [
     "1|LOTSTOCK|1|20577|12|0\n",
     "04012345000016|Rye bread\n09506000134352|Oat drink\n",
     "A-01|STORE\nA-02|STORE\nQ-01|HOLD\nRETURNS|HOLD\n",
@@ -63,7 +60,7 @@ static PICKED_ROWS: [&str; 14] = [
 ];
 
 // The rows after a recall that returned units, and the shipment of the others.
-static RETURNED_ROWS: [&str; 14] = [
+pub(crate) static RETURNED_ROWS: [&str; 14] = [
     "1|LOTSTOCK|1|20577|14|1\n",
     "04012345000016|Rye bread\n09506000134352|Oat drink\n",
     "A-01|STORE\nA-02|STORE\nQ-01|HOLD\nRETURNS|HOLD\n",
@@ -81,7 +78,7 @@ static RETURNED_ROWS: [&str; 14] = [
 ];
 
 // The rows after a shipment, and the recall of a lot that it holds.
-static SHIPPED_ROWS: [&str; 14] = [
+pub(crate) static SHIPPED_ROWS: [&str; 14] = [
     "1|LOTSTOCK|1|20577|14|1\n",
     "04012345000016|Rye bread\n09506000134352|Oat drink\n",
     "A-01|STORE\nA-02|STORE\nQ-01|HOLD\nRETURNS|HOLD\n",
@@ -99,7 +96,7 @@ static SHIPPED_ROWS: [&str; 14] = [
 ];
 
 // The rows after these.
-static STOCK_TAKEN_ROWS: [&str; 14] = [
+pub(crate) static STOCK_TAKEN_ROWS: [&str; 14] = [
     "1|LOTSTOCK|1|20577|16|0\n",
     "04012345000016|Rye bread\n09506000134352|Oat drink\n",
     "A-01|STORE\nA-02|STORE\nQ-01|HOLD\nRETURNS|HOLD\n",
@@ -116,73 +113,45 @@ static STOCK_TAKEN_ROWS: [&str; 14] = [
     "K/K-1|1|ITEM\n09506000134352\nOat drink|{\"act\":1}\nK/K-2|2|ITEM\n04012345000016\nRye bread|{\"act\":2}\nK/K-3|3|BIN\nA-01\nSTORE|{\"act\":3}\nK/K-4|4|BIN\nA-02\nSTORE|{\"act\":4}\nK/K-5|5|BIN\nQ-01\nHOLD|{\"act\":5}\nD/D-1/1|6|RECEIVE\n09506000134352\nL1\n2026-06-30\nA-01\n10|{\"act\":6}\nD/D-1/2|7|RECEIVE\n09506000134352\nL2\n2026-05-31\nA-01\n10|{\"act\":7}\nK/K-8|8|ORDER\nS-1\nCorner Shop\n09506000134352\n12|{\"act\":8,\"short\":0}\nK/K-9|9|ORDER\nS-2\nHarbour Cafe\n09506000134352\n12|{\"act\":9,\"short\":4}\nD/D-2/1|10|RECEIVE\n09506000134352\nL0\n2026-05-10\nA-01\n5|{\"act\":10}\nK/K-11|11|COUNT\n09506000134352\nL2\nA-01\n8|{\"act\":11,\"change\":-2}\nK/K-12|12|ADJUST\n09506000134352\nL1\nA-02\n3|{\"act\":12,\"change\":3}\nK/K-13|13|MOVE\n09506000134352\nL1\nA-01\nQ-01\n10|{\"act\":13}\nK/K-14|14|HOLD\n09506000134352\nL0|{\"act\":14,\"returned\":0}\nK/K-15|15|CANCEL\nS-1|{\"act\":15}\nK/K-16|16|COUNT\n09506000134352\nL2\nA-01\n8|{\"act\":16,\"change\":0}\n",
 ];
 
-// The books after the two customers and these texts, closed and opened again after each text.
-fn kept_after<S: Alter + Drop>(
-    rt: &impl Abort,
-    alloc: Global,
-    conn: Connection<S>,
-    rows: &[(&str, &str)],
-) -> Connection<S> {
-    let conn = new_books(rt, alloc, conn).close();
-    let conn = answered(rt, alloc, conn, GOODS_AND_BINS.as_slice());
-    let conn = answered(rt, alloc, conn, TWO_CUSTOMERS.as_slice());
-    answered_in_turn(rt, alloc, conn, rows)
-}
-
-pub(crate) fn stocktaking<S: Alter + Drop>(
-    rt: &impl Abort,
-    alloc: Global,
-    conn: Connection<S>,
-) -> Connection<S> {
-    let mut conn = kept_after(rt, alloc, conn, STOCK_TAKEN.as_slice());
-    has_rows(rt, alloc, &mut conn, STOCK_TAKEN_ROWS.as_slice());
-    conn
-}
+static STOCKTAKING: [&[Step]; 1] = [&[
+    Step::Make,
+    Step::House(&[Asked::Each(Table::GoodsAndBins)]),
+    Step::House(&[Asked::Each(Table::TwoCustomers)]),
+    Step::InTurn(Table::StockTaken),
+    Step::On(On::HasRows(Left::StockTaken)),
+]];
 
 #[test]
 fn keeps_the_rows_of_stocktaking(rt: HostRuntime) {
-    run_in_new_file(&rt, rt.alloc(), Case::Stocktaking);
+    run(&rt, rt.alloc(), STOCKTAKING.as_slice());
 }
 
-// The rows after the picks, and after these texts.
-fn keeps<S: Alter + Drop>(
-    rt: &impl Abort,
-    alloc: Global,
-    conn: Connection<S>,
-    then: &[(&str, &str)],
-    expected: &[&str],
-) -> Connection<S> {
-    let mut conn = kept_after(rt, alloc, conn, PICKED.as_slice());
-    has_rows(rt, alloc, &mut conn, PICKED_ROWS.as_slice());
-    let mut conn = answered(rt, alloc, conn, then);
-    has_rows(rt, alloc, &mut conn, expected);
-    conn
-}
-
-pub(crate) fn recall_with_returns<S: Alter + Drop>(
-    rt: &impl Abort,
-    alloc: Global,
-    conn: Connection<S>,
-) -> Connection<S> {
-    let then = RETURNED_AND_SHIPPED.as_slice();
-    keeps(rt, alloc, conn, then, RETURNED_ROWS.as_slice())
-}
+static RECALL_WITH_RETURNS: [&[Step]; 1] = [&[
+    Step::Make,
+    Step::House(&[Asked::Each(Table::GoodsAndBins)]),
+    Step::House(&[Asked::Each(Table::TwoCustomers)]),
+    Step::InTurn(Table::Picked),
+    Step::On(On::HasRows(Left::Picked)),
+    Step::House(&[Asked::Each(Table::ReturnedAndShipped)]),
+    Step::On(On::HasRows(Left::Returned)),
+]];
 
 #[test]
 fn keeps_the_rows_of_a_recall_with_returns(rt: HostRuntime) {
-    run_in_new_file(&rt, rt.alloc(), Case::RecallWithReturns);
+    run(&rt, rt.alloc(), RECALL_WITH_RETURNS.as_slice());
 }
 
-pub(crate) fn shipment<S: Alter + Drop>(
-    rt: &impl Abort,
-    alloc: Global,
-    conn: Connection<S>,
-) -> Connection<S> {
-    let then = SHIPPED_AND_RECALLED.as_slice();
-    keeps(rt, alloc, conn, then, SHIPPED_ROWS.as_slice())
-}
+static SHIPMENT: [&[Step]; 1] = [&[
+    Step::Make,
+    Step::House(&[Asked::Each(Table::GoodsAndBins)]),
+    Step::House(&[Asked::Each(Table::TwoCustomers)]),
+    Step::InTurn(Table::Picked),
+    Step::On(On::HasRows(Left::Picked)),
+    Step::House(&[Asked::Each(Table::ShippedAndRecalled)]),
+    Step::On(On::HasRows(Left::Shipped)),
+]];
 
 #[test]
 fn keeps_the_rows_of_a_shipment(rt: HostRuntime) {
-    run_in_new_file(&rt, rt.alloc(), Case::Shipment);
+    run(&rt, rt.alloc(), SHIPMENT.as_slice());
 }

@@ -1,7 +1,7 @@
 //! A connection that is served over a socket.
 
-use crate::answers::new_books;
-use crate::cases::{Case, run_in_new_file};
+use crate::disk::run_one_client;
+use crate::opening::new_books;
 use house::House;
 use service::serve_on;
 use sqlite::{Alter, Connection};
@@ -29,7 +29,7 @@ fn serves_one_connection(rt: HostRuntime) {
     let address = listener.local_addr().expect(&rt, "an address");
     let mut client = TcpStream::connect(&rt, address).expect(&rt, "a client");
     client.write_all(NEW_BIN).expect(&rt, "sent");
-    run_in_new_file(&rt, rt.alloc(), Case::OverSocket(&listener));
+    run_one_client(&rt, rt.alloc(), &listener);
     let mut answer = Vec::new(rt.alloc());
     client.read_to_end(&mut answer).expect(&rt, "an answer");
     assert_eq!(rt; answer.as_slice(), BIN_MADE);

@@ -1,8 +1,9 @@
-use crate::cases::{Case, run_in_file, run_in_new_file};
-use crate::opening::executes;
-use crate::order_rows::gives;
+use crate::disk::run;
 use crate::samples;
-use commands::{BinKind, CardKind, LineRow, OrderState, RepeatRow, StockRow};
+use crate::steps::{On, Step};
+use commands::{
+    BinKind, CardKind, CardRow, ItemRow, LineRow, LotRow, OrderRow, OrderState, RepeatRow, StockRow,
+};
 use goods_tables::bins::{all_bins, bins_of, drop_bin, put_bin};
 use goods_tables::items::{all_items, drop_item, items_of, put_item};
 use goods_tables::lots::{all_lots, drop_lot, lots_of, put_lot};
@@ -18,7 +19,6 @@ use order_tables::orders::{drop_order, open_orders, orders_of, put_order};
 use order_tables::reserved::{drop_reserved, put_reserved, reserved_of_item};
 use order_tables::staged::{all_staged, drop_staged, put_staged, staged_of_item};
 use sqlite::{Alter, Connection, Transaction};
-use sqlite_disk::Memory;
 use std::alloc::Global;
 use std::process::Abort;
 use table_words::error::TableFault;
@@ -47,7 +47,11 @@ fn is_done(rt: &impl Abort, done: Result<(), TableFault>) {
 }
 
 /// The connection over the tables.
-fn opened<S: Alter + Drop>(rt: &impl Abort, alloc: Global, conn: Connection<S>) -> Connection<S> {
+pub(crate) fn is_schema<S: Alter + Drop>(
+    rt: &impl Abort,
+    alloc: Global,
+    conn: Connection<S>,
+) -> Connection<S> {
     assert!(rt; conn.is_autocommit());
     match ready(alloc, conn) {
         Ok(conn) => conn,
@@ -69,7 +73,11 @@ fn handed_back<S: Alter + Drop>(
 }
 
 /// The connection as it comes back from an opening that is refused, since the schema is another.
-fn refused<S: Alter + Drop>(rt: &impl Abort, alloc: Global, conn: Connection<S>) -> Connection<S> {
+pub(crate) fn is_no_schema<S: Alter + Drop>(
+    rt: &impl Abort,
+    alloc: Global,
+    conn: Connection<S>,
+) -> Connection<S> {
     assert!(rt; conn.is_autocommit());
     match ready(alloc, conn) {
         Ok(_) => panic!(rt; "another schema was opened"),
@@ -78,7 +86,7 @@ fn refused<S: Alter + Drop>(rt: &impl Abort, alloc: Global, conn: Connection<S>)
 }
 
 /// Creation where there is a table.
-fn creates_nothing<S: Alter>(rt: &impl Abort, conn: &mut Connection<S>) {
+pub(crate) fn creates_nothing<S: Alter>(rt: &impl Abort, conn: &mut Connection<S>) {
     assert!(rt; conn.is_autocommit());
     let again = create(conn, &samples::meta(rt, 1), &samples::other_bin(rt));
     assert!(rt; matches!(again, Err(TableFault::Foreign)));
@@ -114,76 +122,240 @@ fn puts_history<S: Alter>(rt: &impl Abort, alloc: Global, tx: &mut Transaction<'
     is_done(rt, put_repeat(tx, &samples::repeat(rt, alloc)));
 }
 
-fn finds_goods<S: Alter>(rt: &impl Abort, alloc: Global, tx: &mut Transaction<'_, S>) {
-    assert_eq!(rt; only(rt, meta_rows(alloc, tx)).acts, 14);
-    let item = only(rt, items_of(alloc, tx, &samples::gtin(rt)));
-    assert!(rt; item.name.as_bytes() == b"Oat drink 1 l".as_slice());
-    let bin = only(rt, bins_of(alloc, tx, &samples::name(rt, b"A-01")));
-    assert!(rt; matches!(bin.kind, BinKind::Hold));
-    let all = [
-        count(rt, all_items(alloc, tx)),
-        count(rt, all_bins(alloc, tx)),
-    ];
-    assert_eq!(rt; all, [1, 1]);
+/// A table whose row is found again.
+#[derive(Clone, Copy)]
+enum Sought {
+    Meta,
+    Item,
+    Bin,
+    KnownLot,
+    Recall,
+    Stock,
+    Order,
+    OpenOrder,
+    LinesOfOrder,
+    Line,
+    NoLine,
+    Staged,
+    Reserved,
+    Shipment,
+    Shipline,
+    Card,
+    Repeat,
 }
 
-fn finds_lots<S: Alter>(rt: &impl Abort, alloc: Global, tx: &mut Transaction<'_, S>) {
-    let lot = only(rt, lots_of(alloc, tx, &samples::gtin(rt)));
-    assert_eq!(rt; lot.expiry.number(), -6940);
-    assert!(rt; lot.held);
-    assert_eq!(rt; count(rt, all_lots(alloc, tx)), 1);
-    let recall = only(rt, recalls_of(alloc, tx, &samples::gtin(rt)));
-    assert_eq!(rt; recall.act, 9);
-    has_stock(rt, stock_of(alloc, tx, &samples::gtin(rt)));
-}
-
-fn has_stock(rt: &impl Abort, rows: Result<Vec<StockRow>, TableFault>) {
-    let stock = listed(rt, rows);
-    assert_eq!(rt; stock.len(), 2);
-    assert_eq!(rt; [stock[0].qty, stock[1].qty], [4, 5]);
-}
-
-fn finds_orders<S: Alter>(rt: &impl Abort, alloc: Global, tx: &mut Transaction<'_, S>) {
-    let order = only(rt, orders_of(alloc, tx, &samples::name(rt, b"S-1")));
-    assert!(rt; matches!(order.state, OrderState::Cancelled));
-    let open = only(rt, open_orders(alloc, tx));
-    assert!(rt; open.order.as_bytes() == b"S-2".as_slice());
-    let staged = only(rt, staged_of_item(alloc, tx, &samples::gtin(rt)));
-    assert_eq!(rt; staged.qty, 7);
-    assert_eq!(rt; count(rt, all_staged(alloc, tx)), 1);
-    let reserved = only(rt, reserved_of_item(alloc, tx, &samples::gtin(rt)));
-    assert_eq!(rt; reserved.qty, 8);
-}
+static SOUGHT: [Sought; 17] = [
+    Sought::Meta,
+    Sought::Item,
+    Sought::Bin,
+    Sought::KnownLot,
+    Sought::Recall,
+    Sought::Stock,
+    Sought::Order,
+    Sought::OpenOrder,
+    Sought::LinesOfOrder,
+    Sought::Line,
+    Sought::NoLine,
+    Sought::Staged,
+    Sought::Reserved,
+    Sought::Shipment,
+    Sought::Shipline,
+    Sought::Card,
+    Sought::Repeat,
+];
 
 /// How many units are ordered in a line, if there is one.
 fn ordered(rt: &impl Abort, line: Result<Option<LineRow>, TableFault>) -> Option<u64> {
     line.expect(rt, "a line").map(|line| line.ordered)
 }
 
-fn finds_lines<S: Alter>(rt: &impl Abort, alloc: Global, tx: &mut Transaction<'_, S>) {
+fn is_lot(row: LotRow) -> bool {
+    row.expiry.number() == -6940 && row.held
+}
+
+fn is_card(row: CardRow) -> bool {
+    row.qty == -3 && matches!(row.kind, CardKind::WriteOff)
+}
+
+fn is_stock(rt: &impl Abort, rows: Result<Vec<StockRow>, TableFault>) -> bool {
+    let rows = listed(rt, rows);
+    rows.len() == 2 && rows[0].qty == 4 && rows[1].qty == 5
+}
+
+fn is_repeat(rt: &impl Abort, rows: Result<Vec<RepeatRow>, TableFault>) -> bool {
+    let rows = listed(rt, rows);
+    rows.len() == 1 && rows[0].spell.as_slice() == b"SHIP\nS-1".as_slice()
+}
+
+fn is_item(row: ItemRow) -> bool {
+    row.name.as_bytes() == b"Oat drink 1 l".as_slice()
+}
+
+fn is_open(row: OrderRow) -> bool {
+    row.order.as_bytes() == b"S-2".as_slice()
+}
+
+fn finds_goods<S: Alter>(
+    rt: &impl Abort,
+    alloc: Global,
+    tx: &mut Transaction<'_, S>,
+    sought: Sought,
+) -> bool {
     let gtin = samples::gtin(rt);
-    let (first, second) = (samples::name(rt, b"S-1"), samples::name(rt, b"S-2"));
-    assert_eq!(rt; only(rt, lines_of_order(alloc, tx, &first)).shipped, 5);
-    let line = ordered(rt, line_of(alloc, tx, &first, &gtin));
-    assert_eq!(rt; line, Some(12));
-    let none = ordered(rt, line_of(alloc, tx, &second, &gtin));
-    assert!(rt; none.is_none());
+    match sought {
+        Sought::Meta => only(rt, meta_rows(alloc, tx)).acts == 14,
+        Sought::Item => is_item(only(rt, items_of(alloc, tx, &gtin))),
+        Sought::Bin => {
+            let bin = only(rt, bins_of(alloc, tx, &samples::name(rt, b"A-01")));
+            matches!(bin.kind, BinKind::Hold)
+        }
+        Sought::KnownLot => is_lot(only(rt, lots_of(alloc, tx, &gtin))),
+        Sought::Recall => only(rt, recalls_of(alloc, tx, &gtin)).act == 9,
+        Sought::Stock => is_stock(rt, stock_of(alloc, tx, &gtin)),
+        _ => finds_orders(rt, alloc, tx, sought),
+    }
 }
 
-fn has_repeat(rt: &impl Abort, rows: Result<Vec<RepeatRow>, TableFault>) {
-    let repeats = listed(rt, rows);
-    assert_eq!(rt; repeats.len(), 1);
-    assert!(rt; repeats[0].spell.as_slice() == b"SHIP\nS-1".as_slice());
+fn finds_orders<S: Alter>(
+    rt: &impl Abort,
+    alloc: Global,
+    tx: &mut Transaction<'_, S>,
+    sought: Sought,
+) -> bool {
+    let (order, gtin) = (samples::name(rt, b"S-1"), samples::gtin(rt));
+    match sought {
+        Sought::Order => {
+            let row = only(rt, orders_of(alloc, tx, &order));
+            matches!(row.state, OrderState::Cancelled)
+        }
+        Sought::OpenOrder => is_open(only(rt, open_orders(alloc, tx))),
+        Sought::LinesOfOrder => only(rt, lines_of_order(alloc, tx, &order)).shipped == 5,
+        Sought::Line => ordered(rt, line_of(alloc, tx, &order, &gtin)) == Some(12),
+        Sought::NoLine => {
+            let other = samples::name(rt, b"S-2");
+            ordered(rt, line_of(alloc, tx, &other, &gtin)).is_none()
+        }
+        Sought::Staged => only(rt, staged_of_item(alloc, tx, &gtin)).qty == 7,
+        Sought::Reserved => only(rt, reserved_of_item(alloc, tx, &gtin)).qty == 8,
+        _ => finds_history(rt, alloc, tx, sought),
+    }
 }
 
-fn finds_history<S: Alter>(rt: &impl Abort, alloc: Global, tx: &mut Transaction<'_, S>) {
+fn finds_history<S: Alter>(
+    rt: &impl Abort,
+    alloc: Global,
+    tx: &mut Transaction<'_, S>,
+    sought: Sought,
+) -> bool {
     let lot = samples::lot(rt);
-    assert_eq!(rt; only(rt, shipments_of(alloc, tx, 1)).act, 14);
-    assert_eq!(rt; only(rt, shiplines_of_lot(alloc, tx, &lot)).qty, 5);
-    let card = only(rt, cards_of_lot(alloc, tx, &lot));
-    assert_eq!(rt; card.qty, -3);
-    assert!(rt; matches!(card.kind, CardKind::WriteOff));
-    has_repeat(rt, repeats_of(alloc, tx, &samples::key(rt)));
+    match sought {
+        Sought::Shipment => only(rt, shipments_of(alloc, tx, 1)).act == 14,
+        Sought::Shipline => only(rt, shiplines_of_lot(alloc, tx, &lot)).qty == 5,
+        Sought::Card => is_card(only(rt, cards_of_lot(alloc, tx, &lot))),
+        Sought::Repeat => is_repeat(rt, repeats_of(alloc, tx, &samples::key(rt))),
+        _ => false,
+    }
+}
+
+/// A table whose rows are counted.
+#[derive(Clone, Copy)]
+enum Counted {
+    Items,
+    Bins,
+    Lots,
+    Recalls,
+    Stock,
+    Orders,
+    OpenOrders,
+    Lines,
+    Staged,
+    Reserved,
+    Shipments,
+    Shiplines,
+    Cards,
+    Repeats,
+}
+
+// The tables that have no other read, each with one row.
+static FILLED: [(Counted, usize); 4] = [
+    (Counted::Items, 1),
+    (Counted::Bins, 1),
+    (Counted::Lots, 1),
+    (Counted::Staged, 1),
+];
+
+// What is left when the rows are dropped.
+static LEFT: [(Counted, usize); 14] = [
+    (Counted::Items, 0),
+    (Counted::Bins, 0),
+    (Counted::Lots, 0),
+    (Counted::Recalls, 0),
+    (Counted::Stock, 1),
+    (Counted::Orders, 0),
+    (Counted::OpenOrders, 0),
+    (Counted::Lines, 0),
+    (Counted::Staged, 0),
+    (Counted::Reserved, 0),
+    (Counted::Shipments, 0),
+    (Counted::Shiplines, 0),
+    (Counted::Cards, 0),
+    (Counted::Repeats, 1),
+];
+
+fn counts_goods<S: Alter>(
+    rt: &impl Abort,
+    alloc: Global,
+    tx: &mut Transaction<'_, S>,
+    counted: Counted,
+) -> usize {
+    let gtin = samples::gtin(rt);
+    match counted {
+        Counted::Items => count(rt, all_items(alloc, tx)),
+        Counted::Bins => count(rt, all_bins(alloc, tx)),
+        Counted::Lots => count(rt, all_lots(alloc, tx)),
+        Counted::Recalls => count(rt, recalls_of(alloc, tx, &gtin)),
+        Counted::Stock => count(rt, stock_of(alloc, tx, &gtin)),
+        Counted::OpenOrders => count(rt, open_orders(alloc, tx)),
+        Counted::Staged => count(rt, all_staged(alloc, tx)),
+        Counted::Reserved => count(rt, reserved_of_item(alloc, tx, &gtin)),
+        _ => counts_others(rt, alloc, tx, counted),
+    }
+}
+
+fn counts_others<S: Alter>(
+    rt: &impl Abort,
+    alloc: Global,
+    tx: &mut Transaction<'_, S>,
+    counted: Counted,
+) -> usize {
+    let (order, lot) = (samples::name(rt, b"S-1"), samples::lot(rt));
+    match counted {
+        Counted::Orders => count(rt, orders_of(alloc, tx, &order)),
+        Counted::Lines => count(rt, lines_of_order(alloc, tx, &order)),
+        Counted::Shipments => count(rt, shipments_of(alloc, tx, 1)),
+        Counted::Shiplines => count(rt, shiplines_of_lot(alloc, tx, &lot)),
+        Counted::Cards => count(rt, cards_of_lot(alloc, tx, &lot)),
+        Counted::Repeats => count(rt, repeats_of(alloc, tx, &samples::key(rt))),
+        _ => usize::MAX,
+    }
+}
+
+fn counts<S: Alter>(
+    rt: &impl Abort,
+    alloc: Global,
+    tx: &mut Transaction<'_, S>,
+    rows: &[(Counted, usize)],
+) {
+    for (index, row) in rows.iter().enumerate() {
+        let found = counts_goods(rt, alloc, tx, row.0);
+        assert!(rt; found == row.1, "{found} rows at {index}");
+    }
+}
+
+fn finds_each<S: Alter>(rt: &impl Abort, alloc: Global, tx: &mut Transaction<'_, S>) {
+    for (index, sought) in SOUGHT.as_slice().iter().enumerate() {
+        assert!(rt; finds_goods(rt, alloc, tx, *sought), "no row at {index}");
+    }
 }
 
 fn drops_goods<S: Alter>(rt: &impl Abort, tx: &mut Transaction<'_, S>) {
@@ -211,41 +383,6 @@ fn drops_history<S: Alter>(rt: &impl Abort, tx: &mut Transaction<'_, S>) {
     is_done(rt, drop_card(tx, &lot, 14));
 }
 
-fn left_of_goods<S: Alter>(rt: &impl Abort, alloc: Global, tx: &mut Transaction<'_, S>) {
-    let gtin = samples::gtin(rt);
-    let left = [
-        count(rt, all_items(alloc, tx)),
-        count(rt, all_bins(alloc, tx)),
-        count(rt, all_lots(alloc, tx)),
-        count(rt, recalls_of(alloc, tx, &gtin)),
-        count(rt, stock_of(alloc, tx, &gtin)),
-    ];
-    assert_eq!(rt; left, [0, 0, 0, 0, 1]);
-}
-
-fn left_of_orders<S: Alter>(rt: &impl Abort, alloc: Global, tx: &mut Transaction<'_, S>) {
-    let order = samples::name(rt, b"S-1");
-    let left = [
-        count(rt, orders_of(alloc, tx, &order)),
-        count(rt, open_orders(alloc, tx)),
-        count(rt, lines_of_order(alloc, tx, &order)),
-        count(rt, all_staged(alloc, tx)),
-        count(rt, reserved_of_item(alloc, tx, &samples::gtin(rt))),
-    ];
-    assert_eq!(rt; left, [0, 0, 0, 0, 0]);
-}
-
-fn left_of_history<S: Alter>(rt: &impl Abort, alloc: Global, tx: &mut Transaction<'_, S>) {
-    let lot = samples::lot(rt);
-    let left = [
-        count(rt, shipments_of(alloc, tx, 1)),
-        count(rt, shiplines_of_lot(alloc, tx, &lot)),
-        count(rt, cards_of_lot(alloc, tx, &lot)),
-        count(rt, repeats_of(alloc, tx, &samples::key(rt))),
-    ];
-    assert_eq!(rt; left, [0, 0, 0, 1]);
-}
-
 fn creates<S: Alter>(rt: &impl Abort, conn: &mut Connection<S>) {
     assert!(rt; conn.is_autocommit());
     is_done(rt, create(conn, &samples::meta(rt, 13), &samples::bin(rt)));
@@ -261,118 +398,69 @@ fn puts<S: Alter>(rt: &impl Abort, alloc: Global, conn: &mut Connection<S>) {
     tx.commit().expect(rt, "a commit");
 }
 
-fn fills<S: Alter>(rt: &impl Abort, alloc: Global, conn: &mut Connection<S>) {
+pub(crate) fn fills<S: Alter>(rt: &impl Abort, alloc: Global, conn: &mut Connection<S>) {
     creates(rt, conn);
     puts(rt, alloc, conn);
     creates_nothing(rt, conn);
 }
 
-fn finds<S: Alter>(rt: &impl Abort, alloc: Global, conn: &mut Connection<S>) {
+pub(crate) fn finds<S: Alter>(rt: &impl Abort, alloc: Global, conn: &mut Connection<S>) {
     assert!(rt; conn.is_autocommit());
     let mut tx = conn.transaction();
-    finds_goods(rt, alloc, &mut tx);
-    finds_lots(rt, alloc, &mut tx);
-    finds_orders(rt, alloc, &mut tx);
-    finds_lines(rt, alloc, &mut tx);
-    finds_history(rt, alloc, &mut tx);
+    finds_each(rt, alloc, &mut tx);
+    counts(rt, alloc, &mut tx, FILLED.as_slice());
     tx.commit().expect(rt, "a commit");
 }
 
-fn drops<S: Alter>(rt: &impl Abort, alloc: Global, conn: &mut Connection<S>) {
+pub(crate) fn drops<S: Alter>(rt: &impl Abort, alloc: Global, conn: &mut Connection<S>) {
     assert!(rt; conn.is_autocommit());
     let mut tx = conn.transaction();
     drops_goods(rt, &mut tx);
     drops_orders(rt, &mut tx);
     drops_history(rt, &mut tx);
-    left_of_goods(rt, alloc, &mut tx);
-    left_of_orders(rt, alloc, &mut tx);
-    left_of_history(rt, alloc, &mut tx);
+    counts(rt, alloc, &mut tx, LEFT.as_slice());
     tx.commit().expect(rt, "a commit");
 }
 
-/// A row in each table.
-pub(crate) fn filled<S: Alter + Drop>(
-    rt: &impl Abort,
-    alloc: Global,
-    conn: Connection<S>,
-) -> Connection<S> {
-    let mut made = conn;
-    fills(rt, alloc, &mut made);
-    made
-}
-
-pub(crate) fn each_table<S: Alter + Drop>(
-    rt: &impl Abort,
-    alloc: Global,
-    conn: Connection<S>,
-) -> Connection<S> {
-    let mut conn = opened(rt, alloc, conn);
-    finds(rt, alloc, &mut conn);
-    drops(rt, alloc, &mut conn);
-    conn
-}
+static EACH_TABLE: [&[Step]; 2] = [
+    &[Step::On(On::Fill)],
+    &[Step::OpenTables, Step::On(On::Find), Step::On(On::Drop)],
+];
 
 #[test]
 fn each_table_in_a_file(rt: HostRuntime) {
-    let db = Memory::new(rt.alloc());
-    let db = run_in_file(&rt, rt.alloc(), db, Case::Filled, &[]);
-    run_in_file(&rt, rt.alloc(), db, Case::EachTable, &[]);
+    run(&rt, rt.alloc(), EACH_TABLE.as_slice());
 }
 
 // A database with another table, or with none, is not one of books, and no books are made beside another table.
-pub(crate) fn other_schema<S: Alter + Drop>(
-    rt: &impl Abort,
-    alloc: Global,
-    conn: Connection<S>,
-) -> Connection<S> {
-    let mut conn = refused(rt, alloc, conn);
-    executes(
-        rt,
-        &mut conn,
-        "CREATE TABLE notes (text TEXT NOT NULL) STRICT",
-    );
-    executes(
-        rt,
-        &mut conn,
-        "INSERT INTO notes (text) VALUES ('Count the bin')",
-    );
-    let mut conn = refused(rt, alloc, conn);
-    creates_nothing(rt, &mut conn);
-    gives(
-        rt,
-        alloc,
-        &mut conn,
-        "SELECT text FROM notes",
-        "Count the bin\n",
-    );
-    conn
-}
+static OTHER_SCHEMA: [&[Step]; 1] = [&[
+    Step::OpenNoTables,
+    Step::On(On::Run("CREATE TABLE notes (text TEXT NOT NULL) STRICT")),
+    Step::On(On::Run("INSERT INTO notes (text) VALUES ('Count the bin')")),
+    Step::OpenNoTables,
+    Step::On(On::CreateNothing),
+    Step::On(On::Gives("SELECT text FROM notes", "Count the bin\n")),
+]];
 
 #[test]
 fn another_schema_is_foreign(rt: HostRuntime) {
-    run_in_new_file(&rt, rt.alloc(), Case::OtherSchema);
+    run(&rt, rt.alloc(), OTHER_SCHEMA.as_slice());
 }
 
 // Books that lack an index or a table are not opened.
-pub(crate) fn missing_parts<S: Alter + Drop>(
-    rt: &impl Abort,
-    alloc: Global,
-    conn: Connection<S>,
-) -> Connection<S> {
-    let mut made = conn;
-    fills(rt, alloc, &mut made);
-    executes(rt, &mut made, "DROP INDEX lines_by_gtin");
-    let mut conn = refused(rt, alloc, made);
-    executes(rt, &mut conn, "CREATE INDEX lines_by_gtin ON lines (gtin)");
-    executes(rt, &mut conn, "DROP TABLE recalls");
-    let mut left = refused(rt, alloc, conn);
-    creates_nothing(rt, &mut left);
-    left
-}
+static MISSING_PARTS: [&[Step]; 1] = [&[
+    Step::On(On::Fill),
+    Step::On(On::Run("DROP INDEX lines_by_gtin")),
+    Step::OpenNoTables,
+    Step::On(On::Run("CREATE INDEX lines_by_gtin ON lines (gtin)")),
+    Step::On(On::Run("DROP TABLE recalls")),
+    Step::OpenNoTables,
+    Step::On(On::CreateNothing),
+]];
 
 #[test]
 fn missing_parts_are_foreign(rt: HostRuntime) {
-    run_in_new_file(&rt, rt.alloc(), Case::MissingParts);
+    run(&rt, rt.alloc(), MISSING_PARTS.as_slice());
 }
 
 // A connection keeps the plans of its last 64 texts: with more in turn nearly each call would be planned again.

@@ -1,5 +1,5 @@
 -- What a call on a transaction leaves.
-use Rattle.std.proofs.Common.{◌≡◌, ◌⊎◌, inl, inr, ℕ, Bool, true, false, List, Ok, Err, Result, OnOk, OnErr, IfOk, IfErr, IsTrue, refl, sym, ap, subst, ◌∙◌}
+use Rattle.std.proofs.Common.{◌≡◌, ◌⊎◌, inl, inr, ℕ, Bool, true, false, List, Ok, Err, Result, OnOk, OnErr, IfOk, IfErr, IsTrue, refl, sym, ap, subst, ◌∙◌, arith}
 use Rattle.std.proofs.lemmas.Bool.{cases_Bool}
 use Rattle.std.specs.Prelude.{◌≢◌, map}
 use Rattle.std.specs.List.{AllByRecursion}
@@ -96,6 +96,10 @@ pub shown_row_foreign : {V E : Type 0} (k : E) (has : Row → Bool) (sql : List 
     → IfErr r (λ e. e ≡ k → ¬ AllByRecursion (λ v. has v ≡ true) seen) → IfErr r (λ e. e ≡ k → ShowsForeign has sql params old new)
 shown_row_foreign k has sql params old new rows seen (Ok found) is shown untyped = tt
 shown_row_foreign k has sql params old new rows seen (Err e) is shown untyped = λ same. record { rows = seen; shown = subst (Shown sql params old new) (sym is) shown; untyped = untyped same }
+
+-- where nothing is done, nothing changes
+pub inside_itself : (s : State) → Survives s s (λ _. ⊥)
+inside_itself s = record { clean = omega arith; shield = λ is. is; counts = omega arith; limit = refl; closes = λ _ up. inl up; crash = λ _ db left. inl left }
 
 -- two calls that commit nothing commit nothing
 pub inside_then : (a b c : State) → Survives a b (λ _. ⊥) → Survives b c (λ _. ⊥) → Survives a c (λ _. ⊥)

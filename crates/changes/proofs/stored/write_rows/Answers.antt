@@ -1,4 +1,4 @@
-use Rattle.std.proofs.Common.{◌≡◌, List, OnOk, subst}
+use Rattle.std.proofs.Common.{OnOk, subst}
 use Rattle.sqlite.specs.State.{HasCleanDisk}
 use Rattle.sqlite.specs.Held.{state}
 use Rattle.table_words.specs.Steps.{IsReady, Goes}

@@ -19,3 +19,43 @@ returns-in_err-commit-clause-survives g c =
     let filled = c.in_ok-fill.ensures.done clean_last (begins_blank g.S.Store old begun c.transaction-tx.ensures.begun c.schema.ensures.live blank (c.in_ok-fill.ensures.was_open clean_last)) in
     (filled.tables, filled.typed)) in
     search (rules, whole)
+
+pub returns-clause-foreign : goal.returns-clause-foreign
+returns-clause-foreign g c = search rules
+
+pub returns-clause-unchanged : goal.returns-clause-unchanged
+returns-clause-unchanged g c = search rules
+
+pub returns-clause-open : goal.returns-clause-open
+returns-clause-open g c = search rules
+
+pub returns-clause-ready : goal.returns-clause-ready
+returns-clause-ready g c = search rules
+
+pub returns-clause-tables : goal.returns-clause-tables
+returns-clause-tables g c = search rules
+
+pub returns-clause-typed : goal.returns-clause-typed
+returns-clause-typed g c = search rules
+
+pub returns-clause-failed : goal.returns-clause-failed
+returns-clause-failed g c = search rules
+
+pub returns-clause-settled : goal.returns-clause-settled
+returns-clause-settled g c = search rules
+
+pub returns-clause-survives : goal.returns-clause-survives
+returns-clause-survives g c =
+    let old = c.args.conn.now in
+    let begun = c.transaction-tx.result.conn.now in
+    let last = state g.S.Store c.fill.new.tx.conn.now in
+    let whole : Survives (state g.S.Store old) (state g.S.Store c.commit.new.self.0) (λ trees. (tables_in trees ≡ first_rows c.args.meta.now c.args.bin.now) × AreTyped trees) =
+    crash_made g.S.Store old begun last _ _ c.transaction-tx.ensures.begun c.fill.ensures.survives c.commit.ensures.survives (λ clean.
+    let clean_last : HasCleanDisk last = omega (arith, clean, c.commit.ensures.survives.clean) in
+    let blank : (state g.S.Store old).now.schema ≡ schema_0 = sym c.schema.ensures.value ∙ c.is_empty_schema.ensures.0 c.if-not-is_empty_schema.false in
+    let filled = c.in_ok-fill.ensures.done clean_last (begins_blank g.S.Store old begun c.transaction-tx.ensures.begun c.schema.ensures.live blank (c.in_ok-fill.ensures.was_open clean_last)) in
+    (filled.tables, filled.typed)) in
+    search (rules, whole)
+
+pub returns-clause-outside : goal.returns-clause-outside
+returns-clause-outside g c = search rules

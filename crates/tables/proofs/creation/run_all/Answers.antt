@@ -1,9 +1,9 @@
-use Rattle.std.proofs.Common.{◌≡◌, ◌+◌, ◌<◌, Bor, ℕ, List, [], length, get_or, drop, map, ◌∷◌, Ok, subst, ◌∙◌, arith}
+use Rattle.std.proofs.Common.{◌≡◌, ◌+◌, ◌<◌, Bor, ℕ, List, [], length, get_or, drop, map, ◌∷◌, Ok, refl, subst, ◌∙◌, arith}
 use Rattle.std.proofs.lemmas.Grind.{common_steps}
 use Rattle.sqlite.specs.State.{State, HasCleanDisk, ExecutesInside}
 use Rattle.sqlite.specs.Schema.{Schema}
 use Rattle.sqlite.specs.Held.{state}
-use Rattle.table_words.proofs.CallLemmas.{was_inside, keeps, kept_then, inside_then}
+use Rattle.table_words.proofs.CallLemmas.{was_inside, keeps, kept_itself, kept_then, inside_itself, inside_then}
 use Rattle.tables.specs.Creation.{IsMaking, Leads}
 use Rattle.tables.proofs.CreateLemmas.{leads_on}
 use Rattle.tables.proofs.creation.run_all.Goals as goal
@@ -36,3 +36,30 @@ returns-clause-done g c clean from to leads making =
     let none : map (λ text. text.now) (drop c.loop-text.text-index c.args.texts.now) ≡ [] = grind (arith, common_steps) in
     let same : at.0 ≡ to = subst (λ l. Leads at.0 l to) none at.2 in
     subst (λ s. IsMaking s (state g.S.Store c.loop-text.tx.conn.now)) same at.1
+
+pub loop-text-init : goal.loop-text-init
+loop-text-init g c =
+    let old = state g.S.Store c.args.tx.now.conn.now in
+    (refl, inside_itself old, λ clean. kept_itself old, λ clean from to leads making. (from, making, leads))
+
+pub returns-in_err-execute-clause-kept : goal.returns-in_err-execute-clause-kept
+returns-in_err-execute-clause-kept g c clean =
+    let old = state g.S.Store c.args.tx.now.conn.now in
+    let mid = state g.S.Store c.loop-text.tx.conn.now in
+    let new = state g.S.Store c.execute.new.self.conn.now in
+    let one = c.in_err-execute.ensures in
+    let was : HasCleanDisk mid = omega (arith, clean, one.survives.clean) in
+    kept_then old mid new (c.loop-text.invariant.2 was) (keeps g.S.Store _ _ c.loop-text.tx.conn.now c.execute.new.self.conn.now _ one.ended (one.runs clean))
+
+pub returns-in_err-execute-clause-survives : goal.returns-in_err-execute-clause-survives
+returns-in_err-execute-clause-survives g c =
+    inside_then (state g.S.Store c.args.tx.now.conn.now) (state g.S.Store c.loop-text.tx.conn.now) (state g.S.Store c.execute.new.self.conn.now) c.loop-text.invariant.1 c.in_err-execute.ensures.survives
+
+pub returns-clause-same_reference : goal.returns-clause-same_reference
+returns-clause-same_reference g c = c.loop-text.invariant.0
+
+pub returns-clause-kept : goal.returns-clause-kept
+returns-clause-kept g c = c.loop-text.invariant.2
+
+pub returns-clause-survives : goal.returns-clause-survives
+returns-clause-survives g c = c.loop-text.invariant.1

@@ -24,3 +24,24 @@ returns-in-Ok-clause-crash g c clean db left =
 
 pub returns-in-Ok-clause-other : goal.returns-in-Ok-clause-other
 returns-in-Ok-clause-other g c = search rules
+
+pub returns-in-Ok-clause-opens : goal.returns-in-Ok-clause-opens
+returns-in-Ok-clause-opens g c clean = (c.in-Ok.ensures.opens clean).0
+
+pub returns-in-Ok-clause-fresh : goal.returns-in-Ok-clause-fresh
+returns-in-Ok-clause-fresh g c = c.in-Ok.ensures.fresh
+
+pub returns-in-Ok-clause-same : goal.returns-in-Ok-clause-same
+returns-in-Ok-clause-same g c = c.in-Ok.ensures.same
+
+pub returns-in-Ok-clause-clean : goal.returns-in-Ok-clause-clean
+returns-in-Ok-clause-clean g c = c.in-Ok.ensures.clean
+
+pub returns-in-Ok-clause-shield : goal.returns-in-Ok-clause-shield
+returns-in-Ok-clause-shield g c = c.in-Ok.ensures.shield
+
+pub returns-in-Err-reopened-clause-left : goal.returns-in-Err-reopened-clause-left
+returns-in-Err-reopened-clause-left g c = c.in-Err-reopened.ensures.closed
+
+pub returns-in-Err-reopened-clause-other : goal.returns-in-Err-reopened-clause-other
+returns-in-Err-reopened-clause-other g c differs = absurd (differs (sym c.schema.ensures.value ∙ c.in-Ok-true.ensures.0 c.in-Ok-true.field-0-test))

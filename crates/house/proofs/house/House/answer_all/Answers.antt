@@ -1,5 +1,6 @@
-use Rattle.std.proofs.Common.{◌≡◌, ◌+◌, take, true, sym, ap, subst, subst₂, ◌∙◌, rules, arith}
+use Rattle.std.proofs.Common.{◌≡◌, ◌+◌, take, true, sym, ap, subst, subst₂, ◌∙◌, refl, rules, arith}
 use Rattle.std.specs.Prelude.{map, is_ok}
+use Rattle.std.proofs.lemmas.Grind.{common_steps}
 use Rattle.house.specs.House.{books_of, bytes_of, texts_of, StepsTo, RunsTo}
 use Rattle.house.proofs.Running.{run_on, texts_more, answers_more}
 use Rattle.house.proofs.house.House.answer_all.Goals as goal
@@ -24,3 +25,22 @@ loop-request-preserved g c =
           (sym (texts_more c.args.requests.now c.loop-request.request-index c.request-item.result c.loop-request-test.true c.request-item.is))
           (sym (answers_more c.loop-request.answers.items c.push.new.self.items c.answer-answer.result more)) grown;
     }
+
+pub loop-request-init : goal.loop-request-init
+loop-request-init g c = record {
+      room = c.in_ok-answers.ensures.capacity;
+      full = c.in_ok-answers.ensures.len;
+      clean = λ clean. clean;
+      run = λ clean first acts history holds. record { after = acts; run = rw c.in_ok-answers.ensures.items refl; history = history; holds = holds };
+    }
+
+pub unwrap-requires : goal.unwrap-requires
+unwrap-requires g c = search rules
+
+pub returns-clause-clean : goal.returns-clause-clean
+returns-clause-clean g c = c.loop-request.invariant.clean
+
+pub returns-clause-run : goal.returns-clause-run
+returns-clause-run g c clean first acts history holds =
+    let all : take c.loop-request.request-index c.args.requests.now ≡ c.args.requests.now = grind (arith, common_steps) in
+    subst (λ l. RunsTo g.S.Store first acts (texts_of l) (map bytes_of c.loop-request.answers.items) (books_of c.loop-request.self)) all (c.loop-request.invariant.run clean first acts history holds)

@@ -1,8 +1,22 @@
-use Rattle.std.proofs.Common.{sym, subst, ◌∙◌}
+use Rattle.std.proofs.Common.{sym, subst, ◌∙◌, rules}
+use Rattle.std.specs.Prelude.{ℤ, List, IsTrue}
+use Rattle.commands.specs.declared.key.Key.{Key}
+use Rattle.commands.specs.declared.command.Command.{Command}
+use Rattle.sqlite.specs.Held.{state}
+use Rattle.sqlite.specs.State.{Survives}
+use Rattle.sqlite.specs.Tree.{Trees}
+use Rattle.sqlite_trees.specs.declared.store.Store.{Ghosts}
 use Rattle.machine.specs.Acts.{Act}
-use Rattle.store.specs.Books.{HoldsBooks}
+use Rattle.machine.specs.Once.{IsHistory, is_key_of, acts_after}
+use Rattle.store.specs.Books.{HoldsBooks, KeepsBooks, AreRowsOf}
+use Rattle.store.specs.Connected.{Connected}
 use Rattle.store.proofs.DayTold.{day_told}
 use Rattle.store.proofs.books.Books.act.Goals as goal
+
+-- what a stop may leave beside the books as they were
+abbrev Leaves : {S : Type 0} (g : Ghosts S) (key : Key) (command : Command) (b : Connected S) → Trees → Type 0
+Leaves g key command b = λ trees. IsTrue (is_key_of key command) → (first : ℤ) (acts : List Act) → IsHistory first acts → KeepsBooks first acts (state g b.conn)
+    → AreRowsOf first (acts_after first acts (record { key = key; command = command })) trees
 
 pub returns-in-Ok-clause-acted : goal.returns-in-Ok-clause-acted
 returns-in-Ok-clause-acted g c clean kind first acts history holds =
@@ -10,3 +24,20 @@ returns-in-Ok-clause-acted g c clean kind first acts history holds =
     let was : HoldsBooks g.S.Store first acts (record { conn = c.self.inside.conn; day = c.self.inside.day }) = subst (HoldsBooks g.S.Store first acts) (sym c.self.view_is) holds in
     let done = c.in-Ok.ensures.acted clean kind first acts history was.keeps in
     (done.0, record { keeps = done.2; day = c.day_left-day.ensures ∙ day_told first acts act c.self.inside.day c.in-Ok.reply done.0 was.day })
+
+pub returns-in-Ok-clause-clean : goal.returns-in-Ok-clause-clean
+returns-in-Ok-clause-clean g c = search rules
+
+pub returns-in-Ok-clause-survives : goal.returns-in-Ok-clause-survives
+returns-in-Ok-clause-survives g c =
+    subst (λ b. Survives (state g.S.Store b.conn) (state g.S.Store c.act_once.new.conn) (Leaves g.S.Store c.args.key.now c.args.command.now b)) c.self.view_is c.in-Ok.ensures.survives
+
+pub returns-in-Err-clause-clean : goal.returns-in-Err-clause-clean
+returns-in-Err-clause-clean g c = search rules
+
+pub returns-in-Err-clause-acted : goal.returns-in-Err-clause-acted
+returns-in-Err-clause-acted g c = search rules
+
+pub returns-in-Err-clause-survives : goal.returns-in-Err-clause-survives
+returns-in-Err-clause-survives g c =
+    subst (λ b. Survives (state g.S.Store b.conn) (state g.S.Store c.act_once.new.conn) (Leaves g.S.Store c.args.key.now c.args.command.now b)) c.self.view_is c.in-Err.ensures.survives
