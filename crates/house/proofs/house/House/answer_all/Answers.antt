@@ -28,11 +28,11 @@ loop-request-preserved g c =
 
 pub loop-request-init : goal.loop-request-init
 loop-request-init g c = record {
-      room = c.in_ok-answers.ensures.capacity;
-      full = c.in_ok-answers.ensures.len;
-      clean = λ clean. clean;
-      run = λ clean first acts history holds. record { after = acts; run = rw c.in_ok-answers.ensures.items refl; history = history; holds = holds };
-    }
+  room = c.in_ok-answers.ensures.capacity;
+  full = c.in_ok-answers.ensures.len;
+  clean = λ clean. clean;
+  run = λ clean first acts history holds. record { after = acts; run = rw c.in_ok-answers.ensures.items refl; history = history; holds = holds };
+}
 
 pub unwrap-requires : goal.unwrap-requires
 unwrap-requires g c = search rules
