@@ -17,8 +17,6 @@ mod disk;
 #[cfg(test)]
 mod goods;
 #[cfg(test)]
-mod lines;
-#[cfg(test)]
 mod opening;
 #[cfg(test)]
 mod order_rows;

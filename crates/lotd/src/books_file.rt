@@ -1,4 +1,5 @@
-use service::{BooksAt, Fault, Work, worked};
+use command_line::{BooksAt, Fault, Work};
+use service::worked;
 use sqlite::Connection;
 use std::io::Write;
 

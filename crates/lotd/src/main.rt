@@ -4,7 +4,7 @@
 mod books_file;
 
 use books_file::InFiles;
-use service::Fault;
+use command_line::Fault;
 use std::env;
 use std::io::ErrorKind;
 use std::process::ExitCode;
@@ -14,16 +14,16 @@ fn main(rt: HostRuntime) -> ExitCode {
     let args = match env::args(&rt) {
         Ok(args) => args,
         Err(error) if error.kind() == ErrorKind::OutOfMemory => {
-            return ExitCode::from(service::tell(&Fault::Store, &mut err));
+            return ExitCode::from(command_line::tell(&Fault::Store, &mut err));
         }
-        Err(_) => return ExitCode::from(service::tell_words(&mut err)),
+        Err(_) => return ExitCode::from(command_line::tell_words(&mut err)),
     };
     let words: Vec<String> = match args.collect(rt.alloc()) {
         Ok(words) => words,
-        Err(_) => return ExitCode::from(service::tell(&Fault::Store, &mut err)),
+        Err(_) => return ExitCode::from(command_line::tell(&Fault::Store, &mut err)),
     };
     let mut out = rt.stdout();
     let books = InFiles { rt: &rt };
-    let status = service::run(rt.alloc(), &books, words.as_slice(), &mut out, &mut err);
+    let status = command_line::run(rt.alloc(), &books, words.as_slice(), &mut out, &mut err);
     ExitCode::from(status)
 }

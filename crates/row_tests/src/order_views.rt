@@ -2,9 +2,9 @@
 // expires first came last.
 
 use crate::listing::Listing;
-use crate::samples::{Reserved, Sample, Staged, Stock, Taken, Written, rows};
+use crate::samples::{Sample, Written, rows};
 use crate::worked::THREE_LOTS;
-use commands::{OrderRow, OrderState, OrderView};
+use commands::{OrderRow, OrderView};
 use rules::Rows;
 use std::alloc::Global;
 use std::process::Abort;
@@ -13,7 +13,7 @@ use views::order_view;
 // An order among rows, and its view as a text.
 struct Viewed {
     rows: Sample,
-    order: Taken,
+    order: &'static str,
     text: &'static [u8],
 }
 
@@ -28,25 +28,20 @@ fn view_of(rt: &impl Abort, alloc: Global, rows: &Rows, order: &OrderRow) -> Ord
 
 fn expect(rt: &impl Abort, alloc: Global, case: &Viewed) {
     let rows = rows(rt, alloc, &case.rows);
-    let view = view_of(rt, alloc, &rows, &case.order.row(rt));
+    let view = view_of(rt, alloc, &rows, &OrderRow::read(rt, case.order));
     let listing = Listing::of_order(&view);
     drop(rows);
     drop(view);
     assert_eq!(rt; listing.as_bytes(), case.text);
 }
 
-const CORNER_SHOP: Taken = Taken("S-1", 8, "Corner Shop", OrderState::Open);
+const CORNER_SHOP: &str = "S-1|8|Corner Shop|OPEN";
 
-const HARBOUR_CAFE: Taken = Taken("S-2", 9, "Harbour Cafe", OrderState::Open);
+const HARBOUR_CAFE: &str = "S-2|9|Harbour Cafe|OPEN";
 
 // The rows of reservations are in no order.
 const RESERVED: Sample = Sample {
-    reserved: &[
-        Reserved("S-2", "L1", 9),
-        Reserved("S-1", "L2", 7),
-        Reserved("S-2", "L2", 3),
-        Reserved("S-1", "L0", 5),
-    ],
+    reserved: "S-2|L1|9\nS-1|L2|7\nS-2|L2|3\nS-1|L0|5",
     ..THREE_LOTS
 };
 
@@ -71,13 +66,9 @@ static VIEWED: [Viewed; 3] = [
     // Staged units are not short. Of the ten units of L2 four stand in a HOLD bin.
     Viewed {
         rows: Sample {
-            stock: &[
-                Stock("L2", "Q-01", 4),
-                Stock("L2", "A-02", 3),
-                Stock("L2", "A-01", 3),
-            ],
-            staged: &[Staged("S-1", "L0", 5)],
-            reserved: &[Reserved("S-1", "L2", 6)],
+            stock: "L2|Q-01|4\nL2|A-02|3\nL2|A-01|3",
+            staged: "S-1|L0|5",
+            reserved: "S-1|L2|6",
             ..THREE_LOTS
         },
         order: CORNER_SHOP,

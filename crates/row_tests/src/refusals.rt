@@ -1,9 +1,7 @@
 // Each refusal, in the order of judging: at first every condition holds and the first is told, and
 // they are taken away one after another.
 
-use crate::samples::{
-    Bin, Item, KnownLot, NO_ROWS, OATS, Recalled, Sample, Staged, Stock, Told, decided,
-};
+use crate::samples::{Bin, Item, NO_ROWS, OATS, Sample, Told, decided};
 use commands::limits::{ACTS_MAX, BINS_MAX, ITEMS_MAX};
 use commands::{BinKind, Refusal};
 use rules::RuleFault;
@@ -43,7 +41,7 @@ pub(crate) const OAT_DRINK: Item = Item(OATS, "Oat drink");
 static ITEMS: [Refused; 3] = [
     Refused {
         before: Sample {
-            items: &[OAT_DRINK],
+            items: "09506000134352|Oat drink",
             ..ACTS_ARE_FULL
         },
         told: Told::Item(OAT_DRINK),
@@ -51,7 +49,7 @@ static ITEMS: [Refused; 3] = [
     },
     Refused {
         before: Sample {
-            items: &[OAT_DRINK],
+            items: "09506000134352|Oat drink",
             ..LAST_ACT
         },
         told: Told::Item(OAT_DRINK),
@@ -77,7 +75,7 @@ pub(crate) const STORE_BIN: Bin = Bin("A-01", BinKind::Store);
 static BINS: [Refused; 3] = [
     Refused {
         before: Sample {
-            bins: &[STORE_BIN],
+            bins: "A-01|STORE",
             ..ACTS_ARE_FULL
         },
         told: Told::Bin(STORE_BIN),
@@ -85,7 +83,7 @@ static BINS: [Refused; 3] = [
     },
     Refused {
         before: Sample {
-            bins: &[STORE_BIN],
+            bins: "A-01|STORE",
             ..LAST_ACT
         },
         told: Told::Bin(STORE_BIN),
@@ -109,30 +107,30 @@ fn refuses_bins(rt: HostRuntime) {
 // Lot L1 is known with another expiry and recalled, and of its item there is one unit less than may
 // be in the house.
 const LOT_RECALLED: Sample = Sample {
-    lots: &[KnownLot("L1", "2026-06-30", 6, false)],
-    recalls: &[Recalled("L1", 5)],
-    stock: &[Stock("L2", "Q-01", 600_000_000)],
-    staged: &[Staged("S-1", "L3", 399_999_999)],
+    lots: "L1|2026-06-30|6|free",
+    recalls: "L1|5",
+    stock: "L2|Q-01|600000000",
+    staged: "S-1|L3|399999999",
     ..LAST_ACT
 };
 
 const ITEM_KNOWN: Sample = Sample {
-    items: &[OAT_DRINK],
+    items: "09506000134352|Oat drink",
     ..LOT_RECALLED
 };
 
 const BIN_KNOWN: Sample = Sample {
-    bins: &[STORE_BIN, Bin("Q-01", BinKind::Hold)],
+    bins: "A-01|STORE\nQ-01|HOLD",
     ..ITEM_KNOWN
 };
 
 const LOT_UNKNOWN: Sample = Sample {
-    lots: &[],
+    lots: "",
     ..BIN_KNOWN
 };
 
 const NO_RECALL: Sample = Sample {
-    recalls: &[],
+    recalls: "",
     ..LOT_UNKNOWN
 };
 
@@ -181,8 +179,8 @@ static RECEIPTS: [Refused; 8] = [
     Refused {
         before: Sample {
             acts: 5,
-            stock: &[],
-            staged: &[],
+            stock: "",
+            staged: "",
             ..NO_RECALL
         },
         told: Told::Receive("D-1", 1, "L1", "1977-01-01", 10),
@@ -197,22 +195,22 @@ fn refuses_receipts(rt: HostRuntime) {
 
 // There are 10 units of lot L1 in A-01.
 const TEN_UNITS: Sample = Sample {
-    stock: &[Stock("L1", "A-01", 10)],
+    stock: "L1|A-01|10",
     ..LAST_ACT
 };
 
 const TEN_UNITS_OF_ITEM: Sample = Sample {
-    items: &[OAT_DRINK],
+    items: "09506000134352|Oat drink",
     ..TEN_UNITS
 };
 
 const TEN_UNITS_IN_BIN: Sample = Sample {
-    bins: &[STORE_BIN],
+    bins: "A-01|STORE",
     ..TEN_UNITS_OF_ITEM
 };
 
 const TEN_UNITS_OF_LOT: Sample = Sample {
-    lots: &[KnownLot("L1", "2026-06-30", 6, false)],
+    lots: "L1|2026-06-30|6|free",
     ..TEN_UNITS_IN_BIN
 };
 
@@ -302,7 +300,7 @@ static COUNTS: [Refused; 6] = [
     // Two more than there were.
     Refused {
         before: Sample {
-            stock: &[Stock("L1", "A-01", 5), Stock("L2", "Q-01", 599_999_995)],
+            stock: "L1|A-01|5\nL2|Q-01|599999995",
             ..BIN_KNOWN
         },
         told: Told::Count("L1", "A-01", 7),
@@ -317,7 +315,7 @@ fn refuses_counts(rt: HostRuntime) {
 
 // Ten units of lot L1.
 const TEN_IN_BIN: Sample = Sample {
-    stock: &[Stock("L1", "A-01", 10), Stock("L2", "Q-01", 599_999_990)],
+    stock: "L1|A-01|10\nL2|Q-01|599999990",
     ..BIN_KNOWN
 };
 
@@ -364,23 +362,23 @@ fn refuses_adjustments(rt: HostRuntime) {
 
 // Lot L1 is recalled, and not known.
 const UNKNOWN_RECALLED: Sample = Sample {
-    recalls: &[Recalled("L1", 5)],
+    recalls: "L1|5",
     ..LAST_ACT
 };
 
 const UNKNOWN_RECALLED_OF_ITEM: Sample = Sample {
-    items: &[OAT_DRINK],
+    items: "09506000134352|Oat drink",
     ..UNKNOWN_RECALLED
 };
 
 // It is known, and held.
 const HELD_RECALLED: Sample = Sample {
-    lots: &[KnownLot("L1", "2026-06-30", 6, true)],
+    lots: "L1|2026-06-30|6|held",
     ..UNKNOWN_RECALLED_OF_ITEM
 };
 
 const HELD: Sample = Sample {
-    recalls: &[],
+    recalls: "",
     ..HELD_RECALLED
 };
 
@@ -422,8 +420,8 @@ fn refuses_holds(rt: HostRuntime) {
 
 // Lot L1 is known, and not held.
 const FREE: Sample = Sample {
-    items: &[OAT_DRINK],
-    lots: &[KnownLot("L1", "2026-06-30", 6, false)],
+    items: "09506000134352|Oat drink",
+    lots: "L1|2026-06-30|6|free",
     ..LAST_ACT
 };
 
@@ -448,7 +446,7 @@ static RELEASES: [Refused; 5] = [
     },
     Refused {
         before: Sample {
-            recalls: &[Recalled("L1", 5)],
+            recalls: "L1|5",
             ..FREE
         },
         told: Told::Release("L1"),

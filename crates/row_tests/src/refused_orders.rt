@@ -1,38 +1,28 @@
 // The refusals of commands on orders, each once, in the order in which they are judged.
 
 use crate::refusals::{LAST_ACT, OAT_DRINK, Refused, STORE_BIN, expect};
-use crate::samples::{
-    BREAD, Bin, KnownLot, Line, OATS, Ordered, Recalled, Reserved, Sample, Staged, Stock, Taken,
-    Told,
-};
+use crate::samples::{Sample, Told};
+use commands::Refusal;
 use commands::limits::ACTS_MAX;
-use commands::{BinKind, OrderState, Refusal};
 
 // There is an order S-1, and one of which 999,999,989 units are open.
 const ORDER_KNOWN: Sample = Sample {
-    orders: &[
-        Taken("S-1", 8, "Corner Shop", OrderState::Open),
-        Taken("S-2", 9, "Harbour Cafe", OrderState::Open),
-    ],
-    lines: &[Line("S-2", OATS, 1_000_000_000, 11)],
+    orders: "S-1|8|Corner Shop|OPEN\nS-2|9|Harbour Cafe|OPEN",
+    lines: "S-2|09506000134352|1000000000|11",
     ..LAST_ACT
 };
 
 const ORDER_KNOWN_OF_ITEM: Sample = Sample {
-    items: &[OAT_DRINK],
+    items: "09506000134352|Oat drink",
     ..ORDER_KNOWN
 };
 
 const OTHER_ORDER: Sample = Sample {
-    orders: &[Taken("S-2", 9, "Harbour Cafe", OrderState::Open)],
+    orders: "S-2|9|Harbour Cafe|OPEN",
     ..ORDER_KNOWN_OF_ITEM
 };
 
-const TWICE: Told = Told::Order(
-    "S-1",
-    "Corner Shop",
-    &[Ordered(OATS, 12), Ordered(OATS, 12)],
-);
+const TWICE: Told = Told::Order("S-1", "Corner Shop", "09506000134352|12\n09506000134352|12");
 
 static ORDERS: [Refused; 6] = [
     Refused {
@@ -60,17 +50,13 @@ static ORDERS: [Refused; 6] = [
     },
     Refused {
         before: OTHER_ORDER,
-        told: Told::Order("S-1", "Corner Shop", &[Ordered(OATS, 12)]),
+        told: Told::Order("S-1", "Corner Shop", "09506000134352|12"),
         why: Refusal::OverOrdered,
     },
     // The second item is unknown.
     Refused {
         before: OTHER_ORDER,
-        told: Told::Order(
-            "S-1",
-            "Corner Shop",
-            &[Ordered(OATS, 11), Ordered(BREAD, 1)],
-        ),
+        told: Told::Order("S-1", "Corner Shop", "09506000134352|11\n04012345000016|1"),
         why: Refusal::UnknownItem,
     },
 ];
@@ -82,7 +68,7 @@ fn refuses_orders(rt: HostRuntime) {
 
 // Units are staged for the order S-1, which there is not.
 const ORDER_UNKNOWN: Sample = Sample {
-    staged: &[Staged("S-2", "L1", 4), Staged("S-1", "L1", 1)],
+    staged: "S-2|L1|4\nS-1|L1|1",
     ..LAST_ACT
 };
 
@@ -97,7 +83,7 @@ static CANCELS: [Refused; 5] = [
     },
     Refused {
         before: Sample {
-            orders: &[Taken("S-2", 9, "Harbour Cafe", OrderState::Open)],
+            orders: "S-2|9|Harbour Cafe|OPEN",
             ..ORDER_UNKNOWN
         },
         told: Told::Cancel("S-1"),
@@ -105,7 +91,7 @@ static CANCELS: [Refused; 5] = [
     },
     Refused {
         before: Sample {
-            orders: &[Taken("S-1", 8, "Corner Shop", OrderState::Done)],
+            orders: "S-1|8|Corner Shop|DONE",
             ..ORDER_UNKNOWN
         },
         told: Told::Cancel("S-1"),
@@ -113,7 +99,7 @@ static CANCELS: [Refused; 5] = [
     },
     Refused {
         before: Sample {
-            orders: &[Taken("S-1", 8, "Corner Shop", OrderState::Cancelled)],
+            orders: "S-1|8|Corner Shop|CANCELLED",
             ..LAST_ACT
         },
         told: Told::Cancel("S-1"),
@@ -121,8 +107,8 @@ static CANCELS: [Refused; 5] = [
     },
     Refused {
         before: Sample {
-            orders: &[Taken("S-1", 8, "Corner Shop", OrderState::Open)],
-            lines: &[Line("S-1", OATS, 12, 0)],
+            orders: "S-1|8|Corner Shop|OPEN",
+            lines: "S-1|09506000134352|12|0",
             ..ORDER_UNKNOWN
         },
         told: Told::Cancel("S-1"),
@@ -137,68 +123,68 @@ fn refuses_cancels(rt: HostRuntime) {
 
 // A picking of a recalled lot of which nothing is known, for an order of which nothing is known.
 const NOTHING_KNOWN: Sample = Sample {
-    recalls: &[Recalled("L1", 5)],
+    recalls: "L1|5",
     ..LAST_ACT
 };
 
 const ITEM_PICKED: Sample = Sample {
-    items: &[OAT_DRINK],
+    items: "09506000134352|Oat drink",
     ..NOTHING_KNOWN
 };
 
 const HOLD_BIN_PICKED: Sample = Sample {
-    bins: &[Bin("A-01", BinKind::Hold)],
+    bins: "A-01|HOLD",
     ..ITEM_PICKED
 };
 
 const LOT_PICKED: Sample = Sample {
-    lots: &[KnownLot("L1", "2026-05-03", 6, true)],
+    lots: "L1|2026-05-03|6|held",
     ..HOLD_BIN_PICKED
 };
 
 // The order is cancelled, and its line is of another item.
 const ORDER_PICKED: Sample = Sample {
-    orders: &[Taken("S-1", 8, "Corner Shop", OrderState::Cancelled)],
-    lines: &[Line("S-1", BREAD, 12, 0)],
+    orders: "S-1|8|Corner Shop|CANCELLED",
+    lines: "S-1|04012345000016|12|0",
     ..LOT_PICKED
 };
 
 const LINE_PICKED: Sample = Sample {
-    lines: &[Line("S-1", BREAD, 12, 0), Line("S-1", OATS, 12, 0)],
+    lines: "S-1|04012345000016|12|0\nS-1|09506000134352|12|0",
     ..ORDER_PICKED
 };
 
 const NOT_RECALLED: Sample = Sample {
-    recalls: &[],
+    recalls: "",
     ..LINE_PICKED
 };
 
 // The lot expires today.
 const NOT_EXPIRED: Sample = Sample {
-    lots: &[KnownLot("L1", "2026-05-04", 6, true)],
+    lots: "L1|2026-05-04|6|held",
     ..NOT_RECALLED
 };
 
 const NOT_HELD: Sample = Sample {
-    lots: &[KnownLot("L1", "2026-05-04", 6, false)],
+    lots: "L1|2026-05-04|6|free",
     ..NOT_EXPIRED
 };
 
 const STORE_BIN_PICKED: Sample = Sample {
-    bins: &[STORE_BIN, Bin("A-02", BinKind::Store)],
+    bins: "A-01|STORE\nA-02|STORE",
     ..NOT_HELD
 };
 
 // 7 units in the bin and more in another, of which 7 are reserved for the order.
 const ORDER_OPEN: Sample = Sample {
-    orders: &[Taken("S-1", 8, "Corner Shop", OrderState::Open)],
-    stock: &[Stock("L1", "A-01", 7), Stock("L1", "A-02", 5)],
-    reserved: &[Reserved("S-1", "L1", 7), Reserved("S-2", "L1", 5)],
+    orders: "S-1|8|Corner Shop|OPEN",
+    stock: "L1|A-01|7\nL1|A-02|5",
+    reserved: "S-1|L1|7\nS-2|L1|5",
     ..STORE_BIN_PICKED
 };
 
 const ENOUGH_IN_BIN: Sample = Sample {
-    stock: &[Stock("L1", "A-01", 8), Stock("L1", "A-02", 4)],
+    stock: "L1|A-01|8\nL1|A-02|4",
     ..ORDER_OPEN
 };
 
@@ -282,8 +268,8 @@ fn refuses_pickings(rt: HostRuntime) {
 
 // 7 units of the lot are staged for the order, and one for another.
 const STAGED: Sample = Sample {
-    orders: &[Taken("S-1", 8, "Corner Shop", OrderState::Open)],
-    staged: &[Staged("S-1", "L1", 7), Staged("S-2", "L1", 1)],
+    orders: "S-1|8|Corner Shop|OPEN",
+    staged: "S-1|L1|7\nS-2|L1|1",
     ..LINE_PICKED
 };
 
@@ -342,9 +328,9 @@ fn refuses_units_put_back(rt: HostRuntime) {
 
 // Only for the order S-2 units are staged.
 const OTHER_STAGED: Sample = Sample {
-    orders: &[Taken("S-2", 9, "Harbour Cafe", OrderState::Open)],
-    lines: &[Line("S-2", OATS, 12, 0)],
-    staged: &[Staged("S-2", "L1", 4)],
+    orders: "S-2|9|Harbour Cafe|OPEN",
+    lines: "S-2|09506000134352|12|0",
+    staged: "S-2|L1|4",
     ..LAST_ACT
 };
 
@@ -364,7 +350,7 @@ static SHIPPINGS: [Refused; 5] = [
     },
     Refused {
         before: Sample {
-            orders: &[Taken("S-1", 8, "Corner Shop", OrderState::Done)],
+            orders: "S-1|8|Corner Shop|DONE",
             ..OTHER_STAGED
         },
         told: Told::Ship("S-1"),
@@ -372,7 +358,7 @@ static SHIPPINGS: [Refused; 5] = [
     },
     Refused {
         before: Sample {
-            orders: &[Taken("S-1", 8, "Corner Shop", OrderState::Cancelled)],
+            orders: "S-1|8|Corner Shop|CANCELLED",
             ..OTHER_STAGED
         },
         told: Told::Ship("S-1"),
@@ -380,7 +366,7 @@ static SHIPPINGS: [Refused; 5] = [
     },
     Refused {
         before: Sample {
-            orders: &[Taken("S-1", 8, "Corner Shop", OrderState::Open)],
+            orders: "S-1|8|Corner Shop|OPEN",
             ..OTHER_STAGED
         },
         told: Told::Ship("S-1"),

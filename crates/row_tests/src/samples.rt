@@ -17,7 +17,8 @@ pub const OATS: &str = "09506000134352";
 /// The rye bread, of which there are no units.
 pub const BREAD: &str = "04012345000016";
 
-/// The rows of a slice.
+/// The rows of a slice. Those of each table are a text, a row a line and `|` between the fields: a text costs the
+/// proof less than a list of records (docs/GATE.md).
 #[derive(Clone, Copy)]
 pub struct Sample {
     /// The day that is open.
@@ -26,15 +27,24 @@ pub struct Sample {
     pub acts: u64,
     /// How many items and bins there are.
     pub counts: (u64, u64),
-    pub items: &'static [Item],
-    pub bins: &'static [Bin],
-    pub lots: &'static [KnownLot],
-    pub recalls: &'static [Recalled],
-    pub stock: &'static [Stock],
-    pub orders: &'static [Taken],
-    pub lines: &'static [Line],
-    pub staged: &'static [Staged],
-    pub reserved: &'static [Reserved],
+    /// GTIN, name.
+    pub items: &'static str,
+    /// Name, `STORE` or `HOLD`.
+    pub bins: &'static str,
+    /// Lot, expiry, the act of its first receipt, `free` or `held`.
+    pub lots: &'static str,
+    /// Lot, the act.
+    pub recalls: &'static str,
+    /// Lot, bin, units.
+    pub stock: &'static str,
+    /// Name, act, customer, `OPEN`, `DONE` or `CANCELLED`.
+    pub orders: &'static str,
+    /// Order, GTIN, units ordered, units shipped.
+    pub lines: &'static str,
+    /// Order, lot, units.
+    pub staged: &'static str,
+    /// Order, lot, units.
+    pub reserved: &'static str,
 }
 
 /// An item: its GTIN and its name.
@@ -44,34 +54,6 @@ pub struct Item(pub &'static str, pub &'static str);
 /// A bin: its name and its kind.
 #[derive(Clone, Copy)]
 pub struct Bin(pub &'static str, pub BinKind);
-
-/// A lot: its text, its expiry, the act of its first receipt, whether it is held.
-#[derive(Clone, Copy)]
-pub struct KnownLot(pub &'static str, pub &'static str, pub u64, pub bool);
-
-/// A lot that is recalled, and the act.
-#[derive(Clone, Copy)]
-pub struct Recalled(pub &'static str, pub u64);
-
-/// The units of a lot in a bin: the lot, the bin, the units.
-#[derive(Clone, Copy)]
-pub struct Stock(pub &'static str, pub &'static str, pub u64);
-
-/// An order: its name, its act, its customer, its state.
-#[derive(Clone, Copy)]
-pub struct Taken(pub &'static str, pub u64, pub &'static str, pub OrderState);
-
-/// A line of an order: the order, the item, the units ordered and those shipped.
-#[derive(Clone, Copy)]
-pub struct Line(pub &'static str, pub &'static str, pub u64, pub u64);
-
-/// Units staged: the order, the lot, the units.
-#[derive(Clone, Copy)]
-pub struct Staged(pub &'static str, pub &'static str, pub u64);
-
-/// Units reserved: the order, the lot, the units.
-#[derive(Clone, Copy)]
-pub struct Reserved(pub &'static str, pub &'static str, pub u64);
 
 /// A command.
 #[derive(Clone, Copy)]
@@ -86,8 +68,8 @@ pub enum Told {
     Count(&'static str, &'static str, u64),
     /// Units written on or off: the lot, the bin, the change.
     Adjust(&'static str, &'static str, i64),
-    /// An order: its name, its customer, its lines.
-    Order(&'static str, &'static str, &'static [Ordered]),
+    /// An order: its name, its customer, its lines (GTIN and units, as in a sample).
+    Order(&'static str, &'static str, &'static str),
     /// A picking: the order, the lot, the bin, the units.
     Pick(&'static str, &'static str, &'static str, u64),
     /// Units put back: the order, the lot, the bin, the units.
@@ -106,24 +88,20 @@ pub enum Told {
     Ship(&'static str),
 }
 
-/// A line of a new order: the item and the units.
-#[derive(Clone, Copy)]
-pub struct Ordered(pub &'static str, pub u64);
-
 /// No rows, on 2026-05-04, after five acts.
 pub const NO_ROWS: Sample = Sample {
     day: "2026-05-04",
     acts: 5,
     counts: (2, 4),
-    items: &[],
-    bins: &[],
-    lots: &[],
-    recalls: &[],
-    stock: &[],
-    orders: &[],
-    lines: &[],
-    staged: &[],
-    reserved: &[],
+    items: "",
+    bins: "",
+    lots: "",
+    recalls: "",
+    stock: "",
+    orders: "",
+    lines: "",
+    staged: "",
+    reserved: "",
 };
 
 // Values
@@ -163,13 +141,45 @@ fn lot(rt: &impl Abort, text: &str) -> LotId {
     lot_of_item(rt, OATS, text)
 }
 
+fn number(rt: &impl Abort, text: &str) -> u64 {
+    text.parse().ok().expect(rt, "a number")
+}
+
+// The first field, and the others.
+fn cut<'a>(rt: &impl Abort, text: &'a str) -> (&'a str, &'a str) {
+    text.split_once('|').expect(rt, "a field")
+}
+
+fn kind(rt: &impl Abort, text: &str) -> BinKind {
+    match text {
+        "STORE" => BinKind::Store,
+        "HOLD" => BinKind::Hold,
+        _ => panic!(rt; "no kind"),
+    }
+}
+
+fn state(rt: &impl Abort, text: &str) -> OrderState {
+    match text {
+        "OPEN" => OrderState::Open,
+        "DONE" => OrderState::Done,
+        "CANCELLED" => OrderState::Cancelled,
+        _ => panic!(rt; "no state"),
+    }
+}
+
+fn is_held(rt: &impl Abort, text: &str) -> bool {
+    match text {
+        "free" => false,
+        "held" => true,
+        _ => panic!(rt; "neither free nor held"),
+    }
+}
+
 // Rows
 
-/// What stands for a row.
-pub(crate) trait Written {
-    type Row: Copy;
-
-    fn row(&self, rt: &impl Abort) -> Self::Row;
+/// A row that a text stands for.
+pub(crate) trait Written: Copy {
+    fn read(rt: &impl Abort, text: &str) -> Self;
 }
 
 // Under `rt try --test --fail-alloc N` the Nth request for memory is refused. What that stops is done
@@ -180,133 +190,129 @@ fn add<T: Copy>(rt: &impl Abort, rows: &mut Vec<T>, row: T) {
     }
 }
 
-fn rows_of<W: Written>(rt: &impl Abort, alloc: Global, written: &[W]) -> Vec<W::Row> {
+fn rows_of<R: Written>(rt: &impl Abort, alloc: Global, text: &str) -> Vec<R> {
     let mut rows = Vec::new(alloc);
-    for one in written {
-        add(rt, &mut rows, one.row(rt));
+    for line in text.lines() {
+        add(rt, &mut rows, R::read(rt, line));
     }
     rows
 }
 
-fn listed<W: Written>(rt: &impl Abort, alloc: Global, written: &[W]) -> Listed<W::Row> {
-    Listed::from_vec(rows_of(rt, alloc, written))
+fn listed<R: Written>(rt: &impl Abort, alloc: Global, text: &str) -> Listed<R> {
+    Listed::from_vec(rows_of(rt, alloc, text))
 }
 
-impl Written for Item {
-    type Row = ItemRow;
-
-    fn row(&self, rt: &impl Abort) -> ItemRow {
+impl Written for ItemRow {
+    fn read(rt: &impl Abort, text: &str) -> ItemRow {
+        let (item, called) = cut(rt, text);
         ItemRow {
-            gtin: gtin(rt, self.0),
-            name: title(rt, self.1),
+            gtin: gtin(rt, item),
+            name: title(rt, called),
         }
     }
 }
 
-impl Written for Bin {
-    type Row = BinRow;
-
-    fn row(&self, rt: &impl Abort) -> BinRow {
+impl Written for BinRow {
+    fn read(rt: &impl Abort, text: &str) -> BinRow {
+        let (bin, word) = cut(rt, text);
         BinRow {
-            name: name(rt, self.0),
-            kind: self.1,
+            name: name(rt, bin),
+            kind: kind(rt, word),
         }
     }
 }
 
-impl Written for KnownLot {
-    type Row = LotRow;
-
-    fn row(&self, rt: &impl Abort) -> LotRow {
+impl Written for LotRow {
+    fn read(rt: &impl Abort, text: &str) -> LotRow {
+        let (known, rest) = cut(rt, text);
+        let (expiry, rest) = cut(rt, rest);
+        let (came, word) = cut(rt, rest);
         LotRow {
-            lot: lot(rt, self.0),
-            expiry: day(rt, self.1),
-            came: self.2,
-            held: self.3,
+            lot: lot(rt, known),
+            expiry: day(rt, expiry),
+            came: number(rt, came),
+            held: is_held(rt, word),
         }
     }
 }
 
-impl Written for Recalled {
-    type Row = RecallRow;
-
-    fn row(&self, rt: &impl Abort) -> RecallRow {
+impl Written for RecallRow {
+    fn read(rt: &impl Abort, text: &str) -> RecallRow {
+        let (recalled, act) = cut(rt, text);
         RecallRow {
-            lot: lot(rt, self.0),
-            act: self.1,
+            lot: lot(rt, recalled),
+            act: number(rt, act),
         }
     }
 }
 
-impl Written for Stock {
-    type Row = StockRow;
-
-    fn row(&self, rt: &impl Abort) -> StockRow {
+impl Written for StockRow {
+    fn read(rt: &impl Abort, text: &str) -> StockRow {
+        let (kept, rest) = cut(rt, text);
+        let (bin, units) = cut(rt, rest);
         StockRow {
-            lot: lot(rt, self.0),
-            bin: name(rt, self.1),
-            qty: self.2,
+            lot: lot(rt, kept),
+            bin: name(rt, bin),
+            qty: number(rt, units),
         }
     }
 }
 
-impl Written for Taken {
-    type Row = OrderRow;
-
-    fn row(&self, rt: &impl Abort) -> OrderRow {
+impl Written for OrderRow {
+    fn read(rt: &impl Abort, text: &str) -> OrderRow {
+        let (order, rest) = cut(rt, text);
+        let (act, rest) = cut(rt, rest);
+        let (customer, word) = cut(rt, rest);
         OrderRow {
-            order: name(rt, self.0),
-            act: self.1,
-            customer: title(rt, self.2),
-            state: self.3,
+            order: name(rt, order),
+            act: number(rt, act),
+            customer: title(rt, customer),
+            state: state(rt, word),
         }
     }
 }
 
-impl Written for Line {
-    type Row = LineRow;
-
-    fn row(&self, rt: &impl Abort) -> LineRow {
+impl Written for LineRow {
+    fn read(rt: &impl Abort, text: &str) -> LineRow {
+        let (order, rest) = cut(rt, text);
+        let (item, rest) = cut(rt, rest);
+        let (ordered, shipped) = cut(rt, rest);
         LineRow {
-            order: name(rt, self.0),
-            gtin: gtin(rt, self.1),
-            ordered: self.2,
-            shipped: self.3,
+            order: name(rt, order),
+            gtin: gtin(rt, item),
+            ordered: number(rt, ordered),
+            shipped: number(rt, shipped),
         }
     }
 }
 
-impl Written for Staged {
-    type Row = StagedRow;
+// Units of a lot that are an order's: the order, the lot, the units.
+fn units(rt: &impl Abort, text: &str) -> (Name, LotId, u64) {
+    let (order, rest) = cut(rt, text);
+    let (taken, units) = cut(rt, rest);
+    (name(rt, order), lot(rt, taken), number(rt, units))
+}
 
-    fn row(&self, rt: &impl Abort) -> StagedRow {
-        StagedRow {
-            order: name(rt, self.0),
-            lot: lot(rt, self.1),
-            qty: self.2,
-        }
+impl Written for StagedRow {
+    fn read(rt: &impl Abort, text: &str) -> StagedRow {
+        let (order, lot, qty) = units(rt, text);
+        StagedRow { order, lot, qty }
     }
 }
 
-impl Written for Reserved {
-    type Row = ReservedRow;
-
-    fn row(&self, rt: &impl Abort) -> ReservedRow {
-        ReservedRow {
-            order: name(rt, self.0),
-            lot: lot(rt, self.1),
-            qty: self.2,
-        }
+impl Written for ReservedRow {
+    fn read(rt: &impl Abort, text: &str) -> ReservedRow {
+        let (order, lot, qty) = units(rt, text);
+        ReservedRow { order, lot, qty }
     }
 }
 
-impl Written for Ordered {
-    type Row = OrderLine;
-
-    fn row(&self, rt: &impl Abort) -> OrderLine {
+impl Written for OrderLine {
+    fn read(rt: &impl Abort, text: &str) -> OrderLine {
+        let (item, units) = cut(rt, text);
         OrderLine {
-            gtin: gtin(rt, self.0),
-            qty: qty(rt, self.1),
+            gtin: gtin(rt, item),
+            qty: qty(rt, number(rt, units)),
         }
     }
 }
@@ -375,13 +381,7 @@ fn adjust(rt: &impl Abort, text: &str, bin: &str, change: i64) -> Command {
     })
 }
 
-fn order(
-    rt: &impl Abort,
-    alloc: Global,
-    order: &str,
-    customer: &str,
-    lines: &[Ordered],
-) -> Command {
+fn order(rt: &impl Abort, alloc: Global, order: &str, customer: &str, lines: &str) -> Command {
     let lines = rows_of(rt, alloc, lines);
     Command::Order(NewOrder {
         order: name(rt, order),

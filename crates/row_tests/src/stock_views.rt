@@ -1,10 +1,7 @@
 // The stock of the item of the two-customer example.
 
 use crate::listing::Listing;
-use crate::refusals::OAT_DRINK;
-use crate::samples::{
-    KnownLot, NO_ROWS, Recalled, Reserved, Sample, Staged, Stock, Written, business_day, rows,
-};
+use crate::samples::{NO_ROWS, Sample, Written, business_day, rows};
 use commands::{ItemRow, StockView};
 use label::BusinessDay;
 use rules::Rows;
@@ -36,7 +33,13 @@ fn view_of(
 fn expect(rt: &impl Abort, alloc: Global, case: &Viewed) {
     let day = business_day(rt, case.rows.day);
     let rows = rows(rt, alloc, &case.rows);
-    let view = view_of(rt, alloc, day, &rows, &OAT_DRINK.row(rt));
+    let view = view_of(
+        rt,
+        alloc,
+        day,
+        &rows,
+        &ItemRow::read(rt, "09506000134352|Oat drink"),
+    );
     let listing = Listing::of_stock(&view);
     drop(rows);
     drop(view);
@@ -47,8 +50,8 @@ static VIEWED: [Viewed; 4] = [
     // The first receipt is free.
     Viewed {
         rows: Sample {
-            lots: &[KnownLot("L1", "2026-06-30", 6, false)],
-            stock: &[Stock("L1", "A-01", 10)],
+            lots: "L1|2026-06-30|6|free",
+            stock: "L1|A-01|10",
             ..NO_ROWS
         },
         text: b"09506000134352 Oat drink\n\
@@ -57,22 +60,11 @@ static VIEWED: [Viewed; 4] = [
     // The reservations of all orders add up.
     Viewed {
         rows: Sample {
-            lots: &[
-                KnownLot("L1", "2026-06-30", 6, false),
-                KnownLot("L2", "2026-05-31", 7, false),
-                KnownLot("L0", "2026-05-10", 10, false),
-            ],
-            stock: &[
-                Stock("L1", "A-01", 10),
-                Stock("L2", "A-01", 10),
-                Stock("L0", "A-01", 5),
-            ],
-            reserved: &[
-                Reserved("S-2", "L1", 9),
-                Reserved("S-1", "L2", 7),
-                Reserved("S-2", "L2", 3),
-                Reserved("S-1", "L0", 5),
-            ],
+            lots: "L1|2026-06-30|6|free\n\
+                L2|2026-05-31|7|free\n\
+                L0|2026-05-10|10|free",
+            stock: "L1|A-01|10\nL2|A-01|10\nL0|A-01|5",
+            reserved: "S-2|L1|9\nS-1|L2|7\nS-2|L2|3\nS-1|L0|5",
             ..NO_ROWS
         },
         text: b"09506000134352 Oat drink\n\
@@ -83,19 +75,12 @@ static VIEWED: [Viewed; 4] = [
     // Staged units are in no bin: all of L0 and seven of L2 are on the stage of S-1.
     Viewed {
         rows: Sample {
-            lots: &[
-                KnownLot("L0", "2026-05-10", 10, false),
-                KnownLot("L1", "2026-06-30", 6, false),
-                KnownLot("L2", "2026-05-31", 7, false),
-            ],
-            stock: &[
-                Stock("L2", "Q-01", 1),
-                Stock("L1", "A-02", 4),
-                Stock("L1", "A-01", 6),
-                Stock("L2", "A-01", 2),
-            ],
-            staged: &[Staged("S-1", "L0", 5), Staged("S-1", "L2", 7)],
-            reserved: &[Reserved("S-2", "L1", 9), Reserved("S-2", "L2", 3)],
+            lots: "L0|2026-05-10|10|free\n\
+                L1|2026-06-30|6|free\n\
+                L2|2026-05-31|7|free",
+            stock: "L2|Q-01|1\nL1|A-02|4\nL1|A-01|6\nL2|A-01|2",
+            staged: "S-1|L0|5\nS-1|L2|7",
+            reserved: "S-2|L1|9\nS-2|L2|3",
             ..NO_ROWS
         },
         text: b"09506000134352 Oat drink\n\
@@ -108,16 +93,14 @@ static VIEWED: [Viewed; 4] = [
     Viewed {
         rows: Sample {
             day: "2026-05-10",
-            lots: &[
-                KnownLot("K2", "2026-06-30", 12, false),
-                KnownLot("K1", "2026-05-31", 11, true),
-                KnownLot("G1", "2026-05-31", 10, true),
-                KnownLot("F1", "2026-05-10", 9, false),
-                KnownLot("E3", "2026-05-09", 8, false),
-                KnownLot("E2", "2026-05-09", 7, true),
-                KnownLot("E1", "2026-05-09", 6, true),
-            ],
-            recalls: &[Recalled("K1", 13), Recalled("K2", 14), Recalled("E1", 15)],
+            lots: "K2|2026-06-30|12|free\n\
+                K1|2026-05-31|11|held\n\
+                G1|2026-05-31|10|held\n\
+                F1|2026-05-10|9|free\n\
+                E3|2026-05-09|8|free\n\
+                E2|2026-05-09|7|held\n\
+                E1|2026-05-09|6|held",
+            recalls: "K1|13\nK2|14\nE1|15",
             ..NO_ROWS
         },
         text: b"09506000134352 Oat drink\n\

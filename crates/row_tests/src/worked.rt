@@ -1,12 +1,9 @@
 // The worked examples, over slices made by hand: the rows that a command puts and drops, whole.
 
 use crate::listing::Listing;
-use crate::samples::{
-    BREAD, Bin, Item, KnownLot, Line, NO_ROWS, OATS, Reserved, Sample, Staged, Stock, Taken, Told,
-    decided,
-};
+use crate::samples::{BREAD, Bin, Item, NO_ROWS, OATS, Sample, Told, decided};
+use commands::BinKind;
 use commands::limits::{ACTS_MAX, BINS_MAX, ITEMS_MAX};
-use commands::{BinKind, OrderState};
 use std::alloc::Global;
 use std::process::Abort;
 
@@ -81,80 +78,63 @@ fn takes_items_and_bins(rt: HostRuntime) {
 
 // The oat drink and its bin, before any receipt.
 pub(crate) const OATS_ALONE: Sample = Sample {
-    items: &[Item(OATS, "Oat drink")],
-    bins: &[Bin("A-01", BinKind::Store)],
+    items: "09506000134352|Oat drink",
+    bins: "A-01|STORE",
     ..NO_ROWS
 };
 
 // After the receipt of lot L1, and after that of lot L2.
 const ONE_LOT: Sample = Sample {
     acts: 6,
-    lots: &[KnownLot("L1", "2026-06-30", 6, false)],
-    stock: &[Stock("L1", "A-01", 10)],
+    lots: "L1|2026-06-30|6|free",
+    stock: "L1|A-01|10",
     ..OATS_ALONE
 };
 
 pub(crate) const TWO_LOTS: Sample = Sample {
     acts: 7,
-    lots: &[
-        KnownLot("L1", "2026-06-30", 6, false),
-        KnownLot("L2", "2026-05-31", 7, false),
-    ],
-    stock: &[Stock("L1", "A-01", 10), Stock("L2", "A-01", 10)],
+    lots: "L1|2026-06-30|6|free\nL2|2026-05-31|7|free",
+    stock: "L1|A-01|10\nL2|A-01|10",
     ..ONE_LOT
 };
 
 // After the order S-1 of 12, and after the order S-2 of 12.
 pub(crate) const ONE_ORDER: Sample = Sample {
     acts: 8,
-    orders: &[Taken("S-1", 8, "Corner Shop", OrderState::Open)],
-    lines: &[Line("S-1", OATS, 12, 0)],
-    reserved: &[Reserved("S-1", "L2", 10), Reserved("S-1", "L1", 2)],
+    orders: "S-1|8|Corner Shop|OPEN",
+    lines: "S-1|09506000134352|12|0",
+    reserved: "S-1|L2|10\nS-1|L1|2",
     ..TWO_LOTS
 };
 
 pub(crate) const TWO_ORDERS: Sample = Sample {
     acts: 9,
-    orders: &[
-        Taken("S-1", 8, "Corner Shop", OrderState::Open),
-        Taken("S-2", 9, "Harbour Cafe", OrderState::Open),
-    ],
-    lines: &[Line("S-1", OATS, 12, 0), Line("S-2", OATS, 12, 0)],
-    reserved: &[
-        Reserved("S-1", "L2", 10),
-        Reserved("S-1", "L1", 2),
-        Reserved("S-2", "L1", 8),
-    ],
+    orders: "S-1|8|Corner Shop|OPEN\nS-2|9|Harbour Cafe|OPEN",
+    lines: "S-1|09506000134352|12|0\nS-2|09506000134352|12|0",
+    reserved: "S-1|L2|10\nS-1|L1|2\nS-2|L1|8",
     ..ONE_ORDER
 };
 
 // Lot L1 in a STORE bin, in a HOLD bin and on the stage of an order.
 const IN_THREE_PLACES: Sample = Sample {
     acts: 9,
-    bins: &[Bin("A-01", BinKind::Store), Bin("Q-01", BinKind::Hold)],
-    stock: &[
-        Stock("L1", "A-01", 10),
-        Stock("L1", "Q-01", 4),
-        Stock("L2", "A-01", 10),
-    ],
-    orders: &[Taken("S-1", 8, "Corner Shop", OrderState::Open)],
-    lines: &[Line("S-1", OATS, 3, 0)],
-    staged: &[Staged("S-1", "L1", 3)],
+    bins: "A-01|STORE\nQ-01|HOLD",
+    stock: "L1|A-01|10\nL1|Q-01|4\nL2|A-01|10",
+    orders: "S-1|8|Corner Shop|OPEN",
+    lines: "S-1|09506000134352|3|0",
+    staged: "S-1|L1|3",
     ..TWO_LOTS
 };
 
 // One unit less than the item may have in the house, before the last act.
 const NEARLY_FULL: Sample = Sample {
     acts: ACTS_MAX - 1,
-    bins: &[Bin("A-01", BinKind::Store), Bin("Q-01", BinKind::Hold)],
-    lots: &[
-        KnownLot("L2", "2026-05-31", 7, true),
-        KnownLot("L3", "2026-05-31", 8, false),
-    ],
-    stock: &[Stock("L2", "Q-01", 600_000_000)],
-    orders: &[Taken("S-1", 9, "Corner Shop", OrderState::Open)],
-    lines: &[Line("S-1", OATS, 399_999_999, 0)],
-    staged: &[Staged("S-1", "L3", 399_999_999)],
+    bins: "A-01|STORE\nQ-01|HOLD",
+    lots: "L2|2026-05-31|7|held\nL3|2026-05-31|8|free",
+    stock: "L2|Q-01|600000000",
+    orders: "S-1|9|Corner Shop|OPEN",
+    lines: "S-1|09506000134352|399999999|0",
+    staged: "S-1|L3|399999999",
     ..OATS_ALONE
 };
 
@@ -221,27 +201,12 @@ fn receives_goods(rt: HostRuntime) {
 // The two orders after the receipt of lot L0, which expires first, with a second STORE bin and one for goods on hold.
 pub(crate) const THREE_LOTS: Sample = Sample {
     acts: 10,
-    bins: &[
-        Bin("A-01", BinKind::Store),
-        Bin("A-02", BinKind::Store),
-        Bin("Q-01", BinKind::Hold),
-    ],
-    lots: &[
-        KnownLot("L1", "2026-06-30", 6, false),
-        KnownLot("L2", "2026-05-31", 7, false),
-        KnownLot("L0", "2026-05-10", 10, false),
-    ],
-    stock: &[
-        Stock("L1", "A-01", 10),
-        Stock("L2", "A-01", 10),
-        Stock("L0", "A-01", 5),
-    ],
-    reserved: &[
-        Reserved("S-1", "L0", 5),
-        Reserved("S-1", "L2", 7),
-        Reserved("S-2", "L2", 3),
-        Reserved("S-2", "L1", 9),
-    ],
+    bins: "A-01|STORE\nA-02|STORE\nQ-01|HOLD",
+    lots: "L1|2026-06-30|6|free\n\
+        L2|2026-05-31|7|free\n\
+        L0|2026-05-10|10|free",
+    stock: "L1|A-01|10\nL2|A-01|10\nL0|A-01|5",
+    reserved: "S-1|L0|5\nS-1|L2|7\nS-2|L2|3\nS-2|L1|9",
     ..TWO_ORDERS
 };
 
@@ -249,22 +214,10 @@ pub(crate) const THREE_LOTS: Sample = Sample {
 // again.
 const RELEASED: Sample = Sample {
     acts: 14,
-    bins: &[
-        Bin("A-01", BinKind::Store),
-        Bin("A-02", BinKind::Store),
-        Bin("RETURNS", BinKind::Hold),
-    ],
-    stock: &[
-        Stock("L1", "A-01", 10),
-        Stock("L2", "A-01", 3),
-        Stock("L0", "RETURNS", 5),
-    ],
-    staged: &[Staged("S-1", "L2", 7)],
-    reserved: &[
-        Reserved("S-1", "L2", 3),
-        Reserved("S-1", "L1", 2),
-        Reserved("S-2", "L1", 8),
-    ],
+    bins: "A-01|STORE\nA-02|STORE\nRETURNS|HOLD",
+    stock: "L1|A-01|10\nL2|A-01|3\nL0|RETURNS|5",
+    staged: "S-1|L2|7",
+    reserved: "S-1|L2|3\nS-1|L1|2\nS-2|L1|8",
     ..THREE_LOTS
 };
 
@@ -321,9 +274,9 @@ fn moves_goods(rt: HostRuntime) {
 
 // Both orders, with ten units of L1 alone, of which the first has all.
 const LOT_ALONE: Sample = Sample {
-    lots: &[KnownLot("L1", "2026-06-30", 6, false)],
-    stock: &[Stock("L1", "A-01", 10)],
-    reserved: &[Reserved("S-1", "L1", 10)],
+    lots: "L1|2026-06-30|6|free",
+    stock: "L1|A-01|10",
+    reserved: "S-1|L1|10",
     ..TWO_ORDERS
 };
 
@@ -359,8 +312,8 @@ static COUNTING: [Worked; 6] = [
     // Nothing was there, and nothing is.
     Worked {
         before: Sample {
-            stock: &[],
-            reserved: &[],
+            stock: "",
+            reserved: "",
             ..LOT_ALONE
         },
         told: Told::Count("L1", "A-01", 0),
@@ -379,7 +332,7 @@ static COUNTING: [Worked; 6] = [
     // The last unit that the item may have.
     Worked {
         before: Sample {
-            stock: &[Stock("L2", "Q-01", 599_999_995), Stock("L3", "Q-01", 5)],
+            stock: "L2|Q-01|599999995\nL3|Q-01|5",
             ..NEARLY_FULL
         },
         told: Told::Count("L3", "Q-01", 6),
@@ -442,43 +395,33 @@ fn adjusts_stock(rt: HostRuntime) {
 // After the picking of S-1 from lots L0 and L2.
 const ALL_PICKED: Sample = Sample {
     acts: 12,
-    stock: &[Stock("L1", "A-01", 10), Stock("L2", "A-01", 3)],
-    staged: &[Staged("S-1", "L0", 5), Staged("S-1", "L2", 7)],
-    reserved: &[Reserved("S-2", "L2", 3), Reserved("S-2", "L1", 9)],
+    stock: "L1|A-01|10\nL2|A-01|3",
+    staged: "S-1|L0|5\nS-1|L2|7",
+    reserved: "S-2|L2|3\nS-2|L1|9",
     ..THREE_LOTS
 };
 
 // After lot L0 is held.
 const ONE_HELD: Sample = Sample {
     acts: 13,
-    bins: &[Bin("A-01", BinKind::Store), Bin("RETURNS", BinKind::Hold)],
-    lots: &[
-        KnownLot("L1", "2026-06-30", 6, false),
-        KnownLot("L2", "2026-05-31", 7, false),
-        KnownLot("L0", "2026-05-10", 10, true),
-    ],
-    stock: &[
-        Stock("L1", "A-01", 10),
-        Stock("L2", "A-01", 3),
-        Stock("L0", "RETURNS", 5),
-    ],
-    staged: &[Staged("S-1", "L2", 7)],
-    reserved: &[
-        Reserved("S-1", "L2", 3),
-        Reserved("S-1", "L1", 2),
-        Reserved("S-2", "L1", 8),
-    ],
+    bins: "A-01|STORE\nRETURNS|HOLD",
+    lots: "L1|2026-06-30|6|free\n\
+        L2|2026-05-31|7|free\n\
+        L0|2026-05-10|10|held",
+    stock: "L1|A-01|10\nL2|A-01|3\nL0|RETURNS|5",
+    staged: "S-1|L2|7",
+    reserved: "S-1|L2|3\nS-1|L1|2\nS-2|L1|8",
     ..ALL_PICKED
 };
 
 // Units of a lot on two stages, and in RETURNS.
 const ON_TWO_STAGES: Sample = Sample {
     acts: ACTS_MAX - 1,
-    bins: &[Bin("A-01", BinKind::Store), Bin("RETURNS", BinKind::Hold)],
-    stock: &[Stock("L1", "RETURNS", 4), Stock("L2", "RETURNS", 6)],
-    lines: &[Line("S-1", OATS, 3, 0), Line("S-2", OATS, 2, 0)],
-    staged: &[Staged("S-1", "L1", 3), Staged("S-2", "L1", 2)],
-    reserved: &[],
+    bins: "A-01|STORE\nRETURNS|HOLD",
+    stock: "L1|RETURNS|4\nL2|RETURNS|6",
+    lines: "S-1|09506000134352|3|0\nS-2|09506000134352|2|0",
+    staged: "S-1|L1|3\nS-2|L1|2",
+    reserved: "",
     ..TWO_ORDERS
 };
 
@@ -525,11 +468,8 @@ fn holds_lots(rt: HostRuntime) {
 // The order S-1 of 12, while lot L2 is held.
 const HELD_IN_STORE: Sample = Sample {
     acts: ACTS_MAX - 1,
-    lots: &[
-        KnownLot("L1", "2026-06-30", 6, false),
-        KnownLot("L2", "2026-05-31", 7, true),
-    ],
-    reserved: &[Reserved("S-1", "L1", 10)],
+    lots: "L1|2026-06-30|6|free\nL2|2026-05-31|7|held",
+    reserved: "S-1|L1|10",
     ..ONE_ORDER
 };
 
@@ -598,7 +538,7 @@ static RECALLING: [Worked; 5] = [
     // A lot that was never received.
     Worked {
         before: Sample {
-            items: &[Item(BREAD, "Rye bread")],
+            items: "04012345000016|Rye bread",
             ..NO_ROWS
         },
         told: Told::Recall(BREAD, "Z9"),

@@ -1,48 +1,36 @@
 // The worked examples of days that are opened: the rows that are put and dropped, whole.
 
-use crate::samples::{Bin, KnownLot, Line, NO_ROWS, OATS, Reserved, Sample, Staged, Stock, Told};
+use crate::samples::{NO_ROWS, Sample, Told};
 use crate::worked::{THREE_LOTS, TWO_ORDERS, Worked, expect};
-use commands::BinKind;
 use commands::limits::ACTS_MAX;
 
 // After 4 of lot L2 are picked on 2026-05-31, when lot L0 is out already.
 const PICKED_LATE: Sample = Sample {
     acts: 12,
-    stock: &[
-        Stock("L1", "A-01", 10),
-        Stock("L2", "A-01", 6),
-        Stock("L0", "A-01", 5),
-    ],
-    staged: &[Staged("S-1", "L2", 4)],
-    reserved: &[
-        Reserved("S-1", "L2", 6),
-        Reserved("S-1", "L1", 2),
-        Reserved("S-2", "L1", 8),
-    ],
+    stock: "L1|A-01|10\nL2|A-01|6\nL0|A-01|5",
+    staged: "S-1|L2|4",
+    reserved: "S-1|L2|6\nS-1|L1|2\nS-2|L1|8",
     ..THREE_LOTS
 };
 
 // After all of the first order is picked from two lots.
 const TWO_LOTS_STAGED: Sample = Sample {
     acts: 12,
-    stock: &[Stock("L1", "A-01", 10), Stock("L2", "A-01", 3)],
-    staged: &[Staged("S-1", "L0", 5), Staged("S-1", "L2", 7)],
-    reserved: &[Reserved("S-2", "L2", 3), Reserved("S-2", "L1", 9)],
+    stock: "L1|A-01|10\nL2|A-01|3",
+    staged: "S-1|L0|5\nS-1|L2|7",
+    reserved: "S-2|L2|3\nS-2|L1|9",
     ..THREE_LOTS
 };
 
 // Units of one lot on two stages, and of both in RETURNS, before the last act.
 const ON_TWO_STAGES: Sample = Sample {
     acts: ACTS_MAX - 1,
-    bins: &[Bin("A-01", BinKind::Store), Bin("RETURNS", BinKind::Hold)],
-    lots: &[
-        KnownLot("L1", "2026-06-30", 6, false),
-        KnownLot("L2", "2026-05-31", 7, false),
-    ],
-    stock: &[Stock("L1", "RETURNS", 4), Stock("L2", "RETURNS", 6)],
-    lines: &[Line("S-1", OATS, 3, 0), Line("S-2", OATS, 2, 0)],
-    staged: &[Staged("S-1", "L1", 3), Staged("S-2", "L1", 2)],
-    reserved: &[],
+    bins: "A-01|STORE\nRETURNS|HOLD",
+    lots: "L1|2026-06-30|6|free\nL2|2026-05-31|7|free",
+    stock: "L1|RETURNS|4\nL2|RETURNS|6",
+    lines: "S-1|09506000134352|3|0\nS-2|09506000134352|2|0",
+    staged: "S-1|L1|3\nS-2|L1|2",
+    reserved: "",
     ..TWO_ORDERS
 };
 

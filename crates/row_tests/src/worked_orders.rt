@@ -1,30 +1,20 @@
 // The worked examples of orders: the rows that a command puts and drops, whole.
 
-use crate::samples::{
-    BREAD, Bin, Item, KnownLot, Line, OATS, Ordered, Recalled, Reserved, Sample, Staged, Stock,
-    Taken, Told,
-};
+use crate::samples::{Sample, Told};
 use crate::worked::{OATS_ALONE, ONE_ORDER, THREE_LOTS, TWO_LOTS, TWO_ORDERS, Worked, expect};
 use commands::limits::ACTS_MAX;
-use commands::{BinKind, OrderState};
 
 // Before the last act, two orders of both items. Of the first 4 units are shipped, for the second 3
 // are staged. There is no bread.
 const PARTLY_SERVED: Sample = Sample {
     acts: ACTS_MAX - 1,
-    items: &[Item(OATS, "Oat drink"), Item(BREAD, "Rye bread")],
-    lines: &[
-        Line("S-1", OATS, 12, 4),
-        Line("S-1", BREAD, 7, 0),
-        Line("S-2", OATS, 12, 0),
-        Line("S-2", BREAD, 2, 0),
-    ],
-    staged: &[Staged("S-2", "L2", 3)],
-    reserved: &[
-        Reserved("S-1", "L2", 8),
-        Reserved("S-2", "L2", 2),
-        Reserved("S-2", "L1", 7),
-    ],
+    items: "09506000134352|Oat drink\n04012345000016|Rye bread",
+    lines: "S-1|09506000134352|12|4\n\
+        S-1|04012345000016|7|0\n\
+        S-2|09506000134352|12|0\n\
+        S-2|04012345000016|2|0",
+    staged: "S-2|L2|3",
+    reserved: "S-1|L2|8\nS-2|L2|2\nS-2|L1|7",
     ..TWO_ORDERS
 };
 
@@ -72,21 +62,17 @@ fn cancels_orders(rt: HostRuntime) {
 // After the picking of lot L0, and after that of lot L2: all of S-1 is staged.
 const L0_STAGED: Sample = Sample {
     acts: 11,
-    stock: &[Stock("L1", "A-01", 10), Stock("L2", "A-01", 10)],
-    staged: &[Staged("S-1", "L0", 5)],
-    reserved: &[
-        Reserved("S-1", "L2", 7),
-        Reserved("S-2", "L2", 3),
-        Reserved("S-2", "L1", 9),
-    ],
+    stock: "L1|A-01|10\nL2|A-01|10",
+    staged: "S-1|L0|5",
+    reserved: "S-1|L2|7\nS-2|L2|3\nS-2|L1|9",
     ..THREE_LOTS
 };
 
 const ALL_STAGED: Sample = Sample {
     acts: 12,
-    stock: &[Stock("L1", "A-01", 10), Stock("L2", "A-01", 3)],
-    staged: &[Staged("S-1", "L0", 5), Staged("S-1", "L2", 7)],
-    reserved: &[Reserved("S-2", "L2", 3), Reserved("S-2", "L1", 9)],
+    stock: "L1|A-01|10\nL2|A-01|3",
+    staged: "S-1|L0|5\nS-1|L2|7",
+    reserved: "S-2|L2|3\nS-2|L1|9",
     ..L0_STAGED
 };
 
@@ -124,13 +110,9 @@ static PICKING: [Worked; 4] = [
     Worked {
         before: Sample {
             acts: ACTS_MAX - 1,
-            staged: &[Staged("S-1", "L0", 5), Staged("S-1", "L2", 4)],
-            stock: &[Stock("L1", "A-01", 10), Stock("L2", "A-01", 6)],
-            reserved: &[
-                Reserved("S-1", "L2", 3),
-                Reserved("S-2", "L2", 3),
-                Reserved("S-2", "L1", 9),
-            ],
+            staged: "S-1|L0|5\nS-1|L2|4",
+            stock: "L1|A-01|10\nL2|A-01|6",
+            reserved: "S-1|L2|3\nS-2|L2|3\nS-2|L1|9",
             ..L0_STAGED
         },
         told: Told::Pick("S-1", "L2", "A-01", 2),
@@ -190,52 +172,42 @@ fn puts_units_back(rt: HostRuntime) {
 // HOLD bin too; a held lot, a recalled one, one that expired yesterday, one that expires today.
 const LOTS_OF_ALL_KINDS: Sample = Sample {
     acts: 20,
-    bins: &[Bin("A-01", BinKind::Store), Bin("Q-01", BinKind::Hold)],
-    lots: &[
-        KnownLot("A9", "2026-06-30", 7, false),
-        KnownLot("B1", "2026-06-30", 6, false),
-        KnownLot("L5", "2026-05-05", 8, true),
-        KnownLot("L6", "2026-05-05", 9, false),
-        KnownLot("L7", "2026-05-03", 10, false),
-        KnownLot("L8", "2026-05-04", 11, false),
-    ],
-    recalls: &[Recalled("L6", 5)],
-    stock: &[
-        Stock("A9", "A-01", 5),
-        Stock("B1", "A-01", 5),
-        Stock("B1", "Q-01", 50),
-        Stock("L5", "A-01", 50),
-        Stock("L6", "A-01", 50),
-        Stock("L7", "A-01", 50),
-        Stock("L8", "A-01", 1),
-    ],
+    bins: "A-01|STORE\nQ-01|HOLD",
+    lots: "A9|2026-06-30|7|free\n\
+        B1|2026-06-30|6|free\n\
+        L5|2026-05-05|8|held\n\
+        L6|2026-05-05|9|free\n\
+        L7|2026-05-03|10|free\n\
+        L8|2026-05-04|11|free",
+    recalls: "L6|5",
+    stock: "A9|A-01|5\n\
+        B1|A-01|5\n\
+        B1|Q-01|50\n\
+        L5|A-01|50\n\
+        L6|A-01|50\n\
+        L7|A-01|50\n\
+        L8|A-01|1",
     ..OATS_ALONE
 };
 
 // The two orders, and a second item.
 const TWO_ITEMS: Sample = Sample {
-    items: &[Item(OATS, "Oat drink"), Item(BREAD, "Rye bread")],
+    items: "09506000134352|Oat drink\n04012345000016|Rye bread",
     ..TWO_ORDERS
 };
 
 // 11 units less than open orders may want, and an order that is closed.
 const NEARLY_ALL_ORDERED: Sample = Sample {
     acts: ACTS_MAX - 1,
-    orders: &[
-        Taken("S-2", 8, "Harbour Cafe", OrderState::Open),
-        Taken("S-3", 9, "Harbour Cafe", OrderState::Cancelled),
-    ],
-    lines: &[
-        Line("S-2", OATS, 1_000_000_000, 11),
-        Line("S-3", OATS, 1_000_000, 0),
-    ],
+    orders: "S-2|8|Harbour Cafe|OPEN\nS-3|9|Harbour Cafe|CANCELLED",
+    lines: "S-2|09506000134352|1000000000|11\nS-3|09506000134352|1000000|0",
     ..OATS_ALONE
 };
 
 static ORDERING: [Worked; 5] = [
     Worked {
         before: TWO_LOTS,
-        told: Told::Order("S-1", "Corner Shop", &[Ordered(OATS, 12)]),
+        told: Told::Order("S-1", "Corner Shop", "09506000134352|12"),
         changes: b"meta 2026-05-04 8 0\n\
             put order S-1 8 Corner Shop OPEN\n\
             put line S-1 09506000134352 12 0\n\
@@ -246,7 +218,7 @@ static ORDERING: [Worked; 5] = [
     // The second order gets what is left.
     Worked {
         before: ONE_ORDER,
-        told: Told::Order("S-2", "Harbour Cafe", &[Ordered(OATS, 12)]),
+        told: Told::Order("S-2", "Harbour Cafe", "09506000134352|12"),
         changes: b"meta 2026-05-04 9 0\n\
             put order S-2 9 Harbour Cafe OPEN\n\
             put line S-2 09506000134352 12 0\n\
@@ -257,7 +229,7 @@ static ORDERING: [Worked; 5] = [
     // expired lots are not used, nor is what stands in a HOLD bin.
     Worked {
         before: LOTS_OF_ALL_KINDS,
-        told: Told::Order("S-1", "Corner Shop", &[Ordered(OATS, 20)]),
+        told: Told::Order("S-1", "Corner Shop", "09506000134352|20"),
         changes: b"meta 2026-05-04 21 0\n\
             put order S-1 21 Corner Shop OPEN\n\
             put line S-1 09506000134352 20 0\n\
@@ -269,7 +241,7 @@ static ORDERING: [Worked; 5] = [
     // What both lines are short of, and not what another order is short of.
     Worked {
         before: TWO_ITEMS,
-        told: Told::Order("S-3", "Corner Shop", &[Ordered(OATS, 3), Ordered(BREAD, 7)]),
+        told: Told::Order("S-3", "Corner Shop", "09506000134352|3\n04012345000016|7"),
         changes: b"meta 2026-05-04 10 0\n\
             put order S-3 10 Corner Shop OPEN\n\
             put line S-3 09506000134352 3 0\n\
@@ -278,7 +250,7 @@ static ORDERING: [Worked; 5] = [
     },
     Worked {
         before: NEARLY_ALL_ORDERED,
-        told: Told::Order("S-1", "Corner Shop", &[Ordered(OATS, 11)]),
+        told: Told::Order("S-1", "Corner Shop", "09506000134352|11"),
         changes: b"meta 2026-05-04 1000000000000 0\n\
             put order S-1 1000000000000 Corner Shop OPEN\n\
             put line S-1 09506000134352 11 0\n\
@@ -294,45 +266,37 @@ fn takes_orders(rt: HostRuntime) {
 // After the order S-1 is picked: 5 of lot L0 and 7 of lot L2.
 const PICKED: Sample = Sample {
     acts: 12,
-    lots: &[
-        KnownLot("L1", "2026-06-30", 6, false),
-        KnownLot("L2", "2026-05-31", 7, false),
-        KnownLot("L0", "2026-05-10", 10, false),
-    ],
-    stock: &[Stock("L1", "A-01", 10), Stock("L2", "A-01", 3)],
-    staged: &[Staged("S-1", "L0", 5), Staged("S-1", "L2", 7)],
-    reserved: &[Reserved("S-2", "L2", 3), Reserved("S-2", "L1", 9)],
+    lots: "L1|2026-06-30|6|free\n\
+        L2|2026-05-31|7|free\n\
+        L0|2026-05-10|10|free",
+    stock: "L1|A-01|10\nL2|A-01|3",
+    staged: "S-1|L0|5\nS-1|L2|7",
+    reserved: "S-2|L2|3\nS-2|L1|9",
     ..TWO_ORDERS
 };
 
 // After lot L2 is recalled then.
 const PICKED_AND_RECALLED: Sample = Sample {
     acts: 13,
-    bins: &[Bin("A-01", BinKind::Store), Bin("RETURNS", BinKind::Hold)],
-    recalls: &[Recalled("L2", 5)],
-    stock: &[
-        Stock("L1", "A-01", 10),
-        Stock("L2", "A-01", 3),
-        Stock("L2", "RETURNS", 7),
-    ],
-    staged: &[Staged("S-1", "L0", 5)],
-    reserved: &[Reserved("S-1", "L1", 7), Reserved("S-2", "L1", 3)],
+    bins: "A-01|STORE\nRETURNS|HOLD",
+    recalls: "L2|5",
+    stock: "L1|A-01|10\nL2|A-01|3\nL2|RETURNS|7",
+    staged: "S-1|L0|5",
+    reserved: "S-1|L1|7\nS-2|L1|3",
     ..PICKED
 };
 
 // The rest of an order of two items, the other of which is shipped. Lot L1 is on two stages.
 const REST_STAGED: Sample = Sample {
     acts: ACTS_MAX - 1,
-    items: &[Item(OATS, "Oat drink"), Item(BREAD, "Rye bread")],
-    bins: &[Bin("A-01", BinKind::Store), Bin("Q-01", BinKind::Hold)],
-    stock: &[Stock("L1", "A-01", 2), Stock("L1", "Q-01", 1)],
-    lines: &[
-        Line("S-1", BREAD, 3, 3),
-        Line("S-2", OATS, 5, 0),
-        Line("S-1", OATS, 10, 4),
-    ],
-    staged: &[Staged("S-2", "L1", 5), Staged("S-1", "L1", 6)],
-    reserved: &[],
+    items: "09506000134352|Oat drink\n04012345000016|Rye bread",
+    bins: "A-01|STORE\nQ-01|HOLD",
+    stock: "L1|A-01|2\nL1|Q-01|1",
+    lines: "S-1|04012345000016|3|3\n\
+        S-2|09506000134352|5|0\n\
+        S-1|09506000134352|10|4",
+    staged: "S-2|L1|5\nS-1|L1|6",
+    reserved: "",
     ..TWO_ORDERS
 };
 

@@ -8,10 +8,10 @@ use Rattle.table_words.specs.Schema.{schema_0, the_schema}
 use Rattle.store.specs.Connected.{Connected}
 use Rattle.store.specs.Books.{AreRowsOf, KeepsBooks}
 use Rattle.house.specs.House.{Run, StepsTo, RunsTo}
-use Rattle.service.specs.declared.fault.Fault.{Fault}
-use Rattle.service.specs.declared.fault.Fault.TheVariants.{Foreign}
-use Rattle.service.specs.declared.running.Work.{Work}
-use Rattle.service.specs.declared.running.Work.TheVariants.{Make, Serve}
+use Rattle.command_line.specs.declared.fault.Fault.{Fault}
+use Rattle.command_line.specs.declared.fault.Fault.TheVariants.{Foreign}
+use Rattle.command_line.specs.declared.running.Work.{Work}
+use Rattle.command_line.specs.declared.running.Work.TheVariants.{Make, Serve}
 
 -- the books are as they were, or one step over some text further
 abbrev pub GoesOn : {S : Type 0} → Ghosts S → ℤ → List Act → Connected S → Connected S → Type 0

@@ -9,9 +9,8 @@ ghost use Rattle.store.specs.Books.{AreRowsOf, KeepsBooks, HoldsBooks, IsClean};
 ghost use Rattle.house.specs.House.{books_of};
 ghost use Rattle.service.specs.Serving.{HasServed, KeepsRun, IsWorked, IsJudged};
 
-use crate::fault::Fault;
-use crate::running::Work;
 use crate::serve::serve_on;
+use command_line::{Fault, Work};
 use house::House;
 use label::BusinessDay;
 use sqlite::{Alter, Connection};

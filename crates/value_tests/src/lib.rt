@@ -1,4 +1,4 @@
-//! The tests of what commands are made of: of values, labels, plans and commands.
+//! The tests of what commands are made of, of values, labels, plans and commands, and of the program's lines.
 //!
 //! They are a crate of their own, since the tests of a crate are proved together with all of that crate once more.
 #![tactic(auto)]
@@ -7,6 +7,8 @@
 mod commands_tests;
 #[cfg(test)]
 mod label_tests;
+#[cfg(test)]
+mod lines_tests;
 #[cfg(test)]
 mod plan_tests;
 #[cfg(test)]

@@ -3,7 +3,7 @@ use Rattle.std.specs.Prelude.{IfOk}
 use Rattle.sqlite.specs.Held.{state}
 use Rattle.sqlite.specs.State.{HasCleanDisk}
 use Rattle.service.specs.Serving.{IsWorked, IsJudged}
-use Rattle.service.specs.declared.running.Work.TheVariants.{Make, Serve}
+use Rattle.command_line.specs.declared.running.Work.TheVariants.{Make, Serve}
 use Rattle.service.proofs.books_lines.worked.Goals as goal
 
 pub returns-in-Make-clause-judged : goal.returns-in-Make-clause-judged

@@ -6,8 +6,8 @@ use Rattle.values.specs.Faults.{fault_code}
 use Rattle.label.specs.Labels.{label_read}
 use Rattle.values.specs.declared.fault.LabelFault.{LabelFault}
 use Rattle.label.specs.declared.gs1.Label.{Label as LabelSaid}
-use Rattle.service.specs.declared.fault.Fault.{Fault}
-use Rattle.service.specs.declared.fault.Fault.TheVariants.{Usage, Label, Value, Io, Store, Foreign}
+use Rattle.command_line.specs.declared.fault.Fault.{Fault}
+use Rattle.command_line.specs.declared.fault.Fault.TheVariants.{Usage, Label, Value, Io, Store, Foreign}
 
 -- what `lotd label` prints
 abbrev pub label_lines : LabelSaid → List ℕ

@@ -1,5 +1,5 @@
 -- What is written piece after piece.
-use Rattle.std.proofs.Common.{◌≡◌, ◌++◌, ℕ, List, Option, sym, subst}
+use Rattle.std.proofs.Common.{◌≡◌, ◌++◌, ℕ, List, Option, subst}
 use Rattle.std.specs.Io.KnownBytes.{Appends}
 use Rattle.std.proofs.KnownBytes.{Appends-trans}
 

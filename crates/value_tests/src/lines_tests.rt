@@ -1,6 +1,6 @@
 //! The lines of the program that need no books.
 
-use service::{BooksAt, Fault, Work, run};
+use command_line::{BooksAt, Fault, Work, run};
 use std::alloc::Global;
 use std::io;
 use std::io::Write;

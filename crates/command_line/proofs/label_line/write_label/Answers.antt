@@ -1,8 +1,8 @@
 use Rattle.std.specs.Prelude.{codes}
 use Rattle.std.proofs.lemmas.Result.{on_ok_weaker}
 use Rattle.label.specs.Days.{day_text}
-use Rattle.service.proofs.Printing.{seven_written}
-use Rattle.service.proofs.label_line.write_label.Goals as goal
+use Rattle.command_line.proofs.Printing.{seven_written}
+use Rattle.command_line.proofs.label_line.write_label.Goals as goal
 
 pub returns : goal.returns
 returns g c =

@@ -1,8 +1,8 @@
 ghost use Rattle.std.specs.Prelude.{◌≤◌};
 
-use crate::command_line::{Line, read_line};
 use crate::fault::Fault;
 use crate::label_line::{first_day, print_label};
+use crate::words::{Line, read_line};
 use clap::Error;
 use label::BusinessDay;
 use std::alloc::Global;

@@ -23,7 +23,7 @@ pub enum Fault {
 }
 
 impl Fault {
-    ghost use Rattle.service.specs.Lines.{told_code};
+    ghost use Rattle.command_line.specs.Lines.{told_code};
 
     /// What is told on standard error after `lotd: `.
     pub(crate) fn code(&self) -> &'static str

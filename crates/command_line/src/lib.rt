@@ -1,0 +1,10 @@
+//! The lines of the program `lotd`: its words, what each line asks for, and what is told.
+#![tactic(auto)]
+
+mod fault;
+mod label_line;
+mod running;
+mod words;
+
+pub use fault::Fault;
+pub use running::{BooksAt, DONE, MISUSED, REFUSED, Work, run, tell, tell_words};

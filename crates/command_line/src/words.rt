@@ -1,0 +1,223 @@
+use clap::{Arg, ArgAction, ArgMatches, Command, Error, value_parser};
+use std::alloc::{AllocError, Global};
+use std::convert::AsStr;
+
+/// A line of the program, with its words as they were given.
+#[derive(Clone, Copy)]
+pub enum Line<'a> {
+    /// `lotd label --day DATE TEXT`: what the label TEXT says on that business day.
+    Label { day: &'a str, text: &'a str },
+    /// `lotd init --db PATH --day DATE`: makes books in the file PATH that begin on that business day.
+    Init { db: &'a str, day: &'a str },
+    /// `lotd serve --db PATH --port N --max M`: answers M connections to the port N of 127.0.0.1.
+    Serve { db: &'a str, port: u16, max: u32 },
+    /// No line that the program has. `clap` refuses such words before.
+    Unknown,
+}
+
+/// What a value on a line is.
+#[derive(Clone, Copy)]
+enum Kind {
+    /// A text without a name.
+    Bare,
+    /// A text after `--` and its name.
+    Named,
+    /// A port that takes no privilege, after `--` and its name.
+    Port,
+    /// How many connections are answered before the end, after `--` and its name.
+    Connections,
+}
+
+/// A value on a line.
+struct Value {
+    id: &'static str,
+    stands_for: &'static str,
+    help: &'static str,
+    kind: Kind,
+}
+
+/// A line of the program: its first word, and what stands after it.
+struct Words {
+    name: &'static str,
+    about: &'static str,
+    examples: &'static str,
+    values: &'static [Value],
+}
+
+const EXAMPLES: &str = "Examples:
+  lotd init --db stock.db --day 2026-05-04
+  lotd serve --db stock.db --port 8080 --max 1000
+  lotd label --day 2026-05-04 ']C101095060001343521726093010AB12'";
+
+static LINES: [Words; 3] = [
+    Words {
+        name: "init",
+        about: "Make new books",
+        examples: "Example:\n  lotd init --db stock.db --day 2026-05-04",
+        values: &[
+            Value {
+                id: "db",
+                stands_for: "PATH",
+                help: "The file of the books",
+                kind: Kind::Named,
+            },
+            Value {
+                id: "day",
+                stands_for: "DATE",
+                help: "The first business day, as 2026-05-04",
+                kind: Kind::Named,
+            },
+        ],
+    },
+    Words {
+        name: "serve",
+        about: "Answer the requests of scanners, one connection after another",
+        examples: "Example:\n  lotd serve --db stock.db --port 8080 --max 1000",
+        values: &[
+            Value {
+                id: "db",
+                stands_for: "PATH",
+                help: "The file of the books",
+                kind: Kind::Named,
+            },
+            Value {
+                id: "port",
+                stands_for: "N",
+                help: "The port on 127.0.0.1, 1024 to 65535",
+                kind: Kind::Port,
+            },
+            Value {
+                id: "max",
+                stands_for: "M",
+                help: "How many connections to serve before the end, 1 to 1000000",
+                kind: Kind::Connections,
+            },
+        ],
+    },
+    Words {
+        name: "label",
+        about: "Print the GTIN, the lot and the expiry day of a GS1 label",
+        examples: "Examples:
+  lotd label --day 2026-05-04 ']C101095060001343521726093010AB12'
+  lotd label --day 2026-05-04 \"$(printf '010950600013435210AB12\\03517260930')\"
+
+Between a lot that is not last and the next element stands byte 29 (octal 035).
+A TEXT that begins with a dash goes after two dashes: lotd label --day DATE -- TEXT",
+        values: &[
+            Value {
+                id: "day",
+                stands_for: "DATE",
+                help: "The business day, as 2026-05-04",
+                kind: Kind::Named,
+            },
+            Value {
+                id: "text",
+                stands_for: "TEXT",
+                help: "The text of the label, as a scanner gives it",
+                kind: Kind::Bare,
+            },
+        ],
+    },
+];
+
+/// Reads the words of a line, the program's name first. The error is what `clap` says of words that
+/// are no line, or the help that was asked for; its kind is `OutOfMemory` where no memory was left.
+pub(crate) fn read_line<'a, S: AsStr>(alloc: Global, words: &'a [S]) -> Result<Line<'a>, Error> {
+    let matches = program(alloc)?.try_get_matches_from(words)?;
+    let line = line_found(&matches);
+    // A call: dropped at the end of its scope it is dropped field by field (docs/GATE.md).
+    drop(matches);
+    Ok(line)
+}
+
+fn line_found<'a>(matches: &ArgMatches<'a>) -> Line<'a> {
+    match matches.subcommand() {
+        Some(("label", found)) => label_line(found),
+        Some(("init", found)) => init_line(found),
+        Some(("serve", found)) => serve_line(found),
+        _ => Line::Unknown,
+    }
+}
+
+fn label_line<'a>(found: &ArgMatches<'a>) -> Line<'a> {
+    match (found.get_str("day"), found.get_str("text")) {
+        (Some(day), Some(text)) => Line::Label { day, text },
+        _ => Line::Unknown,
+    }
+}
+
+fn init_line<'a>(found: &ArgMatches<'a>) -> Line<'a> {
+    match (found.get_str("db"), found.get_str("day")) {
+        (Some(db), Some(day)) => Line::Init { db, day },
+        _ => Line::Unknown,
+    }
+}
+
+fn serve_line<'a>(found: &ArgMatches<'a>) -> Line<'a> {
+    let (port, max) = (found.get_one::<u16>("port"), found.get_one::<u32>("max"));
+    match (found.get_str("db"), port, max) {
+        (Some(db), Some(port), Some(max)) => Line::Serve { db, port, max },
+        _ => Line::Unknown,
+    }
+}
+
+fn program<'a>(alloc: Global) -> Result<Command<'a>, AllocError> {
+    let mut program = bare_program(alloc);
+    for line in LINES.as_slice() {
+        program = with_subcommand(program, subcommand(alloc, line))?;
+    }
+    Ok(program)
+}
+
+fn bare_program<'a>(alloc: Global) -> Command<'a> {
+    Command::new(alloc, "lotd")
+        .about("Lot stock: the stock of a food wholesaler, lot by lot")
+        .after_help(EXAMPLES)
+        .subcommand_required(true)
+}
+
+fn with_subcommand<'a>(
+    program: Command<'a>,
+    subcommand: Result<Command<'a>, AllocError>,
+) -> Result<Command<'a>, AllocError> {
+    match subcommand {
+        Ok(subcommand) => program.subcommand(subcommand),
+        Err(error) => {
+            // (as `matches` above)
+            drop(program);
+            Err(error)
+        }
+    }
+}
+
+fn subcommand<'a>(alloc: Global, line: &'static Words) -> Result<Command<'a>, AllocError> {
+    let mut command = Command::new(alloc, line.name)
+        .about(line.about)
+        .after_help(line.examples);
+    for value in line.values {
+        command = command.arg(arg(alloc, value))?;
+    }
+    Ok(command)
+}
+
+fn arg<'a>(alloc: Global, value: &'static Value) -> Arg<'a> {
+    let arg = Arg::new(alloc, value.id)
+        .value_name(value.stands_for)
+        .help(value.help)
+        .required(true)
+        .action(ArgAction::Set);
+    of_kind(arg, value)
+}
+
+fn of_kind<'a>(arg: Arg<'a>, value: &'static Value) -> Arg<'a> {
+    match value.kind {
+        Kind::Bare => arg,
+        Kind::Named => arg.long(value.id),
+        Kind::Port => arg
+            .long(value.id)
+            .value_parser(value_parser!(u16).range(1024..=65535)),
+        Kind::Connections => arg
+            .long(value.id)
+            .value_parser(value_parser!(u32).range(1..=1_000_000)),
+    }
+}
