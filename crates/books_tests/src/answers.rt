@@ -7,7 +7,7 @@ use crate::table::Table;
 use house::laws;
 
 // Texts that are no request, or ask for what is not served, and labels that are refused.
-pub(crate) static NO_REQUESTS: [(&str, &str); 7] = [
+pub(crate) static NO_REQUESTS: [(&str, &str); 8] = [
     (
         "POST /items HTTP/1.1\r\nContent-Length: 56\r\n\r\n{\"key\":\"K-1\",\"gtin\":\"09506000134352\",\"name\":\"Oat drink\"",
         "HTTP/1.1 400 Bad Request\r\ncontent-type: application/json\r\ncontent-length: 14\r\nconnection: close\r\n\r\n{\"code\":\"W02\"}",
@@ -25,6 +25,10 @@ pub(crate) static NO_REQUESTS: [(&str, &str); 7] = [
         "HTTP/1.1 405 Method Not Allowed\r\ncontent-type: application/json\r\ncontent-length: 14\r\nconnection: close\r\nallow: POST\r\n\r\n{\"code\":\"W07\"}",
     ),
     (
+        "GET /picks HTTP/1.1\r\n\r\n",
+        "HTTP/1.1 405 Method Not Allowed\r\ncontent-type: application/json\r\ncontent-length: 14\r\nconnection: close\r\nallow: POST\r\n\r\n{\"code\":\"W07\"}",
+    ),
+    (
         "GET /picklists/S-1 HTTP/1.1\r\n\r\n",
         "HTTP/1.1 404 Not Found\r\ncontent-type: application/json\r\ncontent-length: 14\r\nconnection: close\r\n\r\n{\"code\":\"W06\"}",
     ),
@@ -39,121 +43,53 @@ pub(crate) static NO_REQUESTS: [(&str, &str); 7] = [
 ];
 
 // Two items and three bins.
-pub(crate) static GOODS_AND_BINS: [(&str, &str); 5] = [
-    (
-        "POST /items HTTP/1.1\r\nContent-Length: 56\r\n\r\n{\"key\":\"K-1\",\"gtin\":\"09506000134352\",\"name\":\"Oat drink\"}",
-        "HTTP/1.1 200 OK\r\ncontent-type: application/json\r\ncontent-length: 9\r\nconnection: close\r\n\r\n{\"act\":1}",
-    ),
-    (
-        "POST /items HTTP/1.1\r\nContent-Length: 56\r\n\r\n{\"key\":\"K-2\",\"gtin\":\"04012345000016\",\"name\":\"Rye bread\"}",
-        "HTTP/1.1 200 OK\r\ncontent-type: application/json\r\ncontent-length: 9\r\nconnection: close\r\n\r\n{\"act\":2}",
-    ),
-    (
-        "POST /bins HTTP/1.1\r\nContent-Length: 41\r\n\r\n{\"key\":\"K-3\",\"bin\":\"A-01\",\"kind\":\"STORE\"}",
-        "HTTP/1.1 200 OK\r\ncontent-type: application/json\r\ncontent-length: 9\r\nconnection: close\r\n\r\n{\"act\":3}",
-    ),
-    (
-        "POST /bins HTTP/1.1\r\nContent-Length: 41\r\n\r\n{\"key\":\"K-4\",\"bin\":\"A-02\",\"kind\":\"STORE\"}",
-        "HTTP/1.1 200 OK\r\ncontent-type: application/json\r\ncontent-length: 9\r\nconnection: close\r\n\r\n{\"act\":4}",
-    ),
-    (
-        "POST /bins HTTP/1.1\r\nContent-Length: 40\r\n\r\n{\"key\":\"K-5\",\"bin\":\"Q-01\",\"kind\":\"HOLD\"}",
-        "HTTP/1.1 200 OK\r\ncontent-type: application/json\r\ncontent-length: 9\r\nconnection: close\r\n\r\n{\"act\":5}",
-    ),
-];
+pub(crate) static GOODS_AND_BINS: &str = r#"
+POST /items {"key":"K-1","gtin":"09506000134352","name":"Oat drink"} => 200 {"act":1}
+POST /items {"key":"K-2","gtin":"04012345000016","name":"Rye bread"} => 200 {"act":2}
+POST /bins {"key":"K-3","bin":"A-01","kind":"STORE"} => 200 {"act":3}
+POST /bins {"key":"K-4","bin":"A-02","kind":"STORE"} => 200 {"act":4}
+POST /bins {"key":"K-5","bin":"Q-01","kind":"HOLD"} => 200 {"act":5}
+"#;
 
 // What is refused on these: a lot that is expired, and an order that nobody placed.
-pub(crate) static REFUSED: [(&str, &str); 2] = [
-    (
-        "POST /receipts HTTP/1.1\r\nContent-Length: 90\r\n\r\n{\"delivery\":\"D-0\",\"line\":1,\"label\":\"01095060001343521777010110AB12\",\"bin\":\"A-01\",\"qty\":10}",
-        "HTTP/1.1 409 Conflict\r\ncontent-type: application/json\r\ncontent-length: 14\r\nconnection: close\r\n\r\n{\"code\":\"S02\"}",
-    ),
-    (
-        "GET /orders/S-1 HTTP/1.1\r\n\r\n",
-        "HTTP/1.1 404 Not Found\r\ncontent-type: application/json\r\ncontent-length: 14\r\nconnection: close\r\n\r\n{\"code\":\"U04\"}",
-    ),
-];
+pub(crate) static REFUSED: &str = r#"
+POST /receipts {"delivery":"D-0","line":1,"label":"01095060001343521777010110AB12","bin":"A-01","qty":10} => 409 {"code":"S02"}
+GET /orders/S-1 => 404 {"code":"U04"}
+"#;
 
 // The stock of an item with no lot, of one whose number is spelled with an escape, and of one that
 // nobody took into the range.
-pub(crate) static STOCK_BEFORE: [(&str, &str); 3] = [
-    (
-        "GET /stock/04012345000016 HTTP/1.1\r\n\r\n",
-        "HTTP/1.1 200 OK\r\ncontent-type: application/json\r\ncontent-length: 54\r\nconnection: close\r\n\r\n{\"gtin\":\"04012345000016\",\"lots\":[],\"name\":\"Rye bread\"}",
-    ),
-    (
-        "GET /stock/0401234500001%36 HTTP/1.1\r\n\r\n",
-        "HTTP/1.1 200 OK\r\ncontent-type: application/json\r\ncontent-length: 54\r\nconnection: close\r\n\r\n{\"gtin\":\"04012345000016\",\"lots\":[],\"name\":\"Rye bread\"}",
-    ),
-    (
-        "GET /stock/04012345000023 HTTP/1.1\r\n\r\n",
-        "HTTP/1.1 404 Not Found\r\ncontent-type: application/json\r\ncontent-length: 14\r\nconnection: close\r\n\r\n{\"code\":\"U01\"}",
-    ),
-];
+pub(crate) static STOCK_BEFORE: &str = r#"
+GET /stock/04012345000016 => 200 {"gtin":"04012345000016","lots":[],"name":"Rye bread"}
+GET /stock/0401234500001%36 => 200 {"gtin":"04012345000016","lots":[],"name":"Rye bread"}
+GET /stock/04012345000023 => 404 {"code":"U01"}
+"#;
 
 // The stock after the first receipt, and after all that the two customers ordered.
-pub(crate) static STOCK_OF_ONE_LOT: [(&str, &str); 1] = [(
-    "GET /stock/09506000134352 HTTP/1.1\r\n\r\n",
-    "HTTP/1.1 200 OK\r\ncontent-type: application/json\r\ncontent-length: 161\r\nconnection: close\r\n\r\n{\"gtin\":\"09506000134352\",\"lots\":[{\"bins\":[{\"bin\":\"A-01\",\"qty\":10}],\"expiry\":\"2026-06-30\",\"lot\":\"L1\",\"reserved\":0,\"staged\":0,\"status\":\"FREE\"}],\"name\":\"Oat drink\"}",
-)];
+pub(crate) static STOCK_OF_ONE_LOT: &str = r#"
+GET /stock/09506000134352 => 200 {"gtin":"09506000134352","lots":[{"bins":[{"bin":"A-01","qty":10}],"expiry":"2026-06-30","lot":"L1","reserved":0,"staged":0,"status":"FREE"}],"name":"Oat drink"}
+"#;
 
-pub(crate) static STOCK_OF_THREE_LOTS: [(&str, &str); 1] = [(
-    "GET /stock/09506000134352 HTTP/1.1\r\n\r\n",
-    "HTTP/1.1 200 OK\r\ncontent-type: application/json\r\ncontent-length: 377\r\nconnection: close\r\n\r\n{\"gtin\":\"09506000134352\",\"lots\":[{\"bins\":[{\"bin\":\"A-01\",\"qty\":5}],\"expiry\":\"2026-05-10\",\"lot\":\"L0\",\"reserved\":5,\"staged\":0,\"status\":\"FREE\"},{\"bins\":[{\"bin\":\"A-01\",\"qty\":10}],\"expiry\":\"2026-05-31\",\"lot\":\"L2\",\"reserved\":10,\"staged\":0,\"status\":\"FREE\"},{\"bins\":[{\"bin\":\"A-01\",\"qty\":10}],\"expiry\":\"2026-06-30\",\"lot\":\"L1\",\"reserved\":9,\"staged\":0,\"status\":\"FREE\"}],\"name\":\"Oat drink\"}",
-)];
+pub(crate) static STOCK_OF_THREE_LOTS: &str = r#"
+GET /stock/09506000134352 => 200 {"gtin":"09506000134352","lots":[{"bins":[{"bin":"A-01","qty":5}],"expiry":"2026-05-10","lot":"L0","reserved":5,"staged":0,"status":"FREE"},{"bins":[{"bin":"A-01","qty":10}],"expiry":"2026-05-31","lot":"L2","reserved":10,"staged":0,"status":"FREE"},{"bins":[{"bin":"A-01","qty":10}],"expiry":"2026-06-30","lot":"L1","reserved":9,"staged":0,"status":"FREE"}],"name":"Oat drink"}
+"#;
 
 // Two deliveries and two customers; the last receipt comes again, and then with another quantity.
-pub(crate) static TWO_CUSTOMERS: [(&str, &str); 11] = [
-    (
-        "POST /receipts HTTP/1.1\r\nContent-Length: 88\r\n\r\n{\"delivery\":\"D-1\",\"line\":1,\"label\":\"01095060001343521726063010L1\",\"bin\":\"A-01\",\"qty\":10}",
-        "HTTP/1.1 200 OK\r\ncontent-type: application/json\r\ncontent-length: 9\r\nconnection: close\r\n\r\n{\"act\":6}",
-    ),
-    (
-        "POST /receipts HTTP/1.1\r\nContent-Length: 88\r\n\r\n{\"delivery\":\"D-1\",\"line\":2,\"label\":\"01095060001343521726053110L2\",\"bin\":\"A-01\",\"qty\":10}",
-        "HTTP/1.1 200 OK\r\ncontent-type: application/json\r\ncontent-length: 9\r\nconnection: close\r\n\r\n{\"act\":7}",
-    ),
-    (
-        "POST /orders HTTP/1.1\r\nContent-Length: 97\r\n\r\n{\"key\":\"K-8\",\"order\":\"S-1\",\"customer\":\"Corner Shop\",\"lines\":[{\"gtin\":\"09506000134352\",\"qty\":12}]}",
-        "HTTP/1.1 200 OK\r\ncontent-type: application/json\r\ncontent-length: 19\r\nconnection: close\r\n\r\n{\"act\":8,\"short\":0}",
-    ),
-    (
-        "GET /orders/S-1 HTTP/1.1\r\n\r\n",
-        "HTTP/1.1 200 OK\r\ncontent-type: application/json\r\ncontent-length: 194\r\nconnection: close\r\n\r\n{\"customer\":\"Corner Shop\",\"lines\":[{\"gtin\":\"09506000134352\",\"ordered\":12,\"reserved\":[{\"lot\":\"L2\",\"qty\":10},{\"lot\":\"L1\",\"qty\":2}],\"shipped\":0,\"short\":0,\"staged\":[]}],\"order\":\"S-1\",\"state\":\"OPEN\"}",
-    ),
-    (
-        "POST /orders HTTP/1.1\r\nContent-Length: 98\r\n\r\n{\"key\":\"K-9\",\"order\":\"S-2\",\"customer\":\"Harbour Cafe\",\"lines\":[{\"gtin\":\"09506000134352\",\"qty\":12}]}",
-        "HTTP/1.1 200 OK\r\ncontent-type: application/json\r\ncontent-length: 19\r\nconnection: close\r\n\r\n{\"act\":9,\"short\":4}",
-    ),
-    (
-        "GET /orders/S-2 HTTP/1.1\r\n\r\n",
-        "HTTP/1.1 200 OK\r\ncontent-type: application/json\r\ncontent-length: 173\r\nconnection: close\r\n\r\n{\"customer\":\"Harbour Cafe\",\"lines\":[{\"gtin\":\"09506000134352\",\"ordered\":12,\"reserved\":[{\"lot\":\"L1\",\"qty\":8}],\"shipped\":0,\"short\":4,\"staged\":[]}],\"order\":\"S-2\",\"state\":\"OPEN\"}",
-    ),
-    (
-        "POST /receipts HTTP/1.1\r\nContent-Length: 87\r\n\r\n{\"delivery\":\"D-2\",\"line\":1,\"label\":\"01095060001343521726051010L0\",\"bin\":\"A-01\",\"qty\":5}",
-        "HTTP/1.1 200 OK\r\ncontent-type: application/json\r\ncontent-length: 10\r\nconnection: close\r\n\r\n{\"act\":10}",
-    ),
-    (
-        "GET /orders/S-1 HTTP/1.1\r\n\r\n",
-        "HTTP/1.1 200 OK\r\ncontent-type: application/json\r\ncontent-length: 193\r\nconnection: close\r\n\r\n{\"customer\":\"Corner Shop\",\"lines\":[{\"gtin\":\"09506000134352\",\"ordered\":12,\"reserved\":[{\"lot\":\"L0\",\"qty\":5},{\"lot\":\"L2\",\"qty\":7}],\"shipped\":0,\"short\":0,\"staged\":[]}],\"order\":\"S-1\",\"state\":\"OPEN\"}",
-    ),
-    (
-        "GET /orders/S-2 HTTP/1.1\r\n\r\n",
-        "HTTP/1.1 200 OK\r\ncontent-type: application/json\r\ncontent-length: 194\r\nconnection: close\r\n\r\n{\"customer\":\"Harbour Cafe\",\"lines\":[{\"gtin\":\"09506000134352\",\"ordered\":12,\"reserved\":[{\"lot\":\"L2\",\"qty\":3},{\"lot\":\"L1\",\"qty\":9}],\"shipped\":0,\"short\":0,\"staged\":[]}],\"order\":\"S-2\",\"state\":\"OPEN\"}",
-    ),
-    (
-        "POST /receipts HTTP/1.1\r\nContent-Length: 87\r\n\r\n{\"delivery\":\"D-2\",\"line\":1,\"label\":\"01095060001343521726051010L0\",\"bin\":\"A-01\",\"qty\":5}",
-        "HTTP/1.1 200 OK\r\ncontent-type: application/json\r\ncontent-length: 10\r\nconnection: close\r\n\r\n{\"act\":10}",
-    ),
-    (
-        "POST /receipts HTTP/1.1\r\nContent-Length: 87\r\n\r\n{\"delivery\":\"D-2\",\"line\":1,\"label\":\"01095060001343521726051010L0\",\"bin\":\"A-01\",\"qty\":6}",
-        "HTTP/1.1 409 Conflict\r\ncontent-type: application/json\r\ncontent-length: 14\r\nconnection: close\r\n\r\n{\"code\":\"K01\"}",
-    ),
-];
+pub(crate) static TWO_CUSTOMERS: &str = r#"
+POST /receipts {"delivery":"D-1","line":1,"label":"01095060001343521726063010L1","bin":"A-01","qty":10} => 200 {"act":6}
+POST /receipts {"delivery":"D-1","line":2,"label":"01095060001343521726053110L2","bin":"A-01","qty":10} => 200 {"act":7}
+POST /orders {"key":"K-8","order":"S-1","customer":"Corner Shop","lines":[{"gtin":"09506000134352","qty":12}]} => 200 {"act":8,"short":0}
+GET /orders/S-1 => 200 {"customer":"Corner Shop","lines":[{"gtin":"09506000134352","ordered":12,"reserved":[{"lot":"L2","qty":10},{"lot":"L1","qty":2}],"shipped":0,"short":0,"staged":[]}],"order":"S-1","state":"OPEN"}
+POST /orders {"key":"K-9","order":"S-2","customer":"Harbour Cafe","lines":[{"gtin":"09506000134352","qty":12}]} => 200 {"act":9,"short":4}
+GET /orders/S-2 => 200 {"customer":"Harbour Cafe","lines":[{"gtin":"09506000134352","ordered":12,"reserved":[{"lot":"L1","qty":8}],"shipped":0,"short":4,"staged":[]}],"order":"S-2","state":"OPEN"}
+POST /receipts {"delivery":"D-2","line":1,"label":"01095060001343521726051010L0","bin":"A-01","qty":5} => 200 {"act":10}
+GET /orders/S-1 => 200 {"customer":"Corner Shop","lines":[{"gtin":"09506000134352","ordered":12,"reserved":[{"lot":"L0","qty":5},{"lot":"L2","qty":7}],"shipped":0,"short":0,"staged":[]}],"order":"S-1","state":"OPEN"}
+GET /orders/S-2 => 200 {"customer":"Harbour Cafe","lines":[{"gtin":"09506000134352","ordered":12,"reserved":[{"lot":"L2","qty":3},{"lot":"L1","qty":9}],"shipped":0,"short":0,"staged":[]}],"order":"S-2","state":"OPEN"}
+POST /receipts {"delivery":"D-2","line":1,"label":"01095060001343521726051010L0","bin":"A-01","qty":5} => 200 {"act":10}
+POST /receipts {"delivery":"D-2","line":1,"label":"01095060001343521726051010L0","bin":"A-01","qty":6} => 409 {"code":"K01"}
+"#;
 
-static NO_REQUESTS_ANSWERED: [&[Step]; 1] = [&[
-    Step::NewHouse(&[Asked::Each(Table::NoRequests)]),
-    Step::Open,
-]];
+static NO_REQUESTS_ANSWERED: [&[Step]; 1] = [&[Step::NewHouse(&[Asked::NoRequests]), Step::Open]];
 
 #[test]
 fn answers_what_is_no_request(rt: HostRuntime) {
@@ -176,9 +112,9 @@ fn answers_the_two_customers(rt: HostRuntime) {
 static STOCK_SHOWN: [&[Step]; 1] = [&[Step::NewHouse(&[
     Asked::Each(Table::GoodsAndBins),
     Asked::Each(Table::StockBefore),
-    Asked::Each(Table::FirstReceipt),
+    Asked::Part(Table::TwoCustomers, 0, 1),
     Asked::Each(Table::StockOfOneLot),
-    Asked::Each(Table::AfterFirstReceipt),
+    Asked::Part(Table::TwoCustomers, 1, 10),
     Asked::Each(Table::StockOfThreeLots),
 ])]];
 
@@ -197,7 +133,7 @@ fn answers_all_in_turn(rt: HostRuntime) {
     run(&rt, rt.alloc(), ANSWERED_IN_TURN.as_slice());
 }
 
-static SERVED: [&[Step]; 1] = [&[Step::NewHouse(&[Asked::Served(Table::NoRequests)])]];
+static SERVED: [&[Step]; 1] = [&[Step::NewHouse(&[Asked::NoRequestsServed])]];
 
 #[test]
 fn serves_one(rt: HostRuntime) {

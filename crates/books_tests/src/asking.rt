@@ -1,7 +1,9 @@
 //! A house over a connection is asked, and its answers are compared.
 
+use crate::answers::NO_REQUESTS;
+use crate::exchange::{answer, request};
 use crate::opening::{books_of, new_books};
-use crate::table::{Rows, Table};
+use crate::table::Table;
 use house::{Answered, House, ServeFault};
 use sqlite::{Alter, Connection};
 use std::alloc::Global;
@@ -9,65 +11,101 @@ use std::process::Abort;
 
 #[derive(Clone, Copy)]
 pub(crate) enum Asked {
-    /// Each text gets its answer.
+    /// Each exchange of the table.
     Each(Table),
-    /// All texts get their answers by one call.
+    /// Exchanges of the table: the index of the first, and how many.
+    Part(Table, usize, usize),
+    /// All requests of the table by one call.
     All(Table),
-    /// Each text is read from a reader, and its answer written to a writer.
-    Served(Table),
+    /// Each text that is no request.
+    NoRequests,
+    /// Each of them read from a reader, and its answer written to a writer.
+    NoRequestsServed,
     /// The writer takes less than the answer.
     FullWriter,
 }
 
-fn is_answer(rt: &impl Abort, found: &[u8], row: &(&str, &str)) {
-    assert!(rt; found == row.1.as_bytes(), "{:?}", row.0);
+/// What was answered is this; `asked` tells where it is not.
+fn is_answer(rt: &impl Abort, found: &[u8], asked: &str, expected: &str) {
+    assert!(rt; found == expected.as_bytes(), "{asked:?}");
 }
 
-fn is_answered<S: Alter>(rt: &impl Abort, house: &mut House<S>, row: &(&str, &str)) {
-    let answer = house.answer(row.0.as_bytes());
-    is_answer(rt, answer.as_bytes(), row);
+fn is_answered<S: Alter>(rt: &impl Abort, house: &mut House<S>, asked: &str, expected: &str) {
+    let found = house.answer(asked.as_bytes());
+    is_answer(rt, found.as_bytes(), asked, expected);
 }
 
-fn each<S: Alter>(rt: &impl Abort, house: &mut House<S>, rows: Rows) {
-    for row in rows {
-        is_answered(rt, house, row);
+/// The house answers as the exchange says.
+fn exchanges<S: Alter>(rt: &impl Abort, alloc: Global, house: &mut House<S>, line: &str) {
+    let asked = request(rt, alloc, line);
+    let expected = answer(rt, alloc, line);
+    is_answered(rt, house, asked.as_str(), expected.as_str());
+}
+
+fn part<S: Alter>(
+    rt: &impl Abort,
+    alloc: Global,
+    house: &mut House<S>,
+    table: Table,
+    first: usize,
+    count: usize,
+) {
+    for line in table.lines().skip(first).take(count) {
+        exchanges(rt, alloc, house, line);
     }
 }
 
-fn texts(rt: &impl Abort, alloc: Global, rows: Rows) -> Vec<Vec<u8>> {
+fn texts(rt: &impl Abort, alloc: Global, table: Table) -> Vec<Vec<u8>> {
     let mut texts = Vec::new(alloc);
-    for row in rows {
-        let text = row.0.as_bytes().to_vec(alloc).expect(rt, "a text");
+    for line in table.lines() {
+        let text = request(rt, alloc, line).into_bytes();
         assert!(rt; texts.push(text).is_ok());
     }
     texts
 }
 
-fn are_answers(rt: &impl Abort, answers: &[Answered], rows: Rows) {
-    assert!(rt; answers.len() == rows.len());
-    for (answer, row) in answers.iter().zip(rows) {
-        is_answer(rt, answer.as_bytes(), row);
+fn is_told(rt: &impl Abort, alloc: Global, found: &[u8], line: &str) {
+    let expected = answer(rt, alloc, line);
+    is_answer(rt, found, line, expected.as_str());
+}
+
+fn are_answers(rt: &impl Abort, alloc: Global, answers: &[Answered], table: Table) {
+    assert!(rt; answers.len() == table.lines().count());
+    for (found, line) in answers.iter().zip(table.lines()) {
+        is_told(rt, alloc, found.as_bytes(), line);
     }
 }
 
-fn all<S: Alter>(rt: &impl Abort, alloc: Global, house: &mut House<S>, rows: Rows) {
-    let texts = texts(rt, alloc, rows);
+fn all<S: Alter>(rt: &impl Abort, alloc: Global, house: &mut House<S>, table: Table) {
+    let texts = texts(rt, alloc, table);
     let answers = house.answer_all(texts.as_slice());
     drop(texts);
-    are_answers(rt, answers.expect(rt, "answers").as_slice(), rows);
+    are_answers(rt, alloc, answers.expect(rt, "answers").as_slice(), table);
 }
 
-fn is_served<S: Alter>(rt: &impl Abort, alloc: Global, house: &mut House<S>, row: &(&str, &str)) {
-    let mut reader = row.0.as_bytes();
+fn answers_no_requests<S: Alter>(rt: &impl Abort, house: &mut House<S>) {
+    for row in NO_REQUESTS.as_slice() {
+        is_answered(rt, house, row.0, row.1);
+    }
+}
+
+fn is_served<S: Alter>(
+    rt: &impl Abort,
+    alloc: Global,
+    house: &mut House<S>,
+    asked: &str,
+    expected: &str,
+) {
+    let mut reader = asked.as_bytes();
     let mut writer: Vec<u8> = Vec::new(alloc);
     let served = house.serve_one(&mut reader, &mut writer);
     assert!(rt; served == Ok(()));
-    is_answer(rt, writer.as_slice(), row);
+    is_answer(rt, writer.as_slice(), asked, expected);
 }
 
-fn serves<S: Alter>(rt: &impl Abort, alloc: Global, house: &mut House<S>, rows: Rows) {
-    for row in rows {
-        is_served(rt, alloc, house, row);
+fn serves_no_requests<S: Alter>(rt: &impl Abort, alloc: Global, house: &mut House<S>) {
+    for row in NO_REQUESTS.as_slice() {
+        is_served(rt, alloc, house, row.0, row.1);
     }
 }
 
@@ -81,9 +119,11 @@ fn is_full<S: Alter>(rt: &impl Abort, house: &mut House<S>) {
 
 fn ask<S: Alter>(rt: &impl Abort, alloc: Global, house: &mut House<S>, asked: Asked) {
     match asked {
-        Asked::Each(table) => each(rt, house, table.rows()),
-        Asked::All(table) => all(rt, alloc, house, table.rows()),
-        Asked::Served(table) => serves(rt, alloc, house, table.rows()),
+        Asked::Each(table) => part(rt, alloc, house, table, 0, usize::MAX),
+        Asked::Part(table, first, count) => part(rt, alloc, house, table, first, count),
+        Asked::All(table) => all(rt, alloc, house, table),
+        Asked::NoRequests => answers_no_requests(rt, house),
+        Asked::NoRequestsServed => serves_no_requests(rt, alloc, house),
         Asked::FullWriter => is_full(rt, house),
     }
 }
@@ -128,23 +168,23 @@ fn answered<S: Alter + Drop>(
     rt: &impl Abort,
     alloc: Global,
     conn: Connection<S>,
-    row: &(&str, &str),
+    line: &str,
 ) -> Connection<S> {
     let mut house = House::new(alloc, books_of(rt, alloc, conn));
-    is_answered(rt, &mut house, row);
+    exchanges(rt, alloc, &mut house, line);
     house.close().close()
 }
 
-/// Each text gets its answer, and the books are closed and opened again after it.
+/// The house answers as each exchange of the table says, and the books are closed and opened again after it.
 pub(crate) fn answered_in_turn<S: Alter + Drop>(
     rt: &impl Abort,
     alloc: Global,
     conn: Connection<S>,
-    rows: Rows,
+    table: Table,
 ) -> Connection<S> {
     let mut conn = conn;
-    for row in rows {
-        conn = answered(rt, alloc, conn, row);
+    for line in table.lines() {
+        conn = answered(rt, alloc, conn, line);
     }
     conn
 }

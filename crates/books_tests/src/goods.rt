@@ -7,372 +7,117 @@ use crate::steps::Step;
 use crate::table::Table;
 
 // A lot is moved to where it serves no orders.
-pub(crate) static MOVED: [(&str, &str); 15] = [
-    (
-        "POST /moves HTTP/1.1\r\nContent-Length: 83\r\n\r\n{\"key\":\"K-11\",\"gtin\":\"04012345000023\",\"lot\":\"L9\",\"from\":\"B-99\",\"to\":\"B-98\",\"qty\":1}",
-        "HTTP/1.1 409 Conflict\r\ncontent-type: application/json\r\ncontent-length: 14\r\nconnection: close\r\n\r\n{\"code\":\"U01\"}",
-    ),
-    (
-        "POST /moves HTTP/1.1\r\nContent-Length: 83\r\n\r\n{\"key\":\"K-11\",\"gtin\":\"09506000134352\",\"lot\":\"L9\",\"from\":\"B-99\",\"to\":\"A-01\",\"qty\":1}",
-        "HTTP/1.1 409 Conflict\r\ncontent-type: application/json\r\ncontent-length: 14\r\nconnection: close\r\n\r\n{\"code\":\"U02\"}",
-    ),
-    (
-        "POST /moves HTTP/1.1\r\nContent-Length: 83\r\n\r\n{\"key\":\"K-11\",\"gtin\":\"09506000134352\",\"lot\":\"L9\",\"from\":\"A-01\",\"to\":\"B-99\",\"qty\":1}",
-        "HTTP/1.1 409 Conflict\r\ncontent-type: application/json\r\ncontent-length: 14\r\nconnection: close\r\n\r\n{\"code\":\"U02\"}",
-    ),
-    (
-        "POST /moves HTTP/1.1\r\nContent-Length: 83\r\n\r\n{\"key\":\"K-11\",\"gtin\":\"09506000134352\",\"lot\":\"L9\",\"from\":\"A-01\",\"to\":\"A-02\",\"qty\":1}",
-        "HTTP/1.1 409 Conflict\r\ncontent-type: application/json\r\ncontent-length: 14\r\nconnection: close\r\n\r\n{\"code\":\"U03\"}",
-    ),
-    (
-        "POST /moves HTTP/1.1\r\nContent-Length: 84\r\n\r\n{\"key\":\"K-11\",\"gtin\":\"09506000134352\",\"lot\":\"L2\",\"from\":\"A-01\",\"to\":\"A-01\",\"qty\":11}",
-        "HTTP/1.1 409 Conflict\r\ncontent-type: application/json\r\ncontent-length: 14\r\nconnection: close\r\n\r\n{\"code\":\"Q01\"}",
-    ),
-    (
-        "POST /moves HTTP/1.1\r\nContent-Length: 83\r\n\r\n{\"key\":\"K-11\",\"gtin\":\"09506000134352\",\"lot\":\"L2\",\"from\":\"A-02\",\"to\":\"A-01\",\"qty\":1}",
-        "HTTP/1.1 409 Conflict\r\ncontent-type: application/json\r\ncontent-length: 14\r\nconnection: close\r\n\r\n{\"code\":\"Q01\"}",
-    ),
-    (
-        "POST /moves HTTP/1.1\r\nContent-Length: 84\r\n\r\n{\"key\":\"K-11\",\"gtin\":\"09506000134352\",\"lot\":\"L2\",\"from\":\"A-01\",\"to\":\"A-01\",\"qty\":10}",
-        "HTTP/1.1 409 Conflict\r\ncontent-type: application/json\r\ncontent-length: 14\r\nconnection: close\r\n\r\n{\"code\":\"Q04\"}",
-    ),
-    (
-        "POST /moves HTTP/1.1\r\nContent-Length: 84\r\n\r\n{\"key\":\"K-11\",\"gtin\":\"09506000134352\",\"lot\":\"L1\",\"from\":\"A-01\",\"to\":\"Q-01\",\"qty\":10}",
-        "HTTP/1.1 200 OK\r\ncontent-type: application/json\r\ncontent-length: 10\r\nconnection: close\r\n\r\n{\"act\":11}",
-    ),
-    (
-        "GET /orders/S-1 HTTP/1.1\r\n\r\n",
-        "HTTP/1.1 200 OK\r\ncontent-type: application/json\r\ncontent-length: 193\r\nconnection: close\r\n\r\n{\"customer\":\"Corner Shop\",\"lines\":[{\"gtin\":\"09506000134352\",\"ordered\":12,\"reserved\":[{\"lot\":\"L0\",\"qty\":5},{\"lot\":\"L2\",\"qty\":7}],\"shipped\":0,\"short\":0,\"staged\":[]}],\"order\":\"S-1\",\"state\":\"OPEN\"}",
-    ),
-    (
-        "GET /orders/S-2 HTTP/1.1\r\n\r\n",
-        "HTTP/1.1 200 OK\r\ncontent-type: application/json\r\ncontent-length: 173\r\nconnection: close\r\n\r\n{\"customer\":\"Harbour Cafe\",\"lines\":[{\"gtin\":\"09506000134352\",\"ordered\":12,\"reserved\":[{\"lot\":\"L2\",\"qty\":3}],\"shipped\":0,\"short\":9,\"staged\":[]}],\"order\":\"S-2\",\"state\":\"OPEN\"}",
-    ),
-    (
-        "POST /moves HTTP/1.1\r\nContent-Length: 84\r\n\r\n{\"key\":\"K-11\",\"gtin\":\"09506000134352\",\"lot\":\"L1\",\"from\":\"A-01\",\"to\":\"Q-01\",\"qty\":10}",
-        "HTTP/1.1 200 OK\r\ncontent-type: application/json\r\ncontent-length: 10\r\nconnection: close\r\n\r\n{\"act\":11}",
-    ),
-    (
-        "POST /moves HTTP/1.1\r\nContent-Length: 83\r\n\r\n{\"key\":\"K-11\",\"gtin\":\"09506000134352\",\"lot\":\"L1\",\"from\":\"A-01\",\"to\":\"Q-01\",\"qty\":9}",
-        "HTTP/1.1 409 Conflict\r\ncontent-type: application/json\r\ncontent-length: 14\r\nconnection: close\r\n\r\n{\"code\":\"K01\"}",
-    ),
-    (
-        "POST /moves HTTP/1.1\r\nContent-Length: 84\r\n\r\n{\"key\":\"K-12\",\"gtin\":\"09506000134352\",\"lot\":\"L1\",\"from\":\"A-01\",\"to\":\"Q-01\",\"qty\":10}",
-        "HTTP/1.1 409 Conflict\r\ncontent-type: application/json\r\ncontent-length: 14\r\nconnection: close\r\n\r\n{\"code\":\"Q01\"}",
-    ),
-    (
-        "GET /orders/S-1 HTTP/1.1\r\n\r\n",
-        "HTTP/1.1 200 OK\r\ncontent-type: application/json\r\ncontent-length: 193\r\nconnection: close\r\n\r\n{\"customer\":\"Corner Shop\",\"lines\":[{\"gtin\":\"09506000134352\",\"ordered\":12,\"reserved\":[{\"lot\":\"L0\",\"qty\":5},{\"lot\":\"L2\",\"qty\":7}],\"shipped\":0,\"short\":0,\"staged\":[]}],\"order\":\"S-1\",\"state\":\"OPEN\"}",
-    ),
-    (
-        "GET /orders/S-2 HTTP/1.1\r\n\r\n",
-        "HTTP/1.1 200 OK\r\ncontent-type: application/json\r\ncontent-length: 173\r\nconnection: close\r\n\r\n{\"customer\":\"Harbour Cafe\",\"lines\":[{\"gtin\":\"09506000134352\",\"ordered\":12,\"reserved\":[{\"lot\":\"L2\",\"qty\":3}],\"shipped\":0,\"short\":9,\"staged\":[]}],\"order\":\"S-2\",\"state\":\"OPEN\"}",
-    ),
-];
+pub(crate) static MOVED: &str = r#"
+POST /moves {"key":"K-11","gtin":"04012345000023","lot":"L9","from":"B-99","to":"B-98","qty":1} => 409 {"code":"U01"}
+POST /moves {"key":"K-11","gtin":"09506000134352","lot":"L9","from":"B-99","to":"A-01","qty":1} => 409 {"code":"U02"}
+POST /moves {"key":"K-11","gtin":"09506000134352","lot":"L9","from":"A-01","to":"B-99","qty":1} => 409 {"code":"U02"}
+POST /moves {"key":"K-11","gtin":"09506000134352","lot":"L9","from":"A-01","to":"A-02","qty":1} => 409 {"code":"U03"}
+POST /moves {"key":"K-11","gtin":"09506000134352","lot":"L2","from":"A-01","to":"A-01","qty":11} => 409 {"code":"Q01"}
+POST /moves {"key":"K-11","gtin":"09506000134352","lot":"L2","from":"A-02","to":"A-01","qty":1} => 409 {"code":"Q01"}
+POST /moves {"key":"K-11","gtin":"09506000134352","lot":"L2","from":"A-01","to":"A-01","qty":10} => 409 {"code":"Q04"}
+POST /moves {"key":"K-11","gtin":"09506000134352","lot":"L1","from":"A-01","to":"Q-01","qty":10} => 200 {"act":11}
+GET /orders/S-1 => 200 {"customer":"Corner Shop","lines":[{"gtin":"09506000134352","ordered":12,"reserved":[{"lot":"L0","qty":5},{"lot":"L2","qty":7}],"shipped":0,"short":0,"staged":[]}],"order":"S-1","state":"OPEN"}
+GET /orders/S-2 => 200 {"customer":"Harbour Cafe","lines":[{"gtin":"09506000134352","ordered":12,"reserved":[{"lot":"L2","qty":3}],"shipped":0,"short":9,"staged":[]}],"order":"S-2","state":"OPEN"}
+POST /moves {"key":"K-11","gtin":"09506000134352","lot":"L1","from":"A-01","to":"Q-01","qty":10} => 200 {"act":11}
+POST /moves {"key":"K-11","gtin":"09506000134352","lot":"L1","from":"A-01","to":"Q-01","qty":9} => 409 {"code":"K01"}
+POST /moves {"key":"K-12","gtin":"09506000134352","lot":"L1","from":"A-01","to":"Q-01","qty":10} => 409 {"code":"Q01"}
+GET /orders/S-1 => 200 {"customer":"Corner Shop","lines":[{"gtin":"09506000134352","ordered":12,"reserved":[{"lot":"L0","qty":5},{"lot":"L2","qty":7}],"shipped":0,"short":0,"staged":[]}],"order":"S-1","state":"OPEN"}
+GET /orders/S-2 => 200 {"customer":"Harbour Cafe","lines":[{"gtin":"09506000134352","ordered":12,"reserved":[{"lot":"L2","qty":3}],"shipped":0,"short":9,"staged":[]}],"order":"S-2","state":"OPEN"}
+"#;
 
 // A lot is written off, and some of it is written on in another bin.
-pub(crate) static ADJUSTED: [(&str, &str); 13] = [
-    (
-        "POST /adjustments HTTP/1.1\r\nContent-Length: 73\r\n\r\n{\"key\":\"K-11\",\"gtin\":\"04012345000023\",\"lot\":\"L9\",\"bin\":\"B-99\",\"change\":1}",
-        "HTTP/1.1 409 Conflict\r\ncontent-type: application/json\r\ncontent-length: 14\r\nconnection: close\r\n\r\n{\"code\":\"U01\"}",
-    ),
-    (
-        "POST /adjustments HTTP/1.1\r\nContent-Length: 73\r\n\r\n{\"key\":\"K-11\",\"gtin\":\"09506000134352\",\"lot\":\"L9\",\"bin\":\"B-99\",\"change\":1}",
-        "HTTP/1.1 409 Conflict\r\ncontent-type: application/json\r\ncontent-length: 14\r\nconnection: close\r\n\r\n{\"code\":\"U02\"}",
-    ),
-    (
-        "POST /adjustments HTTP/1.1\r\nContent-Length: 73\r\n\r\n{\"key\":\"K-11\",\"gtin\":\"09506000134352\",\"lot\":\"L9\",\"bin\":\"A-01\",\"change\":1}",
-        "HTTP/1.1 409 Conflict\r\ncontent-type: application/json\r\ncontent-length: 14\r\nconnection: close\r\n\r\n{\"code\":\"U03\"}",
-    ),
-    (
-        "POST /adjustments HTTP/1.1\r\nContent-Length: 73\r\n\r\n{\"key\":\"K-11\",\"gtin\":\"09506000134352\",\"lot\":\"L1\",\"bin\":\"A-01\",\"change\":0}",
-        "HTTP/1.1 400 Bad Request\r\ncontent-type: application/json\r\ncontent-length: 14\r\nconnection: close\r\n\r\n{\"code\":\"W04\"}",
-    ),
-    (
-        "POST /adjustments HTTP/1.1\r\nContent-Length: 75\r\n\r\n{\"key\":\"K-11\",\"gtin\":\"09506000134352\",\"lot\":\"L1\",\"bin\":\"A-01\",\"change\":-11}",
-        "HTTP/1.1 409 Conflict\r\ncontent-type: application/json\r\ncontent-length: 14\r\nconnection: close\r\n\r\n{\"code\":\"Q01\"}",
-    ),
-    (
-        "POST /adjustments HTTP/1.1\r\nContent-Length: 75\r\n\r\n{\"key\":\"K-11\",\"gtin\":\"09506000134352\",\"lot\":\"L1\",\"bin\":\"A-01\",\"change\":-10}",
-        "HTTP/1.1 200 OK\r\ncontent-type: application/json\r\ncontent-length: 23\r\nconnection: close\r\n\r\n{\"act\":11,\"change\":-10}",
-    ),
-    (
-        "GET /orders/S-1 HTTP/1.1\r\n\r\n",
-        "HTTP/1.1 200 OK\r\ncontent-type: application/json\r\ncontent-length: 193\r\nconnection: close\r\n\r\n{\"customer\":\"Corner Shop\",\"lines\":[{\"gtin\":\"09506000134352\",\"ordered\":12,\"reserved\":[{\"lot\":\"L0\",\"qty\":5},{\"lot\":\"L2\",\"qty\":7}],\"shipped\":0,\"short\":0,\"staged\":[]}],\"order\":\"S-1\",\"state\":\"OPEN\"}",
-    ),
-    (
-        "GET /orders/S-2 HTTP/1.1\r\n\r\n",
-        "HTTP/1.1 200 OK\r\ncontent-type: application/json\r\ncontent-length: 173\r\nconnection: close\r\n\r\n{\"customer\":\"Harbour Cafe\",\"lines\":[{\"gtin\":\"09506000134352\",\"ordered\":12,\"reserved\":[{\"lot\":\"L2\",\"qty\":3}],\"shipped\":0,\"short\":9,\"staged\":[]}],\"order\":\"S-2\",\"state\":\"OPEN\"}",
-    ),
-    (
-        "POST /adjustments HTTP/1.1\r\nContent-Length: 75\r\n\r\n{\"key\":\"K-11\",\"gtin\":\"09506000134352\",\"lot\":\"L1\",\"bin\":\"A-01\",\"change\":-10}",
-        "HTTP/1.1 200 OK\r\ncontent-type: application/json\r\ncontent-length: 23\r\nconnection: close\r\n\r\n{\"act\":11,\"change\":-10}",
-    ),
-    (
-        "POST /adjustments HTTP/1.1\r\nContent-Length: 74\r\n\r\n{\"key\":\"K-11\",\"gtin\":\"09506000134352\",\"lot\":\"L1\",\"bin\":\"A-01\",\"change\":-9}",
-        "HTTP/1.1 409 Conflict\r\ncontent-type: application/json\r\ncontent-length: 14\r\nconnection: close\r\n\r\n{\"code\":\"K01\"}",
-    ),
-    (
-        "POST /adjustments HTTP/1.1\r\nContent-Length: 73\r\n\r\n{\"key\":\"K-12\",\"gtin\":\"09506000134352\",\"lot\":\"L1\",\"bin\":\"A-02\",\"change\":2}",
-        "HTTP/1.1 200 OK\r\ncontent-type: application/json\r\ncontent-length: 21\r\nconnection: close\r\n\r\n{\"act\":12,\"change\":2}",
-    ),
-    (
-        "GET /orders/S-1 HTTP/1.1\r\n\r\n",
-        "HTTP/1.1 200 OK\r\ncontent-type: application/json\r\ncontent-length: 193\r\nconnection: close\r\n\r\n{\"customer\":\"Corner Shop\",\"lines\":[{\"gtin\":\"09506000134352\",\"ordered\":12,\"reserved\":[{\"lot\":\"L0\",\"qty\":5},{\"lot\":\"L2\",\"qty\":7}],\"shipped\":0,\"short\":0,\"staged\":[]}],\"order\":\"S-1\",\"state\":\"OPEN\"}",
-    ),
-    (
-        "GET /orders/S-2 HTTP/1.1\r\n\r\n",
-        "HTTP/1.1 200 OK\r\ncontent-type: application/json\r\ncontent-length: 194\r\nconnection: close\r\n\r\n{\"customer\":\"Harbour Cafe\",\"lines\":[{\"gtin\":\"09506000134352\",\"ordered\":12,\"reserved\":[{\"lot\":\"L2\",\"qty\":3},{\"lot\":\"L1\",\"qty\":2}],\"shipped\":0,\"short\":7,\"staged\":[]}],\"order\":\"S-2\",\"state\":\"OPEN\"}",
-    ),
-];
+pub(crate) static ADJUSTED: &str = r#"
+POST /adjustments {"key":"K-11","gtin":"04012345000023","lot":"L9","bin":"B-99","change":1} => 409 {"code":"U01"}
+POST /adjustments {"key":"K-11","gtin":"09506000134352","lot":"L9","bin":"B-99","change":1} => 409 {"code":"U02"}
+POST /adjustments {"key":"K-11","gtin":"09506000134352","lot":"L9","bin":"A-01","change":1} => 409 {"code":"U03"}
+POST /adjustments {"key":"K-11","gtin":"09506000134352","lot":"L1","bin":"A-01","change":0} => 400 {"code":"W04"}
+POST /adjustments {"key":"K-11","gtin":"09506000134352","lot":"L1","bin":"A-01","change":-11} => 409 {"code":"Q01"}
+POST /adjustments {"key":"K-11","gtin":"09506000134352","lot":"L1","bin":"A-01","change":-10} => 200 {"act":11,"change":-10}
+GET /orders/S-1 => 200 {"customer":"Corner Shop","lines":[{"gtin":"09506000134352","ordered":12,"reserved":[{"lot":"L0","qty":5},{"lot":"L2","qty":7}],"shipped":0,"short":0,"staged":[]}],"order":"S-1","state":"OPEN"}
+GET /orders/S-2 => 200 {"customer":"Harbour Cafe","lines":[{"gtin":"09506000134352","ordered":12,"reserved":[{"lot":"L2","qty":3}],"shipped":0,"short":9,"staged":[]}],"order":"S-2","state":"OPEN"}
+POST /adjustments {"key":"K-11","gtin":"09506000134352","lot":"L1","bin":"A-01","change":-10} => 200 {"act":11,"change":-10}
+POST /adjustments {"key":"K-11","gtin":"09506000134352","lot":"L1","bin":"A-01","change":-9} => 409 {"code":"K01"}
+POST /adjustments {"key":"K-12","gtin":"09506000134352","lot":"L1","bin":"A-02","change":2} => 200 {"act":12,"change":2}
+GET /orders/S-1 => 200 {"customer":"Corner Shop","lines":[{"gtin":"09506000134352","ordered":12,"reserved":[{"lot":"L0","qty":5},{"lot":"L2","qty":7}],"shipped":0,"short":0,"staged":[]}],"order":"S-1","state":"OPEN"}
+GET /orders/S-2 => 200 {"customer":"Harbour Cafe","lines":[{"gtin":"09506000134352","ordered":12,"reserved":[{"lot":"L2","qty":3},{"lot":"L1","qty":2}],"shipped":0,"short":7,"staged":[]}],"order":"S-2","state":"OPEN"}
+"#;
 
 // A bin has less of a lot than the books say.
-pub(crate) static COUNTED: [(&str, &str); 14] = [
-    (
-        "POST /counts HTTP/1.1\r\nContent-Length: 70\r\n\r\n{\"key\":\"K-11\",\"gtin\":\"04012345000023\",\"lot\":\"L9\",\"bin\":\"B-99\",\"qty\":8}",
-        "HTTP/1.1 409 Conflict\r\ncontent-type: application/json\r\ncontent-length: 14\r\nconnection: close\r\n\r\n{\"code\":\"U01\"}",
-    ),
-    (
-        "POST /counts HTTP/1.1\r\nContent-Length: 70\r\n\r\n{\"key\":\"K-11\",\"gtin\":\"09506000134352\",\"lot\":\"L9\",\"bin\":\"B-99\",\"qty\":8}",
-        "HTTP/1.1 409 Conflict\r\ncontent-type: application/json\r\ncontent-length: 14\r\nconnection: close\r\n\r\n{\"code\":\"U02\"}",
-    ),
-    (
-        "POST /counts HTTP/1.1\r\nContent-Length: 70\r\n\r\n{\"key\":\"K-11\",\"gtin\":\"09506000134352\",\"lot\":\"L9\",\"bin\":\"A-01\",\"qty\":8}",
-        "HTTP/1.1 409 Conflict\r\ncontent-type: application/json\r\ncontent-length: 14\r\nconnection: close\r\n\r\n{\"code\":\"U03\"}",
-    ),
-    (
-        "POST /counts HTTP/1.1\r\nContent-Length: 70\r\n\r\n{\"key\":\"K-11\",\"gtin\":\"09506000134352\",\"lot\":\"L2\",\"bin\":\"A-01\",\"qty\":8}",
-        "HTTP/1.1 200 OK\r\ncontent-type: application/json\r\ncontent-length: 22\r\nconnection: close\r\n\r\n{\"act\":11,\"change\":-2}",
-    ),
-    (
-        "GET /orders/S-1 HTTP/1.1\r\n\r\n",
-        "HTTP/1.1 200 OK\r\ncontent-type: application/json\r\ncontent-length: 193\r\nconnection: close\r\n\r\n{\"customer\":\"Corner Shop\",\"lines\":[{\"gtin\":\"09506000134352\",\"ordered\":12,\"reserved\":[{\"lot\":\"L0\",\"qty\":5},{\"lot\":\"L2\",\"qty\":7}],\"shipped\":0,\"short\":0,\"staged\":[]}],\"order\":\"S-1\",\"state\":\"OPEN\"}",
-    ),
-    (
-        "GET /orders/S-2 HTTP/1.1\r\n\r\n",
-        "HTTP/1.1 200 OK\r\ncontent-type: application/json\r\ncontent-length: 195\r\nconnection: close\r\n\r\n{\"customer\":\"Harbour Cafe\",\"lines\":[{\"gtin\":\"09506000134352\",\"ordered\":12,\"reserved\":[{\"lot\":\"L2\",\"qty\":1},{\"lot\":\"L1\",\"qty\":10}],\"shipped\":0,\"short\":1,\"staged\":[]}],\"order\":\"S-2\",\"state\":\"OPEN\"}",
-    ),
-    (
-        "POST /counts HTTP/1.1\r\nContent-Length: 70\r\n\r\n{\"key\":\"K-11\",\"gtin\":\"09506000134352\",\"lot\":\"L2\",\"bin\":\"A-01\",\"qty\":8}",
-        "HTTP/1.1 200 OK\r\ncontent-type: application/json\r\ncontent-length: 22\r\nconnection: close\r\n\r\n{\"act\":11,\"change\":-2}",
-    ),
-    (
-        "POST /counts HTTP/1.1\r\nContent-Length: 70\r\n\r\n{\"key\":\"K-11\",\"gtin\":\"09506000134352\",\"lot\":\"L2\",\"bin\":\"A-01\",\"qty\":9}",
-        "HTTP/1.1 409 Conflict\r\ncontent-type: application/json\r\ncontent-length: 14\r\nconnection: close\r\n\r\n{\"code\":\"K01\"}",
-    ),
-    (
-        "POST /counts HTTP/1.1\r\nContent-Length: 70\r\n\r\n{\"key\":\"K-12\",\"gtin\":\"09506000134352\",\"lot\":\"L2\",\"bin\":\"A-01\",\"qty\":8}",
-        "HTTP/1.1 200 OK\r\ncontent-type: application/json\r\ncontent-length: 21\r\nconnection: close\r\n\r\n{\"act\":12,\"change\":0}",
-    ),
-    (
-        "GET /orders/S-1 HTTP/1.1\r\n\r\n",
-        "HTTP/1.1 200 OK\r\ncontent-type: application/json\r\ncontent-length: 193\r\nconnection: close\r\n\r\n{\"customer\":\"Corner Shop\",\"lines\":[{\"gtin\":\"09506000134352\",\"ordered\":12,\"reserved\":[{\"lot\":\"L0\",\"qty\":5},{\"lot\":\"L2\",\"qty\":7}],\"shipped\":0,\"short\":0,\"staged\":[]}],\"order\":\"S-1\",\"state\":\"OPEN\"}",
-    ),
-    (
-        "GET /orders/S-2 HTTP/1.1\r\n\r\n",
-        "HTTP/1.1 200 OK\r\ncontent-type: application/json\r\ncontent-length: 195\r\nconnection: close\r\n\r\n{\"customer\":\"Harbour Cafe\",\"lines\":[{\"gtin\":\"09506000134352\",\"ordered\":12,\"reserved\":[{\"lot\":\"L2\",\"qty\":1},{\"lot\":\"L1\",\"qty\":10}],\"shipped\":0,\"short\":1,\"staged\":[]}],\"order\":\"S-2\",\"state\":\"OPEN\"}",
-    ),
-    (
-        "POST /counts HTTP/1.1\r\nContent-Length: 70\r\n\r\n{\"key\":\"K-13\",\"gtin\":\"09506000134352\",\"lot\":\"L1\",\"bin\":\"A-01\",\"qty\":0}",
-        "HTTP/1.1 200 OK\r\ncontent-type: application/json\r\ncontent-length: 23\r\nconnection: close\r\n\r\n{\"act\":13,\"change\":-10}",
-    ),
-    (
-        "GET /orders/S-1 HTTP/1.1\r\n\r\n",
-        "HTTP/1.1 200 OK\r\ncontent-type: application/json\r\ncontent-length: 193\r\nconnection: close\r\n\r\n{\"customer\":\"Corner Shop\",\"lines\":[{\"gtin\":\"09506000134352\",\"ordered\":12,\"reserved\":[{\"lot\":\"L0\",\"qty\":5},{\"lot\":\"L2\",\"qty\":7}],\"shipped\":0,\"short\":0,\"staged\":[]}],\"order\":\"S-1\",\"state\":\"OPEN\"}",
-    ),
-    (
-        "GET /orders/S-2 HTTP/1.1\r\n\r\n",
-        "HTTP/1.1 200 OK\r\ncontent-type: application/json\r\ncontent-length: 174\r\nconnection: close\r\n\r\n{\"customer\":\"Harbour Cafe\",\"lines\":[{\"gtin\":\"09506000134352\",\"ordered\":12,\"reserved\":[{\"lot\":\"L2\",\"qty\":1}],\"shipped\":0,\"short\":11,\"staged\":[]}],\"order\":\"S-2\",\"state\":\"OPEN\"}",
-    ),
-];
+pub(crate) static COUNTED: &str = r#"
+POST /counts {"key":"K-11","gtin":"04012345000023","lot":"L9","bin":"B-99","qty":8} => 409 {"code":"U01"}
+POST /counts {"key":"K-11","gtin":"09506000134352","lot":"L9","bin":"B-99","qty":8} => 409 {"code":"U02"}
+POST /counts {"key":"K-11","gtin":"09506000134352","lot":"L9","bin":"A-01","qty":8} => 409 {"code":"U03"}
+POST /counts {"key":"K-11","gtin":"09506000134352","lot":"L2","bin":"A-01","qty":8} => 200 {"act":11,"change":-2}
+GET /orders/S-1 => 200 {"customer":"Corner Shop","lines":[{"gtin":"09506000134352","ordered":12,"reserved":[{"lot":"L0","qty":5},{"lot":"L2","qty":7}],"shipped":0,"short":0,"staged":[]}],"order":"S-1","state":"OPEN"}
+GET /orders/S-2 => 200 {"customer":"Harbour Cafe","lines":[{"gtin":"09506000134352","ordered":12,"reserved":[{"lot":"L2","qty":1},{"lot":"L1","qty":10}],"shipped":0,"short":1,"staged":[]}],"order":"S-2","state":"OPEN"}
+POST /counts {"key":"K-11","gtin":"09506000134352","lot":"L2","bin":"A-01","qty":8} => 200 {"act":11,"change":-2}
+POST /counts {"key":"K-11","gtin":"09506000134352","lot":"L2","bin":"A-01","qty":9} => 409 {"code":"K01"}
+POST /counts {"key":"K-12","gtin":"09506000134352","lot":"L2","bin":"A-01","qty":8} => 200 {"act":12,"change":0}
+GET /orders/S-1 => 200 {"customer":"Corner Shop","lines":[{"gtin":"09506000134352","ordered":12,"reserved":[{"lot":"L0","qty":5},{"lot":"L2","qty":7}],"shipped":0,"short":0,"staged":[]}],"order":"S-1","state":"OPEN"}
+GET /orders/S-2 => 200 {"customer":"Harbour Cafe","lines":[{"gtin":"09506000134352","ordered":12,"reserved":[{"lot":"L2","qty":1},{"lot":"L1","qty":10}],"shipped":0,"short":1,"staged":[]}],"order":"S-2","state":"OPEN"}
+POST /counts {"key":"K-13","gtin":"09506000134352","lot":"L1","bin":"A-01","qty":0} => 200 {"act":13,"change":-10}
+GET /orders/S-1 => 200 {"customer":"Corner Shop","lines":[{"gtin":"09506000134352","ordered":12,"reserved":[{"lot":"L0","qty":5},{"lot":"L2","qty":7}],"shipped":0,"short":0,"staged":[]}],"order":"S-1","state":"OPEN"}
+GET /orders/S-2 => 200 {"customer":"Harbour Cafe","lines":[{"gtin":"09506000134352","ordered":12,"reserved":[{"lot":"L2","qty":1}],"shipped":0,"short":11,"staged":[]}],"order":"S-2","state":"OPEN"}
+"#;
 
 // After the picks: a lot is held, and its staged units are returned. It is released and moved back.
-pub(crate) static HELD: [(&str, &str); 18] = [
-    (
-        "POST /holds HTTP/1.1\r\nContent-Length: 49\r\n\r\n{\"key\":\"K-13\",\"gtin\":\"04012345000023\",\"lot\":\"L9\"}",
-        "HTTP/1.1 409 Conflict\r\ncontent-type: application/json\r\ncontent-length: 14\r\nconnection: close\r\n\r\n{\"code\":\"U01\"}",
-    ),
-    (
-        "POST /holds HTTP/1.1\r\nContent-Length: 49\r\n\r\n{\"key\":\"K-13\",\"gtin\":\"09506000134352\",\"lot\":\"L9\"}",
-        "HTTP/1.1 409 Conflict\r\ncontent-type: application/json\r\ncontent-length: 14\r\nconnection: close\r\n\r\n{\"code\":\"U03\"}",
-    ),
-    (
-        "POST /releases HTTP/1.1\r\nContent-Length: 49\r\n\r\n{\"key\":\"K-13\",\"gtin\":\"09506000134352\",\"lot\":\"L0\"}",
-        "HTTP/1.1 409 Conflict\r\ncontent-type: application/json\r\ncontent-length: 14\r\nconnection: close\r\n\r\n{\"code\":\"S04\"}",
-    ),
-    (
-        "POST /holds HTTP/1.1\r\nContent-Length: 49\r\n\r\n{\"key\":\"K-13\",\"gtin\":\"09506000134352\",\"lot\":\"L0\"}",
-        "HTTP/1.1 200 OK\r\ncontent-type: application/json\r\ncontent-length: 23\r\nconnection: close\r\n\r\n{\"act\":13,\"returned\":5}",
-    ),
-    (
-        "GET /orders/S-1 HTTP/1.1\r\n\r\n",
-        "HTTP/1.1 200 OK\r\ncontent-type: application/json\r\ncontent-length: 213\r\nconnection: close\r\n\r\n{\"customer\":\"Corner Shop\",\"lines\":[{\"gtin\":\"09506000134352\",\"ordered\":12,\"reserved\":[{\"lot\":\"L2\",\"qty\":3},{\"lot\":\"L1\",\"qty\":2}],\"shipped\":0,\"short\":0,\"staged\":[{\"lot\":\"L2\",\"qty\":7}]}],\"order\":\"S-1\",\"state\":\"OPEN\"}",
-    ),
-    (
-        "GET /orders/S-2 HTTP/1.1\r\n\r\n",
-        "HTTP/1.1 200 OK\r\ncontent-type: application/json\r\ncontent-length: 173\r\nconnection: close\r\n\r\n{\"customer\":\"Harbour Cafe\",\"lines\":[{\"gtin\":\"09506000134352\",\"ordered\":12,\"reserved\":[{\"lot\":\"L1\",\"qty\":8}],\"shipped\":0,\"short\":4,\"staged\":[]}],\"order\":\"S-2\",\"state\":\"OPEN\"}",
-    ),
-    (
-        "POST /holds HTTP/1.1\r\nContent-Length: 49\r\n\r\n{\"key\":\"K-14\",\"gtin\":\"09506000134352\",\"lot\":\"L0\"}",
-        "HTTP/1.1 409 Conflict\r\ncontent-type: application/json\r\ncontent-length: 14\r\nconnection: close\r\n\r\n{\"code\":\"S03\"}",
-    ),
-    (
-        "POST /picks HTTP/1.1\r\nContent-Length: 87\r\n\r\n{\"key\":\"K-14\",\"order\":\"S-1\",\"gtin\":\"09506000134352\",\"lot\":\"L0\",\"bin\":\"RETURNS\",\"qty\":5}",
-        "HTTP/1.1 409 Conflict\r\ncontent-type: application/json\r\ncontent-length: 14\r\nconnection: close\r\n\r\n{\"code\":\"S03\"}",
-    ),
-    (
-        "POST /holds HTTP/1.1\r\nContent-Length: 49\r\n\r\n{\"key\":\"K-13\",\"gtin\":\"09506000134352\",\"lot\":\"L0\"}",
-        "HTTP/1.1 200 OK\r\ncontent-type: application/json\r\ncontent-length: 23\r\nconnection: close\r\n\r\n{\"act\":13,\"returned\":5}",
-    ),
-    (
-        "POST /releases HTTP/1.1\r\nContent-Length: 49\r\n\r\n{\"key\":\"K-14\",\"gtin\":\"09506000134352\",\"lot\":\"L0\"}",
-        "HTTP/1.1 200 OK\r\ncontent-type: application/json\r\ncontent-length: 10\r\nconnection: close\r\n\r\n{\"act\":14}",
-    ),
-    (
-        "GET /orders/S-1 HTTP/1.1\r\n\r\n",
-        "HTTP/1.1 200 OK\r\ncontent-type: application/json\r\ncontent-length: 213\r\nconnection: close\r\n\r\n{\"customer\":\"Corner Shop\",\"lines\":[{\"gtin\":\"09506000134352\",\"ordered\":12,\"reserved\":[{\"lot\":\"L2\",\"qty\":3},{\"lot\":\"L1\",\"qty\":2}],\"shipped\":0,\"short\":0,\"staged\":[{\"lot\":\"L2\",\"qty\":7}]}],\"order\":\"S-1\",\"state\":\"OPEN\"}",
-    ),
-    (
-        "GET /orders/S-2 HTTP/1.1\r\n\r\n",
-        "HTTP/1.1 200 OK\r\ncontent-type: application/json\r\ncontent-length: 173\r\nconnection: close\r\n\r\n{\"customer\":\"Harbour Cafe\",\"lines\":[{\"gtin\":\"09506000134352\",\"ordered\":12,\"reserved\":[{\"lot\":\"L1\",\"qty\":8}],\"shipped\":0,\"short\":4,\"staged\":[]}],\"order\":\"S-2\",\"state\":\"OPEN\"}",
-    ),
-    (
-        "POST /releases HTTP/1.1\r\nContent-Length: 49\r\n\r\n{\"key\":\"K-15\",\"gtin\":\"09506000134352\",\"lot\":\"L0\"}",
-        "HTTP/1.1 409 Conflict\r\ncontent-type: application/json\r\ncontent-length: 14\r\nconnection: close\r\n\r\n{\"code\":\"S04\"}",
-    ),
-    (
-        "POST /releases HTTP/1.1\r\nContent-Length: 49\r\n\r\n{\"key\":\"K-14\",\"gtin\":\"09506000134352\",\"lot\":\"L0\"}",
-        "HTTP/1.1 200 OK\r\ncontent-type: application/json\r\ncontent-length: 10\r\nconnection: close\r\n\r\n{\"act\":14}",
-    ),
-    (
-        "POST /picks HTTP/1.1\r\nContent-Length: 87\r\n\r\n{\"key\":\"K-15\",\"order\":\"S-1\",\"gtin\":\"09506000134352\",\"lot\":\"L0\",\"bin\":\"RETURNS\",\"qty\":5}",
-        "HTTP/1.1 409 Conflict\r\ncontent-type: application/json\r\ncontent-length: 14\r\nconnection: close\r\n\r\n{\"code\":\"S06\"}",
-    ),
-    (
-        "POST /moves HTTP/1.1\r\nContent-Length: 86\r\n\r\n{\"key\":\"K-15\",\"gtin\":\"09506000134352\",\"lot\":\"L0\",\"from\":\"RETURNS\",\"to\":\"A-02\",\"qty\":5}",
-        "HTTP/1.1 200 OK\r\ncontent-type: application/json\r\ncontent-length: 10\r\nconnection: close\r\n\r\n{\"act\":15}",
-    ),
-    (
-        "GET /orders/S-1 HTTP/1.1\r\n\r\n",
-        "HTTP/1.1 200 OK\r\ncontent-type: application/json\r\ncontent-length: 192\r\nconnection: close\r\n\r\n{\"customer\":\"Corner Shop\",\"lines\":[{\"gtin\":\"09506000134352\",\"ordered\":12,\"reserved\":[{\"lot\":\"L0\",\"qty\":5}],\"shipped\":0,\"short\":0,\"staged\":[{\"lot\":\"L2\",\"qty\":7}]}],\"order\":\"S-1\",\"state\":\"OPEN\"}",
-    ),
-    (
-        "GET /orders/S-2 HTTP/1.1\r\n\r\n",
-        "HTTP/1.1 200 OK\r\ncontent-type: application/json\r\ncontent-length: 194\r\nconnection: close\r\n\r\n{\"customer\":\"Harbour Cafe\",\"lines\":[{\"gtin\":\"09506000134352\",\"ordered\":12,\"reserved\":[{\"lot\":\"L2\",\"qty\":3},{\"lot\":\"L1\",\"qty\":9}],\"shipped\":0,\"short\":0,\"staged\":[]}],\"order\":\"S-2\",\"state\":\"OPEN\"}",
-    ),
-];
+pub(crate) static HELD: &str = r#"
+POST /holds {"key":"K-13","gtin":"04012345000023","lot":"L9"} => 409 {"code":"U01"}
+POST /holds {"key":"K-13","gtin":"09506000134352","lot":"L9"} => 409 {"code":"U03"}
+POST /releases {"key":"K-13","gtin":"09506000134352","lot":"L0"} => 409 {"code":"S04"}
+POST /holds {"key":"K-13","gtin":"09506000134352","lot":"L0"} => 200 {"act":13,"returned":5}
+GET /orders/S-1 => 200 {"customer":"Corner Shop","lines":[{"gtin":"09506000134352","ordered":12,"reserved":[{"lot":"L2","qty":3},{"lot":"L1","qty":2}],"shipped":0,"short":0,"staged":[{"lot":"L2","qty":7}]}],"order":"S-1","state":"OPEN"}
+GET /orders/S-2 => 200 {"customer":"Harbour Cafe","lines":[{"gtin":"09506000134352","ordered":12,"reserved":[{"lot":"L1","qty":8}],"shipped":0,"short":4,"staged":[]}],"order":"S-2","state":"OPEN"}
+POST /holds {"key":"K-14","gtin":"09506000134352","lot":"L0"} => 409 {"code":"S03"}
+POST /picks {"key":"K-14","order":"S-1","gtin":"09506000134352","lot":"L0","bin":"RETURNS","qty":5} => 409 {"code":"S03"}
+POST /holds {"key":"K-13","gtin":"09506000134352","lot":"L0"} => 200 {"act":13,"returned":5}
+POST /releases {"key":"K-14","gtin":"09506000134352","lot":"L0"} => 200 {"act":14}
+GET /orders/S-1 => 200 {"customer":"Corner Shop","lines":[{"gtin":"09506000134352","ordered":12,"reserved":[{"lot":"L2","qty":3},{"lot":"L1","qty":2}],"shipped":0,"short":0,"staged":[{"lot":"L2","qty":7}]}],"order":"S-1","state":"OPEN"}
+GET /orders/S-2 => 200 {"customer":"Harbour Cafe","lines":[{"gtin":"09506000134352","ordered":12,"reserved":[{"lot":"L1","qty":8}],"shipped":0,"short":4,"staged":[]}],"order":"S-2","state":"OPEN"}
+POST /releases {"key":"K-15","gtin":"09506000134352","lot":"L0"} => 409 {"code":"S04"}
+POST /releases {"key":"K-14","gtin":"09506000134352","lot":"L0"} => 200 {"act":14}
+POST /picks {"key":"K-15","order":"S-1","gtin":"09506000134352","lot":"L0","bin":"RETURNS","qty":5} => 409 {"code":"S06"}
+POST /moves {"key":"K-15","gtin":"09506000134352","lot":"L0","from":"RETURNS","to":"A-02","qty":5} => 200 {"act":15}
+GET /orders/S-1 => 200 {"customer":"Corner Shop","lines":[{"gtin":"09506000134352","ordered":12,"reserved":[{"lot":"L0","qty":5}],"shipped":0,"short":0,"staged":[{"lot":"L2","qty":7}]}],"order":"S-1","state":"OPEN"}
+GET /orders/S-2 => 200 {"customer":"Harbour Cafe","lines":[{"gtin":"09506000134352","ordered":12,"reserved":[{"lot":"L2","qty":3},{"lot":"L1","qty":9}],"shipped":0,"short":0,"staged":[]}],"order":"S-2","state":"OPEN"}
+"#;
 
 // A lot is recalled that orders were to be served from.
-pub(crate) static RECALLED: [(&str, &str); 12] = [
-    (
-        "POST /recalls HTTP/1.1\r\nContent-Length: 49\r\n\r\n{\"key\":\"K-11\",\"gtin\":\"04012345000023\",\"lot\":\"L9\"}",
-        "HTTP/1.1 409 Conflict\r\ncontent-type: application/json\r\ncontent-length: 14\r\nconnection: close\r\n\r\n{\"code\":\"U01\"}",
-    ),
-    (
-        "POST /recalls HTTP/1.1\r\nContent-Length: 49\r\n\r\n{\"key\":\"K-11\",\"gtin\":\"09506000134352\",\"lot\":\"L2\"}",
-        "HTTP/1.1 200 OK\r\ncontent-type: application/json\r\ncontent-length: 23\r\nconnection: close\r\n\r\n{\"act\":11,\"returned\":0}",
-    ),
-    (
-        "GET /orders/S-1 HTTP/1.1\r\n\r\n",
-        "HTTP/1.1 200 OK\r\ncontent-type: application/json\r\ncontent-length: 193\r\nconnection: close\r\n\r\n{\"customer\":\"Corner Shop\",\"lines\":[{\"gtin\":\"09506000134352\",\"ordered\":12,\"reserved\":[{\"lot\":\"L0\",\"qty\":5},{\"lot\":\"L1\",\"qty\":7}],\"shipped\":0,\"short\":0,\"staged\":[]}],\"order\":\"S-1\",\"state\":\"OPEN\"}",
-    ),
-    (
-        "GET /orders/S-2 HTTP/1.1\r\n\r\n",
-        "HTTP/1.1 200 OK\r\ncontent-type: application/json\r\ncontent-length: 173\r\nconnection: close\r\n\r\n{\"customer\":\"Harbour Cafe\",\"lines\":[{\"gtin\":\"09506000134352\",\"ordered\":12,\"reserved\":[{\"lot\":\"L1\",\"qty\":3}],\"shipped\":0,\"short\":9,\"staged\":[]}],\"order\":\"S-2\",\"state\":\"OPEN\"}",
-    ),
-    (
-        "POST /recalls HTTP/1.1\r\nContent-Length: 49\r\n\r\n{\"key\":\"K-12\",\"gtin\":\"09506000134352\",\"lot\":\"L2\"}",
-        "HTTP/1.1 409 Conflict\r\ncontent-type: application/json\r\ncontent-length: 14\r\nconnection: close\r\n\r\n{\"code\":\"S05\"}",
-    ),
-    (
-        "POST /holds HTTP/1.1\r\nContent-Length: 49\r\n\r\n{\"key\":\"K-12\",\"gtin\":\"09506000134352\",\"lot\":\"L2\"}",
-        "HTTP/1.1 409 Conflict\r\ncontent-type: application/json\r\ncontent-length: 14\r\nconnection: close\r\n\r\n{\"code\":\"S01\"}",
-    ),
-    (
-        "POST /releases HTTP/1.1\r\nContent-Length: 49\r\n\r\n{\"key\":\"K-12\",\"gtin\":\"09506000134352\",\"lot\":\"L2\"}",
-        "HTTP/1.1 409 Conflict\r\ncontent-type: application/json\r\ncontent-length: 14\r\nconnection: close\r\n\r\n{\"code\":\"S01\"}",
-    ),
-    (
-        "POST /picks HTTP/1.1\r\nContent-Length: 84\r\n\r\n{\"key\":\"K-12\",\"order\":\"S-1\",\"gtin\":\"09506000134352\",\"lot\":\"L2\",\"bin\":\"A-01\",\"qty\":7}",
-        "HTTP/1.1 409 Conflict\r\ncontent-type: application/json\r\ncontent-length: 14\r\nconnection: close\r\n\r\n{\"code\":\"S01\"}",
-    ),
-    (
-        "POST /recalls HTTP/1.1\r\nContent-Length: 49\r\n\r\n{\"key\":\"K-11\",\"gtin\":\"09506000134352\",\"lot\":\"L2\"}",
-        "HTTP/1.1 200 OK\r\ncontent-type: application/json\r\ncontent-length: 23\r\nconnection: close\r\n\r\n{\"act\":11,\"returned\":0}",
-    ),
-    (
-        "POST /recalls HTTP/1.1\r\nContent-Length: 49\r\n\r\n{\"key\":\"K-11\",\"gtin\":\"09506000134352\",\"lot\":\"L1\"}",
-        "HTTP/1.1 409 Conflict\r\ncontent-type: application/json\r\ncontent-length: 14\r\nconnection: close\r\n\r\n{\"code\":\"K01\"}",
-    ),
-    (
-        "GET /orders/S-1 HTTP/1.1\r\n\r\n",
-        "HTTP/1.1 200 OK\r\ncontent-type: application/json\r\ncontent-length: 193\r\nconnection: close\r\n\r\n{\"customer\":\"Corner Shop\",\"lines\":[{\"gtin\":\"09506000134352\",\"ordered\":12,\"reserved\":[{\"lot\":\"L0\",\"qty\":5},{\"lot\":\"L1\",\"qty\":7}],\"shipped\":0,\"short\":0,\"staged\":[]}],\"order\":\"S-1\",\"state\":\"OPEN\"}",
-    ),
-    (
-        "GET /orders/S-2 HTTP/1.1\r\n\r\n",
-        "HTTP/1.1 200 OK\r\ncontent-type: application/json\r\ncontent-length: 173\r\nconnection: close\r\n\r\n{\"customer\":\"Harbour Cafe\",\"lines\":[{\"gtin\":\"09506000134352\",\"ordered\":12,\"reserved\":[{\"lot\":\"L1\",\"qty\":3}],\"shipped\":0,\"short\":9,\"staged\":[]}],\"order\":\"S-2\",\"state\":\"OPEN\"}",
-    ),
-];
+pub(crate) static RECALLED: &str = r#"
+POST /recalls {"key":"K-11","gtin":"04012345000023","lot":"L9"} => 409 {"code":"U01"}
+POST /recalls {"key":"K-11","gtin":"09506000134352","lot":"L2"} => 200 {"act":11,"returned":0}
+GET /orders/S-1 => 200 {"customer":"Corner Shop","lines":[{"gtin":"09506000134352","ordered":12,"reserved":[{"lot":"L0","qty":5},{"lot":"L1","qty":7}],"shipped":0,"short":0,"staged":[]}],"order":"S-1","state":"OPEN"}
+GET /orders/S-2 => 200 {"customer":"Harbour Cafe","lines":[{"gtin":"09506000134352","ordered":12,"reserved":[{"lot":"L1","qty":3}],"shipped":0,"short":9,"staged":[]}],"order":"S-2","state":"OPEN"}
+POST /recalls {"key":"K-12","gtin":"09506000134352","lot":"L2"} => 409 {"code":"S05"}
+POST /holds {"key":"K-12","gtin":"09506000134352","lot":"L2"} => 409 {"code":"S01"}
+POST /releases {"key":"K-12","gtin":"09506000134352","lot":"L2"} => 409 {"code":"S01"}
+POST /picks {"key":"K-12","order":"S-1","gtin":"09506000134352","lot":"L2","bin":"A-01","qty":7} => 409 {"code":"S01"}
+POST /recalls {"key":"K-11","gtin":"09506000134352","lot":"L2"} => 200 {"act":11,"returned":0}
+POST /recalls {"key":"K-11","gtin":"09506000134352","lot":"L1"} => 409 {"code":"K01"}
+GET /orders/S-1 => 200 {"customer":"Corner Shop","lines":[{"gtin":"09506000134352","ordered":12,"reserved":[{"lot":"L0","qty":5},{"lot":"L1","qty":7}],"shipped":0,"short":0,"staged":[]}],"order":"S-1","state":"OPEN"}
+GET /orders/S-2 => 200 {"customer":"Harbour Cafe","lines":[{"gtin":"09506000134352","ordered":12,"reserved":[{"lot":"L1","qty":3}],"shipped":0,"short":9,"staged":[]}],"order":"S-2","state":"OPEN"}
+"#;
 
 // A receipt comes again after the recall of its lot.
-pub(crate) static RECEIVED_AND_RECALLED: [(&str, &str); 8] = [
-    (
-        "POST /recalls HTTP/1.1\r\nContent-Length: 49\r\n\r\n{\"key\":\"K-11\",\"gtin\":\"09506000134352\",\"lot\":\"L0\"}",
-        "HTTP/1.1 200 OK\r\ncontent-type: application/json\r\ncontent-length: 23\r\nconnection: close\r\n\r\n{\"act\":11,\"returned\":0}",
-    ),
-    (
-        "GET /orders/S-1 HTTP/1.1\r\n\r\n",
-        "HTTP/1.1 200 OK\r\ncontent-type: application/json\r\ncontent-length: 194\r\nconnection: close\r\n\r\n{\"customer\":\"Corner Shop\",\"lines\":[{\"gtin\":\"09506000134352\",\"ordered\":12,\"reserved\":[{\"lot\":\"L2\",\"qty\":10},{\"lot\":\"L1\",\"qty\":2}],\"shipped\":0,\"short\":0,\"staged\":[]}],\"order\":\"S-1\",\"state\":\"OPEN\"}",
-    ),
-    (
-        "GET /orders/S-2 HTTP/1.1\r\n\r\n",
-        "HTTP/1.1 200 OK\r\ncontent-type: application/json\r\ncontent-length: 173\r\nconnection: close\r\n\r\n{\"customer\":\"Harbour Cafe\",\"lines\":[{\"gtin\":\"09506000134352\",\"ordered\":12,\"reserved\":[{\"lot\":\"L1\",\"qty\":8}],\"shipped\":0,\"short\":4,\"staged\":[]}],\"order\":\"S-2\",\"state\":\"OPEN\"}",
-    ),
-    (
-        "POST /receipts HTTP/1.1\r\nContent-Length: 87\r\n\r\n{\"delivery\":\"D-2\",\"line\":1,\"label\":\"01095060001343521726051010L0\",\"bin\":\"A-01\",\"qty\":5}",
-        "HTTP/1.1 200 OK\r\ncontent-type: application/json\r\ncontent-length: 10\r\nconnection: close\r\n\r\n{\"act\":10}",
-    ),
-    (
-        "POST /receipts HTTP/1.1\r\nContent-Length: 87\r\n\r\n{\"delivery\":\"D-2\",\"line\":1,\"label\":\"01095060001343521726051010L0\",\"bin\":\"A-01\",\"qty\":6}",
-        "HTTP/1.1 409 Conflict\r\ncontent-type: application/json\r\ncontent-length: 14\r\nconnection: close\r\n\r\n{\"code\":\"K01\"}",
-    ),
-    (
-        "POST /receipts HTTP/1.1\r\nContent-Length: 87\r\n\r\n{\"delivery\":\"D-2\",\"line\":2,\"label\":\"01095060001343521726051010L0\",\"bin\":\"A-01\",\"qty\":5}",
-        "HTTP/1.1 409 Conflict\r\ncontent-type: application/json\r\ncontent-length: 14\r\nconnection: close\r\n\r\n{\"code\":\"S01\"}",
-    ),
-    (
-        "GET /orders/S-1 HTTP/1.1\r\n\r\n",
-        "HTTP/1.1 200 OK\r\ncontent-type: application/json\r\ncontent-length: 194\r\nconnection: close\r\n\r\n{\"customer\":\"Corner Shop\",\"lines\":[{\"gtin\":\"09506000134352\",\"ordered\":12,\"reserved\":[{\"lot\":\"L2\",\"qty\":10},{\"lot\":\"L1\",\"qty\":2}],\"shipped\":0,\"short\":0,\"staged\":[]}],\"order\":\"S-1\",\"state\":\"OPEN\"}",
-    ),
-    (
-        "GET /orders/S-2 HTTP/1.1\r\n\r\n",
-        "HTTP/1.1 200 OK\r\ncontent-type: application/json\r\ncontent-length: 173\r\nconnection: close\r\n\r\n{\"customer\":\"Harbour Cafe\",\"lines\":[{\"gtin\":\"09506000134352\",\"ordered\":12,\"reserved\":[{\"lot\":\"L1\",\"qty\":8}],\"shipped\":0,\"short\":4,\"staged\":[]}],\"order\":\"S-2\",\"state\":\"OPEN\"}",
-    ),
-];
+pub(crate) static RECEIVED_AND_RECALLED: &str = r#"
+POST /recalls {"key":"K-11","gtin":"09506000134352","lot":"L0"} => 200 {"act":11,"returned":0}
+GET /orders/S-1 => 200 {"customer":"Corner Shop","lines":[{"gtin":"09506000134352","ordered":12,"reserved":[{"lot":"L2","qty":10},{"lot":"L1","qty":2}],"shipped":0,"short":0,"staged":[]}],"order":"S-1","state":"OPEN"}
+GET /orders/S-2 => 200 {"customer":"Harbour Cafe","lines":[{"gtin":"09506000134352","ordered":12,"reserved":[{"lot":"L1","qty":8}],"shipped":0,"short":4,"staged":[]}],"order":"S-2","state":"OPEN"}
+POST /receipts {"delivery":"D-2","line":1,"label":"01095060001343521726051010L0","bin":"A-01","qty":5} => 200 {"act":10}
+POST /receipts {"delivery":"D-2","line":1,"label":"01095060001343521726051010L0","bin":"A-01","qty":6} => 409 {"code":"K01"}
+POST /receipts {"delivery":"D-2","line":2,"label":"01095060001343521726051010L0","bin":"A-01","qty":5} => 409 {"code":"S01"}
+GET /orders/S-1 => 200 {"customer":"Corner Shop","lines":[{"gtin":"09506000134352","ordered":12,"reserved":[{"lot":"L2","qty":10},{"lot":"L1","qty":2}],"shipped":0,"short":0,"staged":[]}],"order":"S-1","state":"OPEN"}
+GET /orders/S-2 => 200 {"customer":"Harbour Cafe","lines":[{"gtin":"09506000134352","ordered":12,"reserved":[{"lot":"L1","qty":8}],"shipped":0,"short":4,"staged":[]}],"order":"S-2","state":"OPEN"}
+"#;
 
 // A recall names a lot that was never received.
-pub(crate) static NEVER_RECEIVED: [(&str, &str); 5] = [
-    (
-        "POST /recalls HTTP/1.1\r\nContent-Length: 49\r\n\r\n{\"key\":\"K-11\",\"gtin\":\"04012345000016\",\"lot\":\"Z9\"}",
-        "HTTP/1.1 200 OK\r\ncontent-type: application/json\r\ncontent-length: 22\r\nconnection: close\r\n\r\n{\"act\":6,\"returned\":0}",
-    ),
-    (
-        "POST /receipts HTTP/1.1\r\nContent-Length: 88\r\n\r\n{\"delivery\":\"D-1\",\"line\":1,\"label\":\"01040123450000161726123110Z9\",\"bin\":\"A-01\",\"qty\":10}",
-        "HTTP/1.1 409 Conflict\r\ncontent-type: application/json\r\ncontent-length: 14\r\nconnection: close\r\n\r\n{\"code\":\"S01\"}",
-    ),
-    (
-        "POST /recalls HTTP/1.1\r\nContent-Length: 49\r\n\r\n{\"key\":\"K-12\",\"gtin\":\"04012345000016\",\"lot\":\"Z9\"}",
-        "HTTP/1.1 409 Conflict\r\ncontent-type: application/json\r\ncontent-length: 14\r\nconnection: close\r\n\r\n{\"code\":\"S05\"}",
-    ),
-    (
-        "POST /holds HTTP/1.1\r\nContent-Length: 49\r\n\r\n{\"key\":\"K-12\",\"gtin\":\"04012345000016\",\"lot\":\"Z9\"}",
-        "HTTP/1.1 409 Conflict\r\ncontent-type: application/json\r\ncontent-length: 14\r\nconnection: close\r\n\r\n{\"code\":\"U03\"}",
-    ),
-    (
-        "POST /releases HTTP/1.1\r\nContent-Length: 49\r\n\r\n{\"key\":\"K-12\",\"gtin\":\"04012345000016\",\"lot\":\"Z9\"}",
-        "HTTP/1.1 409 Conflict\r\ncontent-type: application/json\r\ncontent-length: 14\r\nconnection: close\r\n\r\n{\"code\":\"U03\"}",
-    ),
-];
+pub(crate) static NEVER_RECEIVED: &str = r#"
+POST /recalls {"key":"K-11","gtin":"04012345000016","lot":"Z9"} => 200 {"act":6,"returned":0}
+POST /receipts {"delivery":"D-1","line":1,"label":"01040123450000161726123110Z9","bin":"A-01","qty":10} => 409 {"code":"S01"}
+POST /recalls {"key":"K-12","gtin":"04012345000016","lot":"Z9"} => 409 {"code":"S05"}
+POST /holds {"key":"K-12","gtin":"04012345000016","lot":"Z9"} => 409 {"code":"U03"}
+POST /releases {"key":"K-12","gtin":"04012345000016","lot":"Z9"} => 409 {"code":"U03"}
+"#;
 
 static LOT_MOVED: [Step; 1] = [Step::House(&[Asked::Each(Table::Moved)])];
 

@@ -15,6 +15,8 @@ mod days;
 #[cfg(test)]
 mod disk;
 #[cfg(test)]
+mod exchange;
+#[cfg(test)]
 mod goods;
 #[cfg(test)]
 mod opening;

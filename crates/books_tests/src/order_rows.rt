@@ -99,11 +99,11 @@ fn keeps_every_row_on_a_connection(rt: HostRuntime) {
 static IN_A_FILE: [&[Step]; 8] = [
     &[Step::Make],
     &[Step::House(&[Asked::Each(Table::GoodsAndBins)])],
-    &[Step::House(&[Asked::Each(Table::FirstReceipt)])],
-    &[Step::House(&[Asked::Each(Table::SecondReceipt)])],
-    &[Step::House(&[Asked::Each(Table::FirstOrder)])],
-    &[Step::House(&[Asked::Each(Table::SecondOrder)])],
-    &[Step::House(&[Asked::Each(Table::LastReceipt)])],
+    &[Step::House(&[Asked::Part(Table::TwoCustomers, 0, 1)])],
+    &[Step::House(&[Asked::Part(Table::TwoCustomers, 1, 1)])],
+    &[Step::House(&[Asked::Part(Table::TwoCustomers, 2, 2)])],
+    &[Step::House(&[Asked::Part(Table::TwoCustomers, 4, 2)])],
+    &[Step::House(&[Asked::Part(Table::TwoCustomers, 6, 5)])],
     &[Step::On(On::HasRows(Left::TwoCustomers))],
 ];
 

@@ -8,348 +8,113 @@ use std::alloc::Global;
 use std::process::Abort;
 
 // Both lots that the first customer has are picked, and one pick comes again.
-pub(crate) static PICKED: [(&str, &str); 10] = [
-    (
-        "POST /picks HTTP/1.1\r\nContent-Length: 83\r\n\r\n{\"key\":\"P-9\",\"order\":\"S-1\",\"gtin\":\"09506000134352\",\"lot\":\"L2\",\"bin\":\"A-01\",\"qty\":8}",
-        "HTTP/1.1 409 Conflict\r\ncontent-type: application/json\r\ncontent-length: 14\r\nconnection: close\r\n\r\n{\"code\":\"Q02\"}",
-    ),
-    (
-        "POST /picks HTTP/1.1\r\nContent-Length: 84\r\n\r\n{\"key\":\"K-11\",\"order\":\"S-1\",\"gtin\":\"09506000134352\",\"lot\":\"L0\",\"bin\":\"A-01\",\"qty\":5}",
-        "HTTP/1.1 200 OK\r\ncontent-type: application/json\r\ncontent-length: 10\r\nconnection: close\r\n\r\n{\"act\":11}",
-    ),
-    (
-        "POST /picks HTTP/1.1\r\nContent-Length: 84\r\n\r\n{\"key\":\"K-12\",\"order\":\"S-1\",\"gtin\":\"09506000134352\",\"lot\":\"L2\",\"bin\":\"A-01\",\"qty\":7}",
-        "HTTP/1.1 200 OK\r\ncontent-type: application/json\r\ncontent-length: 10\r\nconnection: close\r\n\r\n{\"act\":12}",
-    ),
-    (
-        "GET /orders/S-1 HTTP/1.1\r\n\r\n",
-        "HTTP/1.1 200 OK\r\ncontent-type: application/json\r\ncontent-length: 193\r\nconnection: close\r\n\r\n{\"customer\":\"Corner Shop\",\"lines\":[{\"gtin\":\"09506000134352\",\"ordered\":12,\"reserved\":[],\"shipped\":0,\"short\":0,\"staged\":[{\"lot\":\"L0\",\"qty\":5},{\"lot\":\"L2\",\"qty\":7}]}],\"order\":\"S-1\",\"state\":\"OPEN\"}",
-    ),
-    (
-        "GET /orders/S-2 HTTP/1.1\r\n\r\n",
-        "HTTP/1.1 200 OK\r\ncontent-type: application/json\r\ncontent-length: 194\r\nconnection: close\r\n\r\n{\"customer\":\"Harbour Cafe\",\"lines\":[{\"gtin\":\"09506000134352\",\"ordered\":12,\"reserved\":[{\"lot\":\"L2\",\"qty\":3},{\"lot\":\"L1\",\"qty\":9}],\"shipped\":0,\"short\":0,\"staged\":[]}],\"order\":\"S-2\",\"state\":\"OPEN\"}",
-    ),
-    (
-        "POST /picks HTTP/1.1\r\nContent-Length: 84\r\n\r\n{\"key\":\"K-11\",\"order\":\"S-1\",\"gtin\":\"09506000134352\",\"lot\":\"L0\",\"bin\":\"A-01\",\"qty\":5}",
-        "HTTP/1.1 200 OK\r\ncontent-type: application/json\r\ncontent-length: 10\r\nconnection: close\r\n\r\n{\"act\":11}",
-    ),
-    (
-        "POST /picks HTTP/1.1\r\nContent-Length: 84\r\n\r\n{\"key\":\"K-11\",\"order\":\"S-1\",\"gtin\":\"09506000134352\",\"lot\":\"L0\",\"bin\":\"A-01\",\"qty\":4}",
-        "HTTP/1.1 409 Conflict\r\ncontent-type: application/json\r\ncontent-length: 14\r\nconnection: close\r\n\r\n{\"code\":\"K01\"}",
-    ),
-    (
-        "POST /shipments HTTP/1.1\r\nContent-Length: 28\r\n\r\n{\"key\":\"K-12\",\"order\":\"S-1\"}",
-        "HTTP/1.1 409 Conflict\r\ncontent-type: application/json\r\ncontent-length: 14\r\nconnection: close\r\n\r\n{\"code\":\"K01\"}",
-    ),
-    (
-        "GET /orders/S-1 HTTP/1.1\r\n\r\n",
-        "HTTP/1.1 200 OK\r\ncontent-type: application/json\r\ncontent-length: 193\r\nconnection: close\r\n\r\n{\"customer\":\"Corner Shop\",\"lines\":[{\"gtin\":\"09506000134352\",\"ordered\":12,\"reserved\":[],\"shipped\":0,\"short\":0,\"staged\":[{\"lot\":\"L0\",\"qty\":5},{\"lot\":\"L2\",\"qty\":7}]}],\"order\":\"S-1\",\"state\":\"OPEN\"}",
-    ),
-    (
-        "GET /orders/S-2 HTTP/1.1\r\n\r\n",
-        "HTTP/1.1 200 OK\r\ncontent-type: application/json\r\ncontent-length: 194\r\nconnection: close\r\n\r\n{\"customer\":\"Harbour Cafe\",\"lines\":[{\"gtin\":\"09506000134352\",\"ordered\":12,\"reserved\":[{\"lot\":\"L2\",\"qty\":3},{\"lot\":\"L1\",\"qty\":9}],\"shipped\":0,\"short\":0,\"staged\":[]}],\"order\":\"S-2\",\"state\":\"OPEN\"}",
-    ),
-];
+pub(crate) static PICKED: &str = r#"
+POST /picks {"key":"P-9","order":"S-1","gtin":"09506000134352","lot":"L2","bin":"A-01","qty":8} => 409 {"code":"Q02"}
+POST /picks {"key":"K-11","order":"S-1","gtin":"09506000134352","lot":"L0","bin":"A-01","qty":5} => 200 {"act":11}
+POST /picks {"key":"K-12","order":"S-1","gtin":"09506000134352","lot":"L2","bin":"A-01","qty":7} => 200 {"act":12}
+GET /orders/S-1 => 200 {"customer":"Corner Shop","lines":[{"gtin":"09506000134352","ordered":12,"reserved":[],"shipped":0,"short":0,"staged":[{"lot":"L0","qty":5},{"lot":"L2","qty":7}]}],"order":"S-1","state":"OPEN"}
+GET /orders/S-2 => 200 {"customer":"Harbour Cafe","lines":[{"gtin":"09506000134352","ordered":12,"reserved":[{"lot":"L2","qty":3},{"lot":"L1","qty":9}],"shipped":0,"short":0,"staged":[]}],"order":"S-2","state":"OPEN"}
+POST /picks {"key":"K-11","order":"S-1","gtin":"09506000134352","lot":"L0","bin":"A-01","qty":5} => 200 {"act":11}
+POST /picks {"key":"K-11","order":"S-1","gtin":"09506000134352","lot":"L0","bin":"A-01","qty":4} => 409 {"code":"K01"}
+POST /shipments {"key":"K-12","order":"S-1"} => 409 {"code":"K01"}
+GET /orders/S-1 => 200 {"customer":"Corner Shop","lines":[{"gtin":"09506000134352","ordered":12,"reserved":[],"shipped":0,"short":0,"staged":[{"lot":"L0","qty":5},{"lot":"L2","qty":7}]}],"order":"S-1","state":"OPEN"}
+GET /orders/S-2 => 200 {"customer":"Harbour Cafe","lines":[{"gtin":"09506000134352","ordered":12,"reserved":[{"lot":"L2","qty":3},{"lot":"L1","qty":9}],"shipped":0,"short":0,"staged":[]}],"order":"S-2","state":"OPEN"}
+"#;
 
 // A key that was refused serves another pick, and then it is taken.
-pub(crate) static KEY_LEFT_FREE: [(&str, &str); 7] = [
-    (
-        "POST /picks HTTP/1.1\r\nContent-Length: 83\r\n\r\n{\"key\":\"P-9\",\"order\":\"S-1\",\"gtin\":\"09506000134352\",\"lot\":\"L2\",\"bin\":\"A-01\",\"qty\":8}",
-        "HTTP/1.1 409 Conflict\r\ncontent-type: application/json\r\ncontent-length: 14\r\nconnection: close\r\n\r\n{\"code\":\"Q02\"}",
-    ),
-    (
-        "GET /orders/S-1 HTTP/1.1\r\n\r\n",
-        "HTTP/1.1 200 OK\r\ncontent-type: application/json\r\ncontent-length: 193\r\nconnection: close\r\n\r\n{\"customer\":\"Corner Shop\",\"lines\":[{\"gtin\":\"09506000134352\",\"ordered\":12,\"reserved\":[{\"lot\":\"L0\",\"qty\":5},{\"lot\":\"L2\",\"qty\":7}],\"shipped\":0,\"short\":0,\"staged\":[]}],\"order\":\"S-1\",\"state\":\"OPEN\"}",
-    ),
-    (
-        "GET /orders/S-2 HTTP/1.1\r\n\r\n",
-        "HTTP/1.1 200 OK\r\ncontent-type: application/json\r\ncontent-length: 194\r\nconnection: close\r\n\r\n{\"customer\":\"Harbour Cafe\",\"lines\":[{\"gtin\":\"09506000134352\",\"ordered\":12,\"reserved\":[{\"lot\":\"L2\",\"qty\":3},{\"lot\":\"L1\",\"qty\":9}],\"shipped\":0,\"short\":0,\"staged\":[]}],\"order\":\"S-2\",\"state\":\"OPEN\"}",
-    ),
-    (
-        "POST /picks HTTP/1.1\r\nContent-Length: 83\r\n\r\n{\"key\":\"P-9\",\"order\":\"S-1\",\"gtin\":\"09506000134352\",\"lot\":\"L2\",\"bin\":\"A-01\",\"qty\":7}",
-        "HTTP/1.1 200 OK\r\ncontent-type: application/json\r\ncontent-length: 10\r\nconnection: close\r\n\r\n{\"act\":11}",
-    ),
-    (
-        "GET /orders/S-1 HTTP/1.1\r\n\r\n",
-        "HTTP/1.1 200 OK\r\ncontent-type: application/json\r\ncontent-length: 192\r\nconnection: close\r\n\r\n{\"customer\":\"Corner Shop\",\"lines\":[{\"gtin\":\"09506000134352\",\"ordered\":12,\"reserved\":[{\"lot\":\"L0\",\"qty\":5}],\"shipped\":0,\"short\":0,\"staged\":[{\"lot\":\"L2\",\"qty\":7}]}],\"order\":\"S-1\",\"state\":\"OPEN\"}",
-    ),
-    (
-        "GET /orders/S-2 HTTP/1.1\r\n\r\n",
-        "HTTP/1.1 200 OK\r\ncontent-type: application/json\r\ncontent-length: 194\r\nconnection: close\r\n\r\n{\"customer\":\"Harbour Cafe\",\"lines\":[{\"gtin\":\"09506000134352\",\"ordered\":12,\"reserved\":[{\"lot\":\"L2\",\"qty\":3},{\"lot\":\"L1\",\"qty\":9}],\"shipped\":0,\"short\":0,\"staged\":[]}],\"order\":\"S-2\",\"state\":\"OPEN\"}",
-    ),
-    (
-        "POST /picks HTTP/1.1\r\nContent-Length: 83\r\n\r\n{\"key\":\"P-9\",\"order\":\"S-1\",\"gtin\":\"09506000134352\",\"lot\":\"L2\",\"bin\":\"A-01\",\"qty\":8}",
-        "HTTP/1.1 409 Conflict\r\ncontent-type: application/json\r\ncontent-length: 14\r\nconnection: close\r\n\r\n{\"code\":\"K01\"}",
-    ),
-];
+pub(crate) static KEY_LEFT_FREE: &str = r#"
+POST /picks {"key":"P-9","order":"S-1","gtin":"09506000134352","lot":"L2","bin":"A-01","qty":8} => 409 {"code":"Q02"}
+GET /orders/S-1 => 200 {"customer":"Corner Shop","lines":[{"gtin":"09506000134352","ordered":12,"reserved":[{"lot":"L0","qty":5},{"lot":"L2","qty":7}],"shipped":0,"short":0,"staged":[]}],"order":"S-1","state":"OPEN"}
+GET /orders/S-2 => 200 {"customer":"Harbour Cafe","lines":[{"gtin":"09506000134352","ordered":12,"reserved":[{"lot":"L2","qty":3},{"lot":"L1","qty":9}],"shipped":0,"short":0,"staged":[]}],"order":"S-2","state":"OPEN"}
+POST /picks {"key":"P-9","order":"S-1","gtin":"09506000134352","lot":"L2","bin":"A-01","qty":7} => 200 {"act":11}
+GET /orders/S-1 => 200 {"customer":"Corner Shop","lines":[{"gtin":"09506000134352","ordered":12,"reserved":[{"lot":"L0","qty":5}],"shipped":0,"short":0,"staged":[{"lot":"L2","qty":7}]}],"order":"S-1","state":"OPEN"}
+GET /orders/S-2 => 200 {"customer":"Harbour Cafe","lines":[{"gtin":"09506000134352","ordered":12,"reserved":[{"lot":"L2","qty":3},{"lot":"L1","qty":9}],"shipped":0,"short":0,"staged":[]}],"order":"S-2","state":"OPEN"}
+POST /picks {"key":"P-9","order":"S-1","gtin":"09506000134352","lot":"L2","bin":"A-01","qty":8} => 409 {"code":"K01"}
+"#;
 
 // What a pick is refused for, the first of the reasons that hold.
-pub(crate) static PICKS_REFUSED: [(&str, &str); 15] = [
-    (
-        "POST /picks HTTP/1.1\r\nContent-Length: 83\r\n\r\n{\"key\":\"P-1\",\"order\":\"S-9\",\"gtin\":\"04012345000023\",\"lot\":\"L9\",\"bin\":\"B-99\",\"qty\":1}",
-        "HTTP/1.1 409 Conflict\r\ncontent-type: application/json\r\ncontent-length: 14\r\nconnection: close\r\n\r\n{\"code\":\"U01\"}",
-    ),
-    (
-        "POST /picks HTTP/1.1\r\nContent-Length: 83\r\n\r\n{\"key\":\"P-1\",\"order\":\"S-9\",\"gtin\":\"09506000134352\",\"lot\":\"L9\",\"bin\":\"B-99\",\"qty\":1}",
-        "HTTP/1.1 409 Conflict\r\ncontent-type: application/json\r\ncontent-length: 14\r\nconnection: close\r\n\r\n{\"code\":\"U02\"}",
-    ),
-    (
-        "POST /picks HTTP/1.1\r\nContent-Length: 83\r\n\r\n{\"key\":\"P-1\",\"order\":\"S-9\",\"gtin\":\"09506000134352\",\"lot\":\"L9\",\"bin\":\"A-01\",\"qty\":1}",
-        "HTTP/1.1 409 Conflict\r\ncontent-type: application/json\r\ncontent-length: 14\r\nconnection: close\r\n\r\n{\"code\":\"U03\"}",
-    ),
-    (
-        "POST /picks HTTP/1.1\r\nContent-Length: 84\r\n\r\n{\"key\":\"P-1\",\"order\":\"S-9\",\"gtin\":\"09506000134352\",\"lot\":\"L2\",\"bin\":\"Q-01\",\"qty\":99}",
-        "HTTP/1.1 409 Conflict\r\ncontent-type: application/json\r\ncontent-length: 14\r\nconnection: close\r\n\r\n{\"code\":\"U04\"}",
-    ),
-    (
-        "POST /receipts HTTP/1.1\r\nContent-Length: 87\r\n\r\n{\"delivery\":\"D-3\",\"line\":1,\"label\":\"01040123450000161726123110N1\",\"bin\":\"A-02\",\"qty\":4}",
-        "HTTP/1.1 200 OK\r\ncontent-type: application/json\r\ncontent-length: 10\r\nconnection: close\r\n\r\n{\"act\":11}",
-    ),
-    (
-        "POST /picks HTTP/1.1\r\nContent-Length: 83\r\n\r\n{\"key\":\"P-1\",\"order\":\"S-1\",\"gtin\":\"04012345000016\",\"lot\":\"N1\",\"bin\":\"A-02\",\"qty\":1}",
-        "HTTP/1.1 409 Conflict\r\ncontent-type: application/json\r\ncontent-length: 14\r\nconnection: close\r\n\r\n{\"code\":\"U05\"}",
-    ),
-    (
-        "POST /picks HTTP/1.1\r\nContent-Length: 84\r\n\r\n{\"key\":\"P-1\",\"order\":\"S-1\",\"gtin\":\"09506000134352\",\"lot\":\"L2\",\"bin\":\"Q-01\",\"qty\":11}",
-        "HTTP/1.1 409 Conflict\r\ncontent-type: application/json\r\ncontent-length: 14\r\nconnection: close\r\n\r\n{\"code\":\"S06\"}",
-    ),
-    (
-        "POST /picks HTTP/1.1\r\nContent-Length: 84\r\n\r\n{\"key\":\"P-1\",\"order\":\"S-1\",\"gtin\":\"09506000134352\",\"lot\":\"L2\",\"bin\":\"A-01\",\"qty\":11}",
-        "HTTP/1.1 409 Conflict\r\ncontent-type: application/json\r\ncontent-length: 14\r\nconnection: close\r\n\r\n{\"code\":\"Q01\"}",
-    ),
-    (
-        "POST /picks HTTP/1.1\r\nContent-Length: 83\r\n\r\n{\"key\":\"P-1\",\"order\":\"S-1\",\"gtin\":\"09506000134352\",\"lot\":\"L2\",\"bin\":\"A-02\",\"qty\":1}",
-        "HTTP/1.1 409 Conflict\r\ncontent-type: application/json\r\ncontent-length: 14\r\nconnection: close\r\n\r\n{\"code\":\"Q01\"}",
-    ),
-    (
-        "POST /picks HTTP/1.1\r\nContent-Length: 83\r\n\r\n{\"key\":\"P-1\",\"order\":\"S-1\",\"gtin\":\"09506000134352\",\"lot\":\"L2\",\"bin\":\"A-01\",\"qty\":8}",
-        "HTTP/1.1 409 Conflict\r\ncontent-type: application/json\r\ncontent-length: 14\r\nconnection: close\r\n\r\n{\"code\":\"Q02\"}",
-    ),
-    (
-        "POST /picks HTTP/1.1\r\nContent-Length: 83\r\n\r\n{\"key\":\"P-1\",\"order\":\"S-2\",\"gtin\":\"09506000134352\",\"lot\":\"L0\",\"bin\":\"A-01\",\"qty\":1}",
-        "HTTP/1.1 409 Conflict\r\ncontent-type: application/json\r\ncontent-length: 14\r\nconnection: close\r\n\r\n{\"code\":\"Q02\"}",
-    ),
-    (
-        "POST /picks HTTP/1.1\r\nContent-Length: 83\r\n\r\n{\"key\":\"P-1\",\"order\":\"S-1\",\"gtin\":\"09506000134352\",\"lot\":\"L2\",\"bin\":\"A-01\",\"qty\":0}",
-        "HTTP/1.1 400 Bad Request\r\ncontent-type: application/json\r\ncontent-length: 14\r\nconnection: close\r\n\r\n{\"code\":\"W04\"}",
-    ),
-    (
-        "GET /picks HTTP/1.1\r\n\r\n",
-        "HTTP/1.1 405 Method Not Allowed\r\ncontent-type: application/json\r\ncontent-length: 14\r\nconnection: close\r\nallow: POST\r\n\r\n{\"code\":\"W07\"}",
-    ),
-    (
-        "GET /orders/S-1 HTTP/1.1\r\n\r\n",
-        "HTTP/1.1 200 OK\r\ncontent-type: application/json\r\ncontent-length: 193\r\nconnection: close\r\n\r\n{\"customer\":\"Corner Shop\",\"lines\":[{\"gtin\":\"09506000134352\",\"ordered\":12,\"reserved\":[{\"lot\":\"L0\",\"qty\":5},{\"lot\":\"L2\",\"qty\":7}],\"shipped\":0,\"short\":0,\"staged\":[]}],\"order\":\"S-1\",\"state\":\"OPEN\"}",
-    ),
-    (
-        "GET /orders/S-2 HTTP/1.1\r\n\r\n",
-        "HTTP/1.1 200 OK\r\ncontent-type: application/json\r\ncontent-length: 194\r\nconnection: close\r\n\r\n{\"customer\":\"Harbour Cafe\",\"lines\":[{\"gtin\":\"09506000134352\",\"ordered\":12,\"reserved\":[{\"lot\":\"L2\",\"qty\":3},{\"lot\":\"L1\",\"qty\":9}],\"shipped\":0,\"short\":0,\"staged\":[]}],\"order\":\"S-2\",\"state\":\"OPEN\"}",
-    ),
-];
+pub(crate) static PICKS_REFUSED: &str = r#"
+POST /picks {"key":"P-1","order":"S-9","gtin":"04012345000023","lot":"L9","bin":"B-99","qty":1} => 409 {"code":"U01"}
+POST /picks {"key":"P-1","order":"S-9","gtin":"09506000134352","lot":"L9","bin":"B-99","qty":1} => 409 {"code":"U02"}
+POST /picks {"key":"P-1","order":"S-9","gtin":"09506000134352","lot":"L9","bin":"A-01","qty":1} => 409 {"code":"U03"}
+POST /picks {"key":"P-1","order":"S-9","gtin":"09506000134352","lot":"L2","bin":"Q-01","qty":99} => 409 {"code":"U04"}
+POST /receipts {"delivery":"D-3","line":1,"label":"01040123450000161726123110N1","bin":"A-02","qty":4} => 200 {"act":11}
+POST /picks {"key":"P-1","order":"S-1","gtin":"04012345000016","lot":"N1","bin":"A-02","qty":1} => 409 {"code":"U05"}
+POST /picks {"key":"P-1","order":"S-1","gtin":"09506000134352","lot":"L2","bin":"Q-01","qty":11} => 409 {"code":"S06"}
+POST /picks {"key":"P-1","order":"S-1","gtin":"09506000134352","lot":"L2","bin":"A-01","qty":11} => 409 {"code":"Q01"}
+POST /picks {"key":"P-1","order":"S-1","gtin":"09506000134352","lot":"L2","bin":"A-02","qty":1} => 409 {"code":"Q01"}
+POST /picks {"key":"P-1","order":"S-1","gtin":"09506000134352","lot":"L2","bin":"A-01","qty":8} => 409 {"code":"Q02"}
+POST /picks {"key":"P-1","order":"S-2","gtin":"09506000134352","lot":"L0","bin":"A-01","qty":1} => 409 {"code":"Q02"}
+POST /picks {"key":"P-1","order":"S-1","gtin":"09506000134352","lot":"L2","bin":"A-01","qty":0} => 400 {"code":"W04"}
+GET /orders/S-1 => 200 {"customer":"Corner Shop","lines":[{"gtin":"09506000134352","ordered":12,"reserved":[{"lot":"L0","qty":5},{"lot":"L2","qty":7}],"shipped":0,"short":0,"staged":[]}],"order":"S-1","state":"OPEN"}
+GET /orders/S-2 => 200 {"customer":"Harbour Cafe","lines":[{"gtin":"09506000134352","ordered":12,"reserved":[{"lot":"L2","qty":3},{"lot":"L1","qty":9}],"shipped":0,"short":0,"staged":[]}],"order":"S-2","state":"OPEN"}
+"#;
 
 // After the picks: three units go back into a bin that serves no orders.
-pub(crate) static UNPICKED: [(&str, &str); 12] = [
-    (
-        "POST /cancels HTTP/1.1\r\nContent-Length: 28\r\n\r\n{\"key\":\"K-13\",\"order\":\"S-1\"}",
-        "HTTP/1.1 409 Conflict\r\ncontent-type: application/json\r\ncontent-length: 14\r\nconnection: close\r\n\r\n{\"code\":\"S08\"}",
-    ),
-    (
-        "POST /unpicks HTTP/1.1\r\nContent-Length: 84\r\n\r\n{\"key\":\"K-13\",\"order\":\"S-1\",\"gtin\":\"09506000134352\",\"lot\":\"L2\",\"bin\":\"A-01\",\"qty\":8}",
-        "HTTP/1.1 409 Conflict\r\ncontent-type: application/json\r\ncontent-length: 14\r\nconnection: close\r\n\r\n{\"code\":\"Q03\"}",
-    ),
-    (
-        "POST /unpicks HTTP/1.1\r\nContent-Length: 84\r\n\r\n{\"key\":\"K-13\",\"order\":\"S-2\",\"gtin\":\"09506000134352\",\"lot\":\"L2\",\"bin\":\"A-01\",\"qty\":1}",
-        "HTTP/1.1 409 Conflict\r\ncontent-type: application/json\r\ncontent-length: 14\r\nconnection: close\r\n\r\n{\"code\":\"Q03\"}",
-    ),
-    (
-        "POST /unpicks HTTP/1.1\r\nContent-Length: 84\r\n\r\n{\"key\":\"K-13\",\"order\":\"S-1\",\"gtin\":\"09506000134352\",\"lot\":\"L2\",\"bin\":\"B-99\",\"qty\":3}",
-        "HTTP/1.1 409 Conflict\r\ncontent-type: application/json\r\ncontent-length: 14\r\nconnection: close\r\n\r\n{\"code\":\"U02\"}",
-    ),
-    (
-        "POST /unpicks HTTP/1.1\r\nContent-Length: 84\r\n\r\n{\"key\":\"K-13\",\"order\":\"S-1\",\"gtin\":\"09506000134352\",\"lot\":\"L2\",\"bin\":\"Q-01\",\"qty\":3}",
-        "HTTP/1.1 200 OK\r\ncontent-type: application/json\r\ncontent-length: 10\r\nconnection: close\r\n\r\n{\"act\":13}",
-    ),
-    (
-        "GET /orders/S-1 HTTP/1.1\r\n\r\n",
-        "HTTP/1.1 200 OK\r\ncontent-type: application/json\r\ncontent-length: 213\r\nconnection: close\r\n\r\n{\"customer\":\"Corner Shop\",\"lines\":[{\"gtin\":\"09506000134352\",\"ordered\":12,\"reserved\":[{\"lot\":\"L2\",\"qty\":3}],\"shipped\":0,\"short\":0,\"staged\":[{\"lot\":\"L0\",\"qty\":5},{\"lot\":\"L2\",\"qty\":4}]}],\"order\":\"S-1\",\"state\":\"OPEN\"}",
-    ),
-    (
-        "GET /orders/S-2 HTTP/1.1\r\n\r\n",
-        "HTTP/1.1 200 OK\r\ncontent-type: application/json\r\ncontent-length: 174\r\nconnection: close\r\n\r\n{\"customer\":\"Harbour Cafe\",\"lines\":[{\"gtin\":\"09506000134352\",\"ordered\":12,\"reserved\":[{\"lot\":\"L1\",\"qty\":10}],\"shipped\":0,\"short\":2,\"staged\":[]}],\"order\":\"S-2\",\"state\":\"OPEN\"}",
-    ),
-    (
-        "POST /unpicks HTTP/1.1\r\nContent-Length: 84\r\n\r\n{\"key\":\"K-13\",\"order\":\"S-1\",\"gtin\":\"09506000134352\",\"lot\":\"L2\",\"bin\":\"Q-01\",\"qty\":3}",
-        "HTTP/1.1 200 OK\r\ncontent-type: application/json\r\ncontent-length: 10\r\nconnection: close\r\n\r\n{\"act\":13}",
-    ),
-    (
-        "POST /unpicks HTTP/1.1\r\nContent-Length: 84\r\n\r\n{\"key\":\"K-13\",\"order\":\"S-1\",\"gtin\":\"09506000134352\",\"lot\":\"L2\",\"bin\":\"A-01\",\"qty\":3}",
-        "HTTP/1.1 409 Conflict\r\ncontent-type: application/json\r\ncontent-length: 14\r\nconnection: close\r\n\r\n{\"code\":\"K01\"}",
-    ),
-    (
-        "POST /unpicks HTTP/1.1\r\nContent-Length: 84\r\n\r\n{\"key\":\"K-14\",\"order\":\"S-1\",\"gtin\":\"09506000134352\",\"lot\":\"L2\",\"bin\":\"A-01\",\"qty\":5}",
-        "HTTP/1.1 409 Conflict\r\ncontent-type: application/json\r\ncontent-length: 14\r\nconnection: close\r\n\r\n{\"code\":\"Q03\"}",
-    ),
-    (
-        "GET /orders/S-1 HTTP/1.1\r\n\r\n",
-        "HTTP/1.1 200 OK\r\ncontent-type: application/json\r\ncontent-length: 213\r\nconnection: close\r\n\r\n{\"customer\":\"Corner Shop\",\"lines\":[{\"gtin\":\"09506000134352\",\"ordered\":12,\"reserved\":[{\"lot\":\"L2\",\"qty\":3}],\"shipped\":0,\"short\":0,\"staged\":[{\"lot\":\"L0\",\"qty\":5},{\"lot\":\"L2\",\"qty\":4}]}],\"order\":\"S-1\",\"state\":\"OPEN\"}",
-    ),
-    (
-        "GET /orders/S-2 HTTP/1.1\r\n\r\n",
-        "HTTP/1.1 200 OK\r\ncontent-type: application/json\r\ncontent-length: 174\r\nconnection: close\r\n\r\n{\"customer\":\"Harbour Cafe\",\"lines\":[{\"gtin\":\"09506000134352\",\"ordered\":12,\"reserved\":[{\"lot\":\"L1\",\"qty\":10}],\"shipped\":0,\"short\":2,\"staged\":[]}],\"order\":\"S-2\",\"state\":\"OPEN\"}",
-    ),
-];
+pub(crate) static UNPICKED: &str = r#"
+POST /cancels {"key":"K-13","order":"S-1"} => 409 {"code":"S08"}
+POST /unpicks {"key":"K-13","order":"S-1","gtin":"09506000134352","lot":"L2","bin":"A-01","qty":8} => 409 {"code":"Q03"}
+POST /unpicks {"key":"K-13","order":"S-2","gtin":"09506000134352","lot":"L2","bin":"A-01","qty":1} => 409 {"code":"Q03"}
+POST /unpicks {"key":"K-13","order":"S-1","gtin":"09506000134352","lot":"L2","bin":"B-99","qty":3} => 409 {"code":"U02"}
+POST /unpicks {"key":"K-13","order":"S-1","gtin":"09506000134352","lot":"L2","bin":"Q-01","qty":3} => 200 {"act":13}
+GET /orders/S-1 => 200 {"customer":"Corner Shop","lines":[{"gtin":"09506000134352","ordered":12,"reserved":[{"lot":"L2","qty":3}],"shipped":0,"short":0,"staged":[{"lot":"L0","qty":5},{"lot":"L2","qty":4}]}],"order":"S-1","state":"OPEN"}
+GET /orders/S-2 => 200 {"customer":"Harbour Cafe","lines":[{"gtin":"09506000134352","ordered":12,"reserved":[{"lot":"L1","qty":10}],"shipped":0,"short":2,"staged":[]}],"order":"S-2","state":"OPEN"}
+POST /unpicks {"key":"K-13","order":"S-1","gtin":"09506000134352","lot":"L2","bin":"Q-01","qty":3} => 200 {"act":13}
+POST /unpicks {"key":"K-13","order":"S-1","gtin":"09506000134352","lot":"L2","bin":"A-01","qty":3} => 409 {"code":"K01"}
+POST /unpicks {"key":"K-14","order":"S-1","gtin":"09506000134352","lot":"L2","bin":"A-01","qty":5} => 409 {"code":"Q03"}
+GET /orders/S-1 => 200 {"customer":"Corner Shop","lines":[{"gtin":"09506000134352","ordered":12,"reserved":[{"lot":"L2","qty":3}],"shipped":0,"short":0,"staged":[{"lot":"L0","qty":5},{"lot":"L2","qty":4}]}],"order":"S-1","state":"OPEN"}
+GET /orders/S-2 => 200 {"customer":"Harbour Cafe","lines":[{"gtin":"09506000134352","ordered":12,"reserved":[{"lot":"L1","qty":10}],"shipped":0,"short":2,"staged":[]}],"order":"S-2","state":"OPEN"}
+"#;
 
 // After the picks: one lot is recalled, and the rest is shipped.
-pub(crate) static RETURNED_AND_SHIPPED: [(&str, &str); 8] = [
-    (
-        "POST /recalls HTTP/1.1\r\nContent-Length: 49\r\n\r\n{\"key\":\"K-13\",\"gtin\":\"09506000134352\",\"lot\":\"L2\"}",
-        "HTTP/1.1 200 OK\r\ncontent-type: application/json\r\ncontent-length: 23\r\nconnection: close\r\n\r\n{\"act\":13,\"returned\":7}",
-    ),
-    (
-        "GET /orders/S-1 HTTP/1.1\r\n\r\n",
-        "HTTP/1.1 200 OK\r\ncontent-type: application/json\r\ncontent-length: 192\r\nconnection: close\r\n\r\n{\"customer\":\"Corner Shop\",\"lines\":[{\"gtin\":\"09506000134352\",\"ordered\":12,\"reserved\":[{\"lot\":\"L1\",\"qty\":7}],\"shipped\":0,\"short\":0,\"staged\":[{\"lot\":\"L0\",\"qty\":5}]}],\"order\":\"S-1\",\"state\":\"OPEN\"}",
-    ),
-    (
-        "GET /orders/S-2 HTTP/1.1\r\n\r\n",
-        "HTTP/1.1 200 OK\r\ncontent-type: application/json\r\ncontent-length: 173\r\nconnection: close\r\n\r\n{\"customer\":\"Harbour Cafe\",\"lines\":[{\"gtin\":\"09506000134352\",\"ordered\":12,\"reserved\":[{\"lot\":\"L1\",\"qty\":3}],\"shipped\":0,\"short\":9,\"staged\":[]}],\"order\":\"S-2\",\"state\":\"OPEN\"}",
-    ),
-    (
-        "POST /shipments HTTP/1.1\r\nContent-Length: 28\r\n\r\n{\"key\":\"K-14\",\"order\":\"S-1\"}",
-        "HTTP/1.1 200 OK\r\ncontent-type: application/json\r\ncontent-length: 23\r\nconnection: close\r\n\r\n{\"act\":14,\"shipment\":1}",
-    ),
-    (
-        "GET /orders/S-1 HTTP/1.1\r\n\r\n",
-        "HTTP/1.1 200 OK\r\ncontent-type: application/json\r\ncontent-length: 172\r\nconnection: close\r\n\r\n{\"customer\":\"Corner Shop\",\"lines\":[{\"gtin\":\"09506000134352\",\"ordered\":12,\"reserved\":[{\"lot\":\"L1\",\"qty\":7}],\"shipped\":5,\"short\":0,\"staged\":[]}],\"order\":\"S-1\",\"state\":\"OPEN\"}",
-    ),
-    (
-        "GET /orders/S-2 HTTP/1.1\r\n\r\n",
-        "HTTP/1.1 200 OK\r\ncontent-type: application/json\r\ncontent-length: 173\r\nconnection: close\r\n\r\n{\"customer\":\"Harbour Cafe\",\"lines\":[{\"gtin\":\"09506000134352\",\"ordered\":12,\"reserved\":[{\"lot\":\"L1\",\"qty\":3}],\"shipped\":0,\"short\":9,\"staged\":[]}],\"order\":\"S-2\",\"state\":\"OPEN\"}",
-    ),
-    (
-        "POST /shipments HTTP/1.1\r\nContent-Length: 28\r\n\r\n{\"key\":\"K-15\",\"order\":\"S-1\"}",
-        "HTTP/1.1 409 Conflict\r\ncontent-type: application/json\r\ncontent-length: 14\r\nconnection: close\r\n\r\n{\"code\":\"S09\"}",
-    ),
-    (
-        "POST /shipments HTTP/1.1\r\nContent-Length: 28\r\n\r\n{\"key\":\"K-14\",\"order\":\"S-1\"}",
-        "HTTP/1.1 200 OK\r\ncontent-type: application/json\r\ncontent-length: 23\r\nconnection: close\r\n\r\n{\"act\":14,\"shipment\":1}",
-    ),
-];
+pub(crate) static RETURNED_AND_SHIPPED: &str = r#"
+POST /recalls {"key":"K-13","gtin":"09506000134352","lot":"L2"} => 200 {"act":13,"returned":7}
+GET /orders/S-1 => 200 {"customer":"Corner Shop","lines":[{"gtin":"09506000134352","ordered":12,"reserved":[{"lot":"L1","qty":7}],"shipped":0,"short":0,"staged":[{"lot":"L0","qty":5}]}],"order":"S-1","state":"OPEN"}
+GET /orders/S-2 => 200 {"customer":"Harbour Cafe","lines":[{"gtin":"09506000134352","ordered":12,"reserved":[{"lot":"L1","qty":3}],"shipped":0,"short":9,"staged":[]}],"order":"S-2","state":"OPEN"}
+POST /shipments {"key":"K-14","order":"S-1"} => 200 {"act":14,"shipment":1}
+GET /orders/S-1 => 200 {"customer":"Corner Shop","lines":[{"gtin":"09506000134352","ordered":12,"reserved":[{"lot":"L1","qty":7}],"shipped":5,"short":0,"staged":[]}],"order":"S-1","state":"OPEN"}
+GET /orders/S-2 => 200 {"customer":"Harbour Cafe","lines":[{"gtin":"09506000134352","ordered":12,"reserved":[{"lot":"L1","qty":3}],"shipped":0,"short":9,"staged":[]}],"order":"S-2","state":"OPEN"}
+POST /shipments {"key":"K-15","order":"S-1"} => 409 {"code":"S09"}
+POST /shipments {"key":"K-14","order":"S-1"} => 200 {"act":14,"shipment":1}
+"#;
 
 // After the picks: all is shipped, and one lot is recalled.
-pub(crate) static SHIPPED_AND_RECALLED: [(&str, &str); 7] = [
-    (
-        "POST /shipments HTTP/1.1\r\nContent-Length: 28\r\n\r\n{\"key\":\"K-13\",\"order\":\"S-9\"}",
-        "HTTP/1.1 409 Conflict\r\ncontent-type: application/json\r\ncontent-length: 14\r\nconnection: close\r\n\r\n{\"code\":\"U04\"}",
-    ),
-    (
-        "POST /shipments HTTP/1.1\r\nContent-Length: 28\r\n\r\n{\"key\":\"K-13\",\"order\":\"S-2\"}",
-        "HTTP/1.1 409 Conflict\r\ncontent-type: application/json\r\ncontent-length: 14\r\nconnection: close\r\n\r\n{\"code\":\"S09\"}",
-    ),
-    (
-        "POST /shipments HTTP/1.1\r\nContent-Length: 28\r\n\r\n{\"key\":\"K-13\",\"order\":\"S-1\"}",
-        "HTTP/1.1 200 OK\r\ncontent-type: application/json\r\ncontent-length: 23\r\nconnection: close\r\n\r\n{\"act\":13,\"shipment\":1}",
-    ),
-    (
-        "GET /orders/S-1 HTTP/1.1\r\n\r\n",
-        "HTTP/1.1 200 OK\r\ncontent-type: application/json\r\ncontent-length: 153\r\nconnection: close\r\n\r\n{\"customer\":\"Corner Shop\",\"lines\":[{\"gtin\":\"09506000134352\",\"ordered\":12,\"reserved\":[],\"shipped\":12,\"short\":0,\"staged\":[]}],\"order\":\"S-1\",\"state\":\"DONE\"}",
-    ),
-    (
-        "POST /recalls HTTP/1.1\r\nContent-Length: 49\r\n\r\n{\"key\":\"K-14\",\"gtin\":\"09506000134352\",\"lot\":\"L2\"}",
-        "HTTP/1.1 200 OK\r\ncontent-type: application/json\r\ncontent-length: 23\r\nconnection: close\r\n\r\n{\"act\":14,\"returned\":0}",
-    ),
-    (
-        "GET /orders/S-1 HTTP/1.1\r\n\r\n",
-        "HTTP/1.1 200 OK\r\ncontent-type: application/json\r\ncontent-length: 153\r\nconnection: close\r\n\r\n{\"customer\":\"Corner Shop\",\"lines\":[{\"gtin\":\"09506000134352\",\"ordered\":12,\"reserved\":[],\"shipped\":12,\"short\":0,\"staged\":[]}],\"order\":\"S-1\",\"state\":\"DONE\"}",
-    ),
-    (
-        "GET /orders/S-2 HTTP/1.1\r\n\r\n",
-        "HTTP/1.1 200 OK\r\ncontent-type: application/json\r\ncontent-length: 174\r\nconnection: close\r\n\r\n{\"customer\":\"Harbour Cafe\",\"lines\":[{\"gtin\":\"09506000134352\",\"ordered\":12,\"reserved\":[{\"lot\":\"L1\",\"qty\":10}],\"shipped\":0,\"short\":2,\"staged\":[]}],\"order\":\"S-2\",\"state\":\"OPEN\"}",
-    ),
-];
+pub(crate) static SHIPPED_AND_RECALLED: &str = r#"
+POST /shipments {"key":"K-13","order":"S-9"} => 409 {"code":"U04"}
+POST /shipments {"key":"K-13","order":"S-2"} => 409 {"code":"S09"}
+POST /shipments {"key":"K-13","order":"S-1"} => 200 {"act":13,"shipment":1}
+GET /orders/S-1 => 200 {"customer":"Corner Shop","lines":[{"gtin":"09506000134352","ordered":12,"reserved":[],"shipped":12,"short":0,"staged":[]}],"order":"S-1","state":"DONE"}
+POST /recalls {"key":"K-14","gtin":"09506000134352","lot":"L2"} => 200 {"act":14,"returned":0}
+GET /orders/S-1 => 200 {"customer":"Corner Shop","lines":[{"gtin":"09506000134352","ordered":12,"reserved":[],"shipped":12,"short":0,"staged":[]}],"order":"S-1","state":"DONE"}
+GET /orders/S-2 => 200 {"customer":"Harbour Cafe","lines":[{"gtin":"09506000134352","ordered":12,"reserved":[{"lot":"L1","qty":10}],"shipped":0,"short":2,"staged":[]}],"order":"S-2","state":"OPEN"}
+"#;
 
 // What is refused for an order that is done, and answered again.
-pub(crate) static DONE: [(&str, &str); 8] = [
-    (
-        "POST /shipments HTTP/1.1\r\nContent-Length: 28\r\n\r\n{\"key\":\"K-15\",\"order\":\"S-1\"}",
-        "HTTP/1.1 409 Conflict\r\ncontent-type: application/json\r\ncontent-length: 14\r\nconnection: close\r\n\r\n{\"code\":\"S07\"}",
-    ),
-    (
-        "POST /cancels HTTP/1.1\r\nContent-Length: 28\r\n\r\n{\"key\":\"K-15\",\"order\":\"S-1\"}",
-        "HTTP/1.1 409 Conflict\r\ncontent-type: application/json\r\ncontent-length: 14\r\nconnection: close\r\n\r\n{\"code\":\"S07\"}",
-    ),
-    (
-        "POST /picks HTTP/1.1\r\nContent-Length: 84\r\n\r\n{\"key\":\"K-15\",\"order\":\"S-1\",\"gtin\":\"09506000134352\",\"lot\":\"L1\",\"bin\":\"A-01\",\"qty\":1}",
-        "HTTP/1.1 409 Conflict\r\ncontent-type: application/json\r\ncontent-length: 14\r\nconnection: close\r\n\r\n{\"code\":\"S07\"}",
-    ),
-    (
-        "POST /unpicks HTTP/1.1\r\nContent-Length: 84\r\n\r\n{\"key\":\"K-15\",\"order\":\"S-1\",\"gtin\":\"09506000134352\",\"lot\":\"L0\",\"bin\":\"A-01\",\"qty\":1}",
-        "HTTP/1.1 409 Conflict\r\ncontent-type: application/json\r\ncontent-length: 14\r\nconnection: close\r\n\r\n{\"code\":\"S07\"}",
-    ),
-    (
-        "POST /shipments HTTP/1.1\r\nContent-Length: 28\r\n\r\n{\"key\":\"K-13\",\"order\":\"S-1\"}",
-        "HTTP/1.1 200 OK\r\ncontent-type: application/json\r\ncontent-length: 23\r\nconnection: close\r\n\r\n{\"act\":13,\"shipment\":1}",
-    ),
-    (
-        "POST /picks HTTP/1.1\r\nContent-Length: 84\r\n\r\n{\"key\":\"K-11\",\"order\":\"S-1\",\"gtin\":\"09506000134352\",\"lot\":\"L0\",\"bin\":\"A-01\",\"qty\":5}",
-        "HTTP/1.1 200 OK\r\ncontent-type: application/json\r\ncontent-length: 10\r\nconnection: close\r\n\r\n{\"act\":11}",
-    ),
-    (
-        "GET /orders/S-1 HTTP/1.1\r\n\r\n",
-        "HTTP/1.1 200 OK\r\ncontent-type: application/json\r\ncontent-length: 153\r\nconnection: close\r\n\r\n{\"customer\":\"Corner Shop\",\"lines\":[{\"gtin\":\"09506000134352\",\"ordered\":12,\"reserved\":[],\"shipped\":12,\"short\":0,\"staged\":[]}],\"order\":\"S-1\",\"state\":\"DONE\"}",
-    ),
-    (
-        "GET /orders/S-2 HTTP/1.1\r\n\r\n",
-        "HTTP/1.1 200 OK\r\ncontent-type: application/json\r\ncontent-length: 174\r\nconnection: close\r\n\r\n{\"customer\":\"Harbour Cafe\",\"lines\":[{\"gtin\":\"09506000134352\",\"ordered\":12,\"reserved\":[{\"lot\":\"L1\",\"qty\":10}],\"shipped\":0,\"short\":2,\"staged\":[]}],\"order\":\"S-2\",\"state\":\"OPEN\"}",
-    ),
-];
+pub(crate) static DONE: &str = r#"
+POST /shipments {"key":"K-15","order":"S-1"} => 409 {"code":"S07"}
+POST /cancels {"key":"K-15","order":"S-1"} => 409 {"code":"S07"}
+POST /picks {"key":"K-15","order":"S-1","gtin":"09506000134352","lot":"L1","bin":"A-01","qty":1} => 409 {"code":"S07"}
+POST /unpicks {"key":"K-15","order":"S-1","gtin":"09506000134352","lot":"L0","bin":"A-01","qty":1} => 409 {"code":"S07"}
+POST /shipments {"key":"K-13","order":"S-1"} => 200 {"act":13,"shipment":1}
+POST /picks {"key":"K-11","order":"S-1","gtin":"09506000134352","lot":"L0","bin":"A-01","qty":5} => 200 {"act":11}
+GET /orders/S-1 => 200 {"customer":"Corner Shop","lines":[{"gtin":"09506000134352","ordered":12,"reserved":[],"shipped":12,"short":0,"staged":[]}],"order":"S-1","state":"DONE"}
+GET /orders/S-2 => 200 {"customer":"Harbour Cafe","lines":[{"gtin":"09506000134352","ordered":12,"reserved":[{"lot":"L1","qty":10}],"shipped":0,"short":2,"staged":[]}],"order":"S-2","state":"OPEN"}
+"#;
 
 // The first customer cancels, and the second has what was reserved.
-pub(crate) static CANCELLED: [(&str, &str); 11] = [
-    (
-        "POST /cancels HTTP/1.1\r\nContent-Length: 28\r\n\r\n{\"key\":\"K-11\",\"order\":\"S-9\"}",
-        "HTTP/1.1 409 Conflict\r\ncontent-type: application/json\r\ncontent-length: 14\r\nconnection: close\r\n\r\n{\"code\":\"U04\"}",
-    ),
-    (
-        "POST /cancels HTTP/1.1\r\nContent-Length: 28\r\n\r\n{\"key\":\"K-11\",\"order\":\"S-1\"}",
-        "HTTP/1.1 200 OK\r\ncontent-type: application/json\r\ncontent-length: 10\r\nconnection: close\r\n\r\n{\"act\":11}",
-    ),
-    (
-        "GET /orders/S-1 HTTP/1.1\r\n\r\n",
-        "HTTP/1.1 200 OK\r\ncontent-type: application/json\r\ncontent-length: 157\r\nconnection: close\r\n\r\n{\"customer\":\"Corner Shop\",\"lines\":[{\"gtin\":\"09506000134352\",\"ordered\":12,\"reserved\":[],\"shipped\":0,\"short\":0,\"staged\":[]}],\"order\":\"S-1\",\"state\":\"CANCELLED\"}",
-    ),
-    (
-        "GET /orders/S-2 HTTP/1.1\r\n\r\n",
-        "HTTP/1.1 200 OK\r\ncontent-type: application/json\r\ncontent-length: 194\r\nconnection: close\r\n\r\n{\"customer\":\"Harbour Cafe\",\"lines\":[{\"gtin\":\"09506000134352\",\"ordered\":12,\"reserved\":[{\"lot\":\"L0\",\"qty\":5},{\"lot\":\"L2\",\"qty\":7}],\"shipped\":0,\"short\":0,\"staged\":[]}],\"order\":\"S-2\",\"state\":\"OPEN\"}",
-    ),
-    (
-        "POST /cancels HTTP/1.1\r\nContent-Length: 28\r\n\r\n{\"key\":\"K-12\",\"order\":\"S-1\"}",
-        "HTTP/1.1 409 Conflict\r\ncontent-type: application/json\r\ncontent-length: 14\r\nconnection: close\r\n\r\n{\"code\":\"S07\"}",
-    ),
-    (
-        "POST /shipments HTTP/1.1\r\nContent-Length: 28\r\n\r\n{\"key\":\"K-12\",\"order\":\"S-1\"}",
-        "HTTP/1.1 409 Conflict\r\ncontent-type: application/json\r\ncontent-length: 14\r\nconnection: close\r\n\r\n{\"code\":\"S07\"}",
-    ),
-    (
-        "POST /picks HTTP/1.1\r\nContent-Length: 84\r\n\r\n{\"key\":\"K-12\",\"order\":\"S-1\",\"gtin\":\"09506000134352\",\"lot\":\"L0\",\"bin\":\"A-01\",\"qty\":1}",
-        "HTTP/1.1 409 Conflict\r\ncontent-type: application/json\r\ncontent-length: 14\r\nconnection: close\r\n\r\n{\"code\":\"S07\"}",
-    ),
-    (
-        "POST /cancels HTTP/1.1\r\nContent-Length: 28\r\n\r\n{\"key\":\"K-11\",\"order\":\"S-1\"}",
-        "HTTP/1.1 200 OK\r\ncontent-type: application/json\r\ncontent-length: 10\r\nconnection: close\r\n\r\n{\"act\":11}",
-    ),
-    (
-        "POST /cancels HTTP/1.1\r\nContent-Length: 28\r\n\r\n{\"key\":\"K-11\",\"order\":\"S-2\"}",
-        "HTTP/1.1 409 Conflict\r\ncontent-type: application/json\r\ncontent-length: 14\r\nconnection: close\r\n\r\n{\"code\":\"K01\"}",
-    ),
-    (
-        "GET /orders/S-1 HTTP/1.1\r\n\r\n",
-        "HTTP/1.1 200 OK\r\ncontent-type: application/json\r\ncontent-length: 157\r\nconnection: close\r\n\r\n{\"customer\":\"Corner Shop\",\"lines\":[{\"gtin\":\"09506000134352\",\"ordered\":12,\"reserved\":[],\"shipped\":0,\"short\":0,\"staged\":[]}],\"order\":\"S-1\",\"state\":\"CANCELLED\"}",
-    ),
-    (
-        "GET /orders/S-2 HTTP/1.1\r\n\r\n",
-        "HTTP/1.1 200 OK\r\ncontent-type: application/json\r\ncontent-length: 194\r\nconnection: close\r\n\r\n{\"customer\":\"Harbour Cafe\",\"lines\":[{\"gtin\":\"09506000134352\",\"ordered\":12,\"reserved\":[{\"lot\":\"L0\",\"qty\":5},{\"lot\":\"L2\",\"qty\":7}],\"shipped\":0,\"short\":0,\"staged\":[]}],\"order\":\"S-2\",\"state\":\"OPEN\"}",
-    ),
-];
+pub(crate) static CANCELLED: &str = r#"
+POST /cancels {"key":"K-11","order":"S-9"} => 409 {"code":"U04"}
+POST /cancels {"key":"K-11","order":"S-1"} => 200 {"act":11}
+GET /orders/S-1 => 200 {"customer":"Corner Shop","lines":[{"gtin":"09506000134352","ordered":12,"reserved":[],"shipped":0,"short":0,"staged":[]}],"order":"S-1","state":"CANCELLED"}
+GET /orders/S-2 => 200 {"customer":"Harbour Cafe","lines":[{"gtin":"09506000134352","ordered":12,"reserved":[{"lot":"L0","qty":5},{"lot":"L2","qty":7}],"shipped":0,"short":0,"staged":[]}],"order":"S-2","state":"OPEN"}
+POST /cancels {"key":"K-12","order":"S-1"} => 409 {"code":"S07"}
+POST /shipments {"key":"K-12","order":"S-1"} => 409 {"code":"S07"}
+POST /picks {"key":"K-12","order":"S-1","gtin":"09506000134352","lot":"L0","bin":"A-01","qty":1} => 409 {"code":"S07"}
+POST /cancels {"key":"K-11","order":"S-1"} => 200 {"act":11}
+POST /cancels {"key":"K-11","order":"S-2"} => 409 {"code":"K01"}
+GET /orders/S-1 => 200 {"customer":"Corner Shop","lines":[{"gtin":"09506000134352","ordered":12,"reserved":[],"shipped":0,"short":0,"staged":[]}],"order":"S-1","state":"CANCELLED"}
+GET /orders/S-2 => 200 {"customer":"Harbour Cafe","lines":[{"gtin":"09506000134352","ordered":12,"reserved":[{"lot":"L0","qty":5},{"lot":"L2","qty":7}],"shipped":0,"short":0,"staged":[]}],"order":"S-2","state":"OPEN"}
+"#;
 
 static TWO_CUSTOMERS: [Step; 1] = [Step::NewHouse(&[
     Asked::Each(Table::GoodsAndBins),

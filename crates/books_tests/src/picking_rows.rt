@@ -6,40 +6,16 @@ use crate::steps::{On, Step};
 use crate::table::{Left, Table};
 
 // Lots are counted, adjusted, moved and held, and the first customer cancels.
-pub(crate) static STOCK_TAKEN: [(&str, &str); 8] = [
-    (
-        "POST /counts HTTP/1.1\r\nContent-Length: 70\r\n\r\n{\"key\":\"K-11\",\"gtin\":\"09506000134352\",\"lot\":\"L2\",\"bin\":\"A-01\",\"qty\":8}",
-        "HTTP/1.1 200 OK\r\ncontent-type: application/json\r\ncontent-length: 22\r\nconnection: close\r\n\r\n{\"act\":11,\"change\":-2}",
-    ),
-    (
-        "POST /adjustments HTTP/1.1\r\nContent-Length: 73\r\n\r\n{\"key\":\"K-12\",\"gtin\":\"09506000134352\",\"lot\":\"L1\",\"bin\":\"A-02\",\"change\":3}",
-        "HTTP/1.1 200 OK\r\ncontent-type: application/json\r\ncontent-length: 21\r\nconnection: close\r\n\r\n{\"act\":12,\"change\":3}",
-    ),
-    (
-        "POST /moves HTTP/1.1\r\nContent-Length: 84\r\n\r\n{\"key\":\"K-13\",\"gtin\":\"09506000134352\",\"lot\":\"L1\",\"from\":\"A-01\",\"to\":\"Q-01\",\"qty\":10}",
-        "HTTP/1.1 200 OK\r\ncontent-type: application/json\r\ncontent-length: 10\r\nconnection: close\r\n\r\n{\"act\":13}",
-    ),
-    (
-        "POST /holds HTTP/1.1\r\nContent-Length: 49\r\n\r\n{\"key\":\"K-14\",\"gtin\":\"09506000134352\",\"lot\":\"L0\"}",
-        "HTTP/1.1 200 OK\r\ncontent-type: application/json\r\ncontent-length: 23\r\nconnection: close\r\n\r\n{\"act\":14,\"returned\":0}",
-    ),
-    (
-        "POST /cancels HTTP/1.1\r\nContent-Length: 28\r\n\r\n{\"key\":\"K-15\",\"order\":\"S-1\"}",
-        "HTTP/1.1 200 OK\r\ncontent-type: application/json\r\ncontent-length: 10\r\nconnection: close\r\n\r\n{\"act\":15}",
-    ),
-    (
-        "POST /counts HTTP/1.1\r\nContent-Length: 70\r\n\r\n{\"key\":\"K-16\",\"gtin\":\"09506000134352\",\"lot\":\"L2\",\"bin\":\"A-01\",\"qty\":8}",
-        "HTTP/1.1 200 OK\r\ncontent-type: application/json\r\ncontent-length: 21\r\nconnection: close\r\n\r\n{\"act\":16,\"change\":0}",
-    ),
-    (
-        "GET /orders/S-1 HTTP/1.1\r\n\r\n",
-        "HTTP/1.1 200 OK\r\ncontent-type: application/json\r\ncontent-length: 157\r\nconnection: close\r\n\r\n{\"customer\":\"Corner Shop\",\"lines\":[{\"gtin\":\"09506000134352\",\"ordered\":12,\"reserved\":[],\"shipped\":0,\"short\":0,\"staged\":[]}],\"order\":\"S-1\",\"state\":\"CANCELLED\"}",
-    ),
-    (
-        "GET /orders/S-2 HTTP/1.1\r\n\r\n",
-        "HTTP/1.1 200 OK\r\ncontent-type: application/json\r\ncontent-length: 194\r\nconnection: close\r\n\r\n{\"customer\":\"Harbour Cafe\",\"lines\":[{\"gtin\":\"09506000134352\",\"ordered\":12,\"reserved\":[{\"lot\":\"L2\",\"qty\":8},{\"lot\":\"L1\",\"qty\":3}],\"shipped\":0,\"short\":1,\"staged\":[]}],\"order\":\"S-2\",\"state\":\"OPEN\"}",
-    ),
-];
+pub(crate) static STOCK_TAKEN: &str = r#"
+POST /counts {"key":"K-11","gtin":"09506000134352","lot":"L2","bin":"A-01","qty":8} => 200 {"act":11,"change":-2}
+POST /adjustments {"key":"K-12","gtin":"09506000134352","lot":"L1","bin":"A-02","change":3} => 200 {"act":12,"change":3}
+POST /moves {"key":"K-13","gtin":"09506000134352","lot":"L1","from":"A-01","to":"Q-01","qty":10} => 200 {"act":13}
+POST /holds {"key":"K-14","gtin":"09506000134352","lot":"L0"} => 200 {"act":14,"returned":0}
+POST /cancels {"key":"K-15","order":"S-1"} => 200 {"act":15}
+POST /counts {"key":"K-16","gtin":"09506000134352","lot":"L2","bin":"A-01","qty":8} => 200 {"act":16,"change":0}
+GET /orders/S-1 => 200 {"customer":"Corner Shop","lines":[{"gtin":"09506000134352","ordered":12,"reserved":[],"shipped":0,"short":0,"staged":[]}],"order":"S-1","state":"CANCELLED"}
+GET /orders/S-2 => 200 {"customer":"Harbour Cafe","lines":[{"gtin":"09506000134352","ordered":12,"reserved":[{"lot":"L2","qty":8},{"lot":"L1","qty":3}],"shipped":0,"short":1,"staged":[]}],"order":"S-2","state":"OPEN"}
+"#;
 
 // The rows after both picks.
 pub(crate) static PICKED_ROWS: [&str; 14] = [

@@ -24,7 +24,7 @@ pub(crate) enum Step {
     NewHouse(&'static [Asked]),
     /// A house with the books that are there is asked.
     House(&'static [Asked]),
-    /// Each text gets its answer, and the books are closed and opened again after it.
+    /// Each exchange of the table; the books are closed and opened again after it.
     InTurn(Table),
     /// New books act and show.
     Deeds(&'static [Deed]),
@@ -90,7 +90,7 @@ fn take<S: Alter + Drop>(
         Step::OpenNone => not_opened(rt, alloc, conn),
         Step::NewHouse(list) => new_house_asked(rt, alloc, conn, list),
         Step::House(list) => house_asked(rt, alloc, conn, list),
-        Step::InTurn(table) => answered_in_turn(rt, alloc, conn, table.rows()),
+        Step::InTurn(table) => answered_in_turn(rt, alloc, conn, table),
         Step::Deeds(deeds) => done(rt, alloc, conn, deeds),
         Step::OpenTables => is_schema(rt, alloc, conn),
         Step::OpenNoTables => is_no_schema(rt, alloc, conn),

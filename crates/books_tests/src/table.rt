@@ -1,8 +1,7 @@
-//! The tables of requests and their answers, by name, so that the steps of a test can name them.
+//! The tables of exchanges and of rows, by name, so that the steps of a test can name them.
 
 use crate::answers::{
-    GOODS_AND_BINS, NO_REQUESTS, REFUSED, STOCK_BEFORE, STOCK_OF_ONE_LOT, STOCK_OF_THREE_LOTS,
-    TWO_CUSTOMERS,
+    GOODS_AND_BINS, REFUSED, STOCK_BEFORE, STOCK_OF_ONE_LOT, STOCK_OF_THREE_LOTS, TWO_CUSTOMERS,
 };
 use crate::days::OPENED;
 use crate::goods::{
@@ -16,13 +15,11 @@ use crate::picking::{
 use crate::picking_rows::{
     PICKED_ROWS, RETURNED_ROWS, SHIPPED_ROWS, STOCK_TAKEN, STOCK_TAKEN_ROWS,
 };
+use std::str::Lines;
 
-/// Texts, each with the answer that it is to get.
-pub(crate) type Rows = &'static [(&'static str, &'static str)];
-
+/// Exchanges: a line each, `METHOD PATH BODY => STATUS BODY` (`exchange` has the form).
 #[derive(Clone, Copy)]
 pub(crate) enum Table {
-    NoRequests,
     GoodsAndBins,
     Refused,
     StockBefore,
@@ -30,12 +27,6 @@ pub(crate) enum Table {
     StockOfThreeLots,
     /// All that the two customers and their two deliveries ask.
     TwoCustomers,
-    FirstReceipt,
-    AfterFirstReceipt,
-    SecondReceipt,
-    FirstOrder,
-    SecondOrder,
-    LastReceipt,
     Opened,
     Moved,
     Adjusted,
@@ -56,38 +47,36 @@ pub(crate) enum Table {
 }
 
 impl Table {
-    pub(crate) fn rows(self) -> Rows {
+    /// The exchanges, one by one.
+    pub(crate) fn lines(self) -> Lines<'static> {
+        self.text().trim().lines()
+    }
+
+    fn text(self) -> &'static str {
         match self {
-            Table::NoRequests => NO_REQUESTS.as_slice(),
-            Table::GoodsAndBins => GOODS_AND_BINS.as_slice(),
-            Table::Refused => REFUSED.as_slice(),
-            Table::StockBefore => STOCK_BEFORE.as_slice(),
-            Table::StockOfOneLot => STOCK_OF_ONE_LOT.as_slice(),
-            Table::StockOfThreeLots => STOCK_OF_THREE_LOTS.as_slice(),
-            Table::TwoCustomers => TWO_CUSTOMERS.as_slice(),
-            Table::FirstReceipt => &TWO_CUSTOMERS[..1],
-            Table::AfterFirstReceipt => &TWO_CUSTOMERS[1..],
-            Table::SecondReceipt => &TWO_CUSTOMERS[1..2],
-            Table::FirstOrder => &TWO_CUSTOMERS[2..4],
-            Table::SecondOrder => &TWO_CUSTOMERS[4..6],
-            Table::LastReceipt => &TWO_CUSTOMERS[6..],
-            Table::Opened => OPENED.as_slice(),
-            Table::Moved => MOVED.as_slice(),
-            Table::Adjusted => ADJUSTED.as_slice(),
-            Table::Counted => COUNTED.as_slice(),
-            Table::Held => HELD.as_slice(),
-            Table::Recalled => RECALLED.as_slice(),
-            Table::ReceivedAndRecalled => RECEIVED_AND_RECALLED.as_slice(),
-            Table::NeverReceived => NEVER_RECEIVED.as_slice(),
-            Table::Picked => PICKED.as_slice(),
-            Table::KeyLeftFree => KEY_LEFT_FREE.as_slice(),
-            Table::PicksRefused => PICKS_REFUSED.as_slice(),
-            Table::Unpicked => UNPICKED.as_slice(),
-            Table::ReturnedAndShipped => RETURNED_AND_SHIPPED.as_slice(),
-            Table::ShippedAndRecalled => SHIPPED_AND_RECALLED.as_slice(),
-            Table::Done => DONE.as_slice(),
-            Table::Cancelled => CANCELLED.as_slice(),
-            Table::StockTaken => STOCK_TAKEN.as_slice(),
+            Table::GoodsAndBins => GOODS_AND_BINS,
+            Table::Refused => REFUSED,
+            Table::StockBefore => STOCK_BEFORE,
+            Table::StockOfOneLot => STOCK_OF_ONE_LOT,
+            Table::StockOfThreeLots => STOCK_OF_THREE_LOTS,
+            Table::TwoCustomers => TWO_CUSTOMERS,
+            Table::Opened => OPENED,
+            Table::Moved => MOVED,
+            Table::Adjusted => ADJUSTED,
+            Table::Counted => COUNTED,
+            Table::Held => HELD,
+            Table::Recalled => RECALLED,
+            Table::ReceivedAndRecalled => RECEIVED_AND_RECALLED,
+            Table::NeverReceived => NEVER_RECEIVED,
+            Table::Picked => PICKED,
+            Table::KeyLeftFree => KEY_LEFT_FREE,
+            Table::PicksRefused => PICKS_REFUSED,
+            Table::Unpicked => UNPICKED,
+            Table::ReturnedAndShipped => RETURNED_AND_SHIPPED,
+            Table::ShippedAndRecalled => SHIPPED_AND_RECALLED,
+            Table::Done => DONE,
+            Table::Cancelled => CANCELLED,
+            Table::StockTaken => STOCK_TAKEN,
         }
     }
 }

@@ -1,11 +1,13 @@
 -- What a decision reads of the rows of its slice, as the code reads it: look-ups and sums over lists.
 use Rattle.std.specs.Prelude.{ℕ, ◌+◌, min, Bool, false, not, ◌&&◌, nat_lt, if◌then◌else◌, List, [], ◌++◌, codes, decimal, find, Option, Some, None, is_some, ℤ, int_le}
+use Rattle.std.specs.List.{list_any}
 use Rattle.values.specs.Values.{same_text}
 use Rattle.values.specs.declared.lot.LotId.{LotId}
 use Rattle.commands.specs.Lists.{total}
 use Rattle.commands.specs.declared.limits.TheConstants.{UNITS_MAX}
 use Rattle.commands.specs.declared.rows.MetaRow.{MetaRow}
 use Rattle.commands.specs.declared.rows.LotRow.{LotRow}
+use Rattle.commands.specs.declared.rows.RecallRow.{RecallRow}
 use Rattle.commands.specs.declared.rows.StockRow.{StockRow}
 use Rattle.commands.specs.declared.rows.StagedRow.{StagedRow}
 use Rattle.machine.specs.Postings.{is_lot, of_item}
@@ -37,6 +39,10 @@ expires_otherwise_than (Some k) expiry = not (int_le k.expiry expiry && int_le e
 
 abbrev pub sees_recall : Slice → LotId → Bool
 sees_recall s l = is_some (find (λ k. is_lot l k.lot) s.rows.recalls)
+
+-- one of the recalls is the lot's
+abbrev pub has_recall : List RecallRow → LotId → Bool
+has_recall recalls l = list_any (λ r. is_lot l r.lot) recalls
 
 -- Units of an item
 

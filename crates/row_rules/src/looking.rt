@@ -3,6 +3,7 @@
 ghost use Rattle.std.specs.Prelude.{◌≡◌, ◌&&◌, find};
 ghost use Rattle.values.specs.Values.{same_text};
 ghost use Rattle.machine.specs.Postings.{is_lot};
+ghost use Rattle.row_rules.specs.Seen.{has_recall as has_recall_lem};
 
 use commands::{BinRow, ItemRow, LotRow, OrderRow, RecallRow, StockRow};
 use values::{Gtin, LotId, Name};
@@ -60,6 +61,18 @@ pub fn find_recall(rows: &[RecallRow], lot: &LotId) -> Option<RecallRow>
         }
     }
     None
+}
+
+/// Whether one of the recalls is the lot's.
+pub fn has_recall(rows: &[RecallRow], lot: &LotId) -> bool
+    ensures { result ≡ has_recall_lem rows.now lot.now }
+{
+    for row in rows {
+        if is_same_lot(lot, &row.lot) {
+            return true;
+        }
+    }
+    false
 }
 
 /// The stock of a lot in a bin.

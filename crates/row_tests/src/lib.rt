@@ -1,4 +1,5 @@
-//! The tests of decisions and views on rows made by hand, beside what a person wrote down.
+//! The tests of decisions and views on rows made by hand, and of how commands are spelled, beside what a person wrote
+//! down.
 //!
 //! They are a crate of their own, since the tests of a crate are proved together with all of that crate once more.
 //!
@@ -15,6 +16,8 @@ mod refusals;
 mod refused_orders;
 #[cfg(test)]
 mod samples;
+#[cfg(test)]
+mod spellings;
 #[cfg(test)]
 mod stock_views;
 #[cfg(test)]

@@ -408,7 +408,7 @@ fn picking(rt: &impl Abort, order: &str, text: &str, bin: &str, units: u64) -> P
     }
 }
 
-fn command(rt: &impl Abort, alloc: Global, told: &Told) -> Command {
+pub(crate) fn command(rt: &impl Abort, alloc: Global, told: &Told) -> Command {
     match *told {
         Told::Item(item) => Command::Item(NewItem {
             gtin: gtin(rt, item.0),

@@ -2,7 +2,6 @@
 use Rattle.std.specs.Prelude.{ℕ, ℤ, Bool, not, ◌&&◌, if◌then◌else◌, List, [], ◌∷◌, ◌++◌, filter, Option, Some, None}
 use Rattle.std.specs.List.{list_any}
 use Rattle.values.specs.Values.{same_text}
-use Rattle.values.specs.declared.lot.LotId.{LotId}
 use Rattle.commands.specs.declared.command.Command.{Command}
 use Rattle.commands.specs.declared.command.Command.TheVariants.{Item, Bin, Receive, Move, Count, Adjust, Order, Cancel, Pick, Unpick, Ship, Hold, Release, Recall, OpenDay}
 use Rattle.commands.specs.declared.rows.LotRow.{LotRow}
@@ -10,8 +9,8 @@ use Rattle.commands.specs.declared.rows.RecallRow.{RecallRow}
 use Rattle.commands.specs.declared.rows.OrderRow.{OrderRow}
 use Rattle.commands.specs.declared.rows.LineRow.{LineRow}
 use Rattle.commands.specs.declared.rows.StagedRow.{StagedRow}
-use Rattle.machine.specs.Postings.{is_lot}
 use Rattle.machine.specs.Standing.{is_expired}
+use Rattle.row_rules.specs.Seen.{has_recall}
 
 -- Names
 
@@ -90,11 +89,8 @@ with_lines line_rows order_rows = filter (λ r. has_line_in line_rows r.order) o
 abbrev pub is_ending : ℤ → ℤ → LotRow → Bool
 is_ending old new r = not r.held && (not (is_expired old r.expiry) && is_expired new r.expiry)
 
-abbrev pub has_recall_in : List RecallRow → LotId → Bool
-has_recall_in recall_rows l = list_any (λ r. is_lot l r.lot) recall_rows
-
 abbrev pub not_recalled : List RecallRow → List LotRow → List LotRow
-not_recalled recall_rows lot_rows = filter (λ r. not (has_recall_in recall_rows r.lot)) lot_rows
+not_recalled recall_rows lot_rows = filter (λ r. not (has_recall recall_rows r.lot)) lot_rows
 
 -- the items of lots and of staged units, each once
 abbrev pub items_of_lots : List LotRow → List (List ℕ)

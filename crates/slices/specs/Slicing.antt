@@ -19,7 +19,7 @@ use Rattle.rules.specs.Slices.{counts_items, counts_bins}
 use Rattle.row_rules.specs.declared.slice.Rows.{Rows}
 use Rattle.row_rules.specs.declared.slice.Slice.{Slice}
 use Rattle.slices.specs.Reading.{IsCount}
-pub use Rattle.slice_parts.specs.Parts.{is_among, with_name, with_names, items_named, orders_named, bins_named, whole_orders, day_opened, others, has_line_in, with_lines, is_ending, has_recall_in, not_recalled, items_of_lots, with_staged}
+pub use Rattle.slice_parts.specs.Parts.{is_among, with_name, with_names, items_named, orders_named, bins_named, whole_orders, day_opened, others, has_line_in, with_lines, is_ending, not_recalled, items_of_lots, with_staged}
 
 -- Reads one after another
 

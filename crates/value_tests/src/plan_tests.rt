@@ -58,19 +58,19 @@ fn plans_grow(rt: HostRuntime) {
         supply(9, 1),
     ];
     let plan = whole_again(&rt, rt.alloc(), &[demand(10, 20)], &supplies);
-    assert_eq!(rt; plan.rows().len(), 9);
-    assert_eq!(rt; plan.reserved(10, 9), 1);
-    assert_eq!(rt; plan.reserved(10, 10), 0);
-    assert_eq!(rt; plan.short(demand(10, 20)), 11);
+    assert!(rt; plan.rows().len() == 9);
+    assert!(rt; plan.reserved(10, 9) == 1);
+    assert!(rt; plan.reserved(10, 10) == 0);
+    assert!(rt; plan.short(demand(10, 20)) == 11);
 }
 
 #[test]
 fn plans_hold_rows(rt: HostRuntime) {
     let rows = [row(8, 7, 10), row(9, 6, 8)];
     let plan = Plan::of(copy_again(&rt, rt.alloc(), &rows));
-    assert_eq!(rt; plan.rows(), rows.as_slice());
-    assert_eq!(rt; plan.reserved(9, 6), 8);
-    assert_eq!(rt; plan.reserved(9, 7), 0);
+    assert!(rt; plan.rows() == rows.as_slice());
+    assert!(rt; plan.reserved(9, 6) == 8);
+    assert!(rt; plan.reserved(9, 7) == 0);
 }
 
 fn expect_plan(
@@ -84,12 +84,12 @@ fn expect_plan(
     requires { AreSmall demands.now supplies.now }
 {
     let plan = whole_again(rt, alloc, demands, supplies);
-    assert_eq!(rt; plan.rows(), rows);
+    assert!(rt; plan.rows() == rows);
     for row in rows {
-        assert_eq!(rt; plan.reserved(row.booking, row.lot), row.qty);
+        assert!(rt; plan.reserved(row.booking, row.lot) == row.qty);
     }
     for (demand, short) in demands.iter().zip(short) {
-        assert_eq!(rt; plan.short(*demand), *short);
+        assert!(rt; plan.short(*demand) == *short);
     }
 }
 

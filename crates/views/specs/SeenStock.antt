@@ -1,6 +1,5 @@
 -- What is shown of the stock of an item, from rows alone.
 use Rattle.std.specs.Prelude.{ℕ, Bool, if◌then◌else◌, List, [], filter, map, ℤ}
-use Rattle.std.specs.List.{list_any}
 use Rattle.values.specs.declared.lot.LotId.{LotId}
 use Rattle.commands.specs.Lists.{total}
 use Rattle.commands.specs.declared.rows.ItemRow.{ItemRow}
@@ -17,7 +16,7 @@ use Rattle.commands.specs.declared.views.StockView.{StockView}
 use Rattle.machine.specs.Postings.{is_lot}
 use Rattle.machine.specs.Standing.{is_expired}
 use Rattle.row_rules.specs.Plans.{inserted}
-use Rattle.row_rules.specs.Seen.{capped}
+use Rattle.row_rules.specs.Seen.{capped, has_recall}
 use Rattle.row_rules.specs.declared.slice.Rows.{Rows}
 use Rattle.views.specs.Seen.{bin_before, bin_units, lots_seen}
 
@@ -31,9 +30,6 @@ reserved_on l rows = total (λ r. if is_lot l r.lot then r.qty else 0) rows
 
 abbrev pub staged_on : LotId → List StagedRow → ℕ
 staged_on l rows = total (λ r. if is_lot l r.lot then r.qty else 0) rows
-
-abbrev pub has_recall : List RecallRow → LotId → Bool
-has_recall recalls l = list_any (λ r. is_lot l r.lot) recalls
 
 -- recalled comes first, then held, then expired
 abbrev pub status_seen : ℤ → List RecallRow → LotRow → LotStatus

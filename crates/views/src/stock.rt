@@ -10,11 +10,11 @@ ghost use Rattle.views.specs.SeenStock.{stock_seen, lot_seen, status_seen};
 ghost use Rattle.views.specs.ShownStock.{AreStocked};
 
 use crate::bins::bins_of_lot;
-use crate::looking::has_recall;
 use crate::lots::lots_of_item;
 use crate::summing::{reserved_on_lot, staged_on_lot};
 use commands::{ItemRow, Listed, LotRow, LotStatus, LotView, RecallRow, StockView};
 use label::BusinessDay;
+use row_rules::looking::has_recall;
 use rules::Rows;
 use std::alloc::{AllocError, Global};
 

@@ -4,8 +4,8 @@ ghost use Rattle.std.specs.Prelude.{◌≡◌};
 ghost use Rattle.row_rules.specs.Seen.{capped};
 ghost use Rattle.views.specs.SeenStock.{reserved_on, staged_on};
 
-use crate::looking::is_same_lot;
 use commands::{ReservedRow, StagedRow};
+use row_rules::looking::is_same_lot;
 use values::LotId;
 
 /// The units of a lot that are reserved, for whatever order.

@@ -1,0 +1,45 @@
+//! What is asked and what is answered, as the tests write it down: `METHOD PATH BODY => STATUS BODY`, with no BODY where
+//! the request has none.
+
+use std::alloc::Global;
+use std::process::Abort;
+
+fn parted<'a>(rt: &impl Abort, text: &'a str, at: &str) -> (&'a str, &'a str) {
+    text.split_once(at).expect(rt, "two parts")
+}
+
+fn phrase(rt: &impl Abort, status: &str) -> &'static str {
+    match status {
+        "200" => "OK",
+        "400" => "Bad Request",
+        "404" => "Not Found",
+        "409" => "Conflict",
+        _ => panic!(rt; "no phrase"),
+    }
+}
+
+/// The request of an exchange. A body is told its length.
+pub(crate) fn request(rt: &impl Abort, alloc: Global, line: &str) -> String {
+    let (asked, _) = parted(rt, line, " => ");
+    let (method, rest) = parted(rt, asked, " ");
+    let text = match rest.split_once(" ") {
+        Some((path, body)) => format!(in alloc;
+            "{method} {path} HTTP/1.1\r\nContent-Length: {}\r\n\r\n{body}",
+            body.len()
+        ),
+        None => format!(in alloc; "{method} {rest} HTTP/1.1\r\n\r\n"),
+    };
+    text.ok().expect(rt, "memory")
+}
+
+/// The answer of an exchange.
+pub(crate) fn answer(rt: &impl Abort, alloc: Global, line: &str) -> String {
+    let (_, told) = parted(rt, line, " => ");
+    let (status, body) = parted(rt, told, " ");
+    let text = format!(in alloc;
+        "HTTP/1.1 {status} {}\r\ncontent-type: application/json\r\ncontent-length: {}\r\nconnection: close\r\n\r\n{body}",
+        phrase(rt, status),
+        body.len()
+    );
+    text.ok().expect(rt, "memory")
+}
