@@ -1,6 +1,9 @@
 -- What the lines of the program print and tell.
-use Rattle.std.specs.Prelude.{◌≡◌, ℕ, ℤ, List, ◌++◌, codes, IsTrue, Option, Some, Ok, Err}
+use Rattle.std.specs.Prelude.{◌≡◌, ◌≢◌, ◌⊎◌, ℕ, ℤ, List, ◌++◌, codes, IsTrue, Option, Some, Ok, Err}
 use Rattle.std.specs.Io.KnownBytes.{Appends}
+use Rattle.clap.specs.Values.{kind_of}
+use Rattle.clap.specs.declared.error.Error.{Error}
+use Rattle.clap.specs.declared.error.kind.ErrorKind.TheVariants.{OutOfMemory}
 use Rattle.label.specs.Days.{is_business_day, day_text, parsed_day}
 use Rattle.values.specs.Faults.{fault_code}
 use Rattle.label.specs.Labels.{label_read}
@@ -21,6 +24,14 @@ told_code Value = codes "value"
 told_code Io = codes "io"
 told_code Store = codes "store"
 told_code Foreign = codes "foreign books"
+
+-- the line that tells a fault
+abbrev pub told_line : Fault → List ℕ
+told_line fault = codes "lotd: " ++ told_code fault ++ codes "\n"
+
+-- the fault of words that are no line: want of memory, or what `clap` says of them
+abbrev pub IsFaultOfWords : Error → Fault → Type 0
+IsFaultOfWords error fault = ((kind_of error ≡ OutOfMemory) × (fault ≡ Store)) ⊎ ((kind_of error ≢ OutOfMemory) × (fault ≡ Usage error))
 
 -- the day is a business day, the text is a label on it, and what the label says was printed
 pub record IsPrinted (day text : List ℕ) (old new : Option (List ℕ)) : Type 0 where

@@ -41,6 +41,10 @@ impl Fault {
 }
 
 impl From<Error> for Fault {
+    ghost use Rattle.command_line.specs.Lines.{IsFaultOfWords};
+
+    ghost from_gives = { λ error fault. IsFaultOfWords error fault };
+
     fn from(error: Error) -> Fault {
         if error.kind() == ErrorKind::OutOfMemory {
             Fault::Store
@@ -51,6 +55,11 @@ impl From<Error> for Fault {
 }
 
 impl From<io::Error> for Fault {
+    ghost use Rattle.std.specs.Prelude.{◌≡◌};
+    ghost use Rattle.command_line.specs.declared.fault.Fault.TheVariants.{Io};
+
+    ghost from_gives = { λ _ fault. fault ≡ Io };
+
     fn from(_error: io::Error) -> Fault {
         Fault::Io
     }

@@ -1,4 +1,7 @@
-ghost use Rattle.std.specs.Prelude.{◌≤◌};
+ghost use Rattle.std.specs.Prelude.{◌≡◌, ◌≤◌, OnOk};
+ghost use Rattle.std.specs.Io.KnownBytes.{Appends};
+ghost use Rattle.command_line.specs.Lines.{told_line};
+ghost use Rattle.command_line.specs.Statuses.{IsStatusOf, IsStatusOfWords};
 
 use crate::fault::Fault;
 use crate::label_line::{first_day, print_label};
@@ -45,11 +48,8 @@ pub fn run<'a, B: BooksAt, S: AsStr, W: Write, E: Write>(
 ) -> u8
     ensures { result ≤ MISUSED }
 {
-    match do_line(alloc, books, words, out) {
-        Ok(()) => DONE,
-        Err(Fault::Usage(error)) => tell_usage(&error, out, err),
-        Err(fault) => tell(&fault, err),
-    }
+    let end = do_line(alloc, books, words, out);
+    tell_end(end, out, err)
 }
 
 fn do_line<'a, B: BooksAt, S: AsStr, W: Write>(
@@ -68,18 +68,35 @@ fn do_line<'a, B: BooksAt, S: AsStr, W: Write>(
     Ok(())
 }
 
+/// Tells how a line ended, and gives its exit status.
+fn tell_end<W: Write, E: Write>(end: Result<(), Fault>, out: &mut W, err: &mut E) -> u8
+    ensures { IsStatusOf end result }
+{
+    match end {
+        Ok(()) => DONE,
+        Err(Fault::Usage(error)) => tell_usage(&error, out, err),
+        Err(fault) => tell(&fault, err),
+    }
+}
+
 /// Tells a fault on `err`. What cannot be written there is lost.
 pub fn tell<E: Write>(fault: &Fault, err: &mut E) -> u8
-    ensures { result ≤ MISUSED }
+    ensures { result ≡ REFUSED }
+{
+    let _ = write_fault(fault, err);
+    REFUSED
+}
+
+fn write_fault<E: Write>(fault: &Fault, err: &mut E) -> io::Result<()>
+    ensures { OnOk result (Appends (E.contents err.old) (E.contents err.new) (told_line fault.now)) }
 {
     let code = fault.code();
-    let _ = writeln!(err, "lotd: {code}");
-    REFUSED
+    writeln!(err, "lotd: {code}")
 }
 
 // Help is told on `out`, and words that are no line on `err`.
 fn tell_usage<W: Write, E: Write>(error: &Error, out: &mut W, err: &mut E) -> u8
-    ensures { result ≤ MISUSED }
+    ensures { IsStatusOfWords error.now result }
 {
     if error.use_stderr() {
         let _ = write!(err, "{error}");
@@ -98,7 +115,7 @@ fn write_help<W: Write>(help: &Error, out: &mut W) -> io::Result<()> {
 
 /// Tells that a word of the line is no text. What cannot be written to `err` is lost.
 pub fn tell_words<E: Write>(err: &mut E) -> u8
-    ensures { result ≤ MISUSED }
+    ensures { result ≡ MISUSED }
 {
     let _ = writeln!(err, "error: a word of the line is not UTF-8");
     MISUSED
