@@ -88,6 +88,7 @@ fn expect_plan(
     for row in rows {
         assert!(rt; plan.reserved(row.booking, row.lot) == row.qty);
     }
+    assert!(rt; short.len() == demands.len());
     for (demand, short) in demands.iter().zip(short) {
         assert!(rt; plan.short(*demand) == *short);
     }
