@@ -50,7 +50,7 @@ pub(crate) enum On {
     Fill,
     /// Each table has its row.
     Find,
-    /// The rows are dropped again.
+    /// The rows of units are dropped again.
     Drop,
 }
 

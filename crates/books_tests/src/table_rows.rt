@@ -4,18 +4,18 @@ use crate::steps::{On, Step};
 use commands::{
     BinKind, CardKind, CardRow, ItemRow, LineRow, LotRow, OrderRow, OrderState, RepeatRow, StockRow,
 };
-use goods_tables::bins::{all_bins, bins_of, drop_bin, put_bin};
-use goods_tables::items::{all_items, drop_item, items_of, put_item};
-use goods_tables::lots::{all_lots, drop_lot, lots_of, put_lot};
+use goods_tables::bins::{all_bins, bins_of, put_bin};
+use goods_tables::items::{all_items, items_of, put_item};
+use goods_tables::lots::{all_lots, lots_of, put_lot};
 use goods_tables::meta::{meta_rows, put_meta};
-use goods_tables::recalls::{drop_recall, put_recall, recalls_of};
+use goods_tables::recalls::{put_recall, recalls_of};
 use goods_tables::stock::{drop_stock, put_stock, stock_of};
-use history_tables::cards::{cards_of_lot, drop_card, put_card};
+use history_tables::cards::{cards_of_lot, put_card};
 use history_tables::repeats::{put_repeat, repeats_of};
-use history_tables::shiplines::{drop_shipline, put_shipline, shiplines_of_lot};
-use history_tables::shipments::{drop_shipment, put_shipment, shipments_of};
-use order_tables::lines::{drop_line, line_of, lines_of_order, put_line};
-use order_tables::orders::{drop_order, open_orders, orders_of, put_order};
+use history_tables::shiplines::{put_shipline, shiplines_of_lot};
+use history_tables::shipments::{put_shipment, shipments_of};
+use order_tables::lines::{line_of, lines_of_order, put_line};
+use order_tables::orders::{open_orders, orders_of, put_order};
 use order_tables::reserved::{drop_reserved, put_reserved, reserved_of_item};
 use order_tables::staged::{all_staged, drop_staged, put_staged, staged_of_item};
 use sqlite::{Alter, Connection, Transaction};
@@ -263,17 +263,9 @@ enum Counted {
     Items,
     Bins,
     Lots,
-    Recalls,
     Stock,
-    Orders,
-    OpenOrders,
-    Lines,
     Staged,
     Reserved,
-    Shipments,
-    Shiplines,
-    Cards,
-    Repeats,
 }
 
 // The tables that have no other read, each with one row.
@@ -284,59 +276,27 @@ static FILLED: [(Counted, usize); 4] = [
     (Counted::Staged, 1),
 ];
 
-// What is left when the rows are dropped.
-static LEFT: [(Counted, usize); 14] = [
-    (Counted::Items, 0),
-    (Counted::Bins, 0),
-    (Counted::Lots, 0),
-    (Counted::Recalls, 0),
+// What is left when the rows of units are dropped.
+static LEFT: [(Counted, usize); 3] = [
     (Counted::Stock, 1),
-    (Counted::Orders, 0),
-    (Counted::OpenOrders, 0),
-    (Counted::Lines, 0),
     (Counted::Staged, 0),
     (Counted::Reserved, 0),
-    (Counted::Shipments, 0),
-    (Counted::Shiplines, 0),
-    (Counted::Cards, 0),
-    (Counted::Repeats, 1),
 ];
 
-fn counts_goods<S: Alter>(
+fn counted<S: Alter>(
     rt: &impl Abort,
     alloc: Global,
     tx: &mut Transaction<'_, S>,
-    counted: Counted,
+    table: Counted,
 ) -> usize {
     let gtin = samples::gtin(rt);
-    match counted {
+    match table {
         Counted::Items => count(rt, all_items(alloc, tx)),
         Counted::Bins => count(rt, all_bins(alloc, tx)),
         Counted::Lots => count(rt, all_lots(alloc, tx)),
-        Counted::Recalls => count(rt, recalls_of(alloc, tx, &gtin)),
         Counted::Stock => count(rt, stock_of(alloc, tx, &gtin)),
-        Counted::OpenOrders => count(rt, open_orders(alloc, tx)),
         Counted::Staged => count(rt, all_staged(alloc, tx)),
         Counted::Reserved => count(rt, reserved_of_item(alloc, tx, &gtin)),
-        _ => counts_others(rt, alloc, tx, counted),
-    }
-}
-
-fn counts_others<S: Alter>(
-    rt: &impl Abort,
-    alloc: Global,
-    tx: &mut Transaction<'_, S>,
-    counted: Counted,
-) -> usize {
-    let (order, lot) = (samples::name(rt, b"S-1"), samples::lot(rt));
-    match counted {
-        Counted::Orders => count(rt, orders_of(alloc, tx, &order)),
-        Counted::Lines => count(rt, lines_of_order(alloc, tx, &order)),
-        Counted::Shipments => count(rt, shipments_of(alloc, tx, 1)),
-        Counted::Shiplines => count(rt, shiplines_of_lot(alloc, tx, &lot)),
-        Counted::Cards => count(rt, cards_of_lot(alloc, tx, &lot)),
-        Counted::Repeats => count(rt, repeats_of(alloc, tx, &samples::key(rt))),
-        _ => usize::MAX,
     }
 }
 
@@ -347,7 +307,7 @@ fn counts<S: Alter>(
     rows: &[(Counted, usize)],
 ) {
     for (index, row) in rows.iter().enumerate() {
-        let found = counts_goods(rt, alloc, tx, row.0);
+        let found = counted(rt, alloc, tx, row.0);
         assert!(rt; found == row.1, "{found} rows at {index}");
     }
 }
@@ -358,29 +318,11 @@ fn finds_each<S: Alter>(rt: &impl Abort, alloc: Global, tx: &mut Transaction<'_,
     }
 }
 
-fn drops_goods<S: Alter>(rt: &impl Abort, tx: &mut Transaction<'_, S>) {
-    let (lot, bin) = (samples::lot(rt), samples::name(rt, b"A-01"));
-    is_done(rt, drop_item(tx, &samples::gtin(rt)));
-    is_done(rt, drop_bin(tx, &bin));
-    is_done(rt, drop_lot(tx, &lot));
-    is_done(rt, drop_recall(tx, &lot));
-    is_done(rt, drop_stock(tx, &lot, &bin));
-}
-
-fn drops_orders<S: Alter>(rt: &impl Abort, tx: &mut Transaction<'_, S>) {
+fn drops_units<S: Alter>(rt: &impl Abort, tx: &mut Transaction<'_, S>) {
     let (order, lot) = (samples::name(rt, b"S-1"), samples::lot(rt));
-    is_done(rt, drop_order(tx, &order));
-    is_done(rt, drop_order(tx, &samples::name(rt, b"S-2")));
-    is_done(rt, drop_line(tx, &order, &samples::gtin(rt)));
+    is_done(rt, drop_stock(tx, &lot, &samples::name(rt, b"A-01")));
     is_done(rt, drop_staged(tx, &order, &lot));
     is_done(rt, drop_reserved(tx, &order, &lot));
-}
-
-fn drops_history<S: Alter>(rt: &impl Abort, tx: &mut Transaction<'_, S>) {
-    let lot = samples::lot(rt);
-    is_done(rt, drop_shipment(tx, 1));
-    is_done(rt, drop_shipline(tx, 1, &lot));
-    is_done(rt, drop_card(tx, &lot, 14));
 }
 
 fn creates<S: Alter>(rt: &impl Abort, conn: &mut Connection<S>) {
@@ -415,9 +357,7 @@ pub(crate) fn finds<S: Alter>(rt: &impl Abort, alloc: Global, conn: &mut Connect
 pub(crate) fn drops<S: Alter>(rt: &impl Abort, alloc: Global, conn: &mut Connection<S>) {
     assert!(rt; conn.is_autocommit());
     let mut tx = conn.transaction();
-    drops_goods(rt, &mut tx);
-    drops_orders(rt, &mut tx);
-    drops_history(rt, &mut tx);
+    drops_units(rt, &mut tx);
     counts(rt, alloc, &mut tx, LEFT.as_slice());
     tx.commit().expect(rt, "a commit");
 }

@@ -4,7 +4,7 @@ use Rattle.std.specs.Prelude.{◌||◌, not, if◌then◌else◌, Option, Some, 
 use Rattle.std.specs.List.{list_any}
 use Rattle.commands.specs.Tables.{Tables}
 use Rattle.machine.specs.KeyedRows.{no_two}
-use Rattle.rules.specs.Slices.{unless_put, changed}
+use Rattle.rules.specs.Slices.{unless_put, changed, added}
 use Rattle.machine.proofs.Tests.{and_both, or_none, not_true}
 use Rattle.changes.specs.Written.{each_written, rows_written}
 
@@ -92,7 +92,12 @@ module _ {R K : Type 0} (get : Tables → K → Option R) (set : (K → Option R
       ∙ ap (λ f. set (λ k. all_dropped (test k) rs (f k)) (drop r t)) (got (λ k. if test k r then None else get t k) t)
       ∙ again (λ k. all_dropped (test k) rs (if test k r then None else get t k)) (λ k. if test k r then None else get t k) t
 
-  -- the rows that are put and dropped change the table as a change says
+  -- the rows that are put change the table as a change says
+  pub table_put : (same : R → R → Bool) (meets : (k : K) (r s : R) → test k r ≡ true → test k s ≡ true → same r s ≡ true) (puts : List R) (t : Tables) → no_two same puts ≡ true
+      → each_written put puts t ≡ set (λ k. added (test k) puts (get t k)) t
+  table_put same meets puts t once = puts_are puts t ∙ ap (λ f. set f t) (λ i k. all_put_is (test k) same (meets k) puts (get t k) once i)
+
+  -- so do those that are put and dropped
   pub table_written : (same : R → R → Bool) (meets : (k : K) (r s : R) → test k r ≡ true → test k s ≡ true → same r s ≡ true) (puts drops : List R) (t : Tables) → no_two same puts ≡ true
       → rows_written put drop puts drops t ≡ set (λ k. changed (test k) puts drops (get t k)) t
   table_written same meets puts drops t once =

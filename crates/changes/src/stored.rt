@@ -18,9 +18,6 @@ pub trait Stored {
     /// What putting it makes of the tables.
     ghost put_gives: { Self → Tables → Tables };
 
-    /// What dropping the row under its key makes of the tables.
-    ghost drop_gives: { Self → Tables → Tables };
-
     /// Puts the row, in place of one with its key.
     fn put<S: Alter>(&self, tx: &mut Transaction<'_, S>) -> Result<(), TableFault>
         ensures same_reference { tx.new.conn.ghost_name ≡ tx.old.conn.ghost_name }
@@ -29,6 +26,14 @@ pub trait Stored {
         ensures kept { HasCleanDisk (state S.Store tx.new.conn.now) → KeepsCommit (state S.Store tx.old.conn.now) (state S.Store tx.new.conn.now) }
         ensures survives { Survives (state S.Store tx.old.conn.now) (state S.Store tx.new.conn.now) (λ _. ⊥) }
         ensures never_foreign { IfErr result (λ e. e ≢ Foreign) };
+}
+
+/// A row of a table that loses rows.
+pub trait Removable {
+    ghost use Rattle.table_words.specs.Typed.{Tables};
+
+    /// What dropping the row under its key makes of the tables.
+    ghost drop_gives: { Self → Tables → Tables };
 
     /// Drops the row under its key, if there is one.
     fn remove<S: Alter>(&self, tx: &mut Transaction<'_, S>) -> Result<(), TableFault>
@@ -56,7 +61,7 @@ fn put_all<T: Stored, S: Alter>(tx: &mut Transaction<'_, S>, rows: &[T]) -> Resu
 }
 
 /// Drops the row under the key of each of these in turn.
-fn remove_all<T: Stored, S: Alter>(
+fn remove_all<T: Removable, S: Alter>(
     tx: &mut Transaction<'_, S>,
     rows: &[T],
 ) -> Result<(), TableFault>
@@ -73,8 +78,23 @@ fn remove_all<T: Stored, S: Alter>(
     Ok(())
 }
 
+/// Puts rows of a table.
+pub fn put_rows<T: Stored, S: Alter>(
+    tx: &mut Transaction<'_, S>,
+    rows: &Listed<T>,
+) -> Result<(), TableFault>
+    ensures same_reference { tx.new.conn.ghost_name ≡ tx.old.conn.ghost_name }
+    ensures done { HasCleanDisk (state S.Store tx.new.conn.now) → IsReady (state S.Store tx.old.conn.now).now
+        → OnOk result (Goes (each_written T.put_gives rows.now) (state S.Store tx.old.conn.now) (state S.Store tx.new.conn.now)) }
+    ensures kept { HasCleanDisk (state S.Store tx.new.conn.now) → KeepsCommit (state S.Store tx.old.conn.now) (state S.Store tx.new.conn.now) }
+    ensures survives { Survives (state S.Store tx.old.conn.now) (state S.Store tx.new.conn.now) (λ _. ⊥) }
+    ensures never_foreign { IfErr result (λ e. e ≢ Foreign) }
+{
+    put_all(tx, rows.as_slice())
+}
+
 /// Drops rows of a table, and then puts others.
-pub fn write_rows<T: Stored, S: Alter>(
+pub fn write_rows<T: Stored + Removable, S: Alter>(
     tx: &mut Transaction<'_, S>,
     put: &Listed<T>,
     dropped: &Listed<T>,

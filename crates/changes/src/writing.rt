@@ -8,34 +8,30 @@ ghost use Rattle.table_words.specs.declared.error.TableFault.TheVariants.{Foreig
 ghost use Rattle.rules.specs.Slices.{AreOnce, applied};
 ghost use Rattle.changes.specs.Written.{names_written, units_written, lots_written, goods_written, lines_written, shares_written, orders_written, history_written, change_written};
 
-use crate::stored::write_rows;
+use crate::stored::{put_rows, write_rows};
 use goods_tables::meta::put_meta;
-use rules::{Change, Rows};
+use rules::{Change, Dropped, Put};
 use sqlite::{Alter, Transaction};
 use table_words::error::TableFault;
 
 /// Items and bins.
-fn write_names<S: Alter>(
-    tx: &mut Transaction<'_, S>,
-    put: &Rows,
-    dropped: &Rows,
-) -> Result<(), TableFault>
+fn write_names<S: Alter>(tx: &mut Transaction<'_, S>, put: &Put) -> Result<(), TableFault>
     ensures same_reference { tx.new.conn.ghost_name ≡ tx.old.conn.ghost_name }
     ensures done { HasCleanDisk (state S.Store tx.new.conn.now) → IsReady (state S.Store tx.old.conn.now).now
-        → OnOk result (Goes (names_written put.now dropped.now) (state S.Store tx.old.conn.now) (state S.Store tx.new.conn.now)) }
+        → OnOk result (Goes (names_written put.now) (state S.Store tx.old.conn.now) (state S.Store tx.new.conn.now)) }
     ensures kept { HasCleanDisk (state S.Store tx.new.conn.now) → KeepsCommit (state S.Store tx.old.conn.now) (state S.Store tx.new.conn.now) }
     ensures survives { Survives (state S.Store tx.old.conn.now) (state S.Store tx.new.conn.now) (λ _. ⊥) }
     ensures never_foreign { IfErr result (λ e. e ≢ Foreign) }
 {
-    write_rows(tx, &put.items, &dropped.items)?;
-    write_rows(tx, &put.bins, &dropped.bins)
+    put_rows(tx, &put.items)?;
+    put_rows(tx, &put.bins)
 }
 
 /// Units of lots in bins.
 fn write_stock<S: Alter>(
     tx: &mut Transaction<'_, S>,
-    put: &Rows,
-    dropped: &Rows,
+    put: &Put,
+    dropped: &Dropped,
 ) -> Result<(), TableFault>
     ensures same_reference { tx.new.conn.ghost_name ≡ tx.old.conn.ghost_name }
     ensures done { HasCleanDisk (state S.Store tx.new.conn.now) → IsReady (state S.Store tx.old.conn.now).now
@@ -50,8 +46,8 @@ fn write_stock<S: Alter>(
 /// Lots, their recalls and their units in bins.
 fn write_lots<S: Alter>(
     tx: &mut Transaction<'_, S>,
-    put: &Rows,
-    dropped: &Rows,
+    put: &Put,
+    dropped: &Dropped,
 ) -> Result<(), TableFault>
     ensures same_reference { tx.new.conn.ghost_name ≡ tx.old.conn.ghost_name }
     ensures done { HasCleanDisk (state S.Store tx.new.conn.now) → IsReady (state S.Store tx.old.conn.now).now
@@ -60,16 +56,16 @@ fn write_lots<S: Alter>(
     ensures survives { Survives (state S.Store tx.old.conn.now) (state S.Store tx.new.conn.now) (λ _. ⊥) }
     ensures never_foreign { IfErr result (λ e. e ≢ Foreign) }
 {
-    write_rows(tx, &put.lots, &dropped.lots)?;
-    write_rows(tx, &put.recalls, &dropped.recalls)?;
+    put_rows(tx, &put.lots)?;
+    put_rows(tx, &put.recalls)?;
     write_stock(tx, put, dropped)
 }
 
 /// Goods.
 fn write_goods<S: Alter>(
     tx: &mut Transaction<'_, S>,
-    put: &Rows,
-    dropped: &Rows,
+    put: &Put,
+    dropped: &Dropped,
 ) -> Result<(), TableFault>
     ensures same_reference { tx.new.conn.ghost_name ≡ tx.old.conn.ghost_name }
     ensures done { HasCleanDisk (state S.Store tx.new.conn.now) → IsReady (state S.Store tx.old.conn.now).now
@@ -78,32 +74,28 @@ fn write_goods<S: Alter>(
     ensures survives { Survives (state S.Store tx.old.conn.now) (state S.Store tx.new.conn.now) (λ _. ⊥) }
     ensures never_foreign { IfErr result (λ e. e ≢ Foreign) }
 {
-    write_names(tx, put, dropped)?;
+    write_names(tx, put)?;
     write_lots(tx, put, dropped)
 }
 
 /// Orders and their lines.
-fn write_lines<S: Alter>(
-    tx: &mut Transaction<'_, S>,
-    put: &Rows,
-    dropped: &Rows,
-) -> Result<(), TableFault>
+fn write_lines<S: Alter>(tx: &mut Transaction<'_, S>, put: &Put) -> Result<(), TableFault>
     ensures same_reference { tx.new.conn.ghost_name ≡ tx.old.conn.ghost_name }
     ensures done { HasCleanDisk (state S.Store tx.new.conn.now) → IsReady (state S.Store tx.old.conn.now).now
-        → OnOk result (Goes (lines_written put.now dropped.now) (state S.Store tx.old.conn.now) (state S.Store tx.new.conn.now)) }
+        → OnOk result (Goes (lines_written put.now) (state S.Store tx.old.conn.now) (state S.Store tx.new.conn.now)) }
     ensures kept { HasCleanDisk (state S.Store tx.new.conn.now) → KeepsCommit (state S.Store tx.old.conn.now) (state S.Store tx.new.conn.now) }
     ensures survives { Survives (state S.Store tx.old.conn.now) (state S.Store tx.new.conn.now) (λ _. ⊥) }
     ensures never_foreign { IfErr result (λ e. e ≢ Foreign) }
 {
-    write_rows(tx, &put.orders, &dropped.orders)?;
-    write_rows(tx, &put.lines, &dropped.lines)
+    put_rows(tx, &put.orders)?;
+    put_rows(tx, &put.lines)
 }
 
 /// What is staged and reserved for orders.
 fn write_shares<S: Alter>(
     tx: &mut Transaction<'_, S>,
-    put: &Rows,
-    dropped: &Rows,
+    put: &Put,
+    dropped: &Dropped,
 ) -> Result<(), TableFault>
     ensures same_reference { tx.new.conn.ghost_name ≡ tx.old.conn.ghost_name }
     ensures done { HasCleanDisk (state S.Store tx.new.conn.now) → IsReady (state S.Store tx.old.conn.now).now
@@ -119,8 +111,8 @@ fn write_shares<S: Alter>(
 /// Orders.
 fn write_orders<S: Alter>(
     tx: &mut Transaction<'_, S>,
-    put: &Rows,
-    dropped: &Rows,
+    put: &Put,
+    dropped: &Dropped,
 ) -> Result<(), TableFault>
     ensures same_reference { tx.new.conn.ghost_name ≡ tx.old.conn.ghost_name }
     ensures done { HasCleanDisk (state S.Store tx.new.conn.now) → IsReady (state S.Store tx.old.conn.now).now
@@ -129,26 +121,22 @@ fn write_orders<S: Alter>(
     ensures survives { Survives (state S.Store tx.old.conn.now) (state S.Store tx.new.conn.now) (λ _. ⊥) }
     ensures never_foreign { IfErr result (λ e. e ≢ Foreign) }
 {
-    write_lines(tx, put, dropped)?;
+    write_lines(tx, put)?;
     write_shares(tx, put, dropped)
 }
 
 /// What has gone.
-fn write_history<S: Alter>(
-    tx: &mut Transaction<'_, S>,
-    put: &Rows,
-    dropped: &Rows,
-) -> Result<(), TableFault>
+fn write_history<S: Alter>(tx: &mut Transaction<'_, S>, put: &Put) -> Result<(), TableFault>
     ensures same_reference { tx.new.conn.ghost_name ≡ tx.old.conn.ghost_name }
     ensures done { HasCleanDisk (state S.Store tx.new.conn.now) → IsReady (state S.Store tx.old.conn.now).now
-        → OnOk result (Goes (history_written put.now dropped.now) (state S.Store tx.old.conn.now) (state S.Store tx.new.conn.now)) }
+        → OnOk result (Goes (history_written put.now) (state S.Store tx.old.conn.now) (state S.Store tx.new.conn.now)) }
     ensures kept { HasCleanDisk (state S.Store tx.new.conn.now) → KeepsCommit (state S.Store tx.old.conn.now) (state S.Store tx.new.conn.now) }
     ensures survives { Survives (state S.Store tx.old.conn.now) (state S.Store tx.new.conn.now) (λ _. ⊥) }
     ensures never_foreign { IfErr result (λ e. e ≢ Foreign) }
 {
-    write_rows(tx, &put.shipments, &dropped.shipments)?;
-    write_rows(tx, &put.shiplines, &dropped.shiplines)?;
-    write_rows(tx, &put.cards, &dropped.cards)
+    put_rows(tx, &put.shipments)?;
+    put_rows(tx, &put.shiplines)?;
+    put_rows(tx, &put.cards)
 }
 
 /// Every table in turn.
@@ -162,7 +150,7 @@ fn write_tables<S: Alter>(tx: &mut Transaction<'_, S>, change: &Change) -> Resul
 {
     write_goods(tx, &change.put, &change.dropped)?;
     write_orders(tx, &change.put, &change.dropped)?;
-    write_history(tx, &change.put, &change.dropped)?;
+    write_history(tx, &change.put)?;
     put_meta(tx, &change.meta)
 }
 

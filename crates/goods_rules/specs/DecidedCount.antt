@@ -12,7 +12,7 @@ use Rattle.commands.specs.declared.rows.StockRow.{StockRow}
 use Rattle.commands.specs.declared.rows.ReservedRow.{ReservedRow}
 use Rattle.machine.specs.Verdict.{Judgement, taken_off, put_on}
 use Rattle.machine.specs.Replies.{change_field}
-use Rattle.row_rules.specs.Seen.{capped, sees_item, sees_bin, units_seen, number_seen, meta_after, no_rows, lot_units}
+use Rattle.row_rules.specs.Seen.{capped, sees_item, sees_bin, units_seen, number_seen, meta_after, none_put, none_dropped, lot_units}
 use Rattle.row_rules.specs.SeenLots.{sees_lot, in_bin_seen, stock_put, stock_gone, stock_rows_with}
 use Rattle.row_rules.specs.Plans.{shares_over, rows_to_put, rows_to_drop}
 use Rattle.row_rules.specs.declared.slice.Slice.{Slice}
@@ -83,12 +83,12 @@ change_reply s change = codes "{\"act\":" ++ decimal (number_seen s) ++ change_f
 abbrev pub corrections : Slice → LotId → List ℕ → ℕ → ℤ → Change
 corrections s l b found change = record {
   meta = meta_after s;
-  put = record no_rows {
+  put = record none_put {
     stock = stock_put l b found;
     reserved = rows_to_put s.rows.reserved (shares_corrected s l b found);
     cards = correction_cards s l b found change;
   };
-  dropped = record no_rows {
+  dropped = record none_dropped {
     stock = stock_gone s.rows.stock l b found;
     reserved = rows_to_drop l.gtin s.rows.reserved (shares_corrected s l b found);
   };

@@ -7,7 +7,7 @@ use Rattle.commands.specs.declared.command.Movement.{Movement}
 use Rattle.commands.specs.declared.rows.StockRow.{StockRow}
 use Rattle.commands.specs.declared.rows.ReservedRow.{ReservedRow}
 use Rattle.machine.specs.Verdict.{Judgement}
-use Rattle.row_rules.specs.Seen.{capped, sees_item, sees_bin, meta_after, plain_reply, no_rows}
+use Rattle.row_rules.specs.Seen.{capped, sees_item, sees_bin, meta_after, plain_reply, none_put, none_dropped}
 use Rattle.row_rules.specs.SeenLots.{sees_lot, in_bin_seen, stock_put, stock_gone, stock_rows_with}
 use Rattle.row_rules.specs.Plans.{shares_over, rows_to_put, rows_to_drop}
 use Rattle.row_rules.specs.declared.slice.Slice.{Slice}
@@ -40,11 +40,11 @@ move_shares s m = shares_over m.lot.gtin s.meta.day s.rows.orders s.rows.lines s
 abbrev pub move_changes : Slice → Movement → Change
 move_changes s m = record {
   meta = meta_after s;
-  put = record no_rows {
+  put = record none_put {
     stock = stock_put m.lot m.to (units_brought s m) ++ stock_put m.lot m.from (units_left s m);
     reserved = rows_to_put s.rows.reserved (move_shares s m);
   };
-  dropped = record no_rows {
+  dropped = record none_dropped {
     stock = stock_gone s.rows.stock m.lot m.from (units_left s m);
     reserved = rows_to_drop m.lot.gtin s.rows.reserved (move_shares s m);
   };

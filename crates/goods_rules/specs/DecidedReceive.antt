@@ -14,7 +14,7 @@ use Rattle.machine.specs.Verdict.{Judgement}
 use Rattle.machine.specs.Postings.{is_lot}
 use Rattle.machine.specs.Standing.{is_expired}
 use Rattle.machine.specs.Cards.{delivery_note}
-use Rattle.row_rules.specs.Seen.{capped, sees_item, sees_bin, lot_seen, sees_recall, expires_otherwise_than, is_over, number_seen, meta_after, plain_reply, no_rows, stock_qty, lot_units}
+use Rattle.row_rules.specs.Seen.{capped, sees_item, sees_bin, lot_seen, sees_recall, expires_otherwise_than, is_over, number_seen, meta_after, plain_reply, none_put, none_dropped, stock_qty, lot_units}
 use Rattle.row_rules.specs.Plans.{shares_over, rows_to_put, rows_to_drop}
 use Rattle.row_rules.specs.declared.slice.Slice.{Slice}
 use Rattle.row_rules.specs.declared.slice.Change.{Change}
@@ -72,7 +72,7 @@ receive_card s key r = record {
 abbrev pub receive_changes : Slice → Key → Receipt → Change
 receive_changes s key r = record {
   meta = meta_after s;
-  put = record no_rows { lots = lots_put s r; stock = stock_after s r ∷ []; reserved = rows_to_put s.rows.reserved (receive_shares s r); cards = receive_card s key r ∷ [] };
-  dropped = record no_rows { reserved = rows_to_drop r.lot.gtin s.rows.reserved (receive_shares s r) };
+  put = record none_put { lots = lots_put s r; stock = stock_after s r ∷ []; reserved = rows_to_put s.rows.reserved (receive_shares s r); cards = receive_card s key r ∷ [] };
+  dropped = record none_dropped { reserved = rows_to_drop r.lot.gtin s.rows.reserved (receive_shares s r) };
   text = plain_reply s;
 }

@@ -5,7 +5,7 @@ use Rattle.commands.specs.declared.refusal.Refusal.TheVariants.{ActsFull, ItemEx
 use Rattle.commands.specs.declared.command.NewItem.{NewItem}
 use Rattle.commands.specs.declared.command.NewBin.{NewBin}
 use Rattle.machine.specs.Verdict.{Judgement}
-use Rattle.row_rules.specs.Seen.{sees_item, sees_bin, meta_after, plain_reply, no_rows}
+use Rattle.row_rules.specs.Seen.{sees_item, sees_bin, meta_after, plain_reply, none_put, none_dropped}
 use Rattle.row_rules.specs.declared.slice.Slice.{Slice}
 use Rattle.row_rules.specs.declared.slice.Change.{Change}
 
@@ -19,8 +19,8 @@ item_seen s i =
 abbrev pub item_changes : Slice → NewItem → Change
 item_changes s i = record {
   meta = meta_after s;
-  put = record no_rows { items = record { gtin = i.gtin; name = i.name } ∷ [] };
-  dropped = no_rows;
+  put = record none_put { items = record { gtin = i.gtin; name = i.name } ∷ [] };
+  dropped = none_dropped;
   text = plain_reply s;
 }
 
@@ -34,7 +34,7 @@ bin_seen s b =
 abbrev pub bin_changes : Slice → NewBin → Change
 bin_changes s b = record {
   meta = meta_after s;
-  put = record no_rows { bins = record { name = b.bin; kind = b.kind } ∷ [] };
-  dropped = no_rows;
+  put = record none_put { bins = record { name = b.bin; kind = b.kind } ∷ [] };
+  dropped = none_dropped;
   text = plain_reply s;
 }

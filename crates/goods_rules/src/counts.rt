@@ -3,7 +3,7 @@
 ghost use Rattle.std.specs.Prelude.{◌≡◌, IfOk};
 ghost use Rattle.machine.specs.Verdict.{first_refusal, taken_off as taken_off_lem, put_on as put_on_lem};
 ghost use Rattle.row_rules.specs.Plans.{rows_to_put, rows_to_drop};
-ghost use Rattle.row_rules.specs.Seen.{meta_after, no_rows};
+ghost use Rattle.row_rules.specs.Seen.{meta_after, none_put, none_dropped};
 ghost use Rattle.row_rules.specs.SeenLots.{in_bin_seen};
 ghost use Rattle.goods_rules.specs.DecidedCount.{count_seen, count_changes, adjust_seen, adjust_changes, is_over_without as is_over_without_lem, found_less as found_less_lem, stock_corrected, shares_corrected as shares_corrected_lem, correction_card as correction_card_lem, correction_cards as correction_cards_lem, change_reply as change_reply_lem, corrections as corrections_lem, units_adjusted as units_adjusted_lem};
 
@@ -12,7 +12,7 @@ use commands::{
     Adjustment, Buffer, CardKind, CardRow, Listed, Recount, Refusal, ReservedRow, Short, StockRow,
 };
 use row_rules::cards::lot_units;
-use row_rules::changing::{empty, meta_next, number_seen};
+use row_rules::changing::{meta_next, none_dropped, none_put, number_seen};
 use row_rules::judging::first_of;
 use row_rules::plans::{ItemRows, item_rows, shares_over};
 use row_rules::replanning::{Replanned, shares_changed};
@@ -190,13 +190,13 @@ fn corrected(
     cards: Vec<CardRow>,
     reserved: Replanned,
 ) -> Change
-    ensures { result ≡ record { meta = meta_after slice.now; put = record no_rows { stock = put.items; reserved = reserved.put; cards = cards.items }; dropped = record no_rows { stock = gone.items; reserved = reserved.dropped }; text = change_reply_lem slice.now made.now.change } }
+    ensures { result ≡ record { meta = meta_after slice.now; put = record none_put { stock = put.items; reserved = reserved.put; cards = cards.items }; dropped = record none_dropped { stock = gone.items; reserved = reserved.dropped }; text = change_reply_lem slice.now made.now.change } }
 {
-    let mut rows = empty(alloc);
+    let mut rows = none_put(alloc);
     rows.stock = Listed::from_vec(put);
     rows.reserved = reserved.put;
     rows.cards = Listed::from_vec(cards);
-    let mut dropped = empty(alloc);
+    let mut dropped = none_dropped(alloc);
     dropped.stock = Listed::from_vec(gone);
     dropped.reserved = reserved.dropped;
     Change {

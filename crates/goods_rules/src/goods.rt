@@ -6,14 +6,14 @@ ghost use Rattle.machine.specs.Postings.{is_lot};
 ghost use Rattle.machine.specs.Standing.{is_expired as is_expired_lem};
 ghost use Rattle.machine.specs.Verdict.{first_refusal};
 ghost use Rattle.row_rules.specs.Plans.{rows_to_put, rows_to_drop};
-ghost use Rattle.row_rules.specs.Seen.{meta_after, no_rows, plain_reply as plain_reply_lem, units_seen, expires_otherwise_than, is_over as is_over_lem};
+ghost use Rattle.row_rules.specs.Seen.{meta_after, none_put, none_dropped, plain_reply as plain_reply_lem, units_seen, expires_otherwise_than, is_over as is_over_lem};
 ghost use Rattle.goods_rules.specs.DecidedReceive.{receive_seen, receive_changes, receive_shares as receive_shares_lem, receive_card as receive_card_lem, stock_after as stock_after_lem, stock_rows_after as stock_rows_after_lem, lots_put as lots_put_lem, lots_if_new as lots_if_new_lem, new_lot_row as new_lot_row_lem, lot_rows_after as lot_rows_after_lem};
 
 use commands::limits::{ACTS_MAX, UNITS_MAX};
 use commands::{CardKind, CardRow, Key, Listed, LotRow, Receipt, Refusal, ReservedRow, StockRow};
 use label::Day;
 use row_rules::cards::{delivery_note, lot_units};
-use row_rules::changing::{empty, meta_next, number_seen, one, plain_reply};
+use row_rules::changing::{meta_next, none_dropped, none_put, number_seen, one, plain_reply};
 use row_rules::judging::first_of;
 use row_rules::looking::is_same_lot;
 use row_rules::plans::{ItemRows, item_rows, shares_over};
@@ -107,14 +107,14 @@ fn received(
     cards: Listed<CardRow>,
     reserved: Replanned,
 ) -> Change
-    ensures { result ≡ record { meta = meta_after slice.now; put = record no_rows { lots = lots.items; stock = put; reserved = reserved.put; cards = cards }; dropped = record no_rows { reserved = reserved.dropped }; text = plain_reply_lem slice.now } }
+    ensures { result ≡ record { meta = meta_after slice.now; put = record none_put { lots = lots.items; stock = put; reserved = reserved.put; cards = cards }; dropped = record none_dropped { reserved = reserved.dropped }; text = plain_reply_lem slice.now } }
 {
-    let mut rows = empty(alloc);
+    let mut rows = none_put(alloc);
     rows.lots = Listed::from_vec(lots);
     rows.stock = put;
     rows.reserved = reserved.put;
     rows.cards = cards;
-    let mut dropped = empty(alloc);
+    let mut dropped = none_dropped(alloc);
     dropped.reserved = reserved.dropped;
     Change {
         meta: meta_next(slice),

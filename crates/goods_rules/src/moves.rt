@@ -3,13 +3,13 @@
 ghost use Rattle.std.specs.Prelude.{◌≡◌, ◌++◌, nat_lt, IfOk};
 ghost use Rattle.machine.specs.Verdict.{first_refusal};
 ghost use Rattle.row_rules.specs.Plans.{rows_to_put, rows_to_drop};
-ghost use Rattle.row_rules.specs.Seen.{meta_after, no_rows, plain_reply as plain_reply_lem};
+ghost use Rattle.row_rules.specs.Seen.{meta_after, none_put, none_dropped, plain_reply as plain_reply_lem};
 ghost use Rattle.row_rules.specs.SeenLots.{in_bin_seen, stock_put as stock_put_lem, stock_gone as stock_gone_lem};
 ghost use Rattle.goods_rules.specs.DecidedMove.{move_seen, move_changes, move_shares as move_shares_lem, units_left as units_left_lem, units_brought as units_brought_lem, stock_rows_moved as stock_rows_moved_lem};
 
 use commands::limits::ACTS_MAX;
 use commands::{Listed, Movement, Refusal, ReservedRow, StockRow};
-use row_rules::changing::{empty, meta_next, plain_reply};
+use row_rules::changing::{meta_next, none_dropped, none_put, plain_reply};
 use row_rules::judging::first_of;
 use row_rules::plans::{ItemRows, item_rows, shares_over};
 use row_rules::replanning::{Replanned, shares_changed};
@@ -65,12 +65,12 @@ fn moved(
     gone: Vec<StockRow>,
     reserved: Replanned,
 ) -> Change
-    ensures { result ≡ record { meta = meta_after slice.now; put = record no_rows { stock = put.items; reserved = reserved.put }; dropped = record no_rows { stock = gone.items; reserved = reserved.dropped }; text = plain_reply_lem slice.now } }
+    ensures { result ≡ record { meta = meta_after slice.now; put = record none_put { stock = put.items; reserved = reserved.put }; dropped = record none_dropped { stock = gone.items; reserved = reserved.dropped }; text = plain_reply_lem slice.now } }
 {
-    let mut rows = empty(alloc);
+    let mut rows = none_put(alloc);
     rows.stock = Listed::from_vec(put);
     rows.reserved = reserved.put;
-    let mut dropped = empty(alloc);
+    let mut dropped = none_dropped(alloc);
     dropped.stock = Listed::from_vec(gone);
     dropped.reserved = reserved.dropped;
     Change {

@@ -6,7 +6,7 @@ ghost use Rattle.goods_rules.specs.DecidedSetup.{item_seen, item_changes, bin_se
 
 use commands::limits::{ACTS_MAX, BINS_MAX, ITEMS_MAX};
 use commands::{BinRow, ItemRow, NewBin, NewItem, Refusal};
-use row_rules::changing::{empty, meta_next, one, plain_reply};
+use row_rules::changing::{meta_next, none_dropped, none_put, one, plain_reply};
 use row_rules::judging::first_of;
 use row_rules::seeing::{sees_bin, sees_item};
 use row_rules::{Change, Slice};
@@ -34,12 +34,12 @@ pub fn change_item(alloc: Global, slice: &Slice, item: &NewItem) -> Result<Chang
         name: item.name,
     };
     let items = one(alloc, row)?;
-    let mut put = empty(alloc);
+    let mut put = none_put(alloc);
     put.items = items;
     Ok(Change {
         meta: meta_next(slice),
         put,
-        dropped: empty(alloc),
+        dropped: none_dropped(alloc),
         text: plain_reply(slice),
     })
 }
@@ -66,12 +66,12 @@ pub fn change_bin(alloc: Global, slice: &Slice, bin: &NewBin) -> Result<Change, 
         kind: bin.kind,
     };
     let bins = one(alloc, row)?;
-    let mut put = empty(alloc);
+    let mut put = none_put(alloc);
     put.bins = bins;
     Ok(Change {
         meta: meta_next(slice),
         put,
-        dropped: empty(alloc),
+        dropped: none_dropped(alloc),
         text: plain_reply(slice),
     })
 }

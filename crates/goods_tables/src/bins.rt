@@ -1,37 +1,25 @@
 //! The table `bins`.
 
-ghost use Rattle.std.specs.Prelude.{◌≡◌, ◌≢◌, ◌≤◌, true, find, OnOk, IfOk, IfErr, bytes_eq};
+ghost use Rattle.std.specs.Prelude.{◌≡◌, ◌≢◌, ◌≤◌, true, OnOk, IfOk, IfErr, bytes_eq};
 ghost use Rattle.std.specs.List.{AllByRecursion};
 ghost use Rattle.sqlite.specs.State.{HasCleanDisk, Survives, KeepsCommit, IsUnchanged};
 ghost use Rattle.sqlite.specs.Held.{state};
 ghost use Rattle.sqlite.specs.Values.{bound};
 ghost use Rattle.table_words.specs.Found.{AreRows};
 ghost use Rattle.table_words.specs.Steps.{IsReady, Goes};
-ghost use Rattle.table_words.specs.Typed.{tables_in, same_lot_id, with_bin, without_bin, is_bin, has_bin, bin_cells, bin_key, same_bin, BinKey, bins_of_rows, all_bins_rows};
+ghost use Rattle.table_words.specs.Typed.{tables_in, with_bin, is_bin, has_bin, bin_cells, bin_key, same_bin, BinKey, bins_of_rows, all_bins_rows};
 ghost use Rattle.table_words.specs.declared.error.TableFault.TheVariants.{Foreign};
 
-use crate::texts::{ADD_BIN, ALL_BINS, BINS_OF, CHANGE_BIN, DROP_BIN};
+use crate::texts::{ADD_BIN, ALL_BINS, BINS_OF, CHANGE_BIN};
 use commands::BinRow;
 use sqlite::types::ValueRef;
 use sqlite::{Alter, Row, Transaction};
 use std::alloc::Global;
-use table_words::calls::{put, run};
+use table_words::calls::put;
 use table_words::columns::{bin_kind_at, name_at, of_bin_kind, of_name};
 use table_words::error::TableFault;
 use table_words::reading::{Table, query};
 use values::Name;
-
-/// Drops the row with this key, if there is one.
-pub fn drop_bin<S: Alter>(tx: &mut Transaction<'_, S>, name: &Name) -> Result<(), TableFault>
-    ensures same_reference { tx.new.conn.ghost_name ≡ tx.old.conn.ghost_name }
-    ensures done { HasCleanDisk (state S.Store tx.new.conn.now) → IsReady (state S.Store tx.old.conn.now).now
-        → OnOk result (Goes (without_bin name.now) (state S.Store tx.old.conn.now) (state S.Store tx.new.conn.now)) }
-    ensures kept { HasCleanDisk (state S.Store tx.new.conn.now) → KeepsCommit (state S.Store tx.old.conn.now) (state S.Store tx.new.conn.now) }
-    ensures survives { Survives (state S.Store tx.old.conn.now) (state S.Store tx.new.conn.now) (λ _. ⊥) }
-    ensures never_foreign { IfErr result (λ e. e ≢ Foreign) }
-{
-    run(tx, DROP_BIN, &[of_name(name)])
-}
 
 /// The values of the columns, in their order.
 fn cells(row: &BinRow) -> [ValueRef<'_>; 2]

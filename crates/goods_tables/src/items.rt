@@ -1,37 +1,25 @@
 //! The table `items`.
 
-ghost use Rattle.std.specs.Prelude.{◌≡◌, ◌≢◌, ◌≤◌, true, find, OnOk, IfOk, IfErr, bytes_eq};
+ghost use Rattle.std.specs.Prelude.{◌≡◌, ◌≢◌, ◌≤◌, true, OnOk, IfOk, IfErr, bytes_eq};
 ghost use Rattle.std.specs.List.{AllByRecursion};
 ghost use Rattle.sqlite.specs.State.{HasCleanDisk, Survives, KeepsCommit, IsUnchanged};
 ghost use Rattle.sqlite.specs.Held.{state};
 ghost use Rattle.sqlite.specs.Values.{bound};
 ghost use Rattle.table_words.specs.Found.{AreRows};
 ghost use Rattle.table_words.specs.Steps.{IsReady, Goes};
-ghost use Rattle.table_words.specs.Typed.{tables_in, same_lot_id, with_item, without_item, is_item, has_item, item_cells, item_key, same_item, ItemKey, items_of_rows, all_items_rows};
+ghost use Rattle.table_words.specs.Typed.{tables_in, with_item, is_item, has_item, item_cells, item_key, same_item, ItemKey, items_of_rows, all_items_rows};
 ghost use Rattle.table_words.specs.declared.error.TableFault.TheVariants.{Foreign};
 
-use crate::texts::{ADD_ITEM, ALL_ITEMS, CHANGE_ITEM, DROP_ITEM, ITEMS_OF};
+use crate::texts::{ADD_ITEM, ALL_ITEMS, CHANGE_ITEM, ITEMS_OF};
 use commands::ItemRow;
 use sqlite::types::ValueRef;
 use sqlite::{Alter, Row, Transaction};
 use std::alloc::Global;
-use table_words::calls::{put, run};
+use table_words::calls::put;
 use table_words::columns::{gtin_at, of_gtin, of_title, title_at};
 use table_words::error::TableFault;
 use table_words::reading::{Table, query};
 use values::Gtin;
-
-/// Drops the row with this key, if there is one.
-pub fn drop_item<S: Alter>(tx: &mut Transaction<'_, S>, gtin: &Gtin) -> Result<(), TableFault>
-    ensures same_reference { tx.new.conn.ghost_name ≡ tx.old.conn.ghost_name }
-    ensures done { HasCleanDisk (state S.Store tx.new.conn.now) → IsReady (state S.Store tx.old.conn.now).now
-        → OnOk result (Goes (without_item gtin.now) (state S.Store tx.old.conn.now) (state S.Store tx.new.conn.now)) }
-    ensures kept { HasCleanDisk (state S.Store tx.new.conn.now) → KeepsCommit (state S.Store tx.old.conn.now) (state S.Store tx.new.conn.now) }
-    ensures survives { Survives (state S.Store tx.old.conn.now) (state S.Store tx.new.conn.now) (λ _. ⊥) }
-    ensures never_foreign { IfErr result (λ e. e ≢ Foreign) }
-{
-    run(tx, DROP_ITEM, &[of_gtin(gtin)])
-}
 
 /// The values of the columns, in their order.
 fn cells(row: &ItemRow) -> [ValueRef<'_>; 2]

@@ -1,40 +1,28 @@
 //! The table `lots`.
 
-ghost use Rattle.std.specs.Prelude.{◌≡◌, ◌≢◌, ◌≤◌, ◌<◌, true, find, OnOk, IfOk, IfErr, bytes_eq};
+ghost use Rattle.std.specs.Prelude.{◌≡◌, ◌≢◌, ◌≤◌, ◌<◌, true, OnOk, IfOk, IfErr, bytes_eq};
 ghost use Rattle.std.specs.List.{AllByRecursion};
 ghost use Rattle.sqlite.specs.State.{HasCleanDisk, Survives, KeepsCommit, IsUnchanged};
 ghost use Rattle.sqlite.specs.Held.{state};
 ghost use Rattle.sqlite.specs.Values.{bound};
 ghost use Rattle.table_words.specs.Found.{AreRows};
 ghost use Rattle.table_words.specs.Steps.{IsReady, Goes, IsTooBig};
-ghost use Rattle.table_words.specs.Typed.{tables_in, same_lot_id, with_lot, without_lot, is_lot, has_lot, lot_cells, lot_key, same_lot, LotKey, lots_of_rows, all_lots_rows};
+ghost use Rattle.table_words.specs.Typed.{tables_in, with_lot, is_lot, has_lot, lot_cells, lot_key, same_lot, LotKey, lots_of_rows, all_lots_rows};
 ghost use Rattle.table_words.specs.declared.error.TableFault.TheVariants.{Foreign};
 
-use crate::texts::{ADD_LOT, ALL_LOTS, CHANGE_LOT, DROP_LOT, LOTS_OF};
+use crate::texts::{ADD_LOT, ALL_LOTS, CHANGE_LOT, LOTS_OF};
 use commands::LotRow;
 use commands::limits::ACTS_MAX;
 use sqlite::types::ValueRef;
 use sqlite::{Alter, Row, Transaction};
 use std::alloc::Global;
-use table_words::calls::{put, run};
+use table_words::calls::put;
 use table_words::columns::{
     day_at, flag_at, gtin_at, lot_at, number_at, of_day, of_flag, of_gtin, of_lot, of_number,
 };
 use table_words::error::TableFault;
 use table_words::reading::{Table, query};
 use values::{Gtin, LotId};
-
-/// Drops the row with this key, if there is one.
-pub fn drop_lot<S: Alter>(tx: &mut Transaction<'_, S>, lot: &LotId) -> Result<(), TableFault>
-    ensures same_reference { tx.new.conn.ghost_name ≡ tx.old.conn.ghost_name }
-    ensures done { HasCleanDisk (state S.Store tx.new.conn.now) → IsReady (state S.Store tx.old.conn.now).now
-        → OnOk result (Goes (without_lot lot.now) (state S.Store tx.old.conn.now) (state S.Store tx.new.conn.now)) }
-    ensures kept { HasCleanDisk (state S.Store tx.new.conn.now) → KeepsCommit (state S.Store tx.old.conn.now) (state S.Store tx.new.conn.now) }
-    ensures survives { Survives (state S.Store tx.old.conn.now) (state S.Store tx.new.conn.now) (λ _. ⊥) }
-    ensures never_foreign { IfErr result (λ e. e ≢ Foreign) }
-{
-    run(tx, DROP_LOT, &[of_gtin(&lot.gtin), of_lot(&lot.lot)])
-}
 
 /// The values of the columns, in their order.
 fn cells(row: &LotRow) -> [ValueRef<'_>; 5]

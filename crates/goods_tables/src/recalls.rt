@@ -1,38 +1,26 @@
 //! The table `recalls`.
 
-ghost use Rattle.std.specs.Prelude.{◌≡◌, ◌≢◌, ◌≤◌, ◌<◌, true, find, OnOk, IfOk, IfErr, bytes_eq};
+ghost use Rattle.std.specs.Prelude.{◌≡◌, ◌≢◌, ◌≤◌, ◌<◌, true, OnOk, IfOk, IfErr, bytes_eq};
 ghost use Rattle.std.specs.List.{AllByRecursion};
 ghost use Rattle.sqlite.specs.State.{HasCleanDisk, Survives, KeepsCommit, IsUnchanged};
 ghost use Rattle.sqlite.specs.Held.{state};
 ghost use Rattle.sqlite.specs.Values.{bound};
 ghost use Rattle.table_words.specs.Found.{AreRows};
 ghost use Rattle.table_words.specs.Steps.{IsReady, Goes, IsTooBig};
-ghost use Rattle.table_words.specs.Typed.{tables_in, same_lot_id, with_recall, without_recall, is_recall, has_recall, recall_cells, recall_key, same_recall, RecallKey, recalls_of_rows};
+ghost use Rattle.table_words.specs.Typed.{tables_in, with_recall, is_recall, has_recall, recall_cells, recall_key, same_recall, RecallKey, recalls_of_rows};
 ghost use Rattle.table_words.specs.declared.error.TableFault.TheVariants.{Foreign};
 
-use crate::texts::{ADD_RECALL, CHANGE_RECALL, DROP_RECALL, RECALLS_OF};
+use crate::texts::{ADD_RECALL, CHANGE_RECALL, RECALLS_OF};
 use commands::RecallRow;
 use commands::limits::ACTS_MAX;
 use sqlite::types::ValueRef;
 use sqlite::{Alter, Row, Transaction};
 use std::alloc::Global;
-use table_words::calls::{put, run};
+use table_words::calls::put;
 use table_words::columns::{gtin_at, lot_at, number_at, of_gtin, of_lot, of_number};
 use table_words::error::TableFault;
 use table_words::reading::{Table, query};
 use values::{Gtin, LotId};
-
-/// Drops the row with this key, if there is one.
-pub fn drop_recall<S: Alter>(tx: &mut Transaction<'_, S>, lot: &LotId) -> Result<(), TableFault>
-    ensures same_reference { tx.new.conn.ghost_name ≡ tx.old.conn.ghost_name }
-    ensures done { HasCleanDisk (state S.Store tx.new.conn.now) → IsReady (state S.Store tx.old.conn.now).now
-        → OnOk result (Goes (without_recall lot.now) (state S.Store tx.old.conn.now) (state S.Store tx.new.conn.now)) }
-    ensures kept { HasCleanDisk (state S.Store tx.new.conn.now) → KeepsCommit (state S.Store tx.old.conn.now) (state S.Store tx.new.conn.now) }
-    ensures survives { Survives (state S.Store tx.old.conn.now) (state S.Store tx.new.conn.now) (λ _. ⊥) }
-    ensures never_foreign { IfErr result (λ e. e ≢ Foreign) }
-{
-    run(tx, DROP_RECALL, &[of_gtin(&lot.gtin), of_lot(&lot.lot)])
-}
 
 /// The values of the columns, in their order.
 fn cells(row: &RecallRow) -> [ValueRef<'_>; 3]

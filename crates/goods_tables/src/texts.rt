@@ -1,7 +1,5 @@
 //! The texts of the statements, one for each call on a table.
 
-pub(crate) const DROP_BIN: &str = "DELETE FROM bins WHERE name = ?1";
-
 pub(crate) const CHANGE_BIN: &str = "UPDATE bins SET name = ?1, kind = ?2 WHERE name = ?1";
 
 pub(crate) const ADD_BIN: &str = "INSERT INTO bins (name, kind) VALUES (?1, ?2)";
@@ -10,8 +8,6 @@ pub(crate) const BINS_OF: &str = "SELECT name, kind FROM bins WHERE name = ?1 OR
 
 pub(crate) const ALL_BINS: &str = "SELECT name, kind FROM bins ORDER BY rowid";
 
-pub(crate) const DROP_ITEM: &str = "DELETE FROM items WHERE gtin = ?1";
-
 pub(crate) const CHANGE_ITEM: &str = "UPDATE items SET gtin = ?1, name = ?2 WHERE gtin = ?1";
 
 pub(crate) const ADD_ITEM: &str = "INSERT INTO items (gtin, name) VALUES (?1, ?2)";
@@ -19,8 +15,6 @@ pub(crate) const ADD_ITEM: &str = "INSERT INTO items (gtin, name) VALUES (?1, ?2
 pub(crate) const ITEMS_OF: &str = "SELECT gtin, name FROM items WHERE gtin = ?1 ORDER BY rowid";
 
 pub(crate) const ALL_ITEMS: &str = "SELECT gtin, name FROM items ORDER BY rowid";
-
-pub(crate) const DROP_LOT: &str = "DELETE FROM lots WHERE gtin = ?1 AND lot = ?2";
 
 pub(crate) const CHANGE_LOT: &str =
     "UPDATE lots SET gtin = ?1, lot = ?2, expiry = ?3, came = ?4, held = ?5 WHERE gtin = ?1 AND lot = ?2";
@@ -42,8 +36,6 @@ pub(crate) const ADD_META: &str =
 pub(crate) const META_ROWS: &str =
     "SELECT id, mark, version, day, acts, shipments FROM meta WHERE id = ?1";
 
-pub(crate) const DROP_RECALL: &str = "DELETE FROM recalls WHERE gtin = ?1 AND lot = ?2";
-
 pub(crate) const CHANGE_RECALL: &str =
     "UPDATE recalls SET gtin = ?1, lot = ?2, act = ?3 WHERE gtin = ?1 AND lot = ?2";
 
@@ -64,18 +56,15 @@ pub(crate) const STOCK_OF: &str =
     "SELECT gtin, lot, bin, qty FROM stock WHERE gtin = ?1 ORDER BY rowid";
 
 /// All of them. A connection keeps the plans of its last 64 texts, so the tables together have at most 60.
-pub const TEXTS: [&str; 26] = [
-    DROP_BIN,
+pub const TEXTS: [&str; 22] = [
     CHANGE_BIN,
     ADD_BIN,
     BINS_OF,
     ALL_BINS,
-    DROP_ITEM,
     CHANGE_ITEM,
     ADD_ITEM,
     ITEMS_OF,
     ALL_ITEMS,
-    DROP_LOT,
     CHANGE_LOT,
     ADD_LOT,
     LOTS_OF,
@@ -83,7 +72,6 @@ pub const TEXTS: [&str; 26] = [
     CHANGE_META,
     ADD_META,
     META_ROWS,
-    DROP_RECALL,
     CHANGE_RECALL,
     ADD_RECALL,
     RECALLS_OF,

@@ -1,15 +1,15 @@
 -- What the statements on `cards` mean, and what they make of the tables.
-use Rattle.std.proofs.Common.{◌≡◌, ◌≢◌, ◌≤◌, ℕ, ℤ, Bool, true, false, not, ◌&&◌, ◌||◌, cond, List, [], ◌∷◌, codes, map, filter, find, length, pos, Ok, Err, Some, None, inl, inr, IsTrue, refl, sym, ap, ap₂, subst, ◌∙◌, bytes_eq, Equal}
-use Rattle.std.specs.Prelude.{◌↔◌, nat_eq, if◌then◌else◌, Option}
+use Rattle.std.proofs.Common.{◌≡◌, ◌≢◌, ◌≤◌, ℕ, Bool, true, false, ◌&&◌, ◌||◌, List, [], ◌∷◌, codes, map, filter, find, pos, Ok, inl, inr, IsTrue, refl, sym, ap, ap₂, subst, ◌∙◌, bytes_eq, Equal}
+use Rattle.std.specs.Prelude.{◌↔◌, nat_eq, if◌then◌else◌}
 use Rattle.std.specs.List.{AllByRecursion}
 use Rattle.std.proofs.lemmas.Bool.{and_parts}
 use Rattle.sqlite.specs.declared.types.Value.{Value}
 use Rattle.sqlite.specs.declared.types.Value.TheVariants.{Null, Int, Text}
 use Rattle.sqlite.specs.Order.{Row, column, bytes}
 use Rattle.sqlite.specs.Term.{Term, lit, col}
-use Rattle.sqlite.specs.Command.TheVariants.{Delete, Insert, Update, Select}
+use Rattle.sqlite.specs.Command.TheVariants.{Insert, Update, Select}
 use Rattle.sqlite.specs.Source.TheVariants.{Values}
-use Rattle.sqlite.specs.Tree.{Trees, with_tree}
+use Rattle.sqlite.specs.Tree.{with_tree}
 use Rattle.sqlite.specs.Edit.{next_rowid}
 use Rattle.sqlite.specs.Effect.{Database}
 use Rattle.sqlite_tied.specs.Compute.{everything}
@@ -18,31 +18,26 @@ use Rattle.sqlite.specs.State.{State, ExecutesInside, Shown}
 use Rattle.sqlite.proofs.Callers.{IsPlain, command_of, runs_as, reads_as}
 use Rattle.sqlite_schema.specs.declared.schema.Constraint.TheVariants.{Unique}
 use Rattle.sqlite_trees.specs.Tree.{rowid, put_row}
-use Rattle.sqlite_trees.specs.View.{is_int}
 use Rattle.sqlite_rules.specs.Lists.{Has}
 use Rattle.sqlite_rules.specs.Cast.{cast_all}
 use Rattle.sqlite_value.specs.Order.{value_cmp}
-use Rattle.sqlite_keyed.proofs.ListLemmas.{all-filter, all_map, all_weaker}
-use Rattle.sqlite_rules.proofs.ListLemmas.{all_has}
-use Rattle.values.specs.Values.{is_gtin, is_lot_text, is_name, is_title}
-use Rattle.label.specs.Days.{is_day, is_business_day}
+use Rattle.values.specs.Values.{is_gtin, is_lot_text}
 use Rattle.values.specs.declared.lot.LotId.{LotId}
-use Rattle.commands.specs.Spelling.{kind_text}
-use Rattle.commands.specs.declared.limits.TheConstants.{UNITS_MAX, ACTS_MAX, SHORT_MAX, KEY_TEXT_MAX, CARD_NOTE_MAX, SCHEMA_VERSION}
+use Rattle.commands.specs.declared.limits.TheConstants.{ACTS_MAX}
 use Rattle.commands.specs.declared.rows.CardRow.{CardRow}
-use Rattle.history_tables.specs.declared.texts.TheConstants.{DROP_CARD, CHANGE_CARD, ADD_CARD, CARDS_OF_LOT}
-use Rattle.table_words.specs.Cells.{typed, is_word, is_the_text, fits_in, is_any, is_number, is_the_number, number_in, is_signed, is_any_number, signed_in, flag_number, flag_in, bin_kind_in, order_state_text, order_state_in, card_kind_text, card_kind_in}
+use Rattle.history_tables.specs.declared.texts.TheConstants.{CHANGE_CARD, ADD_CARD, CARDS_OF_LOT}
+use Rattle.table_words.specs.Cells.{typed, is_the_text, number_in}
 use Rattle.table_words.specs.Schema.{the_schema, cards_tree, cards_table}
-use Rattle.table_words.specs.Typed.{same_lot_id, is_card, card_in, has_card, card_read, CardKey, same_card, card_key, card_cells, with_card, without_card, tables_in, Tables, AreTyped, cards_of_lot_rows}
+use Rattle.table_words.specs.Typed.{same_lot_id, is_card, card_in, has_card, card_read, CardKey, same_card, card_key, card_cells, with_card, tables_in, Tables, AreTyped, cards_of_lot_rows}
 use Rattle.table_words.specs.Steps.{IsReady, Goes}
 use Rattle.table_words.specs.Found.{AreRows}
 use Rattle.table_words.proofs.Plans.{same, scan, by_rowid, alone}
-use Rattle.table_words.proofs.ListLemmas.{over, IsRows-filter, IsRows-over, IsRows-put_row, all_over, all_put_row, any_counted, none_counted_pass, none_over, stays_put, filter_same_on}
-use Rattle.table_words.proofs.ScanLemmas.{passes, show, in_order, scanned}
-use Rattle.table_words.proofs.WriteLemmas.{deletes, inserts, inserts_at, updates, only_shown, cast_number, cast_null}
-use Rattle.table_words.proofs.CellLemmas.{and_true, and_assoc, same_word, same_count, same_the_number, equals_text, equals_number, same_number, itself_number, same_lots, itself_lot, id_is, typed-filter, both_typed, shown_typed, flag_back, bin_kind_back, order_state_back, card_kind_back}
+use Rattle.table_words.proofs.ListLemmas.{over, IsRows-over, IsRows-put_row, all_over, all_put_row, any_counted, none_counted_pass, none_over, stays_put, filter_same_on}
+use Rattle.table_words.proofs.ScanLemmas.{passes, show, in_order}
+use Rattle.table_words.proofs.WriteLemmas.{inserts, updates, cast_number}
+use Rattle.table_words.proofs.CellLemmas.{and_true, and_assoc, same_word, same_count, equals_text, same_number, itself_number, same_lots, itself_lot, typed-filter, both_typed, shown_typed, card_kind_back}
 use Rattle.table_words.proofs.StepLemmas.{ready_after, goes}
-use Rattle.table_words.proofs.KeyLemmas.{AtMostOne, one_by_key, one_by_rowid, few, none_had, IsSame, same_bytes, same_both, itself_bytes, itself_both, meets, found_without, found_put, found_over, are_rows}
+use Rattle.table_words.proofs.KeyLemmas.{AtMostOne, one_by_key, few, none_had, IsSame, same_both, itself_both, meets, found_put, found_over, are_rows}
 
 abbrev pub tests : List Term
 tests = same 1 0 ∷ same 2 1 ∷ same 3 2 ∷ []
@@ -66,34 +61,6 @@ one_row : (db : Database) → IsReady db → (params : Row) → AtMostOne (passe
 one_row db ready params =
     one_by_key the_schema db.trees (cards_table cards_tree) (1 ∷ 2 ∷ 3 ∷ []) _ (inr (inr (inr (inr (inr (inr (inr (inr (inr (inr (inl refl))))))))))) refl refl refl
     (ready.sound.obeys.rules Unique).1.1.1.1.1.1.1.1.1.1.1.1.0 ready.rows.1.1.1.1.1.1.1.1.1.1.1.1.0 params
-
--- ---- DELETE
-
-abbrev pub drop_text : List ℕ
-drop_text = DROP_CARD.now
-
-drop_is : command_of (understood the_schema drop_text) ≡ Delete 12 (alone (scan cards_tree tests (col 1 0 ∷ []) []))
-unfolding understood everything
-drop_is = refl
-
-drop_plain : IsPlain (understood the_schema drop_text)
-unfolding understood everything
-drop_plain = (refl, refl)
-
-pub drops : (old new : State) (lot : LotId) (act : ℕ) (count : ℕ) → IsReady old.now → IsTrue old.in_transaction → ExecutesInside 0 drop_text (key_cells lot act) old new (Ok count) → Goes (without_card lot act) old new
-drops old new lot act count ready inside h =
-    let params = key_cells lot act in
-    let p = passes params tests in
-    let rows = old.now.trees cards_tree in
-    let left = filter (λ r. not (p r)) rows in
-    let w = runs_as drop_text params old new the_schema ready.schema_is _ drop_is drop_plain count h.0 in
-    let c = deletes the_schema 12 cards_tree _ _ _ _ _ _ refl (λ _ _. refl) old new tests _ params count ready.schema_is ready.rows.1.1.1.1.1.1.1.1.1.1.1.1.0 w in
-    goes old new cards_tree left _ ready (IsRows-filter _ rows ready.rows.1.1.1.1.1.1.1.1.1.1.1.1.0) c (h.1.mode ∙ sym inside)
-    (λ i. let t : Tables = record (tables_in old.now.trees) {
-      card = λ at_lot at_act. found_without is_card card_in p (λ s. same_card (lot, act) (card_key s)) (λ s. same_card (at_lot, at_act) (card_key s)) (same_card (at_lot, at_act) (lot, act))
-          (meets same_card card_key one_key (lot, act) (at_lot, at_act)) (at_key params lot act refl refl refl) rows i;
-    } in t)
-    (λ are. record { meta = are.meta; items = are.items; bins = are.bins; lots = are.lots; recalls = are.recalls; stock = are.stock; orders = are.orders; lines = are.lines; staged = are.staged; reserved = are.reserved; shipments = are.shipments; shiplines = are.shiplines; cards = all-filter (λ r. is_card r ≡ true) _ rows are.cards; repeats = are.repeats })
 
 -- ---- UPDATE
 

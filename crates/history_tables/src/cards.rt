@@ -1,6 +1,6 @@
 //! The table `cards`.
 
-ghost use Rattle.std.specs.Prelude.{◌≡◌, ◌≢◌, ◌≤◌, ◌<◌, true, [], ◌∷◌, pos, find, OnOk, IfOk, IfErr, bytes_eq};
+ghost use Rattle.std.specs.Prelude.{◌≡◌, ◌≢◌, ◌≤◌, ◌<◌, true, [], ◌∷◌, pos, OnOk, IfOk, IfErr};
 ghost use Rattle.std.specs.List.{AllByRecursion};
 ghost use Rattle.sqlite.specs.State.{HasCleanDisk, Survives, KeepsCommit, IsUnchanged};
 ghost use Rattle.sqlite.specs.Held.{state};
@@ -8,16 +8,16 @@ ghost use Rattle.sqlite.specs.Values.{bound};
 ghost use Rattle.sqlite_value.specs.declared.value.Value.TheVariants.{Int, Text as TextValue};
 ghost use Rattle.table_words.specs.Found.{AreRows};
 ghost use Rattle.table_words.specs.Steps.{IsReady, Goes, IsTooBig};
-ghost use Rattle.table_words.specs.Typed.{tables_in, same_lot_id, with_card, without_card, is_card, has_card, card_cells, card_key, same_card, CardKey, cards_of_lot_rows};
+ghost use Rattle.table_words.specs.Typed.{tables_in, same_lot_id, with_card, is_card, has_card, card_cells, card_key, same_card, CardKey, cards_of_lot_rows};
 ghost use Rattle.table_words.specs.declared.error.TableFault.TheVariants.{Foreign};
 
-use crate::texts::{ADD_CARD, CARDS_OF_LOT, CHANGE_CARD, DROP_CARD};
+use crate::texts::{ADD_CARD, CARDS_OF_LOT, CHANGE_CARD};
 use commands::CardRow;
 use commands::limits::{ACTS_MAX, UNITS_MAX};
 use sqlite::types::ValueRef;
 use sqlite::{Alter, Row, Transaction};
 use std::alloc::Global;
-use table_words::calls::{put, run};
+use table_words::calls::put;
 use table_words::columns::{
     business_day_at, card_kind_at, gtin_at, lot_at, note_at, number_at, of_business_day,
     of_card_kind, of_gtin, of_lot, of_number, of_signed, of_text, signed_at,
@@ -32,26 +32,6 @@ fn key_cells<'a>(lot: &'a LotId, act: u64) -> [ValueRef<'a>; 3]
     ensures { bound result ≡ TextValue lot.now.gtin ∷ TextValue lot.now.lot ∷ Int (pos act) ∷ [] }
 {
     [of_gtin(&lot.gtin), of_lot(&lot.lot), of_number(act)]
-}
-
-/// Drops the row with this key, if there is one. A number above the limit is refused as too big.
-pub fn drop_card<S: Alter>(
-    tx: &mut Transaction<'_, S>,
-    lot: &LotId,
-    act: u64,
-) -> Result<(), TableFault>
-    ensures same_reference { tx.new.conn.ghost_name ≡ tx.old.conn.ghost_name }
-    ensures done { HasCleanDisk (state S.Store tx.new.conn.now) → IsReady (state S.Store tx.old.conn.now).now
-        → OnOk result (Goes (without_card lot.now act) (state S.Store tx.old.conn.now) (state S.Store tx.new.conn.now)) }
-    ensures kept { HasCleanDisk (state S.Store tx.new.conn.now) → KeepsCommit (state S.Store tx.old.conn.now) (state S.Store tx.new.conn.now) }
-    ensures survives { Survives (state S.Store tx.old.conn.now) (state S.Store tx.new.conn.now) (λ _. ⊥) }
-    ensures never_foreign { IfErr result (λ e. e ≢ Foreign) }
-    ensures size_act { ACTS_MAX < act → IsTooBig result tx.old.conn.now tx.new.conn.now }
-{
-    if act > ACTS_MAX {
-        return Err(TableFault::too_big());
-    }
-    run(tx, DROP_CARD, &key_cells(lot, act))
 }
 
 /// The values of the columns, in their order.

@@ -1,6 +1,6 @@
 //! The table `shiplines`.
 
-ghost use Rattle.std.specs.Prelude.{◌≡◌, ◌≢◌, ◌≤◌, ◌<◌, true, [], ◌∷◌, pos, find, OnOk, IfOk, IfErr, bytes_eq};
+ghost use Rattle.std.specs.Prelude.{◌≡◌, ◌≢◌, ◌≤◌, ◌<◌, true, [], ◌∷◌, pos, OnOk, IfOk, IfErr};
 ghost use Rattle.std.specs.List.{AllByRecursion};
 ghost use Rattle.sqlite.specs.State.{HasCleanDisk, Survives, KeepsCommit, IsUnchanged};
 ghost use Rattle.sqlite.specs.Held.{state};
@@ -8,16 +8,16 @@ ghost use Rattle.sqlite.specs.Values.{bound};
 ghost use Rattle.sqlite_value.specs.declared.value.Value.TheVariants.{Int, Text as TextValue};
 ghost use Rattle.table_words.specs.Found.{AreRows};
 ghost use Rattle.table_words.specs.Steps.{IsReady, Goes, IsTooBig};
-ghost use Rattle.table_words.specs.Typed.{tables_in, same_lot_id, with_shipline, without_shipline, is_shipline, has_shipline, shipline_cells, shipline_key, same_shipline, ShiplineKey, shiplines_of_lot_rows};
+ghost use Rattle.table_words.specs.Typed.{tables_in, same_lot_id, with_shipline, is_shipline, has_shipline, shipline_cells, shipline_key, same_shipline, ShiplineKey, shiplines_of_lot_rows};
 ghost use Rattle.table_words.specs.declared.error.TableFault.TheVariants.{Foreign};
 
-use crate::texts::{ADD_SHIPLINE, CHANGE_SHIPLINE, DROP_SHIPLINE, SHIPLINES_OF_LOT};
+use crate::texts::{ADD_SHIPLINE, CHANGE_SHIPLINE, SHIPLINES_OF_LOT};
 use commands::ShiplineRow;
 use commands::limits::{ACTS_MAX, UNITS_MAX};
 use sqlite::types::ValueRef;
 use sqlite::{Alter, Row, Transaction};
 use std::alloc::Global;
-use table_words::calls::{put, run};
+use table_words::calls::put;
 use table_words::columns::{gtin_at, lot_at, number_at, of_gtin, of_lot, of_number};
 use table_words::error::TableFault;
 use table_words::reading::{Table, query};
@@ -29,26 +29,6 @@ fn key_cells<'a>(number: u64, lot: &'a LotId) -> [ValueRef<'a>; 3]
     ensures { bound result ≡ Int (pos number) ∷ TextValue lot.now.gtin ∷ TextValue lot.now.lot ∷ [] }
 {
     [of_number(number), of_gtin(&lot.gtin), of_lot(&lot.lot)]
-}
-
-/// Drops the row with this key, if there is one. A number above the limit is refused as too big.
-pub fn drop_shipline<S: Alter>(
-    tx: &mut Transaction<'_, S>,
-    number: u64,
-    lot: &LotId,
-) -> Result<(), TableFault>
-    ensures same_reference { tx.new.conn.ghost_name ≡ tx.old.conn.ghost_name }
-    ensures done { HasCleanDisk (state S.Store tx.new.conn.now) → IsReady (state S.Store tx.old.conn.now).now
-        → OnOk result (Goes (without_shipline number lot.now) (state S.Store tx.old.conn.now) (state S.Store tx.new.conn.now)) }
-    ensures kept { HasCleanDisk (state S.Store tx.new.conn.now) → KeepsCommit (state S.Store tx.old.conn.now) (state S.Store tx.new.conn.now) }
-    ensures survives { Survives (state S.Store tx.old.conn.now) (state S.Store tx.new.conn.now) (λ _. ⊥) }
-    ensures never_foreign { IfErr result (λ e. e ≢ Foreign) }
-    ensures size_number { ACTS_MAX < number → IsTooBig result tx.old.conn.now tx.new.conn.now }
-{
-    if number > ACTS_MAX {
-        return Err(TableFault::too_big());
-    }
-    run(tx, DROP_SHIPLINE, &key_cells(number, lot))
 }
 
 /// The values of the columns, in their order.

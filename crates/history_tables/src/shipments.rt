@@ -1,43 +1,27 @@
 //! The table `shipments`.
 
-ghost use Rattle.std.specs.Prelude.{◌≡◌, ◌≢◌, ◌≤◌, ◌<◌, true, find, OnOk, IfOk, IfErr, bytes_eq, nat_eq};
+ghost use Rattle.std.specs.Prelude.{◌≡◌, ◌≢◌, ◌≤◌, ◌<◌, true, OnOk, IfOk, IfErr, nat_eq};
 ghost use Rattle.std.specs.List.{AllByRecursion};
 ghost use Rattle.sqlite.specs.State.{HasCleanDisk, Survives, KeepsCommit, IsUnchanged};
 ghost use Rattle.sqlite.specs.Held.{state};
 ghost use Rattle.sqlite.specs.Values.{bound};
 ghost use Rattle.table_words.specs.Found.{AreRows};
 ghost use Rattle.table_words.specs.Steps.{IsReady, Goes, IsTooBig};
-ghost use Rattle.table_words.specs.Typed.{tables_in, same_lot_id, with_shipment, without_shipment, is_shipment, has_shipment, shipment_cells, shipment_key, same_shipment, ShipmentKey, shipments_of_rows};
+ghost use Rattle.table_words.specs.Typed.{tables_in, with_shipment, is_shipment, has_shipment, shipment_cells, shipment_key, same_shipment, ShipmentKey, shipments_of_rows};
 ghost use Rattle.table_words.specs.declared.error.TableFault.TheVariants.{Foreign};
 
-use crate::texts::{ADD_SHIPMENT, CHANGE_SHIPMENT, DROP_SHIPMENT, SHIPMENTS_OF};
+use crate::texts::{ADD_SHIPMENT, CHANGE_SHIPMENT, SHIPMENTS_OF};
 use commands::ShipmentRow;
 use commands::limits::ACTS_MAX;
 use sqlite::types::ValueRef;
 use sqlite::{Alter, Row, Transaction};
 use std::alloc::Global;
-use table_words::calls::{put, run};
+use table_words::calls::put;
 use table_words::columns::{
     business_day_at, name_at, number_at, of_business_day, of_name, of_number,
 };
 use table_words::error::TableFault;
 use table_words::reading::{Table, query};
-
-/// Drops the row with this key, if there is one. A number above the limit is refused as too big.
-pub fn drop_shipment<S: Alter>(tx: &mut Transaction<'_, S>, number: u64) -> Result<(), TableFault>
-    ensures same_reference { tx.new.conn.ghost_name ≡ tx.old.conn.ghost_name }
-    ensures done { HasCleanDisk (state S.Store tx.new.conn.now) → IsReady (state S.Store tx.old.conn.now).now
-        → OnOk result (Goes (without_shipment number) (state S.Store tx.old.conn.now) (state S.Store tx.new.conn.now)) }
-    ensures kept { HasCleanDisk (state S.Store tx.new.conn.now) → KeepsCommit (state S.Store tx.old.conn.now) (state S.Store tx.new.conn.now) }
-    ensures survives { Survives (state S.Store tx.old.conn.now) (state S.Store tx.new.conn.now) (λ _. ⊥) }
-    ensures never_foreign { IfErr result (λ e. e ≢ Foreign) }
-    ensures size_number { ACTS_MAX < number → IsTooBig result tx.old.conn.now tx.new.conn.now }
-{
-    if number > ACTS_MAX {
-        return Err(TableFault::too_big());
-    }
-    run(tx, DROP_SHIPMENT, &[of_number(number)])
-}
 
 /// The values of the columns, in their order.
 fn cells(row: &ShipmentRow) -> [ValueRef<'_>; 4]

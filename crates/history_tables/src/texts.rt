@@ -1,7 +1,5 @@
 //! The texts of the statements, one for each call on a table.
 
-pub(crate) const DROP_CARD: &str = "DELETE FROM cards WHERE gtin = ?1 AND lot = ?2 AND act = ?3";
-
 pub(crate) const CHANGE_CARD: &str =
     "UPDATE cards SET gtin = ?1, lot = ?2, act = ?3, day = ?4, kind = ?5, note = ?6, qty = ?7, rest = ?8 WHERE gtin = ?1 AND lot = ?2 AND act = ?3";
 
@@ -20,9 +18,6 @@ pub(crate) const ADD_REPEAT: &str =
 pub(crate) const REPEATS_OF: &str =
     "SELECT k, act, spell, reply FROM repeats WHERE k = ?1 ORDER BY rowid";
 
-pub(crate) const DROP_SHIPLINE: &str =
-    "DELETE FROM shiplines WHERE number = ?1 AND gtin = ?2 AND lot = ?3";
-
 pub(crate) const CHANGE_SHIPLINE: &str =
     "UPDATE shiplines SET number = ?1, gtin = ?2, lot = ?3, qty = ?4 WHERE number = ?1 AND gtin = ?2 AND lot = ?3";
 
@@ -31,8 +26,6 @@ pub(crate) const ADD_SHIPLINE: &str =
 
 pub(crate) const SHIPLINES_OF_LOT: &str =
     "SELECT number, gtin, lot, qty FROM shiplines WHERE gtin = ?1 AND lot = ?2 ORDER BY rowid";
-
-pub(crate) const DROP_SHIPMENT: &str = "DELETE FROM shipments WHERE number = ?1";
 
 pub(crate) const CHANGE_SHIPMENT: &str =
     "UPDATE shipments SET act = ?2, day = ?3, ord = ?4 WHERE number = ?1";
@@ -44,19 +37,16 @@ pub(crate) const SHIPMENTS_OF: &str =
     "SELECT number, act, day, ord FROM shipments WHERE number = ?1";
 
 /// All of them. A connection keeps the plans of its last 64 texts, so the tables together have at most 60.
-pub const TEXTS: [&str; 15] = [
-    DROP_CARD,
+pub const TEXTS: [&str; 12] = [
     CHANGE_CARD,
     ADD_CARD,
     CARDS_OF_LOT,
     CHANGE_REPEAT,
     ADD_REPEAT,
     REPEATS_OF,
-    DROP_SHIPLINE,
     CHANGE_SHIPLINE,
     ADD_SHIPLINE,
     SHIPLINES_OF_LOT,
-    DROP_SHIPMENT,
     CHANGE_SHIPMENT,
     ADD_SHIPMENT,
     SHIPMENTS_OF,

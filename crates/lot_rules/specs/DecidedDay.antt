@@ -14,7 +14,7 @@ use Rattle.commands.specs.declared.rows.ReservedRow.{ReservedRow}
 use Rattle.machine.specs.Verdict.{Judgement}
 use Rattle.machine.specs.Postings.{is_lot}
 use Rattle.machine.specs.Replies.{returned_field}
-use Rattle.row_rules.specs.Seen.{capped, lot_seen, number_seen, no_rows, is_past_row}
+use Rattle.row_rules.specs.Seen.{capped, lot_seen, number_seen, none_put, none_dropped, is_past_row}
 use Rattle.lot_rules.specs.DecidedHold.{returned_put, bins_with_returns}
 use Rattle.row_rules.specs.Replanning.{item_put, item_dropped}
 use Rattle.row_rules.specs.declared.slice.Slice.{Slice}
@@ -80,7 +80,7 @@ day_reply s day = codes "{\"act\":" ++ decimal (number_seen s) ++ returned_field
 abbrev pub day_changes : Slice → ℤ → Change
 day_changes s day = record {
   meta = meta_on s day;
-  put = record no_rows { stock = stock_returned s day; reserved = day_put s day };
-  dropped = record no_rows { staged = staged_gone_on s day; reserved = day_dropped s day };
+  put = record none_put { stock = stock_returned s day; reserved = day_put s day };
+  dropped = record none_dropped { staged = staged_gone_on s day; reserved = day_dropped s day };
   text = day_reply s day;
 }

@@ -15,7 +15,7 @@ use Rattle.machine.specs.Verdict.{Judgement}
 use Rattle.machine.specs.Postings.{is_lot}
 use Rattle.machine.specs.Standing.{RETURNS}
 use Rattle.machine.specs.Replies.{returned_field}
-use Rattle.row_rules.specs.Seen.{capped, sees_item, lot_seen, sees_recall, number_seen, meta_after, plain_reply, no_rows}
+use Rattle.row_rules.specs.Seen.{capped, sees_item, lot_seen, sees_recall, number_seen, meta_after, plain_reply, none_put, none_dropped}
 use Rattle.row_rules.specs.SeenLots.{sees_lot, sees_hold, in_bin_seen, stock_put, stock_rows_with}
 use Rattle.row_rules.specs.Plans.{shares_over, rows_to_put, rows_to_drop}
 use Rattle.row_rules.specs.declared.slice.Slice.{Slice}
@@ -52,8 +52,8 @@ release_shares s l =
 abbrev pub release_changes : Slice → LotId → Change
 release_changes s l = record {
   meta = meta_after s;
-  put = record no_rows { lots = lot_put l false (lot_seen s l); reserved = rows_to_put s.rows.reserved (release_shares s l) };
-  dropped = record no_rows { reserved = rows_to_drop l.gtin s.rows.reserved (release_shares s l) };
+  put = record none_put { lots = lot_put l false (lot_seen s l); reserved = rows_to_put s.rows.reserved (release_shares s l) };
+  dropped = record none_dropped { reserved = rows_to_drop l.gtin s.rows.reserved (release_shares s l) };
   text = plain_reply s;
 }
 
@@ -97,8 +97,8 @@ returned_reply s l = codes "{\"act\":" ++ decimal (number_seen s) ++ returned_fi
 abbrev pub returning_change : Slice → LotId → List LotRow → List RecallRow → List ReservedRow → Change
 returning_change s l lots recalls shares = record {
   meta = meta_after s;
-  put = record no_rows { lots = lots; recalls = recalls; stock = returned_put s l; reserved = rows_to_put s.rows.reserved shares };
-  dropped = record no_rows { staged = staged_returned s l; reserved = rows_to_drop l.gtin s.rows.reserved shares };
+  put = record none_put { lots = lots; recalls = recalls; stock = returned_put s l; reserved = rows_to_put s.rows.reserved shares };
+  dropped = record none_dropped { staged = staged_returned s l; reserved = rows_to_drop l.gtin s.rows.reserved shares };
   text = returned_reply s l;
 }
 

@@ -3,13 +3,13 @@
 ghost use Rattle.std.specs.Prelude.{◌≡◌, false, map, IfOk};
 ghost use Rattle.machine.specs.Verdict.{first_refusal};
 ghost use Rattle.row_rules.specs.Plans.{rows_to_put, rows_to_drop};
-ghost use Rattle.row_rules.specs.Seen.{meta_after, no_rows, plain_reply as plain_reply_lem};
+ghost use Rattle.row_rules.specs.Seen.{meta_after, none_put, none_dropped, plain_reply as plain_reply_lem};
 ghost use Rattle.lot_rules.specs.DecidedHold.{release_seen, release_changes, release_shares as release_shares_lem, hold_seen, hold_changes, hold_shares as hold_shares_lem, recall_seen, recall_changes, recall_shares as recall_shares_lem, new_recall_row as new_recall_row_lem, recall_rows_after as recall_rows_after_lem, with_hold as with_hold_lem, lot_rows_with_hold as lot_rows_with_hold_lem, lot_put as lot_put_lem};
 
 use crate::returning::{returning_change, shares_with_returned};
 use commands::limits::ACTS_MAX;
 use commands::{Listed, LotRow, RecallRow, Refusal, ReservedRow};
-use row_rules::changing::{empty, meta_next, number_seen, one, plain_reply};
+use row_rules::changing::{meta_next, none_dropped, none_put, number_seen, one, plain_reply};
 use row_rules::judging::first_of;
 use row_rules::looking::is_same_lot;
 use row_rules::plans::{ItemRows, item_rows, shares_over};
@@ -116,12 +116,12 @@ pub fn change_release(alloc: Global, slice: &Slice, lot: &LotId) -> Result<Chang
 
 // The change by these rows.
 fn released(alloc: Global, slice: &Slice, put: Vec<LotRow>, reserved: Replanned) -> Change
-    ensures { result ≡ record { meta = meta_after slice.now; put = record no_rows { lots = put.items; reserved = reserved.put }; dropped = record no_rows { reserved = reserved.dropped }; text = plain_reply_lem slice.now } }
+    ensures { result ≡ record { meta = meta_after slice.now; put = record none_put { lots = put.items; reserved = reserved.put }; dropped = record none_dropped { reserved = reserved.dropped }; text = plain_reply_lem slice.now } }
 {
-    let mut rows = empty(alloc);
+    let mut rows = none_put(alloc);
     rows.lots = Listed::from_vec(put);
     rows.reserved = reserved.put;
-    let mut dropped = empty(alloc);
+    let mut dropped = none_dropped(alloc);
     dropped.reserved = reserved.dropped;
     Change {
         meta: meta_next(slice),

@@ -5,14 +5,14 @@ ghost use Rattle.values.specs.Values.{same_text};
 ghost use Rattle.commands.specs.Lists.{total};
 ghost use Rattle.machine.specs.Verdict.{first_refusal};
 ghost use Rattle.machine.specs.Postings.{is_lot};
-ghost use Rattle.row_rules.specs.Seen.{capped, is_past_row, no_rows};
+ghost use Rattle.row_rules.specs.Seen.{capped, is_past_row, none_put, none_dropped};
 ghost use Rattle.lot_rules.specs.DecidedDay.{day_judged, is_out as is_out_lem, staged_kept_on as staged_kept_on_lem, staged_gone_on as staged_gone_on_lem, units_out as units_out_lem, lot_returned_on as lot_returned_on_lem, stock_returned as stock_returned_lem, stands_in as stands_in_lem, stock_on as stock_on_lem, gtins_seen as gtins_seen_lem, day_put, day_dropped, meta_on as meta_on_lem, day_reply as day_reply_lem, day_changes};
 
 use crate::returning::{bins_with_returns, returned_put};
 use commands::limits::ACTS_MAX;
 use commands::{Buffer, ItemRow, Listed, LotRow, MetaRow, Refusal, Short, StagedRow, StockRow};
 use label::BusinessDay;
-use row_rules::changing::{empty, number_seen};
+use row_rules::changing::{none_dropped, none_put, number_seen};
 use row_rules::judging::first_of;
 use row_rules::looking::is_same_lot;
 use row_rules::plans::{ItemRows, item_rows};
@@ -267,12 +267,12 @@ fn opened(
     staged: Vec<StagedRow>,
     reserved: Replanned,
 ) -> Change
-    ensures { result ≡ record { meta = meta_on_lem slice.now day; put = record no_rows { stock = stock.items; reserved = reserved.put }; dropped = record no_rows { staged = staged.items; reserved = reserved.dropped }; text = day_reply_lem slice.now day } }
+    ensures { result ≡ record { meta = meta_on_lem slice.now day; put = record none_put { stock = stock.items; reserved = reserved.put }; dropped = record none_dropped { staged = staged.items; reserved = reserved.dropped }; text = day_reply_lem slice.now day } }
 {
-    let mut put = empty(alloc);
+    let mut put = none_put(alloc);
     put.stock = Listed::from_vec(stock);
     put.reserved = reserved.put;
-    let mut dropped = empty(alloc);
+    let mut dropped = none_dropped(alloc);
     dropped.staged = Listed::from_vec(staged);
     dropped.reserved = reserved.dropped;
     Change {

@@ -4,13 +4,13 @@ ghost use Rattle.std.specs.Prelude.{◌≡◌, not, filter, IfOk};
 ghost use Rattle.machine.specs.Postings.{is_lot};
 ghost use Rattle.machine.specs.Standing.{RETURNS};
 ghost use Rattle.row_rules.specs.Plans.{rows_to_put, rows_to_drop};
-ghost use Rattle.row_rules.specs.Seen.{meta_after, no_rows};
+ghost use Rattle.row_rules.specs.Seen.{meta_after, none_put, none_dropped};
 ghost use Rattle.lot_rules.specs.DecidedHold.{staged_of_seen, staged_kept as staged_kept_lem, staged_returned as staged_returned_lem, units_in_returns as units_in_returns_lem, returned_put as returned_put_lem, stock_with_returned as stock_with_returned_lem, bins_with_returns as bins_with_returns_lem, returns_bin_row as returns_bin_row_lem, shares_with_returned as shares_with_returned_lem, returned_reply as returned_reply_lem, returning_change as returning_change_lem};
 
 use commands::{
     BinKind, BinRow, Buffer, Listed, LotRow, RecallRow, ReservedRow, Short, StagedRow, StockRow,
 };
-use row_rules::changing::{empty, meta_next, number_seen};
+use row_rules::changing::{meta_next, none_dropped, none_put, number_seen};
 use row_rules::looking::is_same_lot;
 use row_rules::plans::{ItemRows, item_rows, shares_over};
 use row_rules::pushing::push_if;
@@ -214,19 +214,19 @@ fn change_returning(
     recalls: Listed<RecallRow>,
     rows: Returned,
 ) -> Change
-    ensures { result ≡ record { meta = meta_after slice.now; put = record no_rows { lots = lots; recalls = recalls; stock = rows.stock.items; reserved = rows.reserved.put }; dropped = record no_rows { staged = rows.staged.items; reserved = rows.reserved.dropped }; text = returned_reply_lem slice.now lot.now } }
+    ensures { result ≡ record { meta = meta_after slice.now; put = record none_put { lots = lots; recalls = recalls; stock = rows.stock.items; reserved = rows.reserved.put }; dropped = record none_dropped { staged = rows.staged.items; reserved = rows.reserved.dropped }; text = returned_reply_lem slice.now lot.now } }
 {
     let Returned {
         stock,
         staged,
         reserved,
     } = rows;
-    let mut put = empty(alloc);
+    let mut put = none_put(alloc);
     put.lots = lots;
     put.recalls = recalls;
     put.stock = Listed::from_vec(stock);
     put.reserved = reserved.put;
-    let mut dropped = empty(alloc);
+    let mut dropped = none_dropped(alloc);
     dropped.staged = Listed::from_vec(staged);
     dropped.reserved = reserved.dropped;
     Change {

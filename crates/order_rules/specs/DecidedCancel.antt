@@ -7,7 +7,7 @@ use Rattle.commands.specs.declared.rows.OrderState.TheVariants.{Cancelled}
 use Rattle.commands.specs.declared.rows.OrderRow.{OrderRow}
 use Rattle.commands.specs.declared.rows.ReservedRow.{ReservedRow}
 use Rattle.machine.specs.Verdict.{Judgement}
-use Rattle.row_rules.specs.Seen.{meta_after, plain_reply, no_rows}
+use Rattle.row_rules.specs.Seen.{meta_after, plain_reply, none_put, none_dropped}
 use Rattle.row_rules.specs.SeenOrders.{order_row_seen, sees_order, sees_open, staged_for_seen, items_seen}
 use Rattle.row_rules.specs.Replanning.{item_put, item_dropped}
 use Rattle.row_rules.specs.declared.slice.Slice.{Slice}
@@ -44,7 +44,7 @@ cancel_dropped s o =
 abbrev pub cancel_changes : Slice → List ℕ → Change
 cancel_changes s o = record {
   meta = meta_after s;
-  put = record no_rows { orders = cancelled_row (order_row_seen s o); reserved = cancel_put s o };
-  dropped = record no_rows { reserved = cancel_dropped s o };
+  put = record none_put { orders = cancelled_row (order_row_seen s o); reserved = cancel_put s o };
+  dropped = record none_dropped { reserved = cancel_dropped s o };
   text = plain_reply s;
 }

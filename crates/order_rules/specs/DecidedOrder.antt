@@ -16,7 +16,7 @@ use Rattle.plan.specs.Overlap.{reserved_for}
 use Rattle.machine.specs.Planning.{is_open_state}
 use Rattle.machine.specs.Verdict.{Judgement, names_item_twice}
 use Rattle.machine.specs.Replies.{short_field}
-use Rattle.row_rules.specs.Seen.{capped, sees_item, number_seen, meta_after, no_rows}
+use Rattle.row_rules.specs.Seen.{capped, sees_item, number_seen, meta_after, none_put, none_dropped}
 use Rattle.row_rules.specs.SeenOrders.{sees_order}
 use Rattle.row_rules.specs.Plans.{demands_seen, supplies_seen, plan_within, named_rows, rows_to_put, rows_to_drop}
 use Rattle.row_rules.specs.declared.slice.Slice.{Slice}
@@ -94,7 +94,7 @@ order_reply s o = codes "{\"act\":" ++ decimal (number_seen s) ++ short_field (s
 abbrev pub order_changes : Slice → NewOrder → Change
 order_changes s o = record {
   meta = meta_after s;
-  put = record no_rows { orders = new_order_row s o ∷ []; lines = new_line_rows o; reserved = order_rows_to_put s o o.lines };
-  dropped = record no_rows { reserved = order_rows_to_drop s o o.lines };
+  put = record none_put { orders = new_order_row s o ∷ []; lines = new_line_rows o; reserved = order_rows_to_put s o o.lines };
+  dropped = record none_dropped { reserved = order_rows_to_drop s o o.lines };
   text = order_reply s o;
 }

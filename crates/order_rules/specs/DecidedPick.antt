@@ -6,7 +6,7 @@ use Rattle.commands.specs.declared.refusal.Refusal.TheVariants.{ActsFull, Unknow
 use Rattle.commands.specs.declared.command.Picking.{Picking}
 use Rattle.commands.specs.declared.rows.ReservedRow.{ReservedRow}
 use Rattle.machine.specs.Verdict.{Judgement}
-use Rattle.row_rules.specs.Seen.{capped, sees_item, sees_bin, lot_seen, sees_recall, meta_after, plain_reply, no_rows, is_past_row}
+use Rattle.row_rules.specs.Seen.{capped, sees_item, sees_bin, lot_seen, sees_recall, meta_after, plain_reply, none_put, is_past_row}
 use Rattle.row_rules.specs.SeenOrders.{sees_order, sees_open, sees_line}
 use Rattle.row_rules.specs.SeenLots.{sees_lot, sees_hold, in_bin_seen, stock_put, stock_gone, stock_rows_with}
 use Rattle.row_rules.specs.SeenStages.{reserved_seen, on_stage_seen, staged_put, staged_gone, staged_rows_with}
@@ -58,12 +58,12 @@ shares_with s p stock staged =
 abbrev pub changes_with : Slice → Picking → ℕ → ℕ → Change
 changes_with s p stock staged = record {
   meta = meta_after s;
-  put = record no_rows {
+  put = record none_put {
     stock = stock_put p.lot p.bin stock;
     staged = staged_put p.order p.lot staged;
     reserved = rows_to_put s.rows.reserved (shares_with s p stock staged);
   };
-  dropped = record no_rows {
+  dropped = record {
     stock = stock_gone s.rows.stock p.lot p.bin stock;
     staged = staged_gone s.rows.staged p.order p.lot staged;
     reserved = rows_to_drop p.lot.gtin s.rows.reserved (shares_with s p stock staged);

@@ -15,7 +15,7 @@ use Rattle.commands.specs.declared.rows.ShiplineRow.{ShiplineRow}
 use Rattle.commands.specs.declared.rows.CardRow.{CardRow}
 use Rattle.machine.specs.Verdict.{Judgement}
 use Rattle.machine.specs.Replies.{shipment_field}
-use Rattle.row_rules.specs.Seen.{capped, number_seen, no_rows, lot_units}
+use Rattle.row_rules.specs.Seen.{capped, number_seen, none_put, none_dropped, lot_units}
 use Rattle.row_rules.specs.SeenOrders.{order_row_seen, sees_order, sees_open, staged_for_seen, lines_seen}
 use Rattle.row_rules.specs.Plans.{staged_seen}
 use Rattle.row_rules.specs.declared.slice.Slice.{Slice}
@@ -86,13 +86,13 @@ ship_reply s = codes "{\"act\":" ++ decimal (number_seen s) ++ shipment_field (s
 abbrev pub ship_changes : Slice → List ℕ → Change
 ship_changes s o = record {
   meta = meta_shipped s;
-  put = record no_rows {
+  put = record none_put {
     orders = order_put (order_row_seen s o) (list_any lacks_units (lines_shipped s o));
     lines = lines_shipped s o;
     shipments = shipment_put s o ∷ [];
     shiplines = map (shipline (shipment_seen s)) (rows_shipped o s.rows.staged);
     cards = map (ship_card s) (rows_shipped o s.rows.staged);
   };
-  dropped = record no_rows { staged = rows_shipped o s.rows.staged };
+  dropped = record none_dropped { staged = rows_shipped o s.rows.staged };
   text = ship_reply s;
 }

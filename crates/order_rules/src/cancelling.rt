@@ -3,12 +3,12 @@
 ghost use Rattle.std.specs.Prelude.{◌≡◌, not, filter, IfOk};
 ghost use Rattle.values.specs.Values.{same_text};
 ghost use Rattle.machine.specs.Verdict.{first_refusal};
-ghost use Rattle.row_rules.specs.Seen.{meta_after, no_rows, plain_reply as plain_reply_lem};
+ghost use Rattle.row_rules.specs.Seen.{meta_after, none_put, none_dropped, plain_reply as plain_reply_lem};
 ghost use Rattle.order_rules.specs.DecidedCancel.{cancel_seen, cancel_changes, cancelled_row as cancelled_row_lem, cancel_put, cancel_dropped};
 
 use commands::limits::ACTS_MAX;
 use commands::{Listed, OrderRow, OrderState, Refusal};
-use row_rules::changing::{empty, meta_next, plain_reply};
+use row_rules::changing::{meta_next, none_dropped, none_put, plain_reply};
 use row_rules::judging::first_of;
 use row_rules::orders_seen::{items_seen, order_row_seen, sees_open, sees_order, staged_for_seen};
 use row_rules::plans::{ItemRows, item_rows};
@@ -45,12 +45,12 @@ pub fn change_cancel(alloc: Global, slice: &Slice, order: &Name) -> Result<Chang
 
 // The change by these rows.
 fn cancelled(alloc: Global, slice: &Slice, row: Vec<OrderRow>, reserved: Replanned) -> Change
-    ensures { result ≡ record { meta = meta_after slice.now; put = record no_rows { orders = row.items; reserved = reserved.put }; dropped = record no_rows { reserved = reserved.dropped }; text = plain_reply_lem slice.now } }
+    ensures { result ≡ record { meta = meta_after slice.now; put = record none_put { orders = row.items; reserved = reserved.put }; dropped = record none_dropped { reserved = reserved.dropped }; text = plain_reply_lem slice.now } }
 {
-    let mut put = empty(alloc);
+    let mut put = none_put(alloc);
     put.orders = Listed::from_vec(row);
     put.reserved = reserved.put;
-    let mut dropped = empty(alloc);
+    let mut dropped = none_dropped(alloc);
     dropped.reserved = reserved.dropped;
     Change {
         meta: meta_next(slice),

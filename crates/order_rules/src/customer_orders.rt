@@ -7,13 +7,13 @@ ghost use Rattle.commands.specs.declared.limits.TheConstants.{OPEN_MAX};
 ghost use Rattle.commands.specs.Lists.{total};
 ghost use Rattle.machine.specs.Replies.{short_field};
 ghost use Rattle.machine.specs.Verdict.{first_refusal, names_item_twice as names_item_twice_lem};
-ghost use Rattle.row_rules.specs.Seen.{capped, meta_after, no_rows, number_seen as number_seen_lem};
+ghost use Rattle.row_rules.specs.Seen.{capped, meta_after, none_put, none_dropped, number_seen as number_seen_lem};
 ghost use Rattle.order_rules.specs.DecidedOrder.{order_seen, order_changes, misses_item as misses_item_lem, orders_too_much as orders_too_much_lem, open_units_seen as open_units_seen_lem, open_units_of as open_units_of_lem, open_units_of_line as open_units_of_line_lem};
 
 use crate::booking::{Booked, book_order, new_line_rows, new_order_row};
 use commands::limits::{ACTS_MAX, OPEN_MAX};
 use commands::{Buffer, LineRow, Listed, NewOrder, OrderLine, OrderRow, Refusal, Short};
-use row_rules::changing::{empty, meta_next, number_seen, one};
+use row_rules::changing::{meta_next, none_dropped, none_put, number_seen, one};
 use row_rules::demands::{find_line, is_open};
 use row_rules::judging::first_of;
 use row_rules::orders_seen::sees_order;
@@ -150,13 +150,13 @@ fn ordered(
     lines: Vec<LineRow>,
     booked: Booked,
 ) -> Change
-    ensures { result ≡ record { meta = meta_after slice.now; put = record no_rows { orders = orders; lines = lines.items; reserved = booked.put }; dropped = record no_rows { reserved = booked.dropped }; text = codes "{\"act\":" ++ decimal (number_seen_lem slice.now) ++ short_field booked.short ++ codes "}" } }
+    ensures { result ≡ record { meta = meta_after slice.now; put = record none_put { orders = orders; lines = lines.items; reserved = booked.put }; dropped = record none_dropped { reserved = booked.dropped }; text = codes "{\"act\":" ++ decimal (number_seen_lem slice.now) ++ short_field booked.short ++ codes "}" } }
 {
-    let mut put = empty(alloc);
+    let mut put = none_put(alloc);
     put.orders = orders;
     put.lines = Listed::from_vec(lines);
     put.reserved = booked.put;
-    let mut dropped = empty(alloc);
+    let mut dropped = none_dropped(alloc);
     dropped.reserved = booked.dropped;
     Change {
         meta: meta_next(slice),

@@ -2,13 +2,13 @@
 
 ghost use Rattle.std.specs.Prelude.{◌≡◌, ◌+◌, ◌-◌, IfOk};
 ghost use Rattle.machine.specs.Verdict.{first_refusal};
-ghost use Rattle.row_rules.specs.Seen.{capped, is_past_row as is_past_row_lem, no_rows};
+ghost use Rattle.row_rules.specs.Seen.{capped, is_past_row as is_past_row_lem, none_put};
 ghost use Rattle.order_rules.specs.DecidedPick.{pick_seen, unpick_seen, pick_changes, unpick_changes, changes_with, shares_with as shares_with_lem, sees_store as sees_store_lem};
 
 use commands::limits::ACTS_MAX;
 use commands::{Listed, LotRow, Picking, Refusal, ReservedRow, StagedRow, StockRow};
 use label::BusinessDay;
-use row_rules::changing::{empty, meta_next, plain_reply};
+use row_rules::changing::{meta_next, none_put, plain_reply};
 use row_rules::judging::first_of;
 use row_rules::looking::find_bin;
 use row_rules::orders_seen::{sees_line, sees_open, sees_order};
@@ -17,7 +17,7 @@ use row_rules::seeing::{lot_seen, sees_bin, sees_hold, sees_item, sees_recall};
 use row_rules::stages::{on_stage_seen, reserved_seen, staged_gone, staged_put, staged_rows_with};
 use row_rules::stock::{sees_lot, stock_gone, stock_put, stock_rows_with, units_in_bin};
 use row_rules::supplies::is_store;
-use row_rules::{Change, Rows, Slice};
+use row_rules::{Change, Dropped, Put, Slice};
 use std::alloc::{AllocError, Global};
 use values::{Name, Qty};
 
@@ -161,7 +161,7 @@ fn rows_put(
     in_bin: u64,
     staged: u64,
     shares: &[ReservedRow],
-) -> Result<Rows, AllocError>
+) -> Result<Put, AllocError>
     ensures { IfOk result (λ rows. shares.now ≡ shares_with_lem slice.now p.now in_bin staged → rows ≡ (changes_with slice.now p.now in_bin staged).put) }
 {
     let stock = stock_put(alloc, &p.lot, &p.bin, in_bin)?;
@@ -177,14 +177,18 @@ fn rows_dropped(
     in_bin: u64,
     staged: u64,
     shares: &[ReservedRow],
-) -> Result<Rows, AllocError>
+) -> Result<Dropped, AllocError>
     ensures { IfOk result (λ rows. shares.now ≡ shares_with_lem slice.now p.now in_bin staged → rows ≡ (changes_with slice.now p.now in_bin staged).dropped) }
 {
     let rows = &slice.rows;
     let stock = stock_gone(alloc, rows.stock.as_slice(), &p.lot, &p.bin, in_bin)?;
     let on_stage = staged_gone(alloc, rows.staged.as_slice(), &p.order, &p.lot, staged)?;
     let reserved = rows_to_drop(alloc, &p.lot.gtin, rows.reserved.as_slice(), shares)?;
-    Ok(rows_of(alloc, stock, on_stage, reserved))
+    Ok(Dropped {
+        stock: Listed::from_vec(stock),
+        staged: Listed::from_vec(on_stage),
+        reserved: Listed::from_vec(reserved),
+    })
 }
 
 // These rows and no others.
@@ -193,10 +197,10 @@ fn rows_of(
     stock: Vec<StockRow>,
     staged: Vec<StagedRow>,
     reserved: Vec<ReservedRow>,
-) -> Rows
-    ensures { result ≡ record no_rows { stock = stock.items; staged = staged.items; reserved = reserved.items } }
+) -> Put
+    ensures { result ≡ record none_put { stock = stock.items; staged = staged.items; reserved = reserved.items } }
 {
-    let mut rows = empty(alloc);
+    let mut rows = none_put(alloc);
     rows.stock = Listed::from_vec(stock);
     rows.staged = Listed::from_vec(staged);
     rows.reserved = Listed::from_vec(reserved);

@@ -4,7 +4,7 @@ ghost use Rattle.std.specs.Prelude.{◌≡◌, map, min, pos, neg_ℤ, decimal, 
 ghost use Rattle.std.specs.List.{list_any};
 ghost use Rattle.commands.specs.declared.limits.TheConstants.{UNITS_MAX};
 ghost use Rattle.machine.specs.Verdict.{first_refusal};
-ghost use Rattle.row_rules.specs.Seen.{no_rows};
+ghost use Rattle.row_rules.specs.Seen.{none_put};
 ghost use Rattle.order_rules.specs.DecidedShip.{ship_seen, ship_changes, shipment_seen as shipment_seen_lem, meta_shipped as meta_shipped_lem, rows_shipped as rows_shipped_lem, lines_shipped as lines_shipped_lem, line_shipped as line_shipped_lem, lacks_units as lacks_units_lem, order_put as order_put_lem, done_row as done_row_lem, shipment_put as shipment_put_lem, shipline as shipline_lem, ship_card as ship_card_lem, ship_reply as ship_reply_lem};
 
 use commands::limits::{ACTS_MAX, CARD_NOTE_MAX, UNITS_MAX};
@@ -13,12 +13,12 @@ use commands::{
     ShiplineRow, ShipmentRow, Short, StagedRow,
 };
 use row_rules::cards::lot_units;
-use row_rules::changing::{empty, number_seen, one};
+use row_rules::changing::{none_dropped, none_put, number_seen, one};
 use row_rules::demands::sum_staged_for;
 use row_rules::judging::first_of;
 use row_rules::orders_seen::{lines_seen, order_row_seen, sees_open, sees_order, staged_for_seen};
 use row_rules::pushing::push_if;
-use row_rules::{Change, Rows, Slice};
+use row_rules::{Change, Put, Slice};
 use std::alloc::{AllocError, Global};
 use values::{Name, Text};
 
@@ -44,7 +44,7 @@ pub fn change_ship(alloc: Global, slice: &Slice, order: &Name) -> Result<Change,
 {
     let staged = rows_shipped(alloc, slice.rows.staged.as_slice(), order)?;
     let put = ship_put(alloc, slice, order, staged.as_slice())?;
-    let mut dropped = empty(alloc);
+    let mut dropped = none_dropped(alloc);
     dropped.staged = Listed::from_vec(staged);
     Ok(Change {
         meta: meta_shipped(slice),
@@ -60,7 +60,7 @@ fn ship_put(
     slice: &Slice,
     order: &Name,
     staged: &[StagedRow],
-) -> Result<Rows, AllocError>
+) -> Result<Put, AllocError>
     ensures { IfOk result (λ rows. staged.now ≡ rows_shipped_lem order.now slice.now.rows.staged → rows ≡ (ship_changes slice.now order.now).put) }
 {
     let lines = lines_shipped(alloc, slice, order)?;
@@ -80,10 +80,10 @@ fn rows_of(
     shipments: Listed<ShipmentRow>,
     shiplines: Vec<ShiplineRow>,
     cards: Vec<CardRow>,
-) -> Rows
-    ensures { result ≡ record no_rows { orders = orders.items; lines = lines.items; shipments = shipments; shiplines = shiplines.items; cards = cards.items } }
+) -> Put
+    ensures { result ≡ record none_put { orders = orders.items; lines = lines.items; shipments = shipments; shiplines = shiplines.items; cards = cards.items } }
 {
-    let mut rows = empty(alloc);
+    let mut rows = none_put(alloc);
     rows.orders = Listed::from_vec(orders);
     rows.lines = Listed::from_vec(lines);
     rows.shipments = shipments;

@@ -1,42 +1,26 @@
 //! The table `lines`.
 
-ghost use Rattle.std.specs.Prelude.{◌≡◌, ◌≢◌, ◌≤◌, ◌<◌, true, find, slice_get, OnOk, IfOk, IfErr, bytes_eq};
+ghost use Rattle.std.specs.Prelude.{◌≡◌, ◌≢◌, ◌≤◌, ◌<◌, true, slice_get, OnOk, IfOk, IfErr, bytes_eq};
 ghost use Rattle.std.specs.List.{AllByRecursion};
 ghost use Rattle.sqlite.specs.State.{HasCleanDisk, Survives, KeepsCommit, IsUnchanged};
 ghost use Rattle.sqlite.specs.Held.{state};
 ghost use Rattle.sqlite.specs.Values.{bound};
 ghost use Rattle.table_words.specs.Found.{AreRows};
 ghost use Rattle.table_words.specs.Steps.{IsReady, Goes, IsTooBig};
-ghost use Rattle.table_words.specs.Typed.{tables_in, same_lot_id, with_line, without_line, is_line, has_line, line_cells, line_key, same_line, LineKey, lines_of_order_rows, line_of_rows};
+ghost use Rattle.table_words.specs.Typed.{tables_in, with_line, is_line, has_line, line_cells, line_key, same_line, LineKey, lines_of_order_rows, line_of_rows};
 ghost use Rattle.table_words.specs.declared.error.TableFault.TheVariants.{Foreign};
 
-use crate::texts::{ADD_LINE, CHANGE_LINE, DROP_LINE, LINE_OF, LINES_OF_ORDER};
+use crate::texts::{ADD_LINE, CHANGE_LINE, LINE_OF, LINES_OF_ORDER};
 use commands::LineRow;
 use commands::limits::UNITS_MAX;
 use sqlite::types::ValueRef;
 use sqlite::{Alter, Row, Transaction};
 use std::alloc::Global;
-use table_words::calls::{put, run};
+use table_words::calls::put;
 use table_words::columns::{gtin_at, name_at, number_at, of_gtin, of_name, of_number};
 use table_words::error::TableFault;
 use table_words::reading::{Table, query};
 use values::{Gtin, Name};
-
-/// Drops the row with this key, if there is one.
-pub fn drop_line<S: Alter>(
-    tx: &mut Transaction<'_, S>,
-    order: &Name,
-    gtin: &Gtin,
-) -> Result<(), TableFault>
-    ensures same_reference { tx.new.conn.ghost_name ≡ tx.old.conn.ghost_name }
-    ensures done { HasCleanDisk (state S.Store tx.new.conn.now) → IsReady (state S.Store tx.old.conn.now).now
-        → OnOk result (Goes (without_line order.now gtin.now) (state S.Store tx.old.conn.now) (state S.Store tx.new.conn.now)) }
-    ensures kept { HasCleanDisk (state S.Store tx.new.conn.now) → KeepsCommit (state S.Store tx.old.conn.now) (state S.Store tx.new.conn.now) }
-    ensures survives { Survives (state S.Store tx.old.conn.now) (state S.Store tx.new.conn.now) (λ _. ⊥) }
-    ensures never_foreign { IfErr result (λ e. e ≢ Foreign) }
-{
-    run(tx, DROP_LINE, &[of_name(order), of_gtin(gtin)])
-}
 
 /// The values of the columns, in their order.
 fn cells(row: &LineRow) -> [ValueRef<'_>; 4]

@@ -1,40 +1,28 @@
 //! The table `orders`.
 
-ghost use Rattle.std.specs.Prelude.{◌≡◌, ◌≢◌, ◌≤◌, ◌<◌, true, find, OnOk, IfOk, IfErr, bytes_eq};
+ghost use Rattle.std.specs.Prelude.{◌≡◌, ◌≢◌, ◌≤◌, ◌<◌, true, OnOk, IfOk, IfErr, bytes_eq};
 ghost use Rattle.std.specs.List.{AllByRecursion};
 ghost use Rattle.sqlite.specs.State.{HasCleanDisk, Survives, KeepsCommit, IsUnchanged};
 ghost use Rattle.sqlite.specs.Held.{state};
 ghost use Rattle.sqlite.specs.Values.{bound};
 ghost use Rattle.table_words.specs.Found.{AreRows, only_if};
 ghost use Rattle.table_words.specs.Steps.{IsReady, Goes, IsTooBig};
-ghost use Rattle.table_words.specs.Typed.{tables_in, same_lot_id, with_order, without_order, is_order, has_order, order_cells, order_key, same_order, OrderKey, orders_of_rows, is_open_order, open_orders_rows};
+ghost use Rattle.table_words.specs.Typed.{tables_in, with_order, is_order, has_order, order_cells, order_key, same_order, OrderKey, orders_of_rows, is_open_order, open_orders_rows};
 ghost use Rattle.table_words.specs.declared.error.TableFault.TheVariants.{Foreign};
 
-use crate::texts::{ADD_ORDER, CHANGE_ORDER, DROP_ORDER, OPEN_ORDERS, ORDERS_OF};
+use crate::texts::{ADD_ORDER, CHANGE_ORDER, OPEN_ORDERS, ORDERS_OF};
 use commands::limits::ACTS_MAX;
 use commands::{OrderRow, OrderState};
 use sqlite::types::ValueRef;
 use sqlite::{Alter, Row, Transaction};
 use std::alloc::Global;
-use table_words::calls::{put, run};
+use table_words::calls::put;
 use table_words::columns::{
     name_at, number_at, of_name, of_number, of_order_state, of_title, order_state_at, title_at,
 };
 use table_words::error::TableFault;
 use table_words::reading::{Table, query};
 use values::Name;
-
-/// Drops the row with this key, if there is one.
-pub fn drop_order<S: Alter>(tx: &mut Transaction<'_, S>, order: &Name) -> Result<(), TableFault>
-    ensures same_reference { tx.new.conn.ghost_name ≡ tx.old.conn.ghost_name }
-    ensures done { HasCleanDisk (state S.Store tx.new.conn.now) → IsReady (state S.Store tx.old.conn.now).now
-        → OnOk result (Goes (without_order order.now) (state S.Store tx.old.conn.now) (state S.Store tx.new.conn.now)) }
-    ensures kept { HasCleanDisk (state S.Store tx.new.conn.now) → KeepsCommit (state S.Store tx.old.conn.now) (state S.Store tx.new.conn.now) }
-    ensures survives { Survives (state S.Store tx.old.conn.now) (state S.Store tx.new.conn.now) (λ _. ⊥) }
-    ensures never_foreign { IfErr result (λ e. e ≢ Foreign) }
-{
-    run(tx, DROP_ORDER, &[of_name(order)])
-}
 
 /// The values of the columns, in their order.
 fn cells(row: &OrderRow) -> [ValueRef<'_>; 4]

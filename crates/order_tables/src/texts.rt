@@ -1,7 +1,5 @@
 //! The texts of the statements, one for each call on a table.
 
-pub(crate) const DROP_LINE: &str = "DELETE FROM lines WHERE ord = ?1 AND gtin = ?2";
-
 pub(crate) const CHANGE_LINE: &str =
     "UPDATE lines SET ord = ?1, gtin = ?2, ordered = ?3, shipped = ?4 WHERE ord = ?1 AND gtin = ?2";
 
@@ -13,8 +11,6 @@ pub(crate) const LINES_OF_ORDER: &str =
 
 pub(crate) const LINE_OF: &str =
     "SELECT ord, gtin, ordered, shipped FROM lines WHERE ord = ?1 AND gtin = ?2 ORDER BY rowid";
-
-pub(crate) const DROP_ORDER: &str = "DELETE FROM orders WHERE ord = ?1";
 
 pub(crate) const CHANGE_ORDER: &str =
     "UPDATE orders SET ord = ?1, act = ?2, customer = ?3, state = ?4 WHERE ord = ?1";
@@ -54,13 +50,11 @@ pub(crate) const STAGED_OF_ITEM: &str =
 pub(crate) const ALL_STAGED: &str = "SELECT ord, gtin, lot, qty FROM staged ORDER BY rowid";
 
 /// All of them. A connection keeps the plans of its last 64 texts, so the tables together have at most 60.
-pub const TEXTS: [&str; 19] = [
-    DROP_LINE,
+pub const TEXTS: [&str; 17] = [
     CHANGE_LINE,
     ADD_LINE,
     LINES_OF_ORDER,
     LINE_OF,
-    DROP_ORDER,
     CHANGE_ORDER,
     ADD_ORDER,
     ORDERS_OF,

@@ -12,7 +12,8 @@ use Rattle.commands.specs.declared.rows.StockRow.{StockRow}
 use Rattle.commands.specs.declared.rows.StagedRow.{StagedRow}
 use Rattle.machine.specs.Postings.{is_lot, of_item}
 use Rattle.machine.specs.Standing.{is_expired}
-use Rattle.row_rules.specs.declared.slice.Rows.{Rows}
+use Rattle.row_rules.specs.declared.slice.Put.{Put}
+use Rattle.row_rules.specs.declared.slice.Dropped.{Dropped}
 use Rattle.row_rules.specs.declared.slice.Slice.{Slice}
 
 -- what a sum is held at
@@ -74,8 +75,8 @@ plain_reply s = codes "{\"act\":" ++ decimal (number_seen s) ++ codes "}"
 
 -- Changes
 
-abbrev pub no_rows : Rows
-no_rows = record {
+abbrev pub none_put : Put
+none_put = record {
   items = [];
   bins = [];
   lots = [];
@@ -89,6 +90,9 @@ no_rows = record {
   shiplines = [];
   cards = [];
 }
+
+abbrev pub none_dropped : Dropped
+none_dropped = record { stock = []; staged = []; reserved = [] }
 
 -- Balances and days of a lot
 

@@ -1,17 +1,17 @@
 //! The parts of changes that commands have in common.
 
 ghost use Rattle.std.specs.Prelude.{◌≡◌, [], ◌∷◌, IfOk};
-ghost use Rattle.row_rules.specs.Seen.{no_rows, meta_after, number_seen as number_seen_lem, plain_reply as plain_reply_lem};
+ghost use Rattle.row_rules.specs.Seen.{none_put as none_put_lem, none_dropped as none_dropped_lem, meta_after, number_seen as number_seen_lem, plain_reply as plain_reply_lem};
 
-use crate::{Rows, Slice};
+use crate::{Dropped, Put, Slice};
 use commands::{Buffer, Listed, MetaRow, Short};
 use std::alloc::{AllocError, Global};
 
-/// No rows.
-pub fn empty(alloc: Global) -> Rows
-    ensures { result ≡ no_rows }
+/// No rows put.
+pub fn none_put(alloc: Global) -> Put
+    ensures { result ≡ none_put_lem }
 {
-    Rows {
+    Put {
         items: Listed::from_vec(Vec::new(alloc)),
         bins: Listed::from_vec(Vec::new(alloc)),
         lots: Listed::from_vec(Vec::new(alloc)),
@@ -24,6 +24,17 @@ pub fn empty(alloc: Global) -> Rows
         shipments: Listed::from_vec(Vec::new(alloc)),
         shiplines: Listed::from_vec(Vec::new(alloc)),
         cards: Listed::from_vec(Vec::new(alloc)),
+    }
+}
+
+/// No rows dropped.
+pub fn none_dropped(alloc: Global) -> Dropped
+    ensures { result ≡ none_dropped_lem }
+{
+    Dropped {
+        stock: Listed::from_vec(Vec::new(alloc)),
+        staged: Listed::from_vec(Vec::new(alloc)),
+        reserved: Listed::from_vec(Vec::new(alloc)),
     }
 }
 

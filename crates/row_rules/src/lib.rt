@@ -18,4 +18,4 @@ pub mod stock;
 pub mod summing;
 pub mod supplies;
 
-pub use slice::{Change, Rows, RuleFault, Slice};
+pub use slice::{Change, Dropped, Put, Rows, RuleFault, Slice};

@@ -6,7 +6,7 @@ use commands::{
     signed_text,
 };
 use label::{BusinessDay, Day};
-use rules::{Change, Rows};
+use rules::{Change, Dropped, Put};
 use values::LotId;
 
 const ROOM: usize = 2048;
@@ -23,12 +23,10 @@ impl Listing {
     pub(crate) fn of(change: &Change) -> Listing {
         let mut listing = Listing::empty();
         listing.meta(&change.meta);
-        listing.goods(b"put", &change.put);
-        listing.orders(b"put", &change.put);
-        listing.shipped(b"put", &change.put);
-        listing.goods(b"drop", &change.dropped);
-        listing.orders(b"drop", &change.dropped);
-        listing.shipped(b"drop", &change.dropped);
+        listing.goods(&change.put);
+        listing.orders(&change.put);
+        listing.shipped(&change.put);
+        listing.dropped(&change.dropped);
         listing.word(change.text.as_bytes());
         listing
     }
@@ -99,40 +97,45 @@ impl Listing {
         self.end();
     }
 
-    fn goods(&mut self, change: &[u8], rows: &Rows) {
-        self.items(change, rows.items.as_slice());
-        self.bins(change, rows.bins.as_slice());
-        self.lots(change, rows.lots.as_slice());
-        self.recalls(change, rows.recalls.as_slice());
-        self.stock(change, rows.stock.as_slice());
-        self.cards(change, rows.cards.as_slice());
+    fn goods(&mut self, rows: &Put) {
+        self.items(rows.items.as_slice());
+        self.bins(rows.bins.as_slice());
+        self.lots(rows.lots.as_slice());
+        self.recalls(rows.recalls.as_slice());
+        self.stock(b"put", rows.stock.as_slice());
+        self.cards(rows.cards.as_slice());
     }
 
-    fn orders(&mut self, change: &[u8], rows: &Rows) {
-        self.order_rows(change, rows.orders.as_slice());
-        self.lines(change, rows.lines.as_slice());
-        self.staged(change, rows.staged.as_slice());
-        self.reserved(change, rows.reserved.as_slice());
+    fn orders(&mut self, rows: &Put) {
+        self.order_rows(rows.orders.as_slice());
+        self.lines(rows.lines.as_slice());
+        self.staged(b"put", rows.staged.as_slice());
+        self.reserved(b"put", rows.reserved.as_slice());
     }
 
-    fn shipped(&mut self, change: &[u8], rows: &Rows) {
-        self.shipments(change, rows.shipments.as_slice());
-        self.shiplines(change, rows.shiplines.as_slice());
+    fn shipped(&mut self, rows: &Put) {
+        self.shipments(rows.shipments.as_slice());
+        self.shiplines(rows.shiplines.as_slice());
     }
 
-    // The tables of which no row is expected.
-    fn items(&mut self, change: &[u8], rows: &[ItemRow]) {
+    fn dropped(&mut self, rows: &Dropped) {
+        self.stock(b"drop", rows.stock.as_slice());
+        self.staged(b"drop", rows.staged.as_slice());
+        self.reserved(b"drop", rows.reserved.as_slice());
+    }
+
+    fn items(&mut self, rows: &[ItemRow]) {
         for row in rows {
-            self.row(change, b"item");
+            self.row(b"put", b"item");
             self.field(row.gtin.as_bytes());
             self.field(row.name.as_bytes());
             self.end();
         }
     }
 
-    fn bins(&mut self, change: &[u8], rows: &[BinRow]) {
+    fn bins(&mut self, rows: &[BinRow]) {
         for row in rows {
-            self.row(change, b"bin");
+            self.row(b"put", b"bin");
             self.field(row.name.as_bytes());
             self.field(match row.kind {
                 BinKind::Store => b"STORE",
@@ -142,9 +145,9 @@ impl Listing {
         }
     }
 
-    fn lots(&mut self, change: &[u8], rows: &[LotRow]) {
+    fn lots(&mut self, rows: &[LotRow]) {
         for row in rows {
-            self.row(change, b"lot");
+            self.row(b"put", b"lot");
             self.lot(&row.lot);
             self.day(row.expiry);
             self.number(row.came);
@@ -153,9 +156,9 @@ impl Listing {
         }
     }
 
-    fn recalls(&mut self, change: &[u8], rows: &[RecallRow]) {
+    fn recalls(&mut self, rows: &[RecallRow]) {
         for row in rows {
-            self.row(change, b"recall");
+            self.row(b"put", b"recall");
             self.lot(&row.lot);
             self.number(row.act);
             self.end();
@@ -172,9 +175,9 @@ impl Listing {
         }
     }
 
-    fn cards(&mut self, change: &[u8], rows: &[CardRow]) {
+    fn cards(&mut self, rows: &[CardRow]) {
         for row in rows {
-            self.row(change, b"card");
+            self.row(b"put", b"card");
             self.lot(&row.lot);
             self.number(row.act);
             self.business_day(row.day);
@@ -186,9 +189,9 @@ impl Listing {
         }
     }
 
-    fn order_rows(&mut self, change: &[u8], rows: &[OrderRow]) {
+    fn order_rows(&mut self, rows: &[OrderRow]) {
         for row in rows {
-            self.row(change, b"order");
+            self.row(b"put", b"order");
             self.field(row.order.as_bytes());
             self.number(row.act);
             self.field(row.customer.as_bytes());
@@ -197,9 +200,9 @@ impl Listing {
         }
     }
 
-    fn lines(&mut self, change: &[u8], rows: &[LineRow]) {
+    fn lines(&mut self, rows: &[LineRow]) {
         for row in rows {
-            self.row(change, b"line");
+            self.row(b"put", b"line");
             self.field(row.order.as_bytes());
             self.field(row.gtin.as_bytes());
             self.number(row.ordered);
@@ -218,9 +221,9 @@ impl Listing {
         }
     }
 
-    fn shipments(&mut self, change: &[u8], rows: &[ShipmentRow]) {
+    fn shipments(&mut self, rows: &[ShipmentRow]) {
         for row in rows {
-            self.row(change, b"shipment");
+            self.row(b"put", b"shipment");
             self.number(row.number);
             self.number(row.act);
             self.business_day(row.day);
@@ -229,9 +232,9 @@ impl Listing {
         }
     }
 
-    fn shiplines(&mut self, change: &[u8], rows: &[ShiplineRow]) {
+    fn shiplines(&mut self, rows: &[ShiplineRow]) {
         for row in rows {
-            self.row(change, b"shipline");
+            self.row(b"put", b"shipline");
             self.number(row.number);
             self.lot(&row.lot);
             self.number(row.qty);

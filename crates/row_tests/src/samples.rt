@@ -331,9 +331,6 @@ pub(crate) fn rows(rt: &impl Abort, alloc: Global, sample: &Sample) -> Rows {
         lines: listed(rt, alloc, sample.lines),
         staged: listed(rt, alloc, sample.staged),
         reserved: listed(rt, alloc, sample.reserved),
-        shipments: Listed::from_vec(Vec::new(alloc)),
-        shiplines: Listed::from_vec(Vec::new(alloc)),
-        cards: Listed::from_vec(Vec::new(alloc)),
     }
 }
 

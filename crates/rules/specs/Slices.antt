@@ -1,5 +1,5 @@
 -- What a decision sees of the tables, and what a change makes of them.
-use Rattle.std.specs.Prelude.{◌≡◌, ℕ, Bool, true, false, not, ◌&&◌, ◌||◌, ◌==◌, if◌then◌else◌, List, ◌∷◌, length, find, Option, Some, None, Result, Ok, Err, is_some, ℤ}
+use Rattle.std.specs.Prelude.{◌≡◌, ℕ, Bool, true, false, not, ◌&&◌, ◌||◌, ◌==◌, if◌then◌else◌, List, [], ◌∷◌, length, find, Option, Some, None, Result, Ok, Err, is_some, ℤ}
 use Rattle.std.specs.List.{list_any}
 use Rattle.values.specs.Values.{same_text}
 use Rattle.values.specs.declared.lot.LotId.{LotId}
@@ -15,7 +15,7 @@ use Rattle.machine.specs.Touched.{is_touched}
 use Rattle.machine.specs.Tables.{Tables, tables_of, repeat_row}
 use Rattle.machine.specs.Verdict.{verdict}
 use Rattle.machine.specs.Replies.{reply}
-use Rattle.row_rules.specs.declared.slice.Rows.{Rows}
+use Rattle.row_rules.specs.declared.slice.Put.{Put}
 use Rattle.row_rules.specs.declared.slice.Slice.{Slice}
 use Rattle.row_rules.specs.declared.slice.Change.{Change}
 use Rattle.row_rules.specs.declared.slice.RuleFault.{RuleFault}
@@ -31,22 +31,26 @@ unless_put None gone old = if gone then None else old
 abbrev pub changed : {R : Type 0} → (R → Bool) → List R → List R → Option R → Option R
 changed test put dropped old = unless_put (find test put) (list_any test dropped) old
 
+-- the same in a table that loses no rows
+abbrev pub added : {R : Type 0} → (R → Bool) → List R → Option R → Option R
+added test put old = changed test put [] old
+
 -- the tables after a change; `repeats` is written by others
 unfoldable pub applied : Change → Tables → Tables
 applied c t = record {
   meta = Some c.meta;
-  item = λ g. changed (λ r. same_text g r.gtin) c.put.items c.dropped.items (t.item g);
-  bin = λ b. changed (λ r. same_text b r.name) c.put.bins c.dropped.bins (t.bin b);
-  lot = λ l. changed (λ r. is_lot l r.lot) c.put.lots c.dropped.lots (t.lot l);
-  recall = λ l. changed (λ r. is_lot l r.lot) c.put.recalls c.dropped.recalls (t.recall l);
+  item = λ g. added (λ r. same_text g r.gtin) c.put.items (t.item g);
+  bin = λ b. added (λ r. same_text b r.name) c.put.bins (t.bin b);
+  lot = λ l. added (λ r. is_lot l r.lot) c.put.lots (t.lot l);
+  recall = λ l. added (λ r. is_lot l r.lot) c.put.recalls (t.recall l);
   stock = λ l b. changed (λ r. is_lot l r.lot && same_text b r.bin) c.put.stock c.dropped.stock (t.stock l b);
-  order = λ o. changed (λ r. same_text o r.order) c.put.orders c.dropped.orders (t.order o);
-  line = λ o g. changed (λ r. same_text o r.order && same_text g r.gtin) c.put.lines c.dropped.lines (t.line o g);
+  order = λ o. added (λ r. same_text o r.order) c.put.orders (t.order o);
+  line = λ o g. added (λ r. same_text o r.order && same_text g r.gtin) c.put.lines (t.line o g);
   staged = λ o l. changed (λ r. same_text o r.order && is_lot l r.lot) c.put.staged c.dropped.staged (t.staged o l);
   reserved = λ o l. changed (λ r. same_text o r.order && is_lot l r.lot) c.put.reserved c.dropped.reserved (t.reserved o l);
-  shipment = λ n. changed (λ r. n == r.number) c.put.shipments c.dropped.shipments (t.shipment n);
-  shipline = λ n l. changed (λ r. (n == r.number) && is_lot l r.lot) c.put.shiplines c.dropped.shiplines (t.shipline n l);
-  card = λ l n. changed (λ r. is_lot l r.lot && (n == r.act)) c.put.cards c.dropped.cards (t.card l n);
+  shipment = λ n. added (λ r. n == r.number) c.put.shipments (t.shipment n);
+  shipline = λ n l. added (λ r. (n == r.number) && is_lot l r.lot) c.put.shiplines (t.shipline n l);
+  card = λ l n. added (λ r. is_lot l r.lot && (n == r.act)) c.put.cards (t.card l n);
   repeat = t.repeat;
 }
 
@@ -109,7 +113,7 @@ pub record IsSlice (first : ℤ) (act : Act) (acts : List Act) (t : Tables) (s :
       (λ k. is_touched first act acts k.1.gtin) (λ k. is_touched first act acts k.1.gtin) (λ k. t.reserved k.0 k.1) s.rows.reserved
 
 -- no key twice, so that it does not matter in which order the rows are written
-pub record AreOnce (rows : Rows) : Type 0 where
+pub record AreOnce (rows : Put) : Type 0 where
   pub items : no_two (λ r s. same_text r.gtin s.gtin) rows.items ≡ true
   pub bins : no_two (λ r s. same_text r.name s.name) rows.bins ≡ true
   pub lots : no_two (λ r s. is_lot r.lot s.lot) rows.lots ≡ true

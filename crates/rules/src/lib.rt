@@ -4,4 +4,4 @@
 mod deciding;
 
 pub use deciding::decide;
-pub use row_rules::{Change, Rows, RuleFault, Slice};
+pub use row_rules::{Change, Dropped, Put, Rows, RuleFault, Slice};

@@ -1,6 +1,6 @@
 //! The slice of the tables that a command is decided by.
 
-ghost use Rattle.std.specs.Prelude.{◌≡◌, ℤ, false, [], List, Some, Err, OnOk, IfOk, IfErr, IsTrue};
+ghost use Rattle.std.specs.Prelude.{◌≡◌, ℤ, false, List, Some, Err, OnOk, IfOk, IfErr, IsTrue};
 ghost use Rattle.sqlite.specs.State.{HasCleanDisk, Survives, KeepsCommit, IsUnchanged};
 ghost use Rattle.sqlite.specs.Held.{state};
 ghost use Rattle.table_words.specs.Steps.{IsReady};
@@ -85,9 +85,8 @@ pub fn read_booked<S: Alter>(
     seek_both::<Gtin, StagedRow, ReservedRow, S>(alloc, tx, gtins)
 }
 
-/// The rows that were read, together; no shipment, no line of one and no card.
+/// The rows that were read, together.
 pub fn rows_read(
-    alloc: Global,
     goods: (Vec<ItemRow>, Vec<LotRow>, Vec<RecallRow>, Vec<StockRow>),
     bins: Vec<BinRow>,
     ordered: (Vec<OrderRow>, Vec<LineRow>),
@@ -102,9 +101,6 @@ pub fn rows_read(
     ensures same_lines { result.lines ≡ ordered.1.items }
     ensures same_staged { result.staged ≡ booked.0.items }
     ensures same_reserved { result.reserved ≡ booked.1.items }
-    ensures no_shipments { result.shipments ≡ [] }
-    ensures no_shiplines { result.shiplines ≡ [] }
-    ensures no_cards { result.cards ≡ [] }
 {
     let (items, lots, recalls, stock) = goods;
     let (orders, lines) = ordered;
@@ -119,9 +115,6 @@ pub fn rows_read(
         lines: Listed::from_vec(lines),
         staged: Listed::from_vec(staged),
         reserved: Listed::from_vec(reserved),
-        shipments: Listed::from_vec(Vec::new(alloc)),
-        shiplines: Listed::from_vec(Vec::new(alloc)),
-        cards: Listed::from_vec(Vec::new(alloc)),
     }
 }
 
@@ -176,7 +169,7 @@ fn read_rows<S: Alter>(
     let bins = read_bins(alloc, tx, command, goods.3.as_slice())?;
     let ordered = read_orders(alloc, tx, named.as_slice(), gtins.as_slice())?;
     let booked = read_booked(alloc, tx, gtins.as_slice())?;
-    Ok(rows_read(alloc, goods, bins, ordered, booked))
+    Ok(rows_read(goods, bins, ordered, booked))
 }
 
 /// The counts and the rows of the slice, beside the row of `meta`.

@@ -580,29 +580,17 @@ with_meta s t = record t { meta = Some s }
 abbrev pub with_item : ItemRow → Tables → Tables
 with_item s t = record t { item = λ at_gtin. if same_item at_gtin (item_key s) then Some s else t.item at_gtin }
 
-abbrev pub without_item : List ℕ → Tables → Tables
-without_item gtin t = record t { item = λ at_gtin. if same_item at_gtin gtin then None else t.item at_gtin }
-
 -- the row takes the place of one with its key
 abbrev pub with_bin : BinRow → Tables → Tables
 with_bin s t = record t { bin = λ at_name. if same_bin at_name (bin_key s) then Some s else t.bin at_name }
-
-abbrev pub without_bin : List ℕ → Tables → Tables
-without_bin name t = record t { bin = λ at_name. if same_bin at_name name then None else t.bin at_name }
 
 -- the row takes the place of one with its key
 abbrev pub with_lot : LotRow → Tables → Tables
 with_lot s t = record t { lot = λ at_lot. if same_lot at_lot (lot_key s) then Some s else t.lot at_lot }
 
-abbrev pub without_lot : LotId → Tables → Tables
-without_lot lot t = record t { lot = λ at_lot. if same_lot at_lot lot then None else t.lot at_lot }
-
 -- the row takes the place of one with its key
 abbrev pub with_recall : RecallRow → Tables → Tables
 with_recall s t = record t { recall = λ at_lot. if same_recall at_lot (recall_key s) then Some s else t.recall at_lot }
-
-abbrev pub without_recall : LotId → Tables → Tables
-without_recall lot t = record t { recall = λ at_lot. if same_recall at_lot lot then None else t.recall at_lot }
 
 -- the row takes the place of one with its key
 abbrev pub with_stock : StockRow → Tables → Tables
@@ -615,15 +603,9 @@ without_stock lot bin t = record t { stock = λ at_lot at_bin. if same_stock (at
 abbrev pub with_order : OrderRow → Tables → Tables
 with_order s t = record t { order = λ at_order. if same_order at_order (order_key s) then Some s else t.order at_order }
 
-abbrev pub without_order : List ℕ → Tables → Tables
-without_order order t = record t { order = λ at_order. if same_order at_order order then None else t.order at_order }
-
 -- the row takes the place of one with its key
 abbrev pub with_line : LineRow → Tables → Tables
 with_line s t = record t { line = λ at_order at_gtin. if same_line (at_order, at_gtin) (line_key s) then Some s else t.line at_order at_gtin }
-
-abbrev pub without_line : List ℕ → List ℕ → Tables → Tables
-without_line order gtin t = record t { line = λ at_order at_gtin. if same_line (at_order, at_gtin) (order, gtin) then None else t.line at_order at_gtin }
 
 -- the row takes the place of one with its key
 abbrev pub with_staged : StagedRow → Tables → Tables
@@ -643,22 +625,13 @@ without_reserved order lot t = record t { reserved = λ at_order at_lot. if same
 abbrev pub with_shipment : ShipmentRow → Tables → Tables
 with_shipment s t = record t { shipment = λ at_number. if same_shipment at_number (shipment_key s) then Some s else t.shipment at_number }
 
-abbrev pub without_shipment : ℕ → Tables → Tables
-without_shipment number t = record t { shipment = λ at_number. if same_shipment at_number number then None else t.shipment at_number }
-
 -- the row takes the place of one with its key
 abbrev pub with_shipline : ShiplineRow → Tables → Tables
 with_shipline s t = record t { shipline = λ at_number at_lot. if same_shipline (at_number, at_lot) (shipline_key s) then Some s else t.shipline at_number at_lot }
 
-abbrev pub without_shipline : ℕ → LotId → Tables → Tables
-without_shipline number lot t = record t { shipline = λ at_number at_lot. if same_shipline (at_number, at_lot) (number, lot) then None else t.shipline at_number at_lot }
-
 -- the row takes the place of one with its key
 abbrev pub with_card : CardRow → Tables → Tables
 with_card s t = record t { card = λ at_lot at_act. if same_card (at_lot, at_act) (card_key s) then Some s else t.card at_lot at_act }
-
-abbrev pub without_card : LotId → ℕ → Tables → Tables
-without_card lot act t = record t { card = λ at_lot at_act. if same_card (at_lot, at_act) (lot, act) then None else t.card at_lot at_act }
 
 -- the row takes the place of one with its key
 abbrev pub with_repeat : RepeatRow → Tables → Tables

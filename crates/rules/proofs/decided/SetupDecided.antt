@@ -17,7 +17,7 @@ use Rattle.machine.specs.Planning.{reserved}
 use Rattle.machine.specs.Once.{IsHistory}
 use Rattle.machine.specs.Tables.{tables_of, meta_row}
 use Rattle.rules.specs.Slices.{IsSlice, applied, tables_but_repeats}
-use Rattle.row_rules.specs.Seen.{no_rows}
+use Rattle.row_rules.specs.Seen.{none_put, none_dropped}
 use Rattle.goods_rules.specs.DecidedSetup.{item_seen, item_changes, bin_seen, bin_changes}
 use Rattle.row_rules.specs.declared.slice.Slice.{Slice}
 use Rattle.row_rules.specs.declared.slice.Change.{Change}
@@ -41,7 +41,7 @@ module _ (first : ℤ) (acts : List Act) (key : Key) (s : Slice) where
     item_named o l = nothing_named o l (reserved first acts o l) (reserved first (item_act ∷ acts) o l) refl
 
     abbrev item_change : List ℕ → Change
-    item_change text = record { meta = meta_row first (item_act ∷ acts); put = record no_rows { items = shown_item i ∷ [] }; dropped = no_rows; text = text }
+    item_change text = record { meta = meta_row first (item_act ∷ acts); put = record none_put { items = shown_item i ∷ [] }; dropped = none_dropped; text = text }
 
     item_step : (text : List ℕ) → applied (item_change text) (tables_of first acts) ≡ tables_but_repeats first item_act acts
     unfolding applied tables_of
@@ -60,7 +60,7 @@ module _ (first : ℤ) (acts : List Act) (key : Key) (s : Slice) where
           let room = room_for_acts first acts (Item i) ok in
           let text = plain_same first acts item_act s slice room refl in
           record {
-            applies = ap (λ m. applied (record { meta = m; put = record no_rows { items = shown_item i ∷ [] }; dropped = no_rows; text = (item_changes s i).text }) (tables_of first acts)) (meta_same first acts item_act s slice room refl refl)
+            applies = ap (λ m. applied (record { meta = m; put = record none_put { items = shown_item i ∷ [] }; dropped = none_dropped; text = (item_changes s i).text }) (tables_of first acts)) (meta_same first acts item_act s slice room refl refl)
                 ∙ item_step (item_changes s i).text;
             text = text;
             once = record { items = refl; bins = refl; lots = refl; recalls = refl; stock = refl; orders = refl; lines = refl; staged = refl; reserved = refl; shipments = refl; shiplines = refl; cards = refl };
@@ -75,7 +75,7 @@ module _ (first : ℤ) (acts : List Act) (key : Key) (s : Slice) where
     shown_bin x = record { name = x.bin; kind = x.kind }
 
     abbrev bin_change : List ℕ → Change
-    bin_change text = record { meta = meta_row first (bin_act ∷ acts); put = record no_rows { bins = shown_bin b ∷ [] }; dropped = no_rows; text = text }
+    bin_change text = record { meta = meta_row first (bin_act ∷ acts); put = record none_put { bins = shown_bin b ∷ [] }; dropped = none_dropped; text = text }
 
     module _ (next : IsHistory first (bin_act ∷ acts)) where
       bin_named : AreNamed first bin_act acts [] []
@@ -98,7 +98,7 @@ module _ (first : ℤ) (acts : List Act) (key : Key) (s : Slice) where
       bin_changed ok next =
           let room = room_for_acts first acts (Bin b) ok in
           record {
-            applies = ap (λ m. applied (record { meta = m; put = record no_rows { bins = shown_bin b ∷ [] }; dropped = no_rows; text = (bin_changes s b).text }) (tables_of first acts)) (meta_same first acts bin_act s slice room refl refl)
+            applies = ap (λ m. applied (record { meta = m; put = record none_put { bins = shown_bin b ∷ [] }; dropped = none_dropped; text = (bin_changes s b).text }) (tables_of first acts)) (meta_same first acts bin_act s slice room refl refl)
                 ∙ bin_step next (bin_changes s b).text;
             text = plain_same first acts bin_act s slice room refl;
             once = record { items = refl; bins = refl; lots = refl; recalls = refl; stock = refl; orders = refl; lines = refl; staged = refl; reserved = refl; shipments = refl; shiplines = refl; cards = refl };

@@ -9,7 +9,7 @@ use Rattle.changes.proofs.stored.remove_all.Goals as goal
 
 pub loop-row-preserved : goal.loop-row-preserved
 loop-row-preserved g c =
-    let write = g.T.Stored.drop_gives in
+    let write = g.T.Removable.drop_gives in
     let old = state g.S.Store c.args.tx.now.conn.now in
     let mid = state g.S.Store c.loop-row.tx.conn.now in
     let new = state g.S.Store c.remove.new.tx.conn.now in
@@ -59,7 +59,7 @@ returns-clause-kept g c = c.loop-row.invariant.2
 
 pub returns-clause-done : goal.returns-clause-done
 returns-clause-done g c clean ready =
-    let write = g.T.Stored.drop_gives in
+    let write = g.T.Removable.drop_gives in
     let old = state g.S.Store c.args.tx.now.conn.now in
     let now = state g.S.Store c.loop-row.tx.conn.now in
     let at = c.loop-row.invariant.3 clean ready in

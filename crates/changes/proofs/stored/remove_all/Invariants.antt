@@ -13,4 +13,4 @@ invariant-loop-row g l =
     let now = state g.S.Store l.tx.conn.now in
     (l.tx.conn.ghost_name ≡ l.fn.tx.conn.ghost_name) × Survives old now (λ _. ⊥) × (HasCleanDisk now → KeepsCommit old now)
     × (HasCleanDisk now → IsReady old.now → IsReady now.now × (now.in_transaction ≡ old.in_transaction) × (AreTyped old.now.trees → AreTyped now.now.trees)
-    × (each_written g.T.Stored.drop_gives (drop l.row-index l.rows) (tables_in now.now.trees) ≡ each_written g.T.Stored.drop_gives l.rows (tables_in old.now.trees)))
+    × (each_written g.T.Removable.drop_gives (drop l.row-index l.rows) (tables_in now.now.trees) ≡ each_written g.T.Removable.drop_gives l.rows (tables_in old.now.trees)))

@@ -10,7 +10,7 @@ use Rattle.changes.proofs.stored.write_rows.Goals as goal
 pub returns-clause-done : goal.returns-clause-done
 returns-clause-done g c =
     let put = g.T.Stored.put_gives in
-    let drop = g.T.Stored.drop_gives in
+    let drop = g.T.Removable.drop_gives in
     let old = state g.S.Store c.args.tx.now.conn.now in
     let mid = state g.S.Store c.remove_all.new.tx.conn.now in
     let new = state g.S.Store c.put_all.new.tx.conn.now in

@@ -1,6 +1,6 @@
 use Rattle.std.proofs.Common.{List, ap, ◌∙◌}
 use Rattle.commands.specs.declared.rows.StockRow.{StockRow}
-use Rattle.row_rules.specs.Seen.{meta_after, no_rows}
+use Rattle.row_rules.specs.Seen.{meta_after, none_put, none_dropped}
 use Rattle.row_rules.specs.SeenLots.{stock_gone, stock_rows_with}
 use Rattle.goods_rules.specs.DecidedCount.{change_reply}
 use Rattle.goods_rules.proofs.counts.corrections.Goals as goal
@@ -18,7 +18,7 @@ returns c =
     c.corrected.ensures
     ∙ (λ i. record {
       meta = meta_after s;
-      put = record no_rows { stock = c.in_ok-put.ensures i; reserved = put i; cards = cards i };
-      dropped = record no_rows { stock = gone i; reserved = dropped i };
+      put = record none_put { stock = c.in_ok-put.ensures i; reserved = put i; cards = cards i };
+      dropped = record none_dropped { stock = gone i; reserved = dropped i };
       text = change_reply s made.change;
     })

@@ -1,7 +1,7 @@
 use Rattle.std.proofs.Common.{[], ◌∷◌, ap, ◌∙◌}
 use Rattle.commands.specs.declared.rows.CardRow.{CardRow}
 use Rattle.commands.specs.declared.rows.StockRow.{StockRow}
-use Rattle.row_rules.specs.Seen.{meta_after, no_rows, plain_reply}
+use Rattle.row_rules.specs.Seen.{meta_after, none_put, none_dropped, plain_reply}
 use Rattle.goods_rules.proofs.goods.change_receive.Goals as goal
 
 pub returns : goal.returns
@@ -15,7 +15,7 @@ returns c =
     c.received.ensures
     ∙ (λ i. record {
       meta = meta_after s;
-      put = record no_rows { lots = c.in_ok-lots.ensures i; stock = row i; reserved = put i; cards = cards i };
-      dropped = record no_rows { reserved = dropped i };
+      put = record none_put { lots = c.in_ok-lots.ensures i; stock = row i; reserved = put i; cards = cards i };
+      dropped = record none_dropped { reserved = dropped i };
       text = plain_reply s;
     })

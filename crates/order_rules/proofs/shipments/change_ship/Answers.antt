@@ -7,4 +7,4 @@ returns c =
     let staged = c.in_ok-staged.ensures ∙ ap (rows_shipped c.args.order.now) c.as_slice.ensures in
     let put = c.in_ok-put.ensures (c.as_slice-2.ensures.value ∙ staged) in
     let dropped = c.from_vec.ensures ∙ staged in
-    λ i. record { meta = c.meta_shipped.ensures i; put = put i; dropped = record (c.empty-dropped.ensures i) { staged = dropped i }; text = c.ship_reply.ensures i }
+    λ i. record { meta = c.meta_shipped.ensures i; put = put i; dropped = record (c.none_dropped-dropped.ensures i) { staged = dropped i }; text = c.ship_reply.ensures i }

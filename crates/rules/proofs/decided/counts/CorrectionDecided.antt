@@ -26,7 +26,7 @@ use Rattle.machine.specs.Tables.{tables_of, bin_row, lot_row, stock_row, order_r
 use Rattle.machine.specs.Touched.{is_touched}
 use Rattle.machine.specs.KeyedRows.{no_two, same_cell, same_line, same_share}
 use Rattle.rules.specs.Slices.{IsSlice, applied}
-use Rattle.row_rules.specs.Seen.{no_rows, lot_units}
+use Rattle.row_rules.specs.Seen.{none_put, none_dropped, lot_units}
 use Rattle.row_rules.specs.SeenLots.{stock_put, stock_gone}
 use Rattle.row_rules.specs.Plans.{rows_to_put, rows_to_drop}
 use Rattle.goods_rules.specs.DecidedCount.{stock_corrected, shares_corrected, correction_card, correction_cards, change_reply, corrections}
@@ -131,8 +131,8 @@ module _ (first : ℤ) (acts : List Act) (act : Act) (s : Slice) (slice : IsSlic
   changes_same : corrections s l b left z ≡ write_change first act acts l b z left writes legal (change_reply s z) s.rows.stock puts drops
   changes_same = λ i. record {
     meta = meta_same first acts act s slice room writes.known.day (ap (λ xs. length xs) writes.known.shipments) i;
-    put = record no_rows { stock = stock_put l b left; reserved = puts; cards = cards_same i };
-    dropped = record no_rows { stock = stock_gone s.rows.stock l b left; reserved = drops };
+    put = record none_put { stock = stock_put l b left; reserved = puts; cards = cards_same i };
+    dropped = record none_dropped { stock = stock_gone s.rows.stock l b left; reserved = drops };
     text = change_reply s z;
   }
 

@@ -28,7 +28,7 @@ use Rattle.machine.specs.Touched.{is_touched}
 use Rattle.machine.specs.Tables.{tables_of, meta_row, if_any, item_row, bin_row, lot_row, recall_row, stock_row, order_row, line_row, staged_row, shipment_row, shipline_row, card_row, reserved_row}
 use Rattle.machine.specs.KeyedRows.{LotBin, same_cell}
 use Rattle.rules.specs.Slices.{applied, tables_but_repeats, changed, unless_put, names_bin}
-use Rattle.row_rules.specs.Seen.{no_rows}
+use Rattle.row_rules.specs.Seen.{none_put, none_dropped}
 use Rattle.row_rules.specs.SeenLots.{stock_found, stock_put, stock_gone}
 use Rattle.row_rules.specs.declared.slice.Change.{Change}
 use Rattle.machine.proofs.histories.Cells.{Legal}
@@ -201,8 +201,8 @@ module _ (first : ℤ) (act : Act) (acts : List Act) (l : LotId) (b : List ℕ) 
   abbrev pub write_change : List ℕ → List StockRow → List ReservedRow → List ReservedRow → Change
   write_change text rows put dropped = record {
     meta = meta_row first after;
-    put = record no_rows { stock = stock_put l b left; reserved = put; cards = written_cards z };
-    dropped = record no_rows { stock = stock_gone rows l b left; reserved = dropped };
+    put = record none_put { stock = stock_put l b left; reserved = put; cards = written_cards z };
+    dropped = record none_dropped { stock = stock_gone rows l b left; reserved = dropped };
     text = text;
   }
 

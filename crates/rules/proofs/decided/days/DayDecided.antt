@@ -13,7 +13,7 @@ use Rattle.machine.specs.Once.{IsHistory}
 use Rattle.machine.specs.Tables.{tables_of, meta_row, reserved_row}
 use Rattle.machine.specs.KeyedRows.{no_two}
 use Rattle.rules.specs.Slices.{IsSlice, applied, tables_but_repeats, changed}
-use Rattle.row_rules.specs.Seen.{no_rows}
+use Rattle.row_rules.specs.Seen.{none_put, none_dropped}
 use Rattle.row_rules.specs.Plans.{is_share_of}
 use Rattle.lot_rules.specs.DecidedHold.{bins_with_returns}
 use Rattle.lot_rules.specs.DecidedDay.{day_judged, day_changes, day_put, day_dropped, day_reply, gtins_seen, meta_on, staged_kept_on, staged_gone_on, stock_on, stock_returned}
@@ -60,8 +60,8 @@ module _ (first : ℤ) (acts : List Act) (key : Key) (day : ℤ) (s : Slice) (sl
   abbrev day_change : Change
   day_change = record {
     meta = meta_row first after;
-    put = record no_rows { stock = stock_returned s day; reserved = day_put s day };
-    dropped = record no_rows { staged = staged_gone_on s day; reserved = day_dropped s day };
+    put = record none_put { stock = stock_returned s day; reserved = day_put s day };
+    dropped = record none_dropped { staged = staged_gone_on s day; reserved = day_dropped s day };
     text = day_reply s day;
   }
 

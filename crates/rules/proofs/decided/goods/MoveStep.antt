@@ -22,7 +22,7 @@ use Rattle.machine.specs.KeyedRows.{LotBin, same_cell, no_two}
 use Rattle.rules.specs.Slices.{applied, tables_but_repeats, changed, unless_put}
 use Rattle.row_rules.specs.SeenLots.{stock_found, stock_put, stock_gone}
 use Rattle.row_rules.specs.declared.slice.Change.{Change}
-use Rattle.row_rules.specs.Seen.{no_rows}
+use Rattle.row_rules.specs.Seen.{none_put, none_dropped}
 use Rattle.machine.proofs.Tests.{same_text_refl, same_text_turned, is_lot_refl, and_false}
 use Rattle.machine.proofs.histories.Cells.{Legal}
 use Rattle.machine.proofs.histories.Balances.{bin_balance-posted, balance-elsewhere, balance-elsewhere_of}
@@ -55,8 +55,8 @@ module _ (first : ℤ) (acts : List Act) (key : Key) (m : Movement) (text : List
   abbrev pub move_change : List StockRow → List ReservedRow → List ReservedRow → Change
   move_change stock put dropped = record {
     meta = meta_row first after;
-    put = record no_rows { stock = stock_put m.lot m.to brought ++ stock_put m.lot m.from left; reserved = put };
-    dropped = record no_rows { stock = stock_gone stock m.lot m.from left; reserved = dropped };
+    put = record none_put { stock = stock_put m.lot m.to brought ++ stock_put m.lot m.from left; reserved = put };
+    dropped = record none_dropped { stock = stock_gone stock m.lot m.from left; reserved = dropped };
     text = text;
   }
 

@@ -13,7 +13,7 @@ use Rattle.machine.specs.Once.{IsHistory}
 use Rattle.machine.specs.Tables.{tables_of}
 use Rattle.machine.specs.KeyedRows.{no_two}
 use Rattle.rules.specs.Slices.{IsSlice, applied}
-use Rattle.row_rules.specs.Seen.{no_rows, plain_reply}
+use Rattle.row_rules.specs.Seen.{none_put, none_dropped, plain_reply}
 use Rattle.row_rules.specs.SeenLots.{stock_put, stock_gone}
 use Rattle.row_rules.specs.Plans.{rows_to_put, rows_to_drop}
 use Rattle.goods_rules.specs.DecidedMove.{move_seen, move_shares, move_changes, stock_rows_moved}
@@ -68,11 +68,11 @@ module _ (first : ℤ) (acts : List Act) (key : Key) (m : Movement) (s : Slice) 
       let room = room_for_acts first acts (Move m) next.1.passes in
       λ i. record {
         meta = meta_same first acts act s slice room refl refl i;
-        put = record no_rows {
+        put = record none_put {
           stock = stock_put m.lot m.to (brought_same first acts key m s slice next i) ++ stock_put m.lot m.from (left_same first acts key m s slice next i);
           reserved = puts;
         };
-        dropped = record no_rows {
+        dropped = record none_dropped {
           stock = stock_gone s.rows.stock m.lot m.from (left_same first acts key m s slice next i);
           reserved = drops;
         };

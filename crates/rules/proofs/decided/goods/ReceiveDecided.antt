@@ -14,7 +14,7 @@ use Rattle.machine.specs.Once.{IsHistory}
 use Rattle.machine.specs.Tables.{tables_of}
 use Rattle.machine.specs.KeyedRows.{no_two}
 use Rattle.rules.specs.Slices.{IsSlice, applied}
-use Rattle.row_rules.specs.Seen.{no_rows, plain_reply, lot_units}
+use Rattle.row_rules.specs.Seen.{none_put, none_dropped, plain_reply, lot_units}
 use Rattle.row_rules.specs.Plans.{rows_to_put, rows_to_drop}
 use Rattle.goods_rules.specs.DecidedReceive.{receive_seen, receive_shares, receive_changes, lot_rows_after, stock_rows_after, lots_if_new, new_lot_row}
 use Rattle.row_rules.specs.declared.slice.Slice.{Slice}
@@ -76,7 +76,7 @@ module _ (first : ℤ) (acts : List Act) (key : Key) (r : Receipt) (s : Slice) (
       let room = room_for_acts first acts (Receive r) next.1.passes in
       λ i. record {
         meta = meta_same first acts act s slice room refl refl i;
-        put = record no_rows {
+        put = record none_put {
           lots = lots_same first acts key r s slice next i;
           stock = stock_same first acts key r s slice next i ∷ [];
           reserved = puts;
@@ -90,7 +90,7 @@ module _ (first : ℤ) (acts : List Act) (key : Key) (r : Receipt) (s : Slice) (
             rest = rest_same i;
           } ∷ [];
         };
-        dropped = record no_rows { reserved = drops };
+        dropped = record none_dropped { reserved = drops };
         text = plain_reply s;
       }
 

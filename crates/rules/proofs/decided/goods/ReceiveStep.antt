@@ -23,7 +23,7 @@ use Rattle.machine.specs.Cards.{cards, card_lines, delivery_note, lot_units_in_h
 use Rattle.machine.specs.Tables.{tables_of, meta_row, if_any, stock_row, lot_row, order_row, line_row, staged_row, shipline_row, card_row, reserved_row}
 use Rattle.rules.specs.Slices.{applied, tables_but_repeats, changed, unless_put}
 use Rattle.row_rules.specs.declared.slice.Change.{Change}
-use Rattle.row_rules.specs.Seen.{no_rows}
+use Rattle.row_rules.specs.Seen.{none_put, none_dropped}
 use Rattle.machine.proofs.Tests.{and_both, same_text_is, is_lot_is}
 use Rattle.machine.proofs.histories.Cells.{Legal}
 use Rattle.machine.proofs.histories.PlaceRows.{and_turned}
@@ -55,8 +55,8 @@ module _ (first : ℤ) (acts : List Act) (key : Key) (r : Receipt) (text : List 
   abbrev pub receive_change : List ReservedRow → List ReservedRow → Change
   receive_change put dropped = record {
     meta = meta_row first after;
-    put = record no_rows { lots = new_lots; stock = new_stock ∷ []; reserved = put; cards = new_card ∷ [] };
-    dropped = record no_rows { reserved = dropped };
+    put = record none_put { lots = new_lots; stock = new_stock ∷ []; reserved = put; cards = new_card ∷ [] };
+    dropped = record none_dropped { reserved = dropped };
     text = text;
   }
 

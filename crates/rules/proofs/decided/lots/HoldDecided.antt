@@ -17,7 +17,7 @@ use Rattle.machine.specs.Once.{IsHistory}
 use Rattle.machine.specs.Tables.{tables_of, lot_row, meta_row, reserved_row}
 use Rattle.machine.specs.KeyedRows.{AreRows}
 use Rattle.rules.specs.Slices.{IsSlice, applied, tables_but_repeats, changed}
-use Rattle.row_rules.specs.Seen.{lot_seen, no_rows}
+use Rattle.row_rules.specs.Seen.{lot_seen, none_put, none_dropped}
 use Rattle.row_rules.specs.Plans.{rows_to_put, rows_to_drop}
 use Rattle.lot_rules.specs.DecidedHold.{hold_seen, hold_shares, hold_changes, with_hold, lot_rows_with_hold, lot_put, staged_kept, staged_returned, stock_with_returned, returned_put, bins_with_returns, returned_reply}
 use Rattle.row_rules.specs.declared.slice.Slice.{Slice}
@@ -94,8 +94,8 @@ module _ (first : ℤ) (acts : List Act) (key : Key) (l : LotId) (s : Slice) (sl
   abbrev hold_change : Change
   hold_change = record {
     meta = meta_row first after;
-    put = record no_rows { lots = lot_put l true (lot_seen s l); stock = returned_put s l; reserved = puts };
-    dropped = record no_rows { staged = staged_returned s l; reserved = drops };
+    put = record none_put { lots = lot_put l true (lot_seen s l); stock = returned_put s l; reserved = puts };
+    dropped = record none_dropped { staged = staged_returned s l; reserved = drops };
     text = returned_reply s l;
   }
 

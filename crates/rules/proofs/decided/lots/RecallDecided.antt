@@ -18,7 +18,7 @@ use Rattle.machine.specs.Once.{IsHistory}
 use Rattle.machine.specs.Tables.{tables_of, lot_row, recall_row, meta_row, reserved_row}
 use Rattle.machine.specs.KeyedRows.{AreRows}
 use Rattle.rules.specs.Slices.{IsSlice, applied, tables_but_repeats, changed}
-use Rattle.row_rules.specs.Seen.{no_rows}
+use Rattle.row_rules.specs.Seen.{none_put, none_dropped}
 use Rattle.row_rules.specs.Plans.{rows_to_put, rows_to_drop}
 use Rattle.lot_rules.specs.DecidedHold.{recall_seen, recall_shares, recall_changes, new_recall_row, recall_rows_after, staged_kept, staged_returned, stock_with_returned, returned_put, bins_with_returns, returned_reply}
 use Rattle.row_rules.specs.declared.slice.Slice.{Slice}
@@ -90,8 +90,8 @@ module _ (first : ℤ) (acts : List Act) (key : Key) (l : LotId) (s : Slice) (sl
   abbrev recall_change : Change
   recall_change = record {
     meta = meta_row first after;
-    put = record no_rows { recalls = shown newest ∷ []; stock = returned_put s l; reserved = puts };
-    dropped = record no_rows { staged = staged_returned s l; reserved = drops };
+    put = record none_put { recalls = shown newest ∷ []; stock = returned_put s l; reserved = puts };
+    dropped = record none_dropped { staged = staged_returned s l; reserved = drops };
     text = returned_reply s l;
   }
 
@@ -136,7 +136,7 @@ module _ (first : ℤ) (acts : List Act) (key : Key) (l : LotId) (s : Slice) (sl
         record {
           applies = (λ i. applied (record recall_change {
             meta = meta_same first acts act s slice room refl refl i;
-            put = record no_rows { recalls = new_row_is i ∷ []; stock = returned_put s l; reserved = puts };
+            put = record none_put { recalls = new_row_is i ∷ []; stock = returned_put s l; reserved = puts };
           }) (tables_of first acts))
               ∙ recall_step (reserved_changed first act acts puts drops are_named);
           text = returned_text first acts act l s slice touched makes next room refl;

@@ -16,7 +16,7 @@ use Rattle.machine.specs.Verdict.{first_refusal, verdict}
 use Rattle.machine.specs.Once.{IsHistory}
 use Rattle.machine.specs.Tables.{tables_of, lot_row, meta_row, reserved_row}
 use Rattle.rules.specs.Slices.{IsSlice, applied, tables_but_repeats, changed}
-use Rattle.row_rules.specs.Seen.{lot_seen, no_rows, plain_reply}
+use Rattle.row_rules.specs.Seen.{lot_seen, none_put, none_dropped, plain_reply}
 use Rattle.row_rules.specs.Plans.{rows_to_put, rows_to_drop}
 use Rattle.lot_rules.specs.DecidedHold.{release_seen, release_shares, release_changes, with_hold, lot_rows_with_hold, lot_put}
 use Rattle.row_rules.specs.declared.slice.Slice.{Slice}
@@ -94,8 +94,8 @@ module _ (first : ℤ) (acts : List Act) (key : Key) (l : LotId) (s : Slice) (sl
   abbrev release_change : Change
   release_change = record {
     meta = meta_row first after;
-    put = record no_rows { lots = lot_put l false (lot_seen s l); reserved = puts };
-    dropped = record no_rows { reserved = drops };
+    put = record none_put { lots = lot_put l false (lot_seen s l); reserved = puts };
+    dropped = record none_dropped { reserved = drops };
     text = plain_reply s;
   }
 

@@ -12,7 +12,7 @@ use Rattle.machine.specs.Once.{IsHistory}
 use Rattle.machine.specs.Tables.{tables_of}
 use Rattle.machine.specs.KeyedRows.{no_two}
 use Rattle.rules.specs.Slices.{IsSlice, applied}
-use Rattle.row_rules.specs.Seen.{no_rows, plain_reply}
+use Rattle.row_rules.specs.Seen.{none_put, none_dropped, plain_reply}
 use Rattle.row_rules.specs.Plans.{is_share_of}
 use Rattle.row_rules.specs.SeenOrders.{order_row_seen, items_seen}
 use Rattle.order_rules.specs.DecidedCancel.{cancelled_row, other_orders, cancel_put, cancel_dropped, cancel_seen, cancel_changes}
@@ -60,8 +60,8 @@ module _ (first : ℤ) (acts : List Act) (key : Key) (o : List ℕ) (s : Slice) 
     change_same : cancel_changes s o ≡ cancel_change first acts key o p named (plain_reply s) (cancel_put s o) (cancel_dropped s o)
     change_same = λ i. record {
       meta = meta_same first acts act s slice room refl refl i;
-      put = record no_rows { orders = row_is i; reserved = cancel_put s o };
-      dropped = record no_rows { reserved = cancel_dropped s o };
+      put = record none_put { orders = row_is i; reserved = cancel_put s o };
+      dropped = record none_dropped { reserved = cancel_dropped s o };
       text = plain_reply s;
     }
 

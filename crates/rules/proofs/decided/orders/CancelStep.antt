@@ -14,7 +14,7 @@ use Rattle.machine.specs.Standing.{Placed, orders, order_named, is_cancelled}
 use Rattle.machine.specs.Planning.{order_state, is_open, is_open_state, is_shipped_in_full}
 use Rattle.machine.specs.Tables.{tables_of, meta_row, order_row, reserved_row}
 use Rattle.rules.specs.Slices.{applied, tables_but_repeats, changed, unless_put}
-use Rattle.row_rules.specs.Seen.{no_rows}
+use Rattle.row_rules.specs.Seen.{none_put, none_dropped}
 use Rattle.row_rules.specs.declared.slice.Change.{Change}
 use Rattle.machine.proofs.Tests.{same_text_is, same_text_refl}
 use Rattle.machine.proofs.histories.Orders.{found_order}
@@ -64,8 +64,8 @@ module _ (first : ℤ) (acts : List Act) (key : Key) (o : List ℕ) where
     abbrev pub cancel_change : List ℕ → List ReservedRow → List ReservedRow → Change
     cancel_change text put dropped = record {
       meta = meta_row first after;
-      put = record no_rows { orders = new_row ∷ []; reserved = put };
-      dropped = record no_rows { reserved = dropped };
+      put = record none_put { orders = new_row ∷ []; reserved = put };
+      dropped = record none_dropped { reserved = dropped };
       text = text;
     }
 

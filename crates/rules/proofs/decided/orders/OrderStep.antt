@@ -20,7 +20,7 @@ use Rattle.machine.specs.Planning.{shipped_of, order_state}
 use Rattle.machine.specs.Once.{IsHistory}
 use Rattle.machine.specs.Tables.{tables_of, meta_row, order_row, line_row, reserved_row}
 use Rattle.rules.specs.Slices.{applied, tables_but_repeats, changed, unless_put}
-use Rattle.row_rules.specs.Seen.{no_rows}
+use Rattle.row_rules.specs.Seen.{none_put, none_dropped}
 use Rattle.order_rules.specs.DecidedOrder.{new_line_rows}
 use Rattle.row_rules.specs.declared.slice.Change.{Change}
 use Rattle.machine.proofs.Tests.{same_text_is}
@@ -50,8 +50,8 @@ module _ (first : ℤ) (acts : List Act) (key : Key) (o : NewOrder) where
   abbrev pub order_change : List ℕ → List ReservedRow → List ReservedRow → Change
   order_change text put dropped = record {
     meta = meta_row first after;
-    put = record no_rows { orders = new_row ∷ []; lines = new_line_rows o; reserved = put };
-    dropped = record no_rows { reserved = dropped };
+    put = record none_put { orders = new_row ∷ []; lines = new_line_rows o; reserved = put };
+    dropped = record none_dropped { reserved = dropped };
     text = text;
   }
 

@@ -8,7 +8,7 @@ use Rattle.machine.specs.Acts.{Act}
 use Rattle.machine.specs.Once.{IsHistory}
 use Rattle.machine.specs.Tables.{tables_of}
 use Rattle.rules.specs.Slices.{IsSlice, applied}
-use Rattle.row_rules.specs.Seen.{no_rows}
+use Rattle.row_rules.specs.Seen.{none_put, none_dropped}
 use Rattle.order_rules.specs.DecidedOrder.{new_line_rows, order_rows_to_put, order_rows_to_drop, order_reply, order_seen, order_changes}
 use Rattle.row_rules.specs.declared.slice.Slice.{Slice}
 use Rattle.row_rules.specs.declared.slice.Change.{Change}
@@ -31,8 +31,8 @@ module _ (first : ℤ) (acts : List Act) (key : Key) (o : NewOrder) (s : Slice) 
   change_same : order_changes s o ≡ order_change first acts key o (order_reply s o) (order_rows_to_put s o o.lines) (order_rows_to_drop s o o.lines)
   change_same = λ i. record {
     meta = meta_same first acts act s slice (room_for_acts first acts (Order o) next.1.passes) refl refl i;
-    put = record no_rows { orders = row_is first acts key o s slice next i ∷ []; lines = new_line_rows o; reserved = order_rows_to_put s o o.lines };
-    dropped = record no_rows { reserved = order_rows_to_drop s o o.lines };
+    put = record none_put { orders = row_is first acts key o s slice next i ∷ []; lines = new_line_rows o; reserved = order_rows_to_put s o o.lines };
+    dropped = record none_dropped { reserved = order_rows_to_drop s o o.lines };
     text = order_reply s o;
   }
 
