@@ -3,7 +3,6 @@
 ghost use Rattle.std.specs.Prelude.{◌≡◌, ◌&&◌, ◌∷◌, not, filter, IfOk};
 ghost use Rattle.values.specs.Values.{same_text};
 ghost use Rattle.machine.specs.Postings.{is_lot};
-ghost use Rattle.machine.specs.Standing.{is_expired as is_expired_lem};
 ghost use Rattle.machine.specs.Verdict.{first_refusal};
 ghost use Rattle.row_rules.specs.Plans.{rows_to_put, rows_to_drop};
 ghost use Rattle.row_rules.specs.Seen.{meta_after, none_put, none_dropped, plain_reply as plain_reply_lem, units_seen, expires_otherwise_than, is_over as is_over_lem};
@@ -20,6 +19,7 @@ use row_rules::plans::{ItemRows, item_rows, shares_over};
 use row_rules::pushing::push_if;
 use row_rules::replanning::{Replanned, shares_changed};
 use row_rules::seeing::{lot_seen, sees_bin, sees_item, sees_recall};
+use row_rules::status::is_expired;
 use row_rules::stock::units_in_bin;
 use row_rules::summing::{sum_of_staged, sum_of_stock};
 use row_rules::{Change, Slice};
@@ -35,7 +35,7 @@ pub fn judge_receive(slice: &Slice, r: &Receipt) -> Option<Refusal>
     let known_bin = sees_bin(slice, &r.bin);
     let other_expiry = expires_otherwise(lot_seen(slice, &r.lot), r.expiry);
     let recalled = sees_recall(slice, &r.lot);
-    let expired = is_expired(slice, r.expiry);
+    let expired = is_expired(slice.meta.day, r.expiry);
     let over = is_over(slice, &r.lot.gtin, u64::from(r.qty.units()));
     first_of(&[
         (full, Refusal::ActsFull),
@@ -46,12 +46,6 @@ pub fn judge_receive(slice: &Slice, r: &Receipt) -> Option<Refusal>
         (expired, Refusal::LotExpired),
         (over, Refusal::OverUnits),
     ])
-}
-
-fn is_expired(slice: &Slice, expiry: Day) -> bool
-    ensures { result ≡ is_expired_lem slice.now.meta.day expiry }
-{
-    expiry.number() < slice.meta.day.day().number()
 }
 
 fn is_over(slice: &Slice, gtin: &Gtin, more: u64) -> bool

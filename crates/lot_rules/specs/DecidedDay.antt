@@ -14,7 +14,8 @@ use Rattle.commands.specs.declared.rows.ReservedRow.{ReservedRow}
 use Rattle.machine.specs.Verdict.{Judgement}
 use Rattle.machine.specs.Postings.{is_lot}
 use Rattle.machine.specs.Replies.{returned_field}
-use Rattle.row_rules.specs.Seen.{capped, lot_seen, number_seen, none_put, none_dropped, is_past_row}
+use Rattle.row_rules.specs.Seen.{capped, lot_seen, number_seen, none_put, none_dropped}
+use Rattle.row_rules.specs.Status.{is_past_row}
 use Rattle.lot_rules.specs.DecidedHold.{returned_put, bins_with_returns}
 use Rattle.row_rules.specs.Replanning.{item_put, item_dropped}
 use Rattle.row_rules.specs.declared.slice.Slice.{Slice}

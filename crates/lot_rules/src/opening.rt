@@ -5,7 +5,7 @@ ghost use Rattle.values.specs.Values.{same_text};
 ghost use Rattle.commands.specs.Lists.{total};
 ghost use Rattle.machine.specs.Verdict.{first_refusal};
 ghost use Rattle.machine.specs.Postings.{is_lot};
-ghost use Rattle.row_rules.specs.Seen.{capped, is_past_row, none_put, none_dropped};
+ghost use Rattle.row_rules.specs.Seen.{capped, none_put, none_dropped};
 ghost use Rattle.lot_rules.specs.DecidedDay.{day_judged, is_out as is_out_lem, staged_kept_on as staged_kept_on_lem, staged_gone_on as staged_gone_on_lem, units_out as units_out_lem, lot_returned_on as lot_returned_on_lem, stock_returned as stock_returned_lem, stands_in as stands_in_lem, stock_on as stock_on_lem, gtins_seen as gtins_seen_lem, day_put, day_dropped, meta_on as meta_on_lem, day_reply as day_reply_lem, day_changes};
 
 use crate::returning::{bins_with_returns, returned_put};
@@ -19,6 +19,7 @@ use row_rules::plans::{ItemRows, item_rows};
 use row_rules::pushing::push_if;
 use row_rules::replanning::{Replanned, replan_items};
 use row_rules::seeing::lot_seen;
+use row_rules::status::is_past;
 use row_rules::{Change, Slice};
 use std::alloc::{AllocError, Global};
 use values::{Gtin, LotId};
@@ -38,15 +39,6 @@ fn is_out(slice: &Slice, day: BusinessDay, lot: &LotId) -> bool
     ensures { result ≡ is_out_lem slice.now day lot.now }
 {
     is_past(lot_seen(slice, lot), day)
-}
-
-fn is_past(row: Option<LotRow>, day: BusinessDay) -> bool
-    ensures { result ≡ is_past_row row day }
-{
-    match row {
-        None => false,
-        Some(k) => k.expiry.number() < day.day().number(),
-    }
 }
 
 // Staged rows

@@ -6,7 +6,8 @@ use Rattle.commands.specs.declared.refusal.Refusal.TheVariants.{ActsFull, Unknow
 use Rattle.commands.specs.declared.command.Picking.{Picking}
 use Rattle.commands.specs.declared.rows.ReservedRow.{ReservedRow}
 use Rattle.machine.specs.Verdict.{Judgement}
-use Rattle.row_rules.specs.Seen.{capped, sees_item, sees_bin, lot_seen, sees_recall, meta_after, plain_reply, none_put, is_past_row}
+use Rattle.row_rules.specs.Seen.{capped, sees_item, sees_bin, lot_seen, sees_recall, meta_after, plain_reply, none_put}
+use Rattle.row_rules.specs.Status.{is_past_row}
 use Rattle.row_rules.specs.SeenOrders.{sees_order, sees_open, sees_line}
 use Rattle.row_rules.specs.SeenLots.{sees_lot, sees_hold, in_bin_seen, stock_put, stock_gone, stock_rows_with}
 use Rattle.row_rules.specs.SeenStages.{reserved_seen, on_stage_seen, staged_put, staged_gone, staged_rows_with}

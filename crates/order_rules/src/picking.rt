@@ -2,7 +2,7 @@
 
 ghost use Rattle.std.specs.Prelude.{◌≡◌, ◌+◌, ◌-◌, IfOk};
 ghost use Rattle.machine.specs.Verdict.{first_refusal};
-ghost use Rattle.row_rules.specs.Seen.{capped, is_past_row as is_past_row_lem, none_put};
+ghost use Rattle.row_rules.specs.Seen.{capped, none_put};
 ghost use Rattle.order_rules.specs.DecidedPick.{pick_seen, unpick_seen, pick_changes, unpick_changes, changes_with, shares_with as shares_with_lem, sees_store as sees_store_lem};
 
 use commands::limits::ACTS_MAX;
@@ -10,13 +10,13 @@ use commands::{Listed, LotRow, Picking, Refusal, ReservedRow, StagedRow, StockRo
 use label::BusinessDay;
 use row_rules::changing::{meta_next, none_put, plain_reply};
 use row_rules::judging::first_of;
-use row_rules::looking::find_bin;
 use row_rules::orders_seen::{sees_line, sees_open, sees_order};
 use row_rules::plans::{ItemRows, item_rows, rows_to_drop, rows_to_put, shares_over};
 use row_rules::seeing::{lot_seen, sees_bin, sees_hold, sees_item, sees_recall};
 use row_rules::stages::{on_stage_seen, reserved_seen, staged_gone, staged_put, staged_rows_with};
+use row_rules::status::is_past;
 use row_rules::stock::{sees_lot, stock_gone, stock_put, stock_rows_with, units_in_bin};
-use row_rules::supplies::is_store;
+use row_rules::supplies::is_store_bin;
 use row_rules::{Change, Dropped, Put, Slice};
 use std::alloc::{AllocError, Global};
 use values::{Name, Qty};
@@ -32,7 +32,7 @@ pub fn judge_pick(slice: &Slice, p: &Picking) -> Option<Refusal>
     let known_order = sees_order(slice, &p.order);
     let known_line = sees_line(slice, &p.order, &p.lot.gtin);
     let recalled = sees_recall(slice, &p.lot);
-    let past = is_past_row(lot_seen(slice, &p.lot), slice.meta.day);
+    let past = is_past(lot_seen(slice, &p.lot), slice.meta.day);
     let held = sees_hold(slice, &p.lot);
     let store = sees_store(slice, &p.bin);
     let open = sees_open(slice, &p.order);
@@ -81,20 +81,11 @@ pub fn judge_unpick(slice: &Slice, p: &Picking) -> Option<Refusal>
     ])
 }
 
-fn is_past_row(row: Option<LotRow>, day: BusinessDay) -> bool
-    ensures { result ≡ is_past_row_lem row day }
-{
-    match row {
-        None => false,
-        Some(k) => k.expiry.number() < day.day().number(),
-    }
-}
-
 // Whether the bin is a STORE bin.
 fn sees_store(slice: &Slice, bin: &Name) -> bool
     ensures { result ≡ sees_store_lem slice.now bin.now }
 {
-    is_store(find_bin(slice.rows.bins.as_slice(), bin))
+    is_store_bin(slice.rows.bins.as_slice(), bin)
 }
 
 /// What a picking changes.

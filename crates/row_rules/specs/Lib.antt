@@ -1,4 +1,5 @@
 pub mod Seen
+pub mod Status
 pub mod SeenOrders
 pub mod Plans
 pub mod Replanning

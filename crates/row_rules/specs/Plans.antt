@@ -18,9 +18,10 @@ use Rattle.plan.specs.declared.Supply.{Supply}
 use Rattle.plan.specs.declared.Row.{Row}
 use Rattle.plan.specs.Overlap.{plan_rows}
 use Rattle.machine.specs.Postings.{is_lot, of_item}
-use Rattle.machine.specs.Standing.{is_store_kind, is_expired}
+use Rattle.machine.specs.Standing.{is_store_kind}
 use Rattle.machine.specs.Planning.{is_open_state}
 use Rattle.row_rules.specs.Seen.{capped}
+use Rattle.row_rules.specs.Status.{may_ship}
 
 -- the elements put into a list in its order, one after another
 abbrev pub inserted : {X : Type 0} → (X → X → Bool) → List X → List X → List X
@@ -64,7 +65,7 @@ store_seen bins stock l = total (λ r. if is_lot l r.lot && is_store_found (find
 
 -- the lot is of the item, and may be shipped on the day
 abbrev pub is_usable : List ℕ → ℤ → List RecallRow → LotRow → Bool
-is_usable g day recalls k = of_item g k.lot && not k.held && not (is_some (find (λ r. is_lot k.lot r.lot) recalls)) && not (is_expired day k.expiry)
+is_usable g day recalls k = of_item g k.lot && may_ship day recalls k
 
 abbrev pub goes_first : LotRow → LotRow → Bool
 goes_first k m = int_lt k.expiry m.expiry || (not (int_lt m.expiry k.expiry) && nat_lt k.came m.came)

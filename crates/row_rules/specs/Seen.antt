@@ -11,7 +11,6 @@ use Rattle.commands.specs.declared.rows.RecallRow.{RecallRow}
 use Rattle.commands.specs.declared.rows.StockRow.{StockRow}
 use Rattle.commands.specs.declared.rows.StagedRow.{StagedRow}
 use Rattle.machine.specs.Postings.{is_lot, of_item}
-use Rattle.machine.specs.Standing.{is_expired}
 use Rattle.row_rules.specs.declared.slice.Put.{Put}
 use Rattle.row_rules.specs.declared.slice.Dropped.{Dropped}
 use Rattle.row_rules.specs.declared.slice.Slice.{Slice}
@@ -94,7 +93,7 @@ none_put = record {
 abbrev pub none_dropped : Dropped
 none_dropped = record { stock = []; staged = []; reserved = [] }
 
--- Balances and days of a lot
+-- Balances of a lot
 
 abbrev pub stock_qty : Option StockRow → ℕ
 stock_qty None = 0
@@ -103,8 +102,3 @@ stock_qty (Some r) = r.qty
 -- the units of a lot in bins and on stages
 abbrev pub lot_units : LotId → List StockRow → List StagedRow → ℕ
 lot_units l stock staged = capped (capped (total (λ r. if is_lot l r.lot then r.qty else 0) stock) + capped (total (λ r. if is_lot l r.lot then r.qty else 0) staged))
-
--- the lot is expired on the day
-abbrev pub is_past_row : Option LotRow → ℤ → Bool
-is_past_row None day = false
-is_past_row (Some k) day = is_expired day k.expiry

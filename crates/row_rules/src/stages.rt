@@ -16,14 +16,14 @@ use values::{LotId, Name};
 pub fn reserved_seen(slice: &Slice, order: &Name, lot: &LotId) -> u64
     ensures { result ≡ reserved_seen_lem slice.now order.now lot.now }
 {
-    let row = reserved_found(slice, order, lot);
-    reserved_qty(row)
+    reserved_units(slice.rows.reserved.as_slice(), order, lot)
 }
 
-fn reserved_found(slice: &Slice, order: &Name, lot: &LotId) -> Option<ReservedRow>
-    ensures { result ≡ find (λ r. same_text order.now r.order && is_lot lot.now r.lot) slice.now.rows.reserved }
+/// The units of a lot that rows have reserved for an order.
+pub fn reserved_units(rows: &[ReservedRow], order: &Name, lot: &LotId) -> u64
+    ensures { result ≡ reserved_qty_lem (find (λ r. same_text order.now r.order && is_lot lot.now r.lot) rows.now) }
 {
-    find_reserved(slice.rows.reserved.as_slice(), order, lot)
+    reserved_qty(find_reserved(rows, order, lot))
 }
 
 fn find_reserved(rows: &[ReservedRow], order: &Name, lot: &LotId) -> Option<ReservedRow>
@@ -50,14 +50,14 @@ fn reserved_qty(row: Option<ReservedRow>) -> u64
 pub fn on_stage_seen(slice: &Slice, order: &Name, lot: &LotId) -> u64
     ensures { result ≡ on_stage_seen_lem slice.now order.now lot.now }
 {
-    let row = staged_found(slice, order, lot);
-    staged_qty(row)
+    staged_units(slice.rows.staged.as_slice(), order, lot)
 }
 
-fn staged_found(slice: &Slice, order: &Name, lot: &LotId) -> Option<StagedRow>
-    ensures { result ≡ staged_found_lem slice.now.rows.staged order.now lot.now }
+/// The units of a lot that rows have staged for an order.
+pub fn staged_units(rows: &[StagedRow], order: &Name, lot: &LotId) -> u64
+    ensures { result ≡ staged_qty_lem (staged_found_lem rows.now order.now lot.now) }
 {
-    find_staged(slice.rows.staged.as_slice(), order, lot)
+    staged_qty(find_staged(rows, order, lot))
 }
 
 fn find_staged(rows: &[StagedRow], order: &Name, lot: &LotId) -> Option<StagedRow>

@@ -9,8 +9,8 @@ use Rattle.commands.specs.declared.rows.RecallRow.{RecallRow}
 use Rattle.commands.specs.declared.rows.OrderRow.{OrderRow}
 use Rattle.commands.specs.declared.rows.LineRow.{LineRow}
 use Rattle.commands.specs.declared.rows.StagedRow.{StagedRow}
-use Rattle.machine.specs.Standing.{is_expired}
 use Rattle.row_rules.specs.Seen.{has_recall}
+use Rattle.row_rules.specs.Status.{may_ship}
 
 -- Names
 
@@ -85,9 +85,9 @@ with_lines line_rows order_rows = filter (λ r. has_line_in line_rows r.order) o
 
 -- Openings of a day
 
--- a lot that is not held and expires on the old day or later, but before the new one
+-- a lot that may be shipped on the old day and no more on the new one, its recalls aside
 abbrev pub is_ending : ℤ → ℤ → LotRow → Bool
-is_ending old new r = not r.held && (not (is_expired old r.expiry) && is_expired new r.expiry)
+is_ending old new r = may_ship old [] r && not (may_ship new [] r)
 
 abbrev pub not_recalled : List RecallRow → List LotRow → List LotRow
 not_recalled recall_rows lot_rows = filter (λ r. not (has_recall recall_rows r.lot)) lot_rows

@@ -16,6 +16,7 @@ use Rattle.machine.specs.Standing.{KnownLot, Recalling, lots, lots_of, is_held, 
 use Rattle.machine.specs.Planning.{goes_before}
 use Rattle.machine.specs.Once.{IsHistory}
 use Rattle.row_rules.specs.Seen.{capped, has_recall}
+use Rattle.row_rules.specs.Status.{status_seen}
 use Rattle.machine.specs.Tables.{tables_of, lot_row, recall_row, stock_row, staged_row, reserved_row}
 use Rattle.machine.specs.KeyedRows.{AreRows, same_cell, same_share}
 use Rattle.machine.specs.Views.{lots_in_order, lot_status, lot_view, stock_view, reserved_on_lot, staged_on_lot}
@@ -23,7 +24,7 @@ use Rattle.row_rules.specs.declared.slice.Rows.{Rows}
 use Rattle.machine.proofs.Tests.{is_lot_is}
 use Rattle.machine.proofs.Apart.{any_found}
 use Rattle.views.specs.Seen.{lots_seen}
-use Rattle.views.specs.SeenStock.{reserved_on, staged_on, status_seen, lot_seen, stock_seen}
+use Rattle.views.specs.SeenStock.{reserved_on, staged_on, lot_seen, stock_seen}
 use Rattle.views.specs.ShownStock.{AreStocked}
 use Rattle.views.proofs.Sorting.{IsIn, of_filter, of_ordered}
 use Rattle.views.proofs.LotsShown.{shown_lot, lots_shown}

@@ -19,6 +19,7 @@ use Rattle.commands.specs.declared.views.ReservedLot.{ReservedLot}
 use Rattle.commands.specs.declared.views.StagedLot.{StagedLot}
 use Rattle.machine.specs.Postings.{is_lot, of_item}
 use Rattle.row_rules.specs.Plans.{inserted, goes_first, is_store_found, staged_seen}
+use Rattle.row_rules.specs.SeenStages.{reserved_qty, staged_qty}
 use Rattle.machine.specs.Views.{text_before}
 use Rattle.row_rules.specs.declared.slice.Rows.{Rows}
 
@@ -52,14 +53,6 @@ abbrev pub store_bins_seen : List BinRow → List StockRow → LotId → List Bi
 store_bins_seen bins stock l = inserted bin_before [] (map bin_units (filter (is_in_store bins l) stock))
 
 -- What is reserved and staged
-
-abbrev pub reserved_qty : Option ReservedRow → ℕ
-reserved_qty None = 0
-reserved_qty (Some r) = r.qty
-
-abbrev pub staged_qty : Option StagedRow → ℕ
-staged_qty None = 0
-staged_qty (Some r) = r.qty
 
 abbrev pub reserved_lot : Rows → List ℕ → LotRow → ReservedLot
 reserved_lot rows o k = record {

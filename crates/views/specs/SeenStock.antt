@@ -1,22 +1,19 @@
 -- What is shown of the stock of an item, from rows alone.
-use Rattle.std.specs.Prelude.{ℕ, Bool, if◌then◌else◌, List, [], filter, map, ℤ}
+use Rattle.std.specs.Prelude.{ℕ, if◌then◌else◌, List, [], filter, map, ℤ}
 use Rattle.values.specs.declared.lot.LotId.{LotId}
 use Rattle.commands.specs.Lists.{total}
 use Rattle.commands.specs.declared.rows.ItemRow.{ItemRow}
 use Rattle.commands.specs.declared.rows.LotRow.{LotRow}
-use Rattle.commands.specs.declared.rows.RecallRow.{RecallRow}
 use Rattle.commands.specs.declared.rows.ReservedRow.{ReservedRow}
 use Rattle.commands.specs.declared.rows.StagedRow.{StagedRow}
 use Rattle.commands.specs.declared.rows.StockRow.{StockRow}
 use Rattle.commands.specs.declared.views.BinUnits.{BinUnits}
-use Rattle.commands.specs.declared.views.LotStatus.{LotStatus}
-use Rattle.commands.specs.declared.views.LotStatus.TheVariants.{Recalled, Held, Expired, Free}
 use Rattle.commands.specs.declared.views.LotView.{LotView}
 use Rattle.commands.specs.declared.views.StockView.{StockView}
 use Rattle.machine.specs.Postings.{is_lot}
-use Rattle.machine.specs.Standing.{is_expired}
 use Rattle.row_rules.specs.Plans.{inserted}
-use Rattle.row_rules.specs.Seen.{capped, has_recall}
+use Rattle.row_rules.specs.Seen.{capped}
+use Rattle.row_rules.specs.Status.{status_seen}
 use Rattle.row_rules.specs.declared.slice.Rows.{Rows}
 use Rattle.views.specs.Seen.{bin_before, bin_units, lots_seen}
 
@@ -30,11 +27,6 @@ reserved_on l rows = total (λ r. if is_lot l r.lot then r.qty else 0) rows
 
 abbrev pub staged_on : LotId → List StagedRow → ℕ
 staged_on l rows = total (λ r. if is_lot l r.lot then r.qty else 0) rows
-
--- recalled comes first, then held, then expired
-abbrev pub status_seen : ℤ → List RecallRow → LotRow → LotStatus
-status_seen day recalls k =
-    if has_recall recalls k.lot then Recalled else (if k.held then Held else (if is_expired day k.expiry then Expired else Free))
 
 abbrev pub lot_seen : ℤ → Rows → LotRow → LotView
 lot_seen day rows k = record {

@@ -8,7 +8,6 @@ mod lots;
 mod order;
 mod short;
 mod stock;
-mod summing;
 
 pub use order::order_view;
 pub use stock::stock_view;

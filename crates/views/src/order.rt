@@ -11,12 +11,12 @@ ghost use Rattle.views.specs.Shown.{AreShown};
 
 use crate::bins::store_bins;
 use crate::lines::lines_of_order;
-use crate::looking::{reserved_units, staged_units};
 use crate::lots::lots_of_item;
 use crate::short::line_short;
 use commands::{
     LineRow, LineView, Listed, LotRow, OrderRow, OrderView, ReservedLot, StagedLot, StagedRow,
 };
+use row_rules::stages::{reserved_units, staged_units};
 use rules::Rows;
 use std::alloc::{AllocError, Global};
 use values::Name;

@@ -6,15 +6,15 @@ ghost use Rattle.machine.specs.Once.{IsHistory};
 ghost use Rattle.machine.specs.Standing.{today};
 ghost use Rattle.machine.specs.Tables.{item_row, tables_of};
 ghost use Rattle.machine.specs.Views.{stock_view as stock_view_lem};
-ghost use Rattle.views.specs.SeenStock.{stock_seen, lot_seen, status_seen};
+ghost use Rattle.views.specs.SeenStock.{stock_seen, lot_seen};
 ghost use Rattle.views.specs.ShownStock.{AreStocked};
 
 use crate::bins::bins_of_lot;
 use crate::lots::lots_of_item;
-use crate::summing::{reserved_on_lot, staged_on_lot};
-use commands::{ItemRow, Listed, LotRow, LotStatus, LotView, RecallRow, StockView};
+use commands::{ItemRow, Listed, LotRow, LotView, StockView};
 use label::BusinessDay;
-use row_rules::looking::has_recall;
+use row_rules::status::lot_status;
+use row_rules::summing::{sum_of_lot_reserved, sum_of_lot_staged};
 use rules::Rows;
 use std::alloc::{AllocError, Global};
 
@@ -63,8 +63,8 @@ fn lot_view(
     ensures { IfOk result (λ view. view ≡ lot_seen day rows.now lot.now) }
 {
     let bins = bins_of_lot(alloc, rows.stock.as_slice(), &lot.lot)?;
-    let reserved = reserved_on_lot(rows.reserved.as_slice(), &lot.lot);
-    let staged = staged_on_lot(rows.staged.as_slice(), &lot.lot);
+    let reserved = sum_of_lot_reserved(rows.reserved.as_slice(), &lot.lot);
+    let staged = sum_of_lot_staged(rows.staged.as_slice(), &lot.lot);
     Ok(LotView {
         bins: Listed::from_vec(bins),
         expiry: lot.expiry,
@@ -73,19 +73,4 @@ fn lot_view(
         staged,
         status: lot_status(day, rows.recalls.as_slice(), lot),
     })
-}
-
-// A recalled lot may be held too, and either may be expired.
-fn lot_status(day: BusinessDay, recalls: &[RecallRow], lot: &LotRow) -> LotStatus
-    ensures { result ≡ status_seen day recalls.now lot.now }
-{
-    if has_recall(recalls, &lot.lot) {
-        LotStatus::Recalled
-    } else if lot.held {
-        LotStatus::Held
-    } else if lot.expiry.number() < day.day().number() {
-        LotStatus::Expired
-    } else {
-        LotStatus::Free
-    }
 }

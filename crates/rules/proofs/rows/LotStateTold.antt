@@ -10,7 +10,8 @@ use Rattle.machine.specs.Once.{IsHistory}
 use Rattle.machine.specs.Tables.{tables_of}
 use Rattle.machine.specs.Touched.{is_touched}
 use Rattle.rules.specs.Slices.{IsSlice, names_bin}
-use Rattle.row_rules.specs.Seen.{lot_seen, is_past_row}
+use Rattle.row_rules.specs.Seen.{lot_seen}
+use Rattle.row_rules.specs.Status.{is_past_row}
 use Rattle.row_rules.specs.Plans.{is_store_found}
 use Rattle.machine.specs.Verdict.{is_past}
 use Rattle.row_rules.specs.SeenLots.{is_held_row, sees_hold}

@@ -14,6 +14,7 @@ use Rattle.commands.specs.declared.rows.LotRow.{LotRow}
 use Rattle.commands.specs.declared.rows.RecallRow.{RecallRow}
 use Rattle.commands.specs.declared.rows.StockRow.{StockRow}
 use Rattle.commands.specs.declared.limits.TheConstants.{UNITS_MAX}
+use Rattle.commands.specs.declared.views.LotStatus.TheVariants.{Recalled, Held, Expired, Free}
 use Rattle.plan.specs.Lists.{total as plan_total}
 use Rattle.plan.specs.Overlap.{supply_total}
 use Rattle.plan.specs.declared.Supply.{Supply}
@@ -27,11 +28,12 @@ use Rattle.machine.specs.Planning.{item_postings, in_store, store_units, goes_be
 use Rattle.machine.specs.Once.{IsHistory}
 use Rattle.machine.specs.Tables.{lot_row, recall_row, stock_row, bin_row}
 use Rattle.machine.specs.KeyedRows.{AreRows, AreOwn, no_two, same_cell}
-use Rattle.row_rules.specs.Seen.{capped}
+use Rattle.row_rules.specs.Seen.{capped, has_recall}
+use Rattle.row_rules.specs.Status.{is_free, may_ship}
 use Rattle.row_rules.specs.Plans.{is_store_found, store_seen, is_usable, goes_first, usable_lots, supply_seen, supplies_seen}
 use Rattle.machine.proofs.Numbers.{unequal_above, later_than}
 use Rattle.machine.proofs.Tests.{and_both, or_none, not_true, same_text_refl, is_lot_is, is_lot_refl, is_lot_turned, or_later}
-use Rattle.machine.proofs.Apart.{AllFound}
+use Rattle.machine.proofs.Apart.{AllFound, any_found}
 use Rattle.machine.proofs.histories.Falling.{AllBelow, AreFalling}
 use Rattle.machine.proofs.histories.Cells.{Cells, holds, holds_split}
 use Rattle.machine.proofs.histories.ItemBalances.{balance-of_item}
@@ -50,6 +52,14 @@ pub record TellsSupplies (first : ℤ) (acts : List Act) (g : List ℕ) (lot_row
   pub recalls : (l : LotId) → of_item g l ≡ true → find (λ (r : RecallRow). is_lot l r.lot) recall_rows ≡ recall_row acts l
   pub stock : AreRows same_cell (λ (r : StockRow). (r.lot, r.bin)) (λ k. of_item g k.0) (λ k. true) (λ k. stock_row first acts k.0 k.1) stock_rows
   pub bins : (b : List ℕ) → list_any (λ (r : StockRow). same_text b r.bin) stock_rows ≡ true → find (λ (r : BinRow). same_text b r.name) bin_rows ≡ bin_row acts b
+
+-- a lot is free that is neither held nor recalled nor expired
+free_by : (recalled held expired : Bool) → is_free (if recalled then Recalled else (if held then Held else (if expired then Expired else Free))) ≡ not held && not recalled && not expired
+free_by true true e = refl
+free_by true false e = refl
+free_by false true e = refl
+free_by false false true = refl
+free_by false false false = refl
 
 -- Ranks: by expiry, then by number
 
@@ -287,8 +297,11 @@ module _ (first : ℤ) (acts : List Act) (history : IsHistory first acts) (g : L
 
   usable_told : (k : KnownLot) → is_usable g day recall_rows (show k) ≡ of_item g k.lot && is_shippable first acts k
   usable_told k =
-      elim (of_item g k.lot) as (λ b. of_item g k.lot ≡ b → b && not (is_held acts k.lot) && not (is_some (find (λ (r : RecallRow). is_lot k.lot r.lot) recall_rows)) && not (is_expired day k.expiry) ≡ b && is_shippable first acts k) [
-        | true ↦ λ e. (λ i. not (is_held acts k.lot) && not ((ap is_some (tells.recalls k.lot e) ∙ some_mapped _ (recalling acts k.lot)) i) && not (is_expired day k.expiry))
+      elim (of_item g k.lot) as (λ b. of_item g k.lot ≡ b → b && may_ship day recall_rows (show k) ≡ b && is_shippable first acts k) [
+        | true ↦ λ e.
+            let recalled = sym (any_found (λ (r : RecallRow). is_lot k.lot r.lot) recall_rows) ∙ ap is_some (tells.recalls k.lot e) ∙ some_mapped _ (recalling acts k.lot) in
+            free_by (has_recall recall_rows k.lot) (is_held acts k.lot) (is_expired day k.expiry)
+            ∙ (λ i. not (is_held acts k.lot) && not (recalled i) && not (is_expired day k.expiry))
         | false ↦ λ e. refl
       ] refl
 
@@ -471,8 +484,8 @@ module _ (first : ℤ) (acts : List Act) (history : IsHistory first acts) (g : L
   avail_by_rows (k ∷ ks) = omega (arith, one, avail_by_rows ks)
     where
       one : (if is_usable g day recall_rows k then row_avail k else 0) ≤ total (λ (r : StockRow). if is_lot k.lot r.lot then own_qty r else 0) stock_rows
-      one = elim (of_item g k.lot) as (λ b. of_item g k.lot ≡ b → (if b && not k.held && not (is_some (find (λ (r : RecallRow). is_lot k.lot r.lot) recall_rows)) && not (is_expired day k.expiry) then row_avail k else 0) ≤ total (λ (r : StockRow). if is_lot k.lot r.lot then own_qty r else 0) stock_rows) [
-        | true ↦ λ e. omega (arith, less (not k.held && not (is_some (find (λ (r : RecallRow). is_lot k.lot r.lot) recall_rows)) && not (is_expired day k.expiry)) (row_avail k), store_by_rows k e stock_rows)
+      one = elim (of_item g k.lot) as (λ b. of_item g k.lot ≡ b → (if b && may_ship day recall_rows k then row_avail k else 0) ≤ total (λ (r : StockRow). if is_lot k.lot r.lot then own_qty r else 0) stock_rows) [
+        | true ↦ λ e. omega (arith, less (may_ship day recall_rows k) (row_avail k), store_by_rows k e stock_rows)
         | false ↦ λ e. omega arith
       ] refl
         where

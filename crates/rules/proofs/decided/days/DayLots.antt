@@ -19,7 +19,8 @@ use Rattle.machine.specs.Touched.{is_touched}
 use Rattle.machine.specs.KeyedRows.{AreRows, AreOwn, no_two}
 use Rattle.rules.specs.Slices.{IsSlice}
 use Rattle.machine.specs.Verdict.{is_past}
-use Rattle.row_rules.specs.Seen.{lot_seen, is_past_row}
+use Rattle.row_rules.specs.Seen.{lot_seen}
+use Rattle.row_rules.specs.Status.{is_past_row}
 use Rattle.lot_rules.specs.DecidedDay.{is_out, gtins_seen}
 use Rattle.row_rules.specs.declared.slice.Slice.{Slice}
 use Rattle.machine.proofs.Tests.{or_first, same_text_is, same_text_refl, is_lot_is}

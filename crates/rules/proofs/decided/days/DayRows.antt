@@ -24,7 +24,8 @@ use Rattle.machine.specs.Tables.{tables_of, if_any, bin_row, stock_row, order_ro
 use Rattle.machine.specs.Touched.{is_touched}
 use Rattle.machine.specs.KeyedRows.{AreRows, OrderLot, no_two, same_cell, same_line, same_share}
 use Rattle.rules.specs.Slices.{IsSlice, changed, unless_put}
-use Rattle.row_rules.specs.Seen.{lot_seen, is_past_row}
+use Rattle.row_rules.specs.Seen.{lot_seen}
+use Rattle.row_rules.specs.Status.{is_past_row}
 use Rattle.row_rules.specs.SeenLots.{stock_put}
 use Rattle.lot_rules.specs.DecidedHold.{staged_of_seen, units_in_returns, returned_put, returns_bin_row, bins_with_returns}
 use Rattle.lot_rules.specs.DecidedDay.{is_out, staged_kept_on, staged_gone_on, lot_returned_on, stock_returned, stands_in, stock_on}

@@ -12,7 +12,8 @@ use Rattle.machine.specs.Standing.{lot_known, today}
 use Rattle.machine.specs.Once.{IsHistory}
 use Rattle.machine.specs.Tables.{tables_of}
 use Rattle.rules.specs.Slices.{IsSlice}
-use Rattle.row_rules.specs.Seen.{lot_seen, is_past_row}
+use Rattle.row_rules.specs.Seen.{lot_seen}
+use Rattle.row_rules.specs.Status.{is_past_row}
 use Rattle.machine.specs.Verdict.{first_refusal, verdict, is_past}
 use Rattle.order_rules.specs.DecidedPick.{pick_seen}
 use Rattle.row_rules.specs.declared.slice.Slice.{Slice}

@@ -1,5 +1,5 @@
 use Rattle.std.proofs.Common.{rules}
-use Rattle.lot_rules.proofs.opening.is_past.Goals as goal
+use Rattle.row_rules.proofs.status.is_past.Goals as goal
 
 pub returns-in-None : goal.returns-in-None
 returns-in-None c = search rules

@@ -1,0 +1,14 @@
+use Rattle.std.proofs.Common.{rules}
+use Rattle.row_rules.proofs.status.lot_status.Goals as goal
+
+pub returns-then-has_recall : goal.returns-then-has_recall
+returns-then-has_recall c = search rules
+
+pub returns-then-lot : goal.returns-then-lot
+returns-then-lot c = search rules
+
+pub returns-then-is_expired : goal.returns-then-is_expired
+returns-then-is_expired c = search rules
+
+pub returns-else-is_expired : goal.returns-else-is_expired
+returns-else-is_expired c = search rules
