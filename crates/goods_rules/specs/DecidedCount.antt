@@ -1,8 +1,8 @@
 -- What is decided of a count or an adjustment by the rows of its slice: the conditions judged, and the rows changed.
-use Rattle.std.specs.Prelude.{ℕ, ◌+◌, ◌-◌, min, Bool, not, nat_lt, nat_le, if◌then◌else◌, List, [], ◌∷◌, ◌++◌, codes, decimal, ℤ, pos, ◌-ℤ◌, int_lt}
+use Rattle.std.specs.Prelude.{ℕ, ◌+◌, ◌-◌, min, Bool, not, nat_lt, if◌then◌else◌, List, [], ◌∷◌, ◌++◌, codes, decimal, ℤ, pos, ◌-ℤ◌, int_lt}
 use Rattle.values.specs.declared.lot.LotId.{LotId}
-use Rattle.commands.specs.declared.limits.TheConstants.{UNITS_MAX, ACTS_MAX}
-use Rattle.commands.specs.declared.refusal.Refusal.TheVariants.{ActsFull, UnknownItem, UnknownBin, UnknownLot, NotInBin, OverUnits}
+use Rattle.commands.specs.declared.limits.TheConstants.{UNITS_MAX}
+use Rattle.commands.specs.declared.refusal.Refusal.TheVariants.{UnknownItem, UnknownBin, UnknownLot, NotInBin, OverUnits}
 use Rattle.commands.specs.declared.command.Recount.{Recount}
 use Rattle.commands.specs.declared.command.Adjustment.{Adjustment}
 use Rattle.commands.specs.declared.rows.CardKind.{CardKind}
@@ -26,16 +26,14 @@ is_over_without s g more fewer = nat_lt UNITS_MAX (capped (units_seen s g + more
 
 abbrev pub count_seen : Slice → Recount → Judgement
 count_seen s c =
-    (nat_le ACTS_MAX s.meta.acts, ActsFull)
-    ∷ (not (sees_item s c.lot.gtin), UnknownItem)
+    (not (sees_item s c.lot.gtin), UnknownItem)
     ∷ (not (sees_bin s c.bin), UnknownBin)
     ∷ (not (sees_lot s c.lot), UnknownLot)
     ∷ (is_over_without s c.lot.gtin c.qty (in_bin_seen s c.bin c.lot), OverUnits) ∷ []
 
 abbrev pub adjust_seen : Slice → Adjustment → Judgement
 adjust_seen s a =
-    (nat_le ACTS_MAX s.meta.acts, ActsFull)
-    ∷ (not (sees_item s a.lot.gtin), UnknownItem)
+    (not (sees_item s a.lot.gtin), UnknownItem)
     ∷ (not (sees_bin s a.bin), UnknownBin)
     ∷ (not (sees_lot s a.lot), UnknownLot)
     ∷ (nat_lt (in_bin_seen s a.bin a.lot) (taken_off a.change), NotInBin)

@@ -1,8 +1,7 @@
 -- What is decided of a move by the rows of its slice: the conditions judged, and the rows changed.
-use Rattle.std.specs.Prelude.{ℕ, ◌+◌, ◌-◌, not, nat_lt, nat_le, List, [], ◌∷◌, ◌++◌}
+use Rattle.std.specs.Prelude.{ℕ, ◌+◌, ◌-◌, not, nat_lt, List, [], ◌∷◌, ◌++◌}
 use Rattle.values.specs.Values.{same_text}
-use Rattle.commands.specs.declared.limits.TheConstants.{ACTS_MAX}
-use Rattle.commands.specs.declared.refusal.Refusal.TheVariants.{ActsFull, UnknownItem, UnknownBin, UnknownLot, NotInBin, SameBin}
+use Rattle.commands.specs.declared.refusal.Refusal.TheVariants.{UnknownItem, UnknownBin, UnknownLot, NotInBin, SameBin}
 use Rattle.commands.specs.declared.command.Movement.{Movement}
 use Rattle.commands.specs.declared.rows.StockRow.{StockRow}
 use Rattle.commands.specs.declared.rows.ReservedRow.{ReservedRow}
@@ -15,8 +14,7 @@ use Rattle.row_rules.specs.declared.slice.Change.{Change}
 
 abbrev pub move_seen : Slice → Movement → Judgement
 move_seen s m =
-    (nat_le ACTS_MAX s.meta.acts, ActsFull)
-    ∷ (not (sees_item s m.lot.gtin), UnknownItem)
+    (not (sees_item s m.lot.gtin), UnknownItem)
     ∷ (not (sees_bin s m.from), UnknownBin)
     ∷ (not (sees_bin s m.to), UnknownBin)
     ∷ (not (sees_lot s m.lot), UnknownLot)

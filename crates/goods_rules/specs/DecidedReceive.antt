@@ -1,7 +1,6 @@
 -- What is decided of a receipt: the conditions judged, and the rows changed.
-use Rattle.std.specs.Prelude.{◌+◌, false, not, ◌&&◌, nat_le, List, [], ◌∷◌, ◌++◌, filter, find, Option, Some, None, pos}
-use Rattle.commands.specs.declared.limits.TheConstants.{ACTS_MAX}
-use Rattle.commands.specs.declared.refusal.Refusal.TheVariants.{ActsFull, UnknownItem, UnknownBin, OtherExpiry, LotRecalled, LotExpired, OverUnits}
+use Rattle.std.specs.Prelude.{◌+◌, false, not, ◌&&◌, List, [], ◌∷◌, ◌++◌, filter, find, Option, Some, None, pos}
+use Rattle.commands.specs.declared.refusal.Refusal.TheVariants.{UnknownItem, UnknownBin, OtherExpiry, LotRecalled, LotExpired, OverUnits}
 use Rattle.values.specs.Values.{same_text}
 use Rattle.commands.specs.declared.key.Key.{Key}
 use Rattle.commands.specs.declared.command.Receipt.{Receipt}
@@ -21,8 +20,7 @@ use Rattle.row_rules.specs.declared.slice.Change.{Change}
 
 abbrev pub receive_seen : Slice → Receipt → Judgement
 receive_seen s r =
-    (nat_le ACTS_MAX s.meta.acts, ActsFull)
-    ∷ (not (sees_item s r.lot.gtin), UnknownItem)
+    (not (sees_item s r.lot.gtin), UnknownItem)
     ∷ (not (sees_bin s r.bin), UnknownBin)
     ∷ (expires_otherwise_than (lot_seen s r.lot) r.expiry, OtherExpiry)
     ∷ (sees_recall s r.lot, LotRecalled)

@@ -1,7 +1,7 @@
 -- What is decided of a new item and of a new bin: the conditions judged, and the rows written.
 use Rattle.std.specs.Prelude.{◌||◌, nat_le, [], ◌∷◌}
-use Rattle.commands.specs.declared.limits.TheConstants.{ITEMS_MAX, BINS_MAX, ACTS_MAX}
-use Rattle.commands.specs.declared.refusal.Refusal.TheVariants.{ActsFull, ItemExists, BinExists}
+use Rattle.commands.specs.declared.limits.TheConstants.{ITEMS_MAX, BINS_MAX}
+use Rattle.commands.specs.declared.refusal.Refusal.TheVariants.{ItemExists, BinExists}
 use Rattle.commands.specs.declared.command.NewItem.{NewItem}
 use Rattle.commands.specs.declared.command.NewBin.{NewBin}
 use Rattle.machine.specs.Verdict.{Judgement}
@@ -13,8 +13,7 @@ use Rattle.row_rules.specs.declared.slice.Change.{Change}
 
 abbrev pub item_seen : Slice → NewItem → Judgement
 item_seen s i =
-    (nat_le ACTS_MAX s.meta.acts, ActsFull)
-    ∷ (sees_item s i.gtin || nat_le ITEMS_MAX s.items, ItemExists) ∷ []
+    (sees_item s i.gtin || nat_le ITEMS_MAX s.items, ItemExists) ∷ []
 
 abbrev pub item_changes : Slice → NewItem → Change
 item_changes s i = record {
@@ -28,8 +27,7 @@ item_changes s i = record {
 
 abbrev pub bin_seen : Slice → NewBin → Judgement
 bin_seen s b =
-    (nat_le ACTS_MAX s.meta.acts, ActsFull)
-    ∷ (sees_bin s b.bin || nat_le BINS_MAX s.bins, BinExists) ∷ []
+    (sees_bin s b.bin || nat_le BINS_MAX s.bins, BinExists) ∷ []
 
 abbrev pub bin_changes : Slice → NewBin → Change
 bin_changes s b = record {

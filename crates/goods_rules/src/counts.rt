@@ -7,7 +7,7 @@ ghost use Rattle.row_rules.specs.Seen.{meta_after, none_put, none_dropped};
 ghost use Rattle.row_rules.specs.SeenLots.{in_bin_seen};
 ghost use Rattle.goods_rules.specs.DecidedCount.{count_seen, count_changes, adjust_seen, adjust_changes, is_over_without as is_over_without_lem, found_less as found_less_lem, stock_corrected, shares_corrected as shares_corrected_lem, correction_card as correction_card_lem, correction_cards as correction_cards_lem, change_reply as change_reply_lem, corrections as corrections_lem, units_adjusted as units_adjusted_lem};
 
-use commands::limits::{ACTS_MAX, CARD_NOTE_MAX, UNITS_MAX};
+use commands::limits::{CARD_NOTE_MAX, UNITS_MAX};
 use commands::{
     Adjustment, Buffer, CardKind, CardRow, Listed, Recount, Refusal, ReservedRow, Short, StockRow,
 };
@@ -29,14 +29,12 @@ use values::{Gtin, LotId, Name, Text};
 pub fn judge_count(slice: &Slice, c: &Recount) -> Option<Refusal>
     ensures { result ≡ first_refusal (count_seen slice.now c.now) }
 {
-    let full = ACTS_MAX <= slice.meta.acts;
     let known_item = sees_item(slice, &c.lot.gtin);
     let known_bin = sees_bin(slice, &c.bin);
     let known_lot = sees_lot(slice, &c.lot);
     let have = units_in_bin(slice, &c.bin, &c.lot);
     let over = is_over_without(slice, &c.lot.gtin, u64::from(c.qty.units()), have);
     first_of(&[
-        (full, Refusal::ActsFull),
         (!known_item, Refusal::UnknownItem),
         (!known_bin, Refusal::UnknownBin),
         (!known_lot, Refusal::UnknownLot),
@@ -48,7 +46,6 @@ pub fn judge_count(slice: &Slice, c: &Recount) -> Option<Refusal>
 pub fn judge_adjust(slice: &Slice, a: &Adjustment) -> Option<Refusal>
     ensures { result ≡ first_refusal (adjust_seen slice.now a.now) }
 {
-    let full = ACTS_MAX <= slice.meta.acts;
     let known_item = sees_item(slice, &a.lot.gtin);
     let known_bin = sees_bin(slice, &a.bin);
     let known_lot = sees_lot(slice, &a.lot);
@@ -57,7 +54,6 @@ pub fn judge_adjust(slice: &Slice, a: &Adjustment) -> Option<Refusal>
     let fewer = taken_off(a.change.change());
     let over = is_over_without(slice, &a.lot.gtin, more, fewer);
     first_of(&[
-        (full, Refusal::ActsFull),
         (!known_item, Refusal::UnknownItem),
         (!known_bin, Refusal::UnknownBin),
         (!known_lot, Refusal::UnknownLot),

@@ -8,7 +8,7 @@ ghost use Rattle.row_rules.specs.Plans.{rows_to_put, rows_to_drop};
 ghost use Rattle.row_rules.specs.Seen.{meta_after, none_put, none_dropped, plain_reply as plain_reply_lem, units_seen, expires_otherwise_than, is_over as is_over_lem};
 ghost use Rattle.goods_rules.specs.DecidedReceive.{receive_seen, receive_changes, receive_shares as receive_shares_lem, receive_card as receive_card_lem, stock_after as stock_after_lem, stock_rows_after as stock_rows_after_lem, lots_put as lots_put_lem, lots_if_new as lots_if_new_lem, new_lot_row as new_lot_row_lem, lot_rows_after as lot_rows_after_lem};
 
-use commands::limits::{ACTS_MAX, UNITS_MAX};
+use commands::limits::UNITS_MAX;
 use commands::{CardKind, CardRow, Key, Listed, LotRow, Receipt, Refusal, ReservedRow, StockRow};
 use label::Day;
 use row_rules::cards::{delivery_note, lot_units};
@@ -30,7 +30,6 @@ use values::{Gtin, LotId};
 pub fn judge_receive(slice: &Slice, r: &Receipt) -> Option<Refusal>
     ensures { result ≡ first_refusal (receive_seen slice.now r.now) }
 {
-    let full = ACTS_MAX <= slice.meta.acts;
     let known_item = sees_item(slice, &r.lot.gtin);
     let known_bin = sees_bin(slice, &r.bin);
     let other_expiry = expires_otherwise(lot_seen(slice, &r.lot), r.expiry);
@@ -38,7 +37,6 @@ pub fn judge_receive(slice: &Slice, r: &Receipt) -> Option<Refusal>
     let expired = is_expired(slice.meta.day, r.expiry);
     let over = is_over(slice, &r.lot.gtin, u64::from(r.qty.units()));
     first_of(&[
-        (full, Refusal::ActsFull),
         (!known_item, Refusal::UnknownItem),
         (!known_bin, Refusal::UnknownBin),
         (other_expiry, Refusal::OtherExpiry),

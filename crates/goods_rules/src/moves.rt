@@ -7,7 +7,6 @@ ghost use Rattle.row_rules.specs.Seen.{meta_after, none_put, none_dropped, plain
 ghost use Rattle.row_rules.specs.SeenLots.{in_bin_seen, stock_put as stock_put_lem, stock_gone as stock_gone_lem};
 ghost use Rattle.goods_rules.specs.DecidedMove.{move_seen, move_changes, move_shares as move_shares_lem, units_left as units_left_lem, units_brought as units_brought_lem, stock_rows_moved as stock_rows_moved_lem};
 
-use commands::limits::ACTS_MAX;
 use commands::{Listed, Movement, Refusal, ReservedRow, StockRow};
 use row_rules::changing::{meta_next, none_dropped, none_put, plain_reply};
 use row_rules::judging::first_of;
@@ -22,7 +21,6 @@ use std::alloc::{AllocError, Global};
 pub fn judge_move(slice: &Slice, m: &Movement) -> Option<Refusal>
     ensures { result ≡ first_refusal (move_seen slice.now m.now) }
 {
-    let full = ACTS_MAX <= slice.meta.acts;
     let known_item = sees_item(slice, &m.lot.gtin);
     let known_from = sees_bin(slice, &m.from);
     let known_to = sees_bin(slice, &m.to);
@@ -30,7 +28,6 @@ pub fn judge_move(slice: &Slice, m: &Movement) -> Option<Refusal>
     let missing = is_missing(slice, m);
     let same_bin = m.from == m.to;
     first_of(&[
-        (full, Refusal::ActsFull),
         (!known_item, Refusal::UnknownItem),
         (!known_from, Refusal::UnknownBin),
         (!known_to, Refusal::UnknownBin),

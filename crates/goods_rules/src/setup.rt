@@ -4,7 +4,7 @@ ghost use Rattle.std.specs.Prelude.{◌≡◌, IfOk};
 ghost use Rattle.machine.specs.Verdict.{first_refusal};
 ghost use Rattle.goods_rules.specs.DecidedSetup.{item_seen, item_changes, bin_seen, bin_changes};
 
-use commands::limits::{ACTS_MAX, BINS_MAX, ITEMS_MAX};
+use commands::limits::{BINS_MAX, ITEMS_MAX};
 use commands::{BinRow, ItemRow, NewBin, NewItem, Refusal};
 use row_rules::changing::{meta_next, none_dropped, none_put, one, plain_reply};
 use row_rules::judging::first_of;
@@ -16,11 +16,9 @@ use std::alloc::{AllocError, Global};
 pub fn judge_item(slice: &Slice, item: &NewItem) -> Option<Refusal>
     ensures { result ≡ first_refusal (item_seen slice.now item.now) }
 {
-    let full = ACTS_MAX <= slice.meta.acts;
     let known = sees_item(slice, &item.gtin);
     let many = ITEMS_MAX <= slice.items;
     first_of(&[
-        (full, Refusal::ActsFull),
         (known || many, Refusal::ItemExists),
     ])
 }
@@ -48,11 +46,9 @@ pub fn change_item(alloc: Global, slice: &Slice, item: &NewItem) -> Result<Chang
 pub fn judge_bin(slice: &Slice, bin: &NewBin) -> Option<Refusal>
     ensures { result ≡ first_refusal (bin_seen slice.now bin.now) }
 {
-    let full = ACTS_MAX <= slice.meta.acts;
     let known = sees_bin(slice, &bin.bin);
     let many = BINS_MAX <= slice.bins;
     first_of(&[
-        (full, Refusal::ActsFull),
         (known || many, Refusal::BinExists),
     ])
 }

@@ -1,11 +1,10 @@
 -- What is decided of the opening of a day by the rows of its slice: the conditions judged, and the rows changed.
-use Rattle.std.specs.Prelude.{ℕ, ℤ, Bool, ◌&&◌, not, if◌then◌else◌, nat_le, int_le, List, [], ◌∷◌, ◌++◌, codes, decimal, map, filter, flat_map}
+use Rattle.std.specs.Prelude.{ℕ, ℤ, Bool, ◌&&◌, not, if◌then◌else◌, int_le, List, [], ◌∷◌, ◌++◌, codes, decimal, map, filter, flat_map}
 use Rattle.std.specs.List.{list_any}
 use Rattle.values.specs.Values.{same_text}
 use Rattle.values.specs.declared.lot.LotId.{LotId}
 use Rattle.commands.specs.Lists.{total}
-use Rattle.commands.specs.declared.limits.TheConstants.{ACTS_MAX}
-use Rattle.commands.specs.declared.refusal.Refusal.TheVariants.{ActsFull, DayNotLater}
+use Rattle.commands.specs.declared.refusal.Refusal.TheVariants.{DayNotLater}
 use Rattle.commands.specs.declared.rows.MetaRow.{MetaRow}
 use Rattle.commands.specs.declared.rows.LotRow.{LotRow}
 use Rattle.commands.specs.declared.rows.StockRow.{StockRow}
@@ -25,8 +24,7 @@ use Rattle.row_rules.specs.declared.slice.Change.{Change}
 
 abbrev pub day_judged : Slice → ℤ → Judgement
 day_judged s day =
-    (nat_le ACTS_MAX s.meta.acts, ActsFull)
-    ∷ (int_le day s.meta.day, DayNotLater) ∷ []
+    (int_le day s.meta.day, DayNotLater) ∷ []
 
 -- What is staged of the lots that are expired on the new day goes to RETURNS
 

@@ -1,9 +1,8 @@
 -- What is decided of a lot that is held, released or recalled: the conditions judged, and the rows changed.
-use Rattle.std.specs.Prelude.{ℕ, ◌+◌, Bool, true, false, not, ◌==◌, nat_le, if◌then◌else◌, List, [], ◌∷◌, ◌++◌, codes, decimal, map, filter, Option, Some, None}
+use Rattle.std.specs.Prelude.{ℕ, ◌+◌, Bool, true, false, not, ◌==◌, if◌then◌else◌, List, [], ◌∷◌, ◌++◌, codes, decimal, map, filter, Option, Some, None}
 use Rattle.values.specs.declared.lot.LotId.{LotId}
 use Rattle.commands.specs.Lists.{total}
-use Rattle.commands.specs.declared.limits.TheConstants.{ACTS_MAX}
-use Rattle.commands.specs.declared.refusal.Refusal.TheVariants.{ActsFull, UnknownItem, UnknownLot, LotRecalled, LotHeld, LotNotHeld, AlreadyRecalled}
+use Rattle.commands.specs.declared.refusal.Refusal.TheVariants.{UnknownItem, UnknownLot, LotRecalled, LotHeld, LotNotHeld, AlreadyRecalled}
 use Rattle.commands.specs.declared.command.BinKind.TheVariants.{Hold as HoldBin}
 use Rattle.commands.specs.declared.rows.BinRow.{BinRow}
 use Rattle.commands.specs.declared.rows.LotRow.{LotRow}
@@ -38,8 +37,7 @@ lot_put l held (Some k) = with_hold l held k ∷ []
 
 abbrev pub release_seen : Slice → LotId → Judgement
 release_seen s l =
-    (nat_le ACTS_MAX s.meta.acts, ActsFull)
-    ∷ (not (sees_item s l.gtin), UnknownItem)
+    (not (sees_item s l.gtin), UnknownItem)
     ∷ (not (sees_lot s l), UnknownLot)
     ∷ (sees_recall s l, LotRecalled)
     ∷ (not (sees_hold s l), LotNotHeld) ∷ []
@@ -106,8 +104,7 @@ returning_change s l lots recalls shares = record {
 
 abbrev pub hold_seen : Slice → LotId → Judgement
 hold_seen s l =
-    (nat_le ACTS_MAX s.meta.acts, ActsFull)
-    ∷ (not (sees_item s l.gtin), UnknownItem)
+    (not (sees_item s l.gtin), UnknownItem)
     ∷ (not (sees_lot s l), UnknownLot)
     ∷ (sees_recall s l, LotRecalled)
     ∷ (sees_hold s l, LotHeld) ∷ []
@@ -123,8 +120,7 @@ hold_changes s l = returning_change s l (lot_put l true (lot_seen s l)) [] (hold
 
 abbrev pub recall_seen : Slice → LotId → Judgement
 recall_seen s l =
-    (nat_le ACTS_MAX s.meta.acts, ActsFull)
-    ∷ (not (sees_item s l.gtin), UnknownItem)
+    (not (sees_item s l.gtin), UnknownItem)
     ∷ (sees_recall s l, AlreadyRecalled) ∷ []
 
 abbrev pub new_recall_row : Slice → LotId → RecallRow

@@ -7,7 +7,6 @@ ghost use Rattle.row_rules.specs.Seen.{meta_after, none_put, none_dropped, plain
 ghost use Rattle.lot_rules.specs.DecidedHold.{release_seen, release_changes, release_shares as release_shares_lem, hold_seen, hold_changes, hold_shares as hold_shares_lem, recall_seen, recall_changes, recall_shares as recall_shares_lem, new_recall_row as new_recall_row_lem, recall_rows_after as recall_rows_after_lem, with_hold as with_hold_lem, lot_rows_with_hold as lot_rows_with_hold_lem, lot_put as lot_put_lem};
 
 use crate::returning::{returning_change, shares_with_returned};
-use commands::limits::ACTS_MAX;
 use commands::{Listed, LotRow, RecallRow, Refusal, ReservedRow};
 use row_rules::changing::{meta_next, none_dropped, none_put, number_seen, one, plain_reply};
 use row_rules::judging::first_of;
@@ -90,13 +89,11 @@ fn lot_put(
 pub fn judge_release(slice: &Slice, lot: &LotId) -> Option<Refusal>
     ensures { result ≡ first_refusal (release_seen slice.now lot.now) }
 {
-    let full = ACTS_MAX <= slice.meta.acts;
     let known_item = sees_item(slice, &lot.gtin);
     let known_lot = sees_lot(slice, lot);
     let recalled = sees_recall(slice, lot);
     let held = sees_hold(slice, lot);
     first_of(&[
-        (full, Refusal::ActsFull),
         (!known_item, Refusal::UnknownItem),
         (!known_lot, Refusal::UnknownLot),
         (recalled, Refusal::LotRecalled),
@@ -168,13 +165,11 @@ fn release_shares(
 pub fn judge_hold(slice: &Slice, lot: &LotId) -> Option<Refusal>
     ensures { result ≡ first_refusal (hold_seen slice.now lot.now) }
 {
-    let full = ACTS_MAX <= slice.meta.acts;
     let known_item = sees_item(slice, &lot.gtin);
     let known_lot = sees_lot(slice, lot);
     let recalled = sees_recall(slice, lot);
     let held = sees_hold(slice, lot);
     first_of(&[
-        (full, Refusal::ActsFull),
         (!known_item, Refusal::UnknownItem),
         (!known_lot, Refusal::UnknownLot),
         (recalled, Refusal::LotRecalled),
@@ -213,11 +208,9 @@ fn hold_shares(alloc: Global, slice: &Slice, lot: &LotId) -> Result<Vec<Reserved
 pub fn judge_recall(slice: &Slice, lot: &LotId) -> Option<Refusal>
     ensures { result ≡ first_refusal (recall_seen slice.now lot.now) }
 {
-    let full = ACTS_MAX <= slice.meta.acts;
     let known_item = sees_item(slice, &lot.gtin);
     let recalled = sees_recall(slice, lot);
     first_of(&[
-        (full, Refusal::ActsFull),
         (!known_item, Refusal::UnknownItem),
         (recalled, Refusal::AlreadyRecalled),
     ])

@@ -9,7 +9,6 @@ ghost use Rattle.row_rules.specs.Seen.{capped, none_put, none_dropped};
 ghost use Rattle.lot_rules.specs.DecidedDay.{day_judged, is_out as is_out_lem, staged_kept_on as staged_kept_on_lem, staged_gone_on as staged_gone_on_lem, units_out as units_out_lem, lot_returned_on as lot_returned_on_lem, stock_returned as stock_returned_lem, stands_in as stands_in_lem, stock_on as stock_on_lem, gtins_seen as gtins_seen_lem, day_put, day_dropped, meta_on as meta_on_lem, day_reply as day_reply_lem, day_changes};
 
 use crate::returning::{bins_with_returns, returned_put};
-use commands::limits::ACTS_MAX;
 use commands::{Buffer, ItemRow, Listed, LotRow, MetaRow, Refusal, Short, StagedRow, StockRow};
 use label::BusinessDay;
 use row_rules::changing::{none_dropped, none_put, number_seen};
@@ -28,9 +27,8 @@ use values::{Gtin, LotId};
 pub fn judge_day(slice: &Slice, day: BusinessDay) -> Option<Refusal>
     ensures { result ≡ first_refusal (day_judged slice.now day) }
 {
-    let full = ACTS_MAX <= slice.meta.acts;
     let not_later = day.day().number() <= slice.meta.day.day().number();
-    first_of(&[(full, Refusal::ActsFull), (not_later, Refusal::DayNotLater)])
+    first_of(&[(not_later, Refusal::DayNotLater)])
 }
 
 // Lots that are expired on the new day

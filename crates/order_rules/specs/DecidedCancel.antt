@@ -1,8 +1,7 @@
 -- What is decided of the cancelling of an order by the rows of its slice: the conditions judged, and the rows changed.
-use Rattle.std.specs.Prelude.{ℕ, not, ◌==◌, nat_le, List, [], ◌∷◌, filter, flat_map, Option, Some, None}
+use Rattle.std.specs.Prelude.{ℕ, not, ◌==◌, List, [], ◌∷◌, filter, flat_map, Option, Some, None}
 use Rattle.values.specs.Values.{same_text}
-use Rattle.commands.specs.declared.limits.TheConstants.{ACTS_MAX}
-use Rattle.commands.specs.declared.refusal.Refusal.TheVariants.{ActsFull, UnknownOrder, OrderClosed, StillStaged}
+use Rattle.commands.specs.declared.refusal.Refusal.TheVariants.{UnknownOrder, OrderClosed, StillStaged}
 use Rattle.commands.specs.declared.rows.OrderState.TheVariants.{Cancelled}
 use Rattle.commands.specs.declared.rows.OrderRow.{OrderRow}
 use Rattle.commands.specs.declared.rows.ReservedRow.{ReservedRow}
@@ -17,8 +16,7 @@ use Rattle.row_rules.specs.declared.slice.Change.{Change}
 
 abbrev pub cancel_seen : Slice → List ℕ → Judgement
 cancel_seen s o =
-    (nat_le ACTS_MAX s.meta.acts, ActsFull)
-    ∷ (not (sees_order s o), UnknownOrder)
+    (not (sees_order s o), UnknownOrder)
     ∷ (not (sees_open s o), OrderClosed)
     ∷ (not (staged_for_seen s o == 0), StillStaged) ∷ []
 

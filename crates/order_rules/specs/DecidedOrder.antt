@@ -1,10 +1,10 @@
 -- What is decided of an order by the rows of its slice: the conditions judged, and the rows changed.
-use Rattle.std.specs.Prelude.{ℕ, ◌+◌, ◌-◌, Bool, not, ◌&&◌, nat_lt, nat_le, if◌then◌else◌, List, [], ◌∷◌, ◌++◌, map, flat_map, find, codes, decimal, Option, Some, None}
+use Rattle.std.specs.Prelude.{ℕ, ◌+◌, ◌-◌, Bool, not, ◌&&◌, nat_lt, if◌then◌else◌, List, [], ◌∷◌, ◌++◌, map, flat_map, find, codes, decimal, Option, Some, None}
 use Rattle.std.specs.List.{list_any}
 use Rattle.values.specs.Values.{same_text}
 use Rattle.commands.specs.Lists.{total}
-use Rattle.commands.specs.declared.limits.TheConstants.{OPEN_MAX, ACTS_MAX}
-use Rattle.commands.specs.declared.refusal.Refusal.TheVariants.{ActsFull, UnknownItem, OrderExists, ItemTwice, OverOrdered}
+use Rattle.commands.specs.declared.limits.TheConstants.{OPEN_MAX}
+use Rattle.commands.specs.declared.refusal.Refusal.TheVariants.{UnknownItem, OrderExists, ItemTwice, OverOrdered}
 use Rattle.commands.specs.declared.command.OrderLine.{OrderLine}
 use Rattle.commands.specs.declared.command.NewOrder.{NewOrder}
 use Rattle.commands.specs.declared.rows.OrderState.TheVariants.{Open}
@@ -47,8 +47,7 @@ orders_too_much s lines = list_any (λ l. nat_lt OPEN_MAX (capped (open_units_se
 
 abbrev pub order_seen : Slice → NewOrder → Judgement
 order_seen s o =
-    (nat_le ACTS_MAX s.meta.acts, ActsFull)
-    ∷ (misses_item s o.lines, UnknownItem)
+    (misses_item s o.lines, UnknownItem)
     ∷ (sees_order s o.order, OrderExists)
     ∷ (names_item_twice o.lines, ItemTwice)
     ∷ (orders_too_much s o.lines, OverOrdered) ∷ []

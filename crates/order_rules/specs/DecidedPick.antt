@@ -1,8 +1,7 @@
 -- What is decided of units picked for an order, and of those put back, by the rows of the slice: the conditions judged, and the rows changed.
-use Rattle.std.specs.Prelude.{ℕ, ◌+◌, ◌-◌, Bool, not, nat_lt, nat_le, List, [], ◌∷◌, find}
+use Rattle.std.specs.Prelude.{ℕ, ◌+◌, ◌-◌, Bool, not, nat_lt, List, [], ◌∷◌, find}
 use Rattle.values.specs.Values.{same_text}
-use Rattle.commands.specs.declared.limits.TheConstants.{ACTS_MAX}
-use Rattle.commands.specs.declared.refusal.Refusal.TheVariants.{ActsFull, UnknownItem, UnknownBin, UnknownLot, UnknownOrder, NoSuchLine, LotRecalled, LotExpired, LotHeld, NotStoreBin, OrderClosed, NotInBin, OverReserved, OverStaged}
+use Rattle.commands.specs.declared.refusal.Refusal.TheVariants.{UnknownItem, UnknownBin, UnknownLot, UnknownOrder, NoSuchLine, LotRecalled, LotExpired, LotHeld, NotStoreBin, OrderClosed, NotInBin, OverReserved, OverStaged}
 use Rattle.commands.specs.declared.command.Picking.{Picking}
 use Rattle.commands.specs.declared.rows.ReservedRow.{ReservedRow}
 use Rattle.machine.specs.Verdict.{Judgement}
@@ -23,8 +22,7 @@ sees_store s b = is_store_found (find (λ r. same_text b r.name) s.rows.bins)
 
 abbrev pub pick_seen : Slice → Picking → Judgement
 pick_seen s p =
-    (nat_le ACTS_MAX s.meta.acts, ActsFull)
-    ∷ (not (sees_item s p.lot.gtin), UnknownItem)
+    (not (sees_item s p.lot.gtin), UnknownItem)
     ∷ (not (sees_bin s p.bin), UnknownBin)
     ∷ (not (sees_lot s p.lot), UnknownLot)
     ∷ (not (sees_order s p.order), UnknownOrder)
@@ -39,8 +37,7 @@ pick_seen s p =
 
 abbrev pub unpick_seen : Slice → Picking → Judgement
 unpick_seen s p =
-    (nat_le ACTS_MAX s.meta.acts, ActsFull)
-    ∷ (not (sees_item s p.lot.gtin), UnknownItem)
+    (not (sees_item s p.lot.gtin), UnknownItem)
     ∷ (not (sees_bin s p.bin), UnknownBin)
     ∷ (not (sees_lot s p.lot), UnknownLot)
     ∷ (not (sees_order s p.order), UnknownOrder)

@@ -1,9 +1,9 @@
 -- What is decided of the shipping of an order by the rows of its slice: the conditions judged, and the rows changed.
-use Rattle.std.specs.Prelude.{ℕ, ◌+◌, ◌-◌, min, Bool, not, ◌==◌, nat_le, if◌then◌else◌, List, [], ◌∷◌, ◌++◌, map, filter, codes, decimal, Option, Some, None, pos, neg_ℤ}
+use Rattle.std.specs.Prelude.{ℕ, ◌+◌, ◌-◌, min, Bool, not, ◌==◌, if◌then◌else◌, List, [], ◌∷◌, ◌++◌, map, filter, codes, decimal, Option, Some, None, pos, neg_ℤ}
 use Rattle.std.specs.List.{list_any}
 use Rattle.values.specs.Values.{same_text}
-use Rattle.commands.specs.declared.limits.TheConstants.{UNITS_MAX, ACTS_MAX}
-use Rattle.commands.specs.declared.refusal.Refusal.TheVariants.{ActsFull, UnknownOrder, OrderClosed, NothingStaged}
+use Rattle.commands.specs.declared.limits.TheConstants.{UNITS_MAX}
+use Rattle.commands.specs.declared.refusal.Refusal.TheVariants.{UnknownOrder, OrderClosed, NothingStaged}
 use Rattle.commands.specs.declared.rows.CardKind.TheVariants.{Shipment}
 use Rattle.commands.specs.declared.rows.OrderState.TheVariants.{Done}
 use Rattle.commands.specs.declared.rows.MetaRow.{MetaRow}
@@ -25,8 +25,7 @@ use Rattle.row_rules.specs.declared.slice.Change.{Change}
 
 abbrev pub ship_seen : Slice → List ℕ → Judgement
 ship_seen s o =
-    (nat_le ACTS_MAX s.meta.acts, ActsFull)
-    ∷ (not (sees_order s o), UnknownOrder)
+    (not (sees_order s o), UnknownOrder)
     ∷ (not (sees_open s o), OrderClosed)
     ∷ (staged_for_seen s o == 0, NothingStaged) ∷ []
 

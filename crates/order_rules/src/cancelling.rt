@@ -6,7 +6,6 @@ ghost use Rattle.machine.specs.Verdict.{first_refusal};
 ghost use Rattle.row_rules.specs.Seen.{meta_after, none_put, none_dropped, plain_reply as plain_reply_lem};
 ghost use Rattle.order_rules.specs.DecidedCancel.{cancel_seen, cancel_changes, cancelled_row as cancelled_row_lem, cancel_put, cancel_dropped};
 
-use commands::limits::ACTS_MAX;
 use commands::{Listed, OrderRow, OrderState, Refusal};
 use row_rules::changing::{meta_next, none_dropped, none_put, plain_reply};
 use row_rules::judging::first_of;
@@ -22,12 +21,10 @@ use values::Name;
 pub fn judge_cancel(slice: &Slice, order: &Name) -> Option<Refusal>
     ensures { result ≡ first_refusal (cancel_seen slice.now order.now) }
 {
-    let full = ACTS_MAX <= slice.meta.acts;
     let known = sees_order(slice, order);
     let open = sees_open(slice, order);
     let staged = staged_for_seen(slice, order);
     first_of(&[
-        (full, Refusal::ActsFull),
         (!known, Refusal::UnknownOrder),
         (!open, Refusal::OrderClosed),
         (staged != 0, Refusal::StillStaged),

@@ -11,7 +11,7 @@ ghost use Rattle.row_rules.specs.Seen.{capped, meta_after, none_put, none_droppe
 ghost use Rattle.order_rules.specs.DecidedOrder.{order_seen, order_changes, misses_item as misses_item_lem, orders_too_much as orders_too_much_lem, open_units_seen as open_units_seen_lem, open_units_of as open_units_of_lem, open_units_of_line as open_units_of_line_lem};
 
 use crate::booking::{Booked, book_order, new_line_rows, new_order_row};
-use commands::limits::{ACTS_MAX, OPEN_MAX};
+use commands::limits::OPEN_MAX;
 use commands::{Buffer, LineRow, Listed, NewOrder, OrderLine, OrderRow, Refusal, Short};
 use row_rules::changing::{meta_next, none_dropped, none_put, number_seen, one};
 use row_rules::demands::{find_line, is_open};
@@ -27,13 +27,11 @@ pub fn judge_order(slice: &Slice, o: &NewOrder) -> Option<Refusal>
     ensures { result ≡ first_refusal (order_seen slice.now o.now) }
 {
     let lines = o.lines.as_slice();
-    let full = ACTS_MAX <= slice.meta.acts;
     let unknown = misses_item(slice, lines);
     let known = sees_order(slice, &o.order);
     let twice = names_item_twice(lines);
     let over = orders_too_much(slice, lines);
     first_of(&[
-        (full, Refusal::ActsFull),
         (unknown, Refusal::UnknownItem),
         (known, Refusal::OrderExists),
         (twice, Refusal::ItemTwice),

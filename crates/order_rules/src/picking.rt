@@ -5,7 +5,6 @@ ghost use Rattle.machine.specs.Verdict.{first_refusal};
 ghost use Rattle.row_rules.specs.Seen.{capped, none_put};
 ghost use Rattle.order_rules.specs.DecidedPick.{pick_seen, unpick_seen, pick_changes, unpick_changes, changes_with, shares_with as shares_with_lem, sees_store as sees_store_lem};
 
-use commands::limits::ACTS_MAX;
 use commands::{Listed, LotRow, Picking, Refusal, ReservedRow, StagedRow, StockRow};
 use label::BusinessDay;
 use row_rules::changing::{meta_next, none_put, plain_reply};
@@ -25,7 +24,6 @@ use values::{Name, Qty};
 pub fn judge_pick(slice: &Slice, p: &Picking) -> Option<Refusal>
     ensures { result ≡ first_refusal (pick_seen slice.now p.now) }
 {
-    let full = ACTS_MAX <= slice.meta.acts;
     let known_item = sees_item(slice, &p.lot.gtin);
     let known_bin = sees_bin(slice, &p.bin);
     let known_lot = sees_lot(slice, &p.lot);
@@ -40,7 +38,6 @@ pub fn judge_pick(slice: &Slice, p: &Picking) -> Option<Refusal>
     let reserved = reserved_seen(slice, &p.order, &p.lot);
     let units = u64::from(p.qty.units());
     first_of(&[
-        (full, Refusal::ActsFull),
         (!known_item, Refusal::UnknownItem),
         (!known_bin, Refusal::UnknownBin),
         (!known_lot, Refusal::UnknownLot),
@@ -60,7 +57,6 @@ pub fn judge_pick(slice: &Slice, p: &Picking) -> Option<Refusal>
 pub fn judge_unpick(slice: &Slice, p: &Picking) -> Option<Refusal>
     ensures { result ≡ first_refusal (unpick_seen slice.now p.now) }
 {
-    let full = ACTS_MAX <= slice.meta.acts;
     let known_item = sees_item(slice, &p.lot.gtin);
     let known_bin = sees_bin(slice, &p.bin);
     let known_lot = sees_lot(slice, &p.lot);
@@ -70,7 +66,6 @@ pub fn judge_unpick(slice: &Slice, p: &Picking) -> Option<Refusal>
     let staged = on_stage_seen(slice, &p.order, &p.lot);
     let units = u64::from(p.qty.units());
     first_of(&[
-        (full, Refusal::ActsFull),
         (!known_item, Refusal::UnknownItem),
         (!known_bin, Refusal::UnknownBin),
         (!known_lot, Refusal::UnknownLot),

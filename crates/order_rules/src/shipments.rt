@@ -7,7 +7,7 @@ ghost use Rattle.machine.specs.Verdict.{first_refusal};
 ghost use Rattle.row_rules.specs.Seen.{none_put};
 ghost use Rattle.order_rules.specs.DecidedShip.{ship_seen, ship_changes, shipment_seen as shipment_seen_lem, meta_shipped as meta_shipped_lem, rows_shipped as rows_shipped_lem, lines_shipped as lines_shipped_lem, line_shipped as line_shipped_lem, lacks_units as lacks_units_lem, order_put as order_put_lem, done_row as done_row_lem, shipment_put as shipment_put_lem, shipline as shipline_lem, ship_card as ship_card_lem, ship_reply as ship_reply_lem};
 
-use commands::limits::{ACTS_MAX, CARD_NOTE_MAX, UNITS_MAX};
+use commands::limits::{CARD_NOTE_MAX, UNITS_MAX};
 use commands::{
     Buffer, CardKind, CardRow, LineRow, Listed, MetaRow, OrderRow, OrderState, Refusal,
     ShiplineRow, ShipmentRow, Short, StagedRow,
@@ -26,12 +26,10 @@ use values::{Name, Text};
 pub fn judge_ship(slice: &Slice, order: &Name) -> Option<Refusal>
     ensures { result ≡ first_refusal (ship_seen slice.now order.now) }
 {
-    let full = ACTS_MAX <= slice.meta.acts;
     let known = sees_order(slice, order);
     let open = sees_open(slice, order);
     let staged = staged_for_seen(slice, order);
     first_of(&[
-        (full, Refusal::ActsFull),
         (!known, Refusal::UnknownOrder),
         (!open, Refusal::OrderClosed),
         (staged == 0, Refusal::NothingStaged),

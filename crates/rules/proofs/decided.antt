@@ -7,3 +7,4 @@ pub mod orders
 pub mod picks
 pub mod lots
 pub mod days
+pub mod EveryCommand

@@ -1,16 +1,17 @@
 -- What has to be shown of a command's conditions and change, and that a decision then is the machine's.
 use Rattle.std.proofs.Common.{◌≡◌, ℕ, ◌+◌, ◌<◌, false, ◌++◌, List, [], ◌∷◌, refl, ap, sym, subst, ◌∙◌, arith}
-use Rattle.std.specs.Prelude.{ℤ, Option, Some, None, Result, Ok, Err, IsTrue, IfOk, codes, decimal, length, nat_le}
+use Rattle.std.specs.Prelude.{ℤ, Option, Some, None, Result, Ok, Err, IsTrue, IfOk, codes, decimal, length, nat_le, if◌then◌else◌}
 use Rattle.std.proofs.lemmas.Bool.Decides.{nat_tests}
 use Rattle.commands.specs.Sound.{is_sound, is_sound_key}
 use Rattle.commands.specs.declared.limits.TheConstants.{ACTS_MAX}
 use Rattle.commands.specs.declared.key.Key.{Key}
 use Rattle.commands.specs.declared.refusal.Refusal.{Refusal}
+use Rattle.commands.specs.declared.refusal.Refusal.TheVariants.{ActsFull}
 use Rattle.commands.specs.declared.command.Command.{Command}
 use Rattle.commands.specs.declared.rows.MetaRow.{MetaRow}
 use Rattle.machine.specs.Acts.{Act, next_number}
 use Rattle.machine.specs.Standing.{today, shipments_so_far}
-use Rattle.machine.specs.Verdict.{Judgement, first_refusal, verdict}
+use Rattle.machine.specs.Verdict.{Judgement, first_refusal, judgement, verdict}
 use Rattle.machine.specs.Once.{IsHistory, is_key_of, bearer}
 use Rattle.machine.specs.Replies.{reply, further_field}
 use Rattle.machine.specs.Tables.{tables_of, meta_row}
@@ -28,9 +29,9 @@ pub record IsChange (first : ℤ) (act : Act) (acts : List Act) (change : Change
   pub once : AreOnce change.put
   pub named : NamesChangedReservations first act acts change
 
--- the conditions judge as the machine, and where it accepts the change is that of the command
+-- the conditions judge as those of the machine, and where it accepts the change is that of the command
 pub record IsRight (first : ℤ) (act : Act) (acts : List Act) (seen : Judgement) (change : Change) : Type 0 where
-  pub judged : first_refusal seen ≡ verdict first acts act.command
+  pub judged : first_refusal seen ≡ first_refusal (judgement first acts act.command)
   pub changed : verdict first acts act.command ≡ None → IsHistory first (act ∷ acts) → IsChange first act acts change
 
 module _ (key : Key) (s : Slice) (result : Result Change RuleFault) where
@@ -46,47 +47,6 @@ module _ (key : Key) (s : Slice) (result : Result Change RuleFault) where
   abbrev pub Reserves : Command → Type 0
   Reserves command = IfOk result (λ change. (first : ℤ) (acts : List Act) → IsHistory first acts → IsTrue (is_key_of key command) → bearer key acts ≡ None
       → IsSlice first (record { key = key; command = command }) acts (tables_of first acts) s → NamesChangedReservations first (record { key = key; command = command }) acts change)
-
-module _ (key : Key) (s : Slice) (command : Command) (sound_key : IsTrue (is_sound_key key)) (sound : IsTrue (is_sound command)) (seen : Judgement) (change : Change) where
-  abbrev act : Act
-  act = record { key = key; command = command }
-
-  next : (first : ℤ) (acts : List Act) → IsHistory first acts → IsTrue (is_key_of key command) → bearer key acts ≡ None → verdict first acts command ≡ None → IsHistory first (act ∷ acts)
-  next first acts history kind fresh ok = (history, record { passes = ok; fresh = fresh; sound = record { kind = kind; key = sound_key; command = sound } })
-
-  module _ (first : ℤ) (acts : List Act) (right : IsRight first act acts seen change) (going_on : verdict first acts command ≡ None → IsHistory first (act ∷ acts)) where
-    by_refusal : (result : Result Change RuleFault) (why : Option Refusal) → first_refusal seen ≡ why → IsMade why change result → IsDecision first act acts result
-    by_refusal result (Some why) e made = subst (IsDecision first act acts) (sym made) (sym right.judged ∙ e)
-    by_refusal (Ok c) None e made =
-        let ok : verdict first acts command ≡ None = sym right.judged ∙ e in
-        let h = right.changed ok (going_on ok) in
-        subst (λ (x : Change). IsDecision first act acts (Ok x)) (sym made) (ok, h.applies, h.text, h.once)
-    by_refusal (Err fault) None e made = subst (λ (x : RuleFault). IsDecision first act acts (Err x)) (sym made) (sym right.judged ∙ e)
-
-    names_by : (c : Change) (why : Option Refusal) → first_refusal seen ≡ why → IsMade why change (Ok c) → NamesChangedReservations first act acts c
-    names_by c (Some why) e made = cc
-    names_by c None e made =
-        let ok : verdict first acts command ≡ None = sym right.judged ∙ e in
-        subst (NamesChangedReservations first act acts) (sym made) (right.changed ok (going_on ok)).named
-
-  module _ (result : Result Change RuleFault) (made : IsMade (first_refusal seen) change result) (right : AreRight key s result command seen change) where
-    pub decided : Decides key s result command
-    decided first acts history kind fresh slice = by_refusal first acts (right first acts history slice) (next first acts history kind fresh) result (first_refusal seen) refl made
-
-  pub reserved_rows : (result : Result Change RuleFault) → IsMade (first_refusal seen) change result → AreRight key s result command seen change → Reserves key s result command
-  reserved_rows (Ok c) made right = λ first acts history kind fresh slice. names_by first acts (right first acts history slice) (next first acts history kind fresh) c (first_refusal seen) refl made
-  reserved_rows (Err fault) made right = tt
-
--- So is it for a command that a match found to be another
-module _ (key : Key) (s : Slice) (command other : Command) (is : command ≡ other) (sound_key : IsTrue (is_sound_key key)) (sound : IsTrue (is_sound command))
-    (seen : Judgement) (change : Change) (result : Result Change RuleFault) (made : IsMade (first_refusal seen) change result) (right : AreRight key s result other seen change) where
-  pub decided_as : Decides key s result command
-  decided_as =
-      subst (λ (x : Command). Decides key s result x) (sym is) (decided key s other sound_key (subst (λ (x : Command). IsTrue (is_sound x)) is sound) seen change result made right)
-
-  pub reserved_as : Reserves key s result command
-  reserved_as =
-      subst (λ (x : Command). Reserves key s result x) (sym is) (reserved_rows key s other sound_key (subst (λ (x : Command). IsTrue (is_sound x)) is sound) seen change result made right)
 
 -- What the slice of any command tells of its act
 
@@ -129,3 +89,47 @@ module _ (first : ℤ) (acts : List Act) (act : Act) (s : Slice) (slice : IsSlic
       where
         one_more : next_number acts ≡ length (act ∷ acts)
         one_more = omega arith
+
+-- Decisions
+
+abbrev with_limit : Slice → Judgement → Judgement
+with_limit s seen = (nat_le ACTS_MAX s.meta.acts, ActsFull) ∷ seen
+
+module _ (key : Key) (s : Slice) (command : Command) (sound_key : IsTrue (is_sound_key key)) (sound : IsTrue (is_sound command)) (seen : Judgement) (change : Change) where
+  abbrev act : Act
+  act = record { key = key; command = command }
+
+  next : (first : ℤ) (acts : List Act) → IsHistory first acts → IsTrue (is_key_of key command) → bearer key acts ≡ None → verdict first acts command ≡ None → IsHistory first (act ∷ acts)
+  next first acts history kind fresh ok = (history, record { passes = ok; fresh = fresh; sound = record { kind = kind; key = sound_key; command = sound } })
+
+  module _ (first : ℤ) (acts : List Act) (right : IsRight first act acts seen change) (whole : first_refusal (with_limit s seen) ≡ verdict first acts command)
+      (going_on : verdict first acts command ≡ None → IsHistory first (act ∷ acts)) where
+    by_refusal : (result : Result Change RuleFault) (why : Option Refusal) → first_refusal (with_limit s seen) ≡ why → IsMade why change result → IsDecision first act acts result
+    by_refusal result (Some why) e made = subst (IsDecision first act acts) (sym made) (sym whole ∙ e)
+    by_refusal (Ok c) None e made =
+        let ok : verdict first acts command ≡ None = sym whole ∙ e in
+        let h = right.changed ok (going_on ok) in
+        subst (λ (x : Change). IsDecision first act acts (Ok x)) (sym made) (ok, h.applies, h.text, h.once)
+    by_refusal (Err fault) None e made = subst (λ (x : RuleFault). IsDecision first act acts (Err x)) (sym made) (sym whole ∙ e)
+
+    names_by : (c : Change) (why : Option Refusal) → first_refusal (with_limit s seen) ≡ why → IsMade why change (Ok c) → NamesChangedReservations first act acts c
+    names_by c (Some why) e made = cc
+    names_by c None e made =
+        let ok : verdict first acts command ≡ None = sym whole ∙ e in
+        subst (NamesChangedReservations first act acts) (sym made) (right.changed ok (going_on ok)).named
+
+  -- the number of acts is judged first, by rows as by acts
+  whole : (first : ℤ) (acts : List Act) → IsRight first act acts seen change → IsSlice first act acts (tables_of first acts) s → first_refusal (with_limit s seen) ≡ verdict first acts command
+  whole first acts right slice = λ i. if nat_le ACTS_MAX (acts_seen first acts act s slice i) then Some ActsFull else right.judged i
+
+  module _ (result : Result Change RuleFault) (made : IsMade (first_refusal (with_limit s seen)) change result) (right : AreRight key s result command seen change) where
+    pub decided : Decides key s result command
+    decided first acts history kind fresh slice =
+        let h = right first acts history slice in
+        by_refusal first acts h (whole first acts h slice) (next first acts history kind fresh) result (first_refusal (with_limit s seen)) refl made
+
+  pub reserved_rows : (result : Result Change RuleFault) → IsMade (first_refusal (with_limit s seen)) change result → AreRight key s result command seen change → Reserves key s result command
+  reserved_rows (Ok c) made right = λ first acts history kind fresh slice.
+      let h = right first acts history slice in
+      names_by first acts h (whole first acts h slice) (next first acts history kind fresh) c (first_refusal (with_limit s seen)) refl made
+  reserved_rows (Err fault) made right = tt

@@ -2,9 +2,9 @@
 use Rattle.std.proofs.Common.{◌≡◌, ℕ, List, [], ◌∷◌, refl, ap, ◌∙◌}
 use Rattle.std.specs.Prelude.{◌||◌, nat_le, ℤ, None, Result, find}
 use Rattle.values.specs.Values.{same_text}
-use Rattle.commands.specs.declared.limits.TheConstants.{ITEMS_MAX, BINS_MAX, ACTS_MAX}
+use Rattle.commands.specs.declared.limits.TheConstants.{ITEMS_MAX, BINS_MAX}
 use Rattle.commands.specs.declared.key.Key.{Key}
-use Rattle.commands.specs.declared.refusal.Refusal.TheVariants.{ActsFull, ItemExists, BinExists}
+use Rattle.commands.specs.declared.refusal.Refusal.TheVariants.{ItemExists, BinExists}
 use Rattle.commands.specs.declared.command.NewItem.{NewItem}
 use Rattle.commands.specs.declared.command.NewBin.{NewBin}
 use Rattle.commands.specs.declared.command.Command.TheVariants.{Item, Bin}
@@ -12,7 +12,7 @@ use Rattle.commands.specs.declared.rows.ItemRow.{ItemRow}
 use Rattle.commands.specs.declared.rows.BinRow.{BinRow}
 use Rattle.machine.specs.Acts.{Act}
 use Rattle.machine.specs.Standing.{items, bins}
-use Rattle.machine.specs.Verdict.{first_refusal, verdict}
+use Rattle.machine.specs.Verdict.{first_refusal, judgement, verdict}
 use Rattle.machine.specs.Planning.{reserved}
 use Rattle.machine.specs.Once.{IsHistory}
 use Rattle.machine.specs.Tables.{tables_of, meta_row}
@@ -26,7 +26,7 @@ use Rattle.machine.proofs.Tests.{same_text_refl}
 use Rattle.machine.proofs.histories.Accepted.{room_for_acts}
 use Rattle.machine.proofs.histories.OtherItems.{other_items_are_left_alone}
 use Rattle.rules.proofs.rows.TableSteps.{same_tables, AreNamed, nothing_named, names_changed, reserved_changed, put_found}
-use Rattle.rules.proofs.decided.Decisions.{AreRight, IsChange, acts_seen, plain_same, meta_same}
+use Rattle.rules.proofs.decided.Decisions.{AreRight, IsChange, plain_same, meta_same}
 use Rattle.rules.proofs.rows.SliceTells.{item_told, bin_told}
 
 module _ (first : ℤ) (acts : List Act) (key : Key) (s : Slice) where
@@ -50,10 +50,9 @@ module _ (first : ℤ) (acts : List Act) (key : Key) (s : Slice) where
         (λ b. refl) (λ l. refl) (λ l. refl) (λ l b. refl) (λ o. refl) (λ o g. refl) (λ o l. refl) (reserved_changed first item_act acts [] [] item_named) (λ n. refl) (λ n l. refl) (λ l n. refl) (λ k. refl)
 
     module _ (slice : IsSlice first item_act acts (tables_of first acts) s) where
-      item_judged : first_refusal (item_seen s i) ≡ verdict first acts (Item i)
+      item_judged : first_refusal (item_seen s i) ≡ first_refusal (judgement first acts (Item i))
       item_judged = λ j. first_refusal (
-          (nat_le ACTS_MAX (acts_seen first acts item_act s slice j), ActsFull)
-          ∷ (item_told first acts item_act s slice i.gtin (same_text_refl i.gtin) j || nat_le ITEMS_MAX (slice.items_counted refl j), ItemExists) ∷ [])
+          (item_told first acts item_act s slice i.gtin (same_text_refl i.gtin) j || nat_le ITEMS_MAX (slice.items_counted refl j), ItemExists) ∷ [])
 
       item_changed : verdict first acts (Item i) ≡ None → IsChange first item_act acts (item_changes s i)
       item_changed ok =
@@ -89,10 +88,9 @@ module _ (first : ℤ) (acts : List Act) (key : Key) (s : Slice) where
           (λ l. refl) (λ l. refl) (λ l b. refl) (λ o. refl) (λ o g. refl) (λ o l. refl) (reserved_changed first bin_act acts [] [] bin_named) (λ n. refl) (λ n l. refl) (λ l n. refl) (λ k. refl)
 
     module _ (slice : IsSlice first bin_act acts (tables_of first acts) s) where
-      bin_judged : first_refusal (bin_seen s b) ≡ verdict first acts (Bin b)
+      bin_judged : first_refusal (bin_seen s b) ≡ first_refusal (judgement first acts (Bin b))
       bin_judged = λ j. first_refusal (
-          (nat_le ACTS_MAX (acts_seen first acts bin_act s slice j), ActsFull)
-          ∷ (bin_told first acts bin_act s slice b.bin (same_text_refl b.bin) j || nat_le BINS_MAX (slice.bins_counted refl j), BinExists) ∷ [])
+          (bin_told first acts bin_act s slice b.bin (same_text_refl b.bin) j || nat_le BINS_MAX (slice.bins_counted refl j), BinExists) ∷ [])
 
       bin_changed : verdict first acts (Bin b) ≡ None → IsHistory first (bin_act ∷ acts) → IsChange first bin_act acts (bin_changes s b)
       bin_changed ok next =

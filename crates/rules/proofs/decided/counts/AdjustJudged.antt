@@ -1,23 +1,21 @@
 -- An adjustment judged by its slice is judged as by the acts.
 use Rattle.std.proofs.Common.{◌≡◌, true, not, List, [], ◌∷◌}
-use Rattle.std.specs.Prelude.{nat_lt, nat_le, ℤ}
-use Rattle.commands.specs.declared.limits.TheConstants.{ACTS_MAX}
+use Rattle.std.specs.Prelude.{nat_lt, ℤ}
 use Rattle.commands.specs.declared.key.Key.{Key}
 use Rattle.commands.specs.declared.command.Adjustment.{Adjustment}
 use Rattle.commands.specs.declared.command.Command.TheVariants.{Adjust}
-use Rattle.commands.specs.declared.refusal.Refusal.TheVariants.{ActsFull, UnknownItem, UnknownBin, UnknownLot, NotInBin, OverUnits}
+use Rattle.commands.specs.declared.refusal.Refusal.TheVariants.{UnknownItem, UnknownBin, UnknownLot, NotInBin, OverUnits}
 use Rattle.machine.specs.Acts.{Act}
 use Rattle.machine.specs.Once.{IsHistory}
 use Rattle.machine.specs.Tables.{tables_of}
 use Rattle.machine.specs.Touched.{is_touched}
 use Rattle.rules.specs.Slices.{IsSlice}
 use Rattle.goods_rules.specs.DecidedCount.{adjust_seen}
-use Rattle.machine.specs.Verdict.{first_refusal, verdict, taken_off}
+use Rattle.machine.specs.Verdict.{first_refusal, judgement, taken_off}
 use Rattle.row_rules.specs.declared.slice.Slice.{Slice}
 use Rattle.machine.proofs.Tests.{same_text_refl}
 use Rattle.rules.proofs.rows.SliceTells.{item_told, bin_told}
 use Rattle.rules.proofs.rows.LotTold.{lot_known_told, in_bin_told}
-use Rattle.rules.proofs.decided.Decisions.{acts_seen}
 use Rattle.rules.proofs.decided.counts.CountJudged.{over_told_change}
 
 module _ (first : ℤ) (acts : List Act) (key : Key) (a : Adjustment) (s : Slice)
@@ -28,11 +26,10 @@ module _ (first : ℤ) (acts : List Act) (key : Key) (a : Adjustment) (s : Slice
   touched : is_touched first act acts a.lot.gtin ≡ true
   touched = same_text_refl a.lot.gtin
 
-  pub adjust_judged : first_refusal (adjust_seen s a) ≡ verdict first acts (Adjust a)
+  pub adjust_judged : first_refusal (adjust_seen s a) ≡ first_refusal (judgement first acts (Adjust a))
   adjust_judged =
       λ i. first_refusal (
-      (nat_le ACTS_MAX (acts_seen first acts act s slice i), ActsFull)
-      ∷ (not (item_told first acts act s slice a.lot.gtin touched i), UnknownItem)
+      (not (item_told first acts act s slice a.lot.gtin touched i), UnknownItem)
       ∷ (not (bin_told first acts act s slice a.bin (same_text_refl a.bin) i), UnknownBin)
       ∷ (not (lot_known_told first acts act s slice a.lot touched i), UnknownLot)
       ∷ (nat_lt (in_bin_told first acts act s slice a.bin a.lot touched i) (taken_off a.change), NotInBin)

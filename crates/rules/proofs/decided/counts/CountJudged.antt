@@ -1,11 +1,11 @@
 -- A count judged by its slice is judged as by the acts; and the limit of an item's units, where some come and some go.
 use Rattle.std.proofs.Common.{◌≡◌, ℕ, suc, ◌+◌, ◌-◌, ◌≤◌, true, false, not, List, [], ◌∷◌, refl, ap, sym, ◌∙◌, arith, lit≤}
-use Rattle.std.specs.Prelude.{nat_lt, nat_le, ℤ, pos, negsuc}
-use Rattle.commands.specs.declared.limits.TheConstants.{UNITS_MAX, ACTS_MAX}
+use Rattle.std.specs.Prelude.{nat_lt, ℤ, pos, negsuc}
+use Rattle.commands.specs.declared.limits.TheConstants.{UNITS_MAX}
 use Rattle.commands.specs.declared.key.Key.{Key}
 use Rattle.commands.specs.declared.command.Recount.{Recount}
 use Rattle.commands.specs.declared.command.Command.TheVariants.{Count}
-use Rattle.commands.specs.declared.refusal.Refusal.TheVariants.{ActsFull, UnknownItem, UnknownBin, UnknownLot, OverUnits}
+use Rattle.commands.specs.declared.refusal.Refusal.TheVariants.{UnknownItem, UnknownBin, UnknownLot, OverUnits}
 use borrow.Author.Tests.{ltb-false, ltb-true, lt-ltb, le-ltb}
 use Rattle.machine.specs.Acts.{Act}
 use Rattle.machine.specs.Planning.{in_bin, units_in_house}
@@ -15,14 +15,13 @@ use Rattle.machine.specs.Touched.{is_touched}
 use Rattle.rules.specs.Slices.{IsSlice}
 use Rattle.row_rules.specs.Seen.{capped, stock_units, staged_units}
 use Rattle.goods_rules.specs.DecidedCount.{is_over_without, count_seen}
-use Rattle.machine.specs.Verdict.{first_refusal, verdict, taken_off, put_on}
+use Rattle.machine.specs.Verdict.{first_refusal, judgement, taken_off, put_on}
 use Rattle.row_rules.specs.declared.slice.Slice.{Slice}
 use Rattle.machine.proofs.Tests.{same_text_refl}
 use Rattle.machine.proofs.histories.UnitsLimit.{units_within_limit}
 use Rattle.rules.proofs.rows.LotUnits.{bin_within_limit}
 use Rattle.rules.proofs.rows.SliceTells.{item_told, bin_told}
 use Rattle.rules.proofs.rows.LotTold.{lot_known_told, in_bin_told}
-use Rattle.rules.proofs.decided.Decisions.{acts_seen}
 use Rattle.rules.proofs.decided.goods.ReceiveJudged.{units_are}
 
 -- the limit is passed or not whether the sums are held or not, if what goes is within the limit
@@ -60,11 +59,10 @@ module _ (first : ℤ) (acts : List Act) (key : Key) (c : Recount) (s : Slice)
   over : is_over_without s c.lot.gtin c.qty (in_bin first acts c.bin c.lot) ≡ nat_lt (UNITS_MAX + in_bin first acts c.bin c.lot) (units_in_house first acts c.lot.gtin + c.qty)
   over = over_told_without first acts act s slice history c.lot.gtin touched c.qty (in_bin first acts c.bin c.lot) (bin_within_limit first acts history c.lot.gtin c.lot touched c.bin)
 
-  pub count_judged : first_refusal (count_seen s c) ≡ verdict first acts (Count c)
+  pub count_judged : first_refusal (count_seen s c) ≡ first_refusal (judgement first acts (Count c))
   count_judged =
       λ i. first_refusal (
-      (nat_le ACTS_MAX (acts_seen first acts act s slice i), ActsFull)
-      ∷ (not (item_told first acts act s slice c.lot.gtin touched i), UnknownItem)
+      (not (item_told first acts act s slice c.lot.gtin touched i), UnknownItem)
       ∷ (not (bin_told first acts act s slice c.bin (same_text_refl c.bin) i), UnknownBin)
       ∷ (not (lot_known_told first acts act s slice c.lot touched i), UnknownLot)
       ∷ ((ap (is_over_without s c.lot.gtin c.qty) (in_bin_told first acts act s slice c.bin c.lot touched) ∙ over) i, OverUnits) ∷ [])

@@ -1,20 +1,18 @@
 -- A move judged by its slice is judged as by the acts.
 use Rattle.std.proofs.Common.{◌≡◌, true, not, List, [], ◌∷◌}
-use Rattle.std.specs.Prelude.{◌||◌, nat_lt, nat_le, ℤ}
+use Rattle.std.specs.Prelude.{◌||◌, nat_lt, ℤ}
 use Rattle.values.specs.Values.{same_text}
-use Rattle.commands.specs.declared.limits.TheConstants.{ACTS_MAX}
 use Rattle.commands.specs.declared.key.Key.{Key}
 use Rattle.commands.specs.declared.command.Movement.{Movement}
 use Rattle.commands.specs.declared.command.Command.TheVariants.{Move}
-use Rattle.commands.specs.declared.refusal.Refusal.TheVariants.{ActsFull, UnknownItem, UnknownBin, UnknownLot, NotInBin, SameBin}
+use Rattle.commands.specs.declared.refusal.Refusal.TheVariants.{UnknownItem, UnknownBin, UnknownLot, NotInBin, SameBin}
 use Rattle.machine.specs.Acts.{Act}
 use Rattle.machine.specs.Tables.{tables_of}
 use Rattle.rules.specs.Slices.{IsSlice}
-use Rattle.machine.specs.Verdict.{first_refusal, verdict}
+use Rattle.machine.specs.Verdict.{first_refusal, judgement}
 use Rattle.goods_rules.specs.DecidedMove.{move_seen}
 use Rattle.row_rules.specs.declared.slice.Slice.{Slice}
 use Rattle.machine.proofs.Tests.{same_text_refl, or_first, or_later}
-use Rattle.rules.proofs.decided.Decisions.{acts_seen}
 use Rattle.rules.proofs.rows.SliceTells.{item_told, bin_told}
 use Rattle.rules.proofs.rows.LotTold.{lot_known_told, in_bin_told}
 
@@ -31,11 +29,10 @@ module _ (first : ℤ) (acts : List Act) (key : Key) (m : Movement) (s : Slice) 
   to_named : same_text m.to m.from || same_text m.to m.to ≡ true
   to_named = or_later (same_text m.to m.from) (same_text m.to m.to) (same_text_refl m.to)
 
-  pub move_judged : first_refusal (move_seen s m) ≡ verdict first acts (Move m)
+  pub move_judged : first_refusal (move_seen s m) ≡ first_refusal (judgement first acts (Move m))
   move_judged =
       λ i. first_refusal (
-      (nat_le ACTS_MAX (acts_seen first acts act s slice i), ActsFull)
-      ∷ (not (item_told first acts act s slice m.lot.gtin touched i), UnknownItem)
+      (not (item_told first acts act s slice m.lot.gtin touched i), UnknownItem)
       ∷ (not (bin_told first acts act s slice m.from from_named i), UnknownBin)
       ∷ (not (bin_told first acts act s slice m.to to_named i), UnknownBin)
       ∷ (not (lot_known_told first acts act s slice m.lot touched i), UnknownLot)

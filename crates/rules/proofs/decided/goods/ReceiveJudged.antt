@@ -1,13 +1,13 @@
 -- A receipt judged by its slice is judged as by the acts.
 use Rattle.std.proofs.Common.{◌≡◌, ℕ, ◌+◌, ◌≤◌, ◌<◌, Bool, true, false, ◌&&◌, not, List, [], ◌∷◌, refl, ap, sym, ◌∙◌, arith}
-use Rattle.std.specs.Prelude.{nat_lt, nat_le, ℤ}
+use Rattle.std.specs.Prelude.{nat_lt, ℤ}
 use Rattle.values.specs.Values.{same_text}
 use Rattle.values.specs.declared.lot.LotId.{LotId}
-use Rattle.commands.specs.declared.limits.TheConstants.{UNITS_MAX, ACTS_MAX}
+use Rattle.commands.specs.declared.limits.TheConstants.{UNITS_MAX}
 use Rattle.commands.specs.declared.key.Key.{Key}
 use Rattle.commands.specs.declared.command.Receipt.{Receipt}
 use Rattle.commands.specs.declared.command.Command.TheVariants.{Receive}
-use Rattle.commands.specs.declared.refusal.Refusal.TheVariants.{ActsFull, UnknownItem, UnknownBin, OtherExpiry, LotRecalled, LotExpired, OverUnits}
+use Rattle.commands.specs.declared.refusal.Refusal.TheVariants.{UnknownItem, UnknownBin, OtherExpiry, LotRecalled, LotExpired, OverUnits}
 use borrow.Author.Tests.{ltb-false, ltb-true, lt-ltb, le-ltb}
 use Rattle.machine.specs.Acts.{Act}
 use Rattle.machine.specs.Postings.{Place, Supplier, InBin, Stage, Shipped, WriteOff, in_house, of_item}
@@ -21,13 +21,13 @@ use Rattle.machine.specs.KeyedRows.{AreRows, LotBin, OrderLot, same_cell, same_s
 use Rattle.rules.specs.Slices.{IsSlice}
 use Rattle.row_rules.specs.Seen.{capped, is_over, stock_units, staged_units}
 use Rattle.goods_rules.specs.DecidedReceive.{receive_seen}
-use Rattle.machine.specs.Verdict.{first_refusal, verdict}
+use Rattle.machine.specs.Verdict.{first_refusal, judgement}
 use Rattle.row_rules.specs.declared.slice.Slice.{Slice}
 use Rattle.machine.proofs.Tests.{same_text_is, same_text_refl, and_not_itself}
 use Rattle.machine.proofs.histories.Cells.{without, holds, holds_split}
 use Rattle.machine.proofs.histories.LegalHistories.{legal_history}
 use Rattle.machine.proofs.histories.PlaceRows.{bin_cells, stage_cells, stock_holds, staged_holds}
-use Rattle.rules.proofs.decided.Decisions.{acts_seen, day_seen}
+use Rattle.rules.proofs.decided.Decisions.{day_seen}
 use Rattle.rules.proofs.rows.SliceTells.{item_told, bin_told, expiry_told, recall_told}
 
 module _ (first : ℤ) (acts : List Act) (act : Act) (s : Slice) (slice : IsSlice first act acts (tables_of first acts) s) (history : IsHistory first acts) (g : List ℕ) (touched : is_touched first act acts g ≡ true) where
@@ -92,11 +92,10 @@ module _ (first : ℤ) (acts : List Act) (key : Key) (r : Receipt) (s : Slice)
   touched : same_text r.lot.gtin r.lot.gtin ≡ true
   touched = same_text_refl r.lot.gtin
 
-  pub receive_judged : first_refusal (receive_seen s r) ≡ verdict first acts (Receive r)
+  pub receive_judged : first_refusal (receive_seen s r) ≡ first_refusal (judgement first acts (Receive r))
   receive_judged =
       λ i. first_refusal (
-      (nat_le ACTS_MAX (acts_seen first acts act s slice i), ActsFull)
-      ∷ (not (item_told first acts act s slice r.lot.gtin touched i), UnknownItem)
+      (not (item_told first acts act s slice r.lot.gtin touched i), UnknownItem)
       ∷ (not (bin_told first acts act s slice r.bin (same_text_refl r.bin) i), UnknownBin)
       ∷ (expiry_told first acts act s slice r.lot r.expiry touched i, OtherExpiry)
       ∷ (recall_told first acts act s slice r.lot touched i, LotRecalled)

@@ -1,11 +1,10 @@
 -- Recalls are decided as the machine decides them.
 use Rattle.std.proofs.Common.{◌≡◌, ℕ, Bool, true, false, ◌&&◌, not, List, [], ◌∷◌, refl, ap, ◌∙◌}
-use Rattle.std.specs.Prelude.{ℤ, Result, Option, Some, find, option_map, is_some, if◌then◌else◌, nat_le}
+use Rattle.std.specs.Prelude.{ℤ, Result, Option, Some, find, option_map, is_some, if◌then◌else◌}
 use Rattle.values.specs.Values.{same_text}
 use Rattle.values.specs.declared.lot.LotId.{LotId}
-use Rattle.commands.specs.declared.limits.TheConstants.{ACTS_MAX}
 use Rattle.commands.specs.declared.key.Key.{Key}
-use Rattle.commands.specs.declared.refusal.Refusal.TheVariants.{ActsFull, UnknownItem, AlreadyRecalled}
+use Rattle.commands.specs.declared.refusal.Refusal.TheVariants.{UnknownItem, AlreadyRecalled}
 use Rattle.commands.specs.declared.command.Command.TheVariants.{Recall}
 use Rattle.commands.specs.declared.rows.LotRow.{LotRow}
 use Rattle.commands.specs.declared.rows.RecallRow.{RecallRow}
@@ -13,7 +12,7 @@ use Rattle.commands.specs.declared.rows.ReservedRow.{ReservedRow}
 use Rattle.machine.specs.Acts.{Act, next_number}
 use Rattle.machine.specs.Postings.{is_lot, of_item}
 use Rattle.machine.specs.Standing.{Recalling, recalling, is_held, is_recalled, is_expired, today}
-use Rattle.machine.specs.Verdict.{first_refusal, verdict}
+use Rattle.machine.specs.Verdict.{first_refusal, judgement}
 use Rattle.machine.specs.Once.{IsHistory}
 use Rattle.machine.specs.Tables.{tables_of, lot_row, recall_row, meta_row, reserved_row}
 use Rattle.machine.specs.KeyedRows.{AreRows}
@@ -33,7 +32,7 @@ use Rattle.rules.proofs.rows.TableSteps.{same_tables, AreNamed, names_changed, r
 use Rattle.rules.proofs.rows.Replanned.{TouchesOnly, replanned, replanned_once}
 use Rattle.machine.proofs.histories.UnshippableLots.{MakesUnshippable, order_row_still, line_row_still, shipline_row_still, card_row_still}
 use Rattle.rules.proofs.rows.ReturnedRows.{returned_once, returned_stock_at, returned_staged_at, demands_after, supplies_after, returned_text}
-use Rattle.rules.proofs.decided.Decisions.{AreRight, IsChange, acts_seen, day_seen, number_same, meta_same}
+use Rattle.rules.proofs.decided.Decisions.{AreRight, IsChange, day_seen, number_same, meta_same}
 
 module _ (first : ℤ) (acts : List Act) (key : Key) (l : LotId) (s : Slice) (slice : IsSlice first (record { key = key; command = Recall l }) acts (tables_of first acts) s) where
   abbrev act : Act
@@ -48,11 +47,10 @@ module _ (first : ℤ) (acts : List Act) (key : Key) (l : LotId) (s : Slice) (sl
   touched : same_text g g ≡ true
   touched = same_text_refl g
 
-  recall_judged : first_refusal (recall_seen s l) ≡ verdict first acts (Recall l)
+  recall_judged : first_refusal (recall_seen s l) ≡ first_refusal (judgement first acts (Recall l))
   recall_judged =
       λ i. first_refusal (
-      (nat_le ACTS_MAX (acts_seen first acts act s slice i), ActsFull)
-      ∷ (not (item_told first acts act s slice g touched i), UnknownItem)
+      (not (item_told first acts act s slice g touched i), UnknownItem)
       ∷ (recall_told first acts act s slice l touched i, AlreadyRecalled) ∷ [])
 
   -- The lot is recalled after it

@@ -1,18 +1,17 @@
 -- Releases are decided as the machine decides them.
 use Rattle.std.proofs.Common.{◌≡◌, ℕ, true, false, ◌&&◌, not, List, [], ◌∷◌, refl, sym, ◌∙◌}
-use Rattle.std.specs.Prelude.{ℤ, Result, Some, find, option_map, if◌then◌else◌, nat_le}
+use Rattle.std.specs.Prelude.{ℤ, Result, Some, find, option_map, if◌then◌else◌}
 use Rattle.values.specs.Values.{same_text}
 use Rattle.values.specs.declared.lot.LotId.{LotId}
-use Rattle.commands.specs.declared.limits.TheConstants.{ACTS_MAX}
 use Rattle.commands.specs.declared.key.Key.{Key}
-use Rattle.commands.specs.declared.refusal.Refusal.TheVariants.{ActsFull, UnknownItem, UnknownLot, LotRecalled, LotNotHeld}
+use Rattle.commands.specs.declared.refusal.Refusal.TheVariants.{UnknownItem, UnknownLot, LotRecalled, LotNotHeld}
 use Rattle.commands.specs.declared.command.Command.TheVariants.{Release}
 use Rattle.commands.specs.declared.rows.LotRow.{LotRow}
 use Rattle.commands.specs.declared.rows.ReservedRow.{ReservedRow}
 use Rattle.machine.specs.Acts.{Act, gathered}
 use Rattle.machine.specs.Postings.{is_lot, of_item}
 use Rattle.machine.specs.Standing.{Holding, hold_in, says_held, is_held}
-use Rattle.machine.specs.Verdict.{first_refusal, verdict}
+use Rattle.machine.specs.Verdict.{first_refusal, judgement}
 use Rattle.machine.specs.Once.{IsHistory}
 use Rattle.machine.specs.Tables.{tables_of, lot_row, meta_row, reserved_row}
 use Rattle.rules.specs.Slices.{IsSlice, applied, tables_but_repeats, changed}
@@ -36,7 +35,7 @@ use Rattle.rules.proofs.rows.DemandsTold.{TellsDemands}
 use Rattle.rules.proofs.rows.SuppliesTold.{TellsSupplies}
 use Rattle.rules.proofs.rows.TableSteps.{same_tables, AreNamed, names_changed, reserved_changed}
 use Rattle.rules.proofs.rows.Replanned.{TouchesOnly, replanned, replanned_once}
-use Rattle.rules.proofs.decided.Decisions.{AreRight, IsChange, acts_seen, day_seen, plain_same, meta_same}
+use Rattle.rules.proofs.decided.Decisions.{AreRight, IsChange, day_seen, plain_same, meta_same}
 
 module _ (first : ℤ) (acts : List Act) (key : Key) (l : LotId) (s : Slice) (slice : IsSlice first (record { key = key; command = Release l }) acts (tables_of first acts) s) where
   abbrev act : Act
@@ -51,11 +50,10 @@ module _ (first : ℤ) (acts : List Act) (key : Key) (l : LotId) (s : Slice) (sl
   touched : same_text g g ≡ true
   touched = same_text_refl g
 
-  release_judged : IsHistory first acts → first_refusal (release_seen s l) ≡ verdict first acts (Release l)
+  release_judged : IsHistory first acts → first_refusal (release_seen s l) ≡ first_refusal (judgement first acts (Release l))
   release_judged history =
       λ i. first_refusal (
-      (nat_le ACTS_MAX (acts_seen first acts act s slice i), ActsFull)
-      ∷ (not (item_told first acts act s slice g touched i), UnknownItem)
+      (not (item_told first acts act s slice g touched i), UnknownItem)
       ∷ (not (lot_known_told first acts act s slice l touched i), UnknownLot)
       ∷ (recall_told first acts act s slice l touched i, LotRecalled)
       ∷ (not (held_told first acts act s slice history l touched i), LotNotHeld) ∷ [])

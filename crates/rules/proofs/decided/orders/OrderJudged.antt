@@ -1,14 +1,14 @@
 -- An order judged by its slice is judged as by the acts.
 use Rattle.std.proofs.Common.{◌≡◌, ℕ, ◌+◌, ◌≤◌, ◌<◌, true, false, not, List, [], ◌∷◌, refl, ap, arith}
-use Rattle.std.specs.Prelude.{◌||◌, nat_lt, nat_le, ℤ}
+use Rattle.std.specs.Prelude.{◌||◌, nat_lt, ℤ}
 use Rattle.std.specs.List.{list_any}
 use Rattle.values.specs.Values.{same_text}
-use Rattle.commands.specs.declared.limits.TheConstants.{OPEN_MAX, ACTS_MAX}
+use Rattle.commands.specs.declared.limits.TheConstants.{OPEN_MAX}
 use Rattle.commands.specs.declared.key.Key.{Key}
 use Rattle.commands.specs.declared.command.OrderLine.{OrderLine}
 use Rattle.commands.specs.declared.command.NewOrder.{NewOrder}
 use Rattle.commands.specs.declared.command.Command.TheVariants.{Order}
-use Rattle.commands.specs.declared.refusal.Refusal.TheVariants.{ActsFull, UnknownItem, OrderExists, ItemTwice, OverOrdered}
+use Rattle.commands.specs.declared.refusal.Refusal.TheVariants.{UnknownItem, OrderExists, ItemTwice, OverOrdered}
 use Rattle.commands.specs.Lists.{total}
 use borrow.Author.Tests.{ltb-false, ltb-true, lt-ltb, le-ltb}
 use Rattle.machine.specs.Acts.{Act}
@@ -19,11 +19,10 @@ use Rattle.machine.specs.Tables.{tables_of}
 use Rattle.machine.specs.Touched.{is_touched}
 use Rattle.rules.specs.Slices.{IsSlice}
 use Rattle.row_rules.specs.Seen.{capped}
-use Rattle.machine.specs.Verdict.{first_refusal, verdict, names_item_twice}
+use Rattle.machine.specs.Verdict.{first_refusal, judgement, names_item_twice}
 use Rattle.order_rules.specs.DecidedOrder.{order_seen, misses_item, orders_too_much, open_units_of}
 use Rattle.row_rules.specs.declared.slice.Slice.{Slice}
 use Rattle.machine.proofs.Tests.{or_later, same_text_refl}
-use Rattle.rules.proofs.decided.Decisions.{acts_seen}
 use Rattle.rules.proofs.rows.SliceTells.{item_told}
 use Rattle.rules.proofs.rows.OrderTold.{order_told}
 use Rattle.rules.proofs.rows.SliceDemands.{slice_tells_demands}
@@ -68,11 +67,10 @@ module _ (first : ℤ) (acts : List Act) (key : Key) (o : NewOrder) (s : Slice)
   too_much_told [] h = refl
   too_much_told (l ∷ ls) h = λ i. more_than (total (open_units_of l.gtin s.rows.lines) s.rows.orders) l.qty (open_units first acts l.gtin) (units_told l.gtin h.0) i || too_much_told ls h.1 i
 
-  pub order_judged : first_refusal (order_seen s o) ≡ verdict first acts (Order o)
+  pub order_judged : first_refusal (order_seen s o) ≡ first_refusal (judgement first acts (Order o))
   order_judged =
       λ i. first_refusal (
-      (nat_le ACTS_MAX (acts_seen first acts act s slice i), ActsFull)
-      ∷ (items_told o.lines (all_among o.lines) i, UnknownItem)
+      (items_told o.lines (all_among o.lines) i, UnknownItem)
       ∷ (order_told first acts act s slice o.order (same_text_refl o.order) i, OrderExists)
       ∷ (names_item_twice o.lines, ItemTwice)
       ∷ (too_much_told o.lines (all_among o.lines) i, OverOrdered) ∷ [])

@@ -1,30 +1,27 @@
 -- The shipping of an order judged by its slice is judged as by the acts.
 use Rattle.std.proofs.Common.{◌≡◌, not, List, [], ◌∷◌}
-use Rattle.std.specs.Prelude.{ℕ, nat_le, ℤ}
-use Rattle.commands.specs.declared.limits.TheConstants.{ACTS_MAX}
+use Rattle.std.specs.Prelude.{ℕ, ℤ}
 use Rattle.commands.specs.declared.key.Key.{Key}
 use Rattle.commands.specs.declared.command.Command.TheVariants.{Ship}
-use Rattle.commands.specs.declared.refusal.Refusal.TheVariants.{ActsFull, UnknownOrder, OrderClosed, NothingStaged}
+use Rattle.commands.specs.declared.refusal.Refusal.TheVariants.{UnknownOrder, OrderClosed, NothingStaged}
 use Rattle.machine.specs.Acts.{Act}
 use Rattle.machine.specs.Once.{IsHistory}
 use Rattle.machine.specs.Tables.{tables_of}
 use Rattle.rules.specs.Slices.{IsSlice}
-use Rattle.machine.specs.Verdict.{first_refusal, verdict}
+use Rattle.machine.specs.Verdict.{first_refusal, judgement}
 use Rattle.order_rules.specs.DecidedShip.{ship_seen}
 use Rattle.row_rules.specs.declared.slice.Slice.{Slice}
 use Rattle.machine.proofs.Tests.{same_text_refl}
 use Rattle.rules.proofs.rows.OrderTold.{order_told, open_told, staged_for_order_told}
-use Rattle.rules.proofs.decided.Decisions.{acts_seen}
 
 module _ (first : ℤ) (acts : List Act) (key : Key) (o : List ℕ) (s : Slice)
     (slice : IsSlice first (record { key = key; command = Ship o }) acts (tables_of first acts) s) (history : IsHistory first acts) where
   abbrev act : Act
   act = record { key = key; command = Ship o }
 
-  pub ship_judged : first_refusal (ship_seen s o) ≡ verdict first acts (Ship o)
+  pub ship_judged : first_refusal (ship_seen s o) ≡ first_refusal (judgement first acts (Ship o))
   ship_judged =
       λ i. first_refusal (
-      (nat_le ACTS_MAX (acts_seen first acts act s slice i), ActsFull)
-      ∷ (not (order_told first acts act s slice o (same_text_refl o) i), UnknownOrder)
+      (not (order_told first acts act s slice o (same_text_refl o) i), UnknownOrder)
       ∷ (not (open_told first acts act s slice o (same_text_refl o) i), OrderClosed)
       ∷ (staged_for_order_told first acts act s slice history o (λ g e. e) i, NothingStaged) ∷ [])

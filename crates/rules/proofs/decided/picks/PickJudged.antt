@@ -1,12 +1,11 @@
 -- A picking judged by its slice is judged as by the acts.
 use Rattle.std.proofs.Common.{◌≡◌, true, not, List, [], ◌∷◌, ap, ◌∙◌}
-use Rattle.std.specs.Prelude.{nat_lt, nat_le, ℤ}
+use Rattle.std.specs.Prelude.{nat_lt, ℤ}
 use Rattle.values.specs.Values.{same_text}
-use Rattle.commands.specs.declared.limits.TheConstants.{ACTS_MAX}
 use Rattle.commands.specs.declared.key.Key.{Key}
 use Rattle.commands.specs.declared.command.Picking.{Picking}
 use Rattle.commands.specs.declared.command.Command.TheVariants.{Pick}
-use Rattle.commands.specs.declared.refusal.Refusal.TheVariants.{ActsFull, UnknownItem, UnknownBin, UnknownLot, UnknownOrder, NoSuchLine, LotRecalled, LotExpired, LotHeld, NotStoreBin, OrderClosed, NotInBin, OverReserved}
+use Rattle.commands.specs.declared.refusal.Refusal.TheVariants.{UnknownItem, UnknownBin, UnknownLot, UnknownOrder, NoSuchLine, LotRecalled, LotExpired, LotHeld, NotStoreBin, OrderClosed, NotInBin, OverReserved}
 use Rattle.machine.specs.Acts.{Act}
 use Rattle.machine.specs.Standing.{lot_known, today}
 use Rattle.machine.specs.Once.{IsHistory}
@@ -14,11 +13,11 @@ use Rattle.machine.specs.Tables.{tables_of}
 use Rattle.rules.specs.Slices.{IsSlice}
 use Rattle.row_rules.specs.Seen.{lot_seen}
 use Rattle.row_rules.specs.Status.{is_past_row}
-use Rattle.machine.specs.Verdict.{first_refusal, verdict, is_past}
+use Rattle.machine.specs.Verdict.{first_refusal, judgement, is_past}
 use Rattle.order_rules.specs.DecidedPick.{pick_seen}
 use Rattle.row_rules.specs.declared.slice.Slice.{Slice}
 use Rattle.machine.proofs.Tests.{same_text_refl}
-use Rattle.rules.proofs.decided.Decisions.{acts_seen, day_seen}
+use Rattle.rules.proofs.decided.Decisions.{day_seen}
 use Rattle.rules.proofs.rows.SliceTells.{item_told, bin_told, recall_told}
 use Rattle.rules.proofs.rows.OrderTold.{order_told, open_told, line_told}
 use Rattle.rules.proofs.rows.LotTold.{lot_known_told, in_bin_told}
@@ -41,11 +40,10 @@ module _ (first : ℤ) (acts : List Act) (key : Key) (p : Picking) (s : Slice) (
   past : is_past_row (lot_seen s p.lot) s.meta.day ≡ is_past (lot_known acts p.lot) (today first acts)
   past = past_told first acts act s slice p.lot s.meta.day touched ∙ ap (is_past (lot_known acts p.lot)) (day_seen first acts act s slice)
 
-  pub pick_judged : first_refusal (pick_seen s p) ≡ verdict first acts (Pick p)
+  pub pick_judged : first_refusal (pick_seen s p) ≡ first_refusal (judgement first acts (Pick p))
   pick_judged =
       λ i. first_refusal (
-      (nat_le ACTS_MAX (acts_seen first acts act s slice i), ActsFull)
-      ∷ (not (item_told first acts act s slice p.lot.gtin touched i), UnknownItem)
+      (not (item_told first acts act s slice p.lot.gtin touched i), UnknownItem)
       ∷ (not (bin_told first acts act s slice p.bin in_bin i), UnknownBin)
       ∷ (not (lot_known_told first acts act s slice p.lot touched i), UnknownLot)
       ∷ (not (order_told first acts act s slice p.order named i), UnknownOrder)

@@ -1,20 +1,18 @@
 -- Units put back judged by their slice are judged as by the acts.
 use Rattle.std.proofs.Common.{◌≡◌, true, not, List, [], ◌∷◌}
-use Rattle.std.specs.Prelude.{nat_lt, nat_le, ℤ}
+use Rattle.std.specs.Prelude.{nat_lt, ℤ}
 use Rattle.values.specs.Values.{same_text}
-use Rattle.commands.specs.declared.limits.TheConstants.{ACTS_MAX}
 use Rattle.commands.specs.declared.key.Key.{Key}
 use Rattle.commands.specs.declared.command.Picking.{Picking}
 use Rattle.commands.specs.declared.command.Command.TheVariants.{Unpick}
-use Rattle.commands.specs.declared.refusal.Refusal.TheVariants.{ActsFull, UnknownItem, UnknownBin, UnknownLot, UnknownOrder, NoSuchLine, OrderClosed, OverStaged}
+use Rattle.commands.specs.declared.refusal.Refusal.TheVariants.{UnknownItem, UnknownBin, UnknownLot, UnknownOrder, NoSuchLine, OrderClosed, OverStaged}
 use Rattle.machine.specs.Acts.{Act}
 use Rattle.machine.specs.Tables.{tables_of}
 use Rattle.rules.specs.Slices.{IsSlice}
-use Rattle.machine.specs.Verdict.{first_refusal, verdict}
+use Rattle.machine.specs.Verdict.{first_refusal, judgement}
 use Rattle.order_rules.specs.DecidedPick.{unpick_seen}
 use Rattle.row_rules.specs.declared.slice.Slice.{Slice}
 use Rattle.machine.proofs.Tests.{same_text_refl}
-use Rattle.rules.proofs.decided.Decisions.{acts_seen}
 use Rattle.rules.proofs.rows.SliceTells.{item_told, bin_told}
 use Rattle.rules.proofs.rows.OrderTold.{order_told, open_told, line_told}
 use Rattle.rules.proofs.rows.LotTold.{lot_known_told}
@@ -33,11 +31,10 @@ module _ (first : ℤ) (acts : List Act) (key : Key) (p : Picking) (s : Slice) (
   in_bin : same_text p.bin p.bin ≡ true
   in_bin = same_text_refl p.bin
 
-  pub unpick_judged : first_refusal (unpick_seen s p) ≡ verdict first acts (Unpick p)
+  pub unpick_judged : first_refusal (unpick_seen s p) ≡ first_refusal (judgement first acts (Unpick p))
   unpick_judged =
       λ i. first_refusal (
-      (nat_le ACTS_MAX (acts_seen first acts act s slice i), ActsFull)
-      ∷ (not (item_told first acts act s slice p.lot.gtin touched i), UnknownItem)
+      (not (item_told first acts act s slice p.lot.gtin touched i), UnknownItem)
       ∷ (not (bin_told first acts act s slice p.bin in_bin i), UnknownBin)
       ∷ (not (lot_known_told first acts act s slice p.lot touched i), UnknownLot)
       ∷ (not (order_told first acts act s slice p.order named i), UnknownOrder)
