@@ -8,7 +8,8 @@ use Rattle.std.proofs.lemmas.Bool.Decides.{nat_tests}
 use lib.Signed.{mag}
 use Rattle.values.specs.Values.{is_gtin, is_lot_text, is_qty, is_counted, is_delta, is_between, QTY_MAX}
 use Rattle.values.specs.declared.lot.LotId.{LotId}
-use Rattle.commands.specs.Spelling.{lines_fields, kind_text, picking_fields}
+use Rattle.commands.specs.Words.{bin_kind_word}
+use Rattle.commands.specs.Spelling.{lines_fields, picking_fields}
 use Rattle.commands.specs.Sound.{is_lot_id, is_order_line, is_picking}
 use Rattle.commands.specs.declared.command.BinKind.{BinKind}
 use Rattle.commands.specs.declared.command.BinKind.TheVariants.{Store, Hold}
@@ -52,11 +53,11 @@ small_change (negsuc n) e = let h = small_size (suc n) e in omega (arith, h)
 pub change_same : (m n : ℤ) → is_delta m ≡ true → is_delta n ≡ true → signed_decimal m ≡ signed_decimal n → m ≡ n
 change_same m n x y e = signed_decimal_injective m n (small_change m x) (small_change n y) e
 
-pub kind_printable : (k : BinKind) → Printable (kind_text k)
+pub kind_printable : (k : BinKind) → Printable (bin_kind_word k)
 kind_printable Store = refl
 kind_printable Hold = refl
 
-pub kind_same : (k l : BinKind) → kind_text k ≡ kind_text l → k ≡ l
+pub kind_same : (k l : BinKind) → bin_kind_word k ≡ bin_kind_word l → k ≡ l
 kind_same Store Store e = refl
 kind_same Store Hold e = let h = ap length e in absurd (omega arith)
 kind_same Hold Store e = let h = ap length e in absurd (omega arith)

@@ -1,4 +1,5 @@
 pub mod Appending
+pub mod Naming
 pub mod Digits
 pub mod Joining
 pub mod Printing
@@ -7,3 +8,4 @@ pub mod Fields
 pub mod OneSpelling
 pub mod Worked
 pub mod AsciiTexts
+pub mod Handing

@@ -8,7 +8,8 @@ use Rattle.values.specs.Values.{is_name, is_title, is_gtin, is_qty, is_counted, 
 use Rattle.label.specs.Days.{is_day, is_business_day, day_text}
 use Rattle.values.specs.declared.lot.LotId.{LotId}
 use Rattle.commands.specs.Limits.{has_order_lines}
-use Rattle.commands.specs.Spelling.{fields, spelling, kind_text, lines_fields, picking_fields}
+use Rattle.commands.specs.Words.{bin_kind_word}
+use Rattle.commands.specs.Spelling.{fields, spelling, lines_fields, picking_fields}
 use Rattle.commands.specs.Sound.{is_sound, is_lot_id, is_order_line, are_lines, is_picking}
 use Rattle.commands.specs.declared.command.BinKind.{BinKind}
 use Rattle.commands.specs.declared.command.OrderLine.{OrderLine}
@@ -148,7 +149,7 @@ item_told : (x y : NewItem) → fields (Item x) ≡ fields (Item y) → Item x �
 item_told x y e = let p : x.gtin ≡ y.gtin = cc in let q : x.name ≡ y.name = cc in ap Item (item_same x y p q)
 
 bin_told : (x y : NewBin) → fields (Bin x) ≡ fields (Bin y) → Bin x ≡ Bin y
-bin_told x y e = let p : x.bin ≡ y.bin = cc in let q : kind_text x.kind ≡ kind_text y.kind = cc in ap Bin (bin_same x y p (kind_same x.kind y.kind q))
+bin_told x y e = let p : x.bin ≡ y.bin = cc in let q : bin_kind_word x.kind ≡ bin_kind_word y.kind = cc in ap Bin (bin_same x y p (kind_same x.kind y.kind q))
 
 receipt_told : (x y : Receipt) → is_sound (Receive x) ≡ true → is_sound (Receive y) ≡ true → fields (Receive x) ≡ fields (Receive y) → Receive x ≡ Receive y
 receipt_told x y sx sy e =

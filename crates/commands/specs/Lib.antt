@@ -1,7 +1,11 @@
 pub mod Limits
 pub mod Lists
 pub mod Refusals
+pub mod Words
 pub mod Spelling
+pub mod Replies
 pub mod Sound
 pub mod Tables
 pub mod Laws
+pub mod Sinks
+pub mod Cards

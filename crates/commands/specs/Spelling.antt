@@ -3,10 +3,9 @@ use Rattle.std.specs.Prelude.{ℕ, List, [], ◌∷◌, ◌++◌, codes, decimal
 use Rattle.std.specs.List.{join_with_byte}
 use Rattle.std.specs.Fmt.{signed_decimal}
 use Rattle.label.specs.Days.{day_text}
+use Rattle.commands.specs.Words.{bin_kind_word}
 use Rattle.commands.specs.declared.key.Key.{Key}
 use Rattle.commands.specs.declared.key.Key.TheVariants.{Plain, Line}
-use Rattle.commands.specs.declared.command.BinKind.{BinKind}
-use Rattle.commands.specs.declared.command.BinKind.TheVariants.{Store, Hold as HoldBin}
 use Rattle.commands.specs.declared.command.OrderLine.{OrderLine}
 use Rattle.commands.specs.declared.command.Picking.{Picking}
 use Rattle.commands.specs.declared.command.Command.{Command}
@@ -16,10 +15,6 @@ use Rattle.commands.specs.declared.command.Command.TheVariants.{Item, Bin, Recei
 abbrev pub key_text : Key → List ℕ
 key_text (Plain name) = codes "K/" ++ name
 key_text (Line delivery line) = codes "D/" ++ delivery ++ codes "/" ++ decimal line
-
-abbrev pub kind_text : BinKind → List ℕ
-kind_text Store = codes "STORE"
-kind_text HoldBin = codes "HOLD"
 
 -- the lines of an order, each as its GTIN and its quantity
 abbrev pub lines_fields : List OrderLine → List (List ℕ)
@@ -32,7 +27,7 @@ picking_fields p = p.order ∷ p.lot.gtin ∷ p.lot.lot ∷ p.bin ∷ decimal p.
 -- the word of a command, and its fields in order
 abbrev pub fields : Command → List (List ℕ)
 fields (Item i) = codes "ITEM" ∷ i.gtin ∷ i.name ∷ []
-fields (Bin b) = codes "BIN" ∷ b.bin ∷ kind_text b.kind ∷ []
+fields (Bin b) = codes "BIN" ∷ b.bin ∷ bin_kind_word b.kind ∷ []
 fields (Receive r) = codes "RECEIVE" ∷ r.lot.gtin ∷ r.lot.lot ∷ day_text r.expiry ∷ r.bin ∷ decimal r.qty ∷ []
 fields (Move m) = codes "MOVE" ∷ m.lot.gtin ∷ m.lot.lot ∷ m.from ∷ m.to ∷ decimal m.qty ∷ []
 fields (Count c) = codes "COUNT" ∷ c.lot.gtin ∷ c.lot.lot ∷ c.bin ∷ decimal c.qty ∷ []

@@ -3,7 +3,7 @@
 ghost use Rattle.std.specs.Prelude.{IsTrue};
 ghost use Rattle.std.specs.List.{list_all};
 ghost use Rattle.std.specs.Str.{IsAscii};
-ghost use Rattle.commands.specs.Laws.{OneSpellingACommand, OneTextAKey};
+ghost use Rattle.commands.specs.Laws.{OneSpellingACommand, OneTextAKey, BinKindsAreNamed, OrderStatesAreNamed, CardKindsAreNamed, LotStatusesAreNamed};
 ghost use Rattle.commands.specs.Spelling.{key_text, spelling};
 ghost use Rattle.commands.specs.Sound.{is_lot_id, is_order_line, is_picking, is_sound, is_sound_key};
 
@@ -18,6 +18,14 @@ pub fn one_spelling_a_command()
 /// Two keys with one text are one key, where every value keeps its rule.
 pub fn one_text_a_key()
     ensures { OneTextAKey }
+{}
+
+/// Each kind and each state has a word of its own, and no other text is the word of any.
+pub fn words_name_one_each()
+    ensures bin_kinds { BinKindsAreNamed }
+    ensures order_states { OrderStatesAreNamed }
+    ensures card_kinds { CardKindsAreNamed }
+    ensures lot_statuses { LotStatusesAreNamed }
 {}
 
 /// Every value of a command keeps its rule, by its type; so its spelling is ASCII.

@@ -8,10 +8,13 @@ pub mod laws;
 pub mod limits;
 mod listed;
 mod refusal;
+mod replies;
 mod rows;
 mod short;
+mod sink;
 mod spelling;
 mod views;
+mod words;
 
 pub use buffer::{Buffer, decimal_text, signed_text};
 pub use command::{
@@ -21,11 +24,13 @@ pub use command::{
 pub use key::Key;
 pub use listed::Listed;
 pub use refusal::Refusal;
+pub use replies::{ReplyField, reply};
 pub use rows::{
     BinRow, CardKind, CardRow, ItemRow, LineRow, LotRow, MetaRow, OrderRow, OrderState, RecallRow,
     RepeatRow, ReservedRow, ShiplineRow, ShipmentRow, StagedRow, StockRow,
 };
 pub use short::Short;
+pub use sink::{Sink, Stop, feed};
 pub use spelling::spell;
 pub use views::{
     BinUnits, CardView, LineView, LotStatus, LotView, NoticeView, OrderView, ReservedLot,

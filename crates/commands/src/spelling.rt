@@ -4,7 +4,8 @@ ghost use Rattle.std.specs.Prelude.{◌≡◌, ◌++◌, ◌∷◌, [], IfOk, On
 ghost use Rattle.std.specs.Fmt.{signed_decimal};
 ghost use Rattle.std.specs.List.{join_with_byte};
 ghost use Rattle.label.specs.Days.{day_text};
-ghost use Rattle.commands.specs.Spelling.{spelling, kind_text, lines_fields, picking_fields, with_line_feeds};
+ghost use Rattle.commands.specs.Words.{bin_kind_word};
+ghost use Rattle.commands.specs.Spelling.{spelling, lines_fields, picking_fields, with_line_feeds};
 
 use crate::buffer::{Buffer, decimal_text, signed_text};
 use crate::{
@@ -66,13 +67,11 @@ fn add_field(text: &mut Vec<u8>, field: &[u8]) -> Result<(), AllocError>
     text.extend_from_slice(field)
 }
 
+// The word of a kind, for as long as the kind is lent, as the other fields are.
 fn kind_word(kind: &BinKind) -> &[u8]
-    ensures { result.now ≡ kind_text kind.now }
+    ensures { result.now ≡ bin_kind_word kind.now }
 {
-    match kind {
-        BinKind::Store => b"STORE",
-        BinKind::Hold => b"HOLD",
-    }
+    kind.word().as_bytes()
 }
 
 fn number_text(n: u32) -> Buffer<20>
