@@ -21,6 +21,7 @@ pub mod Notices
 pub mod Covering
 pub mod KnownSums
 pub mod Conservation
+pub mod LastLines
 pub mod Runs
 pub mod Repeats
 pub mod PlanRows

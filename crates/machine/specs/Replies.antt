@@ -1,7 +1,9 @@
 -- The replies to accepted commands.
-use Rattle.std.specs.Prelude.{ℕ, List, [], ◌∷◌, ◌++◌, codes, decimal, ℤ, pos, ◌-ℤ◌}
-use Rattle.std.specs.Fmt.{signed_decimal}
+use Rattle.std.specs.Prelude.{ℕ, List, ◌∷◌, Option, Some, None, ℤ, pos, ◌-ℤ◌}
 use Rattle.commands.specs.Lists.{total}
+use Rattle.commands.specs.Replies.{field_text, further_text, reply_text}
+use Rattle.commands.specs.declared.replies.ReplyField.{ReplyField}
+use Rattle.commands.specs.declared.replies.ReplyField.TheVariants.{ChangedBy, Returned, ShipmentNumber, UnitsShort}
 use Rattle.commands.specs.declared.command.Command.{Command}
 use Rattle.commands.specs.declared.command.Command.TheVariants.{Count, Adjust, Order, Ship, Hold, Recall, OpenDay}
 use Rattle.machine.specs.Acts.{Act, next_number}
@@ -14,28 +16,31 @@ abbrev pub units_returned : ℤ → Act → List Act → ℕ
 units_returned first act before = total (λ p. p.qty) (postings_of first act before)
 
 abbrev pub short_field : ℕ → List ℕ
-short_field n = codes ",\"short\":" ++ decimal n
+short_field n = field_text (UnitsShort n)
 
 abbrev pub change_field : ℤ → List ℕ
-change_field z = codes ",\"change\":" ++ signed_decimal z
+change_field z = field_text (ChangedBy z)
 
 abbrev pub shipment_field : ℕ → List ℕ
-shipment_field n = codes ",\"shipment\":" ++ decimal n
+shipment_field n = field_text (ShipmentNumber n)
 
 abbrev pub returned_field : ℕ → List ℕ
-returned_field n = codes ",\"returned\":" ++ decimal n
+returned_field n = field_text (Returned n)
 
 -- what the reply says beside the number, after the act
+abbrev pub further : ℤ → Act → List Act → Command → Option ReplyField
+further first act before (Count c) = Some (ChangedBy (pos c.qty -ℤ pos (in_bin first before c.bin c.lot)))
+further first act before (Adjust a) = Some (ChangedBy a.change)
+further first act before (Order o) = Some (UnitsShort (short_of_order first (act ∷ before) o.order))
+further first act before (Ship o) = Some (ShipmentNumber (shipments_so_far first (act ∷ before)))
+further first act before (Hold l) = Some (Returned (units_returned first act before))
+further first act before (Recall l) = Some (Returned (units_returned first act before))
+further first act before (OpenDay day) = Some (Returned (units_returned first act before))
+further first act before _ = None
+
 abbrev pub further_field : ℤ → Act → List Act → Command → List ℕ
-further_field first act before (Count c) = change_field (pos c.qty -ℤ pos (in_bin first before c.bin c.lot))
-further_field first act before (Adjust a) = change_field a.change
-further_field first act before (Order o) = short_field (short_of_order first (act ∷ before) o.order)
-further_field first act before (Ship o) = shipment_field (shipments_so_far first (act ∷ before))
-further_field first act before (Hold l) = returned_field (units_returned first act before)
-further_field first act before (Recall l) = returned_field (units_returned first act before)
-further_field first act before (OpenDay day) = returned_field (units_returned first act before)
-further_field first act before _ = []
+further_field first act before command = further_text (further first act before command)
 
 -- the reply to an act
 abbrev pub reply : ℤ → Act → List Act → List ℕ
-reply first act before = codes "{\"act\":" ++ decimal (next_number before) ++ further_field first act before act.command ++ codes "}"
+reply first act before = reply_text (next_number before) (further first act before act.command)

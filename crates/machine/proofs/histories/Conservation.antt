@@ -20,7 +20,7 @@ use Rattle.machine.proofs.histories.KnownSums.{of_lot, any_inner, all_held}
 
 -- The ways that postings go
 
-abbrev IsWay : Place → Place → Type 0
+abbrev pub IsWay : Place → Place → Type 0
 IsWay Supplier (InBin b) = Unit {0}
 IsWay WriteOff (InBin b) = Unit {0}
 IsWay (InBin b) WriteOff = Unit {0}
@@ -30,7 +30,7 @@ IsWay (Stage o) (InBin b) = Unit {0}
 IsWay (Stage o) (Shipped n u) = Unit {0}
 IsWay _ _ = ⊥
 
-abbrev AllWays : List Posting → Type 0
+abbrev pub AllWays : List Posting → Type 0
 AllWays [] = Unit {0}
 AllWays (p ∷ ps) = IsWay p.from p.to × AllWays ps
 
@@ -60,7 +60,7 @@ module _ (n : ℕ) (ps : List Posting) where
   ways_written l b (pos k) = way_posting n l WriteOff (InBin b) k tt
   ways_written l b (negsuc k) = way_posting n l (InBin b) WriteOff (suc k) tt
 
-ways_posted : (first : ℤ) (act : Act) (before : List Act) (ps : List Posting) (c : Command) → AllWays (posted first act before ps c)
+pub ways_posted : (first : ℤ) (act : Act) (before : List Act) (ps : List Posting) (c : Command) → AllWays (posted first act before ps c)
 ways_posted first act before ps (Receive r) = way_posting (next_number before) r.lot Supplier (InBin r.bin) r.qty tt
 ways_posted first act before ps (Move m) = way_posting (next_number before) m.lot (InBin m.from) (InBin m.to) m.qty tt
 ways_posted first act before ps (Count c) =
