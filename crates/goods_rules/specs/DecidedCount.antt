@@ -1,5 +1,5 @@
 -- What is decided of a count or an adjustment by the rows of its slice: the conditions judged, and the rows changed.
-use Rattle.std.specs.Prelude.{ℕ, ◌+◌, ◌-◌, min, Bool, not, nat_lt, if◌then◌else◌, List, [], ◌∷◌, ◌++◌, codes, decimal, ℤ, pos, ◌-ℤ◌, int_lt}
+use Rattle.std.specs.Prelude.{ℕ, ◌+◌, ◌-◌, min, Bool, not, nat_lt, if◌then◌else◌, List, [], ◌∷◌, ℤ, pos, ◌-ℤ◌, int_lt, Some}
 use Rattle.values.specs.declared.lot.LotId.{LotId}
 use Rattle.commands.specs.declared.limits.TheConstants.{UNITS_MAX}
 use Rattle.commands.specs.declared.refusal.Refusal.TheVariants.{UnknownItem, UnknownBin, UnknownLot, NotInBin, OverUnits}
@@ -11,7 +11,8 @@ use Rattle.commands.specs.declared.rows.CardRow.{CardRow}
 use Rattle.commands.specs.declared.rows.StockRow.{StockRow}
 use Rattle.commands.specs.declared.rows.ReservedRow.{ReservedRow}
 use Rattle.machine.specs.Verdict.{Judgement, taken_off, put_on}
-use Rattle.machine.specs.Replies.{change_field}
+use Rattle.commands.specs.Replies.{reply_text}
+use Rattle.commands.specs.declared.replies.ReplyField.TheVariants.{ChangedBy}
 use Rattle.row_rules.specs.Seen.{capped, sees_item, sees_bin, units_seen, number_seen, meta_after, none_put, none_dropped, lot_units}
 use Rattle.row_rules.specs.SeenLots.{sees_lot, in_bin_seen, stock_put, stock_gone, stock_rows_with}
 use Rattle.row_rules.specs.Plans.{shares_over, rows_to_put, rows_to_drop}
@@ -76,7 +77,7 @@ correction_cards s l b found change =
     else (if int_lt change (pos 0) then correction_card s l b found change WriteOff ∷ [] else [])
 
 abbrev pub change_reply : Slice → ℤ → List ℕ
-change_reply s change = codes "{\"act\":" ++ decimal (number_seen s) ++ change_field change ++ codes "}"
+change_reply s change = reply_text (number_seen s) (Some (ChangedBy change))
 
 abbrev pub corrections : Slice → LotId → List ℕ → ℕ → ℤ → Change
 corrections s l b found change = record {

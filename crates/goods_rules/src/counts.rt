@@ -8,9 +8,7 @@ ghost use Rattle.row_rules.specs.SeenLots.{in_bin_seen};
 ghost use Rattle.goods_rules.specs.DecidedCount.{count_seen, count_changes, adjust_seen, adjust_changes, is_over_without as is_over_without_lem, found_less as found_less_lem, stock_corrected, shares_corrected as shares_corrected_lem, correction_card as correction_card_lem, correction_cards as correction_cards_lem, change_reply as change_reply_lem, corrections as corrections_lem, units_adjusted as units_adjusted_lem};
 
 use commands::limits::{CARD_NOTE_MAX, UNITS_MAX};
-use commands::{
-    Adjustment, Buffer, CardKind, CardRow, Listed, Recount, Refusal, ReservedRow, Short, StockRow,
-};
+use commands::{Adjustment, CardKind, CardRow, Listed, Recount, Refusal, ReplyField, ReservedRow, Short, StockRow, reply};
 use row_rules::cards::lot_units;
 use row_rules::changing::{meta_next, none_dropped, none_put, number_seen};
 use row_rules::judging::first_of;
@@ -277,11 +275,5 @@ fn bin_note(bin: &Name) -> Text<CARD_NOTE_MAX>
 fn change_reply(slice: &Slice, change: i64) -> Short
     ensures { result ≡ change_reply_lem slice.now change }
 {
-    let mut text = Buffer::<96>::new();
-    text.push_all(b"{\"act\":");
-    text.push_decimal(number_seen(slice));
-    text.push_all(b",\"change\":");
-    text.push_signed(change);
-    text.push(b'}');
-    Short::of(&text)
+    reply(number_seen(slice), Some(ReplyField::ChangedBy(change)))
 }

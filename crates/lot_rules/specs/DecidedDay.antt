@@ -1,5 +1,5 @@
 -- What is decided of the opening of a day by the rows of its slice: the conditions judged, and the rows changed.
-use Rattle.std.specs.Prelude.{ℕ, ℤ, Bool, ◌&&◌, not, if◌then◌else◌, int_le, List, [], ◌∷◌, ◌++◌, codes, decimal, map, filter, flat_map}
+use Rattle.std.specs.Prelude.{ℕ, ℤ, Bool, ◌&&◌, not, if◌then◌else◌, int_le, List, [], ◌∷◌, ◌++◌, map, filter, flat_map, Some}
 use Rattle.std.specs.List.{list_any}
 use Rattle.values.specs.Values.{same_text}
 use Rattle.values.specs.declared.lot.LotId.{LotId}
@@ -12,7 +12,8 @@ use Rattle.commands.specs.declared.rows.StagedRow.{StagedRow}
 use Rattle.commands.specs.declared.rows.ReservedRow.{ReservedRow}
 use Rattle.machine.specs.Verdict.{Judgement}
 use Rattle.machine.specs.Postings.{is_lot}
-use Rattle.machine.specs.Replies.{returned_field}
+use Rattle.commands.specs.Replies.{reply_text}
+use Rattle.commands.specs.declared.replies.ReplyField.TheVariants.{Returned}
 use Rattle.row_rules.specs.Seen.{capped, lot_seen, number_seen, none_put, none_dropped}
 use Rattle.row_rules.specs.Status.{is_past_row}
 use Rattle.lot_rules.specs.DecidedHold.{returned_put, bins_with_returns}
@@ -74,7 +75,7 @@ abbrev pub meta_on : Slice → ℤ → MetaRow
 meta_on s day = record { day = day; acts = number_seen s; shipments = s.meta.shipments }
 
 abbrev pub day_reply : Slice → ℤ → List ℕ
-day_reply s day = codes "{\"act\":" ++ decimal (number_seen s) ++ returned_field (units_out s day) ++ codes "}"
+day_reply s day = reply_text (number_seen s) (Some (Returned (units_out s day)))
 
 abbrev pub day_changes : Slice → ℤ → Change
 day_changes s day = record {

@@ -1,5 +1,5 @@
 -- What is decided of a lot that is held, released or recalled: the conditions judged, and the rows changed.
-use Rattle.std.specs.Prelude.{ℕ, ◌+◌, Bool, true, false, not, ◌==◌, if◌then◌else◌, List, [], ◌∷◌, ◌++◌, codes, decimal, map, filter, Option, Some, None}
+use Rattle.std.specs.Prelude.{ℕ, ◌+◌, Bool, true, false, not, ◌==◌, if◌then◌else◌, List, [], ◌∷◌, map, filter, Option, Some, None}
 use Rattle.values.specs.declared.lot.LotId.{LotId}
 use Rattle.commands.specs.Lists.{total}
 use Rattle.commands.specs.declared.refusal.Refusal.TheVariants.{UnknownItem, UnknownLot, LotRecalled, LotHeld, LotNotHeld, AlreadyRecalled}
@@ -13,7 +13,8 @@ use Rattle.commands.specs.declared.rows.ReservedRow.{ReservedRow}
 use Rattle.machine.specs.Verdict.{Judgement}
 use Rattle.machine.specs.Postings.{is_lot}
 use Rattle.machine.specs.Standing.{RETURNS}
-use Rattle.machine.specs.Replies.{returned_field}
+use Rattle.commands.specs.Replies.{reply_text}
+use Rattle.commands.specs.declared.replies.ReplyField.TheVariants.{Returned}
 use Rattle.row_rules.specs.Seen.{capped, sees_item, lot_seen, sees_recall, number_seen, meta_after, plain_reply, none_put, none_dropped}
 use Rattle.row_rules.specs.SeenLots.{sees_lot, sees_hold, in_bin_seen, stock_put, stock_rows_with}
 use Rattle.row_rules.specs.Plans.{shares_over, rows_to_put, rows_to_drop}
@@ -89,7 +90,7 @@ shares_with_returned s l lots recalls =
     shares_over l.gtin s.meta.day s.rows.orders s.rows.lines (staged_kept s l) lots recalls (bins_with_returns s) (stock_with_returned s l)
 
 abbrev pub returned_reply : Slice → LotId → List ℕ
-returned_reply s l = codes "{\"act\":" ++ decimal (number_seen s) ++ returned_field (staged_of_seen s l) ++ codes "}"
+returned_reply s l = reply_text (number_seen s) (Some (Returned (staged_of_seen s l)))
 
 -- a change by which a lot stops being shippable, with these rows of lots and recalls put and these reserved rows after it
 abbrev pub returning_change : Slice → LotId → List LotRow → List RecallRow → List ReservedRow → Change

@@ -1,5 +1,5 @@
 -- What is decided of an order by the rows of its slice: the conditions judged, and the rows changed.
-use Rattle.std.specs.Prelude.{ℕ, ◌+◌, ◌-◌, Bool, not, ◌&&◌, nat_lt, if◌then◌else◌, List, [], ◌∷◌, ◌++◌, map, flat_map, find, codes, decimal, Option, Some, None}
+use Rattle.std.specs.Prelude.{ℕ, ◌+◌, ◌-◌, Bool, not, ◌&&◌, nat_lt, if◌then◌else◌, List, [], ◌∷◌, ◌++◌, map, flat_map, find, Option, Some, None}
 use Rattle.std.specs.List.{list_any}
 use Rattle.values.specs.Values.{same_text}
 use Rattle.commands.specs.Lists.{total}
@@ -15,7 +15,8 @@ use Rattle.plan.specs.declared.Row.{Row}
 use Rattle.plan.specs.Overlap.{reserved_for}
 use Rattle.machine.specs.Planning.{is_open_state}
 use Rattle.machine.specs.Verdict.{Judgement, names_item_twice}
-use Rattle.machine.specs.Replies.{short_field}
+use Rattle.commands.specs.Replies.{reply_text}
+use Rattle.commands.specs.declared.replies.ReplyField.TheVariants.{UnitsShort}
 use Rattle.row_rules.specs.Seen.{capped, sees_item, number_seen, meta_after, none_put, none_dropped}
 use Rattle.row_rules.specs.SeenOrders.{sees_order}
 use Rattle.row_rules.specs.Plans.{demands_seen, supplies_seen, plan_within, named_rows, rows_to_put, rows_to_drop}
@@ -88,7 +89,7 @@ abbrev pub short_seen : Slice → NewOrder → List OrderLine → ℕ
 short_seen s o lines = capped (total (λ l. l.qty - reserved_for (number_seen s) (plan_with_order s o l.gtin)) lines)
 
 abbrev pub order_reply : Slice → NewOrder → List ℕ
-order_reply s o = codes "{\"act\":" ++ decimal (number_seen s) ++ short_field (short_seen s o o.lines) ++ codes "}"
+order_reply s o = reply_text (number_seen s) (Some (UnitsShort (short_seen s o o.lines)))
 
 abbrev pub order_changes : Slice → NewOrder → Change
 order_changes s o = record {

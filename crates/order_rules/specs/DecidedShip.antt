@@ -1,5 +1,5 @@
 -- What is decided of the shipping of an order by the rows of its slice: the conditions judged, and the rows changed.
-use Rattle.std.specs.Prelude.{ℕ, ◌+◌, ◌-◌, min, Bool, not, ◌==◌, if◌then◌else◌, List, [], ◌∷◌, ◌++◌, map, filter, codes, decimal, Option, Some, None, pos, neg_ℤ}
+use Rattle.std.specs.Prelude.{ℕ, ◌+◌, ◌-◌, min, Bool, not, ◌==◌, if◌then◌else◌, List, [], ◌∷◌, map, filter, decimal, Option, Some, None, pos, neg_ℤ}
 use Rattle.std.specs.List.{list_any}
 use Rattle.values.specs.Values.{same_text}
 use Rattle.commands.specs.declared.limits.TheConstants.{UNITS_MAX}
@@ -14,7 +14,8 @@ use Rattle.commands.specs.declared.rows.ShipmentRow.{ShipmentRow}
 use Rattle.commands.specs.declared.rows.ShiplineRow.{ShiplineRow}
 use Rattle.commands.specs.declared.rows.CardRow.{CardRow}
 use Rattle.machine.specs.Verdict.{Judgement}
-use Rattle.machine.specs.Replies.{shipment_field}
+use Rattle.commands.specs.Replies.{reply_text}
+use Rattle.commands.specs.declared.replies.ReplyField.TheVariants.{ShipmentNumber}
 use Rattle.row_rules.specs.Seen.{capped, number_seen, none_put, none_dropped, lot_units}
 use Rattle.row_rules.specs.SeenOrders.{order_row_seen, sees_order, sees_open, staged_for_seen, lines_seen}
 use Rattle.row_rules.specs.Plans.{staged_seen}
@@ -80,7 +81,7 @@ ship_card s r = record {
 }
 
 abbrev pub ship_reply : Slice → List ℕ
-ship_reply s = codes "{\"act\":" ++ decimal (number_seen s) ++ shipment_field (shipment_seen s) ++ codes "}"
+ship_reply s = reply_text (number_seen s) (Some (ShipmentNumber (shipment_seen s)))
 
 abbrev pub ship_changes : Slice → List ℕ → Change
 ship_changes s o = record {

@@ -1,18 +1,19 @@
 //! Orders that come in.
 
-ghost use Rattle.std.specs.Prelude.{◌≡◌, ◌+◌, not, nat_lt, ◌++◌, codes, decimal, IfOk};
+ghost use Rattle.std.specs.Prelude.{◌≡◌, ◌+◌, not, nat_lt, Some, IfOk};
 ghost use Rattle.std.specs.List.{list_any};
 ghost use Rattle.values.specs.Values.{same_text};
 ghost use Rattle.commands.specs.declared.limits.TheConstants.{OPEN_MAX};
 ghost use Rattle.commands.specs.Lists.{total};
-ghost use Rattle.machine.specs.Replies.{short_field};
+ghost use Rattle.commands.specs.Replies.{reply_text};
+ghost use Rattle.commands.specs.declared.replies.ReplyField.TheVariants.{UnitsShort};
 ghost use Rattle.machine.specs.Verdict.{first_refusal, names_item_twice as names_item_twice_lem};
 ghost use Rattle.row_rules.specs.Seen.{capped, meta_after, none_put, none_dropped, number_seen as number_seen_lem};
 ghost use Rattle.order_rules.specs.DecidedOrder.{order_seen, order_changes, misses_item as misses_item_lem, orders_too_much as orders_too_much_lem, open_units_seen as open_units_seen_lem, open_units_of as open_units_of_lem, open_units_of_line as open_units_of_line_lem};
 
 use crate::booking::{Booked, book_order, new_line_rows, new_order_row};
 use commands::limits::OPEN_MAX;
-use commands::{Buffer, LineRow, Listed, NewOrder, OrderLine, OrderRow, Refusal, Short};
+use commands::{LineRow, Listed, NewOrder, OrderLine, OrderRow, Refusal, ReplyField, Short, reply};
 use row_rules::changing::{meta_next, none_dropped, none_put, number_seen, one};
 use row_rules::demands::{find_line, is_open};
 use row_rules::judging::first_of;
@@ -148,7 +149,7 @@ fn ordered(
     lines: Vec<LineRow>,
     booked: Booked,
 ) -> Change
-    ensures { result ≡ record { meta = meta_after slice.now; put = record none_put { orders = orders; lines = lines.items; reserved = booked.put }; dropped = record none_dropped { reserved = booked.dropped }; text = codes "{\"act\":" ++ decimal (number_seen_lem slice.now) ++ short_field booked.short ++ codes "}" } }
+    ensures { result ≡ record { meta = meta_after slice.now; put = record none_put { orders = orders; lines = lines.items; reserved = booked.put }; dropped = record none_dropped { reserved = booked.dropped }; text = reply_text (number_seen_lem slice.now) (Some (UnitsShort booked.short)) } }
 {
     let mut put = none_put(alloc);
     put.orders = orders;
@@ -166,13 +167,7 @@ fn ordered(
 
 // The reply with the units that are short.
 fn short_reply(slice: &Slice, short: u64) -> Short
-    ensures { result ≡ codes "{\"act\":" ++ decimal (number_seen_lem slice.now) ++ short_field short ++ codes "}" }
+    ensures { result ≡ reply_text (number_seen_lem slice.now) (Some (UnitsShort short)) }
 {
-    let mut text = Buffer::<96>::new();
-    text.push_all(b"{\"act\":");
-    text.push_decimal(number_seen(slice));
-    text.push_all(b",\"short\":");
-    text.push_decimal(short);
-    text.push(b'}');
-    Short::of(&text)
+    reply(number_seen(slice), Some(ReplyField::UnitsShort(short)))
 }

@@ -1,9 +1,10 @@
 -- What a decision reads of the rows of its slice, as the code reads it: look-ups and sums over lists.
-use Rattle.std.specs.Prelude.{ℕ, ◌+◌, min, Bool, false, not, ◌&&◌, nat_lt, if◌then◌else◌, List, [], ◌++◌, codes, decimal, find, Option, Some, None, is_some, ℤ, int_le}
+use Rattle.std.specs.Prelude.{ℕ, ◌+◌, min, Bool, false, not, ◌&&◌, nat_lt, if◌then◌else◌, List, [], find, Option, Some, None, is_some, ℤ, int_le}
 use Rattle.std.specs.List.{list_any}
 use Rattle.values.specs.Values.{same_text}
 use Rattle.values.specs.declared.lot.LotId.{LotId}
 use Rattle.commands.specs.Lists.{total}
+use Rattle.commands.specs.Replies.{reply_text}
 use Rattle.commands.specs.declared.limits.TheConstants.{UNITS_MAX}
 use Rattle.commands.specs.declared.rows.MetaRow.{MetaRow}
 use Rattle.commands.specs.declared.rows.LotRow.{LotRow}
@@ -70,7 +71,7 @@ meta_after s = record { day = s.meta.day; acts = number_seen s; shipments = s.me
 
 -- the reply with nothing beside the number
 abbrev pub plain_reply : Slice → List ℕ
-plain_reply s = codes "{\"act\":" ++ decimal (number_seen s) ++ codes "}"
+plain_reply s = reply_text (number_seen s) None
 
 -- Changes
 

@@ -4,7 +4,7 @@ ghost use Rattle.std.specs.Prelude.{◌≡◌, [], ◌∷◌, IfOk};
 ghost use Rattle.row_rules.specs.Seen.{none_put as none_put_lem, none_dropped as none_dropped_lem, meta_after, number_seen as number_seen_lem, plain_reply as plain_reply_lem};
 
 use crate::{Dropped, Put, Slice};
-use commands::{Buffer, Listed, MetaRow, Short};
+use commands::{Listed, MetaRow, Short, reply};
 use std::alloc::{AllocError, Global};
 
 /// No rows put.
@@ -69,9 +69,5 @@ pub fn meta_next(slice: &Slice) -> MetaRow
 pub fn plain_reply(slice: &Slice) -> Short
     ensures { result ≡ plain_reply_lem slice.now }
 {
-    let mut text = Buffer::<96>::new();
-    text.push_all(b"{\"act\":");
-    text.push_decimal(number_seen(slice));
-    text.push(b'}');
-    Short::of(&text)
+    reply(number_seen(slice), None)
 }
