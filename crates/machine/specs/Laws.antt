@@ -4,6 +4,7 @@ use Rattle.std.specs.List.{list_any, list_all, IsDistinct}
 use Rattle.values.specs.Values.{same_text}
 use Rattle.values.specs.declared.lot.LotId.{LotId}
 use Rattle.commands.specs.Lists.{total}
+use Rattle.commands.specs.Cards.{rest_after}
 use Rattle.commands.specs.declared.key.Key.{Key}
 use Rattle.commands.specs.declared.command.Command.TheVariants.{Pick, Ship, Recall}
 use Rattle.commands.specs.declared.command.Picking.{Picking}
@@ -18,8 +19,8 @@ use Rattle.machine.specs.Ledger.{postings, postings_of}
 use Rattle.machine.specs.Planning.{Booking, bookings, in_bin, in_store, staged_of_lot, is_open, reserved}
 use Rattle.machine.specs.Once.{IsHistory, Outcome, outcome, acts_after, acts_after_file, same_key, same_command, Accepted, Repeated}
 use Rattle.machine.specs.Machine.{Answer, Told, Run, AllSound, acts_after_all, outcomes}
-use Rattle.machine.specs.Cards.{cards}
-use Rattle.machine.specs.Views.{notice_view}
+use Rattle.machine.specs.Cards.{cards, lot_units_in_house}
+use Rattle.machine.specs.Views.{card_of_lot, notice_view}
 use Rattle.machine.specs.Touched.{is_touched, IsLeftAlone}
 
 -- Requests that come again
@@ -90,6 +91,12 @@ pub record IsTraced (first : ℤ) (acts : List Act) (item : ItemRow) (l : LotId)
 
 abbrev pub Traced : Type 0
 Traced = (first : ℤ) (acts : List Act) (item : ItemRow) (l : LotId) → IsHistory first acts → IsTraced first acts item l
+
+-- Stock cards
+
+-- the last line of a lot's card tells the units of the lot in the house, which are 0 where there is no line
+abbrev pub LastLinesTellUnits : Type 0
+LastLinesTellUnits = (first : ℤ) (acts : List Act) (l : LotId) → rest_after 0 (card_of_lot first acts l) ≡ lot_units_in_house first acts l
 
 -- Places, orders and runs
 

@@ -1,6 +1,6 @@
 //! Laws over all histories and all runs: functions without effect, whose contracts are the laws.
 
-ghost use Rattle.machine.specs.Laws.{NeverOverdrawn, Conserved, Covered, PickDisturbsNone, RecallDisturbsNone, RecallDisturbsLaterAlone, StagedLotsAreShippable, ShippedLotsAreShippable, ClosedOrdersAreEmpty, OtherItemsAreLeftAlone, Traced, RunsGoOn, FilesGoOn, RunsWithMemory, RepeatsActOnce, RepeatsGetTheFirstReply};
+ghost use Rattle.machine.specs.Laws.{NeverOverdrawn, Conserved, Covered, PickDisturbsNone, RecallDisturbsNone, RecallDisturbsLaterAlone, StagedLotsAreShippable, ShippedLotsAreShippable, ClosedOrdersAreEmpty, OtherItemsAreLeftAlone, Traced, LastLinesTellUnits, RunsGoOn, FilesGoOn, RunsWithMemory, RepeatsActOnce, RepeatsGetTheFirstReply};
 
 /// No more is taken out of places in the warehouse or out of shipments than was brought there.
 pub fn never_overdrawn()
@@ -49,6 +49,11 @@ pub fn other_items_are_left_alone()
 /// A recall notice names exactly the bins and the shipments with units of the lot, each once, with those units.
 pub fn traced()
     ensures { Traced }
+{}
+
+/// The last line of a lot's stock card tells how many units of the lot are in the house.
+pub fn last_lines_tell_units()
+    ensures { LastLinesTellUnits }
 {}
 
 /// A run over requests that keep the values' rules leads from a history to a history, and so do the rows of a goods-in

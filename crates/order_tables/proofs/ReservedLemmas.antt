@@ -27,11 +27,10 @@ use Rattle.sqlite_rules.proofs.ListLemmas.{all_has}
 use Rattle.values.specs.Values.{is_gtin, is_lot_text, is_name, is_title}
 use Rattle.label.specs.Days.{is_day, is_business_day}
 use Rattle.values.specs.declared.lot.LotId.{LotId}
-use Rattle.commands.specs.Spelling.{kind_text}
 use Rattle.commands.specs.declared.limits.TheConstants.{UNITS_MAX, ACTS_MAX, SHORT_MAX, KEY_TEXT_MAX, CARD_NOTE_MAX, SCHEMA_VERSION}
 use Rattle.commands.specs.declared.rows.ReservedRow.{ReservedRow}
 use Rattle.order_tables.specs.declared.texts.TheConstants.{DROP_RESERVED, CHANGE_RESERVED, ADD_RESERVED, RESERVED_OF_ITEM}
-use Rattle.table_words.specs.Cells.{typed, is_word, is_the_text, fits_in, is_any, is_number, is_the_number, number_in, is_signed, is_any_number, signed_in, flag_number, flag_in, bin_kind_in, order_state_text, order_state_in, card_kind_text, card_kind_in}
+use Rattle.table_words.specs.Cells.{typed, is_word, is_the_text, fits_in, is_any, is_number, is_the_number, number_in, is_signed, is_any_number, signed_in, flag_number, flag_in, bin_kind_in, order_state_in, card_kind_in}
 use Rattle.table_words.specs.Schema.{the_schema, reserved_tree, reserved_table}
 use Rattle.table_words.specs.Typed.{same_lot_id, is_reserved, reserved_in, has_reserved, reserved_read, ReservedKey, same_reserved, reserved_key, reserved_cells, with_reserved, without_reserved, tables_in, Tables, AreTyped, reserved_of_item_rows}
 use Rattle.table_words.specs.Steps.{IsReady, Goes}

@@ -1,11 +1,11 @@
 -- JSON, and the fields of an object, each read by the rule of its value: steps 8 and 9 of `Requests`.
 use Rattle.std.specs.Prelude.{ℕ, ℤ, List, codes, Bool, false, ◌==◌, if◌then◌else◌, Option, Some, None, option_map, option_and_then}
-use Rattle.std.specs.Str.{is_utf8, bytes_eq}
+use Rattle.std.specs.Str.{is_utf8}
 use Rattle.values.specs.Values.{checked, is_name, is_title, is_gtin, is_lot_text, is_qty, is_counted, is_delta, is_line_no}
 use Rattle.label.specs.Days.{is_business_day, parsed_day}
 use Rattle.values.specs.declared.lot.LotId.{LotId}
+use Rattle.commands.specs.Words.{bin_kind_of}
 use Rattle.commands.specs.declared.command.BinKind.{BinKind}
-use Rattle.commands.specs.declared.command.BinKind.TheVariants.{Store, Hold}
 use Rattle.serde_json.specs.Data.{Data}
 use Rattle.serde_json.specs.Events.{members_len}
 use Rattle.serde_json.specs.Find.{get, as_object, as_str, as_u64, as_i64, as_number}
@@ -62,12 +62,9 @@ line_at name d = option_and_then (checked is_line_no) (whole_at name d)
 abbrev pub business_day_at : List ℕ → Data → Option ℤ
 business_day_at name d = option_and_then (checked is_business_day) (option_and_then parsed_day (text_at name d))
 
--- STORE or HOLD
-abbrev pub kind_of : List ℕ → Option BinKind
-kind_of s = if bytes_eq s (codes "STORE") then Some Store else (if bytes_eq s (codes "HOLD") then Some Hold else None)
-
+-- the kind of bin whose word stands under a name
 abbrev pub kind_at : List ℕ → Data → Option BinKind
-kind_at name d = option_and_then kind_of (text_at name d)
+kind_at name d = option_and_then bin_kind_of (text_at name d)
 
 -- the lot that `gtin` and `lot` name
 abbrev pub lot_id_at : Data → Option LotId

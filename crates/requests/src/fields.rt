@@ -2,7 +2,7 @@ ghost use Rattle.std.specs.Prelude.{◌≡◌, Some, None, IfOk, IfErr, ◌≢�
 ghost use Rattle.serde_json.specs.View.{view, items_view};
 ghost use Rattle.serde_json.specs.Find.{get, as_array};
 ghost use Rattle.values.specs.Values.{checked, is_gtin, is_lot_text};
-ghost use Rattle.requests.specs.Fields.{json, is_object_of as is_object_of_lem, text_at as text_at_lem, whole_at as whole_at_lem, signed_at as signed_at_lem, name_at as name_at_lem, title_at as title_at_lem, gtin_at as gtin_at_lem, lot_at as lot_at_lem, qty_at as qty_at_lem, counted_at as counted_at_lem, delta_at as delta_at_lem, line_at as line_at_lem, business_day_at as business_day_at_lem, kind_of as kind_of_lem, kind_at as kind_at_lem, lot_id_at as lot_id_at_lem};
+ghost use Rattle.requests.specs.Fields.{json, is_object_of as is_object_of_lem, text_at as text_at_lem, whole_at as whole_at_lem, signed_at as signed_at_lem, name_at as name_at_lem, title_at as title_at_lem, gtin_at as gtin_at_lem, lot_at as lot_at_lem, qty_at as qty_at_lem, counted_at as counted_at_lem, delta_at as delta_at_lem, line_at as line_at_lem, business_day_at as business_day_at_lem, kind_at as kind_at_lem, lot_id_at as lot_id_at_lem};
 
 use crate::WireFault;
 use commands::BinKind;
@@ -150,21 +150,9 @@ pub fn business_day_at(value: &Value, name: &str) -> Option<BusinessDay>
     BusinessDay::new(Day::parse(text_at(value, name)?.as_bytes())?)
 }
 
-fn kind_of(text: &[u8]) -> Option<BinKind>
-    ensures { result ≡ kind_of_lem text.now }
-{
-    if text == b"STORE".as_slice() {
-        return Some(BinKind::Store);
-    }
-    if text == b"HOLD".as_slice() {
-        return Some(BinKind::Hold);
-    }
-    None
-}
-
 /// The kind of bin under a name: `STORE` or `HOLD`.
 pub fn kind_at(value: &Value, name: &str) -> Option<BinKind>
     ensures { result ≡ kind_at_lem name.now (view value.now) }
 {
-    kind_of(text_at(value, name)?.as_bytes())
+    BinKind::from_word(text_at(value, name)?.as_bytes())
 }

@@ -11,7 +11,7 @@ use Rattle.sqlite_value.proofs.OrderLemmas.{value_cmp-Text, value_cmp-Int, value
 use Rattle.std.proofs.lemmas.Slice.Eq.{bytes_eq-Decides}
 use Rattle.std.proofs.lemmas.Bool.Decides.{nat_tests, Decides-eqb, Decides-int_eq}
 use Rattle.std.proofs.lemmas.Int.{ints}
-use Rattle.std.specs.Prelude.{◌↔◌, nat_eq, if◌then◌else◌, nat_le, ◌≤◌}
+use Rattle.std.specs.Prelude.{◌↔◌, nat_eq, nat_le, ◌≤◌, unwrap_or}
 use Rattle.sqlite_trees.specs.View.{is_int}
 use Rattle.table_words.proofs.KeyLemmas.{IsSame, ties, same_bytes, itself_bytes, itself_both}
 use Rattle.sqlite_keyed.proofs.ListLemmas.{map-map, all-append, all_map, all_weaker}
@@ -21,9 +21,9 @@ use Rattle.sqlite_sql.specs.declared.ops.BinaryOp.TheVariants.{Compare}
 use Rattle.sqlite_sql.specs.declared.ops.CompareOp.TheVariants.{Eq}
 use Rattle.sqlite_sql.specs.Ops.{binary, is_true, from_truth}
 use Rattle.table_words.specs.Typed.{same_lot_id}
-use Rattle.table_words.specs.Cells.{typed, is_word, is_the_text, is_number, is_the_number, number_in, is_signed, signed_in, flag_number, flag_in, is_bin_kind, bin_kind_in, order_state_text, is_order_state, is_open_state, order_state_in, card_kind_text, is_card_kind, card_kind_in}
+use Rattle.table_words.specs.Cells.{typed, is_word, is_the_text, is_number, is_the_number, number_in, is_signed, signed_in, flag_number, flag_in, is_bin_kind, bin_kind_in, is_order_state, is_open_state, order_state_in, is_card_kind, card_kind_in}
 use Rattle.values.specs.declared.lot.LotId.{LotId}
-use Rattle.commands.specs.Spelling.{kind_text}
+use Rattle.commands.specs.Words.{bin_kind_word, order_state_of, order_state_word, card_kind_word}
 use Rattle.commands.specs.declared.command.BinKind.{BinKind}
 use Rattle.commands.specs.declared.command.BinKind.TheVariants.{Store, Hold}
 use Rattle.commands.specs.declared.rows.OrderState.{OrderState}
@@ -178,41 +178,44 @@ pub flag_back : (b : Bool) → flag_in (Int (pos (flag_number b))) ≡ b
 flag_back true = refl
 flag_back false = refl
 
-pub bin_kind_sound : (k : BinKind) → is_bin_kind (kind_text k) ≡ true
+pub bin_kind_sound : (k : BinKind) → is_bin_kind (bin_kind_word k) ≡ true
 bin_kind_sound Store = refl
 bin_kind_sound Hold = refl
 
-pub bin_kind_back : (k : BinKind) → bin_kind_in (Text (kind_text k)) ≡ k
+pub bin_kind_back : (k : BinKind) → bin_kind_in (Text (bin_kind_word k)) ≡ k
 bin_kind_back Store = refl
 bin_kind_back Hold = refl
 
-pub order_state_sound : (s : OrderState) → is_order_state (order_state_text s) ≡ true
+pub order_state_sound : (s : OrderState) → is_order_state (order_state_word s) ≡ true
 order_state_sound Open = refl
 order_state_sound Done = refl
 order_state_sound Cancelled = refl
 
-pub order_state_back : (s : OrderState) → order_state_in (Text (order_state_text s)) ≡ s
+pub order_state_back : (s : OrderState) → order_state_in (Text (order_state_word s)) ≡ s
 order_state_back Open = refl
 order_state_back Done = refl
 order_state_back Cancelled = refl
 
 -- the word of open orders tells which are open
-open_word : (t : List ℕ) → bytes_eq (codes "OPEN") t ≡ is_open_state (if bytes_eq t (codes "OPEN") then Open else if bytes_eq t (codes "DONE") then Done else Cancelled)
+open_word : (t : List ℕ) → bytes_eq (codes "OPEN") t ≡ is_open_state (unwrap_or (order_state_of t) Cancelled)
 open_word t = turned (codes "OPEN") t ∙ elim (cases_Bool (bytes_eq t (codes "OPEN"))) [
   | inl e ↦ rw e refl
-  | inr e ↦ rw e (elim (cases_Bool (bytes_eq t (codes "DONE"))) [ inl f ↦ rw f refl | inr f ↦ rw f refl ])
+  | inr e ↦ rw e (elim (cases_Bool (bytes_eq t (codes "DONE"))) [
+    | inl f ↦ rw f refl
+    | inr f ↦ rw f (elim (cases_Bool (bytes_eq t (codes "CANCELLED"))) [ inl h ↦ rw h refl | inr h ↦ rw h refl ])
+  ])
 ]
 
 pub open_is : (v : Value) → bytes_eq (codes "OPEN") (bytes v) ≡ is_open_state (order_state_in v)
 open_is v = open_word (bytes v)
 
-pub card_kind_sound : (k : CardKind) → is_card_kind (card_kind_text k) ≡ true
+pub card_kind_sound : (k : CardKind) → is_card_kind (card_kind_word k) ≡ true
 card_kind_sound Receipt = refl
 card_kind_sound WriteOn = refl
 card_kind_sound WriteOff = refl
 card_kind_sound Shipment = refl
 
-pub card_kind_back : (k : CardKind) → card_kind_in (Text (card_kind_text k)) ≡ k
+pub card_kind_back : (k : CardKind) → card_kind_in (Text (card_kind_word k)) ≡ k
 card_kind_back Receipt = refl
 card_kind_back WriteOn = refl
 card_kind_back WriteOff = refl

@@ -1,16 +1,16 @@
 -- What a column of a stored row reads as.
-use Rattle.std.specs.Prelude.{ℕ, ℤ, Bool, true, false, ◌||◌, if◌then◌else◌, nat_eq, nat_le, bytes_eq, length, codes, List, [], ◌∷◌, map, filter, pos}
+use Rattle.std.specs.Prelude.{ℕ, ℤ, Bool, true, false, nat_eq, nat_le, bytes_eq, length, List, [], ◌∷◌, map, filter, pos, is_some, unwrap_or}
 use Rattle.sqlite_value.specs.declared.value.Value.{Value}
 use Rattle.sqlite_value.specs.declared.value.Value.TheVariants.{Int, Text}
 use Rattle.sqlite_value.specs.Order.{Row, bytes}
 use Rattle.commands.specs.declared.limits.TheConstants.{CARD_NOTE_MAX, KEY_TEXT_MAX, SHORT_MAX}
-use Rattle.commands.specs.Spelling.{kind_text}
+use Rattle.commands.specs.Words.{bin_kind_of, order_state_of, card_kind_of}
 use Rattle.commands.specs.declared.command.BinKind.{BinKind}
-use Rattle.commands.specs.declared.command.BinKind.TheVariants.{Store, Hold}
+use Rattle.commands.specs.declared.command.BinKind.TheVariants.{Hold}
 use Rattle.commands.specs.declared.rows.OrderState.{OrderState}
 use Rattle.commands.specs.declared.rows.OrderState.TheVariants.{Open, Done, Cancelled}
 use Rattle.commands.specs.declared.rows.CardKind.{CardKind}
-use Rattle.commands.specs.declared.rows.CardKind.TheVariants.{Receipt, WriteOn, WriteOff, Shipment}
+use Rattle.commands.specs.declared.rows.CardKind.TheVariants.{Shipment}
 
 -- the rows that read as typed ones, the oldest first
 abbrev pub typed : {X : Type 0} → (Row → Bool) → (Row → X) → List Row → List X
@@ -75,18 +75,13 @@ flag_in v = nat_eq (number_in v) 1
 -- ---- words of a few
 
 abbrev pub is_bin_kind : List ℕ → Bool
-is_bin_kind t = bytes_eq t (codes "STORE") || bytes_eq t (codes "HOLD")
+is_bin_kind t = is_some (bin_kind_of t)
 
 abbrev pub bin_kind_in : Value → BinKind
-bin_kind_in v = if bytes_eq (bytes v) (codes "STORE") then Store else Hold
-
-abbrev pub order_state_text : OrderState → List ℕ
-order_state_text Open = codes "OPEN"
-order_state_text Done = codes "DONE"
-order_state_text Cancelled = codes "CANCELLED"
+bin_kind_in v = unwrap_or (bin_kind_of (bytes v)) Hold
 
 abbrev pub is_order_state : List ℕ → Bool
-is_order_state t = bytes_eq t (codes "OPEN") || (bytes_eq t (codes "DONE") || bytes_eq t (codes "CANCELLED"))
+is_order_state t = is_some (order_state_of t)
 
 abbrev pub is_open_state : OrderState → Bool
 is_open_state Open = true
@@ -94,19 +89,10 @@ is_open_state Done = false
 is_open_state Cancelled = false
 
 abbrev pub order_state_in : Value → OrderState
-order_state_in v = if bytes_eq (bytes v) (codes "OPEN") then Open else if bytes_eq (bytes v) (codes "DONE") then Done else Cancelled
-
-abbrev pub card_kind_text : CardKind → List ℕ
-card_kind_text Receipt = codes "RECEIPT"
-card_kind_text WriteOn = codes "WRITEON"
-card_kind_text WriteOff = codes "WRITEOFF"
-card_kind_text Shipment = codes "SHIPMENT"
+order_state_in v = unwrap_or (order_state_of (bytes v)) Cancelled
 
 abbrev pub is_card_kind : List ℕ → Bool
-is_card_kind t = bytes_eq t (codes "RECEIPT") || (bytes_eq t (codes "WRITEON") || (bytes_eq t (codes "WRITEOFF") || bytes_eq t (codes "SHIPMENT")))
+is_card_kind t = is_some (card_kind_of t)
 
 abbrev pub card_kind_in : Value → CardKind
-card_kind_in v =
-    if bytes_eq (bytes v) (codes "RECEIPT") then Receipt
-    else if bytes_eq (bytes v) (codes "WRITEON") then WriteOn
-    else if bytes_eq (bytes v) (codes "WRITEOFF") then WriteOff else Shipment
+card_kind_in v = unwrap_or (card_kind_of (bytes v)) Shipment

@@ -7,10 +7,10 @@ use Rattle.sqlite.specs.Tree.{Trees}
 use Rattle.values.specs.Values.{is_gtin, is_lot_text, is_name, is_title}
 use Rattle.label.specs.Days.{is_day, is_business_day}
 use Rattle.values.specs.declared.lot.LotId.{LotId}
-use Rattle.commands.specs.Spelling.{kind_text}
+use Rattle.commands.specs.Words.{bin_kind_word, order_state_word, card_kind_word}
 pub use Rattle.commands.specs.Tables.{Tables}
 use Rattle.commands.specs.declared.limits.TheConstants.{UNITS_MAX, ACTS_MAX, SHORT_MAX, KEY_TEXT_MAX, CARD_NOTE_MAX, SCHEMA_VERSION}
-use Rattle.table_words.specs.Cells.{typed, is_word, is_the_text, fits_in, is_any, is_number, is_the_number, number_in, is_signed, is_any_number, signed_in, flag_number, flag_in, is_bin_kind, bin_kind_in, order_state_text, is_order_state, is_open_state, order_state_in, card_kind_text, is_card_kind, card_kind_in}
+use Rattle.table_words.specs.Cells.{typed, is_word, is_the_text, fits_in, is_any, is_number, is_the_number, number_in, is_signed, is_any_number, signed_in, flag_number, flag_in, is_bin_kind, bin_kind_in, is_order_state, is_open_state, order_state_in, is_card_kind, card_kind_in}
 use Rattle.commands.specs.declared.rows.MetaRow.{MetaRow}
 use Rattle.commands.specs.declared.rows.ItemRow.{ItemRow}
 use Rattle.commands.specs.declared.rows.BinRow.{BinRow}
@@ -130,7 +130,7 @@ bin_key s = s.name
 
 -- its values, in the order of the columns
 abbrev pub bin_cells : BinRow → Row
-bin_cells s = Text s.name ∷ Text (kind_text s.kind) ∷ []
+bin_cells s = Text s.name ∷ Text (bin_kind_word s.kind) ∷ []
 
 -- the stored rows of this name
 abbrev pub bins_of_rows : List ℕ → Trees → List Row
@@ -274,7 +274,7 @@ order_key s = s.order
 
 -- its values, in the order of the columns
 abbrev pub order_cells : OrderRow → Row
-order_cells s = Text s.order ∷ Int (pos s.act) ∷ Text s.customer ∷ Text (order_state_text s.state) ∷ []
+order_cells s = Text s.order ∷ Int (pos s.act) ∷ Text s.customer ∷ Text (order_state_word s.state) ∷ []
 
 -- the stored rows of this order
 abbrev pub orders_of_rows : List ℕ → Trees → List Row
@@ -493,7 +493,7 @@ card_key s = (s.lot, s.act)
 
 -- its values, in the order of the columns
 abbrev pub card_cells : CardRow → Row
-card_cells s = Text s.lot.gtin ∷ Text s.lot.lot ∷ Int (pos s.act) ∷ Int s.day ∷ Text (card_kind_text s.kind) ∷ Text s.note ∷ Int s.qty ∷ Int (pos s.rest) ∷ []
+card_cells s = Text s.lot.gtin ∷ Text s.lot.lot ∷ Int (pos s.act) ∷ Int s.day ∷ Text (card_kind_word s.kind) ∷ Text s.note ∷ Int s.qty ∷ Int (pos s.rest) ∷ []
 
 -- the stored rows of this lot
 abbrev pub cards_of_lot_rows : LotId → Trees → List Row

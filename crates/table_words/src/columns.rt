@@ -7,8 +7,8 @@ ghost use Rattle.sqlite_value.specs.Order.{column, bytes};
 ghost use Rattle.values.specs.Values.{is_gtin, is_lot_text, is_name, is_title};
 ghost use Rattle.label.specs.Days.{is_day, is_business_day};
 ghost use Rattle.commands.specs.declared.limits.TheConstants.{CARD_NOTE_MAX, KEY_TEXT_MAX, SHORT_MAX};
-ghost use Rattle.commands.specs.Spelling.{kind_text};
-ghost use Rattle.table_words.specs.Cells.{is_word, fits_in, is_any, is_number, is_the_number, is_the_text, number_in, is_signed, signed_in, is_any_number, flag_number, flag_in, is_bin_kind, bin_kind_in, order_state_text, is_order_state, order_state_in, card_kind_text, is_card_kind, card_kind_in};
+ghost use Rattle.commands.specs.Words.{bin_kind_word, order_state_word, card_kind_word};
+ghost use Rattle.table_words.specs.Cells.{is_word, fits_in, is_any, is_number, is_the_number, is_the_text, number_in, is_signed, signed_in, is_any_number, flag_number, flag_in, is_bin_kind, bin_kind_in, is_order_state, order_state_in, is_card_kind, card_kind_in};
 ghost use Rattle.table_words.specs.declared.error.TableFault.TheVariants.{Foreign};
 
 use crate::error::TableFault;
@@ -99,35 +99,23 @@ pub fn of_flag(flag: bool) -> ValueRef<'static>
 
 /// The kind of a bin as its word.
 pub fn of_bin_kind(kind: BinKind) -> ValueRef<'static>
-    ensures value { owned result ≡ TextValue (kind_text kind) }
+    ensures value { owned result ≡ TextValue (bin_kind_word kind) }
 {
-    match kind {
-        BinKind::Store => ValueRef::Text(b"STORE"),
-        BinKind::Hold => ValueRef::Text(b"HOLD"),
-    }
+    ValueRef::Text(kind.word().as_bytes())
 }
 
 /// The state of an order as its word.
 pub fn of_order_state(state: OrderState) -> ValueRef<'static>
-    ensures value { owned result ≡ TextValue (order_state_text state) }
+    ensures value { owned result ≡ TextValue (order_state_word state) }
 {
-    match state {
-        OrderState::Open => ValueRef::Text(b"OPEN"),
-        OrderState::Done => ValueRef::Text(b"DONE"),
-        OrderState::Cancelled => ValueRef::Text(b"CANCELLED"),
-    }
+    ValueRef::Text(state.word().as_bytes())
 }
 
 /// The kind of a card line as its word.
 pub fn of_card_kind(kind: CardKind) -> ValueRef<'static>
-    ensures value { owned result ≡ TextValue (card_kind_text kind) }
+    ensures value { owned result ≡ TextValue (card_kind_word kind) }
 {
-    match kind {
-        CardKind::Receipt => ValueRef::Text(b"RECEIPT"),
-        CardKind::WriteOn => ValueRef::Text(b"WRITEON"),
-        CardKind::WriteOff => ValueRef::Text(b"WRITEOFF"),
-        CardKind::Shipment => ValueRef::Text(b"SHIPMENT"),
-    }
+    ValueRef::Text(kind.word().as_bytes())
 }
 
 /// A text of at most N bytes as a column takes it.
@@ -319,10 +307,9 @@ pub fn bin_kind_at(row: &Row, at: usize) -> Result<BinKind, TableFault>
     ensures ok { IfOk result (λ x. IsTrue (is_word is_bin_kind (column row.now at)) × (bin_kind_in (column row.now at) ≡ x)) }
     ensures foreign { IfErr result (λ e. is_word is_bin_kind (column row.now at) ≡ false) }
 {
-    match text_at(row, at)? {
-        b"STORE" => Ok(BinKind::Store),
-        b"HOLD" => Ok(BinKind::Hold),
-        _ => Err(TableFault::Foreign),
+    match BinKind::from_word(text_at(row, at)?) {
+        Some(kind) => Ok(kind),
+        None => Err(TableFault::Foreign),
     }
 }
 
@@ -331,17 +318,10 @@ pub fn order_state_at(row: &Row, at: usize) -> Result<OrderState, TableFault>
     ensures ok { IfOk result (λ x. IsTrue (is_word is_order_state (column row.now at)) × (order_state_in (column row.now at) ≡ x)) }
     ensures foreign { IfErr result (λ e. is_word is_order_state (column row.now at) ≡ false) }
 {
-    let text = text_at(row, at)?;
-    if text == b"OPEN".as_slice() {
-        return Ok(OrderState::Open);
+    match OrderState::from_word(text_at(row, at)?) {
+        Some(state) => Ok(state),
+        None => Err(TableFault::Foreign),
     }
-    if text == b"DONE".as_slice() {
-        return Ok(OrderState::Done);
-    }
-    if text == b"CANCELLED".as_slice() {
-        return Ok(OrderState::Cancelled);
-    }
-    Err(TableFault::Foreign)
 }
 
 /// The kind of a card line in a column, or `Foreign`.
@@ -349,20 +329,10 @@ pub fn card_kind_at(row: &Row, at: usize) -> Result<CardKind, TableFault>
     ensures ok { IfOk result (λ x. IsTrue (is_word is_card_kind (column row.now at)) × (card_kind_in (column row.now at) ≡ x)) }
     ensures foreign { IfErr result (λ e. is_word is_card_kind (column row.now at) ≡ false) }
 {
-    let text = text_at(row, at)?;
-    if text == b"RECEIPT".as_slice() {
-        return Ok(CardKind::Receipt);
+    match CardKind::from_word(text_at(row, at)?) {
+        Some(kind) => Ok(kind),
+        None => Err(TableFault::Foreign),
     }
-    if text == b"WRITEON".as_slice() {
-        return Ok(CardKind::WriteOn);
-    }
-    if text == b"WRITEOFF".as_slice() {
-        return Ok(CardKind::WriteOff);
-    }
-    if text == b"SHIPMENT".as_slice() {
-        return Ok(CardKind::Shipment);
-    }
-    Err(TableFault::Foreign)
 }
 
 /// Nothing where the column has this number, or `Foreign`.

@@ -1,11 +1,13 @@
 -- Some answers.
 use Rattle.std.proofs.Common.{◌≡◌, codes, refl, ◌++◌, Some, None}
 use Rattle.std.specs.Fmt.{digits}
+use Rattle.commands.specs.Replies.{reply_text}
+use Rattle.commands.specs.declared.replies.ReplyField.TheVariants.{Returned}
 use Rattle.requests.specs.declared.method.Method.TheVariants.{Post}
 use Rattle.wire.specs.Answers.{head_text, answer_text, json_type, CRLF}
-use Rattle.wire.specs.Shorts.{cause_row_text, code_text, act_text}
+use Rattle.wire.specs.Shorts.{cause_row_text, code_text}
 
-pub a_day_is_opened : answer_text 200 json_type None (act_text 6 (codes ",\"returned\":0"))
+pub a_day_is_opened : answer_text 200 json_type None (reply_text 6 (Some (Returned 0)))
     ≡ codes "HTTP/1.1 200 OK" ++ CRLF ++ codes "content-type: application/json" ++ CRLF ++ codes "content-length: 22" ++ CRLF
     ++ codes "connection: close" ++ CRLF ++ CRLF ++ codes "{\"act\":6,\"returned\":0}"
 unfolding head_text digits

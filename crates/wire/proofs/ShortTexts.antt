@@ -1,7 +1,6 @@
 -- The short texts are compact JSON: names have nothing to escape.
 use Rattle.std.proofs.Common.{◌≡◌, refl, ℕ, true, false, List, [], ◌∷◌, ◌++◌, codes, arith, append_assoc}
-use Rattle.std.specs.Prelude.{ℤ, pos, negsuc, ◌==◌, nat_lt, IsTrue, length}
-use Rattle.std.specs.Fmt.{signed_decimal}
+use Rattle.std.specs.Prelude.{pos, negsuc, ◌==◌, nat_lt, IsTrue, length, Some, None}
 use Rattle.std.specs.List.{list_all}
 use Rattle.std.proofs.lemmas.Bool.Decides.{nat_tests}
 use Rattle.json.specs.Print.{escape, escape_byte}
@@ -9,8 +8,9 @@ use Rattle.serde_json.proofs.OnLiterals.{serde_json_on_literals}
 use Rattle.serde_json.specs.Written.{compact_text}
 use Rattle.values.specs.Values.{is_name, is_name_char, is_between, NAME_MAX}
 use Rattle.commands.proofs.Joining.{and_both}
-use Rattle.wire.specs.Shorts.{code_text, code_data, code_row_text, code_row_data, cause_text, cause_data, cause_row_text, cause_row_data, tally_text, tally_data, act_text, act_data, whole}
-use Rattle.wire.specs.Laws.{one, CommandAnswersAreJson}
+use Rattle.wire.specs.Shorts.{code_text, code_data, code_row_text, code_row_data, cause_text, cause_data, cause_row_text, cause_row_data, tally_text, tally_data}
+use Rattle.commands.specs.declared.replies.ReplyField.TheVariants.{ChangedBy, Returned, ShipmentNumber, UnitsShort}
+use Rattle.wire.specs.Laws.{CommandAnswersAreJson}
 
 -- a byte of a name stands for itself
 byte_as_it_is : (c : ℕ) → is_name_char c ≡ true → escape_byte c ≡ c ∷ []
@@ -55,18 +55,11 @@ pub tally_is_json : (accepted repeated : ℕ) → tally_text accepted repeated �
 unfolding serde_json_on_literals
 tally_is_json accepted repeated = simp append_assoc refl
 
-change_is_json : (act : ℕ) (change : ℤ)
-    → act_text act (codes ",\"change\":" ++ signed_decimal change) ≡ compact_text (act_data act (one (codes "change") (whole change)))
-unfolding serde_json_on_literals
-change_is_json act (pos n) = simp append_assoc refl
-change_is_json act (negsuc n) = simp append_assoc refl
-
 pub command_answers_are_json : CommandAnswersAreJson
 unfolding serde_json_on_literals
-command_answers_are_json act n change = (
-  simp append_assoc refl,
-  change_is_json act change,
-  simp append_assoc refl,
-  simp append_assoc refl,
-  simp append_assoc refl,
-)
+command_answers_are_json act None = simp append_assoc refl
+command_answers_are_json act (Some (ChangedBy (pos n))) = simp append_assoc refl
+command_answers_are_json act (Some (ChangedBy (negsuc n))) = simp append_assoc refl
+command_answers_are_json act (Some (Returned units)) = simp append_assoc refl
+command_answers_are_json act (Some (ShipmentNumber number)) = simp append_assoc refl
+command_answers_are_json act (Some (UnitsShort units)) = simp append_assoc refl

@@ -1,6 +1,8 @@
 -- The short JSON texts: an object of one to three members.
-use Rattle.std.specs.Prelude.{ℕ, ℤ, pos, negsuc, List, ◌++◌, codes, decimal}
+use Rattle.std.specs.Prelude.{ℕ, ℤ, pos, negsuc, List, ◌++◌, codes, decimal, Option, Some, None}
 use Rattle.serde_json.specs.Data.{Data, number, unsigned, negative, string, object, Members, member, no_members}
+use Rattle.commands.specs.declared.replies.ReplyField.{ReplyField}
+use Rattle.commands.specs.declared.replies.ReplyField.TheVariants.{ChangedBy, Returned, ShipmentNumber, UnitsShort}
 use Rattle.wire.specs.Views.{count}
 
 -- Each text, and the value of which it is the compact JSON.
@@ -41,14 +43,18 @@ tally_text accepted repeated = codes "{\"accepted\":" ++ decimal accepted ++ cod
 abbrev pub tally_data : ℕ → ℕ → Data
 tally_data accepted repeated = object (member (codes "accepted") (count accepted) (member (codes "repeated") (count repeated) no_members))
 
--- the act of a command, with one field more or none
-abbrev pub act_text : ℕ → List ℕ → List ℕ
-act_text act further = codes "{\"act\":" ++ decimal act ++ further ++ codes "}"
-
-abbrev pub act_data : ℕ → Members → Data
-act_data act further = object (member (codes "act") (count act) further)
-
 -- a whole number of either sign
 abbrev pub whole : ℤ → Data
 whole (pos n) = number (unsigned n)
 whole (negsuc n) = number (negative (negsuc n))
+
+-- the reply to a command: its act, with one field more or none
+abbrev pub further_member : Option ReplyField → Members
+further_member None = no_members
+further_member (Some (ChangedBy units)) = member (codes "change") (whole units) no_members
+further_member (Some (Returned units)) = member (codes "returned") (count units) no_members
+further_member (Some (ShipmentNumber n)) = member (codes "shipment") (count n) no_members
+further_member (Some (UnitsShort units)) = member (codes "short") (count units) no_members
+
+abbrev pub reply_data : ℕ → Option ReplyField → Data
+reply_data act field = object (member (codes "act") (count act) (further_member field))

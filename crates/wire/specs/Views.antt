@@ -2,15 +2,12 @@
 use Rattle.std.specs.Prelude.{ℕ, List, codes, map}
 use Rattle.serde_json.specs.Data.{Data, number, string, array, object, member, no_members, unsigned}
 use Rattle.serde_json.specs.View.{items_of}
-use Rattle.commands.specs.declared.rows.OrderState.{OrderState}
-use Rattle.commands.specs.declared.rows.OrderState.TheVariants.{Open, Done, Cancelled}
+use Rattle.commands.specs.Words.{order_state_word, lot_status_word}
 use Rattle.commands.specs.declared.views.ReservedLot.{ReservedLot}
 use Rattle.commands.specs.declared.views.StagedLot.{StagedLot}
 use Rattle.commands.specs.declared.views.LineView.{LineView}
 use Rattle.commands.specs.declared.views.OrderView.{OrderView}
 use Rattle.commands.specs.declared.views.BinUnits.{BinUnits}
-use Rattle.commands.specs.declared.views.LotStatus.{LotStatus}
-use Rattle.commands.specs.declared.views.LotStatus.TheVariants.{Recalled, Held, Expired, Free}
 use Rattle.commands.specs.declared.views.LotView.{LotView}
 use Rattle.commands.specs.declared.views.StockView.{StockView}
 use Rattle.label.specs.Days.{day_text}
@@ -36,30 +33,19 @@ abbrev pub line_data : LineView → Data
 line_data l =
     line_members l.gtin l.ordered (array (items_of (map reserved_data l.reserved))) l.shipped l.short (array (items_of (map staged_data l.staged)))
 
-abbrev pub state_text : OrderState → List ℕ
-state_text Open = codes "OPEN"
-state_text Done = codes "DONE"
-state_text Cancelled = codes "CANCELLED"
-
 abbrev pub order_members : List ℕ → Data → List ℕ → List ℕ → Data
 order_members customer lines order state =
     object (member (codes "customer") (string customer) (member (codes "lines") lines
     (member (codes "order") (string order) (member (codes "state") (string state) no_members))))
 
 abbrev pub order_data : OrderView → Data
-order_data v = order_members v.customer (array (items_of (map line_data v.lines))) v.order (state_text v.state)
+order_data v = order_members v.customer (array (items_of (map line_data v.lines))) v.order (order_state_word v.state)
 
 abbrev pub bin_members : List ℕ → ℕ → Data
 bin_members bin qty = object (member (codes "bin") (string bin) (member (codes "qty") (count qty) no_members))
 
 abbrev pub bin_data : BinUnits → Data
 bin_data b = bin_members b.bin b.qty
-
-abbrev pub status_text : LotStatus → List ℕ
-status_text Recalled = codes "RECALLED"
-status_text Held = codes "HELD"
-status_text Expired = codes "EXPIRED"
-status_text Free = codes "FREE"
 
 abbrev pub lot_members : Data → List ℕ → List ℕ → ℕ → ℕ → List ℕ → Data
 lot_members bins expiry lot reserved staged status =
@@ -68,7 +54,7 @@ lot_members bins expiry lot reserved staged status =
 
 abbrev pub lot_stock_data : LotView → Data
 lot_stock_data l =
-    lot_members (array (items_of (map bin_data l.bins))) (day_text l.expiry) l.lot l.reserved l.staged (status_text l.status)
+    lot_members (array (items_of (map bin_data l.bins))) (day_text l.expiry) l.lot l.reserved l.staged (lot_status_word l.status)
 
 abbrev pub stock_members : List ℕ → Data → List ℕ → Data
 stock_members gtin lots name =

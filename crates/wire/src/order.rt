@@ -2,11 +2,11 @@ ghost use Rattle.std.specs.Prelude.{◌≡◌, IfOk, map};
 ghost use Rattle.serde_json.specs.Data.{array};
 ghost use Rattle.serde_json.specs.View.{view, items_of};
 ghost use Rattle.serde_json.specs.Written.{compact_text};
-ghost use Rattle.wire.specs.Views.{lot_data, reserved_data, staged_data, line_members, line_data, state_text as state_text_lem, order_members, order_data};
+ghost use Rattle.wire.specs.Views.{lot_data, reserved_data, staged_data, line_members, line_data, order_members, order_data};
 
 use crate::object::{with_count, with_list, with_text};
 use crate::text::{gtin_text, lot_text, name_text, title_text};
-use commands::{LineView, OrderState, OrderView, ReservedLot, StagedLot};
+use commands::{LineView, OrderView, ReservedLot, StagedLot};
 use serde_json::{Map, Value};
 use std::alloc::{AllocError, Global};
 
@@ -87,16 +87,6 @@ fn line_values(alloc: Global, lines: &[LineView]) -> Result<Vec<Value>, AllocErr
     Ok(values)
 }
 
-fn state_text(state: OrderState) -> &'static str
-    ensures { result.now ≡ state_text_lem state }
-{
-    match state {
-        OrderState::Open => "OPEN",
-        OrderState::Done => "DONE",
-        OrderState::Cancelled => "CANCELLED",
-    }
-}
-
 fn object_json(
     alloc: Global,
     customer: &str,
@@ -120,7 +110,7 @@ fn order_value(alloc: Global, shown: &OrderView) -> Result<Value, AllocError>
     let customer = title_text(&shown.customer);
     let order = name_text(&shown.order);
     let lines = line_values(alloc, shown.lines.as_slice())?;
-    object_json(alloc, customer, lines, order, state_text(shown.state))
+    object_json(alloc, customer, lines, order, shown.state.word())
 }
 
 /// An order as JSON.

@@ -2,11 +2,11 @@ ghost use Rattle.std.specs.Prelude.{◌≡◌, IfOk, map};
 ghost use Rattle.serde_json.specs.Data.{array};
 ghost use Rattle.serde_json.specs.View.{view, items_of};
 ghost use Rattle.serde_json.specs.Written.{compact_text};
-ghost use Rattle.wire.specs.Views.{bin_members, bin_data, status_text as status_text_lem, lot_members, lot_stock_data, stock_members, stock_data};
+ghost use Rattle.wire.specs.Views.{bin_members, bin_data, lot_members, lot_stock_data, stock_members, stock_data};
 
 use crate::object::{with_count, with_list, with_text};
 use crate::text::{gtin_text, lot_text, name_text, readable, title_text};
-use commands::{BinUnits, LotStatus, LotView, StockView};
+use commands::{BinUnits, LotView, StockView};
 use serde_json::{Map, Value};
 use std::alloc::{AllocError, Global};
 
@@ -26,17 +26,6 @@ fn bin_values(alloc: Global, bins: &[BinUnits]) -> Result<Vec<Value>, AllocError
         values.push(bin_json(alloc, name_text(&one.bin), one.qty)?)?;
     }
     Ok(values)
-}
-
-fn status_text(status: LotStatus) -> &'static str
-    ensures { result.now ≡ status_text_lem status }
-{
-    match status {
-        LotStatus::Recalled => "RECALLED",
-        LotStatus::Held => "HELD",
-        LotStatus::Expired => "EXPIRED",
-        LotStatus::Free => "FREE",
-    }
 }
 
 fn lot_json(
@@ -73,7 +62,7 @@ fn lot_value(alloc: Global, lot: &LotView) -> Result<Value, AllocError>
         lot_text(&lot.lot),
         lot.reserved,
         lot.staged,
-        status_text(lot.status),
+        lot.status.word(),
     )
 }
 
