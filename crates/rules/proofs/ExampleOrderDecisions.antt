@@ -6,7 +6,6 @@ use Rattle.commands.specs.declared.command.NewOrder.{NewOrder}
 use Rattle.commands.specs.declared.refusal.Refusal.TheVariants.{UnknownItem, OrderExists, ItemTwice, OverOrdered}
 use Rattle.commands.specs.declared.rows.OrderState.TheVariants.{Open}
 use Rattle.machine.specs.Verdict.{first_refusal}
-use Rattle.row_rules.specs.Seen.{none_put}
 use Rattle.order_rules.specs.DecidedOrder.{order_seen, order_changes, open_units_seen}
 use Rattle.row_rules.specs.declared.slice.Slice.{Slice}
 use Rattle.machine.proofs.examples.ExampleHistories.{may_4, may_31, june_30, OATS, RYE, A1, S1, S2, L1, L2}
@@ -16,11 +15,16 @@ before_orders = record {
   meta = record { day = may_4; acts = 7; shipments = 0 };
   items = 2;
   bins = 4;
-  rows = record none_put {
+  rows = record {
     items = record { gtin = OATS; name = codes "Oat drink" } ∷ [];
     bins = record { name = A1; kind = Store } ∷ [];
     lots = record { lot = L1; expiry = june_30; came = 6; held = false } ∷ record { lot = L2; expiry = may_31; came = 7; held = false } ∷ [];
+    recalls = [];
     stock = record { lot = L1; bin = A1; qty = 10 } ∷ record { lot = L2; bin = A1; qty = 10 } ∷ [];
+    orders = [];
+    lines = [];
+    staged = [];
+    reserved = [];
   };
 }
 
