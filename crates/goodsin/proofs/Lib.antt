@@ -1,3 +1,4 @@
 pub mod FileFacts
 pub mod RowFacts
 pub mod Steps
+pub mod Worked
