@@ -38,7 +38,12 @@ pub(crate) fn business_day(text: &str) -> Result<Day, Fault>
 }
 
 /// The first day of new books: the business day that a DATE is.
-pub(crate) fn first_day(text: &str) -> Result<BusinessDay, Fault> {
+pub(crate) fn first_day(text: &str) -> Result<BusinessDay, Fault>
+    ensures day { IfOk result (λ day. parsed_day text.now ≡ Some day) }
+    ensures business { IfOk result (λ day. IsTrue (is_business_day day)) }
+    ensures none { IfErr result (λ fault. IsNoBusinessDay text.now) }
+    ensures value { IfErr result (λ fault. fault ≡ Fault.Value) }
+{
     match BusinessDay::new(business_day(text)?) {
         Some(day) => Ok(day),
         None => Err(Fault::Value),

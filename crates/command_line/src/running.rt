@@ -2,6 +2,7 @@ ghost use Rattle.std.specs.Prelude.{◌≡◌, ◌≤◌, OnOk};
 ghost use Rattle.std.specs.Io.KnownBytes.{Appends};
 ghost use Rattle.command_line.specs.Lines.{told_line};
 ghost use Rattle.command_line.specs.Statuses.{IsStatusOf, IsStatusOfWords};
+ghost use Rattle.command_line.specs.Ends.{IsEndOf, IsEnded, IsMade, IsRun};
 
 use crate::fault::Fault;
 use crate::label_line::{first_day, print_label};
@@ -33,12 +34,20 @@ pub enum Work {
 
 /// Where the books are that the lines speak of.
 pub trait BooksAt {
+    ghost use Rattle.std.specs.Prelude.{ℕ, List, Result};
+    ghost use Rattle.command_line.specs.declared.fault.Fault.{Fault};
+    ghost use Rattle.command_line.specs.declared.running.Work.{Work};
+
+    // How the work with the books in this file may end.
+    ghost ends: { Self → List ℕ → Work → Result Unit Fault → Type 0 };
+
     /// Does the work with the books in the file. What it prints goes to `out`.
-    fn work<W: Write>(&self, db: &str, work: Work, out: &mut W) -> Result<(), Fault>;
+    fn work<W: Write>(&self, db: &str, work: Work, out: &mut W) -> Result<(), Fault>
+        ensures { ends self.now db.now work result };
 }
 
 /// Runs the line that the words are, the program's name first: what it prints goes to `out`, and a
-/// fault to `err` as one line, `lotd: ` and its code. The result is the exit status.
+/// fault to `err` as one line, `lotd: ` and its code. The result is the exit status, by how the line ended.
 pub fn run<'a, B: BooksAt, S: AsStr, W: Write, E: Write>(
     alloc: Global,
     books: &B,
@@ -46,7 +55,8 @@ pub fn run<'a, B: BooksAt, S: AsStr, W: Write, E: Write>(
     out: &mut W,
     err: &mut E,
 ) -> u8
-    ensures { result ≤ MISUSED }
+    ensures status { IsRun (B.ends books.now) (W.contents out.old) result }
+    ensures range { result ≤ MISUSED }
 {
     let end = do_line(alloc, books, words, out);
     tell_end(end, out, err)
@@ -57,15 +67,38 @@ fn do_line<'a, B: BooksAt, S: AsStr, W: Write>(
     books: &B,
     words: &'a [S],
     out: &mut W,
-) -> Result<(), Fault> {
-    match read_line(alloc, words)? {
-        Line::Init { db, day } => books.work(db, Work::Make(first_day(day)?), out)?,
-        Line::Serve { db, port, max } => books.work(db, Work::Serve { port, max }, out)?,
-        Line::Label { day, text } => print_label(day, text, out)?,
-        Line::Unknown => return Err(Fault::Value),
-    }
+) -> Result<(), Fault>
+    ensures { IsEnded (B.ends books.now) (W.contents out.old) result }
+{
+    let line = read_line(alloc, words)?;
+    end_line(books, line, out)?;
     out.flush()?;
     Ok(())
+}
+
+/// Does what a line asks for.
+fn end_line<'a, B: BooksAt, W: Write>(books: &B, line: Line<'a>, out: &mut W) -> Result<(), Fault>
+    ensures { IsEndOf (B.ends books.now) line.entry (W.contents out.old) (W.contents out.new) result }
+{
+    match line {
+        Line::Init { db, day } => make_books(books, db, day, out),
+        Line::Serve { db, port, max } => books.work(db, Work::Serve { port, max }, out),
+        Line::Label { day, text } => print_label(day, text, out),
+        Line::Unknown => Err(Fault::Value),
+    }
+}
+
+/// Has new books made, which begin on the business day that the date is.
+fn make_books<B: BooksAt, W: Write>(
+    books: &B,
+    db: &str,
+    date: &str,
+    out: &mut W,
+) -> Result<(), Fault>
+    ensures { IsMade (B.ends books.now) db.now date.now result }
+{
+    let day = first_day(date)?;
+    books.work(db, Work::Make(day), out)
 }
 
 /// Tells how a line ended, and gives its exit status.

@@ -10,6 +10,9 @@ pub(crate) struct InFiles<'a> {
 }
 
 impl BooksAt for InFiles<'_> {
+    // Nothing is known of what a file of the host has.
+    ghost ends = { λ _ _ _ _. Unit {0} };
+
     /// What the log still holds is copied into the file at the end, also where the port cannot be had.
     // The one function over the connection's own type: each costs the proof as much as all else here.
     fn work<W: Write>(&self, db: &str, work: Work, out: &mut W) -> Result<(), Fault> {

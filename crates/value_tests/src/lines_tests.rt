@@ -11,6 +11,8 @@ use std::process::Abort;
 struct NoBooks;
 
 impl BooksAt for NoBooks {
+    ghost ends = { λ _ _ _ _. Unit {0} };
+
     fn work<W: Write>(&self, _db: &str, _work: Work, _out: &mut W) -> Result<(), Fault> {
         Err(Fault::Store)
     }
@@ -94,7 +96,15 @@ static HELP: [&[&str]; 3] = [
     &["lotd", "label", "--help"],
 ];
 
-static MISUSE: [&[&str]; 4] = [
+static MISUSE: [&[&str]; 8] = [
+    &["lotd", "serve", "--db", "x", "--port", "1023", "--max", "1"],
+    &[
+        "lotd", "serve", "--db", "x", "--port", "65536", "--max", "1",
+    ],
+    &["lotd", "serve", "--db", "x", "--port", "1024", "--max", "0"],
+    &[
+        "lotd", "serve", "--db", "x", "--port", "1024", "--max", "1000001",
+    ],
     &["lotd"],
     &["lotd", "lable"],
     &["lotd", "label", "--day", "2026-05-04"],
@@ -147,5 +157,174 @@ fn cannot_print(end: &impl Abort, alloc: Global, words: &[&str]) {
 fn tells_output_that_cannot_be_written(rt: HostRuntime) {
     for words in PRINTED.as_slice() {
         cannot_print(&rt, rt.alloc(), words);
+    }
+}
+
+// How the work with the books ends.
+#[derive(Clone, Copy)]
+enum End {
+    Done,
+    Store,
+    Foreign,
+    Io,
+}
+
+// What a line has to hand on: the file, and the first day of the books or the port and how many connections. The side
+// of the books prints a line and ends so; where something else is handed on, it ends with the fault of a value.
+struct Awaited {
+    db: &'static str,
+    day: &'static str,
+    port: u16,
+    max: u32,
+    end: End,
+}
+
+impl Awaited {
+    fn is_this(&self, db: &str, work: Work) -> bool {
+        let same = match work {
+            Work::Make(day) => day.day().text().as_slice() == self.day.as_bytes(),
+            Work::Serve { port, max } => port == self.port && max == self.max,
+        };
+        same && db == self.db
+    }
+
+    fn ended(&self) -> Result<(), Fault> {
+        match self.end {
+            End::Done => Ok(()),
+            End::Store => Err(Fault::Store),
+            End::Foreign => Err(Fault::Foreign),
+            End::Io => Err(Fault::Io),
+        }
+    }
+}
+
+impl BooksAt for Awaited {
+    ghost ends = { λ _ _ _ _. Unit {0} };
+
+    fn work<W: Write>(&self, db: &str, work: Work, out: &mut W) -> Result<(), Fault> {
+        if !self.is_this(db, work) {
+            return Err(Fault::Value);
+        }
+        let _ = out.write_all(b"worked\n");
+        self.ended()
+    }
+}
+
+// The words of a line, what it hands on, and its exit status and what is told.
+struct Handed {
+    words: &'static [&'static str],
+    to: Awaited,
+    status: u8,
+    told: &'static str,
+}
+
+static HANDED_ON: [Handed; 7] = [
+    Handed {
+        words: &["lotd", "init", "--db", "stock.db", "--day", "2026-05-04"],
+        to: Awaited {
+            db: "stock.db",
+            day: "2026-05-04",
+            port: 0,
+            max: 0,
+            end: End::Done,
+        },
+        status: 0,
+        told: "",
+    },
+    Handed {
+        words: &["lotd", "init", "--day", "2199-12-31", "--db", "2000-01-01"],
+        to: Awaited {
+            db: "2000-01-01",
+            day: "2199-12-31",
+            port: 0,
+            max: 0,
+            end: End::Store,
+        },
+        status: 1,
+        told: "lotd: store\n",
+    },
+    Handed {
+        words: &["lotd", "init", "--db", "stock.db", "--day", "2026-05-04"],
+        to: Awaited {
+            db: "stock.db",
+            day: "2026-05-04",
+            port: 0,
+            max: 0,
+            end: End::Foreign,
+        },
+        status: 1,
+        told: "lotd: foreign books\n",
+    },
+    Handed {
+        words: &[
+            "lotd", "serve", "--db", "stock.db", "--port", "8080", "--max", "2000",
+        ],
+        to: Awaited {
+            db: "stock.db",
+            day: "",
+            port: 8080,
+            max: 2000,
+            end: End::Done,
+        },
+        status: 0,
+        told: "",
+    },
+    Handed {
+        words: &[
+            "lotd", "serve", "--max", "1000000", "--port", "1024", "--db", "stock.db",
+        ],
+        to: Awaited {
+            db: "stock.db",
+            day: "",
+            port: 1024,
+            max: 1_000_000,
+            end: End::Io,
+        },
+        status: 1,
+        told: "lotd: io\n",
+    },
+    Handed {
+        words: &[
+            "lotd", "serve", "--db", "stock.db", "--port", "65535", "--max", "1",
+        ],
+        to: Awaited {
+            db: "stock.db",
+            day: "",
+            port: 65535,
+            max: 1,
+            end: End::Foreign,
+        },
+        status: 1,
+        told: "lotd: foreign books\n",
+    },
+    // The day is judged before the file is touched.
+    Handed {
+        words: &["lotd", "init", "--db", "stock.db", "--day", "1999-12-31"],
+        to: Awaited {
+            db: "stock.db",
+            day: "1999-12-31",
+            port: 0,
+            max: 0,
+            end: End::Done,
+        },
+        status: 1,
+        told: "lotd: value\n",
+    },
+];
+
+fn expect_handed(end: &impl Abort, alloc: Global, row: &Handed) {
+    let mut printed = Vec::new(alloc);
+    let mut told = Vec::new(alloc);
+    let status = run(alloc, &row.to, row.words, &mut printed, &mut told);
+    assert!(end; status == row.status);
+    is_text(end, told.as_slice(), row.told);
+    let is_worked = printed.as_slice() == b"worked\n".as_slice();
+    assert!(end; is_worked == (row.told != "lotd: value\n"));
+}
+
+#[test]
+fn hands_on_what_a_line_says(rt: HostRuntime) {
+    for row in HANDED_ON.as_slice() {
+        expect_handed(&rt, rt.alloc(), row);
     }
 }

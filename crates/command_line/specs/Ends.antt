@@ -1,0 +1,51 @@
+-- How a line ends: what its words come to, and what the side of the books told of its work.
+use Rattle.std.specs.Prelude.{◌≡◌, ◌⊎◌, ℕ, ℤ, List, IsTrue, Option, Some, Result, Ok, Err}
+use Rattle.clap.specs.declared.error.Error.{Error}
+use Rattle.label.specs.Days.{is_business_day, parsed_day}
+use Rattle.command_line.specs.Lines.{IsFaultOfWords, IsNoBusinessDay, IsPrinted, IsRefused}
+use Rattle.command_line.specs.Statuses.{IsStatusOf}
+use Rattle.command_line.specs.declared.fault.Fault.{Fault}
+use Rattle.command_line.specs.declared.fault.Fault.TheVariants.{Value, Io}
+use Rattle.command_line.specs.declared.running.Work.{Work}
+use Rattle.command_line.specs.declared.running.Work.TheVariants.{Make, Serve as ServeBooks}
+use Rattle.command_line.specs.declared.words.Line.{Line}
+use Rattle.command_line.specs.declared.words.Line.TheVariants.{Label, Init, Serve, Unknown}
+
+-- how the work with the books in this file may end
+abbrev pub Works : Type 1
+Works = List ℕ → Work → Result Unit Fault → Type 0
+
+-- the date is the first business day of the books that are made, or it is none
+abbrev pub IsMade : Works → List ℕ → List ℕ → Result Unit Fault → Type 0
+IsMade works db date end =
+    ((day : ℤ) × (parsed_day date ≡ Some day) × IsTrue (is_business_day day) × works db (Make day) end)
+    ⊎ (IsNoBusinessDay date × (end ≡ Err Value))
+
+-- what the label says was printed, or the line is refused
+abbrev pub IsLabelTold : List ℕ → List ℕ → Option (List ℕ) → Option (List ℕ) → Result Unit Fault → Type 0
+IsLabelTold date text old new (Ok done) = IsPrinted date text old new
+IsLabelTold date text old new (Err fault) = IsRefused date text fault
+
+-- what a line comes to, with what the output had and has
+abbrev pub IsEndOf : Works → Line → Option (List ℕ) → Option (List ℕ) → Result Unit Fault → Type 0
+IsEndOf works (Init db day) old new end = IsMade works db.now day.now end
+IsEndOf works (Serve db port max) old new end = works db.now (ServeBooks port max) end
+IsEndOf works (Label day text) old new end = IsLabelTold day.now text.now old new end
+IsEndOf works Unknown old new end = end ≡ Err Value
+
+-- the words are no line
+abbrev pub IsNoLine : Result Unit Fault → Type 0
+IsNoLine end = (error : Error) × (fault : Fault) × IsFaultOfWords error fault × (end ≡ Err fault)
+
+-- a line was read, which ended so, or was done and its output could not be flushed
+abbrev pub IsLineDone : Works → Option (List ℕ) → Result Unit Fault → Type 0
+IsLineDone works old end =
+    (line : Line) × (printed : Option (List ℕ)) × (IsEndOf works line old printed end ⊎ ((done : Unit) × IsEndOf works line old printed (Ok done) × (end ≡ Err Io)))
+
+-- how the words of a line may end
+abbrev pub IsEnded : Works → Option (List ℕ) → Result Unit Fault → Type 0
+IsEnded works old end = IsNoLine end ⊎ IsLineDone works old end
+
+-- the status is that of such an end
+abbrev pub IsRun : Works → Option (List ℕ) → ℕ → Type 0
+IsRun works old status = (end : Result Unit Fault) × IsEnded works old end × IsStatusOf end status
