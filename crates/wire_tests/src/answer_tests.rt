@@ -126,7 +126,7 @@ fn reserved(alloc: Global, text: &[u8], expiry: &[u8], qty: u64) -> Option<Reser
 }
 
 // The bytes of an answer, written again where there was no memory.
-fn written(alloc: Global, answer: &Answer) -> Result<Vec<u8>, AllocError> {
+pub fn written(alloc: Global, answer: &Answer) -> Result<Vec<u8>, AllocError> {
     match write_answer(alloc, answer) {
         Ok(bytes) => Ok(bytes),
         Err(_) => write_answer(alloc, answer),

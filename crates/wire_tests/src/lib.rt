@@ -8,4 +8,6 @@
 #[cfg(test)]
 mod answer_tests;
 #[cfg(test)]
+mod serving_tests;
+#[cfg(test)]
 mod tests;
