@@ -6,9 +6,17 @@
 #[cfg(test)]
 mod commands_tests;
 #[cfg(test)]
+mod file_tests;
+#[cfg(test)]
+mod hostile_files;
+#[cfg(test)]
+mod hostile_labels;
+#[cfg(test)]
 mod label_tests;
 #[cfg(test)]
 mod lines_tests;
+#[cfg(test)]
+mod plain;
 #[cfg(test)]
 mod plan_tests;
 #[cfg(test)]
