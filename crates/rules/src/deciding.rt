@@ -52,12 +52,7 @@ pub fn decide(
     decision(alloc, slice, key, command)
 }
 
-fn decision(
-    alloc: Global,
-    slice: &Slice,
-    key: &Key,
-    command: &Command,
-) -> Result<Change, RuleFault>
+fn decision(alloc: Global, slice: &Slice, key: &Key, command: &Command) -> Result<Change, RuleFault>
     ensures { IsMade (first_refusal (all_seen slice.now command.now)) (command_changes slice.now key.now command.now) result }
 {
     if let Some(why) = refusal(slice, command) {
@@ -99,12 +94,7 @@ fn judge(slice: &Slice, command: &Command) -> Option<Refusal>
 }
 
 // What the command changes, where it is accepted.
-fn change(
-    alloc: Global,
-    slice: &Slice,
-    key: &Key,
-    command: &Command,
-) -> Result<Change, AllocError>
+fn change(alloc: Global, slice: &Slice, key: &Key, command: &Command) -> Result<Change, AllocError>
     ensures { IfOk result (λ change. change ≡ command_changes slice.now key.now command.now) }
 {
     match command {

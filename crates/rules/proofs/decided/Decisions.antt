@@ -9,6 +9,7 @@ use Rattle.commands.specs.declared.refusal.Refusal.{Refusal}
 use Rattle.commands.specs.declared.refusal.Refusal.TheVariants.{ActsFull}
 use Rattle.commands.specs.declared.command.Command.{Command}
 use Rattle.commands.specs.declared.rows.MetaRow.{MetaRow}
+use Rattle.commands.specs.Replies.{reply_text}
 use Rattle.machine.specs.Acts.{Act, next_number}
 use Rattle.machine.specs.Standing.{today, shipments_so_far}
 use Rattle.machine.specs.Verdict.{Judgement, first_refusal, judgement, verdict}
@@ -77,12 +78,8 @@ module _ (first : ℤ) (acts : List Act) (act : Act) (s : Slice) (slice : IsSlic
     -- a reply that has nothing beside the number
     pub plain_same : further_field first act acts act.command ≡ [] → plain_reply s ≡ reply first act acts
     plain_same none =
-        ap (λ n. codes "{\"act\":" ++ decimal n ++ codes "}") number_same ∙ ap (λ xs. xs ++ codes "}") (sym (no_more (codes "{\"act\":" ++ decimal (next_number acts))))
+        ap (λ n. reply_text n None) number_same
         ∙ ap (λ xs. codes "{\"act\":" ++ decimal (next_number acts) ++ xs ++ codes "}") (sym none)
-      where
-        no_more : (xs : List ℕ) → xs ++ [] ≡ xs
-        no_more [] = refl
-        no_more (x ∷ xs) = ap (λ ys. x ∷ ys) (no_more xs)
 
     pub meta_same : today first (act ∷ acts) ≡ today first acts → shipments_so_far first (act ∷ acts) ≡ shipments_so_far first acts → meta_after s ≡ meta_row first (act ∷ acts)
     meta_same day shipped = (λ i. record { day = (day_seen ∙ sym day) i; acts = (number_same ∙ one_more) i; shipments = (shipments_seen ∙ sym shipped) i })
