@@ -8,7 +8,10 @@ ghost use Rattle.row_rules.specs.SeenLots.{in_bin_seen};
 ghost use Rattle.goods_rules.specs.DecidedCount.{count_seen, count_changes, adjust_seen, adjust_changes, is_over_without as is_over_without_lem, found_less as found_less_lem, stock_corrected, shares_corrected as shares_corrected_lem, correction_card as correction_card_lem, correction_cards as correction_cards_lem, change_reply as change_reply_lem, corrections as corrections_lem, units_adjusted as units_adjusted_lem};
 
 use commands::limits::{CARD_NOTE_MAX, UNITS_MAX};
-use commands::{Adjustment, CardKind, CardRow, Listed, Recount, Refusal, ReplyField, ReservedRow, Short, StockRow, reply};
+use commands::{
+    Adjustment, CardKind, CardRow, Listed, Recount, Refusal, ReplyField, ReservedRow, Short,
+    StockRow, reply,
+};
 use row_rules::cards::lot_units;
 use row_rules::changing::{meta_next, none_dropped, none_put, number_seen};
 use row_rules::judging::first_of;

@@ -18,9 +18,7 @@ pub fn judge_item(slice: &Slice, item: &NewItem) -> Option<Refusal>
 {
     let known = sees_item(slice, &item.gtin);
     let many = ITEMS_MAX <= slice.items;
-    first_of(&[
-        (known || many, Refusal::ItemExists),
-    ])
+    first_of(&[(known || many, Refusal::ItemExists)])
 }
 
 /// What a new item changes.
@@ -48,9 +46,7 @@ pub fn judge_bin(slice: &Slice, bin: &NewBin) -> Option<Refusal>
 {
     let known = sees_bin(slice, &bin.bin);
     let many = BINS_MAX <= slice.bins;
-    first_of(&[
-        (known || many, Refusal::BinExists),
-    ])
+    first_of(&[(known || many, Refusal::BinExists)])
 }
 
 /// What a new bin changes.

@@ -9,7 +9,9 @@ ghost use Rattle.row_rules.specs.Seen.{capped, none_put, none_dropped};
 ghost use Rattle.lot_rules.specs.DecidedDay.{day_judged, is_out as is_out_lem, staged_kept_on as staged_kept_on_lem, staged_gone_on as staged_gone_on_lem, units_out as units_out_lem, lot_returned_on as lot_returned_on_lem, stock_returned as stock_returned_lem, stands_in as stands_in_lem, stock_on as stock_on_lem, gtins_seen as gtins_seen_lem, day_put, day_dropped, meta_on as meta_on_lem, day_reply as day_reply_lem, day_changes};
 
 use crate::returning::{bins_with_returns, returned_put};
-use commands::{ItemRow, Listed, LotRow, MetaRow, Refusal, ReplyField, Short, StagedRow, StockRow, reply};
+use commands::{
+    ItemRow, Listed, LotRow, MetaRow, Refusal, ReplyField, Short, StagedRow, StockRow, reply,
+};
 use label::BusinessDay;
 use row_rules::changing::{none_dropped, none_put, number_seen};
 use row_rules::judging::first_of;
@@ -287,5 +289,8 @@ fn meta_on(slice: &Slice, day: BusinessDay) -> MetaRow
 fn day_reply(slice: &Slice, day: BusinessDay) -> Short
     ensures { result ≡ day_reply_lem slice.now day }
 {
-    reply(number_seen(slice), Some(ReplyField::Returned(units_out(slice, day))))
+    reply(
+        number_seen(slice),
+        Some(ReplyField::Returned(units_out(slice, day))),
+    )
 }

@@ -7,7 +7,10 @@ ghost use Rattle.row_rules.specs.Plans.{rows_to_put, rows_to_drop};
 ghost use Rattle.row_rules.specs.Seen.{meta_after, none_put, none_dropped};
 ghost use Rattle.lot_rules.specs.DecidedHold.{staged_of_seen, staged_kept as staged_kept_lem, staged_returned as staged_returned_lem, units_in_returns as units_in_returns_lem, returned_put as returned_put_lem, stock_with_returned as stock_with_returned_lem, bins_with_returns as bins_with_returns_lem, returns_bin_row as returns_bin_row_lem, shares_with_returned as shares_with_returned_lem, returned_reply as returned_reply_lem, returning_change as returning_change_lem};
 
-use commands::{BinKind, BinRow, Listed, LotRow, RecallRow, ReplyField, ReservedRow, Short, StagedRow, StockRow, reply};
+use commands::{
+    BinKind, BinRow, Listed, LotRow, RecallRow, ReplyField, ReservedRow, Short, StagedRow,
+    StockRow, reply,
+};
 use row_rules::changing::{meta_next, none_dropped, none_put, number_seen};
 use row_rules::looking::is_same_lot;
 use row_rules::plans::{ItemRows, item_rows, shares_over};
@@ -239,5 +242,8 @@ fn change_returning(
 fn returned_reply(slice: &Slice, lot: &LotId) -> Short
     ensures { result ≡ returned_reply_lem slice.now lot.now }
 {
-    reply(number_seen(slice), Some(ReplyField::Returned(staged_of(slice, lot))))
+    reply(
+        number_seen(slice),
+        Some(ReplyField::Returned(staged_of(slice, lot))),
+    )
 }

@@ -8,7 +8,10 @@ ghost use Rattle.row_rules.specs.Seen.{none_put};
 ghost use Rattle.order_rules.specs.DecidedShip.{ship_seen, ship_changes, shipment_seen as shipment_seen_lem, meta_shipped as meta_shipped_lem, rows_shipped as rows_shipped_lem, lines_shipped as lines_shipped_lem, line_shipped as line_shipped_lem, lacks_units as lacks_units_lem, order_put as order_put_lem, done_row as done_row_lem, shipment_put as shipment_put_lem, shipline as shipline_lem, ship_card as ship_card_lem, ship_reply as ship_reply_lem};
 
 use commands::limits::{CARD_NOTE_MAX, UNITS_MAX};
-use commands::{Buffer, CardKind, CardRow, LineRow, Listed, MetaRow, OrderRow, OrderState, Refusal, ReplyField, ShiplineRow, ShipmentRow, Short, StagedRow, reply};
+use commands::{
+    Buffer, CardKind, CardRow, LineRow, Listed, MetaRow, OrderRow, OrderState, Refusal, ReplyField,
+    ShiplineRow, ShipmentRow, Short, StagedRow, reply,
+};
 use row_rules::cards::lot_units;
 use row_rules::changing::{none_dropped, none_put, number_seen, one};
 use row_rules::demands::sum_staged_for;
@@ -268,5 +271,8 @@ fn units_gone(units: u64) -> i64
 fn ship_reply(slice: &Slice) -> Short
     ensures { result ≡ ship_reply_lem slice.now }
 {
-    reply(number_seen(slice), Some(ReplyField::ShipmentNumber(shipment_seen(slice))))
+    reply(
+        number_seen(slice),
+        Some(ReplyField::ShipmentNumber(shipment_seen(slice))),
+    )
 }
