@@ -1,4 +1,3 @@
-use commands::limits::SHORT_MAX;
 use commands::*;
 use std::alloc::Global;
 use std::process::Abort;
@@ -96,16 +95,50 @@ fn writes_in_place(rt: HostRuntime) {
     assert!(rt; text.text().as_bytes() == b"abc".as_slice());
 }
 
+static REPLIES: [(u64, Option<ReplyField>, &str); 5] = [
+    (6, None, "{\"act\":6}"),
+    (
+        11,
+        Some(ReplyField::ChangedBy(-2)),
+        "{\"act\":11,\"change\":-2}",
+    ),
+    (
+        13,
+        Some(ReplyField::Returned(7)),
+        "{\"act\":13,\"returned\":7}",
+    ),
+    (
+        13,
+        Some(ReplyField::ShipmentNumber(1)),
+        "{\"act\":13,\"shipment\":1}",
+    ),
+    (
+        9,
+        Some(ReplyField::UnitsShort(4)),
+        "{\"act\":9,\"short\":4}",
+    ),
+];
+
 #[test]
-fn writes_short_texts(rt: HostRuntime) {
-    let mut answer = Buffer::<SHORT_MAX>::new();
-    answer.push_all(b"{\"act\":");
-    answer.push_decimal(8);
-    answer.push_all(b",\"change\":");
-    answer.push_signed(-2);
-    answer.push_all(b"}");
-    let short = Short::of(&answer);
-    assert!(rt; short.as_bytes() == b"{\"act\":8,\"change\":-2}".as_slice());
+fn writes_replies(rt: HostRuntime) {
+    for row in REPLIES.as_slice() {
+        assert!(rt; reply(row.0, row.1).as_bytes() == row.2.as_bytes());
+    }
+}
+
+#[test]
+fn reads_words_back(rt: HostRuntime) {
+    assert!(rt; matches!(BinKind::from_word(b"HOLD"), Some(BinKind::Hold)));
+    assert!(rt;
+        matches!(
+            OrderState::from_word(b"CANCELLED"),
+            Some(OrderState::Cancelled)
+        )
+    );
+    assert!(rt; matches!(CardKind::from_word(b"WRITEOFF"), Some(CardKind::WriteOff)));
+    assert!(rt; matches!(LotStatus::from_word(b"EXPIRED"), Some(LotStatus::Expired)));
+    assert!(rt; BinKind::from_word(b"Hold").is_none());
+    assert!(rt; OrderState::from_word(b"HOLD").is_none());
 }
 
 #[test]

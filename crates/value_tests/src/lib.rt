@@ -1,4 +1,4 @@
-//! The tests of what commands are made of, of values, labels, plans and commands, and of the program's lines.
+//! The tests of what commands are made of, of values, labels, plans, commands and texts, and of the program's lines.
 //!
 //! They are a crate of their own, since the tests of a crate are proved together with all of that crate once more.
 #![tactic(auto)]
@@ -19,5 +19,9 @@ mod lines_tests;
 mod plain;
 #[cfg(test)]
 mod plan_tests;
+#[cfg(test)]
+mod text_samples;
+#[cfg(test)]
+mod texts_tests;
 #[cfg(test)]
 mod values_tests;
