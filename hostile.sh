@@ -1,0 +1,163 @@
+#!/bin/sh
+# Hostile clients at the port of lotd: slow, silent, cut off and endless ones, with a sound request between each two,
+# which is answered as if nobody else were there. Needs the Rattle kit and python3, and takes about a minute.
+# Exit status 0 only if every answer was the expected one and the server ended by itself after its last connection.
+set -eu
+cd "$(dirname "$0")"
+
+port=${PORT:-18081}
+room=$(mktemp -d)
+db=$room/stock.db
+lotd=${LOTD:-$PWD/crates/lotd/out/lotd}
+trap 'rm -rf "$room"' EXIT
+
+if [ -z "${LOTD:-}" ]; then
+    echo "> build lotd"
+    (cd crates/lotd && rt run -- label --day 2026-05-04 ']C101095060001343521726093010AB12' >/dev/null)
+fi
+
+echo "> lotd init --db stock.db --day 2026-05-04"
+"$lotd" init --db "$db" --day 2026-05-04
+
+python3 - "$lotd" "$db" "$port" <<'PYTHON'
+import socket
+import subprocess
+import sys
+import time
+
+lotd, db, port = sys.argv[1], sys.argv[2], int(sys.argv[3])
+
+ITEM = '{"key":"K-1","gtin":"09506000134352","name":"Oat drink"}'
+STOCK = b"GET /stock/09506000134352 HTTP/1.1\r\n\r\n"
+SHOWN = (200, '{"gtin":"09506000134352","lots":[],"name":"Oat drink"}')
+DAY = b'POST /days HTTP/1.1\r\nContent-Length: 32\r\n\r\n{"key":"K-9","day":"2026-05-05"}'
+HEAD = 43
+
+
+def connected():
+    peer = socket.create_connection(("127.0.0.1", port), timeout=60)
+    peer.setsockopt(socket.IPPROTO_TCP, socket.TCP_NODELAY, 1)
+    return peer
+
+
+def answer_of(peer):
+    """The status and the body of the answer, or None where the connection was closed without one."""
+    text = b""
+    while True:
+        more = peer.recv(65536)
+        if not more:
+            break
+        text += more
+    if not text:
+        return None
+    head, _, body = text.partition(b"\r\n\r\n")
+    return int(head.split(b" ")[1]), body.decode()
+
+
+def refused(status, code):
+    return status, '{"code":"%s"}' % code
+
+
+def asks(text):
+    """Sends a text, ends it, and reads the answer."""
+    with connected() as peer:
+        peer.sendall(text)
+        peer.shutdown(socket.SHUT_WR)
+        return answer_of(peer)
+
+
+def slow():
+    """Sends one byte at a time."""
+    with connected() as peer:
+        for byte in STOCK:
+            peer.sendall(bytes([byte]))
+            time.sleep(0.005)
+        return answer_of(peer)
+
+
+def silent():
+    """Sends nothing, and waits until it is given up."""
+    with connected() as peer:
+        return answer_of(peer)
+
+
+def stuck():
+    """Sends all but the last byte, and waits until it is given up."""
+    with connected() as peer:
+        peer.sendall(DAY[:-1])
+        return answer_of(peer)
+
+
+def gone(size):
+    """Sends a front and closes at once, without a look at the answer."""
+    with connected() as peer:
+        peer.sendall(DAY[:size])
+
+
+def endless_head():
+    """Sends 270,400 bytes in which no head ends."""
+    with connected() as peer:
+        peer.sendall(b"x" * 270_400)
+        peer.shutdown(socket.SHUT_WR)
+        return answer_of(peer)
+
+
+def never_ends():
+    """Goes on sending until the server hangs up."""
+    with connected() as peer:
+        try:
+            for _ in range(1_000):
+                peer.sendall(b"x" * 65_536)
+        except OSError:
+            return "hung up"
+        return "went on"
+
+
+def post(path, body):
+    return b"POST %s HTTP/1.1\r\nContent-Length: %d\r\n\r\n%s" % (path.encode(), len(body), body.encode())
+
+
+def sound():
+    return asks(STOCK)
+
+
+# What each client is called, what it does, and what it must be told.
+hostile = [
+    ("one byte at a time", slow, SHOWN),
+    ("nothing at all", silent, None),
+    ("nothing, and an end", lambda: asks(b""), refused(400, "W01")),
+    ("all but the last byte", stuck, None),
+    ("all but the last byte, and an end", lambda: asks(DAY[:-1]), refused(400, "W02")),
+    ("270,400 bytes without an end", endless_head, refused(413, "W08")),
+    ("bytes without an end", never_ends, "hung up"),
+    ("no text", lambda: asks(bytes(range(256)) + b"\r\n\r\n"), refused(400, "W01")),
+    ("a body that is too large", lambda: asks(b"POST /days HTTP/1.1\r\nContent-Length: 262145\r\n\r\n"), refused(413, "W08")),
+    ("a body that never comes", lambda: asks(b"POST /goodsin HTTP/1.1\r\nContent-Length: 262144\r\n\r\n"), refused(400, "W02")),
+]
+fronts = [("%d bytes, and an end" % n, lambda n=n: asks(DAY[:n]), refused(400, "W01" if n < HEAD else "W02")) for n in range(len(DAY))]
+cut = [("%d bytes, and gone" % n, lambda n=n: gone(n), None) for n in range(len(DAY))]
+
+clients = [("a new item", lambda: asks(post("/items", ITEM)), (200, '{"act":1}'))]
+for client in hostile:
+    clients += [client, ("a sound request", sound, SHOWN)]
+clients += fronts + cut
+clients += [("the item's stock", sound, SHOWN), ("the next act", lambda: asks(DAY), (200, '{"act":2,"returned":0}'))]
+
+server = subprocess.Popen([lotd, "serve", "--db", db, "--port", str(port), "--max", str(len(clients))], stdout=subprocess.PIPE)
+try:
+    told = server.stdout.readline().decode()
+    if told != "listening on 127.0.0.1:%d\n" % port:
+        sys.exit("hostile: the server said %r" % told)
+    for name, client, want in clients:
+        got = client()
+        if got != want:
+            sys.exit("hostile: %s: expected %r, got %r" % (name, want, got))
+    print("%d clients were answered as they must be" % len(clients))
+    status = server.wait(timeout=60)
+    if status != 0:
+        sys.exit("hostile: the server ended with status %d" % status)
+finally:
+    server.kill()
+PYTHON
+
+echo "hostile: every answer was the expected one, and the server ended by itself"
