@@ -24,7 +24,7 @@ use Rattle.slices.specs.Books.{IsBooksOf}
 use Rattle.store.specs.declared.reply.Reply.{Reply}
 use Rattle.store.specs.declared.fault.Fault.{Fault}
 use Rattle.store.specs.declared.fault.Fault.TheVariants as fault
-use Rattle.store.specs.Acting.{IsActedInside, IsDecided}
+use Rattle.store.specs.Acting.{IsActedInside, IsDecidedByRows}
 use Rattle.store.specs.Answers.{IsToldAgain}
 use Rattle.store.specs.Faults.{fault_of}
 use Rattle.store.proofs.RepeatTold.{key_is_new, new_key_is_judged, act_is_recorded, repeat_is_told}
@@ -51,13 +51,13 @@ module _ (first : ℤ) (acts : List Act) (act : Act) where
   refused_anew why fresh no_way = sym (new_key_is_judged first act acts fresh ∙ ap (judged first act acts) no_way)
 
   -- a new command on which there is no change
-  pub undecided_inside : (why : Fault) (old last : State) → bearer act.key acts ≡ None → IsDecided first act acts (Err why) → IsActedInside first acts act (Err why) old last
+  pub undecided_inside : (why : Fault) (old last : State) → bearer act.key acts ≡ None → IsDecidedByRows first act acts (Err why) → IsActedInside first acts act (Err why) old last
   undecided_inside (fault.Refused why) old last fresh h = refused_anew why fresh h
   undecided_inside fault.Store old last fresh h = tt
   undecided_inside fault.Foreign old last fresh h = h
 
   -- a fault of the tables, where no row is foreign
-  pub fails_before : (cause : TableFault) → (cause ≡ table.Foreign → ⊥) → IsDecided first act acts (Err (fault_of cause))
+  pub fails_before : (cause : TableFault) → (cause ≡ table.Foreign → ⊥) → IsDecidedByRows first act acts (Err (fault_of cause))
   fails_before (table.Store e) typed = tt
   fails_before table.Foreign typed = typed refl
 

@@ -1,22 +1,24 @@
 -- An act within a transaction, and then the transaction's end.
-use Rattle.std.proofs.Common.{◌≡◌, inl, inr, true, false, List, Ok, Err, Result, refl, sym, ap, subst, ◌∙◌, IsTrue, arith}
+use Rattle.std.proofs.Common.{◌≡◌, inl, inr, true, false, List, Ok, Err, Result, OnErr, refl, sym, ap, subst, ◌∙◌, IsTrue, arith}
 use Rattle.std.specs.Prelude.{ℤ}
 use Rattle.std.specs.Result.{IsErr, IsErrAnd}
 use Rattle.sqlite.specs.State.{State, HasCleanDisk, Shows, KeepsCommit, IsRolledBack, Survives}
 use Rattle.sqlite.proofs.StateLemmas.{survives_then, survives_weaker}
 use Rattle.sqlite.specs.Steps.{FailsToCommit}
+use Rattle.sqlite.specs.Effect.{Database}
+use Rattle.sqlite.specs.Tree.{Trees}
 use Rattle.sqlite.specs.Store.{Ghosts}
 use Rattle.sqlite.specs.Held.{Held, state}
 use Rattle.sqlite.specs.declared.error.Error.{Error}
 use Rattle.table_words.specs.Steps.{IsReady}
-use Rattle.table_words.proofs.CallLemmas.{put_back, inside_then}
+use Rattle.table_words.proofs.CallLemmas.{put_back, inside_then, kept_undone, kept_unchanged, kept_then, on_err}
 use Rattle.machine.specs.Acts.{Act}
 use Rattle.machine.specs.Once.{IsHistory, is_key_of, acts_after}
 use Rattle.store.specs.declared.reply.Reply.{Reply}
 use Rattle.store.specs.declared.fault.Fault.{Fault}
 use Rattle.store.specs.declared.fault.Fault.TheVariants.{Refused, Store, Foreign}
 use Rattle.slices.specs.Books.{AreRowsOf, IsBooksOf}
-use Rattle.store.specs.Books.{KeepsBooks}
+use Rattle.store.specs.Books.{KeepsBooks, LeavesOnly}
 use Rattle.store.specs.Acting.{IsActedOn, IsActedInside}
 use Rattle.store.proofs.FaultsTold.{by_error}
 
@@ -128,3 +130,35 @@ module _ (act : Act) (old begun last new : State) (is : begun ≡ record old { i
   -- a stop before it leaves the books before
   pub stop_before_commit : Survives begun last (λ _. ⊥) → Survives last new (λ _. ⊥) → SurvivesWhole act old new
   stop_before_commit before ends = survives_weaker old new (λ _. ⊥) _ (λ _ db none. absurd none) (inside_then old last new (inside_then old begun last (begun_survives old begun is) before) ends)
+
+-- of tables of whatever origin: where there is no answer, nothing is committed
+abbrev pub KeptWhole : Result Reply Fault → State → State → Type 0
+KeptWhole r old new = HasCleanDisk new → IsReady old.now → OnErr r (KeepsCommit old new)
+
+module _ (old begun last new : State) (is : begun ≡ record old { in_transaction = true }) where
+  begun_commit : KeepsCommit old begun
+  begun_commit = subst (λ (s : State). KeepsCommit old s) (sym is) (record { was_open = λ up. up; committed = λ up. refl })
+
+  ready_begun : IsReady old.now → IsTrue begun.is_open → IsReady begun.now
+  ready_begun ready up = subst IsReady (sym (ap (λ (s : State). s.now) is)) ready
+
+  commit_kept : KeepsInside begun last → IsReady old.now → HasCleanDisk last → KeepsCommit last new → KeepsCommit old new
+  commit_kept keeps ready was ends = kept_then old last new (kept_then old begun last begun_commit (keeps was (ready_begun ready))) ends
+
+  pub kept_if_undone : (r : Result Reply Fault) → KeepsInside begun last → Survives last new (λ _. ⊥) → (HasCleanDisk new → IsRolledBack last new)
+      → KeptWhole r old new
+  kept_if_undone r keeps ends undone clean ready = on_err r (commit_kept keeps ready (omega (arith, clean, ends.clean)) (kept_undone last new (undone clean)))
+
+  failed_commit_kept : (e : Error) → FailsToCommit last new e → KeepsCommit last new
+  failed_commit_kept e (inl fails) = kept_undone last new fails.3
+  failed_commit_kept e (inr late) = kept_unchanged last new late.2
+
+  pub kept_if_not_committed : (r : Result Reply Fault) (e : Error) → KeepsInside begun last → Survives last new (λ db. db ≡ last.now.trees) → (HasCleanDisk new → FailsToCommit last new e)
+      → KeptWhole r old new
+  kept_if_not_committed r e keeps ends fails clean ready = on_err r (commit_kept keeps ready (omega (arith, clean, ends.clean)) (failed_commit_kept e (fails clean)))
+
+-- what was answered is kept: a crash leaves the last commit while the connection is open
+pub kept_acts : {S : Type 0} (g : Ghosts S) (h : Held S) (first : ℤ) (acts : List Act) → ((db : Trees) → IsTrue (g.view h.store).is_open → g.recovers h.store db → db ≡ (g.view h.store).committed)
+    → IsTrue (state g h).is_open → KeepsBooks first acts (state g h) → LeavesOnly first acts (state g h)
+kept_acts g h first acts settled up keeps trees left =
+    subst (AreRowsOf first acts) (sym (settled trees up left ∙ ap (λ (db : Database). db.trees) (keeps.settled up))) (keeps.books up).rows

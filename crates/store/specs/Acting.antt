@@ -1,6 +1,7 @@
 -- What an act answers, and what it leaves of the books.
-use Rattle.std.specs.Prelude.{◌≡◌, Bool, if◌then◌else◌, List, Some, Result, Ok, Err, ℤ, IsTrue}
+use Rattle.std.specs.Prelude.{◌≡◌, Bool, if◌then◌else◌, List, Some, None, Result, Ok, Err, ℤ, IsTrue}
 use Rattle.sqlite_trees.specs.declared.store.Store.{Ghosts}
+use Rattle.sqlite.specs.Held.{state}
 use Rattle.sqlite.specs.State.{State}
 use Rattle.table_words.specs.Steps.{Goes}
 use Rattle.commands.specs.declared.command.Command.{Command}
@@ -30,9 +31,9 @@ IsActedOn first acts act (Err (Refused why)) new = (once.Refused why ≡ outcome
 IsActedOn first acts act (Err Store) new = KeepsBooks first acts new
 IsActedOn first acts act (Err Foreign) new = ⊥
 
--- the same of the books, which know their business day
+-- the same of the books, which know their business day. What is answered is not answered over a connection that the disk has shut
 abbrev pub IsActed : {S : Type 0} → Ghosts S → ℤ → List Act → Act → Result Reply Fault → Connected S → Type 0
-IsActed g first acts act (Ok reply) new = (told reply ≡ outcome first acts act) × HoldsBooks g first (acts_after first acts act) new
+IsActed g first acts act (Ok reply) new = (told reply ≡ outcome first acts act) × IsTrue (state g new.conn).is_open × HoldsBooks g first (acts_after first acts act) new
 IsActed g first acts act (Err (Refused why)) new = (once.Refused why ≡ outcome first acts act) × HoldsBooks g first acts new
 IsActed g first acts act (Err Store) new = HoldsBooks g first acts new
 IsActed g first acts act (Err Foreign) new = ⊥
@@ -44,12 +45,19 @@ IsActedInside first acts act (Err (Refused why)) old new = once.Refused why ≡ 
 IsActedInside first acts act (Err Store) old new = Unit {0}
 IsActedInside first acts act (Err Foreign) old new = ⊥
 
--- a decision, with the faults of the books
+-- a decision, with the faults of the books; there is no memory for it only where the rules refuse nothing
 abbrev pub IsDecided : ℤ → Act → List Act → Result Change Fault → Type 0
 IsDecided first act acts (Ok change) = IsDecision first act acts (Ok change)
 IsDecided first act acts (Err (Refused why)) = verdict first acts act.command ≡ Some why
-IsDecided first act acts (Err Store) = Unit {0}
+IsDecided first act acts (Err Store) = verdict first acts act.command ≡ None
 IsDecided first act acts (Err Foreign) = ⊥
+
+-- the same where rows are read for it first, which memory and the disk may not suffice for
+abbrev pub IsDecidedByRows : ℤ → Act → List Act → Result Change Fault → Type 0
+IsDecidedByRows first act acts (Ok change) = IsDecision first act acts (Ok change)
+IsDecidedByRows first act acts (Err (Refused why)) = verdict first acts act.command ≡ Some why
+IsDecidedByRows first act acts (Err Store) = Unit {0}
+IsDecidedByRows first act acts (Err Foreign) = ⊥
 
 -- the business day after a command that was accepted, or that came again and so opens no day
 abbrev pub day_left : ℤ → Command → Bool → ℤ

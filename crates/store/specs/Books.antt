@@ -3,6 +3,7 @@ use Rattle.std.specs.Prelude.{◌≡◌, List, ℤ, IsTrue}
 use Rattle.sqlite_trees.specs.declared.store.Store.{Ghosts}
 use Rattle.sqlite.specs.State.{State, HasCleanDisk}
 use Rattle.sqlite.specs.Held.{state}
+use Rattle.sqlite.specs.Tree.{Trees}
 use Rattle.machine.specs.Acts.{Act}
 use Rattle.machine.specs.Standing.{today}
 pub use Rattle.slices.specs.Books.{AreRowsOf, IsBooksOf}
@@ -13,9 +14,17 @@ pub record KeepsBooks (first : ℤ) (acts : List Act) (s : State) : Type 0 where
   pub books : IsTrue s.is_open → IsBooksOf first acts s.now
   pub settled : IsTrue s.is_open → s.committed ≡ s.now
 
+-- a stop leaves the books of the acts and nothing else
+abbrev pub LeavesOnly : ℤ → List Act → State → Type 0
+LeavesOnly first acts s = (trees : Trees) → s.may_leave trees → AreRowsOf first acts trees
+
 -- so far the disk has returned what was written: the books are in memory, or in a file that nobody else writes
 abbrev pub IsClean : {S : Type 0} → Ghosts S → Connected S → Type 0
 IsClean g books = HasCleanDisk (state g books.conn)
+
+-- what a stop leaves, as the next opening finds it
+abbrev pub MayLeave : {S : Type 0} → Ghosts S → Connected S → Trees → Type 0
+MayLeave g books = (state g books.conn).may_leave
 
 -- the business day of the books
 abbrev pub day_of : {S : Type 0} → Connected S → ℤ

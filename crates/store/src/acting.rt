@@ -1,6 +1,6 @@
 //! An act as one transaction.
 
-ghost use Rattle.std.specs.Prelude.{◌≡◌, false, None, ℤ, List, IsTrue, OnOk, IfOk, IfErr};
+ghost use Rattle.std.specs.Prelude.{◌≡◌, false, None, ℤ, List, IsTrue, OnOk, OnErr, IfOk, IfErr};
 ghost use Rattle.sqlite.specs.State.{HasCleanDisk, Survives, KeepsCommit, IsUnchanged};
 ghost use Rattle.sqlite.specs.Held.{state};
 ghost use Rattle.commands.specs.Spelling.{key_text, spelling};
@@ -11,7 +11,7 @@ ghost use Rattle.machine.specs.Once.{IsHistory, is_key_of, bearer, acts_after};
 ghost use Rattle.rules.specs.Slices.{AreOnce, applied};
 ghost use Rattle.slices.specs.Books.{AreRowsOf, IsBooksOf};
 ghost use Rattle.store.specs.Books.{KeepsBooks};
-ghost use Rattle.store.specs.Acting.{IsActedOn, IsActedInside, IsDecided};
+ghost use Rattle.store.specs.Acting.{IsActedOn, IsActedInside, IsDecidedByRows};
 
 use crate::repeats::{earlier, find_open, keep_act};
 use crate::telling::{decided, told_again};
@@ -39,6 +39,7 @@ pub fn act_once<S: Alter>(
     ensures outside { conn.new.in_transaction ≡ false }
     ensures acted { HasCleanDisk (state S.Store conn.new) → IsTrue (is_key_of key.now command.now) → (first : ℤ) (acts : List Act) → IsHistory first acts → KeepsBooks first acts (state S.Store conn.old)
         → IsActedOn first acts (record { key = key.now; command = command.now }) result (state S.Store conn.new) }
+    ensures as_before { HasCleanDisk (state S.Store conn.new) → IsReady (state S.Store conn.old).now → OnErr result (KeepsCommit (state S.Store conn.old) (state S.Store conn.new)) }
     ensures survives { Survives (state S.Store conn.old) (state S.Store conn.new) (λ trees. IsTrue (is_key_of key.now command.now) → (first : ℤ) (acts : List Act) → IsHistory first acts → KeepsBooks first acts (state S.Store conn.old)
         → AreRowsOf first (acts_after first acts (record { key = key.now; command = command.now })) trees) }
 {
@@ -121,7 +122,7 @@ fn change_of<S: Alter>(
     ensures same_reference { tx.new.conn.ghost_name ≡ tx.old.conn.ghost_name }
     ensures decided { HasCleanDisk (state S.Store tx.new.conn.now) → IsTrue (is_key_of key.now command.now) → (first : ℤ) (acts : List Act) → IsHistory first acts
         → IsTrue (state S.Store tx.old.conn.now).is_open → IsBooksOf first acts (state S.Store tx.old.conn.now).now → bearer key.now acts ≡ None
-        → IsDecided first (record { key = key.now; command = command.now }) acts result }
+        → IsDecidedByRows first (record { key = key.now; command = command.now }) acts result }
     ensures same { HasCleanDisk (state S.Store tx.new.conn.now) → IsReady (state S.Store tx.old.conn.now).now → IsTrue (state S.Store tx.old.conn.now).is_open
         → OnOk result (IsUnchanged (state S.Store tx.old.conn.now) (state S.Store tx.new.conn.now)) }
     ensures kept { HasCleanDisk (state S.Store tx.new.conn.now) → IsReady (state S.Store tx.old.conn.now).now → IsTrue (state S.Store tx.old.conn.now).is_open

@@ -1,7 +1,7 @@
 //! The books over a connection.
 
 ghost use Rattle.std.specs.Prelude.{◌≡◌, ◌≢◌, ◌⊎◌, ◌↔◌, ℤ, None, [], List, false, IsTrue, IsErrOf, IsErrAnd, IsOkAnd, OnOk, OnErr, IfOk, IfErr, option_map, find, Some, true};
-ghost use Rattle.sqlite.specs.State.{HasCleanDisk, Survives};
+ghost use Rattle.sqlite.specs.State.{HasCleanDisk, Survives, KeepsCommit};
 ghost use Rattle.sqlite.specs.Held.{state};
 ghost use Rattle.label.specs.Days.{is_business_day};
 ghost use Rattle.table_words.specs.Schema.{schema_0, the_schema};
@@ -13,7 +13,7 @@ ghost use Rattle.machine.specs.Standing.{today, day_after_command, RETURNS};
 ghost use Rattle.store.specs.Acting.{IsActed, day_left as day_left_lem};
 ghost use Rattle.machine.specs.Queries.{order_shown, stock_shown};
 ghost use Rattle.store.specs.Queries.{IsShown};
-ghost use Rattle.store.specs.Books.{AreRowsOf, KeepsBooks, HoldsBooks, IsClean};
+ghost use Rattle.store.specs.Books.{AreRowsOf, KeepsBooks, HoldsBooks, LeavesOnly, IsClean};
 ghost use Rattle.store.specs.Opening.{HasDay, unlimited, IsLeftUnfilled, IsReopened, IsLeftOver, IsCleanLeft};
 
 use crate::acting::act_once;
@@ -240,14 +240,20 @@ impl<S: Alter> Books<S> {
     /// of it, its row of `repeats` too.
     ///
     /// A key that an earlier act bears is looked at before every other rule: the same command gets that act's answer
-    /// again, and another is refused (K01). Under a new key the rules decide. What is refused leaves the books as they
-    /// were, and so does `Store`, where memory, the disk or a size did not suffice; `Foreign` is never answered on books
-    /// of a history.
+    /// again, and another is refused (K01). Under a new key the rules decide. What is answered is kept: whatever a stop
+    /// leaves from then on has the act. What is refused leaves the books as they were, and so does `Store`, where memory,
+    /// the disk or a size did not suffice, unless the disk has shut the connection: the file then has the books before
+    /// or with the whole act. `Foreign` is never answered on books of a history. On other tables, too, nothing is
+    /// committed where there is no answer.
     pub fn act(&mut self, key: &Key, command: &Command) -> Result<Reply, Fault>
         ensures clean { IsClean S.Store self.new → IsClean S.Store self.old }
         ensures acted { IsClean S.Store self.new → IsTrue (is_key_of key.now command.now)
             → (first : ℤ) (acts : List Act) → IsHistory first acts → HoldsBooks S.Store first acts self.old
             → IsActed S.Store first acts (record { key = key.now; command = command.now }) result self.new }
+        ensures kept { IsClean S.Store self.new → IsTrue (is_key_of key.now command.now)
+            → (first : ℤ) (acts : List Act) → IsHistory first acts → HoldsBooks S.Store first acts self.old
+            → OnOk result (LeavesOnly first (acts_after first acts (record { key = key.now; command = command.now })) (state S.Store self.new.conn)) }
+        ensures as_before { IsClean S.Store self.new → IsReady (state S.Store self.old.conn).now → OnErr result (KeepsCommit (state S.Store self.old.conn) (state S.Store self.new.conn)) }
         ensures survives { Survives (state S.Store self.old.conn) (state S.Store self.new.conn) (λ trees. IsTrue (is_key_of key.now command.now)
             → (first : ℤ) (acts : List Act) → IsHistory first acts → KeepsBooks first acts (state S.Store self.old.conn)
             → AreRowsOf first (acts_after first acts (record { key = key.now; command = command.now })) trees) }

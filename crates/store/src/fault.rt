@@ -9,7 +9,8 @@ use sqlite::Error;
 use std::alloc::AllocError;
 use table_words::error::TableFault;
 
-/// Why a call on the books fails. The tables are as they were.
+/// Why a call on the books fails. The tables are as they were, unless a fault of the disk has shut the connection: of an
+/// act the file then has nothing or the whole.
 #[derive(Clone, Copy, PartialEq, Eq, Debug)]
 pub enum Fault {
     /// The command is refused, for this cause.

@@ -1,7 +1,7 @@
 use Rattle.std.proofs.Common.{Ok, rules}
 use Rattle.sqlite.specs.Held.{state}
 use Rattle.machine.specs.Acts.{Act}
-use Rattle.store.proofs.ActsWhole.{ActsWhole, SurvivesWhole, begun_state, act_committed, act_not_committed, act_undone, stop_in_commit, stop_before_commit}
+use Rattle.store.proofs.ActsWhole.{ActsWhole, SurvivesWhole, begun_state, act_committed, act_not_committed, act_undone, KeptWhole, kept_if_undone, kept_if_not_committed, stop_in_commit, stop_before_commit}
 use Rattle.store.proofs.acting.act_once.Goals as goal
 
 pub returns-clause-acted : goal.returns-clause-acted
@@ -74,4 +74,26 @@ returns-in_err-reply-clause-survives g c =
     let is = begun_state g.S.Store c.args.conn.now c.transaction-tx.result.conn.now c.transaction-tx.ensures.begun in
     let whole : SurvivesWhole act old new =
     stop_before_commit act old begun last new is c.in_err-reply.ensures.survives c.drop-tx.ensures.survives in
+    search (rules, whole)
+
+pub returns-in_err-commit-clause-as_before : goal.returns-in_err-commit-clause-as_before
+returns-in_err-commit-clause-as_before g c =
+    let old = state g.S.Store c.args.conn.now in
+    let begun = state g.S.Store c.transaction-tx.result.conn.now in
+    let last = state g.S.Store c.act_inside.new.tx.conn.now in
+    let new = state g.S.Store c.commit.new.self.0 in
+    let is = begun_state g.S.Store c.args.conn.now c.transaction-tx.result.conn.now c.transaction-tx.ensures.begun in
+    let whole : KeptWhole c.from_residual-in_err-commit.result old new =
+    kept_if_not_committed old begun last new is c.from_residual-in_err-commit.result c.in_err-commit.field-0.0 c.in_ok-reply.ensures.kept c.commit.ensures.survives c.in_err-commit.ensures.err in
+    search (rules, whole)
+
+pub returns-in_err-reply-clause-as_before : goal.returns-in_err-reply-clause-as_before
+returns-in_err-reply-clause-as_before g c =
+    let old = state g.S.Store c.args.conn.now in
+    let begun = state g.S.Store c.transaction-tx.result.conn.now in
+    let last = state g.S.Store c.act_inside.new.tx.conn.now in
+    let new = state g.S.Store c.drop-tx.new.self.0 in
+    let is = begun_state g.S.Store c.args.conn.now c.transaction-tx.result.conn.now c.transaction-tx.ensures.begun in
+    let whole : KeptWhole c.from_residual.result old new =
+    kept_if_undone old begun last new is c.from_residual.result c.in_err-reply.ensures.kept c.drop-tx.ensures.survives c.drop-tx.ensures.undone in
     search (rules, whole)

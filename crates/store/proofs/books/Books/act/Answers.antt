@@ -3,13 +3,15 @@ use Rattle.std.specs.Prelude.{ℤ, List, IsTrue}
 use Rattle.commands.specs.declared.key.Key.{Key}
 use Rattle.commands.specs.declared.command.Command.{Command}
 use Rattle.sqlite.specs.Held.{state}
-use Rattle.sqlite.specs.State.{Survives}
+use Rattle.sqlite.specs.State.{Survives, KeepsCommit}
 use Rattle.sqlite.specs.Tree.{Trees}
 use Rattle.sqlite_trees.specs.declared.store.Store.{Ghosts}
 use Rattle.machine.specs.Acts.{Act}
 use Rattle.machine.specs.Once.{IsHistory, is_key_of, acts_after}
-use Rattle.store.specs.Books.{HoldsBooks, KeepsBooks, AreRowsOf}
+use Rattle.store.specs.Books.{HoldsBooks, KeepsBooks, AreRowsOf, IsClean}
+use Rattle.table_words.specs.Steps.{IsReady}
 use Rattle.store.specs.Connected.{Connected}
+use Rattle.store.proofs.ActsWhole.{kept_acts}
 use Rattle.store.proofs.DayTold.{day_told}
 use Rattle.store.proofs.books.Books.act.Goals as goal
 
@@ -23,7 +25,14 @@ returns-in-Ok-clause-acted g c clean kind first acts history holds =
     let act : Act = record { key = c.args.key.now; command = c.args.command.now } in
     let was : HoldsBooks g.S.Store first acts (record { conn = c.self.inside.conn; day = c.self.inside.day }) = subst (HoldsBooks g.S.Store first acts) (sym c.self.view_is) holds in
     let done = c.in-Ok.ensures.acted clean kind first acts history was.keeps in
-    (done.0, record { keeps = done.2; day = c.day_left-day.ensures ∙ day_told first acts act c.self.inside.day c.in-Ok.reply done.0 was.day })
+    (done.0, done.1, record { keeps = done.2; day = c.day_left-day.ensures ∙ day_told first acts act c.self.inside.day c.in-Ok.reply done.0 was.day })
+
+pub returns-in-Ok-clause-kept : goal.returns-in-Ok-clause-kept
+returns-in-Ok-clause-kept g c clean kind first acts history holds =
+    let act : Act = record { key = c.args.key.now; command = c.args.command.now } in
+    let was : HoldsBooks g.S.Store first acts (record { conn = c.self.inside.conn; day = c.self.inside.day }) = subst (HoldsBooks g.S.Store first acts) (sym c.self.view_is) holds in
+    let done = c.in-Ok.ensures.acted clean kind first acts history was.keeps in
+    kept_acts g.S.Store c.act_once.new.conn first (acts_after first acts act) (g.met.S.Store.settled c.act_once.new.conn.store) done.1 done.2
 
 pub returns-in-Ok-clause-clean : goal.returns-in-Ok-clause-clean
 returns-in-Ok-clause-clean g c = search rules
@@ -41,3 +50,7 @@ returns-in-Err-clause-acted g c = search rules
 pub returns-in-Err-clause-survives : goal.returns-in-Err-clause-survives
 returns-in-Err-clause-survives g c =
     subst (λ b. Survives (state g.S.Store b.conn) (state g.S.Store c.act_once.new.conn) (Leaves g.S.Store c.args.key.now c.args.command.now b)) c.self.view_is c.in-Err.ensures.survives
+
+pub returns-in-Err-clause-as_before : goal.returns-in-Err-clause-as_before
+returns-in-Err-clause-as_before g c =
+    subst (λ b. IsClean g.S.Store (record { conn = c.act_once.new.conn; day = c.self.inside.day }) → IsReady (state g.S.Store b.conn).now → KeepsCommit (state g.S.Store b.conn) (state g.S.Store c.act_once.new.conn)) c.self.view_is c.in-Err.ensures.as_before
