@@ -31,7 +31,7 @@ fn rows_of(alloc: Global, text: &[u8], today: Day) -> Result<Listed<(Key, Comman
 }
 
 /// How many rows a file has, or its fault.
-pub fn outcome(alloc: Global, text: &[u8], today: Day) -> Result<usize, FileFault>
+pub(crate) fn outcome(alloc: Global, text: &[u8], today: Day) -> Result<usize, FileFault>
     requires { IsTrue (is_business_day today) }
 {
     match rows_of(alloc, text, today) {

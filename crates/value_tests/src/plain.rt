@@ -1,5 +1,7 @@
 //! The rules of labels and of their values, read plainly: none of the product's own functions judges here.
 
+ghost use Rattle.std.specs.Prelude.{◌≤◌};
+
 use values::LabelFault;
 
 /// The business days of these tests are of the year 2026.
@@ -11,7 +13,7 @@ const SEPARATOR: u8 = 29;
 
 /// A date of the calendar.
 #[derive(Clone, Copy)]
-pub struct Date {
+pub(crate) struct Date {
     year: u32,
     month: u32,
     day: u32,
@@ -19,7 +21,7 @@ pub struct Date {
 
 /// The data of the elements that were read.
 #[derive(Clone, Copy)]
-pub struct Found<'t> {
+pub(crate) struct Found<'t> {
     pub gtin: Option<&'t [u8]>,
     pub lot: Option<&'t [u8]>,
     pub expiry: Option<Date>,
@@ -38,7 +40,9 @@ fn are_digits(data: &[u8]) -> bool {
     true
 }
 
-fn value(c: u8) -> u32 {
+fn value(c: u8) -> u32
+    ensures { result ≤ 255 }
+{
     u32::from(c.saturating_sub(b'0'))
 }
 
@@ -51,7 +55,7 @@ fn is_set_82(c: u8) -> bool {
 }
 
 /// What is wrong with fourteen bytes as a GTIN.
-pub fn gtin_fault(data: &[u8]) -> Option<LabelFault> {
+pub(crate) fn gtin_fault(data: &[u8]) -> Option<LabelFault> {
     if data.len() != 14 {
         return Some(LabelFault::CutShort);
     }
@@ -63,8 +67,8 @@ pub fn gtin_fault(data: &[u8]) -> Option<LabelFault> {
     }
     let mut sum = 0u32;
     for i in 0..14 {
-        let weight = if i % 2 == 0 { 3 } else { 1 };
-        sum = sum.wrapping_add(weight * value(data[i]));
+        let digit = value(data[i]);
+        sum = sum.wrapping_add(if i % 2 == 0 { 3 * digit } else { digit });
     }
     if sum % 10 == 0 {
         None
@@ -74,7 +78,7 @@ pub fn gtin_fault(data: &[u8]) -> Option<LabelFault> {
 }
 
 /// What is wrong with bytes as a lot.
-pub fn lot_fault(data: &[u8]) -> Option<LabelFault> {
+pub(crate) fn lot_fault(data: &[u8]) -> Option<LabelFault> {
     if data.is_empty() {
         return Some(LabelFault::LotEmpty);
     }
@@ -104,7 +108,9 @@ fn days_of(year: u32, month: u32) -> u32 {
 }
 
 // The century of a year's last two digits: the one before, after or of the business day.
-fn century(two: u32) -> u32 {
+fn century(two: u32) -> u32
+    ensures { result ≤ 21 }
+{
     if two >= YEAR_OF_CENTURY + 51 {
         CENTURY - 1
     } else if two.saturating_add(50) <= YEAR_OF_CENTURY {
@@ -115,7 +121,7 @@ fn century(two: u32) -> u32 {
 }
 
 /// The date of six bytes YYMMDD.
-pub fn date_of(data: &[u8]) -> Result<Date, LabelFault> {
+pub(crate) fn date_of(data: &[u8]) -> Result<Date, LabelFault> {
     if data.len() != 6 {
         return Err(LabelFault::CutShort);
     }
@@ -139,7 +145,7 @@ fn digit(n: u32) -> u8 {
 }
 
 /// `YYYY-MM-DD`.
-pub fn date_text(date: Date) -> [u8; 10] {
+pub(crate) fn date_text(date: Date) -> [u8; 10] {
     let Date { year, month, day } = date;
     [
         digit(year / 1000),
@@ -251,7 +257,7 @@ fn take<'t>(rest: &'t [u8], found: Found<'t>) -> Result<(&'t [u8], Found<'t>), L
 }
 
 /// What a label says, or its first fault.
-pub fn label(text: &[u8]) -> Result<Found<'_>, LabelFault> {
+pub(crate) fn label(text: &[u8]) -> Result<Found<'_>, LabelFault> {
     let mut rest = without_prefix(text)?;
     let mut found = Found {
         gtin: None,
