@@ -1,7 +1,7 @@
 #!/bin/sh
 # The main job of Lot stock, from nothing: builds lotd, reads a label, makes books, receives goods by
-# their label, takes an order, shows what is reserved for it and the item's stock, picks, ships and
-# recalls. Needs the Rattle kit and curl.
+# their label, takes an order, shows what is reserved for it, the item's stock, the pick list and the shortages,
+# picks, ships and recalls. Needs the Rattle kit and curl.
 # Exit status 0 only if every answer was the expected one.
 set -eu
 cd "$(dirname "$0")"
@@ -33,6 +33,12 @@ post() {
     expect "POST $1" "$4 $3" "$(curl -s -X POST -d "$2" -w ' %{http_code}' "http://127.0.0.1:$port$1")"
 }
 
+# text PATH TEXT, of status 200
+text() {
+    echo "> GET $1"
+    expect "GET $1" "$2" "$(curl -s "http://127.0.0.1:$port$1")"
+}
+
 # get PATH STATUS ANSWER
 get() {
     echo "> GET $1"
@@ -51,8 +57,8 @@ EXPIRY 2026-09-30" "$("$lotd" label --day 2026-05-04 "$label")"
 echo "> lotd init --db stock.db --day 2026-05-04"
 "$lotd" init --db "$db" --day 2026-05-04
 
-echo "> lotd serve --db stock.db --port $port --max 12"
-"$lotd" serve --db "$db" --port "$port" --max 12 >"$room/out" &
+echo "> lotd serve --db stock.db --port $port --max 14"
+"$lotd" serve --db "$db" --port "$port" --max 14 >"$room/out" &
 server=$!
 for _ in 1 2 3 4 5 6 7 8 9 10; do
     if [ -s "$room/out" ]; then break; fi
@@ -66,8 +72,17 @@ post /receipts "{\"delivery\":\"D-1\",\"line\":1,\"label\":\"$label\",\"bin\":\"
 post /orders '{"key":"K-3","order":"S-1","customer":"Corner Shop","lines":[{"gtin":"09506000134352","qty":12}]}' 200 '{"act":4,"short":2}'
 get /orders/S-1 200 '{"customer":"Corner Shop","lines":[{"gtin":"09506000134352","ordered":12,"reserved":[{"lot":"AB12","qty":10}],"shipped":0,"short":2,"staged":[]}],"order":"S-1","state":"OPEN"}'
 get /stock/09506000134352 200 '{"gtin":"09506000134352","lots":[{"bins":[{"bin":"A-01","qty":10}],"expiry":"2026-09-30","lot":"AB12","reserved":10,"staged":0,"status":"FREE"}],"name":"Oat drink"}'
+text /shortages/09506000134352 "SHORTAGES 09506000134352 Oat drink
+SHORT S-1 2 Corner Shop
+TOTAL 2"
 # The same order sent again acts once.
 post /orders '{"key":"K-3","order":"S-1","customer":"Corner Shop","lines":[{"gtin":"09506000134352","qty":12}]}' 200 '{"act":4,"short":2}'
+text /picklists/S-1 "PICK LIST S-1
+CUSTOMER Corner Shop
+STATE OPEN
+ITEM 09506000134352 ORDERED 12 STAGED 0 SHIPPED 0 SHORT 2
+TAKE AB12 2026-09-30 10
+FROM A-01 10"
 # More is not picked than is reserved; what is reserved is picked and shipped, and then the lot is recalled.
 post /picks '{"key":"K-4","order":"S-1","gtin":"09506000134352","lot":"AB12","bin":"A-01","qty":11}' 409 '{"code":"Q01"}'
 post /picks '{"key":"K-4","order":"S-1","gtin":"09506000134352","lot":"AB12","bin":"A-01","qty":7}' 200 '{"act":5}'

@@ -29,7 +29,7 @@ pub(crate) static NO_REQUESTS: [(&str, &str); 8] = [
         "HTTP/1.1 405 Method Not Allowed\r\ncontent-type: application/json\r\ncontent-length: 14\r\nconnection: close\r\nallow: POST\r\n\r\n{\"code\":\"W07\"}",
     ),
     (
-        "GET /picklists/S-1 HTTP/1.1\r\n\r\n",
+        "GET /lots/L1 HTTP/1.1\r\n\r\n",
         "HTTP/1.1 404 Not Found\r\ncontent-type: application/json\r\ncontent-length: 14\r\nconnection: close\r\n\r\n{\"code\":\"W06\"}",
     ),
     (

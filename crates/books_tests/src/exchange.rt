@@ -32,12 +32,34 @@ pub(crate) fn request(rt: &impl Abort, alloc: Global, line: &str) -> String {
     text.ok().expect(rt, "memory")
 }
 
-/// The answer of an exchange.
+/// The answer of an exchange. A text stands there with `|` before each of its lines.
 pub(crate) fn answer(rt: &impl Abort, alloc: Global, line: &str) -> String {
     let (_, told) = parted(rt, line, " => ");
     let (status, body) = parted(rt, told, " ");
+    match body.strip_prefix("|") {
+        Some(lines) => text_answer(rt, alloc, status, lines),
+        None => with_head(rt, alloc, status, "application/json", body),
+    }
+}
+
+fn text_answer(rt: &impl Abort, alloc: Global, status: &str, lines: &str) -> String {
+    let text = ended(rt, alloc, lines);
+    with_head(rt, alloc, status, "text/plain", text.as_str())
+}
+
+// Each line with its end.
+fn ended(rt: &impl Abort, alloc: Global, lines: &str) -> String {
+    let mut text = String::new(alloc);
+    for line in lines.split("|") {
+        assert!(rt; text.push_str(line).is_ok());
+        assert!(rt; text.push_str("\n").is_ok());
+    }
+    text
+}
+
+fn with_head(rt: &impl Abort, alloc: Global, status: &str, kind: &str, body: &str) -> String {
     let text = format!(in alloc;
-        "HTTP/1.1 {status} {}\r\ncontent-type: application/json\r\ncontent-length: {}\r\nconnection: close\r\n\r\n{body}",
+        "HTTP/1.1 {status} {}\r\ncontent-type: {kind}\r\ncontent-length: {}\r\nconnection: close\r\n\r\n{body}",
         phrase(rt, status),
         body.len()
     );

@@ -38,3 +38,5 @@ mod stock;
 mod table;
 #[cfg(test)]
 mod table_rows;
+#[cfg(test)]
+mod texts;

@@ -15,6 +15,7 @@ use crate::picking::{
 use crate::picking_rows::{
     PICKED_ROWS, RETURNED_ROWS, SHIPPED_ROWS, STOCK_TAKEN, STOCK_TAKEN_ROWS,
 };
+use crate::texts::{PICK_LISTS, SHORT_OF_FOUR, SHORT_OF_NINE};
 use std::str::Lines;
 
 /// Exchanges: a line each, `METHOD PATH BODY => STATUS BODY` (`exchange` has the form).
@@ -44,6 +45,9 @@ pub(crate) enum Table {
     Done,
     Cancelled,
     StockTaken,
+    ShortOfFour,
+    ShortOfNine,
+    PickLists,
 }
 
 impl Table {
@@ -77,6 +81,9 @@ impl Table {
             Table::Done => DONE,
             Table::Cancelled => CANCELLED,
             Table::StockTaken => STOCK_TAKEN,
+            Table::ShortOfFour => SHORT_OF_FOUR,
+            Table::ShortOfNine => SHORT_OF_NINE,
+            Table::PickLists => PICK_LISTS,
         }
     }
 }

@@ -8,11 +8,12 @@ use Rattle.values.specs.declared.fault.LabelFault.{LabelFault}
 use Rattle.commands.specs.Refusals.{refusal_code}
 use Rattle.commands.specs.declared.refusal.Refusal.{Refusal}
 use Rattle.commands.specs.declared.views.OrderView.{OrderView}
+use Rattle.commands.specs.declared.views.ShortView.{ShortView}
 use Rattle.commands.specs.declared.views.StockView.{StockView}
 use Rattle.machine.specs.Acts.{Act}
 use Rattle.machine.specs.Standing.{today}
 use Rattle.machine.specs.Once.{Outcome, Accepted, Repeated, Refused, outcome, appended}
-use Rattle.machine.specs.Queries.{order_shown, stock_shown}
+use Rattle.machine.specs.Queries.{order_shown, short_shown, stock_shown}
 use Rattle.requests.specs.declared.fault.WireFault.{WireFault}
 use Rattle.requests.specs.declared.fault.WireFault.TheVariants.{Head, Length, Json, Field, Path, Method, TooLarge, Memory}
 use Rattle.requests.specs.declared.ask.Ask.{Ask}
@@ -23,7 +24,9 @@ use Rattle.requests.specs.declared.request.Read.{Read}
 use Rattle.requests.specs.declared.request.Read.TheVariants.{Need, Bad, Request}
 use Rattle.wire.specs.Answers.{head_text}
 use Rattle.wire.specs.Shorts.{code_text}
-use Rattle.wire.specs.declared.answer.Answer.TheVariants.{Order as OrderAnswer, Stock as StockAnswer}
+use Rattle.wire.specs.declared.answer.Answer.TheVariants.{Order as OrderAnswer, Stock as StockAnswer, Text}
+use Rattle.texts.specs.PickList.{pick_list_text}
+use Rattle.texts.specs.Shortages.{shortages_text}
 use Rattle.house.specs.Answers.{short_answer, fault_answer, not_served, foreign_books, outcome_answer, is_served, act_answer, acts_with, Delivered, receipt, label_answer, scan_answer, acts_scanned, view_answer, query_answer, ask_answer, acts_asked, answer_of, acts_of}
 use Rattle.house.specs.Laws.{status_of, RefusedRequestsChangeNothing, BooksAreNeverForeign}
 
@@ -125,11 +128,21 @@ unfolding head_text digits
 stock_not_foreign (Ok view) = other (view_answer StockAnswer (Ok view)) 50 refl (lit< tt)
 stock_not_foreign (Err why) = other (view_answer StockAnswer (Err why)) 52 refl (lit< tt)
 
+pick_list_not_foreign : (r : Result OrderView Refusal) → view_answer (λ v. Text (pick_list_text v)) r ≢ foreign_books
+unfolding head_text digits
+pick_list_not_foreign (Ok view) = other (view_answer (λ v. Text (pick_list_text v)) (Ok view)) 50 refl (lit< tt)
+pick_list_not_foreign (Err why) = other (view_answer (λ v. Text (pick_list_text v)) (Err why)) 52 refl (lit< tt)
+
+shortages_not_foreign : (r : Result ShortView Refusal) → view_answer (λ v. Text (shortages_text v)) r ≢ foreign_books
+unfolding head_text digits
+shortages_not_foreign (Ok view) = other (view_answer (λ v. Text (shortages_text v)) (Ok view)) 50 refl (lit< tt)
+shortages_not_foreign (Err why) = other (view_answer (λ v. Text (shortages_text v)) (Err why)) 52 refl (lit< tt)
+
 query_not_foreign : (first : ℤ) (acts : List Act) (q : Query) → query_answer first acts q ≢ foreign_books
 query_not_foreign first acts (Order order) = order_not_foreign (order_shown first acts order)
 query_not_foreign first acts (Stock gtin) = stock_not_foreign (stock_shown first acts gtin)
-query_not_foreign first acts (PickList order) = fault_not_foreign Path
-query_not_foreign first acts (Shortages gtin) = fault_not_foreign Path
+query_not_foreign first acts (PickList order) = pick_list_not_foreign (order_shown first acts order)
+query_not_foreign first acts (Shortages gtin) = shortages_not_foreign (short_shown first acts gtin)
 query_not_foreign first acts (Card lot) = fault_not_foreign Path
 query_not_foreign first acts (Notice lot) = fault_not_foreign Path
 

@@ -10,7 +10,7 @@ use Rattle.commands.specs.declared.command.Command.TheVariants.{Receive}
 use Rattle.machine.specs.Acts.{Act}
 use Rattle.machine.specs.Standing.{today}
 use Rattle.machine.specs.Once.{Outcome, Accepted, Repeated, Refused, outcome, acts_after, is_key_of}
-use Rattle.machine.specs.Queries.{order_shown, stock_shown}
+use Rattle.machine.specs.Queries.{order_shown, short_shown, stock_shown}
 use Rattle.requests.specs.declared.ask.Ask.{Ask}
 use Rattle.requests.specs.declared.ask.Ask.TheVariants.{Do, Scan, GoodsIn, Show}
 use Rattle.requests.specs.declared.ask.Query.{Query}
@@ -21,7 +21,9 @@ use Rattle.wire.specs.Answers.{answer_bytes}
 use Rattle.wire.specs.Shorts.{code_text}
 pub use Rattle.wire.specs.ShortAnswers.{short_answer, fault_answer, not_served, no_memory, foreign_books, label_answer}
 use Rattle.wire.specs.declared.answer.Answer.{Answer}
-use Rattle.wire.specs.declared.answer.Answer.TheVariants.{Order as OrderAnswer, Stock as StockAnswer}
+use Rattle.wire.specs.declared.answer.Answer.TheVariants.{Order as OrderAnswer, Stock as StockAnswer, Text}
+use Rattle.texts.specs.PickList.{pick_list_text}
+use Rattle.texts.specs.Shortages.{shortages_text}
 
 -- Commands
 
@@ -79,11 +81,17 @@ order_answer first acts order = view_answer OrderAnswer (order_shown first acts 
 abbrev pub stock_answer : ℤ → List Act → List ℕ → List ℕ
 stock_answer first acts gtin = view_answer StockAnswer (stock_shown first acts gtin)
 
+abbrev pub pick_list_answer : ℤ → List Act → List ℕ → List ℕ
+pick_list_answer first acts order = view_answer (λ v. Text (pick_list_text v)) (order_shown first acts order)
+
+abbrev pub shortages_answer : ℤ → List Act → List ℕ → List ℕ
+shortages_answer first acts gtin = view_answer (λ v. Text (shortages_text v)) (short_shown first acts gtin)
+
 abbrev pub query_answer : ℤ → List Act → Query → List ℕ
 query_answer first acts (Order order) = order_answer first acts order
 query_answer first acts (Stock gtin) = stock_answer first acts gtin
-query_answer first acts (PickList order) = not_served
-query_answer first acts (Shortages gtin) = not_served
+query_answer first acts (PickList order) = pick_list_answer first acts order
+query_answer first acts (Shortages gtin) = shortages_answer first acts gtin
 query_answer first acts (Card lot) = not_served
 query_answer first acts (Notice lot) = not_served
 

@@ -8,7 +8,10 @@ use Rattle.sqlite_trees.specs.declared.store.Store.{Ghosts}
 use Rattle.machine.specs.Acts.{Act}
 use Rattle.machine.specs.Once.{IsHistory}
 use Rattle.machine.specs.Standing.{today}
+use Rattle.wire.specs.Answers.{answer_bytes}
 use Rattle.wire.specs.Shorts.{code_text}
+use Rattle.wire.specs.declared.answer.Answer.{Answer}
+use Rattle.wire.specs.declared.answer.Answer.TheVariants.{Text}
 use Rattle.store.specs.Connected.{Connected}
 use Rattle.store.specs.declared.reply.Reply.{Reply}
 use Rattle.store.specs.declared.fault.Fault.{Fault}
@@ -40,6 +43,16 @@ abbrev pub fault_shown : Fault → List ℕ
 fault_shown (Refused why) = short_answer 404 (code_text (refusal_code why))
 fault_shown Store = no_memory
 fault_shown Foreign = foreign_books
+
+-- what is shown, or why nothing is
+abbrev pub asked_answer : Result Answer Fault → List ℕ
+asked_answer (Ok answer) = answer_bytes answer
+asked_answer (Err fault) = fault_shown fault
+
+-- the text was written, or there was no memory for it
+abbrev pub IsWritten : List ℕ → Result Answer Fault → Type 0
+IsWritten text (Ok answer) = answer ≡ Text text
+IsWritten text (Err fault) = fault ≡ Store
 
 -- what is wanted is told and done
 pub record IsDone {S : Type 0} (g : Ghosts S) (first : ℤ) (wanted : List ℕ) (next : List Act) (bytes : List ℕ) (books : Connected S) : Type 0 where

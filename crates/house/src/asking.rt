@@ -1,26 +1,21 @@
 //! What is asked of the books, and the answer to it.
 
-ghost use Rattle.std.specs.Prelude.{◌≡◌, ◌⊎◌, ℤ, List, Err};
+ghost use Rattle.std.specs.Prelude.{◌≡◌, ℤ, List, Err};
 ghost use Rattle.machine.specs.Acts.{Act};
 ghost use Rattle.machine.specs.Once.{IsHistory};
-ghost use Rattle.wire.specs.Answers.{answer_bytes};
 ghost use Rattle.store.specs.Books.{IsClean};
-ghost use Rattle.house.specs.Answers.{is_served as is_served_lem, act_answer, acts_with, order_answer, no_memory};
+ghost use Rattle.house.specs.Answers.{is_served as is_served_lem, act_answer, acts_with};
 ghost use Rattle.house.specs.Asking.{Does, told_answer, act_of, delivered, scanned_answer, scanned_acts};
-ghost use Rattle.house.specs.House.{bytes_of};
 
-use crate::Answered;
-use crate::answered::not_shown;
 use commands::laws::{every_command_is_sound, every_key_is_sound};
-use commands::{Command, Key, OrderView, Receipt};
+use commands::{Command, Key, Receipt};
 use label::read;
 use requests::WireFault;
 use sqlite::Alter;
-use std::alloc::Global;
 use store::{Books, Fault, Reply};
 use values::{LineNo, LotId, Name, Qty};
 use wire::short_answers::{conflict, fault_answer, foreign_books, label_answer, reply_answer};
-use wire::{Answer, Block, write_answer};
+use wire::Block;
 
 /// Whether the key is of the command's kind: a receipt bears a delivery and a line, every other
 /// command a plain key.
@@ -103,27 +98,5 @@ pub(crate) fn scan<S: Alter>(
             )
         }
         Err(fault) => label_answer(fault),
-    }
-}
-
-/// Shows an order.
-pub(crate) fn show_order<S: Alter>(alloc: Global, books: &mut Books<S>, order: &Name) -> Answered
-    ensures clean { IsClean S.Store books.new → IsClean S.Store books.old }
-    ensures shown { IsClean S.Store books.new → (first : ℤ) (acts : List Act) → IsHistory first acts
-        → Does S.Store first acts books.old (order_answer first acts order.now) acts (bytes_of result) books.new }
-{
-    match books.order_rows(order) {
-        Ok(view) => order_text(alloc, view),
-        Err(fault) => not_shown(fault),
-    }
-}
-
-/// The answer that shows an order, where there is memory for it.
-fn order_text(alloc: Global, view: OrderView) -> Answered
-    ensures { (bytes_of result ≡ answer_bytes (Answer.Order view)) ⊎ (bytes_of result ≡ no_memory) }
-{
-    match write_answer(alloc, &Answer::Order(view)) {
-        Ok(bytes) => Answered::Long(bytes),
-        Err(_) => Answered::Short(fault_answer(WireFault::Memory)),
     }
 }

@@ -10,8 +10,8 @@ ghost use Rattle.house.specs.Asking.{Does};
 ghost use Rattle.house.specs.House.{books_of, bytes_of, texts_of, StepsTo, RunsTo, IsInPlace, IsAskedInPlace};
 
 use crate::Answered;
-use crate::asking::{act, scan, show_order};
-use crate::showing_stock::show_stock;
+use crate::asking::{act, scan};
+use crate::showing::{show_order, show_pick_list, show_shortages, show_stock};
 use requests::{Ask, Query, Read, WireFault, read_request};
 use sqlite::Alter;
 use std::alloc::{AllocError, Global};
@@ -106,6 +106,8 @@ fn answer_ask<S: Alter>(alloc: Global, books: &mut Books<S>, ask: &Ask) -> Answe
         } => Answered::Short(scan(books, *delivery, *line, label.as_slice(), *bin, *qty)),
         Ask::Show(Query::Order(order)) => show_order(alloc, books, order),
         Ask::Show(Query::Stock(gtin)) => show_stock(alloc, books, gtin),
+        Ask::Show(Query::PickList(order)) => show_pick_list(alloc, books, order),
+        Ask::Show(Query::Shortages(gtin)) => show_shortages(alloc, books, gtin),
         _ => Answered::Short(fault_answer(WireFault::Path)),
     }
 }

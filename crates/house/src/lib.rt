@@ -6,7 +6,7 @@ mod asking;
 mod house;
 pub mod laws;
 mod serve;
-mod showing_stock;
+mod showing;
 
 pub use answered::Answered;
 pub use house::House;

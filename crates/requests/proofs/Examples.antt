@@ -16,7 +16,7 @@ use Rattle.requests.specs.declared.fault.WireFault.TheVariants.{Length, Path, Fi
 use Rattle.requests.specs.declared.method.Method.TheVariants.{Get, Post}
 use Rattle.requests.specs.declared.routes.Route.TheVariants.{Post as PostTo, Get as GetOf}
 use Rattle.requests.specs.declared.routes.Posted.TheVariants.{Items, Bins, Receipts, Orders, Recalls, Days}
-use Rattle.requests.specs.declared.routes.Shown.TheVariants.{Order as AnOrder, Stock as TheStock, Card}
+use Rattle.requests.specs.declared.routes.Shown.TheVariants.{Order as AnOrder, Stock as TheStock, PickList as APickList, Shortages as TheShortages, Card, Notice as ANotice}
 use Rattle.requests.specs.declared.ask.Ask.TheVariants.{Do}
 use Rattle.requests.specs.declared.ask.Query.TheVariants.{Card as CardOf}
 
@@ -90,9 +90,33 @@ pub stock_is_not_posted : read_ask (codes "POST") (codes "/stock/09506000134352"
 unfolding matchit_on_literals table
 stock_is_not_posted = refl
 
-pub a_pick_list_is_not_served : read_ask (codes "GET") (codes "/picklists/S-1") [] ≡ Err Path
+pub a_pick_list_of_no_order : route_of (codes "/picklists/") ≡ None
 unfolding matchit_on_literals table
-a_pick_list_is_not_served = refl
+a_pick_list_of_no_order = refl
+
+pub a_pick_list_is_not_posted : read_ask (codes "POST") (codes "/picklists/S-1") [] ≡ Err (OtherMethod Get)
+unfolding matchit_on_literals table
+a_pick_list_is_not_posted = refl
+
+pub a_pick_list : route_of (codes "/picklists/S-1") ≡ Some (GetOf APickList)
+unfolding matchit_on_literals table
+a_pick_list = refl
+
+pub the_shortages : route_of (codes "/shortages/09506000134352") ≡ Some (GetOf TheShortages)
+unfolding matchit_on_literals table
+the_shortages = refl
+
+pub a_card : route_of (codes "/cards/09506000134352/A%2FB") ≡ Some (GetOf Card)
+unfolding matchit_on_literals table
+a_card = refl
+
+pub a_notice : route_of (codes "/notices/09506000134352/L2") ≡ Some (GetOf ANotice)
+unfolding matchit_on_literals table
+a_notice = refl
+
+pub a_card_of_no_lot : route_of (codes "/cards/09506000134352") ≡ None
+unfolding matchit_on_literals table
+a_card_of_no_lot = refl
 
 -- values in a path
 

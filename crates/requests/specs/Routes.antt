@@ -13,7 +13,7 @@ use Rattle.requests.specs.declared.method.Method.TheVariants.{Get, Post}
 use Rattle.requests.specs.declared.routes.Route.{Route}
 use Rattle.requests.specs.declared.routes.Route.TheVariants.{Post as PostTo, Get as GetOf}
 use Rattle.requests.specs.declared.routes.Posted.TheVariants.{Items, Bins, Receipts, Moves, Counts, Adjustments, Orders, Cancels, Picks, Unpicks, Shipments, Holds, Releases, Recalls, Days}
-use Rattle.requests.specs.declared.routes.Shown.TheVariants.{Order, Stock}
+use Rattle.requests.specs.declared.routes.Shown.TheVariants.{Order, Stock, PickList, Shortages, Card, Notice}
 
 -- the rows of a table
 abbrev pub Rows : Type 0
@@ -56,6 +56,10 @@ served =
     ∷ (codes "/days", PostTo Days)
     ∷ (codes "/orders/{order}", GetOf Order)
     ∷ (codes "/stock/{gtin}", GetOf Stock)
+    ∷ (codes "/picklists/{order}", GetOf PickList)
+    ∷ (codes "/shortages/{gtin}", GetOf Shortages)
+    ∷ (codes "/cards/{gtin}/{lot}", GetOf Card)
+    ∷ (codes "/notices/{gtin}/{lot}", GetOf Notice)
     ∷ []
 
 unfoldable pub table : Rows

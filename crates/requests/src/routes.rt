@@ -47,7 +47,7 @@ pub enum Route {
 }
 
 /// The routes that are served.
-pub static ROUTES: [(&str, Route); 17] = [
+pub static ROUTES: [(&str, Route); 21] = [
     ("/items", Route::Post(Posted::Items)),
     ("/bins", Route::Post(Posted::Bins)),
     ("/receipts", Route::Post(Posted::Receipts)),
@@ -65,6 +65,10 @@ pub static ROUTES: [(&str, Route); 17] = [
     ("/days", Route::Post(Posted::Days)),
     ("/orders/{order}", Route::Get(Shown::Order)),
     ("/stock/{gtin}", Route::Get(Shown::Stock)),
+    ("/picklists/{order}", Route::Get(Shown::PickList)),
+    ("/shortages/{gtin}", Route::Get(Shown::Shortages)),
+    ("/cards/{gtin}/{lot}", Route::Get(Shown::Card)),
+    ("/notices/{gtin}/{lot}", Route::Get(Shown::Notice)),
 ];
 
 // Adds a route. Nothing is added where there is no memory, or where it conflicts with another.

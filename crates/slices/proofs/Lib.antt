@@ -12,6 +12,6 @@ pub mod SliceRight
 pub mod OrderRight
 pub mod ReadTold
 pub mod SliceRead
-pub mod OrderRead
 pub mod StockRight
-pub mod StockRead
+pub mod ShortRight
+pub mod KnownTold

@@ -169,7 +169,7 @@ module _ (first : ℤ) (acts : List Act) where
       closed false f = let none : false ≡ true = f in cc
   open_by o (Some p) e h = subst (λ (y : List ℕ). is_open first acts y ≡ true) (found_order o (orders acts) p e) h
 
-  open_told : (o : List ℕ) → is_open first acts o ≡ true → is_open_in (tables_of first acts) o ≡ true
+  pub open_told : (o : List ℕ) → is_open first acts o ≡ true → is_open_in (tables_of first acts) o ≡ true
   unfolding tables_of
   open_told o h = open_by o (order_named acts o) refl h
 
@@ -180,7 +180,7 @@ module _ (first : ℤ) (acts : List Act) where
       let is_item : g ≡ r.gtin = cc in
       subst (λ (x : List ℕ). same_line (o, g) (x, r.gtin) ≡ true) is_order (subst (λ (x : List ℕ). same_line (o, g) (o, x) ≡ true) is_item (same_line_refl (o, g)))
 
-  keyed : (o g : List ℕ) (r : LineRow) → (tables_of first acts).line o g ≡ Some r → same_line (o, g) (line_key r) ≡ true
+  pub keyed : (o g : List ℕ) (r : LineRow) → (tables_of first acts).line o g ≡ Some r → same_line (o, g) (line_key r) ≡ true
   unfolding tables_of
   keyed o g r e = keyed_by o g (find (λ l. same_text g l.gtin) (lines_of acts o)) r e
 

@@ -1,16 +1,20 @@
-//! The rows that a command is decided by, and those by which an order or the stock of an item is
-//! shown, read from the tables by seeks.
+//! The rows that a command is decided by, read from the tables by seeks; and queries: the rows by
+//! which something is shown, and what is shown of them.
 #![tactic(auto)]
 
 mod opening;
 mod order_slices;
+mod query;
 mod reading;
 mod shown_orders;
+mod shown_shorts;
 mod shown_stock;
 mod slices;
 mod sought;
 mod sought_rows;
 
-pub use shown_orders::read_order;
-pub use shown_stock::read_stock;
+pub use query::{Query, find};
+pub use shown_orders::OrderQuery;
+pub use shown_shorts::ShortQuery;
+pub use shown_stock::StockQuery;
 pub use slices::read_slice;

@@ -11,18 +11,18 @@ ghost use Rattle.machine.specs.Acts.{Act};
 ghost use Rattle.machine.specs.Once.{IsHistory, is_key_of, acts_after};
 ghost use Rattle.machine.specs.Standing.{today, day_after_command, RETURNS};
 ghost use Rattle.store.specs.Acting.{IsActed, day_left as day_left_lem};
-ghost use Rattle.machine.specs.Queries.{order_shown, stock_shown};
+ghost use Rattle.machine.specs.Queries.{order_shown, short_shown, stock_shown};
 ghost use Rattle.store.specs.Queries.{IsShown};
 ghost use Rattle.store.specs.Books.{AreRowsOf, KeepsBooks, HoldsBooks, LeavesOnly, IsClean};
 ghost use Rattle.store.specs.Opening.{HasDay, unlimited, IsLeftUnfilled, IsReopened, IsLeftOver, IsCleanLeft};
 
 use crate::acting::act_once;
-use crate::showing::show_order;
-use crate::showing_stock::show_stock;
+use crate::showing::show;
 use crate::{Fault, Reply};
-use commands::{BinKind, BinRow, Command, Key, MetaRow, OrderView, StockView};
+use commands::{BinKind, BinRow, Command, Key, MetaRow, OrderView, ShortView, StockView};
 use goods_tables::meta::meta_rows;
 use label::{BusinessDay, Day};
+use slices::{OrderQuery, ShortQuery, StockQuery};
 use sqlite::{Alter, Connection};
 use std::alloc::Global;
 use std::marker::Model;
@@ -277,7 +277,8 @@ impl<S: Alter> Books<S> {
             → IsShown S.Store first acts (order_shown first acts order.now) result self.new }
         ensures survives { Survives (state S.Store self.old.conn) (state S.Store self.new.conn) (λ _. ⊥) }
     {
-        show_order(self.alloc, &mut self.conn, order)
+        let query = OrderQuery { order: *order };
+        show(self.alloc, &mut self.conn, self.day, &query)
     }
 
     /// Shows the stock of an item as it stands: its lots by expiry and first receipt, each with the units in its bins,
@@ -290,6 +291,19 @@ impl<S: Alter> Books<S> {
             → IsShown S.Store first acts (stock_shown first acts gtin.now) result self.new }
         ensures survives { Survives (state S.Store self.old.conn) (state S.Store self.new.conn) (λ _. ⊥) }
     {
-        show_stock(self.alloc, &mut self.conn, self.day, gtin)
+        let query = StockQuery { gtin: *gtin };
+        show(self.alloc, &mut self.conn, self.day, &query)
+    }
+
+    /// Shows the bookings of an item that are short, in the order of booking. An item that is not known is refused (U01).
+    /// Nothing is changed; `Store` where memory or the disk did not suffice, and `Foreign` never on books of a history.
+    pub fn short_rows(&mut self, gtin: &Gtin) -> Result<ShortView, Fault>
+        ensures clean { IsClean S.Store self.new → IsClean S.Store self.old }
+        ensures shown { IsClean S.Store self.new → (first : ℤ) (acts : List Act) → IsHistory first acts → HoldsBooks S.Store first acts self.old
+            → IsShown S.Store first acts (short_shown first acts gtin.now) result self.new }
+        ensures survives { Survives (state S.Store self.old.conn) (state S.Store self.new.conn) (λ _. ⊥) }
+    {
+        let query = ShortQuery { gtin: *gtin };
+        show(self.alloc, &mut self.conn, self.day, &query)
     }
 }

@@ -7,7 +7,6 @@ mod fault;
 mod repeats;
 mod reply;
 mod showing;
-mod showing_stock;
 mod telling;
 
 pub use books::{Books, OpenFault};

@@ -12,3 +12,4 @@ pub mod OrderShown
 pub mod AllBinsShown
 pub mod LotTotals
 pub mod StockTold
+pub mod ShortsShown

@@ -2,3 +2,5 @@ pub mod Seen
 pub mod Shown
 pub mod SeenStock
 pub mod ShownStock
+pub mod SeenShort
+pub mod ShownShort

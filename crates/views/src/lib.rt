@@ -7,7 +7,9 @@ mod looking;
 mod lots;
 mod order;
 mod short;
+mod shorts;
 mod stock;
 
 pub use order::order_view;
+pub use shorts::short_view;
 pub use stock::stock_view;

@@ -178,8 +178,9 @@ static HEADS: [(&str, Outcome); 24] = [
         Outcome::Bad(WireFault::Path),
     ),
     ("POST items HTTP/1.1\r\n\r\n", Outcome::Bad(WireFault::Path)),
+    ("GET /picklists/S-1 HTTP/1.1\r\n\r\n", Outcome::Request),
     (
-        "GET /picklists/S-1 HTTP/1.1\r\n\r\n",
+        "GET /cards/09506000134352 HTTP/1.1\r\n\r\n",
         Outcome::Bad(WireFault::Path),
     ),
     ("GET /stock HTTP/1.1\r\n\r\n", Outcome::Bad(WireFault::Path)),

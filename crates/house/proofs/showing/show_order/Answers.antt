@@ -1,0 +1,12 @@
+use Rattle.machine.specs.Queries.{order_shown}
+use Rattle.wire.specs.declared.answer.Answer.TheVariants.{Order}
+use Rattle.house.proofs.Showing.{view_told, fault_told}
+use Rattle.house.proofs.showing.show_order.Goals as goal
+
+pub returns-in-Ok-clause-shown : goal.returns-in-Ok-clause-shown
+returns-in-Ok-clause-shown g c clean first acts history holds =
+    view_told g.S.Store first acts history Order (order_shown first acts c.args.order.now) c.in-Ok.view _ _ (c.in-Ok.ensures.shown clean first acts history holds) c.told.ensures
+
+pub returns-in-Err-clause-shown : goal.returns-in-Err-clause-shown
+returns-in-Err-clause-shown g c clean first acts history holds =
+    fault_told g.S.Store first acts history Order (order_shown first acts c.args.order.now) c.in-Err.fault _ _ (c.in-Err.ensures.shown clean first acts history holds) c.told.ensures

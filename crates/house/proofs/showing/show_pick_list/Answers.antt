@@ -1,0 +1,19 @@
+use Rattle.std.proofs.Common.{refl}
+use Rattle.commands.specs.declared.views.OrderView.{OrderView}
+use Rattle.machine.specs.Queries.{order_shown}
+use Rattle.wire.specs.declared.answer.Answer.{Answer}
+use Rattle.wire.specs.declared.answer.Answer.TheVariants.{Text}
+use Rattle.texts.specs.PickList.{pick_list_text}
+use Rattle.house.proofs.Showing.{text_told, fault_told}
+use Rattle.house.proofs.showing.show_pick_list.Goals as goal
+
+abbrev as_text : OrderView → Answer
+as_text v = Text (pick_list_text v)
+
+pub returns-in-Ok-clause-shown : goal.returns-in-Ok-clause-shown
+returns-in-Ok-clause-shown g c clean first acts history holds =
+    text_told g.S.Store first acts history as_text (order_shown first acts c.args.order.now) c.in-Ok.view (pick_list_text c.in-Ok.view) c.pick_list_of.result _ _ refl (c.in-Ok.ensures.shown clean first acts history holds) c.pick_list_of.ensures c.told.ensures
+
+pub returns-in-Err-clause-shown : goal.returns-in-Err-clause-shown
+returns-in-Err-clause-shown g c clean first acts history holds =
+    fault_told g.S.Store first acts history as_text (order_shown first acts c.args.order.now) c.in-Err.fault _ _ (c.in-Err.ensures.shown clean first acts history holds) c.told.ensures

@@ -1,0 +1,19 @@
+use Rattle.std.proofs.Common.{refl}
+use Rattle.commands.specs.declared.views.ShortView.{ShortView}
+use Rattle.machine.specs.Queries.{short_shown}
+use Rattle.wire.specs.declared.answer.Answer.{Answer}
+use Rattle.wire.specs.declared.answer.Answer.TheVariants.{Text}
+use Rattle.texts.specs.Shortages.{shortages_text}
+use Rattle.house.proofs.Showing.{text_told, fault_told}
+use Rattle.house.proofs.showing.show_shortages.Goals as goal
+
+abbrev as_text : ShortView → Answer
+as_text v = Text (shortages_text v)
+
+pub returns-in-Ok-clause-shown : goal.returns-in-Ok-clause-shown
+returns-in-Ok-clause-shown g c clean first acts history holds =
+    text_told g.S.Store first acts history as_text (short_shown first acts c.args.gtin.now) c.in-Ok.view (shortages_text c.in-Ok.view) c.shortages_of.result _ _ refl (c.in-Ok.ensures.shown clean first acts history holds) c.shortages_of.ensures c.told.ensures
+
+pub returns-in-Err-clause-shown : goal.returns-in-Err-clause-shown
+returns-in-Err-clause-shown g c clean first acts history holds =
+    fault_told g.S.Store first acts history as_text (short_shown first acts c.args.gtin.now) c.in-Err.fault _ _ (c.in-Err.ensures.shown clean first acts history holds) c.told.ensures

@@ -1,0 +1,114 @@
+//! What is shown of the books.
+
+ghost use Rattle.std.specs.Prelude.{◌≡◌, ◌⊎◌, ℤ, List};
+ghost use Rattle.machine.specs.Acts.{Act};
+ghost use Rattle.machine.specs.Once.{IsHistory};
+ghost use Rattle.store.specs.Books.{IsClean};
+ghost use Rattle.texts.specs.PickList.{pick_list_text};
+ghost use Rattle.texts.specs.Shortages.{shortages_text};
+ghost use Rattle.house.specs.Answers.{order_answer, stock_answer, pick_list_answer, shortages_answer, no_memory};
+ghost use Rattle.house.specs.Asking.{Does, IsWritten, asked_answer};
+ghost use Rattle.house.specs.House.{bytes_of};
+
+use crate::Answered;
+use crate::answered::not_shown;
+use commands::{Listed, OrderView, ShortView};
+use requests::WireFault;
+use sqlite::Alter;
+use std::alloc::Global;
+use store::{Books, Fault};
+use texts::{pick_list, shortages};
+use values::{Gtin, Name};
+use wire::short_answers::fault_answer;
+use wire::{Answer, write_answer};
+
+/// Shows an order.
+pub(crate) fn show_order<S: Alter>(alloc: Global, books: &mut Books<S>, order: &Name) -> Answered
+    ensures clean { IsClean S.Store books.new → IsClean S.Store books.old }
+    ensures shown { IsClean S.Store books.new → (first : ℤ) (acts : List Act) → IsHistory first acts
+        → Does S.Store first acts books.old (order_answer first acts order.now) acts (bytes_of result) books.new }
+{
+    match books.order_rows(order) {
+        Ok(view) => told(alloc, Ok(Answer::Order(view))),
+        Err(fault) => told(alloc, Err(fault)),
+    }
+}
+
+/// Shows the stock of an item.
+pub(crate) fn show_stock<S: Alter>(alloc: Global, books: &mut Books<S>, gtin: &Gtin) -> Answered
+    ensures clean { IsClean S.Store books.new → IsClean S.Store books.old }
+    ensures shown { IsClean S.Store books.new → (first : ℤ) (acts : List Act) → IsHistory first acts
+        → Does S.Store first acts books.old (stock_answer first acts gtin.now) acts (bytes_of result) books.new }
+{
+    match books.stock(gtin) {
+        Ok(view) => told(alloc, Ok(Answer::Stock(view))),
+        Err(fault) => told(alloc, Err(fault)),
+    }
+}
+
+/// Shows the pick list of an order.
+pub(crate) fn show_pick_list<S: Alter>(
+    alloc: Global,
+    books: &mut Books<S>,
+    order: &Name,
+) -> Answered
+    ensures clean { IsClean S.Store books.new → IsClean S.Store books.old }
+    ensures shown { IsClean S.Store books.new → (first : ℤ) (acts : List Act) → IsHistory first acts
+        → Does S.Store first acts books.old (pick_list_answer first acts order.now) acts (bytes_of result) books.new }
+{
+    match books.order_rows(order) {
+        Ok(view) => told(alloc, pick_list_of(alloc, view)),
+        Err(fault) => told(alloc, Err(fault)),
+    }
+}
+
+/// Shows the shortages of an item.
+pub(crate) fn show_shortages<S: Alter>(
+    alloc: Global,
+    books: &mut Books<S>,
+    gtin: &Gtin,
+) -> Answered
+    ensures clean { IsClean S.Store books.new → IsClean S.Store books.old }
+    ensures shown { IsClean S.Store books.new → (first : ℤ) (acts : List Act) → IsHistory first acts
+        → Does S.Store first acts books.old (shortages_answer first acts gtin.now) acts (bytes_of result) books.new }
+{
+    match books.short_rows(gtin) {
+        Ok(view) => told(alloc, shortages_of(alloc, view)),
+        Err(fault) => told(alloc, Err(fault)),
+    }
+}
+
+/// The pick list, where there is memory for it.
+fn pick_list_of(alloc: Global, view: OrderView) -> Result<Answer, Fault>
+    ensures { IsWritten (pick_list_text view) result }
+{
+    let mut text = Vec::new(alloc);
+    match pick_list(&view, &mut text) {
+        Ok(()) => Ok(Answer::Text(Listed::from_vec(text))),
+        Err(_) => Err(Fault::Store),
+    }
+}
+
+/// The shortages, where there is memory for them.
+fn shortages_of(alloc: Global, view: ShortView) -> Result<Answer, Fault>
+    ensures { IsWritten (shortages_text view) result }
+{
+    let mut text = Vec::new(alloc);
+    match shortages(&view, &mut text) {
+        Ok(()) => Ok(Answer::Text(Listed::from_vec(text))),
+        Err(_) => Err(Fault::Store),
+    }
+}
+
+/// The bytes of what is shown, where there is memory for them, or of why nothing is.
+fn told(alloc: Global, asked: Result<Answer, Fault>) -> Answered
+    ensures { (bytes_of result ≡ asked_answer asked) ⊎ (bytes_of result ≡ no_memory) }
+{
+    match asked {
+        Ok(answer) => match write_answer(alloc, &answer) {
+            Ok(bytes) => Answered::Long(bytes),
+            Err(_) => Answered::Short(fault_answer(WireFault::Memory)),
+        },
+        Err(fault) => not_shown(fault),
+    }
+}

@@ -1,0 +1,13 @@
+use Rattle.slice_parts.proofs.item_rows.of_demands.Goals as goal
+
+pub returns-clause-same_orders : goal.returns-clause-same_orders
+returns-clause-same_orders c = c.from_vec-6.ensures
+
+pub returns-clause-same_lines : goal.returns-clause-same_lines
+returns-clause-same_lines c = c.from_vec-7.ensures
+
+pub returns-clause-same_staged : goal.returns-clause-same_staged
+returns-clause-same_staged c = c.from_vec-8.ensures
+
+pub returns-clause-same_reserved : goal.returns-clause-same_reserved
+returns-clause-same_reserved c = c.from_vec-9.ensures

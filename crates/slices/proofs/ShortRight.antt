@@ -1,0 +1,64 @@
+-- What is read of the tables of a history are the rows by which the bookings of an item that are short are shown.
+use Rattle.std.proofs.Common.{◌≡◌, ℕ, Bool, true, false, ◌&&◌, List, [], ◌∷◌, refl, ap, sym, subst, ◌∙◌}
+use Rattle.std.specs.Prelude.{◌||◌, Some, None, is_some, ℤ}
+use Rattle.values.specs.Values.{same_text}
+use Rattle.commands.specs.Tables.{Tables}
+use Rattle.commands.specs.declared.rows.ItemRow.{ItemRow}
+use Rattle.table_words.specs.Typed.{OrderKey, same_order, order_key, LineKey, same_line, line_key, StagedKey, same_staged, staged_key, ReservedKey, same_reserved, reserved_key}
+use Rattle.machine.specs.Acts.{Act}
+use Rattle.machine.specs.Postings.{of_item}
+use Rattle.machine.specs.Standing.{has_line}
+use Rattle.machine.specs.Planning.{is_open}
+use Rattle.machine.specs.Tables.{tables_of, item_row}
+use Rattle.row_rules.specs.declared.slice.Rows.{Rows}
+use Rattle.machine.proofs.Tests.{and_both, or_false, same_text_is, same_text_refl, same_text_turned}
+use Rattle.slices.specs.Slicing.{is_among}
+use Rattle.slices.specs.ShownShort.{AreOfDemands, IsShortIn}
+use Rattle.slices.proofs.KeysTold.{same_share_is, same_share_refl, same_line_is, same_line_refl}
+use Rattle.slices.proofs.LinesTold.{line_some}
+use Rattle.slices.proofs.OrdersTold.{is_open_in, has_line_of, orders_told, lines_told}
+use Rattle.slices.proofs.RowsTold.{rows_as}
+use Rattle.slices.proofs.SliceRight.{open_told, keyed}
+use Rattle.slices.proofs.SliceTold.{sought}
+use Rattle.slices.proofs.StockRight.{named_so}
+use Rattle.views.specs.ShownShort.{AreDemanded}
+
+both : (a b p q : Bool) → (a ≡ true → p ≡ true) → (b ≡ true → q ≡ true) → a && b ≡ true → p && q ≡ true
+both a b p q f g e = let two = and_both a b e in (λ i. f two.0 i && g two.1 i)
+
+module _ (first : ℤ) (acts : List Act) (g : List ℕ) (rows : Rows) (are : AreOfDemands g (tables_of first acts) rows) where
+  abbrev t : Tables
+  t = tables_of first acts
+
+  named : (x : List ℕ) → is_among (g ∷ []) x ≡ same_text g x
+  named x = or_false (same_text x g) ∙ same_text_turned x g
+
+  lined : (o : List ℕ) → has_line acts o g ≡ true → has_line_of (g ∷ []) t o ≡ true
+  lined o e = or_false (is_some (t.line o g)) ∙ line_some first acts o g ∙ e
+
+  pub demanded : AreDemanded first acts g rows
+  unfolding tables_of
+  demanded = record {
+    orders = rows_as {K = OrderKey} same_order order_key same_text_is same_text_refl (λ o. is_open_in t o && has_line_of (g ∷ []) t o) (λ o. has_line_of (g ∷ []) t o)
+        (λ o. is_open first acts o && has_line acts o g) (λ o. true) t.order rows.orders
+        (λ o e. both (is_open first acts o) (has_line acts o g) (is_open_in t o) (has_line_of (g ∷ []) t o) (open_told first acts o) (lined o) e) (λ o e. refl)
+        (orders_told [] (g ∷ []) t (keyed first acts) refl refl rows.orders rows.lines are.ordered);
+    lines = rows_as {K = LineKey} same_line line_key same_line_is same_line_refl (λ k. is_open_in t k.0 && is_among (g ∷ []) k.1) (λ k. is_among (g ∷ []) k.1)
+        (λ k. is_open first acts k.0 && same_text g k.1) (λ k. true) (λ k. t.line k.0 k.1) rows.lines
+        (λ k e. both (is_open first acts k.0) (same_text g k.1) (is_open_in t k.0) (is_among (g ∷ []) k.1) (open_told first acts k.0) (λ f. named k.1 ∙ f) e) (λ k e. refl)
+        (lines_told [] (g ∷ []) t (keyed first acts) refl refl rows.orders rows.lines are.ordered);
+    staged = rows_as {K = StagedKey} same_staged staged_key same_share_is same_share_refl (λ k. of_item g k.1) (λ k. of_item g k.1) (λ k. of_item g k.1) (λ k. true) (λ k. t.staged k.0 k.1) rows.staged (λ k e. e) (λ k e. refl)
+        (sought {K = StagedKey} same_staged staged_key same_share_is same_share_refl (λ k. k.1.gtin) (λ k. t.staged k.0 k.1) (g ∷ []) (same_text g) rows.staged refl named are.booked.staged);
+    reserved = rows_as {K = ReservedKey} same_reserved reserved_key same_share_is same_share_refl (λ k. of_item g k.1) (λ k. of_item g k.1) (λ k. of_item g k.1) (λ k. true) (λ k. t.reserved k.0 k.1) rows.reserved (λ k e. e) (λ k e. refl)
+        (sought {K = ReservedKey} same_reserved reserved_key same_share_is same_share_refl (λ k. k.1.gtin) (λ k. t.reserved k.0 k.1) (g ∷ []) (same_text g) rows.reserved refl named are.booked.reserved);
+  }
+
+-- no such item
+pub unknown_right : (first : ℤ) (acts : List Act) (g : List ℕ) → IsShortIn g (tables_of first acts) None → item_row acts g ≡ None
+unfolding tables_of
+unknown_right first acts g e = e
+
+-- or its row, and the rows by which its bookings are shown
+pub short_right : (first : ℤ) (acts : List Act) (g : List ℕ) (row : ItemRow) (rows : Rows) → IsShortIn g (tables_of first acts) (Some (row, rows)) → (item_row acts g ≡ Some row) × AreDemanded first acts row.gtin rows
+unfolding tables_of
+short_right first acts g row rows (e, are) = (e, subst (λ (x : List ℕ). AreDemanded first acts x rows) (sym (named_so acts g row e)) (demanded first acts g rows are))
