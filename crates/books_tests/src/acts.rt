@@ -7,11 +7,11 @@ use crate::stock::is_stock;
 use commands::{
     BinKind, Command, Key, Lines, NewBin, NewItem, NewOrder, OrderLine, Receipt, Refusal,
 };
-use label::Day;
+use label::{BusinessDay, Day};
 use sqlite::{Alter, Connection};
 use std::alloc::Global;
 use std::process::Abort;
-use store::{Books, Fault, Reply};
+use store::{Books, Fault, Reply, RowFault, Tally};
 use values::{Gtin, LineNo, Lot, LotId, Name, Qty, Title};
 
 /// The key of a command.
@@ -32,6 +32,8 @@ pub(crate) enum Wanted {
     Receipt(u64),
     /// The order S-1 of units of the oat drink.
     Order(u64),
+    /// A new business day.
+    Day(&'static [u8]),
 }
 
 /// What the books tell.
@@ -47,6 +49,10 @@ pub(crate) enum Told {
 #[derive(Clone, Copy)]
 pub(crate) enum Deed {
     Act(Under, Wanted, Told),
+    /// All of these, or none.
+    All(&'static [(Under, Wanted)], Result<Tally, RowFault>),
+    /// The business day.
+    Today(&'static [u8]),
     /// The stock of the oat drink: its one lot with so many units reserved, or that there is no such item.
     Stock(Option<u64>),
 }
@@ -61,6 +67,11 @@ fn title(rt: &impl Abort, text: &[u8]) -> Title {
 
 fn oats(rt: &impl Abort) -> Gtin {
     Gtin::new(b"09506000134352").ok().expect(rt, "a GTIN")
+}
+
+fn business_day(rt: &impl Abort, text: &[u8]) -> BusinessDay {
+    let day = Day::parse(text).expect(rt, "a day");
+    BusinessDay::new(day).expect(rt, "a business day")
 }
 
 fn key(rt: &impl Abort, under: Under) -> Key {
@@ -117,7 +128,17 @@ fn command(rt: &impl Abort, alloc: Global, wanted: Wanted) -> Command {
         }),
         Wanted::Receipt(units) => Command::Receive(receipt(rt, units)),
         Wanted::Order(units) => Command::Order(order(rt, alloc, units)),
+        Wanted::Day(text) => Command::OpenDay(business_day(rt, text)),
     }
+}
+
+fn rows(rt: &impl Abort, alloc: Global, wanted: &[(Under, Wanted)]) -> Vec<(Key, Command)> {
+    let mut rows = Vec::new(alloc);
+    for row in wanted {
+        let pair = (key(rt, row.0), command(rt, alloc, row.1));
+        assert!(rt; rows.push(pair).is_ok());
+    }
+    rows
 }
 
 fn is_reply(reply: &Reply, told: Told) -> bool {
@@ -160,11 +181,28 @@ fn act<S: Alter>(
     found
 }
 
+fn act_all<S: Alter>(
+    rt: &impl Abort,
+    alloc: Global,
+    books: &mut Books<S>,
+    wanted: &[(Under, Wanted)],
+) -> Result<Tally, RowFault> {
+    let rows = rows(rt, alloc, wanted);
+    assert!(rt; rows.len() <= 1000);
+    let found = books.act_all(rows.as_slice());
+    drop(rows);
+    found
+}
+
 fn does<S: Alter>(rt: &impl Abort, alloc: Global, books: &mut Books<S>, deed: Deed) {
     match deed {
         Deed::Act(under, wanted, told) => {
             is_told(rt, act(rt, alloc, books, under, wanted), told);
         }
+        Deed::All(wanted, told) => {
+            assert!(rt; act_all(rt, alloc, books, wanted) == told);
+        }
+        Deed::Today(text) => assert!(rt; books.day().text().as_slice() == text),
         Deed::Stock(reserved) => is_stock(rt, books.stock(&oats(rt)), reserved),
     }
 }
@@ -284,4 +322,56 @@ static STOCK_SHOWN: [&[Step]; 1] = [&[Step::Deeds(&[
 #[test]
 fn stock_is_shown(rt: HostRuntime) {
     run(&rt, rt.alloc(), STOCK_SHOWN.as_slice());
+}
+
+// Rows act all or none, each after those before it, and the last day that they open is the day of the books.
+static ALL_OR_NONE: [&[Step]; 1] = [&[Step::Deeds(&[
+    Deed::All(
+        &[],
+        Ok(Tally {
+            accepted: 0,
+            repeated: 0,
+        }),
+    ),
+    Deed::All(
+        &[
+            (Under::Key(b"K-1"), Wanted::Item),
+            (Under::Key(b"K-2"), Wanted::Day(b"2026-05-05")),
+            (Under::FirstLine, Wanted::Receipt(10)),
+            (Under::Key(b"K-3"), STORE_BIN),
+        ],
+        Err(RowFault::Refused {
+            row: 3,
+            refusal: Refusal::UnknownBin,
+        }),
+    ),
+    Deed::Today(b"2026-05-04"),
+    Deed::Stock(None),
+    Deed::All(
+        &[
+            (Under::Key(b"K-1"), Wanted::Item),
+            (Under::Key(b"K-2"), Wanted::Day(b"2026-05-05")),
+            (Under::Key(b"K-3"), STORE_BIN),
+            (Under::FirstLine, Wanted::Receipt(10)),
+            (Under::FirstLine, Wanted::Receipt(10)),
+            (Under::Key(b"K-4"), Wanted::Day(b"2026-05-06")),
+            (Under::Key(b"K-2"), Wanted::Day(b"2026-05-05")),
+        ],
+        Ok(Tally {
+            accepted: 5,
+            repeated: 2,
+        }),
+    ),
+    Deed::Today(b"2026-05-06"),
+    Deed::Stock(Some(0)),
+    Deed::Act(
+        Under::FirstLine,
+        Wanted::Receipt(10),
+        Told::Again(b"{\"act\":4}"),
+    ),
+])]];
+
+#[test]
+fn rows_act_all_or_none(rt: HostRuntime) {
+    run(&rt, rt.alloc(), ALL_OR_NONE.as_slice());
 }

@@ -18,18 +18,38 @@ fn phrase(rt: &impl Abort, status: &str) -> &'static str {
     }
 }
 
+/// The body of a request. A bar ends a line of a goods-in file.
+fn body_text(rt: &impl Abort, alloc: Global, body: &str) -> String {
+    body.replace(alloc, '|', "\n").ok().expect(rt, "memory")
+}
+
+fn posted(rt: &impl Abort, alloc: Global, method: &str, path: &str, body: &str) -> String {
+    let text = format!(in alloc;
+        "{method} {path} HTTP/1.1\r\nContent-Length: {}\r\n\r\n{body}",
+        body.len()
+    );
+    text.ok().expect(rt, "memory")
+}
+
+fn bare(rt: &impl Abort, alloc: Global, method: &str, path: &str) -> String {
+    let text = format!(in alloc; "{method} {path} HTTP/1.1\r\n\r\n");
+    text.ok().expect(rt, "memory")
+}
+
 /// The request of an exchange. A body is told its length.
 pub(crate) fn request(rt: &impl Abort, alloc: Global, line: &str) -> String {
     let (asked, _) = parted(rt, line, " => ");
     let (method, rest) = parted(rt, asked, " ");
-    let text = match rest.split_once(" ") {
-        Some((path, body)) => format!(in alloc;
-            "{method} {path} HTTP/1.1\r\nContent-Length: {}\r\n\r\n{body}",
-            body.len()
+    match rest.split_once(" ") {
+        Some((path, body)) => posted(
+            rt,
+            alloc,
+            method,
+            path,
+            body_text(rt, alloc, body).as_str(),
         ),
-        None => format!(in alloc; "{method} {rest} HTTP/1.1\r\n\r\n"),
-    };
-    text.ok().expect(rt, "memory")
+        None => bare(rt, alloc, method, rest),
+    }
 }
 
 /// The answer of an exchange. A text stands there with `|` before each of its lines.

@@ -17,6 +17,8 @@ mod disk;
 #[cfg(test)]
 mod exchange;
 #[cfg(test)]
+mod filing;
+#[cfg(test)]
 mod goods;
 #[cfg(test)]
 mod opening;

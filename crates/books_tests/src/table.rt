@@ -4,6 +4,7 @@ use crate::answers::{
     GOODS_AND_BINS, REFUSED, STOCK_BEFORE, STOCK_OF_ONE_LOT, STOCK_OF_THREE_LOTS, TWO_CUSTOMERS,
 };
 use crate::days::OPENED;
+use crate::filing::{FILED, FILED_ROWS, FILED_TWICE, FILES_AND_CUSTOMERS, FILES_REFUSED};
 use crate::goods::{
     ADJUSTED, COUNTED, HELD, MOVED, NEVER_RECEIVED, RECALLED, RECEIVED_AND_RECALLED,
 };
@@ -48,6 +49,10 @@ pub(crate) enum Table {
     ShortOfFour,
     ShortOfNine,
     PickLists,
+    FilesRefused,
+    Filed,
+    FiledTwice,
+    FilesAndCustomers,
 }
 
 impl Table {
@@ -84,6 +89,10 @@ impl Table {
             Table::ShortOfFour => SHORT_OF_FOUR,
             Table::ShortOfNine => SHORT_OF_NINE,
             Table::PickLists => PICK_LISTS,
+            Table::FilesRefused => FILES_REFUSED,
+            Table::Filed => FILED,
+            Table::FiledTwice => FILED_TWICE,
+            Table::FilesAndCustomers => FILES_AND_CUSTOMERS,
         }
     }
 }
@@ -96,6 +105,7 @@ pub(crate) enum Left {
     Returned,
     Shipped,
     StockTaken,
+    Filed,
 }
 
 impl Left {
@@ -106,6 +116,7 @@ impl Left {
             Left::Returned => RETURNED_ROWS.as_slice(),
             Left::Shipped => SHIPPED_ROWS.as_slice(),
             Left::StockTaken => STOCK_TAKEN_ROWS.as_slice(),
+            Left::Filed => FILED_ROWS.as_slice(),
         }
     }
 }

@@ -7,9 +7,9 @@ use Rattle.command_line.specs.Statuses.{IsStatusOf}
 use Rattle.command_line.specs.declared.fault.Fault.{Fault}
 use Rattle.command_line.specs.declared.fault.Fault.TheVariants.{Value, Io}
 use Rattle.command_line.specs.declared.running.Work.{Work}
-use Rattle.command_line.specs.declared.running.Work.TheVariants.{Make, Serve as ServeBooks}
+use Rattle.command_line.specs.declared.running.Work.TheVariants.{Make, Serve as ServeBooks, Import as ImportFile}
 use Rattle.command_line.specs.declared.words.Line.{Line}
-use Rattle.command_line.specs.declared.words.Line.TheVariants.{Label, Init, Serve, Unknown}
+use Rattle.command_line.specs.declared.words.Line.TheVariants.{Label, Init, Serve, Import, Unknown}
 
 -- how the work with the books in this file may end
 abbrev pub Works : Type 1
@@ -30,6 +30,7 @@ IsLabelTold date text old new (Err fault) = IsRefused date text fault
 abbrev pub IsEndOf : Works → Line → Option (List ℕ) → Option (List ℕ) → Result Unit Fault → Type 0
 IsEndOf works (Init db day) old new end = IsMade works db.now day.now end
 IsEndOf works (Serve db port max) old new end = works db.now (ServeBooks port max) end
+IsEndOf works (Import db file) old new end = works db.now (ImportFile file) end
 IsEndOf works (Label day text) old new end = IsLabelTold day.now text.now old new end
 IsEndOf works Unknown old new end = end ≡ Err Value
 

@@ -1,16 +1,19 @@
 -- What the lines of the program print and tell.
-use Rattle.std.specs.Prelude.{◌≡◌, ◌≢◌, ◌⊎◌, ℕ, ℤ, List, ◌++◌, codes, IsTrue, Option, Some, Ok, Err}
+use Rattle.std.specs.Prelude.{◌≡◌, ◌≢◌, ◌⊎◌, ℕ, ℤ, List, ◌++◌, codes, IsTrue, Option, Some, None, Ok, Err, decimal}
 use Rattle.std.specs.Io.KnownBytes.{Appends}
 use Rattle.clap.specs.Values.{kind_of}
 use Rattle.clap.specs.declared.error.Error.{Error}
 use Rattle.clap.specs.declared.error.kind.ErrorKind.TheVariants.{OutOfMemory}
 use Rattle.label.specs.Days.{is_business_day, day_text, parsed_day}
 use Rattle.values.specs.Faults.{fault_code}
+use Rattle.commands.specs.Refusals.{refusal_code}
+use Rattle.goodsin.specs.Faults.{file_fault_code}
+use Rattle.goodsin.specs.declared.fault.FileFault.TheVariants.{Row as RowOfFile}
 use Rattle.label.specs.Labels.{label_read}
 use Rattle.values.specs.declared.fault.LabelFault.{LabelFault}
 use Rattle.label.specs.declared.gs1.Label.{Label as LabelSaid}
 use Rattle.command_line.specs.declared.fault.Fault.{Fault}
-use Rattle.command_line.specs.declared.fault.Fault.TheVariants.{Usage, Label, Value, Io, Store, Foreign}
+use Rattle.command_line.specs.declared.fault.Fault.TheVariants.{Usage, Label, File, Row, Value, Io, Store, Foreign}
 
 -- what `lotd label` prints
 abbrev pub label_lines : LabelSaid → List ℕ
@@ -20,14 +23,26 @@ label_lines label = codes "GTIN " ++ label.gtin ++ codes "\nLOT " ++ label.lot +
 abbrev pub told_code : Fault → List ℕ
 told_code (Usage error) = codes "usage"
 told_code (Label fault) = fault_code fault
+told_code (File fault) = file_fault_code fault
+told_code (Row row why) = refusal_code why
 told_code Value = codes "value"
 told_code Io = codes "io"
 told_code Store = codes "store"
 told_code Foreign = codes "foreign books"
 
+-- the row of a file that is named
+abbrev pub told_row : Fault → Option ℕ
+told_row (File (RowOfFile row)) = Some row
+told_row (Row row why) = Some row
+told_row _ = None
+
+abbrev pub line_of : List ℕ → Option ℕ → List ℕ
+line_of code None = codes "lotd: " ++ code ++ codes "\n"
+line_of code (Some row) = codes "lotd: " ++ code ++ codes " row " ++ decimal row ++ codes "\n"
+
 -- the line that tells a fault
 abbrev pub told_line : Fault → List ℕ
-told_line fault = codes "lotd: " ++ told_code fault ++ codes "\n"
+told_line fault = line_of (told_code fault) (told_row fault)
 
 -- the fault of words that are no line: want of memory, or what `clap` says of them
 abbrev pub IsFaultOfWords : Error → Fault → Type 0
@@ -58,5 +73,7 @@ IsRefused day text (Label fault) = HasFault day text fault
 IsRefused day text Value = IsNoBusinessDay day
 IsRefused day text Io = Unit {0}
 IsRefused day text (Usage error) = ⊥
+IsRefused day text (File fault) = ⊥
+IsRefused day text (Row row why) = ⊥
 IsRefused day text Store = ⊥
 IsRefused day text Foreign = ⊥

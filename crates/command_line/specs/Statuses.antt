@@ -4,7 +4,7 @@ use Rattle.clap.specs.Values.{kind_of}
 use Rattle.clap.specs.declared.error.Error.{Error}
 use Rattle.clap.specs.declared.error.kind.ErrorKind.TheVariants.{DisplayHelp, DisplayVersion}
 use Rattle.command_line.specs.declared.fault.Fault.{Fault}
-use Rattle.command_line.specs.declared.fault.Fault.TheVariants.{Usage, Label, Value, Io, Store, Foreign}
+use Rattle.command_line.specs.declared.fault.Fault.TheVariants.{Usage, Label, File, Row, Value, Io, Store, Foreign}
 use Rattle.command_line.specs.declared.running.TheConstants.{DONE, REFUSED, MISUSED}
 
 -- words that are no line are misused; a call for help is done, or refused where the help could not be written
@@ -16,6 +16,8 @@ abbrev pub IsStatusOf : Result Unit Fault → ℕ → Type 0
 IsStatusOf (Ok done) status = status ≡ DONE
 IsStatusOf (Err (Usage error)) status = IsStatusOfWords error status
 IsStatusOf (Err (Label fault)) status = status ≡ REFUSED
+IsStatusOf (Err (File fault)) status = status ≡ REFUSED
+IsStatusOf (Err (Row row why)) status = status ≡ REFUSED
 IsStatusOf (Err Value) status = status ≡ REFUSED
 IsStatusOf (Err Io) status = status ≡ REFUSED
 IsStatusOf (Err Store) status = status ≡ REFUSED

@@ -2,6 +2,8 @@ ghost use Rattle.std.specs.Prelude.{◌≡◌};
 
 use clap::Error;
 use clap::error::ErrorKind;
+use commands::Refusal;
+use goodsin::FileFault;
 use std::io;
 use values::LabelFault;
 
@@ -12,6 +14,10 @@ pub enum Fault {
     Usage(Error),
     /// A text is no label.
     Label(LabelFault),
+    /// A file does not read as a goods-in file.
+    File(FileFault),
+    /// This row of a file, counted from 1, is refused.
+    Row { row: u16, refusal: Refusal },
     /// A date on the line is no business day.
     Value,
     /// The output could not be written.
@@ -23,7 +29,7 @@ pub enum Fault {
 }
 
 impl Fault {
-    ghost use Rattle.command_line.specs.Lines.{told_code};
+    ghost use Rattle.command_line.specs.Lines.{told_code, told_row};
 
     /// What is told on standard error after `lotd: `.
     pub(crate) fn code(&self) -> &'static str
@@ -32,10 +38,23 @@ impl Fault {
         match self {
             Fault::Usage(_) => "usage",
             Fault::Label(fault) => fault.code(),
+            Fault::File(fault) => fault.code(),
+            Fault::Row { row: _, refusal } => refusal.code(),
             Fault::Value => "value",
             Fault::Io => "io",
             Fault::Store => "store",
             Fault::Foreign => "foreign books",
+        }
+    }
+
+    /// The row of a file that it is about, counted from 1.
+    pub(crate) fn row(&self) -> Option<u16>
+        ensures { result ≡ told_row self.now }
+    {
+        match self {
+            Fault::File(FileFault::Row(row)) => Some(*row),
+            Fault::Row { row, refusal: _ } => Some(*row),
+            _ => None,
         }
     }
 }

@@ -25,11 +25,14 @@ pub const MISUSED: u8 = 2;
 
 /// What a line does with the books in a file.
 #[derive(Clone, Copy)]
-pub enum Work {
+pub enum Work<'a> {
     /// Makes them; they begin on the business day.
     Make(BusinessDay),
     /// Opens them, listens on the port and answers so many connections.
     Serve { port: u16, max: u32 },
+    /// Opens them, and then the goods-in file: takes its rows in, all or none, and prints how many were accepted and
+    /// how many repeated.
+    Import { file: &'a str },
 }
 
 /// Where the books are that the lines speak of.
@@ -42,12 +45,12 @@ pub trait BooksAt {
     ghost ends: { Self → List ℕ → Work → Result Unit Fault → Type 0 };
 
     /// Does the work with the books in the file. What it prints goes to `out`.
-    fn work<W: Write>(&self, db: &str, work: Work, out: &mut W) -> Result<(), Fault>
-        ensures { ends self.now db.now work result };
+    fn work<W: Write>(&self, db: &str, work: Work<'_>, out: &mut W) -> Result<(), Fault>
+        ensures { ends self.now db.now work.entry result };
 }
 
 /// Runs the line that the words are, the program's name first: what it prints goes to `out`, and a
-/// fault to `err` as one line, `lotd: ` and its code. The result is the exit status, by how the line ended.
+/// fault to `err` as one line, `lotd: `, its code and, where a row of a file is named, ` row ` and its number. The result is the exit status, by how the line ended.
 pub fn run<'a, B: BooksAt, S: AsStr, W: Write, E: Write>(
     alloc: Global,
     books: &B,
@@ -83,6 +86,7 @@ fn end_line<'a, B: BooksAt, W: Write>(books: &B, line: Line<'a>, out: &mut W) ->
     match line {
         Line::Init { db, day } => make_books(books, db, day, out),
         Line::Serve { db, port, max } => books.work(db, Work::Serve { port, max }, out),
+        Line::Import { db, file } => books.work(db, Work::Import { file }, out),
         Line::Label { day, text } => print_label(day, text, out),
         Line::Unknown => Err(Fault::Value),
     }
@@ -124,7 +128,10 @@ fn write_fault<E: Write>(fault: &Fault, err: &mut E) -> io::Result<()>
     ensures { OnOk result (Appends (E.contents err.old) (E.contents err.new) (told_line fault.now)) }
 {
     let code = fault.code();
-    writeln!(err, "lotd: {code}")
+    match fault.row() {
+        Some(row) => writeln!(err, "lotd: {code} row {row}"),
+        None => writeln!(err, "lotd: {code}"),
+    }
 }
 
 // Help is told on `out`, and words that are no line on `err`.

@@ -11,6 +11,8 @@ pub enum Line<'a> {
     Init { db: &'a str, day: &'a str },
     /// `lotd serve --db PATH --port N --max M`: answers M connections to the port N of 127.0.0.1.
     Serve { db: &'a str, port: u16, max: u32 },
+    /// `lotd import --db PATH FILE`: takes in the goods-in file FILE, all rows or none.
+    Import { db: &'a str, file: &'a str },
     /// No line that the program has. `clap` refuses such words before.
     Unknown,
 }
@@ -47,9 +49,10 @@ struct Words {
 const EXAMPLES: &str = "Examples:
   lotd init --db stock.db --day 2026-05-04
   lotd serve --db stock.db --port 8080 --max 1000
+  lotd import --db stock.db goods.csv
   lotd label --day 2026-05-04 ']C101095060001343521726093010AB12'";
 
-static LINES: [Words; 3] = [
+static LINES: [Words; 4] = [
     Words {
         name: "init",
         about: "Make new books",
@@ -95,6 +98,30 @@ static LINES: [Words; 3] = [
         ],
     },
     Words {
+        name: "import",
+        about: "Take in a goods-in file, all rows or none",
+        examples: "Example:
+  lotd import --db stock.db goods.csv
+
+The file begins with the line delivery,line,gtin,lot,expiry,bin,qty and has a
+receipt a line, at most 1000; the expiry is written YYMMDD.
+A FILE that begins with a dash goes after two dashes: lotd import --db PATH -- FILE",
+        values: &[
+            Value {
+                id: "db",
+                stands_for: "PATH",
+                help: "The file of the books",
+                kind: Kind::Named,
+            },
+            Value {
+                id: "file",
+                stands_for: "FILE",
+                help: "The goods-in file",
+                kind: Kind::Bare,
+            },
+        ],
+    },
+    Words {
         name: "label",
         about: "Print the GTIN, the lot and the expiry day of a GS1 label",
         examples: "Examples:
@@ -135,6 +162,7 @@ fn line_found<'a>(matches: &ArgMatches<'a>) -> Line<'a> {
         Some(("label", found)) => label_line(found),
         Some(("init", found)) => init_line(found),
         Some(("serve", found)) => serve_line(found),
+        Some(("import", found)) => import_line(found),
         _ => Line::Unknown,
     }
 }
@@ -157,6 +185,13 @@ fn serve_line<'a>(found: &ArgMatches<'a>) -> Line<'a> {
     let (port, max) = (found.get_one::<u16>("port"), found.get_one::<u32>("max"));
     match (found.get_str("db"), port, max) {
         (Some(db), Some(port), Some(max)) => Line::Serve { db, port, max },
+        _ => Line::Unknown,
+    }
+}
+
+fn import_line<'a>(found: &ArgMatches<'a>) -> Line<'a> {
+    match (found.get_str("db"), found.get_str("file")) {
+        (Some(db), Some(file)) => Line::Import { db, file },
         _ => Line::Unknown,
     }
 }

@@ -5,3 +5,4 @@ pub mod Serving
 pub mod Showing
 pub mod StepLaws
 pub mod Stepping
+pub mod FileTold

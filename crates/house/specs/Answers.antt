@@ -5,12 +5,19 @@ use Rattle.label.specs.declared.gs1.Label.{Label}
 use Rattle.values.specs.declared.fault.LabelFault.{LabelFault}
 use Rattle.commands.specs.Refusals.{refusal_code}
 use Rattle.commands.specs.declared.refusal.Refusal.{Refusal}
+use Rattle.commands.specs.declared.key.Key.{Key}
 use Rattle.commands.specs.declared.key.Key.TheVariants.{Line}
+use Rattle.commands.specs.declared.command.Command.{Command}
 use Rattle.commands.specs.declared.command.Command.TheVariants.{Receive}
 use Rattle.machine.specs.Acts.{Act}
 use Rattle.machine.specs.Standing.{today}
-use Rattle.machine.specs.Once.{Outcome, Accepted, Repeated, Refused, outcome, acts_after, is_key_of}
+use Rattle.machine.specs.Once.{Outcome, Accepted, Repeated, Refused, outcome, acts_after, is_key_of, FileOutcome, Taken, RefusedRow, file_outcome, acts_after_file}
 use Rattle.machine.specs.Queries.{order_shown, short_shown, stock_shown}
+use Rattle.goodsin.specs.Faults.{file_fault_code}
+use Rattle.goodsin.specs.Files.{file_read}
+use Rattle.goodsin.specs.declared.fault.FileFault.{FileFault}
+use Rattle.goodsin.specs.declared.fault.FileFault.TheVariants.{Header, Row, TooManyRows, Length, Reader, Memory}
+use Rattle.store.specs.Filing.{rows_of}
 use Rattle.requests.specs.declared.ask.Ask.{Ask}
 use Rattle.requests.specs.declared.ask.Ask.TheVariants.{Do, Scan, GoodsIn, Show}
 use Rattle.requests.specs.declared.ask.Query.{Query}
@@ -19,7 +26,7 @@ use Rattle.requests.specs.declared.request.Read.{Read}
 use Rattle.requests.specs.declared.request.Read.TheVariants.{Need, Bad, Request}
 use Rattle.wire.specs.Answers.{answer_bytes}
 use Rattle.wire.specs.Shorts.{code_text}
-pub use Rattle.wire.specs.ShortAnswers.{short_answer, fault_answer, not_served, no_memory, foreign_books, label_answer}
+pub use Rattle.wire.specs.ShortAnswers.{short_answer, fault_answer, not_served, no_memory, foreign_books, label_answer, tally_answer, row_conflict, cause_answer, cause_row_answer}
 use Rattle.wire.specs.declared.answer.Answer.{Answer}
 use Rattle.wire.specs.declared.answer.Answer.TheVariants.{Order as OrderAnswer, Stock as StockAnswer, Text}
 use Rattle.texts.specs.PickList.{pick_list_text}
@@ -68,6 +75,30 @@ abbrev pub acts_scanned : ℤ → List Act → Delivered → Result Label LabelF
 acts_scanned first acts d (Ok label) = acts_with first acts (receipt d label)
 acts_scanned first acts d (Err fault) = acts
 
+-- Goods-in files. A file is read at the business day; its rows are taken all or none.
+
+-- 200 with how many rows were accepted and how many repeated, or 409 with the code and the first refused row
+abbrev pub file_outcome_answer : FileOutcome → List ℕ
+file_outcome_answer (Taken accepted repeated) = tally_answer accepted repeated
+file_outcome_answer (RefusedRow row why) = row_conflict row why
+
+-- 400 with the code, where a field breaks its rule with the row; 503 W90 where it could not be read
+abbrev pub file_fault_answer : FileFault → List ℕ
+file_fault_answer Header = cause_answer (file_fault_code Header)
+file_fault_answer (Row row) = cause_row_answer (file_fault_code (Row row)) row
+file_fault_answer TooManyRows = cause_answer (file_fault_code TooManyRows)
+file_fault_answer Length = cause_answer (file_fault_code Length)
+file_fault_answer Reader = no_memory
+file_fault_answer Memory = no_memory
+
+abbrev pub file_answer : ℤ → List Act → Result (List (Key × Command)) FileFault → List ℕ
+file_answer first acts (Ok rows) = file_outcome_answer (file_outcome first acts (rows_of rows))
+file_answer first acts (Err fault) = file_fault_answer fault
+
+abbrev pub acts_filed : ℤ → List Act → Result (List (Key × Command)) FileFault → List Act
+acts_filed first acts (Ok rows) = acts_after_file first acts (rows_of rows)
+acts_filed first acts (Err fault) = acts
+
 -- Queries
 
 -- 200 with the view, or 404 with the refusal's code
@@ -95,20 +126,20 @@ query_answer first acts (Shortages gtin) = shortages_answer first acts gtin
 query_answer first acts (Card lot) = not_served
 query_answer first acts (Notice lot) = not_served
 
--- Requests. A label is read at the business day.
+-- Requests. A label and a file are read at the business day.
 
 abbrev pub ask_answer : ℤ → List Act → Ask → List ℕ
 ask_answer first acts (Do key command) = act_answer first acts (record { key = key; command = command })
 ask_answer first acts (Scan delivery line label bin qty) =
     scan_answer first acts (record { delivery = delivery; line = line; bin = bin; qty = qty }) (label_read (today first acts) label)
-ask_answer first acts (GoodsIn file) = not_served
+ask_answer first acts (GoodsIn file) = file_answer first acts (file_read (today first acts) file)
 ask_answer first acts (Show query) = query_answer first acts query
 
 abbrev pub acts_asked : ℤ → List Act → Ask → List Act
 acts_asked first acts (Do key command) = acts_with first acts (record { key = key; command = command })
 acts_asked first acts (Scan delivery line label bin qty) =
     acts_scanned first acts (record { delivery = delivery; line = line; bin = bin; qty = qty }) (label_read (today first acts) label)
-acts_asked first acts (GoodsIn file) = acts
+acts_asked first acts (GoodsIn file) = acts_filed first acts (file_read (today first acts) file)
 acts_asked first acts (Show query) = acts
 
 -- Readings. The text is taken as ended, so one that needs more bytes is told the fault of what is missing.

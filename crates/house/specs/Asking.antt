@@ -14,10 +14,13 @@ use Rattle.wire.specs.declared.answer.Answer.{Answer}
 use Rattle.wire.specs.declared.answer.Answer.TheVariants.{Text}
 use Rattle.store.specs.Connected.{Connected}
 use Rattle.store.specs.declared.reply.Reply.{Reply}
+use Rattle.store.specs.declared.tally.Tally.{Tally}
+use Rattle.store.specs.declared.tally.RowFault.{RowFault}
+use Rattle.store.specs.declared.tally.RowFault.TheVariants as row
 use Rattle.store.specs.declared.fault.Fault.{Fault}
 use Rattle.store.specs.declared.fault.Fault.TheVariants.{Refused, Store, Foreign}
 use Rattle.store.specs.Books.{HoldsBooks}
-use Rattle.house.specs.Answers.{short_answer, no_memory, foreign_books, Delivered, scan_answer, acts_scanned}
+use Rattle.house.specs.Answers.{short_answer, no_memory, foreign_books, tally_answer, row_conflict, Delivered, scan_answer, acts_scanned}
 
 abbrev pub act_of : Key → Command → Act
 act_of key command = record { key = key; command = command }
@@ -37,6 +40,13 @@ told_answer (Ok reply) = short_answer 200 reply.text
 told_answer (Err (Refused why)) = short_answer 409 (code_text (refusal_code why))
 told_answer (Err Store) = no_memory
 told_answer (Err Foreign) = foreign_books
+
+-- how the rows of a file went
+abbrev pub told_file_answer : Result Tally RowFault → List ℕ
+told_file_answer (Ok tally) = tally_answer tally.accepted tally.repeated
+told_file_answer (Err (row.Refused n why)) = row_conflict n why
+told_file_answer (Err row.Store) = no_memory
+told_file_answer (Err row.Foreign) = foreign_books
 
 -- a query that is refused, or that failed
 abbrev pub fault_shown : Fault → List ℕ

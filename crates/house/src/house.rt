@@ -11,6 +11,7 @@ ghost use Rattle.house.specs.House.{books_of, bytes_of, texts_of, StepsTo, RunsT
 
 use crate::Answered;
 use crate::asking::{act, scan};
+use crate::filing::take_in;
 use crate::showing::{show_order, show_pick_list, show_shortages, show_stock};
 use requests::{Ask, Query, Read, WireFault, read_request};
 use sqlite::Alter;
@@ -104,6 +105,7 @@ fn answer_ask<S: Alter>(alloc: Global, books: &mut Books<S>, ask: &Ask) -> Answe
             bin,
             qty,
         } => Answered::Short(scan(books, *delivery, *line, label.as_slice(), *bin, *qty)),
+        Ask::GoodsIn(file) => Answered::Short(take_in(alloc, books, file.as_slice())),
         Ask::Show(Query::Order(order)) => show_order(alloc, books, order),
         Ask::Show(Query::Stock(gtin)) => show_stock(alloc, books, gtin),
         Ask::Show(Query::PickList(order)) => show_pick_list(alloc, books, order),

@@ -3,6 +3,7 @@
 
 mod answered;
 mod asking;
+mod filing;
 mod house;
 pub mod laws;
 mod serve;

@@ -1,7 +1,8 @@
 use command_line::{BooksAt, Fault, Work};
-use service::worked;
+use service::{FilesAt, worked};
 use sqlite::Connection;
-use std::io::Write;
+use std::fs::File;
+use std::io::{self, Write};
 
 /// The books in files of the host.
 #[derive(Clone, Copy)]
@@ -15,14 +16,22 @@ impl BooksAt for InFiles<'_> {
 
     /// What the log still holds is copied into the file at the end, also where the port cannot be had.
     // The one function over the connection's own type: each costs the proof as much as all else here.
-    fn work<W: Write>(&self, db: &str, work: Work, out: &mut W) -> Result<(), Fault> {
+    fn work<W: Write>(&self, db: &str, work: Work<'_>, out: &mut W) -> Result<(), Fault> {
         match Connection::open(self.rt, db) {
-            Ok(conn) => match worked(self.rt, conn, work, out) {
+            Ok(conn) => match worked(self.rt, self, conn, work, out) {
                 Ok((conn, end)) => first_fault(end, conn.close().is_ok()),
                 Err(fault) => Err(fault),
             },
             Err(_) => Err(Fault::Store),
         }
+    }
+}
+
+impl FilesAt for InFiles<'_> {
+    type File = File;
+
+    fn open(&self, name: &str) -> io::Result<File> {
+        File::open(self.rt, name)
     }
 }
 

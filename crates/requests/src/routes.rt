@@ -47,7 +47,7 @@ pub enum Route {
 }
 
 /// The routes that are served.
-pub static ROUTES: [(&str, Route); 21] = [
+pub static ROUTES: [(&str, Route); 22] = [
     ("/items", Route::Post(Posted::Items)),
     ("/bins", Route::Post(Posted::Bins)),
     ("/receipts", Route::Post(Posted::Receipts)),
@@ -63,6 +63,7 @@ pub static ROUTES: [(&str, Route); 21] = [
     ("/releases", Route::Post(Posted::Releases)),
     ("/recalls", Route::Post(Posted::Recalls)),
     ("/days", Route::Post(Posted::Days)),
+    ("/goodsin", Route::Post(Posted::GoodsIn)),
     ("/orders/{order}", Route::Get(Shown::Order)),
     ("/stock/{gtin}", Route::Get(Shown::Stock)),
     ("/picklists/{order}", Route::Get(Shown::PickList)),

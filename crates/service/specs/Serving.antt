@@ -11,7 +11,8 @@ use Rattle.house.specs.House.{Run, StepsTo, RunsTo}
 use Rattle.command_line.specs.declared.fault.Fault.{Fault}
 use Rattle.command_line.specs.declared.fault.Fault.TheVariants.{Foreign}
 use Rattle.command_line.specs.declared.running.Work.{Work}
-use Rattle.command_line.specs.declared.running.Work.TheVariants.{Make, Serve}
+use Rattle.command_line.specs.declared.running.Work.TheVariants.{Make, Serve, Import}
+use Rattle.service.specs.Importing.{KeepsFile}
 
 -- the books are as they were, or one step over some text further
 abbrev pub GoesOn : {S : Type 0} → Ghosts S → ℤ → List Act → Connected S → Connected S → Type 0
@@ -38,8 +39,10 @@ pub record KeepsRun {S : Type 0} (g : Ghosts S) (first : ℤ) (acts : List Act) 
 abbrev pub IsWorked : {S : Type 0} → Ghosts S → Held S → Work → Held S → Type 0
 IsWorked g old (Make day) new = KeepsBooks day [] (state g new) × IsTrue (state g new).is_open
 IsWorked g old (Serve port max) new = (first : ℤ) (acts : List Act) → IsHistory first acts → AreRowsOf first acts (state g old).committed.trees → KeepsRun g first acts max new
+IsWorked g old (Import file) new = (first : ℤ) (acts : List Act) → IsHistory first acts → AreRowsOf first acts (state g old).committed.trees → KeepsFile g first acts new
 
 -- when the work is refused, and as what
 abbrev pub IsJudged : {S A : Type 0} → Ghosts S → Held S → Work → Result A Fault → Type 0
 IsJudged g old (Make day) result = old.in_transaction ≡ false → IsErrOf result Foreign ↔ ((state g old).now.schema ≢ schema_0)
 IsJudged g old (Serve port max) result = (state g old).now.schema ≢ the_schema → IsErr result
+IsJudged g old (Import file) result = (state g old).now.schema ≢ the_schema → IsErr result

@@ -8,7 +8,9 @@ ghost use Rattle.store.specs.declared.fault.Fault.TheVariants.{Foreign as Foreig
 ghost use Rattle.store.specs.Books.{AreRowsOf, KeepsBooks, HoldsBooks, IsClean};
 ghost use Rattle.house.specs.House.{books_of};
 ghost use Rattle.service.specs.Serving.{HasServed, KeepsRun, IsWorked, IsJudged};
+ghost use Rattle.service.specs.Importing.{KeepsFile};
 
+use crate::goods_file::{FilesAt, import_file};
 use crate::serve::serve_on;
 use command_line::{Fault, Work};
 use house::House;
@@ -24,23 +26,25 @@ pub type Worked<S> = (Connection<S>, Result<(), Fault>);
 
 /// Does the work with the books over this connection, and gives the connection back. What it prints goes to `out`.
 /// Books that were made are empty; books that were served are those of a run over at most as many texts as connections
-/// were to be answered. Where the books cannot be made or opened, the connection is dropped and the error is `Foreign`
+/// were to be answered; books into which a file was imported are those after it, or as they were. Where the books cannot be made or opened, the connection is dropped and the error is `Foreign`
 /// for other tables and else `Store`, also for a connection within a transaction. A port that cannot be had and output
 /// that cannot be written are `Io` beside the connection.
-pub fn worked<S: Alter + Drop, W: Write>(
+pub fn worked<S: Alter + Drop, F: FilesAt, W: Write>(
     rt: &HostRuntime,
+    files: &F,
     conn: Connection<S>,
-    work: Work,
+    work: Work<'_>,
     out: &mut W,
 ) -> Result<Worked<S>, Fault>
-    ensures worked { IfOk result (λ w. HasCleanDisk (state S.Store w.0) → IsWorked S.Store conn work w.0) }
-    ensures judged { IsJudged S.Store conn work result }
+    ensures worked { IfOk result (λ w. HasCleanDisk (state S.Store w.0) → IsWorked S.Store conn work.entry w.0) }
+    ensures judged { IsJudged S.Store conn work.entry result }
     ensures within { conn.in_transaction ≡ true → IsErrOf result Fault.Store }
     ensures fault { IfErr result (λ fault. (fault ≡ Fault.Store) ⊎ (fault ≡ Fault.Foreign)) }
 {
     match work {
         Work::Make(day) => made(rt.alloc(), conn, day),
         Work::Serve { port, max } => served(rt, conn, port, max, out),
+        Work::Import { file } => imported(rt.alloc(), files, conn, file, out),
     }
 }
 
@@ -98,6 +102,42 @@ fn serve_books<S: Alter + Drop, W: Write>(
     let mut house = House::new(rt.alloc(), books);
     let end = serve_port(rt, port, max, out, &mut house);
     (house.close().close(), end)
+}
+
+/// Opens the books, and then imports the goods-in file.
+fn imported<S: Alter + Drop, F: FilesAt, W: Write>(
+    alloc: Global,
+    files: &F,
+    conn: Connection<S>,
+    name: &str,
+    out: &mut W,
+) -> Result<Worked<S>, Fault>
+    ensures imported { IfOk result (λ w. HasCleanDisk (state S.Store w.0) → (first : ℤ) (acts : List Act) → IsHistory first acts
+        → AreRowsOf first acts (state S.Store conn).committed.trees → KeepsFile S.Store first acts w.0) }
+    ensures other { (state S.Store conn).now.schema ≢ the_schema → IsErr result }
+    ensures within { conn.in_transaction ≡ true → IsErrOf result Fault.Store }
+    ensures fault { IfErr result (λ fault. (fault ≡ Fault.Store) ⊎ (fault ≡ Fault.Foreign)) }
+{
+    match opened(alloc, conn) {
+        Ok(books) => Ok(import_books(alloc, files, books, name, out)),
+        Err(fault) => Err(fault),
+    }
+}
+
+fn import_books<S: Alter + Drop, F: FilesAt, W: Write>(
+    alloc: Global,
+    files: &F,
+    books: Books<S>,
+    name: &str,
+    out: &mut W,
+) -> Worked<S>
+    ensures clean { HasCleanDisk (state S.Store result.0) → IsClean S.Store books }
+    ensures imported { HasCleanDisk (state S.Store result.0) → (first : ℤ) (acts : List Act) → IsHistory first acts → HoldsBooks S.Store first acts books
+        → KeepsFile S.Store first acts result.0 }
+{
+    let mut books = books;
+    let end = import_file(alloc, files, &mut books, name, out);
+    (books.close(), end)
 }
 
 fn opened<S: Alter + Drop>(alloc: Global, conn: Connection<S>) -> Result<Books<S>, Fault>

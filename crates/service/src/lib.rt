@@ -2,7 +2,9 @@
 #![tactic(auto)]
 
 mod books_lines;
+mod goods_file;
 mod serve;
 
 pub use books_lines::{Worked, worked};
+pub use goods_file::{FilesAt, import};
 pub use serve::serve_on;

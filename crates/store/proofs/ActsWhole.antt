@@ -52,7 +52,7 @@ module _ (first : ℤ) (acts : List Act) (old begun : State) (is : begun ≡ rec
   }
 
   -- the commit fails
-  not_committed : (last new : State) (e : Error) → KeepsCommit begun last → last.in_transaction ≡ begun.in_transaction → FailsToCommit last new e → KeepsBooks first acts new
+  pub not_committed : (last new : State) (e : Error) → KeepsCommit begun last → last.in_transaction ≡ begun.in_transaction → FailsToCommit last new e → KeepsBooks first acts new
   not_committed last new e kept mode (inl fails) = undone_whole last new kept fails.3
   not_committed last new e kept mode (inr late) = absurd (let inside : begun.in_transaction ≡ true = ap (λ (s : State). s.in_transaction) is in let out = late.1 in cc)
 
@@ -66,7 +66,7 @@ pub begun_state : {S : Type 0} (g : Ghosts S) (old begun : Held S) → begun ≡
 begun_state g old begun is = ap (state g) is
 
 -- to begin a transaction writes nothing
-begun_survives : (old begun : State) → begun ≡ record old { in_transaction = true } → Survives old begun (λ _. ⊥)
+pub begun_survives : (old begun : State) → begun ≡ record old { in_transaction = true } → Survives old begun (λ _. ⊥)
 begun_survives old begun is =
     subst (λ (s : State). Survives old s (λ _. ⊥)) (sym is) (record {
       clean = omega arith;

@@ -9,3 +9,5 @@ pub mod EmptyTables
 pub mod OpenedBooks
 pub mod ShownWhole
 pub mod DayTold
+pub mod FilesInside
+pub mod FilesWhole

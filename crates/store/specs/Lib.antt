@@ -1,5 +1,6 @@
 pub mod Faults
 pub mod Acting
+pub mod Filing
 pub mod Answers
 pub mod Connected
 pub mod Books

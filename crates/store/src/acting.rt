@@ -50,8 +50,8 @@ pub fn act_once<S: Alter>(
     Ok(reply)
 }
 
-// The act within its transaction.
-fn act_inside<S: Alter>(
+/// The act within its transaction.
+pub fn act_inside<S: Alter>(
     alloc: Global,
     tx: &mut Transaction<'_, S>,
     key: &Key,

@@ -1,6 +1,6 @@
 //! The books over a connection.
 
-ghost use Rattle.std.specs.Prelude.{◌≡◌, ◌≢◌, ◌⊎◌, ◌↔◌, ℤ, None, [], List, false, IsTrue, IsErrOf, IsErrAnd, IsOkAnd, OnOk, OnErr, IfOk, IfErr, option_map, find, Some, true};
+ghost use Rattle.std.specs.Prelude.{◌≡◌, ◌≢◌, ◌≤◌, ◌⊎◌, ◌↔◌, ℤ, length, None, [], List, false, IsTrue, IsErrOf, IsErrAnd, IsOkAnd, OnOk, OnErr, IfOk, IfErr, option_map, find, Some, true};
 ghost use Rattle.sqlite.specs.State.{HasCleanDisk, Survives, KeepsCommit};
 ghost use Rattle.sqlite.specs.Held.{state};
 ghost use Rattle.label.specs.Days.{is_business_day};
@@ -8,17 +8,20 @@ ghost use Rattle.table_words.specs.Schema.{schema_0, the_schema};
 ghost use Rattle.table_words.specs.Steps.{IsReady};
 ghost use Rattle.table_words.specs.declared.error.TableFault.TheVariants.{Foreign as ForeignTable};
 ghost use Rattle.machine.specs.Acts.{Act};
-ghost use Rattle.machine.specs.Once.{IsHistory, is_key_of, acts_after};
-ghost use Rattle.machine.specs.Standing.{today, day_after_command, RETURNS};
-ghost use Rattle.store.specs.Acting.{IsActed, day_left as day_left_lem};
+ghost use Rattle.machine.specs.Once.{IsHistory, is_key_of, acts_after, acts_after_file};
+ghost use Rattle.machine.specs.Standing.{today, RETURNS};
+ghost use Rattle.store.specs.Acting.{IsActed};
+ghost use Rattle.store.specs.Filing.{rows_of, AreKeysOf, IsFiled};
 ghost use Rattle.machine.specs.Queries.{order_shown, short_shown, stock_shown};
 ghost use Rattle.store.specs.Queries.{IsShown};
 ghost use Rattle.store.specs.Books.{AreRowsOf, KeepsBooks, HoldsBooks, LeavesOnly, IsClean};
 ghost use Rattle.store.specs.Opening.{HasDay, unlimited, IsLeftUnfilled, IsReopened, IsLeftOver, IsCleanLeft};
 
 use crate::acting::act_once;
+use crate::day::day_left;
+use crate::filing::{every_row_is_sound, file_once};
 use crate::showing::show;
-use crate::{Fault, Reply};
+use crate::{Fault, Reply, RowFault, Tally};
 use commands::{BinKind, BinRow, Command, Key, MetaRow, OrderView, ShortView, StockView};
 use goods_tables::meta::meta_rows;
 use label::{BusinessDay, Day};
@@ -57,26 +60,6 @@ pub struct OpenFault<S: Alter> {
     /// What is left of the connection.
     pub left: Leftover<S>,
     pub fault: Fault,
-}
-
-/// The business day after a command that the rules accepted.
-fn day_after(day: BusinessDay, command: &Command) -> BusinessDay
-    ensures { result ≡ day_after_command command.now day }
-{
-    match command {
-        Command::OpenDay(opened) => *opened,
-        _ => day,
-    }
-}
-
-/// The business day after a command that was accepted, or that came again and so opens no day.
-fn day_left(day: BusinessDay, command: &Command, repeated: bool) -> BusinessDay
-    ensures { result ≡ day_left_lem day command.now repeated }
-{
-    if repeated {
-        return day;
-    }
-    day_after(day, command)
 }
 
 /// The name of the bin that is there from the start.
@@ -263,6 +246,39 @@ impl<S: Alter> Books<S> {
                 let day = day_left(self.day, command, reply.repeated);
                 self.day = day;
                 Ok(reply)
+            }
+            Err(why) => Err(why),
+        }
+    }
+
+    /// Acts on the rows of a file in order, on all of them or on none, in one transaction: a stop leaves the books without
+    /// the file or with the whole of it, its rows of `repeats` too. At most 1,000 rows.
+    ///
+    /// Each row is judged as [`Books::act`] judges a command, on the books that the rows before it lead to; so a key that
+    /// stands twice with one command is accepted once and then repeated. The first row that is refused ends the file and
+    /// is named, and the books are left as they were. So they are by `Store`, where memory, the disk or a size did not
+    /// suffice, unless the disk has shut the connection: the file then has the books before or with every row. What is
+    /// answered is kept: whatever a stop leaves from then on has every row. `Foreign` is never answered on books of a
+    /// history.
+    pub fn act_all(&mut self, rows: &[(Key, Command)]) -> Result<Tally, RowFault>
+        requires few { length rows.now ≤ 1000 }
+        ensures clean { IsClean S.Store self.new → IsClean S.Store self.old }
+        ensures filed { IsClean S.Store self.new → AreKeysOf rows.now
+            → (first : ℤ) (acts : List Act) → IsHistory first acts → HoldsBooks S.Store first acts self.old
+            → IsFiled S.Store first acts (rows_of rows.now) result self.new }
+        ensures kept { IsClean S.Store self.new → AreKeysOf rows.now
+            → (first : ℤ) (acts : List Act) → IsHistory first acts → HoldsBooks S.Store first acts self.old
+            → OnOk result (LeavesOnly first (acts_after_file first acts (rows_of rows.now)) (state S.Store self.new.conn)) }
+        ensures history { AreKeysOf rows.now → (first : ℤ) (acts : List Act) → IsHistory first acts → IsHistory first (acts_after_file first acts (rows_of rows.now)) }
+        ensures survives { Survives (state S.Store self.old.conn) (state S.Store self.new.conn) (λ trees. AreKeysOf rows.now
+            → (first : ℤ) (acts : List Act) → IsHistory first acts → KeepsBooks first acts (state S.Store self.old.conn)
+            → AreRowsOf first (acts_after_file first acts (rows_of rows.now)) trees) }
+    {
+        every_row_is_sound(rows);
+        match file_once(self.alloc, &mut self.conn, self.day, rows) {
+            Ok(filed) => {
+                self.day = filed.day;
+                Ok(filed.tally)
             }
             Err(why) => Err(why),
         }

@@ -1,6 +1,8 @@
 //! The lines of the program that need no books.
 
 use command_line::{BooksAt, Fault, Work, run};
+use commands::Refusal;
+use goodsin::FileFault;
 use std::alloc::Global;
 use std::io;
 use std::io::Write;
@@ -13,7 +15,7 @@ struct NoBooks;
 impl BooksAt for NoBooks {
     ghost ends = { λ _ _ _ _. Unit {0} };
 
-    fn work<W: Write>(&self, _db: &str, _work: Work, _out: &mut W) -> Result<(), Fault> {
+    fn work<W: Write>(&self, _db: &str, _work: Work<'_>, _out: &mut W) -> Result<(), Fault> {
         Err(Fault::Store)
     }
 }
@@ -90,13 +92,15 @@ fn answer(alloc: Global, words: &[&str]) -> (u8, bool, bool) {
     (status, !printed.is_empty(), !told.is_empty())
 }
 
-static HELP: [&[&str]; 3] = [
+static HELP: [&[&str]; 4] = [
+    &["lotd", "import", "--help"],
     &["lotd", "--help"],
     &["lotd", "help", "label"],
     &["lotd", "label", "--help"],
 ];
 
-static MISUSE: [&[&str]; 8] = [
+static MISUSE: [&[&str]; 9] = [
+    &["lotd", "import", "--db", "x"],
     &["lotd", "serve", "--db", "x", "--port", "1023", "--max", "1"],
     &[
         "lotd", "serve", "--db", "x", "--port", "65536", "--max", "1",
@@ -167,22 +171,26 @@ enum End {
     Store,
     Foreign,
     Io,
+    File(FileFault),
+    Row(u16, Refusal),
 }
 
-// What a line has to hand on: the file, and the first day of the books or the port and how many connections. The side
-// of the books prints a line and ends so; where something else is handed on, it ends with the fault of a value.
+// What a line has to hand on: the file, and the first day of the books, the goods-in file, or the port and how many
+// connections. The side of the books prints a line and ends so; where something else is handed on, it ends with the
+// fault of a value.
 struct Awaited {
     db: &'static str,
-    day: &'static str,
+    word: &'static str,
     port: u16,
     max: u32,
     end: End,
 }
 
 impl Awaited {
-    fn is_this(&self, db: &str, work: Work) -> bool {
+    fn is_this(&self, db: &str, work: Work<'_>) -> bool {
         let same = match work {
-            Work::Make(day) => day.day().text().as_slice() == self.day.as_bytes(),
+            Work::Make(day) => day.day().text().as_slice() == self.word.as_bytes(),
+            Work::Import { file } => file == self.word,
             Work::Serve { port, max } => port == self.port && max == self.max,
         };
         same && db == self.db
@@ -194,6 +202,8 @@ impl Awaited {
             End::Store => Err(Fault::Store),
             End::Foreign => Err(Fault::Foreign),
             End::Io => Err(Fault::Io),
+            End::File(fault) => Err(Fault::File(fault)),
+            End::Row(row, refusal) => Err(Fault::Row { row, refusal }),
         }
     }
 }
@@ -201,7 +211,7 @@ impl Awaited {
 impl BooksAt for Awaited {
     ghost ends = { λ _ _ _ _. Unit {0} };
 
-    fn work<W: Write>(&self, db: &str, work: Work, out: &mut W) -> Result<(), Fault> {
+    fn work<W: Write>(&self, db: &str, work: Work<'_>, out: &mut W) -> Result<(), Fault> {
         if !self.is_this(db, work) {
             return Err(Fault::Value);
         }
@@ -218,12 +228,12 @@ struct Handed {
     told: &'static str,
 }
 
-static HANDED_ON: [Handed; 7] = [
+static HANDED_ON: [Handed; 11] = [
     Handed {
         words: &["lotd", "init", "--db", "stock.db", "--day", "2026-05-04"],
         to: Awaited {
             db: "stock.db",
-            day: "2026-05-04",
+            word: "2026-05-04",
             port: 0,
             max: 0,
             end: End::Done,
@@ -235,7 +245,7 @@ static HANDED_ON: [Handed; 7] = [
         words: &["lotd", "init", "--day", "2199-12-31", "--db", "2000-01-01"],
         to: Awaited {
             db: "2000-01-01",
-            day: "2199-12-31",
+            word: "2199-12-31",
             port: 0,
             max: 0,
             end: End::Store,
@@ -247,7 +257,7 @@ static HANDED_ON: [Handed; 7] = [
         words: &["lotd", "init", "--db", "stock.db", "--day", "2026-05-04"],
         to: Awaited {
             db: "stock.db",
-            day: "2026-05-04",
+            word: "2026-05-04",
             port: 0,
             max: 0,
             end: End::Foreign,
@@ -261,7 +271,7 @@ static HANDED_ON: [Handed; 7] = [
         ],
         to: Awaited {
             db: "stock.db",
-            day: "",
+            word: "",
             port: 8080,
             max: 2000,
             end: End::Done,
@@ -275,7 +285,7 @@ static HANDED_ON: [Handed; 7] = [
         ],
         to: Awaited {
             db: "stock.db",
-            day: "",
+            word: "",
             port: 1024,
             max: 1_000_000,
             end: End::Io,
@@ -289,7 +299,7 @@ static HANDED_ON: [Handed; 7] = [
         ],
         to: Awaited {
             db: "stock.db",
-            day: "",
+            word: "",
             port: 65535,
             max: 1,
             end: End::Foreign,
@@ -297,12 +307,60 @@ static HANDED_ON: [Handed; 7] = [
         status: 1,
         told: "lotd: foreign books\n",
     },
+    Handed {
+        words: &["lotd", "import", "--db", "stock.db", "goods.csv"],
+        to: Awaited {
+            db: "stock.db",
+            word: "goods.csv",
+            port: 0,
+            max: 0,
+            end: End::Done,
+        },
+        status: 0,
+        told: "",
+    },
+    Handed {
+        words: &["lotd", "import", "--db", "stock.db", "goods.csv"],
+        to: Awaited {
+            db: "stock.db",
+            word: "goods.csv",
+            port: 0,
+            max: 0,
+            end: End::Row(3, Refusal::UnknownBin),
+        },
+        status: 1,
+        told: "lotd: U02 row 3\n",
+    },
+    Handed {
+        words: &["lotd", "import", "--db", "stock.db", "goods.csv"],
+        to: Awaited {
+            db: "stock.db",
+            word: "goods.csv",
+            port: 0,
+            max: 0,
+            end: End::File(FileFault::Row(2)),
+        },
+        status: 1,
+        told: "lotd: G02 row 2\n",
+    },
+    Handed {
+        words: &["lotd", "import", "--db", "stock.db", "goods.csv"],
+        to: Awaited {
+            db: "stock.db",
+            word: "goods.csv",
+            port: 0,
+            max: 0,
+            end: End::File(FileFault::Header),
+        },
+        status: 1,
+        told: "lotd: G01\n",
+    },
     // The day is judged before the file is touched.
     Handed {
         words: &["lotd", "init", "--db", "stock.db", "--day", "1999-12-31"],
         to: Awaited {
             db: "stock.db",
-            day: "1999-12-31",
+            word: "1999-12-31",
             port: 0,
             max: 0,
             end: End::Done,

@@ -1,0 +1,160 @@
+-- What the rows of a file come to within their transaction.
+use Rattle.std.proofs.Common.{◌≡◌, ℕ, ◌+◌, true, false, List, [], ◌∷◌, Bool, Option, Some, None, Ok, Err, Result, refl, sym, ap, subst, ◌∙◌, IsTrue, take, drop}
+use Rattle.std.specs.Prelude.{ℤ, if◌then◌else◌, All}
+use Rattle.std.proofs.lemmas.List.Elements.{All-head, All-tail, All-drop, All-same}
+use Rattle.sqlite.specs.State.{State, KeepsCommit, IsUnchanged}
+use Rattle.table_words.specs.Steps.{IsReady, Goes}
+use Rattle.table_words.proofs.CallLemmas.{kept_then}
+use Rattle.commands.specs.declared.refusal.Refusal.{Refusal}
+use Rattle.commands.specs.Sound.{is_sound, is_sound_key}
+use Rattle.commands.specs.declared.key.Key.{Key}
+use Rattle.commands.specs.declared.command.Command.{Command}
+use Rattle.machine.specs.Acts.{Act}
+use Rattle.machine.specs.Standing.{today}
+use Rattle.machine.specs.Once as once
+use Rattle.machine.specs.Once.{IsHistory, IsSoundRequest, is_key_of, outcome, acts_after, appended, tallied, unless_refused, all_tallied, file_outcome, file_outcome_of, acts_after_file, acts_if_taken, Outcome, Taken, RefusedRow}
+use Rattle.machine.specs.Machine.{AllSound}
+use Rattle.machine.specs.Tables.{tables_of}
+use Rattle.machine.proofs.histories.Runs.{history_after}
+use Rattle.slices.specs.Books.{IsBooksOf}
+use Rattle.store.specs.declared.reply.Reply.{Reply}
+use Rattle.store.specs.declared.fault.Fault.{Fault}
+use Rattle.store.specs.declared.fault.Fault.TheVariants as fault
+use Rattle.store.specs.declared.tally.Tally.{Tally}
+use Rattle.store.specs.declared.tally.RowFault.{RowFault}
+use Rattle.store.specs.declared.tally.RowFault.TheVariants.{Refused, Store, Foreign}
+use Rattle.store.specs.declared.filing.Filed.{Filed}
+use Rattle.store.specs.Acting.{IsActedInside, told, day_left}
+use Rattle.store.specs.Filing.{rows_of, AreKeysOf, taken, tally_of, counted, one_more, fault_at, DayGoes, ShowsBooks, IsRowTaken, IsFiledInside}
+use Rattle.store.proofs.DayTold.{day_told}
+
+-- One row
+
+-- the tally after a row that was acted on
+tallied_by : (t : Tally) (acts : List Act) (act : Act) (text : List ℕ) (repeated : Bool) →
+    tallied (tally_of t acts) act (if repeated then once.Repeated text else once.Accepted text) ≡ tally_of (one_more t repeated) (appended act acts (if repeated then once.Repeated text else once.Accepted text))
+tallied_by t acts act text true = refl
+tallied_by t acts act text false = refl
+
+module _ (first : ℤ) (acts : List Act) (act : Act) (so_far : Filed) (old new : State) where
+  counts : (reply : Reply) → told reply ≡ outcome first acts act →
+      tallied (tally_of so_far.tally acts) act (outcome first acts act) ≡ tally_of (one_more so_far.tally reply.repeated) (acts_after first acts act)
+  counts reply e =
+      subst (λ o. tallied (tally_of so_far.tally acts) act o ≡ tally_of (one_more so_far.tally reply.repeated) (appended act acts o)) e
+      (tallied_by so_far.tally acts act reply.text reply.repeated)
+
+  shows_after : (reply : Reply) → IsSoundRequest act → IsHistory first acts → IsBooksOf first acts old.now → IsActedInside first acts act (Ok reply) old new
+      → ShowsBooks first (acts_after first acts act) old new
+  shows_after reply sound history books done = record {
+    history = history_after first act acts sound history;
+    books = record { ready = done.2.ready; rows = record { tables = done.2.tables; typed = done.2.typed books.rows.typed } };
+    mode = done.2.mode;
+  }
+
+  pub row_counted : (reply : Reply) (filed : Filed) → filed ≡ counted so_far act.command reply.repeated → IsSoundRequest act → IsHistory first acts → IsBooksOf first acts old.now
+      → IsActedInside first acts act (Ok reply) old new → IsRowTaken first acts act so_far (Ok filed) old new
+  row_counted reply filed is sound history books done =
+      subst (λ (f : Filed). IsRowTaken first acts act so_far (Ok f) old new) (sym is) (
+        counts reply done.0,
+        shows_after reply sound history books done,
+        λ day. day_told first acts act so_far.day reply done.0 day,
+      )
+
+  pub row_refused : (why : Fault) (e : RowFault) → e ≡ fault_at so_far.tally why → IsActedInside first acts act (Err why) old new → IsRowTaken first acts act so_far (Err e) old new
+  row_refused (fault.Refused why) e is done =
+      subst (λ (x : RowFault). IsRowTaken first acts act so_far (Err x) old new) (sym is)
+      (sym (ap (λ o. (tallied (tally_of so_far.tally acts) act o).refused) done))
+  row_refused fault.Store e is done = subst (λ (x : RowFault). IsRowTaken first acts act so_far (Err x) old new) (sym is) tt
+  row_refused fault.Foreign e is done = absurd done
+
+-- All rows
+
+-- once a row is refused, the others are not looked at
+stays_refused : (first : ℤ) (t : once.Tally) (r : ℕ × Refusal) (left : List Act) → t.refused ≡ Some r → all_tallied first t left ≡ t
+stays_refused first t r [] e = refl
+stays_refused first t r (row ∷ left) e =
+    ap (λ o. all_tallied first (unless_refused o t (tallied t row (outcome first t.acts row))) left) e ∙ stays_refused first t r left e
+
+-- how far the rows have come: what is left of them leads from the acts now to what all of them lead to
+pub record AreUnderWay (first : ℤ) (acts rows left : List Act) (day : ℤ) (filed : Filed) (old now : State) : Type 0 where
+  pub so_far : List Act
+  pub tally : all_tallied first (tally_of filed.tally so_far) left ≡ once.tally first acts rows
+  pub shows : ShowsBooks first so_far old now
+  pub day_goes : DayGoes first acts day so_far filed.day
+  pub kept : KeepsCommit old now
+
+module _ (first : ℤ) (acts rows : List Act) (day : ℤ) (old : State) where
+  pub under_way_at_first : (filed : Filed) → filed ≡ record { tally = record { accepted = 0; repeated = 0 }; day = day } → IsHistory first acts → IsBooksOf first acts old.now → KeepsCommit old old
+      → AreUnderWay first acts rows rows day filed old old
+  under_way_at_first filed is history books kept =
+      subst (λ (f : Filed). AreUnderWay first acts rows rows day f old old) (sym is) (record {
+        so_far = acts;
+        tally = refl;
+        shows = record { history = history; books = books; mode = refl };
+        day_goes = λ e. e;
+        kept = kept;
+      })
+
+  module _ (act : Act) (left : List Act) (filed : Filed) (mid new : State) (way : AreUnderWay first acts rows (act ∷ left) day filed old mid) where
+    pub one_row_on : (next : Filed) → IsRowTaken first way.so_far act filed (Ok next) mid new → KeepsCommit mid new → AreUnderWay first acts rows left day next old new
+    one_row_on next taken kept = record {
+      so_far = acts_after first way.so_far act;
+      tally = sym (ap (λ t. all_tallied first t left) taken.0) ∙ way.tally;
+      shows = record { history = taken.1.history; books = taken.1.books; mode = taken.1.mode ∙ way.shows.mode };
+      day_goes = λ e. taken.2 (way.day_goes e);
+      kept = kept_then old mid new way.kept kept;
+    }
+
+    refused_there : (r : ℕ × Refusal) → (tallied (tally_of filed.tally way.so_far) act (outcome first way.so_far act)).refused ≡ Some r → (once.tally first acts rows).refused ≡ Some r
+    refused_there r e = sym (ap (λ (t : once.Tally). t.refused) (sym (stays_refused first (tallied (tally_of filed.tally way.so_far) act (outcome first way.so_far act)) r left e) ∙ way.tally)) ∙ e
+
+    pub ends_at_row : (e : RowFault) → IsRowTaken first way.so_far act filed (Err e) mid new → IsFiledInside first acts rows day (Err e) old new
+    ends_at_row (Refused row why) taken = sym (ap (file_outcome_of (once.tally first acts rows)) (refused_there (row, why) taken))
+    ends_at_row Store taken = tt
+    ends_at_row Foreign taken = absurd taken
+
+  module _ (filed : Filed) (new : State) (way : AreUnderWay first acts rows [] day filed old new) where
+    come_to : once.tally first acts rows ≡ tally_of filed.tally way.so_far
+    come_to = sym way.tally
+
+    pub all_rows_taken : IsFiledInside first acts rows day (Ok filed) old new
+    all_rows_taken =
+        let after : way.so_far ≡ acts_after_file first acts rows = sym (ap (λ (t : once.Tally). acts_if_taken acts t t.refused) come_to) in (
+          sym (ap (λ (t : once.Tally). file_outcome_of t t.refused) come_to),
+          subst (λ a. ShowsBooks first a old new) after way.shows,
+          subst (λ a. DayGoes first acts day a filed.day) after way.day_goes,
+        )
+
+-- the row at a place, and those after it
+module _ (rows : List (Key × Command)) (i : ℕ) (row : Key × Command) (rest : List (Key × Command)) (left : drop i rows ≡ row ∷ rest) where
+  pub row_kind : AreKeysOf rows → IsTrue (is_key_of row.0 row.1)
+  row_kind keys =
+      let P : Key × Command → Type 0 = λ r. IsTrue (is_key_of r.0 r.1) in
+      All-head P row rest (All-same P (row ∷ rest) (drop i rows) (sym left) (All-drop P i rows keys))
+
+  pub row_next : (first : ℤ) (acts : List Act) (day : ℤ) (filed : Filed) (old mid : State) → AreUnderWay first acts (rows_of rows) (rows_of (drop i rows)) day filed old mid
+      → AreUnderWay first acts (rows_of rows) (record { key = row.0; command = row.1 } ∷ rows_of rest) day filed old mid
+  row_next first acts day filed old mid way = subst (λ l. AreUnderWay first acts (rows_of rows) (rows_of l) day filed old mid) left way
+
+-- the same from the state that a read left as it was
+pub filed_from : (first : ℤ) (acts rows : List Act) (day : ℤ) (r : Result Filed RowFault) (old mid last : State) → IsUnchanged old mid → IsFiledInside first acts rows day r mid last → IsFiledInside first acts rows day r old last
+filed_from first acts rows day (Ok filed) old mid last same h = (h.0, record { history = h.1.history; books = h.1.books; mode = h.1.mode ∙ same.0.mode }, h.2)
+filed_from first acts rows day (Err (Refused row why)) old mid last same h = h
+filed_from first acts rows day (Err Store) old mid last same h = tt
+filed_from first acts rows day (Err Foreign) old mid last same h = h
+
+-- Rows whose values keep their rules
+
+abbrev pub IsSoundRow : Key × Command → Type 0
+IsSoundRow r = IsTrue (is_sound_key r.0) × IsTrue (is_sound r.1)
+
+all_sound : (rows : List (Key × Command)) → All IsSoundRow rows → AreKeysOf rows → AllSound (rows_of rows)
+all_sound [] sound keys = tt
+all_sound (r ∷ rows) sound keys =
+    let here = All-head IsSoundRow r rows sound in (
+      record { kind = All-head (λ r. IsTrue (is_key_of r.0 r.1)) r rows keys; key = here.0; command = here.1 },
+      all_sound rows (All-tail IsSoundRow r rows sound) (All-tail (λ r. IsTrue (is_key_of r.0 r.1)) r rows keys),
+    )
+
+pub rows_are_sound : (n : ℕ) (rows : List (Key × Command)) → take n rows ≡ rows → All IsSoundRow (take n rows) → AreKeysOf rows → AllSound (rows_of rows)
+rows_are_sound n rows all sound keys = all_sound rows (subst (All IsSoundRow) all sound) keys

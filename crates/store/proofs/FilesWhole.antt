@@ -1,0 +1,116 @@
+-- The rows of a file within a transaction, and then the transaction's end.
+use Rattle.std.proofs.Common.{◌≡◌, true, false, List, Ok, Err, Result, sym, ap, subst, ◌∙◌, IsTrue, arith}
+use Rattle.std.specs.Prelude.{ℤ}
+use Rattle.std.specs.Result.{IsErr, IsErrAnd}
+use Rattle.sqlite.specs.State.{State, HasCleanDisk, Shows, KeepsCommit, IsRolledBack, Survives}
+use Rattle.sqlite.proofs.StateLemmas.{survives_then, survives_weaker}
+use Rattle.sqlite.specs.Steps.{FailsToCommit}
+use Rattle.sqlite.specs.Store.{Ghosts}
+use Rattle.sqlite.specs.Held.{Held, state}
+use Rattle.sqlite.specs.declared.error.Error.{Error}
+use Rattle.table_words.proofs.CallLemmas.{inside_then}
+use Rattle.commands.specs.declared.key.Key.{Key}
+use Rattle.commands.specs.declared.command.Command.{Command}
+use Rattle.machine.specs.Acts.{Act}
+use Rattle.machine.specs.Standing.{today}
+use Rattle.machine.specs.Once.{IsHistory, acts_after_file}
+use Rattle.slices.specs.Books.{AreRowsOf, IsBooksOf}
+use Rattle.store.specs.Books.{KeepsBooks}
+use Rattle.store.specs.Connected.{Connected}
+use Rattle.store.specs.Filing.{rows_of, AreKeysOf, IsFiledInside, IsFiledOn, IsFiled}
+use Rattle.store.specs.declared.tally.RowFault.{RowFault}
+use Rattle.store.specs.declared.tally.RowFault.TheVariants.{Refused, Store, Foreign}
+use Rattle.store.specs.declared.filing.Filed.{Filed}
+use Rattle.store.proofs.ActsWhole.{books_begun, undone_whole, not_committed, begun_survives}
+
+pub by_row_error : {X : Type 0} (r : Result X RowFault) (f : RowFault) → IsErr r × IsErrAnd r (λ e. e ≡ f) → (P : Result X RowFault → Type 0) → P (Err f) → P r
+by_row_error (Ok x) f h P p = absurd (let no = h.0 in cc)
+by_row_error (Err e) f h P p = subst (λ (x : RowFault). P (Err x)) (sym h.1) p
+
+module _ (first : ℤ) (acts rows : List Act) (day : ℤ) (old begun : State) (is : begun ≡ record old { in_transaction = true }) (history : IsHistory first acts) (held : KeepsBooks first acts old) where
+  -- it is committed
+  filed_whole : (filed : Filed) (last new : State) → IsFiledInside first acts rows day (Ok filed) begun last → Shows last new last.now last.now false → IsFiledOn first acts rows day (Ok filed) new
+  filed_whole filed last new done shows = (
+    done.0,
+    shows.is_open,
+    record {
+      books = λ up. subst (IsBooksOf first (acts_after_file first acts rows)) (sym shows.now_is) done.1.books;
+      settled = λ up. shows.committed_is ∙ sym shows.now_is;
+    },
+    done.2,
+  )
+
+  -- what is refused, and what fails, leaves the books
+  refused_file : (fault : RowFault) (last new : State) → IsFiledInside first acts rows day (Err fault) begun last → KeepsBooks first acts new → IsFiledOn first acts rows day (Err fault) new
+  refused_file (Refused row why) last new done kept = (done, kept)
+  refused_file Store last new done kept = kept
+  refused_file Foreign last new done kept = absurd done
+
+-- what is promised of a file on every history: within its transaction, of the whole of it, and of a stop in it
+
+abbrev pub OnBooks : List (Key × Command) → State → (ℤ → List Act → Type 0) → Type 0
+OnBooks rows old P =
+    AreKeysOf rows → (first : ℤ) (acts : List Act) → IsHistory first acts → (IsTrue old.is_open → IsBooksOf first acts old.now) → P first acts
+
+abbrev pub FilesInside : List (Key × Command) → ℤ → Result Filed RowFault → State → State → Type 0
+FilesInside rows day r old new = HasCleanDisk new → OnBooks rows old (λ first acts. IsFiledInside first acts (rows_of rows) day r old new)
+
+abbrev pub KeepsFile : List (Key × Command) → State → State → Type 0
+KeepsFile rows old new = HasCleanDisk new → OnBooks rows old (λ first acts. KeepsCommit old new)
+
+abbrev pub FilesWhole : List (Key × Command) → ℤ → Result Filed RowFault → State → State → Type 0
+FilesWhole rows day r old new =
+    HasCleanDisk new → AreKeysOf rows → (first : ℤ) (acts : List Act) → IsHistory first acts → KeepsBooks first acts old → IsFiledOn first acts (rows_of rows) day r new
+
+abbrev pub FileSurvives : List (Key × Command) → State → State → Type 0
+FileSurvives rows old new =
+    Survives old new (λ trees. AreKeysOf rows → (first : ℤ) (acts : List Act) → IsHistory first acts → KeepsBooks first acts old
+    → AreRowsOf first (acts_after_file first acts (rows_of rows)) trees)
+
+module _ (rows : List (Key × Command)) (day : ℤ) (old begun last new : State) (is : begun ≡ record old { in_transaction = true }) where
+  pub file_committed : (filed : Filed) → FilesInside rows day (Ok filed) begun last → Survives last new (λ db. db ≡ last.now.trees) → (HasCleanDisk new → Shows last new last.now last.now false)
+      → FilesWhole rows day (Ok filed) old new
+  file_committed filed inside ends shows clean keys first acts history held =
+      let was : HasCleanDisk last = omega (arith, clean, ends.clean) in
+      filed_whole first acts (rows_of rows) day old begun is history held filed last new (inside was keys first acts history (books_begun first acts old begun is held)) (shows clean)
+
+  pub file_not_committed : (filed : Filed) (e : Error) (r : Result Filed RowFault) → FilesInside rows day (Ok filed) begun last → KeepsFile rows begun last → Survives last new (λ db. db ≡ last.now.trees)
+      → (HasCleanDisk new → FailsToCommit last new e) → IsErr r × IsErrAnd r (λ x. x ≡ Store) → FilesWhole rows day r old new
+  file_not_committed filed e r inside keeps ends fails told clean keys first acts history held =
+      let was : HasCleanDisk last = omega (arith, clean, ends.clean) in
+      let books = books_begun first acts old begun is held in
+      let done = inside was keys first acts history books in
+      by_row_error r Store told (λ x. IsFiledOn first acts (rows_of rows) day x new) (not_committed first acts old begun is held last new e (keeps was keys first acts history books) done.1.mode (fails clean))
+
+  pub file_undone : (fault : RowFault) (r : Result Filed RowFault) → FilesInside rows day (Err fault) begun last → KeepsFile rows begun last → Survives last new (λ _. ⊥)
+      → (HasCleanDisk new → IsRolledBack last new) → IsErr r × IsErrAnd r (λ x. x ≡ fault) → FilesWhole rows day r old new
+  file_undone fault r inside keeps ends undone told clean keys first acts history held =
+      let was : HasCleanDisk last = omega (arith, clean, ends.clean) in
+      let books = books_begun first acts old begun is held in
+      by_row_error r fault told (λ x. IsFiledOn first acts (rows_of rows) day x new)
+      (refused_file first acts (rows_of rows) day old begun is history held fault last new (inside was keys first acts history books) (undone_whole first acts old begun is held last new (keeps was keys first acts history books) (undone clean)))
+
+  -- a stop in the commit leaves the books before or with the whole file
+  pub stop_in_file_commit : (filed : Filed) → FilesInside rows day (Ok filed) begun last → Survives begun last (λ _. ⊥) → Survives last new (λ db. db ≡ last.now.trees) → FileSurvives rows old new
+  stop_in_file_commit filed inside before ends =
+      survives_then old last new (λ _. ⊥) (λ db. db ≡ last.now.trees) _ (λ _ db none. absurd none) (λ clean db e keys first acts history held.
+      let was : HasCleanDisk last = omega (arith, clean, ends.clean) in
+      let done = inside was keys first acts history (books_begun first acts old begun is held) in
+      subst (AreRowsOf first (acts_after_file first acts (rows_of rows))) (sym e) done.1.books.rows)
+      (inside_then old begun last (begun_survives old begun is) before) ends
+
+  -- a stop before it leaves the books before
+  pub stop_before_file_commit : Survives begun last (λ _. ⊥) → Survives last new (λ _. ⊥) → FileSurvives rows old new
+  stop_before_file_commit before ends = survives_weaker old new (λ _. ⊥) _ (λ _ db none. absurd none) (inside_then old last new (inside_then old begun last (begun_survives old begun is) before) ends)
+
+-- the same of the books, which know their business day
+module _ {S : Type 0} (g : Ghosts S) (first : ℤ) (acts rows : List Act) (day : ℤ) where
+  pub file_answered : (filed : Filed) (new : Held S) → day ≡ today first acts → IsFiledOn first acts rows day (Ok filed) (state g new)
+      → IsFiled g first acts rows (Ok filed.tally) (record { conn = new; day = filed.day })
+  file_answered filed new is done = (done.0, done.1, record { keeps = done.2; day = done.3 is })
+
+  pub file_faulted : (why : RowFault) (new : Held S) → day ≡ today first acts → IsFiledOn first acts rows day (Err why) (state g new)
+      → IsFiled g first acts rows (Err why) (record { conn = new; day = day })
+  file_faulted (Refused row why) new is done = (done.0, record { keeps = done.1; day = is })
+  file_faulted Store new is done = record { keeps = done; day = is }
+  file_faulted Foreign new is done = done

@@ -1,0 +1,52 @@
+use Rattle.std.proofs.Common.{sym, subst}
+use Rattle.std.specs.Prelude.{ℤ, List}
+use Rattle.commands.specs.declared.key.Key.{Key}
+use Rattle.commands.specs.declared.command.Command.{Command}
+use Rattle.sqlite.specs.Held.{state}
+use Rattle.sqlite.specs.State.{Survives}
+use Rattle.sqlite.specs.Tree.{Trees}
+use Rattle.sqlite_trees.specs.declared.store.Store.{Ghosts}
+use Rattle.machine.specs.Acts.{Act}
+use Rattle.machine.specs.Once.{IsHistory, acts_after_file}
+use Rattle.store.specs.Books.{HoldsBooks, KeepsBooks, AreRowsOf}
+use Rattle.store.specs.Connected.{Connected}
+use Rattle.store.specs.Filing.{rows_of, AreKeysOf}
+use Rattle.machine.proofs.histories.Runs.{history_file}
+use Rattle.store.proofs.ActsWhole.{kept_acts}
+use Rattle.store.proofs.FilesWhole.{file_answered, file_faulted}
+use Rattle.store.proofs.books.Books.act_all.Goals as goal
+
+-- what a stop may leave beside the books as they were
+abbrev Leaves : {S : Type 0} (g : Ghosts S) (rows : List (Key × Command)) (b : Connected S) → Trees → Type 0
+Leaves g rows b = λ trees. AreKeysOf rows → (first : ℤ) (acts : List Act) → IsHistory first acts → KeepsBooks first acts (state g b.conn)
+    → AreRowsOf first (acts_after_file first acts (rows_of rows)) trees
+
+pub returns-in-Ok-clause-filed : goal.returns-in-Ok-clause-filed
+returns-in-Ok-clause-filed g c clean keys first acts history holds =
+    let was : HoldsBooks g.S.Store first acts (record { conn = c.self.inside.conn; day = c.self.inside.day }) = subst (HoldsBooks g.S.Store first acts) (sym c.self.view_is) holds in
+    file_answered g.S.Store first acts (rows_of c.args.rows.now) c.self.inside.day c.in-Ok.filed c.file_once.new.conn was.day (c.in-Ok.ensures.filed clean keys first acts history was.keeps)
+
+pub returns-in-Ok-clause-survives : goal.returns-in-Ok-clause-survives
+returns-in-Ok-clause-survives g c =
+    subst (λ b. Survives (state g.S.Store b.conn) (state g.S.Store c.file_once.new.conn) (Leaves g.S.Store c.args.rows.now b)) c.self.view_is c.in-Ok.ensures.survives
+
+pub returns-in-Err-clause-filed : goal.returns-in-Err-clause-filed
+returns-in-Err-clause-filed g c clean keys first acts history holds =
+    let was : HoldsBooks g.S.Store first acts (record { conn = c.self.inside.conn; day = c.self.inside.day }) = subst (HoldsBooks g.S.Store first acts) (sym c.self.view_is) holds in
+    file_faulted g.S.Store first acts (rows_of c.args.rows.now) c.self.inside.day c.in-Err.why c.file_once.new.conn was.day (c.in-Err.ensures.filed clean keys first acts history was.keeps)
+
+pub returns-in-Err-clause-survives : goal.returns-in-Err-clause-survives
+returns-in-Err-clause-survives g c =
+    subst (λ b. Survives (state g.S.Store b.conn) (state g.S.Store c.file_once.new.conn) (Leaves g.S.Store c.args.rows.now b)) c.self.view_is c.in-Err.ensures.survives
+
+pub returns-in-Ok-clause-kept : goal.returns-in-Ok-clause-kept
+returns-in-Ok-clause-kept g c clean keys first acts history holds =
+    let was : HoldsBooks g.S.Store first acts (record { conn = c.self.inside.conn; day = c.self.inside.day }) = subst (HoldsBooks g.S.Store first acts) (sym c.self.view_is) holds in
+    let done = c.in-Ok.ensures.filed clean keys first acts history was.keeps in
+    kept_acts g.S.Store c.file_once.new.conn first (acts_after_file first acts (rows_of c.args.rows.now)) (g.met.S.Store.settled c.file_once.new.conn.store) done.1 done.2
+
+pub returns-in-Ok-clause-history : goal.returns-in-Ok-clause-history
+returns-in-Ok-clause-history g c keys first acts history = history_file first acts (rows_of c.args.rows.now) (c.every_row_is_sound.ensures keys) history
+
+pub returns-in-Err-clause-history : goal.returns-in-Err-clause-history
+returns-in-Err-clause-history g c keys first acts history = history_file first acts (rows_of c.args.rows.now) (c.every_row_is_sound.ensures keys) history

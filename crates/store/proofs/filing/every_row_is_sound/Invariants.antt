@@ -1,0 +1,7 @@
+use Rattle.std.proofs.Common.{take}
+use Rattle.std.specs.Prelude.{All}
+use Rattle.store.proofs.FilesInside.{IsSoundRow}
+use Rattle.store.proofs.filing.every_row_is_sound.Given as goal
+
+abbrev pub invariant-loop-row : goal.invariant-loop-row
+invariant-loop-row l = All IsSoundRow (take l.row-index l.rows)

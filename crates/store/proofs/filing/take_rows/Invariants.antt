@@ -1,0 +1,18 @@
+use Rattle.std.proofs.Common.{◌≡◌, ◌+◌, ℤ, List, drop}
+use Rattle.sqlite.specs.State.{HasCleanDisk, Survives}
+use Rattle.sqlite.specs.Held.{state}
+use Rattle.machine.specs.Acts.{Act}
+use Rattle.machine.specs.Once.{IsHistory}
+use Rattle.slices.specs.Books.{IsBooksOf}
+use Rattle.store.specs.Filing.{rows_of, AreKeysOf}
+use Rattle.store.proofs.FilesInside.{AreUnderWay}
+use Rattle.store.proofs.filing.take_rows.Given as goal
+
+abbrev pub invariant-loop-row : goal.invariant-loop-row
+invariant-loop-row g l =
+    let old = state g.S.Store l.fn.tx.conn.now in
+    let now = state g.S.Store l.tx.conn.now in
+    (l.tx.conn.ghost_name ≡ l.fn.tx.conn.ghost_name) × Survives old now (λ _. ⊥)
+    × (l.filed.tally.accepted + l.filed.tally.repeated ≡ l.row-index)
+    × (HasCleanDisk now → AreKeysOf l.rows → (first : ℤ) (acts : List Act) → IsHistory first acts → IsBooksOf first acts old.now
+    → AreUnderWay first acts (rows_of l.rows) (rows_of (drop l.row-index l.rows)) l.fn.day l.filed old now)
