@@ -2,6 +2,7 @@
 
 use crate::asking::Asked;
 use crate::disk::run;
+use crate::lots_told::NEVER_CAME;
 use crate::picking::continues;
 use crate::steps::Step;
 use crate::table::Table;
@@ -161,10 +162,13 @@ fn receives_no_recalled_lot(rt: HostRuntime) {
     continues(&rt, rt.alloc(), RECALLED_LOT_RECEIVED.as_slice());
 }
 
-static UNKNOWN_LOT_RECALLED: [&[Step]; 1] = [&[Step::NewHouse(&[
-    Asked::Each(Table::GoodsAndBins),
-    Asked::Each(Table::NeverReceived),
-])]];
+static UNKNOWN_LOT_RECALLED: [&[Step]; 1] = [&[
+    Step::NewHouse(&[
+        Asked::Each(Table::GoodsAndBins),
+        Asked::Each(Table::NeverReceived),
+    ]),
+    Step::Lots(&NEVER_CAME),
+]];
 
 #[test]
 fn recalls_a_lot_never_received(rt: HostRuntime) {

@@ -2,6 +2,7 @@
 
 use crate::asking::Asked;
 use crate::disk::run_after;
+use crate::lots_told::{RETURNED, SHIPPED};
 use crate::steps::Step;
 use crate::table::Table;
 use std::alloc::Global;
@@ -150,21 +151,27 @@ fn picks_and_puts_back(rt: HostRuntime) {
     continues(&rt, rt.alloc(), PUT_BACK.as_slice());
 }
 
-static STAGED_RECALLED: [Step; 1] = [Step::House(&[
-    Asked::Each(Table::Picked),
-    Asked::Each(Table::ReturnedAndShipped),
-])];
+static STAGED_RECALLED: [Step; 2] = [
+    Step::House(&[
+        Asked::Each(Table::Picked),
+        Asked::Each(Table::ReturnedAndShipped),
+    ]),
+    Step::Lots(&RETURNED),
+];
 
 #[test]
 fn recalls_what_is_staged(rt: HostRuntime) {
     continues(&rt, rt.alloc(), STAGED_RECALLED.as_slice());
 }
 
-static STAGED_SHIPPED: [Step; 1] = [Step::House(&[
-    Asked::Each(Table::Picked),
-    Asked::Each(Table::ShippedAndRecalled),
-    Asked::Each(Table::Done),
-])];
+static STAGED_SHIPPED: [Step; 3] = [
+    Step::House(&[
+        Asked::Each(Table::Picked),
+        Asked::Each(Table::ShippedAndRecalled),
+    ]),
+    Step::Lots(&SHIPPED),
+    Step::House(&[Asked::Each(Table::Done)]),
+];
 
 #[test]
 fn ships_what_is_staged(rt: HostRuntime) {

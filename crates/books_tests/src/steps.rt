@@ -2,6 +2,7 @@
 
 use crate::acts::{Deed, done};
 use crate::asking::{Asked, answered_in_turn, house_asked, new_house_asked};
+use crate::lots_told::{Told, told};
 use crate::opening::{made, not_made, not_opened, opened};
 use crate::order_rows::{gives, has_rows};
 use crate::table::{Left, Table};
@@ -28,6 +29,8 @@ pub(crate) enum Step {
     InTurn(Table),
     /// New books act and show.
     Deeds(&'static [Deed]),
+    /// The books tell this of their lots.
+    Lots(&'static [Told]),
     /// The tables are opened.
     OpenTables,
     /// No tables are opened, since the schema is another.
@@ -92,6 +95,7 @@ fn take<S: Alter + Drop>(
         Step::House(list) => house_asked(rt, alloc, conn, list),
         Step::InTurn(table) => answered_in_turn(rt, alloc, conn, table),
         Step::Deeds(deeds) => done(rt, alloc, conn, deeds),
+        Step::Lots(lots) => told(rt, alloc, conn, lots),
         Step::OpenTables => is_schema(rt, alloc, conn),
         Step::OpenNoTables => is_no_schema(rt, alloc, conn),
         Step::On(on) => done_on(rt, alloc, conn, on),

@@ -4,3 +4,4 @@ pub mod BinLemmas
 pub mod LotLemmas
 pub mod RecallLemmas
 pub mod StockLemmas
+pub mod BinsByName

@@ -184,7 +184,7 @@ adds old new s count sound ready inside h =
 abbrev shown : List Term
 shown = col 1 1 ∷ col 1 2 ∷ col 1 3 ∷ col 1 4 ∷ []
 
-apart : (db : Database) (ready : IsReady db) (a b : Row) → Has (db.trees stock_tree) a → Has (db.trees stock_tree) b → is_stock a ≡ true → is_stock b ≡ true
+pub apart : (db : Database) (ready : IsReady db) (a b : Row) → Has (db.trees stock_tree) a → Has (db.trees stock_tree) b → is_stock a ≡ true → is_stock b ≡ true
     → same_stock (stock_key (stock_in a)) (stock_key (stock_in b)) ≡ true → value_cmp (rowid a) (rowid b) ≡ Equal
 apart db ready a b ha hb ta tb e =
     let s = stock_in a in

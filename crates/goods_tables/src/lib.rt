@@ -2,6 +2,7 @@
 #![tactic(auto)]
 
 pub mod bins;
+pub mod bins_of_lot;
 pub mod items;
 pub mod lots;
 pub mod meta;

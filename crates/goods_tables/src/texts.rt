@@ -55,8 +55,11 @@ pub(crate) const ADD_STOCK: &str =
 pub(crate) const STOCK_OF: &str =
     "SELECT gtin, lot, bin, qty FROM stock WHERE gtin = ?1 ORDER BY rowid";
 
+pub(crate) const BINS_OF_LOT: &str =
+    "SELECT bin, qty FROM stock WHERE gtin = ?1 AND lot = ?2 ORDER BY bin";
+
 /// All of them. A connection keeps the plans of its last 64 texts, so the tables together have at most 60.
-pub const TEXTS: [&str; 22] = [
+pub const TEXTS: [&str; 23] = [
     CHANGE_BIN,
     ADD_BIN,
     BINS_OF,
@@ -79,4 +82,5 @@ pub const TEXTS: [&str; 22] = [
     CHANGE_STOCK,
     ADD_STOCK,
     STOCK_OF,
+    BINS_OF_LOT,
 ];

@@ -149,10 +149,10 @@ adds old new s count sound ready inside h =
 
 -- ---- SELECT
 
-abbrev shown : List Term
+abbrev pub shown : List Term
 shown = col 1 1 ∷ col 1 2 ∷ col 1 3 ∷ col 1 4 ∷ col 1 5 ∷ col 1 6 ∷ col 1 7 ∷ col 1 8 ∷ []
 
-apart : (db : Database) (ready : IsReady db) (a b : Row) → Has (db.trees cards_tree) a → Has (db.trees cards_tree) b → is_card a ≡ true → is_card b ≡ true
+pub apart : (db : Database) (ready : IsReady db) (a b : Row) → Has (db.trees cards_tree) a → Has (db.trees cards_tree) b → is_card a ≡ true → is_card b ≡ true
     → same_card (card_key (card_in a)) (card_key (card_in b)) ≡ true → value_cmp (rowid a) (rowid b) ≡ Equal
 apart db ready a b ha hb ta tb e =
     let s = card_in a in
@@ -162,7 +162,7 @@ apart db ready a b ha hb ta tb e =
 abbrev pub cards_of_lot_text : List ℕ
 cards_of_lot_text = CARDS_OF_LOT.now
 
-abbrev cards_of_lot_tests : List Term
+abbrev pub cards_of_lot_tests : List Term
 cards_of_lot_tests = same 1 0 ∷ same 2 1 ∷ []
 
 cards_of_lot_is : (command_of (understood the_schema cards_of_lot_text) ≡ Select (alone (scan cards_tree cards_of_lot_tests shown by_rowid)) (codes "gtin" ∷ codes "lot" ∷ codes "act" ∷ codes "day" ∷ codes "kind" ∷ codes "note" ∷ codes "qty" ∷ codes "rest" ∷ [])) × (reads_listing the_schema cards_of_lot_text ≡ false)
@@ -173,7 +173,7 @@ pub cards_of_lot_plain : IsPlain (understood the_schema cards_of_lot_text)
 unfolding understood everything
 cards_of_lot_plain = (refl, refl)
 
-cards_of_lot_at : (lot : LotId) (r : Row) → is_card r ≡ true → passes (Text lot.gtin ∷ Text lot.lot ∷ []) cards_of_lot_tests r ≡ (let key = card_key (card_in r) in same_lot_id lot key.0)
+pub cards_of_lot_at : (lot : LotId) (r : Row) → is_card r ≡ true → passes (Text lot.gtin ∷ Text lot.lot ∷ []) cards_of_lot_tests r ≡ (let key = card_key (card_in r) in same_lot_id lot key.0)
 cards_of_lot_at lot r h =
     let p0 = and_parts _ _ h in
     let p1 = and_parts _ _ p0.1 in

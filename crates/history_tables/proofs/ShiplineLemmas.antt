@@ -149,10 +149,10 @@ adds old new s count sound ready inside h =
 
 -- ---- SELECT
 
-abbrev shown : List Term
+abbrev pub shown : List Term
 shown = col 1 1 ∷ col 1 2 ∷ col 1 3 ∷ col 1 4 ∷ []
 
-apart : (db : Database) (ready : IsReady db) (a b : Row) → Has (db.trees shiplines_tree) a → Has (db.trees shiplines_tree) b → is_shipline a ≡ true → is_shipline b ≡ true
+pub apart : (db : Database) (ready : IsReady db) (a b : Row) → Has (db.trees shiplines_tree) a → Has (db.trees shiplines_tree) b → is_shipline a ≡ true → is_shipline b ≡ true
     → same_shipline (shipline_key (shipline_in a)) (shipline_key (shipline_in b)) ≡ true → value_cmp (rowid a) (rowid b) ≡ Equal
 apart db ready a b ha hb ta tb e =
     let s = shipline_in a in

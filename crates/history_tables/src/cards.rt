@@ -1,6 +1,6 @@
 //! The table `cards`.
 
-ghost use Rattle.std.specs.Prelude.{◌≡◌, ◌≢◌, ◌≤◌, ◌<◌, true, [], ◌∷◌, pos, OnOk, IfOk, IfErr};
+ghost use Rattle.std.specs.Prelude.{◌≡◌, ◌≢◌, ◌≤◌, ◌<◌, true, false, List, [], ◌∷◌, pos, OnOk, IfOk, IfErr};
 ghost use Rattle.std.specs.List.{AllByRecursion};
 ghost use Rattle.sqlite.specs.State.{HasCleanDisk, Survives, KeepsCommit, IsUnchanged};
 ghost use Rattle.sqlite.specs.Held.{state};
@@ -8,14 +8,18 @@ ghost use Rattle.sqlite.specs.Values.{bound};
 ghost use Rattle.sqlite_value.specs.declared.value.Value.TheVariants.{Int, Text as TextValue};
 ghost use Rattle.table_words.specs.Found.{AreRows};
 ghost use Rattle.table_words.specs.Steps.{IsReady, Goes, IsTooBig};
-ghost use Rattle.table_words.specs.Typed.{tables_in, same_lot_id, with_card, is_card, has_card, card_cells, card_key, same_card, CardKey, cards_of_lot_rows};
+ghost use Rattle.table_words.specs.Typed.{tables_in, AreTyped, same_lot_id, with_card, is_card, has_card, card_cells, card_key, same_card, CardKey, cards_of_lot_rows};
+ghost use Rattle.commands.specs.declared.rows.CardRow.{CardRow as CardRecord};
+ghost use Rattle.each_row.specs.Handed.{HandsOver, IsLeft};
+ghost use Rattle.history_tables.specs.ByKey.{AreCardLines};
 ghost use Rattle.table_words.specs.declared.error.TableFault.TheVariants.{Foreign};
 
-use crate::texts::{ADD_CARD, CARDS_OF_LOT, CHANGE_CARD};
-use commands::CardRow;
+use crate::texts::{ADD_CARD, CARDS_BY_ACT, CARDS_OF_LOT, CHANGE_CARD};
 use commands::limits::{ACTS_MAX, UNITS_MAX};
+use commands::{CardRow, Sink};
+use each_row::{EachFault, each};
 use sqlite::types::ValueRef;
-use sqlite::{Alter, Row, Transaction};
+use sqlite::{Alter, Connection, Row, Transaction};
 use std::alloc::Global;
 use table_words::calls::put;
 use table_words::columns::{
@@ -131,5 +135,28 @@ pub fn cards_of_lot<S: Alter>(
         tx,
         CARDS_OF_LOT,
         &[of_gtin(&lot.gtin), of_lot(&lot.lot)],
+    )
+}
+
+/// Hands the rows of this lot to the sink, the oldest act first, one at a time, until it stops. The connection is outside a
+/// transaction, and no row is changed.
+pub fn each_card<S: Alter, K: Sink<CardRow>>(
+    alloc: Global,
+    conn: &mut Connection<S>,
+    lot: &LotId,
+    sink: &mut K,
+) -> Result<(), EachFault>
+    ensures handed { HasCleanDisk (state S.Store conn.new) → IsReady (state S.Store conn.old).now → AreTyped (state S.Store conn.old).now.trees
+        → (rows : List CardRecord) → AreCardLines (tables_in (state S.Store conn.old).now.trees) lot.now rows → HandsOver K.takes K.stops sink.old rows sink.new result }
+    ensures left { HasCleanDisk (state S.Store conn.new) → IsReady (state S.Store conn.old).now → IsLeft (state S.Store conn.old) (state S.Store conn.new) result }
+    ensures outside { conn.old.in_transaction ≡ false → conn.new.in_transaction ≡ false }
+    ensures survives { Survives (state S.Store conn.old) (state S.Store conn.new) (λ _. ¬ IsReady (state S.Store conn.old).now) }
+{
+    each::<Cards, S, K>(
+        alloc,
+        conn,
+        CARDS_BY_ACT,
+        &[of_gtin(&lot.gtin), of_lot(&lot.lot)],
+        sink,
     )
 }

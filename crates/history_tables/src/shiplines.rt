@@ -67,7 +67,7 @@ pub fn put_shipline<S: Alter>(
 }
 
 /// How the rows of the table are read.
-struct Shiplines;
+pub(crate) struct Shiplines;
 
 impl Table for Shiplines {
     ghost use Rattle.table_words.specs.Typed.{has_shipline, shipline_read};

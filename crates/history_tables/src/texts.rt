@@ -9,6 +9,9 @@ pub(crate) const ADD_CARD: &str =
 pub(crate) const CARDS_OF_LOT: &str =
     "SELECT gtin, lot, act, day, kind, note, qty, rest FROM cards WHERE gtin = ?1 AND lot = ?2 ORDER BY rowid";
 
+pub(crate) const CARDS_BY_ACT: &str =
+    "SELECT gtin, lot, act, day, kind, note, qty, rest FROM cards WHERE gtin = ?1 AND lot = ?2 ORDER BY act";
+
 pub(crate) const CHANGE_REPEAT: &str =
     "UPDATE repeats SET k = ?1, act = ?2, spell = ?3, reply = ?4 WHERE k = ?1";
 
@@ -27,6 +30,9 @@ pub(crate) const ADD_SHIPLINE: &str =
 pub(crate) const SHIPLINES_OF_LOT: &str =
     "SELECT number, gtin, lot, qty FROM shiplines WHERE gtin = ?1 AND lot = ?2 ORDER BY rowid";
 
+pub(crate) const SHIPLINES_AFTER: &str =
+    "SELECT number, gtin, lot, qty FROM shiplines WHERE gtin = ?1 AND lot = ?2 AND number > ?3 ORDER BY number";
+
 pub(crate) const CHANGE_SHIPMENT: &str =
     "UPDATE shipments SET act = ?2, day = ?3, ord = ?4 WHERE number = ?1";
 
@@ -37,16 +43,18 @@ pub(crate) const SHIPMENTS_OF: &str =
     "SELECT number, act, day, ord FROM shipments WHERE number = ?1";
 
 /// All of them. A connection keeps the plans of its last 64 texts, so the tables together have at most 60.
-pub const TEXTS: [&str; 12] = [
+pub const TEXTS: [&str; 14] = [
     CHANGE_CARD,
     ADD_CARD,
     CARDS_OF_LOT,
+    CARDS_BY_ACT,
     CHANGE_REPEAT,
     ADD_REPEAT,
     REPEATS_OF,
     CHANGE_SHIPLINE,
     ADD_SHIPLINE,
     SHIPLINES_OF_LOT,
+    SHIPLINES_AFTER,
     CHANGE_SHIPMENT,
     ADD_SHIPMENT,
     SHIPMENTS_OF,

@@ -15,3 +15,5 @@ pub mod SliceRead
 pub mod StockRight
 pub mod ShortRight
 pub mod KnownTold
+pub mod HeadRead
+pub mod ShippedRead

@@ -2,10 +2,12 @@
 //! which something is shown, and what is shown of them.
 #![tactic(auto)]
 
+mod heads;
 mod opening;
 mod order_slices;
 mod query;
 mod reading;
+mod shipped;
 mod shown_orders;
 mod shown_shorts;
 mod shown_stock;
@@ -13,7 +15,9 @@ mod slices;
 mod sought;
 mod sought_rows;
 
+pub use heads::{Head, read_head};
 pub use query::{Query, find};
+pub use shipped::read_shipped;
 pub use shown_orders::OrderQuery;
 pub use shown_shorts::ShortQuery;
 pub use shown_stock::StockQuery;

@@ -11,3 +11,10 @@ pub mod ShownWhole
 pub mod DayTold
 pub mod FilesInside
 pub mod FilesWhole
+pub mod CardOrder
+pub mod HeadsShown
+pub mod HandedOn
+pub mod Listings
+pub mod BinOrder
+pub mod ShipmentOrder
+pub mod ShipmentsHanded

@@ -7,3 +7,7 @@ pub mod Books
 pub mod Opening
 pub mod Showing
 pub mod Queries
+pub mod Heads
+pub mod Shipments
+pub mod EachFaults
+pub mod Handing

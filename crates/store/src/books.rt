@@ -13,16 +13,26 @@ ghost use Rattle.machine.specs.Standing.{today, RETURNS};
 ghost use Rattle.store.specs.Acting.{IsActed};
 ghost use Rattle.store.specs.Filing.{rows_of, AreKeysOf, IsFiled};
 ghost use Rattle.machine.specs.Queries.{order_shown, short_shown, stock_shown};
+ghost use Rattle.machine.specs.Views.{bins_of_lot, card_of_lot, shipments_of_lot};
+ghost use Rattle.store.specs.Heads.{card_head_shown, notice_head_shown};
+ghost use Rattle.store.specs.Handing.{IsHanded, NoBooks};
 ghost use Rattle.store.specs.Queries.{IsShown};
 ghost use Rattle.store.specs.Books.{AreRowsOf, KeepsBooks, HoldsBooks, LeavesOnly, IsClean};
 ghost use Rattle.store.specs.Opening.{HasDay, unlimited, IsLeftUnfilled, IsReopened, IsLeftOver, IsCleanLeft};
 
 use crate::acting::act_once;
+use crate::bins::hand_bins;
+use crate::cards::hand_cards;
 use crate::day::day_left;
 use crate::filing::{every_row_is_sound, file_once};
+use crate::heads::{show_card_head, show_notice_head};
+use crate::shipments::hand_shipments;
 use crate::showing::show;
-use crate::{Fault, Reply, RowFault, Tally};
-use commands::{BinKind, BinRow, Command, Key, MetaRow, OrderView, ShortView, StockView};
+use crate::{EachFault, Fault, Reply, RowFault, Tally};
+use commands::{
+    BinKind, BinRow, BinUnits, CardRow, Command, ItemRow, Key, MetaRow, OrderView, ShippedUnits,
+    ShortView, Sink, StockView,
+};
 use goods_tables::meta::meta_rows;
 use label::{BusinessDay, Day};
 use slices::{OrderQuery, ShortQuery, StockQuery};
@@ -32,7 +42,7 @@ use std::marker::Model;
 use table_words::error::TableFault;
 use tables::creation;
 use tables::opening::{Leftover, ready};
-use values::{Gtin, Name};
+use values::{Gtin, LotId, Name};
 
 /// The books over a connection, which is outside a transaction between calls and has no limit on steps.
 #[derive(Drop)]
@@ -321,5 +331,77 @@ impl<S: Alter> Books<S> {
     {
         let query = ShortQuery { gtin: *gtin };
         show(self.alloc, &mut self.conn, self.day, &query)
+    }
+
+    /// The item of a lot's stock card and the day on which the lot expires. An item that is not known is refused (U01), and
+    /// then a lot that never came (U03). Nothing is changed; `Store` where memory or the disk did not suffice, and `Foreign`
+    /// never on books of a history.
+    pub fn card_head(&mut self, lot: &LotId) -> Result<(ItemRow, Day), Fault>
+        ensures clean { IsClean S.Store self.new → IsClean S.Store self.old }
+        ensures shown { IsClean S.Store self.new → (first : ℤ) (acts : List Act) → IsHistory first acts → HoldsBooks S.Store first acts self.old
+            → IsShown S.Store first acts (card_head_shown first acts lot.now) result self.new }
+        ensures survives { Survives (state S.Store self.old.conn) (state S.Store self.new.conn) (λ _. ⊥) }
+    {
+        show_card_head(self.alloc, &mut self.conn, lot)
+    }
+
+    /// The item of a lot's recall notice and the day on which the lot expires, `None` for a lot that never came. An item
+    /// that is not known is refused (U01), and then a lot that is not recalled (N01). Nothing is changed; `Store` where
+    /// memory or the disk did not suffice, and `Foreign` never on books of a history.
+    pub fn notice_head(&mut self, lot: &LotId) -> Result<(ItemRow, Option<Day>), Fault>
+        ensures clean { IsClean S.Store self.new → IsClean S.Store self.old }
+        ensures shown { IsClean S.Store self.new → (first : ℤ) (acts : List Act) → IsHistory first acts → HoldsBooks S.Store first acts self.old
+            → IsShown S.Store first acts (notice_head_shown first acts lot.now) result self.new }
+        ensures survives { Survives (state S.Store self.old.conn) (state S.Store self.new.conn) (λ _. ⊥) }
+    {
+        show_notice_head(self.alloc, &mut self.conn, lot)
+    }
+
+    /// Hands the lines of a lot's stock card to the sink, by act, one at a time, until it stops. It is outside every
+    /// transaction, and nothing is changed; `Store` where memory or the disk did not suffice, and `Foreign` and a refusal
+    /// never on books of a history.
+    pub fn each_card<K: Sink<CardRow>>(
+        &mut self,
+        lot: &LotId,
+        sink: &mut K,
+    ) -> Result<(), EachFault>
+        ensures clean { IsClean S.Store self.new → IsClean S.Store self.old }
+        ensures handed { IsClean S.Store self.new → (first : ℤ) (acts : List Act) → IsHistory first acts → HoldsBooks S.Store first acts self.old
+            → IsHanded S.Store first acts K.takes K.stops (card_of_lot first acts lot.now) sink.old sink.new result self.new }
+        ensures survives { Survives (state S.Store self.old.conn) (state S.Store self.new.conn) (NoBooks (state S.Store self.old.conn)) }
+    {
+        hand_cards(self.alloc, &mut self.conn, lot, sink)
+    }
+
+    /// Hands the bins with units of a lot to the sink, by name, one at a time, until it stops. It is outside every
+    /// transaction, and nothing is changed; `Store` where memory or the disk did not suffice, and `Foreign` and a refusal
+    /// never on books of a history.
+    pub fn each_bin<K: Sink<BinUnits>>(
+        &mut self,
+        lot: &LotId,
+        sink: &mut K,
+    ) -> Result<(), EachFault>
+        ensures clean { IsClean S.Store self.new → IsClean S.Store self.old }
+        ensures handed { IsClean S.Store self.new → (first : ℤ) (acts : List Act) → IsHistory first acts → HoldsBooks S.Store first acts self.old
+            → IsHanded S.Store first acts K.takes K.stops (bins_of_lot first acts lot.now) sink.old sink.new result self.new }
+        ensures survives { Survives (state S.Store self.old.conn) (state S.Store self.new.conn) (NoBooks (state S.Store self.old.conn)) }
+    {
+        hand_bins(self.alloc, &mut self.conn, lot, sink)
+    }
+
+    /// Hands the shipments with units of a lot to the sink, by number, one at a time, until it stops. No transaction is open
+    /// while the sink takes one, and nothing is changed; `Store` where memory or the disk did not suffice, and `Foreign` and
+    /// a refusal never on books of a history.
+    pub fn each_shipment<K: Sink<ShippedUnits>>(
+        &mut self,
+        lot: &LotId,
+        sink: &mut K,
+    ) -> Result<(), EachFault>
+        ensures clean { IsClean S.Store self.new → IsClean S.Store self.old }
+        ensures handed { IsClean S.Store self.new → (first : ℤ) (acts : List Act) → IsHistory first acts → HoldsBooks S.Store first acts self.old
+            → IsHanded S.Store first acts K.takes K.stops (shipments_of_lot first acts lot.now) sink.old sink.new result self.new }
+        ensures survives { Survives (state S.Store self.old.conn) (state S.Store self.new.conn) (NoBooks (state S.Store self.old.conn)) }
+    {
+        hand_shipments(self.alloc, &mut self.conn, lot, sink)
     }
 }

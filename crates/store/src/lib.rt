@@ -2,17 +2,24 @@
 #![tactic(auto)]
 
 mod acting;
+mod bins;
 mod books;
+mod cards;
 mod day;
+mod each_fault;
 mod fault;
 mod filing;
+mod heads;
+mod outside;
 mod repeats;
 mod reply;
+mod shipments;
 mod showing;
 mod tally;
 mod telling;
 
 pub use books::{Books, OpenFault};
+pub use each_fault::EachFault;
 pub use fault::Fault;
 pub use reply::Reply;
 pub use tally::{RowFault, Tally};

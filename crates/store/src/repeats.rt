@@ -19,7 +19,7 @@ use table_words::error::TableFault;
 use values::Text;
 
 // The look-up of a key, in the words of `history_tables`.
-const LOOK_UP: &str = "SELECT k, act, spell, reply FROM repeats WHERE k = ?1 ORDER BY rowid";
+pub const LOOK_UP: &str = "SELECT k, act, spell, reply FROM repeats WHERE k = ?1 ORDER BY rowid";
 
 /// Finds the connection open, or fails: makes the look-up of a key ready, whose plan the connection
 /// keeps. What a connection shows once the disk has shut it says nothing of the books.

@@ -39,13 +39,13 @@ matched params tests (r ∷ rows) = let more = matched params tests rows in elim
 ]
 
 module _ (db : Trees) (params : Row) (tree : ℕ) (tests shown : List Term) (order : List (Term × Key)) (rows : List Row) (a : IsAnswer (scan tree tests shown order) (overlay db []) params rows) where
-  abbrev q : Query
+  abbrev pub q : Query
   q = scan tree tests shown order
 
-  abbrev out : Row → Output
+  abbrev pub out : Row → Output
   out r = output q (env params r)
 
-  kept_are : a.kept ≡ map out (filter (passes params tests) (db tree))
+  pub kept_are : a.kept ≡ map out (filter (passes params tests) (db tree))
   kept_are =
       let staged : a.staged ≡ map (env params) (filter (passes params tests) (db tree)) =
       a.grouped ∙ matched params tests (overlay db [] tree) ∙ ap (λ rs. map (env params) (filter (passes params tests) rs)) (overlay_none db tree) in

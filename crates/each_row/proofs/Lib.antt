@@ -1,0 +1,5 @@
+pub mod Handing
+pub mod Rising
+pub mod Keys
+pub mod OrderedScans
+pub mod Over

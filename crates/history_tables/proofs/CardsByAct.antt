@@ -1,0 +1,96 @@
+-- The rows of a lot's card as they are read one at a time, by act.
+use Rattle.std.proofs.Common.{◌≡◌, ◌<◌, ℕ, Bool, true, false, ◌&&◌, List, [], ◌∷◌, codes, map, Result, refl, sym, ap, ap₂, ◌∙◌, subst, arith, Equal}
+use Rattle.std.specs.Prelude.{nat_eq}
+use Rattle.std.specs.List.{AllByRecursion}
+use Rattle.std.proofs.lemmas.Bool.{and_parts}
+use Rattle.sqlite.specs.declared.types.Value.TheVariants.{Null, Text}
+use Rattle.sqlite.specs.Order.{Row, column}
+use Rattle.sqlite.specs.Command.TheVariants.{Select}
+use Rattle.sqlite.specs.Effect.{Database}
+use Rattle.sqlite_tied.specs.Compute.{everything}
+use Rattle.sqlite.specs.Listing.{understood, reads_listing}
+use Rattle.sqlite.specs.State.{State, Shown}
+use Rattle.sqlite.proofs.Callers.{IsPlain, command_of, reads_as}
+use Rattle.sqlite_trees.specs.Tree.{rowid}
+use Rattle.sqlite_rules.specs.Lists.{Has}
+use Rattle.sqlite_rules.proofs.ListLemmas.{all_has}
+use Rattle.sqlite_value.specs.Order.{value_cmp}
+use Rattle.sqlite_keyed.proofs.ListLemmas.{map-map, all_map, all_weaker}
+use Rattle.values.specs.declared.lot.LotId.{LotId}
+use Rattle.commands.specs.declared.limits.TheConstants.{ACTS_MAX}
+use Rattle.commands.specs.declared.rows.CardRow.{CardRow}
+use Rattle.history_tables.specs.declared.texts.TheConstants.{CARDS_BY_ACT}
+use Rattle.table_words.specs.Schema.{the_schema, cards_tree}
+use Rattle.table_words.specs.Typed.{same_lot_id, same_card, is_card, card_in, has_card, card_read, card_key, tables_in, AreTyped}
+use Rattle.table_words.specs.Cells.{is_number}
+use Rattle.table_words.specs.Steps.{IsReady}
+use Rattle.table_words.proofs.Plans.{scan, alone}
+use Rattle.table_words.proofs.ScanLemmas.{passes, show}
+use Rattle.table_words.proofs.CellLemmas.{same_lots, itself_lot, same_number, itself_number}
+use Rattle.table_words.proofs.KeyLemmas.{itself_both}
+use Rattle.each_row.specs.declared.fault.EachFault.{EachFault}
+use Rattle.each_row.specs.Handed.{Hands, HandsOver}
+use Rattle.each_row.proofs.Keys.{number_rises, number_ties}
+use Rattle.each_row.proofs.OrderedScans.{by_column, stored, are_shown, stored_good, in_key_order}
+use Rattle.each_row.proofs.Rising.{one_order}
+use Rattle.each_row.proofs.Over.{rest_shown, over}
+use Rattle.history_tables.specs.ByKey.{AreCardLines}
+use Rattle.history_tables.proofs.CardLemmas.{apart, shown, cards_of_lot_tests, cards_of_lot_at}
+
+abbrev pub cards_by_act_text : List ℕ
+cards_by_act_text = CARDS_BY_ACT.now
+
+cards_by_act_is : (command_of (understood the_schema cards_by_act_text) ≡ Select (alone (scan cards_tree cards_of_lot_tests shown (by_column 3))) (codes "gtin" ∷ codes "lot" ∷ codes "act" ∷ codes "day" ∷ codes "kind" ∷ codes "note" ∷ codes "qty" ∷ codes "rest" ∷ [])) × (reads_listing the_schema cards_by_act_text ≡ false)
+unfolding understood everything
+cards_by_act_is = (refl, refl)
+
+pub cards_by_act_plain : IsPlain (understood the_schema cards_by_act_text)
+unfolding understood everything
+cards_by_act_plain = (refl, refl)
+
+-- the number of the act is in range
+act_number : (r : Row) → is_card r ≡ true → is_number ACTS_MAX (column r 3) ≡ true
+act_number r h = (and_parts _ _ (and_parts _ _ (and_parts _ _ h).1).1).0
+
+module _ (lot : LotId) where
+  abbrev params : Row
+  params = Text lot.gtin ∷ Text lot.lot ∷ []
+
+  -- two rows of the lot with one act are one
+  distinct : (db : Database) (ready : IsReady db) → AreTyped db.trees → (x y : Row) → Has (db.trees cards_tree) x → Has (db.trees cards_tree) y → passes params cards_of_lot_tests x ≡ true → passes params cards_of_lot_tests y ≡ true
+      → value_cmp (column x 3) (column y 3) ≡ Equal → value_cmp (rowid x) (rowid y) ≡ Equal
+  distinct db ready are x y hx hy px py tie =
+      let tx = all_has (λ r. is_card r ≡ true) (db.trees cards_tree) x are.cards hx in
+      let ty = all_has (λ r. is_card r ≡ true) (db.trees cards_tree) y are.cards hy in
+      let lots : (card_in x).lot ≡ (card_in y).lot =
+      sym (same_lots lot (card_in x).lot (sym (cards_of_lot_at lot x tx) ∙ px)) ∙ same_lots lot (card_in y).lot (sym (cards_of_lot_at lot y ty) ∙ py) in
+      let acts = number_ties ACTS_MAX (column x 3) (column y 3) (act_number x tx) (act_number y ty) tie in
+      apart db ready x y hx hy tx ty
+      (itself_both _ _ (ap (same_lot_id (card_in x).lot) (sym lots) ∙ itself_lot (card_in x).lot) (ap (nat_eq (card_in x).act) (sym acts) ∙ itself_number (card_in x).act))
+
+  -- the rows that the query shows are the lines of the card
+  listed : (old : State) → IsReady old.now → AreTyped old.now.trees → (new : State) (rows : List Row) → Shown cards_by_act_text params old new rows
+      → AreCardLines (tables_in old.now.trees) lot (map card_read rows) × AllByRecursion (λ v. has_card v ≡ true) rows
+  listed old ready are new rows h =
+      let read = reads_as cards_by_act_text params old new the_schema ready.schema_is _ cards_by_act_is.0 cards_by_act_plain cards_by_act_is.1 rows h in
+      let a = read.answer Null in
+      let up = ready.rows.1.1.1.1.1.1.1.1.1.1.1.1.0.0 in
+      let apart_rows = distinct old.now ready are in
+      let all = stored old.now.trees params cards_tree 3 cards_of_lot_tests shown rows a up apart_rows in
+      let is = are_shown old.now.trees params cards_tree 3 cards_of_lot_tests shown rows a up apart_rows in
+      let good = stored_good old.now.trees params cards_tree 3 cards_of_lot_tests shown rows a up apart_rows is_card card_in nat_eq same_number itself_number (λ n m. n < m) (λ k low. omega arith) (λ i j k p q. omega arith)
+      (λ (c : CardRow). c.act) (λ c. same_lot_id lot c.lot) (cards_of_lot_at lot) (λ x y tx ty low. number_rises ACTS_MAX (column x 3) (column y 3) (act_number x tx) (act_number y ty) low) are.cards in
+      let ordered = in_key_order old.now.trees params cards_tree 3 cards_of_lot_tests shown rows a up apart_rows is_card card_in nat_eq same_number itself_number (λ n m. n < m) (λ k low. omega arith) (λ i j k p q. omega arith)
+      (λ (c : CardRow). c.act) (λ c. same_lot_id lot c.lot) (cards_of_lot_at lot) (λ x y tx ty low. number_rises ACTS_MAX (column x 3) (column y 3) (act_number x tx) (act_number y ty) low) are.cards in (
+        subst (AreCardLines (tables_in old.now.trees) lot) (sym (ap (map card_read) is ∙ map-map card_read (show params shown) all)) ordered,
+        subst (AllByRecursion (λ v. has_card v ≡ true)) (sym is) (all_map (λ v. has_card v ≡ true) (show params shown) all good),
+      )
+
+  -- what the sink took
+  pub cards_over : {K : Type 0} (takes stops : K → CardRow → K → Type 0) (old new : State) (before after : K) (result : Result (Unit {0}) EachFault) → IsReady old.now → AreTyped old.now.trees
+      → Hands has_card card_read takes stops cards_by_act_text params old new before after result
+      → (rows : List CardRow) → AreCardLines (tables_in old.now.trees) lot rows → HandsOver takes stops before rows after result
+  cards_over takes stops old new before after result ready are h rows lines =
+      over has_card card_read takes stops cards_by_act_text params old (AreCardLines (tables_in old.now.trees) lot)
+      (one_order nat_eq same_number itself_number (λ n m. n < m) (λ k low. omega arith) (λ i j k p q. omega arith) (λ (c : CardRow). c.act) ((tables_in old.now.trees).card lot))
+      (listed old ready are) (rest_shown cards_by_act_text params old the_schema _ ready.schema_is cards_by_act_is.0 (λ db given. tt)) new before after result h rows lines

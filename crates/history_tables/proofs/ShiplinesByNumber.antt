@@ -1,0 +1,238 @@
+-- The lines of a lot's shipments as they are read one at a time, by number.
+use Rattle.std.proofs.Common.{bytes_eq, ◌≡◌, ◌<◌, ℕ, Bool, true, false, cond, ◌&&◌, List, [], ◌∷◌, ◌++◌, codes, map, find, slice_get, Option, Some, None, Result, Ok, Err, pos, refl, sym, ap, ap₂, ◌∙◌, subst, arith, inl, inr, Equal, Less, int_cmp, is_gt}
+use Rattle.std.specs.Prelude.{◌⊎◌, nat_eq, nat_lt, if◌then◌else◌, IsSome, IfOk, IfErr, OnOk, OnErr}
+use Rattle.std.specs.List.{AllByRecursion}
+use Rattle.std.proofs.lemmas.Bool.{cases_Bool, and_parts}
+use Rattle.std.proofs.lemmas.Bool.Decides.{nat_tests}
+use Rattle.std.proofs.lemmas.Int.{ints}
+use Rattle.sqlite.specs.declared.types.Value.{Value}
+use Rattle.sqlite.specs.declared.types.Value.TheVariants.{Null, Int, Text}
+use Rattle.sqlite.specs.Order.{Row, column, bytes}
+use Rattle.sqlite.specs.Term.{Term, col, op2}
+use Rattle.sqlite.specs.Command.TheVariants.{Select}
+use Rattle.sqlite.specs.Collation.TheVariants.{Binary}
+use Rattle.sqlite.specs.Effect.{Database}
+use Rattle.sqlite_sql.specs.declared.ops.BinaryOp.TheVariants.{Compare}
+use Rattle.sqlite_sql.specs.declared.ops.CompareOp.TheVariants.{Gt}
+use Rattle.sqlite_sql.specs.Ops.{binary, is_true, from_truth}
+use Rattle.sqlite_tied.specs.Compute.{everything}
+use Rattle.sqlite.specs.Listing.{understood, reads_listing}
+use Rattle.sqlite.specs.State.{State, Shown, Survives, IsUnchanged, IsRolledBack}
+use Rattle.sqlite.proofs.Callers.{IsPlain, command_of, reads_as}
+use Rattle.sqlite_trees.specs.Tree.{Trees, rowid}
+use Rattle.sqlite_rules.specs.Lists.{Has}
+use Rattle.sqlite_rules.proofs.ListLemmas.{all_has}
+use Rattle.sqlite_value.specs.Order.{value_cmp}
+use Rattle.sqlite_value.proofs.OrderLemmas.{value_cmp-Int}
+use Rattle.sqlite_keyed.proofs.ListLemmas.{map-map, all_map}
+use Rattle.values.specs.Values.{is_gtin, is_lot_text}
+use Rattle.values.specs.declared.lot.LotId.{LotId}
+use Rattle.commands.specs.declared.limits.TheConstants.{ACTS_MAX}
+use Rattle.commands.specs.declared.rows.ShiplineRow.{ShiplineRow}
+use Rattle.commands.specs.Sinks.{Reaches, StopsWithin}
+use Rattle.history_tables.specs.declared.texts.TheConstants.{SHIPLINES_AFTER}
+use Rattle.history_tables.specs.declared.shipline_after.First.{First}
+use Rattle.table_words.specs.Cells.{typed, is_number, number_in}
+use Rattle.table_words.specs.Schema.{the_schema, shiplines_tree}
+use Rattle.table_words.specs.Typed.{same_lot_id, same_shipline, shipline_key, is_shipline, shipline_in, has_shipline, shipline_read, tables_in, AreTyped}
+use Rattle.table_words.specs.Steps.{IsReady}
+use Rattle.table_words.specs.declared.error.TableFault.{TableFault}
+use Rattle.table_words.specs.declared.error.TableFault.TheVariants.{Store, Foreign}
+use Rattle.table_words.proofs.Plans.{same, scan, alone}
+use Rattle.table_words.proofs.ScanLemmas.{passes, show}
+use Rattle.table_words.proofs.CellLemmas.{and_true, and_assoc, same_word, same_lots, itself_lot, same_number, itself_number}
+use Rattle.table_words.proofs.KeyLemmas.{itself_both}
+use Rattle.each_row.specs.declared.fault.EachFault.{EachFault}
+use Rattle.each_row.specs.declared.fault.EachFault.TheVariants.{Fault, Stopped}
+use Rattle.each_row.specs.Handed.{Hands, HandsOver, IsLeft}
+use Rattle.each_row.specs.Ordered.{AreInOrder}
+use Rattle.each_row.proofs.Keys.{number_rises, number_ties}
+use Rattle.each_row.proofs.OrderedScans.{by_column, stored, are_shown, stored_good, in_key_order}
+use Rattle.each_row.proofs.Rising.{one_order}
+use Rattle.each_row.proofs.Over.{rest_shown, over}
+use Rattle.history_tables.specs.ByKey.{AreByNumber}
+use Rattle.history_tables.specs.Taken.{row_taken}
+use Rattle.history_tables.proofs.ShiplineLemmas.{apart, shown}
+
+abbrev pub after_text : List ℕ
+after_text = SHIPLINES_AFTER.now
+
+-- the column at this place is above the parameter at that one
+abbrev above : ℕ → ℕ → Term
+above place parameter = op2 (Compare Gt Binary) (col 1 place) (col 0 parameter)
+
+abbrev tests : List Term
+tests = same 2 0 ∷ same 3 1 ∷ above 1 2 ∷ []
+
+after_is : (command_of (understood the_schema after_text) ≡ Select (alone (scan shiplines_tree tests shown (by_column 1))) (codes "number" ∷ codes "gtin" ∷ codes "lot" ∷ codes "qty" ∷ [])) × (reads_listing the_schema after_text ≡ false)
+unfolding understood everything
+after_is = (refl, refl)
+
+pub after_plain : IsPlain (understood the_schema after_text)
+unfolding understood everything
+after_plain = (refl, refl)
+
+-- ---- the tests
+
+truth_back : (b : Bool) → is_true (from_truth (Some b)) ≡ b
+truth_back true = refl
+truth_back false = refl
+
+greater : (m n : ℕ) → is_gt (int_cmp (pos m) (pos n)) ≡ nat_lt n m
+greater m n = grind (arith, ints, nat_tests)
+
+above_int : (m n : ℕ) → is_true (binary (Compare Gt Binary) (Int (pos m)) (Int (pos n))) ≡ nat_lt n m
+unfolding binary
+above_int m n = truth_back (is_gt (value_cmp (Int (pos m)) (Int (pos n)))) ∙ ap is_gt (value_cmp-Int (pos m) (pos n)) ∙ greater m n
+
+above_count : (limit : ℕ) (v : Value) (n : ℕ) → is_number limit v ≡ true → is_true (binary (Compare Gt Binary) v (Int (pos n))) ≡ nat_lt n (number_in v)
+above_count limit (Int (pos m)) n h = above_int m n
+above_count limit v n h = absurd cc
+
+ship_number : (r : Row) → is_shipline r ≡ true → is_number ACTS_MAX (column r 1) ≡ true
+ship_number r h = (and_parts _ _ h).0
+
+-- the same look-up, whether it is by number or among those above
+one_test : (a : Bool) (n k m : ℕ) → ((a && nat_lt n m) && nat_eq k m) ≡ cond (nat_lt n k) (nat_eq k m && a) false
+one_test a n k m = elim (cases_Bool (nat_eq k m)) [
+  | inl e ↦
+      let is : k ≡ m = same_number k m e in
+      rw (e, is) (elim (cases_Bool (nat_lt n m)) [ inl f ↦ rw f (and_true _ ∙ and_true a) | inr f ↦ rw f (and_true (a && false) ∙ never a) ])
+  | inr e ↦ rw e (never (a && nat_lt n m) ∙ sym (neither (nat_lt n k)))
+]
+  where
+    never : (b : Bool) → (b && false) ≡ false
+    never true = refl
+    never false = refl
+
+    neither : (b : Bool) → cond b false false ≡ false
+    neither true = refl
+    neither false = refl
+
+found_if : {X : Type 0} (c : Bool) (p : X → Bool) (xs : List X) → find (λ x. cond c (p x) false) xs ≡ (if c then find p xs else None)
+found_if true p xs = refl
+found_if false p [] = refl
+found_if false p (x ∷ xs) = found_if false p xs
+
+-- ---- the rows
+
+module _ (lot : LotId) (n : ℕ) where
+  abbrev params : Row
+  params = Text lot.gtin ∷ Text lot.lot ∷ Int (pos n) ∷ []
+
+  abbrev wanted : ShiplineRow → Bool
+  wanted s = same_lot_id lot s.lot && nat_lt n s.number
+
+  at_wanted : (r : Row) → is_shipline r ≡ true → passes params tests r ≡ wanted (shipline_in r)
+  at_wanted r h =
+      let p0 = and_parts _ _ h in
+      let p1 = and_parts _ _ p0.1 in
+      let p2 = and_parts _ _ p1.1 in
+      ap₂ ◌&&◌ (same_word is_gtin (column r 2) (Text lot.gtin) lot.gtin p1.0 refl)
+      (ap₂ ◌&&◌ (same_word is_lot_text (column r 3) (Text lot.lot) lot.lot p2.0 refl) (and_true _ ∙ above_count ACTS_MAX (column r 1) n p0.0))
+      ∙ and_assoc (bytes_eq lot.gtin (bytes (column r 2))) (bytes_eq lot.lot (bytes (column r 3))) (nat_lt n (number_in (column r 1)))
+
+  of_lot : (r : Row) → is_shipline r ≡ true → passes params tests r ≡ true → lot ≡ (shipline_in r).lot
+  of_lot r h p = same_lots lot (shipline_in r).lot (and_parts _ _ (sym (at_wanted r h) ∙ p)).0
+
+  distinct : (db : Database) (ready : IsReady db) → AreTyped db.trees → (x y : Row) → Has (db.trees shiplines_tree) x → Has (db.trees shiplines_tree) y → passes params tests x ≡ true → passes params tests y ≡ true
+      → value_cmp (column x 1) (column y 1) ≡ Equal → value_cmp (rowid x) (rowid y) ≡ Equal
+  distinct db ready are x y hx hy px py tie =
+      let tx = all_has (λ r. is_shipline r ≡ true) (db.trees shiplines_tree) x are.shiplines hx in
+      let ty = all_has (λ r. is_shipline r ≡ true) (db.trees shiplines_tree) y are.shiplines hy in
+      let lots : (shipline_in x).lot ≡ (shipline_in y).lot = sym (of_lot x tx px) ∙ of_lot y ty py in
+      let numbers = number_ties ACTS_MAX (column x 1) (column y 1) (ship_number x tx) (ship_number y ty) tie in
+      apart db ready x y hx hy tx ty
+      (itself_both _ _ (ap (nat_eq (shipline_in x).number) (sym numbers) ∙ itself_number (shipline_in x).number) (ap (same_lot_id (shipline_in x).lot) (sym lots) ∙ itself_lot (shipline_in x).lot))
+
+  as_looked_up : (xs : List ShiplineRow) (k : ℕ) → find (λ x. wanted x && nat_eq k x.number) xs ≡ (if nat_lt n k then find (λ s. same_shipline (k, lot) (shipline_key s)) xs else None)
+  as_looked_up xs k =
+      (λ i. find (λ (x : ShiplineRow). one_test (same_lot_id lot x.lot) n k x.number i) xs) ∙ found_if (nat_lt n k) (λ (s : ShiplineRow). same_shipline (k, lot) (shipline_key s)) xs
+
+  listed : (old : State) → IsReady old.now → AreTyped old.now.trees → (new : State) (rows : List Row) → Shown after_text params old new rows
+      → AreByNumber (tables_in old.now.trees) lot n (map shipline_read rows) × AllByRecursion (λ v. has_shipline v ≡ true) rows
+  listed old ready are new rows h =
+      let read = reads_as after_text params old new the_schema ready.schema_is _ after_is.0 after_plain after_is.1 rows h in
+      let a = read.answer Null in
+      let up = ready.rows.1.1.1.1.1.1.1.1.1.1.1.0.0 in
+      let apart_rows = distinct old.now ready are in
+      let all = stored old.now.trees params shiplines_tree 1 tests shown rows a up apart_rows in
+      let is = are_shown old.now.trees params shiplines_tree 1 tests shown rows a up apart_rows in
+      let rises = λ (x y : Row) (tx : is_shipline x ≡ true) (ty : is_shipline y ≡ true) (low : value_cmp (column x 1) (column y 1) ≡ Less). number_rises ACTS_MAX (column x 1) (column y 1) (ship_number x tx) (ship_number y ty) low in
+      let good = stored_good old.now.trees params shiplines_tree 1 tests shown rows a up apart_rows is_shipline shipline_in nat_eq same_number itself_number (λ i j. i < j) (λ k low. omega arith) (λ i j k p q. omega arith)
+      (λ (s : ShiplineRow). s.number) wanted at_wanted rises are.shiplines in
+      let ordered = in_key_order old.now.trees params shiplines_tree 1 tests shown rows a up apart_rows is_shipline shipline_in nat_eq same_number itself_number (λ i j. i < j) (λ k low. omega arith) (λ i j k p q. omega arith)
+      (λ (s : ShiplineRow). s.number) wanted at_wanted rises are.shiplines in
+      let by_number : AreByNumber (tables_in old.now.trees) lot n (map shipline_in all) = record { found = λ k. ordered.found k ∙ as_looked_up (typed is_shipline shipline_in (old.now.trees shiplines_tree)) k; rises = ordered.rises } in (
+        subst (AreByNumber (tables_in old.now.trees) lot n) (sym (ap (map shipline_read) is ∙ map-map shipline_read (show params shown) all)) by_number,
+        subst (AllByRecursion (λ v. has_shipline v ≡ true)) (sym is) (all_map (λ v. has_shipline v ≡ true) (show params shown) all good),
+      )
+
+  -- ---- the first of them
+
+  abbrev takes : First → ShiplineRow → First → Type 0
+  takes old one new = (old.row ≡ None) × (new.row ≡ Some one)
+
+  abbrev stops : First → ShiplineRow → First → Type 0
+  stops old one new = IsSome old.row × (new.row ≡ old.row)
+
+  full : (s : First) (x : ShiplineRow) → s.row ≡ Some x → s.row ≡ None → ⊥
+  full s x some none = let e = sym some ∙ none in cc
+
+  empty : (s : First) → s.row ≡ None → IsSome s.row → ⊥
+  empty s none some = let h : IsSome {T = ShiplineRow} None = subst IsSome none some in cc
+
+  reached_first : (before after : First) (rows : List ShiplineRow) → before.row ≡ None → Reaches takes before rows after → after.row ≡ slice_get rows 0
+  reached_first before after [] none reached = ap (λ (s : First). s.row) reached ∙ none
+  reached_first before after (x ∷ []) none reached = ap (λ (s : First). s.row) reached.2 ∙ reached.1.1
+  reached_first before after (x ∷ y ∷ rows) none reached = absurd (full reached.0 x reached.1.1 reached.2.1.0)
+
+  stopped_first : (before after : First) (taken : List ShiplineRow) (next : ShiplineRow) (others : List ShiplineRow) (last : First) → before.row ≡ None → Reaches takes before taken last → stops last next after
+      → after.row ≡ slice_get (taken ++ next ∷ others) 0
+  stopped_first before after [] next others last none reached stopped = absurd (empty last (ap (λ (s : First). s.row) reached ∙ none) stopped.0)
+  stopped_first before after (x ∷ []) next others last none reached stopped = stopped.1 ∙ ap (λ (s : First). s.row) reached.2 ∙ reached.1.1
+  stopped_first before after (x ∷ y ∷ taken) next others last none reached stopped = absurd (full reached.0 x reached.1.1 reached.2.1.0)
+
+  module _ (old new : State) (before after : First) (none : before.row ≡ None) (ready : IsReady old.now) (are : AreTyped old.now.trees) (rows : List ShiplineRow) (all : AreByNumber (tables_in old.now.trees) lot n rows) where
+    handed : (result : Result (Unit {0}) EachFault) → Hands has_shipline shipline_read takes stops after_text params old new before after result → HandsOver takes stops before rows after result
+    handed result h =
+        over has_shipline shipline_read takes stops after_text params old (AreByNumber (tables_in old.now.trees) lot n)
+        (one_order nat_eq same_number itself_number (λ i j. i < j) (λ k low. omega arith) (λ i j k p q. omega arith) (λ (s : ShiplineRow). s.number) (λ k. if nat_lt n k then (tables_in old.now.trees).shipline k lot else None))
+        (listed old ready are) (rest_shown after_text params old the_schema _ ready.schema_is after_is.0 (λ db given. tt)) new before after result h rows all
+
+    pub all_first : Hands has_shipline shipline_read takes stops after_text params old new before after (Ok tt) → after.row ≡ slice_get rows 0
+    all_first h = reached_first before after rows none (handed (Ok tt) h)
+
+    pub stop_first : Hands has_shipline shipline_read takes stops after_text params old new before after (Err Stopped) → after.row ≡ slice_get rows 0
+    stop_first h = let it = handed (Err Stopped) h in stopped_first before after it.taken it.next it.others it.last none it.reached it.stopped ∙ ap (λ xs. slice_get xs 0) (sym it.parts)
+
+    pub never_foreign : (fault : TableFault) → fault ≡ Foreign → Hands has_shipline shipline_read takes stops after_text params old new before after (Err (Fault fault)) → ⊥
+    never_foreign fault is h = handed (Err (Fault Foreign)) (subst (λ (f : TableFault). Hands has_shipline shipline_read takes stops after_text params old new before after (Err (Fault f))) is h)
+
+  -- ---- what is told of it
+
+  module _ (old new : State) (before after : First) (none : before.row ≡ None) (ready : IsReady old.now) (are : AreTyped old.now.trees) where
+    pub found_of : (r : Result (Unit {0}) EachFault) → Hands has_shipline shipline_read takes stops after_text params old new before after r → (rows : List ShiplineRow) → AreByNumber (tables_in old.now.trees) lot n rows
+        → IfOk (row_taken after.row r) (λ row. row ≡ slice_get rows 0)
+    found_of (Ok all) h rows by_number = all_first old new before after none ready are rows by_number h
+    found_of (Err Stopped) h rows by_number = stop_first old new before after none ready are rows by_number h
+    found_of (Err (Fault fault)) h rows by_number = tt
+
+    pub foreign_of : (r : Result (Unit {0}) EachFault) → Hands has_shipline shipline_read takes stops after_text params old new before after r
+        → IfErr (row_taken after.row r) (λ e. e ≡ Foreign → (rows : List ShiplineRow) → ¬ AreByNumber (tables_in old.now.trees) lot n rows)
+    foreign_of (Ok all) h = tt
+    foreign_of (Err Stopped) h = tt
+    foreign_of (Err (Fault fault)) h = λ is rows by_number. never_foreign old new before after none ready are rows by_number fault is h
+
+pub same_of : (row : Option ShiplineRow) (old new : State) (r : Result (Unit {0}) EachFault) → IsLeft old new r → OnOk (row_taken row r) (IsUnchanged old new)
+same_of row old new (Ok all) left = left
+same_of row old new (Err Stopped) left = left
+same_of row old new (Err (Fault fault)) left = tt
+
+pub left_of : (row : Option ShiplineRow) (old new : State) (r : Result (Unit {0}) EachFault) → IsLeft old new r → OnErr (row_taken row r) (IsUnchanged old new ⊎ IsRolledBack old new)
+left_of row old new (Ok all) left = tt
+left_of row old new (Err Stopped) left = tt
+left_of row old new (Err (Fault fault)) left = left
+
+pub survives_itself : (s : State) (P : Trees → Type 0) → Survives s s P
+survives_itself s P = record { clean = omega arith; shield = λ h. h; counts = omega arith; limit = refl; closes = λ _ h. inl h; crash = λ _ db h. inl h }

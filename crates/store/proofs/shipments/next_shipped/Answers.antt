@@ -1,0 +1,68 @@
+use Rattle.std.proofs.Common.{List, refl, sym, subst, map, inl, arith}
+use Rattle.std.proofs.lemmas.Result.{err_from_is_err_and}
+use Rattle.sqlite.specs.State.{HasCleanDisk}
+use Rattle.sqlite.specs.Held.{state}
+use Rattle.table_words.specs.Typed.{Tables}
+use Rattle.history_tables.specs.ByKey.{AreByNumber}
+use Rattle.store.specs.Shipments.{later_shipments, line_shown}
+use Rattle.store.proofs.HandedOn.{books_on, left_keeps, moved_keeps, never_commits_none, never_commits_on, never_commits_later}
+use Rattle.store.proofs.ShipmentOrder.{line_of, lines_after}
+use Rattle.store.proofs.ShipmentsHanded.{next_is, found_next, store_fault}
+use Rattle.store.proofs.shipments.next_shipped.Goals as goal
+
+pub returns-in_err-find_open_outside-clause-next : goal.returns-in_err-find_open_outside-clause-next
+returns-in_err-find_open_outside-clause-next g c clean first acts history held =
+    let p = err_from_is_err_and c.from_residual.result c.from_residual.ensures.1 in
+    rw (p.1, p.2, c.in_err-find_open_outside.ensures.fault)
+    (refl, left_keeps first acts (state g.S.Store c.args.conn.now) (state g.S.Store c.find_open_outside.new.conn) held (c.in_err-find_open_outside.ensures.failed clean))
+
+pub returns-in_err-find_open_outside-clause-survives : goal.returns-in_err-find_open_outside-clause-survives
+returns-in_err-find_open_outside-clause-survives g c = never_commits_none (state g.S.Store c.args.conn.now) (state g.S.Store c.find_open_outside.new.conn) c.find_open_outside.ensures.survives
+
+pub returns-in_err-line-clause-next : goal.returns-in_err-line-clause-next
+returns-in_err-line-clause-next g c clean first acts history held =
+    let l = c.args.lot.now in
+    let old = state g.S.Store c.args.conn.now in
+    let mid = state g.S.Store c.find_open_outside.new.conn in
+    let late : HasCleanDisk mid = omega (arith, clean, c.shipline_after-line.ensures.survives.clean) in
+    let same = c.in_ok-find_open_outside.ensures.open late in
+    let books = books_on first acts old mid held same in
+    let rows = subst (λ (t : Tables). AreByNumber t l c.args.number (map (line_of first acts l history) (later_shipments first acts l c.args.number))) (sym books.rows.tables) (lines_after first acts l history c.args.number) in
+    let p = err_from_is_err_and c.from_residual-in_err-line.result c.from_residual-in_err-line.ensures.1 in
+    rw (p.1, p.2, store_fault _ (λ foreign. c.in_err-line.ensures.foreign clean books.ready books.rows.typed foreign _ rows))
+    (refl, moved_keeps g.S.Store first acts c.find_open_outside.new.conn c.shipline_after-line.new.conn (left_keeps first acts old mid held (inl same)) (c.in_err-line.ensures.left clean books.ready))
+
+pub returns-in_err-line-clause-survives : goal.returns-in_err-line-clause-survives
+returns-in_err-line-clause-survives g c =
+    never_commits_on (state g.S.Store c.args.conn.now) (state g.S.Store c.find_open_outside.new.conn) (state g.S.Store c.shipline_after-line.new.conn) c.find_open_outside.ensures.survives c.shipline_after-line.ensures.survives (λ late. c.in_ok-find_open_outside.ensures.open late)
+
+pub returns-clause-next : goal.returns-clause-next
+returns-clause-next g c clean first acts history held =
+    let l = c.args.lot.now in
+    let n = c.args.number in
+    let old = state g.S.Store c.args.conn.now in
+    let mid = state g.S.Store c.find_open_outside.new.conn in
+    let after = state g.S.Store c.shipline_after-line.new.conn in
+    let late : HasCleanDisk after = omega (arith, clean, c.told_line.ensures.survives.clean) in
+    let later : HasCleanDisk mid = omega (arith, late, c.shipline_after-line.ensures.survives.clean) in
+    let same = c.in_ok-find_open_outside.ensures.open later in
+    let books = books_on first acts old mid held same in
+    let rows = subst (λ (t : Tables). AreByNumber t l n (map (line_of first acts l history) (later_shipments first acts l n))) (sym books.rows.tables) (lines_after first acts l history n) in
+    let held_mid = left_keeps first acts old mid held (inl same) in
+    let held_after = left_keeps first acts mid after held_mid (inl (c.in_ok-line.ensures.same late books.ready)) in
+    let told = c.told_line.ensures.told clean first acts history held_after in
+    let found = c.in_ok-line.ensures.found late books.ready books.rows.typed _ rows in
+    (found_next (line_shown first acts c.in_ok-line.line) _ c.told_line.result (next_is first acts l history n c.in_ok-line.line found) told.0, told.1)
+
+pub returns-clause-survives : goal.returns-clause-survives
+returns-clause-survives g c =
+    let old = state g.S.Store c.args.conn.now in
+    let mid = state g.S.Store c.find_open_outside.new.conn in
+    let after = state g.S.Store c.shipline_after-line.new.conn in
+    let first_part = never_commits_on old mid after c.find_open_outside.ensures.survives c.shipline_after-line.ensures.survives (λ late. c.in_ok-find_open_outside.ensures.open late) in
+    never_commits_later old after (state g.S.Store c.told_line.new.conn) first_part c.told_line.ensures.survives
+    (λ late first acts history held.
+    let later : HasCleanDisk mid = omega (arith, late, c.shipline_after-line.ensures.survives.clean) in
+    let same = c.in_ok-find_open_outside.ensures.open later in
+    let books = books_on first acts old mid held same in
+    left_keeps first acts mid after (left_keeps first acts old mid held (inl same)) (inl (c.in_ok-line.ensures.same late books.ready)))

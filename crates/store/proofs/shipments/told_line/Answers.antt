@@ -1,0 +1,30 @@
+use Rattle.std.proofs.Common.{refl, ap}
+use Rattle.std.proofs.lemmas.Result.{err_from_is_err_and}
+use Rattle.sqlite.specs.Held.{state}
+use Rattle.store.specs.Shipments.{as_found, shipped_shown}
+use Rattle.store.proofs.HandedOn.{never_commits_none, never_commits_itself}
+use Rattle.store.proofs.ShipmentsHanded.{err_as_found}
+use Rattle.store.proofs.shipments.told_line.Goals as goal
+
+pub returns-in-None-clause-told : goal.returns-in-None-clause-told
+returns-in-None-clause-told g c clean first acts history held = rw c.in-None.is (refl, held)
+
+pub returns-in-None-clause-survives : goal.returns-in-None-clause-survives
+returns-in-None-clause-survives g c = never_commits_itself (state g.S.Store c.args.conn.now)
+
+pub returns-in_err-units-clause-told : goal.returns-in_err-units-clause-told
+returns-in_err-units-clause-told g c clean first acts history held =
+    let p = err_from_is_err_and c.from_residual.result c.from_residual.ensures.1 in
+    let it = c.in_err-units.ensures.shown clean first acts history held in
+    rw (c.in-Some.is, p.1, p.2) (err_as_found (shipped_shown first acts c.in-Some.line) _ it.0, it.1)
+
+pub returns-in_err-units-clause-survives : goal.returns-in_err-units-clause-survives
+returns-in_err-units-clause-survives g c = never_commits_none (state g.S.Store c.args.conn.now) (state g.S.Store c.show_shipped-units.new.conn) c.show_shipped-units.ensures.survives
+
+pub returns-in_ok-units-clause-told : goal.returns-in_ok-units-clause-told
+returns-in_ok-units-clause-told g c clean first acts history held =
+    let it = c.in_ok-units.ensures.shown clean first acts history held in
+    rw c.in-Some.is (ap as_found it.0, it.1)
+
+pub returns-in_ok-units-clause-survives : goal.returns-in_ok-units-clause-survives
+returns-in_ok-units-clause-survives g c = never_commits_none (state g.S.Store c.args.conn.now) (state g.S.Store c.show_shipped-units.new.conn) c.show_shipped-units.ensures.survives

@@ -1,0 +1,37 @@
+//! The bins with units of a lot, one at a time.
+
+ghost use Rattle.std.specs.Prelude.{◌≡◌, false, ℤ, List};
+ghost use Rattle.sqlite.specs.State.{HasCleanDisk, Survives};
+ghost use Rattle.sqlite.specs.Held.{state};
+ghost use Rattle.machine.specs.Acts.{Act};
+ghost use Rattle.machine.specs.Once.{IsHistory};
+ghost use Rattle.machine.specs.Views.{bins_of_lot};
+ghost use Rattle.store.specs.Books.{KeepsBooks};
+ghost use Rattle.store.specs.Handing.{IsHandedOn, NoBooks};
+
+use crate::each_fault::EachFault;
+use crate::outside::find_open_outside;
+use commands::{BinUnits, Sink};
+use goods_tables::bins_of_lot::each_bin;
+use sqlite::{Alter, Connection};
+use std::alloc::Global;
+use values::LotId;
+
+/// Hands the bins with units of a lot to the sink, by name, until it stops. Nothing is changed.
+pub fn hand_bins<S: Alter, K: Sink<BinUnits>>(
+    alloc: Global,
+    conn: &mut Connection<S>,
+    lot: &LotId,
+    sink: &mut K,
+) -> Result<(), EachFault>
+    ensures outside { conn.old.in_transaction ≡ false → conn.new.in_transaction ≡ false }
+    ensures handed { HasCleanDisk (state S.Store conn.new) → (first : ℤ) (acts : List Act) → IsHistory first acts → KeepsBooks first acts (state S.Store conn.old)
+        → IsHandedOn first acts K.takes K.stops (bins_of_lot first acts lot.now) sink.old sink.new result (state S.Store conn.new) }
+    ensures survives { Survives (state S.Store conn.old) (state S.Store conn.new) (NoBooks (state S.Store conn.old)) }
+{
+    find_open_outside(conn)?;
+    match each_bin(alloc, conn, lot, sink) {
+        Ok(()) => Ok(()),
+        Err(fault) => Err(EachFault::from(fault)),
+    }
+}

@@ -1,0 +1,142 @@
+//! The shipments with units of a lot, one at a time.
+
+ghost use Rattle.std.specs.Prelude.{◌≡◌, false, ℤ, List, IsTrue, IfOk, IfErr};
+ghost use Rattle.sqlite.specs.State.{HasCleanDisk, Survives, KeepsCommit};
+ghost use Rattle.sqlite.specs.Held.{state};
+ghost use Rattle.commands.specs.declared.rows.ShiplineRow.{ShiplineRow as Line};
+ghost use Rattle.table_words.specs.Steps.{IsReady};
+ghost use Rattle.machine.specs.Acts.{Act};
+ghost use Rattle.machine.specs.Once.{IsHistory};
+ghost use Rattle.machine.specs.Tables.{tables_of};
+ghost use Rattle.machine.specs.Views.{shipments_of_lot};
+ghost use Rattle.slices.specs.Books.{IsBooksOf};
+ghost use Rattle.slices.specs.Shipped.{units_told};
+ghost use Rattle.store.specs.Books.{KeepsBooks};
+ghost use Rattle.store.specs.Handing.{IsHandedOn, NoBooks};
+ghost use Rattle.store.specs.Shipments.{IsNextOn, line_shown, shipped_shown};
+ghost use Rattle.store.specs.Showing.{IsFoundAs, IsShownAs, IsShownOn};
+
+use crate::Fault;
+use crate::each_fault::EachFault;
+use crate::outside::find_open_outside;
+use crate::repeats::find_open;
+use commands::{Refusal, ShiplineRow, ShippedUnits, Sink};
+use history_tables::shipline_after::shipline_after;
+use slices::read_shipped;
+use sqlite::{Alter, Connection, Transaction};
+use std::alloc::Global;
+use values::LotId;
+
+// What is told of a line, as the books have it.
+fn find_shipped<S: Alter>(
+    alloc: Global,
+    tx: &mut Transaction<'_, S>,
+    line: &ShiplineRow,
+) -> Result<Option<ShippedUnits>, Fault>
+    ensures same_reference { tx.new.conn.ghost_name ≡ tx.old.conn.ghost_name }
+    ensures read { HasCleanDisk (state S.Store tx.new.conn.now) → (first : ℤ) (acts : List Act)
+        → (IsTrue (state S.Store tx.old.conn.now).is_open → IsBooksOf first acts (state S.Store tx.old.conn.now).now) → IfOk result (λ found. found ≡ units_told (tables_of first acts) line.now) }
+    ensures fault { HasCleanDisk (state S.Store tx.new.conn.now) → (first : ℤ) (acts : List Act)
+        → (IsTrue (state S.Store tx.old.conn.now).is_open → IsBooksOf first acts (state S.Store tx.old.conn.now).now) → IfErr result (λ e. e ≡ Fault.Store) }
+    ensures kept { HasCleanDisk (state S.Store tx.new.conn.now) → (IsTrue (state S.Store tx.old.conn.now).is_open → IsReady (state S.Store tx.old.conn.now).now) → KeepsCommit (state S.Store tx.old.conn.now) (state S.Store tx.new.conn.now) }
+    ensures survives { Survives (state S.Store tx.old.conn.now) (state S.Store tx.new.conn.now) (λ _. ⊥) }
+{
+    find_open(tx)?;
+    match read_shipped(alloc, tx, line) {
+        Ok(found) => Ok(found),
+        Err(fault) => Err(Fault::from(fault)),
+    }
+}
+
+// What is told of the line, where it was read.
+fn told_of(found: Result<Option<ShippedUnits>, Fault>) -> Result<ShippedUnits, Fault>
+    ensures { (first : ℤ) (acts : List Act) (line : Line) → IsFoundAs (λ found. found ≡ units_told (tables_of first acts) line) found → IsShownAs (shipped_shown first acts line) result }
+{
+    match found {
+        Err(fault) => Err(fault),
+        Ok(None) => Err(Fault::Refused(Refusal::UnknownOrder)),
+        Ok(Some(units)) => Ok(units),
+    }
+}
+
+// What is told of a line, in a transaction of its own.
+fn show_shipped<S: Alter>(
+    alloc: Global,
+    conn: &mut Connection<S>,
+    line: &ShiplineRow,
+) -> Result<ShippedUnits, Fault>
+    requires outside { conn.old.in_transaction ≡ false }
+    ensures outside { conn.new.in_transaction ≡ false }
+    ensures shown { HasCleanDisk (state S.Store conn.new) → (first : ℤ) (acts : List Act) → IsHistory first acts → KeepsBooks first acts (state S.Store conn.old)
+        → IsShownOn first acts (shipped_shown first acts line.now) result (state S.Store conn.new) }
+    ensures survives { Survives (state S.Store conn.old) (state S.Store conn.new) (λ _. ⊥) }
+{
+    let _outside = conn.is_autocommit();
+    let mut tx = conn.transaction();
+    let found = find_shipped(alloc, &mut tx, line);
+    tx.rollback();
+    told_of(found)
+}
+
+// What is told of a line that was found.
+fn told_line<S: Alter>(
+    alloc: Global,
+    conn: &mut Connection<S>,
+    line: Option<ShiplineRow>,
+) -> Result<Option<ShippedUnits>, Fault>
+    requires outside { conn.old.in_transaction ≡ false }
+    ensures outside { conn.new.in_transaction ≡ false }
+    ensures told { HasCleanDisk (state S.Store conn.new) → (first : ℤ) (acts : List Act) → IsHistory first acts → KeepsBooks first acts (state S.Store conn.old)
+        → IsShownOn first acts (line_shown first acts line) result (state S.Store conn.new) }
+    ensures survives { Survives (state S.Store conn.old) (state S.Store conn.new) (NoBooks (state S.Store conn.old)) }
+{
+    match line {
+        None => Ok(None),
+        Some(line) => {
+            let units = show_shipped(alloc, conn, &line)?;
+            Ok(Some(units))
+        }
+    }
+}
+
+// What is told of the next shipment after a number with units of the lot, if there is one.
+fn next_shipped<S: Alter>(
+    alloc: Global,
+    conn: &mut Connection<S>,
+    lot: &LotId,
+    number: u64,
+) -> Result<Option<ShippedUnits>, Fault>
+    requires outside { conn.old.in_transaction ≡ false }
+    ensures outside { conn.new.in_transaction ≡ false }
+    ensures next { HasCleanDisk (state S.Store conn.new) → (first : ℤ) (acts : List Act) → IsHistory first acts → KeepsBooks first acts (state S.Store conn.old)
+        → IsNextOn first acts lot.now number result (state S.Store conn.new) }
+    ensures survives { Survives (state S.Store conn.old) (state S.Store conn.new) (NoBooks (state S.Store conn.old)) }
+{
+    find_open_outside(conn)?;
+    let line = shipline_after(alloc, conn, lot, number)?;
+    told_line(alloc, conn, line)
+}
+
+/// Hands the shipments with units of a lot to the sink, by number, until it stops. Nothing is changed.
+pub fn hand_shipments<S: Alter, K: Sink<ShippedUnits>>(
+    alloc: Global,
+    conn: &mut Connection<S>,
+    lot: &LotId,
+    sink: &mut K,
+) -> Result<(), EachFault>
+    requires outside { conn.old.in_transaction ≡ false }
+    ensures outside { conn.new.in_transaction ≡ false }
+    ensures handed { HasCleanDisk (state S.Store conn.new) → (first : ℤ) (acts : List Act) → IsHistory first acts → KeepsBooks first acts (state S.Store conn.old)
+        → IsHandedOn first acts K.takes K.stops (shipments_of_lot first acts lot.now) sink.old sink.new result (state S.Store conn.new) }
+    ensures survives { Survives (state S.Store conn.old) (state S.Store conn.new) (NoBooks (state S.Store conn.old)) }
+{
+    let mut number = 0;
+    'shipments: for _ in 0..u64::MAX {
+        let Some(units) = next_shipped(alloc, conn, lot, number)? else {
+            return Ok(());
+        };
+        sink.take(&units)?;
+        number = units.number;
+    }
+    Err(EachFault::Fault(Fault::Store))
+}
