@@ -45,6 +45,16 @@ get() {
     expect "GET $1" "$3 $2" "$(curl -s -w ' %{http_code}' "http://127.0.0.1:$port$1")"
 }
 
+# The crates are proved side by side, and each is named as it is done.
+jobs=$(nproc 2>/dev/null || echo 2)
+all=$(grep -c '^[a-z].*:' crates.txt)
+echo "> prove $all crates, $jobs at a time"
+{ rt all check --jobs "$jobs" 2>&1 && echo "status 0" || echo "status 1"; } | tee "$room/proofs" | awk -v all="$all" '
+    /^== / { done += 1; print "  " $2 ", " done " of " all; fflush() }
+    /^status / { end = $2 }
+    END { exit end }
+' || { tail -40 "$room/proofs" >&2; exit 1; }
+
 echo "> build lotd"
 (cd crates/lotd && rt run -- label --day 2026-05-04 ']C101095060001343521726093010AB12' >/dev/null)
 

@@ -144,3 +144,79 @@ static OTHER_META: [&[Step]; 1] = [&[
 fn another_row_of_meta_is_foreign(rt: HostRuntime) {
     run(&rt, rt.alloc(), OTHER_META.as_slice());
 }
+
+const INDEX_NAMES: &str =
+    "SELECT name FROM sqlite_schema WHERE type = 'index' AND name NOT LIKE 'sqlite%' ORDER BY name";
+
+// An index that is missing is made as the books are opened, and so are all of them.
+static INDEXES_MADE: [&[Step]; 2] = [
+    &[
+        Step::Make,
+        Step::On(On::Run("DROP INDEX shiplines_by_lot")),
+        Step::Open,
+        Step::On(On::Gives(
+            INDEX_NAMES,
+            "orders_by_state\nreserved_by_gtin\nshiplines_by_lot\nstaged_by_gtin\n",
+        )),
+        Step::On(On::Run("DROP INDEX orders_by_state")),
+        Step::On(On::Run("DROP INDEX reserved_by_gtin")),
+        Step::On(On::Run("DROP INDEX shiplines_by_lot")),
+        Step::On(On::Run("DROP INDEX staged_by_gtin")),
+    ],
+    &[
+        Step::Open,
+        Step::On(On::Gives(
+            INDEX_NAMES,
+            "orders_by_state\nreserved_by_gtin\nshiplines_by_lot\nstaged_by_gtin\n",
+        )),
+        Step::On(META),
+        Step::On(BINS),
+    ],
+];
+
+#[test]
+fn missing_indexes_are_made(rt: HostRuntime) {
+    run(&rt, rt.alloc(), INDEXES_MADE.as_slice());
+}
+
+// What others put beside the books is passed over, and stays.
+static OTHERS_BESIDE: [&[Step]; 2] = [
+    &[
+        Step::Make,
+        Step::On(On::Run("CREATE INDEX lines_by_gtin ON lines (gtin)")),
+        Step::On(On::Run("CREATE TABLE sizes (tbl, idx, stat)")),
+        Step::On(On::Run("CREATE UNIQUE INDEX sizes_of ON sizes (tbl, idx)")),
+        Step::On(On::Run("INSERT INTO sizes VALUES ('items', NULL, '3')")),
+        Step::On(On::Run("CREATE VIEW names AS SELECT name FROM bins")),
+        Step::Open,
+    ],
+    &[
+        Step::Open,
+        Step::On(META),
+        Step::On(On::Gives("SELECT stat FROM sizes", "3\n")),
+        Step::On(On::Gives("SELECT name FROM names", "RETURNS\n")),
+    ],
+];
+
+#[test]
+fn what_stands_beside_the_books_is_passed_over(rt: HostRuntime) {
+    run(&rt, rt.alloc(), OTHERS_BESIDE.as_slice());
+}
+
+// What would refuse a row of the books is foreign.
+static OTHERS_IN_THE_WAY: [&[Step]; 1] = [&[
+    Step::Make,
+    Step::On(On::Run("CREATE UNIQUE INDEX bins_of ON bins (kind)")),
+    Step::OpenNone,
+    Step::On(On::Run("DROP INDEX bins_of")),
+    Step::Open,
+    Step::On(On::Run("CREATE TABLE notes (bin TEXT REFERENCES bins (name))")),
+    Step::OpenNone,
+    Step::On(On::Run("DROP TABLE notes")),
+    Step::Open,
+]];
+
+#[test]
+fn what_would_refuse_a_row_is_foreign(rt: HostRuntime) {
+    run(&rt, rt.alloc(), OTHERS_IN_THE_WAY.as_slice());
+}

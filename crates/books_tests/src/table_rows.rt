@@ -387,12 +387,9 @@ fn another_schema_is_foreign(rt: HostRuntime) {
     run(&rt, rt.alloc(), OTHER_SCHEMA.as_slice());
 }
 
-// Books that lack an index or a table are not opened.
+// Books that lack a table are not opened.
 static MISSING_PARTS: [&[Step]; 1] = [&[
     Step::On(On::Fill),
-    Step::On(On::Run("DROP INDEX lines_by_gtin")),
-    Step::OpenNoTables,
-    Step::On(On::Run("CREATE INDEX lines_by_gtin ON lines (gtin)")),
     Step::On(On::Run("DROP TABLE recalls")),
     Step::OpenNoTables,
     Step::On(On::CreateNothing),

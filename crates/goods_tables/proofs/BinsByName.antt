@@ -5,6 +5,7 @@ use Rattle.std.specs.Ordering.{nat_cmp}
 use Rattle.std.specs.Cmp.Lexicographic.{slice_cmp}
 use Rattle.std.proofs.lemmas.Bool.{and_parts, and_from}
 use Rattle.std.proofs.lemmas.Cmp.{nat_list_cmp_total, tied_itself}
+use Rattle.sqlite.specs.Schema.{Schema}
 use Rattle.sqlite.specs.declared.types.Value.TheVariants.{Null, Text}
 use Rattle.sqlite.specs.Order.{Row, column}
 use Rattle.sqlite.specs.Term.{Term, col}
@@ -25,7 +26,7 @@ use Rattle.commands.specs.declared.rows.StockRow.{StockRow}
 use Rattle.commands.specs.declared.views.BinUnits.{BinUnits}
 use Rattle.goods_tables.specs.declared.texts.TheConstants.{BINS_OF_LOT}
 use Rattle.table_words.specs.Cells.{is_word}
-use Rattle.table_words.specs.Schema.{the_schema, stock_tree}
+use Rattle.table_words.specs.Schema.{schema_with, stock_tree}
 use Rattle.table_words.specs.Typed.{same_lot_id, is_stock, stock_in, tables_in, AreTyped}
 use Rattle.table_words.specs.Steps.{IsReady}
 use Rattle.table_words.proofs.Plans.{same, scan, alone}
@@ -50,13 +51,13 @@ tests = same 1 0 ∷ same 2 1 ∷ []
 abbrev shown : List Term
 shown = col 1 3 ∷ col 1 4 ∷ []
 
-bins_of_lot_is : (command_of (understood the_schema bins_of_lot_text) ≡ Select (alone (scan stock_tree tests shown (by_column 3))) (codes "bin" ∷ codes "qty" ∷ [])) × (reads_listing the_schema bins_of_lot_text ≡ false)
+bins_of_lot_is : (rest : Schema) → (command_of (understood (schema_with rest) bins_of_lot_text) ≡ Select (alone (scan stock_tree tests shown (by_column 3))) (codes "bin" ∷ codes "qty" ∷ [])) × (reads_listing (schema_with rest) bins_of_lot_text ≡ false)
 unfolding understood everything
-bins_of_lot_is = (refl, refl)
+bins_of_lot_is rest = (refl, refl)
 
-pub bins_of_lot_plain : IsPlain (understood the_schema bins_of_lot_text)
+pub bins_of_lot_plain : (rest : Schema) → IsPlain (understood (schema_with rest) bins_of_lot_text)
 unfolding understood everything
-bins_of_lot_plain = (refl, refl)
+bins_of_lot_plain rest = (refl, refl)
 
 -- no name is before itself
 never : (k : List ℕ) → IsBefore k k → ⊥
@@ -107,7 +108,7 @@ module _ (lot : LotId) where
 
   listed : (old : State) → IsReady old.now → AreTyped old.now.trees → (new : State) (rows : List Row) → Shown bins_of_lot_text params old new rows → IsAll old.now (map bin_units_read rows) × AllByRecursion (λ v. has_bin_units v ≡ true) rows
   listed old ready are new rows h =
-      let read = reads_as bins_of_lot_text params old new the_schema ready.schema_is _ bins_of_lot_is.0 bins_of_lot_plain bins_of_lot_is.1 rows h in
+      let read = reads_as bins_of_lot_text params old new (schema_with ready.has.rest) ready.has.is _ (bins_of_lot_is ready.has.rest).0 (bins_of_lot_plain ready.has.rest) (bins_of_lot_is ready.has.rest).1 rows h in
       let a = read.answer Null in
       let up = ready.rows.1.1.1.1.1.0.0 in
       let apart_rows = distinct old.now ready are in
@@ -126,4 +127,4 @@ module _ (lot : LotId) where
       → (rows : List StockRow) → AreByBin (tables_in old.now.trees) lot rows → HandsOver takes stops before (map bin_units rows) after result
   bins_over takes stops old new before after result ready are h rows bins =
       over has_bin_units bin_units_read takes stops bins_of_lot_text params old (IsAll old.now) (one_list old.now) (listed old ready are)
-      (rest_shown bins_of_lot_text params old the_schema _ ready.schema_is bins_of_lot_is.0 (λ db given. tt)) new before after result h (map bin_units rows) (rows, bins, refl)
+      (rest_shown bins_of_lot_text params old (schema_with ready.has.rest) _ ready.has.is (bins_of_lot_is ready.has.rest).0 (λ db given. tt)) new before after result h (map bin_units rows) (rows, bins, refl)

@@ -11,6 +11,7 @@ use Rattle.sqlite.specs.Command.TheVariants.{Insert, Update, Select}
 use Rattle.sqlite.specs.Source.TheVariants.{Values}
 use Rattle.sqlite.specs.Tree.{with_tree}
 use Rattle.sqlite.specs.Edit.{next_rowid}
+use Rattle.sqlite.specs.Schema.{Schema}
 use Rattle.sqlite.specs.Effect.{Database}
 use Rattle.sqlite_tied.specs.Compute.{everything}
 use Rattle.sqlite.specs.Listing.{understood, reads_listing}
@@ -25,7 +26,7 @@ use Rattle.values.specs.Values.{is_gtin}
 use Rattle.commands.specs.declared.rows.ItemRow.{ItemRow}
 use Rattle.goods_tables.specs.declared.texts.TheConstants.{CHANGE_ITEM, ADD_ITEM, ITEMS_OF, ALL_ITEMS}
 use Rattle.table_words.specs.Cells.{typed, is_the_text}
-use Rattle.table_words.specs.Schema.{the_schema, items_tree, items_table}
+use Rattle.table_words.specs.Schema.{schema_with, items_tree, items_table}
 use Rattle.table_words.specs.Typed.{is_item, item_in, has_item, item_read, ItemKey, same_item, item_key, item_cells, with_item, tables_in, Tables, AreTyped, items_of_rows, all_items_rows}
 use Rattle.table_words.specs.Steps.{IsReady, Goes}
 use Rattle.table_words.specs.Found.{AreRows}
@@ -34,7 +35,7 @@ use Rattle.table_words.proofs.ListLemmas.{over, IsRows-over, IsRows-put_row, all
 use Rattle.table_words.proofs.ScanLemmas.{passes, show, in_order}
 use Rattle.table_words.proofs.WriteLemmas.{inserts, updates}
 use Rattle.table_words.proofs.CellLemmas.{and_true, same_word, equals_text, typed-filter, both_typed, shown_typed}
-use Rattle.table_words.proofs.StepLemmas.{ready_after, goes}
+use Rattle.table_words.proofs.StepLemmas.{ready_after, sets_off_nothing, goes}
 use Rattle.table_words.proofs.KeyLemmas.{AtMostOne, one_by_key, few, none_had, IsSame, same_bytes, itself_bytes, meets, found_put, found_over, are_rows}
 
 abbrev pub tests : List Term
@@ -55,7 +56,7 @@ one_key = same_bytes
 -- no key comes twice
 one_row : (db : Database) → IsReady db → (params : Row) → AtMostOne (passes params tests) (db.trees items_tree)
 one_row db ready params =
-    one_by_key the_schema db.trees (items_table items_tree) (1 ∷ []) _ (inl refl) refl refl refl
+    one_by_key (schema_with ready.has.rest) db.trees (items_table items_tree) (1 ∷ []) _ (ready.sound.lists.guarded.1.0 0 (1 ∷ []) refl).1 refl refl refl
     (ready.sound.obeys.rules Unique).1.0 ready.rows.1.0 params
 
 -- ---- UPDATE
@@ -69,13 +70,13 @@ change_terms = col 0 0 ∷ col 0 1 ∷ []
 abbrev pub values : ItemRow → Row
 values s = item_cells s
 
-change_is : command_of (understood the_schema change_text) ≡ Update 1 (alone (scan items_tree tests (col 1 0 ∷ col 1 0 ∷ change_terms) []))
+change_is : (rest : Schema) → command_of (understood (schema_with rest) change_text) ≡ Update 1 (alone (scan items_tree tests (col 1 0 ∷ col 1 0 ∷ change_terms) []))
 unfolding understood everything
-change_is = refl
+change_is rest = refl
 
-change_plain : IsPlain (understood the_schema change_text)
+change_plain : (rest : Schema) → IsPlain (understood (schema_with rest) change_text)
 unfolding understood everything
-change_plain = (refl, refl)
+change_plain rest = (refl, refl)
 
 fits : (s : ItemRow) → cast_all (items_table items_tree).columns (values s) ≡ values s
 fits s = refl
@@ -93,8 +94,8 @@ changes old new s count sound ready inside h =
     let rows = old.now.trees items_tree in
     let kept = ready.rows.1.0 in
     let after = over p (values s) rows in
-    let w = runs_as change_text params old new the_schema ready.schema_is _ change_is change_plain count h.0 in
-    let u = updates the_schema 1 items_tree _ _ _ _ _ _ refl (λ _ _. refl) old new tests change_terms _ params (values s) count ready.schema_is kept (λ r. refl) (fits s) (few p rows kept.0 (one_row old.now ready params)) w in
+    let w = runs_as change_text params old new (schema_with ready.has.rest) ready.has.is _ (change_is ready.has.rest) (change_plain ready.has.rest) count h.0 in
+    let u = updates (schema_with ready.has.rest) 1 items_tree _ _ _ _ _ _ refl (λ olds news. sets_off_nothing ready.has.rest items_tree olds news ready.has.apart) old new tests change_terms _ params (values s) count ready.has.is kept (λ r. refl) (fits s) (few p rows kept.0 (one_row old.now ready params)) w in
     let mode = h.1.mode ∙ sym inside in
     let typed_after : AreTyped old.now.trees → AreTyped (with_tree old.now.trees items_tree after) = λ are. record { meta = are.meta; items = all_over (λ r. is_item r ≡ true) p (values s) rows (λ r h e. sound) are.items; bins = are.bins; lots = are.lots; recalls = are.recalls; stock = are.stock; orders = are.orders; lines = are.lines; staged = are.staged; reserved = are.reserved; shipments = are.shipments; shiplines = are.shiplines; cards = are.cards; repeats = are.repeats } in (
       λ some. goes old new items_tree after _ ready (IsRows-over p (values s) rows kept) u.0 mode
@@ -113,13 +114,13 @@ add_text = ADD_ITEM.now
 abbrev add_terms : List Term
 add_terms = lit Null ∷ col 0 0 ∷ col 0 1 ∷ []
 
-add_is : command_of (understood the_schema add_text) ≡ Insert 1 (Values add_terms 3)
+add_is : (rest : Schema) → command_of (understood (schema_with rest) add_text) ≡ Insert 1 (Values add_terms 3)
 unfolding understood everything
-add_is = refl
+add_is rest = refl
 
-add_plain : IsPlain (understood the_schema add_text)
+add_plain : (rest : Schema) → IsPlain (understood (schema_with rest) add_text)
 unfolding understood everything
-add_plain = (refl, refl)
+add_plain rest = (refl, refl)
 
 itself : (k : ItemKey) → same_item k k ≡ true
 itself k = itself_bytes k
@@ -133,8 +134,8 @@ adds old new s count sound ready inside h =
     let kept = ready.rows.1.0 in
     let row : Row = Int (next_rowid rows) ∷ values s in
     let after = put_row row rows in
-    let w = runs_as add_text params old new the_schema ready.schema_is _ add_is add_plain count h.0 in
-    let u = inserts the_schema 1 items_tree _ _ _ _ _ _ refl (λ _ _. refl) old new add_terms 3 _ params (values s) count ready.schema_is refl (fits s) w in
+    let w = runs_as add_text params old new (schema_with ready.has.rest) ready.has.is _ (add_is ready.has.rest) (add_plain ready.has.rest) count h.0 in
+    let u = inserts (schema_with ready.has.rest) 1 items_tree _ _ _ _ _ _ refl (λ olds news. sets_off_nothing ready.has.rest items_tree olds news ready.has.apart) old new add_terms 3 _ params (values s) count ready.has.is refl (fits s) w in
     let good = IsRows-put_row row rows refl kept in
     let ready_now = ready_after old.now new.now items_tree after ready good u.0 in
     let there : p row ≡ true = at_key params s.gtin refl row sound ∙ itself s.gtin in
@@ -161,13 +162,13 @@ items_of_text = ITEMS_OF.now
 abbrev items_of_tests : List Term
 items_of_tests = same 1 0 ∷ []
 
-items_of_is : (command_of (understood the_schema items_of_text) ≡ Select (alone (scan items_tree items_of_tests shown by_rowid)) (codes "gtin" ∷ codes "name" ∷ [])) × (reads_listing the_schema items_of_text ≡ false)
+items_of_is : (rest : Schema) → (command_of (understood (schema_with rest) items_of_text) ≡ Select (alone (scan items_tree items_of_tests shown by_rowid)) (codes "gtin" ∷ codes "name" ∷ [])) × (reads_listing (schema_with rest) items_of_text ≡ false)
 unfolding understood everything
-items_of_is = (refl, refl)
+items_of_is rest = (refl, refl)
 
-pub items_of_plain : IsPlain (understood the_schema items_of_text)
+pub items_of_plain : (rest : Schema) → IsPlain (understood (schema_with rest) items_of_text)
 unfolding understood everything
-items_of_plain = (refl, refl)
+items_of_plain rest = (refl, refl)
 
 items_of_at : (gtin : List ℕ) (r : Row) → is_item r ≡ true → passes (Text gtin ∷ []) items_of_tests r ≡ (let key = item_key (item_in r) in bytes_eq gtin key)
 items_of_at gtin r h =
@@ -178,7 +179,7 @@ items_of_turn : (old new : State) (gtin : List ℕ) (rows : List Row) → IsRead
     → rows ≡ map (show (Text gtin ∷ []) shown) (filter (passes (Text gtin ∷ []) items_of_tests) (old.now.trees items_tree))
 items_of_turn old new gtin rows ready h =
     let params = Text gtin ∷ [] in
-    let read = reads_as items_of_text params old new the_schema ready.schema_is _ items_of_is.0 items_of_plain items_of_is.1 rows h in
+    let read = reads_as items_of_text params old new (schema_with ready.has.rest) ready.has.is _ (items_of_is ready.has.rest).0 (items_of_plain ready.has.rest) (items_of_is ready.has.rest).1 rows h in
     in_order old.now.trees params items_tree items_of_tests shown rows ready.rows.1.0.0 (read.answer Null)
 
 -- the rows that were read
@@ -207,13 +208,13 @@ all_items_text = ALL_ITEMS.now
 abbrev all_items_tests : List Term
 all_items_tests = []
 
-all_items_is : (command_of (understood the_schema all_items_text) ≡ Select (alone (scan items_tree all_items_tests shown by_rowid)) (codes "gtin" ∷ codes "name" ∷ [])) × (reads_listing the_schema all_items_text ≡ false)
+all_items_is : (rest : Schema) → (command_of (understood (schema_with rest) all_items_text) ≡ Select (alone (scan items_tree all_items_tests shown by_rowid)) (codes "gtin" ∷ codes "name" ∷ [])) × (reads_listing (schema_with rest) all_items_text ≡ false)
 unfolding understood everything
-all_items_is = (refl, refl)
+all_items_is rest = (refl, refl)
 
-pub all_items_plain : IsPlain (understood the_schema all_items_text)
+pub all_items_plain : (rest : Schema) → IsPlain (understood (schema_with rest) all_items_text)
 unfolding understood everything
-all_items_plain = (refl, refl)
+all_items_plain rest = (refl, refl)
 
 all_items_at : (r : Row) → is_item r ≡ true → passes ([]) all_items_tests r ≡ (let key = item_key (item_in r) in true)
 all_items_at r h =
@@ -223,7 +224,7 @@ all_items_turn : (old new : State) (rows : List Row) → IsReady old.now → Sho
     → rows ≡ map (show ([]) shown) (filter (passes ([]) all_items_tests) (old.now.trees items_tree))
 all_items_turn old new rows ready h =
     let params = [] in
-    let read = reads_as all_items_text params old new the_schema ready.schema_is _ all_items_is.0 all_items_plain all_items_is.1 rows h in
+    let read = reads_as all_items_text params old new (schema_with ready.has.rest) ready.has.is _ (all_items_is ready.has.rest).0 (all_items_plain ready.has.rest) (all_items_is ready.has.rest).1 rows h in
     in_order old.now.trees params items_tree all_items_tests shown rows ready.rows.1.0.0 (read.answer Null)
 
 -- the rows that were read

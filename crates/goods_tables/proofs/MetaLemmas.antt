@@ -11,6 +11,7 @@ use Rattle.sqlite.specs.Command.TheVariants.{Delete, Insert, Update, Select}
 use Rattle.sqlite.specs.Source.TheVariants.{Values}
 use Rattle.sqlite.specs.Tree.{Trees, with_tree}
 use Rattle.sqlite.specs.Edit.{next_rowid}
+use Rattle.sqlite.specs.Schema.{Schema}
 use Rattle.sqlite.specs.Effect.{Database}
 use Rattle.sqlite_tied.specs.Compute.{everything}
 use Rattle.sqlite.specs.Listing.{understood, reads_listing}
@@ -31,7 +32,7 @@ use Rattle.commands.specs.declared.limits.TheConstants.{UNITS_MAX, ACTS_MAX, SHO
 use Rattle.commands.specs.declared.rows.MetaRow.{MetaRow}
 use Rattle.goods_tables.specs.declared.texts.TheConstants.{CHANGE_META, ADD_META, META_ROWS}
 use Rattle.table_words.specs.Cells.{typed, is_word, is_the_text, fits_in, is_any, is_number, is_the_number, number_in, is_signed, is_any_number, signed_in, flag_number, flag_in, bin_kind_in, order_state_in, card_kind_in}
-use Rattle.table_words.specs.Schema.{the_schema, meta_tree, meta_table}
+use Rattle.table_words.specs.Schema.{schema_with, meta_tree, meta_table}
 use Rattle.table_words.specs.Typed.{same_lot_id, is_meta, meta_in, has_meta, meta_read, MetaKey, same_meta, meta_key, meta_cells, with_meta, tables_in, Tables, AreTyped, meta_rows_rows}
 use Rattle.table_words.specs.Steps.{IsReady, Goes}
 use Rattle.table_words.specs.Found.{AreRows}
@@ -40,7 +41,7 @@ use Rattle.table_words.proofs.ListLemmas.{over, IsRows-filter, IsRows-over, IsRo
 use Rattle.table_words.proofs.ScanLemmas.{passes, show, in_order, scanned}
 use Rattle.table_words.proofs.WriteLemmas.{deletes, inserts, inserts_at, updates, only_shown, cast_number, cast_null}
 use Rattle.table_words.proofs.CellLemmas.{and_true, and_assoc, same_word, same_count, same_the_number, equals_text, equals_number, same_number, itself_number, same_lots, itself_lot, id_is, typed-filter, both_typed, shown_typed, flag_back, bin_kind_back, order_state_back, card_kind_back}
-use Rattle.table_words.proofs.StepLemmas.{ready_after, goes}
+use Rattle.table_words.proofs.StepLemmas.{ready_after, sets_off_nothing, goes}
 use Rattle.table_words.proofs.KeyLemmas.{AtMostOne, one_by_key, one_by_rowid, few, none_had, IsSame, same_bytes, same_both, itself_bytes, itself_both, meets, found_without, found_put, found_over, are_rows}
 
 abbrev pub tests : List Term
@@ -73,13 +74,13 @@ change_terms = lit Null ∷ col 0 1 ∷ col 0 2 ∷ col 0 3 ∷ col 0 4 ∷ col 
 abbrev pub values : MetaRow → Row
 values s = Null ∷ Text (codes "LOTSTOCK") ∷ Int (pos SCHEMA_VERSION) ∷ Int s.day ∷ Int (pos s.acts) ∷ Int (pos s.shipments) ∷ []
 
-change_is : command_of (understood the_schema change_text) ≡ Update 0 (alone (scan meta_tree tests (col 1 0 ∷ col 1 0 ∷ change_terms) []))
+change_is : (rest : Schema) → command_of (understood (schema_with rest) change_text) ≡ Update 0 (alone (scan meta_tree tests (col 1 0 ∷ col 1 0 ∷ change_terms) []))
 unfolding understood everything
-change_is = refl
+change_is rest = refl
 
-change_plain : IsPlain (understood the_schema change_text)
+change_plain : (rest : Schema) → IsPlain (understood (schema_with rest) change_text)
 unfolding understood everything
-change_plain = (refl, refl)
+change_plain rest = (refl, refl)
 
 fits : (s : MetaRow) → cast_all (meta_table meta_tree).columns (values s) ≡ values s
 fits s = rw (cast_number (pos SCHEMA_VERSION), cast_number s.day, cast_number (pos s.acts), cast_number (pos s.shipments), cast_null) refl
@@ -97,8 +98,8 @@ changes old new s count sound ready inside h =
     let rows = old.now.trees meta_tree in
     let kept = ready.rows.0 in
     let after = over p (values s) rows in
-    let w = runs_as change_text params old new the_schema ready.schema_is _ change_is change_plain count h.0 in
-    let u = updates the_schema 0 meta_tree _ _ _ _ _ _ refl (λ _ _. refl) old new tests change_terms _ params (values s) count ready.schema_is kept (λ r. refl) (fits s) (few p rows kept.0 (one_row old.now ready params)) w in
+    let w = runs_as change_text params old new (schema_with ready.has.rest) ready.has.is _ (change_is ready.has.rest) (change_plain ready.has.rest) count h.0 in
+    let u = updates (schema_with ready.has.rest) 0 meta_tree _ _ _ _ _ _ refl (λ olds news. sets_off_nothing ready.has.rest meta_tree olds news ready.has.apart) old new tests change_terms _ params (values s) count ready.has.is kept (λ r. refl) (fits s) (few p rows kept.0 (one_row old.now ready params)) w in
     let mode = h.1.mode ∙ sym inside in
     let typed_after : AreTyped old.now.trees → AreTyped (with_tree old.now.trees meta_tree after) = λ are. record { meta = all_over (λ r. is_meta r ≡ true) p (values s) rows (λ r h e. itself_both (is_the_number 1 (column r 0)) (is_the_text (codes "LOTSTOCK") (column (rowid r ∷ values s) 2) && (is_the_number SCHEMA_VERSION (column (rowid r ∷ values s) 3) && (is_signed is_business_day (column (rowid r ∷ values s) 4) && (is_number ACTS_MAX (column (rowid r ∷ values s) 5) && is_number ACTS_MAX (column (rowid r ∷ values s) 6))))) (and_parts (is_the_number 1 (column r 0)) (is_the_text (codes "LOTSTOCK") (column r 2) && (is_the_number SCHEMA_VERSION (column r 3) && (is_signed is_business_day (column r 4) && (is_number ACTS_MAX (column r 5) && is_number ACTS_MAX (column r 6))))) h).0 (and_parts (is_the_number 1 (column (Int (pos 1) ∷ values s) 0)) (is_the_text (codes "LOTSTOCK") (column (rowid r ∷ values s) 2) && (is_the_number SCHEMA_VERSION (column (rowid r ∷ values s) 3) && (is_signed is_business_day (column (rowid r ∷ values s) 4) && (is_number ACTS_MAX (column (rowid r ∷ values s) 5) && is_number ACTS_MAX (column (rowid r ∷ values s) 6))))) sound).1) are.meta; items = are.items; bins = are.bins; lots = are.lots; recalls = are.recalls; stock = are.stock; orders = are.orders; lines = are.lines; staged = are.staged; reserved = are.reserved; shipments = are.shipments; shiplines = are.shiplines; cards = are.cards; repeats = are.repeats } in (
       λ some. goes old new meta_tree after _ ready (IsRows-over p (values s) rows kept) u.0 mode
@@ -117,13 +118,13 @@ add_text = ADD_META.now
 abbrev add_terms : List Term
 add_terms = col 0 0 ∷ lit Null ∷ col 0 1 ∷ col 0 2 ∷ col 0 3 ∷ col 0 4 ∷ col 0 5 ∷ []
 
-add_is : command_of (understood the_schema add_text) ≡ Insert 0 (Values add_terms 7)
+add_is : (rest : Schema) → command_of (understood (schema_with rest) add_text) ≡ Insert 0 (Values add_terms 7)
 unfolding understood everything
-add_is = refl
+add_is rest = refl
 
-add_plain : IsPlain (understood the_schema add_text)
+add_plain : (rest : Schema) → IsPlain (understood (schema_with rest) add_text)
 unfolding understood everything
-add_plain = (refl, refl)
+add_plain rest = (refl, refl)
 
 itself : (k : MetaKey) → same_meta k k ≡ true
 itself k = itself_number k
@@ -137,8 +138,8 @@ adds old new s count sound ready inside h =
     let kept = ready.rows.0 in
     let row : Row = Int (pos 1) ∷ values s in
     let after = put_row row rows in
-    let w = runs_as add_text params old new the_schema ready.schema_is _ add_is add_plain count h.0 in
-    let u = inserts_at the_schema 0 meta_tree _ _ _ _ _ _ refl (λ _ _. refl) old new (pos 1) add_terms 7 _ params (values s) count ready.schema_is refl (fits s) w in
+    let w = runs_as add_text params old new (schema_with ready.has.rest) ready.has.is _ (add_is ready.has.rest) (add_plain ready.has.rest) count h.0 in
+    let u = inserts_at (schema_with ready.has.rest) 0 meta_tree _ _ _ _ _ _ refl (λ olds news. sets_off_nothing ready.has.rest meta_tree olds news ready.has.apart) old new (pos 1) add_terms 7 _ params (values s) count ready.has.is refl (fits s) w in
     let good = IsRows-put_row row rows refl kept in
     let ready_now = ready_after old.now new.now meta_tree after ready good u.0 in
     let there : p row ≡ true = at_key params 1 refl row sound ∙ itself 1 in
@@ -165,13 +166,13 @@ meta_rows_text = META_ROWS.now
 abbrev meta_rows_tests : List Term
 meta_rows_tests = same 0 0 ∷ []
 
-meta_rows_is : (command_of (understood the_schema meta_rows_text) ≡ Select (alone (scan meta_tree meta_rows_tests shown [])) (codes "id" ∷ codes "mark" ∷ codes "version" ∷ codes "day" ∷ codes "acts" ∷ codes "shipments" ∷ [])) × (reads_listing the_schema meta_rows_text ≡ false)
+meta_rows_is : (rest : Schema) → (command_of (understood (schema_with rest) meta_rows_text) ≡ Select (alone (scan meta_tree meta_rows_tests shown [])) (codes "id" ∷ codes "mark" ∷ codes "version" ∷ codes "day" ∷ codes "acts" ∷ codes "shipments" ∷ [])) × (reads_listing (schema_with rest) meta_rows_text ≡ false)
 unfolding understood everything
-meta_rows_is = (refl, refl)
+meta_rows_is rest = (refl, refl)
 
-pub meta_rows_plain : IsPlain (understood the_schema meta_rows_text)
+pub meta_rows_plain : (rest : Schema) → IsPlain (understood (schema_with rest) meta_rows_text)
 unfolding understood everything
-meta_rows_plain = (refl, refl)
+meta_rows_plain rest = (refl, refl)
 
 meta_rows_at : (id : ℕ) (r : Row) → is_meta r ≡ true → passes (Int (pos id) ∷ []) meta_rows_tests r ≡ (let key = meta_key (meta_in r) in nat_eq id key)
 meta_rows_at id r h =
@@ -182,7 +183,7 @@ meta_rows_turn : (old new : State) (id : ℕ) (rows : List Row) → IsReady old.
     → rows ≡ map (show (Int (pos id) ∷ []) shown) (filter (passes (Int (pos id) ∷ []) meta_rows_tests) (old.now.trees meta_tree))
 meta_rows_turn old new id rows ready h =
     let params = Int (pos id) ∷ [] in
-    let read = reads_as meta_rows_text params old new the_schema ready.schema_is _ meta_rows_is.0 meta_rows_plain meta_rows_is.1 rows h in
+    let read = reads_as meta_rows_text params old new (schema_with ready.has.rest) ready.has.is _ (meta_rows_is ready.has.rest).0 (meta_rows_plain ready.has.rest) (meta_rows_is ready.has.rest).1 rows h in
     let p = passes params meta_rows_tests in
     let all = old.now.trees meta_tree in
     only_shown params shown (filter p all) (few p all ready.rows.0.0 (one_row old.now ready params)) rows (scanned old.now.trees params meta_tree meta_rows_tests shown [] rows (read.answer Null))

@@ -11,6 +11,7 @@ use Rattle.sqlite.specs.Command.TheVariants.{Insert, Update, Select}
 use Rattle.sqlite.specs.Source.TheVariants.{Values}
 use Rattle.sqlite.specs.Tree.{with_tree}
 use Rattle.sqlite.specs.Edit.{next_rowid}
+use Rattle.sqlite.specs.Schema.{Schema}
 use Rattle.sqlite.specs.Effect.{Database}
 use Rattle.sqlite_tied.specs.Compute.{everything}
 use Rattle.sqlite.specs.Listing.{understood, reads_listing}
@@ -26,7 +27,7 @@ use Rattle.values.specs.declared.lot.LotId.{LotId}
 use Rattle.commands.specs.declared.rows.RecallRow.{RecallRow}
 use Rattle.goods_tables.specs.declared.texts.TheConstants.{CHANGE_RECALL, ADD_RECALL, RECALLS_OF}
 use Rattle.table_words.specs.Cells.{typed, is_the_text}
-use Rattle.table_words.specs.Schema.{the_schema, recalls_tree, recalls_table}
+use Rattle.table_words.specs.Schema.{schema_with, recalls_tree, recalls_table}
 use Rattle.table_words.specs.Typed.{is_recall, recall_in, has_recall, recall_read, RecallKey, same_recall, recall_key, recall_cells, with_recall, tables_in, Tables, AreTyped, recalls_of_rows}
 use Rattle.table_words.specs.Steps.{IsReady, Goes}
 use Rattle.table_words.specs.Found.{AreRows}
@@ -35,7 +36,7 @@ use Rattle.table_words.proofs.ListLemmas.{over, IsRows-over, IsRows-put_row, all
 use Rattle.table_words.proofs.ScanLemmas.{passes, show, in_order}
 use Rattle.table_words.proofs.WriteLemmas.{inserts, updates, cast_number}
 use Rattle.table_words.proofs.CellLemmas.{and_true, same_word, equals_text, same_lots, itself_lot, typed-filter, both_typed, shown_typed}
-use Rattle.table_words.proofs.StepLemmas.{ready_after, goes}
+use Rattle.table_words.proofs.StepLemmas.{ready_after, sets_off_nothing, goes}
 use Rattle.table_words.proofs.KeyLemmas.{AtMostOne, one_by_key, few, none_had, IsSame, meets, found_put, found_over, are_rows}
 
 abbrev pub tests : List Term
@@ -57,7 +58,7 @@ one_key = same_lots
 -- no key comes twice
 one_row : (db : Database) → IsReady db → (params : Row) → AtMostOne (passes params tests) (db.trees recalls_tree)
 one_row db ready params =
-    one_by_key the_schema db.trees (recalls_table recalls_tree) (1 ∷ 2 ∷ []) _ (inr (inr (inr (inl refl)))) refl refl refl
+    one_by_key (schema_with ready.has.rest) db.trees (recalls_table recalls_tree) (1 ∷ 2 ∷ []) _ (ready.sound.lists.guarded.1.1.1.1.0 0 (1 ∷ 2 ∷ []) refl).1 refl refl refl
     (ready.sound.obeys.rules Unique).1.1.1.1.0 ready.rows.1.1.1.1.0 params
 
 -- ---- UPDATE
@@ -71,13 +72,13 @@ change_terms = col 0 0 ∷ col 0 1 ∷ col 0 2 ∷ []
 abbrev pub values : RecallRow → Row
 values s = recall_cells s
 
-change_is : command_of (understood the_schema change_text) ≡ Update 4 (alone (scan recalls_tree tests (col 1 0 ∷ col 1 0 ∷ change_terms) []))
+change_is : (rest : Schema) → command_of (understood (schema_with rest) change_text) ≡ Update 4 (alone (scan recalls_tree tests (col 1 0 ∷ col 1 0 ∷ change_terms) []))
 unfolding understood everything
-change_is = refl
+change_is rest = refl
 
-change_plain : IsPlain (understood the_schema change_text)
+change_plain : (rest : Schema) → IsPlain (understood (schema_with rest) change_text)
 unfolding understood everything
-change_plain = (refl, refl)
+change_plain rest = (refl, refl)
 
 fits : (s : RecallRow) → cast_all (recalls_table recalls_tree).columns (values s) ≡ values s
 fits s = rw (cast_number (pos s.act)) refl
@@ -95,8 +96,8 @@ changes old new s count sound ready inside h =
     let rows = old.now.trees recalls_tree in
     let kept = ready.rows.1.1.1.1.0 in
     let after = over p (values s) rows in
-    let w = runs_as change_text params old new the_schema ready.schema_is _ change_is change_plain count h.0 in
-    let u = updates the_schema 4 recalls_tree _ _ _ _ _ _ refl (λ _ _. refl) old new tests change_terms _ params (values s) count ready.schema_is kept (λ r. refl) (fits s) (few p rows kept.0 (one_row old.now ready params)) w in
+    let w = runs_as change_text params old new (schema_with ready.has.rest) ready.has.is _ (change_is ready.has.rest) (change_plain ready.has.rest) count h.0 in
+    let u = updates (schema_with ready.has.rest) 4 recalls_tree _ _ _ _ _ _ refl (λ olds news. sets_off_nothing ready.has.rest recalls_tree olds news ready.has.apart) old new tests change_terms _ params (values s) count ready.has.is kept (λ r. refl) (fits s) (few p rows kept.0 (one_row old.now ready params)) w in
     let mode = h.1.mode ∙ sym inside in
     let typed_after : AreTyped old.now.trees → AreTyped (with_tree old.now.trees recalls_tree after) = λ are. record { meta = are.meta; items = are.items; bins = are.bins; lots = are.lots; recalls = all_over (λ r. is_recall r ≡ true) p (values s) rows (λ r h e. sound) are.recalls; stock = are.stock; orders = are.orders; lines = are.lines; staged = are.staged; reserved = are.reserved; shipments = are.shipments; shiplines = are.shiplines; cards = are.cards; repeats = are.repeats } in (
       λ some. goes old new recalls_tree after _ ready (IsRows-over p (values s) rows kept) u.0 mode
@@ -115,13 +116,13 @@ add_text = ADD_RECALL.now
 abbrev add_terms : List Term
 add_terms = lit Null ∷ col 0 0 ∷ col 0 1 ∷ col 0 2 ∷ []
 
-add_is : command_of (understood the_schema add_text) ≡ Insert 4 (Values add_terms 4)
+add_is : (rest : Schema) → command_of (understood (schema_with rest) add_text) ≡ Insert 4 (Values add_terms 4)
 unfolding understood everything
-add_is = refl
+add_is rest = refl
 
-add_plain : IsPlain (understood the_schema add_text)
+add_plain : (rest : Schema) → IsPlain (understood (schema_with rest) add_text)
 unfolding understood everything
-add_plain = (refl, refl)
+add_plain rest = (refl, refl)
 
 itself : (k : RecallKey) → same_recall k k ≡ true
 itself k = itself_lot k
@@ -135,8 +136,8 @@ adds old new s count sound ready inside h =
     let kept = ready.rows.1.1.1.1.0 in
     let row : Row = Int (next_rowid rows) ∷ values s in
     let after = put_row row rows in
-    let w = runs_as add_text params old new the_schema ready.schema_is _ add_is add_plain count h.0 in
-    let u = inserts the_schema 4 recalls_tree _ _ _ _ _ _ refl (λ _ _. refl) old new add_terms 4 _ params (values s) count ready.schema_is refl (fits s) w in
+    let w = runs_as add_text params old new (schema_with ready.has.rest) ready.has.is _ (add_is ready.has.rest) (add_plain ready.has.rest) count h.0 in
+    let u = inserts (schema_with ready.has.rest) 4 recalls_tree _ _ _ _ _ _ refl (λ olds news. sets_off_nothing ready.has.rest recalls_tree olds news ready.has.apart) old new add_terms 4 _ params (values s) count ready.has.is refl (fits s) w in
     let good = IsRows-put_row row rows refl kept in
     let ready_now = ready_after old.now new.now recalls_tree after ready good u.0 in
     let there : p row ≡ true = at_key params s.lot refl refl row sound ∙ itself s.lot in
@@ -163,13 +164,13 @@ recalls_of_text = RECALLS_OF.now
 abbrev recalls_of_tests : List Term
 recalls_of_tests = same 1 0 ∷ []
 
-recalls_of_is : (command_of (understood the_schema recalls_of_text) ≡ Select (alone (scan recalls_tree recalls_of_tests shown by_rowid)) (codes "gtin" ∷ codes "lot" ∷ codes "act" ∷ [])) × (reads_listing the_schema recalls_of_text ≡ false)
+recalls_of_is : (rest : Schema) → (command_of (understood (schema_with rest) recalls_of_text) ≡ Select (alone (scan recalls_tree recalls_of_tests shown by_rowid)) (codes "gtin" ∷ codes "lot" ∷ codes "act" ∷ [])) × (reads_listing (schema_with rest) recalls_of_text ≡ false)
 unfolding understood everything
-recalls_of_is = (refl, refl)
+recalls_of_is rest = (refl, refl)
 
-pub recalls_of_plain : IsPlain (understood the_schema recalls_of_text)
+pub recalls_of_plain : (rest : Schema) → IsPlain (understood (schema_with rest) recalls_of_text)
 unfolding understood everything
-recalls_of_plain = (refl, refl)
+recalls_of_plain rest = (refl, refl)
 
 recalls_of_at : (gtin : List ℕ) (r : Row) → is_recall r ≡ true → passes (Text gtin ∷ []) recalls_of_tests r ≡ (let key = recall_key (recall_in r) in bytes_eq gtin key.gtin)
 recalls_of_at gtin r h =
@@ -180,7 +181,7 @@ recalls_of_turn : (old new : State) (gtin : List ℕ) (rows : List Row) → IsRe
     → rows ≡ map (show (Text gtin ∷ []) shown) (filter (passes (Text gtin ∷ []) recalls_of_tests) (old.now.trees recalls_tree))
 recalls_of_turn old new gtin rows ready h =
     let params = Text gtin ∷ [] in
-    let read = reads_as recalls_of_text params old new the_schema ready.schema_is _ recalls_of_is.0 recalls_of_plain recalls_of_is.1 rows h in
+    let read = reads_as recalls_of_text params old new (schema_with ready.has.rest) ready.has.is _ (recalls_of_is ready.has.rest).0 (recalls_of_plain ready.has.rest) (recalls_of_is ready.has.rest).1 rows h in
     in_order old.now.trees params recalls_tree recalls_of_tests shown rows ready.rows.1.1.1.1.0.0 (read.answer Null)
 
 -- the rows that were read

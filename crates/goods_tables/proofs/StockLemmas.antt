@@ -11,6 +11,7 @@ use Rattle.sqlite.specs.Command.TheVariants.{Delete, Insert, Update, Select}
 use Rattle.sqlite.specs.Source.TheVariants.{Values}
 use Rattle.sqlite.specs.Tree.{Trees, with_tree}
 use Rattle.sqlite.specs.Edit.{next_rowid}
+use Rattle.sqlite.specs.Schema.{Schema}
 use Rattle.sqlite.specs.Effect.{Database}
 use Rattle.sqlite_tied.specs.Compute.{everything}
 use Rattle.sqlite.specs.Listing.{understood, reads_listing}
@@ -31,7 +32,7 @@ use Rattle.commands.specs.declared.limits.TheConstants.{UNITS_MAX, ACTS_MAX, SHO
 use Rattle.commands.specs.declared.rows.StockRow.{StockRow}
 use Rattle.goods_tables.specs.declared.texts.TheConstants.{DROP_STOCK, CHANGE_STOCK, ADD_STOCK, STOCK_OF}
 use Rattle.table_words.specs.Cells.{typed, is_word, is_the_text, fits_in, is_any, is_number, is_the_number, number_in, is_signed, is_any_number, signed_in, flag_number, flag_in, bin_kind_in, order_state_in, card_kind_in}
-use Rattle.table_words.specs.Schema.{the_schema, stock_tree, stock_table}
+use Rattle.table_words.specs.Schema.{schema_with, stock_tree, stock_table}
 use Rattle.table_words.specs.Typed.{same_lot_id, is_stock, stock_in, has_stock, stock_read, StockKey, same_stock, stock_key, stock_cells, with_stock, without_stock, tables_in, Tables, AreTyped, stock_of_rows}
 use Rattle.table_words.specs.Steps.{IsReady, Goes}
 use Rattle.table_words.specs.Found.{AreRows}
@@ -40,7 +41,7 @@ use Rattle.table_words.proofs.ListLemmas.{over, IsRows-filter, IsRows-over, IsRo
 use Rattle.table_words.proofs.ScanLemmas.{passes, show, in_order, scanned}
 use Rattle.table_words.proofs.WriteLemmas.{deletes, inserts, inserts_at, updates, only_shown, cast_number, cast_null}
 use Rattle.table_words.proofs.CellLemmas.{and_true, and_assoc, same_word, same_count, same_the_number, equals_text, equals_number, same_number, itself_number, same_lots, itself_lot, id_is, typed-filter, both_typed, shown_typed, flag_back, bin_kind_back, order_state_back, card_kind_back}
-use Rattle.table_words.proofs.StepLemmas.{ready_after, goes}
+use Rattle.table_words.proofs.StepLemmas.{ready_after, sets_off_nothing, goes}
 use Rattle.table_words.proofs.KeyLemmas.{AtMostOne, one_by_key, one_by_rowid, few, none_had, IsSame, same_bytes, same_both, itself_bytes, itself_both, meets, found_without, found_put, found_over, are_rows}
 
 abbrev pub tests : List Term
@@ -63,7 +64,7 @@ one_key = same_both same_lot_id bytes_eq same_lots same_bytes
 -- no key comes twice
 one_row : (db : Database) → IsReady db → (params : Row) → AtMostOne (passes params tests) (db.trees stock_tree)
 one_row db ready params =
-    one_by_key the_schema db.trees (stock_table stock_tree) (1 ∷ 2 ∷ 3 ∷ []) _ (inr (inr (inr (inr (inl refl))))) refl refl refl
+    one_by_key (schema_with ready.has.rest) db.trees (stock_table stock_tree) (1 ∷ 2 ∷ 3 ∷ []) _ (ready.sound.lists.guarded.1.1.1.1.1.0 0 (1 ∷ 2 ∷ 3 ∷ []) refl).1 refl refl refl
     (ready.sound.obeys.rules Unique).1.1.1.1.1.0 ready.rows.1.1.1.1.1.0 params
 
 -- ---- DELETE
@@ -71,13 +72,13 @@ one_row db ready params =
 abbrev pub drop_text : List ℕ
 drop_text = DROP_STOCK.now
 
-drop_is : command_of (understood the_schema drop_text) ≡ Delete 5 (alone (scan stock_tree tests (col 1 0 ∷ []) []))
+drop_is : (rest : Schema) → command_of (understood (schema_with rest) drop_text) ≡ Delete 5 (alone (scan stock_tree tests (col 1 0 ∷ []) []))
 unfolding understood everything
-drop_is = refl
+drop_is rest = refl
 
-drop_plain : IsPlain (understood the_schema drop_text)
+drop_plain : (rest : Schema) → IsPlain (understood (schema_with rest) drop_text)
 unfolding understood everything
-drop_plain = (refl, refl)
+drop_plain rest = (refl, refl)
 
 pub drops : (old new : State) (lot : LotId) (bin : List ℕ) (count : ℕ) → IsReady old.now → IsTrue old.in_transaction → ExecutesInside 0 drop_text (key_cells lot bin) old new (Ok count) → Goes (without_stock lot bin) old new
 drops old new lot bin count ready inside h =
@@ -85,8 +86,8 @@ drops old new lot bin count ready inside h =
     let p = passes params tests in
     let rows = old.now.trees stock_tree in
     let left = filter (λ r. not (p r)) rows in
-    let w = runs_as drop_text params old new the_schema ready.schema_is _ drop_is drop_plain count h.0 in
-    let c = deletes the_schema 5 stock_tree _ _ _ _ _ _ refl (λ _ _. refl) old new tests _ params count ready.schema_is ready.rows.1.1.1.1.1.0 w in
+    let w = runs_as drop_text params old new (schema_with ready.has.rest) ready.has.is _ (drop_is ready.has.rest) (drop_plain ready.has.rest) count h.0 in
+    let c = deletes (schema_with ready.has.rest) 5 stock_tree _ _ _ _ _ _ refl (λ olds news. sets_off_nothing ready.has.rest stock_tree olds news ready.has.apart) old new tests _ params count ready.has.is ready.rows.1.1.1.1.1.0 w in
     goes old new stock_tree left _ ready (IsRows-filter _ rows ready.rows.1.1.1.1.1.0) c (h.1.mode ∙ sym inside)
     (λ i. let t : Tables = record (tables_in old.now.trees) {
       stock = λ at_lot at_bin. found_without is_stock stock_in p (λ s. same_stock (lot, bin) (stock_key s)) (λ s. same_stock (at_lot, at_bin) (stock_key s)) (same_stock (at_lot, at_bin) (lot, bin))
@@ -105,13 +106,13 @@ change_terms = col 0 0 ∷ col 0 1 ∷ col 0 2 ∷ col 0 3 ∷ []
 abbrev pub values : StockRow → Row
 values s = stock_cells s
 
-change_is : command_of (understood the_schema change_text) ≡ Update 5 (alone (scan stock_tree tests (col 1 0 ∷ col 1 0 ∷ change_terms) []))
+change_is : (rest : Schema) → command_of (understood (schema_with rest) change_text) ≡ Update 5 (alone (scan stock_tree tests (col 1 0 ∷ col 1 0 ∷ change_terms) []))
 unfolding understood everything
-change_is = refl
+change_is rest = refl
 
-change_plain : IsPlain (understood the_schema change_text)
+change_plain : (rest : Schema) → IsPlain (understood (schema_with rest) change_text)
 unfolding understood everything
-change_plain = (refl, refl)
+change_plain rest = (refl, refl)
 
 fits : (s : StockRow) → cast_all (stock_table stock_tree).columns (values s) ≡ values s
 fits s = rw (cast_number (pos s.qty)) refl
@@ -129,8 +130,8 @@ changes old new s count sound ready inside h =
     let rows = old.now.trees stock_tree in
     let kept = ready.rows.1.1.1.1.1.0 in
     let after = over p (values s) rows in
-    let w = runs_as change_text params old new the_schema ready.schema_is _ change_is change_plain count h.0 in
-    let u = updates the_schema 5 stock_tree _ _ _ _ _ _ refl (λ _ _. refl) old new tests change_terms _ params (values s) count ready.schema_is kept (λ r. refl) (fits s) (few p rows kept.0 (one_row old.now ready params)) w in
+    let w = runs_as change_text params old new (schema_with ready.has.rest) ready.has.is _ (change_is ready.has.rest) (change_plain ready.has.rest) count h.0 in
+    let u = updates (schema_with ready.has.rest) 5 stock_tree _ _ _ _ _ _ refl (λ olds news. sets_off_nothing ready.has.rest stock_tree olds news ready.has.apart) old new tests change_terms _ params (values s) count ready.has.is kept (λ r. refl) (fits s) (few p rows kept.0 (one_row old.now ready params)) w in
     let mode = h.1.mode ∙ sym inside in
     let typed_after : AreTyped old.now.trees → AreTyped (with_tree old.now.trees stock_tree after) = λ are. record { meta = are.meta; items = are.items; bins = are.bins; lots = are.lots; recalls = are.recalls; stock = all_over (λ r. is_stock r ≡ true) p (values s) rows (λ r h e. sound) are.stock; orders = are.orders; lines = are.lines; staged = are.staged; reserved = are.reserved; shipments = are.shipments; shiplines = are.shiplines; cards = are.cards; repeats = are.repeats } in (
       λ some. goes old new stock_tree after _ ready (IsRows-over p (values s) rows kept) u.0 mode
@@ -149,13 +150,13 @@ add_text = ADD_STOCK.now
 abbrev add_terms : List Term
 add_terms = lit Null ∷ col 0 0 ∷ col 0 1 ∷ col 0 2 ∷ col 0 3 ∷ []
 
-add_is : command_of (understood the_schema add_text) ≡ Insert 5 (Values add_terms 5)
+add_is : (rest : Schema) → command_of (understood (schema_with rest) add_text) ≡ Insert 5 (Values add_terms 5)
 unfolding understood everything
-add_is = refl
+add_is rest = refl
 
-add_plain : IsPlain (understood the_schema add_text)
+add_plain : (rest : Schema) → IsPlain (understood (schema_with rest) add_text)
 unfolding understood everything
-add_plain = (refl, refl)
+add_plain rest = (refl, refl)
 
 itself : (k : StockKey) → same_stock k k ≡ true
 itself k = itself_both _ _ (itself_lot k.0) (itself_bytes k.1)
@@ -169,8 +170,8 @@ adds old new s count sound ready inside h =
     let kept = ready.rows.1.1.1.1.1.0 in
     let row : Row = Int (next_rowid rows) ∷ values s in
     let after = put_row row rows in
-    let w = runs_as add_text params old new the_schema ready.schema_is _ add_is add_plain count h.0 in
-    let u = inserts the_schema 5 stock_tree _ _ _ _ _ _ refl (λ _ _. refl) old new add_terms 5 _ params (values s) count ready.schema_is refl (fits s) w in
+    let w = runs_as add_text params old new (schema_with ready.has.rest) ready.has.is _ (add_is ready.has.rest) (add_plain ready.has.rest) count h.0 in
+    let u = inserts (schema_with ready.has.rest) 5 stock_tree _ _ _ _ _ _ refl (λ olds news. sets_off_nothing ready.has.rest stock_tree olds news ready.has.apart) old new add_terms 5 _ params (values s) count ready.has.is refl (fits s) w in
     let good = IsRows-put_row row rows refl kept in
     let ready_now = ready_after old.now new.now stock_tree after ready good u.0 in
     let there : p row ≡ true = at_key params s.lot s.bin refl refl refl row sound ∙ itself (s.lot, s.bin) in
@@ -197,13 +198,13 @@ stock_of_text = STOCK_OF.now
 abbrev stock_of_tests : List Term
 stock_of_tests = same 1 0 ∷ []
 
-stock_of_is : (command_of (understood the_schema stock_of_text) ≡ Select (alone (scan stock_tree stock_of_tests shown by_rowid)) (codes "gtin" ∷ codes "lot" ∷ codes "bin" ∷ codes "qty" ∷ [])) × (reads_listing the_schema stock_of_text ≡ false)
+stock_of_is : (rest : Schema) → (command_of (understood (schema_with rest) stock_of_text) ≡ Select (alone (scan stock_tree stock_of_tests shown by_rowid)) (codes "gtin" ∷ codes "lot" ∷ codes "bin" ∷ codes "qty" ∷ [])) × (reads_listing (schema_with rest) stock_of_text ≡ false)
 unfolding understood everything
-stock_of_is = (refl, refl)
+stock_of_is rest = (refl, refl)
 
-pub stock_of_plain : IsPlain (understood the_schema stock_of_text)
+pub stock_of_plain : (rest : Schema) → IsPlain (understood (schema_with rest) stock_of_text)
 unfolding understood everything
-stock_of_plain = (refl, refl)
+stock_of_plain rest = (refl, refl)
 
 stock_of_at : (gtin : List ℕ) (r : Row) → is_stock r ≡ true → passes (Text gtin ∷ []) stock_of_tests r ≡ (let key = stock_key (stock_in r) in bytes_eq gtin key.0.gtin)
 stock_of_at gtin r h =
@@ -214,7 +215,7 @@ stock_of_turn : (old new : State) (gtin : List ℕ) (rows : List Row) → IsRead
     → rows ≡ map (show (Text gtin ∷ []) shown) (filter (passes (Text gtin ∷ []) stock_of_tests) (old.now.trees stock_tree))
 stock_of_turn old new gtin rows ready h =
     let params = Text gtin ∷ [] in
-    let read = reads_as stock_of_text params old new the_schema ready.schema_is _ stock_of_is.0 stock_of_plain stock_of_is.1 rows h in
+    let read = reads_as stock_of_text params old new (schema_with ready.has.rest) ready.has.is _ (stock_of_is ready.has.rest).0 (stock_of_plain ready.has.rest) (stock_of_is ready.has.rest).1 rows h in
     in_order old.now.trees params stock_tree stock_of_tests shown rows ready.rows.1.1.1.1.1.0.0 (read.answer Null)
 
 -- the rows that were read

@@ -3,6 +3,7 @@ use Rattle.std.proofs.Common.{◌≡◌, ◌<◌, ℕ, Bool, true, false, ◌&&�
 use Rattle.std.specs.Prelude.{nat_eq}
 use Rattle.std.specs.List.{AllByRecursion}
 use Rattle.std.proofs.lemmas.Bool.{and_parts}
+use Rattle.sqlite.specs.Schema.{Schema}
 use Rattle.sqlite.specs.declared.types.Value.TheVariants.{Null, Text}
 use Rattle.sqlite.specs.Order.{Row, column}
 use Rattle.sqlite.specs.Command.TheVariants.{Select}
@@ -20,7 +21,7 @@ use Rattle.values.specs.declared.lot.LotId.{LotId}
 use Rattle.commands.specs.declared.limits.TheConstants.{ACTS_MAX}
 use Rattle.commands.specs.declared.rows.CardRow.{CardRow}
 use Rattle.history_tables.specs.declared.texts.TheConstants.{CARDS_BY_ACT}
-use Rattle.table_words.specs.Schema.{the_schema, cards_tree}
+use Rattle.table_words.specs.Schema.{schema_with, cards_tree}
 use Rattle.table_words.specs.Typed.{same_lot_id, same_card, is_card, card_in, has_card, card_read, card_key, tables_in, AreTyped}
 use Rattle.table_words.specs.Cells.{is_number}
 use Rattle.table_words.specs.Steps.{IsReady}
@@ -40,13 +41,13 @@ use Rattle.history_tables.proofs.CardLemmas.{apart, shown, cards_of_lot_tests, c
 abbrev pub cards_by_act_text : List ℕ
 cards_by_act_text = CARDS_BY_ACT.now
 
-cards_by_act_is : (command_of (understood the_schema cards_by_act_text) ≡ Select (alone (scan cards_tree cards_of_lot_tests shown (by_column 3))) (codes "gtin" ∷ codes "lot" ∷ codes "act" ∷ codes "day" ∷ codes "kind" ∷ codes "note" ∷ codes "qty" ∷ codes "rest" ∷ [])) × (reads_listing the_schema cards_by_act_text ≡ false)
+cards_by_act_is : (rest : Schema) → (command_of (understood (schema_with rest) cards_by_act_text) ≡ Select (alone (scan cards_tree cards_of_lot_tests shown (by_column 3))) (codes "gtin" ∷ codes "lot" ∷ codes "act" ∷ codes "day" ∷ codes "kind" ∷ codes "note" ∷ codes "qty" ∷ codes "rest" ∷ [])) × (reads_listing (schema_with rest) cards_by_act_text ≡ false)
 unfolding understood everything
-cards_by_act_is = (refl, refl)
+cards_by_act_is rest = (refl, refl)
 
-pub cards_by_act_plain : IsPlain (understood the_schema cards_by_act_text)
+pub cards_by_act_plain : (rest : Schema) → IsPlain (understood (schema_with rest) cards_by_act_text)
 unfolding understood everything
-cards_by_act_plain = (refl, refl)
+cards_by_act_plain rest = (refl, refl)
 
 -- the number of the act is in range
 act_number : (r : Row) → is_card r ≡ true → is_number ACTS_MAX (column r 3) ≡ true
@@ -72,7 +73,7 @@ module _ (lot : LotId) where
   listed : (old : State) → IsReady old.now → AreTyped old.now.trees → (new : State) (rows : List Row) → Shown cards_by_act_text params old new rows
       → AreCardLines (tables_in old.now.trees) lot (map card_read rows) × AllByRecursion (λ v. has_card v ≡ true) rows
   listed old ready are new rows h =
-      let read = reads_as cards_by_act_text params old new the_schema ready.schema_is _ cards_by_act_is.0 cards_by_act_plain cards_by_act_is.1 rows h in
+      let read = reads_as cards_by_act_text params old new (schema_with ready.has.rest) ready.has.is _ (cards_by_act_is ready.has.rest).0 (cards_by_act_plain ready.has.rest) (cards_by_act_is ready.has.rest).1 rows h in
       let a = read.answer Null in
       let up = ready.rows.1.1.1.1.1.1.1.1.1.1.1.1.0.0 in
       let apart_rows = distinct old.now ready are in
@@ -93,4 +94,4 @@ module _ (lot : LotId) where
   cards_over takes stops old new before after result ready are h rows lines =
       over has_card card_read takes stops cards_by_act_text params old (AreCardLines (tables_in old.now.trees) lot)
       (one_order nat_eq same_number itself_number (λ n m. n < m) (λ k low. omega arith) (λ i j k p q. omega arith) (λ (c : CardRow). c.act) ((tables_in old.now.trees).card lot))
-      (listed old ready are) (rest_shown cards_by_act_text params old the_schema _ ready.schema_is cards_by_act_is.0 (λ db given. tt)) new before after result h rows lines
+      (listed old ready are) (rest_shown cards_by_act_text params old (schema_with ready.has.rest) _ ready.has.is (cards_by_act_is ready.has.rest).0 (λ db given. tt)) new before after result h rows lines

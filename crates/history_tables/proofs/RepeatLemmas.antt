@@ -11,6 +11,7 @@ use Rattle.sqlite.specs.Command.TheVariants.{Delete, Insert, Update, Select}
 use Rattle.sqlite.specs.Source.TheVariants.{Values}
 use Rattle.sqlite.specs.Tree.{Trees, with_tree}
 use Rattle.sqlite.specs.Edit.{next_rowid}
+use Rattle.sqlite.specs.Schema.{Schema}
 use Rattle.sqlite.specs.Effect.{Database}
 use Rattle.sqlite_tied.specs.Compute.{everything}
 use Rattle.sqlite.specs.Listing.{understood, reads_listing}
@@ -31,7 +32,7 @@ use Rattle.commands.specs.declared.limits.TheConstants.{UNITS_MAX, ACTS_MAX, SHO
 use Rattle.commands.specs.declared.rows.RepeatRow.{RepeatRow}
 use Rattle.history_tables.specs.declared.texts.TheConstants.{CHANGE_REPEAT, ADD_REPEAT, REPEATS_OF}
 use Rattle.table_words.specs.Cells.{typed, is_word, is_the_text, fits_in, is_any, is_number, is_the_number, number_in, is_signed, is_any_number, signed_in, flag_number, flag_in, bin_kind_in, order_state_in, card_kind_in}
-use Rattle.table_words.specs.Schema.{the_schema, repeats_tree, repeats_table}
+use Rattle.table_words.specs.Schema.{schema_with, repeats_tree, repeats_table}
 use Rattle.table_words.specs.Typed.{same_lot_id, is_repeat, repeat_in, has_repeat, repeat_read, RepeatKey, same_repeat, repeat_key, repeat_cells, with_repeat, tables_in, Tables, AreTyped, repeats_of_rows}
 use Rattle.table_words.specs.Steps.{IsReady, Goes}
 use Rattle.table_words.specs.Found.{AreRows}
@@ -40,7 +41,7 @@ use Rattle.table_words.proofs.ListLemmas.{over, IsRows-filter, IsRows-over, IsRo
 use Rattle.table_words.proofs.ScanLemmas.{passes, show, in_order, scanned}
 use Rattle.table_words.proofs.WriteLemmas.{deletes, inserts, inserts_at, updates, only_shown, cast_number, cast_null}
 use Rattle.table_words.proofs.CellLemmas.{and_true, and_assoc, same_word, same_count, same_the_number, equals_text, equals_number, same_number, itself_number, same_lots, itself_lot, id_is, typed-filter, both_typed, shown_typed, flag_back, bin_kind_back, order_state_back, card_kind_back}
-use Rattle.table_words.proofs.StepLemmas.{ready_after, goes}
+use Rattle.table_words.proofs.StepLemmas.{ready_after, sets_off_nothing, goes}
 use Rattle.table_words.proofs.KeyLemmas.{AtMostOne, one_by_key, one_by_rowid, few, none_had, IsSame, same_bytes, same_both, itself_bytes, itself_both, meets, found_without, found_put, found_over, are_rows}
 
 abbrev pub tests : List Term
@@ -61,7 +62,7 @@ one_key = same_bytes
 -- no key comes twice
 one_row : (db : Database) → IsReady db → (params : Row) → AtMostOne (passes params tests) (db.trees repeats_tree)
 one_row db ready params =
-    one_by_key the_schema db.trees (repeats_table repeats_tree) (1 ∷ []) _ (inr (inr (inr (inr (inr (inr (inr (inr (inr (inr (inr (inl refl)))))))))))) refl refl refl
+    one_by_key (schema_with ready.has.rest) db.trees (repeats_table repeats_tree) (1 ∷ []) _ (ready.sound.lists.guarded.1.1.1.1.1.1.1.1.1.1.1.1.1.0 0 (1 ∷ []) refl).1 refl refl refl
     (ready.sound.obeys.rules Unique).1.1.1.1.1.1.1.1.1.1.1.1.1.0 ready.rows.1.1.1.1.1.1.1.1.1.1.1.1.1.0 params
 
 -- ---- UPDATE
@@ -75,13 +76,13 @@ change_terms = col 0 0 ∷ col 0 1 ∷ col 0 2 ∷ col 0 3 ∷ []
 abbrev pub values : RepeatRow → Row
 values s = repeat_cells s
 
-change_is : command_of (understood the_schema change_text) ≡ Update 13 (alone (scan repeats_tree tests (col 1 0 ∷ col 1 0 ∷ change_terms) []))
+change_is : (rest : Schema) → command_of (understood (schema_with rest) change_text) ≡ Update 13 (alone (scan repeats_tree tests (col 1 0 ∷ col 1 0 ∷ change_terms) []))
 unfolding understood everything
-change_is = refl
+change_is rest = refl
 
-change_plain : IsPlain (understood the_schema change_text)
+change_plain : (rest : Schema) → IsPlain (understood (schema_with rest) change_text)
 unfolding understood everything
-change_plain = (refl, refl)
+change_plain rest = (refl, refl)
 
 fits : (s : RepeatRow) → cast_all (repeats_table repeats_tree).columns (values s) ≡ values s
 fits s = rw (cast_number (pos s.act)) refl
@@ -99,8 +100,8 @@ changes old new s count sound ready inside h =
     let rows = old.now.trees repeats_tree in
     let kept = ready.rows.1.1.1.1.1.1.1.1.1.1.1.1.1.0 in
     let after = over p (values s) rows in
-    let w = runs_as change_text params old new the_schema ready.schema_is _ change_is change_plain count h.0 in
-    let u = updates the_schema 13 repeats_tree _ _ _ _ _ _ refl (λ _ _. refl) old new tests change_terms _ params (values s) count ready.schema_is kept (λ r. refl) (fits s) (few p rows kept.0 (one_row old.now ready params)) w in
+    let w = runs_as change_text params old new (schema_with ready.has.rest) ready.has.is _ (change_is ready.has.rest) (change_plain ready.has.rest) count h.0 in
+    let u = updates (schema_with ready.has.rest) 13 repeats_tree _ _ _ _ _ _ refl (λ olds news. sets_off_nothing ready.has.rest repeats_tree olds news ready.has.apart) old new tests change_terms _ params (values s) count ready.has.is kept (λ r. refl) (fits s) (few p rows kept.0 (one_row old.now ready params)) w in
     let mode = h.1.mode ∙ sym inside in
     let typed_after : AreTyped old.now.trees → AreTyped (with_tree old.now.trees repeats_tree after) = λ are. record { meta = are.meta; items = are.items; bins = are.bins; lots = are.lots; recalls = are.recalls; stock = are.stock; orders = are.orders; lines = are.lines; staged = are.staged; reserved = are.reserved; shipments = are.shipments; shiplines = are.shiplines; cards = are.cards; repeats = all_over (λ r. is_repeat r ≡ true) p (values s) rows (λ r h e. sound) are.repeats } in (
       λ some. goes old new repeats_tree after _ ready (IsRows-over p (values s) rows kept) u.0 mode
@@ -119,13 +120,13 @@ add_text = ADD_REPEAT.now
 abbrev add_terms : List Term
 add_terms = lit Null ∷ col 0 0 ∷ col 0 1 ∷ col 0 2 ∷ col 0 3 ∷ []
 
-add_is : command_of (understood the_schema add_text) ≡ Insert 13 (Values add_terms 5)
+add_is : (rest : Schema) → command_of (understood (schema_with rest) add_text) ≡ Insert 13 (Values add_terms 5)
 unfolding understood everything
-add_is = refl
+add_is rest = refl
 
-add_plain : IsPlain (understood the_schema add_text)
+add_plain : (rest : Schema) → IsPlain (understood (schema_with rest) add_text)
 unfolding understood everything
-add_plain = (refl, refl)
+add_plain rest = (refl, refl)
 
 itself : (k : RepeatKey) → same_repeat k k ≡ true
 itself k = itself_bytes k
@@ -139,8 +140,8 @@ adds old new s count sound ready inside h =
     let kept = ready.rows.1.1.1.1.1.1.1.1.1.1.1.1.1.0 in
     let row : Row = Int (next_rowid rows) ∷ values s in
     let after = put_row row rows in
-    let w = runs_as add_text params old new the_schema ready.schema_is _ add_is add_plain count h.0 in
-    let u = inserts the_schema 13 repeats_tree _ _ _ _ _ _ refl (λ _ _. refl) old new add_terms 5 _ params (values s) count ready.schema_is refl (fits s) w in
+    let w = runs_as add_text params old new (schema_with ready.has.rest) ready.has.is _ (add_is ready.has.rest) (add_plain ready.has.rest) count h.0 in
+    let u = inserts (schema_with ready.has.rest) 13 repeats_tree _ _ _ _ _ _ refl (λ olds news. sets_off_nothing ready.has.rest repeats_tree olds news ready.has.apart) old new add_terms 5 _ params (values s) count ready.has.is refl (fits s) w in
     let good = IsRows-put_row row rows refl kept in
     let ready_now = ready_after old.now new.now repeats_tree after ready good u.0 in
     let there : p row ≡ true = at_key params s.k refl row sound ∙ itself s.k in
@@ -167,13 +168,13 @@ repeats_of_text = REPEATS_OF.now
 abbrev repeats_of_tests : List Term
 repeats_of_tests = same 1 0 ∷ []
 
-repeats_of_is : (command_of (understood the_schema repeats_of_text) ≡ Select (alone (scan repeats_tree repeats_of_tests shown by_rowid)) (codes "k" ∷ codes "act" ∷ codes "spell" ∷ codes "reply" ∷ [])) × (reads_listing the_schema repeats_of_text ≡ false)
+repeats_of_is : (rest : Schema) → (command_of (understood (schema_with rest) repeats_of_text) ≡ Select (alone (scan repeats_tree repeats_of_tests shown by_rowid)) (codes "k" ∷ codes "act" ∷ codes "spell" ∷ codes "reply" ∷ [])) × (reads_listing (schema_with rest) repeats_of_text ≡ false)
 unfolding understood everything
-repeats_of_is = (refl, refl)
+repeats_of_is rest = (refl, refl)
 
-pub repeats_of_plain : IsPlain (understood the_schema repeats_of_text)
+pub repeats_of_plain : (rest : Schema) → IsPlain (understood (schema_with rest) repeats_of_text)
 unfolding understood everything
-repeats_of_plain = (refl, refl)
+repeats_of_plain rest = (refl, refl)
 
 repeats_of_at : (k : List ℕ) (r : Row) → is_repeat r ≡ true → passes (Text k ∷ []) repeats_of_tests r ≡ (let key = repeat_key (repeat_in r) in bytes_eq k key)
 repeats_of_at k r h =
@@ -184,7 +185,7 @@ repeats_of_turn : (old new : State) (k : List ℕ) (rows : List Row) → IsReady
     → rows ≡ map (show (Text k ∷ []) shown) (filter (passes (Text k ∷ []) repeats_of_tests) (old.now.trees repeats_tree))
 repeats_of_turn old new k rows ready h =
     let params = Text k ∷ [] in
-    let read = reads_as repeats_of_text params old new the_schema ready.schema_is _ repeats_of_is.0 repeats_of_plain repeats_of_is.1 rows h in
+    let read = reads_as repeats_of_text params old new (schema_with ready.has.rest) ready.has.is _ (repeats_of_is ready.has.rest).0 (repeats_of_plain ready.has.rest) (repeats_of_is ready.has.rest).1 rows h in
     in_order old.now.trees params repeats_tree repeats_of_tests shown rows ready.rows.1.1.1.1.1.1.1.1.1.1.1.1.1.0.0 (read.answer Null)
 
 -- the rows that were read

@@ -11,6 +11,7 @@ use Rattle.sqlite.specs.Command.TheVariants.{Insert, Update, Select}
 use Rattle.sqlite.specs.Source.TheVariants.{Values}
 use Rattle.sqlite.specs.Tree.{with_tree}
 use Rattle.sqlite.specs.Edit.{next_rowid}
+use Rattle.sqlite.specs.Schema.{Schema}
 use Rattle.sqlite.specs.Effect.{Database}
 use Rattle.sqlite_tied.specs.Compute.{everything}
 use Rattle.sqlite.specs.Listing.{understood, reads_listing}
@@ -27,7 +28,7 @@ use Rattle.commands.specs.declared.limits.TheConstants.{ACTS_MAX}
 use Rattle.commands.specs.declared.rows.ShiplineRow.{ShiplineRow}
 use Rattle.history_tables.specs.declared.texts.TheConstants.{CHANGE_SHIPLINE, ADD_SHIPLINE, SHIPLINES_OF_LOT}
 use Rattle.table_words.specs.Cells.{typed, is_the_text}
-use Rattle.table_words.specs.Schema.{the_schema, shiplines_tree, shiplines_table}
+use Rattle.table_words.specs.Schema.{schema_with, shiplines_tree, shiplines_table}
 use Rattle.table_words.specs.Typed.{same_lot_id, is_shipline, shipline_in, has_shipline, shipline_read, ShiplineKey, same_shipline, shipline_key, shipline_cells, with_shipline, tables_in, Tables, AreTyped, shiplines_of_lot_rows}
 use Rattle.table_words.specs.Steps.{IsReady, Goes}
 use Rattle.table_words.specs.Found.{AreRows}
@@ -36,7 +37,7 @@ use Rattle.table_words.proofs.ListLemmas.{over, IsRows-over, IsRows-put_row, all
 use Rattle.table_words.proofs.ScanLemmas.{passes, show, in_order}
 use Rattle.table_words.proofs.WriteLemmas.{inserts, updates, cast_number}
 use Rattle.table_words.proofs.CellLemmas.{and_true, same_word, same_count, equals_text, same_number, itself_number, same_lots, itself_lot, typed-filter, both_typed, shown_typed}
-use Rattle.table_words.proofs.StepLemmas.{ready_after, goes}
+use Rattle.table_words.proofs.StepLemmas.{ready_after, sets_off_nothing, goes}
 use Rattle.table_words.proofs.KeyLemmas.{AtMostOne, one_by_key, few, none_had, IsSame, same_both, itself_both, meets, found_put, found_over, are_rows}
 
 abbrev pub tests : List Term
@@ -59,7 +60,7 @@ one_key = same_both nat_eq same_lot_id same_number same_lots
 -- no key comes twice
 one_row : (db : Database) → IsReady db → (params : Row) → AtMostOne (passes params tests) (db.trees shiplines_tree)
 one_row db ready params =
-    one_by_key the_schema db.trees (shiplines_table shiplines_tree) (1 ∷ 2 ∷ 3 ∷ []) _ (inr (inr (inr (inr (inr (inr (inr (inr (inr (inl refl)))))))))) refl refl refl
+    one_by_key (schema_with ready.has.rest) db.trees (shiplines_table shiplines_tree) (1 ∷ 2 ∷ 3 ∷ []) _ (ready.sound.lists.guarded.1.1.1.1.1.1.1.1.1.1.1.0 0 (1 ∷ 2 ∷ 3 ∷ []) refl).1 refl refl refl
     (ready.sound.obeys.rules Unique).1.1.1.1.1.1.1.1.1.1.1.0 ready.rows.1.1.1.1.1.1.1.1.1.1.1.0 params
 
 -- ---- UPDATE
@@ -73,13 +74,13 @@ change_terms = col 0 0 ∷ col 0 1 ∷ col 0 2 ∷ col 0 3 ∷ []
 abbrev pub values : ShiplineRow → Row
 values s = shipline_cells s
 
-change_is : command_of (understood the_schema change_text) ≡ Update 11 (alone (scan shiplines_tree tests (col 1 0 ∷ col 1 0 ∷ change_terms) []))
+change_is : (rest : Schema) → command_of (understood (schema_with rest) change_text) ≡ Update 11 (alone (scan shiplines_tree tests (col 1 0 ∷ col 1 0 ∷ change_terms) []))
 unfolding understood everything
-change_is = refl
+change_is rest = refl
 
-change_plain : IsPlain (understood the_schema change_text)
+change_plain : (rest : Schema) → IsPlain (understood (schema_with rest) change_text)
 unfolding understood everything
-change_plain = (refl, refl)
+change_plain rest = (refl, refl)
 
 fits : (s : ShiplineRow) → cast_all (shiplines_table shiplines_tree).columns (values s) ≡ values s
 fits s = rw (cast_number (pos s.number), cast_number (pos s.qty)) refl
@@ -97,8 +98,8 @@ changes old new s count sound ready inside h =
     let rows = old.now.trees shiplines_tree in
     let kept = ready.rows.1.1.1.1.1.1.1.1.1.1.1.0 in
     let after = over p (values s) rows in
-    let w = runs_as change_text params old new the_schema ready.schema_is _ change_is change_plain count h.0 in
-    let u = updates the_schema 11 shiplines_tree _ _ _ _ _ _ refl (λ _ _. refl) old new tests change_terms _ params (values s) count ready.schema_is kept (λ r. refl) (fits s) (few p rows kept.0 (one_row old.now ready params)) w in
+    let w = runs_as change_text params old new (schema_with ready.has.rest) ready.has.is _ (change_is ready.has.rest) (change_plain ready.has.rest) count h.0 in
+    let u = updates (schema_with ready.has.rest) 11 shiplines_tree _ _ _ _ _ _ refl (λ olds news. sets_off_nothing ready.has.rest shiplines_tree olds news ready.has.apart) old new tests change_terms _ params (values s) count ready.has.is kept (λ r. refl) (fits s) (few p rows kept.0 (one_row old.now ready params)) w in
     let mode = h.1.mode ∙ sym inside in
     let typed_after : AreTyped old.now.trees → AreTyped (with_tree old.now.trees shiplines_tree after) = λ are. record { meta = are.meta; items = are.items; bins = are.bins; lots = are.lots; recalls = are.recalls; stock = are.stock; orders = are.orders; lines = are.lines; staged = are.staged; reserved = are.reserved; shipments = are.shipments; shiplines = all_over (λ r. is_shipline r ≡ true) p (values s) rows (λ r h e. sound) are.shiplines; cards = are.cards; repeats = are.repeats } in (
       λ some. goes old new shiplines_tree after _ ready (IsRows-over p (values s) rows kept) u.0 mode
@@ -117,13 +118,13 @@ add_text = ADD_SHIPLINE.now
 abbrev add_terms : List Term
 add_terms = lit Null ∷ col 0 0 ∷ col 0 1 ∷ col 0 2 ∷ col 0 3 ∷ []
 
-add_is : command_of (understood the_schema add_text) ≡ Insert 11 (Values add_terms 5)
+add_is : (rest : Schema) → command_of (understood (schema_with rest) add_text) ≡ Insert 11 (Values add_terms 5)
 unfolding understood everything
-add_is = refl
+add_is rest = refl
 
-add_plain : IsPlain (understood the_schema add_text)
+add_plain : (rest : Schema) → IsPlain (understood (schema_with rest) add_text)
 unfolding understood everything
-add_plain = (refl, refl)
+add_plain rest = (refl, refl)
 
 itself : (k : ShiplineKey) → same_shipline k k ≡ true
 itself k = itself_both _ _ (itself_number k.0) (itself_lot k.1)
@@ -137,8 +138,8 @@ adds old new s count sound ready inside h =
     let kept = ready.rows.1.1.1.1.1.1.1.1.1.1.1.0 in
     let row : Row = Int (next_rowid rows) ∷ values s in
     let after = put_row row rows in
-    let w = runs_as add_text params old new the_schema ready.schema_is _ add_is add_plain count h.0 in
-    let u = inserts the_schema 11 shiplines_tree _ _ _ _ _ _ refl (λ _ _. refl) old new add_terms 5 _ params (values s) count ready.schema_is refl (fits s) w in
+    let w = runs_as add_text params old new (schema_with ready.has.rest) ready.has.is _ (add_is ready.has.rest) (add_plain ready.has.rest) count h.0 in
+    let u = inserts (schema_with ready.has.rest) 11 shiplines_tree _ _ _ _ _ _ refl (λ olds news. sets_off_nothing ready.has.rest shiplines_tree olds news ready.has.apart) old new add_terms 5 _ params (values s) count ready.has.is refl (fits s) w in
     let good = IsRows-put_row row rows refl kept in
     let ready_now = ready_after old.now new.now shiplines_tree after ready good u.0 in
     let there : p row ≡ true = at_key params s.number s.lot refl refl refl row sound ∙ itself (s.number, s.lot) in
@@ -165,13 +166,13 @@ shiplines_of_lot_text = SHIPLINES_OF_LOT.now
 abbrev shiplines_of_lot_tests : List Term
 shiplines_of_lot_tests = same 2 0 ∷ same 3 1 ∷ []
 
-shiplines_of_lot_is : (command_of (understood the_schema shiplines_of_lot_text) ≡ Select (alone (scan shiplines_tree shiplines_of_lot_tests shown by_rowid)) (codes "number" ∷ codes "gtin" ∷ codes "lot" ∷ codes "qty" ∷ [])) × (reads_listing the_schema shiplines_of_lot_text ≡ false)
+shiplines_of_lot_is : (rest : Schema) → (command_of (understood (schema_with rest) shiplines_of_lot_text) ≡ Select (alone (scan shiplines_tree shiplines_of_lot_tests shown by_rowid)) (codes "number" ∷ codes "gtin" ∷ codes "lot" ∷ codes "qty" ∷ [])) × (reads_listing (schema_with rest) shiplines_of_lot_text ≡ false)
 unfolding understood everything
-shiplines_of_lot_is = (refl, refl)
+shiplines_of_lot_is rest = (refl, refl)
 
-pub shiplines_of_lot_plain : IsPlain (understood the_schema shiplines_of_lot_text)
+pub shiplines_of_lot_plain : (rest : Schema) → IsPlain (understood (schema_with rest) shiplines_of_lot_text)
 unfolding understood everything
-shiplines_of_lot_plain = (refl, refl)
+shiplines_of_lot_plain rest = (refl, refl)
 
 shiplines_of_lot_at : (lot : LotId) (r : Row) → is_shipline r ≡ true → passes (Text lot.gtin ∷ Text lot.lot ∷ []) shiplines_of_lot_tests r ≡ (let key = shipline_key (shipline_in r) in same_lot_id lot key.1)
 shiplines_of_lot_at lot r h =
@@ -184,7 +185,7 @@ shiplines_of_lot_turn : (old new : State) (lot : LotId) (rows : List Row) → Is
     → rows ≡ map (show (Text lot.gtin ∷ Text lot.lot ∷ []) shown) (filter (passes (Text lot.gtin ∷ Text lot.lot ∷ []) shiplines_of_lot_tests) (old.now.trees shiplines_tree))
 shiplines_of_lot_turn old new lot rows ready h =
     let params = Text lot.gtin ∷ Text lot.lot ∷ [] in
-    let read = reads_as shiplines_of_lot_text params old new the_schema ready.schema_is _ shiplines_of_lot_is.0 shiplines_of_lot_plain shiplines_of_lot_is.1 rows h in
+    let read = reads_as shiplines_of_lot_text params old new (schema_with ready.has.rest) ready.has.is _ (shiplines_of_lot_is ready.has.rest).0 (shiplines_of_lot_plain ready.has.rest) (shiplines_of_lot_is ready.has.rest).1 rows h in
     in_order old.now.trees params shiplines_tree shiplines_of_lot_tests shown rows ready.rows.1.1.1.1.1.1.1.1.1.1.1.0.0 (read.answer Null)
 
 -- the rows that were read

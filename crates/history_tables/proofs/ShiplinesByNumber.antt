@@ -5,6 +5,7 @@ use Rattle.std.specs.List.{AllByRecursion}
 use Rattle.std.proofs.lemmas.Bool.{cases_Bool, and_parts}
 use Rattle.std.proofs.lemmas.Bool.Decides.{nat_tests}
 use Rattle.std.proofs.lemmas.Int.{ints}
+use Rattle.sqlite.specs.Schema.{Schema}
 use Rattle.sqlite.specs.declared.types.Value.{Value}
 use Rattle.sqlite.specs.declared.types.Value.TheVariants.{Null, Int, Text}
 use Rattle.sqlite.specs.Order.{Row, column, bytes}
@@ -33,7 +34,7 @@ use Rattle.commands.specs.Sinks.{Reaches, StopsWithin}
 use Rattle.history_tables.specs.declared.texts.TheConstants.{SHIPLINES_AFTER}
 use Rattle.history_tables.specs.declared.shipline_after.First.{First}
 use Rattle.table_words.specs.Cells.{typed, is_number, number_in}
-use Rattle.table_words.specs.Schema.{the_schema, shiplines_tree}
+use Rattle.table_words.specs.Schema.{schema_with, shiplines_tree}
 use Rattle.table_words.specs.Typed.{same_lot_id, same_shipline, shipline_key, is_shipline, shipline_in, has_shipline, shipline_read, tables_in, AreTyped}
 use Rattle.table_words.specs.Steps.{IsReady}
 use Rattle.table_words.specs.declared.error.TableFault.{TableFault}
@@ -64,13 +65,13 @@ above place parameter = op2 (Compare Gt Binary) (col 1 place) (col 0 parameter)
 abbrev tests : List Term
 tests = same 2 0 ∷ same 3 1 ∷ above 1 2 ∷ []
 
-after_is : (command_of (understood the_schema after_text) ≡ Select (alone (scan shiplines_tree tests shown (by_column 1))) (codes "number" ∷ codes "gtin" ∷ codes "lot" ∷ codes "qty" ∷ [])) × (reads_listing the_schema after_text ≡ false)
+after_is : (rest : Schema) → (command_of (understood (schema_with rest) after_text) ≡ Select (alone (scan shiplines_tree tests shown (by_column 1))) (codes "number" ∷ codes "gtin" ∷ codes "lot" ∷ codes "qty" ∷ [])) × (reads_listing (schema_with rest) after_text ≡ false)
 unfolding understood everything
-after_is = (refl, refl)
+after_is rest = (refl, refl)
 
-pub after_plain : IsPlain (understood the_schema after_text)
+pub after_plain : (rest : Schema) → IsPlain (understood (schema_with rest) after_text)
 unfolding understood everything
-after_plain = (refl, refl)
+after_plain rest = (refl, refl)
 
 -- ---- the tests
 
@@ -152,7 +153,7 @@ module _ (lot : LotId) (n : ℕ) where
   listed : (old : State) → IsReady old.now → AreTyped old.now.trees → (new : State) (rows : List Row) → Shown after_text params old new rows
       → AreByNumber (tables_in old.now.trees) lot n (map shipline_read rows) × AllByRecursion (λ v. has_shipline v ≡ true) rows
   listed old ready are new rows h =
-      let read = reads_as after_text params old new the_schema ready.schema_is _ after_is.0 after_plain after_is.1 rows h in
+      let read = reads_as after_text params old new (schema_with ready.has.rest) ready.has.is _ (after_is ready.has.rest).0 (after_plain ready.has.rest) (after_is ready.has.rest).1 rows h in
       let a = read.answer Null in
       let up = ready.rows.1.1.1.1.1.1.1.1.1.1.1.0.0 in
       let apart_rows = distinct old.now ready are in
@@ -198,7 +199,7 @@ module _ (lot : LotId) (n : ℕ) where
     handed result h =
         over has_shipline shipline_read takes stops after_text params old (AreByNumber (tables_in old.now.trees) lot n)
         (one_order nat_eq same_number itself_number (λ i j. i < j) (λ k low. omega arith) (λ i j k p q. omega arith) (λ (s : ShiplineRow). s.number) (λ k. if nat_lt n k then (tables_in old.now.trees).shipline k lot else None))
-        (listed old ready are) (rest_shown after_text params old the_schema _ ready.schema_is after_is.0 (λ db given. tt)) new before after result h rows all
+        (listed old ready are) (rest_shown after_text params old (schema_with ready.has.rest) _ ready.has.is (after_is ready.has.rest).0 (λ db given. tt)) new before after result h rows all
 
     pub all_first : Hands has_shipline shipline_read takes stops after_text params old new before after (Ok tt) → after.row ≡ slice_get rows 0
     all_first h = reached_first before after rows none (handed (Ok tt) h)

@@ -10,6 +10,7 @@ use Rattle.sqlite.specs.Term.{Term, lit, col}
 use Rattle.sqlite.specs.Command.TheVariants.{Insert, Update, Select}
 use Rattle.sqlite.specs.Source.TheVariants.{Values}
 use Rattle.sqlite.specs.Tree.{with_tree}
+use Rattle.sqlite.specs.Schema.{Schema}
 use Rattle.sqlite.specs.Effect.{Database}
 use Rattle.sqlite_tied.specs.Compute.{everything}
 use Rattle.sqlite.specs.Listing.{understood, reads_listing}
@@ -27,7 +28,7 @@ use Rattle.commands.specs.declared.limits.TheConstants.{ACTS_MAX}
 use Rattle.commands.specs.declared.rows.ShipmentRow.{ShipmentRow}
 use Rattle.history_tables.specs.declared.texts.TheConstants.{CHANGE_SHIPMENT, ADD_SHIPMENT, SHIPMENTS_OF}
 use Rattle.table_words.specs.Cells.{typed, is_word, is_number, is_the_number, is_signed}
-use Rattle.table_words.specs.Schema.{the_schema, shipments_tree, shipments_table}
+use Rattle.table_words.specs.Schema.{schema_with, shipments_tree, shipments_table}
 use Rattle.table_words.specs.Typed.{is_shipment, shipment_in, has_shipment, shipment_read, ShipmentKey, same_shipment, shipment_key, shipment_cells, with_shipment, tables_in, Tables, AreTyped, shipments_of_rows}
 use Rattle.table_words.specs.Steps.{IsReady, Goes}
 use Rattle.table_words.specs.Found.{AreRows}
@@ -36,7 +37,7 @@ use Rattle.table_words.proofs.ListLemmas.{over, IsRows-over, IsRows-put_row, all
 use Rattle.table_words.proofs.ScanLemmas.{passes, show, scanned}
 use Rattle.table_words.proofs.WriteLemmas.{inserts_at, updates, only_shown, cast_number, cast_null}
 use Rattle.table_words.proofs.CellLemmas.{and_true, same_count, equals_number, same_number, itself_number, id_is, typed-filter, both_typed, shown_typed}
-use Rattle.table_words.proofs.StepLemmas.{ready_after, goes}
+use Rattle.table_words.proofs.StepLemmas.{ready_after, sets_off_nothing, goes}
 use Rattle.table_words.proofs.KeyLemmas.{AtMostOne, one_by_rowid, few, none_had, IsSame, itself_both, meets, found_put, found_over, are_rows}
 
 abbrev pub tests : List Term
@@ -69,13 +70,13 @@ change_terms = lit Null ∷ col 0 1 ∷ col 0 2 ∷ col 0 3 ∷ []
 abbrev pub values : ShipmentRow → Row
 values s = Null ∷ Int (pos s.act) ∷ Int s.day ∷ Text s.order ∷ []
 
-change_is : command_of (understood the_schema change_text) ≡ Update 10 (alone (scan shipments_tree tests (col 1 0 ∷ col 1 0 ∷ change_terms) []))
+change_is : (rest : Schema) → command_of (understood (schema_with rest) change_text) ≡ Update 10 (alone (scan shipments_tree tests (col 1 0 ∷ col 1 0 ∷ change_terms) []))
 unfolding understood everything
-change_is = refl
+change_is rest = refl
 
-change_plain : IsPlain (understood the_schema change_text)
+change_plain : (rest : Schema) → IsPlain (understood (schema_with rest) change_text)
 unfolding understood everything
-change_plain = (refl, refl)
+change_plain rest = (refl, refl)
 
 fits : (s : ShipmentRow) → cast_all (shipments_table shipments_tree).columns (values s) ≡ values s
 fits s = rw (cast_number (pos s.act), cast_number s.day, cast_null) refl
@@ -93,8 +94,8 @@ changes old new s count sound ready inside h =
     let rows = old.now.trees shipments_tree in
     let kept = ready.rows.1.1.1.1.1.1.1.1.1.1.0 in
     let after = over p (values s) rows in
-    let w = runs_as change_text params old new the_schema ready.schema_is _ change_is change_plain count h.0 in
-    let u = updates the_schema 10 shipments_tree _ _ _ _ _ _ refl (λ _ _. refl) old new tests change_terms _ params (values s) count ready.schema_is kept (λ r. refl) (fits s) (few p rows kept.0 (one_row old.now ready params)) w in
+    let w = runs_as change_text params old new (schema_with ready.has.rest) ready.has.is _ (change_is ready.has.rest) (change_plain ready.has.rest) count h.0 in
+    let u = updates (schema_with ready.has.rest) 10 shipments_tree _ _ _ _ _ _ refl (λ olds news. sets_off_nothing ready.has.rest shipments_tree olds news ready.has.apart) old new tests change_terms _ params (values s) count ready.has.is kept (λ r. refl) (fits s) (few p rows kept.0 (one_row old.now ready params)) w in
     let mode = h.1.mode ∙ sym inside in
     let typed_after : AreTyped old.now.trees → AreTyped (with_tree old.now.trees shipments_tree after) = λ are. record { meta = are.meta; items = are.items; bins = are.bins; lots = are.lots; recalls = are.recalls; stock = are.stock; orders = are.orders; lines = are.lines; staged = are.staged; reserved = are.reserved; shipments = all_over (λ r. is_shipment r ≡ true) p (values s) rows (λ r h e. itself_both (is_number ACTS_MAX (column r 0)) (is_number ACTS_MAX (column (rowid r ∷ values s) 2) && (is_signed is_business_day (column (rowid r ∷ values s) 3) && is_word is_name (column (rowid r ∷ values s) 4))) (and_parts (is_number ACTS_MAX (column r 0)) (is_number ACTS_MAX (column r 2) && (is_signed is_business_day (column r 3) && is_word is_name (column r 4))) h).0 (and_parts (is_number ACTS_MAX (column (Int (pos s.number) ∷ values s) 0)) (is_number ACTS_MAX (column (rowid r ∷ values s) 2) && (is_signed is_business_day (column (rowid r ∷ values s) 3) && is_word is_name (column (rowid r ∷ values s) 4))) sound).1) are.shipments; shiplines = are.shiplines; cards = are.cards; repeats = are.repeats } in (
       λ some. goes old new shipments_tree after _ ready (IsRows-over p (values s) rows kept) u.0 mode
@@ -113,13 +114,13 @@ add_text = ADD_SHIPMENT.now
 abbrev add_terms : List Term
 add_terms = col 0 0 ∷ lit Null ∷ col 0 1 ∷ col 0 2 ∷ col 0 3 ∷ []
 
-add_is : command_of (understood the_schema add_text) ≡ Insert 10 (Values add_terms 5)
+add_is : (rest : Schema) → command_of (understood (schema_with rest) add_text) ≡ Insert 10 (Values add_terms 5)
 unfolding understood everything
-add_is = refl
+add_is rest = refl
 
-add_plain : IsPlain (understood the_schema add_text)
+add_plain : (rest : Schema) → IsPlain (understood (schema_with rest) add_text)
 unfolding understood everything
-add_plain = (refl, refl)
+add_plain rest = (refl, refl)
 
 itself : (k : ShipmentKey) → same_shipment k k ≡ true
 itself k = itself_number k
@@ -133,8 +134,8 @@ adds old new s count sound ready inside h =
     let kept = ready.rows.1.1.1.1.1.1.1.1.1.1.0 in
     let row : Row = Int (pos s.number) ∷ values s in
     let after = put_row row rows in
-    let w = runs_as add_text params old new the_schema ready.schema_is _ add_is add_plain count h.0 in
-    let u = inserts_at the_schema 10 shipments_tree _ _ _ _ _ _ refl (λ _ _. refl) old new (pos s.number) add_terms 5 _ params (values s) count ready.schema_is refl (fits s) w in
+    let w = runs_as add_text params old new (schema_with ready.has.rest) ready.has.is _ (add_is ready.has.rest) (add_plain ready.has.rest) count h.0 in
+    let u = inserts_at (schema_with ready.has.rest) 10 shipments_tree _ _ _ _ _ _ refl (λ olds news. sets_off_nothing ready.has.rest shipments_tree olds news ready.has.apart) old new (pos s.number) add_terms 5 _ params (values s) count ready.has.is refl (fits s) w in
     let good = IsRows-put_row row rows refl kept in
     let ready_now = ready_after old.now new.now shipments_tree after ready good u.0 in
     let there : p row ≡ true = at_key params s.number refl row sound ∙ itself s.number in
@@ -161,13 +162,13 @@ shipments_of_text = SHIPMENTS_OF.now
 abbrev shipments_of_tests : List Term
 shipments_of_tests = same 0 0 ∷ []
 
-shipments_of_is : (command_of (understood the_schema shipments_of_text) ≡ Select (alone (scan shipments_tree shipments_of_tests shown [])) (codes "number" ∷ codes "act" ∷ codes "day" ∷ codes "ord" ∷ [])) × (reads_listing the_schema shipments_of_text ≡ false)
+shipments_of_is : (rest : Schema) → (command_of (understood (schema_with rest) shipments_of_text) ≡ Select (alone (scan shipments_tree shipments_of_tests shown [])) (codes "number" ∷ codes "act" ∷ codes "day" ∷ codes "ord" ∷ [])) × (reads_listing (schema_with rest) shipments_of_text ≡ false)
 unfolding understood everything
-shipments_of_is = (refl, refl)
+shipments_of_is rest = (refl, refl)
 
-pub shipments_of_plain : IsPlain (understood the_schema shipments_of_text)
+pub shipments_of_plain : (rest : Schema) → IsPlain (understood (schema_with rest) shipments_of_text)
 unfolding understood everything
-shipments_of_plain = (refl, refl)
+shipments_of_plain rest = (refl, refl)
 
 shipments_of_at : (number : ℕ) (r : Row) → is_shipment r ≡ true → passes (Int (pos number) ∷ []) shipments_of_tests r ≡ (let key = shipment_key (shipment_in r) in nat_eq number key)
 shipments_of_at number r h =
@@ -178,7 +179,7 @@ shipments_of_turn : (old new : State) (number : ℕ) (rows : List Row) → IsRea
     → rows ≡ map (show (Int (pos number) ∷ []) shown) (filter (passes (Int (pos number) ∷ []) shipments_of_tests) (old.now.trees shipments_tree))
 shipments_of_turn old new number rows ready h =
     let params = Int (pos number) ∷ [] in
-    let read = reads_as shipments_of_text params old new the_schema ready.schema_is _ shipments_of_is.0 shipments_of_plain shipments_of_is.1 rows h in
+    let read = reads_as shipments_of_text params old new (schema_with ready.has.rest) ready.has.is _ (shipments_of_is ready.has.rest).0 (shipments_of_plain ready.has.rest) (shipments_of_is ready.has.rest).1 rows h in
     let p = passes params shipments_of_tests in
     let all = old.now.trees shipments_tree in
     only_shown params shown (filter p all) (few p all ready.rows.1.1.1.1.1.1.1.1.1.1.0.0 (one_row old.now ready params)) rows (scanned old.now.trees params shipments_tree shipments_of_tests shown [] rows (read.answer Null))

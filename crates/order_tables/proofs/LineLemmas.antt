@@ -11,6 +11,7 @@ use Rattle.sqlite.specs.Command.TheVariants.{Insert, Update, Select}
 use Rattle.sqlite.specs.Source.TheVariants.{Values}
 use Rattle.sqlite.specs.Tree.{with_tree}
 use Rattle.sqlite.specs.Edit.{next_rowid}
+use Rattle.sqlite.specs.Schema.{Schema}
 use Rattle.sqlite.specs.Effect.{Database}
 use Rattle.sqlite_tied.specs.Compute.{everything}
 use Rattle.sqlite.specs.Listing.{understood, reads_listing}
@@ -25,7 +26,7 @@ use Rattle.values.specs.Values.{is_gtin, is_name}
 use Rattle.commands.specs.declared.rows.LineRow.{LineRow}
 use Rattle.order_tables.specs.declared.texts.TheConstants.{CHANGE_LINE, ADD_LINE, LINES_OF_ORDER, LINE_OF}
 use Rattle.table_words.specs.Cells.{typed, is_the_text}
-use Rattle.table_words.specs.Schema.{the_schema, lines_tree, lines_table}
+use Rattle.table_words.specs.Schema.{schema_with, lines_tree, lines_table}
 use Rattle.table_words.specs.Typed.{is_line, line_in, has_line, line_read, LineKey, same_line, line_key, line_cells, with_line, tables_in, Tables, AreTyped, lines_of_order_rows, line_of_rows}
 use Rattle.table_words.specs.Steps.{IsReady, Goes}
 use Rattle.table_words.specs.Found.{AreRows}
@@ -34,7 +35,7 @@ use Rattle.table_words.proofs.ListLemmas.{over, IsRows-over, IsRows-put_row, all
 use Rattle.table_words.proofs.ScanLemmas.{passes, show, in_order}
 use Rattle.table_words.proofs.WriteLemmas.{inserts, updates, cast_number}
 use Rattle.table_words.proofs.CellLemmas.{and_true, same_word, equals_text, typed-filter, both_typed, shown_typed}
-use Rattle.table_words.proofs.StepLemmas.{ready_after, goes}
+use Rattle.table_words.proofs.StepLemmas.{ready_after, sets_off_nothing, goes}
 use Rattle.table_words.proofs.KeyLemmas.{AtMostOne, one_by_key, few, none_had, IsSame, same_bytes, same_both, itself_bytes, itself_both, meets, found_put, found_over, are_rows, first_row}
 
 abbrev pub tests : List Term
@@ -56,7 +57,7 @@ one_key = same_both bytes_eq bytes_eq same_bytes same_bytes
 -- no key comes twice
 one_row : (db : Database) → IsReady db → (params : Row) → AtMostOne (passes params tests) (db.trees lines_tree)
 one_row db ready params =
-    one_by_key the_schema db.trees (lines_table lines_tree) (1 ∷ 2 ∷ []) _ (inr (inr (inr (inr (inr (inr (inl refl))))))) refl refl refl
+    one_by_key (schema_with ready.has.rest) db.trees (lines_table lines_tree) (1 ∷ 2 ∷ []) _ (ready.sound.lists.guarded.1.1.1.1.1.1.1.0 0 (1 ∷ 2 ∷ []) refl).1 refl refl refl
     (ready.sound.obeys.rules Unique).1.1.1.1.1.1.1.0 ready.rows.1.1.1.1.1.1.1.0 params
 
 -- ---- UPDATE
@@ -70,13 +71,13 @@ change_terms = col 0 0 ∷ col 0 1 ∷ col 0 2 ∷ col 0 3 ∷ []
 abbrev pub values : LineRow → Row
 values s = line_cells s
 
-change_is : command_of (understood the_schema change_text) ≡ Update 7 (alone (scan lines_tree tests (col 1 0 ∷ col 1 0 ∷ change_terms) []))
+change_is : (rest : Schema) → command_of (understood (schema_with rest) change_text) ≡ Update 7 (alone (scan lines_tree tests (col 1 0 ∷ col 1 0 ∷ change_terms) []))
 unfolding understood everything
-change_is = refl
+change_is rest = refl
 
-change_plain : IsPlain (understood the_schema change_text)
+change_plain : (rest : Schema) → IsPlain (understood (schema_with rest) change_text)
 unfolding understood everything
-change_plain = (refl, refl)
+change_plain rest = (refl, refl)
 
 fits : (s : LineRow) → cast_all (lines_table lines_tree).columns (values s) ≡ values s
 fits s = rw (cast_number (pos s.ordered), cast_number (pos s.shipped)) refl
@@ -94,8 +95,8 @@ changes old new s count sound ready inside h =
     let rows = old.now.trees lines_tree in
     let kept = ready.rows.1.1.1.1.1.1.1.0 in
     let after = over p (values s) rows in
-    let w = runs_as change_text params old new the_schema ready.schema_is _ change_is change_plain count h.0 in
-    let u = updates the_schema 7 lines_tree _ _ _ _ _ _ refl (λ _ _. refl) old new tests change_terms _ params (values s) count ready.schema_is kept (λ r. refl) (fits s) (few p rows kept.0 (one_row old.now ready params)) w in
+    let w = runs_as change_text params old new (schema_with ready.has.rest) ready.has.is _ (change_is ready.has.rest) (change_plain ready.has.rest) count h.0 in
+    let u = updates (schema_with ready.has.rest) 7 lines_tree _ _ _ _ _ _ refl (λ olds news. sets_off_nothing ready.has.rest lines_tree olds news ready.has.apart) old new tests change_terms _ params (values s) count ready.has.is kept (λ r. refl) (fits s) (few p rows kept.0 (one_row old.now ready params)) w in
     let mode = h.1.mode ∙ sym inside in
     let typed_after : AreTyped old.now.trees → AreTyped (with_tree old.now.trees lines_tree after) = λ are. record { meta = are.meta; items = are.items; bins = are.bins; lots = are.lots; recalls = are.recalls; stock = are.stock; orders = are.orders; lines = all_over (λ r. is_line r ≡ true) p (values s) rows (λ r h e. sound) are.lines; staged = are.staged; reserved = are.reserved; shipments = are.shipments; shiplines = are.shiplines; cards = are.cards; repeats = are.repeats } in (
       λ some. goes old new lines_tree after _ ready (IsRows-over p (values s) rows kept) u.0 mode
@@ -114,13 +115,13 @@ add_text = ADD_LINE.now
 abbrev add_terms : List Term
 add_terms = lit Null ∷ col 0 0 ∷ col 0 1 ∷ col 0 2 ∷ col 0 3 ∷ []
 
-add_is : command_of (understood the_schema add_text) ≡ Insert 7 (Values add_terms 5)
+add_is : (rest : Schema) → command_of (understood (schema_with rest) add_text) ≡ Insert 7 (Values add_terms 5)
 unfolding understood everything
-add_is = refl
+add_is rest = refl
 
-add_plain : IsPlain (understood the_schema add_text)
+add_plain : (rest : Schema) → IsPlain (understood (schema_with rest) add_text)
 unfolding understood everything
-add_plain = (refl, refl)
+add_plain rest = (refl, refl)
 
 itself : (k : LineKey) → same_line k k ≡ true
 itself k = itself_both _ _ (itself_bytes k.0) (itself_bytes k.1)
@@ -134,8 +135,8 @@ adds old new s count sound ready inside h =
     let kept = ready.rows.1.1.1.1.1.1.1.0 in
     let row : Row = Int (next_rowid rows) ∷ values s in
     let after = put_row row rows in
-    let w = runs_as add_text params old new the_schema ready.schema_is _ add_is add_plain count h.0 in
-    let u = inserts the_schema 7 lines_tree _ _ _ _ _ _ refl (λ _ _. refl) old new add_terms 5 _ params (values s) count ready.schema_is refl (fits s) w in
+    let w = runs_as add_text params old new (schema_with ready.has.rest) ready.has.is _ (add_is ready.has.rest) (add_plain ready.has.rest) count h.0 in
+    let u = inserts (schema_with ready.has.rest) 7 lines_tree _ _ _ _ _ _ refl (λ olds news. sets_off_nothing ready.has.rest lines_tree olds news ready.has.apart) old new add_terms 5 _ params (values s) count ready.has.is refl (fits s) w in
     let good = IsRows-put_row row rows refl kept in
     let ready_now = ready_after old.now new.now lines_tree after ready good u.0 in
     let there : p row ≡ true = at_key params s.order s.gtin refl refl row sound ∙ itself (s.order, s.gtin) in
@@ -162,13 +163,13 @@ lines_of_order_text = LINES_OF_ORDER.now
 abbrev lines_of_order_tests : List Term
 lines_of_order_tests = same 1 0 ∷ []
 
-lines_of_order_is : (command_of (understood the_schema lines_of_order_text) ≡ Select (alone (scan lines_tree lines_of_order_tests shown by_rowid)) (codes "ord" ∷ codes "gtin" ∷ codes "ordered" ∷ codes "shipped" ∷ [])) × (reads_listing the_schema lines_of_order_text ≡ false)
+lines_of_order_is : (rest : Schema) → (command_of (understood (schema_with rest) lines_of_order_text) ≡ Select (alone (scan lines_tree lines_of_order_tests shown by_rowid)) (codes "ord" ∷ codes "gtin" ∷ codes "ordered" ∷ codes "shipped" ∷ [])) × (reads_listing (schema_with rest) lines_of_order_text ≡ false)
 unfolding understood everything
-lines_of_order_is = (refl, refl)
+lines_of_order_is rest = (refl, refl)
 
-pub lines_of_order_plain : IsPlain (understood the_schema lines_of_order_text)
+pub lines_of_order_plain : (rest : Schema) → IsPlain (understood (schema_with rest) lines_of_order_text)
 unfolding understood everything
-lines_of_order_plain = (refl, refl)
+lines_of_order_plain rest = (refl, refl)
 
 lines_of_order_at : (order : List ℕ) (r : Row) → is_line r ≡ true → passes (Text order ∷ []) lines_of_order_tests r ≡ (let key = line_key (line_in r) in bytes_eq order key.0)
 lines_of_order_at order r h =
@@ -179,7 +180,7 @@ lines_of_order_turn : (old new : State) (order : List ℕ) (rows : List Row) →
     → rows ≡ map (show (Text order ∷ []) shown) (filter (passes (Text order ∷ []) lines_of_order_tests) (old.now.trees lines_tree))
 lines_of_order_turn old new order rows ready h =
     let params = Text order ∷ [] in
-    let read = reads_as lines_of_order_text params old new the_schema ready.schema_is _ lines_of_order_is.0 lines_of_order_plain lines_of_order_is.1 rows h in
+    let read = reads_as lines_of_order_text params old new (schema_with ready.has.rest) ready.has.is _ (lines_of_order_is ready.has.rest).0 (lines_of_order_plain ready.has.rest) (lines_of_order_is ready.has.rest).1 rows h in
     in_order old.now.trees params lines_tree lines_of_order_tests shown rows ready.rows.1.1.1.1.1.1.1.0.0 (read.answer Null)
 
 -- the rows that were read
@@ -205,19 +206,19 @@ lines_of_order_typed old new order rows ready h =
 abbrev pub line_of_text : List ℕ
 line_of_text = LINE_OF.now
 
-line_of_is : (command_of (understood the_schema line_of_text) ≡ Select (alone (scan lines_tree tests shown by_rowid)) (codes "ord" ∷ codes "gtin" ∷ codes "ordered" ∷ codes "shipped" ∷ [])) × (reads_listing the_schema line_of_text ≡ false)
+line_of_is : (rest : Schema) → (command_of (understood (schema_with rest) line_of_text) ≡ Select (alone (scan lines_tree tests shown by_rowid)) (codes "ord" ∷ codes "gtin" ∷ codes "ordered" ∷ codes "shipped" ∷ [])) × (reads_listing (schema_with rest) line_of_text ≡ false)
 unfolding understood everything
-line_of_is = (refl, refl)
+line_of_is rest = (refl, refl)
 
-pub line_of_plain : IsPlain (understood the_schema line_of_text)
+pub line_of_plain : (rest : Schema) → IsPlain (understood (schema_with rest) line_of_text)
 unfolding understood everything
-line_of_plain = (refl, refl)
+line_of_plain rest = (refl, refl)
 
 line_of_turn : (old new : State) (order gtin : List ℕ) (rows : List Row) → IsReady old.now → Shown line_of_text (key_cells order gtin) old new rows
     → rows ≡ map (show (key_cells order gtin) shown) (filter (passes (key_cells order gtin) tests) (old.now.trees lines_tree))
 line_of_turn old new order gtin rows ready h =
     let params = key_cells order gtin in
-    let read = reads_as line_of_text params old new the_schema ready.schema_is _ line_of_is.0 line_of_plain line_of_is.1 rows h in
+    let read = reads_as line_of_text params old new (schema_with ready.has.rest) ready.has.is _ (line_of_is ready.has.rest).0 (line_of_plain ready.has.rest) (line_of_is ready.has.rest).1 rows h in
     in_order old.now.trees params lines_tree tests shown rows ready.rows.1.1.1.1.1.1.1.0.0 (read.answer Null)
 
 -- the row that was read

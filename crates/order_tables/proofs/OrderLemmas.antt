@@ -11,6 +11,7 @@ use Rattle.sqlite.specs.Command.TheVariants.{Insert, Update, Select}
 use Rattle.sqlite.specs.Source.TheVariants.{Values}
 use Rattle.sqlite.specs.Tree.{with_tree}
 use Rattle.sqlite.specs.Edit.{next_rowid}
+use Rattle.sqlite.specs.Schema.{Schema}
 use Rattle.sqlite.specs.Effect.{Database}
 use Rattle.sqlite_tied.specs.Compute.{everything}
 use Rattle.sqlite.specs.Listing.{understood, reads_listing}
@@ -26,7 +27,7 @@ use Rattle.commands.specs.declared.limits.TheConstants.{ACTS_MAX}
 use Rattle.commands.specs.declared.rows.OrderRow.{OrderRow}
 use Rattle.order_tables.specs.declared.texts.TheConstants.{CHANGE_ORDER, ADD_ORDER, ORDERS_OF, OPEN_ORDERS}
 use Rattle.table_words.specs.Cells.{typed, is_word, is_the_text, is_number, is_order_state}
-use Rattle.table_words.specs.Schema.{the_schema, orders_tree, orders_table}
+use Rattle.table_words.specs.Schema.{schema_with, orders_tree, orders_table}
 use Rattle.table_words.specs.Typed.{is_order, order_in, has_order, order_read, OrderKey, same_order, order_key, order_cells, with_order, tables_in, Tables, AreTyped, orders_of_rows, is_open_order, open_orders_rows}
 use Rattle.table_words.specs.Steps.{IsReady, Goes}
 use Rattle.table_words.specs.Found.{AreRows, only_if}
@@ -35,7 +36,7 @@ use Rattle.table_words.proofs.ListLemmas.{over, IsRows-over, IsRows-put_row, all
 use Rattle.table_words.proofs.ScanLemmas.{passes, show, in_order}
 use Rattle.table_words.proofs.WriteLemmas.{inserts, updates, cast_number}
 use Rattle.table_words.proofs.CellLemmas.{and_true, same_word, equals_text, typed-filter, both_typed, shown_typed, order_state_back, open_is}
-use Rattle.table_words.proofs.StepLemmas.{ready_after, goes}
+use Rattle.table_words.proofs.StepLemmas.{ready_after, sets_off_nothing, goes}
 use Rattle.table_words.proofs.KeyLemmas.{AtMostOne, one_by_key, few, none_had, IsSame, same_bytes, itself_bytes, meets, found_put, found_over, are_rows, are_rows_if}
 
 abbrev pub tests : List Term
@@ -56,7 +57,7 @@ one_key = same_bytes
 -- no key comes twice
 one_row : (db : Database) → IsReady db → (params : Row) → AtMostOne (passes params tests) (db.trees orders_tree)
 one_row db ready params =
-    one_by_key the_schema db.trees (orders_table orders_tree) (1 ∷ []) _ (inr (inr (inr (inr (inr (inl refl)))))) refl refl refl
+    one_by_key (schema_with ready.has.rest) db.trees (orders_table orders_tree) (1 ∷ []) _ (ready.sound.lists.guarded.1.1.1.1.1.1.0 0 (1 ∷ []) refl).1 refl refl refl
     (ready.sound.obeys.rules Unique).1.1.1.1.1.1.0 ready.rows.1.1.1.1.1.1.0 params
 
 -- ---- UPDATE
@@ -70,13 +71,13 @@ change_terms = col 0 0 ∷ col 0 1 ∷ col 0 2 ∷ col 0 3 ∷ []
 abbrev pub values : OrderRow → Row
 values s = order_cells s
 
-change_is : command_of (understood the_schema change_text) ≡ Update 6 (alone (scan orders_tree tests (col 1 0 ∷ col 1 0 ∷ change_terms) []))
+change_is : (rest : Schema) → command_of (understood (schema_with rest) change_text) ≡ Update 6 (alone (scan orders_tree tests (col 1 0 ∷ col 1 0 ∷ change_terms) []))
 unfolding understood everything
-change_is = refl
+change_is rest = refl
 
-change_plain : IsPlain (understood the_schema change_text)
+change_plain : (rest : Schema) → IsPlain (understood (schema_with rest) change_text)
 unfolding understood everything
-change_plain = (refl, refl)
+change_plain rest = (refl, refl)
 
 fits : (s : OrderRow) → cast_all (orders_table orders_tree).columns (values s) ≡ values s
 fits s = rw (cast_number (pos s.act)) refl
@@ -94,8 +95,8 @@ changes old new s count sound ready inside h =
     let rows = old.now.trees orders_tree in
     let kept = ready.rows.1.1.1.1.1.1.0 in
     let after = over p (values s) rows in
-    let w = runs_as change_text params old new the_schema ready.schema_is _ change_is change_plain count h.0 in
-    let u = updates the_schema 6 orders_tree _ _ _ _ _ _ refl (λ _ _. refl) old new tests change_terms _ params (values s) count ready.schema_is kept (λ r. refl) (fits s) (few p rows kept.0 (one_row old.now ready params)) w in
+    let w = runs_as change_text params old new (schema_with ready.has.rest) ready.has.is _ (change_is ready.has.rest) (change_plain ready.has.rest) count h.0 in
+    let u = updates (schema_with ready.has.rest) 6 orders_tree _ _ _ _ _ _ refl (λ olds news. sets_off_nothing ready.has.rest orders_tree olds news ready.has.apart) old new tests change_terms _ params (values s) count ready.has.is kept (λ r. refl) (fits s) (few p rows kept.0 (one_row old.now ready params)) w in
     let mode = h.1.mode ∙ sym inside in
     let typed_after : AreTyped old.now.trees → AreTyped (with_tree old.now.trees orders_tree after) = λ are. record { meta = are.meta; items = are.items; bins = are.bins; lots = are.lots; recalls = are.recalls; stock = are.stock; orders = all_over (λ r. is_order r ≡ true) p (values s) rows (λ r h e. sound) are.orders; lines = are.lines; staged = are.staged; reserved = are.reserved; shipments = are.shipments; shiplines = are.shiplines; cards = are.cards; repeats = are.repeats } in (
       λ some. goes old new orders_tree after _ ready (IsRows-over p (values s) rows kept) u.0 mode
@@ -114,13 +115,13 @@ add_text = ADD_ORDER.now
 abbrev add_terms : List Term
 add_terms = lit Null ∷ col 0 0 ∷ col 0 1 ∷ col 0 2 ∷ col 0 3 ∷ []
 
-add_is : command_of (understood the_schema add_text) ≡ Insert 6 (Values add_terms 5)
+add_is : (rest : Schema) → command_of (understood (schema_with rest) add_text) ≡ Insert 6 (Values add_terms 5)
 unfolding understood everything
-add_is = refl
+add_is rest = refl
 
-add_plain : IsPlain (understood the_schema add_text)
+add_plain : (rest : Schema) → IsPlain (understood (schema_with rest) add_text)
 unfolding understood everything
-add_plain = (refl, refl)
+add_plain rest = (refl, refl)
 
 itself : (k : OrderKey) → same_order k k ≡ true
 itself k = itself_bytes k
@@ -134,8 +135,8 @@ adds old new s count sound ready inside h =
     let kept = ready.rows.1.1.1.1.1.1.0 in
     let row : Row = Int (next_rowid rows) ∷ values s in
     let after = put_row row rows in
-    let w = runs_as add_text params old new the_schema ready.schema_is _ add_is add_plain count h.0 in
-    let u = inserts the_schema 6 orders_tree _ _ _ _ _ _ refl (λ _ _. refl) old new add_terms 5 _ params (values s) count ready.schema_is refl (fits s) w in
+    let w = runs_as add_text params old new (schema_with ready.has.rest) ready.has.is _ (add_is ready.has.rest) (add_plain ready.has.rest) count h.0 in
+    let u = inserts (schema_with ready.has.rest) 6 orders_tree _ _ _ _ _ _ refl (λ olds news. sets_off_nothing ready.has.rest orders_tree olds news ready.has.apart) old new add_terms 5 _ params (values s) count ready.has.is refl (fits s) w in
     let good = IsRows-put_row row rows refl kept in
     let ready_now = ready_after old.now new.now orders_tree after ready good u.0 in
     let there : p row ≡ true = at_key params s.order refl row sound ∙ itself s.order in
@@ -162,13 +163,13 @@ orders_of_text = ORDERS_OF.now
 abbrev orders_of_tests : List Term
 orders_of_tests = same 1 0 ∷ []
 
-orders_of_is : (command_of (understood the_schema orders_of_text) ≡ Select (alone (scan orders_tree orders_of_tests shown by_rowid)) (codes "ord" ∷ codes "act" ∷ codes "customer" ∷ codes "state" ∷ [])) × (reads_listing the_schema orders_of_text ≡ false)
+orders_of_is : (rest : Schema) → (command_of (understood (schema_with rest) orders_of_text) ≡ Select (alone (scan orders_tree orders_of_tests shown by_rowid)) (codes "ord" ∷ codes "act" ∷ codes "customer" ∷ codes "state" ∷ [])) × (reads_listing (schema_with rest) orders_of_text ≡ false)
 unfolding understood everything
-orders_of_is = (refl, refl)
+orders_of_is rest = (refl, refl)
 
-pub orders_of_plain : IsPlain (understood the_schema orders_of_text)
+pub orders_of_plain : (rest : Schema) → IsPlain (understood (schema_with rest) orders_of_text)
 unfolding understood everything
-orders_of_plain = (refl, refl)
+orders_of_plain rest = (refl, refl)
 
 orders_of_at : (order : List ℕ) (r : Row) → is_order r ≡ true → passes (Text order ∷ []) orders_of_tests r ≡ (let key = order_key (order_in r) in bytes_eq order key)
 orders_of_at order r h =
@@ -179,7 +180,7 @@ orders_of_turn : (old new : State) (order : List ℕ) (rows : List Row) → IsRe
     → rows ≡ map (show (Text order ∷ []) shown) (filter (passes (Text order ∷ []) orders_of_tests) (old.now.trees orders_tree))
 orders_of_turn old new order rows ready h =
     let params = Text order ∷ [] in
-    let read = reads_as orders_of_text params old new the_schema ready.schema_is _ orders_of_is.0 orders_of_plain orders_of_is.1 rows h in
+    let read = reads_as orders_of_text params old new (schema_with ready.has.rest) ready.has.is _ (orders_of_is ready.has.rest).0 (orders_of_plain ready.has.rest) (orders_of_is ready.has.rest).1 rows h in
     in_order old.now.trees params orders_tree orders_of_tests shown rows ready.rows.1.1.1.1.1.1.0.0 (read.answer Null)
 
 -- the rows that were read
@@ -208,13 +209,13 @@ open_orders_text = OPEN_ORDERS.now
 abbrev open_orders_tests : List Term
 open_orders_tests = same 4 0 ∷ []
 
-open_orders_is : (command_of (understood the_schema open_orders_text) ≡ Select (alone (scan orders_tree open_orders_tests shown by_rowid)) (codes "ord" ∷ codes "act" ∷ codes "customer" ∷ codes "state" ∷ [])) × (reads_listing the_schema open_orders_text ≡ false)
+open_orders_is : (rest : Schema) → (command_of (understood (schema_with rest) open_orders_text) ≡ Select (alone (scan orders_tree open_orders_tests shown by_rowid)) (codes "ord" ∷ codes "act" ∷ codes "customer" ∷ codes "state" ∷ [])) × (reads_listing (schema_with rest) open_orders_text ≡ false)
 unfolding understood everything
-open_orders_is = (refl, refl)
+open_orders_is rest = (refl, refl)
 
-pub open_orders_plain : IsPlain (understood the_schema open_orders_text)
+pub open_orders_plain : (rest : Schema) → IsPlain (understood (schema_with rest) open_orders_text)
 unfolding understood everything
-open_orders_plain = (refl, refl)
+open_orders_plain rest = (refl, refl)
 
 abbrev pub open_orders_cells : Row
 open_orders_cells = Text (codes "OPEN") ∷ []
@@ -229,7 +230,7 @@ open_orders_at r h =
 open_orders_turn : (old new : State) (rows : List Row) → IsReady old.now → Shown open_orders_text open_orders_cells old new rows
     → rows ≡ map (show open_orders_cells shown) (filter (passes open_orders_cells open_orders_tests) (old.now.trees orders_tree))
 open_orders_turn old new rows ready h =
-    let read = reads_as open_orders_text open_orders_cells old new the_schema ready.schema_is _ open_orders_is.0 open_orders_plain open_orders_is.1 rows h in
+    let read = reads_as open_orders_text open_orders_cells old new (schema_with ready.has.rest) ready.has.is _ (open_orders_is ready.has.rest).0 (open_orders_plain ready.has.rest) (open_orders_is ready.has.rest).1 rows h in
     in_order old.now.trees open_orders_cells orders_tree open_orders_tests shown rows ready.rows.1.1.1.1.1.1.0.0 (read.answer Null)
 
 -- the rows that were read

@@ -11,6 +11,7 @@ use Rattle.sqlite.specs.Command.TheVariants.{Delete, Insert, Update, Select}
 use Rattle.sqlite.specs.Source.TheVariants.{Values}
 use Rattle.sqlite.specs.Tree.{Trees, with_tree}
 use Rattle.sqlite.specs.Edit.{next_rowid}
+use Rattle.sqlite.specs.Schema.{Schema}
 use Rattle.sqlite.specs.Effect.{Database}
 use Rattle.sqlite_tied.specs.Compute.{everything}
 use Rattle.sqlite.specs.Listing.{understood, reads_listing}
@@ -31,7 +32,7 @@ use Rattle.commands.specs.declared.limits.TheConstants.{UNITS_MAX, ACTS_MAX, SHO
 use Rattle.commands.specs.declared.rows.StagedRow.{StagedRow}
 use Rattle.order_tables.specs.declared.texts.TheConstants.{DROP_STAGED, CHANGE_STAGED, ADD_STAGED, STAGED_OF_ITEM, ALL_STAGED}
 use Rattle.table_words.specs.Cells.{typed, is_word, is_the_text, fits_in, is_any, is_number, is_the_number, number_in, is_signed, is_any_number, signed_in, flag_number, flag_in, bin_kind_in, order_state_in, card_kind_in}
-use Rattle.table_words.specs.Schema.{the_schema, staged_tree, staged_table}
+use Rattle.table_words.specs.Schema.{schema_with, staged_tree, staged_table}
 use Rattle.table_words.specs.Typed.{same_lot_id, is_staged, staged_in, has_staged, staged_read, StagedKey, same_staged, staged_key, staged_cells, with_staged, without_staged, tables_in, Tables, AreTyped, staged_of_item_rows, all_staged_rows}
 use Rattle.table_words.specs.Steps.{IsReady, Goes}
 use Rattle.table_words.specs.Found.{AreRows}
@@ -40,7 +41,7 @@ use Rattle.table_words.proofs.ListLemmas.{over, IsRows-filter, IsRows-over, IsRo
 use Rattle.table_words.proofs.ScanLemmas.{passes, show, in_order, scanned}
 use Rattle.table_words.proofs.WriteLemmas.{deletes, inserts, inserts_at, updates, only_shown, cast_number, cast_null}
 use Rattle.table_words.proofs.CellLemmas.{and_true, and_assoc, same_word, same_count, same_the_number, equals_text, equals_number, same_number, itself_number, same_lots, itself_lot, id_is, typed-filter, both_typed, shown_typed, flag_back, bin_kind_back, order_state_back, card_kind_back}
-use Rattle.table_words.proofs.StepLemmas.{ready_after, goes}
+use Rattle.table_words.proofs.StepLemmas.{ready_after, sets_off_nothing, goes}
 use Rattle.table_words.proofs.KeyLemmas.{AtMostOne, one_by_key, one_by_rowid, few, none_had, IsSame, same_bytes, same_both, itself_bytes, itself_both, meets, found_without, found_put, found_over, are_rows}
 
 abbrev pub tests : List Term
@@ -63,7 +64,7 @@ one_key = same_both bytes_eq same_lot_id same_bytes same_lots
 -- no key comes twice
 one_row : (db : Database) → IsReady db → (params : Row) → AtMostOne (passes params tests) (db.trees staged_tree)
 one_row db ready params =
-    one_by_key the_schema db.trees (staged_table staged_tree) (1 ∷ 2 ∷ 3 ∷ []) _ (inr (inr (inr (inr (inr (inr (inr (inl refl)))))))) refl refl refl
+    one_by_key (schema_with ready.has.rest) db.trees (staged_table staged_tree) (1 ∷ 2 ∷ 3 ∷ []) _ (ready.sound.lists.guarded.1.1.1.1.1.1.1.1.0 0 (1 ∷ 2 ∷ 3 ∷ []) refl).1 refl refl refl
     (ready.sound.obeys.rules Unique).1.1.1.1.1.1.1.1.0 ready.rows.1.1.1.1.1.1.1.1.0 params
 
 -- ---- DELETE
@@ -71,13 +72,13 @@ one_row db ready params =
 abbrev pub drop_text : List ℕ
 drop_text = DROP_STAGED.now
 
-drop_is : command_of (understood the_schema drop_text) ≡ Delete 8 (alone (scan staged_tree tests (col 1 0 ∷ []) []))
+drop_is : (rest : Schema) → command_of (understood (schema_with rest) drop_text) ≡ Delete 8 (alone (scan staged_tree tests (col 1 0 ∷ []) []))
 unfolding understood everything
-drop_is = refl
+drop_is rest = refl
 
-drop_plain : IsPlain (understood the_schema drop_text)
+drop_plain : (rest : Schema) → IsPlain (understood (schema_with rest) drop_text)
 unfolding understood everything
-drop_plain = (refl, refl)
+drop_plain rest = (refl, refl)
 
 pub drops : (old new : State) (order : List ℕ) (lot : LotId) (count : ℕ) → IsReady old.now → IsTrue old.in_transaction → ExecutesInside 0 drop_text (key_cells order lot) old new (Ok count) → Goes (without_staged order lot) old new
 drops old new order lot count ready inside h =
@@ -85,8 +86,8 @@ drops old new order lot count ready inside h =
     let p = passes params tests in
     let rows = old.now.trees staged_tree in
     let left = filter (λ r. not (p r)) rows in
-    let w = runs_as drop_text params old new the_schema ready.schema_is _ drop_is drop_plain count h.0 in
-    let c = deletes the_schema 8 staged_tree _ _ _ _ _ _ refl (λ _ _. refl) old new tests _ params count ready.schema_is ready.rows.1.1.1.1.1.1.1.1.0 w in
+    let w = runs_as drop_text params old new (schema_with ready.has.rest) ready.has.is _ (drop_is ready.has.rest) (drop_plain ready.has.rest) count h.0 in
+    let c = deletes (schema_with ready.has.rest) 8 staged_tree _ _ _ _ _ _ refl (λ olds news. sets_off_nothing ready.has.rest staged_tree olds news ready.has.apart) old new tests _ params count ready.has.is ready.rows.1.1.1.1.1.1.1.1.0 w in
     goes old new staged_tree left _ ready (IsRows-filter _ rows ready.rows.1.1.1.1.1.1.1.1.0) c (h.1.mode ∙ sym inside)
     (λ i. let t : Tables = record (tables_in old.now.trees) {
       staged = λ at_order at_lot. found_without is_staged staged_in p (λ s. same_staged (order, lot) (staged_key s)) (λ s. same_staged (at_order, at_lot) (staged_key s)) (same_staged (at_order, at_lot) (order, lot))
@@ -105,13 +106,13 @@ change_terms = col 0 0 ∷ col 0 1 ∷ col 0 2 ∷ col 0 3 ∷ []
 abbrev pub values : StagedRow → Row
 values s = staged_cells s
 
-change_is : command_of (understood the_schema change_text) ≡ Update 8 (alone (scan staged_tree tests (col 1 0 ∷ col 1 0 ∷ change_terms) []))
+change_is : (rest : Schema) → command_of (understood (schema_with rest) change_text) ≡ Update 8 (alone (scan staged_tree tests (col 1 0 ∷ col 1 0 ∷ change_terms) []))
 unfolding understood everything
-change_is = refl
+change_is rest = refl
 
-change_plain : IsPlain (understood the_schema change_text)
+change_plain : (rest : Schema) → IsPlain (understood (schema_with rest) change_text)
 unfolding understood everything
-change_plain = (refl, refl)
+change_plain rest = (refl, refl)
 
 fits : (s : StagedRow) → cast_all (staged_table staged_tree).columns (values s) ≡ values s
 fits s = rw (cast_number (pos s.qty)) refl
@@ -129,8 +130,8 @@ changes old new s count sound ready inside h =
     let rows = old.now.trees staged_tree in
     let kept = ready.rows.1.1.1.1.1.1.1.1.0 in
     let after = over p (values s) rows in
-    let w = runs_as change_text params old new the_schema ready.schema_is _ change_is change_plain count h.0 in
-    let u = updates the_schema 8 staged_tree _ _ _ _ _ _ refl (λ _ _. refl) old new tests change_terms _ params (values s) count ready.schema_is kept (λ r. refl) (fits s) (few p rows kept.0 (one_row old.now ready params)) w in
+    let w = runs_as change_text params old new (schema_with ready.has.rest) ready.has.is _ (change_is ready.has.rest) (change_plain ready.has.rest) count h.0 in
+    let u = updates (schema_with ready.has.rest) 8 staged_tree _ _ _ _ _ _ refl (λ olds news. sets_off_nothing ready.has.rest staged_tree olds news ready.has.apart) old new tests change_terms _ params (values s) count ready.has.is kept (λ r. refl) (fits s) (few p rows kept.0 (one_row old.now ready params)) w in
     let mode = h.1.mode ∙ sym inside in
     let typed_after : AreTyped old.now.trees → AreTyped (with_tree old.now.trees staged_tree after) = λ are. record { meta = are.meta; items = are.items; bins = are.bins; lots = are.lots; recalls = are.recalls; stock = are.stock; orders = are.orders; lines = are.lines; staged = all_over (λ r. is_staged r ≡ true) p (values s) rows (λ r h e. sound) are.staged; reserved = are.reserved; shipments = are.shipments; shiplines = are.shiplines; cards = are.cards; repeats = are.repeats } in (
       λ some. goes old new staged_tree after _ ready (IsRows-over p (values s) rows kept) u.0 mode
@@ -149,13 +150,13 @@ add_text = ADD_STAGED.now
 abbrev add_terms : List Term
 add_terms = lit Null ∷ col 0 0 ∷ col 0 1 ∷ col 0 2 ∷ col 0 3 ∷ []
 
-add_is : command_of (understood the_schema add_text) ≡ Insert 8 (Values add_terms 5)
+add_is : (rest : Schema) → command_of (understood (schema_with rest) add_text) ≡ Insert 8 (Values add_terms 5)
 unfolding understood everything
-add_is = refl
+add_is rest = refl
 
-add_plain : IsPlain (understood the_schema add_text)
+add_plain : (rest : Schema) → IsPlain (understood (schema_with rest) add_text)
 unfolding understood everything
-add_plain = (refl, refl)
+add_plain rest = (refl, refl)
 
 itself : (k : StagedKey) → same_staged k k ≡ true
 itself k = itself_both _ _ (itself_bytes k.0) (itself_lot k.1)
@@ -169,8 +170,8 @@ adds old new s count sound ready inside h =
     let kept = ready.rows.1.1.1.1.1.1.1.1.0 in
     let row : Row = Int (next_rowid rows) ∷ values s in
     let after = put_row row rows in
-    let w = runs_as add_text params old new the_schema ready.schema_is _ add_is add_plain count h.0 in
-    let u = inserts the_schema 8 staged_tree _ _ _ _ _ _ refl (λ _ _. refl) old new add_terms 5 _ params (values s) count ready.schema_is refl (fits s) w in
+    let w = runs_as add_text params old new (schema_with ready.has.rest) ready.has.is _ (add_is ready.has.rest) (add_plain ready.has.rest) count h.0 in
+    let u = inserts (schema_with ready.has.rest) 8 staged_tree _ _ _ _ _ _ refl (λ olds news. sets_off_nothing ready.has.rest staged_tree olds news ready.has.apart) old new add_terms 5 _ params (values s) count ready.has.is refl (fits s) w in
     let good = IsRows-put_row row rows refl kept in
     let ready_now = ready_after old.now new.now staged_tree after ready good u.0 in
     let there : p row ≡ true = at_key params s.order s.lot refl refl refl row sound ∙ itself (s.order, s.lot) in
@@ -197,13 +198,13 @@ staged_of_item_text = STAGED_OF_ITEM.now
 abbrev staged_of_item_tests : List Term
 staged_of_item_tests = same 2 0 ∷ []
 
-staged_of_item_is : (command_of (understood the_schema staged_of_item_text) ≡ Select (alone (scan staged_tree staged_of_item_tests shown by_rowid)) (codes "ord" ∷ codes "gtin" ∷ codes "lot" ∷ codes "qty" ∷ [])) × (reads_listing the_schema staged_of_item_text ≡ false)
+staged_of_item_is : (rest : Schema) → (command_of (understood (schema_with rest) staged_of_item_text) ≡ Select (alone (scan staged_tree staged_of_item_tests shown by_rowid)) (codes "ord" ∷ codes "gtin" ∷ codes "lot" ∷ codes "qty" ∷ [])) × (reads_listing (schema_with rest) staged_of_item_text ≡ false)
 unfolding understood everything
-staged_of_item_is = (refl, refl)
+staged_of_item_is rest = (refl, refl)
 
-pub staged_of_item_plain : IsPlain (understood the_schema staged_of_item_text)
+pub staged_of_item_plain : (rest : Schema) → IsPlain (understood (schema_with rest) staged_of_item_text)
 unfolding understood everything
-staged_of_item_plain = (refl, refl)
+staged_of_item_plain rest = (refl, refl)
 
 staged_of_item_at : (gtin : List ℕ) (r : Row) → is_staged r ≡ true → passes (Text gtin ∷ []) staged_of_item_tests r ≡ (let key = staged_key (staged_in r) in bytes_eq gtin key.1.gtin)
 staged_of_item_at gtin r h =
@@ -215,7 +216,7 @@ staged_of_item_turn : (old new : State) (gtin : List ℕ) (rows : List Row) → 
     → rows ≡ map (show (Text gtin ∷ []) shown) (filter (passes (Text gtin ∷ []) staged_of_item_tests) (old.now.trees staged_tree))
 staged_of_item_turn old new gtin rows ready h =
     let params = Text gtin ∷ [] in
-    let read = reads_as staged_of_item_text params old new the_schema ready.schema_is _ staged_of_item_is.0 staged_of_item_plain staged_of_item_is.1 rows h in
+    let read = reads_as staged_of_item_text params old new (schema_with ready.has.rest) ready.has.is _ (staged_of_item_is ready.has.rest).0 (staged_of_item_plain ready.has.rest) (staged_of_item_is ready.has.rest).1 rows h in
     in_order old.now.trees params staged_tree staged_of_item_tests shown rows ready.rows.1.1.1.1.1.1.1.1.0.0 (read.answer Null)
 
 -- the rows that were read
@@ -244,13 +245,13 @@ all_staged_text = ALL_STAGED.now
 abbrev all_staged_tests : List Term
 all_staged_tests = []
 
-all_staged_is : (command_of (understood the_schema all_staged_text) ≡ Select (alone (scan staged_tree all_staged_tests shown by_rowid)) (codes "ord" ∷ codes "gtin" ∷ codes "lot" ∷ codes "qty" ∷ [])) × (reads_listing the_schema all_staged_text ≡ false)
+all_staged_is : (rest : Schema) → (command_of (understood (schema_with rest) all_staged_text) ≡ Select (alone (scan staged_tree all_staged_tests shown by_rowid)) (codes "ord" ∷ codes "gtin" ∷ codes "lot" ∷ codes "qty" ∷ [])) × (reads_listing (schema_with rest) all_staged_text ≡ false)
 unfolding understood everything
-all_staged_is = (refl, refl)
+all_staged_is rest = (refl, refl)
 
-pub all_staged_plain : IsPlain (understood the_schema all_staged_text)
+pub all_staged_plain : (rest : Schema) → IsPlain (understood (schema_with rest) all_staged_text)
 unfolding understood everything
-all_staged_plain = (refl, refl)
+all_staged_plain rest = (refl, refl)
 
 all_staged_at : (r : Row) → is_staged r ≡ true → passes ([]) all_staged_tests r ≡ (let key = staged_key (staged_in r) in true)
 all_staged_at r h =
@@ -260,7 +261,7 @@ all_staged_turn : (old new : State) (rows : List Row) → IsReady old.now → Sh
     → rows ≡ map (show ([]) shown) (filter (passes ([]) all_staged_tests) (old.now.trees staged_tree))
 all_staged_turn old new rows ready h =
     let params = [] in
-    let read = reads_as all_staged_text params old new the_schema ready.schema_is _ all_staged_is.0 all_staged_plain all_staged_is.1 rows h in
+    let read = reads_as all_staged_text params old new (schema_with ready.has.rest) ready.has.is _ (all_staged_is ready.has.rest).0 (all_staged_plain ready.has.rest) (all_staged_is ready.has.rest).1 rows h in
     in_order old.now.trees params staged_tree all_staged_tests shown rows ready.rows.1.1.1.1.1.1.1.1.0.0 (read.answer Null)
 
 -- the rows that were read

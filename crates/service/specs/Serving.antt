@@ -4,7 +4,7 @@ use Rattle.sqlite_trees.specs.declared.store.Store.{Ghosts}
 use Rattle.sqlite.specs.Held.{Held, state}
 use Rattle.machine.specs.Acts.{Act}
 use Rattle.machine.specs.Once.{IsHistory}
-use Rattle.table_words.specs.Schema.{schema_0, the_schema}
+use Rattle.table_words.specs.Schema.{schema_0, HasTables}
 use Rattle.store.specs.Connected.{Connected}
 use Rattle.store.specs.Books.{AreRowsOf, KeepsBooks}
 use Rattle.house.specs.House.{Run, StepsTo, RunsTo}
@@ -44,5 +44,5 @@ IsWorked g old (Import file) new = (first : ℤ) (acts : List Act) → IsHistory
 -- when the work is refused, and as what
 abbrev pub IsJudged : {S A : Type 0} → Ghosts S → Held S → Work → Result A Fault → Type 0
 IsJudged g old (Make day) result = old.in_transaction ≡ false → IsErrOf result Foreign ↔ ((state g old).now.schema ≢ schema_0)
-IsJudged g old (Serve port max) result = (state g old).now.schema ≢ the_schema → IsErr result
-IsJudged g old (Import file) result = (state g old).now.schema ≢ the_schema → IsErr result
+IsJudged g old (Serve port max) result = ¬ HasTables (state g old).now.schema → IsErr result
+IsJudged g old (Import file) result = ¬ HasTables (state g old).now.schema → IsErr result

@@ -1,7 +1,7 @@
 ghost use Rattle.std.specs.Prelude.{◌≡◌, ◌≢◌, ◌⊎◌, ◌↔◌, ℤ, [], List, true, false, IsTrue, IsErr, IsErrOf, IfOk, IfErr};
 ghost use Rattle.sqlite.specs.Held.{state};
 ghost use Rattle.sqlite.specs.State.{HasCleanDisk};
-ghost use Rattle.table_words.specs.Schema.{schema_0, the_schema};
+ghost use Rattle.table_words.specs.Schema.{schema_0, HasTables};
 ghost use Rattle.machine.specs.Acts.{Act};
 ghost use Rattle.machine.specs.Once.{IsHistory};
 ghost use Rattle.store.specs.declared.fault.Fault.TheVariants.{Foreign as ForeignBooks};
@@ -78,7 +78,7 @@ fn served<S: Alter + Drop, W: Write>(
 ) -> Result<Worked<S>, Fault>
     ensures served { IfOk result (λ w. HasCleanDisk (state S.Store w.0) → (first : ℤ) (acts : List Act) → IsHistory first acts
         → AreRowsOf first acts (state S.Store conn).committed.trees → KeepsRun S.Store first acts max w.0) }
-    ensures other { (state S.Store conn).now.schema ≢ the_schema → IsErr result }
+    ensures other { ¬ HasTables (state S.Store conn).now.schema → IsErr result }
     ensures within { conn.in_transaction ≡ true → IsErrOf result Fault.Store }
     ensures fault { IfErr result (λ fault. (fault ≡ Fault.Store) ⊎ (fault ≡ Fault.Foreign)) }
 {
@@ -143,7 +143,7 @@ fn import_books<S: Alter + Drop, F: FilesAt, W: Write>(
 fn opened<S: Alter + Drop>(alloc: Global, conn: Connection<S>) -> Result<Books<S>, Fault>
     ensures books { IfOk result (λ b. IsClean S.Store b → (first : ℤ) (acts : List Act) → IsHistory first acts
         → AreRowsOf first acts (state S.Store conn).committed.trees → HoldsBooks S.Store first acts b) }
-    ensures other { (state S.Store conn).now.schema ≢ the_schema → IsErr result }
+    ensures other { ¬ HasTables (state S.Store conn).now.schema → IsErr result }
     ensures within { conn.in_transaction ≡ true → IsErrOf result Fault.Store }
     ensures fault { IfErr result (λ fault. (fault ≡ Fault.Store) ⊎ (fault ≡ Fault.Foreign)) }
 {

@@ -10,14 +10,20 @@ use Rattle.sqlite_trees.specs.declared.store.Store.{Ghosts}
 use Rattle.sqlite_trees.specs.View.{doubt}
 use Rattle.sqlite.specs.Effect.{Database}
 use Rattle.sqlite.specs.Held.{Held, state}
-use Rattle.sqlite.specs.State.{State, HasCleanDisk, KeepsCommit, IsRolledBack, Opens, Survives}
+use Rattle.sqlite.specs.State.{State, HasCleanDisk, KeepsCommit, IsRolledBack, IsUnchanged, Shows, Opens, Survives}
+use Rattle.sqlite.specs.Steps.{FailsToCommit}
+use Rattle.sqlite.specs.declared.error.Error.{Error}
+use Rattle.sqlite.specs.Table.{Table}
+use Rattle.sqlite.proofs.StateLemmas.{survives_then}
 use Rattle.sqlite.specs.Tree.{Trees}
 use Rattle.table_words.specs.Cells.{is_the_number}
-use Rattle.table_words.specs.Schema.{meta_tree}
+use Rattle.table_words.specs.Schema.{meta_tree, the_tables}
 use Rattle.table_words.specs.Steps.{IsReady}
 use Rattle.table_words.specs.Typed.{is_meta, tables_in, meta_rows_rows}
 use Rattle.table_words.specs.declared.error.TableFault.{TableFault}
 use Rattle.table_words.specs.declared.error.TableFault.TheVariants.{Store as TableStore, Foreign as TableForeign}
+use Rattle.table_words.proofs.StepLemmas.{tables_same, typed_same}
+use Rattle.tables.specs.Indexing.{HasIndex, KeepsRows, IsIndexed}
 use Rattle.tables.specs.Opening.{IsLeft}
 use Rattle.tables.specs.declared.opening.Leftover.{Leftover}
 use Rattle.tables.specs.declared.opening.Leftover.TheVariants as left
@@ -27,7 +33,7 @@ use Rattle.machine.specs.Tables.{tables_of}
 use Rattle.store.specs.Books.{AreRowsOf, KeepsBooks}
 use Rattle.store.specs.Faults.{fault_of}
 use Rattle.store.specs.declared.fault.Fault.{Fault}
-use Rattle.store.specs.Opening.{HasDay, IsReopened, IsLeftOver, unlimited}
+use Rattle.store.specs.Opening.{HasDay, IsReopened, IsLeftOver, IsStill, unlimited}
 use Rattle.store.specs.declared.fault.Fault.TheVariants.{Store, Foreign}
 
 -- ---- faults
@@ -86,15 +92,56 @@ no_day (Ok x) items (Err e) trees is other (inr none) = λ foreign day has. let 
 no_day (Err x) items (Err e) trees is other (inl same) = λ foreign day has. other (same ∙ foreign) has.typed
 no_day (Err x) items (Err e) trees is other (inr h) = absurd h
 
--- a look that is rolled back leaves what was committed
-pub look_kept : (old begun last new : State) → begun ≡ record old { in_transaction = true } → (HasCleanDisk last → IsReady begun.now → KeepsCommit begun last) → Survives last new (λ _. ⊥)
-    → (HasCleanDisk new → IsRolledBack last new) → HasCleanDisk new → IsReady old.now → IsTrue new.is_open → (new.now ≡ old.committed) × (new.committed ≡ old.committed)
-look_kept old begun last new is keeps ends undone clean ready up =
-    let was : HasCleanDisk last = omega (arith, clean, ends.clean) in
-    let kept = keeps was (subst IsReady (sym (ap (λ (s : State). s.now) is)) ready) in
-    let back = undone clean in
-    let before : last.committed ≡ old.committed = kept.committed (back.was_open up) ∙ ap (λ (s : State). s.committed) is in
-    ((back.undone up).0 ∙ before, (back.undone up).1 ∙ before)
+-- what is so where rows are read is so where a day is read
+pub on_day : {R P : Type 0} (rows : Result R TableFault) (items : R → List MetaRow) (r : Result ℤ TableFault) → OnOk rows P → IfOk r (λ day. IsOkAnd rows (λ x. option_map (λ (m : MetaRow). m.day) (find (λ _. true) (items x)) ≡ Some day)) → OnOk r P
+on_day (Ok x) items (Ok day) h is = h
+on_day (Err e) items (Ok day) h is = absurd is
+on_day rows items (Err e) h is = tt
+
+-- ---- the transaction in which the day is read and the indexes are made
+
+pub indexed_after : (a b c : State) → IsUnchanged a b → IsIndexed b c → IsIndexed a c
+indexed_after a b c same indexed = record {
+  ready = indexed.ready;
+  rows = subst (λ (d : Database). KeepsRows d.trees c.now.trees) same.0.now_is indexed.rows;
+  mode = indexed.mode ∙ same.0.mode;
+  still = λ name there. indexed.still name (subst (λ (d : Database). HasIndex d.schema name) (sym same.0.now_is) there);
+}
+
+each_itself : (trees : Trees) (tables : List Table) → AllByRecursion (λ t. trees t.tree ≡ trees t.tree) tables
+each_itself trees [] = tt
+each_itself trees (t ∷ tables) = (refl, each_itself trees tables)
+
+pub still_itself : (trees : Trees) (new : State) → IsReady new.now → new.now.trees ≡ trees → new.committed ≡ new.now → IsStill trees new
+still_itself trees new ready same settled = record { ready = ready; rows = subst (KeepsRows trees) (sym same) (each_itself trees the_tables); settled = settled }
+
+module _ (old begun last new : State) (is : begun ≡ record old { in_transaction = true }) where
+  pub settled_still : IsIndexed begun last → Shows last new last.now last.now false → IsStill old.now.trees new
+  settled_still indexed shows = record {
+    ready = subst IsReady (sym shows.now_is) indexed.ready;
+    rows = subst (λ (d : Database). KeepsRows old.now.trees d.trees) (sym shows.now_is) (subst (λ (d : Database). KeepsRows d.trees last.now.trees) (ap (λ (s : State). s.now) is) indexed.rows);
+    settled = shows.committed_is ∙ sym shows.now_is;
+  }
+
+  pub undone_still : KeepsCommit begun last → IsRolledBack last new → IsReady old.now → old.now ≡ old.committed → IsTrue new.is_open → IsStill old.now.trees new
+  undone_still kept undone ready settled up =
+      let back = undone.undone up in
+      let before : last.committed ≡ old.committed = kept.committed (undone.was_open up) ∙ ap (λ (s : State). s.committed) is in
+      let now : new.now ≡ old.now = back.0 ∙ before ∙ sym settled in
+      still_itself old.now.trees new (subst IsReady (sym now) ready) (ap (λ (d : Database). d.trees) now) (back.1 ∙ sym back.0)
+
+  pub uncommitted_still : (e : Error) → KeepsCommit begun last → last.in_transaction ≡ begun.in_transaction → FailsToCommit last new e → IsReady old.now → old.now ≡ old.committed → IsTrue new.is_open
+      → IsStill old.now.trees new
+  uncommitted_still e kept mode (inl fails) ready settled up = undone_still kept fails.3 ready settled up
+  uncommitted_still e kept mode (inr late) ready settled up = absurd (let inside : begun.in_transaction ≡ true = ap (λ (s : State). s.in_transaction) is in let out = late.1 in cc)
+
+-- a stop before the commit leaves what there was
+pub stops_before : {S : Type 0} (g : Ghosts S) (old begun : Held S) (last new : State) (P : Trees → Type 0) → begun ≡ record old { in_transaction = true } → Survives (state g begun) last (λ _. ⊥) → Survives last new (λ _. ⊥)
+    → Survives (state g old) new P
+stops_before g old begun last new P is one two =
+    let first = rw is at one in
+    let whole : Survives (state g old) last (λ _. ⊥) = record { clean = first.clean; shield = first.shield; counts = first.counts; limit = first.limit; closes = first.closes; crash = first.crash } in
+    survives_then (state g old) last new (λ _. ⊥) (λ _. ⊥) P (λ _ db none. absurd none) (λ _ db none. absurd none) whole two
 
 -- ---- of a history
 
@@ -134,17 +181,20 @@ clean_before last new s clean = omega (arith, clean, s.clean)
 pub reopened : {S : Type 0} (g : Ghosts S) (old again new : Held S) → (HasCleanDisk (state g again) → IsReady (state g again).now) → (HasCleanDisk (state g again) → Opens (state g again))
     → (HasCleanDisk (state g again) → (state g again).now.trees ≡ (state g old).committed.trees) → (HasCleanDisk (state g again) → (db : Trees) → (state g again).may_leave db → db ≡ (state g old).committed.trees)
     → doubt (state g old).is_clean ≤ doubt (state g again).is_clean → ((state g old).IsShielded → (state g again).IsShielded)
-    → (HasCleanDisk (state g new) → IsReady (state g again).now → IsTrue (state g new).is_open → ((state g new).now ≡ (state g again).committed) × ((state g new).committed ≡ (state g again).committed))
-    → Survives (state g again) (state g new) (λ _. ⊥) → new.in_transaction ≡ false → IsReopened g old new
+    → (HasCleanDisk (state g new) → IsReady (state g again).now → (state g again).now ≡ (state g again).committed → IsTrue (state g new).is_open → IsStill (state g again).now.trees (state g new))
+    → Survives (state g again) (state g new) (λ db. IsReady (state g again).now → KeepsRows (state g again).now.trees db) → new.in_transaction ≡ false → IsReopened g old new
 reopened g old again new ready opens same crash clean shield kept survives outside =
     let was : HasCleanDisk (state g new) → HasCleanDisk (state g again) = λ c. omega (arith, c, survives.clean) in
-    let is : HasCleanDisk (state g new) → IsTrue (state g new).is_open → (state g new).now ≡ (state g again).now = λ c up. (kept c (ready (was c)) up).0 ∙ sym (opens (was c)).clean in
+    let still : HasCleanDisk (state g new) → IsTrue (state g new).is_open → IsStill (state g again).now.trees (state g new) = λ c up. kept c (ready (was c)) (opens (was c)).clean up in
     record {
       outside = outside;
-      ready = λ c up. subst IsReady (sym (is c up)) (ready (was c));
-      same = λ c up. ap (λ (d : Database). d.trees) (is c up) ∙ same (was c);
-      settled = λ c up. (kept c (ready (was c)) up).1 ∙ sym (kept c (ready (was c)) up).0;
-      crash = λ c db left. elim (survives.crash c db left) [ inl before ↦ crash (was c) db before | inr none ↦ absurd none ];
+      ready = λ c up. (still c up).ready;
+      same = λ c up. subst (λ (t : Trees). KeepsRows t (state g new).now.trees) (same (was c)) (still c up).rows;
+      settled = λ c up. (still c up).settled;
+      crash = λ c db left. elim (survives.crash c db left) [
+        | inl before ↦ subst (KeepsRows (state g old).committed.trees) (sym (crash (was c) db before)) (each_itself (state g old).committed.trees the_tables)
+        | inr after ↦ subst (λ (t : Trees). KeepsRows t db) (same (was c)) (after (ready (was c)))
+      ];
       clean = omega (arith, clean, survives.clean);
       shield = λ s. survives.shield (shield s);
     }
@@ -152,6 +202,12 @@ reopened g old again new ready opens same crash clean shield kept survives outsi
 pub keeps_books : {S : Type 0} (g : Ghosts S) (old new : Held S) (first : ℤ) (acts : List Act) → IsReopened g old new → HasCleanDisk (state g new) → AreRowsOf first acts (state g old).committed.trees
     → KeepsBooks first acts (state g new)
 keeps_books g old new first acts it clean rows = record {
-  books = λ up. record { ready = it.ready clean up; rows = subst (AreRowsOf first acts) (sym (it.same clean up)) rows };
+  books = λ up. record {
+    ready = it.ready clean up;
+    rows = record {
+      tables = tables_same (state g old).committed.trees (state g new).now.trees (it.same clean up) ∙ rows.tables;
+      typed = typed_same (state g old).committed.trees (state g new).now.trees (it.same clean up) rows.typed;
+    };
+  };
   settled = it.settled clean;
 }

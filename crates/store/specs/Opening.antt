@@ -9,6 +9,7 @@ use Rattle.sqlite.specs.State.{State, HasCleanDisk, Survives}
 use Rattle.sqlite.specs.Tree.{Trees}
 use Rattle.table_words.specs.Steps.{IsReady}
 use Rattle.table_words.specs.Typed.{tables_in, is_meta, meta_rows_rows}
+use Rattle.tables.specs.Indexing.{KeepsRows}
 use Rattle.tables.specs.Opening.{IsClosed}
 use Rattle.tables.specs.declared.opening.Leftover.{Leftover}
 use Rattle.tables.specs.declared.opening.Leftover.TheVariants as left
@@ -18,6 +19,12 @@ use Rattle.store.specs.Books.{AreRowsOf}
 pub record HasDay (trees : Trees) (day : ℤ) : Type 0 where
   pub typed : AllByRecursion (λ r. is_meta r ≡ true) (meta_rows_rows 1 trees)
   pub found : option_map (λ (m : MetaRow). m.day) (tables_in trees).meta ≡ Some day
+
+-- the tables have the rows that they had, and all is committed
+pub record IsStill (old : Trees) (new : State) : Type 0 where
+  pub ready : IsReady new.now
+  pub rows : KeepsRows old new.now.trees
+  pub settled : new.committed ≡ new.now
 
 -- the state with no limit on steps
 abbrev pub unlimited : State → State
@@ -35,13 +42,13 @@ module _ {S : Type 0} (g : Ghosts S) (old : Held S) where
   IsLeftUnfilled day (left.Connection conn) = IsUnfilled day conn
   IsLeftUnfilled day (left.Store s) = ⊥
 
-  -- a connection that was opened anew over the tables of the last commit, which a crash leaves too
+  -- a connection that was opened anew, whose tables have the rows of the last commit, which a crash leaves too
   pub record IsReopened (new : Held S) : Type 0 where
     pub outside : new.in_transaction ≡ false
     pub ready : HasCleanDisk (state g new) → IsTrue (state g new).is_open → IsReady (state g new).now
-    pub same : HasCleanDisk (state g new) → IsTrue (state g new).is_open → (state g new).now.trees ≡ (state g old).committed.trees
+    pub same : HasCleanDisk (state g new) → IsTrue (state g new).is_open → KeepsRows (state g old).committed.trees (state g new).now.trees
     pub settled : HasCleanDisk (state g new) → IsTrue (state g new).is_open → (state g new).committed ≡ (state g new).now
-    pub crash : HasCleanDisk (state g new) → (db : Trees) → (state g new).may_leave db → db ≡ (state g old).committed.trees
+    pub crash : HasCleanDisk (state g new) → (db : Trees) → (state g new).may_leave db → KeepsRows (state g old).committed.trees db
     pub clean : doubt (state g old).is_clean ≤ doubt (state g new).is_clean
     pub shield : (state g old).IsShielded → (state g new).IsShielded
 

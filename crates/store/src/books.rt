@@ -1,12 +1,13 @@
 //! The books over a connection.
 
 ghost use Rattle.std.specs.Prelude.{◌≡◌, ◌≢◌, ◌≤◌, ◌⊎◌, ◌↔◌, ℤ, length, None, [], List, false, IsTrue, IsErrOf, IsErrAnd, IsOkAnd, OnOk, OnErr, IfOk, IfErr, option_map, find, Some, true};
-ghost use Rattle.sqlite.specs.State.{HasCleanDisk, Survives, KeepsCommit};
+ghost use Rattle.sqlite.specs.State.{HasCleanDisk, Survives, IsUnchanged, KeepsCommit};
 ghost use Rattle.sqlite.specs.Held.{state};
 ghost use Rattle.label.specs.Days.{is_business_day};
-ghost use Rattle.table_words.specs.Schema.{schema_0, the_schema};
+ghost use Rattle.table_words.specs.Schema.{schema_0, HasTables};
 ghost use Rattle.table_words.specs.Steps.{IsReady};
 ghost use Rattle.table_words.specs.declared.error.TableFault.TheVariants.{Foreign as ForeignTable};
+ghost use Rattle.tables.specs.Indexing.{HasIndexes, KeepsRows, IsIndexed};
 ghost use Rattle.machine.specs.Acts.{Act};
 ghost use Rattle.machine.specs.Once.{IsHistory, is_key_of, acts_after, acts_after_file};
 ghost use Rattle.machine.specs.Standing.{today, RETURNS};
@@ -18,7 +19,7 @@ ghost use Rattle.store.specs.Heads.{card_head_shown, notice_head_shown};
 ghost use Rattle.store.specs.Handing.{IsHanded, NoBooks};
 ghost use Rattle.store.specs.Queries.{IsShown};
 ghost use Rattle.store.specs.Books.{AreRowsOf, KeepsBooks, HoldsBooks, LeavesOnly, IsClean};
-ghost use Rattle.store.specs.Opening.{HasDay, unlimited, IsLeftUnfilled, IsReopened, IsLeftOver, IsCleanLeft};
+ghost use Rattle.store.specs.Opening.{HasDay, IsStill, unlimited, IsLeftUnfilled, IsReopened, IsLeftOver, IsCleanLeft};
 
 use crate::acting::act_once;
 use crate::bins::hand_bins;
@@ -36,11 +37,12 @@ use commands::{
 use goods_tables::meta::meta_rows;
 use label::{BusinessDay, Day};
 use slices::{OrderQuery, ShortQuery, StockQuery};
-use sqlite::{Alter, Connection};
+use sqlite::{Alter, Connection, Transaction};
 use std::alloc::Global;
 use std::marker::Model;
 use table_words::error::TableFault;
 use tables::creation;
+use tables::indexing::make_indexes;
 use tables::opening::{Leftover, ready};
 use values::{Gtin, LotId, Name};
 
@@ -105,20 +107,57 @@ fn make_tables<S: Alter>(conn: &mut Connection<S>, day: BusinessDay) -> Result<(
 }
 
 /// The business day in the row of `meta`; `Foreign` where there is no such row, or one with a value that no row has.
-fn stored_day<S: Alter>(alloc: Global, conn: &mut Connection<S>) -> Result<BusinessDay, TableFault>
+fn stored_day<S: Alter>(
+    alloc: Global,
+    tx: &mut Transaction<'_, S>,
+) -> Result<BusinessDay, TableFault>
+    ensures same_reference { tx.new.conn.ghost_name ≡ tx.old.conn.ghost_name }
+    ensures day { HasCleanDisk (state S.Store tx.new.conn.now) → IsReady (state S.Store tx.old.conn.now).now → IfOk result (HasDay (state S.Store tx.old.conn.now).now.trees) }
+    ensures foreign { HasCleanDisk (state S.Store tx.new.conn.now) → IsReady (state S.Store tx.old.conn.now).now
+        → IfErr result (λ e. e ≡ ForeignTable → (day : ℤ) → ¬ HasDay (state S.Store tx.old.conn.now).now.trees day) }
+    ensures same { HasCleanDisk (state S.Store tx.new.conn.now) → IsReady (state S.Store tx.old.conn.now).now → OnOk result (IsUnchanged (state S.Store tx.old.conn.now) (state S.Store tx.new.conn.now)) }
+    ensures kept { HasCleanDisk (state S.Store tx.new.conn.now) → IsReady (state S.Store tx.old.conn.now).now → KeepsCommit (state S.Store tx.old.conn.now) (state S.Store tx.new.conn.now) }
+    ensures survives { Survives (state S.Store tx.old.conn.now) (state S.Store tx.new.conn.now) (λ _. ⊥) }
+{
+    day_in(meta_rows(alloc, tx))
+}
+
+/// Reads the business day, and makes the indexes that are missing.
+fn day_and_indexes<S: Alter>(
+    alloc: Global,
+    tx: &mut Transaction<'_, S>,
+) -> Result<BusinessDay, TableFault>
+    ensures same_reference { tx.new.conn.ghost_name ≡ tx.old.conn.ghost_name }
+    ensures day { HasCleanDisk (state S.Store tx.new.conn.now) → IsReady (state S.Store tx.old.conn.now).now → IfOk result (HasDay (state S.Store tx.old.conn.now).now.trees) }
+    ensures foreign { HasCleanDisk (state S.Store tx.new.conn.now) → IsReady (state S.Store tx.old.conn.now).now
+        → IfErr result (λ e. e ≡ ForeignTable → (day : ℤ) → ¬ HasDay (state S.Store tx.old.conn.now).now.trees day) }
+    ensures indexed { HasCleanDisk (state S.Store tx.new.conn.now) → IsReady (state S.Store tx.old.conn.now).now
+        → OnOk result (IsIndexed (state S.Store tx.old.conn.now) (state S.Store tx.new.conn.now) × HasIndexes (state S.Store tx.new.conn.now).now.schema) }
+    ensures kept { HasCleanDisk (state S.Store tx.new.conn.now) → IsReady (state S.Store tx.old.conn.now).now → KeepsCommit (state S.Store tx.old.conn.now) (state S.Store tx.new.conn.now) }
+    ensures survives { Survives (state S.Store tx.old.conn.now) (state S.Store tx.new.conn.now) (λ _. ⊥) }
+{
+    let day = stored_day(alloc, tx)?;
+    make_indexes(tx)?;
+    Ok(day)
+}
+
+/// The business day that is stored. In the same transaction the indexes are made that are missing.
+fn settle<S: Alter>(alloc: Global, conn: &mut Connection<S>) -> Result<BusinessDay, TableFault>
     requires outside { conn.old.in_transaction ≡ false }
     ensures day { HasCleanDisk (state S.Store conn.new) → IsReady (state S.Store conn.old).now → IfOk result (HasDay (state S.Store conn.old).now.trees) }
     ensures foreign { HasCleanDisk (state S.Store conn.new) → IsReady (state S.Store conn.old).now
         → IfErr result (λ e. e ≡ ForeignTable → (day : ℤ) → ¬ HasDay (state S.Store conn.old).now.trees day) }
-    ensures kept { HasCleanDisk (state S.Store conn.new) → IsReady (state S.Store conn.old).now → IsTrue (state S.Store conn.new).is_open
-        → ((state S.Store conn.new).now ≡ (state S.Store conn.old).committed) × ((state S.Store conn.new).committed ≡ (state S.Store conn.old).committed) }
-    ensures survives { Survives (state S.Store conn.old) (state S.Store conn.new) (λ _. ⊥) }
+    ensures open { HasCleanDisk (state S.Store conn.new) → OnOk result (IsTrue (state S.Store conn.new).is_open) }
+    ensures indexes { HasCleanDisk (state S.Store conn.new) → IsReady (state S.Store conn.old).now → OnOk result (HasIndexes (state S.Store conn.new).now.schema) }
+    ensures kept { HasCleanDisk (state S.Store conn.new) → IsReady (state S.Store conn.old).now → (state S.Store conn.old).now ≡ (state S.Store conn.old).committed
+        → IsTrue (state S.Store conn.new).is_open → IsStill (state S.Store conn.old).now.trees (state S.Store conn.new) }
+    ensures survives { Survives (state S.Store conn.old) (state S.Store conn.new) (λ db. IsReady (state S.Store conn.old).now → KeepsRows (state S.Store conn.old).now.trees db) }
     ensures outside { conn.new.in_transaction ≡ false }
 {
     let mut tx = conn.transaction();
-    let rows = meta_rows(alloc, &mut tx);
-    tx.rollback();
-    day_in(rows)
+    let day = day_and_indexes(alloc, &mut tx)?;
+    tx.commit()?;
+    Ok(day)
 }
 
 /// The business day in the row of `meta` that was read; `Foreign` where there is none.
@@ -164,9 +203,11 @@ impl<S: Alter + Drop> Books<S> {
         Ok(Books { conn, day, alloc })
     }
 
-    /// Opens the books that are in the tables. `Foreign` where the database has another schema, or where the row of
-    /// `meta` is missing or has a value that no row has; `Store` where memory or the disk fails. The tables are as they
-    /// were.
+    /// Opens the books that are in the tables. Further tables that refer to none, views and indexes that refuse no row
+    /// of the books are passed over, and those of the indexes of the books that are missing are made, in one transaction.
+    /// `Foreign` where a table or a column is missing or differs, or where the row of `meta` is missing or has a value
+    /// that no row has; `Store` where memory or the disk fails, and where something else has the name of an index that is
+    /// missing. The tables have the rows that they had.
     pub fn open(alloc: Global, conn: Connection<S>) -> Result<Books<S>, OpenFault<S>>
         requires outside { conn.in_transaction ≡ false }
         ensures books { IfOk result (λ b. HasCleanDisk (state S.Store b.conn) → (first : ℤ) (acts : List Act) → IsHistory first acts → AreRowsOf first acts (state S.Store conn).committed.trees
@@ -175,11 +216,13 @@ impl<S: Alter + Drop> Books<S> {
         ensures today { IfOk result (λ b. HasCleanDisk (state S.Store b.conn) → (first : ℤ) (acts : List Act) → IsHistory first acts → AreRowsOf first acts (state S.Store conn).committed.trees
             → b.day ≡ today first acts) }
         ensures opens { IfOk result (λ b. IsReopened S.Store conn b.conn) }
+        ensures open { IfOk result (λ b. HasCleanDisk (state S.Store b.conn) → IsTrue (state S.Store b.conn).is_open) }
+        ensures indexes { IfOk result (λ b. HasCleanDisk (state S.Store b.conn) → HasIndexes (state S.Store b.conn).now.schema) }
         ensures foreign { IfErr result (λ e. IsCleanLeft S.Store e.left → e.fault ≡ Fault.Foreign
-            → ((state S.Store conn).now.schema ≢ the_schema) ⊎ ((day : ℤ) → ¬ HasDay (state S.Store conn).committed.trees day)) }
-        ensures known { IfErr result (λ e. IsCleanLeft S.Store e.left → (state S.Store conn).now.schema ≡ the_schema → (first : ℤ) (acts : List Act) → IsHistory first acts
+            → (¬ HasTables (state S.Store conn).now.schema) ⊎ ((day : ℤ) → ¬ HasDay (state S.Store conn).committed.trees day)) }
+        ensures known { IfErr result (λ e. IsCleanLeft S.Store e.left → HasTables (state S.Store conn).now.schema → (first : ℤ) (acts : List Act) → IsHistory first acts
             → AreRowsOf first acts (state S.Store conn).committed.trees → e.fault ≡ Fault.Store) }
-        ensures other { (state S.Store conn).now.schema ≢ the_schema
+        ensures other { ¬ HasTables (state S.Store conn).now.schema
             → IsErrAnd result (λ e. (e.left ≡ Leftover.Connection conn) × ((e.fault ≡ Fault.Foreign) ⊎ (e.fault ≡ Fault.Store))) }
         ensures left { IfErr result (λ e. IsLeftOver S.Store conn e.left) }
         ensures fault { IfErr result (λ e. (e.fault ≡ Fault.Foreign) ⊎ (e.fault ≡ Fault.Store)) }
@@ -193,7 +236,7 @@ impl<S: Alter + Drop> Books<S> {
                 });
             }
         };
-        match stored_day(alloc, &mut again) {
+        match settle(alloc, &mut again) {
             Ok(day) => Ok(Books {
                 conn: again,
                 day,

@@ -1,5 +1,6 @@
 -- The schema, a table at a time, and the indexes after them.
-use Rattle.std.specs.Prelude.{true, false, [], ◌∷◌, Option, None, Some, List, ℕ, codes}
+use Rattle.std.specs.Prelude.{◌≡◌, Bool, true, false, not, ◌||◌, [], ◌∷◌, ◌++◌, Option, None, Some, List, ℕ, nat_lt, nat_eq, codes}
+use Rattle.std.specs.List.{list_all, starts_with}
 use Rattle.sqlite.specs.Collation.TheVariants.{Binary}
 use Rattle.sqlite.specs.declared.types.Value.TheVariants.{Null}
 use Rattle.sqlite.specs.Kind.{Kind}
@@ -185,57 +186,74 @@ schema_13 = created schema_12 (cards_table 0)
 abbrev pub schema_14 : Schema
 schema_14 = created schema_13 (repeats_table 0)
 
-abbrev pub lines_by_gtin : ℕ → Index
-lines_by_gtin tree = plain_index (codes "lines_by_gtin") tree 13 (2 ∷ [])
-
-abbrev pub schema_15 : Schema
-schema_15 = indexed schema_14 (lines_table 13) (lines_by_gtin 0)
-
 abbrev pub staged_by_gtin : ℕ → Index
 staged_by_gtin tree = plain_index (codes "staged_by_gtin") tree 15 (2 ∷ [])
 
-abbrev pub schema_16 : Schema
-schema_16 = indexed schema_15 (staged_table 15) (staged_by_gtin 0)
+abbrev pub schema_15 : Schema
+schema_15 = indexed schema_14 (staged_table 15) (staged_by_gtin 0)
 
 abbrev pub reserved_by_gtin : ℕ → Index
 reserved_by_gtin tree = plain_index (codes "reserved_by_gtin") tree 17 (2 ∷ [])
 
-abbrev pub schema_17 : Schema
-schema_17 = indexed schema_16 (reserved_table 17) (reserved_by_gtin 0)
+abbrev pub schema_16 : Schema
+schema_16 = indexed schema_15 (reserved_table 17) (reserved_by_gtin 0)
 
 abbrev pub shiplines_by_lot : ℕ → Index
 shiplines_by_lot tree = plain_index (codes "shiplines_by_lot") tree 20 (2 ∷ 3 ∷ [])
 
-abbrev pub schema_18 : Schema
-schema_18 = indexed schema_17 (shiplines_table 20) (shiplines_by_lot 0)
+abbrev pub schema_17 : Schema
+schema_17 = indexed schema_16 (shiplines_table 20) (shiplines_by_lot 0)
 
 abbrev pub orders_by_state : ℕ → Index
 orders_by_state tree = plain_index (codes "orders_by_state") tree 11 (4 ∷ [])
 
-abbrev pub schema_19 : Schema
-schema_19 = indexed schema_18 (orders_table 11) (orders_by_state 0)
+abbrev pub schema_18 : Schema
+schema_18 = indexed schema_17 (orders_table 11) (orders_by_state 0)
 
 abbrev pub the_schema : Schema
-the_schema = schema_19
+the_schema = schema_18
 
--- its indexes, written out
-abbrev pub the_indexes : List Index
-the_indexes =
-    key_index (codes "sqlite_autoindex_items_1") 2 1 (1 ∷ [])
-    ∷ key_index (codes "sqlite_autoindex_bins_1") 4 3 (1 ∷ [])
-    ∷ key_index (codes "sqlite_autoindex_lots_1") 6 5 (1 ∷ 2 ∷ [])
-    ∷ key_index (codes "sqlite_autoindex_recalls_1") 8 7 (1 ∷ 2 ∷ [])
-    ∷ key_index (codes "sqlite_autoindex_stock_1") 10 9 (1 ∷ 2 ∷ 3 ∷ [])
-    ∷ key_index (codes "sqlite_autoindex_orders_1") 12 11 (1 ∷ [])
-    ∷ key_index (codes "sqlite_autoindex_lines_1") 14 13 (1 ∷ 2 ∷ [])
-    ∷ key_index (codes "sqlite_autoindex_staged_1") 16 15 (1 ∷ 2 ∷ 3 ∷ [])
-    ∷ key_index (codes "sqlite_autoindex_reserved_1") 18 17 (1 ∷ 2 ∷ 3 ∷ [])
-    ∷ key_index (codes "sqlite_autoindex_shiplines_1") 21 20 (1 ∷ 2 ∷ 3 ∷ [])
-    ∷ key_index (codes "sqlite_autoindex_cards_1") 23 22 (1 ∷ 2 ∷ 3 ∷ [])
-    ∷ key_index (codes "sqlite_autoindex_repeats_1") 25 24 (1 ∷ [])
-    ∷ lines_by_gtin 26
-    ∷ staged_by_gtin 27
-    ∷ reserved_by_gtin 28
-    ∷ shiplines_by_lot 29
-    ∷ orders_by_state 30
+-- ---- the schemas that books may have
+
+-- the tables of the books, in their order
+abbrev pub the_tables : List Table
+the_tables =
+    meta_table meta_tree
+    ∷ items_table items_tree
+    ∷ bins_table bins_tree
+    ∷ lots_table lots_tree
+    ∷ recalls_table recalls_tree
+    ∷ stock_table stock_tree
+    ∷ orders_table orders_tree
+    ∷ lines_table lines_tree
+    ∷ staged_table staged_tree
+    ∷ reserved_table reserved_tree
+    ∷ shipments_table shipments_tree
+    ∷ shiplines_table shiplines_tree
+    ∷ cards_table cards_tree
+    ∷ repeats_table repeats_tree
     ∷ []
+
+-- the tables of the books, and then those of the rest, with its indexes and views
+abbrev pub schema_with : Schema → Schema
+schema_with rest = record rest { tables = the_tables ++ rest.tables }
+
+abbrev pub is_nil : {X : Type 0} → List X → Bool
+is_nil [] = true
+is_nil (x ∷ xs) = false
+
+-- the table has no foreign key
+abbrev pub refers_to_none : Table → Bool
+refers_to_none t = is_nil t.references
+
+-- the index is not UNIQUE, or is that of a table beside those of the books, or of a key
+abbrev pub is_harmless : Index → Bool
+is_harmless i = not i.is_unique || (nat_lt 25 i.table || starts_with nat_eq i.name (codes "sqlite_autoindex_"))
+
+-- The schema has the tables of the books. Others may follow that refer to none, and there may be any views, and any
+-- indexes that refuse no row of the books.
+pub record HasTables (schema : Schema) : Type 0 where
+  pub rest : Schema
+  pub is : schema ≡ schema_with rest
+  pub apart : list_all refers_to_none rest.tables ≡ true
+  pub harmless : list_all is_harmless rest.indexes ≡ true

@@ -5,7 +5,7 @@ use Rattle.sqlite.specs.State.{State}
 use Rattle.sqlite.specs.Effect.{Database, IsDatabase}
 use Rattle.sqlite_catalog.specs.Listing.{IsSound}
 use Rattle.sqlite.specs.Schema.{Schema}
-use Rattle.table_words.specs.Schema.{the_schema}
+use Rattle.table_words.specs.Schema.{the_tables, schema_with, HasTables}
 use Rattle.table_words.specs.Rows.{IsRows}
 use Rattle.table_words.specs.Typed.{Tables, tables_in, AreTyped}
 use Rattle.table_words.specs.declared.error.TableFault.{TableFault}
@@ -13,11 +13,11 @@ use Rattle.table_words.specs.declared.error.TableFault.TheVariants.{Store}
 use Rattle.sqlite.specs.declared.error.Error.TheVariants.{SqliteFailure}
 use Rattle.sqlite.specs.declared.error.ErrorCode.TheVariants.{TooBig}
 
--- the database has the schema and keeps its rules, and the rowids of each table rise
+-- the database has the tables and keeps the rules of its schema, and the rowids of each table rise
 pub record IsReady (db : Database) : Type 0 where
-  pub schema_is : db.schema ≡ the_schema
-  pub rows : AllByRecursion (λ t. IsRows (db.trees t.tree)) the_schema.tables
-  pub sound : IsSound the_schema db.trees
+  pub has : HasTables db.schema
+  pub rows : AllByRecursion (λ t. IsRows (db.trees t.tree)) the_tables
+  pub sound : IsSound (schema_with has.rest) db.trees
 
 -- the tables are these, and the transaction goes on
 pub record Goes (to : Tables → Tables) (old new : State) : Type 0 where

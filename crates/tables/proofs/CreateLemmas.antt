@@ -1,6 +1,6 @@
 -- What CREATE TABLE makes of a database whose tables are empty.
 use Rattle.std.proofs.Common.{◌≡◌, inl, inr, ℕ, IsTrue, true, false, None, Some, slice_get, List, [], ◌∷◌, Ok, Err, Result, OnOk, refl, sym, ap, subst, ◌∙◌}
-use Rattle.std.specs.List.{AllByRecursion}
+use Rattle.std.specs.List.{AllByRecursion, list_all}
 use Rattle.sqlite.specs.Command.TheVariants.{CreateTable, CreateIndex}
 use Rattle.sqlite.specs.Change.{created, indexed, next_tree}
 use Rattle.sqlite.specs.Does.{Tally, lacks_sequence, AtPlace, Defines, MakesIndex}
@@ -16,7 +16,7 @@ use Rattle.sqlite.specs.State.{State, HasCleanDisk, IsLive, Survives, mode_of, W
 use Rattle.sqlite.proofs.StateLemmas.{survives_then}
 use Rattle.sqlite.proofs.Callers.{runs_as}
 use Rattle.sqlite_keyed.proofs.ListLemmas.{all-append, all_both, all_weaker}
-use Rattle.table_words.specs.Schema.{the_schema, schema_0}
+use Rattle.table_words.specs.Schema.{the_schema, the_tables, is_harmless, schema_0}
 use Rattle.table_words.specs.Rows.{IsRows}
 use Rattle.commands.specs.declared.rows.MetaRow.{MetaRow}
 use Rattle.commands.specs.declared.rows.BinRow.{BinRow}
@@ -78,8 +78,16 @@ pub leads_on : (from to : Schema) (text : List ℕ) (texts : List (List ℕ)) �
 leads_on from to text texts (next, inl table, rest) old new count making h = (next, rw table.2 (creates from text table.0 table.1 old new count making h), rest)
 leads_on from to text texts (next, inr index, rest) old new count making h = (next, rw index.4 (indexes_made from index.0 index.1 text index.2 index.3 old new count making h), rest)
 
+the_harmless : list_all is_harmless the_schema.indexes ≡ true
+unfolding Rattle.std.specs.Fmt.digits
+the_harmless = refl
+
 pub blank_ready : (db : Database) → IsBlank the_schema db → IsReady db
-blank_ready db blank = record { schema_is = blank.schema_is; rows = all_weaker (λ t. db.trees t.tree ≡ []) (λ t. IsRows (db.trees t.tree)) (λ t e. rw e (tt, tt)) the_schema.tables blank.empty; sound = subst (λ s. IsSound s db.trees) blank.schema_is blank.sound }
+blank_ready db blank = record {
+  has = record { rest = record { tables = []; indexes = the_schema.indexes; views = [] }; is = blank.schema_is; apart = refl; harmless = the_harmless };
+  rows = all_weaker (λ t. db.trees t.tree ≡ []) (λ t. IsRows (db.trees t.tree)) (λ t e. rw e (tt, tt)) the_tables blank.empty;
+  sound = subst (λ s. IsSound s db.trees) blank.schema_is blank.sound;
+}
 
 pub blank_empty : (db : Database) → IsBlank the_schema db → tables_in db.trees ≡ no_rows
 blank_empty db blank = rw (blank.empty.0, blank.empty.1.0, blank.empty.1.1.0, blank.empty.1.1.1.0, blank.empty.1.1.1.1.0, blank.empty.1.1.1.1.1.0, blank.empty.1.1.1.1.1.1.0, blank.empty.1.1.1.1.1.1.1.0, blank.empty.1.1.1.1.1.1.1.1.0, blank.empty.1.1.1.1.1.1.1.1.1.0, blank.empty.1.1.1.1.1.1.1.1.1.1.0, blank.empty.1.1.1.1.1.1.1.1.1.1.1.0, blank.empty.1.1.1.1.1.1.1.1.1.1.1.1.0, blank.empty.1.1.1.1.1.1.1.1.1.1.1.1.1.0) refl

@@ -1,3 +1,5 @@
 pub mod CreateLemmas
 pub mod Texts
 pub mod OpenLemmas
+pub mod IndexTexts
+pub mod IndexLemmas

@@ -20,18 +20,20 @@ use Rattle.sqlite_catalog.specs.Listing.{Lists, IsSound}
 use Rattle.sqlite_catalog.proofs.LayoutLemmas.{table_shape, objects_rise}
 use Rattle.sqlite_catalog.proofs.ReadLemmas.{lists_once}
 use Rattle.sqlite_rules.proofs.ListLemmas.{all_from}
-use Rattle.table_words.specs.Schema.{the_schema, the_indexes}
+use Rattle.table_words.specs.Schema.{the_tables, HasTables}
 use Rattle.table_words.specs.Rows.{IsRows}
 use Rattle.table_words.specs.Steps.{IsReady}
+use Rattle.table_words.proofs.StepLemmas.{front}
 
-pub ready_over : (v : View) (db : Database) → IsListed (v.trees catalog_tree) v.shape v.reals → IsOrdered v.shape v.trees → IsDatabase db → db.trees ≡ v.trees → db.schema ≡ the_schema → IsReady db
-ready_over v db listed ordered sound trees schema =
-    let lists : Lists (v.trees catalog_tree) the_schema = subst (λ s. Lists (v.trees catalog_tree) s) schema (subst (λ t. Lists (t catalog_tree) db.schema) trees sound.lists) in
+pub ready_over : (v : View) (db : Database) → IsListed (v.trees catalog_tree) v.shape v.reals → IsOrdered v.shape v.trees → IsDatabase db → db.trees ≡ v.trees → HasTables db.schema → IsReady db
+ready_over v db listed ordered sound trees has =
+    let lists : Lists (v.trees catalog_tree) db.schema = subst (λ t. Lists (t catalog_tree) db.schema) trees sound.lists in
+    let rows = all_from (λ t. IsRows (db.trees t.tree)) db.schema.tables (λ t h.
+    subst (λ d. IsRows (d t.tree)) (sym trees) (subst (λ s. IsShaped s (v.trees t.tree)) (table_shape listed (objects_rise v listed ordered).0 lists.listed t h).0 (ordered t.tree))) in
     record {
-      schema_is = schema;
-      sound = subst (λ s. IsSound s db.trees) schema sound;
-      rows = all_from (λ t. IsRows (db.trees t.tree)) the_schema.tables (λ t h.
-          subst (λ d. IsRows (d t.tree)) (sym trees) (subst (λ s. IsShaped s (v.trees t.tree)) (table_shape listed (objects_rise v listed ordered).0 lists.listed t h).0 (ordered t.tree)));
+      has = has;
+      sound = subst (λ s. IsSound s db.trees) has.is sound;
+      rows = front _ the_tables has.rest.tables (subst (λ (s : Schema). AllByRecursion (λ t. IsRows (db.trees t.tree)) s.tables) has.is rows);
     }
 
 pub open_if_sound : (v : View) → (v.is_open ≡ false → v.is_broken ≡ true) → v.is_broken ≡ false → v.is_open ≡ true
@@ -59,18 +61,3 @@ same_schema old new p q same = lists_once (old.trees catalog_tree) new.schema ol
 pub if_err_both : {X E : Type 0} (r : Result X E) (P Q : E → Type 0) → IfErr r P → IfErr r Q → IfErr r (λ e. P e × Q e)
 if_err_both (Ok x) P Q h k = tt
 if_err_both (Err e) P Q h k = (h, k)
-
-written_out : the_schema ≡ record { tables = the_schema.tables; indexes = the_indexes; views = [] }
-unfolding Rattle.std.specs.Fmt.digits
-written_out = refl
-
-pub schema_is : (s : Schema) → s.tables ≡ the_schema.tables → s.indexes ≡ the_indexes → s.views ≡ [] → s ≡ the_schema
-schema_is s tables indexes views =
-    let same : s ≡ record { tables = the_schema.tables; indexes = the_indexes; views = [] } = rw (← tables, ← indexes, ← views) refl in
-    same ∙ sym written_out
-
-pub indexes_are : (s : Schema) → s ≡ the_schema → s.indexes ≡ the_indexes
-indexes_are s e = ap (λ (t : Schema). t.indexes) (e ∙ written_out)
-
-pub when_not : (b : Bool) → b ≡ true → IsTrue b
-when_not b h = h

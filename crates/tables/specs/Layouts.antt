@@ -1,10 +1,9 @@
--- What a table and an index of each layout are.
-use Rattle.std.specs.Prelude.{if◌then◌else◌, map}
+-- What a table of each layout is, and which lists of tables those of books are.
+use Rattle.std.specs.Prelude.{◌≡◌, ◌++◌, true, List, if◌then◌else◌, map}
+use Rattle.std.specs.List.{list_all}
 use Rattle.sqlite.specs.Table.{Table}
-use Rattle.sqlite_schema.specs.declared.schema.Index.{Index}
-use Rattle.table_words.specs.Schema.{column, id_table, keyed_table, key_index, plain_index}
+use Rattle.table_words.specs.Schema.{column, id_table, keyed_table, the_tables, refers_to_none}
 use Rattle.tables.specs.declared.checking.TableLayout.{TableLayout}
-use Rattle.tables.specs.declared.checking.IndexLayout.{IndexLayout}
 
 -- the table has its first column as its rowid, or a PRIMARY KEY beside the rowid
 abbrev pub table_of : TableLayout → Table
@@ -12,6 +11,8 @@ table_of l =
     if l.has_id then id_table l.tree l.name.now (map (λ c. column c.0.now c.1) l.columns.now)
     else keyed_table l.tree l.name.now (map (λ c. column c.0.now c.1) l.columns.now) l.places.now
 
--- the index is that of a PRIMARY KEY, or one that a CREATE INDEX makes
-abbrev pub index_of : IndexLayout → Index
-index_of l = if l.is_key then key_index l.name.now l.tree l.table l.places.now else plain_index l.name.now l.tree l.table l.places.now
+-- the tables of the books, and then others that refer to none
+pub record BeginsWithTables (tables : List Table) : Type 0 where
+  pub others : List Table
+  pub is : tables ≡ the_tables ++ others
+  pub apart : list_all refers_to_none others ≡ true

@@ -1,3 +1,4 @@
 pub mod Creation
 pub mod Opening
 pub mod Layouts
+pub mod Indexing

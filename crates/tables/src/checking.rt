@@ -1,10 +1,11 @@
-//! Whether a schema that was found is the expected one.
+//! Whether a schema that was found is one of books.
 
 ghost use Rattle.std.specs.Prelude.{◌≡◌, ◌↔◌, IsTrue, IfOk, [], ◌∷◌, map, Some};
+ghost use Rattle.std.specs.List.{list_all};
 ghost use Rattle.sqlite_value.specs.declared.value.Value.TheVariants.{Null};
 ghost use Rattle.sqlite_value.specs.Keys.{plain};
-ghost use Rattle.tables.specs.Layouts.{table_of, index_of};
-ghost use Rattle.table_words.specs.Schema.{column, plain_table, keyed_table, id_table, the_schema, the_indexes, schema_0};
+ghost use Rattle.tables.specs.Layouts.{table_of, BeginsWithTables};
+ghost use Rattle.table_words.specs.Schema.{column, plain_table, keyed_table, id_table, the_tables, schema_0, refers_to_none as refers_to_none_lem, is_harmless as is_harmless_lem, HasTables};
 
 use sqlite_items::Items;
 use sqlite_schema::code::Terms;
@@ -24,18 +25,16 @@ struct TableLayout {
     has_id: bool,
 }
 
-/// An index as it has to be.
-struct IndexLayout {
-    name: &'static [u8],
-    tree: u32,
-    table: u32,
-    places: &'static [usize],
-    /// Whether it is that of a PRIMARY KEY.
-    is_key: bool,
-}
+/// The last tree of the tables and of their keys.
+const LAST_TREE: u32 = 25;
+
+/// What the names of the indexes of keys begin with, and no other.
+const AUTOMATIC: &[u8] = b"sqlite_autoindex_";
+
+const TABLE_COUNT: usize = 14;
 
 /// The tables of the books.
-const TABLES: [TableLayout; 14] = [
+const TABLES: [TableLayout; TABLE_COUNT] = [
     TableLayout {
         tree: 0,
         name: b"meta",
@@ -199,129 +198,6 @@ const TABLES: [TableLayout; 14] = [
         ],
         places: &[1],
         has_id: false,
-    },
-];
-
-/// Their indexes, those of the keys first.
-const INDEXES: [IndexLayout; 17] = [
-    IndexLayout {
-        name: b"sqlite_autoindex_items_1",
-        tree: 2,
-        table: 1,
-        places: &[1],
-        is_key: true,
-    },
-    IndexLayout {
-        name: b"sqlite_autoindex_bins_1",
-        tree: 4,
-        table: 3,
-        places: &[1],
-        is_key: true,
-    },
-    IndexLayout {
-        name: b"sqlite_autoindex_lots_1",
-        tree: 6,
-        table: 5,
-        places: &[1, 2],
-        is_key: true,
-    },
-    IndexLayout {
-        name: b"sqlite_autoindex_recalls_1",
-        tree: 8,
-        table: 7,
-        places: &[1, 2],
-        is_key: true,
-    },
-    IndexLayout {
-        name: b"sqlite_autoindex_stock_1",
-        tree: 10,
-        table: 9,
-        places: &[1, 2, 3],
-        is_key: true,
-    },
-    IndexLayout {
-        name: b"sqlite_autoindex_orders_1",
-        tree: 12,
-        table: 11,
-        places: &[1],
-        is_key: true,
-    },
-    IndexLayout {
-        name: b"sqlite_autoindex_lines_1",
-        tree: 14,
-        table: 13,
-        places: &[1, 2],
-        is_key: true,
-    },
-    IndexLayout {
-        name: b"sqlite_autoindex_staged_1",
-        tree: 16,
-        table: 15,
-        places: &[1, 2, 3],
-        is_key: true,
-    },
-    IndexLayout {
-        name: b"sqlite_autoindex_reserved_1",
-        tree: 18,
-        table: 17,
-        places: &[1, 2, 3],
-        is_key: true,
-    },
-    IndexLayout {
-        name: b"sqlite_autoindex_shiplines_1",
-        tree: 21,
-        table: 20,
-        places: &[1, 2, 3],
-        is_key: true,
-    },
-    IndexLayout {
-        name: b"sqlite_autoindex_cards_1",
-        tree: 23,
-        table: 22,
-        places: &[1, 2, 3],
-        is_key: true,
-    },
-    IndexLayout {
-        name: b"sqlite_autoindex_repeats_1",
-        tree: 25,
-        table: 24,
-        places: &[1],
-        is_key: true,
-    },
-    IndexLayout {
-        name: b"lines_by_gtin",
-        tree: 26,
-        table: 13,
-        places: &[2],
-        is_key: false,
-    },
-    IndexLayout {
-        name: b"staged_by_gtin",
-        tree: 27,
-        table: 15,
-        places: &[2],
-        is_key: false,
-    },
-    IndexLayout {
-        name: b"reserved_by_gtin",
-        tree: 28,
-        table: 17,
-        places: &[2],
-        is_key: false,
-    },
-    IndexLayout {
-        name: b"shiplines_by_lot",
-        tree: 29,
-        table: 20,
-        places: &[2, 3],
-        is_key: false,
-    },
-    IndexLayout {
-        name: b"orders_by_state",
-        tree: 30,
-        table: 11,
-        places: &[4],
-        is_key: false,
     },
 ];
 
@@ -489,55 +365,58 @@ fn tables_match(alloc: Global, found: &[Table], layouts: &[TableLayout]) -> Resu
 }
 
 fn are_tables(alloc: Global, found: &[Table]) -> Result<bool, AllocError>
-    ensures { IfOk result (λ same. IsTrue same ↔ (found.now ≡ the_schema.tables)) }
+    ensures { IfOk result (λ same. IsTrue same ↔ (found.now ≡ the_tables)) }
 {
     tables_match(alloc, found, &TABLES)
 }
 
-/// Whether it is the index of this layout.
-fn is_index(found: &Index, layout: &IndexLayout) -> bool
-    ensures { IsTrue result ↔ (found.now ≡ index_of layout.now) }
+fn refers_to_none(found: &Table) -> bool
+    ensures { result ≡ refers_to_none_lem found.now }
 {
-    found.name.as_slice() == layout.name
-        && found.tree == layout.tree
-        && found.table == layout.table
-        && found.columns.as_slice() == layout.places
-        && found.order.digits == 0
-        && found.is_unique == layout.is_key
+    found.references.is_empty()
 }
 
-/// Whether they are the indexes of these layouts, in their order.
-fn indexes_match(found: &[Index], layouts: &[IndexLayout]) -> bool
-    ensures { IsTrue result ↔ (found.now ≡ map index_of layouts.now) }
+fn are_apart(found: &[Table]) -> bool
+    ensures { result ≡ list_all refers_to_none_lem found.now }
 {
-    if found.len() != layouts.len() {
-        return false;
-    }
-    for at in 0..found.len() {
-        if !is_index(&found[at], &layouts[at]) {
-            return false;
-        }
-    }
-    true
+    found.iter().all(|t| refers_to_none(t))
 }
 
-fn are_indexes(found: &[Index]) -> bool
-    ensures { IsTrue result ↔ (found.now ≡ the_indexes) }
+/// Whether the index refuses no row of the books that their keys let in.
+fn is_harmless(found: &Index) -> bool
+    ensures { result ≡ is_harmless_lem found.now }
 {
-    indexes_match(found, &INDEXES)
+    !found.is_unique || found.table > LAST_TREE || found.name.as_slice().starts_with(AUTOMATIC)
 }
 
-/// Whether the schema is the expected one.
-pub fn is_expected(alloc: Global, found: &Schema) -> Result<bool, AllocError>
-    ensures { IfOk result (λ same. IsTrue same ↔ (found.now ≡ the_schema)) }
+fn are_harmless(found: &[Index]) -> bool
+    ensures { result ≡ list_all is_harmless_lem found.now }
 {
-    if !are_tables(alloc, found.tables.as_slice())? {
+    found.iter().all(|i| is_harmless(i))
+}
+
+/// Whether these are the tables of the books, and then others that refer to none.
+fn begin_with_tables(alloc: Global, found: &[Table]) -> Result<bool, AllocError>
+    ensures { IfOk result (λ yes. IsTrue yes ↔ BeginsWithTables found.now) }
+{
+    if found.len() < TABLE_COUNT {
         return Ok(false);
     }
-    if !are_indexes(found.indexes.as_slice()) {
+    if !are_tables(alloc, &found[..TABLE_COUNT])? {
         return Ok(false);
     }
-    Ok(found.views.is_empty())
+    Ok(are_apart(&found[TABLE_COUNT..]))
+}
+
+/// Whether the schema has the tables of the books before any others, which refer to none, and no index that refuses a
+/// row of the books.
+pub fn has_tables(alloc: Global, found: &Schema) -> Result<bool, AllocError>
+    ensures { IfOk result (λ yes. IsTrue yes ↔ HasTables found.now) }
+{
+    if !begin_with_tables(alloc, found.tables.as_slice())? {
+        return Ok(false);
+    }
+    Ok(are_harmless(found.indexes.as_slice()))
 }
 
 /// Whether there is no table, no index and no view.

@@ -4,7 +4,7 @@ ghost use Rattle.std.specs.Prelude.{◌≡◌, ◌≢◌, ◌↔◌, true, false
 ghost use Rattle.sqlite.specs.Schema.{Schema};
 ghost use Rattle.sqlite.specs.State.{HasCleanDisk, Survives, KeepsCommit};
 ghost use Rattle.sqlite.specs.Held.{state};
-ghost use Rattle.table_words.specs.Schema.{schema_0, schema_1, schema_19};
+ghost use Rattle.table_words.specs.Schema.{schema_0, schema_1, schema_18};
 ghost use Rattle.table_words.specs.Typed.{tables_in, AreTyped};
 ghost use Rattle.table_words.specs.Steps.{IsReady};
 ghost use Rattle.table_words.specs.declared.error.TableFault.TheVariants.{Foreign};
@@ -50,7 +50,7 @@ fn run_all<S: Alter>(tx: &mut Transaction<'_, S>, texts: &[&str]) -> Result<(), 
 fn create_others<S: Alter>(tx: &mut Transaction<'_, S>) -> Result<(), Error>
     ensures same_reference { tx.new.conn.ghost_name ≡ tx.old.conn.ghost_name }
     ensures done { HasCleanDisk (state S.Store tx.new.conn.now) → IsMaking schema_1 (state S.Store tx.old.conn.now)
-        → OnOk result (IsMaking schema_19 (state S.Store tx.new.conn.now)) }
+        → OnOk result (IsMaking schema_18 (state S.Store tx.new.conn.now)) }
     ensures kept { HasCleanDisk (state S.Store tx.new.conn.now) → KeepsCommit (state S.Store tx.old.conn.now) (state S.Store tx.new.conn.now) }
     ensures survives { Survives (state S.Store tx.old.conn.now) (state S.Store tx.new.conn.now) (λ _. ⊥) }
 {
@@ -68,7 +68,6 @@ fn create_others<S: Alter>(tx: &mut Transaction<'_, S>) -> Result<(), Error>
         "CREATE TABLE shiplines (number INTEGER NOT NULL, gtin TEXT NOT NULL, lot TEXT NOT NULL, qty INTEGER NOT NULL, PRIMARY KEY (number, gtin, lot)) STRICT",
         "CREATE TABLE cards (gtin TEXT NOT NULL, lot TEXT NOT NULL, act INTEGER NOT NULL, day INTEGER NOT NULL, kind TEXT NOT NULL, note TEXT NOT NULL, qty INTEGER NOT NULL, rest INTEGER NOT NULL, PRIMARY KEY (gtin, lot, act)) STRICT",
         "CREATE TABLE repeats (k TEXT NOT NULL, act INTEGER NOT NULL, spell TEXT NOT NULL, reply TEXT NOT NULL, PRIMARY KEY (k)) STRICT",
-        "CREATE INDEX lines_by_gtin ON lines (gtin)",
         "CREATE INDEX staged_by_gtin ON staged (gtin)",
         "CREATE INDEX reserved_by_gtin ON reserved (gtin)",
         "CREATE INDEX shiplines_by_lot ON shiplines (gtin, lot)",
@@ -80,7 +79,7 @@ fn create_others<S: Alter>(tx: &mut Transaction<'_, S>) -> Result<(), Error>
 fn create_tables<S: Alter>(tx: &mut Transaction<'_, S>) -> Result<(), Error>
     ensures same_reference { tx.new.conn.ghost_name ≡ tx.old.conn.ghost_name }
     ensures done { HasCleanDisk (state S.Store tx.new.conn.now) → IsMaking schema_0 (state S.Store tx.old.conn.now)
-        → OnOk result (IsMaking schema_19 (state S.Store tx.new.conn.now)) }
+        → OnOk result (IsMaking schema_18 (state S.Store tx.new.conn.now)) }
     ensures was_open { HasCleanDisk (state S.Store tx.new.conn.now) → OnOk result (IsTrue (state S.Store tx.old.conn.now).is_open) }
     ensures kept { HasCleanDisk (state S.Store tx.new.conn.now) → KeepsCommit (state S.Store tx.old.conn.now) (state S.Store tx.new.conn.now) }
     ensures survives { Survives (state S.Store tx.old.conn.now) (state S.Store tx.new.conn.now) (λ _. ⊥) }

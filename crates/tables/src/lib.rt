@@ -6,6 +6,7 @@
 
 mod checking;
 pub mod creation;
+pub mod indexing;
 pub mod opening;
 
 pub use goods_tables as goods;

@@ -1,6 +1,6 @@
 //! A connection whose tables are ready.
 
-ghost use Rattle.std.specs.Prelude.{◌≡◌, ◌≢◌, ◌⊎◌, ◌≤◌, false, IfOk, IfErr, IsErrAnd, IsTrue};
+ghost use Rattle.std.specs.Prelude.{◌≡◌, ◌⊎◌, ◌≤◌, false, IfOk, IfErr, IsErrAnd, IsTrue};
 ghost use Rattle.sqlite_disk.specs.Disk.{MoreFaults};
 ghost use Rattle.sqlite.specs.State.{HasCleanDisk, Opens, IsLive};
 ghost use Rattle.sqlite.specs.Held.{state, IsNew};
@@ -10,12 +10,12 @@ ghost use Rattle.sqlite_trees.specs.View.{IsClean, IsQuiet, doubt};
 ghost use Rattle.sqlite.specs.Effect.{IsDatabase};
 ghost use Rattle.sqlite.specs.declared.error.ErrorCode.TheVariants.{OutOfMemory};
 ghost use Rattle.sqlite.specs.declared.error.Error.TheVariants.{SqliteFailure};
-ghost use Rattle.table_words.specs.Schema.{the_schema};
+ghost use Rattle.table_words.specs.Schema.{HasTables};
 ghost use Rattle.table_words.specs.Steps.{IsReady};
 ghost use Rattle.table_words.specs.declared.error.TableFault.TheVariants.{Foreign, Store};
 ghost use Rattle.tables.specs.Opening.{IsLeft, IsClosed, HasFailed};
 
-use crate::checking::is_expected;
+use crate::checking::has_tables;
 use sqlite::{Alter, Connection, Error, ErrorCode};
 use std::alloc::Global;
 use table_words::error::TableFault;
@@ -32,7 +32,7 @@ pub enum Leftover<S: Alter> {
 /// Opens a store that was just made or recovered.
 fn over<S: Alter + Drop>(alloc: Global, store: S) -> Result<Connection<S>, (Error, S)>
     requires { IsClean (S.Store.view store) → IsFresh (S.Store.view store) }
-    ensures ready { IfOk result (λ c. HasCleanDisk (state S.Store c) → (state S.Store c).now.schema ≡ the_schema → IsReady (state S.Store c).now) }
+    ensures ready { IfOk result (λ c. HasCleanDisk (state S.Store c) → HasTables (state S.Store c).now.schema → IsReady (state S.Store c).now) }
     ensures opens { IfOk result (λ c. HasCleanDisk (state S.Store c) → Opens (state S.Store c) × IsLive (state S.Store c)) }
     ensures fresh { IfOk result IsNew }
     ensures trees { IfOk result (λ c. HasCleanDisk (state S.Store c) → (state S.Store c).now.trees ≡ (S.Store.view store).trees) }
@@ -50,7 +50,7 @@ fn reopened<S: Alter + Drop>(
     alloc: Global,
     conn: Connection<S>,
 ) -> Result<Connection<S>, (Error, S)>
-    ensures ready { IfOk result (λ c. HasCleanDisk (state S.Store c) → (state S.Store c).now.schema ≡ the_schema → IsReady (state S.Store c).now) }
+    ensures ready { IfOk result (λ c. HasCleanDisk (state S.Store c) → HasTables (state S.Store c).now.schema → IsReady (state S.Store c).now) }
     ensures opens { IfOk result (λ c. HasCleanDisk (state S.Store c) → Opens (state S.Store c) × IsLive (state S.Store c) × IsTrue (state S.Store conn).is_open) }
     ensures fresh { IfOk result IsNew }
     ensures same { IfOk result (λ c. HasCleanDisk (state S.Store c) → (state S.Store c).now.trees ≡ (state S.Store conn).committed.trees) }
@@ -67,8 +67,8 @@ fn reopened<S: Alter + Drop>(
     over(alloc, store)
 }
 
-/// A connection over the tables, outside a transaction, opened anew. `Foreign` where the database has another schema:
-/// the connection is then as it was, and so it is where there is no memory to compare the schemas. `Store` where memory
+/// A connection over the tables, outside a transaction, opened anew. `Foreign` where the schema is not one of
+/// books: the connection is then as it was, and so it is where there is no memory to compare the schema. `Store` where memory
 /// or the disk fails.
 pub fn ready<S: Alter + Drop>(
     alloc: Global,
@@ -82,15 +82,15 @@ pub fn ready<S: Alter + Drop>(
     ensures crash { IfOk result (λ c. HasCleanDisk (state S.Store c) → (db : Trees) → (state S.Store c).may_leave db → db ≡ (state S.Store conn).committed.trees) }
     ensures clean { IfOk result (λ c. doubt (state S.Store conn).is_clean ≤ doubt (state S.Store c).is_clean) }
     ensures shield { IfOk result (λ c. (state S.Store conn).IsShielded → (state S.Store c).IsShielded) }
-    ensures foreign { IfErr result (λ e. e.1 ≡ Foreign → (state S.Store conn).now.schema ≢ the_schema) }
-    ensures other { (state S.Store conn).now.schema ≢ the_schema
+    ensures foreign { IfErr result (λ e. e.1 ≡ Foreign → ¬ HasTables (state S.Store conn).now.schema) }
+    ensures other { ¬ HasTables (state S.Store conn).now.schema
         → IsErrAnd result (λ e. (e.0 ≡ Leftover.Connection conn) × ((e.1 ≡ Foreign) ⊎ (e.1 ≡ Store (SqliteFailure OutOfMemory)))) }
     ensures left { IfErr result (λ e. IsLeft S.Store conn e.0) }
     ensures cause { IfErr result (λ e. (e.1 ≡ Foreign) ⊎ ((e.1 ≡ Store (SqliteFailure OutOfMemory)) ⊎ HasFailed S.Store conn e.0)) }
 {
     // Outside a transaction the connection shows what is committed.
     let _outside = conn.is_autocommit();
-    match is_expected(alloc, conn.schema()) {
+    match has_tables(alloc, conn.schema()) {
         Ok(true) => {}
         Ok(false) => return Err((Leftover::Connection(conn), TableFault::Foreign)),
         Err(error) => return Err((Leftover::Connection(conn), TableFault::from(error))),

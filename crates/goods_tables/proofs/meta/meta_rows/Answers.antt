@@ -1,4 +1,4 @@
-use Rattle.std.proofs.Common.{◌≡◌, refl, sym, subst}
+use Rattle.std.proofs.Common.{refl, sym, subst}
 use Rattle.sqlite.specs.Given.{IsPlain}
 use Rattle.sqlite.specs.Held.{state}
 use Rattle.sqlite.specs.Listing.{understood}
@@ -22,7 +22,7 @@ returns-clause-foreign g c clean ready =
     let h = shows is in h.untyped ((meta_rows_typed (state g.S.Store c.args.tx.now.conn.now) (state g.S.Store c.query.new.tx.conn.now) 1 h.rows ready h.shown).0 are))
 
 pub returns-clause-same : goal.returns-clause-same
-returns-clause-same g c clean ready = c.query.ensures.same clean (subst (λ s. IsPlain (understood s meta_rows_text)) (sym ready.schema_is) meta_rows_plain)
+returns-clause-same g c clean ready = c.query.ensures.same clean (subst (λ s. IsPlain (understood s meta_rows_text)) (sym ready.has.is) (meta_rows_plain ready.has.rest))
 
 pub returns-clause-kept : goal.returns-clause-kept
-returns-clause-kept g c clean ready = c.query.ensures.kept clean (subst (λ s. IsPlain (understood s meta_rows_text)) (sym ready.schema_is) meta_rows_plain)
+returns-clause-kept g c clean ready = c.query.ensures.kept clean (subst (λ s. IsPlain (understood s meta_rows_text)) (sym ready.has.is) (meta_rows_plain ready.has.rest))

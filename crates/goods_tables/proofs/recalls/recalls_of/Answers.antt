@@ -22,7 +22,7 @@ returns-clause-foreign g c clean ready =
     let h = shows is in h.untyped ((recalls_of_typed (state g.S.Store c.args.tx.now.conn.now) (state g.S.Store c.query.new.tx.conn.now) c.args.gtin.now h.rows ready h.shown).0 are))
 
 pub returns-clause-same : goal.returns-clause-same
-returns-clause-same g c clean ready = c.query.ensures.same clean (subst (λ s. IsPlain (understood s recalls_of_text)) (sym ready.schema_is) recalls_of_plain)
+returns-clause-same g c clean ready = c.query.ensures.same clean (subst (λ s. IsPlain (understood s recalls_of_text)) (sym ready.has.is) (recalls_of_plain ready.has.rest))
 
 pub returns-clause-kept : goal.returns-clause-kept
-returns-clause-kept g c clean ready = c.query.ensures.kept clean (subst (λ s. IsPlain (understood s recalls_of_text)) (sym ready.schema_is) recalls_of_plain)
+returns-clause-kept g c clean ready = c.query.ensures.kept clean (subst (λ s. IsPlain (understood s recalls_of_text)) (sym ready.has.is) (recalls_of_plain ready.has.rest))

@@ -21,10 +21,10 @@ returns-in-Err-clause-foreign g c clean ready is are =
     h.untyped ((line_of_typed (state g.S.Store c.args.tx.now.conn.now) (state g.S.Store c.query.new.tx.conn.now) c.args.order.now c.args.gtin.now h.rows ready h.shown).0 are)
 
 pub returns-in-Ok-clause-same : goal.returns-in-Ok-clause-same
-returns-in-Ok-clause-same g c clean ready = c.in-Ok.ensures.same clean (subst (λ s. IsPlain (understood s line_of_text)) (sym ready.schema_is) line_of_plain)
+returns-in-Ok-clause-same g c clean ready = c.in-Ok.ensures.same clean (subst (λ s. IsPlain (understood s line_of_text)) (sym ready.has.is) (line_of_plain ready.has.rest))
 
 pub returns-in-Ok-clause-kept : goal.returns-in-Ok-clause-kept
-returns-in-Ok-clause-kept g c clean ready = c.in-Ok.ensures.kept clean (subst (λ s. IsPlain (understood s line_of_text)) (sym ready.schema_is) line_of_plain)
+returns-in-Ok-clause-kept g c clean ready = c.in-Ok.ensures.kept clean (subst (λ s. IsPlain (understood s line_of_text)) (sym ready.has.is) (line_of_plain ready.has.rest))
 
 pub returns-in-Err-clause-kept : goal.returns-in-Err-clause-kept
-returns-in-Err-clause-kept g c clean ready = c.in-Err.ensures.kept clean (subst (λ s. IsPlain (understood s line_of_text)) (sym ready.schema_is) line_of_plain)
+returns-in-Err-clause-kept g c clean ready = c.in-Err.ensures.kept clean (subst (λ s. IsPlain (understood s line_of_text)) (sym ready.has.is) (line_of_plain ready.has.rest))

@@ -1,7 +1,8 @@
-use Rattle.std.proofs.Common.{◌≡◌, sym, ◌∙◌, arith, rules}
+use Rattle.std.proofs.Common.{◌≡◌, subst, sym, ◌∙◌, arith, rules}
 use Rattle.sqlite.specs.Held.{state}
 use Rattle.sqlite.specs.State.{HasCleanDisk, Survives}
 use Rattle.table_words.specs.Schema.{schema_0}
+use Rattle.table_words.specs.Steps.{IsReady}
 use Rattle.table_words.specs.Typed.{tables_in, AreTyped}
 use Rattle.tables.specs.Creation.{first_rows}
 use Rattle.tables.proofs.CreateLemmas.{begins_blank, crash_made}
@@ -30,7 +31,17 @@ pub returns-clause-open : goal.returns-clause-open
 returns-clause-open g c = search rules
 
 pub returns-clause-ready : goal.returns-clause-ready
-returns-clause-ready g c = search rules
+returns-clause-ready g c =
+    let old = c.args.conn.now in
+    let begun = c.transaction-tx.result.conn.now in
+    let last = state g.S.Store c.fill.new.tx.conn.now in
+    let new = state g.S.Store c.commit.new.self.0 in
+    let whole : HasCleanDisk new → IsReady new.now = λ clean.
+    let clean_last : HasCleanDisk last = omega (arith, clean, c.commit.ensures.survives.clean) in
+    let blank : (state g.S.Store old).now.schema ≡ schema_0 = sym c.schema.ensures.value ∙ c.is_empty_schema.ensures.0 c.if-not-is_empty_schema.false in
+    let filled = c.in_ok-fill.ensures.done clean_last (begins_blank g.S.Store old begun c.transaction-tx.ensures.begun c.schema.ensures.live blank (c.in_ok-fill.ensures.was_open clean_last)) in
+    subst IsReady (sym (c.in_ok-commit.ensures.ok clean).1.now_is) filled.ready in
+    search (rules, whole)
 
 pub returns-clause-tables : goal.returns-clause-tables
 returns-clause-tables g c = search rules
