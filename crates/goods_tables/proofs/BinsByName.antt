@@ -22,10 +22,11 @@ use Rattle.sqlite_value.specs.Order.{value_cmp}
 use Rattle.sqlite_keyed.proofs.ListLemmas.{map-map, all_map, all_weaker}
 use Rattle.values.specs.Values.{is_gtin, is_lot_text, is_name}
 use Rattle.values.specs.declared.lot.LotId.{LotId}
+use Rattle.commands.specs.declared.limits.TheConstants.{UNITS_MAX}
 use Rattle.commands.specs.declared.rows.StockRow.{StockRow}
 use Rattle.commands.specs.declared.views.BinUnits.{BinUnits}
 use Rattle.goods_tables.specs.declared.texts.TheConstants.{BINS_OF_LOT}
-use Rattle.table_words.specs.Cells.{is_word}
+use Rattle.table_words.specs.Cells.{is_word, is_number}
 use Rattle.table_words.specs.Schema.{schema_with, stock_tree}
 use Rattle.table_words.specs.Typed.{same_lot_id, is_stock, stock_in, tables_in, AreTyped}
 use Rattle.table_words.specs.Steps.{IsReady}
@@ -72,10 +73,8 @@ bin_name r h = (and_parts _ _ (and_parts _ _ (and_parts _ _ h).1).1).0
 
 has_shown : (r : Row) → is_stock r ≡ true → has_bin_units (column r 3 ∷ column r 4 ∷ []) ≡ true
 has_shown r h =
-    let p0 = and_parts _ _ h in
-    let p1 = and_parts _ _ p0.1 in
-    let p2 = and_parts _ _ p1.1 in
-    and_from _ _ p2.0 p2.1
+    let units : is_number UNITS_MAX (column r 4) ≡ true = (and_parts _ _ (and_parts _ _ (and_parts _ _ h).1).1).1 in
+    and_from (is_word is_name (column r 3)) (is_number UNITS_MAX (column r 4)) (bin_name r h) units
 
 module _ (lot : LotId) where
   abbrev params : Row

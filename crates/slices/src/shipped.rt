@@ -9,10 +9,10 @@ ghost use Rattle.machine.specs.Acts.{Act};
 ghost use Rattle.machine.specs.Tables.{tables_of};
 ghost use Rattle.slices.specs.Books.{IsBooksOf};
 ghost use Rattle.slices.specs.Reading.{IsRead};
-ghost use Rattle.slices.specs.Shipped.{units_told};
+ghost use Rattle.slices.specs.Shipped.{units_told, with_order};
 
 use crate::reading::order_row;
-use commands::{ShiplineRow, ShipmentRow, ShippedUnits};
+use commands::{OrderRow, ShiplineRow, ShipmentRow, ShippedUnits};
 use history_tables::shipments::shipments_of;
 use sqlite::{Alter, Transaction};
 use std::alloc::Global;
@@ -40,19 +40,34 @@ fn shipped_in<S: Alter>(
     ensures same_reference { tx.new.conn.ghost_name ≡ tx.old.conn.ghost_name }
     ensures read { IsRead (λ t found. found ≡ units_told t line.now) (state S.Store tx.old.conn.now) (state S.Store tx.new.conn.now) result }
 {
-    let Some(shipment) = shipment_row(alloc, tx, line.number)? else {
-        return Ok(None);
-    };
-    let Some(order) = order_row(alloc, tx, &shipment.order)? else {
-        return Ok(None);
-    };
-    Ok(Some(ShippedUnits {
-        number: line.number,
-        day: shipment.day,
-        qty: line.qty,
-        order: shipment.order,
-        customer: order.customer,
-    }))
+    let known = shipment_row(alloc, tx, line.number)?;
+    match known {
+        Some(shipment) => {
+            let order = order_row(alloc, tx, &shipment.order)?;
+            Ok(told_with(line, &shipment, order))
+        }
+        None => Ok(None),
+    }
+}
+
+/// What is told of the line of a shipment, if the shipment's order is known.
+fn told_with(
+    line: &ShiplineRow,
+    shipment: &ShipmentRow,
+    order: Option<OrderRow>,
+) -> Option<ShippedUnits>
+    ensures { result ≡ with_order line.now shipment.now order }
+{
+    match order {
+        Some(order) => Some(ShippedUnits {
+            number: line.number,
+            day: shipment.day,
+            qty: line.qty,
+            order: shipment.order,
+            customer: order.customer,
+        }),
+        None => None,
+    }
 }
 
 /// What a recall notice tells of a line of a shipment: with the day of the shipment, its order and the customer; `None` where

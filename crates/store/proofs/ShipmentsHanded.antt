@@ -65,6 +65,13 @@ module _ (first : ℤ) (acts : List Act) (l : LotId) (history : IsHistory first 
       let found = next_shown (Some it) it is refl in
       ap as_found found.2 ∙ ap (λ (o : Option ShippedUnits). let r : Result (Option ShippedUnits) Refusal = Ok o in r) (sym found.1)
 
+-- what is shown of what is told
+abbrev pub shown_told : Option ShippedUnits → Result ShippedUnits Refusal
+shown_told o = if_known o UnknownOrder (λ (u : ShippedUnits). Ok u)
+
+pub shown_of : (first : ℤ) (acts : List Act) (line : ShiplineRow) (o : Option ShippedUnits) → o ≡ units_told (tables_of first acts) line → shipped_shown first acts line ≡ shown_told o
+shown_of first acts line o is = ap shown_told (sym is)
+
 pub err_as_found : (shown : Result ShippedUnits Refusal) (fault : Fault) → IsShownAs {V = ShippedUnits} shown (Err fault) → IsShownAs {V = Option ShippedUnits} (as_found shown) (Err fault)
 err_as_found shown (Refused why) is = ap as_found is
 err_as_found shown Store is = tt

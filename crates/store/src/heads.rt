@@ -91,13 +91,7 @@ fn card_head_of(found: Result<Head, Fault>) -> Result<(ItemRow, Day), Fault>
 {
     match found {
         Err(fault) => Err(fault),
-        Ok(head) => match head.item {
-            None => Err(Fault::Refused(Refusal::UnknownItem)),
-            Some(item) => match head.lot {
-                None => Err(Fault::Refused(Refusal::UnknownLot)),
-                Some(lot) => Ok((item, lot.expiry)),
-            },
-        },
+        Ok(head) => card_head_in(head),
     }
 }
 
@@ -107,13 +101,39 @@ fn notice_head_of(found: Result<Head, Fault>) -> Result<(ItemRow, Option<Day>), 
 {
     match found {
         Err(fault) => Err(fault),
-        Ok(head) => match head.item {
-            None => Err(Fault::Refused(Refusal::UnknownItem)),
-            Some(item) => match head.recall {
-                None => Err(Fault::Refused(Refusal::NoNotice)),
-                Some(_) => Ok((item, expiry_of(head.lot))),
-            },
-        },
+        Ok(head) => notice_head_in(head),
+    }
+}
+
+// The head of the card, from the rows.
+fn card_head_in(head: Head) -> Result<(ItemRow, Day), Fault>
+    ensures { (first : ℤ) (acts : List Act) (l : Lot) → IsHead l (tables_of first acts) head → IsShownAs (card_head_shown first acts l) result }
+{
+    let Head {
+        item,
+        lot,
+        recall: _,
+    } = head;
+    let Some(known) = item else {
+        return Err(Fault::Refused(Refusal::UnknownItem));
+    };
+    match lot {
+        None => Err(Fault::Refused(Refusal::UnknownLot)),
+        Some(row) => Ok((known, row.expiry)),
+    }
+}
+
+// The head of the notice, from the rows.
+fn notice_head_in(head: Head) -> Result<(ItemRow, Option<Day>), Fault>
+    ensures { (first : ℤ) (acts : List Act) (l : Lot) → IsHead l (tables_of first acts) head → IsShownAs (notice_head_shown first acts l) result }
+{
+    let Head { item, lot, recall } = head;
+    let Some(known) = item else {
+        return Err(Fault::Refused(Refusal::UnknownItem));
+    };
+    match recall {
+        None => Err(Fault::Refused(Refusal::NoNotice)),
+        Some(_) => Ok((known, expiry_of(lot))),
     }
 }
 

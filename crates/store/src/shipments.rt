@@ -54,8 +54,10 @@ fn told_of(found: Result<Option<ShippedUnits>, Fault>) -> Result<ShippedUnits, F
 {
     match found {
         Err(fault) => Err(fault),
-        Ok(None) => Err(Fault::Refused(Refusal::UnknownOrder)),
-        Ok(Some(units)) => Ok(units),
+        Ok(told) => match told {
+            None => Err(Fault::Refused(Refusal::UnknownOrder)),
+            Some(units) => Ok(units),
+        },
     }
 }
 
