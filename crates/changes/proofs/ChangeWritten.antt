@@ -140,7 +140,7 @@ orders_are p d t once =
     let put_reserved : Tables → Tables = rows_written with_reserved (λ r. without_reserved r.order r.lot) p.reserved d.reserved in
     let one : Tables = record t { order = λ o. added (λ r. same_text o r.order) p.orders (t.order o) } in
     let two : Tables = record one { line = λ o g. added (λ r. same_text o r.order && same_text g r.gtin) p.lines (t.line o g) } in
-    let three : Tables = record two { staged = λ o l. added (λ r. same_text o r.order && is_lot l r.lot) p.staged d.staged (t.staged o l) } in
+    let three : Tables = record two { staged = λ o l. changed (λ r. same_text o r.order && is_lot l r.lot) p.staged d.staged (t.staged o l) } in
     ap (λ u. put_reserved (put_staged (put_lines u))) (order_rows_written p.orders t once.orders)
     ∙ ap (λ u. put_reserved (put_staged u)) (line_rows_written p.lines one once.lines)
     ∙ ap put_reserved (staged_written p.staged d.staged two once.staged)
