@@ -14,8 +14,8 @@ use requests::WireFault;
 use sqlite::Alter;
 use store::{Books, Fault, Reply};
 use values::{LineNo, LotId, Name, Qty};
-use wire::short_answers::{conflict, fault_answer, foreign_books, label_answer, reply_answer};
 use wire::Block;
+use wire::short_answers::{conflict, fault_answer, foreign_books, label_answer, reply_answer};
 
 /// Whether the key is of the command's kind: a receipt bears a delivery and a line, every other
 /// command a plain key.

@@ -63,11 +63,7 @@ pub(crate) fn show_pick_list<S: Alter>(
 }
 
 /// Shows the shortages of an item.
-pub(crate) fn show_shortages<S: Alter>(
-    alloc: Global,
-    books: &mut Books<S>,
-    gtin: &Gtin,
-) -> Answered
+pub(crate) fn show_shortages<S: Alter>(alloc: Global, books: &mut Books<S>, gtin: &Gtin) -> Answered
     ensures clean { IsClean S.Store books.new → IsClean S.Store books.old }
     ensures shown { IsClean S.Store books.new → (first : ℤ) (acts : List Act) → IsHistory first acts
         → Does S.Store first acts books.old (shortages_answer first acts gtin.now) acts (bytes_of result) books.new }

@@ -45,6 +45,7 @@ impl Query for ShortQuery {
     ghost use Rattle.slices.specs.ShownShort.{IsShortIn};
 
     type Found = (ItemRow, Rows);
+
     type View = ShortView;
 
     ghost is_in = { λ q t found. IsShortIn q.gtin t found };
