@@ -3,6 +3,7 @@
 ghost use Rattle.std.specs.Prelude.{◌≡◌, ◌⊎◌, ℤ, List};
 ghost use Rattle.machine.specs.Acts.{Act};
 ghost use Rattle.machine.specs.Once.{IsHistory};
+ghost use Rattle.wire.specs.Answers.{answer_bytes};
 ghost use Rattle.store.specs.Books.{IsClean};
 ghost use Rattle.texts.specs.PickList.{pick_list_text};
 ghost use Rattle.texts.specs.Shortages.{shortages_text};
@@ -101,10 +102,16 @@ fn told(alloc: Global, asked: Result<Answer, Fault>) -> Answered
     ensures { (bytes_of result ≡ asked_answer asked) ⊎ (bytes_of result ≡ no_memory) }
 {
     match asked {
-        Ok(answer) => match write_answer(alloc, &answer) {
-            Ok(bytes) => Answered::Long(bytes),
-            Err(_) => Answered::Short(fault_answer(WireFault::Memory)),
-        },
+        Ok(answer) => bytes_told(alloc, answer),
         Err(fault) => not_shown(fault),
+    }
+}
+
+fn bytes_told(alloc: Global, answer: Answer) -> Answered
+    ensures { (bytes_of result ≡ answer_bytes answer) ⊎ (bytes_of result ≡ no_memory) }
+{
+    match write_answer(alloc, &answer) {
+        Ok(bytes) => Answered::Long(bytes),
+        Err(_) => Answered::Short(fault_answer(WireFault::Memory)),
     }
 }

@@ -1,0 +1,7 @@
+use Rattle.std.proofs.Common.{◌++◌, ap, ◌∙◌}
+use Rattle.wire.specs.declared.answer.Answer.TheVariants.{Text}
+use Rattle.texts.specs.PickList.{pick_list_text}
+use Rattle.house.proofs.showing.pick_list_of.Goals as goal
+
+pub returns-in-Ok : goal.returns-in-Ok
+returns-in-Ok c = ap Text (c.from_vec.ensures ∙ c.in-Ok.ensures ∙ ap (λ l. l ++ pick_list_text c.args.view) c.new-text.ensures.items)
