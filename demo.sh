@@ -1,7 +1,7 @@
 #!/bin/sh
 # The main job of Lot stock, from nothing: builds lotd, reads a label, makes books, receives goods by
 # their label, takes an order, shows what is reserved for it, the item's stock, the pick list and the shortages,
-# picks, ships and recalls. Needs the Rattle kit and curl.
+# picks, ships, recalls and takes in a goods-in file. Needs the Rattle kit and curl.
 # Exit status 0 only if every answer was the expected one.
 set -eu
 cd "$(dirname "$0")"
@@ -55,6 +55,12 @@ echo "> prove $all crates, $jobs at a time"
     END { exit end }
 ' || { tail -40 "$room/proofs" >&2; exit 1; }
 
+# file NAME STATUS ANSWER
+file() {
+    echo "> POST /goodsin, the file $1"
+    expect "POST /goodsin" "$3 $2" "$(curl -s -X POST --data-binary "@$room/$1" -w ' %{http_code}' "http://127.0.0.1:$port/goodsin")"
+}
+
 echo "> build lotd"
 (cd crates/lotd && rt run -- label --day 2026-05-04 ']C101095060001343521726093010AB12' >/dev/null)
 
@@ -67,8 +73,8 @@ EXPIRY 2026-09-30" "$("$lotd" label --day 2026-05-04 "$label")"
 echo "> lotd init --db stock.db --day 2026-05-04"
 "$lotd" init --db "$db" --day 2026-05-04
 
-echo "> lotd serve --db stock.db --port $port --max 14"
-"$lotd" serve --db "$db" --port "$port" --max 14 >"$room/out" &
+echo "> lotd serve --db stock.db --port $port --max 16"
+"$lotd" serve --db "$db" --port "$port" --max 16 >"$room/out" &
 server=$!
 for _ in 1 2 3 4 5 6 7 8 9 10; do
     if [ -s "$room/out" ]; then break; fi
@@ -100,6 +106,20 @@ post /shipments '{"key":"K-5","order":"S-1"}' 200 '{"act":6,"shipment":1}'
 post /recalls '{"key":"K-6","gtin":"09506000134352","lot":"AB12"}' 200 '{"act":7,"returned":0}'
 get /stock/09506000134352 200 '{"gtin":"09506000134352","lots":[{"bins":[{"bin":"A-01","qty":3}],"expiry":"2026-09-30","lot":"AB12","reserved":0,"staged":0,"status":"RECALLED"}],"name":"Oat drink"}'
 
+# A goods-in file is taken in whole or not at all; its rows come again by the line of the program, and act once.
+cat >"$room/goods.csv" <<'END'
+delivery,line,gtin,lot,expiry,bin,qty
+D-2,1,09506000134352,AB13,261130,A-01,24
+D-2,2,09506000134352,AB14,261200,A-01,24
+END
+sed 's/A-01,24$/B-99,24/' "$room/goods.csv" >"$room/no_bin.csv"
+file no_bin.csv 409 '{"code":"U02","row":1}'
+file goods.csv 200 '{"accepted":2,"repeated":0}'
+
 wait "$server"
 server=
+echo "> lotd import --db stock.db goods.csv"
+expect "the import" "accepted 0 repeated 2" "$("$lotd" import --db "$db" "$room/goods.csv")"
+echo "> lotd import --db stock.db no_bin.csv"
+expect "the import" "lotd: K01 row 1" "$("$lotd" import --db "$db" "$room/no_bin.csv" 2>&1 || true)"
 echo "demo: every answer was the expected one"

@@ -41,13 +41,7 @@ pub(crate) fn request(rt: &impl Abort, alloc: Global, line: &str) -> String {
     let (asked, _) = parted(rt, line, " => ");
     let (method, rest) = parted(rt, asked, " ");
     match rest.split_once(" ") {
-        Some((path, body)) => posted(
-            rt,
-            alloc,
-            method,
-            path,
-            body_text(rt, alloc, body).as_str(),
-        ),
+        Some((path, body)) => posted(rt, alloc, method, path, body_text(rt, alloc, body).as_str()),
         None => bare(rt, alloc, method, rest),
     }
 }

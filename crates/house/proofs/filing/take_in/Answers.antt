@@ -1,5 +1,6 @@
 use Rattle.std.proofs.Common.{◌∙◌, ap}
 use Rattle.std.specs.Prelude.{Ok, Err}
+use Rattle.machine.specs.Standing.{today}
 use Rattle.goodsin.specs.Files.{file_read}
 use Rattle.house.proofs.FileTold.{read_today, not_taken, taken_in, receipts_have_keys}
 use Rattle.house.proofs.filing.take_in.Goals as goal
@@ -15,5 +16,5 @@ returns-in-Ok-clause-acted g c clean first acts history holds =
 
 pub returns-in-Err-clause-acted : goal.returns-in-Err-clause-acted
 returns-in-Err-clause-acted g c clean first acts history holds =
-    not_taken g.S.Store first acts c.args.books.now history holds _ c.in-Err.fault _ c.not_read.ensures
+    not_taken g.S.Store first acts c.args.books.now history holds (file_read (today first acts) c.args.file.now) c.in-Err.fault _ c.not_read.ensures
     (λ memory reader. c.in-Err.ensures.file (λ e. memory (let it = e in cc)) (λ e. reader (let it = e in cc)) ∙ ap (λ t. file_read t c.args.file.now) (c.day-today.ensures.value ∙ holds.day))

@@ -3,7 +3,7 @@ use Rattle.std.specs.Prelude.{IfOk}
 use Rattle.sqlite.specs.Held.{state}
 use Rattle.sqlite.specs.State.{HasCleanDisk}
 use Rattle.service.specs.Serving.{IsWorked, IsJudged}
-use Rattle.command_line.specs.declared.running.Work.TheVariants.{Make, Serve}
+use Rattle.command_line.specs.declared.running.Work.TheVariants.{Make, Serve, Import}
 use Rattle.service.proofs.books_lines.worked.Goals as goal
 
 pub returns-in-Make-clause-judged : goal.returns-in-Make-clause-judged
@@ -14,3 +14,9 @@ returns-in-Serve-clause-worked g c = subst (λ work. IfOk c.served.result (λ w.
 
 pub returns-in-Serve-clause-judged : goal.returns-in-Serve-clause-judged
 returns-in-Serve-clause-judged g c = subst (λ w. IsJudged g.S.Store c.args.conn w c.served.result) (sym c.in-Serve.is) c.served.ensures.other
+
+pub returns-in-Import-clause-worked : goal.returns-in-Import-clause-worked
+returns-in-Import-clause-worked g c = subst (λ work. IfOk c.imported.result (λ w. HasCleanDisk (state g.S.Store w.0) → IsWorked g.S.Store c.args.conn work w.0)) (sym c.in-Import.is) c.imported.ensures.imported
+
+pub returns-in-Import-clause-judged : goal.returns-in-Import-clause-judged
+returns-in-Import-clause-judged g c = subst (λ w. IsJudged g.S.Store c.args.conn w c.imported.result) (sym c.in-Import.is) c.imported.ensures.other
