@@ -1,0 +1,6 @@
+use Rattle.service.proofs.books_lines.imported.Goals as goal
+
+pub returns-in-Ok-clause-imported : goal.returns-in-Ok-clause-imported
+returns-in-Ok-clause-imported g c clean first acts history rows =
+    let held = c.in-Ok.ensures.books (c.import_books.ensures.clean clean) first acts history rows in
+    c.import_books.ensures.imported clean first acts history held.0
