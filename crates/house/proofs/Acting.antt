@@ -1,7 +1,10 @@
 -- What comes of an act, told in bytes.
 use Rattle.std.proofs.Common.{◌≡◌, ℕ, true, false, List, refl, ap, sym, subst, ◌∙◌, inl, inr, ◌⊎◌}
-use Rattle.std.specs.Prelude.{if◌then◌else◌, Bool, ℤ, Result, Ok, Err}
+use Rattle.std.specs.Prelude.{if◌then◌else◌, Bool, ℤ, Result, Ok, Err, OnOk, IsTrue}
 use Rattle.sqlite_trees.specs.declared.store.Store.{Ghosts}
+use Rattle.sqlite_trees.specs.Tree.{Trees}
+use Rattle.sqlite.specs.Held.{state}
+use Rattle.sqlite.specs.State.{Survives}
 use Rattle.label.specs.Labels.{label_read}
 use Rattle.label.specs.declared.gs1.Label.{Label}
 use Rattle.values.specs.declared.fault.LabelFault.{LabelFault}
@@ -15,7 +18,7 @@ use Rattle.store.specs.Connected.{Connected}
 use Rattle.store.specs.declared.reply.Reply.{Reply}
 use Rattle.store.specs.declared.fault.Fault.{Fault}
 use Rattle.store.specs.declared.fault.Fault.TheVariants.{Refused, Store, Foreign}
-use Rattle.store.specs.Books.{HoldsBooks}
+use Rattle.store.specs.Books.{AreRowsOf, KeepsBooks, HoldsBooks, LeavesOnly, MayLeave, IsClean}
 use Rattle.store.specs.Acting.{IsActed}
 use Rattle.house.specs.Answers.{short_answer, outcome_answer, not_served, is_served, act_answer, acts_with, Delivered, scan_answer, acts_scanned}
 use Rattle.house.specs.Asking.{told_answer, IsDone, IsUndone, scanned_answer, scanned_acts}
@@ -37,45 +40,74 @@ unserved_answer first acts act e = ap (λ b. if b then outcome_answer (outcome f
 unserved_acts : (first : ℤ) (acts : List Act) (act : Act) → is_served act ≡ false → acts_with first acts act ≡ acts
 unserved_acts first acts act e = ap (λ b. if b then acts_after first acts act else acts) e
 
-module _ {S : Type 0} (g : Ghosts S) (first : ℤ) (acts : List Act) where
-  -- an answer after which the acts are the same
-  pub tells : (wanted bytes : List ℕ) (books : Connected S) → bytes ≡ wanted → IsHistory first acts → HoldsBooks g first acts books
-      → IsDone g first wanted acts bytes books ⊎ IsUndone g first acts bytes books
-  tells wanted bytes books e history holds = inl (record { answer = e; history = history; holds = holds })
+module _ {S : Type 0} (g : Ghosts S) (first : ℤ) (acts : List Act) (old : Connected S) where
+  -- an answer after which the books are the same
+  pub tells : (wanted bytes : List ℕ) → bytes ≡ wanted → IsHistory first acts → HoldsBooks g first acts old
+      → IsDone g first acts old wanted acts bytes old ⊎ IsUndone g first acts old acts bytes old
+  tells wanted bytes e history holds = inl (record { answer = e; history = history; holds = holds; kept = λ trees left. inr (left, refl) })
 
-  pub unserved : (act : Act) (bytes : List ℕ) (books : Connected S) → is_served act ≡ false → bytes ≡ not_served → IsHistory first acts → HoldsBooks g first acts books
-      → IsDone g first (act_answer first acts act) (acts_with first acts act) bytes books ⊎ IsUndone g first acts bytes books
-  unserved act bytes books never e history holds =
+  pub unserved : (act : Act) (bytes : List ℕ) → is_served act ≡ false → bytes ≡ not_served → IsHistory first acts → HoldsBooks g first acts old
+      → IsDone g first acts old (act_answer first acts act) (acts_with first acts act) bytes old ⊎ IsUndone g first acts old (acts_with first acts act) bytes old
+  unserved act bytes never e history holds =
       let same = sym (unserved_acts first acts act never) in
       inl (record {
         answer = e ∙ sym (unserved_answer first acts act never);
         history = subst (IsHistory first) same history;
-        holds = subst (λ a. HoldsBooks g first a books) same holds;
+        holds = subst (λ a. HoldsBooks g first a old) same holds;
+        kept = λ trees left. inr (left, sym same);
       })
 
   -- what is done with a label that was read at the business day
   pub scanned : (d : Delivered) (text : List ℕ) (day : ℤ) (read : Result Label LabelFault) (bytes : List ℕ) (books : Connected S) → read ≡ label_read day text → day ≡ today first acts
-      → IsDone g first (scan_answer first acts d read) (acts_scanned first acts d read) bytes books ⊎ IsUndone g first acts bytes books
-      → IsDone g first (scanned_answer first acts d text) (scanned_acts first acts d text) bytes books ⊎ IsUndone g first acts bytes books
+      → IsDone g first acts old (scan_answer first acts d read) (acts_scanned first acts d read) bytes books ⊎ IsUndone g first acts old (acts_scanned first acts d read) bytes books
+      → IsDone g first acts old (scanned_answer first acts d text) (scanned_acts first acts d text) bytes books ⊎ IsUndone g first acts old (scanned_acts first acts d text) bytes books
   scanned d text day read bytes books is_read is_today h =
-      subst (λ r. IsDone g first (scan_answer first acts d r) (acts_scanned first acts d r) bytes books ⊎ IsUndone g first acts bytes books)
+      subst (λ r. IsDone g first acts old (scan_answer first acts d r) (acts_scanned first acts d r) bytes books ⊎ IsUndone g first acts old (acts_scanned first acts d r) bytes books)
       (is_read ∙ ap (λ t. label_read t text) is_today) h
 
-  module _ (act : Act) (yes : is_served act ≡ true) (sound : IsSoundRequest act) (history : IsHistory first acts) where
-    done : (bytes : List ℕ) (books : Connected S) → bytes ≡ outcome_answer (outcome first acts act) → HoldsBooks g first (acts_after first acts act) books
-        → IsDone g first (act_answer first acts act) (acts_with first acts act) bytes books ⊎ IsUndone g first acts bytes books
-    done bytes books e holds =
-        let same = sym (served_acts first acts act yes) in
+  module _ (act : Act) (yes : is_served act ≡ true) (sound : IsSoundRequest act) (history : IsHistory first acts) (books : Connected S) where
+    same_acts : acts_after first acts act ≡ acts_with first acts act
+    same_acts = sym (served_acts first acts act yes)
+
+    later : IsHistory first (acts_with first acts act)
+    later = subst (IsHistory first) same_acts (history_after first act acts sound history)
+
+    done : (bytes : List ℕ) → bytes ≡ outcome_answer (outcome first acts act) → HoldsBooks g first (acts_after first acts act) books
+        → ((trees : Trees) → MayLeave g books trees → AreRowsOf first (acts_with first acts act) trees ⊎ (MayLeave g old trees × (acts_with first acts act ≡ acts)))
+        → IsDone g first acts old (act_answer first acts act) (acts_with first acts act) bytes books ⊎ IsUndone g first acts old (acts_with first acts act) bytes books
+    done bytes e holds kept =
         inl (record {
           answer = e ∙ sym (served_answer first acts act yes);
-          history = subst (IsHistory first) same (history_after first act acts sound history);
-          holds = subst (λ a. HoldsBooks g first a books) same holds;
+          history = later;
+          holds = subst (λ a. HoldsBooks g first a books) same_acts holds;
+          kept = kept;
         })
 
-    pub acted : (result : Result Reply Fault) (books : Connected S) → IsActed g first acts act result books
-        → IsDone g first (act_answer first acts act) (acts_with first acts act) (told_answer result) books ⊎ IsUndone g first acts (told_answer result) books
-    acted (Ok reply) books h = done (short_answer 200 reply.text) books (sym (reply_told reply.repeated reply.text) ∙ ap outcome_answer h.0) h.1
-    acted (Err (Refused why)) books h =
-        done (short_answer 409 (code_text (refusal_code why))) books (ap outcome_answer h.0) (subst (λ o. HoldsBooks g first (appended act acts o) books) h.0 h.1)
-    acted (Err Store) books h = inr (record { answer = refl; holds = h })
-    acted (Err Foreign) books h = absurd h
+    -- a stop leaves what it left before, or the books with the act
+    module _ (was : HoldsBooks g first acts old) (clean : IsClean g books)
+        (survives : Survives (state g old.conn) (state g books.conn) (λ trees. IsTrue (is_served act) → (first : ℤ) (acts : List Act) → IsHistory first acts → KeepsBooks first acts (state g old.conn)
+        → AreRowsOf first (acts_after first acts act) trees)) where
+      whole_or_none : (trees : Trees) → MayLeave g books trees → MayLeave g old trees ⊎ AreRowsOf first (acts_with first acts act) trees
+      whole_or_none trees left = elim (survives.crash clean trees left) [
+        | inl before ↦ inl before
+        | inr rows ↦ inr (subst (λ a. AreRowsOf first a trees) same_acts (rows yes first acts history was.keeps))
+      ]
+
+      refused_kept : acts_with first acts act ≡ acts → (trees : Trees) → MayLeave g books trees
+          → AreRowsOf first (acts_with first acts act) trees ⊎ (MayLeave g old trees × (acts_with first acts act ≡ acts))
+      refused_kept none trees left = elim (whole_or_none trees left) [ inl before ↦ inr (before, none) | inr rows ↦ inl rows ]
+
+      failed_kept : (trees : Trees) → MayLeave g books trees → MayLeave g old trees ⊎ (IsHistory first (acts_with first acts act) × AreRowsOf first (acts_with first acts act) trees)
+      failed_kept trees left = elim (whole_or_none trees left) [ inl before ↦ inl before | inr rows ↦ inr (later, rows) ]
+
+      pub acted : (result : Result Reply Fault) → IsActed g first acts act result books → OnOk result (LeavesOnly first (acts_after first acts act) (state g books.conn))
+          → IsDone g first acts old (act_answer first acts act) (acts_with first acts act) (told_answer result) books ⊎ IsUndone g first acts old (acts_with first acts act) (told_answer result) books
+      acted (Ok reply) h kept =
+          done (short_answer 200 reply.text) (sym (reply_told reply.repeated reply.text) ∙ ap outcome_answer h.0) h.2
+          (λ trees left. inl (subst (λ a. AreRowsOf first a trees) same_acts (kept trees left)))
+      acted (Err (Refused why)) h kept =
+          let none : acts_after first acts act ≡ acts = ap (appended act acts) (sym h.0) in
+          done (short_answer 409 (code_text (refusal_code why))) (ap outcome_answer h.0) (subst (λ a. HoldsBooks g first a books) (sym none) h.1)
+          (refused_kept (sym same_acts ∙ none))
+      acted (Err Store) h kept = inr (record { answer = refl; holds = h; kept = failed_kept })
+      acted (Err Foreign) h kept = absurd h

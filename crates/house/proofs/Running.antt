@@ -21,12 +21,12 @@ one_more first old (t ∷ texts) (a ∷ answers) mid text bytes new run step =
     (run.0, run.1, one_more first run.0 texts answers mid text bytes new run.2 step)
 
 -- the same of the books
-pub run_on : {S : Type 0} (g : Ghosts S) (first : ℤ) (acts : List Act) (texts answers : List (List ℕ)) (mid new : Connected S) (text bytes : List ℕ)
-    → RunsTo g first acts texts answers mid → ((a : List Act) → IsHistory first a → HoldsBooks g first a mid → StepsTo g first a text bytes new)
-    → RunsTo g first acts (texts ++ text ∷ []) (answers ++ bytes ∷ []) new
-run_on g first acts texts answers mid new text bytes r f =
+pub run_on : {S : Type 0} (g : Ghosts S) (first : ℤ) (acts : List Act) (texts answers : List (List ℕ)) (was mid new : Connected S) (text bytes : List ℕ)
+    → RunsTo g first acts texts answers was mid → ((a : List Act) → IsHistory first a → HoldsBooks g first a mid → StepsTo g first a text bytes mid new)
+    → RunsTo g first acts (texts ++ text ∷ []) (answers ++ bytes ∷ []) was new
+run_on g first acts texts answers was mid new text bytes r f =
     let s = f r.after r.history r.holds in
-    record { after = s.after; run = one_more first acts texts answers r.after text bytes s.after r.run s.step; history = s.history; holds = s.holds }
+    record { after = s.after; run = one_more first acts texts answers r.after text bytes s.after r.run s.step; history = s.history; holds = s.holds; kept = λ leaves. s.kept (r.kept leaves) }
 
 -- one text more
 pub texts_more : {A : Type 0} (requests : List (Vec ℕ A)) (i : ℕ) (x : Vec ℕ A) → i < length requests → x ≡ get_or requests i x

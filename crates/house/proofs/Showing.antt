@@ -1,7 +1,10 @@
 -- What comes of a query, told in bytes.
-use Rattle.std.proofs.Common.{◌≡◌, ℕ, List, ap, sym, ◌∙◌, inl, inr, ◌⊎◌}
+use Rattle.std.proofs.Common.{◌≡◌, ℕ, List, refl, ap, sym, ◌∙◌, inl, inr, ◌⊎◌}
 use Rattle.std.specs.Prelude.{ℤ, Result, Ok, Err}
 use Rattle.sqlite_trees.specs.declared.store.Store.{Ghosts}
+use Rattle.sqlite_trees.specs.Tree.{Trees}
+use Rattle.sqlite.specs.Held.{state}
+use Rattle.sqlite.specs.State.{Survives}
 use Rattle.commands.specs.declared.refusal.Refusal.{Refusal}
 use Rattle.machine.specs.Acts.{Act}
 use Rattle.machine.specs.Once.{IsHistory}
@@ -11,38 +14,51 @@ use Rattle.wire.specs.declared.answer.Answer.TheVariants.{Text}
 use Rattle.store.specs.Connected.{Connected}
 use Rattle.store.specs.declared.fault.Fault.{Fault}
 use Rattle.store.specs.declared.fault.Fault.TheVariants.{Refused, Store, Foreign}
-use Rattle.store.specs.Books.{HoldsBooks}
+use Rattle.store.specs.Books.{HoldsBooks, MayLeave, IsClean}
 use Rattle.store.specs.Queries.{IsShown}
 use Rattle.house.specs.Answers.{no_memory, view_answer}
 use Rattle.house.specs.Asking.{fault_shown, asked_answer, IsWritten, IsDone, IsUndone}
 
-module _ {S V : Type 0} (g : Ghosts S) (first : ℤ) (acts : List Act) (history : IsHistory first acts) (answer : V → Answer) (shown : Result V Refusal) where
+module _ {S V : Type 0} (g : Ghosts S) (first : ℤ) (acts : List Act) (history : IsHistory first acts) (answer : V → Answer) (shown : Result V Refusal) (old books : Connected S)
+    (survives : Survives (state g old.conn) (state g books.conn) (λ _. ⊥)) (clean : IsClean g books) where
+  -- a query commits nothing
+  left_before : (trees : Trees) → MayLeave g books trees → MayLeave g old trees
+  left_before trees left = elim (survives.crash clean trees left) [ inl before ↦ before | inr none ↦ absurd none ]
+
+  seen : (bytes : List ℕ) → bytes ≡ view_answer answer shown → HoldsBooks g first acts books
+      → IsDone g first acts old (view_answer answer shown) acts bytes books ⊎ IsUndone g first acts old acts bytes books
+  seen bytes is holds = inl (record { answer = is; history = history; holds = holds; kept = λ trees left. inr (left_before trees left, refl) })
+
+  unseen : (bytes : List ℕ) → bytes ≡ no_memory → HoldsBooks g first acts books
+      → IsDone g first acts old (view_answer answer shown) acts bytes books ⊎ IsUndone g first acts old acts bytes books
+  unseen bytes is holds = inr (record { answer = is; holds = holds; kept = λ trees left. inl (left_before trees left) })
+
   -- a view is told, or there was no memory for it
-  pub view_told : (view : V) (bytes : List ℕ) (books : Connected S) → IsShown {V = V} g first acts shown (Ok view) books → (bytes ≡ answer_bytes (answer view)) ⊎ (bytes ≡ no_memory)
-      → IsDone g first (view_answer answer shown) acts bytes books ⊎ IsUndone g first acts bytes books
-  view_told view bytes books h (inl is) = inl (record { answer = is ∙ sym (ap (view_answer answer) h.0); history = history; holds = h.1 })
-  view_told view bytes books h (inr is) = inr (record { answer = is; holds = h.1 })
+  pub view_told : (view : V) (bytes : List ℕ) → IsShown {V = V} g first acts shown (Ok view) books → (bytes ≡ answer_bytes (answer view)) ⊎ (bytes ≡ no_memory)
+      → IsDone g first acts old (view_answer answer shown) acts bytes books ⊎ IsUndone g first acts old acts bytes books
+  view_told view bytes h (inl is) = seen bytes (is ∙ sym (ap (view_answer answer) h.0)) h.1
+  view_told view bytes h (inr is) = unseen bytes is h.1
 
   -- a text of the view is told, or there was no memory for it
-  pub text_told : (view : V) (text : List ℕ) (asked : Result Answer Fault) (bytes : List ℕ) (books : Connected S) → answer view ≡ Text text → IsShown {V = V} g first acts shown (Ok view) books → IsWritten text asked
-      → (bytes ≡ asked_answer asked) ⊎ (bytes ≡ no_memory) → IsDone g first (view_answer answer shown) acts bytes books ⊎ IsUndone g first acts bytes books
-  text_told view text (Ok is) bytes books e h written (inl told) = view_told view bytes books h (inl (told ∙ ap answer_bytes (written ∙ sym e)))
-  text_told view text (Err fault) bytes books e h written (inl told) = view_told view bytes books h (inr (told ∙ ap fault_shown written))
-  text_told view text asked bytes books e h written (inr none) = view_told view bytes books h (inr none)
+  pub text_told : (view : V) (text : List ℕ) (asked : Result Answer Fault) (bytes : List ℕ) → answer view ≡ Text text → IsShown {V = V} g first acts shown (Ok view) books → IsWritten text asked
+      → (bytes ≡ asked_answer asked) ⊎ (bytes ≡ no_memory) → IsDone g first acts old (view_answer answer shown) acts bytes books ⊎ IsUndone g first acts old acts bytes books
+  text_told view text (Ok is) bytes e h written (inl told) = view_told view bytes h (inl (told ∙ ap answer_bytes (written ∙ sym e)))
+  text_told view text (Err fault) bytes e h written (inl told) = view_told view bytes h (inr (told ∙ ap fault_shown written))
+  text_told view text asked bytes e h written (inr none) = view_told view bytes h (inr none)
 
-  fault_told_so : (fault : Fault) (bytes : List ℕ) (books : Connected S) → IsShown {V = V} g first acts shown (Err fault) books → bytes ≡ fault_shown fault
-      → IsDone g first (view_answer answer shown) acts bytes books ⊎ IsUndone g first acts bytes books
-  fault_told_so (Refused why) bytes books h is = inl (record { answer = is ∙ sym (ap (view_answer answer) h.0); history = history; holds = h.1 })
-  fault_told_so Store bytes books h is = inr (record { answer = is; holds = h })
-  fault_told_so Foreign bytes books h is = absurd h
+  fault_told_so : (fault : Fault) (bytes : List ℕ) → IsShown {V = V} g first acts shown (Err fault) books → bytes ≡ fault_shown fault
+      → IsDone g first acts old (view_answer answer shown) acts bytes books ⊎ IsUndone g first acts old acts bytes books
+  fault_told_so (Refused why) bytes h is = seen bytes (is ∙ sym (ap (view_answer answer) h.0)) h.1
+  fault_told_so Store bytes h is = unseen bytes is h
+  fault_told_so Foreign bytes h is = absurd h
 
-  left : (fault : Fault) (books : Connected S) → IsShown {V = V} g first acts shown (Err fault) books → HoldsBooks g first acts books
-  left (Refused why) books h = h.1
-  left Store books h = h
-  left Foreign books h = absurd h
+  left : (fault : Fault) → IsShown {V = V} g first acts shown (Err fault) books → HoldsBooks g first acts books
+  left (Refused why) h = h.1
+  left Store h = h
+  left Foreign h = absurd h
 
   -- why there is none
-  pub fault_told : (fault : Fault) (bytes : List ℕ) (books : Connected S) → IsShown {V = V} g first acts shown (Err fault) books → (bytes ≡ fault_shown fault) ⊎ (bytes ≡ no_memory)
-      → IsDone g first (view_answer answer shown) acts bytes books ⊎ IsUndone g first acts bytes books
-  fault_told fault bytes books h (inl is) = fault_told_so fault bytes books h is
-  fault_told fault bytes books h (inr is) = inr (record { answer = is; holds = left fault books h })
+  pub fault_told : (fault : Fault) (bytes : List ℕ) → IsShown {V = V} g first acts shown (Err fault) books → (bytes ≡ fault_shown fault) ⊎ (bytes ≡ no_memory)
+      → IsDone g first acts old (view_answer answer shown) acts bytes books ⊎ IsUndone g first acts old acts bytes books
+  fault_told fault bytes h (inl is) = fault_told_so fault bytes h is
+  fault_told fault bytes h (inr is) = unseen bytes is (left fault h)

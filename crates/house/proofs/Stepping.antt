@@ -2,6 +2,7 @@
 use Rattle.std.proofs.Common.{◌≡◌, ◌≢◌, ℕ, List, refl, sym, subst, ◌∙◌, inl, inr, ◌⊎◌}
 use Rattle.std.specs.Prelude.{ℤ}
 use Rattle.sqlite_trees.specs.declared.store.Store.{Ghosts}
+use Rattle.sqlite.specs.Held.{state}
 use Rattle.machine.specs.Acts.{Act}
 use Rattle.machine.specs.Once.{IsHistory}
 use Rattle.requests.specs.Requests.{IsReading}
@@ -11,10 +12,10 @@ use Rattle.requests.specs.declared.fault.WireFault.TheVariants.{Head, Length, Js
 use Rattle.requests.specs.declared.request.Read.{Read}
 use Rattle.requests.specs.declared.request.Read.TheVariants.{Need, Bad, Request}
 use Rattle.store.specs.Connected.{Connected}
-use Rattle.store.specs.Books.{HoldsBooks}
+use Rattle.store.specs.Books.{AreRowsOf, HoldsBooks}
 use Rattle.house.specs.Answers.{fault_answer, ask_answer, acts_asked}
 use Rattle.house.specs.Asking.{IsDone, IsUndone}
-use Rattle.house.specs.House.{Step, StepsTo, IsInPlace, IsAskedInPlace}
+use Rattle.house.specs.House.{Step, StepsTo, IsOneFurther, LeavesBooks, IsInPlace, IsAskedInPlace}
 use Rattle.house.specs.declared.answered.Answered.{Answered}
 use Rattle.house.specs.declared.answered.Answered.TheVariants.{Short, Long}
 
@@ -36,29 +37,50 @@ bad_step first acts text (Method m) h = refused_step first acts text (Method m) 
 bad_step first acts text TooLarge h = refused_step first acts text TooLarge (h (λ p. cc))
 
 module _ {S : Type 0} (g : Ghosts S) (first : ℤ) (acts : List Act) (history : IsHistory first acts) (text : List ℕ) (books : Connected S) where
-  stays : (bytes : List ℕ) → Step first acts text bytes acts → HoldsBooks g first acts books → StepsTo g first acts text bytes books
-  stays bytes step holds = record { after = acts; step = step; history = history; holds = holds }
+  stays : (bytes : List ℕ) → Step first acts text bytes acts → HoldsBooks g first acts books → StepsTo g first acts text bytes books books
+  stays bytes step holds = record { after = acts; step = step; history = history; holds = holds; kept = λ leaves. leaves }
 
-  needed : (e : WireFault) (bytes : List ℕ) → bytes ≡ fault_answer e → HoldsBooks g first acts books → IsReading text (Need e) → StepsTo g first acts text bytes books
+  needed : (e : WireFault) (bytes : List ℕ) → bytes ≡ fault_answer e → HoldsBooks g first acts books → IsReading text (Need e) → StepsTo g first acts text bytes books books
   needed e bytes is holds read = stays bytes (subst (λ b. Step first acts text b acts) (sym is) (needed_step first acts text e read)) holds
 
-  bad : (e : WireFault) (bytes : List ℕ) → bytes ≡ fault_answer e → HoldsBooks g first acts books → (Bad e ≢ Bad Memory → IsReading text (Bad e)) → StepsTo g first acts text bytes books
+  bad : (e : WireFault) (bytes : List ℕ) → bytes ≡ fault_answer e → HoldsBooks g first acts books → (Bad e ≢ Bad Memory → IsReading text (Bad e)) → StepsTo g first acts text bytes books books
   bad e bytes is holds read = stays bytes (subst (λ b. Step first acts text b acts) (sym is) (bad_step first acts text e read)) holds
 
   pub told_fault : (reading : Read) (e : WireFault) (bytes : List ℕ) → bytes ≡ fault_answer e → HoldsBooks g first acts books
-      → (reading ≢ Bad Memory → IsReading text reading) → (reading ≡ Need e) ⊎ (reading ≡ Bad e) → StepsTo g first acts text bytes books
+      → (reading ≢ Bad Memory → IsReading text reading) → (reading ≡ Need e) ⊎ (reading ≡ Bad e) → StepsTo g first acts text bytes books books
   told_fault reading e bytes is holds read (inl n) = needed e bytes is holds (subst (IsReading text) n (read (λ p. cc)))
   told_fault reading e bytes is holds read (inr b) = bad e bytes is holds (λ ne. subst (IsReading text) b (read (λ p. ne (sym b ∙ p))))
 
-  pub asked : (ask : Ask) (bytes : List ℕ) → IsReading text (Request ask)
-      → IsDone g first (ask_answer first acts ask) (acts_asked first acts ask) bytes books ⊎ IsUndone g first acts bytes books → StepsTo g first acts text bytes books
-  asked ask bytes read (inl d) = record {
+  -- what a stop leaves after what was done, and after what was not
+  kept_done : (old : Connected S) (wanted : List ℕ) (next : List Act) (bytes : List ℕ) → IsDone g first acts old wanted next bytes books → LeavesBooks first acts (state g old.conn) → LeavesBooks first next (state g books.conn)
+  kept_done old wanted next bytes d leaves trees left = elim (d.kept trees left) [
+    | inl rows ↦ inl rows
+    | inr h ↦ subst (λ a. AreRowsOf first a trees ⊎ IsOneFurther first a trees) (sym h.1) (leaves trees h.0)
+  ]
+
+  kept_undone : (old : Connected S) (bytes wanted : List ℕ) (next : List Act) → Step first acts text wanted next → IsUndone g first acts old next bytes books → LeavesBooks first acts (state g old.conn) → LeavesBooks first acts (state g books.conn)
+  kept_undone old bytes wanted next step u leaves trees left = elim (u.kept trees left) [
+    | inl before ↦ leaves trees before
+    | inr h ↦ inr (record { text = text; bytes = wanted; next = next; step = step; history = h.0; rows = h.1 })
+  ]
+
+  pub asked : (old : Connected S) (ask : Ask) (bytes : List ℕ) → IsReading text (Request ask)
+      → IsDone g first acts old (ask_answer first acts ask) (acts_asked first acts ask) bytes books ⊎ IsUndone g first acts old (acts_asked first acts ask) bytes books
+      → StepsTo g first acts text bytes old books
+  asked old ask bytes read (inl d) = record {
     after = acts_asked first acts ask;
     step = inl (record { reading = Request ask; read = read; answer = d.answer; acts = refl });
     history = d.history;
     holds = d.holds;
+    kept = kept_done old (ask_answer first acts ask) (acts_asked first acts ask) bytes d;
   }
-  asked ask bytes read (inr u) = stays bytes (inr (record { answer = u.answer; acts = refl })) u.holds
+  asked old ask bytes read (inr u) = record {
+    after = acts;
+    step = inr (record { answer = u.answer; acts = refl });
+    history = history;
+    holds = u.holds;
+    kept = kept_undone old bytes (ask_answer first acts ask) (acts_asked first acts ask) (inl (record { reading = Request ask; read = read; answer = refl; acts = refl })) u;
+  }
 
 -- an answer to what is asked is in place, or the request shows something
 pub in_place : (text : List ℕ) (ask : Ask) (answer : Answered) → IsReading text (Request ask) → IsAskedInPlace ask answer → IsInPlace text answer

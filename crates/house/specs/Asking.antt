@@ -5,6 +5,7 @@ use Rattle.commands.specs.Refusals.{refusal_code}
 use Rattle.commands.specs.declared.key.Key.{Key}
 use Rattle.commands.specs.declared.command.Command.{Command}
 use Rattle.sqlite_trees.specs.declared.store.Store.{Ghosts}
+use Rattle.sqlite_trees.specs.Tree.{Trees}
 use Rattle.machine.specs.Acts.{Act}
 use Rattle.machine.specs.Once.{IsHistory}
 use Rattle.machine.specs.Standing.{today}
@@ -19,7 +20,7 @@ use Rattle.store.specs.declared.tally.RowFault.{RowFault}
 use Rattle.store.specs.declared.tally.RowFault.TheVariants as row
 use Rattle.store.specs.declared.fault.Fault.{Fault}
 use Rattle.store.specs.declared.fault.Fault.TheVariants.{Refused, Store, Foreign}
-use Rattle.store.specs.Books.{HoldsBooks}
+use Rattle.store.specs.Books.{AreRowsOf, HoldsBooks, MayLeave}
 use Rattle.house.specs.Answers.{short_answer, no_memory, foreign_books, tally_answer, row_conflict, Delivered, scan_answer, acts_scanned}
 
 abbrev pub act_of : Key → Command → Act
@@ -65,17 +66,21 @@ IsWritten text (Ok answer) = answer ≡ Text text
 IsWritten text (Err fault) = fault ≡ Store
 
 -- what is wanted is told and done
-pub record IsDone {S : Type 0} (g : Ghosts S) (first : ℤ) (wanted : List ℕ) (next : List Act) (bytes : List ℕ) (books : Connected S) : Type 0 where
+pub record IsDone {S : Type 0} (g : Ghosts S) (first : ℤ) (acts : List Act) (old : Connected S) (wanted : List ℕ) (next : List Act) (bytes : List ℕ) (books : Connected S) : Type 0 where
   pub answer : bytes ≡ wanted
   pub history : IsHistory first next
   pub holds : HoldsBooks g first next books
+  -- a stop leaves what is done; where nothing was to be done, it may leave what it left before
+  pub kept : (trees : Trees) → MayLeave g books trees → AreRowsOf first next trees ⊎ (MayLeave g old trees × (next ≡ acts))
 
 -- there was no memory, and nothing is done
-pub record IsUndone {S : Type 0} (g : Ghosts S) (first : ℤ) (acts : List Act) (bytes : List ℕ) (books : Connected S) : Type 0 where
+pub record IsUndone {S : Type 0} (g : Ghosts S) (first : ℤ) (acts : List Act) (old : Connected S) (next : List Act) (bytes : List ℕ) (books : Connected S) : Type 0 where
   pub answer : bytes ≡ no_memory
   pub holds : HoldsBooks g first acts books
+  -- a stop leaves what it left before; where the disk has shut the connection, it may leave the whole of what was asked
+  pub kept : (trees : Trees) → MayLeave g books trees → MayLeave g old trees ⊎ (IsHistory first next × AreRowsOf first next trees)
 
 -- the books of the acts do what is wanted, or find no memory
 abbrev pub Does : {S : Type 0} → Ghosts S → ℤ → List Act → Connected S → List ℕ → List Act → List ℕ → Connected S → Type 0
 Does g first acts old wanted next bytes new =
-    HoldsBooks g first acts old → IsDone g first wanted next bytes new ⊎ IsUndone g first acts bytes new
+    HoldsBooks g first acts old → IsDone g first acts old wanted next bytes new ⊎ IsUndone g first acts old next bytes new

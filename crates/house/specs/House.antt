@@ -1,6 +1,9 @@
 -- The machine over texts: a step, a run, and the house whose books are those of the acts.
 use Rattle.std.specs.Prelude.{◌≡◌, ◌⊎◌, ℕ, List, [], ◌∷◌, map, Vec, ℤ}
 use Rattle.sqlite_trees.specs.declared.store.Store.{Ghosts}
+use Rattle.sqlite_trees.specs.Tree.{Trees}
+use Rattle.sqlite.specs.Held.{state}
+use Rattle.sqlite.specs.State.{State}
 use Rattle.machine.specs.Acts.{Act}
 use Rattle.machine.specs.Once.{IsHistory}
 use Rattle.requests.specs.Requests.{IsReading}
@@ -10,7 +13,7 @@ use Rattle.requests.specs.declared.ask.Query.{Query}
 use Rattle.requests.specs.declared.request.Read.{Read}
 use Rattle.requests.specs.declared.request.Read.TheVariants.{Request}
 use Rattle.store.specs.Connected.{Connected}
-use Rattle.store.specs.Books.{HoldsBooks}
+use Rattle.store.specs.Books.{AreRowsOf, HoldsBooks}
 use Rattle.house.specs.Answers.{answer_of, acts_of, no_memory}
 use Rattle.house.specs.declared.answered.Answered.{Answered}
 use Rattle.house.specs.declared.answered.Answered.TheVariants.{Short, Long}
@@ -52,19 +55,36 @@ bytes_of (Long bytes) = bytes.items
 abbrev pub texts_of : {A : Type 0} → List (Vec ℕ A) → List (List ℕ)
 texts_of requests = map (λ t. t.items) requests
 
+-- the tables are those after one request more
+pub record IsOneFurther (first : ℤ) (acts : List Act) (trees : Trees) : Type 0 where
+  pub text : List ℕ
+  pub bytes : List ℕ
+  pub next : List Act
+  pub step : Step first acts text bytes next
+  pub history : IsHistory first next
+  pub rows : AreRowsOf first next trees
+
+-- whatever a stop leaves has all the acts, and at most one request more, on which the disk failed
+abbrev pub LeavesBooks : ℤ → List Act → State → Type 0
+LeavesBooks first acts s = (trees : Trees) → s.may_leave trees → AreRowsOf first acts trees ⊎ IsOneFurther first acts trees
+
 -- the books are those of the acts after one step
-pub record StepsTo {S : Type 0} (g : Ghosts S) (first : ℤ) (old : List Act) (text bytes : List ℕ) (books : Connected S) : Type 0 where
+pub record StepsTo {S : Type 0} (g : Ghosts S) (first : ℤ) (old : List Act) (text bytes : List ℕ) (was books : Connected S) : Type 0 where
   pub after : List Act
   pub step : Step first old text bytes after
   pub history : IsHistory first after
   pub holds : HoldsBooks g first after books
+  -- what was answered is kept
+  pub kept : LeavesBooks first old (state g was.conn) → LeavesBooks first after (state g books.conn)
 
 -- the books are those of the acts after a run
-pub record RunsTo {S : Type 0} (g : Ghosts S) (first : ℤ) (old : List Act) (texts answers : List (List ℕ)) (books : Connected S) : Type 0 where
+pub record RunsTo {S : Type 0} (g : Ghosts S) (first : ℤ) (old : List Act) (texts answers : List (List ℕ)) (was books : Connected S) : Type 0 where
   pub after : List Act
   pub run : Run first old texts answers after
   pub history : IsHistory first after
   pub holds : HoldsBooks g first after books
+  -- what was answered is kept, also over a connection that the disk has shut meanwhile
+  pub kept : LeavesBooks first old (state g was.conn) → LeavesBooks first after (state g books.conn)
 
 -- an answer that is not written in place is to a request that shows something
 abbrev pub IsAskedInPlace : Ask → Answered → Type 0

@@ -15,10 +15,10 @@ abbrev pub IsWhole : List ℕ → Option (List ℕ) → Type 0
 IsWhole text to = ((reading : Read) × IsReading text reading × (needs_more reading ≡ false)) ⊎ IsAtEnd to
 
 -- a text was read and answered, and the answer was written. Where there was no memory for the text, it may not be whole.
-pub record IsServed {S : Type 0} (g : Ghosts S) (first : ℤ) (acts : List Act) (from to : Option (List ℕ)) (books : Connected S) (IsWritten : List ℕ → Type 0) : Type 0 where
+pub record IsServed {S : Type 0} (g : Ghosts S) (first : ℤ) (acts : List Act) (from to : Option (List ℕ)) (was books : Connected S) (IsWritten : List ℕ → Type 0) : Type 0 where
   pub text : List ℕ
   pub bytes : List ℕ
   pub taken : Consumes from to text
   pub whole : IsWhole text to ⊎ (bytes ≡ no_memory)
-  pub steps : StepsTo g first acts text bytes books
+  pub steps : StepsTo g first acts text bytes was books
   pub written : IsWritten bytes

@@ -48,7 +48,7 @@ impl<S: Alter> House<S> {
         ensures clean { IsClean S.Store (books_of self.new) → IsClean S.Store (books_of self.old) }
         ensures step { IsClean S.Store (books_of self.new)
             → (first : ℤ) (acts : List Act) → IsHistory first acts → HoldsBooks S.Store first acts (books_of self.old)
-            → StepsTo S.Store first acts request.now (bytes_of result) (books_of self.new) }
+            → StepsTo S.Store first acts request.now (bytes_of result) (books_of self.old) (books_of self.new) }
         ensures in_place { IsInPlace request.now result }
     {
         let reading = read_request(self.alloc, request);
@@ -60,7 +60,7 @@ impl<S: Alter> House<S> {
         ensures clean { IsClean S.Store (books_of self.new) → IsClean S.Store (books_of self.old) }
         ensures run { IsClean S.Store (books_of self.new)
             → (first : ℤ) (acts : List Act) → IsHistory first acts → HoldsBooks S.Store first acts (books_of self.old)
-            → IfOk result (λ answers. RunsTo S.Store first acts (texts_of requests.now) (map bytes_of answers.items) (books_of self.new)) }
+            → IfOk result (λ answers. RunsTo S.Store first acts (texts_of requests.now) (map bytes_of answers.items) (books_of self.old) (books_of self.new)) }
         ensures untouched { OnErr result (books_of self.new ≡ books_of self.old) }
     {
         let mut answers = Vec::with_capacity(self.alloc, requests.len())?;
@@ -77,7 +77,7 @@ impl<S: Alter> House<S> {
         ensures step { IsClean S.Store (books_of self.new)
             → (first : ℤ) (acts : List Act) → IsHistory first acts → HoldsBooks S.Store first acts (books_of self.old)
             → (text : List ℕ) → (reading.now ≢ Read.Bad WireFault.Memory → IsReading text reading.now)
-            → StepsTo S.Store first acts text (bytes_of result) (books_of self.new) }
+            → StepsTo S.Store first acts text (bytes_of result) (books_of self.old) (books_of self.new) }
         ensures in_place { (text : List ℕ) → (reading.now ≢ Read.Bad WireFault.Memory → IsReading text reading.now)
             → IsInPlace text result }
         ensures memory { reading.now ≡ Read.Bad WireFault.Memory → bytes_of result ≡ no_memory }

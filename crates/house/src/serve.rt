@@ -26,7 +26,7 @@ impl<S: Alter> House<S> {
         ensures served { IsClean S.Store (books_of self.new)
             → (first : ℤ) (acts : List Act) → IsHistory first acts → HoldsBooks S.Store first acts (books_of self.old)
             → result ≢ Err ServeFault.Read
-            → IsServed S.Store first acts (R.remaining reader.old) (R.remaining reader.new) (books_of self.new) (Writes result (W.contents writer.old) (W.contents writer.new)) }
+            → IsServed S.Store first acts (R.remaining reader.old) (R.remaining reader.new) (books_of self.old) (books_of self.new) (Writes result (W.contents writer.old) (W.contents writer.new)) }
         ensures unread { result ≡ Err ServeFault.Read → (books_of self.new ≡ books_of self.old) × (writer.new ≡ writer.old) }
     {
         let reading = read_whole(self.alloc, reader)?;

@@ -1,3 +1,5 @@
+ghost use Rattle.std.specs.Prelude.{◌≡◌, Err, IfErr, OnOk, IsTrue};
+
 use command_line::{BooksAt, Fault, Work};
 use service::{FilesAt, worked};
 use sqlite::Connection;
@@ -45,7 +47,10 @@ fn may_open(rt: &HostRuntime, db: &str, work: Work<'_>) -> bool {
 }
 
 // A fault of the work comes before one of the closing.
-fn first_fault(end: Result<(), Fault>, is_closed: bool) -> Result<(), Fault> {
+fn first_fault(end: Result<(), Fault>, is_closed: bool) -> Result<(), Fault>
+    ensures fault { IfErr end (λ fault. result ≡ Err fault) }
+    ensures closed { OnOk result (IsTrue is_closed) }
+{
     match end {
         Ok(()) if !is_closed => Err(Fault::Store),
         _ => end,

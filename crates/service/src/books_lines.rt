@@ -1,4 +1,5 @@
-ghost use Rattle.std.specs.Prelude.{◌≡◌, ◌≢◌, ◌⊎◌, ◌↔◌, ℤ, [], List, true, false, IsTrue, IsErr, IsErrOf, IfOk, IfErr};
+ghost use Rattle.std.specs.Prelude.{◌≡◌, ◌≢◌, ◌⊎◌, ◌↔◌, ℤ, [], List, true, false, IsTrue, IsErr, IsErrOf, OnOk, IfOk, IfErr};
+ghost use Rattle.std.specs.Io.KnownBytes.{Appends};
 ghost use Rattle.sqlite.specs.Held.{state};
 ghost use Rattle.sqlite.specs.State.{HasCleanDisk};
 ghost use Rattle.table_words.specs.Schema.{schema_0, HasTables};
@@ -6,8 +7,8 @@ ghost use Rattle.machine.specs.Acts.{Act};
 ghost use Rattle.machine.specs.Once.{IsHistory};
 ghost use Rattle.store.specs.declared.fault.Fault.TheVariants.{Foreign as ForeignBooks};
 ghost use Rattle.store.specs.Books.{AreRowsOf, KeepsBooks, HoldsBooks, IsClean};
-ghost use Rattle.house.specs.House.{books_of};
-ghost use Rattle.service.specs.Serving.{HasServed, KeepsRun, IsWorked, IsJudged};
+ghost use Rattle.house.specs.House.{books_of, LeavesBooks};
+ghost use Rattle.service.specs.Serving.{HasServed, KeepsRun, IsWorked, IsJudged, told_port};
 ghost use Rattle.service.specs.Importing.{KeepsFile};
 
 use crate::goods_file::{FilesAt, import_file};
@@ -97,7 +98,7 @@ fn serve_books<S: Alter + Drop, W: Write>(
 ) -> Worked<S>
     ensures clean { HasCleanDisk (state S.Store result.0) → IsClean S.Store books }
     ensures served { HasCleanDisk (state S.Store result.0) → (first : ℤ) (acts : List Act) → IsHistory first acts → HoldsBooks S.Store first acts books
-        → KeepsRun S.Store first acts max result.0 }
+        → LeavesBooks first acts (state S.Store books.conn) → KeepsRun S.Store first acts max result.0 }
 {
     let mut house = House::new(rt.alloc(), books);
     let end = serve_port(rt, port, max, out, &mut house);
@@ -114,7 +115,7 @@ fn imported<S: Alter + Drop, F: FilesAt, W: Write>(
 ) -> Result<Worked<S>, Fault>
     ensures imported { IfOk result (λ w. HasCleanDisk (state S.Store w.0) → (first : ℤ) (acts : List Act) → IsHistory first acts
         → AreRowsOf first acts (state S.Store conn).committed.trees → KeepsFile S.Store first acts w.0) }
-    ensures other { (state S.Store conn).now.schema ≢ the_schema → IsErr result }
+    ensures other { ¬ HasTables (state S.Store conn).now.schema → IsErr result }
     ensures within { conn.in_transaction ≡ true → IsErrOf result Fault.Store }
     ensures fault { IfErr result (λ fault. (fault ≡ Fault.Store) ⊎ (fault ≡ Fault.Foreign)) }
 {
@@ -142,7 +143,7 @@ fn import_books<S: Alter + Drop, F: FilesAt, W: Write>(
 
 fn opened<S: Alter + Drop>(alloc: Global, conn: Connection<S>) -> Result<Books<S>, Fault>
     ensures books { IfOk result (λ b. IsClean S.Store b → (first : ℤ) (acts : List Act) → IsHistory first acts
-        → AreRowsOf first acts (state S.Store conn).committed.trees → HoldsBooks S.Store first acts b) }
+        → AreRowsOf first acts (state S.Store conn).committed.trees → HoldsBooks S.Store first acts b × LeavesBooks first acts (state S.Store b.conn)) }
     ensures other { ¬ HasTables (state S.Store conn).now.schema → IsErr result }
     ensures within { conn.in_transaction ≡ true → IsErrOf result Fault.Store }
     ensures fault { IfErr result (λ fault. (fault ≡ Fault.Store) ⊎ (fault ≡ Fault.Foreign)) }
@@ -176,7 +177,7 @@ fn serve_port<S: Alter + Drop, W: Write>(
     ensures clean { IsClean S.Store (books_of house.new) → IsClean S.Store (books_of house.old) }
     ensures served { IsClean S.Store (books_of house.new)
         → (first : ℤ) (acts : List Act) → IsHistory first acts → HoldsBooks S.Store first acts (books_of house.old)
-        → HasServed S.Store first acts max (books_of house.new) }
+        → HasServed S.Store first acts max (books_of house.old) (books_of house.new) }
 {
     let listener = TcpListener::bind(rt, ("127.0.0.1", port))?;
     tell_port(port, out)?;
@@ -184,7 +185,10 @@ fn serve_port<S: Alter + Drop, W: Write>(
     Ok(())
 }
 
-fn tell_port<W: Write>(port: u16, out: &mut W) -> io::Result<()> {
+/// Tells that the port is listened on.
+fn tell_port<W: Write>(port: u16, out: &mut W) -> io::Result<()>
+    ensures { OnOk result (Appends (W.contents out.old) (W.contents out.new) (told_port port)) }
+{
     writeln!(out, "listening on 127.0.0.1:{port}")?;
     out.flush()
 }

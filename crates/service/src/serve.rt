@@ -24,7 +24,7 @@ pub fn serve_on<S: Alter + Drop>(listener: &TcpListener, house: &mut House<S>, m
     ensures clean { IsClean S.Store (books_of house.new) → IsClean S.Store (books_of house.old) }
     ensures served { IsClean S.Store (books_of house.new)
         → (first : ℤ) (acts : List Act) → IsHistory first acts → HoldsBooks S.Store first acts (books_of house.old)
-        → HasServed S.Store first acts max (books_of house.new) }
+        → HasServed S.Store first acts max (books_of house.old) (books_of house.new) }
 {
     for _ in 0..max {
         serve_next(listener, house);

@@ -12,6 +12,8 @@ returns-clause-acted g c clean first acts history holds =
     let command = c.args.command.now in
     let yes : is_served (act_of key command) ≡ true = search rules in
     let sound : IsSoundRequest (act_of key command) = record { kind = yes; key = c.every_key_is_sound.ensures.sound; command = c.every_command_is_sound.ensures.sound } in
-    subst (λ b. IsDone g.S.Store first (act_answer first acts (act_of key command)) (acts_with first acts (act_of key command)) b c.act.new.self ⊎ IsUndone g.S.Store first acts b c.act.new.self)
+    subst (λ b. IsDone g.S.Store first acts c.args.books.now (act_answer first acts (act_of key command)) (acts_with first acts (act_of key command)) b c.act.new.self
+    ⊎ IsUndone g.S.Store first acts c.args.books.now (acts_with first acts (act_of key command)) b c.act.new.self)
     (sym c.told.ensures)
-    (acted g.S.Store first acts (act_of key command) yes sound history c.act.result c.act.new.self (c.act.ensures.acted clean yes first acts history holds))
+    (acted g.S.Store first acts c.args.books.now (act_of key command) yes sound history c.act.new.self holds clean c.act.ensures.survives c.act.result
+    (c.act.ensures.acted clean yes first acts history holds) (c.act.ensures.kept clean yes first acts history holds))

@@ -5,8 +5,8 @@ use Rattle.house.proofs.showing.show_stock.Goals as goal
 
 pub returns-in-Ok-clause-shown : goal.returns-in-Ok-clause-shown
 returns-in-Ok-clause-shown g c clean first acts history holds =
-    view_told g.S.Store first acts history Stock (stock_shown first acts c.args.gtin.now) c.in-Ok.view _ _ (c.in-Ok.ensures.shown clean first acts history holds) c.told.ensures
+    view_told g.S.Store first acts history Stock (stock_shown first acts c.args.gtin.now) _ _ c.in-Ok.ensures.survives clean c.in-Ok.view _ (c.in-Ok.ensures.shown clean first acts history holds) c.told.ensures.told
 
 pub returns-in-Err-clause-shown : goal.returns-in-Err-clause-shown
 returns-in-Err-clause-shown g c clean first acts history holds =
-    fault_told g.S.Store first acts history Stock (stock_shown first acts c.args.gtin.now) c.in-Err.fault _ _ (c.in-Err.ensures.shown clean first acts history holds) c.told.ensures
+    fault_told g.S.Store first acts history Stock (stock_shown first acts c.args.gtin.now) _ _ c.in-Err.ensures.survives clean c.in-Err.fault _ (c.in-Err.ensures.shown clean first acts history holds) c.told.ensures.told

@@ -15,6 +15,6 @@ loop-preserved g c =
     record {
       clean = λ clean. was.clean (next.clean clean);
       served = λ clean first acts history holds.
-          one_served g.S.Store first acts c.loop.counter (books_of c.loop.house) (books_of c.serve_next.new.house) (was.served (next.clean clean) first acts history holds)
+          one_served g.S.Store first acts c.loop.counter (books_of c.args.house.now) (books_of c.loop.house) (books_of c.serve_next.new.house) (was.served (next.clean clean) first acts history holds)
           (λ a h b. next.step clean first a h b);
     }

@@ -10,5 +10,5 @@ abbrev pub invariant-loop : goal.invariant-loop
 invariant-loop g l = record {
   clean : IsClean g.S.Store (books_of l.house) → IsClean g.S.Store (books_of l.initial.house);
   served : IsClean g.S.Store (books_of l.house) → (first : ℤ) (acts : List Act) → IsHistory first acts → HoldsBooks g.S.Store first acts (books_of l.initial.house)
-      → HasServed g.S.Store first acts l.counter (books_of l.house);
+      → HasServed g.S.Store first acts l.counter (books_of l.initial.house) (books_of l.house);
 }

@@ -17,11 +17,11 @@ loop-request-preserved g c =
       clean = λ clean. was.clean (c.answer-answer.ensures.clean clean);
       run = λ clean first acts history holds.
           let grown = run_on g.S.Store first acts (texts_of (take c.loop-request.request-index c.args.requests.now)) (map bytes_of c.loop-request.answers.items)
-          (books_of c.loop-request.self) (books_of c.answer-answer.new.self) c.request-item.result.items (bytes_of c.answer-answer.result)
+          (books_of c.args.self.now) (books_of c.loop-request.self) (books_of c.answer-answer.new.self) c.request-item.result.items (bytes_of c.answer-answer.result)
           (was.run (c.answer-answer.ensures.clean clean) first acts history holds)
-          (λ a h b. subst (λ t. StepsTo g.S.Store first a t (bytes_of c.answer-answer.result) (books_of c.answer-answer.new.self)) c.as_slice.ensures.value
+          (λ a h b. subst (λ t. StepsTo g.S.Store first a t (bytes_of c.answer-answer.result) (books_of c.loop-request.self) (books_of c.answer-answer.new.self)) c.as_slice.ensures.value
           (c.answer-answer.ensures.step clean first a h b)) in
-          subst₂ (λ texts answers. RunsTo g.S.Store first acts texts answers (books_of c.answer-answer.new.self))
+          subst₂ (λ texts answers. RunsTo g.S.Store first acts texts answers (books_of c.args.self.now) (books_of c.answer-answer.new.self))
           (sym (texts_more c.args.requests.now c.loop-request.request-index c.request-item.result c.loop-request-test.true c.request-item.is))
           (sym (answers_more c.loop-request.answers.items c.push.new.self.items c.answer-answer.result more)) grown;
     }
@@ -31,7 +31,7 @@ loop-request-init g c = record {
   room = c.in_ok-answers.ensures.capacity;
   full = c.in_ok-answers.ensures.len;
   clean = λ clean. clean;
-  run = λ clean first acts history holds. record { after = acts; run = rw c.in_ok-answers.ensures.items refl; history = history; holds = holds };
+  run = λ clean first acts history holds. record { after = acts; run = rw c.in_ok-answers.ensures.items refl; history = history; holds = holds; kept = λ leaves. leaves };
 }
 
 pub unwrap-requires : goal.unwrap-requires
@@ -43,4 +43,4 @@ returns-clause-clean g c = c.loop-request.invariant.clean
 pub returns-clause-run : goal.returns-clause-run
 returns-clause-run g c clean first acts history holds =
     let all : take c.loop-request.request-index c.args.requests.now ≡ c.args.requests.now = grind (arith, common_steps) in
-    subst (λ l. RunsTo g.S.Store first acts (texts_of l) (map bytes_of c.loop-request.answers.items) (books_of c.loop-request.self)) all (c.loop-request.invariant.run clean first acts history holds)
+    subst (λ l. RunsTo g.S.Store first acts (texts_of l) (map bytes_of c.loop-request.answers.items) (books_of c.args.self.now) (books_of c.loop-request.self)) all (c.loop-request.invariant.run clean first acts history holds)

@@ -12,5 +12,5 @@ invariant-loop-request g l = record {
   full : vec_len l.answers ≡ l.request-index;
   clean : IsClean g.S.Store (books_of l.self) → IsClean g.S.Store (books_of l.initial.self);
   run : IsClean g.S.Store (books_of l.self) → (first : ℤ) (acts : List Act) → IsHistory first acts → HoldsBooks g.S.Store first acts (books_of l.initial.self)
-      → RunsTo g.S.Store first acts (texts_of (take l.request-index l.requests)) (map bytes_of l.answers.items) (books_of l.self);
+      → RunsTo g.S.Store first acts (texts_of (take l.request-index l.requests)) (map bytes_of l.answers.items) (books_of l.initial.self) (books_of l.self);
 }

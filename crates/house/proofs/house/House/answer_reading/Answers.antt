@@ -5,7 +5,7 @@ use Rattle.house.proofs.house.House.answer_reading.Goals as goal
 
 pub returns-in-Request-clause-step : goal.returns-in-Request-clause-step
 returns-in-Request-clause-step g c clean first acts history holds text read =
-    asked g.S.Store first acts history text _ c.in-Request.ask _ (subst (IsReading text) c.in-Request.is (read (λ p. cc))) (c.answer_ask.ensures.done clean first acts history holds)
+    asked g.S.Store first acts history text _ _ c.in-Request.ask _ (subst (IsReading text) c.in-Request.is (read (λ p. cc))) (c.answer_ask.ensures.done clean first acts history holds)
 
 pub returns-in-Request-clause-in_place : goal.returns-in-Request-clause-in_place
 returns-in-Request-clause-in_place g c text read =

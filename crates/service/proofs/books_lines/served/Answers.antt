@@ -1,0 +1,6 @@
+use Rattle.service.proofs.books_lines.served.Goals as goal
+
+pub returns-in-Ok-clause-served : goal.returns-in-Ok-clause-served
+returns-in-Ok-clause-served g c clean first acts history rows =
+    let held = c.in-Ok.ensures.books (c.serve_books.ensures.clean clean) first acts history rows in
+    c.serve_books.ensures.served clean first acts history held.0 held.1
