@@ -3,7 +3,7 @@
 ghost use Rattle.std.specs.Prelude.{IsTrue};
 ghost use Rattle.sqlite_disk.specs.Memory.{memory_is_usable};
 
-use crate::serving::one_client;
+use crate::serving::{clients_served, lines_worked};
 use crate::steps::{Step, take_all};
 use sqlite::{Alter, Connection, Files, Options};
 use sqlite_disk::Memory;
@@ -22,7 +22,8 @@ struct Disk {
 #[derive(Clone, Copy)]
 enum Work<'a> {
     Steps(&'a [Step]),
-    OneClient(&'a TcpListener),
+    Clients(&'a TcpListener, u32),
+    Lines(&'a HostRuntime, u16),
 }
 
 fn worked<S: Alter + Drop>(
@@ -33,7 +34,8 @@ fn worked<S: Alter + Drop>(
 ) -> Connection<S> {
     match work {
         Work::Steps(steps) => take_all(rt, alloc, conn, steps),
-        Work::OneClient(listener) => one_client(rt, alloc, conn, listener),
+        Work::Clients(listener, count) => clients_served(rt, alloc, conn, listener, count),
+        Work::Lines(host, port) => lines_worked(host, conn, port),
     }
 }
 
@@ -74,7 +76,12 @@ pub(crate) fn run_after(rt: &impl Abort, alloc: Global, first: &[Step], then: &[
     opened(rt, alloc, disk, Work::Steps(then));
 }
 
-/// Serves the client that waits at the listener, over books in a new file.
-pub(crate) fn run_one_client(rt: &impl Abort, alloc: Global, listener: &TcpListener) {
-    opened(rt, alloc, new_disk(alloc), Work::OneClient(listener));
+/// Serves so many clients that wait at the listener, over books in a new file.
+pub(crate) fn run_clients(rt: &impl Abort, alloc: Global, listener: &TcpListener, count: u32) {
+    opened(rt, alloc, new_disk(alloc), Work::Clients(listener, count));
+}
+
+/// Does what lines of the program do with the books, over a new file.
+pub(crate) fn run_lines(rt: &HostRuntime, port: u16) {
+    opened(rt, rt.alloc(), new_disk(rt.alloc()), Work::Lines(rt, port));
 }

@@ -9,7 +9,7 @@ use std::process::Abort;
 use store::{Books, Fault, OpenFault};
 use tables::opening::Leftover;
 
-fn business_day(rt: &impl Abort, text: &[u8]) -> BusinessDay {
+pub(crate) fn business_day(rt: &impl Abort, text: &[u8]) -> BusinessDay {
     BusinessDay::new(Day::parse(text).expect(rt, "a day")).expect(rt, "a business day")
 }
 

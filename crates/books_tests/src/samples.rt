@@ -1,5 +1,5 @@
 // One row for each table.
-use commands::limits::{CARD_NOTE_MAX, KEY_TEXT_MAX};
+use commands::limits::{CARD_NOTE_MAX, KEY_TEXT_MAX, UNITS_MAX};
 use commands::{
     BinKind, BinRow, CardKind, CardRow, ItemRow, LineRow, Listed, LotRow, MetaRow, OrderRow,
     OrderState, RecallRow, RepeatRow, ReservedRow, ShiplineRow, ShipmentRow, Short, StagedRow,
@@ -112,6 +112,15 @@ pub(crate) fn line(rt: &impl Abort) -> LineRow {
     }
 }
 
+// A line with as many units as there can be, all of them shipped.
+pub(crate) fn full_line(rt: &impl Abort) -> LineRow {
+    LineRow {
+        ordered: UNITS_MAX,
+        shipped: UNITS_MAX,
+        ..line(rt)
+    }
+}
+
 pub(crate) fn staged(rt: &impl Abort) -> StagedRow {
     StagedRow {
         order: name(rt, b"S-1"),
@@ -154,6 +163,15 @@ pub(crate) fn card(rt: &impl Abort) -> CardRow {
         note: Text::<CARD_NOTE_MAX>::new(b"A-01").expect(rt, "a note"),
         qty: -3,
         rest: 40,
+    }
+}
+
+// The line of a card after which no units are left.
+pub(crate) fn last_card(rt: &impl Abort) -> CardRow {
+    CardRow {
+        qty: -40,
+        rest: 0,
+        ..card(rt)
     }
 }
 

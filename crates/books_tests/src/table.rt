@@ -8,6 +8,7 @@ use crate::filing::{FILED, FILED_ROWS, FILED_TWICE, FILES_AND_CUSTOMERS, FILES_R
 use crate::goods::{
     ADJUSTED, COUNTED, HELD, MOVED, NEVER_RECEIVED, RECALLED, RECEIVED_AND_RECALLED,
 };
+use crate::limits::{LAST_UNIT, MANY_UNITS, NEXT_DAY, TWENTY_LINES, TWO_LINES};
 use crate::order_rows::TWO_CUSTOMERS_ROWS;
 use crate::picking::{
     CANCELLED, DONE, KEY_LEFT_FREE, PICKED, PICKS_REFUSED, RETURNED_AND_SHIPPED,
@@ -53,6 +54,11 @@ pub(crate) enum Table {
     Filed,
     FiledTwice,
     FilesAndCustomers,
+    NextDay,
+    TwoLines,
+    TwentyLines,
+    ManyUnits,
+    LastUnit,
 }
 
 impl Table {
@@ -93,6 +99,11 @@ impl Table {
             Table::Filed => FILED,
             Table::FiledTwice => FILED_TWICE,
             Table::FilesAndCustomers => FILES_AND_CUSTOMERS,
+            Table::NextDay => NEXT_DAY,
+            Table::TwoLines => TWO_LINES,
+            Table::TwentyLines => TWENTY_LINES,
+            Table::ManyUnits => MANY_UNITS,
+            Table::LastUnit => LAST_UNIT,
         }
     }
 }

@@ -1,6 +1,7 @@
 use crate::disk::run;
 use crate::samples;
 use crate::steps::{On, Step};
+use commands::limits::{ACTS_MAX, UNITS_MAX};
 use commands::{
     BinKind, CardKind, CardRow, ItemRow, LineRow, LotRow, OrderRow, OrderState, RepeatRow, StockRow,
 };
@@ -93,6 +94,7 @@ pub(crate) fn creates_nothing<S: Alter>(rt: &impl Abort, conn: &mut Connection<S
 }
 
 fn puts_goods<S: Alter>(rt: &impl Abort, tx: &mut Transaction<'_, S>) {
+    is_done(rt, put_meta(tx, &samples::meta(rt, ACTS_MAX)));
     is_done(rt, put_meta(tx, &samples::meta(rt, 14)));
     is_done(rt, put_item(tx, &samples::item(rt)));
     is_done(rt, put_bin(tx, &samples::bin(rt)));
@@ -101,7 +103,7 @@ fn puts_goods<S: Alter>(rt: &impl Abort, tx: &mut Transaction<'_, S>) {
 }
 
 fn puts_stock<S: Alter>(rt: &impl Abort, tx: &mut Transaction<'_, S>) {
-    is_done(rt, put_stock(tx, &samples::stock(rt, b"A-01", 3)));
+    is_done(rt, put_stock(tx, &samples::stock(rt, b"A-01", UNITS_MAX)));
     is_done(rt, put_stock(tx, &samples::stock(rt, b"B-02", 5)));
     is_done(rt, put_stock(tx, &samples::stock(rt, b"A-01", 4)));
 }
@@ -109,6 +111,7 @@ fn puts_stock<S: Alter>(rt: &impl Abort, tx: &mut Transaction<'_, S>) {
 fn puts_orders<S: Alter>(rt: &impl Abort, tx: &mut Transaction<'_, S>) {
     is_done(rt, put_order(tx, &samples::order(rt)));
     is_done(rt, put_order(tx, &samples::open_order(rt)));
+    is_done(rt, put_line(tx, &samples::full_line(rt)));
     is_done(rt, put_line(tx, &samples::line(rt)));
     is_done(rt, put_staged(tx, &samples::staged(rt)));
     is_done(rt, put_reserved(tx, &samples::reserved(rt)));
@@ -118,6 +121,7 @@ fn puts_history<S: Alter>(rt: &impl Abort, alloc: Global, tx: &mut Transaction<'
     is_done(rt, put_shipment(tx, &samples::shipment(rt, 13)));
     is_done(rt, put_shipment(tx, &samples::shipment(rt, 14)));
     is_done(rt, put_shipline(tx, &samples::shipline(rt)));
+    is_done(rt, put_card(tx, &samples::last_card(rt)));
     is_done(rt, put_card(tx, &samples::card(rt)));
     is_done(rt, put_repeat(tx, &samples::repeat(rt, alloc)));
 }
