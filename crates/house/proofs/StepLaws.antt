@@ -27,8 +27,8 @@ use Rattle.wire.specs.Shorts.{code_text}
 use Rattle.wire.specs.declared.answer.Answer.TheVariants.{Order as OrderAnswer, Stock as StockAnswer, Text}
 use Rattle.texts.specs.PickList.{pick_list_text}
 use Rattle.texts.specs.Shortages.{shortages_text}
-use Rattle.house.specs.Answers.{short_answer, fault_answer, not_served, foreign_books, outcome_answer, is_served, act_answer, acts_with, Delivered, receipt, label_answer, scan_answer, acts_scanned, view_answer, query_answer, ask_answer, acts_asked, answer_of, acts_of}
-use Rattle.house.specs.Laws.{status_of, RefusedRequestsChangeNothing, BooksAreNeverForeign}
+use Rattle.house.specs.Answers.{status_of, short_answer, fault_answer, not_served, foreign_books, outcome_answer, is_served, act_answer, acts_with, Delivered, receipt, label_answer, scan_answer, acts_scanned, view_answer, query_answer, ask_answer, acts_asked, answer_of, acts_of}
+use Rattle.house.specs.Laws.{RefusedRequestsChangeNothing, BooksAreNeverForeign}
 
 -- What is not answered 200 changes nothing
 

@@ -1,21 +1,27 @@
 -- What a reading, answered, is as a step.
-use Rattle.std.proofs.Common.{◌≡◌, ◌≢◌, ℕ, List, refl, sym, subst, ◌∙◌, inl, inr, ◌⊎◌}
-use Rattle.std.specs.Prelude.{ℤ}
+use Rattle.std.proofs.Common.{◌≡◌, ◌≢◌, ℕ, List, refl, ap, sym, subst, ◌∙◌, inl, inr, ◌⊎◌}
+use Rattle.std.specs.Prelude.{ℤ, codes}
+use Rattle.std.specs.Fmt.{digits}
 use Rattle.sqlite_trees.specs.declared.store.Store.{Ghosts}
 use Rattle.sqlite.specs.Held.{state}
 use Rattle.machine.specs.Acts.{Act}
 use Rattle.machine.specs.Once.{IsHistory}
 use Rattle.requests.specs.Requests.{IsReading}
 use Rattle.requests.specs.declared.ask.Ask.{Ask}
+use Rattle.requests.specs.declared.ask.Ask.TheVariants.{Show}
+use Rattle.requests.specs.declared.ask.Query.{Query}
 use Rattle.requests.specs.declared.fault.WireFault.{WireFault}
 use Rattle.requests.specs.declared.fault.WireFault.TheVariants.{Head, Length, Json, Field, Path, Method, TooLarge, Memory}
 use Rattle.requests.specs.declared.request.Read.{Read}
 use Rattle.requests.specs.declared.request.Read.TheVariants.{Need, Bad, Request}
 use Rattle.store.specs.Connected.{Connected}
 use Rattle.store.specs.Books.{AreRowsOf, HoldsBooks}
-use Rattle.house.specs.Answers.{fault_answer, ask_answer, acts_asked}
+use Rattle.wire.specs.Answers.{head_text, answer_bytes}
+use Rattle.wire.specs.declared.answer.Answer.{Answer}
+use Rattle.wire.specs.declared.answer.Answer.TheVariants.{Order as OrderAnswer, Stock as StockAnswer, Text}
+use Rattle.house.specs.Answers.{fault_answer, ask_answer, acts_asked, status_of}
 use Rattle.house.specs.Asking.{IsDone, IsUndone}
-use Rattle.house.specs.House.{Step, StepsTo, IsOneFurther, LeavesBooks, IsInPlace, IsAskedInPlace}
+use Rattle.house.specs.House.{Step, StepsTo, IsOneFurther, LeavesBooks, IsLongIfOk, IsInPlace, IsAskedInPlace}
 use Rattle.house.specs.declared.answered.Answered.{Answered}
 use Rattle.house.specs.declared.answered.Answered.TheVariants.{Short, Long}
 
@@ -85,4 +91,15 @@ module _ {S : Type 0} (g : Ghosts S) (first : ℤ) (acts : List Act) (history : 
 -- an answer to what is asked is in place, or the request shows something
 pub in_place : (text : List ℕ) (ask : Ask) (answer : Answered) → IsReading text (Request ask) → IsAskedInPlace ask answer → IsInPlace text answer
 in_place text ask (Short block) read h = tt
-in_place text ask (Long bytes) read h = (h.0, subst (λ a. IsReading text (Request a)) h.1 read)
+in_place text ask (Long bytes) read h = (h.0, subst (λ a. IsReading text (Request a)) h.1 read, h.2)
+
+pub shown_in_place : (ask : Ask) (query : Query) (answer : Answered) → ask ≡ Show query → IsLongIfOk answer → IsAskedInPlace ask answer
+shown_in_place ask query (Short block) is h = tt
+shown_in_place ask query (Long bytes) is h = (query, is, h)
+
+-- what is shown has status 200
+pub ok_status : (bytes : List ℕ) (answer : Answer) → bytes ≡ answer_bytes answer → status_of bytes ≡ codes "HTTP/1.1 200"
+unfolding head_text digits
+ok_status bytes (OrderAnswer view) is = ap status_of is
+ok_status bytes (StockAnswer view) is = ap status_of is
+ok_status bytes (Text text) is = ap status_of is

@@ -1,5 +1,5 @@
 -- What each reading of a text is answered, and the acts after it. An answer is its bytes.
-use Rattle.std.specs.Prelude.{ℕ, if◌then◌else◌, Bool, List, Result, Ok, Err, ℤ}
+use Rattle.std.specs.Prelude.{ℕ, if◌then◌else◌, Bool, List, take, Result, Ok, Err, ℤ}
 use Rattle.label.specs.Labels.{label_read}
 use Rattle.label.specs.declared.gs1.Label.{Label}
 use Rattle.values.specs.declared.fault.LabelFault.{LabelFault}
@@ -31,6 +31,10 @@ use Rattle.wire.specs.declared.answer.Answer.{Answer}
 use Rattle.wire.specs.declared.answer.Answer.TheVariants.{Order as OrderAnswer, Stock as StockAnswer, Text}
 use Rattle.texts.specs.PickList.{pick_list_text}
 use Rattle.texts.specs.Shortages.{shortages_text}
+
+-- the version and the status
+abbrev pub status_of : List ℕ → List ℕ
+status_of bytes = take 12 bytes
 
 -- Commands
 

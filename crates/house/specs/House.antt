@@ -1,5 +1,5 @@
 -- The machine over texts: a step, a run, and the house whose books are those of the acts.
-use Rattle.std.specs.Prelude.{◌≡◌, ◌⊎◌, ℕ, List, [], ◌∷◌, map, Vec, ℤ}
+use Rattle.std.specs.Prelude.{◌≡◌, ◌⊎◌, ℕ, List, [], ◌∷◌, map, codes, Vec, ℤ}
 use Rattle.sqlite_trees.specs.declared.store.Store.{Ghosts}
 use Rattle.sqlite_trees.specs.Tree.{Trees}
 use Rattle.sqlite.specs.Held.{state}
@@ -14,7 +14,7 @@ use Rattle.requests.specs.declared.request.Read.{Read}
 use Rattle.requests.specs.declared.request.Read.TheVariants.{Request}
 use Rattle.store.specs.Connected.{Connected}
 use Rattle.store.specs.Books.{AreRowsOf, HoldsBooks}
-use Rattle.house.specs.Answers.{answer_of, acts_of, no_memory}
+use Rattle.house.specs.Answers.{answer_of, acts_of, no_memory, status_of}
 use Rattle.house.specs.declared.answered.Answered.{Answered}
 use Rattle.house.specs.declared.answered.Answered.TheVariants.{Short, Long}
 use Rattle.house.specs.declared.house.House.{House}
@@ -86,11 +86,16 @@ pub record RunsTo {S : Type 0} (g : Ghosts S) (first : ℤ) (old : List Act) (te
   -- what was answered is kept, also over a connection that the disk has shut meanwhile
   pub kept : LeavesBooks first old (state g was.conn) → LeavesBooks first after (state g books.conn)
 
--- an answer that is not written in place is to a request that shows something
+-- only an answer of status 200 is not written in place
+abbrev pub IsLongIfOk : Answered → Type 0
+IsLongIfOk (Short block) = Unit {0}
+IsLongIfOk (Long bytes) = status_of bytes.items ≡ codes "HTTP/1.1 200"
+
+-- and it is to a request that shows something
 abbrev pub IsAskedInPlace : Ask → Answered → Type 0
 IsAskedInPlace ask (Short block) = Unit {0}
-IsAskedInPlace ask (Long bytes) = (query : Query) × (ask ≡ Show query)
+IsAskedInPlace ask (Long bytes) = (query : Query) × (ask ≡ Show query) × (status_of bytes.items ≡ codes "HTTP/1.1 200")
 
 abbrev pub IsInPlace : List ℕ → Answered → Type 0
 IsInPlace text (Short block) = Unit {0}
-IsInPlace text (Long bytes) = (query : Query) × IsReading text (Request (Show query))
+IsInPlace text (Long bytes) = (query : Query) × IsReading text (Request (Show query)) × (status_of bytes.items ≡ codes "HTTP/1.1 200")

@@ -1,12 +1,8 @@
 -- What is true of every step over a text.
-use Rattle.std.specs.Prelude.{◌≡◌, ◌≢◌, ℕ, List, take, codes, ℤ}
+use Rattle.std.specs.Prelude.{◌≡◌, ◌≢◌, ℕ, List, codes, ℤ}
 use Rattle.machine.specs.Acts.{Act}
-use Rattle.house.specs.Answers.{foreign_books}
+use Rattle.house.specs.Answers.{foreign_books, status_of}
 use Rattle.house.specs.House.{Step}
-
--- the version and the status
-abbrev pub status_of : List ℕ → List ℕ
-status_of bytes = take 12 bytes
 
 -- a request that is not answered 200 changes nothing
 abbrev pub RefusedRequestsChangeNothing : Type 0

@@ -2,7 +2,7 @@
 
 ghost use Rattle.std.specs.Prelude.{◌≡◌, Result};
 ghost use Rattle.house.specs.Asking.{fault_shown};
-ghost use Rattle.house.specs.House.{bytes_of};
+ghost use Rattle.house.specs.House.{bytes_of, IsLongIfOk};
 
 use requests::WireFault;
 use store::Fault;
@@ -14,7 +14,7 @@ use wire::short_answers::{fault_answer, foreign_books, not_found};
 pub enum Answered {
     /// Written in place: the answer to every POST, to what is no request, and where there was no memory.
     Short(Block),
-    /// The answer to a GET.
+    /// What a GET shows, with status 200.
     Long(Vec<u8>),
 }
 
@@ -34,7 +34,8 @@ impl Answered {
 
 /// The answer to a query that is refused, or that failed.
 pub(crate) fn not_shown(fault: Fault) -> Answered
-    ensures { bytes_of result ≡ fault_shown fault }
+    ensures told { bytes_of result ≡ fault_shown fault }
+    ensures in_place { IsLongIfOk result }
 {
     match fault {
         Fault::Refused(why) => Answered::Short(not_found(why)),

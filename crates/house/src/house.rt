@@ -90,6 +90,7 @@ impl<S: Alter> House<S> {
 }
 
 /// Answers what a request asks.
+#[tactic(auto, using(crate::proofs::Stepping::shown_in_place))]
 fn answer_ask<S: Alter>(alloc: Global, books: &mut Books<S>, ask: &Ask) -> Answered
     ensures clean { IsClean S.Store books.new → IsClean S.Store books.old }
     ensures done { IsClean S.Store books.new → (first : ℤ) (acts : List Act) → IsHistory first acts

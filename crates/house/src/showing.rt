@@ -9,7 +9,7 @@ ghost use Rattle.texts.specs.PickList.{pick_list_text};
 ghost use Rattle.texts.specs.Shortages.{shortages_text};
 ghost use Rattle.house.specs.Answers.{order_answer, stock_answer, pick_list_answer, shortages_answer, no_memory};
 ghost use Rattle.house.specs.Asking.{Does, IsWritten, asked_answer};
-ghost use Rattle.house.specs.House.{bytes_of};
+ghost use Rattle.house.specs.House.{bytes_of, IsLongIfOk};
 
 use crate::Answered;
 use crate::answered::not_shown;
@@ -28,6 +28,7 @@ pub(crate) fn show_order<S: Alter>(alloc: Global, books: &mut Books<S>, order: &
     ensures clean { IsClean S.Store books.new → IsClean S.Store books.old }
     ensures shown { IsClean S.Store books.new → (first : ℤ) (acts : List Act) → IsHistory first acts
         → Does S.Store first acts books.old (order_answer first acts order.now) acts (bytes_of result) books.new }
+    ensures in_place { IsLongIfOk result }
 {
     match books.order_rows(order) {
         Ok(view) => told(alloc, Ok(Answer::Order(view))),
@@ -40,6 +41,7 @@ pub(crate) fn show_stock<S: Alter>(alloc: Global, books: &mut Books<S>, gtin: &G
     ensures clean { IsClean S.Store books.new → IsClean S.Store books.old }
     ensures shown { IsClean S.Store books.new → (first : ℤ) (acts : List Act) → IsHistory first acts
         → Does S.Store first acts books.old (stock_answer first acts gtin.now) acts (bytes_of result) books.new }
+    ensures in_place { IsLongIfOk result }
 {
     match books.stock(gtin) {
         Ok(view) => told(alloc, Ok(Answer::Stock(view))),
@@ -56,6 +58,7 @@ pub(crate) fn show_pick_list<S: Alter>(
     ensures clean { IsClean S.Store books.new → IsClean S.Store books.old }
     ensures shown { IsClean S.Store books.new → (first : ℤ) (acts : List Act) → IsHistory first acts
         → Does S.Store first acts books.old (pick_list_answer first acts order.now) acts (bytes_of result) books.new }
+    ensures in_place { IsLongIfOk result }
 {
     match books.order_rows(order) {
         Ok(view) => told(alloc, pick_list_of(alloc, view)),
@@ -68,6 +71,7 @@ pub(crate) fn show_shortages<S: Alter>(alloc: Global, books: &mut Books<S>, gtin
     ensures clean { IsClean S.Store books.new → IsClean S.Store books.old }
     ensures shown { IsClean S.Store books.new → (first : ℤ) (acts : List Act) → IsHistory first acts
         → Does S.Store first acts books.old (shortages_answer first acts gtin.now) acts (bytes_of result) books.new }
+    ensures in_place { IsLongIfOk result }
 {
     match books.short_rows(gtin) {
         Ok(view) => told(alloc, shortages_of(alloc, view)),
@@ -99,7 +103,8 @@ fn shortages_of(alloc: Global, view: ShortView) -> Result<Answer, Fault>
 
 /// The bytes of what is shown, where there is memory for them, or of why nothing is.
 fn told(alloc: Global, asked: Result<Answer, Fault>) -> Answered
-    ensures { (bytes_of result ≡ asked_answer asked) ⊎ (bytes_of result ≡ no_memory) }
+    ensures told { (bytes_of result ≡ asked_answer asked) ⊎ (bytes_of result ≡ no_memory) }
+    ensures in_place { IsLongIfOk result }
 {
     match asked {
         Ok(answer) => bytes_told(alloc, answer),
@@ -108,7 +113,8 @@ fn told(alloc: Global, asked: Result<Answer, Fault>) -> Answered
 }
 
 fn bytes_told(alloc: Global, answer: Answer) -> Answered
-    ensures { (bytes_of result ≡ answer_bytes answer) ⊎ (bytes_of result ≡ no_memory) }
+    ensures told { (bytes_of result ≡ answer_bytes answer) ⊎ (bytes_of result ≡ no_memory) }
+    ensures in_place { IsLongIfOk result }
 {
     match write_answer(alloc, &answer) {
         Ok(bytes) => Answered::Long(bytes),
