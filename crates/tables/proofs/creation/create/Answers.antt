@@ -41,7 +41,8 @@ returns-clause-ready g c =
     let blank : (state g.S.Store old).now.schema ≡ schema_0 = sym c.schema.ensures.value ∙ c.is_empty_schema.ensures.0 c.if-not-is_empty_schema.false in
     let filled = c.in_ok-fill.ensures.done clean_last (begins_blank g.S.Store old begun c.transaction-tx.ensures.begun c.schema.ensures.live blank (c.in_ok-fill.ensures.was_open clean_last)) in
     subst IsReady (sym (c.in_ok-commit.ensures.ok clean).1.now_is) filled.ready in
-    search (rules, whole)
+    let same : c.commit.new.self.0 ≡ c.conn-2-1.given.0 = search rules in
+    subst (λ h. HasCleanDisk (state g.S.Store h) → IsReady (state g.S.Store h).now) same whole
 
 pub returns-clause-tables : goal.returns-clause-tables
 returns-clause-tables g c = search rules
