@@ -3,3 +3,4 @@ pub mod Texts
 pub mod OpenLemmas
 pub mod IndexTexts
 pub mod IndexLemmas
+pub mod SettleLemmas

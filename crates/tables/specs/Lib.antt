@@ -2,3 +2,4 @@ pub mod Creation
 pub mod Opening
 pub mod Layouts
 pub mod Indexing
+pub mod Settling

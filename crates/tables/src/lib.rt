@@ -8,6 +8,7 @@ mod checking;
 pub mod creation;
 pub mod indexing;
 pub mod opening;
+pub mod settling;
 
 pub use goods_tables as goods;
 pub use history_tables as history;

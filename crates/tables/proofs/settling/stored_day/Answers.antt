@@ -1,6 +1,6 @@
 use Rattle.sqlite.specs.Held.{state}
-use Rattle.store.proofs.OpenedBooks.{day_read, no_day, on_day}
-use Rattle.store.proofs.books.stored_day.Goals as goal
+use Rattle.tables.proofs.SettleLemmas.{day_read, no_day, on_day}
+use Rattle.tables.proofs.settling.stored_day.Goals as goal
 
 pub returns-clause-day : goal.returns-clause-day
 returns-clause-day g c clean ready =

@@ -7,10 +7,10 @@ use Rattle.table_words.specs.Steps.{IsReady}
 use Rattle.tables.specs.Indexing.{HasIndexes, KeepsRows}
 use Rattle.tables.proofs.CreateLemmas.{crash_made}
 use Rattle.table_words.specs.declared.error.TableFault.TheVariants.{Foreign as ForeignTable}
-use Rattle.store.specs.Opening.{HasDay, IsStill}
-use Rattle.store.proofs.ActsWhole.{begun_state}
-use Rattle.store.proofs.OpenedBooks.{as_begun, as_old, clean_before, settled_still, undone_still, uncommitted_still, stops_before}
-use Rattle.store.proofs.books.settle.Goals as goal
+use Rattle.tables.specs.Settling.{HasDay, IsStill}
+use Rattle.tables.proofs.SettleLemmas.{begun_state}
+use Rattle.tables.proofs.SettleLemmas.{as_begun, as_old, settled_still, undone_still, uncommitted_still, stops_before}
+use Rattle.tables.proofs.settling.settle.Goals as goal
 
 pub returns-clause-day : goal.returns-clause-day
 returns-clause-day g c =

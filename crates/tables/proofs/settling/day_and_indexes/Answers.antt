@@ -4,8 +4,8 @@ use Rattle.sqlite.specs.Held.{state}
 use Rattle.sqlite.specs.State.{HasCleanDisk}
 use Rattle.table_words.specs.Steps.{IsReady}
 use Rattle.table_words.proofs.CallLemmas.{kept_then}
-use Rattle.store.proofs.OpenedBooks.{indexed_after}
-use Rattle.store.proofs.books.day_and_indexes.Goals as goal
+use Rattle.tables.proofs.SettleLemmas.{indexed_after}
+use Rattle.tables.proofs.settling.day_and_indexes.Goals as goal
 
 pub returns-clause-day : goal.returns-clause-day
 returns-clause-day g c clean ready =
