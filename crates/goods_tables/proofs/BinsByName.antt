@@ -73,7 +73,7 @@ bin_name r h = (and_parts _ _ (and_parts _ _ (and_parts _ _ h).1).1).0
 
 has_shown : (r : Row) → is_stock r ≡ true → has_bin_units (column r 3 ∷ column r 4 ∷ []) ≡ true
 has_shown r h =
-    let units : is_number UNITS_MAX (column r 4) ≡ true = (and_parts _ _ (and_parts _ _ (and_parts _ _ h).1).1).1 in
+    let units : is_number UNITS_MAX (column r 4) ≡ true = (and_parts (is_word is_name (column r 3)) _ (and_parts (is_word is_lot_text (column r 2)) _ (and_parts (is_word is_gtin (column r 1)) _ h).1).1).1 in
     and_from (is_word is_name (column r 3)) (is_number UNITS_MAX (column r 4)) (bin_name r h) units
 
 module _ (lot : LotId) where

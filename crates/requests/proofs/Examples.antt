@@ -15,7 +15,7 @@ use Rattle.commands.specs.declared.command.Command.TheVariants.{Item, Count}
 use Rattle.requests.specs.declared.fault.WireFault.TheVariants.{Length, Path, Field, TooLarge, Method as OtherMethod}
 use Rattle.requests.specs.declared.method.Method.TheVariants.{Get, Post}
 use Rattle.requests.specs.declared.routes.Route.TheVariants.{Post as PostTo, Get as GetOf}
-use Rattle.requests.specs.declared.routes.Posted.TheVariants.{Items, Bins, Receipts, Orders, Recalls, Days}
+use Rattle.requests.specs.declared.routes.Posted.TheVariants.{Items, Bins, Receipts, Orders, Recalls, Days, GoodsIn}
 use Rattle.requests.specs.declared.routes.Shown.TheVariants.{Order as AnOrder, Stock as TheStock, PickList as APickList, Shortages as TheShortages, Card, Notice as ANotice}
 use Rattle.requests.specs.declared.ask.Ask.TheVariants.{Do}
 use Rattle.requests.specs.declared.ask.Query.TheVariants.{Card as CardOf}
@@ -46,9 +46,9 @@ pub days : route_of (codes "/days") ≡ Some (PostTo Days)
 unfolding matchit_on_literals table
 days = refl
 
-pub no_goods_in_yet : route_of (codes "/goodsin") ≡ None
+pub goods_in : route_of (codes "/goodsin") ≡ Some (PostTo GoodsIn)
 unfolding matchit_on_literals table
-no_goods_in_yet = refl
+goods_in = refl
 
 pub an_order : route_of (codes "/orders/S-1") ≡ Some (GetOf AnOrder)
 unfolding matchit_on_literals table
