@@ -2,6 +2,7 @@
 
 use crate::answers::NO_REQUESTS;
 use crate::exchange::{answer, request};
+use crate::hostile::{refuses_hostile, takes_changed};
 use crate::opening::{books_of, new_books};
 use crate::table::Table;
 use house::{Answered, House, ServeFault};
@@ -23,6 +24,10 @@ pub(crate) enum Asked {
     NoRequestsServed,
     /// The writer takes less than the answer.
     FullWriter,
+    /// Each hostile text.
+    Hostile,
+    /// Each text that is changed and still sound.
+    Changed,
 }
 
 /// What was answered is this; `asked` tells where it is not.
@@ -30,7 +35,12 @@ fn is_answer(rt: &impl Abort, found: &[u8], asked: &str, expected: &str) {
     assert!(rt; found == expected.as_bytes(), "{asked:?}");
 }
 
-fn is_answered<S: Alter>(rt: &impl Abort, house: &mut House<S>, asked: &str, expected: &str) {
+pub(crate) fn is_answered<S: Alter>(
+    rt: &impl Abort,
+    house: &mut House<S>,
+    asked: &str,
+    expected: &str,
+) {
     let found = house.answer(asked.as_bytes());
     is_answer(rt, found.as_bytes(), asked, expected);
 }
@@ -125,6 +135,8 @@ fn ask<S: Alter>(rt: &impl Abort, alloc: Global, house: &mut House<S>, asked: As
         Asked::NoRequests => answers_no_requests(rt, house),
         Asked::NoRequestsServed => serves_no_requests(rt, alloc, house),
         Asked::FullWriter => is_full(rt, house),
+        Asked::Hostile => refuses_hostile(rt, house),
+        Asked::Changed => takes_changed(rt, house),
     }
 }
 

@@ -21,6 +21,8 @@ mod filing;
 #[cfg(test)]
 mod goods;
 #[cfg(test)]
+mod hostile;
+#[cfg(test)]
 mod limits;
 #[cfg(test)]
 mod lots_told;

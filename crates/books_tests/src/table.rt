@@ -9,6 +9,7 @@ use crate::goods::{
     ADJUSTED, COUNTED, HELD, MOVED, NEVER_RECEIVED, RECALLED, RECEIVED_AND_RECALLED,
 };
 use crate::limits::{LAST_UNIT, MANY_UNITS, NEXT_DAY, TWENTY_LINES, TWO_LINES};
+use crate::hostile::GOODS_AND_BINS_ROWS;
 use crate::order_rows::TWO_CUSTOMERS_ROWS;
 use crate::picking::{
     CANCELLED, DONE, KEY_LEFT_FREE, PICKED, PICKS_REFUSED, RETURNED_AND_SHIPPED,
@@ -111,6 +112,7 @@ impl Table {
 /// The rows that a test leaves in each table.
 #[derive(Clone, Copy)]
 pub(crate) enum Left {
+    GoodsAndBins,
     TwoCustomers,
     Picked,
     Returned,
@@ -122,6 +124,7 @@ pub(crate) enum Left {
 impl Left {
     pub(crate) fn rows(self) -> &'static [&'static str] {
         match self {
+            Left::GoodsAndBins => GOODS_AND_BINS_ROWS.as_slice(),
             Left::TwoCustomers => TWO_CUSTOMERS_ROWS.as_slice(),
             Left::Picked => PICKED_ROWS.as_slice(),
             Left::Returned => RETURNED_ROWS.as_slice(),
