@@ -167,7 +167,7 @@ static UNKNOWN_LOT_RECALLED: [&[Step]; 1] = [&[
         Asked::Each(Table::GoodsAndBins),
         Asked::Each(Table::NeverReceived),
     ]),
-    Step::Lots(&NEVER_CAME),
+    Step::Lots(NEVER_CAME),
 ]];
 
 #[test]

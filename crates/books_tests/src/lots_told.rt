@@ -243,7 +243,7 @@ pub(crate) fn told<S: Alter + Drop>(
 const OATS: &[u8] = b"09506000134352";
 
 /// After the picks, the shipment and the recall of L2: L2 is in a bin and in the shipment, L0 in the shipment alone.
-pub(crate) static SHIPPED: [Told; 4] = [
+pub(crate) const SHIPPED: &[Told] = &[
     Told {
         gtin: OATS,
         lot: b"L2",
@@ -289,7 +289,7 @@ pub(crate) static SHIPPED: [Told; 4] = [
 ];
 
 /// After the picks, the recall of L2 and the shipment: what was staged of L2 is in RETURNS.
-pub(crate) static RETURNED: [Told; 1] = [Told {
+pub(crate) const RETURNED: &[Told] = &[Told {
     gtin: OATS,
     lot: b"L2",
     card: Ok(b"2026-05-31"),
@@ -300,7 +300,7 @@ pub(crate) static RETURNED: [Told; 1] = [Told {
 }];
 
 /// After the recall of a lot that never came.
-pub(crate) static NEVER_CAME: [Told; 2] = [
+pub(crate) const NEVER_CAME: &[Told] = &[
     Told {
         gtin: b"04012345000016",
         lot: b"Z9",

@@ -156,7 +156,7 @@ static STAGED_RECALLED: [Step; 2] = [
         Asked::Each(Table::Picked),
         Asked::Each(Table::ReturnedAndShipped),
     ]),
-    Step::Lots(&RETURNED),
+    Step::Lots(RETURNED),
 ];
 
 #[test]
@@ -169,7 +169,7 @@ static STAGED_SHIPPED: [Step; 3] = [
         Asked::Each(Table::Picked),
         Asked::Each(Table::ShippedAndRecalled),
     ]),
-    Step::Lots(&SHIPPED),
+    Step::Lots(SHIPPED),
     Step::House(&[Asked::Each(Table::Done)]),
 ];
 
