@@ -2,8 +2,14 @@
 
 use crate::asking::Asked;
 use crate::disk::run;
+use crate::opening::books_of;
 use crate::steps::{On, Step};
 use crate::table::{Left, Table};
+use command_line::tell;
+use service::import;
+use sqlite::{Alter, Connection};
+use std::alloc::Global;
+use std::process::Abort;
 
 // Files that do not read as one, one without rows, and files of which a row is refused.
 pub(crate) static FILES_REFUSED: &str = r#"
@@ -118,4 +124,54 @@ static ALL_IN_TURN: [&[Step]; 1] = [&[
 #[test]
 fn answers_files_among_requests(rt: HostRuntime) {
     run(&rt, rt.alloc(), ALL_IN_TURN.as_slice());
+}
+
+/// The books that are there import a file with this text; what is printed and what is told is this.
+pub(crate) fn imported<S: Alter + Drop>(
+    rt: &impl Abort,
+    alloc: Global,
+    conn: Connection<S>,
+    text: &str,
+    expected: (&str, &str),
+) -> Connection<S> {
+    let mut books = books_of(rt, alloc, conn);
+    let mut printed: Vec<u8> = Vec::new(alloc);
+    let mut told: Vec<u8> = Vec::new(alloc);
+    if let Err(fault) = import(alloc, &mut books, text.as_bytes(), &mut printed) {
+        let _ = tell(&fault, &mut told);
+    }
+    assert!(rt; printed.as_slice() == expected.0.as_bytes(), "{text:?}");
+    assert!(rt; told.as_slice() == expected.1.as_bytes(), "{text:?}");
+    books.close()
+}
+
+static IMPORTED: [&[Step]; 1] = [&[
+    Step::NewHouse(&[Asked::Each(Table::GoodsAndBins)]),
+    Step::Import("", "", "lotd: G01\n"),
+    Step::Import(
+        "delivery,line,gtin,lot,expiry,bin,qty\nD-9,1,09506000134352,M1,261130,A-01,5\nD-9,2,09506000134352,M2,261231,A-02,0\n",
+        "",
+        "lotd: G02 row 2\n",
+    ),
+    Step::Import(
+        "delivery,line,gtin,lot,expiry,bin,qty\nD-9,1,09506000134352,M1,261130,A-01,5\nD-9,2,09506000134352,M2,261231,A-02,7\nD-9,3,04012345000016,N1,261200,B-99,4\n",
+        "",
+        "lotd: U02 row 3\n",
+    ),
+    Step::Import(
+        "delivery,line,gtin,lot,expiry,bin,qty\nD-9,1,09506000134352,M1,261130,A-01,5\nD-9,2,09506000134352,M2,261231,A-02,7\nD-9,3,04012345000016,N1,261200,A-02,4\n",
+        "accepted 3 repeated 0\n",
+        "",
+    ),
+    Step::Import(
+        "delivery,line,gtin,lot,expiry,bin,qty\nD-9,1,09506000134352,M1,261130,A-01,5\nD-9,2,09506000134352,M2,261231,A-02,7\nD-9,3,04012345000016,N1,261200,A-02,4\n",
+        "accepted 0 repeated 3\n",
+        "",
+    ),
+    Step::On(On::HasRows(Left::Filed)),
+]];
+
+#[test]
+fn imports_files(rt: HostRuntime) {
+    run(&rt, rt.alloc(), IMPORTED.as_slice());
 }

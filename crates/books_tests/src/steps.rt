@@ -2,6 +2,7 @@
 
 use crate::acts::{Deed, done};
 use crate::asking::{Asked, answered_in_turn, house_asked, new_house_asked};
+use crate::filing::imported;
 use crate::lots_told::{Told, told};
 use crate::opening::{made, not_made, not_opened, opened};
 use crate::order_rows::{gives, has_rows};
@@ -27,6 +28,8 @@ pub(crate) enum Step {
     House(&'static [Asked]),
     /// Each exchange of the table; the books are closed and opened again after it.
     InTurn(Table),
+    /// A file is imported: its text, what is printed and what is told.
+    Import(&'static str, &'static str, &'static str),
     /// New books act and show.
     Deeds(&'static [Deed]),
     /// The books tell this of their lots.
@@ -94,6 +97,7 @@ fn take<S: Alter + Drop>(
         Step::NewHouse(list) => new_house_asked(rt, alloc, conn, list),
         Step::House(list) => house_asked(rt, alloc, conn, list),
         Step::InTurn(table) => answered_in_turn(rt, alloc, conn, table),
+        Step::Import(text, printed, told) => imported(rt, alloc, conn, text, (printed, told)),
         Step::Deeds(deeds) => done(rt, alloc, conn, deeds),
         Step::Lots(lots) => told(rt, alloc, conn, lots),
         Step::OpenTables => is_schema(rt, alloc, conn),
