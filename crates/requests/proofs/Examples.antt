@@ -17,7 +17,7 @@ use Rattle.requests.specs.declared.method.Method.TheVariants.{Get, Post}
 use Rattle.requests.specs.declared.routes.Route.TheVariants.{Post as PostTo, Get as GetOf}
 use Rattle.requests.specs.declared.routes.Posted.TheVariants.{Items, Bins, Receipts, Orders, Recalls, Days, GoodsIn}
 use Rattle.requests.specs.declared.routes.Shown.TheVariants.{Order as AnOrder, Stock as TheStock, PickList as APickList, Shortages as TheShortages, Card, Notice as ANotice}
-use Rattle.requests.specs.declared.ask.Ask.TheVariants.{Do}
+use Rattle.requests.specs.declared.ask.Ask.TheVariants.{Do, GoodsIn as FileOf}
 use Rattle.requests.specs.declared.ask.Query.TheVariants.{Card as CardOf}
 
 -- routes
@@ -93,6 +93,10 @@ stock_is_not_posted = refl
 pub a_pick_list_of_no_order : route_of (codes "/picklists/") ≡ None
 unfolding matchit_on_literals table
 a_pick_list_of_no_order = refl
+
+pub a_file_is_taken_as_it_is : read_ask (codes "POST") (codes "/goodsin") (codes "no file") ≡ Ok (FileOf (codes "no file"))
+unfolding matchit_on_literals table
+a_file_is_taken_as_it_is = refl
 
 pub a_pick_list_is_not_posted : read_ask (codes "POST") (codes "/picklists/S-1") [] ≡ Err (OtherMethod Get)
 unfolding matchit_on_literals table
