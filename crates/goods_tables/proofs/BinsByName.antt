@@ -3,7 +3,7 @@ use Rattle.std.proofs.Common.{◌≡◌, ℕ, Bool, true, false, ◌&&◌, List,
 use Rattle.std.specs.List.{AllByRecursion}
 use Rattle.std.specs.Ordering.{nat_cmp}
 use Rattle.std.specs.Cmp.Lexicographic.{slice_cmp}
-use Rattle.std.proofs.lemmas.Bool.{and_parts, and_from}
+use Rattle.std.proofs.lemmas.Bool.{and_parts}
 use Rattle.std.proofs.lemmas.Cmp.{nat_list_cmp_total, tied_itself}
 use Rattle.sqlite.specs.Schema.{Schema}
 use Rattle.sqlite.specs.declared.types.Value.TheVariants.{Null, Text}
@@ -73,8 +73,9 @@ bin_name r h = (and_parts _ _ (and_parts _ _ (and_parts _ _ h).1).1).0
 
 has_shown : (r : Row) → is_stock r ≡ true → has_bin_units (column r 3 ∷ column r 4 ∷ []) ≡ true
 has_shown r h =
-    let units : is_number UNITS_MAX (column r 4) ≡ true = (and_parts (is_word is_name (column r 3)) _ (and_parts (is_word is_lot_text (column r 2)) _ (and_parts (is_word is_gtin (column r 1)) _ h).1).1).1 in
-    and_from (is_word is_name (column r 3)) (is_number UNITS_MAX (column r 4)) (bin_name r h) units
+    let shown_both = is_word is_name (column r 3) && is_number UNITS_MAX (column r 4) in
+    let behind = and_parts (is_word is_gtin (column r 1)) (is_word is_lot_text (column r 2) && shown_both) h in
+    (and_parts (is_word is_lot_text (column r 2)) shown_both behind.1).1
 
 module _ (lot : LotId) where
   abbrev params : Row

@@ -53,10 +53,10 @@ no_day (Err x) items (Err e) trees is other (inl same) = λ foreign day has. oth
 no_day (Err x) items (Err e) trees is other (inr h) = absurd h
 
 -- what is so where rows are read is so where a day is read
-pub on_day : {R P : Type 0} (rows : Result R TableFault) (items : R → List MetaRow) (r : Result ℤ TableFault) → OnOk rows P → IfOk r (λ day. IsOkAnd rows (λ x. option_map (λ (m : MetaRow). m.day) (find (λ _. true) (items x)) ≡ Some day)) → OnOk r P
-on_day (Ok x) items (Ok day) h is = h
-on_day (Err e) items (Ok day) h is = absurd is
-on_day rows items (Err e) h is = tt
+pub on_day : {R : Type 0} (P : Type 0) (rows : Result R TableFault) (items : R → List MetaRow) (r : Result ℤ TableFault) → OnOk rows P → IfOk r (λ day. IsOkAnd rows (λ x. option_map (λ (m : MetaRow). m.day) (find (λ _. true) (items x)) ≡ Some day)) → OnOk r P
+on_day P (Ok x) items (Ok day) h is = h
+on_day P (Err e) items (Ok day) h is = absurd is
+on_day P rows items (Err e) h is = tt
 
 -- ---- the transaction in which the day is read and the indexes are made
 

@@ -52,7 +52,8 @@ returns-clause-kept g c =
     let was : HasCleanDisk last = omega (arith, clean, c.commit.ensures.survives.clean) in
     let done = c.in_ok-day.ensures.indexed was (as_old g.S.Store old begun IsReady c.transaction-tx.ensures.begun ready) in
     settled_still (state g.S.Store old) (state g.S.Store begun) last new is done.0 (c.in_ok-commit.ensures.ok clean).1 in
-    search (rules, whole)
+    let same : c.commit.new.self.0 ≡ c.conn-2-1.given.0 = search rules in
+    subst (λ h. HasCleanDisk (state g.S.Store h) → IsReady (state g.S.Store old).now → (state g.S.Store old).now ≡ (state g.S.Store old).committed → IsTrue (state g.S.Store h).is_open → IsStill (state g.S.Store old).now.trees (state g.S.Store h)) same whole
 
 pub returns-in_err-commit-clause-kept : goal.returns-in_err-commit-clause-kept
 returns-in_err-commit-clause-kept g c =
@@ -66,7 +67,8 @@ returns-in_err-commit-clause-kept g c =
     let inside = as_old g.S.Store old begun IsReady c.transaction-tx.ensures.begun ready in
     let done = c.in_ok-day.ensures.indexed was inside in
     uncommitted_still (state g.S.Store old) (state g.S.Store begun) last new is _ (c.in_ok-day.ensures.kept was inside) done.0.mode (c.in_err-commit.ensures.err clean) ready settled up in
-    search (rules, whole)
+    let same : c.commit.new.self.0 ≡ c.conn-2-1.given.0 = search rules in
+    subst (λ h. HasCleanDisk (state g.S.Store h) → IsReady (state g.S.Store old).now → (state g.S.Store old).now ≡ (state g.S.Store old).committed → IsTrue (state g.S.Store h).is_open → IsStill (state g.S.Store old).now.trees (state g.S.Store h)) same whole
 
 pub returns-in_err-day-clause-kept : goal.returns-in_err-day-clause-kept
 returns-in_err-day-clause-kept g c =
@@ -79,7 +81,8 @@ returns-in_err-day-clause-kept g c =
     let was : HasCleanDisk last = omega (arith, clean, c.drop-tx.ensures.survives.clean) in
     let inside = as_old g.S.Store old begun IsReady c.transaction-tx.ensures.begun ready in
     undone_still (state g.S.Store old) (state g.S.Store begun) last new is (c.in_err-day.ensures.kept was inside) (c.drop-tx.ensures.undone clean) ready settled up in
-    search (rules, whole)
+    let same : c.drop-tx.new.self.0 ≡ c.conn-1.given.0 = search rules in
+    subst (λ h. HasCleanDisk (state g.S.Store h) → IsReady (state g.S.Store old).now → (state g.S.Store old).now ≡ (state g.S.Store old).committed → IsTrue (state g.S.Store h).is_open → IsStill (state g.S.Store old).now.trees (state g.S.Store h)) same whole
 
 pub returns-clause-survives : goal.returns-clause-survives
 returns-clause-survives g c =

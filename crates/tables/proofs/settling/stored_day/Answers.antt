@@ -13,4 +13,4 @@ returns-clause-foreign g c clean ready =
     no_day c.meta_rows.result (λ rows. rows.items) c.day_in.result (state g.S.Store c.args.tx.now.conn.now).now.trees (read.rows clean ready) (read.foreign clean ready) c.day_in.ensures.fault
 
 pub returns-clause-same : goal.returns-clause-same
-returns-clause-same g c clean ready = on_day c.meta_rows.result (λ rows. rows.items) c.day_in.result (c.meta_rows.ensures.same clean ready) c.day_in.ensures.day
+returns-clause-same g c clean ready = on_day _ c.meta_rows.result (λ rows. rows.items) c.day_in.result (c.meta_rows.ensures.same clean ready) c.day_in.ensures.day
