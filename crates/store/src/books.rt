@@ -1,7 +1,7 @@
 //! The books over a connection.
 
 ghost use Rattle.std.specs.Prelude.{◌≡◌, ◌≢◌, ◌≤◌, ◌⊎◌, ◌↔◌, ℤ, length, None, [], List, false, IsTrue, IsErrOf, IsErrAnd, OnOk, OnErr, IfOk, IfErr};
-ghost use Rattle.sqlite.specs.State.{HasCleanDisk, Survives};
+ghost use Rattle.sqlite.specs.State.{HasCleanDisk, Survives, KeepsCommit};
 ghost use Rattle.sqlite.specs.Held.{state};
 ghost use Rattle.label.specs.Days.{is_business_day};
 ghost use Rattle.table_words.specs.Schema.{schema_0, HasTables};
