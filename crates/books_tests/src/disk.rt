@@ -35,7 +35,7 @@ fn worked<S: Alter + Drop>(
     match work {
         Work::Steps(steps) => take_all(rt, alloc, conn, steps),
         Work::Clients(listener, count) => clients_served(rt, alloc, conn, listener, count),
-        Work::Lines(host, port) => lines_worked(host, conn, port),
+        Work::Lines(host, port) => lines_worked(host, rt, conn, port),
     }
 }
 
@@ -82,6 +82,7 @@ pub(crate) fn run_clients(rt: &impl Abort, alloc: Global, listener: &TcpListener
 }
 
 /// Does what lines of the program do with the books, over a new file.
-pub(crate) fn run_lines(rt: &HostRuntime, port: u16) {
-    opened(rt, rt.alloc(), new_disk(rt.alloc()), Work::Lines(rt, port));
+pub(crate) fn run_lines(host: &HostRuntime, rt: &impl Abort, port: u16) {
+    let alloc = host.alloc();
+    opened(rt, alloc, new_disk(alloc), Work::Lines(host, port));
 }

@@ -35,6 +35,7 @@ pub(crate) struct Told {
 }
 
 /// Compares what it takes with these records, and stops after so many.
+#[derive(Drop)]
 struct Expecting {
     records: &'static [Record],
     limit: usize,

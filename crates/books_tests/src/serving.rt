@@ -2,9 +2,9 @@
 
 use crate::disk::{run_clients, run_lines};
 use crate::opening::{business_day, new_books};
-use command_line::{Fault, Work};
+use command_line::{Fault, Work, tell};
 use house::House;
-use service::{Worked, serve_on, worked};
+use service::{FilesAt, Worked, serve_on, worked};
 use sqlite::{Alter, Connection};
 use std::alloc::Global;
 use std::io::{self, Read, Write};
@@ -25,19 +25,19 @@ pub(crate) fn clients_served<S: Alter + Drop>(
 }
 
 // A client that has sent this, and sends no more.
-fn sent(rt: &HostRuntime, listener: &TcpListener, text: &[u8]) -> TcpStream {
+fn sent(host: &HostRuntime, rt: &impl Abort, listener: &TcpListener, text: &[u8]) -> TcpStream {
     let address = listener.local_addr().expect(rt, "an address");
-    let mut client = TcpStream::connect(rt, address).expect(rt, "a client");
+    let mut client = TcpStream::connect(host, address).expect(rt, "a client");
     client.write_all(text).expect(rt, "sent");
     client.shutdown(Shutdown::Write).expect(rt, "ended");
     client
 }
 
-fn is_answered(rt: &HostRuntime, client: TcpStream, expected: &[u8]) {
+fn is_answered(rt: &impl Abort, alloc: Global, client: TcpStream, expected: &[u8]) {
     let mut client = client;
-    let mut answer = Vec::new(rt.alloc());
+    let mut answer = Vec::new(alloc);
     client.read_to_end(&mut answer).expect(rt, "an answer");
-    assert_eq!(rt; answer.as_slice(), expected);
+    assert!(rt; answer.as_slice() == expected);
 }
 
 // Clients send, their connections are served in the same thread, and they read to the end. Of two that are gone by then,
@@ -45,15 +45,15 @@ fn is_answered(rt: &HostRuntime, client: TcpStream, expected: &[u8]) {
 #[test]
 fn serves_connections_one_after_another(rt: HostRuntime) {
     let listener = TcpListener::bind(&rt, "127.0.0.1:0").expect(&rt, "a listener");
-    let first = sent(&rt, &listener, NEW_BIN);
-    drop(sent(&rt, &listener, BROKEN_OFF));
-    let third = sent(&rt, &listener, SECOND_BIN);
-    drop(sent(&rt, &listener, THIRD_BIN));
-    let last = sent(&rt, &listener, THIRD_BIN);
+    let first = sent(&rt, &rt, &listener, NEW_BIN);
+    drop(sent(&rt, &rt, &listener, BROKEN_OFF));
+    let third = sent(&rt, &rt, &listener, SECOND_BIN);
+    drop(sent(&rt, &rt, &listener, THIRD_BIN));
+    let last = sent(&rt, &rt, &listener, THIRD_BIN);
     run_clients(&rt, rt.alloc(), &listener, 5);
-    is_answered(&rt, first, BIN_MADE);
-    is_answered(&rt, third, SECOND_MADE);
-    is_answered(&rt, last, THIRD_MADE);
+    is_answered(&rt, rt.alloc(), first, BIN_MADE);
+    is_answered(&rt, rt.alloc(), third, SECOND_MADE);
+    is_answered(&rt, rt.alloc(), last, THIRD_MADE);
 }
 
 const NEW_BIN: &[u8] =
@@ -78,8 +78,9 @@ const THIRD_MADE: &[u8] =
     b"HTTP/1.1 200 OK\r\ncontent-type: application/json\r\ncontent-length: 9\r\nconnection: close\r\n\r\n{\"act\":3}";
 
 // Where a line prints: once it has told its port, a client comes.
+#[derive(Drop)]
 struct Printed<'a> {
-    rt: &'a HostRuntime,
+    host: &'a HostRuntime,
     port: u16,
     told: Vec<u8>,
     client: Option<TcpStream>,
@@ -94,7 +95,7 @@ impl Write for Printed<'_> {
     }
 
     fn flush(&mut self) -> io::Result<()> {
-        let mut client = TcpStream::connect(self.rt, ("127.0.0.1", self.port))?;
+        let mut client = TcpStream::connect(self.host, ("127.0.0.1", self.port))?;
         client.write_all(NEW_BIN)?;
         client.shutdown(Shutdown::Write)?;
         self.client = Some(client);
@@ -102,71 +103,119 @@ impl Write for Printed<'_> {
     }
 }
 
-// The work was done.
-fn done<S: Alter + Drop>(rt: &HostRuntime, found: Result<Worked<S>, Fault>) -> Connection<S> {
-    match found {
-        Ok((conn, Ok(()))) => conn,
-        _ => panic!(rt; "the work was not done"),
+// The file that the lines find, by its name.
+struct OneFile;
+
+const FILE: &[u8] =
+    b"delivery,line,gtin,lot,expiry,bin,qty\nD-1,1,09506000134352,L1,260630,A-01,10\n";
+
+impl FilesAt for OneFile {
+    type File = &'static [u8];
+
+    fn open(&self, name: &str) -> io::Result<&'static [u8]> {
+        match name {
+            "goods.csv" => Ok(FILE),
+            _ => Err(io::Error::from(io::ErrorKind::NotFound)),
+        }
     }
 }
 
-// There was no port for the work.
-fn no_port<S: Alter + Drop>(rt: &HostRuntime, found: Result<Worked<S>, Fault>) -> Connection<S> {
+// What is told of the end of a line.
+fn told_of(alloc: Global, end: Result<(), Fault>) -> Vec<u8> {
+    let mut told: Vec<u8> = Vec::new(alloc);
+    if let Err(fault) = end {
+        let _ = tell(&fault, &mut told);
+    }
+    told
+}
+
+// The work was tried, and this is told of its end.
+fn ended<S: Alter + Drop>(
+    rt: &impl Abort,
+    alloc: Global,
+    found: Result<Worked<S>, Fault>,
+    expected: &str,
+) -> Connection<S> {
     match found {
-        Ok((conn, Err(Fault::Io))) => conn,
-        _ => panic!(rt; "there was a port"),
+        Ok((conn, end)) => {
+            let told = told_of(alloc, end);
+            assert!(rt; told.as_slice() == expected.as_bytes(), "{expected:?}");
+            conn
+        }
+        Err(_) => panic!(rt; "the books do not open"),
     }
 }
 
-fn made<S: Alter + Drop>(rt: &HostRuntime, conn: Connection<S>) -> Connection<S> {
-    let mut nothing = Vec::new(rt.alloc());
-    let day = business_day(rt, b"2026-05-04");
-    let found = worked(rt, conn, Work::Make(day), &mut nothing);
-    assert!(rt; nothing.is_empty());
-    done(rt, found)
+// A line that prints nothing.
+fn silent<S: Alter + Drop>(
+    host: &HostRuntime,
+    rt: &impl Abort,
+    conn: Connection<S>,
+    work: Work<'_>,
+    expected: &str,
+) -> Connection<S> {
+    let mut printed: Vec<u8> = Vec::new(host.alloc());
+    let found = worked(host, &OneFile, conn, work, &mut printed);
+    assert!(rt; printed.is_empty());
+    ended(rt, host.alloc(), found, expected)
 }
 
-fn taken<S: Alter + Drop>(rt: &HostRuntime, conn: Connection<S>, port: u16) -> Connection<S> {
-    let listener = TcpListener::bind(rt, ("127.0.0.1", port)).expect(rt, "a listener");
-    let mut nothing = Vec::new(rt.alloc());
-    let found = worked(rt, conn, Work::Serve { port, max: 1 }, &mut nothing);
-    drop(listener);
-    assert!(rt; nothing.is_empty());
-    no_port(rt, found)
-}
-
-fn served<S: Alter + Drop>(rt: &HostRuntime, conn: Connection<S>, port: u16) -> Connection<S> {
-    let mut out = Printed {
-        rt,
-        port,
-        told: Vec::new(rt.alloc()),
-        client: None,
-    };
-    let found = worked(rt, conn, Work::Serve { port, max: 1 }, &mut out);
-    let told = format!(in rt.alloc(); "listening on 127.0.0.1:{port}\n").ok();
-    assert!(rt; out.told.as_slice() == told.expect(rt, "memory").as_str().as_bytes());
-    is_answered(rt, out.client.expect(rt, "a client"), BIN_MADE);
-    done(rt, found)
-}
-
-// A line makes books, another finds its port taken, and a third serves a client.
-pub(crate) fn lines_worked<S: Alter + Drop>(
-    rt: &HostRuntime,
+fn taken<S: Alter + Drop>(
+    host: &HostRuntime,
+    rt: &impl Abort,
     conn: Connection<S>,
     port: u16,
 ) -> Connection<S> {
-    let conn = made(rt, conn);
-    let conn = taken(rt, conn, port);
-    served(rt, conn, port)
+    let listener = TcpListener::bind(host, ("127.0.0.1", port)).expect(rt, "a listener");
+    let conn = silent(host, rt, conn, Work::Serve { port, max: 1 }, "lotd: io\n");
+    drop(listener);
+    conn
+}
+
+fn served<S: Alter + Drop>(
+    host: &HostRuntime,
+    rt: &impl Abort,
+    conn: Connection<S>,
+    port: u16,
+) -> Connection<S> {
+    let mut out = Printed {
+        host,
+        port,
+        told: Vec::new(host.alloc()),
+        client: None,
+    };
+    let found = worked(host, &OneFile, conn, Work::Serve { port, max: 1 }, &mut out);
+    let told = format!(in host.alloc(); "listening on 127.0.0.1:{port}\n").ok();
+    assert!(rt; out.told.as_slice() == told.expect(rt, "memory").as_str().as_bytes());
+    is_answered(rt, host.alloc(), out.client.expect(rt, "a client"), BIN_MADE);
+    ended(rt, host.alloc(), found, "")
+}
+
+// A line makes books, another finds its port taken, a third serves a client, and two import files: one that is not there,
+// and one of an item that nobody took into the range.
+pub(crate) fn lines_worked<S: Alter + Drop>(
+    host: &HostRuntime,
+    rt: &impl Abort,
+    conn: Connection<S>,
+    port: u16,
+) -> Connection<S> {
+    let day = business_day(rt, b"2026-05-04");
+    let conn = silent(host, rt, conn, Work::Make(day), "");
+    let conn = taken(host, rt, conn, port);
+    let conn = served(host, rt, conn, port);
+    let none = Work::Import { file: "none.csv" };
+    let conn = silent(host, rt, conn, none, "lotd: io\n");
+    let goods = Work::Import { file: "goods.csv" };
+    silent(host, rt, conn, goods, "lotd: U01 row 1\n")
 }
 
 // A port that nobody has.
-fn free_port(rt: &HostRuntime) -> u16 {
-    let listener = TcpListener::bind(rt, "127.0.0.1:0").expect(rt, "a listener");
+fn free_port(host: &HostRuntime, rt: &impl Abort) -> u16 {
+    let listener = TcpListener::bind(host, "127.0.0.1:0").expect(rt, "a listener");
     listener.local_addr().expect(rt, "an address").port()
 }
 
 #[test]
 fn lines_work_with_the_books(rt: HostRuntime) {
-    run_lines(&rt, free_port(&rt));
+    run_lines(&rt, &rt, free_port(&rt, &rt));
 }
