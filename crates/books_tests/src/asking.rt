@@ -2,6 +2,7 @@
 
 use crate::answers::NO_REQUESTS;
 use crate::exchange::{answer, request};
+use crate::filing::takes_times;
 use crate::hostile::{refuses_hostile, takes_changed};
 use crate::opening::{books_of, new_books};
 use crate::table::Table;
@@ -16,6 +17,8 @@ pub(crate) enum Asked {
     Each(Table),
     /// Exchanges of the table: the index of the first, and how many.
     Part(Table, usize, usize),
+    /// A goods-in file of so many times one row, and its answer.
+    Times(usize, &'static str),
     /// All requests of the table by one call.
     All(Table),
     /// Each text that is no request.
@@ -46,7 +49,12 @@ pub(crate) fn is_answered<S: Alter>(
 }
 
 /// The house answers as the exchange says.
-fn exchanges<S: Alter>(rt: &impl Abort, alloc: Global, house: &mut House<S>, line: &str) {
+pub(crate) fn exchanges<S: Alter>(
+    rt: &impl Abort,
+    alloc: Global,
+    house: &mut House<S>,
+    line: &str,
+) {
     let asked = request(rt, alloc, line);
     let expected = answer(rt, alloc, line);
     is_answered(rt, house, asked.as_str(), expected.as_str());
@@ -131,6 +139,7 @@ fn ask<S: Alter>(rt: &impl Abort, alloc: Global, house: &mut House<S>, asked: As
     match asked {
         Asked::Each(table) => part(rt, alloc, house, table, 0, usize::MAX),
         Asked::Part(table, first, count) => part(rt, alloc, house, table, first, count),
+        Asked::Times(times, told) => takes_times(rt, alloc, house, times, told),
         Asked::All(table) => all(rt, alloc, house, table),
         Asked::NoRequests => answers_no_requests(rt, house),
         Asked::NoRequestsServed => serves_no_requests(rt, alloc, house),

@@ -1,11 +1,12 @@
 //! Goods-in files, sent to a house whose books are in memory. A bar ends a line of a file (`exchange`).
 
-use crate::asking::Asked;
+use crate::asking::{Asked, exchanges};
 use crate::disk::run;
 use crate::opening::books_of;
 use crate::steps::{On, Step};
 use crate::table::{Left, Table};
 use command_line::tell;
+use house::House;
 use service::import;
 use sqlite::{Alter, Connection};
 use std::alloc::Global;
@@ -16,7 +17,7 @@ pub(crate) static FILES_REFUSED: &str = r#"
 POST /goodsin  => 400 {"cause":"G01","code":"W05"}
 POST /goodsin delivery,line,gtin,lot,expiry,bin,qty| => 200 {"accepted":0,"repeated":0}
 POST /goodsin delivery,line,gtin,lot,expiry,bin,qty|D-9,1,09506000134352,M1,261130,A-01,5|D-9,2,09506000134352,M2,261231,A-02,0| => 400 {"cause":"G02","code":"W05","row":2}
-POST /goodsin delivery,line,gtin,lot,expiry,bin,qty|D-9,1,09506000134352,M1,261130,A-01,5|D-9,02,09506000134352,M2,261231,A-02,7| => 400 {"cause":"G02","code":"W05","row":2}
+POST /goodsin delivery,line,gtin,lot,expiry,bin,qty|D-9,1,09506000134352,M1,261130,A-01,5|D-9,01,09506000134352,M2,261231,A-02,7| => 400 {"cause":"G02","code":"W05","row":2}
 POST /goodsin delivery,line,gtin,lot,expiry,bin,qty|D-9,1,09506000134352,M1,261130,A-01,5|D-9,2,09506000134352,M2,261231,A-02| => 400 {"cause":"G04","code":"W05"}
 POST /goodsin delivery,line,gtin,lot,expiry,bin,units|D-9,1,09506000134352,M1,261130,A-01,5| => 400 {"cause":"G01","code":"W05"}
 POST /goodsin delivery,line,gtin,lot,expiry,bin,qty|D-9,1,09506000134352,M1,261130,A-01,5|D-9,2,09506000134352,M2,261231,A-02,7|D-9,3,04012345000016,N1,261200,B-99,4| => 409 {"code":"U02","row":3}
@@ -40,13 +41,14 @@ pub(crate) static FILED_TWICE: &str = r#"
 POST /goodsin delivery,line,gtin,lot,expiry,bin,qty|D-9,1,09506000134352,M1,261130,A-01,5|D-9,1,09506000134352,M1,261130,A-01,5| => 200 {"accepted":1,"repeated":1}
 "#;
 
-// The two customers, where deliveries come by file: of the first file one row came by a scanner before, the second is
-// refused whole.
+// The two customers, where deliveries come by file: of the first file one row came by a scanner before, of the second its
+// one row, and the third is refused whole.
 pub(crate) static FILES_AND_CUSTOMERS: &str = r#"
 POST /receipts {"delivery":"D-1","line":1,"label":"01095060001343521726063010L1","bin":"A-01","qty":10} => 200 {"act":6}
 POST /goodsin delivery,line,gtin,lot,expiry,bin,qty|D-1,1,09506000134352,L1,260630,A-01,10|D-1,2,09506000134352,L2,260531,A-01,10| => 200 {"accepted":1,"repeated":1}
 POST /orders {"key":"K-8","order":"S-1","customer":"Corner Shop","lines":[{"gtin":"09506000134352","qty":12}]} => 200 {"act":8,"short":0}
 GET /orders/S-1 => 200 {"customer":"Corner Shop","lines":[{"gtin":"09506000134352","ordered":12,"reserved":[{"lot":"L2","qty":10},{"lot":"L1","qty":2}],"shipped":0,"short":0,"staged":[]}],"order":"S-1","state":"OPEN"}
+POST /goodsin delivery,line,gtin,lot,expiry,bin,qty|D-1,1,09506000134352,L1,260630,A-01,10| => 200 {"accepted":0,"repeated":1}
 POST /orders {"key":"K-9","order":"S-2","customer":"Harbour Cafe","lines":[{"gtin":"09506000134352","qty":12}]} => 200 {"act":9,"short":4}
 POST /goodsin delivery,line,gtin,lot,expiry,bin,qty|D-2,1,09506000134352,L0,260510,A-01,5|D-2,2,09506000134352,L0,260510,B-99,5| => 409 {"code":"U02","row":2}
 POST /goodsin delivery,line,gtin,lot,expiry,bin,qty|D-2,1,09506000134352,L0,260510,A-01,5| => 200 {"accepted":1,"repeated":0}
@@ -124,6 +126,37 @@ static ALL_IN_TURN: [&[Step]; 1] = [&[
 #[test]
 fn answers_files_among_requests(rt: HostRuntime) {
     run(&rt, rt.alloc(), ALL_IN_TURN.as_slice());
+}
+
+/// A file of so many times one row, as an exchange.
+fn long_file(rt: &impl Abort, alloc: Global, times: usize, told: &str) -> String {
+    let row = "D-9,1,09506000134352,M1,261130,A-01,5|";
+    let rows = row.repeat(alloc, times).ok().expect(rt, "memory");
+    let text = format!(in alloc; "POST /goodsin delivery,line,gtin,lot,expiry,bin,qty|{rows} => {told}");
+    text.ok().expect(rt, "memory")
+}
+
+/// A file of so many times one row is answered so.
+pub(crate) fn takes_times<S: Alter>(
+    rt: &impl Abort,
+    alloc: Global,
+    house: &mut House<S>,
+    times: usize,
+    told: &str,
+) {
+    let line = long_file(rt, alloc, times, told);
+    exchanges(rt, alloc, house, line.as_str());
+}
+
+static LONG_FILES: [&[Step]; 1] = [&[Step::NewHouse(&[
+    Asked::Each(Table::GoodsAndBins),
+    Asked::Times(1_001, "400 {\"cause\":\"G03\",\"code\":\"W05\"}"),
+    Asked::Times(1_000, "200 {\"accepted\":1,\"repeated\":999}"),
+])]];
+
+#[test]
+fn takes_a_thousand_rows(rt: HostRuntime) {
+    run(&rt, rt.alloc(), LONG_FILES.as_slice());
 }
 
 /// The books that are there import a file with this text; what is printed and what is told is this.
