@@ -77,6 +77,7 @@ GET /orders/S-1 => 200 {"customer":"Corner Shop","lines":[{"gtin":"0950600013435
 GET /orders/S-2 => 200 {"customer":"Harbour Cafe","lines":[{"gtin":"09506000134352","ordered":12,"reserved":[{"lot":"L1","qty":3}],"shipped":0,"short":9,"staged":[]}],"order":"S-2","state":"OPEN"}
 POST /shipments {"key":"K-15","order":"S-1"} => 409 {"code":"S09"}
 POST /shipments {"key":"K-14","order":"S-1"} => 200 {"act":14,"shipment":1}
+GET /picklists/S-1 => 200 |PICK LIST S-1|CUSTOMER Corner Shop|STATE OPEN|ITEM 09506000134352 ORDERED 12 STAGED 0 SHIPPED 5 SHORT 0|TAKE L1 2026-06-30 7|FROM A-01 10
 "#;
 
 // After the picks: all is shipped, and one lot is recalled.
@@ -88,6 +89,7 @@ GET /orders/S-1 => 200 {"customer":"Corner Shop","lines":[{"gtin":"0950600013435
 POST /recalls {"key":"K-14","gtin":"09506000134352","lot":"L2"} => 200 {"act":14,"returned":0}
 GET /orders/S-1 => 200 {"customer":"Corner Shop","lines":[{"gtin":"09506000134352","ordered":12,"reserved":[],"shipped":12,"short":0,"staged":[]}],"order":"S-1","state":"DONE"}
 GET /orders/S-2 => 200 {"customer":"Harbour Cafe","lines":[{"gtin":"09506000134352","ordered":12,"reserved":[{"lot":"L1","qty":10}],"shipped":0,"short":2,"staged":[]}],"order":"S-2","state":"OPEN"}
+GET /picklists/S-1 => 200 |PICK LIST S-1|CUSTOMER Corner Shop|STATE DONE|ITEM 09506000134352 ORDERED 12 STAGED 0 SHIPPED 12 SHORT 0
 "#;
 
 // What is refused for an order that is done, and answered again.
