@@ -132,7 +132,9 @@ fn answers_files_among_requests(rt: HostRuntime) {
 fn long_file(rt: &impl Abort, alloc: Global, times: usize, told: &str) -> String {
     let row = "D-9,1,09506000134352,M1,261130,A-01,5|";
     let rows = row.repeat(alloc, times).ok().expect(rt, "memory");
-    let text = format!(in alloc; "POST /goodsin delivery,line,gtin,lot,expiry,bin,qty|{rows} => {told}");
+    let text = format!(in alloc;
+        "POST /goodsin delivery,line,gtin,lot,expiry,bin,qty|{rows} => {told}"
+    );
     text.ok().expect(rt, "memory")
 }
 

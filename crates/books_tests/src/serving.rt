@@ -187,7 +187,12 @@ fn served<S: Alter + Drop>(
     let found = worked(host, &OneFile, conn, Work::Serve { port, max: 1 }, &mut out);
     let told = format!(in host.alloc(); "listening on 127.0.0.1:{port}\n").ok();
     assert!(rt; out.told.as_slice() == told.expect(rt, "memory").as_str().as_bytes());
-    is_answered(rt, host.alloc(), out.client.expect(rt, "a client"), BIN_MADE);
+    is_answered(
+        rt,
+        host.alloc(),
+        out.client.expect(rt, "a client"),
+        BIN_MADE,
+    );
     ended(rt, host.alloc(), found, "")
 }
 
