@@ -121,7 +121,7 @@ module _ (first : ℤ) (acts : List Act) (l : LotId) (history : IsHistory first 
         found = λ b.
             found_mapped stock_of (λ (s : StockRow). bytes_eq b s.bin) (bins_of_lot first acts l)
             ∙ listing_found same_text same_text_is (λ (u : BinUnits). u.bin) (λ (u : BinUnits). u.qty) (λ c. in_bin first acts c l) (bins_of_lot first acts l) listed (λ c q. let s : StockRow = record { lot = l; bin = c; qty = q } in s) stock_of (λ u. refl) b;
-        rises = ascending-map (λ (s t : StockRow). IsBefore s.bin t.bin) stock_of (bins_of_lot first acts l) (names_rise (bins_of_lot first acts l) (in_order_rises _) listed.once);
+        rises = ascending-map (λ (s t : StockRow). IsBefore s.bin t.bin) stock_of (bins_of_lot first acts l) (names_rise (bins_of_lot first acts l) (in_order_rises (filter has_bin_units (map (λ b. record { bin = b.bin; qty = in_bin first acts b.bin l }) (bins acts)))) listed.once);
       }
 
   pub units_are : map bin_units stock_rows ≡ bins_of_lot first acts l

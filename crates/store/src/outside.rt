@@ -16,8 +16,6 @@ pub fn find_open_outside<S: Alter>(conn: &mut Connection<S>) -> Result<(), Fault
     ensures outside { conn.old.in_transaction ≡ false → conn.new.in_transaction ≡ false }
     ensures survives { Survives (state S.Store conn.old) (state S.Store conn.new) (λ _. ⊥) }
 {
-    match conn.prepare(LOOK_UP) {
-        Ok(_) => Ok(()),
-        Err(cause) => Err(Fault::from(cause)),
-    }
+    conn.prepare(LOOK_UP)?;
+    Ok(())
 }

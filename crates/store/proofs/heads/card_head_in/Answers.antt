@@ -7,5 +7,5 @@ returns-in_default c first acts l is = card_unknown_item first acts l c.args.hea
 pub returns-in-None : goal.returns-in-None
 returns-in-None c first acts l is = card_unknown_lot first acts l c.args.head c.in-Some.known is c.in-Some.is c.in-None.is
 
-pub returns-in-Some : goal.returns-in-Some
-returns-in-Some c first acts l is = card_known first acts l c.args.head c.in-Some.known c.in-Some-2.row is c.in-Some.is c.in-Some-2.is
+pub returns-in-Some-lot : goal.returns-in-Some-lot
+returns-in-Some-lot c first acts l is = card_known first acts l c.args.head c.in-Some.known c.in-Some-lot.row is c.in-Some.is c.in-Some-lot.is

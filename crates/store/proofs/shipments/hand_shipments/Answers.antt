@@ -9,7 +9,7 @@ use Rattle.store.proofs.shipments.hand_shipments.Goals as goal
 
 pub shipments-init : goal.shipments-init
 shipments-init g c = (
-  c.requires,
+  c.requires.outside,
   never_commits_itself (state g.S.Store c.args.conn.now),
   λ clean first acts history held. (none_handed first acts c.args.lot.now history g.K.Sink.takes g.K.Sink.stops c.args.sink.now, held),
 )

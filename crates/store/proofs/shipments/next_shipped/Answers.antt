@@ -24,17 +24,17 @@ returns-in_err-line-clause-next g c clean first acts history held =
     let l = c.args.lot.now in
     let old = state g.S.Store c.args.conn.now in
     let mid = state g.S.Store c.find_open_outside.new.conn in
-    let late : HasCleanDisk mid = omega (arith, clean, c.shipline_after-line.ensures.survives.clean) in
+    let late : HasCleanDisk mid = omega (arith, clean, c.shipline_after.ensures.survives.clean) in
     let same = c.in_ok-find_open_outside.ensures.open late in
     let books = books_on first acts old mid held same in
     let rows = subst (λ (t : Tables). AreByNumber t l c.args.number (map (line_of first acts l history) (later_shipments first acts l c.args.number))) (sym books.rows.tables) (lines_after first acts l history c.args.number) in
     let p = err_from_is_err_and c.from_residual-in_err-line.result c.from_residual-in_err-line.ensures.1 in
     rw (p.1, p.2, store_fault _ (λ foreign. c.in_err-line.ensures.foreign clean books.ready books.rows.typed foreign _ rows))
-    (refl, moved_keeps g.S.Store first acts c.find_open_outside.new.conn c.shipline_after-line.new.conn (left_keeps first acts old mid held (inl same)) (c.in_err-line.ensures.left clean books.ready))
+    (refl, moved_keeps g.S.Store first acts c.find_open_outside.new.conn c.shipline_after.new.conn (left_keeps first acts old mid held (inl same)) (c.in_err-line.ensures.left clean books.ready))
 
 pub returns-in_err-line-clause-survives : goal.returns-in_err-line-clause-survives
 returns-in_err-line-clause-survives g c =
-    never_commits_on (state g.S.Store c.args.conn.now) (state g.S.Store c.find_open_outside.new.conn) (state g.S.Store c.shipline_after-line.new.conn) c.find_open_outside.ensures.survives c.shipline_after-line.ensures.survives (λ late. c.in_ok-find_open_outside.ensures.open late)
+    never_commits_on (state g.S.Store c.args.conn.now) (state g.S.Store c.find_open_outside.new.conn) (state g.S.Store c.shipline_after.new.conn) c.find_open_outside.ensures.survives c.shipline_after.ensures.survives (λ late. c.in_ok-find_open_outside.ensures.open late)
 
 pub returns-clause-next : goal.returns-clause-next
 returns-clause-next g c clean first acts history held =
@@ -42,9 +42,9 @@ returns-clause-next g c clean first acts history held =
     let n = c.args.number in
     let old = state g.S.Store c.args.conn.now in
     let mid = state g.S.Store c.find_open_outside.new.conn in
-    let after = state g.S.Store c.shipline_after-line.new.conn in
+    let after = state g.S.Store c.shipline_after.new.conn in
     let late : HasCleanDisk after = omega (arith, clean, c.told_line.ensures.survives.clean) in
-    let later : HasCleanDisk mid = omega (arith, late, c.shipline_after-line.ensures.survives.clean) in
+    let later : HasCleanDisk mid = omega (arith, late, c.shipline_after.ensures.survives.clean) in
     let same = c.in_ok-find_open_outside.ensures.open later in
     let books = books_on first acts old mid held same in
     let rows = subst (λ (t : Tables). AreByNumber t l n (map (line_of first acts l history) (later_shipments first acts l n))) (sym books.rows.tables) (lines_after first acts l history n) in
@@ -58,11 +58,11 @@ pub returns-clause-survives : goal.returns-clause-survives
 returns-clause-survives g c =
     let old = state g.S.Store c.args.conn.now in
     let mid = state g.S.Store c.find_open_outside.new.conn in
-    let after = state g.S.Store c.shipline_after-line.new.conn in
-    let first_part = never_commits_on old mid after c.find_open_outside.ensures.survives c.shipline_after-line.ensures.survives (λ late. c.in_ok-find_open_outside.ensures.open late) in
+    let after = state g.S.Store c.shipline_after.new.conn in
+    let first_part = never_commits_on old mid after c.find_open_outside.ensures.survives c.shipline_after.ensures.survives (λ late. c.in_ok-find_open_outside.ensures.open late) in
     never_commits_later old after (state g.S.Store c.told_line.new.conn) first_part c.told_line.ensures.survives
     (λ late first acts history held.
-    let later : HasCleanDisk mid = omega (arith, late, c.shipline_after-line.ensures.survives.clean) in
+    let later : HasCleanDisk mid = omega (arith, late, c.shipline_after.ensures.survives.clean) in
     let same = c.in_ok-find_open_outside.ensures.open later in
     let books = books_on first acts old mid held same in
     left_keeps first acts mid after (left_keeps first acts old mid held (inl same)) (inl (c.in_ok-line.ensures.same late books.ready)))

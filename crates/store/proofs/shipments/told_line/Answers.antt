@@ -12,19 +12,19 @@ returns-in-None-clause-told g c clean first acts history held = rw c.in-None.is 
 pub returns-in-None-clause-survives : goal.returns-in-None-clause-survives
 returns-in-None-clause-survives g c = never_commits_itself (state g.S.Store c.args.conn.now)
 
-pub returns-in_err-units-clause-told : goal.returns-in_err-units-clause-told
-returns-in_err-units-clause-told g c clean first acts history held =
+pub returns-in_err-units-in-Some-clause-told : goal.returns-in_err-units-in-Some-clause-told
+returns-in_err-units-in-Some-clause-told g c clean first acts history held =
     let p = err_from_is_err_and c.from_residual.result c.from_residual.ensures.1 in
-    let it = c.in_err-units.ensures.shown clean first acts history held in
+    let it = c.in_err-units-in-Some.ensures.shown clean first acts history held in
     rw (c.in-Some.is, p.1, p.2) (err_as_found (shipped_shown first acts c.in-Some.line) _ it.0, it.1)
 
-pub returns-in_err-units-clause-survives : goal.returns-in_err-units-clause-survives
-returns-in_err-units-clause-survives g c = never_commits_none (state g.S.Store c.args.conn.now) (state g.S.Store c.show_shipped-units.new.conn) c.show_shipped-units.ensures.survives
+pub returns-in_err-units-in-Some-clause-survives : goal.returns-in_err-units-in-Some-clause-survives
+returns-in_err-units-in-Some-clause-survives g c = never_commits_none (state g.S.Store c.args.conn.now) (state g.S.Store c.show_shipped.new.conn) c.show_shipped.ensures.survives
 
-pub returns-in_ok-units-clause-told : goal.returns-in_ok-units-clause-told
-returns-in_ok-units-clause-told g c clean first acts history held =
-    let it = c.in_ok-units.ensures.shown clean first acts history held in
+pub returns-in_ok-units-in-Some-clause-told : goal.returns-in_ok-units-in-Some-clause-told
+returns-in_ok-units-in-Some-clause-told g c clean first acts history held =
+    let it = c.in_ok-units-in-Some.ensures.shown clean first acts history held in
     rw c.in-Some.is (ap as_found it.0, it.1)
 
-pub returns-in_ok-units-clause-survives : goal.returns-in_ok-units-clause-survives
-returns-in_ok-units-clause-survives g c = never_commits_none (state g.S.Store c.args.conn.now) (state g.S.Store c.show_shipped-units.new.conn) c.show_shipped-units.ensures.survives
+pub returns-in_ok-units-in-Some-clause-survives : goal.returns-in_ok-units-in-Some-clause-survives
+returns-in_ok-units-in-Some-clause-survives g c = never_commits_none (state g.S.Store c.args.conn.now) (state g.S.Store c.show_shipped.new.conn) c.show_shipped.ensures.survives
