@@ -2,7 +2,7 @@ pub mod Acting
 pub mod Examples
 pub mod Running
 pub mod Serving
-pub mod Showing
+pub mod ShownTold
 pub mod StepLaws
 pub mod Stepping
 pub mod FileTold

@@ -1,6 +1,6 @@
 use Rattle.machine.specs.Queries.{order_shown}
 use Rattle.wire.specs.declared.answer.Answer.TheVariants.{Order}
-use Rattle.house.proofs.Showing.{view_told, fault_told}
+use Rattle.house.proofs.ShownTold.{view_told, fault_told}
 use Rattle.house.proofs.showing.show_order.Goals as goal
 
 pub returns-in-Ok-clause-shown : goal.returns-in-Ok-clause-shown

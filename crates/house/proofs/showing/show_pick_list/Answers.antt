@@ -4,7 +4,7 @@ use Rattle.machine.specs.Queries.{order_shown}
 use Rattle.wire.specs.declared.answer.Answer.{Answer}
 use Rattle.wire.specs.declared.answer.Answer.TheVariants.{Text}
 use Rattle.texts.specs.PickList.{pick_list_text}
-use Rattle.house.proofs.Showing.{text_told, fault_told}
+use Rattle.house.proofs.ShownTold.{text_told, fault_told}
 use Rattle.house.proofs.showing.show_pick_list.Goals as goal
 
 abbrev as_text : OrderView → Answer

@@ -4,7 +4,7 @@ use Rattle.machine.specs.Queries.{short_shown}
 use Rattle.wire.specs.declared.answer.Answer.{Answer}
 use Rattle.wire.specs.declared.answer.Answer.TheVariants.{Text}
 use Rattle.texts.specs.Shortages.{shortages_text}
-use Rattle.house.proofs.Showing.{text_told, fault_told}
+use Rattle.house.proofs.ShownTold.{text_told, fault_told}
 use Rattle.house.proofs.showing.show_shortages.Goals as goal
 
 abbrev as_text : ShortView → Answer

@@ -1,6 +1,6 @@
 use Rattle.machine.specs.Queries.{stock_shown}
 use Rattle.wire.specs.declared.answer.Answer.TheVariants.{Stock}
-use Rattle.house.proofs.Showing.{view_told, fault_told}
+use Rattle.house.proofs.ShownTold.{view_told, fault_told}
 use Rattle.house.proofs.showing.show_stock.Goals as goal
 
 pub returns-in-Ok-clause-shown : goal.returns-in-Ok-clause-shown
