@@ -82,8 +82,8 @@ the_stock_of_one_lot : answer_of may_4 with_one_lot (Request (Show (Stock OATS))
 unfolding serde_json_on_literals dates_on_literals digits
 the_stock_of_one_lot = refl
 
-a_pick_list_is_not_served : answer_of may_4 with_one_order (Request (Show (PickList S1))) ≡ not_served
-a_pick_list_is_not_served = refl
+a_pick_list_of_an_order_that_nobody_placed : answer_of may_4 with_one_lot (Request (Show (PickList S1))) ≡ short_answer 404 (codes "{\"code\":\"U04\"}")
+a_pick_list_of_an_order_that_nobody_placed = refl
 
 -- Faults, whole
 

@@ -1,19 +1,25 @@
 -- What is true of every step over a text.
 use Rattle.std.proofs.Common.{◌≡◌, ◌≢◌, ℕ, true, false, ◌<◌, List, get_or, lit<, arith, refl, sym, ap, ◌∙◌, inl, inr}
 use Rattle.std.specs.Fmt.{digits}
-use Rattle.std.specs.Prelude.{Bool, if◌then◌else◌, codes, Result, Ok, Err, ℤ}
+use Rattle.std.specs.Prelude.{Bool, if◌then◌else◌, codes, Option, Some, None, Result, Ok, Err, ℤ}
 use Rattle.label.specs.Labels.{label_read}
 use Rattle.label.specs.declared.gs1.Label.{Label}
 use Rattle.values.specs.declared.fault.LabelFault.{LabelFault}
 use Rattle.commands.specs.Refusals.{refusal_code}
 use Rattle.commands.specs.declared.refusal.Refusal.{Refusal}
+use Rattle.commands.specs.declared.key.Key.{Key}
+use Rattle.commands.specs.declared.command.Command.{Command}
 use Rattle.commands.specs.declared.views.OrderView.{OrderView}
 use Rattle.commands.specs.declared.views.ShortView.{ShortView}
 use Rattle.commands.specs.declared.views.StockView.{StockView}
 use Rattle.machine.specs.Acts.{Act}
 use Rattle.machine.specs.Standing.{today}
-use Rattle.machine.specs.Once.{Outcome, Accepted, Repeated, Refused, outcome, appended}
+use Rattle.machine.specs.Once.{Outcome, Accepted, Repeated, Refused, outcome, appended, Tally, tally, file_outcome_of, acts_if_taken}
 use Rattle.machine.specs.Queries.{order_shown, short_shown, stock_shown}
+use Rattle.goodsin.specs.Files.{file_read}
+use Rattle.goodsin.specs.declared.fault.FileFault.{FileFault}
+use Rattle.goodsin.specs.declared.fault.FileFault.TheVariants as file
+use Rattle.store.specs.Filing.{rows_of}
 use Rattle.requests.specs.declared.fault.WireFault.{WireFault}
 use Rattle.requests.specs.declared.fault.WireFault.TheVariants.{Head, Length, Json, Field, Path, Method, TooLarge, Memory}
 use Rattle.requests.specs.declared.ask.Ask.{Ask}
@@ -23,11 +29,11 @@ use Rattle.requests.specs.declared.ask.Query.TheVariants.{Order, Stock, PickList
 use Rattle.requests.specs.declared.request.Read.{Read}
 use Rattle.requests.specs.declared.request.Read.TheVariants.{Need, Bad, Request}
 use Rattle.wire.specs.Answers.{head_text}
-use Rattle.wire.specs.Shorts.{code_text}
+use Rattle.wire.specs.Shorts.{code_text, code_row_text, tally_text}
 use Rattle.wire.specs.declared.answer.Answer.TheVariants.{Order as OrderAnswer, Stock as StockAnswer, Text}
 use Rattle.texts.specs.PickList.{pick_list_text}
 use Rattle.texts.specs.Shortages.{shortages_text}
-use Rattle.house.specs.Answers.{status_of, short_answer, fault_answer, not_served, foreign_books, outcome_answer, is_served, act_answer, acts_with, Delivered, receipt, label_answer, scan_answer, acts_scanned, view_answer, query_answer, ask_answer, acts_asked, answer_of, acts_of}
+use Rattle.house.specs.Answers.{status_of, short_answer, fault_answer, not_served, foreign_books, outcome_answer, is_served, act_answer, acts_with, Delivered, receipt, label_answer, scan_answer, acts_scanned, file_outcome_answer, file_fault_answer, file_answer, acts_filed, view_answer, query_answer, ask_answer, acts_asked, answer_of, acts_of}
 use Rattle.house.specs.Laws.{RefusedRequestsChangeNothing, BooksAreNeverForeign}
 
 -- What is not answered 200 changes nothing
@@ -53,10 +59,18 @@ kept_scan : (first : ℤ) (acts : List Act) (d : Delivered) (r : Result Label La
 kept_scan first acts d (Ok label) ne = kept_act first acts (receipt d label) ne
 kept_scan first acts d (Err fault) ne = refl
 
+kept_taken : (acts : List Act) (t : Tally) (o : Option (ℕ × Refusal)) → status_of (file_outcome_answer (file_outcome_of t o)) ≢ codes "HTTP/1.1 200" → acts_if_taken acts t o ≡ acts
+kept_taken acts t None ne = absurd (ne (ok_status (tally_text t.accepted t.repeated)))
+kept_taken acts t (Some r) ne = refl
+
+kept_file : (first : ℤ) (acts : List Act) (r : Result (List (Key × Command)) FileFault) → status_of (file_answer first acts r) ≢ codes "HTTP/1.1 200" → acts_filed first acts r ≡ acts
+kept_file first acts (Ok rows) ne = let t = tally first acts (rows_of rows) in kept_taken acts t t.refused ne
+kept_file first acts (Err fault) ne = refl
+
 kept_ask : (first : ℤ) (acts : List Act) (ask : Ask) → status_of (ask_answer first acts ask) ≢ codes "HTTP/1.1 200" → acts_asked first acts ask ≡ acts
 kept_ask first acts (Do key command) ne = kept_act first acts (record { key = key; command = command }) ne
 kept_ask first acts (Scan delivery line label bin qty) ne = kept_scan first acts (record { delivery = delivery; line = line; bin = bin; qty = qty }) (label_read (today first acts) label) ne
-kept_ask first acts (GoodsIn file) ne = refl
+kept_ask first acts (GoodsIn bytes) ne = kept_file first acts (file_read (today first acts) bytes) ne
 kept_ask first acts (Show query) ne = refl
 
 kept_reading : (first : ℤ) (acts : List Act) (r : Read) → status_of (answer_of first acts r) ≢ codes "HTTP/1.1 200" → acts_of first acts r ≡ acts
@@ -146,10 +160,27 @@ query_not_foreign first acts (Shortages gtin) = shortages_not_foreign (short_sho
 query_not_foreign first acts (Card lot) = fault_not_foreign Path
 query_not_foreign first acts (Notice lot) = fault_not_foreign Path
 
+taken_not_foreign : (t : Tally) (o : Option (ℕ × Refusal)) → file_outcome_answer (file_outcome_of t o) ≢ foreign_books
+taken_not_foreign t None = ok_not_foreign (tally_text t.accepted t.repeated)
+taken_not_foreign t (Some r) = conflict_not_foreign (code_row_text (refusal_code r.1) r.0)
+
+unread_not_foreign : (fault : FileFault) → file_fault_answer fault ≢ foreign_books
+unfolding head_text digits
+unread_not_foreign file.Header = other (file_fault_answer file.Header) 52 refl (lit< tt)
+unread_not_foreign (file.Row row) = other (file_fault_answer (file.Row row)) 52 refl (lit< tt)
+unread_not_foreign file.TooManyRows = other (file_fault_answer file.TooManyRows) 52 refl (lit< tt)
+unread_not_foreign file.Length = other (file_fault_answer file.Length) 52 refl (lit< tt)
+unread_not_foreign file.Reader = fault_not_foreign Memory
+unread_not_foreign file.Memory = fault_not_foreign Memory
+
+file_not_foreign : (first : ℤ) (acts : List Act) (r : Result (List (Key × Command)) FileFault) → file_answer first acts r ≢ foreign_books
+file_not_foreign first acts (Ok rows) = let t = tally first acts (rows_of rows) in taken_not_foreign t t.refused
+file_not_foreign first acts (Err fault) = unread_not_foreign fault
+
 ask_not_foreign : (first : ℤ) (acts : List Act) (ask : Ask) → ask_answer first acts ask ≢ foreign_books
 ask_not_foreign first acts (Do key command) = if_not_foreign (outcome first acts (record { key = key; command = command })) (is_served (record { key = key; command = command }))
 ask_not_foreign first acts (Scan delivery line label bin qty) = scan_not_foreign first acts (record { delivery = delivery; line = line; bin = bin; qty = qty }) (label_read (today first acts) label)
-ask_not_foreign first acts (GoodsIn file) = fault_not_foreign Path
+ask_not_foreign first acts (GoodsIn bytes) = file_not_foreign first acts (file_read (today first acts) bytes)
 ask_not_foreign first acts (Show query) = query_not_foreign first acts query
 
 reading_not_foreign : (first : ℤ) (acts : List Act) (r : Read) → answer_of first acts r ≢ foreign_books

@@ -9,4 +9,4 @@ returns-in-Ok-clause-shown g c clean first acts history holds =
 
 pub returns-in-Err-clause-shown : goal.returns-in-Err-clause-shown
 returns-in-Err-clause-shown g c clean first acts history holds =
-    fault_told g.S.Store first acts history Order (order_shown first acts c.args.order.now) _ _ c.in-Err.ensures.survives clean c.in-Err.fault _ (c.in-Err.ensures.shown clean first acts history holds) c.told.ensures.told
+    fault_told g.S.Store first acts history Order (order_shown first acts c.args.order.now) _ _ c.in-Err.ensures.survives clean c.in-Err.fault _ (c.in-Err.ensures.shown clean first acts history holds) c.told-in-Err.ensures.told
