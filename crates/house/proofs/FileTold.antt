@@ -25,7 +25,8 @@ use Rattle.store.specs.declared.tally.RowFault.{RowFault}
 use Rattle.store.specs.declared.tally.RowFault.TheVariants.{Refused, Store, Foreign}
 use Rattle.store.specs.Books.{AreRowsOf, KeepsBooks, HoldsBooks, LeavesOnly, MayLeave, IsClean}
 use Rattle.store.specs.Filing.{rows_of, AreKeysOf, IsFiled}
-use Rattle.house.specs.Answers.{file_outcome_answer, file_fault_answer, file_answer, acts_filed}
+use Rattle.goodsin.specs.Faults.{file_fault_code}
+use Rattle.house.specs.Answers.{no_memory, cause_answer, file_outcome_answer, file_fault_answer, file_answer, acts_filed}
 use Rattle.house.specs.Asking.{told_file_answer, IsDone, IsUndone}
 
 -- the keys of receipts are of their kind
@@ -35,6 +36,19 @@ receipt_key (_, _) h = absurd h
 
 pub receipts_have_keys : (rows : List (Key × Command)) → All IsReceipt rows → AreKeysOf rows
 receipts_have_keys rows all = All-weaker IsReceipt (λ r. IsTrue (is_key_of r.0 r.1)) receipt_key rows all
+
+-- how the faults of a file are told
+pub told_without_memory : (fault : FileFault) → (fault ≡ Reader) ⊎ (fault ≡ Memory) → no_memory ≡ file_fault_answer fault
+told_without_memory fault (inl is) = sym (ap file_fault_answer is)
+told_without_memory fault (inr is) = sym (ap file_fault_answer is)
+
+told_as_cause : (fault other : FileFault) → fault ≡ other → cause_answer (file_fault_code other) ≡ file_fault_answer other → cause_answer (file_fault_code fault) ≡ file_fault_answer fault
+told_as_cause fault other is told = ap (λ f. cause_answer (file_fault_code f)) is ∙ told ∙ sym (ap file_fault_answer is)
+
+pub told_by_cause : (fault : FileFault) → (fault ≡ Header) ⊎ ((fault ≡ TooManyRows) ⊎ (fault ≡ Length)) → cause_answer (file_fault_code fault) ≡ file_fault_answer fault
+told_by_cause fault (inl is) = told_as_cause fault Header is refl
+told_by_cause fault (inr (inl is)) = told_as_cause fault TooManyRows is refl
+told_by_cause fault (inr (inr is)) = told_as_cause fault Length is refl
 
 -- a file that is refused leaves the acts
 left_by : (acts : List Act) (t : once.Tally) (o : Option (ℕ × Refusal)) (row : ℕ) (why : Refusal) → RefusedRow row why ≡ file_outcome_of t o → acts_if_taken acts t o ≡ acts

@@ -1,5 +1,6 @@
-use Rattle.std.proofs.Common.{◌∙◌, ap}
-use Rattle.std.specs.Prelude.{Ok, Err}
+use Rattle.std.proofs.Common.{◌≡◌, ◌∙◌, ap, sym, subst}
+use Rattle.std.specs.Prelude.{Ok, Err, All}
+use Rattle.goodsin.specs.Rows.{IsReceipt}
 use Rattle.machine.specs.Standing.{today}
 use Rattle.goodsin.specs.Files.{file_read}
 use Rattle.house.proofs.FileTold.{read_today, not_taken, taken_in, receipts_have_keys}
@@ -7,10 +8,12 @@ use Rattle.house.proofs.filing.take_in.Goals as goal
 
 pub returns-in-Ok-clause-acted : goal.returns-in-Ok-clause-acted
 returns-in-Ok-clause-acted g c clean first acts history holds =
-    let rows = c.in-Ok.rows in
-    let keys = receipts_have_keys rows c.in-Ok.ensures.kinds in
+    let rows = c.as_slice.result.now in
+    let same : rows ≡ c.in-Ok.rows = c.as_slice.ensures in
+    let keys = receipts_have_keys rows (subst (λ l. All IsReceipt l) (sym same) c.in-Ok.ensures.kinds) in
     let done = c.act_all-done.ensures in
-    read_today g.S.Store first acts c.args.books.now c.args.file.now _ (Ok rows) _ _ (c.in-Ok.ensures.file (λ no. absurd (let it = no in cc)) (λ no. absurd (let it = no in cc))) (c.day-today.ensures.value ∙ holds.day)
+    let read = ap (λ l. Ok l) same ∙ c.in-Ok.ensures.file (λ no. absurd (let it = no in cc)) (λ no. absurd (let it = no in cc)) in
+    read_today g.S.Store first acts c.args.books.now c.args.file.now _ (Ok rows) _ _ read (c.day-today.ensures.value ∙ holds.day)
     (taken_in g.S.Store first acts c.args.books.now history holds rows c.act_all-done.new.self clean keys done.survives c.act_all-done.result _ c.told_file.ensures (done.history keys first acts history)
     (done.filed clean keys first acts history holds) (done.kept clean keys first acts history holds))
 
