@@ -1,6 +1,6 @@
 //! A goods-in file, taken in.
 
-ghost use Rattle.std.specs.Prelude.{◌≡◌, ℤ, List};
+ghost use Rattle.std.specs.Prelude.{◌≡◌, ℤ, List, Err};
 ghost use Rattle.machine.specs.Acts.{Act};
 ghost use Rattle.machine.specs.Once.{IsHistory};
 ghost use Rattle.machine.specs.Standing.{today};
@@ -43,9 +43,18 @@ fn told_file(done: Result<Tally, RowFault>) -> Block
 {
     match done {
         Ok(tally) => tally_answer(tally.accepted, tally.repeated),
-        Err(RowFault::Refused { row, refusal }) => row_conflict(row, refusal),
-        Err(RowFault::Store) => fault_answer(WireFault::Memory),
-        Err(RowFault::Foreign) => foreign_books(),
+        Err(fault) => not_taken(fault),
+    }
+}
+
+/// The answer where a row of a file was refused, or the file failed. It takes no memory.
+fn not_taken(fault: RowFault) -> Block
+    ensures { result ≡ told_file_answer (Err fault) }
+{
+    match fault {
+        RowFault::Refused { row, refusal } => row_conflict(row, refusal),
+        RowFault::Store => fault_answer(WireFault::Memory),
+        RowFault::Foreign => foreign_books(),
     }
 }
 
