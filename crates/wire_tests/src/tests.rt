@@ -124,7 +124,7 @@ static CHANGED: [(&str, Outcome); 10] = [
     ),
 ];
 
-static HEADS: [(&str, Outcome); 24] = [
+static HEADS: [(&str, Outcome); 25] = [
     (
         "POST /items HTTP/1.1\r\nContent-Length: +56\r\n\r\n{\"key\":\"K-9\",\"gtin\":\"09506000134352\",\"name\":\"Oat drink\"}",
         Outcome::Bad(WireFault::Length),
