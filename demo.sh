@@ -1,7 +1,7 @@
 #!/bin/sh
 # The main job of Lot stock, from nothing: builds lotd, reads a label, makes books, receives goods by
 # their label, takes an order, shows what is reserved for it, the item's stock, the pick list and the shortages,
-# picks, ships, recalls and takes in a goods-in file. Needs the Rattle kit and curl.
+# picks, ships, recalls, prints the recall notice and takes in a goods-in file. Needs the Rattle kit and curl.
 # Exit status 0 only if every answer was the expected one.
 set -eu
 cd "$(dirname "$0")"
@@ -73,8 +73,8 @@ EXPIRY 2026-09-30" "$("$lotd" label --day 2026-05-04 "$label")"
 echo "> lotd init --db stock.db --day 2026-05-04"
 "$lotd" init --db "$db" --day 2026-05-04
 
-echo "> lotd serve --db stock.db --port $port --max 16"
-"$lotd" serve --db "$db" --port "$port" --max 16 >"$room/out" &
+echo "> lotd serve --db stock.db --port $port --max 17"
+"$lotd" serve --db "$db" --port "$port" --max 17 >"$room/out" &
 server=$!
 for _ in 1 2 3 4 5 6 7 8 9 10; do
     if [ -s "$room/out" ]; then break; fi
@@ -105,6 +105,12 @@ post /picks '{"key":"K-4","order":"S-1","gtin":"09506000134352","lot":"AB12","bi
 post /shipments '{"key":"K-5","order":"S-1"}' 200 '{"act":6,"shipment":1}'
 post /recalls '{"key":"K-6","gtin":"09506000134352","lot":"AB12"}' 200 '{"act":7,"returned":0}'
 get /stock/09506000134352 200 '{"gtin":"09506000134352","lots":[{"bins":[{"bin":"A-01","qty":3}],"expiry":"2026-09-30","lot":"AB12","reserved":0,"staged":0,"status":"RECALLED"}],"name":"Oat drink"}'
+notice="RECALL NOTICE 09506000134352 Oat drink
+LOT AB12 EXPIRY 2026-09-30
+BIN A-01 3
+SHIPMENT 1 2026-05-04 7 S-1 Corner Shop
+TOTAL BINS 3 SHIPPED 7"
+text /notices/09506000134352/AB12 "$notice"
 
 # A goods-in file is taken in whole or not at all; its rows come again by the line of the program, and act once.
 cat >"$room/goods.csv" <<'END'
@@ -122,4 +128,12 @@ echo "> lotd import --db stock.db goods.csv"
 expect "the import" "accepted 0 repeated 2" "$("$lotd" import --db "$db" "$room/goods.csv")"
 echo "> lotd import --db stock.db no_bin.csv"
 expect "the import" "lotd: K01 row 1" "$("$lotd" import --db "$db" "$room/no_bin.csv" 2>&1 || true)"
+echo "> lotd notice --db stock.db 09506000134352 AB12"
+expect "the notice" "$notice" "$("$lotd" notice --db "$db" 09506000134352 AB12)"
+echo "> lotd card --db stock.db 09506000134352 AB12"
+expect "the card" "STOCK CARD 09506000134352 Oat drink
+LOT AB12 EXPIRY 2026-09-30
+            3 2026-05-04 RECEIPT  D-1/1                              10         10
+            6 2026-05-04 SHIPMENT 1                                  -7          3
+IN HOUSE 3" "$("$lotd" card --db "$db" 09506000134352 AB12)"
 echo "demo: every answer was the expected one"

@@ -1,15 +1,17 @@
 -- How a line ends: what its words come to, and what the side of the books told of its work.
 use Rattle.std.specs.Prelude.{◌≡◌, ◌⊎◌, ℕ, ℤ, List, IsTrue, Option, Some, Result, Ok, Err}
 use Rattle.clap.specs.declared.error.Error.{Error}
+use Rattle.values.specs.Values.{is_gtin, is_lot_text}
+use Rattle.values.specs.declared.lot.LotId.{LotId}
 use Rattle.label.specs.Days.{is_business_day, parsed_day}
 use Rattle.command_line.specs.Lines.{IsFaultOfWords, IsNoBusinessDay, IsPrinted, IsRefused}
 use Rattle.command_line.specs.Statuses.{IsStatusOf}
 use Rattle.command_line.specs.declared.fault.Fault.{Fault}
 use Rattle.command_line.specs.declared.fault.Fault.TheVariants.{Value, Io}
 use Rattle.command_line.specs.declared.running.Work.{Work}
-use Rattle.command_line.specs.declared.running.Work.TheVariants.{Make, Serve as ServeBooks, Import as ImportFile}
+use Rattle.command_line.specs.declared.running.Work.TheVariants.{Make, Serve as ServeBooks, Import as ImportFile, Card as CardOf, Notice as NoticeOf}
 use Rattle.command_line.specs.declared.words.Line.{Line}
-use Rattle.command_line.specs.declared.words.Line.TheVariants.{Label, Init, Serve, Import, Unknown}
+use Rattle.command_line.specs.declared.words.Line.TheVariants.{Label, Init, Serve, Import, Card, Notice, Unknown}
 
 -- how the work with the books in this file may end
 abbrev pub Works : Type 1
@@ -21,6 +23,16 @@ IsMade works db date end =
     ((day : ℤ) × (parsed_day date ≡ Some day) × IsTrue (is_business_day day) × works db (Make day) end)
     ⊎ (IsNoBusinessDay date × (end ≡ Err Value))
 
+-- the GTIN or the lot breaks its rule
+abbrev pub IsNoLot : (gtin lot : List ℕ) → Type 0
+IsNoLot gtin lot = IsTrue (is_gtin gtin) → IsTrue (is_lot_text lot) → ⊥
+
+-- the words name a lot, and the work is with that; or they name none
+abbrev pub IsWithLot : Works → List ℕ → (LotId → Work) → (gtin lot : List ℕ) → Result Unit Fault → Type 0
+IsWithLot works db work gtin lot end =
+    (IsTrue (is_gtin gtin) × IsTrue (is_lot_text lot) × works db (work (record { gtin = gtin; lot = lot })) end)
+    ⊎ (IsNoLot gtin lot × (end ≡ Err Value))
+
 -- what the label says was printed, or the line is refused
 abbrev pub IsLabelTold : List ℕ → List ℕ → Option (List ℕ) → Option (List ℕ) → Result Unit Fault → Type 0
 IsLabelTold date text old new (Ok done) = IsPrinted date text old new
@@ -31,6 +43,8 @@ abbrev pub IsEndOf : Works → Line → Option (List ℕ) → Option (List ℕ) 
 IsEndOf works (Init db day) old new end = IsMade works db.now day.now end
 IsEndOf works (Serve db port max) old new end = works db.now (ServeBooks port max) end
 IsEndOf works (Import db file) old new end = works db.now (ImportFile file) end
+IsEndOf works (Card db gtin lot) old new end = IsWithLot works db.now CardOf gtin.now lot.now end
+IsEndOf works (Notice db gtin lot) old new end = IsWithLot works db.now NoticeOf gtin.now lot.now end
 IsEndOf works (Label day text) old new end = IsLabelTold day.now text.now old new end
 IsEndOf works Unknown old new end = end ≡ Err Value
 

@@ -13,7 +13,7 @@ use Rattle.label.specs.Labels.{label_read}
 use Rattle.values.specs.declared.fault.LabelFault.{LabelFault}
 use Rattle.label.specs.declared.gs1.Label.{Label as LabelSaid}
 use Rattle.command_line.specs.declared.fault.Fault.{Fault}
-use Rattle.command_line.specs.declared.fault.Fault.TheVariants.{Usage, Label, File, Row, Value, Io, Store, Foreign}
+use Rattle.command_line.specs.declared.fault.Fault.TheVariants.{Usage, Label, File, Row, Refused, Value, Io, Store, Foreign}
 
 -- what `lotd label` prints
 abbrev pub label_lines : LabelSaid → List ℕ
@@ -25,6 +25,7 @@ told_code (Usage error) = codes "usage"
 told_code (Label fault) = fault_code fault
 told_code (File fault) = file_fault_code fault
 told_code (Row row why) = refusal_code why
+told_code (Refused why) = refusal_code why
 told_code Value = codes "value"
 told_code Io = codes "io"
 told_code Store = codes "store"
@@ -75,5 +76,6 @@ IsRefused day text Io = Unit {0}
 IsRefused day text (Usage error) = ⊥
 IsRefused day text (File fault) = ⊥
 IsRefused day text (Row row why) = ⊥
+IsRefused day text (Refused why) = ⊥
 IsRefused day text Store = ⊥
 IsRefused day text Foreign = ⊥

@@ -4,7 +4,7 @@ use Rattle.clap.specs.Values.{kind_of}
 use Rattle.clap.specs.declared.error.Error.{Error}
 use Rattle.clap.specs.declared.error.kind.ErrorKind.TheVariants.{DisplayHelp, DisplayVersion}
 use Rattle.command_line.specs.declared.fault.Fault.{Fault}
-use Rattle.command_line.specs.declared.fault.Fault.TheVariants.{Usage, Label, File, Row, Value, Io, Store, Foreign}
+use Rattle.command_line.specs.declared.fault.Fault.TheVariants.{Usage, Label, File, Row, Refused, Value, Io, Store, Foreign}
 use Rattle.command_line.specs.declared.running.TheConstants.{DONE, REFUSED, MISUSED}
 
 -- words that are no line are misused; a call for help is done, or refused where the help could not be written
@@ -18,6 +18,7 @@ IsStatusOf (Err (Usage error)) status = IsStatusOfWords error status
 IsStatusOf (Err (Label fault)) status = status ≡ REFUSED
 IsStatusOf (Err (File fault)) status = status ≡ REFUSED
 IsStatusOf (Err (Row row why)) status = status ≡ REFUSED
+IsStatusOf (Err (Refused why)) status = status ≡ REFUSED
 IsStatusOf (Err Value) status = status ≡ REFUSED
 IsStatusOf (Err Io) status = status ≡ REFUSED
 IsStatusOf (Err Store) status = status ≡ REFUSED

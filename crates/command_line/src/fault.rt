@@ -18,7 +18,9 @@ pub enum Fault {
     File(FileFault),
     /// This row of a file, counted from 1, is refused.
     Row { row: u16, refusal: Refusal },
-    /// A date on the line is no business day.
+    /// What is asked for is refused.
+    Refused(Refusal),
+    /// A date on the line is no business day, or a GTIN or a lot breaks its rule.
     Value,
     /// The output could not be written.
     Io,
@@ -40,6 +42,7 @@ impl Fault {
             Fault::Label(fault) => fault.code(),
             Fault::File(fault) => fault.code(),
             Fault::Row { row: _, refusal } => refusal.code(),
+            Fault::Refused(refusal) => refusal.code(),
             Fault::Value => "value",
             Fault::Io => "io",
             Fault::Store => "store",

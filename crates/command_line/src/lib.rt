@@ -3,6 +3,7 @@
 
 mod fault;
 mod label_line;
+mod lot_lines;
 mod running;
 mod words;
 

@@ -6,6 +6,7 @@ ghost use Rattle.command_line.specs.Ends.{IsEndOf, IsEnded, IsMade, IsRun};
 
 use crate::fault::Fault;
 use crate::label_line::{first_day, print_label};
+use crate::lot_lines::{print_card, print_notice};
 use crate::words::{Line, read_line};
 use clap::Error;
 use label::BusinessDay;
@@ -13,6 +14,7 @@ use std::alloc::Global;
 use std::convert::AsStr;
 use std::io;
 use std::io::Write;
+use values::LotId;
 
 /// The exit status of a line that was done, and of a call for help.
 pub const DONE: u8 = 0;
@@ -33,6 +35,10 @@ pub enum Work<'a> {
     /// Opens them, and then the goods-in file: takes its rows in, all or none, and prints how many were accepted and
     /// how many repeated.
     Import { file: &'a str },
+    /// Opens them and prints the stock card of the lot.
+    Card(LotId),
+    /// Opens them and prints the recall notice of the lot.
+    Notice(LotId),
 }
 
 /// Where the books are that the lines speak of.
@@ -87,6 +93,8 @@ fn end_line<'a, B: BooksAt, W: Write>(books: &B, line: Line<'a>, out: &mut W) ->
         Line::Init { db, day } => make_books(books, db, day, out),
         Line::Serve { db, port, max } => books.work(db, Work::Serve { port, max }, out),
         Line::Import { db, file } => books.work(db, Work::Import { file }, out),
+        Line::Card { db, gtin, lot } => print_card(books, db, gtin, lot, out),
+        Line::Notice { db, gtin, lot } => print_notice(books, db, gtin, lot, out),
         Line::Label { day, text } => print_label(day, text, out),
         Line::Unknown => Err(Fault::Value),
     }

@@ -13,6 +13,18 @@ pub enum Line<'a> {
     Serve { db: &'a str, port: u16, max: u32 },
     /// `lotd import --db PATH FILE`: takes in the goods-in file FILE, all rows or none.
     Import { db: &'a str, file: &'a str },
+    /// `lotd card --db PATH GTIN LOT`: prints the stock card of the lot.
+    Card {
+        db: &'a str,
+        gtin: &'a str,
+        lot: &'a str,
+    },
+    /// `lotd notice --db PATH GTIN LOT`: prints the recall notice of the lot.
+    Notice {
+        db: &'a str,
+        gtin: &'a str,
+        lot: &'a str,
+    },
     /// No line that the program has. `clap` refuses such words before.
     Unknown,
 }
@@ -50,9 +62,11 @@ const EXAMPLES: &str = "Examples:
   lotd init --db stock.db --day 2026-05-04
   lotd serve --db stock.db --port 8080 --max 1000
   lotd import --db stock.db goods.csv
+  lotd card --db stock.db 09506000134352 L2
+  lotd notice --db stock.db 09506000134352 L2
   lotd label --day 2026-05-04 ']C101095060001343521726093010AB12'";
 
-static LINES: [Words; 4] = [
+static LINES: [Words; 6] = [
     Words {
         name: "init",
         about: "Make new books",
@@ -122,6 +136,62 @@ A FILE that begins with a dash goes after two dashes: lotd import --db PATH -- F
         ],
     },
     Words {
+        name: "card",
+        about: "Print the stock card of a lot: each act that brought units or took them",
+        examples: "Example:
+  lotd card --db stock.db 09506000134352 L2
+
+A LOT that begins with a dash goes after two dashes: lotd card --db PATH -- GTIN LOT",
+        values: &[
+            Value {
+                id: "db",
+                stands_for: "PATH",
+                help: "The file of the books",
+                kind: Kind::Named,
+            },
+            Value {
+                id: "gtin",
+                stands_for: "GTIN",
+                help: "The item, 14 digits",
+                kind: Kind::Bare,
+            },
+            Value {
+                id: "lot",
+                stands_for: "LOT",
+                help: "The lot, 1 to 20 characters",
+                kind: Kind::Bare,
+            },
+        ],
+    },
+    Words {
+        name: "notice",
+        about: "Print the recall notice of a lot: the bins and the shipments with units of it",
+        examples: "Example:
+  lotd notice --db stock.db 09506000134352 L2
+
+A LOT that begins with a dash goes after two dashes: lotd notice --db PATH -- GTIN LOT",
+        values: &[
+            Value {
+                id: "db",
+                stands_for: "PATH",
+                help: "The file of the books",
+                kind: Kind::Named,
+            },
+            Value {
+                id: "gtin",
+                stands_for: "GTIN",
+                help: "The item, 14 digits",
+                kind: Kind::Bare,
+            },
+            Value {
+                id: "lot",
+                stands_for: "LOT",
+                help: "The lot, 1 to 20 characters",
+                kind: Kind::Bare,
+            },
+        ],
+    },
+    Words {
         name: "label",
         about: "Print the GTIN, the lot and the expiry day of a GS1 label",
         examples: "Examples:
@@ -163,6 +233,8 @@ fn line_found<'a>(matches: &ArgMatches<'a>) -> Line<'a> {
         Some(("init", found)) => init_line(found),
         Some(("serve", found)) => serve_line(found),
         Some(("import", found)) => import_line(found),
+        Some(("card", found)) => card_line(found),
+        Some(("notice", found)) => notice_line(found),
         _ => Line::Unknown,
     }
 }
@@ -192,6 +264,22 @@ fn serve_line<'a>(found: &ArgMatches<'a>) -> Line<'a> {
 fn import_line<'a>(found: &ArgMatches<'a>) -> Line<'a> {
     match (found.get_str("db"), found.get_str("file")) {
         (Some(db), Some(file)) => Line::Import { db, file },
+        _ => Line::Unknown,
+    }
+}
+
+fn card_line<'a>(found: &ArgMatches<'a>) -> Line<'a> {
+    let (gtin, lot) = (found.get_str("gtin"), found.get_str("lot"));
+    match (found.get_str("db"), gtin, lot) {
+        (Some(db), Some(gtin), Some(lot)) => Line::Card { db, gtin, lot },
+        _ => Line::Unknown,
+    }
+}
+
+fn notice_line<'a>(found: &ArgMatches<'a>) -> Line<'a> {
+    let (gtin, lot) = (found.get_str("gtin"), found.get_str("lot"));
+    match (found.get_str("db"), gtin, lot) {
+        (Some(db), Some(gtin), Some(lot)) => Line::Notice { db, gtin, lot },
         _ => Line::Unknown,
     }
 }

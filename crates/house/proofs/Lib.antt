@@ -6,3 +6,6 @@ pub mod ShownTold
 pub mod StepLaws
 pub mod Stepping
 pub mod FileTold
+pub mod Handing
+pub mod LotWriting
+pub mod LotShown

@@ -1,5 +1,6 @@
 -- What each reading of a text is answered, and the acts after it. An answer is its bytes.
 use Rattle.std.specs.Prelude.{ℕ, if◌then◌else◌, Bool, List, take, Result, Ok, Err, ℤ}
+use Rattle.values.specs.declared.lot.LotId.{LotId}
 use Rattle.label.specs.Labels.{label_read}
 use Rattle.label.specs.declared.gs1.Label.{Label}
 use Rattle.values.specs.declared.fault.LabelFault.{LabelFault}
@@ -12,7 +13,7 @@ use Rattle.commands.specs.declared.command.Command.TheVariants.{Receive}
 use Rattle.machine.specs.Acts.{Act}
 use Rattle.machine.specs.Standing.{today}
 use Rattle.machine.specs.Once.{Outcome, Accepted, Repeated, Refused, outcome, acts_after, is_key_of, FileOutcome, Taken, RefusedRow, file_outcome, acts_after_file}
-use Rattle.machine.specs.Queries.{order_shown, short_shown, stock_shown}
+use Rattle.machine.specs.Queries.{order_shown, short_shown, stock_shown, card_shown, notice_shown}
 use Rattle.goodsin.specs.Faults.{file_fault_code}
 use Rattle.goodsin.specs.Files.{file_read}
 use Rattle.goodsin.specs.declared.fault.FileFault.{FileFault}
@@ -31,6 +32,8 @@ use Rattle.wire.specs.declared.answer.Answer.{Answer}
 use Rattle.wire.specs.declared.answer.Answer.TheVariants.{Order as OrderAnswer, Stock as StockAnswer, Text}
 use Rattle.texts.specs.PickList.{pick_list_text}
 use Rattle.texts.specs.Shortages.{shortages_text}
+use Rattle.texts.specs.Card.{card_text}
+use Rattle.texts.specs.Notice.{notice_text}
 
 -- the version and the status
 abbrev pub status_of : List ℕ → List ℕ
@@ -122,13 +125,19 @@ pick_list_answer first acts order = view_answer (λ v. Text (pick_list_text v)) 
 abbrev pub shortages_answer : ℤ → List Act → List ℕ → List ℕ
 shortages_answer first acts gtin = view_answer (λ v. Text (shortages_text v)) (short_shown first acts gtin)
 
+abbrev pub card_answer : ℤ → List Act → LotId → List ℕ
+card_answer first acts l = view_answer (λ v. Text (card_text v)) (card_shown first acts l)
+
+abbrev pub notice_answer : ℤ → List Act → LotId → List ℕ
+notice_answer first acts l = view_answer (λ v. Text (notice_text v)) (notice_shown first acts l)
+
 abbrev pub query_answer : ℤ → List Act → Query → List ℕ
 query_answer first acts (Order order) = order_answer first acts order
 query_answer first acts (Stock gtin) = stock_answer first acts gtin
 query_answer first acts (PickList order) = pick_list_answer first acts order
 query_answer first acts (Shortages gtin) = shortages_answer first acts gtin
-query_answer first acts (Card lot) = not_served
-query_answer first acts (Notice lot) = not_served
+query_answer first acts (Card lot) = card_answer first acts lot
+query_answer first acts (Notice lot) = notice_answer first acts lot
 
 -- Requests. A label and a file are read at the business day.
 

@@ -2,4 +2,5 @@ pub mod Answers
 pub mod Asking
 pub mod House
 pub mod Laws
+pub mod LotTexts
 pub mod Serving

@@ -12,7 +12,9 @@ ghost use Rattle.house.specs.House.{books_of, bytes_of, texts_of, StepsTo, RunsT
 use crate::Answered;
 use crate::asking::{act, scan};
 use crate::filing::take_in;
-use crate::showing::{show_order, show_pick_list, show_shortages, show_stock};
+use crate::showing::{
+    show_card, show_notice, show_order, show_pick_list, show_shortages, show_stock,
+};
 use requests::{Ask, Query, Read, WireFault, read_request};
 use sqlite::Alter;
 use std::alloc::{AllocError, Global};
@@ -111,6 +113,7 @@ fn answer_ask<S: Alter>(alloc: Global, books: &mut Books<S>, ask: &Ask) -> Answe
         Ask::Show(Query::Stock(gtin)) => show_stock(alloc, books, gtin),
         Ask::Show(Query::PickList(order)) => show_pick_list(alloc, books, order),
         Ask::Show(Query::Shortages(gtin)) => show_shortages(alloc, books, gtin),
-        _ => Answered::Short(fault_answer(WireFault::Path)),
+        Ask::Show(Query::Card(lot)) => show_card(alloc, books, lot),
+        Ask::Show(Query::Notice(lot)) => show_notice(alloc, books, lot),
     }
 }

@@ -6,9 +6,11 @@ mod asking;
 mod filing;
 mod house;
 pub mod laws;
+mod lot_texts;
 mod serve;
 mod showing;
 
 pub use answered::Answered;
 pub use house::House;
+pub use lot_texts::{write_card, write_notice};
 pub use wire::ServeFault;

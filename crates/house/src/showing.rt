@@ -7,19 +7,21 @@ ghost use Rattle.wire.specs.Answers.{answer_bytes};
 ghost use Rattle.store.specs.Books.{IsClean};
 ghost use Rattle.texts.specs.PickList.{pick_list_text};
 ghost use Rattle.texts.specs.Shortages.{shortages_text};
-ghost use Rattle.house.specs.Answers.{order_answer, stock_answer, pick_list_answer, shortages_answer, no_memory};
+ghost use Rattle.house.specs.Answers.{order_answer, stock_answer, pick_list_answer, shortages_answer, card_answer, notice_answer, no_memory};
 ghost use Rattle.house.specs.Asking.{Does, IsWritten, asked_answer};
 ghost use Rattle.house.specs.House.{bytes_of, IsLongIfOk};
+ghost use Rattle.house.specs.LotTexts.{text_answer};
 
 use crate::Answered;
 use crate::answered::not_shown;
+use crate::lot_texts::{write_card, write_notice};
 use commands::{Listed, OrderView, ShortView};
 use requests::WireFault;
 use sqlite::Alter;
 use std::alloc::Global;
-use store::{Books, Fault};
+use store::{Books, EachFault, Fault};
 use texts::{pick_list, shortages};
-use values::{Gtin, Name};
+use values::{Gtin, LotId, Name};
 use wire::short_answers::fault_answer;
 use wire::{Answer, write_answer};
 
@@ -76,6 +78,39 @@ pub(crate) fn show_shortages<S: Alter>(alloc: Global, books: &mut Books<S>, gtin
     match books.short_rows(gtin) {
         Ok(view) => told(alloc, shortages_of(alloc, view)),
         Err(fault) => told(alloc, Err(fault)),
+    }
+}
+
+/// Shows the stock card of a lot.
+pub(crate) fn show_card<S: Alter>(alloc: Global, books: &mut Books<S>, lot: &LotId) -> Answered
+    ensures clean { IsClean S.Store books.new → IsClean S.Store books.old }
+    ensures shown { IsClean S.Store books.new → (first : ℤ) (acts : List Act) → IsHistory first acts
+        → Does S.Store first acts books.old (card_answer first acts lot.now) acts (bytes_of result) books.new }
+    ensures in_place { IsLongIfOk result }
+{
+    let (text, end) = write_card(books, lot, Vec::new(alloc));
+    told(alloc, text_of(text, end))
+}
+
+/// Shows the recall notice of a lot.
+pub(crate) fn show_notice<S: Alter>(alloc: Global, books: &mut Books<S>, lot: &LotId) -> Answered
+    ensures clean { IsClean S.Store books.new → IsClean S.Store books.old }
+    ensures shown { IsClean S.Store books.new → (first : ℤ) (acts : List Act) → IsHistory first acts
+        → Does S.Store first acts books.old (notice_answer first acts lot.now) acts (bytes_of result) books.new }
+    ensures in_place { IsLongIfOk result }
+{
+    let (text, end) = write_notice(books, lot, Vec::new(alloc));
+    told(alloc, text_of(text, end))
+}
+
+/// The text that was written, where that is the whole.
+fn text_of(text: Vec<u8>, end: Result<(), EachFault>) -> Result<Answer, Fault>
+    ensures { result ≡ text_answer text.items end }
+{
+    match end {
+        Ok(()) => Ok(Answer::Text(Listed::from_vec(text))),
+        Err(EachFault::Fault(fault)) => Err(fault),
+        Err(EachFault::Stopped) => Err(Fault::Store),
     }
 }
 

@@ -20,7 +20,7 @@ use Rattle.store.specs.declared.tally.Tally.{Tally}
 use Rattle.store.specs.declared.tally.RowFault.{RowFault}
 use Rattle.store.specs.declared.tally.RowFault.TheVariants.{Refused, Store as StoreRow, Foreign as ForeignRow}
 use Rattle.command_line.specs.declared.fault.Fault.{Fault}
-use Rattle.command_line.specs.declared.fault.Fault.TheVariants.{Usage, Label, File, Row, Value, Io, Store, Foreign}
+use Rattle.command_line.specs.declared.fault.Fault.TheVariants.{Usage, Label, File, Row, Refused as RefusedText, Value, Io, Store, Foreign}
 use Rattle.service.specs.Importing.{HasTaken, KeepsFile, IsToldOfFile, AreRead, HasFault, IsTakenIn, IsImported, tally_line}
 
 pub by_fault : {X : Type 0} (r : Result X Fault) (f : Fault) → IsErr r × IsErrAnd r (λ e. e ≡ f) → (P : Result X Fault → Type 0) → P (Err f) → P r
@@ -57,6 +57,7 @@ module _ {S : Type 0} (g : Ghosts S) (first : ℤ) (acts : List Act) where
     fault_told_on (Label fault) old new h = absurd h
     fault_told_on (File fault) old new h = h
     fault_told_on (Row row why) old new h = h
+    fault_told_on (RefusedText why) old new h = absurd h
     fault_told_on Value old new h = absurd h
     fault_told_on Io old new h = absurd h
     fault_told_on Store old new h = h
@@ -69,6 +70,7 @@ module _ {S : Type 0} (g : Ghosts S) (first : ℤ) (acts : List Act) where
     has_taken (Err (Label fault)) old new h = absurd h
     has_taken (Err (File fault)) old new h = inr h.1
     has_taken (Err (Row row why)) old new h = inr h.3
+    has_taken (Err (RefusedText why)) old new h = absurd h
     has_taken (Err Value) old new h = absurd h
     has_taken (Err Io) old new h = inl (rows_of (h.1).0, (h.1).3, (h.1).4)
     has_taken (Err Store) old new h = inr h

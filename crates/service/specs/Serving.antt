@@ -12,7 +12,7 @@ use Rattle.house.specs.House.{Run, StepsTo, RunsTo, LeavesBooks}
 use Rattle.command_line.specs.declared.fault.Fault.{Fault}
 use Rattle.command_line.specs.declared.fault.Fault.TheVariants.{Foreign}
 use Rattle.command_line.specs.declared.running.Work.{Work}
-use Rattle.command_line.specs.declared.running.Work.TheVariants.{Make, Serve, Import}
+use Rattle.command_line.specs.declared.running.Work.TheVariants.{Make, Serve, Import, Card, Notice}
 use Rattle.service.specs.Importing.{KeepsFile}
 
 -- the books are as they were, or one step over some text further
@@ -43,12 +43,16 @@ abbrev pub IsWorked : {S : Type 0} → Ghosts S → Held S → Work → Held S �
 IsWorked g old (Make day) new = KeepsBooks day [] (state g new) × IsTrue (state g new).is_open
 IsWorked g old (Serve port max) new = (first : ℤ) (acts : List Act) → IsHistory first acts → AreRowsOf first acts (state g old).committed.trees → KeepsRun g first acts max new
 IsWorked g old (Import file) new = (first : ℤ) (acts : List Act) → IsHistory first acts → AreRowsOf first acts (state g old).committed.trees → KeepsFile g first acts new
+IsWorked g old (Card lot) new = (first : ℤ) (acts : List Act) → IsHistory first acts → AreRowsOf first acts (state g old).committed.trees → KeepsBooks first acts (state g new)
+IsWorked g old (Notice lot) new = (first : ℤ) (acts : List Act) → IsHistory first acts → AreRowsOf first acts (state g old).committed.trees → KeepsBooks first acts (state g new)
 
 -- when the work is refused, and as what
 abbrev pub IsJudged : {S A : Type 0} → Ghosts S → Held S → Work → Result A Fault → Type 0
 IsJudged g old (Make day) result = old.in_transaction ≡ false → IsErrOf result Foreign ↔ ((state g old).now.schema ≢ schema_0)
 IsJudged g old (Serve port max) result = ¬ HasTables (state g old).now.schema → IsErr result
 IsJudged g old (Import file) result = ¬ HasTables (state g old).now.schema → IsErr result
+IsJudged g old (Card lot) result = ¬ HasTables (state g old).now.schema → IsErr result
+IsJudged g old (Notice lot) result = ¬ HasTables (state g old).now.schema → IsErr result
 
 -- what is printed once the port is listened on
 abbrev pub told_port : ℕ → List ℕ

@@ -12,6 +12,7 @@ ghost use Rattle.service.specs.Serving.{HasServed, KeepsRun, IsWorked, IsJudged,
 ghost use Rattle.service.specs.Importing.{KeepsFile};
 
 use crate::goods_file::{FilesAt, import_file};
+use crate::lot_texts::{print_card, print_notice};
 use crate::serve::serve_on;
 use command_line::{Fault, Work};
 use house::House;
@@ -21,15 +22,17 @@ use std::alloc::Global;
 use std::io::{self, Write};
 use std::net::TcpListener;
 use store::{Books, OpenFault};
+use values::LotId;
 
 /// A connection after the work over it, and how that work ended.
 pub type Worked<S> = (Connection<S>, Result<(), Fault>);
 
 /// Does the work with the books over this connection, and gives the connection back. What it prints goes to `out`.
 /// Books that were made are empty; books that were served are those of a run over at most as many texts as connections
-/// were to be answered; books into which a file was imported are those after it, or as they were. Where the books cannot be made or opened, the connection is dropped and the error is `Foreign`
-/// for other tables and else `Store`, also for a connection within a transaction. A port that cannot be had and output
-/// that cannot be written are `Io` beside the connection.
+/// were to be answered; books into which a file was imported are those after it, or as they were; books of which a text
+/// was printed are as they were. Where the books cannot be made or opened, the connection is dropped and the error is
+/// `Foreign` for other tables and else `Store`, also for a connection within a transaction. A port that cannot be had and
+/// output that cannot be written are `Io` beside the connection.
 pub fn worked<S: Alter + Drop, F: FilesAt, W: Write>(
     rt: &HostRuntime,
     files: &F,
@@ -46,6 +49,8 @@ pub fn worked<S: Alter + Drop, F: FilesAt, W: Write>(
         Work::Make(day) => made(rt.alloc(), conn, day),
         Work::Serve { port, max } => served(rt, conn, port, max, out),
         Work::Import { file } => imported(rt.alloc(), files, conn, file, out),
+        Work::Card(lot) => printed(rt.alloc(), conn, Sheet::Card, &lot, out),
+        Work::Notice(lot) => printed(rt.alloc(), conn, Sheet::Notice, &lot, out),
     }
 }
 
@@ -139,6 +144,67 @@ fn import_books<S: Alter + Drop, F: FilesAt, W: Write>(
     let mut books = books;
     let end = import_file(alloc, files, &mut books, name, out);
     (books.close(), end)
+}
+
+/// A text of a lot.
+#[derive(Clone, Copy)]
+enum Sheet {
+    /// The stock card.
+    Card,
+    /// The recall notice.
+    Notice,
+}
+
+/// Opens the books, and then prints a text of a lot.
+fn printed<S: Alter + Drop, W: Write>(
+    alloc: Global,
+    conn: Connection<S>,
+    sheet: Sheet,
+    lot: &LotId,
+    out: &mut W,
+) -> Result<Worked<S>, Fault>
+    ensures printed { IfOk result (λ w. HasCleanDisk (state S.Store w.0) → (first : ℤ) (acts : List Act) → IsHistory first acts
+        → AreRowsOf first acts (state S.Store conn).committed.trees → KeepsBooks first acts (state S.Store w.0)) }
+    ensures other { ¬ HasTables (state S.Store conn).now.schema → IsErr result }
+    ensures within { conn.in_transaction ≡ true → IsErrOf result Fault.Store }
+    ensures fault { IfErr result (λ fault. (fault ≡ Fault.Store) ⊎ (fault ≡ Fault.Foreign)) }
+{
+    match opened(alloc, conn) {
+        Ok(books) => Ok(print_books(books, sheet, lot, out)),
+        Err(fault) => Err(fault),
+    }
+}
+
+fn print_books<S: Alter + Drop, W: Write>(
+    books: Books<S>,
+    sheet: Sheet,
+    lot: &LotId,
+    out: &mut W,
+) -> Worked<S>
+    ensures clean { HasCleanDisk (state S.Store result.0) → IsClean S.Store books }
+    ensures printed { HasCleanDisk (state S.Store result.0) → (first : ℤ) (acts : List Act) → IsHistory first acts → HoldsBooks S.Store first acts books
+        → KeepsBooks first acts (state S.Store result.0) }
+{
+    let mut books = books;
+    let end = print_sheet(&mut books, sheet, lot, out);
+    (books.close(), end)
+}
+
+fn print_sheet<S: Alter, W: Write>(
+    books: &mut Books<S>,
+    sheet: Sheet,
+    lot: &LotId,
+    out: &mut W,
+) -> Result<(), Fault>
+    ensures clean { IsClean S.Store books.new → IsClean S.Store books.old }
+    ensures kept { IsClean S.Store books.new → (first : ℤ) (acts : List Act) → IsHistory first acts → HoldsBooks S.Store first acts books.old
+        → HoldsBooks S.Store first acts books.new }
+{
+    let (_, end) = match sheet {
+        Sheet::Card => print_card(books, lot, out),
+        Sheet::Notice => print_notice(books, lot, out),
+    };
+    end
 }
 
 fn opened<S: Alter + Drop>(alloc: Global, conn: Connection<S>) -> Result<Books<S>, Fault>

@@ -3,8 +3,10 @@
 
 mod books_lines;
 mod goods_file;
+mod lot_texts;
 mod serve;
 
 pub use books_lines::{Worked, worked};
 pub use goods_file::{FilesAt, import};
+pub use lot_texts::{print_card, print_notice};
 pub use serve::serve_on;

@@ -7,6 +7,7 @@ use std::alloc::Global;
 use std::io;
 use std::io::Write;
 use std::process::Abort;
+use values::LotId;
 
 // No line of these tests needs the file of the books.
 #[derive(Clone, Copy)]
@@ -92,14 +93,18 @@ fn answer(alloc: Global, words: &[&str]) -> (u8, bool, bool) {
     (status, !printed.is_empty(), !told.is_empty())
 }
 
-static HELP: [&[&str]; 4] = [
+static HELP: [&[&str]; 6] = [
+    &["lotd", "card", "--help"],
+    &["lotd", "notice", "--help"],
     &["lotd", "import", "--help"],
     &["lotd", "--help"],
     &["lotd", "help", "label"],
     &["lotd", "label", "--help"],
 ];
 
-static MISUSE: [&[&str]; 9] = [
+static MISUSE: [&[&str]; 11] = [
+    &["lotd", "card", "--db", "x", "09506000134352"],
+    &["lotd", "notice", "09506000134352", "L2"],
     &["lotd", "import", "--db", "x"],
     &["lotd", "serve", "--db", "x", "--port", "1023", "--max", "1"],
     &[
@@ -173,6 +178,7 @@ enum End {
     Io,
     File(FileFault),
     Row(u16, Refusal),
+    Refused(Refusal),
 }
 
 // What a line has to hand on: the file, and the first day of the books, the goods-in file, or the port and how many
@@ -186,12 +192,23 @@ struct Awaited {
     end: End,
 }
 
+// The GTIN and the lot, parted by a space.
+fn is_lot_word(lot: LotId, word: &str) -> bool {
+    match word.split_once(" ") {
+        Some((gtin, text)) => {
+            lot.gtin.as_bytes() == gtin.as_bytes() && lot.lot.as_bytes() == text.as_bytes()
+        }
+        None => false,
+    }
+}
+
 impl Awaited {
     fn is_this(&self, db: &str, work: Work<'_>) -> bool {
         let same = match work {
             Work::Make(day) => day.day().text().as_slice() == self.word.as_bytes(),
             Work::Import { file } => file == self.word,
             Work::Serve { port, max } => port == self.port && max == self.max,
+            Work::Card(lot) | Work::Notice(lot) => is_lot_word(lot, self.word),
         };
         same && db == self.db
     }
@@ -204,6 +221,7 @@ impl Awaited {
             End::Io => Err(Fault::Io),
             End::File(fault) => Err(Fault::File(fault)),
             End::Row(row, refusal) => Err(Fault::Row { row, refusal }),
+            End::Refused(refusal) => Err(Fault::Refused(refusal)),
         }
     }
 }
@@ -228,7 +246,7 @@ struct Handed {
     told: &'static str,
 }
 
-static HANDED_ON: [Handed; 11] = [
+static HANDED_ON: [Handed; 18] = [
     Handed {
         words: &["lotd", "init", "--db", "stock.db", "--day", "2026-05-04"],
         to: Awaited {
@@ -354,6 +372,91 @@ static HANDED_ON: [Handed; 11] = [
         },
         status: 1,
         told: "lotd: G01\n",
+    },
+    Handed {
+        words: &["lotd", "card", "--db", "stock.db", "09506000134352", "L2"],
+        to: Awaited {
+            db: "stock.db",
+            word: "09506000134352 L2",
+            port: 0,
+            max: 0,
+            end: End::Done,
+        },
+        status: 0,
+        told: "",
+    },
+    Handed {
+        words: &["lotd", "card", "--db", "stock.db", "09506000134352", "A/B"],
+        to: Awaited {
+            db: "stock.db",
+            word: "09506000134352 A/B",
+            port: 0,
+            max: 0,
+            end: End::Refused(Refusal::UnknownLot),
+        },
+        status: 1,
+        told: "lotd: U03\n",
+    },
+    Handed {
+        words: &["lotd", "notice", "--db", "stock.db", "04012345000016", "Z8"],
+        to: Awaited {
+            db: "stock.db",
+            word: "04012345000016 Z8",
+            port: 0,
+            max: 0,
+            end: End::Refused(Refusal::NoNotice),
+        },
+        status: 1,
+        told: "lotd: N01\n",
+    },
+    Handed {
+        words: &["lotd", "notice", "--db", "stock.db", "--", "09506000134352", "-L2"],
+        to: Awaited {
+            db: "stock.db",
+            word: "09506000134352 -L2",
+            port: 0,
+            max: 0,
+            end: End::Io,
+        },
+        status: 1,
+        told: "lotd: io\n",
+    },
+    // The GTIN and the lot are judged before the file is touched.
+    Handed {
+        words: &["lotd", "card", "--db", "stock.db", "09506000134353", "L2"],
+        to: Awaited {
+            db: "stock.db",
+            word: "09506000134353 L2",
+            port: 0,
+            max: 0,
+            end: End::Done,
+        },
+        status: 1,
+        told: "lotd: value\n",
+    },
+    Handed {
+        words: &["lotd", "notice", "--db", "stock.db", "09506000134352", "L 2"],
+        to: Awaited {
+            db: "stock.db",
+            word: "09506000134352 L 2",
+            port: 0,
+            max: 0,
+            end: End::Done,
+        },
+        status: 1,
+        told: "lotd: value\n",
+    },
+    Handed {
+        words: &["lotd", "notice", "--db", "stock.db", "09506000134352", "ABCDEFGHIJKLMNOPQRSTU"],
+        to: Awaited {
+            db: "stock.db",
+            word: "09506000134352 ABCDEFGHIJKLMNOPQRSTU",
+            port: 0,
+            max: 0,
+            end: End::Done,
+        },
+        status: 1,
+        told: "lotd: value\n",
     },
     // The day is judged before the file is touched.
     Handed {

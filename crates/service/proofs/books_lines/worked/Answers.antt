@@ -3,7 +3,7 @@ use Rattle.std.specs.Prelude.{IfOk}
 use Rattle.sqlite.specs.Held.{state}
 use Rattle.sqlite.specs.State.{HasCleanDisk}
 use Rattle.service.specs.Serving.{IsWorked, IsJudged}
-use Rattle.command_line.specs.declared.running.Work.TheVariants.{Make, Serve, Import}
+use Rattle.command_line.specs.declared.running.Work.TheVariants.{Make, Serve, Import, Card, Notice}
 use Rattle.service.proofs.books_lines.worked.Goals as goal
 
 pub returns-in-Make-clause-judged : goal.returns-in-Make-clause-judged
@@ -20,3 +20,15 @@ returns-in-Import-clause-worked g c = subst (λ work. IfOk c.imported.result (λ
 
 pub returns-in-Import-clause-judged : goal.returns-in-Import-clause-judged
 returns-in-Import-clause-judged g c = subst (λ w. IsJudged g.S.Store c.args.conn w c.imported.result) (sym c.in-Import.is) c.imported.ensures.other
+
+pub returns-in-Card-clause-worked : goal.returns-in-Card-clause-worked
+returns-in-Card-clause-worked g c = subst (λ work. IfOk c.printed.result (λ w. HasCleanDisk (state g.S.Store w.0) → IsWorked g.S.Store c.args.conn work w.0)) (sym c.in-Card.is) c.printed.ensures.printed
+
+pub returns-in-Card-clause-judged : goal.returns-in-Card-clause-judged
+returns-in-Card-clause-judged g c = subst (λ w. IsJudged g.S.Store c.args.conn w c.printed.result) (sym c.in-Card.is) c.printed.ensures.other
+
+pub returns-in-Notice-clause-worked : goal.returns-in-Notice-clause-worked
+returns-in-Notice-clause-worked g c = subst (λ work. IfOk c.printed-2.result (λ w. HasCleanDisk (state g.S.Store w.0) → IsWorked g.S.Store c.args.conn work w.0)) (sym c.in-Notice.is) c.printed-2.ensures.printed
+
+pub returns-in-Notice-clause-judged : goal.returns-in-Notice-clause-judged
+returns-in-Notice-clause-judged g c = subst (λ w. IsJudged g.S.Store c.args.conn w c.printed-2.result) (sym c.in-Notice.is) c.printed-2.ensures.other

@@ -1,0 +1,227 @@
+-- The stock card and the recall notice of a lot, written part after part.
+use Rattle.std.proofs.Common.{◌≡◌, ℕ, ◌+◌, List, [], ◌++◌, Option, Some, None, Ok, Err, Result, refl, sym, ap, subst, ◌∙◌, inl, inr, append_assoc, zero-add}
+use Rattle.std.specs.Prelude.{ℤ, Bool, true, false, if◌then◌else◌, flat_map}
+use Rattle.std.specs.Io.KnownBytes.{Appends}
+use Rattle.std.proofs.KnownBytes.{Appends-trans, Appends-nil}
+use Rattle.values.specs.declared.lot.LotId.{LotId}
+use Rattle.commands.specs.Cards.{rest_after}
+use Rattle.commands.specs.Lists.{total}
+use Rattle.commands.specs.declared.refusal.Refusal.{Refusal}
+use Rattle.commands.specs.declared.refusal.Refusal.TheVariants.{UnknownItem, UnknownLot, NoNotice}
+use Rattle.commands.specs.declared.rows.ItemRow.{ItemRow}
+use Rattle.commands.specs.declared.rows.CardRow.{CardRow}
+use Rattle.commands.specs.declared.views.BinUnits.{BinUnits}
+use Rattle.commands.specs.declared.views.ShippedUnits.{ShippedUnits}
+use Rattle.commands.specs.declared.views.CardView.{CardView}
+use Rattle.commands.specs.declared.views.NoticeView.{NoticeView}
+use Rattle.sqlite_trees.specs.declared.store.Store.{Ghosts}
+use Rattle.sqlite_trees.specs.Tree.{Trees}
+use Rattle.sqlite.specs.Held.{state}
+use Rattle.sqlite.specs.State.{Survives}
+use Rattle.machine.specs.Acts.{Act}
+use Rattle.machine.specs.Once.{IsHistory}
+use Rattle.machine.specs.Cards.{lot_units_in_house}
+use Rattle.machine.specs.Standing.{KnownLot, lots, lot_known, is_recalled}
+use Rattle.machine.specs.Tables.{item_row}
+use Rattle.machine.specs.Queries.{if_known, card_shown, notice_shown}
+use Rattle.machine.specs.Views.{card_of_lot, bins_of_lot, shipments_of_lot, card_view, notice_view}
+use Rattle.machine.proofs.histories.Lots.{found_lot}
+use Rattle.machine.proofs.histories.LastLines.{last_line_tells_units}
+use Rattle.texts.specs.declared.fault.TextFault.{TextFault}
+use Rattle.texts.specs.declared.sinks.CardLines.{CardLines}
+use Rattle.texts.specs.declared.sinks.NoticeLines.{NoticeLines}
+use Rattle.texts.specs.Card.{card_text, card_start, card_line, card_end}
+use Rattle.texts.specs.Notice.{notice_text, notice_start, bin_line, shipment_line, notice_end, Totals}
+use Rattle.texts.specs.Sinks.{AddsCardLine, CutsCardLine, AddsBinLine, CutsBinLine, AddsShipmentLine, CutsShipmentLine}
+use Rattle.texts.specs.Writing.{AppendsBeginning, Writes}
+use Rattle.texts.proofs.Beginnings.{beginning_of_first, beginning_of_second, beginning_of_none}
+use Rattle.store.specs.Connected.{Connected}
+use Rattle.store.specs.Books.{HoldsBooks, MayLeave, IsClean}
+use Rattle.store.specs.Handing.{IsHanded, NoBooks}
+use Rattle.store.specs.Heads.{head_of_card, head_of_notice, card_head_shown, notice_head_shown}
+use Rattle.store.specs.Queries.{IsShown}
+use Rattle.store.specs.declared.fault.Fault.{Fault as StoreFault}
+use Rattle.store.specs.declared.fault.Fault.TheVariants.{Refused, Store, Foreign}
+use Rattle.store.specs.declared.each_fault.EachFault.{EachFault}
+use Rattle.store.specs.declared.each_fault.EachFault.TheVariants.{Fault, Stopped}
+use Rattle.house.specs.LotTexts.{card_from, notice_from, Stays, Puts, Tells, shown_text, stopped_at}
+use Rattle.house.proofs.Handing.{some_written, cut_written}
+
+module _ {S : Type 0} (g : Ghosts S) (first : ℤ) (acts : List Act) where
+  -- The books
+
+  pub same_books : (books : Connected S) → HoldsBooks g first acts books → Stays g first acts books books
+  same_books books holds = record { holds = holds; kept = λ trees left. left }
+
+  pub stays_on : (a b c : Connected S) → Stays g first acts a b → Stays g first acts b c → Stays g first acts a c
+  stays_on a b c p q = record { holds = q.holds; kept = λ trees left. p.kept trees (q.kept trees left) }
+
+  -- a query commits nothing
+  pub stays_shown : (old new : Connected S) → Survives (state g old.conn) (state g new.conn) (λ _. ⊥) → IsClean g new → HoldsBooks g first acts new → Stays g first acts old new
+  stays_shown old new survives clean holds = record {
+    holds = holds;
+    kept = λ trees left. elim (survives.crash clean trees left) [ inl before ↦ before | inr none ↦ absurd none ];
+  }
+
+  -- and neither does handing records on, on the books of a history
+  pub stays_handed : (old new : Connected S) → IsHistory first acts → Survives (state g old.conn) (state g new.conn) (NoBooks (state g old.conn)) → IsClean g new
+      → HoldsBooks g first acts old → HoldsBooks g first acts new → Stays g first acts old new
+  stays_handed old new history survives clean was holds = record {
+    holds = holds;
+    kept = λ trees left. elim (survives.crash clean trees left) [ inl before ↦ before | inr none ↦ absurd (none first acts history was.keeps) ];
+  }
+
+  -- Parts of a text
+
+  -- b behind a
+  pub put_behind : {X : Type 0} (r : Result X EachFault) (a b : List ℕ) (was mid books : Connected S) (old between new : Option (List ℕ)) → Appends old between a → Stays g first acts was mid
+      → Puts g first acts b mid books between new r → Puts g first acts (a ++ b) was books old new r
+  put_behind (Ok x) a b was mid books old between new first_part stays h = (Appends-trans old between new a b first_part h.0, stays_on was mid books stays h.1)
+  put_behind (Err (Fault (Refused why))) a b was mid books old between new first_part stays h = absurd h
+  put_behind (Err (Fault Store)) a b was mid books old between new first_part stays h = (beginning_of_second old between new a b first_part h.0, stays_on was mid books stays h.1)
+  put_behind (Err (Fault Foreign)) a b was mid books old between new first_part stays h = absurd h
+  put_behind (Err Stopped) a b was mid books old between new first_part stays h = (beginning_of_second old between new a b first_part h.0, stays_on was mid books stays h.1)
+
+  -- a was not written whole
+  pub put_part : (X Y : Type 0) (fault : EachFault) (a b : List ℕ) (was books : Connected S) (old new : Option (List ℕ)) → Puts {X = X} g first acts a was books old new (Err fault)
+      → Puts {X = Y} g first acts (a ++ b) was books old new (Err fault)
+  put_part X Y (Fault (Refused why)) a b was books old new h = absurd h
+  put_part X Y (Fault Store) a b was books old new h = (beginning_of_first old new a b h.0, h.1)
+  put_part X Y (Fault Foreign) a b was books old new h = absurd h
+  put_part X Y Stopped a b was books old new h = (beginning_of_first old new a b h.0, h.1)
+
+  -- the end of a text, over books that are not asked any more
+  pub put_end : (r : Result Unit TextFault) (text : List ℕ) (books : Connected S) (old new : Option (List ℕ)) → HoldsBooks g first acts books → Writes r old new text
+      → Puts g first acts text books books old new (stopped_at r)
+  put_end (Ok done) text books old new holds written = (written, same_books books holds)
+  put_end (Err fault) text books old new holds written = (written, same_books books holds)
+
+  -- Records
+
+  module _ {K T : Type 0} (at : K → Option (List ℕ)) (line : T → List ℕ) (adds cuts : K → T → K → Type 0)
+      (added : (before : K) (x : T) (after : K) → adds before x after → Appends (at before) (at after) (line x))
+      (cut : (before : K) (x : T) (after : K) → cuts before x after → AppendsBeginning (at before) (at after) (line x)) where
+    pub lines_cut : (X : Type 0) (fault : EachFault) (xs : List T) (before after : K) (was books : Connected S) → Stays g first acts was books
+        → IsHanded g first acts adds cuts xs before after (Err fault) books → Puts {X = X} g first acts (flat_map line xs) was books (at before) (at after) (Err fault)
+    lines_cut X (Fault (Refused why)) xs before after was books stays h = absurd h.0
+    lines_cut X (Fault Store) xs before after was books stays h = (some_written at line adds cuts added cut before xs after h.0, stays)
+    lines_cut X (Fault Foreign) xs before after was books stays h = absurd h.0
+    lines_cut X Stopped xs before after was books stays h = (cut_written at line adds cuts added cut before xs after h.0, stays)
+
+  -- The whole
+
+  -- a text that is shown was written
+  pub told_by : {V : Type 0} (text : V → List ℕ) (shown : Result V Refusal) (view : V) (r : Result Unit EachFault) (was mid books : Connected S) (old new : Option (List ℕ)) → shown ≡ Ok view
+      → Stays g first acts was mid → Puts g first acts (text view) mid books old new r → Tells g first acts text shown was books old new r
+  told_by text shown view (Ok done) was mid books old new is stays h = (view, is, h.0, stays_on was mid books stays h.1)
+  told_by text shown view (Err (Fault (Refused why))) was mid books old new is stays h = absurd h
+  told_by text shown view (Err (Fault Store)) was mid books old new is stays h =
+      (subst (λ s. AppendsBeginning old new (shown_text text s)) (sym is) h.0, stays_on was mid books stays h.1)
+  told_by text shown view (Err (Fault Foreign)) was mid books old new is stays h = absurd h
+  told_by text shown view (Err Stopped) was mid books old new is stays h = (view, is, h.0, stays_on was mid books stays h.1)
+
+  -- nothing was written, since the head is refused, or could not be read
+  pub head_refused : {V H : Type 0} (text : V → List ℕ) (shown : Result V Refusal) (head : Result H Refusal) (fault : StoreFault) (was books : Connected S) (at : Option (List ℕ))
+      → ((why : Refusal) → head ≡ Err why → shown ≡ Err why) → IsShown g first acts head (Err fault) books → ((HoldsBooks g first acts books) → Stays g first acts was books)
+      → Tells g first acts text shown was books at at (Err (Fault fault))
+  head_refused text shown head (Refused why) was books at same h stays = (same why h.0, Appends-nil at, stays h.1)
+  head_refused text shown head Store was books at same h stays = (beginning_of_none at at (shown_text text shown) (Appends-nil at), stays h)
+  head_refused text shown head Foreign was books at same h stays = absurd h
+
+-- Cards
+
+module _ (first : ℤ) (acts : List Act) (l : LotId) where
+  card_refused_by : (shown : Result CardView Refusal) (why : Refusal) → head_of_card shown ≡ Err why → shown ≡ Err why
+  card_refused_by (Ok view) why e = absurd (let it = e in cc)
+  card_refused_by (Err other) why e = let same : other ≡ why = cc in ap (λ (x : Refusal). Err x) same
+
+  pub card_refused : (why : Refusal) → card_head_shown first acts l ≡ Err why → card_shown first acts l ≡ Err why
+  card_refused why = card_refused_by (card_shown first acts l) why
+
+  abbrev card_shows : CardView → Result CardView Refusal
+  card_shows v = Ok v
+
+  abbrev card_headed : ItemRow → ℤ → Result (ItemRow × ℤ) Refusal
+  card_headed item expiry = Ok (item, expiry)
+
+  item_of : {D : Type 0} → ItemRow → Result (ItemRow × D) Refusal → ItemRow
+  item_of item (Ok head) = head.0
+  item_of item (Err why) = item
+
+  day_of : {D : Type 0} → D → Result (ItemRow × D) Refusal → D
+  day_of day (Ok head) = head.1
+  day_of day (Err why) = day
+
+  card_of_known : (item row : ItemRow) (expiry : ℤ) (k : KnownLot) → l ≡ k.lot → card_headed item k.expiry ≡ card_headed row expiry
+      → card_shows (card_view first acts item k) ≡ card_shows (card_from first acts l row expiry)
+  unfolding item_of day_of
+  card_of_known item row expiry k same e =
+      subst (λ (m : LotId). card_shows (record { item = item; lot = m.lot; expiry = k.expiry; lines = card_of_lot first acts m; in_house = lot_units_in_house first acts m }) ≡ card_shows (card_from first acts l row expiry)) same
+      (ap (λ (i : ItemRow). card_shows (card_from first acts l i k.expiry)) (ap (item_of row) e) ∙ ap (λ d. card_shows (card_from first acts l row d)) (ap (day_of expiry) e))
+
+  card_at : (item : Option ItemRow) (known : Option KnownLot) (row : ItemRow) (expiry : ℤ) → ((k : KnownLot) → known ≡ Some k → l ≡ k.lot)
+      → head_of_card (if_known item UnknownItem (λ i. if_known known UnknownLot (λ k. Ok (card_view first acts i k)))) ≡ Ok (row, expiry)
+      → if_known item UnknownItem (λ i. if_known known UnknownLot (λ k. Ok (card_view first acts i k))) ≡ Ok (card_from first acts l row expiry)
+  card_at None known row expiry own e = absurd (let it = e in cc)
+  card_at (Some i) None row expiry own e = absurd (let it = e in cc)
+  card_at (Some i) (Some k) row expiry own e = card_of_known i row expiry k (own k refl) e
+
+  -- the card with the head that was read
+  pub card_with_head : (item : ItemRow) (expiry : ℤ) → card_head_shown first acts l ≡ Ok (item, expiry) → card_shown first acts l ≡ Ok (card_from first acts l item expiry)
+  card_with_head item expiry = card_at (item_row acts l.gtin) (lot_known acts l) item expiry (λ k. found_lot l (lots acts) k)
+
+  -- the start, the lines and the end are the card
+  pub card_whole : (item : ItemRow) (expiry : ℤ) (n : ℕ) → n ≡ 0
+      → card_start item l.lot expiry ++ (flat_map card_line (card_of_lot first acts l) ++ card_end (rest_after n (card_of_lot first acts l))) ≡ card_text (card_from first acts l item expiry)
+  card_whole item expiry n none =
+      let lines = card_of_lot first acts l in
+      sym (append_assoc (card_start item l.lot expiry) (flat_map card_line lines) (card_end (rest_after n lines)))
+      ∙ ap (λ m. card_start item l.lot expiry ++ flat_map card_line lines ++ card_end m) (ap (λ m. rest_after m lines) none ∙ last_line_tells_units first acts l)
+
+  -- Notices
+
+  notice_refused_by : (shown : Result NoticeView Refusal) (why : Refusal) → head_of_notice shown ≡ Err why → shown ≡ Err why
+  notice_refused_by (Ok view) why e = absurd (let it = e in cc)
+  notice_refused_by (Err other) why e = let same : other ≡ why = cc in ap (λ (x : Refusal). Err x) same
+
+  pub notice_refused : (why : Refusal) → notice_head_shown first acts l ≡ Err why → notice_shown first acts l ≡ Err why
+  notice_refused why = notice_refused_by (notice_shown first acts l) why
+
+  abbrev notice_shows : NoticeView → Result NoticeView Refusal
+  notice_shows v = Ok v
+
+  notice_by : (shown : Result NoticeView Refusal) (row : ItemRow) (expiry : Option ℤ) → ((view : NoticeView) → shown ≡ Ok view → view ≡ notice_from first acts l view.item view.expiry)
+      → head_of_notice shown ≡ Ok (row, expiry) → shown ≡ Ok (notice_from first acts l row expiry)
+  unfolding item_of day_of
+  notice_by (Err why) row expiry own e = absurd (let it = e in cc)
+  notice_by (Ok view) row expiry own e =
+      ap notice_shows (own view refl) ∙ ap (λ (i : ItemRow). notice_shows (notice_from first acts l i view.expiry)) (ap (item_of row) e)
+      ∙ ap (λ (d : Option ℤ). notice_shows (notice_from first acts l row d)) (ap (day_of expiry) e)
+
+  notice_own : (item : Option ItemRow) (recalled : Bool) (view : NoticeView) → if_known item UnknownItem (λ i. if recalled then Ok (notice_view first acts i l) else Err NoNotice) ≡ Ok view
+      → view ≡ notice_from first acts l view.item view.expiry
+  notice_own None recalled view e = absurd (let it = e in cc)
+  notice_own (Some i) false view e = absurd (let it = e in cc)
+  notice_own (Some i) true view e =
+      let same : notice_view first acts i l ≡ view = cc in
+      subst (λ (v : NoticeView). v ≡ notice_from first acts l v.item v.expiry) same refl
+
+  -- the notice with the head that was read
+  pub notice_with_head : (item : ItemRow) (expiry : Option ℤ) → notice_head_shown first acts l ≡ Ok (item, expiry) → notice_shown first acts l ≡ Ok (notice_from first acts l item expiry)
+  notice_with_head item expiry = notice_by (notice_shown first acts l) item expiry (notice_own (item_row acts l.gtin) (is_recalled acts l))
+
+  -- the start, the bins, the shipments and the end are the notice
+  pub notice_whole : (item : ItemRow) (expiry : Option ℤ) (t : Totals) → t ≡ record { in_bins = 0; shipped = 0 }
+      → notice_start item l.lot expiry ++ (flat_map bin_line (bins_of_lot first acts l) ++ (flat_map shipment_line (shipments_of_lot first acts l)
+          ++ notice_end (t.in_bins + total (λ u. u.qty) (bins_of_lot first acts l)) (t.shipped + total (λ s. s.qty) (shipments_of_lot first acts l))))
+      ≡ notice_text (notice_from first acts l item expiry)
+  notice_whole item expiry t none =
+      let head = notice_start item l.lot expiry in
+      let b = flat_map bin_line (bins_of_lot first acts l) in
+      let s = flat_map shipment_line (shipments_of_lot first acts l) in
+      let n = total (λ u. u.qty) (bins_of_lot first acts l) in
+      let m = total (λ x. x.qty) (shipments_of_lot first acts l) in
+      let end = notice_end (t.in_bins + n) (t.shipped + m) in
+      sym (append_assoc head b (s ++ end)) ∙ sym (append_assoc (head ++ b) s end)
+      ∙ ap (λ (x : Totals). head ++ b ++ s ++ notice_end (x.in_bins + n) (x.shipped + m)) none
+      ∙ ap (λ k. head ++ b ++ s ++ notice_end k (0 + m)) (zero-add n) ∙ ap (λ k. head ++ b ++ s ++ notice_end n k) (zero-add m)

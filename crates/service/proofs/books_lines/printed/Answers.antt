@@ -1,0 +1,6 @@
+use Rattle.service.proofs.books_lines.printed.Goals as goal
+
+pub returns-in-Ok-clause-printed : goal.returns-in-Ok-clause-printed
+returns-in-Ok-clause-printed g c clean first acts history rows =
+    let held = c.in-Ok.ensures.books (c.print_books.ensures.clean clean) first acts history rows in
+    c.print_books.ensures.printed clean first acts history held.0

@@ -1,0 +1,25 @@
+-- What printing a text of a lot comes to.
+use Rattle.std.specs.Prelude.{◌≡◌, ℕ, List, Option, Result, Ok, Err, ℤ}
+use Rattle.sqlite_trees.specs.declared.store.Store.{Ghosts}
+use Rattle.commands.specs.declared.refusal.Refusal.{Refusal}
+use Rattle.machine.specs.Acts.{Act}
+use Rattle.store.specs.Connected.{Connected}
+use Rattle.store.specs.declared.fault.Fault.TheVariants as books
+use Rattle.store.specs.declared.each_fault.EachFault.{EachFault}
+use Rattle.store.specs.declared.each_fault.EachFault.TheVariants as each
+use Rattle.house.specs.LotTexts.{Tells}
+use Rattle.command_line.specs.declared.fault.Fault.{Fault}
+use Rattle.command_line.specs.declared.fault.Fault.TheVariants.{Refused, Io, Store, Foreign}
+
+-- how the writing of a text went, as the line tells it
+abbrev pub told_as : Result Unit EachFault → Result Unit Fault
+told_as (Ok done) = Ok done
+told_as (Err (each.Fault (books.Refused why))) = Err (Refused why)
+told_as (Err (each.Fault books.Store)) = Err Store
+told_as (Err (each.Fault books.Foreign)) = Err Foreign
+told_as (Err each.Stopped) = Err Io
+
+-- the whole text of what is shown was printed, or it is refused and nothing was printed; or a beginning was printed, where memory,
+-- the disk or the output failed
+abbrev pub IsPrinted : {S V : Type 0} → Ghosts S → ℤ → List Act → (V → List ℕ) → Result V Refusal → (was books : Connected S) → (old new : Option (List ℕ)) → Result Unit Fault → Type 0
+IsPrinted g first acts text shown was books old new result = (end : Result Unit EachFault) × Tells g first acts text shown was books old new end × (result ≡ told_as end)
