@@ -43,7 +43,7 @@ GET /orders/S-1 => 200 {"customer":"Corner Shop","lines":[{"gtin":"0950600013435
 GET /orders/S-2 => 200 {"customer":"Harbour Cafe","lines":[{"gtin":"09506000134352","ordered":12,"reserved":[{"lot":"L2","qty":3},{"lot":"L1","qty":2}],"shipped":0,"short":7,"staged":[]}],"order":"S-2","state":"OPEN"}
 "#;
 
-// A bin has less of a lot than the books say.
+// A bin has less of a lot than the books say. The lot's card tells it once, though it is counted twice.
 pub(crate) static COUNTED: &str = r#"
 POST /counts {"key":"K-11","gtin":"04012345000023","lot":"L9","bin":"B-99","qty":8} => 409 {"code":"U01"}
 POST /counts {"key":"K-11","gtin":"09506000134352","lot":"L9","bin":"B-99","qty":8} => 409 {"code":"U02"}
@@ -54,6 +54,7 @@ GET /orders/S-2 => 200 {"customer":"Harbour Cafe","lines":[{"gtin":"095060001343
 POST /counts {"key":"K-11","gtin":"09506000134352","lot":"L2","bin":"A-01","qty":8} => 200 {"act":11,"change":-2}
 POST /counts {"key":"K-11","gtin":"09506000134352","lot":"L2","bin":"A-01","qty":9} => 409 {"code":"K01"}
 POST /counts {"key":"K-12","gtin":"09506000134352","lot":"L2","bin":"A-01","qty":8} => 200 {"act":12,"change":0}
+GET /cards/09506000134352/L2 => 200 |STOCK CARD 09506000134352 Oat drink|LOT L2 EXPIRY 2026-05-31|            7 2026-05-04 RECEIPT  D-1/2                              10         10|           11 2026-05-04 WRITEOFF A-01                               -2          8|IN HOUSE 8
 GET /orders/S-1 => 200 {"customer":"Corner Shop","lines":[{"gtin":"09506000134352","ordered":12,"reserved":[{"lot":"L0","qty":5},{"lot":"L2","qty":7}],"shipped":0,"short":0,"staged":[]}],"order":"S-1","state":"OPEN"}
 GET /orders/S-2 => 200 {"customer":"Harbour Cafe","lines":[{"gtin":"09506000134352","ordered":12,"reserved":[{"lot":"L2","qty":1},{"lot":"L1","qty":10}],"shipped":0,"short":1,"staged":[]}],"order":"S-2","state":"OPEN"}
 POST /counts {"key":"K-13","gtin":"09506000134352","lot":"L1","bin":"A-01","qty":0} => 200 {"act":13,"change":-10}
@@ -111,13 +112,22 @@ GET /orders/S-1 => 200 {"customer":"Corner Shop","lines":[{"gtin":"0950600013435
 GET /orders/S-2 => 200 {"customer":"Harbour Cafe","lines":[{"gtin":"09506000134352","ordered":12,"reserved":[{"lot":"L1","qty":8}],"shipped":0,"short":4,"staged":[]}],"order":"S-2","state":"OPEN"}
 "#;
 
-// A recall names a lot that was never received.
+// A recall names a lot that was never received; another has a slash in its number.
 pub(crate) static NEVER_RECEIVED: &str = r#"
 POST /recalls {"key":"K-11","gtin":"04012345000016","lot":"Z9"} => 200 {"act":6,"returned":0}
 POST /receipts {"delivery":"D-1","line":1,"label":"01040123450000161726123110Z9","bin":"A-01","qty":10} => 409 {"code":"S01"}
 POST /recalls {"key":"K-12","gtin":"04012345000016","lot":"Z9"} => 409 {"code":"S05"}
 POST /holds {"key":"K-12","gtin":"04012345000016","lot":"Z9"} => 409 {"code":"U03"}
 POST /releases {"key":"K-12","gtin":"04012345000016","lot":"Z9"} => 409 {"code":"U03"}
+GET /notices/04012345000016/Z9 => 200 |RECALL NOTICE 04012345000016 Rye bread|LOT Z9 EXPIRY -|TOTAL BINS 0 SHIPPED 0
+GET /notices/04012345000016/Z8 => 404 {"code":"N01"}
+GET /cards/04012345000016/Z9 => 404 {"code":"U03"}
+POST /receipts {"delivery":"D-1","line":2,"label":"01040123450000161726123110A/B","bin":"A-01","qty":4} => 200 {"act":7}
+GET /cards/04012345000016/A%2FB => 200 |STOCK CARD 04012345000016 Rye bread|LOT A/B EXPIRY 2026-12-31|            7 2026-05-04 RECEIPT  D-1/2                               4          4|IN HOUSE 4
+GET /notices/04012345000016/A%2FB => 404 {"code":"N01"}
+GET /cards/04012345000016/A/B => 404 {"code":"W06"}
+POST /recalls {"key":"K-12","gtin":"04012345000016","lot":"A/B"} => 200 {"act":8,"returned":0}
+GET /notices/04012345000016/A%2FB => 200 |RECALL NOTICE 04012345000016 Rye bread|LOT A/B EXPIRY 2026-12-31|BIN A-01 4|TOTAL BINS 4 SHIPPED 0
 "#;
 
 static LOT_MOVED: [Step; 1] = [Step::House(&[Asked::Each(Table::Moved)])];
