@@ -12,10 +12,10 @@ pub returns-clause-shown : goal.returns-clause-shown
 returns-clause-shown g c clean first acts history holds =
     let shown = card_shown first acts c.args.lot.now in
     let old = c.args.books.now in
-    let new = c.write_card.new.books in
-    let end = c.write_card.result.1 in
-    let written = c.write_card.result.0.items in
+    let new = c.write_card-text.new.books in
+    let end = c.write_card-text.result.1 in
+    let written = c.write_card-text.result.0.items in
     let bytes = bytes_of c.told.result in
     written_told g.S.Store first acts history card_text shown old new end written bytes
-    (subst (λ (none : List ℕ). Tells g.S.Store first acts card_text shown old new (Some none) (Some written) end) c.new.ensures.items (c.write_card.ensures.told clean first acts history holds))
+    (subst (λ (none : List ℕ). Tells g.S.Store first acts card_text shown old new (Some none) (Some written) end) c.new.ensures.items (c.write_card-text.ensures.told clean first acts history holds))
     (subst (λ asked. (bytes ≡ asked_answer asked) ⊎ (bytes ≡ no_memory)) c.text_of.ensures c.told.ensures.told)
