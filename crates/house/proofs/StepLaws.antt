@@ -15,7 +15,7 @@ use Rattle.commands.specs.declared.views.StockView.{StockView}
 use Rattle.machine.specs.Acts.{Act}
 use Rattle.machine.specs.Standing.{today}
 use Rattle.machine.specs.Once.{Outcome, Accepted, Repeated, Refused, outcome, appended, Tally, tally, file_outcome_of, acts_if_taken}
-use Rattle.machine.specs.Queries.{order_shown, short_shown, stock_shown}
+use Rattle.machine.specs.Queries.{order_shown, short_shown, stock_shown, card_shown, notice_shown}
 use Rattle.goodsin.specs.Files.{file_read}
 use Rattle.goodsin.specs.declared.fault.FileFault.{FileFault}
 use Rattle.goodsin.specs.declared.fault.FileFault.TheVariants as file
@@ -33,6 +33,8 @@ use Rattle.wire.specs.Shorts.{code_text, code_row_text, tally_text}
 use Rattle.wire.specs.declared.answer.Answer.TheVariants.{Order as OrderAnswer, Stock as StockAnswer, Text}
 use Rattle.texts.specs.PickList.{pick_list_text}
 use Rattle.texts.specs.Shortages.{shortages_text}
+use Rattle.texts.specs.Card.{card_text}
+use Rattle.texts.specs.Notice.{notice_text}
 use Rattle.house.specs.Answers.{status_of, short_answer, fault_answer, not_served, foreign_books, outcome_answer, is_served, act_answer, acts_with, Delivered, receipt, label_answer, scan_answer, acts_scanned, file_outcome_answer, file_fault_answer, file_answer, acts_filed, view_answer, query_answer, ask_answer, acts_asked, answer_of, acts_of}
 use Rattle.house.specs.Laws.{RefusedRequestsChangeNothing, BooksAreNeverForeign}
 
@@ -142,23 +144,18 @@ unfolding head_text digits
 stock_not_foreign (Ok view) = other (view_answer StockAnswer (Ok view)) 50 refl (lit< tt)
 stock_not_foreign (Err why) = other (view_answer StockAnswer (Err why)) 52 refl (lit< tt)
 
-pick_list_not_foreign : (r : Result OrderView Refusal) → view_answer (λ v. Text (pick_list_text v)) r ≢ foreign_books
+text_not_foreign : {V : Type 0} (text : V → List ℕ) (r : Result V Refusal) → view_answer (λ v. Text (text v)) r ≢ foreign_books
 unfolding head_text digits
-pick_list_not_foreign (Ok view) = other (view_answer (λ v. Text (pick_list_text v)) (Ok view)) 50 refl (lit< tt)
-pick_list_not_foreign (Err why) = other (view_answer (λ v. Text (pick_list_text v)) (Err why)) 52 refl (lit< tt)
-
-shortages_not_foreign : (r : Result ShortView Refusal) → view_answer (λ v. Text (shortages_text v)) r ≢ foreign_books
-unfolding head_text digits
-shortages_not_foreign (Ok view) = other (view_answer (λ v. Text (shortages_text v)) (Ok view)) 50 refl (lit< tt)
-shortages_not_foreign (Err why) = other (view_answer (λ v. Text (shortages_text v)) (Err why)) 52 refl (lit< tt)
+text_not_foreign text (Ok view) = other (view_answer (λ v. Text (text v)) (Ok view)) 50 refl (lit< tt)
+text_not_foreign text (Err why) = other (view_answer (λ v. Text (text v)) (Err why)) 52 refl (lit< tt)
 
 query_not_foreign : (first : ℤ) (acts : List Act) (q : Query) → query_answer first acts q ≢ foreign_books
 query_not_foreign first acts (Order order) = order_not_foreign (order_shown first acts order)
 query_not_foreign first acts (Stock gtin) = stock_not_foreign (stock_shown first acts gtin)
-query_not_foreign first acts (PickList order) = pick_list_not_foreign (order_shown first acts order)
-query_not_foreign first acts (Shortages gtin) = shortages_not_foreign (short_shown first acts gtin)
-query_not_foreign first acts (Card lot) = fault_not_foreign Path
-query_not_foreign first acts (Notice lot) = fault_not_foreign Path
+query_not_foreign first acts (PickList order) = text_not_foreign pick_list_text (order_shown first acts order)
+query_not_foreign first acts (Shortages gtin) = text_not_foreign shortages_text (short_shown first acts gtin)
+query_not_foreign first acts (Card lot) = text_not_foreign card_text (card_shown first acts lot)
+query_not_foreign first acts (Notice lot) = text_not_foreign notice_text (notice_shown first acts lot)
 
 taken_not_foreign : (t : Tally) (o : Option (ℕ × Refusal)) → file_outcome_answer (file_outcome_of t o) ≢ foreign_books
 taken_not_foreign t None = ok_not_foreign (tally_text t.accepted t.repeated)
