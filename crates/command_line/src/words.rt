@@ -6,13 +6,26 @@ use std::convert::AsStr;
 #[derive(Clone, Copy)]
 pub enum Line<'a> {
     /// `lotd label --day DATE TEXT`: what the label TEXT says on that business day.
-    Label { day: &'a str, text: &'a str },
+    Label {
+        day: &'a str,
+        text: &'a str,
+    },
     /// `lotd init --db PATH --day DATE`: makes books in the file PATH that begin on that business day.
-    Init { db: &'a str, day: &'a str },
+    Init {
+        db: &'a str,
+        day: &'a str,
+    },
     /// `lotd serve --db PATH --port N --max M`: answers M connections to the port N of 127.0.0.1.
-    Serve { db: &'a str, port: u16, max: u32 },
+    Serve {
+        db: &'a str,
+        port: u16,
+        max: u32,
+    },
     /// `lotd import --db PATH FILE`: takes in the goods-in file FILE, all rows or none.
-    Import { db: &'a str, file: &'a str },
+    Import {
+        db: &'a str,
+        file: &'a str,
+    },
     /// `lotd card --db PATH GTIN LOT`: prints the stock card of the lot.
     Card {
         db: &'a str,

@@ -213,7 +213,7 @@ module _ (first : ℤ) (acts : List Act) (l : LotId) where
   -- the start, the bins, the shipments and the end are the notice
   pub notice_whole : (item : ItemRow) (expiry : Option ℤ) (t : Totals) → t ≡ record { in_bins = 0; shipped = 0 }
       → notice_start item l.lot expiry ++ (flat_map bin_line (bins_of_lot first acts l) ++ (flat_map shipment_line (shipments_of_lot first acts l)
-          ++ notice_end (t.in_bins + total (λ u. u.qty) (bins_of_lot first acts l)) (t.shipped + total (λ s. s.qty) (shipments_of_lot first acts l))))
+      ++ notice_end (t.in_bins + total (λ u. u.qty) (bins_of_lot first acts l)) (t.shipped + total (λ s. s.qty) (shipments_of_lot first acts l))))
       ≡ notice_text (notice_from first acts l item expiry)
   notice_whole item expiry t none =
       let head = notice_start item l.lot expiry in

@@ -66,7 +66,7 @@ fn put_card_rest<S: Alter, W: Write>(
     ensures clean { IsClean S.Store books.new → IsClean S.Store books.old }
     ensures put { IsClean S.Store books.new → (first : ℤ) (acts : List Act) → IsHistory first acts → HoldsBooks S.Store first acts books.old
         → Puts S.Store first acts (flat_map card_line (card_of_lot first acts lot.now) ++ card_end (rest_after text (card_of_lot first acts lot.now))) books.old books.new
-            (W.contents out) (W.contents result.0) result.1 }
+        (W.contents out) (W.contents result.0) result.1 }
 {
     let (mut out, lined) = put_card_lines(books, lot, text, out);
     match lined {
@@ -145,8 +145,8 @@ fn put_notice_rest<S: Alter, W: Write>(
     ensures clean { IsClean S.Store books.new → IsClean S.Store books.old }
     ensures put { IsClean S.Store books.new → (first : ℤ) (acts : List Act) → IsHistory first acts → HoldsBooks S.Store first acts books.old
         → Puts S.Store first acts (flat_map bin_line (bins_of_lot first acts lot.now) ++ (flat_map shipment_line (shipments_of_lot first acts lot.now)
-            ++ notice_end (text.in_bins + total (λ u. u.qty) (bins_of_lot first acts lot.now)) (text.shipped + total (λ s. s.qty) (shipments_of_lot first acts lot.now)))) books.old books.new
-            (W.contents out) (W.contents result.0) result.1 }
+        ++ notice_end (text.in_bins + total (λ u. u.qty) (bins_of_lot first acts lot.now)) (text.shipped + total (λ s. s.qty) (shipments_of_lot first acts lot.now)))) books.old books.new
+        (W.contents out) (W.contents result.0) result.1 }
 {
     let (out, lined) = put_bins(books, lot, text, out);
     match lined {
@@ -165,7 +165,7 @@ fn put_notice_tail<S: Alter, W: Write>(
     ensures clean { IsClean S.Store books.new → IsClean S.Store books.old }
     ensures put { IsClean S.Store books.new → (first : ℤ) (acts : List Act) → IsHistory first acts → HoldsBooks S.Store first acts books.old
         → Puts S.Store first acts (flat_map shipment_line (shipments_of_lot first acts lot.now) ++ notice_end text.in_bins (text.shipped + total (λ s. s.qty) (shipments_of_lot first acts lot.now))) books.old books.new
-            (W.contents out) (W.contents result.0) result.1 }
+        (W.contents out) (W.contents result.0) result.1 }
 {
     let (mut out, lined) = put_shipments(books, lot, text, out);
     match lined {

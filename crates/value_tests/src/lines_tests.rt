@@ -410,7 +410,15 @@ static HANDED_ON: [Handed; 18] = [
         told: "lotd: N01\n",
     },
     Handed {
-        words: &["lotd", "notice", "--db", "stock.db", "--", "09506000134352", "-L2"],
+        words: &[
+            "lotd",
+            "notice",
+            "--db",
+            "stock.db",
+            "--",
+            "09506000134352",
+            "-L2",
+        ],
         to: Awaited {
             db: "stock.db",
             word: "09506000134352 -L2",
@@ -435,7 +443,14 @@ static HANDED_ON: [Handed; 18] = [
         told: "lotd: value\n",
     },
     Handed {
-        words: &["lotd", "notice", "--db", "stock.db", "09506000134352", "L 2"],
+        words: &[
+            "lotd",
+            "notice",
+            "--db",
+            "stock.db",
+            "09506000134352",
+            "L 2",
+        ],
         to: Awaited {
             db: "stock.db",
             word: "09506000134352 L 2",
@@ -447,7 +462,14 @@ static HANDED_ON: [Handed; 18] = [
         told: "lotd: value\n",
     },
     Handed {
-        words: &["lotd", "notice", "--db", "stock.db", "09506000134352", "ABCDEFGHIJKLMNOPQRSTU"],
+        words: &[
+            "lotd",
+            "notice",
+            "--db",
+            "stock.db",
+            "09506000134352",
+            "ABCDEFGHIJKLMNOPQRSTU",
+        ],
         to: Awaited {
             db: "stock.db",
             word: "09506000134352 ABCDEFGHIJKLMNOPQRSTU",
