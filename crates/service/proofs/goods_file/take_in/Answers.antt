@@ -1,13 +1,23 @@
-use Rattle.std.proofs.Common.{◌∙◌}
+use Rattle.std.proofs.Common.{◌≡◌, ◌∙◌, sym, subst}
+use Rattle.std.specs.Prelude.{All}
+use Rattle.goodsin.specs.Rows.{IsReceipt}
 use Rattle.house.proofs.FileTold.{receipts_have_keys}
+use Rattle.service.specs.Importing.{AreRead}
 use Rattle.service.proofs.Importing.{read_as, fault_as, taken_by}
 use Rattle.service.proofs.goods_file.take_in.Goals as goal
 
 pub returns-in-Ok-clause-taken : goal.returns-in-Ok-clause-taken
 returns-in-Ok-clause-taken g c clean first acts history holds =
-    let rows = c.in-Ok.rows in
-    let keys = receipts_have_keys rows c.in-Ok.ensures.kinds in
+    let from = g.R.Read.remaining c.args.file in
+    let rows = c.as_slice.result.now in
+    let same : rows ≡ c.in-Ok.rows = c.as_slice.ensures in
+    let keys = receipts_have_keys rows (subst (λ l. All IsReceipt l) (sym same) c.in-Ok.ensures.kinds) in
     let done = c.act_all-done.ensures in
-    taken_by g.S.Store first acts (g.R.Read.remaining c.args.file) c.act_all-done.new.self rows c.act_all-done.result c.told.result
-    (read_as g.S.Store first acts (g.R.Read.remaining c.args.file) _ rows (c.day-today.ensures.value ∙ holds.day) c.in-Ok.ensures.file)
+    let read = read_as g.S.Store first acts from _ c.in-Ok.rows (c.day-today.ensures.value ∙ holds.day) c.in-Ok.ensures.file in
+    taken_by g.S.Store first acts from c.act_all-done.new.self rows c.act_all-done.result c.told.result
+    (subst (λ l. AreRead g.S.Store first acts from l) (sym same) read)
     (done.history keys first acts history) (done.filed clean keys first acts history holds) c.told.ensures
+
+pub returns-in-Err-clause-taken : goal.returns-in-Err-clause-taken
+returns-in-Err-clause-taken g c clean first acts history holds =
+    (fault_as g.S.Store first acts (g.R.Read.remaining c.args.file) _ c.in-Err.fault (c.day-today.ensures.value ∙ holds.day) c.in-Err.ensures.file, holds)
