@@ -203,12 +203,12 @@ fn is_lot_word(lot: LotId, word: &str) -> bool {
 }
 
 impl Awaited {
-    fn is_this(&self, db: &str, work: Work<'_>) -> bool {
+    fn is_this(&self, db: &str, work: &Work<'_>) -> bool {
         let same = match work {
             Work::Make(day) => day.day().text().as_slice() == self.word.as_bytes(),
-            Work::Import { file } => file == self.word,
-            Work::Serve { port, max } => port == self.port && max == self.max,
-            Work::Card(lot) | Work::Notice(lot) => is_lot_word(lot, self.word),
+            Work::Import { file } => *file == self.word,
+            Work::Serve { port, max } => *port == self.port && *max == self.max,
+            Work::Card(lot) | Work::Notice(lot) => is_lot_word(*lot, self.word),
         };
         same && db == self.db
     }
@@ -230,7 +230,7 @@ impl BooksAt for Awaited {
     ghost ends = { λ _ _ _ _. Unit {0} };
 
     fn work<W: Write>(&self, db: &str, work: Work<'_>, out: &mut W) -> Result<(), Fault> {
-        if !self.is_this(db, work) {
+        if !self.is_this(db, &work) {
             return Err(Fault::Value);
         }
         let _ = out.write_all(b"worked\n");
