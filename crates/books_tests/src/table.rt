@@ -18,10 +18,7 @@ use crate::picking::{
 use crate::picking_rows::{
     PICKED_ROWS, RETURNED_ROWS, SHIPPED_ROWS, STOCK_TAKEN, STOCK_TAKEN_ROWS,
 };
-use crate::texts::{
-    COUNTED_TEXTS, NEVER_RECEIVED_TEXTS, PICK_LISTS, SHIPPED_TEXTS, SHORT_OF_FOUR, SHORT_OF_NINE,
-    SLASH_TEXTS,
-};
+use crate::texts::{PICK_LISTS, SHORT_OF_FOUR, SHORT_OF_NINE};
 use std::str::Lines;
 
 /// Exchanges: a line each, `METHOD PATH BODY => STATUS BODY` (`exchange` has the form).
@@ -54,10 +51,6 @@ pub(crate) enum Table {
     ShortOfFour,
     ShortOfNine,
     PickLists,
-    ShippedTexts,
-    CountedTexts,
-    NeverReceivedTexts,
-    SlashTexts,
     FilesRefused,
     Filed,
     FiledTwice,
@@ -103,10 +96,6 @@ impl Table {
             Table::ShortOfFour => SHORT_OF_FOUR,
             Table::ShortOfNine => SHORT_OF_NINE,
             Table::PickLists => PICK_LISTS,
-            Table::ShippedTexts => SHIPPED_TEXTS,
-            Table::CountedTexts => COUNTED_TEXTS,
-            Table::NeverReceivedTexts => NEVER_RECEIVED_TEXTS,
-            Table::SlashTexts => SLASH_TEXTS,
             Table::FilesRefused => FILES_REFUSED,
             Table::Filed => FILED,
             Table::FiledTwice => FILED_TWICE,
