@@ -151,7 +151,7 @@ fn silent<S: Alter + Drop>(
     host: &HostRuntime,
     rt: &impl Abort,
     conn: Connection<S>,
-    work: Work<'_>,
+    work: &Work<'_>,
     expected: &str,
 ) -> Connection<S> {
     let mut printed: Vec<u8> = Vec::new(host.alloc());
@@ -167,7 +167,7 @@ fn taken<S: Alter + Drop>(
     port: u16,
 ) -> Connection<S> {
     let listener = TcpListener::bind(host, ("127.0.0.1", port)).expect(rt, "a listener");
-    let conn = silent(host, rt, conn, Work::Serve { port, max: 1 }, "lotd: io\n");
+    let conn = silent(host, rt, conn, &Work::Serve { port, max: 1 }, "lotd: io\n");
     drop(listener);
     conn
 }
@@ -184,7 +184,13 @@ fn served<S: Alter + Drop>(
         told: Vec::new(host.alloc()),
         client: None,
     };
-    let found = worked(host, &OneFile, conn, Work::Serve { port, max: 1 }, &mut out);
+    let found = worked(
+        host,
+        &OneFile,
+        conn,
+        &Work::Serve { port, max: 1 },
+        &mut out,
+    );
     let told = format!(in host.alloc(); "listening on 127.0.0.1:{port}\n").ok();
     assert!(rt; out.told.as_slice() == told.expect(rt, "memory").as_str().as_bytes());
     is_answered(
@@ -205,13 +211,13 @@ pub(crate) fn lines_worked<S: Alter + Drop>(
     port: u16,
 ) -> Connection<S> {
     let day = business_day(rt, b"2026-05-04");
-    let conn = silent(host, rt, conn, Work::Make(day), "");
+    let conn = silent(host, rt, conn, &Work::Make(day), "");
     let conn = taken(host, rt, conn, port);
     let conn = served(host, rt, conn, port);
     let none = Work::Import { file: "none.csv" };
-    let conn = silent(host, rt, conn, none, "lotd: io\n");
+    let conn = silent(host, rt, conn, &none, "lotd: io\n");
     let goods = Work::Import { file: "goods.csv" };
-    silent(host, rt, conn, goods, "lotd: U01 row 1\n")
+    silent(host, rt, conn, &goods, "lotd: U01 row 1\n")
 }
 
 // A port that nobody has.

@@ -21,7 +21,7 @@ pub(crate) fn print_card<B: BooksAt, W: Write>(
     ensures { IsWithLot (B.ends books.now) db.now Card gtin.now lot.now result }
 {
     let lot = lot_named(gtin, lot)?;
-    books.work(db, Work::Card(lot), out)
+    books.work(db, &Work::Card(lot), out)
 }
 
 /// Has the recall notice of a lot printed. The GTIN and the lot are judged before the file is touched.
@@ -35,7 +35,7 @@ pub(crate) fn print_notice<B: BooksAt, W: Write>(
     ensures { IsWithLot (B.ends books.now) db.now Notice gtin.now lot.now result }
 {
     let lot = lot_named(gtin, lot)?;
-    books.work(db, Work::Notice(lot), out)
+    books.work(db, &Work::Notice(lot), out)
 }
 
 /// The lot that a GTIN and a LOT name.

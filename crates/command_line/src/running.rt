@@ -51,8 +51,8 @@ pub trait BooksAt {
     ghost ends: { Self → List ℕ → Work → Result Unit Fault → Type 0 };
 
     /// Does the work with the books in the file. What it prints goes to `out`.
-    fn work<W: Write>(&self, db: &str, work: Work<'_>, out: &mut W) -> Result<(), Fault>
-        ensures { ends self.now db.now work.entry result };
+    fn work<W: Write>(&self, db: &str, work: &Work<'_>, out: &mut W) -> Result<(), Fault>
+        ensures { ends self.now db.now work.now result };
 }
 
 /// Runs the line that the words are, the program's name first: what it prints goes to `out`, and a
@@ -91,8 +91,8 @@ fn end_line<'a, B: BooksAt, W: Write>(books: &B, line: Line<'a>, out: &mut W) ->
 {
     match line {
         Line::Init { db, day } => make_books(books, db, day, out),
-        Line::Serve { db, port, max } => books.work(db, Work::Serve { port, max }, out),
-        Line::Import { db, file } => books.work(db, Work::Import { file }, out),
+        Line::Serve { db, port, max } => books.work(db, &Work::Serve { port, max }, out),
+        Line::Import { db, file } => books.work(db, &Work::Import { file }, out),
         Line::Card { db, gtin, lot } => print_card(books, db, gtin, lot, out),
         Line::Notice { db, gtin, lot } => print_notice(books, db, gtin, lot, out),
         Line::Label { day, text } => print_label(day, text, out),
@@ -110,7 +110,7 @@ fn make_books<B: BooksAt, W: Write>(
     ensures { IsMade (B.ends books.now) db.now date.now result }
 {
     let day = first_day(date)?;
-    books.work(db, Work::Make(day), out)
+    books.work(db, &Work::Make(day), out)
 }
 
 /// Tells how a line ended, and gives its exit status.

@@ -19,7 +19,7 @@ impl BooksAt for InFiles<'_> {
     /// Only the making of books makes a file: where there is none, any other work is `Store` and leaves nothing behind.
     /// What the log still holds is copied into the file at the end, also where the port cannot be had.
     // The one function over the connection's own type: each costs the proof as much as all else here.
-    fn work<W: Write>(&self, db: &str, work: Work<'_>, out: &mut W) -> Result<(), Fault> {
+    fn work<W: Write>(&self, db: &str, work: &Work<'_>, out: &mut W) -> Result<(), Fault> {
         if !may_open(self.rt, db, work) {
             return Err(Fault::Store);
         }
@@ -42,7 +42,7 @@ impl FilesAt for InFiles<'_> {
 }
 
 // To open a file that is not there makes it.
-fn may_open(rt: &HostRuntime, db: &str, work: Work<'_>) -> bool {
+fn may_open(rt: &HostRuntime, db: &str, work: &Work<'_>) -> bool {
     matches!(work, Work::Make(_)) || fs::exists(rt, db).unwrap_or(false)
 }
 

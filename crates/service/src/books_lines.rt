@@ -37,20 +37,20 @@ pub fn worked<S: Alter + Drop, F: FilesAt, W: Write>(
     rt: &HostRuntime,
     files: &F,
     conn: Connection<S>,
-    work: Work<'_>,
+    work: &Work<'_>,
     out: &mut W,
 ) -> Result<Worked<S>, Fault>
-    ensures worked { IfOk result (λ w. HasCleanDisk (state S.Store w.0) → IsWorked S.Store conn work.entry w.0) }
-    ensures judged { IsJudged S.Store conn work.entry result }
+    ensures worked { IfOk result (λ w. HasCleanDisk (state S.Store w.0) → IsWorked S.Store conn work.now w.0) }
+    ensures judged { IsJudged S.Store conn work.now result }
     ensures within { conn.in_transaction ≡ true → IsErrOf result Fault.Store }
     ensures fault { IfErr result (λ fault. (fault ≡ Fault.Store) ⊎ (fault ≡ Fault.Foreign)) }
 {
     match work {
-        Work::Make(day) => made(rt.alloc(), conn, day),
-        Work::Serve { port, max } => served(rt, conn, port, max, out),
-        Work::Import { file } => imported(rt.alloc(), files, conn, file, out),
-        Work::Card(lot) => printed(rt.alloc(), conn, Sheet::Card, &lot, out),
-        Work::Notice(lot) => printed(rt.alloc(), conn, Sheet::Notice, &lot, out),
+        Work::Make(day) => made(rt.alloc(), conn, *day),
+        Work::Serve { port, max } => served(rt, conn, *port, *max, out),
+        Work::Import { file } => imported(rt.alloc(), files, conn, *file, out),
+        Work::Card(lot) => printed(rt.alloc(), conn, Sheet::Card, lot, out),
+        Work::Notice(lot) => printed(rt.alloc(), conn, Sheet::Notice, lot, out),
     }
 }
 

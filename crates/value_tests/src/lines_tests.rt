@@ -16,7 +16,7 @@ struct NoBooks;
 impl BooksAt for NoBooks {
     ghost ends = { λ _ _ _ _. Unit {0} };
 
-    fn work<W: Write>(&self, _db: &str, _work: Work<'_>, _out: &mut W) -> Result<(), Fault> {
+    fn work<W: Write>(&self, _db: &str, _work: &Work<'_>, _out: &mut W) -> Result<(), Fault> {
         Err(Fault::Store)
     }
 }
@@ -229,8 +229,8 @@ impl Awaited {
 impl BooksAt for Awaited {
     ghost ends = { λ _ _ _ _. Unit {0} };
 
-    fn work<W: Write>(&self, db: &str, work: Work<'_>, out: &mut W) -> Result<(), Fault> {
-        if !self.is_this(db, &work) {
+    fn work<W: Write>(&self, db: &str, work: &Work<'_>, out: &mut W) -> Result<(), Fault> {
+        if !self.is_this(db, work) {
             return Err(Fault::Value);
         }
         let _ = out.write_all(b"worked\n");
