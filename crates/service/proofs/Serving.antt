@@ -1,12 +1,15 @@
 -- Books that go on by steps.
-use Rattle.std.proofs.Common.{◌≡◌, ℕ, ◌+◌, List, [], ◌∷◌, ◌++◌, length-append, refl, subst, sym, inl, inr, arith}
+use Rattle.std.proofs.Common.{◌≡◌, ℕ, ◌+◌, List, [], ◌∷◌, ◌++◌, length-append, refl, subst, sym, ◌∙◌, inl, inr, arith}
 use Rattle.std.specs.Prelude.{ℤ}
+use Rattle.std.specs.List.{AllByRecursion}
 use Rattle.sqlite_trees.specs.declared.store.Store.{Ghosts}
 use Rattle.sqlite_trees.specs.Tree.{Trees}
 use Rattle.sqlite.specs.Held.{Held, state}
 use Rattle.sqlite.specs.State.{State}
 use Rattle.machine.specs.Acts.{Act}
 use Rattle.machine.specs.Once.{IsHistory}
+use Rattle.table_words.proofs.StepLemmas.{tables_same, typed_same}
+use Rattle.table_words.specs.Schema.{the_tables}
 use Rattle.store.specs.Connected.{Connected}
 use Rattle.store.specs.Books.{AreRowsOf, HoldsBooks}
 use Rattle.house.specs.House.{RunsTo, LeavesBooks}
@@ -46,8 +49,11 @@ pub one_served : {S : Type 0} (g : Ghosts S) (first : ℤ) (acts : List Act) (n 
 one_served g first acts n was mid new r f = on_by g first acts n was mid new r (f r.runs.after r.runs.history r.runs.holds)
 
 -- books that were opened: a crash leaves the last commit, whose rows are those of the acts
-pub leaves_committed : (first : ℤ) (acts : List Act) (committed : Trees) (s : State) → ((db : Trees) → s.may_leave db → db ≡ committed) → AreRowsOf first acts committed → LeavesBooks first acts s
-leaves_committed first acts committed s only rows trees left = inl (subst (AreRowsOf first acts) (sym (only trees left)) rows)
+pub leaves_committed : (first : ℤ) (acts : List Act) (committed : Trees) (s : State) → ((db : Trees) → s.may_leave db → AllByRecursion (λ t. db t.tree ≡ committed t.tree) the_tables) → AreRowsOf first acts committed → LeavesBooks first acts s
+leaves_committed first acts committed s kept rows trees left = inl (record {
+  tables = tables_same committed trees (kept trees left) ∙ rows.tables;
+  typed = typed_same committed trees (kept trees left) rows.typed;
+})
 
 -- a connection that a house was closed over
 pub keeps_run : {S : Type 0} (g : Ghosts S) (first : ℤ) (acts : List Act) (max : ℕ) (was books : Connected S) (conn : Held S) → HasServed g first acts max was books → conn ≡ books.conn

@@ -200,11 +200,10 @@ fn print_sheet<S: Alter, W: Write>(
     ensures kept { IsClean S.Store books.new → (first : ℤ) (acts : List Act) → IsHistory first acts → HoldsBooks S.Store first acts books.old
         → HoldsBooks S.Store first acts books.new }
 {
-    let (_, end) = match sheet {
-        Sheet::Card => print_card(books, lot, out),
-        Sheet::Notice => print_notice(books, lot, out),
-    };
-    end
+    match sheet {
+        Sheet::Card => print_card(books, lot, out).1,
+        Sheet::Notice => print_notice(books, lot, out).1,
+    }
 }
 
 fn opened<S: Alter + Drop>(alloc: Global, conn: Connection<S>) -> Result<Books<S>, Fault>

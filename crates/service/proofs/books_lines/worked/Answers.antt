@@ -28,7 +28,7 @@ pub returns-in-Card-clause-judged : goal.returns-in-Card-clause-judged
 returns-in-Card-clause-judged g c = subst (λ w. IsJudged g.S.Store c.args.conn w c.printed.result) (sym c.in-Card.is) c.printed.ensures.other
 
 pub returns-in-Notice-clause-worked : goal.returns-in-Notice-clause-worked
-returns-in-Notice-clause-worked g c = subst (λ work. IfOk c.printed-2.result (λ w. HasCleanDisk (state g.S.Store w.0) → IsWorked g.S.Store c.args.conn work w.0)) (sym c.in-Notice.is) c.printed-2.ensures.printed
+returns-in-Notice-clause-worked g c = subst (λ work. IfOk c.printed-in-Notice.result (λ w. HasCleanDisk (state g.S.Store w.0) → IsWorked g.S.Store c.args.conn work w.0)) (sym c.in-Notice.is) c.printed-in-Notice.ensures.printed
 
 pub returns-in-Notice-clause-judged : goal.returns-in-Notice-clause-judged
-returns-in-Notice-clause-judged g c = subst (λ w. IsJudged g.S.Store c.args.conn w c.printed-2.result) (sym c.in-Notice.is) c.printed-2.ensures.other
+returns-in-Notice-clause-judged g c = subst (λ w. IsJudged g.S.Store c.args.conn w c.printed-in-Notice.result) (sym c.in-Notice.is) c.printed-in-Notice.ensures.other
