@@ -47,4 +47,4 @@ mod table;
 #[cfg(test)]
 mod table_rows;
 #[cfg(test)]
-mod texts;
+mod texts_told;

@@ -18,7 +18,7 @@ use crate::picking::{
 use crate::picking_rows::{
     PICKED_ROWS, RETURNED_ROWS, SHIPPED_ROWS, STOCK_TAKEN, STOCK_TAKEN_ROWS,
 };
-use crate::texts::{PICK_LISTS, SHORT_OF_FOUR, SHORT_OF_NINE};
+use crate::texts_told::{PICK_LISTS, SHORT_OF_FOUR, SHORT_OF_NINE};
 use std::str::Lines;
 
 /// Exchanges: a line each, `METHOD PATH BODY => STATUS BODY` (`exchange` has the form).
