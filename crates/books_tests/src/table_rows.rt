@@ -287,7 +287,7 @@ static LEFT: [(Counted, usize); 3] = [
     (Counted::Reserved, 0),
 ];
 
-fn counted<S: Alter>(
+fn count_of<S: Alter>(
     rt: &impl Abort,
     alloc: Global,
     tx: &mut Transaction<'_, S>,
@@ -311,7 +311,7 @@ fn counts<S: Alter>(
     rows: &[(Counted, usize)],
 ) {
     for (index, row) in rows.iter().enumerate() {
-        let found = counted(rt, alloc, tx, row.0);
+        let found = count_of(rt, alloc, tx, row.0);
         assert!(rt; found == row.1, "{found} rows at {index}");
     }
 }
