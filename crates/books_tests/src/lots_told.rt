@@ -43,7 +43,7 @@ struct Expecting {
     alike: bool,
 }
 
-fn expecting(records: &'static [Record], limit: usize) -> Expecting {
+fn wanting(records: &'static [Record], limit: usize) -> Expecting {
     Expecting {
         records,
         limit,
@@ -172,12 +172,12 @@ fn hands<S: Alter>(
     records: &'static [Record],
 ) {
     for limit in 0..records.len() {
-        let mut some = expecting(records, limit);
+        let mut some = wanting(records, limit);
         let stopped = handed(books, lot, each, &mut some);
         assert!(rt; stopped == Err(EachFault::Stopped));
         assert!(rt; some.alike && some.taken == limit);
     }
-    let mut all = expecting(records, usize::MAX);
+    let mut all = wanting(records, usize::MAX);
     let done = handed(books, lot, each, &mut all);
     assert!(rt; done == Ok(()));
     assert!(rt; all.alike && all.taken == records.len());
@@ -228,7 +228,7 @@ fn tells<S: Alter>(rt: &impl Abort, books: &mut Books<S>, told: &Told) {
 }
 
 /// The books tell all this of the lots.
-pub(crate) fn told<S: Alter + Drop>(
+pub(crate) fn tells_of_lots<S: Alter + Drop>(
     rt: &impl Abort,
     alloc: Global,
     conn: Connection<S>,

@@ -3,7 +3,7 @@
 use crate::acts::{Deed, done};
 use crate::asking::{Asked, answered_in_turn, house_asked, new_house_asked};
 use crate::filing::imported;
-use crate::lots_told::{Told, told};
+use crate::lots_told::{Told, tells_of_lots};
 use crate::opening::{made, not_made, not_opened, opened};
 use crate::order_rows::{gives, has_rows};
 use crate::table::{Left, Table};
@@ -99,7 +99,7 @@ fn take<S: Alter + Drop>(
         Step::InTurn(table) => answered_in_turn(rt, alloc, conn, table),
         Step::Import(text, printed, told) => imported(rt, alloc, conn, text, (printed, told)),
         Step::Deeds(deeds) => done(rt, alloc, conn, deeds),
-        Step::Lots(lots) => told(rt, alloc, conn, lots),
+        Step::Lots(lots) => tells_of_lots(rt, alloc, conn, lots),
         Step::OpenTables => is_schema(rt, alloc, conn),
         Step::OpenNoTables => is_no_schema(rt, alloc, conn),
         Step::On(on) => done_on(rt, alloc, conn, on),
