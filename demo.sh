@@ -50,7 +50,7 @@ jobs=$(nproc 2>/dev/null || echo 2)
 all=$(grep -c '^[a-z].*:' crates.txt)
 echo "> prove $all crates, $jobs at a time"
 { rt all check --jobs "$jobs" 2>&1 && echo "status 0" || echo "status 1"; } | tee "$room/proofs" | awk -v all="$all" '
-    /^== / { done += 1; print "  " $2 ", " done " of " all; fflush() }
+    /^== / && $2 != "summary" { done += 1; print "  " $2 ", " done " of " all; fflush() }
     /^status / { end = $2 }
     END { exit end }
 ' || { tail -40 "$room/proofs" >&2; exit 1; }

@@ -25,6 +25,8 @@ mod hostile;
 #[cfg(test)]
 mod limits;
 #[cfg(test)]
+mod lots_spread;
+#[cfg(test)]
 mod lots_told;
 #[cfg(test)]
 mod opening;

@@ -152,22 +152,22 @@ const INDEX_NAMES: &str =
 static INDEXES_MADE: [&[Step]; 2] = [
     &[
         Step::Make,
-        Step::On(On::Run("DROP INDEX shiplines_by_lot")),
+        Step::On(On::Run("DROP INDEX shiplines_of_lot")),
         Step::Open,
         Step::On(On::Gives(
             INDEX_NAMES,
-            "orders_by_state\nreserved_by_gtin\nshiplines_by_lot\nstaged_by_gtin\n",
+            "orders_by_state\nreserved_by_gtin\nshiplines_of_lot\nstaged_by_gtin\n",
         )),
         Step::On(On::Run("DROP INDEX orders_by_state")),
         Step::On(On::Run("DROP INDEX reserved_by_gtin")),
-        Step::On(On::Run("DROP INDEX shiplines_by_lot")),
+        Step::On(On::Run("DROP INDEX shiplines_of_lot")),
         Step::On(On::Run("DROP INDEX staged_by_gtin")),
     ],
     &[
         Step::Open,
         Step::On(On::Gives(
             INDEX_NAMES,
-            "orders_by_state\nreserved_by_gtin\nshiplines_by_lot\nstaged_by_gtin\n",
+            "orders_by_state\nreserved_by_gtin\nshiplines_of_lot\nstaged_by_gtin\n",
         )),
         Step::On(META),
         Step::On(BINS),

@@ -1,13 +1,13 @@
 //! The table `cards`.
 
-ghost use Rattle.std.specs.Prelude.{◌≡◌, ◌≢◌, ◌≤◌, ◌<◌, true, false, List, [], ◌∷◌, pos, OnOk, IfOk, IfErr};
+ghost use Rattle.std.specs.Prelude.{◌≡◌, ◌≢◌, ◌≤◌, ◌<◌, true, false, List, [], ◌∷◌, pos, OnOk, OnErr, IfOk, IfErr};
 ghost use Rattle.std.specs.List.{AllByRecursion};
 ghost use Rattle.sqlite.specs.State.{HasCleanDisk, Survives, KeepsCommit, IsUnchanged};
 ghost use Rattle.sqlite.specs.Held.{state};
 ghost use Rattle.sqlite.specs.Values.{bound};
 ghost use Rattle.sqlite_value.specs.declared.value.Value.TheVariants.{Int, Text as TextValue};
 ghost use Rattle.table_words.specs.Found.{AreRows};
-ghost use Rattle.table_words.specs.Steps.{IsReady, Goes, IsTooBig};
+ghost use Rattle.table_words.specs.Steps.{IsReady, Goes, ChangesNone, IsTooBig};
 ghost use Rattle.table_words.specs.Typed.{tables_in, AreTyped, same_lot_id, with_card, is_card, has_card, card_cells, card_key, same_card, CardKey, cards_of_lot_rows};
 ghost use Rattle.commands.specs.declared.rows.CardRow.{CardRow as CardRecord};
 ghost use Rattle.each_row.specs.Handed.{HandsOver, IsLeft};
@@ -62,6 +62,7 @@ pub fn put_card<S: Alter>(tx: &mut Transaction<'_, S>, row: &CardRow) -> Result<
     ensures same_reference { tx.new.conn.ghost_name ≡ tx.old.conn.ghost_name }
     ensures done { HasCleanDisk (state S.Store tx.new.conn.now) → IsReady (state S.Store tx.old.conn.now).now
         → OnOk result (Goes (with_card row.now) (state S.Store tx.old.conn.now) (state S.Store tx.new.conn.now)) }
+    ensures refused { HasCleanDisk (state S.Store tx.new.conn.now) → IsReady (state S.Store tx.old.conn.now).now → OnErr result (ChangesNone (state S.Store tx.old.conn.now) (state S.Store tx.new.conn.now)) }
     ensures kept { HasCleanDisk (state S.Store tx.new.conn.now) → KeepsCommit (state S.Store tx.old.conn.now) (state S.Store tx.new.conn.now) }
     ensures survives { Survives (state S.Store tx.old.conn.now) (state S.Store tx.new.conn.now) (λ _. ⊥) }
     ensures never_foreign { IfErr result (λ e. e ≢ Foreign) }
@@ -127,6 +128,7 @@ pub fn cards_of_lot<S: Alter>(
     ensures foreign { HasCleanDisk (state S.Store tx.new.conn.now) → IsReady (state S.Store tx.old.conn.now).now
         → IfErr result (λ e. e ≡ Foreign → ¬ AllByRecursion (λ r. is_card r ≡ true) (cards_of_lot_rows lot.now (state S.Store tx.old.conn.now).now.trees)) }
     ensures same { HasCleanDisk (state S.Store tx.new.conn.now) → IsReady (state S.Store tx.old.conn.now).now → OnOk result (IsUnchanged (state S.Store tx.old.conn.now) (state S.Store tx.new.conn.now)) }
+    ensures refused { HasCleanDisk (state S.Store tx.new.conn.now) → IsReady (state S.Store tx.old.conn.now).now → OnErr result (ChangesNone (state S.Store tx.old.conn.now) (state S.Store tx.new.conn.now)) }
     ensures kept { HasCleanDisk (state S.Store tx.new.conn.now) → IsReady (state S.Store tx.old.conn.now).now → KeepsCommit (state S.Store tx.old.conn.now) (state S.Store tx.new.conn.now) }
     ensures survives { Survives (state S.Store tx.old.conn.now) (state S.Store tx.new.conn.now) (λ _. ⊥) }
 {

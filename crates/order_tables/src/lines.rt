@@ -1,12 +1,12 @@
 //! The table `lines`.
 
-ghost use Rattle.std.specs.Prelude.{◌≡◌, ◌≢◌, ◌≤◌, ◌<◌, true, slice_get, OnOk, IfOk, IfErr, bytes_eq};
+ghost use Rattle.std.specs.Prelude.{◌≡◌, ◌≢◌, ◌≤◌, ◌<◌, true, slice_get, OnOk, OnErr, IfOk, IfErr, bytes_eq};
 ghost use Rattle.std.specs.List.{AllByRecursion};
 ghost use Rattle.sqlite.specs.State.{HasCleanDisk, Survives, KeepsCommit, IsUnchanged};
 ghost use Rattle.sqlite.specs.Held.{state};
 ghost use Rattle.sqlite.specs.Values.{bound};
 ghost use Rattle.table_words.specs.Found.{AreRows};
-ghost use Rattle.table_words.specs.Steps.{IsReady, Goes, IsTooBig};
+ghost use Rattle.table_words.specs.Steps.{IsReady, Goes, ChangesNone, IsTooBig};
 ghost use Rattle.table_words.specs.Typed.{tables_in, with_line, is_line, has_line, line_cells, line_key, same_line, LineKey, lines_of_order_rows, line_of_rows};
 ghost use Rattle.table_words.specs.declared.error.TableFault.TheVariants.{Foreign};
 
@@ -42,6 +42,7 @@ pub fn put_line<S: Alter>(tx: &mut Transaction<'_, S>, row: &LineRow) -> Result<
     ensures same_reference { tx.new.conn.ghost_name ≡ tx.old.conn.ghost_name }
     ensures done { HasCleanDisk (state S.Store tx.new.conn.now) → IsReady (state S.Store tx.old.conn.now).now
         → OnOk result (Goes (with_line row.now) (state S.Store tx.old.conn.now) (state S.Store tx.new.conn.now)) }
+    ensures refused { HasCleanDisk (state S.Store tx.new.conn.now) → IsReady (state S.Store tx.old.conn.now).now → OnErr result (ChangesNone (state S.Store tx.old.conn.now) (state S.Store tx.new.conn.now)) }
     ensures kept { HasCleanDisk (state S.Store tx.new.conn.now) → KeepsCommit (state S.Store tx.old.conn.now) (state S.Store tx.new.conn.now) }
     ensures survives { Survives (state S.Store tx.old.conn.now) (state S.Store tx.new.conn.now) (λ _. ⊥) }
     ensures never_foreign { IfErr result (λ e. e ≢ Foreign) }
@@ -105,6 +106,7 @@ pub fn lines_of_order<S: Alter>(
     ensures foreign { HasCleanDisk (state S.Store tx.new.conn.now) → IsReady (state S.Store tx.old.conn.now).now
         → IfErr result (λ e. e ≡ Foreign → ¬ AllByRecursion (λ r. is_line r ≡ true) (lines_of_order_rows order.now (state S.Store tx.old.conn.now).now.trees)) }
     ensures same { HasCleanDisk (state S.Store tx.new.conn.now) → IsReady (state S.Store tx.old.conn.now).now → OnOk result (IsUnchanged (state S.Store tx.old.conn.now) (state S.Store tx.new.conn.now)) }
+    ensures refused { HasCleanDisk (state S.Store tx.new.conn.now) → IsReady (state S.Store tx.old.conn.now).now → OnErr result (ChangesNone (state S.Store tx.old.conn.now) (state S.Store tx.new.conn.now)) }
     ensures kept { HasCleanDisk (state S.Store tx.new.conn.now) → IsReady (state S.Store tx.old.conn.now).now → KeepsCommit (state S.Store tx.old.conn.now) (state S.Store tx.new.conn.now) }
     ensures survives { Survives (state S.Store tx.old.conn.now) (state S.Store tx.new.conn.now) (λ _. ⊥) }
 {
@@ -126,6 +128,7 @@ pub fn line_of<S: Alter>(
     ensures foreign { HasCleanDisk (state S.Store tx.new.conn.now) → IsReady (state S.Store tx.old.conn.now).now
         → IfErr result (λ e. e ≡ Foreign → ¬ AllByRecursion (λ r. is_line r ≡ true) (line_of_rows order.now gtin.now (state S.Store tx.old.conn.now).now.trees)) }
     ensures same { HasCleanDisk (state S.Store tx.new.conn.now) → IsReady (state S.Store tx.old.conn.now).now → OnOk result (IsUnchanged (state S.Store tx.old.conn.now) (state S.Store tx.new.conn.now)) }
+    ensures refused { HasCleanDisk (state S.Store tx.new.conn.now) → IsReady (state S.Store tx.old.conn.now).now → OnErr result (ChangesNone (state S.Store tx.old.conn.now) (state S.Store tx.new.conn.now)) }
     ensures kept { HasCleanDisk (state S.Store tx.new.conn.now) → IsReady (state S.Store tx.old.conn.now).now → KeepsCommit (state S.Store tx.old.conn.now) (state S.Store tx.new.conn.now) }
     ensures survives { Survives (state S.Store tx.old.conn.now) (state S.Store tx.new.conn.now) (λ _. ⊥) }
 {

@@ -138,7 +138,7 @@ const NEARLY_FULL: Sample = Sample {
     ..OATS_ALONE
 };
 
-static RECEIVING: [Worked; 5] = [
+static RECEIVING: [Worked; 7] = [
     Worked {
         before: OATS_ALONE,
         told: Told::Receive("D-1", 1, "L1", "2026-06-30", 10),
@@ -156,6 +156,28 @@ static RECEIVING: [Worked; 5] = [
             put stock 09506000134352 L2 A-01 10\n\
             put card 09506000134352 L2 7 2026-05-04 RECEIPT D-1/2 10 10\n\
             {\"act\":7}",
+    },
+    // A lot that expires with another and came later goes between two lots. What ends before it stays.
+    Worked {
+        before: THREE_LOTS,
+        told: Told::Receive("D-3", 1, "K3", "2026-05-31", 7),
+        changes: b"meta 2026-05-04 11 0\n\
+            put lot 09506000134352 K3 2026-05-31 11 free\n\
+            put stock 09506000134352 K3 A-01 7\n\
+            put card 09506000134352 K3 11 2026-05-04 RECEIPT D-3/1 7 7\n\
+            put reserved S-2 09506000134352 K3 7\n\
+            put reserved S-2 09506000134352 L1 2\n\
+            {\"act\":11}",
+    },
+    // A lot behind all that is reserved changes no reservation.
+    Worked {
+        before: THREE_LOTS,
+        told: Told::Receive("D-3", 1, "L3", "2026-07-31", 7),
+        changes: b"meta 2026-05-04 11 0\n\
+            put lot 09506000134352 L3 2026-07-31 11 free\n\
+            put stock 09506000134352 L3 A-01 7\n\
+            put card 09506000134352 L3 11 2026-05-04 RECEIPT D-3/1 7 7\n\
+            {\"act\":11}",
     },
     // A lot that expires sooner is reserved first.
     Worked {

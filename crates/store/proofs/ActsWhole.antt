@@ -131,12 +131,16 @@ module _ (act : Act) (old begun last new : State) (is : begun ≡ record old { i
   pub stop_before_commit : Survives begun last (λ _. ⊥) → Survives last new (λ _. ⊥) → SurvivesWhole act old new
   stop_before_commit before ends = survives_weaker old new (λ _. ⊥) _ (λ _ db none. absurd none) (inside_then old last new (inside_then old begun last (begun_survives old begun is) before) ends)
 
--- of tables of whatever origin: where there is no answer, nothing is committed
+-- of tables of whatever origin: nothing is committed
+abbrev pub LooksOnly : State → State → Type 0
+LooksOnly old new = HasCleanDisk new → IsReady old.now → KeepsCommit old new
+
+-- the same where there is no answer
 abbrev pub KeptWhole : Result Reply Fault → State → State → Type 0
 KeptWhole r old new = HasCleanDisk new → IsReady old.now → OnErr r (KeepsCommit old new)
 
 module _ (old begun last new : State) (is : begun ≡ record old { in_transaction = true }) where
-  begun_commit : KeepsCommit old begun
+  pub begun_commit : KeepsCommit old begun
   begun_commit = subst (λ (s : State). KeepsCommit old s) (sym is) (record { was_open = λ up. up; committed = λ up. refl })
 
   ready_begun : IsReady old.now → IsTrue begun.is_open → IsReady begun.now
@@ -145,9 +149,12 @@ module _ (old begun last new : State) (is : begun ≡ record old { in_transactio
   commit_kept : KeepsInside begun last → IsReady old.now → HasCleanDisk last → KeepsCommit last new → KeepsCommit old new
   commit_kept keeps ready was ends = kept_then old last new (kept_then old begun last begun_commit (keeps was (ready_begun ready))) ends
 
+  pub undone_kept : KeepsInside begun last → Survives last new (λ _. ⊥) → (HasCleanDisk new → IsRolledBack last new) → LooksOnly old new
+  undone_kept keeps ends undone clean ready = commit_kept keeps ready (omega (arith, clean, ends.clean)) (kept_undone last new (undone clean))
+
   pub kept_if_undone : (r : Result Reply Fault) → KeepsInside begun last → Survives last new (λ _. ⊥) → (HasCleanDisk new → IsRolledBack last new)
       → KeptWhole r old new
-  kept_if_undone r keeps ends undone clean ready = on_err r (commit_kept keeps ready (omega (arith, clean, ends.clean)) (kept_undone last new (undone clean)))
+  kept_if_undone r keeps ends undone clean ready = on_err r (undone_kept keeps ends undone clean ready)
 
   failed_commit_kept : (e : Error) → FailsToCommit last new e → KeepsCommit last new
   failed_commit_kept e (inl fails) = kept_undone last new fails.3

@@ -5,7 +5,7 @@ use Rattle.sqlite_trees.specs.Tree.{Trees}
 use Rattle.sqlite_trees.specs.declared.store.Store.{Ghosts}
 use Rattle.sqlite.specs.Held.{Held, state}
 use Rattle.sqlite.specs.Effect.{Database}
-use Rattle.sqlite.specs.State.{State, HasCleanDisk, Survives, IsUnchanged, IsRolledBack, IsNotRun}
+use Rattle.sqlite.specs.State.{State, HasCleanDisk, KeepsCommit, Survives, IsUnchanged, IsRolledBack, IsNotRun}
 use Rattle.sqlite_value.specs.Order.{Row}
 use Rattle.sqlite.specs.declared.error.Error.{Error}
 use Rattle.sqlite.proofs.StateLemmas.{survives_then, survives_weaker}
@@ -13,12 +13,13 @@ use Rattle.commands.specs.Sinks.{ReachesWithin}
 use Rattle.machine.specs.Acts.{Act}
 use Rattle.machine.specs.Once.{IsHistory}
 use Rattle.table_words.specs.Steps.{IsReady}
+use Rattle.table_words.proofs.CallLemmas.{kept_itself, kept_unchanged, kept_undone, kept_then}
 use Rattle.table_words.specs.declared.error.TableFault.TheVariants as table
 use Rattle.slices.specs.Books.{IsBooksOf}
 use Rattle.each_row.specs.declared.fault.EachFault.{EachFault as RowsFault}
 use Rattle.each_row.specs.declared.fault.EachFault.TheVariants as rows
 use Rattle.each_row.specs.Handed.{HandsOver, IsLeft}
-use Rattle.store.specs.Books.{KeepsBooks}
+use Rattle.store.specs.Books.{KeepsBooks, IsSettled}
 use Rattle.store.specs.EachFaults.{each_fault_of}
 use Rattle.store.specs.Handing.{IsHandedOn, NoBooks}
 use Rattle.store.specs.declared.fault.Fault.TheVariants.{Store}
@@ -83,3 +84,53 @@ pub never_commits_later : (old mid new : State) → Survives old mid (NoBooks ol
     → Survives old new (NoBooks old)
 never_commits_later old mid new one two keeps =
     survives_then old mid new _ _ (NoBooks old) (λ clean db none. none) (λ clean db none first acts history held. none first acts history (keeps (omega (arith, clean, two.clean)) first acts history held)) one two
+
+-- ---- the same on tables of whatever origin
+
+-- what changes nothing, or goes back to the last commit, commits nothing
+pub left_kept : (old new : State) → IsUnchanged old new ⊎ IsRolledBack old new → KeepsCommit old new
+left_kept old new (inl same) = kept_unchanged old new same
+left_kept old new (inr back) = kept_undone old new back
+
+left_or_undone : (mid new : State) (r : Result (Unit {0}) RowsFault) → IsLeft mid new r → IsUnchanged mid new ⊎ IsRolledBack mid new
+left_or_undone mid new (Ok all) left = inl left
+left_or_undone mid new (Err (rows.Fault fault)) left = left
+left_or_undone mid new (Err rows.Stopped) left = inl left
+
+pub handed_kept : (old mid new : State) (r : Result (Unit {0}) RowsFault) → IsReady old.now → IsUnchanged old mid → (IsReady mid.now → IsLeft mid new r) → KeepsCommit old new
+handed_kept old mid new r ready same left =
+    kept_then old mid new (kept_unchanged old mid same) (left_kept mid new (left_or_undone mid new r (left (subst IsReady (sym same.0.now_is) ready))))
+
+-- what commits nothing, and leaves the connection settled
+abbrev pub Stays : State → State → Type 0
+Stays old new = HasCleanDisk new → IsSettled old → KeepsCommit old new × IsSettled new
+
+pub stays_itself : (s : State) → Stays s s
+stays_itself s clean settled = (kept_itself s, settled)
+
+pub settled_back : (old last new : State) → IsSettled old → KeepsCommit old last → IsRolledBack last new → IsSettled new
+settled_back old last new at kept back = record {
+  ready = λ up. subst IsReady (sym (shows up)) (at.ready (kept.was_open (back.was_open up)));
+  settled = λ up. (back.undone up).1 ∙ sym (back.undone up).0;
+}
+  where
+    shows : IsTrue new.is_open → new.now ≡ old.now
+    shows up = (back.undone up).0 ∙ kept.committed (back.was_open up) ∙ at.settled (kept.was_open (back.was_open up))
+
+settled_same : (old new : State) → IsSettled old → IsUnchanged old new → IsSettled new
+settled_same old new at same = record {
+  ready = λ up. subst IsReady (sym same.0.now_is) (at.ready same.0.was_open);
+  settled = λ up. same.0.committed_is ∙ at.settled same.0.was_open ∙ sym same.0.now_is;
+}
+
+pub left_stays : (old new : State) → IsUnchanged old new ⊎ IsRolledBack old new → IsSettled old → KeepsCommit old new × IsSettled new
+left_stays old new (inl same) at = (kept_unchanged old new same, settled_same old new at same)
+left_stays old new (inr back) at = (kept_undone old new back, settled_back old old new at (kept_itself old) back)
+
+pub moved_stays : {S : Type 0} (g : Ghosts S) (old new : Held S) → (new ≡ old) ⊎ (IsUnchanged (state g old) (state g new) ⊎ IsRolledBack (state g old) (state g new)) → IsSettled (state g old)
+    → KeepsCommit (state g old) (state g new) × IsSettled (state g new)
+moved_stays g old new (inl same) at = subst (λ h. KeepsCommit (state g old) (state g h) × IsSettled (state g h)) (sym same) (kept_itself (state g old), at)
+moved_stays g old new (inr left) at = left_stays (state g old) (state g new) left at
+
+pub stays_then : (a b c : State) → KeepsCommit a b × IsSettled b → (IsSettled b → KeepsCommit b c × IsSettled c) → KeepsCommit a c × IsSettled c
+stays_then a b c one two = let next = two one.1 in (kept_then a b c one.0 next.0, next.1)

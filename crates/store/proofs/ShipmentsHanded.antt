@@ -6,18 +6,15 @@ use Rattle.sqlite_keyed.proofs.ListLemmas.{all-filter, all-slice_get}
 use Rattle.values.specs.declared.lot.LotId.{LotId}
 use Rattle.commands.specs.Sinks.{Reaches, ReachesWithin, StopsWithin}
 use Rattle.commands.proofs.Handing.{reaches_one_more}
-use Rattle.commands.specs.declared.refusal.Refusal.{Refusal}
-use Rattle.commands.specs.declared.refusal.Refusal.TheVariants.{UnknownOrder}
 use Rattle.commands.specs.declared.rows.ShiplineRow.{ShiplineRow}
 use Rattle.commands.specs.declared.views.ShippedUnits.{ShippedUnits}
 use Rattle.machine.specs.Acts.{Act}
 use Rattle.machine.specs.Tables.{tables_of}
-use Rattle.machine.specs.Queries.{if_known}
 use Rattle.machine.specs.Views.{shipments_of_lot}
 use Rattle.machine.specs.Once.{IsHistory}
 use Rattle.slices.specs.Shipped.{units_told}
-use Rattle.store.specs.Shipments.{later_shipments, as_found, line_shown, shipped_shown}
-use Rattle.store.specs.Showing.{IsFoundAs, IsShownAs}
+use Rattle.store.specs.Shipments.{later_shipments, as_found, line_told, IsToldAs}
+use Rattle.store.specs.Showing.{IsFoundAs}
 use Rattle.table_words.specs.declared.error.TableFault.{TableFault}
 use Rattle.table_words.specs.declared.error.TableFault.TheVariants as table
 use Rattle.store.specs.Faults.{fault_of}
@@ -50,39 +47,32 @@ module _ (first : ℤ) (acts : List Act) (l : LotId) (history : IsHistory first 
   some_next row None e = absurd cc
   some_next row (Some u) e = (u, refl, (let is : line u ≡ row = cc in sym is))
 
-  -- what is shown of the line is the next one
-  pub next_shown : (row : Option ShiplineRow) (it : ShiplineRow) → row ≡ slice_get (map line later) 0 → row ≡ Some it → (u : ShippedUnits) × (slice_get later 0 ≡ Some u) × (shipped_shown first acts it ≡ Ok u)
-  next_shown row it is some =
+  -- what is told of the line is the next one
+  pub next_told : (row : Option ShiplineRow) (it : ShiplineRow) → row ≡ slice_get (map line later) 0 → row ≡ Some it → (u : ShippedUnits) × (slice_get later 0 ≡ Some u) × (units_told (tables_of first acts) it ≡ Some u)
+  next_told row it is some =
       let found = some_next it (slice_get later 0) (sym (first_mapped line later) ∙ sym is ∙ some) in
       let told = all-slice_get (λ (u : ShippedUnits). units_told (tables_of first acts) (line u) ≡ Some u) later 0 found.0 found.1
       (all-filter (λ (u : ShippedUnits). units_told (tables_of first acts) (line u) ≡ Some u) (λ (u : ShippedUnits). nat_lt n u.number) (shipments_of_lot first acts l) (units_all_told first acts l history)) in
-      (found.0, found.1, ap (λ (o : Option ShippedUnits). if_known o UnknownOrder (λ (u : ShippedUnits). let r : Result ShippedUnits Refusal = Ok u in r)) (ap (units_told (tables_of first acts)) found.2 ∙ told))
+      (found.0, found.1, ap (units_told (tables_of first acts)) found.2 ∙ told)
 
-  -- what is shown of the line that is found is the next one
-  pub next_is : (row : Option ShiplineRow) → row ≡ slice_get (map line later) 0 → line_shown first acts row ≡ Ok (slice_get later 0)
-  next_is None is = ap (λ (o : Option ShippedUnits). let r : Result (Option ShippedUnits) Refusal = Ok o in r) (next_none None is refl)
+  -- what is told of the line that is found is the next one
+  pub next_is : (row : Option ShiplineRow) → row ≡ slice_get (map line later) 0 → line_told first acts row ≡ Some (slice_get later 0)
+  next_is None is = ap (λ (o : Option ShippedUnits). Some o) (next_none None is refl)
   next_is (Some it) is =
-      let found = next_shown (Some it) it is refl in
-      ap as_found found.2 ∙ ap (λ (o : Option ShippedUnits). let r : Result (Option ShippedUnits) Refusal = Ok o in r) (sym found.1)
+      let found = next_told (Some it) it is refl in
+      ap as_found found.2 ∙ ap (λ (o : Option ShippedUnits). Some o) (sym found.1)
 
--- what is shown of what is told
-abbrev pub shown_told : Option ShippedUnits → Result ShippedUnits Refusal
-shown_told o = if_known o UnknownOrder (λ (u : ShippedUnits). Ok u)
+pub err_as_found : (known : Option ShippedUnits) (fault : Fault) → IsToldAs {X = ShippedUnits} known (Err fault) → IsToldAs {X = Option ShippedUnits} (as_found known) (Err fault)
+err_as_found known (Refused why) is = is
+err_as_found known Store is = tt
+err_as_found known Foreign is = ap as_found is
 
-pub shown_of : (first : ℤ) (acts : List Act) (line : ShiplineRow) (o : Option ShippedUnits) → o ≡ units_told (tables_of first acts) line → shipped_shown first acts line ≡ shown_told o
-shown_of first acts line o is = ap shown_told (sym is)
-
-pub err_as_found : (shown : Result ShippedUnits Refusal) (fault : Fault) → IsShownAs {V = ShippedUnits} shown (Err fault) → IsShownAs {V = Option ShippedUnits} (as_found shown) (Err fault)
-err_as_found shown (Refused why) is = ap as_found is
-err_as_found shown Store is = tt
-err_as_found shown Foreign is = is
-
--- what is shown of what is known is found
-pub found_next : (shown : Result (Option ShippedUnits) Refusal) (o : Option ShippedUnits) (r : Result (Option ShippedUnits) Fault) → shown ≡ Ok o → IsShownAs shown r → IsFoundAs (λ found. found ≡ o) r
-found_next shown o (Ok view) is e = let both : ◌≡◌ {A = Result (Option ShippedUnits) Refusal} (Ok o) (Ok view) = sym is ∙ e in let same : o ≡ view = cc in sym same
-found_next shown o (Err (Refused why)) is e = absurd (let both : ◌≡◌ {A = Result (Option ShippedUnits) Refusal} (Ok o) (Err why) = sym is ∙ e in cc)
-found_next shown o (Err Store) is e = refl
-found_next shown o (Err Foreign) is e = absurd e
+-- what is told of what is known is found
+pub found_next : (known : Option (Option ShippedUnits)) (o : Option ShippedUnits) (r : Result (Option ShippedUnits) Fault) → known ≡ Some o → IsToldAs known r → IsFoundAs (λ found. found ≡ o) r
+found_next known o (Ok view) is e = let both : ◌≡◌ {A = Option (Option ShippedUnits)} (Some o) (Some view) = sym is ∙ e in let same : o ≡ view = cc in sym same
+found_next known o (Err (Refused why)) is e = absurd e
+found_next known o (Err Store) is e = refl
+found_next known o (Err Foreign) is e = absurd (let both : ◌≡◌ {A = Option (Option ShippedUnits)} (Some o) None = sym is ∙ e in cc)
 
 -- a fault that is not of a foreign row
 pub store_fault : (fault : TableFault) → (fault ≡ table.Foreign → ⊥) → fault_of fault ≡ Store

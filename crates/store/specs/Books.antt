@@ -4,6 +4,7 @@ use Rattle.sqlite_trees.specs.declared.store.Store.{Ghosts}
 use Rattle.sqlite.specs.State.{State, HasCleanDisk}
 use Rattle.sqlite.specs.Held.{state}
 use Rattle.sqlite.specs.Tree.{Trees}
+use Rattle.table_words.specs.Steps.{IsReady}
 use Rattle.machine.specs.Acts.{Act}
 use Rattle.machine.specs.Standing.{today}
 pub use Rattle.slices.specs.Books.{AreRowsOf, IsBooksOf}
@@ -12,6 +13,11 @@ use Rattle.store.specs.Connected.{Connected}
 -- as long as a fault of the disk has not shut the connection, it shows the books of the acts, and all is committed
 pub record KeepsBooks (first : ℤ) (acts : List Act) (s : State) : Type 0 where
   pub books : IsTrue s.is_open → IsBooksOf first acts s.now
+  pub settled : IsTrue s.is_open → s.committed ≡ s.now
+
+-- it shows tables of our schema, of whatever origin, and all is committed
+pub record IsSettled (s : State) : Type 0 where
+  pub ready : IsTrue s.is_open → IsReady s.now
   pub settled : IsTrue s.is_open → s.committed ≡ s.now
 
 -- a stop leaves the books of the acts and nothing else

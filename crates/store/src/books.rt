@@ -18,7 +18,7 @@ ghost use Rattle.machine.specs.Views.{bins_of_lot, card_of_lot, shipments_of_lot
 ghost use Rattle.store.specs.Heads.{card_head_shown, notice_head_shown};
 ghost use Rattle.store.specs.Handing.{IsHanded, NoBooks};
 ghost use Rattle.store.specs.Queries.{IsShown};
-ghost use Rattle.store.specs.Books.{AreRowsOf, KeepsBooks, HoldsBooks, LeavesOnly, IsClean};
+ghost use Rattle.store.specs.Books.{AreRowsOf, KeepsBooks, HoldsBooks, LeavesOnly, IsClean, IsSettled};
 ghost use Rattle.store.specs.Opening.{HasDay, unlimited, IsLeftUnfilled, IsReopened, IsLeftOver, IsCleanLeft};
 
 use crate::acting::act_once;
@@ -234,7 +234,7 @@ impl<S: Alter> Books<S> {
                 self.day = day;
                 Ok(reply)
             }
-            Err(why) => Err(why),
+            Err(fault) => Err(fault),
         }
     }
 
@@ -278,6 +278,7 @@ impl<S: Alter> Books<S> {
         ensures clean { IsClean S.Store self.new → IsClean S.Store self.old }
         ensures shown { IsClean S.Store self.new → (first : ℤ) (acts : List Act) → IsHistory first acts → HoldsBooks S.Store first acts self.old
             → IsShown S.Store first acts (order_shown first acts order.now) result self.new }
+        ensures as_before { IsClean S.Store self.new → IsReady (state S.Store self.old.conn).now → KeepsCommit (state S.Store self.old.conn) (state S.Store self.new.conn) }
         ensures survives { Survives (state S.Store self.old.conn) (state S.Store self.new.conn) (λ _. ⊥) }
     {
         let query = OrderQuery { order: *order };
@@ -292,6 +293,7 @@ impl<S: Alter> Books<S> {
         ensures clean { IsClean S.Store self.new → IsClean S.Store self.old }
         ensures shown { IsClean S.Store self.new → (first : ℤ) (acts : List Act) → IsHistory first acts → HoldsBooks S.Store first acts self.old
             → IsShown S.Store first acts (stock_shown first acts gtin.now) result self.new }
+        ensures as_before { IsClean S.Store self.new → IsReady (state S.Store self.old.conn).now → KeepsCommit (state S.Store self.old.conn) (state S.Store self.new.conn) }
         ensures survives { Survives (state S.Store self.old.conn) (state S.Store self.new.conn) (λ _. ⊥) }
     {
         let query = StockQuery { gtin: *gtin };
@@ -304,6 +306,7 @@ impl<S: Alter> Books<S> {
         ensures clean { IsClean S.Store self.new → IsClean S.Store self.old }
         ensures shown { IsClean S.Store self.new → (first : ℤ) (acts : List Act) → IsHistory first acts → HoldsBooks S.Store first acts self.old
             → IsShown S.Store first acts (short_shown first acts gtin.now) result self.new }
+        ensures as_before { IsClean S.Store self.new → IsReady (state S.Store self.old.conn).now → KeepsCommit (state S.Store self.old.conn) (state S.Store self.new.conn) }
         ensures survives { Survives (state S.Store self.old.conn) (state S.Store self.new.conn) (λ _. ⊥) }
     {
         let query = ShortQuery { gtin: *gtin };
@@ -317,6 +320,7 @@ impl<S: Alter> Books<S> {
         ensures clean { IsClean S.Store self.new → IsClean S.Store self.old }
         ensures shown { IsClean S.Store self.new → (first : ℤ) (acts : List Act) → IsHistory first acts → HoldsBooks S.Store first acts self.old
             → IsShown S.Store first acts (card_head_shown first acts lot.now) result self.new }
+        ensures as_before { IsClean S.Store self.new → IsReady (state S.Store self.old.conn).now → KeepsCommit (state S.Store self.old.conn) (state S.Store self.new.conn) }
         ensures survives { Survives (state S.Store self.old.conn) (state S.Store self.new.conn) (λ _. ⊥) }
     {
         show_card_head(self.alloc, &mut self.conn, lot)
@@ -329,6 +333,7 @@ impl<S: Alter> Books<S> {
         ensures clean { IsClean S.Store self.new → IsClean S.Store self.old }
         ensures shown { IsClean S.Store self.new → (first : ℤ) (acts : List Act) → IsHistory first acts → HoldsBooks S.Store first acts self.old
             → IsShown S.Store first acts (notice_head_shown first acts lot.now) result self.new }
+        ensures as_before { IsClean S.Store self.new → IsReady (state S.Store self.old.conn).now → KeepsCommit (state S.Store self.old.conn) (state S.Store self.new.conn) }
         ensures survives { Survives (state S.Store self.old.conn) (state S.Store self.new.conn) (λ _. ⊥) }
     {
         show_notice_head(self.alloc, &mut self.conn, lot)
@@ -345,6 +350,7 @@ impl<S: Alter> Books<S> {
         ensures clean { IsClean S.Store self.new → IsClean S.Store self.old }
         ensures handed { IsClean S.Store self.new → (first : ℤ) (acts : List Act) → IsHistory first acts → HoldsBooks S.Store first acts self.old
             → IsHanded S.Store first acts K.takes K.stops (card_of_lot first acts lot.now) sink.old sink.new result self.new }
+        ensures as_before { IsClean S.Store self.new → IsReady (state S.Store self.old.conn).now → KeepsCommit (state S.Store self.old.conn) (state S.Store self.new.conn) }
         ensures survives { Survives (state S.Store self.old.conn) (state S.Store self.new.conn) (NoBooks (state S.Store self.old.conn)) }
     {
         hand_cards(self.alloc, &mut self.conn, lot, sink)
@@ -361,6 +367,7 @@ impl<S: Alter> Books<S> {
         ensures clean { IsClean S.Store self.new → IsClean S.Store self.old }
         ensures handed { IsClean S.Store self.new → (first : ℤ) (acts : List Act) → IsHistory first acts → HoldsBooks S.Store first acts self.old
             → IsHanded S.Store first acts K.takes K.stops (bins_of_lot first acts lot.now) sink.old sink.new result self.new }
+        ensures as_before { IsClean S.Store self.new → IsReady (state S.Store self.old.conn).now → KeepsCommit (state S.Store self.old.conn) (state S.Store self.new.conn) }
         ensures survives { Survives (state S.Store self.old.conn) (state S.Store self.new.conn) (NoBooks (state S.Store self.old.conn)) }
     {
         hand_bins(self.alloc, &mut self.conn, lot, sink)
@@ -377,6 +384,7 @@ impl<S: Alter> Books<S> {
         ensures clean { IsClean S.Store self.new → IsClean S.Store self.old }
         ensures handed { IsClean S.Store self.new → (first : ℤ) (acts : List Act) → IsHistory first acts → HoldsBooks S.Store first acts self.old
             → IsHanded S.Store first acts K.takes K.stops (shipments_of_lot first acts lot.now) sink.old sink.new result self.new }
+        ensures as_before { IsClean S.Store self.new → IsSettled (state S.Store self.old.conn) → KeepsCommit (state S.Store self.old.conn) (state S.Store self.new.conn) }
         ensures survives { Survives (state S.Store self.old.conn) (state S.Store self.new.conn) (NoBooks (state S.Store self.old.conn)) }
     {
         hand_shipments(self.alloc, &mut self.conn, lot, sink)

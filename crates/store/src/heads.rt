@@ -35,6 +35,7 @@ pub fn show_card_head<S: Alter>(
     ensures outside { conn.new.in_transaction ≡ false }
     ensures shown { HasCleanDisk (state S.Store conn.new) → (first : ℤ) (acts : List Act) → IsHistory first acts → KeepsBooks first acts (state S.Store conn.old)
         → IsShownOn first acts (card_head_shown first acts lot.now) result (state S.Store conn.new) }
+    ensures as_before { HasCleanDisk (state S.Store conn.new) → IsReady (state S.Store conn.old).now → KeepsCommit (state S.Store conn.old) (state S.Store conn.new) }
     ensures survives { Survives (state S.Store conn.old) (state S.Store conn.new) (λ _. ⊥) }
 {
     let _outside = conn.is_autocommit();
@@ -55,6 +56,7 @@ pub fn show_notice_head<S: Alter>(
     ensures outside { conn.new.in_transaction ≡ false }
     ensures shown { HasCleanDisk (state S.Store conn.new) → (first : ℤ) (acts : List Act) → IsHistory first acts → KeepsBooks first acts (state S.Store conn.old)
         → IsShownOn first acts (notice_head_shown first acts lot.now) result (state S.Store conn.new) }
+    ensures as_before { HasCleanDisk (state S.Store conn.new) → IsReady (state S.Store conn.old).now → KeepsCommit (state S.Store conn.old) (state S.Store conn.new) }
     ensures survives { Survives (state S.Store conn.old) (state S.Store conn.new) (λ _. ⊥) }
 {
     let _outside = conn.is_autocommit();

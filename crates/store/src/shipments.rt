@@ -11,16 +11,16 @@ ghost use Rattle.machine.specs.Tables.{tables_of};
 ghost use Rattle.machine.specs.Views.{shipments_of_lot};
 ghost use Rattle.slices.specs.Books.{IsBooksOf};
 ghost use Rattle.slices.specs.Shipped.{units_told};
-ghost use Rattle.store.specs.Books.{KeepsBooks};
+ghost use Rattle.store.specs.Books.{KeepsBooks, IsSettled};
 ghost use Rattle.store.specs.Handing.{IsHandedOn, NoBooks};
-ghost use Rattle.store.specs.Shipments.{IsNextOn, line_shown, shipped_shown};
-ghost use Rattle.store.specs.Showing.{IsFoundAs, IsShownAs, IsShownOn};
+ghost use Rattle.store.specs.Shipments.{IsNextOn, IsToldAs, IsToldOn, line_told};
+ghost use Rattle.store.specs.Showing.{IsFoundAs};
 
 use crate::Fault;
 use crate::each_fault::EachFault;
 use crate::outside::find_open_outside;
 use crate::repeats::find_open;
-use commands::{Refusal, ShiplineRow, ShippedUnits, Sink};
+use commands::{ShiplineRow, ShippedUnits, Sink};
 use history_tables::shipline_after::shipline_after;
 use slices::read_shipped;
 use sqlite::{Alter, Connection, Transaction};
@@ -48,14 +48,14 @@ fn find_shipped<S: Alter>(
     }
 }
 
-// What is told of the line, where it was read.
+// What is told of the line, where it was read. A line whose shipment or order is gone is of no books.
 fn told_of(found: Result<Option<ShippedUnits>, Fault>) -> Result<ShippedUnits, Fault>
-    ensures { (first : ℤ) (acts : List Act) (line : Line) → IsFoundAs (λ found. found ≡ units_told (tables_of first acts) line) found → IsShownAs (shipped_shown first acts line) result }
+    ensures { (first : ℤ) (acts : List Act) (line : Line) → IsFoundAs (λ found. found ≡ units_told (tables_of first acts) line) found → IsToldAs (units_told (tables_of first acts) line) result }
 {
     match found {
         Err(fault) => Err(fault),
         Ok(told) => match told {
-            None => Err(Fault::Refused(Refusal::UnknownOrder)),
+            None => Err(Fault::Foreign),
             Some(units) => Ok(units),
         },
     }
@@ -70,7 +70,8 @@ fn show_shipped<S: Alter>(
     requires outside { conn.old.in_transaction ≡ false }
     ensures outside { conn.new.in_transaction ≡ false }
     ensures shown { HasCleanDisk (state S.Store conn.new) → (first : ℤ) (acts : List Act) → IsHistory first acts → KeepsBooks first acts (state S.Store conn.old)
-        → IsShownOn first acts (shipped_shown first acts line.now) result (state S.Store conn.new) }
+        → IsToldOn first acts (units_told (tables_of first acts) line.now) result (state S.Store conn.new) }
+    ensures stays { HasCleanDisk (state S.Store conn.new) → IsSettled (state S.Store conn.old) → KeepsCommit (state S.Store conn.old) (state S.Store conn.new) × IsSettled (state S.Store conn.new) }
     ensures survives { Survives (state S.Store conn.old) (state S.Store conn.new) (λ _. ⊥) }
 {
     let _outside = conn.is_autocommit();
@@ -89,7 +90,8 @@ fn told_line<S: Alter>(
     requires outside { conn.old.in_transaction ≡ false }
     ensures outside { conn.new.in_transaction ≡ false }
     ensures told { HasCleanDisk (state S.Store conn.new) → (first : ℤ) (acts : List Act) → IsHistory first acts → KeepsBooks first acts (state S.Store conn.old)
-        → IsShownOn first acts (line_shown first acts line) result (state S.Store conn.new) }
+        → IsToldOn first acts (line_told first acts line) result (state S.Store conn.new) }
+    ensures stays { HasCleanDisk (state S.Store conn.new) → IsSettled (state S.Store conn.old) → KeepsCommit (state S.Store conn.old) (state S.Store conn.new) × IsSettled (state S.Store conn.new) }
     ensures survives { Survives (state S.Store conn.old) (state S.Store conn.new) (NoBooks (state S.Store conn.old)) }
 {
     match line {
@@ -112,6 +114,7 @@ fn next_shipped<S: Alter>(
     ensures outside { conn.new.in_transaction ≡ false }
     ensures next { HasCleanDisk (state S.Store conn.new) → (first : ℤ) (acts : List Act) → IsHistory first acts → KeepsBooks first acts (state S.Store conn.old)
         → IsNextOn first acts lot.now number result (state S.Store conn.new) }
+    ensures stays { HasCleanDisk (state S.Store conn.new) → IsSettled (state S.Store conn.old) → KeepsCommit (state S.Store conn.old) (state S.Store conn.new) × IsSettled (state S.Store conn.new) }
     ensures survives { Survives (state S.Store conn.old) (state S.Store conn.new) (NoBooks (state S.Store conn.old)) }
 {
     find_open_outside(conn)?;
@@ -130,6 +133,7 @@ pub fn hand_shipments<S: Alter, K: Sink<ShippedUnits>>(
     ensures outside { conn.new.in_transaction ≡ false }
     ensures handed { HasCleanDisk (state S.Store conn.new) → (first : ℤ) (acts : List Act) → IsHistory first acts → KeepsBooks first acts (state S.Store conn.old)
         → IsHandedOn first acts K.takes K.stops (shipments_of_lot first acts lot.now) sink.old sink.new result (state S.Store conn.new) }
+    ensures as_before { HasCleanDisk (state S.Store conn.new) → IsSettled (state S.Store conn.old) → KeepsCommit (state S.Store conn.old) (state S.Store conn.new) }
     ensures survives { Survives (state S.Store conn.old) (state S.Store conn.new) (NoBooks (state S.Store conn.old)) }
 {
     let mut number = 0;

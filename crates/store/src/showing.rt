@@ -31,6 +31,7 @@ pub fn show<Q: Query, S: Alter>(
     ensures outside { conn.new.in_transaction ≡ false }
     ensures shown { HasCleanDisk (state S.Store conn.new) → (first : ℤ) (acts : List Act) → IsHistory first acts → KeepsBooks first acts (state S.Store conn.old)
         → today first acts ≡ day → IsShownOn first acts (Q.shown first acts query.now) result (state S.Store conn.new) }
+    ensures as_before { HasCleanDisk (state S.Store conn.new) → IsReady (state S.Store conn.old).now → KeepsCommit (state S.Store conn.old) (state S.Store conn.new) }
     ensures survives { Survives (state S.Store conn.old) (state S.Store conn.new) (λ _. ⊥) }
 {
     let _outside = conn.is_autocommit();

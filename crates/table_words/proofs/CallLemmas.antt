@@ -13,9 +13,11 @@ use Rattle.sqlite.specs.State.{State, Survives, ExecutesInside, KeepsCommit, IsU
 use Rattle.sqlite.specs.Steps.{FailsToCommit}
 use Rattle.sqlite.proofs.Callers.{IsPlain}
 use Rattle.sqlite.proofs.StateLemmas.{survives_then}
-use Rattle.table_words.specs.Typed.{Tables}
-use Rattle.table_words.specs.Steps.{IsReady, Goes}
-use Rattle.table_words.specs.Calls.{Counts, Puts, Reads, ShowsForeign}
+use Rattle.sqlite.specs.Effect.{Database}
+use Rattle.table_words.specs.Typed.{Tables, tables_in, AreTyped}
+use Rattle.table_words.specs.Steps.{IsReady, Goes, IsUndone, ChangesNone}
+use Rattle.table_words.specs.Calls.{Counts, Puts, PutsNot, Reads, ShowsForeign}
+use Rattle.table_words.specs.Calls.PutsNot.{ChangeRefused, AddRefused}
 use Rattle.table_words.specs.Calls.Puts.{Changed, Added}
 
 -- a call that answered was made inside a transaction
@@ -149,3 +151,75 @@ puts g change add params f old new changes adds (Changed count some h) = (change
 puts g change add params f old new changes adds (Added mid none h) =
     let kept = (changes (state g mid) 0 none).1 refl in
     goes_then (λ t. t) f (state g old) (state g mid) (state g new) kept (adds (state g mid) h.count kept.ready h.counts)
+
+-- ---- what a call leaves that is refused
+
+goes_itself : (s : State) → IsReady s.now → Goes (λ t. t) s s
+goes_itself s ready = record { ready = ready; tables = refl; mode = refl; typed = λ h. h }
+
+-- where nothing is done, the tables are as they were
+pub none_itself : (s : State) → IsReady s.now → ChangesNone s s
+none_itself s ready = inl (goes_itself s ready)
+
+pub none_unchanged : (old new : State) → IsReady old.now → IsUnchanged old new → ChangesNone old new
+none_unchanged old new ready h = inl (record {
+  ready = subst IsReady (sym h.0.now_is) ready;
+  tables = ap (λ (db : Database). tables_in db.trees) h.0.now_is;
+  mode = h.0.mode;
+  typed = λ are. subst (λ (db : Database). AreTyped db.trees) (sym h.0.now_is) are;
+})
+
+none_undone : (old new : State) → IsRolledBack old new → ChangesNone old new
+none_undone old new h = inr (record { was_open = h.was_open; undone = h.undone; autocommit = h.autocommit })
+
+ran_none : (sql : List ℕ) (params : Row) (old new : State) (r : Result ℕ Error) → IsReady old.now → ExecutesInside 0 sql params old new r → OnErr r (ChangesNone old new)
+ran_none sql params old new (Ok count) ready h = tt
+ran_none sql params old new (Err e) ready (inl (h, inl same)) = none_unchanged old new ready same
+ran_none sql params old new (Err e) ready (inl (h, inr undone)) = none_undone old new undone
+ran_none sql params old new (Err e) ready (inr h) = none_unchanged old new ready h.2
+
+-- a statement that is refused changes none of the tables
+pub refuses : {S : Type 0} (g : Ghosts S) (sql : List ℕ) (params : Row) (old new : Held S) (r : Result ℕ Error) {late : Result ℕ Error} → ((state g old).in_transaction ≡ false → (r ≡ late) × (new ≡ old))
+    → (IsTrue (state g old).in_transaction → ExecutesInside 0 sql params (state g old) (state g new) r) → IsReady (state g old).now → OnErr r (ChangesNone (state g old) (state g new))
+refuses g sql params old new r ended runs ready = elim (cases_Bool (state g old).in_transaction) [
+  | inl inside ↦ ran_none sql params (state g old) (state g new) r ready (runs inside)
+  | inr late ↦ on_err r (subst (λ h. ChangesNone (state g old) (state g h)) (sym (ended late).1) (none_itself (state g old) ready))
+]
+
+late_none : (sql : List ℕ) (params : Row) (old new : State) (e : Error) → IsReady old.now → IsNotRun old new sql params e → ChangesNone old new
+unfolding IsNotRun
+late_none sql params old new e ready (inl h) = none_unchanged old new ready h.1
+late_none sql params old new e ready (inr h) = none_undone old new h.3
+
+-- so does a query
+pub query_none : (sql : List ℕ) (params : Row) (old new : State) (e : Error) → IsPlain (understood old.now.schema sql) → IsReady old.now → FailsToQuery sql params old new e ⊎ IsTooLate sql params old new e → ChangesNone old new
+unfolding FailsToQuery
+query_none sql params old new e plain ready (inl (inl h)) = late_none sql params old new e ready h
+query_none sql params old new e plain ready (inl (inr h)) =
+    let none = (subst IsPlain h.1.is plain).0 in
+    none_unchanged old new ready (subst (FailsToShow old new sql h.0 (timed params h.0.formats h.1.now) e) none h.2).3
+query_none sql params old new e plain ready (inr h) = none_unchanged old new ready h.5
+
+-- nothing was changed before what was refused
+none_then : (a b c : State) → Goes (λ t. t) a b → KeepsCommit a b → ChangesNone b c → ChangesNone a c
+none_then a b c same kept (inl h) = inl (goes_then (λ t. t) (λ t. t) a b c same h)
+none_then a b c same kept (inr h) = inr (record {
+  was_open = λ up. kept.was_open (h.was_open up);
+  undone = λ up. ((h.undone up).0 ∙ kept.committed (h.was_open up), (h.undone up).1 ∙ kept.committed (h.was_open up));
+  autocommit = h.autocommit;
+})
+
+pub add_refused : {S X E : Type 0} (g : Ghosts S) (change : List ℕ) (params : Row) (old mid new : Held S) (r : Result X E) → Counts 0 change params (state g old) (state g mid)
+    → (IsReady (state g mid).now → OnErr r (ChangesNone (state g mid) (state g new))) → OnErr r (PutsNot g change params old new)
+add_refused g change params old mid new (Ok x) none h = tt
+add_refused g change params old mid new (Err e) none h = AddRefused mid none h
+
+-- a row that is not put leaves the tables as they were
+pub puts_none : {S X E : Type 0} (g : Ghosts S) (change : List ℕ) (params : Row) (f : Tables → Tables) (old new : Held S) (r : Result X E)
+    → ((mid : State) (count : ℕ) → Counts count change params (state g old) mid → (count ≢ 0 → Goes f (state g old) mid) × (count ≡ 0 → Goes (λ t. t) (state g old) mid))
+    → OnErr r (PutsNot g change params old new) → OnErr r (ChangesNone (state g old) (state g new))
+puts_none g change params f old new (Ok x) changes h = tt
+puts_none g change params f old new (Err e) changes (ChangeRefused h) = h
+puts_none g change params f old new (Err e) changes (AddRefused mid none h) =
+    let same = (changes (state g mid) 0 none).1 refl in
+    none_then (state g old) (state g mid) (state g new) same (ran_kept change params (state g old) (state g mid) (Ok 0) none.executes) (h same.ready)

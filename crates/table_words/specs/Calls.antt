@@ -5,6 +5,7 @@ use Rattle.sqlite_value.specs.Order.{Row}
 use Rattle.sqlite.specs.Store.{Ghosts}
 use Rattle.sqlite.specs.Held.{Held, state}
 use Rattle.sqlite.specs.State.{State, ExecutesInside, Shown}
+use Rattle.table_words.specs.Steps.{IsReady, ChangesNone}
 
 -- it ran inside the transaction, and wrote so many rows
 pub record Counts (count : ℕ) (sql : List ℕ) (params : Row) (old new : State) : Type 0 where
@@ -20,6 +21,11 @@ pub record Runs (sql : List ℕ) (params : Row) (old new : State) : Type 0 where
 pub data Puts {S : Type 0} (g : Ghosts S) (change add : List ℕ) (params : Row) (old new : Held S) : Type 0 where
   Changed : (count : ℕ) → count ≢ 0 → Counts count change params (state g old) (state g new) → Puts g change add params old new
   Added : (between : Held S) → Counts 0 change params (state g old) (state g between) → Runs add params (state g between) (state g new) → Puts g change add params old new
+
+-- the statement that changes a row was refused, or it changed none and the one that adds a row was refused
+pub data PutsNot {S : Type 0} (g : Ghosts S) (change : List ℕ) (params : Row) (old new : Held S) : Type 0 where
+  ChangeRefused : ChangesNone (state g old) (state g new) → PutsNot g change params old new
+  AddRefused : (between : Held S) → Counts 0 change params (state g old) (state g between) → (IsReady (state g between).now → ChangesNone (state g between) (state g new)) → PutsNot g change params old new
 
 -- the query showed rows of the table, and these are what they read as
 pub record Reads {X : Type 0} (has : Row → Bool) (read : Row → X) (sql : List ℕ) (params : Row) (old new : State) (found : List X) : Type 0 where

@@ -198,11 +198,11 @@ reserved_by_gtin tree = plain_index (codes "reserved_by_gtin") tree 17 (2 ∷ []
 abbrev pub schema_16 : Schema
 schema_16 = indexed schema_15 (reserved_table 17) (reserved_by_gtin 0)
 
-abbrev pub shiplines_by_lot : ℕ → Index
-shiplines_by_lot tree = plain_index (codes "shiplines_by_lot") tree 20 (2 ∷ 3 ∷ [])
+abbrev pub shiplines_of_lot : ℕ → Index
+shiplines_of_lot tree = plain_index (codes "shiplines_of_lot") tree 20 (2 ∷ 3 ∷ 1 ∷ [])
 
 abbrev pub schema_17 : Schema
-schema_17 = indexed schema_16 (shiplines_table 20) (shiplines_by_lot 0)
+schema_17 = indexed schema_16 (shiplines_table 20) (shiplines_of_lot 0)
 
 abbrev pub orders_by_state : ℕ → Index
 orders_by_state tree = plain_index (codes "orders_by_state") tree 11 (4 ∷ [])

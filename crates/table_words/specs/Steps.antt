@@ -1,5 +1,5 @@
 -- What a call makes of the tables.
-use Rattle.std.specs.Prelude.{◌≡◌, [], Result, Err}
+use Rattle.std.specs.Prelude.{◌≡◌, ◌⊎◌, false, [], Result, Err, IsTrue}
 use Rattle.std.specs.List.{AllByRecursion}
 use Rattle.sqlite.specs.State.{State}
 use Rattle.sqlite.specs.Effect.{Database, IsDatabase}
@@ -25,6 +25,16 @@ pub record Goes (to : Tables → Tables) (old new : State) : Type 0 where
   pub tables : tables_in new.now.trees ≡ to (tables_in old.now.trees)
   pub mode : new.in_transaction ≡ old.in_transaction
   pub typed : AreTyped old.now.trees → AreTyped new.now.trees
+
+-- the transaction is undone: as long as the connection is open, it shows what the last commit left, and nothing else is committed
+pub record IsUndone (old new : State) : Type 0 where
+  pub was_open : IsTrue new.is_open → IsTrue old.is_open
+  pub undone : IsTrue new.is_open → (new.now ≡ old.committed) × (new.committed ≡ old.committed)
+  pub autocommit : new.in_transaction ≡ false
+
+-- what a call leaves that is refused: the tables as they were, in a transaction that goes on, or the whole transaction is undone
+abbrev pub ChangesNone : State → State → Type 0
+ChangesNone old new = Goes (λ t. t) old new ⊎ IsUndone old new
 
 -- the schema is this one, and each of its tables is empty
 pub record IsBlank (schema : Schema) (db : Database) : Type 0 where

@@ -15,9 +15,9 @@ use Rattle.sqlite_resolve.specs.declared.compiled.Compiled.{Compiled}
 use Rattle.sqlite_resolve.specs.declared.error.CompileError.{CompileError}
 use Rattle.sqlite_resolve.specs.declared.error.CompileError.TheVariants.{Exists}
 use Rattle.sqlite_schema.specs.Names.{table_named, index_named, view_named}
-use Rattle.table_words.specs.Schema.{schema_with, staged_table, reserved_table, shiplines_table, orders_table, staged_by_gtin, reserved_by_gtin, shiplines_by_lot, orders_by_state}
+use Rattle.table_words.specs.Schema.{schema_with, staged_table, reserved_table, shiplines_table, orders_table, staged_by_gtin, reserved_by_gtin, shiplines_of_lot, orders_by_state}
 use Rattle.tables.specs.Indexing.{plan, MakesOrFinds, Indexes}
-use Rattle.tables.specs.declared.indexing.TheConstants.{STAGED_BY_GTIN, RESERVED_BY_GTIN, SHIPLINES_BY_LOT, ORDERS_BY_STATE}
+use Rattle.tables.specs.declared.indexing.TheConstants.{STAGED_BY_GTIN, RESERVED_BY_GTIN, SHIPLINES_OF_LOT, ORDERS_BY_STATE}
 
 -- what follows from whether the name is free
 abbrev whole : ℕ → ℕ → Result Bool CompileError → Result Compiled CompileError
@@ -94,22 +94,22 @@ reserved_by_gtin_made = record {
   named = refl;
 }
 
-shiplines_by_lot_free : is_reserved (codes "shiplines_by_lot") ≡ false
+shiplines_of_lot_free : is_reserved (codes "shiplines_of_lot") ≡ false
 unfolding everything
-shiplines_by_lot_free = refl
+shiplines_of_lot_free = refl
 
-shiplines_by_lot_means : (rest : Schema) → compiled (schema_with rest) SHIPLINES_BY_LOT.now ≡ whole 68 11 (creates true (codes "shiplines_by_lot") (index_named (schema_with rest) (codes "shiplines_by_lot")) (option_or (table_named (schema_with rest) (codes "shiplines_by_lot")) (view_named (schema_with rest) (codes "shiplines_by_lot"))))
+shiplines_of_lot_means : (rest : Schema) → compiled (schema_with rest) SHIPLINES_OF_LOT.now ≡ whole 76 11 (creates true (codes "shiplines_of_lot") (index_named (schema_with rest) (codes "shiplines_of_lot")) (option_or (table_named (schema_with rest) (codes "shiplines_of_lot")) (view_named (schema_with rest) (codes "shiplines_of_lot"))))
 unfolding everything
-shiplines_by_lot_means rest = refl
+shiplines_of_lot_means rest = refl
 
-pub shiplines_by_lot_made : Indexes SHIPLINES_BY_LOT.now (codes "shiplines_by_lot")
+pub shiplines_of_lot_made : Indexes SHIPLINES_OF_LOT.now (codes "shiplines_of_lot")
 unfolding everything
-shiplines_by_lot_made = record {
-  size = 68;
+shiplines_of_lot_made = record {
+  size = 76;
   at = 11;
   table = shiplines_table 20;
-  index = shiplines_by_lot 0;
-  means = makes_or_finds 68 11 (codes "shiplines_by_lot") SHIPLINES_BY_LOT.now shiplines_by_lot_free shiplines_by_lot_means;
+  index = shiplines_of_lot 0;
+  means = makes_or_finds 76 11 (codes "shiplines_of_lot") SHIPLINES_OF_LOT.now shiplines_of_lot_free shiplines_of_lot_means;
   whole = λ command. refl;
   placed = λ rest. refl;
   defined = refl;

@@ -70,7 +70,7 @@ fn create_others<S: Alter>(tx: &mut Transaction<'_, S>) -> Result<(), Error>
         "CREATE TABLE repeats (k TEXT NOT NULL, act INTEGER NOT NULL, spell TEXT NOT NULL, reply TEXT NOT NULL, PRIMARY KEY (k)) STRICT",
         "CREATE INDEX staged_by_gtin ON staged (gtin)",
         "CREATE INDEX reserved_by_gtin ON reserved (gtin)",
-        "CREATE INDEX shiplines_by_lot ON shiplines (gtin, lot)",
+        "CREATE INDEX shiplines_of_lot ON shiplines (gtin, lot, number)",
         "CREATE INDEX orders_by_state ON orders (state)",
     ];
     run_all(tx, &texts)

@@ -12,8 +12,8 @@ const STAGED_BY_GTIN: &str = "CREATE INDEX IF NOT EXISTS staged_by_gtin ON stage
 
 const RESERVED_BY_GTIN: &str = "CREATE INDEX IF NOT EXISTS reserved_by_gtin ON reserved (gtin)";
 
-const SHIPLINES_BY_LOT: &str =
-    "CREATE INDEX IF NOT EXISTS shiplines_by_lot ON shiplines (gtin, lot)";
+const SHIPLINES_OF_LOT: &str =
+    "CREATE INDEX IF NOT EXISTS shiplines_of_lot ON shiplines (gtin, lot, number)";
 
 const ORDERS_BY_STATE: &str = "CREATE INDEX IF NOT EXISTS orders_by_state ON orders (state)";
 
@@ -40,6 +40,6 @@ pub fn make_indexes<S: Alter>(tx: &mut Transaction<'_, S>) -> Result<(), Error>
 {
     make_index(tx, STAGED_BY_GTIN)?;
     make_index(tx, RESERVED_BY_GTIN)?;
-    make_index(tx, SHIPLINES_BY_LOT)?;
+    make_index(tx, SHIPLINES_OF_LOT)?;
     make_index(tx, ORDERS_BY_STATE)
 }

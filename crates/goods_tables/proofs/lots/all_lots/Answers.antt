@@ -26,3 +26,6 @@ returns-clause-same g c clean ready = c.query.ensures.same clean (subst (λ s. I
 
 pub returns-clause-kept : goal.returns-clause-kept
 returns-clause-kept g c clean ready = c.query.ensures.kept clean (subst (λ s. IsPlain (understood s all_lots_text)) (sym ready.has.is) (all_lots_plain ready.has.rest))
+
+pub returns-clause-refused : goal.returns-clause-refused
+returns-clause-refused g c clean ready = c.query.ensures.refused clean (subst (λ s. IsPlain (understood s all_lots_text)) (sym ready.has.is) (all_lots_plain ready.has.rest)) ready

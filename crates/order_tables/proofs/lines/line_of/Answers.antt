@@ -28,3 +28,6 @@ returns-in-Ok-clause-kept g c clean ready = c.in-Ok.ensures.kept clean (subst (�
 
 pub returns-in-Err-clause-kept : goal.returns-in-Err-clause-kept
 returns-in-Err-clause-kept g c clean ready = c.in-Err.ensures.kept clean (subst (λ s. IsPlain (understood s line_of_text)) (sym ready.has.is) (line_of_plain ready.has.rest))
+
+pub returns-in-Err-clause-refused : goal.returns-in-Err-clause-refused
+returns-in-Err-clause-refused g c clean ready = c.in-Err.ensures.refused clean (subst (λ s. IsPlain (understood s line_of_text)) (sym ready.has.is) (line_of_plain ready.has.rest)) ready

@@ -3,7 +3,7 @@ use Rattle.std.proofs.lemmas.Result.{err_from_is_err_and}
 use Rattle.sqlite.specs.State.{HasCleanDisk}
 use Rattle.sqlite.specs.Held.{state}
 use Rattle.store.specs.Shipments.{later_shipments}
-use Rattle.store.proofs.HandedOn.{never_commits_itself, never_commits_later}
+use Rattle.store.proofs.HandedOn.{never_commits_itself, never_commits_later, stays_itself, stays_then}
 use Rattle.store.proofs.ShipmentsHanded.{none_handed, one_handed, all_handed, some_handed, stop_handed}
 use Rattle.store.proofs.shipments.hand_shipments.Goals as goal
 
@@ -12,6 +12,7 @@ shipments-init g c = (
   c.requires.outside,
   never_commits_itself (state g.S.Store c.args.conn.now),
   λ clean first acts history held. (none_handed first acts c.args.lot.now history g.K.Sink.takes g.K.Sink.stops c.args.sink.now, held),
+  stays_itself (state g.S.Store c.args.conn.now),
 )
 
 pub returns-in_err-units-clause-handed : goal.returns-in_err-units-clause-handed
@@ -65,6 +66,9 @@ shipments-preserved g c = (
         one_handed first acts c.args.lot.now history g.K.Sink.takes g.K.Sink.stops c.shipments.number c.args.sink.now c.shipments.sink c.take.new.self c.in-Some.units so_far.0 (sym next.0 ∙ c.in-Some.is) c.in_ok-take.ensures.taken,
         next.1,
       ),
+  λ clean at.
+      let was : HasCleanDisk (state g.S.Store c.shipments.conn) = omega (arith, clean, c.next_shipped.ensures.survives.clean) in
+      stays_then (state g.S.Store c.args.conn.now) (state g.S.Store c.shipments.conn) (state g.S.Store c.next_shipped.new.conn) (c.shipments.invariant.3 was at) (c.next_shipped.ensures.stays clean),
 )
 
 pub returns-clause-handed : goal.returns-clause-handed
@@ -74,3 +78,26 @@ returns-clause-handed g c clean first acts history held =
 
 pub returns-clause-survives : goal.returns-clause-survives
 returns-clause-survives g c = c.shipments.invariant.1
+
+pub returns-in_err-units-clause-as_before : goal.returns-in_err-units-clause-as_before
+returns-in_err-units-clause-as_before g c clean at =
+    let was : HasCleanDisk (state g.S.Store c.shipments.conn) = omega (arith, clean, c.next_shipped.ensures.survives.clean) in
+    let stays = stays_then (state g.S.Store c.args.conn.now) (state g.S.Store c.shipments.conn) (state g.S.Store c.next_shipped.new.conn) (c.shipments.invariant.3 was at) (c.next_shipped.ensures.stays clean) in
+    stays.0
+
+pub returns-in_default-clause-as_before : goal.returns-in_default-clause-as_before
+returns-in_default-clause-as_before g c clean at =
+    let was : HasCleanDisk (state g.S.Store c.shipments.conn) = omega (arith, clean, c.next_shipped.ensures.survives.clean) in
+    let stays = stays_then (state g.S.Store c.args.conn.now) (state g.S.Store c.shipments.conn) (state g.S.Store c.next_shipped.new.conn) (c.shipments.invariant.3 was at) (c.next_shipped.ensures.stays clean) in
+    stays.0
+
+pub returns-in_err-take-clause-as_before : goal.returns-in_err-take-clause-as_before
+returns-in_err-take-clause-as_before g c clean at =
+    let was : HasCleanDisk (state g.S.Store c.shipments.conn) = omega (arith, clean, c.next_shipped.ensures.survives.clean) in
+    let stays = stays_then (state g.S.Store c.args.conn.now) (state g.S.Store c.shipments.conn) (state g.S.Store c.next_shipped.new.conn) (c.shipments.invariant.3 was at) (c.next_shipped.ensures.stays clean) in
+    stays.0
+
+pub returns-clause-as_before : goal.returns-clause-as_before
+returns-clause-as_before g c clean at =
+    let stays = c.shipments.invariant.3 clean at in
+    stays.0

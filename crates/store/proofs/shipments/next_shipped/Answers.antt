@@ -4,8 +4,8 @@ use Rattle.sqlite.specs.State.{HasCleanDisk}
 use Rattle.sqlite.specs.Held.{state}
 use Rattle.table_words.specs.Typed.{Tables}
 use Rattle.history_tables.specs.ByKey.{AreByNumber}
-use Rattle.store.specs.Shipments.{later_shipments, line_shown}
-use Rattle.store.proofs.HandedOn.{books_on, left_keeps, moved_keeps, never_commits_none, never_commits_on, never_commits_later}
+use Rattle.store.specs.Shipments.{later_shipments, line_told}
+use Rattle.store.proofs.HandedOn.{books_on, left_keeps, moved_keeps, never_commits_none, never_commits_on, never_commits_later, left_stays, moved_stays, stays_then}
 use Rattle.store.proofs.ShipmentOrder.{line_of, lines_after}
 use Rattle.store.proofs.ShipmentsHanded.{next_is, found_next, store_fault}
 use Rattle.store.proofs.shipments.next_shipped.Goals as goal
@@ -52,7 +52,7 @@ returns-clause-next g c clean first acts history held =
     let held_after = left_keeps first acts mid after held_mid (inl (c.in_ok-line.ensures.same late books.ready)) in
     let told = c.told_line.ensures.told clean first acts history held_after in
     let found = c.in_ok-line.ensures.found late books.ready books.rows.typed _ rows in
-    (found_next (line_shown first acts c.in_ok-line.line) _ c.told_line.result (next_is first acts l history n c.in_ok-line.line found) told.0, told.1)
+    (found_next (line_told first acts c.in_ok-line.line) _ c.told_line.result (next_is first acts l history n c.in_ok-line.line found) told.0, told.1)
 
 pub returns-clause-survives : goal.returns-clause-survives
 returns-clause-survives g c =
@@ -66,3 +66,29 @@ returns-clause-survives g c =
     let same = c.in_ok-find_open_outside.ensures.open later in
     let books = books_on first acts old mid held same in
     left_keeps first acts mid after (left_keeps first acts old mid held (inl same)) (inl (c.in_ok-line.ensures.same late books.ready)))
+
+pub returns-in_err-find_open_outside-clause-stays : goal.returns-in_err-find_open_outside-clause-stays
+returns-in_err-find_open_outside-clause-stays g c clean at =
+    left_stays (state g.S.Store c.args.conn.now) (state g.S.Store c.find_open_outside.new.conn) (c.in_err-find_open_outside.ensures.failed clean) at
+
+pub returns-in_err-line-clause-stays : goal.returns-in_err-line-clause-stays
+returns-in_err-line-clause-stays g c clean at =
+    let old = state g.S.Store c.args.conn.now in
+    let mid = state g.S.Store c.find_open_outside.new.conn in
+    let new = state g.S.Store c.shipline_after.new.conn in
+    let late : HasCleanDisk mid = omega (arith, clean, c.shipline_after.ensures.survives.clean) in
+    let same = c.in_ok-find_open_outside.ensures.open late in
+    stays_then old mid new (left_stays old mid (inl same) at)
+    (λ on. moved_stays g.S.Store c.find_open_outside.new.conn c.shipline_after.new.conn (c.in_err-line.ensures.left clean (on.ready same.0.is_open)) on)
+
+pub returns-clause-stays : goal.returns-clause-stays
+returns-clause-stays g c clean at =
+    let old = state g.S.Store c.args.conn.now in
+    let mid = state g.S.Store c.find_open_outside.new.conn in
+    let after = state g.S.Store c.shipline_after.new.conn in
+    let new = state g.S.Store c.told_line.new.conn in
+    let late : HasCleanDisk after = omega (arith, clean, c.told_line.ensures.survives.clean) in
+    let later : HasCleanDisk mid = omega (arith, late, c.shipline_after.ensures.survives.clean) in
+    let same = c.in_ok-find_open_outside.ensures.open later in
+    stays_then old mid new (left_stays old mid (inl same) at)
+    (λ on. stays_then mid after new (left_stays mid after (inl (c.in_ok-line.ensures.same late (on.ready same.0.is_open))) on) (c.told_line.ensures.stays clean))

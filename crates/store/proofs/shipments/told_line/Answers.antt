@@ -1,8 +1,10 @@
 use Rattle.std.proofs.Common.{refl, ap}
 use Rattle.std.proofs.lemmas.Result.{err_from_is_err_and}
 use Rattle.sqlite.specs.Held.{state}
-use Rattle.store.specs.Shipments.{as_found, shipped_shown}
-use Rattle.store.proofs.HandedOn.{never_commits_none, never_commits_itself}
+use Rattle.machine.specs.Tables.{tables_of}
+use Rattle.slices.specs.Shipped.{units_told}
+use Rattle.store.specs.Shipments.{as_found}
+use Rattle.store.proofs.HandedOn.{never_commits_none, never_commits_itself, stays_itself}
 use Rattle.store.proofs.ShipmentsHanded.{err_as_found}
 use Rattle.store.proofs.shipments.told_line.Goals as goal
 
@@ -16,7 +18,7 @@ pub returns-in_err-units-in-Some-clause-told : goal.returns-in_err-units-in-Some
 returns-in_err-units-in-Some-clause-told g c clean first acts history held =
     let p = err_from_is_err_and c.from_residual.result c.from_residual.ensures.1 in
     let it = c.in_err-units-in-Some.ensures.shown clean first acts history held in
-    rw (c.in-Some.is, p.1, p.2) (err_as_found (shipped_shown first acts c.in-Some.line) _ it.0, it.1)
+    rw (c.in-Some.is, p.1, p.2) (err_as_found (units_told (tables_of first acts) c.in-Some.line) _ it.0, it.1)
 
 pub returns-in_err-units-in-Some-clause-survives : goal.returns-in_err-units-in-Some-clause-survives
 returns-in_err-units-in-Some-clause-survives g c = never_commits_none (state g.S.Store c.args.conn.now) (state g.S.Store c.show_shipped.new.conn) c.show_shipped.ensures.survives
@@ -28,3 +30,12 @@ returns-in_ok-units-in-Some-clause-told g c clean first acts history held =
 
 pub returns-in_ok-units-in-Some-clause-survives : goal.returns-in_ok-units-in-Some-clause-survives
 returns-in_ok-units-in-Some-clause-survives g c = never_commits_none (state g.S.Store c.args.conn.now) (state g.S.Store c.show_shipped.new.conn) c.show_shipped.ensures.survives
+
+pub returns-in-None-clause-stays : goal.returns-in-None-clause-stays
+returns-in-None-clause-stays g c = stays_itself (state g.S.Store c.args.conn.now)
+
+pub returns-in_err-units-in-Some-clause-stays : goal.returns-in_err-units-in-Some-clause-stays
+returns-in_err-units-in-Some-clause-stays g c = c.show_shipped.ensures.stays
+
+pub returns-in_ok-units-in-Some-clause-stays : goal.returns-in_ok-units-in-Some-clause-stays
+returns-in_ok-units-in-Some-clause-stays g c = c.show_shipped.ensures.stays

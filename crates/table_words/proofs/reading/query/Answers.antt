@@ -1,7 +1,7 @@
 use Rattle.sqlite.specs.Values.{bound}
 use Rattle.sqlite.specs.Held.{state}
 use Rattle.table_words.specs.declared.error.TableFault.TheVariants.{Foreign}
-use Rattle.table_words.proofs.CallLemmas.{kept_unchanged, query_keeps, query_same, on_ok, shown_rows_read, shown_row_foreign}
+use Rattle.table_words.proofs.CallLemmas.{kept_unchanged, query_keeps, query_same, query_none, none_unchanged, on_ok, on_err, shown_rows_read, shown_row_foreign}
 use Rattle.table_words.proofs.reading.query.Goals as goal
 
 pub returns-in-Ok-clause-rows : goal.returns-in-Ok-clause-rows
@@ -24,3 +24,12 @@ returns-in-Ok-clause-kept g c clean plain =
 pub returns-in-Err-clause-kept : goal.returns-in-Err-clause-kept
 returns-in-Err-clause-kept g c clean plain =
     query_keeps c.args.sql.now (bound c.args.params.now) (state g.S.Store c.args.tx.now.conn.now) (state g.S.Store c.query_all.new.self.conn.now) c.in-Err.cause plain (c.in-Err.ensures.err clean)
+
+pub returns-in-Ok-clause-refused : goal.returns-in-Ok-clause-refused
+returns-in-Ok-clause-refused g c clean plain ready =
+    on_err c.read_all.result (none_unchanged (state g.S.Store c.args.tx.now.conn.now) (state g.S.Store c.query_all.new.self.conn.now) ready
+    (query_same c.args.sql.now (bound c.args.params.now) (state g.S.Store c.args.tx.now.conn.now) (state g.S.Store c.query_all.new.self.conn.now) c.in-Ok.rows.items plain (c.in-Ok.ensures.ok clean)))
+
+pub returns-in-Err-clause-refused : goal.returns-in-Err-clause-refused
+returns-in-Err-clause-refused g c clean plain ready =
+    query_none c.args.sql.now (bound c.args.params.now) (state g.S.Store c.args.tx.now.conn.now) (state g.S.Store c.query_all.new.self.conn.now) c.in-Err.cause plain ready (c.in-Err.ensures.err clean)
