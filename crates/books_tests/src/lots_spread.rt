@@ -35,9 +35,7 @@ static SPREAD_OUT: [&[Step]; 1] = [&[
     Step::On(On::Run(
         "INSERT INTO lots (gtin, lot, expiry, came, held) VALUES ('09506000134352', 'L2', 20604, 6, 0)",
     )),
-    Step::On(On::Run(
-        "INSERT INTO recalls (gtin, lot, act) VALUES ('09506000134352', 'L2', 11)",
-    )),
+    Step::On(On::Run("INSERT INTO recalls (gtin, lot, act) VALUES ('09506000134352', 'L2', 11)")),
     Step::On(On::Run(
         "INSERT INTO stock (gtin, lot, bin, qty) VALUES ('09506000134352', 'L2', 'RETURNS', 1), ('09506000134352', 'L2', 'A-02', 2), ('09506000134352', 'L1', 'A-01', 8), ('09506000134352', 'L2', 'A-01', 7)",
     )),

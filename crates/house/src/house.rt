@@ -15,7 +15,7 @@ use crate::filing::take_in;
 use crate::showing::{
     show_card, show_notice, show_order, show_pick_list, show_shortages, show_stock,
 };
-use requests::{Ask, Query, Read, WireFault, read_request};
+use requests::{Ask, Query, Read, RouteTable, WireFault, read_request};
 use sqlite::Alter;
 use std::alloc::{AllocError, Global};
 use store::Books;
@@ -25,6 +25,7 @@ use wire::short_answers::fault_answer;
 #[derive(Drop)]
 pub struct House<S: Alter> {
     pub(crate) alloc: Global,
+    pub(crate) routes: RouteTable,
     books: Books<S>,
 }
 
@@ -33,14 +34,23 @@ impl<S: Alter> House<S> {
     pub fn new(alloc: Global, books: Books<S>) -> House<S>
         ensures { books_of result ≡ books }
     {
-        House { alloc, books }
+        House {
+            alloc,
+            routes: RouteTable::new(),
+            books,
+        }
     }
 
     /// The books back. It takes no memory.
     pub fn close(self) -> Books<S>
         ensures { result ≡ books_of self }
     {
-        let House { alloc: _, books } = self;
+        let House {
+            alloc: _,
+            routes,
+            books,
+        } = self;
+        drop(routes);
         books
     }
 
@@ -53,7 +63,7 @@ impl<S: Alter> House<S> {
             → StepsTo S.Store first acts request.now (bytes_of result) (books_of self.old) (books_of self.new) }
         ensures in_place { IsInPlace request.now result }
     {
-        let reading = read_request(self.alloc, request);
+        let reading = read_request(self.alloc, &mut self.routes, request);
         self.answer_reading(&reading)
     }
 

@@ -29,7 +29,7 @@ impl<S: Alter> House<S> {
             → IsServed S.Store first acts (R.remaining reader.old) (R.remaining reader.new) (books_of self.old) (books_of self.new) (Writes result (W.contents writer.old) (W.contents writer.new)) }
         ensures unread { result ≡ Err ServeFault.Read → (books_of self.new ≡ books_of self.old) × (writer.new ≡ writer.old) }
     {
-        let reading = read_whole(self.alloc, reader)?;
+        let reading = read_whole(self.alloc, &mut self.routes, reader)?;
         let answer = self.answer_reading(&reading);
         write_bytes(writer, answer.as_bytes())
     }

@@ -17,4 +17,4 @@ pub use fault::WireFault;
 pub use fields::json_value;
 pub use method::Method;
 pub use request::{Read, query_of, read_request};
-pub use routes::{Posted, Shown};
+pub use routes::{Posted, RouteTable, Shown};

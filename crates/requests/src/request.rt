@@ -6,7 +6,7 @@ ghost use Rattle.requests.specs.Head.{HEAD_MAX};
 use crate::bodies::body_of;
 use crate::fields::{gtin_of, json_value, lot_of};
 use crate::head::{Head, LONGEST_HEAD, head_end, read_head};
-use crate::routes::{Posted, Route, Shown, method_of, route_of};
+use crate::routes::{Posted, Route, RouteTable, Shown, method_of};
 use crate::{Ask, Query, WireFault};
 use commands::Listed;
 use percent_encoding::percent_decode;
@@ -150,13 +150,19 @@ fn read_route(alloc: Global, route: Route, target: &[u8], body: &[u8]) -> Result
     }
 }
 
-fn read_ask(alloc: Global, method: &[u8], target: &[u8], body: &[u8]) -> Result<Ask, WireFault>
+fn read_ask(
+    alloc: Global,
+    routes: &mut RouteTable,
+    method: &[u8],
+    target: &[u8],
+    body: &[u8],
+) -> Result<Ask, WireFault>
     requires { IsUtf8 target.now }
     ensures ok { IfOk result (λ a. read_ask_lem method.now target.now body.now ≡ Ok a) }
     ensures err { IfErr result (λ e. e ≢ WireFault.Memory
         → read_ask_lem method.now target.now body.now ≡ Err e) }
 {
-    let route = route_of(alloc, target)?;
+    let route = routes.route_of(alloc, target)?;
     let wanted = method_of(route);
     if method != wanted.name().as_bytes() {
         return Err(WireFault::Method(wanted));
@@ -174,7 +180,7 @@ fn answered(asked: Result<Ask, WireFault>) -> Read
     }
 }
 
-fn after_head(alloc: Global, head: Head, rest: &[u8]) -> Read
+fn after_head(alloc: Global, routes: &mut RouteTable, head: Head, rest: &[u8]) -> Read
     requires { IsUtf8 head.target.now }
     ensures { result ≢ Read.Bad WireFault.Memory
         → (result ≡ after_head_lem head.entry.method.now head.entry.target.now head.entry.length rest.now) }
@@ -186,7 +192,7 @@ fn after_head(alloc: Global, head: Head, rest: &[u8]) -> Read
                 return Read::Need(WireFault::Length);
             }
             let (body, _) = rest.split_at(n as usize);
-            answered(read_ask(alloc, head.method, head.target, body))
+            answered(read_ask(alloc, routes, head.method, head.target, body))
         }
     }
 }
@@ -206,8 +212,8 @@ fn head_room(text: &[u8]) -> &[u8]
 /// What a text is read as. It is judged in this order: the end of the head within 8,192 bytes
 /// (`W01`, `W08`), the head (`W01`), the length of the body (`W02`, `W08`), the body (`W02`), the
 /// path (`W06`), the method (`W07`), JSON (`W03`), the values (`W04`). What follows the body is not
-/// looked at. `W90` is answered only for want of memory.
-pub fn read_request(alloc: Global, text: &[u8]) -> Read
+/// looked at. `W90` is answered only for want of memory. The table of routes is made where it is first needed.
+pub fn read_request(alloc: Global, routes: &mut RouteTable, text: &[u8]) -> Read
     ensures { result ≢ Read.Bad WireFault.Memory → IsReading text.now result }
 {
     let Some(end) = head_end(head_room(text)) else {
@@ -219,7 +225,7 @@ pub fn read_request(alloc: Global, text: &[u8]) -> Read
     };
     let (head, rest) = text.split_at(end);
     match read_head(head) {
-        Ok(head) => after_head(alloc, head, rest),
+        Ok(head) => after_head(alloc, routes, head, rest),
         Err(_) => Read::Bad(WireFault::Head),
     }
 }

@@ -6,6 +6,7 @@ ghost use Rattle.requests.specs.Routes.{table, is_path as is_path_lem, route_of 
 use crate::{Method, WireFault};
 use matchit::Router;
 use std::alloc::Global;
+use std::marker::Model;
 
 /// What is posted. The body of `GoodsIn` is a file, the others are JSON.
 #[derive(Clone, Copy)]
@@ -129,35 +130,71 @@ fn is_path(target: &[u8]) -> bool
     !ended
 }
 
-// The route of a path, by a table that is made anew.
-fn served_at(alloc: Global, path: &str) -> Result<Route, WireFault>
-    ensures ok { IfOk result (λ r. option_map (λ x. x.value) (first table path.now) ≡ Some r) }
-    ensures err { IfErr result (λ e. e ≢ WireFault.Memory → (e ≡ WireFault.Path)
-        × (option_map (λ x. x.value) (first table path.now) ≡ None)) }
+// The routes that are served.
+fn served(alloc: Global) -> Result<Router<Route>, WireFault>
+    ensures ok { IfOk result (λ r. r ≡ table) }
+    ensures err { IfErr result (λ e. e ≡ WireFault.Memory) }
 {
     let mut router = Router::new(alloc);
     let added = add_served(&mut router);
-    let found = found_at(&router, path);
-    // A call, and before any exit: dropped at the end of its scope it is dropped field by field (docs/GATE.md).
-    drop(router);
     if !added {
+        // A call, and before the exit: dropped at the end of its scope it is dropped field by field (docs/GATE.md).
+        drop(router);
         return Err(WireFault::Memory);
     }
-    found.ok_or(WireFault::Path)
+    Ok(router)
 }
 
-/// The route of a target. The table is made anew in each call; where there is no memory for it
-/// the fault is `W90`, and otherwise `W06` where no route fits.
-pub fn route_of(alloc: Global, target: &[u8]) -> Result<Route, WireFault>
-    requires { IsUtf8 target.now }
-    ensures ok { IfOk result (λ r. route_of_lem target.now ≡ Some r) }
-    ensures err { IfErr result (λ e. e ≢ WireFault.Memory → (e ≡ WireFault.Path)
-        × (route_of_lem target.now ≡ None)) }
-{
-    if !is_path(target) {
-        return Err(WireFault::Path);
+/// The table of the routes that are served: made where a first path is looked for, and kept.
+#[derive(Drop)]
+pub struct RouteTable {
+    router: Option<Router<Route>>,
+}
+
+impl Model for RouteTable {
+    ghost use Rattle.std.specs.Prelude.{◌≡◌, IfSome};
+    ghost use Rattle.requests.specs.Routes.{table};
+
+    ghost Value = { Unit };
+
+    ghost view = { λ t. tt };
+
+    ghost invariant = { λ t. IfSome t.router (λ made. made ≡ table) };
+}
+
+impl RouteTable {
+    /// A table that is not made yet. It takes no memory.
+    pub fn new() -> RouteTable {
+        RouteTable { router: None }
     }
-    served_at(alloc, std::str::from_utf8(target).unwrap())
+
+    // The table, taken out or made.
+    fn taken(&mut self, alloc: Global) -> Result<Router<Route>, WireFault>
+        ensures ok { IfOk result (λ r. r ≡ table) }
+        ensures err { IfErr result (λ e. e ≡ WireFault.Memory) }
+    {
+        match self.router.take() {
+            Some(router) => Ok(router),
+            None => served(alloc),
+        }
+    }
+
+    /// The route of a target. Where there is no memory for the table the fault is `W90`, and otherwise `W06` where no
+    /// route fits.
+    pub fn route_of(&mut self, alloc: Global, target: &[u8]) -> Result<Route, WireFault>
+        requires { IsUtf8 target.now }
+        ensures ok { IfOk result (λ r. route_of_lem target.now ≡ Some r) }
+        ensures err { IfErr result (λ e. e ≢ WireFault.Memory → (e ≡ WireFault.Path)
+            × (route_of_lem target.now ≡ None)) }
+    {
+        if !is_path(target) {
+            return Err(WireFault::Path);
+        }
+        let router = self.taken(alloc)?;
+        let found = found_at(&router, std::str::from_utf8(target).unwrap());
+        self.router = Some(router);
+        found.ok_or(WireFault::Path)
+    }
 }
 
 /// The method of a route.

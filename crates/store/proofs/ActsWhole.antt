@@ -136,7 +136,7 @@ abbrev pub LooksOnly : State → State → Type 0
 LooksOnly old new = HasCleanDisk new → IsReady old.now → KeepsCommit old new
 
 -- the same where there is no answer
-abbrev pub KeptWhole : Result Reply Fault → State → State → Type 0
+abbrev pub KeptWhole : {X E : Type 0} → Result X E → State → State → Type 0
 KeptWhole r old new = HasCleanDisk new → IsReady old.now → OnErr r (KeepsCommit old new)
 
 module _ (old begun last new : State) (is : begun ≡ record old { in_transaction = true }) where
@@ -152,7 +152,7 @@ module _ (old begun last new : State) (is : begun ≡ record old { in_transactio
   pub undone_kept : KeepsInside begun last → Survives last new (λ _. ⊥) → (HasCleanDisk new → IsRolledBack last new) → LooksOnly old new
   undone_kept keeps ends undone clean ready = commit_kept keeps ready (omega (arith, clean, ends.clean)) (kept_undone last new (undone clean))
 
-  pub kept_if_undone : (r : Result Reply Fault) → KeepsInside begun last → Survives last new (λ _. ⊥) → (HasCleanDisk new → IsRolledBack last new)
+  pub kept_if_undone : {X E : Type 0} (r : Result X E) → KeepsInside begun last → Survives last new (λ _. ⊥) → (HasCleanDisk new → IsRolledBack last new)
       → KeptWhole r old new
   kept_if_undone r keeps ends undone clean ready = on_err r (undone_kept keeps ends undone clean ready)
 
@@ -160,7 +160,7 @@ module _ (old begun last new : State) (is : begun ≡ record old { in_transactio
   failed_commit_kept e (inl fails) = kept_undone last new fails.3
   failed_commit_kept e (inr late) = kept_unchanged last new late.2
 
-  pub kept_if_not_committed : (r : Result Reply Fault) (e : Error) → KeepsInside begun last → Survives last new (λ db. db ≡ last.now.trees) → (HasCleanDisk new → FailsToCommit last new e)
+  pub kept_if_not_committed : {X E : Type 0} (r : Result X E) (e : Error) → KeepsInside begun last → Survives last new (λ db. db ≡ last.now.trees) → (HasCleanDisk new → FailsToCommit last new e)
       → KeptWhole r old new
   kept_if_not_committed r e keeps ends fails clean ready = on_err r (commit_kept keeps ready (omega (arith, clean, ends.clean)) (failed_commit_kept e (fails clean)))
 

@@ -81,28 +81,25 @@ pub record AreUnderWay (first : ℤ) (acts rows left : List Act) (day : ℤ) (fi
   pub tally : all_tallied first (tally_of filed.tally so_far) left ≡ once.tally first acts rows
   pub shows : ShowsBooks first so_far old now
   pub day_goes : DayGoes first acts day so_far filed.day
-  pub kept : KeepsCommit old now
 
 module _ (first : ℤ) (acts rows : List Act) (day : ℤ) (old : State) where
-  pub under_way_at_first : (filed : Filed) → filed ≡ record { tally = record { accepted = 0; repeated = 0 }; day = day } → IsHistory first acts → IsBooksOf first acts old.now → KeepsCommit old old
+  pub under_way_at_first : (filed : Filed) → filed ≡ record { tally = record { accepted = 0; repeated = 0 }; day = day } → IsHistory first acts → IsBooksOf first acts old.now
       → AreUnderWay first acts rows rows day filed old old
-  under_way_at_first filed is history books kept =
+  under_way_at_first filed is history books =
       subst (λ (f : Filed). AreUnderWay first acts rows rows day f old old) (sym is) (record {
         so_far = acts;
         tally = refl;
         shows = record { history = history; books = books; mode = refl };
         day_goes = λ e. e;
-        kept = kept;
       })
 
   module _ (act : Act) (left : List Act) (filed : Filed) (mid new : State) (way : AreUnderWay first acts rows (act ∷ left) day filed old mid) where
-    pub one_row_on : (next : Filed) → IsRowTaken first way.so_far act filed (Ok next) mid new → KeepsCommit mid new → AreUnderWay first acts rows left day next old new
-    one_row_on next taken kept = record {
+    pub one_row_on : (next : Filed) → IsRowTaken first way.so_far act filed (Ok next) mid new → AreUnderWay first acts rows left day next old new
+    one_row_on next taken = record {
       so_far = acts_after first way.so_far act;
       tally = sym (ap (λ t. all_tallied first t left) taken.0) ∙ way.tally;
       shows = record { history = taken.1.history; books = taken.1.books; mode = taken.1.mode ∙ way.shows.mode };
       day_goes = λ e. taken.2 (way.day_goes e);
-      kept = kept_then old mid new way.kept kept;
     }
 
     refused_there : (r : ℕ × Refusal) → (tallied (tally_of filed.tally way.so_far) act (outcome first way.so_far act)).refused ≡ Some r → (once.tally first acts rows).refused ≡ Some r

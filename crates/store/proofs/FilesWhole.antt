@@ -21,7 +21,7 @@ use Rattle.store.specs.Filing.{rows_of, AreKeysOf, IsFiledInside, IsFiledOn, IsF
 use Rattle.store.specs.declared.tally.RowFault.{RowFault}
 use Rattle.store.specs.declared.tally.RowFault.TheVariants.{Refused, Store, Foreign}
 use Rattle.store.specs.declared.filing.Filed.{Filed}
-use Rattle.store.proofs.ActsWhole.{books_begun, undone_whole, not_committed, begun_survives}
+use Rattle.store.proofs.ActsWhole.{KeepsInside, books_begun, undone_whole, not_committed, begun_survives}
 
 pub by_row_error : {X : Type 0} (r : Result X RowFault) (f : RowFault) → IsErr r × IsErrAnd r (λ e. e ≡ f) → (P : Result X RowFault → Type 0) → P (Err f) → P r
 by_row_error (Ok x) f h P p = absurd (let no = h.0 in cc)
@@ -55,9 +55,6 @@ OnBooks rows old P =
 abbrev pub FilesInside : List (Key × Command) → ℤ → Result Filed RowFault → State → State → Type 0
 FilesInside rows day r old new = HasCleanDisk new → OnBooks rows old (λ first acts. IsFiledInside first acts (rows_of rows) day r old new)
 
-abbrev pub KeepsFile : List (Key × Command) → State → State → Type 0
-KeepsFile rows old new = HasCleanDisk new → OnBooks rows old (λ first acts. KeepsCommit old new)
-
 abbrev pub FilesWhole : List (Key × Command) → ℤ → Result Filed RowFault → State → State → Type 0
 FilesWhole rows day r old new =
     HasCleanDisk new → AreKeysOf rows → (first : ℤ) (acts : List Act) → IsHistory first acts → KeepsBooks first acts old → IsFiledOn first acts (rows_of rows) day r new
@@ -74,21 +71,21 @@ module _ (rows : List (Key × Command)) (day : ℤ) (old begun last new : State)
       let was : HasCleanDisk last = omega (arith, clean, ends.clean) in
       filed_whole first acts (rows_of rows) day old begun is history held filed last new (inside was keys first acts history (books_begun first acts old begun is held)) (shows clean)
 
-  pub file_not_committed : (filed : Filed) (e : Error) (r : Result Filed RowFault) → FilesInside rows day (Ok filed) begun last → KeepsFile rows begun last → Survives last new (λ db. db ≡ last.now.trees)
+  pub file_not_committed : (filed : Filed) (e : Error) (r : Result Filed RowFault) → FilesInside rows day (Ok filed) begun last → KeepsInside begun last → Survives last new (λ db. db ≡ last.now.trees)
       → (HasCleanDisk new → FailsToCommit last new e) → IsErr r × IsErrAnd r (λ x. x ≡ Store) → FilesWhole rows day r old new
   file_not_committed filed e r inside keeps ends fails told clean keys first acts history held =
       let was : HasCleanDisk last = omega (arith, clean, ends.clean) in
       let books = books_begun first acts old begun is held in
       let done = inside was keys first acts history books in
-      by_row_error r Store told (λ x. IsFiledOn first acts (rows_of rows) day x new) (not_committed first acts old begun is held last new e (keeps was keys first acts history books) done.1.mode (fails clean))
+      by_row_error r Store told (λ x. IsFiledOn first acts (rows_of rows) day x new) (not_committed first acts old begun is held last new e (keeps was (λ up. (books up).ready)) done.1.mode (fails clean))
 
-  pub file_undone : (fault : RowFault) (r : Result Filed RowFault) → FilesInside rows day (Err fault) begun last → KeepsFile rows begun last → Survives last new (λ _. ⊥)
+  pub file_undone : (fault : RowFault) (r : Result Filed RowFault) → FilesInside rows day (Err fault) begun last → KeepsInside begun last → Survives last new (λ _. ⊥)
       → (HasCleanDisk new → IsRolledBack last new) → IsErr r × IsErrAnd r (λ x. x ≡ fault) → FilesWhole rows day r old new
   file_undone fault r inside keeps ends undone told clean keys first acts history held =
       let was : HasCleanDisk last = omega (arith, clean, ends.clean) in
       let books = books_begun first acts old begun is held in
       by_row_error r fault told (λ x. IsFiledOn first acts (rows_of rows) day x new)
-      (refused_file first acts (rows_of rows) day old begun is history held fault last new (inside was keys first acts history books) (undone_whole first acts old begun is held last new (keeps was keys first acts history books) (undone clean)))
+      (refused_file first acts (rows_of rows) day old begun is history held fault last new (inside was keys first acts history books) (undone_whole first acts old begun is held last new (keeps was (λ up. (books up).ready)) (undone clean)))
 
   -- a stop in the commit leaves the books before or with the whole file
   pub stop_in_file_commit : (filed : Filed) → FilesInside rows day (Ok filed) begun last → Survives begun last (λ _. ⊥) → Survives last new (λ db. db ≡ last.now.trees) → FileSurvives rows old new

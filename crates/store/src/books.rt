@@ -257,6 +257,7 @@ impl<S: Alter> Books<S> {
             → (first : ℤ) (acts : List Act) → IsHistory first acts → HoldsBooks S.Store first acts self.old
             → OnOk result (LeavesOnly first (acts_after_file first acts (rows_of rows.now)) (state S.Store self.new.conn)) }
         ensures history { AreKeysOf rows.now → (first : ℤ) (acts : List Act) → IsHistory first acts → IsHistory first (acts_after_file first acts (rows_of rows.now)) }
+        ensures as_before { IsClean S.Store self.new → IsReady (state S.Store self.old.conn).now → OnErr result (KeepsCommit (state S.Store self.old.conn) (state S.Store self.new.conn)) }
         ensures survives { Survives (state S.Store self.old.conn) (state S.Store self.new.conn) (λ trees. AreKeysOf rows.now
             → (first : ℤ) (acts : List Act) → IsHistory first acts → KeepsBooks first acts (state S.Store self.old.conn)
             → AreRowsOf first (acts_after_file first acts (rows_of rows.now)) trees) }

@@ -1,6 +1,6 @@
 //! The rows of a file as one transaction.
 
-ghost use Rattle.std.specs.Prelude.{◌≡◌, false, ◌+◌, ◌<◌, ◌≤◌, ℤ, List, length, IsTrue, IfOk};
+ghost use Rattle.std.specs.Prelude.{◌≡◌, false, ◌+◌, ◌<◌, ◌≤◌, ℤ, List, length, IsTrue, IfOk, OnOk, OnErr};
 ghost use Rattle.sqlite.specs.State.{HasCleanDisk, Survives, KeepsCommit};
 ghost use Rattle.sqlite.specs.Held.{state};
 ghost use Rattle.table_words.specs.Steps.{IsReady};
@@ -52,6 +52,7 @@ pub fn file_once<S: Alter>(
     ensures outside { conn.new.in_transaction ≡ false }
     ensures filed { HasCleanDisk (state S.Store conn.new) → AreKeysOf rows.now → (first : ℤ) (acts : List Act) → IsHistory first acts → KeepsBooks first acts (state S.Store conn.old)
         → IsFiledOn first acts (rows_of rows.now) day result (state S.Store conn.new) }
+    ensures as_before { HasCleanDisk (state S.Store conn.new) → IsReady (state S.Store conn.old).now → OnErr result (KeepsCommit (state S.Store conn.old) (state S.Store conn.new)) }
     ensures survives { Survives (state S.Store conn.old) (state S.Store conn.new) (λ trees. AreKeysOf rows.now → (first : ℤ) (acts : List Act) → IsHistory first acts → KeepsBooks first acts (state S.Store conn.old)
         → AreRowsOf first (acts_after_file first acts (rows_of rows.now)) trees) }
 {
@@ -74,9 +75,7 @@ fn file_inside<S: Alter>(
     ensures filed { HasCleanDisk (state S.Store tx.new.conn.now) → AreKeysOf rows.now → (first : ℤ) (acts : List Act) → IsHistory first acts
         → (IsTrue (state S.Store tx.old.conn.now).is_open → IsBooksOf first acts (state S.Store tx.old.conn.now).now)
         → IsFiledInside first acts (rows_of rows.now) day result (state S.Store tx.old.conn.now) (state S.Store tx.new.conn.now) }
-    ensures kept { HasCleanDisk (state S.Store tx.new.conn.now) → AreKeysOf rows.now → (first : ℤ) (acts : List Act) → IsHistory first acts
-        → (IsTrue (state S.Store tx.old.conn.now).is_open → IsBooksOf first acts (state S.Store tx.old.conn.now).now)
-        → KeepsCommit (state S.Store tx.old.conn.now) (state S.Store tx.new.conn.now) }
+    ensures kept { HasCleanDisk (state S.Store tx.new.conn.now) → (IsTrue (state S.Store tx.old.conn.now).is_open → IsReady (state S.Store tx.old.conn.now).now) → KeepsCommit (state S.Store tx.old.conn.now) (state S.Store tx.new.conn.now) }
     ensures survives { Survives (state S.Store tx.old.conn.now) (state S.Store tx.new.conn.now) (λ _. ⊥) }
 {
     match find_open(tx) {
@@ -97,9 +96,7 @@ fn take_rows<S: Alter>(
     ensures filed { HasCleanDisk (state S.Store tx.new.conn.now) → AreKeysOf rows.now → (first : ℤ) (acts : List Act) → IsHistory first acts
         → IsBooksOf first acts (state S.Store tx.old.conn.now).now
         → IsFiledInside first acts (rows_of rows.now) day result (state S.Store tx.old.conn.now) (state S.Store tx.new.conn.now) }
-    ensures kept { HasCleanDisk (state S.Store tx.new.conn.now) → AreKeysOf rows.now → (first : ℤ) (acts : List Act) → IsHistory first acts
-        → IsBooksOf first acts (state S.Store tx.old.conn.now).now
-        → KeepsCommit (state S.Store tx.old.conn.now) (state S.Store tx.new.conn.now) }
+    ensures kept { HasCleanDisk (state S.Store tx.new.conn.now) → IsReady (state S.Store tx.old.conn.now).now → KeepsCommit (state S.Store tx.old.conn.now) (state S.Store tx.new.conn.now) }
     ensures survives { Survives (state S.Store tx.old.conn.now) (state S.Store tx.new.conn.now) (λ _. ⊥) }
 {
     let mut filed = Filed {
@@ -128,6 +125,7 @@ fn take_row<S: Alter>(
         → IsBooksOf first acts (state S.Store tx.old.conn.now).now
         → IsRowTaken first acts (record { key = row.now.0; command = row.now.1 }) so_far result (state S.Store tx.old.conn.now) (state S.Store tx.new.conn.now) }
     ensures count { IfOk result (λ filed. filed.tally.accepted + filed.tally.repeated ≡ so_far.tally.accepted + so_far.tally.repeated + 1) }
+    ensures ready { HasCleanDisk (state S.Store tx.new.conn.now) → IsReady (state S.Store tx.old.conn.now).now → OnOk result (IsReady (state S.Store tx.new.conn.now).now) }
     ensures kept { HasCleanDisk (state S.Store tx.new.conn.now) → IsReady (state S.Store tx.old.conn.now).now → KeepsCommit (state S.Store tx.old.conn.now) (state S.Store tx.new.conn.now) }
     ensures survives { Survives (state S.Store tx.old.conn.now) (state S.Store tx.new.conn.now) (λ _. ⊥) }
 {

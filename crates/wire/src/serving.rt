@@ -5,7 +5,7 @@ ghost use Rattle.std.specs.Io.KnownBytes.{Appends, Keeps};
 ghost use Rattle.requests.specs.declared.request.Read.TheVariants.{Need};
 ghost use Rattle.wire.specs.Serving.{IsRead, IsTaken, stopped as stopped_lem};
 
-use requests::{Read as Reading, WireFault, read_request};
+use requests::{Read as Reading, RouteTable, WireFault, read_request};
 use std::alloc::Global;
 use std::io::{Read, Write};
 
@@ -64,13 +64,17 @@ fn stopped(stop: Taken, fault: WireFault) -> Reading
 
 /// Reads until no more bytes are needed or the reader comes to its end. What was read then has this reading, which is
 /// `Bad` with `W90` where there was no memory for what was read. The fault is `Read` where the reader fails.
-pub fn read_whole<R: Read>(alloc: Global, reader: &mut R) -> Result<Reading, ServeFault>
+pub fn read_whole<R: Read>(
+    alloc: Global,
+    routes: &mut RouteTable,
+    reader: &mut R,
+) -> Result<Reading, ServeFault>
     ensures read { IfOk result (IsRead (R.remaining reader.old) (R.remaining reader.new)) }
     ensures fault { IfErr result (λ e. e ≡ ServeFault.Read) }
 {
     let mut text = Vec::new(alloc);
     loop {
-        let fault = match read_request(alloc, text.as_slice()) {
+        let fault = match read_request(alloc, routes, text.as_slice()) {
             Reading::Need(fault) => fault,
             reading => return Ok(reading),
         };

@@ -2,7 +2,7 @@
 
 use crate::answer_tests::written;
 use commands::{Listed, OrderState, OrderView};
-use requests::{Read as Reading, WireFault};
+use requests::{Read as Reading, RouteTable, WireFault};
 use std::alloc::Global;
 use std::io;
 use std::io::Write;
@@ -55,7 +55,8 @@ const LONG_HEAD: usize = 47;
 // What the bytes are read as: a request, or a fault.
 fn told(alloc: Global, text: &[u8]) -> Option<WireFault> {
     let mut reader = text;
-    match read_whole(alloc, &mut reader) {
+    let mut routes = RouteTable::new();
+    match read_whole(alloc, &mut routes, &mut reader) {
         Ok(Reading::Request(_)) => None,
         Ok(Reading::Need(fault)) | Ok(Reading::Bad(fault)) => Some(fault),
         Err(ServeFault::Read) | Err(ServeFault::Write) => Some(WireFault::Memory),

@@ -1,6 +1,7 @@
 use commands::{Command, decimal_text, spell};
 use requests::{
-    Ask, Method, Posted, Query, Read, Shown, WireFault, body_of, json_value, query_of, read_request,
+    Ask, Method, Posted, Query, Read, RouteTable, Shown, WireFault, body_of, json_value, query_of,
+    read_request,
 };
 use std::alloc::{AllocError, Global};
 use std::process::Abort;
@@ -27,18 +28,23 @@ enum Outcome {
 
 // The reading of a text, read again where there was no memory.
 pub fn read(alloc: Global, text: &[u8]) -> Read {
-    match read_request(alloc, text) {
-        Read::Bad(WireFault::Memory) => read_request(alloc, text),
+    let mut routes = RouteTable::new();
+    match read_request(alloc, &mut routes, text) {
+        Read::Bad(WireFault::Memory) => read_request(alloc, &mut routes, text),
         other => other,
     }
 }
 
-fn told(alloc: Global, text: &[u8]) -> Outcome {
-    match read(alloc, text) {
-        Read::Need(fault) => Outcome::Need(fault),
-        Read::Bad(fault) => Outcome::Bad(fault),
+fn outcome_of(reading: &Read) -> Outcome {
+    match reading {
+        Read::Need(fault) => Outcome::Need(*fault),
+        Read::Bad(fault) => Outcome::Bad(*fault),
         Read::Request(_) => Outcome::Request,
     }
+}
+
+fn told(alloc: Global, text: &[u8]) -> Outcome {
+    outcome_of(&read(alloc, text))
 }
 
 // The outcome of one text.
@@ -634,4 +640,35 @@ fn reads_a_path(rt: HostRuntime) -> Result<(), Fail> {
     }
     drop(ask);
     Ok(())
+}
+
+// Paths that are looked for one after another in one table.
+static PATHS_IN_TURN: [(&[u8], Outcome); 4] = [
+    (
+        b"GET /nowhere HTTP/1.1\r\nHost: a\r\n\r\n",
+        Outcome::Bad(WireFault::Path),
+    ),
+    (
+        b"GET /orders/S-1 HTTP/1.1\r\nHost: a\r\n\r\n",
+        Outcome::Request,
+    ),
+    (
+        b"GET /orders/S-1/S-2 HTTP/1.1\r\nHost: a\r\n\r\n",
+        Outcome::Bad(WireFault::Path),
+    ),
+    (
+        b"GET /stock/09506000134352 HTTP/1.1\r\nHost: a\r\n\r\n",
+        Outcome::Request,
+    ),
+];
+
+#[test]
+fn keeps_the_table_of_routes(rt: HostRuntime) {
+    let mut routes = RouteTable::new();
+    for row in PATHS_IN_TURN.as_slice() {
+        let reading = read_request(rt.alloc(), &mut routes, row.0);
+        assert_eq!(rt; outcome_of(&reading), row.1);
+        drop(reading);
+    }
+    drop(routes);
 }

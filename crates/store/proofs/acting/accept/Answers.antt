@@ -43,3 +43,9 @@ returns-in_err-keep_act-clause-kept g c clean =
     let new = state g.S.Store c.keep_act.new.tx.conn.now in
     let was : HasCleanDisk mid = omega (arith, clean, c.keep_act.ensures.survives.clean) in
     kept_then old mid new (c.in_ok-write_change.ensures.kept was) (c.in_err-keep_act.ensures.kept clean)
+
+pub returns-clause-ready : goal.returns-clause-ready
+returns-clause-ready g c clean ready =
+    let mid = state g.S.Store c.write_change.new.tx.conn.now in
+    let was : HasCleanDisk mid = omega (arith, clean, c.keep_act.ensures.survives.clean) in
+    (c.in_ok-keep_act.ensures.done clean (c.in_ok-write_change.ensures.ready was ready)).ready

@@ -36,3 +36,10 @@ returns-clause-kept g c clean ready up =
     let new = state g.S.Store c.accept-reply.new.tx.conn.now in
     let was : HasCleanDisk mid = omega (arith, clean, c.accept-reply.ensures.survives.clean) in
     kept_then old mid new (c.in_ok-change.ensures.kept was ready up) (c.accept-reply.ensures.kept clean)
+
+pub returns-clause-ready : goal.returns-clause-ready
+returns-clause-ready g c clean ready up =
+    let mid = state g.S.Store c.change_of.new.tx.conn.now in
+    let was : HasCleanDisk mid = omega (arith, clean, c.accept-reply.ensures.survives.clean) in
+    let same = c.in_ok-change.ensures.same was ready up in
+    c.accept-reply.ensures.ready clean (subst IsReady (sym same.0.now_is) ready)

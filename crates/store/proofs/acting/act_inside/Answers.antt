@@ -36,3 +36,10 @@ returns-clause-kept g c clean ready =
     let was : HasCleanDisk mid = omega (arith, clean, c.act_open.ensures.survives.clean) in
     let same = c.in_ok-find_open.ensures.open was in
     kept_then old mid new (kept_unchanged old mid same) (c.act_open.ensures.kept clean (subst IsReady (sym same.0.now_is) (ready same.0.was_open)) same.0.is_open)
+
+pub returns-clause-ready : goal.returns-clause-ready
+returns-clause-ready g c clean ready =
+    let mid = state g.S.Store c.find_open.new.tx.conn.now in
+    let was : HasCleanDisk mid = omega (arith, clean, c.act_open.ensures.survives.clean) in
+    let same = c.in_ok-find_open.ensures.open was in
+    c.act_open.ensures.ready clean (subst IsReady (sym same.0.now_is) (ready same.0.was_open)) same.0.is_open

@@ -5,7 +5,7 @@ use Rattle.commands.specs.Spelling.{key_text}
 use Rattle.commands.specs.declared.rows.RepeatRow.{RepeatRow}
 use Rattle.table_words.specs.Steps.{IsReady}
 use Rattle.table_words.specs.Typed.{tables_in}
-use Rattle.table_words.proofs.CallLemmas.{kept_unchanged, kept_then}
+use Rattle.table_words.proofs.CallLemmas.{kept_unchanged, kept_then, on_ok}
 use Rattle.machine.specs.Acts.{Act}
 use Rattle.store.specs.Acting.{IsActedInside}
 use Rattle.store.specs.Faults.{fault_of}
@@ -52,3 +52,15 @@ returns-in-None-clause-kept g c clean ready up =
     let was : HasCleanDisk mid = omega (arith, clean, c.act_anew.ensures.survives.clean) in
     let same = c.in_ok-found.ensures.same was ready in
     kept_then old mid new (kept_unchanged old mid same) (c.act_anew.ensures.kept clean (subst IsReady (sym same.0.now_is) ready) same.0.is_open)
+
+pub returns-in-Some-clause-ready : goal.returns-in-Some-clause-ready
+returns-in-Some-clause-ready g c clean ready up =
+    let same = c.in_ok-found.ensures.same clean ready in
+    on_ok c.told_again.result (subst IsReady (sym same.0.now_is) ready)
+
+pub returns-in-None-clause-ready : goal.returns-in-None-clause-ready
+returns-in-None-clause-ready g c clean ready up =
+    let mid = state g.S.Store c.earlier.new.tx.conn.now in
+    let was : HasCleanDisk mid = omega (arith, clean, c.act_anew.ensures.survives.clean) in
+    let same = c.in_ok-found.ensures.same was ready in
+    c.act_anew.ensures.ready clean (subst IsReady (sym same.0.now_is) ready) same.0.is_open

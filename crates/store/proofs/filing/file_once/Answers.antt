@@ -1,6 +1,7 @@
-use Rattle.std.proofs.Common.{Ok, rules}
+use Rattle.std.proofs.Common.{Ok, rules, subst}
+use Rattle.sqlite.specs.State.{State}
 use Rattle.sqlite.specs.Held.{state}
-use Rattle.store.proofs.ActsWhole.{begun_state}
+use Rattle.store.proofs.ActsWhole.{begun_state, KeptWhole, kept_if_undone, kept_if_not_committed}
 use Rattle.store.proofs.FilesWhole.{FilesWhole, FileSurvives, file_committed, file_not_committed, file_undone, stop_in_file_commit, stop_before_file_commit}
 use Rattle.store.proofs.filing.file_once.Goals as goal
 
@@ -14,7 +15,7 @@ returns-clause-filed g c =
     let is = begun_state g.S.Store c.args.conn.now c.transaction-tx.result.conn.now c.transaction-tx.ensures.begun in
     let whole : FilesWhole rows c.args.day (Ok c.in_ok-filed.filed) old new =
     file_committed rows c.args.day old begun last new is c.in_ok-filed.filed c.in_ok-filed.ensures.filed c.commit.ensures.survives (λ clean. (c.in_ok-commit.ensures.ok clean).1) in
-    search (rules, whole)
+    subst (λ (s : State). FilesWhole rows c.args.day (Ok c.in_ok-filed.filed) old s) (search rules) whole
 
 pub returns-in_err-commit-clause-filed : goal.returns-in_err-commit-clause-filed
 returns-in_err-commit-clause-filed g c =
@@ -74,4 +75,26 @@ returns-in_err-filed-clause-survives g c =
     let is = begun_state g.S.Store c.args.conn.now c.transaction-tx.result.conn.now c.transaction-tx.ensures.begun in
     let whole : FileSurvives rows old new =
     stop_before_file_commit rows c.args.day old begun last new is c.in_err-filed.ensures.survives c.drop-tx.ensures.survives in
+    search (rules, whole)
+
+pub returns-in_err-commit-clause-as_before : goal.returns-in_err-commit-clause-as_before
+returns-in_err-commit-clause-as_before g c =
+    let old = state g.S.Store c.args.conn.now in
+    let begun = state g.S.Store c.transaction-tx.result.conn.now in
+    let last = state g.S.Store c.file_inside.new.tx.conn.now in
+    let new = state g.S.Store c.commit.new.self.0 in
+    let is = begun_state g.S.Store c.args.conn.now c.transaction-tx.result.conn.now c.transaction-tx.ensures.begun in
+    let whole : KeptWhole c.from_residual-in_err-commit.result old new =
+    kept_if_not_committed old begun last new is c.from_residual-in_err-commit.result c.in_err-commit.field-0.0 c.in_ok-filed.ensures.kept c.commit.ensures.survives c.in_err-commit.ensures.err in
+    search (rules, whole)
+
+pub returns-in_err-filed-clause-as_before : goal.returns-in_err-filed-clause-as_before
+returns-in_err-filed-clause-as_before g c =
+    let old = state g.S.Store c.args.conn.now in
+    let begun = state g.S.Store c.transaction-tx.result.conn.now in
+    let last = state g.S.Store c.file_inside.new.tx.conn.now in
+    let new = state g.S.Store c.drop-tx.new.self.0 in
+    let is = begun_state g.S.Store c.args.conn.now c.transaction-tx.result.conn.now c.transaction-tx.ensures.begun in
+    let whole : KeptWhole c.from_residual.result old new =
+    kept_if_undone old begun last new is c.from_residual.result c.in_err-filed.ensures.kept c.drop-tx.ensures.survives c.drop-tx.ensures.undone in
     search (rules, whole)

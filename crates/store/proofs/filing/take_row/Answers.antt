@@ -17,3 +17,6 @@ returns-in-Err-clause-taken g c clean kind first acts history books =
     let act : Act = record { key = c.args.row.now.0; command = c.args.row.now.1 } in
     row_refused first acts act c.args.so_far (state g.S.Store c.args.tx.now.conn.now) (state g.S.Store c.act_inside.new.tx.conn.now) c.in-Err.fault c.fault_at.result c.fault_at.ensures
     (c.in-Err.ensures.acted clean kind first acts history (λ _. books))
+
+pub returns-in-Ok-clause-ready : goal.returns-in-Ok-clause-ready
+returns-in-Ok-clause-ready g c clean ready = c.in-Ok.ensures.ready clean (λ _. ready)

@@ -11,8 +11,13 @@ use Rattle.store.proofs.filing.take_rows.Goals as goal
 
 pub loop-row-init : goal.loop-row-init
 loop-row-init g c =
-    let old = state g.S.Store c.args.tx.now.conn.now in
-    (refl, inside_itself old, refl, λ clean keys first acts history books. under_way_at_first first acts (rows_of c.args.rows.now) c.args.day old _ refl history books (kept_itself old))
+    let old = state g.S.Store c.args.tx.now.conn.now in (
+      refl,
+      inside_itself old,
+      refl,
+      λ clean keys first acts history books. under_way_at_first first acts (rows_of c.args.rows.now) c.args.day old _ refl history books,
+      λ clean ready. (ready, kept_itself old),
+    )
 
 pub loop-row-preserved : goal.loop-row-preserved
 loop-row-preserved g c =
@@ -33,8 +38,11 @@ loop-row-preserved g c =
           let was : HasCleanDisk mid = omega (arith, clean, one.survives.clean) in
           let way = row_next rows i row (drop (i + 1) rows) left first acts c.args.day c.loop-row.filed old mid (before.3 was keys first acts history books) in
           one_row_on first acts (rows_of rows) c.args.day old act (rows_of (drop (i + 1) rows)) c.loop-row.filed mid new way c.in_ok-filed.filed
-          (one.taken clean (row_kind rows i row (drop (i + 1) rows) left keys) first way.so_far way.shows.history way.shows.books)
-          (one.kept clean way.shows.books.ready),
+          (one.taken clean (row_kind rows i row (drop (i + 1) rows) left keys) first way.so_far way.shows.history way.shows.books),
+      λ clean ready.
+          let was : HasCleanDisk mid = omega (arith, clean, one.survives.clean) in
+          let so_far = before.4 was ready in
+          (one.ready clean so_far.0, kept_then old mid new so_far.1 (one.kept clean so_far.0)),
     )
 
 pub returns-in_err-filed-clause-same_reference : goal.returns-in_err-filed-clause-same_reference
@@ -62,14 +70,14 @@ returns-in_err-filed-clause-filed g c clean keys first acts history books =
     (one.taken clean (row_kind rows i row (drop (i + 1) rows) left keys) first way.so_far way.shows.history way.shows.books))
 
 pub returns-in_err-filed-clause-kept : goal.returns-in_err-filed-clause-kept
-returns-in_err-filed-clause-kept g c clean keys first acts history books =
+returns-in_err-filed-clause-kept g c clean ready =
     let old = state g.S.Store c.args.tx.now.conn.now in
     let mid = state g.S.Store c.loop-row.tx.conn.now in
     let new = state g.S.Store c.take_row.new.tx.conn.now in
     let one = c.in_err-filed.ensures in
     let was : HasCleanDisk mid = omega (arith, clean, one.survives.clean) in
-    let way = c.loop-row.invariant.3 was keys first acts history books in
-    kept_then old mid new way.kept (one.kept clean way.shows.books.ready)
+    let so_far = c.loop-row.invariant.4 was ready in
+    kept_then old mid new so_far.1 (one.kept clean so_far.0)
 
 pub returns-clause-same_reference : goal.returns-clause-same_reference
 returns-clause-same_reference g c = c.loop-row.invariant.0
@@ -87,9 +95,7 @@ returns-clause-filed g c clean keys first acts history books =
     (subst (λ l. AreUnderWay first acts (rows_of rows) (rows_of l) c.args.day c.loop-row.filed old now) none (c.loop-row.invariant.3 clean keys first acts history books))
 
 pub returns-clause-kept : goal.returns-clause-kept
-returns-clause-kept g c clean keys first acts history books =
-    let way = c.loop-row.invariant.3 clean keys first acts history books in
-    way.kept
+returns-clause-kept g c clean ready = (c.loop-row.invariant.4 clean ready).1
 
 pub take_row-requires : goal.take_row-requires
 take_row-requires g c = omega (arith, c.loop-row.invariant.2, c.loop-row-test.true, c.requires)

@@ -1,6 +1,7 @@
 use Rattle.std.proofs.Common.{◌≡◌, ◌+◌, ℤ, List, drop}
-use Rattle.sqlite.specs.State.{HasCleanDisk, Survives}
+use Rattle.sqlite.specs.State.{HasCleanDisk, Survives, KeepsCommit}
 use Rattle.sqlite.specs.Held.{state}
+use Rattle.table_words.specs.Steps.{IsReady}
 use Rattle.machine.specs.Acts.{Act}
 use Rattle.machine.specs.Once.{IsHistory}
 use Rattle.slices.specs.Books.{IsBooksOf}
@@ -16,3 +17,4 @@ invariant-loop-row g l =
     × (l.filed.tally.accepted + l.filed.tally.repeated ≡ l.row-index)
     × (HasCleanDisk now → AreKeysOf l.rows → (first : ℤ) (acts : List Act) → IsHistory first acts → IsBooksOf first acts old.now
     → AreUnderWay first acts (rows_of l.rows) (rows_of (drop l.row-index l.rows)) l.fn.day l.filed old now)
+    × (HasCleanDisk now → IsReady old.now → IsReady now.now × KeepsCommit old now)

@@ -3,12 +3,13 @@ use Rattle.std.specs.Prelude.{ℤ, List}
 use Rattle.commands.specs.declared.key.Key.{Key}
 use Rattle.commands.specs.declared.command.Command.{Command}
 use Rattle.sqlite.specs.Held.{state}
-use Rattle.sqlite.specs.State.{Survives}
+use Rattle.sqlite.specs.State.{Survives, KeepsCommit}
 use Rattle.sqlite.specs.Tree.{Trees}
 use Rattle.sqlite_trees.specs.declared.store.Store.{Ghosts}
 use Rattle.machine.specs.Acts.{Act}
 use Rattle.machine.specs.Once.{IsHistory, acts_after_file}
-use Rattle.store.specs.Books.{HoldsBooks, KeepsBooks, AreRowsOf}
+use Rattle.table_words.specs.Steps.{IsReady}
+use Rattle.store.specs.Books.{HoldsBooks, KeepsBooks, AreRowsOf, IsClean}
 use Rattle.store.specs.Connected.{Connected}
 use Rattle.store.specs.Filing.{rows_of, AreKeysOf}
 use Rattle.machine.proofs.histories.Runs.{history_file}
@@ -50,3 +51,7 @@ returns-in-Ok-clause-history g c keys first acts history = history_file first ac
 
 pub returns-in-Err-clause-history : goal.returns-in-Err-clause-history
 returns-in-Err-clause-history g c keys first acts history = history_file first acts (rows_of c.args.rows.now) (c.every_row_is_sound.ensures keys) history
+
+pub returns-in-Err-clause-as_before : goal.returns-in-Err-clause-as_before
+returns-in-Err-clause-as_before g c =
+    subst (λ b. IsClean g.S.Store (record { conn = c.file_once.new.conn; day = c.self.inside.day }) → IsReady (state g.S.Store b.conn).now → KeepsCommit (state g.S.Store b.conn) (state g.S.Store c.file_once.new.conn)) c.self.view_is c.in-Err.ensures.as_before
