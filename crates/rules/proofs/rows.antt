@@ -7,6 +7,7 @@ pub mod SharesTold
 pub mod Differing
 pub mod PlanTold
 pub mod Replanned
+pub mod ReservedLowered
 pub mod SuppliesTold
 pub mod DemandsTold
 pub mod Telling
