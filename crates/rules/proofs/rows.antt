@@ -24,7 +24,9 @@ pub mod OrderTold
 pub mod KeptRows
 pub mod FoundRows
 pub mod OrderItems
+pub mod ItemsNamed
 pub mod ItemsReplanned
+pub mod NeedsTold
 pub mod StageTold
 pub mod LotStateTold
 pub mod StagedChanged
