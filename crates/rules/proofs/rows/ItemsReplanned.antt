@@ -1,5 +1,5 @@
 -- An act that touches several items: rows that tell the demands and supplies of each after the act tell which reserved rows differ.
-use Rattle.std.proofs.Common.{◌≡◌, ℕ, true, false, ◌&&◌, List, [], ◌∷◌, ap, sym, ◌∙◌}
+use Rattle.std.proofs.Common.{◌≡◌, ℕ, true, false, ◌&&◌, List, [], ◌∷◌, refl, ap, sym, ◌∙◌}
 use Rattle.std.specs.Prelude.{◌||◌, ℤ, None, find, flat_map}
 use Rattle.std.specs.List.{list_any}
 use Rattle.values.specs.Values.{same_text}

@@ -34,12 +34,12 @@ module _ (o : List ℕ) (l : LotId) (m left : ℕ) (rows : List ReservedRow) (fo
   put_named : find own (reserved_put o l left) ≡ (if differs (share_row o l m) (share_row o l left) then share_row o l left else None)
   put_named =
       elim (left == 0) as (λ z. find own (if z then [] else row left ∷ []) ≡ (if differs (at (m == 0) m) (at z left) then at z left else None)) [
-        | true ↦ elim (m == 0) as (λ w. None ≡ (if differs (at w m) None then None else None)) [ true ↦ refl | false ↦ refl ]
+        | true ↦ elim (m == 0) as (λ w. at true left ≡ (if differs (at w m) (at true left) then at true left else None)) [ true ↦ refl | false ↦ refl ]
         | false ↦
             ap (λ b. if b then Some (row left) else None) (is_own left)
-            ∙ elim (m == 0) as (λ w. Some (row left) ≡ (if differs (at w m) (Some (row left)) then Some (row left) else None)) [
+            ∙ elim (m == 0) as (λ w. at false left ≡ (if differs (at w m) (at false left) then at false left else None)) [
               | true ↦ refl
-              | false ↦ sym (ap (λ b. if not b then Some (row left) else None) unlike)
+              | false ↦ sym (ap (λ b. if not b then at false left else None) unlike)
             ]
       ]
 

@@ -1,5 +1,5 @@
 -- What the rows of an order's slice tell of its lines: the plan in which a line is booked last has its rows of the plan after the act.
-use Rattle.std.proofs.Common.{◌≡◌, ℕ, ◌+◌, ◌-◌, min, false, List, [], ◌∷◌, ◌++◌, refl, ap, sym, ◌∙◌, arith}
+use Rattle.std.proofs.Common.{◌≡◌, ℕ, ◌+◌, ◌-◌, min, true, false, List, [], ◌∷◌, ◌++◌, refl, ap, sym, ◌∙◌, arith}
 use Rattle.std.specs.Prelude.{◌==◌, ℤ, filter}
 use Rattle.values.specs.Values.{same_text}
 use Rattle.commands.specs.Lists.{total}

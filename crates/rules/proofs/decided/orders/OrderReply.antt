@@ -22,7 +22,7 @@ use Rattle.machine.specs.Tables.{tables_of}
 use Rattle.machine.specs.Verdict.{names_item_twice}
 use Rattle.rules.specs.Slices.{IsSlice}
 use Rattle.row_rules.specs.Seen.{capped, number_seen}
-use Rattle.order_rules.specs.Booked.{plan_booked, line_short}
+use Rattle.order_rules.specs.Booked.{plan_booked, line_short as short_of_line}
 use Rattle.order_rules.specs.DecidedOrder.{short_seen, order_reply}
 use Rattle.row_rules.specs.declared.slice.Slice.{Slice}
 use Rattle.machine.proofs.Tests.{and_both, or_none, same_text_refl}
@@ -109,7 +109,7 @@ module _ (first : ℤ) (acts : List Act) (key : Key) (o : NewOrder) (s : Slice) 
       ∙ total_flat_map own_short (λ (l : OrderLine). bookings after l.gtin) o.lines
       ∙ lines_short o.lines (lines_found first acts key o s slice next)
 
-  seen_short : (ls : List OrderLine) → AllFound same_item o.lines ls → total (line_short s) ls ≡ total (λ l. l.qty - reserved_for (next_number acts) (plan first after l.gtin)) ls
+  seen_short : (ls : List OrderLine) → AllFound same_item o.lines ls → total (short_of_line s) ls ≡ total (λ l. l.qty - reserved_for (next_number acts) (plan first after l.gtin)) ls
   seen_short [] h = refl
   seen_short (l ∷ ls) h = λ i. (l.qty - line_served l h.0 i) + seen_short ls h.1 i
     where

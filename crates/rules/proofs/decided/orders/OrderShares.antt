@@ -48,26 +48,26 @@ single_once (l ∷ ls) e =
     (λ i. not (two.0 i) && single_once ls two.1 i)
 
 -- a row that is new is named
-new_named : (q : List ℕ) (l : LotId) (n : ℕ) (put : List ReservedRow) → find (λ (r : ReservedRow). same_text q r.order && is_lot l r.lot) put ≡ share_row q l n → IsNamed q l 0 n put []
-new_named q l n put e = record {
-  put = e ∙ elim (n == 0) as (λ b. (if b then None else Some (record { order = q; lot = l; qty = n }))
-      ≡ (if differs None (if b then None else Some (record { order = q; lot = l; qty = n })) then (if b then None else Some (record { order = q; lot = l; qty = n })) else None)) [ true ↦ refl | false ↦ refl ];
-  dropped = refl;
-}
+module _ (q : List ℕ) (l : LotId) (n : ℕ) where
+  abbrev at : Bool → Option ReservedRow
+  at b = if b then None else Some (record { order = q; lot = l; qty = n })
+
+  new_named : (put : List ReservedRow) → find (λ (r : ReservedRow). same_text q r.order && is_lot l r.lot) put ≡ share_row q l n → IsNamed q l 0 n put []
+  new_named put e = record { put = e ∙ elim (n == 0) as (λ b. at b ≡ (if differs None (at b) then at b else None)) [ true ↦ refl | false ↦ refl ]; dropped = refl }
 
 -- rows that are named by one order are none of another
-none_of_other : (q : List ℕ) (m : LotId) (order : OrderRow) (lots : List LotRow) → same_text q order.order ≡ false → (rs : List Row)
-    → find (λ (r : ReservedRow). same_text q r.order && is_lot m r.lot) (named_rows (order ∷ []) lots rs) ≡ None
-none_of_other q m order lots e [] = refl
-none_of_other q m order lots e (r ∷ rs) = by_found (r.booking == order.act) (find (λ k. r.lot == k.came) lots)
-  where
-    by_found : (b : Bool) (y : Option LotRow)
-        → find (λ (r : ReservedRow). same_text q r.order && is_lot m r.lot) (cons_option (named_row (if b then Some order else None) y r.qty) (named_rows (order ∷ []) lots rs)) ≡ None
-    by_found false y = none_of_other q m order lots e rs
-    by_found true None = none_of_other q m order lots e rs
-    by_found true (Some k) =
-        ap (λ t. if t && is_lot m k.lot then Some (record { order = order.order; lot = k.lot; qty = r.qty }) else find (λ (r : ReservedRow). same_text q r.order && is_lot m r.lot) (named_rows (order ∷ []) lots rs)) e
-        ∙ none_of_other q m order lots e rs
+module _ (q : List ℕ) (m : LotId) (order : OrderRow) (lots : List LotRow) (other : same_text q order.order ≡ false) where
+  abbrev test : ReservedRow → Bool
+  test r = same_text q r.order && is_lot m r.lot
+
+  not_found : (rest : List ReservedRow) → find test rest ≡ None → (b : Bool) (y : Option LotRow) (n : ℕ) → find test (cons_option (named_row (if b then Some order else None) y n) rest) ≡ None
+  not_found rest h false y n = h
+  not_found rest h true None n = h
+  not_found rest h true (Some k) n = ap (λ t. if t && is_lot m k.lot then Some (record { order = order.order; lot = k.lot; qty = n }) else find test rest) other ∙ h
+
+  none_of_other : (rs : List Row) → find test (named_rows (order ∷ []) lots rs) ≡ None
+  none_of_other [] = refl
+  none_of_other (r ∷ rs) = not_found (named_rows (order ∷ []) lots rs) (none_of_other rs) (r.booking == order.act) (find (λ k. r.lot == k.came) lots) r.qty
 
 module _ (first : ℤ) (acts : List Act) (key : Key) (o : NewOrder) (s : Slice) (slice : IsSlice first (record { key = key; command = Order o }) acts (tables_of first acts) s)
     (next : IsHistory first (record { key = key; command = Order o } ∷ acts)) where

@@ -1,5 +1,5 @@
 -- What the rows of an order's slice tell of it: its number and row, and that it is new.
-use Rattle.std.proofs.Common.{◌≡◌, ℕ, Bool, true, false, ◌&&◌, List, [], ◌∷◌, refl, ap, ◌∙◌}
+use Rattle.std.proofs.Common.{◌≡◌, ℕ, Bool, true, false, ◌&&◌, not, List, [], ◌∷◌, refl, ap, ◌∙◌}
 use Rattle.std.specs.Prelude.{◌||◌, ℤ, map}
 use Rattle.std.specs.List.{list_all, list_any}
 use Rattle.values.specs.Values.{same_text, is_qty, is_gtin, is_name, is_title}
@@ -41,7 +41,7 @@ wants_units (l ∷ ls) e =
 abbrev pub same_item : OrderLine → OrderLine → Bool
 same_item l m = same_text l.gtin m.gtin
 
-single_apart : (ls : List OrderLine) → names_item_twice ls ≡ false → AreApart same_item ls
+pub single_apart : (ls : List OrderLine) → names_item_twice ls ≡ false → AreApart same_item ls
 single_apart [] e = tt
 single_apart (l ∷ ls) e = let two = or_none (list_any (λ m. same_text l.gtin m.gtin) ls) (names_item_twice ls) e in (two.0, single_apart ls two.1)
 

@@ -23,7 +23,7 @@ use Rattle.machine.specs.KeyedRows.{same_cell, same_line, same_share, no_two}
 use Rattle.rules.specs.Slices.{IsSlice}
 use Rattle.row_rules.specs.SeenLots.{stock_put, stock_rows_with}
 use Rattle.row_rules.specs.SeenStages.{staged_put, staged_rows_with}
-use Rattle.row_rules.specs.Plans.{rows_to_put, rows_to_drop}
+use Rattle.row_rules.specs.Plans.{rows_to_put, rows_to_drop, is_share_of}
 use Rattle.order_rules.specs.DecidedPick.{shares_with, changes_with}
 use Rattle.row_rules.specs.declared.slice.Slice.{Slice}
 use Rattle.machine.proofs.Tests.{same_text_refl, same_text_turned}
