@@ -1,10 +1,8 @@
 -- What the slice of any command tells of the units of a lot that are staged and reserved for an order, if it touches the lot.
 use Rattle.std.proofs.Common.{◌≡◌, ℕ, true, false, List, refl, ap, sym, ◌∙◌}
-use Rattle.std.specs.Prelude.{◌==◌, ◌&&◌, if◌then◌else◌, find, ℤ, Some, None}
-use Rattle.values.specs.Values.{same_text}
+use Rattle.std.specs.Prelude.{◌==◌, if◌then◌else◌, ℤ, Some, None}
 use Rattle.values.specs.declared.lot.LotId.{LotId}
 use Rattle.machine.specs.Acts.{Act}
-use Rattle.machine.specs.Postings.{is_lot}
 use Rattle.machine.specs.Planning.{staged_of_lot, reserved}
 use Rattle.machine.specs.Tables.{tables_of, if_any, staged_row, reserved_row}
 use Rattle.machine.specs.Touched.{is_touched}

@@ -1,8 +1,7 @@
 -- What the rows of an order's slice tell of its lines: the plan in which a line is booked last has its rows of the plan after the act.
-use Rattle.std.proofs.Common.{◌≡◌, ℕ, ◌+◌, ◌-◌, min, true, false, List, [], ◌∷◌, ◌++◌, refl, ap, sym, ◌∙◌, arith}
-use Rattle.std.specs.Prelude.{◌==◌, ℤ, filter}
+use Rattle.std.proofs.Common.{◌≡◌, ℕ, ◌+◌, ◌-◌, min, true, List, [], ◌∷◌, ◌++◌, refl, ap, sym, ◌∙◌, arith}
+use Rattle.std.specs.Prelude.{ℤ, filter}
 use Rattle.values.specs.Values.{same_text}
-use Rattle.commands.specs.Lists.{total}
 use Rattle.commands.specs.declared.key.Key.{Key}
 use Rattle.commands.specs.declared.command.OrderLine.{OrderLine}
 use Rattle.commands.specs.declared.command.NewOrder.{NewOrder}
@@ -22,7 +21,7 @@ use Rattle.machine.specs.Tables.{tables_of}
 use Rattle.machine.specs.Touched.{is_touched}
 use Rattle.rules.specs.Slices.{IsSlice}
 use Rattle.row_rules.specs.Seen.{capped, number_seen}
-use Rattle.row_rules.specs.Plans.{need_seen, supplies_seen, supplies_within, plan_within, named_rows}
+use Rattle.row_rules.specs.Plans.{supplies_seen, supplies_within, plan_within, named_rows}
 use Rattle.row_rules.proofs.Cutting.{plan_of_cut}
 use Rattle.order_rules.specs.Booked.{needs_seen, plan_booked, line_put}
 use Rattle.order_rules.specs.DecidedOrder.{new_order_row}

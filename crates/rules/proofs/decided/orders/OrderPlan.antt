@@ -10,7 +10,6 @@ use Rattle.values.specs.declared.lot.LotId.{LotId}
 use Rattle.commands.specs.declared.key.Key.{Key}
 use Rattle.commands.specs.declared.command.OrderLine.{OrderLine}
 use Rattle.commands.specs.declared.command.NewOrder.{NewOrder}
-use Rattle.commands.specs.declared.command.Command.TheVariants.{Order}
 use Rattle.commands.specs.declared.rows.OrderRow.{OrderRow}
 use Rattle.commands.specs.declared.rows.LotRow.{LotRow}
 use Rattle.plan.specs.declared.Demand.{Demand}
@@ -21,8 +20,8 @@ use Rattle.plan.proofs.Sums.{total-append}
 use Rattle.plan.proofs.Laying.{plan_rows-append}
 use Rattle.machine.specs.Acts.{Act, next_number}
 use Rattle.machine.specs.Postings.{of_item}
-use Rattle.machine.specs.Standing.{Placed, KnownLot, orders, order_named, has_order, lot_known, is_cancelled}
-use Rattle.machine.specs.Planning.{Booking, booking_of, lines_of_item, bookings, need, demand_of, demands, supplies, item_postings, staged, shipped_of, plan, reserved, reserved_of}
+use Rattle.machine.specs.Standing.{Placed, KnownLot, orders, order_named, has_order, lot_known}
+use Rattle.machine.specs.Planning.{booking_of, lines_of_item, bookings, need, demand_of, demands, supplies, item_postings, plan, reserved, reserved_of}
 use Rattle.machine.specs.Once.{IsHistory}
 use Rattle.row_rules.specs.Plans.{named_row, named_rows}
 use Rattle.machine.proofs.Tests.{same_text_is, same_text_refl}

@@ -1,5 +1,5 @@
 -- The reply to an order says what its plans leave short.
-use Rattle.std.proofs.Common.{◌≡◌, ℕ, ◌+◌, ◌-◌, ◌*◌, ◌≤◌, Bool, true, false, ◌&&◌, List, [], ◌∷◌, ◌++◌, refl, ap, sym, ◌∙◌, arith}
+use Rattle.std.proofs.Common.{◌≡◌, ℕ, ◌+◌, ◌-◌, ◌*◌, ◌≤◌, true, false, ◌&&◌, List, [], ◌∷◌, ◌++◌, refl, ap, sym, ◌∙◌, arith}
 use Rattle.std.specs.Prelude.{if◌then◌else◌, ℤ, Some, find, filter, map, flat_map, is_some, length, codes, decimal, nat_le}
 use Rattle.std.specs.List.{list_all, list_any}
 use Rattle.std.proofs.lemmas.Bool.Decides.{nat_tests}
@@ -19,7 +19,6 @@ use Rattle.machine.specs.Planning.{Booking, booking_of, bookings, lines_of_item,
 use Rattle.machine.specs.Once.{IsHistory}
 use Rattle.machine.specs.Replies.{reply, short_field}
 use Rattle.machine.specs.Tables.{tables_of}
-use Rattle.machine.specs.Verdict.{names_item_twice}
 use Rattle.rules.specs.Slices.{IsSlice}
 use Rattle.row_rules.specs.Seen.{capped, number_seen}
 use Rattle.order_rules.specs.Booked.{plan_booked, line_short as short_of_line}
