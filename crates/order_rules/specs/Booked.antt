@@ -1,28 +1,37 @@
--- What the lines of an order change, with the rows of orders and lines after it.
-use Rattle.std.specs.Prelude.{ℕ, ◌-◌, List}
+-- What a line of an order reserves: it is booked last, behind what all other orders need of its item.
+use Rattle.std.specs.Prelude.{ℕ, ◌-◌, List, [], ◌∷◌}
+use Rattle.commands.specs.Lists.{total}
 use Rattle.commands.specs.declared.command.OrderLine.{OrderLine}
 use Rattle.commands.specs.declared.rows.OrderRow.{OrderRow}
-use Rattle.commands.specs.declared.rows.LineRow.{LineRow}
 use Rattle.commands.specs.declared.rows.ReservedRow.{ReservedRow}
+use Rattle.plan.specs.declared.Demand.{Demand}
 use Rattle.plan.specs.declared.Row.{Row}
 use Rattle.plan.specs.Overlap.{reserved_for}
-use Rattle.row_rules.specs.Plans.{demands_seen, supplies_seen, plan_within, named_rows, rows_to_put, rows_to_drop}
+use Rattle.row_rules.specs.Seen.{capped, number_seen}
+use Rattle.row_rules.specs.Plans.{need_seen, supplies_seen, plan_within, named_rows}
 use Rattle.row_rules.specs.declared.slice.Slice.{Slice}
 
-module _ (s : Slice) (orders : List OrderRow) (rows : List LineRow) where
-  -- the plan of an item, and what it reserves
-  abbrev pub plan_over : List ℕ → List Row
-  plan_over g = plan_within (demands_seen g rows s.rows.staged orders) (supplies_seen g s.meta.day s.rows.recalls s.rows.bins s.rows.stock s.rows.lots)
+-- what the orders of the slice still need of the item together
+abbrev pub needs_seen : Slice → List ℕ → ℕ
+needs_seen s g = capped (total (need_seen g s.rows.lines s.rows.staged) s.rows.orders)
 
-  abbrev pub shares_over : List ℕ → List ReservedRow
-  shares_over g = named_rows orders s.rows.lots (plan_over g)
+-- What is reserved for the last booking depends on the sum of the needs before it alone. So one demand stands for them, under
+-- the number 0 that no act has.
+abbrev pub demand_before : Slice → List ℕ → Demand
+demand_before s g = record { booking = 0; need = needs_seen s g }
 
-  -- the reserved rows that a line puts and drops, and what it is short of, its order being of this number
-  abbrev pub line_put : OrderLine → List ReservedRow
-  line_put l = rows_to_put s.rows.reserved (shares_over l.gtin)
+-- the demand of the line, under the number of the act that is decided
+abbrev pub demand_booked : Slice → OrderLine → Demand
+demand_booked s l = record { booking = number_seen s; need = l.qty }
 
-  abbrev pub line_dropped : OrderLine → List ReservedRow
-  line_dropped l = rows_to_drop l.gtin s.rows.reserved (shares_over l.gtin)
+abbrev pub plan_booked : Slice → OrderLine → List Row
+plan_booked s l =
+    plan_within (demand_before s l.gtin ∷ demand_booked s l ∷ []) (supplies_seen l.gtin s.meta.day s.rows.recalls s.rows.bins s.rows.stock s.rows.lots)
 
-  abbrev pub line_short : ℕ → OrderLine → ℕ
-  line_short number l = l.qty - reserved_for number (plan_over l.gtin)
+-- the rows of the order, whose row is handed in, and no others
+abbrev pub line_put : Slice → OrderRow → OrderLine → List ReservedRow
+line_put s order l = named_rows (order ∷ []) s.rows.lots (plan_booked s l)
+
+-- what the line is short of
+abbrev pub line_short : Slice → OrderLine → ℕ
+line_short s l = l.qty - reserved_for (number_seen s) (plan_booked s l)

@@ -1,5 +1,5 @@
 -- What is decided of an order by the rows of its slice: the conditions judged, and the rows changed.
-use Rattle.std.specs.Prelude.{ℕ, ◌+◌, ◌-◌, Bool, not, ◌&&◌, nat_lt, if◌then◌else◌, List, [], ◌∷◌, ◌++◌, map, flat_map, find, Option, Some, None}
+use Rattle.std.specs.Prelude.{ℕ, ◌+◌, ◌-◌, Bool, not, ◌&&◌, nat_lt, if◌then◌else◌, List, [], ◌∷◌, map, flat_map, find, Option, Some, None}
 use Rattle.std.specs.List.{list_any}
 use Rattle.values.specs.Values.{same_text}
 use Rattle.commands.specs.Lists.{total}
@@ -11,15 +11,13 @@ use Rattle.commands.specs.declared.rows.OrderState.TheVariants.{Open}
 use Rattle.commands.specs.declared.rows.OrderRow.{OrderRow}
 use Rattle.commands.specs.declared.rows.LineRow.{LineRow}
 use Rattle.commands.specs.declared.rows.ReservedRow.{ReservedRow}
-use Rattle.plan.specs.declared.Row.{Row}
-use Rattle.plan.specs.Overlap.{reserved_for}
 use Rattle.machine.specs.Planning.{is_open_state}
 use Rattle.machine.specs.Verdict.{Judgement, names_item_twice}
 use Rattle.commands.specs.Replies.{reply_text}
 use Rattle.commands.specs.declared.replies.ReplyField.TheVariants.{UnitsShort}
 use Rattle.row_rules.specs.Seen.{capped, sees_item, number_seen, meta_after, none_put, none_dropped}
 use Rattle.row_rules.specs.SeenOrders.{sees_order}
-use Rattle.row_rules.specs.Plans.{demands_seen, supplies_seen, plan_within, named_rows, rows_to_put, rows_to_drop}
+use Rattle.order_rules.specs.Booked.{line_put, line_short}
 use Rattle.row_rules.specs.declared.slice.Slice.{Slice}
 use Rattle.row_rules.specs.declared.slice.Change.{Change}
 
@@ -61,40 +59,21 @@ new_order_row s o = record { order = o.order; act = number_seen s; customer = o.
 abbrev pub new_line_rows : NewOrder → List LineRow
 new_line_rows o = map (λ l. record { order = o.order; gtin = l.gtin; ordered = l.qty; shipped = 0 }) o.lines
 
-abbrev pub order_rows_after : Slice → NewOrder → List OrderRow
-order_rows_after s o = new_order_row s o ∷ s.rows.orders
-
-abbrev pub line_rows_after : Slice → NewOrder → List LineRow
-line_rows_after s o = new_line_rows o ++ s.rows.lines
-
--- the plan of an item with the order
-abbrev pub plan_with_order : Slice → NewOrder → List ℕ → List Row
-plan_with_order s o g =
-    plan_within (demands_seen g (line_rows_after s o) s.rows.staged (order_rows_after s o))
-    (supplies_seen g s.meta.day s.rows.recalls s.rows.bins s.rows.stock s.rows.lots)
-
--- the reserved rows of an item with the order
-abbrev pub order_shares : Slice → NewOrder → List ℕ → List ReservedRow
-order_shares s o g = named_rows (order_rows_after s o) s.rows.lots (plan_with_order s o g)
-
--- the rows that differ, item after item
+-- the rows that the order reserves, line by line; no other row changes
 abbrev pub order_rows_to_put : Slice → NewOrder → List OrderLine → List ReservedRow
-order_rows_to_put s o lines = flat_map (λ l. rows_to_put s.rows.reserved (order_shares s o l.gtin)) lines
+order_rows_to_put s o lines = flat_map (line_put s (new_order_row s o)) lines
 
-abbrev pub order_rows_to_drop : Slice → NewOrder → List OrderLine → List ReservedRow
-order_rows_to_drop s o lines = flat_map (λ l. rows_to_drop l.gtin s.rows.reserved (order_shares s o l.gtin)) lines
-
--- what the plans leave short of the lines
-abbrev pub short_seen : Slice → NewOrder → List OrderLine → ℕ
-short_seen s o lines = capped (total (λ l. l.qty - reserved_for (number_seen s) (plan_with_order s o l.gtin)) lines)
+-- what the lines are short of together
+abbrev pub short_seen : Slice → List OrderLine → ℕ
+short_seen s lines = capped (total (line_short s) lines)
 
 abbrev pub order_reply : Slice → NewOrder → List ℕ
-order_reply s o = reply_text (number_seen s) (Some (UnitsShort (short_seen s o o.lines)))
+order_reply s o = reply_text (number_seen s) (Some (UnitsShort (short_seen s o.lines)))
 
 abbrev pub order_changes : Slice → NewOrder → Change
 order_changes s o = record {
   meta = meta_after s;
   put = record none_put { orders = new_order_row s o ∷ []; lines = new_line_rows o; reserved = order_rows_to_put s o o.lines };
-  dropped = record none_dropped { reserved = order_rows_to_drop s o o.lines };
+  dropped = none_dropped;
   text = order_reply s o;
 }

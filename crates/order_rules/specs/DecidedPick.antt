@@ -9,7 +9,7 @@ use Rattle.row_rules.specs.Seen.{capped, sees_item, sees_bin, lot_seen, sees_rec
 use Rattle.row_rules.specs.Status.{is_past_row}
 use Rattle.row_rules.specs.SeenOrders.{sees_order, sees_open, sees_line}
 use Rattle.row_rules.specs.SeenLots.{sees_lot, sees_hold, in_bin_seen, stock_put, stock_gone, stock_rows_with}
-use Rattle.row_rules.specs.SeenStages.{reserved_seen, on_stage_seen, staged_put, staged_gone, staged_rows_with}
+use Rattle.row_rules.specs.SeenStages.{reserved_seen, reserved_put, reserved_gone, on_stage_seen, staged_put, staged_gone, staged_rows_with}
 use Rattle.row_rules.specs.Plans.{is_store_found, shares_over, rows_to_put, rows_to_drop}
 use Rattle.row_rules.specs.declared.slice.Slice.{Slice}
 use Rattle.row_rules.specs.declared.slice.Change.{Change}
@@ -48,29 +48,37 @@ unpick_seen s p =
 -- Changing. Units go from the bin onto the stage, or back: each command says how many of the lot are in the bin and on the
 -- stage after it.
 
--- the reserved rows of the item after the act
-abbrev pub shares_with : Slice → Picking → ℕ → ℕ → List ReservedRow
-shares_with s p stock staged =
-    shares_over p.lot.gtin s.meta.day s.rows.orders s.rows.lines (staged_rows_with p.order p.lot staged s.rows.staged) s.rows.lots s.rows.recalls s.rows.bins (stock_rows_with p.lot p.bin stock s.rows.stock)
-
-abbrev pub changes_with : Slice → Picking → ℕ → ℕ → Change
-changes_with s p stock staged = record {
+-- with these reserved rows put and dropped
+abbrev pub changes_with : Slice → Picking → ℕ → ℕ → List ReservedRow → List ReservedRow → Change
+changes_with s p stock staged put dropped = record {
   meta = meta_after s;
-  put = record none_put {
-    stock = stock_put p.lot p.bin stock;
-    staged = staged_put p.order p.lot staged;
-    reserved = rows_to_put s.rows.reserved (shares_with s p stock staged);
-  };
+  put = record none_put { stock = stock_put p.lot p.bin stock; staged = staged_put p.order p.lot staged; reserved = put };
   dropped = record {
     stock = stock_gone s.rows.stock p.lot p.bin stock;
     staged = staged_gone s.rows.staged p.order p.lot staged;
-    reserved = rows_to_drop p.lot.gtin s.rows.reserved (shares_with s p stock staged);
+    reserved = dropped;
   };
   text = plain_reply s;
 }
 
+-- Units picked are taken from their own reservation, and disturb no other: this much is left of it.
+abbrev pub reserved_left : Slice → Picking → ℕ
+reserved_left s p = reserved_seen s p.order p.lot - p.qty
+
 abbrev pub pick_changes : Slice → Picking → Change
-pick_changes s p = changes_with s p (in_bin_seen s p.bin p.lot - p.qty) (capped (on_stage_seen s p.order p.lot + p.qty))
+pick_changes s p =
+    changes_with s p (in_bin_seen s p.bin p.lot - p.qty) (capped (on_stage_seen s p.order p.lot + p.qty))
+    (reserved_put p.order p.lot (reserved_left s p)) (reserved_gone s.rows.reserved p.order p.lot (reserved_left s p))
+
+-- the reserved rows of the item where so many units are in the bin and on the stage
+abbrev pub shares_with : Slice → Picking → ℕ → ℕ → List ReservedRow
+shares_with s p stock staged =
+    shares_over p.lot.gtin s.meta.day s.rows.orders s.rows.lines (staged_rows_with p.order p.lot staged s.rows.staged) s.rows.lots s.rows.recalls s.rows.bins (stock_rows_with p.lot p.bin stock s.rows.stock)
+
+-- where units are put back, the item is planned anew
+abbrev pub unpick_with : Slice → Picking → ℕ → ℕ → Change
+unpick_with s p stock staged =
+    changes_with s p stock staged (rows_to_put s.rows.reserved (shares_with s p stock staged)) (rows_to_drop p.lot.gtin s.rows.reserved (shares_with s p stock staged))
 
 abbrev pub unpick_changes : Slice → Picking → Change
-unpick_changes s p = changes_with s p (capped (in_bin_seen s p.bin p.lot + p.qty)) (on_stage_seen s p.order p.lot - p.qty)
+unpick_changes s p = unpick_with s p (capped (in_bin_seen s p.bin p.lot + p.qty)) (on_stage_seen s p.order p.lot - p.qty)

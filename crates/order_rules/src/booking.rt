@@ -2,44 +2,33 @@
 
 ghost use Rattle.std.specs.Prelude.{◌≡◌, map, flat_map, IfOk};
 ghost use Rattle.commands.specs.Lists.{total};
-ghost use Rattle.row_rules.specs.Seen.{capped, number_seen as number_seen_lem};
-ghost use Rattle.order_rules.specs.DecidedOrder.{new_order_row as new_order_row_lem, new_line_rows as new_line_rows_lem, order_rows_after as order_rows_after_lem, line_rows_after as line_rows_after_lem, order_rows_to_put, order_rows_to_drop, short_seen};
-ghost use Rattle.order_rules.specs.Booked.{plan_over as plan_over_lem, line_put, line_dropped, line_short};
+ghost use Rattle.row_rules.specs.Seen.{capped};
+ghost use Rattle.order_rules.specs.DecidedOrder.{new_order_row as new_order_row_lem, new_line_rows as new_line_rows_lem, order_rows_to_put, short_seen};
+ghost use Rattle.order_rules.specs.Booked.{demand_before as demand_before_lem, demand_booked as demand_booked_lem, plan_booked as plan_booked_lem, line_put, line_short};
 
 use commands::{LineRow, Listed, NewOrder, OrderLine, OrderRow, OrderState, ReservedRow};
 use plan::{Demand, Plan};
 use row_rules::Slice;
 use row_rules::changing::number_seen;
-use row_rules::demands::demands_seen;
-use row_rules::plans::{named_rows, plan_within};
-use row_rules::replanning::shares_changed;
+use row_rules::demands::sum_of_needs;
+use row_rules::plans::{named_rows, plan_with_last};
 use row_rules::supplies::supplies_seen;
 use std::alloc::{AllocError, Global};
 use values::{Gtin, Name};
 
-/// The reserved rows that lines put and drop, and the units that they are short of.
+/// The reserved rows that lines put, and the units that they are short of.
 #[derive(Drop)]
 pub struct Booked {
     pub put: Listed<ReservedRow>,
-    pub dropped: Listed<ReservedRow>,
     pub short: u64,
 }
 
-/// What the lines of an order reserve and are short of.
+/// What the lines of an order reserve and are short of. No other order's rows change.
 pub fn book_order(alloc: Global, slice: &Slice, o: &NewOrder) -> Result<Booked, AllocError>
     ensures put { IfOk result (λ b. b.put ≡ order_rows_to_put slice.now o.now o.now.lines) }
-    ensures dropped { IfOk result (λ b. b.dropped ≡ order_rows_to_drop slice.now o.now o.now.lines) }
-    ensures short { IfOk result (λ b. b.short ≡ short_seen slice.now o.now o.now.lines) }
+    ensures short { IfOk result (λ b. b.short ≡ short_seen slice.now o.now.lines) }
 {
-    let orders = order_rows_after(alloc, slice, o)?;
-    let rows = line_rows_after(alloc, slice, o)?;
-    book_lines(
-        alloc,
-        slice,
-        orders.as_slice(),
-        rows.as_slice(),
-        o.lines.as_slice(),
-    )
+    book_lines(alloc, slice, &new_order_row(slice, o), o.lines.as_slice())
 }
 
 /// The row of a new order.
@@ -76,47 +65,25 @@ fn line_rows(alloc: Global, order: &Name, lines: &[OrderLine]) -> Result<Vec<Lin
     Ok(rows)
 }
 
-fn order_rows_after(alloc: Global, slice: &Slice, o: &NewOrder) -> Result<Vec<OrderRow>, AllocError>
-    ensures { IfOk result (λ v. v.items ≡ order_rows_after_lem slice.now o.now) }
-{
-    let mut rows = Vec::new(alloc);
-    rows.push(new_order_row(slice, o))?;
-    rows.extend_from_slice(slice.rows.orders.as_slice())?;
-    Ok(rows)
-}
-
-fn line_rows_after(alloc: Global, slice: &Slice, o: &NewOrder) -> Result<Vec<LineRow>, AllocError>
-    ensures { IfOk result (λ v. v.items ≡ line_rows_after_lem slice.now o.now) }
-{
-    let mut rows = new_line_rows(alloc, o)?;
-    rows.extend_from_slice(slice.rows.lines.as_slice())?;
-    Ok(rows)
-}
-
-// What these lines reserve and are short of, with these rows of orders and lines after the act.
+// What these lines of an order reserve and are short of.
 fn book_lines(
     alloc: Global,
     slice: &Slice,
-    orders: &[OrderRow],
-    rows: &[LineRow],
+    order: &OrderRow,
     lines: &[OrderLine],
 ) -> Result<Booked, AllocError>
-    ensures put { IfOk result (λ b. b.put ≡ flat_map (line_put slice.now orders.now rows.now) lines.now) }
-    ensures dropped { IfOk result (λ b. b.dropped ≡ flat_map (line_dropped slice.now orders.now rows.now) lines.now) }
-    ensures short { IfOk result (λ b. b.short ≡ capped (total (line_short slice.now orders.now rows.now (number_seen_lem slice.now)) lines.now)) }
+    ensures put { IfOk result (λ b. b.put ≡ flat_map (line_put slice.now order.now) lines.now) }
+    ensures short { IfOk result (λ b. b.short ≡ capped (total (line_short slice.now) lines.now)) }
 {
     let mut put = Vec::new(alloc);
-    let mut dropped = Vec::new(alloc);
     let mut short = 0_u64;
     for line in lines {
-        let booked = book_line(alloc, slice, orders, rows, line)?;
+        let booked = book_line(alloc, slice, order, line)?;
         put.extend_from_slice(booked.put.as_slice())?;
-        dropped.extend_from_slice(booked.dropped.as_slice())?;
         short = short.saturating_add(booked.short);
     }
     Ok(Booked {
         put: Listed::from_vec(put),
-        dropped: Listed::from_vec(dropped),
         short,
     })
 }
@@ -124,50 +91,65 @@ fn book_lines(
 fn book_line(
     alloc: Global,
     slice: &Slice,
-    orders: &[OrderRow],
-    rows: &[LineRow],
+    order: &OrderRow,
     line: &OrderLine,
 ) -> Result<Booked, AllocError>
-    ensures put { IfOk result (λ b. b.put ≡ line_put slice.now orders.now rows.now line.now) }
-    ensures dropped { IfOk result (λ b. b.dropped ≡ line_dropped slice.now orders.now rows.now line.now) }
-    ensures short { IfOk result (λ b. b.short ≡ line_short slice.now orders.now rows.now (number_seen_lem slice.now) line.now) }
+    ensures put { IfOk result (λ b. b.put ≡ line_put slice.now order.now line.now) }
+    ensures short { IfOk result (λ b. b.short ≡ line_short slice.now line.now) }
 {
-    let plan = plan_over(alloc, slice, orders, rows, &line.gtin)?;
-    let lots = slice.rows.lots.as_slice();
-    let shares = named_rows(alloc, orders, lots, plan.rows())?;
-    let olds = slice.rows.reserved.as_slice();
-    let changed = shares_changed(alloc, &line.gtin, olds, shares.as_slice())?;
-    let demand = Demand {
-        booking: number_seen(slice),
-        need: u64::from(line.qty.units()),
-    };
+    let plan = plan_booked(alloc, slice, line)?;
+    let shares = named_rows(alloc, &[*order], slice.rows.lots.as_slice(), plan.rows())?;
     Ok(Booked {
-        put: changed.put,
-        dropped: changed.dropped,
-        short: plan.short(demand),
+        put: Listed::from_vec(shares),
+        short: plan.short(demand_booked(slice, line)),
     })
 }
 
-// The plan of an item with these rows of orders and lines.
-fn plan_over(
-    alloc: Global,
-    slice: &Slice,
-    orders: &[OrderRow],
-    lines: &[LineRow],
-    gtin: &Gtin,
-) -> Result<Plan, AllocError>
-    ensures { IfOk result (λ plan. plan ≡ plan_over_lem slice.now orders.now lines.now gtin.now) }
+// The plan of a line's item, in which the line is booked behind what the other orders need.
+fn plan_booked(alloc: Global, slice: &Slice, line: &OrderLine) -> Result<Plan, AllocError>
+    ensures { IfOk result (λ plan. plan ≡ plan_booked_lem slice.now line.now) }
 {
     let rows = &slice.rows;
-    let demands = demands_seen(alloc, gtin, lines, rows.staged.as_slice(), orders)?;
     let supplies = supplies_seen(
         alloc,
-        gtin,
+        &line.gtin,
         slice.meta.day,
         rows.recalls.as_slice(),
         rows.bins.as_slice(),
         rows.stock.as_slice(),
         rows.lots.as_slice(),
     )?;
-    plan_within(alloc, demands.as_slice(), supplies.as_slice())
+    let before = demand_before(slice, &line.gtin);
+    plan_with_last(
+        alloc,
+        before,
+        demand_booked(slice, line),
+        supplies.as_slice(),
+    )
+}
+
+// One demand for all that the orders of the slice need of an item; no act has its number.
+fn demand_before(slice: &Slice, gtin: &Gtin) -> Demand
+    ensures { result ≡ demand_before_lem slice.now gtin.now }
+{
+    let rows = &slice.rows;
+    Demand {
+        booking: 0,
+        need: sum_of_needs(
+            gtin,
+            rows.lines.as_slice(),
+            rows.staged.as_slice(),
+            rows.orders.as_slice(),
+        ),
+    }
+}
+
+// The demand of a line.
+fn demand_booked(slice: &Slice, line: &OrderLine) -> Demand
+    ensures { result ≡ demand_booked_lem slice.now line.now }
+{
+    Demand {
+        booking: number_seen(slice),
+        need: u64::from(line.qty.units()),
+    }
 }

@@ -149,18 +149,16 @@ fn ordered(
     lines: Vec<LineRow>,
     booked: Booked,
 ) -> Change
-    ensures { result ≡ record { meta = meta_after slice.now; put = record none_put { orders = orders; lines = lines.items; reserved = booked.put }; dropped = record none_dropped { reserved = booked.dropped }; text = reply_text (number_seen_lem slice.now) (Some (UnitsShort booked.short)) } }
+    ensures { result ≡ record { meta = meta_after slice.now; put = record none_put { orders = orders; lines = lines.items; reserved = booked.put }; dropped = none_dropped; text = reply_text (number_seen_lem slice.now) (Some (UnitsShort booked.short)) } }
 {
     let mut put = none_put(alloc);
     put.orders = orders;
     put.lines = Listed::from_vec(lines);
     put.reserved = booked.put;
-    let mut dropped = none_dropped(alloc);
-    dropped.reserved = booked.dropped;
     Change {
         meta: meta_next(slice),
         put,
-        dropped,
+        dropped: none_dropped(alloc),
         text: short_reply(slice, booked.short),
     }
 }

@@ -3,16 +3,21 @@
 ghost use Rattle.std.specs.Prelude.{◌≡◌, ◌+◌, ◌-◌, IfOk};
 ghost use Rattle.machine.specs.Verdict.{first_refusal};
 ghost use Rattle.row_rules.specs.Seen.{capped, none_put};
-ghost use Rattle.order_rules.specs.DecidedPick.{pick_seen, unpick_seen, pick_changes, unpick_changes, changes_with, shares_with as shares_with_lem, sees_store as sees_store_lem};
+ghost use Rattle.row_rules.specs.SeenStages.{reserved_put as reserved_put_lem, reserved_gone as reserved_gone_lem};
+ghost use Rattle.order_rules.specs.DecidedPick.{pick_seen, unpick_seen, pick_changes, unpick_changes, changes_with, reserved_left, shares_with as shares_with_lem, sees_store as sees_store_lem};
 
 use commands::{Listed, LotRow, Picking, Refusal, ReservedRow, StagedRow, StockRow};
 use label::BusinessDay;
 use row_rules::changing::{meta_next, none_put, plain_reply};
 use row_rules::judging::first_of;
 use row_rules::orders_seen::{sees_line, sees_open, sees_order};
-use row_rules::plans::{ItemRows, item_rows, rows_to_drop, rows_to_put, shares_over};
+use row_rules::plans::{ItemRows, item_rows, shares_over};
+use row_rules::replanning::{Replanned, shares_changed};
 use row_rules::seeing::{lot_seen, sees_bin, sees_hold, sees_item, sees_recall};
-use row_rules::stages::{on_stage_seen, reserved_seen, staged_gone, staged_put, staged_rows_with};
+use row_rules::stages::{
+    on_stage_seen, reserved_gone, reserved_put, reserved_seen, staged_gone, staged_put,
+    staged_rows_with,
+};
 use row_rules::status::is_past;
 use row_rules::stock::{sees_lot, stock_gone, stock_put, stock_rows_with, units_in_bin};
 use row_rules::supplies::is_store_bin;
@@ -89,7 +94,8 @@ pub fn change_pick(alloc: Global, slice: &Slice, p: &Picking) -> Result<Change, 
 {
     let in_bin = less(units_in_bin(slice, &p.bin, &p.lot), p.qty);
     let staged = more(on_stage_seen(slice, &p.order, &p.lot), p.qty);
-    change_with(alloc, slice, p, in_bin, staged)
+    let reserved = own_row_lowered(alloc, slice, p)?;
+    change_with(alloc, slice, p, in_bin, staged, reserved)
 }
 
 /// What units put back change.
@@ -98,7 +104,10 @@ pub fn change_unpick(alloc: Global, slice: &Slice, p: &Picking) -> Result<Change
 {
     let in_bin = more(units_in_bin(slice, &p.bin, &p.lot), p.qty);
     let staged = less(on_stage_seen(slice, &p.order, &p.lot), p.qty);
-    change_with(alloc, slice, p, in_bin, staged)
+    let shares = shares_with(alloc, slice, p, in_bin, staged)?;
+    let olds = slice.rows.reserved.as_slice();
+    let reserved = shares_changed(alloc, &p.lot.gtin, olds, shares.as_slice())?;
+    change_with(alloc, slice, p, in_bin, staged, reserved)
 }
 
 fn less(units: u64, qty: Qty) -> u64
@@ -113,6 +122,21 @@ fn more(units: u64, qty: Qty) -> u64
     units.saturating_add(u64::from(qty.units()))
 }
 
+// What units that are picked change of the reserved rows: they are taken from their own row.
+fn own_row_lowered(alloc: Global, slice: &Slice, p: &Picking) -> Result<Replanned, AllocError>
+    ensures put { IfOk result (λ r. r.put ≡ reserved_put_lem p.now.order p.now.lot (reserved_left slice.now p.now)) }
+    ensures dropped { IfOk result (λ r. r.dropped ≡ reserved_gone_lem slice.now.rows.reserved p.now.order p.now.lot (reserved_left slice.now p.now)) }
+{
+    let left = less(reserved_seen(slice, &p.order, &p.lot), p.qty);
+    let olds = slice.rows.reserved.as_slice();
+    let put = reserved_put(alloc, &p.order, &p.lot, left)?;
+    let dropped = reserved_gone(alloc, olds, &p.order, &p.lot, left)?;
+    Ok(Replanned {
+        put: Listed::from_vec(put),
+        dropped: Listed::from_vec(dropped),
+    })
+}
+
 // The change after which so many units of the lot are in the bin and on the stage.
 fn change_with(
     alloc: Global,
@@ -120,60 +144,24 @@ fn change_with(
     p: &Picking,
     in_bin: u64,
     staged: u64,
+    reserved: Replanned,
 ) -> Result<Change, AllocError>
-    ensures { IfOk result (λ change. change ≡ changes_with slice.now p.now in_bin staged) }
-{
-    let shares = shares_with(alloc, slice, p, in_bin, staged)?;
-    let put = rows_put(alloc, slice, p, in_bin, staged, shares.as_slice())?;
-    match rows_dropped(alloc, slice, p, in_bin, staged, shares.as_slice()) {
-        Err(e) => {
-            // (a call: dropped at the end of its scope it is dropped field by field, docs/GATE.md)
-            drop(put);
-            Err(e)
-        }
-        Ok(dropped) => Ok(Change {
-            meta: meta_next(slice),
-            put,
-            dropped,
-            text: plain_reply(slice),
-        }),
-    }
-}
-
-fn rows_put(
-    alloc: Global,
-    slice: &Slice,
-    p: &Picking,
-    in_bin: u64,
-    staged: u64,
-    shares: &[ReservedRow],
-) -> Result<Put, AllocError>
-    ensures { IfOk result (λ rows. shares.now ≡ shares_with_lem slice.now p.now in_bin staged → rows ≡ (changes_with slice.now p.now in_bin staged).put) }
+    ensures { IfOk result (λ change. change ≡ changes_with slice.now p.now in_bin staged reserved.put reserved.dropped) }
 {
     let stock = stock_put(alloc, &p.lot, &p.bin, in_bin)?;
     let on_stage = staged_put(alloc, &p.order, &p.lot, staged)?;
-    let reserved = rows_to_put(alloc, slice.rows.reserved.as_slice(), shares)?;
-    Ok(rows_of(alloc, stock, on_stage, reserved))
-}
-
-fn rows_dropped(
-    alloc: Global,
-    slice: &Slice,
-    p: &Picking,
-    in_bin: u64,
-    staged: u64,
-    shares: &[ReservedRow],
-) -> Result<Dropped, AllocError>
-    ensures { IfOk result (λ rows. shares.now ≡ shares_with_lem slice.now p.now in_bin staged → rows ≡ (changes_with slice.now p.now in_bin staged).dropped) }
-{
     let rows = &slice.rows;
-    let stock = stock_gone(alloc, rows.stock.as_slice(), &p.lot, &p.bin, in_bin)?;
-    let on_stage = staged_gone(alloc, rows.staged.as_slice(), &p.order, &p.lot, staged)?;
-    let reserved = rows_to_drop(alloc, &p.lot.gtin, rows.reserved.as_slice(), shares)?;
-    Ok(Dropped {
-        stock: Listed::from_vec(stock),
-        staged: Listed::from_vec(on_stage),
-        reserved: Listed::from_vec(reserved),
+    let stock_gone = stock_gone(alloc, rows.stock.as_slice(), &p.lot, &p.bin, in_bin)?;
+    let stage_gone = staged_gone(alloc, rows.staged.as_slice(), &p.order, &p.lot, staged)?;
+    Ok(Change {
+        meta: meta_next(slice),
+        put: rows_of(alloc, stock, on_stage, reserved.put),
+        dropped: Dropped {
+            stock: Listed::from_vec(stock_gone),
+            staged: Listed::from_vec(stage_gone),
+            reserved: reserved.dropped,
+        },
+        text: plain_reply(slice),
     })
 }
 
@@ -182,18 +170,18 @@ fn rows_of(
     alloc: Global,
     stock: Vec<StockRow>,
     staged: Vec<StagedRow>,
-    reserved: Vec<ReservedRow>,
+    reserved: Listed<ReservedRow>,
 ) -> Put
-    ensures { result ≡ record none_put { stock = stock.items; staged = staged.items; reserved = reserved.items } }
+    ensures { result ≡ record none_put { stock = stock.items; staged = staged.items; reserved = reserved } }
 {
     let mut rows = none_put(alloc);
     rows.stock = Listed::from_vec(stock);
     rows.staged = Listed::from_vec(staged);
-    rows.reserved = Listed::from_vec(reserved);
+    rows.reserved = reserved;
     rows
 }
 
-// The reserved rows of the item after the act.
+// The reserved rows of the item where so many units of the lot are in the bin and on the stage.
 fn shares_with(
     alloc: Global,
     slice: &Slice,

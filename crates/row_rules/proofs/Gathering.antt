@@ -30,36 +30,27 @@ gathered_more f xs i out none new h s e = record {
 pub gathered_all : {X Y : Type 0} (f : X → List Y) (xs : List X) (i : ℕ) (out : List Y) → i ≡ length xs → IsGathered f xs i out → out ≡ flat_map f xs
 gathered_all f xs i out e s = sym (append_none out) ∙ sym (ap (λ ys. out ++ flat_map f ys) (drop_end xs i e)) ∙ s.so_far
 
--- the rows put and dropped and the units short, line by line
-pub record IsBooked (f g : OrderLine → List ReservedRow) (h : OrderLine → ℕ) (xs : List OrderLine) (i : ℕ) (puts drops : List ReservedRow) (sum : ℕ) : Type 0 where
+-- the rows put and the units short, line by line
+pub record IsBooked (f : OrderLine → List ReservedRow) (h : OrderLine → ℕ) (xs : List OrderLine) (i : ℕ) (puts : List ReservedRow) (sum : ℕ) : Type 0 where
   pub put : IsGathered f xs i puts
-  pub dropped : IsGathered g xs i drops
   pub short : IsCapped h xs i sum
 
-module _ (f g : OrderLine → List ReservedRow) (h : OrderLine → ℕ) (xs : List OrderLine) where
-  pub booked_none : (puts drops : List ReservedRow) → puts ≡ [] → drops ≡ [] → IsBooked f g h xs 0 puts drops 0
-  booked_none puts drops p d = record {
-    put = gathered_none f xs puts p;
-    dropped = gathered_none g xs drops d;
-    short = capped_none h xs;
-  }
+module _ (f : OrderLine → List ReservedRow) (h : OrderLine → ℕ) (xs : List OrderLine) where
+  pub booked_none : (puts : List ReservedRow) → puts ≡ [] → IsBooked f h xs 0 puts 0
+  booked_none puts p = record { put = gathered_none f xs puts p; short = capped_none h xs }
 
-  pub booked_more : (i : ℕ) (puts drops : List ReservedRow) (sum : ℕ) (none : OrderLine) (new_puts new_drops : List ReservedRow) (new_sum : ℕ) → i < length xs → IsBooked f g h xs i puts drops sum
-      → new_puts ≡ puts ++ f (get_or xs i none) → new_drops ≡ drops ++ g (get_or xs i none) → new_sum ≡ min (sum + h (get_or xs i none)) CAP → IsBooked f g h xs (i + 1) new_puts new_drops new_sum
-  booked_more i puts drops sum none new_puts new_drops new_sum less b p d s = record {
+  pub booked_more : (i : ℕ) (puts : List ReservedRow) (sum : ℕ) (none : OrderLine) (new_puts : List ReservedRow) (new_sum : ℕ) → i < length xs → IsBooked f h xs i puts sum
+      → new_puts ≡ puts ++ f (get_or xs i none) → new_sum ≡ min (sum + h (get_or xs i none)) CAP → IsBooked f h xs (i + 1) new_puts new_sum
+  booked_more i puts sum none new_puts new_sum less b p s = record {
     put = gathered_more f xs i puts none new_puts less b.put p;
-    dropped = gathered_more g xs i drops none new_drops less b.dropped d;
     short = capped_more h xs i sum new_sum none less b.short s;
   }
 
-  pub booked_put : (i : ℕ) (puts drops : List ReservedRow) (sum : ℕ) → i ≡ length xs → IsBooked f g h xs i puts drops sum → puts ≡ flat_map f xs
-  booked_put i puts drops sum e b = gathered_all f xs i puts e b.put
+  pub booked_put : (i : ℕ) (puts : List ReservedRow) (sum : ℕ) → i ≡ length xs → IsBooked f h xs i puts sum → puts ≡ flat_map f xs
+  booked_put i puts sum e b = gathered_all f xs i puts e b.put
 
-  pub booked_dropped : (i : ℕ) (puts drops : List ReservedRow) (sum : ℕ) → i ≡ length xs → IsBooked f g h xs i puts drops sum → drops ≡ flat_map g xs
-  booked_dropped i puts drops sum e b = gathered_all g xs i drops e b.dropped
-
-  pub booked_short : (i : ℕ) (puts drops : List ReservedRow) (sum : ℕ) → i ≡ length xs → IsBooked f g h xs i puts drops sum → sum ≡ capped (total h xs)
-  booked_short i puts drops sum e b = capped_all h xs i sum e b.short
+  pub booked_short : (i : ℕ) (puts : List ReservedRow) (sum : ℕ) → i ≡ length xs → IsBooked f h xs i puts sum → sum ≡ capped (total h xs)
+  booked_short i puts sum e b = capped_all h xs i sum e b.short
 
 -- an item that is named twice is named twice from i on
 pub record IsSoughtTwice (xs : List OrderLine) (i : ℕ) : Type 0 where

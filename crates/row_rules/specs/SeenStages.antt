@@ -12,9 +12,13 @@ abbrev pub reserved_qty : Option ReservedRow → ℕ
 reserved_qty None = 0
 reserved_qty (Some r) = r.qty
 
+-- the row of a lot reserved for an order
+abbrev pub reserved_found : List ReservedRow → List ℕ → LotId → Option ReservedRow
+reserved_found rows o l = find (λ r. same_text o r.order && is_lot l r.lot) rows
+
 -- the units of a lot that are reserved for an order
 abbrev pub reserved_seen : Slice → List ℕ → LotId → ℕ
-reserved_seen s o l = reserved_qty (find (λ r. same_text o r.order && is_lot l r.lot) s.rows.reserved)
+reserved_seen s o l = reserved_qty (reserved_found s.rows.reserved o l)
 
 abbrev pub staged_qty : Option StagedRow → ℕ
 staged_qty None = 0
@@ -41,3 +45,13 @@ staged_gone rows o l q = if q == 0 then cons_option (staged_found rows o l) [] e
 -- all staged rows
 abbrev pub staged_rows_with : List ℕ → LotId → ℕ → List StagedRow → List StagedRow
 staged_rows_with o l q rows = staged_put o l q ++ filter (λ r. not (same_text o r.order && is_lot l r.lot)) rows
+
+-- Where so many units of a lot stay reserved for an order after the act
+
+-- the row put
+abbrev pub reserved_put : List ℕ → LotId → ℕ → List ReservedRow
+reserved_put o l q = if q == 0 then [] else record { order = o; lot = l; qty = q } ∷ []
+
+-- the row dropped, if there was one
+abbrev pub reserved_gone : List ReservedRow → List ℕ → LotId → ℕ → List ReservedRow
+reserved_gone rows o l q = if q == 0 then cons_option (reserved_found rows o l) [] else []

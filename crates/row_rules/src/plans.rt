@@ -1,6 +1,6 @@
 //! The plan of an item, and the reserved rows that it changes.
 
-ghost use Rattle.std.specs.Prelude.{◌≡◌, ◌==◌, ◌&&◌, not, find, IfOk};
+ghost use Rattle.std.specs.Prelude.{◌≡◌, ◌==◌, ◌&&◌, [], ◌∷◌, min, not, find, IfOk};
 ghost use Rattle.std.specs.List.{list_any};
 ghost use Rattle.machine.specs.Postings.{of_item};
 ghost use Rattle.row_rules.specs.Plans.{plan_within as plan_within_lem, named_row, named_rows as named_rows_lem, is_share_of, has_qty, shares_over as shares_over_lem, rows_to_put as rows_to_put_lem, rows_to_drop as rows_to_drop_lem};
@@ -12,7 +12,7 @@ use crate::pushing::{push_found, push_if};
 use crate::supplies::{cut_supplies, supplies_seen};
 use commands::{BinRow, LineRow, LotRow, OrderRow, RecallRow, ReservedRow, StagedRow, StockRow};
 use label::BusinessDay;
-use plan::{Demand, Plan, Row, Supply, whole};
+use plan::{Demand, Plan, Row, SUM_MAX, Supply, whole};
 use std::alloc::{AllocError, Global};
 use values::Gtin;
 
@@ -77,17 +77,41 @@ pub fn shares_over(
     )
 }
 
-/// The plan of demands over supplies, each up to the limit of a list's sum.
-pub fn plan_within(
-    alloc: Global,
-    demands: &[Demand],
-    supplies: &[Supply],
-) -> Result<Plan, AllocError>
+// The plan of demands over supplies, each up to the limit of a list's sum.
+fn plan_within(alloc: Global, demands: &[Demand], supplies: &[Supply]) -> Result<Plan, AllocError>
     ensures { IfOk result (λ plan. plan ≡ plan_within_lem demands.now supplies.now) }
 {
     let wanted = cut_demands(alloc, demands)?;
     let offered = cut_supplies(alloc, supplies)?;
     whole(alloc, wanted.as_slice(), offered.as_slice())
+}
+
+/// The plan of two demands over supplies, up to the limit of a list's sum: the last is booked behind
+/// the one before.
+pub fn plan_with_last(
+    alloc: Global,
+    before: Demand,
+    last: Demand,
+    supplies: &[Supply],
+) -> Result<Plan, AllocError>
+    ensures { IfOk result (λ plan. plan ≡ plan_within_lem (before ∷ last ∷ []) supplies.now) }
+{
+    let offered = cut_supplies(alloc, supplies)?;
+    let room = SUM_MAX.saturating_sub(before.need);
+    let first = [within(before, SUM_MAX)];
+    let mut plan = whole(alloc, &first, offered.as_slice())?;
+    plan.book_last(within(last, room), &first, offered.as_slice())?;
+    Ok(plan)
+}
+
+// A demand, up to this many units.
+fn within(demand: Demand, room: u64) -> Demand
+    ensures { result ≡ record { booking = demand.booking; need = min demand.need room } }
+{
+    Demand {
+        booking: demand.booking,
+        need: demand.need.min(room),
+    }
 }
 
 // What the plan of demands over supplies reserves, by the names of orders and lots.

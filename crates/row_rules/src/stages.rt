@@ -1,9 +1,9 @@
 //! The units of a lot that are staged or reserved for an order, and the staged rows where these have changed.
 
-ghost use Rattle.std.specs.Prelude.{◌≡◌, ◌&&◌, not, filter, find, IfOk};
+ghost use Rattle.std.specs.Prelude.{◌≡◌, ◌&&◌, not, filter, IfOk};
 ghost use Rattle.values.specs.Values.{same_text};
 ghost use Rattle.machine.specs.Postings.{is_lot};
-ghost use Rattle.row_rules.specs.SeenStages.{reserved_qty as reserved_qty_lem, reserved_seen as reserved_seen_lem, staged_qty as staged_qty_lem, staged_found as staged_found_lem, on_stage_seen as on_stage_seen_lem, staged_put as staged_put_lem, staged_gone as staged_gone_lem, staged_rows_with as staged_rows_with_lem};
+ghost use Rattle.row_rules.specs.SeenStages.{reserved_qty as reserved_qty_lem, reserved_found as reserved_found_lem, reserved_seen as reserved_seen_lem, reserved_put as reserved_put_lem, reserved_gone as reserved_gone_lem, staged_qty as staged_qty_lem, staged_found as staged_found_lem, on_stage_seen as on_stage_seen_lem, staged_put as staged_put_lem, staged_gone as staged_gone_lem, staged_rows_with as staged_rows_with_lem};
 
 use crate::Slice;
 use crate::looking::is_same_lot;
@@ -21,13 +21,13 @@ pub fn reserved_seen(slice: &Slice, order: &Name, lot: &LotId) -> u64
 
 /// The units of a lot that rows have reserved for an order.
 pub fn reserved_units(rows: &[ReservedRow], order: &Name, lot: &LotId) -> u64
-    ensures { result ≡ reserved_qty_lem (find (λ r. same_text order.now r.order && is_lot lot.now r.lot) rows.now) }
+    ensures { result ≡ reserved_qty_lem (reserved_found_lem rows.now order.now lot.now) }
 {
     reserved_qty(find_reserved(rows, order, lot))
 }
 
 fn find_reserved(rows: &[ReservedRow], order: &Name, lot: &LotId) -> Option<ReservedRow>
-    ensures { result ≡ find (λ r. same_text order.now r.order && is_lot lot.now r.lot) rows.now }
+    ensures { result ≡ reserved_found_lem rows.now order.now lot.now }
 {
     for row in rows {
         if *order == row.order && is_same_lot(lot, &row.lot) {
@@ -44,6 +44,44 @@ fn reserved_qty(row: Option<ReservedRow>) -> u64
         None => 0,
         Some(r) => r.qty,
     }
+}
+
+/// The reserved row that is put where so many units of a lot stay reserved for an order.
+pub fn reserved_put(
+    alloc: Global,
+    order: &Name,
+    lot: &LotId,
+    qty: u64,
+) -> Result<Vec<ReservedRow>, AllocError>
+    ensures { IfOk result (λ v. v.items ≡ reserved_put_lem order.now lot.now qty) }
+{
+    let mut put = Vec::new(alloc);
+    if qty != 0 {
+        put.push(ReservedRow {
+            order: *order,
+            lot: *lot,
+            qty,
+        })?;
+    }
+    Ok(put)
+}
+
+/// The reserved row that is dropped where so many units of a lot stay reserved for an order.
+pub fn reserved_gone(
+    alloc: Global,
+    rows: &[ReservedRow],
+    order: &Name,
+    lot: &LotId,
+    qty: u64,
+) -> Result<Vec<ReservedRow>, AllocError>
+    ensures { IfOk result (λ v. v.items ≡ reserved_gone_lem rows.now order.now lot.now qty) }
+{
+    let old = find_reserved(rows, order, lot);
+    let mut gone = Vec::new(alloc);
+    if qty == 0 {
+        push_found(&mut gone, old)?;
+    }
+    Ok(gone)
 }
 
 /// The units of a lot that are staged for an order.

@@ -7,6 +7,7 @@ pub mod SharesTold
 pub mod Differing
 pub mod PlanTold
 pub mod Replanned
+pub mod ReservedLowered
 pub mod SuppliesTold
 pub mod DemandsTold
 pub mod Telling
@@ -23,7 +24,9 @@ pub mod OrderTold
 pub mod KeptRows
 pub mod FoundRows
 pub mod OrderItems
+pub mod ItemsNamed
 pub mod ItemsReplanned
+pub mod NeedsTold
 pub mod StageTold
 pub mod LotStateTold
 pub mod StagedChanged

@@ -2,6 +2,8 @@
 pub mod OrderJudged
 pub mod OrderStep
 pub mod OrderTells
+pub mod OrderPlan
+pub mod OrderBooked
 pub mod OrderShares
 pub mod OrderReply
 pub mod OrdersDecided

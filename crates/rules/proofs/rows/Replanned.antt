@@ -55,7 +55,7 @@ module _ (first : ℤ) (acts : List Act) (act : Act) (s : Slice) (slice : IsSlic
     reserved_are = slice.reserved
 
     once : no_two is_share_of shares ≡ true
-    once = ap (no_two is_share_of) shares_are ∙ shares_once first after next g orders lots demands.orders supplies.lots
+    once = ap (no_two is_share_of) shares_are ∙ shares_once first after next g orders lots demands.orders.own supplies.lots
 
     -- the rows put and dropped are those that differ
     pub replanned : AreNamed first act acts (rows_to_put s.rows.reserved shares) (rows_to_drop g s.rows.reserved shares)
@@ -63,12 +63,12 @@ module _ (first : ℤ) (acts : List Act) (act : Act) (s : Slice) (slice : IsSlic
       | true ↦ λ e.
           named_of_item o l g (reserved first acts o l) (reserved first after o l) s.rows.reserved shares e
           (reserved_are.found (o, l) (subst (λ (h : List ℕ). is_touched first act acts h ≡ true) (same_text_is g l.gtin e) only.own))
-          (ap (find (λ (x : ReservedRow). same_text o x.order && is_lot l x.lot)) shares_are ∙ shares_told first after next g orders lots demands.orders supplies.lots o l e)
+          (ap (find (λ (x : ReservedRow). same_text o x.order && is_lot l x.lot)) shares_are ∙ shares_told first after next g orders lots demands.orders.own supplies.lots o l e (demands.orders.found o))
           reserved_are.once once
       | false ↦ λ e.
           named_elsewhere o l g (reserved first acts o l) (reserved first after o l) s.rows.reserved shares e
           ((other_items_are_left_alone first act acts l.gtin next (only.others l.gtin e)).reserved o l (same_text_refl l.gtin))
-          (ap (find (λ (x : ReservedRow). same_text o x.order && is_lot l x.lot)) shares_are ∙ shares_elsewhere first after next g orders lots demands.orders supplies.lots o l e)
+          (ap (find (λ (x : ReservedRow). same_text o x.order && is_lot l x.lot)) shares_are ∙ shares_elsewhere first after next g orders lots demands.orders.own supplies.lots o l e)
     ] refl
 
     -- no row is put twice

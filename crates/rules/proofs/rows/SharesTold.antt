@@ -233,12 +233,12 @@ module _ (first : ℤ) (acts : List Act) where
             ] refl
 
 module _ (first : ℤ) (acts : List Act) (history : IsHistory first acts) (g : List ℕ) (order_rows : List OrderRow) (lot_rows : List LotRow)
-    (order_are : AreRows same_text (λ (r : OrderRow). r.order) (λ o. is_open first acts o && has_line acts o g) (λ o. true) (order_row first acts) order_rows)
+    (orders_own : AreOwn (λ (r : OrderRow). r.order) (λ o. true) (order_row first acts) order_rows)
     (lot_are : AreRows is_lot (λ (r : LotRow). r.lot) (λ l. of_item g l) (λ l. true) (lot_row acts) lot_rows) where
   pub shares_once : no_two is_share_of (named_rows order_rows lot_rows (plan first acts g)) ≡ true
-  shares_once = named_once first acts order_rows lot_rows order_are.own lot_are.own (plan first acts g) (plan_once first acts history g)
+  shares_once = named_once first acts order_rows lot_rows orders_own lot_are.own (plan first acts g) (plan_once first acts history g)
 
-  module _ (o : List ℕ) (l : LotId) (own : of_item g l ≡ true) where
+  module _ (o : List ℕ) (l : LotId) (own : of_item g l ≡ true) (found : is_open first acts o && has_line acts o g ≡ true → find (λ (r : OrderRow). same_text o r.order) order_rows ≡ order_row first acts o) where
     same_item : g ≡ l.gtin
     same_item = same_text_is g l.gtin own
 
@@ -259,11 +259,11 @@ module _ (first : ℤ) (acts : List Act) (history : IsHistory first acts) (g : L
 
     -- a needed order's row and the lot's row are found by number
     all_named : (p : Placed) (k : KnownLot) → order_named acts o ≡ Some p → lot_known acts l ≡ Some k → is_open first acts o && has_line acts o g ≡ true
-        → (r : Row) → (r.booking == p.act) && (r.lot == k.came) ≡ true → name_of first acts order_rows lot_rows order_are.own lot_are.own r ≡ Some (record { order = o; lot = l; qty = r.qty })
+        → (r : Row) → (r.booking == p.act) && (r.lot == k.came) ≡ true → name_of first acts order_rows lot_rows orders_own lot_are.own r ≡ Some (record { order = o; lot = l; qty = r.qty })
     all_named p k order lot needed r e =
         let two = and_both (r.booking == p.act) (r.lot == k.came) e in
-        let x = by_number (λ (r : OrderRow). r.order) (λ (r : OrderRow). r.act) (order_row first acts) (one_order first acts) order_rows order_are.own (λ r. same_text o r.order) (show_order first acts p)
-        (order_are.found o needed ∙ ap (option_map (show_order first acts)) order) in
+        let x = by_number (λ (r : OrderRow). r.order) (λ (r : OrderRow). r.act) (order_row first acts) (one_order first acts) order_rows orders_own (λ r. same_text o r.order) (show_order first acts p)
+        (found needed ∙ ap (option_map (show_order first acts)) order) in
         let y = by_number (λ (r : LotRow). r.lot) (λ (r : LotRow). r.came) (lot_row acts) (one_lot first acts) lot_rows lot_are.own (λ r. is_lot l r.lot) (show_lot first acts k)
         (lot_are.found l own ∙ ap (option_map (show_lot first acts)) lot) in
         (λ i. named_row (find (λ (z : OrderRow). eqb-true r.booking p.act two.0 i == z.act) order_rows) (find (λ (z : LotRow). eqb-true r.lot k.came two.1 i == z.came) lot_rows) r.qty)
@@ -272,12 +272,12 @@ module _ (first : ℤ) (acts : List Act) (history : IsHistory first acts) (g : L
 
     told : (x : Option Placed) (y : Option KnownLot) → order_named acts o ≡ x → lot_known acts l ≡ y
         → find (λ (r : ReservedRow). same_text o r.order && is_lot l r.lot) (named_rows order_rows lot_rows (plan first acts g)) ≡ share_row o l (reserved_of x y (plan first acts g))
-    told None y e f = all_fail first acts order_rows lot_rows order_are.own lot_are.own o l (λ r n h t. let a = passing first acts order_rows lot_rows order_are.own lot_are.own o l r n h t in cc) (plan first acts g)
-    told (Some p) None e f = all_fail first acts order_rows lot_rows order_are.own lot_are.own o l (λ r n h t. let a = passing first acts order_rows lot_rows order_are.own lot_are.own o l r n h t in let b = a.3.1 in cc) (plan first acts g)
+    told None y e f = all_fail first acts order_rows lot_rows orders_own lot_are.own o l (λ r n h t. let a = passing first acts order_rows lot_rows orders_own lot_are.own o l r n h t in cc) (plan first acts g)
+    told (Some p) None e f = all_fail first acts order_rows lot_rows orders_own lot_are.own o l (λ r n h t. let a = passing first acts order_rows lot_rows orders_own lot_are.own o l r n h t in let b = a.3.1 in cc) (plan first acts g)
     told (Some p) (Some k) e f =
-        told_by first acts order_rows lot_rows order_are.own lot_are.own o l p k e f (plan first acts g) (plan_some first acts history g) (plan_once first acts history g)
+        told_by first acts order_rows lot_rows orders_own lot_are.own o l p k e f (plan first acts g) (plan_some first acts history g) (plan_once first acts history g)
         (elim (is_open first acts o && has_line acts o g) as (λ b. is_open first acts o && has_line acts o g ≡ b
-        → ((r : Row) → (r.booking == p.act) && (r.lot == k.came) ≡ true → name_of first acts order_rows lot_rows order_are.own lot_are.own r ≡ Some (record { order = o; lot = l; qty = r.qty })) ⊎ (reserved_in p.act k.came (plan first acts g) ≡ 0)) [
+        → ((r : Row) → (r.booking == p.act) && (r.lot == k.came) ≡ true → name_of first acts order_rows lot_rows orders_own lot_are.own r ≡ Some (record { order = o; lot = l; qty = r.qty })) ⊎ (reserved_in p.act k.came (plan first acts g) ≡ 0)) [
           | true ↦ λ t. inl (all_named p k e f t)
           | false ↦ λ t. inr ((λ i. reserved_of (sym e i) (sym f i) (plan first acts g)) ∙ sym by_plan ∙ unneeded p e t)
         ] refl)
@@ -337,10 +337,10 @@ module _ (first : ℤ) (acts : List Act) (history : IsHistory first acts) (g : L
 
     none_told : (x : Option Placed) (y : Option KnownLot) → order_named acts o ≡ x → lot_known acts l ≡ y
         → find (λ (r : ReservedRow). same_text o r.order && is_lot l r.lot) (named_rows order_rows lot_rows (plan first acts g)) ≡ None
-    none_told None y e f = all_fail first acts order_rows lot_rows order_are.own lot_are.own o l (λ r n h t. let a = passing first acts order_rows lot_rows order_are.own lot_are.own o l r n h t in cc) (plan first acts g)
-    none_told (Some p) None e f = all_fail first acts order_rows lot_rows order_are.own lot_are.own o l (λ r n h t. let a = passing first acts order_rows lot_rows order_are.own lot_are.own o l r n h t in let b = a.3.1 in cc) (plan first acts g)
+    none_told None y e f = all_fail first acts order_rows lot_rows orders_own lot_are.own o l (λ r n h t. let a = passing first acts order_rows lot_rows orders_own lot_are.own o l r n h t in cc) (plan first acts g)
+    none_told (Some p) None e f = all_fail first acts order_rows lot_rows orders_own lot_are.own o l (λ r n h t. let a = passing first acts order_rows lot_rows orders_own lot_are.own o l r n h t in let b = a.3.1 in cc) (plan first acts g)
     none_told (Some p) (Some k) e f =
-        told_by first acts order_rows lot_rows order_are.own lot_are.own o l p k e f (plan first acts g) (plan_some first acts history g) (plan_once first acts history g) (inr (none_reserved k f p.act))
+        told_by first acts order_rows lot_rows orders_own lot_are.own o l p k e f (plan first acts g) (plan_some first acts history g) (plan_once first acts history g) (inr (none_reserved k f p.act))
         ∙ ap (share_row o l) (none_reserved k f p.act)
 
     pub shares_elsewhere : find (λ (r : ReservedRow). same_text o r.order && is_lot l r.lot) (named_rows order_rows lot_rows (plan first acts g)) ≡ None

@@ -1,8 +1,6 @@
-use Rattle.row_rules.specs.Seen.{number_seen}
-use Rattle.order_rules.specs.Booked.{line_put, line_dropped, line_short}
+use Rattle.order_rules.specs.Booked.{line_put, line_short}
 use Rattle.row_rules.proofs.Gathering.{IsBooked}
 use Rattle.order_rules.proofs.booking.book_lines.Given as goal
 
 abbrev pub invariant-loop-line : goal.invariant-loop-line
-invariant-loop-line l =
-    IsBooked (line_put l.slice l.orders l.rows) (line_dropped l.slice l.orders l.rows) (line_short l.slice l.orders l.rows (number_seen l.slice)) l.lines l.line-index l.put.items l.dropped.items l.short
+invariant-loop-line l = IsBooked (line_put l.slice l.order) (line_short l.slice) l.lines l.line-index l.put.items l.short

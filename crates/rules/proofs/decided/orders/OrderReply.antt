@@ -1,6 +1,6 @@
 -- The reply to an order says what its plans leave short.
-use Rattle.std.proofs.Common.{◌≡◌, ℕ, ◌+◌, ◌-◌, ◌*◌, ◌≤◌, Bool, true, false, ◌&&◌, List, [], ◌∷◌, ◌++◌, refl, ap, sym, ◌∙◌, arith}
-use Rattle.std.specs.Prelude.{if◌then◌else◌, ℤ, Some, find, filter, map, flat_map, length, codes, decimal, nat_le}
+use Rattle.std.proofs.Common.{◌≡◌, ℕ, ◌+◌, ◌-◌, ◌*◌, ◌≤◌, true, false, ◌&&◌, List, [], ◌∷◌, ◌++◌, refl, ap, sym, ◌∙◌, arith}
+use Rattle.std.specs.Prelude.{if◌then◌else◌, ℤ, Some, find, filter, map, flat_map, is_some, length, codes, decimal, nat_le}
 use Rattle.std.specs.List.{list_all, list_any}
 use Rattle.std.proofs.lemmas.Bool.Decides.{nat_tests}
 use Rattle.values.specs.Values.{QTY_MAX, same_text, is_qty, is_gtin}
@@ -19,32 +19,25 @@ use Rattle.machine.specs.Planning.{Booking, booking_of, bookings, lines_of_item,
 use Rattle.machine.specs.Once.{IsHistory}
 use Rattle.machine.specs.Replies.{reply, short_field}
 use Rattle.machine.specs.Tables.{tables_of}
-use Rattle.machine.specs.Verdict.{names_item_twice}
 use Rattle.rules.specs.Slices.{IsSlice}
 use Rattle.row_rules.specs.Seen.{capped, number_seen}
-use Rattle.order_rules.specs.DecidedOrder.{plan_with_order, short_seen, order_reply}
+use Rattle.order_rules.specs.Booked.{plan_booked, line_short as short_of_line}
+use Rattle.order_rules.specs.DecidedOrder.{short_seen, order_reply}
 use Rattle.row_rules.specs.declared.slice.Slice.{Slice}
-use Rattle.machine.proofs.Tests.{and_both, or_none, same_text_refl, same_text_turned}
+use Rattle.machine.proofs.Tests.{and_both, or_none, same_text_refl}
 use Rattle.machine.proofs.histories.Quantities.{at_most_limit}
-use Rattle.machine.proofs.Apart.{AreApart, AllFound, all_found, any_found}
+use Rattle.machine.proofs.Apart.{AllFound, any_found}
 use Rattle.rules.proofs.rows.Ordering.{total_filter}
 use Rattle.rules.proofs.rows.OpenUnits.{total_append, total_reversed}
 use Rattle.rules.proofs.rows.DemandsTold.{listed, line_found}
 use Rattle.machine.proofs.histories.NewOrders.{new_is_not_cancelled, new_has_nothing_staged, new_has_nothing_shipped}
-use Rattle.rules.proofs.decided.orders.OrderJudged.{AllAmong, all_among}
 use Rattle.rules.proofs.decided.orders.OrderStep.{placed}
-use Rattle.rules.proofs.decided.orders.OrderTells.{is_new, is_single, are_sound, number_is, plan_told}
+use Rattle.rules.proofs.decided.orders.OrderTells.{is_new, is_single, are_sound, number_is, same_item, lines_found}
+use Rattle.rules.proofs.decided.orders.OrderBooked.{served_told}
 
 total_flat_map : {X Y : Type 0} (f : Y → ℕ) (g : X → List Y) (xs : List X) → total f (flat_map g xs) ≡ total (λ x. total f (g x)) xs
 total_flat_map f g [] = refl
 total_flat_map f g (x ∷ xs) = omega (arith, total_append f (g x) (flat_map g xs), total_flat_map f g xs)
-
-abbrev same_item : OrderLine → OrderLine → Bool
-same_item l m = same_text l.gtin m.gtin
-
-pub single_apart : (ls : List OrderLine) → names_item_twice ls ≡ false → AreApart same_item ls
-single_apart [] e = tt
-single_apart (l ∷ ls) e = let two = or_none (list_any (λ m. same_text l.gtin m.gtin) ls) (names_item_twice ls) e in (two.0, single_apart ls two.1)
 
 -- Sound lines want little together
 
@@ -113,19 +106,23 @@ module _ (first : ℤ) (acts : List Act) (key : Key) (o : NewOrder) (s : Slice) 
       (ap (λ b. lines_placed (if b then Some own else order_named acts o.order)) (same_text_refl o.order))
       ∙ total_filter (λ b. short_of first after b) (λ b. same_text o.order b.order) (flat_map (λ (l : OrderLine). bookings after l.gtin) o.lines)
       ∙ total_flat_map own_short (λ (l : OrderLine). bookings after l.gtin) o.lines
-      ∙ lines_short o.lines (all_found same_item (λ l. same_text_refl l.gtin) (λ l m. same_text_turned l.gtin m.gtin) o.lines (single_apart o.lines (is_single first acts key o s slice next)))
+      ∙ lines_short o.lines (lines_found first acts key o s slice next)
 
-  seen_short : (ls : List OrderLine) → AllAmong o.lines ls
-      → total (λ l. l.qty - reserved_for (number_seen s) (plan_with_order s o l.gtin)) ls ≡ total (λ l. l.qty - reserved_for (next_number acts) (plan first after l.gtin)) ls
+  seen_short : (ls : List OrderLine) → AllFound same_item o.lines ls → total (short_of_line s) ls ≡ total (λ l. l.qty - reserved_for (next_number acts) (plan first after l.gtin)) ls
   seen_short [] h = refl
-  seen_short (l ∷ ls) h = λ i. (l.qty - reserved_for (number_is first acts key o s slice next i) (plan_told first acts key o s slice next l.gtin h.0 i)) + seen_short ls h.1 i
+  seen_short (l ∷ ls) h = λ i. (l.qty - line_served l h.0 i) + seen_short ls h.1 i
+    where
+      line_served : (l : OrderLine) → find (same_item l) o.lines ≡ Some l → reserved_for (number_seen s) (plan_booked s l) ≡ reserved_for (next_number acts) (plan first after l.gtin)
+      line_served l found =
+          served_told first acts key o s slice next l (sym (any_found (same_item l) o.lines) ∙ ap is_some found)
+          (line_found l.gtin o.lines (is_single first acts key o s slice next) ∙ ap listed found)
 
-  short_same : short_seen s o o.lines ≡ short_of_order first after o.order
+  short_same : short_seen s o.lines ≡ short_of_order first after o.order
   short_same =
       let two = and_both (has_order_lines o.lines) (list_all is_order_line o.lines) (are_sound first acts key o s slice next) in
       let within = wanted_within (λ l. reserved_for (next_number acts) (plan first after l.gtin)) o.lines two.1 in
       let few = few_lines (length o.lines) two.0 in
-      ap capped (seen_short o.lines (all_among o.lines) ∙ sym short_is) ∙ kept (short_of_order first after o.order) (length o.lines) few (ap (λ n. n) short_is) within
+      ap capped (seen_short o.lines (lines_found first acts key o s slice next) ∙ sym short_is) ∙ kept (short_of_order first after o.order) (length o.lines) few (ap (λ n. n) short_is) within
     where
       kept : (n lines : ℕ) → lines ≤ 20 → n ≡ total (λ l. l.qty - reserved_for (next_number acts) (plan first after l.gtin)) o.lines
           → total (λ l. l.qty - reserved_for (next_number acts) (plan first after l.gtin)) o.lines ≤ lines * 1_000_000 → capped n ≡ n

@@ -9,7 +9,7 @@ use Rattle.machine.specs.Once.{IsHistory}
 use Rattle.machine.specs.Tables.{tables_of}
 use Rattle.rules.specs.Slices.{IsSlice, applied}
 use Rattle.row_rules.specs.Seen.{none_put, none_dropped}
-use Rattle.order_rules.specs.DecidedOrder.{new_line_rows, order_rows_to_put, order_rows_to_drop, order_reply, order_seen, order_changes}
+use Rattle.order_rules.specs.DecidedOrder.{new_line_rows, order_rows_to_put, order_reply, order_seen, order_changes}
 use Rattle.row_rules.specs.declared.slice.Slice.{Slice}
 use Rattle.row_rules.specs.declared.slice.Change.{Change}
 use Rattle.row_rules.specs.declared.slice.RuleFault.{RuleFault}
@@ -28,11 +28,11 @@ module _ (first : ℤ) (acts : List Act) (key : Key) (o : NewOrder) (s : Slice) 
   act = record { key = key; command = Order o }
 
   -- what is made of the rows is the change of the act
-  change_same : order_changes s o ≡ order_change first acts key o (order_reply s o) (order_rows_to_put s o o.lines) (order_rows_to_drop s o o.lines)
+  change_same : order_changes s o ≡ order_change first acts key o (order_reply s o) (order_rows_to_put s o o.lines) []
   change_same = λ i. record {
     meta = meta_same first acts act s slice (room_for_acts first acts (Order o) next.1.passes) refl refl i;
     put = record none_put { orders = row_is first acts key o s slice next i ∷ []; lines = new_line_rows o; reserved = order_rows_to_put s o o.lines };
-    dropped = record none_dropped { reserved = order_rows_to_drop s o o.lines };
+    dropped = none_dropped;
     text = order_reply s o;
   }
 
@@ -41,8 +41,8 @@ module _ (first : ℤ) (acts : List Act) (key : Key) (o : NewOrder) (s : Slice) 
       let named = order_named_rows first acts key o s slice next in
       record {
         applies = ap (λ c. applied c (tables_of first acts)) change_same
-            ∙ order_step first acts key o next.0 (is_new first acts key o s slice next) (some_wanted first acts key o s slice next) (order_reply s o) (order_rows_to_put s o o.lines) (order_rows_to_drop s o o.lines)
-            (reserved_changed first act acts (order_rows_to_put s o o.lines) (order_rows_to_drop s o o.lines) named);
+            ∙ order_step first acts key o next.0 (is_new first acts key o s slice next) (some_wanted first acts key o s slice next) (order_reply s o) (order_rows_to_put s o o.lines) []
+            (reserved_changed first act acts (order_rows_to_put s o o.lines) [] named);
         text = order_text first acts key o s slice next;
         once = record { items = refl; bins = refl; lots = refl; recalls = refl; stock = refl; orders = refl; lines = new_lines_once first acts key o s slice next; staged = refl; reserved = order_put_once first acts key o s slice next; shipments = refl; shiplines = refl; cards = refl };
         named = names_changed first act acts (order_changes s o) named;

@@ -21,7 +21,7 @@ use Rattle.machine.specs.Verdict.{names_item_twice}
 use Rattle.row_rules.specs.SeenOrders.{order_row_seen}
 use Rattle.order_rules.specs.DecidedShip.{line_shipped, lines_shipped, lacks_units, done_row, order_put}
 use Rattle.row_rules.specs.declared.slice.Slice.{Slice}
-use Rattle.rules.proofs.decided.orders.OrderReply.{single_apart}
+use Rattle.rules.proofs.decided.orders.OrderTells.{single_apart}
 use Rattle.machine.proofs.Tests.{and_both, or_none, not_false, same_text_is, same_text_refl, same_text_turned}
 use Rattle.machine.proofs.Apart.{AllFound, all_found}
 use Rattle.machine.proofs.histories.Accepted.{ship_accepted}

@@ -7,6 +7,7 @@ use Rattle.values.specs.Values.{same_text}
 use Rattle.values.specs.declared.lot.LotId.{LotId}
 use Rattle.commands.specs.declared.command.OrderLine.{OrderLine}
 use Rattle.commands.specs.declared.command.Picking.{Picking}
+use Rattle.commands.specs.declared.rows.ReservedRow.{ReservedRow}
 use Rattle.commands.specs.declared.rows.OrderState.TheVariants.{Open, Done, Cancelled}
 use Rattle.machine.specs.Acts.{Act, next_number}
 use Rattle.machine.specs.Postings.{Place, Posting, balance, is_lot, is_shipped_to, is_shipment, of_item}
@@ -21,8 +22,7 @@ use Rattle.machine.specs.KeyedRows.{same_cell, same_share}
 use Rattle.rules.specs.Slices.{IsSlice, applied, tables_but_repeats, changed, names_bin}
 use Rattle.row_rules.specs.SeenLots.{stock_put, stock_gone}
 use Rattle.row_rules.specs.SeenStages.{staged_put, staged_gone}
-use Rattle.row_rules.specs.Plans.{rows_to_put, rows_to_drop}
-use Rattle.order_rules.specs.DecidedPick.{shares_with, changes_with}
+use Rattle.order_rules.specs.DecidedPick.{changes_with}
 use Rattle.row_rules.specs.declared.slice.Slice.{Slice}
 use Rattle.machine.proofs.histories.Balances.{balance-elsewhere, balance-elsewhere_of}
 use Rattle.rules.proofs.rows.TableSteps.{AreNamed, same_tables, reserved_changed}
@@ -122,12 +122,11 @@ module _ (first : ℤ) (acts : List Act) (act : Act) (p : Picking) where
           share_changed p.order p.lot staged (λ k. staged_row first acts k.0 k.1) (staged_of_lot first acts p.order p.lot) s.rows.staged (found_staged first acts act s slice p.order p.lot touched) refl (o, l)
           ∙ staged_row_with first acts after p.order p.lot staged left.on_stage left.on_others (o, l)
 
-      pub staging_step : (meta : (changes_with s p stock staged).meta ≡ meta_row first after)
-          → AreNamed first act acts (rows_to_put s.rows.reserved (shares_with s p stock staged)) (rows_to_drop p.lot.gtin s.rows.reserved (shares_with s p stock staged))
-          → applied (changes_with s p stock staged) (tables_of first acts) ≡ tables_but_repeats first act acts
+      pub staging_step : (put dropped : List ReservedRow) → (changes_with s p stock staged put dropped).meta ≡ meta_row first after → AreNamed first act acts put dropped
+          → applied (changes_with s p stock staged put dropped) (tables_of first acts) ≡ tables_but_repeats first act acts
       unfolding applied tables_of
-      staging_step meta named =
-          same_tables (applied (changes_with s p stock staged) (tables_of first acts)) (tables_but_repeats first act acts) (ap Some meta)
+      staging_step put dropped meta named =
+          same_tables (applied (changes_with s p stock staged put dropped) (tables_of first acts)) (tables_but_repeats first act acts) (ap Some meta)
           staging.items staging.bins staging.lots staging.recalls stock_at order_at line_at staged_at
-          (reserved_changed first act acts (rows_to_put s.rows.reserved (shares_with s p stock staged)) (rows_to_drop p.lot.gtin s.rows.reserved (shares_with s p stock staged)) named)
+          (reserved_changed first act acts put dropped named)
           staging.shipments shipline_at card_at (λ k. refl)

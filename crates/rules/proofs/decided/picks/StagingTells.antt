@@ -11,6 +11,7 @@ use Rattle.commands.specs.declared.rows.StockRow.{StockRow}
 use Rattle.commands.specs.declared.rows.OrderRow.{OrderRow}
 use Rattle.commands.specs.declared.rows.LineRow.{LineRow}
 use Rattle.commands.specs.declared.rows.StagedRow.{StagedRow}
+use Rattle.commands.specs.declared.rows.ReservedRow.{ReservedRow}
 use Rattle.machine.specs.Acts.{Act}
 use Rattle.machine.specs.Postings.{Place, is_lot, of_item}
 use Rattle.machine.specs.Standing.{has_line}
@@ -22,7 +23,7 @@ use Rattle.machine.specs.KeyedRows.{same_cell, same_line, same_share, no_two}
 use Rattle.rules.specs.Slices.{IsSlice}
 use Rattle.row_rules.specs.SeenLots.{stock_put, stock_rows_with}
 use Rattle.row_rules.specs.SeenStages.{staged_put, staged_rows_with}
-use Rattle.row_rules.specs.Plans.{rows_to_put, rows_to_drop}
+use Rattle.row_rules.specs.Plans.{rows_to_put, rows_to_drop, is_share_of}
 use Rattle.order_rules.specs.DecidedPick.{shares_with, changes_with}
 use Rattle.row_rules.specs.declared.slice.Slice.{Slice}
 use Rattle.machine.proofs.Tests.{same_text_refl, same_text_turned}
@@ -89,9 +90,14 @@ module _ (first : ℤ) (acts : List Act) (act : Act) (p : Picking) (from to : Pl
   only : TouchesOnly first acts act s slice next g
   only = record { own = touched; others = λ h e. staging.touches h ∙ same_text_turned h g ∙ e }
 
-  are_named : AreNamed first act acts (rows_to_put s.rows.reserved (shares_with s p stock staged)) (rows_to_drop g s.rows.reserved (shares_with s p stock staged))
-  are_named =
+  -- planned anew, the rows put and dropped are those that differ
+  pub replanned_named : AreNamed first act acts (rows_to_put s.rows.reserved (shares_with s p stock staged)) (rows_to_drop g s.rows.reserved (shares_with s p stock staged))
+  replanned_named =
       replanned first acts act s slice next g only s.meta.day (day_seen first acts act s slice ∙ sym staging.day) s.rows.orders s.rows.lines staged_rows s.rows.lots s.rows.recalls s.rows.bins stock_rows demands_after supplies_after
+
+  pub replanned_put_once : no_two is_share_of (rows_to_put s.rows.reserved (shares_with s p stock staged)) ≡ true
+  replanned_put_once =
+      replanned_once first acts act s slice next g only s.meta.day (day_seen first acts act s slice ∙ sym staging.day) s.rows.orders s.rows.lines staged_rows s.rows.lots s.rows.recalls s.rows.bins stock_rows demands_after supplies_after
 
   one_stock : (b : List ℕ) → no_two (λ (x y : StockRow). is_lot x.lot y.lot && same_text x.bin y.bin) (stock_put p.lot b stock) ≡ true
   one_stock b = elim (stock == 0) as (λ t. no_two (λ (x y : StockRow). is_lot x.lot y.lot && same_text x.bin y.bin) (if t then [] else record { lot = p.lot; bin = b; qty = stock } ∷ []) ≡ true) [ true ↦ refl | false ↦ refl ]
@@ -99,11 +105,11 @@ module _ (first : ℤ) (acts : List Act) (act : Act) (p : Picking) (from to : Pl
   one_staged : (o : List ℕ) → no_two (λ (x y : StagedRow). same_text x.order y.order && is_lot x.lot y.lot) (staged_put o p.lot staged) ≡ true
   one_staged o = elim (staged == 0) as (λ t. no_two (λ (x y : StagedRow). same_text x.order y.order && is_lot x.lot y.lot) (if t then [] else record { order = o; lot = p.lot; qty = staged } ∷ []) ≡ true) [ true ↦ refl | false ↦ refl ]
 
-  pub staging_changed : IsChange first act acts (changes_with s p stock staged)
-  staging_changed =
+  pub staging_changed : (put dropped : List ReservedRow) → AreNamed first act acts put dropped → no_two is_share_of put ≡ true → IsChange first act acts (changes_with s p stock staged put dropped)
+  staging_changed put dropped named put_once =
       let room = room_for_acts first acts act.command next.1.passes in
       record {
-        applies = staging_step first acts act p from to staging s slice stock staged left touched (meta_same first acts act s slice room staging.day staging.shipped) are_named;
+        applies = staging_step first acts act p from to staging s slice stock staged left touched put dropped (meta_same first acts act s slice room staging.day staging.shipped) named;
         text = plain_same first acts act s slice room staging.reply;
         once = record {
           items = refl;
@@ -114,10 +120,10 @@ module _ (first : ℤ) (acts : List Act) (act : Act) (p : Picking) (from to : Pl
           orders = refl;
           lines = refl;
           staged = one_staged p.order;
-          reserved = replanned_once first acts act s slice next g only s.meta.day (day_seen first acts act s slice ∙ sym staging.day) s.rows.orders s.rows.lines staged_rows s.rows.lots s.rows.recalls s.rows.bins stock_rows demands_after supplies_after;
+          reserved = put_once;
           shipments = refl;
           shiplines = refl;
           cards = refl;
         };
-        named = names_changed first act acts (changes_with s p stock staged) are_named;
+        named = names_changed first act acts (changes_with s p stock staged put dropped) named;
       }

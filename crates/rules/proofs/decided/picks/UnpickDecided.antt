@@ -1,5 +1,5 @@
 -- Units put back are decided as the machine decides them.
-use Rattle.std.proofs.Common.{◌≡◌, ◌+◌, ◌-◌, ◌≤◌, true, ◌&&◌, List, ◌∷◌, refl, ap, sym, ◌∙◌, arith}
+use Rattle.std.proofs.Common.{◌≡◌, ℕ, ◌+◌, ◌-◌, ◌≤◌, true, ◌&&◌, List, ◌∷◌, refl, ap, sym, ◌∙◌, arith}
 use Rattle.std.specs.Prelude.{ℤ, Result}
 use Rattle.values.specs.Values.{same_text, QTY_MAX, is_name, is_qty}
 use Rattle.commands.specs.Sound.{is_lot_id}
@@ -16,7 +16,8 @@ use Rattle.rules.specs.Slices.{IsSlice}
 use Rattle.row_rules.specs.Seen.{capped}
 use Rattle.row_rules.specs.SeenLots.{in_bin_seen}
 use Rattle.row_rules.specs.SeenStages.{on_stage_seen}
-use Rattle.order_rules.specs.DecidedPick.{unpick_seen, unpick_changes}
+use Rattle.row_rules.specs.Plans.{rows_to_put, rows_to_drop}
+use Rattle.order_rules.specs.DecidedPick.{unpick_seen, unpick_changes, shares_with}
 use Rattle.row_rules.specs.declared.slice.Slice.{Slice}
 use Rattle.row_rules.specs.declared.slice.Change.{Change}
 use Rattle.row_rules.specs.declared.slice.RuleFault.{RuleFault}
@@ -33,7 +34,7 @@ use Rattle.rules.proofs.decided.Decisions.{AreRight, IsChange}
 use Rattle.machine.proofs.histories.Quantities.{at_most_limit}
 use Rattle.rules.proofs.decided.picks.UnpickJudged.{unpick_judged}
 use Rattle.rules.proofs.decided.picks.StagingStep.{IsStaging, IsLeft}
-use Rattle.rules.proofs.decided.picks.StagingTells.{staging_changed}
+use Rattle.rules.proofs.decided.picks.StagingTells.{staging_changed, replanned_named, replanned_put_once}
 
 module _ (first : ℤ) (acts : List Act) (key : Key) (p : Picking) (s : Slice) (slice : IsSlice first (record { key = key; command = Unpick p }) acts (tables_of first acts) s)
     (next : IsHistory first (record { key = key; command = Unpick p } ∷ acts)) where
@@ -95,9 +96,18 @@ module _ (first : ℤ) (acts : List Act) (key : Key) (p : Picking) (s : Slice) (
     on_others = unstaged_elsewhere first acts after (next_number acts) p.order p.lot p.qty legal (InBin p.bin) refl (λ c. refl) there;
   }
 
+  abbrev in_bin_left : ℕ
+  in_bin_left = capped (in_bin_seen s p.bin p.lot + p.qty)
+
+  abbrev staged_left : ℕ
+  staged_left = on_stage_seen s p.order p.lot - p.qty
+
   unpick_changed : IsChange first act acts (unpick_changes s p)
   unpick_changed =
-      staging_changed first acts act p (Stage p.order) (InBin p.bin) staging s slice next (capped (in_bin_seen s p.bin p.lot + p.qty)) (on_stage_seen s p.order p.lot - p.qty) left
+      staging_changed first acts act p (Stage p.order) (InBin p.bin) staging s slice next in_bin_left staged_left left
+      (rows_to_put s.rows.reserved (shares_with s p in_bin_left staged_left)) (rows_to_drop p.lot.gtin s.rows.reserved (shares_with s p in_bin_left staged_left))
+      (replanned_named first acts act p (Stage p.order) (InBin p.bin) staging s slice next in_bin_left staged_left left)
+      (replanned_put_once first acts act p (Stage p.order) (InBin p.bin) staging s slice next in_bin_left staged_left left)
 
 pub unpicks_right : (key : Key) (s : Slice) (result : Result Change RuleFault) (p : Picking) → AreRight key s result (Unpick p) (unpick_seen s p) (unpick_changes s p)
 unpicks_right key s result p first acts history slice = record { judged = unpick_judged first acts key p s slice; changed = λ ok next. unpick_changed first acts key p s slice next }

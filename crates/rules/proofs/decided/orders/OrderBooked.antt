@@ -1,0 +1,113 @@
+-- What the rows of an order's slice tell of its lines: the plan in which a line is booked last has its rows of the plan after the act.
+use Rattle.std.proofs.Common.{◌≡◌, ℕ, ◌+◌, ◌-◌, min, true, List, [], ◌∷◌, ◌++◌, refl, ap, sym, ◌∙◌, arith}
+use Rattle.std.specs.Prelude.{ℤ, filter}
+use Rattle.values.specs.Values.{same_text}
+use Rattle.commands.specs.declared.key.Key.{Key}
+use Rattle.commands.specs.declared.command.OrderLine.{OrderLine}
+use Rattle.commands.specs.declared.command.NewOrder.{NewOrder}
+use Rattle.commands.specs.declared.command.Command.TheVariants.{Order}
+use Rattle.plan.specs.declared.TheConstants.{SUM_MAX}
+use Rattle.plan.specs.declared.Demand.{Demand}
+use Rattle.plan.specs.declared.Supply.{Supply}
+use Rattle.plan.specs.declared.Row.{Row}
+use Rattle.plan.specs.Overlap.{plan_rows, rows_from, demand_total, reserved_for}
+use Rattle.plan.proofs.Laying.{plan_rows-append}
+use Rattle.plan.proofs.Nothing.{same_plan}
+use Rattle.machine.specs.Acts.{Act, next_number}
+use Rattle.machine.specs.Standing.{today}
+use Rattle.machine.specs.Planning.{demands, supplies, plan}
+use Rattle.machine.specs.Once.{IsHistory}
+use Rattle.machine.specs.Tables.{tables_of}
+use Rattle.machine.specs.Touched.{is_touched}
+use Rattle.rules.specs.Slices.{IsSlice}
+use Rattle.row_rules.specs.Seen.{capped, number_seen}
+use Rattle.row_rules.specs.Plans.{supplies_seen, supplies_within, plan_within, named_rows}
+use Rattle.row_rules.proofs.Cutting.{plan_of_cut}
+use Rattle.order_rules.specs.Booked.{needs_seen, plan_booked, line_put}
+use Rattle.order_rules.specs.DecidedOrder.{new_order_row}
+use Rattle.row_rules.specs.declared.slice.Slice.{Slice}
+use Rattle.machine.proofs.histories.PlanRows.{unequal_back}
+use Rattle.rules.proofs.rows.NeedsTold.{rows_tell_needs}
+use Rattle.rules.proofs.rows.SliceDemands.{slice_tells_demands}
+use Rattle.rules.proofs.rows.SliceSupplies.{slice_tells_supplies}
+use Rattle.rules.proofs.rows.SuppliesTold.{rows_tell_supplies, supplies_within_limit}
+use Rattle.rules.proofs.decided.Decisions.{day_seen}
+use Rattle.rules.proofs.decided.orders.OrderStep.{new_row}
+use Rattle.rules.proofs.decided.orders.OrderTells.{is_new, number_is, row_is}
+use Rattle.rules.proofs.decided.orders.OrderPlan.{NotBooked, not_booked, for_behind, named_behind, line_demand, line_rows, plan_after, others_booked}
+
+-- what of the needs lies beyond the caps serves nothing
+capped_same : (n number qty : ℕ) (ss : List Supply)
+    → plan_within (record { booking = 0; need = capped n } ∷ record { booking = number; need = qty } ∷ []) ss ≡ plan_within (record { booking = 0; need = n } ∷ record { booking = number; need = qty } ∷ []) ss
+capped_same n number qty ss =
+    let low : min (capped n) SUM_MAX ≡ min n SUM_MAX = omega arith in
+    let room : SUM_MAX - capped n ≡ SUM_MAX - n = omega arith in
+    (λ i. plan_rows (record { booking = 0; need = low i } ∷ record { booking = number; need = min qty (room i) } ∷ []) (supplies_within SUM_MAX ss))
+
+module _ (first : ℤ) (acts : List Act) (key : Key) (o : NewOrder) (s : Slice) (slice : IsSlice first (record { key = key; command = Order o }) acts (tables_of first acts) s)
+    (next : IsHistory first (record { key = key; command = Order o } ∷ acts)) (l : OrderLine) (touched : is_touched first (record { key = key; command = Order o }) acts l.gtin ≡ true)
+    (alone : filter (λ m. same_text l.gtin m.gtin) o.lines ≡ l ∷ []) where
+  abbrev act : Act
+  act = record { key = key; command = Order o }
+
+  abbrev after : List Act
+  after = act ∷ acts
+
+  abbrev g : List ℕ
+  g = l.gtin
+
+  abbrev wanted : ℕ
+  wanted = demand_total (demands first acts g)
+
+  -- one demand for all those before
+  abbrev together : Demand
+  together = record { booking = 0; need = wanted }
+
+  abbrev own : Demand
+  own = line_demand first acts key o next (is_new first acts key o s slice next) l alone
+
+  abbrev own_rows : List Row
+  own_rows = line_rows first acts key o next (is_new first acts key o s slice next) l alone
+
+  abbrev offered : List Supply
+  offered = supplies_seen g (today first acts) s.rows.recalls s.rows.bins s.rows.stock s.rows.lots
+
+  needs_told : needs_seen s g ≡ capped wanted
+  needs_told = ap capped (rows_tell_needs first acts next.0 g s.rows.orders s.rows.lines s.rows.staged (slice_tells_demands first acts act s slice g touched))
+
+  booked_is : plan_booked s l ≡ plan_rows (together ∷ []) (supplies first acts g) ++ own_rows
+  booked_is =
+      let tells = slice_tells_supplies first acts act s slice g touched in
+      let start : wanted + 0 ≡ wanted = omega arith in
+      (λ i. plan_within (record { booking = 0; need = needs_told i } ∷ record { booking = number_is first acts key o s slice next i; need = l.qty } ∷ [])
+      (supplies_seen g (day_seen first acts act s slice i) s.rows.recalls s.rows.bins s.rows.stock s.rows.lots))
+      ∙ capped_same wanted (next_number acts) l.qty offered
+      ∙ plan_of_cut (together ∷ own ∷ []) offered (supplies_within_limit first acts next.0 g s.rows.lots s.rows.recalls s.rows.stock s.rows.bins tells)
+      ∙ same_plan (together ∷ own ∷ []) (together ∷ own ∷ []) offered (supplies first acts g) refl (rows_tell_supplies first acts next.0 g s.rows.lots s.rows.recalls s.rows.stock s.rows.bins tells)
+      ∙ plan_rows-append (together ∷ []) (own ∷ []) (supplies first acts g)
+      ∙ ap (λ x. plan_rows (together ∷ []) (supplies first acts g) ++ rows_from x (own ∷ []) (supplies first acts g)) start
+
+  together_apart : NotBooked (next_number acts) (plan_rows (together ∷ []) (supplies first acts g))
+  together_apart = not_booked (next_number acts) 0 (together ∷ []) (supplies first acts g) (unequal_back 0 (next_number acts) (omega arith), tt)
+
+  others_apart : NotBooked (next_number acts) (plan first acts g)
+  others_apart = others_booked first acts key o next (is_new first acts key o s slice next) l alone
+
+  after_is : plan first after g ≡ plan first acts g ++ own_rows
+  after_is = plan_after first acts key o next (is_new first acts key o s slice next) l alone
+
+  -- the rows put are those of the order in the plan after the act
+  pub put_told : line_put s (new_order_row s o) l ≡ named_rows (new_row first acts key o ∷ []) s.rows.lots (plan first after g)
+  put_told =
+      (λ i. named_rows (row_is first acts key o s slice next i ∷ []) s.rows.lots (booked_is i))
+      ∙ named_behind (new_row first acts key o) s.rows.lots (plan_rows (together ∷ []) (supplies first acts g)) own_rows together_apart
+      ∙ sym (named_behind (new_row first acts key o) s.rows.lots (plan first acts g) own_rows others_apart)
+      ∙ ap (named_rows (new_row first acts key o ∷ []) s.rows.lots) (sym after_is)
+
+  -- and so is what they reserve together
+  pub served_told : reserved_for (number_seen s) (plan_booked s l) ≡ reserved_for (next_number acts) (plan first after g)
+  served_told =
+      (λ i. reserved_for (number_is first acts key o s slice next i) (booked_is i))
+      ∙ for_behind (next_number acts) (plan_rows (together ∷ []) (supplies first acts g)) own_rows together_apart
+      ∙ sym (for_behind (next_number acts) (plan first acts g) own_rows others_apart)
+      ∙ ap (reserved_for (next_number acts)) (sym after_is)
