@@ -30,3 +30,8 @@ pub(crate) fn day(alloc: Global) -> Result<Vec<Exchange>, Fault> {
     }
     Ok(exchanges)
 }
+
+/// The next day, on the books before the first receipt.
+pub(crate) fn next_day(alloc: Global) -> Result<Exchange, Fault> {
+    Exchange::of_line(alloc, r#"/days {"key":"K-9","day":"2026-05-05"} => {"act":6,"returned":0}"#)
+}

@@ -7,6 +7,7 @@ use crate::work::{Seen, Work, worked};
 use sqlite::{Connection, Files, Options};
 use sqlite_disk::{Crash, Disk, Fuse, Memory};
 use std::alloc::{AllocError, Global};
+use std::io;
 use tables::opening::Leftover;
 
 /// A disk in memory that stops after so many calls.
@@ -33,6 +34,18 @@ pub(crate) struct Calls {
     pub(crate) db: u64,
 }
 
+/// What a stop takes of what a file was told after its last sync.
+#[derive(Clone, Copy, PartialEq, Eq)]
+pub(crate) enum Loss {
+    Nothing,
+    All,
+    /// Every other sector.
+    Torn,
+}
+
+/// How much of a file is written at once, whatever happens.
+const SECTOR: usize = 512;
+
 fn copied(alloc: Global, bytes: &[u8]) -> Result<Vec<u8>, AllocError> {
     let mut copy = Vec::new(alloc);
     copy.extend_from_slice(bytes)?;
@@ -55,20 +68,49 @@ impl Stored {
         Ok(Stored { written, synced })
     }
 
+    // Whether anything can be lost.
+    fn is_open(&self) -> bool {
+        self.written.as_slice() != self.synced.as_slice()
+    }
+
+    fn after(&self, alloc: Global, loss: Loss) -> Result<Stored, AllocError> {
+        let bytes = match loss {
+            Loss::Nothing => copied(alloc, self.written.as_slice())?,
+            Loss::All => copied(alloc, self.synced.as_slice())?,
+            Loss::Torn => torn(alloc, self.written.as_slice(), self.synced.as_slice())?,
+        };
+        Ok(Stored {
+            written: copied(alloc, bytes.as_slice())?,
+            synced: bytes,
+        })
+    }
+
     fn disk(&self, alloc: Global, calls: u64) -> Result<Stopping, Fault> {
-        let mut file = Memory::new(alloc);
-        match filled(&mut file, self) {
-            Ok(()) => Ok(Fuse::new(file, calls)),
+        match filled(alloc, self) {
+            Ok(file) => Ok(Fuse::new(file, calls)),
             Err(_) => Err(Fault::Room),
         }
     }
 }
 
-fn filled(file: &mut Memory, stored: &Stored) -> std::io::Result<()> {
+// The bytes that were written, with every other sector as it was.
+fn torn(alloc: Global, written: &[u8], synced: &[u8]) -> Result<Vec<u8>, AllocError> {
+    let mut bytes = copied(alloc, written)?;
+    for (at, byte) in bytes.iter_mut().enumerate() {
+        if at / SECTOR % 2 == 1 {
+            *byte = synced.get(at).copied().unwrap_or(0);
+        }
+    }
+    Ok(bytes)
+}
+
+fn filled(alloc: Global, stored: &Stored) -> io::Result<Memory> {
+    let mut file = Memory::new(alloc);
     file.write_at(0, stored.synced.as_slice())?;
     file.sync()?;
     file.set_len(stored.written.len())?;
-    file.write_at(0, stored.written.as_slice())
+    file.write_at(0, stored.written.as_slice())?;
+    Ok(file)
 }
 
 impl Pair {
@@ -78,6 +120,19 @@ impl Pair {
             log: Stored::empty(alloc),
             db: Stored::empty(alloc),
         }
+    }
+
+    /// Whether a stop can lose anything.
+    pub(crate) fn is_open(&self) -> bool {
+        self.log.is_open() || self.db.is_open()
+    }
+
+    /// The files as a stop leaves them.
+    pub(crate) fn after(&self, alloc: Global, log: Loss, db: Loss) -> Result<Pair, AllocError> {
+        Ok(Pair {
+            log: self.log.after(alloc, log)?,
+            db: self.db.after(alloc, db)?,
+        })
     }
 
     /// Does the work over these files.

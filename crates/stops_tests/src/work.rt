@@ -63,21 +63,35 @@ pub(crate) fn worked<S: Alter + Drop>(
 ) -> Leftover<S> {
     let mut conn = conn;
     seen.before = Rows::of(alloc, &mut conn);
-    if !conn.is_autocommit() {
-        return Leftover::Connection(conn);
-    }
     let books = match work {
-        Work::Make => Books::create(alloc, conn, first_day()),
-        _ => Books::open(alloc, conn),
+        Work::Make => made(alloc, conn),
+        _ => opened(alloc, conn),
     };
     match books {
         Ok(books) => Leftover::Connection(closed(alloc, books, work, seen)),
-        Err(fault) => fault.left,
+        Err(left) => left,
     }
 }
 
-fn first_day() -> BusinessDay {
-    BusinessDay::new(Day::parse(b"2026-05-04").unwrap()).unwrap()
+fn first_day() -> Option<BusinessDay> {
+    BusinessDay::new(Day::parse(b"2026-05-04")?)
+}
+
+fn made<S: Alter + Drop>(alloc: Global, conn: Connection<S>) -> Result<Books<S>, Leftover<S>> {
+    if !conn.is_autocommit() {
+        return Err(Leftover::Connection(conn));
+    }
+    match first_day() {
+        Some(day) => Books::create(alloc, conn, day).map_err(|fault| fault.left),
+        None => Err(Leftover::Connection(conn)),
+    }
+}
+
+fn opened<S: Alter + Drop>(alloc: Global, conn: Connection<S>) -> Result<Books<S>, Leftover<S>> {
+    if !conn.is_autocommit() {
+        return Err(Leftover::Connection(conn));
+    }
+    Books::open(alloc, conn).map_err(|fault| fault.left)
 }
 
 fn closed<S: Alter + Drop>(
