@@ -10,8 +10,8 @@ pub(crate) enum Fault {
     Room,
     /// A line of the day is no exchange.
     Line,
-    /// The files do not open, or do not close, where nothing fails.
-    Files,
+    /// Where nothing fails, the books do not open, do not answer or do not close.
+    Refused,
     /// The books have other rows than those before the request or after it.
     Rows,
     /// An answer is another than the day's.
@@ -23,7 +23,7 @@ impl fmt::Display for Fault {
         f.write_str(match self {
             Fault::Room => "no room",
             Fault::Line => "no exchange",
-            Fault::Files => "the files do not open or close",
+            Fault::Refused => "refused",
             Fault::Rows => "other rows",
             Fault::Answer => "another answer",
         })

@@ -51,7 +51,7 @@ fn worked_out(alloc: Global, files: &Pair, work: Work<'_>, count: usize) -> Resu
     let mut seen = Seen::new();
     let files = files.opened(alloc, ALL, work, &mut seen)?;
     if !is_whole(&seen, count) {
-        return Err(Fault::Answer);
+        return Err(Fault::Refused);
     }
     match mem::replace(&mut seen.after, None) {
         Some(rows) => Ok(Stage { files, rows }),
@@ -95,7 +95,7 @@ impl Part<'_> {
         let again = self.day.get(at..at.saturating_add(1)).unwrap_or(&[]);
         files.opened(alloc, ALL, Work::Serve(again), &mut seen)?;
         if !is_whole(&seen, 1) {
-            return Err(Fault::Answer);
+            return Err(Fault::Refused);
         }
         if !are_rows(&seen.after, self.stages.get(at.saturating_add(1))) {
             return Err(Fault::Rows);
@@ -200,18 +200,23 @@ pub(crate) fn tried(rt: &HostRuntime) -> Result<(), Fault> {
     if let Some(base) = stages.get(5) {
         ends(rt, alloc, base, &one)?;
     }
-    let (mut log, mut db) = (none(), none());
     for at in 0..day.len() {
-        let part = Part { stages: stages.as_slice().get(at..).unwrap_or(&[]), day: day.as_slice().get(at..at.saturating_add(1)).unwrap_or(&[]) };
-        part.stops_of_log(alloc, &mut log)?;
-        part.stops_of_db(alloc, &mut db)?;
+        let part = Part {
+            stages: stages.as_slice().get(at..).unwrap_or(&[]),
+            day: day.as_slice().get(at..at.saturating_add(1)).unwrap_or(&[]),
+        };
+        part_tried(rt, alloc, part)?;
     }
-    tell(rt, "closed after each, log", log)?;
-    tell(rt, "closed after each, db", db)?;
     let all = Part { stages: stages.as_slice(), day: day.as_slice() };
+    part_tried(rt, alloc, all)
+}
+
+fn part_tried(rt: &HostRuntime, alloc: Global, part: Part<'_>) -> Result<(), Fault> {
     let (mut log, mut db) = (none(), none());
-    all.stops_of_log(alloc, &mut log)?;
-    tell(rt, "one connection, log", log)?;
-    all.stops_of_db(alloc, &mut db)?;
-    tell(rt, "one connection, db", db)
+    let end = part.stops_of_log(alloc, &mut log);
+    tell(rt, "log", log)?;
+    end?;
+    let end = part.stops_of_db(alloc, &mut db);
+    tell(rt, "db", db)?;
+    end
 }
