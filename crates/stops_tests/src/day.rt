@@ -4,8 +4,8 @@ use crate::exchange::Exchange;
 use crate::fault::Fault;
 use std::alloc::Global;
 
-// Two items and three bins; two customers, whose units are picked; a recall that takes seven units back; a goods-in file,
-// whose lines end at a bar; and the next day.
+// Two items and three bins; two customers and their lots; units are picked; a recall takes seven of them back; a goods-in
+// file; and a new day.
 static DAY: &str = r#"/items {"key":"K-1","gtin":"09506000134352","name":"Oat drink"} => {"act":1}
 /items {"key":"K-2","gtin":"04012345000016","name":"Rye bread"} => {"act":2}
 /bins {"key":"K-3","bin":"A-01","kind":"STORE"} => {"act":3}
@@ -19,7 +19,7 @@ static DAY: &str = r#"/items {"key":"K-1","gtin":"09506000134352","name":"Oat dr
 /picks {"key":"K-11","order":"S-1","gtin":"09506000134352","lot":"L0","bin":"A-01","qty":5} => {"act":11}
 /picks {"key":"K-12","order":"S-1","gtin":"09506000134352","lot":"L2","bin":"A-01","qty":7} => {"act":12}
 /recalls {"key":"K-13","gtin":"09506000134352","lot":"L2"} => {"act":13,"returned":7}
-/goodsin delivery,line,gtin,lot,expiry,bin,qty|D-9,1,09506000134352,M1,261130,A-01,5|D-9,2,09506000134352,M2,261231,A-02,7|D-9,3,04012345000016,N1,261200,A-02,4| => {"accepted":3,"repeated":0}
+/goodsin delivery,line,gtin,lot,expiry,bin,qty|D-9,1,09506000134352,M1,261130,A-01,5|D-9,2,09506000134352,M2,261231,A-02,7|D-9,3,04012345000016,N1,261200,A-02,4| => {"accepted":3,"repeated":0} => {"accepted":0,"repeated":3}
 /days {"key":"K-17","day":"2026-05-05"} => {"act":17,"returned":0}"#;
 
 /// The exchanges of the day, in turn.
@@ -31,7 +31,12 @@ pub(crate) fn day(alloc: Global) -> Result<Vec<Exchange>, Fault> {
     Ok(exchanges)
 }
 
-/// The next day, on the books before the first receipt.
-pub(crate) fn next_day(alloc: Global) -> Result<Exchange, Fault> {
-    Exchange::of_line(alloc, r#"/days {"key":"K-9","day":"2026-05-05"} => {"act":6,"returned":0}"#)
+/// How many exchanges of the day come before its first receipt.
+pub(crate) const BEFORE_RECEIPTS: usize = 5;
+
+static NEW_DAY: &str = r#"/days {"key":"K-9","day":"2026-05-05"} => {"act":6,"returned":0}"#;
+
+/// A new day, before the first receipt.
+pub(crate) fn new_day(alloc: Global) -> Result<Exchange, Fault> {
+    Exchange::of_line(alloc, NEW_DAY)
 }

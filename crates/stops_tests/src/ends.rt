@@ -1,28 +1,29 @@
-//! A client whose sending or receiving fails.
+//! The two ends of a client, which may fail.
 
+use std::alloc::Global;
 use std::io::{self, ErrorKind, Read, Write};
 
 /// Sends a text, and then ends or fails.
 #[derive(Drop)]
 pub(crate) struct Sender<'a> {
-    text: &'a [u8],
+    rest: &'a [u8],
     ends: bool,
 }
 
 impl<'a> Sender<'a> {
-    /// Sends the text and ends.
-    pub(crate) fn new(text: &'a str) -> Sender<'a> {
+    /// Sends the text, and ends.
+    pub(crate) fn whole(text: &'a str) -> Sender<'a> {
         Sender {
-            text: text.as_bytes(),
+            rest: text.as_bytes(),
             ends: true,
         }
     }
 
     /// Sends so many bytes of the text, and fails.
-    pub(crate) fn failing(text: &'a str, count: usize) -> Sender<'a> {
+    pub(crate) fn failing(text: &'a str, sent: usize) -> Sender<'a> {
         let bytes = text.as_bytes();
         Sender {
-            text: &bytes[..count.min(bytes.len())],
+            rest: &bytes[..sent.min(bytes.len())],
             ends: false,
         }
     }
@@ -30,38 +31,38 @@ impl<'a> Sender<'a> {
 
 impl Read for Sender<'_> {
     fn read(&mut self, buf: &mut [u8]) -> io::Result<usize> {
-        if self.text.is_empty() && !self.ends {
+        if self.rest.is_empty() && !self.ends {
             return Err(io::Error::from(ErrorKind::ConnectionReset));
         }
-        let count = buf.len().min(self.text.len());
-        buf[..count].copy_from_slice(&self.text[..count]);
-        self.text = &self.text[count..];
+        let count = buf.len().min(self.rest.len());
+        buf[..count].copy_from_slice(&self.rest[..count]);
+        self.rest = &self.rest[count..];
         Ok(count)
     }
 }
 
-/// Takes so many bytes.
+/// Takes an answer, or fails within it or at the flush.
 #[derive(Drop)]
 pub(crate) struct Receiver {
-    pub(crate) told: Vec<u8>,
+    pub(crate) taken: Vec<u8>,
     room: usize,
     flushes: bool,
 }
 
 impl Receiver {
-    /// Takes all bytes.
-    pub(crate) fn new(told: Vec<u8>) -> Receiver {
+    /// Takes all.
+    pub(crate) fn whole(alloc: Global) -> Receiver {
         Receiver {
-            told,
+            taken: Vec::new(alloc),
             room: usize::MAX,
             flushes: true,
         }
     }
 
-    /// Takes so many bytes and fails, at the flush at the latest.
-    pub(crate) fn failing(told: Vec<u8>, room: usize) -> Receiver {
+    /// Takes so many bytes, and then fails.
+    pub(crate) fn failing(alloc: Global, room: usize) -> Receiver {
         Receiver {
-            told,
+            taken: Vec::new(alloc),
             room,
             flushes: false,
         }
@@ -74,7 +75,7 @@ impl Write for Receiver {
         if count == 0 {
             return Err(io::Error::from(ErrorKind::BrokenPipe));
         }
-        match self.told.extend_from_slice(&buf[..count]) {
+        match self.taken.extend_from_slice(&buf[..count]) {
             Ok(()) => {}
             Err(_) => return Err(io::Error::from(ErrorKind::OutOfMemory)),
         }

@@ -3,15 +3,57 @@
 use crate::fault::Fault;
 use std::alloc::{AllocError, Global};
 
-/// A request and its answer, byte for byte.
+/// A request and its answers, byte for byte.
 #[derive(Drop)]
 pub(crate) struct Exchange {
     pub(crate) asked: String,
+    /// What answers it.
     pub(crate) told: String,
+    /// What answers it once it has acted: the same, but to a file, whose rows are then repeated.
+    pub(crate) again: String,
 }
 
-fn request(alloc: Global, path: &str, body: &str) -> Result<String, AllocError> {
-    format!(in alloc; "POST {path} HTTP/1.1\r\nContent-Length: {}\r\n\r\n{body}", body.len())
+/// What answers every request where the disk fails.
+pub(crate) static REFUSED: &str =
+    "HTTP/1.1 503 Service Unavailable\r\ncontent-type: application/json\r\ncontent-length: 14\r\nconnection: close\r\n\r\n{\"code\":\"W90\"}";
+
+impl Exchange {
+    /// The exchange of a line `PATH BODY => ANSWER`, or `PATH BODY => ANSWER => ANSWER AGAIN`. A bar ends a line of a
+    /// goods-in file.
+    pub(crate) fn of_line(alloc: Global, line: &str) -> Result<Exchange, Fault> {
+        let (asked, answers) = parted(line, " => ")?;
+        let (told, again) = answers.split_once(" => ").unwrap_or((answers, answers));
+        Ok(Exchange {
+            asked: request(alloc, asked)?,
+            told: answer(alloc, told)?,
+            again: answer(alloc, again)?,
+        })
+    }
+
+    /// Whether the answer tells that the request had acted before.
+    pub(crate) fn is_told_apart(&self) -> bool {
+        self.told.as_str() != self.again.as_str()
+    }
+}
+
+fn parted<'a>(text: &'a str, at: &str) -> Result<(&'a str, &'a str), Fault> {
+    match text.split_once(at) {
+        Some(parts) => Ok(parts),
+        None => Err(Fault::Day),
+    }
+}
+
+fn request(alloc: Global, asked: &str) -> Result<String, Fault> {
+    let (path, body) = parted(asked, " ")?;
+    let lines = body.replace(alloc, '|', "\n")?;
+    Ok(posted(alloc, path, lines.as_str())?)
+}
+
+fn posted(alloc: Global, path: &str, body: &str) -> Result<String, AllocError> {
+    format!(in alloc;
+        "POST {path} HTTP/1.1\r\nContent-Length: {}\r\n\r\n{body}",
+        body.len()
+    )
 }
 
 fn answer(alloc: Global, body: &str) -> Result<String, AllocError> {
@@ -19,27 +61,4 @@ fn answer(alloc: Global, body: &str) -> Result<String, AllocError> {
         "HTTP/1.1 200 OK\r\ncontent-type: application/json\r\ncontent-length: {}\r\nconnection: close\r\n\r\n{body}",
         body.len()
     )
-}
-
-/// What is answered where the disk or memory fails.
-pub(crate) static REFUSED: &str = "HTTP/1.1 503 Service Unavailable\r\ncontent-type: application/json\r\ncontent-length: 14\r\nconnection: close\r\n\r\n{\"code\":\"W90\"}";
-
-impl Exchange {
-    /// The exchange that a line `PATH BODY => BODY` tells.
-    pub(crate) fn of_line(alloc: Global, line: &str) -> Result<Exchange, Fault> {
-        let (asked, told) = parted(line, " => ")?;
-        let (path, body) = parted(asked, " ")?;
-        let lines = body.replace(alloc, '|', "\n")?;
-        Ok(Exchange {
-            asked: request(alloc, path, lines.as_str())?,
-            told: answer(alloc, told)?,
-        })
-    }
-}
-
-fn parted<'a>(text: &'a str, at: &str) -> Result<(&'a str, &'a str), Fault> {
-    match text.split_once(at) {
-        Some(parts) => Ok(parts),
-        None => Err(Fault::Line),
-    }
 }

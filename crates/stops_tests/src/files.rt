@@ -1,7 +1,5 @@
 //! The two files of the books, on disks that stop.
 
-ghost use Rattle.std.specs.Prelude.{IsTrue};
-
 use crate::fault::Fault;
 use crate::work::{Seen, Work, worked};
 use sqlite::{Connection, Files, Options};
@@ -13,9 +11,15 @@ use tables::opening::Leftover;
 /// A disk in memory that stops after so many calls.
 type Stopping = Fuse<Memory>;
 
-/// A file as it stands, and as it would be if all were lost that came after its last sync.
+/// How many frames the log has before it is copied into the database, so that this comes within the day too.
+const LOG_FRAMES: usize = 40;
+
+/// How much of a file a disk writes at once.
+const SECTOR: usize = 512;
+
+/// A file as it stands, and as it stood at its last sync.
 #[derive(Drop)]
-pub(crate) struct Stored {
+struct Stored {
     written: Vec<u8>,
     synced: Vec<u8>,
 }
@@ -27,15 +31,23 @@ pub(crate) struct Pair {
     db: Stored,
 }
 
-/// How many calls each file gets.
+/// After how many calls each file stops.
 #[derive(Clone, Copy)]
 pub(crate) struct Calls {
     pub(crate) log: u64,
     pub(crate) db: u64,
 }
 
-/// What a stop takes of what a file was told after its last sync.
-#[derive(Clone, Copy, PartialEq, Eq)]
+impl Calls {
+    /// More than any work comes to.
+    pub(crate) const ALL: Calls = Calls {
+        log: u64::MAX,
+        db: u64::MAX,
+    };
+}
+
+/// What of a file is lost that was written after its last sync.
+#[derive(Clone, Copy)]
 pub(crate) enum Loss {
     Nothing,
     All,
@@ -43,13 +55,21 @@ pub(crate) enum Loss {
     Torn,
 }
 
-/// How much of a file is written at once, whatever happens.
-const SECTOR: usize = 512;
-
 fn copied(alloc: Global, bytes: &[u8]) -> Result<Vec<u8>, AllocError> {
     let mut copy = Vec::new(alloc);
     copy.extend_from_slice(bytes)?;
     Ok(copy)
+}
+
+// What was written, with every other sector as it was synced.
+fn torn(alloc: Global, written: &[u8], synced: &[u8]) -> Result<Vec<u8>, AllocError> {
+    let mut bytes = copied(alloc, written)?;
+    for (at, byte) in bytes.iter_mut().enumerate() {
+        if at / SECTOR % 2 == 1 {
+            *byte = synced.get(at).copied().unwrap_or(0);
+        }
+    }
+    Ok(bytes)
 }
 
 impl Stored {
@@ -68,49 +88,35 @@ impl Stored {
         Ok(Stored { written, synced })
     }
 
-    // Whether anything can be lost.
-    fn is_open(&self) -> bool {
-        self.written.as_slice() != self.synced.as_slice()
+    fn disk(&self, alloc: Global, calls: u64) -> io::Result<Stopping> {
+        let mut file = Memory::new(alloc);
+        file.write_at(0, self.synced.as_slice())?;
+        file.sync()?;
+        file.set_len(self.written.len())?;
+        file.write_at(0, self.written.as_slice())?;
+        Ok(Fuse::new(file, calls))
     }
 
-    fn after(&self, alloc: Global, loss: Loss) -> Result<Stored, AllocError> {
+    fn left(&self, alloc: Global, loss: Loss) -> Result<Stored, AllocError> {
         let bytes = match loss {
             Loss::Nothing => copied(alloc, self.written.as_slice())?,
             Loss::All => copied(alloc, self.synced.as_slice())?,
             Loss::Torn => torn(alloc, self.written.as_slice(), self.synced.as_slice())?,
         };
+        let synced = copied(alloc, bytes.as_slice())?;
         Ok(Stored {
-            written: copied(alloc, bytes.as_slice())?,
-            synced: bytes,
+            written: bytes,
+            synced,
         })
     }
 
-    fn disk(&self, alloc: Global, calls: u64) -> Result<Stopping, Fault> {
-        match filled(alloc, self) {
-            Ok(file) => Ok(Fuse::new(file, calls)),
-            Err(_) => Err(Fault::Room),
-        }
+    fn is_written(&self, other: &Stored) -> bool {
+        self.written.as_slice() == other.written.as_slice()
     }
-}
 
-// The bytes that were written, with every other sector as it was.
-fn torn(alloc: Global, written: &[u8], synced: &[u8]) -> Result<Vec<u8>, AllocError> {
-    let mut bytes = copied(alloc, written)?;
-    for (at, byte) in bytes.iter_mut().enumerate() {
-        if at / SECTOR % 2 == 1 {
-            *byte = synced.get(at).copied().unwrap_or(0);
-        }
+    fn is_synced(&self) -> bool {
+        self.written.as_slice() == self.synced.as_slice()
     }
-    Ok(bytes)
-}
-
-fn filled(alloc: Global, stored: &Stored) -> io::Result<Memory> {
-    let mut file = Memory::new(alloc);
-    file.write_at(0, stored.synced.as_slice())?;
-    file.sync()?;
-    file.set_len(stored.written.len())?;
-    file.write_at(0, stored.written.as_slice())?;
-    Ok(file)
 }
 
 impl Pair {
@@ -122,20 +128,25 @@ impl Pair {
         }
     }
 
-    /// Whether a stop can lose anything.
-    pub(crate) fn is_open(&self) -> bool {
-        self.log.is_open() || self.db.is_open()
-    }
-
     /// The files as a stop leaves them.
-    pub(crate) fn after(&self, alloc: Global, log: Loss, db: Loss) -> Result<Pair, AllocError> {
+    pub(crate) fn left(&self, alloc: Global, log: Loss, db: Loss) -> Result<Pair, AllocError> {
         Ok(Pair {
-            log: self.log.after(alloc, log)?,
-            db: self.db.after(alloc, db)?,
+            log: self.log.left(alloc, log)?,
+            db: self.db.left(alloc, db)?,
         })
     }
 
-    /// Does the work over these files.
+    /// Whether the same is written in the files.
+    pub(crate) fn is_written(&self, other: &Pair) -> bool {
+        self.log.is_written(&other.log) && self.db.is_written(&other.db)
+    }
+
+    /// Whether a stop loses nothing.
+    pub(crate) fn is_synced(&self) -> bool {
+        self.log.is_synced() && self.db.is_synced()
+    }
+
+    /// Does the work over these files, which stop after so many calls, and gives what they are then.
     pub(crate) fn opened(
         &self,
         alloc: Global,
@@ -155,18 +166,20 @@ impl Pair {
     }
 }
 
+fn options() -> Options {
+    Options {
+        checkpoint_frames: LOG_FRAMES,
+        ..Options::new(1)
+    }
+}
+
 /// Opens a connection over the files, works and closes it.
 // The one function over the connection's own type: each takes long to check.
-fn over(
-    alloc: Global,
-    files: Files<Stopping>,
-    work: Work<'_>,
-    seen: &mut Seen,
-) -> Files<Stopping> {
+fn over(alloc: Global, files: Files<Stopping>, work: Work<'_>, seen: &mut Seen) -> Files<Stopping> {
     if !files.may_be_used() {
         return files;
     }
-    let conn = match Connection::open_files(alloc, files, Options::new(1)) {
+    let conn = match Connection::open_files(alloc, files, options()) {
         Ok(conn) => conn,
         Err((_, left)) => return left.into_files(),
     };
@@ -176,7 +189,7 @@ fn over(
     };
     match conn.close_files() {
         Ok(files) => {
-            seen.closed = true;
+            seen.is_closed = true;
             files
         }
         Err((_, store)) => store.close(),

@@ -1,19 +1,22 @@
-//! Readers, writers and disks that fail, tried over books in memory, and counted.
+//! Clients and disks that fail, tried over books in memory, and counted.
 #![tactic(auto)]
 
+mod cut_off;
 mod day;
 mod ends;
 mod exchange;
 mod fault;
 mod files;
+mod report;
 mod rows;
+mod stages;
 mod stops;
 mod work;
 
 use std::process::ExitCode;
 
 fn main(rt: HostRuntime) -> ExitCode {
-    match stops::tried(&rt) {
+    match report::tell_all(&rt) {
         Ok(()) => ExitCode::SUCCESS,
         Err(fault) => {
             let _ = eprintln!(rt; "stops_tests: {fault}");

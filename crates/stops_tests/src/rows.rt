@@ -42,16 +42,19 @@ impl Rows {
     /// Whether the rows are the same, table by table and in their order.
     pub(crate) fn are_same(&self, other: &Rows) -> bool {
         self.tables.len() == other.tables.len()
-            && self
-                .tables
-                .iter()
-                .zip(other.tables.iter())
-                .all(|(ours, theirs)| are_same(ours.as_slice(), theirs.as_slice()))
+            && self.tables.iter().zip(other.tables.iter()).all(|(ours, theirs)| are_same(
+                ours.as_slice(),
+                theirs.as_slice(),
+            ))
     }
 }
 
 fn are_same(ours: &[Row], theirs: &[Row]) -> bool {
-    ours.len() == theirs.len() && ours.iter().zip(theirs).all(|(our, their)| is_same(our, their))
+    ours.len() == theirs.len()
+        && ours
+            .iter()
+            .zip(theirs)
+            .all(|(our, their)| is_same(our, their))
 }
 
 fn is_same(our: &Row, their: &Row) -> bool {

@@ -17,23 +17,28 @@ pub(crate) enum Work<'a> {
     Make,
     /// The requests are served in turn, until one is refused.
     Serve(&'a [Exchange]),
-    /// A request breaks off after so many bytes.
+    /// The rows are looked at, the request is served, and the rows are looked at again.
+    Check(&'a Exchange),
+    /// A request breaks off after so many bytes; the rows are looked at.
     BreakOff(&'a Exchange, usize),
-    /// The answer to a request is not taken after so many bytes, or at its end; the request comes again.
+    /// The writer fails after so many bytes of the answer, or at the flush; the request comes again, and the rows are
+    /// looked at.
     Leave(&'a Exchange, usize),
 }
 
 /// What was seen over one connection.
 #[derive(Drop)]
 pub(crate) struct Seen {
-    /// The files, and the books in them, were opened.
-    pub(crate) opened: bool,
+    /// The files and the books in them were opened.
+    pub(crate) is_opened: bool,
     /// The files were closed.
-    pub(crate) closed: bool,
+    pub(crate) is_closed: bool,
+    /// What the clients saw is what the exchanges say, or that the disk failed.
+    pub(crate) is_sound: bool,
     /// How many requests had their answers.
     pub(crate) answered: usize,
-    /// Each answer was the exchange's, or told that the disk failed.
-    pub(crate) sound: bool,
+    /// How many of these had the answer of a request that has acted before, where that is another.
+    pub(crate) repeated: usize,
     /// The rows before the work.
     pub(crate) before: Option<Rows>,
     /// The rows after it.
@@ -42,15 +47,21 @@ pub(crate) struct Seen {
 
 impl Seen {
     /// Nothing yet.
-    pub(crate) fn new() -> Seen {
+    pub(crate) fn nothing() -> Seen {
         Seen {
-            opened: false,
-            closed: false,
+            is_opened: false,
+            is_closed: false,
+            is_sound: true,
             answered: 0,
-            sound: true,
+            repeated: 0,
             before: None,
             after: None,
         }
+    }
+
+    /// Whether nothing failed and so many requests had their answers.
+    pub(crate) fn is_whole(&self, count: usize) -> bool {
+        self.is_opened && self.is_closed && self.is_sound && self.answered == count
     }
 }
 
@@ -62,7 +73,9 @@ pub(crate) fn worked<S: Alter + Drop>(
     seen: &mut Seen,
 ) -> Leftover<S> {
     let mut conn = conn;
-    seen.before = Rows::of(alloc, &mut conn);
+    if let Work::Check(_) = work {
+        seen.before = Rows::of(alloc, &mut conn);
+    }
     let books = match work {
         Work::Make => made(alloc, conn),
         _ => opened(alloc, conn),
@@ -100,20 +113,24 @@ fn closed<S: Alter + Drop>(
     work: Work<'_>,
     seen: &mut Seen,
 ) -> Connection<S> {
-    seen.opened = true;
+    seen.is_opened = true;
     let mut house = House::new(alloc, books);
-    served(alloc, &mut house, work, seen);
+    do_work(alloc, &mut house, work, seen);
     let mut conn = house.close().close();
-    seen.after = Rows::of(alloc, &mut conn);
+    match work {
+        Work::Serve(_) => {}
+        _ => seen.after = Rows::of(alloc, &mut conn),
+    }
     conn
 }
 
-fn served<S: Alter>(alloc: Global, house: &mut House<S>, work: Work<'_>, seen: &mut Seen) {
+fn do_work<S: Alter>(alloc: Global, house: &mut House<S>, work: Work<'_>, seen: &mut Seen) {
     match work {
         Work::Make => {}
         Work::Serve(exchanges) => serve_all(alloc, house, exchanges, seen),
-        Work::BreakOff(exchange, count) => break_off(alloc, house, exchange, count, seen),
-        Work::Leave(exchange, count) => leave(alloc, house, exchange, count, seen),
+        Work::Check(exchange) => serve(alloc, house, exchange, seen),
+        Work::BreakOff(exchange, sent) => break_off(alloc, house, exchange, sent, seen),
+        Work::Leave(exchange, taken) => leave(alloc, house, exchange, taken, seen),
     }
 }
 
@@ -123,57 +140,60 @@ fn serve_all<S: Alter>(
     exchanges: &[Exchange],
     seen: &mut Seen,
 ) {
-    for exchange in exchanges {
-        if !serve(alloc, house, exchange, seen) {
+    for (count, exchange) in exchanges.iter().enumerate() {
+        if seen.answered < count {
             return;
         }
+        serve(alloc, house, exchange, seen);
     }
 }
 
-// Whether the request had its answer.
-fn serve<S: Alter>(
-    alloc: Global,
-    house: &mut House<S>,
-    exchange: &Exchange,
-    seen: &mut Seen,
-) -> bool {
-    let mut sender = Sender::new(exchange.asked.as_str());
-    let mut receiver = Receiver::new(Vec::new(alloc));
+fn serve<S: Alter>(alloc: Global, house: &mut House<S>, exchange: &Exchange, seen: &mut Seen) {
+    let mut sender = Sender::whole(exchange.asked.as_str());
+    let mut receiver = Receiver::whole(alloc);
     let end = house.serve_one(&mut sender, &mut receiver);
-    let told = receiver.told.as_slice();
-    if end == Ok(()) && told == exchange.told.as_bytes() {
-        seen.answered = seen.answered.saturating_add(1);
-        return true;
+    seen.is_sound = seen.is_sound && end == Ok(());
+    seen.judge(exchange, receiver.taken.as_slice());
+}
+
+impl Seen {
+    fn judge(&mut self, exchange: &Exchange, taken: &[u8]) {
+        if taken == exchange.told.as_bytes() {
+            self.answered = self.answered.saturating_add(1);
+        } else if taken == exchange.again.as_bytes() {
+            self.answered = self.answered.saturating_add(1);
+            self.repeated = self.repeated.saturating_add(1);
+        } else {
+            self.is_sound = self.is_sound && taken == REFUSED.as_bytes();
+        }
     }
-    seen.sound = seen.sound && end == Ok(()) && told == REFUSED.as_bytes();
-    false
 }
 
 fn break_off<S: Alter>(
     alloc: Global,
     house: &mut House<S>,
     exchange: &Exchange,
-    count: usize,
+    sent: usize,
     seen: &mut Seen,
 ) {
-    let mut sender = Sender::failing(exchange.asked.as_str(), count);
-    let mut receiver = Receiver::new(Vec::new(alloc));
+    let mut sender = Sender::failing(exchange.asked.as_str(), sent);
+    let mut receiver = Receiver::whole(alloc);
     let end = house.serve_one(&mut sender, &mut receiver);
-    seen.sound = end == Err(ServeFault::Read) && receiver.told.is_empty();
+    seen.is_sound = end == Err(ServeFault::Read) && receiver.taken.is_empty();
 }
 
 fn leave<S: Alter>(
     alloc: Global,
     house: &mut House<S>,
     exchange: &Exchange,
-    count: usize,
+    taken: usize,
     seen: &mut Seen,
 ) {
-    let mut sender = Sender::new(exchange.asked.as_str());
-    let mut receiver = Receiver::failing(Vec::new(alloc), count);
+    let mut sender = Sender::whole(exchange.asked.as_str());
+    let mut receiver = Receiver::failing(alloc, taken);
     let end = house.serve_one(&mut sender, &mut receiver);
     let told = exchange.told.as_bytes();
-    let front = &told[..count.min(told.len())];
-    seen.sound = end == Err(ServeFault::Write) && receiver.told.as_slice() == front;
+    let front = &told[..taken.min(told.len())];
+    seen.is_sound = end == Err(ServeFault::Write) && receiver.taken.as_slice() == front;
     serve(alloc, house, exchange, seen);
 }
