@@ -17,16 +17,29 @@ pub(crate) struct Exchange {
 pub(crate) static REFUSED: &str =
     "HTTP/1.1 503 Service Unavailable\r\ncontent-type: application/json\r\ncontent-length: 14\r\nconnection: close\r\n\r\n{\"code\":\"W90\"}";
 
+/// What answers a request that reads a row which no books have.
+static FOREIGN: &str =
+    "HTTP/1.1 503 Service Unavailable\r\ncontent-type: application/json\r\ncontent-length: 14\r\nconnection: close\r\n\r\n{\"code\":\"W91\"}";
+
 impl Exchange {
-    /// The exchange of a line `PATH BODY => ANSWER`, or `PATH BODY => ANSWER => ANSWER AGAIN`. A bar ends a line of a
-    /// goods-in file.
+    /// The exchange of a line `ASKED => ANSWER`, or `ASKED => ANSWER => ANSWER AGAIN`, where what is asked is `PATH BODY` or
+    /// `GET PATH` and each answer is a body of status 200. A bar ends a line of a goods-in file.
     pub(crate) fn of_line(alloc: Global, line: &str) -> Result<Exchange, Fault> {
-        let (asked, answers) = parted(line, " => ")?;
+        let (asked, answers) = line.split_once(" => ").ok_or(Fault::Day)?;
         let (told, again) = answers.split_once(" => ").unwrap_or((answers, answers));
         Ok(Exchange {
             asked: request(alloc, asked)?,
             told: answer(alloc, told)?,
             again: answer(alloc, again)?,
+        })
+    }
+
+    /// What is asked, and that a row is foreign.
+    pub(crate) fn foreign(alloc: Global, asked: &str) -> Result<Exchange, Fault> {
+        Ok(Exchange {
+            asked: request(alloc, asked)?,
+            told: format!(in alloc; "{FOREIGN}")?,
+            again: format!(in alloc; "{FOREIGN}")?,
         })
     }
 
@@ -36,15 +49,11 @@ impl Exchange {
     }
 }
 
-fn parted<'a>(text: &'a str, at: &str) -> Result<(&'a str, &'a str), Fault> {
-    match text.split_once(at) {
-        Some(parts) => Ok(parts),
-        None => Err(Fault::Day),
-    }
-}
-
 fn request(alloc: Global, asked: &str) -> Result<String, Fault> {
-    let (path, body) = parted(asked, " ")?;
+    let (path, body) = asked.split_once(" ").ok_or(Fault::Day)?;
+    if path == "GET" {
+        return Ok(format!(in alloc; "{asked} HTTP/1.1\r\n\r\n")?);
+    }
     let lines = body.replace(alloc, '|', "\n")?;
     Ok(posted(alloc, path, lines.as_str())?)
 }
