@@ -18,12 +18,11 @@ pub(crate) static REFUSED: &str =
     "HTTP/1.1 503 Service Unavailable\r\ncontent-type: application/json\r\ncontent-length: 14\r\nconnection: close\r\n\r\n{\"code\":\"W90\"}";
 
 /// What answers a request that reads a row which no books have.
-static FOREIGN: &str =
+pub(crate) static FOREIGN: &str =
     "HTTP/1.1 503 Service Unavailable\r\ncontent-type: application/json\r\ncontent-length: 14\r\nconnection: close\r\n\r\n{\"code\":\"W91\"}";
 
 impl Exchange {
-    /// The exchange of a line `ASKED => ANSWER`, or `ASKED => ANSWER => ANSWER AGAIN`, where what is asked is `PATH BODY` or
-    /// `GET PATH` and each answer is a body of status 200. A bar ends a line of a goods-in file.
+    /// The exchange of a line `ASKED => ANSWER`, or `ASKED => ANSWER => ANSWER AGAIN`. An answer is a body, of status 200.
     pub(crate) fn of_line(alloc: Global, line: &str) -> Result<Exchange, Fault> {
         let (asked, answers) = line.split_once(" => ").ok_or(Fault::Day)?;
         let (told, again) = answers.split_once(" => ").unwrap_or((answers, answers));
@@ -34,22 +33,14 @@ impl Exchange {
         })
     }
 
-    /// What is asked, and that a row is foreign.
-    pub(crate) fn foreign(alloc: Global, asked: &str) -> Result<Exchange, Fault> {
-        Ok(Exchange {
-            asked: request(alloc, asked)?,
-            told: format!(in alloc; "{FOREIGN}")?,
-            again: format!(in alloc; "{FOREIGN}")?,
-        })
-    }
-
     /// Whether the answer tells that the request had acted before.
     pub(crate) fn is_told_apart(&self) -> bool {
         self.told.as_str() != self.again.as_str()
     }
 }
 
-fn request(alloc: Global, asked: &str) -> Result<String, Fault> {
+/// The text of a request `PATH BODY` or `GET PATH`. A bar ends a line of a goods-in file.
+pub(crate) fn request(alloc: Global, asked: &str) -> Result<String, Fault> {
     let (path, body) = asked.split_once(" ").ok_or(Fault::Day)?;
     if path == "GET" {
         return Ok(format!(in alloc; "{asked} HTTP/1.1\r\n\r\n")?);

@@ -109,14 +109,6 @@ impl Stored {
             synced,
         })
     }
-
-    fn is_written(&self, other: &Stored) -> bool {
-        self.written.as_slice() == other.written.as_slice()
-    }
-
-    fn is_synced(&self) -> bool {
-        self.written.as_slice() == self.synced.as_slice()
-    }
 }
 
 impl Pair {
@@ -134,16 +126,6 @@ impl Pair {
             log: self.log.left(alloc, log)?,
             db: self.db.left(alloc, db)?,
         })
-    }
-
-    /// Whether the same is written in the files.
-    pub(crate) fn is_written(&self, other: &Pair) -> bool {
-        self.log.is_written(&other.log) && self.db.is_written(&other.db)
-    }
-
-    /// Whether a stop loses nothing.
-    pub(crate) fn is_synced(&self) -> bool {
-        self.log.is_synced() && self.db.is_synced()
     }
 
     /// Does the work over these files, which stop after so many calls, and gives what they are then.

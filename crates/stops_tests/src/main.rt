@@ -1,4 +1,4 @@
-//! Clients and disks that fail, tried over books in memory, and counted.
+//! Clients and disks that fail, and rows that no act leaves, tried over books in memory, and counted.
 #![tactic(auto)]
 
 mod cut_off;
@@ -7,6 +7,7 @@ mod ends;
 mod exchange;
 mod fault;
 mod files;
+mod foreign;
 mod report;
 mod rows;
 mod stages;

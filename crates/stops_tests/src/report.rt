@@ -4,6 +4,7 @@ use crate::cut_off::{readers, writers};
 use crate::day::{BEFORE_RECEIPTS, day, new_day};
 use crate::exchange::Exchange;
 use crate::fault::Fault;
+use crate::foreign::{read as read_rows, unopened, unseen};
 use crate::stages::{Stage, stages};
 use crate::stops::{Count, Run, Side};
 
@@ -15,6 +16,7 @@ pub(crate) fn tell_all(rt: &HostRuntime) -> Result<(), Fault> {
     let count = day.len();
     println!(rt; "requests on books that are opened for each: {count}")?;
     tell_cut_off(rt, stages.as_slice())?;
+    tell_foreign(rt, stages.as_slice())?;
     tell_stops(rt, day.as_slice(), stages.as_slice())
 }
 
@@ -28,36 +30,21 @@ fn tell_cut_off(rt: &HostRuntime, stages: &[Stage]) -> Result<(), Fault> {
     Ok(())
 }
 
+fn tell_foreign(rt: &HostRuntime, stages: &[Stage]) -> Result<(), Fault> {
+    let alloc = rt.alloc();
+    let books = stages.last().ok_or(Fault::Day)?;
+    let unopened = unopened(alloc, books)?;
+    let read = read_rows(alloc, books)?;
+    let unseen = unseen(alloc, books)?;
+    println!(rt; "rows with a value outside its column: not opened {unopened}, refused {read}, not sought {unseen}")?;
+    Ok(())
+}
+
 fn tell_stops(rt: &HostRuntime, day: &[Exchange], stages: &[Stage]) -> Result<(), Fault> {
-    let whole = Run::part(day, stages, 0, day.len());
+    let run = Run::part(day, stages, 0, day.len());
     for (side, name) in [(Side::Log, "log"), (Side::Database, "database")] {
-        let mut count = Count::ZERO;
-        let end = each(rt, day, stages, side, &mut count);
-        tell(rt, "a connection for each request", name, count)?;
-        end?;
-        let mut count = Count::ZERO;
-        let end = whole.stop(rt.alloc(), side, &mut count);
-        tell(rt, "one connection for all", name, count)?;
-        end?;
+        let Count { stops, whole } = run.stop(rt.alloc(), side)?;
+        println!(rt; "stops of the {name}: {stops}, with the whole of an act that was not answered {whole}")?;
     }
-    Ok(())
-}
-
-fn each(
-    rt: &HostRuntime,
-    day: &[Exchange],
-    stages: &[Stage],
-    side: Side,
-    count: &mut Count,
-) -> Result<(), Fault> {
-    for at in 0..day.len() {
-        Run::part(day, stages, at, 1).stop(rt.alloc(), side, count)?;
-    }
-    Ok(())
-}
-
-fn tell(rt: &HostRuntime, work: &str, name: &str, count: Count) -> Result<(), Fault> {
-    let Count { stops, left, whole } = count;
-    println!(rt; "{work}, stops of the {name}: {stops}, left {left}, whole {whole}")?;
     Ok(())
 }

@@ -22,7 +22,7 @@ impl Stage {
         work: Work<'_>,
         count: usize,
     ) -> Result<Stage, Fault> {
-        let mut seen = Seen::nothing();
+        let mut seen = Seen::nothing(alloc);
         let files = files.opened(alloc, Calls::ALL, work, &mut seen)?;
         Stage::seen(files, &mut seen, count)
     }
@@ -38,8 +38,8 @@ impl Stage {
     }
 
     /// The books after a request: they are opened for it, with the rows that they were closed with, and closed after it.
-    fn next(&self, alloc: Global, exchange: &Exchange) -> Result<Stage, Fault> {
-        let mut seen = Seen::nothing();
+    pub(crate) fn next(&self, alloc: Global, exchange: &Exchange) -> Result<Stage, Fault> {
+        let mut seen = Seen::nothing(alloc);
         let work = Work::Check(exchange);
         let files = self.files.opened(alloc, Calls::ALL, work, &mut seen)?;
         if !self.has(&seen.before) {

@@ -8,7 +8,7 @@ use crate::stages::Stage;
 use crate::work::{Seen, Work};
 use std::alloc::Global;
 
-/// What a stop may lose of the log and of the database.
+/// What a stop may lose of the log and of the database: each stop the next of these in turn.
 static LOSSES: [(Loss, Loss); 5] = [
     (Loss::Nothing, Loss::Nothing),
     (Loss::All, Loss::All),
@@ -44,9 +44,7 @@ impl Side {
 pub(crate) struct Count {
     /// Runs that met a stop.
     pub(crate) stops: u64,
-    /// Pairs of files, other than those of before the run, that the stops may have left.
-    pub(crate) left: u64,
-    /// Those of them that had the whole of an act that was not answered.
+    /// Those that left the whole of an act that was not answered.
     pub(crate) whole: u64,
 }
 
@@ -54,12 +52,11 @@ impl Count {
     /// Nothing yet.
     pub(crate) const ZERO: Count = Count {
         stops: 0,
-        left: 0,
         whole: 0,
     };
 
     fn found(&mut self, whole: bool) {
-        self.left = self.left.saturating_add(1);
+        self.stops = self.stops.saturating_add(1);
         if whole {
             self.whole = self.whole.saturating_add(1);
         }
@@ -89,52 +86,38 @@ impl<'a> Run<'a> {
     }
 
     /// Runs whose file stops after each count of calls, until one meets no stop.
-    pub(crate) fn stop(&self, alloc: Global, side: Side, count: &mut Count) -> Result<(), Fault> {
-        for calls in 0..u64::MAX {
-            if !self.stops(alloc, side.calls(calls), count)? {
-                return Ok(());
+    pub(crate) fn stop(&self, alloc: Global, side: Side) -> Result<Count, Fault> {
+        let mut count = Count::ZERO;
+        for (calls, loss) in (0..u64::MAX).zip(LOSSES.iter().cycle()) {
+            match self.stops(alloc, side.calls(calls), *loss)? {
+                Some(whole) => count.found(whole),
+                None => return Ok(count),
             }
         }
-        Ok(())
+        Ok(count)
     }
 
-    // Whether a run with so many calls meets a stop.
-    fn stops(&self, alloc: Global, calls: Calls, count: &mut Count) -> Result<bool, Fault> {
+    // Whether a run with so many calls meets a stop, and then whether the books that it leaves have the whole of an act that
+    // was not answered.
+    fn stops(
+        &self,
+        alloc: Global,
+        calls: Calls,
+        loss: (Loss, Loss),
+    ) -> Result<Option<bool>, Fault> {
         let first = self.stages.first().ok_or(Fault::Day)?;
-        let mut seen = Seen::nothing();
+        let mut seen = Seen::nothing(alloc);
         let work = Work::Serve(self.exchanges);
         let files = first.files.opened(alloc, calls, work, &mut seen)?;
         if !seen.is_sound || seen.repeated != 0 {
             return Err(Fault::Answer);
         }
         if seen.is_whole(self.exchanges.len()) {
-            return Ok(false);
+            return Ok(None);
         }
-        count.stops = count.stops.saturating_add(1);
-        self.leaves(alloc, &first.files, &files, seen.answered, count)?;
-        Ok(true)
-    }
-
-    // Whatever the stop leaves has the acts that were answered.
-    fn leaves(
-        &self,
-        alloc: Global,
-        before: &Pair,
-        files: &Pair,
-        answered: usize,
-        count: &mut Count,
-    ) -> Result<(), Fault> {
-        let losses = match files.is_synced() {
-            true => &LOSSES[..1],
-            false => LOSSES.as_slice(),
-        };
-        for (log, db) in losses {
-            let left = files.left(alloc, *log, *db)?;
-            if answered != 0 || !left.is_written(before) {
-                count.found(self.recovers(alloc, &left, answered)?);
-            }
-        }
-        Ok(())
+        let (log, db) = loss;
+        let left = files.left(alloc, log, db)?;
+        Ok(Some(self.recovers(alloc, &left, seen.answered)?))
     }
 
     // Opens what a stop left after so many answers, and sends the next request, or the last one again. Whether the books
@@ -142,7 +125,7 @@ impl<'a> Run<'a> {
     fn recovers(&self, alloc: Global, left: &Pair, answered: usize) -> Result<bool, Fault> {
         let at = answered.min(self.exchanges.len().saturating_sub(1));
         let exchange = self.exchanges.get(at).ok_or(Fault::Day)?;
-        let mut seen = Seen::nothing();
+        let mut seen = Seen::nothing(alloc);
         left.opened(alloc, Calls::ALL, Work::Check(exchange), &mut seen)?;
         if !seen.is_whole(1) {
             return Err(Fault::Refused);

@@ -7,7 +7,7 @@ use house::{House, ServeFault};
 use label::{BusinessDay, Day};
 use sqlite::{Alter, Connection};
 use std::alloc::Global;
-use store::Books;
+use store::{Books, OpenFault};
 use tables::opening::Leftover;
 
 /// What is done over one connection.
@@ -19,11 +19,12 @@ pub(crate) enum Work<'a> {
     Serve(&'a [Exchange]),
     /// The rows are looked at, the request is served, and the rows are looked at again.
     Check(&'a Exchange),
-    /// A request breaks off after so many bytes; the rows are looked at.
-    BreakOff(&'a Exchange, usize),
-    /// The writer fails after so many bytes of the answer, or at the flush; the request comes again, and the rows are
-    /// looked at.
+    /// The request breaks off after each number of bytes; the rows are looked at.
+    BreakOff(&'a Exchange),
+    /// The writer fails after so many bytes of the answer, or at the flush; the rows are looked at.
     Leave(&'a Exchange, usize),
+    /// The SQL is run, the rows are looked at, the request is answered, and the rows are looked at again.
+    Ask(&'a str, &'a str),
 }
 
 /// What was seen over one connection.
@@ -39,21 +40,27 @@ pub(crate) struct Seen {
     pub(crate) answered: usize,
     /// How many of these had the answer of a request that has acted before, where that is another.
     pub(crate) repeated: usize,
-    /// The rows before the work.
+    /// The books were foreign.
+    pub(crate) is_foreign: bool,
+    /// What answered the request that was asked.
+    pub(crate) taken: Vec<u8>,
+    /// The rows before the request.
     pub(crate) before: Option<Rows>,
-    /// The rows after it.
+    /// The rows after the work.
     pub(crate) after: Option<Rows>,
 }
 
 impl Seen {
     /// Nothing yet.
-    pub(crate) fn nothing() -> Seen {
+    pub(crate) fn nothing(alloc: Global) -> Seen {
         Seen {
             is_opened: false,
             is_closed: false,
             is_sound: true,
             answered: 0,
             repeated: 0,
+            is_foreign: false,
+            taken: Vec::new(alloc),
             before: None,
             after: None,
         }
@@ -62,6 +69,14 @@ impl Seen {
     /// Whether nothing failed and so many requests had their answers.
     pub(crate) fn is_whole(&self, count: usize) -> bool {
         self.is_opened && self.is_closed && self.is_sound && self.answered == count
+    }
+
+    /// Whether the rows after the work are those before it.
+    pub(crate) fn is_unchanged(&self) -> bool {
+        match (&self.before, &self.after) {
+            (Some(before), Some(after)) => before.are_same(after),
+            _ => false,
+        }
     }
 }
 
@@ -73,38 +88,73 @@ pub(crate) fn worked<S: Alter + Drop>(
     seen: &mut Seen,
 ) -> Leftover<S> {
     let mut conn = conn;
-    if let Work::Check(_) = work {
-        seen.before = Rows::of(alloc, &mut conn);
-    }
+    look_before(alloc, &mut conn, work, seen);
     let books = match work {
         Work::Make => made(alloc, conn),
         _ => opened(alloc, conn),
     };
     match books {
         Ok(books) => Leftover::Connection(closed(alloc, books, work, seen)),
-        Err(left) => left,
+        Err(fault) => refused(alloc, fault, seen),
     }
+}
+
+fn look_before<S: Alter>(
+    alloc: Global,
+    conn: &mut Connection<S>,
+    work: Work<'_>,
+    seen: &mut Seen,
+) {
+    if let Work::Ask(sql, _) = work {
+        seen.is_sound = conn.execute_batch(sql).is_ok();
+    }
+    if let Work::Check(_) | Work::Ask(..) = work {
+        seen.before = Rows::of(alloc, conn);
+    }
+}
+
+// What is left of a connection over which no books were opened.
+fn refused<S: Alter + Drop>(alloc: Global, fault: OpenFault<S>, seen: &mut Seen) -> Leftover<S> {
+    let OpenFault { left, fault } = fault;
+    seen.is_foreign = matches!(fault, store::Fault::Foreign);
+    match left {
+        Leftover::Connection(conn) => Leftover::Connection(looked_at(alloc, conn, seen)),
+        Leftover::Store(store) => Leftover::Store(store),
+    }
+}
+
+fn looked_at<S: Alter>(alloc: Global, conn: Connection<S>, seen: &mut Seen) -> Connection<S> {
+    let mut conn = conn;
+    seen.after = Rows::of(alloc, &mut conn);
+    conn
 }
 
 fn first_day() -> Option<BusinessDay> {
     BusinessDay::new(Day::parse(b"2026-05-04")?)
 }
 
-fn made<S: Alter + Drop>(alloc: Global, conn: Connection<S>) -> Result<Books<S>, Leftover<S>> {
-    if !conn.is_autocommit() {
-        return Err(Leftover::Connection(conn));
-    }
-    match first_day() {
-        Some(day) => Books::create(alloc, conn, day).map_err(|fault| fault.left),
-        None => Err(Leftover::Connection(conn)),
+fn unused<S: Alter>(conn: Connection<S>) -> OpenFault<S> {
+    OpenFault {
+        left: Leftover::Connection(conn),
+        fault: store::Fault::Store,
     }
 }
 
-fn opened<S: Alter + Drop>(alloc: Global, conn: Connection<S>) -> Result<Books<S>, Leftover<S>> {
+fn made<S: Alter + Drop>(alloc: Global, conn: Connection<S>) -> Result<Books<S>, OpenFault<S>> {
     if !conn.is_autocommit() {
-        return Err(Leftover::Connection(conn));
+        return Err(unused(conn));
     }
-    Books::open(alloc, conn).map_err(|fault| fault.left)
+    match first_day() {
+        Some(day) => Books::create(alloc, conn, day),
+        None => Err(unused(conn)),
+    }
+}
+
+fn opened<S: Alter + Drop>(alloc: Global, conn: Connection<S>) -> Result<Books<S>, OpenFault<S>> {
+    if !conn.is_autocommit() {
+        return Err(unused(conn));
+    }
+    Books::open(alloc, conn)
 }
 
 fn closed<S: Alter + Drop>(
@@ -116,12 +166,11 @@ fn closed<S: Alter + Drop>(
     seen.is_opened = true;
     let mut house = House::new(alloc, books);
     do_work(alloc, &mut house, work, seen);
-    let mut conn = house.close().close();
+    let conn = house.close().close();
     match work {
-        Work::Serve(_) => {}
-        _ => seen.after = Rows::of(alloc, &mut conn),
+        Work::Serve(_) => conn,
+        _ => looked_at(alloc, conn, seen),
     }
-    conn
 }
 
 fn do_work<S: Alter>(alloc: Global, house: &mut House<S>, work: Work<'_>, seen: &mut Seen) {
@@ -129,8 +178,9 @@ fn do_work<S: Alter>(alloc: Global, house: &mut House<S>, work: Work<'_>, seen: 
         Work::Make => {}
         Work::Serve(exchanges) => serve_all(alloc, house, exchanges, seen),
         Work::Check(exchange) => serve(alloc, house, exchange, seen),
-        Work::BreakOff(exchange, sent) => break_off(alloc, house, exchange, sent, seen),
+        Work::BreakOff(exchange) => break_off(alloc, house, exchange, seen),
         Work::Leave(exchange, taken) => leave(alloc, house, exchange, taken, seen),
+        Work::Ask(_, text) => ask(alloc, house, text, seen),
     }
 }
 
@@ -169,17 +219,22 @@ impl Seen {
     }
 }
 
-fn break_off<S: Alter>(
-    alloc: Global,
-    house: &mut House<S>,
-    exchange: &Exchange,
-    sent: usize,
-    seen: &mut Seen,
-) {
-    let mut sender = Sender::failing(exchange.asked.as_str(), sent);
+fn ask<S: Alter>(alloc: Global, house: &mut House<S>, text: &str, seen: &mut Seen) {
+    let mut sender = Sender::whole(text);
     let mut receiver = Receiver::whole(alloc);
     let end = house.serve_one(&mut sender, &mut receiver);
-    seen.is_sound = end == Err(ServeFault::Read) && receiver.taken.is_empty();
+    seen.is_sound = seen.is_sound && end == Ok(());
+    seen.taken = receiver.taken;
+}
+
+fn break_off<S: Alter>(alloc: Global, house: &mut House<S>, exchange: &Exchange, seen: &mut Seen) {
+    for sent in 0..exchange.asked.len() {
+        let mut sender = Sender::failing(exchange.asked.as_str(), sent);
+        let mut receiver = Receiver::whole(alloc);
+        let end = house.serve_one(&mut sender, &mut receiver);
+        let is_unanswered = end == Err(ServeFault::Read) && receiver.taken.is_empty();
+        seen.is_sound = seen.is_sound && is_unanswered;
+    }
 }
 
 fn leave<S: Alter>(
@@ -195,5 +250,4 @@ fn leave<S: Alter>(
     let told = exchange.told.as_bytes();
     let front = &told[..taken.min(told.len())];
     seen.is_sound = end == Err(ServeFault::Write) && receiver.taken.as_slice() == front;
-    serve(alloc, house, exchange, seen);
 }
