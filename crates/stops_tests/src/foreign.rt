@@ -17,7 +17,8 @@ UPDATE meta SET acts = 1000000000001
 UPDATE meta SET shipments = -1"#;
 
 // SQL that makes such a row in the books after the day, and a request that reads it.
-static READ: &str = r#"INSERT INTO items VALUES ('09506000134353', 'Oat drink') => /items {"key":"N-1","gtin":"00000000000017","name":"Pea soup"}
+static READ: &str =
+    r#"INSERT INTO items VALUES ('09506000134353', 'Oat drink') => /items {"key":"N-1","gtin":"00000000000017","name":"Pea soup"}
 UPDATE items SET name = ' Oat drink' WHERE gtin = '09506000134352' => GET /stock/09506000134352
 INSERT INTO bins VALUES ('a-01', 'STORE') => /bins {"key":"N-1","bin":"B-01","kind":"STORE"}
 UPDATE bins SET kind = 'RETURNS' WHERE name = 'A-01' => /moves {"key":"N-1","gtin":"09506000134352","lot":"L1","from":"A-01","to":"Q-01","qty":1}
@@ -59,7 +60,8 @@ UPDATE repeats SET act = -1 WHERE k = 'K/K-1' => /items {"key":"K-1","gtin":"095
 UPDATE repeats SET reply = '1234567890123456789012345678901234567890123456789012345678901234567890123456789012345678901234567' WHERE k = 'K/K-1' => /items {"key":"K-1","gtin":"09506000134352","name":"Oat drink"}"#;
 
 // SQL that makes such a row where no request seeks it, and a request that seeks its neighbours.
-static UNSEEN: &str = r#"INSERT INTO recalls VALUES ('0950600013435X', 'L1', 13) => GET /stock/09506000134352
+static UNSEEN: &str =
+    r#"INSERT INTO recalls VALUES ('0950600013435X', 'L1', 13) => GET /stock/09506000134352
 INSERT INTO stock VALUES ('', 'L1', 'A-01', 10) => GET /stock/09506000134352
 INSERT INTO lines VALUES ('s-2', '09506000134352', 12, 0) => GET /orders/S-2
 INSERT INTO reserved VALUES ('S-2', '09506000134353', 'L1', 1) => GET /orders/S-2

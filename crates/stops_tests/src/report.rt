@@ -36,7 +36,9 @@ fn tell_foreign(rt: &HostRuntime, stages: &[Stage]) -> Result<(), Fault> {
     let unopened = unopened(alloc, books)?;
     let read = read_rows(alloc, books)?;
     let unseen = unseen(alloc, books)?;
-    println!(rt; "rows with a value outside its column: not opened {unopened}, refused {read}, not sought {unseen}")?;
+    println!(rt;
+        "rows with a value outside its column: not opened {unopened}, refused {read}, not sought {unseen}"
+    )?;
     Ok(())
 }
 
@@ -44,7 +46,9 @@ fn tell_stops(rt: &HostRuntime, day: &[Exchange], stages: &[Stage]) -> Result<()
     let run = Run::part(day, stages, 0, day.len());
     for (side, name) in [(Side::Log, "log"), (Side::Database, "database")] {
         let Count { stops, whole } = run.stop(rt.alloc(), side)?;
-        println!(rt; "stops of the {name}: {stops}, with the whole of an act that was not answered {whole}")?;
+        println!(rt;
+            "stops of the {name}: {stops}, with the whole of an act that was not answered {whole}"
+        )?;
     }
     Ok(())
 }

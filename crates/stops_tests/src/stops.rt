@@ -50,10 +50,7 @@ pub(crate) struct Count {
 
 impl Count {
     /// Nothing yet.
-    pub(crate) const ZERO: Count = Count {
-        stops: 0,
-        whole: 0,
-    };
+    pub(crate) const ZERO: Count = Count { stops: 0, whole: 0 };
 
     fn found(&mut self, whole: bool) {
         self.stops = self.stops.saturating_add(1);
@@ -109,7 +106,7 @@ impl<'a> Run<'a> {
         let mut seen = Seen::nothing(alloc);
         let work = Work::Serve(self.exchanges);
         let files = first.files.opened(alloc, calls, work, &mut seen)?;
-        if !seen.is_sound || seen.repeated != 0 {
+        if !seen.is_sound || seen.is_foreign || seen.repeated != 0 {
             return Err(Fault::Answer);
         }
         if seen.is_whole(self.exchanges.len()) {

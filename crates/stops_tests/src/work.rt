@@ -7,7 +7,7 @@ use house::{House, ServeFault};
 use label::{BusinessDay, Day};
 use sqlite::{Alter, Connection};
 use std::alloc::Global;
-use store::{Books, OpenFault};
+use store::{Books, Fault, OpenFault};
 use tables::opening::Leftover;
 
 /// What is done over one connection.
@@ -99,12 +99,7 @@ pub(crate) fn worked<S: Alter + Drop>(
     }
 }
 
-fn look_before<S: Alter>(
-    alloc: Global,
-    conn: &mut Connection<S>,
-    work: Work<'_>,
-    seen: &mut Seen,
-) {
+fn look_before<S: Alter>(alloc: Global, conn: &mut Connection<S>, work: Work<'_>, seen: &mut Seen) {
     if let Work::Ask(sql, _) = work {
         seen.is_sound = conn.execute_batch(sql).is_ok();
     }
@@ -116,7 +111,7 @@ fn look_before<S: Alter>(
 // What is left of a connection over which no books were opened.
 fn refused<S: Alter + Drop>(alloc: Global, fault: OpenFault<S>, seen: &mut Seen) -> Leftover<S> {
     let OpenFault { left, fault } = fault;
-    seen.is_foreign = matches!(fault, store::Fault::Foreign);
+    seen.is_foreign = matches!(fault, Fault::Foreign);
     match left {
         Leftover::Connection(conn) => Leftover::Connection(looked_at(alloc, conn, seen)),
         Leftover::Store(store) => Leftover::Store(store),
@@ -136,7 +131,7 @@ fn first_day() -> Option<BusinessDay> {
 fn unused<S: Alter>(conn: Connection<S>) -> OpenFault<S> {
     OpenFault {
         left: Leftover::Connection(conn),
-        fault: store::Fault::Store,
+        fault: Fault::Store,
     }
 }
 
