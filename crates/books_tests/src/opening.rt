@@ -129,12 +129,15 @@ fn an_empty_database_is_no_books(rt: HostRuntime) {
     run(&rt, rt.alloc(), EMPTY.as_slice());
 }
 
-// Books of a later schema, and those without a row of `meta`, are foreign; so is a day that no books have.
+// Books of a later schema, those with another mark and those without a row of `meta` are foreign; so is a day that no
+// books have.
 static OTHER_META: [&[Step]; 1] = [&[
     Step::Make,
     Step::On(On::Run("UPDATE meta SET version = 2")),
     Step::OpenNone,
-    Step::On(On::Run("UPDATE meta SET version = 1, day = 10956")),
+    Step::On(On::Run("UPDATE meta SET version = 1, mark = 'LOTSTOCk'")),
+    Step::OpenNone,
+    Step::On(On::Run("UPDATE meta SET mark = 'LOTSTOCK', day = 10956")),
     Step::OpenNone,
     Step::On(On::Run("DELETE FROM meta")),
     Step::OpenNone,
@@ -143,6 +146,43 @@ static OTHER_META: [&[Step]; 1] = [&[
 #[test]
 fn another_row_of_meta_is_foreign(rt: HostRuntime) {
     run(&rt, rt.alloc(), OTHER_META.as_slice());
+}
+
+// Books that lack a table, and those that lack a column, are foreign, and what is there stays.
+static OTHER_TABLES: [&[Step]; 1] = [&[
+    Step::Make,
+    Step::On(On::Run("DROP TABLE recalls")),
+    Step::OpenNone,
+    Step::On(On::Run(
+        "CREATE TABLE recalls (gtin TEXT NOT NULL, lot TEXT NOT NULL, PRIMARY KEY (gtin, lot)) STRICT",
+    )),
+    Step::OpenNone,
+    Step::On(META),
+    Step::On(BINS),
+]];
+
+#[test]
+fn books_without_a_table_or_a_column_are_foreign(rt: HostRuntime) {
+    run(&rt, rt.alloc(), OTHER_TABLES.as_slice());
+}
+
+// No books are made beside a table of items, which stays.
+static ITEMS_ALONE: [&[Step]; 1] = [&[
+    Step::On(On::Run(
+        "CREATE TABLE items (gtin TEXT NOT NULL, name TEXT NOT NULL, PRIMARY KEY (gtin)) STRICT",
+    )),
+    Step::On(On::Run("INSERT INTO items VALUES ('09506000134352', 'Oat drink')")),
+    Step::MakeNone,
+    Step::OpenNone,
+    Step::On(On::Gives(
+        "SELECT gtin || '|' || name FROM items",
+        "09506000134352|Oat drink\n",
+    )),
+]];
+
+#[test]
+fn no_books_are_made_beside_a_table_of_items(rt: HostRuntime) {
+    run(&rt, rt.alloc(), ITEMS_ALONE.as_slice());
 }
 
 const INDEX_NAMES: &str =

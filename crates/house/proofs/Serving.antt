@@ -1,14 +1,14 @@
 -- What is read of a reader and written to a writer.
 use Rattle.std.proofs.Common.{◌≡◌, ◌≢◌, ℕ, false, List, Option, refl, subst, inl, inr, ◌⊎◌}
-use Rattle.std.specs.Prelude.{Result, Ok, Err, OnOk}
-use Rattle.std.specs.Io.KnownBytes.{Appends, IsAtEnd}
+use Rattle.std.specs.Prelude.{Result}
+use Rattle.std.specs.Io.KnownBytes.{IsAtEnd}
 use Rattle.requests.specs.Requests.{IsReading}
 use Rattle.requests.specs.Laws.{needs_more}
 use Rattle.requests.specs.declared.fault.WireFault.TheVariants.{Head, Length, Json, Field, Path, Method, TooLarge, Memory}
 use Rattle.requests.specs.declared.request.Read.{Read}
 use Rattle.requests.specs.declared.request.Read.TheVariants.{Need, Bad, Request}
 use Rattle.house.specs.Answers.{no_memory}
-use Rattle.wire.specs.Serving.{Writes}
+use Rattle.texts.specs.Writing.{Writes}
 use Rattle.wire.specs.declared.serving.ServeFault.{ServeFault}
 use Rattle.house.specs.Serving.{IsWhole}
 
@@ -30,6 +30,5 @@ whole text bytes to (Bad Path) read (inl n) memory = settled_text text bytes to 
 whole text bytes to (Bad (Method m)) read (inl n) memory = settled_text text bytes to (Bad (Method m)) (read (λ p. cc)) n
 whole text bytes to (Bad TooLarge) read (inl n) memory = settled_text text bytes to (Bad TooLarge) (read (λ p. cc)) n
 
-pub writes : (r : Result (Unit {0}) ServeFault) (old new : Option (List ℕ)) (written bytes : List ℕ) → written ≡ bytes → OnOk r (Appends old new written) → Writes r old new bytes
-writes (Ok u) old new written bytes e h = subst (Appends old new) e h
-writes (Err f) old new written bytes e h = tt
+pub writes : (r : Result (Unit {0}) ServeFault) (old new : Option (List ℕ)) (written bytes : List ℕ) → written ≡ bytes → Writes r old new written → Writes r old new bytes
+writes r old new written bytes e h = subst (Writes r old new) e h

@@ -3,7 +3,7 @@
 ghost use Rattle.std.specs.Prelude.{◌≡◌, ◌≢◌, ℤ, List, Result, Err};
 ghost use Rattle.machine.specs.Acts.{Act};
 ghost use Rattle.machine.specs.Once.{IsHistory};
-ghost use Rattle.wire.specs.Serving.{Writes};
+ghost use Rattle.texts.specs.Writing.{Writes};
 ghost use Rattle.store.specs.Books.{IsClean, HoldsBooks};
 ghost use Rattle.house.specs.House.{books_of};
 ghost use Rattle.house.specs.Serving.{IsServed};
@@ -16,7 +16,9 @@ use wire::serving::{read_whole, write_bytes};
 
 impl<S: Alter> House<S> {
     /// Reads until no more bytes are needed or the reader comes to its end, answers once, and flushes. Where there is no
-    /// memory for what was read, the answer is `W90` and the books are unchanged.
+    /// memory for what was read, the answer is `W90` and the books are unchanged. The fault is `Read` where the reader
+    /// fails: nothing was written, and the books are unchanged. It is `Write` where the writer fails, within the answer or
+    /// at the flush: the books are those after the answer, of which a beginning was written.
     pub fn serve_one<R: Read, W: Write>(
         &mut self,
         reader: &mut R,

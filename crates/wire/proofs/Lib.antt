@@ -6,3 +6,4 @@ pub mod Values
 pub mod Examples
 pub mod Bounded
 pub mod ReadOn
+pub mod WriteOut

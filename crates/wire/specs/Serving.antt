@@ -1,19 +1,13 @@
--- What is read of a reader and written to a writer. `from` and `to` are the bytes that the reader had left, where they are known.
-use Rattle.std.specs.Prelude.{◌≡◌, ◌≢◌, ◌⊎◌, ℕ, ◌<◌, List, [], ◌++◌, length, false, Option, Result, Ok, Err}
-use Rattle.std.specs.Io.KnownBytes.{Appends, Consumes, IsAtEnd}
+-- What is read of a reader. `from` and `to` are the bytes that the reader had left, where they are known.
+use Rattle.std.specs.Prelude.{◌≡◌, ◌≢◌, ◌⊎◌, ℕ, ◌<◌, List, [], ◌++◌, length, false, Option}
+use Rattle.std.specs.Io.KnownBytes.{Consumes, IsAtEnd}
 use Rattle.requests.specs.Requests.{IsReading}
 use Rattle.requests.specs.Laws.{needs_more}
 use Rattle.requests.specs.declared.fault.WireFault.TheVariants.{Memory}
 use Rattle.requests.specs.declared.request.Read.{Read}
 use Rattle.requests.specs.declared.request.Read.TheVariants.{Bad}
-use Rattle.wire.specs.declared.serving.ServeFault.{ServeFault}
 use Rattle.wire.specs.declared.serving.Taken.{Taken}
 use Rattle.wire.specs.declared.serving.Taken.TheVariants.{More, End, NoRoom}
-
--- the bytes were written; where the writer failed, a beginning of them may have been
-abbrev pub Writes : Result (Unit {0}) ServeFault → Option (List ℕ) → Option (List ℕ) → List ℕ → Type 0
-Writes (Ok u) old new bytes = Appends old new bytes
-Writes (Err e) old new bytes = Unit {0}
 
 -- what was read has this reading, but where there was no memory
 pub record IsRead (from to : Option (List ℕ)) (reading : Read) : Type 0 where

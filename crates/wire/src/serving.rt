@@ -1,20 +1,23 @@
 //! A request from a reader, and the bytes of its answer to a writer.
 
-ghost use Rattle.std.specs.Prelude.{◌≡◌, IfOk, IfErr, OnOk};
-ghost use Rattle.std.specs.Io.KnownBytes.{Appends, Keeps};
+ghost use Rattle.std.specs.Prelude.{◌≡◌, IfOk, IfErr};
+ghost use Rattle.std.specs.Io.KnownBytes.{Keeps};
 ghost use Rattle.requests.specs.declared.request.Read.TheVariants.{Need};
+ghost use Rattle.texts.specs.Writing.{Writes};
 ghost use Rattle.wire.specs.Serving.{IsRead, IsTaken, stopped as stopped_lem};
 
 use requests::{Read as Reading, RouteTable, WireFault, read_request};
 use std::alloc::Global;
 use std::io::{Read, Write};
+use texts::put;
 
 /// Why a request was not served.
 #[derive(Clone, Copy, PartialEq, Eq, Debug)]
 pub enum ServeFault {
     /// The reader failed, `Interrupted` too. Nothing was answered, and the books are unchanged.
     Read,
-    /// The writer failed. The act stands, if it was accepted: the same request gets its answer when it comes again.
+    /// The writer failed, within the answer or at the flush. A beginning of the answer was written. The act stands, if it
+    /// was accepted: the same request gets its answer when it comes again.
     Write,
 }
 
@@ -31,19 +34,20 @@ enum Taken {
     NoRoom,
 }
 
-/// Writes the bytes of an answer, and flushes. The fault is `Write` where the writer fails.
+/// Writes the bytes of an answer, and flushes. The fault is `Write` where the writer fails, and a beginning of the bytes,
+/// maybe all of them, was then written.
 pub fn write_bytes<W: Write>(writer: &mut W, bytes: &[u8]) -> Result<(), ServeFault>
-    ensures written { OnOk result (Appends (W.contents writer.old) (W.contents writer.new) bytes.now) }
+    ensures written { Writes result (W.contents writer.old) (W.contents writer.new) bytes.now }
     ensures fault { IfErr result (λ e. e ≡ ServeFault.Write) }
 {
-    match writer.write_all(bytes) {
+    match put(bytes, writer) {
         Ok(()) => flush(writer),
         Err(_) => Err(ServeFault::Write),
     }
 }
 
 fn flush<W: Write>(writer: &mut W) -> Result<(), ServeFault>
-    ensures kept { OnOk result (Keeps (W.contents writer.old) (W.contents writer.new)) }
+    ensures kept { Keeps (W.contents writer.old) (W.contents writer.new) }
     ensures fault { IfErr result (λ e. e ≡ ServeFault.Write) }
 {
     match writer.flush() {
