@@ -15,9 +15,10 @@ use Rattle.commands.specs.declared.rows.StagedRow.{StagedRow}
 use Rattle.commands.specs.declared.rows.ReservedRow.{ReservedRow}
 use Rattle.table_words.specs.Found.{AreRows, only_if}
 use Rattle.table_words.specs.Typed.{ItemKey, same_item, item_key, BinKey, same_bin, bin_key, LotKey, same_lot, lot_key, RecallKey, same_recall, recall_key, StockKey, same_stock, stock_key, OrderKey, same_order, order_key, is_open_order, LineKey, same_line, line_key, StagedKey, same_staged, staged_key, ReservedKey, same_reserved, reserved_key}
-use Rattle.open_lines.specs.OpenLines.{Entries, orders_at, holds, are_apart, Gains, Keeps, has_line_row}
+use Rattle.open_lines.specs.OpenLines.{Entries, orders_at, holds, are_apart, Gains, has_line_row}
 use Rattle.rules.specs.Slices.{counts_items, counts_bins}
 use Rattle.row_rules.specs.declared.slice.Rows.{Rows}
+use Rattle.row_rules.specs.declared.slice.Put.{Put}
 use Rattle.row_rules.specs.declared.slice.Slice.{Slice}
 use Rattle.slices.specs.Reading.{IsCount}
 pub use Rattle.slice_parts.specs.Parts.{is_among, with_name, with_names, items_named, orders_named, bins_named, whole_orders, day_opened, others, other_names, has_line_in, with_lines, is_ending, not_recalled, items_of_lots, with_staged}
@@ -168,11 +169,14 @@ pub record AreOpenLines (t : Tables) (known : Entries) : Type 0 where
   pub lines_read : AreAllLines (map order_key all) t lines
   pub added : Gains (has_line_row lines) [] known
 
--- a change's lines, and the lines so far of the orders that it opens, which stand in the tables
-pub record Knows (lines : List LineRow) (opened : List OrderRow) (t : Tables) (old new : Entries) : Type 0 where
-  pub keeps : Keeps old new
-  pub lines : (g o : List ℕ) → has_line_row lines g o ≡ true → holds new g o ≡ true
-  pub opened : (g o : List ℕ) → is_among (map order_key (filter is_open_order opened)) o ≡ true → is_some (t.line o g) ≡ true → holds new g o ≡ true
+-- the lines of the open ones among these orders, which the tables have, are known
+abbrev pub KnowsOpen : List OrderRow → Tables → Entries → Type 0
+KnowsOpen orders t known = (g o : List ℕ) → is_among (map order_key (filter is_open_order orders)) o ≡ true → is_some (t.line o g) ≡ true → holds known g o ≡ true
+
+-- so are the lines that a change puts, and those of the orders that it puts
+pub record Knows (puts : Put) (t : Tables) (known : Entries) : Type 0 where
+  pub lines : (g o : List ℕ) → has_line_row puts.lines g o ≡ true → holds known g o ≡ true
+  pub opened : KnowsOpen puts.orders t known
 
 -- Slices
 

@@ -15,7 +15,6 @@ use table_words::error::TableFault;
 use values::{Gtin, Name};
 
 /// One line more, where there is one.
-pub /// One line more, where there is one.
 pub fn add_line(found: &mut Vec<LineRow>, row: Option<LineRow>) -> Result<(), AllocError>
     ensures { OnOk result (found.new.items ≡ found.old.items ++ listed row) }
 {
@@ -62,7 +61,7 @@ fn lines_of_orders<S: Alter>(
 }
 
 /// The orders named, and their lines.
-pub pub fn read_named<S: Alter>(
+pub fn read_named<S: Alter>(
     alloc: Global,
     tx: &mut Transaction<'_, S>,
     named: &[Name],
