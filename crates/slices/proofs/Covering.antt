@@ -16,7 +16,7 @@ use Rattle.machine.specs.Planning.{is_open_state}
 use Rattle.machine.specs.KeyedRows.{AreOwn}
 use Rattle.machine.proofs.Tests.{or_first, or_later, same_text_is, same_text_refl, same_text_turned}
 use Rattle.row_rules.specs.declared.slice.Put.{Put}
-use Rattle.slices.specs.Slicing.{Each, is_among, is_passed, is_open_in, texts, Covers, AreAllLines, AreNamed, AreOrders, AreKnownOrders, AreOpenLines, KnowsOpen, Knows}
+use Rattle.slices.specs.Slicing.{Each, is_among, is_passed, is_open_in, Covers, AreAllLines, AreKnownOrders, AreOpenLines, KnowsOpen, Knows}
 use Rattle.slices.proofs.Counted.{any_mapped}
 use Rattle.slices.proofs.RowsTold.{rows_read, any_read, any_append, own_joined, own_more}
 use Rattle.slices.proofs.SliceTold.{texts_same}

@@ -1,6 +1,6 @@
 -- What is read of the tables of a history are the rows by which the bookings of an item that are short are shown.
-use Rattle.std.proofs.Common.{◌≡◌, ℕ, Bool, true, false, ◌&&◌, List, [], ◌∷◌, refl, ap, sym, subst, ◌∙◌}
-use Rattle.std.specs.Prelude.{◌||◌, Some, None, is_some, ℤ}
+use Rattle.std.proofs.Common.{◌≡◌, ℕ, Bool, true, ◌&&◌, List, [], ◌∷◌, refl, sym, subst, ◌∙◌}
+use Rattle.std.specs.Prelude.{Some, None, is_some, ℤ}
 use Rattle.values.specs.Values.{same_text}
 use Rattle.commands.specs.Tables.{Tables}
 use Rattle.commands.specs.declared.rows.ItemRow.{ItemRow}

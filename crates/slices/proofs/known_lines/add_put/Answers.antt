@@ -1,7 +1,6 @@
-use Rattle.std.proofs.Common.{List, ◌≡◌, subst}
+use Rattle.std.proofs.Common.{List, subst}
 use Rattle.commands.specs.declared.rows.LineRow.{LineRow}
 use Rattle.commands.specs.declared.rows.OrderRow.{OrderRow}
-use Rattle.commands.specs.Tables.{Tables}
 use Rattle.sqlite.specs.declared.error.Error.TheVariants.{SqliteFailure}
 use Rattle.sqlite.specs.declared.error.ErrorCode.TheVariants.{OutOfMemory}
 use Rattle.open_lines.specs.OpenLines.{Gains, has_line_row}
