@@ -18,3 +18,5 @@ pub mod Listings
 pub mod BinOrder
 pub mod ShipmentOrder
 pub mod ShipmentsHanded
+pub mod LinesWritten
+pub mod LinesKnown

@@ -106,7 +106,7 @@ fn take_rows<S: Alter>(
     ensures filed { HasCleanDisk (state S.Store tx.new.conn.now) → AreKeysOf rows.now → (first : ℤ) (acts : List Act) → IsHistory first acts
         → IsBooksOf first acts (state S.Store tx.old.conn.now).now → HasLines lines.old (state S.Store tx.old.conn.now)
         → IsFiledInside first acts (rows_of rows.now) day result (state S.Store tx.old.conn.now) (state S.Store tx.new.conn.now) }
-    ensures known { HasCleanDisk (state S.Store tx.new.conn.now) → IsReady (state S.Store tx.old.conn.now).now
+    ensures known { HasCleanDisk (state S.Store tx.new.conn.now) → IsReady (state S.Store tx.old.conn.now).now → IsTrue (state S.Store tx.old.conn.now).is_open
         → GoesOnKnown lines.old lines.new result (state S.Store tx.old.conn.now) (state S.Store tx.new.conn.now) }
     ensures kept { HasCleanDisk (state S.Store tx.new.conn.now) → IsReady (state S.Store tx.old.conn.now).now → KeepsCommit (state S.Store tx.old.conn.now) (state S.Store tx.new.conn.now) }
     ensures survives { Survives (state S.Store tx.old.conn.now) (state S.Store tx.new.conn.now) (λ _. ⊥) }
