@@ -38,12 +38,12 @@ on_ok (Ok x) p = p
 on_ok (Err e) p = tt
 
 -- an error answers nothing
-pub none_answered : {X E P : Type 0} (r : Result X E) → IsErr r → OnOk r P
-none_answered (Ok x) none = absurd (let no = none in cc)
-none_answered (Err e) is = tt
+pub none_answered : {X E : Type 0} (P : Type 0) (r : Result X E) → IsErr r → OnOk r P
+none_answered P (Ok x) none = absurd (let no = none in cc)
+none_answered P (Err e) is = tt
 
 pub known_if_err : {X E : Type 0} (known after : Option Entries) (r : Result X E) (old new : State) → IsErr r → (HasLines known old → HasLines after old) → LeavesKnown known after r old new
-known_if_err known after r old new is before = record { before = before; answered = none_answered r is }
+known_if_err known after r old new is before = record { before = before; answered = none_answered _ r is }
 
 -- nothing was changed
 pub known_same : {X E : Type 0} (known : Option Entries) (r : Result X E) (old new : State) → IsUnchanged old new → IsReady old.now → LeavesKnown known known r old new

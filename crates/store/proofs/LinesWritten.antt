@@ -63,7 +63,7 @@ change_spares c t =
 
 -- An order is open after rows are put because one of them opens it, or it was open
 
-opens : List OrderRow → List ℕ → Bool
+abbrev opens : List OrderRow → List ℕ → Bool
 opens rows o = is_among (map order_key (filter is_open_order rows)) o
 
 opens_later : (r : OrderRow) (rows : List OrderRow) (o : List ℕ) → opens rows o ≡ true → opens (r ∷ rows) o ≡ true

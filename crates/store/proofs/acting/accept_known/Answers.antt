@@ -19,7 +19,7 @@ returns-in_err-know_put-clause-fault g c clean up first acts books =
 pub returns-in_err-know_put-clause-known : goal.returns-in_err-know_put-clause-known
 returns-in_err-know_put-clause-known g c clean ready up =
     known_if_err (Some c.args.known.now) (Some c.know_put.new.known) c.from_residual.result (state g.S.Store c.args.tx.now.conn.now) (state g.S.Store c.know_put.new.tx.conn.now) c.from_residual.ensures.0
-    (λ covers order item open there. c.know_put.ensures.keeps item order (covers order item open there))
+    (λ covers order item up there. c.know_put.ensures.keeps item order (covers order item up there))
 
 pub returns-clause-done : goal.returns-clause-done
 returns-clause-done g c clean ready up once =

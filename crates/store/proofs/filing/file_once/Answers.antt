@@ -98,7 +98,7 @@ returns-clause-settled g c clean =
     known.0
 
 pub returns-in_err-commit-clause-known : goal.returns-in_err-commit-clause-known
-returns-in_err-commit-clause-known g c = none_answered c.from_residual-in_err-commit.result c.from_residual-in_err-commit.ensures.0
+returns-in_err-commit-clause-known g c = none_answered _ c.from_residual-in_err-commit.result c.from_residual-in_err-commit.ensures.0
 
 pub returns-in_err-commit-clause-settled : goal.returns-in_err-commit-clause-settled
 returns-in_err-commit-clause-settled g c =
@@ -110,7 +110,7 @@ returns-in_err-commit-clause-settled g c =
     settled_not_committed old begun last new is c.in_ok-filed.ensures.survives c.args.lines.now c.requires.known c.commit.ensures.survives c.in_err-commit.field-0.0 (λ clean ready. (c.in_ok-filed.ensures.known clean ready).2) c.in_ok-filed.ensures.kept c.in_err-commit.ensures.err
 
 pub returns-in_err-filed-clause-known : goal.returns-in_err-filed-clause-known
-returns-in_err-filed-clause-known g c = none_answered c.from_residual.result c.from_residual.ensures.0
+returns-in_err-filed-clause-known g c = none_answered _ c.from_residual.result c.from_residual.ensures.0
 
 pub returns-in_err-filed-clause-settled : goal.returns-in_err-filed-clause-settled
 returns-in_err-filed-clause-settled g c =

@@ -83,7 +83,7 @@ returns-in_err-filed-clause-kept g c clean ready =
     kept_then old mid new so_far.0 (one.kept clean so_far.1)
 
 pub returns-in_err-filed-clause-known : goal.returns-in_err-filed-clause-known
-returns-in_err-filed-clause-known g c clean ready up = none_answered c.from_residual.result c.from_residual.ensures.0
+returns-in_err-filed-clause-known g c clean ready up = none_answered _ c.from_residual.result c.from_residual.ensures.0
 
 pub returns-clause-same_reference : goal.returns-clause-same_reference
 returns-clause-same_reference g c = c.loop-row.invariant.0
