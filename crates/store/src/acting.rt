@@ -70,7 +70,6 @@ pub fn act_inside<S: Alter>(
     ensures acted { HasCleanDisk (state S.Store tx.new.conn.now) → IsTrue (is_key_of key.now command.now) → (first : ℤ) (acts : List Act) → IsHistory first acts
         → (IsTrue (state S.Store tx.old.conn.now).is_open → IsBooksOf first acts (state S.Store tx.old.conn.now).now) → (IsTrue (state S.Store tx.old.conn.now).is_open → HasLines lines.old (state S.Store tx.old.conn.now))
         → IsActedInside first acts (record { key = key.now; command = command.now }) result (state S.Store tx.old.conn.now) (state S.Store tx.new.conn.now) }
-    ensures ready { HasCleanDisk (state S.Store tx.new.conn.now) → (IsTrue (state S.Store tx.old.conn.now).is_open → IsReady (state S.Store tx.old.conn.now).now) → OnOk result (IsReady (state S.Store tx.new.conn.now).now) }
     ensures known { HasCleanDisk (state S.Store tx.new.conn.now) → (IsTrue (state S.Store tx.old.conn.now).is_open → IsReady (state S.Store tx.old.conn.now).now)
         → LeavesKnown lines.old lines.new result (state S.Store tx.old.conn.now) (state S.Store tx.new.conn.now) }
     ensures kept { HasCleanDisk (state S.Store tx.new.conn.now) → (IsTrue (state S.Store tx.old.conn.now).is_open → IsReady (state S.Store tx.old.conn.now).now) → KeepsCommit (state S.Store tx.old.conn.now) (state S.Store tx.new.conn.now) }
@@ -92,7 +91,6 @@ fn act_open<S: Alter>(
     ensures acted { HasCleanDisk (state S.Store tx.new.conn.now) → IsTrue (is_key_of key.now command.now) → (first : ℤ) (acts : List Act) → IsHistory first acts
         → IsTrue (state S.Store tx.old.conn.now).is_open → IsBooksOf first acts (state S.Store tx.old.conn.now).now → HasLines lines.old (state S.Store tx.old.conn.now)
         → IsActedInside first acts (record { key = key.now; command = command.now }) result (state S.Store tx.old.conn.now) (state S.Store tx.new.conn.now) }
-    ensures ready { HasCleanDisk (state S.Store tx.new.conn.now) → IsReady (state S.Store tx.old.conn.now).now → IsTrue (state S.Store tx.old.conn.now).is_open → OnOk result (IsReady (state S.Store tx.new.conn.now).now) }
     ensures known { HasCleanDisk (state S.Store tx.new.conn.now) → IsReady (state S.Store tx.old.conn.now).now → IsTrue (state S.Store tx.old.conn.now).is_open
         → LeavesKnown lines.old lines.new result (state S.Store tx.old.conn.now) (state S.Store tx.new.conn.now) }
     ensures kept { HasCleanDisk (state S.Store tx.new.conn.now) → IsReady (state S.Store tx.old.conn.now).now → IsTrue (state S.Store tx.old.conn.now).is_open
@@ -118,7 +116,6 @@ fn act_anew<S: Alter>(
     ensures acted { HasCleanDisk (state S.Store tx.new.conn.now) → IsTrue (is_key_of key.now command.now) → (first : ℤ) (acts : List Act) → IsHistory first acts
         → IsTrue (state S.Store tx.old.conn.now).is_open → IsBooksOf first acts (state S.Store tx.old.conn.now).now → HasLines lines.old (state S.Store tx.old.conn.now) → bearer key.now acts ≡ None
         → IsActedInside first acts (record { key = key.now; command = command.now }) result (state S.Store tx.old.conn.now) (state S.Store tx.new.conn.now) }
-    ensures ready { HasCleanDisk (state S.Store tx.new.conn.now) → IsReady (state S.Store tx.old.conn.now).now → IsTrue (state S.Store tx.old.conn.now).is_open → OnOk result (IsReady (state S.Store tx.new.conn.now).now) }
     ensures known { HasCleanDisk (state S.Store tx.new.conn.now) → IsReady (state S.Store tx.old.conn.now).now → IsTrue (state S.Store tx.old.conn.now).is_open
         → LeavesKnown lines.old lines.new result (state S.Store tx.old.conn.now) (state S.Store tx.new.conn.now) }
     ensures kept { HasCleanDisk (state S.Store tx.new.conn.now) → IsReady (state S.Store tx.old.conn.now).now → IsTrue (state S.Store tx.old.conn.now).is_open
@@ -219,7 +216,6 @@ fn accept<S: Alter>(
     ensures same_reference { tx.new.conn.ghost_name ≡ tx.old.conn.ghost_name }
     ensures done { HasCleanDisk (state S.Store tx.new.conn.now) → IsReady (state S.Store tx.old.conn.now).now → AreOnce change.now.put
         → OnOk result (Goes (λ t. with_repeat (record { k = key_text key.now; act = change.now.meta.acts; spell = spelling command.now; reply = change.now.text }) (applied change.now t)) (state S.Store tx.old.conn.now) (state S.Store tx.new.conn.now)) }
-    ensures ready { HasCleanDisk (state S.Store tx.new.conn.now) → IsReady (state S.Store tx.old.conn.now).now → OnOk result (IsReady (state S.Store tx.new.conn.now).now) }
     ensures written { HasCleanDisk (state S.Store tx.new.conn.now) → IsReady (state S.Store tx.old.conn.now).now
         → OnOk result (Goes (λ t. with_repeat (record { k = key_text key.now; act = change.now.meta.acts; spell = spelling command.now; reply = change.now.text }) (change_written change.now t)) (state S.Store tx.old.conn.now) (state S.Store tx.new.conn.now)) }
     ensures told { IfOk result (λ reply. reply ≡ record { text = change.now.text; repeated = false }) }
