@@ -20,3 +20,4 @@ pub mod ShipmentOrder
 pub mod ShipmentsHanded
 pub mod LinesWritten
 pub mod LinesKnown
+pub mod BooksWhole
