@@ -3,6 +3,7 @@ use Rattle.sqlite.specs.Held.{state}
 use Rattle.machine.specs.Acts.{Act}
 use Rattle.store.proofs.ActsWhole.{ActsWhole, SurvivesWhole, begun_state, act_committed, act_not_committed, act_undone, KeptWhole, kept_if_undone, kept_if_not_committed, stop_in_commit, stop_before_commit}
 use Rattle.store.proofs.LinesKnown.{lines_begun, known_committed, known_not_committed, known_undone}
+use Rattle.store.specs.Knowing.{IsKnown}
 use Rattle.store.proofs.acting.act_once.Goals as goal
 
 pub returns-clause-acted : goal.returns-clause-acted
@@ -106,7 +107,9 @@ returns-clause-known g c =
     let last = state g.S.Store c.act_inside.new.tx.conn.now in
     let new = state g.S.Store c.commit.new.self.0 in
     let is = begun_state g.S.Store c.args.conn.now c.transaction-tx.result.conn.now c.transaction-tx.ensures.begun in
-    known_committed old begun last new is c.in_ok-reply.ensures.survives c.args.lines.now c.requires.known c.commit.ensures.survives c.act_inside.new.lines (λ clean ready. (c.in_ok-reply.ensures.known clean ready).answered) (λ clean. (c.in_ok-commit.ensures.ok clean).1)
+    let whole : IsKnown c.act_inside.new.lines new =
+    known_committed old begun last new is c.in_ok-reply.ensures.survives c.args.lines.now c.requires.known c.commit.ensures.survives c.act_inside.new.lines (λ clean ready. (c.in_ok-reply.ensures.known clean ready).answered) (λ clean. (c.in_ok-commit.ensures.ok clean).1) in
+    search (rules, whole)
 
 pub returns-in_err-commit-clause-known : goal.returns-in_err-commit-clause-known
 returns-in_err-commit-clause-known g c =
@@ -115,8 +118,10 @@ returns-in_err-commit-clause-known g c =
     let last = state g.S.Store c.act_inside.new.tx.conn.now in
     let new = state g.S.Store c.commit.new.self.0 in
     let is = begun_state g.S.Store c.args.conn.now c.transaction-tx.result.conn.now c.transaction-tx.ensures.begun in
+    let whole : IsKnown c.act_inside.new.lines new =
     known_not_committed old begun last new is c.in_ok-reply.ensures.survives c.args.lines.now c.requires.known c.commit.ensures.survives c.act_inside.new.lines c.in_err-commit.field-0.0 (λ clean ready. (c.in_ok-reply.ensures.known clean ready).before)
-    (λ clean ready. (c.in_ok-reply.ensures.known clean ready).answered.2) c.in_ok-reply.ensures.kept c.in_err-commit.ensures.err
+    (λ clean ready. (c.in_ok-reply.ensures.known clean ready).answered.2) c.in_ok-reply.ensures.kept c.in_err-commit.ensures.err in
+    search (rules, whole)
 
 pub returns-in_err-reply-clause-known : goal.returns-in_err-reply-clause-known
 returns-in_err-reply-clause-known g c =
@@ -125,4 +130,6 @@ returns-in_err-reply-clause-known g c =
     let last = state g.S.Store c.act_inside.new.tx.conn.now in
     let new = state g.S.Store c.drop-tx.new.self.0 in
     let is = begun_state g.S.Store c.args.conn.now c.transaction-tx.result.conn.now c.transaction-tx.ensures.begun in
-    known_undone old begun last new is c.in_err-reply.ensures.survives c.args.lines.now c.requires.known c.drop-tx.ensures.survives c.act_inside.new.lines (λ clean ready. (c.in_err-reply.ensures.known clean ready).before) c.in_err-reply.ensures.kept c.drop-tx.ensures.undone
+    let whole : IsKnown c.act_inside.new.lines new =
+    known_undone old begun last new is c.in_err-reply.ensures.survives c.args.lines.now c.requires.known c.drop-tx.ensures.survives c.act_inside.new.lines (λ clean ready. (c.in_err-reply.ensures.known clean ready).before) c.in_err-reply.ensures.kept c.drop-tx.ensures.undone in
+    search (rules, whole)

@@ -1,9 +1,11 @@
 use Rattle.std.proofs.Common.{Ok, rules, subst}
-use Rattle.sqlite.specs.State.{State}
+use Rattle.sqlite.specs.State.{State, HasCleanDisk}
 use Rattle.sqlite.specs.Held.{state}
 use Rattle.store.proofs.ActsWhole.{begun_state, KeptWhole, kept_if_undone, kept_if_not_committed}
 use Rattle.store.proofs.FilesWhole.{FilesWhole, FileSurvives, file_committed, file_not_committed, file_undone, stop_in_file_commit, stop_before_file_commit}
 use Rattle.store.proofs.LinesKnown.{lines_begun, none_answered, known_committed, settled_undone, settled_not_committed}
+use Rattle.store.specs.Books.{IsSettled}
+use Rattle.store.specs.Knowing.{IsKnown}
 use Rattle.store.proofs.filing.file_once.Goals as goal
 
 pub returns-clause-filed : goal.returns-clause-filed
@@ -85,17 +87,21 @@ returns-clause-known g c =
     let last = state g.S.Store c.file_inside.new.tx.conn.now in
     let new = state g.S.Store c.commit.new.self.0 in
     let is = begun_state g.S.Store c.args.conn.now c.transaction-tx.result.conn.now c.transaction-tx.ensures.begun in
-    known_committed old begun last new is c.in_ok-filed.ensures.survives c.args.lines.now c.requires.known c.commit.ensures.survives c.file_inside.new.lines (λ clean ready. c.in_ok-filed.ensures.known clean ready) (λ clean. (c.in_ok-commit.ensures.ok clean).1)
+    let whole : IsKnown c.file_inside.new.lines new =
+    known_committed old begun last new is c.in_ok-filed.ensures.survives c.args.lines.now c.requires.known c.commit.ensures.survives c.file_inside.new.lines (λ clean ready. c.in_ok-filed.ensures.known clean ready) (λ clean. (c.in_ok-commit.ensures.ok clean).1) in
+    search (rules, whole)
 
 pub returns-clause-settled : goal.returns-clause-settled
-returns-clause-settled g c clean =
+returns-clause-settled g c =
     let old = state g.S.Store c.args.conn.now in
     let begun = state g.S.Store c.transaction-tx.result.conn.now in
     let last = state g.S.Store c.file_inside.new.tx.conn.now in
     let new = state g.S.Store c.commit.new.self.0 in
     let is = begun_state g.S.Store c.args.conn.now c.transaction-tx.result.conn.now c.transaction-tx.ensures.begun in
-    let known = known_committed old begun last new is c.in_ok-filed.ensures.survives c.args.lines.now c.requires.known c.commit.ensures.survives c.file_inside.new.lines (λ clean ready. c.in_ok-filed.ensures.known clean ready) (λ clean. (c.in_ok-commit.ensures.ok clean).1) clean in
-    known.0
+    let known : IsKnown c.file_inside.new.lines new =
+    known_committed old begun last new is c.in_ok-filed.ensures.survives c.args.lines.now c.requires.known c.commit.ensures.survives c.file_inside.new.lines (λ clean ready. c.in_ok-filed.ensures.known clean ready) (λ clean. (c.in_ok-commit.ensures.ok clean).1) in
+    let whole : HasCleanDisk new → IsSettled new = λ clean. (known clean).0 in
+    search (rules, whole)
 
 pub returns-in_err-commit-clause-known : goal.returns-in_err-commit-clause-known
 returns-in_err-commit-clause-known g c = none_answered _ c.from_residual-in_err-commit.result c.from_residual-in_err-commit.ensures.0
@@ -107,7 +113,9 @@ returns-in_err-commit-clause-settled g c =
     let last = state g.S.Store c.file_inside.new.tx.conn.now in
     let new = state g.S.Store c.commit.new.self.0 in
     let is = begun_state g.S.Store c.args.conn.now c.transaction-tx.result.conn.now c.transaction-tx.ensures.begun in
-    settled_not_committed old begun last new is c.in_ok-filed.ensures.survives c.args.lines.now c.requires.known c.commit.ensures.survives c.in_err-commit.field-0.0 (λ clean ready. (c.in_ok-filed.ensures.known clean ready).2) c.in_ok-filed.ensures.kept c.in_err-commit.ensures.err
+    let whole : HasCleanDisk new → IsSettled new =
+    settled_not_committed old begun last new is c.in_ok-filed.ensures.survives c.args.lines.now c.requires.known c.commit.ensures.survives c.in_err-commit.field-0.0 (λ clean ready. (c.in_ok-filed.ensures.known clean ready).2) c.in_ok-filed.ensures.kept c.in_err-commit.ensures.err in
+    search (rules, whole)
 
 pub returns-in_err-filed-clause-known : goal.returns-in_err-filed-clause-known
 returns-in_err-filed-clause-known g c = none_answered _ c.from_residual.result c.from_residual.ensures.0
@@ -119,7 +127,9 @@ returns-in_err-filed-clause-settled g c =
     let last = state g.S.Store c.file_inside.new.tx.conn.now in
     let new = state g.S.Store c.drop-tx.new.self.0 in
     let is = begun_state g.S.Store c.args.conn.now c.transaction-tx.result.conn.now c.transaction-tx.ensures.begun in
-    settled_undone old begun last new is c.in_err-filed.ensures.survives c.args.lines.now c.requires.known c.drop-tx.ensures.survives c.in_err-filed.ensures.kept c.drop-tx.ensures.undone
+    let whole : HasCleanDisk new → IsSettled new =
+    settled_undone old begun last new is c.in_err-filed.ensures.survives c.args.lines.now c.requires.known c.drop-tx.ensures.survives c.in_err-filed.ensures.kept c.drop-tx.ensures.undone in
+    search (rules, whole)
 
 pub returns-in_err-commit-clause-as_before : goal.returns-in_err-commit-clause-as_before
 returns-in_err-commit-clause-as_before g c =
