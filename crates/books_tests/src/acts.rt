@@ -32,6 +32,8 @@ pub(crate) enum Wanted {
     Receipt(u64),
     /// The order S-1 of units of the oat drink.
     Order(u64),
+    /// The cancelling of S-1.
+    Cancel,
     /// A new business day.
     Day(&'static [u8]),
 }
@@ -128,6 +130,7 @@ fn command(rt: &impl Abort, alloc: Global, wanted: Wanted) -> Command {
         }),
         Wanted::Receipt(units) => Command::Receive(receipt(rt, units)),
         Wanted::Order(units) => Command::Order(order(rt, alloc, units)),
+        Wanted::Cancel => Command::Cancel(name(rt, b"S-1")),
         Wanted::Day(text) => Command::OpenDay(business_day(rt, text)),
     }
 }
@@ -374,4 +377,43 @@ static ALL_OR_NONE: [&[Step]; 1] = [&[Step::Deeds(&[
 #[test]
 fn rows_act_all_or_none(rt: HostRuntime) {
     run(&rt, rt.alloc(), ALL_OR_NONE.as_slice());
+}
+
+// An order that a row cancelled before another was refused is open again: the units that come are reserved for it.
+static CANCELLED_FOR_NOTHING: [&[Step]; 1] = [&[Step::Deeds(&[
+    Deed::Act(Under::Key(b"K-1"), Wanted::Item, Told::New(b"{\"act\":1}")),
+    Deed::Act(Under::Key(b"K-2"), STORE_BIN, Told::New(b"{\"act\":2}")),
+    Deed::Act(
+        Under::Key(b"K-3"),
+        Wanted::Order(12),
+        Told::New(b"{\"act\":3,\"short\":12}"),
+    ),
+    Deed::All(
+        &[
+            (Under::Key(b"K-4"), Wanted::Cancel),
+            (Under::FirstLine, Wanted::Receipt(10)),
+            (Under::Key(b"K-1"), STORE_BIN),
+        ],
+        Err(RowFault::Refused {
+            row: 3,
+            refusal: Refusal::KeyUsed,
+        }),
+    ),
+    Deed::Act(
+        Under::FirstLine,
+        Wanted::Receipt(10),
+        Told::New(b"{\"act\":4}"),
+    ),
+    Deed::Stock(Some(10)),
+    Deed::Act(
+        Under::Key(b"K-4"),
+        Wanted::Cancel,
+        Told::New(b"{\"act\":5}"),
+    ),
+    Deed::Stock(Some(0)),
+])]];
+
+#[test]
+fn rows_for_nothing_close_no_order(rt: HostRuntime) {
+    run(&rt, rt.alloc(), CANCELLED_FOR_NOTHING.as_slice());
 }

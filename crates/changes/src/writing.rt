@@ -154,7 +154,8 @@ fn write_tables<S: Alter>(tx: &mut Transaction<'_, S>, change: &Change) -> Resul
     put_meta(tx, &change.meta)
 }
 
-/// Writes a change: drops its rows and puts its rows, and the row of `meta`.
+/// Writes a change: drops its rows and puts its rows, and the row of `meta`. Of rows under one
+/// key the last stands.
 pub fn write_change<S: Alter>(
     tx: &mut Transaction<'_, S>,
     change: &Change,
@@ -162,7 +163,8 @@ pub fn write_change<S: Alter>(
     ensures same_reference { tx.new.conn.ghost_name ≡ tx.old.conn.ghost_name }
     ensures done { HasCleanDisk (state S.Store tx.new.conn.now) → IsReady (state S.Store tx.old.conn.now).now
         → AreOnce change.now.put → OnOk result (Goes (applied change.now) (state S.Store tx.old.conn.now) (state S.Store tx.new.conn.now)) }
-    ensures ready { HasCleanDisk (state S.Store tx.new.conn.now) → IsReady (state S.Store tx.old.conn.now).now → OnOk result (IsReady (state S.Store tx.new.conn.now).now) }
+    ensures written { HasCleanDisk (state S.Store tx.new.conn.now) → IsReady (state S.Store tx.old.conn.now).now
+        → OnOk result (Goes (change_written change.now) (state S.Store tx.old.conn.now) (state S.Store tx.new.conn.now)) }
     ensures kept { HasCleanDisk (state S.Store tx.new.conn.now) → KeepsCommit (state S.Store tx.old.conn.now) (state S.Store tx.new.conn.now) }
     ensures survives { Survives (state S.Store tx.old.conn.now) (state S.Store tx.new.conn.now) (λ _. ⊥) }
     ensures never_foreign { IfErr result (λ e. e ≢ Foreign) }

@@ -77,6 +77,10 @@ day_opened _ = None
 abbrev pub others : List (List ℕ) → List OrderRow → List OrderRow
 others named order_rows = filter (λ r. not (is_among named r.order)) order_rows
 
+-- those of these names
+abbrev pub other_names : List (List ℕ) → List (List ℕ) → List (List ℕ)
+other_names named orders = filter (λ o. not (is_among named o)) orders
+
 abbrev pub has_line_in : List LineRow → List ℕ → Bool
 has_line_in line_rows o = list_any (λ l. same_text o l.order) line_rows
 

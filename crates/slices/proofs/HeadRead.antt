@@ -1,5 +1,5 @@
 -- What the read of a head tells on the books of a history.
-use Rattle.std.proofs.Common.{List, ℕ, Result, Ok, Err, IfOk, IsTrue, subst}
+use Rattle.std.proofs.Common.{List, Result, Ok, Err, IfOk, IsTrue, subst}
 use Rattle.std.specs.Prelude.{ℤ}
 use Rattle.values.specs.declared.lot.LotId.{LotId}
 use Rattle.commands.specs.Tables.{Tables}

@@ -8,9 +8,12 @@ pub mod SliceTold
 pub mod LinesTold
 pub mod DayTold
 pub mod OrdersTold
+pub mod KnownOrders
 pub mod SliceRight
 pub mod OrderRight
 pub mod ReadTold
+pub mod Covering
+pub mod LinesRead
 pub mod SliceRead
 pub mod StockRight
 pub mod ShortRight

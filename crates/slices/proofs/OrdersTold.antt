@@ -11,10 +11,10 @@ use Rattle.table_words.specs.Found.{only_if}
 use Rattle.table_words.specs.Typed.{OrderKey, same_order, order_key, is_open_order, LineKey, same_line, line_key}
 use Rattle.machine.specs.KeyedRows.{AreRows, AreOwn, no_two}
 use Rattle.machine.proofs.Tests.{and_both, same_text_is, same_text_refl}
-use Rattle.slices.specs.Slicing.{Each, is_among, listed, others, has_line_in, with_lines, AreLinesOf, AreLines, AreOrdered}
+use Rattle.slices.specs.Slicing.{Each, is_among, is_open_in, is_passed, listed, others, has_line_in, with_lines, AreLinesOf, AreLines, AreOrdered}
 use Rattle.slices.proofs.Counted.{any_mapped}
 use Rattle.slices.proofs.KeysTold.{same_line_is, same_line_refl}
-use Rattle.slices.proofs.RowsTold.{and_true, or_true, is_passed, rows_read, rows_joined, rows_kept, rows_passed, rows_as, any_read, one_read}
+use Rattle.slices.proofs.RowsTold.{and_true, or_true, rows_read, rows_joined, rows_kept, rows_passed, rows_as, any_read, one_read}
 use Rattle.slices.proofs.SeekSteps.{each_read}
 use Rattle.slices.proofs.SliceTold.{sought, texts_same}
 
@@ -34,10 +34,6 @@ some_passes p (x ∷ xs) P f e =
       | true ↦ λ t _. f x (ap (λ b. b || is_among xs x) (same_text_refl x)) t
       | false ↦ λ _ rest. some_passes p xs P (λ y there. f y (ap (λ b. same_text y x || b) there ∙ or_true (same_text y x))) rest
     ] refl e
-
--- whether the row is that of an open order
-abbrev pub is_open_in : Tables → List ℕ → Bool
-is_open_in t o = is_passed is_open_order (t.order o)
 
 -- whether the order has a line of one of the items
 abbrev pub has_line_of : List (List ℕ) → Tables → List ℕ → Bool

@@ -12,7 +12,7 @@ use Rattle.machine.specs.KeyedRows.{no_two}
 use Rattle.row_rules.proofs.Walking.{append_none}
 use Rattle.machine.proofs.Tests.{and_both, and_false, not_true, same_text_is, same_text_turned}
 use Rattle.slices.specs.Reading.{IsRead}
-use Rattle.slices.specs.Slicing.{Each, is_among, texts, listed, AreLinesOf}
+use Rattle.slices.specs.Slicing.{Each, is_among, texts, listed, AreLinesOf, AreLinesFor}
 use Rattle.slices.proofs.ReadSteps.{then_answers}
 use Rattle.slices.proofs.RowsTold.{read_none, read_both}
 
@@ -65,3 +65,12 @@ line_step gtins o a b c i g xs row less at one two =
     then_answers {X = List LineRow} {Y = Option LineRow} {Z = List LineRow} (λ t rows. AreLinesOf (take i gtins) t o rows) (λ t r. r ≡ t.line o g) (λ t rows. AreLinesOf (take (i + 1) gtins) t o rows) a b c xs row (xs ++ listed row) one two
     (λ t h e. subst (λ (l : List (List ℕ)). Each (λ j part. part ≡ listed (t.line o j)) l (xs ++ listed row)) (sym (each_place (λ x. x) gtins i g less at))
     (each_more (λ j part. part ≡ listed (t.line o j)) (texts (take i gtins)) g xs (listed row) h (ap listed e)))
+
+-- an item's line in one more order
+pub order_step : (orders : List (List ℕ)) (g : List ℕ) (a b c : State) (i : ℕ) (o : List ℕ) (xs : List LineRow) (row : Option LineRow) → i < length orders → o ≡ get_or orders i o
+    → IsRead {X = List LineRow} (λ t rows. AreLinesFor (take i orders) t g rows) a b (Ok xs) → IsRead {X = Option LineRow} (λ t r. r ≡ t.line o g) b c (Ok row)
+    → IsRead {X = List LineRow} (λ t rows. AreLinesFor (take (i + 1) orders) t g rows) a c (Ok (xs ++ listed row))
+order_step orders g a b c i o xs row less at one two =
+    then_answers {X = List LineRow} {Y = Option LineRow} {Z = List LineRow} (λ t rows. AreLinesFor (take i orders) t g rows) (λ t r. r ≡ t.line o g) (λ t rows. AreLinesFor (take (i + 1) orders) t g rows) a b c xs row (xs ++ listed row) one two
+    (λ t h e. subst (λ (l : List (List ℕ)). Each (λ j part. part ≡ listed (t.line j g)) l (xs ++ listed row)) (sym (each_place (λ x. x) orders i o less at))
+    (each_more (λ j part. part ≡ listed (t.line j g)) (texts (take i orders)) o xs (listed row) h (ap listed e)))

@@ -1,5 +1,5 @@
 -- What the read of a line of a shipment tells on the books of a history.
-use Rattle.std.proofs.Common.{◌≡◌, List, ℕ, Option, Result, Ok, Err, IfOk, IsTrue, subst}
+use Rattle.std.proofs.Common.{◌≡◌, List, Option, Result, Ok, Err, IfOk, IsTrue, subst}
 use Rattle.std.specs.Prelude.{ℤ}
 use Rattle.commands.specs.Tables.{Tables}
 use Rattle.commands.specs.declared.rows.ShiplineRow.{ShiplineRow}

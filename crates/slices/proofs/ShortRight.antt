@@ -1,6 +1,6 @@
 -- What is read of the tables of a history are the rows by which the bookings of an item that are short are shown.
-use Rattle.std.proofs.Common.{◌≡◌, ℕ, Bool, true, false, ◌&&◌, List, [], ◌∷◌, refl, ap, sym, subst, ◌∙◌}
-use Rattle.std.specs.Prelude.{◌||◌, Some, None, is_some, ℤ}
+use Rattle.std.proofs.Common.{◌≡◌, ℕ, Bool, true, ◌&&◌, List, [], ◌∷◌, refl, sym, subst, ◌∙◌}
+use Rattle.std.specs.Prelude.{Some, None, is_some, ℤ}
 use Rattle.values.specs.Values.{same_text}
 use Rattle.commands.specs.Tables.{Tables}
 use Rattle.commands.specs.declared.rows.ItemRow.{ItemRow}
@@ -12,11 +12,11 @@ use Rattle.machine.specs.Planning.{is_open}
 use Rattle.machine.specs.Tables.{tables_of, item_row}
 use Rattle.row_rules.specs.declared.slice.Rows.{Rows}
 use Rattle.machine.proofs.Tests.{and_both, or_false, same_text_is, same_text_refl, same_text_turned}
-use Rattle.slices.specs.Slicing.{is_among}
+use Rattle.slices.specs.Slicing.{is_among, is_open_in}
 use Rattle.slices.specs.ShownShort.{AreOfDemands, IsShortIn}
 use Rattle.slices.proofs.KeysTold.{same_share_is, same_share_refl, same_line_is, same_line_refl}
 use Rattle.slices.proofs.LinesTold.{line_some}
-use Rattle.slices.proofs.OrdersTold.{is_open_in, has_line_of, orders_told, lines_told}
+use Rattle.slices.proofs.OrdersTold.{has_line_of, orders_told, lines_told}
 use Rattle.slices.proofs.RowsTold.{rows_as}
 use Rattle.slices.proofs.SliceRight.{open_told, keyed}
 use Rattle.slices.proofs.SliceTold.{sought}

@@ -30,14 +30,15 @@ use Rattle.machine.proofs.histories.Accepted.{item_accepted}
 use Rattle.machine.proofs.histories.Notices.{bins_apart}
 use Rattle.machine.proofs.histories.Orders.{found_order}
 use Rattle.rules.proofs.rows.SliceTells.{some_mapped}
-use Rattle.slices.specs.Slicing.{is_among, with_names, items_named, orders_named, bins_named, whole_orders, day_opened, AreAllLines, AreTaken, AreTouched, AreSliced, IsSliceIn}
+use Rattle.open_lines.specs.OpenLines.{Entries}
+use Rattle.slices.specs.Slicing.{is_among, with_names, items_named, orders_named, bins_named, whole_orders, day_opened, AreAllLines, AreTaken, AreTouched, AreSliced, IsSliceIn, is_passed, is_open_in, Covers}
 use Rattle.slices.proofs.Counted.{as_many}
 use Rattle.slices.proofs.KeysTold.{same_cell_is, same_cell_refl, same_share_is, same_share_refl, same_line_is, same_line_refl}
-use Rattle.slices.proofs.RowsTold.{any_append, is_passed, rows_read, rows_as}
+use Rattle.slices.proofs.RowsTold.{any_append, rows_read, rows_as}
 use Rattle.slices.proofs.SliceTold.{among_with, once_with, among_names, once_names, sought}
 use Rattle.slices.proofs.LinesTold.{line_some, line_items}
 use Rattle.slices.proofs.DayTold.{affected_told, affected_once}
-use Rattle.slices.proofs.OrdersTold.{is_open_in, has_line_of, orders_told, lines_told}
+use Rattle.slices.proofs.KnownOrders.{has_line_of, orders_told, lines_told}
 
 -- Names
 
@@ -184,12 +185,12 @@ module _ (first : ℤ) (acts : List Act) where
   unfolding tables_of
   keyed o g r e = keyed_by o g (find (λ l. same_text g l.gtin) (lines_of acts o)) r e
 
-  module _ (key : Key) (command : Command) where
+  module _ (key : Key) (command : Command) (known : Entries) (covers : Covers known (tables_of first acts)) where
     abbrev act : Act
     act = record { key = key; command = command }
 
-    module _ (history : IsHistory first acts) (s : Slice) (slice : IsSliceIn command (tables_of first acts) s) where
-      abbrev rows : AreSliced command (tables_of first acts) s.rows
+    module _ (history : IsHistory first acts) (s : Slice) (slice : IsSliceIn known command (tables_of first acts) s) where
+      abbrev rows : AreSliced known command (tables_of first acts) s.rows
       rows = slice.rows
 
       abbrev t : Tables
@@ -247,13 +248,13 @@ module _ (first : ℤ) (acts : List Act) where
             (λ o. names_order command o || (is_open first acts o && has_touched_line first act acts o)) (λ o. names_order command o || has_touched_line first act acts o) t.order s.rows.orders
             (λ o e. needs (is_among (orders_named command) o) (names_order command o) (is_open first acts o) (is_open_in t o) (has_touched_line first act acts o) (has_line_of gtins t o) (order_told command o) (open_told o) (touched_line o) e)
             (λ o e. ap (λ b. b || has_touched_line first act acts o) (sym (order_told command o)) ∙ ap (λ b. is_among (orders_named command) o || b) (sym (touched_line o)) ∙ e)
-            (orders_told (orders_named command) gtins t keyed (order_once command) once s.rows.orders s.rows.lines rows.ordered);
+            (orders_told known (orders_named command) gtins t covers keyed (order_once command) once s.rows.orders s.rows.lines rows.ordered);
         lines = rows_as {K = LineKey} same_line line_key same_line_is same_line_refl
             (λ k. is_among (orders_named command) k.0 || (is_open_in t k.0 && is_among gtins k.1)) (λ k. is_among (orders_named command) k.0 || is_among gtins k.1)
             (λ k. names_order command k.0 || (is_open first acts k.0 && touched k.1)) (λ k. names_order command k.0 || touched k.1) (λ k. t.line k.0 k.1) s.rows.lines
             (λ k e. needs (is_among (orders_named command) k.0) (names_order command k.0) (is_open first acts k.0) (is_open_in t k.0) (touched k.1) (is_among gtins k.1) (order_told command k.0) (open_told k.0) (told k.1) e)
             (λ k e. ap (λ b. b || touched k.1) (sym (order_told command k.0)) ∙ ap (λ b. is_among (orders_named command) k.0 || b) (sym (told k.1)) ∙ e)
-            (lines_told (orders_named command) gtins t keyed (order_once command) once s.rows.orders s.rows.lines rows.ordered);
+            (lines_told known (orders_named command) gtins t covers keyed (order_once command) once s.rows.orders s.rows.lines rows.ordered);
         staged = sought {K = StagedKey} same_staged staged_key same_share_is same_share_refl (λ k. k.1.gtin) (λ k. t.staged k.0 k.1) gtins touched s.rows.staged once told rows.booked.staged;
         reserved = sought {K = ReservedKey} same_reserved reserved_key same_share_is same_share_refl (λ k. k.1.gtin) (λ k. t.reserved k.0 k.1) gtins touched s.rows.reserved once told rows.booked.reserved;
       }

@@ -1,5 +1,5 @@
 -- The rows that a slice is made of.
-use Rattle.std.specs.Prelude.{◌≡◌, ℕ, ℤ, true, List, [], ◌∷◌, ◌++◌, map, filter, Option, Some, None}
+use Rattle.std.specs.Prelude.{◌≡◌, ℕ, ℤ, Bool, true, false, List, [], ◌∷◌, ◌++◌, map, filter, Option, Some, None, is_some}
 use Rattle.values.specs.Values.{same_text}
 use Rattle.commands.specs.Tables.{Tables}
 use Rattle.commands.specs.declared.command.Command.{Command}
@@ -15,11 +15,13 @@ use Rattle.commands.specs.declared.rows.StagedRow.{StagedRow}
 use Rattle.commands.specs.declared.rows.ReservedRow.{ReservedRow}
 use Rattle.table_words.specs.Found.{AreRows, only_if}
 use Rattle.table_words.specs.Typed.{ItemKey, same_item, item_key, BinKey, same_bin, bin_key, LotKey, same_lot, lot_key, RecallKey, same_recall, recall_key, StockKey, same_stock, stock_key, OrderKey, same_order, order_key, is_open_order, LineKey, same_line, line_key, StagedKey, same_staged, staged_key, ReservedKey, same_reserved, reserved_key}
+use Rattle.open_lines.specs.OpenLines.{Entries, orders_at, holds, are_apart, Gains, has_line_row}
 use Rattle.rules.specs.Slices.{counts_items, counts_bins}
 use Rattle.row_rules.specs.declared.slice.Rows.{Rows}
+use Rattle.row_rules.specs.declared.slice.Put.{Put}
 use Rattle.row_rules.specs.declared.slice.Slice.{Slice}
 use Rattle.slices.specs.Reading.{IsCount}
-pub use Rattle.slice_parts.specs.Parts.{is_among, with_name, with_names, items_named, orders_named, bins_named, whole_orders, day_opened, others, has_line_in, with_lines, is_ending, not_recalled, items_of_lots, with_staged}
+pub use Rattle.slice_parts.specs.Parts.{is_among, with_name, with_names, items_named, orders_named, bins_named, whole_orders, day_opened, others, other_names, has_line_in, with_lines, is_ending, not_recalled, items_of_lots, with_staged}
 
 -- Reads one after another
 
@@ -27,6 +29,15 @@ pub use Rattle.slice_parts.specs.Parts.{is_among, with_name, with_names, items_n
 abbrev pub Each : {R : Type 0} → (List ℕ → List R → Type 0) → List (List ℕ) → List R → Type 0
 Each P [] rows = rows ≡ []
 Each {R} P (k ∷ ks) rows = (xs : List R) × (ys : List R) × P k xs × Each P ks ys × (rows ≡ xs ++ ys)
+
+-- the row passes
+abbrev pub is_passed : {R : Type 0} → (R → Bool) → Option R → Bool
+is_passed test None = false
+is_passed test (Some r) = test r
+
+-- whether the order's row tells that it is open
+abbrev pub is_open_in : Tables → List ℕ → Bool
+is_open_in t o = is_passed is_open_order (t.order o)
 
 -- Names
 
@@ -89,6 +100,41 @@ pub record AreOrdered (named gtins : List (List ℕ)) (t : Tables) (order_rows :
   pub orders : order_rows ≡ own ++ rest
   pub lines : line_rows ≡ own_lines ++ rest_lines
 
+-- By what is known of the open orders
+
+-- the lines of orders for an item, one order after another
+abbrev pub AreLinesFor : List (List ℕ) → Tables → List ℕ → List LineRow → Type 0
+AreLinesFor orders t g line_rows = Each (λ o found. found ≡ listed (t.line o g)) (texts orders) line_rows
+
+-- those in the orders that may be open and are not named
+pub record AreLinesOfItem (known : Entries) (named : List (List ℕ)) (t : Tables) (g : List ℕ) (line_rows : List LineRow) : Type 0 where
+  pub once : are_apart (orders_at known g) ≡ true
+  pub lines : AreLinesFor (other_names named (orders_at known g)) t g line_rows
+
+-- and those of items, one item after another
+abbrev pub AreLinesOfItems : Entries → List (List ℕ) → List (List ℕ) → Tables → List LineRow → Type 0
+AreLinesOfItems known named gtins t line_rows = Each (λ g found. AreLinesOfItem known named t g found) (texts gtins) line_rows
+
+-- the rows of orders, one order after another
+abbrev pub AreOrders : List (List ℕ) → Tables → List OrderRow → Type 0
+AreOrders names t order_rows = Each (λ o found. AreRows {K = OrderKey} same_order order_key (λ k. same_text o k) t.order found) (texts names) order_rows
+
+-- the lines of the items in orders that may be open and are not named, and the rows of those orders
+pub record AreKnown (known : Entries) (named gtins : List (List ℕ)) (t : Tables) (order_rows : List OrderRow) (line_rows : List LineRow) : Type 0 where
+  pub lines : AreLinesOfItems known named gtins t line_rows
+  pub orders : AreOrders (with_names (λ (r : LineRow). r.order) line_rows []) t order_rows
+
+-- together with the orders named
+pub record AreKnownOrders (known : Entries) (named gtins : List (List ℕ)) (t : Tables) (order_rows : List OrderRow) (line_rows : List LineRow) : Type 0 where
+  pub own : List OrderRow
+  pub own_lines : List LineRow
+  pub rest : List OrderRow
+  pub rest_lines : List LineRow
+  pub is_own : AreNamed named t own own_lines
+  pub is_rest : AreKnown known named gtins t rest rest_lines
+  pub orders : order_rows ≡ own ++ rest
+  pub lines : line_rows ≡ own_lines ++ rest_lines
+
 -- Openings of a day
 
 -- of all lots those that end between the days and are not among the recalls of their items
@@ -108,6 +154,29 @@ pub record AreAffected (day : ℤ) (t : Tables) (gtins : List (List ℕ)) : Type
   pub staged : List StagedRow
   pub read : AreRows {K = StagedKey} same_staged staged_key (λ key. true) (λ key. t.staged key.0 key.1) staged
   pub items : gtins ≡ with_staged staged (items_of_lots ending)
+
+-- The orders that may be open
+
+-- an open order stands with the item of each of its lines
+abbrev pub Covers : Entries → Tables → Type 0
+Covers known t = (o g : List ℕ) → is_open_in t o ≡ true → is_some (t.line o g) ≡ true → holds known g o ≡ true
+
+-- those of the tables, as they are read: all lines of the open orders
+pub record AreOpenLines (t : Tables) (known : Entries) : Type 0 where
+  pub all : List OrderRow
+  pub read : AreRows {K = OrderKey} same_order order_key (λ key. true) (λ key. only_if is_open_order (t.order key)) all
+  pub lines : List LineRow
+  pub lines_read : AreAllLines (map order_key all) t lines
+  pub added : Gains (has_line_row lines) [] known
+
+-- the lines of the open ones among these orders, which the tables have, are known
+abbrev pub KnowsOpen : List OrderRow → Tables → Entries → Type 0
+KnowsOpen orders t known = (g o : List ℕ) → is_among (map order_key (filter is_open_order orders)) o ≡ true → is_some (t.line o g) ≡ true → holds known g o ≡ true
+
+-- so are the lines that a change puts, and those of the orders that it puts
+pub record Knows (puts : Put) (t : Tables) (known : Entries) : Type 0 where
+  pub lines : (g o : List ℕ) → has_line_row puts.lines g o ≡ true → holds known g o ≡ true
+  pub opened : KnowsOpen puts.orders t known
 
 -- Slices
 
@@ -131,16 +200,16 @@ abbrev pub AreTouched : Command → Tables → List (List ℕ) → Type 0
 AreTouched command = AreTouchedOn (day_opened command) command
 
 -- the rows that the command asks for
-pub record AreSliced (command : Command) (t : Tables) (rows : Rows) : Type 0 where
+pub record AreSliced (known : Entries) (command : Command) (t : Tables) (rows : Rows) : Type 0 where
   pub gtins : List (List ℕ)
   pub touched : AreTouched command t gtins
   pub goods : AreGoods gtins t rows.items rows.lots rows.recalls rows.stock
   pub bins : AreBins (with_names (λ r. r.bin) rows.stock (bins_named command)) t rows.bins
-  pub ordered : AreOrdered (orders_named command) gtins t rows.orders rows.lines
+  pub ordered : AreKnownOrders known (orders_named command) gtins t rows.orders rows.lines
   pub booked : AreBooked gtins t rows.staged rows.reserved
 
 -- the slice of a command, as it is read
-pub record IsSliceIn (command : Command) (t : Tables) (s : Slice) : Type 0 where
+pub record IsSliceIn (known : Entries) (command : Command) (t : Tables) (s : Slice) : Type 0 where
   pub meta : t.meta ≡ Some s.meta
   pub counted : AreCounts command t s.items s.bins
-  pub rows : AreSliced command t s.rows
+  pub rows : AreSliced known command t s.rows

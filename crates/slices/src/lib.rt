@@ -3,6 +3,8 @@
 #![tactic(auto)]
 
 mod heads;
+mod known_lines;
+mod known_orders;
 mod opening;
 mod order_slices;
 mod query;
@@ -16,6 +18,7 @@ mod sought;
 mod sought_rows;
 
 pub use heads::{Head, read_head};
+pub use known_lines::{know_put, read_open_lines};
 pub use query::{Query, find};
 pub use shipped::read_shipped;
 pub use shown_orders::OrderQuery;

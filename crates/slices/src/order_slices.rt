@@ -14,7 +14,8 @@ use std::alloc::{AllocError, Global};
 use table_words::error::TableFault;
 use values::{Gtin, Name};
 
-fn add_line(found: &mut Vec<LineRow>, row: Option<LineRow>) -> Result<(), AllocError>
+/// One line more, where there is one.
+pub fn add_line(found: &mut Vec<LineRow>, row: Option<LineRow>) -> Result<(), AllocError>
     ensures { OnOk result (found.new.items ≡ found.old.items ++ listed row) }
 {
     if let Some(row) = row {
@@ -60,7 +61,7 @@ fn lines_of_orders<S: Alter>(
 }
 
 /// The orders named, and their lines.
-fn read_named<S: Alter>(
+pub fn read_named<S: Alter>(
     alloc: Global,
     tx: &mut Transaction<'_, S>,
     named: &[Name],

@@ -1,6 +1,6 @@
 //! The slice of the tables that a command is decided by.
 
-ghost use Rattle.std.specs.Prelude.{◌≡◌, ℤ, false, List, Some, Err, OnOk, IfOk, IfErr, IsTrue};
+ghost use Rattle.std.specs.Prelude.{◌≡◌, ◌&&◌, ℤ, false, List, Some, Err, OnOk, IfOk, IfErr, IsTrue};
 ghost use Rattle.sqlite.specs.State.{HasCleanDisk, Survives, KeepsCommit, IsUnchanged};
 ghost use Rattle.sqlite.specs.Held.{state};
 ghost use Rattle.table_words.specs.Steps.{IsReady};
@@ -11,17 +11,20 @@ ghost use Rattle.machine.specs.Once.{IsHistory};
 ghost use Rattle.machine.specs.Tables.{tables_of};
 ghost use Rattle.rules.specs.Slices.{IsSlice};
 ghost use Rattle.slices.specs.Books.{IsBooksOf};
+ghost use Rattle.table_words.specs.Typed.{tables_in};
+ghost use Rattle.open_lines.specs.OpenLines.{Loses, has_closed_row, has_line_row};
 ghost use Rattle.slices.specs.Reading.{IsRead};
-ghost use Rattle.slices.specs.Slicing.{AreGoods, AreBooked, AreBins, AreCounts, AreTaken, AreTouched, AreSliced, IsSliceIn, bins_named, with_names};
+ghost use Rattle.slices.specs.Slicing.{AreGoods, AreBooked, AreBins, AreCounts, AreTaken, AreTouched, AreSliced, Covers, IsSliceIn, bins_named, with_names};
 
 use crate::opening::affected_items;
-use crate::order_slices::read_orders;
+use crate::known_orders::read_known_orders;
 use crate::reading::{count_bins, count_items, meta_row};
 use crate::sought::{seek_all, seek_both};
 use commands::{
     BinRow, Command, ItemRow, LineRow, Listed, LotRow, MetaRow, OrderRow, RecallRow, ReservedRow,
     StagedRow, StockRow,
 };
+use open_lines::OpenLines;
 use rules::{Rows, Slice};
 use slice_parts::naming::{bins_with, items_with, named_orders, whole_orders};
 use slice_parts::opening::day_opened;
@@ -158,16 +161,17 @@ fn read_counts<S: Alter>(
 fn read_rows<S: Alter>(
     alloc: Global,
     tx: &mut Transaction<'_, S>,
+    known: &OpenLines,
     command: &Command,
 ) -> Result<Rows, TableFault>
     ensures same_reference { tx.new.conn.ghost_name ≡ tx.old.conn.ghost_name }
-    ensures read { IsRead (λ t rows. AreSliced command.now t rows) (state S.Store tx.old.conn.now) (state S.Store tx.new.conn.now) result }
+    ensures read { IsRead (λ t rows. AreSliced known.now command.now t rows) (state S.Store tx.old.conn.now) (state S.Store tx.new.conn.now) result }
 {
     let gtins = touched_items(alloc, tx, command)?;
     let named = named_orders(alloc, command)?;
     let goods = read_goods(alloc, tx, gtins.as_slice())?;
     let bins = read_bins(alloc, tx, command, goods.3.as_slice())?;
-    let ordered = read_orders(alloc, tx, named.as_slice(), gtins.as_slice())?;
+    let ordered = read_known_orders(alloc, tx, known, named.as_slice(), gtins.as_slice())?;
     let booked = read_booked(alloc, tx, gtins.as_slice())?;
     Ok(rows_read(goods, bins, ordered, booked))
 }
@@ -176,14 +180,15 @@ fn read_rows<S: Alter>(
 fn read_rest<S: Alter>(
     alloc: Global,
     tx: &mut Transaction<'_, S>,
+    known: &OpenLines,
     command: &Command,
     meta: MetaRow,
 ) -> Result<Slice, TableFault>
     ensures same_reference { tx.new.conn.ghost_name ≡ tx.old.conn.ghost_name }
-    ensures read { IsRead (λ t s. (t.meta ≡ Some meta → IsSliceIn command.now t s)) (state S.Store tx.old.conn.now) (state S.Store tx.new.conn.now) result }
+    ensures read { IsRead (λ t s. (t.meta ≡ Some meta → IsSliceIn known.now command.now t s)) (state S.Store tx.old.conn.now) (state S.Store tx.new.conn.now) result }
 {
     let (items, bins) = read_counts(alloc, tx, command)?;
-    let rows = read_rows(alloc, tx, command)?;
+    let rows = read_rows(alloc, tx, known, command)?;
     Ok(Slice {
         meta,
         items,
@@ -196,26 +201,44 @@ fn read_rest<S: Alter>(
 fn slice_in<S: Alter>(
     alloc: Global,
     tx: &mut Transaction<'_, S>,
+    known: &OpenLines,
     command: &Command,
 ) -> Result<Slice, TableFault>
     ensures same_reference { tx.new.conn.ghost_name ≡ tx.old.conn.ghost_name }
-    ensures read { IsRead (λ t s. IsSliceIn command.now t s) (state S.Store tx.old.conn.now) (state S.Store tx.new.conn.now) result }
+    ensures read { IsRead (λ t s. IsSliceIn known.now command.now t s) (state S.Store tx.old.conn.now) (state S.Store tx.new.conn.now) result }
 {
     let meta = meta_row(alloc, tx)?;
-    read_rest(alloc, tx, command, meta)
+    read_rest(alloc, tx, known, command, meta)
 }
 
-/// The slice of the tables that the command is decided by. It changes nothing. `Foreign` where a
-/// row that is read breaks a rule of its values or the books have no row of their own.
+// Forgets the closed orders among the rows that were read.
+fn forget_met(known: &mut OpenLines, slice: &Result<Slice, TableFault>)
+    ensures met { IfOk slice.now (λ s. Loses (λ g o. has_closed_row s.rows.orders o && has_line_row s.rows.lines g o) known.old known.new) }
+    ensures unread { IfErr slice.now (λ e. known.new ≡ known.old) }
+{
+    match slice {
+        Ok(slice) => {
+            known.forget_closed(slice.rows.orders.as_slice(), slice.rows.lines.as_slice());
+        }
+        Err(_) => {}
+    }
+}
+
+/// The slice of the tables that the command is decided by, where the open orders are known by the items of their lines.
+/// It changes nothing of the tables; the closed orders that it meets are forgotten. `Foreign` where a row that is read
+/// breaks a rule of its values or the books have no row of their own.
 pub fn read_slice<S: Alter>(
     alloc: Global,
     tx: &mut Transaction<'_, S>,
+    known: &mut OpenLines,
     command: &Command,
 ) -> Result<Slice, TableFault>
     ensures same_reference { tx.new.conn.ghost_name ≡ tx.old.conn.ghost_name }
     ensures read { HasCleanDisk (state S.Store tx.new.conn.now) → IsTrue (state S.Store tx.old.conn.now).is_open
-        → (first : ℤ) (acts : List Act) (key : Key) → IsHistory first acts → IsBooksOf first acts (state S.Store tx.old.conn.now).now
+        → (first : ℤ) (acts : List Act) (key : Key) → IsHistory first acts → IsBooksOf first acts (state S.Store tx.old.conn.now).now → Covers known.old (tables_in (state S.Store tx.old.conn.now).now.trees)
         → IfOk result (IsSlice first (record { key = key; command = command.now }) acts (tables_of first acts)) }
+    ensures covers { HasCleanDisk (state S.Store tx.new.conn.now) → IsReady (state S.Store tx.old.conn.now).now → IsTrue (state S.Store tx.old.conn.now).is_open
+        → Covers known.old (tables_in (state S.Store tx.old.conn.now).now.trees) → Covers known.new (tables_in (state S.Store tx.old.conn.now).now.trees) }
     ensures fault { HasCleanDisk (state S.Store tx.new.conn.now) → IsTrue (state S.Store tx.old.conn.now).is_open
         → (first : ℤ) (acts : List Act) → IsBooksOf first acts (state S.Store tx.old.conn.now).now
         → IfErr result (λ e. e ≡ Foreign → ⊥) }
@@ -225,5 +248,7 @@ pub fn read_slice<S: Alter>(
         → KeepsCommit (state S.Store tx.old.conn.now) (state S.Store tx.new.conn.now) }
     ensures survives { Survives (state S.Store tx.old.conn.now) (state S.Store tx.new.conn.now) (λ _. ⊥) }
 {
-    slice_in(alloc, tx, command)
+    let slice = slice_in(alloc, tx, known, command);
+    forget_met(known, &slice);
+    slice
 }

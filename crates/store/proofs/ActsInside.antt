@@ -38,6 +38,10 @@ goes_from f old mid last same goes = record {
   typed = λ typed. goes.typed (subst (λ (db : Database). AreTyped db.trees) (sym same.0.now_is) typed);
 }
 
+pub goes_on_from : {X : Type 0} (f : Tables → Tables) (r : Result X Fault) (old mid last : State) → IsUnchanged old mid → OnOk r (Goes f mid last) → OnOk r (Goes f old last)
+goes_on_from f (Ok x) old mid last same goes = goes_from f old mid last same goes
+goes_on_from f (Err e) old mid last same goes = tt
+
 pub books_kept : (first : ℤ) (acts : List Act) (old mid : State) → IsUnchanged old mid → IsBooksOf first acts old.now → IsBooksOf first acts mid.now
 books_kept first acts old mid same books = subst (IsBooksOf first acts) (sym same.0.now_is) books
 

@@ -134,3 +134,8 @@ moved_stays g old new (inr left) at = left_stays (state g old) (state g new) lef
 
 pub stays_then : (a b c : State) → KeepsCommit a b × IsSettled b → (IsSettled b → KeepsCommit b c × IsSettled c) → KeepsCommit a c × IsSettled c
 stays_then a b c one two = let next = two one.1 in (kept_then a b c one.0 next.0, next.1)
+
+-- what hands rows over leaves the connection settled
+pub handed_stays : (old mid new : State) (r : Result (Unit {0}) RowsFault) → IsSettled old → IsUnchanged old mid → (IsReady mid.now → IsLeft mid new r) → KeepsCommit old new × IsSettled new
+handed_stays old mid new r at same left =
+    stays_then old mid new (left_stays old mid (inl same) at) (left_stays mid new (left_or_undone mid new r (left (subst IsReady (sym same.0.now_is) (at.ready same.0.was_open)))))

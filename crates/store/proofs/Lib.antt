@@ -18,3 +18,6 @@ pub mod Listings
 pub mod BinOrder
 pub mod ShipmentOrder
 pub mod ShipmentsHanded
+pub mod LinesWritten
+pub mod LinesKnown
+pub mod BooksWhole

@@ -11,3 +11,4 @@ pub mod Heads
 pub mod Shipments
 pub mod EachFaults
 pub mod Handing
+pub mod Knowing

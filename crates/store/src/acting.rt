@@ -1,25 +1,30 @@
 //! An act as one transaction.
 
-ghost use Rattle.std.specs.Prelude.{◌≡◌, false, None, ℤ, List, IsTrue, OnOk, OnErr, IfOk, IfErr};
+ghost use Rattle.std.specs.Prelude.{◌≡◌, false, None, Some, ℤ, List, IsTrue, OnOk, OnErr, IfOk, IfErr};
 ghost use Rattle.sqlite.specs.State.{HasCleanDisk, Survives, KeepsCommit, IsUnchanged};
 ghost use Rattle.sqlite.specs.Held.{state};
 ghost use Rattle.commands.specs.Spelling.{key_text, spelling};
 ghost use Rattle.table_words.specs.Steps.{IsReady, Goes};
-ghost use Rattle.table_words.specs.Typed.{with_repeat};
+ghost use Rattle.table_words.specs.Typed.{tables_in, with_repeat};
 ghost use Rattle.machine.specs.Acts.{Act};
 ghost use Rattle.machine.specs.Once.{IsHistory, is_key_of, bearer, acts_after};
 ghost use Rattle.rules.specs.Slices.{AreOnce, applied};
+ghost use Rattle.changes.specs.Written.{change_written};
 ghost use Rattle.slices.specs.Books.{AreRowsOf, IsBooksOf};
+ghost use Rattle.slices.specs.Slicing.{Covers};
 ghost use Rattle.store.specs.Books.{KeepsBooks};
 ghost use Rattle.store.specs.Acting.{IsActedOn, IsActedInside, IsDecidedByRows};
+ghost use Rattle.store.specs.Knowing.{HasLines, IsKnown, LeavesKnown};
 
+use crate::knowing::known_in;
 use crate::repeats::{earlier, find_open, keep_act};
 use crate::telling::{decided, told_again};
 use crate::{Fault, Reply};
 use changes::write_change;
 use commands::{Command, Key, Listed, spell};
+use open_lines::OpenLines;
 use rules::Change;
-use slices::read_slice;
+use slices::{know_put, read_slice};
 use sqlite::{Alter, Connection, Transaction};
 use std::alloc::Global;
 
@@ -32,11 +37,14 @@ use std::alloc::Global;
 pub fn act_once<S: Alter>(
     alloc: Global,
     conn: &mut Connection<S>,
+    lines: &mut Option<OpenLines>,
     key: &Key,
     command: &Command,
 ) -> Result<Reply, Fault>
     requires outside { conn.old.in_transaction ≡ false }
+    requires known { IsKnown lines.old (state S.Store conn.old) }
     ensures outside { conn.new.in_transaction ≡ false }
+    ensures known { IsKnown lines.new (state S.Store conn.new) }
     ensures acted { HasCleanDisk (state S.Store conn.new) → IsTrue (is_key_of key.now command.now) → (first : ℤ) (acts : List Act) → IsHistory first acts → KeepsBooks first acts (state S.Store conn.old)
         → IsActedOn first acts (record { key = key.now; command = command.now }) result (state S.Store conn.new) }
     ensures as_before { HasCleanDisk (state S.Store conn.new) → IsReady (state S.Store conn.old).now → OnErr result (KeepsCommit (state S.Store conn.old) (state S.Store conn.new)) }
@@ -45,7 +53,7 @@ pub fn act_once<S: Alter>(
 {
     let _outside = conn.is_autocommit();
     let mut tx = conn.transaction();
-    let reply = act_inside(alloc, &mut tx, key, command)?;
+    let reply = act_inside(alloc, &mut tx, lines, key, command)?;
     tx.commit()?;
     Ok(reply)
 }
@@ -54,33 +62,37 @@ pub fn act_once<S: Alter>(
 pub fn act_inside<S: Alter>(
     alloc: Global,
     tx: &mut Transaction<'_, S>,
+    lines: &mut Option<OpenLines>,
     key: &Key,
     command: &Command,
 ) -> Result<Reply, Fault>
     ensures same_reference { tx.new.conn.ghost_name ≡ tx.old.conn.ghost_name }
     ensures acted { HasCleanDisk (state S.Store tx.new.conn.now) → IsTrue (is_key_of key.now command.now) → (first : ℤ) (acts : List Act) → IsHistory first acts
-        → (IsTrue (state S.Store tx.old.conn.now).is_open → IsBooksOf first acts (state S.Store tx.old.conn.now).now)
+        → (IsTrue (state S.Store tx.old.conn.now).is_open → IsBooksOf first acts (state S.Store tx.old.conn.now).now) → (IsTrue (state S.Store tx.old.conn.now).is_open → HasLines lines.old (state S.Store tx.old.conn.now))
         → IsActedInside first acts (record { key = key.now; command = command.now }) result (state S.Store tx.old.conn.now) (state S.Store tx.new.conn.now) }
-    ensures ready { HasCleanDisk (state S.Store tx.new.conn.now) → (IsTrue (state S.Store tx.old.conn.now).is_open → IsReady (state S.Store tx.old.conn.now).now) → OnOk result (IsReady (state S.Store tx.new.conn.now).now) }
+    ensures known { HasCleanDisk (state S.Store tx.new.conn.now) → (IsTrue (state S.Store tx.old.conn.now).is_open → IsReady (state S.Store tx.old.conn.now).now)
+        → LeavesKnown lines.old lines.new result (state S.Store tx.old.conn.now) (state S.Store tx.new.conn.now) }
     ensures kept { HasCleanDisk (state S.Store tx.new.conn.now) → (IsTrue (state S.Store tx.old.conn.now).is_open → IsReady (state S.Store tx.old.conn.now).now) → KeepsCommit (state S.Store tx.old.conn.now) (state S.Store tx.new.conn.now) }
     ensures survives { Survives (state S.Store tx.old.conn.now) (state S.Store tx.new.conn.now) (λ _. ⊥) }
 {
     find_open(tx)?;
-    act_open(alloc, tx, key, command)
+    act_open(alloc, tx, lines, key, command)
 }
 
 // The key's row of `repeats` is looked up before every other rule.
 fn act_open<S: Alter>(
     alloc: Global,
     tx: &mut Transaction<'_, S>,
+    lines: &mut Option<OpenLines>,
     key: &Key,
     command: &Command,
 ) -> Result<Reply, Fault>
     ensures same_reference { tx.new.conn.ghost_name ≡ tx.old.conn.ghost_name }
     ensures acted { HasCleanDisk (state S.Store tx.new.conn.now) → IsTrue (is_key_of key.now command.now) → (first : ℤ) (acts : List Act) → IsHistory first acts
-        → IsTrue (state S.Store tx.old.conn.now).is_open → IsBooksOf first acts (state S.Store tx.old.conn.now).now
+        → IsTrue (state S.Store tx.old.conn.now).is_open → IsBooksOf first acts (state S.Store tx.old.conn.now).now → HasLines lines.old (state S.Store tx.old.conn.now)
         → IsActedInside first acts (record { key = key.now; command = command.now }) result (state S.Store tx.old.conn.now) (state S.Store tx.new.conn.now) }
-    ensures ready { HasCleanDisk (state S.Store tx.new.conn.now) → IsReady (state S.Store tx.old.conn.now).now → IsTrue (state S.Store tx.old.conn.now).is_open → OnOk result (IsReady (state S.Store tx.new.conn.now).now) }
+    ensures known { HasCleanDisk (state S.Store tx.new.conn.now) → IsReady (state S.Store tx.old.conn.now).now → IsTrue (state S.Store tx.old.conn.now).is_open
+        → LeavesKnown lines.old lines.new result (state S.Store tx.old.conn.now) (state S.Store tx.new.conn.now) }
     ensures kept { HasCleanDisk (state S.Store tx.new.conn.now) → IsReady (state S.Store tx.old.conn.now).now → IsTrue (state S.Store tx.old.conn.now).is_open
         → KeepsCommit (state S.Store tx.old.conn.now) (state S.Store tx.new.conn.now) }
     ensures survives { Survives (state S.Store tx.old.conn.now) (state S.Store tx.new.conn.now) (λ _. ⊥) }
@@ -88,28 +100,54 @@ fn act_open<S: Alter>(
     let found = earlier(alloc, tx, &key.text())?;
     match found {
         Some(row) => told_again(alloc, &row, command),
-        None => act_anew(alloc, tx, key, command),
+        None => act_anew(alloc, tx, lines, key, command),
     }
 }
 
-// A command whose key is new: its change is decided, and then written with its answer.
+// A command whose key is new, once what is known of the open orders has been read.
 fn act_anew<S: Alter>(
     alloc: Global,
     tx: &mut Transaction<'_, S>,
+    lines: &mut Option<OpenLines>,
     key: &Key,
     command: &Command,
 ) -> Result<Reply, Fault>
     ensures same_reference { tx.new.conn.ghost_name ≡ tx.old.conn.ghost_name }
     ensures acted { HasCleanDisk (state S.Store tx.new.conn.now) → IsTrue (is_key_of key.now command.now) → (first : ℤ) (acts : List Act) → IsHistory first acts
-        → IsTrue (state S.Store tx.old.conn.now).is_open → IsBooksOf first acts (state S.Store tx.old.conn.now).now → bearer key.now acts ≡ None
+        → IsTrue (state S.Store tx.old.conn.now).is_open → IsBooksOf first acts (state S.Store tx.old.conn.now).now → HasLines lines.old (state S.Store tx.old.conn.now) → bearer key.now acts ≡ None
         → IsActedInside first acts (record { key = key.now; command = command.now }) result (state S.Store tx.old.conn.now) (state S.Store tx.new.conn.now) }
-    ensures ready { HasCleanDisk (state S.Store tx.new.conn.now) → IsReady (state S.Store tx.old.conn.now).now → IsTrue (state S.Store tx.old.conn.now).is_open → OnOk result (IsReady (state S.Store tx.new.conn.now).now) }
+    ensures known { HasCleanDisk (state S.Store tx.new.conn.now) → IsReady (state S.Store tx.old.conn.now).now → IsTrue (state S.Store tx.old.conn.now).is_open
+        → LeavesKnown lines.old lines.new result (state S.Store tx.old.conn.now) (state S.Store tx.new.conn.now) }
     ensures kept { HasCleanDisk (state S.Store tx.new.conn.now) → IsReady (state S.Store tx.old.conn.now).now → IsTrue (state S.Store tx.old.conn.now).is_open
         → KeepsCommit (state S.Store tx.old.conn.now) (state S.Store tx.new.conn.now) }
     ensures survives { Survives (state S.Store tx.old.conn.now) (state S.Store tx.new.conn.now) (λ _. ⊥) }
 {
-    let change = change_of(alloc, tx, key, command)?;
-    let reply = accept(alloc, tx, key, command, &change);
+    let mut known = known_in(alloc, tx, lines)?;
+    let reply = act_known(alloc, tx, &mut known, key, command);
+    *lines = Some(known);
+    reply
+}
+
+// A command whose key is new: its change is decided, and then written with its answer.
+fn act_known<S: Alter>(
+    alloc: Global,
+    tx: &mut Transaction<'_, S>,
+    known: &mut OpenLines,
+    key: &Key,
+    command: &Command,
+) -> Result<Reply, Fault>
+    ensures same_reference { tx.new.conn.ghost_name ≡ tx.old.conn.ghost_name }
+    ensures acted { HasCleanDisk (state S.Store tx.new.conn.now) → IsTrue (is_key_of key.now command.now) → (first : ℤ) (acts : List Act) → IsHistory first acts
+        → IsTrue (state S.Store tx.old.conn.now).is_open → IsBooksOf first acts (state S.Store tx.old.conn.now).now → Covers known.old (tables_in (state S.Store tx.old.conn.now).now.trees) → bearer key.now acts ≡ None
+        → IsActedInside first acts (record { key = key.now; command = command.now }) result (state S.Store tx.old.conn.now) (state S.Store tx.new.conn.now) }
+    ensures known { HasCleanDisk (state S.Store tx.new.conn.now) → IsReady (state S.Store tx.old.conn.now).now → IsTrue (state S.Store tx.old.conn.now).is_open
+        → LeavesKnown (Some known.old) (Some known.new) result (state S.Store tx.old.conn.now) (state S.Store tx.new.conn.now) }
+    ensures kept { HasCleanDisk (state S.Store tx.new.conn.now) → IsReady (state S.Store tx.old.conn.now).now → IsTrue (state S.Store tx.old.conn.now).is_open
+        → KeepsCommit (state S.Store tx.old.conn.now) (state S.Store tx.new.conn.now) }
+    ensures survives { Survives (state S.Store tx.old.conn.now) (state S.Store tx.new.conn.now) (λ _. ⊥) }
+{
+    let change = change_of(alloc, tx, known, key, command)?;
+    let reply = accept_known(alloc, tx, known, key, command, &change);
     // A call, and before any `?`: dropped at the end of its scope it is dropped field by field (docs/GATE.md).
     drop(change);
     reply
@@ -119,24 +157,52 @@ fn act_anew<S: Alter>(
 fn change_of<S: Alter>(
     alloc: Global,
     tx: &mut Transaction<'_, S>,
+    known: &mut OpenLines,
     key: &Key,
     command: &Command,
 ) -> Result<Change, Fault>
     ensures same_reference { tx.new.conn.ghost_name ≡ tx.old.conn.ghost_name }
     ensures decided { HasCleanDisk (state S.Store tx.new.conn.now) → IsTrue (is_key_of key.now command.now) → (first : ℤ) (acts : List Act) → IsHistory first acts
-        → IsTrue (state S.Store tx.old.conn.now).is_open → IsBooksOf first acts (state S.Store tx.old.conn.now).now → bearer key.now acts ≡ None
+        → IsTrue (state S.Store tx.old.conn.now).is_open → IsBooksOf first acts (state S.Store tx.old.conn.now).now → Covers known.old (tables_in (state S.Store tx.old.conn.now).now.trees) → bearer key.now acts ≡ None
         → IsDecidedByRows first (record { key = key.now; command = command.now }) acts result }
+    ensures covers { HasCleanDisk (state S.Store tx.new.conn.now) → IsReady (state S.Store tx.old.conn.now).now → IsTrue (state S.Store tx.old.conn.now).is_open
+        → Covers known.old (tables_in (state S.Store tx.old.conn.now).now.trees) → Covers known.new (tables_in (state S.Store tx.old.conn.now).now.trees) }
     ensures same { HasCleanDisk (state S.Store tx.new.conn.now) → IsReady (state S.Store tx.old.conn.now).now → IsTrue (state S.Store tx.old.conn.now).is_open
         → OnOk result (IsUnchanged (state S.Store tx.old.conn.now) (state S.Store tx.new.conn.now)) }
     ensures kept { HasCleanDisk (state S.Store tx.new.conn.now) → IsReady (state S.Store tx.old.conn.now).now → IsTrue (state S.Store tx.old.conn.now).is_open
         → KeepsCommit (state S.Store tx.old.conn.now) (state S.Store tx.new.conn.now) }
     ensures survives { Survives (state S.Store tx.old.conn.now) (state S.Store tx.new.conn.now) (λ _. ⊥) }
 {
-    let slice = read_slice(alloc, tx, command)?;
+    let slice = read_slice(alloc, tx, known, command)?;
     let change = decided(alloc, &slice, key, command);
     // (as `change` above)
     drop(slice);
     change
+}
+
+// Writes what an accepted command changes; the orders that it opens are known before.
+fn accept_known<S: Alter>(
+    alloc: Global,
+    tx: &mut Transaction<'_, S>,
+    known: &mut OpenLines,
+    key: &Key,
+    command: &Command,
+    change: &Change,
+) -> Result<Reply, Fault>
+    ensures same_reference { tx.new.conn.ghost_name ≡ tx.old.conn.ghost_name }
+    ensures done { HasCleanDisk (state S.Store tx.new.conn.now) → IsReady (state S.Store tx.old.conn.now).now → IsTrue (state S.Store tx.old.conn.now).is_open → AreOnce change.now.put
+        → OnOk result (Goes (λ t. with_repeat (record { k = key_text key.now; act = change.now.meta.acts; spell = spelling command.now; reply = change.now.text }) (applied change.now t)) (state S.Store tx.old.conn.now) (state S.Store tx.new.conn.now)) }
+    ensures told { IfOk result (λ reply. reply ≡ record { text = change.now.text; repeated = false }) }
+    ensures known { HasCleanDisk (state S.Store tx.new.conn.now) → IsReady (state S.Store tx.old.conn.now).now → IsTrue (state S.Store tx.old.conn.now).is_open
+        → LeavesKnown (Some known.old) (Some known.new) result (state S.Store tx.old.conn.now) (state S.Store tx.new.conn.now) }
+    ensures fault { HasCleanDisk (state S.Store tx.new.conn.now) → IsTrue (state S.Store tx.old.conn.now).is_open → (first : ℤ) (acts : List Act) → IsBooksOf first acts (state S.Store tx.old.conn.now).now
+        → IfErr result (λ e. e ≡ Fault.Store) }
+    ensures kept { HasCleanDisk (state S.Store tx.new.conn.now) → IsReady (state S.Store tx.old.conn.now).now → IsTrue (state S.Store tx.old.conn.now).is_open
+        → KeepsCommit (state S.Store tx.old.conn.now) (state S.Store tx.new.conn.now) }
+    ensures survives { Survives (state S.Store tx.old.conn.now) (state S.Store tx.new.conn.now) (λ _. ⊥) }
+{
+    know_put(alloc, tx, known, &change.put)?;
+    accept(alloc, tx, key, command, change)
 }
 
 // Writes what an accepted command changes, and then its row of `repeats`.
@@ -150,7 +216,8 @@ fn accept<S: Alter>(
     ensures same_reference { tx.new.conn.ghost_name ≡ tx.old.conn.ghost_name }
     ensures done { HasCleanDisk (state S.Store tx.new.conn.now) → IsReady (state S.Store tx.old.conn.now).now → AreOnce change.now.put
         → OnOk result (Goes (λ t. with_repeat (record { k = key_text key.now; act = change.now.meta.acts; spell = spelling command.now; reply = change.now.text }) (applied change.now t)) (state S.Store tx.old.conn.now) (state S.Store tx.new.conn.now)) }
-    ensures ready { HasCleanDisk (state S.Store tx.new.conn.now) → IsReady (state S.Store tx.old.conn.now).now → OnOk result (IsReady (state S.Store tx.new.conn.now).now) }
+    ensures written { HasCleanDisk (state S.Store tx.new.conn.now) → IsReady (state S.Store tx.old.conn.now).now
+        → OnOk result (Goes (λ t. with_repeat (record { k = key_text key.now; act = change.now.meta.acts; spell = spelling command.now; reply = change.now.text }) (change_written change.now t)) (state S.Store tx.old.conn.now) (state S.Store tx.new.conn.now)) }
     ensures told { IfOk result (λ reply. reply ≡ record { text = change.now.text; repeated = false }) }
     ensures fault { IfErr result (λ e. e ≡ Fault.Store) }
     ensures kept { HasCleanDisk (state S.Store tx.new.conn.now) → KeepsCommit (state S.Store tx.old.conn.now) (state S.Store tx.new.conn.now) }

@@ -35,6 +35,7 @@ use commands::{
     ShortView, Sink, StockView,
 };
 use label::{BusinessDay, Day};
+use open_lines::OpenLines;
 use slices::{OrderQuery, ShortQuery, StockQuery};
 use sqlite::{Alter, Connection};
 use std::alloc::Global;
@@ -50,11 +51,15 @@ use values::{Gtin, LotId, Name};
 pub struct Books<S: Alter> {
     conn: Connection<S>,
     day: BusinessDay,
+    // The orders that may be open, by the items of their lines; `None` until an act reads them.
+    lines: Option<OpenLines>,
     alloc: Global,
 }
 
 impl<S: Alter> Model for Books<S> {
+    ghost use Rattle.sqlite.specs.Held.{state};
     ghost use Rattle.store.specs.Connected.{Connected, connected_code, IsIdle};
+    ghost use Rattle.store.specs.Knowing.{IsKnown};
 
     ghost Value = { Connected S };
 
@@ -62,7 +67,7 @@ impl<S: Alter> Model for Books<S> {
 
     ghost view = { λ b. record { conn = b.conn; day = b.day } };
 
-    ghost invariant = { λ b. IsIdle b.conn };
+    ghost invariant = { λ b. IsIdle b.conn × IsKnown b.lines (state S.Store b.conn) };
 }
 
 /// Why no books were made or opened.
@@ -134,7 +139,12 @@ impl<S: Alter + Drop> Books<S> {
             }
         }
         conn.set_step_limit(None);
-        Ok(Books { conn, day, alloc })
+        Ok(Books {
+            conn,
+            day,
+            lines: None,
+            alloc,
+        })
     }
 
     /// Opens the books that are in the tables. Further tables that refer to none, views and indexes that refuse no row
@@ -174,6 +184,7 @@ impl<S: Alter + Drop> Books<S> {
             Ok(day) => Ok(Books {
                 conn: again,
                 day,
+                lines: None,
                 alloc,
             }),
             Err(fault) => Err(OpenFault {
@@ -193,6 +204,7 @@ impl<S: Alter> Books<S> {
         let Books {
             conn,
             day: _,
+            lines: _,
             alloc: _,
         } = self;
         conn
@@ -228,7 +240,7 @@ impl<S: Alter> Books<S> {
             → (first : ℤ) (acts : List Act) → IsHistory first acts → KeepsBooks first acts (state S.Store self.old.conn)
             → AreRowsOf first (acts_after first acts (record { key = key.now; command = command.now })) trees) }
     {
-        match act_once(self.alloc, &mut self.conn, key, command) {
+        match act_once(self.alloc, &mut self.conn, &mut self.lines, key, command) {
             Ok(reply) => {
                 let day = day_left(self.day, command, reply.repeated);
                 self.day = day;
@@ -263,12 +275,16 @@ impl<S: Alter> Books<S> {
             → AreRowsOf first (acts_after_file first acts (rows_of rows.now)) trees) }
     {
         every_row_is_sound(rows);
-        match file_once(self.alloc, &mut self.conn, self.day, rows) {
+        match file_once(self.alloc, &mut self.conn, &mut self.lines, self.day, rows) {
             Ok(filed) => {
                 self.day = filed.day;
                 Ok(filed.tally)
             }
-            Err(why) => Err(why),
+            Err(why) => {
+                // What the rows before it closed is open again.
+                self.lines = None;
+                Err(why)
+            }
         }
     }
 

@@ -7,7 +7,7 @@ ghost use Rattle.table_words.specs.Steps.{IsReady};
 ghost use Rattle.machine.specs.Acts.{Act};
 ghost use Rattle.machine.specs.Once.{IsHistory};
 ghost use Rattle.machine.specs.Views.{card_of_lot};
-ghost use Rattle.store.specs.Books.{KeepsBooks};
+ghost use Rattle.store.specs.Books.{KeepsBooks, IsSettled};
 ghost use Rattle.store.specs.Handing.{IsHandedOn, NoBooks};
 
 use crate::each_fault::EachFault;
@@ -29,6 +29,7 @@ pub fn hand_cards<S: Alter, K: Sink<CardRow>>(
     ensures handed { HasCleanDisk (state S.Store conn.new) → (first : ℤ) (acts : List Act) → IsHistory first acts → KeepsBooks first acts (state S.Store conn.old)
         → IsHandedOn first acts K.takes K.stops (card_of_lot first acts lot.now) sink.old sink.new result (state S.Store conn.new) }
     ensures as_before { HasCleanDisk (state S.Store conn.new) → IsReady (state S.Store conn.old).now → KeepsCommit (state S.Store conn.old) (state S.Store conn.new) }
+    ensures stays { HasCleanDisk (state S.Store conn.new) → IsSettled (state S.Store conn.old) → KeepsCommit (state S.Store conn.old) (state S.Store conn.new) × IsSettled (state S.Store conn.new) }
     ensures survives { Survives (state S.Store conn.old) (state S.Store conn.new) (NoBooks (state S.Store conn.old)) }
 {
     find_open_outside(conn)?;

@@ -11,7 +11,7 @@ ghost use Rattle.machine.specs.Once.{IsHistory};
 ghost use Rattle.machine.specs.Tables.{tables_of};
 ghost use Rattle.slices.specs.Books.{IsBooksOf};
 ghost use Rattle.slices.specs.Heads.{IsHead};
-ghost use Rattle.store.specs.Books.{KeepsBooks};
+ghost use Rattle.store.specs.Books.{KeepsBooks, IsSettled};
 ghost use Rattle.store.specs.Heads.{card_head_shown, notice_head_shown};
 ghost use Rattle.store.specs.Showing.{IsFoundAs, IsShownAs, IsShownOn};
 
@@ -36,6 +36,7 @@ pub fn show_card_head<S: Alter>(
     ensures shown { HasCleanDisk (state S.Store conn.new) → (first : ℤ) (acts : List Act) → IsHistory first acts → KeepsBooks first acts (state S.Store conn.old)
         → IsShownOn first acts (card_head_shown first acts lot.now) result (state S.Store conn.new) }
     ensures as_before { HasCleanDisk (state S.Store conn.new) → IsReady (state S.Store conn.old).now → KeepsCommit (state S.Store conn.old) (state S.Store conn.new) }
+    ensures stays { HasCleanDisk (state S.Store conn.new) → IsSettled (state S.Store conn.old) → KeepsCommit (state S.Store conn.old) (state S.Store conn.new) × IsSettled (state S.Store conn.new) }
     ensures survives { Survives (state S.Store conn.old) (state S.Store conn.new) (λ _. ⊥) }
 {
     let _outside = conn.is_autocommit();
@@ -57,6 +58,7 @@ pub fn show_notice_head<S: Alter>(
     ensures shown { HasCleanDisk (state S.Store conn.new) → (first : ℤ) (acts : List Act) → IsHistory first acts → KeepsBooks first acts (state S.Store conn.old)
         → IsShownOn first acts (notice_head_shown first acts lot.now) result (state S.Store conn.new) }
     ensures as_before { HasCleanDisk (state S.Store conn.new) → IsReady (state S.Store conn.old).now → KeepsCommit (state S.Store conn.old) (state S.Store conn.new) }
+    ensures stays { HasCleanDisk (state S.Store conn.new) → IsSettled (state S.Store conn.old) → KeepsCommit (state S.Store conn.old) (state S.Store conn.new) × IsSettled (state S.Store conn.new) }
     ensures survives { Survives (state S.Store conn.old) (state S.Store conn.new) (λ _. ⊥) }
 {
     let _outside = conn.is_autocommit();

@@ -10,6 +10,7 @@ mod each_fault;
 mod fault;
 mod filing;
 mod heads;
+mod knowing;
 mod outside;
 mod repeats;
 mod reply;

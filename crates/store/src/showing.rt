@@ -9,7 +9,7 @@ ghost use Rattle.machine.specs.Once.{IsHistory};
 ghost use Rattle.machine.specs.Standing.{today};
 ghost use Rattle.machine.specs.Tables.{tables_of};
 ghost use Rattle.slices.specs.Books.{IsBooksOf};
-ghost use Rattle.store.specs.Books.{KeepsBooks};
+ghost use Rattle.store.specs.Books.{KeepsBooks, IsSettled};
 ghost use Rattle.store.specs.Showing.{IsFoundAs, IsShownAs, IsShownOn};
 
 use crate::Fault;
@@ -32,6 +32,7 @@ pub fn show<Q: Query, S: Alter>(
     ensures shown { HasCleanDisk (state S.Store conn.new) → (first : ℤ) (acts : List Act) → IsHistory first acts → KeepsBooks first acts (state S.Store conn.old)
         → today first acts ≡ day → IsShownOn first acts (Q.shown first acts query.now) result (state S.Store conn.new) }
     ensures as_before { HasCleanDisk (state S.Store conn.new) → IsReady (state S.Store conn.old).now → KeepsCommit (state S.Store conn.old) (state S.Store conn.new) }
+    ensures stays { HasCleanDisk (state S.Store conn.new) → IsSettled (state S.Store conn.old) → KeepsCommit (state S.Store conn.old) (state S.Store conn.new) × IsSettled (state S.Store conn.new) }
     ensures survives { Survives (state S.Store conn.old) (state S.Store conn.new) (λ _. ⊥) }
 {
     let _outside = conn.is_autocommit();

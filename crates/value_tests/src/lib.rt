@@ -1,4 +1,5 @@
-//! The tests of what commands are made of, of values, labels, plans, commands and texts, and of the program's lines.
+//! The tests of what commands are made of, of values, labels, plans, commands and texts, of the program's lines, and of
+//! the orders that may be open.
 //!
 //! They are a crate of their own, since the tests of a crate are proved together with all of that crate once more.
 #![tactic(auto)]
@@ -15,6 +16,8 @@ mod hostile_labels;
 mod label_tests;
 #[cfg(test)]
 mod lines_tests;
+#[cfg(test)]
+mod open_lines_tests;
 #[cfg(test)]
 mod plain;
 #[cfg(test)]

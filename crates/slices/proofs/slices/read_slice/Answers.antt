@@ -1,20 +1,24 @@
 use Rattle.sqlite.specs.Held.{state}
 use Rattle.slices.specs.Slicing.{IsSliceIn}
 use Rattle.slices.proofs.ReadTold.{read_fault, read_same, read_kept}
-use Rattle.slices.proofs.SliceRead.{slice_read}
+use Rattle.slices.proofs.SliceRead.{slice_read, slice_covers}
 use Rattle.slices.proofs.slices.read_slice.Goals as goal
 
 pub returns-clause-read : goal.returns-clause-read
-returns-clause-read g c = slice_read c.args.command.now (state g.S.Store c.args.tx.now.conn.now) (state g.S.Store c.slice_in.new.tx.conn.now) c.slice_in.result c.slice_in.ensures.read
+returns-clause-read g c = slice_read c.args.known.now c.args.command.now (state g.S.Store c.args.tx.now.conn.now) (state g.S.Store c.slice_in-slice.new.tx.conn.now) c.slice_in-slice.result c.slice_in-slice.ensures.read
+
+pub returns-clause-covers : goal.returns-clause-covers
+returns-clause-covers g c =
+    slice_covers c.args.command.now (state g.S.Store c.args.tx.now.conn.now) (state g.S.Store c.slice_in-slice.new.tx.conn.now) c.slice_in-slice.result c.args.known.now c.forget_met.new.known c.slice_in-slice.ensures.read c.forget_met.ensures.met c.forget_met.ensures.unread
 
 pub returns-clause-fault : goal.returns-clause-fault
-returns-clause-fault g c clean = read_fault (λ t s. IsSliceIn c.args.command.now t s) (state g.S.Store c.args.tx.now.conn.now) (state g.S.Store c.slice_in.new.tx.conn.now) c.slice_in.result c.slice_in.ensures.read clean
+returns-clause-fault g c clean = read_fault (λ t s. IsSliceIn c.args.known.now c.args.command.now t s) (state g.S.Store c.args.tx.now.conn.now) (state g.S.Store c.slice_in-slice.new.tx.conn.now) c.slice_in-slice.result c.slice_in-slice.ensures.read clean
 
 pub returns-clause-same : goal.returns-clause-same
-returns-clause-same g c = read_same (λ t s. IsSliceIn c.args.command.now t s) (state g.S.Store c.args.tx.now.conn.now) (state g.S.Store c.slice_in.new.tx.conn.now) c.slice_in.result c.slice_in.ensures.read
+returns-clause-same g c = read_same (λ t s. IsSliceIn c.args.known.now c.args.command.now t s) (state g.S.Store c.args.tx.now.conn.now) (state g.S.Store c.slice_in-slice.new.tx.conn.now) c.slice_in-slice.result c.slice_in-slice.ensures.read
 
 pub returns-clause-kept : goal.returns-clause-kept
-returns-clause-kept g c = read_kept (λ t s. IsSliceIn c.args.command.now t s) (state g.S.Store c.args.tx.now.conn.now) (state g.S.Store c.slice_in.new.tx.conn.now) c.slice_in.result c.slice_in.ensures.read
+returns-clause-kept g c = read_kept (λ t s. IsSliceIn c.args.known.now c.args.command.now t s) (state g.S.Store c.args.tx.now.conn.now) (state g.S.Store c.slice_in-slice.new.tx.conn.now) c.slice_in-slice.result c.slice_in-slice.ensures.read
 
 pub returns-clause-survives : goal.returns-clause-survives
-returns-clause-survives g c = c.slice_in.ensures.read.survives
+returns-clause-survives g c = c.slice_in-slice.ensures.read.survives

@@ -6,6 +6,7 @@ use Rattle.table_words.specs.Steps.{Goes}
 use Rattle.table_words.specs.Typed.{with_repeat}
 use Rattle.table_words.proofs.CallLemmas.{goes_then, kept_then}
 use Rattle.rules.specs.Slices.{applied}
+use Rattle.changes.specs.Written.{change_written}
 use Rattle.store.proofs.FaultsTold.{fault_is_store}
 use Rattle.store.proofs.acting.accept.Goals as goal
 
@@ -44,8 +45,14 @@ returns-in_err-keep_act-clause-kept g c clean =
     let was : HasCleanDisk mid = omega (arith, clean, c.keep_act.ensures.survives.clean) in
     kept_then old mid new (c.in_ok-write_change.ensures.kept was) (c.in_err-keep_act.ensures.kept clean)
 
-pub returns-clause-ready : goal.returns-clause-ready
-returns-clause-ready g c clean ready =
+pub returns-clause-written : goal.returns-clause-written
+returns-clause-written g c clean ready =
+    let old = state g.S.Store c.args.tx.now.conn.now in
     let mid = state g.S.Store c.write_change.new.tx.conn.now in
+    let new = state g.S.Store c.keep_act.new.tx.conn.now in
+    let change = c.args.change.now in
     let was : HasCleanDisk mid = omega (arith, clean, c.keep_act.ensures.survives.clean) in
-    (c.in_ok-keep_act.ensures.done clean (c.in_ok-write_change.ensures.ready was ready)).ready
+    let wrote = c.in_ok-write_change.ensures.written was ready in
+    subst (λ (s : List ℕ). Goes (λ t. with_repeat (record { k = key_text c.args.key.now; act = change.meta.acts; spell = s; reply = change.text }) (change_written change t)) old new)
+    (c.from_vec.ensures ∙ c.in_ok-spelled.ensures)
+    (goes_then (change_written change) (with_repeat (record { k = key_text c.args.key.now; act = change.meta.acts; spell = c.from_vec.result; reply = change.text })) old mid new wrote (c.in_ok-keep_act.ensures.done clean wrote.ready))

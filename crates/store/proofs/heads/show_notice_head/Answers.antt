@@ -13,7 +13,8 @@ use Rattle.store.specs.Heads.{notice_head_shown}
 use Rattle.store.specs.Showing.{IsFoundAs, IsShownOn}
 use Rattle.store.specs.declared.fault.Fault.{Fault}
 use Rattle.store.proofs.ActsWhole.{begun_state, LooksOnly, undone_kept}
-use Rattle.store.proofs.ShownWhole.{found_as, found_shown}
+use Rattle.store.proofs.HandedOn.{Stays}
+use Rattle.store.proofs.ShownWhole.{look_stays, found_as, found_shown}
 use Rattle.store.proofs.heads.show_notice_head.Goals as goal
 
 abbrev IsAny : ℤ → List Act → Type 0
@@ -46,4 +47,14 @@ returns-clause-as_before g c =
     let new = state g.S.Store c.rollback.new.self.0 in
     let is = begun_state g.S.Store c.args.conn.now c.transaction-tx.result.conn.now c.transaction-tx.ensures.begun in
     let whole : LooksOnly old new = undone_kept old begun last new is c.find_head-found.ensures.kept c.rollback.ensures.survives c.rollback.ensures.undone in
+    search (rules, whole)
+
+pub returns-clause-stays : goal.returns-clause-stays
+returns-clause-stays g c =
+    let old = state g.S.Store c.args.conn.now in
+    let begun = state g.S.Store c.transaction-tx.result.conn.now in
+    let last = state g.S.Store c.find_head-found.new.tx.conn.now in
+    let new = state g.S.Store c.rollback.new.self.0 in
+    let is = begun_state g.S.Store c.args.conn.now c.transaction-tx.result.conn.now c.transaction-tx.ensures.begun in
+    let whole : Stays old new = look_stays old begun last new is c.find_head-found.ensures.kept c.rollback.ensures.survives c.rollback.ensures.undone in
     search (rules, whole)

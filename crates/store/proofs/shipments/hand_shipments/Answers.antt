@@ -101,3 +101,21 @@ pub returns-clause-as_before : goal.returns-clause-as_before
 returns-clause-as_before g c clean at =
     let stays = c.shipments.invariant.3 clean at in
     stays.0
+
+pub returns-in_err-units-clause-stays : goal.returns-in_err-units-clause-stays
+returns-in_err-units-clause-stays g c clean at =
+    let was : HasCleanDisk (state g.S.Store c.shipments.conn) = omega (arith, clean, c.next_shipped.ensures.survives.clean) in
+    stays_then (state g.S.Store c.args.conn.now) (state g.S.Store c.shipments.conn) (state g.S.Store c.next_shipped.new.conn) (c.shipments.invariant.3 was at) (c.next_shipped.ensures.stays clean)
+
+pub returns-in_default-clause-stays : goal.returns-in_default-clause-stays
+returns-in_default-clause-stays g c clean at =
+    let was : HasCleanDisk (state g.S.Store c.shipments.conn) = omega (arith, clean, c.next_shipped.ensures.survives.clean) in
+    stays_then (state g.S.Store c.args.conn.now) (state g.S.Store c.shipments.conn) (state g.S.Store c.next_shipped.new.conn) (c.shipments.invariant.3 was at) (c.next_shipped.ensures.stays clean)
+
+pub returns-in_err-take-clause-stays : goal.returns-in_err-take-clause-stays
+returns-in_err-take-clause-stays g c clean at =
+    let was : HasCleanDisk (state g.S.Store c.shipments.conn) = omega (arith, clean, c.next_shipped.ensures.survives.clean) in
+    stays_then (state g.S.Store c.args.conn.now) (state g.S.Store c.shipments.conn) (state g.S.Store c.next_shipped.new.conn) (c.shipments.invariant.3 was at) (c.next_shipped.ensures.stays clean)
+
+pub returns-clause-stays : goal.returns-clause-stays
+returns-clause-stays g c clean at = c.shipments.invariant.3 clean at

@@ -12,6 +12,7 @@ use Rattle.store.specs.Books.{HoldsBooks, KeepsBooks, AreRowsOf, IsClean}
 use Rattle.table_words.specs.Steps.{IsReady}
 use Rattle.store.specs.Connected.{Connected}
 use Rattle.store.proofs.ActsWhole.{kept_acts}
+use Rattle.store.proofs.BooksWhole.{idle_then}
 use Rattle.store.proofs.DayTold.{day_told}
 use Rattle.store.proofs.books.Books.act.Goals as goal
 
@@ -54,3 +55,6 @@ returns-in-Err-clause-survives g c =
 pub returns-in-Err-clause-as_before : goal.returns-in-Err-clause-as_before
 returns-in-Err-clause-as_before g c =
     subst (λ b. IsClean g.S.Store (record { conn = c.act_once.new.conn; day = c.self.inside.day }) → IsReady (state g.S.Store b.conn).now → KeepsCommit (state g.S.Store b.conn) (state g.S.Store c.act_once.new.conn)) c.self.view_is c.in-Err.ensures.as_before
+
+pub invariant_of-self : goal.invariant_of-self
+invariant_of-self g c = (idle_then g.S.Store c.self.inside.conn c.act_once.new.conn c.in-Ok.ensures.survives c.in-Ok.ensures.outside c.self.invariant.0, c.in-Ok.ensures.known)

@@ -14,6 +14,7 @@ use Rattle.store.specs.Connected.{Connected}
 use Rattle.store.specs.Filing.{rows_of, AreKeysOf}
 use Rattle.machine.proofs.histories.Runs.{history_file}
 use Rattle.store.proofs.ActsWhole.{kept_acts}
+use Rattle.store.proofs.BooksWhole.{idle_then, known_unread}
 use Rattle.store.proofs.FilesWhole.{file_answered, file_faulted}
 use Rattle.store.proofs.books.Books.act_all.Goals as goal
 
@@ -55,3 +56,6 @@ returns-in-Err-clause-history g c keys first acts history = history_file first a
 pub returns-in-Err-clause-as_before : goal.returns-in-Err-clause-as_before
 returns-in-Err-clause-as_before g c =
     subst (λ b. IsClean g.S.Store (record { conn = c.file_once.new.conn; day = c.self.inside.day }) → IsReady (state g.S.Store b.conn).now → KeepsCommit (state g.S.Store b.conn) (state g.S.Store c.file_once.new.conn)) c.self.view_is c.in-Err.ensures.as_before
+
+pub invariant_of-self : goal.invariant_of-self
+invariant_of-self g c = (idle_then g.S.Store c.self.inside.conn c.file_once.new.conn c.in-Ok.ensures.survives c.in-Ok.ensures.outside c.self.invariant.0, c.in-Ok.ensures.known)

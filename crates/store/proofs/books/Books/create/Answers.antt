@@ -1,8 +1,10 @@
-use Rattle.std.proofs.Common.{[], Err, ap, sym, ◌∙◌}
+use Rattle.std.proofs.Common.{[], Err, ap, sym, ◌∙◌, rules}
+use Rattle.sqlite.specs.Held.{state}
 use Rattle.table_words.specs.declared.error.TableFault.TheVariants.{Foreign as ForeignTable}
 use Rattle.store.specs.Books.{AreRowsOf}
 use Rattle.store.specs.Faults.{fault_of}
 use Rattle.tables.specs.declared.opening.Leftover.TheVariants as left
+use Rattle.store.proofs.BooksWhole.{known_unread, settled_books}
 use Rattle.store.proofs.OpenedBooks.{foreign_if, same_err, either_told, unlimited_books, unlimited_survives}
 use Rattle.store.proofs.books.Books.create.Goals as goal
 
@@ -24,3 +26,10 @@ returns-in-Err-clause-left g c = let made = c.in-Err.ensures in record { outside
 
 pub returns-in-Err-clause-fault : goal.returns-in-Err-clause-fault
 returns-in-Err-clause-fault g c = either_told c.in-Err.fault c.from.result c.from.ensures
+
+pub invariant_of-result : goal.invariant_of-result
+invariant_of-result g c = (
+  search rules,
+  known_unread (state g.S.Store c.set_step_limit.new.self)
+      (λ clean. settled_books c.args.day [] (state g.S.Store c.set_step_limit.new.self) (unlimited_books g.S.Store c.make_tables.new.conn c.set_step_limit.new.self c.args.day c.set_step_limit.ensures c.in-Ok.ensures.made clean).0),
+)

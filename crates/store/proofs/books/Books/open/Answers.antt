@@ -1,9 +1,10 @@
-use Rattle.std.proofs.Common.{inl, inr, sym, subst, ◌∙◌, arith}
+use Rattle.std.proofs.Common.{inl, inr, sym, subst, ◌∙◌, arith, rules}
 use Rattle.sqlite.specs.Held.{state}
 use Rattle.sqlite.specs.State.{HasCleanDisk}
 use Rattle.sqlite.specs.Tree.{Trees}
 use Rattle.machine.specs.Standing.{today}
 use Rattle.store.specs.Opening.{HasDay}
+use Rattle.store.proofs.BooksWhole.{known_unread, settled_reopened}
 use Rattle.store.proofs.OpenedBooks.{reopened, keeps_books, has_day, one_day, foreign_if, store_else, either_told, left_over}
 use Rattle.store.proofs.books.Books.open.Goals as goal
 
@@ -85,3 +86,12 @@ pub returns-in-Ok-settle-clause-indexes : goal.returns-in-Ok-settle-clause-index
 returns-in-Ok-settle-clause-indexes g c clean =
     let before : HasCleanDisk (state g.S.Store c.in-Ok.again) = omega (arith, clean, c.settle.ensures.survives.clean) in
     c.in-Ok-settle.ensures.indexes clean (c.in-Ok.ensures.ready before)
+
+pub invariant_of-result : goal.invariant_of-result
+invariant_of-result g c =
+    let was = c.in-Ok.ensures in
+    let read = c.settle.ensures in (
+      search rules,
+      known_unread (state g.S.Store c.settle.new.conn)
+          (settled_reopened g.S.Store c.args.conn c.settle.new.conn (reopened g.S.Store c.args.conn c.in-Ok.again c.settle.new.conn was.ready was.opens was.same was.crash was.clean was.shield read.kept read.survives read.outside)),
+    )

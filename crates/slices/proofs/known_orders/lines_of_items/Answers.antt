@@ -1,0 +1,41 @@
+use Rattle.std.proofs.Common.{Vec, Global, ◌≡◌, ℕ, ◌+◌, ◌<◌, length, take, List, [], ◌∷◌, ◌++◌, Ok, sym, ap, subst, ◌∙◌, arith}
+use Rattle.std.proofs.lemmas.List.{take_all}
+use Rattle.commands.specs.declared.rows.LineRow.{LineRow}
+use Rattle.sqlite.specs.Held.{state}
+use Rattle.sqlite.specs.declared.error.Error.TheVariants.{SqliteFailure}
+use Rattle.sqlite.specs.declared.error.ErrorCode.TheVariants.{OutOfMemory}
+use Rattle.slices.specs.Reading.{IsRead}
+use Rattle.slices.specs.Slicing.{Each, texts, AreLinesOfItem, AreLinesOfItems}
+use Rattle.slices.proofs.ReadSteps.{has_read, read_on, so_told, fails_later, no_room_left}
+use Rattle.slices.proofs.SeekSteps.{seek_step, each_place}
+use Rattle.slices.proofs.known_orders.lines_of_items.Goals as goal
+
+pub returns-in_err-rows-clause-read : goal.returns-in_err-rows-clause-read
+returns-in_err-rows-clause-read g c = fails_later (has_read c.loop-gtin.invariant.1) c.from_residual.ensures c.in_err-rows.ensures.read
+
+pub returns-in_err-extend_from_slice-clause-read : goal.returns-in_err-extend_from_slice-clause-read
+returns-in_err-extend_from_slice-clause-read g c = no_room_left (SqliteFailure OutOfMemory) (read_on (has_read c.loop-gtin.invariant.1) c.in_ok-rows.ensures.read) c.from_residual-in_err-extend_from_slice.ensures
+
+pub loop-gtin-preserved : goal.loop-gtin-preserved
+loop-gtin-preserved g c =
+    let old = state g.S.Store c.args.tx.now.conn.now in
+    let mid = state g.S.Store c.loop-gtin.tx.conn.now in
+    let new = state g.S.Store c.lines_of_item.new.tx.conn.now in
+    let known = c.args.known.now in
+    let named = c.args.named.now in
+    let gtins = c.args.gtins.now in
+    let i = c.loop-gtin.gtin-index in
+    let k = c.gtin-item.result in
+    let done : List (List ℕ) = texts (take i gtins) in
+    let less : i < length gtins = omega arith in
+    let step = seek_step (λ j t rows. AreLinesOfItem known named t j rows) {X = Vec LineRow Global} (λ v. v.items) old mid new done k c.loop-gtin.found.items c.in_ok-rows.rows c.loop-gtin.invariant.1 c.in_ok-rows.ensures.read in
+    let grown : c.extend_from_slice.new.self.items ≡ c.loop-gtin.found.items ++ c.in_ok-rows.rows.items = c.in_ok-extend_from_slice.ensures.items ∙ ap (λ l. c.loop-gtin.found.items ++ l) c.as_slice.ensures.value in
+    let next : IsRead {X = List LineRow} (λ t rows. AreLinesOfItems known named (take (i + 1) gtins) t rows) old new (Ok c.extend_from_slice.new.self.items) =
+    subst (λ (l : List (List ℕ)). IsRead {X = List LineRow} (λ t rows. Each (λ j found. AreLinesOfItem known named t j found) l rows) old new (Ok c.extend_from_slice.new.self.items)) (sym (each_place {X = List ℕ} (λ x. x) gtins i k less c.gtin-item.is))
+    (subst (λ (xs : List LineRow). IsRead {X = List LineRow} (λ t rows. Each (λ j found. AreLinesOfItem known named t j found) (done ++ k ∷ []) rows) old new (Ok xs)) (sym grown) step) in
+    (c.in_ok-rows.ensures.same_reference ∙ c.loop-gtin.invariant.0, next)
+
+pub returns-clause-read : goal.returns-clause-read
+returns-clause-read g c =
+    let all : take c.loop-gtin.gtin-index c.args.gtins.now ≡ c.args.gtins.now = take_all _ c.args.gtins.now c.loop-gtin-test.false in
+    so_told {X = List LineRow} (rw all at c.loop-gtin.invariant.1) (λ t h. h)

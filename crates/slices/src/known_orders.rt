@@ -1,0 +1,105 @@
+//! The rows of orders and of their lines that a slice has, by what is known of the open orders.
+
+ghost use Rattle.std.specs.Prelude.{◌≡◌};
+ghost use Rattle.sqlite.specs.Held.{state};
+ghost use Rattle.slices.specs.Reading.{IsRead};
+ghost use Rattle.slices.specs.Slicing.{AreLinesFor, AreLinesOfItem, AreLinesOfItems, AreKnown, AreKnownOrders};
+
+use crate::order_slices::{add_line, read_named};
+use crate::reading::line_row;
+use crate::sought::seek_all;
+use commands::{LineRow, OrderRow};
+use open_lines::OpenLines;
+use slice_parts::order_names::{orders_of_lines, other_names};
+use sqlite::{Alter, Transaction};
+use std::alloc::Global;
+use table_words::error::TableFault;
+use values::{Gtin, Name};
+
+/// The lines of orders for the item.
+fn lines_for<S: Alter>(
+    alloc: Global,
+    tx: &mut Transaction<'_, S>,
+    orders: &[Name],
+    gtin: &Gtin,
+) -> Result<Vec<LineRow>, TableFault>
+    ensures same_reference { tx.new.conn.ghost_name ≡ tx.old.conn.ghost_name }
+    ensures read { IsRead (λ t rows. AreLinesFor orders.now t gtin.now rows.items) (state S.Store tx.old.conn.now) (state S.Store tx.new.conn.now) result }
+{
+    let mut found = Vec::new(alloc);
+    for order in orders {
+        let row = line_row(alloc, tx, order, gtin)?;
+        add_line(&mut found, row)?;
+    }
+    Ok(found)
+}
+
+/// The lines of the item in the orders that may be open and are not named.
+fn lines_of_item<S: Alter>(
+    alloc: Global,
+    tx: &mut Transaction<'_, S>,
+    known: &OpenLines,
+    named: &[Name],
+    gtin: &Gtin,
+) -> Result<Vec<LineRow>, TableFault>
+    ensures same_reference { tx.new.conn.ghost_name ≡ tx.old.conn.ghost_name }
+    ensures read { IsRead (λ t rows. AreLinesOfItem known.now named.now t gtin.now rows.items) (state S.Store tx.old.conn.now) (state S.Store tx.new.conn.now) result }
+{
+    let orders = other_names(alloc, known.orders_of(gtin), named)?;
+    lines_for(alloc, tx, orders.as_slice(), gtin)
+}
+
+/// The lines of the items in the orders that may be open and are not named.
+fn lines_of_items<S: Alter>(
+    alloc: Global,
+    tx: &mut Transaction<'_, S>,
+    known: &OpenLines,
+    named: &[Name],
+    gtins: &[Gtin],
+) -> Result<Vec<LineRow>, TableFault>
+    ensures same_reference { tx.new.conn.ghost_name ≡ tx.old.conn.ghost_name }
+    ensures read { IsRead (λ t rows. AreLinesOfItems known.now named.now gtins.now t rows.items) (state S.Store tx.old.conn.now) (state S.Store tx.new.conn.now) result }
+{
+    let mut found = Vec::new(alloc);
+    for gtin in gtins {
+        let rows = lines_of_item(alloc, tx, known, named, gtin)?;
+        found.extend_from_slice(rows.as_slice())?;
+    }
+    Ok(found)
+}
+
+/// The orders that may be open, are not named and have a line of one of the items, and those lines.
+fn read_known<S: Alter>(
+    alloc: Global,
+    tx: &mut Transaction<'_, S>,
+    known: &OpenLines,
+    named: &[Name],
+    gtins: &[Gtin],
+) -> Result<(Vec<OrderRow>, Vec<LineRow>), TableFault>
+    ensures same_reference { tx.new.conn.ghost_name ≡ tx.old.conn.ghost_name }
+    ensures read { IsRead (λ t rows. AreKnown known.now named.now gtins.now t rows.0.items rows.1.items) (state S.Store tx.old.conn.now) (state S.Store tx.new.conn.now) result }
+{
+    let lines = lines_of_items(alloc, tx, known, named, gtins)?;
+    let names = orders_of_lines(alloc, lines.as_slice())?;
+    let orders = seek_all::<OrderRow, S>(alloc, tx, names.as_slice())?;
+    Ok((orders, lines))
+}
+
+/// The orders named with all their lines, and the orders that may be open and have a line of one of the
+/// items with those lines.
+pub fn read_known_orders<S: Alter>(
+    alloc: Global,
+    tx: &mut Transaction<'_, S>,
+    known: &OpenLines,
+    named: &[Name],
+    gtins: &[Gtin],
+) -> Result<(Vec<OrderRow>, Vec<LineRow>), TableFault>
+    ensures same_reference { tx.new.conn.ghost_name ≡ tx.old.conn.ghost_name }
+    ensures read { IsRead (λ t rows. AreKnownOrders known.now named.now gtins.now t rows.0.items rows.1.items) (state S.Store tx.old.conn.now) (state S.Store tx.new.conn.now) result }
+{
+    let (mut orders, mut lines) = read_named(alloc, tx, named)?;
+    let (rest, rest_lines) = read_known(alloc, tx, known, named, gtins)?;
+    orders.extend_from_slice(rest.as_slice())?;
+    lines.extend_from_slice(rest_lines.as_slice())?;
+    Ok((orders, lines))
+}

@@ -1,0 +1,168 @@
+-- What is known of the open orders: after a call within a transaction, and at the transaction's end.
+use Rattle.std.proofs.Common.{◌≡◌, inl, inr, true, false, Ok, Err, Result, OnOk, refl, sym, ap, subst, ◌∙◌, IsTrue, arith}
+use Rattle.std.specs.Prelude.{Option, Some, None, IfSome}
+use Rattle.std.specs.Result.{IsErr}
+use Rattle.sqlite.specs.State.{State, HasCleanDisk, Shows, KeepsCommit, IsUnchanged, IsRolledBack, Survives}
+use Rattle.sqlite.specs.Steps.{FailsToCommit}
+use Rattle.sqlite.specs.Effect.{Database}
+use Rattle.sqlite.specs.Tree.{Trees}
+use Rattle.sqlite.specs.declared.error.Error.{Error}
+use Rattle.sqlite_trees.specs.View.{doubt}
+use Rattle.commands.specs.Tables.{Tables}
+use Rattle.commands.specs.declared.rows.RepeatRow.{RepeatRow}
+use Rattle.table_words.specs.Steps.{IsReady, Goes}
+use Rattle.table_words.specs.Typed.{tables_in, with_repeat}
+use Rattle.table_words.proofs.CallLemmas.{kept_then}
+use Rattle.row_rules.specs.declared.slice.Change.{Change}
+use Rattle.changes.specs.Written.{change_written}
+use Rattle.open_lines.specs.OpenLines.{Entries, Keeps}
+use Rattle.slices.specs.Slicing.{Covers, Knows}
+use Rattle.store.specs.Books.{IsSettled}
+use Rattle.store.specs.Knowing.{HasLines, IsKnown, GoesOnKnown, LeavesKnown}
+use Rattle.store.proofs.ActsWhole.{KeepsInside, begun_commit}
+use Rattle.store.proofs.HandedOn.{Stays, settled_back}
+use Rattle.store.proofs.LinesWritten.{covers_written}
+
+-- of the tables of a database
+abbrev LinesIn : Option Entries → Database → Type 0
+LinesIn known db = IfSome known (λ es. Covers es (tables_in db.trees))
+
+-- Within the transaction
+
+ok_to : {X E P Q : Type 0} (r : Result X E) → (P → Q) → OnOk r P → OnOk r Q
+ok_to (Ok x) f p = f p
+ok_to (Err e) f p = tt
+
+on_ok : {X E P : Type 0} (r : Result X E) → P → OnOk r P
+on_ok (Ok x) p = p
+on_ok (Err e) p = tt
+
+-- an error answers nothing
+pub none_answered : {X E : Type 0} (P : Type 0) (r : Result X E) → IsErr r → OnOk r P
+none_answered P (Ok x) none = absurd (let no = none in cc)
+none_answered P (Err e) is = tt
+
+pub known_if_err : {X E : Type 0} (known after : Option Entries) (r : Result X E) (old new : State) → IsErr r → (HasLines known old → HasLines after old) → LeavesKnown known after r old new
+known_if_err known after r old new is before = record { before = before; answered = none_answered _ r is }
+
+-- nothing was changed
+pub known_same : {X E : Type 0} (known : Option Entries) (r : Result X E) (old new : State) → IsUnchanged old new → IsReady old.now → LeavesKnown known known r old new
+known_same known r old new same ready = record {
+  before = λ h. h;
+  answered = on_ok r (same.0.was_open, subst IsReady (sym same.0.now_is) ready, same.0.mode, λ h. subst (LinesIn known) (sym same.0.now_is) h);
+}
+
+-- from the state that a read left as it was
+pub known_from : {X E : Type 0} (known mid_known after : Option Entries) (r : Result X E) (old mid new : State) → IsUnchanged old mid → (HasLines known old → HasLines mid_known old) → LeavesKnown mid_known after r mid new → LeavesKnown known after r old new
+known_from known mid_known after r old mid new same read leaves = record {
+  before = λ h. subst (LinesIn after) same.0.now_is (leaves.before (subst (LinesIn mid_known) (sym same.0.now_is) (read h)));
+  answered = ok_to r (λ a. (same.0.was_open, a.1, a.2 ∙ same.0.mode, λ h. a.3 (subst (LinesIn mid_known) (sym same.0.now_is) (read h)))) leaves.answered;
+}
+
+-- what is known of the tables that a read left as they were
+pub lines_kept : (known : Option Entries) (old mid : State) → IsUnchanged old mid → HasLines known old → HasLines known mid
+lines_kept known old mid same lines = subst (LinesIn known) (sym same.0.now_is) lines
+
+pub goes_known_from : {X E : Type 0} (known after : Option Entries) (r : Result X E) (old mid new : State) → IsUnchanged old mid → GoesOnKnown known after r mid new → GoesOnKnown known after r old new
+goes_known_from known after r old mid new same goes = ok_to r (λ a. (same.0.was_open, a.1, a.2 ∙ same.0.mode, λ h. a.3 (lines_kept known old mid same h))) goes
+
+-- a change is written
+pub known_written : {X E : Type 0} (known after : Entries) (change : Change) (row : RepeatRow) (r : Result X E) (old mid new : State) → IsUnchanged old mid → Keeps known after → Knows change.put (tables_in old.now.trees) after
+    → OnOk r (Goes (λ t. with_repeat row (change_written change t)) mid new) → LeavesKnown (Some known) (Some after) r old new
+known_written known after change row r old mid new same keeps knows wrote = record {
+  before = λ covers o g up there. keeps g o (covers o g up there);
+  answered = ok_to r (λ goes. (
+    same.0.was_open,
+    goes.ready,
+    goes.mode ∙ same.0.mode,
+    λ covers. subst (λ (t : Tables). Covers after t) (sym (goes.tables ∙ ap (λ (db : Database). with_repeat row (change_written change (tables_in db.trees))) same.0.now_is))
+        (covers_written change row (tables_in old.now.trees) known after covers keeps knows),
+  )) wrote;
+}
+
+-- The transaction's end
+
+module _ (old begun last new : State) (is : begun ≡ record old { in_transaction = true }) (before : Survives begun last (λ _. ⊥)) where
+  clean_first : HasCleanDisk last → HasCleanDisk old
+  clean_first clean =
+      let begun_clean : HasCleanDisk begun = omega (arith, clean, before.clean) in
+      sym (ap (λ (s : State). doubt s.is_clean) is) ∙ begun_clean
+
+  up_first : IsTrue begun.is_open → IsTrue old.is_open
+  up_first up = subst (λ b. IsTrue b) (ap (λ (s : State). s.is_open) is) up
+
+  now_is : begun.now ≡ old.now
+  now_is = ap (λ (s : State). s.now) is
+
+  module _ (known : Option Entries) (is_known : IsKnown known old) where
+    pub ready_begun : HasCleanDisk last → IsTrue begun.is_open → IsReady begun.now
+    ready_begun clean up = subst IsReady (sym now_is) ((is_known (clean_first clean)).0.ready (up_first up))
+
+    pub lines_begun : HasCleanDisk last → IsTrue begun.is_open → HasLines known begun
+    lines_begun clean up = subst (LinesIn known) (sym now_is) ((is_known (clean_first clean)).1 (up_first up))
+
+    module _ {Q : Trees → Type 0} (ends : Survives last new Q) where
+      last_clean : HasCleanDisk new → HasCleanDisk last
+      last_clean clean = omega (arith, clean, ends.clean)
+
+      -- it is committed
+      pub known_committed : (after : Option Entries) → (HasCleanDisk last → (IsTrue begun.is_open → IsReady begun.now) → IsTrue begun.is_open × IsReady last.now × (last.in_transaction ≡ begun.in_transaction) × (HasLines known begun → HasLines after last))
+          → (HasCleanDisk new → Shows last new last.now last.now false) → IsKnown after new
+      known_committed after inside shown clean =
+          let was = last_clean clean in
+          let goes = inside was (ready_begun was) in
+          let shows = shown clean in (
+            record { ready = λ _. subst IsReady (sym shows.now_is) goes.1; settled = λ _. shows.committed_is ∙ sym shows.now_is },
+            λ _. subst (LinesIn after) (sym shows.now_is) (goes.3 (lines_begun was goes.0)),
+          )
+
+      -- it is undone
+      kept_last : KeepsInside begun last → HasCleanDisk last → KeepsCommit old last
+      kept_last keeps was = kept_then old begun last (begun_commit old begun last new is) (keeps was (ready_begun was))
+
+      pub settled_undone : KeepsInside begun last → (HasCleanDisk new → IsRolledBack last new) → HasCleanDisk new → IsSettled new
+      settled_undone keeps undone clean =
+          let was = last_clean clean in
+          settled_back old last new (is_known (clean_first was)).0 (kept_last keeps was) (undone clean)
+
+      pub known_undone : (after : Option Entries) → (HasCleanDisk last → (IsTrue begun.is_open → IsReady begun.now) → HasLines known begun → HasLines after begun) → KeepsInside begun last → (HasCleanDisk new → IsRolledBack last new) → IsKnown after new
+      known_undone after inside keeps undone clean =
+          let was = last_clean clean in
+          let kept = kept_last keeps was in
+          let back = undone clean in
+          let at = is_known (clean_first was) in (
+            settled_undone keeps undone clean,
+            λ up.
+                let first_up : IsTrue old.is_open = kept.was_open (back.was_open up) in
+                let shows : new.now ≡ old.now = (back.undone up).0 ∙ kept.committed (back.was_open up) ∙ at.0.settled first_up in
+                subst (LinesIn after) (sym shows) (subst (LinesIn after) now_is (inside was (ready_begun was) (subst (LinesIn known) (sym now_is) (at.1 first_up)))),
+          )
+
+      -- the commit fails
+      rolled_back : (e : Error) → (HasCleanDisk last → (IsTrue begun.is_open → IsReady begun.now) → last.in_transaction ≡ begun.in_transaction) → (HasCleanDisk new → FailsToCommit last new e) → HasCleanDisk new → IsRolledBack last new
+      rolled_back e mode fails clean = by_failure (mode (last_clean clean) (ready_begun (last_clean clean))) (fails clean)
+        where
+          by_failure : last.in_transaction ≡ begun.in_transaction → FailsToCommit last new e → IsRolledBack last new
+          by_failure same (inl failed) = failed.3
+          by_failure same (inr late) = absurd (let inside : begun.in_transaction ≡ true = ap (λ (s : State). s.in_transaction) is in let out = late.1 in cc)
+
+      pub known_not_committed : (after : Option Entries) (e : Error) → (HasCleanDisk last → (IsTrue begun.is_open → IsReady begun.now) → HasLines known begun → HasLines after begun)
+          → (HasCleanDisk last → (IsTrue begun.is_open → IsReady begun.now) → last.in_transaction ≡ begun.in_transaction) → KeepsInside begun last → (HasCleanDisk new → FailsToCommit last new e) → IsKnown after new
+      known_not_committed after e inside mode keeps fails = known_undone after inside keeps (rolled_back e mode fails)
+
+      pub settled_not_committed : (e : Error) → (HasCleanDisk last → (IsTrue begun.is_open → IsReady begun.now) → last.in_transaction ≡ begun.in_transaction) → KeepsInside begun last → (HasCleanDisk new → FailsToCommit last new e)
+          → HasCleanDisk new → IsSettled new
+      settled_not_committed e mode keeps fails = settled_undone keeps (rolled_back e mode fails)
+
+-- A look leaves what is known
+
+pub known_stays : (known : Option Entries) (old new : State) {Q : Trees → Type 0} → Survives old new Q → Stays old new → IsKnown known old → IsKnown known new
+known_stays known old new survives stays is_known clean =
+    let was : HasCleanDisk old = omega (arith, clean, survives.clean) in
+    let at = is_known was in
+    let left = stays clean at.0 in (
+      left.1,
+      λ up.
+          let shows : new.now ≡ old.now = sym (left.1.settled up) ∙ left.0.committed up ∙ at.0.settled (left.0.was_open up) in
+          subst (LinesIn known) (sym shows) (at.1 (left.0.was_open up)),
+    )
