@@ -1,11 +1,12 @@
 //! A house that answers the day's requests.
 
-use crate::day::{BOOKED, DAY, MADE, Step};
+use crate::day::{ALL, BOOKED, MADE, Step, steps, steps_to};
 use crate::exchange::Exchange;
 use crate::fault::Fault;
 use crate::making::{made, opened};
 use crate::rows::has_rows;
 use crate::telling::{Told, begin, end};
+use crate::trial::again;
 use house::House;
 use sqlite::{Alter, Connection};
 use std::alloc::Global;
@@ -38,7 +39,7 @@ pub(crate) fn booked<S: Alter + Drop>(
     alloc: Global,
     conn: Connection<S>,
 ) -> Result<Connection<S>, Fault> {
-    let house = house_after(alloc, conn, &DAY[MADE..BOOKED])?;
+    let house = house_after(alloc, conn, steps(MADE, BOOKED))?;
     Ok(house.close().close())
 }
 
@@ -96,17 +97,13 @@ fn next<S: Alter + Drop>(
     Ok((house, refused))
 }
 
-fn steps_to(place: usize) -> &'static [Step] {
-    &DAY[..place.min(DAY.len())]
-}
-
 fn once_more<S: Alter>(
     rt: &HostRuntime,
     house: &mut House<S>,
     step: &Step,
     exchange: &Exchange,
 ) -> Result<u64, Fault> {
-    crate::trial::again(ask(rt, house, step, exchange))
+    again(ask(rt, house, step, exchange))
 }
 
 /// How many requests of the day had no memory. The rows at its end are those after all of them.
@@ -118,11 +115,11 @@ pub(crate) fn day_tried<S: Alter + Drop>(
     let alloc = rt.alloc();
     let mut house = House::new(alloc, made(alloc, conn)?);
     let mut refused = 0u64;
-    for (place, step) in DAY.iter().enumerate().skip(MADE) {
+    for (place, step) in steps_to(ALL).iter().enumerate().skip(MADE) {
         let (after, count) = next(rt, house, place, step, compares)?;
         house = after;
         refused = refused.saturating_add(count);
     }
-    compared(alloc, house, DAY.as_slice())?;
+    compared(alloc, house, steps_to(ALL))?;
     Ok(refused)
 }

@@ -1,7 +1,7 @@
 //! Requests that are answered in turn by one call.
 
 use crate::answering::house_after;
-use crate::day::{BOOKED, DAY, MADE, SET_UP, Step};
+use crate::day::{BOOKED, MADE, SET_UP, Step, steps, steps_to};
 use crate::exchange::Exchange;
 use crate::fault::Fault;
 use crate::making::opened;
@@ -105,14 +105,14 @@ pub(crate) fn answer_all_tried<S: Alter + Drop>(
     other: Connection<S>,
 ) -> Result<u64, Fault> {
     let alloc = rt.alloc();
-    let exchanges = exchanges(alloc, &DAY[SET_UP..BOOKED])?;
+    let exchanges = exchanges(alloc, steps(SET_UP, BOOKED))?;
     let texts = texts_without(alloc, exchanges.as_slice(), None)?;
-    let mut house = house_after(alloc, conn, &DAY[MADE..SET_UP])?;
+    let mut house = house_after(alloc, conn, steps(MADE, SET_UP))?;
     let (all, answers) = ask_all(rt, &mut house, exchanges.as_slice(), texts.as_slice());
     let mut conn = house.close().close();
     match all {
         All::Expected => {
-            has_rows(alloc, &mut conn, &DAY[..BOOKED])?;
+            has_rows(alloc, &mut conn, steps_to(BOOKED))?;
             Ok(0)
         }
         All::NoMemory => asked_again(rt, conn, exchanges.as_slice(), texts.as_slice()),
@@ -133,11 +133,11 @@ fn asked_again<S: Alter + Drop>(
     texts: &[Vec<u8>],
 ) -> Result<u64, Fault> {
     let mut conn = conn;
-    has_rows(rt.alloc(), &mut conn, &DAY[..SET_UP])?;
+    has_rows(rt.alloc(), &mut conn, steps_to(SET_UP))?;
     let mut house = House::new(rt.alloc(), opened(rt.alloc(), conn)?);
     let (all, _) = ask_all(rt, &mut house, exchanges, texts);
     let mut conn = house.close().close();
-    has_rows(rt.alloc(), &mut conn, &DAY[..BOOKED])?;
+    has_rows(rt.alloc(), &mut conn, steps_to(BOOKED))?;
     again(all.told())
 }
 
@@ -151,7 +151,7 @@ fn is_as_without<S: Alter + Drop>(
     others: &[Vec<u8>],
 ) -> Result<(), Fault> {
     let mut conn = conn;
-    let mut house = house_after(alloc, other, &DAY[MADE..SET_UP])?;
+    let mut house = house_after(alloc, other, steps(MADE, SET_UP))?;
     let expected = house.answer_all(others)?;
     if !are_same_but(answers.as_slice(), place, expected.as_slice()) {
         return Err(Fault::Answer);

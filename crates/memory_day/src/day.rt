@@ -21,13 +21,16 @@ pub(crate) const SET_UP: usize = 6;
 /// After so many the two customers have ordered, and three lots have come.
 pub(crate) const BOOKED: usize = 11;
 
+/// All steps.
+pub(crate) const ALL: usize = usize::MAX;
+
 // Days are numbered from 1970-01-01: 2026-05-04 is 20577, 2026-05-10 is 20583, 2026-05-31 is 20604, 2026-06-30 is 20634,
 // 2026-11-30 is 20787 and 2026-12-31 is 20818.
 
 /// Books are made on 2026-05-04. There are two items and three bins; three lots come, and two customers order; what the
 /// first one ordered is picked and shipped; a lot that was shipped is recalled; everything is shown; a goods-in file comes;
 /// the next day is opened.
-pub(crate) static DAY: [Step; 23] = [
+static DAY: [Step; 23] = [
     Step {
         asked: "create",
         told: "",
@@ -314,3 +317,20 @@ pub(crate) static DAY: [Step; 23] = [
         changes: &[("meta", "1|LOTSTOCK|1|20578|18|1\n")],
     },
 ];
+
+// The one function that names them: each that does takes long to check.
+fn all_steps() -> &'static [Step] {
+    DAY.as_slice()
+}
+
+/// The steps from this place on up to that one.
+pub(crate) fn steps(from: usize, to: usize) -> &'static [Step] {
+    let all = all_steps();
+    let end = to.min(all.len());
+    &all[from.min(end)..end]
+}
+
+/// The steps up to this place.
+pub(crate) fn steps_to(place: usize) -> &'static [Step] {
+    steps(0, place)
+}

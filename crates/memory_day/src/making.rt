@@ -1,6 +1,6 @@
 //! Books that are made, and opened.
 
-use crate::day::{BOOKED, DAY, MADE};
+use crate::day::{BOOKED, MADE, steps_to};
 use crate::fault::Fault;
 use crate::rows::{has_no_table, has_rows};
 use crate::telling::{Told, begin, end};
@@ -60,7 +60,7 @@ pub(crate) enum Left<S: Alter> {
     NoMemory(Leftover<S>),
 }
 
-fn left<S: Alter + Drop>(
+fn what_is_left<S: Alter + Drop>(
     rt: &HostRuntime,
     found: Result<Books<S>, OpenFault<S>>,
 ) -> Result<Left<S>, Fault> {
@@ -110,7 +110,7 @@ fn create<S: Alter + Drop>(
     }
     begin(rt, "create");
     let found = Books::create(rt.alloc(), conn, day);
-    left(rt, found)
+    what_is_left(rt, found)
 }
 
 /// How many calls of `create` had no memory. Where there was none there is no table.
@@ -147,7 +147,7 @@ fn created_again<S: Alter + Drop>(
 
 fn has_begun<S: Alter + Drop>(rt: &HostRuntime, conn: Connection<S>) -> Result<(), Fault> {
     let mut conn = conn;
-    has_rows(rt.alloc(), &mut conn, &DAY[..MADE])
+    has_rows(rt.alloc(), &mut conn, steps_to(MADE))
 }
 
 /// Opens books that have lots and orders.
@@ -156,17 +156,20 @@ pub(crate) fn open<S: Alter + Drop>(
     conn: Connection<S>,
 ) -> Result<Left<S>, Fault> {
     let mut conn = conn;
-    has_rows(rt.alloc(), &mut conn, &DAY[..BOOKED])?;
+    has_rows(rt.alloc(), &mut conn, steps_to(BOOKED))?;
     if !conn.is_autocommit() {
         return Err(Fault::Books);
     }
     begin(rt, "open");
     let found = Books::open(rt.alloc(), conn);
-    left(rt, found)
+    what_is_left(rt, found)
 }
 
 /// The rows are those that the books had before they were opened.
-pub(crate) fn has_stayed<S: Alter + Drop>(rt: &HostRuntime, conn: Connection<S>) -> Result<(), Fault> {
+pub(crate) fn has_stayed<S: Alter + Drop>(
+    rt: &HostRuntime,
+    conn: Connection<S>,
+) -> Result<(), Fault> {
     let mut conn = conn;
-    has_rows(rt.alloc(), &mut conn, &DAY[..BOOKED])
+    has_rows(rt.alloc(), &mut conn, steps_to(BOOKED))
 }

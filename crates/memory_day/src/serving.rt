@@ -1,7 +1,7 @@
 //! A request that is read from a reader, and whose answer is written to a writer.
 
 use crate::answering::{compared, house_after};
-use crate::day::{DAY, MADE, SET_UP, Step};
+use crate::day::{MADE, SET_UP, Step, steps, steps_to};
 use crate::exchange::Exchange;
 use crate::fault::Fault;
 use crate::telling::{Told, begin, end};
@@ -37,17 +37,20 @@ pub(crate) fn serve_one_tried<S: Alter + Drop>(
     conn: Connection<S>,
 ) -> Result<u64, Fault> {
     let alloc = rt.alloc();
-    let step = &DAY[SET_UP];
+    let step = match steps_to(SET_UP + 1).last() {
+        Some(step) => step,
+        None => return Err(Fault::Sample),
+    };
     let exchange = Exchange::of(alloc, step)?;
-    let mut house = house_after(alloc, conn, &DAY[MADE..SET_UP])?;
+    let mut house = house_after(alloc, conn, steps(MADE, SET_UP))?;
     let refused = match serve(rt, &mut house, step, &exchange)? {
         Told::Expected => 0,
         Told::NoMemory => {
-            house = compared(alloc, house, &DAY[..SET_UP])?;
+            house = compared(alloc, house, steps_to(SET_UP))?;
             again(serve(rt, &mut house, step, &exchange)?)?
         }
         Told::Other => return Err(Fault::Answer),
     };
-    compared(alloc, house, &DAY[..SET_UP + 1])?;
+    compared(alloc, house, steps_to(SET_UP + 1))?;
     Ok(refused)
 }
