@@ -6,7 +6,7 @@ use crate::telling::{Told, begin, end};
 use crate::trial::again;
 use commands::{Command, Receipt, spell};
 use label::Day;
-use requests::{Ask, Read, read_request};
+use requests::{Ask, Read, RouteTable, read_request};
 use std::alloc::Global;
 use values::{Gtin, Lot, LotId, Name, Qty};
 
@@ -72,7 +72,7 @@ static SPELLINGS: [(&str, &str); 14] = [
 
 fn command(alloc: Global, asked: &str) -> Result<Command, Fault> {
     let text = request(alloc, asked)?;
-    match read_request(alloc, text.as_bytes()) {
+    match read_request(alloc, &mut RouteTable::new(), text.as_bytes()) {
         Read::Request(Ask::Do(_, command)) => Ok(command),
         _ => Err(Fault::Sample),
     }
