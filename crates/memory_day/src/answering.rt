@@ -2,14 +2,12 @@
 
 use crate::day::{ALL, BOOKED, MADE, Step, steps, steps_to};
 use crate::exchange::Exchange;
-use crate::fault::Fault;
 use crate::making::{made, opened};
 use crate::rows::has_rows;
-use crate::telling::{Told, begin, end};
-use crate::trial::again;
 use house::House;
 use sqlite::{Alter, Connection};
 use std::alloc::Global;
+use trials::{Fault, Told};
 
 /// A house with new books, which has answered the steps up to this one.
 pub(crate) fn house_after<S: Alter + Drop>(
@@ -45,11 +43,9 @@ pub(crate) fn booked<S: Alter + Drop>(
 
 // The request is sent, and what is answered is told. It asks for no memory beside the house.
 fn ask<S: Alter>(rt: &HostRuntime, house: &mut House<S>, step: &Step, exchange: &Exchange) -> Told {
-    begin(rt, step.asked);
+    let call = step.begin(rt);
     let answered = house.answer(exchange.asked.as_bytes());
-    let told = exchange.told_by(answered.as_bytes());
-    end(rt, told, step.told, "{\"code\":\"W90\"}");
-    told
+    call.end(rt, exchange.told_by(answered.as_bytes()))
 }
 
 /// The house again, whose tables have the rows after these steps.
@@ -87,7 +83,7 @@ fn next<S: Alter + Drop>(
         Told::Expected => 0,
         Told::NoMemory => {
             house = compared(alloc, house, steps_to(place))?;
-            once_more(rt, &mut house, step, &exchange)?
+            ask(rt, &mut house, step, &exchange).again()?
         }
         Told::Other => return Err(Fault::Answer),
     };
@@ -95,15 +91,6 @@ fn next<S: Alter + Drop>(
         house = compared(alloc, house, steps_to(place.saturating_add(1)))?;
     }
     Ok((house, refused))
-}
-
-fn once_more<S: Alter>(
-    rt: &HostRuntime,
-    house: &mut House<S>,
-    step: &Step,
-    exchange: &Exchange,
-) -> Result<u64, Fault> {
-    again(ask(rt, house, step, exchange))
 }
 
 /// How many requests of the day had no memory. The rows at its end are those after all of them.

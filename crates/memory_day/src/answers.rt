@@ -3,14 +3,12 @@
 use crate::answering::house_after;
 use crate::day::{BOOKED, MADE, SET_UP, Step, steps, steps_to};
 use crate::exchange::Exchange;
-use crate::fault::Fault;
 use crate::making::opened;
 use crate::rows::{has_rows, have_same_rows};
-use crate::telling::{Told, begin, end};
-use crate::trial::again;
 use house::{Answered, House};
 use sqlite::{Alter, Connection};
 use std::alloc::{AllocError, Global};
+use trials::{Call, Fault, Told};
 
 fn exchanges(alloc: Global, steps: &[Step]) -> Result<Vec<Exchange>, Fault> {
     let mut exchanges = Vec::new(alloc);
@@ -56,6 +54,17 @@ impl All {
             All::Other => Told::Other,
         }
     }
+
+    // What is printed after the call.
+    fn line(self, call: Call<'static>) -> Call<'static> {
+        match self {
+            All::But(_) => Call {
+                no_memory: "{\"code\":\"W90\"} among the answers",
+                ..call
+            },
+            _ => call,
+        }
+    }
 }
 
 // What these answers are, up to the first that is not the one that is always given.
@@ -87,14 +96,10 @@ fn ask_all<S: Alter>(
     exchanges: &[Exchange],
     texts: &[Vec<u8>],
 ) -> (All, Result<Vec<Answered>, AllocError>) {
-    begin(rt, "answer_all");
+    let call = Call::begin(rt, "answer_all", "the answers", "no memory");
     let answers = house.answer_all(texts);
     let all = found_all(&answers, exchanges);
-    let no_memory = match all {
-        All::But(_) => "{\"code\":\"W90\"} among the answers",
-        _ => "no memory",
-    };
-    end(rt, all.told(), "the answers", no_memory);
+    all.line(call).end(rt, all.told());
     (all, answers)
 }
 
@@ -138,7 +143,7 @@ fn asked_again<S: Alter + Drop>(
     let (all, _) = ask_all(rt, &mut house, exchanges, texts);
     let mut conn = house.close().close();
     has_rows(rt.alloc(), &mut conn, steps_to(BOOKED))?;
-    again(all.told())
+    all.told().again()
 }
 
 // The other answers and the rows are those of the same requests without the one at the place.

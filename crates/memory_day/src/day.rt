@@ -1,5 +1,7 @@
 //! The day's work: requests, their answers, and the rows of the tables after each.
 
+use trials::Call;
+
 /// A request, its answer, and the rows after it.
 pub(crate) struct Step {
     /// `METHOD PATH BODY`, with no BODY where the request has none. A bar ends a line of a goods-in file.
@@ -10,6 +12,13 @@ pub(crate) struct Step {
     pub(crate) repeats: &'static str,
     /// The other tables that change, each with all its rows after it.
     pub(crate) changes: &'static [(&'static str, &'static str)],
+}
+
+impl Step {
+    /// Prints the line before the request.
+    pub(crate) fn begin(&self, rt: &HostRuntime) -> Call<'static> {
+        Call::begin(rt, self.asked, self.told, "{\"code\":\"W90\"}")
+    }
 }
 
 /// After so many steps the books are made and nothing was done.

@@ -1,9 +1,8 @@
 //! A request and its answer, byte for byte.
 
 use crate::day::Step;
-use crate::fault::Fault;
-use crate::telling::Told;
 use std::alloc::{AllocError, Global};
+use trials::{Fault, Told};
 
 /// A request and its answer, byte for byte.
 #[derive(Drop)]
@@ -37,7 +36,7 @@ impl Exchange {
 }
 
 /// The bytes of a request, which `Step::asked` has the form of.
-pub(crate) fn request(alloc: Global, asked: &str) -> Result<String, Fault> {
+fn request(alloc: Global, asked: &str) -> Result<String, Fault> {
     let (method, rest) = match asked.split_once(" ") {
         Some(parts) => parts,
         None => return Err(Fault::Sample),

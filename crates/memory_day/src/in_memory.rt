@@ -2,31 +2,34 @@
 
 use crate::answering::{Compares, booked, day_tried};
 use crate::answers::answer_all_tried;
-use crate::fault::Fault;
 use crate::making::{Left, create_tried, has_stayed, open};
+use crate::rows::of_tables;
 use crate::serving::serve_one_tried;
-use crate::telling::Told;
-use crate::trial::{OfBooks, again};
+use crate::trial::Trial;
 use sqlite::{Connection, MemStore};
 use sqlite_trees::store::Store;
 use std::alloc::Global;
 use tables::opening::Leftover;
+use trials::{Fault, Told};
 
 fn empty(alloc: Global) -> Result<Connection<MemStore>, Fault> {
-    Ok(Connection::open_in_memory(alloc)?)
+    match Connection::open_in_memory(alloc) {
+        Ok(conn) => Ok(conn),
+        Err(error) => Err(of_tables(error)),
+    }
 }
 
 /// How many calls had no memory.
 // The functions over the connection's own type: each takes long to check.
-pub(crate) fn tried(rt: &HostRuntime, calls: OfBooks) -> Result<u64, Fault> {
+pub(crate) fn tried(rt: &HostRuntime, trial: Trial) -> Result<u64, Fault> {
     let conn = empty(rt.alloc())?;
-    match calls {
-        OfBooks::Create => create_tried(rt, conn),
-        OfBooks::Open => open_tried(rt, conn),
-        OfBooks::AnswerAll => answer_all_tried(rt, conn, empty(rt.alloc())?),
-        OfBooks::ServeOne => serve_one_tried(rt, conn),
-        OfBooks::Day => day_tried(rt, conn, Compares::Refused),
-        OfBooks::OpenedDay => day_tried(rt, conn, Compares::Each),
+    match trial {
+        Trial::Create => create_tried(rt, conn),
+        Trial::Open => open_tried(rt, conn),
+        Trial::AnswerAll => answer_all_tried(rt, conn, empty(rt.alloc())?),
+        Trial::ServeOne => serve_one_tried(rt, conn),
+        Trial::Day => day_tried(rt, conn, Compares::Refused),
+        Trial::OpenedDay => day_tried(rt, conn, Compares::Each),
     }
 }
 
@@ -47,9 +50,9 @@ fn opened_again(rt: &HostRuntime, conn: Connection<MemStore>) -> Result<u64, Fau
     match open(rt, conn)? {
         Left::Books(conn) => {
             has_stayed(rt, conn)?;
-            again(Told::Expected)
+            Told::Expected.again()
         }
-        Left::NoMemory(_) => again(Told::NoMemory),
+        Left::NoMemory(_) => Told::NoMemory.again(),
     }
 }
 
@@ -58,6 +61,6 @@ fn over(alloc: Global, store: MemStore) -> Result<Connection<MemStore>, Fault> {
     store.rollback();
     match Connection::over(alloc, store) {
         Ok(conn) => Ok(conn),
-        Err((error, _)) => Err(Fault::from(error)),
+        Err((error, _)) => Err(of_tables(error)),
     }
 }

@@ -1,15 +1,13 @@
 //! Books that are made, and opened.
 
 use crate::day::{BOOKED, MADE, steps_to};
-use crate::fault::Fault;
 use crate::rows::{has_no_table, has_rows};
-use crate::telling::{Told, begin, end};
-use crate::trial::again;
 use label::{BusinessDay, Day};
 use sqlite::{Alter, Connection};
 use std::alloc::Global;
 use store::{Books, OpenFault};
 use tables::opening::Leftover;
+use trials::{Call, Fault, Told};
 
 /// The business day on which the books begin.
 pub(crate) fn first_day() -> Result<BusinessDay, Fault> {
@@ -60,42 +58,52 @@ pub(crate) enum Left<S: Alter> {
     NoMemory(Leftover<S>),
 }
 
+fn begin(rt: &HostRuntime, name: &str) -> Call<'static> {
+    Call::begin(rt, name, "the books", "no memory")
+}
+
 fn what_is_left<S: Alter + Drop>(
     rt: &HostRuntime,
+    call: Call<'static>,
     found: Result<Books<S>, OpenFault<S>>,
 ) -> Result<Left<S>, Fault> {
     match found {
-        Ok(books) => of_books(rt, books),
+        Ok(books) => of_books(rt, call, books),
         Err(found) => {
             let OpenFault { left, fault } = found;
-            of_fault(rt, left, fault)
+            of_fault(rt, call, left, fault)
         }
     }
 }
 
 // The books have the day on which they began.
-fn of_books<S: Alter + Drop>(rt: &HostRuntime, books: Books<S>) -> Result<Left<S>, Fault> {
+fn of_books<S: Alter + Drop>(
+    rt: &HostRuntime,
+    call: Call<'static>,
+    books: Books<S>,
+) -> Result<Left<S>, Fault> {
     let is_first = books.day().text().as_slice() == b"2026-05-04".as_slice();
     let conn = books.close();
     if is_first {
-        end(rt, Told::Expected, "the books", "");
+        call.end(rt, Told::Expected);
         Ok(Left::Books(conn))
     } else {
-        end(rt, Told::Other, "", "");
+        call.end(rt, Told::Other);
         Err(Fault::Answer)
     }
 }
 
 fn of_fault<S: Alter + Drop>(
     rt: &HostRuntime,
+    call: Call<'static>,
     left: Leftover<S>,
     fault: store::Fault,
 ) -> Result<Left<S>, Fault> {
     if fault == store::Fault::Store {
-        end(rt, Told::NoMemory, "", "no memory");
+        call.end(rt, Told::NoMemory);
         Ok(Left::NoMemory(left))
     } else {
-        end(rt, Told::Other, "", "");
+        call.end(rt, Told::Other);
         Err(Fault::Answer)
     }
 }
@@ -108,9 +116,9 @@ fn create<S: Alter + Drop>(
     if !conn.is_autocommit() {
         return Err(Fault::Books);
     }
-    begin(rt, "create");
+    let call = begin(rt, "create");
     let found = Books::create(rt.alloc(), conn, day);
-    what_is_left(rt, found)
+    what_is_left(rt, call, found)
 }
 
 /// How many calls of `create` had no memory. Where there was none there is no table.
@@ -139,9 +147,9 @@ fn created_again<S: Alter + Drop>(
     match create(rt, conn, day)? {
         Left::Books(conn) => {
             has_begun(rt, conn)?;
-            again(Told::Expected)
+            Told::Expected.again()
         }
-        Left::NoMemory(_) => again(Told::NoMemory),
+        Left::NoMemory(_) => Told::NoMemory.again(),
     }
 }
 
@@ -160,9 +168,9 @@ pub(crate) fn open<S: Alter + Drop>(
     if !conn.is_autocommit() {
         return Err(Fault::Books);
     }
-    begin(rt, "open");
+    let call = begin(rt, "open");
     let found = Books::open(rt.alloc(), conn);
-    what_is_left(rt, found)
+    what_is_left(rt, call, found)
 }
 
 /// The rows are those that the books had before they were opened.

@@ -1,9 +1,9 @@
 //! The rows of every table, as SQL shows them.
 
 use crate::day::Step;
-use crate::fault::Fault;
-use sqlite::{Alter, Connection, Row};
-use std::alloc::{AllocError, Global};
+use sqlite::{Alter, Connection, Error, ErrorCode, Row};
+use std::alloc::Global;
+use trials::Fault;
 
 // Each table but `repeats`, and what reads its rows by their keys.
 static TABLES: [(&str, &str); 13] = [
@@ -63,20 +63,36 @@ static REPEATS: &str =
 
 static OBJECTS: &str = "SELECT name FROM sqlite_schema";
 
-/// A text of each row, each with the end of a line.
+/// Why the tables did not tell what the trial itself asked of them.
+pub(crate) fn of_tables(error: Error) -> Fault {
+    match error {
+        Error::SqliteFailure(ErrorCode::OutOfMemory) => Fault::Room,
+        _ => Fault::Rows,
+    }
+}
+
+fn add_line(text: &mut String, row: &Row) -> Result<(), Fault> {
+    match row.get::<String>(0) {
+        Ok(column) => text.push_str(column.as_str())?,
+        Err(error) => return Err(of_tables(error)),
+    }
+    Ok(text.push_str("\n")?)
+}
+
+// A text of each row, each with the end of a line.
 fn lines_of(alloc: Global, rows: &[Row]) -> Result<String, Fault> {
     let mut text = String::new(alloc);
     for row in rows {
-        let column = row.get::<String>(0)?;
-        text.push_str(column.as_str())?;
-        text.push_str("\n")?;
+        add_line(&mut text, row)?;
     }
     Ok(text)
 }
 
 fn shown<S: Alter>(alloc: Global, conn: &mut Connection<S>, query: &str) -> Result<String, Fault> {
-    let rows = conn.query_all(query, &[])?;
-    lines_of(alloc, rows.as_slice())
+    match conn.query_all(query, &[]) {
+        Ok(rows) => lines_of(alloc, rows.as_slice()),
+        Err(error) => Err(of_tables(error)),
+    }
 }
 
 // The rows of a table after these steps: those of the last step that changes it.

@@ -3,11 +3,9 @@
 use crate::answering::{compared, house_after};
 use crate::day::{MADE, SET_UP, Step, steps, steps_to};
 use crate::exchange::Exchange;
-use crate::fault::Fault;
-use crate::telling::{Told, begin, end};
-use crate::trial::again;
 use house::House;
 use sqlite::{Alter, Connection};
+use trials::{Fault, Told};
 
 // Room for an answer, so that the writer asks for no memory.
 const ROOM: usize = 4096;
@@ -20,15 +18,14 @@ fn serve<S: Alter>(
 ) -> Result<Told, Fault> {
     let mut reader = exchange.asked.as_bytes();
     let mut writer: Vec<u8> = Vec::with_capacity(rt.alloc(), ROOM)?;
-    begin(rt, step.asked);
+    let call = step.begin(rt);
     let served = house.serve_one(&mut reader, &mut writer);
     let told = if served == Ok(()) {
         exchange.told_by(writer.as_slice())
     } else {
         Told::Other
     };
-    end(rt, told, step.told, "{\"code\":\"W90\"}");
-    Ok(told)
+    Ok(call.end(rt, told))
 }
 
 /// How many calls of `serve_one` had no memory. Where there was none the rows are as before.
@@ -47,7 +44,7 @@ pub(crate) fn serve_one_tried<S: Alter + Drop>(
         Told::Expected => 0,
         Told::NoMemory => {
             house = compared(alloc, house, steps_to(SET_UP))?;
-            again(serve(rt, &mut house, step, &exchange)?)?
+            serve(rt, &mut house, step, &exchange)?.again()?
         }
         Told::Other => return Err(Fault::Answer),
     };
