@@ -1,24 +1,25 @@
 #!/bin/sh
-# Every request for memory refused: the program memory_day does a day's work over books in memory, and calls alone, and is
-# run once for each request for memory that is made within a call, which is then refused. It compares each answer and the
-# rows of each table itself: where the call had no memory everything is as before, and the same call made again is answered
-# as ever; else its answer and the rows are the ones of ever. Here the lines that it prints are compared with those of an
-# undisturbed run, so that nothing else is told, before the call or after it.
+# Every request for memory refused. The program memory_day does a day's work over books in memory, and calls on books alone;
+# memory_calls makes the calls that need no books. Each is run once for each request for memory that is made within a call,
+# which is then refused. It compares each answer and the rows of each table itself: where the call had no memory everything
+# is as before, and the same call made again is answered as ever; else its answer and the rows are the ones of ever. Here the
+# lines that it prints are compared with those of an undisturbed run, so that nothing else is told, before the call or after
+# it.
 # What is refused is a call of malloc, calloc, realloc or their like, by a small library that is loaded before the C library.
 # It counts from the line `> CALL` on that is printed before a call until the line `< ANSWER` after it.
-# Needs the Rattle kit, cc and python3. STEP (1) can be set: of so many requests one is refused; FIRST (1) is the first of them.
-# CALLS names what is tried. Exit status 0 only if no run faulted, hung or told anything else.
+# Needs the Rattle kit, cc and python3. STEP (1) can be set: of so many requests one is refused; FIRST (1) is the first of
+# them. CALLS names what is tried. Exit status 0 only if no run faulted, hung or told anything else.
 set -eu
 cd "$(dirname "$0")"
 
 room=$(mktemp -d)
-memory_day=${MEMORY_DAY:-$PWD/crates/memory_day/out/memory_day}
 trap 'rm -rf "$room"' EXIT
 
-if [ -z "${MEMORY_DAY:-}" ]; then
-    echo "> build memory_day"
-    (cd crates/memory_day && rt run -- write >/dev/null)
-fi
+for program in memory_calls memory_day; do
+    echo "> build $program"
+    (cd "crates/$program" && rt run -- $(cat args) >"$room/$program.txt")
+    cmp "$room/$program.txt" "crates/$program/stdout"
+done
 
 cat >"$room/refuse.c" <<'C'
 #include <errno.h>
@@ -112,14 +113,21 @@ int posix_memalign(void **place, size_t alignment, size_t size)
 C
 cc -shared -fPIC -O2 -o "$room/refuse.so" "$room/refuse.c"
 
-python3 - "$memory_day" "$room" "${STEP:-1}" "${FIRST:-1}" ${CALLS:-create open whole replan book_last spell write read_file answer_all serve_one day opened_day} <<'PYTHON'
+python3 - "$room" "${STEP:-1}" "${FIRST:-1}" ${CALLS:-} <<'PYTHON'
 import concurrent.futures
 import os
 import subprocess
 import sys
 import time
 
-program, room, step, first, calls = sys.argv[1], sys.argv[2], int(sys.argv[3]), int(sys.argv[4]), sys.argv[5:]
+room, step, first, chosen = sys.argv[1], int(sys.argv[2]), int(sys.argv[3]), sys.argv[4:]
+
+# Each call, and the program that makes it: its words are those with which the gate runs it.
+PROGRAM_OF = {
+    call: os.path.abspath("crates/%s/out/%s" % (program, program))
+    for program in ("memory_calls", "memory_day")
+    for call in open("crates/%s/args" % program).read().split()
+}
 
 # What is printed where a call had no memory.
 NO_MEMORY = ['< no memory', '< L90', '< G90', '< {"code":"W90"}']
@@ -139,7 +147,7 @@ def run(call, number, counts=""):
     if counts:
         environment["COUNTS"] = counts
     try:
-        done = subprocess.run([program, call], stdin=subprocess.DEVNULL, capture_output=True, timeout=60, env=environment)
+        done = subprocess.run([PROGRAM_OF[call], call], stdin=subprocess.DEVNULL, capture_output=True, timeout=60, env=environment)
     except subprocess.TimeoutExpired:
         fails("%s, request %d refused: it hangs" % (call, number))
     if done.returncode not in (MEMORY, NO_MEMORY_ONCE):
@@ -187,7 +195,7 @@ def tried(call, number, lines, made):
 
 
 total = total_none = 0
-for call in calls:
+for call in chosen or PROGRAM_OF:
     lines, made = undisturbed(call)
     began = time.time()
     numbers = range(first, sum(made) + 1, step)

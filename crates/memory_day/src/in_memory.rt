@@ -13,10 +13,7 @@ use tables::opening::Leftover;
 use trials::{Fault, Told};
 
 fn empty(alloc: Global) -> Result<Connection<MemStore>, Fault> {
-    match Connection::open_in_memory(alloc) {
-        Ok(conn) => Ok(conn),
-        Err(error) => Err(of_tables(error)),
-    }
+    Ok(Connection::open_in_memory(alloc)?)
 }
 
 /// How many calls had no memory.
