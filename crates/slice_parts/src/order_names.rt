@@ -18,11 +18,7 @@ fn is_other_name(named: &[Name], order: &Name) -> bool
 }
 
 /// The orders that are not named.
-pub fn other_names(
-    alloc: Global,
-    orders: &[Name],
-    named: &[Name],
-) -> Result<Vec<Name>, AllocError>
+pub fn other_names(alloc: Global, orders: &[Name], named: &[Name]) -> Result<Vec<Name>, AllocError>
     ensures { IfOk result (λ names. names.items ≡ other_names_lem named.now orders.now) }
 {
     let mut names = Vec::new(alloc);

@@ -16,8 +16,8 @@ ghost use Rattle.open_lines.specs.OpenLines.{Loses, has_closed_row, has_line_row
 ghost use Rattle.slices.specs.Reading.{IsRead};
 ghost use Rattle.slices.specs.Slicing.{AreGoods, AreBooked, AreBins, AreCounts, AreTaken, AreTouched, AreSliced, Covers, IsSliceIn, bins_named, with_names};
 
-use crate::opening::affected_items;
 use crate::known_orders::read_known_orders;
+use crate::opening::affected_items;
 use crate::reading::{count_bins, count_items, meta_row};
 use crate::sought::{seek_all, seek_both};
 use commands::{

@@ -30,7 +30,7 @@ returns-in_err-commit-clause-filed g c =
     let is = begun_state g.S.Store c.args.conn.now c.transaction-tx.result.conn.now c.transaction-tx.ensures.begun in
     let whole : FilesWhole rows c.args.day c.from_residual-in_err-commit.result old new =
     file_not_committed rows c.args.day old begun last new is c.in_ok-filed.filed c.in_err-commit.field-0.0 c.from_residual-in_err-commit.result (λ clean keys first acts history books. c.in_ok-filed.ensures.filed clean keys first acts history books (lines_begun old begun last new is c.in_ok-filed.ensures.survives c.args.lines.now c.requires.known clean)) c.in_ok-filed.ensures.kept c.commit.ensures.survives c.in_err-commit.ensures.err c.from_residual-in_err-commit.ensures in
-    search (rules, whole)
+    subst (λ (s : State). FilesWhole rows c.args.day c.from_residual-in_err-commit.result old s) (search rules) whole
 
 pub returns-in_err-filed-clause-filed : goal.returns-in_err-filed-clause-filed
 returns-in_err-filed-clause-filed g c =
@@ -42,7 +42,7 @@ returns-in_err-filed-clause-filed g c =
     let is = begun_state g.S.Store c.args.conn.now c.transaction-tx.result.conn.now c.transaction-tx.ensures.begun in
     let whole : FilesWhole rows c.args.day c.from_residual.result old new =
     file_undone rows c.args.day old begun last new is c.in_err-filed.field-0.0 c.from_residual.result (λ clean keys first acts history books. c.in_err-filed.ensures.filed clean keys first acts history books (lines_begun old begun last new is c.in_err-filed.ensures.survives c.args.lines.now c.requires.known clean)) c.in_err-filed.ensures.kept c.drop-tx.ensures.survives c.drop-tx.ensures.undone c.from_residual.ensures in
-    search (rules, whole)
+    subst (λ (s : State). FilesWhole rows c.args.day c.from_residual.result old s) (search rules) whole
 
 pub returns-clause-survives : goal.returns-clause-survives
 returns-clause-survives g c =
@@ -54,7 +54,7 @@ returns-clause-survives g c =
     let is = begun_state g.S.Store c.args.conn.now c.transaction-tx.result.conn.now c.transaction-tx.ensures.begun in
     let whole : FileSurvives rows old new =
     stop_in_file_commit rows c.args.day old begun last new is c.in_ok-filed.filed (λ clean keys first acts history books. c.in_ok-filed.ensures.filed clean keys first acts history books (lines_begun old begun last new is c.in_ok-filed.ensures.survives c.args.lines.now c.requires.known clean)) c.in_ok-filed.ensures.survives c.commit.ensures.survives in
-    search (rules, whole)
+    subst (λ (s : State). FileSurvives rows old s) (search rules) whole
 
 pub returns-in_err-commit-clause-survives : goal.returns-in_err-commit-clause-survives
 returns-in_err-commit-clause-survives g c =
@@ -66,7 +66,7 @@ returns-in_err-commit-clause-survives g c =
     let is = begun_state g.S.Store c.args.conn.now c.transaction-tx.result.conn.now c.transaction-tx.ensures.begun in
     let whole : FileSurvives rows old new =
     stop_in_file_commit rows c.args.day old begun last new is c.in_ok-filed.filed (λ clean keys first acts history books. c.in_ok-filed.ensures.filed clean keys first acts history books (lines_begun old begun last new is c.in_ok-filed.ensures.survives c.args.lines.now c.requires.known clean)) c.in_ok-filed.ensures.survives c.commit.ensures.survives in
-    search (rules, whole)
+    subst (λ (s : State). FileSurvives rows old s) (search rules) whole
 
 pub returns-in_err-filed-clause-survives : goal.returns-in_err-filed-clause-survives
 returns-in_err-filed-clause-survives g c =
@@ -78,7 +78,7 @@ returns-in_err-filed-clause-survives g c =
     let is = begun_state g.S.Store c.args.conn.now c.transaction-tx.result.conn.now c.transaction-tx.ensures.begun in
     let whole : FileSurvives rows old new =
     stop_before_file_commit rows c.args.day old begun last new is c.in_err-filed.ensures.survives c.drop-tx.ensures.survives in
-    search (rules, whole)
+    subst (λ (s : State). FileSurvives rows old s) (search rules) whole
 
 pub returns-clause-known : goal.returns-clause-known
 returns-clause-known g c =
@@ -89,7 +89,7 @@ returns-clause-known g c =
     let is = begun_state g.S.Store c.args.conn.now c.transaction-tx.result.conn.now c.transaction-tx.ensures.begun in
     let whole : IsKnown c.file_inside.new.lines new =
     known_committed old begun last new is c.in_ok-filed.ensures.survives c.args.lines.now c.requires.known c.commit.ensures.survives c.file_inside.new.lines (λ clean ready. c.in_ok-filed.ensures.known clean ready) (λ clean. (c.in_ok-commit.ensures.ok clean).1) in
-    search (rules, whole)
+    subst (λ (s : State). IsKnown c.file_inside.new.lines s) (search rules) whole
 
 pub returns-clause-settled : goal.returns-clause-settled
 returns-clause-settled g c =
@@ -101,7 +101,7 @@ returns-clause-settled g c =
     let known : IsKnown c.file_inside.new.lines new =
     known_committed old begun last new is c.in_ok-filed.ensures.survives c.args.lines.now c.requires.known c.commit.ensures.survives c.file_inside.new.lines (λ clean ready. c.in_ok-filed.ensures.known clean ready) (λ clean. (c.in_ok-commit.ensures.ok clean).1) in
     let whole : HasCleanDisk new → IsSettled new = λ clean. (known clean).0 in
-    search (rules, whole)
+    subst (λ (s : State). HasCleanDisk s → IsSettled s) (search rules) whole
 
 pub returns-in_err-commit-clause-known : goal.returns-in_err-commit-clause-known
 returns-in_err-commit-clause-known g c = none_answered _ c.from_residual-in_err-commit.result c.from_residual-in_err-commit.ensures.0
@@ -115,7 +115,7 @@ returns-in_err-commit-clause-settled g c =
     let is = begun_state g.S.Store c.args.conn.now c.transaction-tx.result.conn.now c.transaction-tx.ensures.begun in
     let whole : HasCleanDisk new → IsSettled new =
     settled_not_committed old begun last new is c.in_ok-filed.ensures.survives c.args.lines.now c.requires.known c.commit.ensures.survives c.in_err-commit.field-0.0 (λ clean ready. (c.in_ok-filed.ensures.known clean ready).2) c.in_ok-filed.ensures.kept c.in_err-commit.ensures.err in
-    search (rules, whole)
+    subst (λ (s : State). HasCleanDisk s → IsSettled s) (search rules) whole
 
 pub returns-in_err-filed-clause-known : goal.returns-in_err-filed-clause-known
 returns-in_err-filed-clause-known g c = none_answered _ c.from_residual.result c.from_residual.ensures.0
@@ -129,7 +129,7 @@ returns-in_err-filed-clause-settled g c =
     let is = begun_state g.S.Store c.args.conn.now c.transaction-tx.result.conn.now c.transaction-tx.ensures.begun in
     let whole : HasCleanDisk new → IsSettled new =
     settled_undone old begun last new is c.in_err-filed.ensures.survives c.args.lines.now c.requires.known c.drop-tx.ensures.survives c.in_err-filed.ensures.kept c.drop-tx.ensures.undone in
-    search (rules, whole)
+    subst (λ (s : State). HasCleanDisk s → IsSettled s) (search rules) whole
 
 pub returns-in_err-commit-clause-as_before : goal.returns-in_err-commit-clause-as_before
 returns-in_err-commit-clause-as_before g c =
@@ -140,7 +140,7 @@ returns-in_err-commit-clause-as_before g c =
     let is = begun_state g.S.Store c.args.conn.now c.transaction-tx.result.conn.now c.transaction-tx.ensures.begun in
     let whole : KeptWhole c.from_residual-in_err-commit.result old new =
     kept_if_not_committed old begun last new is c.from_residual-in_err-commit.result c.in_err-commit.field-0.0 c.in_ok-filed.ensures.kept c.commit.ensures.survives c.in_err-commit.ensures.err in
-    search (rules, whole)
+    subst (λ (s : State). KeptWhole c.from_residual-in_err-commit.result old s) (search rules) whole
 
 pub returns-in_err-filed-clause-as_before : goal.returns-in_err-filed-clause-as_before
 returns-in_err-filed-clause-as_before g c =
@@ -151,4 +151,4 @@ returns-in_err-filed-clause-as_before g c =
     let is = begun_state g.S.Store c.args.conn.now c.transaction-tx.result.conn.now c.transaction-tx.ensures.begun in
     let whole : KeptWhole c.from_residual.result old new =
     kept_if_undone old begun last new is c.from_residual.result c.in_err-filed.ensures.kept c.drop-tx.ensures.survives c.drop-tx.ensures.undone in
-    search (rules, whole)
+    subst (λ (s : State). KeptWhole c.from_residual.result old s) (search rules) whole

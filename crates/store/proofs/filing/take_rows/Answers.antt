@@ -12,8 +12,7 @@ use Rattle.store.proofs.filing.take_rows.Goals as goal
 
 pub loop-row-init : goal.loop-row-init
 loop-row-init g c =
-    let old = state g.S.Store c.args.tx.now.conn.now in
-    (
+    let old = state g.S.Store c.args.tx.now.conn.now in (
       refl,
       inside_itself old,
       refl,
