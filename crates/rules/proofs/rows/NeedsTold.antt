@@ -20,7 +20,7 @@ use Rattle.machine.specs.Ledger.{postings}
 use Rattle.machine.specs.Planning.{Booking, booking_of, lines_of_item, bookings, need, demand_of, demands, item_postings, staged, shipped, shipped_of, is_open, is_open_state, is_shipped_in_full, open_units, staged_of_lot}
 use Rattle.machine.specs.Once.{IsHistory}
 use Rattle.machine.specs.Tables.{staged_row, if_any}
-use Rattle.machine.specs.KeyedRows.{AreOwn}
+use Rattle.machine.specs.KeyedRows.{AreOwn, OrderLot}
 use Rattle.row_rules.specs.Seen.{capped, staged_units}
 use Rattle.row_rules.specs.Plans.{staged_seen}
 use Rattle.machine.proofs.Tests.{and_both, same_text_is, same_text_turned}
@@ -98,7 +98,7 @@ module _ (first : ℤ) (acts : List Act) (history : IsHistory first acts) (g : L
       none true = refl
       none false = refl
 
-  each_row : (rs : List StagedRow) → AreOwn (λ (r : StagedRow). (r.order, r.lot)) (λ k. true) (λ k. staged_row first acts k.0 k.1) rs
+  each_row : (rs : List StagedRow) → AreOwn {K = OrderLot} (λ (r : StagedRow). (r.order, r.lot)) (λ k. true) (λ k. staged_row first acts k.0 k.1) rs
       → total (λ r. total (λ p. one p r) (orders acts)) rs ≡ staged_units g rs
   each_row [] h = refl
   each_row (r ∷ rs) h =
@@ -113,7 +113,7 @@ module _ (first : ℤ) (acts : List Act) (history : IsHistory first acts) (g : L
 
   -- An order that is closed has nothing staged
 
-  none_of_closed : (o : List ℕ) → is_open first acts o ≡ false → (rs : List StagedRow) → AreOwn (λ (r : StagedRow). (r.order, r.lot)) (λ k. true) (λ k. staged_row first acts k.0 k.1) rs → staged_seen g o rs ≡ 0
+  none_of_closed : (o : List ℕ) → is_open first acts o ≡ false → (rs : List StagedRow) → AreOwn {K = OrderLot} (λ (r : StagedRow). (r.order, r.lot)) (λ k. true) (λ k. staged_row first acts k.0 k.1) rs → staged_seen g o rs ≡ 0
   none_of_closed o e [] h = refl
   none_of_closed o e (r ∷ rs) h = elim (is_of o r) as (λ b. is_of o r ≡ b → (if b then r.qty else 0) + staged_seen g o rs ≡ 0) [
     | true ↦ λ t.

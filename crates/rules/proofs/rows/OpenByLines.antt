@@ -50,11 +50,11 @@ module _ (g : List ℕ) (orders : List OrderRow) (lines : List LineRow) (orders_
       let b = and_both (same_text l.order y.order) (is_open_state y.state) f in
       (λ i. same_text (sym (same_text_is l.order x.order a.0) i) (sym (same_text_is l.order y.order b.0) i)) ∙ same_text_refl l.order
 
-  nothing : (b : Bool) → 0 ≡ (if b then 0 else 0)
+  nothing : (b : Bool) → ◌≡◌ {A = ℕ} 0 (if b then 0 else 0)
   nothing true = refl
   nothing false = refl
 
-  zeros : (o : OrderRow) (ls : List LineRow) → 0 ≡ total (λ l. if of_order o l then 0 else 0) ls
+  zeros : (o : OrderRow) (ls : List LineRow) → ◌≡◌ {A = ℕ} 0 (total (λ l. if of_order o l then 0 else 0) ls)
   zeros o [] = refl
   zeros o (l ∷ ls) = omega (arith, nothing (of_order o l), zeros o ls)
 
