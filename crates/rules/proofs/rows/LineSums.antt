@@ -1,5 +1,5 @@
 -- Sums over rows of which at most one passes a test.
-use Rattle.std.proofs.Common.{◌≡◌, ℕ, ◌+◌, Bool, true, false, ◌&&◌, not, List, [], ◌∷◌, refl, ap, sym, ◌∙◌, arith}
+use Rattle.std.proofs.Common.{◌≡◌, ℕ, ◌+◌, Bool, true, false, not, List, [], ◌∷◌, refl, sym, ◌∙◌, arith}
 use Rattle.std.specs.Prelude.{◌||◌, if◌then◌else◌, Option, Some, None, find}
 use Rattle.std.specs.List.{list_any}
 use Rattle.commands.specs.Lists.{total}

@@ -2,7 +2,7 @@
 use Rattle.std.proofs.Common.{◌≡◌, ℕ, ◌+◌, ◌-◌, ◌≤◌, Bool, true, false, ◌&&◌, List, [], ◌∷◌, refl, ap, sym, ◌∙◌, arith}
 use Rattle.std.specs.Prelude.{◌==◌, if◌then◌else◌, ℤ, Option, Some, None, find, filter, map, flat_map}
 use Rattle.std.specs.List.{list_all}
-use Rattle.values.specs.Values.{same_text, QTY_MAX}
+use Rattle.values.specs.Values.{same_text}
 use Rattle.values.specs.declared.lot.LotId.{LotId}
 use Rattle.commands.specs.Lists.{total}
 use Rattle.commands.specs.declared.limits.TheConstants.{UNITS_MAX}
@@ -15,13 +15,13 @@ use Rattle.plan.specs.declared.Demand.{Demand}
 use Rattle.plan.specs.Overlap.{demand_total}
 use Rattle.machine.specs.Acts.{Act}
 use Rattle.machine.specs.Postings.{Posting, Place, Supplier, InBin, Stage, Shipped, WriteOff, is_stage, of_item, in_house}
-use Rattle.machine.specs.Standing.{Placed, orders, order_named, lines_of, lines_placed, is_cancelled}
+use Rattle.machine.specs.Standing.{Placed, orders, order_named, lines_placed, is_cancelled}
 use Rattle.machine.specs.Ledger.{postings}
-use Rattle.machine.specs.Planning.{Booking, booking_of, lines_of_item, bookings, need, demand_of, demands, item_postings, staged, shipped, shipped_of, is_open, is_open_state, is_shipped_in_full, open_units, staged_of_lot}
+use Rattle.machine.specs.Planning.{Booking, booking_of, lines_of_item, bookings, need, demand_of, demands, item_postings, staged, shipped, shipped_of, is_open, is_open_state, is_shipped_in_full, open_units}
 use Rattle.machine.specs.Once.{IsHistory}
 use Rattle.machine.specs.Tables.{staged_row, if_any}
 use Rattle.machine.specs.KeyedRows.{AreOwn, OrderLot}
-use Rattle.row_rules.specs.Seen.{capped, staged_units}
+use Rattle.row_rules.specs.Seen.{staged_units}
 use Rattle.row_rules.specs.Plans.{staged_seen}
 use Rattle.machine.proofs.Tests.{and_both, same_text_is, same_text_turned}
 use Rattle.machine.proofs.Apart.{AllFound}
