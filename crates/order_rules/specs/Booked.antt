@@ -1,19 +1,23 @@
 -- What a line of an order reserves: it is booked last, behind what all other orders need of its item.
 use Rattle.std.specs.Prelude.{ℕ, ◌-◌, List, [], ◌∷◌}
-use Rattle.commands.specs.Lists.{total}
 use Rattle.commands.specs.declared.command.OrderLine.{OrderLine}
 use Rattle.commands.specs.declared.rows.OrderRow.{OrderRow}
 use Rattle.commands.specs.declared.rows.ReservedRow.{ReservedRow}
 use Rattle.plan.specs.declared.Demand.{Demand}
 use Rattle.plan.specs.declared.Row.{Row}
 use Rattle.plan.specs.Overlap.{reserved_for}
-use Rattle.row_rules.specs.Seen.{capped, number_seen}
-use Rattle.row_rules.specs.Plans.{need_seen, supplies_seen, plan_within, named_rows}
+use Rattle.row_rules.specs.Seen.{capped, number_seen, staged_units}
+use Rattle.row_rules.specs.OpenLines.{open_units_among}
+use Rattle.row_rules.specs.Plans.{supplies_seen, plan_within, named_rows}
 use Rattle.row_rules.specs.declared.slice.Slice.{Slice}
 
--- what the orders of the slice still need of the item together
+-- what open orders have ordered of the item and not got
+abbrev pub open_units_seen : Slice → List ℕ → ℕ
+open_units_seen s g = open_units_among g s.rows.orders s.rows.lines
+
+-- what they still need: all but what is staged for them
 abbrev pub needs_seen : Slice → List ℕ → ℕ
-needs_seen s g = capped (total (need_seen g s.rows.lines s.rows.staged) s.rows.orders)
+needs_seen s g = open_units_seen s g - capped (staged_units g s.rows.staged)
 
 -- What is reserved for the last booking depends on the sum of the needs before it alone. So one demand stands for them, under
 -- the number 0 that no act has.

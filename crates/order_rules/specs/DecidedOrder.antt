@@ -1,7 +1,6 @@
 -- What is decided of an order by the rows of its slice: the conditions judged, and the rows changed.
-use Rattle.std.specs.Prelude.{ℕ, ◌+◌, ◌-◌, Bool, not, ◌&&◌, nat_lt, if◌then◌else◌, List, [], ◌∷◌, map, flat_map, find, Option, Some, None}
+use Rattle.std.specs.Prelude.{ℕ, ◌+◌, Bool, not, nat_lt, List, [], ◌∷◌, map, flat_map, Some}
 use Rattle.std.specs.List.{list_any}
-use Rattle.values.specs.Values.{same_text}
 use Rattle.commands.specs.Lists.{total}
 use Rattle.commands.specs.declared.limits.TheConstants.{OPEN_MAX}
 use Rattle.commands.specs.declared.refusal.Refusal.TheVariants.{UnknownItem, OrderExists, ItemTwice, OverOrdered}
@@ -11,13 +10,12 @@ use Rattle.commands.specs.declared.rows.OrderState.TheVariants.{Open}
 use Rattle.commands.specs.declared.rows.OrderRow.{OrderRow}
 use Rattle.commands.specs.declared.rows.LineRow.{LineRow}
 use Rattle.commands.specs.declared.rows.ReservedRow.{ReservedRow}
-use Rattle.machine.specs.Planning.{is_open_state}
 use Rattle.machine.specs.Verdict.{Judgement, names_item_twice}
 use Rattle.commands.specs.Replies.{reply_text}
 use Rattle.commands.specs.declared.replies.ReplyField.TheVariants.{UnitsShort}
 use Rattle.row_rules.specs.Seen.{capped, sees_item, number_seen, meta_after, none_put, none_dropped}
 use Rattle.row_rules.specs.SeenOrders.{sees_order}
-use Rattle.order_rules.specs.Booked.{line_put, line_short}
+use Rattle.order_rules.specs.Booked.{open_units_seen, line_put, line_short}
 use Rattle.row_rules.specs.declared.slice.Slice.{Slice}
 use Rattle.row_rules.specs.declared.slice.Change.{Change}
 
@@ -26,19 +24,6 @@ use Rattle.row_rules.specs.declared.slice.Change.{Change}
 -- one of the lines is of an item that the slice does not have
 abbrev pub misses_item : Slice → List OrderLine → Bool
 misses_item s lines = list_any (λ l. not (sees_item s l.gtin)) lines
-
-abbrev pub open_units_of_line : Option LineRow → ℕ
-open_units_of_line None = 0
-open_units_of_line (Some l) = l.ordered - l.shipped
-
--- ordered less shipped of the item, if the order is open
-abbrev pub open_units_of : List ℕ → List LineRow → OrderRow → ℕ
-open_units_of g lines o =
-    if is_open_state o.state then open_units_of_line (find (λ l. same_text o.order l.order && same_text g l.gtin) lines) else 0
-
--- and of all orders
-abbrev pub open_units_seen : Slice → List ℕ → ℕ
-open_units_seen s g = capped (total (open_units_of g s.rows.lines) s.rows.orders)
 
 -- with one of the lines more units of its item would be ordered than the limit
 abbrev pub orders_too_much : Slice → List OrderLine → Bool

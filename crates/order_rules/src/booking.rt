@@ -4,14 +4,15 @@ ghost use Rattle.std.specs.Prelude.{◌≡◌, map, flat_map, IfOk};
 ghost use Rattle.commands.specs.Lists.{total};
 ghost use Rattle.row_rules.specs.Seen.{capped};
 ghost use Rattle.order_rules.specs.DecidedOrder.{new_order_row as new_order_row_lem, new_line_rows as new_line_rows_lem, order_rows_to_put, short_seen};
-ghost use Rattle.order_rules.specs.Booked.{demand_before as demand_before_lem, demand_booked as demand_booked_lem, plan_booked as plan_booked_lem, line_put, line_short};
+ghost use Rattle.order_rules.specs.Booked.{open_units_seen as open_units_seen_lem, needs_seen as needs_seen_lem, demand_before as demand_before_lem, demand_booked as demand_booked_lem, plan_booked as plan_booked_lem, line_put, line_short};
 
 use commands::{LineRow, Listed, NewOrder, OrderLine, OrderRow, OrderState, ReservedRow};
 use plan::{Demand, Plan};
 use row_rules::Slice;
 use row_rules::changing::number_seen;
-use row_rules::demands::sum_of_needs;
+use row_rules::open_lines::sum_of_open_units;
 use row_rules::plans::{named_rows, plan_with_last};
+use row_rules::summing::sum_of_staged;
 use row_rules::supplies::supplies_seen;
 use std::alloc::{AllocError, Global};
 use values::{Gtin, Name};
@@ -128,19 +129,29 @@ fn plan_booked(alloc: Global, slice: &Slice, line: &OrderLine) -> Result<Plan, A
     )
 }
 
+/// What open orders of the slice have ordered of an item and not got.
+pub fn open_units_seen(slice: &Slice, gtin: &Gtin) -> u64
+    ensures { result ≡ open_units_seen_lem slice.now gtin.now }
+{
+    let rows = &slice.rows;
+    sum_of_open_units(rows.orders.as_slice(), rows.lines.as_slice(), gtin)
+}
+
+// What they still need: all but what is staged for them.
+fn needs_seen(slice: &Slice, gtin: &Gtin) -> u64
+    ensures { result ≡ needs_seen_lem slice.now gtin.now }
+{
+    let staged = sum_of_staged(slice.rows.staged.as_slice(), gtin);
+    open_units_seen(slice, gtin).saturating_sub(staged)
+}
+
 // One demand for all that the orders of the slice need of an item; no act has its number.
 fn demand_before(slice: &Slice, gtin: &Gtin) -> Demand
     ensures { result ≡ demand_before_lem slice.now gtin.now }
 {
-    let rows = &slice.rows;
     Demand {
         booking: 0,
-        need: sum_of_needs(
-            gtin,
-            rows.lines.as_slice(),
-            rows.staged.as_slice(),
-            rows.orders.as_slice(),
-        ),
+        need: needs_seen(slice, gtin),
     }
 }
 

@@ -4,18 +4,17 @@ ghost use Rattle.std.specs.Prelude.{◌≡◌, ◌+◌, not, nat_lt, Some, IfOk}
 ghost use Rattle.std.specs.List.{list_any};
 ghost use Rattle.values.specs.Values.{same_text};
 ghost use Rattle.commands.specs.declared.limits.TheConstants.{OPEN_MAX};
-ghost use Rattle.commands.specs.Lists.{total};
 ghost use Rattle.commands.specs.Replies.{reply_text};
 ghost use Rattle.commands.specs.declared.replies.ReplyField.TheVariants.{UnitsShort};
 ghost use Rattle.machine.specs.Verdict.{first_refusal, names_item_twice as names_item_twice_lem};
 ghost use Rattle.row_rules.specs.Seen.{capped, meta_after, none_put, none_dropped, number_seen as number_seen_lem};
-ghost use Rattle.order_rules.specs.DecidedOrder.{order_seen, order_changes, misses_item as misses_item_lem, orders_too_much as orders_too_much_lem, open_units_seen as open_units_seen_lem, open_units_of as open_units_of_lem, open_units_of_line as open_units_of_line_lem};
+ghost use Rattle.order_rules.specs.DecidedOrder.{order_seen, order_changes, misses_item as misses_item_lem, orders_too_much as orders_too_much_lem};
+ghost use Rattle.order_rules.specs.Booked.{open_units_seen as open_units_seen_lem};
 
-use crate::booking::{Booked, book_order, new_line_rows, new_order_row};
+use crate::booking::{Booked, book_order, new_line_rows, new_order_row, open_units_seen};
 use commands::limits::OPEN_MAX;
 use commands::{LineRow, Listed, NewOrder, OrderLine, OrderRow, Refusal, ReplyField, Short, reply};
 use row_rules::changing::{meta_next, none_dropped, none_put, number_seen, one};
-use row_rules::demands::{find_line, is_open};
 use row_rules::judging::first_of;
 use row_rules::orders_seen::sees_order;
 use row_rules::seeing::sees_item;
@@ -89,46 +88,8 @@ fn orders_too_much(slice: &Slice, lines: &[OrderLine]) -> bool
 fn exceeds_open(slice: &Slice, line: &OrderLine) -> bool
     ensures { result ≡ nat_lt OPEN_MAX (capped (open_units_seen_lem slice.now line.now.gtin + line.now.qty)) }
 {
-    let open = open_units(slice, &line.gtin);
+    let open = open_units_seen(slice, &line.gtin);
     OPEN_MAX < open.saturating_add(u64::from(line.qty.units()))
-}
-
-fn open_units(slice: &Slice, gtin: &Gtin) -> u64
-    ensures { result ≡ open_units_seen_lem slice.now gtin.now }
-{
-    sum_of_open_units(
-        slice.rows.orders.as_slice(),
-        slice.rows.lines.as_slice(),
-        gtin,
-    )
-}
-
-fn sum_of_open_units(orders: &[OrderRow], lines: &[LineRow], gtin: &Gtin) -> u64
-    ensures { result ≡ capped (total (open_units_of_lem gtin.now lines.now) orders.now) }
-{
-    let mut sum = 0_u64;
-    for order in orders {
-        sum = sum.saturating_add(open_units_of(gtin, lines, order));
-    }
-    sum
-}
-
-// Ordered less shipped of the item, if the order is open.
-fn open_units_of(gtin: &Gtin, lines: &[LineRow], order: &OrderRow) -> u64
-    ensures { result ≡ open_units_of_lem gtin.now lines.now order.now }
-{
-    let open = is_open(order.state);
-    let units = open_units_of_line(find_line(lines, &order.order, gtin));
-    if open { units } else { 0 }
-}
-
-fn open_units_of_line(line: Option<LineRow>) -> u64
-    ensures { result ≡ open_units_of_line_lem line }
-{
-    match line {
-        None => 0,
-        Some(l) => l.ordered.saturating_sub(l.shipped),
-    }
 }
 
 /// What an order changes.

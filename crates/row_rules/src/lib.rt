@@ -8,6 +8,7 @@ pub mod demands;
 pub mod judging;
 pub mod looking;
 pub mod lots;
+pub mod open_lines;
 pub mod orders_seen;
 pub mod plans;
 pub mod pushing;

@@ -6,7 +6,8 @@ use Rattle.commands.specs.declared.command.NewOrder.{NewOrder}
 use Rattle.commands.specs.declared.refusal.Refusal.TheVariants.{UnknownItem, OrderExists, ItemTwice, OverOrdered}
 use Rattle.commands.specs.declared.rows.OrderState.TheVariants.{Open}
 use Rattle.machine.specs.Verdict.{first_refusal}
-use Rattle.order_rules.specs.DecidedOrder.{order_seen, order_changes, open_units_seen}
+use Rattle.order_rules.specs.DecidedOrder.{order_seen, order_changes}
+use Rattle.order_rules.specs.Booked.{open_units_seen}
 use Rattle.row_rules.specs.declared.slice.Slice.{Slice}
 use Rattle.machine.proofs.examples.ExampleHistories.{may_4, may_31, june_30, OATS, RYE, A1, S1, S2, L1, L2}
 

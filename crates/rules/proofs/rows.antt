@@ -15,6 +15,8 @@ pub mod Ordering
 pub mod LotUnits
 pub mod SameKeys
 pub mod OpenUnits
+pub mod LineSums
+pub mod OpenByLines
 pub mod LotTold
 pub mod WithoutRows
 pub mod StockChanged

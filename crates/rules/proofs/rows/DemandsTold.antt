@@ -88,7 +88,7 @@ single_of (q ∷ qs) ps h o p e = elim (same_text o q.order) as (λ b. (if b the
   | false ↦ λ f. single_of qs ps h.1 o p f
 ] e
 
-open_is_uncancelled : (b c : Bool) → is_open_state (if b then Cancelled else (if c then Done else Open)) ≡ true → b ≡ false
+pub open_is_uncancelled : (b c : Bool) → is_open_state (if b then Cancelled else (if c then Done else Open)) ≡ true → b ≡ false
 open_is_uncancelled true c e = let f : false ≡ true = e in cc
 open_is_uncancelled false c e = refl
 

@@ -15,11 +15,12 @@ use Rattle.machine.specs.Planning.{Booking, booking_of, lines_of_item, shipped_o
 use Rattle.machine.specs.Once.{IsHistory}
 use Rattle.machine.specs.Tables.{order_row}
 use Rattle.machine.specs.KeyedRows.{AreOwn}
-use Rattle.order_rules.specs.DecidedOrder.{open_units_of, open_units_of_line}
+use Rattle.row_rules.specs.OpenLines.{open_of_line}
 use Rattle.machine.proofs.Tests.{same_text_is, same_text_turned}
 use Rattle.machine.proofs.Apart.{AllFound}
 use Rattle.machine.proofs.histories.Orders.{same_order, orders_apart, orders_found, orders_single}
 use Rattle.machine.proofs.histories.Bookings.{total_flat}
+use Rattle.rules.proofs.rows.OpenByLines.{units_open, open_of_order, open_by_lines}
 use Rattle.rules.proofs.rows.Telling.{rows_tell, some_of_mapped, found_key}
 use Rattle.rules.proofs.rows.DemandsTold.{TellsDemands, listed, line_found, single_of, line_told, no_line, either}
 
@@ -52,7 +53,7 @@ module _ (first : ℤ) (acts : List Act) (history : IsHistory first acts) (g : L
   none_open p e (l ∷ ls) = let z : booking_open (booking_of p l) ≡ 0 = ap (λ b. if b then l.qty - shipped_of first acts p.order l.gtin else 0) e in omega (arith, z, none_open p e ls)
 
   by_line : (p : Placed) → is_open first acts p.order ≡ true → (x : Option OrderLine) → find (λ l. same_text g l.gtin) p.lines ≡ x
-      → open_units_of_line (option_map (λ l. record { order = p.order; gtin = g; ordered = l.qty; shipped = shipped_of first acts p.order g }) x) ≡ total booking_open (map (booking_of p) (listed x))
+      → units_open (option_map (λ l. record { order = p.order; gtin = g; ordered = l.qty; shipped = shipped_of first acts p.order g }) x) ≡ total booking_open (map (booking_of p) (listed x))
   by_line p e None f = refl
   by_line p e (Some l) f =
       let own : g ≡ l.gtin = found_key same_text same_text_is same_text_turned (λ (m : OrderLine). m.gtin) g p.lines l f in
@@ -60,24 +61,24 @@ module _ (first : ℤ) (acts : List Act) (history : IsHistory first acts) (g : L
       let same : l.qty - shipped_of first acts p.order g ≡ l.qty - shipped_of first acts p.order l.gtin = ap (λ (x : List ℕ). l.qty - shipped_of first acts p.order x) own in
       same ∙ sym still ∙ omega arith
 
-  at_placed : (p : Placed) → order_named acts p.order ≡ Some p → open_units_of g line_rows (show p) ≡ order_open p.order
+  at_placed : (p : Placed) → order_named acts p.order ≡ Some p → open_of_order g line_rows (show p) ≡ order_open p.order
   at_placed p named =
       elim (is_open first acts p.order) as (λ b. is_open first acts p.order ≡ b
-      → (if b then open_units_of_line (find (λ l. same_text p.order l.order && same_text g l.gtin) line_rows) else 0) ≡ total booking_open (lines_of_item g p)) [
+      → (if b then units_open (find (λ l. same_text p.order l.order && same_text g l.gtin) line_rows) else 0) ≡ total booking_open (lines_of_item g p)) [
         | true ↦ λ e.
-            ap open_units_of_line (line_told first acts history g order_rows line_rows staged_rows tells p named e) ∙ by_line p e (find (λ l. same_text g l.gtin) p.lines) refl
+            ap units_open (line_told first acts history g order_rows line_rows staged_rows tells p named e) ∙ by_line p e (find (λ l. same_text g l.gtin) p.lines) refl
             ∙ ap (λ ls. total booking_open (map (booking_of p) ls)) (sym (line_found g p.lines (single_of (orders acts) [] (orders_single first acts history) p.order p named)))
         | false ↦ λ e. sym (none_open p e (filter (λ l. same_text g l.gtin) p.lines))
       ] refl
       ∙ sym (ap open_of named)
 
-  row_told : (r : OrderRow) → order_row first acts r.order ≡ Some r → open_units_of g line_rows r ≡ order_open r.order
+  row_told : (r : OrderRow) → order_row first acts r.order ≡ Some r → open_of_order g line_rows r ≡ order_open r.order
   row_told r e =
       let m = some_of_mapped show (order_named acts r.order) r e in
-      let P : OrderRow → Type 0 = λ x. open_units_of g line_rows x ≡ order_open x.order in
+      let P : OrderRow → Type 0 = λ x. open_of_order g line_rows x ≡ order_open x.order in
       subst P m.2 (at_placed m.0 (ap (λ (x : OrderRow). order_named acts x.order) m.2 ∙ m.1))
 
-  rows_told : (rows : List OrderRow) → AreOwn (λ (r : OrderRow). r.order) (λ o. true) (order_row first acts) rows → total (open_units_of g line_rows) rows ≡ total (λ (r : OrderRow). order_open r.order) rows
+  rows_told : (rows : List OrderRow) → AreOwn (λ (r : OrderRow). r.order) (λ o. true) (order_row first acts) rows → total (open_of_order g line_rows) rows ≡ total (λ (r : OrderRow). order_open r.order) rows
   rows_told [] h = refl
   rows_told (r ∷ rs) h = λ i. row_told r h.1 i + rows_told rs h.2 i
 
@@ -97,9 +98,10 @@ module _ (first : ℤ) (acts : List Act) (history : IsHistory first acts) (g : L
   each_named (p ∷ ps) h = λ i. open_of (h.0 i) + each_named ps h.1 i
 
   -- the rows tell the open units of the item
-  pub rows_tell_open_units : total (open_units_of g line_rows) order_rows ≡ open_units first acts g
+  pub rows_tell_open_units : total (open_of_line g order_rows) line_rows ≡ open_units first acts g
   rows_tell_open_units =
-      rows_told order_rows tells.orders.own
+      open_by_lines g order_rows line_rows tells.orders.once tells.lines.once
+      ∙ rows_told order_rows tells.orders.own
       ∙ rows_tell same_text same_text_is same_text_turned (λ (p : Placed). p.order) (λ (r : OrderRow). r.order) show (orders acts) (orders_apart first acts history) (orders_found first acts history)
       order_open (λ o. is_open first acts o && has_line acts o g) (λ o. true) order_rows tells.orders.found tells.orders.own tells.orders.once none_if_not_needed
       ∙ each_named (orders acts) (orders_found first acts history) ∙ sym (total_flat booking_open g (orders acts))

@@ -2,7 +2,7 @@ use Rattle.std.specs.Prelude.{◌+◌, nat_lt}
 use Rattle.commands.specs.declared.limits.TheConstants.{OPEN_MAX}
 use Rattle.commands.specs.declared.command.OrderLine.{OrderLine}
 use Rattle.row_rules.specs.Seen.{capped}
-use Rattle.order_rules.specs.DecidedOrder.{open_units_seen}
+use Rattle.order_rules.specs.Booked.{open_units_seen}
 use Rattle.row_rules.proofs.Searching.{IsTested}
 use Rattle.order_rules.proofs.customer_orders.orders_too_much.Given as goal
 

@@ -1,7 +1,8 @@
 -- What the rows of an order's slice tell of its lines: the plan in which a line is booked last has its rows of the plan after the act.
-use Rattle.std.proofs.Common.{◌≡◌, ℕ, ◌+◌, ◌-◌, min, true, List, [], ◌∷◌, ◌++◌, refl, ap, sym, ◌∙◌, arith}
+use Rattle.std.proofs.Common.{◌≡◌, ℕ, ◌+◌, ◌-◌, ◌≤◌, min, true, List, [], ◌∷◌, ◌++◌, refl, ap, sym, ◌∙◌, arith}
 use Rattle.std.specs.Prelude.{ℤ, filter}
 use Rattle.values.specs.Values.{same_text}
+use Rattle.commands.specs.declared.limits.TheConstants.{UNITS_MAX}
 use Rattle.commands.specs.declared.key.Key.{Key}
 use Rattle.commands.specs.declared.command.OrderLine.{OrderLine}
 use Rattle.commands.specs.declared.command.NewOrder.{NewOrder}
@@ -20,14 +21,15 @@ use Rattle.machine.specs.Once.{IsHistory}
 use Rattle.machine.specs.Tables.{tables_of}
 use Rattle.machine.specs.Touched.{is_touched}
 use Rattle.rules.specs.Slices.{IsSlice}
-use Rattle.row_rules.specs.Seen.{capped, number_seen}
+use Rattle.row_rules.specs.Seen.{capped, number_seen, staged_units}
 use Rattle.row_rules.specs.Plans.{supplies_seen, supplies_within, plan_within, named_rows}
 use Rattle.row_rules.proofs.Cutting.{plan_of_cut}
 use Rattle.order_rules.specs.Booked.{needs_seen, plan_booked, line_put}
 use Rattle.order_rules.specs.DecidedOrder.{new_order_row}
 use Rattle.row_rules.specs.declared.slice.Slice.{Slice}
 use Rattle.machine.proofs.histories.PlanRows.{unequal_back}
-use Rattle.rules.proofs.rows.NeedsTold.{rows_tell_needs}
+use Rattle.rules.proofs.rows.OpenUnits.{rows_tell_open_units}
+use Rattle.rules.proofs.rows.NeedsTold.{rows_tell_needs, stages_within_limit}
 use Rattle.rules.proofs.rows.SliceDemands.{slice_tells_demands}
 use Rattle.rules.proofs.rows.SliceSupplies.{slice_tells_supplies}
 use Rattle.rules.proofs.rows.SuppliesTold.{rows_tell_supplies, supplies_within_limit}
@@ -36,12 +38,12 @@ use Rattle.rules.proofs.decided.orders.OrderStep.{new_row}
 use Rattle.rules.proofs.decided.orders.OrderTells.{is_new, number_is, row_is}
 use Rattle.rules.proofs.decided.orders.OrderPlan.{NotBooked, not_booked, for_behind, named_behind, line_demand, line_rows, plan_after, others_booked}
 
--- what of the needs lies beyond the caps serves nothing
-capped_same : (n number qty : ℕ) (ss : List Supply)
-    → plan_within (record { booking = 0; need = capped n } ∷ record { booking = number; need = qty } ∷ []) ss ≡ plan_within (record { booking = 0; need = n } ∷ record { booking = number; need = qty } ∷ []) ss
-capped_same n number qty ss =
-    let low : min (capped n) SUM_MAX ≡ min n SUM_MAX = omega arith in
-    let room : SUM_MAX - capped n ≡ SUM_MAX - n = omega arith in
+-- what of the units that are open lies beyond the caps serves nothing
+needs_same : (wanted staged number qty : ℕ) (ss : List Supply) → staged ≤ UNITS_MAX
+    → plan_within (record { booking = 0; need = capped (wanted + staged) - capped staged } ∷ record { booking = number; need = qty } ∷ []) ss ≡ plan_within (record { booking = 0; need = wanted } ∷ record { booking = number; need = qty } ∷ []) ss
+needs_same wanted staged number qty ss h =
+    let low : min (capped (wanted + staged) - capped staged) SUM_MAX ≡ min wanted SUM_MAX = omega (arith, h) in
+    let room : SUM_MAX - (capped (wanted + staged) - capped staged) ≡ SUM_MAX - wanted = omega (arith, h) in
     (λ i. plan_rows (record { booking = 0; need = low i } ∷ record { booking = number; need = min qty (room i) } ∷ []) (supplies_within SUM_MAX ss))
 
 module _ (first : ℤ) (acts : List Act) (key : Key) (o : NewOrder) (s : Slice) (slice : IsSlice first (record { key = key; command = Order o }) acts (tables_of first acts) s)
@@ -72,8 +74,14 @@ module _ (first : ℤ) (acts : List Act) (key : Key) (o : NewOrder) (s : Slice) 
   abbrev offered : List Supply
   offered = supplies_seen g (today first acts) s.rows.recalls s.rows.bins s.rows.stock s.rows.lots
 
-  needs_told : needs_seen s g ≡ capped wanted
-  needs_told = ap capped (rows_tell_needs first acts next.0 g s.rows.orders s.rows.lines s.rows.staged (slice_tells_demands first acts act s slice g touched))
+  abbrev staged : ℕ
+  staged = staged_units g s.rows.staged
+
+  needs_told : needs_seen s g ≡ capped (wanted + staged) - capped staged
+  needs_told =
+      let tells = slice_tells_demands first acts act s slice g touched in
+      ap (λ n. capped n - capped staged)
+      (rows_tell_open_units first acts next.0 g s.rows.orders s.rows.lines s.rows.staged tells ∙ sym (rows_tell_needs first acts next.0 g s.rows.orders s.rows.lines s.rows.staged tells))
 
   booked_is : plan_booked s l ≡ plan_rows (together ∷ []) (supplies first acts g) ++ own_rows
   booked_is =
@@ -81,7 +89,8 @@ module _ (first : ℤ) (acts : List Act) (key : Key) (o : NewOrder) (s : Slice) 
       let start : wanted + 0 ≡ wanted = omega arith in
       (λ i. plan_within (record { booking = 0; need = needs_told i } ∷ record { booking = number_is first acts key o s slice next i; need = l.qty } ∷ [])
       (supplies_seen g (day_seen first acts act s slice i) s.rows.recalls s.rows.bins s.rows.stock s.rows.lots))
-      ∙ capped_same wanted (next_number acts) l.qty offered
+      ∙ needs_same wanted staged (next_number acts) l.qty offered
+      (stages_within_limit first acts next.0 g s.rows.orders s.rows.lines s.rows.staged (slice_tells_demands first acts act s slice g touched))
       ∙ plan_of_cut (together ∷ own ∷ []) offered (supplies_within_limit first acts next.0 g s.rows.lots s.rows.recalls s.rows.stock s.rows.bins tells)
       ∙ same_plan (together ∷ own ∷ []) (together ∷ own ∷ []) offered (supplies first acts g) refl (rows_tell_supplies first acts next.0 g s.rows.lots s.rows.recalls s.rows.stock s.rows.bins tells)
       ∙ plan_rows-append (together ∷ []) (own ∷ []) (supplies first acts g)

@@ -20,7 +20,8 @@ use Rattle.machine.specs.Touched.{is_touched}
 use Rattle.rules.specs.Slices.{IsSlice}
 use Rattle.row_rules.specs.Seen.{capped}
 use Rattle.machine.specs.Verdict.{first_refusal, judgement, names_item_twice}
-use Rattle.order_rules.specs.DecidedOrder.{order_seen, misses_item, orders_too_much, open_units_of}
+use Rattle.row_rules.specs.OpenLines.{open_of_line}
+use Rattle.order_rules.specs.DecidedOrder.{order_seen, misses_item, orders_too_much}
 use Rattle.row_rules.specs.declared.slice.Slice.{Slice}
 use Rattle.machine.proofs.Tests.{or_later, same_text_refl}
 use Rattle.rules.proofs.rows.SliceTells.{item_told}
@@ -60,12 +61,12 @@ module _ (first : ℤ) (acts : List Act) (key : Key) (o : NewOrder) (s : Slice)
   items_told [] h = refl
   items_told (l ∷ ls) h = λ i. not (item_told first acts act s slice l.gtin h.0 i) || items_told ls h.1 i
 
-  units_told : (g : List ℕ) → is_touched first act acts g ≡ true → total (open_units_of g s.rows.lines) s.rows.orders ≡ open_units first acts g
+  units_told : (g : List ℕ) → is_touched first act acts g ≡ true → total (open_of_line g s.rows.orders) s.rows.lines ≡ open_units first acts g
   units_told g t = rows_tell_open_units first acts history g s.rows.orders s.rows.lines s.rows.staged (slice_tells_demands first acts act s slice g t)
 
   too_much_told : (ls : List OrderLine) → AllAmong o.lines ls → orders_too_much s ls ≡ list_any (λ l. nat_lt OPEN_MAX (open_units first acts l.gtin + l.qty)) ls
   too_much_told [] h = refl
-  too_much_told (l ∷ ls) h = λ i. more_than (total (open_units_of l.gtin s.rows.lines) s.rows.orders) l.qty (open_units first acts l.gtin) (units_told l.gtin h.0) i || too_much_told ls h.1 i
+  too_much_told (l ∷ ls) h = λ i. more_than (total (open_of_line l.gtin s.rows.orders) s.rows.lines) l.qty (open_units first acts l.gtin) (units_told l.gtin h.0) i || too_much_told ls h.1 i
 
   pub order_judged : first_refusal (order_seen s o) ≡ first_refusal (judgement first acts (Order o))
   order_judged =
