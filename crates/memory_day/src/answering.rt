@@ -1,6 +1,6 @@
 //! A house that answers the day's requests.
 
-use crate::day::{ALL, BOOKED, MADE, Step, steps, steps_to};
+use crate::day::{ALL, BOOKED, MADE, Step, step_at};
 use crate::exchange::Exchange;
 use crate::making::{made, opened};
 use crate::rows::has_rows;
@@ -9,15 +9,15 @@ use sqlite::{Alter, Connection};
 use std::alloc::Global;
 use trials::{Fault, Told};
 
-/// A house with new books, which has answered the steps up to this one.
+/// A house with new books, after so many steps.
 pub(crate) fn house_after<S: Alter + Drop>(
     alloc: Global,
     conn: Connection<S>,
-    steps: &[Step],
+    done: usize,
 ) -> Result<House<S>, Fault> {
     let mut house = House::new(alloc, made(alloc, conn)?);
-    for step in steps {
-        answers(alloc, &mut house, step)?;
+    for place in MADE..done {
+        answers(alloc, &mut house, step_at(place)?)?;
     }
     Ok(house)
 }
@@ -37,7 +37,7 @@ pub(crate) fn booked<S: Alter + Drop>(
     alloc: Global,
     conn: Connection<S>,
 ) -> Result<Connection<S>, Fault> {
-    let house = house_after(alloc, conn, steps(MADE, BOOKED))?;
+    let house = house_after(alloc, conn, BOOKED)?;
     Ok(house.close().close())
 }
 
@@ -48,11 +48,11 @@ fn ask<S: Alter>(rt: &HostRuntime, house: &mut House<S>, step: &Step, exchange: 
     call.end(rt, exchange.told_by(answered.as_bytes()))
 }
 
-/// The house again, whose tables have the rows after these steps.
+/// The house again, whose tables have the rows after so many steps.
 pub(crate) fn compared<S: Alter + Drop>(
     alloc: Global,
     house: House<S>,
-    done: &[Step],
+    done: usize,
 ) -> Result<House<S>, Fault> {
     let mut conn = house.close().close();
     has_rows(alloc, &mut conn, done)?;
@@ -68,27 +68,27 @@ pub(crate) enum Compares {
     Each,
 }
 
-// The step that comes after these. Where there was no memory the rows are as before, and the request is sent again.
+// The step at the place. Where there was no memory the rows are as before, and the request is sent again.
 fn next<S: Alter + Drop>(
     rt: &HostRuntime,
     house: House<S>,
     place: usize,
-    step: &Step,
     compares: Compares,
 ) -> Result<(House<S>, u64), Fault> {
     let alloc = rt.alloc();
+    let step = step_at(place)?;
     let exchange = Exchange::of(alloc, step)?;
     let mut house = house;
     let refused = match ask(rt, &mut house, step, &exchange) {
         Told::Expected => 0,
         Told::NoMemory => {
-            house = compared(alloc, house, steps_to(place))?;
+            house = compared(alloc, house, place)?;
             ask(rt, &mut house, step, &exchange).again()?
         }
         Told::Other => return Err(Fault::Answer),
     };
     if compares == Compares::Each {
-        house = compared(alloc, house, steps_to(place.saturating_add(1)))?;
+        house = compared(alloc, house, place.saturating_add(1))?;
     }
     Ok((house, refused))
 }
@@ -102,11 +102,11 @@ pub(crate) fn day_tried<S: Alter + Drop>(
     let alloc = rt.alloc();
     let mut house = House::new(alloc, made(alloc, conn)?);
     let mut refused = 0u64;
-    for (place, step) in steps_to(ALL).iter().enumerate().skip(MADE) {
-        let (after, count) = next(rt, house, place, step, compares)?;
+    for place in MADE..ALL {
+        let (after, count) = next(rt, house, place, compares)?;
         house = after;
         refused = refused.saturating_add(count);
     }
-    compared(alloc, house, steps_to(ALL))?;
+    compared(alloc, house, ALL)?;
     Ok(refused)
 }

@@ -1,7 +1,7 @@
 //! Requests that are answered in turn by one call.
 
 use crate::answering::house_after;
-use crate::day::{BOOKED, MADE, SET_UP, Step, steps, steps_to};
+use crate::day::{BOOKED, SET_UP, step_at};
 use crate::exchange::Exchange;
 use crate::making::opened;
 use crate::rows::{has_rows, have_same_rows};
@@ -10,10 +10,10 @@ use sqlite::{Alter, Connection};
 use std::alloc::{AllocError, Global};
 use trials::{Call, Fault, Told};
 
-fn exchanges(alloc: Global, steps: &[Step]) -> Result<Vec<Exchange>, Fault> {
+fn exchanges(alloc: Global) -> Result<Vec<Exchange>, Fault> {
     let mut exchanges = Vec::new(alloc);
-    for step in steps {
-        exchanges.push(Exchange::of(alloc, step)?)?;
+    for place in SET_UP..BOOKED {
+        exchanges.push(Exchange::of(alloc, step_at(place)?)?)?;
     }
     Ok(exchanges)
 }
@@ -110,14 +110,14 @@ pub(crate) fn answer_all_tried<S: Alter + Drop>(
     other: Connection<S>,
 ) -> Result<u64, Fault> {
     let alloc = rt.alloc();
-    let exchanges = exchanges(alloc, steps(SET_UP, BOOKED))?;
+    let exchanges = exchanges(alloc)?;
     let texts = texts_without(alloc, exchanges.as_slice(), None)?;
-    let mut house = house_after(alloc, conn, steps(MADE, SET_UP))?;
+    let mut house = house_after(alloc, conn, SET_UP)?;
     let (all, answers) = ask_all(rt, &mut house, exchanges.as_slice(), texts.as_slice());
     let mut conn = house.close().close();
     match all {
         All::Expected => {
-            has_rows(alloc, &mut conn, steps_to(BOOKED))?;
+            has_rows(alloc, &mut conn, BOOKED)?;
             Ok(0)
         }
         All::NoMemory => asked_again(rt, conn, exchanges.as_slice(), texts.as_slice()),
@@ -138,11 +138,11 @@ fn asked_again<S: Alter + Drop>(
     texts: &[Vec<u8>],
 ) -> Result<u64, Fault> {
     let mut conn = conn;
-    has_rows(rt.alloc(), &mut conn, steps_to(SET_UP))?;
+    has_rows(rt.alloc(), &mut conn, SET_UP)?;
     let mut house = House::new(rt.alloc(), opened(rt.alloc(), conn)?);
     let (all, _) = ask_all(rt, &mut house, exchanges, texts);
     let mut conn = house.close().close();
-    has_rows(rt.alloc(), &mut conn, steps_to(BOOKED))?;
+    has_rows(rt.alloc(), &mut conn, BOOKED)?;
     all.told().again()
 }
 
@@ -156,7 +156,7 @@ fn is_as_without<S: Alter + Drop>(
     others: &[Vec<u8>],
 ) -> Result<(), Fault> {
     let mut conn = conn;
-    let mut house = house_after(alloc, other, steps(MADE, SET_UP))?;
+    let mut house = house_after(alloc, other, SET_UP)?;
     let expected = house.answer_all(others)?;
     if !are_same_but(answers.as_slice(), place, expected.as_slice()) {
         return Err(Fault::Answer);

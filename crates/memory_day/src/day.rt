@@ -1,6 +1,6 @@
 //! The day's work: requests, their answers, and the rows of the tables after each.
 
-use trials::Call;
+use trials::{Call, Fault};
 
 /// A request, its answer, and the rows after it.
 pub(crate) struct Step {
@@ -30,16 +30,20 @@ pub(crate) const SET_UP: usize = 6;
 /// After so many the two customers have ordered, and three lots have come.
 pub(crate) const BOOKED: usize = 11;
 
+/// After so many the first order is shipped and a lot of it recalled.
+const SHIPPED: usize = 15;
+
+/// After so many everything was shown.
+const SHOWN: usize = 21;
+
 /// All steps.
-pub(crate) const ALL: usize = usize::MAX;
+pub(crate) const ALL: usize = 23;
 
 // Days are numbered from 1970-01-01: 2026-05-04 is 20577, 2026-05-10 is 20583, 2026-05-31 is 20604, 2026-06-30 is 20634,
 // 2026-11-30 is 20787 and 2026-12-31 is 20818.
 
-/// Books are made on 2026-05-04. There are two items and three bins; three lots come, and two customers order; what the
-/// first one ordered is picked and shipped; a lot that was shipped is recalled; everything is shown; a goods-in file comes;
-/// the next day is opened.
-static DAY: [Step; 23] = [
+/// Books are made on 2026-05-04, with two items and three bins.
+static SET_UP_STEPS: [Step; 6] = [
     Step {
         asked: "create",
         told: "",
@@ -97,6 +101,10 @@ static DAY: [Step; 23] = [
             ("bins", "A-01|STORE\nA-02|STORE\nQ-01|HOLD\nRETURNS|HOLD\n"),
         ],
     },
+];
+
+/// Three lots come, and two customers order.
+static BOOKED_STEPS: [Step; 5] = [
     Step {
         asked: r#"POST /receipts {"delivery":"D-1","line":1,"label":"01095060001343521726063010L1","bin":"A-01","qty":10}"#,
         told: r#"{"act":6}"#,
@@ -186,6 +194,10 @@ static DAY: [Step; 23] = [
             ),
         ],
     },
+];
+
+/// What the first customer ordered is picked and shipped, and a lot that was shipped is recalled.
+static SHIPPED_STEPS: [Step; 4] = [
     Step {
         asked: r#"POST /picks {"key":"K-11","order":"S-1","gtin":"09506000134352","lot":"L0","bin":"A-01","qty":5}"#,
         told: r#"{"act":11}"#,
@@ -259,6 +271,10 @@ static DAY: [Step; 23] = [
             ("reserved", "S-2|09506000134352|L1|10\n"),
         ],
     },
+];
+
+/// Everything is shown.
+static SHOWN_STEPS: [Step; 6] = [
     Step {
         asked: "GET /stock/09506000134352",
         told: r#"{"gtin":"09506000134352","lots":[{"bins":[],"expiry":"2026-05-10","lot":"L0","reserved":0,"staged":0,"status":"FREE"},{"bins":[{"bin":"A-01","qty":3}],"expiry":"2026-05-31","lot":"L2","reserved":0,"staged":0,"status":"RECALLED"},{"bins":[{"bin":"A-01","qty":10}],"expiry":"2026-06-30","lot":"L1","reserved":10,"staged":0,"status":"FREE"}],"name":"Oat drink"}"#,
@@ -295,6 +311,10 @@ static DAY: [Step; 23] = [
         repeats: "",
         changes: &[],
     },
+];
+
+/// A goods-in file comes, and the next day is opened.
+static LAST_STEPS: [Step; 2] = [
     Step {
         asked: "POST /goodsin delivery,line,gtin,lot,expiry,bin,qty|D-9,1,09506000134352,M1,261130,A-01,5|D-9,2,09506000134352,M2,261231,A-02,7|D-9,3,04012345000016,N1,261200,A-02,4|",
         told: r#"{"accepted":3,"repeated":0}"#,
@@ -327,19 +347,39 @@ static DAY: [Step; 23] = [
     },
 ];
 
-// The one function that names them: each that does takes long to check.
-fn all_steps() -> &'static [Step] {
-    DAY.as_slice()
+// Each part is named by one function, which takes long to check.
+fn set_up_steps() -> &'static [Step] {
+    SET_UP_STEPS.as_slice()
 }
 
-/// The steps from this place on up to that one.
-pub(crate) fn steps(from: usize, to: usize) -> &'static [Step] {
-    let all = all_steps();
-    let end = to.min(all.len());
-    &all[from.min(end)..end]
+fn booked_steps() -> &'static [Step] {
+    BOOKED_STEPS.as_slice()
 }
 
-/// The steps up to this place.
-pub(crate) fn steps_to(place: usize) -> &'static [Step] {
-    steps(0, place)
+fn shipped_steps() -> &'static [Step] {
+    SHIPPED_STEPS.as_slice()
+}
+
+fn shown_steps() -> &'static [Step] {
+    SHOWN_STEPS.as_slice()
+}
+
+fn last_steps() -> &'static [Step] {
+    LAST_STEPS.as_slice()
+}
+
+/// The step at this place, counted from 0.
+pub(crate) fn step_at(place: usize) -> Result<&'static Step, Fault> {
+    let (steps, first) = if place < SET_UP {
+        (set_up_steps(), 0)
+    } else if place < BOOKED {
+        (booked_steps(), SET_UP)
+    } else if place < SHIPPED {
+        (shipped_steps(), BOOKED)
+    } else if place < SHOWN {
+        (shown_steps(), SHIPPED)
+    } else {
+        (last_steps(), SHOWN)
+    };
+    steps.get(place - first).ok_or(Fault::Sample)
 }

@@ -1,6 +1,6 @@
 //! Books that are made, and opened.
 
-use crate::day::{BOOKED, MADE, steps_to};
+use crate::day::{BOOKED, MADE};
 use crate::rows::{has_no_table, has_rows};
 use label::{BusinessDay, Day};
 use sqlite::{Alter, Connection};
@@ -155,7 +155,7 @@ fn created_again<S: Alter + Drop>(
 
 fn has_begun<S: Alter + Drop>(rt: &HostRuntime, conn: Connection<S>) -> Result<(), Fault> {
     let mut conn = conn;
-    has_rows(rt.alloc(), &mut conn, steps_to(MADE))
+    has_rows(rt.alloc(), &mut conn, MADE)
 }
 
 /// Opens books that have lots and orders.
@@ -164,7 +164,7 @@ pub(crate) fn open<S: Alter + Drop>(
     conn: Connection<S>,
 ) -> Result<Left<S>, Fault> {
     let mut conn = conn;
-    has_rows(rt.alloc(), &mut conn, steps_to(BOOKED))?;
+    has_rows(rt.alloc(), &mut conn, BOOKED)?;
     if !conn.is_autocommit() {
         return Err(Fault::Books);
     }
@@ -179,5 +179,5 @@ pub(crate) fn has_stayed<S: Alter + Drop>(
     conn: Connection<S>,
 ) -> Result<(), Fault> {
     let mut conn = conn;
-    has_rows(rt.alloc(), &mut conn, steps_to(BOOKED))
+    has_rows(rt.alloc(), &mut conn, BOOKED)
 }

@@ -1,6 +1,6 @@
 //! The rows of every table, as SQL shows them.
 
-use crate::day::Step;
+use crate::day::{Step, step_at};
 use sqlite::{Alter, Connection, Error, ErrorCode, Row};
 use std::alloc::Global;
 use trials::Fault;
@@ -95,45 +95,64 @@ fn shown<S: Alter>(alloc: Global, conn: &mut Connection<S>, query: &str) -> Resu
     }
 }
 
-// The rows of a table after these steps: those of the last step that changes it.
-fn expected(table: &str, done: &[Step]) -> &'static str {
+// The rows of a table after the step, where it changes it.
+fn changed_by(step: &'static Step, table: &str) -> Option<&'static str> {
+    for change in step.changes {
+        if change.0 == table {
+            return Some(change.1);
+        }
+    }
+    None
+}
+
+// The rows of a table after so many steps: those of the last one that changes it.
+fn expected(table: &str, done: usize) -> Result<&'static str, Fault> {
     let mut rows = "";
-    for step in done {
-        for change in step.changes {
-            if change.0 == table {
-                rows = change.1;
-            }
+    for place in 0..done {
+        if let Some(after) = changed_by(step_at(place)?, table) {
+            rows = after;
         }
     }
-    rows
+    Ok(rows)
 }
 
-// Whether these are the rows that the steps add to `repeats`, one after another.
-fn are_repeats(rows: &str, done: &[Step]) -> bool {
+// Whether these are the rows that so many steps add to `repeats`, one after another.
+fn are_repeats(rows: &str, done: usize) -> Result<bool, Fault> {
     let mut rest = rows;
-    for step in done {
-        match rest.strip_prefix(step.repeats) {
+    for place in 0..done {
+        match rest.strip_prefix(step_at(place)?.repeats) {
             Some(more) => rest = more,
-            None => return false,
+            None => return Ok(false),
         }
     }
-    rest.is_empty()
+    Ok(rest.is_empty())
 }
 
-/// The tables have the rows after these steps.
+fn has_rows_of<S: Alter>(
+    alloc: Global,
+    conn: &mut Connection<S>,
+    table: &(&str, &str),
+    done: usize,
+) -> Result<(), Fault> {
+    let found = shown(alloc, conn, table.1)?;
+    if found.as_str() == expected(table.0, done)? {
+        Ok(())
+    } else {
+        Err(Fault::Rows)
+    }
+}
+
+/// The tables have the rows after so many steps.
 pub(crate) fn has_rows<S: Alter>(
     alloc: Global,
     conn: &mut Connection<S>,
-    done: &[Step],
+    done: usize,
 ) -> Result<(), Fault> {
     for table in TABLES.as_slice() {
-        let found = shown(alloc, conn, table.1)?;
-        if found.as_str() != expected(table.0, done) {
-            return Err(Fault::Rows);
-        }
+        has_rows_of(alloc, conn, table, done)?;
     }
     let found = shown(alloc, conn, REPEATS)?;
-    if are_repeats(found.as_str(), done) {
+    if are_repeats(found.as_str(), done)? {
         Ok(())
     } else {
         Err(Fault::Rows)

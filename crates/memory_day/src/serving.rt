@@ -1,7 +1,7 @@
 //! A request that is read from a reader, and whose answer is written to a writer.
 
 use crate::answering::{compared, house_after};
-use crate::day::{MADE, SET_UP, Step, steps, steps_to};
+use crate::day::{SET_UP, Step, step_at};
 use crate::exchange::Exchange;
 use house::House;
 use sqlite::{Alter, Connection};
@@ -34,20 +34,17 @@ pub(crate) fn serve_one_tried<S: Alter + Drop>(
     conn: Connection<S>,
 ) -> Result<u64, Fault> {
     let alloc = rt.alloc();
-    let step = match steps_to(SET_UP + 1).last() {
-        Some(step) => step,
-        None => return Err(Fault::Sample),
-    };
+    let step = step_at(SET_UP)?;
     let exchange = Exchange::of(alloc, step)?;
-    let mut house = house_after(alloc, conn, steps(MADE, SET_UP))?;
+    let mut house = house_after(alloc, conn, SET_UP)?;
     let refused = match serve(rt, &mut house, step, &exchange)? {
         Told::Expected => 0,
         Told::NoMemory => {
-            house = compared(alloc, house, steps_to(SET_UP))?;
+            house = compared(alloc, house, SET_UP)?;
             serve(rt, &mut house, step, &exchange)?.again()?
         }
         Told::Other => return Err(Fault::Answer),
     };
-    compared(alloc, house, steps_to(SET_UP + 1))?;
+    compared(alloc, house, SET_UP + 1)?;
     Ok(refused)
 }
