@@ -34,6 +34,9 @@ pub(crate) fn day(alloc: Global) -> Result<Vec<Exchange>, Fault> {
 /// How many exchanges of the day come before its first receipt.
 pub(crate) const BEFORE_RECEIPTS: usize = 5;
 
+/// How many come before its recall.
+pub(crate) const RECALL: usize = 12;
+
 static NEW_DAY: &str = r#"/days {"key":"K-9","day":"2026-05-05"} => {"act":6,"returned":0}"#;
 
 /// A new day, before the first receipt.

@@ -109,6 +109,10 @@ impl Stored {
             synced,
         })
     }
+
+    fn is_synced(&self) -> bool {
+        self.written.as_slice() == self.synced.as_slice()
+    }
 }
 
 impl Pair {
@@ -126,6 +130,11 @@ impl Pair {
             log: self.log.left(alloc, log)?,
             db: self.db.left(alloc, db)?,
         })
+    }
+
+    /// Of how many of the files a stop can lose what was written.
+    pub(crate) fn unsynced(&self) -> usize {
+        usize::from(!self.log.is_synced()) + usize::from(!self.db.is_synced())
     }
 
     /// Does the work over these files, which stop after so many calls, and gives what they are then.

@@ -1,7 +1,7 @@
 //! All trials, and a line for each.
 
 use crate::cut_off::{readers, writers};
-use crate::day::{BEFORE_RECEIPTS, day, new_day};
+use crate::day::{BEFORE_RECEIPTS, RECALL, day, new_day};
 use crate::exchange::Exchange;
 use crate::fault::Fault;
 use crate::foreign::{read as read_rows, unopened, unseen};
@@ -43,11 +43,15 @@ fn tell_foreign(rt: &HostRuntime, stages: &[Stage]) -> Result<(), Fault> {
 }
 
 fn tell_stops(rt: &HostRuntime, day: &[Exchange], stages: &[Stage]) -> Result<(), Fault> {
-    let run = Run::part(day, stages, 0, day.len());
+    tell_run(rt, "the day", Run::part(day, stages, 0, day.len()))?;
+    tell_run(rt, "the recall", Run::part(day, stages, RECALL, 1))
+}
+
+fn tell_run(rt: &HostRuntime, work: &str, run: Run<'_>) -> Result<(), Fault> {
     for (side, name) in [(Side::Log, "log"), (Side::Database, "database")] {
-        let Count { stops, whole } = run.stop(rt.alloc(), side)?;
+        let Count { stops, left, whole } = run.stop(rt.alloc(), side)?;
         println!(rt;
-            "stops of the {name}: {stops}, with the whole of an act that was not answered {whole}"
+            "{work}, stops of the {name}: {stops}, left {left}, with the whole of an act that was not answered {whole}"
         )?;
     }
     Ok(())

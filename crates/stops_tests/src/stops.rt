@@ -8,14 +8,23 @@ use crate::stages::Stage;
 use crate::work::{Seen, Work};
 use std::alloc::Global;
 
-/// What a stop may lose of the log and of the database: each stop the next of these in turn.
+/// What a stop may lose of the log and of the database. The first three are all that differ where a stop can lose of one of
+/// them only.
 static LOSSES: [(Loss, Loss); 5] = [
     (Loss::Nothing, Loss::Nothing),
     (Loss::All, Loss::All),
+    (Loss::Torn, Loss::Torn),
     (Loss::Nothing, Loss::All),
     (Loss::All, Loss::Nothing),
-    (Loss::Torn, Loss::Torn),
 ];
+
+fn losses(files: &Pair) -> &'static [(Loss, Loss)] {
+    match files.unsynced() {
+        0 => &LOSSES[..1],
+        1 => &LOSSES[..3],
+        _ => LOSSES.as_slice(),
+    }
+}
 
 /// The file that stops.
 #[derive(Clone, Copy)]
@@ -44,16 +53,22 @@ impl Side {
 pub(crate) struct Count {
     /// Runs that met a stop.
     pub(crate) stops: u64,
-    /// Those that left the whole of an act that was not answered.
+    /// Pairs of files that the stops may have left.
+    pub(crate) left: u64,
+    /// Those of them that had the whole of an act that was not answered.
     pub(crate) whole: u64,
 }
 
 impl Count {
     /// Nothing yet.
-    pub(crate) const ZERO: Count = Count { stops: 0, whole: 0 };
+    pub(crate) const ZERO: Count = Count {
+        stops: 0,
+        left: 0,
+        whole: 0,
+    };
 
     fn found(&mut self, whole: bool) {
-        self.stops = self.stops.saturating_add(1);
+        self.left = self.left.saturating_add(1);
         if whole {
             self.whole = self.whole.saturating_add(1);
         }
@@ -85,23 +100,16 @@ impl<'a> Run<'a> {
     /// Runs whose file stops after each count of calls, until one meets no stop.
     pub(crate) fn stop(&self, alloc: Global, side: Side) -> Result<Count, Fault> {
         let mut count = Count::ZERO;
-        for (calls, loss) in (0..u64::MAX).zip(LOSSES.iter().cycle()) {
-            match self.stops(alloc, side.calls(calls), *loss)? {
-                Some(whole) => count.found(whole),
-                None => return Ok(count),
+        for calls in 0..u64::MAX {
+            if !self.stops(alloc, side.calls(calls), &mut count)? {
+                return Ok(count);
             }
         }
         Ok(count)
     }
 
-    // Whether a run with so many calls meets a stop, and then whether the books that it leaves have the whole of an act that
-    // was not answered.
-    fn stops(
-        &self,
-        alloc: Global,
-        calls: Calls,
-        loss: (Loss, Loss),
-    ) -> Result<Option<bool>, Fault> {
+    // Whether a run with so many calls meets a stop.
+    fn stops(&self, alloc: Global, calls: Calls, count: &mut Count) -> Result<bool, Fault> {
         let first = self.stages.first().ok_or(Fault::Day)?;
         let mut seen = Seen::nothing(alloc);
         let work = Work::Serve(self.exchanges);
@@ -110,11 +118,14 @@ impl<'a> Run<'a> {
             return Err(Fault::Answer);
         }
         if seen.is_whole(self.exchanges.len()) {
-            return Ok(None);
+            return Ok(false);
         }
-        let (log, db) = loss;
-        let left = files.left(alloc, log, db)?;
-        Ok(Some(self.recovers(alloc, &left, seen.answered)?))
+        count.stops = count.stops.saturating_add(1);
+        for (log, db) in losses(&files) {
+            let left = files.left(alloc, *log, *db)?;
+            count.found(self.recovers(alloc, &left, seen.answered)?);
+        }
+        Ok(true)
     }
 
     // Opens what a stop left after so many answers, and sends the next request, or the last one again. Whether the books

@@ -36,27 +36,28 @@ fn orders_stand_with_the_items_of_their_lines(rt: HostRuntime) {
 #[test]
 fn closed_orders_are_forgotten(rt: HostRuntime) {
     let mut known = OpenLines::new(rt.alloc());
-    let lines = [
+    let oats = [
         line(&rt, "ORD-1", OATS),
         line(&rt, "ORD-2", OATS),
         line(&rt, "ORD-3", OATS),
         line(&rt, "ORD-4", OATS),
-        line(&rt, "ORD-2", BREAD),
     ];
-    add_again(&rt, &mut known, &lines);
+    let bread = [line(&rt, "ORD-2", BREAD)];
+    add_again(&rt, &mut known, &oats);
+    add_again(&rt, &mut known, &bread);
     let orders = [
         order(&rt, "ORD-1", OrderState::Open),
         order(&rt, "ORD-2", OrderState::Done),
         order(&rt, "ORD-3", OrderState::Cancelled),
         order(&rt, "ORD-5", OrderState::Done),
     ];
-    known.forget_closed(&orders, &lines[..4]);
+    known.forget_closed(&orders, &oats);
     expect_orders(&rt, &known, OATS, &["ORD-1", "ORD-4"]);
     expect_orders(&rt, &known, BREAD, &["ORD-2"]);
-    known.forget_closed(&orders, &lines[4..]);
+    known.forget_closed(&orders, &bread);
     expect_orders(&rt, &known, BREAD, &[]);
     expect_orders(&rt, &known, OATS, &["ORD-1", "ORD-4"]);
-    add_again(&rt, &mut known, &lines[2..3]);
+    add_again(&rt, &mut known, &[line(&rt, "ORD-3", OATS)]);
     expect_orders(&rt, &known, OATS, &["ORD-1", "ORD-4", "ORD-3"]);
 }
 
