@@ -106,7 +106,8 @@ pub(crate) fn unseen(alloc: Global, books: &Stage) -> Result<u64, Fault> {
         let (sql, asked) = line.split_once(" => ").ok_or(Fault::Day)?;
         let sound = seen_after(alloc, books, "", asked)?;
         let seen = seen_after(alloc, books, sql, asked)?;
-        if seen.taken.is_empty() || seen.taken.as_slice() != sound.taken.as_slice() {
+        let is_answered = sound.taken.starts_with(b"HTTP/1.1 200");
+        if !is_answered || seen.taken.as_slice() != sound.taken.as_slice() {
             return Err(Fault::Answer);
         }
         count = count.saturating_add(1);
