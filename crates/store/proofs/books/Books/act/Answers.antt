@@ -58,3 +58,6 @@ returns-in-Err-clause-as_before g c =
 
 pub invariant_of-self : goal.invariant_of-self
 invariant_of-self g c = (idle_then g.S.Store c.self.inside.conn c.act_once.new.conn c.in-Ok.ensures.survives c.in-Ok.ensures.outside c.self.invariant.0, c.in-Ok.ensures.known)
+
+pub invariant_of-self-in-Err : goal.invariant_of-self-in-Err
+invariant_of-self-in-Err g c = (idle_then g.S.Store c.self.inside.conn c.act_once.new.conn c.in-Err.ensures.survives c.in-Err.ensures.outside c.self.invariant.0, c.in-Err.ensures.known)
