@@ -4,7 +4,7 @@ use Rattle.std.specs.List.{list_any}
 use Rattle.values.specs.Values.{same_text}
 use Rattle.values.specs.declared.lot.LotId.{LotId}
 use Rattle.commands.specs.declared.command.Command.{Command}
-use Rattle.commands.specs.declared.command.Command.TheVariants.{Item, Bin, Receive, Move, Count, Adjust, Order, Cancel, Pick, Unpick, Ship}
+use Rattle.commands.specs.declared.command.Command.TheVariants.{Item, Bin, Receive, Move, Count, Adjust, Order, Cancel, Pick, Unpick, Ship, Hold, Release, Recall}
 use Rattle.commands.specs.declared.rows.ReservedRow.{ReservedRow}
 use Rattle.machine.specs.KeyedRows.{no_two, AreRows, same_cell, same_line, same_share}
 use Rattle.machine.specs.Acts.{Act}
@@ -16,6 +16,7 @@ use Rattle.machine.specs.Tables.{Tables, tables_of, repeat_row}
 use Rattle.machine.specs.Verdict.{verdict}
 use Rattle.machine.specs.Replies.{reply}
 use Rattle.row_rules.specs.declared.slice.Put.{Put}
+use Rattle.row_rules.specs.declared.slice.Rows.{Rows}
 use Rattle.row_rules.specs.declared.slice.Slice.{Slice}
 use Rattle.row_rules.specs.declared.slice.Change.{Change}
 use Rattle.row_rules.specs.declared.slice.RuleFault.{RuleFault}
@@ -87,30 +88,64 @@ abbrev pub counts_bins : Command → Bool
 counts_bins (Bin b) = true
 counts_bins _ = false
 
--- the slice has the rows of the items that the command touches, with the rows of the order that it names, of the
--- bins that it names or that hold units of those items, and of the orders with a line of those items. The number of
--- items, and that of bins, is told where the command is judged by it.
+-- whether the command plans: a shipment takes what is staged for its order, and no plan changes
+abbrev pub plans : Command → Bool
+plans (Ship o) = false
+plans _ = true
+
+-- whether the command names the lot
+abbrev pub names_lot : Command → LotId → Bool
+names_lot (Receive r) l = is_lot l r.lot
+names_lot (Move m) l = is_lot l m.lot
+names_lot (Count c) l = is_lot l c.lot
+names_lot (Adjust a) l = is_lot l a.lot
+names_lot (Pick p) l = is_lot l p.lot
+names_lot (Unpick p) l = is_lot l p.lot
+names_lot (Hold k) l = is_lot l k
+names_lot (Release k) l = is_lot l k
+names_lot (Recall k) l = is_lot l k
+names_lot _ l = false
+
+-- whether the rows have units of the lot in bins, on stages, and on the stage of an order that the command names
+abbrev pub in_bins : Rows → LotId → Bool
+in_bins rows l = list_any (λ r. is_lot l r.lot) rows.stock
+
+abbrev pub on_stages : Rows → LotId → Bool
+on_stages rows l = list_any (λ r. is_lot l r.lot) rows.staged
+
+abbrev pub on_named_stage : Command → Rows → LotId → Bool
+on_named_stage command rows l = list_any (λ r. names_order command r.order && is_lot l r.lot) rows.staged
+
+-- The slice has the rows of the items that the command touches, with the rows of the order that it names, of the
+-- bins that it names or that hold units of those items, and of the orders with a line of those items. Of the lots it
+-- has those that the command names and those with units in bins or on stages; others may be among them. For a
+-- shipment, which plans nothing, it has the order with its lines, what is staged of their items, and the stock of the
+-- lots that are staged for the order. The number of items, and that of bins, is told where the command is judged by it.
 pub record IsSlice (first : ℤ) (act : Act) (acts : List Act) (t : Tables) (s : Slice) : Type 0 where
   pub meta : t.meta ≡ Some s.meta
   pub items_counted : counts_items act.command ≡ true → s.items ≡ length (items acts)
   pub bins_counted : counts_bins act.command ≡ true → s.bins ≡ length (bins acts)
-  pub items : AreRows same_text (λ r. r.gtin) (is_touched first act acts) (is_touched first act acts) t.item s.rows.items
-  pub lots : AreRows is_lot (λ r. r.lot) (λ l. is_touched first act acts l.gtin) (λ l. is_touched first act acts l.gtin) t.lot s.rows.lots
-  pub recalls : AreRows is_lot (λ r. r.lot) (λ l. is_touched first act acts l.gtin) (λ l. is_touched first act acts l.gtin) t.recall s.rows.recalls
-  pub stock : AreRows same_cell (λ r. (r.lot, r.bin)) (λ k. is_touched first act acts k.0.gtin) (λ k. is_touched first act acts k.0.gtin) (λ k. t.stock k.0 k.1) s.rows.stock
+  pub items : AreRows same_text (λ r. r.gtin) (λ g. plans act.command && is_touched first act acts g) (is_touched first act acts) t.item s.rows.items
+  pub lots : AreRows is_lot (λ r. r.lot)
+      (λ l. plans act.command && is_touched first act acts l.gtin && (names_lot act.command l || in_bins s.rows l || on_stages s.rows l))
+      (λ l. is_touched first act acts l.gtin) t.lot s.rows.lots
+  pub recalls : AreRows is_lot (λ r. r.lot) (λ l. plans act.command && is_touched first act acts l.gtin) (λ l. is_touched first act acts l.gtin) t.recall s.rows.recalls
+  pub stock : AreRows same_cell (λ r. (r.lot, r.bin))
+      (λ k. is_touched first act acts k.0.gtin && (plans act.command || on_named_stage act.command s.rows k.0))
+      (λ k. is_touched first act acts k.0.gtin) (λ k. t.stock k.0 k.1) s.rows.stock
   pub bins : AreRows same_text (λ r. r.name)
-      (λ b. names_bin act.command b || list_any (λ r. same_text b r.bin) s.rows.stock)
+      (λ b. plans act.command && (names_bin act.command b || list_any (λ r. same_text b r.bin) s.rows.stock))
       (λ b. names_bin act.command b || list_any (λ r. same_text b r.bin) s.rows.stock) t.bin s.rows.bins
   pub orders : AreRows same_text (λ r. r.order)
-      (λ o. names_order act.command o || (is_open first acts o && has_touched_line first act acts o))
+      (λ o. names_order act.command o || (plans act.command && is_open first acts o && has_touched_line first act acts o))
       (λ o. names_order act.command o || has_touched_line first act acts o) t.order s.rows.orders
   pub lines : AreRows same_line (λ r. (r.order, r.gtin))
-      (λ k. names_order act.command k.0 || (is_open first acts k.0 && is_touched first act acts k.1))
+      (λ k. names_order act.command k.0 || (plans act.command && is_open first acts k.0 && is_touched first act acts k.1))
       (λ k. names_order act.command k.0 || is_touched first act acts k.1) (λ k. t.line k.0 k.1) s.rows.lines
   pub staged : AreRows same_share (λ r. (r.order, r.lot))
       (λ k. is_touched first act acts k.1.gtin) (λ k. is_touched first act acts k.1.gtin) (λ k. t.staged k.0 k.1) s.rows.staged
   pub reserved : AreRows same_share (λ r. (r.order, r.lot))
-      (λ k. is_touched first act acts k.1.gtin) (λ k. is_touched first act acts k.1.gtin) (λ k. t.reserved k.0 k.1) s.rows.reserved
+      (λ k. plans act.command && is_touched first act acts k.1.gtin) (λ k. is_touched first act acts k.1.gtin) (λ k. t.reserved k.0 k.1) s.rows.reserved
 
 -- no key twice, so that it does not matter in which order the rows are written
 pub record AreOnce (rows : Put) : Type 0 where
