@@ -242,20 +242,20 @@ puts_new g change add params f old new ready changes adds (ChangedAfter mid coun
     went_on (state g old) (state g mid) h.inside (same ready) (λ kept. goes_then (λ t. t) f (state g old) (state g mid) (state g new) kept ((changes (state g mid) count kept.ready h).0 some))
 
 -- where both were refused
-both_refused : (old mid new : State) → KeepsCommit old mid → NotRun mid new → ChangesNone old mid → ChangesNone old new
-both_refused old mid new kept later (inl same) = none_then old mid new same kept (later.refused same.ready)
-both_refused old mid new kept later (inr undone) = subst (ChangesNone old) (sym (later.outside undone.autocommit)) (inr undone)
+both_refused : {S : Type 0} (g : Ghosts S) (old mid new : Held S) → KeepsCommit (state g old) (state g mid) → NotRun g mid new → ChangesNone (state g old) (state g mid) → ChangesNone (state g old) (state g new)
+both_refused g old mid new kept later (inl same) = none_then (state g old) (state g mid) (state g new) same kept (later.refused same.ready)
+both_refused g old mid new kept later (inr undone) = subst (λ h. ChangesNone (state g old) (state g h)) (sym (later.outside undone.autocommit)) (inr undone)
 
 pub puts_new_none : {S X E : Type 0} (g : Ghosts S) (change : List ℕ) (params : Row) (f : Tables → Tables) (old new : Held S) (r : Result X E) → IsReady (state g old).now
     → ((mid : State) (count : ℕ) → IsReady mid.now → Counts count change params mid (state g new) → (count ≢ 0 → Goes f mid (state g new)) × (count ≡ 0 → Goes (λ t. t) mid (state g new)))
     → OnErr r (PutsNewNot g change params old new) → OnErr r (ChangesNone (state g old) (state g new))
 puts_new_none g change params f old new (Ok x) ready changes h = tt
-puts_new_none g change params f old new (Err e) ready changes (BothRefused mid same kept later) = both_refused (state g old) (state g mid) (state g new) kept later (same ready)
+puts_new_none g change params f old new (Err e) ready changes (BothRefused mid same kept later) = both_refused g old mid new kept later (same ready)
 puts_new_none g change params f old new (Err e) ready changes (NeitherWrote mid same h) =
     went_on (state g old) (state g mid) h.inside (same ready) (λ kept. inl (goes_then (λ t. t) (λ t. t) (state g old) (state g mid) (state g new) kept ((changes (state g mid) 0 kept.ready h).1 refl)))
 
 pub not_new : {S X E : Type 0} (g : Ghosts S) (change : List ℕ) (params : Row) (old mid new : Held S) (r : Result X E) → (IsReady (state g old).now → ChangesNone (state g old) (state g mid)) → KeepsCommit (state g old) (state g mid)
-    → OnErr r (NotRun (state g mid) (state g new) ⊎ Counts 0 change params (state g mid) (state g new)) → OnErr r (PutsNewNot g change params old new)
+    → OnErr r (NotRun g mid new ⊎ Counts 0 change params (state g mid) (state g new)) → OnErr r (PutsNewNot g change params old new)
 not_new g change params old mid new (Ok x) same kept h = tt
 not_new g change params old mid new (Err e) same kept (inl h) = BothRefused mid same kept h
 not_new g change params old mid new (Err e) same kept (inr h) = NeitherWrote mid same h
@@ -276,18 +276,18 @@ puts_either_none g change params f old new (Ok x) ready changes h = tt
 puts_either_none {S} {X} {E} g change params f old new (Err e) ready changes (inl h) = puts_none {X = X} g change params f old new (Err e) (λ mid count k. changes (state g old) mid count ready k) h
 puts_either_none {S} {X} {E} g change params f old new (Err e) ready changes (inr h) = puts_new_none {X = X} g change params f old new (Err e) ready (λ mid count at k. changes mid (state g new) count at k) h
 
-pub first_of : {X E P Q : Type 0} (r : Result X E) → OnOk r P → OnOk r (P ⊎ Q)
-first_of (Ok x) h = inl h
-first_of (Err e) h = tt
+pub first_of : {X E : Type 0} (P Q : Type 0) (r : Result X E) → OnOk r P → OnOk r (P ⊎ Q)
+first_of P Q (Ok x) h = inl h
+first_of P Q (Err e) h = tt
 
-pub second_of : {X E P Q : Type 0} (r : Result X E) → OnOk r Q → OnOk r (P ⊎ Q)
-second_of (Ok x) h = inr h
-second_of (Err e) h = tt
+pub second_of : {X E : Type 0} (P Q : Type 0) (r : Result X E) → OnOk r Q → OnOk r (P ⊎ Q)
+second_of P Q (Ok x) h = inr h
+second_of P Q (Err e) h = tt
 
-pub first_refused : {X E P Q : Type 0} (r : Result X E) → OnErr r P → OnErr r (P ⊎ Q)
-first_refused (Ok x) h = tt
-first_refused (Err e) h = inl h
+pub first_refused : {X E : Type 0} (P Q : Type 0) (r : Result X E) → OnErr r P → OnErr r (P ⊎ Q)
+first_refused P Q (Ok x) h = tt
+first_refused P Q (Err e) h = inl h
 
-pub second_refused : {X E P Q : Type 0} (r : Result X E) → OnErr r Q → OnErr r (P ⊎ Q)
-second_refused (Ok x) h = tt
-second_refused (Err e) h = inr h
+pub second_refused : {X E : Type 0} (P Q : Type 0) (r : Result X E) → OnErr r Q → OnErr r (P ⊎ Q)
+second_refused P Q (Ok x) h = tt
+second_refused P Q (Err e) h = inr h

@@ -13,9 +13,9 @@ pub record Counts (count : ℕ) (sql : List ℕ) (params : Row) (old new : State
   pub executes : ExecutesInside 0 sql params old new (Ok count)
 
 -- it was refused: the tables are as they were, and outside a transaction nothing was done
-pub record NotRun (old new : State) : Type 0 where
-  pub refused : IsReady old.now → ChangesNone old new
-  pub outside : old.in_transaction ≡ false → new ≡ old
+pub record NotRun {S : Type 0} (g : Ghosts S) (old new : Held S) : Type 0 where
+  pub refused : IsReady (state g old).now → ChangesNone (state g old) (state g new)
+  pub outside : (state g old).in_transaction ≡ false → new ≡ old
 
 -- it ran inside the transaction, however many rows it wrote
 pub record Runs (sql : List ℕ) (params : Row) (old new : State) : Type 0 where
@@ -39,7 +39,7 @@ pub data PutsNew {S : Type 0} (g : Ghosts S) (change add : List ℕ) (params : R
 
 -- the statement that adds a row was refused, and the one that changes a row was refused after it, or changed none
 pub data PutsNewNot {S : Type 0} (g : Ghosts S) (change : List ℕ) (params : Row) (old new : Held S) : Type 0 where
-  BothRefused : (between : Held S) → (IsReady (state g old).now → ChangesNone (state g old) (state g between)) → KeepsCommit (state g old) (state g between) → NotRun (state g between) (state g new) → PutsNewNot g change params old new
+  BothRefused : (between : Held S) → (IsReady (state g old).now → ChangesNone (state g old) (state g between)) → KeepsCommit (state g old) (state g between) → NotRun g between new → PutsNewNot g change params old new
   NeitherWrote : (between : Held S) → (IsReady (state g old).now → ChangesNone (state g old) (state g between)) → Counts 0 change params (state g between) (state g new) → PutsNewNot g change params old new
 
 -- the query showed rows of the table, and these are what they read as

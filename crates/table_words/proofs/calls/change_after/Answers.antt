@@ -1,4 +1,4 @@
-use Rattle.std.proofs.Common.{inl, inr, ap, subst}
+use Rattle.std.proofs.Common.{inl, inr, subst}
 use Rattle.sqlite.specs.Values.{bound}
 use Rattle.sqlite.specs.Held.{state}
 use Rattle.table_words.specs.Calls.{Counts}
@@ -13,4 +13,4 @@ returns-in-Ok-clause-ran g c clean = (c.in-Ok.field-0, c.in-Ok.field-0-test.1, c
 
 pub returns-in-Err-clause-refused : goal.returns-in-Err-clause-refused
 returns-in-Err-clause-refused g c clean =
-    inl (record { refused = λ ready. c.in-Err.ensures.refused clean ready; outside = λ out. ap (λ h. state g.S.Store h) (c.in-Err.ensures.outside out) })
+    inl (record { refused = λ ready. c.in-Err.ensures.refused clean ready; outside = λ out. c.in-Err.ensures.outside out })
