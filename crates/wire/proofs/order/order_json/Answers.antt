@@ -1,7 +1,8 @@
+use Rattle.std.proofs.Common.{◌∙◌}
 use Rattle.wire.specs.Views.{order_data}
 use Rattle.wire.proofs.Adding.{written_is}
 use Rattle.wire.proofs.order.order_json.Goals as goal
 
 pub returns : goal.returns
 returns c =
-    written_is (order_data c.args.shown.now) c.new-out.result c.put_order.new.out c.into_inner.result.items c.new-out.ensures.tokens c.new-out.ensures.before c.in_ok-put_order.ensures c.into_inner.ensures.items
+    written_is (order_data c.args.shown.now) c.new-out.result c.put_order.new.out c.into_inner.result.items c.new-out.ensures.tokens (c.new-out.ensures.before ∙ c.new.ensures.items) c.in_ok-put_order.ensures c.into_inner.ensures.items

@@ -3,7 +3,7 @@ use Rattle.wire.proofs.stock.put_lot.Goals as goal
 
 pub returns : goal.returns
 returns c =
-    rw (c.as_slice.ensures, c.readable.ensures, c.lot_text.ensures, c.word.ensures) at
+    rw (c.as_slice.ensures, c.readable.ensures, c.as_slice-2.ensures, c.text-expiry.ensures, c.lot_text.ensures, c.word.ensures) at
     (adds_last c.end_object.result _ _ _ _ _ (one_added _ _ _ _ c.in_ok-begin_object.ensures)
     (adds_last c.end_object.result _ _ _ _ _ c.in_ok-put_list.ensures
     (adds_last c.end_object.result _ _ _ _ _ c.in_ok-put_text.ensures
