@@ -9,6 +9,8 @@
 #[cfg(test)]
 mod listing;
 #[cfg(test)]
+mod many_rows;
+#[cfg(test)]
 mod order_views;
 #[cfg(test)]
 mod refusals;
