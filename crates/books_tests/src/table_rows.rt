@@ -98,23 +98,27 @@ fn puts_goods<S: Alter>(rt: &impl Abort, tx: &mut Transaction<'_, S>) {
     is_done(rt, put_meta(tx, &samples::meta(rt, 14)));
     is_done(rt, put_item(tx, &samples::item(rt)));
     is_done(rt, put_bin(tx, &samples::bin(rt)));
-    is_done(rt, put_lot(tx, &samples::known_lot(rt)));
+    is_done(rt, put_lot(tx, &samples::known_lot(rt), false));
     is_done(rt, put_recall(tx, &samples::recall(rt)));
 }
 
 fn puts_stock<S: Alter>(rt: &impl Abort, tx: &mut Transaction<'_, S>) {
-    is_done(rt, put_stock(tx, &samples::stock(rt, b"A-01", UNITS_MAX)));
-    is_done(rt, put_stock(tx, &samples::stock(rt, b"B-02", 5)));
-    is_done(rt, put_stock(tx, &samples::stock(rt, b"A-01", 4)));
+    is_done(
+        rt,
+        put_stock(tx, &samples::stock(rt, b"A-01", UNITS_MAX), true),
+    );
+    is_done(rt, put_stock(tx, &samples::stock(rt, b"B-02", 5), false));
+    // There is a row with this key, although none is thought to be there.
+    is_done(rt, put_stock(tx, &samples::stock(rt, b"A-01", 4), true));
 }
 
 fn puts_orders<S: Alter>(rt: &impl Abort, tx: &mut Transaction<'_, S>) {
-    is_done(rt, put_order(tx, &samples::order(rt)));
-    is_done(rt, put_order(tx, &samples::open_order(rt)));
-    is_done(rt, put_line(tx, &samples::full_line(rt)));
-    is_done(rt, put_line(tx, &samples::line(rt)));
-    is_done(rt, put_staged(tx, &samples::staged(rt)));
-    is_done(rt, put_reserved(tx, &samples::reserved(rt)));
+    is_done(rt, put_order(tx, &samples::order(rt), false));
+    is_done(rt, put_order(tx, &samples::open_order(rt), true));
+    is_done(rt, put_line(tx, &samples::full_line(rt), true));
+    is_done(rt, put_line(tx, &samples::line(rt), false));
+    is_done(rt, put_staged(tx, &samples::staged(rt), true));
+    is_done(rt, put_reserved(tx, &samples::reserved(rt), false));
 }
 
 fn puts_history<S: Alter>(rt: &impl Abort, alloc: Global, tx: &mut Transaction<'_, S>) {

@@ -15,7 +15,7 @@ impl Stored for ItemRow {
 
     ghost put_gives = { with_item };
 
-    fn put<S: Alter>(&self, tx: &mut Transaction<'_, S>) -> Result<(), TableFault> {
+    fn put<S: Alter>(&self, tx: &mut Transaction<'_, S>, _: bool) -> Result<(), TableFault> {
         put_item(tx, self)
     }
 }
@@ -25,7 +25,7 @@ impl Stored for BinRow {
 
     ghost put_gives = { with_bin };
 
-    fn put<S: Alter>(&self, tx: &mut Transaction<'_, S>) -> Result<(), TableFault> {
+    fn put<S: Alter>(&self, tx: &mut Transaction<'_, S>, _: bool) -> Result<(), TableFault> {
         put_bin(tx, self)
     }
 }
@@ -35,8 +35,8 @@ impl Stored for LotRow {
 
     ghost put_gives = { with_lot };
 
-    fn put<S: Alter>(&self, tx: &mut Transaction<'_, S>) -> Result<(), TableFault> {
-        put_lot(tx, self)
+    fn put<S: Alter>(&self, tx: &mut Transaction<'_, S>, is_new: bool) -> Result<(), TableFault> {
+        put_lot(tx, self, is_new)
     }
 }
 
@@ -45,7 +45,7 @@ impl Stored for RecallRow {
 
     ghost put_gives = { with_recall };
 
-    fn put<S: Alter>(&self, tx: &mut Transaction<'_, S>) -> Result<(), TableFault> {
+    fn put<S: Alter>(&self, tx: &mut Transaction<'_, S>, _: bool) -> Result<(), TableFault> {
         put_recall(tx, self)
     }
 }
@@ -55,8 +55,8 @@ impl Stored for StockRow {
 
     ghost put_gives = { with_stock };
 
-    fn put<S: Alter>(&self, tx: &mut Transaction<'_, S>) -> Result<(), TableFault> {
-        put_stock(tx, self)
+    fn put<S: Alter>(&self, tx: &mut Transaction<'_, S>, is_new: bool) -> Result<(), TableFault> {
+        put_stock(tx, self, is_new)
     }
 }
 

@@ -13,7 +13,7 @@ impl Stored for ShipmentRow {
 
     ghost put_gives = { with_shipment };
 
-    fn put<S: Alter>(&self, tx: &mut Transaction<'_, S>) -> Result<(), TableFault> {
+    fn put<S: Alter>(&self, tx: &mut Transaction<'_, S>, _: bool) -> Result<(), TableFault> {
         put_shipment(tx, self)
     }
 }
@@ -23,7 +23,7 @@ impl Stored for ShiplineRow {
 
     ghost put_gives = { with_shipline };
 
-    fn put<S: Alter>(&self, tx: &mut Transaction<'_, S>) -> Result<(), TableFault> {
+    fn put<S: Alter>(&self, tx: &mut Transaction<'_, S>, _: bool) -> Result<(), TableFault> {
         put_shipline(tx, self)
     }
 }
@@ -33,7 +33,7 @@ impl Stored for CardRow {
 
     ghost put_gives = { with_card };
 
-    fn put<S: Alter>(&self, tx: &mut Transaction<'_, S>) -> Result<(), TableFault> {
+    fn put<S: Alter>(&self, tx: &mut Transaction<'_, S>, _: bool) -> Result<(), TableFault> {
         put_card(tx, self)
     }
 }

@@ -14,8 +14,8 @@ impl Stored for OrderRow {
 
     ghost put_gives = { with_order };
 
-    fn put<S: Alter>(&self, tx: &mut Transaction<'_, S>) -> Result<(), TableFault> {
-        put_order(tx, self)
+    fn put<S: Alter>(&self, tx: &mut Transaction<'_, S>, is_new: bool) -> Result<(), TableFault> {
+        put_order(tx, self, is_new)
     }
 }
 
@@ -24,8 +24,8 @@ impl Stored for LineRow {
 
     ghost put_gives = { with_line };
 
-    fn put<S: Alter>(&self, tx: &mut Transaction<'_, S>) -> Result<(), TableFault> {
-        put_line(tx, self)
+    fn put<S: Alter>(&self, tx: &mut Transaction<'_, S>, is_new: bool) -> Result<(), TableFault> {
+        put_line(tx, self, is_new)
     }
 }
 
@@ -34,8 +34,8 @@ impl Stored for StagedRow {
 
     ghost put_gives = { with_staged };
 
-    fn put<S: Alter>(&self, tx: &mut Transaction<'_, S>) -> Result<(), TableFault> {
-        put_staged(tx, self)
+    fn put<S: Alter>(&self, tx: &mut Transaction<'_, S>, is_new: bool) -> Result<(), TableFault> {
+        put_staged(tx, self, is_new)
     }
 }
 
@@ -54,8 +54,8 @@ impl Stored for ReservedRow {
 
     ghost put_gives = { with_reserved };
 
-    fn put<S: Alter>(&self, tx: &mut Transaction<'_, S>) -> Result<(), TableFault> {
-        put_reserved(tx, self)
+    fn put<S: Alter>(&self, tx: &mut Transaction<'_, S>, is_new: bool) -> Result<(), TableFault> {
+        put_reserved(tx, self, is_new)
     }
 }
 

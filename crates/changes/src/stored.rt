@@ -18,8 +18,8 @@ pub trait Stored {
     /// What putting it makes of the tables.
     ghost put_gives: { Self → Tables → Tables };
 
-    /// Puts the row, in place of one with its key.
-    fn put<S: Alter>(&self, tx: &mut Transaction<'_, S>) -> Result<(), TableFault>
+    /// Puts the row, in place of one with its key. It costs least where `is_new` tells whether there is none.
+    fn put<S: Alter>(&self, tx: &mut Transaction<'_, S>, is_new: bool) -> Result<(), TableFault>
         ensures same_reference { tx.new.conn.ghost_name ≡ tx.old.conn.ghost_name }
         ensures done { HasCleanDisk (state S.Store tx.new.conn.now) → IsReady (state S.Store tx.old.conn.now).now
             → OnOk result (Goes (put_gives self.now) (state S.Store tx.old.conn.now) (state S.Store tx.new.conn.now)) }
@@ -46,7 +46,11 @@ pub trait Removable {
 }
 
 /// Puts each row in turn.
-fn put_all<T: Stored, S: Alter>(tx: &mut Transaction<'_, S>, rows: &[T]) -> Result<(), TableFault>
+fn put_all<T: Stored, S: Alter>(
+    tx: &mut Transaction<'_, S>,
+    rows: &[T],
+    are_new: bool,
+) -> Result<(), TableFault>
     ensures same_reference { tx.new.conn.ghost_name ≡ tx.old.conn.ghost_name }
     ensures done { HasCleanDisk (state S.Store tx.new.conn.now) → IsReady (state S.Store tx.old.conn.now).now
         → OnOk result (Goes (each_written T.put_gives rows.now) (state S.Store tx.old.conn.now) (state S.Store tx.new.conn.now)) }
@@ -55,7 +59,7 @@ fn put_all<T: Stored, S: Alter>(tx: &mut Transaction<'_, S>, rows: &[T]) -> Resu
     ensures never_foreign { IfErr result (λ e. e ≢ Foreign) }
 {
     for row in rows {
-        row.put(tx)?;
+        row.put(tx, are_new)?;
     }
     Ok(())
 }
@@ -82,6 +86,7 @@ fn remove_all<T: Removable, S: Alter>(
 pub fn put_rows<T: Stored, S: Alter>(
     tx: &mut Transaction<'_, S>,
     rows: &Listed<T>,
+    are_new: bool,
 ) -> Result<(), TableFault>
     ensures same_reference { tx.new.conn.ghost_name ≡ tx.old.conn.ghost_name }
     ensures done { HasCleanDisk (state S.Store tx.new.conn.now) → IsReady (state S.Store tx.old.conn.now).now
@@ -90,7 +95,7 @@ pub fn put_rows<T: Stored, S: Alter>(
     ensures survives { Survives (state S.Store tx.old.conn.now) (state S.Store tx.new.conn.now) (λ _. ⊥) }
     ensures never_foreign { IfErr result (λ e. e ≢ Foreign) }
 {
-    put_all(tx, rows.as_slice())
+    put_all(tx, rows.as_slice(), are_new)
 }
 
 /// Drops rows of a table, and then puts others.
@@ -98,6 +103,7 @@ pub fn write_rows<T: Stored + Removable, S: Alter>(
     tx: &mut Transaction<'_, S>,
     put: &Listed<T>,
     dropped: &Listed<T>,
+    are_new: bool,
 ) -> Result<(), TableFault>
     ensures same_reference { tx.new.conn.ghost_name ≡ tx.old.conn.ghost_name }
     ensures done { HasCleanDisk (state S.Store tx.new.conn.now) → IsReady (state S.Store tx.old.conn.now).now
@@ -107,5 +113,5 @@ pub fn write_rows<T: Stored + Removable, S: Alter>(
     ensures never_foreign { IfErr result (λ e. e ≢ Foreign) }
 {
     remove_all(tx, dropped.as_slice())?;
-    put_all(tx, put.as_slice())
+    put_all(tx, put.as_slice(), are_new)
 }

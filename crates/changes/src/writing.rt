@@ -14,6 +14,22 @@ use rules::{Change, Dropped, Put};
 use sqlite::{Alter, Transaction};
 use table_words::error::TableFault;
 
+/// Whether the lots that are put first came by this act. Then their units are the first of them too.
+fn brings_lots(put: &Put, act: u64) -> bool {
+    match put.lots.as_slice().first() {
+        Some(row) => row.came == act,
+        None => false,
+    }
+}
+
+/// Whether the orders that are put were taken by this act. Then their lines and reservations are new too.
+fn takes_orders(put: &Put, act: u64) -> bool {
+    match put.orders.as_slice().first() {
+        Some(row) => row.act == act,
+        None => false,
+    }
+}
+
 /// Items and bins.
 fn write_names<S: Alter>(tx: &mut Transaction<'_, S>, put: &Put) -> Result<(), TableFault>
     ensures same_reference { tx.new.conn.ghost_name ≡ tx.old.conn.ghost_name }
@@ -23,8 +39,8 @@ fn write_names<S: Alter>(tx: &mut Transaction<'_, S>, put: &Put) -> Result<(), T
     ensures survives { Survives (state S.Store tx.old.conn.now) (state S.Store tx.new.conn.now) (λ _. ⊥) }
     ensures never_foreign { IfErr result (λ e. e ≢ Foreign) }
 {
-    put_rows(tx, &put.items)?;
-    put_rows(tx, &put.bins)
+    put_rows(tx, &put.items, true)?;
+    put_rows(tx, &put.bins, true)
 }
 
 /// Units of lots in bins.
@@ -32,6 +48,7 @@ fn write_stock<S: Alter>(
     tx: &mut Transaction<'_, S>,
     put: &Put,
     dropped: &Dropped,
+    are_new: bool,
 ) -> Result<(), TableFault>
     ensures same_reference { tx.new.conn.ghost_name ≡ tx.old.conn.ghost_name }
     ensures done { HasCleanDisk (state S.Store tx.new.conn.now) → IsReady (state S.Store tx.old.conn.now).now
@@ -40,7 +57,7 @@ fn write_stock<S: Alter>(
     ensures survives { Survives (state S.Store tx.old.conn.now) (state S.Store tx.new.conn.now) (λ _. ⊥) }
     ensures never_foreign { IfErr result (λ e. e ≢ Foreign) }
 {
-    write_rows(tx, &put.stock, &dropped.stock)
+    write_rows(tx, &put.stock, &dropped.stock, are_new)
 }
 
 /// Lots, their recalls and their units in bins.
@@ -48,6 +65,7 @@ fn write_lots<S: Alter>(
     tx: &mut Transaction<'_, S>,
     put: &Put,
     dropped: &Dropped,
+    are_new: bool,
 ) -> Result<(), TableFault>
     ensures same_reference { tx.new.conn.ghost_name ≡ tx.old.conn.ghost_name }
     ensures done { HasCleanDisk (state S.Store tx.new.conn.now) → IsReady (state S.Store tx.old.conn.now).now
@@ -56,9 +74,9 @@ fn write_lots<S: Alter>(
     ensures survives { Survives (state S.Store tx.old.conn.now) (state S.Store tx.new.conn.now) (λ _. ⊥) }
     ensures never_foreign { IfErr result (λ e. e ≢ Foreign) }
 {
-    put_rows(tx, &put.lots)?;
-    put_rows(tx, &put.recalls)?;
-    write_stock(tx, put, dropped)
+    put_rows(tx, &put.lots, are_new)?;
+    put_rows(tx, &put.recalls, true)?;
+    write_stock(tx, put, dropped, are_new)
 }
 
 /// Goods.
@@ -66,6 +84,7 @@ fn write_goods<S: Alter>(
     tx: &mut Transaction<'_, S>,
     put: &Put,
     dropped: &Dropped,
+    act: u64,
 ) -> Result<(), TableFault>
     ensures same_reference { tx.new.conn.ghost_name ≡ tx.old.conn.ghost_name }
     ensures done { HasCleanDisk (state S.Store tx.new.conn.now) → IsReady (state S.Store tx.old.conn.now).now
@@ -75,11 +94,15 @@ fn write_goods<S: Alter>(
     ensures never_foreign { IfErr result (λ e. e ≢ Foreign) }
 {
     write_names(tx, put)?;
-    write_lots(tx, put, dropped)
+    write_lots(tx, put, dropped, brings_lots(put, act))
 }
 
 /// Orders and their lines.
-fn write_lines<S: Alter>(tx: &mut Transaction<'_, S>, put: &Put) -> Result<(), TableFault>
+fn write_lines<S: Alter>(
+    tx: &mut Transaction<'_, S>,
+    put: &Put,
+    are_new: bool,
+) -> Result<(), TableFault>
     ensures same_reference { tx.new.conn.ghost_name ≡ tx.old.conn.ghost_name }
     ensures done { HasCleanDisk (state S.Store tx.new.conn.now) → IsReady (state S.Store tx.old.conn.now).now
         → OnOk result (Goes (lines_written put.now) (state S.Store tx.old.conn.now) (state S.Store tx.new.conn.now)) }
@@ -87,8 +110,8 @@ fn write_lines<S: Alter>(tx: &mut Transaction<'_, S>, put: &Put) -> Result<(), T
     ensures survives { Survives (state S.Store tx.old.conn.now) (state S.Store tx.new.conn.now) (λ _. ⊥) }
     ensures never_foreign { IfErr result (λ e. e ≢ Foreign) }
 {
-    put_rows(tx, &put.orders)?;
-    put_rows(tx, &put.lines)
+    put_rows(tx, &put.orders, are_new)?;
+    put_rows(tx, &put.lines, are_new)
 }
 
 /// What is staged and reserved for orders.
@@ -96,6 +119,7 @@ fn write_shares<S: Alter>(
     tx: &mut Transaction<'_, S>,
     put: &Put,
     dropped: &Dropped,
+    are_new: bool,
 ) -> Result<(), TableFault>
     ensures same_reference { tx.new.conn.ghost_name ≡ tx.old.conn.ghost_name }
     ensures done { HasCleanDisk (state S.Store tx.new.conn.now) → IsReady (state S.Store tx.old.conn.now).now
@@ -104,8 +128,8 @@ fn write_shares<S: Alter>(
     ensures survives { Survives (state S.Store tx.old.conn.now) (state S.Store tx.new.conn.now) (λ _. ⊥) }
     ensures never_foreign { IfErr result (λ e. e ≢ Foreign) }
 {
-    write_rows(tx, &put.staged, &dropped.staged)?;
-    write_rows(tx, &put.reserved, &dropped.reserved)
+    write_rows(tx, &put.staged, &dropped.staged, true)?;
+    write_rows(tx, &put.reserved, &dropped.reserved, are_new)
 }
 
 /// Orders.
@@ -113,6 +137,7 @@ fn write_orders<S: Alter>(
     tx: &mut Transaction<'_, S>,
     put: &Put,
     dropped: &Dropped,
+    act: u64,
 ) -> Result<(), TableFault>
     ensures same_reference { tx.new.conn.ghost_name ≡ tx.old.conn.ghost_name }
     ensures done { HasCleanDisk (state S.Store tx.new.conn.now) → IsReady (state S.Store tx.old.conn.now).now
@@ -121,8 +146,9 @@ fn write_orders<S: Alter>(
     ensures survives { Survives (state S.Store tx.old.conn.now) (state S.Store tx.new.conn.now) (λ _. ⊥) }
     ensures never_foreign { IfErr result (λ e. e ≢ Foreign) }
 {
-    write_lines(tx, put)?;
-    write_shares(tx, put, dropped)
+    let are_new = takes_orders(put, act);
+    write_lines(tx, put, are_new)?;
+    write_shares(tx, put, dropped, are_new)
 }
 
 /// What has gone.
@@ -134,9 +160,9 @@ fn write_history<S: Alter>(tx: &mut Transaction<'_, S>, put: &Put) -> Result<(),
     ensures survives { Survives (state S.Store tx.old.conn.now) (state S.Store tx.new.conn.now) (λ _. ⊥) }
     ensures never_foreign { IfErr result (λ e. e ≢ Foreign) }
 {
-    put_rows(tx, &put.shipments)?;
-    put_rows(tx, &put.shiplines)?;
-    put_rows(tx, &put.cards)
+    put_rows(tx, &put.shipments, true)?;
+    put_rows(tx, &put.shiplines, true)?;
+    put_rows(tx, &put.cards, true)
 }
 
 /// Every table in turn.
@@ -148,8 +174,9 @@ fn write_tables<S: Alter>(tx: &mut Transaction<'_, S>, change: &Change) -> Resul
     ensures survives { Survives (state S.Store tx.old.conn.now) (state S.Store tx.new.conn.now) (λ _. ⊥) }
     ensures never_foreign { IfErr result (λ e. e ≢ Foreign) }
 {
-    write_goods(tx, &change.put, &change.dropped)?;
-    write_orders(tx, &change.put, &change.dropped)?;
+    let act = change.meta.acts;
+    write_goods(tx, &change.put, &change.dropped, act)?;
+    write_orders(tx, &change.put, &change.dropped, act)?;
     write_history(tx, &change.put)?;
     put_meta(tx, &change.meta)
 }

@@ -15,7 +15,7 @@ use commands::BinRow;
 use sqlite::types::ValueRef;
 use sqlite::{Alter, Row, Transaction};
 use std::alloc::Global;
-use table_words::calls::put;
+use table_words::calls::put_new;
 use table_words::columns::{bin_kind_at, name_at, of_bin_kind, of_name};
 use table_words::error::TableFault;
 use table_words::reading::{Table, query};
@@ -39,7 +39,7 @@ pub fn put_bin<S: Alter>(tx: &mut Transaction<'_, S>, row: &BinRow) -> Result<()
     ensures survives { Survives (state S.Store tx.old.conn.now) (state S.Store tx.new.conn.now) (λ _. ⊥) }
     ensures never_foreign { IfErr result (λ e. e ≢ Foreign) }
 {
-    put(tx, CHANGE_BIN, ADD_BIN, &cells(row))
+    put_new(tx, CHANGE_BIN, ADD_BIN, &cells(row))
 }
 
 /// How the rows of the table are read.

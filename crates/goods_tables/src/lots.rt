@@ -16,7 +16,7 @@ use commands::limits::ACTS_MAX;
 use sqlite::types::ValueRef;
 use sqlite::{Alter, Row, Transaction};
 use std::alloc::Global;
-use table_words::calls::put;
+use table_words::calls::put_as;
 use table_words::columns::{
     day_at, flag_at, gtin_at, lot_at, number_at, of_day, of_flag, of_gtin, of_lot, of_number,
 };
@@ -39,8 +39,13 @@ fn cells(row: &LotRow) -> [ValueRef<'_>; 5]
     ]
 }
 
-/// Puts the row, in place of one with its key. A number above its limit is refused as too big.
-pub fn put_lot<S: Alter>(tx: &mut Transaction<'_, S>, row: &LotRow) -> Result<(), TableFault>
+/// Puts the row, in place of one with its key: it costs least where `is_new` tells whether there is none. A number above
+/// its limit is refused as too big.
+pub fn put_lot<S: Alter>(
+    tx: &mut Transaction<'_, S>,
+    row: &LotRow,
+    is_new: bool,
+) -> Result<(), TableFault>
     ensures same_reference { tx.new.conn.ghost_name ≡ tx.old.conn.ghost_name }
     ensures done { HasCleanDisk (state S.Store tx.new.conn.now) → IsReady (state S.Store tx.old.conn.now).now
         → OnOk result (Goes (with_lot row.now) (state S.Store tx.old.conn.now) (state S.Store tx.new.conn.now)) }
@@ -53,7 +58,7 @@ pub fn put_lot<S: Alter>(tx: &mut Transaction<'_, S>, row: &LotRow) -> Result<()
     if row.came > ACTS_MAX {
         return Err(TableFault::too_big());
     }
-    put(tx, CHANGE_LOT, ADD_LOT, &cells(row))
+    put_as(tx, is_new, CHANGE_LOT, ADD_LOT, &cells(row))
 }
 
 /// How the rows of the table are read.

@@ -16,7 +16,7 @@ use commands::limits::ACTS_MAX;
 use sqlite::types::ValueRef;
 use sqlite::{Alter, Row, Transaction};
 use std::alloc::Global;
-use table_words::calls::put;
+use table_words::calls::put_new;
 use table_words::columns::{gtin_at, lot_at, number_at, of_gtin, of_lot, of_number};
 use table_words::error::TableFault;
 use table_words::reading::{Table, query};
@@ -49,7 +49,7 @@ pub fn put_recall<S: Alter>(tx: &mut Transaction<'_, S>, row: &RecallRow) -> Res
     if row.act > ACTS_MAX {
         return Err(TableFault::too_big());
     }
-    put(tx, CHANGE_RECALL, ADD_RECALL, &cells(row))
+    put_new(tx, CHANGE_RECALL, ADD_RECALL, &cells(row))
 }
 
 /// How the rows of the table are read.

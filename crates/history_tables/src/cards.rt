@@ -21,7 +21,7 @@ use each_row::{EachFault, each};
 use sqlite::types::ValueRef;
 use sqlite::{Alter, Connection, Row, Transaction};
 use std::alloc::Global;
-use table_words::calls::put;
+use table_words::calls::put_new;
 use table_words::columns::{
     business_day_at, card_kind_at, gtin_at, lot_at, note_at, number_at, of_business_day,
     of_card_kind, of_gtin, of_lot, of_number, of_signed, of_text, signed_at,
@@ -72,7 +72,7 @@ pub fn put_card<S: Alter>(tx: &mut Transaction<'_, S>, row: &CardRow) -> Result<
     if row.act > ACTS_MAX || row.rest > UNITS_MAX {
         return Err(TableFault::too_big());
     }
-    put(tx, CHANGE_CARD, ADD_CARD, &cells(row))
+    put_new(tx, CHANGE_CARD, ADD_CARD, &cells(row))
 }
 
 /// How the rows of the table are read.

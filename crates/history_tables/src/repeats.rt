@@ -16,7 +16,7 @@ use commands::limits::{ACTS_MAX, KEY_TEXT_MAX};
 use sqlite::types::ValueRef;
 use sqlite::{Alter, Row, Transaction};
 use std::alloc::Global;
-use table_words::calls::put;
+use table_words::calls::put_new;
 use table_words::columns::{
     key_text_at, number_at, of_number, of_short, of_spelling, of_text, short_at, spelling_at,
 };
@@ -52,7 +52,7 @@ pub fn put_repeat<S: Alter>(tx: &mut Transaction<'_, S>, row: &RepeatRow) -> Res
     if row.act > ACTS_MAX {
         return Err(TableFault::too_big());
     }
-    put(tx, CHANGE_REPEAT, ADD_REPEAT, &cells(row))
+    put_new(tx, CHANGE_REPEAT, ADD_REPEAT, &cells(row))
 }
 
 /// How the rows of the table are read.

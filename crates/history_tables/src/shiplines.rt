@@ -17,7 +17,7 @@ use commands::limits::{ACTS_MAX, UNITS_MAX};
 use sqlite::types::ValueRef;
 use sqlite::{Alter, Row, Transaction};
 use std::alloc::Global;
-use table_words::calls::put;
+use table_words::calls::put_new;
 use table_words::columns::{gtin_at, lot_at, number_at, of_gtin, of_lot, of_number};
 use table_words::error::TableFault;
 use table_words::reading::{Table, query};
@@ -64,7 +64,7 @@ pub fn put_shipline<S: Alter>(
     if row.number > ACTS_MAX || row.qty > UNITS_MAX {
         return Err(TableFault::too_big());
     }
-    put(tx, CHANGE_SHIPLINE, ADD_SHIPLINE, &cells(row))
+    put_new(tx, CHANGE_SHIPLINE, ADD_SHIPLINE, &cells(row))
 }
 
 /// How the rows of the table are read.

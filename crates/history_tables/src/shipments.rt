@@ -16,7 +16,7 @@ use commands::limits::ACTS_MAX;
 use sqlite::types::ValueRef;
 use sqlite::{Alter, Row, Transaction};
 use std::alloc::Global;
-use table_words::calls::put;
+use table_words::calls::put_new;
 use table_words::columns::{
     business_day_at, name_at, number_at, of_business_day, of_name, of_number,
 };
@@ -56,7 +56,7 @@ pub fn put_shipment<S: Alter>(
     if row.number > ACTS_MAX || row.act > ACTS_MAX {
         return Err(TableFault::too_big());
     }
-    put(tx, CHANGE_SHIPMENT, ADD_SHIPMENT, &cells(row))
+    put_new(tx, CHANGE_SHIPMENT, ADD_SHIPMENT, &cells(row))
 }
 
 /// How the rows of the table are read.

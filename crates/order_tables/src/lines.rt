@@ -16,7 +16,7 @@ use commands::limits::UNITS_MAX;
 use sqlite::types::ValueRef;
 use sqlite::{Alter, Row, Transaction};
 use std::alloc::Global;
-use table_words::calls::put;
+use table_words::calls::put_as;
 use table_words::columns::{gtin_at, name_at, number_at, of_gtin, of_name, of_number};
 use table_words::error::TableFault;
 use table_words::reading::{Table, query};
@@ -37,8 +37,13 @@ fn cells(row: &LineRow) -> [ValueRef<'_>; 4]
     ]
 }
 
-/// Puts the row, in place of one with its key. A number above its limit is refused as too big.
-pub fn put_line<S: Alter>(tx: &mut Transaction<'_, S>, row: &LineRow) -> Result<(), TableFault>
+/// Puts the row, in place of one with its key: it costs least where `is_new` tells whether there is none. A number above
+/// its limit is refused as too big.
+pub fn put_line<S: Alter>(
+    tx: &mut Transaction<'_, S>,
+    row: &LineRow,
+    is_new: bool,
+) -> Result<(), TableFault>
     ensures same_reference { tx.new.conn.ghost_name ≡ tx.old.conn.ghost_name }
     ensures done { HasCleanDisk (state S.Store tx.new.conn.now) → IsReady (state S.Store tx.old.conn.now).now
         → OnOk result (Goes (with_line row.now) (state S.Store tx.old.conn.now) (state S.Store tx.new.conn.now)) }
@@ -52,7 +57,7 @@ pub fn put_line<S: Alter>(tx: &mut Transaction<'_, S>, row: &LineRow) -> Result<
     if row.ordered > UNITS_MAX || row.shipped > UNITS_MAX {
         return Err(TableFault::too_big());
     }
-    put(tx, CHANGE_LINE, ADD_LINE, &cells(row))
+    put_as(tx, is_new, CHANGE_LINE, ADD_LINE, &cells(row))
 }
 
 /// How the rows of the table are read.

@@ -16,7 +16,7 @@ use commands::{OrderRow, OrderState};
 use sqlite::types::ValueRef;
 use sqlite::{Alter, Row, Transaction};
 use std::alloc::Global;
-use table_words::calls::put;
+use table_words::calls::put_as;
 use table_words::columns::{
     name_at, number_at, of_name, of_number, of_order_state, of_title, order_state_at, title_at,
 };
@@ -38,8 +38,13 @@ fn cells(row: &OrderRow) -> [ValueRef<'_>; 4]
     ]
 }
 
-/// Puts the row, in place of one with its key. A number above its limit is refused as too big.
-pub fn put_order<S: Alter>(tx: &mut Transaction<'_, S>, row: &OrderRow) -> Result<(), TableFault>
+/// Puts the row, in place of one with its key: it costs least where `is_new` tells whether there is none. A number above
+/// its limit is refused as too big.
+pub fn put_order<S: Alter>(
+    tx: &mut Transaction<'_, S>,
+    row: &OrderRow,
+    is_new: bool,
+) -> Result<(), TableFault>
     ensures same_reference { tx.new.conn.ghost_name ≡ tx.old.conn.ghost_name }
     ensures done { HasCleanDisk (state S.Store tx.new.conn.now) → IsReady (state S.Store tx.old.conn.now).now
         → OnOk result (Goes (with_order row.now) (state S.Store tx.old.conn.now) (state S.Store tx.new.conn.now)) }
@@ -52,7 +57,7 @@ pub fn put_order<S: Alter>(tx: &mut Transaction<'_, S>, row: &OrderRow) -> Resul
     if row.act > ACTS_MAX {
         return Err(TableFault::too_big());
     }
-    put(tx, CHANGE_ORDER, ADD_ORDER, &cells(row))
+    put_as(tx, is_new, CHANGE_ORDER, ADD_ORDER, &cells(row))
 }
 
 /// How the rows of the table are read.

@@ -17,7 +17,7 @@ use commands::limits::UNITS_MAX;
 use sqlite::types::ValueRef;
 use sqlite::{Alter, Row, Transaction};
 use std::alloc::Global;
-use table_words::calls::{put, run};
+use table_words::calls::{put_as, run};
 use table_words::columns::{
     gtin_at, lot_at, name_at, number_at, of_gtin, of_lot, of_name, of_number,
 };
@@ -63,10 +63,12 @@ fn cells(row: &ReservedRow) -> [ValueRef<'_>; 4]
     ]
 }
 
-/// Puts the row, in place of one with its key. A number above its limit is refused as too big.
+/// Puts the row, in place of one with its key: it costs least where `is_new` tells whether there is none. A number above
+/// its limit is refused as too big.
 pub fn put_reserved<S: Alter>(
     tx: &mut Transaction<'_, S>,
     row: &ReservedRow,
+    is_new: bool,
 ) -> Result<(), TableFault>
     ensures same_reference { tx.new.conn.ghost_name ≡ tx.old.conn.ghost_name }
     ensures done { HasCleanDisk (state S.Store tx.new.conn.now) → IsReady (state S.Store tx.old.conn.now).now
@@ -80,7 +82,7 @@ pub fn put_reserved<S: Alter>(
     if row.qty > UNITS_MAX {
         return Err(TableFault::too_big());
     }
-    put(tx, CHANGE_RESERVED, ADD_RESERVED, &cells(row))
+    put_as(tx, is_new, CHANGE_RESERVED, ADD_RESERVED, &cells(row))
 }
 
 /// How the rows of the table are read.

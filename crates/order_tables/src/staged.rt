@@ -17,7 +17,7 @@ use commands::limits::UNITS_MAX;
 use sqlite::types::ValueRef;
 use sqlite::{Alter, Row, Transaction};
 use std::alloc::Global;
-use table_words::calls::{put, run};
+use table_words::calls::{put_as, run};
 use table_words::columns::{
     gtin_at, lot_at, name_at, number_at, of_gtin, of_lot, of_name, of_number,
 };
@@ -63,8 +63,13 @@ fn cells(row: &StagedRow) -> [ValueRef<'_>; 4]
     ]
 }
 
-/// Puts the row, in place of one with its key. A number above its limit is refused as too big.
-pub fn put_staged<S: Alter>(tx: &mut Transaction<'_, S>, row: &StagedRow) -> Result<(), TableFault>
+/// Puts the row, in place of one with its key: it costs least where `is_new` tells whether there is none. A number above
+/// its limit is refused as too big.
+pub fn put_staged<S: Alter>(
+    tx: &mut Transaction<'_, S>,
+    row: &StagedRow,
+    is_new: bool,
+) -> Result<(), TableFault>
     ensures same_reference { tx.new.conn.ghost_name ≡ tx.old.conn.ghost_name }
     ensures done { HasCleanDisk (state S.Store tx.new.conn.now) → IsReady (state S.Store tx.old.conn.now).now
         → OnOk result (Goes (with_staged row.now) (state S.Store tx.old.conn.now) (state S.Store tx.new.conn.now)) }
@@ -77,7 +82,7 @@ pub fn put_staged<S: Alter>(tx: &mut Transaction<'_, S>, row: &StagedRow) -> Res
     if row.qty > UNITS_MAX {
         return Err(TableFault::too_big());
     }
-    put(tx, CHANGE_STAGED, ADD_STAGED, &cells(row))
+    put_as(tx, is_new, CHANGE_STAGED, ADD_STAGED, &cells(row))
 }
 
 /// How the rows of the table are read.

@@ -5,7 +5,7 @@ ghost use Rattle.sqlite.specs.State.{HasCleanDisk, Survives, IsUnchanged, IsRoll
 ghost use Rattle.sqlite.specs.Held.{state};
 
 use crate::Fault;
-use crate::repeats::LOOK_UP;
+use crate::repeats::NEVER_RUN;
 use sqlite::{Alter, Connection};
 
 /// Finds the connection open, or fails, as `find_open` does inside a transaction.
@@ -16,6 +16,6 @@ pub fn find_open_outside<S: Alter>(conn: &mut Connection<S>) -> Result<(), Fault
     ensures outside { conn.old.in_transaction ≡ false → conn.new.in_transaction ≡ false }
     ensures survives { Survives (state S.Store conn.old) (state S.Store conn.new) (λ _. ⊥) }
 {
-    conn.prepare(LOOK_UP)?;
+    conn.prepare(NEVER_RUN)?;
     Ok(())
 }

@@ -4,3 +4,4 @@ pub mod Views
 pub mod Laws
 pub mod ShortAnswers
 pub mod Serving
+pub mod Tokens

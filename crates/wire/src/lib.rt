@@ -3,7 +3,7 @@
 
 mod answer;
 pub mod laws;
-mod object;
+mod members;
 mod order;
 pub mod serving;
 pub mod short;

@@ -1,122 +1,83 @@
-ghost use Rattle.std.specs.Prelude.{◌≡◌, IfOk, map};
-ghost use Rattle.serde_json.specs.Data.{array};
-ghost use Rattle.serde_json.specs.View.{view, items_of};
+ghost use Rattle.std.specs.Prelude.{◌≡◌, OnOk, IfOk};
 ghost use Rattle.serde_json.specs.Written.{compact_text};
-ghost use Rattle.wire.specs.Views.{lot_data, reserved_data, staged_data, line_members, line_data, order_members, order_data};
+ghost use Rattle.wire.specs.Tokens.{Adds, data_tokens};
+ghost use Rattle.wire.specs.Views.{lot_data, line_data, order_data};
 
-use crate::object::{with_count, with_list, with_text};
+use crate::members::{Member, put_count, put_list, put_text};
 use crate::text::{gtin_text, lot_text, name_text, title_text};
 use commands::{LineView, OrderView, ReservedLot, StagedLot};
-use serde_json::{Map, Value};
+use json::Writer;
 use std::alloc::{AllocError, Global};
 
-fn lot_json(alloc: Global, lot: &str, qty: u64) -> Result<Value, AllocError>
-    ensures { IfOk result (λ v. view v ≡ lot_data lot.now qty) }
+/// Units of a lot.
+fn put_lot(out: &mut Writer, lot: &str, qty: u64) -> Result<(), AllocError>
+    ensures { OnOk result (Adds out.old out.new (data_tokens (lot_data lot.now qty))) }
 {
-    let object = with_text(Map::new(alloc), alloc, "lot", lot)?;
-    let object = with_count(object, alloc, "qty", qty)?;
-    Ok(Value::Object(object))
+    out.begin_object()?;
+    put_text(out, "lot", lot)?;
+    put_count(out, "qty", qty)?;
+    out.end_object()
 }
 
-fn reserved_values(alloc: Global, lots: &[ReservedLot]) -> Result<Vec<Value>, AllocError>
-    ensures { IfOk result (λ vs. map view vs.items ≡ map reserved_data lots.now) }
-{
-    let mut values = Vec::new(alloc);
-    for one in lots {
-        values.push(lot_json(alloc, lot_text(&one.lot), one.qty)?)?;
+impl Member for ReservedLot {
+    ghost use Rattle.wire.specs.Views.{reserved_data};
+
+    ghost shown = { reserved_data };
+
+    fn put(&self, out: &mut Writer) -> Result<(), AllocError> {
+        put_lot(out, lot_text(&self.lot), self.qty)
     }
-    Ok(values)
 }
 
-fn staged_values(alloc: Global, lots: &[StagedLot]) -> Result<Vec<Value>, AllocError>
-    ensures { IfOk result (λ vs. map view vs.items ≡ map staged_data lots.now) }
-{
-    let mut values = Vec::new(alloc);
-    for one in lots {
-        values.push(lot_json(alloc, lot_text(&one.lot), one.qty)?)?;
+impl Member for StagedLot {
+    ghost use Rattle.wire.specs.Views.{staged_data};
+
+    ghost shown = { staged_data };
+
+    fn put(&self, out: &mut Writer) -> Result<(), AllocError> {
+        put_lot(out, lot_text(&self.lot), self.qty)
     }
-    Ok(values)
 }
 
-fn line_json(
-    alloc: Global,
-    gtin: &str,
-    ordered: u64,
-    reserved: Vec<Value>,
-    shipped: u64,
-    short: u64,
-    staged: Vec<Value>,
-) -> Result<Value, AllocError>
-    ensures { IfOk result (λ v. view v
-        ≡ line_members gtin.now ordered (array (items_of (map view reserved.items))) shipped short
-        (array (items_of (map view staged.items)))) }
+fn put_line(out: &mut Writer, line: &LineView) -> Result<(), AllocError>
+    ensures { OnOk result (Adds out.old out.new (data_tokens (line_data line.now))) }
 {
-    let object = with_list(Map::new(alloc), alloc, "reserved", reserved)?;
-    let object = with_list(object, alloc, "staged", staged)?;
-    let object = with_text(object, alloc, "gtin", gtin)?;
-    let object = with_count(object, alloc, "ordered", ordered)?;
-    let object = with_count(object, alloc, "shipped", shipped)?;
-    let object = with_count(object, alloc, "short", short)?;
-    Ok(Value::Object(object))
+    out.begin_object()?;
+    put_text(out, "gtin", gtin_text(&line.gtin))?;
+    put_count(out, "ordered", line.ordered)?;
+    put_list(out, "reserved", line.reserved.as_slice())?;
+    put_count(out, "shipped", line.shipped)?;
+    put_count(out, "short", line.short)?;
+    put_list(out, "staged", line.staged.as_slice())?;
+    out.end_object()
 }
 
-fn line_value(alloc: Global, line: &LineView) -> Result<Value, AllocError>
-    ensures { IfOk result (λ v. view v ≡ line_data line.now) }
-{
-    let gtin = gtin_text(&line.gtin);
-    let reserved = reserved_values(alloc, line.reserved.as_slice())?;
-    let staged = staged_values(alloc, line.staged.as_slice())?;
-    line_json(
-        alloc,
-        gtin,
-        line.ordered,
-        reserved,
-        line.shipped,
-        line.short,
-        staged,
-    )
-}
+impl Member for LineView {
+    ghost use Rattle.wire.specs.Views.{line_data};
 
-fn line_values(alloc: Global, lines: &[LineView]) -> Result<Vec<Value>, AllocError>
-    ensures { IfOk result (λ vs. map view vs.items ≡ map line_data lines.now) }
-{
-    let mut values = Vec::new(alloc);
-    for line in lines {
-        values.push(line_value(alloc, line)?)?;
+    ghost shown = { line_data };
+
+    fn put(&self, out: &mut Writer) -> Result<(), AllocError> {
+        put_line(out, self)
     }
-    Ok(values)
 }
 
-fn object_json(
-    alloc: Global,
-    customer: &str,
-    lines: Vec<Value>,
-    order: &str,
-    state: &str,
-) -> Result<Value, AllocError>
-    ensures { IfOk result (λ v. view v
-        ≡ order_members customer.now (array (items_of (map view lines.items))) order.now state.now) }
+fn put_order(out: &mut Writer, shown: &OrderView) -> Result<(), AllocError>
+    ensures { OnOk result (Adds out.old out.new (data_tokens (order_data shown.now))) }
 {
-    let object = with_list(Map::new(alloc), alloc, "lines", lines)?;
-    let object = with_text(object, alloc, "customer", customer)?;
-    let object = with_text(object, alloc, "order", order)?;
-    let object = with_text(object, alloc, "state", state)?;
-    Ok(Value::Object(object))
+    out.begin_object()?;
+    put_text(out, "customer", title_text(&shown.customer))?;
+    put_list(out, "lines", shown.lines.as_slice())?;
+    put_text(out, "order", name_text(&shown.order))?;
+    put_text(out, "state", shown.state.word())?;
+    out.end_object()
 }
 
-fn order_value(alloc: Global, shown: &OrderView) -> Result<Value, AllocError>
-    ensures { IfOk result (λ v. view v ≡ order_data shown.now) }
-{
-    let customer = title_text(&shown.customer);
-    let order = name_text(&shown.order);
-    let lines = line_values(alloc, shown.lines.as_slice())?;
-    object_json(alloc, customer, lines, order, shown.state.word())
-}
-
-/// An order as JSON.
+/// An order as compact JSON.
 pub fn order_json(alloc: Global, shown: &OrderView) -> Result<Vec<u8>, AllocError>
     ensures { IfOk result (λ b. b.items ≡ compact_text (order_data shown.now)) }
 {
-    let value = order_value(alloc, shown)?;
-    value.to_vec(alloc)
+    let mut out = Writer::new(Vec::new(alloc));
+    put_order(&mut out, shown)?;
+    Ok(out.into_inner())
 }

@@ -1,107 +1,73 @@
-ghost use Rattle.std.specs.Prelude.{◌≡◌, IfOk, map};
-ghost use Rattle.serde_json.specs.Data.{array};
-ghost use Rattle.serde_json.specs.View.{view, items_of};
+ghost use Rattle.std.specs.Prelude.{◌≡◌, OnOk, IfOk};
 ghost use Rattle.serde_json.specs.Written.{compact_text};
-ghost use Rattle.wire.specs.Views.{bin_members, bin_data, lot_members, lot_stock_data, stock_members, stock_data};
+ghost use Rattle.wire.specs.Tokens.{Adds, data_tokens};
+ghost use Rattle.wire.specs.Views.{bin_data, lot_stock_data, stock_data};
 
-use crate::object::{with_count, with_list, with_text};
+use crate::members::{Member, put_count, put_list, put_text};
 use crate::text::{gtin_text, lot_text, name_text, readable, title_text};
 use commands::{BinUnits, LotView, StockView};
-use serde_json::{Map, Value};
+use json::Writer;
 use std::alloc::{AllocError, Global};
 
-fn bin_json(alloc: Global, bin: &str, qty: u64) -> Result<Value, AllocError>
-    ensures { IfOk result (λ v. view v ≡ bin_members bin.now qty) }
+fn put_bin(out: &mut Writer, bin: &BinUnits) -> Result<(), AllocError>
+    ensures { OnOk result (Adds out.old out.new (data_tokens (bin_data bin.now))) }
 {
-    let object = with_text(Map::new(alloc), alloc, "bin", bin)?;
-    let object = with_count(object, alloc, "qty", qty)?;
-    Ok(Value::Object(object))
+    out.begin_object()?;
+    put_text(out, "bin", name_text(&bin.bin))?;
+    put_count(out, "qty", bin.qty)?;
+    out.end_object()
 }
 
-fn bin_values(alloc: Global, bins: &[BinUnits]) -> Result<Vec<Value>, AllocError>
-    ensures { IfOk result (λ vs. map view vs.items ≡ map bin_data bins.now) }
-{
-    let mut values = Vec::new(alloc);
-    for one in bins {
-        values.push(bin_json(alloc, name_text(&one.bin), one.qty)?)?;
+impl Member for BinUnits {
+    ghost use Rattle.wire.specs.Views.{bin_data};
+
+    ghost shown = { bin_data };
+
+    fn put(&self, out: &mut Writer) -> Result<(), AllocError> {
+        put_bin(out, self)
     }
-    Ok(values)
-}
-
-fn lot_json(
-    alloc: Global,
-    bins: Vec<Value>,
-    expiry: &str,
-    lot: &str,
-    reserved: u64,
-    staged: u64,
-    status: &str,
-) -> Result<Value, AllocError>
-    ensures { IfOk result (λ v. view v
-        ≡ lot_members (array (items_of (map view bins.items))) expiry.now lot.now reserved staged status.now) }
-{
-    let object = with_list(Map::new(alloc), alloc, "bins", bins)?;
-    let object = with_text(object, alloc, "expiry", expiry)?;
-    let object = with_text(object, alloc, "lot", lot)?;
-    let object = with_count(object, alloc, "reserved", reserved)?;
-    let object = with_count(object, alloc, "staged", staged)?;
-    let object = with_text(object, alloc, "status", status)?;
-    Ok(Value::Object(object))
 }
 
 #[tactic(auto, using(crate::proofs::Texts::day_is_utf8))]
-fn lot_value(alloc: Global, lot: &LotView) -> Result<Value, AllocError>
-    ensures { IfOk result (λ v. view v ≡ lot_stock_data lot.now) }
+fn put_lot(out: &mut Writer, lot: &LotView) -> Result<(), AllocError>
+    ensures { OnOk result (Adds out.old out.new (data_tokens (lot_stock_data lot.now))) }
 {
-    let bins = bin_values(alloc, lot.bins.as_slice())?;
     let expiry = lot.expiry.text();
-    lot_json(
-        alloc,
-        bins,
-        readable(expiry.as_slice()),
-        lot_text(&lot.lot),
-        lot.reserved,
-        lot.staged,
-        lot.status.word(),
-    )
+    out.begin_object()?;
+    put_list(out, "bins", lot.bins.as_slice())?;
+    put_text(out, "expiry", readable(expiry.as_slice()))?;
+    put_text(out, "lot", lot_text(&lot.lot))?;
+    put_count(out, "reserved", lot.reserved)?;
+    put_count(out, "staged", lot.staged)?;
+    put_text(out, "status", lot.status.word())?;
+    out.end_object()
 }
 
-fn lot_values(alloc: Global, lots: &[LotView]) -> Result<Vec<Value>, AllocError>
-    ensures { IfOk result (λ vs. map view vs.items ≡ map lot_stock_data lots.now) }
-{
-    let mut values = Vec::new(alloc);
-    for lot in lots {
-        values.push(lot_value(alloc, lot)?)?;
+impl Member for LotView {
+    ghost use Rattle.wire.specs.Views.{lot_stock_data};
+
+    ghost shown = { lot_stock_data };
+
+    fn put(&self, out: &mut Writer) -> Result<(), AllocError> {
+        put_lot(out, self)
     }
-    Ok(values)
 }
 
-fn object_json(alloc: Global, gtin: &str, lots: Vec<Value>, name: &str) -> Result<Value, AllocError>
-    ensures { IfOk result (λ v. view v
-        ≡ stock_members gtin.now (array (items_of (map view lots.items))) name.now) }
+fn put_stock(out: &mut Writer, shown: &StockView) -> Result<(), AllocError>
+    ensures { OnOk result (Adds out.old out.new (data_tokens (stock_data shown.now))) }
 {
-    let object = with_list(Map::new(alloc), alloc, "lots", lots)?;
-    let object = with_text(object, alloc, "gtin", gtin)?;
-    let object = with_text(object, alloc, "name", name)?;
-    Ok(Value::Object(object))
-}
-
-fn stock_value(alloc: Global, shown: &StockView) -> Result<Value, AllocError>
-    ensures { IfOk result (λ v. view v ≡ stock_data shown.now) }
-{
-    let lots = lot_values(alloc, shown.lots.as_slice())?;
-    object_json(
-        alloc,
-        gtin_text(&shown.item.gtin),
-        lots,
-        title_text(&shown.item.name),
-    )
+    out.begin_object()?;
+    put_text(out, "gtin", gtin_text(&shown.item.gtin))?;
+    put_list(out, "lots", shown.lots.as_slice())?;
+    put_text(out, "name", title_text(&shown.item.name))?;
+    out.end_object()
 }
 
 /// The stock of an item as compact JSON.
 pub fn stock_json(alloc: Global, shown: &StockView) -> Result<Vec<u8>, AllocError>
     ensures { IfOk result (λ b. b.items ≡ compact_text (stock_data shown.now)) }
 {
-    let value = stock_value(alloc, shown)?;
-    value.to_vec(alloc)
+    let mut out = Writer::new(Vec::new(alloc));
+    put_stock(&mut out, shown)?;
+    Ok(out.into_inner())
 }

@@ -1,6 +1,7 @@
-use Rattle.std.proofs.lemmas.Result.{IfOk-weaker}
-use Rattle.wire.proofs.Floats.{order_is_whole}
+use Rattle.wire.specs.Views.{order_data}
+use Rattle.wire.proofs.Adding.{written_is}
 use Rattle.wire.proofs.order.order_json.Goals as goal
 
 pub returns : goal.returns
-returns c = IfOk-weaker c.to_vec.result _ _ (λ b h. rw c.in_ok-value.ensures at h (order_is_whole c.args.shown.now)) c.to_vec.ensures.text
+returns c =
+    written_is (order_data c.args.shown.now) c.new-out.result c.put_order.new.out c.into_inner.result.items c.new-out.ensures.tokens c.new-out.ensures.before c.in_ok-put_order.ensures c.into_inner.ensures.items
