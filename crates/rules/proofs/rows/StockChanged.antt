@@ -28,6 +28,10 @@ use Rattle.rules.proofs.rows.WithoutRows.{rows_without}
 pub any_kept : {X : Type 0} (test keep : X → Bool) (xs : List X) → list_any test (filter keep xs) ≡ true → list_any test xs ≡ true
 any_kept test keep xs e = elim (list_any test xs) as (λ b. list_any test xs ≡ b → b ≡ true) [ true ↦ λ t. refl | false ↦ λ t. let f = none_in_filter test keep xs t in cc ] refl
 
+pub or_still : (x y z : Bool) → (y ≡ true → z ≡ true) → x || y ≡ true → x || z ≡ true
+or_still true y z h e = refl
+or_still false y z h e = h e
+
 module _ (l : LotId) (b : List ℕ) (q : ℕ) where
   abbrev pub units_row : ℕ → StockRow
   units_row n = record { lot = l; bin = b; qty = n }
@@ -49,12 +53,8 @@ module _ (l : LotId) (b : List ℕ) (q : ℕ) where
   any_with : (test : StockRow → Bool) (rows : List StockRow) → list_any test (stock_rows_with l b q rows) ≡ true → test (units_row q) || list_any test rows ≡ true
   any_with test rows = elim (q == 0) as (λ t. list_any test ((if t then [] else units_row q ∷ []) ++ filter (λ r. not (is_lot l r.lot && same_text b r.bin)) rows) ≡ true → test (units_row q) || list_any test rows ≡ true) [
     | true ↦ λ e. or_later (test (units_row q)) _ (any_kept test (λ r. not (is_lot l r.lot && same_text b r.bin)) rows e)
-    | false ↦ λ e. either (test (units_row q)) _ _ (any_kept test (λ r. not (is_lot l r.lot && same_text b r.bin)) rows) e
+    | false ↦ λ e. or_still (test (units_row q)) _ _ (any_kept test (λ r. not (is_lot l r.lot && same_text b r.bin)) rows) e
   ]
-    where
-      either : (x y z : Bool) → (y ≡ true → z ≡ true) → x || y ≡ true → x || z ≡ true
-      either true y z h e = refl
-      either false y z h e = h e
 
   -- no other bin comes into them, and no other lot
   pub bins_with : (c : List ℕ) (rows : List StockRow) → list_any (λ (r : StockRow). same_text c r.bin) (stock_rows_with l b q rows) ≡ true → same_text c b || list_any (λ (r : StockRow). same_text c r.bin) rows ≡ true

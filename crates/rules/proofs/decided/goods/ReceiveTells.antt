@@ -1,5 +1,5 @@
 -- The rows of a receipt's slice, with those that it puts, tell the demands and supplies of its item after it.
-use Rattle.std.proofs.Common.{◌≡◌, ℕ, ◌+◌, ◌≤◌, Bool, true, false, ◌&&◌, not, List, [], ◌∷◌, ◌++◌, refl, ap, sym, subst, ◌∙◌, arith}
+use Rattle.std.proofs.Common.{◌≡◌, ℕ, ◌+◌, ◌≤◌, true, ◌&&◌, not, List, [], ◌∷◌, ◌++◌, refl, ap, sym, subst, ◌∙◌, arith}
 use Rattle.std.specs.Prelude.{◌||◌, if◌then◌else◌, ℤ, Option, Some, None, find, filter, is_some, option_map}
 use Rattle.std.specs.List.{list_any}
 use Rattle.values.specs.Values.{same_text, is_qty, is_name}
@@ -38,7 +38,7 @@ use Rattle.machine.proofs.histories.Lots.{not_held}
 use Rattle.rules.proofs.rows.AfterRows.{loosened, rows_after, rows_added, put_one}
 use Rattle.rules.proofs.rows.LotUnits.{bin_within_limit}
 use Rattle.rules.proofs.rows.LotTold.{any_qty}
-use Rattle.rules.proofs.rows.StockChanged.{any_kept}
+use Rattle.rules.proofs.rows.StockChanged.{any_kept, or_still}
 use Rattle.rules.proofs.rows.DemandsTold.{TellsDemands}
 use Rattle.rules.proofs.rows.SuppliesTold.{TellsSupplies, in_stock}
 use Rattle.rules.proofs.rows.SliceDemands.{slice_tells_demands}
@@ -152,15 +152,11 @@ module _ (first : ℤ) (acts : List Act) (key : Key) (r : Receipt) (s : Slice) (
           ∙ put_one (same_cell k (r.lot, r.bin)) stock_new (stock_row first acts k.0 k.1)
           ∙ stock_at first acts key r text some_received legal_before k.0 k.1
 
-  still_there : (x y z : Bool) → (y ≡ true → z ≡ true) → x || y ≡ true → x || z ≡ true
-  still_there true y z h e = refl
-  still_there false y z h e = h e
-
   -- a lot of which there are stock rows is that of the receipt, or had some before
   still_wanted : (l : LotId) → in_stock g (stock_rows_after s r) l ≡ true → is_wanted (Receive r) s.rows g l ≡ true
   still_wanted l e =
       let two = and_both (of_item g l) (list_any (λ (q : StockRow). is_lot l q.lot) (stock_rows_after s r)) e in
-      let there = still_there (is_lot l r.lot) (list_any (λ (q : StockRow). is_lot l q.lot) (filter (λ q. not (is_lot r.lot q.lot && same_text r.bin q.bin)) s.rows.stock)) (in_bins s.rows l)
+      let there = or_still (is_lot l r.lot) (list_any (λ (q : StockRow). is_lot l q.lot) (filter (λ q. not (is_lot r.lot q.lot && same_text r.bin q.bin)) s.rows.stock)) (in_bins s.rows l)
       (any_kept (λ (q : StockRow). is_lot l q.lot) (λ q. not (is_lot r.lot q.lot && same_text r.bin q.bin)) s.rows.stock) two.1 in
       λ i. two.0 i && or_first (is_lot l r.lot || in_bins s.rows l) (on_stages s.rows l) there i
 
@@ -169,7 +165,7 @@ module _ (first : ℤ) (acts : List Act) (key : Key) (r : Receipt) (s : Slice) (
   bins_after : (b : List ℕ) → list_any (λ (q : StockRow). same_text b q.bin) (stock_rows_after s r) ≡ true → find (λ (x : BinRow). same_text b x.name) s.rows.bins ≡ bin_row after b
   unfolding tables_of
   bins_after b e =
-      slice.bins.found b (still_there (same_text b r.bin) (list_any (λ (q : StockRow). same_text b q.bin) (filter (λ q. not (is_lot r.lot q.lot && same_text r.bin q.bin)) s.rows.stock))
+      slice.bins.found b (or_still (same_text b r.bin) (list_any (λ (q : StockRow). same_text b q.bin) (filter (λ q. not (is_lot r.lot q.lot && same_text r.bin q.bin)) s.rows.stock))
       (list_any (λ (q : StockRow). same_text b q.bin) s.rows.stock) (any_kept (λ (q : StockRow). same_text b q.bin) (λ q. not (is_lot r.lot q.lot && same_text r.bin q.bin)) s.rows.stock) e)
 
   pub supplies_after : TellsSupplies first after g (lot_rows_after s r) s.rows.recalls (stock_rows_after s r) s.rows.bins
