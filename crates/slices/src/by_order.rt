@@ -3,7 +3,7 @@
 ghost use Rattle.std.specs.Prelude.{◌≡◌};
 ghost use Rattle.sqlite.specs.Held.{state};
 ghost use Rattle.slices.specs.Reading.{IsRead};
-ghost use Rattle.slices.specs.ShownOrders.{AreStagedFor, AreReservedFor};
+ghost use Rattle.slices.specs.ShownOrders.{AreStagedOf, AreReservedOf};
 
 use commands::{ReservedRow, StagedRow};
 use order_tables::reserved::reserved_of_order;
@@ -20,7 +20,7 @@ fn staged_for<S: Alter>(
     order: &Name,
 ) -> Result<Vec<StagedRow>, TableFault>
     ensures same_reference { tx.new.conn.ghost_name ≡ tx.old.conn.ghost_name }
-    ensures read { IsRead (λ t rows. AreStagedFor order.now t rows.items) (state S.Store tx.old.conn.now) (state S.Store tx.new.conn.now) result }
+    ensures read { IsRead (λ t rows. AreStagedOf order.now t rows.items) (state S.Store tx.old.conn.now) (state S.Store tx.new.conn.now) result }
 {
     staged_of_order(alloc, tx, order)
 }
@@ -32,7 +32,7 @@ fn reserved_for<S: Alter>(
     order: &Name,
 ) -> Result<Vec<ReservedRow>, TableFault>
     ensures same_reference { tx.new.conn.ghost_name ≡ tx.old.conn.ghost_name }
-    ensures read { IsRead (λ t rows. AreReservedFor order.now t rows.items) (state S.Store tx.old.conn.now) (state S.Store tx.new.conn.now) result }
+    ensures read { IsRead (λ t rows. AreReservedOf order.now t rows.items) (state S.Store tx.old.conn.now) (state S.Store tx.new.conn.now) result }
 {
     reserved_of_order(alloc, tx, order)
 }
@@ -44,7 +44,7 @@ pub fn booked_for<S: Alter>(
     order: &Name,
 ) -> Result<(Vec<StagedRow>, Vec<ReservedRow>), TableFault>
     ensures same_reference { tx.new.conn.ghost_name ≡ tx.old.conn.ghost_name }
-    ensures read { IsRead (λ t rows. AreStagedFor order.now t rows.0.items × AreReservedFor order.now t rows.1.items) (state S.Store tx.old.conn.now) (state S.Store tx.new.conn.now) result }
+    ensures read { IsRead (λ t rows. AreStagedOf order.now t rows.0.items × AreReservedOf order.now t rows.1.items) (state S.Store tx.old.conn.now) (state S.Store tx.new.conn.now) result }
 {
     let staged = staged_for(alloc, tx, order)?;
     let reserved = reserved_for(alloc, tx, order)?;
