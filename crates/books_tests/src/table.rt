@@ -11,6 +11,7 @@ use crate::goods::{
 use crate::hostile::GOODS_AND_BINS_ROWS;
 use crate::limits::{LAST_UNIT, MANY_UNITS, NEXT_DAY, TWENTY_LINES, TWO_LINES};
 use crate::order_rows::TWO_CUSTOMERS_ROWS;
+use crate::orders_shown::ORDERS_SHOWN;
 use crate::picking::{
     CANCELLED, DONE, KEY_LEFT_FREE, PICKED, PICKS_REFUSED, RETURNED_AND_SHIPPED,
     SHIPPED_AND_RECALLED, UNPICKED,
@@ -60,6 +61,7 @@ pub(crate) enum Table {
     TwentyLines,
     ManyUnits,
     LastUnit,
+    OrdersShown,
 }
 
 impl Table {
@@ -105,6 +107,7 @@ impl Table {
             Table::TwentyLines => TWENTY_LINES,
             Table::ManyUnits => MANY_UNITS,
             Table::LastUnit => LAST_UNIT,
+            Table::OrdersShown => ORDERS_SHOWN,
         }
     }
 }

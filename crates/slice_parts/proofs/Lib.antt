@@ -1,0 +1,2 @@
+pub mod KeysWalked
+pub mod KeysOnce
