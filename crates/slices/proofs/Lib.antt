@@ -4,6 +4,7 @@ pub mod ReadSteps
 pub mod RowsTold
 pub mod SeekSteps
 pub mod KeysTold
+pub mod KeysRead
 pub mod SliceTold
 pub mod LinesTold
 pub mod DayTold

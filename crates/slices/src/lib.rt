@@ -2,6 +2,7 @@
 //! which something is shown, and what is shown of them.
 #![tactic(auto)]
 
+mod by_lot;
 mod heads;
 mod known_lines;
 mod known_orders;
