@@ -1,1 +1,2 @@
-mod KeysWalked
+pub mod KeysWalked
+pub mod KeysOnce

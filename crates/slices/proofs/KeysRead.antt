@@ -1,6 +1,6 @@
 -- Rows sought by one key after another.
 use Rattle.std.proofs.Common.{◌≡◌, ◌+◌, ◌<◌, ℕ, length, take, Bool, true, false, ◌&&◌, not, List, [], ◌∷◌, ◌++◌, Ok, Option, refl, ap, sym, subst, ◌∙◌, append_assoc}
-use Rattle.std.specs.Prelude.{◌||◌, get_or, if◌then◌else◌}
+use Rattle.std.specs.Prelude.{◌||◌, get_or}
 use Rattle.std.specs.List.{list_any}
 use Rattle.std.proofs.lemmas.List.{take_more}
 use Rattle.sqlite.specs.State.{State}
@@ -8,12 +8,12 @@ use Rattle.table_words.specs.Typed.{Tables}
 use Rattle.table_words.specs.Found as read
 use Rattle.machine.specs.KeyedRows.{AreRows, no_two}
 use Rattle.row_rules.proofs.Walking.{append_none}
-use Rattle.machine.proofs.Tests.{and_both, not_true, or_false, or_none, same_tests}
-use Rattle.slice_parts.specs.Keys.{has_key, with_key, with_keys}
+use Rattle.machine.proofs.Tests.{and_both, not_true}
+use Rattle.slice_parts.specs.Keys.{has_key}
 use Rattle.slices.specs.ByLot.{EachKey}
 use Rattle.slices.specs.Reading.{IsRead}
 use Rattle.slices.proofs.ReadSteps.{then_answers}
-use Rattle.slices.proofs.RowsTold.{and_true, any_append, read_none, read_both, rows_read, rows_as}
+use Rattle.slices.proofs.RowsTold.{read_none, read_both, rows_read, rows_as}
 
 -- Steps
 
@@ -38,55 +38,9 @@ module _ {K R : Type 0} (are_of : K → Tables → List R → Type 0) where
       let place : take (i + 1) ks ≡ take i ks ++ k ∷ [] = take_more ks i k less ∙ ap (λ y. take i ks ++ y ∷ []) (sym at) in
       subst (λ (l : List K). IsRead {X = List R} (λ t rows. EachKey (λ j part. are_of j t part) l rows) a c (Ok (xs ++ rows found))) (sym place) (step rows a b c (take i ks) k xs found one two)
 
--- Keys of rows, each once
+-- Rows of keys that are apart
 
-module _ {J : Type 0} (one : J → J → Bool) (is_one : (j m : J) → one j m ≡ true → j ≡ m) (own_one : (j : J) → one j j ≡ true) where
-  turned : (j m : J) → one j m ≡ one m j
-  turned j m = same_tests (one j m) (one m j) (λ e. subst (λ (x : J). one x j ≡ true) (is_one j m e) (own_one j)) (λ e. subst (λ (x : J). one x m ≡ true) (is_one m j e) (own_one m))
-
-  has_more : (ks : List J) (x j : J) → has_key one (ks ++ x ∷ []) j ≡ has_key one ks j || one j x
-  has_more ks x j = any_append (one j) ks (x ∷ []) ∙ ap (λ b. has_key one ks j || b) (or_false (one j x))
-
-  has_with : (x : J) (ks : List J) (j : J) → has_key one (with_key one x ks) j ≡ has_key one ks j || one j x
-  has_with x ks j = elim (has_key one ks x) as (λ b. has_key one ks x ≡ b → has_key one (if b then ks else ks ++ x ∷ []) j ≡ has_key one ks j || one j x) [
-    | true ↦ λ e. known (one j x) refl e
-    | false ↦ λ e. has_more ks x j
-  ] refl
-    where
-      known : (b : Bool) → one j x ≡ b → has_key one ks x ≡ true → has_key one ks j ≡ has_key one ks j || b
-      known true f e =
-          let there : has_key one ks j ≡ true = subst (λ (z : J). has_key one ks z ≡ true) (sym (is_one j x f)) e in
-          there ∙ sym (ap (λ c. c || true) there)
-      known false f e = sym (or_false (has_key one ks j))
-
-  once_more : (x : J) (ks : List J) → has_key one ks x ≡ false → no_two one ks ≡ true → no_two one (ks ++ x ∷ []) ≡ true
-  once_more x [] e h = refl
-  once_more x (y ∷ ys) e h =
-      let two = or_none (one x y) (has_key one ys x) e in
-      let rest = and_both (not (list_any (one y) ys)) (no_two one ys) h in
-      let last : one y x || false ≡ false = or_false (one y x) ∙ turned y x ∙ two.0 in
-      let none : list_any (one y) (ys ++ x ∷ []) ≡ false = any_append (one y) ys (x ∷ []) ∙ (λ i. not_true (list_any (one y) ys) rest.0 i || last i) in
-      and_true _ _ (ap not none) (once_more x ys two.1 rest.1)
-
-  once_with : (x : J) (ks : List J) → no_two one ks ≡ true → no_two one (with_key one x ks) ≡ true
-  once_with x ks h = elim (has_key one ks x) as (λ b. has_key one ks x ≡ b → no_two one (if b then ks else ks ++ x ∷ []) ≡ true) [ true ↦ λ e. h | false ↦ λ e. once_more x ks e h ] refl
-
-  -- those given and those of the rows
-  pub has_keys : {X : Type 0} (key : X → J) (rows : List X) (ks : List J) (j : J) → has_key one (with_keys one key rows ks) j ≡ has_key one ks j || list_any (λ r. one j (key r)) rows
-  has_keys key [] ks j = sym (or_false (has_key one ks j))
-  has_keys key (r ∷ rs) ks j = has_keys key rs (with_key one (key r) ks) j ∙ ap (λ b. b || list_any (λ r. one j (key r)) rs) (has_with (key r) ks j) ∙ grouped (has_key one ks j)
-    where
-      grouped : (a : Bool) → (a || one j (key r)) || list_any (λ r. one j (key r)) rs ≡ a || (one j (key r) || list_any (λ r. one j (key r)) rs)
-      grouped true = refl
-      grouped false = refl
-
-  -- none of them twice
-  pub once_keys : {X : Type 0} (key : X → J) (rows : List X) (ks : List J) → no_two one ks ≡ true → no_two one (with_keys one key rows ks) ≡ true
-  once_keys key [] ks h = h
-  once_keys key (r ∷ rs) ks h = once_keys key rs (with_key one (key r) ks) (once_with (key r) ks h)
-
-  -- Rows of keys that are apart
-
+module _ {J : Type 0} (one : J → J → Bool) (is_one : (j m : J) → one j m ≡ true → j ≡ m) (turned : (j m : J) → one j m ≡ one m j) where
   module _ {K R : Type 0} (same : K → K → Bool) (key : R → K) (is : (k m : K) → same k m ≡ true → k ≡ m) (own : (k : K) → same k k ≡ true) (part : K → J) (row : K → Option R) where
     each_read : (js : List J) (rows : List R) → no_two one js ≡ true → EachKey (λ j found. read.AreRows same key (λ k. one j (part k)) row found) js rows → read.AreRows same key (λ k. has_key one js (part k)) row rows
     each_read [] rows once e = subst (λ (l : List R). read.AreRows same key (λ k. false) row l) (sym e) (read_none same key is own row)

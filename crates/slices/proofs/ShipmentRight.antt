@@ -15,7 +15,7 @@ use Rattle.machine.specs.Postings.{is_lot}
 use Rattle.machine.specs.Standing.{has_line}
 use Rattle.machine.specs.Tables.{tables_of}
 use Rattle.machine.specs.KeyedRows.{AreRows, no_two}
-use Rattle.machine.proofs.Tests.{and_both, or_false, or_first, same_text_is, same_text_refl, is_lot_is, is_lot_refl, is_lot_item}
+use Rattle.machine.proofs.Tests.{and_both, or_false, or_first, same_text_is, same_text_refl, is_lot_is, is_lot_refl, is_lot_turned, is_lot_item}
 use Rattle.rules.specs.Slices.{IsSlice, names_order, on_named_stage, has_touched_line}
 use Rattle.row_rules.specs.declared.slice.Slice.{Slice}
 use Rattle.slice_parts.specs.Keys.{has_key}
@@ -23,7 +23,8 @@ use Rattle.slices.specs.Slicing.{is_among, with_names, lots_on_stage, AreShipped
 use Rattle.slices.proofs.KeysTold.{same_cell_is, same_cell_refl, same_share_is, same_share_refl, same_line_is, same_line_refl}
 use Rattle.slices.proofs.RowsTold.{rows_as}
 use Rattle.slices.proofs.SliceTold.{among_names, once_names, sought}
-use Rattle.slices.proofs.KeysRead.{has_keys, once_keys, keys_read}
+use Rattle.slice_parts.proofs.KeysOnce.{has_keys, once_keys}
+use Rattle.slices.proofs.KeysRead.{keys_read}
 use Rattle.slices.proofs.LinesTold.{taken}
 use Rattle.slices.proofs.OwnRows.{own_any, any_kept, no_rows}
 
@@ -52,7 +53,7 @@ module _ (first : ℤ) (acts : List Act) (key : Key) (order : List ℕ) (s : Sli
   lots = lots_on_stage order s.rows.staged
 
   on_stage : (l : LotId) → has_key is_lot lots l ≡ list_any (λ (r : StagedRow). same_text r.order order && is_lot l r.lot) s.rows.staged
-  on_stage l = has_keys is_lot is_lot_is is_lot_refl (λ (r : StagedRow). r.lot) _ [] l ∙ any_kept (λ (r : StagedRow). same_text r.order order) (λ r. is_lot l r.lot) s.rows.staged
+  on_stage l = has_keys is_lot is_lot_is is_lot_turned (λ (r : StagedRow). r.lot) _ [] l ∙ any_kept (λ (r : StagedRow). same_text r.order order) (λ r. is_lot l r.lot) s.rows.staged
 
   lots_touched : (l : LotId) → has_key is_lot lots l ≡ true → touched l.gtin ≡ true
   lots_touched l e =
@@ -75,8 +76,8 @@ module _ (first : ℤ) (acts : List Act) (key : Key) (order : List ℕ) (s : Sli
     recalls = no_rows {K = RecallKey} same_recall recall_key (λ l. false) (λ l. touched l.gtin) t.recall s.rows.recalls are.no_recalls none;
     stock = rows_as {K = StockKey} same_stock stock_key same_cell_is same_cell_refl (λ k. has_key is_lot lots k.0) (λ k. has_key is_lot lots k.0) (λ k. touched k.0.gtin && on_named_stage (Ship order) s.rows k.0) (λ k. touched k.0.gtin) (λ k. t.stock k.0 k.1) s.rows.stock
         (λ k e. on_stage k.0 ∙ (and_both (touched k.0.gtin) (on_named_stage (Ship order) s.rows k.0) e).1) (λ k e. lots_touched k.0 e)
-        (keys_read is_lot is_lot_is is_lot_refl {K = StockKey} same_stock stock_key same_cell_is same_cell_refl (λ k. k.0) (λ k. t.stock k.0 k.1) lots (has_key is_lot lots) s.rows.stock
-        (once_keys is_lot is_lot_is is_lot_refl (λ (r : StagedRow). r.lot) _ [] refl) (λ l. refl) are.stock);
+        (keys_read is_lot is_lot_is is_lot_turned {K = StockKey} same_stock stock_key same_cell_is same_cell_refl (λ k. k.0) (λ k. t.stock k.0 k.1) lots (has_key is_lot lots) s.rows.stock
+        (once_keys is_lot is_lot_is is_lot_turned (λ (r : StagedRow). r.lot) _ [] refl) (λ l. refl) are.stock);
     bins = no_rows {K = BinKey} same_bin bin_key (λ b. false) (λ b. list_any (λ r. same_text b r.bin) s.rows.stock) t.bin s.rows.bins are.no_bins none;
     orders = rows_as {K = OrderKey} same_order order_key same_text_is same_text_refl (is_among (order ∷ [])) (is_among (order ∷ [])) (λ o. same_text o order || false) (λ o. same_text o order || has_touched_line first act acts o) t.order s.rows.orders
         (λ o e. e) (λ o e. one_named o (has_touched_line first act acts o) e)

@@ -27,7 +27,7 @@ use Rattle.machine.specs.Postings.{is_lot}
 use Rattle.machine.specs.KeyedRows.{AreRows, no_two}
 use Rattle.rules.specs.Slices.{IsSlice, names_order, names_bin, names_lot, counts_items, counts_bins, plans, in_bins, on_stages, on_named_stage, has_touched_line}
 use Rattle.row_rules.specs.declared.slice.Slice.{Slice}
-use Rattle.machine.proofs.Tests.{and_both, or_false, some_one, same_text_is, same_text_refl, same_text_turned, is_lot_is, is_lot_refl, is_lot_item}
+use Rattle.machine.proofs.Tests.{and_both, or_false, some_one, same_text_is, same_text_refl, same_text_turned, is_lot_is, is_lot_refl, is_lot_turned, is_lot_item}
 use Rattle.machine.proofs.Apart.{AreApart, any_found}
 use Rattle.machine.proofs.histories.Accepted.{item_accepted}
 use Rattle.machine.proofs.histories.Notices.{bins_apart}
@@ -40,7 +40,8 @@ use Rattle.slices.proofs.Counted.{as_many}
 use Rattle.slices.proofs.KeysTold.{same_cell_is, same_cell_refl, same_share_is, same_share_refl, same_line_is, same_line_refl}
 use Rattle.slices.proofs.RowsTold.{rows_read, rows_as}
 use Rattle.slices.proofs.SliceTold.{among_with, once_with, among_names, once_names, sought}
-use Rattle.slices.proofs.KeysRead.{has_keys, once_keys, keys_read}
+use Rattle.slice_parts.proofs.KeysOnce.{has_keys, once_keys}
+use Rattle.slices.proofs.KeysRead.{keys_read}
 use Rattle.slices.proofs.OwnRows.{own_any}
 use Rattle.slices.proofs.ShipmentRight.{shipment_right}
 use Rattle.slices.proofs.LinesTold.{line_some, taken}
@@ -292,8 +293,8 @@ module _ (first : ℤ) (acts : List Act) where
 
       held_told : (l : LotId) → has_key is_lot held l ≡ names_lot command l || (in_bins s.rows l || on_stages s.rows l)
       held_told l =
-          has_keys is_lot is_lot_is is_lot_refl (λ (r : StagedRow). r.lot) s.rows.staged (with_keys {R = StockRow} is_lot (λ r. r.lot) s.rows.stock (lots_named command)) l
-          ∙ ap (λ b. b || on_stages s.rows l) (has_keys is_lot is_lot_is is_lot_refl (λ (r : StockRow). r.lot) s.rows.stock (lots_named command) l ∙ ap (λ b. b || in_bins s.rows l) (lot_told command l))
+          has_keys is_lot is_lot_is is_lot_turned (λ (r : StagedRow). r.lot) s.rows.staged (with_keys {R = StockRow} is_lot (λ r. r.lot) s.rows.stock (lots_named command)) l
+          ∙ ap (λ b. b || on_stages s.rows l) (has_keys is_lot is_lot_is is_lot_turned (λ (r : StockRow). r.lot) s.rows.stock (lots_named command) l ∙ ap (λ b. b || in_bins s.rows l) (lot_told command l))
           ∙ grouped (names_lot command l) (in_bins s.rows l) (on_stages s.rows l)
         where
           grouped : (a b c : Bool) → (a || b) || c ≡ a || (b || c)
@@ -301,7 +302,7 @@ module _ (first : ℤ) (acts : List Act) where
           grouped false b c = refl
 
       held_once : no_two is_lot held ≡ true
-      held_once = once_keys is_lot is_lot_is is_lot_refl (λ (r : StagedRow). r.lot) s.rows.staged (with_keys {R = StockRow} is_lot (λ r. r.lot) s.rows.stock (lots_named command)) (once_keys is_lot is_lot_is is_lot_refl (λ (r : StockRow). r.lot) s.rows.stock (lots_named command) (lot_once command))
+      held_once = once_keys is_lot is_lot_is is_lot_turned (λ (r : StagedRow). r.lot) s.rows.staged (with_keys {R = StockRow} is_lot (λ r. r.lot) s.rows.stock (lots_named command)) (once_keys is_lot is_lot_is is_lot_turned (λ (r : StockRow). r.lot) s.rows.stock (lots_named command) (lot_once command))
 
       held_touched : (l : LotId) → has_key is_lot held l ≡ true → touched l.gtin ≡ true
       held_touched l e = by (names_lot command l) (in_bins s.rows l) (on_stages s.rows l) refl refl refl (sym (held_told l) ∙ e)
@@ -326,7 +327,7 @@ module _ (first : ℤ) (acts : List Act) where
         lots = rows_as {K = LotKey} same_lot lot_key is_lot_is is_lot_refl (has_key is_lot held) (has_key is_lot held)
             (λ l. plans command && (touched l.gtin && (names_lot command l || (in_bins s.rows l || on_stages s.rows l)))) (λ l. touched l.gtin) t.lot s.rows.lots
             (λ l e. held_told l ∙ both (touched l.gtin) (names_lot command l || (in_bins s.rows l || on_stages s.rows l)) (both (plans command) (touched l.gtin && (names_lot command l || (in_bins s.rows l || on_stages s.rows l))) e)) held_touched
-            (keys_read is_lot is_lot_is is_lot_refl {K = LotKey} same_lot lot_key is_lot_is is_lot_refl (λ k. k) t.lot held (has_key is_lot held) s.rows.lots held_once (λ l. refl) rows.units.lots);
+            (keys_read is_lot is_lot_is is_lot_turned {K = LotKey} same_lot lot_key is_lot_is is_lot_refl (λ k. k) t.lot held (has_key is_lot held) s.rows.lots held_once (λ l. refl) rows.units.lots);
         recalls = rows_as {K = RecallKey} same_recall recall_key is_lot_is is_lot_refl (λ k. touched k.gtin) (λ k. touched k.gtin) (λ k. plans command && touched k.gtin) (λ k. touched k.gtin) t.recall s.rows.recalls (λ k e. both (plans command) (touched k.gtin) e) (λ k e. e)
             (sought {K = RecallKey} same_recall recall_key is_lot_is is_lot_refl (λ k. k.gtin) t.recall gtins touched s.rows.recalls once told rows.units.stocked.recalls);
         stock = rows_as {K = StockKey} same_stock stock_key same_cell_is same_cell_refl (λ k. touched k.0.gtin) (λ k. touched k.0.gtin) (λ k. touched k.0.gtin && (plans command || on_named_stage command s.rows k.0)) (λ k. touched k.0.gtin) (λ k. t.stock k.0 k.1) s.rows.stock

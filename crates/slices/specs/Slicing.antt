@@ -1,7 +1,6 @@
 -- The rows that a slice is made of.
 use Rattle.std.specs.Prelude.{◌≡◌, ℕ, ℤ, Bool, true, false, List, [], ◌∷◌, ◌++◌, map, filter, Option, Some, None, is_some}
 use Rattle.values.specs.Values.{same_text}
-use Rattle.values.specs.declared.lot.LotId.{LotId}
 use Rattle.commands.specs.Tables.{Tables}
 use Rattle.commands.specs.declared.command.Command.{Command}
 use Rattle.commands.specs.declared.rows.MetaRow.{MetaRow}
@@ -15,14 +14,14 @@ use Rattle.commands.specs.declared.rows.LineRow.{LineRow}
 use Rattle.commands.specs.declared.rows.StagedRow.{StagedRow}
 use Rattle.commands.specs.declared.rows.ReservedRow.{ReservedRow}
 use Rattle.table_words.specs.Found.{AreRows, only_if}
-use Rattle.table_words.specs.Typed.{ItemKey, same_item, item_key, BinKey, same_bin, bin_key, LotKey, same_lot_id, same_lot, lot_key, RecallKey, same_recall, recall_key, StockKey, same_stock, stock_key, OrderKey, same_order, order_key, is_open_order, LineKey, same_line, line_key, StagedKey, same_staged, staged_key, ReservedKey, same_reserved, reserved_key}
+use Rattle.table_words.specs.Typed.{ItemKey, same_item, item_key, BinKey, same_bin, bin_key, LotKey, same_lot, lot_key, RecallKey, same_recall, recall_key, StockKey, same_stock, stock_key, OrderKey, same_order, order_key, is_open_order, LineKey, same_line, line_key, StagedKey, same_staged, staged_key, ReservedKey, same_reserved, reserved_key}
 use Rattle.open_lines.specs.OpenLines.{Entries, orders_at, holds, are_apart, Gains, has_line_row}
 use Rattle.rules.specs.Slices.{counts_items, counts_bins}
 use Rattle.row_rules.specs.declared.slice.Rows.{Rows}
 use Rattle.row_rules.specs.declared.slice.Put.{Put}
 use Rattle.row_rules.specs.declared.slice.Slice.{Slice}
 use Rattle.slices.specs.Reading.{IsCount}
-use Rattle.slices.specs.ByLot.{EachKey}
+use Rattle.slices.specs.ByLot.{AreLotsOf, AreStockOf}
 pub use Rattle.slice_parts.specs.Parts.{is_among, with_name, with_names, items_named, lots_named, orders_named, bins_named, whole_orders, day_opened, order_shipped, held_lots, lots_on_stage, others, other_names, has_line_in, with_lines, is_ending, not_recalled, items_of_lots, with_staged}
 
 -- Reads one after another
@@ -70,18 +69,11 @@ pub record AreStocked (gtins : List (List ℕ)) (t : Tables) (item_rows : List I
   pub recalls : Each (λ g found. AreRows {K = RecallKey} same_recall recall_key (λ k. same_text g k.gtin) t.recall found) (texts gtins) recall_rows
   pub stock : Each (λ g found. AreRows {K = StockKey} same_stock stock_key (λ k. same_text g k.0.gtin) (λ k. t.stock k.0 k.1) found) (texts gtins) stock_rows
 
--- the rows of lots, and their stock, one lot after another
-abbrev pub AreLots : List LotId → Tables → List LotRow → Type 0
-AreLots lots t lot_rows = EachKey (λ l found. AreRows {K = LotKey} same_lot lot_key (same_lot l) t.lot found) lots lot_rows
-
-abbrev pub AreStockOf : List LotId → Tables → List StockRow → Type 0
-AreStockOf lots t stock_rows = EachKey (λ l found. AreRows {K = StockKey} same_stock stock_key (λ k. same_lot_id l k.0) (λ k. t.stock k.0 k.1) found) lots stock_rows
-
 -- those of the items, and the rows of the lots that the command names or that have units
 pub record AreUnits (command : Command) (gtins : List (List ℕ)) (t : Tables) (item_rows : List ItemRow) (lot_rows : List LotRow) (recall_rows : List RecallRow) (stock_rows : List StockRow) (staged_rows : List StagedRow) (reserved_rows : List ReservedRow) : Type 0 where
   pub stocked : AreStocked gtins t item_rows recall_rows stock_rows
   pub booked : AreBooked gtins t staged_rows reserved_rows
-  pub lots : AreLots (held_lots command stock_rows staged_rows) t lot_rows
+  pub lots : AreLotsOf (held_lots command stock_rows staged_rows) t lot_rows
 
 -- the rows of the bins, one bin after another
 abbrev pub AreBins : List (List ℕ) → Tables → List BinRow → Type 0

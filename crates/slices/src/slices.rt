@@ -14,7 +14,8 @@ ghost use Rattle.slices.specs.Books.{IsBooksOf};
 ghost use Rattle.table_words.specs.Typed.{tables_in};
 ghost use Rattle.open_lines.specs.OpenLines.{Loses, has_closed_row, has_line_row};
 ghost use Rattle.slices.specs.Reading.{IsRead};
-ghost use Rattle.slices.specs.Slicing.{AreGoods, AreStocked, AreBooked, AreLots, AreUnits, AreBins, AreCounts, AreTaken, AreTouched, ArePlanned, AreSliced, Covers, IsSliceIn, bins_named, with_names, held_lots};
+ghost use Rattle.slices.specs.ByLot.{AreLotsOf};
+ghost use Rattle.slices.specs.Slicing.{AreGoods, AreStocked, AreBooked, AreUnits, AreBins, AreCounts, AreTaken, AreTouched, ArePlanned, AreSliced, Covers, IsSliceIn, bins_named, with_names, held_lots};
 
 use crate::by_lot::of_lots;
 use crate::known_orders::read_known_orders;
@@ -114,7 +115,7 @@ fn read_lots<S: Alter>(
     staged: &[StagedRow],
 ) -> Result<Vec<LotRow>, TableFault>
     ensures same_reference { tx.new.conn.ghost_name ≡ tx.old.conn.ghost_name }
-    ensures read { IsRead (λ t rows. AreLots (held_lots command.now stock.now staged.now) t rows.items) (state S.Store tx.old.conn.now) (state S.Store tx.new.conn.now) result }
+    ensures read { IsRead (λ t rows. AreLotsOf (held_lots command.now stock.now staged.now) t rows.items) (state S.Store tx.old.conn.now) (state S.Store tx.new.conn.now) result }
 {
     let lots = lots_held(alloc, command, stock, staged)?;
     of_lots::<LotRow, S>(alloc, tx, lots.as_slice())

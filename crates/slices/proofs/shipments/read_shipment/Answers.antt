@@ -6,7 +6,8 @@ use Rattle.sqlite.specs.declared.error.Error.TheVariants.{SqliteFailure}
 use Rattle.sqlite.specs.declared.error.ErrorCode.TheVariants.{OutOfMemory}
 use Rattle.table_words.specs.Found.{AreRows}
 use Rattle.table_words.specs.Typed.{StagedKey, same_staged, staged_key}
-use Rattle.slices.specs.Slicing.{Each, texts, with_names, lots_on_stage, AreStockOf}
+use Rattle.slices.specs.ByLot.{AreStockOf}
+use Rattle.slices.specs.Slicing.{Each, texts, with_names, lots_on_stage}
 use Rattle.slices.proofs.ReadSteps.{has_read, read_on, and_then, so_told, fails_first, fails_later, no_room_left}
 use Rattle.slices.proofs.shipments.read_shipment.Goals as goal
 

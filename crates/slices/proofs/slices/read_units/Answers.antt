@@ -1,6 +1,7 @@
 use Rattle.std.proofs.Common.{◌≡◌, List, subst}
 use Rattle.values.specs.declared.lot.LotId.{LotId}
-use Rattle.slices.specs.Slicing.{AreLots, held_lots}
+use Rattle.slices.specs.ByLot.{AreLotsOf}
+use Rattle.slices.specs.Slicing.{held_lots}
 use Rattle.slices.proofs.ReadSteps.{has_read, read_on, and_then, so_told, fails_first, fails_later}
 use Rattle.slices.proofs.slices.read_units.Goals as goal
 
@@ -21,5 +22,5 @@ returns-clause-read g c =
     (λ t h. record {
       stocked = h.0.0;
       booked = h.0.1;
-      lots = subst (λ (l : List LotId). AreLots l t c.in_ok-lots.lots.items) held_is h.1;
+      lots = subst (λ (l : List LotId). AreLotsOf l t c.in_ok-lots.lots.items) held_is h.1;
     })
