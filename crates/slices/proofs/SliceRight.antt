@@ -276,9 +276,10 @@ module _ (first : ℤ) (acts : List Act) where
       both : (a b : Bool) → a && b ≡ true → b ≡ true
       both a b e = (and_both a b e).1
 
-      either : (n a b : Bool) → n || (a && b) ≡ true → n || b ≡ true
-      either true a b e = refl
-      either false a b e = both a b e
+      either : (n a b c : Bool) → n || ((a && b) && c) ≡ true → n || (b && c) ≡ true
+      either true a b c e = refl
+      either false true b c e = e
+      either false false b c e = absurd (let none : false ≡ true = e in cc)
 
       -- the stock and what is staged
       stock_rows : AreRows {K = StockKey} same_stock stock_key (λ k. touched k.0.gtin) (λ k. touched k.0.gtin) (λ k. t.stock k.0 k.1) s.rows.stock
@@ -291,15 +292,10 @@ module _ (first : ℤ) (acts : List Act) where
       abbrev held : List LotId
       held = held_lots command s.rows.stock s.rows.staged
 
-      held_told : (l : LotId) → has_key is_lot held l ≡ names_lot command l || (in_bins s.rows l || on_stages s.rows l)
+      held_told : (l : LotId) → has_key is_lot held l ≡ (names_lot command l || in_bins s.rows l) || on_stages s.rows l
       held_told l =
           has_keys is_lot is_lot_is is_lot_turned (λ (r : StagedRow). r.lot) s.rows.staged (with_keys {R = StockRow} is_lot (λ r. r.lot) s.rows.stock (lots_named command)) l
           ∙ ap (λ b. b || on_stages s.rows l) (has_keys is_lot is_lot_is is_lot_turned (λ (r : StockRow). r.lot) s.rows.stock (lots_named command) l ∙ ap (λ b. b || in_bins s.rows l) (lot_told command l))
-          ∙ grouped (names_lot command l) (in_bins s.rows l) (on_stages s.rows l)
-        where
-          grouped : (a b c : Bool) → (a || b) || c ≡ a || (b || c)
-          grouped true b c = refl
-          grouped false b c = refl
 
       held_once : no_two is_lot held ≡ true
       held_once = once_keys is_lot is_lot_is is_lot_turned (λ (r : StagedRow). r.lot) s.rows.staged (with_keys {R = StockRow} is_lot (λ r. r.lot) s.rows.stock (lots_named command)) (once_keys is_lot is_lot_is is_lot_turned (λ (r : StockRow). r.lot) s.rows.stock (lots_named command) (lot_once command))
@@ -310,7 +306,7 @@ module _ (first : ℤ) (acts : List Act) where
           of_lot : (m : LotId) → is_lot l m ≡ true → touched m.gtin ≡ true → touched l.gtin ≡ true
           of_lot m is there = ap touched (same_text_is l.gtin m.gtin (is_lot_item l m is)) ∙ there
 
-          by : (n i o : Bool) → names_lot command l ≡ n → in_bins s.rows l ≡ i → on_stages s.rows l ≡ o → n || (i || o) ≡ true → touched l.gtin ≡ true
+          by : (n i o : Bool) → names_lot command l ≡ n → in_bins s.rows l ≡ i → on_stages s.rows l ≡ o → (n || i) || o ≡ true → touched l.gtin ≡ true
           by true i o named bins stages _ = lot_touched first act acts command l named
           by false true o named bins stages _ =
               own_any {K = StockKey} stock_key (λ k. touched k.0.gtin) (λ k. t.stock k.0 k.1) (λ r. is_lot l r.lot) s.rows.stock (touched l.gtin ≡ true) stock_rows.own (λ r is there. of_lot r.lot is there) bins
@@ -325,8 +321,8 @@ module _ (first : ℤ) (acts : List Act) where
         items = rows_as {K = ItemKey} same_item item_key same_text_is same_text_refl touched touched (λ g. plans command && touched g) touched t.item s.rows.items (λ g e. both (plans command) (touched g) e) (λ g e. e)
             (sought {K = ItemKey} same_item item_key same_text_is same_text_refl (λ k. k) t.item gtins touched s.rows.items once told rows.units.stocked.items);
         lots = rows_as {K = LotKey} same_lot lot_key is_lot_is is_lot_refl (has_key is_lot held) (has_key is_lot held)
-            (λ l. plans command && (touched l.gtin && (names_lot command l || (in_bins s.rows l || on_stages s.rows l)))) (λ l. touched l.gtin) t.lot s.rows.lots
-            (λ l e. held_told l ∙ both (touched l.gtin) (names_lot command l || (in_bins s.rows l || on_stages s.rows l)) (both (plans command) (touched l.gtin && (names_lot command l || (in_bins s.rows l || on_stages s.rows l))) e)) held_touched
+            (λ l. (plans command && touched l.gtin) && ((names_lot command l || in_bins s.rows l) || on_stages s.rows l)) (λ l. touched l.gtin) t.lot s.rows.lots
+            (λ l e. held_told l ∙ both (plans command && touched l.gtin) ((names_lot command l || in_bins s.rows l) || on_stages s.rows l) e) held_touched
             (keys_read is_lot is_lot_is is_lot_turned {K = LotKey} same_lot lot_key is_lot_is is_lot_refl (λ k. k) t.lot held (has_key is_lot held) s.rows.lots held_once (λ l. refl) rows.units.lots);
         recalls = rows_as {K = RecallKey} same_recall recall_key is_lot_is is_lot_refl (λ k. touched k.gtin) (λ k. touched k.gtin) (λ k. plans command && touched k.gtin) (λ k. touched k.gtin) t.recall s.rows.recalls (λ k e. both (plans command) (touched k.gtin) e) (λ k e. e)
             (sought {K = RecallKey} same_recall recall_key is_lot_is is_lot_refl (λ k. k.gtin) t.recall gtins touched s.rows.recalls once told rows.units.stocked.recalls);
@@ -340,16 +336,16 @@ module _ (first : ℤ) (acts : List Act) where
             (λ b. among_names (λ (r : StockRow). r.bin) s.rows.stock (bins_named command) b ∙ ap (λ c. c || list_any (λ r. same_text b r.bin) s.rows.stock) (bin_told command b)) rows.bins);
         orders = rows_as {K = OrderKey} same_order order_key same_text_is same_text_refl
             (λ o. is_among (orders_named command) o || (is_open_in t o && has_line_of gtins t o)) (λ o. is_among (orders_named command) o || has_line_of gtins t o)
-            (λ o. names_order command o || (plans command && (is_open first acts o && has_touched_line first act acts o))) (λ o. names_order command o || has_touched_line first act acts o) t.order s.rows.orders
+            (λ o. names_order command o || ((plans command && is_open first acts o) && has_touched_line first act acts o)) (λ o. names_order command o || has_touched_line first act acts o) t.order s.rows.orders
             (λ o e. needs (is_among (orders_named command) o) (names_order command o) (is_open first acts o) (is_open_in t o) (has_touched_line first act acts o) (has_line_of gtins t o) (order_told command o) (open_told o) (touched_line o)
-            (either (names_order command o) (plans command) (is_open first acts o && has_touched_line first act acts o) e))
+            (either (names_order command o) (plans command) (is_open first acts o) (has_touched_line first act acts o) e))
             (λ o e. ap (λ b. b || has_touched_line first act acts o) (sym (order_told command o)) ∙ ap (λ b. is_among (orders_named command) o || b) (sym (touched_line o)) ∙ e)
             (orders_told known (orders_named command) gtins t covers keyed (order_once command) once s.rows.orders s.rows.lines rows.ordered);
         lines = rows_as {K = LineKey} same_line line_key same_line_is same_line_refl
             (λ k. is_among (orders_named command) k.0 || (is_open_in t k.0 && is_among gtins k.1)) (λ k. is_among (orders_named command) k.0 || is_among gtins k.1)
-            (λ k. names_order command k.0 || (plans command && (is_open first acts k.0 && touched k.1))) (λ k. names_order command k.0 || touched k.1) (λ k. t.line k.0 k.1) s.rows.lines
+            (λ k. names_order command k.0 || ((plans command && is_open first acts k.0) && touched k.1)) (λ k. names_order command k.0 || touched k.1) (λ k. t.line k.0 k.1) s.rows.lines
             (λ k e. needs (is_among (orders_named command) k.0) (names_order command k.0) (is_open first acts k.0) (is_open_in t k.0) (touched k.1) (is_among gtins k.1) (order_told command k.0) (open_told k.0) (told k.1)
-            (either (names_order command k.0) (plans command) (is_open first acts k.0 && touched k.1) e))
+            (either (names_order command k.0) (plans command) (is_open first acts k.0) (touched k.1) e))
             (λ k e. ap (λ b. b || touched k.1) (sym (order_told command k.0)) ∙ ap (λ b. is_among (orders_named command) k.0 || b) (sym (told k.1)) ∙ e)
             (lines_told known (orders_named command) gtins t covers keyed (order_once command) once s.rows.orders s.rows.lines rows.ordered);
         staged = staged_rows;
