@@ -112,7 +112,7 @@ with_lines line_rows order_rows = filter (λ r. has_line_in line_rows r.order) o
 
 -- those that a command names and those with units in bins or on stages, each once
 abbrev pub held_lots : Command → List StockRow → List StagedRow → List LotId
-held_lots command stock_rows staged_rows = with_keys is_lot (λ r. r.lot) staged_rows (with_keys is_lot (λ r. r.lot) stock_rows (lots_named command))
+held_lots command stock_rows staged_rows = with_keys is_lot (λ r. r.lot) staged_rows (with_keys is_lot (λ r. r.lot) stock_rows (with_keys is_lot (λ l. l) (lots_named command) []))
 
 -- those with units on the stage of an order, each once
 abbrev pub lots_on_stage : List ℕ → List StagedRow → List LotId

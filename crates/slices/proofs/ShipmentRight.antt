@@ -1,5 +1,5 @@
 -- What is read for a shipment of the tables of a history is its slice.
-use Rattle.std.proofs.Common.{◌≡◌, ℕ, Bool, true, false, ◌&&◌, List, [], ◌∷◌, refl, ap, sym, ◌∙◌}
+use Rattle.std.proofs.Common.{◌≡◌, ℕ, Bool, true, false, ◌&&◌, List, [], ◌∷◌, filter, refl, ap, sym, ◌∙◌}
 use Rattle.std.specs.Prelude.{◌||◌, Some, ℤ}
 use Rattle.std.specs.List.{list_any}
 use Rattle.values.specs.Values.{same_text}
@@ -48,12 +48,15 @@ module _ (first : ℤ) (acts : List Act) (key : Key) (order : List ℕ) (s : Sli
   staged_rows : AreRows {K = StagedKey} same_staged staged_key (λ k. touched k.1.gtin) (λ k. touched k.1.gtin) (λ k. t.staged k.0 k.1) s.rows.staged
   staged_rows = sought {K = StagedKey} same_staged staged_key same_share_is same_share_refl (λ k. k.1.gtin) (λ k. t.staged k.0 k.1) gtins touched s.rows.staged (once_names (λ (r : LineRow). r.gtin) s.rows.lines [] refl) told are.staged
 
-  -- the lots that are staged for it
+  -- what is staged for it, and the lots of that
+  abbrev own_staged : List StagedRow
+  own_staged = filter (λ r. same_text r.order order) s.rows.staged
+
   abbrev lots : List LotId
   lots = lots_on_stage order s.rows.staged
 
   on_stage : (l : LotId) → has_key is_lot lots l ≡ list_any (λ (r : StagedRow). same_text r.order order && is_lot l r.lot) s.rows.staged
-  on_stage l = has_keys is_lot is_lot_is is_lot_turned (λ (r : StagedRow). r.lot) _ [] l ∙ any_kept (λ (r : StagedRow). same_text r.order order) (λ r. is_lot l r.lot) s.rows.staged
+  on_stage l = has_keys is_lot is_lot_is is_lot_turned (λ (r : StagedRow). r.lot) own_staged [] l ∙ any_kept (λ (r : StagedRow). same_text r.order order) (λ r. is_lot l r.lot) s.rows.staged
 
   lots_touched : (l : LotId) → has_key is_lot lots l ≡ true → touched l.gtin ≡ true
   lots_touched l e =
@@ -77,7 +80,7 @@ module _ (first : ℤ) (acts : List Act) (key : Key) (order : List ℕ) (s : Sli
     stock = rows_as {K = StockKey} same_stock stock_key same_cell_is same_cell_refl (λ k. has_key is_lot lots k.0) (λ k. has_key is_lot lots k.0) (λ k. touched k.0.gtin && on_named_stage (Ship order) s.rows k.0) (λ k. touched k.0.gtin) (λ k. t.stock k.0 k.1) s.rows.stock
         (λ k e. on_stage k.0 ∙ (and_both (touched k.0.gtin) (on_named_stage (Ship order) s.rows k.0) e).1) (λ k e. lots_touched k.0 e)
         (keys_read is_lot is_lot_is is_lot_turned {K = StockKey} same_stock stock_key same_cell_is same_cell_refl (λ k. k.0) (λ k. t.stock k.0 k.1) lots (has_key is_lot lots) s.rows.stock
-        (once_keys is_lot is_lot_is is_lot_turned (λ (r : StagedRow). r.lot) _ [] refl) (λ l. refl) are.stock);
+        (once_keys is_lot is_lot_is is_lot_turned (λ (r : StagedRow). r.lot) own_staged [] refl) (λ l. refl) are.stock);
     bins = no_rows {K = BinKey} same_bin bin_key (λ b. false) (λ b. list_any (λ r. same_text b r.bin) s.rows.stock) t.bin s.rows.bins are.no_bins none;
     orders = rows_as {K = OrderKey} same_order order_key same_text_is same_text_refl (is_among (order ∷ [])) (is_among (order ∷ [])) (λ o. same_text o order || false) (λ o. same_text o order || has_touched_line first act acts o) t.order s.rows.orders
         (λ o e. e) (λ o e. one_named o (has_touched_line first act acts o) e)

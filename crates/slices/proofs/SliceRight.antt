@@ -139,18 +139,6 @@ lot_told (Release k) l = or_false (is_lot l k)
 lot_told (Recall k) l = or_false (is_lot l k)
 lot_told _ l = refl
 
-lot_once : (command : Command) → no_two is_lot (lots_named command) ≡ true
-lot_once (Receive r) = refl
-lot_once (Move m) = refl
-lot_once (Count c) = refl
-lot_once (Adjust a) = refl
-lot_once (Pick p) = refl
-lot_once (Unpick p) = refl
-lot_once (Hold k) = refl
-lot_once (Release k) = refl
-lot_once (Recall k) = refl
-lot_once _ = refl
-
 -- a command touches the item of the lot that it names
 lot_touched : (first : ℤ) (act : Act) (acts : List Act) (command : Command) (l : LotId) → names_lot command l ≡ true → touches first act acts command l.gtin ≡ true
 lot_touched first act acts (Receive r) l e = is_lot_item l r.lot e
@@ -292,13 +280,23 @@ module _ (first : ℤ) (acts : List Act) where
       abbrev held : List LotId
       held = held_lots command s.rows.stock s.rows.staged
 
+      abbrev named : List LotId
+      named = with_keys is_lot (λ l. l) (lots_named command) []
+
+      abbrev in_stock : List LotId
+      in_stock = with_keys {R = StockRow} is_lot (λ r. r.lot) s.rows.stock named
+
       held_told : (l : LotId) → has_key is_lot held l ≡ (names_lot command l || in_bins s.rows l) || on_stages s.rows l
       held_told l =
-          has_keys is_lot is_lot_is is_lot_turned (λ (r : StagedRow). r.lot) s.rows.staged (with_keys {R = StockRow} is_lot (λ r. r.lot) s.rows.stock (lots_named command)) l
-          ∙ ap (λ b. b || on_stages s.rows l) (has_keys is_lot is_lot_is is_lot_turned (λ (r : StockRow). r.lot) s.rows.stock (lots_named command) l ∙ ap (λ b. b || in_bins s.rows l) (lot_told command l))
+          has_keys is_lot is_lot_is is_lot_turned (λ (r : StagedRow). r.lot) s.rows.staged in_stock l
+          ∙ ap (λ b. b || on_stages s.rows l)
+          (has_keys is_lot is_lot_is is_lot_turned (λ (r : StockRow). r.lot) s.rows.stock named l
+          ∙ ap (λ b. b || in_bins s.rows l) (has_keys is_lot is_lot_is is_lot_turned (λ (k : LotId). k) (lots_named command) [] l ∙ lot_told command l))
 
       held_once : no_two is_lot held ≡ true
-      held_once = once_keys is_lot is_lot_is is_lot_turned (λ (r : StagedRow). r.lot) s.rows.staged (with_keys {R = StockRow} is_lot (λ r. r.lot) s.rows.stock (lots_named command)) (once_keys is_lot is_lot_is is_lot_turned (λ (r : StockRow). r.lot) s.rows.stock (lots_named command) (lot_once command))
+      held_once =
+          once_keys is_lot is_lot_is is_lot_turned (λ (r : StagedRow). r.lot) s.rows.staged in_stock
+          (once_keys is_lot is_lot_is is_lot_turned (λ (r : StockRow). r.lot) s.rows.stock named (once_keys is_lot is_lot_is is_lot_turned (λ (k : LotId). k) (lots_named command) [] refl))
 
       held_touched : (l : LotId) → has_key is_lot held l ≡ true → touched l.gtin ≡ true
       held_touched l e = by (names_lot command l) (in_bins s.rows l) (on_stages s.rows l) refl refl refl (sym (held_told l) ∙ e)
