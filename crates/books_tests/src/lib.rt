@@ -35,6 +35,8 @@ mod opening;
 #[cfg(test)]
 mod order_rows;
 #[cfg(test)]
+mod orders_shown;
+#[cfg(test)]
 mod picking;
 #[cfg(test)]
 mod picking_rows;

@@ -12,6 +12,7 @@ use crate::goods::{
 use crate::hostile::GOODS_AND_BINS_ROWS;
 use crate::limits::{LAST_UNIT, MANY_UNITS, NEXT_DAY, TWENTY_LINES, TWO_LINES};
 use crate::order_rows::TWO_CUSTOMERS_ROWS;
+use crate::orders_shown::ORDERS_SHOWN;
 use crate::picking::{
     CANCELLED, DONE, KEY_LEFT_FREE, PICKED, PICKS_REFUSED, RETURNED_AND_SHIPPED,
     SHIPPED_AND_RECALLED, UNPICKED,
@@ -62,6 +63,7 @@ pub(crate) enum Table {
     ManyUnits,
     LastUnit,
     GoneNamed,
+    OrdersShown,
 }
 
 impl Table {
@@ -108,6 +110,7 @@ impl Table {
             Table::ManyUnits => MANY_UNITS,
             Table::LastUnit => LAST_UNIT,
             Table::GoneNamed => GONE_NAMED,
+            Table::OrdersShown => ORDERS_SHOWN,
         }
     }
 }

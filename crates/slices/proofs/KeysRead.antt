@@ -1,5 +1,5 @@
 -- Rows sought by one key after another.
-use Rattle.std.proofs.Common.{◌≡◌, ◌+◌, ◌<◌, ℕ, length, take, Bool, true, false, ◌&&◌, not, List, [], ◌∷◌, ◌++◌, Ok, Option, refl, ap, sym, subst, ◌∙◌, append_assoc}
+use Rattle.std.proofs.Common.{◌≡◌, ◌+◌, ◌<◌, ℕ, length, take, Bool, true, false, not, List, [], ◌∷◌, ◌++◌, Ok, Option, refl, ap, sym, subst, ◌∙◌, append_assoc}
 use Rattle.std.specs.Prelude.{◌||◌, get_or}
 use Rattle.std.specs.List.{list_any}
 use Rattle.std.proofs.lemmas.List.{take_more}

@@ -271,7 +271,7 @@ module _ (first : ℤ) (acts : List Act) where
 
       -- the stock and what is staged
       stock_rows : AreRows {K = StockKey} same_stock stock_key (λ k. touched k.0.gtin) (λ k. touched k.0.gtin) (λ k. t.stock k.0 k.1) s.rows.stock
-      stock_rows = sought {K = StockKey} same_stock stock_key same_cell_is same_cell_refl (λ k. k.0.gtin) (λ k. t.stock k.0 k.1) gtins touched s.rows.stock once told rows.units.stocked.stock
+      stock_rows = sought {K = StockKey} same_stock stock_key same_cell_is same_cell_refl (λ k. k.0.gtin) (λ k. t.stock k.0 k.1) gtins touched s.rows.stock once told rows.units.goods.stock
 
       staged_rows : AreRows {K = StagedKey} same_staged staged_key (λ k. touched k.1.gtin) (λ k. touched k.1.gtin) (λ k. t.staged k.0 k.1) s.rows.staged
       staged_rows = sought {K = StagedKey} same_staged staged_key same_share_is same_share_refl (λ k. k.1.gtin) (λ k. t.staged k.0 k.1) gtins touched s.rows.staged once told rows.units.booked.staged
@@ -317,13 +317,13 @@ module _ (first : ℤ) (acts : List Act) where
         items_counted = counted_items;
         bins_counted = counted_bins;
         items = rows_as {K = ItemKey} same_item item_key same_text_is same_text_refl touched touched (λ g. plans command && touched g) touched t.item s.rows.items (λ g e. both (plans command) (touched g) e) (λ g e. e)
-            (sought {K = ItemKey} same_item item_key same_text_is same_text_refl (λ k. k) t.item gtins touched s.rows.items once told rows.units.stocked.items);
+            (sought {K = ItemKey} same_item item_key same_text_is same_text_refl (λ k. k) t.item gtins touched s.rows.items once told rows.units.goods.items);
         lots = rows_as {K = LotKey} same_lot lot_key is_lot_is is_lot_refl (has_key is_lot held) (has_key is_lot held)
             (λ l. (plans command && touched l.gtin) && ((names_lot command l || in_bins s.rows l) || on_stages s.rows l)) (λ l. touched l.gtin) t.lot s.rows.lots
             (λ l e. held_told l ∙ both (plans command && touched l.gtin) ((names_lot command l || in_bins s.rows l) || on_stages s.rows l) e) held_touched
             (keys_read is_lot is_lot_is is_lot_turned {K = LotKey} same_lot lot_key is_lot_is is_lot_refl (λ k. k) t.lot held (has_key is_lot held) s.rows.lots held_once (λ l. refl) rows.units.lots);
         recalls = rows_as {K = RecallKey} same_recall recall_key is_lot_is is_lot_refl (λ k. touched k.gtin) (λ k. touched k.gtin) (λ k. plans command && touched k.gtin) (λ k. touched k.gtin) t.recall s.rows.recalls (λ k e. both (plans command) (touched k.gtin) e) (λ k e. e)
-            (sought {K = RecallKey} same_recall recall_key is_lot_is is_lot_refl (λ k. k.gtin) t.recall gtins touched s.rows.recalls once told rows.units.stocked.recalls);
+            (sought {K = RecallKey} same_recall recall_key is_lot_is is_lot_refl (λ k. k.gtin) t.recall gtins touched s.rows.recalls once told rows.units.goods.recalls);
         stock = rows_as {K = StockKey} same_stock stock_key same_cell_is same_cell_refl (λ k. touched k.0.gtin) (λ k. touched k.0.gtin) (λ k. touched k.0.gtin && (plans command || on_named_stage command s.rows k.0)) (λ k. touched k.0.gtin) (λ k. t.stock k.0 k.1) s.rows.stock
             (λ k e. (and_both (touched k.0.gtin) (plans command || on_named_stage command s.rows k.0) e).0) (λ k e. e) stock_rows;
         bins = rows_as {K = BinKey} same_bin bin_key same_text_is same_text_refl (λ b. names_bin command b || list_any (λ r. same_text b r.bin) s.rows.stock) (λ b. names_bin command b || list_any (λ r. same_text b r.bin) s.rows.stock)

@@ -52,10 +52,9 @@ abbrev pub listed : {R : Type 0} → Option R → List R
 listed None = []
 listed (Some r) = r ∷ []
 
--- the rows of the items: each item's in turn
-pub record AreGoods (gtins : List (List ℕ)) (t : Tables) (item_rows : List ItemRow) (lot_rows : List LotRow) (recall_rows : List RecallRow) (stock_rows : List StockRow) : Type 0 where
+-- of the items their own rows, their recalls and their stock: each item's in turn
+pub record AreGoods (gtins : List (List ℕ)) (t : Tables) (item_rows : List ItemRow) (recall_rows : List RecallRow) (stock_rows : List StockRow) : Type 0 where
   pub items : Each (λ g found. AreRows {K = ItemKey} same_item item_key (λ k. same_text g k) t.item found) (texts gtins) item_rows
-  pub lots : Each (λ g found. AreRows {K = LotKey} same_lot lot_key (λ k. same_text g k.gtin) t.lot found) (texts gtins) lot_rows
   pub recalls : Each (λ g found. AreRows {K = RecallKey} same_recall recall_key (λ k. same_text g k.gtin) t.recall found) (texts gtins) recall_rows
   pub stock : Each (λ g found. AreRows {K = StockKey} same_stock stock_key (λ k. same_text g k.0.gtin) (λ k. t.stock k.0 k.1) found) (texts gtins) stock_rows
 
@@ -63,15 +62,9 @@ pub record AreBooked (gtins : List (List ℕ)) (t : Tables) (staged_rows : List 
   pub staged : Each (λ g found. AreRows {K = StagedKey} same_staged staged_key (λ k. same_text g k.1.gtin) (λ k. t.staged k.0 k.1) found) (texts gtins) staged_rows
   pub reserved : Each (λ g found. AreRows {K = ReservedKey} same_reserved reserved_key (λ k. same_text g k.1.gtin) (λ k. t.reserved k.0 k.1) found) (texts gtins) reserved_rows
 
--- of the items their own rows, their recalls and their stock: each item's in turn
-pub record AreStocked (gtins : List (List ℕ)) (t : Tables) (item_rows : List ItemRow) (recall_rows : List RecallRow) (stock_rows : List StockRow) : Type 0 where
-  pub items : Each (λ g found. AreRows {K = ItemKey} same_item item_key (λ k. same_text g k) t.item found) (texts gtins) item_rows
-  pub recalls : Each (λ g found. AreRows {K = RecallKey} same_recall recall_key (λ k. same_text g k.gtin) t.recall found) (texts gtins) recall_rows
-  pub stock : Each (λ g found. AreRows {K = StockKey} same_stock stock_key (λ k. same_text g k.0.gtin) (λ k. t.stock k.0 k.1) found) (texts gtins) stock_rows
-
 -- those of the items, and the rows of the lots that the command names or that have units
 pub record AreUnits (command : Command) (gtins : List (List ℕ)) (t : Tables) (item_rows : List ItemRow) (lot_rows : List LotRow) (recall_rows : List RecallRow) (stock_rows : List StockRow) (staged_rows : List StagedRow) (reserved_rows : List ReservedRow) : Type 0 where
-  pub stocked : AreStocked gtins t item_rows recall_rows stock_rows
+  pub goods : AreGoods gtins t item_rows recall_rows stock_rows
   pub booked : AreBooked gtins t staged_rows reserved_rows
   pub lots : AreLotsOf (held_lots command stock_rows staged_rows) t lot_rows
 

@@ -3,6 +3,7 @@
 #![tactic(auto)]
 
 mod by_lot;
+mod by_order;
 mod heads;
 mod known_lines;
 mod known_orders;

@@ -15,7 +15,7 @@ ghost use Rattle.table_words.specs.Typed.{tables_in};
 ghost use Rattle.open_lines.specs.OpenLines.{Loses, has_closed_row, has_line_row};
 ghost use Rattle.slices.specs.Reading.{IsRead};
 ghost use Rattle.slices.specs.ByLot.{AreLotsOf};
-ghost use Rattle.slices.specs.Slicing.{AreGoods, AreStocked, AreBooked, AreUnits, AreBins, AreCounts, AreTaken, AreTouched, ArePlanned, AreSliced, Covers, IsSliceIn, bins_named, with_names, held_lots};
+ghost use Rattle.slices.specs.Slicing.{AreGoods, AreBooked, AreUnits, AreBins, AreCounts, AreTaken, AreTouched, ArePlanned, AreSliced, Covers, IsSliceIn, bins_named, with_names, held_lots};
 
 use crate::by_lot::of_lots;
 use crate::known_orders::read_known_orders;
@@ -66,18 +66,18 @@ fn touched_items<S: Alter>(
     }
 }
 
-/// The rows of the items.
-pub fn read_goods<S: Alter>(
+/// Of the items their own rows, their recalls and their stock.
+fn read_goods<S: Alter>(
     alloc: Global,
     tx: &mut Transaction<'_, S>,
     gtins: &[Gtin],
-) -> Result<(Vec<ItemRow>, Vec<LotRow>, Vec<RecallRow>, Vec<StockRow>), TableFault>
+) -> Result<(Vec<ItemRow>, Vec<RecallRow>, Vec<StockRow>), TableFault>
     ensures same_reference { tx.new.conn.ghost_name ≡ tx.old.conn.ghost_name }
-    ensures read { IsRead (λ t rows. AreGoods gtins.now t rows.0.items rows.1.items rows.2.items rows.3.items) (state S.Store tx.old.conn.now) (state S.Store tx.new.conn.now) result }
+    ensures read { IsRead (λ t rows. AreGoods gtins.now t rows.0.items rows.1.items rows.2.items) (state S.Store tx.old.conn.now) (state S.Store tx.new.conn.now) result }
 {
-    let (items, lots) = seek_both::<Gtin, ItemRow, LotRow, S>(alloc, tx, gtins)?;
+    let items = seek_all::<ItemRow, S>(alloc, tx, gtins)?;
     let (recalls, stock) = seek_both::<Gtin, RecallRow, StockRow, S>(alloc, tx, gtins)?;
-    Ok((items, lots, recalls, stock))
+    Ok((items, recalls, stock))
 }
 
 /// What is staged and what is reserved of the items.
@@ -90,20 +90,6 @@ pub fn read_booked<S: Alter>(
     ensures read { IsRead (λ t rows. AreBooked gtins.now t rows.0.items rows.1.items) (state S.Store tx.old.conn.now) (state S.Store tx.new.conn.now) result }
 {
     seek_both::<Gtin, StagedRow, ReservedRow, S>(alloc, tx, gtins)
-}
-
-/// Of the items their own rows, their recalls and their stock.
-fn read_stocked<S: Alter>(
-    alloc: Global,
-    tx: &mut Transaction<'_, S>,
-    gtins: &[Gtin],
-) -> Result<(Vec<ItemRow>, Vec<RecallRow>, Vec<StockRow>), TableFault>
-    ensures same_reference { tx.new.conn.ghost_name ≡ tx.old.conn.ghost_name }
-    ensures read { IsRead (λ t rows. AreStocked gtins.now t rows.0.items rows.1.items rows.2.items) (state S.Store tx.old.conn.now) (state S.Store tx.new.conn.now) result }
-{
-    let items = seek_all::<ItemRow, S>(alloc, tx, gtins)?;
-    let (recalls, stock) = seek_both::<Gtin, RecallRow, StockRow, S>(alloc, tx, gtins)?;
-    Ok((items, recalls, stock))
 }
 
 /// The lots that the command names or that have units.
@@ -138,14 +124,14 @@ fn read_units<S: Alter>(
     ensures same_reference { tx.new.conn.ghost_name ≡ tx.old.conn.ghost_name }
     ensures read { IsRead (λ t rows. AreUnits command.now gtins.now t rows.0.0.items rows.0.1.items rows.0.2.items rows.0.3.items rows.1.0.items rows.1.1.items) (state S.Store tx.old.conn.now) (state S.Store tx.new.conn.now) result }
 {
-    let (items, recalls, stock) = read_stocked(alloc, tx, gtins)?;
+    let (items, recalls, stock) = read_goods(alloc, tx, gtins)?;
     let booked = read_booked(alloc, tx, gtins)?;
     let lots = read_lots(alloc, tx, command, stock.as_slice(), booked.0.as_slice())?;
     Ok(((items, lots, recalls, stock), booked))
 }
 
 /// The rows that were read, together.
-pub fn rows_read(
+fn rows_read(
     goods: (Vec<ItemRow>, Vec<LotRow>, Vec<RecallRow>, Vec<StockRow>),
     bins: Vec<BinRow>,
     ordered: (Vec<OrderRow>, Vec<LineRow>),

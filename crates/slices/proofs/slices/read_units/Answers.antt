@@ -20,7 +20,7 @@ returns-clause-read g c =
     λ i. held_lots c.args.command.now (c.as_slice.ensures.value i) (c.as_slice-2.ensures.value i) in
     so_told (and_then (and_then c.in_ok-items.ensures.read c.in_ok-booked.ensures.read) c.in_ok-lots.ensures.read)
     (λ t h. record {
-      stocked = h.0.0;
+      goods = h.0.0;
       booked = h.0.1;
       lots = subst (λ (l : List LotId). AreLotsOf l t c.in_ok-lots.lots.items) held_is h.1;
     })
