@@ -24,10 +24,10 @@ impl Model for LotKey {
 }
 
 impl LotKey {
-    pub fn of(lot: LotId) -> Self
-        ensures { result ≡ lot }
+    pub fn of(lot: &LotId) -> Self
+        ensures { result ≡ lot.now }
     {
-        LotKey { lot }
+        LotKey { lot: *lot }
     }
 }
 

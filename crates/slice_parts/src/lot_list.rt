@@ -35,7 +35,7 @@ impl LotList {
         ensures added { OnOk result (AreKeyed self.old → self.new.lots.items ≡ with_key is_lot lot self.old.lots.items) }
         ensures keyed { OnOk result (AreKeyed self.old → AreKeyed self.new) }
     {
-        let is_new = self.keys.insert(LotKey::of(lot))?;
+        let is_new = self.keys.insert(LotKey::of(&lot))?;
         if !is_new {
             return Ok(());
         }
