@@ -79,7 +79,6 @@ lots_named _ = []
 -- the order that a command takes whole: it touches the item of each of its lines
 abbrev pub whole_orders : Command → List (List ℕ)
 whole_orders (Cancel o) = o ∷ []
-whole_orders (Ship o) = o ∷ []
 whole_orders _ = []
 
 -- the business day that a command opens

@@ -54,31 +54,31 @@ named_only : (x : List ℕ) (lines : List LineRow) (own : Bool) → lines ≡ []
 named_only x lines own none = ap (λ l. own || list_any (λ r. same_text x r.gtin) l) none ∙ or_false own
 
 -- the items that a command names, with those of the lines that it takes, are those that it touches
-named_told : (first : ℤ) (act : Act) (acts : List Act) (command : Command) → day_opened command ≡ None → (lines : List LineRow) → AreAllLines (whole_orders command) (tables_of first acts) lines
+named_told : (first : ℤ) (act : Act) (acts : List Act) (command : Command) → day_opened command ≡ None → order_shipped command ≡ None → (lines : List LineRow) → AreAllLines (whole_orders command) (tables_of first acts) lines
     → (x : List ℕ) → is_among (items_named command) x || list_any (λ r. same_text x r.gtin) lines ≡ touches first act acts command x
-named_told first act acts (Item i) e lines none x = named_only x lines (is_among (i.gtin ∷ []) x) none ∙ or_false (same_text x i.gtin)
-named_told first act acts (Bin b) e lines none x = named_only x lines false none
-named_told first act acts (Receive r) e lines none x = named_only x lines (is_among (r.lot.gtin ∷ []) x) none ∙ or_false (same_text x r.lot.gtin)
-named_told first act acts (Move m) e lines none x = named_only x lines (is_among (m.lot.gtin ∷ []) x) none ∙ or_false (same_text x m.lot.gtin)
-named_told first act acts (Count c) e lines none x = named_only x lines (is_among (c.lot.gtin ∷ []) x) none ∙ or_false (same_text x c.lot.gtin)
-named_told first act acts (Adjust a) e lines none x = named_only x lines (is_among (a.lot.gtin ∷ []) x) none ∙ or_false (same_text x a.lot.gtin)
-named_told first act acts (Order o) e lines none x = named_only x lines (is_among (with_names (λ l. l.gtin) o.lines []) x) none ∙ among_names (λ l. l.gtin) o.lines [] x
-named_told first act acts (Cancel o) e lines all x = taken first acts o lines all x
-named_told first act acts (Pick p) e lines none x = named_only x lines (is_among (p.lot.gtin ∷ []) x) none ∙ or_false (same_text x p.lot.gtin)
-named_told first act acts (Unpick p) e lines none x = named_only x lines (is_among (p.lot.gtin ∷ []) x) none ∙ or_false (same_text x p.lot.gtin)
-named_told first act acts (Ship o) e lines all x = taken first acts o lines all x
-named_told first act acts (Hold l) e lines none x = named_only x lines (is_among (l.gtin ∷ []) x) none ∙ or_false (same_text x l.gtin)
-named_told first act acts (Release l) e lines none x = named_only x lines (is_among (l.gtin ∷ []) x) none ∙ or_false (same_text x l.gtin)
-named_told first act acts (Recall l) e lines none x = named_only x lines (is_among (l.gtin ∷ []) x) none ∙ or_false (same_text x l.gtin)
-named_told first act acts (OpenDay day) e lines none x = absurd cc
+named_told first act acts (Item i) e f lines none x = named_only x lines (is_among (i.gtin ∷ []) x) none ∙ or_false (same_text x i.gtin)
+named_told first act acts (Bin b) e f lines none x = named_only x lines false none
+named_told first act acts (Receive r) e f lines none x = named_only x lines (is_among (r.lot.gtin ∷ []) x) none ∙ or_false (same_text x r.lot.gtin)
+named_told first act acts (Move m) e f lines none x = named_only x lines (is_among (m.lot.gtin ∷ []) x) none ∙ or_false (same_text x m.lot.gtin)
+named_told first act acts (Count c) e f lines none x = named_only x lines (is_among (c.lot.gtin ∷ []) x) none ∙ or_false (same_text x c.lot.gtin)
+named_told first act acts (Adjust a) e f lines none x = named_only x lines (is_among (a.lot.gtin ∷ []) x) none ∙ or_false (same_text x a.lot.gtin)
+named_told first act acts (Order o) e f lines none x = named_only x lines (is_among (with_names (λ l. l.gtin) o.lines []) x) none ∙ among_names (λ l. l.gtin) o.lines [] x
+named_told first act acts (Cancel o) e f lines all x = taken first acts o lines all x
+named_told first act acts (Pick p) e f lines none x = named_only x lines (is_among (p.lot.gtin ∷ []) x) none ∙ or_false (same_text x p.lot.gtin)
+named_told first act acts (Unpick p) e f lines none x = named_only x lines (is_among (p.lot.gtin ∷ []) x) none ∙ or_false (same_text x p.lot.gtin)
+named_told first act acts (Ship o) e f lines none x = absurd cc
+named_told first act acts (Hold l) e f lines none x = named_only x lines (is_among (l.gtin ∷ []) x) none ∙ or_false (same_text x l.gtin)
+named_told first act acts (Release l) e f lines none x = named_only x lines (is_among (l.gtin ∷ []) x) none ∙ or_false (same_text x l.gtin)
+named_told first act acts (Recall l) e f lines none x = named_only x lines (is_among (l.gtin ∷ []) x) none ∙ or_false (same_text x l.gtin)
+named_told first act acts (OpenDay day) e f lines none x = absurd cc
 
-taken_told : (first : ℤ) (act : Act) (acts : List Act) (command : Command) → day_opened command ≡ None → (gtins : List (List ℕ)) → AreTaken command (tables_of first acts) gtins → (x : List ℕ) → is_among gtins x ≡ touches first act acts command x
-taken_told first act acts command e gtins are x =
-    ap (λ l. is_among l x) are.items ∙ among_names (λ (r : LineRow). r.gtin) are.lines (items_named command) x ∙ named_told first act acts command e are.lines are.read x
+taken_told : (first : ℤ) (act : Act) (acts : List Act) (command : Command) → day_opened command ≡ None → order_shipped command ≡ None → (gtins : List (List ℕ)) → AreTaken command (tables_of first acts) gtins → (x : List ℕ) → is_among gtins x ≡ touches first act acts command x
+taken_told first act acts command e f gtins are x =
+    ap (λ l. is_among l x) are.items ∙ among_names (λ (r : LineRow). r.gtin) are.lines (items_named command) x ∙ named_told first act acts command e f are.lines are.read x
 
-items_told : (first : ℤ) (key : Key) (command : Command) (acts : List Act) → IsHistory first acts → (gtins : List (List ℕ)) → AreTouched command (tables_of first acts) gtins → (x : List ℕ) → is_among gtins x ≡ touches first (record { key = key; command = command }) acts command x
-items_told first key (OpenDay day) acts history gtins are x = affected_told first key day acts history gtins are x
-items_told first key command acts history gtins are x = taken_told first (record { key = key; command = command }) acts command refl gtins are x
+items_told : (first : ℤ) (key : Key) (command : Command) (acts : List Act) → order_shipped command ≡ None → IsHistory first acts → (gtins : List (List ℕ)) → AreTouched command (tables_of first acts) gtins → (x : List ℕ) → is_among gtins x ≡ touches first (record { key = key; command = command }) acts command x
+items_told first key (OpenDay day) acts f history gtins are x = affected_told first key day acts history gtins are x
+items_told first key command acts f history gtins are x = taken_told first (record { key = key; command = command }) acts command refl f gtins are x
 
 named_once : (command : Command) → no_two same_text (items_named command) ≡ true
 named_once (Order o) = once_names (λ l. l.gtin) o.lines [] refl
@@ -221,7 +221,7 @@ module _ (first : ℤ) (acts : List Act) where
     abbrev act : Act
     act = record { key = key; command = command }
 
-    module _ (history : IsHistory first acts) (s : Slice) (meta : (tables_of first acts).meta ≡ Some s.meta) (counted : AreCounts command (tables_of first acts) s.items s.bins) (rows : ArePlanned known command (tables_of first acts) s.rows) where
+    module _ (unshipped : order_shipped command ≡ None) (history : IsHistory first acts) (s : Slice) (meta : (tables_of first acts).meta ≡ Some s.meta) (counted : AreCounts command (tables_of first acts) s.items s.bins) (rows : ArePlanned known command (tables_of first acts) s.rows) where
       abbrev t : Tables
       t = tables_of first acts
 
@@ -232,7 +232,7 @@ module _ (first : ℤ) (acts : List Act) where
       touched = touches first act acts command
 
       told : (x : List ℕ) → is_among gtins x ≡ touched x
-      told = items_told first key command acts history gtins rows.touched
+      told = items_told first key command acts unshipped history gtins rows.touched
 
       once : no_two same_text gtins ≡ true
       once = items_once command t gtins rows.touched
@@ -362,5 +362,5 @@ module _ (first : ℤ) (acts : List Act) where
     slice_right history s slice = by (order_shipped command) refl slice.rows
       where
         by : (x : Option (List ℕ)) → order_shipped command ≡ x → AreSlicedOn x known command (tables_of first acts) s.rows → IsSlice first act acts (tables_of first acts) s
-        by None e are = planned_right history s slice.meta slice.counted are
+        by None e are = planned_right e history s slice.meta slice.counted are
         by (Some o) e are = subst (λ (c : Command). IsSlice first (record { key = key; command = c }) acts (tables_of first acts) s) (sym (ships command o e)) (shipment_right first acts key o s slice.meta are)
