@@ -7,6 +7,8 @@
 #![tactic(auto)]
 
 #[cfg(test)]
+mod gone_lots;
+#[cfg(test)]
 mod listing;
 #[cfg(test)]
 mod order_views;
