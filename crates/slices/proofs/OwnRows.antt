@@ -1,5 +1,5 @@
 -- Rows that are a table's: one of them that passes a test, and none at all.
-use Rattle.std.proofs.Common.{◌≡◌, Bool, true, false, ◌&&◌, List, [], ◌∷◌, filter, refl, ap, sym, subst, ◌∙◌}
+use Rattle.std.proofs.Common.{◌≡◌, Bool, true, false, ◌&&◌, List, [], ◌∷◌, filter, refl, ap, sym, subst}
 use Rattle.std.specs.Prelude.{◌||◌, if◌then◌else◌, Option}
 use Rattle.std.specs.List.{list_any}
 use Rattle.machine.specs.KeyedRows.{AreRows, AreOwn}

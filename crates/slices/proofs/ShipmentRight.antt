@@ -14,9 +14,9 @@ use Rattle.machine.specs.Acts.{Act}
 use Rattle.machine.specs.Postings.{is_lot}
 use Rattle.machine.specs.Standing.{has_line}
 use Rattle.machine.specs.Tables.{tables_of}
-use Rattle.machine.specs.KeyedRows.{AreRows, no_two}
-use Rattle.machine.proofs.Tests.{and_both, or_false, or_first, same_text_is, same_text_refl, is_lot_is, is_lot_refl, is_lot_turned, is_lot_item}
-use Rattle.rules.specs.Slices.{IsSlice, names_order, on_named_stage, has_touched_line}
+use Rattle.machine.specs.KeyedRows.{AreRows}
+use Rattle.machine.proofs.Tests.{and_both, or_false, or_first, same_text_is, same_text_refl, is_lot_is, is_lot_turned, is_lot_item}
+use Rattle.rules.specs.Slices.{IsSlice, on_named_stage, has_touched_line}
 use Rattle.row_rules.specs.declared.slice.Slice.{Slice}
 use Rattle.slice_parts.specs.Keys.{has_key}
 use Rattle.slices.specs.Slicing.{is_among, with_names, lots_on_stage, AreShipped}

@@ -1,5 +1,5 @@
 -- What is read of the tables of a history is the slice of the command.
-use Rattle.std.proofs.Common.{◌≡◌, ℕ, Bool, true, false, ◌&&◌, List, [], ◌∷◌, ◌++◌, length, refl, ap, sym, subst, ◌∙◌}
+use Rattle.std.proofs.Common.{◌≡◌, ℕ, Bool, true, false, ◌&&◌, List, [], ◌∷◌, length, refl, ap, sym, subst, ◌∙◌}
 use Rattle.std.specs.Prelude.{◌||◌, ◌==◌, if◌then◌else◌, find, Option, Some, None, option_map, is_some, ℤ}
 use Rattle.std.specs.List.{list_any, list_all, cons_option}
 use Rattle.values.specs.Values.{same_text}
@@ -17,7 +17,7 @@ use Rattle.commands.specs.declared.rows.StagedRow.{StagedRow}
 use Rattle.commands.specs.declared.rows.OrderState.TheVariants.{Open, Done, Cancelled}
 use Rattle.table_words.specs.Typed.{ItemKey, same_item, item_key, BinKey, same_bin, bin_key, LotKey, same_lot, lot_key, RecallKey, same_recall, recall_key, StockKey, same_stock, stock_key, StagedKey, same_staged, staged_key, ReservedKey, same_reserved, reserved_key, OrderKey, same_order, order_key, LineKey, same_line, line_key, is_open_order}
 use Rattle.machine.specs.Acts.{Act, next_number}
-use Rattle.machine.specs.Standing.{items, item_in, bins, Placed, orders, order_named, lines_of, lines_placed, has_line, is_cancelled}
+use Rattle.machine.specs.Standing.{items, item_in, bins, Placed, orders, order_named, lines_of, lines_placed, is_cancelled}
 use Rattle.machine.specs.Planning.{order_state, is_open_state, is_open, shipped_of}
 use Rattle.machine.specs.Touched.{touches}
 use Rattle.machine.specs.Tables.{tables_of}

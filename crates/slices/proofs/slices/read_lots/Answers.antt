@@ -1,4 +1,4 @@
-use Rattle.std.proofs.Common.{Vec, Global, ◌≡◌, List, subst, ◌∙◌}
+use Rattle.std.proofs.Common.{Vec, Global, List, subst, ◌∙◌}
 use Rattle.values.specs.declared.lot.LotId.{LotId}
 use Rattle.commands.specs.declared.rows.LotRow.{LotRow}
 use Rattle.sqlite.specs.Held.{state}
