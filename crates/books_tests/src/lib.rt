@@ -19,6 +19,8 @@ mod exchange;
 #[cfg(test)]
 mod filing;
 #[cfg(test)]
+mod gone_lots;
+#[cfg(test)]
 mod goods;
 #[cfg(test)]
 mod hostile;

@@ -5,6 +5,7 @@ use crate::answers::{
 };
 use crate::days::OPENED;
 use crate::filing::{FILED, FILED_ROWS, FILED_TWICE, FILES_AND_CUSTOMERS, FILES_REFUSED};
+use crate::gone_lots::GONE_NAMED;
 use crate::goods::{
     ADJUSTED, COUNTED, HELD, MOVED, NEVER_RECEIVED, RECALLED, RECEIVED_AND_RECALLED,
 };
@@ -61,6 +62,7 @@ pub(crate) enum Table {
     TwentyLines,
     ManyUnits,
     LastUnit,
+    GoneNamed,
     OrdersShown,
 }
 
@@ -107,6 +109,7 @@ impl Table {
             Table::TwentyLines => TWENTY_LINES,
             Table::ManyUnits => MANY_UNITS,
             Table::LastUnit => LAST_UNIT,
+            Table::GoneNamed => GONE_NAMED,
             Table::OrdersShown => ORDERS_SHOWN,
         }
     }

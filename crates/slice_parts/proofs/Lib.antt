@@ -1,2 +1,3 @@
 pub mod KeysWalked
 pub mod KeysOnce
+pub mod LotsSeen

@@ -10,6 +10,8 @@ pub mod LinesTold
 pub mod DayTold
 pub mod OrdersTold
 pub mod KnownOrders
+pub mod OwnRows
+pub mod ShipmentRight
 pub mod SliceRight
 pub mod OrderRight
 pub mod ReadTold

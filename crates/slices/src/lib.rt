@@ -11,6 +11,7 @@ mod opening;
 mod order_slices;
 mod query;
 mod reading;
+mod shipments;
 mod shipped;
 mod shown_orders;
 mod shown_shorts;

@@ -1,9 +1,0 @@
-use Rattle.std.proofs.Common.{◌≡◌, drop}
-use Rattle.commands.specs.declared.rows.StagedRow.{StagedRow}
-use Rattle.machine.specs.Postings.{is_lot}
-use Rattle.slice_parts.specs.Keys.{with_keys}
-use Rattle.slice_parts.proofs.lot_names.with_staged_lots.Given as goal
-
--- what the rows that are left make of the lots so far is what all of them make of those given
-abbrev pub invariant-loop-row : goal.invariant-loop-row
-invariant-loop-row l = with_keys {R = StagedRow} is_lot (λ r. r.lot) (drop l.row-index l.staged) l.lots.items ≡ with_keys {R = StagedRow} is_lot (λ r. r.lot) l.staged l.fn.lots.items
