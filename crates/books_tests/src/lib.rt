@@ -19,6 +19,8 @@ mod exchange;
 #[cfg(test)]
 mod filing;
 #[cfg(test)]
+mod gone_lots;
+#[cfg(test)]
 mod goods;
 #[cfg(test)]
 mod hostile;
@@ -32,6 +34,8 @@ mod lots_told;
 mod opening;
 #[cfg(test)]
 mod order_rows;
+#[cfg(test)]
+mod orders_shown;
 #[cfg(test)]
 mod picking;
 #[cfg(test)]

@@ -29,6 +29,22 @@ pub(crate) fn lot(rt: &impl Abort) -> LotId {
     }
 }
 
+// Another lot of the item.
+pub(crate) fn other_lot(rt: &impl Abort) -> LotId {
+    LotId {
+        lot: Lot::new(b"ZZ-9").ok().expect(rt, "a lot"),
+        ..lot(rt)
+    }
+}
+
+// A lot that never came.
+pub(crate) fn no_lot(rt: &impl Abort) -> LotId {
+    LotId {
+        lot: Lot::new(b"AB").ok().expect(rt, "a lot"),
+        ..lot(rt)
+    }
+}
+
 fn business_day(rt: &impl Abort) -> BusinessDay {
     BusinessDay::new(Day::parse(b"2026-05-01").expect(rt, "a day")).expect(rt, "a business day")
 }
@@ -71,6 +87,14 @@ pub(crate) fn known_lot(rt: &impl Abort) -> LotRow {
     }
 }
 
+pub(crate) fn other_known_lot(rt: &impl Abort) -> LotRow {
+    LotRow {
+        lot: other_lot(rt),
+        held: false,
+        ..known_lot(rt)
+    }
+}
+
 pub(crate) fn recall(rt: &impl Abort) -> RecallRow {
     RecallRow {
         lot: lot(rt),
@@ -83,6 +107,13 @@ pub(crate) fn stock(rt: &impl Abort, bin: &[u8], qty: u64) -> StockRow {
         lot: lot(rt),
         bin: name(rt, bin),
         qty,
+    }
+}
+
+pub(crate) fn other_stock(rt: &impl Abort) -> StockRow {
+    StockRow {
+        lot: other_lot(rt),
+        ..stock(rt, b"A-01", 6)
     }
 }
 
@@ -129,11 +160,27 @@ pub(crate) fn staged(rt: &impl Abort) -> StagedRow {
     }
 }
 
+pub(crate) fn other_staged(rt: &impl Abort) -> StagedRow {
+    StagedRow {
+        order: name(rt, b"S-2"),
+        qty: 9,
+        ..staged(rt)
+    }
+}
+
 pub(crate) fn reserved(rt: &impl Abort) -> ReservedRow {
     ReservedRow {
         order: name(rt, b"S-1"),
         lot: lot(rt),
         qty: 8,
+    }
+}
+
+pub(crate) fn other_reserved(rt: &impl Abort) -> ReservedRow {
+    ReservedRow {
+        order: name(rt, b"S-2"),
+        qty: 10,
+        ..reserved(rt)
     }
 }
 

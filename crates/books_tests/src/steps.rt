@@ -3,6 +3,7 @@
 use crate::acts::{Deed, done};
 use crate::asking::{Asked, answered_in_turn, house_asked, new_house_asked};
 use crate::filing::imported;
+use crate::gone_lots::puts_gone;
 use crate::lots_told::{Told, tells_of_lots};
 use crate::opening::{made, not_made, not_opened, opened};
 use crate::order_rows::{gives, has_rows};
@@ -52,6 +53,8 @@ pub(crate) enum On {
     HasRows(Left),
     /// No tables are created, since there is a table.
     CreateNothing,
+    /// An item gets lots that are gone.
+    PutGone,
     /// Each table gets a row.
     Fill,
     /// Each table has its row.
@@ -66,6 +69,7 @@ fn do_on<S: Alter>(rt: &impl Abort, alloc: Global, conn: &mut Connection<S>, on:
         On::Gives(query, lines) => gives(rt, alloc, conn, query, lines),
         On::HasRows(left) => has_rows(rt, alloc, conn, left.rows()),
         On::CreateNothing => creates_nothing(rt, conn),
+        On::PutGone => puts_gone(rt, alloc, conn),
         On::Fill => fills(rt, alloc, conn),
         On::Find => finds(rt, alloc, conn),
         On::Drop => drops(rt, alloc, conn),

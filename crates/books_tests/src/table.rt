@@ -5,12 +5,14 @@ use crate::answers::{
 };
 use crate::days::OPENED;
 use crate::filing::{FILED, FILED_ROWS, FILED_TWICE, FILES_AND_CUSTOMERS, FILES_REFUSED};
+use crate::gone_lots::GONE_NAMED;
 use crate::goods::{
     ADJUSTED, COUNTED, HELD, MOVED, NEVER_RECEIVED, RECALLED, RECEIVED_AND_RECALLED,
 };
 use crate::hostile::GOODS_AND_BINS_ROWS;
 use crate::limits::{LAST_UNIT, MANY_UNITS, NEXT_DAY, TWENTY_LINES, TWO_LINES};
 use crate::order_rows::TWO_CUSTOMERS_ROWS;
+use crate::orders_shown::ORDERS_SHOWN;
 use crate::picking::{
     CANCELLED, DONE, KEY_LEFT_FREE, PICKED, PICKS_REFUSED, RETURNED_AND_SHIPPED,
     SHIPPED_AND_RECALLED, UNPICKED,
@@ -60,6 +62,8 @@ pub(crate) enum Table {
     TwentyLines,
     ManyUnits,
     LastUnit,
+    GoneNamed,
+    OrdersShown,
 }
 
 impl Table {
@@ -105,6 +109,8 @@ impl Table {
             Table::TwentyLines => TWENTY_LINES,
             Table::ManyUnits => MANY_UNITS,
             Table::LastUnit => LAST_UNIT,
+            Table::GoneNamed => GONE_NAMED,
+            Table::OrdersShown => ORDERS_SHOWN,
         }
     }
 }

@@ -3,22 +3,23 @@ use crate::samples;
 use crate::steps::{On, Step};
 use commands::limits::{ACTS_MAX, UNITS_MAX};
 use commands::{
-    BinKind, CardKind, CardRow, ItemRow, LineRow, LotRow, OrderRow, OrderState, RepeatRow, StockRow,
+    BinKind, CardKind, CardRow, ItemRow, LineRow, LotRow, OrderRow, OrderState, RepeatRow,
+    ReservedRow, StagedRow, StockRow,
 };
 use goods_tables::bins::{all_bins, bins_of, put_bin};
 use goods_tables::items::{all_items, items_of, put_item};
-use goods_tables::lots::{all_lots, lots_of, put_lot};
+use goods_tables::lots::{all_lots, lot_of, lots_of, put_lot};
 use goods_tables::meta::{meta_rows, put_meta};
 use goods_tables::recalls::{put_recall, recalls_of};
-use goods_tables::stock::{drop_stock, put_stock, stock_of};
+use goods_tables::stock::{drop_stock, put_stock, stock_of, stock_of_lot};
 use history_tables::cards::{cards_of_lot, put_card};
 use history_tables::repeats::{put_repeat, repeats_of};
 use history_tables::shiplines::{put_shipline, shiplines_of_lot};
 use history_tables::shipments::{put_shipment, shipments_of};
 use order_tables::lines::{line_of, lines_of_order, put_line};
 use order_tables::orders::{open_orders, orders_of, put_order};
-use order_tables::reserved::{drop_reserved, put_reserved, reserved_of_item};
-use order_tables::staged::{all_staged, drop_staged, put_staged, staged_of_item};
+use order_tables::reserved::{drop_reserved, put_reserved, reserved_of_item, reserved_of_order};
+use order_tables::staged::{all_staged, drop_staged, put_staged, staged_of_item, staged_of_order};
 use sqlite::{Alter, Connection, Transaction};
 use std::alloc::Global;
 use std::process::Abort;
@@ -99,6 +100,7 @@ fn puts_goods<S: Alter>(rt: &impl Abort, tx: &mut Transaction<'_, S>) {
     is_done(rt, put_item(tx, &samples::item(rt)));
     is_done(rt, put_bin(tx, &samples::bin(rt)));
     is_done(rt, put_lot(tx, &samples::known_lot(rt), false));
+    is_done(rt, put_lot(tx, &samples::other_known_lot(rt), true));
     is_done(rt, put_recall(tx, &samples::recall(rt)));
 }
 
@@ -110,6 +112,7 @@ fn puts_stock<S: Alter>(rt: &impl Abort, tx: &mut Transaction<'_, S>) {
     is_done(rt, put_stock(tx, &samples::stock(rt, b"B-02", 5), false));
     // There is a row with this key, although none is thought to be there.
     is_done(rt, put_stock(tx, &samples::stock(rt, b"A-01", 4), true));
+    is_done(rt, put_stock(tx, &samples::other_stock(rt), false));
 }
 
 fn puts_orders<S: Alter>(rt: &impl Abort, tx: &mut Transaction<'_, S>) {
@@ -118,7 +121,9 @@ fn puts_orders<S: Alter>(rt: &impl Abort, tx: &mut Transaction<'_, S>) {
     is_done(rt, put_line(tx, &samples::full_line(rt), true));
     is_done(rt, put_line(tx, &samples::line(rt), false));
     is_done(rt, put_staged(tx, &samples::staged(rt), true));
+    is_done(rt, put_staged(tx, &samples::other_staged(rt), false));
     is_done(rt, put_reserved(tx, &samples::reserved(rt), false));
+    is_done(rt, put_reserved(tx, &samples::other_reserved(rt), true));
 }
 
 fn puts_history<S: Alter>(rt: &impl Abort, alloc: Global, tx: &mut Transaction<'_, S>) {
@@ -136,36 +141,46 @@ enum Sought {
     Meta,
     Item,
     Bin,
-    KnownLot,
+    KnownLots,
+    Lot,
+    NoLot,
     Recall,
     Stock,
+    StockOfLot,
     Order,
     OpenOrder,
     LinesOfOrder,
     Line,
     NoLine,
     Staged,
+    StagedOfOrder,
     Reserved,
+    ReservedOfOrder,
     Shipment,
     Shipline,
     Card,
     Repeat,
 }
 
-static SOUGHT: [Sought; 17] = [
+static SOUGHT: [Sought; 22] = [
     Sought::Meta,
     Sought::Item,
     Sought::Bin,
-    Sought::KnownLot,
+    Sought::KnownLots,
+    Sought::Lot,
+    Sought::NoLot,
     Sought::Recall,
     Sought::Stock,
+    Sought::StockOfLot,
     Sought::Order,
     Sought::OpenOrder,
     Sought::LinesOfOrder,
     Sought::Line,
     Sought::NoLine,
     Sought::Staged,
+    Sought::StagedOfOrder,
     Sought::Reserved,
+    Sought::ReservedOfOrder,
     Sought::Shipment,
     Sought::Shipline,
     Sought::Card,
@@ -181,13 +196,33 @@ fn is_lot(row: LotRow) -> bool {
     row.expiry.number() == -6940 && row.held
 }
 
+fn are_lots(rt: &impl Abort, rows: Result<Vec<LotRow>, TableFault>) -> bool {
+    let rows = listed(rt, rows);
+    rows.len() == 2 && is_lot(rows[0]) && !rows[1].held
+}
+
 fn is_card(row: CardRow) -> bool {
     row.qty == -3 && matches!(row.kind, CardKind::WriteOff)
 }
 
 fn is_stock(rt: &impl Abort, rows: Result<Vec<StockRow>, TableFault>) -> bool {
     let rows = listed(rt, rows);
+    rows.len() == 3 && rows[0].qty == 4 && rows[1].qty == 5 && rows[2].qty == 6
+}
+
+fn is_stock_of_lot(rt: &impl Abort, rows: Result<Vec<StockRow>, TableFault>) -> bool {
+    let rows = listed(rt, rows);
     rows.len() == 2 && rows[0].qty == 4 && rows[1].qty == 5
+}
+
+fn is_staged(rt: &impl Abort, rows: Result<Vec<StagedRow>, TableFault>) -> bool {
+    let rows = listed(rt, rows);
+    rows.len() == 2 && rows[0].qty == 7 && rows[1].qty == 9
+}
+
+fn is_reserved(rt: &impl Abort, rows: Result<Vec<ReservedRow>, TableFault>) -> bool {
+    let rows = listed(rt, rows);
+    rows.len() == 2 && rows[0].qty == 8 && rows[1].qty == 10
 }
 
 fn is_repeat(rt: &impl Abort, rows: Result<Vec<RepeatRow>, TableFault>) -> bool {
@@ -217,9 +252,24 @@ fn finds_goods<S: Alter>(
             let bin = only(rt, bins_of(alloc, tx, &samples::name(rt, b"A-01")));
             matches!(bin.kind, BinKind::Hold)
         }
-        Sought::KnownLot => is_lot(only(rt, lots_of(alloc, tx, &gtin))),
         Sought::Recall => only(rt, recalls_of(alloc, tx, &gtin)).act == 9,
+        _ => finds_lots(rt, alloc, tx, sought),
+    }
+}
+
+fn finds_lots<S: Alter>(
+    rt: &impl Abort,
+    alloc: Global,
+    tx: &mut Transaction<'_, S>,
+    sought: Sought,
+) -> bool {
+    let (gtin, lot) = (samples::gtin(rt), samples::lot(rt));
+    match sought {
+        Sought::KnownLots => are_lots(rt, lots_of(alloc, tx, &gtin)),
+        Sought::Lot => is_lot(only(rt, lot_of(alloc, tx, &lot))),
+        Sought::NoLot => count(rt, lot_of(alloc, tx, &samples::no_lot(rt))) == 0,
         Sought::Stock => is_stock(rt, stock_of(alloc, tx, &gtin)),
+        Sought::StockOfLot => is_stock_of_lot(rt, stock_of_lot(alloc, tx, &lot)),
         _ => finds_orders(rt, alloc, tx, sought),
     }
 }
@@ -243,8 +293,22 @@ fn finds_orders<S: Alter>(
             let other = samples::name(rt, b"S-2");
             ordered(rt, line_of(alloc, tx, &other, &gtin)).is_none()
         }
-        Sought::Staged => only(rt, staged_of_item(alloc, tx, &gtin)).qty == 7,
-        Sought::Reserved => only(rt, reserved_of_item(alloc, tx, &gtin)).qty == 8,
+        _ => finds_units(rt, alloc, tx, sought),
+    }
+}
+
+fn finds_units<S: Alter>(
+    rt: &impl Abort,
+    alloc: Global,
+    tx: &mut Transaction<'_, S>,
+    sought: Sought,
+) -> bool {
+    let (order, gtin) = (samples::name(rt, b"S-1"), samples::gtin(rt));
+    match sought {
+        Sought::Staged => is_staged(rt, staged_of_item(alloc, tx, &gtin)),
+        Sought::StagedOfOrder => only(rt, staged_of_order(alloc, tx, &order)).qty == 7,
+        Sought::Reserved => is_reserved(rt, reserved_of_item(alloc, tx, &gtin)),
+        Sought::ReservedOfOrder => only(rt, reserved_of_order(alloc, tx, &order)).qty == 8,
         _ => finds_history(rt, alloc, tx, sought),
     }
 }
@@ -276,19 +340,19 @@ enum Counted {
     Reserved,
 }
 
-// The tables that have no other read, each with one row.
+// The tables that are read whole.
 static FILLED: [(Counted, usize); 4] = [
     (Counted::Items, 1),
     (Counted::Bins, 1),
-    (Counted::Lots, 1),
-    (Counted::Staged, 1),
+    (Counted::Lots, 2),
+    (Counted::Staged, 2),
 ];
 
 // What is left when the rows of units are dropped.
 static LEFT: [(Counted, usize); 3] = [
-    (Counted::Stock, 1),
-    (Counted::Staged, 0),
-    (Counted::Reserved, 0),
+    (Counted::Stock, 2),
+    (Counted::Staged, 1),
+    (Counted::Reserved, 1),
 ];
 
 fn count_of<S: Alter>(

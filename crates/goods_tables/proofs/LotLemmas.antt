@@ -25,10 +25,10 @@ use Rattle.sqlite_value.specs.Order.{value_cmp}
 use Rattle.values.specs.Values.{is_gtin, is_lot_text}
 use Rattle.values.specs.declared.lot.LotId.{LotId}
 use Rattle.commands.specs.declared.rows.LotRow.{LotRow}
-use Rattle.goods_tables.specs.declared.texts.TheConstants.{CHANGE_LOT, ADD_LOT, LOTS_OF, ALL_LOTS}
+use Rattle.goods_tables.specs.declared.texts.TheConstants.{CHANGE_LOT, ADD_LOT, LOTS_OF, LOT_OF, ALL_LOTS}
 use Rattle.table_words.specs.Cells.{typed, is_the_text, flag_number}
 use Rattle.table_words.specs.Schema.{schema_with, lots_tree, lots_table}
-use Rattle.table_words.specs.Typed.{is_lot, lot_in, has_lot, lot_read, LotKey, same_lot, lot_key, lot_cells, with_lot, tables_in, Tables, AreTyped, lots_of_rows, all_lots_rows}
+use Rattle.table_words.specs.Typed.{is_lot, lot_in, has_lot, lot_read, LotKey, same_lot, lot_key, lot_cells, with_lot, tables_in, Tables, AreTyped, lots_of_rows, lot_of_rows, all_lots_rows}
 use Rattle.table_words.specs.Steps.{IsReady, Goes}
 use Rattle.table_words.specs.Found.{AreRows}
 use Rattle.table_words.proofs.Plans.{same, scan, by_rowid, alone}
@@ -203,6 +203,44 @@ lots_of_typed old new gtin rows ready h =
     let all = old.now.trees lots_tree in
     let same_rows = filter_same_on (passes params lots_of_tests) (λ r. is_the_text gtin (column r 1)) all (λ r there. and_true _ ∙ equals_text (column r 1) gtin) in
     both_typed has_lot is_lot (show params shown) (λ r. refl) (lots_of_rows gtin old.now.trees) rows (lots_of_turn old new gtin rows ready h ∙ ap (map (show params shown)) same_rows)
+
+abbrev pub lot_of_text : List ℕ
+lot_of_text = LOT_OF.now
+
+lot_of_is : (rest : Schema) → (command_of (understood (schema_with rest) lot_of_text) ≡ Select (alone (scan lots_tree tests shown by_rowid)) (codes "gtin" ∷ codes "lot" ∷ codes "expiry" ∷ codes "came" ∷ codes "held" ∷ [])) × (reads_listing (schema_with rest) lot_of_text ≡ false)
+unfolding understood everything
+lot_of_is rest = (refl, refl)
+
+pub lot_of_plain : (rest : Schema) → IsPlain (understood (schema_with rest) lot_of_text)
+unfolding understood everything
+lot_of_plain rest = (refl, refl)
+
+lot_of_turn : (old new : State) (lot : LotId) (rows : List Row) → IsReady old.now → Shown lot_of_text (key_cells lot) old new rows
+    → rows ≡ map (show (key_cells lot) shown) (filter (passes (key_cells lot) tests) (old.now.trees lots_tree))
+lot_of_turn old new lot rows ready h =
+    let params = key_cells lot in
+    let read = reads_as lot_of_text params old new (schema_with ready.has.rest) ready.has.is _ (lot_of_is ready.has.rest).0 (lot_of_plain ready.has.rest) (lot_of_is ready.has.rest).1 rows h in
+    in_order old.now.trees params lots_tree tests shown rows ready.rows.1.1.1.0.0 (read.answer Null)
+
+-- the rows that were read
+pub lot_of_reads : (old new : State) (lot : LotId) (rows : List Row) (xs : List LotRow) → IsReady old.now → Shown lot_of_text (key_cells lot) old new rows
+    → AllByRecursion (λ v. has_lot v ≡ true) rows → map lot_read rows ≡ xs
+    → AreRows {K = LotKey} same_lot lot_key (same_lot lot) (λ key. (tables_in old.now.trees).lot key) xs
+lot_of_reads old new lot rows xs ready h has are =
+    let params = key_cells lot in
+    let all = old.now.trees lots_tree in
+    are_rows same_lot lot_key one_key (same_lot lot) is_lot lot_in all xs ready.rows.1.1.1.0.0 (apart old.now ready)
+    (shown_typed is_lot lot_in has_lot lot_read (show params shown) (λ r. refl) (λ r. refl) _ rows xs (lot_of_turn old new lot rows ready h) has are
+    ∙ typed-filter is_lot lot_in (passes params tests) (λ x. same_lot lot (lot_key x)) (at_key params lot refl refl) all)
+
+-- they read as typed rows exactly if the stored ones do
+pub lot_of_typed : (old new : State) (lot : LotId) (rows : List Row) → IsReady old.now → Shown lot_of_text (key_cells lot) old new rows
+    → AllByRecursion (λ r. is_lot r ≡ true) (lot_of_rows lot old.now.trees) ↔ AllByRecursion (λ v. has_lot v ≡ true) rows
+lot_of_typed old new lot rows ready h =
+    let params = key_cells lot in
+    let all = old.now.trees lots_tree in
+    let same_rows = filter_same_on (passes params tests) (λ r. is_the_text lot.gtin (column r 1) && is_the_text lot.lot (column r 2)) all (λ r there. ap₂ ◌&&◌ (equals_text (column r 1) lot.gtin) (and_true _ ∙ equals_text (column r 2) lot.lot)) in
+    both_typed has_lot is_lot (show params shown) (λ r. refl) (lot_of_rows lot old.now.trees) rows (lot_of_turn old new lot rows ready h ∙ ap (map (show params shown)) same_rows)
 
 abbrev pub all_lots_text : List ℕ
 all_lots_text = ALL_LOTS.now

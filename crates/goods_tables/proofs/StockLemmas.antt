@@ -30,10 +30,10 @@ use Rattle.label.specs.Days.{is_day, is_business_day}
 use Rattle.values.specs.declared.lot.LotId.{LotId}
 use Rattle.commands.specs.declared.limits.TheConstants.{UNITS_MAX, ACTS_MAX, SHORT_MAX, KEY_TEXT_MAX, CARD_NOTE_MAX, SCHEMA_VERSION}
 use Rattle.commands.specs.declared.rows.StockRow.{StockRow}
-use Rattle.goods_tables.specs.declared.texts.TheConstants.{DROP_STOCK, CHANGE_STOCK, ADD_STOCK, STOCK_OF}
+use Rattle.goods_tables.specs.declared.texts.TheConstants.{DROP_STOCK, CHANGE_STOCK, ADD_STOCK, STOCK_OF, STOCK_OF_LOT}
 use Rattle.table_words.specs.Cells.{typed, is_word, is_the_text, fits_in, is_any, is_number, is_the_number, number_in, is_signed, is_any_number, signed_in, flag_number, flag_in, bin_kind_in, order_state_in, card_kind_in}
 use Rattle.table_words.specs.Schema.{schema_with, stock_tree, stock_table}
-use Rattle.table_words.specs.Typed.{same_lot_id, is_stock, stock_in, has_stock, stock_read, StockKey, same_stock, stock_key, stock_cells, with_stock, without_stock, tables_in, Tables, AreTyped, stock_of_rows}
+use Rattle.table_words.specs.Typed.{same_lot_id, is_stock, stock_in, has_stock, stock_read, StockKey, same_stock, stock_key, stock_cells, with_stock, without_stock, tables_in, Tables, AreTyped, stock_of_rows, stock_of_lot_rows}
 use Rattle.table_words.specs.Steps.{IsReady, Goes}
 use Rattle.table_words.specs.Found.{AreRows}
 use Rattle.table_words.proofs.Plans.{same, scan, by_rowid, alone}
@@ -237,3 +237,50 @@ stock_of_typed old new gtin rows ready h =
     let all = old.now.trees stock_tree in
     let same_rows = filter_same_on (passes params stock_of_tests) (λ r. is_the_text gtin (column r 1)) all (λ r there. and_true _ ∙ equals_text (column r 1) gtin) in
     both_typed has_stock is_stock (show params shown) (λ r. refl) (stock_of_rows gtin old.now.trees) rows (stock_of_turn old new gtin rows ready h ∙ ap (map (show params shown)) same_rows)
+
+abbrev pub stock_of_lot_text : List ℕ
+stock_of_lot_text = STOCK_OF_LOT.now
+
+abbrev stock_of_lot_tests : List Term
+stock_of_lot_tests = same 1 0 ∷ same 2 1 ∷ []
+
+stock_of_lot_is : (rest : Schema) → (command_of (understood (schema_with rest) stock_of_lot_text) ≡ Select (alone (scan stock_tree stock_of_lot_tests shown by_rowid)) (codes "gtin" ∷ codes "lot" ∷ codes "bin" ∷ codes "qty" ∷ [])) × (reads_listing (schema_with rest) stock_of_lot_text ≡ false)
+unfolding understood everything
+stock_of_lot_is rest = (refl, refl)
+
+pub stock_of_lot_plain : (rest : Schema) → IsPlain (understood (schema_with rest) stock_of_lot_text)
+unfolding understood everything
+stock_of_lot_plain rest = (refl, refl)
+
+stock_of_lot_at : (lot : LotId) (r : Row) → is_stock r ≡ true → passes (Text lot.gtin ∷ Text lot.lot ∷ []) stock_of_lot_tests r ≡ (let key = stock_key (stock_in r) in same_lot_id lot key.0)
+stock_of_lot_at lot r h =
+    let p0 = and_parts _ _ h in
+    let p1 = and_parts _ _ p0.1 in
+    ap₂ ◌&&◌ (same_word is_gtin (column r 1) (Text lot.gtin) lot.gtin p0.0 refl) (and_true _ ∙ same_word is_lot_text (column r 2) (Text lot.lot) lot.lot p1.0 refl)
+
+stock_of_lot_turn : (old new : State) (lot : LotId) (rows : List Row) → IsReady old.now → Shown stock_of_lot_text (Text lot.gtin ∷ Text lot.lot ∷ []) old new rows
+    → rows ≡ map (show (Text lot.gtin ∷ Text lot.lot ∷ []) shown) (filter (passes (Text lot.gtin ∷ Text lot.lot ∷ []) stock_of_lot_tests) (old.now.trees stock_tree))
+stock_of_lot_turn old new lot rows ready h =
+    let params = Text lot.gtin ∷ Text lot.lot ∷ [] in
+    let read = reads_as stock_of_lot_text params old new (schema_with ready.has.rest) ready.has.is _ (stock_of_lot_is ready.has.rest).0 (stock_of_lot_plain ready.has.rest) (stock_of_lot_is ready.has.rest).1 rows h in
+    in_order old.now.trees params stock_tree stock_of_lot_tests shown rows ready.rows.1.1.1.1.1.0.0 (read.answer Null)
+
+-- the rows that were read
+pub stock_of_lot_reads : (old new : State) (lot : LotId) (rows : List Row) (xs : List StockRow) → IsReady old.now → Shown stock_of_lot_text (Text lot.gtin ∷ Text lot.lot ∷ []) old new rows
+    → AllByRecursion (λ v. has_stock v ≡ true) rows → map stock_read rows ≡ xs
+    → AreRows {K = StockKey} same_stock stock_key (λ key. same_lot_id lot key.0) (λ key. (tables_in old.now.trees).stock key.0 key.1) xs
+stock_of_lot_reads old new lot rows xs ready h has are =
+    let params = Text lot.gtin ∷ Text lot.lot ∷ [] in
+    let all = old.now.trees stock_tree in
+    are_rows same_stock stock_key one_key (λ key. same_lot_id lot key.0) is_stock stock_in all xs ready.rows.1.1.1.1.1.0.0 (apart old.now ready)
+    (shown_typed is_stock stock_in has_stock stock_read (show params shown) (λ r. refl) (λ r. refl) _ rows xs (stock_of_lot_turn old new lot rows ready h) has are
+    ∙ typed-filter is_stock stock_in (passes params stock_of_lot_tests) (λ x. let key = stock_key x in same_lot_id lot key.0) (stock_of_lot_at lot) all)
+
+-- they read as typed rows exactly if the stored ones do
+pub stock_of_lot_typed : (old new : State) (lot : LotId) (rows : List Row) → IsReady old.now → Shown stock_of_lot_text (Text lot.gtin ∷ Text lot.lot ∷ []) old new rows
+    → AllByRecursion (λ r. is_stock r ≡ true) (stock_of_lot_rows lot old.now.trees) ↔ AllByRecursion (λ v. has_stock v ≡ true) rows
+stock_of_lot_typed old new lot rows ready h =
+    let params = Text lot.gtin ∷ Text lot.lot ∷ [] in
+    let all = old.now.trees stock_tree in
+    let same_rows = filter_same_on (passes params stock_of_lot_tests) (λ r. is_the_text lot.gtin (column r 1) && is_the_text lot.lot (column r 2)) all (λ r there. ap₂ ◌&&◌ (equals_text (column r 1) lot.gtin) (and_true _ ∙ equals_text (column r 2) lot.lot)) in
+    both_typed has_stock is_stock (show params shown) (λ r. refl) (stock_of_lot_rows lot old.now.trees) rows (stock_of_lot_turn old new lot rows ready h ∙ ap (map (show params shown)) same_rows)

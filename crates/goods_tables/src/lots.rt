@@ -7,10 +7,10 @@ ghost use Rattle.sqlite.specs.Held.{state};
 ghost use Rattle.sqlite.specs.Values.{bound};
 ghost use Rattle.table_words.specs.Found.{AreRows};
 ghost use Rattle.table_words.specs.Steps.{IsReady, Goes, ChangesNone, IsTooBig};
-ghost use Rattle.table_words.specs.Typed.{tables_in, with_lot, is_lot, has_lot, lot_cells, lot_key, same_lot, LotKey, lots_of_rows, all_lots_rows};
+ghost use Rattle.table_words.specs.Typed.{tables_in, with_lot, is_lot, has_lot, lot_cells, lot_key, same_lot, LotKey, lots_of_rows, lot_of_rows, all_lots_rows};
 ghost use Rattle.table_words.specs.declared.error.TableFault.TheVariants.{Foreign};
 
-use crate::texts::{ADD_LOT, ALL_LOTS, CHANGE_LOT, LOTS_OF};
+use crate::texts::{ADD_LOT, ALL_LOTS, CHANGE_LOT, LOT_OF, LOTS_OF};
 use commands::LotRow;
 use commands::limits::ACTS_MAX;
 use sqlite::types::ValueRef;
@@ -111,6 +111,27 @@ pub fn lots_of<S: Alter>(
     ensures survives { Survives (state S.Store tx.old.conn.now) (state S.Store tx.new.conn.now) (λ _. ⊥) }
 {
     query::<Lots, S>(alloc, tx, LOTS_OF, &[of_gtin(gtin)])
+}
+
+/// The row of this lot, if there is one; `Foreign` where it has a value that no row has.
+pub fn lot_of<S: Alter>(
+    alloc: Global,
+    tx: &mut Transaction<'_, S>,
+    lot: &LotId,
+) -> Result<Vec<LotRow>, TableFault>
+    ensures same_reference { tx.new.conn.ghost_name ≡ tx.old.conn.ghost_name }
+    ensures rows { HasCleanDisk (state S.Store tx.new.conn.now) → IsReady (state S.Store tx.old.conn.now).now
+        → IfOk result (λ rows. AreRows {K = LotKey} same_lot lot_key (same_lot lot.now) (λ key. (tables_in (state S.Store tx.old.conn.now).now.trees).lot key) rows.items) }
+    ensures typed { HasCleanDisk (state S.Store tx.new.conn.now) → IsReady (state S.Store tx.old.conn.now).now
+        → OnOk result (AllByRecursion (λ r. is_lot r ≡ true) (lot_of_rows lot.now (state S.Store tx.old.conn.now).now.trees)) }
+    ensures foreign { HasCleanDisk (state S.Store tx.new.conn.now) → IsReady (state S.Store tx.old.conn.now).now
+        → IfErr result (λ e. e ≡ Foreign → ¬ AllByRecursion (λ r. is_lot r ≡ true) (lot_of_rows lot.now (state S.Store tx.old.conn.now).now.trees)) }
+    ensures same { HasCleanDisk (state S.Store tx.new.conn.now) → IsReady (state S.Store tx.old.conn.now).now → OnOk result (IsUnchanged (state S.Store tx.old.conn.now) (state S.Store tx.new.conn.now)) }
+    ensures refused { HasCleanDisk (state S.Store tx.new.conn.now) → IsReady (state S.Store tx.old.conn.now).now → OnErr result (ChangesNone (state S.Store tx.old.conn.now) (state S.Store tx.new.conn.now)) }
+    ensures kept { HasCleanDisk (state S.Store tx.new.conn.now) → IsReady (state S.Store tx.old.conn.now).now → KeepsCommit (state S.Store tx.old.conn.now) (state S.Store tx.new.conn.now) }
+    ensures survives { Survives (state S.Store tx.old.conn.now) (state S.Store tx.new.conn.now) (λ _. ⊥) }
+{
+    query::<Lots, S>(alloc, tx, LOT_OF, &[of_gtin(&lot.gtin), of_lot(&lot.lot)])
 }
 
 /// The rows of the whole table, the oldest first; `Foreign` where one of them has a value that no row has.

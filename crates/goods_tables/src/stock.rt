@@ -8,10 +8,10 @@ ghost use Rattle.sqlite.specs.Values.{bound};
 ghost use Rattle.sqlite_value.specs.declared.value.Value.TheVariants.{Text as TextValue};
 ghost use Rattle.table_words.specs.Found.{AreRows};
 ghost use Rattle.table_words.specs.Steps.{IsReady, Goes, ChangesNone, IsTooBig};
-ghost use Rattle.table_words.specs.Typed.{tables_in, same_lot_id, with_stock, without_stock, is_stock, has_stock, stock_cells, stock_key, same_stock, StockKey, stock_of_rows};
+ghost use Rattle.table_words.specs.Typed.{tables_in, same_lot_id, with_stock, without_stock, is_stock, has_stock, stock_cells, stock_key, same_stock, StockKey, stock_of_rows, stock_of_lot_rows};
 ghost use Rattle.table_words.specs.declared.error.TableFault.TheVariants.{Foreign};
 
-use crate::texts::{ADD_STOCK, CHANGE_STOCK, DROP_STOCK, STOCK_OF};
+use crate::texts::{ADD_STOCK, CHANGE_STOCK, DROP_STOCK, STOCK_OF, STOCK_OF_LOT};
 use commands::StockRow;
 use commands::limits::UNITS_MAX;
 use sqlite::types::ValueRef;
@@ -133,4 +133,30 @@ pub fn stock_of<S: Alter>(
     ensures survives { Survives (state S.Store tx.old.conn.now) (state S.Store tx.new.conn.now) (λ _. ⊥) }
 {
     query::<Stock, S>(alloc, tx, STOCK_OF, &[of_gtin(gtin)])
+}
+
+/// The rows of this lot, the oldest first; `Foreign` where one of them has a value that no row has.
+pub fn stock_of_lot<S: Alter>(
+    alloc: Global,
+    tx: &mut Transaction<'_, S>,
+    lot: &LotId,
+) -> Result<Vec<StockRow>, TableFault>
+    ensures same_reference { tx.new.conn.ghost_name ≡ tx.old.conn.ghost_name }
+    ensures rows { HasCleanDisk (state S.Store tx.new.conn.now) → IsReady (state S.Store tx.old.conn.now).now
+        → IfOk result (λ rows. AreRows {K = StockKey} same_stock stock_key (λ key. same_lot_id lot.now key.0) (λ key. (tables_in (state S.Store tx.old.conn.now).now.trees).stock key.0 key.1) rows.items) }
+    ensures typed { HasCleanDisk (state S.Store tx.new.conn.now) → IsReady (state S.Store tx.old.conn.now).now
+        → OnOk result (AllByRecursion (λ r. is_stock r ≡ true) (stock_of_lot_rows lot.now (state S.Store tx.old.conn.now).now.trees)) }
+    ensures foreign { HasCleanDisk (state S.Store tx.new.conn.now) → IsReady (state S.Store tx.old.conn.now).now
+        → IfErr result (λ e. e ≡ Foreign → ¬ AllByRecursion (λ r. is_stock r ≡ true) (stock_of_lot_rows lot.now (state S.Store tx.old.conn.now).now.trees)) }
+    ensures same { HasCleanDisk (state S.Store tx.new.conn.now) → IsReady (state S.Store tx.old.conn.now).now → OnOk result (IsUnchanged (state S.Store tx.old.conn.now) (state S.Store tx.new.conn.now)) }
+    ensures refused { HasCleanDisk (state S.Store tx.new.conn.now) → IsReady (state S.Store tx.old.conn.now).now → OnErr result (ChangesNone (state S.Store tx.old.conn.now) (state S.Store tx.new.conn.now)) }
+    ensures kept { HasCleanDisk (state S.Store tx.new.conn.now) → IsReady (state S.Store tx.old.conn.now).now → KeepsCommit (state S.Store tx.old.conn.now) (state S.Store tx.new.conn.now) }
+    ensures survives { Survives (state S.Store tx.old.conn.now) (state S.Store tx.new.conn.now) (λ _. ⊥) }
+{
+    query::<Stock, S>(
+        alloc,
+        tx,
+        STOCK_OF_LOT,
+        &[of_gtin(&lot.gtin), of_lot(&lot.lot)],
+    )
 }

@@ -25,6 +25,9 @@ pub(crate) const ADD_LOT: &str =
 pub(crate) const LOTS_OF: &str =
     "SELECT gtin, lot, expiry, came, held FROM lots WHERE gtin = ?1 ORDER BY rowid";
 
+pub(crate) const LOT_OF: &str =
+    "SELECT gtin, lot, expiry, came, held FROM lots WHERE gtin = ?1 AND lot = ?2 ORDER BY rowid";
+
 pub(crate) const ALL_LOTS: &str = "SELECT gtin, lot, expiry, came, held FROM lots ORDER BY rowid";
 
 pub(crate) const CHANGE_META: &str =
@@ -55,11 +58,14 @@ pub(crate) const ADD_STOCK: &str =
 pub(crate) const STOCK_OF: &str =
     "SELECT gtin, lot, bin, qty FROM stock WHERE gtin = ?1 ORDER BY rowid";
 
+pub(crate) const STOCK_OF_LOT: &str =
+    "SELECT gtin, lot, bin, qty FROM stock WHERE gtin = ?1 AND lot = ?2 ORDER BY rowid";
+
 pub(crate) const BINS_OF_LOT: &str =
     "SELECT bin, qty FROM stock WHERE gtin = ?1 AND lot = ?2 ORDER BY bin";
 
 /// All of them. A connection keeps the plans of its last 64 texts, so the tables together have at most 60.
-pub const TEXTS: [&str; 23] = [
+pub const TEXTS: [&str; 25] = [
     CHANGE_BIN,
     ADD_BIN,
     BINS_OF,
@@ -71,6 +77,7 @@ pub const TEXTS: [&str; 23] = [
     CHANGE_LOT,
     ADD_LOT,
     LOTS_OF,
+    LOT_OF,
     ALL_LOTS,
     CHANGE_META,
     ADD_META,
@@ -82,5 +89,6 @@ pub const TEXTS: [&str; 23] = [
     CHANGE_STOCK,
     ADD_STOCK,
     STOCK_OF,
+    STOCK_OF_LOT,
     BINS_OF_LOT,
 ];

@@ -30,10 +30,10 @@ use Rattle.label.specs.Days.{is_day, is_business_day}
 use Rattle.values.specs.declared.lot.LotId.{LotId}
 use Rattle.commands.specs.declared.limits.TheConstants.{UNITS_MAX, ACTS_MAX, SHORT_MAX, KEY_TEXT_MAX, CARD_NOTE_MAX, SCHEMA_VERSION}
 use Rattle.commands.specs.declared.rows.ReservedRow.{ReservedRow}
-use Rattle.order_tables.specs.declared.texts.TheConstants.{DROP_RESERVED, CHANGE_RESERVED, ADD_RESERVED, RESERVED_OF_ITEM}
+use Rattle.order_tables.specs.declared.texts.TheConstants.{DROP_RESERVED, CHANGE_RESERVED, ADD_RESERVED, RESERVED_OF_ITEM, RESERVED_OF_ORDER}
 use Rattle.table_words.specs.Cells.{typed, is_word, is_the_text, fits_in, is_any, is_number, is_the_number, number_in, is_signed, is_any_number, signed_in, flag_number, flag_in, bin_kind_in, order_state_in, card_kind_in}
 use Rattle.table_words.specs.Schema.{schema_with, reserved_tree, reserved_table}
-use Rattle.table_words.specs.Typed.{same_lot_id, is_reserved, reserved_in, has_reserved, reserved_read, ReservedKey, same_reserved, reserved_key, reserved_cells, with_reserved, without_reserved, tables_in, Tables, AreTyped, reserved_of_item_rows}
+use Rattle.table_words.specs.Typed.{same_lot_id, is_reserved, reserved_in, has_reserved, reserved_read, ReservedKey, same_reserved, reserved_key, reserved_cells, with_reserved, without_reserved, tables_in, Tables, AreTyped, reserved_of_item_rows, reserved_of_order_rows}
 use Rattle.table_words.specs.Steps.{IsReady, Goes}
 use Rattle.table_words.specs.Found.{AreRows}
 use Rattle.table_words.proofs.Plans.{same, scan, by_rowid, alone}
@@ -238,3 +238,49 @@ reserved_of_item_typed old new gtin rows ready h =
     let all = old.now.trees reserved_tree in
     let same_rows = filter_same_on (passes params reserved_of_item_tests) (λ r. is_the_text gtin (column r 2)) all (λ r there. and_true _ ∙ equals_text (column r 2) gtin) in
     both_typed has_reserved is_reserved (show params shown) (λ r. refl) (reserved_of_item_rows gtin old.now.trees) rows (reserved_of_item_turn old new gtin rows ready h ∙ ap (map (show params shown)) same_rows)
+
+abbrev pub reserved_of_order_text : List ℕ
+reserved_of_order_text = RESERVED_OF_ORDER.now
+
+abbrev reserved_of_order_tests : List Term
+reserved_of_order_tests = same 1 0 ∷ []
+
+reserved_of_order_is : (rest : Schema) → (command_of (understood (schema_with rest) reserved_of_order_text) ≡ Select (alone (scan reserved_tree reserved_of_order_tests shown by_rowid)) (codes "ord" ∷ codes "gtin" ∷ codes "lot" ∷ codes "qty" ∷ [])) × (reads_listing (schema_with rest) reserved_of_order_text ≡ false)
+unfolding understood everything
+reserved_of_order_is rest = (refl, refl)
+
+pub reserved_of_order_plain : (rest : Schema) → IsPlain (understood (schema_with rest) reserved_of_order_text)
+unfolding understood everything
+reserved_of_order_plain rest = (refl, refl)
+
+reserved_of_order_at : (order : List ℕ) (r : Row) → is_reserved r ≡ true → passes (Text order ∷ []) reserved_of_order_tests r ≡ (let key = reserved_key (reserved_in r) in bytes_eq order key.0)
+reserved_of_order_at order r h =
+    let p0 = and_parts _ _ h in
+    and_true _ ∙ same_word is_name (column r 1) (Text order) order p0.0 refl
+
+reserved_of_order_turn : (old new : State) (order : List ℕ) (rows : List Row) → IsReady old.now → Shown reserved_of_order_text (Text order ∷ []) old new rows
+    → rows ≡ map (show (Text order ∷ []) shown) (filter (passes (Text order ∷ []) reserved_of_order_tests) (old.now.trees reserved_tree))
+reserved_of_order_turn old new order rows ready h =
+    let params = Text order ∷ [] in
+    let read = reads_as reserved_of_order_text params old new (schema_with ready.has.rest) ready.has.is _ (reserved_of_order_is ready.has.rest).0 (reserved_of_order_plain ready.has.rest) (reserved_of_order_is ready.has.rest).1 rows h in
+    in_order old.now.trees params reserved_tree reserved_of_order_tests shown rows ready.rows.1.1.1.1.1.1.1.1.1.0.0 (read.answer Null)
+
+-- the rows that were read
+pub reserved_of_order_reads : (old new : State) (order : List ℕ) (rows : List Row) (xs : List ReservedRow) → IsReady old.now → Shown reserved_of_order_text (Text order ∷ []) old new rows
+    → AllByRecursion (λ v. has_reserved v ≡ true) rows → map reserved_read rows ≡ xs
+    → AreRows {K = ReservedKey} same_reserved reserved_key (λ key. bytes_eq order key.0) (λ key. (tables_in old.now.trees).reserved key.0 key.1) xs
+reserved_of_order_reads old new order rows xs ready h has are =
+    let params = Text order ∷ [] in
+    let all = old.now.trees reserved_tree in
+    are_rows same_reserved reserved_key one_key (λ key. bytes_eq order key.0) is_reserved reserved_in all xs ready.rows.1.1.1.1.1.1.1.1.1.0.0 (apart old.now ready)
+    (shown_typed is_reserved reserved_in has_reserved reserved_read (show params shown) (λ r. refl) (λ r. refl) _ rows xs (reserved_of_order_turn old new order rows ready h) has are
+    ∙ typed-filter is_reserved reserved_in (passes params reserved_of_order_tests) (λ x. let key = reserved_key x in bytes_eq order key.0) (reserved_of_order_at order) all)
+
+-- they read as typed rows exactly if the stored ones do
+pub reserved_of_order_typed : (old new : State) (order : List ℕ) (rows : List Row) → IsReady old.now → Shown reserved_of_order_text (Text order ∷ []) old new rows
+    → AllByRecursion (λ r. is_reserved r ≡ true) (reserved_of_order_rows order old.now.trees) ↔ AllByRecursion (λ v. has_reserved v ≡ true) rows
+reserved_of_order_typed old new order rows ready h =
+    let params = Text order ∷ [] in
+    let all = old.now.trees reserved_tree in
+    let same_rows = filter_same_on (passes params reserved_of_order_tests) (λ r. is_the_text order (column r 1)) all (λ r there. and_true _ ∙ equals_text (column r 1) order) in
+    both_typed has_reserved is_reserved (show params shown) (λ r. refl) (reserved_of_order_rows order old.now.trees) rows (reserved_of_order_turn old new order rows ready h ∙ ap (map (show params shown)) same_rows)

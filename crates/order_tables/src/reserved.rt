@@ -8,10 +8,12 @@ ghost use Rattle.sqlite.specs.Values.{bound};
 ghost use Rattle.sqlite_value.specs.declared.value.Value.TheVariants.{Text as TextValue};
 ghost use Rattle.table_words.specs.Found.{AreRows};
 ghost use Rattle.table_words.specs.Steps.{IsReady, Goes, ChangesNone, IsTooBig};
-ghost use Rattle.table_words.specs.Typed.{tables_in, same_lot_id, with_reserved, without_reserved, is_reserved, has_reserved, reserved_cells, reserved_key, same_reserved, ReservedKey, reserved_of_item_rows};
+ghost use Rattle.table_words.specs.Typed.{tables_in, same_lot_id, with_reserved, without_reserved, is_reserved, has_reserved, reserved_cells, reserved_key, same_reserved, ReservedKey, reserved_of_item_rows, reserved_of_order_rows};
 ghost use Rattle.table_words.specs.declared.error.TableFault.TheVariants.{Foreign};
 
-use crate::texts::{ADD_RESERVED, CHANGE_RESERVED, DROP_RESERVED, RESERVED_OF_ITEM};
+use crate::texts::{
+    ADD_RESERVED, CHANGE_RESERVED, DROP_RESERVED, RESERVED_OF_ITEM, RESERVED_OF_ORDER,
+};
 use commands::ReservedRow;
 use commands::limits::UNITS_MAX;
 use sqlite::types::ValueRef;
@@ -133,4 +135,25 @@ pub fn reserved_of_item<S: Alter>(
     ensures survives { Survives (state S.Store tx.old.conn.now) (state S.Store tx.new.conn.now) (λ _. ⊥) }
 {
     query::<Reserved, S>(alloc, tx, RESERVED_OF_ITEM, &[of_gtin(gtin)])
+}
+
+/// The rows of this order, the oldest first; `Foreign` where one of them has a value that no row has.
+pub fn reserved_of_order<S: Alter>(
+    alloc: Global,
+    tx: &mut Transaction<'_, S>,
+    order: &Name,
+) -> Result<Vec<ReservedRow>, TableFault>
+    ensures same_reference { tx.new.conn.ghost_name ≡ tx.old.conn.ghost_name }
+    ensures rows { HasCleanDisk (state S.Store tx.new.conn.now) → IsReady (state S.Store tx.old.conn.now).now
+        → IfOk result (λ rows. AreRows {K = ReservedKey} same_reserved reserved_key (λ key. bytes_eq order.now key.0) (λ key. (tables_in (state S.Store tx.old.conn.now).now.trees).reserved key.0 key.1) rows.items) }
+    ensures typed { HasCleanDisk (state S.Store tx.new.conn.now) → IsReady (state S.Store tx.old.conn.now).now
+        → OnOk result (AllByRecursion (λ r. is_reserved r ≡ true) (reserved_of_order_rows order.now (state S.Store tx.old.conn.now).now.trees)) }
+    ensures foreign { HasCleanDisk (state S.Store tx.new.conn.now) → IsReady (state S.Store tx.old.conn.now).now
+        → IfErr result (λ e. e ≡ Foreign → ¬ AllByRecursion (λ r. is_reserved r ≡ true) (reserved_of_order_rows order.now (state S.Store tx.old.conn.now).now.trees)) }
+    ensures same { HasCleanDisk (state S.Store tx.new.conn.now) → IsReady (state S.Store tx.old.conn.now).now → OnOk result (IsUnchanged (state S.Store tx.old.conn.now) (state S.Store tx.new.conn.now)) }
+    ensures refused { HasCleanDisk (state S.Store tx.new.conn.now) → IsReady (state S.Store tx.old.conn.now).now → OnErr result (ChangesNone (state S.Store tx.old.conn.now) (state S.Store tx.new.conn.now)) }
+    ensures kept { HasCleanDisk (state S.Store tx.new.conn.now) → IsReady (state S.Store tx.old.conn.now).now → KeepsCommit (state S.Store tx.old.conn.now) (state S.Store tx.new.conn.now) }
+    ensures survives { Survives (state S.Store tx.old.conn.now) (state S.Store tx.new.conn.now) (λ _. ⊥) }
+{
+    query::<Reserved, S>(alloc, tx, RESERVED_OF_ORDER, &[of_name(order)])
 }

@@ -8,10 +8,12 @@ ghost use Rattle.sqlite.specs.Values.{bound};
 ghost use Rattle.sqlite_value.specs.declared.value.Value.TheVariants.{Text as TextValue};
 ghost use Rattle.table_words.specs.Found.{AreRows};
 ghost use Rattle.table_words.specs.Steps.{IsReady, Goes, ChangesNone, IsTooBig};
-ghost use Rattle.table_words.specs.Typed.{tables_in, same_lot_id, with_staged, without_staged, is_staged, has_staged, staged_cells, staged_key, same_staged, StagedKey, staged_of_item_rows, all_staged_rows};
+ghost use Rattle.table_words.specs.Typed.{tables_in, same_lot_id, with_staged, without_staged, is_staged, has_staged, staged_cells, staged_key, same_staged, StagedKey, staged_of_item_rows, staged_of_order_rows, all_staged_rows};
 ghost use Rattle.table_words.specs.declared.error.TableFault.TheVariants.{Foreign};
 
-use crate::texts::{ADD_STAGED, ALL_STAGED, CHANGE_STAGED, DROP_STAGED, STAGED_OF_ITEM};
+use crate::texts::{
+    ADD_STAGED, ALL_STAGED, CHANGE_STAGED, DROP_STAGED, STAGED_OF_ITEM, STAGED_OF_ORDER,
+};
 use commands::StagedRow;
 use commands::limits::UNITS_MAX;
 use sqlite::types::ValueRef;
@@ -133,6 +135,27 @@ pub fn staged_of_item<S: Alter>(
     ensures survives { Survives (state S.Store tx.old.conn.now) (state S.Store tx.new.conn.now) (λ _. ⊥) }
 {
     query::<Staged, S>(alloc, tx, STAGED_OF_ITEM, &[of_gtin(gtin)])
+}
+
+/// The rows of this order, the oldest first; `Foreign` where one of them has a value that no row has.
+pub fn staged_of_order<S: Alter>(
+    alloc: Global,
+    tx: &mut Transaction<'_, S>,
+    order: &Name,
+) -> Result<Vec<StagedRow>, TableFault>
+    ensures same_reference { tx.new.conn.ghost_name ≡ tx.old.conn.ghost_name }
+    ensures rows { HasCleanDisk (state S.Store tx.new.conn.now) → IsReady (state S.Store tx.old.conn.now).now
+        → IfOk result (λ rows. AreRows {K = StagedKey} same_staged staged_key (λ key. bytes_eq order.now key.0) (λ key. (tables_in (state S.Store tx.old.conn.now).now.trees).staged key.0 key.1) rows.items) }
+    ensures typed { HasCleanDisk (state S.Store tx.new.conn.now) → IsReady (state S.Store tx.old.conn.now).now
+        → OnOk result (AllByRecursion (λ r. is_staged r ≡ true) (staged_of_order_rows order.now (state S.Store tx.old.conn.now).now.trees)) }
+    ensures foreign { HasCleanDisk (state S.Store tx.new.conn.now) → IsReady (state S.Store tx.old.conn.now).now
+        → IfErr result (λ e. e ≡ Foreign → ¬ AllByRecursion (λ r. is_staged r ≡ true) (staged_of_order_rows order.now (state S.Store tx.old.conn.now).now.trees)) }
+    ensures same { HasCleanDisk (state S.Store tx.new.conn.now) → IsReady (state S.Store tx.old.conn.now).now → OnOk result (IsUnchanged (state S.Store tx.old.conn.now) (state S.Store tx.new.conn.now)) }
+    ensures refused { HasCleanDisk (state S.Store tx.new.conn.now) → IsReady (state S.Store tx.old.conn.now).now → OnErr result (ChangesNone (state S.Store tx.old.conn.now) (state S.Store tx.new.conn.now)) }
+    ensures kept { HasCleanDisk (state S.Store tx.new.conn.now) → IsReady (state S.Store tx.old.conn.now).now → KeepsCommit (state S.Store tx.old.conn.now) (state S.Store tx.new.conn.now) }
+    ensures survives { Survives (state S.Store tx.old.conn.now) (state S.Store tx.new.conn.now) (λ _. ⊥) }
+{
+    query::<Staged, S>(alloc, tx, STAGED_OF_ORDER, &[of_name(order)])
 }
 
 /// The rows of the whole table, the oldest first; `Foreign` where one of them has a value that no row has.

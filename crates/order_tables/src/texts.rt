@@ -36,6 +36,9 @@ pub(crate) const ADD_RESERVED: &str =
 pub(crate) const RESERVED_OF_ITEM: &str =
     "SELECT ord, gtin, lot, qty FROM reserved WHERE gtin = ?1 ORDER BY rowid";
 
+pub(crate) const RESERVED_OF_ORDER: &str =
+    "SELECT ord, gtin, lot, qty FROM reserved WHERE ord = ?1 ORDER BY rowid";
+
 pub(crate) const DROP_STAGED: &str = "DELETE FROM staged WHERE ord = ?1 AND gtin = ?2 AND lot = ?3";
 
 pub(crate) const CHANGE_STAGED: &str =
@@ -47,10 +50,13 @@ pub(crate) const ADD_STAGED: &str =
 pub(crate) const STAGED_OF_ITEM: &str =
     "SELECT ord, gtin, lot, qty FROM staged WHERE gtin = ?1 ORDER BY rowid";
 
+pub(crate) const STAGED_OF_ORDER: &str =
+    "SELECT ord, gtin, lot, qty FROM staged WHERE ord = ?1 ORDER BY rowid";
+
 pub(crate) const ALL_STAGED: &str = "SELECT ord, gtin, lot, qty FROM staged ORDER BY rowid";
 
 /// All of them. A connection keeps the plans of its last 64 texts, so the tables together have at most 60.
-pub const TEXTS: [&str; 17] = [
+pub const TEXTS: [&str; 19] = [
     CHANGE_LINE,
     ADD_LINE,
     LINES_OF_ORDER,
@@ -63,9 +69,11 @@ pub const TEXTS: [&str; 17] = [
     CHANGE_RESERVED,
     ADD_RESERVED,
     RESERVED_OF_ITEM,
+    RESERVED_OF_ORDER,
     DROP_STAGED,
     CHANGE_STAGED,
     ADD_STAGED,
     STAGED_OF_ITEM,
+    STAGED_OF_ORDER,
     ALL_STAGED,
 ];

@@ -6,3 +6,6 @@ pub mod Gathering
 pub mod GatheringShares
 pub mod Cutting
 pub mod Naming
+pub mod LookingUp
+pub mod Giving
+pub mod InOrder

@@ -55,36 +55,6 @@ kept_all test xs i out e s = sym (append_none out) ∙ sym (ap (λ ys. out ++ fi
 pub record IsInserted {X Y : Type 0} (earlier : Y → Y → Bool) (f : List X → List Y) (xs : List X) (i : ℕ) (out : List Y) : Type 0 where
   pub so_far : inserted earlier out (f (drop i xs)) ≡ inserted earlier [] (f xs)
 
-inserted_end : {X Y : Type 0} (earlier : Y → Y → Bool) (f : List X → List Y) (xs : List X) (i : ℕ) (out : List Y) → i ≡ length xs → f [] ≡ [] → IsInserted earlier f xs i out → out ≡ inserted earlier [] (f xs)
-inserted_end earlier f xs i out e none s = sym (ap (λ ys. inserted earlier out ys) none) ∙ sym (ap (λ ys. inserted earlier out (f ys)) (drop_end xs i e)) ∙ s.so_far
-
--- what each gives
-pub inserted_mapped_more : {X Y : Type 0} (earlier : Y → Y → Bool) (f : X → Y) (xs : List X) (i : ℕ) (out : List Y) (none : X) (new : List Y) → i < length xs → IsInserted earlier (map f) xs i out
-    → new ≡ placed earlier (f (get_or xs i none)) out → IsInserted earlier (map f) xs (i + 1) new
-inserted_mapped_more earlier f xs i out none new h s e = record {
-  so_far = ap (λ ys. inserted earlier ys (map f (drop (i + 1) xs))) e ∙ sym (ap (λ ys. inserted earlier out (map f ys)) (drop_from xs i none h)) ∙ s.so_far;
-}
-
-pub inserted_mapped_all : {X Y : Type 0} (earlier : Y → Y → Bool) (f : X → Y) (xs : List X) (i : ℕ) (out : List Y) → i ≡ length xs → IsInserted earlier (map f) xs i out → out ≡ inserted earlier [] (map f xs)
-inserted_mapped_all earlier f xs i out e s = inserted_end earlier (map f) xs i out e refl s
-
--- those that pass a test
-inserted_one : {X : Type 0} (earlier : X → X → Bool) (b : Bool) (x : X) (rest out : List X) → inserted earlier (if b then placed earlier x out else out) rest ≡ inserted earlier out (if b then x ∷ rest else rest)
-inserted_one earlier true x rest out = refl
-inserted_one earlier false x rest out = refl
-
-pub inserted_kept_more : {X : Type 0} (earlier : X → X → Bool) (test : X → Bool) (xs : List X) (i : ℕ) (out : List X) (none : X) (new : List X) (wanted : Bool) → i < length xs → IsInserted earlier (filter test) xs i out
-    → wanted ≡ test (get_or xs i none) → new ≡ (if wanted then placed earlier (get_or xs i none) out else out) → IsInserted earlier (filter test) xs (i + 1) new
-inserted_kept_more earlier test xs i out none new wanted h s w e = record {
-  so_far =
-      ap (λ ys. inserted earlier ys (filter test (drop (i + 1) xs))) (e ∙ ap (λ b. if b then placed earlier (get_or xs i none) out else out) w)
-      ∙ inserted_one earlier (test (get_or xs i none)) (get_or xs i none) (filter test (drop (i + 1) xs)) out
-      ∙ sym (ap (λ ys. inserted earlier out (filter test ys)) (drop_from xs i none h)) ∙ s.so_far;
-}
-
-pub inserted_kept_all : {X : Type 0} (earlier : X → X → Bool) (test : X → Bool) (xs : List X) (i : ℕ) (out : List X) → i ≡ length xs → IsInserted earlier (filter test) xs i out → out ≡ inserted earlier [] (filter test xs)
-inserted_kept_all earlier test xs i out e s = inserted_end earlier (filter test) xs i out e refl s
-
 -- where x stands in a list: the walk along it
 pub record IsPlaced {X : Type 0} (earlier : X → X → Bool) (x : X) (ys : List X) (i : ℕ) : Type 0 where
   pub so_far : placed earlier x ys ≡ take i ys ++ placed earlier x (drop i ys)

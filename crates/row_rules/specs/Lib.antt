@@ -4,5 +4,6 @@ pub mod SeenOrders
 pub mod OpenLines
 pub mod Plans
 pub mod Replanning
+pub mod LookUps
 pub mod SeenLots
 pub mod SeenStages

@@ -1,12 +1,14 @@
 //! The plan of an item, and the reserved rows that it changes.
 
-ghost use Rattle.std.specs.Prelude.{◌≡◌, ◌==◌, ◌&&◌, [], ◌∷◌, min, not, find, IfOk};
+ghost use Rattle.std.specs.Prelude.{◌≡◌, ◌==◌, ◌&&◌, [], ◌∷◌, min, not, filter, find, IfOk};
 ghost use Rattle.std.specs.List.{list_any};
 ghost use Rattle.machine.specs.Postings.{of_item};
 ghost use Rattle.row_rules.specs.Plans.{plan_within as plan_within_lem, named_row, named_rows as named_rows_lem, is_share_of, has_qty, shares_over as shares_over_lem, rows_to_put as rows_to_put_lem, rows_to_drop as rows_to_drop_lem};
+ghost use Rattle.row_rules.specs.LookUps.{rows_given, row_given, rows_named};
 
 use crate::Rows;
 use crate::demands::{cut_demands, demands_seen};
+use crate::look_ups::{Keyed, RowsByNumber, RowsByText, by_number, by_text};
 use crate::looking::is_same_lot;
 use crate::pushing::{push_found, push_if};
 use crate::supplies::{cut_supplies, supplies_seen};
@@ -137,10 +139,23 @@ pub fn named_rows(
 ) -> Result<Vec<ReservedRow>, AllocError>
     ensures { IfOk result (λ v. v.items ≡ named_rows_lem orders.now lots.now rows.now) }
 {
+    let numbered = by_number(alloc, orders, rows.len())?;
+    let came = by_number(alloc, lots, rows.len())?;
+    name_rows(alloc, &numbered, &came, rows)
+}
+
+fn name_rows(
+    alloc: Global,
+    orders: &RowsByNumber<'_, OrderRow>,
+    lots: &RowsByNumber<'_, LotRow>,
+    rows: &[Row],
+) -> Result<Vec<ReservedRow>, AllocError>
+    ensures { IfOk result (λ v. v.items ≡ rows_named (row_given (λ o. o.act) orders.now) (row_given (λ k. k.came) lots.now) rows.now) }
+{
     let mut named = Vec::new(alloc);
     for row in rows {
-        let order = order_numbered(orders, row.booking);
-        let lot = lot_that_came(lots, row.lot);
+        let order = orders.row_of(row.booking);
+        let lot = lots.row_of(row.lot);
         push_found(&mut named, name_row(order, lot, row.qty))?;
     }
     Ok(named)
@@ -162,28 +177,6 @@ fn name_row(order: Option<OrderRow>, lot: Option<LotRow>, qty: u64) -> Option<Re
     }
 }
 
-fn order_numbered(rows: &[OrderRow], act: u64) -> Option<OrderRow>
-    ensures { result ≡ find (λ o. act == o.act) rows.now }
-{
-    for row in rows {
-        if act == row.act {
-            return Some(*row);
-        }
-    }
-    None
-}
-
-fn lot_that_came(rows: &[LotRow], came: u64) -> Option<LotRow>
-    ensures { result ≡ find (λ k. came == k.came) rows.now }
-{
-    for row in rows {
-        if came == row.came {
-            return Some(*row);
-        }
-    }
-    None
-}
-
 /// The new rows that are not there as they are.
 pub fn rows_to_put(
     alloc: Global,
@@ -192,9 +185,20 @@ pub fn rows_to_put(
 ) -> Result<Vec<ReservedRow>, AllocError>
     ensures { IfOk result (λ v. v.items ≡ rows_to_put_lem olds.now news.now) }
 {
+    let by_order = by_text(alloc, olds, news.len())?;
+    rows_unlike(alloc, &by_order, news)
+}
+
+fn rows_unlike(
+    alloc: Global,
+    olds: &RowsByText<'_, ReservedRow>,
+    news: &[ReservedRow],
+) -> Result<Vec<ReservedRow>, AllocError>
+    ensures { IfOk result (λ v. v.items ≡ filter (λ n. not (has_qty (find (is_share_of n) (rows_given olds.now n.order)) n.qty)) news.now) }
+{
     let mut put = Vec::new(alloc);
     for row in news {
-        let same = is_qty(find_share(olds, row), row.qty);
+        let same = is_qty(find_share(olds.rows_of(&row.key()), row), row.qty);
         push_if(&mut put, !same, *row)?;
     }
     Ok(put)
@@ -209,9 +213,21 @@ pub fn rows_to_drop(
 ) -> Result<Vec<ReservedRow>, AllocError>
     ensures { IfOk result (λ v. v.items ≡ rows_to_drop_lem gtin.now olds.now news.now) }
 {
+    let by_order = by_text(alloc, news, olds.len())?;
+    rows_gone(alloc, gtin, olds, &by_order)
+}
+
+fn rows_gone(
+    alloc: Global,
+    gtin: &Gtin,
+    olds: &[ReservedRow],
+    news: &RowsByText<'_, ReservedRow>,
+) -> Result<Vec<ReservedRow>, AllocError>
+    ensures { IfOk result (λ v. v.items ≡ filter (λ r. of_item gtin.now r.lot && not (list_any (is_share_of r) (rows_given news.now r.order))) olds.now) }
+{
     let mut dropped = Vec::new(alloc);
     for row in olds {
-        let gone = is_gone(gtin, news, row);
+        let gone = is_gone(gtin, news.rows_of(&row.key()), row);
         push_if(&mut dropped, gone, *row)?;
     }
     Ok(dropped)

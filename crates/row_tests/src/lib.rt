@@ -7,7 +7,11 @@
 #![tactic(auto)]
 
 #[cfg(test)]
+mod gone_lots;
+#[cfg(test)]
 mod listing;
+#[cfg(test)]
+mod many_rows;
 #[cfg(test)]
 mod order_views;
 #[cfg(test)]

@@ -2,7 +2,7 @@
 // expires first came last.
 
 use crate::listing::Listing;
-use crate::samples::{Sample, Written, rows};
+use crate::samples::{NO_ROWS, Sample, Written, rows};
 use crate::worked::THREE_LOTS;
 use commands::{OrderRow, OrderView};
 use rules::Rows;
@@ -45,7 +45,13 @@ const RESERVED: Sample = Sample {
     ..THREE_LOTS
 };
 
-static VIEWED: [Viewed; 3] = [
+// Of the twelve that Corner Shop ordered five are staged, and six of the others are reserved.
+const ONE_SHORT: &[u8] = b"S-1 Corner Shop OPEN\n\
+    09506000134352 12 0 1\n\
+    reserved L2 2026-05-31 6 A-01 3 A-02 3\n\
+    staged L0 5\n";
+
+static VIEWED: [Viewed; 5] = [
     // The lots that expire first are reserved first.
     Viewed {
         rows: RESERVED,
@@ -72,10 +78,37 @@ static VIEWED: [Viewed; 3] = [
             ..THREE_LOTS
         },
         order: CORNER_SHOP,
-        text: b"S-1 Corner Shop OPEN\n\
-            09506000134352 12 0 1\n\
-            reserved L2 2026-05-31 6 A-01 3 A-02 3\n\
-            staged L0 5\n",
+        text: ONE_SHORT,
+    },
+    // The order's own rows are enough: its line, its units, the lots of these, and the stock of the one that is reserved.
+    Viewed {
+        rows: Sample {
+            bins: "A-01|STORE\nA-02|STORE\nQ-01|HOLD",
+            lots: "L2|2026-05-31|7|free\nL0|2026-05-10|10|free",
+            stock: "L2|Q-01|4\nL2|A-02|3\nL2|A-01|3",
+            lines: "S-1|09506000134352|12|0",
+            staged: "S-1|L0|5",
+            reserved: "S-1|L2|6",
+            ..NO_ROWS
+        },
+        order: CORNER_SHOP,
+        text: ONE_SHORT,
+    },
+    // Lots that are gone, and what is staged and reserved for another order, change nothing of it.
+    Viewed {
+        rows: Sample {
+            lots: "L1|2026-06-30|6|free\n\
+                K1|2026-05-05|3|free\n\
+                L2|2026-05-31|7|free\n\
+                L0|2026-05-10|10|free\n\
+                K2|2026-05-20|4|held",
+            stock: "L2|Q-01|4\nL1|A-01|8\nL2|A-02|3\nL2|A-01|3",
+            staged: "S-2|L1|2\nS-2|L0|1\nS-1|L0|5\nS-2|L2|1",
+            reserved: "S-2|L1|7\nS-1|L2|6\nS-2|L0|1",
+            ..THREE_LOTS
+        },
+        order: CORNER_SHOP,
+        text: ONE_SHORT,
     },
 ];
 

@@ -126,7 +126,7 @@ fn qty(rt: &impl Abort, units: u64) -> Qty {
     Qty::new(units).expect(rt, "a quantity")
 }
 
-fn gtin(rt: &impl Abort, text: &str) -> Gtin {
+pub(crate) fn gtin(rt: &impl Abort, text: &str) -> Gtin {
     Gtin::new(text.as_bytes()).ok().expect(rt, "a GTIN")
 }
 
@@ -184,7 +184,7 @@ pub(crate) trait Written: Copy {
 
 // Under `rt try --test --fail-alloc N` the Nth request for memory is refused. What that stops is done
 // again, so that the tests still pass.
-fn add<T: Copy>(rt: &impl Abort, rows: &mut Vec<T>, row: T) {
+pub(crate) fn add<T: Copy>(rt: &impl Abort, rows: &mut Vec<T>, row: T) {
     if rows.push(row).is_err() {
         rows.push(row).ok().expect(rt, "memory");
     }

@@ -2,15 +2,19 @@
 use Rattle.std.specs.Prelude.{ℕ, ℤ, Bool, not, ◌&&◌, if◌then◌else◌, List, [], ◌∷◌, ◌++◌, filter, Option, Some, None}
 use Rattle.std.specs.List.{list_any}
 use Rattle.values.specs.Values.{same_text}
+use Rattle.values.specs.declared.lot.LotId.{LotId}
 use Rattle.commands.specs.declared.command.Command.{Command}
 use Rattle.commands.specs.declared.command.Command.TheVariants.{Item, Bin, Receive, Move, Count, Adjust, Order, Cancel, Pick, Unpick, Ship, Hold, Release, Recall, OpenDay}
 use Rattle.commands.specs.declared.rows.LotRow.{LotRow}
 use Rattle.commands.specs.declared.rows.RecallRow.{RecallRow}
+use Rattle.commands.specs.declared.rows.StockRow.{StockRow}
 use Rattle.commands.specs.declared.rows.OrderRow.{OrderRow}
 use Rattle.commands.specs.declared.rows.LineRow.{LineRow}
 use Rattle.commands.specs.declared.rows.StagedRow.{StagedRow}
+use Rattle.machine.specs.Postings.{is_lot}
 use Rattle.row_rules.specs.Seen.{has_recall}
 use Rattle.row_rules.specs.Status.{may_ship}
+use Rattle.slice_parts.specs.Keys.{with_keys}
 
 -- Names
 
@@ -60,16 +64,32 @@ bins_named (Pick p) = p.bin ∷ []
 bins_named (Unpick p) = p.bin ∷ []
 bins_named _ = []
 
+abbrev pub lots_named : Command → List LotId
+lots_named (Receive r) = r.lot ∷ []
+lots_named (Move m) = m.lot ∷ []
+lots_named (Count c) = c.lot ∷ []
+lots_named (Adjust a) = a.lot ∷ []
+lots_named (Pick p) = p.lot ∷ []
+lots_named (Unpick p) = p.lot ∷ []
+lots_named (Hold l) = l ∷ []
+lots_named (Release l) = l ∷ []
+lots_named (Recall l) = l ∷ []
+lots_named _ = []
+
 -- the order that a command takes whole: it touches the item of each of its lines
 abbrev pub whole_orders : Command → List (List ℕ)
 whole_orders (Cancel o) = o ∷ []
-whole_orders (Ship o) = o ∷ []
 whole_orders _ = []
 
 -- the business day that a command opens
 abbrev pub day_opened : Command → Option ℤ
 day_opened (OpenDay day) = Some day
 day_opened _ = None
+
+-- the order that a command ships
+abbrev pub order_shipped : Command → Option (List ℕ)
+order_shipped (Ship o) = Some o
+order_shipped _ = None
 
 -- Orders and lines
 
@@ -86,6 +106,16 @@ has_line_in line_rows o = list_any (λ l. same_text o l.order) line_rows
 
 abbrev pub with_lines : List LineRow → List OrderRow → List OrderRow
 with_lines line_rows order_rows = filter (λ r. has_line_in line_rows r.order) order_rows
+
+-- Lots
+
+-- those that a command names and those with units in bins or on stages, each once
+abbrev pub held_lots : Command → List StockRow → List StagedRow → List LotId
+held_lots command stock_rows staged_rows = with_keys is_lot (λ r. r.lot) staged_rows (with_keys is_lot (λ r. r.lot) stock_rows (with_keys is_lot (λ l. l) (lots_named command) []))
+
+-- those with units on the stage of an order, each once
+abbrev pub lots_on_stage : List ℕ → List StagedRow → List LotId
+lots_on_stage order staged_rows = with_keys is_lot (λ r. r.lot) (filter (λ r. same_text r.order order) staged_rows) []
 
 -- Openings of a day
 

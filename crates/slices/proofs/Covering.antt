@@ -16,7 +16,7 @@ use Rattle.machine.specs.Planning.{is_open_state}
 use Rattle.machine.specs.KeyedRows.{AreOwn}
 use Rattle.machine.proofs.Tests.{or_first, or_later, same_text_is, same_text_refl, same_text_turned}
 use Rattle.row_rules.specs.declared.slice.Put.{Put}
-use Rattle.slices.specs.Slicing.{Each, is_among, is_passed, is_open_in, Covers, AreAllLines, AreKnownOrders, AreOpenLines, KnowsOpen, Knows}
+use Rattle.slices.specs.Slicing.{Each, is_among, is_passed, is_open_in, Covers, AreAllLines, AreNamed, AreKnownOrders, AreOpenLines, KnowsOpen, Knows}
 use Rattle.slices.proofs.Counted.{any_mapped}
 use Rattle.slices.proofs.RowsTold.{rows_read, any_read, any_append, own_joined, own_more}
 use Rattle.slices.proofs.SliceTold.{texts_same}
@@ -116,3 +116,7 @@ own_orders known named gtins t orders lines are =
 pub covers_met : (known : Entries) (named gtins : List (List ℕ)) (t : Tables) (orders : List OrderRow) (lines : List LineRow) (old new : Entries) → AreKnownOrders known named gtins t orders lines
     → Loses (λ g o. has_closed_row orders o && has_line_row lines g o) old new → Covers old t → Covers new t
 covers_met known named gtins t orders lines old new are loses covers = covers_without t (λ k. true) orders lines old new (own_orders known named gtins t orders lines are) loses covers
+
+-- the order that is shipped
+pub covers_shipped : (named : List (List ℕ)) (t : Tables) (orders : List OrderRow) (lines : List LineRow) (old new : Entries) → AreNamed named t orders lines → Loses (λ g o. has_closed_row orders o && has_line_row lines g o) old new → Covers old t → Covers new t
+covers_shipped named t orders lines old new are loses covers = covers_without t (λ k. true) orders lines old new (each_own t _ orders are.orders) loses covers

@@ -4,11 +4,14 @@ pub mod ReadSteps
 pub mod RowsTold
 pub mod SeekSteps
 pub mod KeysTold
+pub mod KeysRead
 pub mod SliceTold
 pub mod LinesTold
 pub mod DayTold
 pub mod OrdersTold
 pub mod KnownOrders
+pub mod OwnRows
+pub mod ShipmentRight
 pub mod SliceRight
 pub mod OrderRight
 pub mod ReadTold

@@ -1,6 +1,6 @@
 -- What the read of a slice tells on the books of a history.
-use Rattle.std.proofs.Common.{◌≡◌, ◌&&◌, List, Result, Ok, Err, IfOk, IfErr, IsTrue, sym, subst}
-use Rattle.std.specs.Prelude.{ℤ}
+use Rattle.std.proofs.Common.{◌≡◌, ℕ, ◌&&◌, List, [], ◌∷◌, Result, Ok, Err, IfOk, IfErr, IsTrue, sym, subst}
+use Rattle.std.specs.Prelude.{ℤ, Option, Some, None}
 use Rattle.commands.specs.Tables.{Tables}
 use Rattle.commands.specs.declared.key.Key.{Key}
 use Rattle.commands.specs.declared.command.Command.{Command}
@@ -12,12 +12,13 @@ use Rattle.machine.specs.Acts.{Act}
 use Rattle.machine.specs.Once.{IsHistory}
 use Rattle.machine.specs.Tables.{tables_of}
 use Rattle.rules.specs.Slices.{IsSlice}
+use Rattle.row_rules.specs.declared.slice.Rows.{Rows}
 use Rattle.row_rules.specs.declared.slice.Slice.{Slice}
 use Rattle.open_lines.specs.OpenLines.{Entries, Loses, has_closed_row, has_line_row}
 use Rattle.slices.specs.Books.{IsBooksOf}
 use Rattle.slices.specs.Reading.{IsRead}
-use Rattle.slices.specs.Slicing.{Covers, IsSliceIn, orders_named}
-use Rattle.slices.proofs.Covering.{covers_met}
+use Rattle.slices.specs.Slicing.{Covers, IsSliceIn, AreSlicedOn, orders_named, order_shipped}
+use Rattle.slices.proofs.Covering.{covers_met, covers_shipped}
 use Rattle.slices.proofs.SliceRight.{slice_right}
 
 pub slice_read : (known : Entries) (command : Command) (old new : State) (r : Result Slice TableFault) → IsRead (λ t s. IsSliceIn known command t s) old new r → HasCleanDisk new → IsTrue old.is_open → (first : ℤ) (acts : List Act) (key : Key) → IsHistory first acts → IsBooksOf first acts old.now
@@ -26,12 +27,13 @@ slice_read known command old new (Ok s) one clean up first acts key history book
     slice_right first acts key command known (subst (λ (t : Tables). Covers known t) books.rows.tables covers) history s (subst (λ (t : Tables). IsSliceIn known command t s) books.rows.tables (one.answers clean books.ready up).1)
 slice_read known command old new (Err e) one clean up first acts key history books covers = tt
 
+covers_sliced : (shipped : Option (List ℕ)) (command : Command) (t : Tables) (rows : Rows) (old new : Entries) → AreSlicedOn shipped old command t rows → Loses (λ g o. has_closed_row rows.orders o && has_line_row rows.lines g o) old new → Covers old t → Covers new t
+covers_sliced None command t rows old new are = covers_met old (orders_named command) are.gtins t rows.orders rows.lines old new are.ordered
+covers_sliced (Some order) command t rows old new are = covers_shipped (order ∷ []) t rows.orders rows.lines old new are.named
+
 -- without the closed orders that it tells, what covered the open lines covers them
 pub slice_covers : (command : Command) (before after : State) (r : Result Slice TableFault) (old new : Entries) → IsRead (λ t s. IsSliceIn old command t s) before after r
     → IfOk r (λ s. Loses (λ g o. has_closed_row s.rows.orders o && has_line_row s.rows.lines g o) old new) → IfErr r (λ e. new ≡ old)
     → HasCleanDisk after → IsReady before.now → IsTrue before.is_open → Covers old (tables_in before.now.trees) → Covers new (tables_in before.now.trees)
-slice_covers command before after (Ok s) old new one met unread clean ready up covers =
-    let told = (one.answers clean ready up).1 in
-    let are = told.rows in
-    covers_met old (orders_named command) are.gtins (tables_in before.now.trees) s.rows.orders s.rows.lines old new are.ordered met covers
+slice_covers command before after (Ok s) old new one met unread clean ready up covers = covers_sliced (order_shipped command) command (tables_in before.now.trees) s.rows old new (one.answers clean ready up).1.rows met covers
 slice_covers command before after (Err e) old new one met unread clean ready up covers = subst (λ (es : Entries). Covers es (tables_in before.now.trees)) (sym unread) covers

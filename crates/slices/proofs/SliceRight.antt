@@ -1,8 +1,9 @@
 -- What is read of the tables of a history is the slice of the command.
-use Rattle.std.proofs.Common.{◌≡◌, ℕ, Bool, true, false, ◌&&◌, List, [], ◌∷◌, ◌++◌, length, refl, ap, sym, subst, ◌∙◌}
+use Rattle.std.proofs.Common.{◌≡◌, ℕ, Bool, true, false, ◌&&◌, List, [], ◌∷◌, length, refl, ap, sym, subst, ◌∙◌}
 use Rattle.std.specs.Prelude.{◌||◌, ◌==◌, if◌then◌else◌, find, Option, Some, None, option_map, is_some, ℤ}
 use Rattle.std.specs.List.{list_any, list_all, cons_option}
 use Rattle.values.specs.Values.{same_text}
+use Rattle.values.specs.declared.lot.LotId.{LotId}
 use Rattle.commands.specs.Tables.{Tables}
 use Rattle.commands.specs.declared.key.Key.{Key}
 use Rattle.commands.specs.declared.command.NewItem.{NewItem}
@@ -12,70 +13,72 @@ use Rattle.commands.specs.declared.command.Command.{Command}
 use Rattle.commands.specs.declared.command.Command.TheVariants.{Item, Bin, Receive, Move, Count, Adjust, Order, Cancel, Pick, Unpick, Ship, Hold, Release, Recall, OpenDay}
 use Rattle.commands.specs.declared.rows.StockRow.{StockRow}
 use Rattle.commands.specs.declared.rows.LineRow.{LineRow}
+use Rattle.commands.specs.declared.rows.StagedRow.{StagedRow}
 use Rattle.commands.specs.declared.rows.OrderState.TheVariants.{Open, Done, Cancelled}
 use Rattle.table_words.specs.Typed.{ItemKey, same_item, item_key, BinKey, same_bin, bin_key, LotKey, same_lot, lot_key, RecallKey, same_recall, recall_key, StockKey, same_stock, stock_key, StagedKey, same_staged, staged_key, ReservedKey, same_reserved, reserved_key, OrderKey, same_order, order_key, LineKey, same_line, line_key, is_open_order}
 use Rattle.machine.specs.Acts.{Act, next_number}
-use Rattle.machine.specs.Standing.{items, item_in, bins, Placed, orders, order_named, lines_of, lines_placed, has_line, is_cancelled}
+use Rattle.machine.specs.Standing.{items, item_in, bins, Placed, orders, order_named, lines_of, lines_placed, is_cancelled}
 use Rattle.machine.specs.Planning.{order_state, is_open_state, is_open, shipped_of}
 use Rattle.machine.specs.Touched.{touches}
 use Rattle.machine.specs.Tables.{tables_of}
 use Rattle.machine.specs.Once.{IsHistory}
 use Rattle.machine.specs.Verdict.{verdict}
-use Rattle.machine.specs.KeyedRows.{no_two}
-use Rattle.rules.specs.Slices.{IsSlice, names_order, names_bin, counts_items, counts_bins, has_touched_line}
+use Rattle.machine.specs.Postings.{is_lot}
+use Rattle.machine.specs.KeyedRows.{AreRows, no_two}
+use Rattle.rules.specs.Slices.{IsSlice, names_order, names_bin, names_lot, counts_items, counts_bins, plans, in_bins, on_stages, on_named_stage, has_touched_line}
 use Rattle.row_rules.specs.declared.slice.Slice.{Slice}
-use Rattle.machine.proofs.Tests.{or_false, same_text_is, same_text_refl, same_text_turned, is_lot_is, is_lot_refl}
+use Rattle.machine.proofs.Tests.{and_both, or_false, some_one, same_text_is, same_text_refl, same_text_turned, is_lot_is, is_lot_refl, is_lot_turned, is_lot_item}
 use Rattle.machine.proofs.Apart.{AreApart, any_found}
 use Rattle.machine.proofs.histories.Accepted.{item_accepted}
 use Rattle.machine.proofs.histories.Notices.{bins_apart}
 use Rattle.machine.proofs.histories.Orders.{found_order}
 use Rattle.rules.proofs.rows.SliceTells.{some_mapped}
 use Rattle.open_lines.specs.OpenLines.{Entries}
-use Rattle.slices.specs.Slicing.{is_among, with_names, items_named, orders_named, bins_named, whole_orders, day_opened, AreAllLines, AreTaken, AreTouched, AreSliced, IsSliceIn, is_passed, is_open_in, Covers}
+use Rattle.slice_parts.specs.Keys.{has_key, with_keys}
+use Rattle.slices.specs.Slicing.{is_among, with_names, items_named, lots_named, orders_named, bins_named, whole_orders, day_opened, order_shipped, held_lots, AreAllLines, AreCounts, AreTaken, AreTouched, ArePlanned, AreSlicedOn, IsSliceIn, is_passed, is_open_in, Covers}
 use Rattle.slices.proofs.Counted.{as_many}
 use Rattle.slices.proofs.KeysTold.{same_cell_is, same_cell_refl, same_share_is, same_share_refl, same_line_is, same_line_refl}
-use Rattle.slices.proofs.RowsTold.{any_append, rows_read, rows_as}
+use Rattle.slices.proofs.RowsTold.{rows_read, rows_as}
 use Rattle.slices.proofs.SliceTold.{among_with, once_with, among_names, once_names, sought}
-use Rattle.slices.proofs.LinesTold.{line_some, line_items}
+use Rattle.slice_parts.proofs.KeysOnce.{has_keys, once_keys}
+use Rattle.slices.proofs.KeysRead.{keys_read}
+use Rattle.slices.proofs.OwnRows.{own_any}
+use Rattle.slices.proofs.ShipmentRight.{shipment_right}
+use Rattle.slices.proofs.LinesTold.{line_some, taken}
 use Rattle.slices.proofs.DayTold.{affected_told, affected_once}
 use Rattle.slices.proofs.KnownOrders.{has_line_of, orders_told, lines_told}
 
 -- Names
 
--- the rows of one order's lines, or of no order's
-taken : (first : ℤ) (acts : List Act) (o : List ℕ) (lines : List LineRow) → AreAllLines (o ∷ []) (tables_of first acts) lines → (x : List ℕ) → list_any (λ r. same_text x r.gtin) lines ≡ has_line acts o x
-taken first acts o lines (xs, ys, own, none, all) x =
-    ap (λ l. list_any (λ r. same_text x r.gtin) l) (all ∙ ap (λ l. xs ++ l) none) ∙ any_append (λ r. same_text x r.gtin) xs [] ∙ or_false (list_any (λ r. same_text x r.gtin) xs) ∙ line_items first acts o xs own x
-
 named_only : (x : List ℕ) (lines : List LineRow) (own : Bool) → lines ≡ [] → own || list_any (λ r. same_text x r.gtin) lines ≡ own
 named_only x lines own none = ap (λ l. own || list_any (λ r. same_text x r.gtin) l) none ∙ or_false own
 
 -- the items that a command names, with those of the lines that it takes, are those that it touches
-named_told : (first : ℤ) (act : Act) (acts : List Act) (command : Command) → day_opened command ≡ None → (lines : List LineRow) → AreAllLines (whole_orders command) (tables_of first acts) lines
+named_told : (first : ℤ) (act : Act) (acts : List Act) (command : Command) → day_opened command ≡ None → order_shipped command ≡ None → (lines : List LineRow) → AreAllLines (whole_orders command) (tables_of first acts) lines
     → (x : List ℕ) → is_among (items_named command) x || list_any (λ r. same_text x r.gtin) lines ≡ touches first act acts command x
-named_told first act acts (Item i) e lines none x = named_only x lines (is_among (i.gtin ∷ []) x) none ∙ or_false (same_text x i.gtin)
-named_told first act acts (Bin b) e lines none x = named_only x lines false none
-named_told first act acts (Receive r) e lines none x = named_only x lines (is_among (r.lot.gtin ∷ []) x) none ∙ or_false (same_text x r.lot.gtin)
-named_told first act acts (Move m) e lines none x = named_only x lines (is_among (m.lot.gtin ∷ []) x) none ∙ or_false (same_text x m.lot.gtin)
-named_told first act acts (Count c) e lines none x = named_only x lines (is_among (c.lot.gtin ∷ []) x) none ∙ or_false (same_text x c.lot.gtin)
-named_told first act acts (Adjust a) e lines none x = named_only x lines (is_among (a.lot.gtin ∷ []) x) none ∙ or_false (same_text x a.lot.gtin)
-named_told first act acts (Order o) e lines none x = named_only x lines (is_among (with_names (λ l. l.gtin) o.lines []) x) none ∙ among_names (λ l. l.gtin) o.lines [] x
-named_told first act acts (Cancel o) e lines all x = taken first acts o lines all x
-named_told first act acts (Pick p) e lines none x = named_only x lines (is_among (p.lot.gtin ∷ []) x) none ∙ or_false (same_text x p.lot.gtin)
-named_told first act acts (Unpick p) e lines none x = named_only x lines (is_among (p.lot.gtin ∷ []) x) none ∙ or_false (same_text x p.lot.gtin)
-named_told first act acts (Ship o) e lines all x = taken first acts o lines all x
-named_told first act acts (Hold l) e lines none x = named_only x lines (is_among (l.gtin ∷ []) x) none ∙ or_false (same_text x l.gtin)
-named_told first act acts (Release l) e lines none x = named_only x lines (is_among (l.gtin ∷ []) x) none ∙ or_false (same_text x l.gtin)
-named_told first act acts (Recall l) e lines none x = named_only x lines (is_among (l.gtin ∷ []) x) none ∙ or_false (same_text x l.gtin)
-named_told first act acts (OpenDay day) e lines none x = absurd cc
+named_told first act acts (Item i) e f lines none x = named_only x lines (is_among (i.gtin ∷ []) x) none ∙ or_false (same_text x i.gtin)
+named_told first act acts (Bin b) e f lines none x = named_only x lines false none
+named_told first act acts (Receive r) e f lines none x = named_only x lines (is_among (r.lot.gtin ∷ []) x) none ∙ or_false (same_text x r.lot.gtin)
+named_told first act acts (Move m) e f lines none x = named_only x lines (is_among (m.lot.gtin ∷ []) x) none ∙ or_false (same_text x m.lot.gtin)
+named_told first act acts (Count c) e f lines none x = named_only x lines (is_among (c.lot.gtin ∷ []) x) none ∙ or_false (same_text x c.lot.gtin)
+named_told first act acts (Adjust a) e f lines none x = named_only x lines (is_among (a.lot.gtin ∷ []) x) none ∙ or_false (same_text x a.lot.gtin)
+named_told first act acts (Order o) e f lines none x = named_only x lines (is_among (with_names (λ l. l.gtin) o.lines []) x) none ∙ among_names (λ l. l.gtin) o.lines [] x
+named_told first act acts (Cancel o) e f lines all x = taken first acts o lines all x
+named_told first act acts (Pick p) e f lines none x = named_only x lines (is_among (p.lot.gtin ∷ []) x) none ∙ or_false (same_text x p.lot.gtin)
+named_told first act acts (Unpick p) e f lines none x = named_only x lines (is_among (p.lot.gtin ∷ []) x) none ∙ or_false (same_text x p.lot.gtin)
+named_told first act acts (Ship o) e f lines none x = absurd cc
+named_told first act acts (Hold l) e f lines none x = named_only x lines (is_among (l.gtin ∷ []) x) none ∙ or_false (same_text x l.gtin)
+named_told first act acts (Release l) e f lines none x = named_only x lines (is_among (l.gtin ∷ []) x) none ∙ or_false (same_text x l.gtin)
+named_told first act acts (Recall l) e f lines none x = named_only x lines (is_among (l.gtin ∷ []) x) none ∙ or_false (same_text x l.gtin)
+named_told first act acts (OpenDay day) e f lines none x = absurd cc
 
-taken_told : (first : ℤ) (act : Act) (acts : List Act) (command : Command) → day_opened command ≡ None → (gtins : List (List ℕ)) → AreTaken command (tables_of first acts) gtins → (x : List ℕ) → is_among gtins x ≡ touches first act acts command x
-taken_told first act acts command e gtins are x =
-    ap (λ l. is_among l x) are.items ∙ among_names (λ (r : LineRow). r.gtin) are.lines (items_named command) x ∙ named_told first act acts command e are.lines are.read x
+taken_told : (first : ℤ) (act : Act) (acts : List Act) (command : Command) → day_opened command ≡ None → order_shipped command ≡ None → (gtins : List (List ℕ)) → AreTaken command (tables_of first acts) gtins → (x : List ℕ) → is_among gtins x ≡ touches first act acts command x
+taken_told first act acts command e f gtins are x =
+    ap (λ l. is_among l x) are.items ∙ among_names (λ (r : LineRow). r.gtin) are.lines (items_named command) x ∙ named_told first act acts command e f are.lines are.read x
 
-items_told : (first : ℤ) (key : Key) (command : Command) (acts : List Act) → IsHistory first acts → (gtins : List (List ℕ)) → AreTouched command (tables_of first acts) gtins → (x : List ℕ) → is_among gtins x ≡ touches first (record { key = key; command = command }) acts command x
-items_told first key (OpenDay day) acts history gtins are x = affected_told first key day acts history gtins are x
-items_told first key command acts history gtins are x = taken_told first (record { key = key; command = command }) acts command refl gtins are x
+items_told : (first : ℤ) (key : Key) (command : Command) (acts : List Act) → order_shipped command ≡ None → IsHistory first acts → (gtins : List (List ℕ)) → AreTouched command (tables_of first acts) gtins → (x : List ℕ) → is_among gtins x ≡ touches first (record { key = key; command = command }) acts command x
+items_told first key (OpenDay day) acts f history gtins are x = affected_told first key day acts history gtins are x
+items_told first key command acts f history gtins are x = taken_told first (record { key = key; command = command }) acts command refl f gtins are x
 
 named_once : (command : Command) → no_two same_text (items_named command) ≡ true
 named_once (Order o) = once_names (λ l. l.gtin) o.lines [] refl
@@ -123,6 +126,35 @@ bin_once (Adjust a) = refl
 bin_once (Pick p) = refl
 bin_once (Unpick p) = refl
 bin_once _ = refl
+
+lot_told : (command : Command) (l : LotId) → has_key is_lot (lots_named command) l ≡ names_lot command l
+lot_told (Receive r) l = or_false (is_lot l r.lot)
+lot_told (Move m) l = or_false (is_lot l m.lot)
+lot_told (Count c) l = or_false (is_lot l c.lot)
+lot_told (Adjust a) l = or_false (is_lot l a.lot)
+lot_told (Pick p) l = or_false (is_lot l p.lot)
+lot_told (Unpick p) l = or_false (is_lot l p.lot)
+lot_told (Hold k) l = or_false (is_lot l k)
+lot_told (Release k) l = or_false (is_lot l k)
+lot_told (Recall k) l = or_false (is_lot l k)
+lot_told _ l = refl
+
+-- a command touches the item of the lot that it names
+lot_touched : (first : ℤ) (act : Act) (acts : List Act) (command : Command) (l : LotId) → names_lot command l ≡ true → touches first act acts command l.gtin ≡ true
+lot_touched first act acts (Receive r) l e = is_lot_item l r.lot e
+lot_touched first act acts (Move m) l e = is_lot_item l m.lot e
+lot_touched first act acts (Count c) l e = is_lot_item l c.lot e
+lot_touched first act acts (Adjust a) l e = is_lot_item l a.lot e
+lot_touched first act acts (Pick p) l e = is_lot_item l p.lot e
+lot_touched first act acts (Unpick p) l e = is_lot_item l p.lot e
+lot_touched first act acts (Hold k) l e = is_lot_item l k e
+lot_touched first act acts (Release k) l e = is_lot_item l k e
+lot_touched first act acts (Recall k) l e = is_lot_item l k e
+lot_touched first act acts _ l e = absurd (let none : false ≡ true = e in cc)
+
+ships : (command : Command) (o : List ℕ) → order_shipped command ≡ Some o → command ≡ Ship o
+ships (Ship p) o e = ap Ship (some_one p o e)
+ships _ o e = absurd cc
 
 -- Counts
 
@@ -189,10 +221,7 @@ module _ (first : ℤ) (acts : List Act) where
     abbrev act : Act
     act = record { key = key; command = command }
 
-    module _ (history : IsHistory first acts) (s : Slice) (slice : IsSliceIn known command (tables_of first acts) s) where
-      abbrev rows : AreSliced known command (tables_of first acts) s.rows
-      rows = slice.rows
-
+    module _ (unshipped : order_shipped command ≡ None) (history : IsHistory first acts) (s : Slice) (meta : (tables_of first acts).meta ≡ Some s.meta) (counted : AreCounts command (tables_of first acts) s.items s.bins) (rows : ArePlanned known command (tables_of first acts) s.rows) where
       abbrev t : Tables
       t = tables_of first acts
 
@@ -203,7 +232,7 @@ module _ (first : ℤ) (acts : List Act) where
       touched = touches first act acts command
 
       told : (x : List ℕ) → is_among gtins x ≡ touched x
-      told = items_told first key command acts history gtins rows.touched
+      told = items_told first key command acts unshipped history gtins rows.touched
 
       once : no_two same_text gtins ≡ true
       once = items_once command t gtins rows.touched
@@ -218,7 +247,7 @@ module _ (first : ℤ) (acts : List Act) where
       counted_items : counts_items command ≡ true → s.items ≡ length (items acts)
       unfolding tables_of
       counted_items e =
-          let count = slice.counted.items e in
+          let count = counted.items e in
           let read = rows_read {K = ItemKey} same_item item_key same_text_is same_text_refl (λ k. true) (tables_of first acts).item count.0 count.1 in
           sym count.2 ∙ as_many item_key (λ (i : NewItem). i.gtin) count.0 (items acts) read.once (items_apart first acts history)
           (λ k. ap is_some (read.found k refl) ∙ some_mapped _ (find (λ i. same_text k i.gtin) (items acts)))
@@ -226,40 +255,112 @@ module _ (first : ℤ) (acts : List Act) where
       counted_bins : counts_bins command ≡ true → s.bins ≡ length (bins acts)
       unfolding tables_of
       counted_bins e =
-          let count = slice.counted.bins e in
+          let count = counted.bins e in
           let read = rows_read {K = BinKey} same_bin bin_key same_text_is same_text_refl (λ k. true) (tables_of first acts).bin count.0 count.1 in
           sym count.2 ∙ as_many bin_key (λ (b : NewBin). b.bin) count.0 (bins acts) read.once (bins_apart first acts history)
           (λ k. ap is_some (read.found k refl) ∙ some_mapped _ (find (λ b. same_text k b.bin) (bins acts)))
 
-      pub slice_right : IsSlice first act acts (tables_of first acts) s
-      slice_right = record {
-        meta = slice.meta;
+      -- what a command asks for that does not need to be read
+      both : (a b : Bool) → a && b ≡ true → b ≡ true
+      both a b e = (and_both a b e).1
+
+      either : (n a b c : Bool) → n || ((a && b) && c) ≡ true → n || (b && c) ≡ true
+      either true a b c e = refl
+      either false true b c e = e
+      either false false b c e = absurd (let none : false ≡ true = e in cc)
+
+      -- the stock and what is staged
+      stock_rows : AreRows {K = StockKey} same_stock stock_key (λ k. touched k.0.gtin) (λ k. touched k.0.gtin) (λ k. t.stock k.0 k.1) s.rows.stock
+      stock_rows = sought {K = StockKey} same_stock stock_key same_cell_is same_cell_refl (λ k. k.0.gtin) (λ k. t.stock k.0 k.1) gtins touched s.rows.stock once told rows.units.goods.stock
+
+      staged_rows : AreRows {K = StagedKey} same_staged staged_key (λ k. touched k.1.gtin) (λ k. touched k.1.gtin) (λ k. t.staged k.0 k.1) s.rows.staged
+      staged_rows = sought {K = StagedKey} same_staged staged_key same_share_is same_share_refl (λ k. k.1.gtin) (λ k. t.staged k.0 k.1) gtins touched s.rows.staged once told rows.units.booked.staged
+
+      -- the lots
+      abbrev held : List LotId
+      held = held_lots command s.rows.stock s.rows.staged
+
+      abbrev named : List LotId
+      named = with_keys is_lot (λ l. l) (lots_named command) []
+
+      abbrev in_stock : List LotId
+      in_stock = with_keys {R = StockRow} is_lot (λ r. r.lot) s.rows.stock named
+
+      held_told : (l : LotId) → has_key is_lot held l ≡ (names_lot command l || in_bins s.rows l) || on_stages s.rows l
+      held_told l =
+          has_keys is_lot is_lot_is is_lot_turned (λ (r : StagedRow). r.lot) s.rows.staged in_stock l
+          ∙ ap (λ b. b || on_stages s.rows l)
+          (has_keys is_lot is_lot_is is_lot_turned (λ (r : StockRow). r.lot) s.rows.stock named l
+          ∙ ap (λ b. b || in_bins s.rows l) (has_keys is_lot is_lot_is is_lot_turned (λ (k : LotId). k) (lots_named command) [] l ∙ lot_told command l))
+
+      held_once : no_two is_lot held ≡ true
+      held_once =
+          once_keys is_lot is_lot_is is_lot_turned (λ (r : StagedRow). r.lot) s.rows.staged in_stock
+          (once_keys is_lot is_lot_is is_lot_turned (λ (r : StockRow). r.lot) s.rows.stock named (once_keys is_lot is_lot_is is_lot_turned (λ (k : LotId). k) (lots_named command) [] refl))
+
+      held_touched : (l : LotId) → has_key is_lot held l ≡ true → touched l.gtin ≡ true
+      held_touched l e = by (names_lot command l) (in_bins s.rows l) (on_stages s.rows l) refl refl refl (sym (held_told l) ∙ e)
+        where
+          of_lot : (m : LotId) → is_lot l m ≡ true → touched m.gtin ≡ true → touched l.gtin ≡ true
+          of_lot m is there = ap touched (same_text_is l.gtin m.gtin (is_lot_item l m is)) ∙ there
+
+          by : (n i o : Bool) → names_lot command l ≡ n → in_bins s.rows l ≡ i → on_stages s.rows l ≡ o → (n || i) || o ≡ true → touched l.gtin ≡ true
+          by true i o named bins stages _ = lot_touched first act acts command l named
+          by false true o named bins stages _ =
+              own_any {K = StockKey} stock_key (λ k. touched k.0.gtin) (λ k. t.stock k.0 k.1) (λ r. is_lot l r.lot) s.rows.stock (touched l.gtin ≡ true) stock_rows.own (λ r is there. of_lot r.lot is there) bins
+          by false false o named bins stages e =
+              own_any {K = StagedKey} staged_key (λ k. touched k.1.gtin) (λ k. t.staged k.0 k.1) (λ r. is_lot l r.lot) s.rows.staged (touched l.gtin ≡ true) staged_rows.own (λ r is there. of_lot r.lot is there) (stages ∙ e)
+
+      planned_right : IsSlice first act acts (tables_of first acts) s
+      planned_right = record {
+        meta = meta;
         items_counted = counted_items;
         bins_counted = counted_bins;
-        items = sought {K = ItemKey} same_item item_key same_text_is same_text_refl (λ k. k) t.item gtins touched s.rows.items once told rows.goods.items;
-        lots = sought {K = LotKey} same_lot lot_key is_lot_is is_lot_refl (λ k. k.gtin) t.lot gtins touched s.rows.lots once told rows.goods.lots;
-        recalls = sought {K = RecallKey} same_recall recall_key is_lot_is is_lot_refl (λ k. k.gtin) t.recall gtins touched s.rows.recalls once told rows.goods.recalls;
-        stock = sought {K = StockKey} same_stock stock_key same_cell_is same_cell_refl (λ k. k.0.gtin) (λ k. t.stock k.0 k.1) gtins touched s.rows.stock once told rows.goods.stock;
-        bins = sought {K = BinKey} same_bin bin_key same_text_is same_text_refl (λ k. k) t.bin (with_names (λ (r : StockRow). r.bin) s.rows.stock (bins_named command)) (λ b. names_bin command b || list_any (λ r. same_text b r.bin) s.rows.stock) s.rows.bins
+        items = rows_as {K = ItemKey} same_item item_key same_text_is same_text_refl touched touched (λ g. plans command && touched g) touched t.item s.rows.items (λ g e. both (plans command) (touched g) e) (λ g e. e)
+            (sought {K = ItemKey} same_item item_key same_text_is same_text_refl (λ k. k) t.item gtins touched s.rows.items once told rows.units.goods.items);
+        lots = rows_as {K = LotKey} same_lot lot_key is_lot_is is_lot_refl (has_key is_lot held) (has_key is_lot held)
+            (λ l. (plans command && touched l.gtin) && ((names_lot command l || in_bins s.rows l) || on_stages s.rows l)) (λ l. touched l.gtin) t.lot s.rows.lots
+            (λ l e. held_told l ∙ both (plans command && touched l.gtin) ((names_lot command l || in_bins s.rows l) || on_stages s.rows l) e) held_touched
+            (keys_read is_lot is_lot_is is_lot_turned {K = LotKey} same_lot lot_key is_lot_is is_lot_refl (λ k. k) t.lot held (has_key is_lot held) s.rows.lots held_once (λ l. refl) rows.units.lots);
+        recalls = rows_as {K = RecallKey} same_recall recall_key is_lot_is is_lot_refl (λ k. touched k.gtin) (λ k. touched k.gtin) (λ k. plans command && touched k.gtin) (λ k. touched k.gtin) t.recall s.rows.recalls (λ k e. both (plans command) (touched k.gtin) e) (λ k e. e)
+            (sought {K = RecallKey} same_recall recall_key is_lot_is is_lot_refl (λ k. k.gtin) t.recall gtins touched s.rows.recalls once told rows.units.goods.recalls);
+        stock = rows_as {K = StockKey} same_stock stock_key same_cell_is same_cell_refl (λ k. touched k.0.gtin) (λ k. touched k.0.gtin) (λ k. touched k.0.gtin && (plans command || on_named_stage command s.rows k.0)) (λ k. touched k.0.gtin) (λ k. t.stock k.0 k.1) s.rows.stock
+            (λ k e. (and_both (touched k.0.gtin) (plans command || on_named_stage command s.rows k.0) e).0) (λ k e. e) stock_rows;
+        bins = rows_as {K = BinKey} same_bin bin_key same_text_is same_text_refl (λ b. names_bin command b || list_any (λ r. same_text b r.bin) s.rows.stock) (λ b. names_bin command b || list_any (λ r. same_text b r.bin) s.rows.stock)
+            (λ b. plans command && (names_bin command b || list_any (λ r. same_text b r.bin) s.rows.stock)) (λ b. names_bin command b || list_any (λ r. same_text b r.bin) s.rows.stock) t.bin s.rows.bins
+            (λ b e. both (plans command) (names_bin command b || list_any (λ r. same_text b r.bin) s.rows.stock) e) (λ b e. e)
+            (sought {K = BinKey} same_bin bin_key same_text_is same_text_refl (λ k. k) t.bin (with_names (λ (r : StockRow). r.bin) s.rows.stock (bins_named command)) (λ b. names_bin command b || list_any (λ r. same_text b r.bin) s.rows.stock) s.rows.bins
             (once_names (λ (r : StockRow). r.bin) s.rows.stock (bins_named command) (bin_once command))
-            (λ b. among_names (λ (r : StockRow). r.bin) s.rows.stock (bins_named command) b ∙ ap (λ c. c || list_any (λ r. same_text b r.bin) s.rows.stock) (bin_told command b)) rows.bins;
+            (λ b. among_names (λ (r : StockRow). r.bin) s.rows.stock (bins_named command) b ∙ ap (λ c. c || list_any (λ r. same_text b r.bin) s.rows.stock) (bin_told command b)) rows.bins);
         orders = rows_as {K = OrderKey} same_order order_key same_text_is same_text_refl
             (λ o. is_among (orders_named command) o || (is_open_in t o && has_line_of gtins t o)) (λ o. is_among (orders_named command) o || has_line_of gtins t o)
-            (λ o. names_order command o || (is_open first acts o && has_touched_line first act acts o)) (λ o. names_order command o || has_touched_line first act acts o) t.order s.rows.orders
-            (λ o e. needs (is_among (orders_named command) o) (names_order command o) (is_open first acts o) (is_open_in t o) (has_touched_line first act acts o) (has_line_of gtins t o) (order_told command o) (open_told o) (touched_line o) e)
+            (λ o. names_order command o || ((plans command && is_open first acts o) && has_touched_line first act acts o)) (λ o. names_order command o || has_touched_line first act acts o) t.order s.rows.orders
+            (λ o e. needs (is_among (orders_named command) o) (names_order command o) (is_open first acts o) (is_open_in t o) (has_touched_line first act acts o) (has_line_of gtins t o) (order_told command o) (open_told o) (touched_line o)
+            (either (names_order command o) (plans command) (is_open first acts o) (has_touched_line first act acts o) e))
             (λ o e. ap (λ b. b || has_touched_line first act acts o) (sym (order_told command o)) ∙ ap (λ b. is_among (orders_named command) o || b) (sym (touched_line o)) ∙ e)
             (orders_told known (orders_named command) gtins t covers keyed (order_once command) once s.rows.orders s.rows.lines rows.ordered);
         lines = rows_as {K = LineKey} same_line line_key same_line_is same_line_refl
             (λ k. is_among (orders_named command) k.0 || (is_open_in t k.0 && is_among gtins k.1)) (λ k. is_among (orders_named command) k.0 || is_among gtins k.1)
-            (λ k. names_order command k.0 || (is_open first acts k.0 && touched k.1)) (λ k. names_order command k.0 || touched k.1) (λ k. t.line k.0 k.1) s.rows.lines
-            (λ k e. needs (is_among (orders_named command) k.0) (names_order command k.0) (is_open first acts k.0) (is_open_in t k.0) (touched k.1) (is_among gtins k.1) (order_told command k.0) (open_told k.0) (told k.1) e)
+            (λ k. names_order command k.0 || ((plans command && is_open first acts k.0) && touched k.1)) (λ k. names_order command k.0 || touched k.1) (λ k. t.line k.0 k.1) s.rows.lines
+            (λ k e. needs (is_among (orders_named command) k.0) (names_order command k.0) (is_open first acts k.0) (is_open_in t k.0) (touched k.1) (is_among gtins k.1) (order_told command k.0) (open_told k.0) (told k.1)
+            (either (names_order command k.0) (plans command) (is_open first acts k.0) (touched k.1) e))
             (λ k e. ap (λ b. b || touched k.1) (sym (order_told command k.0)) ∙ ap (λ b. is_among (orders_named command) k.0 || b) (sym (told k.1)) ∙ e)
             (lines_told known (orders_named command) gtins t covers keyed (order_once command) once s.rows.orders s.rows.lines rows.ordered);
-        staged = sought {K = StagedKey} same_staged staged_key same_share_is same_share_refl (λ k. k.1.gtin) (λ k. t.staged k.0 k.1) gtins touched s.rows.staged once told rows.booked.staged;
-        reserved = sought {K = ReservedKey} same_reserved reserved_key same_share_is same_share_refl (λ k. k.1.gtin) (λ k. t.reserved k.0 k.1) gtins touched s.rows.reserved once told rows.booked.reserved;
+        staged = staged_rows;
+        reserved = rows_as {K = ReservedKey} same_reserved reserved_key same_share_is same_share_refl (λ k. touched k.1.gtin) (λ k. touched k.1.gtin) (λ k. plans command && touched k.1.gtin) (λ k. touched k.1.gtin) (λ k. t.reserved k.0 k.1) s.rows.reserved
+            (λ k e. both (plans command) (touched k.1.gtin) e) (λ k e. e)
+            (sought {K = ReservedKey} same_reserved reserved_key same_share_is same_share_refl (λ k. k.1.gtin) (λ k. t.reserved k.0 k.1) gtins touched s.rows.reserved once told rows.units.booked.reserved);
       }
         where
           needs : (a n p q h g : Bool) → a ≡ n → (p ≡ true → q ≡ true) → g ≡ h → n || (p && h) ≡ true → a || (q && g) ≡ true
           needs a true p q h g e f same w = ap (λ b. b || (q && g)) e
           needs a false true q h g e f same w = ap (λ b. b || (q && g)) e ∙ ap (λ b. b && g) (f refl) ∙ same ∙ w
           needs a false false q h g e f same w = absurd (let none : false ≡ true = w in cc)
+
+    -- by what the command ships
+    pub slice_right : IsHistory first acts → (s : Slice) → IsSliceIn known command (tables_of first acts) s → IsSlice first act acts (tables_of first acts) s
+    slice_right history s slice = by (order_shipped command) refl slice.rows
+      where
+        by : (x : Option (List ℕ)) → order_shipped command ≡ x → AreSlicedOn x known command (tables_of first acts) s.rows → IsSlice first act acts (tables_of first acts) s
+        by None e are = planned_right e history s slice.meta slice.counted are
+        by (Some o) e are = subst (λ (c : Command). IsSlice first (record { key = key; command = c }) acts (tables_of first acts) s) (sym (ships command o e)) (shipment_right first acts key o s slice.meta are)

@@ -21,7 +21,8 @@ use Rattle.row_rules.specs.declared.slice.Rows.{Rows}
 use Rattle.row_rules.specs.declared.slice.Put.{Put}
 use Rattle.row_rules.specs.declared.slice.Slice.{Slice}
 use Rattle.slices.specs.Reading.{IsCount}
-pub use Rattle.slice_parts.specs.Parts.{is_among, with_name, with_names, items_named, orders_named, bins_named, whole_orders, day_opened, others, other_names, has_line_in, with_lines, is_ending, not_recalled, items_of_lots, with_staged}
+use Rattle.slices.specs.ByLot.{AreLotsOf, AreStockOf}
+pub use Rattle.slice_parts.specs.Parts.{is_among, with_name, with_names, items_named, lots_named, orders_named, bins_named, whole_orders, day_opened, order_shipped, held_lots, lots_on_stage, others, other_names, has_line_in, with_lines, is_ending, not_recalled, items_of_lots, with_staged}
 
 -- Reads one after another
 
@@ -51,16 +52,21 @@ abbrev pub listed : {R : Type 0} → Option R → List R
 listed None = []
 listed (Some r) = r ∷ []
 
--- the rows of the items: each item's in turn
-pub record AreGoods (gtins : List (List ℕ)) (t : Tables) (item_rows : List ItemRow) (lot_rows : List LotRow) (recall_rows : List RecallRow) (stock_rows : List StockRow) : Type 0 where
+-- of the items their own rows, their recalls and their stock: each item's in turn
+pub record AreGoods (gtins : List (List ℕ)) (t : Tables) (item_rows : List ItemRow) (recall_rows : List RecallRow) (stock_rows : List StockRow) : Type 0 where
   pub items : Each (λ g found. AreRows {K = ItemKey} same_item item_key (λ k. same_text g k) t.item found) (texts gtins) item_rows
-  pub lots : Each (λ g found. AreRows {K = LotKey} same_lot lot_key (λ k. same_text g k.gtin) t.lot found) (texts gtins) lot_rows
   pub recalls : Each (λ g found. AreRows {K = RecallKey} same_recall recall_key (λ k. same_text g k.gtin) t.recall found) (texts gtins) recall_rows
   pub stock : Each (λ g found. AreRows {K = StockKey} same_stock stock_key (λ k. same_text g k.0.gtin) (λ k. t.stock k.0 k.1) found) (texts gtins) stock_rows
 
 pub record AreBooked (gtins : List (List ℕ)) (t : Tables) (staged_rows : List StagedRow) (reserved_rows : List ReservedRow) : Type 0 where
   pub staged : Each (λ g found. AreRows {K = StagedKey} same_staged staged_key (λ k. same_text g k.1.gtin) (λ k. t.staged k.0 k.1) found) (texts gtins) staged_rows
   pub reserved : Each (λ g found. AreRows {K = ReservedKey} same_reserved reserved_key (λ k. same_text g k.1.gtin) (λ k. t.reserved k.0 k.1) found) (texts gtins) reserved_rows
+
+-- those of the items, and the rows of the lots that the command names or that have units
+pub record AreUnits (command : Command) (gtins : List (List ℕ)) (t : Tables) (item_rows : List ItemRow) (lot_rows : List LotRow) (recall_rows : List RecallRow) (stock_rows : List StockRow) (staged_rows : List StagedRow) (reserved_rows : List ReservedRow) : Type 0 where
+  pub goods : AreGoods gtins t item_rows recall_rows stock_rows
+  pub booked : AreBooked gtins t staged_rows reserved_rows
+  pub lots : AreLotsOf (held_lots command stock_rows staged_rows) t lot_rows
 
 -- the rows of the bins, one bin after another
 abbrev pub AreBins : List (List ℕ) → Tables → List BinRow → Type 0
@@ -199,14 +205,33 @@ AreTouchedOn (Some day) command t gtins = AreAffected day t gtins
 abbrev pub AreTouched : Command → Tables → List (List ℕ) → Type 0
 AreTouched command = AreTouchedOn (day_opened command) command
 
--- the rows that the command asks for
-pub record AreSliced (known : Entries) (command : Command) (t : Tables) (rows : Rows) : Type 0 where
+-- the rows that a command asks for that is no shipment
+pub record ArePlanned (known : Entries) (command : Command) (t : Tables) (rows : Rows) : Type 0 where
   pub gtins : List (List ℕ)
   pub touched : AreTouched command t gtins
-  pub goods : AreGoods gtins t rows.items rows.lots rows.recalls rows.stock
+  pub units : AreUnits command gtins t rows.items rows.lots rows.recalls rows.stock rows.staged rows.reserved
   pub bins : AreBins (with_names (λ r. r.bin) rows.stock (bins_named command)) t rows.bins
   pub ordered : AreKnownOrders known (orders_named command) gtins t rows.orders rows.lines
-  pub booked : AreBooked gtins t rows.staged rows.reserved
+
+-- those that the shipment of an order asks for: the order with its lines, what is staged of their items, and the stock
+-- of the lots that are staged for the order
+pub record AreShipped (order : List ℕ) (t : Tables) (rows : Rows) : Type 0 where
+  pub named : AreNamed (order ∷ []) t rows.orders rows.lines
+  pub staged : Each (λ g found. AreRows {K = StagedKey} same_staged staged_key (λ k. same_text g k.1.gtin) (λ k. t.staged k.0 k.1) found) (texts (with_names (λ r. r.gtin) rows.lines [])) rows.staged
+  pub stock : AreStockOf (lots_on_stage order rows.staged) t rows.stock
+  pub no_items : rows.items ≡ []
+  pub no_bins : rows.bins ≡ []
+  pub no_lots : rows.lots ≡ []
+  pub no_recalls : rows.recalls ≡ []
+  pub no_reserved : rows.reserved ≡ []
+
+-- the rows that the command asks for, by the order that it ships
+abbrev pub AreSlicedOn : Option (List ℕ) → Entries → Command → Tables → Rows → Type 0
+AreSlicedOn None known command t rows = ArePlanned known command t rows
+AreSlicedOn (Some order) known command t rows = AreShipped order t rows
+
+abbrev pub AreSliced : Entries → Command → Tables → Rows → Type 0
+AreSliced known command = AreSlicedOn (order_shipped command) known command
 
 -- the slice of a command, as it is read
 pub record IsSliceIn (known : Entries) (command : Command) (t : Tables) (s : Slice) : Type 0 where

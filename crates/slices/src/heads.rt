@@ -11,6 +11,7 @@ ghost use Rattle.slices.specs.Books.{IsBooksOf};
 ghost use Rattle.slices.specs.Reading.{IsRead};
 ghost use Rattle.slices.specs.Heads.{IsHead};
 
+use crate::by_lot::OfLot;
 use crate::sought::Sought;
 use commands::{ItemRow, LotRow, RecallRow};
 use row_rules::looking::{find_item, find_lot, find_recall};
@@ -37,7 +38,7 @@ fn head_in<S: Alter>(
     ensures read { IsRead (λ t head. IsHead lot.now t head) (state S.Store tx.old.conn.now) (state S.Store tx.new.conn.now) result }
 {
     let items = ItemRow::seek::<S>(alloc, tx, &lot.gtin)?;
-    let lots = LotRow::seek::<S>(alloc, tx, &lot.gtin)?;
+    let lots = LotRow::of_lot::<S>(alloc, tx, lot)?;
     let recalls = RecallRow::seek::<S>(alloc, tx, &lot.gtin)?;
     let item = find_item(items.as_slice(), &lot.gtin);
     let row = find_lot(lots.as_slice(), lot);

@@ -2,6 +2,8 @@
 //! which something is shown, and what is shown of them.
 #![tactic(auto)]
 
+mod by_lot;
+mod by_order;
 mod heads;
 mod known_lines;
 mod known_orders;
@@ -9,6 +11,7 @@ mod opening;
 mod order_slices;
 mod query;
 mod reading;
+mod shipments;
 mod shipped;
 mod shown_orders;
 mod shown_shorts;

@@ -14,11 +14,14 @@ ghost use Rattle.slices.specs.Books.{IsBooksOf};
 ghost use Rattle.table_words.specs.Typed.{tables_in};
 ghost use Rattle.open_lines.specs.OpenLines.{Loses, has_closed_row, has_line_row};
 ghost use Rattle.slices.specs.Reading.{IsRead};
-ghost use Rattle.slices.specs.Slicing.{AreGoods, AreBooked, AreBins, AreCounts, AreTaken, AreTouched, AreSliced, Covers, IsSliceIn, bins_named, with_names};
+ghost use Rattle.slices.specs.ByLot.{AreLotsOf};
+ghost use Rattle.slices.specs.Slicing.{AreGoods, AreBooked, AreUnits, AreBins, AreCounts, AreTaken, AreTouched, ArePlanned, AreSliced, Covers, IsSliceIn, bins_named, with_names, held_lots};
 
+use crate::by_lot::of_lots;
 use crate::known_orders::read_known_orders;
 use crate::opening::affected_items;
 use crate::reading::{count_bins, count_items, meta_row};
+use crate::shipments::read_shipment;
 use crate::sought::{seek_all, seek_both};
 use commands::{
     BinRow, Command, ItemRow, LineRow, Listed, LotRow, MetaRow, OrderRow, RecallRow, ReservedRow,
@@ -26,7 +29,8 @@ use commands::{
 };
 use open_lines::OpenLines;
 use rules::{Rows, Slice};
-use slice_parts::naming::{bins_with, items_with, named_orders, whole_orders};
+use slice_parts::lots_held::lots_held;
+use slice_parts::naming::{bins_with, items_with, named_orders, order_shipped, whole_orders};
 use slice_parts::opening::day_opened;
 use sqlite::{Alter, Transaction};
 use std::alloc::Global;
@@ -62,18 +66,18 @@ fn touched_items<S: Alter>(
     }
 }
 
-/// The rows of the items.
-pub fn read_goods<S: Alter>(
+/// Of the items their own rows, their recalls and their stock.
+fn read_goods<S: Alter>(
     alloc: Global,
     tx: &mut Transaction<'_, S>,
     gtins: &[Gtin],
-) -> Result<(Vec<ItemRow>, Vec<LotRow>, Vec<RecallRow>, Vec<StockRow>), TableFault>
+) -> Result<(Vec<ItemRow>, Vec<RecallRow>, Vec<StockRow>), TableFault>
     ensures same_reference { tx.new.conn.ghost_name ≡ tx.old.conn.ghost_name }
-    ensures read { IsRead (λ t rows. AreGoods gtins.now t rows.0.items rows.1.items rows.2.items rows.3.items) (state S.Store tx.old.conn.now) (state S.Store tx.new.conn.now) result }
+    ensures read { IsRead (λ t rows. AreGoods gtins.now t rows.0.items rows.1.items rows.2.items) (state S.Store tx.old.conn.now) (state S.Store tx.new.conn.now) result }
 {
-    let (items, lots) = seek_both::<Gtin, ItemRow, LotRow, S>(alloc, tx, gtins)?;
+    let items = seek_all::<ItemRow, S>(alloc, tx, gtins)?;
     let (recalls, stock) = seek_both::<Gtin, RecallRow, StockRow, S>(alloc, tx, gtins)?;
-    Ok((items, lots, recalls, stock))
+    Ok((items, recalls, stock))
 }
 
 /// What is staged and what is reserved of the items.
@@ -88,8 +92,46 @@ pub fn read_booked<S: Alter>(
     seek_both::<Gtin, StagedRow, ReservedRow, S>(alloc, tx, gtins)
 }
 
+/// The lots that the command names or that have units.
+fn read_lots<S: Alter>(
+    alloc: Global,
+    tx: &mut Transaction<'_, S>,
+    command: &Command,
+    stock: &[StockRow],
+    staged: &[StagedRow],
+) -> Result<Vec<LotRow>, TableFault>
+    ensures same_reference { tx.new.conn.ghost_name ≡ tx.old.conn.ghost_name }
+    ensures read { IsRead (λ t rows. AreLotsOf (held_lots command.now stock.now staged.now) t rows.items) (state S.Store tx.old.conn.now) (state S.Store tx.new.conn.now) result }
+{
+    let lots = lots_held(alloc, command, stock, staged)?;
+    of_lots::<LotRow, S>(alloc, tx, lots.as_slice())
+}
+
+/// The rows of the items, those of the lots that the command names or that have units, and what is staged and what is
+/// reserved of the items.
+fn read_units<S: Alter>(
+    alloc: Global,
+    tx: &mut Transaction<'_, S>,
+    command: &Command,
+    gtins: &[Gtin],
+) -> Result<
+    (
+        (Vec<ItemRow>, Vec<LotRow>, Vec<RecallRow>, Vec<StockRow>),
+        (Vec<StagedRow>, Vec<ReservedRow>),
+    ),
+    TableFault,
+>
+    ensures same_reference { tx.new.conn.ghost_name ≡ tx.old.conn.ghost_name }
+    ensures read { IsRead (λ t rows. AreUnits command.now gtins.now t rows.0.0.items rows.0.1.items rows.0.2.items rows.0.3.items rows.1.0.items rows.1.1.items) (state S.Store tx.old.conn.now) (state S.Store tx.new.conn.now) result }
+{
+    let (items, recalls, stock) = read_goods(alloc, tx, gtins)?;
+    let booked = read_booked(alloc, tx, gtins)?;
+    let lots = read_lots(alloc, tx, command, stock.as_slice(), booked.0.as_slice())?;
+    Ok(((items, lots, recalls, stock), booked))
+}
+
 /// The rows that were read, together.
-pub fn rows_read(
+fn rows_read(
     goods: (Vec<ItemRow>, Vec<LotRow>, Vec<RecallRow>, Vec<StockRow>),
     bins: Vec<BinRow>,
     ordered: (Vec<OrderRow>, Vec<LineRow>),
@@ -157,6 +199,24 @@ fn read_counts<S: Alter>(
     }
 }
 
+/// The rows that a command asks for that is no shipment.
+fn read_planned<S: Alter>(
+    alloc: Global,
+    tx: &mut Transaction<'_, S>,
+    known: &OpenLines,
+    command: &Command,
+) -> Result<Rows, TableFault>
+    ensures same_reference { tx.new.conn.ghost_name ≡ tx.old.conn.ghost_name }
+    ensures read { IsRead (λ t rows. ArePlanned known.now command.now t rows) (state S.Store tx.old.conn.now) (state S.Store tx.new.conn.now) result }
+{
+    let gtins = touched_items(alloc, tx, command)?;
+    let named = named_orders(alloc, command)?;
+    let (goods, booked) = read_units(alloc, tx, command, gtins.as_slice())?;
+    let bins = read_bins(alloc, tx, command, goods.3.as_slice())?;
+    let ordered = read_known_orders(alloc, tx, known, named.as_slice(), gtins.as_slice())?;
+    Ok(rows_read(goods, bins, ordered, booked))
+}
+
 /// The rows of the slice.
 fn read_rows<S: Alter>(
     alloc: Global,
@@ -167,13 +227,10 @@ fn read_rows<S: Alter>(
     ensures same_reference { tx.new.conn.ghost_name ≡ tx.old.conn.ghost_name }
     ensures read { IsRead (λ t rows. AreSliced known.now command.now t rows) (state S.Store tx.old.conn.now) (state S.Store tx.new.conn.now) result }
 {
-    let gtins = touched_items(alloc, tx, command)?;
-    let named = named_orders(alloc, command)?;
-    let goods = read_goods(alloc, tx, gtins.as_slice())?;
-    let bins = read_bins(alloc, tx, command, goods.3.as_slice())?;
-    let ordered = read_known_orders(alloc, tx, known, named.as_slice(), gtins.as_slice())?;
-    let booked = read_booked(alloc, tx, gtins.as_slice())?;
-    Ok(rows_read(goods, bins, ordered, booked))
+    match order_shipped(command) {
+        Some(order) => read_shipment(alloc, tx, &order),
+        None => read_planned(alloc, tx, known, command),
+    }
 }
 
 /// The counts and the rows of the slice, beside the row of `meta`.

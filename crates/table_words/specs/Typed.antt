@@ -174,6 +174,10 @@ lot_cells s = Text s.lot.gtin ∷ Text s.lot.lot ∷ Int s.expiry ∷ Int (pos s
 abbrev pub lots_of_rows : List ℕ → Trees → List Row
 lots_of_rows gtin trees = filter (λ r. is_the_text gtin (column r 1)) (trees lots_tree)
 
+-- the stored rows of this lot
+abbrev pub lot_of_rows : LotId → Trees → List Row
+lot_of_rows lot trees = filter (λ r. is_the_text lot.gtin (column r 1) && is_the_text lot.lot (column r 2)) (trees lots_tree)
+
 -- the stored rows of the whole table
 abbrev pub all_lots_rows : Trees → List Row
 all_lots_rows trees = filter (λ r. true) (trees lots_tree)
@@ -245,6 +249,10 @@ stock_cells s = Text s.lot.gtin ∷ Text s.lot.lot ∷ Text s.bin ∷ Int (pos s
 -- the stored rows of this gtin
 abbrev pub stock_of_rows : List ℕ → Trees → List Row
 stock_of_rows gtin trees = filter (λ r. is_the_text gtin (column r 1)) (trees stock_tree)
+
+-- the stored rows of this lot
+abbrev pub stock_of_lot_rows : LotId → Trees → List Row
+stock_of_lot_rows lot trees = filter (λ r. is_the_text lot.gtin (column r 1) && is_the_text lot.lot (column r 2)) (trees stock_tree)
 
 -- ---- orders
 
@@ -359,6 +367,10 @@ staged_cells s = Text s.order ∷ Text s.lot.gtin ∷ Text s.lot.lot ∷ Int (po
 abbrev pub staged_of_item_rows : List ℕ → Trees → List Row
 staged_of_item_rows gtin trees = filter (λ r. is_the_text gtin (column r 2)) (trees staged_tree)
 
+-- the stored rows of this order
+abbrev pub staged_of_order_rows : List ℕ → Trees → List Row
+staged_of_order_rows order trees = filter (λ r. is_the_text order (column r 1)) (trees staged_tree)
+
 -- the stored rows of the whole table
 abbrev pub all_staged_rows : Trees → List Row
 all_staged_rows trees = filter (λ r. true) (trees staged_tree)
@@ -396,6 +408,10 @@ reserved_cells s = Text s.order ∷ Text s.lot.gtin ∷ Text s.lot.lot ∷ Int (
 -- the stored rows of this gtin
 abbrev pub reserved_of_item_rows : List ℕ → Trees → List Row
 reserved_of_item_rows gtin trees = filter (λ r. is_the_text gtin (column r 2)) (trees reserved_tree)
+
+-- the stored rows of this order
+abbrev pub reserved_of_order_rows : List ℕ → Trees → List Row
+reserved_of_order_rows order trees = filter (λ r. is_the_text order (column r 1)) (trees reserved_tree)
 
 -- ---- shipments
 

@@ -1,5 +1,6 @@
 pub mod Walks
 pub mod Sorting
+pub mod Lists
 pub mod Ranks
 pub mod Members
 pub mod LotsShown

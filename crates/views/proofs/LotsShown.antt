@@ -17,7 +17,8 @@ use Rattle.machine.proofs.histories.Lots.{same_known, lots_apart, lots_found, re
 use Rattle.rules.proofs.rows.Ordering.{AreRising, rising_inserted, rising_ordered, ordered_kept}
 use Rattle.rules.proofs.rows.Telling.{some_of_mapped, once_apart}
 use Rattle.views.specs.Seen.{lots_seen}
-use Rattle.views.proofs.Sorting.{IsIn, in_map, of_map, in_filter, of_filter, found_in, in_ordered, of_ordered, in_inserted, of_inserted, same_rising, rising_map}
+use Rattle.views.proofs.Sorting.{IsIn, in_map, of_map, in_filter, of_filter, found_in, in_ordered, of_ordered, in_inserted, of_inserted, same_rising, rising_kept, rising_map}
+use Rattle.views.proofs.Lists.{filter_all}
 use Rattle.views.proofs.Ranks.{IsEither, rank_strict, rank_further, rank_either, are_ordered}
 use Rattle.views.proofs.Members.{member_found, all_have, own_row}
 
@@ -72,27 +73,42 @@ module _ (acts : List Act) where
         (ordered_kept goes_first (λ (k : LotRow). of_item g k.lot) rows
         (are_ordered goes_first (λ (r s : LotRow). is_lot r.lot s.lot) IsOwn row_either rows (all_have IsOwn rows own_lot) are.once))
 
-    module _ (g : List ℕ) (wanted : (l : LotId) → of_item g l ≡ true → needed l ≡ true) where
-      from_lots : (r : LotRow) → IsIn r (map shown_lot (lots_in_order acts g)) → IsIn r (lots_seen g rows)
-      from_lots r h =
-          let a = of_map shown_lot r (lots_in_order acts g) h in
-          let b = of_filter (λ (k : KnownLot). of_item g k.lot) a.0 (lots acts) (of_ordered goes_before a.0 (lots_of acts g) a.1) in
-          let c : find (λ (s : LotRow). is_lot a.0.lot s.lot) rows ≡ Some (shown_lot a.0) = are.found a.0.lot (wanted a.0.lot b.1) ∙ ap (option_map shown_lot) (known_lot a.0 b.0) in
-          let d = found_in (λ (s : LotRow). is_lot a.0.lot s.lot) (shown_lot a.0) rows c in
-          subst (λ (x : LotRow). IsIn x (lots_seen g rows)) (sym a.2)
-          (in_inserted goes_first (shown_lot a.0) (filter (λ (k : LotRow). of_item g k.lot) rows) (in_filter (λ (k : LotRow). of_item g k.lot) (shown_lot a.0) rows d.0 b.1))
+    -- of the lots of an item those that pass a test, and that are needed where they do
+    module _ (g : List ℕ) (keep : LotId → Bool) (wanted : (l : LotId) → of_item g l ≡ true → keep l ≡ true → needed l ≡ true) where
+      abbrev kept_lots : List KnownLot
+      kept_lots = filter (λ (k : KnownLot). keep k.lot) (lots_in_order acts g)
 
-      from_rows : (r : LotRow) → IsIn r (lots_seen g rows) → IsIn r (map shown_lot (lots_in_order acts g))
+      abbrev kept_rows : List LotRow
+      kept_rows = filter (λ (r : LotRow). keep r.lot) (lots_seen g rows)
+
+      from_lots : (r : LotRow) → IsIn r (map shown_lot kept_lots) → IsIn r kept_rows
+      from_lots r h =
+          let a = of_map shown_lot r kept_lots h in
+          let k = of_filter (λ (k : KnownLot). keep k.lot) a.0 (lots_in_order acts g) a.1 in
+          let b = of_filter (λ (k : KnownLot). of_item g k.lot) a.0 (lots acts) (of_ordered goes_before a.0 (lots_of acts g) k.0) in
+          let c : find (λ (s : LotRow). is_lot a.0.lot s.lot) rows ≡ Some (shown_lot a.0) = are.found a.0.lot (wanted a.0.lot b.1 k.1) ∙ ap (option_map shown_lot) (known_lot a.0 b.0) in
+          let d = found_in (λ (s : LotRow). is_lot a.0.lot s.lot) (shown_lot a.0) rows c in
+          let e : IsIn (shown_lot a.0) (lots_seen g rows) = in_inserted goes_first (shown_lot a.0) (filter (λ (k : LotRow). of_item g k.lot) rows) (in_filter (λ (k : LotRow). of_item g k.lot) (shown_lot a.0) rows d.0 b.1) in
+          subst (λ (x : LotRow). IsIn x kept_rows) (sym a.2) (in_filter (λ (r : LotRow). keep r.lot) (shown_lot a.0) (lots_seen g rows) e k.1)
+
+      from_rows : (r : LotRow) → IsIn r kept_rows → IsIn r (map shown_lot kept_lots)
       from_rows r h =
-          let a = of_filter (λ (k : LotRow). of_item g k.lot) r rows (of_inserted goes_first r (filter (λ (k : LotRow). of_item g k.lot) rows) h) in
+          let k = of_filter (λ (r : LotRow). keep r.lot) r (lots_seen g rows) h in
+          let a = of_filter (λ (k : LotRow). of_item g k.lot) r rows (of_inserted goes_first r (filter (λ (k : LotRow). of_item g k.lot) rows) k.0) in
           let x = some_of_mapped shown_lot (lot_known acts r.lot) r (own_lot r a.0) in
           let b = found_in (λ (k : KnownLot). is_lot r.lot k.lot) x.0 (lots acts) x.1 in
           let own : of_item g x.0.lot ≡ true = ap (λ (z : LotRow). of_item g z.lot) x.2 ∙ a.1 in
-          subst (λ (z : LotRow). IsIn z (map shown_lot (lots_in_order acts g))) x.2
-          (in_map shown_lot x.0 (lots_in_order acts g) (in_ordered goes_before x.0 (lots_of acts g) (in_filter (λ (k : KnownLot). of_item g k.lot) x.0 (lots acts) b.0 own)))
+          let kept : keep x.0.lot ≡ true = ap (λ (z : LotRow). keep z.lot) x.2 ∙ k.1 in
+          let there : IsIn x.0 (lots_in_order acts g) = in_ordered goes_before x.0 (lots_of acts g) (in_filter (λ (k : KnownLot). of_item g k.lot) x.0 (lots acts) b.0 own) in
+          subst (λ (z : LotRow). IsIn z (map shown_lot kept_lots)) x.2 (in_map shown_lot x.0 kept_lots (in_filter (λ (k : KnownLot). keep k.lot) x.0 (lots_in_order acts g) there kept))
 
-      -- the lots of an item
-      pub lots_shown : map shown_lot (lots_in_order acts g) ≡ lots_seen g rows
-      lots_shown =
-          same_rising goes_first (λ x. rank_strict x.expiry x.came) (λ x y z e f. rank_further x.expiry x.came y.expiry y.came z.expiry z.came e f) (map shown_lot (lots_in_order acts g)) (lots_seen g rows)
-          (rising_map goes_before goes_first shown_lot (λ x y e. e) (lots_in_order acts g) (lots_rise g)) (rows_rise g) from_lots from_rows
+      pub kept_lots_shown : map shown_lot kept_lots ≡ kept_rows
+      kept_lots_shown =
+          same_rising goes_first (λ x. rank_strict x.expiry x.came) (λ x y z e f. rank_further x.expiry x.came y.expiry y.came z.expiry z.came e f) (map shown_lot kept_lots) kept_rows
+          (rising_map goes_before goes_first shown_lot (λ x y e. e) kept_lots (rising_kept goes_before (λ (k : KnownLot). keep k.lot) (lots_in_order acts g) (lots_rise g)))
+          (rising_kept goes_first (λ (r : LotRow). keep r.lot) (lots_seen g rows) (rows_rise g)) from_lots from_rows
+
+    -- all lots of an item, where all are needed
+    pub lots_shown : (g : List ℕ) → ((l : LotId) → of_item g l ≡ true → needed l ≡ true) → map shown_lot (lots_in_order acts g) ≡ lots_seen g rows
+    lots_shown g wanted =
+        ap (map shown_lot) (sym (filter_all (lots_in_order acts g))) ∙ kept_lots_shown g (λ l. true) (λ l e f. wanted l e) ∙ filter_all (lots_seen g rows)

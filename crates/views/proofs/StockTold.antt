@@ -28,7 +28,7 @@ use Rattle.views.specs.SeenStock.{reserved_on, staged_on, lot_seen, stock_seen}
 use Rattle.views.specs.ShownStock.{AreStocked}
 use Rattle.views.proofs.Sorting.{IsIn, of_filter, of_ordered}
 use Rattle.views.proofs.LotsShown.{shown_lot, lots_shown}
-use Rattle.views.proofs.OrderShown.{map_same, map_twice}
+use Rattle.views.proofs.Lists.{map_same, map_twice}
 use Rattle.views.proofs.AllBinsShown.{all_bins_shown}
 use Rattle.views.proofs.LotTotals.{reserved_on_shown, staged_on_shown, reserved_within, staged_within}
 

@@ -21,9 +21,9 @@ use rules::Rows;
 use std::alloc::{AllocError, Global};
 use values::Name;
 
-/// What is shown of an order whose row this is. The rows are those of its lines, of the lots of
-/// their items with their stock, and of what is staged and reserved of these; others may be among
-/// them. It fails for want of memory alone.
+/// What is shown of an order whose row this is. The rows are those of its lines, of what is staged
+/// and what is reserved for it, of the lots of that, and of the stock of the lots that are reserved
+/// for it, with the bins of that stock; others may be among them. It fails for want of memory alone.
 pub fn order_view(alloc: Global, rows: &Rows, order: &OrderRow) -> Result<OrderView, AllocError>
     ensures seen { IfOk result (λ view. view ≡ order_seen rows.now order.now) }
     ensures shown { (first : ℤ) (acts : List Act) (p : Placed) → IsHistory first acts → order_named acts order.now.order ≡ Some p → order_row first acts order.now.order ≡ Some order.now → AreShown p (tables_of first acts) rows.now → IfOk result (λ view. view ≡ order_view_lem first acts p) }

@@ -114,23 +114,9 @@ rising_of : (ds : List Demand) → AreRising is_earlier ds → RisingDemands ds
 rising_of [] h = tt
 rising_of (d ∷ ds) h = (after_of d ds h.0, rising_of ds h.1)
 
-module _ (first : ℤ) (acts : List Act) (history : IsHistory first acts) (g : List ℕ) (order_rows : List OrderRow) (line_rows : List LineRow) (staged_rows : List StagedRow)
-    (tells : TellsDemands first acts g order_rows line_rows staged_rows) where
-  abbrev ips : List Posting
-  ips = item_postings first acts g
-
-  abbrev show : Placed → OrderRow
-  show p = record { order = p.order; act = p.act; customer = p.customer; state = order_state first acts p.order }
-
-  abbrev wanted_of : ℕ → Option Placed → ℕ
-  wanted_of n None = 0
-  wanted_of n (Some p) = wants acts ips n (lines_of_item g p)
-
-  -- what the order wants of the item under the number
-  abbrev order_wants : ℕ → List ℕ → ℕ
-  order_wants n o = wanted_of n (order_named acts o)
-
-  -- staged units
+-- The staged rows of an item tell what is staged of it for an order
+module _ (first : ℤ) (acts : List Act) (history : IsHistory first acts) (g : List ℕ) (staged_rows : List StagedRow)
+    (staged_are : AreRows same_share (λ (r : StagedRow). (r.order, r.lot)) (λ k. of_item g k.1) (λ k. true) (λ k. staged_row first acts k.0 k.1) staged_rows) where
   abbrev pick : List ℕ → LotId → List ℕ → Bool
   pick o l q = same_text o q && of_item g l
 
@@ -148,15 +134,31 @@ module _ (first : ℤ) (acts : List Act) (history : IsHistory first acts) (g : L
   in_the_house o (InBin b) l e = let f : false ≡ true = e in cc
   in_the_house o (Shipped n q) l e = e
 
-  pub staged_same : (o : List ℕ) → capped (staged_seen g o staged_rows) ≡ staged ips o g
+  pub staged_same : (o : List ℕ) → capped (staged_seen g o staged_rows) ≡ staged (item_postings first acts g) o g
   staged_same o =
       let legal = legal_history first acts history in
       let cells : Cells = λ p l. is_stage o p && of_item g l in
-      let all : staged ips o g ≡ holds cells (postings first acts) = balance-of_item (is_stage o) g (of_item g) (λ l e. e) (postings first acts) in
+      let all : staged (item_postings first acts g) o g ≡ holds cells (postings first acts) = balance-of_item (is_stage o) g (of_item g) (λ l e. e) (postings first acts) in
       let told : holds cells (postings first acts) ≡ staged_seen g o staged_rows =
-      (λ i. holds (λ p l. cells_same o p l i) (postings first acts)) ∙ staged_holds first acts legal (pick o) (λ k. of_item g k.1) (λ k. true) staged_rows tells.staged (λ l q e. (and_both (same_text o q) (of_item g l) e).1) in
+      (λ i. holds (λ p l. cells_same o p l i) (postings first acts)) ∙ staged_holds first acts legal (pick o) (λ k. of_item g k.1) (λ k. true) staged_rows staged_are (λ l q e. (and_both (same_text o q) (of_item g l) e).1) in
       let house = holds_split (postings first acts) legal cells (λ p l. in_house p && of_item g l) (record { supplier = λ m. refl; write_off = λ m. refl }) (record { supplier = λ m. refl; write_off = λ m. refl }) (in_the_house o) in
       omega (arith, all, told, house, units_within_limit first acts history g)
+
+module _ (first : ℤ) (acts : List Act) (history : IsHistory first acts) (g : List ℕ) (order_rows : List OrderRow) (line_rows : List LineRow) (staged_rows : List StagedRow)
+    (tells : TellsDemands first acts g order_rows line_rows staged_rows) where
+  abbrev ips : List Posting
+  ips = item_postings first acts g
+
+  abbrev show : Placed → OrderRow
+  show p = record { order = p.order; act = p.act; customer = p.customer; state = order_state first acts p.order }
+
+  abbrev wanted_of : ℕ → Option Placed → ℕ
+  wanted_of n None = 0
+  wanted_of n (Some p) = wants acts ips n (lines_of_item g p)
+
+  -- what the order wants of the item under the number
+  abbrev order_wants : ℕ → List ℕ → ℕ
+  order_wants n o = wanted_of n (order_named acts o)
 
   pub line_told : (p : Placed) → order_named acts p.order ≡ Some p → is_open first acts p.order ≡ true
       → find (λ l. same_text p.order l.order && same_text g l.gtin) line_rows ≡ option_map (λ l. record { order = p.order; gtin = g; ordered = l.qty; shipped = shipped_of first acts p.order g }) (find (λ l. same_text g l.gtin) p.lines)
@@ -173,7 +175,7 @@ module _ (first : ℤ) (acts : List Act) (history : IsHistory first acts) (g : L
       let uncancelled : is_cancelled acts p.order ≡ false = open_is_uncancelled (is_cancelled acts p.order) (is_shipped_in_full first acts p.order) e in
       let one : need acts ips (booking_of p l) ≡ l.qty - staged ips p.order l.gtin - shipped ips p.order l.gtin = ap (λ b. if b then 0 else l.qty - staged ips p.order l.gtin - shipped ips p.order l.gtin) uncancelled in
       let same : l.qty - capped (staged_seen g p.order staged_rows) - shipped_of first acts p.order g ≡ need acts ips (booking_of p l) =
-      ap (λ n. l.qty - n - shipped_of first acts p.order g) (staged_same p.order) ∙ (λ i. l.qty - staged ips p.order (own i) - shipped ips p.order (own i)) ∙ sym one in
+      ap (λ n. l.qty - n - shipped_of first acts p.order g) (staged_same first acts history g staged_rows tells.staged p.order) ∙ (λ i. l.qty - staged ips p.order (own i) - shipped ips p.order (own i)) ∙ sym one in
       let end : (if n == p.act then need acts ips (booking_of p l) else 0) ≡ wants acts ips n (map (booking_of p) (listed (Some l))) = omega arith in
       ap (λ q. if n == p.act then q else 0) same ∙ end
 

@@ -1,9 +1,10 @@
 -- Look-ups among rows that are kept by a test, or made of others.
 use Rattle.std.proofs.Common.{◌≡◌, Bool, true, false, ◌&&◌, not, List, [], ◌∷◌, refl, ap, sym, ◌∙◌}
-use Rattle.std.specs.Prelude.{if◌then◌else◌, Option, Some, find, filter, ◌||◌, None, map, option_map}
+use Rattle.std.specs.Prelude.{if◌then◌else◌, Option, Some, find, filter, ◌||◌, None, map, option_map, is_some}
 use Rattle.std.specs.List.{list_any}
 use Rattle.machine.specs.KeyedRows.{AreOwn, no_two}
 use Rattle.machine.proofs.Tests.{and_both, not_true}
+use Rattle.machine.proofs.Apart.{any_found}
 
 -- what is found passes the test
 pub found_passes : {X : Type 0} (test : X → Bool) (xs : List X) (x : X) → find test xs ≡ Some x → test x ≡ true
@@ -22,6 +23,15 @@ found_own {R = R} key allowed row test (q ∷ qs) h r e =
       | true ↦ λ f. let own : q ≡ r = cc in (λ i. row (key (sym own i))) ∙ h.1 ∙ ap (λ (x : R). Some x) own
       | false ↦ λ f. found_own key allowed row test qs h.2 r f
     ] e
+
+-- a key that stands among the rows is found as the table has it
+pub there_found : {K R : Type 0} (same : K → K → Bool) (same_is : (a b : K) → same a b ≡ true → a ≡ b) (key : R → K) (allowed : K → Bool) (row : K → Option R) (rows : List R) → AreOwn key allowed row rows
+    → (k : K) → list_any (λ r. same k (key r)) rows ≡ true → find (λ r. same k (key r)) rows ≡ row k
+there_found {R = R} same same_is key allowed row rows own k there = by_found (find (λ r. same k (key r)) rows) refl
+  where
+    by_found : (x : Option R) → find (λ r. same k (key r)) rows ≡ x → find (λ r. same k (key r)) rows ≡ row k
+    by_found None e = let f : false ≡ true = ap is_some (sym e) ∙ any_found (λ r. same k (key r)) rows ∙ there in cc
+    by_found (Some r) e = e ∙ sym (ap row (same_is k (key r) (found_passes (λ r. same k (key r)) rows r e)) ∙ found_own key allowed row (λ r. same k (key r)) rows own r e)
 
 -- Tests
 

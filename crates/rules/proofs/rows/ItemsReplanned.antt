@@ -1,4 +1,4 @@
--- An act that touches several items: rows that tell the demands and supplies of each after the act tell which reserved rows differ.
+-- An act that plans and touches several items: rows that tell the demands and supplies of each after the act tell which reserved rows differ.
 use Rattle.std.proofs.Common.{◌≡◌, ℕ, true, false, ◌&&◌, List, [], ◌∷◌, refl, ap, sym, ◌∙◌}
 use Rattle.std.specs.Prelude.{◌||◌, ℤ, None, find, flat_map}
 use Rattle.std.specs.List.{list_any}
@@ -20,7 +20,7 @@ use Rattle.machine.specs.Once.{IsHistory}
 use Rattle.machine.specs.Tables.{tables_of}
 use Rattle.machine.specs.Touched.{is_touched}
 use Rattle.machine.specs.KeyedRows.{no_two}
-use Rattle.rules.specs.Slices.{IsSlice}
+use Rattle.rules.specs.Slices.{IsSlice, plans}
 use Rattle.row_rules.specs.Plans.{is_share_of, named_rows, shares_over}
 use Rattle.row_rules.specs.Replanning.{item_put, item_dropped}
 use Rattle.row_rules.specs.declared.slice.Slice.{Slice}
@@ -34,7 +34,7 @@ use Rattle.rules.proofs.rows.SuppliesTold.{TellsSupplies}
 use Rattle.rules.proofs.rows.PlanTold.{rows_tell_plan}
 use Rattle.rules.proofs.rows.SharesTold.{shares_told, shares_once, shares_elsewhere}
 
-module _ {X : Type 0} (item : X → List ℕ) (first : ℤ) (acts : List Act) (act : Act) (s : Slice) (slice : IsSlice first act acts (tables_of first acts) s) (next : IsHistory first (act ∷ acts))
+module _ {X : Type 0} (item : X → List ℕ) (first : ℤ) (acts : List Act) (act : Act) (s : Slice) (slice : IsSlice first act acts (tables_of first acts) s) (planned : plans act.command ≡ true) (next : IsHistory first (act ∷ acts))
     (all : List X) (apart : no_two (λ x y. same_text (item x) (item y)) all ≡ true) (touched_are : (g : List ℕ) → list_any (λ x. same_text g (item x)) all ≡ is_touched first act acts g)
     (day : ℤ) (day_is : day ≡ today first (act ∷ acts))
     (orders : List OrderRow) (lines : List LineRow) (staged : List StagedRow) (lots : List LotRow) (recalls : List RecallRow) (bins : List BinRow) (stock : List StockRow)
@@ -68,24 +68,24 @@ module _ {X : Type 0} (item : X → List ℕ) (first : ℤ) (acts : List Act) (a
         ∙ ap (named_rows orders lots) (rows_tell_plan first after next g orders lines staged lots recalls stock bins (demands g touched) (supplies g touched))
 
     news_once : no_two is_share_of (shares g) ≡ true
-    news_once = ap (no_two is_share_of) shares_are ∙ shares_once first after next g orders lots (demands g touched).orders.own (supplies g touched).lots
+    news_once = ap (no_two is_share_of) shares_are ∙ shares_once first after next g orders lots recalls stock bins (demands g touched).orders.own (supplies g touched)
 
     found_after : (q : List ℕ) (l : LotId) → of_item g l ≡ true → find (λ (r : ReservedRow). same_text q r.order && is_lot l r.lot) (shares g) ≡ share_row q l (reserved first after q l)
     found_after q l own =
         ap (find (λ (r : ReservedRow). same_text q r.order && is_lot l r.lot)) shares_are
-        ∙ shares_told first after next g orders lots (demands g touched).orders.own (supplies g touched).lots q l own ((demands g touched).orders.found q)
+        ∙ shares_told first after next g orders lots recalls stock bins (demands g touched).orders.own (supplies g touched) q l own ((demands g touched).orders.found q)
 
     none_after : (q : List ℕ) (l : LotId) → of_item g l ≡ false → find (λ (r : ReservedRow). same_text q r.order && is_lot l r.lot) (shares g) ≡ None
     none_after q l other =
         ap (find (λ (r : ReservedRow). same_text q r.order && is_lot l r.lot)) shares_are
-        ∙ shares_elsewhere first after next g orders lots (demands g touched).orders.own (supplies g touched).lots q l other
+        ∙ shares_elsewhere first after next g orders lots recalls stock bins (demands g touched).orders.own (supplies g touched) q l other
 
     all_put_of : AllOf g (puts_of g)
     all_put_of = kept_of g _ (shares g) (all_of g (shares g) none_after)
 
     found_before : (q : List ℕ) (l : LotId) → of_item g l ≡ true → find (λ (r : ReservedRow). same_text q r.order && is_lot l r.lot) s.rows.reserved ≡ share_row q l (reserved first acts q l)
     unfolding tables_of
-    found_before q l own = slice.reserved.found (q, l) (ap (λ (x : List ℕ). is_touched first act acts x) (sym (same_text_is g l.gtin own)) ∙ touched)
+    found_before q l own = slice.reserved.found (q, l) (λ i. planned i && (ap (λ (x : List ℕ). is_touched first act acts x) (sym (same_text_is g l.gtin own)) ∙ touched) i)
 
     own_named : (q : List ℕ) (l : LotId) → of_item g l ≡ true → IsNamed q l (reserved first acts q l) (reserved first after q l) (puts_of g) (drops_of g)
     own_named q l own = named_of_item q l g (reserved first acts q l) (reserved first after q l) s.rows.reserved (shares g) own (found_before q l own) (found_after q l own) olds_once news_once

@@ -1,4 +1,4 @@
--- What the slice of any command tells of the state of a lot that it touches, and of the kind of a bin that it names.
+-- What the slice of any command that plans tells of the state of a lot that it names, and of the kind of a bin that it names.
 use Rattle.std.proofs.Common.{◌≡◌, true, List, refl, ap, sym, ◌∙◌, ℕ}
 use Rattle.std.specs.Prelude.{ℤ, Option, Some, None, option_map}
 use Rattle.values.specs.declared.lot.LotId.{LotId}
@@ -8,8 +8,7 @@ use Rattle.machine.specs.Postings.{is_lot}
 use Rattle.machine.specs.Standing.{KnownLot, lots, lot_known, is_held, bin_named, is_store_row, is_store_bin}
 use Rattle.machine.specs.Once.{IsHistory}
 use Rattle.machine.specs.Tables.{tables_of}
-use Rattle.machine.specs.Touched.{is_touched}
-use Rattle.rules.specs.Slices.{IsSlice, names_bin}
+use Rattle.rules.specs.Slices.{IsSlice, plans, names_bin, names_lot}
 use Rattle.row_rules.specs.Seen.{lot_seen}
 use Rattle.row_rules.specs.Status.{is_past_row}
 use Rattle.row_rules.specs.Plans.{is_store_found}
@@ -22,13 +21,13 @@ use Rattle.machine.proofs.histories.Lots.{not_held}
 use Rattle.rules.proofs.rows.Telling.{found_key}
 use Rattle.rules.proofs.rows.SliceTells.{found_lot, found_bin}
 
-module _ (first : ℤ) (acts : List Act) (act : Act) (s : Slice) (slice : IsSlice first act acts (tables_of first acts) s) where
+module _ (first : ℤ) (acts : List Act) (act : Act) (s : Slice) (slice : IsSlice first act acts (tables_of first acts) s) (planned : plans act.command ≡ true) where
   past_same : (k : Option KnownLot) (day : ℤ) → is_past_row (option_map (λ k. record { lot = k.lot; expiry = k.expiry; came = k.came; held = is_held acts k.lot }) k) day ≡ is_past k day
   past_same None day = refl
   past_same (Some k) day = refl
 
-  pub past_told : (l : LotId) (day : ℤ) → is_touched first act acts l.gtin ≡ true → is_past_row (lot_seen s l) day ≡ is_past (lot_known acts l) day
-  past_told l day t = ap (λ k. is_past_row k day) (found_lot first acts act s slice l t) ∙ past_same (lot_known acts l) day
+  pub past_told : (l : LotId) (day : ℤ) → names_lot act.command l ≡ true → is_past_row (lot_seen s l) day ≡ is_past (lot_known acts l) day
+  past_told l day named = ap (λ k. is_past_row k day) (found_lot first acts act s slice planned l named) ∙ past_same (lot_known acts l) day
 
   -- a lot that is not known is not held
   held_same : IsHistory first acts → (l : LotId) (k : Option KnownLot) → lot_known acts l ≡ k
@@ -36,12 +35,12 @@ module _ (first : ℤ) (acts : List Act) (act : Act) (s : Slice) (slice : IsSlic
   held_same history l None e = sym (not_held first acts history l e)
   held_same history l (Some k) e = ap (is_held acts) (sym (found_key is_lot is_lot_is is_lot_turned (λ (k : KnownLot). k.lot) l (lots acts) k e))
 
-  pub held_told : IsHistory first acts → (l : LotId) → is_touched first act acts l.gtin ≡ true → sees_hold s l ≡ is_held acts l
-  held_told history l t = ap is_held_row (found_lot first acts act s slice l t) ∙ held_same history l (lot_known acts l) refl
+  pub held_told : IsHistory first acts → (l : LotId) → names_lot act.command l ≡ true → sees_hold s l ≡ is_held acts l
+  held_told history l named = ap is_held_row (found_lot first acts act s slice planned l named) ∙ held_same history l (lot_known acts l) refl
 
   store_same : (x : Option NewBin) → is_store_found (option_map (λ x. record { name = x.bin; kind = x.kind }) x) ≡ is_store_row x
   store_same None = refl
   store_same (Some x) = refl
 
   pub store_told : (b : List ℕ) → names_bin act.command b ≡ true → sees_store s b ≡ is_store_bin acts b
-  store_told b t = ap is_store_found (found_bin first acts act s slice b t) ∙ store_same (bin_named acts b)
+  store_told b t = ap is_store_found (found_bin first acts act s slice planned b t) ∙ store_same (bin_named acts b)

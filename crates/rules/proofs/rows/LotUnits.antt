@@ -1,4 +1,4 @@
--- The stock rows and staged rows of an item tell the units of each of its lots in the house.
+-- The stock rows and staged rows of a lot tell its units in the house.
 use Rattle.std.proofs.Common.{◌≡◌, ℕ, ◌≤◌, Bool, true, false, ◌&&◌, List, refl, ap, sym, ◌∙◌, arith}
 use Rattle.std.specs.Prelude.{ℤ}
 use Rattle.values.specs.Values.{same_text}
@@ -73,12 +73,12 @@ module _ (first : ℤ) (acts : List Act) (history : IsHistory first acts) (g : L
   module _ (stock_rows : List StockRow) (staged_rows : List StagedRow) (needed_stock allowed_stock : LotBin → Bool) (needed_staged allowed_staged : OrderLot → Bool)
       (stock_are : AreRows same_cell (λ (r : StockRow). (r.lot, r.bin)) needed_stock allowed_stock (λ k. stock_row first acts k.0 k.1) stock_rows)
       (staged_are : AreRows same_share (λ (r : StagedRow). (r.order, r.lot)) needed_staged allowed_staged (λ k. staged_row first acts k.0 k.1) staged_rows)
-      (stock_needed : (m : LotId) (b : List ℕ) → of_item g m ≡ true → needed_stock (m, b) ≡ true)
-      (staged_needed : (m : LotId) (o : List ℕ) → of_item g m ≡ true → needed_staged (o, m) ≡ true) where
+      (stock_needed : (m : LotId) (b : List ℕ) → is_lot l m ≡ true → needed_stock (m, b) ≡ true)
+      (staged_needed : (m : LotId) (o : List ℕ) → is_lot l m ≡ true → needed_staged (o, m) ≡ true) where
     pub lot_units_told : lot_units l stock_rows staged_rows ≡ lot_units_in_house first acts l
     lot_units_told =
         let legal = legal_history first acts history in
         let split = holds_split ps legal (bin_cells (λ m b. is_lot l m)) house (record { supplier = λ m. refl; write_off = λ m. refl }) (record { supplier = λ m. refl; write_off = λ m. refl }) bins_inside in
-        let in_bins = stock_holds first acts legal (λ m b. is_lot l m) needed_stock allowed_stock stock_rows stock_are (λ m b e. stock_needed m b (of_same_item g l m own e)) in
-        let on_stages = (λ j. holds (λ p m. stages_left p m j) ps) ∙ staged_holds first acts legal (λ m o. is_lot l m) needed_staged allowed_staged staged_rows staged_are (λ m o e. staged_needed m o (of_same_item g l m own e)) in
+        let in_bins = stock_holds first acts legal (λ m b. is_lot l m) needed_stock allowed_stock stock_rows stock_are stock_needed in
+        let on_stages = (λ j. holds (λ p m. stages_left p m j) ps) ∙ staged_holds first acts legal (λ m o. is_lot l m) needed_staged allowed_staged staged_rows staged_are staged_needed in
         omega (arith, split, in_bins, on_stages, lot_within_limit)

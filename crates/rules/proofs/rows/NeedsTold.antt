@@ -53,7 +53,7 @@ module _ (first : ℤ) (acts : List Act) (history : IsHistory first acts) (g : L
   served_bound o = omega (arith, served_within_ordered first acts history o g, served_is first acts (legal_history first acts history) o g, balance-of_item (is_stage o) g (of_item g) (λ l e. e) (postings first acts))
 
   stage_told : (o : List ℕ) → staged_seen g o staged_rows ≡ on_stage o
-  stage_told o = omega (arith, staged_same first acts history g order_rows line_rows staged_rows tells o, served_bound o, ordered_within_limit first acts history o g)
+  stage_told o = omega (arith, staged_same first acts history g staged_rows tells.staged o, served_bound o, ordered_within_limit first acts history o g)
 
   -- Staged rows are of open orders
 

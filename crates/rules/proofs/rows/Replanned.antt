@@ -1,4 +1,4 @@
--- An act that touches one item: rows that tell its demands and supplies after the act tell which reserved rows differ.
+-- An act that plans and touches one item: rows that tell its demands and supplies after the act tell which reserved rows differ.
 use Rattle.std.proofs.Common.{◌≡◌, ℕ, true, false, ◌&&◌, List, ◌∷◌, refl, ap, subst, ◌∙◌}
 use Rattle.std.specs.Prelude.{ℤ, find}
 use Rattle.values.specs.Values.{same_text}
@@ -18,7 +18,7 @@ use Rattle.machine.specs.Once.{IsHistory}
 use Rattle.machine.specs.Tables.{tables_of, reserved_row}
 use Rattle.machine.specs.Touched.{is_touched}
 use Rattle.machine.specs.KeyedRows.{AreRows, OrderLot, same_share, no_two}
-use Rattle.rules.specs.Slices.{IsSlice}
+use Rattle.rules.specs.Slices.{IsSlice, plans}
 use Rattle.row_rules.specs.Plans.{named_rows, shares_over, rows_to_put, rows_to_drop, is_share_of}
 use Rattle.row_rules.specs.declared.slice.Slice.{Slice}
 use Rattle.machine.proofs.Tests.{same_text_refl, same_text_is}
@@ -30,7 +30,7 @@ use Rattle.rules.proofs.rows.SuppliesTold.{TellsSupplies}
 use Rattle.rules.proofs.rows.PlanTold.{rows_tell_plan}
 use Rattle.rules.proofs.rows.SharesTold.{shares_told, shares_once, shares_elsewhere}
 
-module _ (first : ℤ) (acts : List Act) (act : Act) (s : Slice) (slice : IsSlice first act acts (tables_of first acts) s) (next : IsHistory first (act ∷ acts)) (g : List ℕ) where
+module _ (first : ℤ) (acts : List Act) (act : Act) (s : Slice) (slice : IsSlice first act acts (tables_of first acts) s) (planned : plans act.command ≡ true) (next : IsHistory first (act ∷ acts)) (g : List ℕ) where
   -- the act touches this item and no other
   pub record TouchesOnly : Type 0 where
     pub own : is_touched first act acts g ≡ true
@@ -50,25 +50,25 @@ module _ (first : ℤ) (acts : List Act) (act : Act) (s : Slice) (slice : IsSlic
         (λ i. shares_over g (day_is i) orders lines staged lots recalls bins stock)
         ∙ ap (named_rows orders lots) (rows_tell_plan first after next g orders lines staged lots recalls stock bins demands supplies)
 
-    reserved_are : AreRows same_share (λ (x : ReservedRow). (x.order, x.lot)) (λ (k : OrderLot). is_touched first act acts k.1.gtin) (λ (k : OrderLot). is_touched first act acts k.1.gtin) (λ k. reserved_row first acts k.0 k.1) s.rows.reserved
+    reserved_are : AreRows same_share (λ (x : ReservedRow). (x.order, x.lot)) (λ (k : OrderLot). plans act.command && is_touched first act acts k.1.gtin) (λ (k : OrderLot). is_touched first act acts k.1.gtin) (λ k. reserved_row first acts k.0 k.1) s.rows.reserved
     unfolding tables_of
     reserved_are = slice.reserved
 
     once : no_two is_share_of shares ≡ true
-    once = ap (no_two is_share_of) shares_are ∙ shares_once first after next g orders lots demands.orders.own supplies.lots
+    once = ap (no_two is_share_of) shares_are ∙ shares_once first after next g orders lots recalls stock bins demands.orders.own supplies
 
     -- the rows put and dropped are those that differ
     pub replanned : AreNamed first act acts (rows_to_put s.rows.reserved shares) (rows_to_drop g s.rows.reserved shares)
     replanned o l = elim (of_item g l) as (λ b. of_item g l ≡ b → IsNamed o l (reserved first acts o l) (reserved first after o l) (rows_to_put s.rows.reserved shares) (rows_to_drop g s.rows.reserved shares)) [
       | true ↦ λ e.
           named_of_item o l g (reserved first acts o l) (reserved first after o l) s.rows.reserved shares e
-          (reserved_are.found (o, l) (subst (λ (h : List ℕ). is_touched first act acts h ≡ true) (same_text_is g l.gtin e) only.own))
-          (ap (find (λ (x : ReservedRow). same_text o x.order && is_lot l x.lot)) shares_are ∙ shares_told first after next g orders lots demands.orders.own supplies.lots o l e (demands.orders.found o))
+          (reserved_are.found (o, l) (λ i. planned i && subst (λ (h : List ℕ). is_touched first act acts h ≡ true) (same_text_is g l.gtin e) only.own i))
+          (ap (find (λ (x : ReservedRow). same_text o x.order && is_lot l x.lot)) shares_are ∙ shares_told first after next g orders lots recalls stock bins demands.orders.own supplies o l e (demands.orders.found o))
           reserved_are.once once
       | false ↦ λ e.
           named_elsewhere o l g (reserved first acts o l) (reserved first after o l) s.rows.reserved shares e
           ((other_items_are_left_alone first act acts l.gtin next (only.others l.gtin e)).reserved o l (same_text_refl l.gtin))
-          (ap (find (λ (x : ReservedRow). same_text o x.order && is_lot l x.lot)) shares_are ∙ shares_elsewhere first after next g orders lots demands.orders.own supplies.lots o l e)
+          (ap (find (λ (x : ReservedRow). same_text o x.order && is_lot l x.lot)) shares_are ∙ shares_elsewhere first after next g orders lots recalls stock bins demands.orders.own supplies o l e)
     ] refl
 
     -- no row is put twice

@@ -24,11 +24,11 @@ use Rattle.machine.specs.Once.{IsHistory}
 use Rattle.machine.specs.Tables.{tables_of, if_any, bin_row, lot_row, recall_row, stock_row, order_row, line_row, staged_row}
 use Rattle.machine.specs.Touched.{is_touched}
 use Rattle.machine.specs.KeyedRows.{AreRows, LotBin, OrderLot, no_two, same_cell, same_line, same_share}
-use Rattle.rules.specs.Slices.{IsSlice, changed}
+use Rattle.rules.specs.Slices.{IsSlice, changed, plans, names_lot, in_bins, on_stages}
 use Rattle.row_rules.specs.SeenLots.{stock_put, stock_gone}
 use Rattle.lot_rules.specs.DecidedHold.{staged_of_seen, staged_kept, staged_returned, units_in_returns, returned_put, stock_with_returned, returns_bin_row, bins_with_returns, returned_reply}
 use Rattle.row_rules.specs.declared.slice.Slice.{Slice}
-use Rattle.machine.proofs.Tests.{and_both, is_zero, same_text_refl, same_text_is, is_lot_is, is_lot_item}
+use Rattle.machine.proofs.Tests.{and_both, or_first, or_later, is_zero, same_text_refl, same_text_is, is_lot_is, is_lot_item}
 use Rattle.machine.proofs.histories.Cells.{holds}
 use Rattle.machine.proofs.histories.LegalHistories.{legal_history}
 use Rattle.machine.proofs.histories.ReturnsBin.{returns_named}
@@ -39,10 +39,11 @@ use Rattle.rules.proofs.rows.LotTold.{found_stock, in_bin_told}
 use Rattle.rules.proofs.rows.LotUnits.{bin_within_limit}
 use Rattle.machine.proofs.histories.PlaceRows.{staged_holds}
 use Rattle.rules.proofs.rows.SameKeys.{same_share_is}
-use Rattle.rules.proofs.rows.SliceDemands.{slice_tells_demands}
-use Rattle.rules.proofs.rows.SliceSupplies.{slice_tells_supplies}
-use Rattle.rules.proofs.rows.StockChanged.{with_units, stock_rows_are, bins_with, cell_changed, stock_row_with}
-use Rattle.rules.proofs.rows.SuppliesTold.{TellsSupplies}
+use Rattle.rules.proofs.rows.SliceDemands.{slice_tells_stages, slice_tells_demands}
+use Rattle.rules.proofs.rows.SliceSupplies.{slice_tells_supplies, is_wanted}
+use Rattle.rules.proofs.rows.SliceTells.{names_touched}
+use Rattle.rules.proofs.rows.StockChanged.{with_units, stock_rows_are, bins_with, lots_with, cell_changed, stock_row_with}
+use Rattle.rules.proofs.rows.SuppliesTold.{TellsSupplies, in_stock}
 use Rattle.machine.proofs.histories.UnshippableLots.{MakesUnshippable, stages_of, unstaged, staged_still, in_bin_still, in_returns, all_returned, open_still, line_still, order_row_still, line_row_still}
 use Rattle.rules.proofs.decided.Decisions.{number_same}
 
@@ -63,7 +64,7 @@ returned_once s l = elim (staged_of_seen s l == 0) as (λ t. no_two (λ (a b : S
   | false ↦ elim (units_in_returns s l == 0) as (λ t. no_two (λ (a b : StockRow). is_lot a.lot b.lot && same_text a.bin b.bin) (if t then [] else record { lot = l; bin = RETURNS; qty = units_in_returns s l } ∷ []) ≡ true) [ true ↦ refl | false ↦ refl ]
 ]
 
-module _ (first : ℤ) (acts : List Act) (act : Act) (l : LotId) (s : Slice) (slice : IsSlice first act acts (tables_of first acts) s) (touched : is_touched first act acts l.gtin ≡ true)
+module _ (first : ℤ) (acts : List Act) (act : Act) (l : LotId) (s : Slice) (slice : IsSlice first act acts (tables_of first acts) s) (planned : plans act.command ≡ true) (named : names_lot act.command l ≡ true)
     (makes : MakesUnshippable first acts act l) (next : IsHistory first (act ∷ acts)) where
   abbrev after : List Act
   after = act ∷ acts
@@ -71,11 +72,14 @@ module _ (first : ℤ) (acts : List Act) (act : Act) (l : LotId) (s : Slice) (sl
   abbrev g : List ℕ
   g = l.gtin
 
+  touched : is_touched first act acts l.gtin ≡ true
+  touched = names_touched first act acts act.command l named
+
   staged_are : AreRows same_share (λ (r : StagedRow). (r.order, r.lot)) (λ (k : OrderLot). of_item g k.1) (λ (k : OrderLot). true) (λ k. staged_row first acts k.0 k.1) s.rows.staged
-  staged_are = (slice_tells_demands first acts act s slice g touched).staged
+  staged_are = slice_tells_stages first acts act s slice g touched
 
   stock_are : AreRows same_cell (λ (r : StockRow). (r.lot, r.bin)) (λ (k : LotBin). of_item g k.0) (λ (k : LotBin). true) (λ k. stock_row first acts k.0 k.1) s.rows.stock
-  stock_are = (slice_tells_supplies first acts act s slice g touched).stock
+  stock_are = (slice_tells_supplies first acts act s slice planned g touched).stock
 
   -- Units
 
@@ -89,7 +93,7 @@ module _ (first : ℤ) (acts : List Act) (act : Act) (l : LotId) (s : Slice) (sl
 
   in_returns_is : units_in_returns s l ≡ in_bin first after RETURNS l
   in_returns_is =
-      omega (arith, staged_seen_is, all_returned first acts act l makes next, in_bin_told first acts act s slice RETURNS l touched, in_returns first acts act l makes next, bin_within_limit first after next g l (same_text_refl g) RETURNS)
+      omega (arith, staged_seen_is, all_returned first acts act l makes next, in_bin_told first acts act s slice planned RETURNS l touched, in_returns first acts act l makes next, bin_within_limit first after next g l (same_text_refl g) RETURNS)
 
   -- Stock
 
@@ -115,7 +119,7 @@ module _ (first : ℤ) (acts : List Act) (act : Act) (l : LotId) (s : Slice) (sl
         | true ↦ λ e. ap (λ n. if_any n (record { lot = m; bin = b; qty = n })) (sym (nothing_came e m b))
         | false ↦ λ e.
             ap (λ xs. changed (λ (r : StockRow). is_lot m r.lot && same_text b r.bin) (stock_put l RETURNS q) xs (stock_row first acts m b)) (sym (ap (λ t. if t then cons_found else []) (some e)))
-            ∙ cell_changed l RETURNS q (λ k. stock_row first acts k.0 k.1) (in_bin first acts RETURNS l) s.rows.stock (found_stock first acts act s slice l RETURNS touched) refl (m, b)
+            ∙ cell_changed l RETURNS q (λ k. stock_row first acts k.0 k.1) (in_bin first acts RETURNS l) s.rows.stock (found_stock first acts act s slice planned l RETURNS touched) refl (m, b)
             ∙ stock_same (m, b)
       ] refl
     where
@@ -148,7 +152,7 @@ module _ (first : ℤ) (acts : List Act) (act : Act) (l : LotId) (s : Slice) (sl
 
   pub demands_after : TellsDemands first after g s.rows.orders s.rows.lines (staged_kept s l)
   demands_after =
-      let before = slice_tells_demands first acts act s slice g touched in
+      let before = slice_tells_demands first acts act s slice planned g touched in
       record {
         orders = loosened same_text (λ (x : OrderRow). x.order) (λ o. is_open first acts o && has_line acts o g) (λ o. is_open first after o && has_line after o g) (λ o. true) (λ o. true) (order_row first acts) (order_row first after) s.rows.orders
             (λ o e. (λ i. open_still first acts act l makes next o i && line_still first acts act l makes next o g i) ∙ e) (λ o e. refl) (order_row_still first acts act l makes next) before.orders;
@@ -164,18 +168,30 @@ module _ (first : ℤ) (acts : List Act) (act : Act) (l : LotId) (s : Slice) (sl
       elim (same_text b RETURNS) as (λ t. same_text b RETURNS ≡ t → (if t then Some returns_bin_row else find (λ (r : BinRow). same_text b r.name) s.rows.bins) ≡ bin_row after b) [
         | true ↦ λ t. sym (ap (λ (x : List ℕ). bin_row after x) (same_text_is b RETURNS t) ∙ ap (option_map (λ (x : NewBin). record { name = x.bin; kind = x.kind })) (returns_named first after next))
         | false ↦ λ t.
-            (slice_tells_supplies first acts act s slice g touched).bins b (behind t (bins_with l RETURNS (units_in_returns s l) b s.rows.stock e))
+            (slice_tells_supplies first acts act s slice planned g touched).bins b (behind t (bins_with l RETURNS (units_in_returns s l) b s.rows.stock e))
             ∙ (λ i. option_map (λ (x : NewBin). record { name = x.bin; kind = x.kind }) (find (λ (x : NewBin). same_text b x.bin) (makes.same_bins i)))
       ] refl
     where
       behind : same_text b RETURNS ≡ false → same_text b RETURNS || list_any (λ (r : StockRow). same_text b r.bin) s.rows.stock ≡ true → list_any (λ (r : StockRow). same_text b r.bin) s.rows.stock ≡ true
       behind t f = ap (λ x. x || list_any (λ (r : StockRow). same_text b r.bin) s.rows.stock) (sym t) ∙ f
 
-  pub supplies_after : (lots : List LotRow) (recalls : List RecallRow) → AreRows is_lot (λ (r : LotRow). r.lot) (λ m. of_item g m) (λ m. true) (lot_row after) lots
+  -- no lot comes into the stock rows but this one
+  only_this : (m : LotId) → is_lot m l || in_bins s.rows m ≡ true → names_lot act.command m || in_bins s.rows m ≡ true
+  only_this m = elim (is_lot m l) as (λ b. is_lot m l ≡ b → b || in_bins s.rows m ≡ true → names_lot act.command m || in_bins s.rows m ≡ true) [
+    | true ↦ λ t h. or_first (names_lot act.command m) (in_bins s.rows m) (ap (λ (k : LotId). names_lot act.command k) (is_lot_is m l t) ∙ named)
+    | false ↦ λ t h. or_later (names_lot act.command m) (in_bins s.rows m) h
+  ] refl
+
+  still_wanted : (m : LotId) → in_stock g (stock_with_returned s l) m ≡ true → is_wanted act.command s.rows g m ≡ true
+  still_wanted m e =
+      let two = and_both (of_item g m) (list_any (λ (r : StockRow). is_lot m r.lot) (stock_with_returned s l)) e in
+      λ i. two.0 i && or_first (names_lot act.command m || in_bins s.rows m) (on_stages s.rows m) (only_this m (lots_with l RETURNS (units_in_returns s l) m s.rows.stock two.1)) i
+
+  pub supplies_after : (lots : List LotRow) (recalls : List RecallRow) → AreRows is_lot (λ (r : LotRow). r.lot) (is_wanted act.command s.rows g) (λ m. true) (lot_row after) lots
       → ((m : LotId) → of_item g m ≡ true → find (λ (r : RecallRow). is_lot m r.lot) recalls ≡ recall_row after m)
       → TellsSupplies first after g lots recalls (stock_with_returned s l) (bins_with_returns s)
   supplies_after lots recalls lots_are recalls_are = record {
-    lots = lots_are;
+    lots = loosened is_lot (λ (r : LotRow). r.lot) (is_wanted act.command s.rows g) (in_stock g (stock_with_returned s l)) (λ m. true) (λ m. true) (lot_row after) (lot_row after) lots still_wanted (λ m e. e) (λ m. refl) lots_are;
     recalls = recalls_are;
     stock = loosened same_cell (λ (r : StockRow). (r.lot, r.bin)) (λ k. of_item g k.0) (λ k. of_item g k.0) (λ k. true) (λ k. true) (with_units l RETURNS (units_in_returns s l) (λ k. stock_row first acts k.0 k.1)) (λ k. stock_row first after k.0 k.1) (stock_with_returned s l)
         (λ k e. e) (λ k e. refl) stock_same

@@ -8,6 +8,9 @@ use Rattle.values.specs.declared.lot.LotId.{LotId}
 use Rattle.commands.specs.Lists.{total}
 use Rattle.commands.specs.declared.rows.OrderRow.{OrderRow}
 use Rattle.commands.specs.declared.rows.LotRow.{LotRow}
+use Rattle.commands.specs.declared.rows.RecallRow.{RecallRow}
+use Rattle.commands.specs.declared.rows.StockRow.{StockRow}
+use Rattle.commands.specs.declared.rows.BinRow.{BinRow}
 use Rattle.commands.specs.declared.rows.ReservedRow.{ReservedRow}
 use Rattle.plan.specs.declared.Row.{Row}
 use Rattle.plan.specs.Overlap.{reserved_in, reserved_on}
@@ -18,7 +21,7 @@ use Rattle.machine.specs.Standing.{Placed, KnownLot, order_named, lot_known, lot
 use Rattle.machine.specs.Planning.{plan, reserved, reserved_of, is_open, order_state, item_postings, need, booking_of, demands, supplies, supply_of, shippable_lots, goes_before, store_units}
 use Rattle.machine.specs.Once.{IsHistory}
 use Rattle.machine.specs.Tables.{order_row, lot_row}
-use Rattle.machine.specs.KeyedRows.{AreRows, AreOwn, no_two}
+use Rattle.machine.specs.KeyedRows.{AreOwn, no_two}
 use Rattle.row_rules.specs.Plans.{named_row, named_rows, is_share_of}
 use Rattle.machine.proofs.Tests.{and_both, or_none, not_true, same_text_is, same_text_refl, is_lot_is, is_lot_refl, some_one}
 use Rattle.machine.proofs.histories.Orders.{act_names_order, found_order}
@@ -30,6 +33,7 @@ use Rattle.machine.proofs.histories.Needs.{reserved_within_needs}
 use Rattle.machine.proofs.histories.ClosedOrders.{closed_orders_are_empty}
 use Rattle.rules.proofs.rows.Telling.{some_of_mapped}
 use Rattle.rules.proofs.rows.DemandsTold.{no_line, same_total}
+use Rattle.rules.proofs.rows.SuppliesTold.{TellsSupplies, in_stock, none_in_store}
 use Rattle.rules.proofs.rows.TableSteps.{share_row}
 use Rattle.machine.proofs.histories.PlanRows.{same_pair, AllSome, plan_once, plan_some}
 
@@ -232,11 +236,59 @@ module _ (first : ℤ) (acts : List Act) where
               | false ↦ λ u. h ∙ ap (share_row o l) (sym (without t))
             ] refl
 
-module _ (first : ℤ) (acts : List Act) (history : IsHistory first acts) (g : List ℕ) (order_rows : List OrderRow) (lot_rows : List LotRow)
-    (orders_own : AreOwn (λ (r : OrderRow). r.order) (λ o. true) (order_row first acts) order_rows)
-    (lot_are : AreRows is_lot (λ (r : LotRow). r.lot) (λ l. of_item g l) (λ l. true) (lot_row acts) lot_rows) where
+-- Of a lot that is not of the item, or has no units in STORE bins, the item's supplies have nothing
+module _ (first : ℤ) (acts : List Act) (g : List ℕ) (l : LotId) (empty : of_item g l ≡ true → store_units acts (item_postings first acts g) l ≡ 0) (k : KnownLot) (known : lot_known acts l ≡ Some k) where
+  abbrev avail_of : KnownLot → ℕ
+  avail_of j = if j.came == k.came then store_units acts (item_postings first acts g) j.lot else 0
+
+  abbrev counted : KnownLot → ℕ
+  counted j = if of_item g j.lot then (if is_shippable first acts j then avail_of j else 0) else 0
+
+  not_counted : (j : KnownLot) → lot_known acts j.lot ≡ Some j → counted j ≡ 0
+  not_counted j e = elim (of_item g j.lot) as (λ b. of_item g j.lot ≡ b → (if b then (if is_shippable first acts j then avail_of j else 0) else 0) ≡ 0) [
+    | true ↦ λ t. nothing_if (is_shippable first acts j) (avail_of j) (elim (j.came == k.came) as (λ b. (j.came == k.came) ≡ b → (if b then store_units acts (item_postings first acts g) j.lot else 0) ≡ 0) [
+      | true ↦ λ f.
+          let own : j.lot ≡ l = receipt_names_lot acts j.lot l j k e known (eqb-true j.came k.came f) in
+          ap (λ (m : LotId). store_units acts (item_postings first acts g) m) own ∙ empty (ap (λ (m : LotId). of_item g m) (sym own) ∙ t)
+      | false ↦ λ f. refl
+    ] refl)
+    | false ↦ λ t. refl
+  ] refl
+    where
+      nothing_if : (b : Bool) (q : ℕ) → q ≡ 0 → (if b then q else 0) ≡ 0
+      nothing_if true q e = e
+      nothing_if false q e = refl
+
+  none_counted : (ks : List KnownLot) → AllFound same_known (lots acts) ks → total counted ks ≡ 0
+  none_counted [] h = refl
+  none_counted (j ∷ js) h = omega (arith, not_counted j h.0, none_counted js h.1)
+
+  none_there : there_under k.came (supplies first acts g) ≡ 0
+  none_there =
+      same_total (λ (x : Supply). if x.lot == k.came then x.avail else 0) (supplies first acts g)
+      ∙ total_map (λ (x : Supply). if x.lot == k.came then x.avail else 0) (supply_of acts (item_postings first acts g)) (shippable_lots first acts g)
+      ∙ total_ordered goes_before avail_of (filter (is_shippable first acts) (lots_of acts g))
+      ∙ total_filter avail_of (is_shippable first acts) (lots_of acts g)
+      ∙ total_filter (λ j. if is_shippable first acts j then avail_of j else 0) (λ j. of_item g j.lot) (lots acts)
+      ∙ none_counted (lots acts) (lots_found acts)
+
+  in_lot : (b : ℕ) (rows : List Row) → reserved_in b k.came rows ≤ reserved_on k.came rows
+  in_lot b [] = omega arith
+  in_lot b (r ∷ rs) = omega (arith, fewer (r.booking == b) (r.lot == k.came) r.qty, in_lot b rs)
+    where
+      fewer : (x y : Bool) (q : ℕ) → (if x && y then q else 0) ≤ (if y then q else 0)
+      fewer true y q = omega arith
+      fewer false true q = omega arith
+      fewer false false q = omega arith
+
+  -- so nothing of it is reserved
+  pub none_reserved : (b : ℕ) → reserved_in b k.came (plan first acts g) ≡ 0
+  none_reserved b = omega (arith, in_lot b (plan first acts g), reserved_within_supply k.came (demands first acts g) (supplies first acts g), none_there)
+
+module _ (first : ℤ) (acts : List Act) (history : IsHistory first acts) (g : List ℕ) (order_rows : List OrderRow) (lot_rows : List LotRow) (recall_rows : List RecallRow) (stock_rows : List StockRow) (bin_rows : List BinRow)
+    (orders_own : AreOwn (λ (r : OrderRow). r.order) (λ o. true) (order_row first acts) order_rows) (tells : TellsSupplies first acts g lot_rows recall_rows stock_rows bin_rows) where
   pub shares_once : no_two is_share_of (named_rows order_rows lot_rows (plan first acts g)) ≡ true
-  shares_once = named_once first acts order_rows lot_rows orders_own lot_are.own (plan first acts g) (plan_once first acts history g)
+  shares_once = named_once first acts order_rows lot_rows orders_own tells.lots.own (plan first acts g) (plan_once first acts history g)
 
   module _ (o : List ℕ) (l : LotId) (own : of_item g l ≡ true) (found : is_open first acts o && has_line acts o g ≡ true → find (λ (r : OrderRow). same_text o r.order) order_rows ≡ order_row first acts o) where
     same_item : g ≡ l.gtin
@@ -257,91 +309,53 @@ module _ (first : ℤ) (acts : List Act) (history : IsHistory first acts) (g : L
           | false ↦ λ t f. (closed_orders_are_empty first acts o l history t).1
         ] refl e
 
-    -- a needed order's row and the lot's row are found by number
-    all_named : (p : Placed) (k : KnownLot) → order_named acts o ≡ Some p → lot_known acts l ≡ Some k → is_open first acts o && has_line acts o g ≡ true
-        → (r : Row) → (r.booking == p.act) && (r.lot == k.came) ≡ true → name_of first acts order_rows lot_rows orders_own lot_are.own r ≡ Some (record { order = o; lot = l; qty = r.qty })
-    all_named p k order lot needed r e =
+    -- a needed order's row and the row of a lot in stock are found by number
+    all_named : (p : Placed) (k : KnownLot) → order_named acts o ≡ Some p → lot_known acts l ≡ Some k → in_stock g stock_rows l ≡ true → is_open first acts o && has_line acts o g ≡ true
+        → (r : Row) → (r.booking == p.act) && (r.lot == k.came) ≡ true → name_of first acts order_rows lot_rows orders_own tells.lots.own r ≡ Some (record { order = o; lot = l; qty = r.qty })
+    all_named p k order lot there needed r e =
         let two = and_both (r.booking == p.act) (r.lot == k.came) e in
         let x = by_number (λ (r : OrderRow). r.order) (λ (r : OrderRow). r.act) (order_row first acts) (one_order first acts) order_rows orders_own (λ r. same_text o r.order) (show_order first acts p)
         (found needed ∙ ap (option_map (show_order first acts)) order) in
-        let y = by_number (λ (r : LotRow). r.lot) (λ (r : LotRow). r.came) (lot_row acts) (one_lot first acts) lot_rows lot_are.own (λ r. is_lot l r.lot) (show_lot first acts k)
-        (lot_are.found l own ∙ ap (option_map (show_lot first acts)) lot) in
+        let y = by_number (λ (r : LotRow). r.lot) (λ (r : LotRow). r.came) (lot_row acts) (one_lot first acts) lot_rows tells.lots.own (λ r. is_lot l r.lot) (show_lot first acts k)
+        (tells.lots.found l there ∙ ap (option_map (show_lot first acts)) lot) in
         (λ i. named_row (find (λ (z : OrderRow). eqb-true r.booking p.act two.0 i == z.act) order_rows) (find (λ (z : LotRow). eqb-true r.lot k.came two.1 i == z.came) lot_rows) r.qty)
         ∙ (λ i. named_row (x i) (y i) r.qty)
         ∙ (λ i. Some (record { order = sym (found_order o (orders acts) p order) i; lot = sym (found_lot l (lots acts) k lot) i; qty = r.qty }))
 
     told : (x : Option Placed) (y : Option KnownLot) → order_named acts o ≡ x → lot_known acts l ≡ y
         → find (λ (r : ReservedRow). same_text o r.order && is_lot l r.lot) (named_rows order_rows lot_rows (plan first acts g)) ≡ share_row o l (reserved_of x y (plan first acts g))
-    told None y e f = all_fail first acts order_rows lot_rows orders_own lot_are.own o l (λ r n h t. let a = passing first acts order_rows lot_rows orders_own lot_are.own o l r n h t in cc) (plan first acts g)
-    told (Some p) None e f = all_fail first acts order_rows lot_rows orders_own lot_are.own o l (λ r n h t. let a = passing first acts order_rows lot_rows orders_own lot_are.own o l r n h t in let b = a.3.1 in cc) (plan first acts g)
+    told None y e f = all_fail first acts order_rows lot_rows orders_own tells.lots.own o l (λ r n h t. let a = passing first acts order_rows lot_rows orders_own tells.lots.own o l r n h t in cc) (plan first acts g)
+    told (Some p) None e f = all_fail first acts order_rows lot_rows orders_own tells.lots.own o l (λ r n h t. let a = passing first acts order_rows lot_rows orders_own tells.lots.own o l r n h t in let b = a.3.1 in cc) (plan first acts g)
     told (Some p) (Some k) e f =
-        told_by first acts order_rows lot_rows orders_own lot_are.own o l p k e f (plan first acts g) (plan_some first acts history g) (plan_once first acts history g)
-        (elim (is_open first acts o && has_line acts o g) as (λ b. is_open first acts o && has_line acts o g ≡ b
-        → ((r : Row) → (r.booking == p.act) && (r.lot == k.came) ≡ true → name_of first acts order_rows lot_rows orders_own lot_are.own r ≡ Some (record { order = o; lot = l; qty = r.qty })) ⊎ (reserved_in p.act k.came (plan first acts g) ≡ 0)) [
-          | true ↦ λ t. inl (all_named p k e f t)
-          | false ↦ λ t. inr ((λ i. reserved_of (sym e i) (sym f i) (plan first acts g)) ∙ sym by_plan ∙ unneeded p e t)
-        ] refl)
+        told_by first acts order_rows lot_rows orders_own tells.lots.own o l p k e f (plan first acts g) (plan_some first acts history g) (plan_once first acts history g)
+        (by_stock p k e f (in_stock g stock_rows l) refl)
+      where
+        by_stock : (p : Placed) (k : KnownLot) → order_named acts o ≡ Some p → lot_known acts l ≡ Some k → (b : Bool) → in_stock g stock_rows l ≡ b
+            → ((r : Row) → (r.booking == p.act) && (r.lot == k.came) ≡ true → name_of first acts order_rows lot_rows orders_own tells.lots.own r ≡ Some (record { order = o; lot = l; qty = r.qty })) ⊎ (reserved_in p.act k.came (plan first acts g) ≡ 0)
+        by_stock p k e f true there =
+            elim (is_open first acts o && has_line acts o g) as (λ b. is_open first acts o && has_line acts o g ≡ b
+            → ((r : Row) → (r.booking == p.act) && (r.lot == k.came) ≡ true → name_of first acts order_rows lot_rows orders_own tells.lots.own r ≡ Some (record { order = o; lot = l; qty = r.qty })) ⊎ (reserved_in p.act k.came (plan first acts g) ≡ 0)) [
+              | true ↦ λ t. inl (all_named p k e f there t)
+              | false ↦ λ t. inr ((λ i. reserved_of (sym e i) (sym f i) (plan first acts g)) ∙ sym by_plan ∙ unneeded p e t)
+            ] refl
+        by_stock p k e f false none =
+            inr (none_reserved first acts g l (λ own. none_in_store first acts history g lot_rows recall_rows stock_rows bin_rows tells l own none) k f p.act)
 
     pub shares_told : find (λ (r : ReservedRow). same_text o r.order && is_lot l r.lot) (named_rows order_rows lot_rows (plan first acts g)) ≡ share_row o l (reserved first acts o l)
     shares_told = told (order_named acts o) (lot_known acts l) refl refl ∙ ap (share_row o l) (sym by_plan)
 
   -- a lot of another item has no share
   module _ (o : List ℕ) (l : LotId) (other : of_item g l ≡ false) where
-    module _ (k : KnownLot) (known : lot_known acts l ≡ Some k) where
-      abbrev avail_of : KnownLot → ℕ
-      avail_of j = if j.came == k.came then store_units acts (item_postings first acts g) j.lot else 0
-
-      abbrev counted : KnownLot → ℕ
-      counted j = if of_item g j.lot then (if is_shippable first acts j then avail_of j else 0) else 0
-
-      not_counted : (j : KnownLot) → lot_known acts j.lot ≡ Some j → counted j ≡ 0
-      not_counted j e = elim (of_item g j.lot) as (λ b. of_item g j.lot ≡ b → (if b then (if is_shippable first acts j then avail_of j else 0) else 0) ≡ 0) [
-        | true ↦ λ t. nothing_if (is_shippable first acts j) (avail_of j) (elim (j.came == k.came) as (λ b. (j.came == k.came) ≡ b → (if b then store_units acts (item_postings first acts g) j.lot else 0) ≡ 0) [
-          | true ↦ λ f.
-              let own : j.lot ≡ l = receipt_names_lot acts j.lot l j k e known (eqb-true j.came k.came f) in
-              let no : true ≡ false = sym t ∙ ap (λ (m : LotId). of_item g m) own ∙ other in
-              cc
-          | false ↦ λ f. refl
-        ] refl)
-        | false ↦ λ t. refl
-      ] refl
-        where
-          nothing_if : (b : Bool) (q : ℕ) → q ≡ 0 → (if b then q else 0) ≡ 0
-          nothing_if true q e = e
-          nothing_if false q e = refl
-
-      none_counted : (ks : List KnownLot) → AllFound same_known (lots acts) ks → total counted ks ≡ 0
-      none_counted [] h = refl
-      none_counted (j ∷ js) h = omega (arith, not_counted j h.0, none_counted js h.1)
-
-      none_there : there_under k.came (supplies first acts g) ≡ 0
-      none_there =
-          same_total (λ (x : Supply). if x.lot == k.came then x.avail else 0) (supplies first acts g)
-          ∙ total_map (λ (x : Supply). if x.lot == k.came then x.avail else 0) (supply_of acts (item_postings first acts g)) (shippable_lots first acts g)
-          ∙ total_ordered goes_before avail_of (filter (is_shippable first acts) (lots_of acts g))
-          ∙ total_filter avail_of (is_shippable first acts) (lots_of acts g)
-          ∙ total_filter (λ j. if is_shippable first acts j then avail_of j else 0) (λ j. of_item g j.lot) (lots acts)
-          ∙ none_counted (lots acts) (lots_found acts)
-
-      in_lot : (b : ℕ) (rows : List Row) → reserved_in b k.came rows ≤ reserved_on k.came rows
-      in_lot b [] = omega arith
-      in_lot b (r ∷ rs) = omega (arith, fewer (r.booking == b) (r.lot == k.came) r.qty, in_lot b rs)
-        where
-          fewer : (x y : Bool) (q : ℕ) → (if x && y then q else 0) ≤ (if y then q else 0)
-          fewer true y q = omega arith
-          fewer false true q = omega arith
-          fewer false false q = omega arith
-
-      none_reserved : (b : ℕ) → reserved_in b k.came (plan first acts g) ≡ 0
-      none_reserved b = omega (arith, in_lot b (plan first acts g), reserved_within_supply k.came (demands first acts g) (supplies first acts g), none_there)
+    none_of_other : (k : KnownLot) → lot_known acts l ≡ Some k → (b : ℕ) → reserved_in b k.came (plan first acts g) ≡ 0
+    none_of_other k known b = none_reserved first acts g l (λ own. let f : true ≡ false = sym own ∙ other in cc) k known b
 
     none_told : (x : Option Placed) (y : Option KnownLot) → order_named acts o ≡ x → lot_known acts l ≡ y
         → find (λ (r : ReservedRow). same_text o r.order && is_lot l r.lot) (named_rows order_rows lot_rows (plan first acts g)) ≡ None
-    none_told None y e f = all_fail first acts order_rows lot_rows orders_own lot_are.own o l (λ r n h t. let a = passing first acts order_rows lot_rows orders_own lot_are.own o l r n h t in cc) (plan first acts g)
-    none_told (Some p) None e f = all_fail first acts order_rows lot_rows orders_own lot_are.own o l (λ r n h t. let a = passing first acts order_rows lot_rows orders_own lot_are.own o l r n h t in let b = a.3.1 in cc) (plan first acts g)
+    none_told None y e f = all_fail first acts order_rows lot_rows orders_own tells.lots.own o l (λ r n h t. let a = passing first acts order_rows lot_rows orders_own tells.lots.own o l r n h t in cc) (plan first acts g)
+    none_told (Some p) None e f = all_fail first acts order_rows lot_rows orders_own tells.lots.own o l (λ r n h t. let a = passing first acts order_rows lot_rows orders_own tells.lots.own o l r n h t in let b = a.3.1 in cc) (plan first acts g)
     none_told (Some p) (Some k) e f =
-        told_by first acts order_rows lot_rows orders_own lot_are.own o l p k e f (plan first acts g) (plan_some first acts history g) (plan_once first acts history g) (inr (none_reserved k f p.act))
-        ∙ ap (share_row o l) (none_reserved k f p.act)
+        told_by first acts order_rows lot_rows orders_own tells.lots.own o l p k e f (plan first acts g) (plan_some first acts history g) (plan_once first acts history g) (inr (none_of_other k f p.act))
+        ∙ ap (share_row o l) (none_of_other k f p.act)
 
     pub shares_elsewhere : find (λ (r : ReservedRow). same_text o r.order && is_lot l r.lot) (named_rows order_rows lot_rows (plan first acts g)) ≡ None
     shares_elsewhere = none_told (order_named acts o) (lot_known acts l) refl refl

@@ -1,4 +1,4 @@
--- The rows of a slice tell the demands of each item that the command touches.
+-- The rows of a slice tell what is staged of each item that the command touches, and its demands if the command plans.
 use Rattle.std.proofs.Common.{◌≡◌, ℕ, true, false, ◌&&◌, List, [], ◌∷◌, refl, ap, sym, ◌∙◌}
 use Rattle.std.specs.Prelude.{◌||◌, ℤ}
 use Rattle.std.specs.List.{list_any}
@@ -14,13 +14,13 @@ use Rattle.machine.specs.Planning.{is_open}
 use Rattle.machine.specs.Tables.{tables_of, order_row, line_row, staged_row}
 use Rattle.machine.specs.Touched.{is_touched}
 use Rattle.machine.specs.KeyedRows.{AreRows, OrderItem, OrderLot, same_line, same_share}
-use Rattle.rules.specs.Slices.{IsSlice, has_touched_line, names_order}
+use Rattle.rules.specs.Slices.{IsSlice, plans, has_touched_line, names_order}
 use Rattle.row_rules.specs.declared.slice.Slice.{Slice}
 use Rattle.machine.proofs.Tests.{and_both, or_later, same_text_is}
 use Rattle.rules.proofs.rows.AfterRows.{loosened}
 use Rattle.rules.proofs.rows.DemandsTold.{TellsDemands}
 
--- The order rows, lines and staged rows of any slice tell the demands of each item that the command touches
+-- The staged rows of any slice are those of each item that the command touches
 module _ (first : ℤ) (acts : List Act) (act : Act) (s : Slice) (slice : IsSlice first act acts (tables_of first acts) s) (g : List ℕ) (touched : is_touched first act acts g ≡ true) where
   touched_item : (h : List ℕ) → same_text g h ≡ true → is_touched first act acts h ≡ true
   touched_item h e = ap (λ (x : List ℕ). is_touched first act acts x) (sym (same_text_is g h e)) ∙ touched
@@ -32,24 +32,29 @@ module _ (first : ℤ) (acts : List Act) (act : Act) (s : Slice) (slice : IsSlic
     | false ↦ λ t f. or_later (is_touched first act acts l.gtin) _ (line_touched ls f)
   ] refl e
 
-  order_are : AreRows same_text (λ (r : OrderRow). r.order) (λ o. names_order act.command o || (is_open first acts o && has_touched_line first act acts o)) (λ o. names_order act.command o || has_touched_line first act acts o) (order_row first acts) s.rows.orders
-  unfolding tables_of
-  order_are = slice.orders
-
-  line_are : AreRows same_line (λ (r : LineRow). (r.order, r.gtin)) (λ (k : OrderItem). names_order act.command k.0 || (is_open first acts k.0 && is_touched first act acts k.1)) (λ (k : OrderItem). names_order act.command k.0 || is_touched first act acts k.1) (λ k. line_row first acts k.0 k.1) s.rows.lines
-  unfolding tables_of
-  line_are = slice.lines
-
   staged_are : AreRows same_share (λ (r : StagedRow). (r.order, r.lot)) (λ (k : OrderLot). is_touched first act acts k.1.gtin) (λ (k : OrderLot). is_touched first act acts k.1.gtin) (λ k. staged_row first acts k.0 k.1) s.rows.staged
   unfolding tables_of
   staged_are = slice.staged
 
+  pub slice_tells_stages : AreRows same_share (λ (r : StagedRow). (r.order, r.lot)) (λ (k : OrderLot). of_item g k.1) (λ (k : OrderLot). true) (λ k. staged_row first acts k.0 k.1) s.rows.staged
+  slice_tells_stages = loosened same_share (λ (r : StagedRow). (r.order, r.lot)) _ (λ k. of_item g k.1) _ (λ k. true) (λ k. staged_row first acts k.0 k.1) (λ k. staged_row first acts k.0 k.1) s.rows.staged
+      (λ k e. touched_item k.1.gtin e) (λ k e. refl) (λ k. refl) staged_are
+
+-- With the order rows and lines they tell its demands, where the command plans
+module _ (first : ℤ) (acts : List Act) (act : Act) (s : Slice) (slice : IsSlice first act acts (tables_of first acts) s) (planned : plans act.command ≡ true) (g : List ℕ) (touched : is_touched first act acts g ≡ true) where
+  order_are : AreRows same_text (λ (r : OrderRow). r.order) (λ o. names_order act.command o || (plans act.command && is_open first acts o && has_touched_line first act acts o)) (λ o. names_order act.command o || has_touched_line first act acts o) (order_row first acts) s.rows.orders
+  unfolding tables_of
+  order_are = slice.orders
+
+  line_are : AreRows same_line (λ (r : LineRow). (r.order, r.gtin)) (λ (k : OrderItem). names_order act.command k.0 || (plans act.command && is_open first acts k.0 && is_touched first act acts k.1)) (λ (k : OrderItem). names_order act.command k.0 || is_touched first act acts k.1) (λ k. line_row first acts k.0 k.1) s.rows.lines
+  unfolding tables_of
+  line_are = slice.lines
+
   pub slice_tells_demands : TellsDemands first acts g s.rows.orders s.rows.lines s.rows.staged
   slice_tells_demands = record {
     orders = loosened same_text (λ (r : OrderRow). r.order) _ (λ o. is_open first acts o && has_line acts o g) _ (λ o. true) (order_row first acts) (order_row first acts) s.rows.orders
-        (λ o e. let two = and_both (is_open first acts o) (has_line acts o g) e in or_later (names_order act.command o) _ (λ i. two.0 i && line_touched (lines_of acts o) two.1 i)) (λ o e. refl) (λ o. refl) order_are;
+        (λ o e. let two = and_both (is_open first acts o) (has_line acts o g) e in or_later (names_order act.command o) _ (λ i. planned i && two.0 i && line_touched first acts act s slice g touched (lines_of acts o) two.1 i)) (λ o e. refl) (λ o. refl) order_are;
     lines = loosened same_line (λ (r : LineRow). (r.order, r.gtin)) _ (λ k. is_open first acts k.0 && same_text g k.1) _ (λ k. true) (λ k. line_row first acts k.0 k.1) (λ k. line_row first acts k.0 k.1) s.rows.lines
-        (λ k e. let two = and_both (is_open first acts k.0) (same_text g k.1) e in or_later (names_order act.command k.0) _ (λ i. two.0 i && touched_item k.1 two.1 i)) (λ k e. refl) (λ k. refl) line_are;
-    staged = loosened same_share (λ (r : StagedRow). (r.order, r.lot)) _ (λ k. of_item g k.1) _ (λ k. true) (λ k. staged_row first acts k.0 k.1) (λ k. staged_row first acts k.0 k.1) s.rows.staged
-        (λ k e. touched_item k.1.gtin e) (λ k e. refl) (λ k. refl) staged_are;
+        (λ k e. let two = and_both (is_open first acts k.0) (same_text g k.1) e in or_later (names_order act.command k.0) _ (λ i. planned i && two.0 i && touched_item first acts act s slice g touched k.1 two.1 i)) (λ k e. refl) (λ k. refl) line_are;
+    staged = slice_tells_stages first acts act s slice g touched;
   }

@@ -28,6 +28,10 @@ use Rattle.rules.proofs.rows.WithoutRows.{rows_without}
 pub any_kept : {X : Type 0} (test keep : X → Bool) (xs : List X) → list_any test (filter keep xs) ≡ true → list_any test xs ≡ true
 any_kept test keep xs e = elim (list_any test xs) as (λ b. list_any test xs ≡ b → b ≡ true) [ true ↦ λ t. refl | false ↦ λ t. let f = none_in_filter test keep xs t in cc ] refl
 
+pub or_still : (x y z : Bool) → (y ≡ true → z ≡ true) → x || y ≡ true → x || z ≡ true
+or_still true y z h e = refl
+or_still false y z h e = h e
+
 module _ (l : LotId) (b : List ℕ) (q : ℕ) where
   abbrev pub units_row : ℕ → StockRow
   units_row n = record { lot = l; bin = b; qty = n }
@@ -45,16 +49,19 @@ module _ (l : LotId) (b : List ℕ) (q : ℕ) where
         | false ↦ rows_after same_cell same_cell_is same_cell_refl same_cell_turned (λ (r : StockRow). (r.lot, r.bin)) needed row (units_row q) rows are
       ]
 
-  -- no other bin comes into them
-  pub bins_with : (c : List ℕ) (rows : List StockRow) → list_any (λ (r : StockRow). same_text c r.bin) (stock_rows_with l b q rows) ≡ true → same_text c b || list_any (λ (r : StockRow). same_text c r.bin) rows ≡ true
-  bins_with c rows = elim (q == 0) as (λ t. list_any (λ (r : StockRow). same_text c r.bin) ((if t then [] else units_row q ∷ []) ++ filter (λ r. not (is_lot l r.lot && same_text b r.bin)) rows) ≡ true → same_text c b || list_any (λ (r : StockRow). same_text c r.bin) rows ≡ true) [
-    | true ↦ λ e. or_later (same_text c b) _ (any_kept (λ (r : StockRow). same_text c r.bin) (λ r. not (is_lot l r.lot && same_text b r.bin)) rows e)
-    | false ↦ λ e. either (same_text c b) _ _ (any_kept (λ (r : StockRow). same_text c r.bin) (λ r. not (is_lot l r.lot && same_text b r.bin)) rows) e
+  -- what passes among them passes as the row put, or did before
+  any_with : (test : StockRow → Bool) (rows : List StockRow) → list_any test (stock_rows_with l b q rows) ≡ true → test (units_row q) || list_any test rows ≡ true
+  any_with test rows = elim (q == 0) as (λ t. list_any test ((if t then [] else units_row q ∷ []) ++ filter (λ r. not (is_lot l r.lot && same_text b r.bin)) rows) ≡ true → test (units_row q) || list_any test rows ≡ true) [
+    | true ↦ λ e. or_later (test (units_row q)) _ (any_kept test (λ r. not (is_lot l r.lot && same_text b r.bin)) rows e)
+    | false ↦ λ e. or_still (test (units_row q)) _ _ (any_kept test (λ r. not (is_lot l r.lot && same_text b r.bin)) rows) e
   ]
-    where
-      either : (x y z : Bool) → (y ≡ true → z ≡ true) → x || y ≡ true → x || z ≡ true
-      either true y z h e = refl
-      either false y z h e = h e
+
+  -- no other bin comes into them, and no other lot
+  pub bins_with : (c : List ℕ) (rows : List StockRow) → list_any (λ (r : StockRow). same_text c r.bin) (stock_rows_with l b q rows) ≡ true → same_text c b || list_any (λ (r : StockRow). same_text c r.bin) rows ≡ true
+  bins_with c rows = any_with (λ (r : StockRow). same_text c r.bin) rows
+
+  pub lots_with : (m : LotId) (rows : List StockRow) → list_any (λ (r : StockRow). is_lot m r.lot) (stock_rows_with l b q rows) ≡ true → is_lot m l || list_any (λ (r : StockRow). is_lot m r.lot) rows ≡ true
+  lots_with m rows = any_with (λ (r : StockRow). is_lot m r.lot) rows
 
   -- the row put or dropped makes that look-up of the one before
   pub cell_changed : (row : LotBin → Option StockRow) (p : ℕ) (rows : List StockRow) → stock_found rows l b ≡ row (l, b) → row (l, b) ≡ if_any p (units_row p)

@@ -1,4 +1,4 @@
--- The lot rows, stock rows, bins and recalls of an item tell its supplies.
+-- The lot rows, stock rows, bins and recalls of an item tell its supplies. Of lots without stock rows no lot row is needed.
 use Rattle.std.proofs.Common.{◌≡◌, ℕ, ◌+◌, ◌≤◌, Bool, true, false, ◌&&◌, not, List, [], ◌∷◌, refl, ap, sym, subst, ◌∙◌, arith}
 use Rattle.std.specs.Prelude.{◌==◌, ◌||◌, nat_lt, if◌then◌else◌, ℤ, int_lt, Option, Some, None, find, filter, map, option_map, is_some}
 use Rattle.std.specs.List.{list_any}
@@ -46,9 +46,13 @@ use Rattle.rules.proofs.rows.Ordering.{AllBehind, AreRising, AllOrdered, AreOrde
 use Rattle.rules.proofs.rows.SliceTells.{some_mapped}
 use Rattle.rules.proofs.rows.DemandsTold.{same_total, either_way}
 
+-- the lot is of the item, and the rows have units of it
+abbrev pub in_stock : List ℕ → List StockRow → LotId → Bool
+in_stock g rows l = of_item g l && list_any (λ (r : StockRow). is_lot l r.lot) rows
+
 -- the rows of the item
 pub record TellsSupplies (first : ℤ) (acts : List Act) (g : List ℕ) (lot_rows : List LotRow) (recall_rows : List RecallRow) (stock_rows : List StockRow) (bin_rows : List BinRow) : Type 0 where
-  pub lots : AreRows is_lot (λ (r : LotRow). r.lot) (λ l. of_item g l) (λ l. true) (lot_row acts) lot_rows
+  pub lots : AreRows is_lot (λ (r : LotRow). r.lot) (in_stock g stock_rows) (λ l. true) (lot_row acts) lot_rows
   pub recalls : (l : LotId) → of_item g l ≡ true → find (λ (r : RecallRow). is_lot l r.lot) recall_rows ≡ recall_row acts l
   pub stock : AreRows same_cell (λ (r : StockRow). (r.lot, r.bin)) (λ k. of_item g k.0) (λ k. true) (λ k. stock_row first acts k.0 k.1) stock_rows
   pub bins : (b : List ℕ) → list_any (λ (r : StockRow). same_text b r.bin) stock_rows ≡ true → find (λ (r : BinRow). same_text b r.name) bin_rows ≡ bin_row acts b
@@ -276,6 +280,17 @@ module _ (first : ℤ) (acts : List Act) (history : IsHistory first acts) (g : L
       other : (l : LotId) → of_item g l ≡ true → (m : LotId) → of_item g m ≡ false → is_lot l m ≡ false
       other l e m f = elim (is_lot l m) as (λ b. is_lot l m ≡ b → b ≡ false) [ true ↦ λ t. let h = of_lot l m e t in cc | false ↦ λ t. refl ] refl
 
+  -- a lot without stock rows has no units in STORE bins
+
+  none_seen : (l : LotId) (rows : List StockRow) → list_any (λ (r : StockRow). is_lot l r.lot) rows ≡ false → store_seen bin_rows rows l ≡ 0
+  none_seen l [] e = refl
+  none_seen l (r ∷ rs) e =
+      let two = or_none (is_lot l r.lot) (list_any (λ (r : StockRow). is_lot l r.lot) rs) e in
+      (λ i. (if two.0 i && is_store_found (find (λ (b : BinRow). same_text r.bin b.name) bin_rows) then r.qty else 0) + none_seen l rs two.1 i)
+
+  pub none_in_store : (l : LotId) → of_item g l ≡ true → in_stock g stock_rows l ≡ false → store_units acts ips l ≡ 0
+  none_in_store l own e = sym (store_told l own) ∙ none_seen l stock_rows (ap (λ b. b && list_any (λ (r : StockRow). is_lot l r.lot) stock_rows) (sym own) ∙ e)
+
   store_within : (l : LotId) → of_item g l ≡ true → store_units acts ips l ≤ UNITS_MAX
   store_within l e =
       let legal = legal_history first acts history in
@@ -343,13 +358,31 @@ module _ (first : ℤ) (acts : List Act) (history : IsHistory first acts) (g : L
     each_known [] h = refl
     each_known (k ∷ ks) h = λ i. under_known (h.0 i) + each_known ks h.1 i
 
+    -- a lot of which no row is needed has nothing
+    none_under : (k : KnownLot) → in_stock g stock_rows k.lot ≡ false → under k ≡ 0
+    none_under k e =
+        elim (of_item g k.lot) as (λ b. of_item g k.lot ≡ b → if_of b ≡ 0) [
+          | true ↦ λ own.
+              ap (λ n. if is_shippable first acts k then (if ranks_same r (record { expiry = k.expiry; came = k.came }) then n else 0) else 0) (none_in_store k.lot own e)
+              ∙ nothing (is_shippable first acts k) (ranks_same r (record { expiry = k.expiry; came = k.came }))
+          | false ↦ λ own. refl
+        ] refl
+      where
+        if_of : Bool → ℕ
+        if_of b = if b && is_shippable first acts k then (if ranks_same r (record { expiry = k.expiry; came = k.came }) then store_units acts ips k.lot else 0) else 0
+
+        nothing : (a b : Bool) → ◌≡◌ {A = ℕ} (if a then (if b then 0 else 0) else 0) 0
+        nothing true true = refl
+        nothing true false = refl
+        nothing false b = refl
+
     -- under each rank the rows have what the lots have
     rows_tell_lots : total seen_under lot_rows ≡ total under (lots acts)
     rows_tell_lots =
         rows_under lot_rows tells.lots.own
-        ∙ rows_tell is_lot is_lot_is is_lot_turned (λ (k : KnownLot). k.lot) (λ (k : LotRow). k.lot) show (lots acts) (lots_apart acts) (lots_found acts) weight (of_item g) (λ l. true) lot_rows
+        ∙ rows_tell is_lot is_lot_is is_lot_turned (λ (k : KnownLot). k.lot) (λ (k : LotRow). k.lot) show (lots acts) (lots_apart acts) (lots_found acts) weight (in_stock g stock_rows) (λ l. true) lot_rows
         tells.lots.found tells.lots.own tells.lots.once
-        (λ k named e. ap under_known named ∙ ap (λ b. if b && is_shippable first acts k then (if ranks_same r (record { expiry = k.expiry; came = k.came }) then store_units acts ips k.lot else 0) else 0) e)
+        (λ k named e. ap under_known named ∙ none_under k e)
         ∙ each_known (lots acts) (lots_found acts)
 
   abbrev row_rank : LotRow → Rank

@@ -1,21 +1,10 @@
-use Rattle.std.proofs.Common.{rules, arith, ◌≡◌, get_or}
-use Rattle.std.specs.Prelude.{◌==◌, find}
-use Rattle.plan.specs.declared.Row.{Row}
-use Rattle.row_rules.specs.Plans.{named_row}
-use Rattle.row_rules.proofs.Naming.{naming_all, naming_more}
+use Rattle.row_rules.specs.LookUps.{row_given}
+use Rattle.row_rules.proofs.Naming.{named_agree}
+use Rattle.row_rules.proofs.Giving.{same_items}
 use Rattle.row_rules.proofs.plans.named_rows.Goals as goal
-
-pub loop-row-preserved : goal.loop-row-preserved
-loop-row-preserved c =
-    let a = c.args in
-    let l = c.loop-row in
-    let none : Row = record { booking = 0; lot = 0; qty = 0 } in
-    let row : Row = get_or a.rows.now l.row-index none in
-    let named : c.name_row.result ≡ named_row (find (λ o. row.booking == o.act) a.orders.now) (find (λ k. row.lot == k.came) a.lots.now) row.qty = search rules in
-    naming_more a.orders.now a.lots.now a.rows.now l.row-index l.named.items none c.push_found.new.rows.items c.name_row.result c.loop-row-test.true l.invariant named c.in_ok-push_found.ensures
 
 pub returns : goal.returns
 returns c =
     let a = c.args in
-    let l = c.loop-row in
-    naming_all a.orders.now a.lots.now a.rows.now l.row-index l.named.items (omega arith) l.invariant
+    same_items c.name_rows.result _ _ c.name_rows.ensures
+    (named_agree a.orders.now a.lots.now (row_given (λ o. o.act) c.in_ok-numbered.numbered) (row_given (λ k. k.came) c.in_ok-came.came) c.in_ok-numbered.ensures c.in_ok-came.ensures a.rows.now)

@@ -1,25 +1,8 @@
-use Rattle.std.proofs.Common.{arith, ap, ◌∙◌, ◌++◌, [], ◌∷◌}
-use Rattle.std.specs.Prelude.{Bool, not, ◌&&◌, if◌then◌else◌}
-use Rattle.std.specs.List.{list_any}
-use Rattle.commands.specs.declared.rows.ReservedRow.{ReservedRow}
-use Rattle.machine.specs.Postings.{of_item}
-use Rattle.row_rules.specs.Plans.{is_share_of}
-use Rattle.row_rules.proofs.Walking.{kept_all, kept_more}
+use Rattle.row_rules.specs.LookUps.{rows_given}
+use Rattle.row_rules.proofs.Giving.{same_items, dropped_given}
 use Rattle.row_rules.proofs.plans.rows_to_drop.Goals as goal
-
-pub loop-row-preserved : goal.loop-row-preserved
-loop-row-preserved c =
-    let a = c.args in
-    let l = c.loop-row in
-    let test : ReservedRow → Bool = λ r. of_item a.gtin.now r.lot && not (list_any (is_share_of r) a.news.now) in
-    let wanted : Bool = c.is_gone-gone.result in
-    kept_more test a.olds.now l.row-index l.dropped.items c.row-item.result c.push_if.new.rows.items wanted c.loop-row-test.true l.invariant
-    (c.is_gone-gone.ensures ∙ ap test c.row-item.is)
-    (c.in_ok-push_if.ensures ∙ ap (λ (r : ReservedRow). l.dropped.items ++ (if wanted then r ∷ [] else [])) c.row-item.is)
 
 pub returns : goal.returns
 returns c =
     let a = c.args in
-    let l = c.loop-row in
-    let test : ReservedRow → Bool = λ r. of_item a.gtin.now r.lot && not (list_any (is_share_of r) a.news.now) in
-    kept_all test a.olds.now l.row-index l.dropped.items (omega arith) l.invariant
+    same_items c.rows_gone.result _ _ c.rows_gone.ensures (dropped_given (rows_given c.in_ok-by_order.by_order) a.news.now c.in_ok-by_order.ensures a.gtin.now a.olds.now)

@@ -1,23 +1,8 @@
-use Rattle.std.proofs.Common.{arith, ap, ◌∙◌, ◌++◌, [], ◌∷◌}
-use Rattle.std.specs.Prelude.{Bool, not, find, if◌then◌else◌}
-use Rattle.row_rules.specs.Plans.{is_share_of, has_qty}
-use Rattle.commands.specs.declared.rows.ReservedRow.{ReservedRow}
-use Rattle.row_rules.proofs.Walking.{kept_all, kept_more}
+use Rattle.row_rules.specs.LookUps.{rows_given}
+use Rattle.row_rules.proofs.Giving.{same_items, put_given}
 use Rattle.row_rules.proofs.plans.rows_to_put.Goals as goal
-
-pub loop-row-preserved : goal.loop-row-preserved
-loop-row-preserved c =
-    let a = c.args in
-    let l = c.loop-row in
-    let test : ReservedRow → Bool = λ n. not (has_qty (find (is_share_of n) a.olds.now) n.qty) in
-    let wanted : Bool = not c.is_qty-same.result in
-    kept_more test a.news.now l.row-index l.put.items c.row-item.result c.push_if.new.rows.items wanted c.loop-row-test.true l.invariant
-    (ap not (c.is_qty-same.ensures ∙ ap (λ q. has_qty q c.row-item.result.qty) c.find_share.ensures) ∙ ap test c.row-item.is)
-    (c.in_ok-push_if.ensures ∙ ap (λ (r : ReservedRow). l.put.items ++ (if wanted then r ∷ [] else [])) c.row-item.is)
 
 pub returns : goal.returns
 returns c =
     let a = c.args in
-    let l = c.loop-row in
-    let test : ReservedRow → Bool = λ n. not (has_qty (find (is_share_of n) a.olds.now) n.qty) in
-    kept_all test a.news.now l.row-index l.put.items (omega arith) l.invariant
+    same_items c.rows_unlike.result _ _ c.rows_unlike.ensures (put_given (rows_given c.in_ok-by_order.by_order) a.olds.now c.in_ok-by_order.ensures a.news.now)

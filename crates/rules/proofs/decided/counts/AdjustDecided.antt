@@ -56,12 +56,14 @@ module _ (first : ℤ) (acts : List Act) (key : Key) (a : Adjustment) (s : Slice
     known = record { items = refl; bins = refl; lots = refl; holds = refl; recalls = refl; orders = refl; cancels = refl; shipments = refl; day = refl };
     text = refl;
     touched = λ g. refl;
+    planned = refl;
     named = λ b. refl;
+    named_lot = λ m. refl;
   }
 
   left_same : units_adjusted s a ≡ left
   left_same =
-      ap (λ n. capped (n + put_on a.change) - taken_off a.change) (in_bin_told first acts act s slice a.bin a.lot (same_text_refl a.lot.gtin))
+      ap (λ n. capped (n + put_on a.change) - taken_off a.change) (in_bin_told first acts act s slice refl a.bin a.lot (same_text_refl a.lot.gtin))
       ∙ held (bin_within_limit first acts next.0 a.lot.gtin a.lot (same_text_refl a.lot.gtin) a.bin) (put_on_within (units_in_house first acts a.lot.gtin) a.change (adjust_accepted first acts a next.1.passes).fits)
     where
       held : have ≤ UNITS_MAX → put_on a.change ≤ UNITS_MAX → capped (have + put_on a.change) - taken_off a.change ≡ have + put_on a.change - taken_off a.change

@@ -1,5 +1,5 @@
 -- An adjustment judged by its slice is judged as by the acts.
-use Rattle.std.proofs.Common.{◌≡◌, true, not, List, [], ◌∷◌}
+use Rattle.std.proofs.Common.{◌≡◌, true, not, List, [], ◌∷◌, refl}
 use Rattle.std.specs.Prelude.{nat_lt, ℤ}
 use Rattle.commands.specs.declared.key.Key.{Key}
 use Rattle.commands.specs.declared.command.Adjustment.{Adjustment}
@@ -13,7 +13,7 @@ use Rattle.rules.specs.Slices.{IsSlice}
 use Rattle.goods_rules.specs.DecidedCount.{adjust_seen}
 use Rattle.machine.specs.Verdict.{first_refusal, judgement, taken_off}
 use Rattle.row_rules.specs.declared.slice.Slice.{Slice}
-use Rattle.machine.proofs.Tests.{same_text_refl}
+use Rattle.machine.proofs.Tests.{same_text_refl, is_lot_refl}
 use Rattle.rules.proofs.rows.SliceTells.{item_told, bin_told}
 use Rattle.rules.proofs.rows.LotTold.{lot_known_told, in_bin_told}
 use Rattle.rules.proofs.decided.counts.CountJudged.{over_told_change}
@@ -29,8 +29,8 @@ module _ (first : ℤ) (acts : List Act) (key : Key) (a : Adjustment) (s : Slice
   pub adjust_judged : first_refusal (adjust_seen s a) ≡ first_refusal (judgement first acts (Adjust a))
   adjust_judged =
       λ i. first_refusal (
-      (not (item_told first acts act s slice a.lot.gtin touched i), UnknownItem)
-      ∷ (not (bin_told first acts act s slice a.bin (same_text_refl a.bin) i), UnknownBin)
-      ∷ (not (lot_known_told first acts act s slice a.lot touched i), UnknownLot)
-      ∷ (nat_lt (in_bin_told first acts act s slice a.bin a.lot touched i) (taken_off a.change), NotInBin)
-      ∷ (over_told_change first acts act s slice history a.lot.gtin touched a.change i, OverUnits) ∷ [])
+      (not (item_told first acts act s slice refl a.lot.gtin touched i), UnknownItem)
+      ∷ (not (bin_told first acts act s slice refl a.bin (same_text_refl a.bin) i), UnknownBin)
+      ∷ (not (lot_known_told first acts act s slice refl a.lot (is_lot_refl a.lot) i), UnknownLot)
+      ∷ (nat_lt (in_bin_told first acts act s slice refl a.bin a.lot touched i) (taken_off a.change), NotInBin)
+      ∷ (over_told_change first acts act s slice refl history a.lot.gtin touched a.change i, OverUnits) ∷ [])

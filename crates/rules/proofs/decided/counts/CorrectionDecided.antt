@@ -25,24 +25,24 @@ use Rattle.machine.specs.Once.{IsHistory}
 use Rattle.machine.specs.Tables.{tables_of, bin_row, lot_row, stock_row, order_row, line_row, staged_row}
 use Rattle.machine.specs.Touched.{is_touched}
 use Rattle.machine.specs.KeyedRows.{no_two, same_cell, same_line, same_share}
-use Rattle.rules.specs.Slices.{IsSlice, applied}
+use Rattle.rules.specs.Slices.{IsSlice, applied, in_bins}
 use Rattle.row_rules.specs.Seen.{none_put, none_dropped, lot_units}
 use Rattle.row_rules.specs.SeenLots.{stock_put, stock_gone}
 use Rattle.row_rules.specs.Plans.{rows_to_put, rows_to_drop}
 use Rattle.goods_rules.specs.DecidedCount.{stock_corrected, shares_corrected, correction_card, correction_cards, change_reply, corrections}
 use Rattle.row_rules.specs.declared.slice.Slice.{Slice}
-use Rattle.machine.proofs.Tests.{same_text_refl, same_text_turned}
+use Rattle.machine.proofs.Tests.{same_text_refl, same_text_turned, is_lot_item}
 use Rattle.machine.proofs.histories.Accepted.{room_for_acts}
 use Rattle.machine.proofs.histories.Cells.{Legal}
 use Rattle.machine.proofs.histories.LegalHistories.{legal_history}
 use Rattle.rules.proofs.rows.AfterRows.{loosened}
 use Rattle.rules.proofs.rows.DemandsTold.{TellsDemands}
-use Rattle.rules.proofs.rows.SuppliesTold.{TellsSupplies}
+use Rattle.rules.proofs.rows.SuppliesTold.{TellsSupplies, in_stock}
 use Rattle.rules.proofs.rows.SliceDemands.{slice_tells_demands}
-use Rattle.rules.proofs.rows.SliceSupplies.{slice_tells_supplies}
+use Rattle.rules.proofs.rows.SliceSupplies.{slice_tells_supplies, lots_with_stock}
 use Rattle.rules.proofs.rows.LotUnits.{lot_units_told}
 use Rattle.rules.proofs.rows.LotTold.{found_stock}
-use Rattle.rules.proofs.rows.StockChanged.{with_units, stock_rows_are, bins_with}
+use Rattle.rules.proofs.rows.StockChanged.{with_units, stock_rows_are, bins_with, lots_with}
 use Rattle.rules.proofs.rows.TableSteps.{AreNamed, names_changed, reserved_changed}
 use Rattle.rules.proofs.rows.Replanned.{TouchesOnly, replanned, replanned_once}
 use Rattle.rules.proofs.decided.Decisions.{IsChange, day_seen, number_same, meta_same}
@@ -69,7 +69,7 @@ module _ (first : ℤ) (acts : List Act) (act : Act) (s : Slice) (slice : IsSlic
 
   demands_after : TellsDemands first after g s.rows.orders s.rows.lines s.rows.staged
   demands_after =
-      let before = slice_tells_demands first acts act s slice g touched in
+      let before = slice_tells_demands first acts act s slice writes.planned g touched in
       record {
         orders = loosened same_text (λ (x : OrderRow). x.order) (λ o. is_open first acts o && has_line acts o g) (λ o. is_open first after o && has_line after o g) (λ o. true) (λ o. true) (order_row first acts) (order_row first after) s.rows.orders
             (λ o e. (λ i. open_at first act acts l b z left writes legal o i && line_known first act acts l b z left writes legal o g i) ∙ e) (λ o e. refl) (order_at first act acts l b z left writes legal) before.orders;
@@ -82,13 +82,14 @@ module _ (first : ℤ) (acts : List Act) (act : Act) (s : Slice) (slice : IsSlic
   bins_after : (c : List ℕ) → list_any (λ (q : StockRow). same_text c q.bin) (stock_corrected s l b left) ≡ true → find (λ (x : BinRow). same_text c x.name) s.rows.bins ≡ bin_row after c
   unfolding tables_of
   bins_after c e =
-      slice.bins.found c (ap (λ t. t || list_any (λ (q : StockRow). same_text c q.bin) s.rows.stock) (writes.named c) ∙ bins_with l b left c s.rows.stock e) ∙ bin_at first act acts l b z left writes legal c
+      slice.bins.found c (λ i. writes.planned i && (ap (λ t. t || list_any (λ (q : StockRow). same_text c q.bin) s.rows.stock) (writes.named c) ∙ bins_with l b left c s.rows.stock e) i) ∙ bin_at first act acts l b z left writes legal c
 
   supplies_after : TellsSupplies first after g s.rows.lots s.rows.recalls (stock_corrected s l b left) s.rows.bins
   supplies_after =
-      let before = slice_tells_supplies first acts act s slice g touched in
+      let before = slice_tells_supplies first acts act s slice writes.planned g touched in
       record {
-        lots = loosened is_lot (λ (x : LotRow). x.lot) (λ m. of_item g m) (λ m. of_item g m) (λ m. true) (λ m. true) (lot_row acts) (lot_row after) s.rows.lots (λ m e. e) (λ m e. refl) (lot_at first act acts l b z left writes legal) before.lots;
+        lots = loosened is_lot (λ (x : LotRow). x.lot) (in_stock g (stock_corrected s l b left)) (in_stock g (stock_corrected s l b left)) (λ m. true) (λ m. true) (lot_row acts) (lot_row after) s.rows.lots (λ m e. e) (λ m e. refl) (lot_at first act acts l b z left writes legal)
+            (lots_with_stock first acts act s slice writes.planned g touched (stock_corrected s l b left) (λ m e. ap (λ t. t || in_bins s.rows m) (writes.named_lot m) ∙ lots_with l b left m s.rows.stock e));
         recalls = λ m e. before.recalls m e ∙ recall_at first act acts l b z left writes legal m;
         stock = loosened same_cell (λ (x : StockRow). (x.lot, x.bin)) (λ k. of_item g k.0) (λ k. of_item g k.0) (λ k. true) (λ k. true)
             (with_units l b left (λ k. stock_row first acts k.0 k.1)) (λ k. stock_row first after k.0 k.1) (stock_corrected s l b left)
@@ -105,7 +106,7 @@ module _ (first : ℤ) (acts : List Act) (act : Act) (s : Slice) (slice : IsSlic
   abbrev drops : List ReservedRow
   drops = rows_to_drop g s.rows.reserved (shares_corrected s l b left)
 
-  only : TouchesOnly first acts act s slice next g
+  only : TouchesOnly first acts act s slice writes.planned next g
   only = record { own = touched; others = λ h e. writes.touched h ∙ same_text_turned h g ∙ e }
 
   day_is : s.meta.day ≡ today first after
@@ -113,14 +114,14 @@ module _ (first : ℤ) (acts : List Act) (act : Act) (s : Slice) (slice : IsSlic
 
   are_named : AreNamed first act acts puts drops
   are_named =
-      replanned first acts act s slice next g only s.meta.day day_is s.rows.orders s.rows.lines s.rows.staged s.rows.lots s.rows.recalls s.rows.bins (stock_corrected s l b left) demands_after supplies_after
+      replanned first acts act s slice writes.planned next g only s.meta.day day_is s.rows.orders s.rows.lines s.rows.staged s.rows.lots s.rows.recalls s.rows.bins (stock_corrected s l b left) demands_after supplies_after
 
   -- The change is that of the act
 
   rest_same : lot_units l (stock_corrected s l b left) s.rows.staged ≡ lot_units_in_house first after l
   rest_same =
       lot_units_told first after next g l (same_text_refl g) (stock_corrected s l b left) s.rows.staged (λ k. of_item g k.0) (λ k. true) (λ k. of_item g k.1) (λ k. true)
-      supplies_after.stock demands_after.staged (λ m c e. e) (λ m o e. e)
+      supplies_after.stock demands_after.staged (λ m c e. is_lot_item l m e) (λ m o e. is_lot_item l m e)
 
   card_same : (kind : CardKind) → correction_card s l b left z kind ≡ written_card first act acts l b z left writes legal kind z
   card_same kind = λ i. record { lot = l; act = number_same first acts act s slice room i; day = day_is i; kind = kind; note = b; qty = z; rest = rest_same i }
@@ -147,7 +148,7 @@ module _ (first : ℤ) (acts : List Act) (act : Act) (s : Slice) (slice : IsSlic
   pub written_changed : IsChange first act acts (corrections s l b left z)
   written_changed = record {
     applies = ap (λ c. applied c (tables_of first acts)) changes_same
-        ∙ write_step first act acts l b z left writes legal (change_reply s z) s.rows.stock (found_stock first acts act s slice l b touched) puts drops (reserved_changed first act acts puts drops are_named);
+        ∙ write_step first act acts l b z left writes legal (change_reply s z) s.rows.stock (found_stock first acts act s slice writes.planned l b touched) puts drops (reserved_changed first act acts puts drops are_named);
     text = λ i. codes "{\"act\":" ++ decimal (number_same first acts act s slice room i) ++ sym writes.text i ++ codes "}";
     once = record {
       items = refl;
@@ -159,7 +160,7 @@ module _ (first : ℤ) (acts : List Act) (act : Act) (s : Slice) (slice : IsSlic
       lines = refl;
       staged = refl;
       reserved =
-          replanned_once first acts act s slice next g only s.meta.day day_is s.rows.orders s.rows.lines s.rows.staged s.rows.lots s.rows.recalls s.rows.bins (stock_corrected s l b left) demands_after supplies_after;
+          replanned_once first acts act s slice writes.planned next g only s.meta.day day_is s.rows.orders s.rows.lines s.rows.staged s.rows.lots s.rows.recalls s.rows.bins (stock_corrected s l b left) demands_after supplies_after;
       shipments = refl;
       shiplines = refl;
       cards = cards_once (int_lt (pos 0) z) (int_lt z (pos 0)) (correction_card s l b left z WriteOn) (correction_card s l b left z WrittenOff);

@@ -27,7 +27,7 @@ use Rattle.machine.specs.Replies.{further_field, change_field}
 use Rattle.machine.specs.Touched.{is_touched}
 use Rattle.machine.specs.Tables.{tables_of, meta_row, if_any, item_row, bin_row, lot_row, recall_row, stock_row, order_row, line_row, staged_row, shipment_row, shipline_row, card_row, reserved_row}
 use Rattle.machine.specs.KeyedRows.{LotBin, same_cell}
-use Rattle.rules.specs.Slices.{applied, tables_but_repeats, changed, unless_put, names_bin}
+use Rattle.rules.specs.Slices.{applied, tables_but_repeats, changed, unless_put, plans, names_bin, names_lot}
 use Rattle.row_rules.specs.Seen.{none_put, none_dropped}
 use Rattle.row_rules.specs.SeenLots.{stock_found, stock_put, stock_gone}
 use Rattle.row_rules.specs.declared.slice.Change.{Change}
@@ -59,7 +59,9 @@ pub record Writes (first : ℤ) (act : Act) (acts : List Act) (l : LotId) (b : L
   pub known : MakesNothingKnown first act acts
   pub text : further_field first act acts act.command ≡ change_field z
   pub touched : (g : List ℕ) → is_touched first act acts g ≡ of_item g l
+  pub planned : plans act.command ≡ true
   pub named : (c : List ℕ) → names_bin act.command c ≡ same_text c b
+  pub named_lot : (m : LotId) → names_lot act.command m ≡ is_lot m l
 
 found_either : {X : Type 0} (test : X → Bool) (news olds : List X) → changed test news [] (find test olds) ≡ find test (news ++ olds)
 found_either test [] olds = refl

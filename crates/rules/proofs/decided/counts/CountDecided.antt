@@ -63,14 +63,16 @@ module _ (first : ℤ) (acts : List Act) (key : Key) (c : Recount) (s : Slice) (
     known = record { items = refl; bins = refl; lots = refl; holds = refl; recalls = refl; orders = refl; cancels = refl; shipments = refl; day = refl };
     text = refl;
     touched = λ g. refl;
+    planned = refl;
     named = λ b. refl;
+    named_lot = λ m. refl;
   }
 
   small : min have SIGNED_CAP ≡ have
   small = omega (arith, bin_within_limit first acts next.0 c.lot.gtin c.lot (same_text_refl c.lot.gtin) c.bin)
 
   found_same : found_less c.qty (in_bin_seen s c.bin c.lot) ≡ change
-  found_same = ap (found_less c.qty) (in_bin_told first acts act s slice c.bin c.lot (same_text_refl c.lot.gtin)) ∙ ap (λ n. pos c.qty -ℤ pos n) small
+  found_same = ap (found_less c.qty) (in_bin_told first acts act s slice refl c.bin c.lot (same_text_refl c.lot.gtin)) ∙ ap (λ n. pos c.qty -ℤ pos n) small
 
   count_changed : IsChange first act acts (count_changes s c)
   count_changed = subst (λ (z : ℤ). IsChange first act acts (corrections s c.lot c.bin c.qty z)) (sym found_same) (written_changed first acts act s slice next c.lot c.bin change c.qty count_writes)

@@ -12,12 +12,12 @@ use Rattle.machine.specs.Planning.{in_bin, units_in_house}
 use Rattle.machine.specs.Once.{IsHistory}
 use Rattle.machine.specs.Tables.{tables_of}
 use Rattle.machine.specs.Touched.{is_touched}
-use Rattle.rules.specs.Slices.{IsSlice}
+use Rattle.rules.specs.Slices.{IsSlice, plans}
 use Rattle.row_rules.specs.Seen.{capped, stock_units, staged_units}
 use Rattle.goods_rules.specs.DecidedCount.{is_over_without, count_seen}
 use Rattle.machine.specs.Verdict.{first_refusal, judgement, taken_off, put_on}
 use Rattle.row_rules.specs.declared.slice.Slice.{Slice}
-use Rattle.machine.proofs.Tests.{same_text_refl}
+use Rattle.machine.proofs.Tests.{same_text_refl, is_lot_refl}
 use Rattle.machine.proofs.histories.UnitsLimit.{units_within_limit}
 use Rattle.rules.proofs.rows.LotUnits.{bin_within_limit}
 use Rattle.rules.proofs.rows.SliceTells.{item_told, bin_told}
@@ -36,15 +36,15 @@ over_same a b more fewer n e within fits =
 over_less : (a b fewer n : ℕ) → n ≡ a + b → n ≤ UNITS_MAX → nat_lt UNITS_MAX (capped (capped (capped a + capped b) + 0) - fewer) ≡ nat_lt (UNITS_MAX + fewer) (n + 0)
 over_less a b fewer n e within = le-ltb _ _ (omega (arith, e, within)) ∙ sym (le-ltb (UNITS_MAX + fewer) (n + 0) (omega (arith, within)))
 
-module _ (first : ℤ) (acts : List Act) (act : Act) (s : Slice) (slice : IsSlice first act acts (tables_of first acts) s) (history : IsHistory first acts) (g : List ℕ) (touched : is_touched first act acts g ≡ true) where
+module _ (first : ℤ) (acts : List Act) (act : Act) (s : Slice) (slice : IsSlice first act acts (tables_of first acts) s) (planned : plans act.command ≡ true) (history : IsHistory first acts) (g : List ℕ) (touched : is_touched first act acts g ≡ true) where
   pub over_told_without : (more fewer : ℕ) → fewer ≤ UNITS_MAX → is_over_without s g more fewer ≡ nat_lt (UNITS_MAX + fewer) (units_in_house first acts g + more)
   over_told_without more fewer fits =
-      over_same (stock_units g s.rows.stock) (staged_units g s.rows.staged) more fewer (units_in_house first acts g) (units_are first acts act s slice history g touched) (units_within_limit first acts history g) fits
+      over_same (stock_units g s.rows.stock) (staged_units g s.rows.staged) more fewer (units_in_house first acts g) (units_are first acts act s slice planned history g touched) (units_within_limit first acts history g) fits
 
   pub over_told_change : (z : ℤ) → is_over_without s g (put_on z) (taken_off z) ≡ nat_lt (UNITS_MAX + taken_off z) (units_in_house first acts g + put_on z)
   over_told_change (pos k) = over_told_without k 0 (lit≤ tt)
   over_told_change (negsuc k) =
-      over_less (stock_units g s.rows.stock) (staged_units g s.rows.staged) (suc k) (units_in_house first acts g) (units_are first acts act s slice history g touched) (units_within_limit first acts history g)
+      over_less (stock_units g s.rows.stock) (staged_units g s.rows.staged) (suc k) (units_in_house first acts g) (units_are first acts act s slice planned history g touched) (units_within_limit first acts history g)
 
 -- Counts
 
@@ -57,12 +57,12 @@ module _ (first : ℤ) (acts : List Act) (key : Key) (c : Recount) (s : Slice)
   touched = same_text_refl c.lot.gtin
 
   over : is_over_without s c.lot.gtin c.qty (in_bin first acts c.bin c.lot) ≡ nat_lt (UNITS_MAX + in_bin first acts c.bin c.lot) (units_in_house first acts c.lot.gtin + c.qty)
-  over = over_told_without first acts act s slice history c.lot.gtin touched c.qty (in_bin first acts c.bin c.lot) (bin_within_limit first acts history c.lot.gtin c.lot touched c.bin)
+  over = over_told_without first acts act s slice refl history c.lot.gtin touched c.qty (in_bin first acts c.bin c.lot) (bin_within_limit first acts history c.lot.gtin c.lot touched c.bin)
 
   pub count_judged : first_refusal (count_seen s c) ≡ first_refusal (judgement first acts (Count c))
   count_judged =
       λ i. first_refusal (
-      (not (item_told first acts act s slice c.lot.gtin touched i), UnknownItem)
-      ∷ (not (bin_told first acts act s slice c.bin (same_text_refl c.bin) i), UnknownBin)
-      ∷ (not (lot_known_told first acts act s slice c.lot touched i), UnknownLot)
-      ∷ ((ap (is_over_without s c.lot.gtin c.qty) (in_bin_told first acts act s slice c.bin c.lot touched) ∙ over) i, OverUnits) ∷ [])
+      (not (item_told first acts act s slice refl c.lot.gtin touched i), UnknownItem)
+      ∷ (not (bin_told first acts act s slice refl c.bin (same_text_refl c.bin) i), UnknownBin)
+      ∷ (not (lot_known_told first acts act s slice refl c.lot (is_lot_refl c.lot) i), UnknownLot)
+      ∷ ((ap (is_over_without s c.lot.gtin c.qty) (in_bin_told first acts act s slice refl c.bin c.lot touched) ∙ over) i, OverUnits) ∷ [])

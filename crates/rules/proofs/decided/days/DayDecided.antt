@@ -45,13 +45,13 @@ module _ (first : ℤ) (acts : List Act) (key : Key) (day : ℤ) (s : Slice) (sl
 
   are_named : AreNamed first act acts (day_put s day) (day_dropped s day)
   are_named =
-      items_replanned (λ (g : List ℕ). g) first acts act s slice next (gtins_seen s) (items_apart first acts key day s slice) (items_told first acts key day s slice next.0)
+      items_replanned (λ (g : List ℕ). g) first acts act s slice refl next (gtins_seen s) (items_apart first acts key day s slice) (items_told first acts key day s slice next.0)
       day refl s.rows.orders s.rows.lines (staged_kept_on s day) s.rows.lots s.rows.recalls (bins_with_returns s) (stock_on s day)
       (demands_after first acts key day s slice next) (supplies_after first acts key day s slice next)
 
   put_once : no_two is_share_of (day_put s day) ≡ true
   put_once =
-      items_put_once (λ (g : List ℕ). g) first acts act s slice next (gtins_seen s) (items_apart first acts key day s slice) (items_told first acts key day s slice next.0)
+      items_put_once (λ (g : List ℕ). g) first acts act s slice refl next (gtins_seen s) (items_apart first acts key day s slice) (items_told first acts key day s slice next.0)
       day refl s.rows.orders s.rows.lines (staged_kept_on s day) s.rows.lots s.rows.recalls (bins_with_returns s) (stock_on s day)
       (demands_after first acts key day s slice next) (supplies_after first acts key day s slice next)
 

@@ -1,6 +1,6 @@
 -- Which lots the opening of a day makes unshippable, and which items it touches, by the rows of its slice.
-use Rattle.std.proofs.Common.{◌≡◌, ℕ, Bool, true, false, ◌&&◌, not, List, [], ◌∷◌, refl, ap, sym, ◌∙◌}
-use Rattle.std.specs.Prelude.{◌||◌, ◌==◌, if◌then◌else◌, ℤ, Option, Some, None, find, filter, map, is_some}
+use Rattle.std.proofs.Common.{◌≡◌, ℕ, Bool, true, false, ◌&&◌, not, List, [], ◌∷◌, ◌++◌, refl, ap, sym, ◌∙◌}
+use Rattle.std.specs.Prelude.{◌||◌, ◌==◌, if◌then◌else◌, ℤ, Option, Some, None, find, filter, map, option_map, is_some}
 use Rattle.std.specs.List.{list_any}
 use Rattle.values.specs.Values.{same_text}
 use Rattle.values.specs.declared.lot.LotId.{LotId}
@@ -8,27 +8,28 @@ use Rattle.commands.specs.declared.key.Key.{Key}
 use Rattle.commands.specs.declared.command.Command.TheVariants.{OpenDay}
 use Rattle.commands.specs.declared.rows.ItemRow.{ItemRow}
 use Rattle.commands.specs.declared.rows.LotRow.{LotRow}
+use Rattle.commands.specs.declared.rows.StagedRow.{StagedRow}
 use Rattle.machine.specs.Acts.{Act, next_number}
-use Rattle.machine.specs.Postings.{is_lot, of_item}
-use Rattle.machine.specs.Standing.{KnownLot, Placed, lots, lots_of, lot_known, is_held, is_recalled, is_expired, is_shippable, has_item, orders, today}
-use Rattle.machine.specs.Ledger.{returned, postings}
+use Rattle.machine.specs.Postings.{InBin, Stage, Posting, is_lot, of_item}
+use Rattle.machine.specs.Standing.{RETURNS, KnownLot, Placed, lots, lots_of, lot_known, is_held, is_recalled, is_expired, is_shippable, has_item, orders, today}
+use Rattle.machine.specs.Ledger.{posting, lot_returned, returned, postings}
 use Rattle.machine.specs.Planning.{staged_of_lot}
 use Rattle.machine.specs.Once.{IsHistory}
 use Rattle.machine.specs.Tables.{tables_of, lot_row, item_row}
 use Rattle.machine.specs.Touched.{is_touched}
 use Rattle.machine.specs.KeyedRows.{AreRows, AreOwn, no_two}
-use Rattle.rules.specs.Slices.{IsSlice}
-use Rattle.machine.specs.Verdict.{is_past}
+use Rattle.rules.specs.Slices.{IsSlice, in_bins, on_stages}
 use Rattle.row_rules.specs.Seen.{lot_seen}
+use Rattle.row_rules.specs.SeenStages.{staged_qty}
 use Rattle.row_rules.specs.Status.{is_past_row}
 use Rattle.lot_rules.specs.DecidedDay.{is_out, gtins_seen}
 use Rattle.row_rules.specs.declared.slice.Slice.{Slice}
-use Rattle.machine.proofs.Tests.{or_first, same_text_is, same_text_refl, is_lot_is}
+use Rattle.machine.proofs.Tests.{or_first, or_later, or_none, and_later_false, same_text_is, same_text_refl, is_lot_is}
 use Rattle.machine.proofs.Apart.{AllFound, any_found}
 use Rattle.machine.proofs.histories.Lots.{same_known, lots_found}
 use Rattle.machine.proofs.histories.LotItems.{lots_have_items, item_of_lot}
-use Rattle.rules.proofs.rows.FoundRows.{found_passes}
-use Rattle.rules.proofs.rows.LotStateTold.{past_told}
+use Rattle.rules.proofs.rows.FoundRows.{found_passes, found_own}
+use Rattle.rules.proofs.rows.StageTold.{on_stage_told}
 use Rattle.rules.proofs.rows.SliceTells.{item_told}
 use Rattle.rules.proofs.rows.LeavingLots.{MakesThemUnshippable}
 
@@ -90,9 +91,14 @@ module _ (first : ℤ) (acts : List Act) (key : Key) (day : ℤ) (s : Slice) (sl
 
   -- Lots
 
-  lots_are : AreRows is_lot (λ (r : LotRow). r.lot) (λ l. is_touched first act acts l.gtin) (λ l. is_touched first act acts l.gtin) (lot_row acts) s.rows.lots
+  lots_own : AreOwn (λ (r : LotRow). r.lot) (λ l. is_touched first act acts l.gtin) (lot_row acts) s.rows.lots
   unfolding tables_of
-  lots_are = slice.lots
+  lots_own = slice.lots.own
+
+  -- a lot with units on stages
+  lot_in : (l : LotId) → is_touched first act acts l.gtin ≡ true → on_stages s.rows l ≡ true → lot_seen s l ≡ lot_row acts l
+  unfolding tables_of
+  lot_in l t on = slice.lots.found l (λ i. t i && or_later (in_bins s.rows l) (on_stages s.rows l) on i)
 
   -- a lot that the slice has is of an item that the act touches
   pub out_touched : (l : LotId) → is_out s day l ≡ true → is_touched first act acts l.gtin ≡ true
@@ -103,10 +109,21 @@ module _ (first : ℤ) (acts : List Act) (key : Key) (day : ℤ) (s : Slice) (sl
       by_row (Some r) e f =
           let own : is_lot l r.lot ≡ true = found_passes (λ (k : LotRow). is_lot l k.lot) s.rows.lots r e in
           ap (λ (x : LotId). is_touched first act acts x.gtin) (is_lot_is l r.lot own)
-          ∙ found_allowed (λ (k : LotRow). k.lot) (λ m. is_touched first act acts m.gtin) (lot_row acts) (λ k. is_lot l k.lot) s.rows.lots lots_are.own r e
+          ∙ found_allowed (λ (k : LotRow). k.lot) (λ m. is_touched first act acts m.gtin) (lot_row acts) (λ k. is_lot l k.lot) s.rows.lots lots_own r e
 
-  out_is_past : (l : LotId) (k : KnownLot) → is_touched first act acts l.gtin ≡ true → lot_known acts l ≡ Some k → gone l ≡ is_expired day k.expiry
-  out_is_past l k t e = past_told first acts act s slice l day t ∙ ap (λ x. is_past x day) e
+  past_row : (l : LotId) (k : KnownLot) → lot_known acts l ≡ Some k → is_past_row (lot_row acts l) day ≡ is_expired day k.expiry
+  past_row l k e = ap (λ (x : Option KnownLot). is_past_row (option_map (λ (k : KnownLot). record { lot = k.lot; expiry = k.expiry; came = k.came; held = is_held acts k.lot }) x) day) e
+
+  -- a row that the slice has is the lot's
+  out_is_past : (l : LotId) (k : KnownLot) → gone l ≡ true → lot_known acts l ≡ Some k → is_expired day k.expiry ≡ true
+  out_is_past l k g e = by_row (lot_seen s l) refl g
+    where
+      by_row : (x : Option LotRow) → lot_seen s l ≡ x → is_past_row x day ≡ true → is_expired day k.expiry ≡ true
+      by_row None f h = let z : false ≡ true = h in cc
+      by_row (Some r) f h =
+          let own : l ≡ r.lot = is_lot_is l r.lot (found_passes (λ (k : LotRow). is_lot l k.lot) s.rows.lots r f) in
+          let row : lot_row acts l ≡ Some r = ap (λ (x : LotId). lot_row acts x) own ∙ found_own (λ (k : LotRow). k.lot) (λ m. is_touched first act acts m.gtin) (lot_row acts) (λ k. is_lot l k.lot) s.rows.lots lots_own r f in
+          sym (past_row l k e) ∙ ap (λ (x : Option LotRow). is_past_row x day) row ∙ h
 
   abbrev was : KnownLot → Bool
   was k = is_shippable first acts k && not (is_shippable first after k)
@@ -118,17 +135,47 @@ module _ (first : ℤ) (acts : List Act) (key : Key) (day : ℤ) (s : Slice) (sl
   lot_touched k found t =
       or_first (list_any was (lots_of acts k.lot.gtin)) _ (any_in (λ (m : KnownLot). is_lot k.lot m.lot) was (λ (m : KnownLot). of_item k.lot.gtin m.lot) (lots acts) k found (same_text_refl k.lot.gtin) t)
 
-  gone_is : (k : KnownLot) → lot_known acts k.lot ≡ Some k → was k ≡ true → gone k.lot ≡ true
-  gone_is k found t =
-      out_is_past k.lot k (lot_touched k found t) found
+  -- of a lot that becomes unshippable, but is not out by the rows, nothing is staged
+
+  gone_is : (k : KnownLot) → lot_known acts k.lot ≡ Some k → was k ≡ true → on_stages s.rows k.lot ≡ true → gone k.lot ≡ true
+  gone_is k found t on =
+      ap (λ (x : Option LotRow). is_past_row x day) (lot_in k.lot (lot_touched k found t) on) ∙ past_row k.lot k found
       ∙ expired_since (not (is_held acts k.lot)) (not (is_recalled acts k.lot)) (not (is_expired (today first acts) k.expiry)) (is_expired day k.expiry) t
 
-  same_kept : (ks : List KnownLot) → AllFound same_known (lots acts) ks → filter was ks ≡ filter out ks
-  same_kept [] h = refl
-  same_kept (k ∷ ks) h = elim (was k) as (λ b. was k ≡ b → (if b then k ∷ filter was ks else filter was ks) ≡ (if b && gone k.lot then k ∷ filter out ks else filter out ks)) [
-    | true ↦ λ t. ap (λ xs. k ∷ xs) (same_kept ks h.1) ∙ ap (λ b. if b then k ∷ filter out ks else filter out ks) (sym (gone_is k h.0 t))
-    | false ↦ λ t. same_kept ks h.1
+  not_found : (o : List ℕ) (l : LotId) (rows : List StagedRow) → list_any (λ (r : StagedRow). is_lot l r.lot) rows ≡ false → find (λ (r : StagedRow). same_text o r.order && is_lot l r.lot) rows ≡ None
+  not_found o l [] e = refl
+  not_found o l (r ∷ rs) e =
+      let two = or_none (is_lot l r.lot) (list_any (λ (r : StagedRow). is_lot l r.lot) rs) e in
+      ap (λ b. if b then Some r else find (λ (r : StagedRow). same_text o r.order && is_lot l r.lot) rs) (and_later_false (same_text o r.order) (is_lot l r.lot) two.0) ∙ not_found o l rs two.1
+
+  not_staged : (k : KnownLot) → lot_known acts k.lot ≡ Some k → was k ≡ true → gone k.lot ≡ false → (o : List ℕ) → staged_of_lot first acts o k.lot ≡ 0
+  not_staged k found t e o = elim (on_stages s.rows k.lot) as (λ b. on_stages s.rows k.lot ≡ b → staged_of_lot first acts o k.lot ≡ 0) [
+    | true ↦ λ on. let f : true ≡ false = sym (gone_is k found t on) ∙ e in cc
+    | false ↦ λ off. sym (on_stage_told first acts act s slice o k.lot (lot_touched k found t)) ∙ ap staged_qty (not_found o k.lot s.rows.staged off)
   ] refl
+
+  none_returned : (k : KnownLot) → ((o : List ℕ) → staged_of_lot first acts o k.lot ≡ 0) → (ps : List Placed) → lot_returned (next_number acts) ps (postings first acts) k ≡ []
+  none_returned k none [] = refl
+  none_returned k none (p ∷ ps) =
+      ap (λ q. posting (next_number acts) k.lot (Stage p.order) (InBin RETURNS) q ++ lot_returned (next_number acts) ps (postings first acts) k) (none p.order) ∙ none_returned k none ps
+
+  same_returned : (ks : List KnownLot) → AllFound same_known (lots acts) ks
+      → returned (next_number acts) (filter was ks) (orders acts) (postings first acts) ≡ returned (next_number acts) (filter out ks) (orders acts) (postings first acts)
+  same_returned [] h = refl
+  same_returned (k ∷ ks) h =
+      elim (was k) as (λ b. was k ≡ b → back (if b then k ∷ filter was ks else filter was ks) ≡ back (if b && gone k.lot then k ∷ filter out ks else filter out ks)) [
+        | true ↦ λ t. elim (gone k.lot) as (λ b. gone k.lot ≡ b → of_lot ++ back (filter was ks) ≡ back (if b then k ∷ filter out ks else filter out ks)) [
+          | true ↦ λ g. ap (λ xs. of_lot ++ xs) (same_returned ks h.1)
+          | false ↦ λ g. ap (λ xs. xs ++ back (filter was ks)) (none_returned k (not_staged k h.0 t g) (orders acts)) ∙ same_returned ks h.1
+        ] refl
+        | false ↦ λ t. same_returned ks h.1
+      ] refl
+    where
+      back : List KnownLot → List Posting
+      back xs = returned (next_number acts) xs (orders acts) (postings first acts)
+
+      of_lot : List Posting
+      of_lot = lot_returned (next_number acts) (orders acts) (postings first acts) k
 
   second : (a b : Bool) → a && b ≡ true → b ≡ true
   second true b e = e
@@ -138,8 +185,8 @@ module _ (first : ℤ) (acts : List Act) (key : Key) (day : ℤ) (s : Slice) (sl
   makes = record {
     out = out;
     out_gone = λ k e. second (was k) (gone k.lot) e;
-    posts = ap (λ ks. returned (next_number acts) ks (orders acts) (postings first acts)) (same_kept (lots acts) (lots_found acts));
-    unshippable = λ l k g e. never_shippable (not (is_held acts k.lot)) (not (is_recalled acts k.lot)) (is_expired day k.expiry) (sym (out_is_past l k (out_touched l g) e) ∙ g);
+    posts = same_returned (lots acts) (lots_found acts);
+    unshippable = λ l k g e. never_shippable (not (is_held acts k.lot)) (not (is_recalled acts k.lot)) (is_expired day k.expiry) (out_is_past l k g e);
     same_orders = refl;
     same_cancels = refl;
     same_bins = refl;
@@ -173,7 +220,7 @@ module _ (first : ℤ) (acts : List Act) (key : Key) (day : ℤ) (s : Slice) (sl
   items_told history g =
       any_gtin g s.rows.items ∙ sym (any_found (λ (r : ItemRow). same_text g r.gtin) s.rows.items)
       ∙ elim (is_touched first act acts g) as (λ b. is_touched first act acts g ≡ b → is_some (find (λ (r : ItemRow). same_text g r.gtin) s.rows.items) ≡ b) [
-        | true ↦ λ t. item_told first acts act s slice g t ∙ item_known history g t
+        | true ↦ λ t. item_told first acts act s slice refl g t ∙ item_known history g t
         | false ↦ λ t. none t (find (λ (r : ItemRow). same_text g r.gtin) s.rows.items) refl
       ] refl
     where

@@ -20,7 +20,7 @@ use Rattle.machine.specs.Standing.{RETURNS, has_line}
 use Rattle.machine.specs.Ledger.{postings}
 use Rattle.machine.specs.Planning.{in_bin, is_open}
 use Rattle.machine.specs.Once.{IsHistory}
-use Rattle.machine.specs.Tables.{tables_of, if_any, bin_row, stock_row, order_row, line_row, staged_row}
+use Rattle.machine.specs.Tables.{tables_of, if_any, bin_row, lot_row, stock_row, order_row, line_row, staged_row}
 use Rattle.machine.specs.Touched.{is_touched}
 use Rattle.machine.specs.KeyedRows.{AreRows, OrderLot, no_two, same_cell, same_line, same_share}
 use Rattle.rules.specs.Slices.{IsSlice, changed, unless_put}
@@ -30,7 +30,7 @@ use Rattle.row_rules.specs.SeenLots.{stock_put}
 use Rattle.lot_rules.specs.DecidedHold.{staged_of_seen, units_in_returns, returned_put, returns_bin_row, bins_with_returns}
 use Rattle.lot_rules.specs.DecidedDay.{is_out, staged_kept_on, staged_gone_on, lot_returned_on, stock_returned, stands_in, stock_on}
 use Rattle.row_rules.specs.declared.slice.Slice.{Slice}
-use Rattle.machine.proofs.Tests.{and_both, and_false, is_zero, not_true, same_text_refl, same_text_is, is_lot_is, is_lot_item, is_lot_refl}
+use Rattle.machine.proofs.Tests.{and_both, and_false, or_none, is_zero, not_true, same_text_refl, same_text_is, is_lot_is, is_lot_item, is_lot_refl}
 use Rattle.machine.proofs.Apart.{any_found}
 use Rattle.machine.proofs.histories.Cells.{holds}
 use Rattle.machine.proofs.histories.LegalHistories.{legal_history}
@@ -39,6 +39,7 @@ use Rattle.rules.proofs.rows.AfterRows.{loosened}
 use Rattle.rules.proofs.rows.AddedRows.{find_appended, any_appended}
 use Rattle.rules.proofs.rows.DemandsTold.{TellsDemands}
 use Rattle.rules.proofs.rows.DroppedRows.{rows_left, dropped_at}
+use Rattle.rules.proofs.rows.FoundRows.{there_found}
 use Rattle.rules.proofs.rows.LotTold.{in_bin_told}
 use Rattle.rules.proofs.rows.LotUnits.{bin_within_limit}
 use Rattle.machine.proofs.histories.PlaceRows.{staged_holds}
@@ -48,7 +49,7 @@ use Rattle.rules.proofs.rows.SameKeys.{same_share_is, same_cell_is, same_cell_re
 use Rattle.rules.proofs.rows.SliceDemands.{slice_tells_demands}
 use Rattle.rules.proofs.rows.SliceSupplies.{slice_tells_supplies}
 use Rattle.rules.proofs.rows.StockChanged.{any_kept}
-use Rattle.rules.proofs.rows.SuppliesTold.{TellsSupplies}
+use Rattle.rules.proofs.rows.SuppliesTold.{TellsSupplies, in_stock}
 use Rattle.machine.proofs.histories.UnshippableLots.{stages_of}
 use Rattle.rules.proofs.rows.LeavingLots.{MakesThemUnshippable, unstaged, staged_still, in_bin_still, in_returns, open_still, line_still, order_row_still, line_row_still}
 use Rattle.rules.proofs.decided.days.DayLots.{out_touched, makes}
@@ -140,6 +141,27 @@ module _ (s : Slice) (day : ℤ) where
         | false ↦ refl
       ]
 
+  -- and are of lots of the slice
+  no_other_lot : (m : LotId) (ks : List LotRow) → list_any (λ (k : LotRow). is_lot m k.lot) ks ≡ false → list_any (λ (r : StockRow). is_lot m r.lot) (flat_map (lot_returned_on s day) ks) ≡ false
+  no_other_lot m [] e = refl
+  no_other_lot m (k ∷ ks) e =
+      any_appended (λ (r : StockRow). is_lot m r.lot) (lot_returned_on s day k) (flat_map (lot_returned_on s day) ks) ∙ (λ i. own i || no_other_lot m ks two.1 i)
+    where
+      two : (is_lot m k.lot ≡ false) × (list_any (λ (k : LotRow). is_lot m k.lot) ks ≡ false)
+      two = or_none (is_lot m k.lot) (list_any (λ (k : LotRow). is_lot m k.lot) ks) e
+
+      own : list_any (λ (r : StockRow). is_lot m r.lot) (lot_returned_on s day k) ≡ false
+      own = elim (is_out s day k.lot) as (λ t. list_any (λ (r : StockRow). is_lot m r.lot) (if t then returned_put s k.lot else []) ≡ false) [
+        | true ↦ elim (staged_of_seen s k.lot == 0) as (λ t. list_any (λ (r : StockRow). is_lot m r.lot) (if t then [] else stock_put k.lot RETURNS (units_in_returns s k.lot)) ≡ false) [
+          | true ↦ refl
+          | false ↦ elim (units_in_returns s k.lot == 0) as (λ t. list_any (λ (r : StockRow). is_lot m r.lot) (if t then [] else row_put k.lot ∷ []) ≡ false) [
+            | true ↦ refl
+            | false ↦ ap (λ c. c || false) two.0
+          ]
+        ]
+        | false ↦ refl
+      ]
+
   is_seen : (m : LotId) → is_out s day m ≡ true → list_any (λ (k : LotRow). is_lot m k.lot) s.rows.lots ≡ true
   is_seen m e = sym (any_found (λ (k : LotRow). is_lot m k.lot) s.rows.lots) ∙ by_row (lot_seen s m) e
     where
@@ -168,7 +190,7 @@ module _ (first : ℤ) (acts : List Act) (key : Key) (day : ℤ) (s : Slice) (sl
     touched = out_touched first acts key day s slice l g
 
     staged_are : AreRows same_share (λ (r : StagedRow). (r.order, r.lot)) (λ (k : OrderLot). of_item l.gtin k.1) (λ (k : OrderLot). true) (λ k. staged_row first acts k.0 k.1) s.rows.staged
-    staged_are = (slice_tells_demands first acts act s slice l.gtin touched).staged
+    staged_are = (slice_tells_demands first acts act s slice refl l.gtin touched).staged
 
     staged_total : holds (stages_of l) (postings first acts) ≡ total (λ (r : StagedRow). if is_lot l r.lot then r.qty else 0) s.rows.staged
     staged_total = staged_holds first acts (legal_history first acts next.0) (λ m o. is_lot l m) _ _ s.rows.staged staged_are (λ m o e. is_lot_item l m e)
@@ -180,7 +202,7 @@ module _ (first : ℤ) (acts : List Act) (key : Key) (day : ℤ) (s : Slice) (sl
     staged_seen_is = omega (arith, staged_total, comes_in, bin_within_limit first after next l.gtin l (same_text_refl l.gtin) RETURNS)
 
     in_returns_is : units_in_returns s l ≡ in_bin first after RETURNS l
-    in_returns_is = omega (arith, staged_seen_is, in_bin_told first acts act s slice RETURNS l touched, comes_in, bin_within_limit first after next l.gtin l (same_text_refl l.gtin) RETURNS)
+    in_returns_is = omega (arith, staged_seen_is, in_bin_told first acts act s slice refl RETURNS l touched, comes_in, bin_within_limit first after next l.gtin l (same_text_refl l.gtin) RETURNS)
 
     in_cell_returns : unless_put (find (at_cell s day l RETURNS) (returned_put s l)) false (stock_row first acts l RETURNS) ≡ stock_row first after l RETURNS
     in_cell_returns =
@@ -268,7 +290,7 @@ module _ (first : ℤ) (acts : List Act) (key : Key) (day : ℤ) (s : Slice) (sl
   module _ (h : List ℕ) (t : is_touched first act acts h ≡ true) where
     pub demands_after : TellsDemands first after h s.rows.orders s.rows.lines (staged_kept_on s day)
     demands_after =
-        let before = slice_tells_demands first acts act s slice h t in
+        let before = slice_tells_demands first acts act s slice refl h t in
         record {
           orders = loosened same_text (λ (x : OrderRow). x.order) (λ o. is_open first acts o && has_line acts o h) (λ o. is_open first after o && has_line after o h) (λ o. true) (λ o. true) (order_row first acts) (order_row first after) s.rows.orders
               (λ o e. (λ i. open_still first acts act gone made next o i && line_still first acts act gone made next o h i) ∙ e) (λ o e. refl) (order_row_still first acts act gone made next) before.orders;
@@ -283,7 +305,7 @@ module _ (first : ℤ) (acts : List Act) (key : Key) (day : ℤ) (s : Slice) (sl
     bin_there b e =
         elim (same_text b RETURNS) as (λ c. same_text b RETURNS ≡ c → (if c then Some returns_bin_row else find (λ (r : BinRow). same_text b r.name) s.rows.bins) ≡ bin_row after b) [
           | true ↦ λ c. sym (ap (λ (x : List ℕ). bin_row after x) (same_text_is b RETURNS c) ∙ ap (option_map (λ (x : NewBin). record { name = x.bin; kind = x.kind })) (returns_named first after next))
-          | false ↦ λ c. (slice_tells_supplies first acts act s slice h t).bins b (any_kept (λ (r : StockRow). same_text b r.bin) (λ r. not (stands_in (stock_returned s day) r)) s.rows.stock (behind c))
+          | false ↦ λ c. (slice_tells_supplies first acts act s slice refl h t).bins b (any_kept (λ (r : StockRow). same_text b r.bin) (λ r. not (stands_in (stock_returned s day) r)) s.rows.stock (behind c))
         ] refl
       where
         behind : same_text b RETURNS ≡ false → list_any (λ (r : StockRow). same_text b r.bin) (filter (λ r. not (stands_in (stock_returned s day) r)) s.rows.stock) ≡ true
@@ -291,11 +313,29 @@ module _ (first : ℤ) (acts : List Act) (key : Key) (day : ℤ) (s : Slice) (sl
             ap (λ x. x || list_any (λ (r : StockRow). same_text b r.bin) (filter (λ r. not (stands_in (stock_returned s day) r)) s.rows.stock)) (sym (no_other_bin s day b c s.rows.lots))
             ∙ sym (any_appended (λ (r : StockRow). same_text b r.bin) (stock_returned s day) (filter (λ r. not (stands_in (stock_returned s day) r)) s.rows.stock)) ∙ e
 
+    -- a lot with stock after it is one of the slice, or had stock before
+    lots_found : (m : LotId) → in_stock h (stock_on s day) m ≡ true → find (λ (k : LotRow). is_lot m k.lot) s.rows.lots ≡ lot_row after m
+    lots_found m e =
+        let two = and_both (of_item h m) (list_any (λ (r : StockRow). is_lot m r.lot) (stock_on s day)) e in
+        elim (list_any (λ (k : LotRow). is_lot m k.lot) s.rows.lots) as (λ b. list_any (λ (k : LotRow). is_lot m k.lot) s.rows.lots ≡ b → find (λ (k : LotRow). is_lot m k.lot) s.rows.lots ≡ lot_row after m) [
+          | true ↦ λ c. there_found is_lot is_lot_is (λ (k : LotRow). k.lot) (λ k. true) (lot_row acts) s.rows.lots before.lots.own m c
+          | false ↦ λ c. before.lots.found m (λ i. two.0 i && any_kept (λ (r : StockRow). is_lot m r.lot) (λ r. not (stands_in (stock_returned s day) r)) s.rows.stock (behind c two.1) i)
+        ] refl
+      where
+        before : TellsSupplies first acts h s.rows.lots s.rows.recalls s.rows.stock s.rows.bins
+        before = slice_tells_supplies first acts act s slice refl h t
+
+        behind : list_any (λ (k : LotRow). is_lot m k.lot) s.rows.lots ≡ false → list_any (λ (r : StockRow). is_lot m r.lot) (stock_on s day) ≡ true
+            → list_any (λ (r : StockRow). is_lot m r.lot) (filter (λ r. not (stands_in (stock_returned s day) r)) s.rows.stock) ≡ true
+        behind c f =
+            ap (λ x. x || list_any (λ (r : StockRow). is_lot m r.lot) (filter (λ r. not (stands_in (stock_returned s day) r)) s.rows.stock)) (sym (no_other_lot s day m s.rows.lots c))
+            ∙ sym (any_appended (λ (r : StockRow). is_lot m r.lot) (stock_returned s day) (filter (λ r. not (stands_in (stock_returned s day) r)) s.rows.stock)) ∙ f
+
     pub supplies_after : TellsSupplies first after h s.rows.lots s.rows.recalls (stock_on s day) (bins_with_returns s)
     supplies_after =
-        let before = slice_tells_supplies first acts act s slice h t in
+        let before = slice_tells_supplies first acts act s slice refl h t in
         record {
-          lots = before.lots;
+          lots = record { found = lots_found; own = before.lots.own; once = before.lots.once };
           recalls = before.recalls;
           stock = loosened same_cell (λ (r : StockRow). (r.lot, r.bin)) (λ k. of_item h k.0) (λ k. of_item h k.0) (λ k. true) (λ k. true)
               (λ k. unless_put (find (λ (r : StockRow). same_cell k (r.lot, r.bin)) (stock_returned s day)) false (stock_row first acts k.0 k.1)) (λ k. stock_row first after k.0 k.1) (stock_on s day)

@@ -1,5 +1,5 @@
 -- A move judged by its slice is judged as by the acts.
-use Rattle.std.proofs.Common.{◌≡◌, true, not, List, [], ◌∷◌}
+use Rattle.std.proofs.Common.{◌≡◌, true, not, List, [], ◌∷◌, refl}
 use Rattle.std.specs.Prelude.{◌||◌, nat_lt, ℤ}
 use Rattle.values.specs.Values.{same_text}
 use Rattle.commands.specs.declared.key.Key.{Key}
@@ -12,7 +12,7 @@ use Rattle.rules.specs.Slices.{IsSlice}
 use Rattle.machine.specs.Verdict.{first_refusal, judgement}
 use Rattle.goods_rules.specs.DecidedMove.{move_seen}
 use Rattle.row_rules.specs.declared.slice.Slice.{Slice}
-use Rattle.machine.proofs.Tests.{same_text_refl, or_first, or_later}
+use Rattle.machine.proofs.Tests.{same_text_refl, is_lot_refl, or_first, or_later}
 use Rattle.rules.proofs.rows.SliceTells.{item_told, bin_told}
 use Rattle.rules.proofs.rows.LotTold.{lot_known_told, in_bin_told}
 
@@ -32,9 +32,9 @@ module _ (first : ℤ) (acts : List Act) (key : Key) (m : Movement) (s : Slice) 
   pub move_judged : first_refusal (move_seen s m) ≡ first_refusal (judgement first acts (Move m))
   move_judged =
       λ i. first_refusal (
-      (not (item_told first acts act s slice m.lot.gtin touched i), UnknownItem)
-      ∷ (not (bin_told first acts act s slice m.from from_named i), UnknownBin)
-      ∷ (not (bin_told first acts act s slice m.to to_named i), UnknownBin)
-      ∷ (not (lot_known_told first acts act s slice m.lot touched i), UnknownLot)
-      ∷ (nat_lt (in_bin_told first acts act s slice m.from m.lot touched i) m.qty, NotInBin)
+      (not (item_told first acts act s slice refl m.lot.gtin touched i), UnknownItem)
+      ∷ (not (bin_told first acts act s slice refl m.from from_named i), UnknownBin)
+      ∷ (not (bin_told first acts act s slice refl m.to to_named i), UnknownBin)
+      ∷ (not (lot_known_told first acts act s slice refl m.lot (is_lot_refl m.lot) i), UnknownLot)
+      ∷ (nat_lt (in_bin_told first acts act s slice refl m.from m.lot touched i) m.qty, NotInBin)
       ∷ (same_text m.from m.to, SameBin) ∷ [])

@@ -49,12 +49,12 @@ module _ (first : ℤ) (acts : List Act) (key : Key) (m : Movement) (s : Slice) 
   abbrev drops : List ReservedRow
   drops = rows_to_drop g s.rows.reserved shares
 
-  only : TouchesOnly first acts act s slice next g
+  only : TouchesOnly first acts act s slice refl next g
   only = record { own = same_text_refl g; others = λ h e. same_text_turned h g ∙ e }
 
   are_named : AreNamed first act acts puts drops
   are_named =
-      replanned first acts act s slice next g only s.meta.day (day_seen first acts act s slice) s.rows.orders s.rows.lines s.rows.staged s.rows.lots s.rows.recalls s.rows.bins (stock_rows_moved s m)
+      replanned first acts act s slice refl next g only s.meta.day (day_seen first acts act s slice) s.rows.orders s.rows.lines s.rows.staged s.rows.lots s.rows.recalls s.rows.bins (stock_rows_moved s m)
       (demands_after first acts key m s slice next) (supplies_after first acts key m s slice next)
 
   -- The change is that of the act
@@ -90,7 +90,7 @@ module _ (first : ℤ) (acts : List Act) (key : Key) (m : Movement) (s : Slice) 
     applies = let h = accepted first acts key m s slice next in
         ap (λ c. applied c (tables_of first acts)) changes_same
         ∙ move_step first acts key m (plain_reply s) (some_moved first acts key m s slice next) h.there h.apart (legal_before first acts key m s slice next) s.rows.stock
-        (found_stock first acts act s slice m.lot m.from (same_text_refl g)) puts drops (reserved_changed first act acts puts drops are_named);
+        (found_stock first acts act s slice refl m.lot m.from (same_text_refl g)) puts drops (reserved_changed first act acts puts drops are_named);
     text = plain_same first acts act s slice (room_for_acts first acts (Move m) next.1.passes) refl;
     once = record {
       items = refl;
@@ -102,7 +102,7 @@ module _ (first : ℤ) (acts : List Act) (key : Key) (m : Movement) (s : Slice) 
       lines = refl;
       staged = refl;
       reserved =
-          replanned_once first acts act s slice next g only s.meta.day (day_seen first acts act s slice) s.rows.orders s.rows.lines s.rows.staged s.rows.lots s.rows.recalls s.rows.bins (stock_rows_moved s m)
+          replanned_once first acts act s slice refl next g only s.meta.day (day_seen first acts act s slice) s.rows.orders s.rows.lines s.rows.staged s.rows.lots s.rows.recalls s.rows.bins (stock_rows_moved s m)
           (demands_after first acts key m s slice next) (supplies_after first acts key m s slice next);
       shipments = refl;
       shiplines = refl;

@@ -20,7 +20,7 @@ use Rattle.goods_rules.specs.DecidedReceive.{receive_seen, receive_shares, recei
 use Rattle.row_rules.specs.declared.slice.Slice.{Slice}
 use Rattle.row_rules.specs.declared.slice.Change.{Change}
 use Rattle.row_rules.specs.declared.slice.RuleFault.{RuleFault}
-use Rattle.machine.proofs.Tests.{same_text_refl, same_text_turned}
+use Rattle.machine.proofs.Tests.{same_text_refl, same_text_turned, is_lot_item}
 use Rattle.machine.proofs.histories.Accepted.{room_for_acts}
 use Rattle.rules.proofs.rows.TableSteps.{AreNamed, names_changed, reserved_changed}
 use Rattle.rules.proofs.rows.Replanned.{TouchesOnly, replanned, replanned_once}
@@ -56,12 +56,12 @@ module _ (first : ℤ) (acts : List Act) (key : Key) (r : Receipt) (s : Slice) (
   abbrev drops : List ReservedRow
   drops = rows_to_drop g s.rows.reserved shares
 
-  only : TouchesOnly first acts act s slice next g
+  only : TouchesOnly first acts act s slice refl next g
   only = record { own = same_text_refl g; others = λ h e. same_text_turned h g ∙ e }
 
   are_named : AreNamed first act acts puts drops
   are_named =
-      replanned first acts act s slice next g only s.meta.day (day_seen first acts act s slice) s.rows.orders s.rows.lines s.rows.staged (lot_rows_after s r) s.rows.recalls s.rows.bins (stock_rows_after s r)
+      replanned first acts act s slice refl next g only s.meta.day (day_seen first acts act s slice) s.rows.orders s.rows.lines s.rows.staged (lot_rows_after s r) s.rows.recalls s.rows.bins (stock_rows_after s r)
       (demands_after first acts key r s slice next) (supplies_after first acts key r s slice next)
 
   -- The change is that of the act
@@ -69,7 +69,7 @@ module _ (first : ℤ) (acts : List Act) (key : Key) (r : Receipt) (s : Slice) (
   rest_same : lot_units r.lot (stock_rows_after s r) s.rows.staged ≡ (new_card first acts key r (plain_reply s) (some_received first acts key r s slice next) (legal_before first acts key r s slice next)).rest
   rest_same =
       lot_units_told first after next g r.lot (same_text_refl g) (stock_rows_after s r) s.rows.staged (λ k. of_item g k.0) (λ k. true) (λ k. of_item g k.1) (λ k. true)
-      (supplies_after first acts key r s slice next).stock (demands_after first acts key r s slice next).staged (λ m b e. e) (λ m o e. e)
+      (supplies_after first acts key r s slice next).stock (demands_after first acts key r s slice next).staged (λ m b e. is_lot_item r.lot m e) (λ m o e. is_lot_item r.lot m e)
 
   changes_same : receive_changes s key r ≡ receive_change first acts key r (plain_reply s) (some_received first acts key r s slice next) (legal_before first acts key r s slice next) puts drops
   changes_same =
@@ -109,7 +109,7 @@ module _ (first : ℤ) (acts : List Act) (key : Key) (r : Receipt) (s : Slice) (
       lines = refl;
       staged = refl;
       reserved =
-          replanned_once first acts act s slice next g only s.meta.day (day_seen first acts act s slice) s.rows.orders s.rows.lines s.rows.staged (lot_rows_after s r) s.rows.recalls s.rows.bins (stock_rows_after s r)
+          replanned_once first acts act s slice refl next g only s.meta.day (day_seen first acts act s slice) s.rows.orders s.rows.lines s.rows.staged (lot_rows_after s r) s.rows.recalls s.rows.bins (stock_rows_after s r)
           (demands_after first acts key r s slice next) (supplies_after first acts key r s slice next);
       shipments = refl;
       shiplines = refl;

@@ -1,6 +1,6 @@
 -- A receipt judged by its slice is judged as by the acts.
 use Rattle.std.proofs.Common.{◌≡◌, ℕ, ◌+◌, ◌≤◌, ◌<◌, Bool, true, false, ◌&&◌, not, List, [], ◌∷◌, refl, ap, sym, ◌∙◌, arith}
-use Rattle.std.specs.Prelude.{nat_lt, ℤ}
+use Rattle.std.specs.Prelude.{◌||◌, nat_lt, ℤ}
 use Rattle.values.specs.Values.{same_text}
 use Rattle.values.specs.declared.lot.LotId.{LotId}
 use Rattle.commands.specs.declared.limits.TheConstants.{UNITS_MAX}
@@ -18,19 +18,19 @@ use Rattle.machine.specs.Once.{IsHistory}
 use Rattle.machine.specs.Tables.{tables_of, stock_row, staged_row}
 use Rattle.machine.specs.Touched.{is_touched}
 use Rattle.machine.specs.KeyedRows.{AreRows, LotBin, OrderLot, same_cell, same_share}
-use Rattle.rules.specs.Slices.{IsSlice}
+use Rattle.rules.specs.Slices.{IsSlice, plans, on_named_stage}
 use Rattle.row_rules.specs.Seen.{capped, is_over, stock_units, staged_units}
 use Rattle.goods_rules.specs.DecidedReceive.{receive_seen}
 use Rattle.machine.specs.Verdict.{first_refusal, judgement}
 use Rattle.row_rules.specs.declared.slice.Slice.{Slice}
-use Rattle.machine.proofs.Tests.{same_text_is, same_text_refl, and_not_itself}
+use Rattle.machine.proofs.Tests.{or_first, same_text_is, same_text_refl, is_lot_refl, and_not_itself}
 use Rattle.machine.proofs.histories.Cells.{without, holds, holds_split}
 use Rattle.machine.proofs.histories.LegalHistories.{legal_history}
 use Rattle.machine.proofs.histories.PlaceRows.{bin_cells, stage_cells, stock_holds, staged_holds}
 use Rattle.rules.proofs.decided.Decisions.{day_seen}
 use Rattle.rules.proofs.rows.SliceTells.{item_told, bin_told, expiry_told, recall_told}
 
-module _ (first : ℤ) (acts : List Act) (act : Act) (s : Slice) (slice : IsSlice first act acts (tables_of first acts) s) (history : IsHistory first acts) (g : List ℕ) (touched : is_touched first act acts g ≡ true) where
+module _ (first : ℤ) (acts : List Act) (act : Act) (s : Slice) (slice : IsSlice first act acts (tables_of first acts) s) (planned : plans act.command ≡ true) (history : IsHistory first acts) (g : List ℕ) (touched : is_touched first act acts g ≡ true) where
   touched_item : (l : LotId) → of_item g l ≡ true → is_touched first act acts l.gtin ≡ true
   touched_item l e = ap (λ (x : List ℕ). is_touched first act acts x) (sym (same_text_is g l.gtin e)) ∙ touched
 
@@ -52,7 +52,7 @@ module _ (first : ℤ) (acts : List Act) (act : Act) (s : Slice) (slice : IsSlic
   bins_inside WriteOff l e = e
   bins_inside (Shipped n o) l e = e
 
-  stock_are : AreRows same_cell (λ r. (r.lot, r.bin)) (λ (k : LotBin). is_touched first act acts k.0.gtin) (λ (k : LotBin). is_touched first act acts k.0.gtin) (λ k. stock_row first acts k.0 k.1) s.rows.stock
+  stock_are : AreRows same_cell (λ r. (r.lot, r.bin)) (λ (k : LotBin). is_touched first act acts k.0.gtin && (plans act.command || on_named_stage act.command s.rows k.0)) (λ (k : LotBin). is_touched first act acts k.0.gtin) (λ k. stock_row first acts k.0 k.1) s.rows.stock
   unfolding tables_of
   stock_are = slice.stock
 
@@ -65,7 +65,7 @@ module _ (first : ℤ) (acts : List Act) (act : Act) (s : Slice) (slice : IsSlic
   units_are =
       let legal = legal_history first acts history in
       holds_split (postings first acts) legal (bin_cells (λ l b. of_item g l)) (λ p l. in_house p && of_item g l) (record { supplier = λ m. refl; write_off = λ m. refl }) (record { supplier = λ m. refl; write_off = λ m. refl }) bins_inside
-      ∙ (λ i. stock_holds first acts legal (λ l b. of_item g l) _ _ s.rows.stock stock_are (λ l b e. touched_item l e) i
+      ∙ (λ i. stock_holds first acts legal (λ l b. of_item g l) _ _ s.rows.stock stock_are (λ l b e j. touched_item l e j && or_first (plans act.command) (on_named_stage act.command s.rows l) planned j) i
       + ((λ j. holds (λ p l. stages_left p l j) (postings first acts)) ∙ staged_holds first acts legal (λ l o. of_item g l) _ _ s.rows.staged staged_are (λ l o e. touched_item l e)) i)
 
   more_than : (a b m n : ℕ) → n ≡ a + b → nat_lt UNITS_MAX (capped (capped (capped a + capped b) + m)) ≡ nat_lt (UNITS_MAX + 0) (n + m)
@@ -95,9 +95,9 @@ module _ (first : ℤ) (acts : List Act) (key : Key) (r : Receipt) (s : Slice)
   pub receive_judged : first_refusal (receive_seen s r) ≡ first_refusal (judgement first acts (Receive r))
   receive_judged =
       λ i. first_refusal (
-      (not (item_told first acts act s slice r.lot.gtin touched i), UnknownItem)
-      ∷ (not (bin_told first acts act s slice r.bin (same_text_refl r.bin) i), UnknownBin)
-      ∷ (expiry_told first acts act s slice r.lot r.expiry touched i, OtherExpiry)
-      ∷ (recall_told first acts act s slice r.lot touched i, LotRecalled)
+      (not (item_told first acts act s slice refl r.lot.gtin touched i), UnknownItem)
+      ∷ (not (bin_told first acts act s slice refl r.bin (same_text_refl r.bin) i), UnknownBin)
+      ∷ (expiry_told first acts act s slice refl r.lot r.expiry (is_lot_refl r.lot) i, OtherExpiry)
+      ∷ (recall_told first acts act s slice refl r.lot touched i, LotRecalled)
       ∷ (is_expired (day_seen first acts act s slice i) r.expiry, LotExpired)
-      ∷ (over_told first acts act s slice history r.lot.gtin touched r.qty i, OverUnits) ∷ [])
+      ∷ (over_told first acts act s slice refl history r.lot.gtin touched r.qty i, OverUnits) ∷ [])

@@ -9,7 +9,7 @@ use Rattle.commands.specs.declared.command.Command.TheVariants.{Hold}
 use Rattle.commands.specs.declared.rows.LotRow.{LotRow}
 use Rattle.commands.specs.declared.rows.ReservedRow.{ReservedRow}
 use Rattle.machine.specs.Acts.{Act, gathered}
-use Rattle.machine.specs.Postings.{is_lot, of_item}
+use Rattle.machine.specs.Postings.{is_lot}
 use Rattle.machine.specs.Standing.{Holding, hold_in, says_held, is_held, is_recalled, is_expired, today}
 use Rattle.machine.specs.Verdict.{first_refusal, judgement}
 use Rattle.machine.specs.Once.{IsHistory}
@@ -22,7 +22,7 @@ use Rattle.lot_rules.specs.DecidedHold.{hold_seen, hold_shares, hold_changes, wi
 use Rattle.row_rules.specs.declared.slice.Slice.{Slice}
 use Rattle.row_rules.specs.declared.slice.Change.{Change}
 use Rattle.row_rules.specs.declared.slice.RuleFault.{RuleFault}
-use Rattle.machine.proofs.Tests.{same_text_refl, same_text_turned, is_lot_turned}
+use Rattle.machine.proofs.Tests.{same_text_refl, same_text_turned, is_lot_refl, is_lot_turned}
 use Rattle.machine.proofs.histories.Accepted.{room_for_acts}
 use Rattle.rules.proofs.rows.AfterRows.{loosened}
 use Rattle.rules.proofs.rows.MappedRows.{rows_mapped}
@@ -30,7 +30,7 @@ use Rattle.rules.proofs.rows.LotTold.{lot_known_told}
 use Rattle.rules.proofs.rows.LotStateTold.{held_told}
 use Rattle.rules.proofs.rows.HeldLots.{lot_put_once, held_after, held_at}
 use Rattle.rules.proofs.rows.SliceTells.{item_told, recall_told, found_lot}
-use Rattle.rules.proofs.rows.SliceSupplies.{slice_tells_supplies}
+use Rattle.rules.proofs.rows.SliceSupplies.{slice_tells_supplies, slice_lots, is_wanted}
 use Rattle.rules.proofs.rows.SuppliesTold.{TellsSupplies}
 use Rattle.rules.proofs.rows.TableSteps.{same_tables, AreNamed, names_changed, reserved_changed}
 use Rattle.rules.proofs.rows.Replanned.{TouchesOnly, replanned, replanned_once}
@@ -51,13 +51,16 @@ module _ (first : ℤ) (acts : List Act) (key : Key) (l : LotId) (s : Slice) (sl
   touched : same_text g g ≡ true
   touched = same_text_refl g
 
+  named : is_lot l l ≡ true
+  named = is_lot_refl l
+
   hold_judged : IsHistory first acts → first_refusal (hold_seen s l) ≡ first_refusal (judgement first acts (Hold l))
   hold_judged history =
       λ i. first_refusal (
-      (not (item_told first acts act s slice g touched i), UnknownItem)
-      ∷ (not (lot_known_told first acts act s slice l touched i), UnknownLot)
-      ∷ (recall_told first acts act s slice l touched i, LotRecalled)
-      ∷ (held_told first acts act s slice history l touched i, LotHeld) ∷ [])
+      (not (item_told first acts act s slice refl g touched i), UnknownItem)
+      ∷ (not (lot_known_told first acts act s slice refl l named i), UnknownLot)
+      ∷ (recall_told first acts act s slice refl l touched i, LotRecalled)
+      ∷ (held_told first acts act s slice refl history l named i, LotHeld) ∷ [])
 
   -- The lot is held after it
 
@@ -65,7 +68,7 @@ module _ (first : ℤ) (acts : List Act) (key : Key) (l : LotId) (s : Slice) (sl
   held_is m = elim (is_lot m l) as (λ b. says_held (if b then Some (record { lot = l; held = true }) else find (λ (w : Holding). is_lot m w.lot) (gathered hold_in acts)) ≡ (if b then true else is_held acts m)) [ true ↦ refl | false ↦ refl ]
 
   lot_at : (m : LotId) → changed (λ (q : LotRow). is_lot m q.lot) (lot_put l true (lot_seen s l)) [] (lot_row acts m) ≡ lot_row after m
-  lot_at = held_at acts after l true refl held_is (lot_seen s l) (sym (found_lot first acts act s slice l touched))
+  lot_at = held_at acts after l true refl held_is (lot_seen s l) (sym (found_lot first acts act s slice refl l named))
 
   makes : MakesUnshippable first acts act l
   makes = record {
@@ -77,11 +80,11 @@ module _ (first : ℤ) (acts : List Act) (key : Key) (l : LotId) (s : Slice) (sl
     same_bins = refl;
   }
 
-  lots_after : AreRows is_lot (λ (k : LotRow). k.lot) (λ m. of_item g m) (λ m. true) (lot_row after) (lot_rows_with_hold s l true)
+  lots_after : AreRows is_lot (λ (k : LotRow). k.lot) (is_wanted (Hold l) s.rows g) (λ m. true) (lot_row after) (lot_rows_with_hold s l true)
   lots_after =
-      loosened is_lot (λ (k : LotRow). k.lot) (λ m. of_item g m) (λ m. of_item g m) (λ m. true) (λ m. true) (λ m. option_map (with_hold l true) (lot_row acts m)) (lot_row after) (lot_rows_with_hold s l true)
+      loosened is_lot (λ (k : LotRow). k.lot) (is_wanted (Hold l) s.rows g) (is_wanted (Hold l) s.rows g) (λ m. true) (λ m. true) (λ m. option_map (with_hold l true) (lot_row acts m)) (lot_row after) (lot_rows_with_hold s l true)
       (λ m e. e) (λ m e. e) (λ m. sym (held_after acts after l true refl held_is m))
-      (rows_mapped is_lot (λ (k : LotRow). k.lot) (with_hold l true) (λ k. refl) (λ m. of_item g m) (λ m. true) (lot_row acts) s.rows.lots (slice_tells_supplies first acts act s slice g touched).lots)
+      (rows_mapped is_lot (λ (k : LotRow). k.lot) (with_hold l true) (λ k. refl) (is_wanted (Hold l) s.rows g) (λ m. true) (lot_row acts) s.rows.lots (slice_lots first acts act s slice refl g touched))
 
   abbrev puts : List ReservedRow
   puts = rows_to_put s.rows.reserved (hold_shares s l)
@@ -99,23 +102,23 @@ module _ (first : ℤ) (acts : List Act) (key : Key) (l : LotId) (s : Slice) (sl
 
   module _ (next : IsHistory first (record { key = key; command = Hold l } ∷ acts)) where
     supplies_are : TellsSupplies first after g (lot_rows_with_hold s l true) s.rows.recalls (stock_with_returned s l) (bins_with_returns s)
-    supplies_are = supplies_after first acts act l s slice touched makes next (lot_rows_with_hold s l true) s.rows.recalls lots_after (slice_tells_supplies first acts act s slice g touched).recalls
+    supplies_are = supplies_after first acts act l s slice refl named makes next (lot_rows_with_hold s l true) s.rows.recalls lots_after (slice_tells_supplies first acts act s slice refl g touched).recalls
 
-    only : TouchesOnly first acts act s slice next g
+    only : TouchesOnly first acts act s slice refl next g
     only = record { own = touched; others = λ h e. same_text_turned h g ∙ e }
 
     are_named : AreNamed first act acts puts drops
     are_named =
-        replanned first acts act s slice next g only s.meta.day (day_seen first acts act s slice) s.rows.orders s.rows.lines (staged_kept s l) (lot_rows_with_hold s l true) s.rows.recalls (bins_with_returns s) (stock_with_returned s l)
-        (demands_after first acts act l s slice touched makes next) supplies_are
+        replanned first acts act s slice refl next g only s.meta.day (day_seen first acts act s slice) s.rows.orders s.rows.lines (staged_kept s l) (lot_rows_with_hold s l true) s.rows.recalls (bins_with_returns s) (stock_with_returned s l)
+        (demands_after first acts act l s slice refl named makes next) supplies_are
 
     hold_step : ((o : List ℕ) (m : LotId) → changed (λ (q : ReservedRow). same_text o q.order && is_lot m q.lot) puts drops (reserved_row first acts o m) ≡ reserved_row first after o m)
         → applied hold_change (tables_of first acts) ≡ tables_but_repeats first act acts
     unfolding applied tables_of
     hold_step reserved_at =
         same_tables (applied hold_change (tables_of first acts)) (tables_but_repeats first act acts) refl
-        (λ g. refl) (λ b. refl) lot_at (λ l. refl) (returned_stock_at first acts act l s slice touched makes next) (order_row_still first acts act l makes next) (line_row_still first acts act l makes next)
-        (returned_staged_at first acts act l s slice touched makes next) reserved_at (λ n. refl) (shipline_row_still first acts act l makes next) (card_row_still first acts act l makes next) (λ k. refl)
+        (λ g. refl) (λ b. refl) lot_at (λ l. refl) (returned_stock_at first acts act l s slice refl named makes next) (order_row_still first acts act l makes next) (line_row_still first acts act l makes next)
+        (returned_staged_at first acts act l s slice refl named makes next) reserved_at (λ n. refl) (shipline_row_still first acts act l makes next) (card_row_still first acts act l makes next) (λ k. refl)
 
     hold_changed : IsChange first act acts (hold_changes s l)
     hold_changed =
@@ -123,7 +126,7 @@ module _ (first : ℤ) (acts : List Act) (key : Key) (l : LotId) (s : Slice) (sl
         record {
           applies = (λ i. applied (record hold_change { meta = meta_same first acts act s slice room refl refl i }) (tables_of first acts))
               ∙ hold_step (reserved_changed first act acts puts drops are_named);
-          text = returned_text first acts act l s slice touched makes next room refl;
+          text = returned_text first acts act l s slice refl named makes next room refl;
           once = record {
             items = refl;
             bins = refl;
@@ -134,8 +137,8 @@ module _ (first : ℤ) (acts : List Act) (key : Key) (l : LotId) (s : Slice) (sl
             lines = refl;
             staged = refl;
             reserved =
-                replanned_once first acts act s slice next g only s.meta.day (day_seen first acts act s slice) s.rows.orders s.rows.lines (staged_kept s l) (lot_rows_with_hold s l true) s.rows.recalls (bins_with_returns s) (stock_with_returned s l)
-                (demands_after first acts act l s slice touched makes next) supplies_are;
+                replanned_once first acts act s slice refl next g only s.meta.day (day_seen first acts act s slice) s.rows.orders s.rows.lines (staged_kept s l) (lot_rows_with_hold s l true) s.rows.recalls (bins_with_returns s) (stock_with_returned s l)
+                (demands_after first acts act l s slice refl named makes next) supplies_are;
             shipments = refl;
             shiplines = refl;
             cards = refl;

@@ -23,10 +23,10 @@ use Rattle.lot_rules.specs.DecidedHold.{recall_seen, recall_shares, recall_chang
 use Rattle.row_rules.specs.declared.slice.Slice.{Slice}
 use Rattle.row_rules.specs.declared.slice.Change.{Change}
 use Rattle.row_rules.specs.declared.slice.RuleFault.{RuleFault}
-use Rattle.machine.proofs.Tests.{and_false, same_text_refl, same_text_turned, is_lot_turned}
+use Rattle.machine.proofs.Tests.{and_false, same_text_refl, same_text_turned, is_lot_refl, is_lot_turned}
 use Rattle.machine.proofs.histories.Accepted.{room_for_acts}
 use Rattle.rules.proofs.rows.SliceTells.{item_told, recall_told}
-use Rattle.rules.proofs.rows.SliceSupplies.{slice_tells_supplies}
+use Rattle.rules.proofs.rows.SliceSupplies.{slice_tells_supplies, slice_lots, is_wanted}
 use Rattle.rules.proofs.rows.SuppliesTold.{TellsSupplies}
 use Rattle.rules.proofs.rows.TableSteps.{same_tables, AreNamed, names_changed, reserved_changed, put_found}
 use Rattle.rules.proofs.rows.Replanned.{TouchesOnly, replanned, replanned_once}
@@ -47,11 +47,14 @@ module _ (first : ℤ) (acts : List Act) (key : Key) (l : LotId) (s : Slice) (sl
   touched : same_text g g ≡ true
   touched = same_text_refl g
 
+  named : is_lot l l ≡ true
+  named = is_lot_refl l
+
   recall_judged : first_refusal (recall_seen s l) ≡ first_refusal (judgement first acts (Recall l))
   recall_judged =
       λ i. first_refusal (
-      (not (item_told first acts act s slice g touched i), UnknownItem)
-      ∷ (recall_told first acts act s slice l touched i, AlreadyRecalled) ∷ [])
+      (not (item_told first acts act s slice refl g touched i), UnknownItem)
+      ∷ (recall_told first acts act s slice refl l touched i, AlreadyRecalled) ∷ [])
 
   -- The lot is recalled after it
 
@@ -99,34 +102,34 @@ module _ (first : ℤ) (acts : List Act) (key : Key) (l : LotId) (s : Slice) (sl
 
     recalls_after : (m : LotId) → of_item g m ≡ true → find (λ (r : RecallRow). is_lot m r.lot) (recall_rows_after s l) ≡ recall_row after m
     recalls_after m e =
-        (λ i. if is_lot m l then Some (new_row_is i) else (slice_tells_supplies first acts act s slice g touched).recalls m e i)
+        (λ i. if is_lot m l then Some (new_row_is i) else (slice_tells_supplies first acts act s slice refl g touched).recalls m e i)
         ∙ either (is_lot m l) (recalling acts m)
       where
         either : (b : Bool) (rest : Option Recalling) → (if b then Some (shown newest) else option_map shown rest) ≡ option_map shown (if b then Some newest else rest)
         either true rest = refl
         either false rest = refl
 
-    lots_still : AreRows is_lot (λ (r : LotRow). r.lot) (λ m. of_item g m) (λ m. true) (lot_row after) s.rows.lots
-    lots_still = (slice_tells_supplies first acts act s slice g touched).lots
+    lots_still : AreRows is_lot (λ (r : LotRow). r.lot) (is_wanted (Recall l) s.rows g) (λ m. true) (lot_row after) s.rows.lots
+    lots_still = slice_lots first acts act s slice refl g touched
 
     supplies_are : TellsSupplies first after g s.rows.lots (recall_rows_after s l) (stock_with_returned s l) (bins_with_returns s)
-    supplies_are = supplies_after first acts act l s slice touched makes next s.rows.lots (recall_rows_after s l) lots_still recalls_after
+    supplies_are = supplies_after first acts act l s slice refl named makes next s.rows.lots (recall_rows_after s l) lots_still recalls_after
 
-    only : TouchesOnly first acts act s slice next g
+    only : TouchesOnly first acts act s slice refl next g
     only = record { own = touched; others = λ h e. same_text_turned h g ∙ e }
 
     are_named : AreNamed first act acts puts drops
     are_named =
-        replanned first acts act s slice next g only s.meta.day (day_seen first acts act s slice) s.rows.orders s.rows.lines (staged_kept s l) s.rows.lots (recall_rows_after s l) (bins_with_returns s) (stock_with_returned s l)
-        (demands_after first acts act l s slice touched makes next) supplies_are
+        replanned first acts act s slice refl next g only s.meta.day (day_seen first acts act s slice) s.rows.orders s.rows.lines (staged_kept s l) s.rows.lots (recall_rows_after s l) (bins_with_returns s) (stock_with_returned s l)
+        (demands_after first acts act l s slice refl named makes next) supplies_are
 
     recall_step : ((o : List ℕ) (m : LotId) → changed (λ (q : ReservedRow). same_text o q.order && is_lot m q.lot) puts drops (reserved_row first acts o m) ≡ reserved_row first after o m)
         → applied recall_change (tables_of first acts) ≡ tables_but_repeats first act acts
     unfolding applied tables_of
     recall_step reserved_at =
         same_tables (applied recall_change (tables_of first acts)) (tables_but_repeats first act acts) refl
-        (λ g. refl) (λ b. refl) (λ l. refl) recall_at (returned_stock_at first acts act l s slice touched makes next) (order_row_still first acts act l makes next) (line_row_still first acts act l makes next)
-        (returned_staged_at first acts act l s slice touched makes next) reserved_at (λ n. refl) (shipline_row_still first acts act l makes next) (card_row_still first acts act l makes next) (λ k. refl)
+        (λ g. refl) (λ b. refl) (λ l. refl) recall_at (returned_stock_at first acts act l s slice refl named makes next) (order_row_still first acts act l makes next) (line_row_still first acts act l makes next)
+        (returned_staged_at first acts act l s slice refl named makes next) reserved_at (λ n. refl) (shipline_row_still first acts act l makes next) (card_row_still first acts act l makes next) (λ k. refl)
 
     recall_changed : IsChange first act acts (recall_changes s l)
     recall_changed =
@@ -137,7 +140,7 @@ module _ (first : ℤ) (acts : List Act) (key : Key) (l : LotId) (s : Slice) (sl
             put = record none_put { recalls = new_row_is i ∷ []; stock = returned_put s l; reserved = puts };
           }) (tables_of first acts))
               ∙ recall_step (reserved_changed first act acts puts drops are_named);
-          text = returned_text first acts act l s slice touched makes next room refl;
+          text = returned_text first acts act l s slice refl named makes next room refl;
           once = record {
             items = refl;
             bins = refl;
@@ -148,8 +151,8 @@ module _ (first : ℤ) (acts : List Act) (key : Key) (l : LotId) (s : Slice) (sl
             lines = refl;
             staged = refl;
             reserved =
-                replanned_once first acts act s slice next g only s.meta.day (day_seen first acts act s slice) s.rows.orders s.rows.lines (staged_kept s l) s.rows.lots (recall_rows_after s l) (bins_with_returns s) (stock_with_returned s l)
-                (demands_after first acts act l s slice touched makes next) supplies_are;
+                replanned_once first acts act s slice refl next g only s.meta.day (day_seen first acts act s slice) s.rows.orders s.rows.lines (staged_kept s l) s.rows.lots (recall_rows_after s l) (bins_with_returns s) (stock_with_returned s l)
+                (demands_after first acts act l s slice refl named makes next) supplies_are;
             shipments = refl;
             shiplines = refl;
             cards = refl;

@@ -9,7 +9,7 @@ use Rattle.commands.specs.declared.command.Command.TheVariants.{Release}
 use Rattle.commands.specs.declared.rows.LotRow.{LotRow}
 use Rattle.commands.specs.declared.rows.ReservedRow.{ReservedRow}
 use Rattle.machine.specs.Acts.{Act, gathered}
-use Rattle.machine.specs.Postings.{is_lot, of_item}
+use Rattle.machine.specs.Postings.{is_lot}
 use Rattle.machine.specs.Standing.{Holding, hold_in, says_held, is_held}
 use Rattle.machine.specs.Verdict.{first_refusal, judgement}
 use Rattle.machine.specs.Once.{IsHistory}
@@ -21,7 +21,7 @@ use Rattle.lot_rules.specs.DecidedHold.{release_seen, release_shares, release_ch
 use Rattle.row_rules.specs.declared.slice.Slice.{Slice}
 use Rattle.row_rules.specs.declared.slice.Change.{Change}
 use Rattle.row_rules.specs.declared.slice.RuleFault.{RuleFault}
-use Rattle.machine.proofs.Tests.{same_text_refl, same_text_turned}
+use Rattle.machine.proofs.Tests.{same_text_refl, same_text_turned, is_lot_refl}
 use Rattle.machine.proofs.histories.Accepted.{room_for_acts}
 use Rattle.rules.proofs.rows.AfterRows.{loosened}
 use Rattle.rules.proofs.rows.MappedRows.{rows_mapped}
@@ -32,7 +32,7 @@ use Rattle.rules.proofs.rows.SliceTells.{item_told, recall_told, found_lot}
 use Rattle.rules.proofs.rows.SliceDemands.{slice_tells_demands}
 use Rattle.rules.proofs.rows.SliceSupplies.{slice_tells_supplies}
 use Rattle.rules.proofs.rows.DemandsTold.{TellsDemands}
-use Rattle.rules.proofs.rows.SuppliesTold.{TellsSupplies}
+use Rattle.rules.proofs.rows.SuppliesTold.{TellsSupplies, in_stock}
 use Rattle.rules.proofs.rows.TableSteps.{same_tables, AreNamed, names_changed, reserved_changed}
 use Rattle.rules.proofs.rows.Replanned.{TouchesOnly, replanned, replanned_once}
 use Rattle.rules.proofs.decided.Decisions.{AreRight, IsChange, day_seen, plain_same, meta_same}
@@ -53,10 +53,10 @@ module _ (first : ℤ) (acts : List Act) (key : Key) (l : LotId) (s : Slice) (sl
   release_judged : IsHistory first acts → first_refusal (release_seen s l) ≡ first_refusal (judgement first acts (Release l))
   release_judged history =
       λ i. first_refusal (
-      (not (item_told first acts act s slice g touched i), UnknownItem)
-      ∷ (not (lot_known_told first acts act s slice l touched i), UnknownLot)
-      ∷ (recall_told first acts act s slice l touched i, LotRecalled)
-      ∷ (not (held_told first acts act s slice history l touched i), LotNotHeld) ∷ [])
+      (not (item_told first acts act s slice refl g touched i), UnknownItem)
+      ∷ (not (lot_known_told first acts act s slice refl l (is_lot_refl l) i), UnknownLot)
+      ∷ (recall_told first acts act s slice refl l touched i, LotRecalled)
+      ∷ (not (held_told first acts act s slice refl history l (is_lot_refl l) i), LotNotHeld) ∷ [])
 
   -- The lot is not held after it
 
@@ -64,20 +64,20 @@ module _ (first : ℤ) (acts : List Act) (key : Key) (l : LotId) (s : Slice) (sl
   held_is m = elim (is_lot m l) as (λ b. says_held (if b then Some (record { lot = l; held = false }) else find (λ (w : Holding). is_lot m w.lot) (gathered hold_in acts)) ≡ (if b then false else is_held acts m)) [ true ↦ refl | false ↦ refl ]
 
   lot_at : (m : LotId) → changed (λ (q : LotRow). is_lot m q.lot) (lot_put l false (lot_seen s l)) [] (lot_row acts m) ≡ lot_row after m
-  lot_at = held_at acts after l false refl held_is (lot_seen s l) (sym (found_lot first acts act s slice l touched))
+  lot_at = held_at acts after l false refl held_is (lot_seen s l) (sym (found_lot first acts act s slice refl l (is_lot_refl l)))
 
   -- The rows after it
 
   demands_after : TellsDemands first after g s.rows.orders s.rows.lines s.rows.staged
-  demands_after = let before = slice_tells_demands first acts act s slice g touched in record { orders = before.orders; lines = before.lines; staged = before.staged }
+  demands_after = let before = slice_tells_demands first acts act s slice refl g touched in record { orders = before.orders; lines = before.lines; staged = before.staged }
 
   supplies_after : TellsSupplies first after g (lot_rows_with_hold s l false) s.rows.recalls s.rows.stock s.rows.bins
   supplies_after =
-      let before = slice_tells_supplies first acts act s slice g touched in
+      let before = slice_tells_supplies first acts act s slice refl g touched in
       record {
-        lots = loosened is_lot (λ (k : LotRow). k.lot) (λ m. of_item g m) (λ m. of_item g m) (λ m. true) (λ m. true) (λ m. option_map (with_hold l false) (lot_row acts m)) (lot_row after) (lot_rows_with_hold s l false)
+        lots = loosened is_lot (λ (k : LotRow). k.lot) (in_stock g s.rows.stock) (in_stock g s.rows.stock) (λ m. true) (λ m. true) (λ m. option_map (with_hold l false) (lot_row acts m)) (lot_row after) (lot_rows_with_hold s l false)
             (λ m e. e) (λ m e. e) (λ m. sym (held_after acts after l false refl held_is m))
-            (rows_mapped is_lot (λ (k : LotRow). k.lot) (with_hold l false) (λ k. refl) (λ m. of_item g m) (λ m. true) (lot_row acts) s.rows.lots before.lots);
+            (rows_mapped is_lot (λ (k : LotRow). k.lot) (with_hold l false) (λ k. refl) (in_stock g s.rows.stock) (λ m. true) (lot_row acts) s.rows.lots before.lots);
         recalls = before.recalls;
         stock = before.stock;
         bins = before.bins;
@@ -105,12 +105,12 @@ module _ (first : ℤ) (acts : List Act) (key : Key) (l : LotId) (s : Slice) (sl
       (λ g. refl) (λ b. refl) lot_at (λ l. refl) (λ l b. refl) (λ o. refl) (λ o g. refl) (λ o l. refl) reserved_at (λ n. refl) (λ n l. refl) (λ l n. refl) (λ k. refl)
 
   module _ (next : IsHistory first (record { key = key; command = Release l } ∷ acts)) where
-    only : TouchesOnly first acts act s slice next g
+    only : TouchesOnly first acts act s slice refl next g
     only = record { own = touched; others = λ h e. same_text_turned h g ∙ e }
 
     are_named : AreNamed first act acts puts drops
     are_named =
-        replanned first acts act s slice next g only s.meta.day (day_seen first acts act s slice) s.rows.orders s.rows.lines s.rows.staged (lot_rows_with_hold s l false) s.rows.recalls s.rows.bins s.rows.stock
+        replanned first acts act s slice refl next g only s.meta.day (day_seen first acts act s slice) s.rows.orders s.rows.lines s.rows.staged (lot_rows_with_hold s l false) s.rows.recalls s.rows.bins s.rows.stock
         demands_after supplies_after
 
     release_changed : IsChange first act acts (release_changes s l)
@@ -130,7 +130,7 @@ module _ (first : ℤ) (acts : List Act) (key : Key) (l : LotId) (s : Slice) (sl
             lines = refl;
             staged = refl;
             reserved =
-                replanned_once first acts act s slice next g only s.meta.day (day_seen first acts act s slice) s.rows.orders s.rows.lines s.rows.staged (lot_rows_with_hold s l false) s.rows.recalls s.rows.bins s.rows.stock
+                replanned_once first acts act s slice refl next g only s.meta.day (day_seen first acts act s slice) s.rows.orders s.rows.lines s.rows.staged (lot_rows_with_hold s l false) s.rows.recalls s.rows.bins s.rows.stock
                 demands_after supplies_after;
             shipments = refl;
             shiplines = refl;

@@ -33,7 +33,7 @@ module _ (first : ℤ) (acts : List Act) (key : Key) (o : List ℕ) (s : Slice) 
   after = act ∷ acts
 
   before : TellsDemands first acts g s.rows.orders s.rows.lines s.rows.staged
-  before = slice_tells_demands first acts act s slice g touched
+  before = slice_tells_demands first acts act s slice refl g touched
 
   -- an order that is open after the act is another, and was open
   other : (q : List ℕ) → is_open first after q ≡ true → same_text q o ≡ false
@@ -66,5 +66,5 @@ module _ (first : ℤ) (acts : List Act) (key : Key) (o : List ℕ) (s : Slice) 
 
   pub supplies_after : TellsSupplies first after g s.rows.lots s.rows.recalls s.rows.stock s.rows.bins
   supplies_after =
-      let same = slice_tells_supplies first acts act s slice g touched in
+      let same = slice_tells_supplies first acts act s slice refl g touched in
       record { lots = same.lots; recalls = same.recalls; stock = same.stock; bins = same.bins }

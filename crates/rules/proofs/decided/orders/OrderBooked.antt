@@ -79,18 +79,18 @@ module _ (first : ℤ) (acts : List Act) (key : Key) (o : NewOrder) (s : Slice) 
 
   needs_told : needs_seen s g ≡ capped (wanted + staged) - capped staged
   needs_told =
-      let tells = slice_tells_demands first acts act s slice g touched in
+      let tells = slice_tells_demands first acts act s slice refl g touched in
       ap (λ n. capped n - capped staged)
       (rows_tell_open_units first acts next.0 g s.rows.orders s.rows.lines s.rows.staged tells ∙ sym (rows_tell_needs first acts next.0 g s.rows.orders s.rows.lines s.rows.staged tells))
 
   booked_is : plan_booked s l ≡ plan_rows (together ∷ []) (supplies first acts g) ++ own_rows
   booked_is =
-      let tells = slice_tells_supplies first acts act s slice g touched in
+      let tells = slice_tells_supplies first acts act s slice refl g touched in
       let start : wanted + 0 ≡ wanted = omega arith in
       (λ i. plan_within (record { booking = 0; need = needs_told i } ∷ record { booking = number_is first acts key o s slice next i; need = l.qty } ∷ [])
       (supplies_seen g (day_seen first acts act s slice i) s.rows.recalls s.rows.bins s.rows.stock s.rows.lots))
       ∙ needs_same wanted staged (next_number acts) l.qty offered
-      (stages_within_limit first acts next.0 g s.rows.orders s.rows.lines s.rows.staged (slice_tells_demands first acts act s slice g touched))
+      (stages_within_limit first acts next.0 g s.rows.orders s.rows.lines s.rows.staged (slice_tells_demands first acts act s slice refl g touched))
       ∙ plan_of_cut (together ∷ own ∷ []) offered (supplies_within_limit first acts next.0 g s.rows.lots s.rows.recalls s.rows.stock s.rows.bins tells)
       ∙ same_plan (together ∷ own ∷ []) (together ∷ own ∷ []) offered (supplies first acts g) refl (rows_tell_supplies first acts next.0 g s.rows.lots s.rows.recalls s.rows.stock s.rows.bins tells)
       ∙ plan_rows-append (together ∷ []) (own ∷ []) (supplies first acts g)

@@ -59,10 +59,10 @@ module _ (first : ℤ) (acts : List Act) (key : Key) (o : NewOrder) (s : Slice)
 
   items_told : (ls : List OrderLine) → AllAmong o.lines ls → misses_item s ls ≡ list_any (λ l. not (has_item acts l.gtin)) ls
   items_told [] h = refl
-  items_told (l ∷ ls) h = λ i. not (item_told first acts act s slice l.gtin h.0 i) || items_told ls h.1 i
+  items_told (l ∷ ls) h = λ i. not (item_told first acts act s slice refl l.gtin h.0 i) || items_told ls h.1 i
 
   units_told : (g : List ℕ) → is_touched first act acts g ≡ true → total (open_of_line g s.rows.orders) s.rows.lines ≡ open_units first acts g
-  units_told g t = rows_tell_open_units first acts history g s.rows.orders s.rows.lines s.rows.staged (slice_tells_demands first acts act s slice g t)
+  units_told g t = rows_tell_open_units first acts history g s.rows.orders s.rows.lines s.rows.staged (slice_tells_demands first acts act s slice refl g t)
 
   too_much_told : (ls : List OrderLine) → AllAmong o.lines ls → orders_too_much s ls ≡ list_any (λ l. nat_lt OPEN_MAX (open_units first acts l.gtin + l.qty)) ls
   too_much_told [] h = refl

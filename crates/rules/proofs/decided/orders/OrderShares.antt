@@ -17,10 +17,10 @@ use Rattle.machine.specs.Postings.{is_lot, of_item}
 use Rattle.machine.specs.Standing.{has_order, order_named}
 use Rattle.machine.specs.Planning.{plan, reserved}
 use Rattle.machine.specs.Once.{IsHistory}
-use Rattle.machine.specs.Tables.{tables_of, order_row, lot_row}
+use Rattle.machine.specs.Tables.{tables_of, order_row}
 use Rattle.machine.specs.Touched.{is_touched}
 use Rattle.machine.specs.Verdict.{names_item_twice}
-use Rattle.machine.specs.KeyedRows.{no_two, AreRows, AreOwn}
+use Rattle.machine.specs.KeyedRows.{no_two, AreOwn}
 use Rattle.rules.specs.Slices.{IsSlice, differs, unless_put}
 use Rattle.row_rules.specs.Plans.{named_row, named_rows, is_share_of}
 use Rattle.order_rules.specs.Booked.{line_put}
@@ -35,6 +35,7 @@ use Rattle.rules.proofs.rows.DemandsTold.{listed, line_found}
 use Rattle.rules.proofs.rows.TableSteps.{AreNamed, IsNamed, share_row, nothing_named}
 use Rattle.rules.proofs.rows.SharesTold.{shares_told, shares_once, shares_elsewhere}
 use Rattle.rules.proofs.rows.SliceSupplies.{slice_tells_supplies}
+use Rattle.rules.proofs.rows.SuppliesTold.{TellsSupplies}
 use Rattle.rules.proofs.rows.ItemsNamed.{AllOf, all_of, items_named, items_once}
 use Rattle.rules.proofs.decided.orders.OrderStep.{new_row, order_at}
 use Rattle.rules.proofs.decided.orders.OrderTells.{is_new, is_single, some_wanted, same_item, lines_found}
@@ -118,8 +119,10 @@ module _ (first : ℤ) (acts : List Act) (key : Key) (o : NewOrder) (s : Slice) 
     rows_are : put ≡ rows
     rows_are = put_told first acts key o s slice next l touched alone
 
-    lots_are : AreRows is_lot (λ (k : LotRow). k.lot) (λ m. of_item g m) (λ m. true) (lot_row after) s.rows.lots
-    lots_are = (slice_tells_supplies first acts act s slice g touched).lots
+    supplies_are : TellsSupplies first after g s.rows.lots s.rows.recalls s.rows.stock s.rows.bins
+    supplies_are =
+        let same = slice_tells_supplies first acts act s slice refl g touched in
+        record { lots = same.lots; recalls = same.recalls; stock = same.stock; bins = same.bins }
 
     own_row : (q : List ℕ) (m : LotId) → of_item g m ≡ true → (b : Bool) → same_text q o.order ≡ b → IsNamed q m (reserved first acts q m) (reserved first after q m) put []
     own_row q m own true e =
@@ -129,7 +132,7 @@ module _ (first : ℤ) (acts : List Act) (key : Key) (o : NewOrder) (s : Slice) 
         ap (λ b. if b then Some row else None) e ∙ sym (ap (order_row first after) order ∙ row_is_there) in
         subst (λ n. IsNamed q m n (reserved first after q m) put []) (sym none)
         (new_named q m (reserved first after q m) put
-        (ap (find (λ (r : ReservedRow). same_text q r.order && is_lot m r.lot)) rows_are ∙ shares_told first after next g (row ∷ []) s.rows.lots rows_own lots_are q m own (λ e. there)))
+        (ap (find (λ (r : ReservedRow). same_text q r.order && is_lot m r.lot)) rows_are ∙ shares_told first after next g (row ∷ []) s.rows.lots s.rows.recalls s.rows.stock s.rows.bins rows_own supplies_are q m own (λ e. there)))
     own_row q m own false e =
         let same = nothing_named q m (reserved first acts q m) (reserved first after q m) (others_keep first acts key o next new l alone q m e own) in
         record { put = ap (find (λ (r : ReservedRow). same_text q r.order && is_lot m r.lot)) rows_are ∙ none_of_other q m row s.rows.lots e (plan first after g) ∙ same.put; dropped = same.dropped }
@@ -137,7 +140,7 @@ module _ (first : ℤ) (acts : List Act) (key : Key) (o : NewOrder) (s : Slice) 
     none_elsewhere : (q : List ℕ) (m : LotId) → of_item g m ≡ false → find (λ (r : ReservedRow). same_text q r.order && is_lot m r.lot) put ≡ None
     none_elsewhere q m other =
         ap (find (λ (r : ReservedRow). same_text q r.order && is_lot m r.lot)) rows_are
-        ∙ shares_elsewhere first after next g (row ∷ []) s.rows.lots rows_own lots_are q m other
+        ∙ shares_elsewhere first after next g (row ∷ []) s.rows.lots s.rows.recalls s.rows.stock s.rows.bins rows_own supplies_are q m other
 
     row_elsewhere : (q : List ℕ) (m : LotId) → of_item g m ≡ false → IsNamed q m 0 0 put []
     row_elsewhere q m other = record { put = none_elsewhere q m other; dropped = refl }
@@ -146,7 +149,7 @@ module _ (first : ℤ) (acts : List Act) (key : Key) (o : NewOrder) (s : Slice) 
     all_own = all_of g put none_elsewhere
 
     put_once : no_two is_share_of put ≡ true
-    put_once = ap (no_two is_share_of) rows_are ∙ shares_once first after next g (row ∷ []) s.rows.lots rows_own lots_are
+    put_once = ap (no_two is_share_of) rows_are ∙ shares_once first after next g (row ∷ []) s.rows.lots s.rows.recalls s.rows.stock s.rows.bins rows_own supplies_are
 
   abbrev puts : OrderLine → List ReservedRow
   puts l = line_put s (new_order_row s o) l

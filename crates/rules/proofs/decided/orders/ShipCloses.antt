@@ -11,11 +11,11 @@ use Rattle.commands.specs.declared.rows.OrderRow.{OrderRow}
 use Rattle.commands.specs.declared.rows.LineRow.{LineRow}
 use Rattle.machine.specs.Acts.{Act}
 use Rattle.machine.specs.Standing.{Placed, orders, order_named, lines_of, lines_placed, is_cancelled}
-use Rattle.machine.specs.Planning.{shipped_of, order_state, is_open, is_open_state, is_shipped_in_full}
+use Rattle.machine.specs.Planning.{shipped_of, order_state, is_open_state, is_shipped_in_full}
 use Rattle.machine.specs.Once.{IsHistory}
 use Rattle.machine.specs.Tables.{tables_of, order_row, line_row}
 use Rattle.machine.specs.Touched.{is_touched}
-use Rattle.machine.specs.KeyedRows.{AreRows, AreOwn, OrderItem, same_line}
+use Rattle.machine.specs.KeyedRows.{AreOwn, OrderItem}
 use Rattle.rules.specs.Slices.{IsSlice, changed, unless_put}
 use Rattle.machine.specs.Verdict.{names_item_twice}
 use Rattle.row_rules.specs.SeenOrders.{order_row_seen}
@@ -104,9 +104,9 @@ module _ (first : ℤ) (acts : List Act) (key : Key) (o : List ℕ) (s : Slice) 
       ∙ ap (λ n. not (n == l.qty)) (line_units first acts key o s slice next g (has_placed first acts key o s slice next g l e))
       ∙ ap (λ (x : List ℕ). not (shipped_of first after o x == l.qty)) h.item ∙ ap not h.passes
 
-  line_are : AreRows same_line (λ (r : LineRow). (r.order, r.gtin)) (λ (k : OrderItem). same_text k.0 o || (is_open first acts k.0 && is_touched first act acts k.1)) (λ (k : OrderItem). same_text k.0 o || is_touched first act acts k.1) (λ k. line_row first acts k.0 k.1) s.rows.lines
+  lines_own : AreOwn {K = OrderItem} (λ (r : LineRow). (r.order, r.gtin)) (λ k. same_text k.0 o || is_touched first act acts k.1) (λ k. line_row first acts k.0 k.1) s.rows.lines
   unfolding tables_of
-  line_are = slice.lines
+  lines_own = slice.lines.own
 
   abbrev of_order : List LineRow → List LineRow
   of_order rows = filter (λ r. same_text o r.order) rows
@@ -134,7 +134,7 @@ module _ (first : ℤ) (acts : List Act) (key : Key) (o : List ℕ) (s : Slice) 
   lacking_is p named =
       let single : names_item_twice (lines_of acts o) ≡ false = ap (λ q. names_item_twice (lines_placed q)) named ∙ single_of (orders acts) [] (orders_single first acts next.0) o p named in
       let found = all_found same_item (λ l. same_text_refl l.gtin) (λ l m. same_text_turned l.gtin m.gtin) (lines_of acts o) (single_apart (lines_of acts o) single) in
-      either_way (list_any lacks_units (lines_shipped s o)) (is_shipped_in_full first after o) (λ full. rows_lack_none full s.rows.lines line_are.own) (λ none. all_full none (lines_of acts o) found)
+      either_way (list_any lacks_units (lines_shipped s o)) (is_shipped_in_full first after o) (λ full. rows_lack_none full s.rows.lines lines_own) (λ none. all_full none (lines_of acts o) found)
 
   -- The order's row
 

@@ -1,6 +1,6 @@
 -- The change of a shipping takes the tables to those with the act: its shipment, and the card lines of what is shipped.
 use Rattle.std.proofs.Common.{◌≡◌, ℕ, ◌+◌, ◌-◌, Bool, true, false, ◌&&◌, List, [], ◌∷◌, ◌++◌, refl, ap, sym, ◌∙◌, arith, eq-eqb}
-use Rattle.std.specs.Prelude.{◌==◌, ◌||◌, if◌then◌else◌, min, find, map, flat_map, Option, Some, None, option_map, ℤ, pos, neg_ℤ, decimal}
+use Rattle.std.specs.Prelude.{◌==◌, ◌||◌, if◌then◌else◌, min, find, map, flat_map, Option, Some, None, is_some, option_map, ℤ, pos, neg_ℤ, decimal}
 use Rattle.std.specs.List.{list_any}
 use Rattle.std.proofs.lemmas.Bool.{eqb-true}
 use Rattle.values.specs.Values.{same_text}
@@ -9,6 +9,7 @@ use Rattle.commands.specs.declared.limits.TheConstants.{UNITS_MAX}
 use Rattle.commands.specs.declared.key.Key.{Key}
 use Rattle.commands.specs.declared.command.Command.TheVariants.{Ship}
 use Rattle.commands.specs.declared.rows.CardKind.TheVariants.{Shipment}
+use Rattle.commands.specs.declared.rows.StockRow.{StockRow}
 use Rattle.commands.specs.declared.rows.StagedRow.{StagedRow}
 use Rattle.commands.specs.declared.rows.ShipmentRow.{ShipmentRow}
 use Rattle.commands.specs.declared.rows.ShiplineRow.{ShiplineRow}
@@ -21,11 +22,13 @@ use Rattle.machine.specs.Planning.{staged_of_lot, reserved}
 use Rattle.machine.specs.Cards.{cards, card_lines, lot_units_in_house}
 use Rattle.machine.specs.Once.{IsHistory}
 use Rattle.machine.specs.Tables.{tables_of, if_any, stock_row, staged_row, shipment_row, shipline_row, card_row}
-use Rattle.rules.specs.Slices.{IsSlice, applied, tables_but_repeats, changed, unless_put}
+use Rattle.machine.specs.Touched.{is_touched}
+use Rattle.machine.specs.KeyedRows.{AreRows, LotBin, same_cell}
+use Rattle.rules.specs.Slices.{IsSlice, applied, tables_but_repeats, changed, unless_put, on_named_stage}
 use Rattle.row_rules.specs.Seen.{number_seen, lot_units}
 use Rattle.order_rules.specs.DecidedShip.{shipment_seen, rows_shipped, shipment_put, shipline, ship_card, ship_changes}
 use Rattle.row_rules.specs.declared.slice.Slice.{Slice}
-use Rattle.machine.proofs.Tests.{or_none, and_false, is_lot_is, is_lot_refl, same_text_refl}
+use Rattle.machine.proofs.Tests.{or_none, and_false, is_lot_is, is_lot_item, is_lot_refl, same_text_refl, same_text_turned}
 use Rattle.machine.proofs.Apart.{AreApart, any_found}
 use Rattle.machine.proofs.histories.Lots.{same_known, lots_apart}
 use Rattle.machine.proofs.histories.KnownPlaces.{unknown_line_is_unstaged, unknown_shipment_is_empty}
@@ -35,8 +38,7 @@ use Rattle.rules.proofs.rows.AddedRows.{find_appended, put_over_none}
 use Rattle.machine.proofs.histories.PlaceRows.{and_turned}
 use Rattle.rules.proofs.rows.FoundRows.{same_finds, find_never, find_kept, find_mapped}
 use Rattle.rules.proofs.rows.LotUnits.{lot_units_told, lot_within_limit}
-use Rattle.rules.proofs.rows.SliceDemands.{slice_tells_demands}
-use Rattle.rules.proofs.rows.SliceSupplies.{slice_tells_supplies}
+use Rattle.rules.proofs.rows.SliceDemands.{slice_tells_stages}
 use Rattle.rules.proofs.rows.TableSteps.{AreNamed, nothing_named, reserved_changed, same_tables}
 use Rattle.rules.proofs.decided.Decisions.{day_seen}
 use Rattle.rules.proofs.decided.orders.ShipTells.{number_is, shipment_is, meta_is, unstaged, found_staged, staged_at, line_at}
@@ -175,11 +177,26 @@ module _ (first : ℤ) (acts : List Act) (key : Key) (o : List ℕ) (s : Slice) 
   abbrev card : LotId → CardRow
   card l = record { lot = l; act = next_number acts; day = today first after; kind = Shipment; note = decimal number; qty = neg_ℤ (pos (units l)); rest = lot_units_in_house first after l }
 
-  card_same : (l : LotId) → has_line acts o l.gtin ≡ true → ship_card s (record { order = o; lot = l; qty = units l }) ≡ card l
-  card_same l has =
+  -- the slice has the stock of the lots that are staged for the order
+  stock_are : AreRows same_cell (λ (r : StockRow). (r.lot, r.bin)) (λ (k : LotBin). is_touched first act acts k.0.gtin && on_named_stage act.command s.rows k.0) (λ (k : LotBin). is_touched first act acts k.0.gtin) (λ k. stock_row first acts k.0 k.1) s.rows.stock
+  unfolding tables_of
+  stock_are = slice.stock
+
+  any_turned : (l : LotId) (rows : List StagedRow) → list_any (λ (r : StagedRow). same_text r.order o && is_lot l r.lot) rows ≡ list_any (λ (r : StagedRow). same_text o r.order && is_lot l r.lot) rows
+  any_turned l [] = refl
+  any_turned l (r ∷ rs) = λ i. (same_text_turned r.order o i && is_lot l r.lot) || any_turned l rs i
+
+  staged_here : (l : LotId) → (units l == 0) ≡ false → on_named_stage act.command s.rows l ≡ true
+  staged_here l e =
+      any_turned l s.rows.staged ∙ sym (any_found (λ (r : StagedRow). same_text o r.order && is_lot l r.lot) s.rows.staged)
+      ∙ ap is_some (found_staged first acts key o s slice next l ∙ ap (λ b. if b then None else Some (record { order = o; lot = l; qty = units l })) e)
+
+  card_same : (l : LotId) → has_line acts o l.gtin ≡ true → on_named_stage act.command s.rows l ≡ true → ship_card s (record { order = o; lot = l; qty = units l }) ≡ card l
+  card_same l has staged =
       let told : lot_units l s.rows.stock s.rows.staged ≡ lot_units_in_house first acts l =
-      lot_units_told first acts next.0 l.gtin l (same_text_refl l.gtin) s.rows.stock s.rows.staged (λ k. of_item l.gtin k.0) (λ k. true) (λ k. of_item l.gtin k.1) (λ k. true)
-      (slice_tells_supplies first acts act s slice l.gtin has).stock (slice_tells_demands first acts act s slice l.gtin has).staged (λ m b e. e) (λ m u e. e) in
+      lot_units_told first acts next.0 l.gtin l (same_text_refl l.gtin) s.rows.stock s.rows.staged (λ k. is_touched first act acts k.0.gtin && on_named_stage act.command s.rows k.0) (λ k. is_touched first act acts k.0.gtin) (λ k. of_item l.gtin k.1) (λ k. true)
+      stock_are (slice_tells_stages first acts act s slice l.gtin has)
+      (λ m b e. ap (λ (x : LotId). is_touched first act acts x.gtin && on_named_stage act.command s.rows x) (sym (is_lot_is l m e)) ∙ (λ i. has i && staged i)) (λ m u e. is_lot_item l m e) in
       let house : lot_units_in_house first after l + units l ≡ lot_units_in_house first acts l = house_after first acts key o next l in
       let few : min (units l) UNITS_MAX ≡ units l = omega (arith, house, lot_within_limit first acts next.0 l.gtin l (same_text_refl l.gtin)) in
       let rest : lot_units l s.rows.stock s.rows.staged - units l ≡ lot_units_in_house first after l = omega (arith, told, house) in
@@ -196,10 +213,10 @@ module _ (first : ℤ) (acts : List Act) (key : Key) (o : List ℕ) (s : Slice) 
   shown_card : (l : LotId) → option_map (ship_card s) (staged_row first acts o l) ≡ if_any (units l) (card l)
   shown_card l =
       elim (has_line acts o l.gtin) as (λ b. has_line acts o l.gtin ≡ b → option_map (ship_card s) (staged_row first acts o l) ≡ if_any (units l) (card l)) [
-        | true ↦ λ e. elim (units l == 0) as (λ b. option_map (ship_card s) (if b then None else Some (record { order = o; lot = l; qty = units l })) ≡ (if b then None else Some (card l))) [
-          | true ↦ refl
-          | false ↦ ap (λ (c : CardRow). Some c) (card_same l e)
-        ]
+        | true ↦ λ e. elim (units l == 0) as (λ b. (units l == 0) ≡ b → option_map (ship_card s) (if b then None else Some (record { order = o; lot = l; qty = units l })) ≡ (if b then None else Some (card l))) [
+          | true ↦ λ z. refl
+          | false ↦ λ z. ap (λ (c : CardRow). Some c) (card_same l e (staged_here l z))
+        ] refl
         | false ↦ λ e. ap (option_map (ship_card s)) (unstaged first acts key o s slice next l e) ∙ sym (ap (λ q. if_any q (card l)) (unknown_line_is_unstaged first acts next.0 o l e))
       ] refl
 

@@ -37,7 +37,7 @@ use Rattle.machine.proofs.histories.AfterShipping.{stage_after, shipped_after, o
 use Rattle.rules.proofs.rows.FoundRows.{found_passes, found_own, same_finds, find_never, find_kept, find_mapped}
 use Rattle.rules.proofs.rows.OrderTold.{found_line_row}
 use Rattle.rules.proofs.rows.DemandsTold.{staged_same}
-use Rattle.rules.proofs.rows.SliceDemands.{slice_tells_demands}
+use Rattle.rules.proofs.rows.SliceDemands.{slice_tells_stages}
 use Rattle.rules.proofs.decided.Decisions.{day_seen, shipments_seen, number_same}
 
 twice : (a b : Bool) → a && (a && b) ≡ a && b
@@ -147,7 +147,7 @@ module _ (first : ℤ) (acts : List Act) (key : Key) (o : List ℕ) (s : Slice) 
   -- of this one what was staged, and no more than is ordered
   pub line_units : (g : List ℕ) → has_line acts o g ≡ true → capped (shipped_of first acts o g + capped (staged_seen g o s.rows.staged)) ≡ shipped_of first after o g
   line_units g has =
-      let staged_is = staged_same first acts next.0 g s.rows.orders s.rows.lines s.rows.staged (slice_tells_demands first acts act s slice g has) o ∙ of_postings first acts key o next o g acts in
+      let staged_is = staged_same first acts next.0 g s.rows.staged (slice_tells_stages first acts act s slice g has) o ∙ of_postings first acts key o next o g acts in
       let more = shipped_after first acts key o next o g ∙ ap (λ b. shipped_of first acts o g + (if b then balance (is_stage o) (of_item g) (postings first acts) else 0)) (same_text_refl o) in
       let served = served_is first after (legal_history first after next) o g in
       omega (arith, staged_is, more, served, served_within_ordered first after next o g, ordered_within_limit first after next o g)

@@ -67,7 +67,9 @@ module _ (first : ℤ) (acts : List Act) (key : Key) (p : Picking) (s : Slice) (
     shipped = refl;
     reply = refl;
     touches = λ g. refl;
+    planned = refl;
     names_bin = λ b. refl;
+    names_lot = λ l. refl;
   }
 
   legal : Legal (postings first acts)
@@ -85,7 +87,7 @@ module _ (first : ℤ) (acts : List Act) (key : Key) (p : Picking) (s : Slice) (
   in_bin_after : in_bin first after p.bin p.lot ≡ in_bin_seen s p.bin p.lot - p.qty
   in_bin_after =
       taken_out first acts after (next_number acts) p.lot p.bin p.qty legal (Stage p.order) refl (λ c. refl) there
-      ∙ ap (λ n. n - p.qty) (sym (in_bin_told first acts act s slice p.bin p.lot touched))
+      ∙ ap (λ n. n - p.qty) (sym (in_bin_told first acts act s slice refl p.bin p.lot touched))
 
   on_stage_after : staged_of_lot first after p.order p.lot ≡ capped (on_stage_seen s p.order p.lot + p.qty)
   on_stage_after =
@@ -118,7 +120,7 @@ module _ (first : ℤ) (acts : List Act) (key : Key) (p : Picking) (s : Slice) (
   own_taken = taken p.order p.lot ∙ (λ i. reserved first after p.order p.lot + (if same_text_refl p.order i && is_lot_refl p.lot i then p.qty else 0))
 
   left_told : units_left ≡ units_before - p.qty
-  left_told = ap (λ n. n - p.qty) (reserved_told first acts act s slice p.order p.lot touched)
+  left_told = ap (λ n. n - p.qty) (reserved_told first acts act s slice refl p.order p.lot touched)
 
   left_is : reserved first after p.order p.lot ≡ units_left
   left_is = omega (arith, own_taken, left_told)
@@ -127,7 +129,7 @@ module _ (first : ℤ) (acts : List Act) (key : Key) (p : Picking) (s : Slice) (
   less = omega (arith, own_taken, left_told, some)
 
   found : reserved_found s.rows.reserved p.order p.lot ≡ share_row p.order p.lot units_before
-  found = found_reserved first acts act s slice p.order p.lot touched
+  found = found_reserved first acts act s slice refl p.order p.lot touched
 
   abbrev put : List ReservedRow
   put = reserved_put p.order p.lot units_left

@@ -1,5 +1,5 @@
 -- A picking judged by its slice is judged as by the acts.
-use Rattle.std.proofs.Common.{◌≡◌, true, not, List, [], ◌∷◌, ap, ◌∙◌}
+use Rattle.std.proofs.Common.{◌≡◌, true, not, List, [], ◌∷◌, refl, ap, ◌∙◌}
 use Rattle.std.specs.Prelude.{nat_lt, ℤ}
 use Rattle.values.specs.Values.{same_text}
 use Rattle.commands.specs.declared.key.Key.{Key}
@@ -16,7 +16,7 @@ use Rattle.row_rules.specs.Status.{is_past_row}
 use Rattle.machine.specs.Verdict.{first_refusal, judgement, is_past}
 use Rattle.order_rules.specs.DecidedPick.{pick_seen}
 use Rattle.row_rules.specs.declared.slice.Slice.{Slice}
-use Rattle.machine.proofs.Tests.{same_text_refl}
+use Rattle.machine.proofs.Tests.{same_text_refl, is_lot_refl}
 use Rattle.rules.proofs.decided.Decisions.{day_seen}
 use Rattle.rules.proofs.rows.SliceTells.{item_told, bin_told, recall_told}
 use Rattle.rules.proofs.rows.OrderTold.{order_told, open_told, line_told}
@@ -38,20 +38,20 @@ module _ (first : ℤ) (acts : List Act) (key : Key) (p : Picking) (s : Slice) (
   in_bin = same_text_refl p.bin
 
   past : is_past_row (lot_seen s p.lot) s.meta.day ≡ is_past (lot_known acts p.lot) (today first acts)
-  past = past_told first acts act s slice p.lot s.meta.day touched ∙ ap (is_past (lot_known acts p.lot)) (day_seen first acts act s slice)
+  past = past_told first acts act s slice refl p.lot s.meta.day (is_lot_refl p.lot) ∙ ap (is_past (lot_known acts p.lot)) (day_seen first acts act s slice)
 
   pub pick_judged : first_refusal (pick_seen s p) ≡ first_refusal (judgement first acts (Pick p))
   pick_judged =
       λ i. first_refusal (
-      (not (item_told first acts act s slice p.lot.gtin touched i), UnknownItem)
-      ∷ (not (bin_told first acts act s slice p.bin in_bin i), UnknownBin)
-      ∷ (not (lot_known_told first acts act s slice p.lot touched i), UnknownLot)
+      (not (item_told first acts act s slice refl p.lot.gtin touched i), UnknownItem)
+      ∷ (not (bin_told first acts act s slice refl p.bin in_bin i), UnknownBin)
+      ∷ (not (lot_known_told first acts act s slice refl p.lot (is_lot_refl p.lot) i), UnknownLot)
       ∷ (not (order_told first acts act s slice p.order named i), UnknownOrder)
       ∷ (not (line_told first acts act s slice p.order named p.lot.gtin i), NoSuchLine)
-      ∷ (recall_told first acts act s slice p.lot touched i, LotRecalled)
+      ∷ (recall_told first acts act s slice refl p.lot touched i, LotRecalled)
       ∷ (past i, LotExpired)
-      ∷ (held_told first acts act s slice history p.lot touched i, LotHeld)
-      ∷ (not (store_told first acts act s slice p.bin in_bin i), NotStoreBin)
+      ∷ (held_told first acts act s slice refl history p.lot (is_lot_refl p.lot) i, LotHeld)
+      ∷ (not (store_told first acts act s slice refl p.bin in_bin i), NotStoreBin)
       ∷ (not (open_told first acts act s slice p.order named i), OrderClosed)
-      ∷ (nat_lt (in_bin_told first acts act s slice p.bin p.lot touched i) p.qty, NotInBin)
-      ∷ (nat_lt (reserved_told first acts act s slice p.order p.lot touched i) p.qty, OverReserved) ∷ [])
+      ∷ (nat_lt (in_bin_told first acts act s slice refl p.bin p.lot touched i) p.qty, NotInBin)
+      ∷ (nat_lt (reserved_told first acts act s slice refl p.order p.lot touched i) p.qty, OverReserved) ∷ [])

@@ -19,7 +19,7 @@ use Rattle.machine.specs.Replies.{further_field}
 use Rattle.machine.specs.Tables.{tables_of, meta_row, if_any, item_row, bin_row, lot_row, recall_row, stock_row, order_row, line_row, staged_row, shipment_row, shipline_row, card_row}
 use Rattle.machine.specs.Touched.{is_touched}
 use Rattle.machine.specs.KeyedRows.{same_cell, same_share}
-use Rattle.rules.specs.Slices.{IsSlice, applied, tables_but_repeats, changed, names_bin}
+use Rattle.rules.specs.Slices.{IsSlice, applied, tables_but_repeats, changed, plans, names_bin, names_lot}
 use Rattle.row_rules.specs.SeenLots.{stock_put, stock_gone}
 use Rattle.row_rules.specs.SeenStages.{staged_put, staged_gone}
 use Rattle.order_rules.specs.DecidedPick.{changes_with}
@@ -54,7 +54,9 @@ module _ (first : ℤ) (acts : List Act) (act : Act) (p : Picking) where
     pub shipped : shipments_so_far first after ≡ shipments_so_far first acts
     pub reply : further_field first act acts act.command ≡ []
     pub touches : (g : List ℕ) → is_touched first act acts g ≡ of_item g p.lot
+    pub planned : plans act.command ≡ true
     pub names_bin : (b : List ℕ) → names_bin act.command b ≡ same_text b p.bin
+    pub names_lot : (l : LotId) → names_lot act.command l ≡ is_lot l p.lot
 
   -- so many units of the lot are in the bin and on the stage after it, and the others stay where they are
   pub record IsLeft (stock staged : ℕ) : Type 0 where
@@ -114,7 +116,7 @@ module _ (first : ℤ) (acts : List Act) (act : Act) (p : Picking) where
     module _ (s : Slice) (slice : IsSlice first act acts (tables_of first acts) s) (stock staged : ℕ) (left : IsLeft stock staged) (touched : is_touched first act acts p.lot.gtin ≡ true) where
       stock_at : (l : LotId) (b : List ℕ) → changed (λ r. is_lot l r.lot && same_text b r.bin) (stock_put p.lot p.bin stock) (stock_gone s.rows.stock p.lot p.bin stock) (stock_row first acts l b) ≡ stock_row first after l b
       stock_at l b =
-          cell_changed p.lot p.bin stock (λ k. stock_row first acts k.0 k.1) (in_bin first acts p.bin p.lot) s.rows.stock (found_stock first acts act s slice p.lot p.bin touched) refl (l, b)
+          cell_changed p.lot p.bin stock (λ k. stock_row first acts k.0 k.1) (in_bin first acts p.bin p.lot) s.rows.stock (found_stock first acts act s slice staging.planned p.lot p.bin touched) refl (l, b)
           ∙ stock_row_with first acts after p.lot p.bin stock left.here left.elsewhere (l, b)
 
       staged_at : (o : List ℕ) (l : LotId) → changed (λ r. same_text o r.order && is_lot l r.lot) (staged_put p.order p.lot staged) (staged_gone s.rows.staged p.order p.lot staged) (staged_row first acts o l) ≡ staged_row first after o l

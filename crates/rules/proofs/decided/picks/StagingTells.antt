@@ -20,7 +20,7 @@ use Rattle.machine.specs.Once.{IsHistory}
 use Rattle.machine.specs.Tables.{tables_of, bin_row, lot_row, stock_row, order_row, line_row, staged_row}
 use Rattle.machine.specs.Touched.{is_touched}
 use Rattle.machine.specs.KeyedRows.{same_cell, same_line, same_share, no_two}
-use Rattle.rules.specs.Slices.{IsSlice}
+use Rattle.rules.specs.Slices.{IsSlice, in_bins}
 use Rattle.row_rules.specs.SeenLots.{stock_put, stock_rows_with}
 use Rattle.row_rules.specs.SeenStages.{staged_put, staged_rows_with}
 use Rattle.row_rules.specs.Plans.{rows_to_put, rows_to_drop, is_share_of}
@@ -30,12 +30,12 @@ use Rattle.machine.proofs.Tests.{same_text_refl, same_text_turned}
 use Rattle.machine.proofs.histories.Accepted.{room_for_acts}
 use Rattle.rules.proofs.rows.AfterRows.{loosened}
 use Rattle.rules.proofs.rows.TableSteps.{AreNamed, names_changed}
-use Rattle.rules.proofs.rows.StockChanged.{with_units, stock_rows_are, stock_row_with, bins_with}
+use Rattle.rules.proofs.rows.StockChanged.{with_units, stock_rows_are, stock_row_with, bins_with, lots_with}
 use Rattle.rules.proofs.rows.StagedChanged.{with_staged, staged_rows_are, staged_row_with}
 use Rattle.rules.proofs.rows.DemandsTold.{TellsDemands}
-use Rattle.rules.proofs.rows.SuppliesTold.{TellsSupplies}
+use Rattle.rules.proofs.rows.SuppliesTold.{TellsSupplies, in_stock}
 use Rattle.rules.proofs.rows.SliceDemands.{slice_tells_demands}
-use Rattle.rules.proofs.rows.SliceSupplies.{slice_tells_supplies}
+use Rattle.rules.proofs.rows.SliceSupplies.{slice_tells_supplies, lots_with_stock}
 use Rattle.rules.proofs.rows.Replanned.{TouchesOnly, replanned, replanned_once}
 use Rattle.rules.proofs.decided.Decisions.{IsChange, day_seen, plain_same, meta_same}
 use Rattle.rules.proofs.decided.picks.StagingStep.{IsStaging, IsLeft, has_line_at, open_at, order_at, line_at, staging_step}
@@ -59,7 +59,7 @@ module _ (first : ℤ) (acts : List Act) (act : Act) (p : Picking) (from to : Pl
 
   demands_after : TellsDemands first after g s.rows.orders s.rows.lines staged_rows
   demands_after =
-      let before = slice_tells_demands first acts act s slice g touched in
+      let before = slice_tells_demands first acts act s slice staging.planned g touched in
       record {
         orders = loosened same_text (λ (x : OrderRow). x.order) (λ o. is_open first acts o && has_line acts o g) (λ o. is_open first after o && has_line after o g) (λ o. true) (λ o. true) (order_row first acts) (order_row first after) s.rows.orders
             (λ o e. (λ i. open_at first acts act p from to staging o i && has_line_at first acts act p from to staging o g i) ∙ e) (λ o e. refl) (order_at first acts act p from to staging) before.orders;
@@ -73,13 +73,14 @@ module _ (first : ℤ) (acts : List Act) (act : Act) (p : Picking) (from to : Pl
   bins_after : (b : List ℕ) → list_any (λ (r : StockRow). same_text b r.bin) stock_rows ≡ true → find (λ (x : BinRow). same_text b x.name) s.rows.bins ≡ bin_row after b
   unfolding tables_of
   bins_after b e =
-      slice.bins.found b (ap (λ t. t || list_any (λ (r : StockRow). same_text b r.bin) s.rows.stock) (staging.names_bin b) ∙ bins_with p.lot p.bin stock b s.rows.stock e) ∙ staging.bins b
+      slice.bins.found b (λ i. staging.planned i && (ap (λ t. t || list_any (λ (r : StockRow). same_text b r.bin) s.rows.stock) (staging.names_bin b) ∙ bins_with p.lot p.bin stock b s.rows.stock e) i) ∙ staging.bins b
 
   supplies_after : TellsSupplies first after g s.rows.lots s.rows.recalls stock_rows s.rows.bins
   supplies_after =
-      let before = slice_tells_supplies first acts act s slice g touched in
+      let before = slice_tells_supplies first acts act s slice staging.planned g touched in
       record {
-        lots = loosened is_lot (λ (k : LotRow). k.lot) (λ l. of_item g l) (λ l. of_item g l) (λ l. true) (λ l. true) (lot_row acts) (lot_row after) s.rows.lots (λ l e. e) (λ l e. refl) staging.lots before.lots;
+        lots = loosened is_lot (λ (k : LotRow). k.lot) (in_stock g stock_rows) (in_stock g stock_rows) (λ l. true) (λ l. true) (lot_row acts) (lot_row after) s.rows.lots (λ l e. e) (λ l e. refl) staging.lots
+            (lots_with_stock first acts act s slice staging.planned g touched stock_rows (λ l e. ap (λ t. t || in_bins s.rows l) (staging.names_lot l) ∙ lots_with p.lot p.bin stock l s.rows.stock e));
         recalls = λ l e. before.recalls l e ∙ staging.recalls l;
         stock = loosened same_cell (λ (x : StockRow). (x.lot, x.bin)) (λ k. of_item g k.0) (λ k. of_item g k.0) (λ k. true) (λ k. true) (with_units p.lot p.bin stock (λ k. stock_row first acts k.0 k.1)) (λ k. stock_row first after k.0 k.1) stock_rows
             (λ k e. e) (λ k e. refl) (stock_row_with first acts after p.lot p.bin stock left.here left.elsewhere)
@@ -87,17 +88,17 @@ module _ (first : ℤ) (acts : List Act) (act : Act) (p : Picking) (from to : Pl
         bins = bins_after;
       }
 
-  only : TouchesOnly first acts act s slice next g
+  only : TouchesOnly first acts act s slice staging.planned next g
   only = record { own = touched; others = λ h e. staging.touches h ∙ same_text_turned h g ∙ e }
 
   -- planned anew, the rows put and dropped are those that differ
   pub replanned_named : AreNamed first act acts (rows_to_put s.rows.reserved (shares_with s p stock staged)) (rows_to_drop g s.rows.reserved (shares_with s p stock staged))
   replanned_named =
-      replanned first acts act s slice next g only s.meta.day (day_seen first acts act s slice ∙ sym staging.day) s.rows.orders s.rows.lines staged_rows s.rows.lots s.rows.recalls s.rows.bins stock_rows demands_after supplies_after
+      replanned first acts act s slice staging.planned next g only s.meta.day (day_seen first acts act s slice ∙ sym staging.day) s.rows.orders s.rows.lines staged_rows s.rows.lots s.rows.recalls s.rows.bins stock_rows demands_after supplies_after
 
   pub replanned_put_once : no_two is_share_of (rows_to_put s.rows.reserved (shares_with s p stock staged)) ≡ true
   replanned_put_once =
-      replanned_once first acts act s slice next g only s.meta.day (day_seen first acts act s slice ∙ sym staging.day) s.rows.orders s.rows.lines staged_rows s.rows.lots s.rows.recalls s.rows.bins stock_rows demands_after supplies_after
+      replanned_once first acts act s slice staging.planned next g only s.meta.day (day_seen first acts act s slice ∙ sym staging.day) s.rows.orders s.rows.lines staged_rows s.rows.lots s.rows.recalls s.rows.bins stock_rows demands_after supplies_after
 
   one_stock : (b : List ℕ) → no_two (λ (x y : StockRow). is_lot x.lot y.lot && same_text x.bin y.bin) (stock_put p.lot b stock) ≡ true
   one_stock b = elim (stock == 0) as (λ t. no_two (λ (x y : StockRow). is_lot x.lot y.lot && same_text x.bin y.bin) (if t then [] else record { lot = p.lot; bin = b; qty = stock } ∷ []) ≡ true) [ true ↦ refl | false ↦ refl ]

@@ -63,7 +63,9 @@ module _ (first : ℤ) (acts : List Act) (key : Key) (p : Picking) (s : Slice) (
     shipped = refl;
     reply = refl;
     touches = λ g. refl;
+    planned = refl;
     names_bin = λ b. refl;
+    names_lot = λ l. refl;
   }
 
   legal : Legal (postings first acts)
@@ -81,7 +83,7 @@ module _ (first : ℤ) (acts : List Act) (key : Key) (p : Picking) (s : Slice) (
   in_bin_after : in_bin first after p.bin p.lot ≡ capped (in_bin_seen s p.bin p.lot + p.qty)
   in_bin_after =
       let e = brought_in first acts after (next_number acts) p.lot p.bin p.qty legal (Stage p.order) refl (λ c. refl) there in
-      omega (arith, e, in_bin_told first acts act s slice p.bin p.lot touched, bin_within_limit first acts next.0 p.lot.gtin p.lot touched p.bin, small)
+      omega (arith, e, in_bin_told first acts act s slice refl p.bin p.lot touched, bin_within_limit first acts next.0 p.lot.gtin p.lot touched p.bin, small)
 
   on_stage_after : staged_of_lot first after p.order p.lot ≡ on_stage_seen s p.order p.lot - p.qty
   on_stage_after =

@@ -1,5 +1,5 @@
 -- Units put back judged by their slice are judged as by the acts.
-use Rattle.std.proofs.Common.{◌≡◌, true, not, List, [], ◌∷◌}
+use Rattle.std.proofs.Common.{◌≡◌, true, not, List, [], ◌∷◌, refl}
 use Rattle.std.specs.Prelude.{nat_lt, ℤ}
 use Rattle.values.specs.Values.{same_text}
 use Rattle.commands.specs.declared.key.Key.{Key}
@@ -12,7 +12,7 @@ use Rattle.rules.specs.Slices.{IsSlice}
 use Rattle.machine.specs.Verdict.{first_refusal, judgement}
 use Rattle.order_rules.specs.DecidedPick.{unpick_seen}
 use Rattle.row_rules.specs.declared.slice.Slice.{Slice}
-use Rattle.machine.proofs.Tests.{same_text_refl}
+use Rattle.machine.proofs.Tests.{same_text_refl, is_lot_refl}
 use Rattle.rules.proofs.rows.SliceTells.{item_told, bin_told}
 use Rattle.rules.proofs.rows.OrderTold.{order_told, open_told, line_told}
 use Rattle.rules.proofs.rows.LotTold.{lot_known_told}
@@ -34,9 +34,9 @@ module _ (first : ℤ) (acts : List Act) (key : Key) (p : Picking) (s : Slice) (
   pub unpick_judged : first_refusal (unpick_seen s p) ≡ first_refusal (judgement first acts (Unpick p))
   unpick_judged =
       λ i. first_refusal (
-      (not (item_told first acts act s slice p.lot.gtin touched i), UnknownItem)
-      ∷ (not (bin_told first acts act s slice p.bin in_bin i), UnknownBin)
-      ∷ (not (lot_known_told first acts act s slice p.lot touched i), UnknownLot)
+      (not (item_told first acts act s slice refl p.lot.gtin touched i), UnknownItem)
+      ∷ (not (bin_told first acts act s slice refl p.bin in_bin i), UnknownBin)
+      ∷ (not (lot_known_told first acts act s slice refl p.lot (is_lot_refl p.lot) i), UnknownLot)
       ∷ (not (order_told first acts act s slice p.order named i), UnknownOrder)
       ∷ (not (line_told first acts act s slice p.order named p.lot.gtin i), NoSuchLine)
       ∷ (not (open_told first acts act s slice p.order named i), OrderClosed)

@@ -1,0 +1,65 @@
+-- What rows that are found by a text or by a number of theirs give.
+use Rattle.std.specs.Prelude.{◌≡◌, ℕ, ◌==◌, Bool, false, ◌&&◌, if◌then◌else◌, List, [], ◌∷◌, filter, find, Option, Some, None, Vec}
+use Rattle.std.specs.List.{cons_option}
+use Rattle.std.specs.Option.{option_or}
+use Rattle.std.specs.Ordering.{nat_cmp}
+use Rattle.std.specs.Cmp.Lexicographic.{slice_cmp}
+use Rattle.std.specs.BTreeMap.{get}
+use Rattle.values.specs.Values.{same_text}
+use Rattle.values.specs.declared.lot.LotId.{LotId}
+use Rattle.plan.specs.declared.Row.{Row}
+use Rattle.commands.specs.Lists.{total}
+use Rattle.commands.specs.declared.rows.BinRow.{BinRow}
+use Rattle.commands.specs.declared.rows.StockRow.{StockRow}
+use Rattle.commands.specs.declared.rows.OrderRow.{OrderRow}
+use Rattle.commands.specs.declared.rows.LotRow.{LotRow}
+use Rattle.commands.specs.declared.rows.ReservedRow.{ReservedRow}
+use Rattle.machine.specs.Postings.{is_lot}
+use Rattle.row_rules.specs.Plans.{named_row, is_store_found}
+use Rattle.row_rules.specs.declared.look_ups.RowsByText.{RowsByText}
+use Rattle.row_rules.specs.declared.look_ups.RowsByNumber.{RowsByNumber}
+
+-- the rows that are found, or others where none are
+abbrev pub rows_or : {X A : Type 0} → List X → Option (Vec X A) → List X
+rows_or others None = others
+rows_or others (Some rows) = rows.items
+
+-- the rows that are given for a text
+abbrev pub rows_given : {X : Type 0} → RowsByText X → List ℕ → List X
+rows_given found k = rows_or found.others.now (get (slice_cmp nat_cmp) found.groups k)
+
+-- the row that is given for a number
+abbrev pub row_given : {X : Type 0} → (X → ℕ) → RowsByNumber X → ℕ → Option X
+row_given number found n = option_or (get nat_cmp found.firsts n) (find (λ r. n == number r) found.others.now)
+
+-- for each text the rows with it are given, in their order; others may be given too
+abbrev pub GivesRows : {X : Type 0} → (X → List ℕ) → (List ℕ → List X) → List X → Type 0
+GivesRows text given rows = (k : List ℕ) → filter (λ r. same_text k (text r)) (given k) ≡ filter (λ r. same_text k (text r)) rows
+
+-- for each number the first row of it is given
+abbrev pub GivesFirst : {X : Type 0} → (X → ℕ) → (ℕ → Option X) → List X → Type 0
+GivesFirst number given rows = (n : ℕ) → given n ≡ find (λ r. n == number r) rows
+
+-- the plan's rows by the names of these orders and lots
+abbrev pub rows_named : (ℕ → Option OrderRow) → (ℕ → Option LotRow) → List Row → List ReservedRow
+rows_named order lot [] = []
+rows_named order lot (r ∷ rs) = cons_option (named_row (order r.booking) (lot r.lot) r.qty) (rows_named order lot rs)
+
+-- What a lot has in STORE bins, which are given by their names
+abbrev pub in_store_given : (List ℕ → List BinRow) → LotId → StockRow → ℕ
+in_store_given bins l r = if is_lot l r.lot && is_store_found (find (λ b. same_text r.bin b.name) (bins r.bin)) then r.qty else 0
+
+abbrev pub store_given : (List ℕ → List BinRow) → List StockRow → LotId → ℕ
+store_given bins stock l = total (in_store_given bins l) stock
+
+-- In order
+
+-- the first of a list stands before x
+abbrev pub first_before : {X : Type 0} → (X → X → Bool) → List X → X → Bool
+first_before earlier [] x = false
+first_before earlier (y ∷ ys) x = earlier y x
+
+-- no element stands before the one in front of it
+abbrev pub IsInOrder : {X : Type 0} → (X → X → Bool) → List X → Type 0
+IsInOrder earlier [] = Unit {0}
+IsInOrder earlier (x ∷ xs) = (first_before earlier xs x ≡ false) × IsInOrder earlier xs

@@ -1,0 +1,101 @@
+//! Texts as keys, in the order of their bytes.
+
+ghost use Rattle.std.specs.Prelude.{◌≡◌, ◌≤◌, length};
+
+use std::cmp::Ordering;
+use std::marker::Model;
+use values::{Lot, Name, Text};
+
+/// A text as a key: the name of an order or of a bin, or a lot among those of its item.
+#[derive(Clone, Copy)]
+pub struct TextKey {
+    text: Text<20>,
+}
+
+impl Model for TextKey {
+    ghost use Rattle.std.specs.Prelude.{List, ℕ};
+
+    ghost Value = { List ℕ };
+
+    ghost view = { λ v. v.text };
+
+    ghost inverse = { λ text. record { text = text } };
+}
+
+impl TextKey {
+    pub fn of_name(name: &Name) -> Self
+        ensures { result ≡ name.now }
+    {
+        TextKey {
+            text: text_of(name.as_bytes()),
+        }
+    }
+
+    pub fn of_lot(lot: &Lot) -> Self
+        ensures { result ≡ lot.now }
+    {
+        TextKey {
+            text: text_of(lot.as_bytes()),
+        }
+    }
+}
+
+fn text_of(text: &[u8]) -> Text<20>
+    requires { length text.now ≤ 20 }
+    ensures { result ≡ text.now }
+{
+    Text::new(text).unwrap()
+}
+
+impl PartialEq for TextKey {
+    ghost use Rattle.std.specs.Str.{bytes_eq};
+    ghost use Rattle.std.proofs.Common.{rules};
+    ghost use Rattle.std.specs.Cmp.Rules.{comparing};
+
+    ghost eq = { bytes_eq };
+
+    ghost laws = { Prim.search (comparing, rules) };
+
+    fn eq(&self, other: &Self) -> bool {
+        self.text == other.text
+    }
+}
+
+impl Eq for TextKey {
+    ghost use Rattle.std.proofs.Common.{rules};
+    ghost use Rattle.std.specs.Cmp.Rules.{comparing};
+
+    ghost laws = { Prim.search (comparing, rules) };
+}
+
+impl PartialOrd for TextKey {
+    ghost use Rattle.std.specs.Prelude.{Some};
+    ghost use Rattle.std.specs.Ordering.{nat_cmp};
+    ghost use Rattle.std.specs.Cmp.Lexicographic.{slice_cmp, texts_po};
+
+    ghost partial_cmp = { λ x y. Some (slice_cmp nat_cmp x y) };
+
+    ghost laws = { texts_po };
+
+    fn partial_cmp(&self, other: &Self) -> Option<Ordering> {
+        Some(self.cmp(other))
+    }
+}
+
+impl Ord for TextKey {
+    ghost use Rattle.std.specs.Ordering.{nat_cmp};
+    ghost use Rattle.std.specs.Cmp.Lexicographic.{slice_cmp, texts_ties, nat_list_cmp_total};
+    ghost use Rattle.std.proofs.Common.{refl};
+
+    ghost cmp = { slice_cmp nat_cmp };
+
+    ghost total = { nat_list_cmp_total };
+
+    ghost matches_partial_cmp = { λ x y. refl };
+
+    ghost matches_eq = { texts_ties };
+
+    fn cmp(&self, other: &Self) -> Ordering {
+        self.text.as_bytes().cmp(other.text.as_bytes())
+    }
+}

@@ -1,0 +1,270 @@
+//! Rows of forty orders and forty lots, in no order: each is found whatever stands before it, and of
+//! two rows under one name or number the first.
+
+use crate::listing::Listing;
+use crate::samples::{OATS, Written, add, business_day, gtin};
+use commands::{BinRow, LineRow, LotRow, OrderRow, RecallRow, ReservedRow, StagedRow, StockRow};
+use plan::{Demand, Row, Supply};
+use row_rules::demands::demands_seen;
+use row_rules::plans::{named_rows, rows_to_drop, rows_to_put};
+use row_rules::supplies::supplies_seen;
+use std::alloc::Global;
+use std::process::Abort;
+
+// A form with a number in place of each `#`. What is refused memory is done again.
+fn filled<R: Written>(rt: &impl Abort, alloc: Global, form: &str, number: u64) -> R {
+    let digits = format!(in alloc; "{number}")
+        .or_else(|_| format!(in alloc; "{number}"))
+        .ok()
+        .expect(rt, "memory");
+    let text = form
+        .replace(alloc, "#", digits.as_str())
+        .or_else(|_| form.replace(alloc, "#", digits.as_str()))
+        .ok()
+        .expect(rt, "memory");
+    R::read(rt, text.as_str())
+}
+
+// The rows of the numbers 10 to 49, the greatest first, and then these.
+fn falling<R: Written>(rt: &impl Abort, alloc: Global, form: &str, more: &[&str]) -> Vec<R> {
+    let mut rows = Vec::new(alloc);
+    for place in 0..40 {
+        add(rt, &mut rows, filled(rt, alloc, form, 49 - place));
+    }
+    for text in more {
+        add(rt, &mut rows, R::read(rt, text));
+    }
+    rows
+}
+
+// The rows of the numbers 10 to 49, the least first, and then these.
+fn rising<R: Written>(rt: &impl Abort, alloc: Global, form: &str, more: &[&str]) -> Vec<R> {
+    let mut rows = Vec::new(alloc);
+    for place in 0..40 {
+        add(rt, &mut rows, filled(rt, alloc, form, 10 + place));
+    }
+    for text in more {
+        add(rt, &mut rows, R::read(rt, text));
+    }
+    rows
+}
+
+// Reserved rows, each on a line: order, lot and units.
+fn expect_rows(rt: &impl Abort, rows: &[ReservedRow], text: &[u8]) {
+    let mut listing = Listing::empty();
+    for row in rows {
+        listing.word(row.order.as_bytes());
+        listing.field(row.lot.lot.as_bytes());
+        listing.number(row.qty);
+        listing.word(b"\n");
+    }
+    assert_eq!(rt; listing.as_bytes(), text);
+}
+
+// The old rows have S-20 on L1 twice. The new ones have another quantity of S-20 on L2, one more
+// order, and neither S-30 on L3 nor S-70.
+fn olds(rt: &impl Abort, alloc: Global) -> Vec<ReservedRow> {
+    let more = ["S-20|L2|5", "S-20|L1|99", "S-30|L3|1", "S-70|L1|3"];
+    falling(rt, alloc, "S-#|L1|#", &more)
+}
+
+fn news(rt: &impl Abort, alloc: Global) -> Vec<ReservedRow> {
+    rising(rt, alloc, "S-#|L1|#", &["S-60|L1|1", "S-20|L2|6"])
+}
+
+#[test]
+fn puts_rows_of_many_orders(rt: HostRuntime) {
+    let alloc = rt.alloc();
+    let olds = olds(&rt, alloc);
+    let news = news(&rt, alloc);
+    let put = rows_to_put(alloc, olds.as_slice(), news.as_slice())
+        .or_else(|_| rows_to_put(alloc, olds.as_slice(), news.as_slice()))
+        .ok()
+        .expect(&rt, "memory");
+    expect_rows(&rt, put.as_slice(), b"S-60 L1 1\nS-20 L2 6\n");
+}
+
+#[test]
+fn drops_rows_of_many_orders(rt: HostRuntime) {
+    let alloc = rt.alloc();
+    let olds = olds(&rt, alloc);
+    let news = news(&rt, alloc);
+    let item = gtin(&rt, OATS);
+    let dropped = rows_to_drop(alloc, &item, olds.as_slice(), news.as_slice())
+        .or_else(|_| rows_to_drop(alloc, &item, olds.as_slice(), news.as_slice()))
+        .ok()
+        .expect(&rt, "memory");
+    expect_rows(&rt, dropped.as_slice(), b"S-30 L3 1\nS-70 L1 3\n");
+}
+
+// A row of each order on the lot whose number adds up with its own to 59, and one of an act that is
+// no order.
+fn planned(rt: &impl Abort, alloc: Global) -> Vec<Row> {
+    let mut rows = Vec::new(alloc);
+    for place in 0..40 {
+        let row = Row {
+            booking: 10 + place,
+            lot: 49 - place,
+            qty: 1 + place,
+        };
+        add(rt, &mut rows, row);
+    }
+    let none = Row {
+        booking: 7,
+        lot: 20,
+        qty: 1,
+    };
+    add(rt, &mut rows, none);
+    rows
+}
+
+// What the rows of the plan are by name.
+fn expected_names(rt: &impl Abort, alloc: Global) -> Vec<ReservedRow> {
+    let mut rows = Vec::new(alloc);
+    for place in 0..40 {
+        let own: ReservedRow = filled(rt, alloc, "S-#|L1|1", 10 + place);
+        let other: ReservedRow = filled(rt, alloc, "S-1|L#|1", 49 - place);
+        let row = ReservedRow {
+            order: own.order,
+            lot: other.lot,
+            qty: 1 + place,
+        };
+        add(rt, &mut rows, row);
+    }
+    rows
+}
+
+#[test]
+fn names_rows_of_many_orders_and_lots(rt: HostRuntime) {
+    let alloc = rt.alloc();
+    let orders: Vec<OrderRow> = falling(
+        &rt,
+        alloc,
+        "S-#|#|Corner Shop|OPEN",
+        &["S-99|20|Corner Shop|OPEN"],
+    );
+    let lots: Vec<LotRow> = falling(
+        &rt,
+        alloc,
+        "L#|2026-06-30|#|free",
+        &["L99|2026-06-30|30|free"],
+    );
+    let rows = planned(&rt, alloc);
+    let named = named_rows(alloc, orders.as_slice(), lots.as_slice(), rows.as_slice())
+        .or_else(|_| named_rows(alloc, orders.as_slice(), lots.as_slice(), rows.as_slice()))
+        .ok()
+        .expect(&rt, "memory");
+    let expected = expected_names(&rt, alloc);
+    let mut listing = Listing::empty();
+    for row in expected.as_slice() {
+        listing.word(row.order.as_bytes());
+        listing.field(row.lot.lot.as_bytes());
+        listing.number(row.qty);
+        listing.word(b"\n");
+    }
+    expect_rows(&rt, named.as_slice(), listing.as_bytes());
+}
+
+// Of the act 10 + place: 900 units and as many as its number, less one shipped and two staged.
+fn expect_demands(rt: &impl Abort, demands: &[Demand]) {
+    assert_eq!(rt; demands.len(), 40);
+    for (place, demand) in demands.iter().enumerate() {
+        let number = 10 + place as u64;
+        let need = 897 + number;
+        assert_eq!(rt; demand.booking, number);
+        assert_eq!(rt; demand.need, if number == 30 { need - 4 } else { need });
+    }
+}
+
+// S-20 has two lines of the item, of which the first counts, and each order has one of another item.
+// S-30 has units of two lots on its stage.
+#[test]
+fn sees_demands_of_many_orders(rt: HostRuntime) {
+    let alloc = rt.alloc();
+    let orders: Vec<OrderRow> = falling(&rt, alloc, "S-#|#|Corner Shop|OPEN", &[]);
+    let mut lines: Vec<LineRow> = falling(&rt, alloc, "S-#|04012345000016|7|0", &[]);
+    let own: Vec<LineRow> = rising(
+        &rt,
+        alloc,
+        "S-#|09506000134352|9#|1",
+        &["S-20|09506000134352|5|0"],
+    );
+    for line in own.as_slice() {
+        add(&rt, &mut lines, *line);
+    }
+    let staged: Vec<StagedRow> = falling(&rt, alloc, "S-#|L1|2", &["S-30|L2|4"]);
+    let item = gtin(&rt, OATS);
+    let demands = demands_seen(
+        alloc,
+        &item,
+        lines.as_slice(),
+        staged.as_slice(),
+        orders.as_slice(),
+    )
+    .or_else(|_| {
+        demands_seen(
+            alloc,
+            &item,
+            lines.as_slice(),
+            staged.as_slice(),
+            orders.as_slice(),
+        )
+    })
+    .ok()
+    .expect(&rt, "memory");
+    expect_demands(&rt, demands.as_slice());
+}
+
+// Of the lot E1, which expires first, three; of the others, by their first receipt, as many as their
+// number, and of L20 seven more. L12 is recalled.
+fn expect_supplies(rt: &impl Abort, supplies: &[Supply]) {
+    assert_eq!(rt; supplies.len(), 40);
+    for (place, supply) in supplies.iter().enumerate() {
+        let number = if place < 3 { 9 } else { 10 } + place as u64;
+        let avail = if number == 20 { 27 } else { number };
+        assert_eq!(rt; supply.lot, if place == 0 { 90 } else { number });
+        assert_eq!(rt; supply.avail, if place == 0 { 3 } else { avail });
+    }
+}
+
+// Units of L20 lie in a HOLD bin too, and of L21 in a bin that is not known; B-15 has two rows, of
+// which the first counts.
+#[test]
+fn sees_supplies_of_many_lots(rt: HostRuntime) {
+    let alloc = rt.alloc();
+    let day = business_day(&rt, "2026-05-04");
+    let lots: Vec<LotRow> = falling(
+        &rt,
+        alloc,
+        "L#|2026-06-30|#|free",
+        &["E1|2026-05-31|90|free"],
+    );
+    let recalls: Vec<RecallRow> = falling(&rt, alloc, "R#|5", &["L12|6"]);
+    let bins: Vec<BinRow> = falling(&rt, alloc, "B-#|STORE", &["Q-01|HOLD", "B-15|HOLD"]);
+    let more = ["L20|Q-01|500", "L20|B-30|7", "E1|B-10|3", "L21|Z-99|50"];
+    let stock: Vec<StockRow> = rising(&rt, alloc, "L#|B-#|#", &more);
+    let item = gtin(&rt, OATS);
+    let supplies = supplies_seen(
+        alloc,
+        &item,
+        day,
+        recalls.as_slice(),
+        bins.as_slice(),
+        stock.as_slice(),
+        lots.as_slice(),
+    )
+    .or_else(|_| {
+        supplies_seen(
+            alloc,
+            &item,
+            day,
+            recalls.as_slice(),
+            bins.as_slice(),
+            stock.as_slice(),
+            lots.as_slice(),
+        )
+    })
+    .ok()
+    .expect(&rt, "memory");
+    expect_supplies(&rt, supplies.as_slice());
+}

@@ -1,0 +1,3 @@
+pub mod KeysWalked
+pub mod KeysOnce
+pub mod LotsSeen

@@ -1,0 +1,52 @@
+//! What is staged and what is reserved for an order.
+
+ghost use Rattle.std.specs.Prelude.{◌≡◌};
+ghost use Rattle.sqlite.specs.Held.{state};
+ghost use Rattle.slices.specs.Reading.{IsRead};
+ghost use Rattle.slices.specs.ShownOrders.{AreStagedOf, AreReservedOf};
+
+use commands::{ReservedRow, StagedRow};
+use order_tables::reserved::reserved_of_order;
+use order_tables::staged::staged_of_order;
+use sqlite::{Alter, Transaction};
+use std::alloc::Global;
+use table_words::error::TableFault;
+use values::Name;
+
+/// What is staged for the order.
+fn staged_for<S: Alter>(
+    alloc: Global,
+    tx: &mut Transaction<'_, S>,
+    order: &Name,
+) -> Result<Vec<StagedRow>, TableFault>
+    ensures same_reference { tx.new.conn.ghost_name ≡ tx.old.conn.ghost_name }
+    ensures read { IsRead (λ t rows. AreStagedOf order.now t rows.items) (state S.Store tx.old.conn.now) (state S.Store tx.new.conn.now) result }
+{
+    staged_of_order(alloc, tx, order)
+}
+
+/// What is reserved for the order.
+fn reserved_for<S: Alter>(
+    alloc: Global,
+    tx: &mut Transaction<'_, S>,
+    order: &Name,
+) -> Result<Vec<ReservedRow>, TableFault>
+    ensures same_reference { tx.new.conn.ghost_name ≡ tx.old.conn.ghost_name }
+    ensures read { IsRead (λ t rows. AreReservedOf order.now t rows.items) (state S.Store tx.old.conn.now) (state S.Store tx.new.conn.now) result }
+{
+    reserved_of_order(alloc, tx, order)
+}
+
+/// What is staged and what is reserved for the order.
+pub fn booked_for<S: Alter>(
+    alloc: Global,
+    tx: &mut Transaction<'_, S>,
+    order: &Name,
+) -> Result<(Vec<StagedRow>, Vec<ReservedRow>), TableFault>
+    ensures same_reference { tx.new.conn.ghost_name ≡ tx.old.conn.ghost_name }
+    ensures read { IsRead (λ t rows. AreStagedOf order.now t rows.0.items × AreReservedOf order.now t rows.1.items) (state S.Store tx.old.conn.now) (state S.Store tx.new.conn.now) result }
+{
+    let staged = staged_for(alloc, tx, order)?;
+    let reserved = reserved_for(alloc, tx, order)?;
+    Ok((staged, reserved))
+}
