@@ -7,6 +7,7 @@ use Rattle.std.specs.Ordering.{nat_cmp}
 use Rattle.std.specs.Cmp.{unsigned_tied}
 use Rattle.std.specs.Cmp.Lexicographic.{slice_cmp, texts_ties}
 use Rattle.std.specs.BTreeMap.{BTreeMap, get, is_at}
+use Rattle.std.specs.Map.{lookup}
 use Rattle.std.proofs.lemmas.List.{take_more, reverse-reverse}
 use Rattle.std.proofs.lemmas.List.Folds.{find-append}
 use Rattle.std.proofs.lemmas.Map.Lookups.{exact_bytes, exact_unsigned}
@@ -108,6 +109,14 @@ row_added {X = X} x k t v old new there is found updates more o =
 pub ok_then : {X E P Q : Type 0} (r : Result X E) → OnOk r P → (P → Q) → OnOk r Q
 ok_then (Ok x) p f = f p
 ok_then (Err e) p f = tt
+
+-- where no rows stand under keys, the others are given
+pub others_given : {X A : Type 0} (others : List X) (m : BTreeMap (List ℕ) (Vec X A)) (k : List ℕ) → length m.entries ≡ 0 → others ≡ rows_or others (get (slice_cmp nat_cmp) m k)
+others_given {X = X} {A = A} others m k none = sym (ap (rows_or others) (nothing m.entries none))
+  where
+    nothing : (es : List (List ℕ × Vec X A)) → length es ≡ 0 → lookup (is_at (slice_cmp nat_cmp k)) es ≡ None
+    nothing [] e = refl
+    nothing (x ∷ xs) e = absurd (omega arith)
 
 -- Rows by their numbers
 

@@ -13,6 +13,7 @@ use crate::text_key::TextKey;
 use commands::{BinRow, LineRow, LotRow, OrderRow, RecallRow, ReservedRow, StagedRow, StockRow};
 use std::alloc::{AllocError, Global};
 use std::collections::BTreeMap;
+use values::{Lot, Name};
 
 /// Up to so many rows, or look-ups, a walk over the rows is as good as a map of them.
 const FEW: usize = 32;
@@ -37,8 +38,27 @@ pub struct RowsByText<'a, T> {
 }
 
 impl<'a, T> RowsByText<'a, T> {
-    /// The rows with the text, in their order, and maybe others.
-    pub fn rows_of(&self, key: &TextKey) -> &[T]
+    /// The rows with the name, in their order, and maybe others.
+    pub fn rows_of_name(&self, name: &Name) -> &[T]
+        ensures { result.now ≡ rows_given self.now name.now }
+    {
+        if self.groups.is_empty() {
+            return self.others;
+        }
+        self.rows_under(&TextKey::of_name(name))
+    }
+
+    /// The rows with the lot, in their order, and maybe others.
+    pub fn rows_of_lot(&self, lot: &Lot) -> &[T]
+        ensures { result.now ≡ rows_given self.now lot.now }
+    {
+        if self.groups.is_empty() {
+            return self.others;
+        }
+        self.rows_under(&TextKey::of_lot(lot))
+    }
+
+    fn rows_under(&self, key: &TextKey) -> &[T]
         ensures { result.now ≡ rows_kept self.now key.now }
     {
         match self.groups.get(key) {
