@@ -1,19 +1,20 @@
 -- What is sought among the rows that are given for a text is what is sought among all rows; and how the rows come to stand with their texts and numbers.
-use Rattle.std.proofs.Common.{◌≡◌, ℕ, ◌+◌, ◌<◌, Bool, true, false, cond, ◌&&◌, List, [], ◌∷◌, ◌++◌, length, get_or, take, refl, ap, sym, ◌∙◌, arith}
-use Rattle.std.specs.Prelude.{◌==◌, ◌||◌, if◌then◌else◌, map, filter, find, Option, Some, None, is_some, Result, Ok, Err, OnOk, Vec}
+use Rattle.std.proofs.Common.{◌≡◌, ℕ, ◌+◌, ◌<◌, Bool, true, false, cond, ◌&&◌, List, [], ◌∷◌, ◌++◌, length, get_or, take, refl, ap, sym, subst, ◌∙◌, arith}
+use Rattle.std.specs.Prelude.{◌==◌, ◌||◌, if◌then◌else◌, map, reverse, filter, find, Option, Some, None, is_some, Result, Ok, Err, OnOk, Vec}
 use Rattle.std.specs.List.{list_any}
 use Rattle.std.specs.Option.{option_or}
 use Rattle.std.specs.Ordering.{nat_cmp}
 use Rattle.std.specs.Cmp.{unsigned_tied}
 use Rattle.std.specs.Cmp.Lexicographic.{slice_cmp, texts_ties}
 use Rattle.std.specs.BTreeMap.{BTreeMap, get, is_at}
-use Rattle.std.proofs.lemmas.List.{take_more}
+use Rattle.std.specs.Map.{lookup}
+use Rattle.std.proofs.lemmas.List.{take_more, reverse-reverse}
 use Rattle.std.proofs.lemmas.List.Folds.{find-append}
 use Rattle.std.proofs.lemmas.Map.Lookups.{exact_bytes, exact_unsigned}
 use Rattle.std.proofs.lemmas.Map.Views.{tells_apart}
 use Rattle.values.specs.Values.{same_text}
 use Rattle.commands.specs.Lists.{total}
-use Rattle.machine.proofs.Tests.{same_text_turned}
+use Rattle.machine.proofs.Tests.{same_tests, same_text_refl, same_text_is, same_text_turned}
 use Rattle.machine.proofs.Numbers.{equal_turned}
 use Rattle.row_rules.specs.LookUps.{rows_or}
 use Rattle.row_rules.proofs.Walking.{append_none}
@@ -79,22 +80,43 @@ map_agree f g same (x ∷ xs) = λ i. same x i ∷ map_agree f g same xs i
 
 -- Rows by their texts
 
+turned_same : (a b : List ℕ) → same_text (reverse a) (reverse b) ≡ same_text a b
+turned_same a b =
+    same_tests (same_text (reverse a) (reverse b)) (same_text a b) (λ e. same (sym (reverse-reverse a) ∙ ap reverse (same_text_is (reverse a) (reverse b) e) ∙ reverse-reverse b))
+    (λ e. turned (same_text_is a b e))
+  where
+    same : a ≡ b → same_text a b ≡ true
+    same h = subst (λ (x : List ℕ). same_text a x ≡ true) h (same_text_refl a)
+
+    turned : a ≡ b → same_text (reverse a) (reverse b) ≡ true
+    turned h = subst (λ (x : List ℕ). same_text (reverse a) (reverse x) ≡ true) h (same_text_refl (reverse a))
+
 -- one row more with its text
-pub row_added : {X A : Type 0} (x : X) (k t : List ℕ) (v : Vec X A) (old new : BTreeMap (List ℕ) (Vec X A)) (there : Option (Vec X A)) → k ≡ t → there ≡ get (slice_cmp nat_cmp) old k
+pub row_added : {X A : Type 0} (x : X) (k t : List ℕ) (v : Vec X A) (old new : BTreeMap (List ℕ) (Vec X A)) (there : Option (Vec X A)) → k ≡ reverse t → there ≡ get (slice_cmp nat_cmp) old k
     → ((q : List ℕ) → get (slice_cmp nat_cmp) new q ≡ cond (is_at (slice_cmp nat_cmp k) q) (Some v) (get (slice_cmp nat_cmp) old q)) → v.items ≡ rows_or [] there ++ x ∷ []
-    → (q : List ℕ) → rows_or [] (get (slice_cmp nat_cmp) new q) ≡ rows_or [] (get (slice_cmp nat_cmp) old q) ++ (if same_text q t then x ∷ [] else [])
-row_added x k t v old new there is found updates more q =
+    → (o : List ℕ) → rows_or [] (get (slice_cmp nat_cmp) new (reverse o)) ≡ rows_or [] (get (slice_cmp nat_cmp) old (reverse o)) ++ (if same_text o t then x ∷ [] else [])
+row_added {X = X} x k t v old new there is found updates more o =
+    let q = reverse o in
+    let here : List X = rows_or [] (get (slice_cmp nat_cmp) old (reverse o)) in
     ap (rows_or []) (updates q)
     ∙ elim (is_at (slice_cmp nat_cmp k) q) as (λ b. is_at (slice_cmp nat_cmp k) q ≡ b → rows_or [] (cond b (Some v) (get (slice_cmp nat_cmp) old q)) ≡ rows_or [] (get (slice_cmp nat_cmp) old q) ++ (if b then x ∷ [] else [])) [
       | true ↦ λ e. more ∙ ap (λ y. rows_or [] y ++ x ∷ []) (found ∙ ap (get (slice_cmp nat_cmp) old) (tells_apart exact_bytes k q e))
       | false ↦ λ e. sym (append_none (rows_or [] (get (slice_cmp nat_cmp) old q)))
     ] refl
-    ∙ ap (λ b. rows_or [] (get (slice_cmp nat_cmp) old q) ++ (if b then x ∷ [] else [])) (sym (same_text_turned q k ∙ texts_ties k q)) ∙ ap (λ p. rows_or [] (get (slice_cmp nat_cmp) old q) ++ (if same_text q p then x ∷ [] else [])) is
+    ∙ ap (λ b. here ++ (if b then x ∷ [] else [])) (sym (same_text_turned q k ∙ texts_ties k q) ∙ ap (same_text q) is ∙ turned_same o t)
 
 -- what follows of a result
 pub ok_then : {X E P Q : Type 0} (r : Result X E) → OnOk r P → (P → Q) → OnOk r Q
 ok_then (Ok x) p f = f p
 ok_then (Err e) p f = tt
+
+-- where no rows stand under keys, the others are given
+pub others_given : {X A : Type 0} (others : List X) (m : BTreeMap (List ℕ) (Vec X A)) (k : List ℕ) → length m.entries ≡ 0 → others ≡ rows_or others (get (slice_cmp nat_cmp) m k)
+others_given {X = X} {A = A} others m k none = sym (ap (rows_or others) (nothing m.entries none))
+  where
+    nothing : (es : List (List ℕ × Vec X A)) → length es ≡ 0 → lookup (is_at (slice_cmp nat_cmp k)) es ≡ None
+    nothing [] e = refl
+    nothing (x ∷ xs) e = absurd (omega arith)
 
 -- Rows by their numbers
 

@@ -1,5 +1,5 @@
 -- What rows that are found by a text or by a number of theirs give.
-use Rattle.std.specs.Prelude.{◌≡◌, ℕ, ◌==◌, Bool, false, ◌&&◌, if◌then◌else◌, List, [], ◌∷◌, filter, find, Option, Some, None, Vec}
+use Rattle.std.specs.Prelude.{◌≡◌, ℕ, ◌==◌, Bool, false, ◌&&◌, if◌then◌else◌, List, [], ◌∷◌, reverse, filter, find, Option, Some, None, Vec}
 use Rattle.std.specs.List.{cons_option}
 use Rattle.std.specs.Option.{option_or}
 use Rattle.std.specs.Ordering.{nat_cmp}
@@ -24,9 +24,13 @@ abbrev pub rows_or : {X A : Type 0} → List X → Option (Vec X A) → List X
 rows_or others None = others
 rows_or others (Some rows) = rows.items
 
--- the rows that are given for a text
+-- the rows that stand under a key
+abbrev pub rows_kept : {X : Type 0} → RowsByText X → List ℕ → List X
+rows_kept found key = rows_or found.others.now (get (slice_cmp nat_cmp) found.groups key)
+
+-- the rows that are given for a text: its key is the text from the last character to the first
 abbrev pub rows_given : {X : Type 0} → RowsByText X → List ℕ → List X
-rows_given found k = rows_or found.others.now (get (slice_cmp nat_cmp) found.groups k)
+rows_given found k = rows_kept found (reverse k)
 
 -- the row that is given for a number
 abbrev pub row_given : {X : Type 0} → (X → ℕ) → RowsByNumber X → ℕ → Option X

@@ -1,18 +1,19 @@
 //! Rows that are found by a text or by a number of theirs, without a walk over all of them for each
 //! that is sought.
 
-ghost use Rattle.std.specs.Prelude.{◌≡◌, ℕ, List, ◌==◌, [], ◌∷◌, ◌++◌, filter, find, if◌then◌else◌, Some, None, IfOk, OnOk};
+ghost use Rattle.std.specs.Prelude.{◌≡◌, ℕ, List, ◌==◌, [], ◌∷◌, ◌++◌, reverse, filter, find, if◌then◌else◌, Some, None, IfOk, OnOk};
 ghost use Rattle.std.specs.Option.{option_or};
 ghost use Rattle.std.specs.Ordering.{nat_cmp};
 ghost use Rattle.std.specs.Cmp.Lexicographic.{slice_cmp};
 ghost use Rattle.std.specs.BTreeMap.{get};
 ghost use Rattle.values.specs.Values.{same_text};
-ghost use Rattle.row_rules.specs.LookUps.{rows_or, rows_given, row_given, GivesRows, GivesFirst};
+ghost use Rattle.row_rules.specs.LookUps.{rows_or, rows_kept, rows_given, row_given, GivesRows, GivesFirst};
 
 use crate::text_key::TextKey;
 use commands::{BinRow, LineRow, LotRow, OrderRow, RecallRow, ReservedRow, StagedRow, StockRow};
 use std::alloc::{AllocError, Global};
 use std::collections::BTreeMap;
+use values::{Lot, Name};
 
 /// Up to so many rows, or look-ups, a walk over the rows is as good as a map of them.
 const FEW: usize = 32;
@@ -21,12 +22,12 @@ const FEW: usize = 32;
 
 /// A row that is found by a text.
 pub trait Keyed: Copy {
-    ghost use Rattle.std.specs.Prelude.{ℕ, List};
+    ghost use Rattle.std.specs.Prelude.{ℕ, List, reverse};
 
     ghost text: { Self → List ℕ };
 
     fn key(&self) -> TextKey
-        ensures { result ≡ text self.now };
+        ensures { result ≡ reverse (text self.now) };
 }
 
 /// The rows by their texts. Where no rows stand with a text, the others may have some.
@@ -37,9 +38,28 @@ pub struct RowsByText<'a, T> {
 }
 
 impl<'a, T> RowsByText<'a, T> {
-    /// The rows with the text, in their order, and maybe others.
-    pub fn rows_of(&self, key: &TextKey) -> &[T]
-        ensures { result.now ≡ rows_given self.now key.now }
+    /// The rows with the name, in their order, and maybe others.
+    pub fn rows_of_name(&self, name: &Name) -> &[T]
+        ensures { result.now ≡ rows_given self.now name.now }
+    {
+        if self.groups.is_empty() {
+            return self.others;
+        }
+        self.rows_under(&TextKey::of_name(name))
+    }
+
+    /// The rows with the lot, in their order, and maybe others.
+    pub fn rows_of_lot(&self, lot: &Lot) -> &[T]
+        ensures { result.now ≡ rows_given self.now lot.now }
+    {
+        if self.groups.is_empty() {
+            return self.others;
+        }
+        self.rows_under(&TextKey::of_lot(lot))
+    }
+
+    fn rows_under(&self, key: &TextKey) -> &[T]
+        ensures { result.now ≡ rows_kept self.now key.now }
     {
         match self.groups.get(key) {
             Some(rows) => rows.as_slice(),
@@ -70,7 +90,7 @@ pub fn by_text<'a, T: Keyed>(
 }
 
 fn group<T: Keyed>(alloc: Global, rows: &[T]) -> Result<BTreeMap<TextKey, Vec<T>>, AllocError>
-    ensures { IfOk result (λ groups. (k : List ℕ) → rows_or [] (get (slice_cmp nat_cmp) groups k) ≡ filter (λ r. same_text k (T.text r)) rows.now) }
+    ensures { IfOk result (λ groups. (k : List ℕ) → rows_or [] (get (slice_cmp nat_cmp) groups (reverse k)) ≡ filter (λ r. same_text k (T.text r)) rows.now) }
 {
     let mut groups = BTreeMap::new(alloc);
     for row in rows {
@@ -85,7 +105,7 @@ fn add_row<T: Keyed>(
     groups: &mut BTreeMap<TextKey, Vec<T>>,
     row: &T,
 ) -> Result<(), AllocError>
-    ensures { OnOk result ((k : List ℕ) → rows_or [] (get (slice_cmp nat_cmp) groups.new k) ≡ rows_or [] (get (slice_cmp nat_cmp) groups.old k) ++ (if same_text k (T.text row.now) then row.now ∷ [] else [])) }
+    ensures { OnOk result ((k : List ℕ) → rows_or [] (get (slice_cmp nat_cmp) groups.new (reverse k)) ≡ rows_or [] (get (slice_cmp nat_cmp) groups.old (reverse k)) ++ (if same_text k (T.text row.now) then row.now ∷ [] else [])) }
 {
     match groups.get_mut(&row.key()) {
         Some(rows) => push_row(rows, *row),

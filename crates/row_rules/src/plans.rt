@@ -8,7 +8,7 @@ ghost use Rattle.row_rules.specs.LookUps.{rows_given, row_given, rows_named};
 
 use crate::Rows;
 use crate::demands::{cut_demands, demands_seen};
-use crate::look_ups::{Keyed, RowsByNumber, RowsByText, by_number, by_text};
+use crate::look_ups::{RowsByNumber, RowsByText, by_number, by_text};
 use crate::looking::is_same_lot;
 use crate::pushing::{push_found, push_if};
 use crate::supplies::{cut_supplies, supplies_seen};
@@ -198,7 +198,7 @@ fn rows_unlike(
 {
     let mut put = Vec::new(alloc);
     for row in news {
-        let same = is_qty(find_share(olds.rows_of(&row.key()), row), row.qty);
+        let same = is_qty(find_share(olds.rows_of_name(&row.order), row), row.qty);
         push_if(&mut put, !same, *row)?;
     }
     Ok(put)
@@ -227,7 +227,7 @@ fn rows_gone(
 {
     let mut dropped = Vec::new(alloc);
     for row in olds {
-        let gone = is_gone(gtin, news.rows_of(&row.key()), row);
+        let gone = is_gone(gtin, news.rows_of_name(&row.order), row);
         push_if(&mut dropped, gone, *row)?;
     }
     Ok(dropped)

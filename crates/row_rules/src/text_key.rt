@@ -1,15 +1,16 @@
-//! Texts as keys, in the order of their bytes.
+//! Texts as keys, in the order of their bytes from the last one on.
 
-ghost use Rattle.std.specs.Prelude.{◌≡◌, ◌≤◌, length};
+ghost use Rattle.std.specs.Prelude.{◌≡◌, ◌≤◌, length, reverse};
 
 use std::cmp::Ordering;
 use std::marker::Model;
 use values::{Lot, Name, Text};
 
-/// A text as a key: the name of an order or of a bin, or a lot among those of its item.
+/// A text as a key: the name of an order or of a bin, or a lot among those of its item. It is kept
+/// from the last character to the first, since names and lots mostly differ in their last ones.
 #[derive(Clone, Copy)]
 pub struct TextKey {
-    text: Text<20>,
+    turned: Text<20>,
 }
 
 impl Model for TextKey {
@@ -17,34 +18,38 @@ impl Model for TextKey {
 
     ghost Value = { List ℕ };
 
-    ghost view = { λ v. v.text };
+    ghost view = { λ v. v.turned };
 
-    ghost inverse = { λ text. record { text = text } };
+    ghost inverse = { λ text. record { turned = text } };
 }
 
 impl TextKey {
     pub fn of_name(name: &Name) -> Self
-        ensures { result ≡ name.now }
+        ensures { result ≡ reverse name.now }
     {
         TextKey {
-            text: text_of(name.as_bytes()),
+            turned: turned(name.as_bytes()),
         }
     }
 
     pub fn of_lot(lot: &Lot) -> Self
-        ensures { result ≡ lot.now }
+        ensures { result ≡ reverse lot.now }
     {
         TextKey {
-            text: text_of(lot.as_bytes()),
+            turned: turned(lot.as_bytes()),
         }
     }
 }
 
-fn text_of(text: &[u8]) -> Text<20>
+fn turned(text: &[u8]) -> Text<20>
     requires { length text.now ≤ 20 }
-    ensures { result ≡ text.now }
+    ensures { result ≡ reverse text.now }
 {
-    Text::new(text).unwrap()
+    let mut bytes = [0; 20];
+    let own = &mut bytes[..text.len()];
+    own.copy_from_slice(text);
+    own.reverse();
+    Text::new(own).unwrap()
 }
 
 impl PartialEq for TextKey {
@@ -57,7 +62,7 @@ impl PartialEq for TextKey {
     ghost laws = { Prim.search (comparing, rules) };
 
     fn eq(&self, other: &Self) -> bool {
-        self.text == other.text
+        self.turned == other.turned
     }
 }
 
@@ -96,6 +101,6 @@ impl Ord for TextKey {
     ghost matches_eq = { texts_ties };
 
     fn cmp(&self, other: &Self) -> Ordering {
-        self.text.as_bytes().cmp(other.text.as_bytes())
+        self.turned.as_bytes().cmp(other.turned.as_bytes())
     }
 }
