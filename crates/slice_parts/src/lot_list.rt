@@ -44,7 +44,7 @@ impl LotList {
     }
 
     /// The lots of the rows, each once.
-    pub fn add_all<R: OfLot>(&mut self, rows: &[R]) -> Result<(), AllocError>
+    pub fn add_all<R: HasLot>(&mut self, rows: &[R]) -> Result<(), AllocError>
         ensures added { OnOk result (AreKeyed self.old → self.new.lots.items ≡ with_keys is_lot R.lot_of rows.now self.old.lots.items) }
         ensures keyed { OnOk result (AreKeyed self.old → AreKeyed self.new) }
     {
@@ -54,6 +54,7 @@ impl LotList {
         Ok(())
     }
 
+    /// The lots, without their keys.
     pub fn into_lots(self) -> Vec<LotId>
         ensures { result.items ≡ self.lots.items }
     {
@@ -64,7 +65,7 @@ impl LotList {
 }
 
 /// What has a lot.
-pub trait OfLot: Copy {
+pub trait HasLot: Copy {
     ghost use Rattle.values.specs.declared.lot.LotId.{LotId};
 
     ghost lot_of: { Self → LotId };
@@ -73,7 +74,7 @@ pub trait OfLot: Copy {
         ensures { result ≡ lot_of self.now };
 }
 
-impl OfLot for LotId {
+impl HasLot for LotId {
     ghost lot_of = { λ l. l };
 
     fn lot(&self) -> LotId {
@@ -81,7 +82,7 @@ impl OfLot for LotId {
     }
 }
 
-impl OfLot for StockRow {
+impl HasLot for StockRow {
     ghost lot_of = { λ r. r.lot };
 
     fn lot(&self) -> LotId {
@@ -89,7 +90,7 @@ impl OfLot for StockRow {
     }
 }
 
-impl OfLot for StagedRow {
+impl HasLot for StagedRow {
     ghost lot_of = { λ r. r.lot };
 
     fn lot(&self) -> LotId {
@@ -97,7 +98,7 @@ impl OfLot for StagedRow {
     }
 }
 
-impl OfLot for ReservedRow {
+impl HasLot for ReservedRow {
     ghost lot_of = { λ r. r.lot };
 
     fn lot(&self) -> LotId {
