@@ -1,3 +1,2 @@
-pub mod KeysWalked
 pub mod KeysOnce
 pub mod LotsSeen
