@@ -6,7 +6,7 @@ pub mod cards;
 pub mod changing;
 pub mod demands;
 pub mod judging;
-mod look_ups;
+pub mod look_ups;
 pub mod looking;
 pub mod lots;
 pub mod open_lines;
@@ -21,6 +21,6 @@ pub mod status;
 pub mod stock;
 pub mod summing;
 pub mod supplies;
-mod text_key;
+pub mod text_key;
 
 pub use slice::{Change, Dropped, Put, Rows, RuleFault, Slice};
