@@ -197,17 +197,22 @@ KINDS = [b"", b"store", b"STORE ", b"RETURNS"]
 STATES = [b"", b"open", b"OPEN\x00", b"SHIPPED"]
 POSTINGS = [b"", b"receipt", b"RECEIPTS", b"MOVE"]
 
-# Who reads what: the acts on the oats read all rows of the item, of the open orders and of the bins concerned.
-ACTS_ON_ITEM = "receipt move count adjustment order cancel pick unpick shipment hold release recall day goodsin".split()
+# Who reads what. An act on the oats but a shipment reads all rows of the item, its lots that have units or are named, and
+# the bins and open orders concerned; a shipment its order, and what is staged of the item. An order is shown by its own
+# rows. The first act reads the open orders.
+PLANNED = "receipt move count adjustment order cancel pick unpick hold release recall day goodsin".split()
+ACTS_ON_ITEM = PLANNED + ["shipment"]
 ACTS_ON_ORDER = ["unpick", "shipment"]
 ALL_ACTS = ["item", "bin"] + ACTS_ON_ITEM
 SHOWN_ORDER = ["show order", "pick list"]
-OF_ITEM = SHOWN_ORDER + ["show stock", "shortages", "card", "notice", "item"] + ACTS_ON_ITEM
-OF_LOTS = SHOWN_ORDER + ["show stock", "card", "notice"] + ACTS_ON_ITEM
-OF_STOCK = SHOWN_ORDER + ["show stock"] + ACTS_ON_ITEM
+OF_ITEM = ["show stock", "shortages", "card", "notice", "item"] + PLANNED
+OF_LOT = SHOWN_ORDER + ["show stock", "card"] + PLANNED
+OF_RECALLS = ["show stock", "card", "notice"] + PLANNED
+OF_STOCK = ["show stock"] + PLANNED
 OF_ORDERS = ["shortages"] + ALL_ACTS
 OF_LINES = SHOWN_ORDER + ["shortages"] + ACTS_ON_ITEM
-OF_BOOKED = OF_STOCK + ["shortages"]
+OF_RESERVED = OF_STOCK + ["shortages"]
+OF_STAGED = OF_RESERVED + ["shipment"]
 
 # Where rows are only sought by a column, with the sound value of a request or of another row.
 SOUGHT = "rows are sought by it, and none is sought by such a value"
@@ -224,15 +229,15 @@ COLUMNS = [
     ("items", "gtin", "gtin = '%s'" % RYE, GTINS, ["item"], None),
     ("items", "name", "gtin = '%s'" % OATS, TITLES, OF_ITEM, None),
     ("bins", "name", "name = 'Q-01'", NAMES, ["bin"], None),
-    ("bins", "kind", "name = 'A-01'", KINDS, SHOWN_ORDER + ["bin"] + ACTS_ON_ITEM, None),
+    ("bins", "kind", "name = 'A-01'", KINDS, SHOWN_ORDER + ["bin"] + PLANNED, None),
     ("lots", "gtin", "lot = 'L1'", GTINS, ["day"], None),
-    ("lots", "lot", "lot = 'L1'", LOTS, OF_LOTS, None),
-    ("lots", "expiry", "lot = 'L1'", EXPIRIES, OF_LOTS, None),
-    ("lots", "came", "lot = 'L1'", ACTS, OF_LOTS, None),
-    ("lots", "held", "lot = 'L1'", FLAGS, OF_LOTS, None),
+    ("lots", "lot", "lot = 'L1'", LOTS, ["show stock", "day"], None),
+    ("lots", "expiry", "lot = 'L1'", EXPIRIES, OF_LOT, None),
+    ("lots", "came", "lot = 'L1'", ACTS, OF_LOT, None),
+    ("lots", "held", "lot = 'L1'", FLAGS, OF_LOT, None),
     ("recalls", "gtin", "lot = 'L2'", GTINS, [], SOUGHT),
-    ("recalls", "lot", "lot = 'L2'", LOTS, OF_LOTS, None),
-    ("recalls", "act", "lot = 'L2'", ACTS, OF_LOTS, None),
+    ("recalls", "lot", "lot = 'L2'", LOTS, OF_RECALLS, None),
+    ("recalls", "act", "lot = 'L2'", ACTS, OF_RECALLS, None),
     ("stock", "gtin", "lot = 'L2'", GTINS, [], SOUGHT),
     ("stock", "lot", "lot = 'L2'", LOTS, OF_STOCK, None),
     ("stock", "bin", "lot = 'L2'", NAMES, OF_STOCK + ["notice"], None),
@@ -245,14 +250,14 @@ COLUMNS = [
     ("lines", "gtin", "ord = 'S-1'", GTINS, SHOWN_ORDER + ACTS_ON_ORDER, None),
     ("lines", "ordered", "ord = 'S-1'", UNITS, OF_LINES, None),
     ("lines", "shipped", "ord = 'S-1'", UNITS, OF_LINES, None),
-    ("staged", "ord", "ord = 'S-1'", NAMES, OF_BOOKED, None),
-    ("staged", "gtin", "ord = 'S-1'", GTINS, ["day"], None),
-    ("staged", "lot", "ord = 'S-1'", LOTS, OF_BOOKED, None),
-    ("staged", "qty", "ord = 'S-1'", UNITS, OF_BOOKED, None),
-    ("reserved", "ord", "ord = 'S-1'", NAMES, OF_BOOKED, None),
-    ("reserved", "gtin", "ord = 'S-1'", GTINS, [], SOUGHT),
-    ("reserved", "lot", "ord = 'S-1'", LOTS, OF_BOOKED, None),
-    ("reserved", "qty", "ord = 'S-1'", UNITS, OF_BOOKED, None),
+    ("staged", "ord", "ord = 'S-1'", NAMES, OF_STAGED, None),
+    ("staged", "gtin", "ord = 'S-1'", GTINS, SHOWN_ORDER + ["day"], None),
+    ("staged", "lot", "ord = 'S-1'", LOTS, SHOWN_ORDER + OF_STAGED, None),
+    ("staged", "qty", "ord = 'S-1'", UNITS, SHOWN_ORDER + OF_STAGED, None),
+    ("reserved", "ord", "ord = 'S-1'", NAMES, OF_RESERVED, None),
+    ("reserved", "gtin", "ord = 'S-1'", GTINS, SHOWN_ORDER, None),
+    ("reserved", "lot", "ord = 'S-1'", LOTS, SHOWN_ORDER + OF_RESERVED, None),
+    ("reserved", "qty", "ord = 'S-1'", UNITS, SHOWN_ORDER + OF_RESERVED, None),
     ("shipments", "number", "1", ACTS, [], SOUGHT),
     ("shipments", "act", "1", ACTS, ["notice"], None),
     ("shipments", "day", "1", DAYS, ["notice"], None),

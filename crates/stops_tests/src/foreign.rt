@@ -29,7 +29,7 @@ UPDATE lots SET came = -1 WHERE lot = 'L1' => GET /cards/09506000134352/L1
 UPDATE lots SET held = 2 WHERE lot = 'L1' => /holds {"key":"N-1","gtin":"09506000134352","lot":"L1"}
 INSERT INTO recalls VALUES ('09506000134352', '', 13) => GET /stock/09506000134352
 UPDATE recalls SET act = 1000000000001 WHERE lot = 'L2' => GET /notices/09506000134352/L2
-INSERT INTO stock VALUES ('09506000134352', 'L12345678901234567890', 'A-01', 10) => GET /orders/S-1
+INSERT INTO stock VALUES ('09506000134352', 'L12345678901234567890', 'A-01', 10) => GET /stock/09506000134352
 UPDATE stock SET bin = 'A_01' WHERE lot = 'L1' => GET /stock/09506000134352
 UPDATE stock SET qty = 1000000001 WHERE lot = 'L1' => GET /picklists/S-1
 INSERT INTO orders VALUES ('S 1', 8, 'Corner Shop', 'OPEN') => GET /shortages/09506000134352
@@ -44,6 +44,7 @@ INSERT INTO staged VALUES ('S-1', '', 'L1', 1) => /days {"key":"N-1","day":"2026
 INSERT INTO staged VALUES ('S-1', '09506000134352', 'L#1', 1) => GET /orders/S-1
 UPDATE staged SET qty = -1 WHERE ord = 'S-1' => /unpicks {"key":"N-1","order":"S-1","gtin":"09506000134352","lot":"L0","bin":"A-01","qty":1}
 INSERT INTO reserved VALUES ('', '09506000134352', 'L1', 1) => GET /stock/09506000134352
+INSERT INTO reserved VALUES ('S-2', '09506000134353', 'L1', 1) => GET /orders/S-2
 INSERT INTO reserved VALUES ('S-1', '09506000134352', 'L 1', 1) => GET /orders/S-1
 UPDATE reserved SET qty = 1000000001 WHERE ord = 'S-1' => /picks {"key":"N-1","order":"S-1","gtin":"09506000134352","lot":"L1","bin":"A-01","qty":1}
 INSERT INTO shiplines VALUES (1, '09506000134352', 'L2', 1); INSERT INTO shipments VALUES (1, -1, 20577, 'S-1') => GET /notices/09506000134352/L2
@@ -64,7 +65,6 @@ static UNSEEN: &str =
     r#"INSERT INTO recalls VALUES ('0950600013435X', 'L1', 13) => GET /stock/09506000134352
 INSERT INTO stock VALUES ('', 'L1', 'A-01', 10) => GET /stock/09506000134352
 INSERT INTO lines VALUES ('s-2', '09506000134352', 12, 0) => GET /orders/S-2
-INSERT INTO reserved VALUES ('S-2', '09506000134353', 'L1', 1) => GET /orders/S-2
 INSERT INTO shipments VALUES (-1, 11, 20577, 'S-1') => GET /notices/09506000134352/L2
 INSERT INTO shiplines VALUES (1, '0950600013435', 'L2', 1) => GET /notices/09506000134352/L2
 INSERT INTO shiplines VALUES (1, '09506000134352', 'L 2', 1) => GET /notices/09506000134352/L2
