@@ -2,12 +2,16 @@
 //! two rows under one name or number the first.
 
 use crate::listing::Listing;
-use crate::samples::{OATS, Written, add, business_day, gtin};
-use commands::{BinRow, LineRow, LotRow, OrderRow, RecallRow, ReservedRow, StagedRow, StockRow};
+use crate::samples::{BREAD, OATS, Written, add, business_day, gtin};
+use crate::stock_views::view_of;
+use commands::{
+    BinRow, ItemRow, LineRow, Listed, LotRow, OrderRow, RecallRow, ReservedRow, StagedRow, StockRow,
+};
 use plan::{Demand, Row, Supply};
 use row_rules::demands::demands_seen;
 use row_rules::plans::{named_rows, rows_to_drop, rows_to_put};
 use row_rules::supplies::supplies_seen;
+use rules::Rows;
 use std::alloc::Global;
 use std::process::Abort;
 
@@ -267,4 +271,90 @@ fn sees_supplies_of_many_lots(rt: HostRuntime) {
     .ok()
     .expect(&rt, "memory");
     expect_supplies(&rt, supplies.as_slice());
+}
+
+// E1 is expired and comes first, H1 is held and comes last, L12 is recalled. L20 lies in three bins,
+// and a lot of the bread with its text in one.
+static STOCK_OF_MANY: &[u8] = b"09506000134352 Oat drink\n\
+    E1 2026-05-03 EXPIRED 0 1 Q-01 4\n\
+    L10 2026-06-30 FREE 10 2 A-10 10 B-01 3\n\
+    L11 2026-06-30 FREE 111 2 A-11 11 B-01 3\n\
+    L12 2026-06-30 RECALLED 12 2 A-12 12 B-01 3\n\
+    L13 2026-06-30 FREE 13 2 A-13 13 B-01 3\n\
+    L14 2026-06-30 FREE 14 2 A-14 14 B-01 3\n\
+    L15 2026-06-30 FREE 15 2 A-15 15 B-01 3\n\
+    L16 2026-06-30 FREE 16 2 A-16 16 B-01 3\n\
+    L17 2026-06-30 FREE 17 2 A-17 17 B-01 3\n\
+    L18 2026-06-30 FREE 18 2 A-18 18 B-01 3\n\
+    L19 2026-06-30 FREE 19 2 A-19 19 B-01 3\n\
+    L20 2026-06-30 FREE 25 2 A-01 5 A-20 20 B-01 3\n\
+    L21 2026-06-30 FREE 21 2 A-21 21 B-01 3\n\
+    L22 2026-06-30 FREE 22 2 A-22 22 B-01 3\n\
+    L23 2026-06-30 FREE 23 2 A-23 23 B-01 3\n\
+    L24 2026-06-30 FREE 24 2 A-24 24 B-01 3\n\
+    L25 2026-06-30 FREE 25 2 A-25 25 B-01 3\n\
+    L26 2026-06-30 FREE 26 2 A-26 26 B-01 3\n\
+    L27 2026-06-30 FREE 27 2 A-27 27 B-01 3\n\
+    L28 2026-06-30 FREE 28 2 A-28 28 B-01 3\n\
+    L29 2026-06-30 FREE 29 2 A-29 29 B-01 3\n\
+    L30 2026-06-30 FREE 30 2 A-30 30 B-01 3\n\
+    L31 2026-06-30 FREE 31 42 A-31 31 B-01 3\n\
+    L32 2026-06-30 FREE 32 2 A-32 32 B-01 3\n\
+    L33 2026-06-30 FREE 33 2 A-33 33 B-01 3\n\
+    L34 2026-06-30 FREE 34 2 A-34 34 B-01 3\n\
+    L35 2026-06-30 FREE 35 2 A-35 35 B-01 3\n\
+    L36 2026-06-30 FREE 36 2 A-36 36 B-01 3\n\
+    L37 2026-06-30 FREE 37 2 A-37 37 B-01 3\n\
+    L38 2026-06-30 FREE 38 2 A-38 38 B-01 3\n\
+    L39 2026-06-30 FREE 39 2 A-39 39 B-01 3\n\
+    L40 2026-06-30 FREE 40 2 A-40 40 B-01 3\n\
+    L41 2026-06-30 FREE 41 2 A-41 41 B-01 3\n\
+    L42 2026-06-30 FREE 42 2 A-42 42 B-01 3\n\
+    L43 2026-06-30 FREE 43 2 A-43 43 B-01 3\n\
+    L44 2026-06-30 FREE 44 2 A-44 44 B-01 3\n\
+    L45 2026-06-30 FREE 45 2 A-45 45 B-01 3\n\
+    L46 2026-06-30 FREE 46 2 A-46 46 B-01 3\n\
+    L47 2026-06-30 FREE 47 2 A-47 47 B-01 3\n\
+    L48 2026-06-30 FREE 48 2 A-48 48 B-01 3\n\
+    L49 2026-06-30 FREE 49 2 A-49 49 B-01 3\n\
+    H1 2026-07-31 HELD 0 0\n";
+
+fn stock_of_many(rt: &impl Abort, alloc: Global) -> Vec<StockRow> {
+    let mut stock: Vec<StockRow> = rising(rt, alloc, "L#|A-#|#", &["E1|Q-01|4", "L20|A-01|5"]);
+    let mut bread = StockRow::read(rt, "L20|A-20|700");
+    bread.lot.gtin = gtin(rt, BREAD);
+    add(rt, &mut stock, bread);
+    let others: Vec<StockRow> = falling(rt, alloc, "L#|B-01|3", &[]);
+    for row in others.as_slice() {
+        add(rt, &mut stock, *row);
+    }
+    stock
+}
+
+fn rows_of_many(rt: &impl Abort, alloc: Global) -> Rows {
+    let lots = ["E1|2026-05-03|90|free", "H1|2026-07-31|91|held"];
+    Rows {
+        items: Listed::from_vec(Vec::new(alloc)),
+        bins: Listed::from_vec(Vec::new(alloc)),
+        lots: Listed::from_vec(falling(rt, alloc, "L#|2026-06-30|#|free", &lots)),
+        recalls: Listed::from_vec(falling(rt, alloc, "R#|5", &["L12|6"])),
+        stock: Listed::from_vec(stock_of_many(rt, alloc)),
+        orders: Listed::from_vec(Vec::new(alloc)),
+        lines: Listed::from_vec(Vec::new(alloc)),
+        staged: Listed::from_vec(rising(rt, alloc, "S-#|L#|2", &["S-30|L31|40", "S-31|E1|1"])),
+        reserved: Listed::from_vec(falling(rt, alloc, "S-#|L#|#", &["S-1|L20|5", "S-10|L11|100"])),
+    }
+}
+
+#[test]
+fn shows_stock_of_many_lots(rt: HostRuntime) {
+    let alloc = rt.alloc();
+    let day = business_day(&rt, "2026-05-04");
+    let rows = rows_of_many(&rt, alloc);
+    let item = ItemRow::read(&rt, "09506000134352|Oat drink");
+    let view = view_of(&rt, alloc, day, &rows, &item);
+    let listing = Listing::of_stock(&view);
+    drop(rows);
+    drop(view);
+    assert_eq!(rt; listing.as_bytes(), STOCK_OF_MANY);
 }

@@ -15,9 +15,9 @@ struct Viewed {
     text: &'static [u8],
 }
 
-// With a flag of `rt try --test --fail-alloc N` the Nth request for memory is refused: a view that
-// is refused memory is made again.
-fn view_of(
+/// With a flag of `rt try --test --fail-alloc N` the Nth request for memory is refused: a view that
+/// is refused memory is made again.
+pub(crate) fn view_of(
     rt: &impl Abort,
     alloc: Global,
     day: BusinessDay,

@@ -13,4 +13,5 @@ pub mod OrderShown
 pub mod AllBinsShown
 pub mod LotTotals
 pub mod StockTold
+pub mod StockGiven
 pub mod ShortsShown

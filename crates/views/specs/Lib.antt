@@ -2,5 +2,6 @@ pub mod Seen
 pub mod Shown
 pub mod SeenStock
 pub mod ShownStock
+pub mod GivenStock
 pub mod SeenShort
 pub mod ShownShort

@@ -4,6 +4,7 @@
 mod bins;
 mod lines;
 mod looking;
+mod lot_units;
 mod lots;
 mod order;
 mod short;

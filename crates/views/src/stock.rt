@@ -6,15 +6,18 @@ ghost use Rattle.machine.specs.Once.{IsHistory};
 ghost use Rattle.machine.specs.Standing.{today};
 ghost use Rattle.machine.specs.Tables.{item_row, tables_of};
 ghost use Rattle.machine.specs.Views.{stock_view as stock_view_lem};
+ghost use Rattle.row_rules.specs.LookUps.{rows_given};
 ghost use Rattle.views.specs.SeenStock.{stock_seen, lot_seen};
 ghost use Rattle.views.specs.ShownStock.{AreStocked};
+ghost use Rattle.views.specs.GivenStock.{lot_told, lot_given};
 
 use crate::bins::bins_of_lot;
+use crate::lot_units::{LotUnits, reserved_lots, staged_lots, sum_of_lot};
 use crate::lots::lots_of_item;
-use commands::{ItemRow, Listed, LotRow, LotView, StockView};
+use commands::{ItemRow, Listed, LotRow, LotView, RecallRow, StockRow, StockView};
 use label::BusinessDay;
+use row_rules::look_ups::{RowsByText, by_text};
 use row_rules::status::lot_status;
-use row_rules::summing::{sum_of_lot_reserved, sum_of_lot_staged};
 use rules::Rows;
 use std::alloc::{AllocError, Global};
 
@@ -46,9 +49,55 @@ fn lot_views(
 ) -> Result<Vec<LotView>, AllocError>
     ensures { IfOk result (λ v. v.items ≡ map (lot_seen day rows.now) lots.now) }
 {
+    let reserved = reserved_lots(alloc, rows.reserved.as_slice())?;
+    let staged = staged_lots(alloc, rows.staged.as_slice())?;
+    views_of(
+        alloc,
+        day,
+        rows.stock.as_slice(),
+        rows.recalls.as_slice(),
+        reserved.as_slice(),
+        staged.as_slice(),
+        lots,
+    )
+}
+
+fn views_of(
+    alloc: Global,
+    day: BusinessDay,
+    stock: &[StockRow],
+    recalls: &[RecallRow],
+    reserved: &[LotUnits],
+    staged: &[LotUnits],
+    lots: &[LotRow],
+) -> Result<Vec<LotView>, AllocError>
+    ensures { IfOk result (λ v. v.items ≡ map (lot_told day stock.now recalls.now reserved.now staged.now) lots.now) }
+{
+    let in_bins = by_text(alloc, stock, lots.len())?;
+    let recalled = by_text(alloc, recalls, lots.len())?;
+    let taken = by_text(alloc, reserved, lots.len())?;
+    let on_stages = by_text(alloc, staged, lots.len())?;
+    views_given(alloc, day, &in_bins, &recalled, &taken, &on_stages, lots)
+}
+
+fn views_given(
+    alloc: Global,
+    day: BusinessDay,
+    stock: &RowsByText<'_, StockRow>,
+    recalls: &RowsByText<'_, RecallRow>,
+    reserved: &RowsByText<'_, LotUnits>,
+    staged: &RowsByText<'_, LotUnits>,
+    lots: &[LotRow],
+) -> Result<Vec<LotView>, AllocError>
+    ensures { IfOk result (λ v. v.items ≡ map (lot_given day (rows_given stock.now) (rows_given recalls.now) (rows_given reserved.now) (rows_given staged.now)) lots.now) }
+{
     let mut views = Vec::new(alloc);
     for lot in lots {
-        let view = lot_view(alloc, day, rows, lot)?;
+        let in_bins = stock.rows_of_lot(&lot.lot.lot);
+        let recalled = recalls.rows_of_lot(&lot.lot.lot);
+        let taken = reserved.rows_of_lot(&lot.lot.lot);
+        let on_stages = staged.rows_of_lot(&lot.lot.lot);
+        let view = lot_view(alloc, day, in_bins, recalled, taken, on_stages, lot)?;
         views.push(view)?;
     }
     Ok(views)
@@ -57,20 +106,21 @@ fn lot_views(
 fn lot_view(
     alloc: Global,
     day: BusinessDay,
-    rows: &Rows,
+    stock: &[StockRow],
+    recalls: &[RecallRow],
+    reserved: &[LotUnits],
+    staged: &[LotUnits],
     lot: &LotRow,
 ) -> Result<LotView, AllocError>
-    ensures { IfOk result (λ view. view ≡ lot_seen day rows.now lot.now) }
+    ensures { IfOk result (λ view. view ≡ lot_told day stock.now recalls.now reserved.now staged.now lot.now) }
 {
-    let bins = bins_of_lot(alloc, rows.stock.as_slice(), &lot.lot)?;
-    let reserved = sum_of_lot_reserved(rows.reserved.as_slice(), &lot.lot);
-    let staged = sum_of_lot_staged(rows.staged.as_slice(), &lot.lot);
+    let bins = bins_of_lot(alloc, stock, &lot.lot)?;
     Ok(LotView {
         bins: Listed::from_vec(bins),
         expiry: lot.expiry,
         lot: lot.lot.lot,
-        reserved,
-        staged,
-        status: lot_status(day, rows.recalls.as_slice(), lot),
+        reserved: sum_of_lot(reserved, &lot.lot),
+        staged: sum_of_lot(staged, &lot.lot),
+        status: lot_status(day, recalls, lot),
     })
 }

@@ -1,21 +1,13 @@
-use Rattle.std.proofs.Common.{arith, ap, ◌∙◌, ◌++◌, [], ◌∷◌}
-use Rattle.commands.specs.declared.rows.LotRow.{LotRow}
-use Rattle.commands.specs.declared.views.LotView.{LotView}
-use Rattle.row_rules.proofs.Walking.{mapped_all, mapped_more}
-use Rattle.views.specs.SeenStock.{lot_seen}
+use Rattle.std.proofs.Common.{ap, ◌∙◌}
+use Rattle.std.specs.Prelude.{map}
+use Rattle.row_rules.proofs.Giving.{same_items}
+use Rattle.views.specs.GivenStock.{reserved_of_lot, staged_of_lot, lot_told}
+use Rattle.views.proofs.StockGiven.{lots_told}
 use Rattle.views.proofs.stock.lot_views.Goals as goal
-
-pub loop-lot-preserved : goal.loop-lot-preserved
-loop-lot-preserved c =
-    let a = c.args in
-    let l = c.loop-lot in
-    let f : LotRow → LotView = lot_seen a.day a.rows.now in
-    mapped_more f a.lots.now l.lot-index l.views.items c.lot-item.result c.push.new.self.items c.loop-lot-test.true l.invariant
-    (c.in_ok-push.ensures.items ∙ ap (λ (y : LotView). l.views.items ++ y ∷ []) (c.in_ok-view.ensures ∙ ap f c.lot-item.is))
 
 pub returns : goal.returns
 returns c =
     let a = c.args in
-    let l = c.loop-lot in
-    let f : LotRow → LotView = lot_seen a.day a.rows.now in
-    mapped_all f a.lots.now l.lot-index l.views.items (omega arith) l.invariant
+    let reserved = c.as_slice-5.ensures.value ∙ c.in_ok-reserved.ensures ∙ ap (map reserved_of_lot) c.as_slice.ensures in
+    let staged = c.as_slice-6.ensures.value ∙ c.in_ok-staged.ensures ∙ ap (map staged_of_lot) c.as_slice-2.ensures in
+    same_items c.views_of.result _ _ c.views_of.ensures ((λ i. map (lot_told a.day (c.as_slice-3.ensures i) (c.as_slice-4.ensures i) (reserved i) (staged i)) a.lots.now) ∙ lots_told a.day a.rows.now a.lots.now)
