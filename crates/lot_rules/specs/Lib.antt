@@ -1,2 +1,3 @@
 pub mod DecidedDay
 pub mod DecidedHold
+pub mod GivenDay

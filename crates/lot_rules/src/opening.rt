@@ -1,25 +1,29 @@
 //! Days that are opened.
 
-ghost use Rattle.std.specs.Prelude.{◌≡◌, ◌&&◌, not, map, filter, flat_map, if◌then◌else◌, IfOk};
+ghost use Rattle.std.specs.Prelude.{◌≡◌, ◌&&◌, not, map, filter, flat_map, Some, IfOk};
 ghost use Rattle.values.specs.Values.{same_text};
 ghost use Rattle.commands.specs.Lists.{total};
+ghost use Rattle.commands.specs.Replies.{reply_text};
+ghost use Rattle.commands.specs.declared.replies.ReplyField.TheVariants.{Returned};
 ghost use Rattle.machine.specs.Verdict.{first_refusal};
 ghost use Rattle.machine.specs.Postings.{is_lot};
-ghost use Rattle.row_rules.specs.Seen.{capped, none_put, none_dropped};
-ghost use Rattle.lot_rules.specs.DecidedDay.{day_judged, is_out as is_out_lem, staged_kept_on as staged_kept_on_lem, staged_gone_on as staged_gone_on_lem, units_out as units_out_lem, lot_returned_on as lot_returned_on_lem, stock_returned as stock_returned_lem, stands_in as stands_in_lem, stock_on as stock_on_lem, gtins_seen as gtins_seen_lem, day_put, day_dropped, meta_on as meta_on_lem, day_reply as day_reply_lem, day_changes};
+ghost use Rattle.row_rules.specs.Seen.{capped, number_seen as number_seen_lem, none_put, none_dropped};
+ghost use Rattle.row_rules.specs.LookUps.{rows_given};
+ghost use Rattle.lot_rules.specs.GivenDay.{is_out_given, row_returned as row_returned_lem};
+ghost use Rattle.lot_rules.specs.DecidedDay.{day_judged, is_out as is_out_lem, staged_kept_on as staged_kept_on_lem, staged_gone_on as staged_gone_on_lem, stock_returned as stock_returned_lem, stands_in as stands_in_lem, stock_on as stock_on_lem, gtins_seen as gtins_seen_lem, day_put, day_dropped, meta_on as meta_on_lem, day_changes};
 
-use crate::returning::{bins_with_returns, returned_put};
+use crate::returning::{bins_with_returns, row_returned};
 use commands::{
     ItemRow, Listed, LotRow, MetaRow, Refusal, ReplyField, Short, StagedRow, StockRow, reply,
 };
 use label::BusinessDay;
 use row_rules::changing::{none_dropped, none_put, number_seen};
 use row_rules::judging::first_of;
-use row_rules::looking::is_same_lot;
+use row_rules::look_ups::{RowsByText, by_text, staged_by_lot};
+use row_rules::looking::{find_lot, is_same_lot};
 use row_rules::plans::{ItemRows, item_rows};
 use row_rules::pushing::push_if;
 use row_rules::replanning::{Replanned, replan_items};
-use row_rules::seeing::lot_seen;
 use row_rules::status::is_past;
 use row_rules::{Change, Slice};
 use std::alloc::{AllocError, Global};
@@ -35,10 +39,10 @@ pub fn judge_day(slice: &Slice, day: BusinessDay) -> Option<Refusal>
 
 // Lots that are expired on the new day
 
-fn is_out(slice: &Slice, day: BusinessDay, lot: &LotId) -> bool
-    ensures { result ≡ is_out_lem slice.now day lot.now }
+fn is_out(lots: &RowsByText<'_, LotRow>, day: BusinessDay, lot: &LotId) -> bool
+    ensures { result ≡ is_out_given (rows_given lots.now) day lot.now }
 {
-    is_past(lot_seen(slice, lot), day)
+    is_past(find_lot(lots.rows_of_lot(&lot.lot), lot), day)
 }
 
 // Staged rows
@@ -50,20 +54,22 @@ fn staged_kept_on(
 ) -> Result<Vec<StagedRow>, AllocError>
     ensures { IfOk result (λ v. v.items ≡ staged_kept_on_lem slice.now day) }
 {
-    rows_kept_on(alloc, slice, slice.rows.staged.as_slice(), day)
+    let rows = slice.rows.staged.as_slice();
+    let lots = by_text(alloc, slice.rows.lots.as_slice(), rows.len())?;
+    rows_kept_on(alloc, &lots, rows, day)
 }
 
 fn rows_kept_on(
     alloc: Global,
-    slice: &Slice,
+    lots: &RowsByText<'_, LotRow>,
     rows: &[StagedRow],
     day: BusinessDay,
 ) -> Result<Vec<StagedRow>, AllocError>
-    ensures { IfOk result (λ v. v.items ≡ filter (λ r. not (is_out_lem slice.now day r.lot)) rows.now) }
+    ensures { IfOk result (λ v. v.items ≡ filter (λ r. not (is_out_given (rows_given lots.now) day r.lot)) rows.now) }
 {
     let mut kept = Vec::new(alloc);
     for row in rows {
-        let out = is_out(slice, day, &row.lot);
+        let out = is_out(lots, day, &row.lot);
         push_if(&mut kept, !out, *row)?;
     }
     Ok(kept)
@@ -76,60 +82,55 @@ fn staged_gone_on(
 ) -> Result<Vec<StagedRow>, AllocError>
     ensures { IfOk result (λ v. v.items ≡ staged_gone_on_lem slice.now day) }
 {
-    rows_gone_on(alloc, slice, slice.rows.staged.as_slice(), day)
+    let rows = slice.rows.staged.as_slice();
+    let lots = by_text(alloc, slice.rows.lots.as_slice(), rows.len())?;
+    rows_gone_on(alloc, &lots, rows, day)
 }
 
 fn rows_gone_on(
     alloc: Global,
-    slice: &Slice,
+    lots: &RowsByText<'_, LotRow>,
     rows: &[StagedRow],
     day: BusinessDay,
 ) -> Result<Vec<StagedRow>, AllocError>
-    ensures { IfOk result (λ v. v.items ≡ filter (λ r. is_out_lem slice.now day r.lot) rows.now) }
+    ensures { IfOk result (λ v. v.items ≡ filter (λ r. is_out_given (rows_given lots.now) day r.lot) rows.now) }
 {
     let mut gone = Vec::new(alloc);
     for row in rows {
-        let out = is_out(slice, day, &row.lot);
+        let out = is_out(lots, day, &row.lot);
         push_if(&mut gone, out, *row)?;
     }
     Ok(gone)
 }
 
-fn units_out(slice: &Slice, day: BusinessDay) -> u64
-    ensures { result ≡ units_out_lem slice.now day }
-{
-    sum_out(slice, slice.rows.staged.as_slice(), day)
-}
-
-fn sum_out(slice: &Slice, rows: &[StagedRow], day: BusinessDay) -> u64
-    ensures { result ≡ capped (total (λ r. if is_out_lem slice.now day r.lot then r.qty else 0) rows.now) }
-{
-    let mut sum = 0_u64;
-    for row in rows {
-        if is_out(slice, day, &row.lot) {
-            sum = sum.saturating_add(row.qty);
-        }
-    }
-    sum
-}
-
 // Stock rows
 
-// The row of the lot in RETURNS, if it is expired and anything comes into it.
-fn lot_returned_on(
-    alloc: Global,
-    slice: &Slice,
-    day: BusinessDay,
-    row: &LotRow,
-) -> Result<Vec<StockRow>, AllocError>
-    ensures { IfOk result (λ v. v.items ≡ lot_returned_on_lem slice.now day row.now) }
+// The lots that are expired.
+fn lots_out(alloc: Global, slice: &Slice, day: BusinessDay) -> Result<Vec<LotRow>, AllocError>
+    ensures { IfOk result (λ v. v.items ≡ filter (λ k. is_out_lem slice.now day k.lot) slice.now.rows.lots) }
 {
-    if is_out(slice, day, &row.lot) {
-        return returned_put(alloc, slice, &row.lot);
-    }
-    Ok(Vec::new(alloc))
+    let rows = slice.rows.lots.as_slice();
+    let lots = by_text(alloc, rows, rows.len())?;
+    lots_out_of(alloc, &lots, rows, day)
 }
 
+fn lots_out_of(
+    alloc: Global,
+    lots: &RowsByText<'_, LotRow>,
+    rows: &[LotRow],
+    day: BusinessDay,
+) -> Result<Vec<LotRow>, AllocError>
+    ensures { IfOk result (λ v. v.items ≡ filter (λ k. is_out_given (rows_given lots.now) day k.lot) rows.now) }
+{
+    let mut out = Vec::new(alloc);
+    for row in rows {
+        let past = is_out(lots, day, &row.lot);
+        push_if(&mut out, past, *row)?;
+    }
+    Ok(out)
+}
+
+// The rows in RETURNS of the lots that are expired, where anything comes into it.
 fn stock_returned(
     alloc: Global,
     slice: &Slice,
@@ -137,20 +138,29 @@ fn stock_returned(
 ) -> Result<Vec<StockRow>, AllocError>
     ensures { IfOk result (λ v. v.items ≡ stock_returned_lem slice.now day) }
 {
-    lots_returned(alloc, slice, slice.rows.lots.as_slice(), day)
+    let out = lots_out(alloc, slice, day)?;
+    let stock = by_text(alloc, slice.rows.stock.as_slice(), out.len())?;
+    let staged = staged_by_lot(alloc, slice.rows.staged.as_slice(), out.len())?;
+    rows_returned(alloc, &stock, &staged, out.as_slice())
 }
 
-fn lots_returned(
+fn rows_returned(
     alloc: Global,
-    slice: &Slice,
-    rows: &[LotRow],
-    day: BusinessDay,
+    stock: &RowsByText<'_, StockRow>,
+    staged: &RowsByText<'_, StagedRow>,
+    lots: &[LotRow],
 ) -> Result<Vec<StockRow>, AllocError>
-    ensures { IfOk result (λ v. v.items ≡ flat_map (lot_returned_on_lem slice.now day) rows.now) }
+    ensures { IfOk result (λ v. v.items ≡ flat_map (λ k. row_returned_lem (rows_given stock.now k.lot.lot) (rows_given staged.now k.lot.lot) k.lot) lots.now) }
 {
     let mut put = Vec::new(alloc);
-    for row in rows {
-        let own = lot_returned_on(alloc, slice, day, row)?;
+    for row in lots {
+        let lot = &row.lot.lot;
+        let own = row_returned(
+            alloc,
+            stock.rows_of_lot(lot),
+            staged.rows_of_lot(lot),
+            &row.lot,
+        )?;
         put.extend_from_slice(own.as_slice())?;
     }
     Ok(put)
@@ -183,9 +193,20 @@ fn rows_besides(
 ) -> Result<Vec<StockRow>, AllocError>
     ensures { IfOk result (λ v. v.items ≡ filter (λ r. not (stands_in_lem others.now r)) rows.now) }
 {
+    let of_lots = by_text(alloc, others, rows.len())?;
+    rows_apart(alloc, rows, &of_lots)
+}
+
+fn rows_apart(
+    alloc: Global,
+    rows: &[StockRow],
+    others: &RowsByText<'_, StockRow>,
+) -> Result<Vec<StockRow>, AllocError>
+    ensures { IfOk result (λ v. v.items ≡ filter (λ r. not (stands_in_lem (rows_given others.now r.lot.lot) r)) rows.now) }
+{
     let mut kept = Vec::new(alloc);
     for row in rows {
-        let there = stands_in(others, row);
+        let there = stands_in(others.rows_of_lot(&row.lot.lot), row);
         push_if(&mut kept, !there, *row)?;
     }
     Ok(kept)
@@ -246,20 +267,32 @@ pub fn change_day(alloc: Global, slice: &Slice, day: BusinessDay) -> Result<Chan
 {
     let stock = stock_returned(alloc, slice, day)?;
     let staged = staged_gone_on(alloc, slice, day)?;
+    let units = sum_units(staged.as_slice());
     let reserved = replan_on(alloc, slice, day)?;
-    Ok(opened(alloc, slice, day, stock, staged, reserved))
+    Ok(opened(alloc, slice, day, units, stock, staged, reserved))
 }
 
-// The change by these rows.
+fn sum_units(rows: &[StagedRow]) -> u64
+    ensures { result ≡ capped (total (λ r. r.qty) rows.now) }
+{
+    let mut sum = 0_u64;
+    for row in rows {
+        sum = sum.saturating_add(row.qty);
+    }
+    sum
+}
+
+// The change by these rows, and so many units returned.
 fn opened(
     alloc: Global,
     slice: &Slice,
     day: BusinessDay,
+    units: u64,
     stock: Vec<StockRow>,
     staged: Vec<StagedRow>,
     reserved: Replanned,
 ) -> Change
-    ensures { result ≡ record { meta = meta_on_lem slice.now day; put = record none_put { stock = stock.items; reserved = reserved.put }; dropped = record none_dropped { staged = staged.items; reserved = reserved.dropped }; text = day_reply_lem slice.now day } }
+    ensures { result ≡ record { meta = meta_on_lem slice.now day; put = record none_put { stock = stock.items; reserved = reserved.put }; dropped = record none_dropped { staged = staged.items; reserved = reserved.dropped }; text = reply_text (number_seen_lem slice.now) (Some (Returned units)) } }
 {
     let mut put = none_put(alloc);
     put.stock = Listed::from_vec(stock);
@@ -271,7 +304,7 @@ fn opened(
         meta: meta_on(slice, day),
         put,
         dropped,
-        text: day_reply(slice, day),
+        text: day_reply(slice, units),
     }
 }
 
@@ -286,11 +319,8 @@ fn meta_on(slice: &Slice, day: BusinessDay) -> MetaRow
 }
 
 // The reply says how many units were returned.
-fn day_reply(slice: &Slice, day: BusinessDay) -> Short
-    ensures { result ≡ day_reply_lem slice.now day }
+fn day_reply(slice: &Slice, units: u64) -> Short
+    ensures { result ≡ reply_text (number_seen_lem slice.now) (Some (Returned units)) }
 {
-    reply(
-        number_seen(slice),
-        Some(ReplyField::Returned(units_out(slice, day))),
-    )
+    reply(number_seen(slice), Some(ReplyField::Returned(units)))
 }

@@ -6,6 +6,7 @@ ghost use Rattle.machine.specs.Standing.{RETURNS};
 ghost use Rattle.row_rules.specs.Plans.{rows_to_put, rows_to_drop};
 ghost use Rattle.row_rules.specs.Seen.{meta_after, none_put, none_dropped};
 ghost use Rattle.lot_rules.specs.DecidedHold.{staged_of_seen, staged_kept as staged_kept_lem, staged_returned as staged_returned_lem, units_in_returns as units_in_returns_lem, returned_put as returned_put_lem, stock_with_returned as stock_with_returned_lem, bins_with_returns as bins_with_returns_lem, returns_bin_row as returns_bin_row_lem, shares_with_returned as shares_with_returned_lem, returned_reply as returned_reply_lem, returning_change as returning_change_lem};
+ghost use Rattle.lot_rules.specs.GivenDay.{row_returned as row_returned_lem};
 
 use commands::{
     BinKind, BinRow, Listed, LotRow, RecallRow, ReplyField, ReservedRow, Short, StagedRow,
@@ -16,7 +17,7 @@ use row_rules::looking::is_same_lot;
 use row_rules::plans::{ItemRows, item_rows, shares_over};
 use row_rules::pushing::push_if;
 use row_rules::replanning::{Replanned, shares_changed};
-use row_rules::stock::{stock_put, stock_rows_with, units_in_bin};
+use row_rules::stock::{stock_put, stock_rows_with, units_among, units_in_bin};
 use row_rules::summing::sum_of_lot_staged;
 use row_rules::{Change, Slice};
 use std::alloc::{AllocError, Global};
@@ -112,10 +113,26 @@ fn units_in_returns(slice: &Slice, lot: &LotId) -> u64
 pub fn returned_put(alloc: Global, slice: &Slice, lot: &LotId) -> Result<Vec<StockRow>, AllocError>
     ensures { IfOk result (λ v. v.items ≡ returned_put_lem slice.now lot.now) }
 {
-    if staged_of(slice, lot) == 0 {
+    let rows = &slice.rows;
+    row_returned(alloc, rows.stock.as_slice(), rows.staged.as_slice(), lot)
+}
+
+/// The stock row of the lot in RETURNS, if anything comes into it, as these rows tell.
+pub fn row_returned(
+    alloc: Global,
+    stock: &[StockRow],
+    staged: &[StagedRow],
+    lot: &LotId,
+) -> Result<Vec<StockRow>, AllocError>
+    ensures { IfOk result (λ v. v.items ≡ row_returned_lem stock.now staged.now lot.now) }
+{
+    let more = sum_of_lot_staged(staged, lot);
+    if more == 0 {
         return Ok(Vec::new(alloc));
     }
-    stock_put(alloc, lot, &returns(), units_in_returns(slice, lot))
+    let bin = returns();
+    let there = units_among(stock, lot, &bin);
+    stock_put(alloc, lot, &bin, there.saturating_add(more))
 }
 
 fn stock_with_returned(

@@ -1,21 +1,23 @@
 //! Orders that are shipped.
 
-ghost use Rattle.std.specs.Prelude.{◌≡◌, map, min, pos, neg_ℤ, decimal, IfOk};
+ghost use Rattle.std.specs.Prelude.{◌≡◌, ◌-◌, map, min, pos, neg_ℤ, decimal, IfOk};
 ghost use Rattle.std.specs.List.{list_any};
 ghost use Rattle.commands.specs.declared.limits.TheConstants.{UNITS_MAX};
 ghost use Rattle.machine.specs.Verdict.{first_refusal};
-ghost use Rattle.row_rules.specs.Seen.{none_put};
+ghost use Rattle.row_rules.specs.Seen.{none_put, lot_units as lot_units_lem};
+ghost use Rattle.row_rules.specs.LookUps.{rows_given};
 ghost use Rattle.order_rules.specs.DecidedShip.{ship_seen, ship_changes, shipment_seen as shipment_seen_lem, meta_shipped as meta_shipped_lem, rows_shipped as rows_shipped_lem, lines_shipped as lines_shipped_lem, line_shipped as line_shipped_lem, lacks_units as lacks_units_lem, order_put as order_put_lem, done_row as done_row_lem, shipment_put as shipment_put_lem, shipline as shipline_lem, ship_card as ship_card_lem, ship_reply as ship_reply_lem};
 
 use commands::limits::{CARD_NOTE_MAX, UNITS_MAX};
 use commands::{
     Buffer, CardKind, CardRow, LineRow, Listed, MetaRow, OrderRow, OrderState, Refusal, ReplyField,
-    ShiplineRow, ShipmentRow, Short, StagedRow, reply,
+    ShiplineRow, ShipmentRow, Short, StagedRow, StockRow, reply,
 };
 use row_rules::cards::lot_units;
 use row_rules::changing::{none_dropped, none_put, number_seen, one};
 use row_rules::demands::sum_staged_for;
 use row_rules::judging::first_of;
+use row_rules::look_ups::{RowsByText, by_text, staged_by_lot};
 use row_rules::orders_seen::{lines_seen, order_row_seen, sees_open, sees_order, staged_for_seen};
 use row_rules::pushing::push_if;
 use row_rules::{Change, Put, Slice};
@@ -227,19 +229,38 @@ fn shiplines(alloc: Global, number: u64, rows: &[StagedRow]) -> Result<Vec<Shipl
 fn ship_cards(alloc: Global, slice: &Slice, rows: &[StagedRow]) -> Result<Vec<CardRow>, AllocError>
     ensures { IfOk result (λ v. v.items ≡ map (ship_card_lem slice.now) rows.now) }
 {
+    let all = &slice.rows;
+    let stock = by_text(alloc, all.stock.as_slice(), rows.len())?;
+    let staged = staged_by_lot(alloc, all.staged.as_slice(), rows.len())?;
+    cards_given(alloc, slice, &stock, &staged, rows)
+}
+
+fn cards_given(
+    alloc: Global,
+    slice: &Slice,
+    stock: &RowsByText<'_, StockRow>,
+    staged: &RowsByText<'_, StagedRow>,
+    rows: &[StagedRow],
+) -> Result<Vec<CardRow>, AllocError>
+    ensures { IfOk result (λ v. v.items ≡ map (λ r. record (ship_card_lem slice.now r) { rest = lot_units_lem r.lot (rows_given stock.now r.lot.lot) (rows_given staged.now r.lot.lot) - r.qty }) rows.now) }
+{
     let mut cards = Vec::new(alloc);
     for row in rows {
-        cards.push(ship_card(slice, row))?;
+        let lot = &row.lot;
+        let units = lot_units(
+            lot,
+            stock.rows_of_lot(&lot.lot),
+            staged.rows_of_lot(&lot.lot),
+        );
+        cards.push(ship_card(slice, row, units))?;
     }
     Ok(cards)
 }
 
-// The card line of what is shipped of a lot.
-fn ship_card(slice: &Slice, row: &StagedRow) -> CardRow
-    ensures { result ≡ ship_card_lem slice.now row.now }
+// The card line of what is shipped of a lot, where the lot has so many units before it.
+fn ship_card(slice: &Slice, row: &StagedRow, units: u64) -> CardRow
+    ensures { result ≡ record (ship_card_lem slice.now row.now) { rest = units - row.now.qty } }
 {
-    let rows = &slice.rows;
-    let units = lot_units(&row.lot, rows.stock.as_slice(), rows.staged.as_slice());
     CardRow {
         lot: row.lot,
         act: number_seen(slice),

@@ -8,4 +8,5 @@ pub mod Cutting
 pub mod Naming
 pub mod LookingUp
 pub mod Giving
+pub mod GivingLots
 pub mod InOrder

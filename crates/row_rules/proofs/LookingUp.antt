@@ -1,6 +1,6 @@
 -- What is sought among the rows that are given for a text is what is sought among all rows; and how the rows come to stand with their texts and numbers.
 use Rattle.std.proofs.Common.{◌≡◌, ℕ, ◌+◌, ◌<◌, Bool, true, false, cond, ◌&&◌, List, [], ◌∷◌, ◌++◌, length, get_or, take, refl, ap, sym, subst, ◌∙◌, arith}
-use Rattle.std.specs.Prelude.{◌==◌, ◌||◌, if◌then◌else◌, map, reverse, filter, find, Option, Some, None, is_some, Result, Ok, Err, OnOk, Vec}
+use Rattle.std.specs.Prelude.{◌==◌, ◌||◌, if◌then◌else◌, map, flat_map, reverse, filter, find, Option, Some, None, is_some, Result, Ok, Err, OnOk, Vec}
 use Rattle.std.specs.List.{list_any}
 use Rattle.std.specs.Option.{option_or}
 use Rattle.std.specs.Ordering.{nat_cmp}
@@ -77,6 +77,31 @@ total_agree f g same (x ∷ xs) = λ i. same x i + total_agree f g same xs i
 pub map_agree : {X Y : Type 0} (f g : X → Y) → ((x : X) → f x ≡ g x) → (xs : List X) → map f xs ≡ map g xs
 map_agree f g same [] = refl
 map_agree f g same (x ∷ xs) = λ i. same x i ∷ map_agree f g same xs i
+
+-- what is made of those that pass a test
+
+pub total_kept : {X : Type 0} (f : X → ℕ) (test : X → Bool) (xs : List X) → total f (filter test xs) ≡ total (λ x. if test x then f x else 0) xs
+total_kept f test [] = refl
+total_kept f test (x ∷ xs) =
+    elim (test x) as (λ b. total f (if b then x ∷ filter test xs else filter test xs) ≡ (if b then f x else 0) + total (λ y. if test y then f y else 0) xs) [
+      | true ↦ ap (λ n. f x + n) (total_kept f test xs)
+      | false ↦ total_kept f test xs ∙ nothing (total (λ y. if test y then f y else 0) xs)
+    ]
+  where
+    nothing : (n : ℕ) → n ≡ 0 + n
+    nothing n = omega arith
+
+pub gathered_kept : {X Y : Type 0} (f : X → List Y) (test : X → Bool) (xs : List X) → flat_map f (filter test xs) ≡ flat_map (λ x. if test x then f x else []) xs
+gathered_kept f test [] = refl
+gathered_kept f test (x ∷ xs) =
+    elim (test x) as (λ b. flat_map f (if b then x ∷ filter test xs else filter test xs) ≡ (if b then f x else []) ++ flat_map (λ y. if test y then f y else []) xs) [
+      | true ↦ ap (λ ys. f x ++ ys) (gathered_kept f test xs)
+      | false ↦ gathered_kept f test xs
+    ]
+
+pub gathered_agree : {X Y : Type 0} (f g : X → List Y) → ((x : X) → f x ≡ g x) → (xs : List X) → flat_map f xs ≡ flat_map g xs
+gathered_agree f g same [] = refl
+gathered_agree f g same (x ∷ xs) = λ i. same x i ++ gathered_agree f g same xs i
 
 -- Rows by their texts
 

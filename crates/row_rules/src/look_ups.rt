@@ -107,12 +107,24 @@ fn add_row<T: Keyed>(
 ) -> Result<(), AllocError>
     ensures { OnOk result ((k : List ℕ) → rows_or [] (get (slice_cmp nat_cmp) groups.new (reverse k)) ≡ rows_or [] (get (slice_cmp nat_cmp) groups.old (reverse k)) ++ (if same_text k (T.text row.now) then row.now ∷ [] else [])) }
 {
-    match groups.get_mut(&row.key()) {
+    add_under(alloc, groups, row.key(), row)
+}
+
+// One row more under a key.
+fn add_under<T: Copy>(
+    alloc: Global,
+    groups: &mut BTreeMap<TextKey, Vec<T>>,
+    key: TextKey,
+    row: &T,
+) -> Result<(), AllocError>
+    ensures { OnOk result ((k : List ℕ) → rows_or [] (get (slice_cmp nat_cmp) groups.new (reverse k)) ≡ rows_or [] (get (slice_cmp nat_cmp) groups.old (reverse k)) ++ (if same_text k (reverse key) then row.now ∷ [] else [])) }
+{
+    match groups.get_mut(&key) {
         Some(rows) => push_row(rows, *row),
         None => {
             let mut rows = Vec::new(alloc);
             rows.push(*row)?;
-            groups.insert(row.key(), rows)?;
+            groups.insert(key, rows)?;
             Ok(())
         }
     }
@@ -123,6 +135,54 @@ fn push_row<T: Copy>(rows: &mut Vec<T>, row: T) -> Result<(), AllocError>
 {
     rows.push(row)?;
     Ok(())
+}
+
+// Staged rows by their lots
+
+/// The staged rows, to be found by their lots so many times. By their orders they are found as any
+/// other rows are.
+pub fn staged_by_lot<'a>(
+    alloc: Global,
+    rows: &'a [StagedRow],
+    times: usize,
+) -> Result<RowsByText<'a, StagedRow>, AllocError>
+    ensures { IfOk result (λ found. GivesRows (λ r. r.lot.lot) (rows_given found) rows.now) }
+{
+    if rows.len() <= FEW || times <= FEW {
+        return Ok(RowsByText {
+            groups: BTreeMap::new(alloc),
+            others: rows,
+        });
+    }
+    let groups = group_by_lot(alloc, rows)?;
+    Ok(RowsByText {
+        groups,
+        others: &rows[..0],
+    })
+}
+
+fn group_by_lot(
+    alloc: Global,
+    rows: &[StagedRow],
+) -> Result<BTreeMap<TextKey, Vec<StagedRow>>, AllocError>
+    ensures { IfOk result (λ groups. (k : List ℕ) → rows_or [] (get (slice_cmp nat_cmp) groups (reverse k)) ≡ filter (λ r. same_text k r.lot.lot) rows.now) }
+{
+    let mut groups = BTreeMap::new(alloc);
+    for row in rows {
+        add_staged(alloc, &mut groups, row)?;
+    }
+    Ok(groups)
+}
+
+// One staged row more with its lot.
+fn add_staged(
+    alloc: Global,
+    groups: &mut BTreeMap<TextKey, Vec<StagedRow>>,
+    row: &StagedRow,
+) -> Result<(), AllocError>
+    ensures { OnOk result ((k : List ℕ) → rows_or [] (get (slice_cmp nat_cmp) groups.new (reverse k)) ≡ rows_or [] (get (slice_cmp nat_cmp) groups.old (reverse k)) ++ (if same_text k row.now.lot.lot then row.now ∷ [] else [])) }
+{
+    add_under(alloc, groups, TextKey::of_lot(&row.lot.lot), row)
 }
 
 // By a number
@@ -244,6 +304,14 @@ impl Keyed for BinRow {
 }
 
 impl Keyed for StockRow {
+    ghost text = { λ r. r.lot.lot };
+
+    fn key(&self) -> TextKey {
+        TextKey::of_lot(&self.lot.lot)
+    }
+}
+
+impl Keyed for LotRow {
     ghost text = { λ r. r.lot.lot };
 
     fn key(&self) -> TextKey {

@@ -24,14 +24,14 @@ pub fn sees_lot(slice: &Slice, lot: &LotId) -> bool
 pub fn units_in_bin(slice: &Slice, bin: &Name, lot: &LotId) -> u64
     ensures { result ≡ in_bin_seen slice.now bin.now lot.now }
 {
-    let row = stock_found(slice, lot, bin);
-    units_of(row)
+    units_among(slice.rows.stock.as_slice(), lot, bin)
 }
 
-fn stock_found(slice: &Slice, lot: &LotId, bin: &Name) -> Option<StockRow>
-    ensures { result ≡ stock_found_lem slice.now.rows.stock lot.now bin.now }
+/// The units of a lot in a bin, as these rows tell.
+pub fn units_among(rows: &[StockRow], lot: &LotId, bin: &Name) -> u64
+    ensures { result ≡ stock_qty (stock_found_lem rows.now lot.now bin.now) }
 {
-    find_stock(slice.rows.stock.as_slice(), lot, bin)
+    units_of(find_stock(rows, lot, bin))
 }
 
 fn units_of(row: Option<StockRow>) -> u64

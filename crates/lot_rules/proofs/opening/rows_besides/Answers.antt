@@ -1,23 +1,9 @@
-use Rattle.std.proofs.Common.{arith, ap, ◌∙◌, ◌++◌, [], ◌∷◌}
-use Rattle.std.specs.Prelude.{Bool, not, if◌then◌else◌}
-use Rattle.lot_rules.specs.DecidedDay.{stands_in}
-use Rattle.commands.specs.declared.rows.StockRow.{StockRow}
-use Rattle.row_rules.proofs.Walking.{kept_all, kept_more}
+use Rattle.row_rules.specs.LookUps.{rows_given}
+use Rattle.row_rules.proofs.Giving.{same_items}
+use Rattle.lot_rules.proofs.GivingDay.{besides_given}
 use Rattle.lot_rules.proofs.opening.rows_besides.Goals as goal
-
-pub loop-row-preserved : goal.loop-row-preserved
-loop-row-preserved c =
-    let a = c.args in
-    let l = c.loop-row in
-    let test : StockRow → Bool = λ r. not (stands_in a.others.now r) in
-    let wanted : Bool = not c.stands_in-there.result in
-    kept_more test a.rows.now l.row-index l.kept.items c.row-item.result c.push_if.new.rows.items wanted c.loop-row-test.true l.invariant
-    (ap not c.stands_in-there.ensures ∙ ap test c.row-item.is)
-    (c.in_ok-push_if.ensures ∙ ap (λ (r : StockRow). l.kept.items ++ (if wanted then r ∷ [] else [])) c.row-item.is)
 
 pub returns : goal.returns
 returns c =
     let a = c.args in
-    let l = c.loop-row in
-    let test : StockRow → Bool = λ r. not (stands_in a.others.now r) in
-    kept_all test a.rows.now l.row-index l.kept.items (omega arith) l.invariant
+    same_items c.rows_apart.result _ _ c.rows_apart.ensures (besides_given (rows_given c.in_ok-of_lots.of_lots) a.others.now c.in_ok-of_lots.ensures a.rows.now)

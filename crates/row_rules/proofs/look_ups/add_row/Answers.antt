@@ -1,28 +1,18 @@
-use Rattle.std.proofs.Common.{List, ℕ, [], ◌∷◌, ◌++◌, cond, ap, sym, ◌∙◌, rules}
-use Rattle.std.specs.Prelude.{Some, None}
-use Rattle.std.specs.Option.{option_copied_mut}
+use Rattle.std.proofs.Common.{List, ℕ, [], ◌∷◌, ◌++◌, ap, ◌∙◌}
+use Rattle.std.specs.Prelude.{reverse, if◌then◌else◌}
 use Rattle.std.specs.Ordering.{nat_cmp}
 use Rattle.std.specs.Cmp.Lexicographic.{slice_cmp}
-use Rattle.std.specs.BTreeMap.{get, is_at}
-use Rattle.row_rules.proofs.LookingUp.{row_added, ok_then}
+use Rattle.std.specs.BTreeMap.{get}
+use Rattle.std.proofs.lemmas.List.{reverse-reverse}
+use Rattle.values.specs.Values.{same_text}
+use Rattle.row_rules.specs.LookUps.{rows_or}
+use Rattle.row_rules.proofs.LookingUp.{ok_then}
 use Rattle.row_rules.proofs.look_ups.add_row.Goals as goal
 
-pub returns-in-Some : goal.returns-in-Some
-returns-in-Some g c =
-    let row = c.args.row.now in
-    let after = c.push_row.new.rows in
-    let found = sym (ap option_copied_mut c.in-Some.is) ∙ c.get_mut.ensures.value in
-    ok_then c.push_row.result c.push_row.ensures
-    (row_added row c.key.result (g.T.Keyed.text row) after c.args.groups.now (c.get_mut.follows.lender after) (Some c.in-Some.rows.now) c.key.ensures found ((c.get_mut.follows.holds after).3 (search rules)).0)
-
-pub returns-in_ok-insert-in-None : goal.returns-in_ok-insert-in-None
-returns-in_ok-insert-in-None g c =
+pub returns : goal.returns
+returns g c =
     let row = c.args.row.now in
     let old = c.args.groups.now in
-    let key = c.key-in-None.result in
-    let own = c.push.new.self in
-    let found = sym (ap option_copied_mut c.in-None.is) ∙ c.get_mut.ensures.value in
-    row_added row key (g.T.Keyed.text row) own old c.insert.new.self None c.key-in-None.ensures
-    (found ∙ ap (get (slice_cmp nat_cmp) old) (c.key.ensures ∙ sym c.key-in-None.ensures))
-    (λ q. c.in_ok-insert-in-None.ensures.updates.0 q ∙ ap (λ m. cond (is_at (slice_cmp nat_cmp key) q) (Some own) (get (slice_cmp nat_cmp) m q)) c.get_mut.follows.holds-at-none)
-    (c.in_ok-push-in-None.ensures.items ∙ ap (λ l. l ++ row ∷ []) c.new-rows.ensures.items)
+    let text = ap reverse c.key.ensures ∙ reverse-reverse (g.T.Keyed.text row) in
+    ok_then c.add_under.result c.add_under.ensures
+    (λ more k. more k ∙ ap (λ (t : List ℕ). rows_or [] (get (slice_cmp nat_cmp) old (reverse k)) ++ (if same_text k t then row ∷ [] else [])) text)
