@@ -61,7 +61,7 @@ fn gone_lot(rt: &impl Abort, alloc: Global, number: u64) -> LotRow {
 
 fn puts_each<S: Alter>(rt: &impl Abort, alloc: Global, tx: &mut Transaction<'_, S>) {
     for number in 0..GONE {
-        let put = put_lot(tx, &gone_lot(rt, alloc, number));
+        let put = put_lot(tx, &gone_lot(rt, alloc, number), true);
         assert!(rt; put.is_ok());
     }
 }
