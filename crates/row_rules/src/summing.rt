@@ -6,7 +6,7 @@ ghost use Rattle.machine.specs.Postings.{is_lot};
 ghost use Rattle.row_rules.specs.Seen.{capped, stock_units, staged_units};
 
 use crate::looking::is_same_lot;
-use commands::{ReservedRow, StagedRow, StockRow};
+use commands::{StagedRow, StockRow};
 use values::{Gtin, LotId};
 
 /// The units of an item in bins.
@@ -50,19 +50,6 @@ pub fn sum_of_lot_in_bins(rows: &[StockRow], lot: &LotId) -> u64
 
 /// The units of a lot that are staged.
 pub fn sum_of_lot_staged(rows: &[StagedRow], lot: &LotId) -> u64
-    ensures { result ≡ capped (total (λ r. if is_lot lot.now r.lot then r.qty else 0) rows.now) }
-{
-    let mut sum = 0_u64;
-    for row in rows {
-        if is_same_lot(lot, &row.lot) {
-            sum = sum.saturating_add(row.qty);
-        }
-    }
-    sum
-}
-
-/// The units of a lot that are reserved.
-pub fn sum_of_lot_reserved(rows: &[ReservedRow], lot: &LotId) -> u64
     ensures { result ≡ capped (total (λ r. if is_lot lot.now r.lot then r.qty else 0) rows.now) }
 {
     let mut sum = 0_u64;

@@ -273,7 +273,7 @@ fn sees_supplies_of_many_lots(rt: HostRuntime) {
     expect_supplies(&rt, supplies.as_slice());
 }
 
-// E1 is expired and comes first, Z1 is held and comes last, L12 is recalled. L20 lies in three bins,
+// E1 is expired and comes first, G1 is held and comes last, L12 is recalled. L20 lies in three bins,
 // and a lot of the bread with its text in one.
 static STOCK_OF_MANY: &[u8] = b"09506000134352 Oat drink\n\
     E1 2026-05-03 EXPIRED 0 1 Q-01 4\n\
@@ -317,7 +317,7 @@ static STOCK_OF_MANY: &[u8] = b"09506000134352 Oat drink\n\
     L47 2026-06-30 FREE 47 2 A-47 47 B-01 3\n\
     L48 2026-06-30 FREE 48 2 A-48 48 B-01 3\n\
     L49 2026-06-30 FREE 49 2 A-49 49 B-01 3\n\
-    Z1 2026-07-31 HELD 0 0\n";
+    G1 2026-07-31 HELD 0 0\n";
 
 fn stock_of_many(rt: &impl Abort, alloc: Global) -> Vec<StockRow> {
     let mut stock: Vec<StockRow> = rising(rt, alloc, "L#|A-#|#", &["E1|Q-01|4", "L20|A-01|5"]);
@@ -332,7 +332,7 @@ fn stock_of_many(rt: &impl Abort, alloc: Global) -> Vec<StockRow> {
 }
 
 fn rows_of_many(rt: &impl Abort, alloc: Global) -> Rows {
-    let lots = ["E1|2026-05-03|90|free", "Z1|2026-07-31|91|held"];
+    let lots = ["E1|2026-05-03|90|free", "G1|2026-07-31|91|held"];
     Rows {
         items: Listed::from_vec(Vec::new(alloc)),
         bins: Listed::from_vec(Vec::new(alloc)),
