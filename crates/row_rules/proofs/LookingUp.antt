@@ -1,5 +1,5 @@
 -- What is sought among the rows that are given for a text is what is sought among all rows; and how the rows come to stand with their texts and numbers.
-use Rattle.std.proofs.Common.{◌≡◌, ℕ, ◌+◌, ◌<◌, Bool, true, false, cond, ◌&&◌, List, [], ◌∷◌, ◌++◌, length, get_or, take, refl, ap, sym, subst, ◌∙◌, arith}
+use Rattle.std.proofs.Common.{◌≡◌, ℕ, ◌+◌, ◌<◌, Bool, true, false, cond, List, [], ◌∷◌, ◌++◌, length, get_or, take, refl, ap, sym, subst, ◌∙◌, arith}
 use Rattle.std.specs.Prelude.{◌==◌, ◌||◌, if◌then◌else◌, map, flat_map, reverse, filter, find, Option, Some, None, is_some, Result, Ok, Err, OnOk, Vec}
 use Rattle.std.specs.List.{list_any}
 use Rattle.std.specs.Option.{option_or}

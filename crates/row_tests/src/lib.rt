@@ -11,6 +11,8 @@ mod gone_lots;
 #[cfg(test)]
 mod listing;
 #[cfg(test)]
+mod many_lots;
+#[cfg(test)]
 mod many_rows;
 #[cfg(test)]
 mod order_views;

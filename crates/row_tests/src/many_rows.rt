@@ -16,7 +16,7 @@ use std::alloc::Global;
 use std::process::Abort;
 
 // A form with a number in place of each `#`. What is refused memory is done again.
-fn filled<R: Written>(rt: &impl Abort, alloc: Global, form: &str, number: u64) -> R {
+pub(crate) fn filled<R: Written>(rt: &impl Abort, alloc: Global, form: &str, number: u64) -> R {
     let digits = format!(in alloc; "{number}")
         .or_else(|_| format!(in alloc; "{number}"))
         .ok()
@@ -30,7 +30,12 @@ fn filled<R: Written>(rt: &impl Abort, alloc: Global, form: &str, number: u64) -
 }
 
 // The rows of the numbers 10 to 49, the greatest first, and then these.
-fn falling<R: Written>(rt: &impl Abort, alloc: Global, form: &str, more: &[&str]) -> Vec<R> {
+pub(crate) fn falling<R: Written>(
+    rt: &impl Abort,
+    alloc: Global,
+    form: &str,
+    more: &[&str],
+) -> Vec<R> {
     let mut rows = Vec::new(alloc);
     for place in 0..40 {
         add(rt, &mut rows, filled(rt, alloc, form, 49 - place));
@@ -42,7 +47,12 @@ fn falling<R: Written>(rt: &impl Abort, alloc: Global, form: &str, more: &[&str]
 }
 
 // The rows of the numbers 10 to 49, the least first, and then these.
-fn rising<R: Written>(rt: &impl Abort, alloc: Global, form: &str, more: &[&str]) -> Vec<R> {
+pub(crate) fn rising<R: Written>(
+    rt: &impl Abort,
+    alloc: Global,
+    form: &str,
+    more: &[&str],
+) -> Vec<R> {
     let mut rows = Vec::new(alloc);
     for place in 0..40 {
         add(rt, &mut rows, filled(rt, alloc, form, 10 + place));
@@ -54,7 +64,7 @@ fn rising<R: Written>(rt: &impl Abort, alloc: Global, form: &str, more: &[&str])
 }
 
 // Reserved rows, each on a line: order, lot and units.
-fn expect_rows(rt: &impl Abort, rows: &[ReservedRow], text: &[u8]) {
+pub(crate) fn expect_rows(rt: &impl Abort, rows: &[ReservedRow], text: &[u8]) {
     let mut listing = Listing::empty();
     for row in rows {
         listing.word(row.order.as_bytes());

@@ -342,7 +342,7 @@ fn meta(rt: &impl Abort, sample: &Sample) -> MetaRow {
     }
 }
 
-fn slice(rt: &impl Abort, alloc: Global, sample: &Sample) -> Slice {
+pub(crate) fn slice(rt: &impl Abort, alloc: Global, sample: &Sample) -> Slice {
     Slice {
         meta: meta(rt, sample),
         items: sample.counts.0,
@@ -461,9 +461,19 @@ pub(crate) fn decided(
     told: &Told,
 ) -> Result<Change, RuleFault> {
     let slice = slice(rt, alloc, sample);
-    let key = key(rt, told);
-    let command = command(rt, alloc, told);
-    let made = again(alloc, &slice, &key, &command);
+    let made = decided_on(rt, alloc, &slice, told);
     drop(slice);
     made
+}
+
+/// What is decided of the command on these rows.
+pub(crate) fn decided_on(
+    rt: &impl Abort,
+    alloc: Global,
+    slice: &Slice,
+    told: &Told,
+) -> Result<Change, RuleFault> {
+    let key = key(rt, told);
+    let command = command(rt, alloc, told);
+    again(alloc, slice, &key, &command)
 }
