@@ -105,7 +105,7 @@ gathered_agree f g same (x ∷ xs) = λ i. same x i ++ gathered_agree f g same x
 
 -- Rows by their texts
 
-turned_same : (a b : List ℕ) → same_text (reverse a) (reverse b) ≡ same_text a b
+pub turned_same : (a b : List ℕ) → same_text (reverse a) (reverse b) ≡ same_text a b
 turned_same a b =
     same_tests (same_text (reverse a) (reverse b)) (same_text a b) (λ e. same (sym (reverse-reverse a) ∙ ap reverse (same_text_is (reverse a) (reverse b) e) ∙ reverse-reverse b))
     (λ e. turned (same_text_is a b e))

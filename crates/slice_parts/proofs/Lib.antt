@@ -1,2 +1,4 @@
 pub mod KeysOnce
 pub mod LotsSeen
+pub mod KeysSeen
+pub mod NamesSeen

@@ -4,7 +4,8 @@ ghost use Rattle.std.specs.Prelude.{◌≡◌, not, [], filter, map, IfOk};
 ghost use Rattle.machine.specs.Planning.{is_open_state};
 ghost use Rattle.slice_parts.specs.Parts.{is_among, with_names, other_names as other_names_lem};
 
-use crate::naming::{add_name, has_name};
+use crate::name_list::NameList;
+use crate::naming::has_name;
 use commands::{LineRow, OrderRow};
 use row_rules::demands::is_open;
 use std::alloc::{AllocError, Global};
@@ -58,9 +59,9 @@ pub fn open_rows(alloc: Global, rows: &[OrderRow]) -> Result<Vec<OrderRow>, Allo
 pub fn orders_of_lines(alloc: Global, lines: &[LineRow]) -> Result<Vec<Name>, AllocError>
     ensures { IfOk result (λ names. names.items ≡ with_names (λ r. r.order) lines.now []) }
 {
-    let mut names = Vec::new(alloc);
+    let mut names = NameList::new(alloc);
     for line in lines {
-        add_name(&mut names, line.order)?;
+        names.add(line.order)?;
     }
-    Ok(names)
+    Ok(names.into_names())
 }
