@@ -15,9 +15,10 @@ use Rattle.commands.specs.Replies.{reply_text}
 use Rattle.commands.specs.declared.replies.ReplyField.TheVariants.{ChangedBy}
 use Rattle.row_rules.specs.Seen.{capped, sees_item, sees_bin, units_seen, number_seen, meta_after, none_put, none_dropped, lot_units}
 use Rattle.row_rules.specs.SeenLots.{sees_lot, in_bin_seen, stock_put, stock_gone, stock_rows_with}
-use Rattle.row_rules.specs.Plans.{shares_over, rows_to_put, rows_to_drop}
+use Rattle.row_rules.specs.Replanning.{item_replanned}
 use Rattle.row_rules.specs.declared.slice.Slice.{Slice}
 use Rattle.row_rules.specs.declared.slice.Change.{Change}
+use Rattle.row_rules.specs.declared.replanning.Replanned.{Replanned}
 
 -- Judging
 
@@ -54,10 +55,10 @@ found_less found have = pos found -ℤ pos (min have SIGNED_CAP)
 abbrev pub stock_corrected : Slice → LotId → List ℕ → ℕ → List StockRow
 stock_corrected s l b found = stock_rows_with l b found s.rows.stock
 
--- the reserved rows of the item after it
-abbrev pub shares_corrected : Slice → LotId → List ℕ → ℕ → List ReservedRow
-shares_corrected s l b found =
-    shares_over l.gtin s.meta.day s.rows.orders s.rows.lines s.rows.staged s.rows.lots s.rows.recalls s.rows.bins (stock_corrected s l b found)
+-- what changes of the item's reserved rows
+abbrev pub correction_replanned : Slice → LotId → List ℕ → ℕ → Replanned
+correction_replanned s l b found =
+    item_replanned s s.meta.day s.rows.orders s.rows.lines s.rows.staged s.rows.lots s.rows.recalls s.rows.bins (stock_corrected s l b found) l.gtin
 
 abbrev pub correction_card : Slice → LotId → List ℕ → ℕ → ℤ → CardKind → CardRow
 correction_card s l b found change kind = record {
@@ -84,12 +85,12 @@ corrections s l b found change = record {
   meta = meta_after s;
   put = record none_put {
     stock = stock_put l b found;
-    reserved = rows_to_put s.rows.reserved (shares_corrected s l b found);
+    reserved = (correction_replanned s l b found).put;
     cards = correction_cards s l b found change;
   };
   dropped = record none_dropped {
     stock = stock_gone s.rows.stock l b found;
-    reserved = rows_to_drop l.gtin s.rows.reserved (shares_corrected s l b found);
+    reserved = (correction_replanned s l b found).dropped;
   };
   text = change_reply s change;
 }

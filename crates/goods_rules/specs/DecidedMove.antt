@@ -8,9 +8,10 @@ use Rattle.commands.specs.declared.rows.ReservedRow.{ReservedRow}
 use Rattle.machine.specs.Verdict.{Judgement}
 use Rattle.row_rules.specs.Seen.{capped, sees_item, sees_bin, meta_after, plain_reply, none_put, none_dropped}
 use Rattle.row_rules.specs.SeenLots.{sees_lot, in_bin_seen, stock_put, stock_gone, stock_rows_with}
-use Rattle.row_rules.specs.Plans.{shares_over, rows_to_put, rows_to_drop}
+use Rattle.row_rules.specs.Replanning.{item_replanned}
 use Rattle.row_rules.specs.declared.slice.Slice.{Slice}
 use Rattle.row_rules.specs.declared.slice.Change.{Change}
+use Rattle.row_rules.specs.declared.replanning.Replanned.{Replanned}
 
 abbrev pub move_seen : Slice → Movement → Judgement
 move_seen s m =
@@ -31,20 +32,20 @@ units_brought s m = capped (in_bin_seen s m.to m.lot + m.qty)
 abbrev pub stock_rows_moved : Slice → Movement → List StockRow
 stock_rows_moved s m = stock_rows_with m.lot m.to (units_brought s m) (stock_rows_with m.lot m.from (units_left s m) s.rows.stock)
 
--- the reserved rows of the item after the move
-abbrev pub move_shares : Slice → Movement → List ReservedRow
-move_shares s m = shares_over m.lot.gtin s.meta.day s.rows.orders s.rows.lines s.rows.staged s.rows.lots s.rows.recalls s.rows.bins (stock_rows_moved s m)
+-- what changes of the item's reserved rows
+abbrev pub move_replanned : Slice → Movement → Replanned
+move_replanned s m = item_replanned s s.meta.day s.rows.orders s.rows.lines s.rows.staged s.rows.lots s.rows.recalls s.rows.bins (stock_rows_moved s m) m.lot.gtin
 
 abbrev pub move_changes : Slice → Movement → Change
 move_changes s m = record {
   meta = meta_after s;
   put = record none_put {
     stock = stock_put m.lot m.to (units_brought s m) ++ stock_put m.lot m.from (units_left s m);
-    reserved = rows_to_put s.rows.reserved (move_shares s m);
+    reserved = (move_replanned s m).put;
   };
   dropped = record none_dropped {
     stock = stock_gone s.rows.stock m.lot m.from (units_left s m);
-    reserved = rows_to_drop m.lot.gtin s.rows.reserved (move_shares s m);
+    reserved = (move_replanned s m).dropped;
   };
   text = plain_reply s;
 }

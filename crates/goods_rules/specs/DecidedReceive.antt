@@ -14,9 +14,10 @@ use Rattle.machine.specs.Postings.{is_lot}
 use Rattle.machine.specs.Standing.{is_expired}
 use Rattle.machine.specs.Cards.{delivery_note}
 use Rattle.row_rules.specs.Seen.{capped, sees_item, sees_bin, lot_seen, sees_recall, expires_otherwise_than, is_over, number_seen, meta_after, plain_reply, none_put, none_dropped, stock_qty, lot_units}
-use Rattle.row_rules.specs.Plans.{shares_over, rows_to_put, rows_to_drop}
+use Rattle.row_rules.specs.Replanning.{item_replanned}
 use Rattle.row_rules.specs.declared.slice.Slice.{Slice}
 use Rattle.row_rules.specs.declared.slice.Change.{Change}
+use Rattle.row_rules.specs.declared.replanning.Replanned.{Replanned}
 
 abbrev pub receive_seen : Slice → Receipt → Judgement
 receive_seen s r =
@@ -51,10 +52,10 @@ lots_put s r = lots_if_new (lot_seen s r.lot) (new_lot_row s r)
 abbrev pub lot_rows_after : Slice → Receipt → List LotRow
 lot_rows_after s r = lots_put s r ++ s.rows.lots
 
--- the reserved rows of the item after the receipt
-abbrev pub receive_shares : Slice → Receipt → List ReservedRow
-receive_shares s r =
-    shares_over r.lot.gtin s.meta.day s.rows.orders s.rows.lines s.rows.staged (lot_rows_after s r) s.rows.recalls s.rows.bins (stock_rows_after s r)
+-- what changes of the item's reserved rows
+abbrev pub receive_replanned : Slice → Receipt → Replanned
+receive_replanned s r =
+    item_replanned s s.meta.day s.rows.orders s.rows.lines s.rows.staged (lot_rows_after s r) s.rows.recalls s.rows.bins (stock_rows_after s r) r.lot.gtin
 
 abbrev pub receive_card : Slice → Key → Receipt → CardRow
 receive_card s key r = record {
@@ -70,7 +71,7 @@ receive_card s key r = record {
 abbrev pub receive_changes : Slice → Key → Receipt → Change
 receive_changes s key r = record {
   meta = meta_after s;
-  put = record none_put { lots = lots_put s r; stock = stock_after s r ∷ []; reserved = rows_to_put s.rows.reserved (receive_shares s r); cards = receive_card s key r ∷ [] };
-  dropped = record none_dropped { reserved = rows_to_drop r.lot.gtin s.rows.reserved (receive_shares s r) };
+  put = record none_put { lots = lots_put s r; stock = stock_after s r ∷ []; reserved = (receive_replanned s r).put; cards = receive_card s key r ∷ [] };
+  dropped = record none_dropped { reserved = (receive_replanned s r).dropped };
   text = plain_reply s;
 }

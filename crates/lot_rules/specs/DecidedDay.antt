@@ -17,9 +17,10 @@ use Rattle.commands.specs.declared.replies.ReplyField.TheVariants.{Returned}
 use Rattle.row_rules.specs.Seen.{capped, lot_seen, number_seen, none_put, none_dropped}
 use Rattle.row_rules.specs.Status.{is_past_row}
 use Rattle.lot_rules.specs.DecidedHold.{returned_put, bins_with_returns}
-use Rattle.row_rules.specs.Replanning.{item_put, item_dropped}
+use Rattle.row_rules.specs.Replanning.{item_replanned}
 use Rattle.row_rules.specs.declared.slice.Slice.{Slice}
 use Rattle.row_rules.specs.declared.slice.Change.{Change}
+use Rattle.row_rules.specs.declared.replanning.Replanned.{Replanned}
 
 -- Judging
 
@@ -61,13 +62,16 @@ stock_on s day = stock_returned s day ++ filter (λ r. not (stands_in (stock_ret
 abbrev pub gtins_seen : Slice → List (List ℕ)
 gtins_seen s = map (λ i. i.gtin) s.rows.items
 
+-- what changes of an item's reserved rows
+abbrev pub day_replanned : Slice → ℤ → List ℕ → Replanned
+day_replanned s day g = item_replanned s day s.rows.orders s.rows.lines (staged_kept_on s day) s.rows.lots s.rows.recalls (bins_with_returns s) (stock_on s day) g
+
+-- and item after item
 abbrev pub day_put : Slice → ℤ → List ReservedRow
-day_put s day =
-    flat_map (item_put day s.rows.orders s.rows.lines (staged_kept_on s day) s.rows.lots s.rows.recalls (bins_with_returns s) (stock_on s day) s.rows.reserved) (gtins_seen s)
+day_put s day = flat_map (λ g. (day_replanned s day g).put) (gtins_seen s)
 
 abbrev pub day_dropped : Slice → ℤ → List ReservedRow
-day_dropped s day =
-    flat_map (item_dropped day s.rows.orders s.rows.lines (staged_kept_on s day) s.rows.lots s.rows.recalls (bins_with_returns s) (stock_on s day) s.rows.reserved) (gtins_seen s)
+day_dropped s day = flat_map (λ g. (day_replanned s day g).dropped) (gtins_seen s)
 
 -- The change
 

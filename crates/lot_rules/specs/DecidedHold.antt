@@ -17,9 +17,10 @@ use Rattle.commands.specs.Replies.{reply_text}
 use Rattle.commands.specs.declared.replies.ReplyField.TheVariants.{Returned}
 use Rattle.row_rules.specs.Seen.{capped, sees_item, lot_seen, sees_recall, number_seen, meta_after, plain_reply, none_put, none_dropped}
 use Rattle.row_rules.specs.SeenLots.{sees_lot, sees_hold, in_bin_seen, stock_put, stock_rows_with}
-use Rattle.row_rules.specs.Plans.{shares_over, rows_to_put, rows_to_drop}
+use Rattle.row_rules.specs.Replanning.{item_replanned}
 use Rattle.row_rules.specs.declared.slice.Slice.{Slice}
 use Rattle.row_rules.specs.declared.slice.Change.{Change}
+use Rattle.row_rules.specs.declared.replanning.Replanned.{Replanned}
 
 -- Lots
 
@@ -43,16 +44,16 @@ release_seen s l =
     ∷ (sees_recall s l, LotRecalled)
     ∷ (not (sees_hold s l), LotNotHeld) ∷ []
 
--- the reserved rows of the item after the release
-abbrev pub release_shares : Slice → LotId → List ReservedRow
-release_shares s l =
-    shares_over l.gtin s.meta.day s.rows.orders s.rows.lines s.rows.staged (lot_rows_with_hold s l false) s.rows.recalls s.rows.bins s.rows.stock
+-- what changes of the item's reserved rows
+abbrev pub release_replanned : Slice → LotId → Replanned
+release_replanned s l =
+    item_replanned s s.meta.day s.rows.orders s.rows.lines s.rows.staged (lot_rows_with_hold s l false) s.rows.recalls s.rows.bins s.rows.stock l.gtin
 
 abbrev pub release_changes : Slice → LotId → Change
 release_changes s l = record {
   meta = meta_after s;
-  put = record none_put { lots = lot_put l false (lot_seen s l); reserved = rows_to_put s.rows.reserved (release_shares s l) };
-  dropped = record none_dropped { reserved = rows_to_drop l.gtin s.rows.reserved (release_shares s l) };
+  put = record none_put { lots = lot_put l false (lot_seen s l); reserved = (release_replanned s l).put };
+  dropped = record none_dropped { reserved = (release_replanned s l).dropped };
   text = plain_reply s;
 }
 
@@ -84,20 +85,20 @@ returns_bin_row = record { name = RETURNS; kind = HoldBin }
 abbrev pub bins_with_returns : Slice → List BinRow
 bins_with_returns s = returns_bin_row ∷ s.rows.bins
 
--- the reserved rows of the item where its lots and recalls are these after the act
-abbrev pub shares_with_returned : Slice → LotId → List LotRow → List RecallRow → List ReservedRow
-shares_with_returned s l lots recalls =
-    shares_over l.gtin s.meta.day s.rows.orders s.rows.lines (staged_kept s l) lots recalls (bins_with_returns s) (stock_with_returned s l)
+-- what changes of the item's reserved rows where its lots and recalls are these after the act
+abbrev pub returning_replanned : Slice → LotId → List LotRow → List RecallRow → Replanned
+returning_replanned s l lots recalls =
+    item_replanned s s.meta.day s.rows.orders s.rows.lines (staged_kept s l) lots recalls (bins_with_returns s) (stock_with_returned s l) l.gtin
 
 abbrev pub returned_reply : Slice → LotId → List ℕ
 returned_reply s l = reply_text (number_seen s) (Some (Returned (staged_of_seen s l)))
 
--- a change by which a lot stops being shippable, with these rows of lots and recalls put and these reserved rows after it
-abbrev pub returning_change : Slice → LotId → List LotRow → List RecallRow → List ReservedRow → Change
-returning_change s l lots recalls shares = record {
+-- a change by which a lot stops being shippable, with these rows of lots and recalls put and these changes of reserved rows
+abbrev pub returning_change : Slice → LotId → List LotRow → List RecallRow → Replanned → Change
+returning_change s l lots recalls reserved = record {
   meta = meta_after s;
-  put = record none_put { lots = lots; recalls = recalls; stock = returned_put s l; reserved = rows_to_put s.rows.reserved shares };
-  dropped = record none_dropped { staged = staged_returned s l; reserved = rows_to_drop l.gtin s.rows.reserved shares };
+  put = record none_put { lots = lots; recalls = recalls; stock = returned_put s l; reserved = reserved.put };
+  dropped = record none_dropped { staged = staged_returned s l; reserved = reserved.dropped };
   text = returned_reply s l;
 }
 
@@ -110,12 +111,12 @@ hold_seen s l =
     ∷ (sees_recall s l, LotRecalled)
     ∷ (sees_hold s l, LotHeld) ∷ []
 
--- the reserved rows of the item after the hold
-abbrev pub hold_shares : Slice → LotId → List ReservedRow
-hold_shares s l = shares_with_returned s l (lot_rows_with_hold s l true) s.rows.recalls
+-- what changes of the item's reserved rows
+abbrev pub hold_replanned : Slice → LotId → Replanned
+hold_replanned s l = returning_replanned s l (lot_rows_with_hold s l true) s.rows.recalls
 
 abbrev pub hold_changes : Slice → LotId → Change
-hold_changes s l = returning_change s l (lot_put l true (lot_seen s l)) [] (hold_shares s l)
+hold_changes s l = returning_change s l (lot_put l true (lot_seen s l)) [] (hold_replanned s l)
 
 -- Recall. A lot that was never received can be recalled too.
 
@@ -130,9 +131,9 @@ new_recall_row s l = record { lot = l; act = number_seen s }
 abbrev pub recall_rows_after : Slice → LotId → List RecallRow
 recall_rows_after s l = new_recall_row s l ∷ s.rows.recalls
 
--- the reserved rows of the item after the recall
-abbrev pub recall_shares : Slice → LotId → List ReservedRow
-recall_shares s l = shares_with_returned s l s.rows.lots (recall_rows_after s l)
+-- what changes of the item's reserved rows
+abbrev pub recall_replanned : Slice → LotId → Replanned
+recall_replanned s l = returning_replanned s l s.rows.lots (recall_rows_after s l)
 
 abbrev pub recall_changes : Slice → LotId → Change
-recall_changes s l = returning_change s l [] (new_recall_row s l ∷ []) (recall_shares s l)
+recall_changes s l = returning_change s l [] (new_recall_row s l ∷ []) (recall_replanned s l)

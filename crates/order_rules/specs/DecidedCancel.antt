@@ -8,9 +8,10 @@ use Rattle.commands.specs.declared.rows.ReservedRow.{ReservedRow}
 use Rattle.machine.specs.Verdict.{Judgement}
 use Rattle.row_rules.specs.Seen.{meta_after, plain_reply, none_put, none_dropped}
 use Rattle.row_rules.specs.SeenOrders.{order_row_seen, sees_order, sees_open, staged_for_seen, items_seen}
-use Rattle.row_rules.specs.Replanning.{item_put, item_dropped}
+use Rattle.row_rules.specs.Replanning.{item_replanned}
 use Rattle.row_rules.specs.declared.slice.Slice.{Slice}
 use Rattle.row_rules.specs.declared.slice.Change.{Change}
+use Rattle.row_rules.specs.declared.replanning.Replanned.{Replanned}
 
 -- Judging
 
@@ -30,14 +31,16 @@ cancelled_row (Some r) = record { order = r.order; act = r.act; customer = r.cus
 abbrev pub other_orders : Slice → List ℕ → List OrderRow
 other_orders s o = filter (λ r. not (same_text o r.order)) s.rows.orders
 
--- the rows of reservations that differ, item after item
+-- what changes of an item's reserved rows
+abbrev pub cancel_replanned : Slice → List ℕ → List ℕ → Replanned
+cancel_replanned s o g = item_replanned s s.meta.day (other_orders s o) s.rows.lines s.rows.staged s.rows.lots s.rows.recalls s.rows.bins s.rows.stock g
+
+-- and item after item
 abbrev pub cancel_put : Slice → List ℕ → List ReservedRow
-cancel_put s o =
-    flat_map (item_put s.meta.day (other_orders s o) s.rows.lines s.rows.staged s.rows.lots s.rows.recalls s.rows.bins s.rows.stock s.rows.reserved) (items_seen s o)
+cancel_put s o = flat_map (λ g. (cancel_replanned s o g).put) (items_seen s o)
 
 abbrev pub cancel_dropped : Slice → List ℕ → List ReservedRow
-cancel_dropped s o =
-    flat_map (item_dropped s.meta.day (other_orders s o) s.rows.lines s.rows.staged s.rows.lots s.rows.recalls s.rows.bins s.rows.stock s.rows.reserved) (items_seen s o)
+cancel_dropped s o = flat_map (λ g. (cancel_replanned s o g).dropped) (items_seen s o)
 
 abbrev pub cancel_changes : Slice → List ℕ → Change
 cancel_changes s o = record {

@@ -10,9 +10,11 @@ use Rattle.row_rules.specs.Status.{is_past_row}
 use Rattle.row_rules.specs.SeenOrders.{sees_order, sees_open, sees_line}
 use Rattle.row_rules.specs.SeenLots.{sees_lot, sees_hold, in_bin_seen, stock_put, stock_gone, stock_rows_with}
 use Rattle.row_rules.specs.SeenStages.{reserved_seen, reserved_put, reserved_gone, on_stage_seen, staged_put, staged_gone, staged_rows_with}
-use Rattle.row_rules.specs.Plans.{is_store_found, shares_over, rows_to_put, rows_to_drop}
+use Rattle.row_rules.specs.Plans.{is_store_found}
+use Rattle.row_rules.specs.Replanning.{item_replanned}
 use Rattle.row_rules.specs.declared.slice.Slice.{Slice}
 use Rattle.row_rules.specs.declared.slice.Change.{Change}
+use Rattle.row_rules.specs.declared.replanning.Replanned.{Replanned}
 
 -- Judging
 
@@ -70,15 +72,15 @@ pick_changes s p =
     changes_with s p (in_bin_seen s p.bin p.lot - p.qty) (capped (on_stage_seen s p.order p.lot + p.qty))
     (reserved_put p.order p.lot (reserved_left s p)) (reserved_gone s.rows.reserved p.order p.lot (reserved_left s p))
 
--- the reserved rows of the item where so many units are in the bin and on the stage
-abbrev pub shares_with : Slice → Picking → ℕ → ℕ → List ReservedRow
-shares_with s p stock staged =
-    shares_over p.lot.gtin s.meta.day s.rows.orders s.rows.lines (staged_rows_with p.order p.lot staged s.rows.staged) s.rows.lots s.rows.recalls s.rows.bins (stock_rows_with p.lot p.bin stock s.rows.stock)
+-- what changes of the item's reserved rows where so many units are in the bin and on the stage
+abbrev pub replanned_with : Slice → Picking → ℕ → ℕ → Replanned
+replanned_with s p stock staged =
+    item_replanned s s.meta.day s.rows.orders s.rows.lines (staged_rows_with p.order p.lot staged s.rows.staged) s.rows.lots s.rows.recalls s.rows.bins (stock_rows_with p.lot p.bin stock s.rows.stock) p.lot.gtin
 
 -- where units are put back, the item is planned anew
 abbrev pub unpick_with : Slice → Picking → ℕ → ℕ → Change
 unpick_with s p stock staged =
-    changes_with s p stock staged (rows_to_put s.rows.reserved (shares_with s p stock staged)) (rows_to_drop p.lot.gtin s.rows.reserved (shares_with s p stock staged))
+    changes_with s p stock staged (replanned_with s p stock staged).put (replanned_with s p stock staged).dropped
 
 abbrev pub unpick_changes : Slice → Picking → Change
 unpick_changes s p = unpick_with s p (capped (in_bin_seen s p.bin p.lot + p.qty)) (on_stage_seen s p.order p.lot - p.qty)

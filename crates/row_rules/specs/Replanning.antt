@@ -1,5 +1,6 @@
--- Which reserved rows of an item are put and dropped, by rows some of which are as they are after an act.
-use Rattle.std.specs.Prelude.{ℕ, List, ℤ}
+-- The plan of an item changed in place: which of its reserved rows an act puts and drops, by the rows of the slice and by those that
+-- there are after it.
+use Rattle.std.specs.Prelude.{ℕ, List, ◌∷◌, take, drop, ℤ}
 use Rattle.commands.specs.declared.rows.BinRow.{BinRow}
 use Rattle.commands.specs.declared.rows.LotRow.{LotRow}
 use Rattle.commands.specs.declared.rows.RecallRow.{RecallRow}
@@ -8,11 +9,44 @@ use Rattle.commands.specs.declared.rows.OrderRow.{OrderRow}
 use Rattle.commands.specs.declared.rows.LineRow.{LineRow}
 use Rattle.commands.specs.declared.rows.StagedRow.{StagedRow}
 use Rattle.commands.specs.declared.rows.ReservedRow.{ReservedRow}
-use Rattle.row_rules.specs.Plans.{shares_over, rows_to_put, rows_to_drop}
+use Rattle.plan.specs.declared.TheConstants.{SUM_MAX}
+use Rattle.plan.specs.declared.Demand.{Demand}
+use Rattle.plan.specs.declared.Supply.{Supply}
+use Rattle.plan.specs.Overlap.{plan_rows, demand_total}
+use Rattle.plan.specs.Changes.{cut_of}
+use Rattle.row_rules.specs.Plans.{demands_seen, supplies_seen, demands_within, supplies_within, named_rows, rows_to_put, rows_to_drop}
+use Rattle.row_rules.specs.declared.slice.Slice.{Slice}
+use Rattle.row_rules.specs.declared.replanning.Replanned.{Replanned}
 
-module _ (day : ℤ) (orders : List OrderRow) (lines : List LineRow) (staged : List StagedRow) (lots : List LotRow) (recalls : List RecallRow) (bins : List BinRow) (stock : List StockRow) (olds : List ReservedRow) where
-  abbrev pub item_put : List ℕ → List ReservedRow
-  item_put g = rows_to_put olds (shares_over g day orders lines staged lots recalls bins stock)
+-- The rows of the first n demands stay. So one demand stands for these, under the number 0 that no act has.
+abbrev pub first_as_one : ℕ → List Demand → List Demand
+first_as_one n ds = record { booking = 0; need = demand_total (take n ds) } ∷ drop n ds
 
-  abbrev pub item_dropped : List ℕ → List ReservedRow
-  item_dropped g = rows_to_drop g olds (shares_over g day orders lines staged lots recalls bins stock)
+-- the shares of the demands behind the first n
+abbrev pub shares_behind : ℕ → List OrderRow → List LotRow → List Demand → List Supply → List ReservedRow
+shares_behind n orders lots ds ss = named_rows orders lots (plan_rows (first_as_one n ds) ss)
+
+-- the shares of an item that differ, of those before and after
+abbrev pub shares_changed : List ℕ → List ReservedRow → List ReservedRow → Replanned
+shares_changed g olds news = record { put = rows_to_put olds news; dropped = rows_to_drop g olds news }
+
+module _ (s : Slice) (day : ℤ) (orders : List OrderRow) (lines : List LineRow) (staged : List StagedRow) (lots : List LotRow) (recalls : List RecallRow) (bins : List BinRow) (stock : List StockRow) (g : List ℕ) where
+  abbrev demands_before : List Demand
+  demands_before = demands_within SUM_MAX (demands_seen g s.rows.lines s.rows.staged s.rows.orders)
+
+  abbrev supplies_before : List Supply
+  supplies_before = supplies_within SUM_MAX (supplies_seen g s.meta.day s.rows.recalls s.rows.bins s.rows.stock s.rows.lots)
+
+  abbrev demands_after : List Demand
+  demands_after = demands_within SUM_MAX (demands_seen g lines staged orders)
+
+  abbrev supplies_after : List Supply
+  supplies_after = supplies_within SUM_MAX (supplies_seen g day recalls bins stock lots)
+
+  abbrev kept : ℕ
+  kept = cut_of demands_before supplies_before demands_after supplies_after
+
+  -- what changes of the item's reserved rows
+  abbrev pub item_replanned : Replanned
+  item_replanned =
+      shares_changed g (shares_behind kept s.rows.orders s.rows.lots demands_before supplies_before) (shares_behind kept orders lots demands_after supplies_after)

@@ -1,10 +1,11 @@
 -- What a decision sees of the tables, and what a change makes of them.
-use Rattle.std.specs.Prelude.{◌≡◌, ℕ, Bool, true, false, not, ◌&&◌, ◌||◌, ◌==◌, if◌then◌else◌, List, [], ◌∷◌, length, find, Option, Some, None, Result, Ok, Err, is_some, ℤ}
+use Rattle.std.specs.Prelude.{◌≡◌, ℕ, Bool, true, false, not, ◌&&◌, ◌||◌, ◌==◌, nat_le, if◌then◌else◌, List, [], ◌∷◌, length, find, Option, Some, None, Result, Ok, Err, is_some, ℤ}
 use Rattle.std.specs.List.{list_any}
 use Rattle.values.specs.Values.{same_text}
 use Rattle.values.specs.declared.lot.LotId.{LotId}
 use Rattle.commands.specs.declared.command.Command.{Command}
 use Rattle.commands.specs.declared.command.Command.TheVariants.{Item, Bin, Receive, Move, Count, Adjust, Order, Cancel, Pick, Unpick, Ship, Hold, Release, Recall}
+use Rattle.commands.specs.declared.limits.TheConstants.{ITEMS_MAX, BINS_MAX}
 use Rattle.commands.specs.declared.rows.ReservedRow.{ReservedRow}
 use Rattle.machine.specs.KeyedRows.{no_two, AreRows, same_cell, same_line, same_share}
 use Rattle.machine.specs.Acts.{Act}
@@ -106,6 +107,11 @@ names_lot (Release k) l = is_lot l k
 names_lot (Recall k) l = is_lot l k
 names_lot _ l = false
 
+-- whether the command is judged by what is reserved for the order on the lot
+abbrev pub names_reserved : Command → List ℕ → LotId → Bool
+names_reserved (Pick p) o l = same_text o p.order && is_lot l p.lot
+names_reserved _ o l = false
+
 -- whether the rows have units of the lot in bins, on stages, and on the stage of an order that the command names
 abbrev pub in_bins : Rows → LotId → Bool
 in_bins rows l = list_any (λ r. is_lot l r.lot) rows.stock
@@ -120,11 +126,12 @@ on_named_stage command rows l = list_any (λ r. names_order command r.order && i
 -- bins that it names or that hold units of those items, and of the orders with a line of those items. Of the lots it
 -- has those that the command names and those with units in bins or on stages; others may be among them. For a
 -- shipment, which plans nothing, it has the order with its lines, what is staged of their items, and the stock of the
--- lots that are staged for the order. The number of items, and that of bins, is told where the command is judged by it.
+-- lots that are staged for the order. What is reserved is told where the command is judged by it, and so is whether there are
+-- as many items, or bins, as there may be.
 pub record IsSlice (first : ℤ) (act : Act) (acts : List Act) (t : Tables) (s : Slice) : Type 0 where
   pub meta : t.meta ≡ Some s.meta
-  pub items_counted : counts_items act.command ≡ true → s.items ≡ length (items acts)
-  pub bins_counted : counts_bins act.command ≡ true → s.bins ≡ length (bins acts)
+  pub items_counted : counts_items act.command ≡ true → nat_le ITEMS_MAX s.items ≡ nat_le ITEMS_MAX (length (items acts))
+  pub bins_counted : counts_bins act.command ≡ true → nat_le BINS_MAX s.bins ≡ nat_le BINS_MAX (length (bins acts))
   pub items : AreRows same_text (λ r. r.gtin) (λ g. plans act.command && is_touched first act acts g) (is_touched first act acts) t.item s.rows.items
   pub lots : AreRows is_lot (λ r. r.lot)
       (λ l. plans act.command && is_touched first act acts l.gtin && (names_lot act.command l || in_bins s.rows l || on_stages s.rows l))
@@ -145,7 +152,7 @@ pub record IsSlice (first : ℤ) (act : Act) (acts : List Act) (t : Tables) (s :
   pub staged : AreRows same_share (λ r. (r.order, r.lot))
       (λ k. is_touched first act acts k.1.gtin) (λ k. is_touched first act acts k.1.gtin) (λ k. t.staged k.0 k.1) s.rows.staged
   pub reserved : AreRows same_share (λ r. (r.order, r.lot))
-      (λ k. plans act.command && is_touched first act acts k.1.gtin) (λ k. is_touched first act acts k.1.gtin) (λ k. t.reserved k.0 k.1) s.rows.reserved
+      (λ k. names_reserved act.command k.0 k.1) (λ k. names_order act.command k.0 || is_touched first act acts k.1.gtin) (λ k. t.reserved k.0 k.1) s.rows.reserved
 
 -- no key twice, so that it does not matter in which order the rows are written
 pub record AreOnce (rows : Put) : Type 0 where

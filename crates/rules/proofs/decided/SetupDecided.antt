@@ -52,7 +52,7 @@ module _ (first : ℤ) (acts : List Act) (key : Key) (s : Slice) where
     module _ (slice : IsSlice first item_act acts (tables_of first acts) s) where
       item_judged : first_refusal (item_seen s i) ≡ first_refusal (judgement first acts (Item i))
       item_judged = λ j. first_refusal (
-          (item_told first acts item_act s slice refl i.gtin (same_text_refl i.gtin) j || nat_le ITEMS_MAX (slice.items_counted refl j), ItemExists) ∷ [])
+          (item_told first acts item_act s slice refl i.gtin (same_text_refl i.gtin) j || slice.items_counted refl j, ItemExists) ∷ [])
 
       item_changed : verdict first acts (Item i) ≡ None → IsChange first item_act acts (item_changes s i)
       item_changed ok =
@@ -90,7 +90,7 @@ module _ (first : ℤ) (acts : List Act) (key : Key) (s : Slice) where
     module _ (slice : IsSlice first bin_act acts (tables_of first acts) s) where
       bin_judged : first_refusal (bin_seen s b) ≡ first_refusal (judgement first acts (Bin b))
       bin_judged = λ j. first_refusal (
-          (bin_told first acts bin_act s slice refl b.bin (same_text_refl b.bin) j || nat_le BINS_MAX (slice.bins_counted refl j), BinExists) ∷ [])
+          (bin_told first acts bin_act s slice refl b.bin (same_text_refl b.bin) j || slice.bins_counted refl j, BinExists) ∷ [])
 
       bin_changed : verdict first acts (Bin b) ≡ None → IsHistory first (bin_act ∷ acts) → IsChange first bin_act acts (bin_changes s b)
       bin_changed ok next =
