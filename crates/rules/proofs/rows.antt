@@ -6,7 +6,7 @@ pub mod AfterRows
 pub mod SharesTold
 pub mod Differing
 pub mod PlanTold
-pub mod Replanned
+pub mod replanned
 pub mod ReservedLowered
 pub mod SuppliesTold
 pub mod DemandsTold
@@ -27,7 +27,6 @@ pub mod KeptRows
 pub mod FoundRows
 pub mod OrderItems
 pub mod ItemsNamed
-pub mod ItemsReplanned
 pub mod NeedsTold
 pub mod StageTold
 pub mod LotStateTold

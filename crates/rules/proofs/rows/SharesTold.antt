@@ -1,5 +1,5 @@
 -- The plan's rows by names are the reserved rows of the item.
-use Rattle.std.proofs.Common.{◌≡◌, ℕ, ◌≤◌, Bool, true, false, ◌&&◌, not, List, [], ◌∷◌, refl, ap, sym, ◌∙◌, arith, eq-eqb, inl, inr}
+use Rattle.std.proofs.Common.{◌≡◌, ℕ, Bool, true, false, ◌&&◌, not, List, [], ◌∷◌, ◌++◌, refl, ap, sym, subst, ◌∙◌, arith, eq-eqb, inl, inr}
 use Rattle.std.specs.Prelude.{◌==◌, ◌||◌, if◌then◌else◌, ℤ, Option, Some, None, find, filter, map, option_map, ◌⊎◌}
 use Rattle.std.specs.List.{list_any, cons_option}
 use Rattle.std.proofs.lemmas.Bool.{eqb-true}
@@ -13,28 +13,26 @@ use Rattle.commands.specs.declared.rows.StockRow.{StockRow}
 use Rattle.commands.specs.declared.rows.BinRow.{BinRow}
 use Rattle.commands.specs.declared.rows.ReservedRow.{ReservedRow}
 use Rattle.plan.specs.declared.Row.{Row}
-use Rattle.plan.specs.Overlap.{reserved_in, reserved_on}
-use Rattle.plan.specs.declared.Supply.{Supply}
+use Rattle.plan.specs.Overlap.{reserved_in}
 use Rattle.machine.specs.Acts.{Act}
 use Rattle.machine.specs.Postings.{is_lot, of_item}
-use Rattle.machine.specs.Standing.{Placed, KnownLot, order_named, lot_known, lots_of, lines_placed, orders, lots, has_line, is_held, is_shippable}
-use Rattle.machine.specs.Planning.{plan, reserved, reserved_of, is_open, order_state, item_postings, need, booking_of, demands, supplies, supply_of, shippable_lots, goes_before, store_units}
+use Rattle.machine.specs.Standing.{Placed, KnownLot, order_named, lot_known, lines_placed, orders, lots, has_line, is_held}
+use Rattle.machine.specs.Planning.{plan, reserved, reserved_of, is_open, order_state, item_postings, need, booking_of}
 use Rattle.machine.specs.Once.{IsHistory}
 use Rattle.machine.specs.Tables.{order_row, lot_row}
 use Rattle.machine.specs.KeyedRows.{AreOwn, no_two}
 use Rattle.row_rules.specs.Plans.{named_row, named_rows, is_share_of}
 use Rattle.machine.proofs.Tests.{and_both, or_none, not_true, same_text_is, same_text_refl, is_lot_is, is_lot_refl, some_one}
 use Rattle.machine.proofs.histories.Orders.{act_names_order, found_order}
-use Rattle.machine.proofs.Apart.{AllFound}
-use Rattle.machine.proofs.histories.Lots.{same_known, lots_found, receipt_names_lot, found_lot}
-use Rattle.rules.proofs.rows.Ordering.{total_ordered, total_filter, total_map}
-use Rattle.machine.proofs.histories.Reservations.{there_under, reserved_within_supply}
+use Rattle.machine.proofs.histories.Lots.{receipt_names_lot, found_lot}
 use Rattle.machine.proofs.histories.Needs.{reserved_within_needs}
 use Rattle.machine.proofs.histories.ClosedOrders.{closed_orders_are_empty}
 use Rattle.rules.proofs.rows.Telling.{some_of_mapped}
-use Rattle.rules.proofs.rows.DemandsTold.{no_line, same_total}
+use Rattle.rules.proofs.rows.DemandsTold.{no_line}
 use Rattle.rules.proofs.rows.SuppliesTold.{TellsSupplies, in_stock, none_in_store}
 use Rattle.rules.proofs.rows.TableSteps.{share_row}
+use Rattle.rules.proofs.rows.replanned.Pairs.{some_behind, once_behind, none_else, reserved_parted}
+use Rattle.rules.proofs.rows.replanned.Unreserved.{none_reserved}
 use Rattle.machine.proofs.histories.PlanRows.{same_pair, AllSome, plan_once, plan_some}
 
 -- Rows found by their numbers
@@ -188,15 +186,6 @@ module _ (first : ℤ) (acts : List Act) where
             let same_k : a.3.0 ≡ k = some_one a.3.0 k (sym a.3.1 ∙ lot) in
             (λ i. eq-eqb r.booking p.act (a.2 ∙ ap (λ (x : Placed). x.act) same_p) i && eq-eqb r.lot k.came (a.3.2 ∙ ap (λ (x : KnownLot). x.came) same_k) i)
 
-        none_else : (rs : List Row) (r : Row) → pair r ≡ true → list_any (same_pair r) rs ≡ false → reserved_in p.act k.came rs ≡ 0
-        none_else [] r e h = refl
-        none_else (s ∷ ss) r e h =
-            let two = or_none (same_pair r s) (list_any (same_pair r) ss) h in
-            let own = and_both (r.booking == p.act) (r.lot == k.came) e in
-            let not_pair : pair s ≡ false = (λ i. (s.booking == sym (eqb-true r.booking p.act own.0) i) && (s.lot == sym (eqb-true r.lot k.came own.1) i)) ∙ two.0 in
-            let none : (if pair s then s.qty else 0) ≡ 0 = ap (λ b. if b then s.qty else 0) not_pair in
-            omega (arith, none, none_else ss r e two.1)
-
         told_by : (rs : List Row) → AllSome rs → no_two same_pair rs ≡ true
             → ((r : Row) → pair r ≡ true → name_of r ≡ Some (record { order = o; lot = l; qty = r.qty })) ⊎ (reserved_in p.act k.came rs ≡ 0)
             → find test (named_rows order_rows lot_rows rs) ≡ share_row o l (reserved_in p.act k.came rs)
@@ -209,7 +198,7 @@ module _ (first : ℤ) (acts : List Act) where
             ] refl
           where
             own_qty : pair r ≡ true → list_any (same_pair r) rs ≡ false → reserved_in p.act k.came (r ∷ rs) ≡ r.qty
-            own_qty t none = let e : (if pair r then r.qty else 0) ≡ r.qty = ap (λ b. if b then r.qty else 0) t in omega (arith, e, none_else rs r t none)
+            own_qty t none = let e : (if pair r then r.qty else 0) ≡ r.qty = ap (λ b. if b then r.qty else 0) t in omega (arith, e, none_else p.act k.came rs r t none)
 
             at_pair : pair r ≡ true → list_any (same_pair r) rs ≡ false → ((r : Row) → pair r ≡ true → name_of r ≡ Some (record { order = o; lot = l; qty = r.qty })) ⊎ (reserved_in p.act k.came (r ∷ rs) ≡ 0)
                 → find test (cons_option (name_of r) (named_rows order_rows lot_rows rs)) ≡ share_row o l (reserved_in p.act k.came (r ∷ rs))
@@ -236,65 +225,13 @@ module _ (first : ℤ) (acts : List Act) where
               | false ↦ λ u. h ∙ ap (share_row o l) (sym (without t))
             ] refl
 
--- Of a lot that is not of the item, or has no units in STORE bins, the item's supplies have nothing
-module _ (first : ℤ) (acts : List Act) (g : List ℕ) (l : LotId) (empty : of_item g l ≡ true → store_units acts (item_postings first acts g) l ≡ 0) (k : KnownLot) (known : lot_known acts l ≡ Some k) where
-  abbrev avail_of : KnownLot → ℕ
-  avail_of j = if j.came == k.came then store_units acts (item_postings first acts g) j.lot else 0
-
-  abbrev counted : KnownLot → ℕ
-  counted j = if of_item g j.lot then (if is_shippable first acts j then avail_of j else 0) else 0
-
-  not_counted : (j : KnownLot) → lot_known acts j.lot ≡ Some j → counted j ≡ 0
-  not_counted j e = elim (of_item g j.lot) as (λ b. of_item g j.lot ≡ b → (if b then (if is_shippable first acts j then avail_of j else 0) else 0) ≡ 0) [
-    | true ↦ λ t. nothing_if (is_shippable first acts j) (avail_of j) (elim (j.came == k.came) as (λ b. (j.came == k.came) ≡ b → (if b then store_units acts (item_postings first acts g) j.lot else 0) ≡ 0) [
-      | true ↦ λ f.
-          let own : j.lot ≡ l = receipt_names_lot acts j.lot l j k e known (eqb-true j.came k.came f) in
-          ap (λ (m : LotId). store_units acts (item_postings first acts g) m) own ∙ empty (ap (λ (m : LotId). of_item g m) (sym own) ∙ t)
-      | false ↦ λ f. refl
-    ] refl)
-    | false ↦ λ t. refl
-  ] refl
-    where
-      nothing_if : (b : Bool) (q : ℕ) → q ≡ 0 → (if b then q else 0) ≡ 0
-      nothing_if true q e = e
-      nothing_if false q e = refl
-
-  none_counted : (ks : List KnownLot) → AllFound same_known (lots acts) ks → total counted ks ≡ 0
-  none_counted [] h = refl
-  none_counted (j ∷ js) h = omega (arith, not_counted j h.0, none_counted js h.1)
-
-  none_there : there_under k.came (supplies first acts g) ≡ 0
-  none_there =
-      same_total (λ (x : Supply). if x.lot == k.came then x.avail else 0) (supplies first acts g)
-      ∙ total_map (λ (x : Supply). if x.lot == k.came then x.avail else 0) (supply_of acts (item_postings first acts g)) (shippable_lots first acts g)
-      ∙ total_ordered goes_before avail_of (filter (is_shippable first acts) (lots_of acts g))
-      ∙ total_filter avail_of (is_shippable first acts) (lots_of acts g)
-      ∙ total_filter (λ j. if is_shippable first acts j then avail_of j else 0) (λ j. of_item g j.lot) (lots acts)
-      ∙ none_counted (lots acts) (lots_found acts)
-
-  in_lot : (b : ℕ) (rows : List Row) → reserved_in b k.came rows ≤ reserved_on k.came rows
-  in_lot b [] = omega arith
-  in_lot b (r ∷ rs) = omega (arith, fewer (r.booking == b) (r.lot == k.came) r.qty, in_lot b rs)
-    where
-      fewer : (x y : Bool) (q : ℕ) → (if x && y then q else 0) ≤ (if y then q else 0)
-      fewer true y q = omega arith
-      fewer false true q = omega arith
-      fewer false false q = omega arith
-
-  -- so nothing of it is reserved
-  pub none_reserved : (b : ℕ) → reserved_in b k.came (plan first acts g) ≡ 0
-  none_reserved b = omega (arith, in_lot b (plan first acts g), reserved_within_supply k.came (demands first acts g) (supplies first acts g), none_there)
-
 module _ (first : ℤ) (acts : List Act) (history : IsHistory first acts) (g : List ℕ) (order_rows : List OrderRow) (lot_rows : List LotRow) (recall_rows : List RecallRow) (stock_rows : List StockRow) (bin_rows : List BinRow)
     (orders_own : AreOwn (λ (r : OrderRow). r.order) (λ o. true) (order_row first acts) order_rows) (tells : TellsSupplies first acts g lot_rows recall_rows stock_rows bin_rows) where
-  pub shares_once : no_two is_share_of (named_rows order_rows lot_rows (plan first acts g)) ≡ true
-  shares_once = named_once first acts order_rows lot_rows orders_own tells.lots.own (plan first acts g) (plan_once first acts history g)
-
   module _ (o : List ℕ) (l : LotId) (own : of_item g l ≡ true) (found : is_open first acts o && has_line acts o g ≡ true → find (λ (r : OrderRow). same_text o r.order) order_rows ≡ order_row first acts o) where
     same_item : g ≡ l.gtin
     same_item = same_text_is g l.gtin own
 
-    by_plan : reserved first acts o l ≡ reserved_of (order_named acts o) (lot_known acts l) (plan first acts g)
+    pub by_plan : reserved first acts o l ≡ reserved_of (order_named acts o) (lot_known acts l) (plan first acts g)
     by_plan = ap (λ (x : List ℕ). reserved_of (order_named acts o) (lot_known acts l) (plan first acts x)) (sym same_item)
 
     -- an order that is closed or has no line of the item has nothing reserved
@@ -322,40 +259,71 @@ module _ (first : ℤ) (acts : List Act) (history : IsHistory first acts) (g : L
         ∙ (λ i. named_row (x i) (y i) r.qty)
         ∙ (λ i. Some (record { order = sym (found_order o (orders acts) p order) i; lot = sym (found_lot l (lots acts) k lot) i; qty = r.qty }))
 
-    told : (x : Option Placed) (y : Option KnownLot) → order_named acts o ≡ x → lot_known acts l ≡ y
-        → find (λ (r : ReservedRow). same_text o r.order && is_lot l r.lot) (named_rows order_rows lot_rows (plan first acts g)) ≡ share_row o l (reserved_of x y (plan first acts g))
-    told None y e f = all_fail first acts order_rows lot_rows orders_own tells.lots.own o l (λ r n h t. let a = passing first acts order_rows lot_rows orders_own tells.lots.own o l r n h t in cc) (plan first acts g)
-    told (Some p) None e f = all_fail first acts order_rows lot_rows orders_own tells.lots.own o l (λ r n h t. let a = passing first acts order_rows lot_rows orders_own tells.lots.own o l r n h t in let b = a.3.1 in cc) (plan first acts g)
-    told (Some p) (Some k) e f =
-        told_by first acts order_rows lot_rows orders_own tells.lots.own o l p k e f (plan first acts g) (plan_some first acts history g) (plan_once first acts history g)
-        (by_stock p k e f (in_stock g stock_rows l) refl)
-      where
-        by_stock : (p : Placed) (k : KnownLot) → order_named acts o ≡ Some p → lot_known acts l ≡ Some k → (b : Bool) → in_stock g stock_rows l ≡ b
-            → ((r : Row) → (r.booking == p.act) && (r.lot == k.came) ≡ true → name_of first acts order_rows lot_rows orders_own tells.lots.own r ≡ Some (record { order = o; lot = l; qty = r.qty })) ⊎ (reserved_in p.act k.came (plan first acts g) ≡ 0)
-        by_stock p k e f true there =
-            elim (is_open first acts o && has_line acts o g) as (λ b. is_open first acts o && has_line acts o g ≡ b
-            → ((r : Row) → (r.booking == p.act) && (r.lot == k.came) ≡ true → name_of first acts order_rows lot_rows orders_own tells.lots.own r ≡ Some (record { order = o; lot = l; qty = r.qty })) ⊎ (reserved_in p.act k.came (plan first acts g) ≡ 0)) [
-              | true ↦ λ t. inl (all_named p k e f there t)
-              | false ↦ λ t. inr ((λ i. reserved_of (sym e i) (sym f i) (plan first acts g)) ∙ sym by_plan ∙ unneeded p e t)
-            ] refl
-        by_stock p k e f false none =
-            inr (none_reserved first acts g l (λ own. none_in_store first acts history g lot_rows recall_rows stock_rows bin_rows tells l own none) k f p.act)
+    by_stock : (p : Placed) (k : KnownLot) → order_named acts o ≡ Some p → lot_known acts l ≡ Some k → (b : Bool) → in_stock g stock_rows l ≡ b
+        → ((r : Row) → (r.booking == p.act) && (r.lot == k.came) ≡ true → name_of first acts order_rows lot_rows orders_own tells.lots.own r ≡ Some (record { order = o; lot = l; qty = r.qty })) ⊎ (reserved_in p.act k.came (plan first acts g) ≡ 0)
+    by_stock p k e f true there =
+        elim (is_open first acts o && has_line acts o g) as (λ b. is_open first acts o && has_line acts o g ≡ b
+        → ((r : Row) → (r.booking == p.act) && (r.lot == k.came) ≡ true → name_of first acts order_rows lot_rows orders_own tells.lots.own r ≡ Some (record { order = o; lot = l; qty = r.qty })) ⊎ (reserved_in p.act k.came (plan first acts g) ≡ 0)) [
+          | true ↦ λ t. inl (all_named p k e f there t)
+          | false ↦ λ t. inr ((λ i. reserved_of (sym e i) (sym f i) (plan first acts g)) ∙ sym by_plan ∙ unneeded p e t)
+        ] refl
+    by_stock p k e f false none =
+        inr (none_reserved first acts g l (λ own. none_in_store first acts history g lot_rows recall_rows stock_rows bin_rows tells l own none) k f p.act)
 
-    pub shares_told : find (λ (r : ReservedRow). same_text o r.order && is_lot l r.lot) (named_rows order_rows lot_rows (plan first acts g)) ≡ share_row o l (reserved first acts o l)
-    shares_told = told (order_named acts o) (lot_known acts l) refl refl ∙ ap (share_row o l) (sym by_plan)
+  -- Of the plan in two parts, the rows of the second
 
-  -- a lot of another item has no share
-  module _ (o : List ℕ) (l : LotId) (other : of_item g l ≡ false) where
-    none_of_other : (k : KnownLot) → lot_known acts l ≡ Some k → (b : ℕ) → reserved_in b k.came (plan first acts g) ≡ 0
-    none_of_other k known b = none_reserved first acts g l (λ own. let f : true ≡ false = sym own ∙ other in cc) k known b
+  module _ (front rest : List Row) (parted : plan first acts g ≡ front ++ rest) where
+    rest_some : AllSome rest
+    rest_some = some_behind front rest (subst AllSome parted (plan_some first acts history g))
 
-    none_told : (x : Option Placed) (y : Option KnownLot) → order_named acts o ≡ x → lot_known acts l ≡ y
-        → find (λ (r : ReservedRow). same_text o r.order && is_lot l r.lot) (named_rows order_rows lot_rows (plan first acts g)) ≡ None
-    none_told None y e f = all_fail first acts order_rows lot_rows orders_own tells.lots.own o l (λ r n h t. let a = passing first acts order_rows lot_rows orders_own tells.lots.own o l r n h t in cc) (plan first acts g)
-    none_told (Some p) None e f = all_fail first acts order_rows lot_rows orders_own tells.lots.own o l (λ r n h t. let a = passing first acts order_rows lot_rows orders_own tells.lots.own o l r n h t in let b = a.3.1 in cc) (plan first acts g)
-    none_told (Some p) (Some k) e f =
-        told_by first acts order_rows lot_rows orders_own tells.lots.own o l p k e f (plan first acts g) (plan_some first acts history g) (plan_once first acts history g) (inr (none_of_other k f p.act))
-        ∙ ap (share_row o l) (none_of_other k f p.act)
+    rest_once : no_two same_pair rest ≡ true
+    rest_once = once_behind front rest (ap (no_two same_pair) (sym parted) ∙ plan_once first acts history g)
 
-    pub shares_elsewhere : find (λ (r : ReservedRow). same_text o r.order && is_lot l r.lot) (named_rows order_rows lot_rows (plan first acts g)) ≡ None
-    shares_elsewhere = none_told (order_named acts o) (lot_known acts l) refl refl
+    none_behind : (b k : ℕ) → reserved_in b k (plan first acts g) ≡ 0 → reserved_in b k rest ≡ 0
+    none_behind b k none = omega (arith, none, ap (reserved_in b k) parted, reserved_parted b k front rest)
+
+    pub behind_once : no_two is_share_of (named_rows order_rows lot_rows rest) ≡ true
+    behind_once = named_once first acts order_rows lot_rows orders_own tells.lots.own rest rest_once
+
+    module _ (o : List ℕ) (l : LotId) (own : of_item g l ≡ true) (found : is_open first acts o && has_line acts o g ≡ true → find (λ (r : OrderRow). same_text o r.order) order_rows ≡ order_row first acts o) where
+      told : (x : Option Placed) (y : Option KnownLot) → order_named acts o ≡ x → lot_known acts l ≡ y
+          → find (λ (r : ReservedRow). same_text o r.order && is_lot l r.lot) (named_rows order_rows lot_rows rest) ≡ share_row o l (reserved_of x y rest)
+      told None y e f = all_fail first acts order_rows lot_rows orders_own tells.lots.own o l (λ r n h t. let a = passing first acts order_rows lot_rows orders_own tells.lots.own o l r n h t in cc) rest
+      told (Some p) None e f = all_fail first acts order_rows lot_rows orders_own tells.lots.own o l (λ r n h t. let a = passing first acts order_rows lot_rows orders_own tells.lots.own o l r n h t in let b = a.3.1 in cc) rest
+      told (Some p) (Some k) e f = told_by first acts order_rows lot_rows orders_own tells.lots.own o l p k e f rest rest_some rest_once (in_rest (by_stock o l own found p k e f (in_stock g stock_rows l) refl))
+        where
+          in_rest : ((r : Row) → (r.booking == p.act) && (r.lot == k.came) ≡ true → name_of first acts order_rows lot_rows orders_own tells.lots.own r ≡ Some (record { order = o; lot = l; qty = r.qty })) ⊎ (reserved_in p.act k.came (plan first acts g) ≡ 0)
+              → ((r : Row) → (r.booking == p.act) && (r.lot == k.came) ≡ true → name_of first acts order_rows lot_rows orders_own tells.lots.own r ≡ Some (record { order = o; lot = l; qty = r.qty })) ⊎ (reserved_in p.act k.came rest ≡ 0)
+          in_rest (inl all) = inl all
+          in_rest (inr none) = inr (none_behind p.act k.came none)
+
+      pub behind_told : find (λ (r : ReservedRow). same_text o r.order && is_lot l r.lot) (named_rows order_rows lot_rows rest) ≡ share_row o l (reserved_of (order_named acts o) (lot_known acts l) rest)
+      behind_told = told (order_named acts o) (lot_known acts l) refl refl
+
+    -- a lot of another item has no share
+    module _ (o : List ℕ) (l : LotId) (other : of_item g l ≡ false) where
+      none_of_other : (k : KnownLot) → lot_known acts l ≡ Some k → (b : ℕ) → reserved_in b k.came rest ≡ 0
+      none_of_other k known b = none_behind b k.came (none_reserved first acts g l (λ own. let f : true ≡ false = sym own ∙ other in cc) k known b)
+
+      none_told : (x : Option Placed) (y : Option KnownLot) → order_named acts o ≡ x → lot_known acts l ≡ y
+          → find (λ (r : ReservedRow). same_text o r.order && is_lot l r.lot) (named_rows order_rows lot_rows rest) ≡ None
+      none_told None y e f = all_fail first acts order_rows lot_rows orders_own tells.lots.own o l (λ r n h t. let a = passing first acts order_rows lot_rows orders_own tells.lots.own o l r n h t in cc) rest
+      none_told (Some p) None e f = all_fail first acts order_rows lot_rows orders_own tells.lots.own o l (λ r n h t. let a = passing first acts order_rows lot_rows orders_own tells.lots.own o l r n h t in let b = a.3.1 in cc) rest
+      none_told (Some p) (Some k) e f =
+          told_by first acts order_rows lot_rows orders_own tells.lots.own o l p k e f rest rest_some rest_once (inr (none_of_other k f p.act))
+          ∙ ap (share_row o l) (none_of_other k f p.act)
+
+      pub behind_elsewhere : find (λ (r : ReservedRow). same_text o r.order && is_lot l r.lot) (named_rows order_rows lot_rows rest) ≡ None
+      behind_elsewhere = none_told (order_named acts o) (lot_known acts l) refl refl
+
+  -- The whole plan
+
+  pub shares_once : no_two is_share_of (named_rows order_rows lot_rows (plan first acts g)) ≡ true
+  shares_once = behind_once [] (plan first acts g) refl
+
+  pub shares_told : (o : List ℕ) (l : LotId) → of_item g l ≡ true → (is_open first acts o && has_line acts o g ≡ true → find (λ (r : OrderRow). same_text o r.order) order_rows ≡ order_row first acts o)
+      → find (λ (r : ReservedRow). same_text o r.order && is_lot l r.lot) (named_rows order_rows lot_rows (plan first acts g)) ≡ share_row o l (reserved first acts o l)
+  shares_told o l own found = behind_told [] (plan first acts g) refl o l own found ∙ ap (share_row o l) (sym (by_plan o l own found))
+
+  pub shares_elsewhere : (o : List ℕ) (l : LotId) → of_item g l ≡ false → find (λ (r : ReservedRow). same_text o r.order && is_lot l r.lot) (named_rows order_rows lot_rows (plan first acts g)) ≡ None
+  shares_elsewhere o l other = behind_elsewhere [] (plan first acts g) refl o l other

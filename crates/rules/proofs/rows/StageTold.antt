@@ -1,12 +1,13 @@
--- What the slice of any command tells of the units of a lot that are staged and reserved for an order, if it touches the lot.
-use Rattle.std.proofs.Common.{◌≡◌, ℕ, true, false, ◌&&◌, List, refl, ap, sym, ◌∙◌}
+-- What the slice of any command tells of the units of a lot that are staged for an order, if it touches the lot, and of those that are
+-- reserved, if it is judged by them.
+use Rattle.std.proofs.Common.{◌≡◌, ℕ, true, false, List, refl, ap, sym, ◌∙◌}
 use Rattle.std.specs.Prelude.{◌==◌, if◌then◌else◌, ℤ, Some, None}
 use Rattle.values.specs.declared.lot.LotId.{LotId}
 use Rattle.machine.specs.Acts.{Act}
 use Rattle.machine.specs.Planning.{staged_of_lot, reserved}
 use Rattle.machine.specs.Tables.{tables_of, if_any, staged_row, reserved_row}
 use Rattle.machine.specs.Touched.{is_touched}
-use Rattle.rules.specs.Slices.{IsSlice, plans}
+use Rattle.rules.specs.Slices.{IsSlice, names_reserved}
 use Rattle.row_rules.specs.SeenStages.{reserved_qty, reserved_found, reserved_seen, staged_qty, staged_found, on_stage_seen}
 use Rattle.row_rules.specs.declared.slice.Slice.{Slice}
 use Rattle.machine.proofs.Tests.{is_zero}
@@ -26,11 +27,10 @@ module _ (first : ℤ) (acts : List Act) (act : Act) (s : Slice) (slice : IsSlic
   pub on_stage_told : (o : List ℕ) (l : LotId) → is_touched first act acts l.gtin ≡ true → on_stage_seen s o l ≡ staged_of_lot first acts o l
   on_stage_told o l t = ap staged_qty (found_staged o l t) ∙ any_staged (staged_of_lot first acts o l) o l
 
--- and if it plans
-module _ (first : ℤ) (acts : List Act) (act : Act) (s : Slice) (slice : IsSlice first act acts (tables_of first acts) s) (planned : plans act.command ≡ true) where
-  pub found_reserved : (o : List ℕ) (l : LotId) → is_touched first act acts l.gtin ≡ true → reserved_found s.rows.reserved o l ≡ reserved_row first acts o l
+  -- what is reserved, where the command is judged by it
+  pub found_reserved : (o : List ℕ) (l : LotId) → names_reserved act.command o l ≡ true → reserved_found s.rows.reserved o l ≡ reserved_row first acts o l
   unfolding tables_of
-  found_reserved o l t = slice.reserved.found (o, l) (λ i. planned i && t i)
+  found_reserved o l t = slice.reserved.found (o, l) t
 
-  pub reserved_told : (o : List ℕ) (l : LotId) → is_touched first act acts l.gtin ≡ true → reserved_seen s o l ≡ reserved first acts o l
+  pub reserved_told : (o : List ℕ) (l : LotId) → names_reserved act.command o l ≡ true → reserved_seen s o l ≡ reserved first acts o l
   reserved_told o l t = ap reserved_qty (found_reserved o l t) ∙ any_reserved (reserved first acts o l) o l

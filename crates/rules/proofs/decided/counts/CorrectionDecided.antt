@@ -28,8 +28,7 @@ use Rattle.machine.specs.KeyedRows.{no_two, same_cell, same_line, same_share}
 use Rattle.rules.specs.Slices.{IsSlice, applied, in_bins}
 use Rattle.row_rules.specs.Seen.{none_put, none_dropped, lot_units}
 use Rattle.row_rules.specs.SeenLots.{stock_put, stock_gone}
-use Rattle.row_rules.specs.Plans.{rows_to_put, rows_to_drop}
-use Rattle.goods_rules.specs.DecidedCount.{stock_corrected, shares_corrected, correction_card, correction_cards, change_reply, corrections}
+use Rattle.goods_rules.specs.DecidedCount.{stock_corrected, correction_replanned, correction_card, correction_cards, change_reply, corrections}
 use Rattle.row_rules.specs.declared.slice.Slice.{Slice}
 use Rattle.machine.proofs.Tests.{same_text_refl, same_text_turned, is_lot_item}
 use Rattle.machine.proofs.histories.Accepted.{room_for_acts}
@@ -44,7 +43,7 @@ use Rattle.rules.proofs.rows.LotUnits.{lot_units_told}
 use Rattle.rules.proofs.rows.LotTold.{found_stock}
 use Rattle.rules.proofs.rows.StockChanged.{with_units, stock_rows_are, bins_with, lots_with}
 use Rattle.rules.proofs.rows.TableSteps.{AreNamed, names_changed, reserved_changed}
-use Rattle.rules.proofs.rows.Replanned.{TouchesOnly, replanned, replanned_once}
+use Rattle.rules.proofs.rows.replanned.OneItem.{TouchesOnly, replanned, replanned_once}
 use Rattle.rules.proofs.decided.Decisions.{IsChange, day_seen, number_same, meta_same}
 use Rattle.rules.proofs.decided.counts.CorrectionStep.{Writes, stock_with, bin_at, lot_at, recall_at, line_known, open_at, order_at, line_at, staged_at, written_card, written_cards, write_change, write_step}
 
@@ -101,10 +100,10 @@ module _ (first : ℤ) (acts : List Act) (act : Act) (s : Slice) (slice : IsSlic
   -- The rows that are reserved after the act
 
   abbrev puts : List ReservedRow
-  puts = rows_to_put s.rows.reserved (shares_corrected s l b left)
+  puts = (correction_replanned s l b left).put
 
   abbrev drops : List ReservedRow
-  drops = rows_to_drop g s.rows.reserved (shares_corrected s l b left)
+  drops = (correction_replanned s l b left).dropped
 
   only : TouchesOnly first acts act s slice writes.planned next g
   only = record { own = touched; others = λ h e. writes.touched h ∙ same_text_turned h g ∙ e }

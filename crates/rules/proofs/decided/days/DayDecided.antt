@@ -22,7 +22,7 @@ use Rattle.row_rules.specs.declared.slice.Change.{Change}
 use Rattle.row_rules.specs.declared.slice.RuleFault.{RuleFault}
 use Rattle.machine.proofs.histories.Accepted.{room_for_acts}
 use Rattle.rules.proofs.rows.TableSteps.{same_tables, AreNamed, names_changed, reserved_changed}
-use Rattle.rules.proofs.rows.ItemsReplanned.{items_replanned, items_put_once}
+use Rattle.rules.proofs.rows.replanned.EachItem.{items_replanned, items_put_once}
 use Rattle.rules.proofs.rows.LeavingLots.{order_row_still, line_row_still, shipline_row_still, card_row_still}
 use Rattle.rules.proofs.decided.Decisions.{AreRight, IsChange, number_same, shipments_seen}
 use Rattle.rules.proofs.decided.days.DayJudged.{day_is_judged}

@@ -15,8 +15,7 @@ use Rattle.machine.specs.KeyedRows.{no_two}
 use Rattle.rules.specs.Slices.{IsSlice, applied}
 use Rattle.row_rules.specs.Seen.{none_put, none_dropped, plain_reply}
 use Rattle.row_rules.specs.SeenLots.{stock_put, stock_gone}
-use Rattle.row_rules.specs.Plans.{rows_to_put, rows_to_drop}
-use Rattle.goods_rules.specs.DecidedMove.{move_seen, move_shares, move_changes, stock_rows_moved}
+use Rattle.goods_rules.specs.DecidedMove.{move_seen, move_replanned, move_changes, stock_rows_moved}
 use Rattle.row_rules.specs.declared.slice.Slice.{Slice}
 use Rattle.row_rules.specs.declared.slice.Change.{Change}
 use Rattle.row_rules.specs.declared.slice.RuleFault.{RuleFault}
@@ -24,7 +23,7 @@ use Rattle.machine.proofs.Tests.{same_text_refl, same_text_turned}
 use Rattle.machine.proofs.histories.Accepted.{room_for_acts}
 use Rattle.rules.proofs.rows.LotTold.{found_stock}
 use Rattle.rules.proofs.rows.TableSteps.{AreNamed, names_changed, reserved_changed}
-use Rattle.rules.proofs.rows.Replanned.{TouchesOnly, replanned, replanned_once}
+use Rattle.rules.proofs.rows.replanned.OneItem.{TouchesOnly, replanned, replanned_once}
 use Rattle.rules.proofs.decided.Decisions.{AreRight, IsChange, day_seen, plain_same, meta_same}
 use Rattle.rules.proofs.decided.goods.MoveJudged.{move_judged}
 use Rattle.rules.proofs.decided.goods.MoveStep.{move_change, move_step, stock_once}
@@ -40,14 +39,11 @@ module _ (first : ℤ) (acts : List Act) (key : Key) (m : Movement) (s : Slice) 
 
   -- The rows that are reserved after the act
 
-  abbrev shares : List ReservedRow
-  shares = move_shares s m
-
   abbrev puts : List ReservedRow
-  puts = rows_to_put s.rows.reserved shares
+  puts = (move_replanned s m).put
 
   abbrev drops : List ReservedRow
-  drops = rows_to_drop g s.rows.reserved shares
+  drops = (move_replanned s m).dropped
 
   only : TouchesOnly first acts act s slice refl next g
   only = record { own = same_text_refl g; others = λ h e. same_text_turned h g ∙ e }

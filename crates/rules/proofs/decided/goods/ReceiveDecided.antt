@@ -15,15 +15,14 @@ use Rattle.machine.specs.Tables.{tables_of}
 use Rattle.machine.specs.KeyedRows.{no_two}
 use Rattle.rules.specs.Slices.{IsSlice, applied}
 use Rattle.row_rules.specs.Seen.{none_put, none_dropped, plain_reply, lot_units}
-use Rattle.row_rules.specs.Plans.{rows_to_put, rows_to_drop}
-use Rattle.goods_rules.specs.DecidedReceive.{receive_seen, receive_shares, receive_changes, lot_rows_after, stock_rows_after, lots_if_new, new_lot_row}
+use Rattle.goods_rules.specs.DecidedReceive.{receive_seen, receive_replanned, receive_changes, lot_rows_after, stock_rows_after, lots_if_new, new_lot_row}
 use Rattle.row_rules.specs.declared.slice.Slice.{Slice}
 use Rattle.row_rules.specs.declared.slice.Change.{Change}
 use Rattle.row_rules.specs.declared.slice.RuleFault.{RuleFault}
 use Rattle.machine.proofs.Tests.{same_text_refl, same_text_turned, is_lot_item}
 use Rattle.machine.proofs.histories.Accepted.{room_for_acts}
 use Rattle.rules.proofs.rows.TableSteps.{AreNamed, names_changed, reserved_changed}
-use Rattle.rules.proofs.rows.Replanned.{TouchesOnly, replanned, replanned_once}
+use Rattle.rules.proofs.rows.replanned.OneItem.{TouchesOnly, replanned, replanned_once}
 use Rattle.rules.proofs.rows.LotUnits.{lot_units_told}
 use Rattle.rules.proofs.decided.Decisions.{AreRight, IsChange, day_seen, number_same, plain_same, meta_same}
 use Rattle.rules.proofs.decided.goods.ReceiveJudged.{receive_judged}
@@ -47,14 +46,11 @@ module _ (first : ℤ) (acts : List Act) (key : Key) (r : Receipt) (s : Slice) (
 
   -- The rows that are reserved after the act
 
-  abbrev shares : List ReservedRow
-  shares = receive_shares s r
-
   abbrev puts : List ReservedRow
-  puts = rows_to_put s.rows.reserved shares
+  puts = (receive_replanned s r).put
 
   abbrev drops : List ReservedRow
-  drops = rows_to_drop g s.rows.reserved shares
+  drops = (receive_replanned s r).dropped
 
   only : TouchesOnly first acts act s slice refl next g
   only = record { own = same_text_refl g; others = λ h e. same_text_turned h g ∙ e }

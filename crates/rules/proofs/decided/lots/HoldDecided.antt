@@ -17,8 +17,7 @@ use Rattle.machine.specs.Tables.{tables_of, lot_row, meta_row, reserved_row}
 use Rattle.machine.specs.KeyedRows.{AreRows}
 use Rattle.rules.specs.Slices.{IsSlice, applied, tables_but_repeats, changed}
 use Rattle.row_rules.specs.Seen.{lot_seen, none_put, none_dropped}
-use Rattle.row_rules.specs.Plans.{rows_to_put, rows_to_drop}
-use Rattle.lot_rules.specs.DecidedHold.{hold_seen, hold_shares, hold_changes, with_hold, lot_rows_with_hold, lot_put, staged_kept, staged_returned, stock_with_returned, returned_put, bins_with_returns, returned_reply}
+use Rattle.lot_rules.specs.DecidedHold.{hold_seen, hold_replanned, hold_changes, with_hold, lot_rows_with_hold, lot_put, staged_kept, staged_returned, stock_with_returned, returned_put, bins_with_returns, returned_reply}
 use Rattle.row_rules.specs.declared.slice.Slice.{Slice}
 use Rattle.row_rules.specs.declared.slice.Change.{Change}
 use Rattle.row_rules.specs.declared.slice.RuleFault.{RuleFault}
@@ -33,7 +32,7 @@ use Rattle.rules.proofs.rows.SliceTells.{item_told, recall_told, found_lot}
 use Rattle.rules.proofs.rows.SliceSupplies.{slice_tells_supplies, slice_lots, is_wanted}
 use Rattle.rules.proofs.rows.SuppliesTold.{TellsSupplies}
 use Rattle.rules.proofs.rows.TableSteps.{same_tables, AreNamed, names_changed, reserved_changed}
-use Rattle.rules.proofs.rows.Replanned.{TouchesOnly, replanned, replanned_once}
+use Rattle.rules.proofs.rows.replanned.OneItem.{TouchesOnly, replanned, replanned_once}
 use Rattle.machine.proofs.histories.UnshippableLots.{MakesUnshippable, order_row_still, line_row_still, shipline_row_still, card_row_still}
 use Rattle.rules.proofs.rows.ReturnedRows.{returned_once, returned_stock_at, returned_staged_at, demands_after, supplies_after, returned_text}
 use Rattle.rules.proofs.decided.Decisions.{AreRight, IsChange, day_seen, meta_same}
@@ -87,10 +86,10 @@ module _ (first : ℤ) (acts : List Act) (key : Key) (l : LotId) (s : Slice) (sl
       (rows_mapped is_lot (λ (k : LotRow). k.lot) (with_hold l true) (λ k. refl) (is_wanted (Hold l) s.rows g) (λ m. true) (lot_row acts) s.rows.lots (slice_lots first acts act s slice refl g touched))
 
   abbrev puts : List ReservedRow
-  puts = rows_to_put s.rows.reserved (hold_shares s l)
+  puts = (hold_replanned s l).put
 
   abbrev drops : List ReservedRow
-  drops = rows_to_drop g s.rows.reserved (hold_shares s l)
+  drops = (hold_replanned s l).dropped
 
   abbrev hold_change : Change
   hold_change = record {

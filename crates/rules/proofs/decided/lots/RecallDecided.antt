@@ -18,8 +18,7 @@ use Rattle.machine.specs.Tables.{tables_of, lot_row, recall_row, meta_row, reser
 use Rattle.machine.specs.KeyedRows.{AreRows}
 use Rattle.rules.specs.Slices.{IsSlice, applied, tables_but_repeats, changed}
 use Rattle.row_rules.specs.Seen.{none_put, none_dropped}
-use Rattle.row_rules.specs.Plans.{rows_to_put, rows_to_drop}
-use Rattle.lot_rules.specs.DecidedHold.{recall_seen, recall_shares, recall_changes, new_recall_row, recall_rows_after, staged_kept, staged_returned, stock_with_returned, returned_put, bins_with_returns, returned_reply}
+use Rattle.lot_rules.specs.DecidedHold.{recall_seen, recall_replanned, recall_changes, new_recall_row, recall_rows_after, staged_kept, staged_returned, stock_with_returned, returned_put, bins_with_returns, returned_reply}
 use Rattle.row_rules.specs.declared.slice.Slice.{Slice}
 use Rattle.row_rules.specs.declared.slice.Change.{Change}
 use Rattle.row_rules.specs.declared.slice.RuleFault.{RuleFault}
@@ -29,7 +28,7 @@ use Rattle.rules.proofs.rows.SliceTells.{item_told, recall_told}
 use Rattle.rules.proofs.rows.SliceSupplies.{slice_tells_supplies, slice_lots, is_wanted}
 use Rattle.rules.proofs.rows.SuppliesTold.{TellsSupplies}
 use Rattle.rules.proofs.rows.TableSteps.{same_tables, AreNamed, names_changed, reserved_changed, put_found}
-use Rattle.rules.proofs.rows.Replanned.{TouchesOnly, replanned, replanned_once}
+use Rattle.rules.proofs.rows.replanned.OneItem.{TouchesOnly, replanned, replanned_once}
 use Rattle.machine.proofs.histories.UnshippableLots.{MakesUnshippable, order_row_still, line_row_still, shipline_row_still, card_row_still}
 use Rattle.rules.proofs.rows.ReturnedRows.{returned_once, returned_stock_at, returned_staged_at, demands_after, supplies_after, returned_text}
 use Rattle.rules.proofs.decided.Decisions.{AreRight, IsChange, day_seen, number_same, meta_same}
@@ -83,10 +82,10 @@ module _ (first : ℤ) (acts : List Act) (key : Key) (l : LotId) (s : Slice) (sl
   recall_at m = put_found shown (is_lot m l) newest (recalling acts m)
 
   abbrev puts : List ReservedRow
-  puts = rows_to_put s.rows.reserved (recall_shares s l)
+  puts = (recall_replanned s l).put
 
   abbrev drops : List ReservedRow
-  drops = rows_to_drop g s.rows.reserved (recall_shares s l)
+  drops = (recall_replanned s l).dropped
 
   abbrev recall_change : Change
   recall_change = record {

@@ -16,8 +16,7 @@ use Rattle.machine.specs.Once.{IsHistory}
 use Rattle.machine.specs.Tables.{tables_of, lot_row, meta_row, reserved_row}
 use Rattle.rules.specs.Slices.{IsSlice, applied, tables_but_repeats, changed}
 use Rattle.row_rules.specs.Seen.{lot_seen, none_put, none_dropped, plain_reply}
-use Rattle.row_rules.specs.Plans.{rows_to_put, rows_to_drop}
-use Rattle.lot_rules.specs.DecidedHold.{release_seen, release_shares, release_changes, with_hold, lot_rows_with_hold, lot_put}
+use Rattle.lot_rules.specs.DecidedHold.{release_seen, release_replanned, release_changes, with_hold, lot_rows_with_hold, lot_put}
 use Rattle.row_rules.specs.declared.slice.Slice.{Slice}
 use Rattle.row_rules.specs.declared.slice.Change.{Change}
 use Rattle.row_rules.specs.declared.slice.RuleFault.{RuleFault}
@@ -34,7 +33,7 @@ use Rattle.rules.proofs.rows.SliceSupplies.{slice_tells_supplies}
 use Rattle.rules.proofs.rows.DemandsTold.{TellsDemands}
 use Rattle.rules.proofs.rows.SuppliesTold.{TellsSupplies, in_stock}
 use Rattle.rules.proofs.rows.TableSteps.{same_tables, AreNamed, names_changed, reserved_changed}
-use Rattle.rules.proofs.rows.Replanned.{TouchesOnly, replanned, replanned_once}
+use Rattle.rules.proofs.rows.replanned.OneItem.{TouchesOnly, replanned, replanned_once}
 use Rattle.rules.proofs.decided.Decisions.{AreRight, IsChange, day_seen, plain_same, meta_same}
 
 module _ (first : ℤ) (acts : List Act) (key : Key) (l : LotId) (s : Slice) (slice : IsSlice first (record { key = key; command = Release l }) acts (tables_of first acts) s) where
@@ -84,10 +83,10 @@ module _ (first : ℤ) (acts : List Act) (key : Key) (l : LotId) (s : Slice) (sl
       }
 
   abbrev puts : List ReservedRow
-  puts = rows_to_put s.rows.reserved (release_shares s l)
+  puts = (release_replanned s l).put
 
   abbrev drops : List ReservedRow
-  drops = rows_to_drop g s.rows.reserved (release_shares s l)
+  drops = (release_replanned s l).dropped
 
   abbrev release_change : Change
   release_change = record {

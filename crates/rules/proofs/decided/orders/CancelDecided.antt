@@ -24,7 +24,7 @@ use Rattle.machine.proofs.histories.Accepted.{room_for_acts, cancel_accepted}
 use Rattle.rules.proofs.rows.TableSteps.{AreNamed, names_changed, reserved_changed}
 use Rattle.rules.proofs.rows.OrderTold.{found_order_row}
 use Rattle.rules.proofs.rows.OrderItems.{items_told, items_apart}
-use Rattle.rules.proofs.rows.ItemsReplanned.{items_replanned, items_put_once}
+use Rattle.rules.proofs.rows.replanned.EachItem.{items_replanned, items_put_once}
 use Rattle.rules.proofs.decided.Decisions.{AreRight, IsChange, day_seen, meta_same, plain_same}
 use Rattle.rules.proofs.decided.orders.CancelJudged.{cancel_judged}
 use Rattle.rules.proofs.decided.orders.CancelStep.{row_of, new_row, cancel_change, cancel_step}

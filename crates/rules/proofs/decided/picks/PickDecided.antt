@@ -84,6 +84,9 @@ module _ (first : ℤ) (acts : List Act) (key : Key) (p : Picking) (s : Slice) (
   touched : same_text p.lot.gtin p.lot.gtin ≡ true
   touched = same_text_refl p.lot.gtin
 
+  own : same_text p.order p.order && is_lot p.lot p.lot ≡ true
+  own = λ i. same_text_refl p.order i && is_lot_refl p.lot i
+
   in_bin_after : in_bin first after p.bin p.lot ≡ in_bin_seen s p.bin p.lot - p.qty
   in_bin_after =
       taken_out first acts after (next_number acts) p.lot p.bin p.qty legal (Stage p.order) refl (λ c. refl) there
@@ -120,7 +123,7 @@ module _ (first : ℤ) (acts : List Act) (key : Key) (p : Picking) (s : Slice) (
   own_taken = taken p.order p.lot ∙ (λ i. reserved first after p.order p.lot + (if same_text_refl p.order i && is_lot_refl p.lot i then p.qty else 0))
 
   left_told : units_left ≡ units_before - p.qty
-  left_told = ap (λ n. n - p.qty) (reserved_told first acts act s slice refl p.order p.lot touched)
+  left_told = ap (λ n. n - p.qty) (reserved_told first acts act s slice p.order p.lot own)
 
   left_is : reserved first after p.order p.lot ≡ units_left
   left_is = omega (arith, own_taken, left_told)
@@ -129,7 +132,7 @@ module _ (first : ℤ) (acts : List Act) (key : Key) (p : Picking) (s : Slice) (
   less = omega (arith, own_taken, left_told, some)
 
   found : reserved_found s.rows.reserved p.order p.lot ≡ share_row p.order p.lot units_before
-  found = found_reserved first acts act s slice refl p.order p.lot touched
+  found = found_reserved first acts act s slice p.order p.lot own
 
   abbrev put : List ReservedRow
   put = reserved_put p.order p.lot units_left

@@ -1,5 +1,5 @@
 -- A picking judged by its slice is judged as by the acts.
-use Rattle.std.proofs.Common.{◌≡◌, true, not, List, [], ◌∷◌, refl, ap, ◌∙◌}
+use Rattle.std.proofs.Common.{◌≡◌, true, ◌&&◌, not, List, [], ◌∷◌, refl, ap, ◌∙◌}
 use Rattle.std.specs.Prelude.{nat_lt, ℤ}
 use Rattle.values.specs.Values.{same_text}
 use Rattle.commands.specs.declared.key.Key.{Key}
@@ -7,6 +7,7 @@ use Rattle.commands.specs.declared.command.Picking.{Picking}
 use Rattle.commands.specs.declared.command.Command.TheVariants.{Pick}
 use Rattle.commands.specs.declared.refusal.Refusal.TheVariants.{UnknownItem, UnknownBin, UnknownLot, UnknownOrder, NoSuchLine, LotRecalled, LotExpired, LotHeld, NotStoreBin, OrderClosed, NotInBin, OverReserved}
 use Rattle.machine.specs.Acts.{Act}
+use Rattle.machine.specs.Postings.{is_lot}
 use Rattle.machine.specs.Standing.{lot_known, today}
 use Rattle.machine.specs.Once.{IsHistory}
 use Rattle.machine.specs.Tables.{tables_of}
@@ -34,6 +35,9 @@ module _ (first : ℤ) (acts : List Act) (key : Key) (p : Picking) (s : Slice) (
   named : same_text p.order p.order ≡ true
   named = same_text_refl p.order
 
+  own : same_text p.order p.order && is_lot p.lot p.lot ≡ true
+  own = λ i. named i && is_lot_refl p.lot i
+
   in_bin : same_text p.bin p.bin ≡ true
   in_bin = same_text_refl p.bin
 
@@ -54,4 +58,4 @@ module _ (first : ℤ) (acts : List Act) (key : Key) (p : Picking) (s : Slice) (
       ∷ (not (store_told first acts act s slice refl p.bin in_bin i), NotStoreBin)
       ∷ (not (open_told first acts act s slice p.order named i), OrderClosed)
       ∷ (nat_lt (in_bin_told first acts act s slice refl p.bin p.lot touched i) p.qty, NotInBin)
-      ∷ (nat_lt (reserved_told first acts act s slice refl p.order p.lot touched i) p.qty, OverReserved) ∷ [])
+      ∷ (nat_lt (reserved_told first acts act s slice p.order p.lot own i) p.qty, OverReserved) ∷ [])

@@ -23,8 +23,8 @@ use Rattle.machine.specs.KeyedRows.{same_cell, same_line, same_share, no_two}
 use Rattle.rules.specs.Slices.{IsSlice, in_bins}
 use Rattle.row_rules.specs.SeenLots.{stock_put, stock_rows_with}
 use Rattle.row_rules.specs.SeenStages.{staged_put, staged_rows_with}
-use Rattle.row_rules.specs.Plans.{rows_to_put, rows_to_drop, is_share_of}
-use Rattle.order_rules.specs.DecidedPick.{shares_with, changes_with}
+use Rattle.row_rules.specs.Plans.{is_share_of}
+use Rattle.order_rules.specs.DecidedPick.{replanned_with, changes_with}
 use Rattle.row_rules.specs.declared.slice.Slice.{Slice}
 use Rattle.machine.proofs.Tests.{same_text_refl, same_text_turned}
 use Rattle.machine.proofs.histories.Accepted.{room_for_acts}
@@ -36,7 +36,7 @@ use Rattle.rules.proofs.rows.DemandsTold.{TellsDemands}
 use Rattle.rules.proofs.rows.SuppliesTold.{TellsSupplies, in_stock}
 use Rattle.rules.proofs.rows.SliceDemands.{slice_tells_demands}
 use Rattle.rules.proofs.rows.SliceSupplies.{slice_tells_supplies, lots_with_stock}
-use Rattle.rules.proofs.rows.Replanned.{TouchesOnly, replanned, replanned_once}
+use Rattle.rules.proofs.rows.replanned.OneItem.{TouchesOnly, replanned, replanned_once}
 use Rattle.rules.proofs.decided.Decisions.{IsChange, day_seen, plain_same, meta_same}
 use Rattle.rules.proofs.decided.picks.StagingStep.{IsStaging, IsLeft, has_line_at, open_at, order_at, line_at, staging_step}
 
@@ -92,11 +92,11 @@ module _ (first : ℤ) (acts : List Act) (act : Act) (p : Picking) (from to : Pl
   only = record { own = touched; others = λ h e. staging.touches h ∙ same_text_turned h g ∙ e }
 
   -- planned anew, the rows put and dropped are those that differ
-  pub replanned_named : AreNamed first act acts (rows_to_put s.rows.reserved (shares_with s p stock staged)) (rows_to_drop g s.rows.reserved (shares_with s p stock staged))
+  pub replanned_named : AreNamed first act acts (replanned_with s p stock staged).put (replanned_with s p stock staged).dropped
   replanned_named =
       replanned first acts act s slice staging.planned next g only s.meta.day (day_seen first acts act s slice ∙ sym staging.day) s.rows.orders s.rows.lines staged_rows s.rows.lots s.rows.recalls s.rows.bins stock_rows demands_after supplies_after
 
-  pub replanned_put_once : no_two is_share_of (rows_to_put s.rows.reserved (shares_with s p stock staged)) ≡ true
+  pub replanned_put_once : no_two is_share_of (replanned_with s p stock staged).put ≡ true
   replanned_put_once =
       replanned_once first acts act s slice staging.planned next g only s.meta.day (day_seen first acts act s slice ∙ sym staging.day) s.rows.orders s.rows.lines staged_rows s.rows.lots s.rows.recalls s.rows.bins stock_rows demands_after supplies_after
 

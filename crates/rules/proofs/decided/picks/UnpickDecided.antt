@@ -16,8 +16,7 @@ use Rattle.rules.specs.Slices.{IsSlice}
 use Rattle.row_rules.specs.Seen.{capped}
 use Rattle.row_rules.specs.SeenLots.{in_bin_seen}
 use Rattle.row_rules.specs.SeenStages.{on_stage_seen}
-use Rattle.row_rules.specs.Plans.{rows_to_put, rows_to_drop}
-use Rattle.order_rules.specs.DecidedPick.{unpick_seen, unpick_changes, shares_with}
+use Rattle.order_rules.specs.DecidedPick.{unpick_seen, unpick_changes, replanned_with}
 use Rattle.row_rules.specs.declared.slice.Slice.{Slice}
 use Rattle.row_rules.specs.declared.slice.Change.{Change}
 use Rattle.row_rules.specs.declared.slice.RuleFault.{RuleFault}
@@ -107,7 +106,7 @@ module _ (first : ℤ) (acts : List Act) (key : Key) (p : Picking) (s : Slice) (
   unpick_changed : IsChange first act acts (unpick_changes s p)
   unpick_changed =
       staging_changed first acts act p (Stage p.order) (InBin p.bin) staging s slice next in_bin_left staged_left left
-      (rows_to_put s.rows.reserved (shares_with s p in_bin_left staged_left)) (rows_to_drop p.lot.gtin s.rows.reserved (shares_with s p in_bin_left staged_left))
+      (replanned_with s p in_bin_left staged_left).put (replanned_with s p in_bin_left staged_left).dropped
       (replanned_named first acts act p (Stage p.order) (InBin p.bin) staging s slice next in_bin_left staged_left left)
       (replanned_put_once first acts act p (Stage p.order) (InBin p.bin) staging s slice next in_bin_left staged_left left)
 

@@ -1,0 +1,52 @@
+-- Behind the first demands, for which one demand stands, the shares are those of the demands that follow: the one has none, since no
+-- order has its number.
+use Rattle.std.proofs.Common.{◌≡◌, ℕ, true, false, not, List, [], ◌∷◌, ◌++◌, take, drop, refl, ap, ◌∙◌, arith}
+use Rattle.std.specs.Prelude.{◌==◌, if◌then◌else◌, ℤ, Some, None, find}
+use Rattle.std.specs.List.{cons_option}
+use Rattle.commands.specs.declared.rows.OrderRow.{OrderRow}
+use Rattle.commands.specs.declared.rows.LotRow.{LotRow}
+use Rattle.plan.specs.declared.Demand.{Demand}
+use Rattle.plan.specs.declared.Supply.{Supply}
+use Rattle.plan.specs.declared.Row.{Row}
+use Rattle.plan.specs.Overlap.{Stretch, overlap, row_of, rows_of_demand, rows_from, supplies_laid, demand_total}
+use Rattle.plan.proofs.Parting.{one_in_front}
+use Rattle.machine.specs.Acts.{Act}
+use Rattle.machine.specs.Standing.{Placed, order_named}
+use Rattle.machine.specs.Planning.{order_state}
+use Rattle.machine.specs.Tables.{order_row}
+use Rattle.machine.specs.KeyedRows.{AreOwn}
+use Rattle.row_rules.specs.Plans.{named_row, named_rows}
+use Rattle.row_rules.specs.Replanning.{shares_behind}
+use Rattle.machine.proofs.Numbers.{unequal_below}
+use Rattle.rules.proofs.rows.Telling.{some_of_mapped}
+use Rattle.rules.proofs.rows.replanned.Known.{numbered_from_one}
+
+module _ (first : ℤ) (acts : List Act) where
+  not_zero : (r : OrderRow) → order_row first acts r.order ≡ Some r → (0 == r.act) ≡ false
+  not_zero r e =
+      let m = some_of_mapped (λ (p : Placed). record { order = p.order; act = p.act; customer = p.customer; state = order_state first acts p.order }) (order_named acts r.order) r e in
+      unequal_below 0 r.act (omega (arith, numbered_from_one acts r.order m.0 m.1, ap (λ (x : OrderRow). x.act) m.2))
+
+  nobody : (rows : List OrderRow) → AreOwn (λ (r : OrderRow). r.order) (λ o. true) (order_row first acts) rows → find (λ (o : OrderRow). 0 == o.act) rows ≡ None
+  nobody [] own = refl
+  nobody (r ∷ rs) own = ap (λ b. if b then Some r else find (λ (o : OrderRow). 0 == o.act) rs) (not_zero r own.1) ∙ nobody rs own.2
+
+module _ (orders : List OrderRow) (lots : List LotRow) (none : find (λ (o : OrderRow). 0 == o.act) orders ≡ None) (rest : List Row) where
+  abbrev one : ℕ → Stretch
+  one stop = record { name = 0; start = 0; stop = stop }
+
+  unnamed : (stop : ℕ) (ss : List Stretch) → named_rows orders lots (rows_of_demand ss (one stop) ++ rest) ≡ named_rows orders lots rest
+  unnamed stop [] = refl
+  unnamed stop (s ∷ ss) =
+      elim (overlap (one stop) s == 0) as (λ b. named_rows orders lots ((if not b then row_of (one stop) s ∷ rows_of_demand ss (one stop) else rows_of_demand ss (one stop)) ++ rest) ≡ named_rows orders lots rest) [
+        | true ↦ unnamed stop ss
+        | false ↦
+            ap (λ x. cons_option (named_row x (find (λ (k : LotRow). s.name == k.came) lots) (overlap (one stop) s)) (named_rows orders lots (rows_of_demand ss (one stop) ++ rest))) none
+            ∙ unnamed stop ss
+      ]
+
+pub behind_are : (first : ℤ) (acts : List Act) (orders : List OrderRow) → AreOwn (λ (r : OrderRow). r.order) (λ o. true) (order_row first acts) orders
+    → (lots : List LotRow) (n : ℕ) (ds : List Demand) (ss : List Supply) → shares_behind n orders lots ds ss ≡ named_rows orders lots (rows_from (demand_total (take n ds)) (drop n ds) ss)
+behind_are first acts orders own lots n ds ss =
+    ap (named_rows orders lots) (one_in_front n ds ss)
+    ∙ unnamed orders lots (nobody first acts orders own) (rows_from (demand_total (take n ds)) (drop n ds) ss) (demand_total (take n ds)) (supplies_laid 0 ss)

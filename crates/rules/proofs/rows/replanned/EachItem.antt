@@ -1,0 +1,88 @@
+-- An act that plans and touches several items: rows that tell the demands and supplies of each after the act tell which reserved rows differ.
+use Rattle.std.proofs.Common.{◌≡◌, ℕ, true, false, List, [], ◌∷◌, ap, sym, ◌∙◌}
+use Rattle.std.specs.Prelude.{◌||◌, ℤ, flat_map}
+use Rattle.std.specs.List.{list_any}
+use Rattle.values.specs.Values.{same_text}
+use Rattle.values.specs.declared.lot.LotId.{LotId}
+use Rattle.commands.specs.declared.rows.BinRow.{BinRow}
+use Rattle.commands.specs.declared.rows.LotRow.{LotRow}
+use Rattle.commands.specs.declared.rows.RecallRow.{RecallRow}
+use Rattle.commands.specs.declared.rows.StockRow.{StockRow}
+use Rattle.commands.specs.declared.rows.OrderRow.{OrderRow}
+use Rattle.commands.specs.declared.rows.LineRow.{LineRow}
+use Rattle.commands.specs.declared.rows.StagedRow.{StagedRow}
+use Rattle.commands.specs.declared.rows.ReservedRow.{ReservedRow}
+use Rattle.machine.specs.Acts.{Act}
+use Rattle.machine.specs.Postings.{of_item}
+use Rattle.machine.specs.Standing.{today}
+use Rattle.machine.specs.Planning.{reserved}
+use Rattle.machine.specs.Once.{IsHistory}
+use Rattle.machine.specs.Tables.{tables_of}
+use Rattle.machine.specs.Touched.{is_touched}
+use Rattle.machine.specs.KeyedRows.{no_two}
+use Rattle.rules.specs.Slices.{IsSlice, plans}
+use Rattle.row_rules.specs.Plans.{is_share_of}
+use Rattle.row_rules.specs.Replanning.{item_replanned}
+use Rattle.row_rules.specs.declared.slice.Slice.{Slice}
+use Rattle.machine.proofs.Tests.{or_later, same_text_refl}
+use Rattle.machine.proofs.histories.Picks.{Each}
+use Rattle.rules.proofs.rows.TableSteps.{IsNamed, AreNamed}
+use Rattle.rules.proofs.rows.ItemsNamed.{AllOf, items_named, items_once}
+use Rattle.rules.proofs.rows.DemandsTold.{TellsDemands}
+use Rattle.rules.proofs.rows.SuppliesTold.{TellsSupplies}
+use Rattle.rules.proofs.rows.replanned.Changed.{own_named, none_named, all_put_of, puts_once}
+
+module _ {X : Type 0} (item : X → List ℕ) (first : ℤ) (acts : List Act) (act : Act) (s : Slice) (slice : IsSlice first act acts (tables_of first acts) s) (planned : plans act.command ≡ true) (next : IsHistory first (act ∷ acts))
+    (all : List X) (apart : no_two (λ x y. same_text (item x) (item y)) all ≡ true) (touched_are : (g : List ℕ) → list_any (λ x. same_text g (item x)) all ≡ is_touched first act acts g)
+    (day : ℤ) (day_is : day ≡ today first (act ∷ acts))
+    (orders : List OrderRow) (lines : List LineRow) (staged : List StagedRow) (lots : List LotRow) (recalls : List RecallRow) (bins : List BinRow) (stock : List StockRow)
+    (demands : (g : List ℕ) → is_touched first act acts g ≡ true → TellsDemands first (act ∷ acts) g orders lines staged)
+    (supplies : (g : List ℕ) → is_touched first act acts g ≡ true → TellsSupplies first (act ∷ acts) g lots recalls stock bins) where
+  abbrev after : List Act
+  after = act ∷ acts
+
+  abbrev puts_of : List ℕ → List ReservedRow
+  puts_of g = (item_replanned s day orders lines staged lots recalls bins stock g).put
+
+  abbrev drops_of : List ℕ → List ReservedRow
+  drops_of g = (item_replanned s day orders lines staged lots recalls bins stock g).dropped
+
+  abbrev pub puts : List X → List ReservedRow
+  puts xs = flat_map (λ x. puts_of (item x)) xs
+
+  abbrev pub drops : List X → List ReservedRow
+  drops xs = flat_map (λ x. drops_of (item x)) xs
+
+  module _ (g : List ℕ) (touched : is_touched first act acts g ≡ true) where
+    own_of : (q : List ℕ) (l : LotId) → of_item g l ≡ true → IsNamed q l (reserved first acts q l) (reserved first after q l) (puts_of g) (drops_of g)
+    own_of = own_named first acts act s slice planned next g touched day day_is orders lines staged lots recalls bins stock (demands g touched) (supplies g touched)
+
+    none_of : (q : List ℕ) (l : LotId) → of_item g l ≡ false → IsNamed q l 0 0 (puts_of g) (drops_of g)
+    none_of = none_named first acts act s slice planned next g touched day day_is orders lines staged lots recalls bins stock (demands g touched) (supplies g touched)
+
+    all_of : AllOf g (puts_of g)
+    all_of = all_put_of first acts act s slice planned next g touched day day_is orders lines staged lots recalls bins stock (demands g touched) (supplies g touched)
+
+    once_of : no_two is_share_of (puts_of g) ≡ true
+    once_of = puts_once first acts act s slice planned next g touched day day_is orders lines staged lots recalls bins stock (demands g touched) (supplies g touched)
+
+  abbrev IsTouched : X → Type 0
+  IsTouched x = is_touched first act acts (item x) ≡ true
+
+  all_touched : (xs : List X) → ((g : List ℕ) → list_any (λ x. same_text g (item x)) xs ≡ true → is_touched first act acts g ≡ true) → Each IsTouched xs
+  all_touched [] h = tt
+  all_touched (x ∷ xs) h = (h (item x) (ap (λ b. b || list_any (λ y. same_text (item x) (item y)) xs) (same_text_refl (item x))), all_touched xs (λ g e. h g (or_later (same_text g (item x)) _ e)))
+
+  are_touched : Each IsTouched all
+  are_touched = all_touched all (λ g e. sym (touched_are g) ∙ e)
+
+  -- each reservation is named where it changes
+  pub items_replanned : AreNamed first act acts (puts all) (drops all)
+  items_replanned =
+      items_named item first acts act IsTouched (λ x. puts_of (item x)) (λ x. drops_of (item x)) (λ x t. own_of (item x) t) (λ x t. none_of (item x) t) all are_touched apart touched_are next
+
+  -- no row is put twice
+  pub items_put_once : no_two is_share_of (puts all) ≡ true
+  items_put_once =
+      items_once item first acts act IsTouched (λ x. puts_of (item x)) (λ x. drops_of (item x)) (λ x t. own_of (item x) t) (λ x t. none_of (item x) t)
+      (λ x t. all_of (item x) t) (λ x t. once_of (item x) t) all are_touched apart
