@@ -1,8 +1,7 @@
 -- New items and bins are decided as the machine decides them.
 use Rattle.std.proofs.Common.{◌≡◌, ℕ, List, [], ◌∷◌, refl, ap, ◌∙◌}
-use Rattle.std.specs.Prelude.{◌||◌, nat_le, ℤ, None, Result, find}
+use Rattle.std.specs.Prelude.{◌||◌, ℤ, None, Result, find}
 use Rattle.values.specs.Values.{same_text}
-use Rattle.commands.specs.declared.limits.TheConstants.{ITEMS_MAX, BINS_MAX}
 use Rattle.commands.specs.declared.key.Key.{Key}
 use Rattle.commands.specs.declared.refusal.Refusal.TheVariants.{ItemExists, BinExists}
 use Rattle.commands.specs.declared.command.NewItem.{NewItem}
