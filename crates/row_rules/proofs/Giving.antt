@@ -1,6 +1,6 @@
 -- What is made of rows that are given by their texts is what is made of all rows.
-use Rattle.std.proofs.Common.{◌≡◌, ℕ, Bool, false, ◌&&◌, List, refl, ap, ◌∙◌}
-use Rattle.std.specs.Prelude.{if◌then◌else◌, not, min, map, filter, find, Result, Ok, Err, IfOk, Vec, ℤ}
+use Rattle.std.proofs.Common.{◌≡◌, ℕ, ◌&&◌, List, ap, ◌∙◌}
+use Rattle.std.specs.Prelude.{if◌then◌else◌, not, map, filter, find, Result, Ok, Err, IfOk, Vec, ℤ}
 use Rattle.std.specs.List.{list_any}
 use Rattle.std.proofs.lemmas.List.Elements.{filter_agree}
 use Rattle.values.specs.Values.{same_text}
@@ -19,7 +19,7 @@ use Rattle.machine.specs.Standing.{is_expired}
 use Rattle.machine.proofs.Tests.{and_both, and_first_false, and_later_false}
 use Rattle.row_rules.specs.Seen.{capped}
 use Rattle.row_rules.specs.Status.{is_free}
-use Rattle.row_rules.specs.Plans.{staged_seen, line_need, need_seen, demand_seen, is_store_found, store_seen, supply_seen, is_usable, is_share_of, has_qty, rows_to_put, rows_to_drop}
+use Rattle.row_rules.specs.Plans.{staged_seen, line_need, demand_seen, is_store_found, store_seen, supply_seen, is_usable, is_share_of, has_qty, rows_to_put, rows_to_drop}
 use Rattle.row_rules.specs.LookUps.{GivesRows, in_store_given, store_given}
 use Rattle.row_rules.proofs.LookingUp.{find_given, any_given, total_given, total_agree, map_agree}
 

@@ -5,6 +5,7 @@ pub mod Making
 pub mod Gathering
 pub mod GatheringShares
 pub mod Cutting
+pub mod BehindCut
 pub mod Naming
 pub mod LookingUp
 pub mod Giving

@@ -1,5 +1,5 @@
 -- The plan of an item as rows tell it, and the reserved rows that it changes.
-use Rattle.std.specs.Prelude.{ℕ, ◌-◌, min, Bool, false, not, ◌&&◌, ◌||◌, ◌==◌, nat_lt, if◌then◌else◌, List, [], ◌∷◌, map, filter, find, Option, Some, None, is_some, ℤ, int_lt}
+use Rattle.std.specs.Prelude.{ℕ, ◌-◌, min, Bool, false, not, ◌&&◌, ◌||◌, ◌==◌, nat_lt, if◌then◌else◌, List, [], ◌∷◌, map, filter, find, Option, Some, None, ℤ, int_lt}
 use Rattle.std.specs.List.{list_any, cons_option}
 use Rattle.values.specs.Values.{same_text}
 use Rattle.values.specs.declared.lot.LotId.{LotId}
@@ -121,8 +121,3 @@ rows_to_put olds news = filter (λ n. not (has_qty (find (is_share_of n) olds) n
 -- the old rows of the item that are there no more
 abbrev pub rows_to_drop : List ℕ → List ReservedRow → List ReservedRow → List ReservedRow
 rows_to_drop g olds news = filter (λ r. of_item g r.lot && not (list_any (is_share_of r) news)) olds
-
--- What these rows reserve of an item, some of them as they are after an act
-abbrev pub shares_over : List ℕ → ℤ → List OrderRow → List LineRow → List StagedRow → List LotRow → List RecallRow → List BinRow → List StockRow → List ReservedRow
-shares_over g day orders lines staged lots recalls bins stock =
-    named_rows orders lots (plan_within (demands_seen g lines staged orders) (supplies_seen g day recalls bins stock lots))

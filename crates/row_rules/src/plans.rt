@@ -2,8 +2,10 @@
 
 ghost use Rattle.std.specs.Prelude.{◌≡◌, ◌==◌, ◌&&◌, [], ◌∷◌, min, not, filter, find, IfOk};
 ghost use Rattle.std.specs.List.{list_any};
+ghost use Rattle.plan.specs.Limits.{AreSmall};
+ghost use Rattle.plan.specs.declared.TheConstants.{SUM_MAX};
 ghost use Rattle.machine.specs.Postings.{of_item};
-ghost use Rattle.row_rules.specs.Plans.{plan_within as plan_within_lem, named_row, named_rows as named_rows_lem, is_share_of, has_qty, shares_over as shares_over_lem, rows_to_put as rows_to_put_lem, rows_to_drop as rows_to_drop_lem};
+ghost use Rattle.row_rules.specs.Plans.{demands_seen as demands_seen_lem, supplies_seen as supplies_seen_lem, demands_within, supplies_within, plan_within, named_row, named_rows as named_rows_lem, is_share_of, has_qty, rows_to_put as rows_to_put_lem, rows_to_drop as rows_to_drop_lem};
 ghost use Rattle.row_rules.specs.LookUps.{rows_given, row_given, rows_named};
 
 use crate::Rows;
@@ -12,7 +14,9 @@ use crate::look_ups::{RowsByNumber, RowsByText, by_number, by_text};
 use crate::looking::is_same_lot;
 use crate::pushing::{push_found, push_if};
 use crate::supplies::{cut_supplies, supplies_seen};
-use commands::{BinRow, LineRow, LotRow, OrderRow, RecallRow, ReservedRow, StagedRow, StockRow};
+use commands::{
+    BinRow, LineRow, Listed, LotRow, OrderRow, RecallRow, ReservedRow, StagedRow, StockRow,
+};
 use label::BusinessDay;
 use plan::{Demand, Plan, Row, SUM_MAX, Supply, whole};
 use std::alloc::{AllocError, Global};
@@ -51,14 +55,23 @@ pub fn item_rows(rows: &Rows) -> ItemRows<'_>
     }
 }
 
-/// What these rows reserve of an item.
-pub fn shares_over(
+/// The demands for an item and the supplies of it, each list up to the limit of its sum.
+#[derive(Drop)]
+pub struct ItemLists {
+    pub demands: Listed<Demand>,
+    pub supplies: Listed<Supply>,
+}
+
+/// The demands and supplies that these rows tell of an item.
+pub fn item_lists(
     alloc: Global,
     gtin: &Gtin,
     day: BusinessDay,
     rows: &ItemRows<'_>,
-) -> Result<Vec<ReservedRow>, AllocError>
-    ensures { IfOk result (λ v. v.items ≡ shares_over_lem gtin.now day rows.now.orders.now rows.now.lines.now rows.now.staged.now rows.now.lots.now rows.now.recalls.now rows.now.bins.now rows.now.stock.now) }
+) -> Result<ItemLists, AllocError>
+    ensures demands { IfOk result (λ l. l.demands ≡ demands_within SUM_MAX (demands_seen_lem gtin.now rows.now.lines.now rows.now.staged.now rows.now.orders.now)) }
+    ensures supplies { IfOk result (λ l. l.supplies ≡ supplies_within SUM_MAX (supplies_seen_lem gtin.now day rows.now.recalls.now rows.now.bins.now rows.now.stock.now rows.now.lots.now)) }
+    ensures small { IfOk result (λ l. AreSmall l.demands l.supplies) }
 {
     let demands = demands_seen(alloc, gtin, rows.lines, rows.staged, rows.orders)?;
     let supplies = supplies_seen(
@@ -70,22 +83,12 @@ pub fn shares_over(
         rows.stock,
         rows.lots,
     )?;
-    planned_rows(
-        alloc,
-        rows.orders,
-        rows.lots,
-        demands.as_slice(),
-        supplies.as_slice(),
-    )
-}
-
-// The plan of demands over supplies, each up to the limit of a list's sum.
-fn plan_within(alloc: Global, demands: &[Demand], supplies: &[Supply]) -> Result<Plan, AllocError>
-    ensures { IfOk result (λ plan. plan ≡ plan_within_lem demands.now supplies.now) }
-{
-    let wanted = cut_demands(alloc, demands)?;
-    let offered = cut_supplies(alloc, supplies)?;
-    whole(alloc, wanted.as_slice(), offered.as_slice())
+    let wanted = cut_demands(alloc, demands.as_slice())?;
+    let offered = cut_supplies(alloc, supplies.as_slice())?;
+    Ok(ItemLists {
+        demands: Listed::from_vec(wanted),
+        supplies: Listed::from_vec(offered),
+    })
 }
 
 /// The plan of two demands over supplies, up to the limit of a list's sum: the last is booked behind
@@ -96,7 +99,7 @@ pub fn plan_with_last(
     last: Demand,
     supplies: &[Supply],
 ) -> Result<Plan, AllocError>
-    ensures { IfOk result (λ plan. plan ≡ plan_within_lem (before ∷ last ∷ []) supplies.now) }
+    ensures { IfOk result (λ plan. plan ≡ plan_within (before ∷ last ∷ []) supplies.now) }
 {
     let offered = cut_supplies(alloc, supplies)?;
     let room = SUM_MAX.saturating_sub(before.need);
@@ -114,20 +117,6 @@ fn within(demand: Demand, room: u64) -> Demand
         booking: demand.booking,
         need: demand.need.min(room),
     }
-}
-
-// What the plan of demands over supplies reserves, by the names of orders and lots.
-fn planned_rows(
-    alloc: Global,
-    orders: &[OrderRow],
-    lots: &[LotRow],
-    demands: &[Demand],
-    supplies: &[Supply],
-) -> Result<Vec<ReservedRow>, AllocError>
-    ensures { IfOk result (λ v. v.items ≡ named_rows_lem orders.now lots.now (plan_within_lem demands.now supplies.now)) }
-{
-    let plan = plan_within(alloc, demands, supplies)?;
-    named_rows(alloc, orders, lots, plan.rows())
 }
 
 /// The plan's rows by the names of orders and lots.

@@ -1,12 +1,19 @@
-//! The plans of several items after an act.
+//! The plans of items changed in place by an act.
 
-ghost use Rattle.std.specs.Prelude.{◌≡◌, flat_map, IfOk};
-ghost use Rattle.row_rules.specs.Plans.{rows_to_put as rows_to_put_lem, rows_to_drop as rows_to_drop_lem};
-ghost use Rattle.row_rules.specs.Replanning.{item_put, item_dropped};
+ghost use Rattle.std.specs.Prelude.{◌≡◌, ◌≤◌, length, flat_map, IfOk};
+ghost use Rattle.plan.specs.Changes.{cut_of};
+ghost use Rattle.plan.specs.Limits.{AreSmall};
+ghost use Rattle.plan.specs.Overlap.{demand_total};
+ghost use Rattle.plan.specs.declared.TheConstants.{SUM_MAX};
+ghost use Rattle.row_rules.specs.Replanning.{first_as_one as first_as_one_lem, shares_behind, shares_changed as shares_changed_lem, item_replanned};
 
-use crate::plans::{ItemRows, rows_to_drop, rows_to_put, shares_over};
+use crate::Slice;
+use crate::plans::{
+    ItemLists, ItemRows, item_lists, item_rows, named_rows, rows_to_drop, rows_to_put,
+};
 use commands::{Listed, ReservedRow};
 use label::BusinessDay;
+use plan::{Demand, cut, sum_of_needs, whole};
 use std::alloc::{AllocError, Global};
 use values::Gtin;
 
@@ -17,21 +24,21 @@ pub struct Replanned {
     pub dropped: Listed<ReservedRow>,
 }
 
-/// What the plans of these items change of the reserved rows, item after item.
+/// What an act changes of the reserved rows of these items, item after item. `rows` are the rows after it.
 pub fn replan_items(
     alloc: Global,
+    slice: &Slice,
     gtins: &[Gtin],
     day: BusinessDay,
     rows: &ItemRows<'_>,
-    olds: &[ReservedRow],
 ) -> Result<Replanned, AllocError>
-    ensures put { IfOk result (λ r. r.put ≡ flat_map (item_put day rows.now.orders.now rows.now.lines.now rows.now.staged.now rows.now.lots.now rows.now.recalls.now rows.now.bins.now rows.now.stock.now olds.now) gtins.now) }
-    ensures dropped { IfOk result (λ r. r.dropped ≡ flat_map (item_dropped day rows.now.orders.now rows.now.lines.now rows.now.staged.now rows.now.lots.now rows.now.recalls.now rows.now.bins.now rows.now.stock.now olds.now) gtins.now) }
+    ensures put { IfOk result (λ r. r.put ≡ flat_map (λ g. (item_replanned slice.now day rows.now.orders.now rows.now.lines.now rows.now.staged.now rows.now.lots.now rows.now.recalls.now rows.now.bins.now rows.now.stock.now g).put) gtins.now) }
+    ensures dropped { IfOk result (λ r. r.dropped ≡ flat_map (λ g. (item_replanned slice.now day rows.now.orders.now rows.now.lines.now rows.now.staged.now rows.now.lots.now rows.now.recalls.now rows.now.bins.now rows.now.stock.now g).dropped) gtins.now) }
 {
     let mut put = Vec::new(alloc);
     let mut dropped = Vec::new(alloc);
     for gtin in gtins {
-        let item = replan_item(alloc, gtin, day, rows, olds)?;
+        let item = replan_item(alloc, slice, gtin, day, rows)?;
         put.extend_from_slice(item.put.as_slice())?;
         dropped.extend_from_slice(item.dropped.as_slice())?;
     }
@@ -41,30 +48,84 @@ pub fn replan_items(
     })
 }
 
-/// What the plan of an item changes of the reserved rows.
+/// What an act changes of the reserved rows of an item. `rows` are the rows after it.
 pub fn replan_item(
     alloc: Global,
+    slice: &Slice,
     gtin: &Gtin,
     day: BusinessDay,
     rows: &ItemRows<'_>,
-    olds: &[ReservedRow],
 ) -> Result<Replanned, AllocError>
-    ensures put { IfOk result (λ r. r.put ≡ item_put day rows.now.orders.now rows.now.lines.now rows.now.staged.now rows.now.lots.now rows.now.recalls.now rows.now.bins.now rows.now.stock.now olds.now gtin.now) }
-    ensures dropped { IfOk result (λ r. r.dropped ≡ item_dropped day rows.now.orders.now rows.now.lines.now rows.now.staged.now rows.now.lots.now rows.now.recalls.now rows.now.bins.now rows.now.stock.now olds.now gtin.now) }
+    ensures { IfOk result (λ r. r ≡ item_replanned slice.now day rows.now.orders.now rows.now.lines.now rows.now.staged.now rows.now.lots.now rows.now.recalls.now rows.now.bins.now rows.now.stock.now gtin.now) }
 {
-    let shares = shares_over(alloc, gtin, day, rows)?;
-    shares_changed(alloc, gtin, olds, shares.as_slice())
+    let old_rows = item_rows(&slice.rows);
+    let before = item_lists(alloc, gtin, slice.meta.day, &old_rows)?;
+    let after = item_lists(alloc, gtin, day, rows)?;
+    let shares = shares_behind_cut(alloc, &old_rows, &before, rows, &after)?;
+    shares_changed(
+        alloc,
+        gtin,
+        shares.before.as_slice(),
+        shares.after.as_slice(),
+    )
 }
 
-/// What changes of the reserved rows where these are the new ones of an item.
-pub fn shares_changed(
+// What is reserved before and after of the demands behind the cut.
+#[derive(Drop)]
+struct Shares {
+    before: Vec<ReservedRow>,
+    after: Vec<ReservedRow>,
+}
+
+fn shares_behind_cut(
+    alloc: Global,
+    old_rows: &ItemRows<'_>,
+    before: &ItemLists,
+    rows: &ItemRows<'_>,
+    after: &ItemLists,
+) -> Result<Shares, AllocError>
+    requires before { AreSmall before.now.demands before.now.supplies }
+    requires after { AreSmall after.now.demands after.now.supplies }
+    ensures before { IfOk result (λ r. r.before.items ≡ shares_behind (cut_of before.now.demands before.now.supplies after.now.demands after.now.supplies) old_rows.now.orders.now old_rows.now.lots.now before.now.demands before.now.supplies) }
+    ensures after { IfOk result (λ r. r.after.items ≡ shares_behind (cut_of before.now.demands before.now.supplies after.now.demands after.now.supplies) rows.now.orders.now rows.now.lots.now after.now.demands after.now.supplies) }
+{
+    let wanted = before.demands.as_slice();
+    let offered = before.supplies.as_slice();
+    let wants = after.demands.as_slice();
+    let offers = after.supplies.as_slice();
+    let kept = cut(wanted, offered, wants, offers);
+    let old_demands = first_as_one(alloc, kept, wanted)?;
+    let demands = first_as_one(alloc, kept, wants)?;
+    let mut plan = whole(alloc, old_demands.as_slice(), offered)?;
+    let before = named_rows(alloc, old_rows.orders, old_rows.lots, plan.rows())?;
+    plan.replan(1, demands.as_slice(), offers)?;
+    let after = named_rows(alloc, rows.orders, rows.lots, plan.rows())?;
+    Ok(Shares { before, after })
+}
+
+// The demands with one in the place of the first `count`.
+fn first_as_one(alloc: Global, count: usize, demands: &[Demand]) -> Result<Vec<Demand>, AllocError>
+    requires place { count ≤ length demands.now }
+    requires small { demand_total demands.now ≤ SUM_MAX }
+    ensures { IfOk result (λ v. v.items ≡ first_as_one_lem count demands.now) }
+{
+    let mut behind = Vec::new(alloc);
+    behind.push(Demand {
+        booking: 0,
+        need: sum_of_needs(&demands[..count]),
+    })?;
+    behind.extend_from_slice(&demands[count..])?;
+    Ok(behind)
+}
+
+// What changes of the reserved rows where an item has these before and those after.
+fn shares_changed(
     alloc: Global,
     gtin: &Gtin,
     olds: &[ReservedRow],
     news: &[ReservedRow],
 ) -> Result<Replanned, AllocError>
-    ensures put { IfOk result (λ r. r.put ≡ rows_to_put_lem olds.now news.now) }
-    ensures dropped { IfOk result (λ r. r.dropped ≡ rows_to_drop_lem gtin.now olds.now news.now) }
+    ensures { IfOk result (λ r. r ≡ shares_changed_lem gtin.now olds.now news.now) }
 {
     let put = rows_to_put(alloc, olds, news)?;
     let dropped = rows_to_drop(alloc, gtin, olds, news)?;

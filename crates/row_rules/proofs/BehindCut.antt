@@ -1,0 +1,21 @@
+-- One demand in the place of the first ones of a cut.
+use Rattle.std.proofs.Common.{◌≡◌, ℕ, List, ap, sym, subst, ◌∙◌, arith}
+use Rattle.plan.specs.declared.Demand.{Demand}
+use Rattle.plan.specs.declared.Supply.{Supply}
+use Rattle.plan.specs.declared.Row.{Row}
+use Rattle.plan.specs.Overlap.{plan_rows, demand_total}
+use Rattle.plan.specs.Limits.{AreSmall}
+use Rattle.plan.specs.Changes.{HasFront, IsCut}
+use Rattle.plan.proofs.OneInFront.{one_total, one_kept}
+use Rattle.row_rules.specs.Replanning.{first_as_one}
+
+-- the sums stay
+pub one_small : (n : ℕ) (ds : List Demand) (ss : List Supply) (es : List Demand) → es ≡ first_as_one n ds → AreSmall ds ss → AreSmall es ss
+one_small n ds ss es e h = record { demands = omega (arith, ap demand_total e, one_total n ds, h.demands); supplies = h.supplies }
+
+-- the first row of demands stays where one demand stands for those that do
+pub one_stays : (n : ℕ) (ds : List Demand) (ss : List Supply) (es : List Demand) (ts : List Supply) (was will : List Demand) (rows : List Row) → IsCut ds ss es ts n
+    → was ≡ first_as_one n ds → will ≡ first_as_one n es → rows ≡ plan_rows was ss → HasFront 1 will ts rows
+one_stays n ds ss es ts was will rows cut w e r =
+    let told : rows ≡ plan_rows (first_as_one n ds) ss = r ∙ ap (λ fs. plan_rows fs ss) w in
+    subst (λ all. HasFront 1 will ts all) (sym told) (subst (λ fs. HasFront 1 fs ts (plan_rows (first_as_one n ds) ss)) (sym e) (one_kept ds ss es ts n cut.front))
