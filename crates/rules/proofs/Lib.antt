@@ -1,3 +1,4 @@
 pub mod rows
 pub mod decided
 mod ExampleOrderDecisions
+mod ExampleReplanning

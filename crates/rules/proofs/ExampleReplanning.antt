@@ -1,0 +1,74 @@
+-- Items planned anew by the rows of a slice, in which no reserved rows are.
+use Rattle.std.specs.Prelude.{◌≡◌, ℤ, false, [], ◌∷◌, codes, refl}
+use Rattle.values.specs.declared.lot.LotId.{LotId}
+use Rattle.commands.specs.declared.command.BinKind.TheVariants.{Store}
+use Rattle.commands.specs.declared.key.Key.TheVariants.{Line}
+use Rattle.commands.specs.declared.rows.OrderState.TheVariants.{Open}
+use Rattle.goods_rules.specs.DecidedReceive.{receive_changes}
+use Rattle.order_rules.specs.DecidedCancel.{cancel_changes}
+use Rattle.lot_rules.specs.DecidedHold.{hold_changes}
+use Rattle.row_rules.specs.declared.slice.Slice.{Slice}
+use Rattle.row_rules.specs.declared.slice.Change.{Change}
+use Rattle.machine.proofs.examples.ExampleHistories.{may_4, may_10, may_31, june_30, july_31, OATS, A1, S1, S2, L0, L1, L2, lot_of}
+
+-- The first order has 10 units of L2, which expires first, and 2 of L1; the second has 8 of L1, and is short of 4.
+abbrev two_orders : Slice
+two_orders = record {
+  meta = record { day = may_4; acts = 9; shipments = 0 };
+  items = 2;
+  bins = 4;
+  rows = record {
+    items = record { gtin = OATS; name = codes "Oat drink" } ∷ [];
+    bins = record { name = A1; kind = Store } ∷ [];
+    lots = record { lot = L1; expiry = june_30; came = 6; held = false } ∷ record { lot = L2; expiry = may_31; came = 7; held = false } ∷ [];
+    recalls = [];
+    stock = record { lot = L1; bin = A1; qty = 10 } ∷ record { lot = L2; bin = A1; qty = 10 } ∷ [];
+    orders = record { order = S1; act = 8; customer = codes "Corner Shop"; state = Open } ∷ record { order = S2; act = 9; customer = codes "Harbour Cafe"; state = Open } ∷ [];
+    lines = record { order = S1; gtin = OATS; ordered = 12; shipped = 0 } ∷ record { order = S2; gtin = OATS; ordered = 12; shipped = 0 } ∷ [];
+    staged = [];
+    reserved = [];
+  };
+}
+
+abbrev received : LotId → ℤ → Change
+received lot expiry = receive_changes two_orders (Line (codes "D-2") 1) (record { lot = lot; expiry = expiry; bin = A1; qty = 5 })
+
+-- a lot that expires first is used first, and all that is behind it moves
+an_early_lot_moves_both_orders :
+    (received L0 may_10).put.reserved
+    ≡ record { order = S1; lot = L0; qty = 5 } ∷ record { order = S1; lot = L2; qty = 7 } ∷ record { order = S2; lot = L2; qty = 3 } ∷ record { order = S2; lot = L1; qty = 9 } ∷ []
+an_early_lot_moves_both_orders = refl
+
+an_early_lot_frees_the_last_one : (received L0 may_10).dropped.reserved ≡ record { order = S1; lot = L1; qty = 2 } ∷ []
+an_early_lot_frees_the_last_one = refl
+
+-- one that expires last serves what is short, and no other row changes
+abbrev L3 : LotId
+L3 = lot_of OATS (codes "L3")
+
+a_late_lot_serves_what_is_short : (received L3 july_31).put.reserved ≡ record { order = S2; lot = L3; qty = 4 } ∷ []
+a_late_lot_serves_what_is_short = refl
+
+a_late_lot_drops_nothing : (received L3 july_31).dropped.reserved ≡ []
+a_late_lot_drops_nothing = refl
+
+-- the later order gives way to the earlier one
+a_hold_moves_the_first_order : (hold_changes two_orders L2).put.reserved ≡ record { order = S1; lot = L1; qty = 10 } ∷ []
+a_hold_moves_the_first_order = refl
+
+a_hold_takes_from_the_second : (hold_changes two_orders L2).dropped.reserved ≡ record { order = S1; lot = L2; qty = 10 } ∷ record { order = S2; lot = L1; qty = 8 } ∷ []
+a_hold_takes_from_the_second = refl
+
+-- the first order keeps its rows where the second is cancelled, and takes no more than it wants
+a_cancel_frees_its_own_row : (cancel_changes two_orders S2).dropped.reserved ≡ record { order = S2; lot = L1; qty = 8 } ∷ []
+a_cancel_frees_its_own_row = refl
+
+a_cancel_moves_no_earlier_order : (cancel_changes two_orders S2).put.reserved ≡ []
+a_cancel_moves_no_earlier_order = refl
+
+-- where the first is cancelled, the second is served in full
+a_cancel_serves_the_later_order : (cancel_changes two_orders S1).put.reserved ≡ record { order = S2; lot = L2; qty = 10 } ∷ record { order = S2; lot = L1; qty = 2 } ∷ []
+a_cancel_serves_the_later_order = refl
+
+a_cancel_drops_its_own_rows : (cancel_changes two_orders S1).dropped.reserved ≡ record { order = S1; lot = L2; qty = 10 } ∷ record { order = S1; lot = L1; qty = 2 } ∷ []
+a_cancel_drops_its_own_rows = refl
