@@ -9,7 +9,6 @@ use Rattle.commands.specs.declared.rows.CardKind.{CardKind}
 use Rattle.commands.specs.declared.rows.CardKind.TheVariants.{WriteOn, WriteOff}
 use Rattle.commands.specs.declared.rows.CardRow.{CardRow}
 use Rattle.commands.specs.declared.rows.StockRow.{StockRow}
-use Rattle.commands.specs.declared.rows.ReservedRow.{ReservedRow}
 use Rattle.machine.specs.Verdict.{Judgement, taken_off, put_on}
 use Rattle.commands.specs.Replies.{reply_text}
 use Rattle.commands.specs.declared.replies.ReplyField.TheVariants.{ChangedBy}

@@ -4,7 +4,6 @@ use Rattle.values.specs.Values.{same_text}
 use Rattle.commands.specs.declared.refusal.Refusal.TheVariants.{UnknownItem, UnknownBin, UnknownLot, NotInBin, SameBin}
 use Rattle.commands.specs.declared.command.Movement.{Movement}
 use Rattle.commands.specs.declared.rows.StockRow.{StockRow}
-use Rattle.commands.specs.declared.rows.ReservedRow.{ReservedRow}
 use Rattle.machine.specs.Verdict.{Judgement}
 use Rattle.row_rules.specs.Seen.{capped, sees_item, sees_bin, meta_after, plain_reply, none_put, none_dropped}
 use Rattle.row_rules.specs.SeenLots.{sees_lot, in_bin_seen, stock_put, stock_gone, stock_rows_with}

@@ -8,7 +8,6 @@ use Rattle.commands.specs.declared.rows.CardKind.TheVariants.{Receipt as Receipt
 use Rattle.commands.specs.declared.rows.CardRow.{CardRow}
 use Rattle.commands.specs.declared.rows.LotRow.{LotRow}
 use Rattle.commands.specs.declared.rows.StockRow.{StockRow}
-use Rattle.commands.specs.declared.rows.ReservedRow.{ReservedRow}
 use Rattle.machine.specs.Verdict.{Judgement}
 use Rattle.machine.specs.Postings.{is_lot}
 use Rattle.machine.specs.Standing.{is_expired}

@@ -2,21 +2,19 @@
 
 ghost use Rattle.std.specs.Prelude.{◌≡◌, IfOk};
 ghost use Rattle.machine.specs.Verdict.{first_refusal, taken_off as taken_off_lem, put_on as put_on_lem};
-ghost use Rattle.row_rules.specs.Plans.{rows_to_put, rows_to_drop};
 ghost use Rattle.row_rules.specs.Seen.{meta_after, none_put, none_dropped};
 ghost use Rattle.row_rules.specs.SeenLots.{in_bin_seen};
-ghost use Rattle.goods_rules.specs.DecidedCount.{count_seen, count_changes, adjust_seen, adjust_changes, is_over_without as is_over_without_lem, found_less as found_less_lem, stock_corrected, shares_corrected as shares_corrected_lem, correction_card as correction_card_lem, correction_cards as correction_cards_lem, change_reply as change_reply_lem, corrections as corrections_lem, units_adjusted as units_adjusted_lem};
+ghost use Rattle.goods_rules.specs.DecidedCount.{count_seen, count_changes, adjust_seen, adjust_changes, is_over_without as is_over_without_lem, found_less as found_less_lem, stock_corrected, correction_replanned as correction_replanned_lem, correction_card as correction_card_lem, correction_cards as correction_cards_lem, change_reply as change_reply_lem, corrections as corrections_lem, units_adjusted as units_adjusted_lem};
 
 use commands::limits::{CARD_NOTE_MAX, UNITS_MAX};
 use commands::{
-    Adjustment, CardKind, CardRow, Listed, Recount, Refusal, ReplyField, ReservedRow, Short,
-    StockRow, reply,
+    Adjustment, CardKind, CardRow, Listed, Recount, Refusal, ReplyField, Short, StockRow, reply,
 };
 use row_rules::cards::lot_units;
 use row_rules::changing::{meta_next, none_dropped, none_put, number_seen};
 use row_rules::judging::first_of;
-use row_rules::plans::{ItemRows, item_rows, shares_over};
-use row_rules::replanning::{Replanned, shares_changed};
+use row_rules::plans::{ItemRows, item_rows};
+use row_rules::replanning::{Replanned, replan_item};
 use row_rules::seeing::{sees_bin, sees_item};
 use row_rules::stock::{sees_lot, stock_gone, stock_put, stock_rows_with, units_in_bin};
 use row_rules::summing::{sum_of_staged, sum_of_stock};
@@ -173,7 +171,7 @@ fn corrections(alloc: Global, slice: &Slice, made: &Correction) -> Result<Change
     let put = stock_put(alloc, &made.lot, &made.bin, made.left)?;
     let gone = stock_gone(alloc, olds, &made.lot, &made.bin, made.left)?;
     let cards = correction_cards(alloc, slice, made, stock.as_slice())?;
-    let reserved = reserved_corrected(alloc, slice, made, stock.as_slice())?;
+    let reserved = correction_replanned(alloc, slice, made, stock.as_slice())?;
     Ok(corrected(alloc, slice, made, put, gone, cards, reserved))
 }
 
@@ -205,34 +203,19 @@ fn corrected(
 }
 
 // What changes of the reserved rows, where these are the stock rows after it.
-fn reserved_corrected(
+fn correction_replanned(
     alloc: Global,
     slice: &Slice,
     made: &Correction,
     stock: &[StockRow],
 ) -> Result<Replanned, AllocError>
-    ensures put { IfOk result (λ r. stock.now ≡ stock_corrected slice.now made.now.lot made.now.bin made.now.left → r.put ≡ rows_to_put slice.now.rows.reserved (shares_corrected_lem slice.now made.now.lot made.now.bin made.now.left)) }
-    ensures dropped { IfOk result (λ r. stock.now ≡ stock_corrected slice.now made.now.lot made.now.bin made.now.left → r.dropped ≡ rows_to_drop made.now.lot.gtin slice.now.rows.reserved (shares_corrected_lem slice.now made.now.lot made.now.bin made.now.left)) }
-{
-    let shares = shares_corrected(alloc, slice, made, stock)?;
-    let olds = slice.rows.reserved.as_slice();
-    shares_changed(alloc, &made.lot.gtin, olds, shares.as_slice())
-}
-
-// The reserved rows of the item after it, after which these are the stock rows.
-fn shares_corrected(
-    alloc: Global,
-    slice: &Slice,
-    made: &Correction,
-    stock: &[StockRow],
-) -> Result<Vec<ReservedRow>, AllocError>
-    ensures { IfOk result (λ v. stock.now ≡ stock_corrected slice.now made.now.lot made.now.bin made.now.left → v.items ≡ shares_corrected_lem slice.now made.now.lot made.now.bin made.now.left) }
+    ensures { IfOk result (λ r. stock.now ≡ stock_corrected slice.now made.now.lot made.now.bin made.now.left → r ≡ correction_replanned_lem slice.now made.now.lot made.now.bin made.now.left) }
 {
     let rows = ItemRows {
         stock,
         ..item_rows(&slice.rows)
     };
-    shares_over(alloc, &made.lot.gtin, slice.meta.day, &rows)
+    replan_item(alloc, slice, &made.lot.gtin, slice.meta.day, &rows)
 }
 
 // The card line of units written on or off, after which these are the stock rows.

@@ -4,20 +4,19 @@ ghost use Rattle.std.specs.Prelude.{◌≡◌, ◌&&◌, ◌∷◌, not, filter,
 ghost use Rattle.values.specs.Values.{same_text};
 ghost use Rattle.machine.specs.Postings.{is_lot};
 ghost use Rattle.machine.specs.Verdict.{first_refusal};
-ghost use Rattle.row_rules.specs.Plans.{rows_to_put, rows_to_drop};
 ghost use Rattle.row_rules.specs.Seen.{meta_after, none_put, none_dropped, plain_reply as plain_reply_lem, units_seen, expires_otherwise_than, is_over as is_over_lem};
-ghost use Rattle.goods_rules.specs.DecidedReceive.{receive_seen, receive_changes, receive_shares as receive_shares_lem, receive_card as receive_card_lem, stock_after as stock_after_lem, stock_rows_after as stock_rows_after_lem, lots_put as lots_put_lem, lots_if_new as lots_if_new_lem, new_lot_row as new_lot_row_lem, lot_rows_after as lot_rows_after_lem};
+ghost use Rattle.goods_rules.specs.DecidedReceive.{receive_seen, receive_changes, receive_replanned as receive_replanned_lem, receive_card as receive_card_lem, stock_after as stock_after_lem, stock_rows_after as stock_rows_after_lem, lots_put as lots_put_lem, lots_if_new as lots_if_new_lem, new_lot_row as new_lot_row_lem, lot_rows_after as lot_rows_after_lem};
 
 use commands::limits::UNITS_MAX;
-use commands::{CardKind, CardRow, Key, Listed, LotRow, Receipt, Refusal, ReservedRow, StockRow};
+use commands::{CardKind, CardRow, Key, Listed, LotRow, Receipt, Refusal, StockRow};
 use label::Day;
 use row_rules::cards::{delivery_note, lot_units};
 use row_rules::changing::{meta_next, none_dropped, none_put, number_seen, one, plain_reply};
 use row_rules::judging::first_of;
 use row_rules::looking::is_same_lot;
-use row_rules::plans::{ItemRows, item_rows, shares_over};
+use row_rules::plans::{ItemRows, item_rows};
 use row_rules::pushing::push_if;
-use row_rules::replanning::{Replanned, shares_changed};
+use row_rules::replanning::{Replanned, replan_item};
 use row_rules::seeing::{lot_seen, sees_bin, sees_item, sees_recall};
 use row_rules::status::is_expired;
 use row_rules::stock::units_in_bin;
@@ -86,7 +85,7 @@ pub fn change_receive(
     let lots = lots_put(alloc, slice, r)?;
     let put = one(alloc, stock_after(slice, r))?;
     let cards = one(alloc, receive_card(slice, key, r, stock.as_slice()))?;
-    let reserved = receive_reserved(alloc, slice, r, stock.as_slice())?;
+    let reserved = receive_replanned(alloc, slice, r, stock.as_slice())?;
     Ok(received(alloc, slice, lots, put, cards, reserved))
 }
 
@@ -116,21 +115,6 @@ fn received(
     }
 }
 
-// What a receipt changes of the reserved rows, where these are the stock rows after it.
-fn receive_reserved(
-    alloc: Global,
-    slice: &Slice,
-    r: &Receipt,
-    stock: &[StockRow],
-) -> Result<Replanned, AllocError>
-    ensures put { IfOk result (λ c. stock.now ≡ stock_rows_after_lem slice.now r.now → c.put ≡ rows_to_put slice.now.rows.reserved (receive_shares_lem slice.now r.now)) }
-    ensures dropped { IfOk result (λ c. stock.now ≡ stock_rows_after_lem slice.now r.now → c.dropped ≡ rows_to_drop r.now.lot.gtin slice.now.rows.reserved (receive_shares_lem slice.now r.now)) }
-{
-    let shares = receive_shares(alloc, slice, r, stock)?;
-    let olds = slice.rows.reserved.as_slice();
-    shares_changed(alloc, &r.lot.gtin, olds, shares.as_slice())
-}
-
 // The card line of a receipt, after which these are the stock rows.
 fn receive_card(slice: &Slice, key: &Key, r: &Receipt, stock: &[StockRow]) -> CardRow
     ensures { stock.now ≡ stock_rows_after_lem slice.now r.now → result ≡ receive_card_lem slice.now key.now r.now }
@@ -146,14 +130,14 @@ fn receive_card(slice: &Slice, key: &Key, r: &Receipt, stock: &[StockRow]) -> Ca
     }
 }
 
-// The reserved rows of the item after a receipt, after which these are the stock rows.
-fn receive_shares(
+// What a receipt changes of the reserved rows, where these are the stock rows after it.
+fn receive_replanned(
     alloc: Global,
     slice: &Slice,
     r: &Receipt,
     stock: &[StockRow],
-) -> Result<Vec<ReservedRow>, AllocError>
-    ensures { IfOk result (λ v. stock.now ≡ stock_rows_after_lem slice.now r.now → v.items ≡ receive_shares_lem slice.now r.now) }
+) -> Result<Replanned, AllocError>
+    ensures { IfOk result (λ c. stock.now ≡ stock_rows_after_lem slice.now r.now → c ≡ receive_replanned_lem slice.now r.now) }
 {
     let lots = lot_rows_after(alloc, slice, r)?;
     let rows = ItemRows {
@@ -161,7 +145,7 @@ fn receive_shares(
         stock,
         ..item_rows(&slice.rows)
     };
-    shares_over(alloc, &r.lot.gtin, slice.meta.day, &rows)
+    replan_item(alloc, slice, &r.lot.gtin, slice.meta.day, &rows)
 }
 
 // The rows of lots with the lot that is received, if it is new.

@@ -2,16 +2,15 @@
 
 ghost use Rattle.std.specs.Prelude.{◌≡◌, ◌++◌, nat_lt, IfOk};
 ghost use Rattle.machine.specs.Verdict.{first_refusal};
-ghost use Rattle.row_rules.specs.Plans.{rows_to_put, rows_to_drop};
 ghost use Rattle.row_rules.specs.Seen.{meta_after, none_put, none_dropped, plain_reply as plain_reply_lem};
 ghost use Rattle.row_rules.specs.SeenLots.{in_bin_seen, stock_put as stock_put_lem, stock_gone as stock_gone_lem};
-ghost use Rattle.goods_rules.specs.DecidedMove.{move_seen, move_changes, move_shares as move_shares_lem, units_left as units_left_lem, units_brought as units_brought_lem, stock_rows_moved as stock_rows_moved_lem};
+ghost use Rattle.goods_rules.specs.DecidedMove.{move_seen, move_changes, move_replanned as move_replanned_lem, units_left as units_left_lem, units_brought as units_brought_lem, stock_rows_moved as stock_rows_moved_lem};
 
-use commands::{Listed, Movement, Refusal, ReservedRow, StockRow};
+use commands::{Listed, Movement, Refusal, StockRow};
 use row_rules::changing::{meta_next, none_dropped, none_put, plain_reply};
 use row_rules::judging::first_of;
-use row_rules::plans::{ItemRows, item_rows, shares_over};
-use row_rules::replanning::{Replanned, shares_changed};
+use row_rules::plans::{ItemRows, item_rows};
+use row_rules::replanning::{Replanned, replan_item};
 use row_rules::seeing::{sees_bin, sees_item};
 use row_rules::stock::{sees_lot, stock_gone, stock_put, stock_rows_with, units_in_bin};
 use row_rules::{Change, Slice};
@@ -50,7 +49,7 @@ pub fn change_move(alloc: Global, slice: &Slice, m: &Movement) -> Result<Change,
 {
     let put = moved_put(alloc, slice, m)?;
     let gone = moved_gone(alloc, slice, m)?;
-    let reserved = move_reserved(alloc, slice, m)?;
+    let reserved = move_replanned(alloc, slice, m)?;
     Ok(moved(alloc, slice, put, gone, reserved))
 }
 
@@ -79,25 +78,15 @@ fn moved(
 }
 
 // What a move changes of the reserved rows.
-fn move_reserved(alloc: Global, slice: &Slice, m: &Movement) -> Result<Replanned, AllocError>
-    ensures put { IfOk result (λ r. r.put ≡ rows_to_put slice.now.rows.reserved (move_shares_lem slice.now m.now)) }
-    ensures dropped { IfOk result (λ r. r.dropped ≡ rows_to_drop m.now.lot.gtin slice.now.rows.reserved (move_shares_lem slice.now m.now)) }
-{
-    let shares = move_shares(alloc, slice, m)?;
-    let olds = slice.rows.reserved.as_slice();
-    shares_changed(alloc, &m.lot.gtin, olds, shares.as_slice())
-}
-
-// The reserved rows of the item after a move.
-fn move_shares(alloc: Global, slice: &Slice, m: &Movement) -> Result<Vec<ReservedRow>, AllocError>
-    ensures { IfOk result (λ v. v.items ≡ move_shares_lem slice.now m.now) }
+fn move_replanned(alloc: Global, slice: &Slice, m: &Movement) -> Result<Replanned, AllocError>
+    ensures { IfOk result (λ r. r ≡ move_replanned_lem slice.now m.now) }
 {
     let stock = stock_rows_moved(alloc, slice, m)?;
     let rows = ItemRows {
         stock: stock.as_slice(),
         ..item_rows(&slice.rows)
     };
-    shares_over(alloc, &m.lot.gtin, slice.meta.day, &rows)
+    replan_item(alloc, slice, &m.lot.gtin, slice.meta.day, &rows)
 }
 
 // The stock rows after a move.

@@ -13,12 +13,11 @@ returns c =
     let stock = c.in_ok-stock.ensures ∙ ap (λ (rows : List StockRow). stock_rows_with made.lot made.bin made.left rows) olds in
     let gone = c.in_ok-gone.ensures ∙ ap (λ (rows : List StockRow). stock_gone rows made.lot made.bin made.left) olds in
     let cards = c.in_ok-cards.ensures (c.as_slice.ensures.value ∙ stock) in
-    let put = c.in_ok-reserved.ensures.put (c.as_slice-2.ensures.value ∙ stock) in
-    let dropped = c.in_ok-reserved.ensures.dropped (c.as_slice-2.ensures.value ∙ stock) in
+    let reserved = c.in_ok-reserved.ensures (c.as_slice-2.ensures.value ∙ stock) in
     c.corrected.ensures
     ∙ (λ i. record {
       meta = meta_after s;
-      put = record none_put { stock = c.in_ok-put.ensures i; reserved = put i; cards = cards i };
-      dropped = record none_dropped { stock = gone i; reserved = dropped i };
+      put = record none_put { stock = c.in_ok-put.ensures i; reserved = (reserved i).put; cards = cards i };
+      dropped = record none_dropped { stock = gone i; reserved = (reserved i).dropped };
       text = change_reply s made.change;
     })

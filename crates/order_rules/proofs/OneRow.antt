@@ -1,0 +1,49 @@
+-- A plan of one row, and units picked from it.
+use Rattle.std.proofs.Common.{◌≡◌, ℕ, ◌+◌, ◌-◌, Bool, true, false, not, ◌&&◌, List, [], ◌∷◌, ◌++◌, refl, ap, sym, ◌∙◌, min, max, arith, eq-eqb}
+use Rattle.std.specs.Prelude.{◌==◌, nat_eq, if◌then◌else◌}
+use Rattle.std.specs.List.{IsDistinct}
+use Rattle.std.proofs.lemmas.Bool.{eqb-true}
+use Rattle.std.proofs.lemmas.List.{append-nil}
+use Rattle.plan.specs.Changes.{IsPicked, need_lowered, avail_lowered}
+use Rattle.plan.specs.Overlap.{plan_rows, reserved_in, reserved_total}
+use Rattle.plan.specs.declared.Demand.{Demand}
+use Rattle.plan.specs.declared.Supply.{Supply}
+use Rattle.plan.specs.declared.Row.{Row}
+
+module _ (b l : ℕ) where
+  -- the rows of a plan in which so many units are reserved, all for a booking on a lot
+  abbrev pub one_row : ℕ → List Row
+  one_row n = if not (n == 0) then record { booking = b; lot = l; qty = n } ∷ [] else []
+
+  abbrev demand : ℕ → List Demand
+  demand n = record { booking = b; need = n } ∷ []
+
+  abbrev supply : ℕ → List Supply
+  supply n = record { lot = l; avail = n } ∷ []
+
+  is_plan : (n : ℕ) → one_row n ≡ plan_rows (demand n) (supply n)
+  is_plan n =
+      let all : min (0 + n) (0 + n) - max 0 0 ≡ n = omega arith in
+      sym (append-nil (one_row (min (0 + n) (0 + n) - max 0 0)) ∙ ap one_row all)
+
+  reserved_of_one : (n : ℕ) → reserved_in b l (one_row n) ≡ n
+  reserved_of_one n =
+      elim (n == 0) as (λ t. (n == 0) ≡ t → reserved_in b l (if not t then record { booking = b; lot = l; qty = n } ∷ [] else []) ≡ n) [
+        | true ↦ λ e. omega (arith, eqb-true n 0 e)
+        | false ↦ λ e. (λ i. (if eq-eqb b b (λ j. b) i && eq-eqb l l (λ j. l) i then n else 0) + 0) ∙ omega arith
+      ] refl
+
+  lowered_demand : (n q : ℕ) → need_lowered b q (demand n) ≡ demand (n - q)
+  lowered_demand n q = λ i. (if eq-eqb b b (λ j. b) i then record { booking = b; need = n - q } else record { booking = b; need = n }) ∷ []
+
+  lowered_supply : (n q : ℕ) → avail_lowered l q (supply n) ≡ supply (n - q)
+  lowered_supply n q = λ i. (if eq-eqb l l (λ j. l) i then record { lot = l; avail = n - q } else record { lot = l; avail = n }) ∷ []
+
+  alone : (k : ℕ) → IsDistinct nat_eq (k ∷ [])
+  unfolding IsDistinct
+  alone k = (tt, tt)
+
+  pub left_of_one : (n q : ℕ) (before after : List Row) → before ≡ one_row n → IsPicked b l q before after → reserved_in b l after ≡ n - q
+  left_of_one n q before after e picked =
+      let is : after ≡ plan_rows (need_lowered b q (demand n)) (avail_lowered l q (supply n)) = picked (demand n) (supply n) (alone b) (alone l) (e ∙ is_plan n) in
+      ap (reserved_in b l) (is ∙ (λ i. plan_rows (lowered_demand n q i) (lowered_supply n q i)) ∙ sym (is_plan (n - q))) ∙ reserved_of_one (n - q)
