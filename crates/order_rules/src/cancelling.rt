@@ -85,8 +85,7 @@ fn replan_without(alloc: Global, slice: &Slice, order: &Name) -> Result<Replanne
         orders: others.as_slice(),
         ..item_rows(&slice.rows)
     };
-    let olds = slice.rows.reserved.as_slice();
-    replan_items(alloc, items.as_slice(), slice.meta.day, &rows, olds)
+    replan_items(alloc, slice, items.as_slice(), slice.meta.day, &rows)
 }
 
 // The rows of the other orders.

@@ -1,18 +1,21 @@
 //! Units that go from a bin onto the stage of an order, and back.
 
-ghost use Rattle.std.specs.Prelude.{◌≡◌, ◌+◌, ◌-◌, IfOk};
+ghost use Rattle.std.specs.Prelude.{◌≡◌, ◌+◌, ◌-◌, ◌≤◌, IfOk};
 ghost use Rattle.machine.specs.Verdict.{first_refusal};
+ghost use Rattle.plan.specs.declared.TheConstants.{SUM_MAX as SUM_MAX_lem};
 ghost use Rattle.row_rules.specs.Seen.{capped, none_put};
 ghost use Rattle.row_rules.specs.SeenStages.{reserved_put as reserved_put_lem, reserved_gone as reserved_gone_lem};
-ghost use Rattle.order_rules.specs.DecidedPick.{pick_seen, unpick_seen, pick_changes, unpick_changes, changes_with, reserved_left, shares_with as shares_with_lem, sees_store as sees_store_lem};
+ghost use Rattle.order_rules.specs.DecidedPick.{pick_seen, unpick_seen, pick_changes, unpick_changes, changes_with, reserved_left, replanned_with as replanned_with_lem, sees_store as sees_store_lem};
 
 use commands::{Listed, LotRow, Picking, Refusal, ReservedRow, StagedRow, StockRow};
 use label::BusinessDay;
+use plan::{Plan, Row, SUM_MAX};
 use row_rules::changing::{meta_next, none_put, plain_reply};
 use row_rules::judging::first_of;
-use row_rules::orders_seen::{sees_line, sees_open, sees_order};
-use row_rules::plans::{ItemRows, item_rows, shares_over};
-use row_rules::replanning::{Replanned, shares_changed};
+use row_rules::orders_seen::{order_row_seen, sees_line, sees_open, sees_order};
+use row_rules::plans::{ItemRows, item_rows};
+use row_rules::pushing::push_if;
+use row_rules::replanning::{Replanned, replan_item};
 use row_rules::seeing::{lot_seen, sees_bin, sees_hold, sees_item, sees_recall};
 use row_rules::stages::{
     on_stage_seen, reserved_gone, reserved_put, reserved_seen, staged_gone, staged_put,
@@ -104,9 +107,7 @@ pub fn change_unpick(alloc: Global, slice: &Slice, p: &Picking) -> Result<Change
 {
     let in_bin = more(units_in_bin(slice, &p.bin, &p.lot), p.qty);
     let staged = less(on_stage_seen(slice, &p.order, &p.lot), p.qty);
-    let shares = shares_with(alloc, slice, p, in_bin, staged)?;
-    let olds = slice.rows.reserved.as_slice();
-    let reserved = shares_changed(alloc, &p.lot.gtin, olds, shares.as_slice())?;
+    let reserved = replanned_with(alloc, slice, p, in_bin, staged)?;
     change_with(alloc, slice, p, in_bin, staged, reserved)
 }
 
@@ -127,7 +128,7 @@ fn own_row_lowered(alloc: Global, slice: &Slice, p: &Picking) -> Result<Replanne
     ensures put { IfOk result (λ r. r.put ≡ reserved_put_lem p.now.order p.now.lot (reserved_left slice.now p.now)) }
     ensures dropped { IfOk result (λ r. r.dropped ≡ reserved_gone_lem slice.now.rows.reserved p.now.order p.now.lot (reserved_left slice.now p.now)) }
 {
-    let left = less(reserved_seen(slice, &p.order, &p.lot), p.qty);
+    let left = own_row_left(alloc, slice, p)?;
     let olds = slice.rows.reserved.as_slice();
     let put = reserved_put(alloc, &p.order, &p.lot, left)?;
     let dropped = reserved_gone(alloc, olds, &p.order, &p.lot, left)?;
@@ -135,6 +136,35 @@ fn own_row_lowered(alloc: Global, slice: &Slice, p: &Picking) -> Result<Replanne
         put: Listed::from_vec(put),
         dropped: Listed::from_vec(dropped),
     })
+}
+
+// What is left of the row that is reserved for the order on the lot. A plan holds up to SUM_MAX units
+// of it.
+fn own_row_left(alloc: Global, slice: &Slice, p: &Picking) -> Result<u64, AllocError>
+    ensures { IfOk result (λ left. left ≡ reserved_left slice.now p.now) }
+{
+    let reserved = reserved_seen(slice, &p.order, &p.lot);
+    let row = Row {
+        booking: order_row_seen(slice, &p.order).map_or(0, |order| order.act),
+        lot: lot_seen(slice, &p.lot).map_or(0, |lot| lot.came),
+        qty: reserved.min(SUM_MAX),
+    };
+    let units = u64::from(p.qty.units()).min(row.qty);
+    let left = left_in_plan(alloc, row, units)?;
+    Ok(reserved - row.qty + left)
+}
+
+// What is left of a row once units are picked from the plan that has it alone.
+fn left_in_plan(alloc: Global, row: Row, units: u64) -> Result<u64, AllocError>
+    requires small { row.qty ≤ SUM_MAX_lem }
+    requires there { units ≤ row.qty }
+    ensures { IfOk result (λ left. left ≡ row.qty - units) }
+{
+    let mut rows = Vec::new(alloc);
+    push_if(&mut rows, row.qty != 0, row)?;
+    let mut plan = Plan::of(rows);
+    plan.pick(row.booking, row.lot, units);
+    Ok(plan.reserved(row.booking, row.lot))
 }
 
 // The change after which so many units of the lot are in the bin and on the stage.
@@ -181,15 +211,16 @@ fn rows_of(
     rows
 }
 
-// The reserved rows of the item where so many units of the lot are in the bin and on the stage.
-fn shares_with(
+// What changes of the item's reserved rows where so many units of the lot are in the bin and on the
+// stage.
+fn replanned_with(
     alloc: Global,
     slice: &Slice,
     p: &Picking,
     in_bin: u64,
     staged: u64,
-) -> Result<Vec<ReservedRow>, AllocError>
-    ensures { IfOk result (λ v. v.items ≡ shares_with_lem slice.now p.now in_bin staged) }
+) -> Result<Replanned, AllocError>
+    ensures { IfOk result (λ r. r ≡ replanned_with_lem slice.now p.now in_bin staged) }
 {
     let before = &slice.rows;
     let stock = stock_rows_with(alloc, before.stock.as_slice(), &p.lot, &p.bin, in_bin)?;
@@ -199,5 +230,5 @@ fn shares_with(
         stock: stock.as_slice(),
         ..item_rows(before)
     };
-    shares_over(alloc, &p.lot.gtin, slice.meta.day, &rows)
+    replan_item(alloc, slice, &p.lot.gtin, slice.meta.day, &rows)
 }

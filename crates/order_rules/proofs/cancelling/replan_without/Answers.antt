@@ -1,11 +1,29 @@
+use Rattle.std.proofs.Common.{List, ap, ◌∙◌}
+use Rattle.std.specs.Prelude.{not, filter, flat_map}
+use Rattle.values.specs.Values.{same_text}
+use Rattle.commands.specs.declared.rows.OrderRow.{OrderRow}
+use Rattle.row_rules.specs.Replanning.{item_replanned}
+use Rattle.row_rules.specs.declared.replanning.Replanned.{Replanned}
+use Rattle.row_rules.proofs.Making.{part_same}
+use Rattle.order_rules.specs.DecidedCancel.{cancel_put, cancel_dropped}
 use Rattle.order_rules.proofs.cancelling.replan_without.Goals as goal
 
 pub returns-clause-put : goal.returns-clause-put
 returns-clause-put c =
-    rw (c.item_rows.ensures.lines, c.item_rows.ensures.staged, c.item_rows.ensures.lots, c.item_rows.ensures.recalls, c.item_rows.ensures.bins, c.item_rows.ensures.stock, c.as_slice-2.ensures.value, c.in_ok-others.ensures, c.as_slice.ensures, c.as_slice-olds.ensures, c.as_slice-3.ensures.value, c.in_ok-items.ensures)
-    at c.replan_items.ensures.put
+    let s = c.args.slice.now in
+    let o = c.args.order.now in
+    let rows = c.item_rows.ensures in
+    let orders = c.as_slice-2.ensures.value ∙ c.in_ok-others.ensures ∙ ap (λ (olds : List OrderRow). filter (λ r. not (same_text o r.order)) olds) c.as_slice.ensures in
+    let items = c.as_slice-3.ensures.value ∙ c.in_ok-items.ensures in
+    part_same c.replan_items.result (λ (r : Replanned). r.put) _ (cancel_put s o) c.replan_items.ensures.put
+    (λ i. flat_map (λ g. (item_replanned s s.meta.day (orders i) (rows.lines i) (rows.staged i) (rows.lots i) (rows.recalls i) (rows.bins i) (rows.stock i) g).put) (items i))
 
 pub returns-clause-dropped : goal.returns-clause-dropped
 returns-clause-dropped c =
-    rw (c.item_rows.ensures.lines, c.item_rows.ensures.staged, c.item_rows.ensures.lots, c.item_rows.ensures.recalls, c.item_rows.ensures.bins, c.item_rows.ensures.stock, c.as_slice-2.ensures.value, c.in_ok-others.ensures, c.as_slice.ensures, c.as_slice-olds.ensures, c.as_slice-3.ensures.value, c.in_ok-items.ensures)
-    at c.replan_items.ensures.dropped
+    let s = c.args.slice.now in
+    let o = c.args.order.now in
+    let rows = c.item_rows.ensures in
+    let orders = c.as_slice-2.ensures.value ∙ c.in_ok-others.ensures ∙ ap (λ (olds : List OrderRow). filter (λ r. not (same_text o r.order)) olds) c.as_slice.ensures in
+    let items = c.as_slice-3.ensures.value ∙ c.in_ok-items.ensures in
+    part_same c.replan_items.result (λ (r : Replanned). r.dropped) _ (cancel_dropped s o) c.replan_items.ensures.dropped
+    (λ i. flat_map (λ g. (item_replanned s s.meta.day (orders i) (rows.lines i) (rows.staged i) (rows.lots i) (rows.recalls i) (rows.bins i) (rows.stock i) g).dropped) (items i))

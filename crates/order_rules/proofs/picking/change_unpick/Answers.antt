@@ -1,6 +1,16 @@
+use Rattle.std.proofs.Common.{◌+◌, ◌-◌, ◌∙◌}
+use Rattle.row_rules.specs.Seen.{capped}
+use Rattle.row_rules.proofs.Making.{made_same}
+use Rattle.order_rules.specs.DecidedPick.{changes_with, replanned_with, unpick_changes}
 use Rattle.order_rules.proofs.picking.change_unpick.Goals as goal
 
 pub returns : goal.returns
 returns c =
-    rw (c.in_ok-reserved.ensures.put, c.in_ok-reserved.ensures.dropped, c.as_slice-olds.ensures, c.as_slice.ensures.value, c.in_ok-shares.ensures, c.more-in_bin.ensures, c.less-staged.ensures, c.units_in_bin.ensures, c.on_stage_seen.ensures)
-    at c.change_with.ensures
+    let s = c.args.slice.now in
+    let p = c.args.p.now in
+    let reserved = c.in_ok-reserved.ensures in
+    let in_bin = c.more-in_bin.ensures ∙ (λ i. capped (c.units_in_bin.ensures i + p.qty)) in
+    let staged = c.less-staged.ensures ∙ (λ i. c.on_stage_seen.ensures i - p.qty) in
+    made_same c.change_with.result _ (unpick_changes s p) c.change_with.ensures
+    ((λ i. changes_with s p c.more-in_bin.result c.less-staged.result (reserved i).put (reserved i).dropped)
+    ∙ (λ i. changes_with s p (in_bin i) (staged i) (replanned_with s p (in_bin i) (staged i)).put (replanned_with s p (in_bin i) (staged i)).dropped))
