@@ -15,7 +15,7 @@ use Rattle.row_rules.specs.LookUps.{GivesRows}
 use Rattle.row_rules.proofs.LookingUp.{gathered_agree}
 use Rattle.row_rules.proofs.GivingLots.{lot_given, staged_given, cell_given, any_cell_given}
 use Rattle.lot_rules.specs.DecidedDay.{stands_in}
-use Rattle.lot_rules.specs.GivenDay.{is_out_given, staged_among, row_returned}
+use Rattle.lot_rules.specs.GivenDay.{is_out_given, row_returned}
 
 -- Lots that are expired
 

@@ -9,7 +9,6 @@ use Rattle.commands.specs.declared.rows.LotRow.{LotRow}
 use Rattle.commands.specs.declared.rows.RecallRow.{RecallRow}
 use Rattle.commands.specs.declared.rows.StockRow.{StockRow}
 use Rattle.commands.specs.declared.rows.StagedRow.{StagedRow}
-use Rattle.commands.specs.declared.rows.ReservedRow.{ReservedRow}
 use Rattle.machine.specs.Verdict.{Judgement}
 use Rattle.machine.specs.Postings.{is_lot}
 use Rattle.machine.specs.Standing.{RETURNS}

@@ -2,17 +2,16 @@
 
 ghost use Rattle.std.specs.Prelude.{◌≡◌, false, map, IfOk};
 ghost use Rattle.machine.specs.Verdict.{first_refusal};
-ghost use Rattle.row_rules.specs.Plans.{rows_to_put, rows_to_drop};
 ghost use Rattle.row_rules.specs.Seen.{meta_after, none_put, none_dropped, plain_reply as plain_reply_lem};
-ghost use Rattle.lot_rules.specs.DecidedHold.{release_seen, release_changes, release_shares as release_shares_lem, hold_seen, hold_changes, hold_shares as hold_shares_lem, recall_seen, recall_changes, recall_shares as recall_shares_lem, new_recall_row as new_recall_row_lem, recall_rows_after as recall_rows_after_lem, with_hold as with_hold_lem, lot_rows_with_hold as lot_rows_with_hold_lem, lot_put as lot_put_lem};
+ghost use Rattle.lot_rules.specs.DecidedHold.{release_seen, release_changes, release_replanned as release_replanned_lem, hold_seen, hold_changes, hold_replanned as hold_replanned_lem, recall_seen, recall_changes, recall_replanned as recall_replanned_lem, new_recall_row as new_recall_row_lem, recall_rows_after as recall_rows_after_lem, with_hold as with_hold_lem, lot_rows_with_hold as lot_rows_with_hold_lem, lot_put as lot_put_lem};
 
-use crate::returning::{returning_change, shares_with_returned};
-use commands::{Listed, LotRow, RecallRow, Refusal, ReservedRow};
+use crate::returning::{returning_change, returning_replanned};
+use commands::{Listed, LotRow, RecallRow, Refusal};
 use row_rules::changing::{meta_next, none_dropped, none_put, number_seen, one, plain_reply};
 use row_rules::judging::first_of;
 use row_rules::looking::is_same_lot;
-use row_rules::plans::{ItemRows, item_rows, shares_over};
-use row_rules::replanning::{Replanned, shares_changed};
+use row_rules::plans::{ItemRows, item_rows};
+use row_rules::replanning::{Replanned, replan_item};
 use row_rules::seeing::{lot_seen, sees_hold, sees_item, sees_recall};
 use row_rules::stock::sees_lot;
 use row_rules::{Change, Slice};
@@ -107,7 +106,7 @@ pub fn change_release(alloc: Global, slice: &Slice, lot: &LotId) -> Result<Chang
 {
     let lots = lot_rows_with_hold(alloc, slice, lot, false)?;
     let put = lot_put(alloc, lot, false, lot_seen(slice, lot))?;
-    let reserved = release_reserved(alloc, slice, lot, lots.as_slice())?;
+    let reserved = release_replanned(alloc, slice, lot, lots.as_slice())?;
     Ok(released(alloc, slice, put, reserved))
 }
 
@@ -129,34 +128,19 @@ fn released(alloc: Global, slice: &Slice, put: Vec<LotRow>, reserved: Replanned)
 }
 
 // What a release changes of the reserved rows, where these are the rows of lots after it.
-fn release_reserved(
+fn release_replanned(
     alloc: Global,
     slice: &Slice,
     lot: &LotId,
     lots: &[LotRow],
 ) -> Result<Replanned, AllocError>
-    ensures put { IfOk result (λ r. lots.now ≡ lot_rows_with_hold_lem slice.now lot.now false → r.put ≡ rows_to_put slice.now.rows.reserved (release_shares_lem slice.now lot.now)) }
-    ensures dropped { IfOk result (λ r. lots.now ≡ lot_rows_with_hold_lem slice.now lot.now false → r.dropped ≡ rows_to_drop lot.now.gtin slice.now.rows.reserved (release_shares_lem slice.now lot.now)) }
-{
-    let shares = release_shares(alloc, slice, lot, lots)?;
-    let olds = slice.rows.reserved.as_slice();
-    shares_changed(alloc, &lot.gtin, olds, shares.as_slice())
-}
-
-// The reserved rows of the item after a release, after which these are the rows of lots.
-fn release_shares(
-    alloc: Global,
-    slice: &Slice,
-    lot: &LotId,
-    lots: &[LotRow],
-) -> Result<Vec<ReservedRow>, AllocError>
-    ensures { IfOk result (λ v. lots.now ≡ lot_rows_with_hold_lem slice.now lot.now false → v.items ≡ release_shares_lem slice.now lot.now) }
+    ensures { IfOk result (λ r. lots.now ≡ lot_rows_with_hold_lem slice.now lot.now false → r ≡ release_replanned_lem slice.now lot.now) }
 {
     let rows = ItemRows {
         lots,
         ..item_rows(&slice.rows)
     };
-    shares_over(alloc, &lot.gtin, slice.meta.day, &rows)
+    replan_item(alloc, slice, &lot.gtin, slice.meta.day, &rows)
 }
 
 // Hold
@@ -181,7 +165,7 @@ pub fn judge_hold(slice: &Slice, lot: &LotId) -> Option<Refusal>
 pub fn change_hold(alloc: Global, slice: &Slice, lot: &LotId) -> Result<Change, AllocError>
     ensures { IfOk result (λ change. change ≡ hold_changes slice.now lot.now) }
 {
-    let shares = hold_shares(alloc, slice, lot)?;
+    let reserved = hold_replanned(alloc, slice, lot)?;
     let lots = lot_put(alloc, lot, true, lot_seen(slice, lot))?;
     returning_change(
         alloc,
@@ -189,17 +173,17 @@ pub fn change_hold(alloc: Global, slice: &Slice, lot: &LotId) -> Result<Change, 
         lot,
         Listed::from_vec(lots),
         Listed::from_vec(Vec::new(alloc)),
-        shares.as_slice(),
+        reserved,
     )
 }
 
-// The reserved rows of the item after a hold.
-fn hold_shares(alloc: Global, slice: &Slice, lot: &LotId) -> Result<Vec<ReservedRow>, AllocError>
-    ensures { IfOk result (λ v. v.items ≡ hold_shares_lem slice.now lot.now) }
+// What a hold changes of the reserved rows.
+fn hold_replanned(alloc: Global, slice: &Slice, lot: &LotId) -> Result<Replanned, AllocError>
+    ensures { IfOk result (λ r. r ≡ hold_replanned_lem slice.now lot.now) }
 {
     let lots = lot_rows_with_hold(alloc, slice, lot, true)?;
     let recalls = slice.rows.recalls.as_slice();
-    shares_with_returned(alloc, slice, lot, lots.as_slice(), recalls)
+    returning_replanned(alloc, slice, lot, lots.as_slice(), recalls)
 }
 
 // Recall
@@ -220,7 +204,7 @@ pub fn judge_recall(slice: &Slice, lot: &LotId) -> Option<Refusal>
 pub fn change_recall(alloc: Global, slice: &Slice, lot: &LotId) -> Result<Change, AllocError>
     ensures { IfOk result (λ change. change ≡ recall_changes slice.now lot.now) }
 {
-    let shares = recall_shares(alloc, slice, lot)?;
+    let reserved = recall_replanned(alloc, slice, lot)?;
     let recalls = one(alloc, new_recall_row(slice, lot))?;
     returning_change(
         alloc,
@@ -228,7 +212,7 @@ pub fn change_recall(alloc: Global, slice: &Slice, lot: &LotId) -> Result<Change
         lot,
         Listed::from_vec(Vec::new(alloc)),
         recalls,
-        shares.as_slice(),
+        reserved,
     )
 }
 
@@ -255,11 +239,11 @@ fn recall_rows_after(
     Ok(rows)
 }
 
-// The reserved rows of the item after a recall.
-fn recall_shares(alloc: Global, slice: &Slice, lot: &LotId) -> Result<Vec<ReservedRow>, AllocError>
-    ensures { IfOk result (λ v. v.items ≡ recall_shares_lem slice.now lot.now) }
+// What a recall changes of the reserved rows.
+fn recall_replanned(alloc: Global, slice: &Slice, lot: &LotId) -> Result<Replanned, AllocError>
+    ensures { IfOk result (λ r. r ≡ recall_replanned_lem slice.now lot.now) }
 {
     let recalls = recall_rows_after(alloc, slice, lot)?;
     let lots = slice.rows.lots.as_slice();
-    shares_with_returned(alloc, slice, lot, lots, recalls.as_slice())
+    returning_replanned(alloc, slice, lot, lots, recalls.as_slice())
 }

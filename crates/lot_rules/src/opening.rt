@@ -255,8 +255,7 @@ fn replan_on(alloc: Global, slice: &Slice, day: BusinessDay) -> Result<Replanned
         stock: stock.as_slice(),
         ..item_rows(&slice.rows)
     };
-    let olds = slice.rows.reserved.as_slice();
-    replan_items(alloc, gtins.as_slice(), day, &rows, olds)
+    replan_items(alloc, slice, gtins.as_slice(), day, &rows)
 }
 
 // The change

@@ -3,20 +3,18 @@
 ghost use Rattle.std.specs.Prelude.{◌≡◌, not, filter, IfOk};
 ghost use Rattle.machine.specs.Postings.{is_lot};
 ghost use Rattle.machine.specs.Standing.{RETURNS};
-ghost use Rattle.row_rules.specs.Plans.{rows_to_put, rows_to_drop};
 ghost use Rattle.row_rules.specs.Seen.{meta_after, none_put, none_dropped};
-ghost use Rattle.lot_rules.specs.DecidedHold.{staged_of_seen, staged_kept as staged_kept_lem, staged_returned as staged_returned_lem, units_in_returns as units_in_returns_lem, returned_put as returned_put_lem, stock_with_returned as stock_with_returned_lem, bins_with_returns as bins_with_returns_lem, returns_bin_row as returns_bin_row_lem, shares_with_returned as shares_with_returned_lem, returned_reply as returned_reply_lem, returning_change as returning_change_lem};
+ghost use Rattle.lot_rules.specs.DecidedHold.{staged_of_seen, staged_kept as staged_kept_lem, staged_returned as staged_returned_lem, units_in_returns as units_in_returns_lem, returned_put as returned_put_lem, stock_with_returned as stock_with_returned_lem, bins_with_returns as bins_with_returns_lem, returns_bin_row as returns_bin_row_lem, returning_replanned as returning_replanned_lem, returned_reply as returned_reply_lem, returning_change as returning_change_lem};
 ghost use Rattle.lot_rules.specs.GivenDay.{row_returned as row_returned_lem};
 
 use commands::{
-    BinKind, BinRow, Listed, LotRow, RecallRow, ReplyField, ReservedRow, Short, StagedRow,
-    StockRow, reply,
+    BinKind, BinRow, Listed, LotRow, RecallRow, ReplyField, Short, StagedRow, StockRow, reply,
 };
 use row_rules::changing::{meta_next, none_dropped, none_put, number_seen};
 use row_rules::looking::is_same_lot;
-use row_rules::plans::{ItemRows, item_rows, shares_over};
+use row_rules::plans::{ItemRows, item_rows};
 use row_rules::pushing::push_if;
-use row_rules::replanning::{Replanned, shares_changed};
+use row_rules::replanning::{Replanned, replan_item};
 use row_rules::stock::{stock_put, stock_rows_with, units_among, units_in_bin};
 use row_rules::summing::sum_of_lot_staged;
 use row_rules::{Change, Slice};
@@ -148,16 +146,16 @@ fn stock_with_returned(
 
 // Reserved rows
 
-/// The reserved rows of the item where what is staged of the lot goes to RETURNS, and these are the
-/// rows of lots and recalls after it.
-pub fn shares_with_returned(
+/// What changes of the item's reserved rows where what is staged of the lot goes to RETURNS, and these
+/// are the rows of lots and recalls after it.
+pub fn returning_replanned(
     alloc: Global,
     slice: &Slice,
     lot: &LotId,
     lots: &[LotRow],
     recalls: &[RecallRow],
-) -> Result<Vec<ReservedRow>, AllocError>
-    ensures { IfOk result (λ v. v.items ≡ shares_with_returned_lem slice.now lot.now lots.now recalls.now) }
+) -> Result<Replanned, AllocError>
+    ensures { IfOk result (λ r. r ≡ returning_replanned_lem slice.now lot.now lots.now recalls.now) }
 {
     let staged = staged_kept(alloc, slice, lot)?;
     let bins = bins_with_returns(alloc, slice)?;
@@ -170,24 +168,30 @@ pub fn shares_with_returned(
         stock: stock.as_slice(),
         ..item_rows(&slice.rows)
     };
-    shares_over(alloc, &lot.gtin, slice.meta.day, &rows)
+    replan_item(alloc, slice, &lot.gtin, slice.meta.day, &rows)
 }
 
 // The change
 
 /// What changes where a lot stops being shippable, with these rows of lots and recalls put, and
-/// these reserved rows after it.
+/// these changes of reserved rows.
 pub fn returning_change(
     alloc: Global,
     slice: &Slice,
     lot: &LotId,
     lots: Listed<LotRow>,
     recalls: Listed<RecallRow>,
-    shares: &[ReservedRow],
+    reserved: Replanned,
 ) -> Result<Change, AllocError>
-    ensures { IfOk result (λ change. change ≡ returning_change_lem slice.now lot.now lots recalls shares.now) }
+    ensures { IfOk result (λ change. change ≡ returning_change_lem slice.now lot.now lots recalls reserved) }
 {
-    let rows = rows_returned(alloc, slice, lot, shares)?;
+    let stock = returned_put(alloc, slice, lot)?;
+    let staged = staged_returned(alloc, slice, lot)?;
+    let rows = Returned {
+        stock,
+        staged,
+        reserved,
+    };
     Ok(change_returning(alloc, slice, lot, lots, recalls, rows))
 }
 
@@ -199,28 +203,6 @@ struct Returned {
     /// The staged rows dropped.
     staged: Vec<StagedRow>,
     reserved: Replanned,
-}
-
-fn rows_returned(
-    alloc: Global,
-    slice: &Slice,
-    lot: &LotId,
-    shares: &[ReservedRow],
-) -> Result<Returned, AllocError>
-    ensures stock { IfOk result (λ r. r.stock.items ≡ returned_put_lem slice.now lot.now) }
-    ensures staged { IfOk result (λ r. r.staged.items ≡ staged_returned_lem slice.now lot.now) }
-    ensures put { IfOk result (λ r. r.reserved.put ≡ rows_to_put slice.now.rows.reserved shares.now) }
-    ensures dropped { IfOk result (λ r. r.reserved.dropped ≡ rows_to_drop lot.now.gtin slice.now.rows.reserved shares.now) }
-{
-    let stock = returned_put(alloc, slice, lot)?;
-    let staged = staged_returned(alloc, slice, lot)?;
-    let olds = slice.rows.reserved.as_slice();
-    let reserved = shares_changed(alloc, &lot.gtin, olds, shares)?;
-    Ok(Returned {
-        stock,
-        staged,
-        reserved,
-    })
 }
 
 // The change by these rows.

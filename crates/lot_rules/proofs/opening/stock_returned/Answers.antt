@@ -1,4 +1,4 @@
-use Rattle.std.proofs.Common.{◌≡◌, ap, ◌∙◌}
+use Rattle.std.proofs.Common.{◌∙◌}
 use Rattle.std.specs.Prelude.{flat_map}
 use Rattle.row_rules.specs.LookUps.{rows_given}
 use Rattle.row_rules.proofs.LookingUp.{gathered_kept}

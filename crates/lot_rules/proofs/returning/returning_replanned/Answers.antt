@@ -1,5 +1,16 @@
+use Rattle.std.proofs.Common.{◌∙◌}
+use Rattle.row_rules.specs.Replanning.{item_replanned}
+use Rattle.row_rules.proofs.Making.{made_same}
+use Rattle.lot_rules.specs.DecidedHold.{returning_replanned}
 use Rattle.lot_rules.proofs.returning.returning_replanned.Goals as goal
 
 pub returns : goal.returns
 returns c =
-    rw (c.item_rows.ensures.orders, c.item_rows.ensures.lines, c.as_slice.ensures.value, c.in_ok-staged.ensures, c.as_slice-2.ensures.value, c.in_ok-bins.ensures, c.as_slice-3.ensures.value, c.in_ok-stock.ensures) at c.replan_item.ensures
+    let a = c.args in
+    let s = a.slice.now in
+    let rows = c.item_rows.ensures in
+    let staged = c.as_slice.ensures.value ∙ c.in_ok-staged.ensures in
+    let bins = c.as_slice-2.ensures.value ∙ c.in_ok-bins.ensures in
+    let stock = c.as_slice-3.ensures.value ∙ c.in_ok-stock.ensures in
+    made_same c.replan_item.result _ (returning_replanned s a.lot.now a.lots.now a.recalls.now) c.replan_item.ensures
+    (λ i. item_replanned s s.meta.day (rows.orders i) (rows.lines i) (staged i) a.lots.now a.recalls.now (bins i) (stock i) a.lot.now.gtin)
