@@ -6,6 +6,7 @@ pub mod Gathering
 pub mod GatheringShares
 pub mod Cutting
 pub mod BehindCut
+pub mod Sides
 pub mod Naming
 pub mod LookingUp
 pub mod Giving

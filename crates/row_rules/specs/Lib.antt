@@ -5,5 +5,6 @@ pub mod OpenLines
 pub mod Plans
 pub mod Replanning
 pub mod LookUps
+pub mod Indexed
 pub mod SeenLots
 pub mod SeenStages

@@ -5,6 +5,7 @@
 pub mod cards;
 pub mod changing;
 pub mod demands;
+mod indexed;
 pub mod judging;
 pub mod look_ups;
 pub mod looking;

@@ -2,22 +2,16 @@
 
 ghost use Rattle.std.specs.Prelude.{◌≡◌, ◌==◌, ◌&&◌, [], ◌∷◌, min, not, filter, find, IfOk};
 ghost use Rattle.std.specs.List.{list_any};
-ghost use Rattle.plan.specs.Limits.{AreSmall};
-ghost use Rattle.plan.specs.declared.TheConstants.{SUM_MAX};
 ghost use Rattle.machine.specs.Postings.{of_item};
-ghost use Rattle.row_rules.specs.Plans.{demands_seen as demands_seen_lem, supplies_seen as supplies_seen_lem, demands_within, supplies_within, plan_within, named_row, named_rows as named_rows_lem, is_share_of, has_qty, rows_to_put as rows_to_put_lem, rows_to_drop as rows_to_drop_lem};
+ghost use Rattle.row_rules.specs.Plans.{plan_within, named_row, named_rows as named_rows_lem, is_share_of, has_qty, rows_to_put as rows_to_put_lem, rows_to_drop as rows_to_drop_lem};
 ghost use Rattle.row_rules.specs.LookUps.{rows_given, row_given, rows_named};
 
 use crate::Rows;
-use crate::demands::{cut_demands, demands_seen};
 use crate::look_ups::{RowsByNumber, RowsByText, by_number, by_text};
 use crate::looking::is_same_lot;
 use crate::pushing::{push_found, push_if};
-use crate::supplies::{cut_supplies, supplies_seen};
-use commands::{
-    BinRow, LineRow, Listed, LotRow, OrderRow, RecallRow, ReservedRow, StagedRow, StockRow,
-};
-use label::BusinessDay;
+use crate::supplies::cut_supplies;
+use commands::{BinRow, LineRow, LotRow, OrderRow, RecallRow, ReservedRow, StagedRow, StockRow};
 use plan::{Demand, Plan, Row, SUM_MAX, Supply, whole};
 use std::alloc::{AllocError, Global};
 use values::Gtin;
@@ -53,42 +47,6 @@ pub fn item_rows(rows: &Rows) -> ItemRows<'_>
         bins: rows.bins.as_slice(),
         stock: rows.stock.as_slice(),
     }
-}
-
-/// The demands for an item and the supplies of it, each list up to the limit of its sum.
-#[derive(Drop)]
-pub struct ItemLists {
-    pub demands: Listed<Demand>,
-    pub supplies: Listed<Supply>,
-}
-
-/// The demands and supplies that these rows tell of an item.
-pub fn item_lists(
-    alloc: Global,
-    gtin: &Gtin,
-    day: BusinessDay,
-    rows: &ItemRows<'_>,
-) -> Result<ItemLists, AllocError>
-    ensures demands { IfOk result (λ l. l.demands ≡ demands_within SUM_MAX (demands_seen_lem gtin.now rows.now.lines.now rows.now.staged.now rows.now.orders.now)) }
-    ensures supplies { IfOk result (λ l. l.supplies ≡ supplies_within SUM_MAX (supplies_seen_lem gtin.now day rows.now.recalls.now rows.now.bins.now rows.now.stock.now rows.now.lots.now)) }
-    ensures small { IfOk result (λ l. AreSmall l.demands l.supplies) }
-{
-    let demands = demands_seen(alloc, gtin, rows.lines, rows.staged, rows.orders)?;
-    let supplies = supplies_seen(
-        alloc,
-        gtin,
-        day,
-        rows.recalls,
-        rows.bins,
-        rows.stock,
-        rows.lots,
-    )?;
-    let wanted = cut_demands(alloc, demands.as_slice())?;
-    let offered = cut_supplies(alloc, supplies.as_slice())?;
-    Ok(ItemLists {
-        demands: Listed::from_vec(wanted),
-        supplies: Listed::from_vec(offered),
-    })
 }
 
 /// The plan of two demands over supplies, up to the limit of a list's sum: the last is booked behind

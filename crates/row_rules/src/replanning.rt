@@ -5,12 +5,12 @@ ghost use Rattle.plan.specs.Changes.{cut_of};
 ghost use Rattle.plan.specs.Limits.{AreSmall};
 ghost use Rattle.plan.specs.Overlap.{demand_total};
 ghost use Rattle.plan.specs.declared.TheConstants.{SUM_MAX};
+ghost use Rattle.row_rules.specs.Indexed.{IsIndexed, replanned_between};
 ghost use Rattle.row_rules.specs.Replanning.{first_as_one as first_as_one_lem, shares_behind, shares_changed as shares_changed_lem, item_replanned};
 
 use crate::Slice;
-use crate::plans::{
-    ItemLists, ItemRows, item_lists, item_rows, named_rows, rows_to_drop, rows_to_put,
-};
+use crate::indexed::{IndexedRows, ItemLists, indexed_rows, item_lists};
+use crate::plans::{ItemRows, item_rows, named_rows, rows_to_drop, rows_to_put};
 use commands::{Listed, ReservedRow};
 use label::BusinessDay;
 use plan::{Demand, cut, sum_of_needs, whole};
@@ -35,10 +35,27 @@ pub fn replan_items(
     ensures put { IfOk result (λ r. r.put ≡ flat_map (λ g. (item_replanned slice.now day rows.now.orders.now rows.now.lines.now rows.now.staged.now rows.now.lots.now rows.now.recalls.now rows.now.bins.now rows.now.stock.now g).put) gtins.now) }
     ensures dropped { IfOk result (λ r. r.dropped ≡ flat_map (λ g. (item_replanned slice.now day rows.now.orders.now rows.now.lines.now rows.now.staged.now rows.now.lots.now rows.now.recalls.now rows.now.bins.now rows.now.stock.now g).dropped) gtins.now) }
 {
+    let old_rows = item_rows(&slice.rows);
+    let before = indexed_rows(alloc, slice.meta.day, &old_rows, gtins.len())?;
+    let after = indexed_rows(alloc, day, rows, gtins.len())?;
+    replan_each(alloc, gtins, &before, &after)
+}
+
+fn replan_each(
+    alloc: Global,
+    gtins: &[Gtin],
+    before: &IndexedRows<'_>,
+    after: &IndexedRows<'_>,
+) -> Result<Replanned, AllocError>
+    requires before { IsIndexed before.now }
+    requires after { IsIndexed after.now }
+    ensures put { IfOk result (λ r. r.put ≡ flat_map (λ g. (replanned_between before.now after.now g).put) gtins.now) }
+    ensures dropped { IfOk result (λ r. r.dropped ≡ flat_map (λ g. (replanned_between before.now after.now g).dropped) gtins.now) }
+{
     let mut put = Vec::new(alloc);
     let mut dropped = Vec::new(alloc);
     for gtin in gtins {
-        let item = replan_item(alloc, slice, gtin, day, rows)?;
+        let item = replan_between(alloc, gtin, before, after)?;
         put.extend_from_slice(item.put.as_slice())?;
         dropped.extend_from_slice(item.dropped.as_slice())?;
     }
@@ -59,9 +76,25 @@ pub fn replan_item(
     ensures { IfOk result (λ r. r ≡ item_replanned slice.now day rows.now.orders.now rows.now.lines.now rows.now.staged.now rows.now.lots.now rows.now.recalls.now rows.now.bins.now rows.now.stock.now gtin.now) }
 {
     let old_rows = item_rows(&slice.rows);
-    let before = item_lists(alloc, gtin, slice.meta.day, &old_rows)?;
-    let after = item_lists(alloc, gtin, day, rows)?;
-    let shares = shares_behind_cut(alloc, &old_rows, &before, rows, &after)?;
+    let before = indexed_rows(alloc, slice.meta.day, &old_rows, 1)?;
+    let after = indexed_rows(alloc, day, rows, 1)?;
+    replan_between(alloc, gtin, &before, &after)
+}
+
+// The plan of an item before the act becomes the one after it.
+fn replan_between(
+    alloc: Global,
+    gtin: &Gtin,
+    before: &IndexedRows<'_>,
+    after: &IndexedRows<'_>,
+) -> Result<Replanned, AllocError>
+    requires before { IsIndexed before.now }
+    requires after { IsIndexed after.now }
+    ensures { IfOk result (λ r. r ≡ replanned_between before.now after.now gtin.now) }
+{
+    let was = item_lists(alloc, gtin, before)?;
+    let will = item_lists(alloc, gtin, after)?;
+    let shares = shares_behind_cut(alloc, &before.rows, &was, &after.rows, &will)?;
     shares_changed(
         alloc,
         gtin,

@@ -1,35 +1,25 @@
-use Rattle.std.proofs.Common.{ℕ, ◌++◌, List, ap, ◌∙◌, arith}
-use Rattle.commands.specs.declared.rows.ReservedRow.{ReservedRow}
-use Rattle.row_rules.specs.Replanning.{item_replanned}
-use Rattle.row_rules.specs.declared.replanning.Replanned.{Replanned}
-use Rattle.row_rules.proofs.GatheringShares.{both_more, both_put, both_dropped}
+use Rattle.std.proofs.Common.{◌∙◌}
+use Rattle.std.specs.Prelude.{flat_map}
+use Rattle.std.proofs.lemmas.Result.{IfOk-weaker}
+use Rattle.row_rules.proofs.Sides.{AreOf, between_is}
 use Rattle.row_rules.proofs.replanning.replan_items.Goals as goal
-
-pub loop-gtin-preserved : goal.loop-gtin-preserved
-loop-gtin-preserved c =
-    let a = c.args in
-    let rows = a.rows.now in
-    let l = c.loop-gtin in
-    let all : List ℕ → Replanned = item_replanned a.slice.now a.day rows.orders.now rows.lines.now rows.staged.now rows.lots.now rows.recalls.now rows.bins.now rows.stock.now in
-    let f : List ℕ → List ReservedRow = λ g. (all g).put in
-    let h : List ℕ → List ReservedRow = λ g. (all g).dropped in
-    let item = c.in_ok-item.ensures in
-    both_more f h a.gtins.now l.gtin-index l.put.items l.dropped.items c.gtin-item.result c.extend_from_slice.new.self.items c.extend_from_slice-in-loop-gtin.new.self.items c.loop-gtin-test.true l.invariant
-    (c.in_ok-extend_from_slice.ensures.items ∙ ap (λ ys. l.put.items ++ ys) (c.as_slice.ensures ∙ ap (λ (r : Replanned). r.put) item ∙ ap f c.gtin-item.is))
-    (c.in_ok-extend_from_slice-2.ensures.items ∙ ap (λ ys. l.dropped.items ++ ys) (c.as_slice-in-loop-gtin.ensures ∙ ap (λ (r : Replanned). r.dropped) item ∙ ap h c.gtin-item.is))
 
 pub returns-clause-put : goal.returns-clause-put
 returns-clause-put c =
     let a = c.args in
-    let rows = a.rows.now in
-    let l = c.loop-gtin in
-    let all : List ℕ → Replanned = item_replanned a.slice.now a.day rows.orders.now rows.lines.now rows.staged.now rows.lots.now rows.recalls.now rows.bins.now rows.stock.now in
-    c.from_vec.ensures ∙ both_put (λ g. (all g).put) (λ g. (all g).dropped) a.gtins.now l.gtin-index l.put.items l.dropped.items (omega arith) l.invariant
+    let o = c.item_rows-old_rows.ensures in
+    let of : AreOf a.slice.now.rows c.item_rows-old_rows.result = record { orders = o.orders; lines = o.lines; staged = o.staged; lots = o.lots; recalls = o.recalls; bins = o.bins; stock = o.stock } in
+    let m = c.in_ok-before.ensures in
+    let n = c.in_ok-after.ensures in
+    let same = between_is a.slice.now a.day c.item_rows-old_rows.result a.rows.now c.in_ok-before.before c.in_ok-after.after of m.day m.rows n.day n.rows in
+    IfOk-weaker c.replan_each.result _ _ (λ r e. e ∙ (λ i. flat_map (λ g. (same g i).put) a.gtins.now)) c.replan_each.ensures.put
 
 pub returns-clause-dropped : goal.returns-clause-dropped
 returns-clause-dropped c =
     let a = c.args in
-    let rows = a.rows.now in
-    let l = c.loop-gtin in
-    let all : List ℕ → Replanned = item_replanned a.slice.now a.day rows.orders.now rows.lines.now rows.staged.now rows.lots.now rows.recalls.now rows.bins.now rows.stock.now in
-    c.from_vec-2.ensures ∙ both_dropped (λ g. (all g).put) (λ g. (all g).dropped) a.gtins.now l.gtin-index l.put.items l.dropped.items (omega arith) l.invariant
+    let o = c.item_rows-old_rows.ensures in
+    let of : AreOf a.slice.now.rows c.item_rows-old_rows.result = record { orders = o.orders; lines = o.lines; staged = o.staged; lots = o.lots; recalls = o.recalls; bins = o.bins; stock = o.stock } in
+    let m = c.in_ok-before.ensures in
+    let n = c.in_ok-after.ensures in
+    let same = between_is a.slice.now a.day c.item_rows-old_rows.result a.rows.now c.in_ok-before.before c.in_ok-after.after of m.day m.rows n.day n.rows in
+    IfOk-weaker c.replan_each.result _ _ (λ r e. e ∙ (λ i. flat_map (λ g. (same g i).dropped) a.gtins.now)) c.replan_each.ensures.dropped
