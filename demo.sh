@@ -53,14 +53,46 @@ get() {
     expect "GET $1" "$3 $2" "$(curl -s -w ' %{http_code}' "http://127.0.0.1:$port$1")"
 }
 
-# The crates that lotd stands on are proved side by side, and each is named as it is done; the tests' crates are the gate's.
-jobs=$(nproc 2>/dev/null || echo 2)
-echo "> prove what lotd stands on, $jobs crates at a time"
-{ (cd crates/lotd && rt all check --jobs "$jobs") 2>&1 && echo "status 0" || echo "status 1"; } | tee "$room/proofs" | awk '
-    /^== / && $2 != "summary" { print "  " $2; fflush() }
-    /^status / { end = $2 }
-    END { exit end }
-' || { tail -40 "$room/proofs" >&2; exit 1; }
+# prove CRATE..: proves the crates one after another, and names each as it is done
+prove() {
+    for crate; do
+        if ! (cd "crates/$crate" && rt check) >"$room/$crate.proof" 2>&1; then
+            echo "demo: $crate is not proved:" >&2
+            tail -40 "$room/$crate.proof" >&2
+            return 1
+        fi
+        echo "  $crate"
+    done
+}
+
+# all PID..: waits for these, and fails if one of them did
+all() {
+    for pid; do wait "$pid" || exit 1; done
+}
+
+# The crates that lotd stands on, in lines side by side: the rules, the tables, and what reads and writes texts.
+# The tests' crates are the gate's.
+echo "> prove what lotd stands on"
+prove plan & plan=$!
+prove values label commands
+all $plan
+{
+    prove machine row_rules
+    prove goods_rules & goods=$!
+    prove order_rules & orders=$!
+    prove lot_rules & lots=$!
+    all $goods $orders $lots
+    prove rules views slice_parts
+} & rules=$!
+prove table_words each_row goods_tables order_tables history_tables tables & tables=$!
+prove open_lines texts goodsin command_line requests wire & texts=$!
+all $rules $tables
+prove changes & changes=$!
+prove slices
+all $changes
+prove store
+all $texts
+prove house service lotd
 
 # file NAME STATUS ANSWER
 file() {
