@@ -21,6 +21,8 @@ mod refusals;
 #[cfg(test)]
 mod refused_orders;
 #[cfg(test)]
+mod replanned;
+#[cfg(test)]
 mod samples;
 #[cfg(test)]
 mod spellings;
