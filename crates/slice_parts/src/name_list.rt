@@ -1,6 +1,6 @@
 //! Names, each once, however many rows have them.
 
-ghost use Rattle.std.specs.Prelude.{◌≡◌, [], OnOk};
+ghost use Rattle.std.specs.Prelude.{◌≡◌, [], ◌∷◌, OnOk, IfOk};
 ghost use Rattle.slice_parts.specs.Parts.{with_name};
 ghost use Rattle.slice_parts.specs.NameLists.{AreNamesKeyed};
 
@@ -26,6 +26,16 @@ impl NameList {
             names: Vec::new(alloc),
             keys: BTreeSet::new(alloc),
         }
+    }
+
+    /// One name.
+    pub fn one(alloc: Global, name: Name) -> Result<Self, AllocError>
+        ensures name { IfOk result (λ list. list.names.items ≡ name ∷ []) }
+        ensures keyed { IfOk result (λ list. AreNamesKeyed list) }
+    {
+        let mut list = NameList::new(alloc);
+        list.add(name)?;
+        Ok(list)
     }
 
     /// One name more, if it is new.
