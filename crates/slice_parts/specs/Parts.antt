@@ -91,6 +91,11 @@ abbrev pub order_shipped : Command → Option (List ℕ)
 order_shipped (Ship o) = Some o
 order_shipped _ = None
 
+-- the order that a command picks for
+abbrev pub order_picked : Command → Option (List ℕ)
+order_picked (Pick p) = Some p.order
+order_picked _ = None
+
 -- Orders and lines
 
 -- the orders that are not named, and those that have one of the lines

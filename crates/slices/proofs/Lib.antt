@@ -11,6 +11,7 @@ pub mod DayTold
 pub mod OrdersTold
 pub mod KnownOrders
 pub mod OwnRows
+pub mod PickRight
 pub mod ShipmentRight
 pub mod SliceRight
 pub mod OrderRight

@@ -89,5 +89,5 @@ module _ (first : ℤ) (acts : List Act) (key : Key) (order : List ℕ) (s : Sli
         (λ k e. e) (λ k e. one_named k.0 (touched k.1) e)
         (sought {K = LineKey} same_line line_key same_line_is same_line_refl (λ k. k.0) (λ k. t.line k.0 k.1) (order ∷ []) (is_among (order ∷ [])) s.rows.lines refl (λ x. refl) are.named.lines);
     staged = staged_rows;
-    reserved = no_rows {K = ReservedKey} same_reserved reserved_key (λ k. false) (λ k. touched k.1.gtin) (λ k. t.reserved k.0 k.1) s.rows.reserved are.no_reserved none;
+    reserved = no_rows {K = ReservedKey} same_reserved reserved_key (λ k. false) (λ k. same_text k.0 order || touched k.1.gtin) (λ k. t.reserved k.0 k.1) s.rows.reserved are.no_reserved none;
   }

@@ -1,11 +1,12 @@
 -- What is read of the tables of a history is the slice of the command.
 use Rattle.std.proofs.Common.{◌≡◌, ℕ, Bool, true, false, ◌&&◌, List, [], ◌∷◌, length, refl, ap, sym, subst, ◌∙◌}
-use Rattle.std.specs.Prelude.{◌||◌, ◌==◌, if◌then◌else◌, find, Option, Some, None, option_map, is_some, ℤ}
+use Rattle.std.specs.Prelude.{◌||◌, ◌==◌, nat_le, if◌then◌else◌, find, Option, Some, None, option_map, is_some, ℤ}
 use Rattle.std.specs.List.{list_any, list_all, cons_option}
 use Rattle.values.specs.Values.{same_text}
 use Rattle.values.specs.declared.lot.LotId.{LotId}
 use Rattle.commands.specs.Tables.{Tables}
 use Rattle.commands.specs.declared.key.Key.{Key}
+use Rattle.commands.specs.declared.limits.TheConstants.{ITEMS_MAX, BINS_MAX}
 use Rattle.commands.specs.declared.command.NewItem.{NewItem}
 use Rattle.commands.specs.declared.command.NewBin.{NewBin}
 use Rattle.commands.specs.declared.command.OrderLine.{OrderLine}
@@ -15,7 +16,7 @@ use Rattle.commands.specs.declared.rows.StockRow.{StockRow}
 use Rattle.commands.specs.declared.rows.LineRow.{LineRow}
 use Rattle.commands.specs.declared.rows.StagedRow.{StagedRow}
 use Rattle.commands.specs.declared.rows.OrderState.TheVariants.{Open, Done, Cancelled}
-use Rattle.table_words.specs.Typed.{ItemKey, same_item, item_key, BinKey, same_bin, bin_key, LotKey, same_lot, lot_key, RecallKey, same_recall, recall_key, StockKey, same_stock, stock_key, StagedKey, same_staged, staged_key, ReservedKey, same_reserved, reserved_key, OrderKey, same_order, order_key, LineKey, same_line, line_key, is_open_order}
+use Rattle.table_words.specs.Typed.{ItemKey, same_item, item_key, BinKey, same_bin, bin_key, LotKey, same_lot, lot_key, RecallKey, same_recall, recall_key, StockKey, same_stock, stock_key, StagedKey, same_staged, staged_key, OrderKey, same_order, order_key, LineKey, same_line, line_key, is_open_order}
 use Rattle.machine.specs.Acts.{Act, next_number}
 use Rattle.machine.specs.Standing.{items, item_in, bins, Placed, orders, order_named, lines_of, lines_placed, is_cancelled}
 use Rattle.machine.specs.Planning.{order_state, is_open_state, is_open, shipped_of}
@@ -43,6 +44,7 @@ use Rattle.slices.proofs.SliceTold.{among_with, once_with, among_names, once_nam
 use Rattle.slice_parts.proofs.KeysOnce.{has_keys, once_keys}
 use Rattle.slices.proofs.KeysRead.{keys_read}
 use Rattle.slices.proofs.OwnRows.{own_any}
+use Rattle.slices.proofs.PickRight.{picked_rows}
 use Rattle.slices.proofs.ShipmentRight.{shipment_right}
 use Rattle.slices.proofs.LinesTold.{line_some, taken}
 use Rattle.slices.proofs.DayTold.{affected_told, affected_once}
@@ -274,7 +276,7 @@ module _ (first : ℤ) (acts : List Act) where
       stock_rows = sought {K = StockKey} same_stock stock_key same_cell_is same_cell_refl (λ k. k.0.gtin) (λ k. t.stock k.0 k.1) gtins touched s.rows.stock once told rows.units.goods.stock
 
       staged_rows : AreRows {K = StagedKey} same_staged staged_key (λ k. touched k.1.gtin) (λ k. touched k.1.gtin) (λ k. t.staged k.0 k.1) s.rows.staged
-      staged_rows = sought {K = StagedKey} same_staged staged_key same_share_is same_share_refl (λ k. k.1.gtin) (λ k. t.staged k.0 k.1) gtins touched s.rows.staged once told rows.units.booked.staged
+      staged_rows = sought {K = StagedKey} same_staged staged_key same_share_is same_share_refl (λ k. k.1.gtin) (λ k. t.staged k.0 k.1) gtins touched s.rows.staged once told rows.units.shares.staged
 
       -- the lots
       abbrev held : List LotId
@@ -314,8 +316,8 @@ module _ (first : ℤ) (acts : List Act) where
       planned_right : IsSlice first act acts (tables_of first acts) s
       planned_right = record {
         meta = meta;
-        items_counted = counted_items;
-        bins_counted = counted_bins;
+        items_counted = λ e. ap (nat_le ITEMS_MAX) (counted_items e);
+        bins_counted = λ e. ap (nat_le BINS_MAX) (counted_bins e);
         items = rows_as {K = ItemKey} same_item item_key same_text_is same_text_refl touched touched (λ g. plans command && touched g) touched t.item s.rows.items (λ g e. both (plans command) (touched g) e) (λ g e. e)
             (sought {K = ItemKey} same_item item_key same_text_is same_text_refl (λ k. k) t.item gtins touched s.rows.items once told rows.units.goods.items);
         lots = rows_as {K = LotKey} same_lot lot_key is_lot_is is_lot_refl (has_key is_lot held) (has_key is_lot held)
@@ -347,9 +349,7 @@ module _ (first : ℤ) (acts : List Act) where
             (λ k e. ap (λ b. b || touched k.1) (sym (order_told command k.0)) ∙ ap (λ b. is_among (orders_named command) k.0 || b) (sym (told k.1)) ∙ e)
             (lines_told known (orders_named command) gtins t covers keyed (order_once command) once s.rows.orders s.rows.lines rows.ordered);
         staged = staged_rows;
-        reserved = rows_as {K = ReservedKey} same_reserved reserved_key same_share_is same_share_refl (λ k. touched k.1.gtin) (λ k. touched k.1.gtin) (λ k. plans command && touched k.1.gtin) (λ k. touched k.1.gtin) (λ k. t.reserved k.0 k.1) s.rows.reserved
-            (λ k e. both (plans command) (touched k.1.gtin) e) (λ k e. e)
-            (sought {K = ReservedKey} same_reserved reserved_key same_share_is same_share_refl (λ k. k.1.gtin) (λ k. t.reserved k.0 k.1) gtins touched s.rows.reserved once told rows.units.booked.reserved);
+        reserved = picked_rows command touched t s.rows.reserved rows.units.shares.reserved;
       }
         where
           needs : (a n p q h g : Bool) → a ≡ n → (p ≡ true → q ≡ true) → g ≡ h → n || (p && h) ≡ true → a || (q && g) ≡ true

@@ -22,7 +22,8 @@ use Rattle.row_rules.specs.declared.slice.Put.{Put}
 use Rattle.row_rules.specs.declared.slice.Slice.{Slice}
 use Rattle.slices.specs.Reading.{IsCount}
 use Rattle.slices.specs.ByLot.{AreLotsOf, AreStockOf}
-pub use Rattle.slice_parts.specs.Parts.{is_among, with_name, with_names, items_named, lots_named, orders_named, bins_named, whole_orders, day_opened, order_shipped, held_lots, lots_on_stage, others, other_names, has_line_in, with_lines, is_ending, not_recalled, items_of_lots, with_staged}
+use Rattle.slices.specs.ByOrder.{AreReservedOn}
+pub use Rattle.slice_parts.specs.Parts.{is_among, with_name, with_names, items_named, lots_named, orders_named, bins_named, whole_orders, day_opened, order_shipped, order_picked, held_lots, lots_on_stage, others, other_names, has_line_in, with_lines, is_ending, not_recalled, items_of_lots, with_staged}
 
 -- Reads one after another
 
@@ -62,10 +63,19 @@ pub record AreBooked (gtins : List (List ℕ)) (t : Tables) (staged_rows : List 
   pub staged : Each (λ g found. AreRows {K = StagedKey} same_staged staged_key (λ k. same_text g k.1.gtin) (λ k. t.staged k.0 k.1) found) (texts gtins) staged_rows
   pub reserved : Each (λ g found. AreRows {K = ReservedKey} same_reserved reserved_key (λ k. same_text g k.1.gtin) (λ k. t.reserved k.0 k.1) found) (texts gtins) reserved_rows
 
--- those of the items, and the rows of the lots that the command names or that have units
+-- what is staged of items, one item after another
+abbrev pub AreStaged : List (List ℕ) → Tables → List StagedRow → Type 0
+AreStaged gtins t staged_rows = Each (λ g found. AreRows {K = StagedKey} same_staged staged_key (λ k. same_text g k.1.gtin) (λ k. t.staged k.0 k.1) found) (texts gtins) staged_rows
+
+-- what is staged of the items, and what is reserved for the order that the command picks for
+pub record AreShares (command : Command) (gtins : List (List ℕ)) (t : Tables) (staged_rows : List StagedRow) (reserved_rows : List ReservedRow) : Type 0 where
+  pub staged : AreStaged gtins t staged_rows
+  pub reserved : AreReservedOn (order_picked command) t reserved_rows
+
+-- those of the items, these, and the rows of the lots that the command names or that have units
 pub record AreUnits (command : Command) (gtins : List (List ℕ)) (t : Tables) (item_rows : List ItemRow) (lot_rows : List LotRow) (recall_rows : List RecallRow) (stock_rows : List StockRow) (staged_rows : List StagedRow) (reserved_rows : List ReservedRow) : Type 0 where
   pub goods : AreGoods gtins t item_rows recall_rows stock_rows
-  pub booked : AreBooked gtins t staged_rows reserved_rows
+  pub shares : AreShares command gtins t staged_rows reserved_rows
   pub lots : AreLotsOf (held_lots command stock_rows staged_rows) t lot_rows
 
 -- the rows of the bins, one bin after another
@@ -217,7 +227,7 @@ pub record ArePlanned (known : Entries) (command : Command) (t : Tables) (rows :
 -- of the lots that are staged for the order
 pub record AreShipped (order : List ℕ) (t : Tables) (rows : Rows) : Type 0 where
   pub named : AreNamed (order ∷ []) t rows.orders rows.lines
-  pub staged : Each (λ g found. AreRows {K = StagedKey} same_staged staged_key (λ k. same_text g k.1.gtin) (λ k. t.staged k.0 k.1) found) (texts (with_names (λ r. r.gtin) rows.lines [])) rows.staged
+  pub staged : AreStaged (with_names (λ r. r.gtin) rows.lines []) t rows.staged
   pub stock : AreStockOf (lots_on_stage order rows.staged) t rows.stock
   pub no_items : rows.items ≡ []
   pub no_bins : rows.bins ≡ []

@@ -15,9 +15,10 @@ ghost use Rattle.table_words.specs.Typed.{tables_in};
 ghost use Rattle.open_lines.specs.OpenLines.{Loses, has_closed_row, has_line_row};
 ghost use Rattle.slices.specs.Reading.{IsRead};
 ghost use Rattle.slices.specs.ByLot.{AreLotsOf};
-ghost use Rattle.slices.specs.Slicing.{AreGoods, AreBooked, AreUnits, AreBins, AreCounts, AreTaken, AreTouched, ArePlanned, AreSliced, Covers, IsSliceIn, bins_named, with_names, held_lots};
+ghost use Rattle.slices.specs.Slicing.{AreGoods, AreBooked, AreShares, AreUnits, AreBins, AreCounts, AreTaken, AreTouched, ArePlanned, AreSliced, Covers, IsSliceIn, bins_named, with_names, held_lots};
 
 use crate::by_lot::of_lots;
+use crate::by_order::reserved_for_pick;
 use crate::known_orders::read_known_orders;
 use crate::opening::affected_items;
 use crate::reading::{count_bins, count_items, meta_row};
@@ -92,6 +93,21 @@ pub fn read_booked<S: Alter>(
     seek_both::<Gtin, StagedRow, ReservedRow, S>(alloc, tx, gtins)
 }
 
+/// What is staged of the items, and what is reserved for the order that the command picks for.
+fn read_shares<S: Alter>(
+    alloc: Global,
+    tx: &mut Transaction<'_, S>,
+    command: &Command,
+    gtins: &[Gtin],
+) -> Result<(Vec<StagedRow>, Vec<ReservedRow>), TableFault>
+    ensures same_reference { tx.new.conn.ghost_name ≡ tx.old.conn.ghost_name }
+    ensures read { IsRead (λ t rows. AreShares command.now gtins.now t rows.0.items rows.1.items) (state S.Store tx.old.conn.now) (state S.Store tx.new.conn.now) result }
+{
+    let staged = seek_all::<StagedRow, S>(alloc, tx, gtins)?;
+    let reserved = reserved_for_pick(alloc, tx, command)?;
+    Ok((staged, reserved))
+}
+
 /// The lots that the command names or that have units.
 fn read_lots<S: Alter>(
     alloc: Global,
@@ -107,8 +123,8 @@ fn read_lots<S: Alter>(
     of_lots::<LotRow, S>(alloc, tx, lots.as_slice())
 }
 
-/// The rows of the items, those of the lots that the command names or that have units, and what is staged and what is
-/// reserved of the items.
+/// The rows of the items, those of the lots that the command names or that have units, what is staged of the items, and
+/// what is reserved for the order that the command picks for.
 fn read_units<S: Alter>(
     alloc: Global,
     tx: &mut Transaction<'_, S>,
@@ -125,9 +141,9 @@ fn read_units<S: Alter>(
     ensures read { IsRead (λ t rows. AreUnits command.now gtins.now t rows.0.0.items rows.0.1.items rows.0.2.items rows.0.3.items rows.1.0.items rows.1.1.items) (state S.Store tx.old.conn.now) (state S.Store tx.new.conn.now) result }
 {
     let (items, recalls, stock) = read_goods(alloc, tx, gtins)?;
-    let booked = read_booked(alloc, tx, gtins)?;
-    let lots = read_lots(alloc, tx, command, stock.as_slice(), booked.0.as_slice())?;
-    Ok(((items, lots, recalls, stock), booked))
+    let shares = read_shares(alloc, tx, command, gtins)?;
+    let lots = read_lots(alloc, tx, command, stock.as_slice(), shares.0.as_slice())?;
+    Ok(((items, lots, recalls, stock), shares))
 }
 
 /// The rows that were read, together.
@@ -135,7 +151,7 @@ fn rows_read(
     goods: (Vec<ItemRow>, Vec<LotRow>, Vec<RecallRow>, Vec<StockRow>),
     bins: Vec<BinRow>,
     ordered: (Vec<OrderRow>, Vec<LineRow>),
-    booked: (Vec<StagedRow>, Vec<ReservedRow>),
+    shares: (Vec<StagedRow>, Vec<ReservedRow>),
 ) -> Rows
     ensures same_items { result.items ≡ goods.0.items }
     ensures same_bins { result.bins ≡ bins.items }
@@ -144,12 +160,12 @@ fn rows_read(
     ensures same_stock { result.stock ≡ goods.3.items }
     ensures same_orders { result.orders ≡ ordered.0.items }
     ensures same_lines { result.lines ≡ ordered.1.items }
-    ensures same_staged { result.staged ≡ booked.0.items }
-    ensures same_reserved { result.reserved ≡ booked.1.items }
+    ensures same_staged { result.staged ≡ shares.0.items }
+    ensures same_reserved { result.reserved ≡ shares.1.items }
 {
     let (items, lots, recalls, stock) = goods;
     let (orders, lines) = ordered;
-    let (staged, reserved) = booked;
+    let (staged, reserved) = shares;
     Rows {
         items: Listed::from_vec(items),
         bins: Listed::from_vec(bins),
@@ -211,10 +227,10 @@ fn read_planned<S: Alter>(
 {
     let gtins = touched_items(alloc, tx, command)?;
     let named = named_orders(alloc, command)?;
-    let (goods, booked) = read_units(alloc, tx, command, gtins.as_slice())?;
+    let (goods, shares) = read_units(alloc, tx, command, gtins.as_slice())?;
     let bins = read_bins(alloc, tx, command, goods.3.as_slice())?;
     let ordered = read_known_orders(alloc, tx, known, named.as_slice(), gtins.as_slice())?;
-    Ok(rows_read(goods, bins, ordered, booked))
+    Ok(rows_read(goods, bins, ordered, shares))
 }
 
 /// The rows of the slice.

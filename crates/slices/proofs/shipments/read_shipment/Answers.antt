@@ -1,13 +1,10 @@
 use Rattle.std.proofs.Common.{◌≡◌, ℕ, List, [], ap, sym, subst, ◌∙◌}
-use Rattle.values.specs.Values.{same_text}
 use Rattle.values.specs.declared.lot.LotId.{LotId}
 use Rattle.commands.specs.declared.rows.LineRow.{LineRow}
 use Rattle.sqlite.specs.declared.error.Error.TheVariants.{SqliteFailure}
 use Rattle.sqlite.specs.declared.error.ErrorCode.TheVariants.{OutOfMemory}
-use Rattle.table_words.specs.Found.{AreRows}
-use Rattle.table_words.specs.Typed.{StagedKey, same_staged, staged_key}
 use Rattle.slices.specs.ByLot.{AreStockOf}
-use Rattle.slices.specs.Slicing.{Each, texts, with_names, lots_on_stage}
+use Rattle.slices.specs.Slicing.{AreStaged, with_names, lots_on_stage}
 use Rattle.slices.proofs.ReadSteps.{has_read, read_on, and_then, so_told, fails_first, fails_later, no_room_left}
 use Rattle.slices.proofs.shipments.read_shipment.Goals as goal
 
@@ -37,7 +34,7 @@ returns-clause-read g c =
     (λ t h. record {
       named = rw (c.of_shipment.ensures.same_orders, c.of_shipment.ensures.same_lines) h.0.0;
       staged = rw c.of_shipment.ensures.same_staged
-          (subst (λ (l : List (List ℕ)). Each (λ g found. AreRows {K = StagedKey} same_staged staged_key (λ k. same_text g k.1.gtin) (λ k. t.staged k.0 k.1) found) (texts l) c.in_ok-staged.staged.items) of_lines h.0.1);
+          (subst (λ (l : List (List ℕ)). AreStaged l t c.in_ok-staged.staged.items) of_lines h.0.1);
       stock = rw c.of_shipment.ensures.same_stock (subst (λ (l : List LotId). AreStockOf l t c.in_ok-stock.stock.items) on_stage h.1);
       no_items = c.of_shipment.ensures.no_items;
       no_bins = c.of_shipment.ensures.no_bins;

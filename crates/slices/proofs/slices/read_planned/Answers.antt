@@ -25,7 +25,7 @@ pub returns-clause-read : goal.returns-clause-read
 returns-clause-read g c =
     let command = c.args.command.now in
     let goods = c.in_ok-goods.goods in
-    let booked = c.in_ok-goods.booked in
+    let shares = c.in_ok-goods.shares in
     let of_orders : c.as_slice-3.result.now ≡ orders_named command = c.as_slice-3.ensures.value ∙ c.in_ok-named.ensures in
     let stock_is : c.as_slice-2.result.now ≡ c.rows_read.result.stock = c.as_slice-2.ensures.value ∙ sym c.rows_read.ensures.same_stock in
     so_told (and_then (and_then (and_then c.in_ok-gtins.ensures.read c.in_ok-goods.ensures.read) c.in_ok-bins.ensures.read) c.in_ok-ordered.ensures.read)
@@ -33,7 +33,7 @@ returns-clause-read g c =
       gtins = c.in_ok-gtins.gtins.items;
       touched = h.0.0.0;
       units = rw (c.rows_read.ensures.same_items, c.rows_read.ensures.same_lots, c.rows_read.ensures.same_recalls, c.rows_read.ensures.same_stock, c.rows_read.ensures.same_staged, c.rows_read.ensures.same_reserved)
-          (subst (λ (l : List (List ℕ)). AreUnits command l t goods.0.items goods.1.items goods.2.items goods.3.items booked.0.items booked.1.items) c.as_slice.ensures.value h.0.0.1);
+          (subst (λ (l : List (List ℕ)). AreUnits command l t goods.0.items goods.1.items goods.2.items goods.3.items shares.0.items shares.1.items) c.as_slice.ensures.value h.0.0.1);
       bins = rw c.rows_read.ensures.same_bins (subst (λ (l : List StockRow). AreBins (with_names (λ r. r.bin) l (bins_named command)) t c.in_ok-bins.bins.items) stock_is h.0.1);
       ordered = rw (c.rows_read.ensures.same_orders, c.rows_read.ensures.same_lines)
           (subst (λ (l : List (List ℕ)). AreKnownOrders c.args.known.now (orders_named command) l t c.in_ok-ordered.ordered.0.items c.in_ok-ordered.ordered.1.items) c.as_slice-4.ensures.value
