@@ -6,6 +6,7 @@ use commands::limits::ACTS_MAX;
 
 // After 4 of lot L2 are picked on 2026-05-31, when lot L0 is out already.
 const PICKED_LATE: Sample = Sample {
+    day: "2026-05-31",
     acts: 12,
     stock: "L1|A-01|10\nL2|A-01|6\nL0|A-01|5",
     staged: "S-1|L2|4",
