@@ -1,17 +1,23 @@
--- One key more in a list of keys beside what tells which keys it has.
+-- One value more in a list beside the keys of its values.
 use Rattle.std.proofs.Common.{◌≡◌, Bool, true, false, cond, List, [], ◌∷◌, ◌++◌, refl, ap, sym, ◌∙◌}
 use Rattle.std.specs.Prelude.{◌||◌}
+use Rattle.std.specs.declared.cmp.Ordering.{Ordering}
+use Rattle.std.specs.Ordering.{is_eq}
+use Rattle.std.specs.BTreeMap.{is_at}
+use Rattle.std.specs.BTreeSet.{BTreeSet, contains}
 use Rattle.std.proofs.lemmas.List.Folds.{list_any-append}
 use Rattle.machine.proofs.Tests.{or_false}
-use Rattle.slice_parts.specs.Keys.{has_key}
+use Rattle.slice_parts.specs.Keys.{has_key, AreKeyed}
 
-module _ {K : Type 0} (same : K → K → Bool) (keys : List K) (key : K) (has : K → Bool) (told : (k : K) → has k ≡ has_key same keys k) where
-  pub one_more_told : (more : K → Bool) (at : K → Bool) (new : List K) → ((k : K) → at k ≡ same k key) → ((k : K) → more k ≡ cond (at k) true (has k)) → new ≡ keys ++ key ∷ [] → (k : K) → more k ≡ has_key same new k
-  one_more_told more at new at_key updates grown k =
-      updates k
-      ∙ (λ i. cond (at_key k i) true (told k i))
-      ∙ turned (same k key) (has_key same keys k)
-      ∙ sym (ap (λ ks. has_key same ks k) grown ∙ list_any-append (same k) keys (key ∷ []) ∙ ap (λ b. has_key same keys k || b) (or_false (same k key)))
+module _ {T K : Type 0} (cmp : K → K → Ordering) (key : T → K) (same : T → T → Bool) (told : (x y : T) → is_eq (cmp (key y) (key x)) ≡ same x y) where
+  -- its key is added to the keys
+  pub keyed_with : (keys more : BTreeSet K) (values new : List T) (value : T) → AreKeyed cmp key same keys values → ((q : K) → contains cmp more q ≡ cond (is_at (cmp (key value)) q) true (contains cmp keys q)) → new ≡ values ++ value ∷ []
+      → AreKeyed cmp key same more new
+  keyed_with keys more values new value keyed updates grown x =
+      updates (key x)
+      ∙ (λ i. cond (told x value i) true (keyed x i))
+      ∙ turned (same x value) (has_key same values x)
+      ∙ sym (ap (λ xs. has_key same xs x) grown ∙ list_any-append (same x) values (value ∷ []) ∙ ap (λ b. has_key same values x || b) (or_false (same x value)))
     where
       turned : (a b : Bool) → cond a true b ≡ b || a
       turned true true = refl

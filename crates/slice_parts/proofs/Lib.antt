@@ -1,4 +1,3 @@
 pub mod KeysOnce
-pub mod LotsSeen
 pub mod KeysSeen
-pub mod NamesSeen
+pub mod NamesOnce

@@ -2,6 +2,7 @@
 
 ghost use Rattle.std.specs.Prelude.{◌≡◌};
 
+use crate::key_list::KeyOf;
 use row_rules::looking::is_same_lot;
 use std::cmp::Ordering;
 use std::marker::Model;
@@ -23,10 +24,17 @@ impl Model for LotKey {
     ghost inverse = { λ lot. record { lot = lot } };
 }
 
-impl LotKey {
-    pub fn of(lot: &LotId) -> Self
-        ensures { result ≡ lot.now }
-    {
+impl KeyOf<LotId> for LotKey {
+    ghost use Rattle.machine.specs.Postings.{is_lot};
+    ghost use Rattle.slice_parts.specs.LotOrder.{lots_told};
+
+    ghost same = { is_lot };
+
+    ghost key = { λ l. l };
+
+    ghost told = { lots_told };
+
+    fn of(lot: &LotId) -> Self {
         LotKey { lot: *lot }
     }
 }

@@ -15,7 +15,7 @@ pub fn reserved_lots(alloc: Global, reserved: &[ReservedRow]) -> Result<Vec<LotI
 {
     let mut list = LotList::new(alloc);
     list.add_all(reserved)?;
-    Ok(list.into_lots())
+    Ok(list.into_values())
 }
 
 /// The lots of staged and of reserved units, each once.
@@ -29,5 +29,5 @@ pub fn booked_lots(
     let mut list = LotList::new(alloc);
     list.add_all(reserved)?;
     list.add_all(staged)?;
-    Ok(list.into_lots())
+    Ok(list.into_values())
 }

@@ -24,7 +24,7 @@ pub fn lots_held(
     list.add_all(named.as_slice())?;
     list.add_all(stock)?;
     list.add_all(staged)?;
-    Ok(list.into_lots())
+    Ok(list.into_values())
 }
 
 /// What is staged for an order.
@@ -55,5 +55,5 @@ pub fn lots_on_stage(
     let rows = staged_for(alloc, order, staged)?;
     let mut list = LotList::new(alloc);
     list.add_all(rows.as_slice())?;
-    Ok(list.into_lots())
+    Ok(list.into_values())
 }

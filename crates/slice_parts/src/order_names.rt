@@ -59,9 +59,7 @@ pub fn open_rows(alloc: Global, rows: &[OrderRow]) -> Result<Vec<OrderRow>, Allo
 pub fn orders_of_lines(alloc: Global, lines: &[LineRow]) -> Result<Vec<Name>, AllocError>
     ensures { IfOk result (λ names. names.items ≡ with_names (λ r. r.order) lines.now []) }
 {
-    let mut names = NameList::new(alloc);
-    for line in lines {
-        names.add(line.order)?;
-    }
-    Ok(names.into_names())
+    let mut list = NameList::new(alloc);
+    list.add_all(lines)?;
+    Ok(list.into_values())
 }
