@@ -23,6 +23,8 @@ mod refused_orders;
 #[cfg(test)]
 mod samples;
 #[cfg(test)]
+mod short_views;
+#[cfg(test)]
 mod spellings;
 #[cfg(test)]
 mod stock_views;
