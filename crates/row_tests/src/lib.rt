@@ -25,6 +25,8 @@ mod replanned;
 #[cfg(test)]
 mod samples;
 #[cfg(test)]
+mod short_views;
+#[cfg(test)]
 mod spellings;
 #[cfg(test)]
 mod stock_views;

@@ -1,10 +1,12 @@
 //! Which rows of orders a slice has.
 
-ghost use Rattle.std.specs.Prelude.{◌≡◌, not, IfOk};
+ghost use Rattle.std.specs.Prelude.{◌≡◌, not, filter, IfOk};
+ghost use Rattle.row_rules.specs.LookUps.{rows_given};
 ghost use Rattle.slice_parts.specs.Parts.{is_among, others as others_lem, with_lines as with_lines_lem, has_line_in};
 
 use crate::naming::has_name;
 use commands::{LineRow, OrderRow};
+use row_rules::look_ups::{RowsByText, by_text};
 use std::alloc::{AllocError, Global};
 use values::Name;
 
@@ -52,9 +54,21 @@ pub fn with_lines(
 ) -> Result<Vec<OrderRow>, AllocError>
     ensures { IfOk result (λ rows. rows.items ≡ with_lines_lem lines.now orders.now) }
 {
+    let own = by_text(alloc, lines, orders.len())?;
+    with_own_lines(alloc, orders, &own)
+}
+
+/// The orders that have one of the lines that are given for their names.
+fn with_own_lines(
+    alloc: Global,
+    orders: &[OrderRow],
+    lines: &RowsByText<'_, LineRow>,
+) -> Result<Vec<OrderRow>, AllocError>
+    ensures { IfOk result (λ rows. rows.items ≡ filter (λ r. has_line_in (rows_given lines.now r.order) r.order) orders.now) }
+{
     let mut rows = Vec::new(alloc);
     for order in orders {
-        if has_line(lines, &order.order) {
+        if has_line(lines.rows_of_name(&order.order), &order.order) {
             rows.push(*order)?;
         }
     }

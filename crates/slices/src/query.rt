@@ -32,6 +32,9 @@ pub trait Query: Copy {
     /// What is shown.
     type View;
 
+    /// What it takes to be so of the tables.
+    ghost suits: { Self → Tables → Type 0 };
+
     /// What the tables have of it.
     ghost is_in: { Self → Tables → Option Self.Found → Type 0 };
 
@@ -54,7 +57,7 @@ pub trait Query: Copy {
         day: BusinessDay,
         found: Self::Found,
     ) -> Result<Self::View, AllocError>
-        ensures { (first : ℤ) (acts : List Act) → IsHistory first acts → today first acts ≡ day → is_in self.now (tables_of first acts) (Some found)
+        ensures { (first : ℤ) (acts : List Act) → IsHistory first acts → today first acts ≡ day → suits self.now (tables_of first acts) → is_in self.now (tables_of first acts) (Some found)
             → IfOk result (λ view. shown first acts self.now ≡ Ok view) };
 
     /// The refusal where it is not known.

@@ -1,16 +1,19 @@
 //! The rows by which the bookings of an item that are short are shown.
 
 ghost use Rattle.std.specs.Prelude.{◌≡◌};
+ghost use Rattle.std.specs.Option.{option_copied};
 ghost use Rattle.sqlite.specs.Held.{state};
 ghost use Rattle.slices.specs.Reading.{IsRead};
-ghost use Rattle.slices.specs.ShownShort.{AreOfDemands};
+ghost use Rattle.slices.specs.ShownShort.{AreOrderedFor, AreOfDemands};
 
+use crate::known_orders::read_known_orders;
 use crate::order_slices::read_orders;
 use crate::query::Query;
 use crate::shown_stock::item_row;
 use crate::slices::read_booked;
-use commands::{ItemRow, Refusal, ShortView};
+use commands::{ItemRow, LineRow, OrderRow, Refusal, ShortView};
 use label::BusinessDay;
+use open_lines::OpenLines;
 use rules::Rows;
 use slice_parts::item_rows::of_demands;
 use sqlite::{Alter, Transaction};
@@ -19,36 +22,59 @@ use table_words::error::TableFault;
 use values::Gtin;
 use views::short_view;
 
+/// The open orders with a line of the item, and those lines. Where nothing is known of the open orders, all of them are
+/// read.
+fn read_ordered<S: Alter>(
+    alloc: Global,
+    tx: &mut Transaction<'_, S>,
+    known: Option<&OpenLines>,
+    gtin: &Gtin,
+) -> Result<(Vec<OrderRow>, Vec<LineRow>), TableFault>
+    ensures same_reference { tx.new.conn.ghost_name ≡ tx.old.conn.ghost_name }
+    ensures read { IsRead (λ t rows. AreOrderedFor (option_copied known.entry) gtin.now t rows.0.items rows.1.items) (state S.Store tx.old.conn.now) (state S.Store tx.new.conn.now) result }
+{
+    let gtins = [*gtin];
+    match known {
+        Some(known) => read_known_orders(alloc, tx, known, &[], &gtins),
+        None => read_orders(alloc, tx, &[], &gtins),
+    }
+}
+
 /// The open orders with a line of the item, those lines, and what is staged and reserved of it.
 fn read_demands<S: Alter>(
     alloc: Global,
     tx: &mut Transaction<'_, S>,
+    known: Option<&OpenLines>,
     gtin: &Gtin,
 ) -> Result<Rows, TableFault>
     ensures same_reference { tx.new.conn.ghost_name ≡ tx.old.conn.ghost_name }
-    ensures read { IsRead (λ t rows. AreOfDemands gtin.now t rows) (state S.Store tx.old.conn.now) (state S.Store tx.new.conn.now) result }
+    ensures read { IsRead (λ t rows. AreOfDemands (option_copied known.entry) gtin.now t rows) (state S.Store tx.old.conn.now) (state S.Store tx.new.conn.now) result }
 {
-    let gtins = [*gtin];
-    let (orders, lines) = read_orders(alloc, tx, &[], &gtins)?;
-    let (staged, reserved) = read_booked(alloc, tx, &gtins)?;
+    let (orders, lines) = read_ordered(alloc, tx, known, gtin)?;
+    let (staged, reserved) = read_booked(alloc, tx, &[*gtin])?;
     Ok(of_demands(alloc, orders, lines, staged, reserved))
 }
 
 /// The bookings of an item that are short, by its GTIN.
 #[derive(Clone, Copy)]
-pub struct ShortQuery {
+pub struct ShortQuery<'a> {
     pub gtin: Gtin,
+    /// The orders that may be open, by the items of their lines, where they are known.
+    pub known: Option<&'a OpenLines>,
 }
 
-impl Query for ShortQuery {
+impl<'a> Query for ShortQuery<'a> {
+    ghost use Rattle.std.specs.Option.{option_copied};
     ghost use Rattle.machine.specs.Queries.{short_shown};
-    ghost use Rattle.slices.specs.ShownShort.{IsShortIn};
+    ghost use Rattle.slices.specs.ShownShort.{IsKnownOf, IsShortIn};
 
     type Found = (ItemRow, Rows);
 
     type View = ShortView;
 
-    ghost is_in = { λ q t found. IsShortIn q.gtin t found };
+    ghost suits = { λ q t. IsKnownOf (option_copied q.known) t };
+
+    ghost is_in = { λ q t found. IsShortIn (option_copied q.known) q.gtin t found };
 
     ghost shown = { λ first acts q. short_shown first acts q.gtin };
 
@@ -60,7 +86,7 @@ impl Query for ShortQuery {
         let known = item_row(alloc, tx, &self.gtin)?;
         match known {
             Some(row) => {
-                let rows = read_demands(alloc, tx, &self.gtin)?;
+                let rows = read_demands(alloc, tx, self.known, &self.gtin)?;
                 Ok(Some((row, rows)))
             }
             None => Ok(None),

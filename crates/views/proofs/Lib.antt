@@ -15,3 +15,4 @@ pub mod LotTotals
 pub mod StockTold
 pub mod StockGiven
 pub mod ShortsShown
+pub mod ShortGiven

@@ -5,3 +5,4 @@ pub mod ShownStock
 pub mod GivenStock
 pub mod SeenShort
 pub mod ShownShort
+pub mod GivenShort

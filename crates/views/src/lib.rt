@@ -7,6 +7,7 @@ mod looking;
 mod lot_units;
 mod lots;
 mod order;
+mod order_shorts;
 mod short;
 mod shorts;
 mod stock;

@@ -5,6 +5,7 @@ ghost use Rattle.values.specs.Values.{same_text};
 ghost use Rattle.machine.specs.Postings.{of_item};
 ghost use Rattle.row_rules.specs.Plans.{staged_seen};
 ghost use Rattle.views.specs.Seen.{reserved_seen, line_need as line_need_lem, line_short as line_short_lem};
+ghost use Rattle.views.specs.GivenShort.{line_told};
 
 use commands::{LineRow, OrderRow, OrderState, ReservedRow, StagedRow};
 use rules::Rows;
@@ -14,8 +15,25 @@ use values::{Gtin, Name};
 pub fn line_short(rows: &Rows, order: &OrderRow, line: &LineRow) -> u64
     ensures { result ≡ line_short_lem rows.now order.now line.now }
 {
-    let need = line_need(rows.staged.as_slice(), order, line);
-    less_reserved(need, rows.reserved.as_slice(), &order.order, &line.gtin)
+    short_by(
+        rows.staged.as_slice(),
+        rows.reserved.as_slice(),
+        order,
+        line,
+    )
+}
+
+/// The same, by what is staged and what is reserved.
+pub fn short_by(
+    staged: &[StagedRow],
+    reserved: &[ReservedRow],
+    order: &OrderRow,
+    line: &LineRow,
+) -> u64
+    ensures { result ≡ line_told staged.now reserved.now order.now line.now }
+{
+    let need = line_need(staged, order, line);
+    less_reserved(need, reserved, &order.order, &line.gtin)
 }
 
 fn line_need(staged: &[StagedRow], order: &OrderRow, line: &LineRow) -> u64

@@ -6,7 +6,7 @@ use Rattle.slices.proofs.OrderRight.{order_right}
 use Rattle.slices.proofs.shown_orders.OrderQueryQuery.view.Goals as goal
 
 pub returns : goal.returns
-returns c first acts history is_day found =
+returns c first acts history is_day suits found =
     let order = c.args.self.now.order in
     let read = order_right first acts order c.args.found.0 c.args.found.1 found in
     known_told UnknownOrder (order_view first acts) (order_named acts order) read.p read.named c.order_view-view.result

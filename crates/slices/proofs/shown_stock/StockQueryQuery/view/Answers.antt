@@ -6,7 +6,7 @@ use Rattle.slices.proofs.StockRight.{stock_right}
 use Rattle.slices.proofs.shown_stock.StockQueryQuery.view.Goals as goal
 
 pub returns : goal.returns
-returns c first acts history is_day found =
+returns c first acts history is_day suits found =
     let gtin = c.args.self.now.gtin in
     let read = stock_right first acts gtin c.args.found.0 c.args.found.1 found in
     known_told UnknownItem (stock_view first acts) (item_row acts gtin) c.args.found.0 read.0 c.stock_view-view.result (c.stock_view-view.ensures.shown first acts history is_day read.1)

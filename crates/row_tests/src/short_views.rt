@@ -1,0 +1,100 @@
+//! What three hundred orders are short of one item: the last of them is given first, and others stand
+//! among them.
+
+use crate::many_rows::filled;
+use crate::samples::{Written, add};
+use commands::{ItemRow, LineRow, Listed, OrderRow, ReservedRow, ShortLine, ShortView, StagedRow};
+use rules::Rows;
+use std::alloc::Global;
+use std::process::Abort;
+use views::short_view;
+
+// With a flag of `rt try --test --fail-alloc N` the Nth request for memory is refused: a view that
+// is refused memory is made again.
+fn view_of(rt: &impl Abort, alloc: Global, rows: &Rows, item: &ItemRow) -> ShortView {
+    match short_view(alloc, rows, item) {
+        Ok(view) => view,
+        Err(_) => short_view(alloc, rows, item).ok().expect(rt, "memory"),
+    }
+}
+
+// The rows of so many numbers, the greatest first.
+fn add_falling<R: Written>(
+    rt: &impl Abort,
+    alloc: Global,
+    rows: &mut Vec<R>,
+    form: &str,
+    greatest: u64,
+) {
+    for place in 0..150 {
+        let number = greatest.saturating_sub(place);
+        add(rt, rows, filled(rt, alloc, form, number));
+    }
+}
+
+// The rows of the numbers 100 to 399, the greatest first, and among them these.
+fn falling<R: Written>(rt: &impl Abort, alloc: Global, form: &str, others: &[&str]) -> Vec<R> {
+    let mut rows = Vec::new(alloc);
+    add_falling(rt, alloc, &mut rows, form, 399);
+    for text in others {
+        add(rt, &mut rows, R::read(rt, text));
+    }
+    add_falling(rt, alloc, &mut rows, form, 249);
+    rows
+}
+
+// Of the others, S-20 and S-500 are closed, S-30 has no line of the item, and S-40 is served in full.
+// S-320 has two lines of the item, of which the first counts, and S-150 units of two lots on its
+// stage.
+fn rows_of_many(rt: &impl Abort, alloc: Global) -> Rows {
+    let orders = [
+        "S-20|20|Corner Shop|DONE",
+        "S-30|30|Harbour Cafe|OPEN",
+        "S-40|40|Harbour Cafe|OPEN",
+        "S-500|500|Corner Shop|CANCELLED",
+    ];
+    let lines = [
+        "S-20|09506000134352|7|7",
+        "S-30|04012345000016|6|0",
+        "S-40|09506000134352|5|0",
+        "S-500|09506000134352|40|0",
+        "S-320|09506000134352|5|0",
+        "S-320|04012345000016|3|0",
+    ];
+    Rows {
+        items: Listed::from_vec(Vec::new(alloc)),
+        bins: Listed::from_vec(Vec::new(alloc)),
+        lots: Listed::from_vec(Vec::new(alloc)),
+        recalls: Listed::from_vec(Vec::new(alloc)),
+        stock: Listed::from_vec(Vec::new(alloc)),
+        orders: Listed::from_vec(falling(rt, alloc, "S-#|#|Shop #|OPEN", &orders)),
+        lines: Listed::from_vec(falling(rt, alloc, "S-#|09506000134352|9#|1", &lines)),
+        staged: Listed::from_vec(falling(rt, alloc, "S-#|L1|2", &["S-150|L2|4"])),
+        reserved: Listed::from_vec(falling(rt, alloc, "S-#|L1|50", &["S-40|L2|5"])),
+    }
+}
+
+// Of the act 100 + place: 9,000 units and as many as its number, less one shipped, two staged and
+// fifty reserved.
+fn expect_lines(rt: &impl Abort, alloc: Global, lines: &[ShortLine]) {
+    assert_eq!(rt; lines.len(), 300);
+    for (place, line) in lines.iter().enumerate() {
+        let number = 100 + place as u64;
+        let own: OrderRow = filled(rt, alloc, "S-#|#|Shop #|OPEN", number);
+        let units = 8947 + number;
+        assert_eq!(rt; line.order.as_bytes(), own.order.as_bytes());
+        assert_eq!(rt; line.customer.as_bytes(), own.customer.as_bytes());
+        assert_eq!(rt; line.qty, if number == 150 { units - 4 } else { units });
+    }
+}
+
+#[test]
+fn shows_shortages_of_many_orders(rt: HostRuntime) {
+    let alloc = rt.alloc();
+    let rows = rows_of_many(&rt, alloc);
+    let item = ItemRow::read(&rt, "09506000134352|Oat drink");
+    let view = view_of(&rt, alloc, &rows, &item);
+    expect_lines(&rt, alloc, view.lines.as_slice());
+    drop(rows);
+    drop(view);
+}
