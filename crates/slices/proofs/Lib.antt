@@ -1,4 +1,5 @@
 pub mod Counted
+pub mod AtMost
 pub mod TypedRows
 pub mod ReadSteps
 pub mod RowsTold

@@ -17,23 +17,33 @@ use Rattle.row_rules.specs.declared.slice.Slice.{Slice}
 use Rattle.open_lines.specs.OpenLines.{Entries, Loses, has_closed_row, has_line_row}
 use Rattle.slices.specs.Books.{IsBooksOf}
 use Rattle.slices.specs.Reading.{IsRead}
-use Rattle.slices.specs.Slicing.{Covers, IsSliceIn, AreSlicedOn, orders_named, order_shipped}
+use Rattle.slices.specs.Bounding.{AreBounds, with_counts}
+use Rattle.slices.specs.Slicing.{Covers, HoldsOf, IsSliceIn, AreSlicedOn, orders_named, order_shipped}
+use Rattle.slices.specs.declared.knowing.Bounds.{Bounds}
+use Rattle.slices.specs.declared.knowing.Known.{Known}
+use Rattle.slices.proofs.AtMost.{bounds_counted}
 use Rattle.slices.proofs.Covering.{covers_met, covers_shipped}
 use Rattle.slices.proofs.SliceRight.{slice_right}
 
-pub slice_read : (known : Entries) (command : Command) (old new : State) (r : Result Slice TableFault) → IsRead (λ t s. IsSliceIn known command t s) old new r → HasCleanDisk new → IsTrue old.is_open → (first : ℤ) (acts : List Act) (key : Key) → IsHistory first acts → IsBooksOf first acts old.now
-    → Covers known (tables_in old.now.trees) → IfOk r (IsSlice first (record { key = key; command = command }) acts (tables_of first acts))
-slice_read known command old new (Ok s) one clean up first acts key history books covers =
-    slice_right first acts key command known (subst (λ (t : Tables). Covers known t) books.rows.tables covers) history s (subst (λ (t : Tables). IsSliceIn known command t s) books.rows.tables (one.answers clean books.ready up).1)
-slice_read known command old new (Err e) one clean up first acts key history books covers = tt
+pub slice_read : (known : Known) (command : Command) (old new : State) (r : Result Slice TableFault) → IsRead (λ t s. IsSliceIn known command t s) old new r → HasCleanDisk new → IsTrue old.is_open → (first : ℤ) (acts : List Act) (key : Key) → IsHistory first acts → IsBooksOf first acts old.now
+    → HoldsOf known (tables_in old.now.trees) → IfOk r (IsSlice first (record { key = key; command = command }) acts (tables_of first acts))
+slice_read known command old new (Ok s) one clean up first acts key history books holds =
+    slice_right first acts key command known (subst (λ (t : Tables). HoldsOf known t) books.rows.tables holds) history s (subst (λ (t : Tables). IsSliceIn known command t s) books.rows.tables (one.answers clean books.ready up).1)
+slice_read known command old new (Err e) one clean up first acts key history books holds = tt
 
 covers_sliced : (shipped : Option (List ℕ)) (command : Command) (t : Tables) (rows : Rows) (old new : Entries) → AreSlicedOn shipped old command t rows → Loses (λ g o. has_closed_row rows.orders o && has_line_row rows.lines g o) old new → Covers old t → Covers new t
 covers_sliced None command t rows old new are = covers_met old (orders_named command) are.gtins t rows.orders rows.lines old new are.ordered
 covers_sliced (Some order) command t rows old new are = covers_shipped (order ∷ []) t rows.orders rows.lines old new are.named
 
--- without the closed orders that it tells, what covered the open lines covers them
-pub slice_covers : (command : Command) (before after : State) (r : Result Slice TableFault) (old new : Entries) → IsRead (λ t s. IsSliceIn old command t s) before after r
-    → IfOk r (λ s. Loses (λ g o. has_closed_row s.rows.orders o && has_line_row s.rows.lines g o) old new) → IfErr r (λ e. new ≡ old)
-    → HasCleanDisk after → IsReady before.now → IsTrue before.is_open → Covers old (tables_in before.now.trees) → Covers new (tables_in before.now.trees)
-slice_covers command before after (Ok s) old new one met unread clean ready up covers = covers_sliced (order_shipped command) command (tables_in before.now.trees) s.rows old new (one.answers clean ready up).1.rows met covers
-slice_covers command before after (Err e) old new one met unread clean ready up covers = subst (λ (es : Entries). Covers es (tables_in before.now.trees)) (sym unread) covers
+-- without the closed orders that it tells, and with the numbers that it tells, what is known is so
+pub slice_holds : (command : Command) (before after : State) (r : Result Slice TableFault) (old new : Known) → IsRead (λ t s. IsSliceIn old command t s) before after r
+    → IfOk r (λ s. Loses (λ g o. has_closed_row s.rows.orders o && has_line_row s.rows.lines g o) old.lines new.lines) → IfOk r (λ s. new.bounds ≡ with_counts command s.items s.bins old.bounds) → IfErr r (λ e. new ≡ old)
+    → HasCleanDisk after → IsReady before.now → IsTrue before.is_open → HoldsOf old (tables_in before.now.trees) → HoldsOf new (tables_in before.now.trees)
+slice_holds command before after (Ok s) old new one met counted unread clean ready up holds =
+    let t : Tables = tables_in before.now.trees in
+    let slice = (one.answers clean ready up).1 in
+    record {
+      lines = covers_sliced (order_shipped command) command t s.rows old.lines new.lines slice.rows met holds.lines;
+      bounds = subst (λ (b : Bounds). AreBounds b t) (sym counted) (bounds_counted command t old.bounds s.items s.bins slice.counted holds.bounds);
+    }
+slice_holds command before after (Err e) old new one met counted unread clean ready up holds = subst (λ (k : Known). HoldsOf k (tables_in before.now.trees)) (sym unread) holds

@@ -12,6 +12,8 @@ use Rattle.commands.specs.declared.command.NewBin.{NewBin}
 use Rattle.commands.specs.declared.command.OrderLine.{OrderLine}
 use Rattle.commands.specs.declared.command.Command.{Command}
 use Rattle.commands.specs.declared.command.Command.TheVariants.{Item, Bin, Receive, Move, Count, Adjust, Order, Cancel, Pick, Unpick, Ship, Hold, Release, Recall, OpenDay}
+use Rattle.commands.specs.declared.rows.ItemRow.{ItemRow}
+use Rattle.commands.specs.declared.rows.BinRow.{BinRow}
 use Rattle.commands.specs.declared.rows.StockRow.{StockRow}
 use Rattle.commands.specs.declared.rows.LineRow.{LineRow}
 use Rattle.commands.specs.declared.rows.StagedRow.{StagedRow}
@@ -34,12 +36,12 @@ use Rattle.machine.proofs.histories.Accepted.{item_accepted}
 use Rattle.machine.proofs.histories.Notices.{bins_apart}
 use Rattle.machine.proofs.histories.Orders.{found_order}
 use Rattle.rules.proofs.rows.SliceTells.{some_mapped}
-use Rattle.open_lines.specs.OpenLines.{Entries}
 use Rattle.slice_parts.specs.Keys.{has_key, with_keys}
-use Rattle.slices.specs.Slicing.{is_among, with_names, items_named, lots_named, orders_named, bins_named, whole_orders, day_opened, order_shipped, held_lots, AreAllLines, AreCounts, AreTaken, AreTouched, ArePlanned, AreSlicedOn, IsSliceIn, is_passed, is_open_in, Covers}
-use Rattle.slices.proofs.Counted.{as_many}
+use Rattle.slices.specs.Slicing.{is_among, with_names, items_named, lots_named, orders_named, bins_named, whole_orders, day_opened, order_shipped, held_lots, AreAllLines, AreCounts, AreTaken, AreTouched, ArePlanned, AreSlicedOn, IsSliceIn, is_passed, is_open_in, HoldsOf}
+use Rattle.slices.specs.declared.knowing.Known.{Known}
+use Rattle.slices.proofs.AtMost.{told_number}
 use Rattle.slices.proofs.KeysTold.{same_cell_is, same_cell_refl, same_share_is, same_share_refl, same_line_is, same_line_refl}
-use Rattle.slices.proofs.RowsTold.{rows_read, rows_as}
+use Rattle.slices.proofs.RowsTold.{rows_as}
 use Rattle.slices.proofs.SliceTold.{among_with, once_with, among_names, once_names, sought}
 use Rattle.slice_parts.proofs.KeysOnce.{has_keys, once_keys}
 use Rattle.slices.proofs.KeysRead.{keys_read}
@@ -219,11 +221,11 @@ module _ (first : ℤ) (acts : List Act) where
   unfolding tables_of
   keyed o g r e = keyed_by o g (find (λ l. same_text g l.gtin) (lines_of acts o)) r e
 
-  module _ (key : Key) (command : Command) (known : Entries) (covers : Covers known (tables_of first acts)) where
+  module _ (key : Key) (command : Command) (known : Known) (holds : HoldsOf known (tables_of first acts)) where
     abbrev act : Act
     act = record { key = key; command = command }
 
-    module _ (unshipped : order_shipped command ≡ None) (history : IsHistory first acts) (s : Slice) (meta : (tables_of first acts).meta ≡ Some s.meta) (counted : AreCounts command (tables_of first acts) s.items s.bins) (rows : ArePlanned known command (tables_of first acts) s.rows) where
+    module _ (unshipped : order_shipped command ≡ None) (history : IsHistory first acts) (s : Slice) (meta : (tables_of first acts).meta ≡ Some s.meta) (counted : AreCounts known.bounds command (tables_of first acts) s.items s.bins) (rows : ArePlanned known.lines command (tables_of first acts) s.rows) where
       abbrev t : Tables
       t = tables_of first acts
 
@@ -246,21 +248,24 @@ module _ (first : ℤ) (acts : List Act) where
           ∙ any_same (λ (l : OrderLine). list_any (λ g. same_text g l.gtin) gtins) (λ l. touched l.gtin) (lines_of acts o)
           (λ l. any_same (λ g. same_text g l.gtin) (same_text l.gtin) gtins (λ g. same_text_turned g l.gtin) ∙ told l.gtin)
 
-      counted_items : counts_items command ≡ true → s.items ≡ length (items acts)
+      -- the numbers are told as they are known or as they were counted
+      item_told : (k : List ℕ) → is_some (t.item k) ≡ is_some (find (λ (i : NewItem). same_text k i.gtin) (items acts))
       unfolding tables_of
-      counted_items e =
-          let count = counted.items e in
-          let read = rows_read {K = ItemKey} same_item item_key same_text_is same_text_refl (λ k. true) (tables_of first acts).item count.0 count.1 in
-          sym count.2 ∙ as_many item_key (λ (i : NewItem). i.gtin) count.0 (items acts) read.once (items_apart first acts history)
-          (λ k. ap is_some (read.found k refl) ∙ some_mapped _ (find (λ i. same_text k i.gtin) (items acts)))
+      item_told k = some_mapped _ (find (λ i. same_text k i.gtin) (items acts))
 
-      counted_bins : counts_bins command ≡ true → s.bins ≡ length (bins acts)
+      counted_items : counts_items command ≡ true → nat_le ITEMS_MAX s.items ≡ nat_le ITEMS_MAX (length (items acts))
+      counted_items e =
+          told_number {R = ItemRow} {X = NewItem} item_key t.item (λ i. i.gtin) (items acts) (items_apart first acts history) item_told ITEMS_MAX known.bounds.items s.items
+          holds.bounds.items (counted.items e)
+
+      bin_told_by : (k : List ℕ) → is_some (t.bin k) ≡ is_some (find (λ (b : NewBin). same_text k b.bin) (bins acts))
       unfolding tables_of
+      bin_told_by k = some_mapped _ (find (λ b. same_text k b.bin) (bins acts))
+
+      counted_bins : counts_bins command ≡ true → nat_le BINS_MAX s.bins ≡ nat_le BINS_MAX (length (bins acts))
       counted_bins e =
-          let count = counted.bins e in
-          let read = rows_read {K = BinKey} same_bin bin_key same_text_is same_text_refl (λ k. true) (tables_of first acts).bin count.0 count.1 in
-          sym count.2 ∙ as_many bin_key (λ (b : NewBin). b.bin) count.0 (bins acts) read.once (bins_apart first acts history)
-          (λ k. ap is_some (read.found k refl) ∙ some_mapped _ (find (λ b. same_text k b.bin) (bins acts)))
+          told_number {R = BinRow} {X = NewBin} bin_key t.bin (λ b. b.bin) (bins acts) (bins_apart first acts history) bin_told_by BINS_MAX known.bounds.bins s.bins
+          holds.bounds.bins (counted.bins e)
 
       -- what a command asks for that does not need to be read
       both : (a b : Bool) → a && b ≡ true → b ≡ true
@@ -316,8 +321,8 @@ module _ (first : ℤ) (acts : List Act) where
       planned_right : IsSlice first act acts (tables_of first acts) s
       planned_right = record {
         meta = meta;
-        items_counted = λ e. ap (nat_le ITEMS_MAX) (counted_items e);
-        bins_counted = λ e. ap (nat_le BINS_MAX) (counted_bins e);
+        items_counted = counted_items;
+        bins_counted = counted_bins;
         items = rows_as {K = ItemKey} same_item item_key same_text_is same_text_refl touched touched (λ g. plans command && touched g) touched t.item s.rows.items (λ g e. both (plans command) (touched g) e) (λ g e. e)
             (sought {K = ItemKey} same_item item_key same_text_is same_text_refl (λ k. k) t.item gtins touched s.rows.items once told rows.units.goods.items);
         lots = rows_as {K = LotKey} same_lot lot_key is_lot_is is_lot_refl (has_key is_lot held) (has_key is_lot held)
@@ -340,14 +345,14 @@ module _ (first : ℤ) (acts : List Act) where
             (λ o e. needs (is_among (orders_named command) o) (names_order command o) (is_open first acts o) (is_open_in t o) (has_touched_line first act acts o) (has_line_of gtins t o) (order_told command o) (open_told o) (touched_line o)
             (either (names_order command o) (plans command) (is_open first acts o) (has_touched_line first act acts o) e))
             (λ o e. ap (λ b. b || has_touched_line first act acts o) (sym (order_told command o)) ∙ ap (λ b. is_among (orders_named command) o || b) (sym (touched_line o)) ∙ e)
-            (orders_told known (orders_named command) gtins t covers keyed (order_once command) once s.rows.orders s.rows.lines rows.ordered);
+            (orders_told known.lines (orders_named command) gtins t holds.lines keyed (order_once command) once s.rows.orders s.rows.lines rows.ordered);
         lines = rows_as {K = LineKey} same_line line_key same_line_is same_line_refl
             (λ k. is_among (orders_named command) k.0 || (is_open_in t k.0 && is_among gtins k.1)) (λ k. is_among (orders_named command) k.0 || is_among gtins k.1)
             (λ k. names_order command k.0 || ((plans command && is_open first acts k.0) && touched k.1)) (λ k. names_order command k.0 || touched k.1) (λ k. t.line k.0 k.1) s.rows.lines
             (λ k e. needs (is_among (orders_named command) k.0) (names_order command k.0) (is_open first acts k.0) (is_open_in t k.0) (touched k.1) (is_among gtins k.1) (order_told command k.0) (open_told k.0) (told k.1)
             (either (names_order command k.0) (plans command) (is_open first acts k.0) (touched k.1) e))
             (λ k e. ap (λ b. b || touched k.1) (sym (order_told command k.0)) ∙ ap (λ b. is_among (orders_named command) k.0 || b) (sym (told k.1)) ∙ e)
-            (lines_told known (orders_named command) gtins t covers keyed (order_once command) once s.rows.orders s.rows.lines rows.ordered);
+            (lines_told known.lines (orders_named command) gtins t holds.lines keyed (order_once command) once s.rows.orders s.rows.lines rows.ordered);
         staged = staged_rows;
         reserved = picked_rows command touched t s.rows.reserved rows.units.shares.reserved;
       }
@@ -361,6 +366,6 @@ module _ (first : ℤ) (acts : List Act) where
     pub slice_right : IsHistory first acts → (s : Slice) → IsSliceIn known command (tables_of first acts) s → IsSlice first act acts (tables_of first acts) s
     slice_right history s slice = by (order_shipped command) refl slice.rows
       where
-        by : (x : Option (List ℕ)) → order_shipped command ≡ x → AreSlicedOn x known command (tables_of first acts) s.rows → IsSlice first act acts (tables_of first acts) s
+        by : (x : Option (List ℕ)) → order_shipped command ≡ x → AreSlicedOn x known.lines command (tables_of first acts) s.rows → IsSlice first act acts (tables_of first acts) s
         by None e are = planned_right e history s slice.meta slice.counted are
         by (Some o) e are = subst (λ (c : Command). IsSlice first (record { key = key; command = c }) acts (tables_of first acts) s) (sym (ships command o e)) (shipment_right first acts key o s slice.meta are)

@@ -3,6 +3,7 @@ use Rattle.std.specs.Prelude.{◌≡◌, ℕ, ℤ, Bool, true, false, List, [], 
 use Rattle.values.specs.Values.{same_text}
 use Rattle.commands.specs.Tables.{Tables}
 use Rattle.commands.specs.declared.command.Command.{Command}
+use Rattle.commands.specs.declared.limits.TheConstants.{ITEMS_MAX, BINS_MAX}
 use Rattle.commands.specs.declared.rows.MetaRow.{MetaRow}
 use Rattle.commands.specs.declared.rows.ItemRow.{ItemRow}
 use Rattle.commands.specs.declared.rows.BinRow.{BinRow}
@@ -20,7 +21,9 @@ use Rattle.rules.specs.Slices.{counts_items, counts_bins}
 use Rattle.row_rules.specs.declared.slice.Rows.{Rows}
 use Rattle.row_rules.specs.declared.slice.Put.{Put}
 use Rattle.row_rules.specs.declared.slice.Slice.{Slice}
-use Rattle.slices.specs.Reading.{IsCount}
+use Rattle.slices.specs.Bounding.{IsToldNumber, AreBounds}
+use Rattle.slices.specs.declared.knowing.Bounds.{Bounds}
+use Rattle.slices.specs.declared.knowing.Known.{Known}
 use Rattle.slices.specs.ByLot.{AreLotsOf, AreStockOf}
 use Rattle.slices.specs.ByOrder.{AreReservedOn}
 pub use Rattle.slice_parts.specs.Parts.{is_among, with_name, with_names, items_named, lots_named, orders_named, bins_named, whole_orders, day_opened, order_shipped, order_picked, held_lots, lots_on_stage, others, other_names, has_line_in, with_lines, is_ending, not_recalled, items_of_lots, with_staged}
@@ -194,12 +197,22 @@ pub record Knows (puts : Put) (t : Tables) (known : Entries) : Type 0 where
   pub lines : (g o : List ℕ) → has_line_row puts.lines g o ≡ true → holds known g o ≡ true
   pub opened : KnowsOpen puts.orders t known
 
+-- what is known first: those, and no number
+pub record IsFirstKnown (t : Tables) (known : Known) : Type 0 where
+  pub lines : AreOpenLines t known.lines
+  pub bounds : known.bounds ≡ record { items = ITEMS_MAX; bins = BINS_MAX }
+
+-- what is known of the books is so
+pub record HoldsOf (known : Known) (t : Tables) : Type 0 where
+  pub lines : Covers known.lines t
+  pub bounds : AreBounds known.bounds t
+
 -- Slices
 
--- the counts that the command is judged by
-pub record AreCounts (command : Command) (t : Tables) (item_count bin_count : ℕ) : Type 0 where
-  pub items : counts_items command ≡ true → IsCount {K = ItemKey} same_item item_key t.item item_count
-  pub bins : counts_bins command ≡ true → IsCount {K = BinKey} same_bin bin_key t.bin bin_count
+-- the numbers that the command is judged by
+pub record AreCounts (b : Bounds) (command : Command) (t : Tables) (item_count bin_count : ℕ) : Type 0 where
+  pub items : counts_items command ≡ true → IsToldNumber same_item item_key t.item ITEMS_MAX b.items item_count
+  pub bins : counts_bins command ≡ true → IsToldNumber same_bin bin_key t.bin BINS_MAX b.bins bin_count
 
 -- the items that the command names, and those of the lines of the order that it takes whole, each once
 pub record AreTaken (command : Command) (t : Tables) (gtins : List (List ℕ)) : Type 0 where
@@ -244,7 +257,7 @@ abbrev pub AreSliced : Entries → Command → Tables → Rows → Type 0
 AreSliced known command = AreSlicedOn (order_shipped command) known command
 
 -- the slice of a command, as it is read
-pub record IsSliceIn (known : Entries) (command : Command) (t : Tables) (s : Slice) : Type 0 where
+pub record IsSliceIn (known : Known) (command : Command) (t : Tables) (s : Slice) : Type 0 where
   pub meta : t.meta ≡ Some s.meta
-  pub counted : AreCounts command t s.items s.bins
-  pub rows : AreSliced known command t s.rows
+  pub counted : AreCounts known.bounds command t s.items s.bins
+  pub rows : AreSliced known.lines command t s.rows

@@ -1,4 +1,4 @@
-//! What is known of the open orders: as it is read, and with the orders of a change.
+//! What is known of the books: as it is read, and with the rows of a change.
 
 ghost use Rattle.std.specs.Prelude.{◌≡◌, ℤ, List, map, filter, OnOk, IfOk, IfErr, IsTrue};
 ghost use Rattle.sqlite.specs.State.{HasCleanDisk, Survives, KeepsCommit, IsUnchanged};
@@ -9,9 +9,11 @@ ghost use Rattle.table_words.specs.declared.error.TableFault.TheVariants.{Foreig
 ghost use Rattle.open_lines.specs.OpenLines.{Keeps};
 ghost use Rattle.machine.specs.Acts.{Act};
 ghost use Rattle.slices.specs.Books.{IsBooksOf};
+ghost use Rattle.slices.specs.Bounding.{IsRaised};
 ghost use Rattle.slices.specs.Reading.{IsRead};
-ghost use Rattle.slices.specs.Slicing.{AreOpenLines, Covers, KnowsOpen, Knows, AreAllLines};
+ghost use Rattle.slices.specs.Slicing.{AreOpenLines, IsFirstKnown, HoldsOf, KnowsOpen, Knows, AreAllLines};
 
+use crate::knowing::{Bounds, Known};
 use crate::reading::open_order_rows;
 use crate::sought::seek_all;
 use commands::{LineRow, OrderRow};
@@ -38,15 +40,30 @@ fn open_lines_in<S: Alter>(
     Ok(known)
 }
 
-/// The open orders, by the items of their lines. It changes nothing. `Foreign` where a row that is read breaks a rule of
-/// its values.
-pub fn read_open_lines<S: Alter>(
+// What is known first: the open orders, and no number.
+fn known_in_tables<S: Alter>(
     alloc: Global,
     tx: &mut Transaction<'_, S>,
-) -> Result<OpenLines, TableFault>
+) -> Result<Known, TableFault>
+    ensures same_reference { tx.new.conn.ghost_name ≡ tx.old.conn.ghost_name }
+    ensures read { IsRead IsFirstKnown (state S.Store tx.old.conn.now) (state S.Store tx.new.conn.now) result }
+{
+    let lines = open_lines_in(alloc, tx)?;
+    Ok(Known {
+        lines,
+        bounds: Bounds::unknown(),
+    })
+}
+
+/// What is known of the books first: the open orders, by the items of their lines. The items and bins are counted where a
+/// command is judged by their number. It changes nothing. `Foreign` where a row that is read breaks a rule of its values.
+pub fn first_known<S: Alter>(
+    alloc: Global,
+    tx: &mut Transaction<'_, S>,
+) -> Result<Known, TableFault>
     ensures same_reference { tx.new.conn.ghost_name ≡ tx.old.conn.ghost_name }
     ensures read { HasCleanDisk (state S.Store tx.new.conn.now) → IsReady (state S.Store tx.old.conn.now).now → IsTrue (state S.Store tx.old.conn.now).is_open
-        → IfOk result (λ known. Covers known (tables_in (state S.Store tx.old.conn.now).now.trees)) }
+        → IfOk result (λ known. HoldsOf known (tables_in (state S.Store tx.old.conn.now).now.trees)) }
     ensures fault { HasCleanDisk (state S.Store tx.new.conn.now) → IsTrue (state S.Store tx.old.conn.now).is_open
         → (first : ℤ) (acts : List Act) → IsBooksOf first acts (state S.Store tx.old.conn.now).now
         → IfErr result (λ e. e ≡ Foreign → ⊥) }
@@ -56,7 +73,7 @@ pub fn read_open_lines<S: Alter>(
         → KeepsCommit (state S.Store tx.old.conn.now) (state S.Store tx.new.conn.now) }
     ensures survives { Survives (state S.Store tx.old.conn.now) (state S.Store tx.new.conn.now) (λ _. ⊥) }
 {
-    open_lines_in(alloc, tx)
+    known_in_tables(alloc, tx)
 }
 
 /// The lines that the open ones among these orders have.
@@ -105,18 +122,19 @@ fn add_put<S: Alter>(
     Ok(())
 }
 
-/// With what a change puts, which is about to be written, what is known of the open orders. It changes nothing of the
-/// tables. For want of memory some of it is known.
+/// With what a change puts, which is about to be written, what is known of the books. It changes nothing of the tables.
+/// For want of memory some of the orders are known.
 pub fn know_put<S: Alter>(
     alloc: Global,
     tx: &mut Transaction<'_, S>,
-    known: &mut OpenLines,
+    known: &mut Known,
     put: &Put,
 ) -> Result<(), TableFault>
     ensures same_reference { tx.new.conn.ghost_name ≡ tx.old.conn.ghost_name }
-    ensures keeps { Keeps known.old known.new }
+    ensures keeps { Keeps known.old.lines known.new.lines }
+    ensures raised { IsRaised put.now known.old.bounds known.new.bounds }
     ensures known { HasCleanDisk (state S.Store tx.new.conn.now) → IsReady (state S.Store tx.old.conn.now).now → IsTrue (state S.Store tx.old.conn.now).is_open
-        → OnOk result (Knows put.now (tables_in (state S.Store tx.old.conn.now).now.trees) known.new) }
+        → OnOk result (Knows put.now (tables_in (state S.Store tx.old.conn.now).now.trees) known.new.lines) }
     ensures fault { HasCleanDisk (state S.Store tx.new.conn.now) → IsTrue (state S.Store tx.old.conn.now).is_open
         → (first : ℤ) (acts : List Act) → IsBooksOf first acts (state S.Store tx.old.conn.now).now
         → IfErr result (λ e. e ≡ Foreign → ⊥) }
@@ -126,5 +144,6 @@ pub fn know_put<S: Alter>(
         → KeepsCommit (state S.Store tx.old.conn.now) (state S.Store tx.new.conn.now) }
     ensures survives { Survives (state S.Store tx.old.conn.now) (state S.Store tx.new.conn.now) (λ _. ⊥) }
 {
-    add_put(alloc, tx, known, put)
+    known.bounds = known.bounds.raised(put);
+    add_put(alloc, tx, &mut known.lines, put)
 }

@@ -5,6 +5,7 @@
 mod by_lot;
 mod by_order;
 mod heads;
+mod knowing;
 mod known_lines;
 mod known_orders;
 mod opening;
@@ -21,7 +22,8 @@ mod sought;
 mod sought_rows;
 
 pub use heads::{Head, read_head};
-pub use known_lines::{know_put, read_open_lines};
+pub use knowing::{Bounds, Known};
+pub use known_lines::{first_known, know_put};
 pub use query::{Query, find};
 pub use shipped::read_shipped;
 pub use shown_orders::OrderQuery;

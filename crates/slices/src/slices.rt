@@ -14,14 +14,16 @@ ghost use Rattle.slices.specs.Books.{IsBooksOf};
 ghost use Rattle.table_words.specs.Typed.{tables_in};
 ghost use Rattle.open_lines.specs.OpenLines.{Loses, has_closed_row, has_line_row};
 ghost use Rattle.slices.specs.Reading.{IsRead};
+ghost use Rattle.slices.specs.Bounding.{with_counts};
 ghost use Rattle.slices.specs.ByLot.{AreLotsOf};
-ghost use Rattle.slices.specs.Slicing.{AreGoods, AreBooked, AreShares, AreUnits, AreBins, AreCounts, AreTaken, AreTouched, ArePlanned, AreSliced, Covers, IsSliceIn, bins_named, with_names, held_lots};
+ghost use Rattle.slices.specs.Slicing.{AreGoods, AreBooked, AreShares, AreUnits, AreBins, AreCounts, AreTaken, AreTouched, ArePlanned, AreSliced, HoldsOf, IsSliceIn, bins_named, with_names, held_lots};
 
 use crate::by_lot::of_lots;
 use crate::by_order::reserved_for_pick;
+use crate::knowing::{Bounds, Known};
 use crate::known_orders::read_known_orders;
 use crate::opening::affected_items;
-use crate::reading::{count_bins, count_items, meta_row};
+use crate::reading::{meta_row, told_bins, told_items};
 use crate::shipments::read_shipment;
 use crate::sought::{seek_all, seek_both};
 use commands::{
@@ -193,22 +195,24 @@ fn read_bins<S: Alter>(
     seek_all::<BinRow, S>(alloc, tx, names.as_slice())
 }
 
-/// The number of items and that of bins, where the command is judged by them, and else 0.
+/// The number of items and that of bins, where the command is judged by them, and else 0. One that is known and below
+/// the limit is not read.
 fn read_counts<S: Alter>(
     alloc: Global,
     tx: &mut Transaction<'_, S>,
+    bounds: Bounds,
     command: &Command,
 ) -> Result<(u64, u64), TableFault>
     ensures same_reference { tx.new.conn.ghost_name ≡ tx.old.conn.ghost_name }
-    ensures read { IsRead (λ t counts. AreCounts command.now t counts.0 counts.1) (state S.Store tx.old.conn.now) (state S.Store tx.new.conn.now) result }
+    ensures read { IsRead (λ t counts. AreCounts bounds command.now t counts.0 counts.1) (state S.Store tx.old.conn.now) (state S.Store tx.new.conn.now) result }
 {
     match command {
         Command::Item(_) => {
-            let items = count_items(alloc, tx)?;
+            let items = told_items(alloc, tx, bounds.items)?;
             Ok((items, 0))
         }
         Command::Bin(_) => {
-            let bins = count_bins(alloc, tx)?;
+            let bins = told_bins(alloc, tx, bounds.bins)?;
             Ok((0, bins))
         }
         _ => Ok((0, 0)),
@@ -253,15 +257,15 @@ fn read_rows<S: Alter>(
 fn read_rest<S: Alter>(
     alloc: Global,
     tx: &mut Transaction<'_, S>,
-    known: &OpenLines,
+    known: &Known,
     command: &Command,
     meta: MetaRow,
 ) -> Result<Slice, TableFault>
     ensures same_reference { tx.new.conn.ghost_name ≡ tx.old.conn.ghost_name }
     ensures read { IsRead (λ t s. (t.meta ≡ Some meta → IsSliceIn known.now command.now t s)) (state S.Store tx.old.conn.now) (state S.Store tx.new.conn.now) result }
 {
-    let (items, bins) = read_counts(alloc, tx, command)?;
-    let rows = read_rows(alloc, tx, known, command)?;
+    let (items, bins) = read_counts(alloc, tx, known.bounds, command)?;
+    let rows = read_rows(alloc, tx, &known.lines, command)?;
     Ok(Slice {
         meta,
         items,
@@ -274,7 +278,7 @@ fn read_rest<S: Alter>(
 fn slice_in<S: Alter>(
     alloc: Global,
     tx: &mut Transaction<'_, S>,
-    known: &OpenLines,
+    known: &Known,
     command: &Command,
 ) -> Result<Slice, TableFault>
     ensures same_reference { tx.new.conn.ghost_name ≡ tx.old.conn.ghost_name }
@@ -284,34 +288,39 @@ fn slice_in<S: Alter>(
     read_rest(alloc, tx, known, command, meta)
 }
 
-// Forgets the closed orders among the rows that were read.
-fn forget_met(known: &mut OpenLines, slice: &Result<Slice, TableFault>)
-    ensures met { IfOk slice.now (λ s. Loses (λ g o. has_closed_row s.rows.orders o && has_line_row s.rows.lines g o) known.old known.new) }
+// Forgets the closed orders among the rows that were read, and keeps the numbers that were counted.
+fn learn(known: &mut Known, command: &Command, slice: &Result<Slice, TableFault>)
+    ensures met { IfOk slice.now (λ s. Loses (λ g o. has_closed_row s.rows.orders o && has_line_row s.rows.lines g o) known.old.lines known.new.lines) }
+    ensures counted { IfOk slice.now (λ s. known.new.bounds ≡ with_counts command.now s.items s.bins known.old.bounds) }
     ensures unread { IfErr slice.now (λ e. known.new ≡ known.old) }
 {
     match slice {
         Ok(slice) => {
-            known.forget_closed(slice.rows.orders.as_slice(), slice.rows.lines.as_slice());
+            known.bounds = known.bounds.with_counts(command, slice.items, slice.bins);
+            known
+                .lines
+                .forget_closed(slice.rows.orders.as_slice(), slice.rows.lines.as_slice());
         }
         Err(_) => {}
     }
 }
 
 /// The slice of the tables that the command is decided by, where the open orders are known by the items of their lines.
-/// It changes nothing of the tables; the closed orders that it meets are forgotten. `Foreign` where a row that is read
-/// breaks a rule of its values or the books have no row of their own.
+/// It changes nothing of the tables; the closed orders that it meets are forgotten, and a number of items or bins that it
+/// counts is known from then on. `Foreign` where a row that is read breaks a rule of its values or the books have no row
+/// of their own.
 pub fn read_slice<S: Alter>(
     alloc: Global,
     tx: &mut Transaction<'_, S>,
-    known: &mut OpenLines,
+    known: &mut Known,
     command: &Command,
 ) -> Result<Slice, TableFault>
     ensures same_reference { tx.new.conn.ghost_name ≡ tx.old.conn.ghost_name }
     ensures read { HasCleanDisk (state S.Store tx.new.conn.now) → IsTrue (state S.Store tx.old.conn.now).is_open
-        → (first : ℤ) (acts : List Act) (key : Key) → IsHistory first acts → IsBooksOf first acts (state S.Store tx.old.conn.now).now → Covers known.old (tables_in (state S.Store tx.old.conn.now).now.trees)
+        → (first : ℤ) (acts : List Act) (key : Key) → IsHistory first acts → IsBooksOf first acts (state S.Store tx.old.conn.now).now → HoldsOf known.old (tables_in (state S.Store tx.old.conn.now).now.trees)
         → IfOk result (IsSlice first (record { key = key; command = command.now }) acts (tables_of first acts)) }
-    ensures covers { HasCleanDisk (state S.Store tx.new.conn.now) → IsReady (state S.Store tx.old.conn.now).now → IsTrue (state S.Store tx.old.conn.now).is_open
-        → Covers known.old (tables_in (state S.Store tx.old.conn.now).now.trees) → Covers known.new (tables_in (state S.Store tx.old.conn.now).now.trees) }
+    ensures holds { HasCleanDisk (state S.Store tx.new.conn.now) → IsReady (state S.Store tx.old.conn.now).now → IsTrue (state S.Store tx.old.conn.now).is_open
+        → HoldsOf known.old (tables_in (state S.Store tx.old.conn.now).now.trees) → HoldsOf known.new (tables_in (state S.Store tx.old.conn.now).now.trees) }
     ensures fault { HasCleanDisk (state S.Store tx.new.conn.now) → IsTrue (state S.Store tx.old.conn.now).is_open
         → (first : ℤ) (acts : List Act) → IsBooksOf first acts (state S.Store tx.old.conn.now).now
         → IfErr result (λ e. e ≡ Foreign → ⊥) }
@@ -322,6 +331,6 @@ pub fn read_slice<S: Alter>(
     ensures survives { Survives (state S.Store tx.old.conn.now) (state S.Store tx.new.conn.now) (λ _. ⊥) }
 {
     let slice = slice_in(alloc, tx, known, command);
-    forget_met(known, &slice);
+    learn(known, command, &slice);
     slice
 }

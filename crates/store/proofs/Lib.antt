@@ -19,5 +19,6 @@ pub mod BinOrder
 pub mod ShipmentOrder
 pub mod ShipmentsHanded
 pub mod LinesWritten
-pub mod LinesKnown
+pub mod BoundsWritten
+pub mod KnownKept
 pub mod BooksWhole

@@ -18,7 +18,7 @@ use Rattle.slices.specs.Slicing.{is_among, is_passed, is_open_in, Covers, Knows}
 -- The tables of orders and lines are left by what writes others
 
 module _ {X : Type 0} (get : Tables → X) where
-  rows_spare : {R : Type 0} (write : R → Tables → Tables) → ((r : R) (t : Tables) → get (write r t) ≡ get t) → (rows : List R) (t : Tables) → get (each_written write rows t) ≡ get t
+  pub rows_spare : {R : Type 0} (write : R → Tables → Tables) → ((r : R) (t : Tables) → get (write r t) ≡ get t) → (rows : List R) (t : Tables) → get (each_written write rows t) ≡ get t
   rows_spare write spares [] t = refl
   rows_spare write spares (r ∷ rows) t = rows_spare write spares rows (write r t) ∙ spares r t
 

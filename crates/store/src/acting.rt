@@ -11,10 +11,10 @@ ghost use Rattle.machine.specs.Once.{IsHistory, is_key_of, bearer, acts_after};
 ghost use Rattle.rules.specs.Slices.{AreOnce, applied};
 ghost use Rattle.changes.specs.Written.{change_written};
 ghost use Rattle.slices.specs.Books.{AreRowsOf, IsBooksOf};
-ghost use Rattle.slices.specs.Slicing.{Covers};
+ghost use Rattle.slices.specs.Slicing.{HoldsOf};
 ghost use Rattle.store.specs.Books.{KeepsBooks};
 ghost use Rattle.store.specs.Acting.{IsActedOn, IsActedInside, IsDecidedByRows};
-ghost use Rattle.store.specs.Knowing.{HasLines, IsKnown, LeavesKnown};
+ghost use Rattle.store.specs.Knowing.{HasKnown, IsKnown, LeavesKnown};
 
 use crate::knowing::known_in;
 use crate::repeats::{earlier, find_open, keep_act};
@@ -22,9 +22,8 @@ use crate::telling::{decided, told_again};
 use crate::{Fault, Reply};
 use changes::write_change;
 use commands::{Command, Key, Listed, spell};
-use open_lines::OpenLines;
 use rules::Change;
-use slices::{know_put, read_slice};
+use slices::{Known, know_put, read_slice};
 use sqlite::{Alter, Connection, Transaction};
 use std::alloc::Global;
 
@@ -37,14 +36,14 @@ use std::alloc::Global;
 pub fn act_once<S: Alter>(
     alloc: Global,
     conn: &mut Connection<S>,
-    lines: &mut Option<OpenLines>,
+    known: &mut Option<Known>,
     key: &Key,
     command: &Command,
 ) -> Result<Reply, Fault>
     requires outside { conn.old.in_transaction ≡ false }
-    requires known { IsKnown lines.old (state S.Store conn.old) }
+    requires known { IsKnown known.old (state S.Store conn.old) }
     ensures outside { conn.new.in_transaction ≡ false }
-    ensures known { IsKnown lines.new (state S.Store conn.new) }
+    ensures known { IsKnown known.new (state S.Store conn.new) }
     ensures acted { HasCleanDisk (state S.Store conn.new) → IsTrue (is_key_of key.now command.now) → (first : ℤ) (acts : List Act) → IsHistory first acts → KeepsBooks first acts (state S.Store conn.old)
         → IsActedOn first acts (record { key = key.now; command = command.now }) result (state S.Store conn.new) }
     ensures as_before { HasCleanDisk (state S.Store conn.new) → IsReady (state S.Store conn.old).now → OnErr result (KeepsCommit (state S.Store conn.old) (state S.Store conn.new)) }
@@ -53,7 +52,7 @@ pub fn act_once<S: Alter>(
 {
     let _outside = conn.is_autocommit();
     let mut tx = conn.transaction();
-    let reply = act_inside(alloc, &mut tx, lines, key, command)?;
+    let reply = act_inside(alloc, &mut tx, known, key, command)?;
     tx.commit()?;
     Ok(reply)
 }
@@ -62,37 +61,37 @@ pub fn act_once<S: Alter>(
 pub fn act_inside<S: Alter>(
     alloc: Global,
     tx: &mut Transaction<'_, S>,
-    lines: &mut Option<OpenLines>,
+    known: &mut Option<Known>,
     key: &Key,
     command: &Command,
 ) -> Result<Reply, Fault>
     ensures same_reference { tx.new.conn.ghost_name ≡ tx.old.conn.ghost_name }
     ensures acted { HasCleanDisk (state S.Store tx.new.conn.now) → IsTrue (is_key_of key.now command.now) → (first : ℤ) (acts : List Act) → IsHistory first acts
-        → (IsTrue (state S.Store tx.old.conn.now).is_open → IsBooksOf first acts (state S.Store tx.old.conn.now).now) → (IsTrue (state S.Store tx.old.conn.now).is_open → HasLines lines.old (state S.Store tx.old.conn.now))
+        → (IsTrue (state S.Store tx.old.conn.now).is_open → IsBooksOf first acts (state S.Store tx.old.conn.now).now) → (IsTrue (state S.Store tx.old.conn.now).is_open → HasKnown known.old (state S.Store tx.old.conn.now))
         → IsActedInside first acts (record { key = key.now; command = command.now }) result (state S.Store tx.old.conn.now) (state S.Store tx.new.conn.now) }
     ensures known { HasCleanDisk (state S.Store tx.new.conn.now) → (IsTrue (state S.Store tx.old.conn.now).is_open → IsReady (state S.Store tx.old.conn.now).now)
-        → LeavesKnown lines.old lines.new result (state S.Store tx.old.conn.now) (state S.Store tx.new.conn.now) }
+        → LeavesKnown known.old known.new result (state S.Store tx.old.conn.now) (state S.Store tx.new.conn.now) }
     ensures kept { HasCleanDisk (state S.Store tx.new.conn.now) → (IsTrue (state S.Store tx.old.conn.now).is_open → IsReady (state S.Store tx.old.conn.now).now) → KeepsCommit (state S.Store tx.old.conn.now) (state S.Store tx.new.conn.now) }
     ensures survives { Survives (state S.Store tx.old.conn.now) (state S.Store tx.new.conn.now) (λ _. ⊥) }
 {
     find_open(tx)?;
-    act_open(alloc, tx, lines, key, command)
+    act_open(alloc, tx, known, key, command)
 }
 
 // The key's row of `repeats` is looked up before every other rule.
 fn act_open<S: Alter>(
     alloc: Global,
     tx: &mut Transaction<'_, S>,
-    lines: &mut Option<OpenLines>,
+    known: &mut Option<Known>,
     key: &Key,
     command: &Command,
 ) -> Result<Reply, Fault>
     ensures same_reference { tx.new.conn.ghost_name ≡ tx.old.conn.ghost_name }
     ensures acted { HasCleanDisk (state S.Store tx.new.conn.now) → IsTrue (is_key_of key.now command.now) → (first : ℤ) (acts : List Act) → IsHistory first acts
-        → IsTrue (state S.Store tx.old.conn.now).is_open → IsBooksOf first acts (state S.Store tx.old.conn.now).now → HasLines lines.old (state S.Store tx.old.conn.now)
+        → IsTrue (state S.Store tx.old.conn.now).is_open → IsBooksOf first acts (state S.Store tx.old.conn.now).now → HasKnown known.old (state S.Store tx.old.conn.now)
         → IsActedInside first acts (record { key = key.now; command = command.now }) result (state S.Store tx.old.conn.now) (state S.Store tx.new.conn.now) }
     ensures known { HasCleanDisk (state S.Store tx.new.conn.now) → IsReady (state S.Store tx.old.conn.now).now → IsTrue (state S.Store tx.old.conn.now).is_open
-        → LeavesKnown lines.old lines.new result (state S.Store tx.old.conn.now) (state S.Store tx.new.conn.now) }
+        → LeavesKnown known.old known.new result (state S.Store tx.old.conn.now) (state S.Store tx.new.conn.now) }
     ensures kept { HasCleanDisk (state S.Store tx.new.conn.now) → IsReady (state S.Store tx.old.conn.now).now → IsTrue (state S.Store tx.old.conn.now).is_open
         → KeepsCommit (state S.Store tx.old.conn.now) (state S.Store tx.new.conn.now) }
     ensures survives { Survives (state S.Store tx.old.conn.now) (state S.Store tx.new.conn.now) (λ _. ⊥) }
@@ -100,31 +99,31 @@ fn act_open<S: Alter>(
     let found = earlier(alloc, tx, &key.text())?;
     match found {
         Some(row) => told_again(alloc, &row, command),
-        None => act_anew(alloc, tx, lines, key, command),
+        None => act_anew(alloc, tx, known, key, command),
     }
 }
 
-// A command whose key is new, once what is known of the open orders has been read.
+// A command whose key is new, once what is known of the books has been read.
 fn act_anew<S: Alter>(
     alloc: Global,
     tx: &mut Transaction<'_, S>,
-    lines: &mut Option<OpenLines>,
+    known: &mut Option<Known>,
     key: &Key,
     command: &Command,
 ) -> Result<Reply, Fault>
     ensures same_reference { tx.new.conn.ghost_name ≡ tx.old.conn.ghost_name }
     ensures acted { HasCleanDisk (state S.Store tx.new.conn.now) → IsTrue (is_key_of key.now command.now) → (first : ℤ) (acts : List Act) → IsHistory first acts
-        → IsTrue (state S.Store tx.old.conn.now).is_open → IsBooksOf first acts (state S.Store tx.old.conn.now).now → HasLines lines.old (state S.Store tx.old.conn.now) → bearer key.now acts ≡ None
+        → IsTrue (state S.Store tx.old.conn.now).is_open → IsBooksOf first acts (state S.Store tx.old.conn.now).now → HasKnown known.old (state S.Store tx.old.conn.now) → bearer key.now acts ≡ None
         → IsActedInside first acts (record { key = key.now; command = command.now }) result (state S.Store tx.old.conn.now) (state S.Store tx.new.conn.now) }
     ensures known { HasCleanDisk (state S.Store tx.new.conn.now) → IsReady (state S.Store tx.old.conn.now).now → IsTrue (state S.Store tx.old.conn.now).is_open
-        → LeavesKnown lines.old lines.new result (state S.Store tx.old.conn.now) (state S.Store tx.new.conn.now) }
+        → LeavesKnown known.old known.new result (state S.Store tx.old.conn.now) (state S.Store tx.new.conn.now) }
     ensures kept { HasCleanDisk (state S.Store tx.new.conn.now) → IsReady (state S.Store tx.old.conn.now).now → IsTrue (state S.Store tx.old.conn.now).is_open
         → KeepsCommit (state S.Store tx.old.conn.now) (state S.Store tx.new.conn.now) }
     ensures survives { Survives (state S.Store tx.old.conn.now) (state S.Store tx.new.conn.now) (λ _. ⊥) }
 {
-    let mut known = known_in(alloc, tx, lines)?;
-    let reply = act_known(alloc, tx, &mut known, key, command);
-    *lines = Some(known);
+    let mut found = known_in(alloc, tx, known)?;
+    let reply = act_known(alloc, tx, &mut found, key, command);
+    *known = Some(found);
     reply
 }
 
@@ -132,13 +131,13 @@ fn act_anew<S: Alter>(
 fn act_known<S: Alter>(
     alloc: Global,
     tx: &mut Transaction<'_, S>,
-    known: &mut OpenLines,
+    known: &mut Known,
     key: &Key,
     command: &Command,
 ) -> Result<Reply, Fault>
     ensures same_reference { tx.new.conn.ghost_name ≡ tx.old.conn.ghost_name }
     ensures acted { HasCleanDisk (state S.Store tx.new.conn.now) → IsTrue (is_key_of key.now command.now) → (first : ℤ) (acts : List Act) → IsHistory first acts
-        → IsTrue (state S.Store tx.old.conn.now).is_open → IsBooksOf first acts (state S.Store tx.old.conn.now).now → Covers known.old (tables_in (state S.Store tx.old.conn.now).now.trees) → bearer key.now acts ≡ None
+        → IsTrue (state S.Store tx.old.conn.now).is_open → IsBooksOf first acts (state S.Store tx.old.conn.now).now → HoldsOf known.old (tables_in (state S.Store tx.old.conn.now).now.trees) → bearer key.now acts ≡ None
         → IsActedInside first acts (record { key = key.now; command = command.now }) result (state S.Store tx.old.conn.now) (state S.Store tx.new.conn.now) }
     ensures known { HasCleanDisk (state S.Store tx.new.conn.now) → IsReady (state S.Store tx.old.conn.now).now → IsTrue (state S.Store tx.old.conn.now).is_open
         → LeavesKnown (Some known.old) (Some known.new) result (state S.Store tx.old.conn.now) (state S.Store tx.new.conn.now) }
@@ -157,16 +156,16 @@ fn act_known<S: Alter>(
 fn change_of<S: Alter>(
     alloc: Global,
     tx: &mut Transaction<'_, S>,
-    known: &mut OpenLines,
+    known: &mut Known,
     key: &Key,
     command: &Command,
 ) -> Result<Change, Fault>
     ensures same_reference { tx.new.conn.ghost_name ≡ tx.old.conn.ghost_name }
     ensures decided { HasCleanDisk (state S.Store tx.new.conn.now) → IsTrue (is_key_of key.now command.now) → (first : ℤ) (acts : List Act) → IsHistory first acts
-        → IsTrue (state S.Store tx.old.conn.now).is_open → IsBooksOf first acts (state S.Store tx.old.conn.now).now → Covers known.old (tables_in (state S.Store tx.old.conn.now).now.trees) → bearer key.now acts ≡ None
+        → IsTrue (state S.Store tx.old.conn.now).is_open → IsBooksOf first acts (state S.Store tx.old.conn.now).now → HoldsOf known.old (tables_in (state S.Store tx.old.conn.now).now.trees) → bearer key.now acts ≡ None
         → IsDecidedByRows first (record { key = key.now; command = command.now }) acts result }
-    ensures covers { HasCleanDisk (state S.Store tx.new.conn.now) → IsReady (state S.Store tx.old.conn.now).now → IsTrue (state S.Store tx.old.conn.now).is_open
-        → Covers known.old (tables_in (state S.Store tx.old.conn.now).now.trees) → Covers known.new (tables_in (state S.Store tx.old.conn.now).now.trees) }
+    ensures holds { HasCleanDisk (state S.Store tx.new.conn.now) → IsReady (state S.Store tx.old.conn.now).now → IsTrue (state S.Store tx.old.conn.now).is_open
+        → HoldsOf known.old (tables_in (state S.Store tx.old.conn.now).now.trees) → HoldsOf known.new (tables_in (state S.Store tx.old.conn.now).now.trees) }
     ensures same { HasCleanDisk (state S.Store tx.new.conn.now) → IsReady (state S.Store tx.old.conn.now).now → IsTrue (state S.Store tx.old.conn.now).is_open
         → OnOk result (IsUnchanged (state S.Store tx.old.conn.now) (state S.Store tx.new.conn.now)) }
     ensures kept { HasCleanDisk (state S.Store tx.new.conn.now) → IsReady (state S.Store tx.old.conn.now).now → IsTrue (state S.Store tx.old.conn.now).is_open
@@ -180,11 +179,11 @@ fn change_of<S: Alter>(
     change
 }
 
-// Writes what an accepted command changes; the orders that it opens are known before.
+// Writes what an accepted command changes; the orders that it opens, and the items and bins that it makes, are known before.
 fn accept_known<S: Alter>(
     alloc: Global,
     tx: &mut Transaction<'_, S>,
-    known: &mut OpenLines,
+    known: &mut Known,
     key: &Key,
     command: &Command,
     change: &Change,

@@ -35,8 +35,7 @@ use commands::{
     ShortView, Sink, StockView,
 };
 use label::{BusinessDay, Day};
-use open_lines::OpenLines;
-use slices::{OrderQuery, ShortQuery, StockQuery};
+use slices::{Known, OrderQuery, ShortQuery, StockQuery};
 use sqlite::{Alter, Connection};
 use std::alloc::Global;
 use std::marker::Model;
@@ -51,8 +50,8 @@ use values::{Gtin, LotId, Name};
 pub struct Books<S: Alter> {
     conn: Connection<S>,
     day: BusinessDay,
-    // The orders that may be open, by the items of their lines; `None` until an act reads them.
-    lines: Option<OpenLines>,
+    // What is known beside the tables; `None` until an act reads it.
+    known: Option<Known>,
     alloc: Global,
 }
 
@@ -67,7 +66,7 @@ impl<S: Alter> Model for Books<S> {
 
     ghost view = { λ b. record { conn = b.conn; day = b.day } };
 
-    ghost invariant = { λ b. IsIdle b.conn × IsKnown b.lines (state S.Store b.conn) };
+    ghost invariant = { λ b. IsIdle b.conn × IsKnown b.known (state S.Store b.conn) };
 }
 
 /// Why no books were made or opened.
@@ -142,7 +141,7 @@ impl<S: Alter + Drop> Books<S> {
         Ok(Books {
             conn,
             day,
-            lines: None,
+            known: None,
             alloc,
         })
     }
@@ -184,7 +183,7 @@ impl<S: Alter + Drop> Books<S> {
             Ok(day) => Ok(Books {
                 conn: again,
                 day,
-                lines: None,
+                known: None,
                 alloc,
             }),
             Err(fault) => Err(OpenFault {
@@ -204,7 +203,7 @@ impl<S: Alter> Books<S> {
         let Books {
             conn,
             day: _,
-            lines: _,
+            known: _,
             alloc: _,
         } = self;
         conn
@@ -240,7 +239,7 @@ impl<S: Alter> Books<S> {
             → (first : ℤ) (acts : List Act) → IsHistory first acts → KeepsBooks first acts (state S.Store self.old.conn)
             → AreRowsOf first (acts_after first acts (record { key = key.now; command = command.now })) trees) }
     {
-        match act_once(self.alloc, &mut self.conn, &mut self.lines, key, command) {
+        match act_once(self.alloc, &mut self.conn, &mut self.known, key, command) {
             Ok(reply) => {
                 let day = day_left(self.day, command, reply.repeated);
                 self.day = day;
@@ -275,14 +274,14 @@ impl<S: Alter> Books<S> {
             → AreRowsOf first (acts_after_file first acts (rows_of rows.now)) trees) }
     {
         every_row_is_sound(rows);
-        match file_once(self.alloc, &mut self.conn, &mut self.lines, self.day, rows) {
+        match file_once(self.alloc, &mut self.conn, &mut self.known, self.day, rows) {
             Ok(filed) => {
                 self.day = filed.day;
                 Ok(filed.tally)
             }
             Err(why) => {
                 // What the rows before it closed is open again.
-                self.lines = None;
+                self.known = None;
                 Err(why)
             }
         }

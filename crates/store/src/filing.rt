@@ -9,7 +9,7 @@ ghost use Rattle.machine.specs.Once.{IsHistory, is_key_of, acts_after_file};
 ghost use Rattle.machine.specs.Machine.{AllSound};
 ghost use Rattle.slices.specs.Books.{AreRowsOf, IsBooksOf};
 ghost use Rattle.store.specs.Books.{KeepsBooks, IsSettled};
-ghost use Rattle.store.specs.Knowing.{HasLines, IsKnown, GoesOnKnown};
+ghost use Rattle.store.specs.Knowing.{HasKnown, IsKnown, GoesOnKnown};
 ghost use Rattle.store.specs.Filing.{rows_of, AreKeysOf, counted as counted_lem, fault_at as fault_at_lem, IsRowTaken, IsFiledInside, IsFiledOn};
 
 use crate::acting::act_inside;
@@ -19,7 +19,7 @@ use crate::{Fault, RowFault, Tally};
 use commands::laws::{every_command_is_sound, every_key_is_sound};
 use commands::{Command, Key};
 use label::BusinessDay;
-use open_lines::OpenLines;
+use slices::Known;
 use sqlite::{Alter, Connection, Transaction};
 use std::alloc::Global;
 
@@ -46,15 +46,15 @@ pub fn every_row_is_sound(rows: &[(Key, Command)])
 pub fn file_once<S: Alter>(
     alloc: Global,
     conn: &mut Connection<S>,
-    lines: &mut Option<OpenLines>,
+    known: &mut Option<Known>,
     day: BusinessDay,
     rows: &[(Key, Command)],
 ) -> Result<Filed, RowFault>
     requires outside { conn.old.in_transaction ≡ false }
     requires few { length rows.now ≤ 1000 }
-    requires known { IsKnown lines.old (state S.Store conn.old) }
+    requires known { IsKnown known.old (state S.Store conn.old) }
     ensures outside { conn.new.in_transaction ≡ false }
-    ensures known { OnOk result (IsKnown lines.new (state S.Store conn.new)) }
+    ensures known { OnOk result (IsKnown known.new (state S.Store conn.new)) }
     ensures settled { HasCleanDisk (state S.Store conn.new) → IsSettled (state S.Store conn.new) }
     ensures filed { HasCleanDisk (state S.Store conn.new) → AreKeysOf rows.now → (first : ℤ) (acts : List Act) → IsHistory first acts → KeepsBooks first acts (state S.Store conn.old)
         → IsFiledOn first acts (rows_of rows.now) day result (state S.Store conn.new) }
@@ -64,7 +64,7 @@ pub fn file_once<S: Alter>(
 {
     let _outside = conn.is_autocommit();
     let mut tx = conn.transaction();
-    let filed = file_inside(alloc, &mut tx, lines, day, rows)?;
+    let filed = file_inside(alloc, &mut tx, known, day, rows)?;
     tx.commit()?;
     Ok(filed)
 }
@@ -73,22 +73,22 @@ pub fn file_once<S: Alter>(
 fn file_inside<S: Alter>(
     alloc: Global,
     tx: &mut Transaction<'_, S>,
-    lines: &mut Option<OpenLines>,
+    known: &mut Option<Known>,
     day: BusinessDay,
     rows: &[(Key, Command)],
 ) -> Result<Filed, RowFault>
     requires few { length rows.now ≤ 1000 }
     ensures same_reference { tx.new.conn.ghost_name ≡ tx.old.conn.ghost_name }
     ensures filed { HasCleanDisk (state S.Store tx.new.conn.now) → AreKeysOf rows.now → (first : ℤ) (acts : List Act) → IsHistory first acts
-        → (IsTrue (state S.Store tx.old.conn.now).is_open → IsBooksOf first acts (state S.Store tx.old.conn.now).now) → (IsTrue (state S.Store tx.old.conn.now).is_open → HasLines lines.old (state S.Store tx.old.conn.now))
+        → (IsTrue (state S.Store tx.old.conn.now).is_open → IsBooksOf first acts (state S.Store tx.old.conn.now).now) → (IsTrue (state S.Store tx.old.conn.now).is_open → HasKnown known.old (state S.Store tx.old.conn.now))
         → IsFiledInside first acts (rows_of rows.now) day result (state S.Store tx.old.conn.now) (state S.Store tx.new.conn.now) }
     ensures known { HasCleanDisk (state S.Store tx.new.conn.now) → (IsTrue (state S.Store tx.old.conn.now).is_open → IsReady (state S.Store tx.old.conn.now).now)
-        → GoesOnKnown lines.old lines.new result (state S.Store tx.old.conn.now) (state S.Store tx.new.conn.now) }
+        → GoesOnKnown known.old known.new result (state S.Store tx.old.conn.now) (state S.Store tx.new.conn.now) }
     ensures kept { HasCleanDisk (state S.Store tx.new.conn.now) → (IsTrue (state S.Store tx.old.conn.now).is_open → IsReady (state S.Store tx.old.conn.now).now) → KeepsCommit (state S.Store tx.old.conn.now) (state S.Store tx.new.conn.now) }
     ensures survives { Survives (state S.Store tx.old.conn.now) (state S.Store tx.new.conn.now) (λ _. ⊥) }
 {
     match find_open(tx) {
-        Ok(()) => take_rows(alloc, tx, lines, day, rows),
+        Ok(()) => take_rows(alloc, tx, known, day, rows),
         Err(_) => Err(RowFault::Store),
     }
 }
@@ -97,17 +97,17 @@ fn file_inside<S: Alter>(
 fn take_rows<S: Alter>(
     alloc: Global,
     tx: &mut Transaction<'_, S>,
-    lines: &mut Option<OpenLines>,
+    known: &mut Option<Known>,
     day: BusinessDay,
     rows: &[(Key, Command)],
 ) -> Result<Filed, RowFault>
     requires few { length rows.now ≤ 1000 }
     ensures same_reference { tx.new.conn.ghost_name ≡ tx.old.conn.ghost_name }
     ensures filed { HasCleanDisk (state S.Store tx.new.conn.now) → AreKeysOf rows.now → (first : ℤ) (acts : List Act) → IsHistory first acts
-        → IsBooksOf first acts (state S.Store tx.old.conn.now).now → HasLines lines.old (state S.Store tx.old.conn.now)
+        → IsBooksOf first acts (state S.Store tx.old.conn.now).now → HasKnown known.old (state S.Store tx.old.conn.now)
         → IsFiledInside first acts (rows_of rows.now) day result (state S.Store tx.old.conn.now) (state S.Store tx.new.conn.now) }
     ensures known { HasCleanDisk (state S.Store tx.new.conn.now) → IsReady (state S.Store tx.old.conn.now).now → IsTrue (state S.Store tx.old.conn.now).is_open
-        → GoesOnKnown lines.old lines.new result (state S.Store tx.old.conn.now) (state S.Store tx.new.conn.now) }
+        → GoesOnKnown known.old known.new result (state S.Store tx.old.conn.now) (state S.Store tx.new.conn.now) }
     ensures kept { HasCleanDisk (state S.Store tx.new.conn.now) → IsReady (state S.Store tx.old.conn.now).now → KeepsCommit (state S.Store tx.old.conn.now) (state S.Store tx.new.conn.now) }
     ensures survives { Survives (state S.Store tx.old.conn.now) (state S.Store tx.new.conn.now) (λ _. ⊥) }
 {
@@ -119,7 +119,7 @@ fn take_rows<S: Alter>(
         day,
     };
     for row in rows {
-        filed = take_row(alloc, tx, lines, filed, row)?;
+        filed = take_row(alloc, tx, known, filed, row)?;
     }
     Ok(filed)
 }
@@ -128,24 +128,24 @@ fn take_rows<S: Alter>(
 fn take_row<S: Alter>(
     alloc: Global,
     tx: &mut Transaction<'_, S>,
-    lines: &mut Option<OpenLines>,
+    known: &mut Option<Known>,
     so_far: Filed,
     row: &(Key, Command),
 ) -> Result<Filed, RowFault>
     requires few { so_far.tally.accepted + so_far.tally.repeated < 1000 }
     ensures same_reference { tx.new.conn.ghost_name ≡ tx.old.conn.ghost_name }
     ensures taken { HasCleanDisk (state S.Store tx.new.conn.now) → IsTrue (is_key_of row.now.0 row.now.1) → (first : ℤ) (acts : List Act) → IsHistory first acts
-        → IsBooksOf first acts (state S.Store tx.old.conn.now).now → HasLines lines.old (state S.Store tx.old.conn.now)
+        → IsBooksOf first acts (state S.Store tx.old.conn.now).now → HasKnown known.old (state S.Store tx.old.conn.now)
         → IsRowTaken first acts (record { key = row.now.0; command = row.now.1 }) so_far result (state S.Store tx.old.conn.now) (state S.Store tx.new.conn.now) }
     ensures known { HasCleanDisk (state S.Store tx.new.conn.now) → IsReady (state S.Store tx.old.conn.now).now
-        → GoesOnKnown lines.old lines.new result (state S.Store tx.old.conn.now) (state S.Store tx.new.conn.now) }
+        → GoesOnKnown known.old known.new result (state S.Store tx.old.conn.now) (state S.Store tx.new.conn.now) }
     ensures count { IfOk result (λ filed. filed.tally.accepted + filed.tally.repeated ≡ so_far.tally.accepted + so_far.tally.repeated + 1) }
     ensures kept { HasCleanDisk (state S.Store tx.new.conn.now) → IsReady (state S.Store tx.old.conn.now).now → KeepsCommit (state S.Store tx.old.conn.now) (state S.Store tx.new.conn.now) }
     ensures survives { Survives (state S.Store tx.old.conn.now) (state S.Store tx.new.conn.now) (λ _. ⊥) }
 {
     every_command_is_sound(&row.1);
     every_key_is_sound(row.0);
-    match act_inside(alloc, tx, lines, &row.0, &row.1) {
+    match act_inside(alloc, tx, known, &row.0, &row.1) {
         Ok(reply) => Ok(counted(so_far, &row.1, reply.repeated)),
         Err(fault) => Err(fault_at(so_far.tally, fault)),
     }

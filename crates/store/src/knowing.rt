@@ -1,4 +1,4 @@
-//! What is known of the open orders, read where it has not been yet.
+//! What is known of the books beside their tables, read where it has not been yet.
 
 ghost use Rattle.std.specs.Prelude.{◌≡◌, None, ℤ, List, IsTrue, OnOk, IfOk, IfErr};
 ghost use Rattle.sqlite.specs.State.{HasCleanDisk, Survives, KeepsCommit, IsUnchanged};
@@ -7,25 +7,24 @@ ghost use Rattle.table_words.specs.Steps.{IsReady};
 ghost use Rattle.table_words.specs.Typed.{tables_in};
 ghost use Rattle.machine.specs.Acts.{Act};
 ghost use Rattle.slices.specs.Books.{IsBooksOf};
-ghost use Rattle.slices.specs.Slicing.{Covers};
-ghost use Rattle.store.specs.Knowing.{HasLines};
+ghost use Rattle.slices.specs.Slicing.{HoldsOf};
+ghost use Rattle.store.specs.Knowing.{HasKnown};
 
 use crate::Fault;
-use open_lines::OpenLines;
-use slices::read_open_lines;
+use slices::{Known, first_known};
 use sqlite::{Alter, Transaction};
 use std::alloc::Global;
 
-/// What is known of the open orders, taken out; where nothing is yet, it is read from the tables.
+/// What is known of the books, taken out; where nothing is yet, it is read from the tables.
 pub fn known_in<S: Alter>(
     alloc: Global,
     tx: &mut Transaction<'_, S>,
-    lines: &mut Option<OpenLines>,
-) -> Result<OpenLines, Fault>
+    known: &mut Option<Known>,
+) -> Result<Known, Fault>
     ensures same_reference { tx.new.conn.ghost_name ≡ tx.old.conn.ghost_name }
     ensures known { HasCleanDisk (state S.Store tx.new.conn.now) → IsReady (state S.Store tx.old.conn.now).now → IsTrue (state S.Store tx.old.conn.now).is_open
-        → HasLines lines.old (state S.Store tx.old.conn.now) → IfOk result (λ known. Covers known (tables_in (state S.Store tx.old.conn.now).now.trees)) }
-    ensures taken { lines.new ≡ None }
+        → HasKnown known.old (state S.Store tx.old.conn.now) → IfOk result (λ found. HoldsOf found (tables_in (state S.Store tx.old.conn.now).now.trees)) }
+    ensures taken { known.new ≡ None }
     ensures fault { HasCleanDisk (state S.Store tx.new.conn.now) → IsTrue (state S.Store tx.old.conn.now).is_open → (first : ℤ) (acts : List Act) → IsBooksOf first acts (state S.Store tx.old.conn.now).now
         → IfErr result (λ e. e ≡ Fault.Store) }
     ensures same { HasCleanDisk (state S.Store tx.new.conn.now) → IsReady (state S.Store tx.old.conn.now).now → IsTrue (state S.Store tx.old.conn.now).is_open
@@ -34,10 +33,10 @@ pub fn known_in<S: Alter>(
         → KeepsCommit (state S.Store tx.old.conn.now) (state S.Store tx.new.conn.now) }
     ensures survives { Survives (state S.Store tx.old.conn.now) (state S.Store tx.new.conn.now) (λ _. ⊥) }
 {
-    match lines.take() {
-        Some(known) => Ok(known),
-        None => match read_open_lines(alloc, tx) {
-            Ok(known) => Ok(known),
+    match known.take() {
+        Some(found) => Ok(found),
+        None => match first_known(alloc, tx) {
+            Ok(found) => Ok(found),
             Err(fault) => Err(Fault::from(fault)),
         },
     }

@@ -1,15 +1,15 @@
 use Rattle.sqlite.specs.Held.{state}
 use Rattle.slices.specs.Slicing.{IsSliceIn}
 use Rattle.slices.proofs.ReadTold.{read_fault, read_same, read_kept}
-use Rattle.slices.proofs.SliceRead.{slice_read, slice_covers}
+use Rattle.slices.proofs.SliceRead.{slice_read, slice_holds}
 use Rattle.slices.proofs.slices.read_slice.Goals as goal
 
 pub returns-clause-read : goal.returns-clause-read
 returns-clause-read g c = slice_read c.args.known.now c.args.command.now (state g.S.Store c.args.tx.now.conn.now) (state g.S.Store c.slice_in-slice.new.tx.conn.now) c.slice_in-slice.result c.slice_in-slice.ensures.read
 
-pub returns-clause-covers : goal.returns-clause-covers
-returns-clause-covers g c =
-    slice_covers c.args.command.now (state g.S.Store c.args.tx.now.conn.now) (state g.S.Store c.slice_in-slice.new.tx.conn.now) c.slice_in-slice.result c.args.known.now c.forget_met.new.known c.slice_in-slice.ensures.read c.forget_met.ensures.met c.forget_met.ensures.unread
+pub returns-clause-holds : goal.returns-clause-holds
+returns-clause-holds g c =
+    slice_holds c.args.command.now (state g.S.Store c.args.tx.now.conn.now) (state g.S.Store c.slice_in-slice.new.tx.conn.now) c.slice_in-slice.result c.args.known.now c.learn.new.known c.slice_in-slice.ensures.read c.learn.ensures.met c.learn.ensures.counted c.learn.ensures.unread
 
 pub returns-clause-fault : goal.returns-clause-fault
 returns-clause-fault g c clean = read_fault (λ t s. IsSliceIn c.args.known.now c.args.command.now t s) (state g.S.Store c.args.tx.now.conn.now) (state g.S.Store c.slice_in-slice.new.tx.conn.now) c.slice_in-slice.result c.slice_in-slice.ensures.read clean

@@ -4,12 +4,12 @@ use Rattle.sqlite.specs.State.{HasCleanDisk}
 use Rattle.sqlite.specs.Held.{state}
 use Rattle.commands.specs.Spelling.{key_text, spelling}
 use Rattle.table_words.specs.Steps.{IsReady}
-use Rattle.table_words.specs.Typed.{with_repeat}
+use Rattle.table_words.specs.Typed.{tables_in, with_repeat}
 use Rattle.table_words.proofs.CallLemmas.{kept_unchanged, kept_then}
 use Rattle.rules.specs.Slices.{applied}
 use Rattle.store.proofs.ActsInside.{goes_on_from}
 use Rattle.store.proofs.FaultsTold.{fault_is_store}
-use Rattle.store.proofs.LinesKnown.{known_if_err, known_written}
+use Rattle.store.proofs.KnownKept.{known_if_err, holds_more, known_written}
 use Rattle.store.proofs.acting.accept_known.Goals as goal
 
 pub returns-in_err-know_put-clause-fault : goal.returns-in_err-know_put-clause-fault
@@ -19,7 +19,7 @@ returns-in_err-know_put-clause-fault g c clean up first acts books =
 pub returns-in_err-know_put-clause-known : goal.returns-in_err-know_put-clause-known
 returns-in_err-know_put-clause-known g c clean ready up =
     known_if_err (Some c.args.known.now) (Some c.know_put.new.known) c.from_residual.result (state g.S.Store c.args.tx.now.conn.now) (state g.S.Store c.know_put.new.tx.conn.now) c.from_residual.ensures.0
-    (λ covers order item up there. c.know_put.ensures.keeps item order (covers order item up there))
+    (holds_more c.args.known.now c.know_put.new.known c.args.change.now.put (tables_in (state g.S.Store c.args.tx.now.conn.now).now.trees) c.know_put.ensures.keeps c.know_put.ensures.raised)
 
 pub returns-clause-done : goal.returns-clause-done
 returns-clause-done g c clean ready up once =
@@ -41,7 +41,7 @@ returns-clause-known g c clean ready up =
     let same = c.in_ok-know_put.ensures.same was ready up in
     let change = c.args.change.now in
     known_written c.args.known.now c.know_put.new.known change (record { k = key_text c.args.key.now; act = change.meta.acts; spell = spelling c.args.command.now; reply = change.text }) c.accept.result old mid new same
-    c.know_put.ensures.keeps (c.in_ok-know_put.ensures.known was ready up) (c.accept.ensures.written clean (subst IsReady (sym same.0.now_is) ready))
+    c.know_put.ensures.keeps c.know_put.ensures.raised (c.in_ok-know_put.ensures.known was ready up) (c.accept.ensures.written clean (subst IsReady (sym same.0.now_is) ready))
 
 pub returns-clause-kept : goal.returns-clause-kept
 returns-clause-kept g c clean ready up =

@@ -2,7 +2,7 @@ use Rattle.std.proofs.Common.{Ok, rules}
 use Rattle.sqlite.specs.Held.{state}
 use Rattle.machine.specs.Acts.{Act}
 use Rattle.store.proofs.ActsWhole.{ActsWhole, SurvivesWhole, begun_state, act_committed, act_not_committed, act_undone, KeptWhole, kept_if_undone, kept_if_not_committed, stop_in_commit, stop_before_commit}
-use Rattle.store.proofs.LinesKnown.{lines_begun, known_committed, known_not_committed, known_undone}
+use Rattle.store.proofs.KnownKept.{holds_begun, known_committed, known_not_committed, known_undone}
 use Rattle.store.specs.Knowing.{IsKnown}
 use Rattle.store.proofs.acting.act_once.Goals as goal
 
@@ -15,7 +15,7 @@ returns-clause-acted g c =
     let new = state g.S.Store c.commit.new.self.0 in
     let is = begun_state g.S.Store c.args.conn.now c.transaction-tx.result.conn.now c.transaction-tx.ensures.begun in
     let whole : ActsWhole act (Ok c.in_ok-reply.reply) old new =
-    act_committed act old begun last new is c.in_ok-reply.reply (λ clean kind first acts history books. c.in_ok-reply.ensures.acted clean kind first acts history books (lines_begun old begun last new is c.in_ok-reply.ensures.survives c.args.lines.now c.requires.known clean)) c.commit.ensures.survives (λ clean. (c.in_ok-commit.ensures.ok clean).1) in
+    act_committed act old begun last new is c.in_ok-reply.reply (λ clean kind first acts history books. c.in_ok-reply.ensures.acted clean kind first acts history books (holds_begun old begun last new is c.in_ok-reply.ensures.survives c.args.known.now c.requires.known clean)) c.commit.ensures.survives (λ clean. (c.in_ok-commit.ensures.ok clean).1) in
     search (rules, whole)
 
 pub returns-in_err-commit-clause-acted : goal.returns-in_err-commit-clause-acted
@@ -27,7 +27,7 @@ returns-in_err-commit-clause-acted g c =
     let new = state g.S.Store c.commit.new.self.0 in
     let is = begun_state g.S.Store c.args.conn.now c.transaction-tx.result.conn.now c.transaction-tx.ensures.begun in
     let whole : ActsWhole act c.from_residual-in_err-commit.result old new =
-    act_not_committed act old begun last new is c.in_ok-reply.reply c.in_err-commit.field-0.0 c.from_residual-in_err-commit.result (λ clean kind first acts history books. c.in_ok-reply.ensures.acted clean kind first acts history books (lines_begun old begun last new is c.in_ok-reply.ensures.survives c.args.lines.now c.requires.known clean)) c.in_ok-reply.ensures.kept c.commit.ensures.survives c.in_err-commit.ensures.err c.from_residual-in_err-commit.ensures in
+    act_not_committed act old begun last new is c.in_ok-reply.reply c.in_err-commit.field-0.0 c.from_residual-in_err-commit.result (λ clean kind first acts history books. c.in_ok-reply.ensures.acted clean kind first acts history books (holds_begun old begun last new is c.in_ok-reply.ensures.survives c.args.known.now c.requires.known clean)) c.in_ok-reply.ensures.kept c.commit.ensures.survives c.in_err-commit.ensures.err c.from_residual-in_err-commit.ensures in
     search (rules, whole)
 
 pub returns-in_err-reply-clause-acted : goal.returns-in_err-reply-clause-acted
@@ -39,7 +39,7 @@ returns-in_err-reply-clause-acted g c =
     let new = state g.S.Store c.drop-tx.new.self.0 in
     let is = begun_state g.S.Store c.args.conn.now c.transaction-tx.result.conn.now c.transaction-tx.ensures.begun in
     let whole : ActsWhole act c.from_residual.result old new =
-    act_undone act old begun last new is c.in_err-reply.field-0.0 c.from_residual.result (λ clean kind first acts history books. c.in_err-reply.ensures.acted clean kind first acts history books (lines_begun old begun last new is c.in_err-reply.ensures.survives c.args.lines.now c.requires.known clean)) c.in_err-reply.ensures.kept c.drop-tx.ensures.survives c.drop-tx.ensures.undone c.from_residual.ensures in
+    act_undone act old begun last new is c.in_err-reply.field-0.0 c.from_residual.result (λ clean kind first acts history books. c.in_err-reply.ensures.acted clean kind first acts history books (holds_begun old begun last new is c.in_err-reply.ensures.survives c.args.known.now c.requires.known clean)) c.in_err-reply.ensures.kept c.drop-tx.ensures.survives c.drop-tx.ensures.undone c.from_residual.ensures in
     search (rules, whole)
 
 pub returns-clause-survives : goal.returns-clause-survives
@@ -51,7 +51,7 @@ returns-clause-survives g c =
     let new = state g.S.Store c.commit.new.self.0 in
     let is = begun_state g.S.Store c.args.conn.now c.transaction-tx.result.conn.now c.transaction-tx.ensures.begun in
     let whole : SurvivesWhole act old new =
-    stop_in_commit act old begun last new is c.in_ok-reply.reply (λ clean kind first acts history books. c.in_ok-reply.ensures.acted clean kind first acts history books (lines_begun old begun last new is c.in_ok-reply.ensures.survives c.args.lines.now c.requires.known clean)) c.in_ok-reply.ensures.survives c.commit.ensures.survives in
+    stop_in_commit act old begun last new is c.in_ok-reply.reply (λ clean kind first acts history books. c.in_ok-reply.ensures.acted clean kind first acts history books (holds_begun old begun last new is c.in_ok-reply.ensures.survives c.args.known.now c.requires.known clean)) c.in_ok-reply.ensures.survives c.commit.ensures.survives in
     search (rules, whole)
 
 pub returns-in_err-commit-clause-survives : goal.returns-in_err-commit-clause-survives
@@ -63,7 +63,7 @@ returns-in_err-commit-clause-survives g c =
     let new = state g.S.Store c.commit.new.self.0 in
     let is = begun_state g.S.Store c.args.conn.now c.transaction-tx.result.conn.now c.transaction-tx.ensures.begun in
     let whole : SurvivesWhole act old new =
-    stop_in_commit act old begun last new is c.in_ok-reply.reply (λ clean kind first acts history books. c.in_ok-reply.ensures.acted clean kind first acts history books (lines_begun old begun last new is c.in_ok-reply.ensures.survives c.args.lines.now c.requires.known clean)) c.in_ok-reply.ensures.survives c.commit.ensures.survives in
+    stop_in_commit act old begun last new is c.in_ok-reply.reply (λ clean kind first acts history books. c.in_ok-reply.ensures.acted clean kind first acts history books (holds_begun old begun last new is c.in_ok-reply.ensures.survives c.args.known.now c.requires.known clean)) c.in_ok-reply.ensures.survives c.commit.ensures.survives in
     search (rules, whole)
 
 pub returns-in_err-reply-clause-survives : goal.returns-in_err-reply-clause-survives
@@ -107,8 +107,8 @@ returns-clause-known g c =
     let last = state g.S.Store c.act_inside.new.tx.conn.now in
     let new = state g.S.Store c.commit.new.self.0 in
     let is = begun_state g.S.Store c.args.conn.now c.transaction-tx.result.conn.now c.transaction-tx.ensures.begun in
-    let whole : IsKnown c.act_inside.new.lines new =
-    known_committed old begun last new is c.in_ok-reply.ensures.survives c.args.lines.now c.requires.known c.commit.ensures.survives c.act_inside.new.lines (λ clean ready. (c.in_ok-reply.ensures.known clean ready).answered) (λ clean. (c.in_ok-commit.ensures.ok clean).1) in
+    let whole : IsKnown c.act_inside.new.known new =
+    known_committed old begun last new is c.in_ok-reply.ensures.survives c.args.known.now c.requires.known c.commit.ensures.survives c.act_inside.new.known (λ clean ready. (c.in_ok-reply.ensures.known clean ready).answered) (λ clean. (c.in_ok-commit.ensures.ok clean).1) in
     search (rules, whole)
 
 pub returns-in_err-commit-clause-known : goal.returns-in_err-commit-clause-known
@@ -118,8 +118,8 @@ returns-in_err-commit-clause-known g c =
     let last = state g.S.Store c.act_inside.new.tx.conn.now in
     let new = state g.S.Store c.commit.new.self.0 in
     let is = begun_state g.S.Store c.args.conn.now c.transaction-tx.result.conn.now c.transaction-tx.ensures.begun in
-    let whole : IsKnown c.act_inside.new.lines new =
-    known_not_committed old begun last new is c.in_ok-reply.ensures.survives c.args.lines.now c.requires.known c.commit.ensures.survives c.act_inside.new.lines c.in_err-commit.field-0.0 (λ clean ready. (c.in_ok-reply.ensures.known clean ready).before)
+    let whole : IsKnown c.act_inside.new.known new =
+    known_not_committed old begun last new is c.in_ok-reply.ensures.survives c.args.known.now c.requires.known c.commit.ensures.survives c.act_inside.new.known c.in_err-commit.field-0.0 (λ clean ready. (c.in_ok-reply.ensures.known clean ready).before)
     (λ clean ready. (c.in_ok-reply.ensures.known clean ready).answered.2) c.in_ok-reply.ensures.kept c.in_err-commit.ensures.err in
     search (rules, whole)
 
@@ -130,6 +130,6 @@ returns-in_err-reply-clause-known g c =
     let last = state g.S.Store c.act_inside.new.tx.conn.now in
     let new = state g.S.Store c.drop-tx.new.self.0 in
     let is = begun_state g.S.Store c.args.conn.now c.transaction-tx.result.conn.now c.transaction-tx.ensures.begun in
-    let whole : IsKnown c.act_inside.new.lines new =
-    known_undone old begun last new is c.in_err-reply.ensures.survives c.args.lines.now c.requires.known c.drop-tx.ensures.survives c.act_inside.new.lines (λ clean ready. (c.in_err-reply.ensures.known clean ready).before) c.in_err-reply.ensures.kept c.drop-tx.ensures.undone in
+    let whole : IsKnown c.act_inside.new.known new =
+    known_undone old begun last new is c.in_err-reply.ensures.survives c.args.known.now c.requires.known c.drop-tx.ensures.survives c.act_inside.new.known (λ clean ready. (c.in_err-reply.ensures.known clean ready).before) c.in_err-reply.ensures.kept c.drop-tx.ensures.undone in
     search (rules, whole)

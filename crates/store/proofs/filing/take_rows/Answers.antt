@@ -7,7 +7,7 @@ use Rattle.table_words.proofs.CallLemmas.{kept_itself, kept_then, inside_itself,
 use Rattle.store.specs.Filing.{rows_of, IsFiledInside}
 use Rattle.store.proofs.FilesInside.{AreUnderWay, under_way_at_first, row_kind, row_next, one_row_on, ends_at_row, all_rows_taken}
 use Rattle.store.proofs.FilesWhole.{by_row_error}
-use Rattle.store.proofs.LinesKnown.{none_answered}
+use Rattle.store.proofs.KnownKept.{none_answered}
 use Rattle.store.proofs.filing.take_rows.Goals as goal
 
 pub loop-row-init : goal.loop-row-init
@@ -16,8 +16,8 @@ loop-row-init g c =
       refl,
       inside_itself old,
       refl,
-      λ clean keys first acts history books lines. under_way_at_first first acts (rows_of c.args.rows.now) c.args.day old _ refl history books,
-      λ clean ready. (kept_itself old, ready, refl, λ lines. lines),
+      λ clean keys first acts history books holds. under_way_at_first first acts (rows_of c.args.rows.now) c.args.day old _ refl history books,
+      λ clean ready. (kept_itself old, ready, refl, λ holds. holds),
     )
 
 pub loop-row-preserved : goal.loop-row-preserved
@@ -35,16 +35,16 @@ loop-row-preserved g c =
       one.same_reference ∙ before.0,
       inside_then old mid new before.1 one.survives,
       one.count ∙ ap (λ n. n + 1) before.2,
-      λ clean keys first acts history books lines.
+      λ clean keys first acts history books holds.
           let was : HasCleanDisk mid = omega (arith, clean, one.survives.clean) in
-          let way = row_next rows i row (drop (i + 1) rows) left first acts c.args.day c.loop-row.filed old mid (before.3 was keys first acts history books lines) in
+          let way = row_next rows i row (drop (i + 1) rows) left first acts c.args.day c.loop-row.filed old mid (before.3 was keys first acts history books holds) in
           one_row_on first acts (rows_of rows) c.args.day old act (rows_of (drop (i + 1) rows)) c.loop-row.filed mid new way c.in_ok-filed.filed
-          (one.taken clean (row_kind rows i row (drop (i + 1) rows) left keys) first way.so_far way.shows.history way.shows.books ((before.4 was books.ready).3 lines)),
+          (one.taken clean (row_kind rows i row (drop (i + 1) rows) left keys) first way.so_far way.shows.history way.shows.books ((before.4 was books.ready).3 holds)),
       λ clean ready.
           let was : HasCleanDisk mid = omega (arith, clean, one.survives.clean) in
           let so_far = before.4 was ready in
           let goes = one.known clean so_far.1 in
-          (kept_then old mid new so_far.0 (one.kept clean so_far.1), goes.1, goes.2 ∙ so_far.2, λ lines. goes.3 (so_far.3 lines)),
+          (kept_then old mid new so_far.0 (one.kept clean so_far.1), goes.1, goes.2 ∙ so_far.2, λ holds. goes.3 (so_far.3 holds)),
     )
 
 pub returns-in_err-filed-clause-same_reference : goal.returns-in_err-filed-clause-same_reference
@@ -55,7 +55,7 @@ returns-in_err-filed-clause-survives g c =
     inside_then (state g.S.Store c.args.tx.now.conn.now) (state g.S.Store c.loop-row.tx.conn.now) (state g.S.Store c.take_row.new.tx.conn.now) c.loop-row.invariant.1 c.in_err-filed.ensures.survives
 
 pub returns-in_err-filed-clause-filed : goal.returns-in_err-filed-clause-filed
-returns-in_err-filed-clause-filed g c clean keys first acts history books lines =
+returns-in_err-filed-clause-filed g c clean keys first acts history books holds =
     let rows = c.args.rows.now in
     let i = c.loop-row.row-index in
     let row = c.row-item.result in
@@ -66,10 +66,10 @@ returns-in_err-filed-clause-filed g c clean keys first acts history books lines 
     let one = c.in_err-filed.ensures in
     let left : drop i rows ≡ row ∷ drop (i + 1) rows = grind (arith, common_steps) in
     let was : HasCleanDisk mid = omega (arith, clean, one.survives.clean) in
-    let way = row_next rows i row (drop (i + 1) rows) left first acts c.args.day c.loop-row.filed old mid (c.loop-row.invariant.3 was keys first acts history books lines) in
+    let way = row_next rows i row (drop (i + 1) rows) left first acts c.args.day c.loop-row.filed old mid (c.loop-row.invariant.3 was keys first acts history books holds) in
     by_row_error c.from_residual.result c.in_err-filed.field-0.0 c.from_residual.ensures (λ r. IsFiledInside first acts (rows_of rows) c.args.day r old new)
     (ends_at_row first acts (rows_of rows) c.args.day old act (rows_of (drop (i + 1) rows)) c.loop-row.filed mid new way c.in_err-filed.field-0.0
-    (one.taken clean (row_kind rows i row (drop (i + 1) rows) left keys) first way.so_far way.shows.history way.shows.books ((c.loop-row.invariant.4 was books.ready).3 lines)))
+    (one.taken clean (row_kind rows i row (drop (i + 1) rows) left keys) first way.so_far way.shows.history way.shows.books ((c.loop-row.invariant.4 was books.ready).3 holds)))
 
 pub returns-in_err-filed-clause-kept : goal.returns-in_err-filed-clause-kept
 returns-in_err-filed-clause-kept g c clean ready =
@@ -91,13 +91,13 @@ pub returns-clause-survives : goal.returns-clause-survives
 returns-clause-survives g c = c.loop-row.invariant.1
 
 pub returns-clause-filed : goal.returns-clause-filed
-returns-clause-filed g c clean keys first acts history books lines =
+returns-clause-filed g c clean keys first acts history books holds =
     let rows = c.args.rows.now in
     let old = state g.S.Store c.args.tx.now.conn.now in
     let now = state g.S.Store c.loop-row.tx.conn.now in
     let none : drop c.loop-row.row-index rows ≡ [] = grind (arith, common_steps) in
     all_rows_taken first acts (rows_of rows) c.args.day old c.loop-row.filed now
-    (subst (λ l. AreUnderWay first acts (rows_of rows) (rows_of l) c.args.day c.loop-row.filed old now) none (c.loop-row.invariant.3 clean keys first acts history books lines))
+    (subst (λ l. AreUnderWay first acts (rows_of rows) (rows_of l) c.args.day c.loop-row.filed old now) none (c.loop-row.invariant.3 clean keys first acts history books holds))
 
 pub returns-clause-kept : goal.returns-clause-kept
 returns-clause-kept g c clean ready = (c.loop-row.invariant.4 clean ready).0

@@ -5,7 +5,7 @@ use Rattle.table_words.specs.Steps.{IsReady}
 use Rattle.machine.specs.Acts.{Act}
 use Rattle.machine.specs.Once.{IsHistory}
 use Rattle.slices.specs.Books.{IsBooksOf}
-use Rattle.store.specs.Knowing.{HasLines}
+use Rattle.store.specs.Knowing.{HasKnown}
 use Rattle.store.specs.Filing.{rows_of, AreKeysOf}
 use Rattle.store.proofs.FilesInside.{AreUnderWay}
 use Rattle.store.proofs.filing.take_rows.Given as goal
@@ -16,6 +16,6 @@ invariant-loop-row g l =
     let now = state g.S.Store l.tx.conn.now in
     (l.tx.conn.ghost_name ≡ l.fn.tx.conn.ghost_name) × Survives old now (λ _. ⊥)
     × (l.filed.tally.accepted + l.filed.tally.repeated ≡ l.row-index)
-    × (HasCleanDisk now → AreKeysOf l.rows → (first : ℤ) (acts : List Act) → IsHistory first acts → IsBooksOf first acts old.now → HasLines l.fn.lines old
+    × (HasCleanDisk now → AreKeysOf l.rows → (first : ℤ) (acts : List Act) → IsHistory first acts → IsBooksOf first acts old.now → HasKnown l.fn.known old
     → AreUnderWay first acts (rows_of l.rows) (rows_of (drop l.row-index l.rows)) l.fn.day l.filed old now)
-    × (HasCleanDisk now → IsReady old.now → KeepsCommit old now × IsReady now.now × (now.in_transaction ≡ old.in_transaction) × (HasLines l.fn.lines old → HasLines l.lines now))
+    × (HasCleanDisk now → IsReady old.now → KeepsCommit old now × IsReady now.now × (now.in_transaction ≡ old.in_transaction) × (HasKnown l.fn.known old → HasKnown l.known now))

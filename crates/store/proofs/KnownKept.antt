@@ -1,4 +1,4 @@
--- What is known of the open orders: after a call within a transaction, and at the transaction's end.
+-- What is known of the tables: after a call within a transaction, and at the transaction's end.
 use Rattle.std.proofs.Common.{◌≡◌, inl, inr, true, false, Ok, Err, Result, OnOk, refl, sym, ap, subst, ◌∙◌, IsTrue, arith}
 use Rattle.std.specs.Prelude.{Option, Some, None, IfSome}
 use Rattle.std.specs.Result.{IsErr}
@@ -13,19 +13,23 @@ use Rattle.commands.specs.declared.rows.RepeatRow.{RepeatRow}
 use Rattle.table_words.specs.Steps.{IsReady, Goes}
 use Rattle.table_words.specs.Typed.{tables_in, with_repeat}
 use Rattle.table_words.proofs.CallLemmas.{kept_then}
+use Rattle.row_rules.specs.declared.slice.Put.{Put}
 use Rattle.row_rules.specs.declared.slice.Change.{Change}
 use Rattle.changes.specs.Written.{change_written}
-use Rattle.open_lines.specs.OpenLines.{Entries, Keeps}
-use Rattle.slices.specs.Slicing.{Covers, Knows}
+use Rattle.open_lines.specs.OpenLines.{Keeps}
+use Rattle.slices.specs.Bounding.{IsRaised}
+use Rattle.slices.specs.Slicing.{HoldsOf, Knows}
+use Rattle.slices.specs.declared.knowing.Known.{Known}
 use Rattle.store.specs.Books.{IsSettled}
-use Rattle.store.specs.Knowing.{HasLines, IsKnown, GoesOnKnown, LeavesKnown}
+use Rattle.store.specs.Knowing.{HasKnown, IsKnown, GoesOnKnown, LeavesKnown}
 use Rattle.store.proofs.ActsWhole.{KeepsInside, begun_commit}
 use Rattle.store.proofs.HandedOn.{Stays, settled_back}
 use Rattle.store.proofs.LinesWritten.{covers_written}
+use Rattle.store.proofs.BoundsWritten.{bounds_more, bounds_written}
 
 -- of the tables of a database
-abbrev LinesIn : Option Entries → Database → Type 0
-LinesIn known db = IfSome known (λ es. Covers es (tables_in db.trees))
+abbrev KnownIn : Option Known → Database → Type 0
+KnownIn known db = IfSome known (λ k. HoldsOf k (tables_in db.trees))
 
 -- Within the transaction
 
@@ -42,41 +46,47 @@ pub none_answered : {X E : Type 0} (P : Type 0) (r : Result X E) → IsErr r →
 none_answered P (Ok x) none = absurd (let no = none in cc)
 none_answered P (Err e) is = tt
 
-pub known_if_err : {X E : Type 0} (known after : Option Entries) (r : Result X E) (old new : State) → IsErr r → (HasLines known old → HasLines after old) → LeavesKnown known after r old new
+pub known_if_err : {X E : Type 0} (known after : Option Known) (r : Result X E) (old new : State) → IsErr r → (HasKnown known old → HasKnown after old) → LeavesKnown known after r old new
 known_if_err known after r old new is before = record { before = before; answered = none_answered _ r is }
 
 -- nothing was changed
-pub known_same : {X E : Type 0} (known : Option Entries) (r : Result X E) (old new : State) → IsUnchanged old new → IsReady old.now → LeavesKnown known known r old new
+pub known_same : {X E : Type 0} (known : Option Known) (r : Result X E) (old new : State) → IsUnchanged old new → IsReady old.now → LeavesKnown known known r old new
 known_same known r old new same ready = record {
   before = λ h. h;
-  answered = on_ok r (same.0.was_open, subst IsReady (sym same.0.now_is) ready, same.0.mode, λ h. subst (LinesIn known) (sym same.0.now_is) h);
+  answered = on_ok r (same.0.was_open, subst IsReady (sym same.0.now_is) ready, same.0.mode, λ h. subst (KnownIn known) (sym same.0.now_is) h);
 }
 
 -- from the state that a read left as it was
-pub known_from : {X E : Type 0} (known mid_known after : Option Entries) (r : Result X E) (old mid new : State) → IsUnchanged old mid → (HasLines known old → HasLines mid_known old) → LeavesKnown mid_known after r mid new → LeavesKnown known after r old new
+pub known_from : {X E : Type 0} (known mid_known after : Option Known) (r : Result X E) (old mid new : State) → IsUnchanged old mid → (HasKnown known old → HasKnown mid_known old) → LeavesKnown mid_known after r mid new → LeavesKnown known after r old new
 known_from known mid_known after r old mid new same read leaves = record {
-  before = λ h. subst (LinesIn after) same.0.now_is (leaves.before (subst (LinesIn mid_known) (sym same.0.now_is) (read h)));
-  answered = ok_to r (λ a. (same.0.was_open, a.1, a.2 ∙ same.0.mode, λ h. a.3 (subst (LinesIn mid_known) (sym same.0.now_is) (read h)))) leaves.answered;
+  before = λ h. subst (KnownIn after) same.0.now_is (leaves.before (subst (KnownIn mid_known) (sym same.0.now_is) (read h)));
+  answered = ok_to r (λ a. (same.0.was_open, a.1, a.2 ∙ same.0.mode, λ h. a.3 (subst (KnownIn mid_known) (sym same.0.now_is) (read h)))) leaves.answered;
 }
 
 -- what is known of the tables that a read left as they were
-pub lines_kept : (known : Option Entries) (old mid : State) → IsUnchanged old mid → HasLines known old → HasLines known mid
-lines_kept known old mid same lines = subst (LinesIn known) (sym same.0.now_is) lines
+pub known_kept : (known : Option Known) (old mid : State) → IsUnchanged old mid → HasKnown known old → HasKnown known mid
+known_kept known old mid same holds = subst (KnownIn known) (sym same.0.now_is) holds
 
-pub goes_known_from : {X E : Type 0} (known after : Option Entries) (r : Result X E) (old mid new : State) → IsUnchanged old mid → GoesOnKnown known after r mid new → GoesOnKnown known after r old new
-goes_known_from known after r old mid new same goes = ok_to r (λ a. (same.0.was_open, a.1, a.2 ∙ same.0.mode, λ h. a.3 (lines_kept known old mid same h))) goes
+pub goes_known_from : {X E : Type 0} (known after : Option Known) (r : Result X E) (old mid new : State) → IsUnchanged old mid → GoesOnKnown known after r mid new → GoesOnKnown known after r old new
+goes_known_from known after r old mid new same goes = ok_to r (λ a. (same.0.was_open, a.1, a.2 ∙ same.0.mode, λ h. a.3 (known_kept known old mid same h))) goes
+
+-- more orders are known, and no number is smaller
+pub holds_more : (known after : Known) (puts : Put) (t : Tables) → Keeps known.lines after.lines → IsRaised puts known.bounds after.bounds → HoldsOf known t → HoldsOf after t
+holds_more known after puts t keeps raised holds = record { lines = λ o g up there. keeps g o (holds.lines o g up there); bounds = bounds_more puts known.bounds after.bounds t raised holds.bounds }
 
 -- a change is written
-pub known_written : {X E : Type 0} (known after : Entries) (change : Change) (row : RepeatRow) (r : Result X E) (old mid new : State) → IsUnchanged old mid → Keeps known after → Knows change.put (tables_in old.now.trees) after
-    → OnOk r (Goes (λ t. with_repeat row (change_written change t)) mid new) → LeavesKnown (Some known) (Some after) r old new
-known_written known after change row r old mid new same keeps knows wrote = record {
-  before = λ covers o g up there. keeps g o (covers o g up there);
+pub known_written : {X E : Type 0} (known after : Known) (change : Change) (row : RepeatRow) (r : Result X E) (old mid new : State) → IsUnchanged old mid → Keeps known.lines after.lines → IsRaised change.put known.bounds after.bounds
+    → Knows change.put (tables_in old.now.trees) after.lines → OnOk r (Goes (λ t. with_repeat row (change_written change t)) mid new) → LeavesKnown (Some known) (Some after) r old new
+known_written known after change row r old mid new same keeps raised knows wrote = record {
+  before = holds_more known after change.put (tables_in old.now.trees) keeps raised;
   answered = ok_to r (λ goes. (
     same.0.was_open,
     goes.ready,
     goes.mode ∙ same.0.mode,
-    λ covers. subst (λ (t : Tables). Covers after t) (sym (goes.tables ∙ ap (λ (db : Database). with_repeat row (change_written change (tables_in db.trees))) same.0.now_is))
-        (covers_written change row (tables_in old.now.trees) known after covers keeps knows),
+    λ holds. subst (λ (t : Tables). HoldsOf after t) (sym (goes.tables ∙ ap (λ (db : Database). with_repeat row (change_written change (tables_in db.trees))) same.0.now_is)) (record {
+      lines = covers_written change row (tables_in old.now.trees) known.lines after.lines holds.lines keeps knows;
+      bounds = bounds_written change row (tables_in old.now.trees) known.bounds after.bounds raised holds.bounds;
+    }),
   )) wrote;
 }
 
@@ -94,26 +104,26 @@ module _ (old begun last new : State) (is : begun ≡ record old { in_transactio
   now_is : begun.now ≡ old.now
   now_is = ap (λ (s : State). s.now) is
 
-  module _ (known : Option Entries) (is_known : IsKnown known old) where
+  module _ (known : Option Known) (is_known : IsKnown known old) where
     pub ready_begun : HasCleanDisk last → IsTrue begun.is_open → IsReady begun.now
     ready_begun clean up = subst IsReady (sym now_is) ((is_known (clean_first clean)).0.ready (up_first up))
 
-    pub lines_begun : HasCleanDisk last → IsTrue begun.is_open → HasLines known begun
-    lines_begun clean up = subst (LinesIn known) (sym now_is) ((is_known (clean_first clean)).1 (up_first up))
+    pub holds_begun : HasCleanDisk last → IsTrue begun.is_open → HasKnown known begun
+    holds_begun clean up = subst (KnownIn known) (sym now_is) ((is_known (clean_first clean)).1 (up_first up))
 
     module _ {Q : Trees → Type 0} (ends : Survives last new Q) where
       last_clean : HasCleanDisk new → HasCleanDisk last
       last_clean clean = omega (arith, clean, ends.clean)
 
       -- it is committed
-      pub known_committed : (after : Option Entries) → (HasCleanDisk last → (IsTrue begun.is_open → IsReady begun.now) → IsTrue begun.is_open × IsReady last.now × (last.in_transaction ≡ begun.in_transaction) × (HasLines known begun → HasLines after last))
+      pub known_committed : (after : Option Known) → (HasCleanDisk last → (IsTrue begun.is_open → IsReady begun.now) → IsTrue begun.is_open × IsReady last.now × (last.in_transaction ≡ begun.in_transaction) × (HasKnown known begun → HasKnown after last))
           → (HasCleanDisk new → Shows last new last.now last.now false) → IsKnown after new
       known_committed after inside shown clean =
           let was = last_clean clean in
           let goes = inside was (ready_begun was) in
           let shows = shown clean in (
             record { ready = λ _. subst IsReady (sym shows.now_is) goes.1; settled = λ _. shows.committed_is ∙ sym shows.now_is },
-            λ _. subst (LinesIn after) (sym shows.now_is) (goes.3 (lines_begun was goes.0)),
+            λ _. subst (KnownIn after) (sym shows.now_is) (goes.3 (holds_begun was goes.0)),
           )
 
       -- it is undone
@@ -125,7 +135,7 @@ module _ (old begun last new : State) (is : begun ≡ record old { in_transactio
           let was = last_clean clean in
           settled_back old last new (is_known (clean_first was)).0 (kept_last keeps was) (undone clean)
 
-      pub known_undone : (after : Option Entries) → (HasCleanDisk last → (IsTrue begun.is_open → IsReady begun.now) → HasLines known begun → HasLines after begun) → KeepsInside begun last → (HasCleanDisk new → IsRolledBack last new) → IsKnown after new
+      pub known_undone : (after : Option Known) → (HasCleanDisk last → (IsTrue begun.is_open → IsReady begun.now) → HasKnown known begun → HasKnown after begun) → KeepsInside begun last → (HasCleanDisk new → IsRolledBack last new) → IsKnown after new
       known_undone after inside keeps undone clean =
           let was = last_clean clean in
           let kept = kept_last keeps was in
@@ -135,7 +145,7 @@ module _ (old begun last new : State) (is : begun ≡ record old { in_transactio
             λ up.
                 let first_up : IsTrue old.is_open = kept.was_open (back.was_open up) in
                 let shows : new.now ≡ old.now = (back.undone up).0 ∙ kept.committed (back.was_open up) ∙ at.0.settled first_up in
-                subst (LinesIn after) (sym shows) (subst (LinesIn after) now_is (inside was (ready_begun was) (subst (LinesIn known) (sym now_is) (at.1 first_up)))),
+                subst (KnownIn after) (sym shows) (subst (KnownIn after) now_is (inside was (ready_begun was) (subst (KnownIn known) (sym now_is) (at.1 first_up)))),
           )
 
       -- the commit fails
@@ -146,7 +156,7 @@ module _ (old begun last new : State) (is : begun ≡ record old { in_transactio
           by_failure same (inl failed) = failed.3
           by_failure same (inr late) = absurd (let inside : begun.in_transaction ≡ true = ap (λ (s : State). s.in_transaction) is in let out = late.1 in cc)
 
-      pub known_not_committed : (after : Option Entries) (e : Error) → (HasCleanDisk last → (IsTrue begun.is_open → IsReady begun.now) → HasLines known begun → HasLines after begun)
+      pub known_not_committed : (after : Option Known) (e : Error) → (HasCleanDisk last → (IsTrue begun.is_open → IsReady begun.now) → HasKnown known begun → HasKnown after begun)
           → (HasCleanDisk last → (IsTrue begun.is_open → IsReady begun.now) → last.in_transaction ≡ begun.in_transaction) → KeepsInside begun last → (HasCleanDisk new → FailsToCommit last new e) → IsKnown after new
       known_not_committed after e inside mode keeps fails = known_undone after inside keeps (rolled_back e mode fails)
 
@@ -156,7 +166,7 @@ module _ (old begun last new : State) (is : begun ≡ record old { in_transactio
 
 -- A look leaves what is known
 
-pub known_stays : (known : Option Entries) (old new : State) {Q : Trees → Type 0} → Survives old new Q → Stays old new → IsKnown known old → IsKnown known new
+pub known_stays : (known : Option Known) (old new : State) {Q : Trees → Type 0} → Survives old new Q → Stays old new → IsKnown known old → IsKnown known new
 known_stays known old new survives stays is_known clean =
     let was : HasCleanDisk old = omega (arith, clean, survives.clean) in
     let at = is_known was in
@@ -164,5 +174,5 @@ known_stays known old new survives stays is_known clean =
       left.1,
       λ up.
           let shows : new.now ≡ old.now = sym (left.1.settled up) ∙ left.0.committed up ∙ at.0.settled (left.0.was_open up) in
-          subst (LinesIn known) (sym shows) (at.1 (left.0.was_open up)),
+          subst (KnownIn known) (sym shows) (at.1 (left.0.was_open up)),
     )
