@@ -326,7 +326,10 @@ impl<S: Alter> Books<S> {
         ensures as_before { IsClean S.Store self.new → IsReady (state S.Store self.old.conn).now → KeepsCommit (state S.Store self.old.conn) (state S.Store self.new.conn) }
         ensures survives { Survives (state S.Store self.old.conn) (state S.Store self.new.conn) (λ _. ⊥) }
     {
-        let query = ShortQuery { gtin: *gtin };
+        let query = ShortQuery {
+            gtin: *gtin,
+            known: self.lines.as_ref(),
+        };
         show(self.alloc, &mut self.conn, self.day, &query)
     }
 
