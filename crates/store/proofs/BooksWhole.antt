@@ -1,16 +1,25 @@
 -- What books keep true of themselves: they are idle, and what they know of their tables is so.
-use Rattle.std.proofs.Common.{◌≡◌, List, false, ◌∙◌}
-use Rattle.std.specs.Prelude.{ℤ, Option, None}
+use Rattle.std.proofs.Common.{◌≡◌, List, Result, Ok, Err, IsTrue, false, subst, ◌∙◌}
+use Rattle.std.specs.Prelude.{ℤ, Option, Some, None}
+use Rattle.commands.specs.declared.refusal.Refusal.{Refusal}
 use Rattle.sqlite.specs.Held.{Held, state}
 use Rattle.sqlite.specs.State.{State, HasCleanDisk, Survives}
 use Rattle.sqlite.specs.Tree.{Trees}
 use Rattle.sqlite_trees.specs.declared.store.Store.{Ghosts}
+use Rattle.table_words.specs.Typed.{tables_in}
 use Rattle.machine.specs.Acts.{Act}
+use Rattle.machine.specs.Standing.{today}
+use Rattle.machine.specs.Tables.{tables_of}
+use Rattle.slices.specs.ShownShort.{IsKnownOf}
 use Rattle.slices.specs.declared.knowing.Known.{Known}
 use Rattle.store.specs.Books.{KeepsBooks, IsSettled}
-use Rattle.store.specs.Connected.{IsIdle}
-use Rattle.store.specs.Knowing.{IsKnown}
+use Rattle.store.specs.Connected.{Connected, IsIdle}
+use Rattle.store.specs.Knowing.{HasKnown, IsKnown, lines_known}
 use Rattle.store.specs.Opening.{IsReopened}
+use Rattle.store.specs.Queries.{IsShown}
+use Rattle.store.specs.Showing.{IsShownOn}
+use Rattle.store.specs.declared.fault.Fault.{Fault}
+use Rattle.store.specs.declared.fault.Fault.TheVariants.{Refused, Store, Foreign}
 use Rattle.store.proofs.HandedOn.{Stays}
 use Rattle.store.proofs.KnownKept.{known_stays}
 
@@ -22,6 +31,22 @@ idle_then g old new survives outside idle = record { outside = outside; unlimite
 pub whole_then : {S : Type 0} (g : Ghosts S) (known : Option Known) (old new : Held S) {Q : Trees → Type 0} → Survives (state g old) (state g new) Q → new.in_transaction ≡ false → Stays (state g old) (state g new)
     → IsIdle old × IsKnown known (state g old) → IsIdle new × IsKnown known (state g new)
 whole_then g known old new survives outside stays whole = (idle_then g old new survives outside whole.0, known_stays known (state g old) (state g new) survives stays whole.1)
+
+-- what is shown over a connection is shown by the books over it
+pub shown_by_books : {S V : Type 0} (g : Ghosts S) (first : ℤ) (acts : List Act) (shown : Result V Refusal) (r : Result V Fault) (new : Connected S) → IsShownOn first acts shown r (state g new.conn) → new.day ≡ today first acts
+    → IsShown g first acts shown r new
+shown_by_books g first acts shown (Ok view) new is day = (is.0, record { keeps = is.1; day = day })
+shown_by_books g first acts shown (Err (Refused why)) new is day = (is.0, record { keeps = is.1; day = day })
+shown_by_books g first acts shown (Err Store) new is day = record { keeps = is.1; day = day }
+shown_by_books g first acts shown (Err Foreign) new is day = absurd is.0
+
+-- what is known of the open orders of a history
+lines_so : (known : Option Known) (s : State) → HasKnown known s → IsKnownOf (lines_known known) (tables_in s.now.trees)
+lines_so None s has = tt
+lines_so (Some k) s has = has.lines
+
+pub known_of_acts : (known : Option Known) (first : ℤ) (acts : List Act) (s : State) → KeepsBooks first acts s → (IsTrue s.is_open → HasKnown known s) → IsTrue s.is_open → IsKnownOf (lines_known known) (tables_of first acts)
+known_of_acts known first acts s held has up = subst (IsKnownOf (lines_known known)) (held.books up).rows.tables (lines_so known s (has up))
 
 -- where nothing is known yet
 pub known_unread : (s : State) → (HasCleanDisk s → IsSettled s) → IsKnown None s

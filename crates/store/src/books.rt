@@ -27,6 +27,7 @@ use crate::cards::hand_cards;
 use crate::day::day_left;
 use crate::filing::{every_row_is_sound, file_once};
 use crate::heads::{show_card_head, show_notice_head};
+use crate::knowing::lines_known;
 use crate::shipments::hand_shipments;
 use crate::showing::show;
 use crate::{EachFault, Fault, Reply, RowFault, Tally};
@@ -325,7 +326,10 @@ impl<S: Alter> Books<S> {
         ensures as_before { IsClean S.Store self.new → IsReady (state S.Store self.old.conn).now → KeepsCommit (state S.Store self.old.conn) (state S.Store self.new.conn) }
         ensures survives { Survives (state S.Store self.old.conn) (state S.Store self.new.conn) (λ _. ⊥) }
     {
-        let query = ShortQuery { gtin: *gtin };
+        let query = ShortQuery {
+            gtin: *gtin,
+            known: lines_known(self.known.as_ref()),
+        };
         show(self.alloc, &mut self.conn, self.day, &query)
     }
 

@@ -30,7 +30,7 @@ pub fn show<Q: Query, S: Alter>(
     requires outside { conn.old.in_transaction ≡ false }
     ensures outside { conn.new.in_transaction ≡ false }
     ensures shown { HasCleanDisk (state S.Store conn.new) → (first : ℤ) (acts : List Act) → IsHistory first acts → KeepsBooks first acts (state S.Store conn.old)
-        → today first acts ≡ day → IsShownOn first acts (Q.shown first acts query.now) result (state S.Store conn.new) }
+        → today first acts ≡ day → (IsTrue (state S.Store conn.old).is_open → Q.suits query.now (tables_of first acts)) → IsShownOn first acts (Q.shown first acts query.now) result (state S.Store conn.new) }
     ensures as_before { HasCleanDisk (state S.Store conn.new) → IsReady (state S.Store conn.old).now → KeepsCommit (state S.Store conn.old) (state S.Store conn.new) }
     ensures stays { HasCleanDisk (state S.Store conn.new) → IsSettled (state S.Store conn.old) → KeepsCommit (state S.Store conn.old) (state S.Store conn.new) × IsSettled (state S.Store conn.new) }
     ensures survives { Survives (state S.Store conn.old) (state S.Store conn.new) (λ _. ⊥) }
@@ -51,6 +51,7 @@ fn find_found<Q: Query, S: Alter>(
     ensures same_reference { tx.new.conn.ghost_name ≡ tx.old.conn.ghost_name }
     ensures read { HasCleanDisk (state S.Store tx.new.conn.now) → (first : ℤ) (acts : List Act)
         → (IsTrue (state S.Store tx.old.conn.now).is_open → IsBooksOf first acts (state S.Store tx.old.conn.now).now) → IfOk result (λ found. Q.is_in query.now (tables_of first acts) found) }
+    ensures open { HasCleanDisk (state S.Store tx.new.conn.now) → IfOk result (λ _. IsTrue (state S.Store tx.old.conn.now).is_open) }
     ensures fault { HasCleanDisk (state S.Store tx.new.conn.now) → (first : ℤ) (acts : List Act)
         → (IsTrue (state S.Store tx.old.conn.now).is_open → IsBooksOf first acts (state S.Store tx.old.conn.now).now) → IfErr result (λ e. e ≡ Fault.Store) }
     ensures kept { HasCleanDisk (state S.Store tx.new.conn.now) → (IsTrue (state S.Store tx.old.conn.now).is_open → IsReady (state S.Store tx.old.conn.now).now) → KeepsCommit (state S.Store tx.old.conn.now) (state S.Store tx.new.conn.now) }
@@ -70,7 +71,7 @@ fn view_of<Q: Query>(
     query: &Q,
     found: Result<Option<Q::Found>, Fault>,
 ) -> Result<Q::View, Fault>
-    ensures { (first : ℤ) (acts : List Act) → IsHistory first acts → today first acts ≡ day → IsFoundAs (λ x. Q.is_in query.now (tables_of first acts) x) found → IsShownAs (Q.shown first acts query.now) result }
+    ensures { (first : ℤ) (acts : List Act) → IsHistory first acts → today first acts ≡ day → IsFoundAs (λ x. Q.suits query.now (tables_of first acts) × Q.is_in query.now (tables_of first acts) x) found → IsShownAs (Q.shown first acts query.now) result }
 {
     match found {
         Err(fault) => Err(fault),

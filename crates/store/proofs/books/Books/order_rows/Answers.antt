@@ -1,5 +1,14 @@
-use Rattle.store.proofs.BooksWhole.{whole_then}
+use Rattle.std.proofs.Common.{sym, subst}
+use Rattle.machine.specs.Queries.{order_shown}
+use Rattle.store.specs.Books.{HoldsBooks}
+use Rattle.store.proofs.BooksWhole.{whole_then, shown_by_books}
 use Rattle.store.proofs.books.Books.order_rows.Goals as goal
+
+pub returns-clause-shown : goal.returns-clause-shown
+returns-clause-shown g c clean first acts history holds =
+    let was : HoldsBooks g.S.Store first acts (record { conn = c.self.inside.conn; day = c.self.inside.day }) = subst (HoldsBooks g.S.Store first acts) (sym c.self.view_is) holds in
+    shown_by_books g.S.Store first acts (order_shown first acts c.args.order.now) c.show.result (record { conn = c.show.new.conn; day = c.self.inside.day })
+    (c.show.ensures.shown clean first acts history was.keeps (sym was.day) (λ up. tt)) was.day
 
 pub invariant_of-self : goal.invariant_of-self
 invariant_of-self g c = whole_then g.S.Store c.self.inside.known c.self.inside.conn c.show.new.conn c.show.ensures.survives c.show.ensures.outside c.show.ensures.stays c.self.invariant
