@@ -46,7 +46,7 @@ pub fn known_in<S: Alter>(
 
 /// What is known of the open orders.
 pub fn lines_known(known: Option<&Known>) -> Option<&OpenLines>
-    ensures { option_copied result.entry ≡ lines_known_lem (option_copied known.entry) }
+    ensures { option_copied result ≡ lines_known_lem (option_copied known.entry) }
 {
     match known {
         Some(found) => Some(&found.lines),
