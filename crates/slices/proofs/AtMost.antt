@@ -1,7 +1,7 @@
 -- How many rows there are at most: as they are read, on a history, and once a slice has been read.
-use Rattle.std.proofs.Common.{◌≡◌, inl, inr, ℕ, ◌+◌, ◌<◌, ◌≤◌, ◌⊎◌, Bool, true, false, List, map, length, refl, ap, sym, subst, ◌∙◌, arith}
+use Rattle.std.proofs.Common.{◌≡◌, inl, inr, ℕ, ◌<◌, ◌≤◌, true, List, map, length, refl, ap, sym, subst, ◌∙◌, arith}
 use Rattle.std.proofs.lemmas.Bool.Decides.{nat_tests}
-use Rattle.std.specs.Prelude.{nat_le, find, Option, is_some, ℤ}
+use Rattle.std.specs.Prelude.{nat_le, find, Option, is_some}
 use Rattle.values.specs.Values.{same_text}
 use Rattle.commands.specs.Tables.{Tables}
 use Rattle.commands.specs.declared.command.Command.{Command}
@@ -11,7 +11,6 @@ use Rattle.commands.specs.declared.rows.ItemRow.{ItemRow}
 use Rattle.commands.specs.declared.rows.BinRow.{BinRow}
 use Rattle.table_words.specs.Typed.{item_key, bin_key}
 use Rattle.machine.proofs.Apart.{AreApart, any_found}
-use Rattle.rules.specs.Slices.{counts_items, counts_bins}
 use Rattle.slices.specs.Reading.{IsCount}
 use Rattle.slices.specs.Bounding.{IsAtMost, AreBounds, IsToldNumber, with_counts}
 use Rattle.slices.specs.Slicing.{AreCounts}

@@ -1,6 +1,5 @@
 use Rattle.std.proofs.Common.{subst, sym, arith}
 use Rattle.std.specs.Prelude.{Some, None, Option}
-use Rattle.commands.specs.Tables.{Tables}
 use Rattle.sqlite.specs.Effect.{Database}
 use Rattle.sqlite.specs.State.{HasCleanDisk}
 use Rattle.sqlite.specs.Held.{state}
@@ -11,7 +10,7 @@ use Rattle.machine.specs.Acts.{Act}
 use Rattle.slices.specs.declared.knowing.Known.{Known}
 use Rattle.slices.specs.Slicing.{HoldsOf}
 use Rattle.store.specs.Acting.{IsActedInside}
-use Rattle.store.specs.Knowing.{HasKnown, LeavesKnown}
+use Rattle.store.specs.Knowing.{LeavesKnown}
 use Rattle.store.proofs.FaultsTold.{by_error}
 use Rattle.store.proofs.ActsInside.{books_kept, inside_from, store_inside}
 use Rattle.store.proofs.KnownKept.{known_if_err, known_from}
