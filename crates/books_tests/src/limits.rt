@@ -1,15 +1,9 @@
-//! The limits at their ends, and what they refuse: units of an item, lines of an order, bins.
+//! The limits at their ends, and what they refuse: units of an item, lines of an order.
 
 use crate::asking::Asked;
 use crate::disk::run;
-use crate::samples;
 use crate::steps::{On, Step};
 use crate::table::Table;
-use commands::{BinKind, BinRow};
-use goods_tables::bins::put_bin;
-use sqlite::{Alter, Connection, Transaction};
-use std::alloc::Global;
-use std::process::Abort;
 
 // The next business day, after two items and three bins.
 pub(crate) static NEXT_DAY: &str = r#"
@@ -29,16 +23,6 @@ POST /counts {"key":"K-8","gtin":"09506000134352","lot":"L1","bin":"A-02","qty":
 POST /adjustments {"key":"K-8","gtin":"09506000134352","lot":"L1","bin":"A-02","change":1} => 409 {"code":"Q05"}
 POST /moves {"key":"K-8","gtin":"09506000134352","lot":"L1","from":"A-01","to":"A-02","qty":1} => 200 {"act":8}
 GET /stock/09506000134352 => 200 {"gtin":"09506000134352","lots":[{"bins":[{"bin":"A-01","qty":999999999},{"bin":"A-02","qty":1}],"expiry":"2026-06-30","lot":"L1","reserved":0,"staged":0,"status":"FREE"}],"name":"Oat drink"}
-"#;
-
-// Of 10,000 bins two are missing. Two are taken, and no third is.
-pub(crate) static LAST_BIN: &str = r#"
-POST /bins {"key":"K-6","bin":"Z-01","kind":"STORE"} => 200 {"act":6}
-POST /bins {"key":"K-7","bin":"A-01","kind":"STORE"} => 409 {"code":"X02"}
-POST /bins {"key":"K-7","bin":"Z-02","kind":"STORE"} => 200 {"act":7}
-POST /bins {"key":"K-8","bin":"Z-03","kind":"STORE"} => 409 {"code":"X02"}
-POST /bins {"key":"K-8","bin":"Z-03","kind":"STORE"} => 409 {"code":"X02"}
-POST /bins {"key":"K-7","bin":"Z-02","kind":"STORE"} => 200 {"act":7}
 "#;
 
 // One order of two lines; with its lines exchanged it is another.
@@ -119,40 +103,4 @@ static FULL_HOUSE: [&[Step]; 1] = [&[
 #[test]
 fn an_item_has_a_last_unit(rt: HostRuntime) {
     run(&rt, rt.alloc(), FULL_HOUSE.as_slice());
-}
-
-// With the bin of returns and the three of the exchanges they are 9,998.
-const MORE_BINS: u64 = 9_994;
-
-fn bin_of(rt: &impl Abort, alloc: Global, number: u64) -> BinRow {
-    let text = format!(in alloc; "M-{number}").ok().expect(rt, "memory");
-    BinRow {
-        name: samples::name(rt, text.as_bytes()),
-        kind: BinKind::Store,
-    }
-}
-
-fn puts_bins<S: Alter>(rt: &impl Abort, alloc: Global, tx: &mut Transaction<'_, S>) {
-    for number in 0..MORE_BINS {
-        let put = put_bin(tx, &bin_of(rt, alloc, number));
-        assert!(rt; put.is_ok());
-    }
-}
-
-pub(crate) fn fills_bins<S: Alter>(rt: &impl Abort, alloc: Global, conn: &mut Connection<S>) {
-    assert!(rt; conn.is_autocommit());
-    let mut tx = conn.transaction();
-    puts_bins(rt, alloc, &mut tx);
-    tx.commit().expect(rt, "a commit");
-}
-
-static ALL_BINS: [&[Step]; 1] = [&[
-    Step::NewHouse(&[Asked::Each(Table::GoodsAndBins)]),
-    Step::On(On::PutBins),
-    Step::House(&[Asked::Each(Table::LastBin)]),
-]];
-
-#[test]
-fn there_is_a_last_bin(rt: HostRuntime) {
-    run(&rt, rt.alloc(), ALL_BINS.as_slice());
 }

@@ -2,9 +2,9 @@
 
 use crate::acts::{Deed, done};
 use crate::asking::{Asked, answered_in_turn, house_asked, new_house_asked};
+use crate::bounds::tells_bins;
 use crate::filing::imported;
 use crate::gone_lots::puts_gone;
-use crate::limits::fills_bins;
 use crate::lots_told::{Told, tells_of_lots};
 use crate::opening::{made, not_made, not_opened, opened};
 use crate::order_rows::{gives, has_rows};
@@ -56,8 +56,8 @@ pub(crate) enum On {
     CreateNothing,
     /// An item gets lots that are gone.
     PutGone,
-    /// There are 9,998 bins.
-    PutBins,
+    /// A new bin is judged by the number that is known, or by the one bin that is there.
+    TellBins,
     /// Each table gets a row.
     Fill,
     /// Each table has its row.
@@ -73,7 +73,7 @@ fn do_on<S: Alter>(rt: &impl Abort, alloc: Global, conn: &mut Connection<S>, on:
         On::HasRows(left) => has_rows(rt, alloc, conn, left.rows()),
         On::CreateNothing => creates_nothing(rt, conn),
         On::PutGone => puts_gone(rt, alloc, conn),
-        On::PutBins => fills_bins(rt, alloc, conn),
+        On::TellBins => tells_bins(rt, alloc, conn),
         On::Fill => fills(rt, alloc, conn),
         On::Find => finds(rt, alloc, conn),
         On::Drop => drops(rt, alloc, conn),

@@ -10,7 +10,7 @@ use crate::goods::{
     ADJUSTED, COUNTED, HELD, MOVED, NEVER_RECEIVED, RECALLED, RECEIVED_AND_RECALLED,
 };
 use crate::hostile::GOODS_AND_BINS_ROWS;
-use crate::limits::{LAST_BIN, LAST_UNIT, MANY_UNITS, NEXT_DAY, TWENTY_LINES, TWO_LINES};
+use crate::limits::{LAST_UNIT, MANY_UNITS, NEXT_DAY, TWENTY_LINES, TWO_LINES};
 use crate::order_rows::TWO_CUSTOMERS_ROWS;
 use crate::orders_shown::ORDERS_SHOWN;
 use crate::picking::{
@@ -62,7 +62,6 @@ pub(crate) enum Table {
     TwentyLines,
     ManyUnits,
     LastUnit,
-    LastBin,
     GoneNamed,
     OrdersShown,
 }
@@ -110,7 +109,6 @@ impl Table {
             Table::TwentyLines => TWENTY_LINES,
             Table::ManyUnits => MANY_UNITS,
             Table::LastUnit => LAST_UNIT,
-            Table::LastBin => LAST_BIN,
             Table::GoneNamed => GONE_NAMED,
             Table::OrdersShown => ORDERS_SHOWN,
         }
