@@ -198,8 +198,8 @@ STATES = [b"", b"open", b"OPEN\x00", b"SHIPPED"]
 POSTINGS = [b"", b"receipt", b"RECEIPTS", b"MOVE"]
 
 # Who reads what. An act on the oats but a shipment reads all rows of the item, its lots that have units or are named, and
-# the bins and open orders concerned; a shipment its order, and what is staged of the item. An order is shown by its own
-# rows. The first act reads the open orders.
+# the bins and open orders concerned; a shipment its order, and what is staged of the item; what is reserved for an order a
+# pick of it alone. An order is shown by its own rows. The first act reads the open orders.
 PLANNED = "receipt move count adjustment order cancel pick unpick hold release recall day goodsin".split()
 ACTS_ON_ITEM = PLANNED + ["shipment"]
 ACTS_ON_ORDER = ["unpick", "shipment"]
@@ -211,8 +211,8 @@ OF_RECALLS = ["show stock", "card", "notice"] + PLANNED
 OF_STOCK = ["show stock"] + PLANNED
 OF_ORDERS = ["shortages"] + ALL_ACTS
 OF_LINES = SHOWN_ORDER + ["shortages"] + ACTS_ON_ITEM
-OF_RESERVED = OF_STOCK + ["shortages"]
-OF_STAGED = OF_RESERVED + ["shipment"]
+OF_RESERVED = ["show stock", "shortages"]
+OF_STAGED = OF_STOCK + ["shortages", "shipment"]
 
 # Where rows are only sought by a column, with the sound value of a request or of another row.
 SOUGHT = "rows are sought by it, and none is sought by such a value"
@@ -258,6 +258,7 @@ COLUMNS = [
     ("reserved", "gtin", "ord = 'S-1'", GTINS, SHOWN_ORDER, None),
     ("reserved", "lot", "ord = 'S-1'", LOTS, SHOWN_ORDER + OF_RESERVED, None),
     ("reserved", "qty", "ord = 'S-1'", UNITS, SHOWN_ORDER + OF_RESERVED, None),
+    ("reserved", "qty", "ord = 'S-2'", UNITS, ["pick"] + OF_RESERVED, None),
     ("shipments", "number", "1", ACTS, [], SOUGHT),
     ("shipments", "act", "1", ACTS, ["notice"], None),
     ("shipments", "day", "1", DAYS, ["notice"], None),
