@@ -1,11 +1,8 @@
 -- What changes between indexed rows, where one are those of the slice, is what the item's plan changes.
 use Rattle.std.proofs.Common.{◌≡◌, ℕ, ap, ◌∙◌, List}
 use Rattle.std.specs.Prelude.{ℤ}
-use Rattle.plan.specs.declared.TheConstants.{SUM_MAX}
-use Rattle.plan.specs.Changes.{cut_of}
-use Rattle.row_rules.specs.Plans.{demands_seen, supplies_seen, demands_within, supplies_within}
 use Rattle.row_rules.specs.Indexed.{demands_told, supplies_told, replanned_between}
-use Rattle.row_rules.specs.Replanning.{shares_behind, shares_changed, item_replanned}
+use Rattle.row_rules.specs.Replanning.{item_demands, item_supplies, replanned_from, item_replanned}
 use Rattle.row_rules.specs.declared.slice.Slice.{Slice}
 use Rattle.row_rules.specs.declared.slice.Rows.{Rows}
 use Rattle.row_rules.specs.declared.plans.ItemRows.{ItemRows}
@@ -32,9 +29,8 @@ module _ (s : Slice) (day : ℤ) (old rows : ItemRows) (m n : IndexedRows) (of :
       let recalls = ap (λ (r : ItemRows). r.recalls.now) m_rows ∙ of.recalls in
       let bins = ap (λ (r : ItemRows). r.bins.now) m_rows ∙ of.bins in
       let stock = ap (λ (r : ItemRows). r.stock.now) m_rows ∙ of.stock in
-      let was : demands_told g m ≡ demands_within SUM_MAX (demands_seen g s.rows.lines s.rows.staged s.rows.orders) = (λ i. demands_within SUM_MAX (demands_seen g (lines i) (staged i) (orders i))) in
-      let had : supplies_told g m ≡ supplies_within SUM_MAX (supplies_seen g s.meta.day s.rows.recalls s.rows.bins s.rows.stock s.rows.lots) = (λ i. supplies_within SUM_MAX (supplies_seen g (m_day i) (recalls i) (bins i) (stock i) (lots i))) in
-      let will : demands_told g n ≡ demands_within SUM_MAX (demands_seen g rows.lines.now rows.staged.now rows.orders.now) = (λ i. demands_within SUM_MAX (demands_seen g (n_rows i).lines.now (n_rows i).staged.now (n_rows i).orders.now)) in
-      let has : supplies_told g n ≡ supplies_within SUM_MAX (supplies_seen g day rows.recalls.now rows.bins.now rows.stock.now rows.lots.now) = (λ i. supplies_within SUM_MAX (supplies_seen g (n_day i) (n_rows i).recalls.now (n_rows i).bins.now (n_rows i).stock.now (n_rows i).lots.now)) in
-      (λ i. shares_changed g (shares_behind (cut_of (was i) (had i) (will i) (has i)) (orders i) (lots i) (was i) (had i))
-      (shares_behind (cut_of (was i) (had i) (will i) (has i)) (n_rows i).orders.now (n_rows i).lots.now (will i) (has i)))
+      let was : demands_told g m ≡ item_demands g s.rows.lines s.rows.staged s.rows.orders = (λ i. item_demands g (lines i) (staged i) (orders i)) in
+      let had : supplies_told g m ≡ item_supplies g s.meta.day s.rows.recalls s.rows.bins s.rows.stock s.rows.lots = (λ i. item_supplies g (m_day i) (recalls i) (bins i) (stock i) (lots i)) in
+      let will : demands_told g n ≡ item_demands g rows.lines.now rows.staged.now rows.orders.now = (λ i. item_demands g (n_rows i).lines.now (n_rows i).staged.now (n_rows i).orders.now) in
+      let has : supplies_told g n ≡ item_supplies g day rows.recalls.now rows.bins.now rows.stock.now rows.lots.now = (λ i. item_supplies g (n_day i) (n_rows i).recalls.now (n_rows i).bins.now (n_rows i).stock.now (n_rows i).lots.now) in
+      (λ i. replanned_from g (orders i) (lots i) (was i) (had i) (n_rows i).orders.now (n_rows i).lots.now (will i) (has i))

@@ -1,12 +1,9 @@
 -- Rows indexed by their texts: what they tell of an item, and what changes of its reserved rows between two of them.
 use Rattle.std.specs.Prelude.{ℕ, List}
-use Rattle.plan.specs.declared.TheConstants.{SUM_MAX}
 use Rattle.plan.specs.declared.Demand.{Demand}
 use Rattle.plan.specs.declared.Supply.{Supply}
-use Rattle.plan.specs.Changes.{cut_of}
-use Rattle.row_rules.specs.Plans.{demands_seen, supplies_seen, demands_within, supplies_within}
 use Rattle.row_rules.specs.LookUps.{rows_given, GivesRows}
-use Rattle.row_rules.specs.Replanning.{shares_behind, shares_changed}
+use Rattle.row_rules.specs.Replanning.{item_demands, item_supplies, replanned_from}
 use Rattle.row_rules.specs.declared.replanning.Replanned.{Replanned}
 use Rattle.row_rules.specs.declared.indexed.IndexedRows.{IndexedRows}
 
@@ -19,14 +16,12 @@ pub record IsIndexed (m : IndexedRows) : Type 0 where
   pub stock : GivesRows (λ r. r.lot.lot) (rows_given m.stock) m.rows.stock.now
 
 abbrev pub demands_told : List ℕ → IndexedRows → List Demand
-demands_told g m = demands_within SUM_MAX (demands_seen g m.rows.lines.now m.rows.staged.now m.rows.orders.now)
+demands_told g m = item_demands g m.rows.lines.now m.rows.staged.now m.rows.orders.now
 
 abbrev pub supplies_told : List ℕ → IndexedRows → List Supply
-supplies_told g m = supplies_within SUM_MAX (supplies_seen g m.day m.rows.recalls.now m.rows.bins.now m.rows.stock.now m.rows.lots.now)
+supplies_told g m = item_supplies g m.day m.rows.recalls.now m.rows.bins.now m.rows.stock.now m.rows.lots.now
 
 -- what changes of the reserved rows of an item where these are the rows before and after an act
 abbrev pub replanned_between : IndexedRows → IndexedRows → List ℕ → Replanned
 replanned_between m n g =
-    let kept = cut_of (demands_told g m) (supplies_told g m) (demands_told g n) (supplies_told g n) in
-    shares_changed g (shares_behind kept m.rows.orders.now m.rows.lots.now (demands_told g m) (supplies_told g m))
-    (shares_behind kept n.rows.orders.now n.rows.lots.now (demands_told g n) (supplies_told g n))
+    replanned_from g m.rows.orders.now m.rows.lots.now (demands_told g m) (supplies_told g m) n.rows.orders.now n.rows.lots.now (demands_told g n) (supplies_told g n)

@@ -30,23 +30,23 @@ shares_behind n orders lots ds ss = named_rows orders lots (plan_rows (first_as_
 abbrev pub shares_changed : List ℕ → List ReservedRow → List ReservedRow → Replanned
 shares_changed g olds news = record { put = rows_to_put olds news; dropped = rows_to_drop g olds news }
 
+-- what the open orders need of an item, and what it has for them, each up to the limit of its sum
+abbrev pub item_demands : List ℕ → List LineRow → List StagedRow → List OrderRow → List Demand
+item_demands g lines staged orders = demands_within SUM_MAX (demands_seen g lines staged orders)
+
+abbrev pub item_supplies : List ℕ → ℤ → List RecallRow → List BinRow → List StockRow → List LotRow → List Supply
+item_supplies g day recalls bins stock lots = supplies_within SUM_MAX (supplies_seen g day recalls bins stock lots)
+
+-- what changes of an item's reserved rows, by the orders, lots, demands and supplies before and those after
+abbrev pub replanned_from : List ℕ → List OrderRow → List LotRow → List Demand → List Supply → List OrderRow → List LotRow → List Demand → List Supply → Replanned
+replanned_from g old_orders old_lots ds ss orders lots es ts =
+    let kept = cut_of ds ss es ts in
+    shares_changed g (shares_behind kept old_orders old_lots ds ss) (shares_behind kept orders lots es ts)
+
 module _ (s : Slice) (day : ℤ) (orders : List OrderRow) (lines : List LineRow) (staged : List StagedRow) (lots : List LotRow) (recalls : List RecallRow) (bins : List BinRow) (stock : List StockRow) (g : List ℕ) where
-  abbrev demands_before : List Demand
-  demands_before = demands_within SUM_MAX (demands_seen g s.rows.lines s.rows.staged s.rows.orders)
-
-  abbrev supplies_before : List Supply
-  supplies_before = supplies_within SUM_MAX (supplies_seen g s.meta.day s.rows.recalls s.rows.bins s.rows.stock s.rows.lots)
-
-  abbrev demands_after : List Demand
-  demands_after = demands_within SUM_MAX (demands_seen g lines staged orders)
-
-  abbrev supplies_after : List Supply
-  supplies_after = supplies_within SUM_MAX (supplies_seen g day recalls bins stock lots)
-
-  abbrev kept : ℕ
-  kept = cut_of demands_before supplies_before demands_after supplies_after
-
-  -- what changes of the item's reserved rows
+  -- what changes of the item's reserved rows between a slice and these
   abbrev pub item_replanned : Replanned
   item_replanned =
-      shares_changed g (shares_behind kept s.rows.orders s.rows.lots demands_before supplies_before) (shares_behind kept orders lots demands_after supplies_after)
+      replanned_from g
+      s.rows.orders s.rows.lots (item_demands g s.rows.lines s.rows.staged s.rows.orders) (item_supplies g s.meta.day s.rows.recalls s.rows.bins s.rows.stock s.rows.lots)
+      orders lots (item_demands g lines staged orders) (item_supplies g day recalls bins stock lots)

@@ -12,7 +12,6 @@ use Rattle.commands.specs.declared.rows.OrderRow.{OrderRow}
 use Rattle.commands.specs.declared.rows.LineRow.{LineRow}
 use Rattle.commands.specs.declared.rows.StagedRow.{StagedRow}
 use Rattle.commands.specs.declared.rows.ReservedRow.{ReservedRow}
-use Rattle.plan.specs.declared.TheConstants.{SUM_MAX}
 use Rattle.plan.specs.declared.Demand.{Demand}
 use Rattle.plan.specs.declared.Supply.{Supply}
 use Rattle.plan.specs.declared.Row.{Row}
@@ -31,8 +30,8 @@ use Rattle.machine.specs.Touched.{is_touched}
 use Rattle.machine.specs.KeyedRows.{no_two}
 use Rattle.machine.proofs.histories.PlanRows.{same_pair, plan_once}
 use Rattle.rules.specs.Slices.{IsSlice, plans}
-use Rattle.row_rules.specs.Plans.{demands_seen, supplies_seen, demands_within, supplies_within, plan_within, named_rows, is_share_of}
-use Rattle.row_rules.specs.Replanning.{shares_behind, item_replanned}
+use Rattle.row_rules.specs.Plans.{demands_seen, supplies_seen, plan_within, named_rows, is_share_of}
+use Rattle.row_rules.specs.Replanning.{shares_behind, item_demands, item_supplies, item_replanned}
 use Rattle.row_rules.specs.declared.slice.Slice.{Slice}
 use Rattle.rules.proofs.rows.TableSteps.{IsNamed, share_row, nothing_named}
 use Rattle.rules.proofs.rows.Differing.{named_of_item, named_elsewhere, put_once}
@@ -58,16 +57,16 @@ module _ (first : ℤ) (acts : List Act) (act : Act) (s : Slice) (slice : IsSlic
   -- The lists before and after, and the plan of each in two parts
 
   abbrev ds : List Demand
-  ds = demands_within SUM_MAX (demands_seen g s.rows.lines s.rows.staged s.rows.orders)
+  ds = item_demands g s.rows.lines s.rows.staged s.rows.orders
 
   abbrev ss : List Supply
-  ss = supplies_within SUM_MAX (supplies_seen g s.meta.day s.rows.recalls s.rows.bins s.rows.stock s.rows.lots)
+  ss = item_supplies g s.meta.day s.rows.recalls s.rows.bins s.rows.stock s.rows.lots
 
   abbrev es : List Demand
-  es = demands_within SUM_MAX (demands_seen g lines staged orders)
+  es = item_demands g lines staged orders
 
   abbrev ts : List Supply
-  ts = supplies_within SUM_MAX (supplies_seen g day recalls bins stock lots)
+  ts = item_supplies g day recalls bins stock lots
 
   abbrev kept : ℕ
   kept = cut_of ds ss es ts
