@@ -53,55 +53,14 @@ get() {
     expect "GET $1" "$3 $2" "$(curl -s -w ' %{http_code}' "http://127.0.0.1:$port$1")"
 }
 
-# prove CRATE..: proves the crates one after another, and names each as it is done
-prove() {
-    for crate; do
-        if ! (cd "crates/$crate" && rt check) >"$room/$crate.proof" 2>&1; then
-            echo "demo: $crate is not proved:" >&2
-            tail -40 "$room/$crate.proof" >&2
-            return 1
-        fi
-        echo "  $crate"
-    done
-}
-
-# all PID..: waits for these, and fails if one of them did
-all() {
-    for pid; do wait "$pid" || exit 1; done
-}
-
-# The crates that lotd stands on, in lines side by side: the rules, the tables, and what reads and writes texts.
-# The tests' crates are the gate's.
-echo "> prove what lotd stands on"
-prove plan & plan=$!
-prove values label commands
-all $plan
-{
-    prove machine row_rules
-    prove goods_rules & goods=$!
-    prove order_rules & orders=$!
-    prove lot_rules & lots=$!
-    all $goods $orders $lots
-    prove rules views slice_parts
-} & rules=$!
-prove table_words each_row goods_tables order_tables history_tables tables & tables=$!
-prove open_lines texts goodsin command_line requests wire & texts=$!
-all $rules $tables
-prove changes & changes=$!
-prove slices
-all $changes
-prove store
-all $texts
-prove house service lotd
-
 # file NAME STATUS ANSWER
 file() {
     echo "> POST /goodsin, the file $1"
     expect "POST /goodsin" "$3 $2" "$(curl -s -X POST --data-binary "@$room/$1" -w ' %{http_code}' "http://127.0.0.1:$port/goodsin")"
 }
 
-echo "> build lotd"
-(cd crates/lotd && rt run -- label --day 2026-05-04 ']C101095060001343521726093010AB12' >/dev/null)
+echo "> prove what lotd stands on, and build lotd"
+sh build.sh
 
 label=']C101095060001343521726093010AB12'
 echo "> lotd label --day 2026-05-04 '$label'"

@@ -14,8 +14,8 @@ lotd=${LOTD:-$PWD/crates/lotd/out/lotd}
 trap 'rm -rf "$room"' EXIT
 
 if [ -z "${LOTD:-}" ]; then
-    echo "> build lotd"
-    (cd crates/lotd && rt run -- label --day 2026-05-04 ']C101095060001343521726093010AB12' >/dev/null)
+    echo "> prove what lotd stands on, and build lotd"
+    sh build.sh
 fi
 
 python3 - "$lotd" "$room" "${PORT:-18083}" <<'PYTHON'
