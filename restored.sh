@@ -29,7 +29,7 @@ OATS = "09506000134352"
 TABLES = (
     "meta items bins lots recalls stock orders lines staged reserved shipments shiplines cards repeats"
 ).split()
-INDEXES = ["orders_by_state", "reserved_by_gtin", "shiplines_of_lot", "staged_by_gtin"]
+INDEXES = ["reserved_by_gtin", "shiplines_of_lot", "staged_by_gtin"]
 
 # What the warehouse did: two lots, two orders, one of them shipped, and a recall.
 BEFORE = [
@@ -166,7 +166,9 @@ check("restored from a dump twice", lambda db: (restore(db), restore(db)))
 check("after ANALYZE", lambda db: sql(db, "ANALYZE"))
 check("after VACUUM", lambda db: sql(db, "VACUUM"))
 check("after REINDEX", lambda db: sql(db, "REINDEX"))
-check("with one index more", lambda db: sql(db, "CREATE INDEX cards_by_day ON cards (day)"), INDEXES + ["cards_by_day"])
+# The second is one that books were made with once.
+for index, columns in (("cards_by_day", "cards (day)"), ("orders_by_state", "orders (state)")):
+    check("with the index %s too" % index, lambda db: sql(db, "CREATE INDEX %s ON %s" % (index, columns)), INDEXES + [index])
 for index in INDEXES:
     check("without the index " + index, lambda db, index=index: sql(db, "DROP INDEX " + index))
 check("without any index", lambda db: [sql(db, "DROP INDEX " + index) for index in INDEXES])

@@ -196,9 +196,8 @@ static INDEXES_MADE: [&[Step]; 2] = [
         Step::Open,
         Step::On(On::Gives(
             INDEX_NAMES,
-            "orders_by_state\nreserved_by_gtin\nshiplines_of_lot\nstaged_by_gtin\n",
+            "reserved_by_gtin\nshiplines_of_lot\nstaged_by_gtin\n",
         )),
-        Step::On(On::Run("DROP INDEX orders_by_state")),
         Step::On(On::Run("DROP INDEX reserved_by_gtin")),
         Step::On(On::Run("DROP INDEX shiplines_of_lot")),
         Step::On(On::Run("DROP INDEX staged_by_gtin")),
@@ -207,7 +206,7 @@ static INDEXES_MADE: [&[Step]; 2] = [
         Step::Open,
         Step::On(On::Gives(
             INDEX_NAMES,
-            "orders_by_state\nreserved_by_gtin\nshiplines_of_lot\nstaged_by_gtin\n",
+            "reserved_by_gtin\nshiplines_of_lot\nstaged_by_gtin\n",
         )),
         Step::On(META),
         Step::On(BINS),

@@ -204,14 +204,8 @@ shiplines_of_lot tree = plain_index (codes "shiplines_of_lot") tree 20 (2 ∷ 3 
 abbrev pub schema_17 : Schema
 schema_17 = indexed schema_16 (shiplines_table 20) (shiplines_of_lot 0)
 
-abbrev pub orders_by_state : ℕ → Index
-orders_by_state tree = plain_index (codes "orders_by_state") tree 11 (4 ∷ [])
-
-abbrev pub schema_18 : Schema
-schema_18 = indexed schema_17 (orders_table 11) (orders_by_state 0)
-
 abbrev pub the_schema : Schema
-the_schema = schema_18
+the_schema = schema_17
 
 -- ---- the schemas that books may have
 

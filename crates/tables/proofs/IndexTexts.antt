@@ -15,9 +15,9 @@ use Rattle.sqlite_resolve.specs.declared.compiled.Compiled.{Compiled}
 use Rattle.sqlite_resolve.specs.declared.error.CompileError.{CompileError}
 use Rattle.sqlite_resolve.specs.declared.error.CompileError.TheVariants.{Exists}
 use Rattle.sqlite_schema.specs.Names.{table_named, index_named, view_named}
-use Rattle.table_words.specs.Schema.{schema_with, staged_table, reserved_table, shiplines_table, orders_table, staged_by_gtin, reserved_by_gtin, shiplines_of_lot, orders_by_state}
+use Rattle.table_words.specs.Schema.{schema_with, staged_table, reserved_table, shiplines_table, staged_by_gtin, reserved_by_gtin, shiplines_of_lot}
 use Rattle.tables.specs.Indexing.{plan, MakesOrFinds, Indexes}
-use Rattle.tables.specs.declared.indexing.TheConstants.{STAGED_BY_GTIN, RESERVED_BY_GTIN, SHIPLINES_OF_LOT, ORDERS_BY_STATE}
+use Rattle.tables.specs.declared.indexing.TheConstants.{STAGED_BY_GTIN, RESERVED_BY_GTIN, SHIPLINES_OF_LOT}
 
 -- what follows from whether the name is free
 abbrev whole : ℕ → ℕ → Result Bool CompileError → Result Compiled CompileError
@@ -110,29 +110,6 @@ shiplines_of_lot_made = record {
   table = shiplines_table 20;
   index = shiplines_of_lot 0;
   means = makes_or_finds 76 11 (codes "shiplines_of_lot") SHIPLINES_OF_LOT.now shiplines_of_lot_free shiplines_of_lot_means;
-  whole = λ command. refl;
-  placed = λ rest. refl;
-  defined = refl;
-  plain = refl;
-  named = refl;
-}
-
-orders_by_state_free : is_reserved (codes "orders_by_state") ≡ false
-unfolding everything
-orders_by_state_free = refl
-
-orders_by_state_means : (rest : Schema) → compiled (schema_with rest) ORDERS_BY_STATE.now ≡ whole 60 6 (creates true (codes "orders_by_state") (index_named (schema_with rest) (codes "orders_by_state")) (option_or (table_named (schema_with rest) (codes "orders_by_state")) (view_named (schema_with rest) (codes "orders_by_state"))))
-unfolding everything
-orders_by_state_means rest = refl
-
-pub orders_by_state_made : Indexes ORDERS_BY_STATE.now (codes "orders_by_state")
-unfolding everything
-orders_by_state_made = record {
-  size = 60;
-  at = 6;
-  table = orders_table 11;
-  index = orders_by_state 0;
-  means = makes_or_finds 60 6 (codes "orders_by_state") ORDERS_BY_STATE.now orders_by_state_free orders_by_state_means;
   whole = λ command. refl;
   placed = λ rest. refl;
   defined = refl;

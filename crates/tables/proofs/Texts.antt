@@ -3,7 +3,7 @@ use Rattle.std.proofs.Common.{inl, inr, ℕ, List, [], ◌∷◌, codes, refl}
 use Rattle.sqlite_tied.specs.Compute.{everything}
 use Rattle.sqlite.specs.Listing.{understood}
 use Rattle.tables.specs.Creation.{Makes, MakesTheIndex, Leads}
-use Rattle.table_words.specs.Schema.{schema_0, schema_1, schema_2, schema_3, schema_4, schema_5, schema_6, schema_7, schema_8, schema_9, schema_10, schema_11, schema_12, schema_13, schema_14, schema_15, schema_16, schema_17, schema_18, meta_table, items_table, bins_table, lots_table, recalls_table, stock_table, orders_table, lines_table, staged_table, reserved_table, shipments_table, shiplines_table, cards_table, repeats_table, staged_by_gtin, reserved_by_gtin, shiplines_of_lot, orders_by_state}
+use Rattle.table_words.specs.Schema.{schema_0, schema_1, schema_2, schema_3, schema_4, schema_5, schema_6, schema_7, schema_8, schema_9, schema_10, schema_11, schema_12, schema_13, schema_14, schema_15, schema_16, schema_17, meta_table, items_table, bins_table, lots_table, recalls_table, stock_table, orders_table, lines_table, staged_table, reserved_table, shipments_table, shiplines_table, cards_table, repeats_table, staged_by_gtin, reserved_by_gtin, shiplines_of_lot}
 
 abbrev pub create_meta : List ℕ
 create_meta = codes "CREATE TABLE meta (id INTEGER NOT NULL, mark TEXT NOT NULL, version INTEGER NOT NULL, day INTEGER NOT NULL, acts INTEGER NOT NULL, shipments INTEGER NOT NULL, PRIMARY KEY (id)) STRICT"
@@ -124,19 +124,12 @@ pub shiplines_of_lot_made : MakesTheIndex schema_16 11 (shiplines_table 20) inde
 unfolding understood everything
 shiplines_of_lot_made = (refl, refl, refl, refl, (refl, refl))
 
-abbrev pub index_orders_by_state : List ℕ
-index_orders_by_state = codes "CREATE INDEX orders_by_state ON orders (state)"
-
-pub orders_by_state_made : MakesTheIndex schema_17 6 (orders_table 11) index_orders_by_state (orders_by_state 0)
-unfolding understood everything
-orders_by_state_made = (refl, refl, refl, refl, (refl, refl))
-
 -- ---- the statements after the first one
 
 abbrev pub others : List (List ℕ)
-others = create_items ∷ create_bins ∷ create_lots ∷ create_recalls ∷ create_stock ∷ create_orders ∷ create_lines ∷ create_staged ∷ create_reserved ∷ create_shipments ∷ create_shiplines ∷ create_cards ∷ create_repeats ∷ index_staged_by_gtin ∷ index_reserved_by_gtin ∷ index_shiplines_of_lot ∷ index_orders_by_state ∷ []
+others = create_items ∷ create_bins ∷ create_lots ∷ create_recalls ∷ create_stock ∷ create_orders ∷ create_lines ∷ create_staged ∷ create_reserved ∷ create_shipments ∷ create_shiplines ∷ create_cards ∷ create_repeats ∷ index_staged_by_gtin ∷ index_reserved_by_gtin ∷ index_shiplines_of_lot ∷ []
 
-pub others_lead : Leads schema_1 others schema_18
+pub others_lead : Leads schema_1 others schema_17
 others_lead = (
   schema_2,
   inl (items_table 0, items_made, refl),
@@ -185,11 +178,7 @@ others_lead = (
                               (
                                 schema_17,
                                 inr (11, shiplines_table 20, shiplines_of_lot 0, shiplines_of_lot_made, refl),
-                                (
-                                  schema_18,
-                                  inr (6, orders_table 11, orders_by_state 0, orders_by_state_made, refl),
-                                  refl,
-                                ),
+                                refl,
                               ),
                             ),
                           ),

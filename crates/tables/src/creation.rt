@@ -4,7 +4,7 @@ ghost use Rattle.std.specs.Prelude.{◌≡◌, ◌≢◌, ◌↔◌, true, false
 ghost use Rattle.sqlite.specs.Schema.{Schema};
 ghost use Rattle.sqlite.specs.State.{HasCleanDisk, Survives, KeepsCommit};
 ghost use Rattle.sqlite.specs.Held.{state};
-ghost use Rattle.table_words.specs.Schema.{schema_0, schema_1, schema_18};
+ghost use Rattle.table_words.specs.Schema.{schema_0, schema_1, schema_17};
 ghost use Rattle.table_words.specs.Typed.{tables_in, AreTyped};
 ghost use Rattle.table_words.specs.Steps.{IsReady};
 ghost use Rattle.table_words.specs.declared.error.TableFault.TheVariants.{Foreign};
@@ -50,7 +50,7 @@ fn run_all<S: Alter>(tx: &mut Transaction<'_, S>, texts: &[&str]) -> Result<(), 
 fn create_others<S: Alter>(tx: &mut Transaction<'_, S>) -> Result<(), Error>
     ensures same_reference { tx.new.conn.ghost_name ≡ tx.old.conn.ghost_name }
     ensures done { HasCleanDisk (state S.Store tx.new.conn.now) → IsMaking schema_1 (state S.Store tx.old.conn.now)
-        → OnOk result (IsMaking schema_18 (state S.Store tx.new.conn.now)) }
+        → OnOk result (IsMaking schema_17 (state S.Store tx.new.conn.now)) }
     ensures kept { HasCleanDisk (state S.Store tx.new.conn.now) → KeepsCommit (state S.Store tx.old.conn.now) (state S.Store tx.new.conn.now) }
     ensures survives { Survives (state S.Store tx.old.conn.now) (state S.Store tx.new.conn.now) (λ _. ⊥) }
 {
@@ -71,7 +71,6 @@ fn create_others<S: Alter>(tx: &mut Transaction<'_, S>) -> Result<(), Error>
         "CREATE INDEX staged_by_gtin ON staged (gtin)",
         "CREATE INDEX reserved_by_gtin ON reserved (gtin)",
         "CREATE INDEX shiplines_of_lot ON shiplines (gtin, lot, number)",
-        "CREATE INDEX orders_by_state ON orders (state)",
     ];
     run_all(tx, &texts)
 }
@@ -79,7 +78,7 @@ fn create_others<S: Alter>(tx: &mut Transaction<'_, S>) -> Result<(), Error>
 fn create_tables<S: Alter>(tx: &mut Transaction<'_, S>) -> Result<(), Error>
     ensures same_reference { tx.new.conn.ghost_name ≡ tx.old.conn.ghost_name }
     ensures done { HasCleanDisk (state S.Store tx.new.conn.now) → IsMaking schema_0 (state S.Store tx.old.conn.now)
-        → OnOk result (IsMaking schema_18 (state S.Store tx.new.conn.now)) }
+        → OnOk result (IsMaking schema_17 (state S.Store tx.new.conn.now)) }
     ensures was_open { HasCleanDisk (state S.Store tx.new.conn.now) → OnOk result (IsTrue (state S.Store tx.old.conn.now).is_open) }
     ensures kept { HasCleanDisk (state S.Store tx.new.conn.now) → KeepsCommit (state S.Store tx.old.conn.now) (state S.Store tx.new.conn.now) }
     ensures survives { Survives (state S.Store tx.old.conn.now) (state S.Store tx.new.conn.now) (λ _. ⊥) }

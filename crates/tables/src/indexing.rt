@@ -15,8 +15,6 @@ const RESERVED_BY_GTIN: &str = "CREATE INDEX IF NOT EXISTS reserved_by_gtin ON r
 const SHIPLINES_OF_LOT: &str =
     "CREATE INDEX IF NOT EXISTS shiplines_of_lot ON shiplines (gtin, lot, number)";
 
-const ORDERS_BY_STATE: &str = "CREATE INDEX IF NOT EXISTS orders_by_state ON orders (state)";
-
 /// Runs the text, which makes an index where there is none of its name.
 fn make_index<S: Alter>(tx: &mut Transaction<'_, S>, text: &str) -> Result<(), Error>
     ensures same_reference { tx.new.conn.ghost_name ≡ tx.old.conn.ghost_name }
@@ -40,6 +38,5 @@ pub fn make_indexes<S: Alter>(tx: &mut Transaction<'_, S>) -> Result<(), Error>
 {
     make_index(tx, STAGED_BY_GTIN)?;
     make_index(tx, RESERVED_BY_GTIN)?;
-    make_index(tx, SHIPLINES_OF_LOT)?;
-    make_index(tx, ORDERS_BY_STATE)
+    make_index(tx, SHIPLINES_OF_LOT)
 }

@@ -3,7 +3,7 @@ use Rattle.sqlite.specs.Held.{state}
 use Rattle.sqlite.specs.State.{HasCleanDisk}
 use Rattle.tables.proofs.CreateLemmas.{on_ok_then}
 use Rattle.tables.proofs.IndexLemmas.{indexed_then}
-use Rattle.tables.proofs.IndexTexts.{staged_by_gtin_made, reserved_by_gtin_made, shiplines_of_lot_made, orders_by_state_made}
+use Rattle.tables.proofs.IndexTexts.{staged_by_gtin_made, reserved_by_gtin_made, shiplines_of_lot_made}
 use Rattle.tables.proofs.indexing.make_indexes.Goals as goal
 
 pub returns-clause-done : goal.returns-clause-done
@@ -12,17 +12,10 @@ returns-clause-done g c clean ready =
     let s1 = state g.S.Store c.make_index.new.tx.conn.now in
     let s2 = state g.S.Store c.make_index-2.new.tx.conn.now in
     let s3 = state g.S.Store c.make_index-3.new.tx.conn.now in
-    let s4 = state g.S.Store c.make_index-4.new.tx.conn.now in
-    let clean3 : HasCleanDisk s3 = omega (arith, clean, c.make_index-4.ensures.survives.clean) in
-    let clean2 : HasCleanDisk s2 = omega (arith, clean3, c.make_index-3.ensures.survives.clean) in
+    let clean2 : HasCleanDisk s2 = omega (arith, clean, c.make_index-3.ensures.survives.clean) in
     let clean1 : HasCleanDisk s1 = omega (arith, clean2, c.make_index-2.ensures.survives.clean) in
     let one = c.in_ok-make_index.ensures.done clean1 (codes "staged_by_gtin") staged_by_gtin_made ready in
     let two = c.in_ok-make_index-2.ensures.done clean2 (codes "reserved_by_gtin") reserved_by_gtin_made one.0.ready in
-    let three = c.in_ok-make_index-3.ensures.done clean3 (codes "shiplines_of_lot") shiplines_of_lot_made two.0.ready in
-    let before = indexed_then s0 s2 s3 (indexed_then s0 s1 s2 one.0 two.0) three.0 in
-    on_ok_then c.make_index-4.result
-    (λ four. (
-      indexed_then s0 s3 s4 before four.0,
-      (four.0.still _ (three.0.still _ (two.0.still _ one.1)), (four.0.still _ (three.0.still _ two.1), (four.0.still _ three.1, (four.1, tt)))),
-    ))
-    (c.make_index-4.ensures.done clean (codes "orders_by_state") orders_by_state_made three.0.ready)
+    on_ok_then c.make_index-3.result
+    (λ three. (indexed_then s0 s2 s3 (indexed_then s0 s1 s2 one.0 two.0) three.0, (three.0.still _ (two.0.still _ one.1), (three.0.still _ two.1, (three.1, tt)))))
+    (c.make_index-3.ensures.done clean (codes "shiplines_of_lot") shiplines_of_lot_made two.0.ready)
