@@ -1,69 +1,137 @@
 #!/bin/sh
 # Proves lotd and the crates that it stands on, names each as it is done, and builds lotd as crates/lotd/out/lotd. The first
-# time they are proved in lines side by side: rt lets one run at a time into the folders of a crate and of those below it, so
-# each line has a copy of the crates, and takes what another line proved. What they made is then moved to crates/. Later only
-# what changed is proved. RT_JOBS gives the number of jobs of each check; without it rt takes as many as it reckons memory for.
+# run proves everything; a later one what changed and what stands above it. RT_JOBS gives the number of crates that are
+# proved side by side; without it there are two.
+#
+# It calls the kit's compiler itself: `rt check` proves one library after another and has each crate read the proofs of
+# those below, and `rt ci` proves each with one job, while processors stand idle. Here each has a job for every processor,
+# and reads what the crates below promise. The gate is `rt ci`, and no run of this.
 set -eu
 cd "$(dirname "$0")"
-made=$PWD/crates/lotd/out
-lines=$made/lines
-nice=0
+page=$(rt doc)
+exec python3 - "$(dirname "$page")" <<'PYTHON'
+import concurrent.futures
+import functools
+import hashlib
+import os
+import shutil
+import subprocess
+import sys
 
-# prove FOLDER LOG VERB [WORD..]: has rt do this in the folder of a crate, and names each crate that it proves
-prove() {
-    folder=$1 log=$2 verb=$3
-    shift 3
-    {
-        (cd "$folder" && PYTHONUNBUFFERED=1 nice -n "$nice" rt "$verb" ${RT_JOBS:+--jobs "$RT_JOBS"} "$@" 2>&1) || echo "not proved: $folder"
-    } | tee "$log" | sed -nu -e '/^crate line:/d' -e 's/^crate \([a-z_]*\): .*/  \1/p'
-    if grep -q '^not proved: ' "$log"; then
-        tail -40 "$log" >&2
-        return 1
-    fi
-}
+KIT = sys.argv[1]
+TOP = "lotd"
+OUT = os.path.abspath(f"crates/{TOP}/out")
+# What is made of each crate, with a stamp of what it was made from. `rt` reads nothing here, and keeps it.
+MADE = f"{OUT}/rlib"
+PROCESSORS = len(os.sched_getaffinity(0))
+# Two with a job for each processor keep all of them busy.
+AT_ONCE = int(os.environ.get("RT_JOBS") or 2)
 
-# line NAME CRATE..: proves these crates in their order, with those below them, in a copy. A crate that stands on them and has
-# nothing in it makes rt build each.
-line() {
-    copy=$lines/$1
-    shift
-    mkdir -p "$copy/crates/line/src"
-    cp HANDLES "$copy"
-    tar -cf - --exclude=out crates | tar -C "$copy" -xf -
-    { cat crates.txt && echo "line: $*"; } >"$copy/crates.txt"
-    echo '#![tactic(auto)]' >"$copy/crates/line/src/lib.rt"
-    prove "$copy/crates/line" "$copy/log" check
-}
 
-# gather: moves what the lines made to the crates
-gather() {
-    for out in "$lines"/*/crates/*/out; do
-        crate=crates/$(basename "$(dirname "$out")")
-        if [ -e "$out/rlib/stamp" ] && [ -d "$crate" ] && [ ! -e "$crate/out" ]; then mv "$out" "$crate/out"; fi
-    done
-    rm -rf "$lines"
-}
+def text_of(path):
+    with open(path, encoding="utf-8") as file:
+        return file.read()
 
-# all PID..: waits for these, and fails if one of them did
-all() {
-    failed=
-    for pid; do wait "$pid" || failed=yes; done
-    [ -z "$failed" ]
-}
 
-mkdir -p "$made"
-# What a run that was broken off made is kept.
-if [ -d "$lines" ]; then gather; fi
-if [ ! -e crates/values/out ]; then
-    line words commands & words=$!
-    line rules rules views slices store house service & rules=$!
-    line lots plan lot_rules slice_parts goods_rules & lots=$!
-    line tables table_words each_row goods_tables tables changes & tables=$!
-    # What slices does not stand on waits where processors are few.
-    (nice=10 && line texts requests wire goodsin command_line) & texts=$!
-    status=0
-    all $words $rules $lots $tables $texts || status=1
-    gather
-    [ "$status" = 0 ]
-fi
-prove crates/lotd "$made/log" run -- label --day 2026-05-04 ']C101095060001343521726093010AB12'
+def listed():
+    """Each crate of crates.txt, with the libraries that it calls."""
+    lines = [line.partition(":") for line in text_of("crates.txt").splitlines() if not line.startswith("#")]
+    return {name.strip(): ["std", *calls.split()] for name, _, calls in lines}
+
+
+CALLS = listed()
+
+
+@functools.lru_cache(None)
+def below(crate):
+    """The crates that this one stands on, each after those that it calls."""
+    found = []
+    for name in CALLS[crate]:
+        if name in CALLS:
+            found += [it for it in (*below(name), name) if it not in found]
+    return found
+
+
+CRATES = [*below(TOP), TOP]
+
+
+def files_of(crate):
+    parts = [os.walk(f"crates/{crate}/{part}") for part in ("src", "specs", "proofs")]
+    return sorted(f"{at}/{name}" for part in parts for at, _, names in part for name in names)
+
+
+@functools.lru_cache(None)
+def stamp(crate):
+    """A sum of all that the crate is made from."""
+    said = [text_of(f"{KIT}/KIT-ID"), CALLS[crate], [stamp(it) for it in below(crate)]]
+    said += [(file, text_of(file)) for file in files_of(crate)]
+    return hashlib.sha256(repr(said).encode()).hexdigest()
+
+
+def made(crate):
+    return f"{MADE}/{crate}" if crate == TOP else f"{MADE}/{crate}.rlib"
+
+
+def is_made(crate):
+    kept = f"{MADE}/{crate}.stamp"
+    return os.path.exists(kept) and os.path.exists(made(crate)) and text_of(kept) == stamp(crate)
+
+
+def rlib(library):
+    return f"{MADE if library in CALLS else KIT + '/rlibs'}/{library}.rlib"
+
+
+def prove(crate):
+    """Proves a crate and builds it; returns whether it is proved, and what was said."""
+    is_top = crate == TOP
+    to = f"{made(crate)}.o" if is_top else made(crate)
+    words = [f"{KIT}/bin/rattle", "build", "--crate-name", crate]
+    words += [f"src/{'main' if is_top else 'lib'}.rt", "--jobs", str(PROCESSORS), "-o", to]
+    words += ["--antt-project", f"{KIT}/rattle/logic/antt-project.json", "--logic-built", f"{KIT}/logic_built"]
+    words += ["--toolchain", f"{KIT}/toolchain", "--backend", "llvm"] if is_top else ["--statements"]
+    for library in CALLS[crate]:
+        words += ["--extern", f"{library}={rlib(library)}"]
+    words += ["-L", f"dependency={KIT}/rlibs", "-L", f"dependency={MADE}"]
+    how = {"stdin": subprocess.DEVNULL, "stdout": subprocess.PIPE, "stderr": subprocess.STDOUT, "text": True}
+    ran = subprocess.run(words, cwd=f"crates/{crate}", **how)
+    if is_top and ran.returncode == 0:
+        link = [f"{KIT}/bin/rattle-link", "--target", "x86_64-unknown-linux-gnu", "--toolchain", f"{KIT}/toolchain"]
+        ran = subprocess.run([*link, "-o", made(crate), to, f"{KIT}/c/libos_c.a", f"{KIT}/c/liblibc_c.a"], **how)
+    if ran.returncode == 0:
+        with open(f"{MADE}/{crate}.stamp", "w", encoding="utf-8") as file:
+            file.write(stamp(crate))
+    return ran.returncode == 0, ran.stdout
+
+
+@functools.lru_cache(None)
+def behind(crate):
+    """The lines of code of the longest line of crates from this one up to lotd."""
+    code = sum(text_of(file).count("\n") for file in files_of(crate) if file.endswith(".rt"))
+    return code + max((behind(it) for it in CRATES if crate in CALLS[it]), default=0)
+
+
+def prove_all(left):
+    """Proves these crates side by side, each after those that it stands on, those with most behind them first."""
+    left, running = sorted(left, key=behind, reverse=True), {}
+    with concurrent.futures.ThreadPoolExecutor(AT_ONCE) as pool:
+        while left or running:
+            waited = {*left, *running.values()}
+            for crate in [it for it in left if waited.isdisjoint(below(it))][: AT_ONCE - len(running)]:
+                running[pool.submit(prove, crate)] = crate
+                left.remove(crate)
+            for done in concurrent.futures.wait(running, return_when=concurrent.futures.FIRST_COMPLETED).done:
+                crate, (is_proved, said) = running.pop(done), done.result()
+                if not is_proved:
+                    print(f"{said[-6000:]}\n{crate} is not proved", file=sys.stderr)
+                    return False
+                print(f"  {crate}", flush=True)
+    return True
+
+
+os.makedirs(MADE, exist_ok=True)
+if not prove_all([it for it in CRATES if not is_made(it)]):
+    sys.exit(1)
+# A program that runs is not written over.
+shutil.copy2(made(TOP), f"{OUT}/{TOP}.new")
+os.replace(f"{OUT}/{TOP}.new", f"{OUT}/{TOP}")
+PYTHON
