@@ -1,11 +1,12 @@
 #!/bin/sh
 # Proves lotd and the crates that it stands on, names each as it is done, and builds lotd as crates/lotd/out/lotd. The first
 # run proves everything; a later one what changed and what stands above it. RT_JOBS gives the number of crates that are
-# proved side by side; without it there are two.
+# proved side by side; without it there are as many as processors.
 #
 # It calls the kit's compiler itself: `rt check` proves one library after another and has each crate read the proofs of
-# those below, and `rt ci` proves each with one job, while processors stand idle. Here each has a job for every processor,
-# and reads what the crates below promise. The gate is `rt ci`, and no run of this.
+# those below, and `rt ci` proves each with one job, while processors stand idle. Here the crate with the longest line of
+# others behind it has a job for every processor and goes before the rest, and each reads what those below promise. The
+# gate is `rt ci`, and no run of this.
 set -eu
 cd "$(dirname "$0")"
 page=$(rt doc)
@@ -24,8 +25,9 @@ OUT = os.path.abspath(f"crates/{TOP}/out")
 # What is made of each crate, with a stamp of what it was made from. `rt` reads nothing here, and keeps it.
 MADE = f"{OUT}/rlib"
 PROCESSORS = len(os.sched_getaffinity(0))
-# Two with a job for each processor keep all of them busy.
-AT_ONCE = int(os.environ.get("RT_JOBS") or 2)
+AT_ONCE = int(os.environ.get("RT_JOBS") or PROCESSORS)
+# The crate that goes first, and the others: the jobs of its proof, and how far it gives way.
+FIRST, OTHER = (PROCESSORS, 0), (1, 10)
 
 
 def text_of(path):
@@ -81,12 +83,12 @@ def rlib(library):
     return f"{MADE if library in CALLS else KIT + '/rlibs'}/{library}.rlib"
 
 
-def prove(crate):
+def prove(crate, jobs, nice):
     """Proves a crate and builds it; returns whether it is proved, and what was said."""
     is_top = crate == TOP
     to = f"{made(crate)}.o" if is_top else made(crate)
-    words = [f"{KIT}/bin/rattle", "build", "--crate-name", crate]
-    words += [f"src/{'main' if is_top else 'lib'}.rt", "--jobs", str(PROCESSORS), "-o", to]
+    words = ["nice", "-n", str(nice), f"{KIT}/bin/rattle", "build", "--crate-name", crate]
+    words += [f"src/{'main' if is_top else 'lib'}.rt", "--jobs", str(jobs), "-o", to]
     words += ["--antt-project", f"{KIT}/rattle/logic/antt-project.json", "--logic-built", f"{KIT}/logic_built"]
     words += ["--toolchain", f"{KIT}/toolchain", "--backend", "llvm"] if is_top else ["--statements"]
     for library in CALLS[crate]:
@@ -105,22 +107,24 @@ def prove(crate):
 
 @functools.lru_cache(None)
 def behind(crate):
-    """The lines of code of the longest line of crates from this one up to lotd."""
-    code = sum(text_of(file).count("\n") for file in files_of(crate) if file.endswith(".rt"))
-    return code + max((behind(it) for it in CRATES if crate in CALLS[it]), default=0)
+    """The lines of the longest line of crates from this one up to lotd."""
+    lines = sum(text_of(file).count("\n") for file in files_of(crate))
+    return lines + max((behind(it) for it in CRATES if crate in CALLS[it]), default=0)
 
 
 def prove_all(left):
     """Proves these crates side by side, each after those that it stands on, those with most behind them first."""
-    left, running = sorted(left, key=behind, reverse=True), {}
+    left, running, leader = sorted(left, key=behind, reverse=True), {}, None
     with concurrent.futures.ThreadPoolExecutor(AT_ONCE) as pool:
         while left or running:
             waited = {*left, *running.values()}
             for crate in [it for it in left if waited.isdisjoint(below(it))][: AT_ONCE - len(running)]:
-                running[pool.submit(prove, crate)] = crate
+                leader = leader or crate
+                running[pool.submit(prove, crate, *(FIRST if crate == leader else OTHER))] = crate
                 left.remove(crate)
             for done in concurrent.futures.wait(running, return_when=concurrent.futures.FIRST_COMPLETED).done:
                 crate, (is_proved, said) = running.pop(done), done.result()
+                leader = None if crate == leader else leader
                 if not is_proved:
                     print(f"{said[-6000:]}\n{crate} is not proved", file=sys.stderr)
                     return False
