@@ -1,6 +1,6 @@
 -- The words of kinds and states are read back.
-use Rattle.std.proofs.Common.{◌≡◌, ℕ, Bool, true, false, cond, List, [], ◌∷◌, refl, ap, ◌∙◌, Decides}
-use Rattle.std.specs.Prelude.{Option, Some, bytes_eq}
+use Rattle.std.proofs.Common.{◌≡◌, ℕ, Bool, true, false, cond, List, [], ◌∷◌, refl, ap, ◌∙◌}
+use Rattle.std.specs.Prelude.{Some, bytes_eq}
 use Rattle.std.proofs.lemmas.Slice.Eq.{bytes_eq-Decides}
 use Rattle.commands.specs.Laws.{BinKindsAreNamed, OrderStatesAreNamed, CardKindsAreNamed, LotStatusesAreNamed}
 use Rattle.commands.specs.Words.{named, bin_kind_word, bin_kind_of, order_state_word, order_state_of, card_kind_word, card_kind_of, lot_status_word, lot_status_of}

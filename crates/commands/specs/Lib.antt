@@ -9,3 +9,4 @@ pub mod Tables
 pub mod Laws
 pub mod Sinks
 pub mod Cards
+pub mod Names

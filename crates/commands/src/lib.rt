@@ -7,6 +7,7 @@ mod key;
 pub mod laws;
 pub mod limits;
 mod listed;
+mod names;
 mod refusal;
 mod replies;
 mod rows;
@@ -23,6 +24,7 @@ pub use command::{
 };
 pub use key::Key;
 pub use listed::Listed;
+pub use names::{Added, NamedOrder, Names, OrderStep};
 pub use refusal::Refusal;
 pub use replies::{ReplyField, reply};
 pub use rows::{
