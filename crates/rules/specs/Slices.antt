@@ -1,10 +1,15 @@
 -- What a decision sees of the tables, and what a change makes of them.
-use Rattle.std.specs.Prelude.{◌≡◌, ℕ, Bool, true, false, not, ◌&&◌, ◌||◌, ◌==◌, nat_le, if◌then◌else◌, List, [], ◌∷◌, length, find, Option, Some, None, Result, Ok, Err, is_some, ℤ}
+use Rattle.std.specs.Prelude.{◌≡◌, ℕ, Bool, true, false, not, ◌&&◌, ◌||◌, ◌==◌, nat_le, if◌then◌else◌, List, [], ◌∷◌, length, find, Option, Some, None, option_map, Result, Ok, Err, is_some, ℤ}
 use Rattle.std.specs.List.{list_any}
 use Rattle.values.specs.Values.{same_text}
 use Rattle.values.specs.declared.lot.LotId.{LotId}
 use Rattle.commands.specs.declared.command.Command.{Command}
-use Rattle.commands.specs.declared.command.Command.TheVariants.{Item, Bin, Receive, Move, Count, Adjust, Order, Cancel, Pick, Unpick, Ship, Hold, Release, Recall}
+use Rattle.commands.specs.declared.names.Added.{Added}
+use Rattle.commands.specs.declared.names.Added.TheVariants.{Item, Bin}
+use Rattle.commands.specs.declared.names.NamedOrder.{NamedOrder}
+use Rattle.commands.specs.declared.names.OrderStep.{OrderStep}
+use Rattle.commands.specs.declared.names.OrderStep.TheVariants.{Picked, Shipped}
+use Rattle.commands.specs.Names.{names_of}
 use Rattle.commands.specs.declared.limits.TheConstants.{ITEMS_MAX, BINS_MAX}
 use Rattle.commands.specs.declared.rows.ReservedRow.{ReservedRow}
 use Rattle.machine.specs.KeyedRows.{no_two, AreRows, same_cell, same_line, same_share}
@@ -58,59 +63,70 @@ applied c t = record {
 
 -- Slices
 
--- whether the command names the order, and whether it names the bin
+-- whether the text is the one that is named
+abbrev pub is_named : Option (List ℕ) → List ℕ → Bool
+is_named None x = false
+is_named (Some name) x = same_text x name
+
+-- whether the command names the order, whether it names the lot, and whether it names the bin
 abbrev pub names_order : Command → List ℕ → Bool
-names_order (Order p) o = same_text o p.order
-names_order (Cancel p) o = same_text o p
-names_order (Ship p) o = same_text o p
-names_order (Pick p) o = same_text o p.order
-names_order (Unpick p) o = same_text o p.order
-names_order _ o = false
+names_order command o = is_named (option_map (λ n. n.order) (names_of command).order) o
+
+abbrev pub is_named_lot : Option LotId → LotId → Bool
+is_named_lot None l = false
+is_named_lot (Some k) l = is_lot l k
+
+abbrev pub names_lot : Command → LotId → Bool
+names_lot command l = is_named_lot (names_of command).lot l
+
+abbrev pub is_either : Option (List ℕ) → Option (List ℕ) → List ℕ → Bool
+is_either bin None b = is_named bin b
+is_either bin (Some other) b = is_named bin b || same_text b other
 
 abbrev pub names_bin : Command → List ℕ → Bool
-names_bin (Bin c) b = same_text b c.bin
-names_bin (Receive r) b = same_text b r.bin
-names_bin (Move m) b = same_text b m.from || same_text b m.to
-names_bin (Count c) b = same_text b c.bin
-names_bin (Adjust a) b = same_text b a.bin
-names_bin (Pick p) b = same_text b p.bin
-names_bin (Unpick p) b = same_text b p.bin
-names_bin _ b = false
+names_bin command b = is_either (names_of command).bin (names_of command).other_bin b
 
 abbrev pub has_touched_line : ℤ → Act → List Act → List ℕ → Bool
 has_touched_line first act acts o = list_any (λ l. is_touched first act acts l.gtin) (lines_of acts o)
 
 -- whether the command is judged by how many items there are, and whether by how many bins
+abbrev pub is_item : Option Added → Bool
+is_item (Some Item) = true
+is_item _ = false
+
+abbrev pub is_bin : Option Added → Bool
+is_bin (Some Bin) = true
+is_bin _ = false
+
 abbrev pub counts_items : Command → Bool
-counts_items (Item i) = true
-counts_items _ = false
+counts_items command = is_item (names_of command).adds
 
 abbrev pub counts_bins : Command → Bool
-counts_bins (Bin b) = true
-counts_bins _ = false
+counts_bins command = is_bin (names_of command).adds
 
 -- whether the command plans: a shipment takes what is staged for its order, and no plan changes
-abbrev pub plans : Command → Bool
-plans (Ship o) = false
-plans _ = true
+abbrev pub plans_at : OrderStep → Bool
+plans_at Shipped = false
+plans_at _ = true
 
--- whether the command names the lot
-abbrev pub names_lot : Command → LotId → Bool
-names_lot (Receive r) l = is_lot l r.lot
-names_lot (Move m) l = is_lot l m.lot
-names_lot (Count c) l = is_lot l c.lot
-names_lot (Adjust a) l = is_lot l a.lot
-names_lot (Pick p) l = is_lot l p.lot
-names_lot (Unpick p) l = is_lot l p.lot
-names_lot (Hold k) l = is_lot l k
-names_lot (Release k) l = is_lot l k
-names_lot (Recall k) l = is_lot l k
-names_lot _ l = false
+abbrev pub plans_with : Option NamedOrder → Bool
+plans_with None = true
+plans_with (Some n) = plans_at n.step
+
+abbrev pub plans : Command → Bool
+plans command = plans_with (names_of command).order
 
 -- whether the command is judged by what is reserved for the order on the lot
+abbrev pub takes_reserved : OrderStep → Bool
+takes_reserved Picked = true
+takes_reserved _ = false
+
+abbrev pub is_share : Option NamedOrder → Option LotId → List ℕ → LotId → Bool
+is_share None lot o l = false
+is_share (Some n) lot o l = if takes_reserved n.step then same_text o n.order && is_named_lot lot l else false
+
 abbrev pub names_reserved : Command → List ℕ → LotId → Bool
-names_reserved (Pick p) o l = same_text o p.order && is_lot l p.lot
-names_reserved _ o l = false
+names_reserved command o l = is_share (names_of command).order (names_of command).lot o l
 
 -- whether the rows have units of the lot in bins, on stages, and on the stage of an order that the command names
 abbrev pub in_bins : Rows → LotId → Bool

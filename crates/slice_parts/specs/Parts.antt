@@ -1,10 +1,14 @@
 -- What slices are made of besides the tables: the names in a command, and which rows count.
-use Rattle.std.specs.Prelude.{ℕ, ℤ, Bool, not, ◌&&◌, if◌then◌else◌, List, [], ◌∷◌, ◌++◌, filter, Option, Some, None}
+use Rattle.std.specs.Prelude.{ℕ, ℤ, Bool, true, false, not, ◌&&◌, if◌then◌else◌, List, [], ◌∷◌, ◌++◌, filter, Option, Some, None, option_map}
+use Rattle.std.specs.Option.{option_to_list}
 use Rattle.std.specs.List.{list_any}
 use Rattle.values.specs.Values.{same_text}
 use Rattle.values.specs.declared.lot.LotId.{LotId}
 use Rattle.commands.specs.declared.command.Command.{Command}
-use Rattle.commands.specs.declared.command.Command.TheVariants.{Item, Bin, Receive, Move, Count, Adjust, Order, Cancel, Pick, Unpick, Ship, Hold, Release, Recall, OpenDay}
+use Rattle.commands.specs.declared.names.NamedOrder.{NamedOrder}
+use Rattle.commands.specs.declared.names.OrderStep.{OrderStep}
+use Rattle.commands.specs.declared.names.OrderStep.TheVariants.{Cancelled, Picked, Shipped}
+use Rattle.commands.specs.Names.{names_of}
 use Rattle.commands.specs.declared.rows.LotRow.{LotRow}
 use Rattle.commands.specs.declared.rows.RecallRow.{RecallRow}
 use Rattle.commands.specs.declared.rows.StockRow.{StockRow}
@@ -31,70 +35,51 @@ abbrev pub with_names : {X : Type 0} → (X → List ℕ) → List X → List (L
 with_names name [] xs = xs
 with_names name (r ∷ rs) xs = with_names name rs (with_name (name r) xs)
 
--- what a command names
-abbrev pub items_named : Command → List (List ℕ)
-items_named (Item i) = i.gtin ∷ []
-items_named (Receive r) = r.lot.gtin ∷ []
-items_named (Move m) = m.lot.gtin ∷ []
-items_named (Count c) = c.lot.gtin ∷ []
-items_named (Adjust a) = a.lot.gtin ∷ []
-items_named (Order o) = with_names (λ l. l.gtin) o.lines []
-items_named (Pick p) = p.lot.gtin ∷ []
-items_named (Unpick p) = p.lot.gtin ∷ []
-items_named (Hold l) = l.gtin ∷ []
-items_named (Release l) = l.gtin ∷ []
-items_named (Recall l) = l.gtin ∷ []
-items_named _ = []
+-- and with one that may be there
+abbrev pub with_some : Option (List ℕ) → List (List ℕ) → List (List ℕ)
+with_some None xs = xs
+with_some (Some x) xs = with_name x xs
 
-abbrev pub orders_named : Command → List (List ℕ)
-orders_named (Order o) = o.order ∷ []
-orders_named (Cancel o) = o ∷ []
-orders_named (Pick p) = p.order ∷ []
-orders_named (Unpick p) = p.order ∷ []
-orders_named (Ship o) = o ∷ []
-orders_named _ = []
+-- what a command names, each once
+abbrev pub items_named : Command → List (List ℕ)
+items_named command = with_names (λ l. l.gtin) (names_of command).lines (option_to_list (names_of command).item)
 
 abbrev pub bins_named : Command → List (List ℕ)
-bins_named (Bin b) = b.bin ∷ []
-bins_named (Receive r) = r.bin ∷ []
-bins_named (Move m) = with_name m.to (m.from ∷ [])
-bins_named (Count c) = c.bin ∷ []
-bins_named (Adjust a) = a.bin ∷ []
-bins_named (Pick p) = p.bin ∷ []
-bins_named (Unpick p) = p.bin ∷ []
-bins_named _ = []
+bins_named command = with_some (names_of command).other_bin (with_some (names_of command).bin [])
 
 abbrev pub lots_named : Command → List LotId
-lots_named (Receive r) = r.lot ∷ []
-lots_named (Move m) = m.lot ∷ []
-lots_named (Count c) = c.lot ∷ []
-lots_named (Adjust a) = a.lot ∷ []
-lots_named (Pick p) = p.lot ∷ []
-lots_named (Unpick p) = p.lot ∷ []
-lots_named (Hold l) = l ∷ []
-lots_named (Release l) = l ∷ []
-lots_named (Recall l) = l ∷ []
-lots_named _ = []
+lots_named command = option_to_list (names_of command).lot
 
--- the order that a command takes whole: it touches the item of each of its lines
+abbrev pub orders_named : Command → List (List ℕ)
+orders_named command = option_to_list (option_map (λ n. n.order) (names_of command).order)
+
+abbrev pub is_cancelled : OrderStep → Bool
+is_cancelled Cancelled = true
+is_cancelled _ = false
+
+abbrev pub is_picked : OrderStep → Bool
+is_picked Picked = true
+is_picked _ = false
+
+abbrev pub is_shipped : OrderStep → Bool
+is_shipped Shipped = true
+is_shipped _ = false
+
+-- the order that is named, where this is done with it
+abbrev pub order_where : (OrderStep → Bool) → Option NamedOrder → Option (List ℕ)
+order_where is_done None = None
+order_where is_done (Some n) = if is_done n.step then Some n.order else None
+
+-- the order that a command takes whole, since it cancels it: it touches the item of each of its lines
 abbrev pub whole_orders : Command → List (List ℕ)
-whole_orders (Cancel o) = o ∷ []
-whole_orders _ = []
+whole_orders command = option_to_list (order_where is_cancelled (names_of command).order)
 
--- the business day that a command opens
-abbrev pub day_opened : Command → Option ℤ
-day_opened (OpenDay day) = Some day
-day_opened _ = None
-
--- the order that a command ships
+-- the order that a command ships, and the one that it picks for
 abbrev pub order_shipped : Command → Option (List ℕ)
-order_shipped (Ship o) = Some o
-order_shipped _ = None
+order_shipped command = order_where is_shipped (names_of command).order
 
--- the order that a command picks for
 abbrev pub order_picked : Command → Option (List ℕ)
-order_picked (Pick p) = Some p.order
-order_picked _ = None
+order_picked command = order_where is_picked (names_of command).order
 
 -- Orders and lines
 

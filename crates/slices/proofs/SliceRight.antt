@@ -2,8 +2,10 @@
 use Rattle.std.proofs.Common.{◌≡◌, ℕ, Bool, true, false, ◌&&◌, List, [], ◌∷◌, length, refl, ap, sym, subst, ◌∙◌}
 use Rattle.std.specs.Prelude.{◌||◌, ◌==◌, nat_le, if◌then◌else◌, find, Option, Some, None, option_map, is_some, ℤ}
 use Rattle.std.specs.List.{list_any, list_all, cons_option}
+use Rattle.std.specs.Option.{option_to_list}
 use Rattle.values.specs.Values.{same_text}
 use Rattle.values.specs.declared.lot.LotId.{LotId}
+use Rattle.commands.specs.Names.{names_of}
 use Rattle.commands.specs.Tables.{Tables}
 use Rattle.commands.specs.declared.key.Key.{Key}
 use Rattle.commands.specs.declared.limits.TheConstants.{ITEMS_MAX, BINS_MAX}
@@ -28,16 +30,16 @@ use Rattle.machine.specs.Once.{IsHistory}
 use Rattle.machine.specs.Verdict.{verdict}
 use Rattle.machine.specs.Postings.{is_lot}
 use Rattle.machine.specs.KeyedRows.{AreRows, no_two}
-use Rattle.rules.specs.Slices.{IsSlice, names_order, names_bin, names_lot, counts_items, counts_bins, plans, in_bins, on_stages, on_named_stage, has_touched_line}
+use Rattle.rules.specs.Slices.{IsSlice, names_order, names_bin, names_lot, counts_items, counts_bins, plans, is_named, is_named_lot, is_either, in_bins, on_stages, on_named_stage, has_touched_line}
 use Rattle.row_rules.specs.declared.slice.Slice.{Slice}
 use Rattle.machine.proofs.Tests.{and_both, or_false, some_one, same_text_is, same_text_refl, same_text_turned, is_lot_is, is_lot_refl, is_lot_turned, is_lot_item}
 use Rattle.machine.proofs.Apart.{AreApart, any_found}
 use Rattle.machine.proofs.histories.Accepted.{item_accepted}
 use Rattle.machine.proofs.histories.Notices.{bins_apart}
 use Rattle.machine.proofs.histories.Orders.{found_order}
-use Rattle.rules.proofs.rows.SliceTells.{some_mapped}
+use Rattle.rules.proofs.rows.SliceTells.{some_mapped, names_touched}
 use Rattle.slice_parts.specs.Keys.{has_key, with_keys}
-use Rattle.slices.specs.Slicing.{is_among, with_names, items_named, lots_named, orders_named, bins_named, whole_orders, day_opened, order_shipped, held_lots, AreAllLines, AreCounts, AreTaken, AreTouched, ArePlanned, AreSlicedOn, IsSliceIn, is_passed, is_open_in, HoldsOf}
+use Rattle.slices.specs.Slicing.{is_among, with_names, with_some, items_named, lots_named, orders_named, bins_named, whole_orders, order_shipped, held_lots, AreAllLines, AreCounts, AreTaken, AreTouched, ArePlanned, AreSlicedOn, IsSliceIn, is_passed, is_open_in, HoldsOf}
 use Rattle.slices.specs.declared.knowing.Known.{Known}
 use Rattle.slices.proofs.AtMost.{told_number}
 use Rattle.slices.proofs.KeysTold.{same_cell_is, same_cell_refl, same_share_is, same_share_refl, same_line_is, same_line_refl}
@@ -54,11 +56,27 @@ use Rattle.slices.proofs.KnownOrders.{has_line_of, orders_told, lines_told}
 
 -- Names
 
+one_among : (name : Option (List ℕ)) (x : List ℕ) → is_among (option_to_list name) x ≡ is_named name x
+one_among None x = refl
+one_among (Some name) x = or_false (same_text x name)
+
+one_once : (name : Option (List ℕ)) → no_two same_text (option_to_list name) ≡ true
+one_once None = refl
+one_once (Some name) = refl
+
+some_among : (name : Option (List ℕ)) (x : List ℕ) → is_among (with_some name []) x ≡ is_named name x
+some_among None x = refl
+some_among (Some name) x = or_false (same_text x name)
+
+some_once : (name : Option (List ℕ)) → no_two same_text (with_some name []) ≡ true
+some_once None = refl
+some_once (Some name) = refl
+
 named_only : (x : List ℕ) (lines : List LineRow) (own : Bool) → lines ≡ [] → own || list_any (λ r. same_text x r.gtin) lines ≡ own
 named_only x lines own none = ap (λ l. own || list_any (λ r. same_text x r.gtin) l) none ∙ or_false own
 
 -- the items that a command names, with those of the lines that it takes, are those that it touches
-named_told : (first : ℤ) (act : Act) (acts : List Act) (command : Command) → day_opened command ≡ None → order_shipped command ≡ None → (lines : List LineRow) → AreAllLines (whole_orders command) (tables_of first acts) lines
+named_told : (first : ℤ) (act : Act) (acts : List Act) (command : Command) → (names_of command).day ≡ None → order_shipped command ≡ None → (lines : List LineRow) → AreAllLines (whole_orders command) (tables_of first acts) lines
     → (x : List ℕ) → is_among (items_named command) x || list_any (λ r. same_text x r.gtin) lines ≡ touches first act acts command x
 named_told first act acts (Item i) e f lines none x = named_only x lines (is_among (i.gtin ∷ []) x) none ∙ or_false (same_text x i.gtin)
 named_told first act acts (Bin b) e f lines none x = named_only x lines false none
@@ -76,7 +94,7 @@ named_told first act acts (Release l) e f lines none x = named_only x lines (is_
 named_told first act acts (Recall l) e f lines none x = named_only x lines (is_among (l.gtin ∷ []) x) none ∙ or_false (same_text x l.gtin)
 named_told first act acts (OpenDay day) e f lines none x = absurd cc
 
-taken_told : (first : ℤ) (act : Act) (acts : List Act) (command : Command) → day_opened command ≡ None → order_shipped command ≡ None → (gtins : List (List ℕ)) → AreTaken command (tables_of first acts) gtins → (x : List ℕ) → is_among gtins x ≡ touches first act acts command x
+taken_told : (first : ℤ) (act : Act) (acts : List Act) (command : Command) → (names_of command).day ≡ None → order_shipped command ≡ None → (gtins : List (List ℕ)) → AreTaken command (tables_of first acts) gtins → (x : List ℕ) → is_among gtins x ≡ touches first act acts command x
 taken_told first act acts command e f gtins are x =
     ap (λ l. is_among l x) are.items ∙ among_names (λ (r : LineRow). r.gtin) are.lines (items_named command) x ∙ named_told first act acts command e f are.lines are.read x
 
@@ -85,8 +103,7 @@ items_told first key (OpenDay day) acts f history gtins are x = affected_told fi
 items_told first key command acts f history gtins are x = taken_told first (record { key = key; command = command }) acts command refl f gtins are x
 
 named_once : (command : Command) → no_two same_text (items_named command) ≡ true
-named_once (Order o) = once_names (λ l. l.gtin) o.lines [] refl
-named_once _ = refl
+named_once command = once_names (λ (l : OrderLine). l.gtin) (names_of command).lines (option_to_list (names_of command).item) (one_once (names_of command).item)
 
 taken_once : (command : Command) (t : Tables) (gtins : List (List ℕ)) → AreTaken command t gtins → no_two same_text gtins ≡ true
 taken_once command t gtins are = ap (no_two same_text) are.items ∙ once_names (λ (r : LineRow). r.gtin) are.lines (items_named command) (named_once command)
@@ -96,65 +113,31 @@ items_once (OpenDay day) t gtins are = affected_once day t gtins are
 items_once command t gtins are = taken_once command t gtins are
 
 order_told : (command : Command) (o : List ℕ) → is_among (orders_named command) o ≡ names_order command o
-order_told (Order p) o = or_false (same_text o p.order)
-order_told (Cancel p) o = or_false (same_text o p)
-order_told (Pick p) o = or_false (same_text o p.order)
-order_told (Unpick p) o = or_false (same_text o p.order)
-order_told (Ship p) o = or_false (same_text o p)
-order_told _ o = refl
+order_told command o = one_among (option_map (λ n. n.order) (names_of command).order) o
 
 order_once : (command : Command) → no_two same_text (orders_named command) ≡ true
-order_once (Order o) = refl
-order_once (Cancel o) = refl
-order_once (Pick p) = refl
-order_once (Unpick p) = refl
-order_once (Ship o) = refl
-order_once _ = refl
+order_once command = one_once (option_map (λ n. n.order) (names_of command).order)
+
+either_among : (bin other : Option (List ℕ)) (b : List ℕ) → is_among (with_some other (with_some bin [])) b ≡ is_either bin other b
+either_among bin None b = some_among bin b
+either_among bin (Some other) b = among_with other (with_some bin []) b ∙ ap (λ c. c || same_text b other) (some_among bin b)
+
+either_once : (bin other : Option (List ℕ)) → no_two same_text (with_some other (with_some bin [])) ≡ true
+either_once bin None = some_once bin
+either_once bin (Some other) = once_with other (with_some bin []) (some_once bin)
 
 bin_told : (command : Command) (b : List ℕ) → is_among (bins_named command) b ≡ names_bin command b
-bin_told (Bin x) b = or_false (same_text b x.bin)
-bin_told (Receive r) b = or_false (same_text b r.bin)
-bin_told (Move m) b = among_with m.to (m.from ∷ []) b ∙ ap (λ c. c || same_text b m.to) (or_false (same_text b m.from))
-bin_told (Count c) b = or_false (same_text b c.bin)
-bin_told (Adjust a) b = or_false (same_text b a.bin)
-bin_told (Pick p) b = or_false (same_text b p.bin)
-bin_told (Unpick p) b = or_false (same_text b p.bin)
-bin_told _ b = refl
+bin_told command b = either_among (names_of command).bin (names_of command).other_bin b
 
 bin_once : (command : Command) → no_two same_text (bins_named command) ≡ true
-bin_once (Bin b) = refl
-bin_once (Receive r) = refl
-bin_once (Move m) = once_with m.to (m.from ∷ []) refl
-bin_once (Count c) = refl
-bin_once (Adjust a) = refl
-bin_once (Pick p) = refl
-bin_once (Unpick p) = refl
-bin_once _ = refl
+bin_once command = either_once (names_of command).bin (names_of command).other_bin
+
+lot_among : (lot : Option LotId) (l : LotId) → has_key is_lot (option_to_list lot) l ≡ is_named_lot lot l
+lot_among None l = refl
+lot_among (Some k) l = or_false (is_lot l k)
 
 lot_told : (command : Command) (l : LotId) → has_key is_lot (lots_named command) l ≡ names_lot command l
-lot_told (Receive r) l = or_false (is_lot l r.lot)
-lot_told (Move m) l = or_false (is_lot l m.lot)
-lot_told (Count c) l = or_false (is_lot l c.lot)
-lot_told (Adjust a) l = or_false (is_lot l a.lot)
-lot_told (Pick p) l = or_false (is_lot l p.lot)
-lot_told (Unpick p) l = or_false (is_lot l p.lot)
-lot_told (Hold k) l = or_false (is_lot l k)
-lot_told (Release k) l = or_false (is_lot l k)
-lot_told (Recall k) l = or_false (is_lot l k)
-lot_told _ l = refl
-
--- a command touches the item of the lot that it names
-lot_touched : (first : ℤ) (act : Act) (acts : List Act) (command : Command) (l : LotId) → names_lot command l ≡ true → touches first act acts command l.gtin ≡ true
-lot_touched first act acts (Receive r) l e = is_lot_item l r.lot e
-lot_touched first act acts (Move m) l e = is_lot_item l m.lot e
-lot_touched first act acts (Count c) l e = is_lot_item l c.lot e
-lot_touched first act acts (Adjust a) l e = is_lot_item l a.lot e
-lot_touched first act acts (Pick p) l e = is_lot_item l p.lot e
-lot_touched first act acts (Unpick p) l e = is_lot_item l p.lot e
-lot_touched first act acts (Hold k) l e = is_lot_item l k e
-lot_touched first act acts (Release k) l e = is_lot_item l k e
-lot_touched first act acts (Recall k) l e = is_lot_item l k e
-lot_touched first act acts _ l e = absurd (let none : false ≡ true = e in cc)
+lot_told command l = lot_among (names_of command).lot l
 
 ships : (command : Command) (o : List ℕ) → order_shipped command ≡ Some o → command ≡ Ship o
 ships (Ship p) o e = ap Ship (some_one p o e)
@@ -312,7 +295,7 @@ module _ (first : ℤ) (acts : List Act) where
           of_lot m is there = ap touched (same_text_is l.gtin m.gtin (is_lot_item l m is)) ∙ there
 
           by : (n i o : Bool) → names_lot command l ≡ n → in_bins s.rows l ≡ i → on_stages s.rows l ≡ o → (n || i) || o ≡ true → touched l.gtin ≡ true
-          by true i o named bins stages _ = lot_touched first act acts command l named
+          by true i o named bins stages _ = names_touched first act acts command l named
           by false true o named bins stages _ =
               own_any {K = StockKey} stock_key (λ k. touched k.0.gtin) (λ k. t.stock k.0 k.1) (λ r. is_lot l r.lot) s.rows.stock (touched l.gtin ≡ true) stock_rows.own (λ r is there. of_lot r.lot is there) bins
           by false false o named bins stages e =

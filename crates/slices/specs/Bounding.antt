@@ -1,8 +1,10 @@
 -- How many items and bins there may be.
-use Rattle.std.specs.Prelude.{◌≡◌, ℕ, ◌+◌, ◌<◌, ◌≤◌, ◌⊎◌, Bool, true, List, length, Option, is_some}
+use Rattle.std.specs.Prelude.{◌≡◌, ℕ, ◌+◌, ◌<◌, ◌≤◌, ◌⊎◌, Bool, true, List, length, Option, Some, None, is_some}
 use Rattle.commands.specs.Tables.{Tables}
 use Rattle.commands.specs.declared.command.Command.{Command}
-use Rattle.commands.specs.declared.command.Command.TheVariants.{Item, Bin}
+use Rattle.commands.specs.declared.names.Added.{Added}
+use Rattle.commands.specs.declared.names.Added.TheVariants.{Item, Bin}
+use Rattle.commands.specs.Names.{names_of}
 use Rattle.commands.specs.declared.limits.TheConstants.{ITEMS_MAX, BINS_MAX}
 use Rattle.row_rules.specs.declared.slice.Put.{Put}
 use Rattle.slice_parts.specs.Parts.{is_among}
@@ -25,10 +27,13 @@ abbrev pub IsToldNumber : {R : Type 0} → (List ℕ → List ℕ → Bool) → 
 IsToldNumber same key row most known n = ((n ≡ known) × (n < most)) ⊎ IsCount {K = List ℕ} same key row n
 
 -- with the numbers that a slice of the command tells
+abbrev pub with_counts_of : Option Added → (item_count bin_count : ℕ) → Bounds → Bounds
+with_counts_of None item_count bin_count b = b
+with_counts_of (Some Item) item_count bin_count b = record { items = item_count; bins = b.bins }
+with_counts_of (Some Bin) item_count bin_count b = record { items = b.items; bins = bin_count }
+
 abbrev pub with_counts : Command → (item_count bin_count : ℕ) → Bounds → Bounds
-with_counts (Item i) item_count bin_count b = record { items = item_count; bins = b.bins }
-with_counts (Bin x) item_count bin_count b = record { items = b.items; bins = bin_count }
-with_counts _ item_count bin_count b = b
+with_counts command = with_counts_of (names_of command).adds
 
 -- with the rows that a change puts
 pub record IsRaised (puts : Put) (old new : Bounds) : Type 0 where

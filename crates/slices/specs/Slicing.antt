@@ -1,6 +1,7 @@
 -- The rows that a slice is made of.
 use Rattle.std.specs.Prelude.{◌≡◌, ℕ, ℤ, Bool, true, false, List, [], ◌∷◌, ◌++◌, map, filter, Option, Some, None, is_some}
 use Rattle.values.specs.Values.{same_text}
+use Rattle.commands.specs.Names.{names_of}
 use Rattle.commands.specs.Tables.{Tables}
 use Rattle.commands.specs.declared.command.Command.{Command}
 use Rattle.commands.specs.declared.limits.TheConstants.{ITEMS_MAX, BINS_MAX}
@@ -26,7 +27,7 @@ use Rattle.slices.specs.declared.knowing.Bounds.{Bounds}
 use Rattle.slices.specs.declared.knowing.Known.{Known}
 use Rattle.slices.specs.ByLot.{AreLotsOf, AreStockOf}
 use Rattle.slices.specs.ByOrder.{AreReservedOn}
-pub use Rattle.slice_parts.specs.Parts.{is_among, with_name, with_names, items_named, lots_named, orders_named, bins_named, whole_orders, day_opened, order_shipped, order_picked, held_lots, lots_on_stage, others, other_names, has_line_in, with_lines, is_ending, not_recalled, items_of_lots, with_staged}
+pub use Rattle.slice_parts.specs.Parts.{is_among, with_name, with_names, with_some, items_named, lots_named, orders_named, bins_named, whole_orders, order_shipped, order_picked, held_lots, lots_on_stage, others, other_names, has_line_in, with_lines, is_ending, not_recalled, items_of_lots, with_staged}
 
 -- Reads one after another
 
@@ -226,7 +227,7 @@ AreTouchedOn None command t gtins = AreTaken command t gtins
 AreTouchedOn (Some day) command t gtins = AreAffected day t gtins
 
 abbrev pub AreTouched : Command → Tables → List (List ℕ) → Type 0
-AreTouched command = AreTouchedOn (day_opened command) command
+AreTouched command = AreTouchedOn (names_of command).day command
 
 -- the rows that a command asks for that is no shipment
 pub record ArePlanned (known : Entries) (command : Command) (t : Tables) (rows : Rows) : Type 0 where

@@ -4,8 +4,8 @@ ghost use Rattle.std.specs.Prelude.{◌≡◌, ◌+◌, ◌<◌};
 ghost use Rattle.commands.specs.declared.limits.TheConstants.{ITEMS_MAX, BINS_MAX};
 ghost use Rattle.slices.specs.Bounding.{IsRaised, with_counts};
 
-use commands::Command;
 use commands::limits::{BINS_MAX, ITEMS_MAX};
+use commands::{Added, Command};
 use open_lines::OpenLines;
 use rules::Put;
 
@@ -39,16 +39,16 @@ impl Bounds {
     pub fn with_counts(&self, command: &Command, items: u64, bins: u64) -> Bounds
         ensures { result ≡ with_counts command.now items bins self.now }
     {
-        match command {
-            Command::Item(_) => Bounds {
+        match command.names().adds {
+            Some(Added::Item) => Bounds {
                 items,
                 bins: self.bins,
             },
-            Command::Bin(_) => Bounds {
+            Some(Added::Bin) => Bounds {
                 items: self.items,
                 bins,
             },
-            _ => *self,
+            None => *self,
         }
     }
 

@@ -27,14 +27,13 @@ use crate::reading::{meta_row, told_bins, told_items};
 use crate::shipments::read_shipment;
 use crate::sought::{seek_all, seek_both};
 use commands::{
-    BinRow, Command, ItemRow, LineRow, Listed, LotRow, MetaRow, OrderRow, RecallRow, ReservedRow,
-    StagedRow, StockRow,
+    Added, BinRow, Command, ItemRow, LineRow, Listed, LotRow, MetaRow, OrderRow, RecallRow,
+    ReservedRow, StagedRow, StockRow,
 };
 use open_lines::OpenLines;
 use rules::{Rows, Slice};
 use slice_parts::lots_held::lots_held;
 use slice_parts::naming::{bins_with, items_with, named_orders, order_shipped, whole_orders};
-use slice_parts::opening::day_opened;
 use sqlite::{Alter, Transaction};
 use std::alloc::Global;
 use table_words::error::TableFault;
@@ -63,7 +62,7 @@ fn touched_items<S: Alter>(
     ensures same_reference { tx.new.conn.ghost_name ≡ tx.old.conn.ghost_name }
     ensures read { IsRead (λ t gtins. AreTouched command.now t gtins.items) (state S.Store tx.old.conn.now) (state S.Store tx.new.conn.now) result }
 {
-    match day_opened(command) {
+    match command.names().day {
         Some(day) => affected_items(alloc, tx, day),
         None => taken_items(alloc, tx, command),
     }
@@ -206,16 +205,16 @@ fn read_counts<S: Alter>(
     ensures same_reference { tx.new.conn.ghost_name ≡ tx.old.conn.ghost_name }
     ensures read { IsRead (λ t counts. AreCounts bounds command.now t counts.0 counts.1) (state S.Store tx.old.conn.now) (state S.Store tx.new.conn.now) result }
 {
-    match command {
-        Command::Item(_) => {
+    match command.names().adds {
+        Some(Added::Item) => {
             let items = told_items(alloc, tx, bounds.items)?;
             Ok((items, 0))
         }
-        Command::Bin(_) => {
+        Some(Added::Bin) => {
             let bins = told_bins(alloc, tx, bounds.bins)?;
             Ok((0, bins))
         }
-        _ => Ok((0, 0)),
+        None => Ok((0, 0)),
     }
 }
 

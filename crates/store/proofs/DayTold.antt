@@ -1,11 +1,20 @@
 -- The business day after an act.
-use Rattle.std.proofs.Common.{◌≡◌, ℕ, Bool, true, false, List, ap, ◌∙◌}
+use Rattle.std.proofs.Common.{◌≡◌, ℕ, Bool, true, false, List, refl, ap, ◌∙◌}
 use Rattle.std.specs.Prelude.{ℤ, if◌then◌else◌}
+use Rattle.std.specs.Option.{unwrap_or}
+use Rattle.commands.specs.Names.{names_of}
+use Rattle.commands.specs.declared.command.Command.{Command}
+use Rattle.commands.specs.declared.command.Command.TheVariants.{OpenDay}
 use Rattle.machine.specs.Acts.{Act}
 use Rattle.machine.specs.Standing.{today, day_after_command}
 use Rattle.machine.specs.Once.{Repeated, Accepted, outcome, appended, acts_after}
 use Rattle.store.specs.Acting.{told, day_left}
 use Rattle.store.specs.declared.reply.Reply.{Reply}
+
+-- the day that a command opens is the one after it
+pub day_named : (command : Command) (day : ℤ) → unwrap_or (names_of command).day day ≡ day_after_command command day
+day_named (OpenDay opened) day = refl
+day_named _ day = refl
 
 by_repeated : (first : ℤ) (acts : List Act) (act : Act) (day : ℤ) (text : List ℕ) (repeated : Bool) → day ≡ today first acts
     → day_left day act.command repeated ≡ today first (appended act acts (if repeated then Repeated text else Accepted text))

@@ -11,10 +11,7 @@ use label::BusinessDay;
 fn day_after(day: BusinessDay, command: &Command) -> BusinessDay
     ensures { result ≡ day_after_command command.now day }
 {
-    match command {
-        Command::OpenDay(opened) => *opened,
-        _ => day,
-    }
+    command.names().day.unwrap_or(day)
 }
 
 /// The business day after a command that was accepted, or that came again and so opens no day.

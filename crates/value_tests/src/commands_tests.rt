@@ -1,7 +1,7 @@
 use commands::*;
 use std::alloc::Global;
 use std::process::Abort;
-use values::{Gtin, LineNo, Name, Qty};
+use values::{Gtin, LineNo, Lot, LotId, Name, Qty, Title};
 
 fn name(rt: &impl Abort, text: &[u8]) -> Name {
     Name::new(text).expect(rt, "a name")
@@ -153,4 +153,44 @@ fn keeps_lists(rt: HostRuntime) {
     let listed = Listed::from_vec(values);
     assert!(rt; listed.as_slice() == [7, 9].as_slice());
     assert!(rt; listed.into_vec().as_slice() == [7, 9].as_slice());
+}
+
+fn lot(rt: &impl Abort) -> LotId {
+    LotId {
+        gtin: gtin(rt),
+        lot: Lot::new(b"AB12").ok().expect(rt, "a lot"),
+    }
+}
+
+#[test]
+fn names_what_a_movement_names(rt: HostRuntime) {
+    let command = Command::Move(Movement {
+        lot: lot(&rt),
+        from: name(&rt, b"A-01"),
+        to: name(&rt, b"A-02"),
+        qty: qty(&rt, 3),
+    });
+    let names = command.names();
+    assert!(rt; names.item == Some(gtin(&rt)));
+    assert!(rt; names.lot == Some(lot(&rt)));
+    assert!(rt; names.bin == Some(name(&rt, b"A-01")));
+    assert!(rt; names.other_bin == Some(name(&rt, b"A-02")));
+    assert!(rt; names.adds.is_none() && names.order.is_none() && names.day.is_none());
+    assert!(rt; names.lines.is_empty());
+}
+
+#[test]
+fn names_what_an_order_names(rt: HostRuntime) {
+    let lines = Lines::new(lines(&rt, rt.alloc(), 2)).expect(&rt, "two lines");
+    let command = Command::Order(NewOrder {
+        order: name(&rt, b"S-1"),
+        customer: Title::new(b"Anna").expect(&rt, "a customer"),
+        lines,
+    });
+    let names = command.names();
+    assert!(rt; names.lines.len() == 2);
+    assert!(rt; names.item.is_none() && names.lot.is_none() && names.bin.is_none());
+    let named = names.order.expect(&rt, "an order");
+    assert!(rt; named.order == name(&rt, b"S-1"));
+    assert!(rt; matches!(named.step, OrderStep::Taken));
 }
