@@ -6,7 +6,8 @@ use crate::samples;
 use crate::steps::{On, Step};
 use crate::table::{Left, Table};
 use commands::LotRow;
-use goods_tables::lots::put_lot;
+use goods_tables::lots::Lots;
+use keyed_rows::table::put;
 use label::Day;
 use sqlite::{Alter, Connection, Transaction};
 use std::alloc::Global;
@@ -61,8 +62,8 @@ fn gone_lot(rt: &impl Abort, alloc: Global, number: u64) -> LotRow {
 
 fn puts_each<S: Alter>(rt: &impl Abort, alloc: Global, tx: &mut Transaction<'_, S>) {
     for number in 0..GONE {
-        let put = put_lot(tx, &gone_lot(rt, alloc, number), true);
-        assert!(rt; put.is_ok());
+        let done = put::<Lots, S>(tx, &gone_lot(rt, alloc, number), true);
+        assert!(rt; done.is_ok());
     }
 }
 

@@ -1,31 +1,34 @@
 use crate::disk::run;
 use crate::samples;
 use crate::steps::{On, Step};
-use commands::limits::{ACTS_MAX, UNITS_MAX};
+use commands::limits::{ACTS_MAX, KEY_TEXT_MAX, UNITS_MAX};
 use commands::{
-    BinKind, CardKind, CardRow, ItemRow, LineRow, LotRow, OrderRow, OrderState, RepeatRow,
-    ReservedRow, StagedRow, StockRow,
+    BinKind, ItemRow, LineRow, LotRow, OrderRow, OrderState, RepeatRow, ReservedRow, StagedRow,
+    StockRow,
 };
-use goods_tables::bins::{all_bins, bins_of, put_bin};
-use goods_tables::items::{all_items, items_of, put_item};
-use goods_tables::lots::{all_lots, lot_of, lots_of, put_lot};
-use goods_tables::meta::{meta_rows, put_meta};
-use goods_tables::recalls::{put_recall, recalls_of};
-use goods_tables::stock::{drop_stock, put_stock, stock_of, stock_of_lot};
-use history_tables::cards::{cards_of_lot, put_card};
-use history_tables::repeats::{put_repeat, repeats_of};
-use history_tables::shiplines::{put_shipline, shiplines_of_lot};
-use history_tables::shipments::{put_shipment, shipments_of};
-use order_tables::lines::{line_of, lines_of_order, put_line};
-use order_tables::orders::{open_orders, orders_of, put_order};
-use order_tables::reserved::{drop_reserved, put_reserved, reserved_of_item, reserved_of_order};
-use order_tables::staged::{all_staged, drop_staged, put_staged, staged_of_item, staged_of_order};
+use goods_tables::bins::Bins;
+use goods_tables::items::Items;
+use goods_tables::lots::Lots;
+use goods_tables::meta::{Meta, meta_rows};
+use goods_tables::recalls::Recalls;
+use goods_tables::stock::Stock;
+use history_tables::cards::Cards;
+use history_tables::repeats::Repeats;
+use history_tables::shiplines::Shiplines;
+use history_tables::shipments::Shipments;
+use keyed_rows::reading::{All, seek};
+use keyed_rows::table::{add, drop_row, put};
+use order_tables::lines::Lines;
+use order_tables::orders::{Open, Orders};
+use order_tables::reserved::Reserved;
+use order_tables::staged::Staged;
 use sqlite::{Alter, Connection, Transaction};
 use std::alloc::Global;
 use std::process::Abort;
 use table_words::error::TableFault;
 use tables::creation::create;
 use tables::opening::{Leftover, ready};
+use values::{Gtin, LotId, Name, Text};
 
 /// The rows that a table gives.
 fn listed<T>(rt: &impl Abort, rows: Result<Vec<T>, TableFault>) -> Vec<T> {
@@ -46,6 +49,11 @@ fn only<T: Copy>(rt: &impl Abort, rows: Result<Vec<T>, TableFault>) -> T {
 
 fn is_done(rt: &impl Abort, done: Result<(), TableFault>) {
     done.expect(rt, "a change of a table");
+}
+
+/// A row is not added where there is one with its key, and what was done before it stays.
+fn is_refused(rt: &impl Abort, done: Result<(), TableFault>) {
+    assert!(rt; matches!(done, Err(TableFault::Store(_))));
 }
 
 /// The connection over the tables.
@@ -95,44 +103,54 @@ pub(crate) fn creates_nothing<S: Alter>(rt: &impl Abort, conn: &mut Connection<S
 }
 
 fn puts_goods<S: Alter>(rt: &impl Abort, tx: &mut Transaction<'_, S>) {
-    is_done(rt, put_meta(tx, &samples::meta(rt, ACTS_MAX)));
-    is_done(rt, put_meta(tx, &samples::meta(rt, 14)));
-    is_done(rt, put_item(tx, &samples::item(rt)));
-    is_done(rt, put_bin(tx, &samples::bin(rt)));
-    is_done(rt, put_lot(tx, &samples::known_lot(rt), false));
-    is_done(rt, put_lot(tx, &samples::other_known_lot(rt), true));
-    is_done(rt, put_recall(tx, &samples::recall(rt)));
+    is_done(rt, put::<Meta, S>(tx, &samples::meta(rt, ACTS_MAX), false));
+    is_done(rt, put::<Meta, S>(tx, &samples::meta(rt, 14), false));
+    is_done(rt, add::<Items, S>(tx, &samples::item(rt)));
+    // The bin is there from the start.
+    is_refused(rt, add::<Bins, S>(tx, &samples::bin(rt)));
+    is_done(rt, put::<Lots, S>(tx, &samples::known_lot(rt), false));
+    is_done(rt, put::<Lots, S>(tx, &samples::other_known_lot(rt), true));
+    is_done(rt, add::<Recalls, S>(tx, &samples::recall(rt)));
 }
 
 fn puts_stock<S: Alter>(rt: &impl Abort, tx: &mut Transaction<'_, S>) {
     is_done(
         rt,
-        put_stock(tx, &samples::stock(rt, b"A-01", UNITS_MAX), true),
+        put::<Stock, S>(tx, &samples::stock(rt, b"A-01", UNITS_MAX), true),
     );
-    is_done(rt, put_stock(tx, &samples::stock(rt, b"B-02", 5), false));
+    is_done(
+        rt,
+        put::<Stock, S>(tx, &samples::stock(rt, b"B-02", 5), false),
+    );
     // There is a row with this key, although none is thought to be there.
-    is_done(rt, put_stock(tx, &samples::stock(rt, b"A-01", 4), true));
-    is_done(rt, put_stock(tx, &samples::other_stock(rt), false));
+    is_done(
+        rt,
+        put::<Stock, S>(tx, &samples::stock(rt, b"A-01", 4), true),
+    );
+    is_done(rt, put::<Stock, S>(tx, &samples::other_stock(rt), false));
 }
 
 fn puts_orders<S: Alter>(rt: &impl Abort, tx: &mut Transaction<'_, S>) {
-    is_done(rt, put_order(tx, &samples::order(rt), false));
-    is_done(rt, put_order(tx, &samples::open_order(rt), true));
-    is_done(rt, put_line(tx, &samples::full_line(rt), true));
-    is_done(rt, put_line(tx, &samples::line(rt), false));
-    is_done(rt, put_staged(tx, &samples::staged(rt), true));
-    is_done(rt, put_staged(tx, &samples::other_staged(rt), false));
-    is_done(rt, put_reserved(tx, &samples::reserved(rt), false));
-    is_done(rt, put_reserved(tx, &samples::other_reserved(rt), true));
+    is_done(rt, put::<Orders, S>(tx, &samples::order(rt), false));
+    is_done(rt, put::<Orders, S>(tx, &samples::open_order(rt), true));
+    is_done(rt, put::<Lines, S>(tx, &samples::full_line(rt), true));
+    is_done(rt, put::<Lines, S>(tx, &samples::line(rt), false));
+    is_done(rt, put::<Staged, S>(tx, &samples::staged(rt), true));
+    is_done(rt, put::<Staged, S>(tx, &samples::other_staged(rt), false));
+    is_done(rt, put::<Reserved, S>(tx, &samples::reserved(rt), false));
+    is_done(
+        rt,
+        put::<Reserved, S>(tx, &samples::other_reserved(rt), true),
+    );
 }
 
 fn puts_history<S: Alter>(rt: &impl Abort, alloc: Global, tx: &mut Transaction<'_, S>) {
-    is_done(rt, put_shipment(tx, &samples::shipment(rt, 13)));
-    is_done(rt, put_shipment(tx, &samples::shipment(rt, 14)));
-    is_done(rt, put_shipline(tx, &samples::shipline(rt)));
-    is_done(rt, put_card(tx, &samples::last_card(rt)));
-    is_done(rt, put_card(tx, &samples::card(rt)));
-    is_done(rt, put_repeat(tx, &samples::repeat(rt, alloc)));
+    is_done(rt, add::<Shipments, S>(tx, &samples::shipment(rt, 14)));
+    is_refused(rt, add::<Shipments, S>(tx, &samples::shipment(rt, 13)));
+    is_done(rt, add::<Shiplines, S>(tx, &samples::shipline(rt)));
+    is_done(rt, add::<Cards, S>(tx, &samples::card(rt)));
+    is_refused(rt, add::<Cards, S>(tx, &samples::last_card(rt)));
+    is_done(rt, add::<Repeats, S>(tx, &samples::repeat(rt, alloc)));
 }
 
 /// A table whose row is found again.
@@ -157,12 +175,10 @@ enum Sought {
     Reserved,
     ReservedOfOrder,
     Shipment,
-    Shipline,
-    Card,
     Repeat,
 }
 
-static SOUGHT: [Sought; 22] = [
+static SOUGHT: [Sought; 20] = [
     Sought::Meta,
     Sought::Item,
     Sought::Bin,
@@ -182,14 +198,12 @@ static SOUGHT: [Sought; 22] = [
     Sought::Reserved,
     Sought::ReservedOfOrder,
     Sought::Shipment,
-    Sought::Shipline,
-    Sought::Card,
     Sought::Repeat,
 ];
 
 /// How many units are ordered in a line, if there is one.
-fn ordered(rt: &impl Abort, line: Result<Option<LineRow>, TableFault>) -> Option<u64> {
-    line.expect(rt, "a line").map(|line| line.ordered)
+fn ordered(rt: &impl Abort, lines: Result<Vec<LineRow>, TableFault>) -> Option<u64> {
+    listed(rt, lines).first().map(|line| line.ordered)
 }
 
 fn is_lot(row: LotRow) -> bool {
@@ -199,10 +213,6 @@ fn is_lot(row: LotRow) -> bool {
 fn are_lots(rt: &impl Abort, rows: Result<Vec<LotRow>, TableFault>) -> bool {
     let rows = listed(rt, rows);
     rows.len() == 2 && is_lot(rows[0]) && !rows[1].held
-}
-
-fn is_card(row: CardRow) -> bool {
-    row.qty == -3 && matches!(row.kind, CardKind::WriteOff)
 }
 
 fn is_stock(rt: &impl Abort, rows: Result<Vec<StockRow>, TableFault>) -> bool {
@@ -247,12 +257,15 @@ fn finds_goods<S: Alter>(
     let gtin = samples::gtin(rt);
     match sought {
         Sought::Meta => only(rt, meta_rows(alloc, tx)).acts == 14,
-        Sought::Item => is_item(only(rt, items_of(alloc, tx, &gtin))),
+        Sought::Item => is_item(only(rt, seek::<Items, Gtin, S>(alloc, tx, &gtin))),
         Sought::Bin => {
-            let bin = only(rt, bins_of(alloc, tx, &samples::name(rt, b"A-01")));
+            let bin = only(
+                rt,
+                seek::<Bins, Name, S>(alloc, tx, &samples::name(rt, b"A-01")),
+            );
             matches!(bin.kind, BinKind::Hold)
         }
-        Sought::Recall => only(rt, recalls_of(alloc, tx, &gtin)).act == 9,
+        Sought::Recall => only(rt, seek::<Recalls, Gtin, S>(alloc, tx, &gtin)).act == 9,
         _ => finds_lots(rt, alloc, tx, sought),
     }
 }
@@ -265,11 +278,11 @@ fn finds_lots<S: Alter>(
 ) -> bool {
     let (gtin, lot) = (samples::gtin(rt), samples::lot(rt));
     match sought {
-        Sought::KnownLots => are_lots(rt, lots_of(alloc, tx, &gtin)),
-        Sought::Lot => is_lot(only(rt, lot_of(alloc, tx, &lot))),
-        Sought::NoLot => count(rt, lot_of(alloc, tx, &samples::no_lot(rt))) == 0,
-        Sought::Stock => is_stock(rt, stock_of(alloc, tx, &gtin)),
-        Sought::StockOfLot => is_stock_of_lot(rt, stock_of_lot(alloc, tx, &lot)),
+        Sought::KnownLots => are_lots(rt, seek::<Lots, Gtin, S>(alloc, tx, &gtin)),
+        Sought::Lot => is_lot(only(rt, seek::<Lots, LotId, S>(alloc, tx, &lot))),
+        Sought::NoLot => count(rt, seek::<Lots, LotId, S>(alloc, tx, &samples::no_lot(rt))) == 0,
+        Sought::Stock => is_stock(rt, seek::<Stock, Gtin, S>(alloc, tx, &gtin)),
+        Sought::StockOfLot => is_stock_of_lot(rt, seek::<Stock, LotId, S>(alloc, tx, &lot)),
         _ => finds_orders(rt, alloc, tx, sought),
     }
 }
@@ -283,15 +296,22 @@ fn finds_orders<S: Alter>(
     let (order, gtin) = (samples::name(rt, b"S-1"), samples::gtin(rt));
     match sought {
         Sought::Order => {
-            let row = only(rt, orders_of(alloc, tx, &order));
+            let row = only(rt, seek::<Orders, Name, S>(alloc, tx, &order));
             matches!(row.state, OrderState::Cancelled)
         }
-        Sought::OpenOrder => is_open(only(rt, open_orders(alloc, tx))),
-        Sought::LinesOfOrder => only(rt, lines_of_order(alloc, tx, &order)).shipped == 5,
-        Sought::Line => ordered(rt, line_of(alloc, tx, &order, &gtin)) == Some(12),
+        Sought::OpenOrder => is_open(only(rt, seek::<Orders, Open, S>(alloc, tx, &Open))),
+        Sought::LinesOfOrder => only(rt, seek::<Lines, Name, S>(alloc, tx, &order)).shipped == 5,
+        Sought::Line => ordered(
+            rt,
+            seek::<Lines, (Name, Gtin), S>(alloc, tx, &(order, gtin)),
+        ) == Some(12),
         Sought::NoLine => {
             let other = samples::name(rt, b"S-2");
-            ordered(rt, line_of(alloc, tx, &other, &gtin)).is_none()
+            ordered(
+                rt,
+                seek::<Lines, (Name, Gtin), S>(alloc, tx, &(other, gtin)),
+            )
+            .is_none()
         }
         _ => finds_units(rt, alloc, tx, sought),
     }
@@ -305,10 +325,10 @@ fn finds_units<S: Alter>(
 ) -> bool {
     let (order, gtin) = (samples::name(rt, b"S-1"), samples::gtin(rt));
     match sought {
-        Sought::Staged => is_staged(rt, staged_of_item(alloc, tx, &gtin)),
-        Sought::StagedOfOrder => only(rt, staged_of_order(alloc, tx, &order)).qty == 7,
-        Sought::Reserved => is_reserved(rt, reserved_of_item(alloc, tx, &gtin)),
-        Sought::ReservedOfOrder => only(rt, reserved_of_order(alloc, tx, &order)).qty == 8,
+        Sought::Staged => is_staged(rt, seek::<Staged, Gtin, S>(alloc, tx, &gtin)),
+        Sought::StagedOfOrder => only(rt, seek::<Staged, Name, S>(alloc, tx, &order)).qty == 7,
+        Sought::Reserved => is_reserved(rt, seek::<Reserved, Gtin, S>(alloc, tx, &gtin)),
+        Sought::ReservedOfOrder => only(rt, seek::<Reserved, Name, S>(alloc, tx, &order)).qty == 8,
         _ => finds_history(rt, alloc, tx, sought),
     }
 }
@@ -319,12 +339,12 @@ fn finds_history<S: Alter>(
     tx: &mut Transaction<'_, S>,
     sought: Sought,
 ) -> bool {
-    let lot = samples::lot(rt);
     match sought {
-        Sought::Shipment => only(rt, shipments_of(alloc, tx, 1)).act == 14,
-        Sought::Shipline => only(rt, shiplines_of_lot(alloc, tx, &lot)).qty == 5,
-        Sought::Card => is_card(only(rt, cards_of_lot(alloc, tx, &lot))),
-        Sought::Repeat => is_repeat(rt, repeats_of(alloc, tx, &samples::key(rt))),
+        Sought::Shipment => only(rt, seek::<Shipments, u64, S>(alloc, tx, &1)).act == 14,
+        Sought::Repeat => is_repeat(
+            rt,
+            seek::<Repeats, Text<KEY_TEXT_MAX>, S>(alloc, tx, &samples::key(rt)),
+        ),
         _ => false,
     }
 }
@@ -363,12 +383,12 @@ fn count_of<S: Alter>(
 ) -> usize {
     let gtin = samples::gtin(rt);
     match table {
-        Counted::Items => count(rt, all_items(alloc, tx)),
-        Counted::Bins => count(rt, all_bins(alloc, tx)),
-        Counted::Lots => count(rt, all_lots(alloc, tx)),
-        Counted::Stock => count(rt, stock_of(alloc, tx, &gtin)),
-        Counted::Staged => count(rt, all_staged(alloc, tx)),
-        Counted::Reserved => count(rt, reserved_of_item(alloc, tx, &gtin)),
+        Counted::Items => count(rt, seek::<Items, All, S>(alloc, tx, &All)),
+        Counted::Bins => count(rt, seek::<Bins, All, S>(alloc, tx, &All)),
+        Counted::Lots => count(rt, seek::<Lots, All, S>(alloc, tx, &All)),
+        Counted::Stock => count(rt, seek::<Stock, Gtin, S>(alloc, tx, &gtin)),
+        Counted::Staged => count(rt, seek::<Staged, All, S>(alloc, tx, &All)),
+        Counted::Reserved => count(rt, seek::<Reserved, Gtin, S>(alloc, tx, &gtin)),
     }
 }
 
@@ -391,10 +411,12 @@ fn finds_each<S: Alter>(rt: &impl Abort, alloc: Global, tx: &mut Transaction<'_,
 }
 
 fn drops_units<S: Alter>(rt: &impl Abort, tx: &mut Transaction<'_, S>) {
-    let (order, lot) = (samples::name(rt, b"S-1"), samples::lot(rt));
-    is_done(rt, drop_stock(tx, &lot, &samples::name(rt, b"A-01")));
-    is_done(rt, drop_staged(tx, &order, &lot));
-    is_done(rt, drop_reserved(tx, &order, &lot));
+    is_done(
+        rt,
+        drop_row::<Stock, S>(tx, &samples::stock(rt, b"A-01", 0)),
+    );
+    is_done(rt, drop_row::<Staged, S>(tx, &samples::staged(rt)));
+    is_done(rt, drop_row::<Reserved, S>(tx, &samples::reserved(rt)));
 }
 
 fn creates<S: Alter>(rt: &impl Abort, conn: &mut Connection<S>) {
@@ -436,7 +458,13 @@ pub(crate) fn drops<S: Alter>(rt: &impl Abort, alloc: Global, conn: &mut Connect
 
 static EACH_TABLE: [&[Step]; 2] = [
     &[Step::On(On::Fill)],
-    &[Step::OpenTables, Step::On(On::Find), Step::On(On::Drop)],
+    &[
+        Step::OpenTables,
+        Step::On(On::Find),
+        Step::On(On::Gives("SELECT qty FROM shiplines", "5\n")),
+        Step::On(On::Gives("SELECT kind || qty FROM cards", "WRITEOFF-3\n")),
+        Step::On(On::Drop),
+    ],
 ];
 
 #[test]

@@ -27,7 +27,8 @@ use Rattle.row_rules.specs.declared.slice.Put.{Put}
 use Rattle.row_rules.specs.declared.slice.Dropped.{Dropped}
 use Rattle.row_rules.specs.declared.slice.Change.{Change}
 use Rattle.machine.proofs.Tests.{and_both, same_text_is, is_lot_is}
-use Rattle.changes.specs.Written.{each_written, rows_written, goods_written, orders_written, history_written, change_written}
+use Rattle.keyed_rows.specs.Writes.{each_written}
+use Rattle.changes.specs.Written.{rows_written, goods_written, orders_written, history_written, change_written}
 use Rattle.changes.proofs.TableWritten.{table_put, table_written}
 
 -- ---- two rows under one key have one key

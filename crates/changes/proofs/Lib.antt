@@ -1,3 +1,2 @@
 pub mod TableWritten
 pub mod ChangeWritten
-pub mod Steps

@@ -6,7 +6,8 @@ use Rattle.commands.specs.Tables.{Tables}
 use Rattle.machine.specs.KeyedRows.{no_two}
 use Rattle.rules.specs.Slices.{unless_put, changed, added}
 use Rattle.machine.proofs.Tests.{and_both, or_none, not_true}
-use Rattle.changes.specs.Written.{each_written, rows_written}
+use Rattle.keyed_rows.specs.Writes.{each_written}
+use Rattle.changes.specs.Written.{rows_written}
 
 -- ---- one key
 

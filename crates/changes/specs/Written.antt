@@ -1,15 +1,11 @@
 -- The rows of a change, written table by table.
-use Rattle.std.specs.Prelude.{List, [], ◌∷◌}
+use Rattle.std.specs.Prelude.{List}
 use Rattle.commands.specs.Tables.{Tables}
 use Rattle.table_words.specs.Typed.{with_meta, with_item, with_bin, with_lot, with_recall, with_stock, without_stock, with_order, with_line, with_staged, without_staged, with_reserved, without_reserved, with_shipment, with_shipline, with_card}
+use Rattle.keyed_rows.specs.Writes.{each_written}
 use Rattle.row_rules.specs.declared.slice.Put.{Put}
 use Rattle.row_rules.specs.declared.slice.Dropped.{Dropped}
 use Rattle.row_rules.specs.declared.slice.Change.{Change}
-
--- each row in turn makes this of the tables
-abbrev pub each_written : {R : Type 0} → (R → Tables → Tables) → List R → Tables → Tables
-each_written write [] t = t
-each_written write (r ∷ rs) t = each_written write rs (write r t)
 
 -- rows are dropped, and others are put
 abbrev pub rows_written : {R : Type 0} → (put drop : R → Tables → Tables) → (puts drops : List R) → Tables → Tables

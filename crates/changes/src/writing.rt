@@ -5,11 +5,25 @@ ghost use Rattle.sqlite.specs.State.{HasCleanDisk, Survives, KeepsCommit};
 ghost use Rattle.sqlite.specs.Held.{state};
 ghost use Rattle.table_words.specs.Steps.{IsReady, Goes};
 ghost use Rattle.table_words.specs.declared.error.TableFault.TheVariants.{Foreign};
+ghost use Rattle.keyed_rows.specs.Writes.{Writes};
 ghost use Rattle.rules.specs.Slices.{AreOnce, applied};
 ghost use Rattle.changes.specs.Written.{names_written, units_written, lots_written, goods_written, lines_written, shares_written, orders_written, history_written, change_written};
 
-use crate::stored::{put_rows, write_rows};
-use goods_tables::meta::put_meta;
+use crate::rows::{add_rows, put_rows, write_rows};
+use goods_tables::bins::Bins;
+use goods_tables::items::Items;
+use goods_tables::lots::Lots;
+use goods_tables::meta::Meta;
+use goods_tables::recalls::Recalls;
+use goods_tables::stock::Stock;
+use history_tables::cards::Cards;
+use history_tables::shiplines::Shiplines;
+use history_tables::shipments::Shipments;
+use keyed_rows::table::put;
+use order_tables::lines::Lines;
+use order_tables::orders::Orders;
+use order_tables::reserved::Reserved;
+use order_tables::staged::Staged;
 use rules::{Change, Dropped, Put};
 use sqlite::{Alter, Transaction};
 use table_words::error::TableFault;
@@ -33,14 +47,10 @@ fn takes_orders(put: &Put, act: u64) -> bool {
 /// Items and bins.
 fn write_names<S: Alter>(tx: &mut Transaction<'_, S>, put: &Put) -> Result<(), TableFault>
     ensures same_reference { tx.new.conn.ghost_name ≡ tx.old.conn.ghost_name }
-    ensures done { HasCleanDisk (state S.Store tx.new.conn.now) → IsReady (state S.Store tx.old.conn.now).now
-        → OnOk result (Goes (names_written put.now) (state S.Store tx.old.conn.now) (state S.Store tx.new.conn.now)) }
-    ensures kept { HasCleanDisk (state S.Store tx.new.conn.now) → KeepsCommit (state S.Store tx.old.conn.now) (state S.Store tx.new.conn.now) }
-    ensures survives { Survives (state S.Store tx.old.conn.now) (state S.Store tx.new.conn.now) (λ _. ⊥) }
-    ensures never_foreign { IfErr result (λ e. e ≢ Foreign) }
+    ensures writes { Writes (names_written put.now) (state S.Store tx.old.conn.now) (state S.Store tx.new.conn.now) result }
 {
-    put_rows(tx, &put.items, true)?;
-    put_rows(tx, &put.bins, true)
+    add_rows::<Items, S>(tx, &put.items)?;
+    add_rows::<Bins, S>(tx, &put.bins)
 }
 
 /// Units of lots in bins.
@@ -51,13 +61,9 @@ fn write_stock<S: Alter>(
     are_new: bool,
 ) -> Result<(), TableFault>
     ensures same_reference { tx.new.conn.ghost_name ≡ tx.old.conn.ghost_name }
-    ensures done { HasCleanDisk (state S.Store tx.new.conn.now) → IsReady (state S.Store tx.old.conn.now).now
-        → OnOk result (Goes (units_written put.now dropped.now) (state S.Store tx.old.conn.now) (state S.Store tx.new.conn.now)) }
-    ensures kept { HasCleanDisk (state S.Store tx.new.conn.now) → KeepsCommit (state S.Store tx.old.conn.now) (state S.Store tx.new.conn.now) }
-    ensures survives { Survives (state S.Store tx.old.conn.now) (state S.Store tx.new.conn.now) (λ _. ⊥) }
-    ensures never_foreign { IfErr result (λ e. e ≢ Foreign) }
+    ensures writes { Writes (units_written put.now dropped.now) (state S.Store tx.old.conn.now) (state S.Store tx.new.conn.now) result }
 {
-    write_rows(tx, &put.stock, &dropped.stock, are_new)
+    write_rows::<Stock, S>(tx, &put.stock, &dropped.stock, are_new)
 }
 
 /// Lots, their recalls and their units in bins.
@@ -68,14 +74,10 @@ fn write_lots<S: Alter>(
     are_new: bool,
 ) -> Result<(), TableFault>
     ensures same_reference { tx.new.conn.ghost_name ≡ tx.old.conn.ghost_name }
-    ensures done { HasCleanDisk (state S.Store tx.new.conn.now) → IsReady (state S.Store tx.old.conn.now).now
-        → OnOk result (Goes (lots_written put.now dropped.now) (state S.Store tx.old.conn.now) (state S.Store tx.new.conn.now)) }
-    ensures kept { HasCleanDisk (state S.Store tx.new.conn.now) → KeepsCommit (state S.Store tx.old.conn.now) (state S.Store tx.new.conn.now) }
-    ensures survives { Survives (state S.Store tx.old.conn.now) (state S.Store tx.new.conn.now) (λ _. ⊥) }
-    ensures never_foreign { IfErr result (λ e. e ≢ Foreign) }
+    ensures writes { Writes (lots_written put.now dropped.now) (state S.Store tx.old.conn.now) (state S.Store tx.new.conn.now) result }
 {
-    put_rows(tx, &put.lots, are_new)?;
-    put_rows(tx, &put.recalls, true)?;
+    put_rows::<Lots, S>(tx, &put.lots, are_new)?;
+    add_rows::<Recalls, S>(tx, &put.recalls)?;
     write_stock(tx, put, dropped, are_new)
 }
 
@@ -87,11 +89,7 @@ fn write_goods<S: Alter>(
     act: u64,
 ) -> Result<(), TableFault>
     ensures same_reference { tx.new.conn.ghost_name ≡ tx.old.conn.ghost_name }
-    ensures done { HasCleanDisk (state S.Store tx.new.conn.now) → IsReady (state S.Store tx.old.conn.now).now
-        → OnOk result (Goes (goods_written put.now dropped.now) (state S.Store tx.old.conn.now) (state S.Store tx.new.conn.now)) }
-    ensures kept { HasCleanDisk (state S.Store tx.new.conn.now) → KeepsCommit (state S.Store tx.old.conn.now) (state S.Store tx.new.conn.now) }
-    ensures survives { Survives (state S.Store tx.old.conn.now) (state S.Store tx.new.conn.now) (λ _. ⊥) }
-    ensures never_foreign { IfErr result (λ e. e ≢ Foreign) }
+    ensures writes { Writes (goods_written put.now dropped.now) (state S.Store tx.old.conn.now) (state S.Store tx.new.conn.now) result }
 {
     write_names(tx, put)?;
     write_lots(tx, put, dropped, brings_lots(put, act))
@@ -104,14 +102,10 @@ fn write_lines<S: Alter>(
     are_new: bool,
 ) -> Result<(), TableFault>
     ensures same_reference { tx.new.conn.ghost_name ≡ tx.old.conn.ghost_name }
-    ensures done { HasCleanDisk (state S.Store tx.new.conn.now) → IsReady (state S.Store tx.old.conn.now).now
-        → OnOk result (Goes (lines_written put.now) (state S.Store tx.old.conn.now) (state S.Store tx.new.conn.now)) }
-    ensures kept { HasCleanDisk (state S.Store tx.new.conn.now) → KeepsCommit (state S.Store tx.old.conn.now) (state S.Store tx.new.conn.now) }
-    ensures survives { Survives (state S.Store tx.old.conn.now) (state S.Store tx.new.conn.now) (λ _. ⊥) }
-    ensures never_foreign { IfErr result (λ e. e ≢ Foreign) }
+    ensures writes { Writes (lines_written put.now) (state S.Store tx.old.conn.now) (state S.Store tx.new.conn.now) result }
 {
-    put_rows(tx, &put.orders, are_new)?;
-    put_rows(tx, &put.lines, are_new)
+    put_rows::<Orders, S>(tx, &put.orders, are_new)?;
+    put_rows::<Lines, S>(tx, &put.lines, are_new)
 }
 
 /// What is staged and reserved for orders.
@@ -122,14 +116,10 @@ fn write_shares<S: Alter>(
     are_new: bool,
 ) -> Result<(), TableFault>
     ensures same_reference { tx.new.conn.ghost_name ≡ tx.old.conn.ghost_name }
-    ensures done { HasCleanDisk (state S.Store tx.new.conn.now) → IsReady (state S.Store tx.old.conn.now).now
-        → OnOk result (Goes (shares_written put.now dropped.now) (state S.Store tx.old.conn.now) (state S.Store tx.new.conn.now)) }
-    ensures kept { HasCleanDisk (state S.Store tx.new.conn.now) → KeepsCommit (state S.Store tx.old.conn.now) (state S.Store tx.new.conn.now) }
-    ensures survives { Survives (state S.Store tx.old.conn.now) (state S.Store tx.new.conn.now) (λ _. ⊥) }
-    ensures never_foreign { IfErr result (λ e. e ≢ Foreign) }
+    ensures writes { Writes (shares_written put.now dropped.now) (state S.Store tx.old.conn.now) (state S.Store tx.new.conn.now) result }
 {
-    write_rows(tx, &put.staged, &dropped.staged, true)?;
-    write_rows(tx, &put.reserved, &dropped.reserved, are_new)
+    write_rows::<Staged, S>(tx, &put.staged, &dropped.staged, true)?;
+    write_rows::<Reserved, S>(tx, &put.reserved, &dropped.reserved, are_new)
 }
 
 /// Orders.
@@ -140,11 +130,7 @@ fn write_orders<S: Alter>(
     act: u64,
 ) -> Result<(), TableFault>
     ensures same_reference { tx.new.conn.ghost_name ≡ tx.old.conn.ghost_name }
-    ensures done { HasCleanDisk (state S.Store tx.new.conn.now) → IsReady (state S.Store tx.old.conn.now).now
-        → OnOk result (Goes (orders_written put.now dropped.now) (state S.Store tx.old.conn.now) (state S.Store tx.new.conn.now)) }
-    ensures kept { HasCleanDisk (state S.Store tx.new.conn.now) → KeepsCommit (state S.Store tx.old.conn.now) (state S.Store tx.new.conn.now) }
-    ensures survives { Survives (state S.Store tx.old.conn.now) (state S.Store tx.new.conn.now) (λ _. ⊥) }
-    ensures never_foreign { IfErr result (λ e. e ≢ Foreign) }
+    ensures writes { Writes (orders_written put.now dropped.now) (state S.Store tx.old.conn.now) (state S.Store tx.new.conn.now) result }
 {
     let are_new = takes_orders(put, act);
     write_lines(tx, put, are_new)?;
@@ -154,31 +140,23 @@ fn write_orders<S: Alter>(
 /// What has gone.
 fn write_history<S: Alter>(tx: &mut Transaction<'_, S>, put: &Put) -> Result<(), TableFault>
     ensures same_reference { tx.new.conn.ghost_name ≡ tx.old.conn.ghost_name }
-    ensures done { HasCleanDisk (state S.Store tx.new.conn.now) → IsReady (state S.Store tx.old.conn.now).now
-        → OnOk result (Goes (history_written put.now) (state S.Store tx.old.conn.now) (state S.Store tx.new.conn.now)) }
-    ensures kept { HasCleanDisk (state S.Store tx.new.conn.now) → KeepsCommit (state S.Store tx.old.conn.now) (state S.Store tx.new.conn.now) }
-    ensures survives { Survives (state S.Store tx.old.conn.now) (state S.Store tx.new.conn.now) (λ _. ⊥) }
-    ensures never_foreign { IfErr result (λ e. e ≢ Foreign) }
+    ensures writes { Writes (history_written put.now) (state S.Store tx.old.conn.now) (state S.Store tx.new.conn.now) result }
 {
-    put_rows(tx, &put.shipments, true)?;
-    put_rows(tx, &put.shiplines, true)?;
-    put_rows(tx, &put.cards, true)
+    add_rows::<Shipments, S>(tx, &put.shipments)?;
+    add_rows::<Shiplines, S>(tx, &put.shiplines)?;
+    add_rows::<Cards, S>(tx, &put.cards)
 }
 
 /// Every table in turn.
 fn write_tables<S: Alter>(tx: &mut Transaction<'_, S>, change: &Change) -> Result<(), TableFault>
     ensures same_reference { tx.new.conn.ghost_name ≡ tx.old.conn.ghost_name }
-    ensures done { HasCleanDisk (state S.Store tx.new.conn.now) → IsReady (state S.Store tx.old.conn.now).now
-        → OnOk result (Goes (change_written change.now) (state S.Store tx.old.conn.now) (state S.Store tx.new.conn.now)) }
-    ensures kept { HasCleanDisk (state S.Store tx.new.conn.now) → KeepsCommit (state S.Store tx.old.conn.now) (state S.Store tx.new.conn.now) }
-    ensures survives { Survives (state S.Store tx.old.conn.now) (state S.Store tx.new.conn.now) (λ _. ⊥) }
-    ensures never_foreign { IfErr result (λ e. e ≢ Foreign) }
+    ensures writes { Writes (change_written change.now) (state S.Store tx.old.conn.now) (state S.Store tx.new.conn.now) result }
 {
     let act = change.meta.acts;
     write_goods(tx, &change.put, &change.dropped, act)?;
     write_orders(tx, &change.put, &change.dropped, act)?;
     write_history(tx, &change.put)?;
-    put_meta(tx, &change.meta)
+    put::<Meta, S>(tx, &change.meta, false)
 }
 
 /// Writes a change: drops its rows and puts its rows, and the row of `meta`. Of rows under one

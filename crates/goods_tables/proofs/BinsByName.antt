@@ -41,7 +41,8 @@ use Rattle.each_row.proofs.OrderedScans.{by_column, stored, are_shown, stored_go
 use Rattle.each_row.proofs.Rising.{one_order}
 use Rattle.each_row.proofs.Over.{rest_shown, over}
 use Rattle.goods_tables.specs.BinsOfLot.{has_bin_units, bin_units_read, bin_units, IsBefore, AreByBin}
-use Rattle.goods_tables.proofs.StockLemmas.{apart}
+use Rattle.goods_tables.specs.Stock.{stock, stock_laws}
+use Rattle.keyed_rows.proofs.Laws.{apart, rows_of, typed_rows}
 
 abbrev pub bins_of_lot_text : List ℕ
 bins_of_lot_text = BINS_OF_LOT.now
@@ -91,11 +92,11 @@ module _ (lot : LotId) where
   distinct : (db : Database) (ready : IsReady db) → AreTyped db.trees → (x y : Row) → Has (db.trees stock_tree) x → Has (db.trees stock_tree) y → passes params tests x ≡ true → passes params tests y ≡ true
       → value_cmp (column x 3) (column y 3) ≡ Equal → value_cmp (rowid x) (rowid y) ≡ Equal
   distinct db ready are x y hx hy px py tie =
-      let tx = all_has (λ r. is_stock r ≡ true) (db.trees stock_tree) x are.stock hx in
-      let ty = all_has (λ r. is_stock r ≡ true) (db.trees stock_tree) y are.stock hy in
+      let tx = all_has (λ r. is_stock r ≡ true) (db.trees stock_tree) x (typed_rows stock stock_laws db.trees are) hx in
+      let ty = all_has (λ r. is_stock r ≡ true) (db.trees stock_tree) y (typed_rows stock stock_laws db.trees are) hy in
       let lots : (stock_in x).lot ≡ (stock_in y).lot = sym (same_lots lot (stock_in x).lot (sym (at_lot x tx) ∙ px)) ∙ same_lots lot (stock_in y).lot (sym (at_lot y ty) ∙ py) in
       let bins = word_ties is_name (column x 3) (column y 3) (bin_name x tx) (bin_name y ty) tie in
-      apart db ready x y hx hy tx ty
+      apart stock stock_laws db ready x y hx hy tx ty
       (itself_both _ _ (ap (same_lot_id (stock_in x).lot) (sym lots) ∙ itself_lot (stock_in x).lot) (ap (bytes_eq (stock_in x).bin) (sym bins) ∙ itself_bytes (stock_in x).bin))
 
   -- what is known of all that the query shows
@@ -110,13 +111,13 @@ module _ (lot : LotId) where
   listed old ready are new rows h =
       let read = reads_as bins_of_lot_text params old new (schema_with ready.has.rest) ready.has.is _ (bins_of_lot_is ready.has.rest).0 (bins_of_lot_plain ready.has.rest) (bins_of_lot_is ready.has.rest).1 rows h in
       let a = read.answer Null in
-      let up = ready.rows.1.1.1.1.1.0.0 in
+      let up = (rows_of stock stock_laws old.now ready).0 in
       let apart_rows = distinct old.now ready are in
       let all = stored old.now.trees params stock_tree 3 tests shown rows a up apart_rows in
       let is = are_shown old.now.trees params stock_tree 3 tests shown rows a up apart_rows in
       let rises = λ (x y : Row) (tx : is_stock x ≡ true) (ty : is_stock y ≡ true) (low : value_cmp (column x 3) (column y 3) ≡ Less). word_rises is_name (column x 3) (column y 3) (bin_name x tx) (bin_name y ty) low in
-      let good = stored_good old.now.trees params stock_tree 3 tests shown rows a up apart_rows is_stock stock_in bytes_eq same_bytes itself_bytes IsBefore never chain (λ (s : StockRow). s.bin) (λ s. same_lot_id lot s.lot) at_lot rises are.stock in
-      let ordered = in_key_order old.now.trees params stock_tree 3 tests shown rows a up apart_rows is_stock stock_in bytes_eq same_bytes itself_bytes IsBefore never chain (λ (s : StockRow). s.bin) (λ s. same_lot_id lot s.lot) at_lot rises are.stock in (
+      let good = stored_good old.now.trees params stock_tree 3 tests shown rows a up apart_rows is_stock stock_in bytes_eq same_bytes itself_bytes IsBefore never chain (λ (s : StockRow). s.bin) (λ s. same_lot_id lot s.lot) at_lot rises (typed_rows stock stock_laws old.now.trees are) in
+      let ordered = in_key_order old.now.trees params stock_tree 3 tests shown rows a up apart_rows is_stock stock_in bytes_eq same_bytes itself_bytes IsBefore never chain (λ (s : StockRow). s.bin) (λ s. same_lot_id lot s.lot) at_lot rises (typed_rows stock stock_laws old.now.trees are) in (
         (map stock_in all, ordered, ap (map bin_units_read) is ∙ map-map bin_units_read (show params shown) all ∙ sym (map-map bin_units stock_in all)),
         subst (AllByRecursion (λ v. has_bin_units v ≡ true)) (sym is) (all_map (λ v. has_bin_units v ≡ true) (show params shown) all (all_weaker _ (λ r. has_bin_units (show params shown r) ≡ true) has_shown all good)),
       )

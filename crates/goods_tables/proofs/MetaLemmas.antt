@@ -1,4 +1,4 @@
--- What the statements on `meta` mean, and what they make of the tables.
+-- What the query of `meta` means, and what it answers.
 use Rattle.std.proofs.Common.{◌≡◌, ◌≢◌, ◌≤◌, ℕ, ℤ, Bool, true, false, not, ◌&&◌, ◌||◌, cond, List, [], ◌∷◌, codes, map, filter, find, length, pos, Ok, Err, Some, None, inl, inr, IsTrue, refl, sym, ap, ap₂, subst, ◌∙◌, bytes_eq, Equal}
 use Rattle.std.specs.Prelude.{◌↔◌, nat_eq, if◌then◌else◌, Option}
 use Rattle.std.specs.List.{AllByRecursion}
@@ -41,7 +41,7 @@ use Rattle.table_words.proofs.ListLemmas.{over, IsRows-filter, IsRows-over, IsRo
 use Rattle.table_words.proofs.ScanLemmas.{passes, show, in_order, scanned}
 use Rattle.table_words.proofs.WriteLemmas.{deletes, inserts, inserts_at, updates, only_shown, cast_number, cast_null}
 use Rattle.table_words.proofs.CellLemmas.{and_true, and_assoc, same_word, same_count, same_the_number, equals_text, equals_number, same_number, itself_number, same_lots, itself_lot, id_is, typed-filter, both_typed, shown_typed, flag_back, bin_kind_back, order_state_back, card_kind_back}
-use Rattle.table_words.proofs.StepLemmas.{ready_after, sets_off_nothing, goes}
+use Rattle.table_words.proofs.StepLemmas.{ready_after, sets_off_nothing, goes, typed_at, typed_put}
 use Rattle.table_words.proofs.KeyLemmas.{AtMostOne, one_by_key, one_by_rowid, few, none_had, IsSame, same_bytes, same_both, itself_bytes, itself_both, meets, found_without, found_put, found_over, are_rows}
 
 abbrev pub tests : List Term
@@ -63,91 +63,6 @@ one_key = same_number
 one_row : (db : Database) → IsReady db → (params : Row) → AtMostOne (passes params tests) (db.trees meta_tree)
 one_row db ready params = one_by_rowid (db.trees meta_tree) params
 
--- ---- UPDATE
-
-abbrev pub change_text : List ℕ
-change_text = CHANGE_META.now
-
-abbrev change_terms : List Term
-change_terms = lit Null ∷ col 0 1 ∷ col 0 2 ∷ col 0 3 ∷ col 0 4 ∷ col 0 5 ∷ []
-
-abbrev pub values : MetaRow → Row
-values s = Null ∷ Text (codes "LOTSTOCK") ∷ Int (pos SCHEMA_VERSION) ∷ Int s.day ∷ Int (pos s.acts) ∷ Int (pos s.shipments) ∷ []
-
-change_is : (rest : Schema) → command_of (understood (schema_with rest) change_text) ≡ Update 0 (alone (scan meta_tree tests (col 1 0 ∷ col 1 0 ∷ change_terms) []))
-unfolding understood everything
-change_is rest = refl
-
-change_plain : (rest : Schema) → IsPlain (understood (schema_with rest) change_text)
-unfolding understood everything
-change_plain rest = (refl, refl)
-
-fits : (s : MetaRow) → cast_all (meta_table meta_tree).columns (values s) ≡ values s
-fits s = rw (cast_number (pos SCHEMA_VERSION), cast_number s.day, cast_number (pos s.acts), cast_number (pos s.shipments), cast_null) refl
-
--- what is written reads as the row
-back : (s : MetaRow) → meta_in (Int (pos 1) ∷ values s) ≡ s
-back s = refl
-
--- whether there was a row with the key
-pub changes : (old new : State) (s : MetaRow) (count : ℕ) → is_meta (Int (pos 1) ∷ values s) ≡ true → IsReady old.now → IsTrue old.in_transaction → ExecutesInside 0 change_text (meta_cells s) old new (Ok count)
-    → (count ≢ 0 → Goes (with_meta s) old new) × (count ≡ 0 → Goes (λ t. t) old new)
-changes old new s count sound ready inside h =
-    let params = meta_cells s in
-    let p = passes params tests in
-    let rows = old.now.trees meta_tree in
-    let kept = ready.rows.0 in
-    let after = over p (values s) rows in
-    let w = runs_as change_text params old new (schema_with ready.has.rest) ready.has.is _ (change_is ready.has.rest) (change_plain ready.has.rest) count h.0 in
-    let u = updates (schema_with ready.has.rest) 0 meta_tree _ _ _ _ _ _ refl (λ olds news. sets_off_nothing ready.has.rest meta_tree olds news ready.has.apart) old new tests change_terms _ params (values s) count ready.has.is kept (λ r. refl) (fits s) (few p rows kept.0 (one_row old.now ready params)) w in
-    let mode = h.1.mode ∙ sym inside in
-    let typed_after : AreTyped old.now.trees → AreTyped (with_tree old.now.trees meta_tree after) = λ are. record { meta = all_over (λ r. is_meta r ≡ true) p (values s) rows (λ r h e. itself_both (is_the_number 1 (column r 0)) (is_the_text (codes "LOTSTOCK") (column (rowid r ∷ values s) 2) && (is_the_number SCHEMA_VERSION (column (rowid r ∷ values s) 3) && (is_signed is_business_day (column (rowid r ∷ values s) 4) && (is_number ACTS_MAX (column (rowid r ∷ values s) 5) && is_number ACTS_MAX (column (rowid r ∷ values s) 6))))) (and_parts (is_the_number 1 (column r 0)) (is_the_text (codes "LOTSTOCK") (column r 2) && (is_the_number SCHEMA_VERSION (column r 3) && (is_signed is_business_day (column r 4) && (is_number ACTS_MAX (column r 5) && is_number ACTS_MAX (column r 6))))) h).0 (and_parts (is_the_number 1 (column (Int (pos 1) ∷ values s) 0)) (is_the_text (codes "LOTSTOCK") (column (rowid r ∷ values s) 2) && (is_the_number SCHEMA_VERSION (column (rowid r ∷ values s) 3) && (is_signed is_business_day (column (rowid r ∷ values s) 4) && (is_number ACTS_MAX (column (rowid r ∷ values s) 5) && is_number ACTS_MAX (column (rowid r ∷ values s) 6))))) sound).1) are.meta; items = are.items; bins = are.bins; lots = are.lots; recalls = are.recalls; stock = are.stock; orders = are.orders; lines = are.lines; staged = are.staged; reserved = are.reserved; shipments = are.shipments; shiplines = are.shiplines; cards = are.cards; repeats = are.repeats } in (
-      λ some. goes old new meta_tree after _ ready (IsRows-over p (values s) rows kept) u.0 mode
-          (λ i. let t : Tables = record (tables_in old.now.trees) { meta = found_over is_meta meta_in p (λ x. same_meta 1 (meta_key x)) (λ x. same_meta 1 (meta_key x)) (same_meta 1 1) (meets same_meta meta_key one_key 1 1) (at_key params 1 refl) s refl (values s) rows kept.1 (λ r int e. let same_id = id_is (rowid r) (pos 1) int (and_parts _ _ e).0 in (subst (λ v. is_meta (v ∷ values s) ≡ true) (sym same_id) sound, ap (λ v. meta_in (v ∷ values s)) same_id ∙ back s)) (any_counted p rows (λ none. some (u.1 ∙ none))) i } in t)
-          typed_after,
-      λ none. goes old new meta_tree after _ ready (IsRows-over p (values s) rows kept) u.0 mode
-          (ap (λ l. tables_in (with_tree old.now.trees meta_tree l)) (none_over p (values s) rows (none_counted_pass p rows (sym u.1 ∙ none))))
-          typed_after,
-    )
-
--- ---- INSERT
-
-abbrev pub add_text : List ℕ
-add_text = ADD_META.now
-
-abbrev add_terms : List Term
-add_terms = col 0 0 ∷ lit Null ∷ col 0 1 ∷ col 0 2 ∷ col 0 3 ∷ col 0 4 ∷ col 0 5 ∷ []
-
-add_is : (rest : Schema) → command_of (understood (schema_with rest) add_text) ≡ Insert 0 (Values add_terms 7)
-unfolding understood everything
-add_is rest = refl
-
-add_plain : (rest : Schema) → IsPlain (understood (schema_with rest) add_text)
-unfolding understood everything
-add_plain rest = (refl, refl)
-
-itself : (k : MetaKey) → same_meta k k ≡ true
-itself k = itself_number k
-
--- it is refused where the key is there
-pub adds : (old new : State) (s : MetaRow) (count : ℕ) → is_meta (Int (pos 1) ∷ values s) ≡ true → IsReady old.now → IsTrue old.in_transaction → ExecutesInside 0 add_text (meta_cells s) old new (Ok count) → Goes (with_meta s) old new
-adds old new s count sound ready inside h =
-    let params = meta_cells s in
-    let p = passes params tests in
-    let rows = old.now.trees meta_tree in
-    let kept = ready.rows.0 in
-    let row : Row = Int (pos 1) ∷ values s in
-    let after = put_row row rows in
-    let w = runs_as add_text params old new (schema_with ready.has.rest) ready.has.is _ (add_is ready.has.rest) (add_plain ready.has.rest) count h.0 in
-    let u = inserts_at (schema_with ready.has.rest) 0 meta_tree _ _ _ _ _ _ refl (λ olds news. sets_off_nothing ready.has.rest meta_tree olds news ready.has.apart) old new (pos 1) add_terms 7 _ params (values s) count ready.has.is refl (fits s) w in
-    let good = IsRows-put_row row rows refl kept in
-    let ready_now = ready_after old.now new.now meta_tree after ready good u.0 in
-    let there : p row ≡ true = at_key params 1 refl row sound ∙ itself 1 in
-    let none = none_had p row rows u.1 there (subst (AtMostOne p) u.0.trees_are.0 (one_row new.now ready_now params)) (stays_put row rows u.1) in
-    goes old new meta_tree after _ ready good u.0 (h.1.mode ∙ sym inside)
-    (λ i. let t : Tables = record (tables_in old.now.trees) { meta = found_put is_meta meta_in p (λ x. same_meta 1 (meta_key x)) (λ x. same_meta 1 (meta_key x)) (same_meta 1 1) (meets same_meta meta_key one_key 1 1) (at_key params 1 refl) s refl row rows sound (back s) u.1 none i } in t)
-    (λ are. record { meta = all_put_row (λ r. is_meta r ≡ true) row rows sound are.meta; items = are.items; bins = are.bins; lots = are.lots; recalls = are.recalls; stock = are.stock; orders = are.orders; lines = are.lines; staged = are.staged; reserved = are.reserved; shipments = are.shipments; shiplines = are.shiplines; cards = are.cards; repeats = are.repeats })
-
 -- ---- SELECT
 
 abbrev shown : List Term
@@ -158,7 +73,7 @@ apart : (db : Database) (ready : IsReady db) (a b : Row) → Has (db.trees meta_
 apart db ready a b ha hb ta tb e =
     let s = meta_in a in
     let params = key_cells 1 in
-    one_row db ready params b a hb ha (at_key params 1 refl b tb ∙ e) (at_key params 1 refl a ta ∙ itself 1)
+    one_row db ready params b a hb ha (at_key params 1 refl b tb ∙ e) (at_key params 1 refl a ta ∙ itself_number 1)
 
 abbrev pub meta_rows_text : List ℕ
 meta_rows_text = META_ROWS.now

@@ -1,1 +1,7 @@
+pub mod Meta
+pub mod Items
+pub mod Bins
+pub mod Lots
+pub mod Recalls
+pub mod Stock
 pub mod BinsOfLot

@@ -17,13 +17,13 @@ use sqlite::{Alter, Connection, Row};
 use std::alloc::Global;
 use table_words::columns::{name_at, number_at, of_gtin, of_lot};
 use table_words::error::TableFault;
-use table_words::reading::Table;
+use table_words::reading::Readable;
 use values::LotId;
 
 /// How the columns of the bin and its units are read.
 struct BinsOfLot;
 
-impl Table for BinsOfLot {
+impl Readable for BinsOfLot {
     ghost use Rattle.goods_tables.specs.BinsOfLot.{has_bin_units, bin_units_read};
 
     type Record = BinUnits;

@@ -1,74 +1,66 @@
 //! The table `meta`.
 
-ghost use Rattle.std.specs.Prelude.{◌≡◌, ◌≢◌, ◌≤◌, ◌<◌, true, find, OnOk, OnErr, IfOk, IfErr, bytes_eq};
+ghost use Rattle.std.specs.Prelude.{◌≡◌, ◌≢◌, ◌<◌, true, find, OnOk, OnErr, IfOk, IfErr};
 ghost use Rattle.std.specs.List.{AllByRecursion};
 ghost use Rattle.sqlite.specs.State.{HasCleanDisk, Survives, KeepsCommit, IsUnchanged};
 ghost use Rattle.sqlite.specs.Held.{state};
-ghost use Rattle.sqlite.specs.Values.{bound};
-ghost use Rattle.table_words.specs.Found.{AreRows};
 ghost use Rattle.table_words.specs.Steps.{IsReady, Goes, ChangesNone, IsTooBig};
-ghost use Rattle.table_words.specs.Typed.{tables_in, same_lot_id, with_meta, is_meta, has_meta, meta_cells, meta_key, same_meta, MetaKey, meta_rows_rows};
+ghost use Rattle.table_words.specs.Typed.{tables_in, with_meta, is_meta, meta_rows_rows};
 ghost use Rattle.table_words.specs.declared.error.TableFault.TheVariants.{Foreign};
 
 use crate::texts::{ADD_META, CHANGE_META, META_ROWS};
 use commands::MetaRow;
 use commands::limits::{ACTS_MAX, SCHEMA_VERSION};
-use sqlite::types::ValueRef;
+use keyed_rows::reading::Whole;
+use keyed_rows::running::count;
+use keyed_rows::table::{Changing, Table, put};
 use sqlite::{Alter, Row, Transaction};
 use std::alloc::Global;
-use table_words::calls::put;
 use table_words::columns::{
     business_day_at, expect_mark, expect_number, number_at, of_business_day, of_mark, of_number,
 };
 use table_words::error::TableFault;
-use table_words::reading::{Table, query};
+use table_words::reading::query;
 
-/// The values of the columns, in their order.
-fn cells(row: &MetaRow) -> [ValueRef<'_>; 6]
-    requires fits_acts { row.now.acts ≤ ACTS_MAX }
-    requires fits_shipments { row.now.shipments ≤ ACTS_MAX }
-    ensures value { bound result ≡ meta_cells row.now }
-    ensures rule { has_meta (meta_cells row.now) ≡ true }
-{
-    [
-        of_number(1),
-        of_mark(),
-        of_number(SCHEMA_VERSION),
-        of_business_day(row.day),
-        of_number(row.acts),
-        of_number(row.shipments),
-    ]
-}
-
-/// Puts the row, in place of one with its key. A number above its limit is refused as too big.
-pub fn put_meta<S: Alter>(tx: &mut Transaction<'_, S>, row: &MetaRow) -> Result<(), TableFault>
-    ensures same_reference { tx.new.conn.ghost_name ≡ tx.old.conn.ghost_name }
-    ensures done { HasCleanDisk (state S.Store tx.new.conn.now) → IsReady (state S.Store tx.old.conn.now).now
-        → OnOk result (Goes (with_meta row.now) (state S.Store tx.old.conn.now) (state S.Store tx.new.conn.now)) }
-    ensures refused { HasCleanDisk (state S.Store tx.new.conn.now) → IsReady (state S.Store tx.old.conn.now).now → OnErr result (ChangesNone (state S.Store tx.old.conn.now) (state S.Store tx.new.conn.now)) }
-    ensures kept { HasCleanDisk (state S.Store tx.new.conn.now) → KeepsCommit (state S.Store tx.old.conn.now) (state S.Store tx.new.conn.now) }
-    ensures survives { Survives (state S.Store tx.old.conn.now) (state S.Store tx.new.conn.now) (λ _. ⊥) }
-    ensures never_foreign { IfErr result (λ e. e ≢ Foreign) }
-    ensures size_acts { ACTS_MAX < row.now.acts → IsTooBig result tx.old.conn.now tx.new.conn.now }
-    ensures size_shipments { ACTS_MAX < row.now.shipments → IsTooBig result tx.old.conn.now tx.new.conn.now }
-{
-    if row.acts > ACTS_MAX || row.shipments > ACTS_MAX {
-        return Err(TableFault::too_big());
-    }
-    put(tx, CHANGE_META, ADD_META, &cells(row))
-}
-
-/// How the rows of the table are read.
-struct Meta;
+/// The table.
+pub struct Meta;
 
 impl Table for Meta {
-    ghost use Rattle.table_words.specs.Typed.{has_meta, meta_read};
+    ghost use Rattle.goods_tables.specs.Meta.{meta, fits_meta, meta_laws};
 
-    type Record = MetaRow;
+    type Row = MetaRow;
 
-    ghost has = { has_meta };
+    type Key = ();
 
-    ghost reads = { meta_read };
+    ghost table = { meta };
+
+    ghost fits = { fits_meta };
+
+    ghost laws = { meta_laws };
+
+    fn add_text() -> &'static str {
+        ADD_META
+    }
+
+    fn fits(row: &MetaRow) -> bool {
+        row.acts <= ACTS_MAX && row.shipments <= ACTS_MAX
+    }
+
+    fn run<S: Alter>(
+        tx: &mut Transaction<'_, S>,
+        sql: &str,
+        row: &MetaRow,
+    ) -> Result<usize, TableFault> {
+        let cells = [
+            of_number(1),
+            of_mark(),
+            of_number(SCHEMA_VERSION),
+            of_business_day(row.day),
+            of_number(row.acts),
+            of_number(row.shipments),
+        ];
+        count(tx, sql, &cells)
+    }
 
     fn read(_: Global, row: &Row) -> Result<MetaRow, TableFault> {
         match (
@@ -89,6 +81,33 @@ impl Table for Meta {
     }
 }
 
+impl Changing for Meta {
+    ghost use Rattle.goods_tables.specs.Meta.{change_meta, change_meta_laws};
+
+    ghost change = { change_meta };
+
+    ghost change_laws = { change_meta_laws };
+
+    fn change_text() -> &'static str {
+        CHANGE_META
+    }
+}
+
+/// Puts the row, in place of one with its key. A number above its limit is refused as too big.
+pub fn put_meta<S: Alter>(tx: &mut Transaction<'_, S>, row: &MetaRow) -> Result<(), TableFault>
+    ensures same_reference { tx.new.conn.ghost_name ≡ tx.old.conn.ghost_name }
+    ensures done { HasCleanDisk (state S.Store tx.new.conn.now) → IsReady (state S.Store tx.old.conn.now).now
+        → OnOk result (Goes (with_meta row.now) (state S.Store tx.old.conn.now) (state S.Store tx.new.conn.now)) }
+    ensures refused { HasCleanDisk (state S.Store tx.new.conn.now) → IsReady (state S.Store tx.old.conn.now).now → OnErr result (ChangesNone (state S.Store tx.old.conn.now) (state S.Store tx.new.conn.now)) }
+    ensures kept { HasCleanDisk (state S.Store tx.new.conn.now) → KeepsCommit (state S.Store tx.old.conn.now) (state S.Store tx.new.conn.now) }
+    ensures survives { Survives (state S.Store tx.old.conn.now) (state S.Store tx.new.conn.now) (λ _. ⊥) }
+    ensures never_foreign { IfErr result (λ e. e ≢ Foreign) }
+    ensures size_acts { ACTS_MAX < row.now.acts → IsTooBig result tx.old.conn.now tx.new.conn.now }
+    ensures size_shipments { ACTS_MAX < row.now.shipments → IsTooBig result tx.old.conn.now tx.new.conn.now }
+{
+    put::<Meta, S>(tx, row, false)
+}
+
 /// The rows of `meta`, which is one at most, the oldest first; `Foreign` where one of them has a value that no row has.
 pub fn meta_rows<S: Alter>(
     alloc: Global,
@@ -106,5 +125,5 @@ pub fn meta_rows<S: Alter>(
     ensures kept { HasCleanDisk (state S.Store tx.new.conn.now) → IsReady (state S.Store tx.old.conn.now).now → KeepsCommit (state S.Store tx.old.conn.now) (state S.Store tx.new.conn.now) }
     ensures survives { Survives (state S.Store tx.old.conn.now) (state S.Store tx.new.conn.now) (λ _. ⊥) }
 {
-    query::<Meta, S>(alloc, tx, META_ROWS, &[of_number(1)])
+    query::<Whole<Meta>, S>(alloc, tx, META_ROWS, &[of_number(1)])
 }

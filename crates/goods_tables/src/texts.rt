@@ -1,14 +1,10 @@
 //! The texts of the statements, one for each call on a table.
 
-pub(crate) const CHANGE_BIN: &str = "UPDATE bins SET name = ?1, kind = ?2 WHERE name = ?1";
-
 pub(crate) const ADD_BIN: &str = "INSERT INTO bins (name, kind) VALUES (?1, ?2)";
 
 pub(crate) const BINS_OF: &str = "SELECT name, kind FROM bins WHERE name = ?1 ORDER BY rowid";
 
 pub(crate) const ALL_BINS: &str = "SELECT name, kind FROM bins ORDER BY rowid";
-
-pub(crate) const CHANGE_ITEM: &str = "UPDATE items SET gtin = ?1, name = ?2 WHERE gtin = ?1";
 
 pub(crate) const ADD_ITEM: &str = "INSERT INTO items (gtin, name) VALUES (?1, ?2)";
 
@@ -39,9 +35,6 @@ pub(crate) const ADD_META: &str =
 pub(crate) const META_ROWS: &str =
     "SELECT id, mark, version, day, acts, shipments FROM meta WHERE id = ?1";
 
-pub(crate) const CHANGE_RECALL: &str =
-    "UPDATE recalls SET gtin = ?1, lot = ?2, act = ?3 WHERE gtin = ?1 AND lot = ?2";
-
 pub(crate) const ADD_RECALL: &str = "INSERT INTO recalls (gtin, lot, act) VALUES (?1, ?2, ?3)";
 
 pub(crate) const RECALLS_OF: &str =
@@ -65,12 +58,10 @@ pub(crate) const BINS_OF_LOT: &str =
     "SELECT bin, qty FROM stock WHERE gtin = ?1 AND lot = ?2 ORDER BY bin";
 
 /// All of them. A connection keeps the plans of its last 64 texts, so the tables together have at most 60.
-pub const TEXTS: [&str; 25] = [
-    CHANGE_BIN,
+pub const TEXTS: [&str; 22] = [
     ADD_BIN,
     BINS_OF,
     ALL_BINS,
-    CHANGE_ITEM,
     ADD_ITEM,
     ITEMS_OF,
     ALL_ITEMS,
@@ -82,7 +73,6 @@ pub const TEXTS: [&str; 25] = [
     CHANGE_META,
     ADD_META,
     META_ROWS,
-    CHANGE_RECALL,
     ADD_RECALL,
     RECALLS_OF,
     DROP_STOCK,

@@ -6,6 +6,7 @@ use Rattle.std.proofs.lemmas.Bool.{and_parts}
 use Rattle.sqlite.specs.Schema.{Schema}
 use Rattle.sqlite.specs.declared.types.Value.TheVariants.{Null, Text}
 use Rattle.sqlite.specs.Order.{Row, column}
+use Rattle.sqlite.specs.Term.{Term}
 use Rattle.sqlite.specs.Command.TheVariants.{Select}
 use Rattle.sqlite.specs.Effect.{Database}
 use Rattle.sqlite_tied.specs.Compute.{everything}
@@ -17,6 +18,7 @@ use Rattle.sqlite_rules.specs.Lists.{Has}
 use Rattle.sqlite_rules.proofs.ListLemmas.{all_has}
 use Rattle.sqlite_value.specs.Order.{value_cmp}
 use Rattle.sqlite_keyed.proofs.ListLemmas.{map-map, all_map, all_weaker}
+use Rattle.values.specs.Values.{is_gtin, is_lot_text}
 use Rattle.values.specs.declared.lot.LotId.{LotId}
 use Rattle.commands.specs.declared.limits.TheConstants.{ACTS_MAX}
 use Rattle.commands.specs.declared.rows.CardRow.{CardRow}
@@ -25,9 +27,9 @@ use Rattle.table_words.specs.Schema.{schema_with, cards_tree}
 use Rattle.table_words.specs.Typed.{same_lot_id, same_card, is_card, card_in, has_card, card_read, card_key, tables_in, AreTyped}
 use Rattle.table_words.specs.Cells.{is_number}
 use Rattle.table_words.specs.Steps.{IsReady}
-use Rattle.table_words.proofs.Plans.{scan, alone}
+use Rattle.table_words.proofs.Plans.{same, scan, alone}
 use Rattle.table_words.proofs.ScanLemmas.{passes, show}
-use Rattle.table_words.proofs.CellLemmas.{same_lots, itself_lot, same_number, itself_number}
+use Rattle.table_words.proofs.CellLemmas.{and_true, same_word, same_lots, itself_lot, same_number, itself_number}
 use Rattle.table_words.proofs.KeyLemmas.{itself_both}
 use Rattle.each_row.specs.declared.fault.EachFault.{EachFault}
 use Rattle.each_row.specs.Handed.{Hands, HandsOver}
@@ -36,12 +38,19 @@ use Rattle.each_row.proofs.OrderedScans.{by_column, stored, are_shown, stored_go
 use Rattle.each_row.proofs.Rising.{one_order}
 use Rattle.each_row.proofs.Over.{rest_shown, over}
 use Rattle.history_tables.specs.ByKey.{AreCardLines}
-use Rattle.history_tables.proofs.CardLemmas.{apart, shown, cards_of_lot_tests, cards_of_lot_at}
+use Rattle.keyed_rows.proofs.Laws.{apart, rows_of, typed_rows}
+use Rattle.history_tables.specs.Cards.{cards, cards_laws}
 
 abbrev pub cards_by_act_text : List ℕ
 cards_by_act_text = CARDS_BY_ACT.now
 
-cards_by_act_is : (rest : Schema) → (command_of (understood (schema_with rest) cards_by_act_text) ≡ Select (alone (scan cards_tree cards_of_lot_tests shown (by_column 3))) (codes "gtin" ∷ codes "lot" ∷ codes "act" ∷ codes "day" ∷ codes "kind" ∷ codes "note" ∷ codes "qty" ∷ codes "rest" ∷ [])) × (reads_listing (schema_with rest) cards_by_act_text ≡ false)
+abbrev tests : List Term
+tests = same 1 0 ∷ same 2 1 ∷ []
+
+abbrev shown : List Term
+shown = cards.shown
+
+cards_by_act_is : (rest : Schema) → (command_of (understood (schema_with rest) cards_by_act_text) ≡ Select (alone (scan cards_tree tests shown (by_column 3))) (codes "gtin" ∷ codes "lot" ∷ codes "act" ∷ codes "day" ∷ codes "kind" ∷ codes "note" ∷ codes "qty" ∷ codes "rest" ∷ [])) × (reads_listing (schema_with rest) cards_by_act_text ≡ false)
 unfolding understood everything
 cards_by_act_is rest = (refl, refl)
 
@@ -57,16 +66,21 @@ module _ (lot : LotId) where
   abbrev params : Row
   params = Text lot.gtin ∷ Text lot.lot ∷ []
 
+  at_lot : (r : Row) → is_card r ≡ true → passes params tests r ≡ same_lot_id lot (card_in r).lot
+  at_lot r h =
+      let p0 = and_parts _ _ h in
+      ap₂ ◌&&◌ (same_word is_gtin (column r 1) (Text lot.gtin) lot.gtin p0.0 refl) (and_true _ ∙ same_word is_lot_text (column r 2) (Text lot.lot) lot.lot (and_parts _ _ p0.1).0 refl)
+
   -- two rows of the lot with one act are one
-  distinct : (db : Database) (ready : IsReady db) → AreTyped db.trees → (x y : Row) → Has (db.trees cards_tree) x → Has (db.trees cards_tree) y → passes params cards_of_lot_tests x ≡ true → passes params cards_of_lot_tests y ≡ true
+  distinct : (db : Database) (ready : IsReady db) → AreTyped db.trees → (x y : Row) → Has (db.trees cards_tree) x → Has (db.trees cards_tree) y → passes params tests x ≡ true → passes params tests y ≡ true
       → value_cmp (column x 3) (column y 3) ≡ Equal → value_cmp (rowid x) (rowid y) ≡ Equal
   distinct db ready are x y hx hy px py tie =
-      let tx = all_has (λ r. is_card r ≡ true) (db.trees cards_tree) x are.cards hx in
-      let ty = all_has (λ r. is_card r ≡ true) (db.trees cards_tree) y are.cards hy in
+      let tx = all_has (λ r. is_card r ≡ true) (db.trees cards_tree) x (typed_rows cards cards_laws db.trees are) hx in
+      let ty = all_has (λ r. is_card r ≡ true) (db.trees cards_tree) y (typed_rows cards cards_laws db.trees are) hy in
       let lots : (card_in x).lot ≡ (card_in y).lot =
-      sym (same_lots lot (card_in x).lot (sym (cards_of_lot_at lot x tx) ∙ px)) ∙ same_lots lot (card_in y).lot (sym (cards_of_lot_at lot y ty) ∙ py) in
+      sym (same_lots lot (card_in x).lot (sym (at_lot x tx) ∙ px)) ∙ same_lots lot (card_in y).lot (sym (at_lot y ty) ∙ py) in
       let acts = number_ties ACTS_MAX (column x 3) (column y 3) (act_number x tx) (act_number y ty) tie in
-      apart db ready x y hx hy tx ty
+      apart cards cards_laws db ready x y hx hy tx ty
       (itself_both _ _ (ap (same_lot_id (card_in x).lot) (sym lots) ∙ itself_lot (card_in x).lot) (ap (nat_eq (card_in x).act) (sym acts) ∙ itself_number (card_in x).act))
 
   -- the rows that the query shows are the lines of the card
@@ -75,14 +89,14 @@ module _ (lot : LotId) where
   listed old ready are new rows h =
       let read = reads_as cards_by_act_text params old new (schema_with ready.has.rest) ready.has.is _ (cards_by_act_is ready.has.rest).0 (cards_by_act_plain ready.has.rest) (cards_by_act_is ready.has.rest).1 rows h in
       let a = read.answer Null in
-      let up = ready.rows.1.1.1.1.1.1.1.1.1.1.1.1.0.0 in
+      let up = (rows_of cards cards_laws old.now ready).0 in
       let apart_rows = distinct old.now ready are in
-      let all = stored old.now.trees params cards_tree 3 cards_of_lot_tests shown rows a up apart_rows in
-      let is = are_shown old.now.trees params cards_tree 3 cards_of_lot_tests shown rows a up apart_rows in
-      let good = stored_good old.now.trees params cards_tree 3 cards_of_lot_tests shown rows a up apart_rows is_card card_in nat_eq same_number itself_number (λ n m. n < m) (λ k low. omega arith) (λ i j k p q. omega arith)
-      (λ (c : CardRow). c.act) (λ c. same_lot_id lot c.lot) (cards_of_lot_at lot) (λ x y tx ty low. number_rises ACTS_MAX (column x 3) (column y 3) (act_number x tx) (act_number y ty) low) are.cards in
-      let ordered = in_key_order old.now.trees params cards_tree 3 cards_of_lot_tests shown rows a up apart_rows is_card card_in nat_eq same_number itself_number (λ n m. n < m) (λ k low. omega arith) (λ i j k p q. omega arith)
-      (λ (c : CardRow). c.act) (λ c. same_lot_id lot c.lot) (cards_of_lot_at lot) (λ x y tx ty low. number_rises ACTS_MAX (column x 3) (column y 3) (act_number x tx) (act_number y ty) low) are.cards in (
+      let all = stored old.now.trees params cards_tree 3 tests shown rows a up apart_rows in
+      let is = are_shown old.now.trees params cards_tree 3 tests shown rows a up apart_rows in
+      let good = stored_good old.now.trees params cards_tree 3 tests shown rows a up apart_rows is_card card_in nat_eq same_number itself_number (λ n m. n < m) (λ k low. omega arith) (λ i j k p q. omega arith)
+      (λ (c : CardRow). c.act) (λ c. same_lot_id lot c.lot) (at_lot) (λ x y tx ty low. number_rises ACTS_MAX (column x 3) (column y 3) (act_number x tx) (act_number y ty) low) (typed_rows cards cards_laws old.now.trees are) in
+      let ordered = in_key_order old.now.trees params cards_tree 3 tests shown rows a up apart_rows is_card card_in nat_eq same_number itself_number (λ n m. n < m) (λ k low. omega arith) (λ i j k p q. omega arith)
+      (λ (c : CardRow). c.act) (λ c. same_lot_id lot c.lot) (at_lot) (λ x y tx ty low. number_rises ACTS_MAX (column x 3) (column y 3) (act_number x tx) (act_number y ty) low) (typed_rows cards cards_laws old.now.trees are) in (
         subst (AreCardLines (tables_in old.now.trees) lot) (sym (ap (map card_read) is ∙ map-map card_read (show params shown) all)) ordered,
         subst (AllByRecursion (λ v. has_card v ≡ true)) (sym is) (all_map (λ v. has_card v ≡ true) (show params shown) all good),
       )

@@ -53,7 +53,8 @@ use Rattle.each_row.proofs.Rising.{one_order}
 use Rattle.each_row.proofs.Over.{rest_shown, over}
 use Rattle.history_tables.specs.ByKey.{AreByNumber}
 use Rattle.history_tables.specs.Taken.{row_taken}
-use Rattle.history_tables.proofs.ShiplineLemmas.{apart, shown}
+use Rattle.keyed_rows.proofs.Laws.{apart, rows_of, typed_rows}
+use Rattle.history_tables.specs.Shiplines.{shiplines, shiplines_laws}
 
 abbrev pub after_text : List ℕ
 after_text = SHIPLINES_AFTER.now
@@ -61,6 +62,9 @@ after_text = SHIPLINES_AFTER.now
 -- the column at this place is above the parameter at that one
 abbrev above : ℕ → ℕ → Term
 above place parameter = op2 (Compare Gt Binary) (col 1 place) (col 0 parameter)
+
+abbrev shown : List Term
+shown = shiplines.shown
 
 abbrev tests : List Term
 tests = same 2 0 ∷ same 3 1 ∷ above 1 2 ∷ []
@@ -139,11 +143,11 @@ module _ (lot : LotId) (n : ℕ) where
   distinct : (db : Database) (ready : IsReady db) → AreTyped db.trees → (x y : Row) → Has (db.trees shiplines_tree) x → Has (db.trees shiplines_tree) y → passes params tests x ≡ true → passes params tests y ≡ true
       → value_cmp (column x 1) (column y 1) ≡ Equal → value_cmp (rowid x) (rowid y) ≡ Equal
   distinct db ready are x y hx hy px py tie =
-      let tx = all_has (λ r. is_shipline r ≡ true) (db.trees shiplines_tree) x are.shiplines hx in
-      let ty = all_has (λ r. is_shipline r ≡ true) (db.trees shiplines_tree) y are.shiplines hy in
+      let tx = all_has (λ r. is_shipline r ≡ true) (db.trees shiplines_tree) x (typed_rows shiplines shiplines_laws db.trees are) hx in
+      let ty = all_has (λ r. is_shipline r ≡ true) (db.trees shiplines_tree) y (typed_rows shiplines shiplines_laws db.trees are) hy in
       let lots : (shipline_in x).lot ≡ (shipline_in y).lot = sym (of_lot x tx px) ∙ of_lot y ty py in
       let numbers = number_ties ACTS_MAX (column x 1) (column y 1) (ship_number x tx) (ship_number y ty) tie in
-      apart db ready x y hx hy tx ty
+      apart shiplines shiplines_laws db ready x y hx hy tx ty
       (itself_both _ _ (ap (nat_eq (shipline_in x).number) (sym numbers) ∙ itself_number (shipline_in x).number) (ap (same_lot_id (shipline_in x).lot) (sym lots) ∙ itself_lot (shipline_in x).lot))
 
   as_looked_up : (xs : List ShiplineRow) (k : ℕ) → find (λ x. wanted x && nat_eq k x.number) xs ≡ (if nat_lt n k then find (λ s. same_shipline (k, lot) (shipline_key s)) xs else None)
@@ -155,15 +159,15 @@ module _ (lot : LotId) (n : ℕ) where
   listed old ready are new rows h =
       let read = reads_as after_text params old new (schema_with ready.has.rest) ready.has.is _ (after_is ready.has.rest).0 (after_plain ready.has.rest) (after_is ready.has.rest).1 rows h in
       let a = read.answer Null in
-      let up = ready.rows.1.1.1.1.1.1.1.1.1.1.1.0.0 in
+      let up = (rows_of shiplines shiplines_laws old.now ready).0 in
       let apart_rows = distinct old.now ready are in
       let all = stored old.now.trees params shiplines_tree 1 tests shown rows a up apart_rows in
       let is = are_shown old.now.trees params shiplines_tree 1 tests shown rows a up apart_rows in
       let rises = λ (x y : Row) (tx : is_shipline x ≡ true) (ty : is_shipline y ≡ true) (low : value_cmp (column x 1) (column y 1) ≡ Less). number_rises ACTS_MAX (column x 1) (column y 1) (ship_number x tx) (ship_number y ty) low in
       let good = stored_good old.now.trees params shiplines_tree 1 tests shown rows a up apart_rows is_shipline shipline_in nat_eq same_number itself_number (λ i j. i < j) (λ k low. omega arith) (λ i j k p q. omega arith)
-      (λ (s : ShiplineRow). s.number) wanted at_wanted rises are.shiplines in
+      (λ (s : ShiplineRow). s.number) wanted at_wanted rises (typed_rows shiplines shiplines_laws old.now.trees are) in
       let ordered = in_key_order old.now.trees params shiplines_tree 1 tests shown rows a up apart_rows is_shipline shipline_in nat_eq same_number itself_number (λ i j. i < j) (λ k low. omega arith) (λ i j k p q. omega arith)
-      (λ (s : ShiplineRow). s.number) wanted at_wanted rises are.shiplines in
+      (λ (s : ShiplineRow). s.number) wanted at_wanted rises (typed_rows shiplines shiplines_laws old.now.trees are) in
       let by_number : AreByNumber (tables_in old.now.trees) lot n (map shipline_in all) = record { found = λ k. ordered.found k ∙ as_looked_up (typed is_shipline shipline_in (old.now.trees shiplines_tree)) k; rises = ordered.rises } in (
         subst (AreByNumber (tables_in old.now.trees) lot n) (sym (ap (map shipline_read) is ∙ map-map shipline_read (show params shown) all)) by_number,
         subst (AllByRecursion (λ v. has_shipline v ≡ true)) (sym is) (all_map (λ v. has_shipline v ≡ true) (show params shown) all good),

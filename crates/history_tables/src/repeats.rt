@@ -1,71 +1,65 @@
 //! The table `repeats`.
 
-ghost use Rattle.std.specs.Prelude.{◌≡◌, ◌≢◌, ◌≤◌, ◌<◌, true, find, OnOk, OnErr, IfOk, IfErr, bytes_eq};
+ghost use Rattle.std.specs.Prelude.{◌≡◌, ◌≢◌, ◌<◌, true, OnOk, OnErr, IfOk, IfErr, bytes_eq};
 ghost use Rattle.std.specs.List.{AllByRecursion};
 ghost use Rattle.sqlite.specs.State.{HasCleanDisk, Survives, KeepsCommit, IsUnchanged};
 ghost use Rattle.sqlite.specs.Held.{state};
-ghost use Rattle.sqlite.specs.Values.{bound};
 ghost use Rattle.table_words.specs.Found.{AreRows};
 ghost use Rattle.table_words.specs.Steps.{IsReady, Goes, ChangesNone, IsTooBig};
-ghost use Rattle.table_words.specs.Typed.{tables_in, same_lot_id, with_repeat, is_repeat, has_repeat, repeat_cells, repeat_key, same_repeat, RepeatKey, repeats_of_rows};
+ghost use Rattle.table_words.specs.Typed.{tables_in, with_repeat, is_repeat, repeat_key, same_repeat, RepeatKey, repeats_of_rows};
 ghost use Rattle.table_words.specs.declared.error.TableFault.TheVariants.{Foreign};
 
-use crate::texts::{ADD_REPEAT, CHANGE_REPEAT, REPEATS_OF};
+use crate::texts::{ADD_REPEAT, REPEATS_OF};
 use commands::RepeatRow;
 use commands::limits::{ACTS_MAX, KEY_TEXT_MAX};
-use sqlite::types::ValueRef;
+use keyed_rows::reading::{Sought, query_rows, seek};
+use keyed_rows::running::count;
+use keyed_rows::table::{Table, add};
 use sqlite::{Alter, Row, Transaction};
 use std::alloc::Global;
-use table_words::calls::put_new;
 use table_words::columns::{
     key_text_at, number_at, of_number, of_short, of_spelling, of_text, short_at, spelling_at,
 };
 use table_words::error::TableFault;
-use table_words::reading::{Table, query};
 use values::Text;
 
-/// The values of the columns, in their order.
-fn cells(row: &RepeatRow) -> [ValueRef<'_>; 4]
-    requires fits_act { row.now.act ≤ ACTS_MAX }
-    ensures value { bound result ≡ repeat_cells row.now }
-    ensures rule { has_repeat (repeat_cells row.now) ≡ true }
-{
-    [
-        of_text(&row.k),
-        of_number(row.act),
-        of_spelling(&row.spell),
-        of_short(&row.reply),
-    ]
-}
-
-/// Puts the row, in place of one with its key. A number above its limit is refused as too big.
-pub fn put_repeat<S: Alter>(tx: &mut Transaction<'_, S>, row: &RepeatRow) -> Result<(), TableFault>
-    ensures same_reference { tx.new.conn.ghost_name ≡ tx.old.conn.ghost_name }
-    ensures done { HasCleanDisk (state S.Store tx.new.conn.now) → IsReady (state S.Store tx.old.conn.now).now
-        → OnOk result (Goes (with_repeat row.now) (state S.Store tx.old.conn.now) (state S.Store tx.new.conn.now)) }
-    ensures refused { HasCleanDisk (state S.Store tx.new.conn.now) → IsReady (state S.Store tx.old.conn.now).now → OnErr result (ChangesNone (state S.Store tx.old.conn.now) (state S.Store tx.new.conn.now)) }
-    ensures kept { HasCleanDisk (state S.Store tx.new.conn.now) → KeepsCommit (state S.Store tx.old.conn.now) (state S.Store tx.new.conn.now) }
-    ensures survives { Survives (state S.Store tx.old.conn.now) (state S.Store tx.new.conn.now) (λ _. ⊥) }
-    ensures never_foreign { IfErr result (λ e. e ≢ Foreign) }
-    ensures size_act { ACTS_MAX < row.now.act → IsTooBig result tx.old.conn.now tx.new.conn.now }
-{
-    if row.act > ACTS_MAX {
-        return Err(TableFault::too_big());
-    }
-    put_new(tx, CHANGE_REPEAT, ADD_REPEAT, &cells(row))
-}
-
-/// How the rows of the table are read.
-struct Repeats;
+/// The table.
+pub struct Repeats;
 
 impl Table for Repeats {
-    ghost use Rattle.table_words.specs.Typed.{has_repeat, repeat_read};
+    ghost use Rattle.history_tables.specs.Repeats.{repeats, fits_repeat, repeats_laws};
 
-    type Record = RepeatRow;
+    type Row = RepeatRow;
 
-    ghost has = { has_repeat };
+    type Key = Text<KEY_TEXT_MAX>;
 
-    ghost reads = { repeat_read };
+    ghost table = { repeats };
+
+    ghost fits = { fits_repeat };
+
+    ghost laws = { repeats_laws };
+
+    fn add_text() -> &'static str {
+        ADD_REPEAT
+    }
+
+    fn fits(row: &RepeatRow) -> bool {
+        row.act <= ACTS_MAX
+    }
+
+    fn run<S: Alter>(
+        tx: &mut Transaction<'_, S>,
+        sql: &str,
+        row: &RepeatRow,
+    ) -> Result<usize, TableFault> {
+        let cells = [
+            of_text(&row.k),
+            of_number(row.act),
+            of_spelling(&row.spell),
+            of_short(&row.reply),
+        ];
+        count(tx, sql, &cells)
+    }
 
     fn read(alloc: Global, row: &Row) -> Result<RepeatRow, TableFault> {
         match (
@@ -87,6 +81,43 @@ impl Table for Repeats {
     }
 }
 
+impl Sought<Text<KEY_TEXT_MAX>> for Repeats {
+    ghost use Rattle.history_tables.specs.Repeats.{repeats_of, AreRepeatsOf, repeats_of_laws};
+
+    ghost query = { repeats_of };
+
+    ghost are_of = { AreRepeatsOf };
+
+    ghost query_laws = { repeats_of_laws };
+
+    fn query_text(_: &Text<KEY_TEXT_MAX>) -> &'static str {
+        REPEATS_OF
+    }
+
+    fn run_query<S: Alter>(
+        alloc: Global,
+        tx: &mut Transaction<'_, S>,
+        sql: &str,
+        k: &Text<KEY_TEXT_MAX>,
+    ) -> Result<Vec<RepeatRow>, TableFault> {
+        query_rows::<Repeats, S>(alloc, tx, sql, &[of_text(k)])
+    }
+}
+
+/// Adds the row. A number above its limit is refused as too big.
+pub fn put_repeat<S: Alter>(tx: &mut Transaction<'_, S>, row: &RepeatRow) -> Result<(), TableFault>
+    ensures same_reference { tx.new.conn.ghost_name ≡ tx.old.conn.ghost_name }
+    ensures done { HasCleanDisk (state S.Store tx.new.conn.now) → IsReady (state S.Store tx.old.conn.now).now
+        → OnOk result (Goes (with_repeat row.now) (state S.Store tx.old.conn.now) (state S.Store tx.new.conn.now)) }
+    ensures refused { HasCleanDisk (state S.Store tx.new.conn.now) → IsReady (state S.Store tx.old.conn.now).now → OnErr result (ChangesNone (state S.Store tx.old.conn.now) (state S.Store tx.new.conn.now)) }
+    ensures kept { HasCleanDisk (state S.Store tx.new.conn.now) → KeepsCommit (state S.Store tx.old.conn.now) (state S.Store tx.new.conn.now) }
+    ensures survives { Survives (state S.Store tx.old.conn.now) (state S.Store tx.new.conn.now) (λ _. ⊥) }
+    ensures never_foreign { IfErr result (λ e. e ≢ Foreign) }
+    ensures size_act { ACTS_MAX < row.now.act → IsTooBig result tx.old.conn.now tx.new.conn.now }
+{
+    add::<Repeats, S>(tx, row)
+}
+
 /// The rows of this k, the oldest first; `Foreign` where one of them has a value that no row has.
 pub fn repeats_of<S: Alter>(
     alloc: Global,
@@ -105,5 +136,5 @@ pub fn repeats_of<S: Alter>(
     ensures kept { HasCleanDisk (state S.Store tx.new.conn.now) → IsReady (state S.Store tx.old.conn.now).now → KeepsCommit (state S.Store tx.old.conn.now) (state S.Store tx.new.conn.now) }
     ensures survives { Survives (state S.Store tx.old.conn.now) (state S.Store tx.new.conn.now) (λ _. ⊥) }
 {
-    query::<Repeats, S>(alloc, tx, REPEATS_OF, &[of_text(k)])
+    seek::<Repeats, Text<KEY_TEXT_MAX>, S>(alloc, tx, k)
 }

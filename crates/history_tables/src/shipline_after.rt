@@ -15,6 +15,7 @@ use crate::texts::SHIPLINES_AFTER;
 use commands::limits::ACTS_MAX;
 use commands::{ShiplineRow, Sink, Stop};
 use each_row::{EachFault, each};
+use keyed_rows::reading::Whole;
 use sqlite::{Alter, Connection};
 use std::alloc::Global;
 use table_words::columns::{of_gtin, of_lot, of_number};
@@ -87,7 +88,7 @@ fn first_after<S: Alter>(
     ensures survives { Survives (state S.Store conn.old) (state S.Store conn.new) (λ _. ¬ IsReady (state S.Store conn.old).now) }
 {
     let mut first = First { row: None };
-    let handed = each::<Shiplines, S, First>(
+    let handed = each::<Whole<Shiplines>, S, First>(
         alloc,
         conn,
         SHIPLINES_AFTER,

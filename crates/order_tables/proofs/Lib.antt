@@ -1,4 +1,0 @@
-pub mod OrderLemmas
-pub mod LineLemmas
-pub mod StagedLemmas
-pub mod ReservedLemmas

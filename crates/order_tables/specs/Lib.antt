@@ -1,0 +1,4 @@
+pub mod Orders
+pub mod Lines
+pub mod Staged
+pub mod Reserved

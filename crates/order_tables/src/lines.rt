@@ -1,76 +1,54 @@
 //! The table `lines`.
 
-ghost use Rattle.std.specs.Prelude.{◌≡◌, ◌≢◌, ◌≤◌, ◌<◌, true, slice_get, OnOk, OnErr, IfOk, IfErr, bytes_eq};
-ghost use Rattle.std.specs.List.{AllByRecursion};
-ghost use Rattle.sqlite.specs.State.{HasCleanDisk, Survives, KeepsCommit, IsUnchanged};
-ghost use Rattle.sqlite.specs.Held.{state};
-ghost use Rattle.sqlite.specs.Values.{bound};
-ghost use Rattle.table_words.specs.Found.{AreRows};
-ghost use Rattle.table_words.specs.Steps.{IsReady, Goes, ChangesNone, IsTooBig};
-ghost use Rattle.table_words.specs.Typed.{tables_in, with_line, is_line, has_line, line_cells, line_key, same_line, LineKey, lines_of_order_rows, line_of_rows};
-ghost use Rattle.table_words.specs.declared.error.TableFault.TheVariants.{Foreign};
-
 use crate::texts::{ADD_LINE, CHANGE_LINE, LINE_OF, LINES_OF_ORDER};
 use commands::LineRow;
 use commands::limits::UNITS_MAX;
-use sqlite::types::ValueRef;
+use keyed_rows::reading::{Sought, query_rows};
+use keyed_rows::running::count;
+use keyed_rows::table::{Changing, Table};
 use sqlite::{Alter, Row, Transaction};
 use std::alloc::Global;
-use table_words::calls::put_as;
 use table_words::columns::{gtin_at, name_at, number_at, of_gtin, of_name, of_number};
 use table_words::error::TableFault;
-use table_words::reading::{Table, query};
 use values::{Gtin, Name};
 
-/// The values of the columns, in their order.
-fn cells(row: &LineRow) -> [ValueRef<'_>; 4]
-    requires fits_ordered { row.now.ordered ≤ UNITS_MAX }
-    requires fits_shipped { row.now.shipped ≤ UNITS_MAX }
-    ensures value { bound result ≡ line_cells row.now }
-    ensures rule { has_line (line_cells row.now) ≡ true }
-{
-    [
-        of_name(&row.order),
-        of_gtin(&row.gtin),
-        of_number(row.ordered),
-        of_number(row.shipped),
-    ]
-}
-
-/// Puts the row, in place of one with its key: it costs least where `is_new` tells whether there is none. A number above
-/// its limit is refused as too big.
-pub fn put_line<S: Alter>(
-    tx: &mut Transaction<'_, S>,
-    row: &LineRow,
-    is_new: bool,
-) -> Result<(), TableFault>
-    ensures same_reference { tx.new.conn.ghost_name ≡ tx.old.conn.ghost_name }
-    ensures done { HasCleanDisk (state S.Store tx.new.conn.now) → IsReady (state S.Store tx.old.conn.now).now
-        → OnOk result (Goes (with_line row.now) (state S.Store tx.old.conn.now) (state S.Store tx.new.conn.now)) }
-    ensures refused { HasCleanDisk (state S.Store tx.new.conn.now) → IsReady (state S.Store tx.old.conn.now).now → OnErr result (ChangesNone (state S.Store tx.old.conn.now) (state S.Store tx.new.conn.now)) }
-    ensures kept { HasCleanDisk (state S.Store tx.new.conn.now) → KeepsCommit (state S.Store tx.old.conn.now) (state S.Store tx.new.conn.now) }
-    ensures survives { Survives (state S.Store tx.old.conn.now) (state S.Store tx.new.conn.now) (λ _. ⊥) }
-    ensures never_foreign { IfErr result (λ e. e ≢ Foreign) }
-    ensures size_ordered { UNITS_MAX < row.now.ordered → IsTooBig result tx.old.conn.now tx.new.conn.now }
-    ensures size_shipped { UNITS_MAX < row.now.shipped → IsTooBig result tx.old.conn.now tx.new.conn.now }
-{
-    if row.ordered > UNITS_MAX || row.shipped > UNITS_MAX {
-        return Err(TableFault::too_big());
-    }
-    put_as(tx, is_new, CHANGE_LINE, ADD_LINE, &cells(row))
-}
-
-/// How the rows of the table are read.
-struct Lines;
+/// The table.
+pub struct Lines;
 
 impl Table for Lines {
-    ghost use Rattle.table_words.specs.Typed.{has_line, line_read};
+    ghost use Rattle.order_tables.specs.Lines.{lines, fits_line, lines_laws};
 
-    type Record = LineRow;
+    type Row = LineRow;
 
-    ghost has = { has_line };
+    type Key = (Name, Gtin);
 
-    ghost reads = { line_read };
+    ghost table = { lines };
+
+    ghost fits = { fits_line };
+
+    ghost laws = { lines_laws };
+
+    fn add_text() -> &'static str {
+        ADD_LINE
+    }
+
+    fn fits(row: &LineRow) -> bool {
+        row.ordered <= UNITS_MAX && row.shipped <= UNITS_MAX
+    }
+
+    fn run<S: Alter>(
+        tx: &mut Transaction<'_, S>,
+        sql: &str,
+        row: &LineRow,
+    ) -> Result<usize, TableFault> {
+        let cells = [
+            of_name(&row.order),
+            of_gtin(&row.gtin),
+            of_number(row.ordered),
+            of_number(row.shipped),
+        ];
+        count(tx, sql, &cells)
+    }
 
     fn read(_: Global, row: &Row) -> Result<LineRow, TableFault> {
         match (
@@ -90,55 +68,60 @@ impl Table for Lines {
     }
 }
 
-/// The first of the rows, if there is one.
-fn first(rows: Vec<LineRow>) -> Option<LineRow>
-    ensures { slice_get rows.items 0 ≡ result }
-{
-    rows.first().copied()
+impl Changing for Lines {
+    ghost use Rattle.order_tables.specs.Lines.{change_line, change_line_laws};
+
+    ghost change = { change_line };
+
+    ghost change_laws = { change_line_laws };
+
+    fn change_text() -> &'static str {
+        CHANGE_LINE
+    }
 }
 
-/// The rows of this order, the oldest first; `Foreign` where one of them has a value that no row has.
-pub fn lines_of_order<S: Alter>(
-    alloc: Global,
-    tx: &mut Transaction<'_, S>,
-    order: &Name,
-) -> Result<Vec<LineRow>, TableFault>
-    ensures same_reference { tx.new.conn.ghost_name ≡ tx.old.conn.ghost_name }
-    ensures rows { HasCleanDisk (state S.Store tx.new.conn.now) → IsReady (state S.Store tx.old.conn.now).now
-        → IfOk result (λ rows. AreRows {K = LineKey} same_line line_key (λ key. bytes_eq order.now key.0) (λ key. (tables_in (state S.Store tx.old.conn.now).now.trees).line key.0 key.1) rows.items) }
-    ensures typed { HasCleanDisk (state S.Store tx.new.conn.now) → IsReady (state S.Store tx.old.conn.now).now
-        → OnOk result (AllByRecursion (λ r. is_line r ≡ true) (lines_of_order_rows order.now (state S.Store tx.old.conn.now).now.trees)) }
-    ensures foreign { HasCleanDisk (state S.Store tx.new.conn.now) → IsReady (state S.Store tx.old.conn.now).now
-        → IfErr result (λ e. e ≡ Foreign → ¬ AllByRecursion (λ r. is_line r ≡ true) (lines_of_order_rows order.now (state S.Store tx.old.conn.now).now.trees)) }
-    ensures same { HasCleanDisk (state S.Store tx.new.conn.now) → IsReady (state S.Store tx.old.conn.now).now → OnOk result (IsUnchanged (state S.Store tx.old.conn.now) (state S.Store tx.new.conn.now)) }
-    ensures refused { HasCleanDisk (state S.Store tx.new.conn.now) → IsReady (state S.Store tx.old.conn.now).now → OnErr result (ChangesNone (state S.Store tx.old.conn.now) (state S.Store tx.new.conn.now)) }
-    ensures kept { HasCleanDisk (state S.Store tx.new.conn.now) → IsReady (state S.Store tx.old.conn.now).now → KeepsCommit (state S.Store tx.old.conn.now) (state S.Store tx.new.conn.now) }
-    ensures survives { Survives (state S.Store tx.old.conn.now) (state S.Store tx.new.conn.now) (λ _. ⊥) }
-{
-    query::<Lines, S>(alloc, tx, LINES_OF_ORDER, &[of_name(order)])
+impl Sought<Name> for Lines {
+    ghost use Rattle.order_tables.specs.Lines.{lines_of_order, AreLinesOfOrder, lines_of_order_laws};
+
+    ghost query = { lines_of_order };
+
+    ghost are_of = { AreLinesOfOrder };
+
+    ghost query_laws = { lines_of_order_laws };
+
+    fn query_text(_: &Name) -> &'static str {
+        LINES_OF_ORDER
+    }
+
+    fn run_query<S: Alter>(
+        alloc: Global,
+        tx: &mut Transaction<'_, S>,
+        sql: &str,
+        order: &Name,
+    ) -> Result<Vec<LineRow>, TableFault> {
+        query_rows::<Lines, S>(alloc, tx, sql, &[of_name(order)])
+    }
 }
 
-/// The row with this key, if there is one; `Foreign` where it has a value that no row has.
-pub fn line_of<S: Alter>(
-    alloc: Global,
-    tx: &mut Transaction<'_, S>,
-    order: &Name,
-    gtin: &Gtin,
-) -> Result<Option<LineRow>, TableFault>
-    ensures same_reference { tx.new.conn.ghost_name ≡ tx.old.conn.ghost_name }
-    ensures row { HasCleanDisk (state S.Store tx.new.conn.now) → IsReady (state S.Store tx.old.conn.now).now
-        → IfOk result (λ row. row ≡ (tables_in (state S.Store tx.old.conn.now).now.trees).line order.now gtin.now) }
-    ensures typed { HasCleanDisk (state S.Store tx.new.conn.now) → IsReady (state S.Store tx.old.conn.now).now
-        → OnOk result (AllByRecursion (λ r. is_line r ≡ true) (line_of_rows order.now gtin.now (state S.Store tx.old.conn.now).now.trees)) }
-    ensures foreign { HasCleanDisk (state S.Store tx.new.conn.now) → IsReady (state S.Store tx.old.conn.now).now
-        → IfErr result (λ e. e ≡ Foreign → ¬ AllByRecursion (λ r. is_line r ≡ true) (line_of_rows order.now gtin.now (state S.Store tx.old.conn.now).now.trees)) }
-    ensures same { HasCleanDisk (state S.Store tx.new.conn.now) → IsReady (state S.Store tx.old.conn.now).now → OnOk result (IsUnchanged (state S.Store tx.old.conn.now) (state S.Store tx.new.conn.now)) }
-    ensures refused { HasCleanDisk (state S.Store tx.new.conn.now) → IsReady (state S.Store tx.old.conn.now).now → OnErr result (ChangesNone (state S.Store tx.old.conn.now) (state S.Store tx.new.conn.now)) }
-    ensures kept { HasCleanDisk (state S.Store tx.new.conn.now) → IsReady (state S.Store tx.old.conn.now).now → KeepsCommit (state S.Store tx.old.conn.now) (state S.Store tx.new.conn.now) }
-    ensures survives { Survives (state S.Store tx.old.conn.now) (state S.Store tx.new.conn.now) (λ _. ⊥) }
-{
-    match query::<Lines, S>(alloc, tx, LINE_OF, &[of_name(order), of_gtin(gtin)]) {
-        Ok(rows) => Ok(first(rows)),
-        Err(fault) => Err(fault),
+impl Sought<(Name, Gtin)> for Lines {
+    ghost use Rattle.order_tables.specs.Lines.{line_of, AreLineOf, line_of_laws};
+
+    ghost query = { line_of };
+
+    ghost are_of = { AreLineOf };
+
+    ghost query_laws = { line_of_laws };
+
+    fn query_text(_: &(Name, Gtin)) -> &'static str {
+        LINE_OF
+    }
+
+    fn run_query<S: Alter>(
+        alloc: Global,
+        tx: &mut Transaction<'_, S>,
+        sql: &str,
+        key: &(Name, Gtin),
+    ) -> Result<Vec<LineRow>, TableFault> {
+        query_rows::<Lines, S>(alloc, tx, sql, &[of_name(&key.0), of_gtin(&key.1)])
     }
 }

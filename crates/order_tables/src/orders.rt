@@ -1,76 +1,56 @@
 //! The table `orders`.
 
-ghost use Rattle.std.specs.Prelude.{◌≡◌, ◌≢◌, ◌≤◌, ◌<◌, true, OnOk, OnErr, IfOk, IfErr, bytes_eq};
-ghost use Rattle.std.specs.List.{AllByRecursion};
-ghost use Rattle.sqlite.specs.State.{HasCleanDisk, Survives, KeepsCommit, IsUnchanged};
-ghost use Rattle.sqlite.specs.Held.{state};
-ghost use Rattle.sqlite.specs.Values.{bound};
-ghost use Rattle.table_words.specs.Found.{AreRows, only_if};
-ghost use Rattle.table_words.specs.Steps.{IsReady, Goes, ChangesNone, IsTooBig};
-ghost use Rattle.table_words.specs.Typed.{tables_in, with_order, is_order, has_order, order_cells, order_key, same_order, OrderKey, orders_of_rows, is_open_order, open_orders_rows};
-ghost use Rattle.table_words.specs.declared.error.TableFault.TheVariants.{Foreign};
-
 use crate::texts::{ADD_ORDER, CHANGE_ORDER, OPEN_ORDERS, ORDERS_OF};
 use commands::limits::ACTS_MAX;
 use commands::{OrderRow, OrderState};
-use sqlite::types::ValueRef;
+use keyed_rows::reading::{Sought, query_rows};
+use keyed_rows::running::count;
+use keyed_rows::table::{Changing, Table};
 use sqlite::{Alter, Row, Transaction};
 use std::alloc::Global;
-use table_words::calls::put_as;
 use table_words::columns::{
     name_at, number_at, of_name, of_number, of_order_state, of_title, order_state_at, title_at,
 };
 use table_words::error::TableFault;
-use table_words::reading::{Table, query};
 use values::Name;
 
-/// The values of the columns, in their order.
-fn cells(row: &OrderRow) -> [ValueRef<'_>; 4]
-    requires fits_act { row.now.act ≤ ACTS_MAX }
-    ensures value { bound result ≡ order_cells row.now }
-    ensures rule { has_order (order_cells row.now) ≡ true }
-{
-    [
-        of_name(&row.order),
-        of_number(row.act),
-        of_title(&row.customer),
-        of_order_state(row.state),
-    ]
-}
-
-/// Puts the row, in place of one with its key: it costs least where `is_new` tells whether there is none. A number above
-/// its limit is refused as too big.
-pub fn put_order<S: Alter>(
-    tx: &mut Transaction<'_, S>,
-    row: &OrderRow,
-    is_new: bool,
-) -> Result<(), TableFault>
-    ensures same_reference { tx.new.conn.ghost_name ≡ tx.old.conn.ghost_name }
-    ensures done { HasCleanDisk (state S.Store tx.new.conn.now) → IsReady (state S.Store tx.old.conn.now).now
-        → OnOk result (Goes (with_order row.now) (state S.Store tx.old.conn.now) (state S.Store tx.new.conn.now)) }
-    ensures refused { HasCleanDisk (state S.Store tx.new.conn.now) → IsReady (state S.Store tx.old.conn.now).now → OnErr result (ChangesNone (state S.Store tx.old.conn.now) (state S.Store tx.new.conn.now)) }
-    ensures kept { HasCleanDisk (state S.Store tx.new.conn.now) → KeepsCommit (state S.Store tx.old.conn.now) (state S.Store tx.new.conn.now) }
-    ensures survives { Survives (state S.Store tx.old.conn.now) (state S.Store tx.new.conn.now) (λ _. ⊥) }
-    ensures never_foreign { IfErr result (λ e. e ≢ Foreign) }
-    ensures size_act { ACTS_MAX < row.now.act → IsTooBig result tx.old.conn.now tx.new.conn.now }
-{
-    if row.act > ACTS_MAX {
-        return Err(TableFault::too_big());
-    }
-    put_as(tx, is_new, CHANGE_ORDER, ADD_ORDER, &cells(row))
-}
-
-/// How the rows of the table are read.
-struct Orders;
+/// The table.
+pub struct Orders;
 
 impl Table for Orders {
-    ghost use Rattle.table_words.specs.Typed.{has_order, order_read};
+    ghost use Rattle.order_tables.specs.Orders.{orders, fits_order, orders_laws};
 
-    type Record = OrderRow;
+    type Row = OrderRow;
 
-    ghost has = { has_order };
+    type Key = Name;
 
-    ghost reads = { order_read };
+    ghost table = { orders };
+
+    ghost fits = { fits_order };
+
+    ghost laws = { orders_laws };
+
+    fn add_text() -> &'static str {
+        ADD_ORDER
+    }
+
+    fn fits(row: &OrderRow) -> bool {
+        row.act <= ACTS_MAX
+    }
+
+    fn run<S: Alter>(
+        tx: &mut Transaction<'_, S>,
+        sql: &str,
+        row: &OrderRow,
+    ) -> Result<usize, TableFault> {
+        let cells = [
+            of_name(&row.order),
+            of_number(row.act),
+            of_title(&row.customer),
+            of_order_state(row.state),
+        ];
+        count(tx, sql, &cells)
+    }
 
     fn read(_: Global, row: &Row) -> Result<OrderRow, TableFault> {
         match (
@@ -90,43 +70,63 @@ impl Table for Orders {
     }
 }
 
-/// The rows of this order, the oldest first; `Foreign` where one of them has a value that no row has.
-pub fn orders_of<S: Alter>(
-    alloc: Global,
-    tx: &mut Transaction<'_, S>,
-    order: &Name,
-) -> Result<Vec<OrderRow>, TableFault>
-    ensures same_reference { tx.new.conn.ghost_name ≡ tx.old.conn.ghost_name }
-    ensures rows { HasCleanDisk (state S.Store tx.new.conn.now) → IsReady (state S.Store tx.old.conn.now).now
-        → IfOk result (λ rows. AreRows {K = OrderKey} same_order order_key (λ key. bytes_eq order.now key) (λ key. (tables_in (state S.Store tx.old.conn.now).now.trees).order key) rows.items) }
-    ensures typed { HasCleanDisk (state S.Store tx.new.conn.now) → IsReady (state S.Store tx.old.conn.now).now
-        → OnOk result (AllByRecursion (λ r. is_order r ≡ true) (orders_of_rows order.now (state S.Store tx.old.conn.now).now.trees)) }
-    ensures foreign { HasCleanDisk (state S.Store tx.new.conn.now) → IsReady (state S.Store tx.old.conn.now).now
-        → IfErr result (λ e. e ≡ Foreign → ¬ AllByRecursion (λ r. is_order r ≡ true) (orders_of_rows order.now (state S.Store tx.old.conn.now).now.trees)) }
-    ensures same { HasCleanDisk (state S.Store tx.new.conn.now) → IsReady (state S.Store tx.old.conn.now).now → OnOk result (IsUnchanged (state S.Store tx.old.conn.now) (state S.Store tx.new.conn.now)) }
-    ensures refused { HasCleanDisk (state S.Store tx.new.conn.now) → IsReady (state S.Store tx.old.conn.now).now → OnErr result (ChangesNone (state S.Store tx.old.conn.now) (state S.Store tx.new.conn.now)) }
-    ensures kept { HasCleanDisk (state S.Store tx.new.conn.now) → IsReady (state S.Store tx.old.conn.now).now → KeepsCommit (state S.Store tx.old.conn.now) (state S.Store tx.new.conn.now) }
-    ensures survives { Survives (state S.Store tx.old.conn.now) (state S.Store tx.new.conn.now) (λ _. ⊥) }
-{
-    query::<Orders, S>(alloc, tx, ORDERS_OF, &[of_name(order)])
+impl Changing for Orders {
+    ghost use Rattle.order_tables.specs.Orders.{change_order, change_order_laws};
+
+    ghost change = { change_order };
+
+    ghost change_laws = { change_order_laws };
+
+    fn change_text() -> &'static str {
+        CHANGE_ORDER
+    }
 }
 
-/// The rows of the open orders, the oldest first; `Foreign` where one of them has a value that no row has.
-pub fn open_orders<S: Alter>(
-    alloc: Global,
-    tx: &mut Transaction<'_, S>,
-) -> Result<Vec<OrderRow>, TableFault>
-    ensures same_reference { tx.new.conn.ghost_name ≡ tx.old.conn.ghost_name }
-    ensures rows { HasCleanDisk (state S.Store tx.new.conn.now) → IsReady (state S.Store tx.old.conn.now).now
-        → IfOk result (λ rows. AreRows {K = OrderKey} same_order order_key (λ key. true) (λ key. only_if is_open_order ((tables_in (state S.Store tx.old.conn.now).now.trees).order key)) rows.items) }
-    ensures typed { HasCleanDisk (state S.Store tx.new.conn.now) → IsReady (state S.Store tx.old.conn.now).now
-        → OnOk result (AllByRecursion (λ r. is_order r ≡ true) (open_orders_rows (state S.Store tx.old.conn.now).now.trees)) }
-    ensures foreign { HasCleanDisk (state S.Store tx.new.conn.now) → IsReady (state S.Store tx.old.conn.now).now
-        → IfErr result (λ e. e ≡ Foreign → ¬ AllByRecursion (λ r. is_order r ≡ true) (open_orders_rows (state S.Store tx.old.conn.now).now.trees)) }
-    ensures same { HasCleanDisk (state S.Store tx.new.conn.now) → IsReady (state S.Store tx.old.conn.now).now → OnOk result (IsUnchanged (state S.Store tx.old.conn.now) (state S.Store tx.new.conn.now)) }
-    ensures refused { HasCleanDisk (state S.Store tx.new.conn.now) → IsReady (state S.Store tx.old.conn.now).now → OnErr result (ChangesNone (state S.Store tx.old.conn.now) (state S.Store tx.new.conn.now)) }
-    ensures kept { HasCleanDisk (state S.Store tx.new.conn.now) → IsReady (state S.Store tx.old.conn.now).now → KeepsCommit (state S.Store tx.old.conn.now) (state S.Store tx.new.conn.now) }
-    ensures survives { Survives (state S.Store tx.old.conn.now) (state S.Store tx.new.conn.now) (λ _. ⊥) }
-{
-    query::<Orders, S>(alloc, tx, OPEN_ORDERS, &[of_order_state(OrderState::Open)])
+impl Sought<Name> for Orders {
+    ghost use Rattle.order_tables.specs.Orders.{orders_of, AreOrdersOf, orders_of_laws};
+
+    ghost query = { orders_of };
+
+    ghost are_of = { AreOrdersOf };
+
+    ghost query_laws = { orders_of_laws };
+
+    fn query_text(_: &Name) -> &'static str {
+        ORDERS_OF
+    }
+
+    fn run_query<S: Alter>(
+        alloc: Global,
+        tx: &mut Transaction<'_, S>,
+        sql: &str,
+        order: &Name,
+    ) -> Result<Vec<OrderRow>, TableFault> {
+        query_rows::<Orders, S>(alloc, tx, sql, &[of_name(order)])
+    }
+}
+
+/// What the open orders are sought by.
+pub struct Open;
+
+impl Sought<Open> for Orders {
+    ghost use Rattle.order_tables.specs.Orders.{open_orders, AreOpenOrders, open_orders_laws};
+
+    ghost query = { open_orders };
+
+    ghost are_of = { AreOpenOrders };
+
+    ghost query_laws = { open_orders_laws };
+
+    fn query_text(_: &Open) -> &'static str {
+        OPEN_ORDERS
+    }
+
+    fn run_query<S: Alter>(
+        alloc: Global,
+        tx: &mut Transaction<'_, S>,
+        sql: &str,
+        _: &Open,
+    ) -> Result<Vec<OrderRow>, TableFault> {
+        query_rows::<Orders, S>(alloc, tx, sql, &[of_order_state(OrderState::Open)])
+    }
 }

@@ -1,103 +1,58 @@
 //! The table `staged`.
 
-ghost use Rattle.std.specs.Prelude.{◌≡◌, ◌≢◌, ◌≤◌, ◌<◌, [], ◌∷◌, true, [], ◌∷◌, find, OnOk, OnErr, IfOk, IfErr, bytes_eq};
-ghost use Rattle.std.specs.List.{AllByRecursion};
-ghost use Rattle.sqlite.specs.State.{HasCleanDisk, Survives, KeepsCommit, IsUnchanged};
-ghost use Rattle.sqlite.specs.Held.{state};
-ghost use Rattle.sqlite.specs.Values.{bound};
-ghost use Rattle.sqlite_value.specs.declared.value.Value.TheVariants.{Text as TextValue};
-ghost use Rattle.table_words.specs.Found.{AreRows};
-ghost use Rattle.table_words.specs.Steps.{IsReady, Goes, ChangesNone, IsTooBig};
-ghost use Rattle.table_words.specs.Typed.{tables_in, same_lot_id, with_staged, without_staged, is_staged, has_staged, staged_cells, staged_key, same_staged, StagedKey, staged_of_item_rows, staged_of_order_rows, all_staged_rows};
-ghost use Rattle.table_words.specs.declared.error.TableFault.TheVariants.{Foreign};
-
 use crate::texts::{
     ADD_STAGED, ALL_STAGED, CHANGE_STAGED, DROP_STAGED, STAGED_OF_ITEM, STAGED_OF_ORDER,
 };
 use commands::StagedRow;
 use commands::limits::UNITS_MAX;
-use sqlite::types::ValueRef;
+use keyed_rows::reading::{All, Sought, query_rows};
+use keyed_rows::running::count;
+use keyed_rows::table::{Changing, Losing, Table};
 use sqlite::{Alter, Row, Transaction};
 use std::alloc::Global;
-use table_words::calls::{put_as, run};
 use table_words::columns::{
     gtin_at, lot_at, name_at, number_at, of_gtin, of_lot, of_name, of_number,
 };
 use table_words::error::TableFault;
-use table_words::reading::{Table, query};
 use values::{Gtin, LotId, Name};
 
-/// The values of the columns of the key.
-fn key_cells<'a>(order: &'a Name, lot: &'a LotId) -> [ValueRef<'a>; 3]
-    ensures { bound result ≡ TextValue order.now ∷ TextValue lot.now.gtin ∷ TextValue lot.now.lot ∷ [] }
-{
-    [of_name(order), of_gtin(&lot.gtin), of_lot(&lot.lot)]
-}
-
-/// Drops the row with this key, if there is one.
-pub fn drop_staged<S: Alter>(
-    tx: &mut Transaction<'_, S>,
-    order: &Name,
-    lot: &LotId,
-) -> Result<(), TableFault>
-    ensures same_reference { tx.new.conn.ghost_name ≡ tx.old.conn.ghost_name }
-    ensures done { HasCleanDisk (state S.Store tx.new.conn.now) → IsReady (state S.Store tx.old.conn.now).now
-        → OnOk result (Goes (without_staged order.now lot.now) (state S.Store tx.old.conn.now) (state S.Store tx.new.conn.now)) }
-    ensures refused { HasCleanDisk (state S.Store tx.new.conn.now) → IsReady (state S.Store tx.old.conn.now).now → OnErr result (ChangesNone (state S.Store tx.old.conn.now) (state S.Store tx.new.conn.now)) }
-    ensures kept { HasCleanDisk (state S.Store tx.new.conn.now) → KeepsCommit (state S.Store tx.old.conn.now) (state S.Store tx.new.conn.now) }
-    ensures survives { Survives (state S.Store tx.old.conn.now) (state S.Store tx.new.conn.now) (λ _. ⊥) }
-    ensures never_foreign { IfErr result (λ e. e ≢ Foreign) }
-{
-    run(tx, DROP_STAGED, &key_cells(order, lot))
-}
-
-/// The values of the columns, in their order.
-fn cells(row: &StagedRow) -> [ValueRef<'_>; 4]
-    requires fits_qty { row.now.qty ≤ UNITS_MAX }
-    ensures value { bound result ≡ staged_cells row.now }
-    ensures rule { has_staged (staged_cells row.now) ≡ true }
-{
-    [
-        of_name(&row.order),
-        of_gtin(&row.lot.gtin),
-        of_lot(&row.lot.lot),
-        of_number(row.qty),
-    ]
-}
-
-/// Puts the row, in place of one with its key: it costs least where `is_new` tells whether there is none. A number above
-/// its limit is refused as too big.
-pub fn put_staged<S: Alter>(
-    tx: &mut Transaction<'_, S>,
-    row: &StagedRow,
-    is_new: bool,
-) -> Result<(), TableFault>
-    ensures same_reference { tx.new.conn.ghost_name ≡ tx.old.conn.ghost_name }
-    ensures done { HasCleanDisk (state S.Store tx.new.conn.now) → IsReady (state S.Store tx.old.conn.now).now
-        → OnOk result (Goes (with_staged row.now) (state S.Store tx.old.conn.now) (state S.Store tx.new.conn.now)) }
-    ensures refused { HasCleanDisk (state S.Store tx.new.conn.now) → IsReady (state S.Store tx.old.conn.now).now → OnErr result (ChangesNone (state S.Store tx.old.conn.now) (state S.Store tx.new.conn.now)) }
-    ensures kept { HasCleanDisk (state S.Store tx.new.conn.now) → KeepsCommit (state S.Store tx.old.conn.now) (state S.Store tx.new.conn.now) }
-    ensures survives { Survives (state S.Store tx.old.conn.now) (state S.Store tx.new.conn.now) (λ _. ⊥) }
-    ensures never_foreign { IfErr result (λ e. e ≢ Foreign) }
-    ensures size_qty { UNITS_MAX < row.now.qty → IsTooBig result tx.old.conn.now tx.new.conn.now }
-{
-    if row.qty > UNITS_MAX {
-        return Err(TableFault::too_big());
-    }
-    put_as(tx, is_new, CHANGE_STAGED, ADD_STAGED, &cells(row))
-}
-
-/// How the rows of the table are read.
-struct Staged;
+/// The table.
+pub struct Staged;
 
 impl Table for Staged {
-    ghost use Rattle.table_words.specs.Typed.{has_staged, staged_read};
+    ghost use Rattle.order_tables.specs.Staged.{staged, fits_staged, staged_laws};
 
-    type Record = StagedRow;
+    type Row = StagedRow;
 
-    ghost has = { has_staged };
+    type Key = (Name, LotId);
 
-    ghost reads = { staged_read };
+    ghost table = { staged };
+
+    ghost fits = { fits_staged };
+
+    ghost laws = { staged_laws };
+
+    fn add_text() -> &'static str {
+        ADD_STAGED
+    }
+
+    fn fits(row: &StagedRow) -> bool {
+        row.qty <= UNITS_MAX
+    }
+
+    fn run<S: Alter>(
+        tx: &mut Transaction<'_, S>,
+        sql: &str,
+        row: &StagedRow,
+    ) -> Result<usize, TableFault> {
+        let cells = [
+            of_name(&row.order),
+            of_gtin(&row.lot.gtin),
+            of_lot(&row.lot.lot),
+            of_number(row.qty),
+        ];
+        count(tx, sql, &cells)
+    }
 
     fn read(_: Global, row: &Row) -> Result<StagedRow, TableFault> {
         match (
@@ -116,64 +71,109 @@ impl Table for Staged {
     }
 }
 
-/// The rows of this gtin, the oldest first; `Foreign` where one of them has a value that no row has.
-pub fn staged_of_item<S: Alter>(
-    alloc: Global,
-    tx: &mut Transaction<'_, S>,
-    gtin: &Gtin,
-) -> Result<Vec<StagedRow>, TableFault>
-    ensures same_reference { tx.new.conn.ghost_name ≡ tx.old.conn.ghost_name }
-    ensures rows { HasCleanDisk (state S.Store tx.new.conn.now) → IsReady (state S.Store tx.old.conn.now).now
-        → IfOk result (λ rows. AreRows {K = StagedKey} same_staged staged_key (λ key. bytes_eq gtin.now key.1.gtin) (λ key. (tables_in (state S.Store tx.old.conn.now).now.trees).staged key.0 key.1) rows.items) }
-    ensures typed { HasCleanDisk (state S.Store tx.new.conn.now) → IsReady (state S.Store tx.old.conn.now).now
-        → OnOk result (AllByRecursion (λ r. is_staged r ≡ true) (staged_of_item_rows gtin.now (state S.Store tx.old.conn.now).now.trees)) }
-    ensures foreign { HasCleanDisk (state S.Store tx.new.conn.now) → IsReady (state S.Store tx.old.conn.now).now
-        → IfErr result (λ e. e ≡ Foreign → ¬ AllByRecursion (λ r. is_staged r ≡ true) (staged_of_item_rows gtin.now (state S.Store tx.old.conn.now).now.trees)) }
-    ensures same { HasCleanDisk (state S.Store tx.new.conn.now) → IsReady (state S.Store tx.old.conn.now).now → OnOk result (IsUnchanged (state S.Store tx.old.conn.now) (state S.Store tx.new.conn.now)) }
-    ensures refused { HasCleanDisk (state S.Store tx.new.conn.now) → IsReady (state S.Store tx.old.conn.now).now → OnErr result (ChangesNone (state S.Store tx.old.conn.now) (state S.Store tx.new.conn.now)) }
-    ensures kept { HasCleanDisk (state S.Store tx.new.conn.now) → IsReady (state S.Store tx.old.conn.now).now → KeepsCommit (state S.Store tx.old.conn.now) (state S.Store tx.new.conn.now) }
-    ensures survives { Survives (state S.Store tx.old.conn.now) (state S.Store tx.new.conn.now) (λ _. ⊥) }
-{
-    query::<Staged, S>(alloc, tx, STAGED_OF_ITEM, &[of_gtin(gtin)])
+impl Changing for Staged {
+    ghost use Rattle.order_tables.specs.Staged.{change_staged, change_staged_laws};
+
+    ghost change = { change_staged };
+
+    ghost change_laws = { change_staged_laws };
+
+    fn change_text() -> &'static str {
+        CHANGE_STAGED
+    }
 }
 
-/// The rows of this order, the oldest first; `Foreign` where one of them has a value that no row has.
-pub fn staged_of_order<S: Alter>(
-    alloc: Global,
-    tx: &mut Transaction<'_, S>,
-    order: &Name,
-) -> Result<Vec<StagedRow>, TableFault>
-    ensures same_reference { tx.new.conn.ghost_name ≡ tx.old.conn.ghost_name }
-    ensures rows { HasCleanDisk (state S.Store tx.new.conn.now) → IsReady (state S.Store tx.old.conn.now).now
-        → IfOk result (λ rows. AreRows {K = StagedKey} same_staged staged_key (λ key. bytes_eq order.now key.0) (λ key. (tables_in (state S.Store tx.old.conn.now).now.trees).staged key.0 key.1) rows.items) }
-    ensures typed { HasCleanDisk (state S.Store tx.new.conn.now) → IsReady (state S.Store tx.old.conn.now).now
-        → OnOk result (AllByRecursion (λ r. is_staged r ≡ true) (staged_of_order_rows order.now (state S.Store tx.old.conn.now).now.trees)) }
-    ensures foreign { HasCleanDisk (state S.Store tx.new.conn.now) → IsReady (state S.Store tx.old.conn.now).now
-        → IfErr result (λ e. e ≡ Foreign → ¬ AllByRecursion (λ r. is_staged r ≡ true) (staged_of_order_rows order.now (state S.Store tx.old.conn.now).now.trees)) }
-    ensures same { HasCleanDisk (state S.Store tx.new.conn.now) → IsReady (state S.Store tx.old.conn.now).now → OnOk result (IsUnchanged (state S.Store tx.old.conn.now) (state S.Store tx.new.conn.now)) }
-    ensures refused { HasCleanDisk (state S.Store tx.new.conn.now) → IsReady (state S.Store tx.old.conn.now).now → OnErr result (ChangesNone (state S.Store tx.old.conn.now) (state S.Store tx.new.conn.now)) }
-    ensures kept { HasCleanDisk (state S.Store tx.new.conn.now) → IsReady (state S.Store tx.old.conn.now).now → KeepsCommit (state S.Store tx.old.conn.now) (state S.Store tx.new.conn.now) }
-    ensures survives { Survives (state S.Store tx.old.conn.now) (state S.Store tx.new.conn.now) (λ _. ⊥) }
-{
-    query::<Staged, S>(alloc, tx, STAGED_OF_ORDER, &[of_name(order)])
+impl Losing for Staged {
+    ghost use Rattle.order_tables.specs.declared.texts.TheConstants.{DROP_STAGED};
+    ghost use Rattle.order_tables.specs.Staged.{drop_is};
+
+    ghost drop = { DROP_STAGED.now };
+
+    ghost drop_laws = { drop_is };
+
+    fn drop_text() -> &'static str {
+        DROP_STAGED
+    }
+
+    fn run_key<S: Alter>(
+        tx: &mut Transaction<'_, S>,
+        sql: &str,
+        row: &StagedRow,
+    ) -> Result<usize, TableFault> {
+        let cells = [
+            of_name(&row.order),
+            of_gtin(&row.lot.gtin),
+            of_lot(&row.lot.lot),
+        ];
+        count(tx, sql, &cells)
+    }
 }
 
-/// The rows of the whole table, the oldest first; `Foreign` where one of them has a value that no row has.
-pub fn all_staged<S: Alter>(
-    alloc: Global,
-    tx: &mut Transaction<'_, S>,
-) -> Result<Vec<StagedRow>, TableFault>
-    ensures same_reference { tx.new.conn.ghost_name ≡ tx.old.conn.ghost_name }
-    ensures rows { HasCleanDisk (state S.Store tx.new.conn.now) → IsReady (state S.Store tx.old.conn.now).now
-        → IfOk result (λ rows. AreRows {K = StagedKey} same_staged staged_key (λ key. true) (λ key. (tables_in (state S.Store tx.old.conn.now).now.trees).staged key.0 key.1) rows.items) }
-    ensures typed { HasCleanDisk (state S.Store tx.new.conn.now) → IsReady (state S.Store tx.old.conn.now).now
-        → OnOk result (AllByRecursion (λ r. is_staged r ≡ true) (all_staged_rows (state S.Store tx.old.conn.now).now.trees)) }
-    ensures foreign { HasCleanDisk (state S.Store tx.new.conn.now) → IsReady (state S.Store tx.old.conn.now).now
-        → IfErr result (λ e. e ≡ Foreign → ¬ AllByRecursion (λ r. is_staged r ≡ true) (all_staged_rows (state S.Store tx.old.conn.now).now.trees)) }
-    ensures same { HasCleanDisk (state S.Store tx.new.conn.now) → IsReady (state S.Store tx.old.conn.now).now → OnOk result (IsUnchanged (state S.Store tx.old.conn.now) (state S.Store tx.new.conn.now)) }
-    ensures refused { HasCleanDisk (state S.Store tx.new.conn.now) → IsReady (state S.Store tx.old.conn.now).now → OnErr result (ChangesNone (state S.Store tx.old.conn.now) (state S.Store tx.new.conn.now)) }
-    ensures kept { HasCleanDisk (state S.Store tx.new.conn.now) → IsReady (state S.Store tx.old.conn.now).now → KeepsCommit (state S.Store tx.old.conn.now) (state S.Store tx.new.conn.now) }
-    ensures survives { Survives (state S.Store tx.old.conn.now) (state S.Store tx.new.conn.now) (λ _. ⊥) }
-{
-    query::<Staged, S>(alloc, tx, ALL_STAGED, &[])
+impl Sought<Gtin> for Staged {
+    ghost use Rattle.order_tables.specs.Staged.{staged_of_item, AreStagedOfItem, staged_of_item_laws};
+
+    ghost query = { staged_of_item };
+
+    ghost are_of = { AreStagedOfItem };
+
+    ghost query_laws = { staged_of_item_laws };
+
+    fn query_text(_: &Gtin) -> &'static str {
+        STAGED_OF_ITEM
+    }
+
+    fn run_query<S: Alter>(
+        alloc: Global,
+        tx: &mut Transaction<'_, S>,
+        sql: &str,
+        gtin: &Gtin,
+    ) -> Result<Vec<StagedRow>, TableFault> {
+        query_rows::<Staged, S>(alloc, tx, sql, &[of_gtin(gtin)])
+    }
+}
+
+impl Sought<Name> for Staged {
+    ghost use Rattle.order_tables.specs.Staged.{staged_of_order, AreStagedOfOrder, staged_of_order_laws};
+
+    ghost query = { staged_of_order };
+
+    ghost are_of = { AreStagedOfOrder };
+
+    ghost query_laws = { staged_of_order_laws };
+
+    fn query_text(_: &Name) -> &'static str {
+        STAGED_OF_ORDER
+    }
+
+    fn run_query<S: Alter>(
+        alloc: Global,
+        tx: &mut Transaction<'_, S>,
+        sql: &str,
+        order: &Name,
+    ) -> Result<Vec<StagedRow>, TableFault> {
+        query_rows::<Staged, S>(alloc, tx, sql, &[of_name(order)])
+    }
+}
+
+impl Sought<All> for Staged {
+    ghost use Rattle.order_tables.specs.Staged.{all_staged, AreAllStaged, all_staged_laws};
+
+    ghost query = { all_staged };
+
+    ghost are_of = { AreAllStaged };
+
+    ghost query_laws = { all_staged_laws };
+
+    fn query_text(_: &All) -> &'static str {
+        ALL_STAGED
+    }
+
+    fn run_query<S: Alter>(
+        alloc: Global,
+        tx: &mut Transaction<'_, S>,
+        sql: &str,
+        _: &All,
+    ) -> Result<Vec<StagedRow>, TableFault> {
+        query_rows::<Staged, S>(alloc, tx, sql, &[])
+    }
 }

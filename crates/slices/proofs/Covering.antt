@@ -19,7 +19,6 @@ use Rattle.row_rules.specs.declared.slice.Put.{Put}
 use Rattle.slices.specs.Slicing.{Each, is_among, is_passed, is_open_in, Covers, AreAllLines, AreNamed, AreKnownOrders, AreOpenLines, KnowsOpen, Knows}
 use Rattle.slices.proofs.Counted.{any_mapped}
 use Rattle.slices.proofs.RowsTold.{rows_read, any_read, any_append, own_joined, own_more}
-use Rattle.slices.proofs.SliceTold.{texts_same}
 
 -- Without the closed
 
@@ -74,7 +73,7 @@ each_has t (n ∷ names) rows (xs, ys, part, more, e) g o among there =
     ap (λ l. has_line_row l g o) e ∙ either_has t n xs ys part g o there (same_text o n) refl (λ no. each_has t names ys more g o (sym (ap (λ b. b || is_among names o) no) ∙ among) there)
 
 all_lines_have : (t : Tables) (names : List (List ℕ)) (rows : List LineRow) → AreAllLines names t rows → (g o : List ℕ) → is_among names o ≡ true → is_some (t.line o g) ≡ true → has_line_row rows g o ≡ true
-all_lines_have t names rows all g o among there = each_has t names rows (subst (λ (l : List (List ℕ)). Each (PartLines t) l rows) (texts_same names) all) g o among there
+all_lines_have t names rows all g o among there = each_has t names rows all g o among there
 
 -- as they are read
 pub covers_read : (t : Tables) (known : Entries) → AreOpenLines t known → Covers known t

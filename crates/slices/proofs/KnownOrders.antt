@@ -16,7 +16,7 @@ use Rattle.slices.specs.Slicing.{Each, is_among, with_names, listed, other_names
 use Rattle.slices.proofs.KeysTold.{same_line_is, same_line_refl}
 use Rattle.slices.proofs.RowsTold.{and_true, or_true, rows_read, rows_joined, rows_as, any_read, one_read}
 use Rattle.slices.proofs.SeekSteps.{each_read}
-use Rattle.slices.proofs.SliceTold.{sought, texts_same, among_names, once_names}
+use Rattle.slices.proofs.SliceTold.{sought, among_names, once_names}
 
 any_more : {X : Type 0} (p q : X → Bool) (xs : List X) → ((x : X) → p x ≡ true → q x ≡ true) → list_any p xs ≡ true → list_any q xs ≡ true
 any_more p q [] more e = e
@@ -87,7 +87,7 @@ module _ (known : Entries) (named gtins : List (List ℕ)) (t : Tables) (covers 
     lines_for g found are =
         each_read {K = LineKey} same_line line_key same_line_is same_line_refl (λ k. same_text g k.1) (λ k. k.0) (λ k. t.line k.0 k.1) (orders_sought g) found
         (sym (apart_once (orders_sought g)) ∙ apart_kept (λ o. not (is_among named o)) (orders_at known g) are.once)
-        (mapped (orders_sought g) found (subst (λ (l : List (List ℕ)). Each (λ o part. part ≡ listed (t.line o g)) l found) (texts_same (orders_sought g)) are.lines))
+        (mapped (orders_sought g) found are.lines)
       where
         swapped : (a b : Bool) → a && b ≡ b && a
         swapped true true = refl
@@ -110,7 +110,7 @@ module _ (known : Entries) (named gtins : List (List ℕ)) (t : Tables) (covers 
     lines_rows =
         rows_read {K = LineKey} same_line line_key same_line_is same_line_refl wants_line (λ k. t.line k.0 k.1) lines
         (each_read {K = LineKey} same_line line_key same_line_is same_line_refl (λ k. is_among (orders_sought k.1) k.0) (λ k. k.1) (λ k. t.line k.0 k.1) gtins lines gtins_once
-        (mapped gtins lines (subst (λ (l : List (List ℕ)). Each (λ g part. AreLinesOfItem known named t g part) l lines) (texts_same gtins) lines_read)))
+        (mapped gtins lines lines_read))
       where
         of_item : (g : List ℕ) (k : LineKey) (b : Bool) → same_text g k.1 ≡ b → b && is_among (orders_sought g) k.0 ≡ is_among (orders_sought k.1) k.0 && b
         of_item g k true e = ap (λ (x : List ℕ). is_among (orders_sought x) k.0) (same_text_is g k.1 e) ∙ every (is_among (orders_sought k.1) k.0)

@@ -25,16 +25,10 @@ use Rattle.row_rules.specs.declared.slice.Slice.{Slice}
 use Rattle.slices.specs.Bounding.{IsToldNumber, AreBounds}
 use Rattle.slices.specs.declared.knowing.Bounds.{Bounds}
 use Rattle.slices.specs.declared.knowing.Known.{Known}
+pub use Rattle.slices.specs.Reading.{Each}
 use Rattle.slices.specs.ByLot.{AreLotsOf, AreStockOf}
 use Rattle.slices.specs.ByOrder.{AreReservedOn}
 pub use Rattle.slice_parts.specs.Parts.{is_among, with_name, with_names, with_some, items_named, lots_named, orders_named, bins_named, whole_orders, order_shipped, order_picked, held_lots, lots_on_stage, others, other_names, has_line_in, with_lines, is_ending, not_recalled, items_of_lots, with_staged}
-
--- Reads one after another
-
--- the rows of one text after another
-abbrev pub Each : {R : Type 0} → (List ℕ → List R → Type 0) → List (List ℕ) → List R → Type 0
-Each P [] rows = rows ≡ []
-Each {R} P (k ∷ ks) rows = (xs : List R) × (ys : List R) × P k xs × Each P ks ys × (rows ≡ xs ++ ys)
 
 -- the row passes
 abbrev pub is_passed : {R : Type 0} → (R → Bool) → Option R → Bool
@@ -45,11 +39,6 @@ is_passed test (Some r) = test r
 abbrev pub is_open_in : Tables → List ℕ → Bool
 is_open_in t o = is_passed is_open_order (t.order o)
 
--- Names
-
-abbrev pub texts : List (List ℕ) → List (List ℕ)
-texts = map (λ x. x)
-
 -- Rows
 
 -- the row, where there is one
@@ -59,17 +48,17 @@ listed (Some r) = r ∷ []
 
 -- of the items their own rows, their recalls and their stock: each item's in turn
 pub record AreGoods (gtins : List (List ℕ)) (t : Tables) (item_rows : List ItemRow) (recall_rows : List RecallRow) (stock_rows : List StockRow) : Type 0 where
-  pub items : Each (λ g found. AreRows {K = ItemKey} same_item item_key (λ k. same_text g k) t.item found) (texts gtins) item_rows
-  pub recalls : Each (λ g found. AreRows {K = RecallKey} same_recall recall_key (λ k. same_text g k.gtin) t.recall found) (texts gtins) recall_rows
-  pub stock : Each (λ g found. AreRows {K = StockKey} same_stock stock_key (λ k. same_text g k.0.gtin) (λ k. t.stock k.0 k.1) found) (texts gtins) stock_rows
+  pub items : Each (λ g found. AreRows {K = ItemKey} same_item item_key (λ k. same_text g k) t.item found) gtins item_rows
+  pub recalls : Each (λ g found. AreRows {K = RecallKey} same_recall recall_key (λ k. same_text g k.gtin) t.recall found) gtins recall_rows
+  pub stock : Each (λ g found. AreRows {K = StockKey} same_stock stock_key (λ k. same_text g k.0.gtin) (λ k. t.stock k.0 k.1) found) gtins stock_rows
 
 pub record AreBooked (gtins : List (List ℕ)) (t : Tables) (staged_rows : List StagedRow) (reserved_rows : List ReservedRow) : Type 0 where
-  pub staged : Each (λ g found. AreRows {K = StagedKey} same_staged staged_key (λ k. same_text g k.1.gtin) (λ k. t.staged k.0 k.1) found) (texts gtins) staged_rows
-  pub reserved : Each (λ g found. AreRows {K = ReservedKey} same_reserved reserved_key (λ k. same_text g k.1.gtin) (λ k. t.reserved k.0 k.1) found) (texts gtins) reserved_rows
+  pub staged : Each (λ g found. AreRows {K = StagedKey} same_staged staged_key (λ k. same_text g k.1.gtin) (λ k. t.staged k.0 k.1) found) gtins staged_rows
+  pub reserved : Each (λ g found. AreRows {K = ReservedKey} same_reserved reserved_key (λ k. same_text g k.1.gtin) (λ k. t.reserved k.0 k.1) found) gtins reserved_rows
 
 -- what is staged of items, one item after another
 abbrev pub AreStaged : List (List ℕ) → Tables → List StagedRow → Type 0
-AreStaged gtins t staged_rows = Each (λ g found. AreRows {K = StagedKey} same_staged staged_key (λ k. same_text g k.1.gtin) (λ k. t.staged k.0 k.1) found) (texts gtins) staged_rows
+AreStaged gtins t staged_rows = Each (λ g found. AreRows {K = StagedKey} same_staged staged_key (λ k. same_text g k.1.gtin) (λ k. t.staged k.0 k.1) found) gtins staged_rows
 
 -- what is staged of the items, and what is reserved for the order that the command picks for
 pub record AreShares (command : Command) (gtins : List (List ℕ)) (t : Tables) (staged_rows : List StagedRow) (reserved_rows : List ReservedRow) : Type 0 where
@@ -84,22 +73,22 @@ pub record AreUnits (command : Command) (gtins : List (List ℕ)) (t : Tables) (
 
 -- the rows of the bins, one bin after another
 abbrev pub AreBins : List (List ℕ) → Tables → List BinRow → Type 0
-AreBins names t bin_rows = Each (λ b found. AreRows {K = BinKey} same_bin bin_key (λ k. same_text b k) t.bin found) (texts names) bin_rows
+AreBins names t bin_rows = Each (λ b found. AreRows {K = BinKey} same_bin bin_key (λ k. same_text b k) t.bin found) names bin_rows
 
 -- the lines of an order for items, one item after another, and those of orders, one order after another
 abbrev pub AreLinesOf : List (List ℕ) → Tables → List ℕ → List LineRow → Type 0
-AreLinesOf gtins t o line_rows = Each (λ g found. found ≡ listed (t.line o g)) (texts gtins) line_rows
+AreLinesOf gtins t o line_rows = Each (λ g found. found ≡ listed (t.line o g)) gtins line_rows
 
 abbrev pub AreLines : List (List ℕ) → List OrderRow → Tables → List LineRow → Type 0
 AreLines gtins order_rows t line_rows = Each (λ o found. AreLinesOf gtins t o found) (map order_key order_rows) line_rows
 
 -- all lines of orders, one order after another
 abbrev pub AreAllLines : List (List ℕ) → Tables → List LineRow → Type 0
-AreAllLines named t line_rows = Each (λ o found. AreRows {K = LineKey} same_line line_key (λ k. same_text o k.0) (λ k. t.line k.0 k.1) found) (texts named) line_rows
+AreAllLines named t line_rows = Each (λ o found. AreRows {K = LineKey} same_line line_key (λ k. same_text o k.0) (λ k. t.line k.0 k.1) found) named line_rows
 
 -- the rows and all lines of the orders named
 pub record AreNamed (named : List (List ℕ)) (t : Tables) (order_rows : List OrderRow) (line_rows : List LineRow) : Type 0 where
-  pub orders : Each (λ o found. AreRows {K = OrderKey} same_order order_key (λ k. same_text o k) t.order found) (texts named) order_rows
+  pub orders : Each (λ o found. AreRows {K = OrderKey} same_order order_key (λ k. same_text o k) t.order found) named order_rows
   pub lines : AreAllLines named t line_rows
 
 -- the lines of the items in open orders that are not named, and the rows of those orders
@@ -124,7 +113,7 @@ pub record AreOrdered (named gtins : List (List ℕ)) (t : Tables) (order_rows :
 
 -- the lines of orders for an item, one order after another
 abbrev pub AreLinesFor : List (List ℕ) → Tables → List ℕ → List LineRow → Type 0
-AreLinesFor orders t g line_rows = Each (λ o found. found ≡ listed (t.line o g)) (texts orders) line_rows
+AreLinesFor orders t g line_rows = Each (λ o found. found ≡ listed (t.line o g)) orders line_rows
 
 -- those in the orders that may be open and are not named
 pub record AreLinesOfItem (known : Entries) (named : List (List ℕ)) (t : Tables) (g : List ℕ) (line_rows : List LineRow) : Type 0 where
@@ -133,11 +122,11 @@ pub record AreLinesOfItem (known : Entries) (named : List (List ℕ)) (t : Table
 
 -- and those of items, one item after another
 abbrev pub AreLinesOfItems : Entries → List (List ℕ) → List (List ℕ) → Tables → List LineRow → Type 0
-AreLinesOfItems known named gtins t line_rows = Each (λ g found. AreLinesOfItem known named t g found) (texts gtins) line_rows
+AreLinesOfItems known named gtins t line_rows = Each (λ g found. AreLinesOfItem known named t g found) gtins line_rows
 
 -- the rows of orders, one order after another
 abbrev pub AreOrders : List (List ℕ) → Tables → List OrderRow → Type 0
-AreOrders names t order_rows = Each (λ o found. AreRows {K = OrderKey} same_order order_key (λ k. same_text o k) t.order found) (texts names) order_rows
+AreOrders names t order_rows = Each (λ o found. AreRows {K = OrderKey} same_order order_key (λ k. same_text o k) t.order found) names order_rows
 
 -- the lines of the items in orders that may be open and are not named, and the rows of those orders
 pub record AreKnown (known : Entries) (named gtins : List (List ℕ)) (t : Tables) (order_rows : List OrderRow) (line_rows : List LineRow) : Type 0 where
@@ -162,7 +151,7 @@ pub record AreEnding (old new : ℤ) (t : Tables) (lot_rows : List LotRow) : Typ
   pub all : List LotRow
   pub read : AreRows {K = LotKey} same_lot lot_key (λ key. true) t.lot all
   pub recalls : List RecallRow
-  pub recalls_read : Each (λ g found. AreRows {K = RecallKey} same_recall recall_key (λ k. same_text g k.gtin) t.recall found) (texts (items_of_lots (filter (is_ending old new) all))) recalls
+  pub recalls_read : Each (λ g found. AreRows {K = RecallKey} same_recall recall_key (λ k. same_text g k.gtin) t.recall found) (items_of_lots (filter (is_ending old new) all)) recalls
   pub lots : lot_rows ≡ not_recalled recalls (filter (is_ending old new) all)
 
 -- the items that the opening of the day touches: those of such lots, and those with staged units

@@ -6,38 +6,15 @@ ghost use Rattle.slices.specs.Reading.{IsRead};
 ghost use Rattle.slices.specs.ByOrder.{AreStagedOf, AreReservedOf, AreReservedOn};
 ghost use Rattle.slices.specs.Slicing.{order_picked as order_picked_lem};
 
+use crate::sought::read_rows;
 use commands::{Command, ReservedRow, StagedRow};
-use order_tables::reserved::reserved_of_order;
-use order_tables::staged::staged_of_order;
+use order_tables::reserved::Reserved;
+use order_tables::staged::Staged;
 use slice_parts::naming::order_picked;
 use sqlite::{Alter, Transaction};
 use std::alloc::Global;
 use table_words::error::TableFault;
 use values::Name;
-
-/// What is staged for the order.
-fn staged_for<S: Alter>(
-    alloc: Global,
-    tx: &mut Transaction<'_, S>,
-    order: &Name,
-) -> Result<Vec<StagedRow>, TableFault>
-    ensures same_reference { tx.new.conn.ghost_name ≡ tx.old.conn.ghost_name }
-    ensures read { IsRead (λ t rows. AreStagedOf order.now t rows.items) (state S.Store tx.old.conn.now) (state S.Store tx.new.conn.now) result }
-{
-    staged_of_order(alloc, tx, order)
-}
-
-/// What is reserved for the order.
-fn reserved_for<S: Alter>(
-    alloc: Global,
-    tx: &mut Transaction<'_, S>,
-    order: &Name,
-) -> Result<Vec<ReservedRow>, TableFault>
-    ensures same_reference { tx.new.conn.ghost_name ≡ tx.old.conn.ghost_name }
-    ensures read { IsRead (λ t rows. AreReservedOf order.now t rows.items) (state S.Store tx.old.conn.now) (state S.Store tx.new.conn.now) result }
-{
-    reserved_of_order(alloc, tx, order)
-}
 
 /// What is staged and what is reserved for the order.
 pub fn booked_for<S: Alter>(
@@ -48,8 +25,8 @@ pub fn booked_for<S: Alter>(
     ensures same_reference { tx.new.conn.ghost_name ≡ tx.old.conn.ghost_name }
     ensures read { IsRead (λ t rows. AreStagedOf order.now t rows.0.items × AreReservedOf order.now t rows.1.items) (state S.Store tx.old.conn.now) (state S.Store tx.new.conn.now) result }
 {
-    let staged = staged_for(alloc, tx, order)?;
-    let reserved = reserved_for(alloc, tx, order)?;
+    let staged = read_rows::<Staged, Name, S>(alloc, tx, order)?;
+    let reserved = read_rows::<Reserved, Name, S>(alloc, tx, order)?;
     Ok((staged, reserved))
 }
 
@@ -63,7 +40,7 @@ pub fn reserved_for_pick<S: Alter>(
     ensures read { IsRead (λ t rows. AreReservedOn (order_picked_lem command.now) t rows.items) (state S.Store tx.old.conn.now) (state S.Store tx.new.conn.now) result }
 {
     match order_picked(command) {
-        Some(order) => reserved_for(alloc, tx, &order),
+        Some(order) => read_rows::<Reserved, Name, S>(alloc, tx, &order),
         None => Ok(Vec::new(alloc)),
     }
 }

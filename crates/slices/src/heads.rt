@@ -11,14 +11,16 @@ ghost use Rattle.slices.specs.Books.{IsBooksOf};
 ghost use Rattle.slices.specs.Reading.{IsRead};
 ghost use Rattle.slices.specs.Heads.{IsHead};
 
-use crate::by_lot::OfLot;
-use crate::sought::Sought;
+use crate::sought::read_rows;
 use commands::{ItemRow, LotRow, RecallRow};
+use goods_tables::items::Items;
+use goods_tables::lots::Lots;
+use goods_tables::recalls::Recalls;
 use row_rules::looking::{find_item, find_lot, find_recall};
 use sqlite::{Alter, Transaction};
 use std::alloc::Global;
 use table_words::error::TableFault;
-use values::LotId;
+use values::{Gtin, LotId};
 
 /// The row of an item, that of one of its lots and that of the lot's recall, where there is one.
 #[derive(Clone, Copy)]
@@ -37,9 +39,9 @@ fn head_in<S: Alter>(
     ensures same_reference { tx.new.conn.ghost_name ≡ tx.old.conn.ghost_name }
     ensures read { IsRead (λ t head. IsHead lot.now t head) (state S.Store tx.old.conn.now) (state S.Store tx.new.conn.now) result }
 {
-    let items = ItemRow::seek::<S>(alloc, tx, &lot.gtin)?;
-    let lots = LotRow::of_lot::<S>(alloc, tx, lot)?;
-    let recalls = RecallRow::seek::<S>(alloc, tx, &lot.gtin)?;
+    let items = read_rows::<Items, Gtin, S>(alloc, tx, &lot.gtin)?;
+    let lots = read_rows::<Lots, LotId, S>(alloc, tx, lot)?;
+    let recalls = read_rows::<Recalls, Gtin, S>(alloc, tx, &lot.gtin)?;
     let item = find_item(items.as_slice(), &lot.gtin);
     let row = find_lot(lots.as_slice(), lot);
     let recall = find_recall(recalls.as_slice(), lot);

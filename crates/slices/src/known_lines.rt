@@ -14,15 +14,17 @@ ghost use Rattle.slices.specs.Reading.{IsRead};
 ghost use Rattle.slices.specs.Slicing.{AreOpenLines, IsFirstKnown, HoldsOf, KnowsOpen, Knows, AreAllLines};
 
 use crate::knowing::{Bounds, Known};
-use crate::reading::open_order_rows;
-use crate::sought::seek_all;
+use crate::sought::{read_rows, seek_all};
 use commands::{LineRow, OrderRow};
 use open_lines::OpenLines;
+use order_tables::lines::Lines;
+use order_tables::orders::{Open, Orders};
 use rules::Put;
 use slice_parts::order_names::{open_rows, orders_of};
 use sqlite::{Alter, Transaction};
 use std::alloc::Global;
 use table_words::error::TableFault;
+use values::Name;
 
 /// The open orders, by the items of their lines.
 fn open_lines_in<S: Alter>(
@@ -32,9 +34,9 @@ fn open_lines_in<S: Alter>(
     ensures same_reference { tx.new.conn.ghost_name ≡ tx.old.conn.ghost_name }
     ensures read { IsRead AreOpenLines (state S.Store tx.old.conn.now) (state S.Store tx.new.conn.now) result }
 {
-    let orders = open_order_rows(alloc, tx)?;
+    let orders = read_rows::<Orders, Open, S>(alloc, tx, &Open)?;
     let names = orders_of(alloc, orders.as_slice())?;
-    let lines = seek_all::<LineRow, S>(alloc, tx, names.as_slice())?;
+    let lines = seek_all::<Lines, Name, S>(alloc, tx, names.as_slice())?;
     let mut known = OpenLines::new(alloc);
     known.add_rows(lines.as_slice())?;
     Ok(known)
@@ -87,7 +89,7 @@ fn lines_of_open<S: Alter>(
 {
     let open = open_rows(alloc, orders)?;
     let names = orders_of(alloc, open.as_slice())?;
-    seek_all::<LineRow, S>(alloc, tx, names.as_slice())
+    seek_all::<Lines, Name, S>(alloc, tx, names.as_slice())
 }
 
 /// The open ones among these orders, by the lines that they have.

@@ -10,6 +10,7 @@ use crate::reading::line_row;
 use crate::sought::seek_all;
 use commands::{LineRow, OrderRow};
 use open_lines::OpenLines;
+use order_tables::orders::Orders;
 use slice_parts::order_names::{orders_of_lines, other_names};
 use sqlite::{Alter, Transaction};
 use std::alloc::Global;
@@ -81,7 +82,7 @@ fn read_known<S: Alter>(
 {
     let lines = lines_of_items(alloc, tx, known, named, gtins)?;
     let names = orders_of_lines(alloc, lines.as_slice())?;
-    let orders = seek_all::<OrderRow, S>(alloc, tx, names.as_slice())?;
+    let orders = seek_all::<Orders, Name, S>(alloc, tx, names.as_slice())?;
     Ok((orders, lines))
 }
 

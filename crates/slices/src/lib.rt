@@ -2,7 +2,6 @@
 //! which something is shown, and what is shown of them.
 #![tactic(auto)]
 
-mod by_lot;
 mod by_order;
 mod heads;
 mod knowing;
@@ -19,7 +18,6 @@ mod shown_shorts;
 mod shown_stock;
 mod slices;
 mod sought;
-mod sought_rows;
 
 pub use heads::{Head, read_head};
 pub use knowing::{Bounds, Known};

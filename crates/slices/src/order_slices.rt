@@ -5,9 +5,11 @@ ghost use Rattle.sqlite.specs.Held.{state};
 ghost use Rattle.slices.specs.Reading.{IsRead};
 ghost use Rattle.slices.specs.Slicing.{listed, AreLinesOf, AreLines, AreNamed, AreOpen, AreOrdered};
 
-use crate::reading::{line_row, open_order_rows};
-use crate::sought::seek_both;
+use crate::reading::line_row;
+use crate::sought::{read_rows, seek_both};
 use commands::{LineRow, OrderRow};
+use order_tables::lines::Lines;
+use order_tables::orders::{Open, Orders};
 use slice_parts::order_rows::{others, with_lines};
 use sqlite::{Alter, Transaction};
 use std::alloc::{AllocError, Global};
@@ -69,7 +71,7 @@ pub fn read_named<S: Alter>(
     ensures same_reference { tx.new.conn.ghost_name ≡ tx.old.conn.ghost_name }
     ensures read { IsRead (λ t rows. AreNamed named.now t rows.0.items rows.1.items) (state S.Store tx.old.conn.now) (state S.Store tx.new.conn.now) result }
 {
-    seek_both::<Name, OrderRow, LineRow, S>(alloc, tx, named)
+    seek_both::<Name, Orders, Lines, S>(alloc, tx, named)
 }
 
 /// The open orders that are not named and have a line of one of the items, and those lines.
@@ -82,7 +84,7 @@ fn read_open<S: Alter>(
     ensures same_reference { tx.new.conn.ghost_name ≡ tx.old.conn.ghost_name }
     ensures read { IsRead (λ t rows. AreOpen named.now gtins.now t rows.0.items rows.1.items) (state S.Store tx.old.conn.now) (state S.Store tx.new.conn.now) result }
 {
-    let open = open_order_rows(alloc, tx)?;
+    let open = read_rows::<Orders, Open, S>(alloc, tx, &Open)?;
     let rest = others(alloc, open.as_slice(), named)?;
     let lines = lines_of_orders(alloc, tx, rest.as_slice(), gtins)?;
     let orders = with_lines(alloc, rest.as_slice(), lines.as_slice())?;

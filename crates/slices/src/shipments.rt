@@ -5,10 +5,10 @@ ghost use Rattle.sqlite.specs.Held.{state};
 ghost use Rattle.slices.specs.Reading.{IsRead};
 ghost use Rattle.slices.specs.Slicing.{AreShipped};
 
-use crate::by_lot::of_lots;
 use crate::order_slices::read_named;
 use crate::sought::seek_all;
-use commands::{StagedRow, StockRow};
+use goods_tables::stock::Stock;
+use order_tables::staged::Staged;
 use rules::Rows;
 use slice_parts::item_rows::of_shipment;
 use slice_parts::lots_held::lots_on_stage;
@@ -16,7 +16,7 @@ use slice_parts::naming::items_of_rows;
 use sqlite::{Alter, Transaction};
 use std::alloc::Global;
 use table_words::error::TableFault;
-use values::Name;
+use values::{Gtin, LotId, Name};
 
 /// The order with its lines, what is staged of their items, and the stock of the lots that are staged for the order. No
 /// plan changes, so nothing is read of the items' other lots and open orders.
@@ -31,8 +31,8 @@ pub fn read_shipment<S: Alter>(
     let named = [*order];
     let (orders, lines) = read_named(alloc, tx, &named)?;
     let gtins = items_of_rows(alloc, lines.as_slice())?;
-    let staged = seek_all::<StagedRow, S>(alloc, tx, gtins.as_slice())?;
+    let staged = seek_all::<Staged, Gtin, S>(alloc, tx, gtins.as_slice())?;
     let lots = lots_on_stage(alloc, order, staged.as_slice())?;
-    let stock = of_lots::<StockRow, S>(alloc, tx, lots.as_slice())?;
+    let stock = seek_all::<Stock, LotId, S>(alloc, tx, lots.as_slice())?;
     Ok(of_shipment(alloc, stock, orders, lines, staged))
 }

@@ -12,13 +12,15 @@ ghost use Rattle.slices.specs.Reading.{IsRead};
 ghost use Rattle.slices.specs.Shipped.{units_told, with_order};
 
 use crate::reading::order_row;
+use crate::sought::read_row;
+use commands::limits::ACTS_MAX;
 use commands::{OrderRow, ShiplineRow, ShipmentRow, ShippedUnits};
-use history_tables::shipments::shipments_of;
+use history_tables::shipments::Shipments;
 use sqlite::{Alter, Transaction};
 use std::alloc::Global;
 use table_words::error::TableFault;
 
-/// The row of a shipment, if there is one.
+/// The row of a shipment, if there is one. A number above the limit is refused as too big.
 fn shipment_row<S: Alter>(
     alloc: Global,
     tx: &mut Transaction<'_, S>,
@@ -27,8 +29,10 @@ fn shipment_row<S: Alter>(
     ensures same_reference { tx.new.conn.ghost_name ≡ tx.old.conn.ghost_name }
     ensures read { IsRead (λ t row. row ≡ t.shipment number) (state S.Store tx.old.conn.now) (state S.Store tx.new.conn.now) result }
 {
-    let rows = shipments_of(alloc, tx, number)?;
-    Ok(rows.as_slice().first().copied())
+    if number > ACTS_MAX {
+        return Err(TableFault::too_big());
+    }
+    read_row::<Shipments, u64, S>(alloc, tx, &number)
 }
 
 /// What a notice tells of the line, as the tables have it.

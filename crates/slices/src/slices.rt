@@ -18,7 +18,6 @@ ghost use Rattle.slices.specs.Bounding.{with_counts};
 ghost use Rattle.slices.specs.ByLot.{AreLotsOf};
 ghost use Rattle.slices.specs.Slicing.{AreGoods, AreBooked, AreShares, AreUnits, AreBins, AreCounts, AreTaken, AreTouched, ArePlanned, AreSliced, HoldsOf, IsSliceIn, bins_named, with_names, held_lots};
 
-use crate::by_lot::of_lots;
 use crate::by_order::reserved_for_pick;
 use crate::knowing::{Bounds, Known};
 use crate::known_orders::read_known_orders;
@@ -30,14 +29,22 @@ use commands::{
     Added, BinRow, Command, ItemRow, LineRow, Listed, LotRow, MetaRow, OrderRow, RecallRow,
     ReservedRow, StagedRow, StockRow,
 };
+use goods_tables::bins::Bins;
+use goods_tables::items::Items;
+use goods_tables::lots::Lots;
+use goods_tables::recalls::Recalls;
+use goods_tables::stock::Stock;
 use open_lines::OpenLines;
+use order_tables::lines::Lines;
+use order_tables::reserved::Reserved;
+use order_tables::staged::Staged;
 use rules::{Rows, Slice};
 use slice_parts::lots_held::lots_held;
 use slice_parts::naming::{bins_with, items_with, named_orders, order_shipped, whole_orders};
 use sqlite::{Alter, Transaction};
 use std::alloc::Global;
 use table_words::error::TableFault;
-use values::Gtin;
+use values::{Gtin, LotId, Name};
 
 /// The items that the command names, and those of the lines of the order that it takes whole.
 fn taken_items<S: Alter>(
@@ -49,7 +56,7 @@ fn taken_items<S: Alter>(
     ensures read { IsRead (λ t gtins. AreTaken command.now t gtins.items) (state S.Store tx.old.conn.now) (state S.Store tx.new.conn.now) result }
 {
     let orders = whole_orders(alloc, command)?;
-    let lines = seek_all::<LineRow, S>(alloc, tx, orders.as_slice())?;
+    let lines = seek_all::<Lines, Name, S>(alloc, tx, orders.as_slice())?;
     Ok(items_with(alloc, command, lines.as_slice())?)
 }
 
@@ -77,8 +84,8 @@ fn read_goods<S: Alter>(
     ensures same_reference { tx.new.conn.ghost_name ≡ tx.old.conn.ghost_name }
     ensures read { IsRead (λ t rows. AreGoods gtins.now t rows.0.items rows.1.items rows.2.items) (state S.Store tx.old.conn.now) (state S.Store tx.new.conn.now) result }
 {
-    let items = seek_all::<ItemRow, S>(alloc, tx, gtins)?;
-    let (recalls, stock) = seek_both::<Gtin, RecallRow, StockRow, S>(alloc, tx, gtins)?;
+    let items = seek_all::<Items, Gtin, S>(alloc, tx, gtins)?;
+    let (recalls, stock) = seek_both::<Gtin, Recalls, Stock, S>(alloc, tx, gtins)?;
     Ok((items, recalls, stock))
 }
 
@@ -91,7 +98,7 @@ pub fn read_booked<S: Alter>(
     ensures same_reference { tx.new.conn.ghost_name ≡ tx.old.conn.ghost_name }
     ensures read { IsRead (λ t rows. AreBooked gtins.now t rows.0.items rows.1.items) (state S.Store tx.old.conn.now) (state S.Store tx.new.conn.now) result }
 {
-    seek_both::<Gtin, StagedRow, ReservedRow, S>(alloc, tx, gtins)
+    seek_both::<Gtin, Staged, Reserved, S>(alloc, tx, gtins)
 }
 
 /// What is staged of the items, and what is reserved for the order that the command picks for.
@@ -104,7 +111,7 @@ fn read_shares<S: Alter>(
     ensures same_reference { tx.new.conn.ghost_name ≡ tx.old.conn.ghost_name }
     ensures read { IsRead (λ t rows. AreShares command.now gtins.now t rows.0.items rows.1.items) (state S.Store tx.old.conn.now) (state S.Store tx.new.conn.now) result }
 {
-    let staged = seek_all::<StagedRow, S>(alloc, tx, gtins)?;
+    let staged = seek_all::<Staged, Gtin, S>(alloc, tx, gtins)?;
     let reserved = reserved_for_pick(alloc, tx, command)?;
     Ok((staged, reserved))
 }
@@ -121,7 +128,7 @@ fn read_lots<S: Alter>(
     ensures read { IsRead (λ t rows. AreLotsOf (held_lots command.now stock.now staged.now) t rows.items) (state S.Store tx.old.conn.now) (state S.Store tx.new.conn.now) result }
 {
     let lots = lots_held(alloc, command, stock, staged)?;
-    of_lots::<LotRow, S>(alloc, tx, lots.as_slice())
+    seek_all::<Lots, LotId, S>(alloc, tx, lots.as_slice())
 }
 
 /// The rows of the items, those of the lots that the command names or that have units, what is staged of the items, and
@@ -191,7 +198,7 @@ fn read_bins<S: Alter>(
     ensures read { IsRead (λ t rows. AreBins (with_names (λ r. r.bin) stock.now (bins_named command.now)) t rows.items) (state S.Store tx.old.conn.now) (state S.Store tx.new.conn.now) result }
 {
     let names = bins_with(alloc, command, stock)?;
-    seek_all::<BinRow, S>(alloc, tx, names.as_slice())
+    seek_all::<Bins, Name, S>(alloc, tx, names.as_slice())
 }
 
 /// The number of items and that of bins, where the command is judged by them, and else 0. One that is known and below

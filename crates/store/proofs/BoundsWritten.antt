@@ -10,7 +10,8 @@ use Rattle.table_words.specs.Typed.{item_key, bin_key, with_item, with_bin, with
 use Rattle.machine.proofs.Tests.{or_first, or_later}
 use Rattle.row_rules.specs.declared.slice.Put.{Put}
 use Rattle.row_rules.specs.declared.slice.Change.{Change}
-use Rattle.changes.specs.Written.{each_written, names_written, goods_written, lines_written, orders_written, change_written}
+use Rattle.keyed_rows.specs.Writes.{each_written}
+use Rattle.changes.specs.Written.{names_written, goods_written, lines_written, orders_written, change_written}
 use Rattle.slices.specs.Slicing.{is_among}
 use Rattle.slices.specs.Bounding.{IsAtMost, AreBounds, IsRaised}
 use Rattle.slices.specs.declared.knowing.Bounds.{Bounds}

@@ -11,7 +11,8 @@ use Rattle.machine.proofs.Tests.{or_first, or_later}
 use Rattle.row_rules.specs.declared.slice.Put.{Put}
 use Rattle.row_rules.specs.declared.slice.Dropped.{Dropped}
 use Rattle.row_rules.specs.declared.slice.Change.{Change}
-use Rattle.changes.specs.Written.{each_written, lines_written, goods_written, change_written}
+use Rattle.keyed_rows.specs.Writes.{each_written}
+use Rattle.changes.specs.Written.{lines_written, goods_written, change_written}
 use Rattle.open_lines.specs.OpenLines.{Entries, holds, Keeps, has_line_row}
 use Rattle.slices.specs.Slicing.{is_among, is_passed, is_open_in, Covers, Knows}
 

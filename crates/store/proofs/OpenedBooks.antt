@@ -22,7 +22,7 @@ use Rattle.table_words.specs.Steps.{IsReady}
 use Rattle.table_words.specs.Typed.{is_meta, tables_in, meta_rows_rows}
 use Rattle.table_words.specs.declared.error.TableFault.{TableFault}
 use Rattle.table_words.specs.declared.error.TableFault.TheVariants.{Store as TableStore, Foreign as TableForeign}
-use Rattle.table_words.proofs.StepLemmas.{tables_same, typed_same}
+use Rattle.table_words.proofs.StepLemmas.{tables_same, typed_same, typed_at}
 use Rattle.tables.specs.Indexing.{KeepsRows}
 use Rattle.tables.specs.Settling.{IsStill}
 use Rattle.tables.proofs.SettleLemmas.{each_itself}
@@ -74,7 +74,7 @@ typed_among P read (r ∷ rows) all = elim (read r) as (λ b. AllByRecursion P (
 pub has_day : (trees : Trees) (first : ℤ) (acts : List Act) → AreRowsOf first acts trees → HasDay trees (today first acts)
 unfolding tables_of
 has_day trees first acts rows = record {
-  typed = typed_among (λ r. is_meta r ≡ true) (λ r. is_the_number 1 (column r 0)) (trees meta_tree) rows.typed.meta;
+  typed = typed_among (λ r. is_meta r ≡ true) (λ r. is_the_number 1 (column r 0)) (trees meta_tree) (typed_at 0 (record { tree = meta_tree; is = is_meta }) refl trees rows.typed);
   found = ap (λ (t : Tables). option_map (λ (m : MetaRow). m.day) t.meta) rows.tables;
 }
 

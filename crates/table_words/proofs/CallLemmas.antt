@@ -16,11 +16,7 @@ use Rattle.sqlite.proofs.StateLemmas.{survives_then}
 use Rattle.sqlite.specs.Effect.{Database}
 use Rattle.table_words.specs.Typed.{Tables, tables_in, AreTyped}
 use Rattle.table_words.specs.Steps.{IsReady, Goes, IsUndone, ChangesNone}
-use Rattle.table_words.specs.Calls.{Counts, NotRun, Puts, PutsNot, PutsNew, PutsNewNot, Reads, ShowsForeign}
-use Rattle.table_words.specs.Calls.PutsNot.{ChangeRefused, AddRefused}
-use Rattle.table_words.specs.Calls.Puts.{Changed, Added}
-use Rattle.table_words.specs.Calls.PutsNew.{AddedFirst, ChangedAfter}
-use Rattle.table_words.specs.Calls.PutsNewNot.{BothRefused, NeitherWrote}
+use Rattle.table_words.specs.Calls.{Reads, ShowsForeign}
 
 -- a call that answered was made inside a transaction
 pub was_inside : {X E P : Type 0} (b : Bool) {x : X} {e : E} → (b ≡ false → ◌≡◌ {A = Result X E} (Ok x) (Err e) × P) → b ≡ true
@@ -144,16 +140,6 @@ pub on_ok_then : {X E P Q : Type 0} (r : Result X E) → OnOk r P → (P → Q) 
 on_ok_then (Ok x) h f = f h
 on_ok_then (Err e) h f = tt
 
--- a row is put where a change of it, or else its adding, puts it
-pub puts : {S : Type 0} (g : Ghosts S) (change add : List ℕ) (params : Row) (f : Tables → Tables) (old new : Held S)
-    → ((mid : State) (count : ℕ) → Counts count change params (state g old) mid → (count ≢ 0 → Goes f (state g old) mid) × (count ≡ 0 → Goes (λ t. t) (state g old) mid))
-    → ((mid : State) (count : ℕ) → IsReady mid.now → Counts count add params mid (state g new) → Goes f mid (state g new))
-    → Puts g change add params old new → Goes f (state g old) (state g new)
-puts g change add params f old new changes adds (Changed count some h) = (changes (state g new) count h).0 some
-puts g change add params f old new changes adds (Added mid none h) =
-    let kept = (changes (state g mid) 0 none).1 refl in
-    goes_then (λ t. t) f (state g old) (state g mid) (state g new) kept (adds (state g mid) h.count kept.ready h.counts)
-
 -- ---- what a call leaves that is refused
 
 goes_itself : (s : State) → IsReady s.now → Goes (λ t. t) s s
@@ -203,91 +189,10 @@ query_none sql params old new e plain ready (inl (inr h)) =
 query_none sql params old new e plain ready (inr h) = none_unchanged old new ready h.5
 
 -- nothing was changed before what was refused
-none_then : (a b c : State) → Goes (λ t. t) a b → KeepsCommit a b → ChangesNone b c → ChangesNone a c
+pub none_then : (a b c : State) → Goes (λ t. t) a b → KeepsCommit a b → ChangesNone b c → ChangesNone a c
 none_then a b c same kept (inl h) = inl (goes_then (λ t. t) (λ t. t) a b c same h)
 none_then a b c same kept (inr h) = inr (record {
   was_open = λ up. kept.was_open (h.was_open up);
   undone = λ up. ((h.undone up).0 ∙ kept.committed (h.was_open up), (h.undone up).1 ∙ kept.committed (h.was_open up));
   autocommit = h.autocommit;
 })
-
-pub add_refused : {S X E : Type 0} (g : Ghosts S) (change : List ℕ) (params : Row) (old mid new : Held S) (r : Result X E) → Counts 0 change params (state g old) (state g mid)
-    → (IsReady (state g mid).now → OnErr r (ChangesNone (state g mid) (state g new))) → OnErr r (PutsNot g change params old new)
-add_refused g change params old mid new (Ok x) none h = tt
-add_refused g change params old mid new (Err e) none h = AddRefused mid none h
-
--- a row that is not put leaves the tables as they were
-pub puts_none : {S X E : Type 0} (g : Ghosts S) (change : List ℕ) (params : Row) (f : Tables → Tables) (old new : Held S) (r : Result X E)
-    → ((mid : State) (count : ℕ) → Counts count change params (state g old) mid → (count ≢ 0 → Goes f (state g old) mid) × (count ≡ 0 → Goes (λ t. t) (state g old) mid))
-    → OnErr r (PutsNot g change params old new) → OnErr r (ChangesNone (state g old) (state g new))
-puts_none g change params f old new (Ok x) changes h = tt
-puts_none g change params f old new (Err e) changes (ChangeRefused h) = h
-puts_none g change params f old new (Err e) changes (AddRefused mid none h) =
-    let same = (changes (state g mid) 0 none).1 refl in
-    none_then (state g old) (state g mid) (state g new) same (ran_kept change params (state g old) (state g mid) (Ok 0) none.executes) (h same.ready)
-
--- ---- a row that is thought to be new
-
--- where a statement ran after one that was refused, the transaction was not undone
-went_on : {P : Type 0} (old mid : State) → IsTrue mid.in_transaction → ChangesNone old mid → (Goes (λ t. t) old mid → P) → P
-went_on old mid inside (inl kept) f = f kept
-went_on old mid inside (inr undone) f = absurd (let out = undone.autocommit in cc)
-
-pub puts_new : {S : Type 0} (g : Ghosts S) (change add : List ℕ) (params : Row) (f : Tables → Tables) (old new : Held S) → IsReady (state g old).now
-    → ((mid : State) (count : ℕ) → IsReady mid.now → Counts count change params mid (state g new) → (count ≢ 0 → Goes f mid (state g new)) × (count ≡ 0 → Goes (λ t. t) mid (state g new)))
-    → ((mid : State) (count : ℕ) → IsReady mid.now → Counts count add params mid (state g new) → Goes f mid (state g new))
-    → PutsNew g change add params old new → Goes f (state g old) (state g new)
-puts_new g change add params f old new ready changes adds (AddedFirst h) = adds (state g old) h.count ready h.counts
-puts_new g change add params f old new ready changes adds (ChangedAfter mid count same some h) =
-    went_on (state g old) (state g mid) h.inside (same ready) (λ kept. goes_then (λ t. t) f (state g old) (state g mid) (state g new) kept ((changes (state g mid) count kept.ready h).0 some))
-
--- where both were refused
-both_refused : {S : Type 0} (g : Ghosts S) (old mid new : Held S) → KeepsCommit (state g old) (state g mid) → NotRun g mid new → ChangesNone (state g old) (state g mid) → ChangesNone (state g old) (state g new)
-both_refused g old mid new kept later (inl same) = none_then (state g old) (state g mid) (state g new) same kept (later.refused same.ready)
-both_refused g old mid new kept later (inr undone) = subst (λ h. ChangesNone (state g old) (state g h)) (sym (later.outside undone.autocommit)) (inr undone)
-
-pub puts_new_none : {S X E : Type 0} (g : Ghosts S) (change : List ℕ) (params : Row) (f : Tables → Tables) (old new : Held S) (r : Result X E) → IsReady (state g old).now
-    → ((mid : State) (count : ℕ) → IsReady mid.now → Counts count change params mid (state g new) → (count ≢ 0 → Goes f mid (state g new)) × (count ≡ 0 → Goes (λ t. t) mid (state g new)))
-    → OnErr r (PutsNewNot g change params old new) → OnErr r (ChangesNone (state g old) (state g new))
-puts_new_none g change params f old new (Ok x) ready changes h = tt
-puts_new_none g change params f old new (Err e) ready changes (BothRefused mid same kept later) = both_refused g old mid new kept later (same ready)
-puts_new_none g change params f old new (Err e) ready changes (NeitherWrote mid same h) =
-    went_on (state g old) (state g mid) h.inside (same ready) (λ kept. inl (goes_then (λ t. t) (λ t. t) (state g old) (state g mid) (state g new) kept ((changes (state g mid) 0 kept.ready h).1 refl)))
-
-pub not_new : {S X E : Type 0} (g : Ghosts S) (change : List ℕ) (params : Row) (old mid new : Held S) (r : Result X E) → (IsReady (state g old).now → ChangesNone (state g old) (state g mid)) → KeepsCommit (state g old) (state g mid)
-    → OnErr r (NotRun g mid new ⊎ Counts 0 change params (state g mid) (state g new)) → OnErr r (PutsNewNot g change params old new)
-not_new g change params old mid new (Ok x) same kept h = tt
-not_new g change params old mid new (Err e) same kept (inl h) = BothRefused mid same kept h
-not_new g change params old mid new (Err e) same kept (inr h) = NeitherWrote mid same h
-
--- whichever of the two was tried first
-
-pub puts_either : {S : Type 0} (g : Ghosts S) (change add : List ℕ) (params : Row) (f : Tables → Tables) (old new : Held S) → IsReady (state g old).now
-    → ((a b : State) (count : ℕ) → IsReady a.now → Counts count change params a b → (count ≢ 0 → Goes f a b) × (count ≡ 0 → Goes (λ t. t) a b))
-    → ((a b : State) (count : ℕ) → IsReady a.now → Counts count add params a b → Goes f a b)
-    → Puts g change add params old new ⊎ PutsNew g change add params old new → Goes f (state g old) (state g new)
-puts_either g change add params f old new ready changes adds (inl h) = puts g change add params f old new (λ mid count k. changes (state g old) mid count ready k) (λ mid count at k. adds mid (state g new) count at k) h
-puts_either g change add params f old new ready changes adds (inr h) = puts_new g change add params f old new ready (λ mid count at k. changes mid (state g new) count at k) (λ mid count at k. adds mid (state g new) count at k) h
-
-pub puts_either_none : {S X E : Type 0} (g : Ghosts S) (change : List ℕ) (params : Row) (f : Tables → Tables) (old new : Held S) (r : Result X E) → IsReady (state g old).now
-    → ((a b : State) (count : ℕ) → IsReady a.now → Counts count change params a b → (count ≢ 0 → Goes f a b) × (count ≡ 0 → Goes (λ t. t) a b))
-    → OnErr r (PutsNot g change params old new ⊎ PutsNewNot g change params old new) → OnErr r (ChangesNone (state g old) (state g new))
-puts_either_none g change params f old new (Ok x) ready changes h = tt
-puts_either_none {S} {X} {E} g change params f old new (Err e) ready changes (inl h) = puts_none {X = X} g change params f old new (Err e) (λ mid count k. changes (state g old) mid count ready k) h
-puts_either_none {S} {X} {E} g change params f old new (Err e) ready changes (inr h) = puts_new_none {X = X} g change params f old new (Err e) ready (λ mid count at k. changes mid (state g new) count at k) h
-
-pub first_of : {X E : Type 0} (P Q : Type 0) (r : Result X E) → OnOk r P → OnOk r (P ⊎ Q)
-first_of P Q (Ok x) h = inl h
-first_of P Q (Err e) h = tt
-
-pub second_of : {X E : Type 0} (P Q : Type 0) (r : Result X E) → OnOk r Q → OnOk r (P ⊎ Q)
-second_of P Q (Ok x) h = inr h
-second_of P Q (Err e) h = tt
-
-pub first_refused : {X E : Type 0} (P Q : Type 0) (r : Result X E) → OnErr r P → OnErr r (P ⊎ Q)
-first_refused P Q (Ok x) h = tt
-first_refused P Q (Err e) h = inl h
-
-pub second_refused : {X E : Type 0} (P Q : Type 0) (r : Result X E) → OnErr r Q → OnErr r (P ⊎ Q)
-second_refused P Q (Ok x) h = tt
-second_refused P Q (Err e) h = inr h

@@ -1,7 +1,9 @@
 -- From what a statement did to a table to what a call says.
-use Rattle.std.proofs.Common.{◌≡◌, true≢false, inl, inr, ℕ, true, List, [], ◌∷◌, ◌++◌, subst, refl, sym, ◌∙◌}
-use Rattle.std.specs.List.{AllByRecursion, list_all, flat_map, filter_map}
-use Rattle.std.proofs.lemmas.Bool.{cases_eq, eq-eqb, ne_eqb, and_parts}
+use Rattle.std.proofs.Common.{◌≡◌, true≢false, inl, inr, ℕ, zero, suc, true, false, not, List, [], ◌∷◌, ◌++◌, slice_get, Some, subst, refl, sym, ◌∙◌, arith}
+use Rattle.std.specs.Prelude.{nat_eq}
+use Rattle.std.specs.List.{AllByRecursion, list_all, list_any, flat_map, filter_map}
+use Rattle.std.proofs.lemmas.Bool.{cases_eq, eq-eqb, ne_eqb, and_parts, not-true}
+use Rattle.std.proofs.lemmas.Bool.Decides.{nat_tests}
 use Rattle.sqlite_value.specs.Order.{Row}
 use Rattle.sqlite.specs.State.{State}
 use Rattle.sqlite.specs.Effect.{Database}
@@ -11,11 +13,12 @@ use Rattle.sqlite.specs.Table.{Table}
 use Rattle.sqlite_schema.specs.declared.schema.Keys.TheVariants.{Enforced}
 use Rattle.sqlite_rules.specs.Action.{works, work_for}
 use Rattle.sqlite_catalog.specs.Listing.{IsSound}
-use Rattle.sqlite_keyed.proofs.ListLemmas.{all_both}
+use Rattle.sqlite_keyed.proofs.ListLemmas.{all_both, all-slice_get, none_from_any}
 use Rattle.table_words.specs.Schema.{the_tables, schema_with, is_nil, refers_to_none, HasTables}
 use Rattle.table_words.specs.Rows.{IsRows}
 use Rattle.table_words.specs.Changed.{Changed}
-use Rattle.table_words.specs.Typed.{Tables, tables_in, AreTyped, is_meta, is_item, is_bin, is_lot, is_recall, is_stock, is_order, is_line, is_staged, is_reserved, is_shipment, is_shipline, is_card, is_repeat}
+use Rattle.table_words.specs.Found.{no_two}
+use Rattle.table_words.specs.Typed.{Tables, tables_in, Rule, the_rules, Keeps, AreTyped}
 use Rattle.table_words.specs.Steps.{IsReady, Goes}
 
 pub tables_same : (old new : Trees) → AllByRecursion (λ t. new t.tree ≡ old t.tree) the_tables → tables_in new ≡ tables_in old
@@ -23,21 +26,38 @@ tables_same old new same = rw (same.0, same.1.0, same.1.1.0, same.1.1.1.0, same.
 
 pub typed_same : (old new : Trees) → AllByRecursion (λ t. new t.tree ≡ old t.tree) the_tables → AreTyped old → AreTyped new
 typed_same old new same h = record {
-  meta = subst (AllByRecursion (λ r. is_meta r ≡ true)) (sym same.0) h.meta;
-  items = subst (AllByRecursion (λ r. is_item r ≡ true)) (sym same.1.0) h.items;
-  bins = subst (AllByRecursion (λ r. is_bin r ≡ true)) (sym same.1.1.0) h.bins;
-  lots = subst (AllByRecursion (λ r. is_lot r ≡ true)) (sym same.1.1.1.0) h.lots;
-  recalls = subst (AllByRecursion (λ r. is_recall r ≡ true)) (sym same.1.1.1.1.0) h.recalls;
-  stock = subst (AllByRecursion (λ r. is_stock r ≡ true)) (sym same.1.1.1.1.1.0) h.stock;
-  orders = subst (AllByRecursion (λ r. is_order r ≡ true)) (sym same.1.1.1.1.1.1.0) h.orders;
-  lines = subst (AllByRecursion (λ r. is_line r ≡ true)) (sym same.1.1.1.1.1.1.1.0) h.lines;
-  staged = subst (AllByRecursion (λ r. is_staged r ≡ true)) (sym same.1.1.1.1.1.1.1.1.0) h.staged;
-  reserved = subst (AllByRecursion (λ r. is_reserved r ≡ true)) (sym same.1.1.1.1.1.1.1.1.1.0) h.reserved;
-  shipments = subst (AllByRecursion (λ r. is_shipment r ≡ true)) (sym same.1.1.1.1.1.1.1.1.1.1.0) h.shipments;
-  shiplines = subst (AllByRecursion (λ r. is_shipline r ≡ true)) (sym same.1.1.1.1.1.1.1.1.1.1.1.0) h.shiplines;
-  cards = subst (AllByRecursion (λ r. is_card r ≡ true)) (sym same.1.1.1.1.1.1.1.1.1.1.1.1.0) h.cards;
-  repeats = subst (AllByRecursion (λ r. is_repeat r ≡ true)) (sym same.1.1.1.1.1.1.1.1.1.1.1.1.1.0) h.repeats;
+  each = all_both (Keeps old) (λ t. new t.tree ≡ old t.tree) (Keeps new) (λ t kept is. subst (AllByRecursion (λ r. t.is r ≡ true)) (sym is) kept) the_rules h.each same;
 }
+
+-- the rows of one table are typed, where all are
+pub typed_at : (place : ℕ) (rule : Rule) → slice_get the_rules place ≡ Some rule → (trees : Trees) → AreTyped trees → Keeps trees rule
+typed_at place rule at trees are = all-slice_get (Keeps trees) the_rules place rule at are.each
+
+-- typed rows in the place of those of one table
+module _ (trees : Trees) (rule : Rule) (rows : List Row) (typed : AllByRecursion (λ r. rule.is r ≡ true) rows) where
+  abbrev after : Trees
+  after = with_tree trees rule.tree rows
+
+  other : (t : Rule) → Keeps trees t → nat_eq rule.tree t.tree ≡ false → Keeps after t
+  other t kept apart = rw (ne_eqb t.tree rule.tree (λ e. true≢false (sym (eq-eqb rule.tree t.tree (sym e)) ∙ apart))) kept
+
+  in_place : (rules : List Rule) (place : ℕ) → slice_get rules place ≡ Some rule → no_two (λ a b. nat_eq a.tree b.tree) rules ≡ true → AllByRecursion (Keeps trees) rules → AllByRecursion (Keeps after) rules
+  in_place [] place at apart kept = tt
+  in_place (t ∷ rules) zero at apart kept =
+      let same : t ≡ rule = cc in
+      let two = and_parts _ _ apart in
+      let none = none_from_any (λ b. nat_eq rule.tree b.tree) rules (not-true _ (subst (λ (a : Rule). not (list_any (λ b. nat_eq a.tree b.tree) rules) ≡ true) same two.0)) in
+      (subst (Keeps after) (sym same) (rw (eq-eqb rule.tree rule.tree refl) typed), all_both (Keeps trees) (λ b. nat_eq rule.tree b.tree ≡ false) (Keeps after) other rules kept.1 none)
+  in_place (t ∷ rules) (suc place) at apart kept =
+      let two = and_parts _ _ apart in
+      let away : nat_eq t.tree rule.tree ≡ false = all-slice_get (λ b. nat_eq t.tree b.tree ≡ false) rules place rule at (none_from_any (λ b. nat_eq t.tree b.tree) rules (not-true _ two.0)) in
+      (other t kept.0 (turned t.tree rule.tree away), in_place rules place at two.1 kept.1)
+    where
+      turned : (a b : ℕ) → nat_eq a b ≡ false → nat_eq b a ≡ false
+      turned a b h = grind (arith, nat_tests)
+
+  pub typed_put : (place : ℕ) → slice_get the_rules place ≡ Some rule → AreTyped trees → AreTyped after
+  typed_put place at are = record { each = in_place the_rules place at refl are.each }
 
 -- what is so of all tables is so of the first ones
 pub front : {X : Type 0} (P : X → Type 0) (xs ys : List X) → AllByRecursion P (xs ++ ys) → AllByRecursion P xs

@@ -111,7 +111,7 @@ module _ (schema : Schema) (at tree : ℕ) (name : List ℕ) (columns : List Col
       changed _ old new w is (trees_from db wrote.0 tree _ schema.tables (applies.rows ∙ gone) applies.tables)
 
   -- a row whose rowid is given, or NULL
-  goes_in : (old new : State) (terms : List Term) (width : ℕ) (text : List ℕ) (params source values : Row) (count : ℕ) → old.now.schema ≡ schema
+  pub goes_in : (old new : State) (terms : List Term) (width : ℕ) (text : List ℕ) (params source values : Row) (count : ℕ) → old.now.schema ≡ schema
       → value_rows (params ++ []) width (length terms / width) terms ≡ source ∷ [] → cast_row table source ≡ values
       → Writes old new None (Insert at (Values terms width)) text params count
       → let row = with_rowid Chosen (old.now.trees tree) values in Changed schema tree (put_row row (old.now.trees tree)) old.now new.now × (is_taken (old.now.trees tree) row ≡ false)

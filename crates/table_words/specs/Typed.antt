@@ -94,14 +94,6 @@ item_key s = s.gtin
 abbrev pub item_cells : ItemRow → Row
 item_cells s = Text s.gtin ∷ Text s.name ∷ []
 
--- the stored rows of this gtin
-abbrev pub items_of_rows : List ℕ → Trees → List Row
-items_of_rows gtin trees = filter (λ r. is_the_text gtin (column r 1)) (trees items_tree)
-
--- the stored rows of the whole table
-abbrev pub all_items_rows : Trees → List Row
-all_items_rows trees = filter (λ r. true) (trees items_tree)
-
 -- ---- bins
 
 -- whether the row reads as a typed one
@@ -131,14 +123,6 @@ bin_key s = s.name
 -- its values, in the order of the columns
 abbrev pub bin_cells : BinRow → Row
 bin_cells s = Text s.name ∷ Text (bin_kind_word s.kind) ∷ []
-
--- the stored rows of this name
-abbrev pub bins_of_rows : List ℕ → Trees → List Row
-bins_of_rows name trees = filter (λ r. is_the_text name (column r 1)) (trees bins_tree)
-
--- the stored rows of the whole table
-abbrev pub all_bins_rows : Trees → List Row
-all_bins_rows trees = filter (λ r. true) (trees bins_tree)
 
 -- ---- lots
 
@@ -170,18 +154,6 @@ lot_key s = s.lot
 abbrev pub lot_cells : LotRow → Row
 lot_cells s = Text s.lot.gtin ∷ Text s.lot.lot ∷ Int s.expiry ∷ Int (pos s.came) ∷ Int (pos (flag_number s.held)) ∷ []
 
--- the stored rows of this gtin
-abbrev pub lots_of_rows : List ℕ → Trees → List Row
-lots_of_rows gtin trees = filter (λ r. is_the_text gtin (column r 1)) (trees lots_tree)
-
--- the stored rows of this lot
-abbrev pub lot_of_rows : LotId → Trees → List Row
-lot_of_rows lot trees = filter (λ r. is_the_text lot.gtin (column r 1) && is_the_text lot.lot (column r 2)) (trees lots_tree)
-
--- the stored rows of the whole table
-abbrev pub all_lots_rows : Trees → List Row
-all_lots_rows trees = filter (λ r. true) (trees lots_tree)
-
 -- ---- recalls
 
 -- whether the row reads as a typed one
@@ -211,10 +183,6 @@ recall_key s = s.lot
 -- its values, in the order of the columns
 abbrev pub recall_cells : RecallRow → Row
 recall_cells s = Text s.lot.gtin ∷ Text s.lot.lot ∷ Int (pos s.act) ∷ []
-
--- the stored rows of this gtin
-abbrev pub recalls_of_rows : List ℕ → Trees → List Row
-recalls_of_rows gtin trees = filter (λ r. is_the_text gtin (column r 1)) (trees recalls_tree)
 
 -- ---- stock
 
@@ -246,14 +214,6 @@ stock_key s = (s.lot, s.bin)
 abbrev pub stock_cells : StockRow → Row
 stock_cells s = Text s.lot.gtin ∷ Text s.lot.lot ∷ Text s.bin ∷ Int (pos s.qty) ∷ []
 
--- the stored rows of this gtin
-abbrev pub stock_of_rows : List ℕ → Trees → List Row
-stock_of_rows gtin trees = filter (λ r. is_the_text gtin (column r 1)) (trees stock_tree)
-
--- the stored rows of this lot
-abbrev pub stock_of_lot_rows : LotId → Trees → List Row
-stock_of_lot_rows lot trees = filter (λ r. is_the_text lot.gtin (column r 1) && is_the_text lot.lot (column r 2)) (trees stock_tree)
-
 -- ---- orders
 
 -- whether the row reads as a typed one
@@ -284,16 +244,8 @@ order_key s = s.order
 abbrev pub order_cells : OrderRow → Row
 order_cells s = Text s.order ∷ Int (pos s.act) ∷ Text s.customer ∷ Text (order_state_word s.state) ∷ []
 
--- the stored rows of this order
-abbrev pub orders_of_rows : List ℕ → Trees → List Row
-orders_of_rows order trees = filter (λ r. is_the_text order (column r 1)) (trees orders_tree)
-
 abbrev pub is_open_order : OrderRow → Bool
 is_open_order s = is_open_state s.state
-
--- the stored rows of the open orders
-abbrev pub open_orders_rows : Trees → List Row
-open_orders_rows trees = filter (λ r. is_the_text (codes "OPEN") (column r 4)) (trees orders_tree)
 
 -- ---- lines
 
@@ -325,14 +277,6 @@ line_key s = (s.order, s.gtin)
 abbrev pub line_cells : LineRow → Row
 line_cells s = Text s.order ∷ Text s.gtin ∷ Int (pos s.ordered) ∷ Int (pos s.shipped) ∷ []
 
--- the stored rows of this order
-abbrev pub lines_of_order_rows : List ℕ → Trees → List Row
-lines_of_order_rows order trees = filter (λ r. is_the_text order (column r 1)) (trees lines_tree)
-
--- the stored rows of this order and gtin
-abbrev pub line_of_rows : List ℕ → List ℕ → Trees → List Row
-line_of_rows order gtin trees = filter (λ r. is_the_text order (column r 1) && is_the_text gtin (column r 2)) (trees lines_tree)
-
 -- ---- staged
 
 -- whether the row reads as a typed one
@@ -362,18 +306,6 @@ staged_key s = (s.order, s.lot)
 -- its values, in the order of the columns
 abbrev pub staged_cells : StagedRow → Row
 staged_cells s = Text s.order ∷ Text s.lot.gtin ∷ Text s.lot.lot ∷ Int (pos s.qty) ∷ []
-
--- the stored rows of this gtin
-abbrev pub staged_of_item_rows : List ℕ → Trees → List Row
-staged_of_item_rows gtin trees = filter (λ r. is_the_text gtin (column r 2)) (trees staged_tree)
-
--- the stored rows of this order
-abbrev pub staged_of_order_rows : List ℕ → Trees → List Row
-staged_of_order_rows order trees = filter (λ r. is_the_text order (column r 1)) (trees staged_tree)
-
--- the stored rows of the whole table
-abbrev pub all_staged_rows : Trees → List Row
-all_staged_rows trees = filter (λ r. true) (trees staged_tree)
 
 -- ---- reserved
 
@@ -405,14 +337,6 @@ reserved_key s = (s.order, s.lot)
 abbrev pub reserved_cells : ReservedRow → Row
 reserved_cells s = Text s.order ∷ Text s.lot.gtin ∷ Text s.lot.lot ∷ Int (pos s.qty) ∷ []
 
--- the stored rows of this gtin
-abbrev pub reserved_of_item_rows : List ℕ → Trees → List Row
-reserved_of_item_rows gtin trees = filter (λ r. is_the_text gtin (column r 2)) (trees reserved_tree)
-
--- the stored rows of this order
-abbrev pub reserved_of_order_rows : List ℕ → Trees → List Row
-reserved_of_order_rows order trees = filter (λ r. is_the_text order (column r 1)) (trees reserved_tree)
-
 -- ---- shipments
 
 -- whether the row reads as a typed one
@@ -442,10 +366,6 @@ shipment_key s = s.number
 -- its values, in the order of the columns
 abbrev pub shipment_cells : ShipmentRow → Row
 shipment_cells s = Int (pos s.number) ∷ Int (pos s.act) ∷ Int s.day ∷ Text s.order ∷ []
-
--- the stored rows of this number
-abbrev pub shipments_of_rows : ℕ → Trees → List Row
-shipments_of_rows number trees = filter (λ r. is_the_number number (column r 0)) (trees shipments_tree)
 
 -- ---- shiplines
 
@@ -477,10 +397,6 @@ shipline_key s = (s.number, s.lot)
 abbrev pub shipline_cells : ShiplineRow → Row
 shipline_cells s = Int (pos s.number) ∷ Text s.lot.gtin ∷ Text s.lot.lot ∷ Int (pos s.qty) ∷ []
 
--- the stored rows of this lot
-abbrev pub shiplines_of_lot_rows : LotId → Trees → List Row
-shiplines_of_lot_rows lot trees = filter (λ r. is_the_text lot.gtin (column r 2) && is_the_text lot.lot (column r 3)) (trees shiplines_tree)
-
 -- ---- cards
 
 -- whether the row reads as a typed one
@@ -510,10 +426,6 @@ card_key s = (s.lot, s.act)
 -- its values, in the order of the columns
 abbrev pub card_cells : CardRow → Row
 card_cells s = Text s.lot.gtin ∷ Text s.lot.lot ∷ Int (pos s.act) ∷ Int s.day ∷ Text (card_kind_word s.kind) ∷ Text s.note ∷ Int s.qty ∷ Int (pos s.rest) ∷ []
-
--- the stored rows of this lot
-abbrev pub cards_of_lot_rows : LotId → Trees → List Row
-cards_of_lot_rows lot trees = filter (λ r. is_the_text lot.gtin (column r 1) && is_the_text lot.lot (column r 2)) (trees cards_tree)
 
 -- ---- repeats
 
@@ -569,22 +481,37 @@ tables_in trees = record {
   repeat = λ k. find (λ s. same_repeat k (repeat_key s)) (typed is_repeat repeat_in (trees repeats_tree));
 }
 
+-- which of the rows that a tree stores read as typed ones
+pub record Rule : Type 0 where
+  pub tree : ℕ
+  pub is : Row → Bool
+
+-- a rule for each table, in the order of the tables
+abbrev pub the_rules : List Rule
+the_rules =
+    record { tree = meta_tree; is = is_meta }
+    ∷ record { tree = items_tree; is = is_item }
+    ∷ record { tree = bins_tree; is = is_bin }
+    ∷ record { tree = lots_tree; is = is_lot }
+    ∷ record { tree = recalls_tree; is = is_recall }
+    ∷ record { tree = stock_tree; is = is_stock }
+    ∷ record { tree = orders_tree; is = is_order }
+    ∷ record { tree = lines_tree; is = is_line }
+    ∷ record { tree = staged_tree; is = is_staged }
+    ∷ record { tree = reserved_tree; is = is_reserved }
+    ∷ record { tree = shipments_tree; is = is_shipment }
+    ∷ record { tree = shiplines_tree; is = is_shipline }
+    ∷ record { tree = cards_tree; is = is_card }
+    ∷ record { tree = repeats_tree; is = is_repeat }
+    ∷ []
+
+-- each row that is stored there reads as a typed one
+abbrev pub Keeps : Trees → Rule → Type 0
+Keeps trees rule = AllByRecursion (λ r. rule.is r ≡ true) (trees rule.tree)
+
 -- each stored row reads as a typed one
 pub record AreTyped (trees : Trees) : Type 0 where
-  pub meta : AllByRecursion (λ r. is_meta r ≡ true) (trees meta_tree)
-  pub items : AllByRecursion (λ r. is_item r ≡ true) (trees items_tree)
-  pub bins : AllByRecursion (λ r. is_bin r ≡ true) (trees bins_tree)
-  pub lots : AllByRecursion (λ r. is_lot r ≡ true) (trees lots_tree)
-  pub recalls : AllByRecursion (λ r. is_recall r ≡ true) (trees recalls_tree)
-  pub stock : AllByRecursion (λ r. is_stock r ≡ true) (trees stock_tree)
-  pub orders : AllByRecursion (λ r. is_order r ≡ true) (trees orders_tree)
-  pub lines : AllByRecursion (λ r. is_line r ≡ true) (trees lines_tree)
-  pub staged : AllByRecursion (λ r. is_staged r ≡ true) (trees staged_tree)
-  pub reserved : AllByRecursion (λ r. is_reserved r ≡ true) (trees reserved_tree)
-  pub shipments : AllByRecursion (λ r. is_shipment r ≡ true) (trees shipments_tree)
-  pub shiplines : AllByRecursion (λ r. is_shipline r ≡ true) (trees shiplines_tree)
-  pub cards : AllByRecursion (λ r. is_card r ≡ true) (trees cards_tree)
-  pub repeats : AllByRecursion (λ r. is_repeat r ≡ true) (trees repeats_tree)
+  pub each : AllByRecursion (Keeps trees) the_rules
 
 -- ---- what the calls make of them
 

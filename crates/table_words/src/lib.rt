@@ -1,7 +1,6 @@
 //! What the fourteen tables of the books are, and what their columns read as.
 #![tactic(auto)]
 
-pub mod calls;
 pub mod columns;
 pub mod error;
 pub mod reading;

@@ -1,4 +1,4 @@
-//! Queries inside a transaction, and their rows read as those of a table.
+//! Queries inside a transaction, and what their rows read as.
 
 ghost use Rattle.std.specs.Prelude.{◌≡◌, Bool, true, false, List, map, OnOk, OnErr, IfOk, IfErr};
 ghost use Rattle.std.specs.List.{AllByRecursion};
@@ -17,8 +17,8 @@ use sqlite::types::ValueRef;
 use sqlite::{Alter, Row, Transaction};
 use std::alloc::Global;
 
-/// A table: which rows of columns it can have, and what they read as.
-pub trait Table {
+/// The columns of a query: which rows there can be, and what they read as.
+pub trait Readable {
     /// What a row reads as.
     type Record: Drop;
 
@@ -26,14 +26,14 @@ pub trait Table {
 
     ghost reads: { List SqlValue → Self.Record };
 
-    /// What the row reads as, or `Foreign` where a column has a value that no row of the table has.
+    /// What the row reads as, or `Foreign` where a column has a value that no row has.
     fn read(alloc: Global, row: &Row) -> Result<Self::Record, TableFault>
         ensures ok { IfOk result (λ s. (has row.now ≡ true) × (reads row.now ≡ s)) }
         ensures foreign { IfErr result (λ e. e ≡ Foreign → has row.now ≡ false) };
 }
 
-/// What the rows read as, or `Foreign` where one of them is no row of the table.
-fn read_all<T: Table>(alloc: Global, rows: &[Row]) -> Result<Vec<T::Record>, TableFault>
+/// What the rows read as, or `Foreign` where one of them is none.
+fn read_all<T: Readable>(alloc: Global, rows: &[Row]) -> Result<Vec<T::Record>, TableFault>
     ensures typed { IfOk result (λ found. AllByRecursion (λ v. T.has v ≡ true) rows.now) }
     ensures ok { IfOk result (λ found. map T.reads rows.now ≡ found.items) }
     ensures foreign { IfErr result (λ e. e ≡ Foreign → ¬ AllByRecursion (λ v. T.has v ≡ true) rows.now) }
@@ -45,8 +45,8 @@ fn read_all<T: Table>(alloc: Global, rows: &[Row]) -> Result<Vec<T::Record>, Tab
     Ok(found)
 }
 
-/// Runs the query, and reads each row of the answer; `Foreign` where one of them is no row of the table.
-pub fn query<T: Table, S: Alter>(
+/// Runs the query, and reads each row of the answer; `Foreign` where one of them is none.
+pub fn query<T: Readable, S: Alter>(
     alloc: Global,
     tx: &mut Transaction<'_, S>,
     sql: &str,

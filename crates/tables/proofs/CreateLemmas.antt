@@ -20,7 +20,7 @@ use Rattle.table_words.specs.Schema.{the_schema, the_tables, is_harmless, schema
 use Rattle.table_words.specs.Rows.{IsRows}
 use Rattle.commands.specs.declared.rows.MetaRow.{MetaRow}
 use Rattle.commands.specs.declared.rows.BinRow.{BinRow}
-use Rattle.table_words.specs.Typed.{tables_in, no_rows, with_meta, with_bin, AreTyped}
+use Rattle.table_words.specs.Typed.{tables_in, no_rows, with_meta, with_bin, the_rules, Keeps, AreTyped}
 use Rattle.table_words.specs.Steps.{IsReady, IsBlank, Goes}
 use Rattle.table_words.proofs.WriteLemmas.{went, same_value}
 use Rattle.tables.specs.Creation.{IsMaking, Makes, MakesTheIndex, Leads, IsFilled}
@@ -93,22 +93,7 @@ pub blank_empty : (db : Database) → IsBlank the_schema db → tables_in db.tre
 blank_empty db blank = rw (blank.empty.0, blank.empty.1.0, blank.empty.1.1.0, blank.empty.1.1.1.0, blank.empty.1.1.1.1.0, blank.empty.1.1.1.1.1.0, blank.empty.1.1.1.1.1.1.0, blank.empty.1.1.1.1.1.1.1.0, blank.empty.1.1.1.1.1.1.1.1.0, blank.empty.1.1.1.1.1.1.1.1.1.0, blank.empty.1.1.1.1.1.1.1.1.1.1.0, blank.empty.1.1.1.1.1.1.1.1.1.1.1.0, blank.empty.1.1.1.1.1.1.1.1.1.1.1.1.0, blank.empty.1.1.1.1.1.1.1.1.1.1.1.1.1.0) refl
 
 pub blank_typed : (db : Database) → IsBlank the_schema db → AreTyped db.trees
-blank_typed db blank = record {
-  meta = rw blank.empty.0 tt;
-  items = rw blank.empty.1.0 tt;
-  bins = rw blank.empty.1.1.0 tt;
-  lots = rw blank.empty.1.1.1.0 tt;
-  recalls = rw blank.empty.1.1.1.1.0 tt;
-  stock = rw blank.empty.1.1.1.1.1.0 tt;
-  orders = rw blank.empty.1.1.1.1.1.1.0 tt;
-  lines = rw blank.empty.1.1.1.1.1.1.1.0 tt;
-  staged = rw blank.empty.1.1.1.1.1.1.1.1.0 tt;
-  reserved = rw blank.empty.1.1.1.1.1.1.1.1.1.0 tt;
-  shipments = rw blank.empty.1.1.1.1.1.1.1.1.1.1.0 tt;
-  shiplines = rw blank.empty.1.1.1.1.1.1.1.1.1.1.1.0 tt;
-  cards = rw blank.empty.1.1.1.1.1.1.1.1.1.1.1.1.0 tt;
-  repeats = rw blank.empty.1.1.1.1.1.1.1.1.1.1.1.1.1.0 tt;
-}
+blank_typed db blank = record { each = all_weaker (λ t. db.trees t.tree ≡ []) (Keeps db.trees) (λ t none. subst (AllByRecursion (λ r. t.is r ≡ true)) (sym none) tt) the_rules blank.empty }
 
 -- two rows in the empty tables
 pub filled : (meta : MetaRow) (bin : BinRow) (made put last : State) → IsMaking the_schema made → Goes (with_meta meta) made put → Goes (with_bin bin) put last → IsFilled meta bin last

@@ -1,25 +1,7 @@
 use Rattle.sqlite.specs.Held.{state}
-use Rattle.table_words.proofs.CallLemmas.{inside_then}
-use Rattle.changes.proofs.Steps.{then_done, then_kept}
+use Rattle.keyed_rows.proofs.Writing.{writes_then}
 use Rattle.changes.proofs.writing.write_goods.Goals as goal
 
-pub returns-clause-done : goal.returns-clause-done
-returns-clause-done g c =
-    let old = state g.S.Store c.args.tx.now.conn.now in
-    let mid = state g.S.Store c.write_names.new.tx.conn.now in
-    let new = state g.S.Store c.write_lots.new.tx.conn.now in
-    then_done c.write_lots.result _ _ old mid new c.write_lots.ensures.survives c.in_ok-write_names.ensures.done c.write_lots.ensures.done
-
-pub returns-clause-kept : goal.returns-clause-kept
-returns-clause-kept g c =
-    let old = state g.S.Store c.args.tx.now.conn.now in
-    let mid = state g.S.Store c.write_names.new.tx.conn.now in
-    let new = state g.S.Store c.write_lots.new.tx.conn.now in
-    then_kept old mid new c.write_lots.ensures.survives c.in_ok-write_names.ensures.kept c.write_lots.ensures.kept
-
-pub returns-clause-survives : goal.returns-clause-survives
-returns-clause-survives g c =
-    let old = state g.S.Store c.args.tx.now.conn.now in
-    let mid = state g.S.Store c.write_names.new.tx.conn.now in
-    let new = state g.S.Store c.write_lots.new.tx.conn.now in
-    inside_then old mid new c.in_ok-write_names.ensures.survives c.write_lots.ensures.survives
+pub returns-clause-writes : goal.returns-clause-writes
+returns-clause-writes g c =
+    writes_then _ _ (state g.S.Store c.args.tx.now.conn.now) (state g.S.Store c.write_names.new.tx.conn.now) (state g.S.Store c.write_lots.new.tx.conn.now) tt c.write_lots.result c.in_ok-write_names.ensures.writes c.write_lots.ensures.writes

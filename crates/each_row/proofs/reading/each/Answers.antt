@@ -10,7 +10,7 @@ use Rattle.each_row.proofs.reading.each.Goals as goal
 pub returns-in_err-rows-clause-handed : goal.returns-in_err-rows-clause-handed
 returns-in_err-rows-clause-handed g c clean plain =
     let p = err_from_is_err_and c.from_residual.result c.from_residual.ensures.1 in
-    rw (p.1, p.2) (nothing_handed g.T.Table.has g.T.Table.reads g.K.Sink.takes c.args.sql.now (bound c.args.params.now) (state g.S.Store c.args.conn.now) c.args.sink.now)
+    rw (p.1, p.2) (nothing_handed g.T.Readable.has g.T.Readable.reads g.K.Sink.takes c.args.sql.now (bound c.args.params.now) (state g.S.Store c.args.conn.now) c.args.sink.now)
 
 pub returns-in_err-rows-clause-left : goal.returns-in_err-rows-clause-left
 returns-in_err-rows-clause-left g c clean plain =
@@ -25,7 +25,7 @@ returns-in_err-row-clause-handed g c clean plain =
     let late : HasCleanDisk (state g.S.Store c.next.follows.lender-at-none.conn.now) = search rules in
     let so_far = c.rows.invariant.3 (omega (arith, moved.survives.clean)) plain in
     rw (p.1, p.2)
-    (some_handed g.S.Store g.T.Table.has g.T.Table.reads g.K.Sink.takes g.K.Sink.stops c.args.sql.now (bound c.args.params.now) c.args.conn.now plain c.rows.rows.conn.now c.args.sink.now c.rows.sink so_far)
+    (some_handed g.S.Store g.T.Readable.has g.T.Readable.reads g.K.Sink.takes g.K.Sink.stops c.args.sql.now (bound c.args.params.now) c.args.conn.now plain c.rows.rows.conn.now c.args.sink.now c.rows.sink so_far)
 
 pub returns-in_default-clause-handed : goal.returns-in_default-clause-handed
 returns-in_default-clause-handed g c clean plain =
@@ -34,7 +34,7 @@ returns-in_default-clause-handed g c clean plain =
     let late : HasCleanDisk (state g.S.Store now) = search rules in
     let so_far = c.rows.invariant.3 (omega (arith, moved.survives.clean)) plain in
     let shown = (rw (c.in_ok-row.was, c.in_default.is) at (moved.ok late)) c.args.sql.now (bound c.args.params.now) so_far.rows so_far.given in
-    let all = all_handed g.S.Store g.T.Table.has g.T.Table.reads g.K.Sink.takes g.K.Sink.stops c.args.sql.now (bound c.args.params.now) c.args.conn.now plain c.rows.rows.conn.now (state g.S.Store now) c.args.sink.now c.rows.sink so_far shown in
+    let all = all_handed g.S.Store g.T.Readable.has g.T.Readable.reads g.K.Sink.takes g.K.Sink.stops c.args.sql.now (bound c.args.params.now) c.args.conn.now plain c.rows.rows.conn.now (state g.S.Store now) c.args.sink.now c.rows.sink so_far shown in
     search rules
 
 pub returns-in_err-record-clause-handed : goal.returns-in_err-record-clause-handed
@@ -47,7 +47,7 @@ returns-in_err-record-clause-handed g c clean plain =
     let same = rw c.in_ok-row.was at (moved.same late) in
     let given = (rw (c.in_ok-row.was, c.in-Some.is) at (moved.ok late)) c.args.sql.now (bound c.args.params.now) so_far.rows so_far.given in
     rw (p.1, p.2)
-    (read_fails g.S.Store g.T.Table.has g.T.Table.reads g.K.Sink.takes g.K.Sink.stops c.args.sql.now (bound c.args.params.now) c.args.conn.now plain c.rows.rows.conn.now now (state g.S.Store now) c.args.sink.now c.rows.sink
+    (read_fails g.S.Store g.T.Readable.has g.T.Readable.reads g.K.Sink.takes g.K.Sink.stops c.args.sql.now (bound c.args.params.now) c.args.conn.now plain c.rows.rows.conn.now now (state g.S.Store now) c.args.sink.now c.rows.sink
     c.in-Some.row.now _ so_far given same c.in_err-record.ensures.foreign)
 
 pub returns-in_err-take-clause-handed : goal.returns-in_err-take-clause-handed
@@ -60,7 +60,7 @@ returns-in_err-take-clause-handed g c clean plain =
     let same = rw c.in_ok-row.was at (moved.same late) in
     let given = (rw (c.in_ok-row.was, c.in-Some.is) at (moved.ok late)) c.args.sql.now (bound c.args.params.now) so_far.rows so_far.given in
     rw (p.1, p.2)
-    (stop_handed g.S.Store g.T.Table.has g.T.Table.reads g.K.Sink.takes g.K.Sink.stops c.args.sql.now (bound c.args.params.now) c.args.conn.now plain c.rows.rows.conn.now now c.args.sink.now c.rows.sink c.take.new.self
+    (stop_handed g.S.Store g.T.Readable.has g.T.Readable.reads g.K.Sink.takes g.K.Sink.stops c.args.sql.now (bound c.args.params.now) c.args.conn.now plain c.rows.rows.conn.now now c.args.sink.now c.rows.sink c.take.new.self
     c.in-Some.row.now c.in_ok-record.record so_far given same c.in_ok-record.ensures.ok.0 c.in_ok-record.ensures.ok.1 c.in_err-take.ensures.stopped)
 
 pub rows-preserved : goal.rows-preserved
@@ -75,7 +75,7 @@ rows-preserved g c =
           let so_far = c.rows.invariant.3 (omega (arith, moved.survives.clean)) plain in
           let same = rw c.in_ok-row.was at (moved.same late) in
           let given = (rw (c.in_ok-row.was, c.in-Some.is) at (moved.ok late)) c.args.sql.now (bound c.args.params.now) so_far.rows so_far.given in
-          one_handed g.S.Store g.T.Table.has g.T.Table.reads g.K.Sink.takes g.K.Sink.stops c.args.sql.now (bound c.args.params.now) c.args.conn.now plain c.rows.rows.conn.now now c.args.sink.now c.rows.sink c.take.new.self
+          one_handed g.S.Store g.T.Readable.has g.T.Readable.reads g.K.Sink.takes g.K.Sink.stops c.args.sql.now (bound c.args.params.now) c.args.conn.now plain c.rows.rows.conn.now now c.args.sink.now c.rows.sink c.take.new.self
           c.in-Some.row.now c.in_ok-record.record so_far given same c.in_ok-record.ensures.ok.0 c.in_ok-record.ensures.ok.1 c.in_ok-take.ensures.taken,
     )
 
@@ -83,7 +83,7 @@ pub returns-clause-handed : goal.returns-clause-handed
 returns-clause-handed g c clean plain =
     let late : HasCleanDisk (state g.S.Store c.rows.rows.conn.now) = search rules in
     rw c.too_big.ensures
-    (some_handed g.S.Store g.T.Table.has g.T.Table.reads g.K.Sink.takes g.K.Sink.stops c.args.sql.now (bound c.args.params.now) c.args.conn.now plain c.rows.rows.conn.now c.args.sink.now c.rows.sink (c.rows.invariant.3 late plain))
+    (some_handed g.S.Store g.T.Readable.has g.T.Readable.reads g.K.Sink.takes g.K.Sink.stops c.args.sql.now (bound c.args.params.now) c.args.conn.now plain c.rows.rows.conn.now c.args.sink.now c.rows.sink (c.rows.invariant.3 late plain))
 
 pub rows-init : goal.rows-init
 rows-init g c =
@@ -91,5 +91,5 @@ rows-init g c =
       refl,
       made.survives,
       made.mode,
-      λ clean plain. none_handed g.S.Store g.T.Table.has g.T.Table.reads g.K.Sink.takes g.K.Sink.stops c.args.sql.now (bound c.args.params.now) c.args.conn.now plain c.in_ok-rows.rows.conn.now c.args.sink.now (made.begun clean),
+      λ clean plain. none_handed g.S.Store g.T.Readable.has g.T.Readable.reads g.K.Sink.takes g.K.Sink.stops c.args.sql.now (bound c.args.params.now) c.args.conn.now plain c.in_ok-rows.rows.conn.now c.args.sink.now (made.begun clean),
     )

@@ -5,9 +5,9 @@ use Rattle.sqlite.specs.Held.{state}
 use Rattle.sqlite.specs.declared.error.Error.TheVariants.{SqliteFailure}
 use Rattle.sqlite.specs.declared.error.ErrorCode.TheVariants.{OutOfMemory}
 use Rattle.slices.specs.Reading.{IsRead}
-use Rattle.slices.specs.Slicing.{Each, texts, AreLinesOfItem, AreLinesOfItems}
+use Rattle.slices.specs.Slicing.{Each, AreLinesOfItem, AreLinesOfItems}
 use Rattle.slices.proofs.ReadSteps.{has_read, read_on, so_told, fails_later, no_room_left}
-use Rattle.slices.proofs.SeekSteps.{seek_step, each_place}
+use Rattle.slices.proofs.SeekSteps.{seek_step, place}
 use Rattle.slices.proofs.known_orders.lines_of_items.Goals as goal
 
 pub returns-in_err-rows-clause-read : goal.returns-in_err-rows-clause-read
@@ -26,12 +26,12 @@ loop-gtin-preserved g c =
     let gtins = c.args.gtins.now in
     let i = c.loop-gtin.gtin-index in
     let k = c.gtin-item.result in
-    let done : List (List ℕ) = texts (take i gtins) in
+    let done : List (List ℕ) = take i gtins in
     let less : i < length gtins = omega arith in
     let step = seek_step (λ j t rows. AreLinesOfItem known named t j rows) {X = Vec LineRow Global} (λ v. v.items) old mid new done k c.loop-gtin.found.items c.in_ok-rows.rows c.loop-gtin.invariant.1 c.in_ok-rows.ensures.read in
     let grown : c.extend_from_slice.new.self.items ≡ c.loop-gtin.found.items ++ c.in_ok-rows.rows.items = c.in_ok-extend_from_slice.ensures.items ∙ ap (λ l. c.loop-gtin.found.items ++ l) c.as_slice.ensures.value in
     let next : IsRead {X = List LineRow} (λ t rows. AreLinesOfItems known named (take (i + 1) gtins) t rows) old new (Ok c.extend_from_slice.new.self.items) =
-    subst (λ (l : List (List ℕ)). IsRead {X = List LineRow} (λ t rows. Each (λ j found. AreLinesOfItem known named t j found) l rows) old new (Ok c.extend_from_slice.new.self.items)) (sym (each_place {X = List ℕ} (λ x. x) gtins i k less c.gtin-item.is))
+    subst (λ (l : List (List ℕ)). IsRead {X = List LineRow} (λ t rows. Each (λ j found. AreLinesOfItem known named t j found) l rows) old new (Ok c.extend_from_slice.new.self.items)) (sym (place {K = List ℕ} gtins i k less c.gtin-item.is))
     (subst (λ (xs : List LineRow). IsRead {X = List LineRow} (λ t rows. Each (λ j found. AreLinesOfItem known named t j found) (done ++ k ∷ []) rows) old new (Ok xs)) (sym grown) step) in
     (c.in_ok-rows.ensures.same_reference ∙ c.loop-gtin.invariant.0, next)
 

@@ -16,6 +16,6 @@ returns-in_err-lots-clause-read g c = no_room_yet (SqliteFailure OutOfMemory) c.
 pub returns-clause-read : goal.returns-clause-read
 returns-clause-read g c =
     let old = state g.S.Store c.args.tx.now.conn.now in
-    let new = state g.S.Store c.of_lots.new.tx.conn.now in
+    let new = state g.S.Store c.seek_all.new.tx.conn.now in
     let named : c.as_slice.result.now ≡ reserved_lots c.args.reserved.now = c.as_slice.ensures.value ∙ c.in_ok-lots.ensures in
-    subst (λ (ls : List LotId). IsRead {X = Vec StockRow Global} (λ t rows. AreStockOf ls t rows.items) old new c.of_lots.result) named c.of_lots.ensures.read
+    subst (λ (ls : List LotId). IsRead {X = Vec StockRow Global} (λ t rows. AreStockOf ls t rows.items) old new c.seek_all.result) named c.seek_all.ensures.read

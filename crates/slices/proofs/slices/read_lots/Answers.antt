@@ -15,5 +15,5 @@ returns-in_err-lots-clause-read g c = no_room_yet (SqliteFailure OutOfMemory) c.
 pub returns-clause-read : goal.returns-clause-read
 returns-clause-read g c =
     let old = state g.S.Store c.args.tx.now.conn.now in
-    let new = state g.S.Store c.of_lots.new.tx.conn.now in
-    subst (λ (l : List LotId). IsRead {X = Vec LotRow Global} (λ t rows. AreLotsOf l t rows.items) old new c.of_lots.result) (c.as_slice.ensures.value ∙ c.in_ok-lots.ensures) c.of_lots.ensures.read
+    let new = state g.S.Store c.seek_all.new.tx.conn.now in
+    subst (λ (l : List LotId). IsRead {X = Vec LotRow Global} (λ t rows. AreLotsOf l t rows.items) old new c.seek_all.result) (c.as_slice.ensures.value ∙ c.in_ok-lots.ensures) c.seek_all.ensures.read

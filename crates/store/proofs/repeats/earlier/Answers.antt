@@ -1,4 +1,4 @@
-use Rattle.std.proofs.Common.{◌≡◌, true, sym, ◌∙◌, arith}
+use Rattle.std.proofs.Common.{◌≡◌, true, refl, sym, ◌∙◌, arith}
 use Rattle.std.proofs.lemmas.Bool.{eqb-true}
 use Rattle.std.specs.Vec.{vec_len}
 use Rattle.sqlite.specs.Held.{state}
@@ -6,14 +6,16 @@ use Rattle.sqlite_value.specs.Order.{column}
 use Rattle.table_words.specs.Cells.{is_the_text}
 use Rattle.table_words.specs.Schema.{repeats_tree}
 use Rattle.table_words.specs.Typed.{is_repeat, tables_in}
+use Rattle.table_words.proofs.StepLemmas.{typed_at}
 use Rattle.store.proofs.RepeatRead.{none_read, first_read}
 use Rattle.store.proofs.TypedRows.{typed_among, not_foreign}
 use Rattle.store.proofs.repeats.earlier.Goals as goal
 
 pub returns-in_err-rows-clause-typed : goal.returns-in_err-rows-clause-typed
 returns-in_err-rows-clause-typed g c clean ready typed =
+    let trees = (state g.S.Store c.args.tx.now.conn.now).now.trees in
     not_foreign c.from_residual.result c.in_err-rows.field-0.0 c.from_residual.ensures
-    (λ is. c.in_err-rows.ensures.foreign clean ready is (typed_among (λ r. is_repeat r ≡ true) (λ r. is_the_text c.args.k.now (column r 1)) ((state g.S.Store c.args.tx.now.conn.now).now.trees repeats_tree) typed.repeats))
+    (λ is. c.in_err-rows.ensures.foreign clean ready is (typed_among (λ r. is_repeat r ≡ true) (λ r. is_the_text c.args.k.now (column r 1)) (trees repeats_tree) (typed_at 13 (record { tree = repeats_tree; is = is_repeat }) refl trees typed)))
 
 pub returns-then-is_empty-clause-read : goal.returns-then-is_empty-clause-read
 returns-then-is_empty-clause-read g c clean ready =

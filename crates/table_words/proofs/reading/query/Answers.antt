@@ -6,11 +6,11 @@ use Rattle.table_words.proofs.reading.query.Goals as goal
 
 pub returns-in-Ok-clause-rows : goal.returns-in-Ok-clause-rows
 returns-in-Ok-clause-rows g c clean =
-    shown_rows_read (λ found. found.items) g.T.Table.has g.T.Table.reads c.args.sql.now (bound c.args.params.now) (state g.S.Store c.args.tx.now.conn.now) (state g.S.Store c.query_all.new.self.conn.now) c.in-Ok.rows.items c.as_slice.result.now c.read_all.result c.as_slice.ensures.value (c.in-Ok.ensures.ok clean) c.read_all.ensures.typed c.read_all.ensures.ok
+    shown_rows_read (λ found. found.items) g.T.Readable.has g.T.Readable.reads c.args.sql.now (bound c.args.params.now) (state g.S.Store c.args.tx.now.conn.now) (state g.S.Store c.query_all.new.self.conn.now) c.in-Ok.rows.items c.as_slice.result.now c.read_all.result c.as_slice.ensures.value (c.in-Ok.ensures.ok clean) c.read_all.ensures.typed c.read_all.ensures.ok
 
 pub returns-in-Ok-clause-foreign : goal.returns-in-Ok-clause-foreign
 returns-in-Ok-clause-foreign g c clean =
-    shown_row_foreign Foreign g.T.Table.has c.args.sql.now (bound c.args.params.now) (state g.S.Store c.args.tx.now.conn.now) (state g.S.Store c.query_all.new.self.conn.now) c.in-Ok.rows.items c.as_slice.result.now c.read_all.result c.as_slice.ensures.value (c.in-Ok.ensures.ok clean) c.read_all.ensures.foreign
+    shown_row_foreign Foreign g.T.Readable.has c.args.sql.now (bound c.args.params.now) (state g.S.Store c.args.tx.now.conn.now) (state g.S.Store c.query_all.new.self.conn.now) c.in-Ok.rows.items c.as_slice.result.now c.read_all.result c.as_slice.ensures.value (c.in-Ok.ensures.ok clean) c.read_all.ensures.foreign
 
 pub returns-in-Ok-clause-same : goal.returns-in-Ok-clause-same
 returns-in-Ok-clause-same g c clean plain =

@@ -3,4 +3,4 @@ use Rattle.std.specs.List.{AllByRecursion}
 use Rattle.table_words.proofs.reading.read_all.Given as goal
 
 abbrev pub invariant-loop-row : goal.invariant-loop-row
-invariant-loop-row g l = AllByRecursion (λ v. g.T.Table.has v ≡ true) (take l.row-index l.rows) × (map g.T.Table.reads (take l.row-index l.rows) ≡ l.found.items)
+invariant-loop-row g l = AllByRecursion (λ v. g.T.Readable.has v ≡ true) (take l.row-index l.rows) × (map g.T.Readable.reads (take l.row-index l.rows) ≡ l.found.items)

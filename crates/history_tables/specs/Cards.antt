@@ -1,0 +1,92 @@
+-- The table `cards`.
+use Rattle.std.specs.Prelude.{◌≡◌, Bool, true, ◌&&◌, nat_le, nat_eq, bytes_eq, [], ◌∷◌, codes}
+use Rattle.std.proofs.Common.{refl, ap, ap₂, ◌∙◌, pos}
+use Rattle.std.proofs.lemmas.Bool.{and_parts}
+use Rattle.sqlite.specs.declared.types.Value.{Value}
+use Rattle.sqlite.specs.declared.types.Value.TheVariants.{Null, Int, Text}
+use Rattle.sqlite.specs.Order.{Row, column, bytes}
+use Rattle.sqlite.specs.Term.{lit, col}
+use Rattle.sqlite.specs.Rowids.TheVariants.{Chosen}
+use Rattle.sqlite.specs.Listing.{understood}
+use Rattle.sqlite_tied.specs.Compute.{everything}
+use Rattle.sqlite_trees.specs.Tree.{rowid}
+use Rattle.sqlite_rules.specs.Edit.{with_rowid}
+use Rattle.values.specs.Values.{is_gtin, is_lot_text}
+use Rattle.commands.specs.declared.rows.CardRow.{CardRow}
+use Rattle.commands.specs.declared.limits.TheConstants.{ACTS_MAX, UNITS_MAX}
+use Rattle.history_tables.specs.declared.texts.TheConstants.{ADD_CARD}
+use Rattle.table_words.specs.Cells.{number_in}
+use Rattle.table_words.specs.Schema.{cards_tree, cards_table}
+use Rattle.table_words.specs.Typed.{same_lot_id, CardKey, is_card, card_in, has_card, card_read, same_card, card_key, card_cells}
+use Rattle.table_words.proofs.Plans.{same}
+use Rattle.table_words.proofs.ScanLemmas.{passes}
+use Rattle.table_words.proofs.WriteLemmas.{cast_number, cast_null}
+use Rattle.table_words.proofs.CellLemmas.{and_true, and_assoc, same_word, same_count, same_number, itself_number, same_lots, itself_lot, card_kind_back}
+use Rattle.table_words.proofs.KeyLemmas.{same_both, itself_both}
+use Rattle.keyed_rows.specs.Described.{Described, IsLawful, AddIs, keyed}
+use Rattle.keyed_rows.proofs.Laws.{one_keyed}
+
+-- what the table is
+abbrev pub cards : Described CardRow CardKey
+cards = record {
+  place = 12;
+  layout = keyed cards_tree (codes "cards") (cards_table cards_tree).columns (1 ∷ 2 ∷ 3 ∷ []);
+  is = is_card;
+  reads = card_in;
+  shown = col 1 1 ∷ col 1 2 ∷ col 1 3 ∷ col 1 4 ∷ col 1 5 ∷ col 1 6 ∷ col 1 7 ∷ col 1 8 ∷ [];
+  has = has_card;
+  seen = card_read;
+  key = card_key;
+  same = same_card;
+  cells = card_cells;
+  key_cells = λ k. Text k.0.gtin ∷ Text k.0.lot ∷ Int (pos k.1) ∷ [];
+  look = λ t k. t.card k.0 k.1;
+  set = λ f t. record t { card = λ a b. f (a, b) };
+  tests = same 1 0 ∷ same 2 1 ∷ same 3 2 ∷ [];
+  add = ADD_CARD.now;
+  add_terms = lit Null ∷ col 0 0 ∷ col 0 1 ∷ col 0 2 ∷ col 0 3 ∷ col 0 4 ∷ col 0 5 ∷ col 0 6 ∷ col 0 7 ∷ [];
+  source = λ s. Null ∷ card_cells s;
+}
+
+-- its numbers are within their limits
+abbrev pub fits_card : CardRow → Bool
+fits_card s = nat_le s.act ACTS_MAX && nat_le s.rest UNITS_MAX
+
+-- ---- what holds of them
+
+add_is : AddIs cards
+unfolding understood everything
+add_is rest = (refl, (refl, refl))
+
+at_key : (k : CardKey) (r : Row) → is_card r ≡ true → passes (cards.key_cells k) cards.tests r ≡ same_card k (card_key (card_in r))
+at_key k r h =
+    let p0 = and_parts _ _ h in
+    let p1 = and_parts _ _ p0.1 in
+    let p2 = and_parts _ _ p1.1 in
+    ap₂ ◌&&◌ (same_word is_gtin (column r 1) (Text k.0.gtin) k.0.gtin p0.0 refl) (ap₂ ◌&&◌ (same_word is_lot_text (column r 2) (Text k.0.lot) k.0.lot p1.0 refl) (and_true _ ∙ same_count ACTS_MAX (column r 3) (Int (pos k.1)) k.1 p2.0 refl))
+    ∙ and_assoc (bytes_eq k.0.gtin (bytes (column r 1))) (bytes_eq k.0.lot (bytes (column r 2))) (nat_eq k.1 (number_in (column r 3)))
+
+-- what is written reads as the row
+back : (id : Value) (s : CardRow) → card_in (id ∷ card_cells s) ≡ s
+back id s = ap (λ x. let r : CardRow = record { lot = record { gtin = s.lot.gtin; lot = s.lot.lot }; act = s.act; day = s.day; kind = x; note = s.note; qty = s.qty; rest = s.rest } in r) (card_kind_back s.kind)
+
+pub cards_laws : IsLawful cards
+cards_laws = record {
+  placed_first = refl;
+  placed = λ rest. refl;
+  itself = λ k. itself_both _ _ (itself_lot k.0) (itself_number k.1);
+  one_key = same_both same_lot_id nat_eq same_lots same_number;
+  one_row = λ db ready params. one_keyed db ready 12 cards_tree (codes "cards") (cards_table cards_tree).columns (1 ∷ 2 ∷ 3 ∷ []) refl refl params;
+  at_key = at_key;
+  own_key = λ s r. refl;
+  looks = λ trees. refl;
+  sets = λ trees rows. refl;
+  same_set = λ t. refl;
+  ruled = refl;
+  has_shown = λ params r. refl;
+  seen_shown = λ params r. refl;
+  add_is = add_is;
+  added = λ s. refl;
+  casts = λ s. rw (cast_null, cast_number (pos s.act), cast_number s.day, cast_number s.qty, cast_number (pos s.rest)) refl;
+  comes = λ s rows sound. (refl, (sound, back (rowid (with_rowid Chosen rows (cards.source s))) s));
+}

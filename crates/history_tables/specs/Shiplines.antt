@@ -1,0 +1,82 @@
+-- The table `shiplines`.
+use Rattle.std.specs.Prelude.{◌≡◌, Bool, true, ◌&&◌, nat_le, nat_eq, [], ◌∷◌, codes}
+use Rattle.std.proofs.Common.{refl, ap₂, ◌∙◌, pos}
+use Rattle.std.proofs.lemmas.Bool.{and_parts}
+use Rattle.sqlite.specs.declared.types.Value.TheVariants.{Null, Int, Text}
+use Rattle.sqlite.specs.Order.{Row, column}
+use Rattle.sqlite.specs.Term.{lit, col}
+use Rattle.sqlite.specs.Listing.{understood}
+use Rattle.sqlite_tied.specs.Compute.{everything}
+use Rattle.values.specs.Values.{is_gtin, is_lot_text}
+use Rattle.commands.specs.declared.rows.ShiplineRow.{ShiplineRow}
+use Rattle.commands.specs.declared.limits.TheConstants.{ACTS_MAX, UNITS_MAX}
+use Rattle.history_tables.specs.declared.texts.TheConstants.{ADD_SHIPLINE}
+use Rattle.table_words.specs.Schema.{shiplines_tree, shiplines_table}
+use Rattle.table_words.specs.Typed.{same_lot_id, ShiplineKey, is_shipline, shipline_in, has_shipline, shipline_read, same_shipline, shipline_key, shipline_cells}
+use Rattle.table_words.proofs.Plans.{same}
+use Rattle.table_words.proofs.ScanLemmas.{passes}
+use Rattle.table_words.proofs.WriteLemmas.{cast_number, cast_null}
+use Rattle.table_words.proofs.CellLemmas.{and_true, same_word, same_count, same_number, itself_number, same_lots, itself_lot}
+use Rattle.table_words.proofs.KeyLemmas.{same_both, itself_both}
+use Rattle.keyed_rows.specs.Described.{Described, IsLawful, AddIs, keyed}
+use Rattle.keyed_rows.proofs.Laws.{one_keyed}
+
+-- what the table is
+abbrev pub shiplines : Described ShiplineRow ShiplineKey
+shiplines = record {
+  place = 11;
+  layout = keyed shiplines_tree (codes "shiplines") (shiplines_table shiplines_tree).columns (1 ∷ 2 ∷ 3 ∷ []);
+  is = is_shipline;
+  reads = shipline_in;
+  shown = col 1 1 ∷ col 1 2 ∷ col 1 3 ∷ col 1 4 ∷ [];
+  has = has_shipline;
+  seen = shipline_read;
+  key = shipline_key;
+  same = same_shipline;
+  cells = shipline_cells;
+  key_cells = λ k. Int (pos k.0) ∷ Text k.1.gtin ∷ Text k.1.lot ∷ [];
+  look = λ t k. t.shipline k.0 k.1;
+  set = λ f t. record t { shipline = λ a b. f (a, b) };
+  tests = same 1 0 ∷ same 2 1 ∷ same 3 2 ∷ [];
+  add = ADD_SHIPLINE.now;
+  add_terms = lit Null ∷ col 0 0 ∷ col 0 1 ∷ col 0 2 ∷ col 0 3 ∷ [];
+  source = λ s. Null ∷ shipline_cells s;
+}
+
+-- its numbers are within their limits
+abbrev pub fits_shipline : ShiplineRow → Bool
+fits_shipline s = nat_le s.number ACTS_MAX && nat_le s.qty UNITS_MAX
+
+-- ---- what holds of them
+
+add_is : AddIs shiplines
+unfolding understood everything
+add_is rest = (refl, (refl, refl))
+
+at_key : (k : ShiplineKey) (r : Row) → is_shipline r ≡ true → passes (shiplines.key_cells k) shiplines.tests r ≡ same_shipline k (shipline_key (shipline_in r))
+at_key k r h =
+    let p0 = and_parts _ _ h in
+    let p1 = and_parts _ _ p0.1 in
+    let p2 = and_parts _ _ p1.1 in
+    ap₂ ◌&&◌ (same_count ACTS_MAX (column r 1) (Int (pos k.0)) k.0 p0.0 refl) (ap₂ ◌&&◌ (same_word is_gtin (column r 2) (Text k.1.gtin) k.1.gtin p1.0 refl) (and_true _ ∙ same_word is_lot_text (column r 3) (Text k.1.lot) k.1.lot p2.0 refl))
+
+pub shiplines_laws : IsLawful shiplines
+shiplines_laws = record {
+  placed_first = refl;
+  placed = λ rest. refl;
+  itself = λ k. itself_both _ _ (itself_number k.0) (itself_lot k.1);
+  one_key = same_both nat_eq same_lot_id same_number same_lots;
+  one_row = λ db ready params. one_keyed db ready 11 shiplines_tree (codes "shiplines") (shiplines_table shiplines_tree).columns (1 ∷ 2 ∷ 3 ∷ []) refl refl params;
+  at_key = at_key;
+  own_key = λ s r. refl;
+  looks = λ trees. refl;
+  sets = λ trees rows. refl;
+  same_set = λ t. refl;
+  ruled = refl;
+  has_shown = λ params r. refl;
+  seen_shown = λ params r. refl;
+  add_is = add_is;
+  added = λ s. refl;
+  casts = λ s. rw (cast_null, cast_number (pos s.number), cast_number (pos s.qty)) refl;
+  comes = λ s rows sound. (refl, (sound, refl));
+}

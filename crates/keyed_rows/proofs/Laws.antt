@@ -1,0 +1,168 @@
+-- What the statements on a table make of the books, of any table that keeps the laws.
+use Rattle.std.proofs.Common.{◌≡◌, ◌≢◌, ◌≤◌, ℕ, Bool, true, false, not, ◌&&◌, List, [], ◌∷◌, ◌++◌, filter, find, map, length, slice_get, Option, Some, None, Ok, inl, inr, IsTrue, refl, sym, ap, subst, ◌∙◌, arith, Equal}
+use Rattle.std.specs.Prelude.{if◌then◌else◌, ◌↔◌}
+use Rattle.std.specs.List.{AllByRecursion}
+use Rattle.std.proofs.lemmas.Bool.{cases_Bool, eq-eqb}
+use Rattle.std.proofs.lemmas.Bool.Decides.{nat_tests}
+use Rattle.sqlite.specs.Order.{Row}
+use Rattle.sqlite.specs.State.{State, Shown}
+use Rattle.sqlite.specs.Tree.{Trees, with_tree}
+use Rattle.sqlite.specs.Effect.{Database}
+use Rattle.sqlite.specs.Rowids.TheVariants.{Chosen}
+use Rattle.sqlite.proofs.Callers.{runs_as, reads_as}
+use Rattle.sqlite_keyed.proofs.ListLemmas.{all-slice_get, all-filter}
+use Rattle.sqlite_rules.specs.Edit.{with_rowid}
+use Rattle.sqlite_trees.specs.Tree.{rowid, put_row}
+use Rattle.sqlite_trees.specs.View.{is_int}
+use Rattle.sqlite_rules.specs.Lists.{Has}
+use Rattle.sqlite_rules.proofs.ListLemmas.{all_has}
+use Rattle.sqlite_value.specs.declared.value.Value.TheVariants.{Null}
+use Rattle.sqlite_value.specs.Order.{value_cmp}
+use Rattle.table_words.specs.Found.{AreRows, only_if}
+use Rattle.table_words.proofs.CellLemmas.{typed-filter, both_typed, shown_typed}
+use Rattle.table_words.specs.Schema.{the_tables, schema_with}
+use Rattle.table_words.specs.Rows.{IsRows}
+use Rattle.table_words.specs.Changed.{Changed}
+use Rattle.table_words.specs.Cells.{typed}
+use Rattle.table_words.specs.Typed.{Tables, tables_in, AreTyped}
+use Rattle.table_words.specs.Steps.{IsReady, Goes}
+use Rattle.table_words.specs.Calls.{Counts}
+use Rattle.table_words.proofs.ListLemmas.{over, filter_same_on, IsRows-filter, IsRows-over, IsRows-put_row, all_put_row, any_counted, none_counted_pass, none_over, stays_put}
+use Rattle.sqlite_schema.specs.declared.schema.Column.{Column}
+use Rattle.sqlite_schema.specs.declared.schema.Constraint.TheVariants.{Unique}
+use Rattle.table_words.proofs.Plans.{tests_from}
+use Rattle.table_words.proofs.ScanLemmas.{passes, show}
+use Rattle.table_words.proofs.WriteLemmas.{goes_in, updates, deletes}
+use Rattle.table_words.proofs.StepLemmas.{ready_after, sets_off_nothing, goes, typed_at, typed_put}
+use Rattle.table_words.proofs.KeyLemmas.{AtMostOne, one_by_key, few, none_had, meets, found_put, found_over, found_without, are_rows, are_rows_if}
+use Rattle.keyed_rows.specs.Described.{keyed, Described, IsLawful, Change, IsChange, DropIs, Query, IsSought, Stores, laid, rule_of, sound, with_row, without_row, found, stored_of}
+
+all_over_ids : (P : Row → Type 0) (p : Row → Bool) (values : Row) (rows : List Row) → ((r : Row) → IsTrue (is_int (rowid r)) → p r ≡ true → P (rowid r ∷ values)) → AllByRecursion (λ r. IsTrue (is_int (rowid r))) rows → AllByRecursion P rows → AllByRecursion P (over p values rows)
+all_over_ids P p values [] f k h = tt
+all_over_ids P p values (r ∷ rows) f k h = let more = all_over_ids P p values rows f k.1 h.1 in elim (cases_Bool (p r)) [
+  | inl e ↦ rw e (f r k.0 e, more)
+  | inr e ↦ rw e (h.0, more)
+]
+
+-- of a table whose PRIMARY KEY is not the rowid, no key comes twice
+pub one_keyed : (db : Database) (ready : IsReady db) (place tree : ℕ) (name : List ℕ) (columns : List Column) (places : List ℕ) → slice_get the_tables place ≡ Some (laid (keyed tree name columns places))
+    → slice_get (schema_with ready.has.rest).tables place ≡ Some (laid (keyed tree name columns places)) → (params : Row) → AtMostOne (passes params (tests_from places 0)) (db.trees tree)
+one_keyed db ready place tree name columns places first at params =
+    let table = laid (keyed tree name columns places) in
+    let schema = schema_with ready.has.rest in
+    one_by_key schema db.trees table places _ (all-slice_get _ schema.tables place table at ready.sound.lists.guarded 0 places refl).1 (eq-eqb tree tree refl) refl refl
+    (all-slice_get _ schema.tables place table at (ready.sound.obeys.rules Unique)) (all-slice_get (λ t. IsRows (db.trees t.tree)) the_tables place table first ready.rows) params
+
+-- the rows of the table are typed, where all are
+pub typed_rows : {X K : Type 0} (d : Described X K) → IsLawful d → (trees : Trees) → AreTyped trees → AllByRecursion (λ r. d.is r ≡ true) (trees d.layout.tree)
+typed_rows d laws trees are = typed_at d.place (rule_of d) laws.ruled trees are
+
+module _ {X K : Type 0} (d : Described X K) (laws : IsLawful d) where
+  pub rows_of : (db : Database) → IsReady db → IsRows (db.trees d.layout.tree)
+  rows_of db ready = all-slice_get (λ t. IsRows (db.trees t.tree)) the_tables d.place (laid d.layout) laws.placed_first ready.rows
+
+  at_own : (s : X) (r : Row) → d.is r ≡ true → passes (d.cells s) d.tests r ≡ d.same (d.key s) (d.key (d.reads r))
+  at_own s r h = laws.own_key s r ∙ laws.at_key (d.key s) r h
+
+  -- where the look-ups are so, the row is put
+  with_is : (trees : Trees) (after : List Row) (s : X) → ((k : K) → found d after k ≡ (if d.same k (d.key s) then Some s else found d (trees d.layout.tree) k)) → tables_in (with_tree trees d.layout.tree after) ≡ with_row d s (tables_in trees)
+  with_is trees after s h =
+      laws.sets trees after ∙ (λ i. d.set (λ k. (h k ∙ ap (λ f. if d.same k (d.key s) then Some s else f k) (sym (laws.looks trees))) i) (tables_in trees))
+
+  pub changes : (c : Change X) → IsChange d c → (s : X) → sound d s ≡ true → (old new : State) (count : ℕ) → IsReady old.now → Counts count c.text (d.cells s) old new → (count ≢ 0 → Goes (with_row d s) old new) × (count ≡ 0 → Goes (λ t. t) old new)
+  changes c it s good old new count ready h =
+      let params = d.cells s in
+      let tree = d.layout.tree in
+      let p = passes params d.tests in
+      let rows = old.now.trees tree in
+      let kept = rows_of old.now ready in
+      let after = over p (c.values s) rows in
+      let rest = ready.has.rest in
+      let w = runs_as c.text params old new (schema_with rest) ready.has.is _ (it.is rest).0 (it.is rest).1 count h.executes.0 in
+      let u = updates (schema_with rest) d.place tree _ _ _ _ _ _ (laws.placed rest) (λ olds news. sets_off_nothing rest tree olds news ready.has.apart) old new d.tests c.terms _ params (c.values s) count ready.has.is kept (it.changed s) (it.casts s) (few p rows kept.0 (laws.one_row old.now ready params)) w in
+      let mode = h.executes.1.mode ∙ sym h.inside in
+      let typed_after : AreTyped old.now.trees → AreTyped (with_tree old.now.trees tree after) = λ are.
+      typed_put old.now.trees (rule_of d) after (all_over_ids (λ r. d.is r ≡ true) p (c.values s) rows (λ r int e. (it.becomes s r good int e).0) kept.1 (typed_rows d laws old.now.trees are)) d.place laws.ruled are in (
+        λ some. goes old new tree after _ ready (IsRows-over p (c.values s) rows kept) u.0 mode
+            (with_is old.now.trees after s (λ k. found_over d.is d.reads p (λ x. d.same (d.key s) (d.key x)) (λ x. d.same k (d.key x)) (d.same k (d.key s)) (meets d.same d.key laws.one_key (d.key s) k) (at_own s) s refl (c.values s) rows kept.1
+            (λ r int e. it.becomes s r good int e) (any_counted p rows (λ none. some (u.1 ∙ none)))))
+            typed_after,
+        λ none. goes old new tree after _ ready (IsRows-over p (c.values s) rows kept) u.0 mode
+            (ap (λ l. tables_in (with_tree old.now.trees tree l)) (none_over p (c.values s) rows (none_counted_pass p rows (sym u.1 ∙ none))) ∙ laws.sets old.now.trees rows ∙ (λ i. d.set (sym (laws.looks old.now.trees) i) (tables_in old.now.trees)) ∙ laws.same_set (tables_in old.now.trees))
+            typed_after,
+      )
+
+  pub adds : (s : X) → sound d s ≡ true → (old new : State) (count : ℕ) → IsReady old.now → Counts count d.add (d.cells s) old new → Goes (with_row d s) old new
+  adds s good old new count ready h =
+      let params = d.cells s in
+      let tree = d.layout.tree in
+      let p = passes params d.tests in
+      let rows = old.now.trees tree in
+      let kept = rows_of old.now ready in
+      let row : Row = with_rowid Chosen rows (d.source s) in
+      let after = put_row row rows in
+      let rest = ready.has.rest in
+      let came = laws.comes s rows good in
+      let w = runs_as d.add params old new (schema_with rest) ready.has.is _ (laws.add_is rest).0 (laws.add_is rest).1 count h.executes.0 in
+      let u = goes_in (schema_with rest) d.place tree _ _ _ _ _ _ (laws.placed rest) (λ olds news. sets_off_nothing rest tree olds news ready.has.apart) old new d.add_terms (length d.add_terms) _ params (d.source s) (d.source s) count ready.has.is (laws.added s) (laws.casts s) w in
+      let good_rows = IsRows-put_row row rows came.0 kept in
+      let ready_now = ready_after old.now new.now tree after ready good_rows u.0 in
+      let there : p row ≡ true = at_own s row came.1.0 ∙ ap (λ x. d.same (d.key s) (d.key x)) came.1.1 ∙ laws.itself (d.key s) in
+      let is_after : new.now.trees tree ≡ with_tree old.now.trees tree after tree = all-slice_get (λ t. new.now.trees t.tree ≡ with_tree old.now.trees tree after t.tree) (schema_with rest).tables d.place (laid d.layout) (laws.placed rest) u.0.trees_are in
+      let own_tree : with_tree old.now.trees tree after tree ≡ after = grind (arith, nat_tests) in
+      let none = none_had p row rows u.1 there (subst (AtMostOne p) (is_after ∙ own_tree) (laws.one_row new.now ready_now params)) (stays_put row rows u.1) in
+      goes old new tree after _ ready good_rows u.0 (h.executes.1.mode ∙ sym h.inside)
+      (with_is old.now.trees after s (λ k. found_put d.is d.reads p (λ x. d.same (d.key s) (d.key x)) (λ x. d.same k (d.key x)) (d.same k (d.key s)) (meets d.same d.key laws.one_key (d.key s) k) (at_own s) s refl row rows came.1.0 came.1.1 u.1 none))
+      (λ are. typed_put old.now.trees (rule_of d) after (all_put_row (λ r. d.is r ≡ true) row rows came.1.0 (typed_rows d laws old.now.trees are)) d.place laws.ruled are)
+
+  pub drops : (text : List ℕ) → DropIs d text → (k : K) (old new : State) (count : ℕ) → IsReady old.now → Counts count text (d.key_cells k) old new → Goes (without_row d k) old new
+  drops text it k old new count ready h =
+      let params = d.key_cells k in
+      let tree = d.layout.tree in
+      let p = passes params d.tests in
+      let rows = old.now.trees tree in
+      let left = filter (λ r. not (p r)) rows in
+      let rest = ready.has.rest in
+      let kept = rows_of old.now ready in
+      let w = runs_as text params old new (schema_with rest) ready.has.is _ (it rest).0 (it rest).1 count h.executes.0 in
+      let c = deletes (schema_with rest) d.place tree _ _ _ _ _ _ (laws.placed rest) (λ olds news. sets_off_nothing rest tree olds news ready.has.apart) old new d.tests _ params count ready.has.is kept w in
+      goes old new tree left _ ready (IsRows-filter _ rows kept) c (h.executes.1.mode ∙ sym h.inside)
+      (laws.sets old.now.trees left ∙ (λ i. d.set (λ at. (found_without d.is d.reads p (λ s. d.same k (d.key s)) (λ s. d.same at (d.key s)) (d.same at k) (meets d.same d.key laws.one_key k at) (laws.at_key k) rows
+      ∙ ap (λ f. if d.same at k then None else f at) (sym (laws.looks old.now.trees))) i) (tables_in old.now.trees)))
+      (λ are. typed_put old.now.trees (rule_of d) left (all-filter (λ r. d.is r ≡ true) _ rows (typed_rows d laws old.now.trees are)) d.place laws.ruled are)
+
+  -- typed rows with one key are one row
+  pub apart : (db : Database) → IsReady db → (a b : Row) → Has (db.trees d.layout.tree) a → Has (db.trees d.layout.tree) b → d.is a ≡ true → d.is b ≡ true → d.same (d.key (d.reads a)) (d.key (d.reads b)) ≡ true → value_cmp (rowid a) (rowid b) ≡ Equal
+  apart db ready a b ha hb ta tb e =
+      let k = d.key (d.reads a) in
+      laws.one_row db ready (d.key_cells k) b a hb ha (laws.at_key k b tb ∙ e) (laws.at_key k a ta ∙ laws.itself k)
+
+  -- what is found by a test of the key
+  pub found_by_key : (wanted : K → Bool) (db : Database) → IsReady db → (xs : List X) → xs ≡ filter (λ x. wanted (d.key x)) (typed d.is d.reads (db.trees d.layout.tree)) → AreRows d.same d.key wanted (d.look (tables_in db.trees)) xs
+  found_by_key wanted db ready xs are =
+      subst (λ f. AreRows d.same d.key wanted f xs) (sym (laws.looks db.trees)) (are_rows d.same d.key laws.one_key wanted d.is d.reads (db.trees d.layout.tree) xs (rows_of db ready).0 (apart db ready) are)
+
+  -- what is found by a test of the row
+  pub found_by_test : (test : X → Bool) (db : Database) → IsReady db → (xs : List X) → xs ≡ filter test (typed d.is d.reads (db.trees d.layout.tree)) → AreRows d.same d.key (λ k. true) (λ k. only_if test (d.look (tables_in db.trees) k)) xs
+  found_by_test test db ready xs are =
+      subst (λ f. AreRows d.same d.key (λ k. true) (λ k. only_if test (f k)) xs) (sym (laws.looks db.trees)) (are_rows_if d.same d.key laws.one_key test d.is d.reads (db.trees d.layout.tree) xs (rows_of db ready).0 (apart db ready) are)
+
+  module _ {B : Type 0} (q : Query X K B) (are_of : B → Tables → List X → Type 0) (it : IsSought d q are_of) (by : B) (old new : State) (rows : List Row) (ready : IsReady old.now) (h : Shown q.text (q.params by) old new rows) where
+    turn : rows ≡ map (show (q.params by) d.shown) (filter (passes (q.params by) q.tests) (old.now.trees d.layout.tree))
+    turn =
+        let rest = ready.has.rest in
+        let read = reads_as q.text (q.params by) old new (schema_with rest) ready.has.is _ (it.is rest).0 (it.is rest).2 (it.is rest).1 rows h in
+        it.ordered old.now ready by rows (read.answer Null)
+
+    pub reads : (xs : List X) → AllByRecursion (λ v. d.has v ≡ true) rows → map d.seen rows ≡ xs → are_of by (tables_in old.now.trees) xs
+    reads xs has are =
+        it.finds old.now ready by xs
+        (shown_typed d.is d.reads d.has d.seen (show (q.params by) d.shown) (laws.has_shown (q.params by)) (laws.seen_shown (q.params by)) _ rows xs turn has are
+        ∙ typed-filter d.is d.reads (passes (q.params by) q.tests) (q.wanted by) (it.at by) (old.now.trees d.layout.tree))
+
+    pub typed_are : AllByRecursion (λ r. d.is r ≡ true) (stored_of d q by old.now.trees) ↔ AllByRecursion (λ v. d.has v ≡ true) rows
+    typed_are =
+        let all = old.now.trees d.layout.tree in
+        let kept = rows_of old.now ready in
+        let same_rows = filter_same_on (passes (q.params by) q.tests) (q.stored by) all (λ r there. it.at_stored by r (all_has (λ r. IsTrue (is_int (rowid r))) all r kept.1 there)) in
+        both_typed d.has d.is (show (q.params by) d.shown) (laws.has_shown (q.params by)) (stored_of d q by old.now.trees) rows (turn ∙ ap (map (show (q.params by) d.shown)) same_rows)

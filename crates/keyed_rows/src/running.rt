@@ -1,0 +1,24 @@
+//! A statement that is run inside a transaction.
+
+ghost use Rattle.std.specs.Prelude.{◌≡◌};
+ghost use Rattle.sqlite.specs.Values.{bound};
+ghost use Rattle.keyed_rows.specs.Writes.{Ran};
+
+use sqlite::types::ValueRef;
+use sqlite::{Alter, Transaction};
+use table_words::error::TableFault;
+
+/// Runs the statement, and tells how many rows it wrote.
+pub fn count<S: Alter>(
+    tx: &mut Transaction<'_, S>,
+    sql: &str,
+    params: &[ValueRef<'_>],
+) -> Result<usize, TableFault>
+    ensures same_reference { tx.new.conn.ghost_name ≡ tx.old.conn.ghost_name }
+    ensures ran { Ran S.Store sql.now (bound params.now) tx.old.conn.now tx.new.conn.now result }
+{
+    match tx.execute(sql, params) {
+        Ok(n) => Ok(n),
+        Err(cause) => Err(TableFault::Store(cause)),
+    }
+}

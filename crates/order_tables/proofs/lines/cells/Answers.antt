@@ -1,8 +1,0 @@
-use Rattle.commands.specs.declared.limits.TheConstants.{UNITS_MAX}
-use Rattle.table_words.proofs.KeyLemmas.{itself_both}
-use Rattle.table_words.proofs.CellLemmas.{at_most}
-use Rattle.order_tables.proofs.lines.cells.Goals as goal
-
-pub returns-clause-rule : goal.returns-clause-rule
-returns-clause-rule c =
-    itself_both _ _ (c.of_name.ensures.rule) (itself_both _ _ (c.of_gtin.ensures.rule) (itself_both _ _ (at_most c.args.row.now.ordered UNITS_MAX c.requires.fits_ordered) (at_most c.args.row.now.shipped UNITS_MAX c.requires.fits_shipped)))
