@@ -33,7 +33,7 @@ use Rattle.commands.specs.declared.rows.MetaRow.{MetaRow}
 use Rattle.goods_tables.specs.declared.texts.TheConstants.{CHANGE_META, ADD_META, META_ROWS}
 use Rattle.table_words.specs.Cells.{typed, is_word, is_the_text, fits_in, is_any, is_number, is_the_number, number_in, is_signed, is_any_number, signed_in, flag_number, flag_in, bin_kind_in, order_state_in, card_kind_in}
 use Rattle.table_words.specs.Schema.{schema_with, meta_tree, meta_table}
-use Rattle.table_words.specs.Typed.{same_lot_id, is_meta, meta_in, has_meta, meta_read, MetaKey, same_meta, meta_key, meta_cells, with_meta, tables_in, Tables, AreTyped, meta_rows_rows}
+use Rattle.table_words.specs.Typed.{same_lot_id, is_meta, is_meta_at, meta_in, has_meta, meta_read, MetaKey, same_meta, meta_key, meta_cells, with_meta, tables_in, Tables, AreTyped, meta_rows_rows}
 use Rattle.table_words.specs.Steps.{IsReady, Goes}
 use Rattle.table_words.specs.Found.{AreRows}
 use Rattle.table_words.proofs.Plans.{same, scan, by_rowid, alone}
@@ -51,8 +51,8 @@ abbrev pub key_cells : ℕ → Row
 key_cells id = Int (pos id) ∷ []
 
 -- the tests find the key that the parameters begin with
-at_key : (params : Row) (id : ℕ) → column params 0 ≡ Int (pos id) → (r : Row) → is_meta r ≡ true → passes params tests r ≡ same_meta id (meta_key (meta_in r))
-at_key params id e0 r h =
+at_key : (version : ℕ) (params : Row) (id : ℕ) → column params 0 ≡ Int (pos id) → (r : Row) → is_meta_at version r ≡ true → passes params tests r ≡ same_meta id (meta_key (meta_in r))
+at_key version params id e0 r h =
     let p0 = and_parts _ _ h in
     and_true _ ∙ same_the_number 1 (column r 0) (column params 0) id p0.0 e0
 
@@ -90,10 +90,10 @@ back : (s : MetaRow) → meta_in (Int (pos 1) ∷ values s) ≡ s
 back s = refl
 
 -- whether there was a row with the key
-pub changes : (old new : State) (s : MetaRow) (count : ℕ) → is_meta (Int (pos 1) ∷ values s) ≡ true → IsReady old.now → IsTrue old.in_transaction → ExecutesInside 0 change_text (meta_cells s) old new (Ok count)
+pub changes : (old new : State) (s : MetaRow) (count : ℕ) → is_meta (Int (pos 1) ∷ values s) ≡ true → IsReady old.now → IsTrue old.in_transaction → ExecutesInside 0 change_text (meta_cells SCHEMA_VERSION s) old new (Ok count)
     → (count ≢ 0 → Goes (with_meta s) old new) × (count ≡ 0 → Goes (λ t. t) old new)
 changes old new s count sound ready inside h =
-    let params = meta_cells s in
+    let params = meta_cells SCHEMA_VERSION s in
     let p = passes params tests in
     let rows = old.now.trees meta_tree in
     let kept = ready.rows.0 in
@@ -103,7 +103,7 @@ changes old new s count sound ready inside h =
     let mode = h.1.mode ∙ sym inside in
     let typed_after : AreTyped old.now.trees → AreTyped (with_tree old.now.trees meta_tree after) = λ are. record { meta = all_over (λ r. is_meta r ≡ true) p (values s) rows (λ r h e. itself_both (is_the_number 1 (column r 0)) (is_the_text (codes "LOTSTOCK") (column (rowid r ∷ values s) 2) && (is_the_number SCHEMA_VERSION (column (rowid r ∷ values s) 3) && (is_signed is_business_day (column (rowid r ∷ values s) 4) && (is_number ACTS_MAX (column (rowid r ∷ values s) 5) && is_number ACTS_MAX (column (rowid r ∷ values s) 6))))) (and_parts (is_the_number 1 (column r 0)) (is_the_text (codes "LOTSTOCK") (column r 2) && (is_the_number SCHEMA_VERSION (column r 3) && (is_signed is_business_day (column r 4) && (is_number ACTS_MAX (column r 5) && is_number ACTS_MAX (column r 6))))) h).0 (and_parts (is_the_number 1 (column (Int (pos 1) ∷ values s) 0)) (is_the_text (codes "LOTSTOCK") (column (rowid r ∷ values s) 2) && (is_the_number SCHEMA_VERSION (column (rowid r ∷ values s) 3) && (is_signed is_business_day (column (rowid r ∷ values s) 4) && (is_number ACTS_MAX (column (rowid r ∷ values s) 5) && is_number ACTS_MAX (column (rowid r ∷ values s) 6))))) sound).1) are.meta; items = are.items; bins = are.bins; lots = are.lots; recalls = are.recalls; stock = are.stock; orders = are.orders; lines = are.lines; staged = are.staged; reserved = are.reserved; shipments = are.shipments; shiplines = are.shiplines; cards = are.cards; repeats = are.repeats } in (
       λ some. goes old new meta_tree after _ ready (IsRows-over p (values s) rows kept) u.0 mode
-          (λ i. let t : Tables = record (tables_in old.now.trees) { meta = found_over is_meta meta_in p (λ x. same_meta 1 (meta_key x)) (λ x. same_meta 1 (meta_key x)) (same_meta 1 1) (meets same_meta meta_key one_key 1 1) (at_key params 1 refl) s refl (values s) rows kept.1 (λ r int e. let same_id = id_is (rowid r) (pos 1) int (and_parts _ _ e).0 in (subst (λ v. is_meta (v ∷ values s) ≡ true) (sym same_id) sound, ap (λ v. meta_in (v ∷ values s)) same_id ∙ back s)) (any_counted p rows (λ none. some (u.1 ∙ none))) i } in t)
+          (λ i. let t : Tables = record (tables_in old.now.trees) { meta = found_over is_meta meta_in p (λ x. same_meta 1 (meta_key x)) (λ x. same_meta 1 (meta_key x)) (same_meta 1 1) (meets same_meta meta_key one_key 1 1) (at_key SCHEMA_VERSION params 1 refl) s refl (values s) rows kept.1 (λ r int e. let same_id = id_is (rowid r) (pos 1) int (and_parts _ _ e).0 in (subst (λ v. is_meta (v ∷ values s) ≡ true) (sym same_id) sound, ap (λ v. meta_in (v ∷ values s)) same_id ∙ back s)) (any_counted p rows (λ none. some (u.1 ∙ none))) i } in t)
           typed_after,
       λ none. goes old new meta_tree after _ ready (IsRows-over p (values s) rows kept) u.0 mode
           (ap (λ l. tables_in (with_tree old.now.trees meta_tree l)) (none_over p (values s) rows (none_counted_pass p rows (sym u.1 ∙ none))))
@@ -130,9 +130,9 @@ itself : (k : MetaKey) → same_meta k k ≡ true
 itself k = itself_number k
 
 -- it is refused where the key is there
-pub adds : (old new : State) (s : MetaRow) (count : ℕ) → is_meta (Int (pos 1) ∷ values s) ≡ true → IsReady old.now → IsTrue old.in_transaction → ExecutesInside 0 add_text (meta_cells s) old new (Ok count) → Goes (with_meta s) old new
+pub adds : (old new : State) (s : MetaRow) (count : ℕ) → is_meta (Int (pos 1) ∷ values s) ≡ true → IsReady old.now → IsTrue old.in_transaction → ExecutesInside 0 add_text (meta_cells SCHEMA_VERSION s) old new (Ok count) → Goes (with_meta s) old new
 adds old new s count sound ready inside h =
-    let params = meta_cells s in
+    let params = meta_cells SCHEMA_VERSION s in
     let p = passes params tests in
     let rows = old.now.trees meta_tree in
     let kept = ready.rows.0 in
@@ -142,10 +142,10 @@ adds old new s count sound ready inside h =
     let u = inserts_at (schema_with ready.has.rest) 0 meta_tree _ _ _ _ _ _ refl (λ olds news. sets_off_nothing ready.has.rest meta_tree olds news ready.has.apart) old new (pos 1) add_terms 7 _ params (values s) count ready.has.is refl (fits s) w in
     let good = IsRows-put_row row rows refl kept in
     let ready_now = ready_after old.now new.now meta_tree after ready good u.0 in
-    let there : p row ≡ true = at_key params 1 refl row sound ∙ itself 1 in
+    let there : p row ≡ true = at_key SCHEMA_VERSION params 1 refl row sound ∙ itself 1 in
     let none = none_had p row rows u.1 there (subst (AtMostOne p) u.0.trees_are.0 (one_row new.now ready_now params)) (stays_put row rows u.1) in
     goes old new meta_tree after _ ready good u.0 (h.1.mode ∙ sym inside)
-    (λ i. let t : Tables = record (tables_in old.now.trees) { meta = found_put is_meta meta_in p (λ x. same_meta 1 (meta_key x)) (λ x. same_meta 1 (meta_key x)) (same_meta 1 1) (meets same_meta meta_key one_key 1 1) (at_key params 1 refl) s refl row rows sound (back s) u.1 none i } in t)
+    (λ i. let t : Tables = record (tables_in old.now.trees) { meta = found_put is_meta meta_in p (λ x. same_meta 1 (meta_key x)) (λ x. same_meta 1 (meta_key x)) (same_meta 1 1) (meets same_meta meta_key one_key 1 1) (at_key SCHEMA_VERSION params 1 refl) s refl row rows sound (back s) u.1 none i } in t)
     (λ are. record { meta = all_put_row (λ r. is_meta r ≡ true) row rows sound are.meta; items = are.items; bins = are.bins; lots = are.lots; recalls = are.recalls; stock = are.stock; orders = are.orders; lines = are.lines; staged = are.staged; reserved = are.reserved; shipments = are.shipments; shiplines = are.shiplines; cards = are.cards; repeats = are.repeats })
 
 -- ---- SELECT
@@ -153,12 +153,12 @@ adds old new s count sound ready inside h =
 abbrev shown : List Term
 shown = col 1 0 ∷ col 1 2 ∷ col 1 3 ∷ col 1 4 ∷ col 1 5 ∷ col 1 6 ∷ []
 
-apart : (db : Database) (ready : IsReady db) (a b : Row) → Has (db.trees meta_tree) a → Has (db.trees meta_tree) b → is_meta a ≡ true → is_meta b ≡ true
+apart : (version : ℕ) (db : Database) (ready : IsReady db) (a b : Row) → Has (db.trees meta_tree) a → Has (db.trees meta_tree) b → is_meta_at version a ≡ true → is_meta_at version b ≡ true
     → same_meta (meta_key (meta_in a)) (meta_key (meta_in b)) ≡ true → value_cmp (rowid a) (rowid b) ≡ Equal
-apart db ready a b ha hb ta tb e =
+apart version db ready a b ha hb ta tb e =
     let s = meta_in a in
     let params = key_cells 1 in
-    one_row db ready params b a hb ha (at_key params 1 refl b tb ∙ e) (at_key params 1 refl a ta ∙ itself 1)
+    one_row db ready params b a hb ha (at_key version params 1 refl b tb ∙ e) (at_key version params 1 refl a ta ∙ itself 1)
 
 abbrev pub meta_rows_text : List ℕ
 meta_rows_text = META_ROWS.now
@@ -174,8 +174,8 @@ pub meta_rows_plain : (rest : Schema) → IsPlain (understood (schema_with rest)
 unfolding understood everything
 meta_rows_plain rest = (refl, refl)
 
-meta_rows_at : (id : ℕ) (r : Row) → is_meta r ≡ true → passes (Int (pos id) ∷ []) meta_rows_tests r ≡ (let key = meta_key (meta_in r) in nat_eq id key)
-meta_rows_at id r h =
+meta_rows_at : (version : ℕ) (id : ℕ) (r : Row) → is_meta_at version r ≡ true → passes (Int (pos id) ∷ []) meta_rows_tests r ≡ (let key = meta_key (meta_in r) in nat_eq id key)
+meta_rows_at version id r h =
     let p0 = and_parts _ _ h in
     and_true _ ∙ same_the_number 1 (column r 0) (Int (pos id)) id p0.0 refl
 
@@ -189,21 +189,21 @@ meta_rows_turn old new id rows ready h =
     only_shown params shown (filter p all) (few p all ready.rows.0.0 (one_row old.now ready params)) rows (scanned old.now.trees params meta_tree meta_rows_tests shown [] rows (read.answer Null))
 
 -- the rows that were read
-pub meta_rows_reads : (old new : State) (id : ℕ) (rows : List Row) (xs : List MetaRow) → IsReady old.now → Shown meta_rows_text (Int (pos id) ∷ []) old new rows
-    → AllByRecursion (λ v. has_meta v ≡ true) rows → map meta_read rows ≡ xs
-    → AreRows {K = MetaKey} same_meta meta_key (λ key. nat_eq id key) (λ key. find (λ s. same_meta key (meta_key s)) (typed is_meta meta_in (old.now.trees meta_tree))) xs
-meta_rows_reads old new id rows xs ready h has are =
+pub meta_rows_reads : (version : ℕ) (old new : State) (id : ℕ) (rows : List Row) (xs : List MetaRow) → IsReady old.now → Shown meta_rows_text (Int (pos id) ∷ []) old new rows
+    → AllByRecursion (λ v. has_meta version v ≡ true) rows → map meta_read rows ≡ xs
+    → AreRows {K = MetaKey} same_meta meta_key (λ key. nat_eq id key) (λ key. find (λ s. same_meta key (meta_key s)) (typed (is_meta_at version) meta_in (old.now.trees meta_tree))) xs
+meta_rows_reads version old new id rows xs ready h has are =
     let params = Int (pos id) ∷ [] in
     let all = old.now.trees meta_tree in
-    are_rows same_meta meta_key one_key (λ key. nat_eq id key) is_meta meta_in all xs ready.rows.0.0 (apart old.now ready)
-    (shown_typed is_meta meta_in has_meta meta_read (show params shown) (λ r. refl) (λ r. refl) _ rows xs (meta_rows_turn old new id rows ready h) has are
-    ∙ typed-filter is_meta meta_in (passes params meta_rows_tests) (λ x. let key = meta_key x in nat_eq id key) (meta_rows_at id) all)
+    are_rows same_meta meta_key one_key (λ key. nat_eq id key) (is_meta_at version) meta_in all xs ready.rows.0.0 (apart version old.now ready)
+    (shown_typed (is_meta_at version) meta_in (has_meta version) meta_read (show params shown) (λ r. refl) (λ r. refl) _ rows xs (meta_rows_turn old new id rows ready h) has are
+    ∙ typed-filter (is_meta_at version) meta_in (passes params meta_rows_tests) (λ x. let key = meta_key x in nat_eq id key) (meta_rows_at version id) all)
 
 -- they read as typed rows exactly if the stored ones do
-pub meta_rows_typed : (old new : State) (id : ℕ) (rows : List Row) → IsReady old.now → Shown meta_rows_text (Int (pos id) ∷ []) old new rows
-    → AllByRecursion (λ r. is_meta r ≡ true) (meta_rows_rows id old.now.trees) ↔ AllByRecursion (λ v. has_meta v ≡ true) rows
-meta_rows_typed old new id rows ready h =
+pub meta_rows_typed : (version : ℕ) (old new : State) (id : ℕ) (rows : List Row) → IsReady old.now → Shown meta_rows_text (Int (pos id) ∷ []) old new rows
+    → AllByRecursion (λ r. is_meta_at version r ≡ true) (meta_rows_rows id old.now.trees) ↔ AllByRecursion (λ v. has_meta version v ≡ true) rows
+meta_rows_typed version old new id rows ready h =
     let params = Int (pos id) ∷ [] in
     let all = old.now.trees meta_tree in
     let same_rows = filter_same_on (passes params meta_rows_tests) (λ r. is_the_number id (column r 0)) all (λ r there. and_true _ ∙ equals_number (column r 0) id (all_has (λ r. IsTrue (is_int (rowid r))) all r ready.rows.0.1 there)) in
-    both_typed has_meta is_meta (show params shown) (λ r. refl) (meta_rows_rows id old.now.trees) rows (meta_rows_turn old new id rows ready h ∙ ap (map (show params shown)) same_rows)
+    both_typed (has_meta version) (is_meta_at version) (show params shown) (λ r. refl) (meta_rows_rows id old.now.trees) rows (meta_rows_turn old new id rows ready h ∙ ap (map (show params shown)) same_rows)

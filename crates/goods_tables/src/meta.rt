@@ -7,7 +7,7 @@ ghost use Rattle.sqlite.specs.Held.{state};
 ghost use Rattle.sqlite.specs.Values.{bound};
 ghost use Rattle.table_words.specs.Found.{AreRows};
 ghost use Rattle.table_words.specs.Steps.{IsReady, Goes, ChangesNone, IsTooBig};
-ghost use Rattle.table_words.specs.Typed.{tables_in, same_lot_id, with_meta, is_meta, has_meta, meta_cells, meta_key, same_meta, MetaKey, meta_rows_rows};
+ghost use Rattle.table_words.specs.Typed.{tables_in, same_lot_id, with_meta, is_meta, is_meta_at, has_meta, meta_cells, meta_key, same_meta, MetaKey, meta_rows_rows, meta_at};
 ghost use Rattle.table_words.specs.declared.error.TableFault.TheVariants.{Foreign};
 
 use crate::texts::{ADD_META, CHANGE_META, META_ROWS};
@@ -23,12 +23,15 @@ use table_words::columns::{
 use table_words::error::TableFault;
 use table_words::reading::{Table, query};
 
+/// The newest schema number, which the books are kept under.
+const NEWEST: u32 = SCHEMA_VERSION as u32;
+
 /// The values of the columns, in their order.
 fn cells(row: &MetaRow) -> [ValueRef<'_>; 6]
     requires fits_acts { row.now.acts ≤ ACTS_MAX }
     requires fits_shipments { row.now.shipments ≤ ACTS_MAX }
-    ensures value { bound result ≡ meta_cells row.now }
-    ensures rule { has_meta (meta_cells row.now) ≡ true }
+    ensures value { bound result ≡ meta_cells SCHEMA_VERSION row.now }
+    ensures rule { has_meta SCHEMA_VERSION (meta_cells SCHEMA_VERSION row.now) ≡ true }
 {
     [
         of_number(1),
@@ -58,15 +61,15 @@ pub fn put_meta<S: Alter>(tx: &mut Transaction<'_, S>, row: &MetaRow) -> Result<
     put(tx, CHANGE_META, ADD_META, &cells(row))
 }
 
-/// How the rows of the table are read.
-struct Meta;
+/// How the rows of the table are read in books of schema number `VERSION`.
+struct MetaAt<const VERSION: u32>;
 
-impl Table for Meta {
+impl<const VERSION: u32> Table for MetaAt<VERSION> {
     ghost use Rattle.table_words.specs.Typed.{has_meta, meta_read};
 
     type Record = MetaRow;
 
-    ghost has = { has_meta };
+    ghost has = { has_meta VERSION };
 
     ghost reads = { meta_read };
 
@@ -74,7 +77,7 @@ impl Table for Meta {
         match (
             expect_number(row, 0, 1),
             expect_mark(row, 1),
-            expect_number(row, 2, SCHEMA_VERSION),
+            expect_number(row, 2, u64::from(VERSION)),
             business_day_at(row, 3),
             number_at(row, 4, ACTS_MAX),
             number_at(row, 5, ACTS_MAX),
@@ -87,6 +90,27 @@ impl Table for Meta {
             _ => Err(TableFault::Foreign),
         }
     }
+}
+
+/// The rows of `meta` in books of schema number `VERSION`, which is one at most, the oldest first; `Foreign` where one of
+/// them has a value that no row of such books has, another number too.
+pub fn meta_rows_at<const VERSION: u32, S: Alter>(
+    alloc: Global,
+    tx: &mut Transaction<'_, S>,
+) -> Result<Vec<MetaRow>, TableFault>
+    ensures same_reference { tx.new.conn.ghost_name ≡ tx.old.conn.ghost_name }
+    ensures rows { HasCleanDisk (state S.Store tx.new.conn.now) → IsReady (state S.Store tx.old.conn.now).now
+        → IfOk result (λ rows. find (λ r. true) rows.items ≡ meta_at VERSION (state S.Store tx.old.conn.now).now.trees) }
+    ensures typed { HasCleanDisk (state S.Store tx.new.conn.now) → IsReady (state S.Store tx.old.conn.now).now
+        → OnOk result (AllByRecursion (λ r. is_meta_at VERSION r ≡ true) (meta_rows_rows 1 (state S.Store tx.old.conn.now).now.trees)) }
+    ensures foreign { HasCleanDisk (state S.Store tx.new.conn.now) → IsReady (state S.Store tx.old.conn.now).now
+        → IfErr result (λ e. e ≡ Foreign → ¬ AllByRecursion (λ r. is_meta_at VERSION r ≡ true) (meta_rows_rows 1 (state S.Store tx.old.conn.now).now.trees)) }
+    ensures same { HasCleanDisk (state S.Store tx.new.conn.now) → IsReady (state S.Store tx.old.conn.now).now → OnOk result (IsUnchanged (state S.Store tx.old.conn.now) (state S.Store tx.new.conn.now)) }
+    ensures refused { HasCleanDisk (state S.Store tx.new.conn.now) → IsReady (state S.Store tx.old.conn.now).now → OnErr result (ChangesNone (state S.Store tx.old.conn.now) (state S.Store tx.new.conn.now)) }
+    ensures kept { HasCleanDisk (state S.Store tx.new.conn.now) → IsReady (state S.Store tx.old.conn.now).now → KeepsCommit (state S.Store tx.old.conn.now) (state S.Store tx.new.conn.now) }
+    ensures survives { Survives (state S.Store tx.old.conn.now) (state S.Store tx.new.conn.now) (λ _. ⊥) }
+{
+    query::<MetaAt<VERSION>, S>(alloc, tx, META_ROWS, &[of_number(1)])
 }
 
 /// The rows of `meta`, which is one at most, the oldest first; `Foreign` where one of them has a value that no row has.
@@ -106,5 +130,5 @@ pub fn meta_rows<S: Alter>(
     ensures kept { HasCleanDisk (state S.Store tx.new.conn.now) → IsReady (state S.Store tx.old.conn.now).now → KeepsCommit (state S.Store tx.old.conn.now) (state S.Store tx.new.conn.now) }
     ensures survives { Survives (state S.Store tx.old.conn.now) (state S.Store tx.new.conn.now) (λ _. ⊥) }
 {
-    query::<Meta, S>(alloc, tx, META_ROWS, &[of_number(1)])
+    meta_rows_at::<NEWEST, S>(alloc, tx)
 }
