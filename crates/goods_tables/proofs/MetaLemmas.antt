@@ -33,7 +33,7 @@ use Rattle.commands.specs.declared.rows.MetaRow.{MetaRow}
 use Rattle.goods_tables.specs.declared.texts.TheConstants.{CHANGE_META, ADD_META, META_ROWS}
 use Rattle.table_words.specs.Cells.{typed, is_word, is_the_text, fits_in, is_any, is_number, is_the_number, number_in, is_signed, is_any_number, signed_in, flag_number, flag_in, bin_kind_in, order_state_in, card_kind_in}
 use Rattle.table_words.specs.Schema.{schema_with, meta_tree, meta_table}
-use Rattle.table_words.specs.Typed.{same_lot_id, is_meta, meta_in, has_meta, meta_read, MetaKey, same_meta, meta_key, meta_cells, with_meta, tables_in, Tables, AreTyped, meta_rows_rows}
+use Rattle.table_words.specs.Typed.{same_lot_id, is_meta, is_meta_at, meta_in, has_meta, meta_read, MetaKey, same_meta, meta_key, meta_cells, with_meta, tables_in, Tables, AreTyped, meta_rows_rows}
 use Rattle.table_words.specs.Steps.{IsReady, Goes}
 use Rattle.table_words.specs.Found.{AreRows}
 use Rattle.table_words.proofs.Plans.{same, scan, by_rowid, alone}
@@ -51,8 +51,8 @@ abbrev pub key_cells : ℕ → Row
 key_cells id = Int (pos id) ∷ []
 
 -- the tests find the key that the parameters begin with
-at_key : (params : Row) (id : ℕ) → column params 0 ≡ Int (pos id) → (r : Row) → is_meta r ≡ true → passes params tests r ≡ same_meta id (meta_key (meta_in r))
-at_key params id e0 r h =
+at_key : (version : ℕ) (params : Row) (id : ℕ) → column params 0 ≡ Int (pos id) → (r : Row) → is_meta_at version r ≡ true → passes params tests r ≡ same_meta id (meta_key (meta_in r))
+at_key version params id e0 r h =
     let p0 = and_parts _ _ h in
     and_true _ ∙ same_the_number 1 (column r 0) (column params 0) id p0.0 e0
 
@@ -68,12 +68,12 @@ one_row db ready params = one_by_rowid (db.trees meta_tree) params
 abbrev shown : List Term
 shown = col 1 0 ∷ col 1 2 ∷ col 1 3 ∷ col 1 4 ∷ col 1 5 ∷ col 1 6 ∷ []
 
-apart : (db : Database) (ready : IsReady db) (a b : Row) → Has (db.trees meta_tree) a → Has (db.trees meta_tree) b → is_meta a ≡ true → is_meta b ≡ true
+apart : (version : ℕ) (db : Database) (ready : IsReady db) (a b : Row) → Has (db.trees meta_tree) a → Has (db.trees meta_tree) b → is_meta_at version a ≡ true → is_meta_at version b ≡ true
     → same_meta (meta_key (meta_in a)) (meta_key (meta_in b)) ≡ true → value_cmp (rowid a) (rowid b) ≡ Equal
-apart db ready a b ha hb ta tb e =
+apart version db ready a b ha hb ta tb e =
     let s = meta_in a in
     let params = key_cells 1 in
-    one_row db ready params b a hb ha (at_key params 1 refl b tb ∙ e) (at_key params 1 refl a ta ∙ itself_number 1)
+    one_row db ready params b a hb ha (at_key version params 1 refl b tb ∙ e) (at_key version params 1 refl a ta ∙ itself_number 1)
 
 abbrev pub meta_rows_text : List ℕ
 meta_rows_text = META_ROWS.now
@@ -89,8 +89,8 @@ pub meta_rows_plain : (rest : Schema) → IsPlain (understood (schema_with rest)
 unfolding understood everything
 meta_rows_plain rest = (refl, refl)
 
-meta_rows_at : (id : ℕ) (r : Row) → is_meta r ≡ true → passes (Int (pos id) ∷ []) meta_rows_tests r ≡ (let key = meta_key (meta_in r) in nat_eq id key)
-meta_rows_at id r h =
+meta_rows_at : (version : ℕ) (id : ℕ) (r : Row) → is_meta_at version r ≡ true → passes (Int (pos id) ∷ []) meta_rows_tests r ≡ (let key = meta_key (meta_in r) in nat_eq id key)
+meta_rows_at version id r h =
     let p0 = and_parts _ _ h in
     and_true _ ∙ same_the_number 1 (column r 0) (Int (pos id)) id p0.0 refl
 
@@ -104,21 +104,21 @@ meta_rows_turn old new id rows ready h =
     only_shown params shown (filter p all) (few p all ready.rows.0.0 (one_row old.now ready params)) rows (scanned old.now.trees params meta_tree meta_rows_tests shown [] rows (read.answer Null))
 
 -- the rows that were read
-pub meta_rows_reads : (old new : State) (id : ℕ) (rows : List Row) (xs : List MetaRow) → IsReady old.now → Shown meta_rows_text (Int (pos id) ∷ []) old new rows
-    → AllByRecursion (λ v. has_meta v ≡ true) rows → map meta_read rows ≡ xs
-    → AreRows {K = MetaKey} same_meta meta_key (λ key. nat_eq id key) (λ key. find (λ s. same_meta key (meta_key s)) (typed is_meta meta_in (old.now.trees meta_tree))) xs
-meta_rows_reads old new id rows xs ready h has are =
+pub meta_rows_reads : (version : ℕ) (old new : State) (id : ℕ) (rows : List Row) (xs : List MetaRow) → IsReady old.now → Shown meta_rows_text (Int (pos id) ∷ []) old new rows
+    → AllByRecursion (λ v. has_meta version v ≡ true) rows → map meta_read rows ≡ xs
+    → AreRows {K = MetaKey} same_meta meta_key (λ key. nat_eq id key) (λ key. find (λ s. same_meta key (meta_key s)) (typed (is_meta_at version) meta_in (old.now.trees meta_tree))) xs
+meta_rows_reads version old new id rows xs ready h has are =
     let params = Int (pos id) ∷ [] in
     let all = old.now.trees meta_tree in
-    are_rows same_meta meta_key one_key (λ key. nat_eq id key) is_meta meta_in all xs ready.rows.0.0 (apart old.now ready)
-    (shown_typed is_meta meta_in has_meta meta_read (show params shown) (λ r. refl) (λ r. refl) _ rows xs (meta_rows_turn old new id rows ready h) has are
-    ∙ typed-filter is_meta meta_in (passes params meta_rows_tests) (λ x. let key = meta_key x in nat_eq id key) (meta_rows_at id) all)
+    are_rows same_meta meta_key one_key (λ key. nat_eq id key) (is_meta_at version) meta_in all xs ready.rows.0.0 (apart version old.now ready)
+    (shown_typed (is_meta_at version) meta_in (has_meta version) meta_read (show params shown) (λ r. refl) (λ r. refl) _ rows xs (meta_rows_turn old new id rows ready h) has are
+    ∙ typed-filter (is_meta_at version) meta_in (passes params meta_rows_tests) (λ x. let key = meta_key x in nat_eq id key) (meta_rows_at version id) all)
 
 -- they read as typed rows exactly if the stored ones do
-pub meta_rows_typed : (old new : State) (id : ℕ) (rows : List Row) → IsReady old.now → Shown meta_rows_text (Int (pos id) ∷ []) old new rows
-    → AllByRecursion (λ r. is_meta r ≡ true) (meta_rows_rows id old.now.trees) ↔ AllByRecursion (λ v. has_meta v ≡ true) rows
-meta_rows_typed old new id rows ready h =
+pub meta_rows_typed : (version : ℕ) (old new : State) (id : ℕ) (rows : List Row) → IsReady old.now → Shown meta_rows_text (Int (pos id) ∷ []) old new rows
+    → AllByRecursion (λ r. is_meta_at version r ≡ true) (meta_rows_rows id old.now.trees) ↔ AllByRecursion (λ v. has_meta version v ≡ true) rows
+meta_rows_typed version old new id rows ready h =
     let params = Int (pos id) ∷ [] in
     let all = old.now.trees meta_tree in
     let same_rows = filter_same_on (passes params meta_rows_tests) (λ r. is_the_number id (column r 0)) all (λ r there. and_true _ ∙ equals_number (column r 0) id (all_has (λ r. IsTrue (is_int (rowid r))) all r ready.rows.0.1 there)) in
-    both_typed has_meta is_meta (show params shown) (λ r. refl) (meta_rows_rows id old.now.trees) rows (meta_rows_turn old new id rows ready h ∙ ap (map (show params shown)) same_rows)
+    both_typed (has_meta version) (is_meta_at version) (show params shown) (λ r. refl) (meta_rows_rows id old.now.trees) rows (meta_rows_turn old new id rows ready h ∙ ap (map (show params shown)) same_rows)

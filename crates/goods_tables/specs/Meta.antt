@@ -29,11 +29,11 @@ meta = record {
   is = is_meta;
   reads = meta_in;
   shown = col 1 0 ∷ col 1 2 ∷ col 1 3 ∷ col 1 4 ∷ col 1 5 ∷ col 1 6 ∷ [];
-  has = has_meta;
+  has = has_meta SCHEMA_VERSION;
   seen = meta_read;
   key = λ s. tt;
   same = λ a b. true;
-  cells = meta_cells;
+  cells = meta_cells SCHEMA_VERSION;
   key_cells = λ k. Int (pos 1) ∷ [];
   look = λ t k. t.meta;
   set = λ f t. record t { meta = f tt };

@@ -1,17 +1,16 @@
 //! The table `meta`.
 
-ghost use Rattle.std.specs.Prelude.{◌≡◌, ◌≢◌, ◌<◌, true, find, OnOk, OnErr, IfOk, IfErr};
+ghost use Rattle.std.specs.Prelude.{◌≡◌, ◌≢◌, ◌<◌, true, false, find, OnOk, OnErr, IfOk, IfErr};
 ghost use Rattle.std.specs.List.{AllByRecursion};
 ghost use Rattle.sqlite.specs.State.{HasCleanDisk, Survives, KeepsCommit, IsUnchanged};
 ghost use Rattle.sqlite.specs.Held.{state};
 ghost use Rattle.table_words.specs.Steps.{IsReady, Goes, ChangesNone, IsTooBig};
-ghost use Rattle.table_words.specs.Typed.{tables_in, with_meta, is_meta, meta_rows_rows};
+ghost use Rattle.table_words.specs.Typed.{tables_in, with_meta, is_meta, is_meta_at, has_meta, meta_read, meta_rows_rows, meta_at};
 ghost use Rattle.table_words.specs.declared.error.TableFault.TheVariants.{Foreign};
 
 use crate::texts::{ADD_META, CHANGE_META, META_ROWS};
 use commands::MetaRow;
 use commands::limits::{ACTS_MAX, SCHEMA_VERSION};
-use keyed_rows::reading::Whole;
 use keyed_rows::running::count;
 use keyed_rows::table::{Changing, Table, put};
 use sqlite::{Alter, Row, Transaction};
@@ -20,7 +19,10 @@ use table_words::columns::{
     business_day_at, expect_mark, expect_number, number_at, of_business_day, of_mark, of_number,
 };
 use table_words::error::TableFault;
-use table_words::reading::query;
+use table_words::reading::{Readable, query};
+
+/// The newest schema number, which the books are kept under.
+const NEWEST: u32 = SCHEMA_VERSION as u32;
 
 /// The table.
 pub struct Meta;
@@ -63,21 +65,30 @@ impl Table for Meta {
     }
 
     fn read(_: Global, row: &Row) -> Result<MetaRow, TableFault> {
-        match (
-            expect_number(row, 0, 1),
-            expect_mark(row, 1),
-            expect_number(row, 2, SCHEMA_VERSION),
-            business_day_at(row, 3),
-            number_at(row, 4, ACTS_MAX),
-            number_at(row, 5, ACTS_MAX),
-        ) {
-            (Ok(()), Ok(()), Ok(()), Ok(day), Ok(acts), Ok(shipments)) => Ok(MetaRow {
-                day,
-                acts,
-                shipments,
-            }),
-            _ => Err(TableFault::Foreign),
-        }
+        row_at(NEWEST, row)
+    }
+}
+
+/// What the row of all columns reads as in books of this schema number; `Foreign` where a column has a value that no row
+/// of such books has.
+fn row_at(version: u32, row: &Row) -> Result<MetaRow, TableFault>
+    ensures ok { IfOk result (λ s. (has_meta version row.now ≡ true) × (meta_read row.now ≡ s)) }
+    ensures foreign { IfErr result (λ e. e ≡ Foreign → has_meta version row.now ≡ false) }
+{
+    match (
+        expect_number(row, 0, 1),
+        expect_mark(row, 1),
+        expect_number(row, 2, u64::from(version)),
+        business_day_at(row, 3),
+        number_at(row, 4, ACTS_MAX),
+        number_at(row, 5, ACTS_MAX),
+    ) {
+        (Ok(()), Ok(()), Ok(()), Ok(day), Ok(acts), Ok(shipments)) => Ok(MetaRow {
+            day,
+            acts,
+            shipments,
+        }),
+        _ => Err(TableFault::Foreign),
     }
 }
 
@@ -108,6 +119,44 @@ pub fn put_meta<S: Alter>(tx: &mut Transaction<'_, S>, row: &MetaRow) -> Result<
     put::<Meta, S>(tx, row, false)
 }
 
+/// How the rows of the table are read in books of schema number `VERSION`.
+struct MetaAt<const VERSION: u32>;
+
+impl<const VERSION: u32> Readable for MetaAt<VERSION> {
+    ghost use Rattle.table_words.specs.Typed.{has_meta, meta_read};
+
+    type Record = MetaRow;
+
+    ghost has = { has_meta VERSION };
+
+    ghost reads = { meta_read };
+
+    fn read(_: Global, row: &Row) -> Result<MetaRow, TableFault> {
+        row_at(VERSION, row)
+    }
+}
+
+/// The rows of `meta` in books of schema number `VERSION`, which is one at most, the oldest first; `Foreign` where one of
+/// them has a value that no row of such books has, another number too.
+pub fn meta_rows_at<const VERSION: u32, S: Alter>(
+    alloc: Global,
+    tx: &mut Transaction<'_, S>,
+) -> Result<Vec<MetaRow>, TableFault>
+    ensures same_reference { tx.new.conn.ghost_name ≡ tx.old.conn.ghost_name }
+    ensures rows { HasCleanDisk (state S.Store tx.new.conn.now) → IsReady (state S.Store tx.old.conn.now).now
+        → IfOk result (λ rows. find (λ r. true) rows.items ≡ meta_at VERSION (state S.Store tx.old.conn.now).now.trees) }
+    ensures typed { HasCleanDisk (state S.Store tx.new.conn.now) → IsReady (state S.Store tx.old.conn.now).now
+        → OnOk result (AllByRecursion (λ r. is_meta_at VERSION r ≡ true) (meta_rows_rows 1 (state S.Store tx.old.conn.now).now.trees)) }
+    ensures foreign { HasCleanDisk (state S.Store tx.new.conn.now) → IsReady (state S.Store tx.old.conn.now).now
+        → IfErr result (λ e. e ≡ Foreign → ¬ AllByRecursion (λ r. is_meta_at VERSION r ≡ true) (meta_rows_rows 1 (state S.Store tx.old.conn.now).now.trees)) }
+    ensures same { HasCleanDisk (state S.Store tx.new.conn.now) → IsReady (state S.Store tx.old.conn.now).now → OnOk result (IsUnchanged (state S.Store tx.old.conn.now) (state S.Store tx.new.conn.now)) }
+    ensures refused { HasCleanDisk (state S.Store tx.new.conn.now) → IsReady (state S.Store tx.old.conn.now).now → OnErr result (ChangesNone (state S.Store tx.old.conn.now) (state S.Store tx.new.conn.now)) }
+    ensures kept { HasCleanDisk (state S.Store tx.new.conn.now) → IsReady (state S.Store tx.old.conn.now).now → KeepsCommit (state S.Store tx.old.conn.now) (state S.Store tx.new.conn.now) }
+    ensures survives { Survives (state S.Store tx.old.conn.now) (state S.Store tx.new.conn.now) (λ _. ⊥) }
+{
+    query::<MetaAt<VERSION>, S>(alloc, tx, META_ROWS, &[of_number(1)])
+}
+
 /// The rows of `meta`, which is one at most, the oldest first; `Foreign` where one of them has a value that no row has.
 pub fn meta_rows<S: Alter>(
     alloc: Global,
@@ -125,5 +174,5 @@ pub fn meta_rows<S: Alter>(
     ensures kept { HasCleanDisk (state S.Store tx.new.conn.now) → IsReady (state S.Store tx.old.conn.now).now → KeepsCommit (state S.Store tx.old.conn.now) (state S.Store tx.new.conn.now) }
     ensures survives { Survives (state S.Store tx.old.conn.now) (state S.Store tx.new.conn.now) (λ _. ⊥) }
 {
-    query::<Whole<Meta>, S>(alloc, tx, META_ROWS, &[of_number(1)])
+    meta_rows_at::<NEWEST, S>(alloc, tx)
 }

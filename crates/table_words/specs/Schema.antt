@@ -1,4 +1,4 @@
--- The schema, a table at a time, and the indexes after them.
+-- The tables of the books, and the schemas that have them.
 use Rattle.std.specs.Prelude.{◌≡◌, Bool, true, false, not, ◌||◌, [], ◌∷◌, ◌++◌, Option, None, Some, List, ℕ, nat_lt, nat_eq, codes}
 use Rattle.std.specs.List.{list_all, starts_with}
 use Rattle.sqlite.specs.Collation.TheVariants.{Binary}
@@ -9,7 +9,6 @@ use Rattle.sqlite_schema.specs.declared.schema.Column.{Column}
 use Rattle.sqlite.specs.Table.{Table}
 use Rattle.sqlite_schema.specs.declared.schema.Index.{Index}
 use Rattle.sqlite.specs.Schema.{Schema}
-use Rattle.sqlite.specs.Change.{created, indexed}
 use Rattle.sqlite_value.specs.declared.keys.Order.{Order}
 use Rattle.sqlite_value.specs.Keys.{plain}
 
@@ -46,14 +45,6 @@ keyed_table tree name columns places = plain_table tree name columns None places
 -- its PRIMARY KEY is the first column, which is the rowid
 abbrev pub id_table : ℕ → List ℕ → List Column → Table
 id_table tree name columns = plain_table tree name columns (Some 0) (0 ∷ []) [] []
-
--- an index that a CREATE INDEX makes of these places
-abbrev pub plain_index : List ℕ → ℕ → ℕ → List ℕ → Index
-plain_index name tree table places = record { name = name; tree = tree; table = table; columns = places; order = plain; is_unique = false }
-
--- the index of a PRIMARY KEY at these places
-abbrev pub key_index : List ℕ → ℕ → ℕ → List ℕ → Index
-key_index name tree table places = record { name = name; tree = tree; table = table; columns = places; order = plain; is_unique = true }
 
 abbrev pub meta_table : ℕ → Table
 meta_table tree = id_table tree (codes "meta") (number_column (codes "id") ∷ text_column (codes "mark") ∷ number_column (codes "version") ∷ number_column (codes "day") ∷ number_column (codes "acts") ∷ number_column (codes "shipments") ∷ [])
@@ -140,72 +131,9 @@ cards_tree = 22
 abbrev pub repeats_tree : ℕ
 repeats_tree = 24
 
--- the schema after each statement that makes it
+-- the schema with nothing in it
 abbrev pub schema_0 : Schema
 schema_0 = record { tables = []; indexes = []; views = [] }
-
-abbrev pub schema_1 : Schema
-schema_1 = created schema_0 (meta_table 0)
-
-abbrev pub schema_2 : Schema
-schema_2 = created schema_1 (items_table 0)
-
-abbrev pub schema_3 : Schema
-schema_3 = created schema_2 (bins_table 0)
-
-abbrev pub schema_4 : Schema
-schema_4 = created schema_3 (lots_table 0)
-
-abbrev pub schema_5 : Schema
-schema_5 = created schema_4 (recalls_table 0)
-
-abbrev pub schema_6 : Schema
-schema_6 = created schema_5 (stock_table 0)
-
-abbrev pub schema_7 : Schema
-schema_7 = created schema_6 (orders_table 0)
-
-abbrev pub schema_8 : Schema
-schema_8 = created schema_7 (lines_table 0)
-
-abbrev pub schema_9 : Schema
-schema_9 = created schema_8 (staged_table 0)
-
-abbrev pub schema_10 : Schema
-schema_10 = created schema_9 (reserved_table 0)
-
-abbrev pub schema_11 : Schema
-schema_11 = created schema_10 (shipments_table 0)
-
-abbrev pub schema_12 : Schema
-schema_12 = created schema_11 (shiplines_table 0)
-
-abbrev pub schema_13 : Schema
-schema_13 = created schema_12 (cards_table 0)
-
-abbrev pub schema_14 : Schema
-schema_14 = created schema_13 (repeats_table 0)
-
-abbrev pub staged_by_gtin : ℕ → Index
-staged_by_gtin tree = plain_index (codes "staged_by_gtin") tree 15 (2 ∷ [])
-
-abbrev pub schema_15 : Schema
-schema_15 = indexed schema_14 (staged_table 15) (staged_by_gtin 0)
-
-abbrev pub reserved_by_gtin : ℕ → Index
-reserved_by_gtin tree = plain_index (codes "reserved_by_gtin") tree 17 (2 ∷ [])
-
-abbrev pub schema_16 : Schema
-schema_16 = indexed schema_15 (reserved_table 17) (reserved_by_gtin 0)
-
-abbrev pub shiplines_of_lot : ℕ → Index
-shiplines_of_lot tree = plain_index (codes "shiplines_of_lot") tree 20 (2 ∷ 3 ∷ 1 ∷ [])
-
-abbrev pub schema_17 : Schema
-schema_17 = indexed schema_16 (shiplines_table 20) (shiplines_of_lot 0)
-
-abbrev pub the_schema : Schema
-the_schema = schema_17
 
 -- ---- the schemas that books may have
 

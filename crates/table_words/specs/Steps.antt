@@ -1,10 +1,9 @@
 -- What a call makes of the tables.
-use Rattle.std.specs.Prelude.{◌≡◌, ◌⊎◌, false, [], Result, Err, IsTrue}
+use Rattle.std.specs.Prelude.{◌≡◌, ◌⊎◌, false, Result, Err, IsTrue}
 use Rattle.std.specs.List.{AllByRecursion}
 use Rattle.sqlite.specs.State.{State}
-use Rattle.sqlite.specs.Effect.{Database, IsDatabase}
+use Rattle.sqlite.specs.Effect.{Database}
 use Rattle.sqlite_catalog.specs.Listing.{IsSound}
-use Rattle.sqlite.specs.Schema.{Schema}
 use Rattle.table_words.specs.Schema.{the_tables, schema_with, HasTables}
 use Rattle.table_words.specs.Rows.{IsRows}
 use Rattle.table_words.specs.Typed.{Tables, tables_in, AreTyped}
@@ -35,12 +34,6 @@ pub record IsUndone (old new : State) : Type 0 where
 -- what a call leaves that is refused: the tables as they were, in a transaction that goes on, or the whole transaction is undone
 abbrev pub ChangesNone : State → State → Type 0
 ChangesNone old new = Goes (λ t. t) old new ⊎ IsUndone old new
-
--- the schema is this one, and each of its tables is empty
-pub record IsBlank (schema : Schema) (db : Database) : Type 0 where
-  pub schema_is : db.schema ≡ schema
-  pub sound : IsDatabase db
-  pub empty : AllByRecursion (λ t. db.trees t.tree ≡ []) schema.tables
 
 -- the call was refused for size, and nothing was done
 abbrev pub IsTooBig : {X S : Type 0} → Result X TableFault → S → S → Type 0

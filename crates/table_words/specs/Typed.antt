@@ -32,17 +32,21 @@ same_lot_id a b = bytes_eq a.gtin b.gtin && bytes_eq a.lot b.lot
 
 -- ---- meta
 
--- whether the row reads as a typed one
+-- whether the row reads as a typed one of books of this schema number
+abbrev pub is_meta_at : ℕ → Row → Bool
+is_meta_at version r = is_the_number 1 (column r 0) && (is_the_text (codes "LOTSTOCK") (column r 2) && (is_the_number version (column r 3) && (is_signed is_business_day (column r 4) && (is_number ACTS_MAX (column r 5) && is_number ACTS_MAX (column r 6)))))
+
+-- and of books of the newest number
 abbrev pub is_meta : Row → Bool
-is_meta r = is_the_number 1 (column r 0) && (is_the_text (codes "LOTSTOCK") (column r 2) && (is_the_number SCHEMA_VERSION (column r 3) && (is_signed is_business_day (column r 4) && (is_number ACTS_MAX (column r 5) && is_number ACTS_MAX (column r 6)))))
+is_meta r = is_meta_at SCHEMA_VERSION r
 
 -- what it reads as
 abbrev pub meta_in : Row → MetaRow
 meta_in r = record { day = signed_in (column r 4); acts = number_in (column r 5); shipments = number_in (column r 6) }
 
 -- the same of its columns in their order, as a statement answers them
-abbrev pub has_meta : Row → Bool
-has_meta v = is_the_number 1 (column v 0) && (is_the_text (codes "LOTSTOCK") (column v 1) && (is_the_number SCHEMA_VERSION (column v 2) && (is_signed is_business_day (column v 3) && (is_number ACTS_MAX (column v 4) && is_number ACTS_MAX (column v 5)))))
+abbrev pub has_meta : ℕ → Row → Bool
+has_meta version v = is_the_number 1 (column v 0) && (is_the_text (codes "LOTSTOCK") (column v 1) && (is_the_number version (column v 2) && (is_signed is_business_day (column v 3) && (is_number ACTS_MAX (column v 4) && is_number ACTS_MAX (column v 5)))))
 
 abbrev pub meta_read : Row → MetaRow
 meta_read v = record { day = signed_in (column v 3); acts = number_in (column v 4); shipments = number_in (column v 5) }
@@ -56,13 +60,17 @@ same_meta a b = nat_eq a b
 abbrev pub meta_key : MetaRow → MetaKey
 meta_key s = 1
 
--- its values, in the order of the columns
-abbrev pub meta_cells : MetaRow → Row
-meta_cells s = Int (pos 1) ∷ Text (codes "LOTSTOCK") ∷ Int (pos SCHEMA_VERSION) ∷ Int s.day ∷ Int (pos s.acts) ∷ Int (pos s.shipments) ∷ []
+-- its values in books of this schema number, in the order of the columns
+abbrev pub meta_cells : ℕ → MetaRow → Row
+meta_cells version s = Int (pos 1) ∷ Text (codes "LOTSTOCK") ∷ Int (pos version) ∷ Int s.day ∷ Int (pos s.acts) ∷ Int (pos s.shipments) ∷ []
 
 -- the stored rows of this id
 abbrev pub meta_rows_rows : ℕ → Trees → List Row
 meta_rows_rows id trees = filter (λ r. is_the_number id (column r 0)) (trees meta_tree)
+
+-- the typed row in books of this schema number, if there is one
+abbrev pub meta_at : ℕ → Trees → Option MetaRow
+meta_at version trees = find (λ s. same_meta 1 (meta_key s)) (typed (is_meta_at version) meta_in (trees meta_tree))
 
 -- ---- items
 
@@ -465,7 +473,7 @@ repeats_of_rows k trees = filter (λ r. is_the_text k (column r 1)) (trees repea
 
 abbrev pub tables_in : Trees → Tables
 tables_in trees = record {
-  meta = find (λ s. same_meta 1 (meta_key s)) (typed is_meta meta_in (trees meta_tree));
+  meta = meta_at SCHEMA_VERSION trees;
   item = λ gtin. find (λ s. same_item gtin (item_key s)) (typed is_item item_in (trees items_tree));
   bin = λ name. find (λ s. same_bin name (bin_key s)) (typed is_bin bin_in (trees bins_tree));
   lot = λ lot. find (λ s. same_lot lot (lot_key s)) (typed is_lot lot_in (trees lots_tree));

@@ -1,5 +1,5 @@
 -- What a statement that makes an index leaves of the books.
-use Rattle.std.proofs.Common.{◌≡◌, IsTrue, inl, inr, ℕ, ◌+◌, Bool, true, false, not, ◌||◌, cond, is_some, None, Some, slice_get, List, [], ◌∷◌, ◌++◌, Ok, Err, Result, Option, refl, sym, ap, subst, ◌∙◌}
+use Rattle.std.proofs.Common.{◌≡◌, IsTrue, inl, inr, ℕ, ◌+◌, Bool, true, false, not, ◌||◌, cond, is_some, None, Some, slice_get, List, [], ◌∷◌, ◌++◌, Ok, Err, Result, OnErr, Option, refl, sym, ap, subst, ◌∙◌}
 use Rattle.std.specs.List.{AllByRecursion, list_all, position_from}
 use Rattle.std.proofs.lemmas.Bool.{cases_Bool, and_parts, and_from}
 use Rattle.sqlite.specs.Command.TheVariants.{CreateIndex, Nothing}
@@ -12,14 +12,15 @@ use Rattle.sqlite_schema.specs.Names.{same_name, index_named}
 use Rattle.sqlite.specs.Effect.{Database}
 use Rattle.sqlite_catalog.specs.Listing.{IsSound}
 use Rattle.sqlite.specs.Listing.{understood}
-use Rattle.sqlite.specs.State.{State, mode_of, Writes, ExecutesIn, ExecutesInside}
+use Rattle.sqlite.specs.State.{State, mode_of, Writes, ExecutesIn, ExecutesInside, KeepsCommit}
 use Rattle.sqlite.proofs.Callers.{IsPlain, command_of, statement_of, runs_as}
 use Rattle.sqlite_keyed.proofs.ListLemmas.{all_both}
 use Rattle.table_words.specs.Schema.{the_tables, schema_with, is_harmless, HasTables}
 use Rattle.table_words.specs.Rows.{IsRows}
-use Rattle.table_words.specs.Steps.{IsReady}
-use Rattle.table_words.proofs.StepLemmas.{front}
+use Rattle.table_words.specs.Steps.{IsReady, Goes, ChangesNone}
+use Rattle.table_words.proofs.StepLemmas.{front, tables_same, typed_same}
 use Rattle.table_words.proofs.WriteLemmas.{went, same_value}
+use Rattle.table_words.proofs.CallLemmas.{goes_then}
 use Rattle.tables.specs.Indexing.{HasIndex, KeepsRows, IsIndexed, plan, MakesOrFinds, Indexes}
 
 found_before : (p : Index → Bool) (at : ℕ) (xs : List Index) (x : Index) → is_some (position_from p at xs) ≡ true → is_some (position_from p at (xs ++ x ∷ [])) ≡ true
@@ -110,3 +111,18 @@ indexed_then a b c p q = record {
   mode = q.mode ∙ p.mode;
   still = λ name there. q.still name (p.still name there);
 }
+
+-- no table has other rows, so what is refused after it has changed nothing
+pub indexed_none : (a b c : State) → IsIndexed a b → KeepsCommit a b → ChangesNone b c → ChangesNone a c
+indexed_none a b c made kept (inl h) =
+    let same : Goes (λ t. t) a b = record { ready = made.ready; tables = tables_same a.now.trees b.now.trees made.rows; mode = made.mode; typed = typed_same a.now.trees b.now.trees made.rows } in
+    inl (goes_then (λ t. t) (λ t. t) a b c same h)
+indexed_none a b c made kept (inr h) = inr (record {
+  was_open = λ up. kept.was_open (h.was_open up);
+  undone = λ up. ((h.undone up).0 ∙ kept.committed (h.was_open up), (h.undone up).1 ∙ kept.committed (h.was_open up));
+  autocommit = h.autocommit;
+})
+
+pub on_err_then : {X E P Q : Type 0} (r : Result X E) → (P → Q) → OnErr r P → OnErr r Q
+on_err_then (Ok x) f p = tt
+on_err_then (Err e) f p = f p

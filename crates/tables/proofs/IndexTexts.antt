@@ -1,5 +1,5 @@
 -- What the texts that make the indexes mean in any schema of books.
-use Rattle.std.proofs.Common.{◌≡◌, inl, inr, ℕ, List, [], codes, refl, true, false, None, Ok, Err, Result, sym, subst, Bool, Option}
+use Rattle.std.proofs.Common.{◌≡◌, inl, inr, ℕ, List, [], ◌∷◌, codes, refl, true, false, None, Ok, Err, Result, sym, subst, Bool, Option}
 use Rattle.std.specs.Prelude.{if◌then◌else◌, is_some}
 use Rattle.std.specs.Option.{option_or}
 use Rattle.std.proofs.lemmas.Bool.{cases_Bool}
@@ -15,9 +15,15 @@ use Rattle.sqlite_resolve.specs.declared.compiled.Compiled.{Compiled}
 use Rattle.sqlite_resolve.specs.declared.error.CompileError.{CompileError}
 use Rattle.sqlite_resolve.specs.declared.error.CompileError.TheVariants.{Exists}
 use Rattle.sqlite_schema.specs.Names.{table_named, index_named, view_named}
-use Rattle.table_words.specs.Schema.{schema_with, staged_table, reserved_table, shiplines_table, staged_by_gtin, reserved_by_gtin, shiplines_of_lot}
+use Rattle.table_words.specs.Schema.{schema_with, staged_table, reserved_table, shiplines_table}
+use Rattle.sqlite_schema.specs.declared.schema.Index.{Index}
+use Rattle.sqlite_value.specs.Keys.{plain}
 use Rattle.tables.specs.Indexing.{plan, MakesOrFinds, Indexes}
 use Rattle.tables.specs.declared.indexing.TheConstants.{STAGED_BY_GTIN, RESERVED_BY_GTIN, SHIPLINES_OF_LOT}
+
+-- the index that a CREATE INDEX makes of these places of the table
+abbrev plain_index : List ℕ → ℕ → List ℕ → Index
+plain_index name table places = record { name = name; tree = 0; table = table; columns = places; order = plain; is_unique = false }
 
 -- what follows from whether the name is free
 abbrev whole : ℕ → ℕ → Result Bool CompileError → Result Compiled CompileError
@@ -62,7 +68,7 @@ staged_by_gtin_made = record {
   size = 58;
   at = 8;
   table = staged_table 15;
-  index = staged_by_gtin 0;
+  index = plain_index (codes "staged_by_gtin") 15 (2 ∷ []);
   means = makes_or_finds 58 8 (codes "staged_by_gtin") STAGED_BY_GTIN.now staged_by_gtin_free staged_by_gtin_means;
   whole = λ command. refl;
   placed = λ rest. refl;
@@ -85,7 +91,7 @@ reserved_by_gtin_made = record {
   size = 62;
   at = 9;
   table = reserved_table 17;
-  index = reserved_by_gtin 0;
+  index = plain_index (codes "reserved_by_gtin") 17 (2 ∷ []);
   means = makes_or_finds 62 9 (codes "reserved_by_gtin") RESERVED_BY_GTIN.now reserved_by_gtin_free reserved_by_gtin_means;
   whole = λ command. refl;
   placed = λ rest. refl;
@@ -108,7 +114,7 @@ shiplines_of_lot_made = record {
   size = 76;
   at = 11;
   table = shiplines_table 20;
-  index = shiplines_of_lot 0;
+  index = plain_index (codes "shiplines_of_lot") 20 (2 ∷ 3 ∷ 1 ∷ []);
   means = makes_or_finds 76 11 (codes "shiplines_of_lot") SHIPLINES_OF_LOT.now shiplines_of_lot_free shiplines_of_lot_means;
   whole = λ command. refl;
   placed = λ rest. refl;

@@ -1,5 +1,6 @@
-pub mod CreateLemmas
 pub mod Texts
+pub mod GrowLemmas
+pub mod CreateLemmas
 pub mod OpenLemmas
 pub mod IndexTexts
 pub mod IndexLemmas

@@ -1,5 +1,6 @@
 pub mod Creation
 pub mod Opening
 pub mod Layouts
+pub mod Growing
 pub mod Indexing
 pub mod Settling

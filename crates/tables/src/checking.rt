@@ -7,6 +7,7 @@ ghost use Rattle.sqlite_value.specs.Keys.{plain};
 ghost use Rattle.tables.specs.Layouts.{table_of, BeginsWithTables};
 ghost use Rattle.table_words.specs.Schema.{column, plain_table, keyed_table, id_table, the_tables, schema_0, refers_to_none as refers_to_none_lem, is_harmless as is_harmless_lem, HasTables};
 
+use crate::layouts::{FIRST_COUNT, FIRST_TABLES, TableLayout};
 use sqlite_items::Items;
 use sqlite_schema::code::Terms;
 use sqlite_schema::schema::{Column, Index, Kind, Schema, Stamps, Table};
@@ -14,192 +15,11 @@ use sqlite_value::keys::{Collation, Order};
 use sqlite_value::value::Value;
 use std::alloc::{AllocError, Global};
 
-/// A table as it has to be: STRICT, and each column NOT NULL.
-struct TableLayout {
-    tree: u32,
-    name: &'static [u8],
-    columns: &'static [(&'static [u8], Kind)],
-    /// The places of the PRIMARY KEY; not read where the first column is the rowid.
-    places: &'static [usize],
-    /// Whether the first column is the rowid.
-    has_id: bool,
-}
-
 /// The last tree of the tables and of their keys.
 const LAST_TREE: u32 = 25;
 
 /// What the names of the indexes of keys begin with, and no other.
 const AUTOMATIC: &[u8] = b"sqlite_autoindex_";
-
-const TABLE_COUNT: usize = 14;
-
-/// The tables of the books.
-const TABLES: [TableLayout; TABLE_COUNT] = [
-    TableLayout {
-        tree: 0,
-        name: b"meta",
-        columns: &[
-            (b"id", Kind::Integer),
-            (b"mark", Kind::Text),
-            (b"version", Kind::Integer),
-            (b"day", Kind::Integer),
-            (b"acts", Kind::Integer),
-            (b"shipments", Kind::Integer),
-        ],
-        places: &[0],
-        has_id: true,
-    },
-    TableLayout {
-        tree: 1,
-        name: b"items",
-        columns: &[(b"gtin", Kind::Text), (b"name", Kind::Text)],
-        places: &[1],
-        has_id: false,
-    },
-    TableLayout {
-        tree: 3,
-        name: b"bins",
-        columns: &[(b"name", Kind::Text), (b"kind", Kind::Text)],
-        places: &[1],
-        has_id: false,
-    },
-    TableLayout {
-        tree: 5,
-        name: b"lots",
-        columns: &[
-            (b"gtin", Kind::Text),
-            (b"lot", Kind::Text),
-            (b"expiry", Kind::Integer),
-            (b"came", Kind::Integer),
-            (b"held", Kind::Integer),
-        ],
-        places: &[1, 2],
-        has_id: false,
-    },
-    TableLayout {
-        tree: 7,
-        name: b"recalls",
-        columns: &[
-            (b"gtin", Kind::Text),
-            (b"lot", Kind::Text),
-            (b"act", Kind::Integer),
-        ],
-        places: &[1, 2],
-        has_id: false,
-    },
-    TableLayout {
-        tree: 9,
-        name: b"stock",
-        columns: &[
-            (b"gtin", Kind::Text),
-            (b"lot", Kind::Text),
-            (b"bin", Kind::Text),
-            (b"qty", Kind::Integer),
-        ],
-        places: &[1, 2, 3],
-        has_id: false,
-    },
-    TableLayout {
-        tree: 11,
-        name: b"orders",
-        columns: &[
-            (b"ord", Kind::Text),
-            (b"act", Kind::Integer),
-            (b"customer", Kind::Text),
-            (b"state", Kind::Text),
-        ],
-        places: &[1],
-        has_id: false,
-    },
-    TableLayout {
-        tree: 13,
-        name: b"lines",
-        columns: &[
-            (b"ord", Kind::Text),
-            (b"gtin", Kind::Text),
-            (b"ordered", Kind::Integer),
-            (b"shipped", Kind::Integer),
-        ],
-        places: &[1, 2],
-        has_id: false,
-    },
-    TableLayout {
-        tree: 15,
-        name: b"staged",
-        columns: &[
-            (b"ord", Kind::Text),
-            (b"gtin", Kind::Text),
-            (b"lot", Kind::Text),
-            (b"qty", Kind::Integer),
-        ],
-        places: &[1, 2, 3],
-        has_id: false,
-    },
-    TableLayout {
-        tree: 17,
-        name: b"reserved",
-        columns: &[
-            (b"ord", Kind::Text),
-            (b"gtin", Kind::Text),
-            (b"lot", Kind::Text),
-            (b"qty", Kind::Integer),
-        ],
-        places: &[1, 2, 3],
-        has_id: false,
-    },
-    TableLayout {
-        tree: 19,
-        name: b"shipments",
-        columns: &[
-            (b"number", Kind::Integer),
-            (b"act", Kind::Integer),
-            (b"day", Kind::Integer),
-            (b"ord", Kind::Text),
-        ],
-        places: &[0],
-        has_id: true,
-    },
-    TableLayout {
-        tree: 20,
-        name: b"shiplines",
-        columns: &[
-            (b"number", Kind::Integer),
-            (b"gtin", Kind::Text),
-            (b"lot", Kind::Text),
-            (b"qty", Kind::Integer),
-        ],
-        places: &[1, 2, 3],
-        has_id: false,
-    },
-    TableLayout {
-        tree: 22,
-        name: b"cards",
-        columns: &[
-            (b"gtin", Kind::Text),
-            (b"lot", Kind::Text),
-            (b"act", Kind::Integer),
-            (b"day", Kind::Integer),
-            (b"kind", Kind::Text),
-            (b"note", Kind::Text),
-            (b"qty", Kind::Integer),
-            (b"rest", Kind::Integer),
-        ],
-        places: &[1, 2, 3],
-        has_id: false,
-    },
-    TableLayout {
-        tree: 24,
-        name: b"repeats",
-        columns: &[
-            (b"k", Kind::Text),
-            (b"act", Kind::Integer),
-            (b"spell", Kind::Text),
-            (b"reply", Kind::Text),
-        ],
-        places: &[1],
-        has_id: false,
-    },
-];
 
 fn is_null(value: &Value) -> bool
     ensures { IsTrue result ↔ (value.now ≡ Null) }
@@ -367,7 +187,7 @@ fn tables_match(alloc: Global, found: &[Table], layouts: &[TableLayout]) -> Resu
 fn are_tables(alloc: Global, found: &[Table]) -> Result<bool, AllocError>
     ensures { IfOk result (λ same. IsTrue same ↔ (found.now ≡ the_tables)) }
 {
-    tables_match(alloc, found, &TABLES)
+    tables_match(alloc, found, &FIRST_TABLES)
 }
 
 fn refers_to_none(found: &Table) -> bool
@@ -399,13 +219,13 @@ fn are_harmless(found: &[Index]) -> bool
 fn begin_with_tables(alloc: Global, found: &[Table]) -> Result<bool, AllocError>
     ensures { IfOk result (λ yes. IsTrue yes ↔ BeginsWithTables found.now) }
 {
-    if found.len() < TABLE_COUNT {
+    if found.len() < FIRST_COUNT {
         return Ok(false);
     }
-    if !are_tables(alloc, &found[..TABLE_COUNT])? {
+    if !are_tables(alloc, &found[..FIRST_COUNT])? {
         return Ok(false);
     }
-    Ok(are_apart(&found[TABLE_COUNT..]))
+    Ok(are_apart(&found[FIRST_COUNT..]))
 }
 
 /// Whether the schema has the tables of the books before any others, which refer to none, and no index that refuses a

@@ -7,8 +7,10 @@
 mod checking;
 pub mod creation;
 pub mod indexing;
+mod layouts;
 pub mod opening;
 pub mod settling;
+mod steps;
 
 pub use goods_tables as goods;
 pub use history_tables as history;

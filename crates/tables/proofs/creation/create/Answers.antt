@@ -4,8 +4,12 @@ use Rattle.sqlite.specs.State.{HasCleanDisk, Survives}
 use Rattle.table_words.specs.Schema.{schema_0}
 use Rattle.table_words.specs.Steps.{IsReady}
 use Rattle.table_words.specs.Typed.{tables_in, AreTyped}
+use Rattle.sqlite.specs.Effect.{Database}
 use Rattle.tables.specs.Creation.{first_rows}
-use Rattle.tables.proofs.CreateLemmas.{begins_blank, crash_made}
+use Rattle.tables.specs.Indexing.{HasIndexes}
+use Rattle.tables.specs.Opening.{TellTables}
+use Rattle.tables.proofs.OpenLemmas.{ready_tells}
+use Rattle.tables.proofs.CreateLemmas.{begins_void, crash_made}
 use Rattle.tables.proofs.creation.create.Goals as goal
 
 pub returns-in_err-commit-clause-survives : goal.returns-in_err-commit-clause-survives
@@ -17,8 +21,8 @@ returns-in_err-commit-clause-survives g c =
     crash_made g.S.Store old begun last _ _ c.transaction-tx.ensures.begun c.fill.ensures.survives c.commit.ensures.survives (λ clean.
     let clean_last : HasCleanDisk last = omega (arith, clean, c.commit.ensures.survives.clean) in
     let blank : (state g.S.Store old).now.schema ≡ schema_0 = sym c.schema.ensures.value ∙ c.is_empty_schema.ensures.0 c.if-not-is_empty_schema.false in
-    let filled = c.in_ok-fill.ensures.done clean_last (begins_blank g.S.Store old begun c.transaction-tx.ensures.begun c.schema.ensures.live blank (c.in_ok-fill.ensures.was_open clean_last)) in
-    (filled.tables, filled.typed)) in
+    let filled = c.in_ok-fill.ensures.done clean_last (begins_void g.S.Store old begun c.transaction-tx.ensures.begun c.schema.ensures.live blank (c.in_ok-fill.ensures.was_open clean_last)) in
+    (filled.0.tables, filled.0.typed)) in
     search (rules, whole)
 
 pub returns-clause-foreign : goal.returns-clause-foreign
@@ -39,8 +43,8 @@ returns-clause-ready g c =
     let whole : HasCleanDisk new → IsReady new.now = λ clean.
     let clean_last : HasCleanDisk last = omega (arith, clean, c.commit.ensures.survives.clean) in
     let blank : (state g.S.Store old).now.schema ≡ schema_0 = sym c.schema.ensures.value ∙ c.is_empty_schema.ensures.0 c.if-not-is_empty_schema.false in
-    let filled = c.in_ok-fill.ensures.done clean_last (begins_blank g.S.Store old begun c.transaction-tx.ensures.begun c.schema.ensures.live blank (c.in_ok-fill.ensures.was_open clean_last)) in
-    subst IsReady (sym (c.in_ok-commit.ensures.ok clean).1.now_is) filled.ready in
+    let filled = c.in_ok-fill.ensures.done clean_last (begins_void g.S.Store old begun c.transaction-tx.ensures.begun c.schema.ensures.live blank (c.in_ok-fill.ensures.was_open clean_last)) in
+    subst IsReady (sym (c.in_ok-commit.ensures.ok clean).1.now_is) filled.0.ready in
     let same : c.commit.new.self.0 ≡ c.conn-2-1.given.0 = search rules in
     subst (λ h. HasCleanDisk (state g.S.Store h) → IsReady (state g.S.Store h).now) same whole
 
@@ -49,6 +53,20 @@ returns-clause-tables g c = search rules
 
 pub returns-clause-typed : goal.returns-clause-typed
 returns-clause-typed g c = search rules
+
+pub returns-clause-indexes : goal.returns-clause-indexes
+returns-clause-indexes g c =
+    let old = c.args.conn.now in
+    let begun = c.transaction-tx.result.conn.now in
+    let last = state g.S.Store c.fill.new.tx.conn.now in
+    let new = state g.S.Store c.commit.new.self.0 in
+    let whole : HasCleanDisk new → HasIndexes new.now.schema = λ clean.
+    let clean_last : HasCleanDisk last = omega (arith, clean, c.commit.ensures.survives.clean) in
+    let blank : (state g.S.Store old).now.schema ≡ schema_0 = sym c.schema.ensures.value ∙ c.is_empty_schema.ensures.0 c.if-not-is_empty_schema.false in
+    let filled = c.in_ok-fill.ensures.done clean_last (begins_void g.S.Store old begun c.transaction-tx.ensures.begun c.schema.ensures.live blank (c.in_ok-fill.ensures.was_open clean_last)) in
+    subst (λ (d : Database). HasIndexes d.schema) (sym (c.in_ok-commit.ensures.ok clean).1.now_is) filled.1 in
+    let same : c.commit.new.self.0 ≡ c.conn-2-1.given.0 = search rules in
+    subst (λ h. HasCleanDisk (state g.S.Store h) → HasIndexes (state g.S.Store h).now.schema) same whole
 
 pub returns-clause-failed : goal.returns-clause-failed
 returns-clause-failed g c = search rules
@@ -65,9 +83,35 @@ returns-clause-survives g c =
     crash_made g.S.Store old begun last _ _ c.transaction-tx.ensures.begun c.fill.ensures.survives c.commit.ensures.survives (λ clean.
     let clean_last : HasCleanDisk last = omega (arith, clean, c.commit.ensures.survives.clean) in
     let blank : (state g.S.Store old).now.schema ≡ schema_0 = sym c.schema.ensures.value ∙ c.is_empty_schema.ensures.0 c.if-not-is_empty_schema.false in
-    let filled = c.in_ok-fill.ensures.done clean_last (begins_blank g.S.Store old begun c.transaction-tx.ensures.begun c.schema.ensures.live blank (c.in_ok-fill.ensures.was_open clean_last)) in
-    (filled.tables, filled.typed)) in
+    let filled = c.in_ok-fill.ensures.done clean_last (begins_void g.S.Store old begun c.transaction-tx.ensures.begun c.schema.ensures.live blank (c.in_ok-fill.ensures.was_open clean_last)) in
+    (filled.0.tables, filled.0.typed)) in
     search (rules, whole)
 
 pub returns-clause-outside : goal.returns-clause-outside
 returns-clause-outside g c = search rules
+
+pub returns-clause-tells : goal.returns-clause-tells
+returns-clause-tells g c =
+    let old = c.args.conn.now in
+    let begun = c.transaction-tx.result.conn.now in
+    let last = state g.S.Store c.fill.new.tx.conn.now in
+    let whole : Survives (state g.S.Store old) (state g.S.Store c.commit.new.self.0) TellTables =
+    crash_made g.S.Store old begun last _ _ c.transaction-tx.ensures.begun c.fill.ensures.survives c.commit.ensures.survives (λ clean.
+    let clean_last : HasCleanDisk last = omega (arith, clean, c.commit.ensures.survives.clean) in
+    let blank : (state g.S.Store old).now.schema ≡ schema_0 = sym c.schema.ensures.value ∙ c.is_empty_schema.ensures.0 c.if-not-is_empty_schema.false in
+    let filled = c.in_ok-fill.ensures.done clean_last (begins_void g.S.Store old begun c.transaction-tx.ensures.begun c.schema.ensures.live blank (c.in_ok-fill.ensures.was_open clean_last)) in
+    ready_tells last.now filled.0.ready) in
+    search (rules, whole)
+
+pub returns-in_err-commit-clause-tells : goal.returns-in_err-commit-clause-tells
+returns-in_err-commit-clause-tells g c =
+    let old = c.args.conn.now in
+    let begun = c.transaction-tx.result.conn.now in
+    let last = state g.S.Store c.fill.new.tx.conn.now in
+    let whole : Survives (state g.S.Store old) (state g.S.Store c.commit.new.self.0) TellTables =
+    crash_made g.S.Store old begun last _ _ c.transaction-tx.ensures.begun c.fill.ensures.survives c.commit.ensures.survives (λ clean.
+    let clean_last : HasCleanDisk last = omega (arith, clean, c.commit.ensures.survives.clean) in
+    let blank : (state g.S.Store old).now.schema ≡ schema_0 = sym c.schema.ensures.value ∙ c.is_empty_schema.ensures.0 c.if-not-is_empty_schema.false in
+    let filled = c.in_ok-fill.ensures.done clean_last (begins_void g.S.Store old begun c.transaction-tx.ensures.begun c.schema.ensures.live blank (c.in_ok-fill.ensures.was_open clean_last)) in
+    ready_tells last.now filled.0.ready) in
+    search (rules, whole)
