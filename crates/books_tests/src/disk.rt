@@ -40,13 +40,16 @@ fn worked<S: Alter + Drop>(
     }
 }
 
-/// How many frames the log has before it is copied into the database, so that this comes within a day's work too.
+/// How many frames the log of a trial has before it is copied into the database, so that this comes within a day's work too.
 const LOG_FRAMES: usize = 40;
 
-fn options() -> Options {
-    Options {
-        checkpoint_frames: LOG_FRAMES,
-        ..Options::new(1)
+fn options(work: Work<'_>) -> Options {
+    match work {
+        Work::Trial(_) => Options {
+            checkpoint_frames: LOG_FRAMES,
+            ..Options::new(1)
+        },
+        _ => Options::new(1),
     }
 }
 
@@ -62,7 +65,7 @@ fn over(
     if !files.may_be_used() {
         return files;
     }
-    let conn = match Connection::open_files(alloc, files, options()) {
+    let conn = match Connection::open_files(alloc, files, options(work)) {
         Ok(conn) => conn,
         Err((_, left)) => return left.into_files(),
     };

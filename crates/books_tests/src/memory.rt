@@ -9,9 +9,9 @@ mod rows;
 mod steps;
 
 use crate::memory::answers::answer_all_tried;
-use crate::memory::books::{create_tried, open_tried};
+use crate::memory::books::{Reopened, create_tried, open_tried};
 use crate::memory::house::{Compares, day_tried, serve_one_tried};
-use sqlite::{Alter, Connection};
+use sqlite::Connection;
 use std::process::Abort;
 
 /// What is tried.
@@ -27,7 +27,7 @@ enum Tried {
     OpenedDay,
 }
 
-fn tries<S: Alter + Drop>(
+fn tries<S: Reopened>(
     host: &HostRuntime,
     rt: &impl Abort,
     conns: (Connection<S>, Connection<S>),

@@ -76,10 +76,10 @@ impl<'a> Run<'a> {
         }
     }
 
-    /// Runs whose file stops after each count of calls, until one meets no stop.
-    fn stop(&self, rt: &impl Abort, alloc: Global, side: Side) -> Count {
+    /// Runs whose file stops after each of these counts of calls, until one meets no stop.
+    fn stop(&self, rt: &impl Abort, alloc: Global, side: Side, first: u64, end: u64) -> Count {
         let mut count = Count { stops: 0, whole: 0 };
-        for calls in 0..u64::MAX {
+        for calls in first..end {
             if !self.stops(rt, alloc, side.calls(calls), &mut count) {
                 return count;
             }
@@ -149,38 +149,94 @@ impl<'a> Run<'a> {
     }
 }
 
-// So many requests of the day, from this one on, are stopped at each call of one side: at least so often, and only a stop of
-// the log leaves the whole of an act that was not answered, which it then does.
-fn are_stopped(rt: &impl Abort, alloc: Global, side: Side, at: usize, requests: usize, least: u64) {
+/// Where the disk of one side stops within requests of the day.
+#[derive(Clone, Copy)]
+struct Stops {
+    side: Side,
+    /// The first request, and how many.
+    requests: (usize, usize),
+    /// The first count of calls, and the one where it ends.
+    calls: (u64, u64),
+    /// How many runs meet a stop at least.
+    least: u64,
+}
+
+// Only a stop of the log leaves the whole of an act that was not answered, which it then does.
+fn are_judged(rt: &impl Abort, alloc: Global, stops: Stops) {
     let day = day(rt, alloc);
     let stages = stages(rt, alloc, day.as_slice());
+    let (at, requests) = stops.requests;
     let run = Run::part(day.as_slice(), stages.as_slice(), at, requests);
-    assert!(rt; run.exchanges.len() == requests.min(day.len()));
-    let count = run.stop(rt, alloc, side);
-    assert!(rt; count.stops >= least, "{} stops", count.stops);
-    assert!(rt;
-        (count.whole != 0) == matches!(side, Side::Log),
-        "{} whole",
-        count.whole
-    );
+    assert!(rt; run.exchanges.len() == requests);
+    let (first, end) = stops.calls;
+    let count = run.stop(rt, alloc, stops.side, first, end);
+    assert!(rt; count.stops >= stops.least, "{} stops", count.stops);
+    let leaves_whole = matches!(stops.side, Side::Log);
+    assert!(rt; (count.whole != 0) == leaves_whole, "{} whole", count.whole);
 }
 
 #[test]
-fn the_log_stops_within_a_day(rt: HostRuntime) {
-    are_stopped(&rt, rt.alloc(), Side::Log, 0, 15, 100);
+fn the_log_stops_early_in_a_day(rt: HostRuntime) {
+    let stops = Stops {
+        side: Side::Log,
+        requests: (0, 15),
+        calls: (0, 120),
+        least: 120,
+    };
+    are_judged(&rt, rt.alloc(), stops);
 }
 
 #[test]
-fn the_database_stops_within_a_day(rt: HostRuntime) {
-    are_stopped(&rt, rt.alloc(), Side::Database, 0, 15, 100);
+fn the_log_stops_late_in_a_day(rt: HostRuntime) {
+    let stops = Stops {
+        side: Side::Log,
+        requests: (0, 15),
+        calls: (120, u64::MAX),
+        least: 30,
+    };
+    are_judged(&rt, rt.alloc(), stops);
+}
+
+#[test]
+fn the_database_stops_early_in_a_day(rt: HostRuntime) {
+    let stops = Stops {
+        side: Side::Database,
+        requests: (0, 15),
+        calls: (0, 120),
+        least: 120,
+    };
+    are_judged(&rt, rt.alloc(), stops);
+}
+
+#[test]
+fn the_database_stops_late_in_a_day(rt: HostRuntime) {
+    let stops = Stops {
+        side: Side::Database,
+        requests: (0, 15),
+        calls: (120, u64::MAX),
+        least: 20,
+    };
+    are_judged(&rt, rt.alloc(), stops);
 }
 
 #[test]
 fn the_log_stops_within_a_recall(rt: HostRuntime) {
-    are_stopped(&rt, rt.alloc(), Side::Log, RECALL, 1, 30);
+    let stops = Stops {
+        side: Side::Log,
+        requests: (RECALL, 1),
+        calls: (0, u64::MAX),
+        least: 30,
+    };
+    are_judged(&rt, rt.alloc(), stops);
 }
 
 #[test]
 fn the_database_stops_within_a_recall(rt: HostRuntime) {
-    are_stopped(&rt, rt.alloc(), Side::Database, RECALL, 1, 30);
+    let stops = Stops {
+        side: Side::Database,
+        requests: (RECALL, 1),
+        calls: (0, u64::MAX),
+        least: 30,
+    };
+    are_judged(&rt, rt.alloc(), stops);
 }

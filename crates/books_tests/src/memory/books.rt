@@ -5,7 +5,8 @@ use crate::memory::rows::has_rows_after;
 use crate::memory::steps::{BOOKED, MADE};
 use crate::opening::{business_day, closed};
 use crate::order_rows::gives;
-use sqlite::{Alter, Connection};
+use sqlite::{Alter, Connection, MemStore};
+use sqlite_trees::store::Store;
 use std::alloc::Global;
 use std::process::Abort;
 use store::{Books, Fault, OpenFault};
@@ -117,21 +118,22 @@ pub(crate) fn create_tried<S: Alter + Drop>(
     has_rows_after(rt, host.alloc(), &mut conn, MADE);
 }
 
-fn over<S: Alter + Drop>(rt: &impl Abort, alloc: Global, store: S) -> Connection<S> {
-    let mut store = store;
-    store.rollback();
-    match Connection::over(alloc, store) {
-        Ok(conn) => conn,
-        Err(_) => panic!(rt; "the store does not open"),
+/// A store over which a connection can be opened again.
+pub(crate) trait Reopened: Alter + Drop {
+    /// The connection over what is committed, if there is memory for it.
+    fn reopened(self, alloc: Global) -> Option<Connection<Self>>;
+}
+
+impl Reopened for MemStore {
+    fn reopened(self, alloc: Global) -> Option<Connection<MemStore>> {
+        let mut store = self;
+        store.rollback();
+        Connection::over(alloc, store).ok()
     }
 }
 
 /// Books with lots and orders are opened. Where there is no memory for that, they are opened again over what was left.
-pub(crate) fn open_tried<S: Alter + Drop>(
-    host: &HostRuntime,
-    rt: &impl Abort,
-    conn: Connection<S>,
-) {
+pub(crate) fn open_tried<S: Reopened>(host: &HostRuntime, rt: &impl Abort, conn: Connection<S>) {
     let alloc = host.alloc();
     let mut conn = house_after(rt, alloc, conn, BOOKED).close().close();
     has_rows_after(rt, alloc, &mut conn, BOOKED);
@@ -139,7 +141,8 @@ pub(crate) fn open_tried<S: Alter + Drop>(
         Left::Books(conn) => conn,
         Left::NoMemory(Leftover::Connection(conn)) => again(host, rt, conn, Making::Open),
         Left::NoMemory(Leftover::Store(store)) => {
-            again(host, rt, over(rt, alloc, store), Making::Open)
+            let conn = store.reopened(alloc).expect(rt, "memory");
+            again(host, rt, conn, Making::Open)
         }
     };
     has_rows_after(rt, alloc, &mut conn, BOOKED);
