@@ -1,6 +1,6 @@
 #!/bin/sh
-# Hostile clients at the port of lotd: slow, silent, cut off and endless ones, with a sound request between each two,
-# which is answered as if nobody else were there. Needs the Rattle kit and python3, and takes about a minute.
+# Hostile clients at the port of lotd: slow, silent, cut off, talkative and endless ones, with a sound request between
+# each two, which is answered as if nobody else were there. Needs the Rattle kit and python3, and takes about a minute.
 # Exit status 0 only if every answer was the expected one and the server ended by itself after its last connection.
 set -eu
 cd "$(dirname "$0")"
@@ -102,6 +102,17 @@ def endless_head():
         return answer_of(peer)
 
 
+def talkative():
+    """Goes on sending for a second behind its request, and then reads its answer."""
+    with connected() as peer:
+        peer.sendall(STOCK)
+        for _ in range(100):
+            peer.sendall(b"x" * 1_000)
+            time.sleep(0.01)
+        peer.shutdown(socket.SHUT_WR)
+        return answer_of(peer)
+
+
 def never_ends():
     """Goes on sending until the server hangs up."""
     with connected() as peer:
@@ -129,6 +140,7 @@ hostile = [
     ("all but the last byte", stuck, None),
     ("all but the last byte, and an end", lambda: asks(DAY[:-1]), refused(400, "W02")),
     ("270,400 bytes without an end", endless_head, refused(413, "W08")),
+    ("100,000 bytes behind the request", talkative, SHOWN),
     ("bytes without an end", never_ends, "hung up"),
     ("no text", lambda: asks(bytes(range(256)) + b"\r\n\r\n"), refused(400, "W01")),
     ("a body that is too large", lambda: asks(b"POST /days HTTP/1.1\r\nContent-Length: 262145\r\n\r\n"), refused(413, "W08")),

@@ -1,6 +1,6 @@
 #!/bin/sh
-# Every request for memory refused. The program memory_day does a day's work over books in memory, and calls on books alone;
-# memory_calls makes the calls that need no books. Each is run once for each request for memory that is made within a call,
+# Every request for memory refused. Tests of books_tests do a day's work over books in memory, and calls on books alone;
+# tests of wire_tests make calls that need no books. Each is run once for each request for memory that is made within a call,
 # which is then refused. It compares each answer and the rows of each table itself: where the call had no memory everything
 # is as before, and the same call made again is answered as ever; else its answer and the rows are the ones of ever. Here the
 # lines that it prints are compared with those of an undisturbed run, so that nothing else is told, before the call or after
@@ -8,17 +8,20 @@
 # What is refused is a call of malloc, calloc, realloc or their like, by a small library that is loaded before the C library.
 # It counts from the line `> CALL` on that is printed before a call until the line `< ANSWER` after it.
 # Needs the Rattle kit, cc and python3. STEP (1) can be set: of so many requests one is refused; FIRST (1) is the first of
-# them. CALLS names what is tried. Exit status 0 only if no run faulted, hung or told anything else.
+# them. CALLS has words: tests whose names have one of them are tried. Exit status 0 only if no run faulted, hung or told
+# anything else.
 set -eu
 cd "$(dirname "$0")"
 
 room=$(mktemp -d)
 trap 'rm -rf "$room"' EXIT
 
-for program in memory_calls memory_day; do
-    echo "> build $program"
-    (cd "crates/$program" && rt run -- $(cat args) >"$room/$program.txt")
-    cmp "$room/$program.txt" "crates/$program/stdout"
+for crate in wire_tests books_tests; do
+    echo "> build $crate, and run its tests without memory"
+    (cd "crates/$crate" && rt test -- without_memory >"$room/$crate.txt") || {
+        tail -n 20 "$room/$crate.txt"
+        exit 1
+    }
 done
 
 cat >"$room/refuse.c" <<'C'
@@ -122,50 +125,51 @@ import time
 
 room, step, first, chosen = sys.argv[1], int(sys.argv[2]), int(sys.argv[3]), sys.argv[4:]
 
-# Each call, and the program that makes it: its words are those with which the gate runs it.
-PROGRAM_OF = {
-    call: os.path.abspath("crates/%s/out/%s" % (program, program))
-    for program in ("memory_calls", "memory_day")
-    for call in open("crates/%s/args" % program).read().split()
-}
+
+def listed(crate):
+    """The program of the crate's tests, and the names of those that make calls for which there may be no memory."""
+    program = os.path.abspath("crates/%s/out/%s_tests" % (crate, crate))
+    told = subprocess.run([program, "--list"], capture_output=True, check=True).stdout.decode()
+    names = [line.rpartition(": ")[0] for line in told.splitlines()]
+    return [(name, program) for name in names if name.endswith("_without_memory")]
+
+
+# Each test, and the program that runs it.
+PROGRAM_OF = dict(listed("wire_tests") + listed("books_tests"))
 
 # What is printed where a call had no memory.
-NO_MEMORY = ['< no memory', '< L90', '< G90', '< {"code":"W90"}']
+NO_MEMORY = ['< no memory', '< L90', '< G90', '< 503 {"code":"W90"}']
 # What is printed where one of the requests of a call had none: the call is not made again.
-ONE_HAD_NONE = '< {"code":"W90"} among the answers'
-# The exit status where all had memory, and where a call had none and all else was as ever.
-MEMORY, NO_MEMORY_ONCE = 0, 3
+ONE_HAD_NONE = '< 503 {"code":"W90"} among the answers'
 
 
 def fails(told):
     sys.exit("memory: " + told)
 
 
-def run(call, number, counts=""):
-    """The exit status and the lines printed, where the request of this number is refused."""
+def run(test, number, counts=""):
+    """The lines around the calls, where the request of this number is refused."""
     environment = {"LD_PRELOAD": room + "/refuse.so", "REFUSE": str(number), "MALLOC_PERTURB_": "165"}
     if counts:
         environment["COUNTS"] = counts
     try:
-        done = subprocess.run([PROGRAM_OF[call], call], stdin=subprocess.DEVNULL, capture_output=True, timeout=60, env=environment)
+        done = subprocess.run([PROGRAM_OF[test], test], stdin=subprocess.DEVNULL, capture_output=True, timeout=60, env=environment)
     except subprocess.TimeoutExpired:
-        fails("%s, request %d refused: it hangs" % (call, number))
-    if done.returncode not in (MEMORY, NO_MEMORY_ONCE):
-        fails("%s, request %d refused: status %d, %s" % (call, number, done.returncode, done.stderr.decode(errors="replace").strip()))
-    if done.stderr:
-        fails("%s, request %d refused: %s" % (call, number, done.stderr.decode(errors="replace").strip()))
-    return done.returncode, done.stdout.decode().splitlines()
+        fails("%s, request %d refused: it hangs" % (test, number))
+    if done.returncode or done.stderr:
+        fails("%s, request %d refused: status %d, %s" % (test, number, done.returncode, done.stderr.decode(errors="replace").strip()))
+    return [line for line in done.stdout.decode().splitlines() if line.startswith(("> ", "< "))]
 
 
-def undisturbed(call):
-    """The lines printed where no request is refused, and how many requests each call made."""
+def undisturbed(test):
+    """The lines where no request is refused, and how many requests each call made."""
     counts = os.path.join(room, "counts")
     if os.path.exists(counts):
         os.remove(counts)
-    status, lines = run(call, 0, counts)
+    lines = run(test, 0, counts)
     made = [int(line) for line in open(counts)]
-    if status != MEMORY or len(lines) != 2 * len(made):
-        fails("%s: the undisturbed run has no memory" % call)
+    if len(lines) != 2 * len(made) or any(line in NO_MEMORY + [ONE_HAD_NONE] for line in lines):
+        fails("%s: the undisturbed run has no memory" % test)
     return lines, made
 
 
@@ -178,32 +182,32 @@ def place_of(number, made):
     fails("no such request")
 
 
-def tried(call, number, lines, made):
+def tried(test, number, lines, made):
     """Whether the call answered as ever where this request was refused."""
-    status, found = run(call, number)
-    if status == MEMORY:
-        if found != lines:
-            fails("%s, request %d refused: it answers otherwise" % (call, number))
+    found = run(test, number)
+    if found == lines:
         return True
     at = 2 * place_of(number, made)
     again = found[:at] + found[at + 2:]
     if found[at] != lines[at] or not (
             found[at + 1] in NO_MEMORY and again == lines
             or found[at + 1] == ONE_HAD_NONE and again == lines[:at] + lines[at + 2:]):
-        fails("%s, request %d refused: it answers otherwise\n%s" % (call, number, "\n".join(found)))
+        fails("%s, request %d refused: it answers otherwise\n%s" % (test, number, "\n".join(found)))
     return False
 
 
 total = total_none = 0
-for call in chosen or PROGRAM_OF:
-    lines, made = undisturbed(call)
+for test in PROGRAM_OF:
+    if chosen and not any(word in test for word in chosen):
+        continue
+    lines, made = undisturbed(test)
     began = time.time()
     numbers = range(first, sum(made) + 1, step)
     with concurrent.futures.ThreadPoolExecutor(os.cpu_count()) as pool:
-        ever = sum(pool.map(lambda number: tried(call, number, lines, made), numbers))
+        ever = sum(pool.map(lambda number: tried(test, number, lines, made), numbers))
     none = len(numbers) - ever
     print("%s: %d requests for memory in %d calls, %d of them refused: %d without memory, %d answered as ever (%.1f s)" % (
-        call, sum(made), len(made), len(numbers), none, ever, time.time() - began), flush=True)
+        test, sum(made), len(made), len(numbers), none, ever, time.time() - began), flush=True)
     total += len(numbers)
     total_none += none
 print("memory: %d requests for memory refused: %d calls without memory, %d answered as ever; nothing else was told" % (

@@ -6,6 +6,7 @@ use crate::filing::takes_times;
 use crate::hostile::{refuses_hostile, takes_changed};
 use crate::opening::{books_of, new_books};
 use crate::table::Table;
+use crate::wide::{Long, exchanges_long};
 use house::{Answered, House, ServeFault};
 use sqlite::{Alter, Connection};
 use std::alloc::Global;
@@ -19,6 +20,8 @@ pub(crate) enum Asked {
     Part(Table, usize, usize),
     /// A goods-in file of so many times one row, and its answer.
     Times(usize, &'static str),
+    /// A text that is long.
+    Long(Long),
     /// All requests of the table by one call.
     All(Table),
     /// Each text that is no request.
@@ -33,9 +36,10 @@ pub(crate) enum Asked {
     Changed,
 }
 
-/// What was answered is this; `asked` tells where it is not.
+/// What was answered is this; a front of `asked` tells where it is not.
 fn is_answer(rt: &impl Abort, found: &[u8], asked: &str, expected: &str) {
-    assert!(rt; found == expected.as_bytes(), "{asked:?}");
+    let front = asked.get(..200).unwrap_or(asked);
+    assert!(rt; found == expected.as_bytes(), "{front:?}");
 }
 
 pub(crate) fn is_answered<S: Alter>(
@@ -121,6 +125,18 @@ fn is_served<S: Alter>(
     is_answer(rt, writer.as_slice(), asked, expected);
 }
 
+/// The house serves what the exchange says.
+pub(crate) fn served_exchange<S: Alter>(
+    rt: &impl Abort,
+    alloc: Global,
+    house: &mut House<S>,
+    line: &str,
+) {
+    let asked = request(rt, alloc, line);
+    let expected = answer(rt, alloc, line);
+    is_served(rt, alloc, house, asked.as_str(), expected.as_str());
+}
+
 fn serves_no_requests<S: Alter>(rt: &impl Abort, alloc: Global, house: &mut House<S>) {
     for row in NO_REQUESTS.as_slice() {
         is_served(rt, alloc, house, row.0, row.1);
@@ -140,6 +156,7 @@ fn ask<S: Alter>(rt: &impl Abort, alloc: Global, house: &mut House<S>, asked: As
         Asked::Each(table) => part(rt, alloc, house, table, 0, usize::MAX),
         Asked::Part(table, first, count) => part(rt, alloc, house, table, first, count),
         Asked::Times(times, told) => takes_times(rt, alloc, house, times, told),
+        Asked::Long(long) => exchanges_long(rt, alloc, house, long),
         Asked::All(table) => all(rt, alloc, house, table),
         Asked::NoRequests => answers_no_requests(rt, house),
         Asked::NoRequestsServed => serves_no_requests(rt, alloc, house),

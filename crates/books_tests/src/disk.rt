@@ -1,29 +1,25 @@
-//! A file in memory, over which the steps of a test are taken.
+//! Files in memory, over which the steps of a test are taken.
 
-ghost use Rattle.std.specs.Prelude.{IsTrue};
-ghost use Rattle.sqlite_disk.specs.Memory.{memory_is_usable};
-
+use crate::failing::trial::{Seen, Trial, tried};
+use crate::files::{Calls, Pair, Stopping};
+use crate::lines::lines_run;
 use crate::serving::{clients_served, lines_worked};
 use crate::steps::{Step, take_all};
 use sqlite::{Alter, Connection, Files, Options};
-use sqlite_disk::Memory;
 use std::alloc::Global;
 use std::net::TcpListener;
 use std::process::Abort;
-
-/// A file that can be opened.
-#[derive(Drop)]
-struct Disk {
-    db: Memory,
-    ghost is_usable: { IsTrue (memory_is_usable db) },
-}
+use tables::opening::Leftover;
 
 /// What is done over one connection.
 #[derive(Clone, Copy)]
-enum Work<'a> {
+pub(crate) enum Work<'a> {
     Steps(&'a [Step]),
     Clients(&'a TcpListener, u32),
     Lines(&'a HostRuntime, u16),
+    LinesRun(&'a HostRuntime),
+    /// What a disk may stop.
+    Trial(Trial<'a>),
 }
 
 fn worked<S: Alter + Drop>(
@@ -31,58 +27,110 @@ fn worked<S: Alter + Drop>(
     alloc: Global,
     conn: Connection<S>,
     work: Work<'_>,
-) -> Connection<S> {
+    seen: &mut Seen,
+) -> Leftover<S> {
     match work {
-        Work::Steps(steps) => take_all(rt, alloc, conn, steps),
-        Work::Clients(listener, count) => clients_served(rt, alloc, conn, listener, count),
-        Work::Lines(host, port) => lines_worked(host, rt, conn, port),
+        Work::Steps(steps) => Leftover::Connection(take_all(rt, alloc, conn, steps)),
+        Work::Clients(listener, count) => {
+            Leftover::Connection(clients_served(rt, alloc, conn, listener, count))
+        }
+        Work::Lines(host, port) => Leftover::Connection(lines_worked(host, rt, conn, port)),
+        Work::LinesRun(host) => Leftover::Connection(lines_run(host, rt, conn)),
+        Work::Trial(trial) => tried(rt, alloc, conn, trial, seen),
     }
 }
 
-/// Opens a connection over the file, works and closes the connection.
+/// How many frames the log of a trial has before it is copied into the database, so that this comes within a day's work too.
+const LOG_FRAMES: usize = 40;
+
+fn options(work: Work<'_>) -> Options {
+    match work {
+        Work::Trial(_) => Options {
+            checkpoint_frames: LOG_FRAMES,
+            ..Options::new(1)
+        },
+        _ => Options::new(1),
+    }
+}
+
+/// Opens a connection over the files, works and closes it.
 // The one function over the connection's own type: each takes long to check.
-fn opened(rt: &impl Abort, alloc: Global, disk: Disk, wanted: Work<'_>) -> Disk {
-    let files = Files {
-        log: Memory::new(alloc),
-        db: disk.db,
+fn over(
+    rt: &impl Abort,
+    alloc: Global,
+    files: Files<Stopping>,
+    work: Work<'_>,
+    seen: &mut Seen,
+) -> Files<Stopping> {
+    if !files.may_be_used() {
+        return files;
+    }
+    let conn = match Connection::open_files(alloc, files, options(work)) {
+        Ok(conn) => conn,
+        Err((_, left)) => return left.into_files(),
     };
-    let conn = match Connection::open_files(alloc, files, Options::new(1)) {
-        Ok(conn) => worked(rt, alloc, conn, wanted),
-        Err(_) => panic!(rt; "the file does not open"),
+    let conn = match worked(rt, alloc, conn, work, seen) {
+        Leftover::Connection(conn) => conn,
+        Leftover::Store(store) => return store.close(),
     };
     match conn.close_files() {
-        Ok(files) => Disk { db: files.db },
-        Err(_) => panic!(rt; "the file does not close"),
+        Ok(files) => {
+            seen.is_closed = true;
+            files
+        }
+        Err((_, store)) => store.close(),
     }
 }
 
-fn new_disk(alloc: Global) -> Disk {
-    Disk {
-        db: Memory::new(alloc),
-    }
+/// Does the work over the files, whose disks stop after so many calls, and gives what the files are then.
+pub(crate) fn opened(
+    rt: &impl Abort,
+    alloc: Global,
+    files: &Pair,
+    calls: Calls,
+    work: Work<'_>,
+    seen: &mut Seen,
+) -> Pair {
+    let left = over(rt, alloc, files.disks(rt, alloc, calls), work, seen);
+    Pair::of(rt, alloc, left)
 }
 
-/// Takes the steps over a new file, which is closed after each list of them and opened again for the next.
+/// Does the work over the files, where no disk stops.
+fn done(rt: &impl Abort, alloc: Global, files: &Pair, work: Work<'_>) -> Pair {
+    let mut seen = Seen::nothing(alloc);
+    let left = opened(rt, alloc, files, Calls::ALL, work, &mut seen);
+    assert!(rt; seen.is_closed, "the files do not open, or do not close");
+    left
+}
+
+/// Takes the steps over new files, which are closed after each list of them and opened again for the next.
 pub(crate) fn run(rt: &impl Abort, alloc: Global, lists: &[&[Step]]) {
-    let mut disk = new_disk(alloc);
+    let mut files = Pair::empty(alloc);
     for steps in lists {
-        disk = opened(rt, alloc, disk, Work::Steps(steps));
+        files = done(rt, alloc, &files, Work::Steps(steps));
     }
 }
 
-/// Takes the first steps over a new file, which is then closed and opened again for the others.
+/// Takes the first steps over new files, which are then closed and opened again for the others.
 pub(crate) fn run_after(rt: &impl Abort, alloc: Global, first: &[Step], then: &[Step]) {
-    let disk = opened(rt, alloc, new_disk(alloc), Work::Steps(first));
-    opened(rt, alloc, disk, Work::Steps(then));
+    run(rt, alloc, [first, then].as_slice());
 }
 
-/// Serves so many clients that wait at the listener, over books in a new file.
+/// Serves so many clients that wait at the listener, over books in new files.
 pub(crate) fn run_clients(rt: &impl Abort, alloc: Global, listener: &TcpListener, count: u32) {
-    opened(rt, alloc, new_disk(alloc), Work::Clients(listener, count));
+    let work = Work::Clients(listener, count);
+    done(rt, alloc, &Pair::empty(alloc), work);
 }
 
-/// Does what lines of the program do with the books, over a new file.
+/// Does what lines of the program do with the books, over new files.
 pub(crate) fn run_lines(host: &HostRuntime, rt: &impl Abort, port: u16) {
     let alloc = host.alloc();
-    opened(rt, alloc, new_disk(alloc), Work::Lines(host, port));
+    done(rt, alloc, &Pair::empty(alloc), Work::Lines(host, port));
+}
+
+/// Takes the steps over new files, which are closed and opened again for lines of the program.
+pub(crate) fn run_lines_after(host: &HostRuntime, rt: &impl Abort, steps: &[Step]) {
+    let alloc = host.alloc();
+    let files = done(rt, alloc, &Pair::empty(alloc), Work::Steps(steps));
+    done(rt, alloc, &files, Work::LinesRun(host));
 }

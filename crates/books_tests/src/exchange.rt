@@ -4,7 +4,35 @@
 use std::alloc::Global;
 use std::process::Abort;
 
-fn parted<'a>(rt: &impl Abort, text: &'a str, at: &str) -> (&'a str, &'a str) {
+/// A request and its answers, byte for byte.
+#[derive(Drop)]
+pub(crate) struct Exchange {
+    pub(crate) asked: String,
+    /// What answers it.
+    pub(crate) told: String,
+    /// What answers it once it has acted: the same, but to a file, whose rows are then repeated.
+    pub(crate) again: String,
+}
+
+impl Exchange {
+    /// The exchange of a line, behind whose answer another one may stand: the answer again.
+    pub(crate) fn of_line(rt: &impl Abort, alloc: Global, line: &str) -> Exchange {
+        let (asked, answers) = parted(rt, line, " => ");
+        let (told, again) = answers.split_once(" => ").unwrap_or((answers, answers));
+        Exchange {
+            asked: text_asked(rt, alloc, asked),
+            told: text_told(rt, alloc, told),
+            again: text_told(rt, alloc, again),
+        }
+    }
+
+    /// Whether the answer tells that the request had acted before.
+    pub(crate) fn is_told_apart(&self) -> bool {
+        self.told.as_str() != self.again.as_str()
+    }
+}
+
+pub(crate) fn parted<'a>(rt: &impl Abort, text: &'a str, at: &str) -> (&'a str, &'a str) {
     text.split_once(at).expect(rt, "two parts")
 }
 
@@ -14,6 +42,7 @@ fn phrase(rt: &impl Abort, status: &str) -> &'static str {
         "400" => "Bad Request",
         "404" => "Not Found",
         "409" => "Conflict",
+        "503" => "Service Unavailable",
         _ => panic!(rt; "no phrase"),
     }
 }
@@ -36,9 +65,14 @@ fn bare(rt: &impl Abort, alloc: Global, method: &str, path: &str) -> String {
     text.ok().expect(rt, "memory")
 }
 
-/// The request of an exchange. A body is told its length.
+/// The request of an exchange.
 pub(crate) fn request(rt: &impl Abort, alloc: Global, line: &str) -> String {
     let (asked, _) = parted(rt, line, " => ");
+    text_asked(rt, alloc, asked)
+}
+
+/// The text of `METHOD PATH BODY`. A body is told its length.
+pub(crate) fn text_asked(rt: &impl Abort, alloc: Global, asked: &str) -> String {
     let (method, rest) = parted(rt, asked, " ");
     match rest.split_once(" ") {
         Some((path, body)) => posted(rt, alloc, method, path, body_text(rt, alloc, body).as_str()),
@@ -46,9 +80,14 @@ pub(crate) fn request(rt: &impl Abort, alloc: Global, line: &str) -> String {
     }
 }
 
-/// The answer of an exchange. A text stands there with `|` before each of its lines.
+/// The answer of an exchange.
 pub(crate) fn answer(rt: &impl Abort, alloc: Global, line: &str) -> String {
     let (_, told) = parted(rt, line, " => ");
+    text_told(rt, alloc, told)
+}
+
+/// The text of `STATUS BODY`. A text stands there with `|` before each of its lines.
+pub(crate) fn text_told(rt: &impl Abort, alloc: Global, told: &str) -> String {
     let (status, body) = parted(rt, told, " ");
     match body.strip_prefix("|") {
         Some(lines) => text_answer(rt, alloc, status, lines),

@@ -19,6 +19,10 @@ mod disk;
 #[cfg(test)]
 mod exchange;
 #[cfg(test)]
+mod failing;
+#[cfg(test)]
+mod files;
+#[cfg(test)]
 mod filing;
 #[cfg(test)]
 mod gone_lots;
@@ -29,9 +33,13 @@ mod hostile;
 #[cfg(test)]
 mod limits;
 #[cfg(test)]
+mod lines;
+#[cfg(test)]
 mod lots_spread;
 #[cfg(test)]
 mod lots_told;
+#[cfg(test)]
+mod memory;
 #[cfg(test)]
 mod opening;
 #[cfg(test)]
@@ -45,6 +53,8 @@ mod picking_rows;
 #[cfg(test)]
 mod samples;
 #[cfg(test)]
+mod seen_rows;
+#[cfg(test)]
 mod serving;
 #[cfg(test)]
 mod steps;
@@ -56,3 +66,5 @@ mod table;
 mod table_rows;
 #[cfg(test)]
 mod texts_told;
+#[cfg(test)]
+mod wide;

@@ -40,7 +40,7 @@ pub(crate) fn books_of<S: Alter + Drop>(
 }
 
 /// The books are of 2026-05-04, and are closed.
-fn closed<S: Alter>(rt: &impl Abort, books: Books<S>) -> Connection<S> {
+pub(crate) fn closed<S: Alter>(rt: &impl Abort, books: Books<S>) -> Connection<S> {
     let day = books.day();
     assert!(rt; day.text().as_slice() == b"2026-05-04".as_slice());
     books.close()

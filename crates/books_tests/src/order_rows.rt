@@ -8,8 +8,8 @@ use sqlite::{Alter, Connection, Row};
 use std::alloc::Global;
 use std::process::Abort;
 
-// What reads the rows of each table, by their keys.
-static QUERIES: [&str; 14] = [
+/// What reads the rows of each table, by their keys.
+pub(crate) static QUERIES: [&str; 14] = [
     "SELECT id || '|' || mark || '|' || version || '|' || day || '|' || acts || '|' || shipments FROM meta ORDER BY id",
     "SELECT gtin || '|' || name FROM items ORDER BY gtin",
     "SELECT name || '|' || kind FROM bins ORDER BY name",
@@ -55,6 +55,19 @@ fn lines_of(rt: &impl Abort, alloc: Global, rows: &[Row]) -> String {
     text
 }
 
+/// The rows that the query gives.
+pub(crate) fn shown<S: Alter>(
+    rt: &impl Abort,
+    alloc: Global,
+    conn: &mut Connection<S>,
+    query: &str,
+) -> String {
+    let rows = conn.query_all(query, &[]).expect(rt, "rows");
+    let found = lines_of(rt, alloc, rows.as_slice());
+    drop(rows);
+    found
+}
+
 // The query gives these rows.
 pub(crate) fn gives<S: Alter>(
     rt: &impl Abort,
@@ -63,9 +76,7 @@ pub(crate) fn gives<S: Alter>(
     query: &str,
     expected: &str,
 ) {
-    let rows = conn.query_all(query, &[]).expect(rt, "rows");
-    let found = lines_of(rt, alloc, rows.as_slice());
-    drop(rows);
+    let found = shown(rt, alloc, conn, query);
     assert!(rt; found.as_str() == expected, "{query:?}");
 }
 

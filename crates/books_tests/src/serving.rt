@@ -10,6 +10,7 @@ use std::alloc::Global;
 use std::io::{self, Read, Write};
 use std::net::{Shutdown, TcpListener, TcpStream};
 use std::process::Abort;
+use std::time::Instant;
 
 // A house with new books serves so many clients that wait at the listener.
 pub(crate) fn clients_served<S: Alter + Drop>(
@@ -24,11 +25,17 @@ pub(crate) fn clients_served<S: Alter + Drop>(
     house.close().close()
 }
 
-// A client that has sent this, and sends no more.
-fn sent(host: &HostRuntime, rt: &impl Abort, listener: &TcpListener, text: &[u8]) -> TcpStream {
+// A client that has sent this.
+fn begun(host: &HostRuntime, rt: &impl Abort, listener: &TcpListener, text: &[u8]) -> TcpStream {
     let address = listener.local_addr().expect(rt, "an address");
     let mut client = TcpStream::connect(host, address).expect(rt, "a client");
     client.write_all(text).expect(rt, "sent");
+    client
+}
+
+// A client that has sent this, and sends no more.
+fn sent(host: &HostRuntime, rt: &impl Abort, listener: &TcpListener, text: &[u8]) -> TcpStream {
+    let client = begun(host, rt, listener, text);
     client.shutdown(Shutdown::Write).expect(rt, "ended");
     client
 }
@@ -56,6 +63,24 @@ fn serves_connections_one_after_another(rt: HostRuntime) {
     is_answered(&rt, rt.alloc(), last, THIRD_MADE);
 }
 
+// A client that sends nothing is given up after ten seconds. Of one that goes on behind its request all is read, and its
+// end is waited for so long too: a connection that is closed before would be reset, and the answer could be lost.
+#[test]
+fn waits_ten_seconds_for_a_client(rt: HostRuntime) {
+    let listener = TcpListener::bind(&rt, "127.0.0.1:0").expect(&rt, "a listener");
+    let silent = begun(&rt, &rt, &listener, b"");
+    let mut going_on = begun(&rt, &rt, &listener, NEW_BIN);
+    going_on
+        .write_all([b'x'; 40_000].as_slice())
+        .expect(&rt, "sent");
+    let start = Instant::now(&rt).expect(&rt, "a time");
+    run_clients(&rt, rt.alloc(), &listener, 2);
+    let waited = start.elapsed(&rt).expect(&rt, "a time");
+    assert!(rt; waited.as_secs() >= 19, "{} s", waited.as_secs());
+    is_answered(&rt, rt.alloc(), silent, b"");
+    is_answered(&rt, rt.alloc(), going_on, BIN_MADE);
+}
+
 const NEW_BIN: &[u8] =
     b"POST /bins HTTP/1.1\r\nContent-Length: 41\r\n\r\n{\"key\":\"K-1\",\"bin\":\"A-01\",\"kind\":\"STORE\"}";
 
@@ -77,12 +102,13 @@ const SECOND_MADE: &[u8] =
 const THIRD_MADE: &[u8] =
     b"HTTP/1.1 200 OK\r\ncontent-type: application/json\r\ncontent-length: 9\r\nconnection: close\r\n\r\n{\"act\":3}";
 
-// Where a line prints: once it has told its port, a client comes.
+// Where a line prints: once it has told its port, a client comes, after one at another address of the machine.
 #[derive(Drop)]
 struct Printed<'a> {
     host: &'a HostRuntime,
     port: u16,
     told: Vec<u8>,
+    listens_elsewhere: bool,
     client: Option<TcpStream>,
 }
 
@@ -95,6 +121,7 @@ impl Write for Printed<'_> {
     }
 
     fn flush(&mut self) -> io::Result<()> {
+        self.listens_elsewhere = TcpStream::connect(self.host, ("127.0.0.2", self.port)).is_ok();
         let mut client = TcpStream::connect(self.host, ("127.0.0.1", self.port))?;
         client.write_all(NEW_BIN)?;
         client.shutdown(Shutdown::Write)?;
@@ -103,18 +130,22 @@ impl Write for Printed<'_> {
     }
 }
 
-// The file that the lines find, by its name.
-struct OneFile;
+/// The files that the lines find, by their names.
+pub(crate) struct GoodsFiles;
 
 const FILE: &[u8] =
     b"delivery,line,gtin,lot,expiry,bin,qty\nD-1,1,09506000134352,L1,260630,A-01,10\n";
 
-impl FilesAt for OneFile {
+const OTHER_FILE: &[u8] =
+    b"delivery,line,gtin,lot,expiry,bin,qty\nD-9,1,09506000134352,M1,261130,A-01,5\n";
+
+impl FilesAt for GoodsFiles {
     type File = &'static [u8];
 
     fn open(&self, name: &str) -> io::Result<&'static [u8]> {
         match name {
             "goods.csv" => Ok(FILE),
+            "more.csv" => Ok(OTHER_FILE),
             _ => Err(io::Error::from(io::ErrorKind::NotFound)),
         }
     }
@@ -155,7 +186,7 @@ fn silent<S: Alter + Drop>(
     expected: &str,
 ) -> Connection<S> {
     let mut printed: Vec<u8> = Vec::new(host.alloc());
-    let found = worked(host, &OneFile, conn, work, &mut printed);
+    let found = worked(host, &GoodsFiles, conn, work, &mut printed);
     assert!(rt; printed.is_empty());
     ended(rt, host.alloc(), found, expected)
 }
@@ -182,15 +213,17 @@ fn served<S: Alter + Drop>(
         host,
         port,
         told: Vec::new(host.alloc()),
+        listens_elsewhere: false,
         client: None,
     };
     let found = worked(
         host,
-        &OneFile,
+        &GoodsFiles,
         conn,
         &Work::Serve { port, max: 1 },
         &mut out,
     );
+    assert!(rt; !out.listens_elsewhere);
     let told = format!(in host.alloc(); "listening on 127.0.0.1:{port}\n").ok();
     assert!(rt; out.told.as_slice() == told.expect(rt, "memory").as_str().as_bytes());
     is_answered(

@@ -21,6 +21,7 @@ use crate::picking_rows::{
     PICKED_ROWS, RETURNED_ROWS, SHIPPED_ROWS, STOCK_TAKEN, STOCK_TAKEN_ROWS,
 };
 use crate::texts_told::{PICK_LISTS, SHORT_OF_FOUR, SHORT_OF_NINE};
+use crate::wide::WIDE;
 use std::str::Lines;
 
 /// Exchanges: a line each, `METHOD PATH BODY => STATUS BODY` (`exchange` has the form).
@@ -64,6 +65,7 @@ pub(crate) enum Table {
     LastUnit,
     GoneNamed,
     OrdersShown,
+    Wide,
 }
 
 impl Table {
@@ -111,6 +113,7 @@ impl Table {
             Table::LastUnit => LAST_UNIT,
             Table::GoneNamed => GONE_NAMED,
             Table::OrdersShown => ORDERS_SHOWN,
+            Table::Wide => WIDE,
         }
     }
 }

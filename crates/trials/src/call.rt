@@ -1,8 +1,8 @@
 //! The lines around a call.
 
-ghost use Rattle.std.specs.Prelude.{◌≡◌, Ok, Err};
+ghost use Rattle.std.specs.Prelude.{◌≡◌, ◌≢◌, false};
 
-use crate::fault::Fault;
+use std::env;
 
 /// What a call told.
 #[derive(Clone, Copy, PartialEq, Eq, Debug)]
@@ -16,20 +16,6 @@ pub enum Told {
 }
 
 impl Told {
-    /// How many calls had no memory, where the second of two equal calls told this and there was none for the first. The
-    /// error is `Again` where there was none for the second either, and `Answer` where it told anything else.
-    pub fn again(self) -> Result<u64, Fault>
-        ensures expected { self ≡ Told.Expected → result ≡ Ok 1 }
-        ensures no_memory { self ≡ Told.NoMemory → result ≡ Err Fault.Again }
-        ensures other { self ≡ Told.Other → result ≡ Err Fault.Answer }
-    {
-        match self {
-            Told::Expected => Ok(1),
-            Told::NoMemory => Err(Fault::Again),
-            Told::Other => Err(Fault::Answer),
-        }
-    }
-
     // The words after a call.
     fn words<'a>(self, expected: &'a str, no_memory: &'a str) -> &'a str
         ensures expected { self ≡ Told.Expected → result.now ≡ expected.now }
@@ -72,5 +58,16 @@ impl<'a> Call<'a> {
         let words = told.words(self.expected, self.no_memory);
         let _ = println!(rt; "< {words}");
         told
+    }
+}
+
+/// Whether a call told that there was no memory where requests for memory are refused: the variable `REFUSE` is set, as
+/// `memory.sh` does. Such a call is made again. Elsewhere there is memory for each.
+pub fn is_refused(rt: &HostRuntime, told: Told) -> bool
+    ensures { told ≢ Told.NoMemory → result ≡ false }
+{
+    match told {
+        Told::NoMemory => env::var(rt, "REFUSE").is_ok(),
+        Told::Expected | Told::Other => false,
     }
 }

@@ -1,13 +1,9 @@
-//! Trials of calls for which there may be no memory: the lines that are printed around a call, and how a trial ends.
+//! Trials of calls for which there may be no memory: the lines that are printed around a call.
 //!
 //! Before a call a line that begins with `> ` is printed, and after it one that begins with `< `. Where there was no memory
 //! for a call, everything has to be as before, and the same call is made again.
 #![tactic(auto)]
 
 mod call;
-mod ending;
-mod fault;
 
-pub use call::{Call, Told};
-pub use ending::{ended, words};
-pub use fault::Fault;
+pub use call::{Call, Told, is_refused};

@@ -1,4 +1,5 @@
-//! The tests of requests and answers, on texts and bytes that a person wrote down.
+//! The tests of requests and answers, on texts and bytes that a person wrote down, and of calls that need no books and for
+//! which there may be no memory.
 //!
 //! They are a crate of their own, since the tests of a crate are proved together with all of that crate once more.
 //!
@@ -7,6 +8,8 @@
 
 #[cfg(test)]
 mod answer_tests;
+#[cfg(test)]
+mod memory;
 #[cfg(test)]
 mod serving_tests;
 #[cfg(test)]

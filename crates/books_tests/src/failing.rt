@@ -1,0 +1,8 @@
+//! Clients and disks that fail at each place, and rows that no act leaves: what is answered, and what the books are then.
+
+mod cut_off;
+mod ends;
+mod outside;
+mod stages;
+mod stops;
+pub(crate) mod trial;

@@ -1,0 +1,127 @@
+//! Lines of the program over books in memory, after a worked history: their words, what is printed, what is told, and the
+//! exit status.
+
+use crate::asking::Asked;
+use crate::serving::GoodsFiles;
+use crate::steps::Step;
+use crate::table::Table;
+use command_line::{BooksAt, Fault, Work, run};
+use service::worked;
+use sqlite::{Alter, Connection};
+use std::cell::Cell;
+use std::io::Write;
+use std::process::Abort;
+
+/// The books over one connection, in whatever file a line says that they are.
+struct OverOne<'a, S: Alter> {
+    host: &'a HostRuntime,
+    conn: Cell<Option<Connection<S>>>,
+}
+
+impl<S: Alter + Drop> BooksAt for OverOne<'_, S> {
+    ghost ends = { λ _ _ _ _. Unit {0} };
+
+    fn work<W: Write>(&self, _db: &str, work: &Work<'_>, out: &mut W) -> Result<(), Fault> {
+        match self.conn.replace(None) {
+            Some(conn) => {
+                let (conn, end) = worked(self.host, &GoodsFiles, conn, work, out)?;
+                drop(self.conn.replace(Some(conn)));
+                end
+            }
+            None => Err(Fault::Io),
+        }
+    }
+}
+
+/// A line: its words, its exit status, and what is printed and told.
+struct Line {
+    words: &'static [&'static str],
+    status: u8,
+    printed: &'static str,
+    told: &'static str,
+}
+
+// The card and the notice of a lot that was shipped and recalled, and of lots that have none; a file, once and again.
+static LINES: [Line; 7] = [
+    Line {
+        words: &["lotd", "card", "--db", "stock.db", "09506000134352", "L2"],
+        status: 0,
+        printed: "STOCK CARD 09506000134352 Oat drink\nLOT L2 EXPIRY 2026-05-31\n            7 2026-05-04 RECEIPT  D-1/2                              10         10\n           13 2026-05-04 SHIPMENT 1                                  -7          3\nIN HOUSE 3\n",
+        told: "",
+    },
+    Line {
+        words: &["lotd", "notice", "--db", "stock.db", "09506000134352", "L2"],
+        status: 0,
+        printed: "RECALL NOTICE 09506000134352 Oat drink\nLOT L2 EXPIRY 2026-05-31\nBIN A-01 3\nSHIPMENT 1 2026-05-04 7 S-1 Corner Shop\nTOTAL BINS 3 SHIPPED 7\n",
+        told: "",
+    },
+    Line {
+        words: &["lotd", "notice", "--db", "stock.db", "04012345000016", "Z8"],
+        status: 1,
+        printed: "",
+        told: "lotd: N01\n",
+    },
+    Line {
+        words: &["lotd", "notice", "--db", "stock.db", "09506000134352", "L0"],
+        status: 1,
+        printed: "",
+        told: "lotd: N01\n",
+    },
+    Line {
+        words: &["lotd", "card", "--db", "stock.db", "04012345000016", "Z8"],
+        status: 1,
+        printed: "",
+        told: "lotd: U03\n",
+    },
+    Line {
+        words: &["lotd", "import", "--db", "stock.db", "more.csv"],
+        status: 0,
+        printed: "accepted 1 repeated 0\n",
+        told: "",
+    },
+    Line {
+        words: &["lotd", "import", "--db", "stock.db", "more.csv"],
+        status: 0,
+        printed: "accepted 0 repeated 1\n",
+        told: "",
+    },
+];
+
+fn is_run<S: Alter + Drop>(rt: &impl Abort, books: &OverOne<'_, S>, line: &Line, index: usize) {
+    let alloc = books.host.alloc();
+    let mut printed: Vec<u8> = Vec::new(alloc);
+    let mut told: Vec<u8> = Vec::new(alloc);
+    let status = run(alloc, books, line.words, &mut printed, &mut told);
+    assert!(rt; status == line.status, "at {index}");
+    assert!(rt; printed.as_slice() == line.printed.as_bytes(), "at {index}");
+    assert!(rt; told.as_slice() == line.told.as_bytes(), "at {index}");
+}
+
+/// Each line is run over the connection, which comes back.
+pub(crate) fn lines_run<S: Alter + Drop>(
+    host: &HostRuntime,
+    rt: &impl Abort,
+    conn: Connection<S>,
+) -> Connection<S> {
+    let books = OverOne {
+        host,
+        conn: Cell::new(Some(conn)),
+    };
+    for (index, line) in LINES.as_slice().iter().enumerate() {
+        is_run(rt, &books, line, index);
+    }
+    let OverOne { conn, host: _ } = books;
+    conn.into_inner().expect(rt, "the connection")
+}
+
+static HISTORY: [Step; 1] = [Step::NewHouse(&[
+    Asked::Each(Table::GoodsAndBins),
+    Asked::Each(Table::TwoCustomers),
+    Asked::Each(Table::Picked),
+    Asked::Each(Table::ShippedAndRecalled),
+])];
+
+#[test]
+fn lines_print_and_tell(rt: HostRuntime) {
+    crate::disk::run_lines_after(&rt, &rt, HISTORY.as_slice());
+}

@@ -1,0 +1,70 @@
+//! The rows of every table after so many steps of the day.
+
+use crate::memory::steps::{DayStep, step_at};
+use crate::order_rows::{QUERIES, gives, shown};
+use sqlite::{Alter, Connection};
+use std::alloc::Global;
+use std::process::Abort;
+
+/// The tables, in the order of the queries, but for the last: `repeats`.
+static NAMES: [&str; 13] = [
+    "meta",
+    "items",
+    "bins",
+    "lots",
+    "recalls",
+    "stock",
+    "orders",
+    "lines",
+    "staged",
+    "reserved",
+    "shipments",
+    "shiplines",
+    "cards",
+];
+
+// The rows of a table after the step, where it changes it.
+fn changed_by(step: &'static DayStep, table: &str) -> Option<&'static str> {
+    for change in step.changes {
+        if change.0 == table {
+            return Some(change.1);
+        }
+    }
+    None
+}
+
+// The rows of a table after so many steps: those of the last one that changes it.
+fn expected(rt: &impl Abort, table: &str, done: usize) -> &'static str {
+    let mut rows = "";
+    for place in 0..done {
+        if let Some(after) = changed_by(step_at(rt, place), table) {
+            rows = after;
+        }
+    }
+    rows
+}
+
+// These are the rows that so many steps add to `repeats`, one after another.
+fn are_repeats(rt: &impl Abort, rows: &str, done: usize) {
+    let mut rest = rows;
+    for place in 0..done {
+        rest = rest
+            .strip_prefix(step_at(rt, place).repeats)
+            .expect(rt, "a row of `repeats`");
+    }
+    assert!(rt; rest.is_empty(), "{rest:?}");
+}
+
+/// The tables have the rows after so many steps.
+pub(crate) fn has_rows_after<S: Alter>(
+    rt: &impl Abort,
+    alloc: Global,
+    conn: &mut Connection<S>,
+    done: usize,
+) {
+    for (table, query) in NAMES.as_slice().iter().zip(QUERIES.as_slice()) {
+        gives(rt, alloc, conn, query, expected(rt, table, done));
+    }
+    let repeats = shown(rt, alloc, conn, QUERIES[13]);
+    are_repeats(rt, repeats.as_str(), done);
+}
