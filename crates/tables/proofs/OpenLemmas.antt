@@ -20,10 +20,11 @@ use Rattle.sqlite_catalog.specs.Listing.{Lists, IsSound}
 use Rattle.sqlite_catalog.proofs.LayoutLemmas.{table_shape, objects_rise}
 use Rattle.sqlite_catalog.proofs.ReadLemmas.{lists_once}
 use Rattle.sqlite_rules.proofs.ListLemmas.{all_from}
-use Rattle.table_words.specs.Schema.{the_tables, HasTables}
+use Rattle.table_words.specs.Schema.{the_tables, schema_with, HasTables}
 use Rattle.table_words.specs.Rows.{IsRows}
 use Rattle.table_words.specs.Steps.{IsReady}
 use Rattle.table_words.proofs.StepLemmas.{front}
+use Rattle.tables.specs.Opening.{TellTables}
 
 pub ready_over : (v : View) (db : Database) → IsListed (v.trees catalog_tree) v.shape v.reals → IsOrdered v.shape v.trees → IsDatabase db → db.trees ≡ v.trees → HasTables db.schema → IsReady db
 ready_over v db listed ordered sound trees has =
@@ -56,6 +57,15 @@ fails_for was trees e first mid last database same counts (inr why) = by_cause w
 -- the trees tell their schema
 pub same_schema : (old new : Database) → IsDatabase old → IsDatabase new → new.trees ≡ old.trees → new.schema ≡ old.schema
 same_schema old new p q same = lists_once (old.trees catalog_tree) new.schema old.schema (subst (λ t. Lists (t catalog_tree) new.schema) same q.lists) p.lists
+
+-- so the trees of books tell that they have the tables
+pub ready_tells : (db : Database) → IsReady db → TellTables db.trees
+ready_tells db ready schema sound = record {
+  rest = ready.has.rest;
+  is = lists_once (db.trees catalog_tree) schema (schema_with ready.has.rest) sound.lists ready.sound.lists;
+  apart = ready.has.apart;
+  harmless = ready.has.harmless;
+}
 
 -- two facts of one error
 pub if_err_both : {X E : Type 0} (r : Result X E) (P Q : E → Type 0) → IfErr r P → IfErr r Q → IfErr r (λ e. P e × Q e)

@@ -1,11 +1,19 @@
--- What is left of a connection that was not opened.
+-- Which trees are those of books, and what is left of a connection that was not opened.
 use Rattle.std.specs.Prelude.{◌≡◌, IsTrue}
+use Rattle.sqlite.specs.Schema.{Schema}
+use Rattle.sqlite.specs.Tree.{Trees}
+use Rattle.sqlite_catalog.specs.Listing.{IsSound}
+use Rattle.table_words.specs.Schema.{HasTables}
 use Rattle.sqlite_disk.specs.Disk.{MoreFaults}
 use Rattle.sqlite_trees.specs.declared.store.Store.{Ghosts}
 use Rattle.sqlite_trees.specs.View.{IsClean, IsQuiet}
 use Rattle.sqlite.specs.Held.{Held, state}
 use Rattle.tables.specs.declared.opening.Leftover.{Leftover}
 use Rattle.tables.specs.declared.opening.Leftover.TheVariants as left
+
+-- whichever schema these trees keep the rules of has the tables of the books
+abbrev pub TellTables : Trees → Type 0
+TellTables trees = (schema : Schema) → IsSound schema trees → HasTables schema
 
 module _ {S : Type 0} (g : Ghosts S) (old : Held S) where
   -- the store of the connection, which still has the tables of the last commit; a crash leaves nothing new

@@ -9,6 +9,7 @@ ghost use Rattle.table_words.specs.Typed.{tables_in, AreTyped};
 ghost use Rattle.table_words.specs.Steps.{IsReady};
 ghost use Rattle.table_words.specs.declared.error.TableFault.TheVariants.{Foreign};
 ghost use Rattle.tables.specs.Creation.{IsMaking, Leads, IsFilled, first_rows};
+ghost use Rattle.tables.specs.Opening.{TellTables};
 
 use crate::checking::is_empty_schema;
 use commands::{BinRow, MetaRow};
@@ -126,6 +127,7 @@ pub fn create<S: Alter>(
     ensures settled { HasCleanDisk (state S.Store conn.new) → IsTrue (state S.Store conn.new).is_open
         → (state S.Store conn.new).committed ≡ (state S.Store conn.new).now }
     ensures survives { Survives (state S.Store conn.old) (state S.Store conn.new) (λ trees. (tables_in trees ≡ first_rows meta.now bin.now) × AreTyped trees) }
+    ensures tells { Survives (state S.Store conn.old) (state S.Store conn.new) TellTables }
     ensures outside { conn.new.in_transaction ≡ false }
 {
     // Outside a transaction the connection shows what is committed.

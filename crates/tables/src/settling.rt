@@ -6,6 +6,7 @@ ghost use Rattle.sqlite.specs.Held.{state};
 ghost use Rattle.table_words.specs.Steps.{IsReady};
 ghost use Rattle.table_words.specs.declared.error.TableFault.TheVariants.{Foreign as ForeignTable};
 ghost use Rattle.tables.specs.Indexing.{HasIndexes, KeepsRows, IsIndexed};
+ghost use Rattle.tables.specs.Opening.{TellTables};
 ghost use Rattle.tables.specs.Settling.{HasDay, IsStill};
 
 use crate::indexing::make_indexes;
@@ -64,6 +65,7 @@ pub fn settle<S: Alter>(alloc: Global, conn: &mut Connection<S>) -> Result<Busin
     ensures kept { HasCleanDisk (state S.Store conn.new) → IsReady (state S.Store conn.old).now → (state S.Store conn.old).now ≡ (state S.Store conn.old).committed
         → IsTrue (state S.Store conn.new).is_open → IsStill (state S.Store conn.old).now.trees (state S.Store conn.new) }
     ensures survives { Survives (state S.Store conn.old) (state S.Store conn.new) (λ db. IsReady (state S.Store conn.old).now → KeepsRows (state S.Store conn.old).now.trees db) }
+    ensures tells { Survives (state S.Store conn.old) (state S.Store conn.new) (λ db. IsReady (state S.Store conn.old).now → TellTables db) }
     ensures outside { conn.new.in_transaction ≡ false }
 {
     let mut tx = conn.transaction();

@@ -5,7 +5,9 @@ use Rattle.sqlite.specs.State.{HasCleanDisk, Survives}
 use Rattle.sqlite.specs.Tree.{Trees}
 use Rattle.table_words.specs.Steps.{IsReady}
 use Rattle.tables.specs.Indexing.{HasIndexes, KeepsRows}
+use Rattle.tables.specs.Opening.{TellTables}
 use Rattle.tables.proofs.CreateLemmas.{crash_made}
+use Rattle.tables.proofs.OpenLemmas.{ready_tells}
 use Rattle.table_words.specs.declared.error.TableFault.TheVariants.{Foreign as ForeignTable}
 use Rattle.tables.specs.Settling.{HasDay, IsStill}
 use Rattle.tables.proofs.SettleLemmas.{begun_state}
@@ -130,4 +132,40 @@ returns-in_err-day-clause-foreign g c =
     let was : HasCleanDisk last = omega (arith, clean, c.drop-tx.ensures.survives.clean) in
     let inside = as_old g.S.Store old begun IsReady c.transaction-tx.ensures.begun ready in
     as_begun g.S.Store old begun (λ (d : Database). ¬ HasDay d.trees day) c.transaction-tx.ensures.begun (c.in_err-day.ensures.foreign was inside is day) in
+    search (rules, whole)
+
+pub returns-clause-tells : goal.returns-clause-tells
+returns-clause-tells g c =
+    let old = c.args.conn.now in
+    let begun = c.transaction-tx.result.conn.now in
+    let last = state g.S.Store c.day_and_indexes.new.tx.conn.now in
+    let new = state g.S.Store c.commit.new.self.0 in
+    let whole : Survives (state g.S.Store old) new (λ db. IsReady (state g.S.Store old).now → TellTables db) =
+    crash_made g.S.Store old begun last new _ c.transaction-tx.ensures.begun c.in_ok-day.ensures.survives c.commit.ensures.survives (λ clean ready.
+    let was : HasCleanDisk last = omega (arith, clean, c.commit.ensures.survives.clean) in
+    let done = c.in_ok-day.ensures.indexed was (as_old g.S.Store old begun IsReady c.transaction-tx.ensures.begun ready) in
+    ready_tells last.now done.0.ready) in
+    search (rules, whole)
+
+pub returns-in_err-commit-clause-tells : goal.returns-in_err-commit-clause-tells
+returns-in_err-commit-clause-tells g c =
+    let old = c.args.conn.now in
+    let begun = c.transaction-tx.result.conn.now in
+    let last = state g.S.Store c.day_and_indexes.new.tx.conn.now in
+    let new = state g.S.Store c.commit.new.self.0 in
+    let whole : Survives (state g.S.Store old) new (λ db. IsReady (state g.S.Store old).now → TellTables db) =
+    crash_made g.S.Store old begun last new _ c.transaction-tx.ensures.begun c.in_ok-day.ensures.survives c.commit.ensures.survives (λ clean ready.
+    let was : HasCleanDisk last = omega (arith, clean, c.commit.ensures.survives.clean) in
+    let done = c.in_ok-day.ensures.indexed was (as_old g.S.Store old begun IsReady c.transaction-tx.ensures.begun ready) in
+    ready_tells last.now done.0.ready) in
+    search (rules, whole)
+
+pub returns-in_err-day-clause-tells : goal.returns-in_err-day-clause-tells
+returns-in_err-day-clause-tells g c =
+    let old = c.args.conn.now in
+    let begun = c.transaction-tx.result.conn.now in
+    let last = state g.S.Store c.day_and_indexes.new.tx.conn.now in
+    let new = state g.S.Store c.drop-tx.new.self.0 in
+    let whole : Survives (state g.S.Store old) new (λ db. IsReady (state g.S.Store old).now → TellTables db) =
+    stops_before g.S.Store old begun last new _ c.transaction-tx.ensures.begun c.in_err-day.ensures.survives c.drop-tx.ensures.survives in
     search (rules, whole)
