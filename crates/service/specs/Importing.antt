@@ -1,8 +1,9 @@
 -- What importing a goods-in file does to the books, and what it tells.
-use Rattle.std.specs.Prelude.{◌≡◌, ◌≢◌, ◌⊎◌, ℕ, ◌++◌, List, codes, decimal, Option, IfSome, Result, Ok, Err, ℤ}
+use Rattle.std.specs.Prelude.{◌≡◌, ◌≢◌, ◌⊎◌, ℕ, ◌++◌, List, codes, decimal, Option, IfSome, Result, Ok, Err, ℤ, IsTrue}
 use Rattle.std.specs.Io.KnownBytes.{Appends}
 use Rattle.sqlite_trees.specs.declared.store.Store.{Ghosts}
 use Rattle.sqlite.specs.Held.{Held, state}
+use Rattle.sqlite.specs.State.{State}
 use Rattle.commands.specs.declared.key.Key.{Key}
 use Rattle.commands.specs.declared.command.Command.{Command}
 use Rattle.machine.specs.Acts.{Act}
@@ -12,7 +13,7 @@ use Rattle.goodsin.specs.Files.{file_read}
 use Rattle.goodsin.specs.declared.fault.FileFault.{FileFault}
 use Rattle.goodsin.specs.declared.fault.FileFault.TheVariants.{Reader, Memory}
 use Rattle.store.specs.Connected.{Connected}
-use Rattle.store.specs.Books.{HoldsBooks, KeepsBooks}
+use Rattle.store.specs.Books.{HoldsBooks, KeepsBooks, LeavesOnly}
 use Rattle.store.specs.Filing.{rows_of, taken}
 use Rattle.store.specs.declared.tally.Tally.{Tally}
 use Rattle.store.specs.declared.tally.RowFault.{RowFault}
@@ -24,14 +25,16 @@ use Rattle.command_line.specs.declared.fault.Fault.TheVariants.{Usage, Label, Fi
 abbrev pub tally_line : ℕ → ℕ → List ℕ
 tally_line accepted repeated = codes "accepted " ++ decimal accepted ++ codes " repeated " ++ decimal repeated ++ codes "\n"
 
--- the books are those of the acts after some file, or of the acts
-abbrev pub HasTaken : {S : Type 0} → Ghosts S → ℤ → List Act → Connected S → Type 0
-HasTaken g first acts new = ((rows : List Act) × IsHistory first (acts_after_file first acts rows) × HoldsBooks g first (acts_after_file first acts rows) new) ⊎ HoldsBooks g first acts new
+-- the rows of the file are in the books, and whatever a stop leaves from then on has them
+pub record HasRows (first : ℤ) (acts : List Act) (rows : List Act) (s : State) : Type 0 where
+  pub history : IsHistory first (acts_after_file first acts rows)
+  pub keeps : KeepsBooks first (acts_after_file first acts rows) s
+  pub is_open : IsTrue s.is_open
+  pub leaves : LeavesOnly first (acts_after_file first acts rows) s
 
--- the same of a connection
+-- the connection keeps the books of the acts after some file, or of the acts
 abbrev pub KeepsFile : {S : Type 0} → Ghosts S → ℤ → List Act → Held S → Type 0
-KeepsFile g first acts conn =
-    ((rows : List Act) × IsHistory first (acts_after_file first acts rows) × KeepsBooks first (acts_after_file first acts rows) (state g conn)) ⊎ KeepsBooks first acts (state g conn)
+KeepsFile g first acts conn = ((rows : List Act) × HasRows first acts rows (state g conn)) ⊎ KeepsBooks first acts (state g conn)
 
 -- how the rows of a file went, as the line tells it
 abbrev pub IsToldOfFile : Result Tally RowFault → Result Tally Fault → Type 0
@@ -53,7 +56,7 @@ module _ {S : Type 0} (g : Ghosts S) (first : ℤ) (acts : List Act) (from : Opt
   abbrev pub IsTakenIn : Result Tally Fault → Connected S → Type 0
   IsTakenIn (Ok tally) new =
       (rows : List (Key × Command)) × AreRead rows × (taken tally ≡ file_outcome first acts (rows_of rows))
-      × IsHistory first (acts_after_file first acts (rows_of rows)) × HoldsBooks g first (acts_after_file first acts (rows_of rows)) new
+      × HasRows first acts (rows_of rows) (state g new.conn) × HoldsBooks g first (acts_after_file first acts (rows_of rows)) new
   IsTakenIn (Err (Row row why)) new = (rows : List (Key × Command)) × AreRead rows × (RefusedRow row why ≡ file_outcome first acts (rows_of rows)) × HoldsBooks g first acts new
   IsTakenIn (Err (File fault)) new = HasFault fault × HoldsBooks g first acts new
   IsTakenIn (Err Store) new = HoldsBooks g first acts new
@@ -64,15 +67,20 @@ module _ {S : Type 0} (g : Ghosts S) (first : ℤ) (acts : List Act) (from : Opt
   IsTakenIn (Err (RefusedText why)) new = ⊥
   IsTakenIn (Err Value) new = ⊥
 
-  -- the same, and the tally is printed; where it could not be, the file is taken in all the same
+  -- the same, and the tally is printed; where it could not be, the file is taken in all the same; a file that is not taken in prints nothing
   abbrev pub IsImported : Result Unit Fault → Connected S → Option (List ℕ) → Option (List ℕ) → Type 0
   IsImported (Ok done) new old_out new_out = (tally : Tally) × IsTakenIn (Ok tally) new × Appends old_out new_out (tally_line tally.accepted tally.repeated)
   IsImported (Err Io) new old_out new_out = (tally : Tally) × IsTakenIn (Ok tally) new
   IsImported (Err (Usage error)) new old_out new_out = ⊥
   IsImported (Err (Label fault)) new old_out new_out = ⊥
-  IsImported (Err (File fault)) new old_out new_out = IsTakenIn (Err (File fault)) new
-  IsImported (Err (Row row why)) new old_out new_out = IsTakenIn (Err (Row row why)) new
+  IsImported (Err (File fault)) new old_out new_out = IsTakenIn (Err (File fault)) new × (new_out ≡ old_out)
+  IsImported (Err (Row row why)) new old_out new_out = IsTakenIn (Err (Row row why)) new × (new_out ≡ old_out)
   IsImported (Err (RefusedText why)) new old_out new_out = ⊥
   IsImported (Err Value) new old_out new_out = ⊥
-  IsImported (Err Store) new old_out new_out = HoldsBooks g first acts new
+  IsImported (Err Store) new old_out new_out = HoldsBooks g first acts new × (new_out ≡ old_out)
   IsImported (Err Foreign) new old_out new_out = ⊥
+
+-- a file with these bytes, where they are known, is imported; or it could not be opened, and nothing was done or printed
+abbrev pub IsFileImported : {S : Type 0} → Ghosts S → ℤ → List Act → Option (List ℕ) → Result Unit Fault → Connected S → Option (List ℕ) → Option (List ℕ) → Type 0
+IsFileImported g first acts from end new old_out new_out =
+    IsImported g first acts from end new old_out new_out ⊎ ((end ≡ Err Io) × (new_out ≡ old_out) × HoldsBooks g first acts new)

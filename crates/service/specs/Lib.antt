@@ -1,3 +1,4 @@
 pub mod Serving
 pub mod Importing
 pub mod Printing
+pub mod Lending

@@ -1,8 +1,13 @@
 -- What printing a text of a lot comes to.
 use Rattle.std.specs.Prelude.{◌≡◌, ℕ, List, Option, Result, Ok, Err, ℤ}
+use Rattle.values.specs.declared.lot.LotId.{LotId}
 use Rattle.sqlite_trees.specs.declared.store.Store.{Ghosts}
+use Rattle.sqlite.specs.Held.{Held}
 use Rattle.commands.specs.declared.refusal.Refusal.{Refusal}
 use Rattle.machine.specs.Acts.{Act}
+use Rattle.machine.specs.Queries.{card_shown, notice_shown}
+use Rattle.texts.specs.Card.{card_text}
+use Rattle.texts.specs.Notice.{notice_text}
 use Rattle.store.specs.Connected.{Connected}
 use Rattle.store.specs.declared.fault.Fault.TheVariants as books
 use Rattle.store.specs.declared.each_fault.EachFault.{EachFault}
@@ -10,6 +15,8 @@ use Rattle.store.specs.declared.each_fault.EachFault.TheVariants as each
 use Rattle.house.specs.LotTexts.{Tells}
 use Rattle.command_line.specs.declared.fault.Fault.{Fault}
 use Rattle.command_line.specs.declared.fault.Fault.TheVariants.{Refused, Io, Store, Foreign}
+use Rattle.service.specs.declared.books_lines.Sheet.{Sheet}
+use Rattle.service.specs.declared.books_lines.Sheet.TheVariants.{Card, Notice}
 
 -- how the writing of a text went, as the line tells it
 abbrev pub told_as : Result Unit EachFault → Result Unit Fault
@@ -23,3 +30,12 @@ told_as (Err each.Stopped) = Err Io
 -- the disk or the output failed
 abbrev pub IsPrinted : {S V : Type 0} → Ghosts S → ℤ → List Act → (V → List ℕ) → Result V Refusal → (was books : Connected S) → (old new : Option (List ℕ)) → Result Unit Fault → Type 0
 IsPrinted g first acts text shown was books old new result = (end : Result Unit EachFault) × Tells g first acts text shown was books old new end × (result ≡ told_as end)
+
+-- of the sheet that is asked for
+abbrev pub IsSheetPrinted : {S : Type 0} → Ghosts S → ℤ → List Act → Sheet → LotId → (was books : Connected S) → (old new : Option (List ℕ)) → Result Unit Fault → Type 0
+IsSheetPrinted g first acts Card lot was books old new result = IsPrinted g first acts card_text (card_shown first acts lot) was books old new result
+IsSheetPrinted g first acts Notice lot was books old new result = IsPrinted g first acts notice_text (notice_shown first acts lot) was books old new result
+
+-- the same of books that were opened and closed again, whose connection is left
+abbrev pub LeavesSheet : {S : Type 0} → Ghosts S → ℤ → List Act → Sheet → LotId → (old new : Option (List ℕ)) → Result Unit Fault → Held S → Type 0
+LeavesSheet {S} g first acts sheet lot old new result conn = (was : Connected S) × (books : Connected S) × (conn ≡ books.conn) × IsSheetPrinted g first acts sheet lot was books old new result

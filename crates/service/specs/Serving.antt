@@ -1,6 +1,7 @@
 -- What serving a port does to the books, and what a line's work does.
-use Rattle.std.specs.Prelude.{◌≡◌, ◌≢◌, ◌⊎◌, ◌↔◌, ◌≤◌, ℕ, ℤ, List, [], length, false, Result, IsErr, IsErrOf, IsTrue, ◌++◌, codes}
+use Rattle.std.specs.Prelude.{◌≡◌, ◌≢◌, ◌⊎◌, ◌↔◌, ◌≤◌, ℕ, ℤ, List, [], length, false, Option, Result, Ok, Err, IsErr, IsErrOf, IsTrue, ◌++◌, codes}
 use Rattle.std.specs.Fmt.{decimal}
+use Rattle.std.specs.Io.KnownBytes.{Appends}
 use Rattle.sqlite_trees.specs.declared.store.Store.{Ghosts}
 use Rattle.sqlite.specs.Held.{Held, state}
 use Rattle.machine.specs.Acts.{Act}
@@ -10,10 +11,12 @@ use Rattle.store.specs.Connected.{Connected}
 use Rattle.store.specs.Books.{AreRowsOf, KeepsBooks}
 use Rattle.house.specs.House.{Run, StepsTo, RunsTo, LeavesBooks}
 use Rattle.command_line.specs.declared.fault.Fault.{Fault}
-use Rattle.command_line.specs.declared.fault.Fault.TheVariants.{Foreign}
+use Rattle.command_line.specs.declared.fault.Fault.TheVariants.{Io, Foreign}
 use Rattle.command_line.specs.declared.running.Work.{Work}
 use Rattle.command_line.specs.declared.running.Work.TheVariants.{Make, Serve, Import, Card, Notice}
-use Rattle.service.specs.Importing.{KeepsFile}
+use Rattle.service.specs.Importing.{KeepsFile, IsFileImported}
+use Rattle.service.specs.Printing.{LeavesSheet}
+use Rattle.service.specs.declared.books_lines.Sheet.TheVariants as sheet
 
 -- the books are as they were, or one step over some text further
 abbrev pub GoesOn : {S : Type 0} → Ghosts S → ℤ → List Act → Connected S → Connected S → Type 0
@@ -57,3 +60,20 @@ IsJudged g old (Notice lot) result = ¬ HasTables (state g old).now.schema → I
 -- what is printed once the port is listened on
 abbrev pub told_port : ℕ → List ℕ
 told_port port = codes "listening on 127.0.0.1:" ++ decimal port ++ codes "\n"
+
+-- the port was told and served, or it could not be had, or the output not be written
+abbrev pub IsPortTold : ℕ → (old new : Option (List ℕ)) → Result Unit Fault → Type 0
+IsPortTold port old new (Ok done) = Appends old new (told_port port)
+IsPortTold port old new (Err fault) = fault ≡ Io
+
+-- what the work printed, from what the output held to what it holds, and how it ended, over the connection that is left; `files` has the bytes of
+-- the files by their names, where they are known
+abbrev pub IsTold : {S : Type 0} → Ghosts S → (List ℕ → Option (List ℕ)) → Held S → Work → (old new : Option (List ℕ)) → Result Unit Fault → Held S → Type 0
+IsTold g files conn (Make day) old new end left = (end ≡ Ok tt) × (new ≡ old)
+IsTold g files conn (Serve port max) old new end left = IsPortTold port old new end
+IsTold {S} g files conn (Import file) old new end left = (first : ℤ) (acts : List Act) → IsHistory first acts → AreRowsOf first acts (state g conn).committed.trees
+    → (books : Connected S) × (left ≡ books.conn) × IsFileImported g first acts (files file.now) end books old new
+IsTold g files conn (Card lot) old new end left = (first : ℤ) (acts : List Act) → IsHistory first acts → AreRowsOf first acts (state g conn).committed.trees
+    → LeavesSheet g first acts sheet.Card lot old new end left
+IsTold g files conn (Notice lot) old new end left = (first : ℤ) (acts : List Act) → IsHistory first acts → AreRowsOf first acts (state g conn).committed.trees
+    → LeavesSheet g first acts sheet.Notice lot old new end left

@@ -1,4 +1,4 @@
-ghost use Rattle.std.specs.Prelude.{◌≡◌, ◌≢◌, ◌⊎◌, ◌↔◌, ℤ, [], List, true, false, IsTrue, IsErr, IsErrOf, OnOk, IfOk, IfErr};
+ghost use Rattle.std.specs.Prelude.{◌≡◌, ◌≢◌, ◌⊎◌, ◌↔◌, ℤ, [], List, true, false, Ok, IsTrue, IsErr, IsErrOf, OnOk, IfOk, IfErr};
 ghost use Rattle.std.specs.Io.KnownBytes.{Appends};
 ghost use Rattle.sqlite.specs.Held.{state};
 ghost use Rattle.sqlite.specs.State.{HasCleanDisk};
@@ -7,9 +7,11 @@ ghost use Rattle.machine.specs.Acts.{Act};
 ghost use Rattle.machine.specs.Once.{IsHistory};
 ghost use Rattle.store.specs.declared.fault.Fault.TheVariants.{Foreign as ForeignBooks};
 ghost use Rattle.store.specs.Books.{AreRowsOf, KeepsBooks, HoldsBooks, IsClean};
+ghost use Rattle.store.specs.Connected.{Connected};
 ghost use Rattle.house.specs.House.{books_of, LeavesBooks};
-ghost use Rattle.service.specs.Serving.{HasServed, KeepsRun, IsWorked, IsJudged, told_port};
-ghost use Rattle.service.specs.Importing.{KeepsFile};
+ghost use Rattle.service.specs.Serving.{HasServed, KeepsRun, IsWorked, IsJudged, IsTold, IsPortTold, told_port};
+ghost use Rattle.service.specs.Importing.{KeepsFile, IsFileImported};
+ghost use Rattle.service.specs.Printing.{IsSheetPrinted, LeavesSheet};
 
 use crate::goods_file::{FilesAt, import_file};
 use crate::lot_texts::{print_card, print_notice};
@@ -30,9 +32,11 @@ pub type Worked<S> = (Connection<S>, Result<(), Fault>);
 /// Does the work with the books over this connection, and gives the connection back. What it prints goes to `out`.
 /// Books that were made are empty; books that were served are those of a run over at most as many texts as connections
 /// were to be answered; books into which a file was imported are those after it, or as they were; books of which a text
-/// was printed are as they were. Where the books cannot be made or opened, the connection is dropped and the error is
-/// `Foreign` for other tables and else `Store`, also for a connection within a transaction. A port that cannot be had and
-/// output that cannot be written are `Io` beside the connection.
+/// was printed are as they were. What was printed is the text that the machine shows of the lot or the tally of the file,
+/// and the work is refused exactly where the machine refuses. Where the books cannot be made or opened, nothing is
+/// printed, the connection is dropped and the error is `Foreign` for other tables and else `Store`, also for a connection
+/// within a transaction. A port that cannot be had, a file that cannot be opened and output that cannot be written are
+/// `Io` beside the connection.
 pub fn worked<S: Alter + Drop, F: FilesAt, W: Write>(
     rt: &HostRuntime,
     files: &F,
@@ -40,7 +44,9 @@ pub fn worked<S: Alter + Drop, F: FilesAt, W: Write>(
     work: &Work<'_>,
     out: &mut W,
 ) -> Result<Worked<S>, Fault>
+    ensures clean { IfOk result (λ w. HasCleanDisk (state S.Store w.0) → HasCleanDisk (state S.Store conn)) }
     ensures worked { IfOk result (λ w. HasCleanDisk (state S.Store w.0) → IsWorked S.Store conn work.now w.0) }
+    ensures told { IfOk result (λ w. HasCleanDisk (state S.Store w.0) → IsTold S.Store (F.bytes files.now) conn work.now (W.contents out.old) (W.contents out.new) w.1 w.0) }
     ensures judged { IsJudged S.Store conn work.now result }
     ensures within { conn.in_transaction ≡ true → IsErrOf result Fault.Store }
     ensures fault { IfErr result (λ fault. (fault ≡ Fault.Store) ⊎ (fault ≡ Fault.Foreign)) }
@@ -60,7 +66,9 @@ fn made<S: Alter + Drop>(
     conn: Connection<S>,
     day: BusinessDay,
 ) -> Result<Worked<S>, Fault>
+    ensures clean { IfOk result (λ w. HasCleanDisk (state S.Store w.0) → HasCleanDisk (state S.Store conn)) }
     ensures made { IfOk result (λ w. HasCleanDisk (state S.Store w.0) → KeepsBooks day [] (state S.Store w.0) × IsTrue (state S.Store w.0).is_open) }
+    ensures done { IfOk result (λ w. w.1 ≡ Ok tt) }
     ensures foreign { conn.in_transaction ≡ false → IsErrOf result Fault.Foreign ↔ ((state S.Store conn).now.schema ≢ schema_0) }
     ensures within { conn.in_transaction ≡ true → IsErrOf result Fault.Store }
     ensures fault { IfErr result (λ fault. (fault ≡ Fault.Store) ⊎ (fault ≡ Fault.Foreign)) }
@@ -82,8 +90,10 @@ fn served<S: Alter + Drop, W: Write>(
     max: u32,
     out: &mut W,
 ) -> Result<Worked<S>, Fault>
+    ensures clean { IfOk result (λ w. HasCleanDisk (state S.Store w.0) → HasCleanDisk (state S.Store conn)) }
     ensures served { IfOk result (λ w. HasCleanDisk (state S.Store w.0) → (first : ℤ) (acts : List Act) → IsHistory first acts
         → AreRowsOf first acts (state S.Store conn).committed.trees → KeepsRun S.Store first acts max w.0) }
+    ensures told { IfOk result (λ w. HasCleanDisk (state S.Store w.0) → IsPortTold port (W.contents out.old) (W.contents out.new) w.1) }
     ensures other { ¬ HasTables (state S.Store conn).now.schema → IsErr result }
     ensures within { conn.in_transaction ≡ true → IsErrOf result Fault.Store }
     ensures fault { IfErr result (λ fault. (fault ≡ Fault.Store) ⊎ (fault ≡ Fault.Foreign)) }
@@ -104,6 +114,7 @@ fn serve_books<S: Alter + Drop, W: Write>(
     ensures clean { HasCleanDisk (state S.Store result.0) → IsClean S.Store books }
     ensures served { HasCleanDisk (state S.Store result.0) → (first : ℤ) (acts : List Act) → IsHistory first acts → HoldsBooks S.Store first acts books
         → LeavesBooks first acts (state S.Store books.conn) → KeepsRun S.Store first acts max result.0 }
+    ensures told { IsPortTold port (W.contents out.old) (W.contents out.new) result.1 }
 {
     let mut house = House::new(rt.alloc(), books);
     let end = serve_port(rt, port, max, out, &mut house);
@@ -118,8 +129,12 @@ fn imported<S: Alter + Drop, F: FilesAt, W: Write>(
     name: &str,
     out: &mut W,
 ) -> Result<Worked<S>, Fault>
+    ensures clean { IfOk result (λ w. HasCleanDisk (state S.Store w.0) → HasCleanDisk (state S.Store conn)) }
     ensures imported { IfOk result (λ w. HasCleanDisk (state S.Store w.0) → (first : ℤ) (acts : List Act) → IsHistory first acts
         → AreRowsOf first acts (state S.Store conn).committed.trees → KeepsFile S.Store first acts w.0) }
+    ensures told { IfOk result (λ w. HasCleanDisk (state S.Store w.0) → (first : ℤ) (acts : List Act) → IsHistory first acts
+        → AreRowsOf first acts (state S.Store conn).committed.trees → (books : Connected S) × (w.0 ≡ books.conn)
+        × IsFileImported S.Store first acts (F.bytes files.now name.now) w.1 books (W.contents out.old) (W.contents out.new)) }
     ensures other { ¬ HasTables (state S.Store conn).now.schema → IsErr result }
     ensures within { conn.in_transaction ≡ true → IsErrOf result Fault.Store }
     ensures fault { IfErr result (λ fault. (fault ≡ Fault.Store) ⊎ (fault ≡ Fault.Foreign)) }
@@ -140,6 +155,8 @@ fn import_books<S: Alter + Drop, F: FilesAt, W: Write>(
     ensures clean { HasCleanDisk (state S.Store result.0) → IsClean S.Store books }
     ensures imported { HasCleanDisk (state S.Store result.0) → (first : ℤ) (acts : List Act) → IsHistory first acts → HoldsBooks S.Store first acts books
         → KeepsFile S.Store first acts result.0 }
+    ensures told { HasCleanDisk (state S.Store result.0) → (first : ℤ) (acts : List Act) → IsHistory first acts → HoldsBooks S.Store first acts books
+        → (after : Connected S) × (result.0 ≡ after.conn) × IsFileImported S.Store first acts (F.bytes files.now name.now) result.1 after (W.contents out.old) (W.contents out.new) }
 {
     let mut books = books;
     let end = import_file(alloc, files, &mut books, name, out);
@@ -163,8 +180,11 @@ fn printed<S: Alter + Drop, W: Write>(
     lot: &LotId,
     out: &mut W,
 ) -> Result<Worked<S>, Fault>
+    ensures clean { IfOk result (λ w. HasCleanDisk (state S.Store w.0) → HasCleanDisk (state S.Store conn)) }
     ensures printed { IfOk result (λ w. HasCleanDisk (state S.Store w.0) → (first : ℤ) (acts : List Act) → IsHistory first acts
         → AreRowsOf first acts (state S.Store conn).committed.trees → KeepsBooks first acts (state S.Store w.0)) }
+    ensures told { IfOk result (λ w. HasCleanDisk (state S.Store w.0) → (first : ℤ) (acts : List Act) → IsHistory first acts
+        → AreRowsOf first acts (state S.Store conn).committed.trees → LeavesSheet S.Store first acts sheet lot.now (W.contents out.old) (W.contents out.new) w.1 w.0) }
     ensures other { ¬ HasTables (state S.Store conn).now.schema → IsErr result }
     ensures within { conn.in_transaction ≡ true → IsErrOf result Fault.Store }
     ensures fault { IfErr result (λ fault. (fault ≡ Fault.Store) ⊎ (fault ≡ Fault.Foreign)) }
@@ -184,6 +204,8 @@ fn print_books<S: Alter + Drop, W: Write>(
     ensures clean { HasCleanDisk (state S.Store result.0) → IsClean S.Store books }
     ensures printed { HasCleanDisk (state S.Store result.0) → (first : ℤ) (acts : List Act) → IsHistory first acts → HoldsBooks S.Store first acts books
         → KeepsBooks first acts (state S.Store result.0) }
+    ensures told { HasCleanDisk (state S.Store result.0) → (first : ℤ) (acts : List Act) → IsHistory first acts → HoldsBooks S.Store first acts books
+        → LeavesSheet S.Store first acts sheet lot.now (W.contents out.old) (W.contents out.new) result.1 result.0 }
 {
     let mut books = books;
     let end = print_sheet(&mut books, sheet, lot, out);
@@ -197,16 +219,17 @@ fn print_sheet<S: Alter, W: Write>(
     out: &mut W,
 ) -> Result<(), Fault>
     ensures clean { IsClean S.Store books.new → IsClean S.Store books.old }
-    ensures kept { IsClean S.Store books.new → (first : ℤ) (acts : List Act) → IsHistory first acts → HoldsBooks S.Store first acts books.old
-        → HoldsBooks S.Store first acts books.new }
+    ensures printed { IsClean S.Store books.new → (first : ℤ) (acts : List Act) → IsHistory first acts → HoldsBooks S.Store first acts books.old
+        → IsSheetPrinted S.Store first acts sheet lot.now books.old books.new (W.contents out.old) (W.contents out.new) result }
 {
     match sheet {
-        Sheet::Card => print_card(books, lot, out).1,
-        Sheet::Notice => print_notice(books, lot, out).1,
+        Sheet::Card => print_card(books, lot, out),
+        Sheet::Notice => print_notice(books, lot, out),
     }
 }
 
 fn opened<S: Alter + Drop>(alloc: Global, conn: Connection<S>) -> Result<Books<S>, Fault>
+    ensures clean { IfOk result (λ b. IsClean S.Store b → HasCleanDisk (state S.Store conn)) }
     ensures books { IfOk result (λ b. IsClean S.Store b → (first : ℤ) (acts : List Act) → IsHistory first acts
         → AreRowsOf first acts (state S.Store conn).committed.trees → HoldsBooks S.Store first acts b × LeavesBooks first acts (state S.Store b.conn)) }
     ensures other { ¬ HasTables (state S.Store conn).now.schema → IsErr result }
@@ -243,6 +266,7 @@ fn serve_port<S: Alter + Drop, W: Write>(
     ensures served { IsClean S.Store (books_of house.new)
         → (first : ℤ) (acts : List Act) → IsHistory first acts → HoldsBooks S.Store first acts (books_of house.old)
         → HasServed S.Store first acts max (books_of house.old) (books_of house.new) }
+    ensures told { IsPortTold port (W.contents out.old) (W.contents out.new) result }
 {
     let listener = TcpListener::bind(rt, ("127.0.0.1", port))?;
     tell_port(port, out)?;

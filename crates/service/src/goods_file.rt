@@ -5,7 +5,7 @@ ghost use Rattle.std.specs.Io.KnownBytes.{Appends};
 ghost use Rattle.machine.specs.Acts.{Act};
 ghost use Rattle.machine.specs.Once.{IsHistory};
 ghost use Rattle.store.specs.Books.{IsClean, HoldsBooks};
-ghost use Rattle.service.specs.Importing.{HasTaken, IsTakenIn, IsToldOfFile, IsImported, tally_line};
+ghost use Rattle.service.specs.Importing.{IsTakenIn, IsToldOfFile, IsImported, IsFileImported, tally_line};
 
 use command_line::Fault;
 use goodsin::read_file;
@@ -16,13 +16,19 @@ use store::{Books, RowFault, Tally};
 
 /// Where the files are that the lines name.
 pub trait FilesAt {
+    ghost use Rattle.std.specs.Prelude.{◌≡◌, ℕ, List, Option, Some, None, IfOk, IfSome};
+
     type File: Read + Drop;
 
+    // The bytes of the file with this name, where they are known.
+    ghost bytes: { Self → List ℕ → Option (List ℕ) } = { λ _ _. None };
+
     /// Opens a file to read it.
-    fn open(&self, name: &str) -> io::Result<Self::File>;
+    fn open(&self, name: &str) -> io::Result<Self::File>
+        ensures { IfOk result (λ file. IfSome (bytes self.now name.now) (λ text. Self.File.remaining file ≡ Some text)) };
 }
 
-/// Opens the goods-in file and imports it.
+/// Opens the goods-in file and imports it. Where it cannot be opened the error is `Io`, and nothing was done or printed.
 pub(crate) fn import_file<S: Alter, F: FilesAt, W: Write>(
     alloc: Global,
     files: &F,
@@ -31,8 +37,8 @@ pub(crate) fn import_file<S: Alter, F: FilesAt, W: Write>(
     out: &mut W,
 ) -> Result<(), Fault>
     ensures clean { IsClean S.Store books.new → IsClean S.Store books.old }
-    ensures taken { IsClean S.Store books.new → (first : ℤ) (acts : List Act) → IsHistory first acts → HoldsBooks S.Store first acts books.old
-        → HasTaken S.Store first acts books.new }
+    ensures imported { IsClean S.Store books.new → (first : ℤ) (acts : List Act) → IsHistory first acts → HoldsBooks S.Store first acts books.old
+        → IsFileImported S.Store first acts (F.bytes files.now name.now) result books.new (W.contents out.old) (W.contents out.new) }
 {
     let file = files.open(name)?;
     import(alloc, books, file, out)
@@ -40,8 +46,9 @@ pub(crate) fn import_file<S: Alter, F: FilesAt, W: Write>(
 
 /// Takes in the rows of a goods-in file, all or none, and prints how many were accepted and how many repeated:
 /// `accepted A repeated B`. The file is read at the business day of the books. The error is the first fault of the file
-/// or its first row that is refused, and then the books are as they were; or `Io` where the line could not be printed,
-/// and then the rows are taken in.
+/// or its first row that is refused, and then the books are as they were and nothing was printed; or `Io` where the line
+/// could not be printed, and then the rows are taken in. What is taken in is kept: whatever a stop leaves from then on
+/// has every row.
 pub fn import<S: Alter, R: Read + Drop, W: Write>(
     alloc: Global,
     books: &mut Books<S>,

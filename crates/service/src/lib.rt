@@ -3,6 +3,7 @@
 
 mod books_lines;
 mod goods_file;
+mod lent;
 mod lot_texts;
 mod serve;
 

@@ -9,6 +9,7 @@ ghost use Rattle.texts.specs.Notice.{notice_text};
 ghost use Rattle.store.specs.Books.{IsClean, HoldsBooks};
 ghost use Rattle.service.specs.Printing.{IsPrinted, told_as};
 
+use crate::lent::Lent;
 use command_line::Fault;
 use house::{write_card, write_notice};
 use sqlite::Alter;
@@ -21,14 +22,16 @@ use values::LotId;
 pub fn print_card<S: Alter, W: Write>(
     books: &mut Books<S>,
     lot: &LotId,
-    out: W,
-) -> (W, Result<(), Fault>)
+    out: &mut W,
+) -> Result<(), Fault>
     ensures clean { IsClean S.Store books.new → IsClean S.Store books.old }
     ensures printed { IsClean S.Store books.new → (first : ℤ) (acts : List Act) → IsHistory first acts → HoldsBooks S.Store first acts books.old
-        → IsPrinted S.Store first acts card_text (card_shown first acts lot.now) books.old books.new (W.contents out) (W.contents result.0) result.1 }
+        → IsPrinted S.Store first acts card_text (card_shown first acts lot.now) books.old books.new (W.contents out.old) (W.contents out.new) result }
 {
-    let (out, end) = write_card(books, lot, out);
-    (out, told(end))
+    let (lent, end) = write_card(books, lot, Lent { out });
+    // The reference ends here, and what it leaves is known.
+    let Lent { out: _out } = lent;
+    told(end)
 }
 
 /// Prints the recall notice of a lot, row by row. The error is the refusal (U01, N01), and then nothing was printed; or
@@ -36,14 +39,16 @@ pub fn print_card<S: Alter, W: Write>(
 pub fn print_notice<S: Alter, W: Write>(
     books: &mut Books<S>,
     lot: &LotId,
-    out: W,
-) -> (W, Result<(), Fault>)
+    out: &mut W,
+) -> Result<(), Fault>
     ensures clean { IsClean S.Store books.new → IsClean S.Store books.old }
     ensures printed { IsClean S.Store books.new → (first : ℤ) (acts : List Act) → IsHistory first acts → HoldsBooks S.Store first acts books.old
-        → IsPrinted S.Store first acts notice_text (notice_shown first acts lot.now) books.old books.new (W.contents out) (W.contents result.0) result.1 }
+        → IsPrinted S.Store first acts notice_text (notice_shown first acts lot.now) books.old books.new (W.contents out.old) (W.contents out.new) result }
 {
-    let (out, end) = write_notice(books, lot, out);
-    (out, told(end))
+    let (lent, end) = write_notice(books, lot, Lent { out });
+    // The reference ends here, and what it leaves is known.
+    let Lent { out: _out } = lent;
+    told(end)
 }
 
 /// How the writing went, as the line tells it.

@@ -1,3 +1,4 @@
+use Rattle.std.proofs.Common.{arith}
 use Rattle.sqlite.specs.Held.{state}
 use Rattle.service.proofs.Serving.{leaves_committed}
 use Rattle.service.proofs.books_lines.opened.Goals as goal
@@ -8,3 +9,6 @@ returns-in-Ok-clause-books g c clean first acts history rows =
       record { keeps = was.books clean first acts history rows; day = was.today clean first acts history rows },
       leaves_committed first acts (state g.S.Store c.args.conn).committed.trees (state g.S.Store c.in-Ok.books.conn) (was.opens.crash clean) rows,
     )
+
+pub returns-in-Ok-clause-clean : goal.returns-in-Ok-clause-clean
+returns-in-Ok-clause-clean g c clean = omega (arith, clean, c.in-Ok.ensures.opens.clean)

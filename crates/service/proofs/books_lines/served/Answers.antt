@@ -4,3 +4,6 @@ pub returns-in-Ok-clause-served : goal.returns-in-Ok-clause-served
 returns-in-Ok-clause-served g c clean first acts history rows =
     let held = c.in-Ok.ensures.books (c.serve_books.ensures.clean clean) first acts history rows in
     c.serve_books.ensures.served clean first acts history held.0 held.1
+
+pub returns-in-Ok-clause-clean : goal.returns-in-Ok-clause-clean
+returns-in-Ok-clause-clean g c clean = c.in-Ok.ensures.clean (c.serve_books.ensures.clean clean)

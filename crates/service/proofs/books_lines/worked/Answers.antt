@@ -2,7 +2,7 @@ use Rattle.std.proofs.Common.{sym, subst}
 use Rattle.std.specs.Prelude.{IfOk}
 use Rattle.sqlite.specs.Held.{state}
 use Rattle.sqlite.specs.State.{HasCleanDisk}
-use Rattle.service.specs.Serving.{IsWorked, IsJudged}
+use Rattle.service.specs.Serving.{IsWorked, IsTold, IsJudged}
 use Rattle.command_line.specs.declared.running.Work.TheVariants.{Make, Serve, Import, Card, Notice}
 use Rattle.service.proofs.books_lines.worked.Goals as goal
 
@@ -32,3 +32,27 @@ returns-in-Notice-clause-worked g c = subst (λ work. IfOk c.printed-in-Notice.r
 
 pub returns-in-Notice-clause-judged : goal.returns-in-Notice-clause-judged
 returns-in-Notice-clause-judged g c = subst (λ w. IsJudged g.S.Store c.args.conn w c.printed-in-Notice.result) (sym c.in-Notice.is) c.printed-in-Notice.ensures.other
+
+pub returns-in-Serve-clause-told : goal.returns-in-Serve-clause-told
+returns-in-Serve-clause-told g c =
+    let at = g.W.Write.contents in
+    subst (λ work. IfOk c.served.result (λ w. HasCleanDisk (state g.S.Store w.0) → IsTold g.S.Store (g.F.FilesAt.bytes c.args.files.now) c.args.conn work (at c.args.out.now) (at c.served.new.out) w.1 w.0))
+    (sym c.in-Serve.is) c.served.ensures.told
+
+pub returns-in-Import-clause-told : goal.returns-in-Import-clause-told
+returns-in-Import-clause-told g c =
+    let at = g.W.Write.contents in
+    subst (λ work. IfOk c.imported.result (λ w. HasCleanDisk (state g.S.Store w.0) → IsTold g.S.Store (g.F.FilesAt.bytes c.args.files.now) c.args.conn work (at c.args.out.now) (at c.imported.new.out) w.1 w.0))
+    (sym c.in-Import.is) c.imported.ensures.told
+
+pub returns-in-Card-clause-told : goal.returns-in-Card-clause-told
+returns-in-Card-clause-told g c =
+    let at = g.W.Write.contents in
+    subst (λ work. IfOk c.printed.result (λ w. HasCleanDisk (state g.S.Store w.0) → IsTold g.S.Store (g.F.FilesAt.bytes c.args.files.now) c.args.conn work (at c.args.out.now) (at c.printed.new.out) w.1 w.0))
+    (sym c.in-Card.is) c.printed.ensures.told
+
+pub returns-in-Notice-clause-told : goal.returns-in-Notice-clause-told
+returns-in-Notice-clause-told g c =
+    let at = g.W.Write.contents in
+    subst (λ work. IfOk c.printed-in-Notice.result (λ w. HasCleanDisk (state g.S.Store w.0) → IsTold g.S.Store (g.F.FilesAt.bytes c.args.files.now) c.args.conn work (at c.args.out.now) (at c.printed-in-Notice.new.out) w.1 w.0))
+    (sym c.in-Notice.is) c.printed-in-Notice.ensures.told

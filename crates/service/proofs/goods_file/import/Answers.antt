@@ -12,7 +12,7 @@ returns-in_err-tally-clause-imported g c clean first acts history holds =
     let from = g.R.Read.remaining c.args.file in
     let was = g.W.Write.contents c.args.out.now in
     by_fault c.from_residual.result c.in_err-tally.field-0.0 c.from_residual.ensures (λ r. IsImported g.S.Store first acts from r c.take_in.new.books was was)
-    (fault_told_on g.S.Store first acts from c.take_in.new.books c.in_err-tally.field-0.0 was was (c.in_err-tally.ensures.taken clean first acts history holds))
+    (fault_told_on g.S.Store first acts from c.take_in.new.books c.in_err-tally.field-0.0 was (c.in_err-tally.ensures.taken clean first acts history holds))
 
 pub returns-in_err-tell_tally-clause-imported : goal.returns-in_err-tell_tally-clause-imported
 returns-in_err-tell_tally-clause-imported g c clean first acts history holds =
