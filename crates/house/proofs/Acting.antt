@@ -18,7 +18,7 @@ use Rattle.store.specs.Connected.{Connected}
 use Rattle.store.specs.declared.reply.Reply.{Reply}
 use Rattle.store.specs.declared.fault.Fault.{Fault}
 use Rattle.store.specs.declared.fault.Fault.TheVariants.{Refused, Store, Foreign}
-use Rattle.store.specs.Books.{AreRowsOf, KeepsBooks, HoldsBooks, LeavesOnly, MayLeave, IsClean}
+use Rattle.store.specs.Books.{AreBooks, KeepsBooks, HoldsBooks, LeavesOnly, MayLeave, IsClean}
 use Rattle.store.specs.Acting.{IsActed}
 use Rattle.house.specs.Answers.{short_answer, outcome_answer, not_served, is_served, act_answer, acts_with, Delivered, scan_answer, acts_scanned}
 use Rattle.house.specs.Asking.{told_answer, IsDone, IsUndone, scanned_answer, scanned_acts}
@@ -73,7 +73,7 @@ module _ {S : Type 0} (g : Ghosts S) (first : ℤ) (acts : List Act) (old : Conn
     later = subst (IsHistory first) same_acts (history_after first act acts sound history)
 
     done : (bytes : List ℕ) → bytes ≡ outcome_answer (outcome first acts act) → HoldsBooks g first (acts_after first acts act) books
-        → ((trees : Trees) → MayLeave g books trees → AreRowsOf first (acts_with first acts act) trees ⊎ (MayLeave g old trees × (acts_with first acts act ≡ acts)))
+        → ((trees : Trees) → MayLeave g books trees → AreBooks first (acts_with first acts act) trees ⊎ (MayLeave g old trees × (acts_with first acts act ≡ acts)))
         → IsDone g first acts old (act_answer first acts act) (acts_with first acts act) bytes books ⊎ IsUndone g first acts old (acts_with first acts act) bytes books
     done bytes e holds kept =
         inl (record {
@@ -86,25 +86,25 @@ module _ {S : Type 0} (g : Ghosts S) (first : ℤ) (acts : List Act) (old : Conn
     -- a stop leaves what it left before, or the books with the act
     module _ (was : HoldsBooks g first acts old) (clean : IsClean g books)
         (survives : Survives (state g old.conn) (state g books.conn) (λ trees. IsTrue (is_served act) → (first : ℤ) (acts : List Act) → IsHistory first acts → KeepsBooks first acts (state g old.conn)
-        → AreRowsOf first (acts_after first acts act) trees)) where
-      whole_or_none : (trees : Trees) → MayLeave g books trees → MayLeave g old trees ⊎ AreRowsOf first (acts_with first acts act) trees
+        → AreBooks first (acts_after first acts act) trees)) where
+      whole_or_none : (trees : Trees) → MayLeave g books trees → MayLeave g old trees ⊎ AreBooks first (acts_with first acts act) trees
       whole_or_none trees left = elim (survives.crash clean trees left) [
         | inl before ↦ inl before
-        | inr rows ↦ inr (subst (λ a. AreRowsOf first a trees) same_acts (rows yes first acts history was.keeps))
+        | inr rows ↦ inr (subst (λ a. AreBooks first a trees) same_acts (rows yes first acts history was.keeps))
       ]
 
       refused_kept : acts_with first acts act ≡ acts → (trees : Trees) → MayLeave g books trees
-          → AreRowsOf first (acts_with first acts act) trees ⊎ (MayLeave g old trees × (acts_with first acts act ≡ acts))
+          → AreBooks first (acts_with first acts act) trees ⊎ (MayLeave g old trees × (acts_with first acts act ≡ acts))
       refused_kept none trees left = elim (whole_or_none trees left) [ inl before ↦ inr (before, none) | inr rows ↦ inl rows ]
 
-      failed_kept : (trees : Trees) → MayLeave g books trees → MayLeave g old trees ⊎ (IsHistory first (acts_with first acts act) × AreRowsOf first (acts_with first acts act) trees)
+      failed_kept : (trees : Trees) → MayLeave g books trees → MayLeave g old trees ⊎ (IsHistory first (acts_with first acts act) × AreBooks first (acts_with first acts act) trees)
       failed_kept trees left = elim (whole_or_none trees left) [ inl before ↦ inl before | inr rows ↦ inr (later, rows) ]
 
       pub acted : (result : Result Reply Fault) → IsActed g first acts act result books → OnOk result (LeavesOnly first (acts_after first acts act) (state g books.conn))
           → IsDone g first acts old (act_answer first acts act) (acts_with first acts act) (told_answer result) books ⊎ IsUndone g first acts old (acts_with first acts act) (told_answer result) books
       acted (Ok reply) h kept =
           done (short_answer 200 reply.text) (sym (reply_told reply.repeated reply.text) ∙ ap outcome_answer h.0) h.2
-          (λ trees left. inl (subst (λ a. AreRowsOf first a trees) same_acts (kept trees left)))
+          (λ trees left. inl (subst (λ a. AreBooks first a trees) same_acts (kept trees left)))
       acted (Err (Refused why)) h kept =
           let none : acts_after first acts act ≡ acts = ap (appended act acts) (sym h.0) in
           done (short_answer 409 (code_text (refusal_code why))) (ap outcome_answer h.0) (subst (λ a. HoldsBooks g first a books) (sym none) h.1)

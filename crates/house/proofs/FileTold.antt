@@ -23,7 +23,7 @@ use Rattle.store.specs.Connected.{Connected}
 use Rattle.store.specs.declared.tally.Tally.{Tally}
 use Rattle.store.specs.declared.tally.RowFault.{RowFault}
 use Rattle.store.specs.declared.tally.RowFault.TheVariants.{Refused, Store, Foreign}
-use Rattle.store.specs.Books.{AreRowsOf, KeepsBooks, HoldsBooks, LeavesOnly, MayLeave, IsClean}
+use Rattle.store.specs.Books.{AreBooks, KeepsBooks, HoldsBooks, LeavesOnly, MayLeave, IsClean}
 use Rattle.store.specs.Filing.{rows_of, AreKeysOf, IsFiled}
 use Rattle.goodsin.specs.Faults.{file_fault_code}
 use Rattle.house.specs.Answers.{no_memory, cause_answer, file_outcome_answer, file_fault_answer, file_answer, acts_filed}
@@ -85,8 +85,8 @@ module _ {S : Type 0} (g : Ghosts S) (first : ℤ) (acts : List Act) (old : Conn
     -- rows that were acted on
     module _ (rows : List (Key × Command)) (books : Connected S) (clean : IsClean g books) (keys : AreKeysOf rows)
         (survives : Survives (state g old.conn) (state g books.conn) (λ trees. AreKeysOf rows → (first : ℤ) (acts : List Act) → IsHistory first acts → KeepsBooks first acts (state g old.conn)
-        → AreRowsOf first (acts_after_file first acts (rows_of rows)) trees)) where
-      whole_or_none : (trees : Trees) → MayLeave g books trees → MayLeave g old trees ⊎ AreRowsOf first (acts_after_file first acts (rows_of rows)) trees
+        → AreBooks first (acts_after_file first acts (rows_of rows)) trees)) where
+      whole_or_none : (trees : Trees) → MayLeave g books trees → MayLeave g old trees ⊎ AreBooks first (acts_after_file first acts (rows_of rows)) trees
       whole_or_none trees left = elim (survives.crash clean trees left) [ inl before ↦ inl before | inr file ↦ inr (file keys first acts history holds.keeps) ]
 
       pub taken_in : (done : Result Tally RowFault) (bytes : List ℕ) → bytes ≡ told_file_answer done → IsHistory first (acts_after_file first acts (rows_of rows)) → IsFiled g first acts (rows_of rows) done books

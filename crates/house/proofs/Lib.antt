@@ -9,3 +9,4 @@ pub mod FileTold
 pub mod Handing
 pub mod LotWriting
 pub mod LotShown
+pub mod Unanswered

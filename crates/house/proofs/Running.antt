@@ -1,14 +1,16 @@
 -- Runs over texts.
-use Rattle.std.proofs.Common.{◌≡◌, ℕ, ◌+◌, ◌<◌, List, [], ◌∷◌, ◌++◌, length, take, get_or, refl, ap, sym, subst, ◌∙◌, add-one}
+use Rattle.std.proofs.Common.{◌≡◌, ℕ, ◌+◌, ◌<◌, List, [], ◌∷◌, ◌++◌, length, take, get_or, refl, ap, sym, subst, ◌∙◌, add-one, append_assoc}
 use Rattle.std.proofs.Math.Seq.{take-suc}
 use Rattle.std.proofs.lemmas.List.{map-append}
-use Rattle.std.specs.Prelude.{ℤ, map, Vec}
+use Rattle.std.specs.Prelude.{ℤ, map, zip, Vec}
 use Rattle.machine.specs.Acts.{Act}
 use Rattle.machine.specs.Once.{IsHistory}
 use Rattle.sqlite_trees.specs.declared.store.Store.{Ghosts}
+use Rattle.sqlite.specs.Held.{state}
 use Rattle.store.specs.Connected.{Connected}
 use Rattle.store.specs.Books.{HoldsBooks}
-use Rattle.house.specs.House.{Step, Run, StepsTo, RunsTo, texts_of, bytes_of}
+use Rattle.house.specs.House.{Step, Run, StepsTo, RunsTo, LeavesBooks, texts_of, bytes_of}
+use Rattle.house.proofs.Stepping.{leaves_more}
 use Rattle.house.specs.declared.answered.Answered.{Answered}
 
 -- a run, and one step more
@@ -20,13 +22,41 @@ one_more first old (t ∷ texts) [] mid text bytes new run step = absurd run
 one_more first old (t ∷ texts) (a ∷ answers) mid text bytes new run step =
     (run.0, run.1, one_more first run.0 texts answers mid text bytes new run.2 step)
 
+-- as many answers as texts
+pub told_more : (first : ℤ) (old : List Act) (texts answers : List (List ℕ)) (mid : List Act) (text bytes : List ℕ) → Run first old texts answers mid → zip (texts ++ text ∷ []) (answers ++ bytes ∷ []) ≡ zip texts answers ++ (text, bytes) ∷ []
+told_more first old [] [] mid text bytes run = refl
+told_more first old [] (a ∷ answers) mid text bytes run = absurd run
+told_more first old (t ∷ texts) [] mid text bytes run = absurd run
+told_more first old (t ∷ texts) (a ∷ answers) mid text bytes run = ap (λ l. (t, a) ∷ l) (told_more first run.0 texts answers mid text bytes run.2)
+
 -- the same of the books
+pub run_step : {S : Type 0} (g : Ghosts S) (first : ℤ) (acts : List Act) (texts answers : List (List ℕ)) (was mid new : Connected S) (text bytes : List ℕ) → (r : RunsTo g first acts texts answers was mid)
+    → StepsTo g first r.after text bytes mid new → RunsTo g first acts (texts ++ text ∷ []) (answers ++ bytes ∷ []) was new
+run_step g first acts texts answers was mid new text bytes r s = record {
+  after = s.after;
+  run = one_more first acts texts answers r.after text bytes s.after r.run s.step;
+  history = s.history;
+  holds = s.holds;
+  kept = λ told leaves.
+      subst (λ l. LeavesBooks first s.after l (state g new.conn))
+      (append_assoc told (zip texts answers) ((text, bytes) ∷ []) ∙ ap (λ l. told ++ l) (sym (told_more first acts texts answers r.after text bytes r.run)))
+      (s.kept (told ++ zip texts answers) (r.kept told leaves));
+}
+
 pub run_on : {S : Type 0} (g : Ghosts S) (first : ℤ) (acts : List Act) (texts answers : List (List ℕ)) (was mid new : Connected S) (text bytes : List ℕ)
     → RunsTo g first acts texts answers was mid → ((a : List Act) → IsHistory first a → HoldsBooks g first a mid → StepsTo g first a text bytes mid new)
     → RunsTo g first acts (texts ++ text ∷ []) (answers ++ bytes ∷ []) was new
-run_on g first acts texts answers was mid new text bytes r f =
-    let s = f r.after r.history r.holds in
-    record { after = s.after; run = one_more first acts texts answers r.after text bytes s.after r.run s.step; history = s.history; holds = s.holds; kept = λ leaves. s.kept (r.kept leaves) }
+run_on g first acts texts answers was mid new text bytes r f = run_step g first acts texts answers was mid new text bytes r (f r.after r.history r.holds)
+
+-- before the first text
+pub run_none : {S : Type 0} (g : Ghosts S) (first : ℤ) (acts : List Act) (books : Connected S) → IsHistory first acts → HoldsBooks g first acts books → RunsTo g first acts [] [] books books
+run_none g first acts books history holds = record {
+  after = acts;
+  run = refl;
+  history = history;
+  holds = holds;
+  kept = λ told leaves. leaves_more first acts told [] (state g books.conn) leaves;
+}
 
 -- one text more
 pub texts_more : {A : Type 0} (requests : List (Vec ℕ A)) (i : ℕ) (x : Vec ℕ A) → i < length requests → x ≡ get_or requests i x

@@ -40,7 +40,7 @@ use Rattle.house.specs.Laws.{RefusedRequestsChangeNothing, BooksAreNeverForeign}
 
 -- What is not answered 200 changes nothing
 
-ok_status : (text : List ℕ) → status_of (short_answer 200 text) ≡ codes "HTTP/1.1 200"
+pub ok_status : (text : List ℕ) → status_of (short_answer 200 text) ≡ codes "HTTP/1.1 200"
 unfolding head_text digits
 ok_status text = refl
 

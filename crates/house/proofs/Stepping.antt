@@ -1,9 +1,12 @@
 -- What a reading, answered, is as a step.
-use Rattle.std.proofs.Common.{◌≡◌, ◌≢◌, ℕ, List, refl, ap, sym, subst, ◌∙◌, inl, inr, ◌⊎◌}
-use Rattle.std.specs.Prelude.{ℤ, codes}
+use Rattle.std.proofs.Common.{◌≡◌, ◌≢◌, ℕ, List, [], ◌∷◌, ◌++◌, refl, ap, sym, subst, ◌∙◌, inl, inr, ◌⊎◌}
+use Rattle.std.specs.Prelude.{ℤ, Contains, codes}
 use Rattle.std.specs.Fmt.{digits}
+use Rattle.std.proofs.lemmas.List.Elements.{Contains-append_left, Contains-push}
 use Rattle.sqlite_trees.specs.declared.store.Store.{Ghosts}
+use Rattle.sqlite_trees.specs.Tree.{Trees}
 use Rattle.sqlite.specs.Held.{state}
+use Rattle.sqlite.specs.State.{State}
 use Rattle.machine.specs.Acts.{Act}
 use Rattle.machine.specs.Once.{IsHistory}
 use Rattle.requests.specs.Requests.{IsReading}
@@ -15,7 +18,7 @@ use Rattle.requests.specs.declared.fault.WireFault.TheVariants.{Head, Length, Js
 use Rattle.requests.specs.declared.request.Read.{Read}
 use Rattle.requests.specs.declared.request.Read.TheVariants.{Need, Bad, Request}
 use Rattle.store.specs.Connected.{Connected}
-use Rattle.store.specs.Books.{AreRowsOf, HoldsBooks}
+use Rattle.store.specs.Books.{AreBooks, LeavesOnly, HoldsBooks}
 use Rattle.wire.specs.Answers.{head_text, answer_bytes}
 use Rattle.wire.specs.declared.answer.Answer.{Answer}
 use Rattle.wire.specs.declared.answer.Answer.TheVariants.{Order as OrderAnswer, Stock as StockAnswer, Text}
@@ -42,9 +45,28 @@ bad_step first acts text Path h = refused_step first acts text Path (h (λ p. cc
 bad_step first acts text (Method m) h = refused_step first acts text (Method m) (h (λ p. cc))
 bad_step first acts text TooLarge h = refused_step first acts text TooLarge (h (λ p. cc))
 
+-- more was sent and answered
+pub further_more : (first : ℤ) (acts : List Act) (told more : List (List ℕ × List ℕ)) (trees : Trees) → IsOneFurther first acts told trees → IsOneFurther first acts (told ++ more) trees
+further_more first acts told more trees one = record {
+  text = one.text;
+  unanswered = Contains-append_left told more _ one.unanswered;
+  bytes = one.bytes;
+  next = one.next;
+  step = one.step;
+  history = one.history;
+  books = one.books;
+}
+
+pub leaves_more : (first : ℤ) (acts : List Act) (told more : List (List ℕ × List ℕ)) (s : State) → LeavesBooks first acts told s → LeavesBooks first acts (told ++ more) s
+leaves_more first acts told more s leaves trees left = elim (leaves trees left) [ inl books ↦ inl books | inr one ↦ inr (further_more first acts told more trees one) ]
+
+-- before the first text
+pub leaves_none : (first : ℤ) (acts : List Act) (s : State) → LeavesOnly first acts s → LeavesBooks first acts [] s
+leaves_none first acts s leaves trees left = inl (leaves trees left)
+
 module _ {S : Type 0} (g : Ghosts S) (first : ℤ) (acts : List Act) (history : IsHistory first acts) (text : List ℕ) (books : Connected S) where
   stays : (bytes : List ℕ) → Step first acts text bytes acts → HoldsBooks g first acts books → StepsTo g first acts text bytes books books
-  stays bytes step holds = record { after = acts; step = step; history = history; holds = holds; kept = λ leaves. leaves }
+  stays bytes step holds = record { after = acts; step = step; history = history; holds = holds; kept = λ told leaves. leaves_more first acts told ((text, bytes) ∷ []) (state g books.conn) leaves }
 
   needed : (e : WireFault) (bytes : List ℕ) → bytes ≡ fault_answer e → HoldsBooks g first acts books → IsReading text (Need e) → StepsTo g first acts text bytes books books
   needed e bytes is holds read = stays bytes (subst (λ b. Step first acts text b acts) (sym is) (needed_step first acts text e read)) holds
@@ -58,16 +80,26 @@ module _ {S : Type 0} (g : Ghosts S) (first : ℤ) (acts : List Act) (history : 
   told_fault reading e bytes is holds read (inr b) = bad e bytes is holds (λ ne. subst (IsReading text) b (read (λ p. ne (sym b ∙ p))))
 
   -- what a stop leaves after what was done, and after what was not
-  kept_done : (old : Connected S) (wanted : List ℕ) (next : List Act) (bytes : List ℕ) → IsDone g first acts old wanted next bytes books → LeavesBooks first acts (state g old.conn) → LeavesBooks first next (state g books.conn)
-  kept_done old wanted next bytes d leaves trees left = elim (d.kept trees left) [
-    | inl rows ↦ inl rows
-    | inr h ↦ subst (λ a. AreRowsOf first a trees ⊎ IsOneFurther first a trees) (sym h.1) (leaves trees h.0)
+  kept_done : (old : Connected S) (wanted : List ℕ) (next : List Act) (bytes : List ℕ) → IsDone g first acts old wanted next bytes books → (told : List (List ℕ × List ℕ)) → LeavesBooks first acts told (state g old.conn)
+      → LeavesBooks first next (told ++ (text, bytes) ∷ []) (state g books.conn)
+  kept_done old wanted next bytes d told leaves trees left = elim (d.kept trees left) [
+    | inl books ↦ inl books
+    | inr h ↦ subst (λ a. AreBooks first a trees ⊎ IsOneFurther first a (told ++ (text, bytes) ∷ []) trees) (sym h.1) (leaves_more first acts told ((text, bytes) ∷ []) (state g old.conn) leaves trees h.0)
   ]
 
-  kept_undone : (old : Connected S) (bytes wanted : List ℕ) (next : List Act) → Step first acts text wanted next → IsUndone g first acts old next bytes books → LeavesBooks first acts (state g old.conn) → LeavesBooks first acts (state g books.conn)
-  kept_undone old bytes wanted next step u leaves trees left = elim (u.kept trees left) [
-    | inl before ↦ leaves trees before
-    | inr h ↦ inr (record { text = text; bytes = wanted; next = next; step = step; history = h.0; rows = h.1 })
+  kept_undone : (old : Connected S) (bytes wanted : List ℕ) (next : List Act) → Step first acts text wanted next → IsUndone g first acts old next bytes books → (told : List (List ℕ × List ℕ)) → LeavesBooks first acts told (state g old.conn)
+      → LeavesBooks first acts (told ++ (text, bytes) ∷ []) (state g books.conn)
+  kept_undone old bytes wanted next step u told leaves trees left = elim (u.kept trees left) [
+    | inl before ↦ leaves_more first acts told ((text, bytes) ∷ []) (state g old.conn) leaves trees before
+    | inr h ↦ inr (record {
+      text = text;
+      unanswered = subst (λ b. Contains (told ++ (text, bytes) ∷ []) (text, b)) u.answer (Contains-push told (text, bytes));
+      bytes = wanted;
+      next = next;
+      step = step;
+      history = h.0;
+      books = h.1;
+    })
   ]
 
   pub asked : (old : Connected S) (ask : Ask) (bytes : List ℕ) → IsReading text (Request ask)

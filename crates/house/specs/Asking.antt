@@ -20,7 +20,7 @@ use Rattle.store.specs.declared.tally.RowFault.{RowFault}
 use Rattle.store.specs.declared.tally.RowFault.TheVariants as row
 use Rattle.store.specs.declared.fault.Fault.{Fault}
 use Rattle.store.specs.declared.fault.Fault.TheVariants.{Refused, Store, Foreign}
-use Rattle.store.specs.Books.{AreRowsOf, HoldsBooks, MayLeave}
+use Rattle.store.specs.Books.{AreBooks, HoldsBooks, MayLeave}
 use Rattle.house.specs.Answers.{short_answer, no_memory, foreign_books, tally_answer, row_conflict, Delivered, scan_answer, acts_scanned}
 
 abbrev pub act_of : Key → Command → Act
@@ -71,14 +71,14 @@ pub record IsDone {S : Type 0} (g : Ghosts S) (first : ℤ) (acts : List Act) (o
   pub history : IsHistory first next
   pub holds : HoldsBooks g first next books
   -- a stop leaves what is done; where nothing was to be done, it may leave what it left before
-  pub kept : (trees : Trees) → MayLeave g books trees → AreRowsOf first next trees ⊎ (MayLeave g old trees × (next ≡ acts))
+  pub kept : (trees : Trees) → MayLeave g books trees → AreBooks first next trees ⊎ (MayLeave g old trees × (next ≡ acts))
 
 -- there was no memory, and nothing is done
 pub record IsUndone {S : Type 0} (g : Ghosts S) (first : ℤ) (acts : List Act) (old : Connected S) (next : List Act) (bytes : List ℕ) (books : Connected S) : Type 0 where
   pub answer : bytes ≡ no_memory
   pub holds : HoldsBooks g first acts books
   -- a stop leaves what it left before; where the disk has shut the connection, it may leave the whole of what was asked
-  pub kept : (trees : Trees) → MayLeave g books trees → MayLeave g old trees ⊎ (IsHistory first next × AreRowsOf first next trees)
+  pub kept : (trees : Trees) → MayLeave g books trees → MayLeave g old trees ⊎ (IsHistory first next × AreBooks first next trees)
 
 -- the books of the acts do what is wanted, or find no memory
 abbrev pub Does : {S : Type 0} → Ghosts S → ℤ → List Act → Connected S → List ℕ → List Act → List ℕ → Connected S → Type 0

@@ -1,5 +1,5 @@
 -- The machine over texts: a step, a run, and the house whose books are those of the acts.
-use Rattle.std.specs.Prelude.{◌≡◌, ◌⊎◌, ℕ, List, [], ◌∷◌, map, codes, Vec, ℤ}
+use Rattle.std.specs.Prelude.{◌≡◌, ◌⊎◌, ℕ, List, [], ◌∷◌, ◌++◌, zip, Contains, map, codes, Vec, ℤ}
 use Rattle.sqlite_trees.specs.declared.store.Store.{Ghosts}
 use Rattle.sqlite_trees.specs.Tree.{Trees}
 use Rattle.sqlite.specs.Held.{state}
@@ -13,7 +13,7 @@ use Rattle.requests.specs.declared.ask.Query.{Query}
 use Rattle.requests.specs.declared.request.Read.{Read}
 use Rattle.requests.specs.declared.request.Read.TheVariants.{Request}
 use Rattle.store.specs.Connected.{Connected}
-use Rattle.store.specs.Books.{AreRowsOf, HoldsBooks}
+use Rattle.store.specs.Books.{AreBooks, HoldsBooks}
 use Rattle.house.specs.Answers.{answer_of, acts_of, no_memory, status_of}
 use Rattle.house.specs.declared.answered.Answered.{Answered}
 use Rattle.house.specs.declared.answered.Answered.TheVariants.{Short, Long}
@@ -55,18 +55,19 @@ bytes_of (Long bytes) = bytes.items
 abbrev pub texts_of : {A : Type 0} → List (Vec ℕ A) → List (List ℕ)
 texts_of requests = map (λ t. t.items) requests
 
--- the tables are those after one request more
-pub record IsOneFurther (first : ℤ) (acts : List Act) (trees : Trees) : Type 0 where
+-- the books are those after one request more: one of those that were told 503 W90, among the texts so far and their answers
+pub record IsOneFurther (first : ℤ) (acts : List Act) (told : List (List ℕ × List ℕ)) (trees : Trees) : Type 0 where
   pub text : List ℕ
+  pub unanswered : Contains told (text, no_memory)
   pub bytes : List ℕ
   pub next : List Act
   pub step : Step first acts text bytes next
   pub history : IsHistory first next
-  pub rows : AreRowsOf first next trees
+  pub books : AreBooks first next trees
 
 -- whatever a stop leaves has all the acts, and at most one request more, on which the disk failed
-abbrev pub LeavesBooks : ℤ → List Act → State → Type 0
-LeavesBooks first acts s = (trees : Trees) → s.may_leave trees → AreRowsOf first acts trees ⊎ IsOneFurther first acts trees
+abbrev pub LeavesBooks : ℤ → List Act → List (List ℕ × List ℕ) → State → Type 0
+LeavesBooks first acts told s = (trees : Trees) → s.may_leave trees → AreBooks first acts trees ⊎ IsOneFurther first acts told trees
 
 -- the books are those of the acts after one step
 pub record StepsTo {S : Type 0} (g : Ghosts S) (first : ℤ) (old : List Act) (text bytes : List ℕ) (was books : Connected S) : Type 0 where
@@ -75,7 +76,7 @@ pub record StepsTo {S : Type 0} (g : Ghosts S) (first : ℤ) (old : List Act) (t
   pub history : IsHistory first after
   pub holds : HoldsBooks g first after books
   -- what was answered is kept
-  pub kept : LeavesBooks first old (state g was.conn) → LeavesBooks first after (state g books.conn)
+  pub kept : (told : List (List ℕ × List ℕ)) → LeavesBooks first old told (state g was.conn) → LeavesBooks first after (told ++ (text, bytes) ∷ []) (state g books.conn)
 
 -- the books are those of the acts after a run
 pub record RunsTo {S : Type 0} (g : Ghosts S) (first : ℤ) (old : List Act) (texts answers : List (List ℕ)) (was books : Connected S) : Type 0 where
@@ -84,7 +85,7 @@ pub record RunsTo {S : Type 0} (g : Ghosts S) (first : ℤ) (old : List Act) (te
   pub history : IsHistory first after
   pub holds : HoldsBooks g first after books
   -- what was answered is kept, also over a connection that the disk has shut meanwhile
-  pub kept : LeavesBooks first old (state g was.conn) → LeavesBooks first after (state g books.conn)
+  pub kept : (told : List (List ℕ × List ℕ)) → LeavesBooks first old told (state g was.conn) → LeavesBooks first after (told ++ zip texts answers) (state g books.conn)
 
 -- only an answer of status 200 is not written in place
 abbrev pub IsLongIfOk : Answered → Type 0

@@ -1,10 +1,10 @@
 //! What is asked of the books, and the answer to it.
 
-ghost use Rattle.std.specs.Prelude.{◌≡◌, ℤ, List, Err};
+ghost use Rattle.std.specs.Prelude.{◌≡◌, ◌≢◌, ℤ, List, Err, codes};
 ghost use Rattle.machine.specs.Acts.{Act};
 ghost use Rattle.machine.specs.Once.{IsHistory};
-ghost use Rattle.store.specs.Books.{IsClean};
-ghost use Rattle.house.specs.Answers.{is_served as is_served_lem, act_answer, acts_with};
+ghost use Rattle.store.specs.Books.{IsClean, AreAsBefore};
+ghost use Rattle.house.specs.Answers.{is_served as is_served_lem, act_answer, acts_with, status_of};
 ghost use Rattle.house.specs.Asking.{Does, told_answer, act_of, delivered, scanned_answer, scanned_acts};
 
 use commands::laws::{every_command_is_sound, every_key_is_sound};
@@ -56,6 +56,7 @@ pub(crate) fn act<S: Alter>(books: &mut Books<S>, key: &Key, command: &Command) 
     ensures clean { IsClean S.Store books.new → IsClean S.Store books.old }
     ensures acted { IsClean S.Store books.new → (first : ℤ) (acts : List Act) → IsHistory first acts
         → Does S.Store first acts books.old (act_answer first acts (act_of key.now command.now)) (acts_with first acts (act_of key.now command.now)) result books.new }
+    ensures as_before { IsClean S.Store books.new → status_of result ≢ codes "HTTP/1.1 200" → AreAsBefore S.Store books.old books.new }
 {
     every_command_is_sound(command);
     every_key_is_sound(*key);
@@ -77,6 +78,7 @@ pub(crate) fn scan<S: Alter>(
     ensures clean { IsClean S.Store books.new → IsClean S.Store books.old }
     ensures acted { IsClean S.Store books.new → (first : ℤ) (acts : List Act) → IsHistory first acts
         → Does S.Store first acts books.old (scanned_answer first acts (delivered delivery line bin qty) label.now) (scanned_acts first acts (delivered delivery line bin qty) label.now) result books.new }
+    ensures as_before { IsClean S.Store books.new → status_of result ≢ codes "HTTP/1.1 200" → AreAsBefore S.Store books.old books.new }
 {
     let today = books.day();
     match read(label, today) {

@@ -1,12 +1,12 @@
 //! A goods-in file, taken in.
 
-ghost use Rattle.std.specs.Prelude.{◌≡◌, ℤ, List, Err};
+ghost use Rattle.std.specs.Prelude.{◌≡◌, ◌≢◌, ℤ, List, Err, codes};
 ghost use Rattle.machine.specs.Acts.{Act};
 ghost use Rattle.machine.specs.Once.{IsHistory};
 ghost use Rattle.machine.specs.Standing.{today};
 ghost use Rattle.goodsin.specs.Files.{file_read};
-ghost use Rattle.store.specs.Books.{IsClean};
-ghost use Rattle.house.specs.Answers.{file_answer, acts_filed, file_fault_answer};
+ghost use Rattle.store.specs.Books.{IsClean, AreAsBefore};
+ghost use Rattle.house.specs.Answers.{file_answer, acts_filed, file_fault_answer, status_of};
 ghost use Rattle.house.specs.Asking.{Does, told_file_answer};
 
 use goodsin::{FileFault, read_file};
@@ -24,6 +24,7 @@ pub(crate) fn take_in<S: Alter>(alloc: Global, books: &mut Books<S>, file: &[u8]
     ensures clean { IsClean S.Store books.new → IsClean S.Store books.old }
     ensures acted { IsClean S.Store books.new → (first : ℤ) (acts : List Act) → IsHistory first acts
         → Does S.Store first acts books.old (file_answer first acts (file_read (today first acts) file.now)) (acts_filed first acts (file_read (today first acts) file.now)) result books.new }
+    ensures as_before { IsClean S.Store books.new → status_of result ≢ codes "HTTP/1.1 200" → AreAsBefore S.Store books.old books.new }
 {
     let today = books.day();
     match read_file(alloc, file, today) {

@@ -1,11 +1,11 @@
 //! The house: books, and the answers to texts.
 
-ghost use Rattle.std.specs.Prelude.{◌≡◌, ◌≢◌, ℕ, ℤ, List, map, IfOk, OnErr};
+ghost use Rattle.std.specs.Prelude.{◌≡◌, ◌≢◌, ℕ, ℤ, List, All, map, codes, IfOk, OnErr};
 ghost use Rattle.machine.specs.Acts.{Act};
 ghost use Rattle.machine.specs.Once.{IsHistory};
 ghost use Rattle.requests.specs.Requests.{IsReading};
-ghost use Rattle.store.specs.Books.{IsClean, HoldsBooks};
-ghost use Rattle.house.specs.Answers.{ask_answer, acts_asked, no_memory};
+ghost use Rattle.store.specs.Books.{IsClean, HoldsBooks, AreAsBefore};
+ghost use Rattle.house.specs.Answers.{ask_answer, acts_asked, no_memory, status_of};
 ghost use Rattle.house.specs.Asking.{Does};
 ghost use Rattle.house.specs.House.{books_of, bytes_of, texts_of, StepsTo, RunsTo, IsInPlace, IsAskedInPlace};
 
@@ -61,6 +61,7 @@ impl<S: Alter> House<S> {
         ensures step { IsClean S.Store (books_of self.new)
             → (first : ℤ) (acts : List Act) → IsHistory first acts → HoldsBooks S.Store first acts (books_of self.old)
             → StepsTo S.Store first acts request.now (bytes_of result) (books_of self.old) (books_of self.new) }
+        ensures as_before { IsClean S.Store (books_of self.new) → status_of (bytes_of result) ≢ codes "HTTP/1.1 200" → AreAsBefore S.Store (books_of self.old) (books_of self.new) }
         ensures in_place { IsInPlace request.now result }
     {
         let reading = read_request(self.alloc, &mut self.routes, request);
@@ -73,6 +74,8 @@ impl<S: Alter> House<S> {
         ensures run { IsClean S.Store (books_of self.new)
             → (first : ℤ) (acts : List Act) → IsHistory first acts → HoldsBooks S.Store first acts (books_of self.old)
             → IfOk result (λ answers. RunsTo S.Store first acts (texts_of requests.now) (map bytes_of answers.items) (books_of self.old) (books_of self.new)) }
+        ensures as_before { IsClean S.Store (books_of self.new)
+            → IfOk result (λ answers. All (λ answer. status_of (bytes_of answer) ≢ codes "HTTP/1.1 200") answers.items → AreAsBefore S.Store (books_of self.old) (books_of self.new)) }
         ensures untouched { OnErr result (books_of self.new ≡ books_of self.old) }
     {
         let mut answers = Vec::with_capacity(self.alloc, requests.len())?;
@@ -90,6 +93,7 @@ impl<S: Alter> House<S> {
             → (first : ℤ) (acts : List Act) → IsHistory first acts → HoldsBooks S.Store first acts (books_of self.old)
             → (text : List ℕ) → (reading.now ≢ Read.Bad WireFault.Memory → IsReading text reading.now)
             → StepsTo S.Store first acts text (bytes_of result) (books_of self.old) (books_of self.new) }
+        ensures as_before { IsClean S.Store (books_of self.new) → status_of (bytes_of result) ≢ codes "HTTP/1.1 200" → AreAsBefore S.Store (books_of self.old) (books_of self.new) }
         ensures in_place { (text : List ℕ) → (reading.now ≢ Read.Bad WireFault.Memory → IsReading text reading.now)
             → IsInPlace text result }
         ensures memory { reading.now ≡ Read.Bad WireFault.Memory → bytes_of result ≡ no_memory }
@@ -107,6 +111,7 @@ fn answer_ask<S: Alter>(alloc: Global, books: &mut Books<S>, ask: &Ask) -> Answe
     ensures clean { IsClean S.Store books.new → IsClean S.Store books.old }
     ensures done { IsClean S.Store books.new → (first : ℤ) (acts : List Act) → IsHistory first acts
         → Does S.Store first acts books.old (ask_answer first acts ask.now) (acts_asked first acts ask.now) (bytes_of result) books.new }
+    ensures as_before { IsClean S.Store books.new → status_of (bytes_of result) ≢ codes "HTTP/1.1 200" → AreAsBefore S.Store books.old books.new }
     ensures in_place { IsAskedInPlace ask.now result }
 {
     match ask {

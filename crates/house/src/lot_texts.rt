@@ -9,7 +9,7 @@ ghost use Rattle.machine.specs.Queries.{card_shown, notice_shown};
 ghost use Rattle.machine.specs.Views.{card_of_lot, bins_of_lot, shipments_of_lot};
 ghost use Rattle.texts.specs.Card.{card_text, card_line, card_end};
 ghost use Rattle.texts.specs.Notice.{notice_text, bin_line, shipment_line, notice_end};
-ghost use Rattle.store.specs.Books.{IsClean, HoldsBooks};
+ghost use Rattle.store.specs.Books.{IsClean, HoldsBooks, AreAsBefore};
 ghost use Rattle.house.specs.LotTexts.{card_from, notice_from, Puts, Tells, stopped_at};
 
 use commands::ItemRow;
@@ -29,6 +29,7 @@ pub fn write_card<S: Alter, W: Write>(
     out: W,
 ) -> (W, Result<(), EachFault>)
     ensures clean { IsClean S.Store books.new → IsClean S.Store books.old }
+    ensures as_before { IsClean S.Store books.new → AreAsBefore S.Store books.old books.new }
     ensures told { IsClean S.Store books.new → (first : ℤ) (acts : List Act) → IsHistory first acts → HoldsBooks S.Store first acts books.old
         → Tells S.Store first acts card_text (card_shown first acts lot.now) books.old books.new (W.contents out) (W.contents result.0) result.1 }
 {
@@ -46,6 +47,7 @@ fn put_card<S: Alter, W: Write>(
     out: W,
 ) -> (W, Result<(), EachFault>)
     ensures clean { IsClean S.Store books.new → IsClean S.Store books.old }
+    ensures as_before { IsClean S.Store books.new → AreAsBefore S.Store books.old books.new }
     ensures put { IsClean S.Store books.new → (first : ℤ) (acts : List Act) → IsHistory first acts → HoldsBooks S.Store first acts books.old
         → Puts S.Store first acts (card_text (card_from first acts lot.now item.now expiry)) books.old books.new (W.contents out) (W.contents result.0) result.1 }
 {
@@ -64,6 +66,7 @@ fn put_card_rest<S: Alter, W: Write>(
     out: W,
 ) -> (W, Result<(), EachFault>)
     ensures clean { IsClean S.Store books.new → IsClean S.Store books.old }
+    ensures as_before { IsClean S.Store books.new → AreAsBefore S.Store books.old books.new }
     ensures put { IsClean S.Store books.new → (first : ℤ) (acts : List Act) → IsHistory first acts → HoldsBooks S.Store first acts books.old
         → Puts S.Store first acts (flat_map card_line (card_of_lot first acts lot.now) ++ card_end (rest_after text (card_of_lot first acts lot.now))) books.old books.new
         (W.contents out) (W.contents result.0) result.1 }
@@ -85,6 +88,7 @@ fn put_card_lines<S: Alter, W: Write>(
     out: W,
 ) -> (W, Result<CardText, EachFault>)
     ensures clean { IsClean S.Store books.new → IsClean S.Store books.old }
+    ensures as_before { IsClean S.Store books.new → AreAsBefore S.Store books.old books.new }
     ensures put { IsClean S.Store books.new → (first : ℤ) (acts : List Act) → IsHistory first acts → HoldsBooks S.Store first acts books.old
         → Puts S.Store first acts (flat_map card_line (card_of_lot first acts lot.now)) books.old books.new (W.contents out) (W.contents result.0) result.1 }
     ensures rest { IsClean S.Store books.new → (first : ℤ) (acts : List Act) → IsHistory first acts → HoldsBooks S.Store first acts books.old
@@ -108,6 +112,7 @@ pub fn write_notice<S: Alter, W: Write>(
     out: W,
 ) -> (W, Result<(), EachFault>)
     ensures clean { IsClean S.Store books.new → IsClean S.Store books.old }
+    ensures as_before { IsClean S.Store books.new → AreAsBefore S.Store books.old books.new }
     ensures told { IsClean S.Store books.new → (first : ℤ) (acts : List Act) → IsHistory first acts → HoldsBooks S.Store first acts books.old
         → Tells S.Store first acts notice_text (notice_shown first acts lot.now) books.old books.new (W.contents out) (W.contents result.0) result.1 }
 {
@@ -125,6 +130,7 @@ fn put_notice<S: Alter, W: Write>(
     out: W,
 ) -> (W, Result<(), EachFault>)
     ensures clean { IsClean S.Store books.new → IsClean S.Store books.old }
+    ensures as_before { IsClean S.Store books.new → AreAsBefore S.Store books.old books.new }
     ensures put { IsClean S.Store books.new → (first : ℤ) (acts : List Act) → IsHistory first acts → HoldsBooks S.Store first acts books.old
         → Puts S.Store first acts (notice_text (notice_from first acts lot.now item.now expiry)) books.old books.new (W.contents out) (W.contents result.0) result.1 }
 {
@@ -143,6 +149,7 @@ fn put_notice_rest<S: Alter, W: Write>(
     out: W,
 ) -> (W, Result<(), EachFault>)
     ensures clean { IsClean S.Store books.new → IsClean S.Store books.old }
+    ensures as_before { IsClean S.Store books.new → AreAsBefore S.Store books.old books.new }
     ensures put { IsClean S.Store books.new → (first : ℤ) (acts : List Act) → IsHistory first acts → HoldsBooks S.Store first acts books.old
         → Puts S.Store first acts (flat_map bin_line (bins_of_lot first acts lot.now) ++ (flat_map shipment_line (shipments_of_lot first acts lot.now)
         ++ notice_end (text.in_bins + total (λ u. u.qty) (bins_of_lot first acts lot.now)) (text.shipped + total (λ s. s.qty) (shipments_of_lot first acts lot.now)))) books.old books.new
@@ -163,6 +170,7 @@ fn put_notice_tail<S: Alter, W: Write>(
     out: W,
 ) -> (W, Result<(), EachFault>)
     ensures clean { IsClean S.Store books.new → IsClean S.Store books.old }
+    ensures as_before { IsClean S.Store books.new → AreAsBefore S.Store books.old books.new }
     ensures put { IsClean S.Store books.new → (first : ℤ) (acts : List Act) → IsHistory first acts → HoldsBooks S.Store first acts books.old
         → Puts S.Store first acts (flat_map shipment_line (shipments_of_lot first acts lot.now) ++ notice_end text.in_bins (text.shipped + total (λ s. s.qty) (shipments_of_lot first acts lot.now))) books.old books.new
         (W.contents out) (W.contents result.0) result.1 }
@@ -184,6 +192,7 @@ fn put_bins<S: Alter, W: Write>(
     out: W,
 ) -> (W, Result<NoticeText, EachFault>)
     ensures clean { IsClean S.Store books.new → IsClean S.Store books.old }
+    ensures as_before { IsClean S.Store books.new → AreAsBefore S.Store books.old books.new }
     ensures put { IsClean S.Store books.new → (first : ℤ) (acts : List Act) → IsHistory first acts → HoldsBooks S.Store first acts books.old
         → Puts S.Store first acts (flat_map bin_line (bins_of_lot first acts lot.now)) books.old books.new (W.contents out) (W.contents result.0) result.1 }
     ensures counted { IsClean S.Store books.new → (first : ℤ) (acts : List Act) → IsHistory first acts → HoldsBooks S.Store first acts books.old
@@ -205,6 +214,7 @@ fn put_shipments<S: Alter, W: Write>(
     out: W,
 ) -> (W, Result<NoticeText, EachFault>)
     ensures clean { IsClean S.Store books.new → IsClean S.Store books.old }
+    ensures as_before { IsClean S.Store books.new → AreAsBefore S.Store books.old books.new }
     ensures put { IsClean S.Store books.new → (first : ℤ) (acts : List Act) → IsHistory first acts → HoldsBooks S.Store first acts books.old
         → Puts S.Store first acts (flat_map shipment_line (shipments_of_lot first acts lot.now)) books.old books.new (W.contents out) (W.contents result.0) result.1 }
     ensures counted { IsClean S.Store books.new → (first : ℤ) (acts : List Act) → IsHistory first acts → HoldsBooks S.Store first acts books.old

@@ -1,10 +1,11 @@
 //! One request from a reader, and its answer to a writer.
 
-ghost use Rattle.std.specs.Prelude.{◌≡◌, ◌≢◌, ℤ, List, Result, Err};
+ghost use Rattle.std.specs.Prelude.{◌≡◌, ◌≢◌, ℕ, ℤ, List, Result, Err, codes};
 ghost use Rattle.machine.specs.Acts.{Act};
 ghost use Rattle.machine.specs.Once.{IsHistory};
 ghost use Rattle.texts.specs.Writing.{Writes};
-ghost use Rattle.store.specs.Books.{IsClean, HoldsBooks};
+ghost use Rattle.store.specs.Books.{IsClean, HoldsBooks, AreAsBefore};
+ghost use Rattle.house.specs.Answers.{status_of};
 ghost use Rattle.house.specs.House.{books_of};
 ghost use Rattle.house.specs.Serving.{IsServed};
 
@@ -29,6 +30,8 @@ impl<S: Alter> House<S> {
             → (first : ℤ) (acts : List Act) → IsHistory first acts → HoldsBooks S.Store first acts (books_of self.old)
             → result ≢ Err ServeFault.Read
             → IsServed S.Store first acts (R.remaining reader.old) (R.remaining reader.new) (books_of self.old) (books_of self.new) (Writes result (W.contents writer.old) (W.contents writer.new)) }
+        ensures as_before { IsClean S.Store (books_of self.new) → result ≢ Err ServeFault.Read
+            → (bytes : List ℕ) × Writes result (W.contents writer.old) (W.contents writer.new) bytes × (status_of bytes ≢ codes "HTTP/1.1 200" → AreAsBefore S.Store (books_of self.old) (books_of self.new)) }
         ensures unread { result ≡ Err ServeFault.Read → (books_of self.new ≡ books_of self.old) × (writer.new ≡ writer.old) }
     {
         let reading = read_whole(self.alloc, &mut self.routes, reader)?;

@@ -4,7 +4,7 @@ ghost use Rattle.std.specs.Prelude.{◌≡◌, ◌⊎◌, ℤ, List};
 ghost use Rattle.machine.specs.Acts.{Act};
 ghost use Rattle.machine.specs.Once.{IsHistory};
 ghost use Rattle.wire.specs.Answers.{answer_bytes};
-ghost use Rattle.store.specs.Books.{IsClean};
+ghost use Rattle.store.specs.Books.{IsClean, AreAsBefore};
 ghost use Rattle.texts.specs.PickList.{pick_list_text};
 ghost use Rattle.texts.specs.Shortages.{shortages_text};
 ghost use Rattle.house.specs.Answers.{order_answer, stock_answer, pick_list_answer, shortages_answer, card_answer, notice_answer, no_memory};
@@ -30,6 +30,7 @@ pub(crate) fn show_order<S: Alter>(alloc: Global, books: &mut Books<S>, order: &
     ensures clean { IsClean S.Store books.new → IsClean S.Store books.old }
     ensures shown { IsClean S.Store books.new → (first : ℤ) (acts : List Act) → IsHistory first acts
         → Does S.Store first acts books.old (order_answer first acts order.now) acts (bytes_of result) books.new }
+    ensures as_before { IsClean S.Store books.new → AreAsBefore S.Store books.old books.new }
     ensures in_place { IsLongIfOk result }
 {
     match books.order_rows(order) {
@@ -43,6 +44,7 @@ pub(crate) fn show_stock<S: Alter>(alloc: Global, books: &mut Books<S>, gtin: &G
     ensures clean { IsClean S.Store books.new → IsClean S.Store books.old }
     ensures shown { IsClean S.Store books.new → (first : ℤ) (acts : List Act) → IsHistory first acts
         → Does S.Store first acts books.old (stock_answer first acts gtin.now) acts (bytes_of result) books.new }
+    ensures as_before { IsClean S.Store books.new → AreAsBefore S.Store books.old books.new }
     ensures in_place { IsLongIfOk result }
 {
     match books.stock(gtin) {
@@ -60,6 +62,7 @@ pub(crate) fn show_pick_list<S: Alter>(
     ensures clean { IsClean S.Store books.new → IsClean S.Store books.old }
     ensures shown { IsClean S.Store books.new → (first : ℤ) (acts : List Act) → IsHistory first acts
         → Does S.Store first acts books.old (pick_list_answer first acts order.now) acts (bytes_of result) books.new }
+    ensures as_before { IsClean S.Store books.new → AreAsBefore S.Store books.old books.new }
     ensures in_place { IsLongIfOk result }
 {
     match books.order_rows(order) {
@@ -73,6 +76,7 @@ pub(crate) fn show_shortages<S: Alter>(alloc: Global, books: &mut Books<S>, gtin
     ensures clean { IsClean S.Store books.new → IsClean S.Store books.old }
     ensures shown { IsClean S.Store books.new → (first : ℤ) (acts : List Act) → IsHistory first acts
         → Does S.Store first acts books.old (shortages_answer first acts gtin.now) acts (bytes_of result) books.new }
+    ensures as_before { IsClean S.Store books.new → AreAsBefore S.Store books.old books.new }
     ensures in_place { IsLongIfOk result }
 {
     match books.short_rows(gtin) {
@@ -86,6 +90,7 @@ pub(crate) fn show_card<S: Alter>(alloc: Global, books: &mut Books<S>, lot: &Lot
     ensures clean { IsClean S.Store books.new → IsClean S.Store books.old }
     ensures shown { IsClean S.Store books.new → (first : ℤ) (acts : List Act) → IsHistory first acts
         → Does S.Store first acts books.old (card_answer first acts lot.now) acts (bytes_of result) books.new }
+    ensures as_before { IsClean S.Store books.new → AreAsBefore S.Store books.old books.new }
     ensures in_place { IsLongIfOk result }
 {
     let (text, end) = write_card(books, lot, Vec::new(alloc));
@@ -97,6 +102,7 @@ pub(crate) fn show_notice<S: Alter>(alloc: Global, books: &mut Books<S>, lot: &L
     ensures clean { IsClean S.Store books.new → IsClean S.Store books.old }
     ensures shown { IsClean S.Store books.new → (first : ℤ) (acts : List Act) → IsHistory first acts
         → Does S.Store first acts books.old (notice_answer first acts lot.now) acts (bytes_of result) books.new }
+    ensures as_before { IsClean S.Store books.new → AreAsBefore S.Store books.old books.new }
     ensures in_place { IsLongIfOk result }
 {
     let (text, end) = write_notice(books, lot, Vec::new(alloc));

@@ -1,5 +1,5 @@
 -- An act within a transaction, and then the transaction's end.
-use Rattle.std.proofs.Common.{◌≡◌, inl, inr, true, false, List, Ok, Err, Result, OnErr, refl, sym, ap, subst, ◌∙◌, IsTrue, arith}
+use Rattle.std.proofs.Common.{◌≡◌, inl, inr, true, false, List, Ok, Err, Result, refl, sym, ap, subst, ◌∙◌, IsTrue, arith}
 use Rattle.std.specs.Prelude.{ℤ}
 use Rattle.std.specs.Result.{IsErr, IsErrAnd}
 use Rattle.sqlite.specs.State.{State, HasCleanDisk, Shows, KeepsCommit, IsRolledBack, Survives}
@@ -11,14 +11,15 @@ use Rattle.sqlite.specs.Store.{Ghosts}
 use Rattle.sqlite.specs.Held.{Held, state}
 use Rattle.sqlite.specs.declared.error.Error.{Error}
 use Rattle.table_words.specs.Steps.{IsReady}
-use Rattle.table_words.proofs.CallLemmas.{put_back, inside_then, kept_undone, kept_unchanged, kept_then, on_err}
+use Rattle.table_words.proofs.CallLemmas.{put_back, inside_then, kept_undone, kept_unchanged}
+use Rattle.tables.proofs.OpenLemmas.{ready_tells}
 use Rattle.machine.specs.Acts.{Act}
 use Rattle.machine.specs.Once.{IsHistory, is_key_of, acts_after}
 use Rattle.store.specs.declared.reply.Reply.{Reply}
 use Rattle.store.specs.declared.fault.Fault.{Fault}
 use Rattle.store.specs.declared.fault.Fault.TheVariants.{Refused, Store, Foreign}
-use Rattle.slices.specs.Books.{AreRowsOf, IsBooksOf}
-use Rattle.store.specs.Books.{KeepsBooks, LeavesOnly}
+use Rattle.slices.specs.Books.{IsBooksOf}
+use Rattle.store.specs.Books.{AreBooks, KeepsBooks, LeavesOnly}
 use Rattle.store.specs.Acting.{IsActedOn, IsActedInside}
 use Rattle.store.proofs.FaultsTold.{by_error}
 
@@ -29,9 +30,9 @@ module _ (first : ℤ) (acts : List Act) (old begun : State) (is : begun ≡ rec
   pub books_begun : IsTrue begun.is_open → IsBooksOf first acts begun.now
   books_begun up = subst (IsBooksOf first acts) (sym (ap (λ (s : State). s.now) is)) (held.books (was_open up))
 
-  -- rows of the acts after, once the act is done
-  rows_after : (act : Act) (reply : Reply) (last : State) → IsActedInside first acts act (Ok reply) begun last → AreRowsOf first (acts_after first acts act) last.now.trees
-  rows_after act reply last done = record { tables = done.2.tables; typed = done.2.typed (books_begun done.1).rows.typed }
+  -- the books of the acts after, once the act is done
+  books_after : (act : Act) (reply : Reply) (last : State) → IsActedInside first acts act (Ok reply) begun last → IsBooksOf first (acts_after first acts act) last.now
+  books_after act reply last done = record { ready = done.2.ready; rows = record { tables = done.2.tables; typed = done.2.typed (books_begun done.1).rows.typed } }
 
   -- it is committed
   acted_whole : (act : Act) (reply : Reply) (last new : State) → IsActedInside first acts act (Ok reply) begun last → Shows last new last.now last.now false → IsActedOn first acts act (Ok reply) new
@@ -39,7 +40,7 @@ module _ (first : ℤ) (acts : List Act) (old begun : State) (is : begun ≡ rec
     done.0,
     shows.is_open,
     record {
-      books = λ up. subst (IsBooksOf first (acts_after first acts act)) (sym shows.now_is) (record { ready = done.2.ready; rows = rows_after act reply last done });
+      books = λ up. subst (IsBooksOf first (acts_after first acts act)) (sym shows.now_is) (books_after act reply last done);
       settled = λ up. shows.committed_is ∙ sym shows.now_is;
     },
   )
@@ -77,6 +78,10 @@ begun_survives old begun is =
       crash = λ _ db left. inl left;
     })
 
+-- what the connection shows is what the next opening finds once it is committed
+pub books_in : {first : ℤ} {acts : List Act} (db : Database) → IsBooksOf first acts db → AreBooks first acts db.trees
+books_in db books = record { rows = books.rows; schema = ready_tells db books.ready }
+
 -- what is promised of an act on every history: within its transaction, of the whole of it, and of a stop in it
 
 abbrev pub ActsInside : Act → Result Reply Fault → State → State → Type 0
@@ -95,7 +100,7 @@ ActsWhole act r old new =
 abbrev pub SurvivesWhole : Act → State → State → Type 0
 SurvivesWhole act old new =
     Survives old new (λ trees. IsTrue (is_key_of act.key act.command) → (first : ℤ) (acts : List Act) → IsHistory first acts → KeepsBooks first acts old
-    → AreRowsOf first (acts_after first acts act) trees)
+    → AreBooks first (acts_after first acts act) trees)
 
 module _ (act : Act) (old begun last new : State) (is : begun ≡ record old { in_transaction = true }) where
   pub act_committed : (reply : Reply) → ActsInside act (Ok reply) begun last → Survives last new (λ db. db ≡ last.now.trees) → (HasCleanDisk new → Shows last new last.now last.now false) → ActsWhole act (Ok reply) old new
@@ -124,48 +129,23 @@ module _ (act : Act) (old begun last new : State) (is : begun ≡ record old { i
   stop_in_commit reply inside before ends =
       survives_then old last new (λ _. ⊥) (λ db. db ≡ last.now.trees) _ (λ _ db none. absurd none) (λ clean db e kind first acts history held.
       let was : HasCleanDisk last = omega (arith, clean, ends.clean) in
-      subst (AreRowsOf first (acts_after first acts act)) (sym e) (rows_after first acts old begun is held act reply last (inside was kind first acts history (books_begun first acts old begun is held))))
+      subst (AreBooks first (acts_after first acts act)) (sym e) (books_in last.now (books_after first acts old begun is held act reply last (inside was kind first acts history (books_begun first acts old begun is held)))))
       (inside_then old begun last (begun_survives old begun is) before) ends
 
   -- a stop before it leaves the books before
   pub stop_before_commit : Survives begun last (λ _. ⊥) → Survives last new (λ _. ⊥) → SurvivesWhole act old new
   stop_before_commit before ends = survives_weaker old new (λ _. ⊥) _ (λ _ db none. absurd none) (inside_then old last new (inside_then old begun last (begun_survives old begun is) before) ends)
 
--- of tables of whatever origin: nothing is committed
-abbrev pub LooksOnly : State → State → Type 0
-LooksOnly old new = HasCleanDisk new → IsReady old.now → KeepsCommit old new
+-- to begin a transaction commits nothing, nor does a commit that fails
+pub begun_commit : (old begun : State) → begun ≡ record old { in_transaction = true } → KeepsCommit old begun
+begun_commit old begun is = subst (λ (s : State). KeepsCommit old s) (sym is) (record { was_open = λ up. up; committed = λ up. refl })
 
--- the same where there is no answer
-abbrev pub KeptWhole : {X E : Type 0} → Result X E → State → State → Type 0
-KeptWhole r old new = HasCleanDisk new → IsReady old.now → OnErr r (KeepsCommit old new)
-
-module _ (old begun last new : State) (is : begun ≡ record old { in_transaction = true }) where
-  pub begun_commit : KeepsCommit old begun
-  begun_commit = subst (λ (s : State). KeepsCommit old s) (sym is) (record { was_open = λ up. up; committed = λ up. refl })
-
-  ready_begun : IsReady old.now → IsTrue begun.is_open → IsReady begun.now
-  ready_begun ready up = subst IsReady (sym (ap (λ (s : State). s.now) is)) ready
-
-  commit_kept : KeepsInside begun last → IsReady old.now → HasCleanDisk last → KeepsCommit last new → KeepsCommit old new
-  commit_kept keeps ready was ends = kept_then old last new (kept_then old begun last begun_commit (keeps was (ready_begun ready))) ends
-
-  pub undone_kept : KeepsInside begun last → Survives last new (λ _. ⊥) → (HasCleanDisk new → IsRolledBack last new) → LooksOnly old new
-  undone_kept keeps ends undone clean ready = commit_kept keeps ready (omega (arith, clean, ends.clean)) (kept_undone last new (undone clean))
-
-  pub kept_if_undone : {X E : Type 0} (r : Result X E) → KeepsInside begun last → Survives last new (λ _. ⊥) → (HasCleanDisk new → IsRolledBack last new)
-      → KeptWhole r old new
-  kept_if_undone r keeps ends undone clean ready = on_err r (undone_kept keeps ends undone clean ready)
-
-  failed_commit_kept : (e : Error) → FailsToCommit last new e → KeepsCommit last new
-  failed_commit_kept e (inl fails) = kept_undone last new fails.3
-  failed_commit_kept e (inr late) = kept_unchanged last new late.2
-
-  pub kept_if_not_committed : {X E : Type 0} (r : Result X E) (e : Error) → KeepsInside begun last → Survives last new (λ db. db ≡ last.now.trees) → (HasCleanDisk new → FailsToCommit last new e)
-      → KeptWhole r old new
-  kept_if_not_committed r e keeps ends fails clean ready = on_err r (commit_kept keeps ready (omega (arith, clean, ends.clean)) (failed_commit_kept e (fails clean)))
+pub failed_commit_kept : (last new : State) (e : Error) → FailsToCommit last new e → KeepsCommit last new
+failed_commit_kept last new e (inl fails) = kept_undone last new fails.3
+failed_commit_kept last new e (inr late) = kept_unchanged last new late.2
 
 -- what was answered is kept: a crash leaves the last commit while the connection is open
 pub kept_acts : {S : Type 0} (g : Ghosts S) (h : Held S) (first : ℤ) (acts : List Act) → ((db : Trees) → IsTrue (g.view h.store).is_open → g.recovers h.store db → db ≡ (g.view h.store).committed)
     → IsTrue (state g h).is_open → KeepsBooks first acts (state g h) → LeavesOnly first acts (state g h)
 kept_acts g h first acts settled up keeps trees left =
-    subst (AreRowsOf first acts) (sym (settled trees up left ∙ ap (λ (db : Database). db.trees) (keeps.settled up))) (keeps.books up).rows
+    subst (AreBooks first acts) (sym (settled trees up left ∙ ap (λ (db : Database). db.trees) (keeps.settled up))) (books_in (state g h).now (keeps.books up))

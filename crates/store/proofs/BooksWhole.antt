@@ -1,5 +1,5 @@
 -- What books keep true of themselves: they are idle, and what they know of their tables is so.
-use Rattle.std.proofs.Common.{◌≡◌, List, Result, Ok, Err, IsTrue, false, subst, ◌∙◌}
+use Rattle.std.proofs.Common.{◌≡◌, List, Result, Ok, Err, IsTrue, false, subst, ◌∙◌, arith}
 use Rattle.std.specs.Prelude.{ℤ, Option, Some, None}
 use Rattle.commands.specs.declared.refusal.Refusal.{Refusal}
 use Rattle.sqlite.specs.Held.{Held, state}
@@ -12,7 +12,7 @@ use Rattle.machine.specs.Standing.{today}
 use Rattle.machine.specs.Tables.{tables_of}
 use Rattle.slices.specs.ShownShort.{IsKnownOf}
 use Rattle.slices.specs.declared.knowing.Known.{Known}
-use Rattle.store.specs.Books.{KeepsBooks, IsSettled}
+use Rattle.store.specs.Books.{KeepsBooks, IsSettled, IsAsBefore}
 use Rattle.store.specs.Connected.{Connected, IsIdle}
 use Rattle.store.specs.Knowing.{HasKnown, IsKnown, lines_known}
 use Rattle.store.specs.Opening.{IsReopened}
@@ -20,6 +20,7 @@ use Rattle.store.specs.Queries.{IsShown}
 use Rattle.store.specs.Showing.{IsShownOn}
 use Rattle.store.specs.declared.fault.Fault.{Fault}
 use Rattle.store.specs.declared.fault.Fault.TheVariants.{Refused, Store, Foreign}
+use Rattle.store.proofs.AsBefore.{as_before}
 use Rattle.store.proofs.HandedOn.{Stays}
 use Rattle.store.proofs.KnownKept.{known_stays}
 
@@ -31,6 +32,14 @@ idle_then g old new survives outside idle = record { outside = outside; unlimite
 pub whole_then : {S : Type 0} (g : Ghosts S) (known : Option Known) (old new : Held S) {Q : Trees → Type 0} → Survives (state g old) (state g new) Q → new.in_transaction ≡ false → Stays (state g old) (state g new)
     → IsIdle old × IsKnown known (state g old) → IsIdle new × IsKnown known (state g new)
 whole_then g known old new survives outside stays whole = (idle_then g old new survives outside whole.0, known_stays known (state g old) (state g new) survives stays whole.1)
+
+-- and it leaves the tables as before
+pub look_kept : {S : Type 0} (g : Ghosts S) (known : Option Known) (old new : Held S) {Q : Trees → Type 0} → Survives (state g old) (state g new) Q → Stays (state g old) (state g new) → IsKnown known (state g old)
+    → HasCleanDisk (state g new) → IsAsBefore (state g old) (state g new) × IsSettled (state g new)
+look_kept g known old new survives stays is_known clean =
+    let was = (is_known (omega (arith, clean, survives.clean))).0 in
+    let left = stays clean was in
+    (as_before (state g old) (state g new) was left.1 left.0, left.1)
 
 -- what is shown over a connection is shown by the books over it
 pub shown_by_books : {S V : Type 0} (g : Ghosts S) (first : ℤ) (acts : List Act) (shown : Result V Refusal) (r : Result V Fault) (new : Connected S) → IsShownOn first acts shown r (state g new.conn) → new.day ≡ today first acts

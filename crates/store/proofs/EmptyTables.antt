@@ -1,6 +1,6 @@
 -- The tables of books in which nothing has been done.
 use Rattle.std.proofs.Common.{◌≡◌, ℕ, true, false, List, [], IsTrue, Result, Ok, Err, OnOk, inl, inr, refl, sym, ap, ◌∙◌}
-use Rattle.std.specs.Prelude.{ℤ, Some, None, option_map, if◌then◌else◌}
+use Rattle.std.specs.Prelude.{◌⊎◌, ℤ, Some, None, option_map, if◌then◌else◌}
 use Rattle.values.specs.Values.{same_text}
 use Rattle.commands.specs.Tables.{Tables}
 use Rattle.commands.specs.declared.command.BinKind.TheVariants.{Hold}
@@ -36,13 +36,18 @@ pub books_made : {X E : Type 0} (r : Result X E) (day : ℤ) (name : List ℕ) (
 books_made (Ok x) day name s is up ready tables typed settled = (record { books = λ _. record { ready = ready; rows = rows_are day name s.now.trees is tables typed }; settled = settled }, up)
 books_made (Err e) day name s is up ready tables typed settled = tt
 
--- a crash leaves what there was, or what the rows are
-pub survives_with : (old new : State) (P Q : Trees → Type 0) → ((db : Trees) → P db → Q db) → Survives old new P → Survives old new Q
-survives_with old new P Q so s = record {
+-- a crash leaves what there was, or what two clauses tell
+pub survives_both : (old new : State) (P Q R : Trees → Type 0) → ((db : Trees) → P db → Q db → R db) → Survives old new P → Survives old new Q → Survives old new R
+survives_both old new P Q R so s t = record {
   clean = s.clean;
   shield = s.shield;
   counts = s.counts;
   limit = s.limit;
   closes = s.closes;
-  crash = λ clean db left. elim (s.crash clean db left) [ inl before ↦ inl before | inr made ↦ inr (so db made) ];
+  crash = λ clean db left. both db (s.crash clean db left) (t.crash clean db left);
 }
+  where
+    both : (db : Trees) → old.may_leave db ⊎ P db → old.may_leave db ⊎ Q db → old.may_leave db ⊎ R db
+    both db (inl before) q = inl before
+    both db (inr p) (inl before) = inl before
+    both db (inr p) (inr q) = inr (so db p q)

@@ -14,14 +14,14 @@ use Rattle.commands.specs.declared.command.Command.{Command}
 use Rattle.machine.specs.Acts.{Act}
 use Rattle.machine.specs.Standing.{today}
 use Rattle.machine.specs.Once.{IsHistory, acts_after_file}
-use Rattle.slices.specs.Books.{AreRowsOf, IsBooksOf}
-use Rattle.store.specs.Books.{KeepsBooks}
+use Rattle.slices.specs.Books.{IsBooksOf}
+use Rattle.store.specs.Books.{AreBooks, KeepsBooks}
 use Rattle.store.specs.Connected.{Connected}
 use Rattle.store.specs.Filing.{rows_of, AreKeysOf, IsFiledInside, IsFiledOn, IsFiled}
 use Rattle.store.specs.declared.tally.RowFault.{RowFault}
 use Rattle.store.specs.declared.tally.RowFault.TheVariants.{Refused, Store, Foreign}
 use Rattle.store.specs.declared.filing.Filed.{Filed}
-use Rattle.store.proofs.ActsWhole.{KeepsInside, books_begun, undone_whole, not_committed, begun_survives}
+use Rattle.store.proofs.ActsWhole.{KeepsInside, books_in, books_begun, undone_whole, not_committed, begun_survives}
 
 pub by_row_error : {X : Type 0} (r : Result X RowFault) (f : RowFault) → IsErr r × IsErrAnd r (λ e. e ≡ f) → (P : Result X RowFault → Type 0) → P (Err f) → P r
 by_row_error (Ok x) f h P p = absurd (let no = h.0 in cc)
@@ -62,7 +62,7 @@ FilesWhole rows day r old new =
 abbrev pub FileSurvives : List (Key × Command) → State → State → Type 0
 FileSurvives rows old new =
     Survives old new (λ trees. AreKeysOf rows → (first : ℤ) (acts : List Act) → IsHistory first acts → KeepsBooks first acts old
-    → AreRowsOf first (acts_after_file first acts (rows_of rows)) trees)
+    → AreBooks first (acts_after_file first acts (rows_of rows)) trees)
 
 module _ (rows : List (Key × Command)) (day : ℤ) (old begun last new : State) (is : begun ≡ record old { in_transaction = true }) where
   pub file_committed : (filed : Filed) → FilesInside rows day (Ok filed) begun last → Survives last new (λ db. db ≡ last.now.trees) → (HasCleanDisk new → Shows last new last.now last.now false)
@@ -93,7 +93,7 @@ module _ (rows : List (Key × Command)) (day : ℤ) (old begun last new : State)
       survives_then old last new (λ _. ⊥) (λ db. db ≡ last.now.trees) _ (λ _ db none. absurd none) (λ clean db e keys first acts history held.
       let was : HasCleanDisk last = omega (arith, clean, ends.clean) in
       let done = inside was keys first acts history (books_begun first acts old begun is held) in
-      subst (AreRowsOf first (acts_after_file first acts (rows_of rows))) (sym e) done.1.books.rows)
+      subst (AreBooks first (acts_after_file first acts (rows_of rows))) (sym e) (books_in last.now done.1.books))
       (inside_then old begun last (begun_survives old begun is) before) ends
 
   -- a stop before it leaves the books before

@@ -87,19 +87,10 @@ never_commits_later old mid new one two keeps =
 
 -- ---- the same on tables of whatever origin
 
--- what changes nothing, or goes back to the last commit, commits nothing
-pub left_kept : (old new : State) → IsUnchanged old new ⊎ IsRolledBack old new → KeepsCommit old new
-left_kept old new (inl same) = kept_unchanged old new same
-left_kept old new (inr back) = kept_undone old new back
-
 left_or_undone : (mid new : State) (r : Result (Unit {0}) RowsFault) → IsLeft mid new r → IsUnchanged mid new ⊎ IsRolledBack mid new
 left_or_undone mid new (Ok all) left = inl left
 left_or_undone mid new (Err (rows.Fault fault)) left = left
 left_or_undone mid new (Err rows.Stopped) left = inl left
-
-pub handed_kept : (old mid new : State) (r : Result (Unit {0}) RowsFault) → IsReady old.now → IsUnchanged old mid → (IsReady mid.now → IsLeft mid new r) → KeepsCommit old new
-handed_kept old mid new r ready same left =
-    kept_then old mid new (kept_unchanged old mid same) (left_kept mid new (left_or_undone mid new r (left (subst IsReady (sym same.0.now_is) ready))))
 
 -- what commits nothing, and leaves the connection settled
 abbrev pub Stays : State → State → Type 0

@@ -1,5 +1,5 @@
 -- What is known of the tables: after a call within a transaction, and at the transaction's end.
-use Rattle.std.proofs.Common.{◌≡◌, inl, inr, true, false, Ok, Err, Result, OnOk, sym, ap, subst, ◌∙◌, IsTrue, arith}
+use Rattle.std.proofs.Common.{◌≡◌, inl, inr, true, false, Ok, Err, Result, OnOk, OnErr, sym, ap, subst, ◌∙◌, IsTrue, arith}
 use Rattle.std.specs.Prelude.{Option, Some, IfSome}
 use Rattle.std.specs.Result.{IsErr}
 use Rattle.sqlite.specs.State.{State, HasCleanDisk, Shows, KeepsCommit, IsUnchanged, IsRolledBack, Survives}
@@ -12,7 +12,7 @@ use Rattle.commands.specs.Tables.{Tables}
 use Rattle.commands.specs.declared.rows.RepeatRow.{RepeatRow}
 use Rattle.table_words.specs.Steps.{IsReady, Goes}
 use Rattle.table_words.specs.Typed.{tables_in, with_repeat}
-use Rattle.table_words.proofs.CallLemmas.{kept_then}
+use Rattle.table_words.proofs.CallLemmas.{kept_then, kept_undone, on_err}
 use Rattle.row_rules.specs.declared.slice.Put.{Put}
 use Rattle.row_rules.specs.declared.slice.Change.{Change}
 use Rattle.changes.specs.Written.{change_written}
@@ -22,7 +22,7 @@ use Rattle.slices.specs.Slicing.{HoldsOf, Knows}
 use Rattle.slices.specs.declared.knowing.Known.{Known}
 use Rattle.store.specs.Books.{IsSettled}
 use Rattle.store.specs.Knowing.{HasKnown, IsKnown, GoesOnKnown, LeavesKnown}
-use Rattle.store.proofs.ActsWhole.{KeepsInside, begun_commit}
+use Rattle.store.proofs.ActsWhole.{KeepsInside, begun_commit, failed_commit_kept}
 use Rattle.store.proofs.HandedOn.{Stays, settled_back}
 use Rattle.store.proofs.LinesWritten.{covers_written}
 use Rattle.store.proofs.BoundsWritten.{bounds_more, bounds_written}
@@ -128,12 +128,15 @@ module _ (old begun last new : State) (is : begun ≡ record old { in_transactio
 
       -- it is undone
       kept_last : KeepsInside begun last → HasCleanDisk last → KeepsCommit old last
-      kept_last keeps was = kept_then old begun last (begun_commit old begun last new is) (keeps was (ready_begun was))
+      kept_last keeps was = kept_then old begun last (begun_commit old begun is) (keeps was (ready_begun was))
 
       pub settled_undone : KeepsInside begun last → (HasCleanDisk new → IsRolledBack last new) → HasCleanDisk new → IsSettled new
       settled_undone keeps undone clean =
           let was = last_clean clean in
           settled_back old last new (is_known (clean_first was)).0 (kept_last keeps was) (undone clean)
+
+      pub kept_if_undone : {X E : Type 0} (r : Result X E) → KeepsInside begun last → (HasCleanDisk new → IsRolledBack last new) → HasCleanDisk new → OnErr r (KeepsCommit old new)
+      kept_if_undone r keeps undone clean = on_err r (kept_then old last new (kept_last keeps (last_clean clean)) (kept_undone last new (undone clean)))
 
       pub known_undone : (after : Option Known) → (HasCleanDisk last → (IsTrue begun.is_open → IsReady begun.now) → HasKnown known begun → HasKnown after begun) → KeepsInside begun last → (HasCleanDisk new → IsRolledBack last new) → IsKnown after new
       known_undone after inside keeps undone clean =
@@ -159,6 +162,9 @@ module _ (old begun last new : State) (is : begun ≡ record old { in_transactio
       pub known_not_committed : (after : Option Known) (e : Error) → (HasCleanDisk last → (IsTrue begun.is_open → IsReady begun.now) → HasKnown known begun → HasKnown after begun)
           → (HasCleanDisk last → (IsTrue begun.is_open → IsReady begun.now) → last.in_transaction ≡ begun.in_transaction) → KeepsInside begun last → (HasCleanDisk new → FailsToCommit last new e) → IsKnown after new
       known_not_committed after e inside mode keeps fails = known_undone after inside keeps (rolled_back e mode fails)
+
+      pub kept_if_not_committed : {X E : Type 0} (r : Result X E) (e : Error) → KeepsInside begun last → (HasCleanDisk new → FailsToCommit last new e) → HasCleanDisk new → OnErr r (KeepsCommit old new)
+      kept_if_not_committed r e keeps fails clean = on_err r (kept_then old last new (kept_last keeps (last_clean clean)) (failed_commit_kept last new e (fails clean)))
 
       pub settled_not_committed : (e : Error) → (HasCleanDisk last → (IsTrue begun.is_open → IsReady begun.now) → last.in_transaction ≡ begun.in_transaction) → KeepsInside begun last → (HasCleanDisk new → FailsToCommit last new e)
           → HasCleanDisk new → IsSettled new

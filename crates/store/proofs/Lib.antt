@@ -14,6 +14,7 @@ pub mod FilesWhole
 pub mod CardOrder
 pub mod HeadsShown
 pub mod HandedOn
+pub mod AsBefore
 pub mod Listings
 pub mod BinOrder
 pub mod ShipmentOrder

@@ -10,14 +10,14 @@ use Rattle.sqlite_trees.specs.declared.store.Store.{Ghosts}
 use Rattle.sqlite_trees.specs.View.{doubt}
 use Rattle.sqlite.specs.Effect.{Database}
 use Rattle.sqlite.specs.Held.{Held, state}
-use Rattle.sqlite.specs.State.{State, HasCleanDisk, KeepsCommit, IsRolledBack, IsUnchanged, Shows, Opens, Survives}
+use Rattle.sqlite.specs.State.{State, HasCleanDisk, KeepsCommit, IsRolledBack, IsUnchanged, Shows, Opens, IsLive, Survives}
 use Rattle.sqlite.specs.Steps.{FailsToCommit}
 use Rattle.sqlite.specs.declared.error.Error.{Error}
 use Rattle.sqlite.specs.Table.{Table}
 use Rattle.sqlite.proofs.StateLemmas.{survives_then}
 use Rattle.sqlite.specs.Tree.{Trees}
 use Rattle.table_words.specs.Cells.{is_the_number}
-use Rattle.table_words.specs.Schema.{meta_tree, the_tables}
+use Rattle.table_words.specs.Schema.{meta_tree, the_tables, HasTables}
 use Rattle.table_words.specs.Steps.{IsReady}
 use Rattle.table_words.specs.Typed.{is_meta, tables_in, meta_rows_rows}
 use Rattle.table_words.specs.declared.error.TableFault.{TableFault}
@@ -26,13 +26,14 @@ use Rattle.table_words.proofs.StepLemmas.{tables_same, typed_same, typed_at}
 use Rattle.tables.specs.Indexing.{KeepsRows}
 use Rattle.tables.specs.Settling.{IsStill}
 use Rattle.tables.proofs.SettleLemmas.{each_itself}
-use Rattle.tables.specs.Opening.{IsLeft}
+use Rattle.tables.proofs.OpenLemmas.{ready_tells}
+use Rattle.tables.specs.Opening.{IsLeft, TellTables}
 use Rattle.tables.specs.declared.opening.Leftover.{Leftover}
 use Rattle.tables.specs.declared.opening.Leftover.TheVariants as left
 use Rattle.machine.specs.Acts.{Act}
 use Rattle.machine.specs.Standing.{today}
 use Rattle.machine.specs.Tables.{tables_of}
-use Rattle.store.specs.Books.{AreRowsOf, KeepsBooks}
+use Rattle.store.specs.Books.{AreRowsOf, LeavesOnly, KeepsBooks}
 use Rattle.store.specs.Faults.{fault_of}
 use Rattle.store.specs.declared.fault.Fault.{Fault}
 use Rattle.store.specs.Opening.{HasDay, IsReopened, IsLeftOver, unlimited}
@@ -105,32 +106,55 @@ pub reopened : {S : Type 0} (g : Ghosts S) (old again new : Held S) → (HasClea
     → (HasCleanDisk (state g again) → (state g again).now.trees ≡ (state g old).committed.trees) → (HasCleanDisk (state g again) → (db : Trees) → (state g again).may_leave db → db ≡ (state g old).committed.trees)
     → doubt (state g old).is_clean ≤ doubt (state g again).is_clean → ((state g old).IsShielded → (state g again).IsShielded)
     → (HasCleanDisk (state g new) → IsReady (state g again).now → (state g again).now ≡ (state g again).committed → IsTrue (state g new).is_open → IsStill (state g again).now.trees (state g new))
-    → Survives (state g again) (state g new) (λ db. IsReady (state g again).now → KeepsRows (state g again).now.trees db) → new.in_transaction ≡ false → IsReopened g old new
-reopened g old again new ready opens same crash clean shield kept survives outside =
-    let was : HasCleanDisk (state g new) → HasCleanDisk (state g again) = λ c. omega (arith, c, survives.clean) in
-    let still : HasCleanDisk (state g new) → IsTrue (state g new).is_open → IsStill (state g again).now.trees (state g new) = λ c up. kept c (ready (was c)) (opens (was c)).clean up in
+    → Survives (state g again) (state g new) (λ db. IsReady (state g again).now → KeepsRows (state g again).now.trees db)
+    → Survives (state g again) (state g new) (λ db. IsReady (state g again).now → TellTables db) → new.in_transaction ≡ false → IsReopened g old new
+reopened g old again new ready opens same crash clean shield kept survives tells outside =
+    let still : HasCleanDisk (state g new) → IsTrue (state g new).is_open → IsStill (state g again).now.trees (state g new) = λ c up. kept c (ready (was_clean c)) (opens (was_clean c)).clean up in
     record {
       outside = outside;
       ready = λ c up. (still c up).ready;
-      same = λ c up. subst (λ (t : Trees). KeepsRows t (state g new).now.trees) (same (was c)) (still c up).rows;
+      same = λ c up. subst (λ (t : Trees). KeepsRows t (state g new).now.trees) (same (was_clean c)) (still c up).rows;
       settled = λ c up. (still c up).settled;
-      crash = λ c db left. elim (survives.crash c db left) [
-        | inl before ↦ subst (KeepsRows (state g old).committed.trees) (sym (crash (was c) db before)) (each_itself (state g old).committed.trees the_tables)
-        | inr after ↦ subst (λ (t : Trees). KeepsRows t db) (same (was c)) (after (ready (was c)))
-      ];
+      crash = λ c db left. by_both c db (survives.crash c db left) (tells.crash c db left);
       clean = omega (arith, clean, survives.clean);
       shield = λ s. survives.shield (shield s);
     }
+  where
+    was_clean : HasCleanDisk (state g new) → HasCleanDisk (state g again)
+    was_clean c = omega (arith, c, survives.clean)
+
+    as_committed : HasCleanDisk (state g new) → (db : Trees) → (state g again).may_leave db → KeepsRows (state g old).committed.trees db × TellTables db
+    as_committed c db before =
+        subst (λ (t : Trees). KeepsRows (state g old).committed.trees t × TellTables t) (sym (crash (was_clean c) db before))
+        (each_itself (state g old).committed.trees the_tables, subst TellTables (same (was_clean c)) (ready_tells (state g again).now (ready (was_clean c))))
+
+    by_both : HasCleanDisk (state g new) → (db : Trees) → (state g again).may_leave db ⊎ (IsReady (state g again).now → KeepsRows (state g again).now.trees db) → (state g again).may_leave db ⊎ (IsReady (state g again).now → TellTables db)
+        → KeepsRows (state g old).committed.trees db × TellTables db
+    by_both c db (inl before) told = as_committed c db before
+    by_both c db (inr rows) (inl before) = as_committed c db before
+    by_both c db (inr rows) (inr told) = (subst (λ (t : Trees). KeepsRows t db) (same (was_clean c)) (rows (ready (was_clean c))), told (ready (was_clean c)))
+
+-- rows that were kept are those of the acts
+rows_kept : (before after : Trees) (first : ℤ) (acts : List Act) → KeepsRows before after → AreRowsOf first acts before → AreRowsOf first acts after
+rows_kept before after first acts kept rows = record { tables = tables_same before after kept ∙ rows.tables; typed = typed_same before after kept rows.typed }
+
+-- and a stop leaves them
+pub leaves_opened : {S : Type 0} (g : Ghosts S) (old new : Held S) (first : ℤ) (acts : List Act) → IsReopened g old new → HasCleanDisk (state g new) → AreRowsOf first acts (state g old).committed.trees
+    → LeavesOnly first acts (state g new)
+leaves_opened g old new first acts it clean rows trees left =
+    let found = it.crash clean trees left in
+    record { rows = rows_kept (state g old).committed.trees trees first acts found.0 rows; schema = found.1 }
+
+-- a connection that was opened over what a stop left has the schema of books
+pub tables_opened : (s : State) → Opens s → IsLive s → TellTables s.committed.trees → HasTables s.now.schema
+tables_opened s opens live tells = subst TellTables (sym (ap (λ (d : Database). d.trees) opens.clean)) tells s.now.schema (live opens.is_open).0
 
 pub keeps_books : {S : Type 0} (g : Ghosts S) (old new : Held S) (first : ℤ) (acts : List Act) → IsReopened g old new → HasCleanDisk (state g new) → AreRowsOf first acts (state g old).committed.trees
     → KeepsBooks first acts (state g new)
 keeps_books g old new first acts it clean rows = record {
   books = λ up. record {
     ready = it.ready clean up;
-    rows = record {
-      tables = tables_same (state g old).committed.trees (state g new).now.trees (it.same clean up) ∙ rows.tables;
-      typed = typed_same (state g old).committed.trees (state g new).now.trees (it.same clean up) rows.typed;
-    };
+    rows = rows_kept (state g old).committed.trees (state g new).now.trees first acts (it.same clean up) rows;
   };
   settled = it.settled clean;
 }

@@ -51,7 +51,7 @@ module _ (old begun last new : State) (is : begun ≡ record old { in_transactio
   pub look_stays : Stays old new
   look_stays clean at =
       let was : HasCleanDisk last = omega (arith, clean, ends.clean) in
-      let kept : KeepsCommit old last = kept_then old begun last (begun_commit old begun last new is) (keeps was (λ up. subst IsReady (sym (ap (λ (s : State). s.now) is)) (at.ready (subst (λ b. IsTrue b) (ap (λ (s : State). s.is_open) is) up)))) in
+      let kept : KeepsCommit old last = kept_then old begun last (begun_commit old begun is) (keeps was (λ up. subst IsReady (sym (ap (λ (s : State). s.now) is)) (at.ready (subst (λ b. IsTrue b) (ap (λ (s : State). s.is_open) is) up)))) in
       (kept_then old last new kept (kept_undone last new (undone clean)), settled_back old last new at kept (undone clean))
 
   module _ {X V : Type 0} (P : ℤ → List Act → Type 0) (IsSo : ℤ → List Act → Result V Fault → Type 0) (IsRead : ℤ → List Act → X → Type 0) where

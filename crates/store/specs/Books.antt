@@ -1,10 +1,11 @@
 -- The books of a history.
 use Rattle.std.specs.Prelude.{◌≡◌, List, ℤ, IsTrue}
 use Rattle.sqlite_trees.specs.declared.store.Store.{Ghosts}
-use Rattle.sqlite.specs.State.{State, HasCleanDisk}
+use Rattle.sqlite.specs.State.{State, HasCleanDisk, KeepsCommit}
 use Rattle.sqlite.specs.Held.{state}
 use Rattle.sqlite.specs.Tree.{Trees}
 use Rattle.table_words.specs.Steps.{IsReady}
+use Rattle.tables.specs.Opening.{TellTables}
 use Rattle.machine.specs.Acts.{Act}
 use Rattle.machine.specs.Standing.{today}
 pub use Rattle.slices.specs.Books.{AreRowsOf, IsBooksOf}
@@ -20,13 +21,27 @@ pub record IsSettled (s : State) : Type 0 where
   pub ready : IsTrue s.is_open → IsReady s.now
   pub settled : IsTrue s.is_open → s.committed ≡ s.now
 
+-- nothing was committed, and as long as a fault of the disk has not shut the connection, it shows the tables that it showed
+pub record IsAsBefore (old new : State) : Type 0 where
+  pub kept : KeepsCommit old new
+  pub shows : IsTrue new.is_open → new.now ≡ old.now
+
+-- what a stop leaves are the books of the acts: their rows, under a schema that the next opening takes as theirs
+pub record AreBooks (first : ℤ) (acts : List Act) (trees : Trees) : Type 0 where
+  pub rows : AreRowsOf first acts trees
+  pub schema : TellTables trees
+
 -- a stop leaves the books of the acts and nothing else
 abbrev pub LeavesOnly : ℤ → List Act → State → Type 0
-LeavesOnly first acts s = (trees : Trees) → s.may_leave trees → AreRowsOf first acts trees
+LeavesOnly first acts s = (trees : Trees) → s.may_leave trees → AreBooks first acts trees
 
 -- so far the disk has returned what was written: the books are in memory, or in a file that nobody else writes
 abbrev pub IsClean : {S : Type 0} → Ghosts S → Connected S → Type 0
 IsClean g books = HasCleanDisk (state g books.conn)
+
+-- nothing was committed, and the books show the tables that they showed
+abbrev pub AreAsBefore : {S : Type 0} → Ghosts S → Connected S → Connected S → Type 0
+AreAsBefore g old new = IsAsBefore (state g old.conn) (state g new.conn)
 
 -- what a stop leaves, as the next opening finds it
 abbrev pub MayLeave : {S : Type 0} → Ghosts S → Connected S → Trees → Type 0

@@ -10,9 +10,9 @@ ghost use Rattle.machine.specs.Acts.{Act};
 ghost use Rattle.machine.specs.Once.{IsHistory, is_key_of, bearer, acts_after};
 ghost use Rattle.rules.specs.Slices.{AreOnce, applied};
 ghost use Rattle.changes.specs.Written.{change_written};
-ghost use Rattle.slices.specs.Books.{AreRowsOf, IsBooksOf};
+ghost use Rattle.slices.specs.Books.{IsBooksOf};
 ghost use Rattle.slices.specs.Slicing.{HoldsOf};
-ghost use Rattle.store.specs.Books.{KeepsBooks};
+ghost use Rattle.store.specs.Books.{AreBooks, KeepsBooks};
 ghost use Rattle.store.specs.Acting.{IsActedOn, IsActedInside, IsDecidedByRows};
 ghost use Rattle.store.specs.Knowing.{HasKnown, IsKnown, LeavesKnown};
 
@@ -46,9 +46,9 @@ pub fn act_once<S: Alter>(
     ensures known { IsKnown known.new (state S.Store conn.new) }
     ensures acted { HasCleanDisk (state S.Store conn.new) → IsTrue (is_key_of key.now command.now) → (first : ℤ) (acts : List Act) → IsHistory first acts → KeepsBooks first acts (state S.Store conn.old)
         → IsActedOn first acts (record { key = key.now; command = command.now }) result (state S.Store conn.new) }
-    ensures as_before { HasCleanDisk (state S.Store conn.new) → IsReady (state S.Store conn.old).now → OnErr result (KeepsCommit (state S.Store conn.old) (state S.Store conn.new)) }
+    ensures as_before { HasCleanDisk (state S.Store conn.new) → OnErr result (KeepsCommit (state S.Store conn.old) (state S.Store conn.new)) }
     ensures survives { Survives (state S.Store conn.old) (state S.Store conn.new) (λ trees. IsTrue (is_key_of key.now command.now) → (first : ℤ) (acts : List Act) → IsHistory first acts → KeepsBooks first acts (state S.Store conn.old)
-        → AreRowsOf first (acts_after first acts (record { key = key.now; command = command.now })) trees) }
+        → AreBooks first (acts_after first acts (record { key = key.now; command = command.now })) trees) }
 {
     let _outside = conn.is_autocommit();
     let mut tx = conn.transaction();

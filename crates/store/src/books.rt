@@ -1,11 +1,10 @@
 //! The books over a connection.
 
 ghost use Rattle.std.specs.Prelude.{◌≡◌, ◌≢◌, ◌≤◌, ◌⊎◌, ◌↔◌, ℤ, length, None, [], List, false, IsTrue, IsErrOf, IsErrAnd, OnOk, OnErr, IfOk, IfErr};
-ghost use Rattle.sqlite.specs.State.{HasCleanDisk, Survives, KeepsCommit};
+ghost use Rattle.sqlite.specs.State.{HasCleanDisk, Survives, Opens, IsLive};
 ghost use Rattle.sqlite.specs.Held.{state};
 ghost use Rattle.label.specs.Days.{is_business_day};
 ghost use Rattle.table_words.specs.Schema.{schema_0, HasTables};
-ghost use Rattle.table_words.specs.Steps.{IsReady};
 ghost use Rattle.table_words.specs.declared.error.TableFault.TheVariants.{Foreign as ForeignTable};
 ghost use Rattle.tables.specs.Indexing.{HasIndexes};
 ghost use Rattle.machine.specs.Acts.{Act};
@@ -18,7 +17,7 @@ ghost use Rattle.machine.specs.Views.{bins_of_lot, card_of_lot, shipments_of_lot
 ghost use Rattle.store.specs.Heads.{card_head_shown, notice_head_shown};
 ghost use Rattle.store.specs.Handing.{IsHanded, NoBooks};
 ghost use Rattle.store.specs.Queries.{IsShown};
-ghost use Rattle.store.specs.Books.{AreRowsOf, KeepsBooks, HoldsBooks, LeavesOnly, IsClean, IsSettled};
+ghost use Rattle.store.specs.Books.{AreRowsOf, AreBooks, KeepsBooks, HoldsBooks, LeavesOnly, IsClean, IsSettled, AreAsBefore};
 ghost use Rattle.store.specs.Opening.{HasDay, unlimited, IsLeftUnfilled, IsReopened, IsLeftOver, IsCleanLeft};
 
 use crate::acting::act_once;
@@ -95,7 +94,7 @@ fn make_tables<S: Alter>(conn: &mut Connection<S>, day: BusinessDay) -> Result<(
         → OnErr result ((state S.Store conn.new).now ≡ (state S.Store conn.old).now) }
     ensures settled { HasCleanDisk (state S.Store conn.new) → IsTrue (state S.Store conn.new).is_open
         → (state S.Store conn.new).committed ≡ (state S.Store conn.new).now }
-    ensures survives { Survives (state S.Store conn.old) (state S.Store conn.new) (AreRowsOf day []) }
+    ensures survives { Survives (state S.Store conn.old) (state S.Store conn.new) (AreBooks day []) }
     ensures outside { conn.new.in_transaction ≡ false }
 {
     let meta = MetaRow {
@@ -122,7 +121,9 @@ impl<S: Alter + Drop> Books<S> {
         requires outside { conn.in_transaction ≡ false }
         ensures books { IfOk result (λ b. HasCleanDisk (state S.Store b.conn) → KeepsBooks day [] (state S.Store b.conn) × IsTrue (state S.Store b.conn).is_open) }
         ensures day { IfOk result (λ b. b.day ≡ day) }
-        ensures survives { IfOk result (λ b. Survives (unlimited (state S.Store conn)) (state S.Store b.conn) (AreRowsOf day [])) }
+        ensures settled { IfOk result (λ b. HasCleanDisk (state S.Store b.conn) → IsSettled (state S.Store b.conn)) }
+        ensures survives { IfOk result (λ b. Survives (unlimited (state S.Store conn)) (state S.Store b.conn) (AreBooks day [])) }
+        ensures kept { IfOk result (λ b. HasCleanDisk (state S.Store b.conn) → LeavesOnly day [] (state S.Store b.conn)) }
         ensures foreign { IsErrAnd result (λ e. e.fault ≡ Fault.Foreign) ↔ ((state S.Store conn).now.schema ≢ schema_0) }
         ensures unchanged { IfErr result (λ e. e.fault ≡ Fault.Foreign → e.left ≡ Leftover.Connection conn) }
         ensures left { IfErr result (λ e. IsLeftUnfilled S.Store conn day e.left) }
@@ -159,13 +160,18 @@ impl<S: Alter + Drop> Books<S> {
         ensures day { IfOk result (λ b. HasCleanDisk (state S.Store b.conn) → HasDay (state S.Store conn).committed.trees b.day) }
         ensures today { IfOk result (λ b. HasCleanDisk (state S.Store b.conn) → (first : ℤ) (acts : List Act) → IsHistory first acts → AreRowsOf first acts (state S.Store conn).committed.trees
             → b.day ≡ today first acts) }
+        ensures kept { IfOk result (λ b. HasCleanDisk (state S.Store b.conn) → (first : ℤ) (acts : List Act) → IsHistory first acts → AreRowsOf first acts (state S.Store conn).committed.trees
+            → LeavesOnly first acts (state S.Store b.conn)) }
         ensures opens { IfOk result (λ b. IsReopened S.Store conn b.conn) }
         ensures open { IfOk result (λ b. HasCleanDisk (state S.Store b.conn) → IsTrue (state S.Store b.conn).is_open) }
+        ensures settled { IfOk result (λ b. HasCleanDisk (state S.Store b.conn) → IsSettled (state S.Store b.conn)) }
         ensures indexes { IfOk result (λ b. HasCleanDisk (state S.Store b.conn) → HasIndexes (state S.Store b.conn).now.schema) }
         ensures foreign { IfErr result (λ e. IsCleanLeft S.Store e.left → e.fault ≡ Fault.Foreign
             → (¬ HasTables (state S.Store conn).now.schema) ⊎ ((day : ℤ) → ¬ HasDay (state S.Store conn).committed.trees day)) }
         ensures known { IfErr result (λ e. IsCleanLeft S.Store e.left → HasTables (state S.Store conn).now.schema → (first : ℤ) (acts : List Act) → IsHistory first acts
             → AreRowsOf first acts (state S.Store conn).committed.trees → e.fault ≡ Fault.Store) }
+        ensures again { IfErr result (λ e. IsCleanLeft S.Store e.left → Opens (state S.Store conn) → IsLive (state S.Store conn) → (first : ℤ) (acts : List Act) → IsHistory first acts
+            → AreBooks first acts (state S.Store conn).committed.trees → e.fault ≡ Fault.Store) }
         ensures other { ¬ HasTables (state S.Store conn).now.schema
             → IsErrAnd result (λ e. (e.left ≡ Leftover.Connection conn) × ((e.fault ≡ Fault.Foreign) ⊎ (e.fault ≡ Fault.Store))) }
         ensures left { IfErr result (λ e. IsLeftOver S.Store conn e.left) }
@@ -200,6 +206,7 @@ impl<S: Alter> Books<S> {
     pub fn close(self) -> Connection<S>
         ensures same { result ≡ self.conn }
         ensures outside { result.in_transaction ≡ false }
+        ensures settled { HasCleanDisk (state S.Store result) → IsSettled (state S.Store result) }
     {
         let Books {
             conn,
@@ -235,10 +242,11 @@ impl<S: Alter> Books<S> {
         ensures kept { IsClean S.Store self.new → IsTrue (is_key_of key.now command.now)
             → (first : ℤ) (acts : List Act) → IsHistory first acts → HoldsBooks S.Store first acts self.old
             → OnOk result (LeavesOnly first (acts_after first acts (record { key = key.now; command = command.now })) (state S.Store self.new.conn)) }
-        ensures as_before { IsClean S.Store self.new → IsReady (state S.Store self.old.conn).now → OnErr result (KeepsCommit (state S.Store self.old.conn) (state S.Store self.new.conn)) }
+        ensures as_before { IsClean S.Store self.new → OnErr result (AreAsBefore S.Store self.old self.new) }
+        ensures stays { IsClean S.Store self.new → IsSettled (state S.Store self.new.conn) }
         ensures survives { Survives (state S.Store self.old.conn) (state S.Store self.new.conn) (λ trees. IsTrue (is_key_of key.now command.now)
             → (first : ℤ) (acts : List Act) → IsHistory first acts → KeepsBooks first acts (state S.Store self.old.conn)
-            → AreRowsOf first (acts_after first acts (record { key = key.now; command = command.now })) trees) }
+            → AreBooks first (acts_after first acts (record { key = key.now; command = command.now })) trees) }
     {
         match act_once(self.alloc, &mut self.conn, &mut self.known, key, command) {
             Ok(reply) => {
@@ -269,10 +277,11 @@ impl<S: Alter> Books<S> {
             → (first : ℤ) (acts : List Act) → IsHistory first acts → HoldsBooks S.Store first acts self.old
             → OnOk result (LeavesOnly first (acts_after_file first acts (rows_of rows.now)) (state S.Store self.new.conn)) }
         ensures history { AreKeysOf rows.now → (first : ℤ) (acts : List Act) → IsHistory first acts → IsHistory first (acts_after_file first acts (rows_of rows.now)) }
-        ensures as_before { IsClean S.Store self.new → IsReady (state S.Store self.old.conn).now → OnErr result (KeepsCommit (state S.Store self.old.conn) (state S.Store self.new.conn)) }
+        ensures as_before { IsClean S.Store self.new → OnErr result (AreAsBefore S.Store self.old self.new) }
+        ensures stays { IsClean S.Store self.new → IsSettled (state S.Store self.new.conn) }
         ensures survives { Survives (state S.Store self.old.conn) (state S.Store self.new.conn) (λ trees. AreKeysOf rows.now
             → (first : ℤ) (acts : List Act) → IsHistory first acts → KeepsBooks first acts (state S.Store self.old.conn)
-            → AreRowsOf first (acts_after_file first acts (rows_of rows.now)) trees) }
+            → AreBooks first (acts_after_file first acts (rows_of rows.now)) trees) }
     {
         every_row_is_sound(rows);
         match file_once(self.alloc, &mut self.conn, &mut self.known, self.day, rows) {
@@ -295,7 +304,8 @@ impl<S: Alter> Books<S> {
         ensures clean { IsClean S.Store self.new → IsClean S.Store self.old }
         ensures shown { IsClean S.Store self.new → (first : ℤ) (acts : List Act) → IsHistory first acts → HoldsBooks S.Store first acts self.old
             → IsShown S.Store first acts (order_shown first acts order.now) result self.new }
-        ensures as_before { IsClean S.Store self.new → IsReady (state S.Store self.old.conn).now → KeepsCommit (state S.Store self.old.conn) (state S.Store self.new.conn) }
+        ensures as_before { IsClean S.Store self.new → AreAsBefore S.Store self.old self.new }
+        ensures stays { IsClean S.Store self.new → IsSettled (state S.Store self.new.conn) }
         ensures survives { Survives (state S.Store self.old.conn) (state S.Store self.new.conn) (λ _. ⊥) }
     {
         let query = OrderQuery { order: *order };
@@ -310,7 +320,8 @@ impl<S: Alter> Books<S> {
         ensures clean { IsClean S.Store self.new → IsClean S.Store self.old }
         ensures shown { IsClean S.Store self.new → (first : ℤ) (acts : List Act) → IsHistory first acts → HoldsBooks S.Store first acts self.old
             → IsShown S.Store first acts (stock_shown first acts gtin.now) result self.new }
-        ensures as_before { IsClean S.Store self.new → IsReady (state S.Store self.old.conn).now → KeepsCommit (state S.Store self.old.conn) (state S.Store self.new.conn) }
+        ensures as_before { IsClean S.Store self.new → AreAsBefore S.Store self.old self.new }
+        ensures stays { IsClean S.Store self.new → IsSettled (state S.Store self.new.conn) }
         ensures survives { Survives (state S.Store self.old.conn) (state S.Store self.new.conn) (λ _. ⊥) }
     {
         let query = StockQuery { gtin: *gtin };
@@ -323,7 +334,8 @@ impl<S: Alter> Books<S> {
         ensures clean { IsClean S.Store self.new → IsClean S.Store self.old }
         ensures shown { IsClean S.Store self.new → (first : ℤ) (acts : List Act) → IsHistory first acts → HoldsBooks S.Store first acts self.old
             → IsShown S.Store first acts (short_shown first acts gtin.now) result self.new }
-        ensures as_before { IsClean S.Store self.new → IsReady (state S.Store self.old.conn).now → KeepsCommit (state S.Store self.old.conn) (state S.Store self.new.conn) }
+        ensures as_before { IsClean S.Store self.new → AreAsBefore S.Store self.old self.new }
+        ensures stays { IsClean S.Store self.new → IsSettled (state S.Store self.new.conn) }
         ensures survives { Survives (state S.Store self.old.conn) (state S.Store self.new.conn) (λ _. ⊥) }
     {
         let query = ShortQuery {
@@ -340,7 +352,8 @@ impl<S: Alter> Books<S> {
         ensures clean { IsClean S.Store self.new → IsClean S.Store self.old }
         ensures shown { IsClean S.Store self.new → (first : ℤ) (acts : List Act) → IsHistory first acts → HoldsBooks S.Store first acts self.old
             → IsShown S.Store first acts (card_head_shown first acts lot.now) result self.new }
-        ensures as_before { IsClean S.Store self.new → IsReady (state S.Store self.old.conn).now → KeepsCommit (state S.Store self.old.conn) (state S.Store self.new.conn) }
+        ensures as_before { IsClean S.Store self.new → AreAsBefore S.Store self.old self.new }
+        ensures stays { IsClean S.Store self.new → IsSettled (state S.Store self.new.conn) }
         ensures survives { Survives (state S.Store self.old.conn) (state S.Store self.new.conn) (λ _. ⊥) }
     {
         show_card_head(self.alloc, &mut self.conn, lot)
@@ -353,7 +366,8 @@ impl<S: Alter> Books<S> {
         ensures clean { IsClean S.Store self.new → IsClean S.Store self.old }
         ensures shown { IsClean S.Store self.new → (first : ℤ) (acts : List Act) → IsHistory first acts → HoldsBooks S.Store first acts self.old
             → IsShown S.Store first acts (notice_head_shown first acts lot.now) result self.new }
-        ensures as_before { IsClean S.Store self.new → IsReady (state S.Store self.old.conn).now → KeepsCommit (state S.Store self.old.conn) (state S.Store self.new.conn) }
+        ensures as_before { IsClean S.Store self.new → AreAsBefore S.Store self.old self.new }
+        ensures stays { IsClean S.Store self.new → IsSettled (state S.Store self.new.conn) }
         ensures survives { Survives (state S.Store self.old.conn) (state S.Store self.new.conn) (λ _. ⊥) }
     {
         show_notice_head(self.alloc, &mut self.conn, lot)
@@ -370,7 +384,8 @@ impl<S: Alter> Books<S> {
         ensures clean { IsClean S.Store self.new → IsClean S.Store self.old }
         ensures handed { IsClean S.Store self.new → (first : ℤ) (acts : List Act) → IsHistory first acts → HoldsBooks S.Store first acts self.old
             → IsHanded S.Store first acts K.takes K.stops (card_of_lot first acts lot.now) sink.old sink.new result self.new }
-        ensures as_before { IsClean S.Store self.new → IsReady (state S.Store self.old.conn).now → KeepsCommit (state S.Store self.old.conn) (state S.Store self.new.conn) }
+        ensures as_before { IsClean S.Store self.new → AreAsBefore S.Store self.old self.new }
+        ensures stays { IsClean S.Store self.new → IsSettled (state S.Store self.new.conn) }
         ensures survives { Survives (state S.Store self.old.conn) (state S.Store self.new.conn) (NoBooks (state S.Store self.old.conn)) }
     {
         hand_cards(self.alloc, &mut self.conn, lot, sink)
@@ -387,7 +402,8 @@ impl<S: Alter> Books<S> {
         ensures clean { IsClean S.Store self.new → IsClean S.Store self.old }
         ensures handed { IsClean S.Store self.new → (first : ℤ) (acts : List Act) → IsHistory first acts → HoldsBooks S.Store first acts self.old
             → IsHanded S.Store first acts K.takes K.stops (bins_of_lot first acts lot.now) sink.old sink.new result self.new }
-        ensures as_before { IsClean S.Store self.new → IsReady (state S.Store self.old.conn).now → KeepsCommit (state S.Store self.old.conn) (state S.Store self.new.conn) }
+        ensures as_before { IsClean S.Store self.new → AreAsBefore S.Store self.old self.new }
+        ensures stays { IsClean S.Store self.new → IsSettled (state S.Store self.new.conn) }
         ensures survives { Survives (state S.Store self.old.conn) (state S.Store self.new.conn) (NoBooks (state S.Store self.old.conn)) }
     {
         hand_bins(self.alloc, &mut self.conn, lot, sink)
@@ -404,7 +420,8 @@ impl<S: Alter> Books<S> {
         ensures clean { IsClean S.Store self.new → IsClean S.Store self.old }
         ensures handed { IsClean S.Store self.new → (first : ℤ) (acts : List Act) → IsHistory first acts → HoldsBooks S.Store first acts self.old
             → IsHanded S.Store first acts K.takes K.stops (shipments_of_lot first acts lot.now) sink.old sink.new result self.new }
-        ensures as_before { IsClean S.Store self.new → IsSettled (state S.Store self.old.conn) → KeepsCommit (state S.Store self.old.conn) (state S.Store self.new.conn) }
+        ensures as_before { IsClean S.Store self.new → AreAsBefore S.Store self.old self.new }
+        ensures stays { IsClean S.Store self.new → IsSettled (state S.Store self.new.conn) }
         ensures survives { Survives (state S.Store self.old.conn) (state S.Store self.new.conn) (NoBooks (state S.Store self.old.conn)) }
     {
         hand_shipments(self.alloc, &mut self.conn, lot, sink)

@@ -7,8 +7,8 @@ ghost use Rattle.table_words.specs.Steps.{IsReady};
 ghost use Rattle.machine.specs.Acts.{Act};
 ghost use Rattle.machine.specs.Once.{IsHistory, is_key_of, acts_after_file};
 ghost use Rattle.machine.specs.Machine.{AllSound};
-ghost use Rattle.slices.specs.Books.{AreRowsOf, IsBooksOf};
-ghost use Rattle.store.specs.Books.{KeepsBooks, IsSettled};
+ghost use Rattle.slices.specs.Books.{IsBooksOf};
+ghost use Rattle.store.specs.Books.{AreBooks, KeepsBooks, IsSettled};
 ghost use Rattle.store.specs.Knowing.{HasKnown, IsKnown, GoesOnKnown};
 ghost use Rattle.store.specs.Filing.{rows_of, AreKeysOf, counted as counted_lem, fault_at as fault_at_lem, IsRowTaken, IsFiledInside, IsFiledOn};
 
@@ -58,9 +58,9 @@ pub fn file_once<S: Alter>(
     ensures settled { HasCleanDisk (state S.Store conn.new) → IsSettled (state S.Store conn.new) }
     ensures filed { HasCleanDisk (state S.Store conn.new) → AreKeysOf rows.now → (first : ℤ) (acts : List Act) → IsHistory first acts → KeepsBooks first acts (state S.Store conn.old)
         → IsFiledOn first acts (rows_of rows.now) day result (state S.Store conn.new) }
-    ensures as_before { HasCleanDisk (state S.Store conn.new) → IsReady (state S.Store conn.old).now → OnErr result (KeepsCommit (state S.Store conn.old) (state S.Store conn.new)) }
+    ensures as_before { HasCleanDisk (state S.Store conn.new) → OnErr result (KeepsCommit (state S.Store conn.old) (state S.Store conn.new)) }
     ensures survives { Survives (state S.Store conn.old) (state S.Store conn.new) (λ trees. AreKeysOf rows.now → (first : ℤ) (acts : List Act) → IsHistory first acts → KeepsBooks first acts (state S.Store conn.old)
-        → AreRowsOf first (acts_after_file first acts (rows_of rows.now)) trees) }
+        → AreBooks first (acts_after_file first acts (rows_of rows.now)) trees) }
 {
     let _outside = conn.is_autocommit();
     let mut tx = conn.transaction();

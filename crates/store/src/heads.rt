@@ -1,6 +1,6 @@
 //! What a stock card and a recall notice begin with.
 
-ghost use Rattle.std.specs.Prelude.{◌≡◌, false, ℤ, List, option_map, IsTrue, IfOk, IfErr};
+ghost use Rattle.std.specs.Prelude.{◌≡◌, ◌≢◌, false, ℤ, List, option_map, IsTrue, IfOk, IfErr};
 ghost use Rattle.sqlite.specs.State.{HasCleanDisk, Survives, KeepsCommit};
 ghost use Rattle.sqlite.specs.Held.{state};
 ghost use Rattle.values.specs.declared.lot.LotId.{LotId as Lot};
@@ -35,7 +35,6 @@ pub fn show_card_head<S: Alter>(
     ensures outside { conn.new.in_transaction ≡ false }
     ensures shown { HasCleanDisk (state S.Store conn.new) → (first : ℤ) (acts : List Act) → IsHistory first acts → KeepsBooks first acts (state S.Store conn.old)
         → IsShownOn first acts (card_head_shown first acts lot.now) result (state S.Store conn.new) }
-    ensures as_before { HasCleanDisk (state S.Store conn.new) → IsReady (state S.Store conn.old).now → KeepsCommit (state S.Store conn.old) (state S.Store conn.new) }
     ensures stays { HasCleanDisk (state S.Store conn.new) → IsSettled (state S.Store conn.old) → KeepsCommit (state S.Store conn.old) (state S.Store conn.new) × IsSettled (state S.Store conn.new) }
     ensures survives { Survives (state S.Store conn.old) (state S.Store conn.new) (λ _. ⊥) }
 {
@@ -57,7 +56,6 @@ pub fn show_notice_head<S: Alter>(
     ensures outside { conn.new.in_transaction ≡ false }
     ensures shown { HasCleanDisk (state S.Store conn.new) → (first : ℤ) (acts : List Act) → IsHistory first acts → KeepsBooks first acts (state S.Store conn.old)
         → IsShownOn first acts (notice_head_shown first acts lot.now) result (state S.Store conn.new) }
-    ensures as_before { HasCleanDisk (state S.Store conn.new) → IsReady (state S.Store conn.old).now → KeepsCommit (state S.Store conn.old) (state S.Store conn.new) }
     ensures stays { HasCleanDisk (state S.Store conn.new) → IsSettled (state S.Store conn.old) → KeepsCommit (state S.Store conn.old) (state S.Store conn.new) × IsSettled (state S.Store conn.new) }
     ensures survives { Survives (state S.Store conn.old) (state S.Store conn.new) (λ _. ⊥) }
 {
@@ -89,9 +87,10 @@ fn find_head<S: Alter>(
     }
 }
 
-// The head of the card, where the rows were read.
+// The head of the card, where the rows were read; `Store` only where they were not.
 fn card_head_of(found: Result<Head, Fault>) -> Result<(ItemRow, Day), Fault>
-    ensures { (first : ℤ) (acts : List Act) (l : Lot) → IsFoundAs (IsHead l (tables_of first acts)) found → IsShownAs (card_head_shown first acts l) result }
+    ensures shown { (first : ℤ) (acts : List Act) (l : Lot) → IsFoundAs (IsHead l (tables_of first acts)) found → IsShownAs (card_head_shown first acts l) result }
+    ensures told { IfOk found (λ _. IfErr result (λ e. e ≢ Fault.Store)) }
 {
     match found {
         Err(fault) => Err(fault),
@@ -99,9 +98,10 @@ fn card_head_of(found: Result<Head, Fault>) -> Result<(ItemRow, Day), Fault>
     }
 }
 
-// The head of the notice, where the rows were read.
+// The head of the notice, where the rows were read; `Store` only where they were not.
 fn notice_head_of(found: Result<Head, Fault>) -> Result<(ItemRow, Option<Day>), Fault>
-    ensures { (first : ℤ) (acts : List Act) (l : Lot) → IsFoundAs (IsHead l (tables_of first acts)) found → IsShownAs (notice_head_shown first acts l) result }
+    ensures shown { (first : ℤ) (acts : List Act) (l : Lot) → IsFoundAs (IsHead l (tables_of first acts)) found → IsShownAs (notice_head_shown first acts l) result }
+    ensures told { IfOk found (λ _. IfErr result (λ e. e ≢ Fault.Store)) }
 {
     match found {
         Err(fault) => Err(fault),
@@ -111,7 +111,8 @@ fn notice_head_of(found: Result<Head, Fault>) -> Result<(ItemRow, Option<Day>), 
 
 // The head of the card, from the rows.
 fn card_head_in(head: Head) -> Result<(ItemRow, Day), Fault>
-    ensures { (first : ℤ) (acts : List Act) (l : Lot) → IsHead l (tables_of first acts) head → IsShownAs (card_head_shown first acts l) result }
+    ensures shown { (first : ℤ) (acts : List Act) (l : Lot) → IsHead l (tables_of first acts) head → IsShownAs (card_head_shown first acts l) result }
+    ensures told { IfErr result (λ e. e ≢ Fault.Store) }
 {
     let Head {
         item,
@@ -129,7 +130,8 @@ fn card_head_in(head: Head) -> Result<(ItemRow, Day), Fault>
 
 // The head of the notice, from the rows.
 fn notice_head_in(head: Head) -> Result<(ItemRow, Option<Day>), Fault>
-    ensures { (first : ℤ) (acts : List Act) (l : Lot) → IsHead l (tables_of first acts) head → IsShownAs (notice_head_shown first acts l) result }
+    ensures shown { (first : ℤ) (acts : List Act) (l : Lot) → IsHead l (tables_of first acts) head → IsShownAs (notice_head_shown first acts l) result }
+    ensures told { IfErr result (λ e. e ≢ Fault.Store) }
 {
     let Head { item, lot, recall } = head;
     let Some(known) = item else {

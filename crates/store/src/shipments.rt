@@ -133,7 +133,6 @@ pub fn hand_shipments<S: Alter, K: Sink<ShippedUnits>>(
     ensures outside { conn.new.in_transaction ≡ false }
     ensures handed { HasCleanDisk (state S.Store conn.new) → (first : ℤ) (acts : List Act) → IsHistory first acts → KeepsBooks first acts (state S.Store conn.old)
         → IsHandedOn first acts K.takes K.stops (shipments_of_lot first acts lot.now) sink.old sink.new result (state S.Store conn.new) }
-    ensures as_before { HasCleanDisk (state S.Store conn.new) → IsSettled (state S.Store conn.old) → KeepsCommit (state S.Store conn.old) (state S.Store conn.new) }
     ensures stays { HasCleanDisk (state S.Store conn.new) → IsSettled (state S.Store conn.old) → KeepsCommit (state S.Store conn.old) (state S.Store conn.new) × IsSettled (state S.Store conn.new) }
     ensures survives { Survives (state S.Store conn.old) (state S.Store conn.new) (NoBooks (state S.Store conn.old)) }
 {

@@ -1,6 +1,6 @@
 //! What is asked of the books, shown.
 
-ghost use Rattle.std.specs.Prelude.{◌≡◌, ℕ, false, ℤ, List, IsTrue, IfOk, IfErr};
+ghost use Rattle.std.specs.Prelude.{◌≡◌, ◌≢◌, ℕ, false, None, ℤ, List, IsTrue, IfOk, IfErr, IsOkAnd};
 ghost use Rattle.sqlite.specs.State.{HasCleanDisk, Survives, KeepsCommit};
 ghost use Rattle.sqlite.specs.Held.{state};
 ghost use Rattle.table_words.specs.Steps.{IsReady};
@@ -31,7 +31,6 @@ pub fn show<Q: Query, S: Alter>(
     ensures outside { conn.new.in_transaction ≡ false }
     ensures shown { HasCleanDisk (state S.Store conn.new) → (first : ℤ) (acts : List Act) → IsHistory first acts → KeepsBooks first acts (state S.Store conn.old)
         → today first acts ≡ day → (IsTrue (state S.Store conn.old).is_open → Q.suits query.now (tables_of first acts)) → IsShownOn first acts (Q.shown first acts query.now) result (state S.Store conn.new) }
-    ensures as_before { HasCleanDisk (state S.Store conn.new) → IsReady (state S.Store conn.old).now → KeepsCommit (state S.Store conn.old) (state S.Store conn.new) }
     ensures stays { HasCleanDisk (state S.Store conn.new) → IsSettled (state S.Store conn.old) → KeepsCommit (state S.Store conn.old) (state S.Store conn.new) × IsSettled (state S.Store conn.new) }
     ensures survives { Survives (state S.Store conn.old) (state S.Store conn.new) (λ _. ⊥) }
 {
@@ -64,14 +63,15 @@ fn find_found<Q: Query, S: Alter>(
     }
 }
 
-// The view, where the rows were read.
+// The view, where the rows were read. What is not known is refused, and not told as want of memory.
 fn view_of<Q: Query>(
     alloc: Global,
     day: BusinessDay,
     query: &Q,
     found: Result<Option<Q::Found>, Fault>,
 ) -> Result<Q::View, Fault>
-    ensures { (first : ℤ) (acts : List Act) → IsHistory first acts → today first acts ≡ day → IsFoundAs (λ x. Q.suits query.now (tables_of first acts) × Q.is_in query.now (tables_of first acts) x) found → IsShownAs (Q.shown first acts query.now) result }
+    ensures shown { (first : ℤ) (acts : List Act) → IsHistory first acts → today first acts ≡ day → IsFoundAs (λ x. Q.suits query.now (tables_of first acts) × Q.is_in query.now (tables_of first acts) x) found → IsShownAs (Q.shown first acts query.now) result }
+    ensures unknown { IsOkAnd found (λ it. it ≡ None) → IfErr result (λ e. e ≢ Fault.Store) }
 {
     match found {
         Err(fault) => Err(fault),

@@ -1,9 +1,11 @@
-use Rattle.std.proofs.Common.{◌≡◌, true, sym, subst, rules}
-use Rattle.std.specs.Prelude.{◌⊎◌}
+use Rattle.std.proofs.Common.{◌≡◌, ◌≢◌, true, sym, subst, rules}
+use Rattle.std.specs.Prelude.{◌⊎◌, codes}
+use Rattle.sqlite.specs.Held.{state}
 use Rattle.machine.specs.Once.{IsSoundRequest}
-use Rattle.house.specs.Answers.{is_served, act_answer, acts_with}
+use Rattle.house.specs.Answers.{is_served, act_answer, acts_with, status_of}
 use Rattle.house.specs.Asking.{act_of, IsDone, IsUndone}
 use Rattle.house.proofs.Acting.{acted}
+use Rattle.house.proofs.Unanswered.{act_unanswered}
 use Rattle.house.proofs.asking.act.Goals as goal
 
 pub returns-clause-acted : goal.returns-clause-acted
@@ -17,3 +19,7 @@ returns-clause-acted g c clean first acts history holds =
     (sym c.told.ensures)
     (acted g.S.Store first acts c.args.books.now (act_of key command) yes sound history c.act.new.self holds clean c.act.ensures.survives c.act.result
     (c.act.ensures.acted clean yes first acts history holds) (c.act.ensures.kept clean yes first acts history holds))
+
+pub returns-clause-as_before : goal.returns-clause-as_before
+returns-clause-as_before g c clean ne =
+    act_unanswered c.act.result (state g.S.Store c.args.books.now.conn) (state g.S.Store c.act.new.self.conn) (c.act.ensures.as_before clean) (subst (λ b. status_of b ≢ codes "HTTP/1.1 200") c.told.ensures ne)

@@ -1,9 +1,13 @@
-use Rattle.std.proofs.Common.{◌≡◌, ◌∙◌, ap, sym, subst}
-use Rattle.std.specs.Prelude.{Ok, Err, All}
+use Rattle.std.proofs.Common.{◌≡◌, ◌≢◌, ◌∙◌, ap, sym, subst}
+use Rattle.std.specs.Prelude.{Ok, Err, All, codes}
 use Rattle.goodsin.specs.Rows.{IsReceipt}
 use Rattle.machine.specs.Standing.{today}
 use Rattle.goodsin.specs.Files.{file_read}
 use Rattle.house.proofs.FileTold.{read_today, not_taken, taken_in, receipts_have_keys}
+use Rattle.sqlite.specs.Held.{state}
+use Rattle.store.proofs.AsBefore.{as_before_itself}
+use Rattle.house.specs.Answers.{status_of}
+use Rattle.house.proofs.Unanswered.{file_unanswered}
 use Rattle.house.proofs.filing.take_in.Goals as goal
 
 pub returns-in-Ok-clause-acted : goal.returns-in-Ok-clause-acted
@@ -21,3 +25,11 @@ pub returns-in-Err-clause-acted : goal.returns-in-Err-clause-acted
 returns-in-Err-clause-acted g c clean first acts history holds =
     not_taken g.S.Store first acts c.args.books.now history holds (file_read (today first acts) c.args.file.now) c.in-Err.fault _ c.not_read.ensures
     (λ memory reader. c.in-Err.ensures.file (λ e. memory (let it = e in cc)) (λ e. reader (let it = e in cc)) ∙ ap (λ t. file_read t c.args.file.now) (c.day-today.ensures.value ∙ holds.day))
+
+pub returns-in-Ok-clause-as_before : goal.returns-in-Ok-clause-as_before
+returns-in-Ok-clause-as_before g c clean ne =
+    file_unanswered c.act_all-done.result (state g.S.Store c.args.books.now.conn) (state g.S.Store c.act_all-done.new.self.conn) (c.act_all-done.ensures.as_before clean)
+    (subst (λ b. status_of b ≢ codes "HTTP/1.1 200") c.told_file.ensures ne)
+
+pub returns-in-Err-clause-as_before : goal.returns-in-Err-clause-as_before
+returns-in-Err-clause-as_before g c clean ne = as_before_itself (state g.S.Store c.args.books.now.conn)

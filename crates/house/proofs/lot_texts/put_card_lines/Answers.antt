@@ -28,3 +28,9 @@ returns-in-Err-clause-put g c clean first acts history holds =
     let h = c.in-Err.ensures.handed clean first acts history holds in
     let stays = stays_handed g.S.Store first acts old new history c.in-Err.ensures.survives clean holds h.1 in
     lines_cut g.S.Store first acts (λ k. at k.out) card_line (AddsCardLine at) (CutsCardLine at) (λ _ _ _ w. w.written) (λ _ _ _ w. w.written) ℕ c.in-Err.fault (card_of_lot first acts c.args.lot.now) _ c.each_card-handed.new.sink old new stays h
+
+pub returns-in-Ok-clause-as_before : goal.returns-in-Ok-clause-as_before
+returns-in-Ok-clause-as_before g c clean = c.in-Ok.ensures.as_before clean
+
+pub returns-in-Err-clause-as_before : goal.returns-in-Err-clause-as_before
+returns-in-Err-clause-as_before g c clean = c.in-Err.ensures.as_before clean

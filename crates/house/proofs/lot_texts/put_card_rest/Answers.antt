@@ -29,3 +29,9 @@ returns-in-Err-clause-put g c clean first acts history holds =
     let at = g.W.Write.contents in
     put_part g.S.Store first acts ℕ Unit c.in-Err.fault (flat_map card_line lines) (card_end (rest_after c.args.text lines)) old mid (at c.args.out) (at c.put_card_lines-out.result.0)
     (subst (λ r. Puts g.S.Store first acts (flat_map card_line lines) old mid (at c.args.out) (at c.put_card_lines-out.result.0) r) c.in-Err.is (c.put_card_lines-out.ensures.put clean first acts history holds))
+
+pub returns-in-Ok-clause-as_before : goal.returns-in-Ok-clause-as_before
+returns-in-Ok-clause-as_before g c clean = c.put_card_lines-out.ensures.as_before clean
+
+pub returns-in-Err-clause-as_before : goal.returns-in-Err-clause-as_before
+returns-in-Err-clause-as_before g c clean = c.put_card_lines-out.ensures.as_before clean

@@ -7,6 +7,8 @@ use Rattle.texts.proofs.Beginnings.{beginning_of_first}
 use Rattle.store.specs.declared.each_fault.EachFault.TheVariants.{Stopped}
 use Rattle.house.specs.LotTexts.{Puts}
 use Rattle.house.proofs.LotWriting.{same_books, put_behind, notice_whole}
+use Rattle.sqlite.specs.Held.{state}
+use Rattle.store.proofs.AsBefore.{as_before_itself}
 use Rattle.house.proofs.lot_texts.put_notice.Goals as goal
 
 pub returns-in-Ok-clause-put : goal.returns-in-Ok-clause-put
@@ -35,3 +37,9 @@ returns-in-Err-clause-put g c clean first acts history holds =
     let rest = flat_map bin_line bins ++ (flat_map shipment_line shipments ++ notice_end (0 + total (λ u. u.qty) bins) (0 + total (λ s. s.qty) shipments)) in
     subst (λ t. Puts {X = Unit} g.S.Store first acts t old old (at c.args.out) (at c.start.new.out) (Err Stopped)) (notice_whole first acts l c.args.item.now c.args.expiry none refl)
     (beginning_of_first (at c.args.out) (at c.start.new.out) head rest c.in-Err.ensures.written, same_books g.S.Store first acts old holds)
+
+pub returns-in-Ok-clause-as_before : goal.returns-in-Ok-clause-as_before
+returns-in-Ok-clause-as_before g c clean = c.put_notice_rest.ensures.as_before clean
+
+pub returns-in-Err-clause-as_before : goal.returns-in-Err-clause-as_before
+returns-in-Err-clause-as_before g c clean = as_before_itself (state g.S.Store c.args.books.now.conn)

@@ -5,6 +5,8 @@ use Rattle.machine.specs.Views.{bins_of_lot, shipments_of_lot}
 use Rattle.texts.specs.Notice.{bin_line, shipment_line, notice_end, Totals}
 use Rattle.house.specs.LotTexts.{Puts}
 use Rattle.house.proofs.LotWriting.{put_behind, put_part}
+use Rattle.sqlite.specs.Held.{state}
+use Rattle.store.proofs.AsBefore.{as_before_then}
 use Rattle.house.proofs.lot_texts.put_notice_rest.Goals as goal
 
 pub returns-in-Ok-clause-put : goal.returns-in-Ok-clause-put
@@ -37,3 +39,11 @@ returns-in-Err-clause-put g c clean first acts history holds =
     (flat_map shipment_line shipments ++ notice_end (c.args.text.in_bins + total (λ u. u.qty) bins) (c.args.text.shipped + total (λ s. s.qty) shipments)) old mid
     (at c.args.out) (at c.put_bins-out.result.0)
     (subst (λ r. Puts g.S.Store first acts (flat_map bin_line bins) old mid (at c.args.out) (at c.put_bins-out.result.0) r) c.in-Err.is (c.put_bins-out.ensures.put clean first acts history holds))
+
+pub returns-in-Ok-clause-as_before : goal.returns-in-Ok-clause-as_before
+returns-in-Ok-clause-as_before g c clean =
+    as_before_then (state g.S.Store c.args.books.now.conn) (state g.S.Store c.put_bins-out.new.books.conn) (state g.S.Store c.put_notice_tail.new.books.conn)
+    (c.put_bins-out.ensures.as_before (c.put_notice_tail.ensures.clean clean)) (c.put_notice_tail.ensures.as_before clean)
+
+pub returns-in-Err-clause-as_before : goal.returns-in-Err-clause-as_before
+returns-in-Err-clause-as_before g c clean = c.put_bins-out.ensures.as_before clean

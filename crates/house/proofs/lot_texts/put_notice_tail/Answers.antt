@@ -31,3 +31,9 @@ returns-in-Err-clause-put g c clean first acts history holds =
     put_part g.S.Store first acts Totals Unit c.in-Err.fault (flat_map shipment_line shipments) (notice_end c.args.text.in_bins (c.args.text.shipped + total (λ s. s.qty) shipments)) old mid
     (at c.args.out) (at c.put_shipments-out.result.0)
     (subst (λ r. Puts g.S.Store first acts (flat_map shipment_line shipments) old mid (at c.args.out) (at c.put_shipments-out.result.0) r) c.in-Err.is (c.put_shipments-out.ensures.put clean first acts history holds))
+
+pub returns-in-Ok-clause-as_before : goal.returns-in-Ok-clause-as_before
+returns-in-Ok-clause-as_before g c clean = c.put_shipments-out.ensures.as_before clean
+
+pub returns-in-Err-clause-as_before : goal.returns-in-Err-clause-as_before
+returns-in-Err-clause-as_before g c clean = c.put_shipments-out.ensures.as_before clean

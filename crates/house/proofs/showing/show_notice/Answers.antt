@@ -19,3 +19,6 @@ returns-clause-shown g c clean first acts history holds =
     written_told g.S.Store first acts history notice_text shown old new end written bytes
     (subst (λ (none : List ℕ). Tells g.S.Store first acts notice_text shown old new (Some none) (Some written) end) c.new.ensures.items (c.write_notice-text.ensures.told clean first acts history holds))
     (subst (λ asked. (bytes ≡ asked_answer asked) ⊎ (bytes ≡ no_memory)) c.text_of.ensures c.told.ensures.told)
+
+pub returns-clause-as_before : goal.returns-clause-as_before
+returns-clause-as_before g c clean = c.write_notice-text.ensures.as_before clean

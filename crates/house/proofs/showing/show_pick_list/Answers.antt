@@ -17,3 +17,9 @@ returns-in-Ok-clause-shown g c clean first acts history holds =
 pub returns-in-Err-clause-shown : goal.returns-in-Err-clause-shown
 returns-in-Err-clause-shown g c clean first acts history holds =
     fault_told g.S.Store first acts history as_text (order_shown first acts c.args.order.now) _ _ c.in-Err.ensures.survives clean c.in-Err.fault _ (c.in-Err.ensures.shown clean first acts history holds) c.told-in-Err.ensures.told
+
+pub returns-in-Ok-clause-as_before : goal.returns-in-Ok-clause-as_before
+returns-in-Ok-clause-as_before g c clean = c.in-Ok.ensures.as_before clean
+
+pub returns-in-Err-clause-as_before : goal.returns-in-Err-clause-as_before
+returns-in-Err-clause-as_before g c clean = c.in-Err.ensures.as_before clean

@@ -1,8 +1,9 @@
-use Rattle.std.proofs.Common.{Ok, rules}
+use Rattle.std.proofs.Common.{Ok, OnErr, rules, subst}
 use Rattle.sqlite.specs.Held.{state}
+use Rattle.sqlite.specs.State.{State, HasCleanDisk, KeepsCommit}
 use Rattle.machine.specs.Acts.{Act}
-use Rattle.store.proofs.ActsWhole.{ActsWhole, SurvivesWhole, begun_state, act_committed, act_not_committed, act_undone, KeptWhole, kept_if_undone, kept_if_not_committed, stop_in_commit, stop_before_commit}
-use Rattle.store.proofs.KnownKept.{holds_begun, known_committed, known_not_committed, known_undone}
+use Rattle.store.proofs.ActsWhole.{ActsWhole, SurvivesWhole, begun_state, act_committed, act_not_committed, act_undone, stop_in_commit, stop_before_commit}
+use Rattle.store.proofs.KnownKept.{holds_begun, kept_if_undone, kept_if_not_committed, known_committed, known_not_committed, known_undone}
 use Rattle.store.specs.Knowing.{IsKnown}
 use Rattle.store.proofs.acting.act_once.Goals as goal
 
@@ -52,7 +53,7 @@ returns-clause-survives g c =
     let is = begun_state g.S.Store c.args.conn.now c.transaction-tx.result.conn.now c.transaction-tx.ensures.begun in
     let whole : SurvivesWhole act old new =
     stop_in_commit act old begun last new is c.in_ok-reply.reply (λ clean kind first acts history books. c.in_ok-reply.ensures.acted clean kind first acts history books (holds_begun old begun last new is c.in_ok-reply.ensures.survives c.args.known.now c.requires.known clean)) c.in_ok-reply.ensures.survives c.commit.ensures.survives in
-    search (rules, whole)
+    subst (λ (s : State). SurvivesWhole act old s) (search rules) whole
 
 pub returns-in_err-commit-clause-survives : goal.returns-in_err-commit-clause-survives
 returns-in_err-commit-clause-survives g c =
@@ -64,7 +65,7 @@ returns-in_err-commit-clause-survives g c =
     let is = begun_state g.S.Store c.args.conn.now c.transaction-tx.result.conn.now c.transaction-tx.ensures.begun in
     let whole : SurvivesWhole act old new =
     stop_in_commit act old begun last new is c.in_ok-reply.reply (λ clean kind first acts history books. c.in_ok-reply.ensures.acted clean kind first acts history books (holds_begun old begun last new is c.in_ok-reply.ensures.survives c.args.known.now c.requires.known clean)) c.in_ok-reply.ensures.survives c.commit.ensures.survives in
-    search (rules, whole)
+    subst (λ (s : State). SurvivesWhole act old s) (search rules) whole
 
 pub returns-in_err-reply-clause-survives : goal.returns-in_err-reply-clause-survives
 returns-in_err-reply-clause-survives g c =
@@ -76,7 +77,7 @@ returns-in_err-reply-clause-survives g c =
     let is = begun_state g.S.Store c.args.conn.now c.transaction-tx.result.conn.now c.transaction-tx.ensures.begun in
     let whole : SurvivesWhole act old new =
     stop_before_commit act old begun last new is c.in_err-reply.ensures.survives c.drop-tx.ensures.survives in
-    search (rules, whole)
+    subst (λ (s : State). SurvivesWhole act old s) (search rules) whole
 
 pub returns-in_err-commit-clause-as_before : goal.returns-in_err-commit-clause-as_before
 returns-in_err-commit-clause-as_before g c =
@@ -85,8 +86,8 @@ returns-in_err-commit-clause-as_before g c =
     let last = state g.S.Store c.act_inside.new.tx.conn.now in
     let new = state g.S.Store c.commit.new.self.0 in
     let is = begun_state g.S.Store c.args.conn.now c.transaction-tx.result.conn.now c.transaction-tx.ensures.begun in
-    let whole : KeptWhole c.from_residual-in_err-commit.result old new =
-    kept_if_not_committed old begun last new is c.from_residual-in_err-commit.result c.in_err-commit.field-0.0 c.in_ok-reply.ensures.kept c.commit.ensures.survives c.in_err-commit.ensures.err in
+    let whole : HasCleanDisk new → OnErr c.from_residual-in_err-commit.result (KeepsCommit old new) =
+    kept_if_not_committed old begun last new is c.in_ok-reply.ensures.survives c.args.known.now c.requires.known c.commit.ensures.survives c.from_residual-in_err-commit.result c.in_err-commit.field-0.0 c.in_ok-reply.ensures.kept c.in_err-commit.ensures.err in
     search (rules, whole)
 
 pub returns-in_err-reply-clause-as_before : goal.returns-in_err-reply-clause-as_before
@@ -96,8 +97,8 @@ returns-in_err-reply-clause-as_before g c =
     let last = state g.S.Store c.act_inside.new.tx.conn.now in
     let new = state g.S.Store c.drop-tx.new.self.0 in
     let is = begun_state g.S.Store c.args.conn.now c.transaction-tx.result.conn.now c.transaction-tx.ensures.begun in
-    let whole : KeptWhole c.from_residual.result old new =
-    kept_if_undone old begun last new is c.from_residual.result c.in_err-reply.ensures.kept c.drop-tx.ensures.survives c.drop-tx.ensures.undone in
+    let whole : HasCleanDisk new → OnErr c.from_residual.result (KeepsCommit old new) =
+    kept_if_undone old begun last new is c.in_err-reply.ensures.survives c.args.known.now c.requires.known c.drop-tx.ensures.survives c.from_residual.result c.in_err-reply.ensures.kept c.drop-tx.ensures.undone in
     search (rules, whole)
 
 pub returns-clause-known : goal.returns-clause-known

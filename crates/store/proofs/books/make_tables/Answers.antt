@@ -1,7 +1,7 @@
 use Rattle.std.specs.Prelude.{[]}
 use Rattle.sqlite.specs.Held.{state}
-use Rattle.store.specs.Books.{AreRowsOf}
-use Rattle.store.proofs.EmptyTables.{rows_are, books_made, survives_with}
+use Rattle.store.specs.Books.{AreBooks}
+use Rattle.store.proofs.EmptyTables.{rows_are, books_made, survives_both}
 use Rattle.store.proofs.books.make_tables.Goals as goal
 
 pub returns-clause-made : goal.returns-clause-made
@@ -11,4 +11,5 @@ returns-clause-made g c clean =
 
 pub returns-clause-survives : goal.returns-clause-survives
 returns-clause-survives g c =
-    survives_with (state g.S.Store c.args.conn.now) (state g.S.Store c.create.new.conn) _ (AreRowsOf c.args.day []) (λ db made. rows_are c.args.day c.returns.result db c.returns.ensures made.0 made.1) c.create.ensures.survives
+    survives_both (state g.S.Store c.args.conn.now) (state g.S.Store c.create.new.conn) _ _ (AreBooks c.args.day [])
+    (λ db made tells. record { rows = rows_are c.args.day c.returns.result db c.returns.ensures made.0 made.1; schema = tells }) c.create.ensures.survives c.create.ensures.tells

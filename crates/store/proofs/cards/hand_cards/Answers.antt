@@ -6,7 +6,7 @@ use Rattle.table_words.specs.Typed.{Tables}
 use Rattle.machine.specs.Views.{card_of_lot}
 use Rattle.history_tables.specs.ByKey.{AreCardLines}
 use Rattle.store.proofs.CardOrder.{card_lines_of}
-use Rattle.store.proofs.HandedOn.{books_on, left_keeps, handed_all, handed_some, handed_none, never_commits_none, never_commits_on, left_kept, handed_kept, left_stays, handed_stays}
+use Rattle.store.proofs.HandedOn.{books_on, left_keeps, handed_all, handed_some, handed_none, never_commits_none, never_commits_on, left_stays, handed_stays}
 use Rattle.store.proofs.cards.hand_cards.Goals as goal
 
 pub returns-in_err-find_open_outside-clause-handed : goal.returns-in_err-find_open_outside-clause-handed
@@ -53,26 +53,6 @@ returns-in-Err-clause-handed g c clean first acts history held =
 pub returns-in-Err-clause-survives : goal.returns-in-Err-clause-survives
 returns-in-Err-clause-survives g c =
     never_commits_on (state g.S.Store c.args.conn.now) (state g.S.Store c.find_open_outside.new.conn) (state g.S.Store c.each_card.new.conn) c.find_open_outside.ensures.survives c.each_card.ensures.survives (λ late. c.in_ok-find_open_outside.ensures.open late)
-
-pub returns-in_err-find_open_outside-clause-as_before : goal.returns-in_err-find_open_outside-clause-as_before
-returns-in_err-find_open_outside-clause-as_before g c clean ready =
-    left_kept (state g.S.Store c.args.conn.now) (state g.S.Store c.find_open_outside.new.conn) (c.in_err-find_open_outside.ensures.failed clean)
-
-pub returns-in-Ok-clause-as_before : goal.returns-in-Ok-clause-as_before
-returns-in-Ok-clause-as_before g c clean ready =
-    let old = state g.S.Store c.args.conn.now in
-    let mid = state g.S.Store c.find_open_outside.new.conn in
-    let new = state g.S.Store c.each_card.new.conn in
-    let late : HasCleanDisk mid = omega (arith, clean, c.each_card.ensures.survives.clean) in
-    handed_kept old mid new (Ok tt) ready (c.in_ok-find_open_outside.ensures.open late) (c.in-Ok.ensures.left clean)
-
-pub returns-in-Err-clause-as_before : goal.returns-in-Err-clause-as_before
-returns-in-Err-clause-as_before g c clean ready =
-    let old = state g.S.Store c.args.conn.now in
-    let mid = state g.S.Store c.find_open_outside.new.conn in
-    let new = state g.S.Store c.each_card.new.conn in
-    let late : HasCleanDisk mid = omega (arith, clean, c.each_card.ensures.survives.clean) in
-    handed_kept old mid new (Err c.in-Err.fault) ready (c.in_ok-find_open_outside.ensures.open late) (c.in-Err.ensures.left clean)
 
 pub returns-in_err-find_open_outside-clause-stays : goal.returns-in_err-find_open_outside-clause-stays
 returns-in_err-find_open_outside-clause-stays g c clean at =

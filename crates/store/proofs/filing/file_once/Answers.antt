@@ -1,9 +1,9 @@
-use Rattle.std.proofs.Common.{Ok, rules, subst}
-use Rattle.sqlite.specs.State.{State, HasCleanDisk}
+use Rattle.std.proofs.Common.{Ok, OnErr, rules, subst}
+use Rattle.sqlite.specs.State.{State, HasCleanDisk, KeepsCommit}
 use Rattle.sqlite.specs.Held.{state}
-use Rattle.store.proofs.ActsWhole.{begun_state, KeptWhole, kept_if_undone, kept_if_not_committed}
+use Rattle.store.proofs.ActsWhole.{begun_state}
 use Rattle.store.proofs.FilesWhole.{FilesWhole, FileSurvives, file_committed, file_not_committed, file_undone, stop_in_file_commit, stop_before_file_commit}
-use Rattle.store.proofs.KnownKept.{holds_begun, none_answered, known_committed, settled_undone, settled_not_committed}
+use Rattle.store.proofs.KnownKept.{holds_begun, none_answered, kept_if_undone, kept_if_not_committed, known_committed, settled_undone, settled_not_committed}
 use Rattle.store.specs.Books.{IsSettled}
 use Rattle.store.specs.Knowing.{IsKnown}
 use Rattle.store.proofs.filing.file_once.Goals as goal
@@ -138,9 +138,9 @@ returns-in_err-commit-clause-as_before g c =
     let last = state g.S.Store c.file_inside.new.tx.conn.now in
     let new = state g.S.Store c.commit.new.self.0 in
     let is = begun_state g.S.Store c.args.conn.now c.transaction-tx.result.conn.now c.transaction-tx.ensures.begun in
-    let whole : KeptWhole c.from_residual-in_err-commit.result old new =
-    kept_if_not_committed old begun last new is c.from_residual-in_err-commit.result c.in_err-commit.field-0.0 c.in_ok-filed.ensures.kept c.commit.ensures.survives c.in_err-commit.ensures.err in
-    subst (λ (s : State). KeptWhole c.from_residual-in_err-commit.result old s) (search rules) whole
+    let whole : HasCleanDisk new → OnErr c.from_residual-in_err-commit.result (KeepsCommit old new) =
+    kept_if_not_committed old begun last new is c.in_ok-filed.ensures.survives c.args.known.now c.requires.known c.commit.ensures.survives c.from_residual-in_err-commit.result c.in_err-commit.field-0.0 c.in_ok-filed.ensures.kept c.in_err-commit.ensures.err in
+    subst (λ (s : State). HasCleanDisk s → OnErr c.from_residual-in_err-commit.result (KeepsCommit old s)) (search rules) whole
 
 pub returns-in_err-filed-clause-as_before : goal.returns-in_err-filed-clause-as_before
 returns-in_err-filed-clause-as_before g c =
@@ -149,6 +149,6 @@ returns-in_err-filed-clause-as_before g c =
     let last = state g.S.Store c.file_inside.new.tx.conn.now in
     let new = state g.S.Store c.drop-tx.new.self.0 in
     let is = begun_state g.S.Store c.args.conn.now c.transaction-tx.result.conn.now c.transaction-tx.ensures.begun in
-    let whole : KeptWhole c.from_residual.result old new =
-    kept_if_undone old begun last new is c.from_residual.result c.in_err-filed.ensures.kept c.drop-tx.ensures.survives c.drop-tx.ensures.undone in
-    subst (λ (s : State). KeptWhole c.from_residual.result old s) (search rules) whole
+    let whole : HasCleanDisk new → OnErr c.from_residual.result (KeepsCommit old new) =
+    kept_if_undone old begun last new is c.in_err-filed.ensures.survives c.args.known.now c.requires.known c.drop-tx.ensures.survives c.from_residual.result c.in_err-filed.ensures.kept c.drop-tx.ensures.undone in
+    subst (λ (s : State). HasCleanDisk s → OnErr c.from_residual.result (KeepsCommit old s)) (search rules) whole

@@ -12,7 +12,7 @@ use Rattle.store.specs.Books.{KeepsBooks}
 use Rattle.store.specs.Heads.{notice_head_shown}
 use Rattle.store.specs.Showing.{IsFoundAs, IsShownOn}
 use Rattle.store.specs.declared.fault.Fault.{Fault}
-use Rattle.store.proofs.ActsWhole.{begun_state, LooksOnly, undone_kept}
+use Rattle.store.proofs.ActsWhole.{begun_state}
 use Rattle.store.proofs.HandedOn.{Stays}
 use Rattle.store.proofs.ShownWhole.{look_stays, found_as, found_shown}
 use Rattle.store.proofs.heads.show_notice_head.Goals as goal
@@ -36,18 +36,8 @@ returns-clause-shown g c =
     let all : AnyShown l c.notice_head_of.result old new = λ clean first acts history held.
     found_shown old begun last new is found.kept c.rollback.ensures.survives c.rollback.ensures.undone IsAny (λ first acts. notice_head_shown first acts l) (λ first acts. IsFoundAs (IsHead l (tables_of first acts)))
     c.find_head-found.result c.notice_head_of.result (λ clean first acts history books. found_as (IsHead l (tables_of first acts)) c.find_head-found.result (found.read clean first acts books) (found.fault clean first acts books))
-    (λ first acts history p read. c.notice_head_of.ensures first acts l read) clean first acts history held tt in
+    (λ first acts history p read. c.notice_head_of.ensures.shown first acts l read) clean first acts history held tt in
     search (rules, all)
-
-pub returns-clause-as_before : goal.returns-clause-as_before
-returns-clause-as_before g c =
-    let old = state g.S.Store c.args.conn.now in
-    let begun = state g.S.Store c.transaction-tx.result.conn.now in
-    let last = state g.S.Store c.find_head-found.new.tx.conn.now in
-    let new = state g.S.Store c.rollback.new.self.0 in
-    let is = begun_state g.S.Store c.args.conn.now c.transaction-tx.result.conn.now c.transaction-tx.ensures.begun in
-    let whole : LooksOnly old new = undone_kept old begun last new is c.find_head-found.ensures.kept c.rollback.ensures.survives c.rollback.ensures.undone in
-    search (rules, whole)
 
 pub returns-clause-stays : goal.returns-clause-stays
 returns-clause-stays g c =

@@ -79,29 +79,6 @@ returns-clause-handed g c clean first acts history held =
 pub returns-clause-survives : goal.returns-clause-survives
 returns-clause-survives g c = c.shipments.invariant.1
 
-pub returns-in_err-units-clause-as_before : goal.returns-in_err-units-clause-as_before
-returns-in_err-units-clause-as_before g c clean at =
-    let was : HasCleanDisk (state g.S.Store c.shipments.conn) = omega (arith, clean, c.next_shipped.ensures.survives.clean) in
-    let stays = stays_then (state g.S.Store c.args.conn.now) (state g.S.Store c.shipments.conn) (state g.S.Store c.next_shipped.new.conn) (c.shipments.invariant.3 was at) (c.next_shipped.ensures.stays clean) in
-    stays.0
-
-pub returns-in_default-clause-as_before : goal.returns-in_default-clause-as_before
-returns-in_default-clause-as_before g c clean at =
-    let was : HasCleanDisk (state g.S.Store c.shipments.conn) = omega (arith, clean, c.next_shipped.ensures.survives.clean) in
-    let stays = stays_then (state g.S.Store c.args.conn.now) (state g.S.Store c.shipments.conn) (state g.S.Store c.next_shipped.new.conn) (c.shipments.invariant.3 was at) (c.next_shipped.ensures.stays clean) in
-    stays.0
-
-pub returns-in_err-take-clause-as_before : goal.returns-in_err-take-clause-as_before
-returns-in_err-take-clause-as_before g c clean at =
-    let was : HasCleanDisk (state g.S.Store c.shipments.conn) = omega (arith, clean, c.next_shipped.ensures.survives.clean) in
-    let stays = stays_then (state g.S.Store c.args.conn.now) (state g.S.Store c.shipments.conn) (state g.S.Store c.next_shipped.new.conn) (c.shipments.invariant.3 was at) (c.next_shipped.ensures.stays clean) in
-    stays.0
-
-pub returns-clause-as_before : goal.returns-clause-as_before
-returns-clause-as_before g c clean at =
-    let stays = c.shipments.invariant.3 clean at in
-    stays.0
-
 pub returns-in_err-units-clause-stays : goal.returns-in_err-units-clause-stays
 returns-in_err-units-clause-stays g c clean at =
     let was : HasCleanDisk (state g.S.Store c.shipments.conn) = omega (arith, clean, c.next_shipped.ensures.survives.clean) in

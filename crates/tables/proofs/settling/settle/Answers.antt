@@ -5,7 +5,9 @@ use Rattle.sqlite.specs.State.{HasCleanDisk, Survives}
 use Rattle.sqlite.specs.Tree.{Trees}
 use Rattle.table_words.specs.Steps.{IsReady}
 use Rattle.tables.specs.Indexing.{HasIndexes, KeepsRows}
+use Rattle.tables.specs.Opening.{TellTables}
 use Rattle.tables.proofs.CreateLemmas.{crash_made}
+use Rattle.tables.proofs.OpenLemmas.{ready_tells}
 use Rattle.table_words.specs.declared.error.TableFault.TheVariants.{Foreign as ForeignTable}
 use Rattle.tables.specs.Opening.{TellTables}
 use Rattle.tables.proofs.OpenLemmas.{ready_tells}

@@ -1,8 +1,12 @@
-use Rattle.std.proofs.Common.{◌≡◌, ◌+◌, take, true, sym, ap, subst, subst₂, ◌∙◌, refl, rules, arith}
-use Rattle.std.specs.Prelude.{map, is_ok}
+use Rattle.std.proofs.Common.{◌≡◌, ◌≢◌, ◌+◌, take, true, sym, ap, subst, subst₂, ◌∙◌, refl, rules, arith}
+use Rattle.std.specs.Prelude.{[], All, codes, map, is_ok}
 use Rattle.std.proofs.lemmas.Grind.{common_steps}
+use Rattle.sqlite.specs.Held.{state}
+use Rattle.store.proofs.AsBefore.{as_before_itself}
+use Rattle.house.specs.Answers.{status_of}
 use Rattle.house.specs.House.{books_of, bytes_of, texts_of, StepsTo, RunsTo}
-use Rattle.house.proofs.Running.{run_on, texts_more, answers_more}
+use Rattle.house.proofs.Unanswered.{run_unanswered}
+use Rattle.house.proofs.Running.{run_none, run_on, texts_more, answers_more}
 use Rattle.house.proofs.house.House.answer_all.Goals as goal
 
 pub loop-request-preserved : goal.loop-request-preserved
@@ -24,6 +28,9 @@ loop-request-preserved g c =
           subst₂ (λ texts answers. RunsTo g.S.Store first acts texts answers (books_of c.args.self.now) (books_of c.answer-answer.new.self))
           (sym (texts_more c.args.requests.now c.loop-request.request-index c.request-item.result c.loop-request-test.true c.request-item.is))
           (sym (answers_more c.loop-request.answers.items c.push.new.self.items c.answer-answer.result more)) grown;
+      as_before = λ clean all.
+          run_unanswered (state g.S.Store (books_of c.args.self.now).conn) (state g.S.Store (books_of c.loop-request.self).conn) (state g.S.Store (books_of c.answer-answer.new.self).conn) c.loop-request.answers.items c.answer-answer.result
+          (was.as_before (c.answer-answer.ensures.clean clean)) (c.answer-answer.ensures.as_before clean) (subst (All (λ answer. status_of (bytes_of answer) ≢ codes "HTTP/1.1 200")) more all);
     }
 
 pub loop-request-init : goal.loop-request-init
@@ -31,7 +38,9 @@ loop-request-init g c = record {
   room = c.in_ok-answers.ensures.capacity;
   full = c.in_ok-answers.ensures.len;
   clean = λ clean. clean;
-  run = λ clean first acts history holds. record { after = acts; run = rw c.in_ok-answers.ensures.items refl; history = history; holds = holds; kept = λ leaves. leaves };
+  run = λ clean first acts history holds.
+      subst (λ answers. RunsTo g.S.Store first acts [] (map bytes_of answers) (books_of c.args.self.now) (books_of c.args.self.now)) (sym c.in_ok-answers.ensures.items) (run_none g.S.Store first acts (books_of c.args.self.now) history holds);
+  as_before = λ clean all. as_before_itself (state g.S.Store (books_of c.args.self.now).conn);
 }
 
 pub unwrap-requires : goal.unwrap-requires
@@ -44,3 +53,6 @@ pub returns-clause-run : goal.returns-clause-run
 returns-clause-run g c clean first acts history holds =
     let all : take c.loop-request.request-index c.args.requests.now ≡ c.args.requests.now = grind (arith, common_steps) in
     subst (λ l. RunsTo g.S.Store first acts (texts_of l) (map bytes_of c.loop-request.answers.items) (books_of c.args.self.now) (books_of c.loop-request.self)) all (c.loop-request.invariant.run clean first acts history holds)
+
+pub returns-clause-as_before : goal.returns-clause-as_before
+returns-clause-as_before g c = c.loop-request.invariant.as_before

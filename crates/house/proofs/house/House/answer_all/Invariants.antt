@@ -1,8 +1,9 @@
-use Rattle.std.proofs.Common.{◌≡◌, ◌≤◌, ℤ, List, length, take}
-use Rattle.std.specs.Prelude.{map, vec_len, vec_capacity}
+use Rattle.std.proofs.Common.{◌≡◌, ◌≢◌, ◌≤◌, ℤ, List, length, take}
+use Rattle.std.specs.Prelude.{All, codes, map, vec_len, vec_capacity}
 use Rattle.machine.specs.Acts.{Act}
 use Rattle.machine.specs.Once.{IsHistory}
-use Rattle.store.specs.Books.{IsClean, HoldsBooks}
+use Rattle.store.specs.Books.{IsClean, HoldsBooks, AreAsBefore}
+use Rattle.house.specs.Answers.{status_of}
 use Rattle.house.specs.House.{books_of, bytes_of, texts_of, RunsTo}
 use Rattle.house.proofs.house.House.answer_all.Given as goal
 
@@ -13,4 +14,5 @@ invariant-loop-request g l = record {
   clean : IsClean g.S.Store (books_of l.self) → IsClean g.S.Store (books_of l.initial.self);
   run : IsClean g.S.Store (books_of l.self) → (first : ℤ) (acts : List Act) → IsHistory first acts → HoldsBooks g.S.Store first acts (books_of l.initial.self)
       → RunsTo g.S.Store first acts (texts_of (take l.request-index l.requests)) (map bytes_of l.answers.items) (books_of l.initial.self) (books_of l.self);
+  as_before : IsClean g.S.Store (books_of l.self) → All (λ answer. status_of (bytes_of answer) ≢ codes "HTTP/1.1 200") l.answers.items → AreAsBefore g.S.Store (books_of l.initial.self) (books_of l.self);
 }

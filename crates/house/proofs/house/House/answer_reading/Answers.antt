@@ -1,6 +1,7 @@
 use Rattle.std.proofs.Common.{subst}
 use Rattle.requests.specs.Requests.{IsReading}
 use Rattle.house.proofs.Stepping.{told_fault, asked, in_place}
+use Rattle.store.proofs.AsBefore.{as_before_itself}
 use Rattle.house.proofs.house.House.answer_reading.Goals as goal
 
 pub returns-in-Request-clause-step : goal.returns-in-Request-clause-step
@@ -14,3 +15,9 @@ returns-in-Request-clause-in_place g c text read =
 pub returns-in-Need-clause-step : goal.returns-in-Need-clause-step
 returns-in-Need-clause-step g c clean first acts history holds text read =
     told_fault g.S.Store first acts history text _ c.args.reading.now c.in-Need.fault _ c.fault_answer.ensures holds read c.in-Need.is
+
+pub returns-in-Request-clause-as_before : goal.returns-in-Request-clause-as_before
+returns-in-Request-clause-as_before g c clean ne = c.answer_ask.ensures.as_before clean ne
+
+pub returns-in-Need-clause-as_before : goal.returns-in-Need-clause-as_before
+returns-in-Need-clause-as_before g c clean ne = as_before_itself _

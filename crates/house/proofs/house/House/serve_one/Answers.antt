@@ -13,3 +13,7 @@ returns-clause-served g c clean first acts history holds written =
       steps = c.answer_reading-answer.ensures.step clean first acts history holds r.text r.read;
       written = writes c.write_bytes.result _ _ _ _ c.as_bytes.ensures c.write_bytes.ensures.written;
     }
+
+pub returns-clause-as_before : goal.returns-clause-as_before
+returns-clause-as_before g c clean written =
+    (bytes_of c.answer_reading-answer.result, writes c.write_bytes.result _ _ _ _ c.as_bytes.ensures c.write_bytes.ensures.written, c.answer_reading-answer.ensures.as_before clean)

@@ -1,16 +1,16 @@
-use Rattle.std.proofs.Common.{sym, subst, ◌∙◌, rules}
+use Rattle.std.proofs.Common.{sym, subst, ◌∙◌, arith, rules}
 use Rattle.std.specs.Prelude.{ℤ, List, IsTrue}
 use Rattle.commands.specs.declared.key.Key.{Key}
 use Rattle.commands.specs.declared.command.Command.{Command}
 use Rattle.sqlite.specs.Held.{state}
-use Rattle.sqlite.specs.State.{Survives, KeepsCommit}
+use Rattle.sqlite.specs.State.{HasCleanDisk, Survives}
 use Rattle.sqlite.specs.Tree.{Trees}
 use Rattle.sqlite_trees.specs.declared.store.Store.{Ghosts}
 use Rattle.machine.specs.Acts.{Act}
 use Rattle.machine.specs.Once.{IsHistory, is_key_of, acts_after}
-use Rattle.store.specs.Books.{HoldsBooks, KeepsBooks, AreRowsOf, IsClean}
-use Rattle.table_words.specs.Steps.{IsReady}
+use Rattle.store.specs.Books.{HoldsBooks, KeepsBooks, AreBooks, IsAsBefore}
 use Rattle.store.specs.Connected.{Connected}
+use Rattle.store.proofs.AsBefore.{as_before}
 use Rattle.store.proofs.ActsWhole.{kept_acts}
 use Rattle.store.proofs.BooksWhole.{idle_then}
 use Rattle.store.proofs.DayTold.{day_told}
@@ -19,7 +19,7 @@ use Rattle.store.proofs.books.Books.act.Goals as goal
 -- what a stop may leave beside the books as they were
 abbrev Leaves : {S : Type 0} (g : Ghosts S) (key : Key) (command : Command) (b : Connected S) → Trees → Type 0
 Leaves g key command b = λ trees. IsTrue (is_key_of key command) → (first : ℤ) (acts : List Act) → IsHistory first acts → KeepsBooks first acts (state g b.conn)
-    → AreRowsOf first (acts_after first acts (record { key = key; command = command })) trees
+    → AreBooks first (acts_after first acts (record { key = key; command = command })) trees
 
 pub returns-in-Ok-clause-acted : goal.returns-in-Ok-clause-acted
 returns-in-Ok-clause-acted g c clean kind first acts history holds =
@@ -53,11 +53,20 @@ returns-in-Err-clause-survives g c =
     subst (λ b. Survives (state g.S.Store b.conn) (state g.S.Store c.act_once.new.conn) (Leaves g.S.Store c.args.key.now c.args.command.now b)) c.self.view_is c.in-Err.ensures.survives
 
 pub returns-in-Err-clause-as_before : goal.returns-in-Err-clause-as_before
-returns-in-Err-clause-as_before g c =
-    subst (λ b. IsClean g.S.Store (record { conn = c.act_once.new.conn; day = c.self.inside.day }) → IsReady (state g.S.Store b.conn).now → KeepsCommit (state g.S.Store b.conn) (state g.S.Store c.act_once.new.conn)) c.self.view_is c.in-Err.ensures.as_before
+returns-in-Err-clause-as_before g c clean =
+    let old = state g.S.Store c.self.inside.conn in
+    let new = state g.S.Store c.act_once.new.conn in
+    let before : HasCleanDisk old = omega (arith, clean, c.in-Err.ensures.survives.clean) in
+    subst (λ b. IsAsBefore (state g.S.Store b.conn) new) c.self.view_is (as_before old new (c.self.invariant.1 before).0 (c.in-Err.ensures.known clean).0 (c.in-Err.ensures.as_before clean))
 
 pub invariant_of-self : goal.invariant_of-self
 invariant_of-self g c = (idle_then g.S.Store c.self.inside.conn c.act_once.new.conn c.in-Ok.ensures.survives c.in-Ok.ensures.outside c.self.invariant.0, c.in-Ok.ensures.known)
 
 pub invariant_of-self-in-Err : goal.invariant_of-self-in-Err
 invariant_of-self-in-Err g c = (idle_then g.S.Store c.self.inside.conn c.act_once.new.conn c.in-Err.ensures.survives c.in-Err.ensures.outside c.self.invariant.0, c.in-Err.ensures.known)
+
+pub returns-in-Ok-clause-stays : goal.returns-in-Ok-clause-stays
+returns-in-Ok-clause-stays g c clean = (c.in-Ok.ensures.known clean).0
+
+pub returns-in-Err-clause-stays : goal.returns-in-Err-clause-stays
+returns-in-Err-clause-stays g c clean = (c.in-Err.ensures.known clean).0

@@ -1,18 +1,18 @@
-use Rattle.std.proofs.Common.{sym, subst}
+use Rattle.std.proofs.Common.{sym, subst, arith}
 use Rattle.std.specs.Prelude.{ℤ, List}
 use Rattle.commands.specs.declared.key.Key.{Key}
 use Rattle.commands.specs.declared.command.Command.{Command}
 use Rattle.sqlite.specs.Held.{state}
-use Rattle.sqlite.specs.State.{Survives, KeepsCommit}
+use Rattle.sqlite.specs.State.{HasCleanDisk, Survives}
 use Rattle.sqlite.specs.Tree.{Trees}
 use Rattle.sqlite_trees.specs.declared.store.Store.{Ghosts}
 use Rattle.machine.specs.Acts.{Act}
 use Rattle.machine.specs.Once.{IsHistory, acts_after_file}
-use Rattle.table_words.specs.Steps.{IsReady}
-use Rattle.store.specs.Books.{HoldsBooks, KeepsBooks, AreRowsOf, IsClean}
+use Rattle.store.specs.Books.{HoldsBooks, KeepsBooks, AreBooks, IsAsBefore}
 use Rattle.store.specs.Connected.{Connected}
 use Rattle.store.specs.Filing.{rows_of, AreKeysOf}
 use Rattle.machine.proofs.histories.Runs.{history_file}
+use Rattle.store.proofs.AsBefore.{as_before}
 use Rattle.store.proofs.ActsWhole.{kept_acts}
 use Rattle.store.proofs.BooksWhole.{idle_then, known_unread}
 use Rattle.store.proofs.FilesWhole.{file_answered, file_faulted}
@@ -21,7 +21,7 @@ use Rattle.store.proofs.books.Books.act_all.Goals as goal
 -- what a stop may leave beside the books as they were
 abbrev Leaves : {S : Type 0} (g : Ghosts S) (rows : List (Key × Command)) (b : Connected S) → Trees → Type 0
 Leaves g rows b = λ trees. AreKeysOf rows → (first : ℤ) (acts : List Act) → IsHistory first acts → KeepsBooks first acts (state g b.conn)
-    → AreRowsOf first (acts_after_file first acts (rows_of rows)) trees
+    → AreBooks first (acts_after_file first acts (rows_of rows)) trees
 
 pub returns-in-Ok-clause-filed : goal.returns-in-Ok-clause-filed
 returns-in-Ok-clause-filed g c clean keys first acts history holds =
@@ -54,8 +54,11 @@ pub returns-in-Err-clause-history : goal.returns-in-Err-clause-history
 returns-in-Err-clause-history g c keys first acts history = history_file first acts (rows_of c.args.rows.now) (c.every_row_is_sound.ensures keys) history
 
 pub returns-in-Err-clause-as_before : goal.returns-in-Err-clause-as_before
-returns-in-Err-clause-as_before g c =
-    subst (λ b. IsClean g.S.Store (record { conn = c.file_once.new.conn; day = c.self.inside.day }) → IsReady (state g.S.Store b.conn).now → KeepsCommit (state g.S.Store b.conn) (state g.S.Store c.file_once.new.conn)) c.self.view_is c.in-Err.ensures.as_before
+returns-in-Err-clause-as_before g c clean =
+    let old = state g.S.Store c.self.inside.conn in
+    let new = state g.S.Store c.file_once.new.conn in
+    let before : HasCleanDisk old = omega (arith, clean, c.in-Err.ensures.survives.clean) in
+    subst (λ b. IsAsBefore (state g.S.Store b.conn) new) c.self.view_is (as_before old new (c.self.invariant.1 before).0 (c.in-Err.ensures.settled clean) (c.in-Err.ensures.as_before clean))
 
 pub invariant_of-self : goal.invariant_of-self
 invariant_of-self g c = (idle_then g.S.Store c.self.inside.conn c.file_once.new.conn c.in-Ok.ensures.survives c.in-Ok.ensures.outside c.self.invariant.0, c.in-Ok.ensures.known)
@@ -65,3 +68,9 @@ invariant_of-self-in-Err g c = (
   idle_then g.S.Store c.self.inside.conn c.file_once.new.conn c.in-Err.ensures.survives c.in-Err.ensures.outside c.self.invariant.0,
   known_unread (state g.S.Store c.file_once.new.conn) c.in-Err.ensures.settled,
 )
+
+pub returns-in-Ok-clause-stays : goal.returns-in-Ok-clause-stays
+returns-in-Ok-clause-stays g c clean = c.in-Ok.ensures.settled clean
+
+pub returns-in-Err-clause-stays : goal.returns-in-Err-clause-stays
+returns-in-Err-clause-stays g c clean = c.in-Err.ensures.settled clean

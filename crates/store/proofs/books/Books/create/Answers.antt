@@ -1,9 +1,10 @@
 use Rattle.std.proofs.Common.{[], Err, ap, sym, ◌∙◌, rules}
 use Rattle.sqlite.specs.Held.{state}
 use Rattle.table_words.specs.declared.error.TableFault.TheVariants.{Foreign as ForeignTable}
-use Rattle.store.specs.Books.{AreRowsOf}
+use Rattle.store.specs.Books.{AreBooks}
 use Rattle.store.specs.Faults.{fault_of}
 use Rattle.tables.specs.declared.opening.Leftover.TheVariants as left
+use Rattle.store.proofs.ActsWhole.{kept_acts}
 use Rattle.store.proofs.BooksWhole.{known_unread, settled_books}
 use Rattle.store.proofs.OpenedBooks.{foreign_if, same_err, either_told, unlimited_books, unlimited_survives}
 use Rattle.store.proofs.books.Books.create.Goals as goal
@@ -12,7 +13,7 @@ pub returns-clause-books : goal.returns-clause-books
 returns-clause-books g c = unlimited_books g.S.Store c.make_tables.new.conn c.set_step_limit.new.self c.args.day c.set_step_limit.ensures c.in-Ok.ensures.made
 
 pub returns-clause-survives : goal.returns-clause-survives
-returns-clause-survives g c = unlimited_survives g.S.Store c.args.conn c.make_tables.new.conn c.set_step_limit.new.self (AreRowsOf c.args.day []) c.set_step_limit.ensures c.make_tables.ensures.survives
+returns-clause-survives g c = unlimited_survives g.S.Store c.args.conn c.make_tables.new.conn c.set_step_limit.new.self (AreBooks c.args.day []) c.set_step_limit.ensures c.make_tables.ensures.survives
 
 pub returns-in-Err-clause-foreign : goal.returns-in-Err-clause-foreign
 returns-in-Err-clause-foreign g c =
@@ -33,3 +34,12 @@ invariant_of-result g c = (
   known_unread (state g.S.Store c.set_step_limit.new.self)
       (λ clean. settled_books c.args.day [] (state g.S.Store c.set_step_limit.new.self) (unlimited_books g.S.Store c.make_tables.new.conn c.set_step_limit.new.self c.args.day c.set_step_limit.ensures c.in-Ok.ensures.made clean).0),
 )
+
+pub returns-clause-settled : goal.returns-clause-settled
+returns-clause-settled g c clean =
+    settled_books c.args.day [] (state g.S.Store c.set_step_limit.new.self) (unlimited_books g.S.Store c.make_tables.new.conn c.set_step_limit.new.self c.args.day c.set_step_limit.ensures c.in-Ok.ensures.made clean).0
+
+pub returns-clause-kept : goal.returns-clause-kept
+returns-clause-kept g c clean =
+    let made = unlimited_books g.S.Store c.make_tables.new.conn c.set_step_limit.new.self c.args.day c.set_step_limit.ensures c.in-Ok.ensures.made clean in
+    kept_acts g.S.Store c.set_step_limit.new.self c.args.day [] (g.met.S.Store.settled c.set_step_limit.new.self.store) made.1 made.0

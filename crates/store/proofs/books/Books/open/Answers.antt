@@ -5,7 +5,7 @@ use Rattle.sqlite.specs.Tree.{Trees}
 use Rattle.machine.specs.Standing.{today}
 use Rattle.store.specs.Opening.{HasDay}
 use Rattle.store.proofs.BooksWhole.{known_unread, settled_reopened}
-use Rattle.store.proofs.OpenedBooks.{reopened, keeps_books, has_day, one_day, foreign_if, store_else, either_told, left_over}
+use Rattle.store.proofs.OpenedBooks.{reopened, keeps_books, leaves_opened, tables_opened, has_day, one_day, foreign_if, store_else, either_told, left_over}
 use Rattle.store.proofs.books.Books.open.Goals as goal
 
 pub returns-in-Ok-settle-clause-books : goal.returns-in-Ok-settle-clause-books
@@ -13,7 +13,7 @@ returns-in-Ok-settle-clause-books g c clean first acts history rows =
     let was = c.in-Ok.ensures in
     let read = c.settle.ensures in
     keeps_books g.S.Store c.args.conn c.settle.new.conn first acts
-    (reopened g.S.Store c.args.conn c.in-Ok.again c.settle.new.conn was.ready was.opens was.same was.crash was.clean was.shield read.kept read.survives read.outside)
+    (reopened g.S.Store c.args.conn c.in-Ok.again c.settle.new.conn was.ready was.opens was.same was.crash was.clean was.shield read.kept read.survives read.tells read.outside)
     clean rows
 
 pub returns-in-Ok-settle-clause-day : goal.returns-in-Ok-settle-clause-day
@@ -47,13 +47,13 @@ pub returns-in-Err-settle-clause-left : goal.returns-in-Err-settle-clause-left
 returns-in-Err-settle-clause-left g c =
     let was = c.in-Ok.ensures in
     let read = c.settle.ensures in
-    inr (reopened g.S.Store c.args.conn c.in-Ok.again c.settle.new.conn was.ready was.opens was.same was.crash was.clean was.shield read.kept read.survives read.outside)
+    inr (reopened g.S.Store c.args.conn c.in-Ok.again c.settle.new.conn was.ready was.opens was.same was.crash was.clean was.shield read.kept read.survives read.tells read.outside)
 
 pub returns-in-Ok-settle-clause-opens : goal.returns-in-Ok-settle-clause-opens
 returns-in-Ok-settle-clause-opens g c =
     let was = c.in-Ok.ensures in
     let read = c.settle.ensures in
-    reopened g.S.Store c.args.conn c.in-Ok.again c.settle.new.conn was.ready was.opens was.same was.crash was.clean was.shield read.kept read.survives read.outside
+    reopened g.S.Store c.args.conn c.in-Ok.again c.settle.new.conn was.ready was.opens was.same was.crash was.clean was.shield read.kept read.survives read.tells read.outside
 
 pub returns-in-Ok-settle-clause-other : goal.returns-in-Ok-settle-clause-other
 returns-in-Ok-settle-clause-other g c schema = absurd (c.in-Ok.ensures.other schema)
@@ -93,5 +93,31 @@ invariant_of-result g c =
     let read = c.settle.ensures in (
       search rules,
       known_unread (state g.S.Store c.settle.new.conn)
-          (settled_reopened g.S.Store c.args.conn c.settle.new.conn (reopened g.S.Store c.args.conn c.in-Ok.again c.settle.new.conn was.ready was.opens was.same was.crash was.clean was.shield read.kept read.survives read.outside)),
+          (settled_reopened g.S.Store c.args.conn c.settle.new.conn (reopened g.S.Store c.args.conn c.in-Ok.again c.settle.new.conn was.ready was.opens was.same was.crash was.clean was.shield read.kept read.survives read.tells read.outside)),
     )
+
+pub returns-in-Ok-settle-clause-settled : goal.returns-in-Ok-settle-clause-settled
+returns-in-Ok-settle-clause-settled g c clean =
+    let was = c.in-Ok.ensures in
+    let read = c.settle.ensures in
+    settled_reopened g.S.Store c.args.conn c.settle.new.conn (reopened g.S.Store c.args.conn c.in-Ok.again c.settle.new.conn was.ready was.opens was.same was.crash was.clean was.shield read.kept read.survives read.tells read.outside) clean
+
+pub returns-in-Ok-settle-clause-kept : goal.returns-in-Ok-settle-clause-kept
+returns-in-Ok-settle-clause-kept g c clean first acts history rows =
+    let was = c.in-Ok.ensures in
+    let read = c.settle.ensures in
+    leaves_opened g.S.Store c.args.conn c.settle.new.conn first acts
+    (reopened g.S.Store c.args.conn c.in-Ok.again c.settle.new.conn was.ready was.opens was.same was.crash was.clean was.shield read.kept read.survives read.tells read.outside)
+    clean rows
+
+pub returns-in-Err-settle-clause-again : goal.returns-in-Err-settle-clause-again
+returns-in-Err-settle-clause-again g c clean opens live first acts history books =
+    let was = c.in-Ok.ensures in
+    let before : HasCleanDisk (state g.S.Store c.in-Ok.again) = omega (arith, clean, c.settle.ensures.survives.clean) in
+    let day = today first acts in
+    let has : HasDay (state g.S.Store c.in-Ok.again).now.trees day = subst (λ (t : Trees). HasDay t day) (sym (was.same before)) (has_day (state g.S.Store c.args.conn).committed.trees first acts books.rows) in
+    c.from-in-Err-settle.ensures ∙ store_else c.in-Err-settle.fault (λ is. c.in-Err-settle.ensures.foreign clean (was.ready before) is day has)
+
+pub returns-in-Err-clause-again : goal.returns-in-Err-clause-again
+returns-in-Err-clause-again g c clean opens live first acts history books =
+    c.from.ensures ∙ store_else c.in-Err.fault (λ is. c.in-Err.ensures.foreign is (tables_opened (state g.S.Store c.args.conn) opens live books.schema))

@@ -1,7 +1,8 @@
 use Rattle.std.proofs.Common.{sym, subst}
+use Rattle.sqlite.specs.Held.{state}
 use Rattle.machine.specs.Queries.{stock_shown}
-use Rattle.store.specs.Books.{HoldsBooks}
-use Rattle.store.proofs.BooksWhole.{whole_then, shown_by_books}
+use Rattle.store.specs.Books.{HoldsBooks, IsAsBefore}
+use Rattle.store.proofs.BooksWhole.{whole_then, look_kept, shown_by_books}
 use Rattle.store.proofs.books.Books.stock.Goals as goal
 
 pub returns-clause-shown : goal.returns-clause-shown
@@ -12,3 +13,11 @@ returns-clause-shown g c clean first acts history holds =
 
 pub invariant_of-self : goal.invariant_of-self
 invariant_of-self g c = whole_then g.S.Store c.self.inside.known c.self.inside.conn c.show.new.conn c.show.ensures.survives c.show.ensures.outside c.show.ensures.stays c.self.invariant
+
+pub returns-clause-as_before : goal.returns-clause-as_before
+returns-clause-as_before g c clean =
+    subst (λ b. IsAsBefore (state g.S.Store b.conn) (state g.S.Store c.show.new.conn)) c.self.view_is
+    (look_kept g.S.Store c.self.inside.known c.self.inside.conn c.show.new.conn c.show.ensures.survives c.show.ensures.stays c.self.invariant.1 clean).0
+
+pub returns-clause-stays : goal.returns-clause-stays
+returns-clause-stays g c clean = (look_kept g.S.Store c.self.inside.known c.self.inside.conn c.show.new.conn c.show.ensures.survives c.show.ensures.stays c.self.invariant.1 clean).1
