@@ -151,7 +151,7 @@ impl<'a> Run<'a> {
 
 /// Where the disk of one side stops within requests of the day.
 #[derive(Clone, Copy)]
-struct Stops {
+struct Within {
     side: Side,
     /// The first request, and how many.
     requests: (usize, usize),
@@ -162,7 +162,7 @@ struct Stops {
 }
 
 // Only a stop of the log leaves the whole of an act that was not answered, which it then does.
-fn are_judged(rt: &impl Abort, alloc: Global, stops: Stops) {
+fn are_judged(rt: &impl Abort, alloc: Global, stops: Within) {
     let day = day(rt, alloc);
     let stages = stages(rt, alloc, day.as_slice());
     let (at, requests) = stops.requests;
@@ -177,7 +177,7 @@ fn are_judged(rt: &impl Abort, alloc: Global, stops: Stops) {
 
 #[test]
 fn the_log_stops_early_in_a_day(rt: HostRuntime) {
-    let stops = Stops {
+    let stops = Within {
         side: Side::Log,
         requests: (0, 15),
         calls: (0, 120),
@@ -188,7 +188,7 @@ fn the_log_stops_early_in_a_day(rt: HostRuntime) {
 
 #[test]
 fn the_log_stops_late_in_a_day(rt: HostRuntime) {
-    let stops = Stops {
+    let stops = Within {
         side: Side::Log,
         requests: (0, 15),
         calls: (120, u64::MAX),
@@ -199,7 +199,7 @@ fn the_log_stops_late_in_a_day(rt: HostRuntime) {
 
 #[test]
 fn the_database_stops_early_in_a_day(rt: HostRuntime) {
-    let stops = Stops {
+    let stops = Within {
         side: Side::Database,
         requests: (0, 15),
         calls: (0, 120),
@@ -210,7 +210,7 @@ fn the_database_stops_early_in_a_day(rt: HostRuntime) {
 
 #[test]
 fn the_database_stops_late_in_a_day(rt: HostRuntime) {
-    let stops = Stops {
+    let stops = Within {
         side: Side::Database,
         requests: (0, 15),
         calls: (120, u64::MAX),
@@ -221,7 +221,7 @@ fn the_database_stops_late_in_a_day(rt: HostRuntime) {
 
 #[test]
 fn the_log_stops_within_a_recall(rt: HostRuntime) {
-    let stops = Stops {
+    let stops = Within {
         side: Side::Log,
         requests: (RECALL, 1),
         calls: (0, u64::MAX),
@@ -232,7 +232,7 @@ fn the_log_stops_within_a_recall(rt: HostRuntime) {
 
 #[test]
 fn the_database_stops_within_a_recall(rt: HostRuntime) {
-    let stops = Stops {
+    let stops = Within {
         side: Side::Database,
         requests: (RECALL, 1),
         calls: (0, u64::MAX),

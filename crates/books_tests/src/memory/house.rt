@@ -48,12 +48,12 @@ pub(crate) fn house_after<S: Alter + Drop>(
 ) -> House<S> {
     let mut house = House::new(alloc, new_books(rt, alloc, conn));
     for place in MADE..done {
-        answers(rt, alloc, &mut house, step_at(rt, place));
+        is_answered(rt, alloc, &mut house, step_at(rt, place));
     }
     house
 }
 
-fn answers<S: Alter>(rt: &impl Abort, alloc: Global, house: &mut House<S>, step: &DayStep) {
+fn is_answered<S: Alter>(rt: &impl Abort, alloc: Global, house: &mut House<S>, step: &DayStep) {
     let answers = Answers::of(rt, alloc, step);
     let answered = house.answer(answers.asked.as_bytes());
     assert!(rt;
