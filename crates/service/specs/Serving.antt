@@ -1,5 +1,5 @@
 -- What serving a port does to the books, and what a line's work does.
-use Rattle.std.specs.Prelude.{◌≡◌, ◌≢◌, ◌⊎◌, ◌↔◌, ◌≤◌, ℕ, ℤ, List, [], length, false, Option, Result, Ok, Err, IsErr, IsErrOf, IsTrue, ◌++◌, codes}
+use Rattle.std.specs.Prelude.{◌≡◌, ◌≢◌, ◌⊎◌, ◌↔◌, ◌≤◌, ℕ, ℤ, List, [], length, zip, false, Option, Result, Ok, Err, IsErr, IsErrOf, IsTrue, ◌++◌, codes}
 use Rattle.std.specs.Fmt.{decimal}
 use Rattle.std.specs.Io.KnownBytes.{Appends}
 use Rattle.sqlite_trees.specs.declared.store.Store.{Ghosts}
@@ -39,7 +39,7 @@ pub record KeepsRun {S : Type 0} (g : Ghosts S) (first : ℤ) (acts : List Act) 
   pub history : IsHistory first after
   pub keeps : KeepsBooks first after (state g conn)
   -- what was answered is kept
-  pub kept : LeavesBooks first after (state g conn)
+  pub kept : LeavesBooks first after (zip texts answers) (state g conn)
 
 -- what the work makes of a connection
 abbrev pub IsWorked : {S : Type 0} → Ghosts S → Held S → Work → Held S → Type 0

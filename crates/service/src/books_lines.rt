@@ -113,7 +113,7 @@ fn serve_books<S: Alter + Drop, W: Write>(
 ) -> Worked<S>
     ensures clean { HasCleanDisk (state S.Store result.0) → IsClean S.Store books }
     ensures served { HasCleanDisk (state S.Store result.0) → (first : ℤ) (acts : List Act) → IsHistory first acts → HoldsBooks S.Store first acts books
-        → LeavesBooks first acts (state S.Store books.conn) → KeepsRun S.Store first acts max result.0 }
+        → LeavesBooks first acts [] (state S.Store books.conn) → KeepsRun S.Store first acts max result.0 }
     ensures told { IsPortTold port (W.contents out.old) (W.contents out.new) result.1 }
 {
     let mut house = House::new(rt.alloc(), books);
@@ -231,7 +231,7 @@ fn print_sheet<S: Alter, W: Write>(
 fn opened<S: Alter + Drop>(alloc: Global, conn: Connection<S>) -> Result<Books<S>, Fault>
     ensures clean { IfOk result (λ b. IsClean S.Store b → HasCleanDisk (state S.Store conn)) }
     ensures books { IfOk result (λ b. IsClean S.Store b → (first : ℤ) (acts : List Act) → IsHistory first acts
-        → AreRowsOf first acts (state S.Store conn).committed.trees → HoldsBooks S.Store first acts b × LeavesBooks first acts (state S.Store b.conn)) }
+        → AreRowsOf first acts (state S.Store conn).committed.trees → HoldsBooks S.Store first acts b × LeavesBooks first acts [] (state S.Store b.conn)) }
     ensures other { ¬ HasTables (state S.Store conn).now.schema → IsErr result }
     ensures within { conn.in_transaction ≡ true → IsErrOf result Fault.Store }
     ensures fault { IfErr result (λ fault. (fault ≡ Fault.Store) ⊎ (fault ≡ Fault.Foreign)) }
