@@ -2,15 +2,15 @@
 //! rows of each table are compared with what is written down here. A line is printed before each call and after it: by
 //! these `memory.sh` knows which requests for memory to refuse, and what came of it.
 
+mod answering;
 mod answers;
 mod books;
-mod house;
 mod rows;
 mod steps;
 
+use crate::memory::answering::{Compares, day_tried, serve_one_tried};
 use crate::memory::answers::answer_all_tried;
 use crate::memory::books::{Reopened, create_tried, open_tried};
-use crate::memory::house::{Compares, day_tried, serve_one_tried};
 use sqlite::Connection;
 use std::process::Abort;
 

@@ -1,6 +1,6 @@
 //! Requests that are answered in turn by one call, for which there may be no memory.
 
-use crate::memory::house::{Answers, house_after};
+use crate::memory::answering::{Answers, house_after};
 use crate::memory::rows::has_rows_after;
 use crate::memory::steps::{BOOKED, SET_UP, step_at};
 use crate::opening::books_of;

@@ -1,6 +1,6 @@
 //! Books that are made, and opened, for which there may be no memory.
 
-use crate::memory::house::house_after;
+use crate::memory::answering::house_after;
 use crate::memory::rows::has_rows_after;
 use crate::memory::steps::{BOOKED, MADE};
 use crate::opening::{business_day, closed};
