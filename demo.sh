@@ -29,7 +29,7 @@ expect() {
 
 # is_closed WHAT: the file of the books was closed, so its log has not one page left that is not in the file
 is_closed() {
-    if [ -e "$db-wal" ] && [ "$(wc -c <"$db-wal")" -ge 4096 ]; then
+    if [ -e "$db-wal" ] && [ "$(wc -c <"$db-wal")" -ge 1024 ]; then
         echo "demo: $1: the log beside the file of the books still has pages" >&2
         exit 1
     fi

@@ -1,6 +1,6 @@
 #!/bin/sh
 # What an administrator does to the file of the books between two runs of lotd: restored from a dump, analysed, packed,
-# with an index more or less. The books open, tell what they told before, and go on; with a partial index they are
+# moved to pages of another size, with an index more or less. The books open, tell what they told before, and go on; with a partial index they are
 # foreign, and without it again as they were. Needs the Rattle kit, python3 and
 # the sqlite3 tool, and takes some seconds.
 # Exit status 0 only if every answer was the expected one and every row was kept.
@@ -123,6 +123,13 @@ def restore(db):
     os.replace(new, db)
 
 
+def moved(db, size):
+    """To pages of this size, as docs/BOOKS.md says."""
+    sql(db, "PRAGMA journal_mode=DELETE; PRAGMA page_size=%d; VACUUM; PRAGMA journal_mode=WAL;" % size)
+    if sql(db, "PRAGMA page_size") != "%d\n" % size:
+        sys.exit("restored: the pages are not of %d bytes" % size)
+
+
 def told():
     return [(lambda path=path: gets(path), (200, answer)) for path, answer in TOLD]
 
@@ -159,6 +166,8 @@ old = os.path.join(room, "old.db")
 subprocess.run([lotd, "init", "--db", old, "--day", "2026-05-04"], check=True)
 served("the books", old, [(lambda path=path, body=body: posts(path, body), (200, answer)) for path, body, answer in BEFORE])
 old_rows = rows_of(old)
+if sql(old, "PRAGMA page_size") != "1024\n":
+    sys.exit("restored: new books have pages of another size")
 
 check("as they are", lambda db: None)
 check("restored from a dump", restore)
@@ -166,6 +175,8 @@ check("restored from a dump twice", lambda db: (restore(db), restore(db)))
 check("after ANALYZE", lambda db: sql(db, "ANALYZE"))
 check("after VACUUM", lambda db: sql(db, "VACUUM"))
 check("after REINDEX", lambda db: sql(db, "REINDEX"))
+check("with pages of 4,096 bytes", lambda db: moved(db, 4096))
+check("moved from these to pages of 1,024", lambda db: (moved(db, 4096), moved(db, 1024)))
 # The second is one that books were made with once.
 for index, columns in (("cards_by_day", "cards (day)"), ("orders_by_state", "orders (state)")):
     check("with the index %s too" % index, lambda db: sql(db, "CREATE INDEX %s ON %s" % (index, columns)), INDEXES + [index])

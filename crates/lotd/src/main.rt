@@ -1,13 +1,28 @@
 // The program `lotd`: the stock system on the command line.
 #![tactic(auto)]
 
-mod books_file;
-
-use books_file::InFiles;
-use command_line::Fault;
+use books_file::work_in_file;
+use command_line::{BooksAt, Fault, Work};
+use sqlite::Unknown;
 use std::env;
-use std::io::ErrorKind;
+use std::io::{ErrorKind, Write};
 use std::process::ExitCode;
+
+/// The books in files of the host.
+#[derive(Clone, Copy)]
+struct InFiles<'a> {
+    rt: &'a HostRuntime,
+}
+
+impl BooksAt for InFiles<'_> {
+    // Nothing is known of what a file of the host has.
+    ghost ends = { λ _ _ _ _. Unit {0} };
+
+    /// What is supposed of the file is `Unknown`: whatever it has, and that a torn write leaves each byte old or new.
+    fn work<W: Write>(&self, db: &str, work: &Work<'_>, out: &mut W) -> Result<(), Fault> {
+        work_in_file(self.rt, db, Unknown, work, out)
+    }
+}
 
 fn main(rt: HostRuntime) -> ExitCode {
     let mut err = rt.stderr();

@@ -1,0 +1,93 @@
+ghost use Rattle.std.specs.Prelude.{◌≡◌, IfOk, IfErr, OnOk};
+ghost use Rattle.sqlite.specs.WalFiles.{image_at};
+ghost use Rattle.command_line.specs.declared.fault.Fault.TheVariants as fault;
+ghost use Rattle.books_file.specs.Lines.{IsLineDone};
+
+use crate::first_page::lay_first_page;
+use command_line::{Fault, Work};
+use service::{FilesAt, worked};
+use sqlite::{Connection, FileFrom, Files, Start};
+use sqlite_disk::Disk;
+use std::fs::{self, File};
+use std::io::{self, Write};
+
+/// The files of the host, which the lines name.
+#[derive(Clone, Copy)]
+pub struct HostFiles<'a> {
+    pub rt: &'a HostRuntime,
+}
+
+impl FilesAt for HostFiles<'_> {
+    type File = File;
+
+    fn open(&self, name: &str) -> io::Result<File> {
+        File::open(self.rt, name)
+    }
+}
+
+/// Does the work of a line with the books in the file at the path, and closes it. Only the making of books makes a file:
+/// where there is none, any other work is `Store` and leaves nothing behind. What the log still holds is copied into the
+/// file at the end, also where the port cannot be had. `start` says what is supposed of the file.
+pub fn work_in_file<S: Start, W: Write>(
+    rt: &HostRuntime,
+    db: &str,
+    start: S,
+    work: &Work<'_>,
+    out: &mut W,
+) -> Result<(), Fault> {
+    if !is_ready(rt, db, work) {
+        return Err(Fault::Store);
+    }
+    let (_, end) = line_worked(rt, &HostFiles { rt }, db, start, work, out)?;
+    end
+}
+
+/// Opens the file at the path, does the work with the books in it, copies what the log holds into it, and gives the file
+/// and its log back with how the work ended. Whatever the file held, its end, what was printed and what it holds then are
+/// those of the work over the database that was in it. The error is `Store` where the file cannot be opened or closed,
+/// and else that of the work.
+// The one function over the connection's own type: each costs the proof as much as all else here.
+pub fn line_worked<S: Start, F: FilesAt, W: Write>(
+    rt: &HostRuntime,
+    files: &F,
+    db: &str,
+    start: S,
+    work: &Work<'_>,
+    out: &mut W,
+) -> Result<(Files<FileFrom<S>>, Result<(), Fault>), Fault>
+    ensures done { IfOk result (λ w. IsLineDone ⟦<FileFrom<S> as Disk>⟧ (image_at S.Start) (F.bytes files.now) work.now (W.contents out.old) (W.contents out.new) w.1 w.0) }
+{
+    match Connection::open_from(rt, db, false, start) {
+        Ok(conn) => match worked(rt, files, conn, work, out) {
+            Ok((conn, end)) => match conn.close_files() {
+                Ok(left) => Ok((left, end)),
+                Err((_, store)) => {
+                    drop(store.close());
+                    Err(first_fault(end))
+                }
+            },
+            Err(fault) => Err(fault),
+        },
+        Err(_) => Err(Fault::Store),
+    }
+}
+
+/// Whether the file can be opened; for books that are to be made its first page is laid. To open a file that is not there
+/// makes it.
+fn is_ready(rt: &HostRuntime, db: &str, work: &Work<'_>) -> bool {
+    match work {
+        Work::Make(_) => lay_first_page(rt, db).is_ok(),
+        _ => fs::exists(rt, db).unwrap_or(false),
+    }
+}
+
+/// The fault of the work, or that the file could not be closed.
+fn first_fault(end: Result<(), Fault>) -> Fault
+    ensures work { IfErr end (λ fault. result ≡ fault) }
+    ensures closing { OnOk end (result ≡ fault.Store) }
+{
+    match end {
+        Ok(()) => Fault::Store,
+        Err(fault) => fault,
+    }
+}
