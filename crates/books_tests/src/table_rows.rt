@@ -461,7 +461,7 @@ static EACH_TABLE: [&[Step]; 2] = [
     &[
         Step::OpenTables,
         Step::On(On::Find),
-        Step::On(On::Gives("SELECT qty FROM shiplines", "5\n")),
+        Step::On(On::Gives("SELECT '' || qty FROM shiplines", "5\n")),
         Step::On(On::Gives("SELECT kind || qty FROM cards", "WRITEOFF-3\n")),
         Step::On(On::Drop),
     ],
