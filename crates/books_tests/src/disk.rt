@@ -105,12 +105,7 @@ fn done(rt: &impl Abort, alloc: Global, files: &Pair, work: Work<'_>) -> Pair {
 
 /// Takes the steps over new files, which are closed after each list of them and opened again for the next.
 pub(crate) fn run(rt: &impl Abort, alloc: Global, lists: &[&[Step]]) {
-    run_from(rt, alloc, Pair::empty(alloc), lists);
-}
-
-/// Takes the steps over these files, which are closed after each list of them and opened again for the next.
-pub(crate) fn run_from(rt: &impl Abort, alloc: Global, files: Pair, lists: &[&[Step]]) {
-    let mut files = files;
+    let mut files = Pair::empty(alloc);
     for steps in lists {
         files = done(rt, alloc, &files, Work::Steps(steps));
     }

@@ -112,18 +112,6 @@ impl Stored {
 }
 
 impl Pair {
-    /// A file of the books that holds these bytes, and a log with nothing in it.
-    pub(crate) fn holding(rt: &impl Abort, alloc: Global, bytes: Vec<u8>) -> Pair {
-        let synced = copied(rt, alloc, bytes.as_slice());
-        Pair {
-            log: Stored::empty(alloc),
-            db: Stored {
-                written: bytes,
-                synced,
-            },
-        }
-    }
-
     /// Files with nothing in them.
     pub(crate) fn empty(alloc: Global) -> Pair {
         Pair {

@@ -41,10 +41,6 @@ mod lots_told;
 #[cfg(test)]
 mod memory;
 #[cfg(test)]
-mod old_bytes;
-#[cfg(test)]
-mod old_files;
-#[cfg(test)]
 mod opening;
 #[cfg(test)]
 mod order_rows;

@@ -11,7 +11,6 @@ use crate::goods::{
 };
 use crate::hostile::GOODS_AND_BINS_ROWS;
 use crate::limits::{LAST_UNIT, MANY_UNITS, NEXT_DAY, TWENTY_LINES, TWO_LINES};
-use crate::old_files::{OLD_ROWS, OLD_TOLD};
 use crate::order_rows::TWO_CUSTOMERS_ROWS;
 use crate::orders_shown::ORDERS_SHOWN;
 use crate::picking::{
@@ -67,8 +66,6 @@ pub(crate) enum Table {
     GoneNamed,
     OrdersShown,
     Wide,
-    /// What books of schema 1 tell, and how they go on.
-    OldTold,
 }
 
 impl Table {
@@ -117,7 +114,6 @@ impl Table {
             Table::GoneNamed => GONE_NAMED,
             Table::OrdersShown => ORDERS_SHOWN,
             Table::Wide => WIDE,
-            Table::OldTold => OLD_TOLD,
         }
     }
 }
@@ -132,8 +128,6 @@ pub(crate) enum Left {
     Shipped,
     StockTaken,
     Filed,
-    /// In books of schema 1.
-    Old,
 }
 
 impl Left {
@@ -146,7 +140,6 @@ impl Left {
             Left::Shipped => SHIPPED_ROWS.as_slice(),
             Left::StockTaken => STOCK_TAKEN_ROWS.as_slice(),
             Left::Filed => FILED_ROWS.as_slice(),
-            Left::Old => OLD_ROWS.as_slice(),
         }
     }
 }
