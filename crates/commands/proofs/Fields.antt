@@ -8,6 +8,7 @@ use Rattle.std.proofs.lemmas.Bool.Decides.{nat_tests}
 use lib.Signed.{mag}
 use Rattle.values.specs.Values.{is_gtin, is_lot_text, is_qty, is_counted, is_delta, is_between, QTY_MAX}
 use Rattle.values.specs.declared.lot.LotId.{LotId}
+use Rattle.commands.specs.Limits.{is_least_days}
 use Rattle.commands.specs.Words.{bin_kind_word}
 use Rattle.commands.specs.Spelling.{lines_fields, picking_fields}
 use Rattle.commands.specs.Sound.{is_lot_id, is_order_line, is_picking}
@@ -33,6 +34,15 @@ small_qty n e = grind (arith, nat_tests)
 
 small_count : (n : ℕ) → is_between 0 QTY_MAX n ≡ true → n < 2 ^ 64
 small_count n e = grind (arith, nat_tests)
+
+small_least : (n : ℕ) → is_least_days n ≡ true → n < 2 ^ 64
+small_least n e = grind (arith, nat_tests)
+
+pub least_printable : (n : ℕ) → is_least_days n ≡ true → Printable (decimal n)
+least_printable n sound = decimal_printable n (small_least n sound)
+
+pub least_same : (m n : ℕ) → is_least_days m ≡ true → is_least_days n ≡ true → decimal m ≡ decimal n → m ≡ n
+least_same m n x y e = decimal_injective m n (small_least m x) (small_least n y) e
 
 pub qty_printable : (n : ℕ) → is_qty n ≡ true → Printable (decimal n)
 qty_printable n sound = decimal_printable n (small_qty n sound)

@@ -11,7 +11,7 @@ use Rattle.commands.specs.declared.rows.OrderState.TheVariants.{Open, Done, Canc
 use Rattle.commands.specs.declared.rows.CardKind.{CardKind}
 use Rattle.commands.specs.declared.rows.CardKind.TheVariants.{Receipt, WriteOn, WriteOff, Shipment}
 use Rattle.commands.specs.declared.views.LotStatus.{LotStatus}
-use Rattle.commands.specs.declared.views.LotStatus.TheVariants.{Recalled, Held, Expired, Free}
+use Rattle.commands.specs.declared.views.LotStatus.TheVariants.{Recalled, Held, Expired, ShortDated, Free}
 
 -- what a text names has that word
 pub named_only : {K : Type 0} (word : K → List ℕ) (kinds : List K) (text : List ℕ) (k : K) → named word kinds text ≡ Some k → text ≡ word k
@@ -47,10 +47,11 @@ card_kinds = record { back = back; only = λ text k e. named_only card_kind_word
     back Shipment = refl
 
 pub lot_statuses : LotStatusesAreNamed
-lot_statuses = record { back = back; only = λ text s e. named_only lot_status_word (Recalled ∷ Held ∷ Expired ∷ Free ∷ []) text s e }
+lot_statuses = record { back = back; only = λ text s e. named_only lot_status_word (Recalled ∷ Held ∷ Expired ∷ ShortDated ∷ Free ∷ []) text s e }
   where
     back : (s : LotStatus) → lot_status_of (lot_status_word s) ≡ Some s
     back Recalled = refl
     back Held = refl
     back Expired = refl
+    back ShortDated = refl
     back Free = refl

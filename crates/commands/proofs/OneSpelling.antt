@@ -7,7 +7,7 @@ use Rattle.std.proofs.lemmas.Bool.Decides.{nat_tests}
 use Rattle.values.specs.Values.{is_name, is_title, is_gtin, is_qty, is_counted, is_delta}
 use Rattle.label.specs.Days.{is_day, is_business_day, day_text}
 use Rattle.values.specs.declared.lot.LotId.{LotId}
-use Rattle.commands.specs.Limits.{has_order_lines}
+use Rattle.commands.specs.Limits.{has_order_lines, is_least_days}
 use Rattle.commands.specs.Words.{bin_kind_word}
 use Rattle.commands.specs.Spelling.{fields, spelling, lines_fields, picking_fields}
 use Rattle.commands.specs.Sound.{is_sound, is_lot_id, is_order_line, are_lines, is_picking}
@@ -21,12 +21,13 @@ use Rattle.commands.specs.declared.command.Recount.{Recount}
 use Rattle.commands.specs.declared.command.Adjustment.{Adjustment}
 use Rattle.commands.specs.declared.command.NewOrder.{NewOrder}
 use Rattle.commands.specs.declared.command.Picking.{Picking}
+use Rattle.commands.specs.declared.command.NewLeast.{NewLeast}
 use Rattle.commands.specs.declared.command.Command.{Command}
-use Rattle.commands.specs.declared.command.Command.TheVariants.{Item, Bin, Receive, Move, Count, Adjust, Order, Cancel, Pick, Unpick, Ship, Hold, Release, Recall, OpenDay}
+use Rattle.commands.specs.declared.command.Command.TheVariants.{Item, Bin, Receive, Move, Count, Adjust, Order, Cancel, Pick, Unpick, Ship, Hold, Release, Recall, OpenDay, Least}
 use Rattle.commands.proofs.Joining.{AllLack, PartsLack, lacks_failing, joined_same, and_both}
 use Rattle.commands.proofs.Printing.{Printable, is_printable, name_printable, title_printable, gtin_printable, signed_printable, day_printable}
 use Rattle.label.proofs.DayTexts.{day_text_injective}
-use Rattle.commands.proofs.Fields.{AllPrintable, and_three, and_four, qty_printable, count_printable, kind_printable, gtin_of_lot_printable, lot_of_lot_printable, lines_printable, picking_printable, qty_same, count_same, change_same, kind_same, lot_same, lines_same}
+use Rattle.commands.proofs.Fields.{AllPrintable, and_three, and_four, qty_printable, count_printable, least_printable, least_same, kind_printable, gtin_of_lot_printable, lot_of_lot_printable, lines_printable, picking_printable, qty_same, count_same, change_same, kind_same, lot_same, lines_same}
 
 -- each field of a sound command is printable
 lot_fields_printable : (w : List ℕ) (l : LotId) → Printable w → is_lot_id l ≡ true → AllPrintable (w ∷ l.gtin ∷ l.lot ∷ [])
@@ -65,6 +66,9 @@ fields_printable (Hold l) sound = lot_fields_printable (codes "HOLD") l refl sou
 fields_printable (Release l) sound = lot_fields_printable (codes "RELEASE") l refl sound
 fields_printable (Recall l) sound = lot_fields_printable (codes "RECALL") l refl sound
 fields_printable (OpenDay day) sound = (refl, (day_printable day, tt))
+fields_printable (Least l) sound =
+    let s = and_both (is_gtin l.gtin) (is_least_days l.days) sound in
+    (refl, (gtin_printable l.gtin s.0, (least_printable l.days s.1, tt)))
 
 -- no printable text holds a line feed
 all_lack : (xs : List (List ℕ)) → AllPrintable xs → AllLack 10 xs
@@ -141,6 +145,12 @@ picking_same x y p q r s =
     let f3 : ℕ → Picking = λ v. record { order = y.order; lot = y.lot; bin = y.bin; qty = v } in
     ap f0 p ∙ ap f1 q ∙ ap f2 r ∙ ap f3 s
 
+least_command_same : (x y : NewLeast) → x.gtin ≡ y.gtin → x.days ≡ y.days → x ≡ y
+least_command_same x y p q =
+    let f0 : List ℕ → NewLeast = λ v. record { gtin = v; days = x.days } in
+    let f1 : ℕ → NewLeast = λ v. record { gtin = y.gtin; days = v } in
+    ap f0 p ∙ ap f1 q
+
 lot_parts : (l m : LotId) (w : List ℕ) → ◌≡◌ {A = List (List ℕ)} (w ∷ l.gtin ∷ l.lot ∷ []) (w ∷ m.gtin ∷ m.lot ∷ []) → l ≡ m
 lot_parts l m w e = let p : l.gtin ≡ m.gtin = cc in let q : l.lot ≡ m.lot = cc in lot_same l m p q
 
@@ -215,6 +225,14 @@ picking_told x y sx sy e =
     let q : decimal x.qty ≡ decimal y.qty = cc in
     picking_same x y o (lot_same x.lot y.lot g l) b (qty_same x.qty y.qty s.3 t.3 q)
 
+least_told : (x y : NewLeast) → is_sound (Least x) ≡ true → is_sound (Least y) ≡ true → fields (Least x) ≡ fields (Least y) → Least x ≡ Least y
+least_told x y sx sy e =
+    let s = and_both (is_gtin x.gtin) (is_least_days x.days) sx in
+    let t = and_both (is_gtin y.gtin) (is_least_days y.days) sy in
+    let g : x.gtin ≡ y.gtin = cc in
+    let q : decimal x.days ≡ decimal y.days = cc in
+    ap Least (least_command_same x y g (least_same x.days y.days s.1 t.1 q))
+
 -- the word of a command as a number
 abbrev text_number : List ℕ → ℕ
 text_number [] = 0
@@ -245,6 +263,7 @@ fields_same (Recall x) (Recall y) sx sy e = ap Recall (lot_parts x y (codes "REC
 fields_same (OpenDay x) (OpenDay y) sx sy e =
     let p : day_text x ≡ day_text y = cc in
     ap OpenDay (day_text_injective x y (business_is_day x sx) (business_is_day y sy) p)
+fields_same (Least x) (Least y) sx sy e = least_told x y sx sy e
 fields_same a b sx sy e = absurd (apart (word_number (fields a)) (word_number (fields b)) refl (ap word_number e))
 
 pub one_spelling : (a b : Command) → IsTrue (is_sound a) → IsTrue (is_sound b) → spelling a ≡ spelling b → a ≡ b

@@ -11,7 +11,7 @@ use Rattle.commands.specs.Sound.{is_sound, is_sound_key}
 use Rattle.commands.specs.declared.refusal.Refusal.TheVariants.{OverReserved, NoNotice}
 use Rattle.commands.specs.declared.key.Key.TheVariants.{Plain, Line}
 use Rattle.commands.specs.declared.command.Command.{Command}
-use Rattle.commands.specs.declared.command.Command.TheVariants.{Receive, Adjust, Order, Hold, OpenDay}
+use Rattle.commands.specs.declared.command.Command.TheVariants.{Receive, Adjust, Order, Hold, OpenDay, Least}
 
 abbrev OAT : List ℕ
 OAT = codes "09506000134352"
@@ -91,5 +91,12 @@ lengths_in_place = refl
 mark_of_the_books : MARK.now ≡ codes "LOTSTOCK"
 mark_of_the_books = refl
 
-first_schema : ◌≡◌ {A = ℕ} SCHEMA_VERSION 1
-first_schema = refl
+schema : ◌≡◌ {A = ℕ} SCHEMA_VERSION 2
+schema = refl
+
+least_spelling : spelling (Least (record { gtin = OAT; days = 27 })) ≡ codes "LEAST\n09506000134352\n27"
+unfolding spelling digits
+least_spelling = refl
+
+ten_years_are_too_many : is_sound (Least (record { gtin = OAT; days = 3_651 })) ≡ false
+ten_years_are_too_many = refl

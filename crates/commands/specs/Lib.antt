@@ -6,6 +6,7 @@ pub mod Spelling
 pub mod Replies
 pub mod Sound
 pub mod Tables
+pub mod Schemas
 pub mod Laws
 pub mod Sinks
 pub mod Cards

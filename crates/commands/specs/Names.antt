@@ -1,10 +1,10 @@
 -- What a command names.
-use Rattle.std.specs.Prelude.{◌≡◌, ℕ, ℤ, List, [], Option, Some, None}
+use Rattle.std.specs.Prelude.{◌≡◌, ℕ, ℤ, Bool, true, false, List, [], Option, Some, None}
 use Rattle.values.specs.declared.lot.LotId.{LotId}
 use Rattle.commands.specs.declared.command.OrderLine.{OrderLine}
 use Rattle.commands.specs.declared.command.Picking.{Picking}
 use Rattle.commands.specs.declared.command.Command.{Command}
-use Rattle.commands.specs.declared.command.Command.TheVariants.{Item, Bin, Receive, Move, Count, Adjust, Order, Cancel, Pick, Unpick, Ship, Hold, Release, Recall, OpenDay}
+use Rattle.commands.specs.declared.command.Command.TheVariants.{Item, Bin, Receive, Move, Count, Adjust, Order, Cancel, Pick, Unpick, Ship, Hold, Release, Recall, OpenDay, Least}
 use Rattle.commands.specs.declared.names.Added.{Added}
 use Rattle.commands.specs.declared.names.Added.TheVariants as added
 use Rattle.commands.specs.declared.names.OrderStep.{OrderStep}
@@ -60,6 +60,20 @@ names_of (Hold l) = lot_named l
 names_of (Release l) = lot_named l
 names_of (Recall l) = lot_named l
 names_of (OpenDay day) = record none_named { day = Some day }
+names_of (Least l) = record none_named { item = Some l.gtin }
+
+-- what is done with an order
+abbrev pub is_cancelled : OrderStep → Bool
+is_cancelled Cancelled = true
+is_cancelled _ = false
+
+abbrev pub is_picked : OrderStep → Bool
+is_picked Picked = true
+is_picked _ = false
+
+abbrev pub is_shipped : OrderStep → Bool
+is_shipped Shipped = true
+is_shipped _ = false
 
 -- the program's record has these
 pub record AreNames (n : Names) (these : Named) : Type 0 where

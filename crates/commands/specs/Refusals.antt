@@ -1,7 +1,7 @@
 -- The codes of refusals.
 use Rattle.std.specs.Prelude.{ℕ, List, codes}
 use Rattle.commands.specs.declared.refusal.Refusal.{Refusal}
-use Rattle.commands.specs.declared.refusal.Refusal.TheVariants.{KeyUsed, ActsFull, UnknownItem, UnknownBin, UnknownLot, UnknownOrder, NoSuchLine, ItemExists, BinExists, OrderExists, ItemTwice, OtherExpiry, LotRecalled, LotExpired, LotHeld, LotNotHeld, AlreadyRecalled, NotStoreBin, OrderClosed, StillStaged, NothingStaged, DayNotLater, NotInBin, OverReserved, OverStaged, SameBin, OverUnits, OverOrdered, NoNotice}
+use Rattle.commands.specs.declared.refusal.Refusal.TheVariants.{KeyUsed, ActsFull, UnknownItem, UnknownBin, UnknownLot, UnknownOrder, NoSuchLine, ItemExists, BinExists, OrderExists, ItemTwice, OtherExpiry, LotRecalled, LotExpired, LotHeld, LotNotHeld, AlreadyRecalled, NotStoreBin, OrderClosed, StillStaged, NothingStaged, DayNotLater, TooFewDays, NotInBin, OverReserved, OverStaged, SameBin, OverUnits, OverOrdered, NoNotice}
 
 -- a letter and two digits
 abbrev pub refusal_code : Refusal → List ℕ
@@ -27,6 +27,7 @@ refusal_code OrderClosed = codes "S07"
 refusal_code StillStaged = codes "S08"
 refusal_code NothingStaged = codes "S09"
 refusal_code DayNotLater = codes "S10"
+refusal_code TooFewDays = codes "S11"
 refusal_code NotInBin = codes "Q01"
 refusal_code OverReserved = codes "Q02"
 refusal_code OverStaged = codes "Q03"

@@ -4,13 +4,13 @@ use Rattle.std.specs.List.{list_all}
 use Rattle.values.specs.Values.{is_name, is_title, is_gtin, is_lot_text, is_qty, is_counted, is_delta, is_line_no}
 use Rattle.label.specs.Days.{is_day, is_business_day}
 use Rattle.values.specs.declared.lot.LotId.{LotId}
-use Rattle.commands.specs.Limits.{has_order_lines}
+use Rattle.commands.specs.Limits.{has_order_lines, is_least_days}
 use Rattle.commands.specs.declared.command.OrderLine.{OrderLine}
 use Rattle.commands.specs.declared.command.Picking.{Picking}
 use Rattle.commands.specs.declared.key.Key.{Key}
 use Rattle.commands.specs.declared.key.Key.TheVariants.{Plain, Line}
 use Rattle.commands.specs.declared.command.Command.{Command}
-use Rattle.commands.specs.declared.command.Command.TheVariants.{Item, Bin, Receive, Move, Count, Adjust, Order, Cancel, Pick, Unpick, Ship, Hold, Release, Recall, OpenDay}
+use Rattle.commands.specs.declared.command.Command.TheVariants.{Item, Bin, Receive, Move, Count, Adjust, Order, Cancel, Pick, Unpick, Ship, Hold, Release, Recall, OpenDay, Least}
 
 abbrev pub is_lot_id : LotId → Bool
 is_lot_id l = is_gtin l.gtin && is_lot_text l.lot
@@ -40,6 +40,7 @@ is_sound (Hold l) = is_lot_id l
 is_sound (Release l) = is_lot_id l
 is_sound (Recall l) = is_lot_id l
 is_sound (OpenDay day) = is_business_day day
+is_sound (Least l) = is_gtin l.gtin && is_least_days l.days
 
 abbrev pub is_sound_key : Key → Bool
 is_sound_key (Plain name) = is_name name

@@ -9,7 +9,7 @@ use Rattle.commands.specs.declared.key.Key.TheVariants.{Plain, Line}
 use Rattle.commands.specs.declared.command.OrderLine.{OrderLine}
 use Rattle.commands.specs.declared.command.Picking.{Picking}
 use Rattle.commands.specs.declared.command.Command.{Command}
-use Rattle.commands.specs.declared.command.Command.TheVariants.{Item, Bin, Receive, Move, Count, Adjust, Order, Cancel, Pick, Unpick, Ship, Hold, Release, Recall, OpenDay}
+use Rattle.commands.specs.declared.command.Command.TheVariants.{Item, Bin, Receive, Move, Count, Adjust, Order, Cancel, Pick, Unpick, Ship, Hold, Release, Recall, OpenDay, Least}
 
 -- `K/` and the name, or `D/`, the delivery, `/` and the line
 abbrev pub key_text : Key → List ℕ
@@ -41,6 +41,7 @@ fields (Hold l) = codes "HOLD" ∷ l.gtin ∷ l.lot ∷ []
 fields (Release l) = codes "RELEASE" ∷ l.gtin ∷ l.lot ∷ []
 fields (Recall l) = codes "RECALL" ∷ l.gtin ∷ l.lot ∷ []
 fields (OpenDay day) = codes "OPENDAY" ∷ day_text day ∷ []
+fields (Least l) = codes "LEAST" ∷ l.gtin ∷ decimal l.days ∷ []
 
 -- the fields joined by single line feeds
 unfoldable pub spelling : Command → List ℕ

@@ -1,8 +1,9 @@
--- The fourteen tables of the books, each as a look-up by its primary key.
+-- The fifteen tables of the books, each as a look-up by its primary key.
 use Rattle.std.specs.Prelude.{ℕ, List, Option}
 use Rattle.values.specs.declared.lot.LotId.{LotId}
 use Rattle.commands.specs.declared.rows.MetaRow.{MetaRow}
 use Rattle.commands.specs.declared.rows.ItemRow.{ItemRow}
+use Rattle.commands.specs.declared.rows.LeastRow.{LeastRow}
 use Rattle.commands.specs.declared.rows.BinRow.{BinRow}
 use Rattle.commands.specs.declared.rows.LotRow.{LotRow}
 use Rattle.commands.specs.declared.rows.RecallRow.{RecallRow}
@@ -21,6 +22,7 @@ use Rattle.commands.specs.declared.rows.RepeatRow.{RepeatRow}
 pub record Tables : Type 0 where
   pub meta : Option MetaRow
   pub item : (gtin : List ℕ) → Option ItemRow
+  pub least : (gtin : List ℕ) → Option LeastRow
   pub bin : (name : List ℕ) → Option BinRow
   pub lot : LotId → Option LotRow
   pub recall : LotId → Option RecallRow

@@ -7,7 +7,7 @@ use Rattle.commands.specs.declared.rows.OrderState.TheVariants.{Open, Done, Canc
 use Rattle.commands.specs.declared.rows.CardKind.{CardKind}
 use Rattle.commands.specs.declared.rows.CardKind.TheVariants.{Receipt, WriteOn, WriteOff, Shipment}
 use Rattle.commands.specs.declared.views.LotStatus.{LotStatus}
-use Rattle.commands.specs.declared.views.LotStatus.TheVariants.{Recalled, Held, Expired, Free}
+use Rattle.commands.specs.declared.views.LotStatus.TheVariants.{Recalled, Held, Expired, ShortDated, Free}
 
 abbrev pub bin_kind_word : BinKind → List ℕ
 bin_kind_word Store = codes "STORE"
@@ -28,6 +28,7 @@ abbrev pub lot_status_word : LotStatus → List ℕ
 lot_status_word Recalled = codes "RECALLED"
 lot_status_word Held = codes "HELD"
 lot_status_word Expired = codes "EXPIRED"
+lot_status_word ShortDated = codes "SHORTDATED"
 lot_status_word Free = codes "FREE"
 
 -- the one of these whose word the text is
@@ -44,7 +45,7 @@ abbrev pub card_kind_of : List ℕ → Option CardKind
 card_kind_of text = named card_kind_word (Receipt ∷ WriteOn ∷ WriteOff ∷ Shipment ∷ []) text
 
 abbrev pub lot_status_of : List ℕ → Option LotStatus
-lot_status_of text = named lot_status_word (Recalled ∷ Held ∷ Expired ∷ Free ∷ []) text
+lot_status_of text = named lot_status_word (Recalled ∷ Held ∷ Expired ∷ ShortDated ∷ Free ∷ []) text
 
 -- each word is that of one alone, and no other text is the word of any
 pub record NamesOne {K : Type 0} (word : K → List ℕ) (of : List ℕ → Option K) : Type 0 where

@@ -2,8 +2,8 @@ ghost use Rattle.std.specs.Prelude.{◌≡◌, IsTrue};
 ghost use Rattle.values.specs.Values.{checked};
 ghost use Rattle.commands.specs.Limits.{has_order_lines};
 
-use crate::Listed;
 use crate::limits::ORDER_LINES_MAX;
+use crate::{LeastDays, Listed};
 use label::{BusinessDay, Day};
 use std::marker::Model;
 use values::{Counted, Delta, Gtin, LotId, Name, Qty, Title};
@@ -127,6 +127,13 @@ pub struct NewOrder {
     pub lines: Lines,
 }
 
+/// How many days the lots of an item must have left to be shipped.
+#[derive(Clone, Copy)]
+pub struct NewLeast {
+    pub gtin: Gtin,
+    pub days: LeastDays,
+}
+
 /// Units of a lot for an order, from or to a bin.
 #[derive(Clone, Copy)]
 pub struct Picking {
@@ -169,4 +176,6 @@ pub enum Command {
     Recall(LotId),
     /// Opens a later business day.
     OpenDay(BusinessDay),
+    /// Says how many days the lots of an item must have left.
+    Least(NewLeast),
 }

@@ -77,6 +77,10 @@ pub fn every_command_is_sound(command: &Command)
         Command::OpenDay(day) => {
             let _ = day.day();
         }
+        Command::Least(least) => {
+            let _ = least.gtin.as_bytes();
+            let _ = least.days.days();
+        }
     }
 }
 

@@ -5,6 +5,7 @@ mod buffer;
 mod command;
 mod key;
 pub mod laws;
+mod least;
 pub mod limits;
 mod listed;
 mod names;
@@ -19,17 +20,18 @@ mod words;
 
 pub use buffer::{Buffer, decimal_text, signed_text};
 pub use command::{
-    Adjustment, BinKind, Command, Lines, Movement, NewBin, NewItem, NewOrder, OrderLine, Picking,
-    Receipt, Recount,
+    Adjustment, BinKind, Command, Lines, Movement, NewBin, NewItem, NewLeast, NewOrder, OrderLine,
+    Picking, Receipt, Recount,
 };
 pub use key::Key;
+pub use least::LeastDays;
 pub use listed::Listed;
 pub use names::{Added, NamedOrder, Names, OrderStep};
 pub use refusal::Refusal;
 pub use replies::{ReplyField, reply};
 pub use rows::{
-    BinRow, CardKind, CardRow, ItemRow, LineRow, LotRow, MetaRow, OrderRow, OrderState, RecallRow,
-    RepeatRow, ReservedRow, ShiplineRow, ShipmentRow, StagedRow, StockRow,
+    BinRow, CardKind, CardRow, ItemRow, LeastRow, LineRow, LotRow, MetaRow, OrderRow, OrderState,
+    RecallRow, RepeatRow, ReservedRow, ShiplineRow, ShipmentRow, StagedRow, StockRow,
 };
 pub use short::Short;
 pub use sink::{Sink, Stop, feed};

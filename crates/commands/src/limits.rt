@@ -15,6 +15,9 @@ pub const UNITS_MAX: u64 = 1_000_000_000;
 /// The units of one item that open orders still want, at most.
 pub const OPEN_MAX: u64 = 1_000_000_000;
 
+/// The least remaining days that an item asks for, at most.
+pub const LEAST_DAYS_MAX: u16 = 3_650;
+
 /// The acts, at most.
 pub const ACTS_MAX: u64 = 1_000_000_000_000;
 
@@ -31,4 +34,4 @@ pub const CARD_NOTE_MAX: usize = 25;
 pub const MARK: &str = "LOTSTOCK";
 
 /// The schema number in the table `meta`.
-pub const SCHEMA_VERSION: u64 = 1;
+pub const SCHEMA_VERSION: u64 = 2;

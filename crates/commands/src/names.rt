@@ -1,9 +1,9 @@
 // What a command names.
 
 ghost use Rattle.std.specs.Prelude.{◌≡◌};
-ghost use Rattle.commands.specs.Names.{AreNames, names_of, none_named, lot_named, lot_in_bin, order_named, picking_named};
+ghost use Rattle.commands.specs.Names.{AreNames, names_of, none_named, lot_named, lot_in_bin, order_named, picking_named, is_cancelled, is_picked, is_shipped};
 
-use crate::{Command, Movement, NewBin, NewItem, NewOrder, OrderLine, Picking};
+use crate::{Command, Movement, NewBin, NewItem, NewLeast, NewOrder, OrderLine, Picking};
 use label::BusinessDay;
 use values::{Gtin, LotId, Name};
 
@@ -27,6 +27,29 @@ pub enum OrderStep {
     Unpicked,
     /// All that is staged for it is shipped.
     Shipped,
+}
+
+impl OrderStep {
+    /// Whether the order is cancelled.
+    pub fn is_cancelled(self) -> bool
+        ensures { result ≡ is_cancelled self }
+    {
+        matches!(self, OrderStep::Cancelled)
+    }
+
+    /// Whether units are staged for the order.
+    pub fn is_picked(self) -> bool
+        ensures { result ≡ is_picked self }
+    {
+        matches!(self, OrderStep::Picked)
+    }
+
+    /// Whether what is staged for the order is shipped.
+    pub fn is_shipped(self) -> bool
+        ensures { result ≡ is_shipped self }
+    {
+        matches!(self, OrderStep::Shipped)
+    }
 }
 
 /// An order, and what is done with it.
@@ -81,6 +104,7 @@ impl Command {
             Command::Ship(order) => of_order(order, OrderStep::Shipped),
             Command::Hold(lot) | Command::Release(lot) | Command::Recall(lot) => of_lot(lot),
             Command::OpenDay(day) => of_day(*day),
+            Command::Least(least) => of_least(least),
         }
     }
 }
@@ -186,6 +210,15 @@ fn of_day(day: BusinessDay) -> Names<'static>
 {
     Names {
         day: Some(day),
+        ..of_nothing()
+    }
+}
+
+fn of_least(least: &NewLeast) -> Names<'_>
+    ensures { AreNames result (names_of (Command.Least least.now)) }
+{
+    Names {
+        item: Some(least.gtin),
         ..of_nothing()
     }
 }

@@ -49,6 +49,8 @@ pub enum Refusal {
     NothingStaged,
     /// S10: the day is not later than the business day.
     DayNotLater,
+    /// S11: the lot is not expired, but has fewer days left than its item asks for.
+    TooFewDays,
     /// Q01: the bin has not that many units of the lot.
     NotInBin,
     /// Q02: more than is reserved.
@@ -96,6 +98,7 @@ impl Refusal {
             Refusal::StillStaged => "S08",
             Refusal::NothingStaged => "S09",
             Refusal::DayNotLater => "S10",
+            Refusal::TooFewDays => "S11",
             Refusal::NotInBin => "Q01",
             Refusal::OverReserved => "Q02",
             Refusal::OverStaged => "Q03",

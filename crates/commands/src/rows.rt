@@ -1,7 +1,7 @@
-// The rows of the fourteen tables of the books.
+// The rows of the fifteen tables of the books.
 
 use crate::limits::{CARD_NOTE_MAX, KEY_TEXT_MAX};
-use crate::{BinKind, Listed, Short};
+use crate::{BinKind, LeastDays, Listed, Short};
 use label::{BusinessDay, Day};
 use values::{Gtin, LotId, Name, Text, Title};
 
@@ -21,6 +21,13 @@ pub struct MetaRow {
 pub struct ItemRow {
     pub gtin: Gtin,
     pub name: Title,
+}
+
+/// A row of `least`: how many days the lots of an item must have left. Each item has one.
+#[derive(Clone, Copy)]
+pub struct LeastRow {
+    pub gtin: Gtin,
+    pub days: LeastDays,
 }
 
 /// A row of `bins`: a bin, RETURNS too.

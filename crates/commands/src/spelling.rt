@@ -9,8 +9,8 @@ ghost use Rattle.commands.specs.Spelling.{spelling, lines_fields, picking_fields
 
 use crate::buffer::{Buffer, decimal_text, signed_text};
 use crate::{
-    Adjustment, BinKind, Command, Movement, NewBin, NewItem, NewOrder, OrderLine, Picking, Receipt,
-    Recount,
+    Adjustment, BinKind, Command, Movement, NewBin, NewItem, NewLeast, NewOrder, OrderLine,
+    Picking, Receipt, Recount,
 };
 use label::BusinessDay;
 use std::alloc::{AllocError, Global};
@@ -37,6 +37,7 @@ pub fn spell(alloc: Global, command: &Command) -> Result<Vec<u8>, AllocError>
         Command::Release(lot) => spell_lot(alloc, b"RELEASE", lot),
         Command::Recall(lot) => spell_lot(alloc, b"RECALL", lot),
         Command::OpenDay(day) => spell_day(alloc, *day),
+        Command::Least(least) => spell_least(alloc, least),
     }
 }
 
@@ -219,4 +220,17 @@ fn spell_day(alloc: Global, day: BusinessDay) -> Result<Vec<u8>, AllocError>
     ensures { IfOk result (λ text. text.items ≡ spelling (Command.OpenDay day)) }
 {
     joined(alloc, b"OPENDAY", &[&day.day().text()])
+}
+
+fn spell_least(alloc: Global, least: &NewLeast) -> Result<Vec<u8>, AllocError>
+    ensures { IfOk result (λ text. text.items ≡ spelling (Command.Least least.now)) }
+{
+    joined(
+        alloc,
+        b"LEAST",
+        &[
+            least.gtin.as_bytes(),
+            number_text(u32::from(least.days.days())).as_bytes(),
+        ],
+    )
 }

@@ -1,6 +1,6 @@
 // The records that queries answer.
 
-use crate::{CardRow, ItemRow, Listed, OrderState};
+use crate::{CardRow, ItemRow, LeastDays, Listed, OrderState};
 use label::{BusinessDay, Day};
 use values::{Gtin, Lot, Name, Title};
 
@@ -76,6 +76,8 @@ pub struct LineView {
     pub short: u64,
     /// By expiry and first receipt.
     pub staged: Listed<StagedLot>,
+    /// How many days the lots of the item must have left.
+    pub least: LeastDays,
 }
 
 /// An order.
@@ -88,12 +90,14 @@ pub struct OrderView {
     pub state: OrderState,
 }
 
-/// How a lot stands: recalled before held before expired.
+/// How a lot stands: recalled before held before expired before short-dated.
 #[derive(Clone, Copy)]
 pub enum LotStatus {
     Recalled,
     Held,
     Expired,
+    /// It has fewer days left than its item asks for.
+    ShortDated,
     Free,
 }
 

@@ -93,7 +93,7 @@ impl CardKind {
 }
 
 impl LotStatus {
-    /// `RECALLED`, `HELD`, `EXPIRED` or `FREE`.
+    /// `RECALLED`, `HELD`, `EXPIRED`, `SHORTDATED` or `FREE`.
     pub fn word(self) -> &'static str
         ensures { result.now ≡ lot_status_word self }
     {
@@ -101,6 +101,7 @@ impl LotStatus {
             LotStatus::Recalled => "RECALLED",
             LotStatus::Held => "HELD",
             LotStatus::Expired => "EXPIRED",
+            LotStatus::ShortDated => "SHORTDATED",
             LotStatus::Free => "FREE",
         }
     }
@@ -117,6 +118,9 @@ impl LotStatus {
         }
         if word == LotStatus::Expired.word().as_bytes() {
             return Some(LotStatus::Expired);
+        }
+        if word == LotStatus::ShortDated.word().as_bytes() {
+            return Some(LotStatus::ShortDated);
         }
         if word == LotStatus::Free.word().as_bytes() {
             return Some(LotStatus::Free);

@@ -5,3 +5,4 @@ pub mod ExamplePicking
 mod ExampleRecalls
 mod ExampleKeys
 mod ExampleLimits
+mod ExampleLeast

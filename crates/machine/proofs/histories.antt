@@ -1,10 +1,12 @@
 -- What holds of every history: balances, lots, orders, plans and runs.
 pub mod Accepted
+pub mod LeastDays
 pub mod Cells
 pub mod Falling
 pub mod Lots
 pub mod Orders
 pub mod Bookings
+pub mod Served
 pub mod Reservations
 pub mod Needs
 pub mod LegalHistories

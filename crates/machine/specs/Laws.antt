@@ -57,7 +57,7 @@ RepeatsGetTheFirstReply = (first : ℤ) (earlier : List Act) (request : Act) →
 
 -- Lots that may be shipped
 
--- the lot is known, and neither held nor recalled nor expired
+-- the lot is known, neither held nor recalled, and has as many days left as its item asks for
 abbrev pub IsShippableLot : ℤ → List Act → LotId → Type 0
 IsShippableLot first acts l = (k : KnownLot) × (lot_known acts l ≡ Some k) × (is_shippable first acts k ≡ true)
 
@@ -65,7 +65,7 @@ IsShippableLot first acts l = (k : KnownLot) × (lot_known acts l ≡ Some k) ×
 abbrev pub StagedLotsAreShippable : Type 0
 StagedLotsAreShippable = (first : ℤ) (acts : List Act) (o : List ℕ) (l : LotId) → IsHistory first acts → staged_of_lot first acts o l ≢ 0 → IsShippableLot first acts l
 
--- no shipment act holds a unit of a lot that was held, recalled or expired at that act
+-- no shipment act holds a unit of a lot that was not shippable at that act
 abbrev pub ShippedLotsAreShippable : Type 0
 ShippedLotsAreShippable = (first : ℤ) (before : List Act) (key : Key) (o : List ℕ) (l : LotId) →
     IsHistory first (record { key = key; command = Ship o } ∷ before) →

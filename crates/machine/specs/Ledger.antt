@@ -2,7 +2,7 @@
 use Rattle.std.specs.Prelude.{ℕ, suc, ◌+◌, ◌-◌, not, ◌&&◌, ◌==◌, if◌then◌else◌, List, [], ◌∷◌, ◌++◌, filter, flat_map, ℤ, pos, negsuc}
 use Rattle.values.specs.declared.lot.LotId.{LotId}
 use Rattle.commands.specs.declared.command.Command.{Command}
-use Rattle.commands.specs.declared.command.Command.TheVariants.{Receive, Move, Count, Adjust, Pick, Unpick, Ship, Hold, Recall, OpenDay}
+use Rattle.commands.specs.declared.command.Command.TheVariants.{Receive, Move, Count, Adjust, Pick, Unpick, Ship, Hold, Recall, OpenDay, Least}
 use Rattle.machine.specs.Acts.{Act, next_number}
 use Rattle.machine.specs.Postings.{Place, Supplier, InBin, Stage, Shipped, WriteOff, Posting, balance, is_bin, is_lot, is_stage}
 use Rattle.machine.specs.Standing.{RETURNS, KnownLot, Placed, lots, orders, is_shippable, shipments_so_far}
@@ -53,6 +53,7 @@ posted first act before ps (Ship o) = shipped_off (next_number before) (shipment
 posted first act before ps (Hold l) = returned (next_number before) (made_unshippable first act before) (orders before) ps
 posted first act before ps (Recall l) = returned (next_number before) (made_unshippable first act before) (orders before) ps
 posted first act before ps (OpenDay day) = returned (next_number before) (made_unshippable first act before) (orders before) ps
+posted first act before ps (Least l) = returned (next_number before) (made_unshippable first act before) (orders before) ps
 posted first act before ps _ = []
 
 -- the postings of all acts, the newest first

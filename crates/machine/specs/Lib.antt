@@ -8,6 +8,7 @@ pub mod Replies
 pub mod Once
 pub mod Cards
 pub mod Tables
+pub mod Schemas
 pub mod KeyedRows
 pub mod Machine
 pub mod Views

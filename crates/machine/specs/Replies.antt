@@ -5,7 +5,7 @@ use Rattle.commands.specs.Replies.{field_text, further_text, reply_text}
 use Rattle.commands.specs.declared.replies.ReplyField.{ReplyField}
 use Rattle.commands.specs.declared.replies.ReplyField.TheVariants.{ChangedBy, Returned, ShipmentNumber, UnitsShort}
 use Rattle.commands.specs.declared.command.Command.{Command}
-use Rattle.commands.specs.declared.command.Command.TheVariants.{Count, Adjust, Order, Ship, Hold, Recall, OpenDay}
+use Rattle.commands.specs.declared.command.Command.TheVariants.{Count, Adjust, Order, Ship, Hold, Recall, OpenDay, Least}
 use Rattle.machine.specs.Acts.{Act, next_number}
 use Rattle.machine.specs.Standing.{shipments_so_far}
 use Rattle.machine.specs.Ledger.{postings_of}
@@ -36,6 +36,7 @@ further first act before (Ship o) = Some (ShipmentNumber (shipments_so_far first
 further first act before (Hold l) = Some (Returned (units_returned first act before))
 further first act before (Recall l) = Some (Returned (units_returned first act before))
 further first act before (OpenDay day) = Some (Returned (units_returned first act before))
+further first act before (Least l) = Some (Returned (units_returned first act before))
 further first act before _ = None
 
 abbrev pub further_field : ℤ → Act → List Act → Command → List ℕ

@@ -1,5 +1,5 @@
 -- What the acts make known of items, bins, lots, orders and days.
-use Rattle.std.specs.Prelude.{ℕ, ◌+◌, Bool, true, false, not, ◌&&◌, if◌then◌else◌, List, [], ◌∷◌, ◌++◌, length, codes, find, filter, Option, Some, None, is_some, ℤ, int_lt}
+use Rattle.std.specs.Prelude.{ℕ, ◌+◌, Bool, true, false, not, ◌&&◌, if◌then◌else◌, List, [], ◌∷◌, ◌++◌, length, codes, find, filter, Option, Some, None, is_some, ℤ, pos, int_lt, ◌+ℤ◌}
 use Rattle.std.specs.List.{list_any}
 use Rattle.values.specs.Values.{same_text}
 use Rattle.values.specs.declared.lot.LotId.{LotId}
@@ -7,10 +7,11 @@ use Rattle.commands.specs.declared.command.BinKind.{BinKind}
 use Rattle.commands.specs.declared.command.BinKind.TheVariants.{Store, Hold as HoldBin}
 use Rattle.commands.specs.declared.command.NewItem.{NewItem}
 use Rattle.commands.specs.declared.command.NewBin.{NewBin}
+use Rattle.commands.specs.declared.command.NewLeast.{NewLeast}
 use Rattle.commands.specs.declared.command.Receipt.{Receipt}
 use Rattle.commands.specs.declared.command.OrderLine.{OrderLine}
 use Rattle.commands.specs.declared.command.Command.{Command}
-use Rattle.commands.specs.declared.command.Command.TheVariants.{Item, Bin, Receive, Order, Cancel, Ship, Hold, Release, Recall, OpenDay}
+use Rattle.commands.specs.declared.command.Command.TheVariants.{Item, Bin, Receive, Order, Cancel, Ship, Hold, Release, Recall, OpenDay, Least}
 use Rattle.commands.specs.declared.rows.ShipmentRow.{ShipmentRow}
 use Rattle.machine.specs.Acts.{Act, gathered, next_number}
 use Rattle.machine.specs.Postings.{is_lot, of_item}
@@ -148,10 +149,32 @@ today first (act ∷ before) = day_after_command act.command (today first before
 abbrev pub is_expired : ℤ → ℤ → Bool
 is_expired day expiry = int_lt expiry day
 
--- known, not held, not recalled, not expired
+-- Days left. An item asks for 0 days until a Least names it.
+
+abbrev pub least_in : ℕ → Command → Option NewLeast
+least_in n (Least l) = Some l
+least_in n _ = None
+
+abbrev pub days_asked : Option NewLeast → ℕ
+days_asked None = 0
+days_asked (Some l) = l.days
+
+-- the days that the last Least of the item says
+abbrev pub least_days : List Act → List ℕ → ℕ
+least_days acts g = days_asked (find (λ l. same_text g l.gtin) (gathered least_in acts))
+
+-- the earliest expiry that a lot of the item must have: the business day and so many days more
+abbrev pub least_expiry : ℤ → List Act → List ℕ → ℤ
+least_expiry first acts g = today first acts +ℤ pos (least_days acts g)
+
+-- not expired, but with fewer days left
+abbrev pub is_short_dated : ℤ → ℕ → ℤ → Bool
+is_short_dated day days expiry = not (is_expired day expiry) && is_expired (day +ℤ pos days) expiry
+
+-- known, not held, not recalled, with as many days left as its item asks for
 abbrev pub is_shippable : ℤ → List Act → KnownLot → Bool
 is_shippable first acts k =
-    not (is_held acts k.lot) && not (is_recalled acts k.lot) && not (is_expired (today first acts) k.expiry)
+    not (is_held acts k.lot) && not (is_recalled acts k.lot) && not (is_expired (least_expiry first acts k.lot.gtin) k.expiry)
 
 -- Orders. A booking is one order line.
 

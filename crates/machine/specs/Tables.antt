@@ -6,6 +6,7 @@ use Rattle.commands.specs.Spelling.{key_text, spelling}
 pub use Rattle.commands.specs.Tables.{Tables}
 use Rattle.commands.specs.declared.rows.MetaRow.{MetaRow}
 use Rattle.commands.specs.declared.rows.ItemRow.{ItemRow}
+use Rattle.commands.specs.declared.rows.LeastRow.{LeastRow}
 use Rattle.commands.specs.declared.rows.BinRow.{BinRow}
 use Rattle.commands.specs.declared.rows.LotRow.{LotRow}
 use Rattle.commands.specs.declared.rows.RecallRow.{RecallRow}
@@ -20,7 +21,7 @@ use Rattle.commands.specs.declared.rows.CardRow.{CardRow}
 use Rattle.commands.specs.declared.rows.RepeatRow.{RepeatRow}
 use Rattle.machine.specs.Acts.{Act, next_number}
 use Rattle.machine.specs.Postings.{balance, is_lot, is_shipment}
-use Rattle.machine.specs.Standing.{item_named, bin_named, lot_known, is_held, recalling, order_named, lines_of, shipments, shipments_so_far, today}
+use Rattle.machine.specs.Standing.{item_named, least_days, bin_named, lot_known, is_held, recalling, order_named, lines_of, shipments, shipments_so_far, today}
 use Rattle.machine.specs.Ledger.{postings}
 use Rattle.machine.specs.Planning.{in_bin, staged_of_lot, shipped_of, reserved, order_state}
 use Rattle.machine.specs.Cards.{cards}
@@ -34,6 +35,10 @@ if_any q row = if q == 0 then None else Some row
 
 abbrev pub item_row : List Act → List ℕ → Option ItemRow
 item_row acts g = option_map (λ i. record { gtin = i.gtin; name = i.name }) (item_named acts g)
+
+-- each item has one
+abbrev pub least_row : List Act → List ℕ → Option LeastRow
+least_row acts g = option_map (λ i. record { gtin = i.gtin; days = least_days acts i.gtin }) (item_named acts g)
 
 abbrev pub bin_row : List Act → List ℕ → Option BinRow
 bin_row acts b = option_map (λ x. record { name = x.bin; kind = x.kind }) (bin_named acts b)
@@ -83,6 +88,7 @@ unfoldable pub tables_of : ℤ → List Act → Tables
 tables_of first acts = record {
   meta = Some (meta_row first acts);
   item = item_row acts;
+  least = least_row acts;
   bin = bin_row acts;
   lot = lot_row acts;
   recall = recall_row acts;

@@ -4,7 +4,7 @@ use Rattle.std.specs.List.{list_any}
 use Rattle.values.specs.Values.{same_text}
 use Rattle.values.specs.declared.lot.LotId.{LotId}
 use Rattle.commands.specs.declared.command.Command.{Command}
-use Rattle.commands.specs.declared.command.Command.TheVariants.{Item, Bin, Receive, Move, Count, Adjust, Order, Cancel, Pick, Unpick, Ship, Hold, Release, Recall, OpenDay}
+use Rattle.commands.specs.declared.command.Command.TheVariants.{Item, Bin, Receive, Move, Count, Adjust, Order, Cancel, Pick, Unpick, Ship, Hold, Release, Recall, OpenDay, Least}
 use Rattle.machine.specs.Acts.{Act}
 use Rattle.machine.specs.Postings.{of_item}
 use Rattle.machine.specs.Standing.{has_line, lots_of, orders, is_shippable}
@@ -32,6 +32,7 @@ touches first act before (Hold l) g = of_item g l
 touches first act before (Release l) g = of_item g l
 touches first act before (Recall l) g = of_item g l
 touches first act before (OpenDay day) g = is_affected first act before g
+touches first act before (Least l) g = same_text g l.gtin
 
 abbrev pub is_touched : ℤ → Act → List Act → List ℕ → Bool
 is_touched first act before g = touches first act before act.command g

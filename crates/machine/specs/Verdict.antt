@@ -6,11 +6,11 @@ use Rattle.values.specs.declared.lot.LotId.{LotId}
 use Rattle.commands.specs.declared.limits.TheConstants.{ITEMS_MAX, BINS_MAX, UNITS_MAX, OPEN_MAX, ACTS_MAX}
 use Rattle.commands.specs.declared.command.OrderLine.{OrderLine}
 use Rattle.commands.specs.declared.refusal.Refusal.{Refusal}
-use Rattle.commands.specs.declared.refusal.Refusal.TheVariants.{ActsFull, UnknownItem, UnknownBin, UnknownLot, UnknownOrder, NoSuchLine, ItemExists, BinExists, OrderExists, ItemTwice, OtherExpiry, LotRecalled, LotExpired, LotHeld, LotNotHeld, AlreadyRecalled, NotStoreBin, OrderClosed, StillStaged, NothingStaged, DayNotLater, NotInBin, OverReserved, OverStaged, SameBin, OverUnits, OverOrdered}
+use Rattle.commands.specs.declared.refusal.Refusal.TheVariants.{ActsFull, UnknownItem, UnknownBin, UnknownLot, UnknownOrder, NoSuchLine, ItemExists, BinExists, OrderExists, ItemTwice, OtherExpiry, LotRecalled, LotExpired, TooFewDays, LotHeld, LotNotHeld, AlreadyRecalled, NotStoreBin, OrderClosed, StillStaged, NothingStaged, DayNotLater, NotInBin, OverReserved, OverStaged, SameBin, OverUnits, OverOrdered}
 use Rattle.commands.specs.declared.command.Command.{Command}
-use Rattle.commands.specs.declared.command.Command.TheVariants.{Item, Bin, Receive, Move, Count, Adjust, Order, Cancel, Pick, Unpick, Ship, Hold, Release, Recall, OpenDay}
+use Rattle.commands.specs.declared.command.Command.TheVariants.{Item, Bin, Receive, Move, Count, Adjust, Order, Cancel, Pick, Unpick, Ship, Hold, Release, Recall, OpenDay, Least}
 use Rattle.machine.specs.Acts.{Act}
-use Rattle.machine.specs.Standing.{KnownLot, items, has_item, bins, has_bin, is_store_bin, lot_known, has_lot, is_held, is_recalled, is_expired, today, has_order, has_line}
+use Rattle.machine.specs.Standing.{KnownLot, items, has_item, bins, has_bin, is_store_bin, lot_known, has_lot, is_held, is_recalled, is_expired, is_short_dated, least_days, today, has_order, has_line}
 use Rattle.machine.specs.Planning.{in_bin, staged_of_lot, staged_for_order, units_in_house, is_open, reserved, open_units}
 
 -- conditions in the order of judging, each with its refusal
@@ -31,6 +31,11 @@ expires_otherwise (Some k) expiry = not (int_le k.expiry expiry && int_le expiry
 abbrev pub is_past : Option KnownLot → ℤ → Bool
 is_past None day = false
 is_past (Some k) day = is_expired day k.expiry
+
+-- the lot is known, and has fewer days left, though it is not expired
+abbrev pub is_below : Option KnownLot → ℤ → ℕ → Bool
+is_below None day days = false
+is_below (Some k) day days = is_short_dated day days k.expiry
 
 -- two of the lines are of one item
 abbrev pub names_item_twice : List OrderLine → Bool
@@ -108,6 +113,7 @@ module _ (first : ℤ) (acts : List Act) where
       unknown_item p.lot.gtin ∷ unknown_bin p.bin ∷ unknown_lot p.lot ∷ unknown_order p.order
       ∷ no_such_line p.order p.lot.gtin ∷ lot_recalled p.lot
       ∷ (is_past (lot_known acts p.lot) (today first acts), LotExpired)
+      ∷ (is_below (lot_known acts p.lot) (today first acts) (least_days acts p.lot.gtin), TooFewDays)
       ∷ lot_held p.lot ∷ (not (is_store_bin acts p.bin), NotStoreBin) ∷ order_closed p.order
       ∷ not_in_bin p.bin p.lot p.qty ∷ (nat_lt (reserved first acts p.order p.lot) p.qty, OverReserved) ∷ []
   judgement (Unpick p) =
@@ -121,6 +127,7 @@ module _ (first : ℤ) (acts : List Act) where
       unknown_item l.gtin ∷ unknown_lot l ∷ lot_recalled l ∷ (not (is_held acts l), LotNotHeld) ∷ []
   judgement (Recall l) = unknown_item l.gtin ∷ (is_recalled acts l, AlreadyRecalled) ∷ []
   judgement (OpenDay day) = (int_le day (today first acts), DayNotLater) ∷ []
+  judgement (Least l) = unknown_item l.gtin ∷ []
 
   -- the number of acts is judged first
   abbrev pub all_judged : Command → Judgement

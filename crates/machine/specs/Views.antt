@@ -18,14 +18,14 @@ use Rattle.commands.specs.declared.views.StagedLot.{StagedLot}
 use Rattle.commands.specs.declared.views.LineView.{LineView}
 use Rattle.commands.specs.declared.views.OrderView.{OrderView}
 use Rattle.commands.specs.declared.views.LotStatus.{LotStatus}
-use Rattle.commands.specs.declared.views.LotStatus.TheVariants.{Recalled, Held, Expired, Free}
+use Rattle.commands.specs.declared.views.LotStatus.TheVariants.{Recalled, Held, Expired, ShortDated, Free}
 use Rattle.commands.specs.declared.views.LotView.{LotView}
 use Rattle.commands.specs.declared.views.StockView.{StockView}
 use Rattle.commands.specs.declared.views.ShortLine.{ShortLine}
 use Rattle.commands.specs.declared.views.ShortView.{ShortView}
 use Rattle.machine.specs.Acts.{Act}
 use Rattle.machine.specs.Postings.{balance, is_lot, is_shipment}
-use Rattle.machine.specs.Standing.{is_held, is_recalled, is_expired, today, lots_of, is_store_bin, orders, Placed, KnownLot, bins, shipments, order_named, lot_known}
+use Rattle.machine.specs.Standing.{is_held, is_recalled, is_expired, is_short_dated, least_days, today, lots_of, is_store_bin, orders, Placed, KnownLot, bins, shipments, order_named, lot_known}
 use Rattle.machine.specs.Ledger.{postings}
 use Rattle.machine.specs.Planning.{in_bin, staged_of_lot, shipped_of, reserved, goes_before, Booking, bookings, short_of, order_state}
 use Rattle.machine.specs.Cards.{cards, lot_units_in_house}
@@ -90,11 +90,12 @@ card_view first acts item k = record {
 abbrev pub lots_in_order : List Act → List ℕ → List KnownLot
 lots_in_order acts g = in_order goes_before (lots_of acts g)
 
--- recalled comes first, then held, then expired
+-- recalled comes first, then held, then expired, then short-dated
 abbrev pub lot_status : ℤ → List Act → KnownLot → LotStatus
 lot_status first acts k =
     if is_recalled acts k.lot then Recalled
-    else (if is_held acts k.lot then Held else (if is_expired (today first acts) k.expiry then Expired else Free))
+    else (if is_held acts k.lot then Held else (if is_expired (today first acts) k.expiry then Expired
+    else (if is_short_dated (today first acts) (least_days acts k.lot.gtin) k.expiry then ShortDated else Free)))
 
 abbrev pub reserved_on_lot : ℤ → List Act → LotId → ℕ
 reserved_on_lot first acts l = total (λ o. reserved first acts o.order l) (orders acts)
@@ -139,6 +140,7 @@ line_view first acts o l = record {
   shipped = shipped_of first acts o l.gtin;
   short = short_of_line first acts o l.gtin;
   staged = staged_lots first acts o l.gtin;
+  least = least_days acts l.gtin;
 }
 
 -- lines in the order of their items

@@ -1,14 +1,15 @@
 //! Laws over all histories and all runs: functions without effect, whose contracts are the laws.
 
 ghost use Rattle.machine.specs.Laws.{NeverOverdrawn, Conserved, Covered, PickDisturbsNone, RecallDisturbsNone, RecallDisturbsLaterAlone, StagedLotsAreShippable, ShippedLotsAreShippable, ClosedOrdersAreEmpty, OtherItemsAreLeftAlone, Traced, LastLinesTellUnits, RunsGoOn, FilesGoOn, RunsWithMemory, RepeatsActOnce, RepeatsGetTheFirstReply};
+ghost use Rattle.machine.specs.Schemas.{OlderBooksGoOn};
 
 /// No more is taken out of places in the warehouse or out of shipments than was brought there.
 pub fn never_overdrawn()
     ensures { NeverOverdrawn }
 {}
 
-/// A lot of which units are staged is shippable, and no shipment holds a unit of a lot that was held, recalled or
-/// expired at that act.
+/// A lot of which units are staged is shippable, and no shipment holds a unit of a lot that was not shippable at that
+/// act: held, recalled, or with fewer days left than its item asked for.
 pub fn clean()
     ensures staged { StagedLotsAreShippable }
     ensures shipped { ShippedLotsAreShippable }
@@ -69,4 +70,9 @@ pub fn runs_go_on()
 pub fn repeats_act_once()
     ensures same_acts { RepeatsActOnce }
     ensures first_reply { RepeatsGetTheFirstReply }
+{}
+
+/// The tables of books of schema 1, brought to the newest schema, are those of the same acts.
+pub fn older_books_go_on()
+    ensures { OlderBooksGoOn }
 {}

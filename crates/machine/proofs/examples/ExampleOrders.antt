@@ -68,6 +68,7 @@ the_first_order_is_shown : order_shown may_4 with_early_lot S1
         shipped = 0;
         short = 0;
         staged = [];
+        least = 0;
       } ∷ [];
       order = S1;
       state = Open;

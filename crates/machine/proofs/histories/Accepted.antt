@@ -13,12 +13,13 @@ use Rattle.commands.specs.declared.command.Recount.{Recount}
 use Rattle.commands.specs.declared.command.Adjustment.{Adjustment}
 use Rattle.commands.specs.declared.command.NewOrder.{NewOrder}
 use Rattle.commands.specs.declared.command.Picking.{Picking}
+use Rattle.commands.specs.declared.command.NewLeast.{NewLeast}
 use Rattle.commands.specs.declared.command.Command.{Command}
-use Rattle.commands.specs.declared.command.Command.TheVariants.{Item, Bin, Receive, Move, Count, Adjust, Order, Cancel, Pick, Unpick, Ship, Hold, Release, Recall, OpenDay}
+use Rattle.commands.specs.declared.command.Command.TheVariants.{Item, Bin, Receive, Move, Count, Adjust, Order, Cancel, Pick, Unpick, Ship, Hold, Release, Recall, OpenDay, Least}
 use Rattle.machine.specs.Acts.{Act}
-use Rattle.machine.specs.Standing.{items, has_item, bins, has_bin, is_store_bin, lot_known, has_lot, is_held, is_recalled, is_expired, today, has_order, has_line}
+use Rattle.machine.specs.Standing.{items, has_item, bins, has_bin, is_store_bin, lot_known, has_lot, is_held, is_recalled, is_expired, today, least_days, has_order, has_line}
 use Rattle.machine.specs.Planning.{in_bin, staged_of_lot, staged_for_order, units_in_house, is_open, reserved, open_units}
-use Rattle.machine.specs.Verdict.{Judgement, first_refusal, verdict, all_judged, expires_otherwise, is_past, names_item_twice, taken_off, put_on}
+use Rattle.machine.specs.Verdict.{Judgement, first_refusal, verdict, all_judged, expires_otherwise, is_past, is_below, names_item_twice, taken_off, put_on}
 use Rattle.machine.proofs.Tests.{not_false, or_none, at_most, is_zero}
 
 -- no condition of the list holds
@@ -160,6 +161,7 @@ module _ (first : ℤ) (acts : List Act) where
     pub line : has_line acts p.order p.lot.gtin ≡ true
     pub not_recalled : is_recalled acts p.lot ≡ false
     pub not_past : is_past (lot_known acts p.lot) (today first acts) ≡ false
+    pub not_below : is_below (lot_known acts p.lot) (today first acts) (least_days acts p.lot.gtin) ≡ false
     pub not_held : is_held acts p.lot ≡ false
     pub store : is_store_bin acts p.bin ≡ true
     pub still_open : is_open first acts p.order ≡ true
@@ -177,11 +179,12 @@ module _ (first : ℤ) (acts : List Act) where
         line = not_false _ h.1.1.1.1.1.0;
         not_recalled = h.1.1.1.1.1.1.0;
         not_past = h.1.1.1.1.1.1.1.0;
-        not_held = h.1.1.1.1.1.1.1.1.0;
-        store = not_false _ h.1.1.1.1.1.1.1.1.1.0;
-        still_open = not_false _ h.1.1.1.1.1.1.1.1.1.1.0;
-        there = at_most _ _ h.1.1.1.1.1.1.1.1.1.1.1.0;
-        is_reserved = at_most _ _ h.1.1.1.1.1.1.1.1.1.1.1.1.0;
+        not_below = h.1.1.1.1.1.1.1.1.0;
+        not_held = h.1.1.1.1.1.1.1.1.1.0;
+        store = not_false _ h.1.1.1.1.1.1.1.1.1.1.0;
+        still_open = not_false _ h.1.1.1.1.1.1.1.1.1.1.1.0;
+        there = at_most _ _ h.1.1.1.1.1.1.1.1.1.1.1.1.0;
+        is_reserved = at_most _ _ h.1.1.1.1.1.1.1.1.1.1.1.1.1.0;
       }
 
   pub record UnpickAccepted (p : Picking) : Type 0 where
@@ -247,3 +250,6 @@ module _ (first : ℤ) (acts : List Act) where
 
   pub day_accepted : (day : ℤ) → verdict first acts (OpenDay day) ≡ None → int_le day (today first acts) ≡ false
   day_accepted day ok = let h = passed first acts (OpenDay day) ok in h.1.0
+
+  pub least_accepted : (l : NewLeast) → verdict first acts (Least l) ≡ None → has_item acts l.gtin ≡ true
+  least_accepted l ok = let h = passed first acts (Least l) ok in not_false _ h.1.0

@@ -70,7 +70,7 @@ all_lower : (g : List ℕ) (n : ℕ) (os : List Placed) → AllBelow (λ (p : Pl
 all_lower g n [] h = tt
 all_lower g n (p ∷ os) h = lower_append n (lines_of_item g p) (flat_map (lines_of_item g) os) (lower_lines g p [] n p.lines h.0) (all_lower g n os h.1)
 
-are_lower : (g : List ℕ) (os : List Placed) → AllSingle os → AreFalling (λ (p : Placed). p.act) os → AreLower (flat_map (lines_of_item g) os)
+pub are_lower : (g : List ℕ) (os : List Placed) → AllSingle os → AreFalling (λ (p : Placed). p.act) os → AreLower (flat_map (lines_of_item g) os)
 are_lower g [] s h = tt
 are_lower g (p ∷ os) s h = lines_lower g p (flat_map (lines_of_item g) os) p.lines s.0 (all_lower g p.act os h.0) (are_lower g os s.1 h.1)
 
@@ -101,30 +101,30 @@ rising_append : (ds : List Demand) (d : Demand) → RisingDemands ds → AllEarl
 rising_append [] d h k = (tt, tt)
 rising_append (c ∷ ds) d h k = (after_append c.booking ds d h.0 (lt-ltb c.booking d.booking k.0), rising_append ds d h.1 k.1)
 
-map_append : (f : Booking → Demand) (bs cs : List Booking) → map f (bs ++ cs) ≡ map f bs ++ map f cs
+pub map_append : (f : Booking → Demand) (bs cs : List Booking) → map f (bs ++ cs) ≡ map f bs ++ map f cs
 map_append f [] cs = refl
 map_append f (b ∷ bs) cs = ap (λ ds. f b ∷ ds) (map_append f bs cs)
 
 module _ (acts : List Act) (ps : List Posting) where
-  abbrev turned : List Booking → List Demand
+  abbrev pub turned : List Booking → List Demand
   turned bs = map (demand_of acts ps) (reverse bs)
 
-  turned_cons : (b : Booking) (bs : List Booking) → turned (b ∷ bs) ≡ turned bs ++ demand_of acts ps b ∷ []
+  pub turned_cons : (b : Booking) (bs : List Booking) → turned (b ∷ bs) ≡ turned bs ++ demand_of acts ps b ∷ []
   turned_cons b bs = ap (map (demand_of acts ps)) (reverse-append (b ∷ []) bs) ∙ map_append (demand_of acts ps) (reverse bs) (b ∷ [])
 
   earlier_turned : (n : ℕ) (bs : List Booking) → AllLower n bs → AllEarlier n (turned bs)
   earlier_turned n [] h = tt
   earlier_turned n (b ∷ bs) h = subst (AllEarlier n) (sym (turned_cons b bs)) (earlier_append n (turned bs) (demand_of acts ps b ∷ []) (earlier_turned n bs h.1) (h.0, tt))
 
-  rising_turned : (bs : List Booking) → AreLower bs → RisingDemands (turned bs)
+  pub rising_turned : (bs : List Booking) → AreLower bs → RisingDemands (turned bs)
   rising_turned [] h = tt
   rising_turned (b ∷ bs) h = subst RisingDemands (sym (turned_cons b bs)) (rising_append (turned bs) (demand_of acts ps b) (rising_turned bs h.1) (earlier_turned b.act bs h.0))
 
-  total_append : (f : Demand → ℕ) (ds es : List Demand) → plan_total f (ds ++ es) ≡ plan_total f ds + plan_total f es
+  pub total_append : (f : Demand → ℕ) (ds es : List Demand) → plan_total f (ds ++ es) ≡ plan_total f ds + plan_total f es
   total_append f [] es = omega arith
   total_append f (d ∷ ds) es = omega (arith, total_append f ds es)
 
-  total_turned : (f : Demand → ℕ) (bs : List Booking) → plan_total f (turned bs) ≡ total (λ b. f (demand_of acts ps b)) bs
+  pub total_turned : (f : Demand → ℕ) (bs : List Booking) → plan_total f (turned bs) ≡ total (λ b. f (demand_of acts ps b)) bs
   total_turned f [] = refl
   total_turned f (b ∷ bs) = ap (plan_total f) (turned_cons b bs) ∙ omega (arith, total_append f (turned bs) (demand_of acts ps b ∷ []), total_turned f bs)
 

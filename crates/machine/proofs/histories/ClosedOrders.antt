@@ -8,7 +8,7 @@ use Rattle.values.specs.declared.lot.LotId.{LotId}
 use Rattle.commands.specs.declared.key.Key.{Key}
 use Rattle.commands.specs.declared.command.OrderLine.{OrderLine}
 use Rattle.commands.specs.declared.command.Command.{Command}
-use Rattle.commands.specs.declared.command.Command.TheVariants.{Item, Bin, Receive, Move, Count, Adjust, Order, Cancel, Pick, Unpick, Ship, Hold, Release, Recall, OpenDay}
+use Rattle.commands.specs.declared.command.Command.TheVariants.{Item, Bin, Receive, Move, Count, Adjust, Order, Cancel, Pick, Unpick, Ship, Hold, Release, Recall, OpenDay, Least}
 use Rattle.commands.specs.declared.rows.OrderState.TheVariants.{Open, Done, Cancelled}
 use Rattle.machine.specs.Acts.{Act, next_number}
 use Rattle.machine.specs.Postings.{Place, Supplier, InBin, Stage, Shipped, WriteOff, Posting, balance, is_stage, is_shipped_to, is_lot, any_lot, of_item}
@@ -84,6 +84,7 @@ module _ (first : ℤ) (key : Key) (before : List Act) (o : List ℕ) (h : is_ca
   cancelled_after (Hold l) ok e = still_none (Hold l) refl e
   cancelled_after (Recall l) ok e = still_none (Recall l) refl e
   cancelled_after (OpenDay d) ok e = still_none (OpenDay d) refl e
+  cancelled_after (Least l) ok e = still_none (Least l) refl e
   cancelled_after (Item i) ok e = h e
   cancelled_after (Bin b) ok e = h e
   cancelled_after (Order n) ok e = h e
@@ -253,6 +254,7 @@ module _ (first : ℤ) (key : Key) (before : List Act) (history : IsHistory firs
   served_after (Hold l) ok = served_other (Hold l) refl
   served_after (Recall l) ok = served_other (Recall l) refl
   served_after (OpenDay d) ok = served_other (OpenDay d) refl
+  served_after (Least l) ok = served_other (Least l) refl
   served_after (Item i) ok = h
   served_after (Bin b) ok = h
   served_after (Order n) ok = h

@@ -4,7 +4,7 @@ use Prim.Native.Nat.{zero}
 use Rattle.std.specs.Prelude.{◌==◌, if◌then◌else◌, flat_map, ℤ, pos, negsuc, neg_ℤ, unsigned_abs}
 use Rattle.values.specs.declared.lot.LotId.{LotId}
 use Rattle.commands.specs.declared.command.Command.{Command}
-use Rattle.commands.specs.declared.command.Command.TheVariants.{Item, Bin, Receive, Move, Count, Adjust, Order, Cancel, Pick, Unpick, Ship, Hold, Release, Recall, OpenDay}
+use Rattle.commands.specs.declared.command.Command.TheVariants.{Item, Bin, Receive, Move, Count, Adjust, Order, Cancel, Pick, Unpick, Ship, Hold, Release, Recall, OpenDay, Least}
 use Rattle.commands.specs.declared.rows.CardKind.{CardKind}
 use Rattle.commands.specs.declared.rows.CardKind.TheVariants.{Receipt, WriteOn, WriteOff as WrittenOff}
 use Rattle.commands.specs.declared.rows.CardRow.{CardRow}
@@ -73,6 +73,7 @@ ways_posted first act before ps (Unpick p) = way_posting (next_number before) p.
 ways_posted first act before ps (Ship o) = ways_shipped (next_number before) ps (shipments_so_far first before + 1) o (lots before)
 ways_posted first act before ps (Hold l) = ways_returned (next_number before) ps (orders before) (made_unshippable first act before)
 ways_posted first act before ps (Recall l) = ways_returned (next_number before) ps (orders before) (made_unshippable first act before)
+ways_posted first act before ps (Least l) = ways_returned (next_number before) ps (orders before) (made_unshippable first act before)
 ways_posted first act before ps (OpenDay day) = ways_returned (next_number before) ps (orders before) (made_unshippable first act before)
 ways_posted first act before ps (Item i) = tt
 ways_posted first act before ps (Bin b) = tt

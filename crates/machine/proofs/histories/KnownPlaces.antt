@@ -9,7 +9,7 @@ use Rattle.commands.specs.declared.key.Key.{Key}
 use Rattle.commands.specs.declared.command.NewBin.{NewBin}
 use Rattle.commands.specs.declared.command.Receipt.{Receipt}
 use Rattle.commands.specs.declared.command.Command.{Command}
-use Rattle.commands.specs.declared.command.Command.TheVariants.{Item, Bin, Receive, Move, Count, Adjust, Order, Cancel, Pick, Unpick, Ship, Hold, Release, Recall, OpenDay}
+use Rattle.commands.specs.declared.command.Command.TheVariants.{Item, Bin, Receive, Move, Count, Adjust, Order, Cancel, Pick, Unpick, Ship, Hold, Release, Recall, OpenDay, Least}
 use Rattle.commands.specs.declared.rows.ShipmentRow.{ShipmentRow}
 use Rattle.machine.specs.Acts.{Act, next_number, gathered}
 use Rattle.machine.specs.Postings.{Place, Supplier, InBin, Stage, Shipped, WriteOff, Posting, balance, is_bin, is_stage, is_lot, is_shipment}
@@ -262,6 +262,7 @@ known_posted first key before (Ship o) ok known =
 known_posted first key before (Hold l) ok known = known_returned first (record { key = key; command = Hold l }) before ok known (made_unshippable first (record { key = key; command = Hold l }) before) (orders before)
 known_posted first key before (Recall l) ok known = known_returned first (record { key = key; command = Recall l }) before ok known (made_unshippable first (record { key = key; command = Recall l }) before) (orders before)
 known_posted first key before (OpenDay d) ok known = known_returned first (record { key = key; command = OpenDay d }) before ok known (made_unshippable first (record { key = key; command = OpenDay d }) before) (orders before)
+known_posted first key before (Least l) ok known = known_returned first (record { key = key; command = Least l }) before ok known (made_unshippable first (record { key = key; command = Least l }) before) (orders before)
 known_posted first key before (Item i) ok known = tt
 known_posted first key before (Bin b) ok known = tt
 known_posted first key before (Order o) ok known = tt

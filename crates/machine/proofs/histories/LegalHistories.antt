@@ -5,7 +5,7 @@ use Rattle.std.specs.List.{list_any}
 use Rattle.values.specs.Values.{same_text}
 use Rattle.values.specs.declared.lot.LotId.{LotId}
 use Rattle.commands.specs.declared.command.Command.{Command}
-use Rattle.commands.specs.declared.command.Command.TheVariants.{Item, Bin, Receive, Move, Count, Adjust, Order, Cancel, Pick, Unpick, Ship, Hold, Release, Recall, OpenDay}
+use Rattle.commands.specs.declared.command.Command.TheVariants.{Item, Bin, Receive, Move, Count, Adjust, Order, Cancel, Pick, Unpick, Ship, Hold, Release, Recall, OpenDay, Least}
 use Rattle.machine.specs.Acts.{Act, next_number}
 use Rattle.machine.specs.Postings.{Place, Supplier, InBin, Stage, Shipped, WriteOff, Posting, balance, is_bin, is_lot, is_stage}
 use Rattle.machine.specs.Standing.{KnownLot, Placed, lots, orders, shipments_so_far, RETURNS}
@@ -148,6 +148,7 @@ module _ (first : ℤ) (act : Act) (before : List Act) (history : IsHistory firs
   legal_posted (Release l) ok = legal
   legal_posted (Recall l) ok = legal_made_unshippable
   legal_posted (OpenDay day) ok = legal_made_unshippable
+  legal_posted (Least l) ok = legal_made_unshippable
 
 -- in each history, each place has what is taken from it
 pub legal_history : (first : ℤ) (acts : List Act) → IsHistory first acts → Legal (postings first acts)

@@ -1,6 +1,6 @@
 -- An act leaves the items alone that it does not touch.
 use Rattle.std.proofs.Common.{◌≡◌, ℕ, suc, ◌+◌, ◌-◌, Bool, true, false, ◌&&◌, not, List, [], ◌∷◌, ◌++◌, refl, ap, sym, ◌∙◌, arith}
-use Rattle.std.specs.Prelude.{◌==◌, ◌||◌, if◌then◌else◌, find, filter, map, reverse, flat_map, Option, Some, None, is_some, ℤ, pos, negsuc, int_lt, int_le}
+use Rattle.std.specs.Prelude.{◌==◌, ◌||◌, if◌then◌else◌, find, filter, map, reverse, flat_map, Option, Some, None, is_some, ℤ, pos, negsuc, int_lt, int_le, ◌+ℤ◌}
 use Rattle.std.specs.List.{list_any}
 use Rattle.std.proofs.lemmas.Int.{ints}
 use Rattle.values.specs.Values.{same_text}
@@ -10,13 +10,14 @@ use Rattle.commands.specs.declared.key.Key.{Key}
 use Rattle.commands.specs.declared.command.NewBin.{NewBin}
 use Rattle.commands.specs.declared.command.NewOrder.{NewOrder}
 use Rattle.commands.specs.declared.command.Receipt.{Receipt}
+use Rattle.commands.specs.declared.command.NewLeast.{NewLeast}
 use Rattle.commands.specs.declared.command.OrderLine.{OrderLine}
 use Rattle.commands.specs.declared.command.Command.{Command}
-use Rattle.commands.specs.declared.command.Command.TheVariants.{Item, Bin, Receive, Move, Count, Adjust, Order, Cancel, Pick, Unpick, Ship, Hold, Release, Recall, OpenDay}
+use Rattle.commands.specs.declared.command.Command.TheVariants.{Item, Bin, Receive, Move, Count, Adjust, Order, Cancel, Pick, Unpick, Ship, Hold, Release, Recall, OpenDay, Least}
 use Rattle.plan.specs.Overlap.{plan_rows}
 use Rattle.machine.specs.Acts.{Act, gathered, next_number}
 use Rattle.machine.specs.Postings.{Place, Supplier, InBin, Stage, Shipped, WriteOff, Posting, balance, units_in, units_out, is_bin, is_stage, is_lot, of_item}
-use Rattle.machine.specs.Standing.{KnownLot, Placed, RETURNS, lots, lots_of, lot_among, lot_known, has_bin, bin_named, is_store_bin, is_store_row, orders, order_named, lines_placed, has_line, is_cancelled, is_shippable, is_held, is_recalled, is_expired, says_held, hold_in, recall_in, today, shipments_so_far}
+use Rattle.machine.specs.Standing.{KnownLot, Placed, RETURNS, lots, lots_of, lot_among, lot_known, has_bin, bin_named, is_store_bin, is_store_row, orders, order_named, lines_placed, has_line, is_cancelled, is_shippable, is_held, is_recalled, is_expired, says_held, hold_in, recall_in, least_in, days_asked, least_days, least_expiry, today, shipments_so_far}
 use Rattle.machine.specs.Ledger.{posting, written, cleared, shipped_off, lot_returned, returned, posted, postings}
 use Rattle.machine.specs.Planning.{booking_of, lines_of_item, bookings, need, demands, demand_of, supplies, supply_of, goes_before, item_postings, staged, shipped, in_store, plan, reserved, reserved_of}
 use Rattle.machine.specs.Touched.{touches}
@@ -115,8 +116,8 @@ same_kept g f h (k ∷ ks) e =
 
 -- Days
 
-expired_later : (expiry old new : ℤ) → int_le new old ≡ false → int_lt expiry old ≡ true → int_lt expiry new ≡ true
-expired_later expiry old new e f = grind (arith, ints)
+expired_later : (expiry old new : ℤ) (n : ℕ) → int_le new old ≡ false → int_lt expiry (old +ℤ pos n) ≡ true → int_lt expiry (new +ℤ pos n) ≡ true
+expired_later expiry old new n e f = grind (arith, ints)
 
 -- A bin that is new holds nothing
 
@@ -168,18 +169,24 @@ module _ (first : ℤ) (key : Key) (before : List Act) (g : List ℕ) where
 
   held_same : (l : LotId) → of_item g l ≡ false → (k : KnownLot) → of_item g k.lot ≡ true → is_shippable first (done (Hold l) ∷ before) k ≡ is_shippable first before k
   held_same l e k f =
-      ap (λ b. not (says_held (if b then Some (record { lot = l; held = true }) else find (λ w. is_lot k.lot w.lot) (gathered hold_in before))) && not (is_recalled before k.lot) && not (is_expired (today first before) k.expiry))
+      ap (λ b. not (says_held (if b then Some (record { lot = l; held = true }) else find (λ w. is_lot k.lot w.lot) (gathered hold_in before))) && not (is_recalled before k.lot) && not (is_expired (least_expiry first before k.lot.gtin) k.expiry))
       (other_of l k.lot e f)
 
   released_same : (l : LotId) → of_item g l ≡ false → (k : KnownLot) → of_item g k.lot ≡ true → is_shippable first (done (Release l) ∷ before) k ≡ is_shippable first before k
   released_same l e k f =
-      ap (λ b. not (says_held (if b then Some (record { lot = l; held = false }) else find (λ w. is_lot k.lot w.lot) (gathered hold_in before))) && not (is_recalled before k.lot) && not (is_expired (today first before) k.expiry))
+      ap (λ b. not (says_held (if b then Some (record { lot = l; held = false }) else find (λ w. is_lot k.lot w.lot) (gathered hold_in before))) && not (is_recalled before k.lot) && not (is_expired (least_expiry first before k.lot.gtin) k.expiry))
       (other_of l k.lot e f)
 
   recalled_same : (l : LotId) → of_item g l ≡ false → (k : KnownLot) → of_item g k.lot ≡ true → is_shippable first (done (Recall l) ∷ before) k ≡ is_shippable first before k
   recalled_same l e k f =
-      ap (λ b. not (is_held before k.lot) && not (is_some (if b then Some (record { lot = l; act = next_number before }) else find (λ r. is_lot k.lot r.lot) (gathered recall_in before))) && not (is_expired (today first before) k.expiry))
+      ap (λ b. not (is_held before k.lot) && not (is_some (if b then Some (record { lot = l; act = next_number before }) else find (λ r. is_lot k.lot r.lot) (gathered recall_in before))) && not (is_expired (least_expiry first before k.lot.gtin) k.expiry))
       (other_of l k.lot e f)
+
+  asked_same : (l : NewLeast) → same_text g l.gtin ≡ false → (k : KnownLot) → of_item g k.lot ≡ true → is_shippable first (done (Least l) ∷ before) k ≡ is_shippable first before k
+  asked_same l e k f =
+      let other : same_text k.lot.gtin l.gtin ≡ false = ap (λ (x : List ℕ). same_text x l.gtin) (sym (same_text_is g k.lot.gtin f)) ∙ e in
+      ap (λ b. not (is_held before k.lot) && not (is_recalled before k.lot) && not (is_expired (today first before +ℤ pos (days_asked (if b then Some l else find (λ x. same_text k.lot.gtin x.gtin) (gathered least_in before)))) k.expiry))
+      other
 
   agree : (x a b : Bool) → (a ≡ true → b ≡ true) → x && not a && not (x && not b) ≡ false → x && not b ≡ x && not a
   agree false a b h e = refl
@@ -191,7 +198,8 @@ module _ (first : ℤ) (key : Key) (before : List Act) (g : List ℕ) where
       → NoneDiffers g (is_shippable first (done (OpenDay day) ∷ before)) (is_shippable first before) ks
   day_same day later [] h = tt
   day_same day later (k ∷ ks) h = (
-    λ e. agree (not (is_held before k.lot) && not (is_recalled before k.lot)) (is_expired (today first before) k.expiry) (is_expired day k.expiry) (expired_later k.expiry (today first before) day later) (h.0 e),
+    λ e. agree (not (is_held before k.lot) && not (is_recalled before k.lot)) (is_expired (least_expiry first before k.lot.gtin) k.expiry) (is_expired (day +ℤ pos (least_days before k.lot.gtin)) k.expiry)
+        (expired_later k.expiry (today first before) day (least_days before k.lot.gtin) later) (h.0 e),
     day_same day later ks h.1,
   )
 
@@ -318,6 +326,11 @@ module _ (first : ℤ) (key : Key) (before : List Act) (g : List ℕ) where
       let none = none_pass_of g (λ k. is_shippable first before k && not (is_shippable first (done (OpenDay day) ∷ before) k)) (lots before) two.0 in
       same_by (OpenDay day) (other_returned g (next_number before) old (orders before) _ (lots before) none) refl
       (λ i. map (supply_of before (item_postings first (done (OpenDay day) ∷ before) g)) (in_order goes_before (same_kept g _ _ (lots before) (day_same day (day_accepted first before day ok) (lots before) none) i)))
+  same_after (Least l) h ok e =
+      same_by (Least l)
+      (other_returned g (next_number before) old (orders before) _ (lots before) (none_pass_by g _ (λ k f. never_made _ _ (asked_same l e k f)) (lots before)))
+      refl
+      (λ i. map (supply_of before (item_postings first (done (Least l) ∷ before) g)) (in_order goes_before (same_kept g _ _ (lots before) (none_differs_by g (is_shippable first (done (Least l) ∷ before)) (is_shippable first before) (asked_same l e) (lots before)) i)))
 
   plan_same : (c : Command) → IsSame c → plan first (done c ∷ before) g ≡ plan first before g
   plan_same c s = λ i. plan_rows (s.demands i) (s.supplies i)
@@ -374,6 +387,7 @@ module _ (first : ℤ) (key : Key) (before : List Act) (g : List ℕ) where
     reserved_after (Release m) h ok e s = by_plan (Release m) s
     reserved_after (Recall m) h ok e s = by_plan (Recall m) s
     reserved_after (OpenDay d) h ok e s = by_plan (OpenDay d) s
+    reserved_after (Least m) h ok e s = by_plan (Least m) s
 
 pub other_items_are_left_alone : OtherItemsAreLeftAlone
 other_items_are_left_alone first act before g h e =

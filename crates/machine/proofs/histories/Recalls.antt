@@ -15,7 +15,7 @@ use Rattle.plan.specs.Overlap.{plan_rows, reserved_in}
 use Rattle.plan.proofs.Removing.{removing_disturbs_none}
 use Rattle.machine.specs.Acts.{Act, next_number}
 use Rattle.machine.specs.Postings.{Posting, is_stage, is_lot, of_item}
-use Rattle.machine.specs.Standing.{KnownLot, Placed, lots, lots_of, lot_known, is_shippable, is_held, is_recalled, recalling, is_expired, today, is_store_row, orders, order_named, is_cancelled}
+use Rattle.machine.specs.Standing.{KnownLot, Placed, lots, lots_of, lot_known, is_shippable, is_held, is_recalled, recalling, is_expired, least_expiry, is_store_row, orders, order_named, is_cancelled}
 use Rattle.machine.specs.Ledger.{postings}
 use Rattle.machine.specs.Planning.{Booking, booking_of, lines_of_item, bookings, demand_of, demands, supply_of, supplies, shippable_lots, goes_before, item_postings, staged, shipped, staged_of_lot, in_store, store_units, plan, reserved, reserved_of}
 use Rattle.machine.specs.Once.{IsHistory}
@@ -122,9 +122,9 @@ module _ (first : ℤ) (before : List Act) (key : Key) (l : LotId) (next : IsHis
   makes = record {
     posts = refl;
     itself = λ k e.
-        ap (λ b. not (is_held before k.lot) && not b && not (is_expired (today first before) k.expiry)) (recalled_is k.lot ∙ ap (λ t. if t then true else is_recalled before k.lot) (is_lot_turned k.lot l ∙ e))
-        ∙ ap (λ b. b && not (is_expired (today first before) k.expiry)) (and_false (not (is_held before k.lot)));
-    others = λ k e. ap (λ b. not (is_held before k.lot) && not b && not (is_expired (today first before) k.expiry)) (recalled_is k.lot ∙ ap (λ t. if t then true else is_recalled before k.lot) (is_lot_turned k.lot l ∙ e));
+        ap (λ b. not (is_held before k.lot) && not b && not (is_expired (least_expiry first before k.lot.gtin) k.expiry)) (recalled_is k.lot ∙ ap (λ t. if t then true else is_recalled before k.lot) (is_lot_turned k.lot l ∙ e))
+        ∙ ap (λ b. b && not (is_expired (least_expiry first before k.lot.gtin) k.expiry)) (and_false (not (is_held before k.lot)));
+    others = λ k e. ap (λ b. not (is_held before k.lot) && not b && not (is_expired (least_expiry first before k.lot.gtin) k.expiry)) (recalled_is k.lot ∙ ap (λ t. if t then true else is_recalled before k.lot) (is_lot_turned k.lot l ∙ e));
     same_orders = refl;
     same_cancels = refl;
     same_bins = refl;

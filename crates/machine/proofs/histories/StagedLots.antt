@@ -8,13 +8,13 @@ use Rattle.commands.specs.Lists.{total}
 use Rattle.commands.specs.declared.key.Key.{Key}
 use Rattle.commands.specs.declared.command.Receipt.{Receipt}
 use Rattle.commands.specs.declared.command.Command.{Command}
-use Rattle.commands.specs.declared.command.Command.TheVariants.{Item, Bin, Receive, Move, Count, Adjust, Order, Cancel, Pick, Unpick, Ship, Hold, Release, Recall, OpenDay}
+use Rattle.commands.specs.declared.command.Command.TheVariants.{Item, Bin, Receive, Move, Count, Adjust, Order, Cancel, Pick, Unpick, Ship, Hold, Release, Recall, OpenDay, Least}
 use Rattle.machine.specs.Acts.{Act, gathered, next_number}
 use Rattle.machine.specs.Postings.{Place, InBin, Stage, Shipped, Posting, balance, is_stage, is_lot}
-use Rattle.machine.specs.Standing.{KnownLot, Placed, RETURNS, lots, lot_among, lot_known, with_receipt, hold_in, says_held, is_held, is_recalled, is_expired, today, is_shippable, orders, order_named, shipments_so_far}
+use Rattle.machine.specs.Standing.{KnownLot, Placed, RETURNS, lots, lot_among, lot_known, with_receipt, hold_in, says_held, is_held, is_recalled, is_expired, is_short_dated, least_days, least_expiry, today, is_shippable, orders, order_named, shipments_so_far}
 use Rattle.machine.specs.Ledger.{posting, cleared, shipped_off, lot_returned, returned, made_unshippable, posted, postings}
 use Rattle.machine.specs.Planning.{staged_of_lot}
-use Rattle.machine.specs.Verdict.{verdict, is_past}
+use Rattle.machine.specs.Verdict.{verdict, is_past, is_below}
 use Rattle.machine.specs.Once.{IsHistory}
 use Rattle.machine.specs.Laws.{IsShippableLot, StagedLotsAreShippable, ShippedLotsAreShippable}
 use Rattle.machine.proofs.Tests.{same_text_refl, is_lot_refl, is_lot_is}
@@ -169,16 +169,22 @@ held_before key m before l =
 released_ships : (first : ℤ) (key : Key) (m : LotId) (before : List Act) (k : Option KnownLot) → ships first (record { key = key; command = Release m } ∷ before) k ≡ false → ships first before k ≡ false
 released_ships first key m before None e = refl
 released_ships first key m before (Some k) e =
-    weaker (is_held (record { key = key; command = Release m } ∷ before) k.lot) (is_held before k.lot) (not (is_recalled before k.lot)) (not (is_expired (today first before) k.expiry)) (held_before key m before k.lot) e
+    weaker (is_held (record { key = key; command = Release m } ∷ before) k.lot) (is_held before k.lot) (not (is_recalled before k.lot)) (not (is_expired (least_expiry first before k.lot.gtin) k.expiry)) (held_before key m before k.lot) e
 
 -- A picked lot may be shipped
 
-picked_ships : (first : ℤ) (before : List Act) (l : LotId) (k : Option KnownLot) → lot_known before l ≡ k → is_some k ≡ true → is_recalled before l ≡ false → is_past k (today first before) ≡ false → is_held before l ≡ false
+picked_ships : (first : ℤ) (before : List Act) (l : LotId) (k : Option KnownLot) → lot_known before l ≡ k → is_some k ≡ true → is_recalled before l ≡ false → is_past k (today first before) ≡ false
+    → is_below k (today first before) (least_days before l.gtin) ≡ false → is_held before l ≡ false
     → ships first before k ≡ true
-picked_ships first before l None known some recalled past held = let f : false ≡ true = some in cc
-picked_ships first before l (Some k) known some recalled past held =
+picked_ships first before l None known some recalled past below held = let f : false ≡ true = some in cc
+picked_ships first before l (Some k) known some recalled past below held =
     let lot : l ≡ k.lot = found_lot l (lots before) k known in
-    (λ i. not (is_held before (sym lot i)) && not (is_recalled before (sym lot i)) && not (past i)) ∙ (λ i. not (held i) && not (recalled i) && true)
+    let days : is_expired (least_expiry first before l.gtin) k.expiry ≡ false = enough (is_expired (today first before) k.expiry) (is_expired (least_expiry first before l.gtin) k.expiry) past below in
+    (λ i. not (is_held before (sym lot i)) && not (is_recalled before (sym lot i)) && not (is_expired (least_expiry first before (sym lot i).gtin) k.expiry)) ∙ (λ i. not (held i) && not (recalled i) && not (days i))
+  where
+    enough : (a b : Bool) → a ≡ false → not a && b ≡ false → b ≡ false
+    enough true b e f = let g : true ≡ false = e in cc
+    enough false b e f = f
 
 -- Step by step
 
@@ -211,7 +217,7 @@ module _ (first : ℤ) (key : Key) (before : List Act) (history : IsHistory firs
       elim (is_lot l p.lot) as (λ b. is_lot l p.lot ≡ b → holds cell (posted first (done (Pick p)) before old (Pick p) ++ old) ≡ 0) [
         | true ↦ λ t.
             let k = pick_accepted first before p ok in
-            let yes : may_ship first before p.lot ≡ true = picked_ships first before p.lot (lot_known before p.lot) refl k.lot k.not_recalled k.not_past k.not_held in
+            let yes : may_ship first before p.lot ≡ true = picked_ships first before p.lot (lot_known before p.lot) refl k.lot k.not_recalled k.not_past k.not_below k.not_held in
             let f : false ≡ true = sym e ∙ ap (λ (x : LotId). may_ship first before x) (is_lot_is l p.lot t) ∙ yes in
             cc
         | false ↦ λ t. other_picked p.order p.lot (next_number before) p.qty p.bin t (h e)
@@ -220,6 +226,7 @@ module _ (first : ℤ) (key : Key) (before : List Act) (history : IsHistory firs
   unstaged_after (Hold m) ok e = returned_is_empty first (done (Hold m)) before history o l h e
   unstaged_after (Recall m) ok e = returned_is_empty first (done (Recall m)) before history o l h e
   unstaged_after (OpenDay d) ok e = returned_is_empty first (done (OpenDay d)) before history o l h e
+  unstaged_after (Least m) ok e = returned_is_empty first (done (Least m)) before history o l h e
   unstaged_after (Move m) ok e = still (Move m) refl (h e)
   unstaged_after (Count c) ok e = still (Count c) refl (h e)
   unstaged_after (Adjust a) ok e = still (Adjust a) refl (h e)

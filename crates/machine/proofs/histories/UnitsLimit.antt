@@ -5,7 +5,7 @@ use Rattle.values.specs.declared.lot.LotId.{LotId}
 use Rattle.commands.specs.declared.limits.TheConstants.{UNITS_MAX}
 use Rattle.commands.specs.declared.key.Key.{Key}
 use Rattle.commands.specs.declared.command.Command.{Command}
-use Rattle.commands.specs.declared.command.Command.TheVariants.{Item, Bin, Receive, Move, Count, Adjust, Order, Cancel, Pick, Unpick, Ship, Hold, Release, Recall, OpenDay}
+use Rattle.commands.specs.declared.command.Command.TheVariants.{Item, Bin, Receive, Move, Count, Adjust, Order, Cancel, Pick, Unpick, Ship, Hold, Release, Recall, OpenDay, Least}
 use Rattle.machine.specs.Acts.{Act, next_number}
 use Rattle.machine.specs.Postings.{Place, Supplier, InBin, Stage, Shipped, WriteOff, Posting, balance, is_stage, is_lot, of_item, in_house}
 use Rattle.machine.specs.Standing.{KnownLot, Placed, RETURNS, lots, orders, shipments_so_far}
@@ -143,6 +143,7 @@ module _ (g : List ℕ) where
     units_after (Hold l) ok = returns_within (record { key = key; command = Hold l })
     units_after (Recall l) ok = returns_within (record { key = key; command = Recall l })
     units_after (OpenDay d) ok = returns_within (record { key = key; command = OpenDay d })
+    units_after (Least l) ok = returns_within (record { key = key; command = Least l })
 
 pub units_within_limit : (first : ℤ) (acts : List Act) → IsHistory first acts → (g : List ℕ) → units_in_house first acts g ≤ UNITS_MAX
 units_within_limit first [] h g = lit≤ tt

@@ -1,0 +1,50 @@
+-- The tables of an older schema, and what they become in the newest one.
+use Rattle.std.specs.Prelude.{Option, Some, None}
+use Rattle.commands.specs.Tables.{Tables}
+use Rattle.commands.specs.declared.rows.ItemRow.{ItemRow}
+use Rattle.commands.specs.declared.rows.LeastRow.{LeastRow}
+
+-- schema 1 has no table `least`: it is seen as one without rows
+abbrev pub without_least : Tables → Tables
+without_least t = record {
+  meta = t.meta;
+  item = t.item;
+  least = λ g. None;
+  bin = t.bin;
+  lot = t.lot;
+  recall = t.recall;
+  stock = t.stock;
+  order = t.order;
+  line = t.line;
+  staged = t.staged;
+  reserved = t.reserved;
+  shipment = t.shipment;
+  shipline = t.shipline;
+  card = t.card;
+  repeat = t.repeat;
+}
+
+-- each item asks for 0 days
+abbrev pub asking_none : Option ItemRow → Option LeastRow
+asking_none None = None
+asking_none (Some i) = Some (record { gtin = i.gtin; days = 0 })
+
+-- and it has a row that says so
+abbrev pub with_least : Tables → Tables
+with_least t = record {
+  meta = t.meta;
+  item = t.item;
+  least = λ g. asking_none (t.item g);
+  bin = t.bin;
+  lot = t.lot;
+  recall = t.recall;
+  stock = t.stock;
+  order = t.order;
+  line = t.line;
+  staged = t.staged;
+  reserved = t.reserved;
+  shipment = t.shipment;
+  shipline = t.shipline;
+  card = t.card;
+  repeat = t.repeat;
+}
