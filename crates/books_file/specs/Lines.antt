@@ -27,3 +27,7 @@ pub record IsLineDone {D : Type 0} (g : Ghosts D) (held : Image) (files : List �
   pub told : HasCleanDisk (file_state closed) → IsTold over_files files opened work old new end closed
   -- the file alone holds what was committed, as it reads now and after a crash
   pub copied : AreClean g left.log left.db → IsCopied closed left
+
+-- the same, of a file and a log that nobody is given
+abbrev pub HasLineDone : {D : Type 0} → Ghosts D → Image → (List ℕ → Option (List ℕ)) → Work → (old new : Option (List ℕ)) → Result Unit Fault → Type 0
+HasLineDone {D} g held files work old new end = (left : Files D) × IsLineDone g held files work old new end left

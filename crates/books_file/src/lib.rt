@@ -3,7 +3,5 @@
 
 mod first_page;
 mod line;
-#[cfg(test)]
-mod tests;
 
 pub use line::{HostFiles, line_worked, work_in_file};

@@ -1,7 +1,7 @@
-ghost use Rattle.std.specs.Prelude.{◌≡◌, IfOk, IfErr, OnOk};
+ghost use Rattle.std.specs.Prelude.{◌≡◌, None, Ok, IfOk, IfErr, OnOk};
 ghost use Rattle.sqlite.specs.WalFiles.{image_at};
 ghost use Rattle.command_line.specs.declared.fault.Fault.TheVariants as fault;
-ghost use Rattle.books_file.specs.Lines.{IsLineDone};
+ghost use Rattle.books_file.specs.Lines.{IsLineDone, HasLineDone};
 
 use crate::first_page::lay_first_page;
 use command_line::{Fault, Work};
@@ -27,19 +27,22 @@ impl FilesAt for HostFiles<'_> {
 
 /// Does the work of a line with the books in the file at the path, and closes it. Only the making of books makes a file:
 /// where there is none, any other work is `Store` and leaves nothing behind. What the log still holds is copied into the
-/// file at the end, also where the port cannot be had. `start` says what is supposed of the file.
+/// file at the end, also where the port cannot be had. `start` says what is supposed of the file. Where it answers `Ok`,
+/// the line was done, as `line_worked` says; what a goods-in file of the host holds nothing says.
 pub fn work_in_file<S: Start, W: Write>(
     rt: &HostRuntime,
     db: &str,
     start: S,
     work: &Work<'_>,
     out: &mut W,
-) -> Result<(), Fault> {
+) -> Result<(), Fault>
+    ensures done { OnOk result (HasLineDone ⟦<FileFrom<S> as Disk>⟧ (image_at S.Start) (λ _. None) work.now (W.contents out.old) (W.contents out.new) (Ok tt)) }
+{
     if !is_ready(rt, db, work) {
         return Err(Fault::Store);
     }
-    let (_, end) = line_worked(rt, &HostFiles { rt }, db, start, work, out)?;
-    end
+    let done = line_worked(rt, &HostFiles { rt }, db, start, work, out)?;
+    done.1
 }
 
 /// Opens the file at the path, does the work with the books in it, copies what the log holds into it, and gives the file

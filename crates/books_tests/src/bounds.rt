@@ -29,10 +29,16 @@ fn told<S: Alter>(
         bin: samples::name(rt, b"Z-01"),
         kind: BinKind::Store,
     });
-    match read_slice(alloc, tx, &mut known, &command) {
-        Ok(slice) => (slice.bins, known.bounds.bins),
-        Err(_) => panic!(rt; "no slice is read"),
-    }
+    let found = read_slice(alloc, tx, &mut known, &command);
+    drop(command);
+    let counted = match &found {
+        Ok(slice) => Some(slice.bins),
+        Err(_) => None,
+    };
+    drop(found);
+    let bounds = known.bounds;
+    drop(known);
+    (counted.expect(rt, "a slice"), bounds.bins)
 }
 
 /// One bin is there.

@@ -99,13 +99,20 @@ pub(crate) fn opened(
 fn done(rt: &impl Abort, alloc: Global, files: &Pair, work: Work<'_>) -> Pair {
     let mut seen = Seen::nothing(alloc);
     let left = opened(rt, alloc, files, Calls::ALL, work, &mut seen);
-    assert!(rt; seen.is_closed, "the files do not open, or do not close");
+    let is_closed = seen.is_closed;
+    drop(seen);
+    assert!(rt; is_closed, "the files do not open, or do not close");
     left
 }
 
 /// Takes the steps over new files, which are closed after each list of them and opened again for the next.
 pub(crate) fn run(rt: &impl Abort, alloc: Global, lists: &[&[Step]]) {
-    let mut files = Pair::empty(alloc);
+    run_from(rt, alloc, Pair::empty(alloc), lists);
+}
+
+/// Takes the steps over these files, which are closed after each list of them and opened again for the next.
+pub(crate) fn run_from(rt: &impl Abort, alloc: Global, files: Pair, lists: &[&[Step]]) {
+    let mut files = files;
     for steps in lists {
         files = done(rt, alloc, &files, Work::Steps(steps));
     }

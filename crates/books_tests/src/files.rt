@@ -16,6 +16,8 @@ const SECTOR: usize = 512;
 struct Stored {
     written: Vec<u8>,
     synced: Vec<u8>,
+    /// Its disk took each call, and takes one more.
+    has_spare: bool,
 }
 
 /// The two files.
@@ -71,15 +73,21 @@ impl Stored {
         Stored {
             written: Vec::new(alloc),
             synced: Vec::new(alloc),
+            has_spare: true,
         }
     }
 
     fn of(rt: &impl Abort, alloc: Global, disk: Stopping) -> Stored {
         let mut disk = disk;
+        let has_spare = disk.may_be_used() && disk.len().is_ok();
         let written = copied(rt, alloc, disk.inner().bytes());
         disk.crash();
         let synced = copied(rt, alloc, disk.inner().bytes());
-        Stored { written, synced }
+        Stored {
+            written,
+            synced,
+            has_spare,
+        }
     }
 
     fn disk(&self, rt: &impl Abort, alloc: Global, calls: u64) -> Stopping {
@@ -103,6 +111,7 @@ impl Stored {
         Stored {
             written: bytes,
             synced,
+            has_spare: true,
         }
     }
 
@@ -112,6 +121,19 @@ impl Stored {
 }
 
 impl Pair {
+    /// A file of the books that holds these bytes, and a log with nothing in it.
+    pub(crate) fn holding(rt: &impl Abort, alloc: Global, bytes: Vec<u8>) -> Pair {
+        let synced = copied(rt, alloc, bytes.as_slice());
+        Pair {
+            log: Stored::empty(alloc),
+            db: Stored {
+                written: bytes,
+                synced,
+                has_spare: true,
+            },
+        }
+    }
+
     /// Files with nothing in them.
     pub(crate) fn empty(alloc: Global) -> Pair {
         Pair {
@@ -143,6 +165,11 @@ impl Pair {
             log: self.log.left(rt, alloc, log),
             db: self.db.left(rt, alloc, db),
         }
+    }
+
+    /// Whether both disks took each call, and take one more.
+    pub(crate) fn have_spare(&self) -> bool {
+        self.log.has_spare && self.db.has_spare
     }
 
     /// Of how many of the files a stop can lose what was written.

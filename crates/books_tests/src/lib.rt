@@ -29,7 +29,11 @@ mod gone_lots;
 #[cfg(test)]
 mod goods;
 #[cfg(test)]
+mod host_file;
+#[cfg(test)]
 mod hostile;
+#[cfg(test)]
+mod least_days;
 #[cfg(test)]
 mod limits;
 #[cfg(test)]
@@ -40,6 +44,10 @@ mod lots_spread;
 mod lots_told;
 #[cfg(test)]
 mod memory;
+#[cfg(test)]
+mod old_bytes;
+#[cfg(test)]
+mod old_files;
 #[cfg(test)]
 mod opening;
 #[cfg(test)]

@@ -101,7 +101,7 @@ pub(crate) fn not_opened<S: Alter + Drop>(
 /// The one row of `meta`, with its columns in order; the day is 2026-05-04, counted from 1970-01-01.
 const META: On = On::Gives(
     "SELECT id || '|' || mark || '|' || version || '|' || day || '|' || acts || '|' || shipments FROM meta",
-    "1|LOTSTOCK|1|20577|0|0\n",
+    "1|LOTSTOCK|2|20577|0|0\n",
 );
 
 /// The one row of `bins`.
@@ -133,9 +133,9 @@ fn an_empty_database_is_no_books(rt: HostRuntime) {
 // books have.
 static OTHER_META: [&[Step]; 1] = [&[
     Step::Make,
-    Step::On(On::Run("UPDATE meta SET version = 2")),
+    Step::On(On::Run("UPDATE meta SET version = 3")),
     Step::OpenNone,
-    Step::On(On::Run("UPDATE meta SET version = 1, mark = 'LOTSTOCk'")),
+    Step::On(On::Run("UPDATE meta SET version = 2, mark = 'LOTSTOCk'")),
     Step::OpenNone,
     Step::On(On::Run("UPDATE meta SET mark = 'LOTSTOCK', day = 10956")),
     Step::OpenNone,

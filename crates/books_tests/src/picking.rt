@@ -78,7 +78,7 @@ GET /orders/S-2 => 200 {"customer":"Harbour Cafe","lines":[{"gtin":"095060001343
 POST /shipments {"key":"K-15","order":"S-1"} => 409 {"code":"S09"}
 POST /shipments {"key":"K-14","order":"S-1"} => 200 {"act":14,"shipment":1}
 GET /notices/09506000134352/L2 => 200 |RECALL NOTICE 09506000134352 Oat drink|LOT L2 EXPIRY 2026-05-31|BIN A-01 3|BIN RETURNS 7|TOTAL BINS 10 SHIPPED 0
-GET /picklists/S-1 => 200 |PICK LIST S-1|CUSTOMER Corner Shop|STATE OPEN|ITEM 09506000134352 ORDERED 12 STAGED 0 SHIPPED 5 SHORT 0|TAKE L1 2026-06-30 7|FROM A-01 10
+GET /picklists/S-1 => 200 |PICK LIST S-1|CUSTOMER Corner Shop|STATE OPEN|ITEM 09506000134352 ORDERED 12 STAGED 0 SHIPPED 5 SHORT 0 LEAST 0|TAKE L1 2026-06-30 7|FROM A-01 10
 "#;
 
 // After the picks: all is shipped, and one lot is recalled. Cards and notices of its lots, and of none.
@@ -98,7 +98,7 @@ GET /cards/09506000134352/Z9 => 404 {"code":"U03"}
 GET /notices/09506000134352/Z9 => 404 {"code":"N01"}
 GET /cards/04012345000023/L2 => 404 {"code":"U01"}
 GET /notices/04012345000023/L2 => 404 {"code":"U01"}
-GET /picklists/S-1 => 200 |PICK LIST S-1|CUSTOMER Corner Shop|STATE DONE|ITEM 09506000134352 ORDERED 12 STAGED 0 SHIPPED 12 SHORT 0
+GET /picklists/S-1 => 200 |PICK LIST S-1|CUSTOMER Corner Shop|STATE DONE|ITEM 09506000134352 ORDERED 12 STAGED 0 SHIPPED 12 SHORT 0 LEAST 0
 "#;
 
 // What is refused for an order that is done, and answered again.

@@ -5,7 +5,7 @@ use sqlite_value::order;
 use std::alloc::Global;
 
 /// What reads the rows of each table.
-static QUERIES: [&str; 14] = [
+static QUERIES: [&str; 15] = [
     "SELECT * FROM meta",
     "SELECT * FROM items",
     "SELECT * FROM bins",
@@ -20,6 +20,7 @@ static QUERIES: [&str; 14] = [
     "SELECT * FROM shiplines",
     "SELECT * FROM cards",
     "SELECT * FROM repeats",
+    "SELECT * FROM least",
 ];
 
 /// The rows of every table.

@@ -10,7 +10,9 @@ use crate::goods::{
     ADJUSTED, COUNTED, HELD, MOVED, NEVER_RECEIVED, RECALLED, RECEIVED_AND_RECALLED,
 };
 use crate::hostile::GOODS_AND_BINS_ROWS;
+use crate::least_days::{A_DAY_MORE, ASKED_FOR, STAGED_RETURNS, STAGED_STAYS};
 use crate::limits::{LAST_UNIT, MANY_UNITS, NEXT_DAY, TWENTY_LINES, TWO_LINES};
+use crate::old_files::{OLD_ROWS, OLD_TOLD};
 use crate::order_rows::TWO_CUSTOMERS_ROWS;
 use crate::orders_shown::ORDERS_SHOWN;
 use crate::picking::{
@@ -66,6 +68,12 @@ pub(crate) enum Table {
     GoneNamed,
     OrdersShown,
     Wide,
+    AskedFor,
+    ADayMore,
+    StagedStays,
+    StagedReturns,
+    /// What books of schema 1 tell, and how they go on.
+    OldTold,
 }
 
 impl Table {
@@ -114,6 +122,11 @@ impl Table {
             Table::GoneNamed => GONE_NAMED,
             Table::OrdersShown => ORDERS_SHOWN,
             Table::Wide => WIDE,
+            Table::AskedFor => ASKED_FOR,
+            Table::ADayMore => A_DAY_MORE,
+            Table::StagedStays => STAGED_STAYS,
+            Table::StagedReturns => STAGED_RETURNS,
+            Table::OldTold => OLD_TOLD,
         }
     }
 }
@@ -128,6 +141,8 @@ pub(crate) enum Left {
     Shipped,
     StockTaken,
     Filed,
+    /// In books of schema 1.
+    Old,
 }
 
 impl Left {
@@ -140,6 +155,7 @@ impl Left {
             Left::Shipped => SHIPPED_ROWS.as_slice(),
             Left::StockTaken => STOCK_TAKEN_ROWS.as_slice(),
             Left::Filed => FILED_ROWS.as_slice(),
+            Left::Old => OLD_ROWS.as_slice(),
         }
     }
 }

@@ -27,7 +27,7 @@ use std::alloc::Global;
 use std::process::Abort;
 use table_words::error::TableFault;
 use tables::creation::create;
-use tables::opening::{Leftover, ready};
+use tables::opening::{Found, Leftover, ready};
 use values::{Gtin, LotId, Name, Text};
 
 /// The rows that a table gives.
@@ -64,7 +64,10 @@ pub(crate) fn is_schema<S: Alter + Drop>(
 ) -> Connection<S> {
     assert!(rt; conn.is_autocommit());
     match ready(alloc, conn) {
-        Ok(conn) => conn,
+        Ok((conn, found)) => {
+            assert!(rt; matches!(found, Found::Newest));
+            conn
+        }
         Err((_, fault)) => panic!(rt; "{fault:?}"),
     }
 }

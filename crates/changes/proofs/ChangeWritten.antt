@@ -6,6 +6,7 @@ use Rattle.values.specs.Values.{same_text}
 use Rattle.values.specs.declared.lot.LotId.{LotId}
 use Rattle.commands.specs.Tables.{Tables}
 use Rattle.commands.specs.declared.rows.ItemRow.{ItemRow}
+use Rattle.commands.specs.declared.rows.LeastRow.{LeastRow}
 use Rattle.commands.specs.declared.rows.BinRow.{BinRow}
 use Rattle.commands.specs.declared.rows.LotRow.{LotRow}
 use Rattle.commands.specs.declared.rows.RecallRow.{RecallRow}
@@ -19,7 +20,7 @@ use Rattle.commands.specs.declared.rows.ShiplineRow.{ShiplineRow}
 use Rattle.commands.specs.declared.rows.CardRow.{CardRow}
 use Rattle.sqlite.specs.State.{State}
 use Rattle.table_words.specs.Steps.{Goes}
-use Rattle.table_words.specs.Typed.{tables_in, with_meta, with_item, with_bin, with_lot, with_recall, with_stock, without_stock, with_order, with_line, with_staged, without_staged, with_reserved, without_reserved, with_shipment, with_shipline, with_card}
+use Rattle.table_words.specs.Typed.{tables_in, with_meta, with_item, with_least, with_bin, with_lot, with_recall, with_stock, without_stock, with_order, with_line, with_staged, without_staged, with_reserved, without_reserved, with_shipment, with_shipline, with_card}
 use Rattle.machine.specs.Postings.{is_lot}
 use Rattle.machine.specs.KeyedRows.{no_two}
 use Rattle.rules.specs.Slices.{applied, changed, added, AreOnce}
@@ -55,6 +56,11 @@ items_written : (puts : List ItemRow) (t : Tables) → no_two (λ r s. same_text
 items_written puts t = table_put (λ t. t.item) (λ f t. record t { item = f }) (λ f t. refl) (λ f g t. refl) (λ t. refl) (λ g r. same_text g r.gtin)
     (λ r s. same_text r.gtin s.gtin) (λ g r s. texts_meet g r.gtin s.gtin) puts t
 
+least_written : (puts : List LeastRow) (t : Tables) → no_two (λ r s. same_text r.gtin s.gtin) puts ≡ true
+    → each_written with_least puts t ≡ record t { least = λ g. added (λ r. same_text g r.gtin) puts (t.least g) }
+least_written puts t = table_put (λ t. t.least) (λ f t. record t { least = f }) (λ f t. refl) (λ f g t. refl) (λ t. refl) (λ g r. same_text g r.gtin)
+    (λ r s. same_text r.gtin s.gtin) (λ g r s. texts_meet g r.gtin s.gtin) puts t
+
 bins_written : (puts : List BinRow) (t : Tables) → no_two (λ r s. same_text r.name s.name) puts ≡ true
     → each_written with_bin puts t ≡ record t { bin = λ b. added (λ r. same_text b r.name) puts (t.bin b) }
 bins_written puts t = table_put (λ t. t.bin) (λ f t. record t { bin = f }) (λ f t. refl) (λ f g t. refl) (λ t. refl) (λ b r. same_text b r.name)
@@ -79,6 +85,7 @@ stock_written puts drops t = table_written {K = LotId × List ℕ} (λ t k. t.st
 abbrev with_goods : Put → Dropped → Tables → Tables
 with_goods p d t = record t {
   item = λ g. added (λ r. same_text g r.gtin) p.items (t.item g);
+  least = λ g. added (λ r. same_text g r.gtin) p.least (t.least g);
   bin = λ b. added (λ r. same_text b r.name) p.bins (t.bin b);
   lot = λ l. added (λ r. is_lot l r.lot) p.lots (t.lot l);
   recall = λ l. added (λ r. is_lot l r.lot) p.recalls (t.recall l);
@@ -87,19 +94,22 @@ with_goods p d t = record t {
 
 goods_are : (p : Put) (d : Dropped) (t : Tables) → AreOnce p → goods_written p d t ≡ with_goods p d t
 goods_are p d t once =
+    let put_least : Tables → Tables = each_written with_least p.least in
     let put_bins : Tables → Tables = each_written with_bin p.bins in
     let put_lots : Tables → Tables = each_written with_lot p.lots in
     let put_recalls : Tables → Tables = each_written with_recall p.recalls in
     let put_stock : Tables → Tables = rows_written with_stock (λ r. without_stock r.lot r.bin) p.stock d.stock in
     let one : Tables = record t { item = λ g. added (λ r. same_text g r.gtin) p.items (t.item g) } in
-    let two : Tables = record one { bin = λ b. added (λ r. same_text b r.name) p.bins (t.bin b) } in
-    let three : Tables = record two { lot = λ l. added (λ r. is_lot l r.lot) p.lots (t.lot l) } in
-    let four : Tables = record three { recall = λ l. added (λ r. is_lot l r.lot) p.recalls (t.recall l) } in
-    ap (λ u. put_stock (put_recalls (put_lots (put_bins u)))) (items_written p.items t once.items)
-    ∙ ap (λ u. put_stock (put_recalls (put_lots u))) (bins_written p.bins one once.bins)
-    ∙ ap (λ u. put_stock (put_recalls u)) (lot_rows_written p.lots two once.lots)
-    ∙ ap put_stock (recalls_written p.recalls three once.recalls)
-    ∙ stock_written p.stock d.stock four once.stock
+    let two : Tables = record one { least = λ g. added (λ r. same_text g r.gtin) p.least (t.least g) } in
+    let three : Tables = record two { bin = λ b. added (λ r. same_text b r.name) p.bins (t.bin b) } in
+    let four : Tables = record three { lot = λ l. added (λ r. is_lot l r.lot) p.lots (t.lot l) } in
+    let five : Tables = record four { recall = λ l. added (λ r. is_lot l r.lot) p.recalls (t.recall l) } in
+    ap (λ u. put_stock (put_recalls (put_lots (put_bins (put_least u))))) (items_written p.items t once.items)
+    ∙ ap (λ u. put_stock (put_recalls (put_lots (put_bins u)))) (least_written p.least one once.least)
+    ∙ ap (λ u. put_stock (put_recalls (put_lots u))) (bins_written p.bins two once.bins)
+    ∙ ap (λ u. put_stock (put_recalls u)) (lot_rows_written p.lots three once.lots)
+    ∙ ap put_stock (recalls_written p.recalls four once.recalls)
+    ∙ stock_written p.stock d.stock five once.stock
 
 -- ---- orders
 

@@ -1,7 +1,7 @@
 -- The rows of a change, written table by table.
 use Rattle.std.specs.Prelude.{List}
 use Rattle.commands.specs.Tables.{Tables}
-use Rattle.table_words.specs.Typed.{with_meta, with_item, with_bin, with_lot, with_recall, with_stock, without_stock, with_order, with_line, with_staged, without_staged, with_reserved, without_reserved, with_shipment, with_shipline, with_card}
+use Rattle.table_words.specs.Typed.{with_meta, with_item, with_least, with_bin, with_lot, with_recall, with_stock, without_stock, with_order, with_line, with_staged, without_staged, with_reserved, without_reserved, with_shipment, with_shipline, with_card}
 use Rattle.keyed_rows.specs.Writes.{each_written}
 use Rattle.row_rules.specs.declared.slice.Put.{Put}
 use Rattle.row_rules.specs.declared.slice.Dropped.{Dropped}
@@ -11,9 +11,9 @@ use Rattle.row_rules.specs.declared.slice.Change.{Change}
 abbrev pub rows_written : {R : Type 0} → (put drop : R → Tables → Tables) → (puts drops : List R) → Tables → Tables
 rows_written put drop puts drops t = each_written put puts (each_written drop drops t)
 
--- items and bins
+-- items, what they ask for, and bins
 abbrev pub names_written : Put → Tables → Tables
-names_written puts t = each_written with_bin puts.bins (each_written with_item puts.items t)
+names_written puts t = each_written with_bin puts.bins (each_written with_least puts.least (each_written with_item puts.items t))
 
 -- units of lots in bins
 abbrev pub units_written : Put → Dropped → Tables → Tables

@@ -12,6 +12,7 @@ ghost use Rattle.changes.specs.Written.{names_written, units_written, lots_writt
 use crate::rows::{add_rows, put_rows, write_rows};
 use goods_tables::bins::Bins;
 use goods_tables::items::Items;
+use goods_tables::least::Least;
 use goods_tables::lots::Lots;
 use goods_tables::meta::Meta;
 use goods_tables::recalls::Recalls;
@@ -44,12 +45,18 @@ fn takes_orders(put: &Put, act: u64) -> bool {
     }
 }
 
-/// Items and bins.
+/// Whether the items that are put are new. Then what they ask for is new too.
+fn brings_items(put: &Put) -> bool {
+    !put.items.as_slice().is_empty()
+}
+
+/// Items, what they ask for, and bins.
 fn write_names<S: Alter>(tx: &mut Transaction<'_, S>, put: &Put) -> Result<(), TableFault>
     ensures same_reference { tx.new.conn.ghost_name ≡ tx.old.conn.ghost_name }
     ensures writes { Writes (names_written put.now) (state S.Store tx.old.conn.now) (state S.Store tx.new.conn.now) result }
 {
     add_rows::<Items, S>(tx, &put.items)?;
+    put_rows::<Least, S>(tx, &put.least, brings_items(put))?;
     add_rows::<Bins, S>(tx, &put.bins)
 }
 

@@ -18,7 +18,7 @@ item_seen s i =
 abbrev pub item_changes : Slice → NewItem → Change
 item_changes s i = record {
   meta = meta_after s;
-  put = record none_put { items = record { gtin = i.gtin; name = i.name } ∷ [] };
+  put = record none_put { items = record { gtin = i.gtin; name = i.name } ∷ []; least = record { gtin = i.gtin; days = 0 } ∷ [] };
   dropped = none_dropped;
   text = plain_reply s;
 }

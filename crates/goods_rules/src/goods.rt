@@ -33,7 +33,7 @@ pub fn judge_receive(slice: &Slice, r: &Receipt) -> Option<Refusal>
     let known_bin = sees_bin(slice, &r.bin);
     let other_expiry = expires_otherwise(lot_seen(slice, &r.lot), r.expiry);
     let recalled = sees_recall(slice, &r.lot);
-    let expired = is_expired(slice.meta.day, r.expiry);
+    let expired = is_expired(slice.meta.day.day(), r.expiry);
     let over = is_over(slice, &r.lot.gtin, u64::from(r.qty.units()));
     first_of(&[
         (!known_item, Refusal::UnknownItem),

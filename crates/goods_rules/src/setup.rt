@@ -5,7 +5,7 @@ ghost use Rattle.machine.specs.Verdict.{first_refusal};
 ghost use Rattle.goods_rules.specs.DecidedSetup.{item_seen, item_changes, bin_seen, bin_changes};
 
 use commands::limits::{BINS_MAX, ITEMS_MAX};
-use commands::{BinRow, ItemRow, NewBin, NewItem, Refusal};
+use commands::{BinRow, ItemRow, LeastDays, LeastRow, NewBin, NewItem, Refusal};
 use row_rules::changing::{meta_next, none_dropped, none_put, one, plain_reply};
 use row_rules::judging::first_of;
 use row_rules::seeing::{sees_bin, sees_item};
@@ -29,9 +29,15 @@ pub fn change_item(alloc: Global, slice: &Slice, item: &NewItem) -> Result<Chang
         gtin: item.gtin,
         name: item.name,
     };
+    let asked = LeastRow {
+        gtin: item.gtin,
+        days: LeastDays::new(0).unwrap(),
+    };
     let items = one(alloc, row)?;
+    let least = one(alloc, asked)?;
     let mut put = none_put(alloc);
     put.items = items;
+    put.least = least;
     Ok(Change {
         meta: meta_next(slice),
         put,

@@ -1,2 +1,3 @@
 pub mod MetaLemmas
 pub mod BinsByName
+pub mod RaiseLemmas

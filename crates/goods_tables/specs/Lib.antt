@@ -1,5 +1,6 @@
 pub mod Meta
 pub mod Items
+pub mod Least
 pub mod Bins
 pub mod Lots
 pub mod Recalls

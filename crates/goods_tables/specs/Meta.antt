@@ -90,7 +90,7 @@ meta_laws = record {
   seen_shown = λ params r. refl;
   add_is = add_is;
   added = λ s. refl;
-  casts = λ s. rw (cast_null, cast_number (pos 1), cast_number s.day, cast_number (pos s.acts), cast_number (pos s.shipments)) refl;
+  casts = λ s. rw (cast_null, cast_number (pos 1), cast_number (pos SCHEMA_VERSION), cast_number s.day, cast_number (pos s.acts), cast_number (pos s.shipments)) refl;
   comes = λ s rows good. (refl, (good, refl));
 }
 

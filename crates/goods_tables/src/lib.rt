@@ -4,6 +4,7 @@
 pub mod bins;
 pub mod bins_of_lot;
 pub mod items;
+pub mod least;
 pub mod lots;
 pub mod meta;
 pub mod recalls;

@@ -1,11 +1,11 @@
 //! The table `meta`.
 
-ghost use Rattle.std.specs.Prelude.{◌≡◌, ◌≢◌, ◌<◌, true, false, find, OnOk, OnErr, IfOk, IfErr};
+ghost use Rattle.std.specs.Prelude.{◌≡◌, ◌≢◌, ◌<◌, ℕ, true, false, None, find, OnOk, OnErr, IfOk, IfErr};
 ghost use Rattle.std.specs.List.{AllByRecursion};
 ghost use Rattle.sqlite.specs.State.{HasCleanDisk, Survives, KeepsCommit, IsUnchanged};
 ghost use Rattle.sqlite.specs.Held.{state};
 ghost use Rattle.table_words.specs.Steps.{IsReady, Goes, ChangesNone, IsTooBig};
-ghost use Rattle.table_words.specs.Typed.{tables_in, with_meta, is_meta, is_meta_at, has_meta, meta_read, meta_rows_rows, meta_at};
+ghost use Rattle.table_words.specs.Typed.{tables_in, with_meta, is_meta, is_meta_at, has_meta, meta_read, meta_rows_rows, meta_at, AreTyped, AreTypedAt};
 ghost use Rattle.table_words.specs.declared.error.TableFault.TheVariants.{Foreign};
 
 use crate::texts::{ADD_META, CHANGE_META, META_ROWS};
@@ -117,6 +117,29 @@ pub fn put_meta<S: Alter>(tx: &mut Transaction<'_, S>, row: &MetaRow) -> Result<
     ensures size_shipments { ACTS_MAX < row.now.shipments → IsTooBig result tx.old.conn.now tx.new.conn.now }
 {
     put::<Meta, S>(tx, row, false)
+}
+
+/// Puts the row in place of the one that books of an older schema have, which are then of the newest number. `Foreign`
+/// where they have none. A number above its limit is refused as too big.
+pub fn raise_meta<S: Alter>(tx: &mut Transaction<'_, S>, row: &MetaRow) -> Result<(), TableFault>
+    ensures same_reference { tx.new.conn.ghost_name ≡ tx.old.conn.ghost_name }
+    ensures done { HasCleanDisk (state S.Store tx.new.conn.now) → IsReady (state S.Store tx.old.conn.now).now
+        → OnOk result (Goes (with_meta row.now) (state S.Store tx.old.conn.now) (state S.Store tx.new.conn.now)) }
+    ensures typed { HasCleanDisk (state S.Store tx.new.conn.now) → IsReady (state S.Store tx.old.conn.now).now → (version : ℕ) → AreTypedAt version (state S.Store tx.old.conn.now).now.trees
+        → OnOk result (AreTyped (state S.Store tx.new.conn.now).now.trees) }
+    ensures foreign { HasCleanDisk (state S.Store tx.new.conn.now) → IsReady (state S.Store tx.old.conn.now).now
+        → IfErr result (λ e. e ≡ Foreign → (version : ℕ) → meta_at version (state S.Store tx.old.conn.now).now.trees ≡ None) }
+    ensures kept { HasCleanDisk (state S.Store tx.new.conn.now) → KeepsCommit (state S.Store tx.old.conn.now) (state S.Store tx.new.conn.now) }
+    ensures survives { Survives (state S.Store tx.old.conn.now) (state S.Store tx.new.conn.now) (λ _. ⊥) }
+{
+    if !Meta::fits(row) {
+        return Err(TableFault::too_big());
+    }
+    match Meta::run(tx, CHANGE_META, row) {
+        Ok(0) => Err(TableFault::Foreign),
+        Ok(_) => Ok(()),
+        Err(fault) => Err(fault),
+    }
 }
 
 /// How the rows of the table are read in books of schema number `VERSION`.

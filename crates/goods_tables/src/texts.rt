@@ -12,6 +12,14 @@ pub(crate) const ITEMS_OF: &str = "SELECT gtin, name FROM items WHERE gtin = ?1 
 
 pub(crate) const ALL_ITEMS: &str = "SELECT gtin, name FROM items ORDER BY rowid";
 
+pub(crate) const CHANGE_LEAST: &str = "UPDATE least SET gtin = ?1, days = ?2 WHERE gtin = ?1";
+
+pub(crate) const ADD_LEAST: &str = "INSERT INTO least (gtin, days) VALUES (?1, ?2)";
+
+pub(crate) const LEAST_OF: &str = "SELECT gtin, days FROM least WHERE gtin = ?1 ORDER BY rowid";
+
+pub(crate) const ALL_LEAST: &str = "SELECT gtin, days FROM least ORDER BY rowid";
+
 pub(crate) const CHANGE_LOT: &str =
     "UPDATE lots SET gtin = ?1, lot = ?2, expiry = ?3, came = ?4, held = ?5 WHERE gtin = ?1 AND lot = ?2";
 
@@ -58,13 +66,17 @@ pub(crate) const BINS_OF_LOT: &str =
     "SELECT bin, qty FROM stock WHERE gtin = ?1 AND lot = ?2 ORDER BY bin";
 
 /// All of them. A connection keeps the plans of its last 64 texts, so the tables together have at most 60.
-pub const TEXTS: [&str; 22] = [
+pub const TEXTS: [&str; 26] = [
     ADD_BIN,
     BINS_OF,
     ALL_BINS,
     ADD_ITEM,
     ITEMS_OF,
     ALL_ITEMS,
+    CHANGE_LEAST,
+    ADD_LEAST,
+    LEAST_OF,
+    ALL_LEAST,
     CHANGE_LOT,
     ADD_LOT,
     LOTS_OF,

@@ -1,1 +1,1 @@
-pub mod GivingDay
+pub mod GivingOut

@@ -1,3 +1,5 @@
-pub mod DecidedDay
 pub mod DecidedHold
-pub mod GivenDay
+pub mod Expiring
+pub mod DecidedDay
+pub mod DecidedLeast
+pub mod GivenOut

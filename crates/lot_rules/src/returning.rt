@@ -5,7 +5,7 @@ ghost use Rattle.machine.specs.Postings.{is_lot};
 ghost use Rattle.machine.specs.Standing.{RETURNS};
 ghost use Rattle.row_rules.specs.Seen.{meta_after, none_put, none_dropped};
 ghost use Rattle.lot_rules.specs.DecidedHold.{staged_of_seen, staged_kept as staged_kept_lem, staged_returned as staged_returned_lem, units_in_returns as units_in_returns_lem, returned_put as returned_put_lem, stock_with_returned as stock_with_returned_lem, bins_with_returns as bins_with_returns_lem, returns_bin_row as returns_bin_row_lem, returning_replanned as returning_replanned_lem, returned_reply as returned_reply_lem, returning_change as returning_change_lem};
-ghost use Rattle.lot_rules.specs.GivenDay.{row_returned as row_returned_lem};
+ghost use Rattle.lot_rules.specs.GivenOut.{row_returned as row_returned_lem};
 
 use commands::{
     BinKind, BinRow, Listed, LotRow, RecallRow, ReplyField, Short, StagedRow, StockRow, reply,

@@ -8,6 +8,7 @@ use Rattle.plan.specs.declared.Row.{Row}
 use Rattle.plan.specs.Overlap.{reserved_for}
 use Rattle.row_rules.specs.Seen.{capped, number_seen, staged_units}
 use Rattle.row_rules.specs.OpenLines.{open_units_among}
+use Rattle.row_rules.specs.Status.{earliest_seen}
 use Rattle.row_rules.specs.Plans.{supplies_seen, plan_within, named_rows}
 use Rattle.row_rules.specs.declared.slice.Slice.{Slice}
 
@@ -30,7 +31,7 @@ demand_booked s l = record { booking = number_seen s; need = l.qty }
 
 abbrev pub plan_booked : Slice → OrderLine → List Row
 plan_booked s l =
-    plan_within (demand_before s l.gtin ∷ demand_booked s l ∷ []) (supplies_seen l.gtin s.meta.day s.rows.recalls s.rows.bins s.rows.stock s.rows.lots)
+    plan_within (demand_before s l.gtin ∷ demand_booked s l ∷ []) (supplies_seen l.gtin (earliest_seen s.meta.day s.rows.least l.gtin) s.rows.recalls s.rows.bins s.rows.stock s.rows.lots)
 
 -- the rows of the order, whose row is handed in, and no others
 abbrev pub line_put : Slice → OrderRow → OrderLine → List ReservedRow

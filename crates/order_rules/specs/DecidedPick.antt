@@ -1,12 +1,12 @@
 -- What is decided of units picked for an order, and of those put back, by the rows of the slice: the conditions judged, and the rows changed.
 use Rattle.std.specs.Prelude.{ℕ, ◌+◌, ◌-◌, Bool, not, nat_lt, List, [], ◌∷◌, find}
 use Rattle.values.specs.Values.{same_text}
-use Rattle.commands.specs.declared.refusal.Refusal.TheVariants.{UnknownItem, UnknownBin, UnknownLot, UnknownOrder, NoSuchLine, LotRecalled, LotExpired, LotHeld, NotStoreBin, OrderClosed, NotInBin, OverReserved, OverStaged}
+use Rattle.commands.specs.declared.refusal.Refusal.TheVariants.{UnknownItem, UnknownBin, UnknownLot, UnknownOrder, NoSuchLine, LotRecalled, LotExpired, TooFewDays, LotHeld, NotStoreBin, OrderClosed, NotInBin, OverReserved, OverStaged}
 use Rattle.commands.specs.declared.command.Picking.{Picking}
 use Rattle.commands.specs.declared.rows.ReservedRow.{ReservedRow}
 use Rattle.machine.specs.Verdict.{Judgement}
 use Rattle.row_rules.specs.Seen.{capped, sees_item, sees_bin, lot_seen, sees_recall, meta_after, plain_reply, none_put}
-use Rattle.row_rules.specs.Status.{is_past_row}
+use Rattle.row_rules.specs.Status.{is_past_row, is_below_row, least_seen}
 use Rattle.row_rules.specs.SeenOrders.{sees_order, sees_open, sees_line}
 use Rattle.row_rules.specs.SeenLots.{sees_lot, sees_hold, in_bin_seen, stock_put, stock_gone, stock_rows_with}
 use Rattle.row_rules.specs.SeenStages.{reserved_seen, reserved_put, reserved_gone, on_stage_seen, staged_put, staged_gone, staged_rows_with}
@@ -31,6 +31,7 @@ pick_seen s p =
     ∷ (not (sees_line s p.order p.lot.gtin), NoSuchLine)
     ∷ (sees_recall s p.lot, LotRecalled)
     ∷ (is_past_row (lot_seen s p.lot) s.meta.day, LotExpired)
+    ∷ (is_below_row (lot_seen s p.lot) s.meta.day (least_seen s.rows.least p.lot.gtin), TooFewDays)
     ∷ (sees_hold s p.lot, LotHeld)
     ∷ (not (sees_store s p.bin), NotStoreBin)
     ∷ (not (sees_open s p.order), OrderClosed)
@@ -75,7 +76,7 @@ pick_changes s p =
 -- what changes of the item's reserved rows where so many units are in the bin and on the stage
 abbrev pub replanned_with : Slice → Picking → ℕ → ℕ → Replanned
 replanned_with s p stock staged =
-    item_replanned s s.meta.day s.rows.orders s.rows.lines (staged_rows_with p.order p.lot staged s.rows.staged) s.rows.lots s.rows.recalls s.rows.bins (stock_rows_with p.lot p.bin stock s.rows.stock) p.lot.gtin
+    item_replanned s s.meta.day s.rows.orders s.rows.lines (staged_rows_with p.order p.lot staged s.rows.staged) s.rows.lots s.rows.recalls s.rows.bins (stock_rows_with p.lot p.bin stock s.rows.stock) s.rows.least p.lot.gtin
 
 -- where units are put back, the item is planned anew
 abbrev pub unpick_with : Slice → Picking → ℕ → ℕ → Change

@@ -12,6 +12,7 @@ use row_rules::Slice;
 use row_rules::changing::number_seen;
 use row_rules::open_lines::sum_of_open_units;
 use row_rules::plans::{named_rows, plan_with_last};
+use row_rules::status::earliest;
 use row_rules::summing::sum_of_staged;
 use row_rules::supplies::supplies_seen;
 use std::alloc::{AllocError, Global};
@@ -111,10 +112,11 @@ fn plan_booked(alloc: Global, slice: &Slice, line: &OrderLine) -> Result<Plan, A
     ensures { IfOk result (λ plan. plan ≡ plan_booked_lem slice.now line.now) }
 {
     let rows = &slice.rows;
+    let from = earliest(slice.meta.day, rows.least.as_slice(), &line.gtin);
     let supplies = supplies_seen(
         alloc,
         &line.gtin,
-        slice.meta.day,
+        from,
         rows.recalls.as_slice(),
         rows.bins.as_slice(),
         rows.stock.as_slice(),

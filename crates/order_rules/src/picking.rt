@@ -21,7 +21,7 @@ use row_rules::stages::{
     on_stage_seen, reserved_gone, reserved_put, reserved_seen, staged_gone, staged_put,
     staged_rows_with,
 };
-use row_rules::status::is_past;
+use row_rules::status::{is_below, is_past, least_days};
 use row_rules::stock::{sees_lot, stock_gone, stock_put, stock_rows_with, units_in_bin};
 use row_rules::supplies::is_store_bin;
 use row_rules::{Change, Dropped, Put, Slice};
@@ -38,7 +38,9 @@ pub fn judge_pick(slice: &Slice, p: &Picking) -> Option<Refusal>
     let known_order = sees_order(slice, &p.order);
     let known_line = sees_line(slice, &p.order, &p.lot.gtin);
     let recalled = sees_recall(slice, &p.lot);
-    let past = is_past(lot_seen(slice, &p.lot), slice.meta.day);
+    let past = is_past(lot_seen(slice, &p.lot), slice.meta.day.day());
+    let days = least_days(slice.rows.least.as_slice(), &p.lot.gtin);
+    let below = is_below(lot_seen(slice, &p.lot), slice.meta.day, days);
     let held = sees_hold(slice, &p.lot);
     let store = sees_store(slice, &p.bin);
     let open = sees_open(slice, &p.order);
@@ -53,6 +55,7 @@ pub fn judge_pick(slice: &Slice, p: &Picking) -> Option<Refusal>
         (!known_line, Refusal::NoSuchLine),
         (recalled, Refusal::LotRecalled),
         (past, Refusal::LotExpired),
+        (below, Refusal::TooFewDays),
         (held, Refusal::LotHeld),
         (!store, Refusal::NotStoreBin),
         (!open, Refusal::OrderClosed),

@@ -9,13 +9,13 @@ use Rattle.requests.specs.Routes.{table, route_of}
 use Rattle.requests.specs.Head.{length_value, body_length}
 use Rattle.requests.specs.Requests.{read_ask, second_segment, third_segment, query_of}
 use Rattle.requests.specs.Fields.{whole_at, delta_at}
-use Rattle.requests.specs.Bodies.{item_of, count_of}
+use Rattle.requests.specs.Bodies.{item_of, count_of, least_of}
 use Rattle.commands.specs.declared.key.Key.TheVariants.{Plain}
-use Rattle.commands.specs.declared.command.Command.TheVariants.{Item, Count}
+use Rattle.commands.specs.declared.command.Command.TheVariants.{Item, Count, Least}
 use Rattle.requests.specs.declared.fault.WireFault.TheVariants.{Length, Path, Field, TooLarge, Method as OtherMethod}
 use Rattle.requests.specs.declared.method.Method.TheVariants.{Get, Post}
 use Rattle.requests.specs.declared.routes.Route.TheVariants.{Post as PostTo, Get as GetOf}
-use Rattle.requests.specs.declared.routes.Posted.TheVariants.{Items, Bins, Receipts, Orders, Recalls, Days, GoodsIn}
+use Rattle.requests.specs.declared.routes.Posted.TheVariants.{Items, Bins, Receipts, Orders, Recalls, Days, Leasts, GoodsIn}
 use Rattle.requests.specs.declared.routes.Shown.TheVariants.{Order as AnOrder, Stock as TheStock, PickList as APickList, Shortages as TheShortages, Card, Notice as ANotice}
 use Rattle.requests.specs.declared.ask.Ask.TheVariants.{Do, GoodsIn as FileOf}
 use Rattle.requests.specs.declared.ask.Query.TheVariants.{Card as CardOf}
@@ -45,6 +45,10 @@ recalls = refl
 pub days : route_of (codes "/days") ≡ Some (PostTo Days)
 unfolding matchit_on_literals table
 days = refl
+
+pub leasts : route_of (codes "/leasts") ≡ Some (PostTo Leasts)
+unfolding matchit_on_literals table
+leasts = refl
 
 pub goods_in : route_of (codes "/goodsin") ≡ Some (PostTo GoodsIn)
 unfolding matchit_on_literals table
@@ -187,6 +191,32 @@ a_change_down = refl
 pub a_change_of_nothing : option_map (delta_at (codes "change")) (read (codes "{\"change\":0}")) ≡ Some None
 unfolding serde_json_on_literals
 a_change_of_nothing = refl
+
+pub least_days : option_map least_of (read (codes "{\"key\":\"K-1\",\"gtin\":\"09506000134352\",\"days\":3650}"))
+    ≡ Some (Some (Do (Plain (codes "K-1")) (Least (record { gtin = codes "09506000134352"; days = 3650 }))))
+unfolding serde_json_on_literals
+least_days = refl
+
+-- `days` is no text, no fraction, not below 0 and not above 3,650, and has to be there
+pub days_as_a_text : option_map least_of (read (codes "{\"key\":\"K-1\",\"gtin\":\"09506000134352\",\"days\":\"7\"}")) ≡ Some None
+unfolding serde_json_on_literals
+days_as_a_text = refl
+
+pub half_a_day : option_map least_of (read (codes "{\"key\":\"K-1\",\"gtin\":\"09506000134352\",\"days\":0.5}")) ≡ Some None
+unfolding serde_json_on_literals
+half_a_day = refl
+
+pub days_below_none : option_map least_of (read (codes "{\"key\":\"K-1\",\"gtin\":\"09506000134352\",\"days\":-1}")) ≡ Some None
+unfolding serde_json_on_literals
+days_below_none = refl
+
+pub days_above_ten_years : option_map least_of (read (codes "{\"key\":\"K-1\",\"gtin\":\"09506000134352\",\"days\":3651}")) ≡ Some None
+unfolding serde_json_on_literals
+days_above_ten_years = refl
+
+pub no_days : option_map least_of (read (codes "{\"key\":\"K-1\",\"gtin\":\"09506000134352\"}")) ≡ Some None
+unfolding serde_json_on_literals
+no_days = refl
 
 pub a_whole_number_with_a_point : option_map (whole_at (codes "qty")) (read (codes "{\"qty\":1.0}")) ≡ Some None
 unfolding serde_json_on_literals

@@ -8,12 +8,12 @@ use Rattle.commands.specs.declared.key.Key.TheVariants.{Plain}
 use Rattle.commands.specs.declared.command.OrderLine.{OrderLine}
 use Rattle.commands.specs.declared.command.Picking.{Picking}
 use Rattle.commands.specs.declared.command.Command.{Command}
-use Rattle.commands.specs.declared.command.Command.TheVariants.{Item, Bin, Move, Count, Adjust, Order, Cancel, Pick, Unpick, Ship, Hold, Release, Recall, OpenDay}
+use Rattle.commands.specs.declared.command.Command.TheVariants.{Item, Bin, Move, Count, Adjust, Order, Cancel, Pick, Unpick, Ship, Hold, Release, Recall, OpenDay, Least}
 use Rattle.serde_json.specs.Data.{Data, Items, no_items, item}
 use Rattle.serde_json.specs.Find.{get, as_array}
-use Rattle.requests.specs.Fields.{is_object_of, text_at, name_at, title_at, gtin_at, qty_at, counted_at, delta_at, line_at, business_day_at, kind_at, lot_id_at}
+use Rattle.requests.specs.Fields.{is_object_of, text_at, name_at, title_at, gtin_at, qty_at, counted_at, delta_at, line_at, business_day_at, kind_at, lot_id_at, least_days_at}
 use Rattle.requests.specs.declared.routes.Posted.{Posted}
-use Rattle.requests.specs.declared.routes.Posted.TheVariants.{Items as ToItems, Bins, Receipts, Moves, Counts, Adjustments, Orders, Cancels, Picks, Unpicks, Shipments, Holds, Releases, Recalls, Days, GoodsIn as ToGoodsIn}
+use Rattle.requests.specs.declared.routes.Posted.TheVariants.{Items as ToItems, Bins, Receipts, Moves, Counts, Adjustments, Orders, Cancels, Picks, Unpicks, Shipments, Holds, Releases, Recalls, Days, Leasts, GoodsIn as ToGoodsIn}
 use Rattle.requests.specs.declared.ask.Ask.{Ask}
 use Rattle.requests.specs.declared.ask.Ask.TheVariants.{Do, Scan}
 
@@ -78,6 +78,15 @@ day_of d =
     if is_object_of 2 d then
     option_and_then (λ key. option_map (λ day. Do (Plain key) (OpenDay day)) (business_day_at (codes "day") d))
     (name_at (codes "key") d)
+    else None
+
+-- key, gtin, days
+abbrev pub least_of : Data → Option Ask
+least_of d =
+    if is_object_of 3 d then
+    option_and_then (λ key. option_and_then (λ gtin. option_map (λ days.
+    Do (Plain key) (Least (record { gtin = gtin; days = days })))
+    (least_days_at (codes "days") d)) (gtin_at (codes "gtin") d)) (name_at (codes "key") d)
     else None
 
 -- key, gtin, lot
@@ -162,4 +171,5 @@ body_of Holds d = doing Hold (lot_asked d)
 body_of Releases d = doing Release (lot_asked d)
 body_of Recalls d = doing Recall (lot_asked d)
 body_of Days d = day_of d
+body_of Leasts d = least_of d
 body_of ToGoodsIn d = None  -- a file is no JSON

@@ -4,6 +4,7 @@ use Rattle.std.specs.Str.{is_utf8}
 use Rattle.values.specs.Values.{checked, is_name, is_title, is_gtin, is_lot_text, is_qty, is_counted, is_delta, is_line_no}
 use Rattle.label.specs.Days.{is_business_day, parsed_day}
 use Rattle.values.specs.declared.lot.LotId.{LotId}
+use Rattle.commands.specs.Limits.{is_least_days}
 use Rattle.commands.specs.Words.{bin_kind_of}
 use Rattle.commands.specs.declared.command.BinKind.{BinKind}
 use Rattle.serde_json.specs.Data.{Data}
@@ -58,6 +59,9 @@ delta_at name d = option_and_then (checked is_delta) (signed_at name d)
 
 abbrev pub line_at : List ℕ → Data → Option ℕ
 line_at name d = option_and_then (checked is_line_no) (whole_at name d)
+
+abbrev pub least_days_at : List ℕ → Data → Option ℕ
+least_days_at name d = option_and_then (checked is_least_days) (whole_at name d)
 
 abbrev pub business_day_at : List ℕ → Data → Option ℤ
 business_day_at name d = option_and_then (checked is_business_day) (option_and_then parsed_day (text_at name d))

@@ -1,16 +1,16 @@
 ghost use Rattle.std.specs.Prelude.{◌≡◌, ◌≢◌, Some, None, IfOk, IfErr};
 ghost use Rattle.serde_json.specs.View.{view, items_view};
-ghost use Rattle.requests.specs.Bodies.{item_of as item_of_lem, bin_of as bin_of_lem, scan_of as scan_of_lem, move_of as move_of_lem, count_of as count_of_lem, adjustment_of as adjustment_of_lem, day_of as day_of_lem, order_of as order_of_lem, line_of as line_of_lem, lines_of as lines_of_lem, lines_at as lines_at_lem, lot_asked as lot_asked_lem, order_asked as order_asked_lem, picking_asked as picking_asked_lem, body_of as body_of_lem};
+ghost use Rattle.requests.specs.Bodies.{item_of as item_of_lem, bin_of as bin_of_lem, scan_of as scan_of_lem, move_of as move_of_lem, count_of as count_of_lem, adjustment_of as adjustment_of_lem, day_of as day_of_lem, least_of as least_of_lem, order_of as order_of_lem, line_of as line_of_lem, lines_of as lines_of_lem, lines_at as lines_at_lem, lot_asked as lot_asked_lem, order_asked as order_asked_lem, picking_asked as picking_asked_lem, body_of as body_of_lem};
 
 use crate::fields::{
-    array_at, business_day_at, counted_at, delta_at, gtin_at, is_object_of, kind_at, line_at,
-    lot_id_at, name_at, qty_at, text_at, title_at,
+    array_at, business_day_at, counted_at, delta_at, gtin_at, is_object_of, kind_at, least_days_at,
+    line_at, lot_id_at, name_at, qty_at, text_at, title_at,
 };
 use crate::routes::Posted;
 use crate::{Ask, WireFault};
 use commands::{
-    Adjustment, Command, Key, Lines, Listed, Movement, NewBin, NewItem, NewOrder, OrderLine,
-    Picking, Recount,
+    Adjustment, Command, Key, Lines, Listed, Movement, NewBin, NewItem, NewLeast, NewOrder,
+    OrderLine, Picking, Recount,
 };
 use serde_json::Value;
 use std::alloc::Global;
@@ -91,6 +91,18 @@ fn day_of(value: &Value) -> Option<Ask>
     let key = name_at(value, "key")?;
     let day = business_day_at(value, "day")?;
     Some(Ask::Do(Key::Plain(key), Command::OpenDay(day)))
+}
+
+fn least_of(value: &Value) -> Option<Ask>
+    ensures { result ≡ least_of_lem (view value.now) }
+{
+    if !is_object_of(value, 3) {
+        return None;
+    }
+    let key = name_at(value, "key")?;
+    let gtin = gtin_at(value, "gtin")?;
+    let days = least_days_at(value, "days")?;
+    Some(Ask::Do(Key::Plain(key), Command::Least(NewLeast { gtin, days })))
 }
 
 fn line_of(value: &Value) -> Option<OrderLine>
@@ -287,6 +299,7 @@ fn plain_body(posted: Posted, value: &Value) -> Option<Ask>
             Some(Ask::Do(key, Command::Recall(lot)))
         }
         Posted::Days => day_of(value),
+        Posted::Leasts => least_of(value),
         Posted::Receipts | Posted::Orders | Posted::GoodsIn => None,
     }
 }

@@ -1,4 +1,4 @@
-ghost use Rattle.std.specs.Prelude.{◌≡◌, ◌≢◌, [], IfOk, IfErr, IsTrue, option_map, Some, None, IsUtf8};
+ghost use Rattle.std.specs.Prelude.{◌≡◌, ◌≢◌, [], true, false, IfOk, IfErr, OnOk, IsTrue, option_map, Some, None, IsUtf8};
 ghost use Rattle.std.specs.List.{list_any};
 ghost use Rattle.matchit.specs.Seek.{first};
 ghost use Rattle.requests.specs.Routes.{table, is_path as is_path_lem, route_of as route_of_lem, method_of as method_of_lem, ends_path as ends_path_lem, add, add_all, listed};
@@ -26,6 +26,7 @@ pub enum Posted {
     Releases,
     Recalls,
     Days,
+    Leasts,
     GoodsIn,
 }
 
@@ -48,7 +49,7 @@ pub enum Route {
 }
 
 /// The routes that are served.
-pub static ROUTES: [(&str, Route); 22] = [
+pub static ROUTES: [(&str, Route); 23] = [
     ("/items", Route::Post(Posted::Items)),
     ("/bins", Route::Post(Posted::Bins)),
     ("/receipts", Route::Post(Posted::Receipts)),
@@ -64,6 +65,7 @@ pub static ROUTES: [(&str, Route); 22] = [
     ("/releases", Route::Post(Posted::Releases)),
     ("/recalls", Route::Post(Posted::Recalls)),
     ("/days", Route::Post(Posted::Days)),
+    ("/leasts", Route::Post(Posted::Leasts)),
     ("/goodsin", Route::Post(Posted::GoodsIn)),
     ("/orders/{order}", Route::Get(Shown::Order)),
     ("/stock/{gtin}", Route::Get(Shown::Stock)),
@@ -146,32 +148,36 @@ fn served(alloc: Global) -> Result<Router<Route>, WireFault>
 }
 
 /// The table of the routes that are served: made where a first path is looked for, and kept.
+///
+/// Contracts see whether it is made. What a path is answered does not hang on it.
 #[derive(Drop)]
 pub struct RouteTable {
     router: Option<Router<Route>>,
 }
 
 impl Model for RouteTable {
-    ghost use Rattle.std.specs.Prelude.{◌≡◌, IfSome};
+    ghost use Rattle.std.specs.Prelude.{◌≡◌, Bool, is_some, IfSome};
     ghost use Rattle.requests.specs.Routes.{table};
 
-    ghost Value = { Unit };
+    ghost Value = { Bool };
 
-    ghost view = { λ t. tt };
+    ghost view = { λ t. is_some t.router };
 
     ghost invariant = { λ t. IfSome t.router (λ made. made ≡ table) };
 }
 
 impl RouteTable {
     /// A table that is not made yet. It takes no memory.
-    pub fn new() -> RouteTable {
+    pub fn new() -> RouteTable
+        ensures { result ≡ false }
+    {
         RouteTable { router: None }
     }
 
     // The table, taken out or made.
     fn taken(&mut self, alloc: Global) -> Result<Router<Route>, WireFault>
         ensures ok { IfOk result (λ r. r ≡ table) }
-        ensures err { IfErr result (λ e. e ≡ WireFault.Memory) }
+        ensures err { IfErr result (λ e. (e ≡ WireFault.Memory) × (self.old ≡ false)) }
     {
         match self.router.take() {
             Some(router) => Ok(router),
@@ -180,12 +186,14 @@ impl RouteTable {
     }
 
     /// The route of a target. Where there is no memory for the table the fault is `W90`, and otherwise `W06` where no
-    /// route fits.
+    /// route fits. Once the table is made it stays, and no memory is asked for.
     pub fn route_of(&mut self, alloc: Global, target: &[u8]) -> Result<Route, WireFault>
         requires { IsUtf8 target.now }
         ensures ok { IfOk result (λ r. route_of_lem target.now ≡ Some r) }
         ensures err { IfErr result (λ e. e ≢ WireFault.Memory → (e ≡ WireFault.Path)
             × (route_of_lem target.now ≡ None)) }
+        ensures made { OnOk result (self.new ≡ true) }
+        ensures stays { self.old ≡ true → (self.new ≡ true) × IfErr result (λ e. e ≢ WireFault.Memory) }
     {
         if !is_path(target) {
             return Err(WireFault::Path);

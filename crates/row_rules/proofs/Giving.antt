@@ -12,13 +12,11 @@ use Rattle.commands.specs.declared.rows.OrderRow.{OrderRow}
 use Rattle.commands.specs.declared.rows.LineRow.{LineRow}
 use Rattle.commands.specs.declared.rows.StagedRow.{StagedRow}
 use Rattle.commands.specs.declared.rows.ReservedRow.{ReservedRow}
-use Rattle.commands.specs.declared.views.LotStatus.TheVariants.{Recalled, Held, Expired, Free}
 use Rattle.machine.specs.Postings.{is_lot, of_item}
 use Rattle.machine.specs.Planning.{is_open_state}
 use Rattle.machine.specs.Standing.{is_expired}
 use Rattle.machine.proofs.Tests.{and_both, and_first_false, and_later_false}
 use Rattle.row_rules.specs.Seen.{capped}
-use Rattle.row_rules.specs.Status.{is_free}
 use Rattle.row_rules.specs.Plans.{staged_seen, line_need, demand_seen, is_store_found, store_seen, supply_seen, is_usable, is_share_of, has_qty, rows_to_put, rows_to_drop}
 use Rattle.row_rules.specs.LookUps.{GivesRows, in_store_given, store_given}
 use Rattle.row_rules.proofs.LookingUp.{find_given, any_given, total_given, total_agree, map_agree}
@@ -87,4 +85,4 @@ module _ (g : List ℕ) (day : ℤ) (of_lots : List ℕ → List RecallRow) (rec
   pub usable_given : (lots : List LotRow) → filter (λ k. is_usable g day (of_lots k.lot.lot) k) lots ≡ filter (is_usable g day recalls) lots
   usable_given lots =
       filter_agree (λ k. is_usable g day (of_lots k.lot.lot) k) (is_usable g day recalls)
-      (λ k. λ i. of_item g k.lot && is_free (if recall_given k i then Recalled else (if k.held then Held else (if is_expired day k.expiry then Expired else Free)))) lots
+      (λ k. λ i. of_item g k.lot && (not (recall_given k i) && not k.held && not (is_expired day k.expiry))) lots

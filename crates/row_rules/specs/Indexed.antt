@@ -2,6 +2,7 @@
 use Rattle.std.specs.Prelude.{ℕ, List}
 use Rattle.plan.specs.declared.Demand.{Demand}
 use Rattle.plan.specs.declared.Supply.{Supply}
+use Rattle.row_rules.specs.Status.{earliest_seen}
 use Rattle.row_rules.specs.LookUps.{rows_given, GivesRows}
 use Rattle.row_rules.specs.Replanning.{item_demands, item_supplies, replanned_from}
 use Rattle.row_rules.specs.declared.replanning.Replanned.{Replanned}
@@ -19,7 +20,7 @@ abbrev pub demands_told : List ℕ → IndexedRows → List Demand
 demands_told g m = item_demands g m.rows.lines.now m.rows.staged.now m.rows.orders.now
 
 abbrev pub supplies_told : List ℕ → IndexedRows → List Supply
-supplies_told g m = item_supplies g m.day m.rows.recalls.now m.rows.bins.now m.rows.stock.now m.rows.lots.now
+supplies_told g m = item_supplies g (earliest_seen m.day m.rows.least.now g) m.rows.recalls.now m.rows.bins.now m.rows.stock.now m.rows.lots.now
 
 -- what changes of the reserved rows of an item where these are the rows before and after an act
 abbrev pub replanned_between : IndexedRows → IndexedRows → List ℕ → Replanned

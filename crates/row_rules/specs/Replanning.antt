@@ -3,6 +3,8 @@
 use Rattle.std.specs.Prelude.{ℕ, List, ◌∷◌, take, drop, ℤ}
 use Rattle.commands.specs.declared.rows.BinRow.{BinRow}
 use Rattle.commands.specs.declared.rows.LotRow.{LotRow}
+use Rattle.commands.specs.declared.rows.LeastRow.{LeastRow}
+use Rattle.row_rules.specs.Status.{earliest_seen}
 use Rattle.commands.specs.declared.rows.RecallRow.{RecallRow}
 use Rattle.commands.specs.declared.rows.StockRow.{StockRow}
 use Rattle.commands.specs.declared.rows.OrderRow.{OrderRow}
@@ -43,10 +45,10 @@ replanned_from g old_orders old_lots ds ss orders lots es ts =
     let kept = cut_of ds ss es ts in
     shares_changed g (shares_behind kept old_orders old_lots ds ss) (shares_behind kept orders lots es ts)
 
-module _ (s : Slice) (day : ℤ) (orders : List OrderRow) (lines : List LineRow) (staged : List StagedRow) (lots : List LotRow) (recalls : List RecallRow) (bins : List BinRow) (stock : List StockRow) (g : List ℕ) where
+module _ (s : Slice) (day : ℤ) (orders : List OrderRow) (lines : List LineRow) (staged : List StagedRow) (lots : List LotRow) (recalls : List RecallRow) (bins : List BinRow) (stock : List StockRow) (least : List LeastRow) (g : List ℕ) where
   -- what changes of the item's reserved rows between a slice and these
   abbrev pub item_replanned : Replanned
   item_replanned =
       replanned_from g
-      s.rows.orders s.rows.lots (item_demands g s.rows.lines s.rows.staged s.rows.orders) (item_supplies g s.meta.day s.rows.recalls s.rows.bins s.rows.stock s.rows.lots)
-      orders lots (item_demands g lines staged orders) (item_supplies g day recalls bins stock lots)
+      s.rows.orders s.rows.lots (item_demands g s.rows.lines s.rows.staged s.rows.orders) (item_supplies g (earliest_seen s.meta.day s.rows.least g) s.rows.recalls s.rows.bins s.rows.stock s.rows.lots)
+      orders lots (item_demands g lines staged orders) (item_supplies g (earliest_seen day least g) recalls bins stock lots)

@@ -89,6 +89,7 @@ none_put = record {
   shipments = [];
   shiplines = [];
   cards = [];
+  least = [];
 }
 
 abbrev pub none_dropped : Dropped

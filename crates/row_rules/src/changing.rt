@@ -24,6 +24,7 @@ pub fn none_put(alloc: Global) -> Put
         shipments: Listed::from_vec(Vec::new(alloc)),
         shiplines: Listed::from_vec(Vec::new(alloc)),
         cards: Listed::from_vec(Vec::new(alloc)),
+        least: Listed::from_vec(Vec::new(alloc)),
     }
 }
 

@@ -9,6 +9,7 @@ ghost use Rattle.row_rules.specs.Indexed.{IsIndexed, demands_told, supplies_told
 use crate::demands::{cut_demands, demands_found};
 use crate::look_ups::{RowsByText, by_text};
 use crate::plans::ItemRows;
+use crate::status::earliest;
 use crate::supplies::{cut_supplies, supplies_found};
 use commands::{BinRow, LineRow, Listed, RecallRow, StagedRow, StockRow};
 use label::BusinessDay;
@@ -107,10 +108,11 @@ fn supplies_of_item(
     ensures told { IfOk result (λ v. v.items ≡ supplies_told gtin.now indexed.now) }
     ensures small { IfOk result (λ v. supply_total v.items ≤ SUM_MAX) }
 {
+    let from = earliest(indexed.day, indexed.rows.least, gtin);
     let supplies = supplies_found(
         alloc,
         gtin,
-        indexed.day,
+        from,
         &indexed.recalls,
         &indexed.bins,
         &indexed.stock,

@@ -10,10 +10,12 @@ ghost use Rattle.values.specs.Values.{same_text};
 ghost use Rattle.row_rules.specs.LookUps.{rows_or, rows_kept, rows_given, row_given, GivesRows, GivesFirst};
 
 use crate::text_key::TextKey;
-use commands::{BinRow, LineRow, LotRow, OrderRow, RecallRow, ReservedRow, StagedRow, StockRow};
+use commands::{
+    BinRow, LeastRow, LineRow, LotRow, OrderRow, RecallRow, ReservedRow, StagedRow, StockRow,
+};
 use std::alloc::{AllocError, Global};
 use std::collections::BTreeMap;
-use values::{Lot, Name};
+use values::{Gtin, Lot, Name};
 
 /// Up to so many rows, or look-ups, a walk over the rows is as good as a map of them.
 const FEW: usize = 32;
@@ -46,6 +48,16 @@ impl<'a, T> RowsByText<'a, T> {
             return self.others;
         }
         self.rows_under(&TextKey::of_name(name))
+    }
+
+    /// The rows with the GTIN, in their order, and maybe others.
+    pub fn rows_of_gtin(&self, gtin: &Gtin) -> &[T]
+        ensures { result.now ≡ rows_given self.now gtin.now }
+    {
+        if self.groups.is_empty() {
+            return self.others;
+        }
+        self.rows_under(&TextKey::of_gtin(gtin))
     }
 
     /// The rows with the lot, in their order, and maybe others.
@@ -300,6 +312,14 @@ impl Keyed for BinRow {
 
     fn key(&self) -> TextKey {
         TextKey::of_name(&self.name)
+    }
+}
+
+impl Keyed for LeastRow {
+    ghost text = { λ r. r.gtin };
+
+    fn key(&self) -> TextKey {
+        TextKey::of_gtin(&self.gtin)
     }
 }
 

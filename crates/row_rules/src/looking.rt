@@ -5,7 +5,7 @@ ghost use Rattle.values.specs.Values.{same_text};
 ghost use Rattle.machine.specs.Postings.{is_lot};
 ghost use Rattle.row_rules.specs.Seen.{has_recall as has_recall_lem};
 
-use commands::{BinRow, ItemRow, LotRow, OrderRow, RecallRow, StockRow};
+use commands::{BinRow, ItemRow, LeastRow, LotRow, OrderRow, RecallRow, StockRow};
 use values::{Gtin, LotId, Name};
 
 /// Whether the two are one lot.
@@ -17,6 +17,18 @@ pub fn is_same_lot(a: &LotId, b: &LotId) -> bool
 
 /// The row of an item.
 pub fn find_item(rows: &[ItemRow], gtin: &Gtin) -> Option<ItemRow>
+    ensures { result ≡ find (λ r. same_text gtin.now r.gtin) rows.now }
+{
+    for row in rows {
+        if *gtin == row.gtin {
+            return Some(*row);
+        }
+    }
+    None
+}
+
+/// The row of an item's days.
+pub fn find_least(rows: &[LeastRow], gtin: &Gtin) -> Option<LeastRow>
     ensures { result ≡ find (λ r. same_text gtin.now r.gtin) rows.now }
 {
     for row in rows {

@@ -11,7 +11,9 @@ use crate::look_ups::{RowsByNumber, RowsByText, by_number, by_text};
 use crate::looking::is_same_lot;
 use crate::pushing::{push_found, push_if};
 use crate::supplies::cut_supplies;
-use commands::{BinRow, LineRow, LotRow, OrderRow, RecallRow, ReservedRow, StagedRow, StockRow};
+use commands::{
+    BinRow, LeastRow, LineRow, LotRow, OrderRow, RecallRow, ReservedRow, StagedRow, StockRow,
+};
 use plan::{Demand, Plan, Row, SUM_MAX, Supply, whole};
 use std::alloc::{AllocError, Global};
 use values::Gtin;
@@ -26,6 +28,7 @@ pub struct ItemRows<'a> {
     pub recalls: &'a [RecallRow],
     pub bins: &'a [BinRow],
     pub stock: &'a [StockRow],
+    pub least: &'a [LeastRow],
 }
 
 /// The rows as they are before the act.
@@ -37,6 +40,7 @@ pub fn item_rows(rows: &Rows) -> ItemRows<'_>
     ensures recalls { result.recalls.now ≡ rows.now.recalls }
     ensures bins { result.bins.now ≡ rows.now.bins }
     ensures stock { result.stock.now ≡ rows.now.stock }
+    ensures least { result.least.now ≡ rows.now.least }
 {
     ItemRows {
         orders: rows.orders.as_slice(),
@@ -46,6 +50,7 @@ pub fn item_rows(rows: &Rows) -> ItemRows<'_>
         recalls: rows.recalls.as_slice(),
         bins: rows.bins.as_slice(),
         stock: rows.stock.as_slice(),
+        least: rows.least.as_slice(),
     }
 }
 

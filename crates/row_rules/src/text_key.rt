@@ -4,10 +4,10 @@ ghost use Rattle.std.specs.Prelude.{◌≡◌, ◌≤◌, length, reverse};
 
 use std::cmp::Ordering;
 use std::marker::Model;
-use values::{Lot, Name, Text};
+use values::{Gtin, Lot, Name, Text};
 
-/// A text as a key: the name of an order or of a bin, or a lot among those of its item. It is kept
-/// from the last character to the first, since names and lots mostly differ in their last ones.
+/// A text as a key: the name of an order or of a bin, a GTIN, or a lot among those of its item. It is
+/// kept from the last character to the first, since most texts differ in their last ones.
 #[derive(Clone, Copy)]
 pub struct TextKey {
     turned: Text<20>,
@@ -29,6 +29,14 @@ impl TextKey {
     {
         TextKey {
             turned: turned(name.as_bytes()),
+        }
+    }
+
+    pub fn of_gtin(gtin: &Gtin) -> Self
+        ensures { result ≡ reverse gtin.now }
+    {
+        TextKey {
+            turned: turned(gtin.as_bytes()),
         }
     }
 

@@ -1,9 +1,9 @@
 //! Changes as texts, a row a line, so that tests compare them whole.
 
 use commands::{
-    BinKind, BinRow, CardKind, CardRow, ItemRow, LineRow, LotRow, MetaRow, OrderRow, OrderState,
-    RecallRow, ReservedRow, ShiplineRow, ShipmentRow, StagedRow, StockRow, decimal_text,
-    signed_text,
+    BinKind, BinRow, CardKind, CardRow, ItemRow, LeastRow, LineRow, LotRow, MetaRow, OrderRow,
+    OrderState, RecallRow, ReservedRow, ShiplineRow, ShipmentRow, StagedRow, StockRow,
+    decimal_text, signed_text,
 };
 use label::{BusinessDay, Day};
 use rules::{Change, Dropped, Put};
@@ -99,6 +99,7 @@ impl Listing {
 
     fn goods(&mut self, rows: &Put) {
         self.items(rows.items.as_slice());
+        self.least(rows.least.as_slice());
         self.bins(rows.bins.as_slice());
         self.lots(rows.lots.as_slice());
         self.recalls(rows.recalls.as_slice());
@@ -129,6 +130,15 @@ impl Listing {
             self.row(b"put", b"item");
             self.field(row.gtin.as_bytes());
             self.field(row.name.as_bytes());
+            self.end();
+        }
+    }
+
+    fn least(&mut self, rows: &[LeastRow]) {
+        for row in rows {
+            self.row(b"put", b"least");
+            self.field(row.gtin.as_bytes());
+            self.number(u64::from(row.days.days()));
             self.end();
         }
     }

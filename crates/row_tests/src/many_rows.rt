@@ -246,7 +246,7 @@ fn expect_supplies(rt: &impl Abort, supplies: &[Supply]) {
 #[test]
 fn sees_supplies_of_many_lots(rt: HostRuntime) {
     let alloc = rt.alloc();
-    let day = business_day(&rt, "2026-05-04");
+    let day = business_day(&rt, "2026-05-04").day();
     let lots: Vec<LotRow> = falling(
         &rt,
         alloc,
@@ -353,6 +353,7 @@ fn rows_of_many(rt: &impl Abort, alloc: Global) -> Rows {
         lines: Listed::from_vec(Vec::new(alloc)),
         staged: Listed::from_vec(rising(rt, alloc, "S-#|L#|2", &["S-30|L31|40", "S-31|E1|1"])),
         reserved: Listed::from_vec(falling(rt, alloc, "S-#|L#|#", &["S-1|L20|5", "S-10|L11|100"])),
+        least: Listed::from_vec(Vec::new(alloc)),
     }
 }
 

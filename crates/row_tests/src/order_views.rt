@@ -47,17 +47,20 @@ const RESERVED: Sample = Sample {
 
 // Of the twelve that Corner Shop ordered five are staged, and six of the others are reserved.
 const ONE_SHORT: &[u8] = b"S-1 Corner Shop OPEN\n\
-    09506000134352 12 0 1\n\
+    09506000134352 12 0 1 0\n\
     reserved L2 2026-05-31 6 A-01 3 A-02 3\n\
     staged L0 5\n";
 
 static VIEWED: [Viewed; 5] = [
-    // The lots that expire first are reserved first.
+    // The lots that expire first are reserved first. With each line stands what its item asks for.
     Viewed {
-        rows: RESERVED,
+        rows: Sample {
+            least: "04012345000016|7\n09506000134352|3650",
+            ..RESERVED
+        },
         order: CORNER_SHOP,
         text: b"S-1 Corner Shop OPEN\n\
-            09506000134352 12 0 0\n\
+            09506000134352 12 0 0 3650\n\
             reserved L0 2026-05-10 5 A-01 5\n\
             reserved L2 2026-05-31 7 A-01 10\n",
     },
@@ -65,7 +68,7 @@ static VIEWED: [Viewed; 5] = [
         rows: RESERVED,
         order: HARBOUR_CAFE,
         text: b"S-2 Harbour Cafe OPEN\n\
-            09506000134352 12 0 0\n\
+            09506000134352 12 0 0 0\n\
             reserved L2 2026-05-31 3 A-01 10\n\
             reserved L1 2026-06-30 9 A-01 10\n",
     },

@@ -513,3 +513,21 @@ static DAYS: [Refused; 3] = [
 fn refuses_days(rt: HostRuntime) {
     expect(&rt, rt.alloc(), DAYS.as_slice());
 }
+
+static ASKED: [Refused; 2] = [
+    Refused {
+        before: ACTS_ARE_FULL,
+        told: Told::Least(OATS, 0),
+        why: Refusal::ActsFull,
+    },
+    Refused {
+        before: LAST_ACT,
+        told: Told::Least(OATS, 3_650),
+        why: Refusal::UnknownItem,
+    },
+];
+
+#[test]
+fn refuses_days_asked_for(rt: HostRuntime) {
+    expect(&rt, rt.alloc(), ASKED.as_slice());
+}

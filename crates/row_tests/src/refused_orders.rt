@@ -127,8 +127,10 @@ const NOTHING_KNOWN: Sample = Sample {
     ..LAST_ACT
 };
 
+// The item asks for a day.
 const ITEM_PICKED: Sample = Sample {
     items: "09506000134352|Oat drink",
+    least: "09506000134352|1",
     ..NOTHING_KNOWN
 };
 
@@ -165,9 +167,14 @@ const NOT_EXPIRED: Sample = Sample {
     ..NOT_RECALLED
 };
 
-const NOT_HELD: Sample = Sample {
-    lots: "L1|2026-05-04|6|free",
+const NOT_SHORT_DATED: Sample = Sample {
+    lots: "L1|2026-05-05|6|held",
     ..NOT_EXPIRED
+};
+
+const NOT_HELD: Sample = Sample {
+    lots: "L1|2026-05-05|6|free",
+    ..NOT_SHORT_DATED
 };
 
 const STORE_BIN_PICKED: Sample = Sample {
@@ -190,7 +197,7 @@ const ENOUGH_IN_BIN: Sample = Sample {
 
 const PICKED: Told = Told::Pick("S-1", "L1", "A-01", 8);
 
-static PICKINGS: [Refused; 13] = [
+static PICKINGS: [Refused; 14] = [
     Refused {
         before: Sample {
             acts: ACTS_MAX,
@@ -236,6 +243,11 @@ static PICKINGS: [Refused; 13] = [
     },
     Refused {
         before: NOT_EXPIRED,
+        told: PICKED,
+        why: Refusal::TooFewDays,
+    },
+    Refused {
+        before: NOT_SHORT_DATED,
         told: PICKED,
         why: Refusal::LotHeld,
     },

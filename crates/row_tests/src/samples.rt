@@ -1,9 +1,9 @@
 //! Slices and commands as the tests write them down, and what is decided of them.
 
 use commands::{
-    Adjustment, BinKind, BinRow, Command, ItemRow, Key, LineRow, Lines, Listed, LotRow, MetaRow,
-    Movement, NewBin, NewItem, NewOrder, OrderLine, OrderRow, OrderState, Picking, RecallRow,
-    Receipt, Recount, ReservedRow, StagedRow, StockRow,
+    Adjustment, BinKind, BinRow, Command, ItemRow, Key, LeastDays, LeastRow, LineRow, Lines,
+    Listed, LotRow, MetaRow, Movement, NewBin, NewItem, NewLeast, NewOrder, OrderLine, OrderRow,
+    OrderState, Picking, RecallRow, Receipt, Recount, ReservedRow, StagedRow, StockRow,
 };
 use label::{BusinessDay, Day};
 use rules::{Change, Rows, RuleFault, Slice, decide};
@@ -29,6 +29,8 @@ pub struct Sample {
     pub counts: (u64, u64),
     /// GTIN, name.
     pub items: &'static str,
+    /// GTIN, the days that its lots must have left.
+    pub least: &'static str,
     /// Name, `STORE` or `HOLD`.
     pub bins: &'static str,
     /// Lot, expiry, the act of its first receipt, `free` or `held`.
@@ -86,6 +88,8 @@ pub enum Told {
     Recall(&'static str, &'static str),
     /// The shipping of an order.
     Ship(&'static str),
+    /// The days that the lots of an item must have left.
+    Least(&'static str, u64),
 }
 
 /// No rows, on 2026-05-04, after five acts.
@@ -94,6 +98,7 @@ pub const NO_ROWS: Sample = Sample {
     acts: 5,
     counts: (2, 4),
     items: "",
+    least: "",
     bins: "",
     lots: "",
     recalls: "",
@@ -128,6 +133,10 @@ fn qty(rt: &impl Abort, units: u64) -> Qty {
 
 pub(crate) fn gtin(rt: &impl Abort, text: &str) -> Gtin {
     Gtin::new(text.as_bytes()).ok().expect(rt, "a GTIN")
+}
+
+fn days(rt: &impl Abort, n: u64) -> LeastDays {
+    LeastDays::new(n).expect(rt, "days that may be asked for")
 }
 
 fn lot_of_item(rt: &impl Abort, item: &str, text: &str) -> LotId {
@@ -208,6 +217,16 @@ impl Written for ItemRow {
         ItemRow {
             gtin: gtin(rt, item),
             name: title(rt, called),
+        }
+    }
+}
+
+impl Written for LeastRow {
+    fn read(rt: &impl Abort, text: &str) -> LeastRow {
+        let (item, asked) = cut(rt, text);
+        LeastRow {
+            gtin: gtin(rt, item),
+            days: days(rt, number(rt, asked)),
         }
     }
 }
@@ -331,6 +350,7 @@ pub(crate) fn rows(rt: &impl Abort, alloc: Global, sample: &Sample) -> Rows {
         lines: listed(rt, alloc, sample.lines),
         staged: listed(rt, alloc, sample.staged),
         reserved: listed(rt, alloc, sample.reserved),
+        least: listed(rt, alloc, sample.least),
     }
 }
 
@@ -430,6 +450,10 @@ pub(crate) fn command(rt: &impl Abort, alloc: Global, told: &Told) -> Command {
         Told::Release(text) => Command::Release(lot(rt, text)),
         Told::Recall(item, text) => Command::Recall(lot_of_item(rt, item, text)),
         Told::Ship(order) => Command::Ship(name(rt, order)),
+        Told::Least(item, asked) => Command::Least(NewLeast {
+            gtin: gtin(rt, item),
+            days: days(rt, asked),
+        }),
     }
 }
 

@@ -71,6 +71,7 @@ fn rows_of_many(rt: &impl Abort, alloc: Global) -> Rows {
         lines: Listed::from_vec(falling(rt, alloc, "S-#|09506000134352|9#|1", &lines)),
         staged: Listed::from_vec(falling(rt, alloc, "S-#|L1|2", &["S-150|L2|4"])),
         reserved: Listed::from_vec(falling(rt, alloc, "S-#|L1|50", &["S-40|L2|5"])),
+        least: Listed::from_vec(Vec::new(alloc)),
     }
 }
 

@@ -5,7 +5,7 @@ use commands::{BinKind, spell};
 use std::alloc::Global;
 use std::process::Abort;
 
-static SPELLINGS: [(Told, &str); 16] = [
+static SPELLINGS: [(Told, &str); 17] = [
     (
         Told::Item(Item(OATS, "Oat drink")),
         "ITEM\n09506000134352\nOat drink",
@@ -46,6 +46,7 @@ static SPELLINGS: [(Told, &str); 16] = [
     (Told::Release("AB/12"), "RELEASE\n09506000134352\nAB/12"),
     (Told::Recall(OATS, "AB/12"), "RECALL\n09506000134352\nAB/12"),
     (Told::OpenDay("2026-05-05"), "OPENDAY\n2026-05-05"),
+    (Told::Least(OATS, 27), "LEAST\n09506000134352\n27"),
 ];
 
 // The spelling of a command is this text. Where there was no memory it is spelled again.

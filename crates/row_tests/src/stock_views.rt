@@ -46,7 +46,7 @@ fn expect(rt: &impl Abort, alloc: Global, case: &Viewed) {
     assert_eq!(rt; listing.as_bytes(), case.text);
 }
 
-static VIEWED: [Viewed; 4] = [
+static VIEWED: [Viewed; 5] = [
     // The first receipt is free.
     Viewed {
         rows: Sample {
@@ -111,6 +111,22 @@ static VIEWED: [Viewed; 4] = [
             G1 2026-05-31 HELD 0 0\n\
             K1 2026-05-31 RECALLED 0 0\n\
             K2 2026-06-30 RECALLED 0 0\n",
+    },
+    // And it is held before it is short-dated, which it is with fewer days left than its item asks for.
+    Viewed {
+        rows: Sample {
+            least: "04012345000016|0\n09506000134352|27",
+            lots: "F1|2026-05-31|9|free\n\
+                S2|2026-05-30|8|held\n\
+                S1|2026-05-30|7|free\n\
+                E1|2026-05-03|6|free",
+            ..NO_ROWS
+        },
+        text: b"09506000134352 Oat drink\n\
+            E1 2026-05-03 EXPIRED 0 0\n\
+            S1 2026-05-30 SHORTDATED 0 0\n\
+            S2 2026-05-30 HELD 0 0\n\
+            F1 2026-05-31 FREE 0 0\n",
     },
 ];
 

@@ -34,6 +34,7 @@ impl Listing {
         self.number(line.ordered);
         self.number(line.shipped);
         self.number(line.short);
+        self.number(u64::from(line.least.days()));
         self.end();
         for lot in line.reserved.as_slice() {
             self.reserved_lot(lot);
@@ -76,6 +77,7 @@ impl Listing {
             LotStatus::Recalled => self.field(b"RECALLED"),
             LotStatus::Held => self.field(b"HELD"),
             LotStatus::Expired => self.field(b"EXPIRED"),
+            LotStatus::ShortDated => self.field(b"SHORTDATED"),
             LotStatus::Free => self.field(b"FREE"),
         }
     }

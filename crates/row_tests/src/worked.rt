@@ -38,6 +38,7 @@ static SETTING_UP: [Worked; 4] = [
         told: Told::Item(Item(OATS, "Oat drink")),
         changes: b"meta 2026-05-04 1 0\n\
             put item 09506000134352 Oat drink\n\
+            put least 09506000134352 0\n\
             {\"act\":1}",
     },
     Worked {
@@ -56,6 +57,7 @@ static SETTING_UP: [Worked; 4] = [
         told: Told::Item(Item(BREAD, "Rye bread")),
         changes: b"meta 2026-05-04 1000000000000 0\n\
             put item 04012345000016 Rye bread\n\
+            put least 04012345000016 0\n\
             {\"act\":1000000000000}",
     },
     Worked {

@@ -1,6 +1,7 @@
-// The worked examples of days that are opened: the rows that are put and dropped, whole.
+// The worked examples of days that are opened, and of days that lots must have left: the rows that are put and dropped,
+// whole.
 
-use crate::samples::{NO_ROWS, Sample, Told};
+use crate::samples::{NO_ROWS, OATS, Sample, Told};
 use crate::worked::{THREE_LOTS, TWO_ORDERS, Worked, expect};
 use commands::limits::ACTS_MAX;
 
@@ -94,4 +95,92 @@ static OPENING: [Worked; 5] = [
 #[test]
 fn opens_days(rt: HostRuntime) {
     expect(&rt, rt.alloc(), OPENING.as_slice());
+}
+
+// Of the three lots L0 has six days left, L2 twenty-seven, and L1 fifty-seven. The oat drink asks for twenty-eight.
+const ONE_LOT_SHIPS: Sample = Sample {
+    least: "04012345000016|3650\n09506000134352|28",
+    reserved: "S-1|L1|10",
+    ..THREE_LOTS
+};
+
+static ASKING: [Worked; 7] = [
+    // A lot ships with as many days as are asked for, and no more with one less.
+    Worked {
+        before: THREE_LOTS,
+        told: Told::Least(OATS, 27),
+        changes: b"meta 2026-05-04 11 0\n\
+            put least 09506000134352 27\n\
+            put reserved S-1 09506000134352 L2 10\n\
+            put reserved S-1 09506000134352 L1 2\n\
+            put reserved S-2 09506000134352 L1 8\n\
+            drop reserved S-1 09506000134352 L0 5\n\
+            drop reserved S-2 09506000134352 L2 3\n\
+            {\"act\":11,\"returned\":0}",
+    },
+    Worked {
+        before: THREE_LOTS,
+        told: Told::Least(OATS, 28),
+        changes: b"meta 2026-05-04 11 0\n\
+            put least 09506000134352 28\n\
+            put reserved S-1 09506000134352 L1 10\n\
+            drop reserved S-1 09506000134352 L0 5\n\
+            drop reserved S-1 09506000134352 L2 7\n\
+            drop reserved S-2 09506000134352 L2 3\n\
+            drop reserved S-2 09506000134352 L1 9\n\
+            {\"act\":11,\"returned\":0}",
+    },
+    // What is staged of a lot that has too few goes to RETURNS.
+    Worked {
+        before: TWO_LOTS_STAGED,
+        told: Told::Least(OATS, 6),
+        changes: b"meta 2026-05-04 13 0\n\
+            put least 09506000134352 6\n\
+            {\"act\":13,\"returned\":0}",
+    },
+    Worked {
+        before: TWO_LOTS_STAGED,
+        told: Told::Least(OATS, 7),
+        changes: b"meta 2026-05-04 13 0\n\
+            put least 09506000134352 7\n\
+            put stock 09506000134352 L0 RETURNS 5\n\
+            put reserved S-1 09506000134352 L2 3\n\
+            put reserved S-1 09506000134352 L1 2\n\
+            put reserved S-2 09506000134352 L1 8\n\
+            drop staged S-1 09506000134352 L0 5\n\
+            drop reserved S-2 09506000134352 L2 3\n\
+            {\"act\":13,\"returned\":5}",
+    },
+    // Lots ship again where the item asks for fewer.
+    Worked {
+        before: ONE_LOT_SHIPS,
+        told: Told::Least(OATS, 0),
+        changes: b"meta 2026-05-04 11 0\n\
+            put least 09506000134352 0\n\
+            put reserved S-1 09506000134352 L0 5\n\
+            put reserved S-1 09506000134352 L2 7\n\
+            put reserved S-2 09506000134352 L2 3\n\
+            put reserved S-2 09506000134352 L1 9\n\
+            drop reserved S-1 09506000134352 L1 10\n\
+            {\"act\":11,\"returned\":0}",
+    },
+    // The days that it asks for are counted from the day that is open.
+    Worked {
+        before: ONE_LOT_SHIPS,
+        told: Told::OpenDay("2026-06-02"),
+        changes: b"meta 2026-06-02 11 0\n\
+            {\"act\":11,\"returned\":0}",
+    },
+    Worked {
+        before: ONE_LOT_SHIPS,
+        told: Told::OpenDay("2026-06-03"),
+        changes: b"meta 2026-06-03 11 0\n\
+            drop reserved S-1 09506000134352 L1 10\n\
+            {\"act\":11,\"returned\":0}",
+    },
+];
+
+#[test]
+fn asks_for_days(rt: HostRuntime) {
+    expect(&rt, rt.alloc(), ASKING.as_slice());
 }

@@ -26,6 +26,7 @@ before_orders = record {
     lines = [];
     staged = [];
     reserved = [];
+    least = record { gtin = OATS; days = 0 } ∷ [];
   };
 }
 

@@ -1,5 +1,5 @@
 -- Items planned anew by the rows of a slice, in which no reserved rows are.
-use Rattle.std.specs.Prelude.{◌≡◌, ℤ, false, [], ◌∷◌, codes, refl}
+use Rattle.std.specs.Prelude.{◌≡◌, ℕ, ℤ, false, [], ◌∷◌, codes, refl}
 use Rattle.values.specs.declared.lot.LotId.{LotId}
 use Rattle.commands.specs.declared.command.BinKind.TheVariants.{Store}
 use Rattle.commands.specs.declared.key.Key.TheVariants.{Line}
@@ -7,6 +7,7 @@ use Rattle.commands.specs.declared.rows.OrderState.TheVariants.{Open}
 use Rattle.goods_rules.specs.DecidedReceive.{receive_changes}
 use Rattle.order_rules.specs.DecidedCancel.{cancel_changes}
 use Rattle.lot_rules.specs.DecidedHold.{hold_changes}
+use Rattle.lot_rules.specs.DecidedLeast.{least_changes}
 use Rattle.row_rules.specs.declared.slice.Slice.{Slice}
 use Rattle.row_rules.specs.declared.slice.Change.{Change}
 use Rattle.machine.proofs.examples.ExampleHistories.{may_4, may_10, may_31, june_30, july_31, OATS, A1, S1, S2, L0, L1, L2, lot_of}
@@ -27,6 +28,7 @@ two_orders = record {
     lines = record { order = S1; gtin = OATS; ordered = 12; shipped = 0 } ∷ record { order = S2; gtin = OATS; ordered = 12; shipped = 0 } ∷ [];
     staged = [];
     reserved = [];
+    least = record { gtin = OATS; days = 0 } ∷ [];
   };
 }
 
@@ -58,6 +60,19 @@ a_hold_moves_the_first_order = refl
 
 a_hold_takes_from_the_second : (hold_changes two_orders L2).dropped.reserved ≡ record { order = S1; lot = L2; qty = 10 } ∷ record { order = S2; lot = L1; qty = 8 } ∷ []
 a_hold_takes_from_the_second = refl
+
+-- 27 days are left of L2: where its item asks for more, the orders are served as if it were held
+abbrev asked : ℕ → Change
+asked days = least_changes two_orders (record { gtin = OATS; days = days })
+
+days_that_are_left_move_nothing : (asked 27).put.reserved ≡ []
+days_that_are_left_move_nothing = refl
+
+a_day_more_moves_the_first_order : (asked 28).put.reserved ≡ record { order = S1; lot = L1; qty = 10 } ∷ []
+a_day_more_moves_the_first_order = refl
+
+a_day_more_takes_from_the_second : (asked 28).dropped.reserved ≡ record { order = S1; lot = L2; qty = 10 } ∷ record { order = S2; lot = L1; qty = 8 } ∷ []
+a_day_more_takes_from_the_second = refl
 
 -- the first order keeps its rows where the second is cancelled, and takes no more than it wants
 a_cancel_frees_its_own_row : (cancel_changes two_orders S2).dropped.reserved ≡ record { order = S2; lot = L1; qty = 8 } ∷ []

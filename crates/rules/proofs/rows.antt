@@ -1,6 +1,7 @@
 -- What typed rows tell of a history, and what changing them does.
 pub mod TableSteps
 pub mod SliceTells
+pub mod DaysAsked
 pub mod SliceDemands
 pub mod AfterRows
 pub mod SharesTold

@@ -7,9 +7,7 @@ use Rattle.commands.specs.declared.command.Command.{Command}
 use Rattle.commands.specs.declared.names.Added.{Added}
 use Rattle.commands.specs.declared.names.Added.TheVariants.{Item, Bin}
 use Rattle.commands.specs.declared.names.NamedOrder.{NamedOrder}
-use Rattle.commands.specs.declared.names.OrderStep.{OrderStep}
-use Rattle.commands.specs.declared.names.OrderStep.TheVariants.{Picked, Shipped}
-use Rattle.commands.specs.Names.{names_of}
+use Rattle.commands.specs.Names.{names_of, is_picked, is_shipped}
 use Rattle.commands.specs.declared.limits.TheConstants.{ITEMS_MAX, BINS_MAX}
 use Rattle.commands.specs.declared.rows.ReservedRow.{ReservedRow}
 use Rattle.machine.specs.KeyedRows.{no_two, AreRows, same_cell, same_line, same_share}
@@ -47,6 +45,7 @@ unfoldable pub applied : Change → Tables → Tables
 applied c t = record {
   meta = Some c.meta;
   item = λ g. added (λ r. same_text g r.gtin) c.put.items (t.item g);
+  least = λ g. added (λ r. same_text g r.gtin) c.put.least (t.least g);
   bin = λ b. added (λ r. same_text b r.name) c.put.bins (t.bin b);
   lot = λ l. added (λ r. is_lot l r.lot) c.put.lots (t.lot l);
   recall = λ l. added (λ r. is_lot l r.lot) c.put.recalls (t.recall l);
@@ -105,25 +104,17 @@ abbrev pub counts_bins : Command → Bool
 counts_bins command = is_bin (names_of command).adds
 
 -- whether the command plans: a shipment takes what is staged for its order, and no plan changes
-abbrev pub plans_at : OrderStep → Bool
-plans_at Shipped = false
-plans_at _ = true
-
 abbrev pub plans_with : Option NamedOrder → Bool
 plans_with None = true
-plans_with (Some n) = plans_at n.step
+plans_with (Some n) = not (is_shipped n.step)
 
 abbrev pub plans : Command → Bool
 plans command = plans_with (names_of command).order
 
 -- whether the command is judged by what is reserved for the order on the lot
-abbrev pub takes_reserved : OrderStep → Bool
-takes_reserved Picked = true
-takes_reserved _ = false
-
 abbrev pub is_share : Option NamedOrder → Option LotId → List ℕ → LotId → Bool
 is_share None lot o l = false
-is_share (Some n) lot o l = if takes_reserved n.step then same_text o n.order && is_named_lot lot l else false
+is_share (Some n) lot o l = if is_picked n.step then same_text o n.order && is_named_lot lot l else false
 
 abbrev pub names_reserved : Command → List ℕ → LotId → Bool
 names_reserved command o l = is_share (names_of command).order (names_of command).lot o l
@@ -138,7 +129,7 @@ on_stages rows l = list_any (λ r. is_lot l r.lot) rows.staged
 abbrev pub on_named_stage : Command → Rows → LotId → Bool
 on_named_stage command rows l = list_any (λ r. names_order command r.order && is_lot l r.lot) rows.staged
 
--- The slice has the rows of the items that the command touches, with the rows of the order that it names, of the
+-- The slice has the rows of the items that the command touches, and of the days that they ask for, with the rows of the order that it names, of the
 -- bins that it names or that hold units of those items, and of the orders with a line of those items. Of the lots it
 -- has those that the command names and those with units in bins or on stages; others may be among them. For a
 -- shipment, which plans nothing, it has the order with its lines, what is staged of their items, and the stock of the
@@ -149,6 +140,7 @@ pub record IsSlice (first : ℤ) (act : Act) (acts : List Act) (t : Tables) (s :
   pub items_counted : counts_items act.command ≡ true → nat_le ITEMS_MAX s.items ≡ nat_le ITEMS_MAX (length (items acts))
   pub bins_counted : counts_bins act.command ≡ true → nat_le BINS_MAX s.bins ≡ nat_le BINS_MAX (length (bins acts))
   pub items : AreRows same_text (λ r. r.gtin) (λ g. plans act.command && is_touched first act acts g) (is_touched first act acts) t.item s.rows.items
+  pub least : AreRows same_text (λ r. r.gtin) (λ g. plans act.command && is_touched first act acts g) (is_touched first act acts) t.least s.rows.least
   pub lots : AreRows is_lot (λ r. r.lot)
       (λ l. plans act.command && is_touched first act acts l.gtin && (names_lot act.command l || in_bins s.rows l || on_stages s.rows l))
       (λ l. is_touched first act acts l.gtin) t.lot s.rows.lots
@@ -184,6 +176,7 @@ pub record AreOnce (rows : Put) : Type 0 where
   pub shipments : no_two (λ r s. r.number == s.number) rows.shipments ≡ true
   pub shiplines : no_two (λ r s. (r.number == s.number) && is_lot r.lot s.lot) rows.shiplines ≡ true
   pub cards : no_two (λ r s. is_lot r.lot s.lot && (r.act == s.act)) rows.cards ≡ true
+  pub least : no_two (λ r s. same_text r.gtin s.gtin) rows.least ≡ true
 
 -- Decisions
 

@@ -18,8 +18,8 @@ use goods_rules::{
     judge_adjust, judge_bin, judge_count, judge_item, judge_move, judge_receive,
 };
 use lot_rules::{
-    change_day, change_hold, change_recall, change_release, judge_day, judge_hold, judge_recall,
-    judge_release,
+    change_day, change_hold, change_least, change_recall, change_release, judge_day, judge_hold,
+    judge_least, judge_recall, judge_release,
 };
 use order_rules::{
     change_cancel, change_order, change_pick, change_ship, change_unpick, judge_cancel,
@@ -90,6 +90,7 @@ fn judge(slice: &Slice, command: &Command) -> Option<Refusal>
         Command::Release(lot) => judge_release(slice, lot),
         Command::Recall(lot) => judge_recall(slice, lot),
         Command::OpenDay(day) => judge_day(slice, *day),
+        Command::Least(least) => judge_least(slice, least),
     }
 }
 
@@ -113,6 +114,7 @@ fn change(alloc: Global, slice: &Slice, key: &Key, command: &Command) -> Result<
         Command::Release(lot) => change_release(alloc, slice, lot),
         Command::Recall(lot) => change_recall(alloc, slice, lot),
         Command::OpenDay(day) => change_day(alloc, slice, *day),
+        Command::Least(least) => change_least(alloc, slice, least),
     }
 }
 

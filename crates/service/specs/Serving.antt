@@ -6,9 +6,10 @@ use Rattle.sqlite_trees.specs.declared.store.Store.{Ghosts}
 use Rattle.sqlite.specs.Held.{Held, state}
 use Rattle.machine.specs.Acts.{Act}
 use Rattle.machine.specs.Once.{IsHistory}
-use Rattle.table_words.specs.Schema.{schema_0, HasTables}
+use Rattle.table_words.specs.Schema.{schema_0}
 use Rattle.store.specs.Connected.{Connected}
-use Rattle.store.specs.Books.{AreRowsOf, KeepsBooks}
+use Rattle.store.specs.Books.{KeepsBooks}
+use Rattle.store.specs.Opening.{IsOfNone, AreFoundRows}
 use Rattle.house.specs.House.{Run, StepsTo, RunsTo, LeavesBooks}
 use Rattle.command_line.specs.declared.fault.Fault.{Fault}
 use Rattle.command_line.specs.declared.fault.Fault.TheVariants.{Io, Foreign}
@@ -44,18 +45,18 @@ pub record KeepsRun {S : Type 0} (g : Ghosts S) (first : ℤ) (acts : List Act) 
 -- what the work makes of a connection
 abbrev pub IsWorked : {S : Type 0} → Ghosts S → Held S → Work → Held S → Type 0
 IsWorked g old (Make day) new = KeepsBooks day [] (state g new) × IsTrue (state g new).is_open
-IsWorked g old (Serve port max) new = (first : ℤ) (acts : List Act) → IsHistory first acts → AreRowsOf first acts (state g old).committed.trees → KeepsRun g first acts max new
-IsWorked g old (Import file) new = (first : ℤ) (acts : List Act) → IsHistory first acts → AreRowsOf first acts (state g old).committed.trees → KeepsFile g first acts new
-IsWorked g old (Card lot) new = (first : ℤ) (acts : List Act) → IsHistory first acts → AreRowsOf first acts (state g old).committed.trees → KeepsBooks first acts (state g new)
-IsWorked g old (Notice lot) new = (first : ℤ) (acts : List Act) → IsHistory first acts → AreRowsOf first acts (state g old).committed.trees → KeepsBooks first acts (state g new)
+IsWorked g old (Serve port max) new = (first : ℤ) (acts : List Act) → IsHistory first acts → AreFoundRows first acts (state g old).committed.trees → KeepsRun g first acts max new
+IsWorked g old (Import file) new = (first : ℤ) (acts : List Act) → IsHistory first acts → AreFoundRows first acts (state g old).committed.trees → KeepsFile g first acts new
+IsWorked g old (Card lot) new = (first : ℤ) (acts : List Act) → IsHistory first acts → AreFoundRows first acts (state g old).committed.trees → KeepsBooks first acts (state g new)
+IsWorked g old (Notice lot) new = (first : ℤ) (acts : List Act) → IsHistory first acts → AreFoundRows first acts (state g old).committed.trees → KeepsBooks first acts (state g new)
 
 -- when the work is refused, and as what
 abbrev pub IsJudged : {S A : Type 0} → Ghosts S → Held S → Work → Result A Fault → Type 0
 IsJudged g old (Make day) result = old.in_transaction ≡ false → IsErrOf result Foreign ↔ ((state g old).now.schema ≢ schema_0)
-IsJudged g old (Serve port max) result = ¬ HasTables (state g old).now.schema → IsErr result
-IsJudged g old (Import file) result = ¬ HasTables (state g old).now.schema → IsErr result
-IsJudged g old (Card lot) result = ¬ HasTables (state g old).now.schema → IsErr result
-IsJudged g old (Notice lot) result = ¬ HasTables (state g old).now.schema → IsErr result
+IsJudged g old (Serve port max) result = IsOfNone (state g old).now.schema → IsErr result
+IsJudged g old (Import file) result = IsOfNone (state g old).now.schema → IsErr result
+IsJudged g old (Card lot) result = IsOfNone (state g old).now.schema → IsErr result
+IsJudged g old (Notice lot) result = IsOfNone (state g old).now.schema → IsErr result
 
 -- what is printed once the port is listened on
 abbrev pub told_port : ℕ → List ℕ
@@ -71,9 +72,9 @@ IsPortTold port old new (Err fault) = fault ≡ Io
 abbrev pub IsTold : {S : Type 0} → Ghosts S → (List ℕ → Option (List ℕ)) → Held S → Work → (old new : Option (List ℕ)) → Result Unit Fault → Held S → Type 0
 IsTold g files conn (Make day) old new end left = (end ≡ Ok tt) × (new ≡ old)
 IsTold g files conn (Serve port max) old new end left = IsPortTold port old new end
-IsTold {S} g files conn (Import file) old new end left = (first : ℤ) (acts : List Act) → IsHistory first acts → AreRowsOf first acts (state g conn).committed.trees
+IsTold {S} g files conn (Import file) old new end left = (first : ℤ) (acts : List Act) → IsHistory first acts → AreFoundRows first acts (state g conn).committed.trees
     → (books : Connected S) × (left ≡ books.conn) × IsFileImported g first acts (files file.now) end books old new
-IsTold g files conn (Card lot) old new end left = (first : ℤ) (acts : List Act) → IsHistory first acts → AreRowsOf first acts (state g conn).committed.trees
+IsTold g files conn (Card lot) old new end left = (first : ℤ) (acts : List Act) → IsHistory first acts → AreFoundRows first acts (state g conn).committed.trees
     → LeavesSheet g first acts sheet.Card lot old new end left
-IsTold g files conn (Notice lot) old new end left = (first : ℤ) (acts : List Act) → IsHistory first acts → AreRowsOf first acts (state g conn).committed.trees
+IsTold g files conn (Notice lot) old new end left = (first : ℤ) (acts : List Act) → IsHistory first acts → AreFoundRows first acts (state g conn).committed.trees
     → LeavesSheet g first acts sheet.Notice lot old new end left

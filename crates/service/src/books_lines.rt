@@ -2,11 +2,12 @@ ghost use Rattle.std.specs.Prelude.{◌≡◌, ◌≢◌, ◌⊎◌, ◌↔◌, 
 ghost use Rattle.std.specs.Io.KnownBytes.{Appends};
 ghost use Rattle.sqlite.specs.Held.{state};
 ghost use Rattle.sqlite.specs.State.{HasCleanDisk};
-ghost use Rattle.table_words.specs.Schema.{schema_0, HasTables};
+ghost use Rattle.table_words.specs.Schema.{schema_0};
 ghost use Rattle.machine.specs.Acts.{Act};
 ghost use Rattle.machine.specs.Once.{IsHistory};
 ghost use Rattle.store.specs.declared.fault.Fault.TheVariants.{Foreign as ForeignBooks};
-ghost use Rattle.store.specs.Books.{AreRowsOf, KeepsBooks, HoldsBooks, IsClean};
+ghost use Rattle.store.specs.Books.{KeepsBooks, HoldsBooks, IsClean};
+ghost use Rattle.store.specs.Opening.{IsOfNone, AreFoundRows};
 ghost use Rattle.store.specs.Connected.{Connected};
 ghost use Rattle.house.specs.House.{books_of, LeavesBooks};
 ghost use Rattle.service.specs.Serving.{HasServed, KeepsRun, IsWorked, IsJudged, IsTold, IsPortTold, told_port};
@@ -33,10 +34,10 @@ pub type Worked<S> = (Connection<S>, Result<(), Fault>);
 /// Books that were made are empty; books that were served are those of a run over at most as many texts as connections
 /// were to be answered; books into which a file was imported are those after it, or as they were; books of which a text
 /// was printed are as they were. What was printed is the text that the machine shows of the lot or the tally of the file,
-/// and the work is refused exactly where the machine refuses. Where the books cannot be made or opened, nothing is
-/// printed, the connection is dropped and the error is `Foreign` for other tables and else `Store`, also for a connection
-/// within a transaction. A port that cannot be had, a file that cannot be opened and output that cannot be written are
-/// `Io` beside the connection.
+/// and the work is refused exactly where the machine refuses. Books of schema 1 are brought up as they are opened. Where
+/// the books cannot be made or opened, nothing is printed, the connection is dropped and the error is `Foreign` for other
+/// tables and else `Store`, also for a connection within a transaction. A port that cannot be had, a file that cannot be
+/// opened and output that cannot be written are `Io` beside the connection.
 pub fn worked<S: Alter + Drop, F: FilesAt, W: Write>(
     rt: &HostRuntime,
     files: &F,
@@ -92,9 +93,9 @@ fn served<S: Alter + Drop, W: Write>(
 ) -> Result<Worked<S>, Fault>
     ensures clean { IfOk result (λ w. HasCleanDisk (state S.Store w.0) → HasCleanDisk (state S.Store conn)) }
     ensures served { IfOk result (λ w. HasCleanDisk (state S.Store w.0) → (first : ℤ) (acts : List Act) → IsHistory first acts
-        → AreRowsOf first acts (state S.Store conn).committed.trees → KeepsRun S.Store first acts max w.0) }
+        → AreFoundRows first acts (state S.Store conn).committed.trees → KeepsRun S.Store first acts max w.0) }
     ensures told { IfOk result (λ w. HasCleanDisk (state S.Store w.0) → IsPortTold port (W.contents out.old) (W.contents out.new) w.1) }
-    ensures other { ¬ HasTables (state S.Store conn).now.schema → IsErr result }
+    ensures other { IsOfNone (state S.Store conn).now.schema → IsErr result }
     ensures within { conn.in_transaction ≡ true → IsErrOf result Fault.Store }
     ensures fault { IfErr result (λ fault. (fault ≡ Fault.Store) ⊎ (fault ≡ Fault.Foreign)) }
 {
@@ -131,11 +132,11 @@ fn imported<S: Alter + Drop, F: FilesAt, W: Write>(
 ) -> Result<Worked<S>, Fault>
     ensures clean { IfOk result (λ w. HasCleanDisk (state S.Store w.0) → HasCleanDisk (state S.Store conn)) }
     ensures imported { IfOk result (λ w. HasCleanDisk (state S.Store w.0) → (first : ℤ) (acts : List Act) → IsHistory first acts
-        → AreRowsOf first acts (state S.Store conn).committed.trees → KeepsFile S.Store first acts w.0) }
+        → AreFoundRows first acts (state S.Store conn).committed.trees → KeepsFile S.Store first acts w.0) }
     ensures told { IfOk result (λ w. HasCleanDisk (state S.Store w.0) → (first : ℤ) (acts : List Act) → IsHistory first acts
-        → AreRowsOf first acts (state S.Store conn).committed.trees → (books : Connected S) × (w.0 ≡ books.conn)
+        → AreFoundRows first acts (state S.Store conn).committed.trees → (books : Connected S) × (w.0 ≡ books.conn)
         × IsFileImported S.Store first acts (F.bytes files.now name.now) w.1 books (W.contents out.old) (W.contents out.new)) }
-    ensures other { ¬ HasTables (state S.Store conn).now.schema → IsErr result }
+    ensures other { IsOfNone (state S.Store conn).now.schema → IsErr result }
     ensures within { conn.in_transaction ≡ true → IsErrOf result Fault.Store }
     ensures fault { IfErr result (λ fault. (fault ≡ Fault.Store) ⊎ (fault ≡ Fault.Foreign)) }
 {
@@ -182,10 +183,10 @@ fn printed<S: Alter + Drop, W: Write>(
 ) -> Result<Worked<S>, Fault>
     ensures clean { IfOk result (λ w. HasCleanDisk (state S.Store w.0) → HasCleanDisk (state S.Store conn)) }
     ensures printed { IfOk result (λ w. HasCleanDisk (state S.Store w.0) → (first : ℤ) (acts : List Act) → IsHistory first acts
-        → AreRowsOf first acts (state S.Store conn).committed.trees → KeepsBooks first acts (state S.Store w.0)) }
+        → AreFoundRows first acts (state S.Store conn).committed.trees → KeepsBooks first acts (state S.Store w.0)) }
     ensures told { IfOk result (λ w. HasCleanDisk (state S.Store w.0) → (first : ℤ) (acts : List Act) → IsHistory first acts
-        → AreRowsOf first acts (state S.Store conn).committed.trees → LeavesSheet S.Store first acts sheet lot.now (W.contents out.old) (W.contents out.new) w.1 w.0) }
-    ensures other { ¬ HasTables (state S.Store conn).now.schema → IsErr result }
+        → AreFoundRows first acts (state S.Store conn).committed.trees → LeavesSheet S.Store first acts sheet lot.now (W.contents out.old) (W.contents out.new) w.1 w.0) }
+    ensures other { IsOfNone (state S.Store conn).now.schema → IsErr result }
     ensures within { conn.in_transaction ≡ true → IsErrOf result Fault.Store }
     ensures fault { IfErr result (λ fault. (fault ≡ Fault.Store) ⊎ (fault ≡ Fault.Foreign)) }
 {
@@ -231,8 +232,8 @@ fn print_sheet<S: Alter, W: Write>(
 fn opened<S: Alter + Drop>(alloc: Global, conn: Connection<S>) -> Result<Books<S>, Fault>
     ensures clean { IfOk result (λ b. IsClean S.Store b → HasCleanDisk (state S.Store conn)) }
     ensures books { IfOk result (λ b. IsClean S.Store b → (first : ℤ) (acts : List Act) → IsHistory first acts
-        → AreRowsOf first acts (state S.Store conn).committed.trees → HoldsBooks S.Store first acts b × LeavesBooks first acts [] (state S.Store b.conn)) }
-    ensures other { ¬ HasTables (state S.Store conn).now.schema → IsErr result }
+        → AreFoundRows first acts (state S.Store conn).committed.trees → HoldsBooks S.Store first acts b × LeavesBooks first acts [] (state S.Store b.conn)) }
+    ensures other { IsOfNone (state S.Store conn).now.schema → IsErr result }
     ensures within { conn.in_transaction ≡ true → IsErrOf result Fault.Store }
     ensures fault { IfErr result (λ fault. (fault ≡ Fault.Store) ⊎ (fault ≡ Fault.Foreign)) }
 {

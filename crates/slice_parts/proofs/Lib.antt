@@ -1,3 +1,4 @@
 pub mod KeysOnce
 pub mod KeysSeen
+pub mod EndingGiven
 pub mod NamesOnce

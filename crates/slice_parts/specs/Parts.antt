@@ -1,5 +1,5 @@
 -- What slices are made of besides the tables: the names in a command, and which rows count.
-use Rattle.std.specs.Prelude.{ℕ, ℤ, Bool, true, false, not, ◌&&◌, if◌then◌else◌, List, [], ◌∷◌, ◌++◌, filter, Option, Some, None, option_map}
+use Rattle.std.specs.Prelude.{ℕ, ℤ, Bool, not, ◌&&◌, if◌then◌else◌, List, [], ◌∷◌, ◌++◌, filter, Option, Some, None, option_map}
 use Rattle.std.specs.Option.{option_to_list}
 use Rattle.std.specs.List.{list_any}
 use Rattle.values.specs.Values.{same_text}
@@ -7,8 +7,8 @@ use Rattle.values.specs.declared.lot.LotId.{LotId}
 use Rattle.commands.specs.declared.command.Command.{Command}
 use Rattle.commands.specs.declared.names.NamedOrder.{NamedOrder}
 use Rattle.commands.specs.declared.names.OrderStep.{OrderStep}
-use Rattle.commands.specs.declared.names.OrderStep.TheVariants.{Cancelled, Picked, Shipped}
-use Rattle.commands.specs.Names.{names_of}
+use Rattle.commands.specs.Names.{names_of, is_cancelled, is_picked, is_shipped}
+use Rattle.commands.specs.declared.rows.LeastRow.{LeastRow}
 use Rattle.commands.specs.declared.rows.LotRow.{LotRow}
 use Rattle.commands.specs.declared.rows.RecallRow.{RecallRow}
 use Rattle.commands.specs.declared.rows.StockRow.{StockRow}
@@ -17,7 +17,7 @@ use Rattle.commands.specs.declared.rows.LineRow.{LineRow}
 use Rattle.commands.specs.declared.rows.StagedRow.{StagedRow}
 use Rattle.machine.specs.Postings.{is_lot}
 use Rattle.row_rules.specs.Seen.{has_recall}
-use Rattle.row_rules.specs.Status.{may_ship}
+use Rattle.row_rules.specs.Status.{may_ship, earliest_seen}
 use Rattle.slice_parts.specs.Keys.{with_keys}
 
 -- Names
@@ -52,18 +52,6 @@ lots_named command = option_to_list (names_of command).lot
 
 abbrev pub orders_named : Command → List (List ℕ)
 orders_named command = option_to_list (option_map (λ n. n.order) (names_of command).order)
-
-abbrev pub is_cancelled : OrderStep → Bool
-is_cancelled Cancelled = true
-is_cancelled _ = false
-
-abbrev pub is_picked : OrderStep → Bool
-is_picked Picked = true
-is_picked _ = false
-
-abbrev pub is_shipped : OrderStep → Bool
-is_shipped Shipped = true
-is_shipped _ = false
 
 -- the order that is named, where this is done with it
 abbrev pub order_where : (OrderStep → Bool) → Option NamedOrder → Option (List ℕ)
@@ -110,8 +98,8 @@ lots_on_stage order staged_rows = with_keys is_lot (λ r. r.lot) (filter (λ r. 
 -- Openings of a day
 
 -- a lot that may be shipped on the old day and no more on the new one, its recalls aside
-abbrev pub is_ending : ℤ → ℤ → LotRow → Bool
-is_ending old new r = may_ship old [] r && not (may_ship new [] r)
+abbrev pub is_ending : ℤ → ℤ → List LeastRow → LotRow → Bool
+is_ending old new least r = may_ship (earliest_seen old least r.lot.gtin) [] r && not (may_ship (earliest_seen new least r.lot.gtin) [] r)
 
 abbrev pub not_recalled : List RecallRow → List LotRow → List LotRow
 not_recalled recall_rows lot_rows = filter (λ r. not (has_recall recall_rows r.lot)) lot_rows

@@ -9,7 +9,7 @@ use Rattle.commands.specs.declared.key.Key.{Key}
 use Rattle.commands.specs.declared.command.Command.TheVariants.{Ship}
 use Rattle.commands.specs.declared.rows.LineRow.{LineRow}
 use Rattle.commands.specs.declared.rows.StagedRow.{StagedRow}
-use Rattle.table_words.specs.Typed.{ItemKey, same_item, item_key, BinKey, same_bin, bin_key, LotKey, same_lot, lot_key, RecallKey, same_recall, recall_key, StockKey, same_stock, stock_key, StagedKey, same_staged, staged_key, ReservedKey, same_reserved, reserved_key, OrderKey, same_order, order_key, LineKey, same_line, line_key}
+use Rattle.table_words.specs.Typed.{ItemKey, same_item, item_key, LeastKey, same_least, least_key, BinKey, same_bin, bin_key, LotKey, same_lot, lot_key, RecallKey, same_recall, recall_key, StockKey, same_stock, stock_key, StagedKey, same_staged, staged_key, ReservedKey, same_reserved, reserved_key, OrderKey, same_order, order_key, LineKey, same_line, line_key}
 use Rattle.machine.specs.Acts.{Act}
 use Rattle.machine.specs.Postings.{is_lot}
 use Rattle.machine.specs.Standing.{has_line}
@@ -75,6 +75,7 @@ module _ (first : ℤ) (acts : List Act) (key : Key) (order : List ℕ) (s : Sli
     items_counted = λ e. absurd (let no : false ≡ true = e in cc);
     bins_counted = λ e. absurd (let no : false ≡ true = e in cc);
     items = no_rows {K = ItemKey} same_item item_key (λ g. false) touched t.item s.rows.items are.no_items none;
+    least = no_rows {K = LeastKey} same_least least_key (λ g. false) touched t.least s.rows.least are.no_least none;
     lots = no_rows {K = LotKey} same_lot lot_key (λ l. false) (λ l. touched l.gtin) t.lot s.rows.lots are.no_lots none;
     recalls = no_rows {K = RecallKey} same_recall recall_key (λ l. false) (λ l. touched l.gtin) t.recall s.rows.recalls are.no_recalls none;
     stock = rows_as {K = StockKey} same_stock stock_key same_cell_is same_cell_refl (λ k. has_key is_lot lots k.0) (λ k. has_key is_lot lots k.0) (λ k. touched k.0.gtin && on_named_stage (Ship order) s.rows k.0) (λ k. touched k.0.gtin) (λ k. t.stock k.0 k.1) s.rows.stock

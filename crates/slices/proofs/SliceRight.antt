@@ -13,14 +13,14 @@ use Rattle.commands.specs.declared.command.NewItem.{NewItem}
 use Rattle.commands.specs.declared.command.NewBin.{NewBin}
 use Rattle.commands.specs.declared.command.OrderLine.{OrderLine}
 use Rattle.commands.specs.declared.command.Command.{Command}
-use Rattle.commands.specs.declared.command.Command.TheVariants.{Item, Bin, Receive, Move, Count, Adjust, Order, Cancel, Pick, Unpick, Ship, Hold, Release, Recall, OpenDay}
+use Rattle.commands.specs.declared.command.Command.TheVariants.{Item, Bin, Receive, Move, Count, Adjust, Order, Cancel, Pick, Unpick, Ship, Hold, Release, Recall, OpenDay, Least}
 use Rattle.commands.specs.declared.rows.ItemRow.{ItemRow}
 use Rattle.commands.specs.declared.rows.BinRow.{BinRow}
 use Rattle.commands.specs.declared.rows.StockRow.{StockRow}
 use Rattle.commands.specs.declared.rows.LineRow.{LineRow}
 use Rattle.commands.specs.declared.rows.StagedRow.{StagedRow}
 use Rattle.commands.specs.declared.rows.OrderState.TheVariants.{Open, Done, Cancelled}
-use Rattle.table_words.specs.Typed.{ItemKey, same_item, item_key, BinKey, same_bin, bin_key, LotKey, same_lot, lot_key, RecallKey, same_recall, recall_key, StockKey, same_stock, stock_key, StagedKey, same_staged, staged_key, OrderKey, same_order, order_key, LineKey, same_line, line_key, is_open_order}
+use Rattle.table_words.specs.Typed.{ItemKey, same_item, item_key, LeastKey, same_least, least_key, BinKey, same_bin, bin_key, LotKey, same_lot, lot_key, RecallKey, same_recall, recall_key, StockKey, same_stock, stock_key, StagedKey, same_staged, staged_key, OrderKey, same_order, order_key, LineKey, same_line, line_key, is_open_order}
 use Rattle.machine.specs.Acts.{Act, next_number}
 use Rattle.machine.specs.Standing.{items, item_in, bins, Placed, orders, order_named, lines_of, lines_placed, is_cancelled}
 use Rattle.machine.specs.Planning.{order_state, is_open_state, is_open, shipped_of}
@@ -93,6 +93,7 @@ named_told first act acts (Hold l) e f lines none x = named_only x lines (is_amo
 named_told first act acts (Release l) e f lines none x = named_only x lines (is_among (l.gtin ∷ []) x) none ∙ or_false (same_text x l.gtin)
 named_told first act acts (Recall l) e f lines none x = named_only x lines (is_among (l.gtin ∷ []) x) none ∙ or_false (same_text x l.gtin)
 named_told first act acts (OpenDay day) e f lines none x = absurd cc
+named_told first act acts (Least l) e f lines none x = named_only x lines (is_among (l.gtin ∷ []) x) none ∙ or_false (same_text x l.gtin)
 
 taken_told : (first : ℤ) (act : Act) (acts : List Act) (command : Command) → (names_of command).day ≡ None → order_shipped command ≡ None → (gtins : List (List ℕ)) → AreTaken command (tables_of first acts) gtins → (x : List ℕ) → is_among gtins x ≡ touches first act acts command x
 taken_told first act acts command e f gtins are x =
@@ -308,6 +309,8 @@ module _ (first : ℤ) (acts : List Act) where
         bins_counted = counted_bins;
         items = rows_as {K = ItemKey} same_item item_key same_text_is same_text_refl touched touched (λ g. plans command && touched g) touched t.item s.rows.items (λ g e. both (plans command) (touched g) e) (λ g e. e)
             (sought {K = ItemKey} same_item item_key same_text_is same_text_refl (λ k. k) t.item gtins touched s.rows.items once told rows.units.goods.items);
+        least = rows_as {K = LeastKey} same_least least_key same_text_is same_text_refl touched touched (λ g. plans command && touched g) touched t.least s.rows.least (λ g e. both (plans command) (touched g) e) (λ g e. e)
+            (sought {K = LeastKey} same_least least_key same_text_is same_text_refl (λ k. k) t.least gtins touched s.rows.least once told rows.units.goods.least);
         lots = rows_as {K = LotKey} same_lot lot_key is_lot_is is_lot_refl (has_key is_lot held) (has_key is_lot held)
             (λ l. (plans command && touched l.gtin) && ((names_lot command l || in_bins s.rows l) || on_stages s.rows l)) (λ l. touched l.gtin) t.lot s.rows.lots
             (λ l e. held_told l ∙ both (plans command && touched l.gtin) ((names_lot command l || in_bins s.rows l) || on_stages s.rows l) e) held_touched

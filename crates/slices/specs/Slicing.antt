@@ -7,6 +7,7 @@ use Rattle.commands.specs.declared.command.Command.{Command}
 use Rattle.commands.specs.declared.limits.TheConstants.{ITEMS_MAX, BINS_MAX}
 use Rattle.commands.specs.declared.rows.MetaRow.{MetaRow}
 use Rattle.commands.specs.declared.rows.ItemRow.{ItemRow}
+use Rattle.commands.specs.declared.rows.LeastRow.{LeastRow}
 use Rattle.commands.specs.declared.rows.BinRow.{BinRow}
 use Rattle.commands.specs.declared.rows.LotRow.{LotRow}
 use Rattle.commands.specs.declared.rows.RecallRow.{RecallRow}
@@ -16,7 +17,7 @@ use Rattle.commands.specs.declared.rows.LineRow.{LineRow}
 use Rattle.commands.specs.declared.rows.StagedRow.{StagedRow}
 use Rattle.commands.specs.declared.rows.ReservedRow.{ReservedRow}
 use Rattle.table_words.specs.Found.{AreRows, only_if}
-use Rattle.table_words.specs.Typed.{ItemKey, same_item, item_key, BinKey, same_bin, bin_key, LotKey, same_lot, lot_key, RecallKey, same_recall, recall_key, StockKey, same_stock, stock_key, OrderKey, same_order, order_key, is_open_order, LineKey, same_line, line_key, StagedKey, same_staged, staged_key, ReservedKey, same_reserved, reserved_key}
+use Rattle.table_words.specs.Typed.{ItemKey, same_item, item_key, LeastKey, same_least, least_key, BinKey, same_bin, bin_key, LotKey, same_lot, lot_key, RecallKey, same_recall, recall_key, StockKey, same_stock, stock_key, OrderKey, same_order, order_key, is_open_order, LineKey, same_line, line_key, StagedKey, same_staged, staged_key, ReservedKey, same_reserved, reserved_key}
 use Rattle.open_lines.specs.OpenLines.{Entries, orders_at, holds, are_apart, Gains, has_line_row}
 use Rattle.rules.specs.Slices.{counts_items, counts_bins}
 use Rattle.row_rules.specs.declared.slice.Rows.{Rows}
@@ -46,9 +47,14 @@ abbrev pub listed : {R : Type 0} → Option R → List R
 listed None = []
 listed (Some r) = r ∷ []
 
--- of the items their own rows, their recalls and their stock: each item's in turn
-pub record AreGoods (gtins : List (List ℕ)) (t : Tables) (item_rows : List ItemRow) (recall_rows : List RecallRow) (stock_rows : List StockRow) : Type 0 where
+-- what items ask for, one item after another
+abbrev pub AreLeast : List (List ℕ) → Tables → List LeastRow → Type 0
+AreLeast gtins t least_rows = Each (λ g found. AreRows {K = LeastKey} same_least least_key (λ k. same_text g k) t.least found) gtins least_rows
+
+-- of the items their own rows, what they ask for, their recalls and their stock: each item's in turn
+pub record AreGoods (gtins : List (List ℕ)) (t : Tables) (item_rows : List ItemRow) (least_rows : List LeastRow) (recall_rows : List RecallRow) (stock_rows : List StockRow) : Type 0 where
   pub items : Each (λ g found. AreRows {K = ItemKey} same_item item_key (λ k. same_text g k) t.item found) gtins item_rows
+  pub least : AreLeast gtins t least_rows
   pub recalls : Each (λ g found. AreRows {K = RecallKey} same_recall recall_key (λ k. same_text g k.gtin) t.recall found) gtins recall_rows
   pub stock : Each (λ g found. AreRows {K = StockKey} same_stock stock_key (λ k. same_text g k.0.gtin) (λ k. t.stock k.0 k.1) found) gtins stock_rows
 
@@ -66,8 +72,8 @@ pub record AreShares (command : Command) (gtins : List (List ℕ)) (t : Tables) 
   pub reserved : AreReservedOn (order_picked command) t reserved_rows
 
 -- those of the items, these, and the rows of the lots that the command names or that have units
-pub record AreUnits (command : Command) (gtins : List (List ℕ)) (t : Tables) (item_rows : List ItemRow) (lot_rows : List LotRow) (recall_rows : List RecallRow) (stock_rows : List StockRow) (staged_rows : List StagedRow) (reserved_rows : List ReservedRow) : Type 0 where
-  pub goods : AreGoods gtins t item_rows recall_rows stock_rows
+pub record AreUnits (command : Command) (gtins : List (List ℕ)) (t : Tables) (item_rows : List ItemRow) (least_rows : List LeastRow) (lot_rows : List LotRow) (recall_rows : List RecallRow) (stock_rows : List StockRow) (staged_rows : List StagedRow) (reserved_rows : List ReservedRow) : Type 0 where
+  pub goods : AreGoods gtins t item_rows least_rows recall_rows stock_rows
   pub shares : AreShares command gtins t staged_rows reserved_rows
   pub lots : AreLotsOf (held_lots command stock_rows staged_rows) t lot_rows
 
@@ -146,13 +152,15 @@ pub record AreKnownOrders (known : Entries) (named gtins : List (List ℕ)) (t :
 
 -- Openings of a day
 
--- of all lots those that end between the days and are not among the recalls of their items
+-- of all lots those that end between the days, by what their items ask for, and are not among the recalls of their items
 pub record AreEnding (old new : ℤ) (t : Tables) (lot_rows : List LotRow) : Type 0 where
   pub all : List LotRow
   pub read : AreRows {K = LotKey} same_lot lot_key (λ key. true) t.lot all
+  pub least : List LeastRow
+  pub least_read : AreRows {K = LeastKey} same_least least_key (λ key. true) t.least least
   pub recalls : List RecallRow
-  pub recalls_read : Each (λ g found. AreRows {K = RecallKey} same_recall recall_key (λ k. same_text g k.gtin) t.recall found) (items_of_lots (filter (is_ending old new) all)) recalls
-  pub lots : lot_rows ≡ not_recalled recalls (filter (is_ending old new) all)
+  pub recalls_read : Each (λ g found. AreRows {K = RecallKey} same_recall recall_key (λ k. same_text g k.gtin) t.recall found) (items_of_lots (filter (is_ending old new least) all)) recalls
+  pub lots : lot_rows ≡ not_recalled recalls (filter (is_ending old new least) all)
 
 -- the items that the opening of the day touches: those of such lots, and those with staged units
 pub record AreAffected (day : ℤ) (t : Tables) (gtins : List (List ℕ)) : Type 0 where
@@ -222,7 +230,7 @@ AreTouched command = AreTouchedOn (names_of command).day command
 pub record ArePlanned (known : Entries) (command : Command) (t : Tables) (rows : Rows) : Type 0 where
   pub gtins : List (List ℕ)
   pub touched : AreTouched command t gtins
-  pub units : AreUnits command gtins t rows.items rows.lots rows.recalls rows.stock rows.staged rows.reserved
+  pub units : AreUnits command gtins t rows.items rows.least rows.lots rows.recalls rows.stock rows.staged rows.reserved
   pub bins : AreBins (with_names (λ r. r.bin) rows.stock (bins_named command)) t rows.bins
   pub ordered : AreKnownOrders known (orders_named command) gtins t rows.orders rows.lines
 
@@ -237,6 +245,7 @@ pub record AreShipped (order : List ℕ) (t : Tables) (rows : Rows) : Type 0 whe
   pub no_lots : rows.lots ≡ []
   pub no_recalls : rows.recalls ≡ []
   pub no_reserved : rows.reserved ≡ []
+  pub no_least : rows.least ≡ []
 
 -- the rows that the command asks for, by the order that it ships
 abbrev pub AreSlicedOn : Option (List ℕ) → Entries → Command → Tables → Rows → Type 0

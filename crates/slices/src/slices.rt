@@ -26,11 +26,12 @@ use crate::reading::{meta_row, told_bins, told_items};
 use crate::shipments::read_shipment;
 use crate::sought::{seek_all, seek_both};
 use commands::{
-    Added, BinRow, Command, ItemRow, LineRow, Listed, LotRow, MetaRow, OrderRow, RecallRow,
-    ReservedRow, StagedRow, StockRow,
+    Added, BinRow, Command, ItemRow, LeastRow, LineRow, Listed, LotRow, MetaRow, OrderRow,
+    RecallRow, ReservedRow, StagedRow, StockRow,
 };
 use goods_tables::bins::Bins;
 use goods_tables::items::Items;
+use goods_tables::least::Least;
 use goods_tables::lots::Lots;
 use goods_tables::recalls::Recalls;
 use goods_tables::stock::Stock;
@@ -75,18 +76,34 @@ fn touched_items<S: Alter>(
     }
 }
 
-/// Of the items their own rows, their recalls and their stock.
+/// Rows of goods.
+#[derive(Drop)]
+struct Goods {
+    items: Vec<ItemRow>,
+    least: Vec<LeastRow>,
+    lots: Vec<LotRow>,
+    recalls: Vec<RecallRow>,
+    stock: Vec<StockRow>,
+}
+
+/// Of the items their own rows, what they ask for, their recalls and their stock.
 fn read_goods<S: Alter>(
     alloc: Global,
     tx: &mut Transaction<'_, S>,
     gtins: &[Gtin],
-) -> Result<(Vec<ItemRow>, Vec<RecallRow>, Vec<StockRow>), TableFault>
+) -> Result<
+    (
+        (Vec<ItemRow>, Vec<LeastRow>),
+        (Vec<RecallRow>, Vec<StockRow>),
+    ),
+    TableFault,
+>
     ensures same_reference { tx.new.conn.ghost_name ≡ tx.old.conn.ghost_name }
-    ensures read { IsRead (λ t rows. AreGoods gtins.now t rows.0.items rows.1.items rows.2.items) (state S.Store tx.old.conn.now) (state S.Store tx.new.conn.now) result }
+    ensures read { IsRead (λ t rows. AreGoods gtins.now t rows.0.0.items rows.0.1.items rows.1.0.items rows.1.1.items) (state S.Store tx.old.conn.now) (state S.Store tx.new.conn.now) result }
 {
-    let items = seek_all::<Items, Gtin, S>(alloc, tx, gtins)?;
-    let (recalls, stock) = seek_both::<Gtin, Recalls, Stock, S>(alloc, tx, gtins)?;
-    Ok((items, recalls, stock))
+    let items = seek_both::<Gtin, Items, Least, S>(alloc, tx, gtins)?;
+    let units = seek_both::<Gtin, Recalls, Stock, S>(alloc, tx, gtins)?;
+    Ok((items, units))
 }
 
 /// What is staged and what is reserved of the items.
@@ -138,52 +155,54 @@ fn read_units<S: Alter>(
     tx: &mut Transaction<'_, S>,
     command: &Command,
     gtins: &[Gtin],
-) -> Result<
-    (
-        (Vec<ItemRow>, Vec<LotRow>, Vec<RecallRow>, Vec<StockRow>),
-        (Vec<StagedRow>, Vec<ReservedRow>),
-    ),
-    TableFault,
->
+) -> Result<(Goods, (Vec<StagedRow>, Vec<ReservedRow>)), TableFault>
     ensures same_reference { tx.new.conn.ghost_name ≡ tx.old.conn.ghost_name }
-    ensures read { IsRead (λ t rows. AreUnits command.now gtins.now t rows.0.0.items rows.0.1.items rows.0.2.items rows.0.3.items rows.1.0.items rows.1.1.items) (state S.Store tx.old.conn.now) (state S.Store tx.new.conn.now) result }
+    ensures read { IsRead (λ t rows. AreUnits command.now gtins.now t rows.0.items.items rows.0.least.items rows.0.lots.items rows.0.recalls.items rows.0.stock.items rows.1.0.items rows.1.1.items) (state S.Store tx.old.conn.now) (state S.Store tx.new.conn.now) result }
 {
-    let (items, recalls, stock) = read_goods(alloc, tx, gtins)?;
+    let ((items, least), (recalls, stock)) = read_goods(alloc, tx, gtins)?;
     let shares = read_shares(alloc, tx, command, gtins)?;
     let lots = read_lots(alloc, tx, command, stock.as_slice(), shares.0.as_slice())?;
-    Ok(((items, lots, recalls, stock), shares))
+    let goods = Goods {
+        items,
+        least,
+        lots,
+        recalls,
+        stock,
+    };
+    Ok((goods, shares))
 }
 
 /// The rows that were read, together.
 fn rows_read(
-    goods: (Vec<ItemRow>, Vec<LotRow>, Vec<RecallRow>, Vec<StockRow>),
+    goods: Goods,
     bins: Vec<BinRow>,
     ordered: (Vec<OrderRow>, Vec<LineRow>),
     shares: (Vec<StagedRow>, Vec<ReservedRow>),
 ) -> Rows
-    ensures same_items { result.items ≡ goods.0.items }
+    ensures same_items { result.items ≡ goods.items.items }
     ensures same_bins { result.bins ≡ bins.items }
-    ensures same_lots { result.lots ≡ goods.1.items }
-    ensures same_recalls { result.recalls ≡ goods.2.items }
-    ensures same_stock { result.stock ≡ goods.3.items }
+    ensures same_lots { result.lots ≡ goods.lots.items }
+    ensures same_recalls { result.recalls ≡ goods.recalls.items }
+    ensures same_stock { result.stock ≡ goods.stock.items }
     ensures same_orders { result.orders ≡ ordered.0.items }
     ensures same_lines { result.lines ≡ ordered.1.items }
     ensures same_staged { result.staged ≡ shares.0.items }
     ensures same_reserved { result.reserved ≡ shares.1.items }
+    ensures same_least { result.least ≡ goods.least.items }
 {
-    let (items, lots, recalls, stock) = goods;
     let (orders, lines) = ordered;
     let (staged, reserved) = shares;
     Rows {
-        items: Listed::from_vec(items),
+        items: Listed::from_vec(goods.items),
         bins: Listed::from_vec(bins),
-        lots: Listed::from_vec(lots),
-        recalls: Listed::from_vec(recalls),
-        stock: Listed::from_vec(stock),
+        lots: Listed::from_vec(goods.lots),
+        recalls: Listed::from_vec(goods.recalls),
+        stock: Listed::from_vec(goods.stock),
         orders: Listed::from_vec(orders),
         lines: Listed::from_vec(lines),
         staged: Listed::from_vec(staged),
         reserved: Listed::from_vec(reserved),
+        least: Listed::from_vec(goods.least),
     }
 }
 
@@ -238,7 +257,7 @@ fn read_planned<S: Alter>(
     let gtins = touched_items(alloc, tx, command)?;
     let named = named_orders(alloc, command)?;
     let (goods, shares) = read_units(alloc, tx, command, gtins.as_slice())?;
-    let bins = read_bins(alloc, tx, command, goods.3.as_slice())?;
+    let bins = read_bins(alloc, tx, command, goods.stock.as_slice())?;
     let ordered = read_known_orders(alloc, tx, known, named.as_slice(), gtins.as_slice())?;
     Ok(rows_read(goods, bins, ordered, shares))
 }

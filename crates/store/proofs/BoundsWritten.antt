@@ -6,7 +6,7 @@ use Rattle.commands.specs.Tables.{Tables}
 use Rattle.commands.specs.declared.rows.ItemRow.{ItemRow}
 use Rattle.commands.specs.declared.rows.BinRow.{BinRow}
 use Rattle.commands.specs.declared.rows.RepeatRow.{RepeatRow}
-use Rattle.table_words.specs.Typed.{item_key, bin_key, with_item, with_bin, with_lot, with_recall, with_stock, without_stock, with_order, with_line, with_staged, without_staged, with_reserved, without_reserved, with_shipment, with_shipline, with_card, with_repeat}
+use Rattle.table_words.specs.Typed.{item_key, bin_key, with_item, with_least, with_bin, with_lot, with_recall, with_stock, without_stock, with_order, with_line, with_staged, without_staged, with_reserved, without_reserved, with_shipment, with_shipline, with_card, with_repeat}
 use Rattle.machine.proofs.Tests.{or_first, or_later}
 use Rattle.row_rules.specs.declared.slice.Put.{Put}
 use Rattle.row_rules.specs.declared.slice.Change.{Change}
@@ -92,18 +92,21 @@ module _ (c : Change) (row : RepeatRow) (t : Tables) where
   abbrev with_items : Tables
   with_items = each_written with_item c.put.items t
 
+  abbrev asked : Tables
+  asked = each_written with_least c.put.least with_items
+
   pub bounds_written : (old new : Bounds) → IsRaised c.put old new → AreBounds old t → AreBounds new (with_repeat row (change_written c t))
   bounds_written old new raised bounds = record {
     items = λ less.
         let e = raised.items less in
-        let rows_are : (with_repeat row (change_written c t)).item ≡ with_items.item = ap (λ (x : Named). x.0) change_spares ∙ rows_spare (λ u. u.item) with_bin (λ r u. refl) c.put.bins with_items in
+        let rows_are : (with_repeat row (change_written c t)).item ≡ with_items.item = ap (λ (x : Named). x.0) change_spares ∙ rows_spare (λ u. u.item) with_bin (λ r u. refl) c.put.bins asked ∙ rows_spare (λ u. u.item) with_least (λ r u. refl) c.put.least with_items in
         subst (λ (f : List ℕ → Option ItemRow). IsAtMost f new.items) (sym rows_are)
         (subst (λ (m : ℕ). IsAtMost with_items.item m) (sym e) (rows_put item_key (λ u. u.item) with_item (λ r u. refl) c.put.items t old.items (bounds.items (omega (arith, less, e)))));
     bins = λ less.
         let e = raised.bins less in
         let rows_are : (with_repeat row (change_written c t)).bin ≡ (names_written c.put t).bin = ap (λ (x : Named). x.1) change_spares in
-        let before : with_items.bin ≡ t.bin = rows_spare (λ u. u.bin) with_item (λ r u. refl) c.put.items t in
-        let most : IsAtMost with_items.bin old.bins = subst (λ (f : List ℕ → Option BinRow). IsAtMost f old.bins) (sym before) (bounds.bins (omega (arith, less, e))) in
+        let before : asked.bin ≡ t.bin = rows_spare (λ u. u.bin) with_least (λ r u. refl) c.put.least with_items ∙ rows_spare (λ u. u.bin) with_item (λ r u. refl) c.put.items t in
+        let most : IsAtMost asked.bin old.bins = subst (λ (f : List ℕ → Option BinRow). IsAtMost f old.bins) (sym before) (bounds.bins (omega (arith, less, e))) in
         subst (λ (f : List ℕ → Option BinRow). IsAtMost f new.bins) (sym rows_are)
-        (subst (λ (m : ℕ). IsAtMost (names_written c.put t).bin m) (sym e) (rows_put bin_key (λ u. u.bin) with_bin (λ r u. refl) c.put.bins with_items old.bins most));
+        (subst (λ (m : ℕ). IsAtMost (names_written c.put t).bin m) (sym e) (rows_put bin_key (λ u. u.bin) with_bin (λ r u. refl) c.put.bins asked old.bins most));
   }

@@ -10,7 +10,7 @@ use Rattle.sqlite_trees.specs.Tree.{IsAscending}
 use Rattle.sqlite_keyed.proofs.ListLemmas.{all-append, all_weaker, ascending-append}
 use Rattle.values.specs.declared.lot.LotId.{LotId}
 use Rattle.commands.specs.declared.command.Command.{Command}
-use Rattle.commands.specs.declared.command.Command.TheVariants.{Receive, Move, Count, Adjust, Pick, Unpick, Ship, Hold, Recall, OpenDay}
+use Rattle.commands.specs.declared.command.Command.TheVariants.{Receive, Move, Count, Adjust, Pick, Unpick, Ship, Hold, Recall, OpenDay, Least}
 use Rattle.commands.specs.declared.rows.CardKind.{CardKind}
 use Rattle.commands.specs.declared.rows.CardKind.TheVariants.{Receipt, WriteOn, WriteOff as WrittenOff, Shipment}
 use Rattle.commands.specs.declared.rows.CardRow.{CardRow}
@@ -166,6 +166,7 @@ module _ (first : ℤ) (act : Act) (before : List Act) (l : LotId) where
   one_line ps (Hold m) = inl (none_back (made_unshippable first act before) ps)
   one_line ps (Recall m) = inl (none_back (made_unshippable first act before) ps)
   one_line ps (OpenDay day) = inl (none_back (made_unshippable first act before) ps)
+  one_line ps (Least asked) = inl (none_back (made_unshippable first act before) ps)
   one_line ps _ = inl refl
 
 -- ---- the lines of all acts

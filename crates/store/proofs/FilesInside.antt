@@ -1,6 +1,6 @@
 -- What the rows of a file come to within their transaction.
-use Rattle.std.proofs.Common.{◌≡◌, ℕ, ◌+◌, true, false, List, [], ◌∷◌, Bool, Option, Some, None, Ok, Err, Result, refl, sym, ap, subst, ◌∙◌, IsTrue, take, drop}
-use Rattle.std.specs.Prelude.{ℤ, if◌then◌else◌, All}
+use Rattle.std.proofs.Common.{◌≡◌, ℕ, ◌+◌, true, false, List, [], ◌∷◌, Bool, Option, Some, None, Ok, Err, Result, refl, sym, ap, subst, ◌∙◌, IsTrue, take, drop, arith}
+use Rattle.std.specs.Prelude.{ℤ, if◌then◌else◌, All, IfOk, OnOk}
 use Rattle.std.proofs.lemmas.List.Elements.{All-head, All-tail, All-drop, All-same}
 use Rattle.sqlite.specs.State.{State, KeepsCommit, IsUnchanged}
 use Rattle.table_words.specs.Steps.{IsReady, Goes}
@@ -25,7 +25,7 @@ use Rattle.store.specs.declared.tally.RowFault.{RowFault}
 use Rattle.store.specs.declared.tally.RowFault.TheVariants.{Refused, Store, Foreign}
 use Rattle.store.specs.declared.filing.Filed.{Filed}
 use Rattle.store.specs.Acting.{IsActedInside, told, day_left}
-use Rattle.store.specs.Filing.{rows_of, AreKeysOf, taken, tally_of, counted, one_more, fault_at, DayGoes, ShowsBooks, IsRowTaken, IsFiledInside}
+use Rattle.store.specs.Filing.{rows_of, AreKeysOf, taken, tally_of, one_more, with_row, DayGoes, ShowsBooks, IsRowTaken, IsFiledInside}
 use Rattle.store.proofs.DayTold.{day_told}
 
 -- One row
@@ -35,6 +35,10 @@ tallied_by : (t : Tally) (acts : List Act) (act : Act) (text : List ℕ) (repeat
     tallied (tally_of t acts) act (if repeated then once.Repeated text else once.Accepted text) ≡ tally_of (one_more t repeated) (appended act acts (if repeated then once.Repeated text else once.Accepted text))
 tallied_by t acts act text true = refl
 tallied_by t acts act text false = refl
+
+one_more_counted : (t : Tally) (repeated : Bool) → (one_more t repeated).accepted + (one_more t repeated).repeated ≡ t.accepted + t.repeated + 1
+one_more_counted t true = omega arith
+one_more_counted t false = omega arith
 
 module _ (first : ℤ) (acts : List Act) (act : Act) (so_far : Filed) (old new : State) where
   counts : (reply : Reply) → told reply ≡ outcome first acts act →
@@ -51,21 +55,26 @@ module _ (first : ℤ) (acts : List Act) (act : Act) (so_far : Filed) (old new :
     mode = done.2.mode;
   }
 
-  pub row_counted : (reply : Reply) (filed : Filed) → filed ≡ counted so_far act.command reply.repeated → IsSoundRequest act → IsHistory first acts → IsBooksOf first acts old.now
-      → IsActedInside first acts act (Ok reply) old new → IsRowTaken first acts act so_far (Ok filed) old new
-  row_counted reply filed is sound history books done =
-      subst (λ (f : Filed). IsRowTaken first acts act so_far (Ok f) old new) (sym is) (
-        counts reply done.0,
-        shows_after reply sound history books done,
-        λ day. day_told first acts act so_far.day reply done.0 day,
-      )
+  pub row_taken : (acted : Result Reply Fault) → IsSoundRequest act → IsHistory first acts → IsBooksOf first acts old.now
+      → IsActedInside first acts act acted old new → IsRowTaken first acts act so_far (with_row so_far act.command acted) old new
+  row_taken (Ok reply) sound history books done = (
+    counts reply done.0,
+    shows_after reply sound history books done,
+    λ day. day_told first acts act so_far.day reply done.0 day,
+  )
+  row_taken (Err (fault.Refused why)) sound history books done = sym (ap (λ o. (tallied (tally_of so_far.tally acts) act o).refused) done)
+  row_taken (Err fault.Store) sound history books done = tt
+  row_taken (Err fault.Foreign) sound history books done = absurd done
 
-  pub row_refused : (why : Fault) (e : RowFault) → e ≡ fault_at so_far.tally why → IsActedInside first acts act (Err why) old new → IsRowTaken first acts act so_far (Err e) old new
-  row_refused (fault.Refused why) e is done =
-      subst (λ (x : RowFault). IsRowTaken first acts act so_far (Err x) old new) (sym is)
-      (sym (ap (λ o. (tallied (tally_of so_far.tally acts) act o).refused) done))
-  row_refused fault.Store e is done = subst (λ (x : RowFault). IsRowTaken first acts act so_far (Err x) old new) (sym is) tt
-  row_refused fault.Foreign e is done = absurd done
+-- a row is counted where it was acted on, and what is so then is so of both
+module _ (so_far : Filed) (command : Command) where
+  pub one_counted : (acted : Result Reply Fault) → IfOk (with_row so_far command acted) (λ filed. filed.tally.accepted + filed.tally.repeated ≡ so_far.tally.accepted + so_far.tally.repeated + 1)
+  one_counted (Ok reply) = one_more_counted so_far.tally reply.repeated
+  one_counted (Err e) = tt
+
+  pub where_acted : (P : Type 0) (acted : Result Reply Fault) → OnOk acted P → OnOk (with_row so_far command acted) P
+  where_acted P (Ok reply) h = h
+  where_acted P (Err e) h = tt
 
 -- All rows
 

@@ -6,7 +6,7 @@ use Rattle.commands.specs.Tables.{Tables}
 use Rattle.commands.specs.declared.rows.OrderRow.{OrderRow}
 use Rattle.commands.specs.declared.rows.LineRow.{LineRow}
 use Rattle.commands.specs.declared.rows.RepeatRow.{RepeatRow}
-use Rattle.table_words.specs.Typed.{with_item, with_bin, with_lot, with_recall, with_stock, without_stock, with_order, with_line, with_staged, without_staged, with_reserved, without_reserved, with_shipment, with_shipline, with_card, with_repeat, order_key, is_open_order}
+use Rattle.table_words.specs.Typed.{with_item, with_least, with_bin, with_lot, with_recall, with_stock, without_stock, with_order, with_line, with_staged, without_staged, with_reserved, without_reserved, with_shipment, with_shipline, with_card, with_repeat, order_key, is_open_order}
 use Rattle.machine.proofs.Tests.{or_first, or_later}
 use Rattle.row_rules.specs.declared.slice.Put.{Put}
 use Rattle.row_rules.specs.declared.slice.Dropped.{Dropped}
@@ -32,15 +32,17 @@ ordered t = (t.order, t.line)
 goods_spare : (p : Put) (d : Dropped) (t : Tables) → ordered (goods_written p d t) ≡ ordered t
 goods_spare p d t =
     let one : Tables = each_written with_item p.items t in
-    let two : Tables = each_written with_bin p.bins one in
-    let three : Tables = each_written with_lot p.lots two in
-    let four : Tables = each_written with_recall p.recalls three in
-    let five : Tables = each_written (λ r. without_stock r.lot r.bin) d.stock four in
-    rows_spare ordered with_stock (λ r u. refl) p.stock five
-    ∙ rows_spare ordered (λ r. without_stock r.lot r.bin) (λ r u. refl) d.stock four
-    ∙ rows_spare ordered with_recall (λ r u. refl) p.recalls three
-    ∙ rows_spare ordered with_lot (λ r u. refl) p.lots two
-    ∙ rows_spare ordered with_bin (λ r u. refl) p.bins one
+    let two : Tables = each_written with_least p.least one in
+    let three : Tables = each_written with_bin p.bins two in
+    let four : Tables = each_written with_lot p.lots three in
+    let five : Tables = each_written with_recall p.recalls four in
+    let six : Tables = each_written (λ r. without_stock r.lot r.bin) d.stock five in
+    rows_spare ordered with_stock (λ r u. refl) p.stock six
+    ∙ rows_spare ordered (λ r. without_stock r.lot r.bin) (λ r u. refl) d.stock five
+    ∙ rows_spare ordered with_recall (λ r u. refl) p.recalls four
+    ∙ rows_spare ordered with_lot (λ r u. refl) p.lots three
+    ∙ rows_spare ordered with_bin (λ r u. refl) p.bins two
+    ∙ rows_spare ordered with_least (λ r u. refl) p.least one
     ∙ rows_spare ordered with_item (λ r u. refl) p.items t
 
 change_spares : (c : Change) (t : Tables) → ordered (change_written c t) ≡ ordered (lines_written c.put (goods_written c.put c.dropped t))

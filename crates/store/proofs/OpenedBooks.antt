@@ -1,42 +1,49 @@
 -- From a connection that was opened anew to the books over it.
-use Rattle.std.proofs.Common.{◌≡◌, inl, inr, Bool, true, false, List, [], ◌∷◌, filter, IsTrue, Result, Ok, Err, OnOk, IfOk, IfErr, refl, sym, ap, subst, ◌∙◌, arith}
-use Rattle.std.specs.Prelude.{◌≤◌, ◌⊎◌, ℤ, None, Some, option_map, find, if◌then◌else◌}
+use Rattle.std.proofs.Common.{◌≡◌, inl, inr, ℕ, Bool, true, false, ◌&&◌, List, [], ◌∷◌, filter, map, slice_get, IsTrue, Result, Err, refl, sym, ap, subst, ◌∙◌, arith}
+use Rattle.std.specs.Prelude.{◌≤◌, ◌⊎◌, ℤ, pos, codes, nat_eq, None, Some, option_map, find, if◌then◌else◌}
 use Rattle.std.specs.List.{AllByRecursion}
-use Rattle.std.specs.Result.{IsErrAnd, IsOkAnd}
+use Rattle.std.proofs.lemmas.Bool.{eqb-true}
+use Rattle.label.specs.Days.{is_business_day}
+use Rattle.commands.specs.Schemas.{with_least}
 use Rattle.commands.specs.Tables.{Tables}
+use Rattle.commands.specs.declared.limits.TheConstants.{ACTS_MAX, SCHEMA_VERSION}
 use Rattle.commands.specs.declared.rows.MetaRow.{MetaRow}
-use Rattle.sqlite_value.specs.Order.{column}
+use Rattle.sqlite_value.specs.declared.value.Value.{Value}
+use Rattle.sqlite_value.specs.declared.value.Value.TheVariants.{Int}
+use Rattle.sqlite_value.specs.Order.{Row, column}
 use Rattle.sqlite_trees.specs.declared.store.Store.{Ghosts}
 use Rattle.sqlite_trees.specs.View.{doubt}
 use Rattle.sqlite.specs.Effect.{Database}
 use Rattle.sqlite.specs.Held.{Held, state}
-use Rattle.sqlite.specs.State.{State, HasCleanDisk, KeepsCommit, IsRolledBack, IsUnchanged, Shows, Opens, IsLive, Survives}
-use Rattle.sqlite.specs.Steps.{FailsToCommit}
-use Rattle.sqlite.specs.declared.error.Error.{Error}
+use Rattle.sqlite.specs.State.{State, HasCleanDisk, Opens, IsLive, Survives}
+use Rattle.sqlite.specs.Schema.{Schema}
 use Rattle.sqlite.specs.Table.{Table}
-use Rattle.sqlite.proofs.StateLemmas.{survives_then}
 use Rattle.sqlite.specs.Tree.{Trees}
-use Rattle.table_words.specs.Cells.{is_the_number}
-use Rattle.table_words.specs.Schema.{meta_tree, the_tables, HasTables}
-use Rattle.table_words.specs.Steps.{IsReady}
-use Rattle.table_words.specs.Typed.{is_meta, tables_in, meta_rows_rows}
+use Rattle.table_words.specs.Cells.{is_the_number, is_the_text, is_signed, is_number}
+use Rattle.table_words.specs.Schema.{meta_tree, least_tree, least_table, first_tables, the_tables, schema_with, HasTables}
+use Rattle.table_words.specs.Typed.{is_meta, is_meta_at, meta_in, meta_at, same_meta, meta_key, AreTyped}
 use Rattle.table_words.specs.declared.error.TableFault.{TableFault}
 use Rattle.table_words.specs.declared.error.TableFault.TheVariants.{Store as TableStore, Foreign as TableForeign}
 use Rattle.table_words.proofs.StepLemmas.{tables_same, typed_same, typed_at}
 use Rattle.tables.specs.Indexing.{KeepsRows}
-use Rattle.tables.specs.Settling.{IsStill}
+use Rattle.tables.specs.Older.{IsFirstSchema}
+use Rattle.tables.specs.Settling.{HasDayAt}
 use Rattle.tables.proofs.SettleLemmas.{each_itself}
 use Rattle.tables.proofs.OpenLemmas.{ready_tells}
-use Rattle.tables.specs.Opening.{IsLeft, TellTables}
+use Rattle.tables.specs.Opening.{number_of, HasSchema, IsReadyAs, AreReadTyped, KeepsRowsAs, ComesTo, IsCome, IsLeftAs, IsLeft, TellTables}
+use Rattle.tables.specs.declared.opening.Found.{Found}
+use Rattle.tables.specs.declared.opening.Found.TheVariants.{Newest, First}
 use Rattle.tables.specs.declared.opening.Leftover.{Leftover}
 use Rattle.tables.specs.declared.opening.Leftover.TheVariants as left
 use Rattle.machine.specs.Acts.{Act}
 use Rattle.machine.specs.Standing.{today}
 use Rattle.machine.specs.Tables.{tables_of}
-use Rattle.store.specs.Books.{AreRowsOf, LeavesOnly, KeepsBooks}
+use Rattle.machine.proofs.Tests.{and_both, and_false}
+use Rattle.machine.proofs.histories.LeastDays.{older_books_go_on}
+use Rattle.store.specs.Books.{AreRowsOf, KeepsBooks}
 use Rattle.store.specs.Faults.{fault_of}
 use Rattle.store.specs.declared.fault.Fault.{Fault}
-use Rattle.store.specs.Opening.{HasDay, IsReopened, IsLeftOver, unlimited}
+use Rattle.store.specs.Opening.{AreFirstRowsOf, AreRowsAt, AreFoundRows, MayCome, IsReopened, IsReopenedAsFound, IsLeftOver, unlimited}
 use Rattle.store.specs.declared.fault.Fault.TheVariants.{Store, Foreign}
 
 -- ---- faults
@@ -72,16 +79,82 @@ typed_among P read (r ∷ rows) all = elim (read r) as (λ b. AllByRecursion P (
 
 -- ---- of a history
 
-pub has_day : (trees : Trees) (first : ℤ) (acts : List Act) → AreRowsOf first acts trees → HasDay trees (today first acts)
+newest_meta : (trees : Trees) → AreTyped trees → AllByRecursion (λ r. is_meta_at SCHEMA_VERSION r ≡ true) (trees meta_tree)
+newest_meta trees typed = typed_at 0 (record { tree = meta_tree; is = is_meta }) refl trees typed
+
+newest_day : (trees : Trees) (first : ℤ) (acts : List Act) → AreRowsOf first acts trees → HasDayAt SCHEMA_VERSION trees (today first acts)
 unfolding tables_of
-has_day trees first acts rows = record {
-  typed = typed_among (λ r. is_meta r ≡ true) (λ r. is_the_number 1 (column r 0)) (trees meta_tree) (typed_at 0 (record { tree = meta_tree; is = is_meta }) refl trees rows.typed);
+newest_day trees first acts rows = record {
+  typed = typed_among (λ r. is_meta_at SCHEMA_VERSION r ≡ true) (λ r. is_the_number 1 (column r 0)) (trees meta_tree) (newest_meta trees rows.typed);
   found = ap (λ (t : Tables). option_map (λ (m : MetaRow). m.day) t.meta) rows.tables;
 }
 
+first_day : (trees : Trees) (first : ℤ) (acts : List Act) → AreFirstRowsOf first acts trees → HasDayAt 1 trees (today first acts)
+unfolding tables_of
+first_day trees first acts rows = record {
+  typed = typed_among (λ r. is_meta_at 1 r ≡ true) (λ r. is_the_number 1 (column r 0)) (trees meta_tree) rows.typed.0;
+  found = ap (λ (t : Tables). option_map (λ (m : MetaRow). m.day) t.meta) rows.tables;
+}
+
+pub has_day : (found : Found) (trees : Trees) (first : ℤ) (acts : List Act) → AreRowsAt found first acts trees → HasDayAt (number_of found) trees (today first acts)
+has_day Newest trees first acts rows = newest_day trees first acts rows
+has_day First trees first acts rows = first_day trees first acts rows
+
+-- what is read beside it is typed
+pub read_typed : (found : Found) (trees : Trees) (first : ℤ) (acts : List Act) → AreRowsAt found first acts trees → AreReadTyped found trees
+read_typed Newest trees first acts rows = tt
+read_typed First trees first acts rows = rows.typed.1.0
+
 -- there is one day
-pub one_day : (trees : Trees) (a b : ℤ) → HasDay trees a → HasDay trees b → a ≡ b
-one_day trees a b p q = let both : Some a ≡ Some b = sym p.found ∙ q.found in cc
+pub one_day : (version : ℕ) (trees : Trees) (a b : ℤ) → HasDayAt version trees a → HasDayAt version trees b → a ≡ b
+one_day version trees a b p q = let both : Some a ≡ Some b = sym p.found ∙ q.found in cc
+
+-- ---- which books they are
+
+-- a row of `meta` has one number
+other_number : (n m : ℕ) → nat_eq n m ≡ false → (v : Value) → is_the_number m v ≡ true → is_the_number n v ≡ false
+other_number n m apart (Int (pos k)) is = subst (λ (x : ℕ). nat_eq n x ≡ false) (eqb-true m k is) apart
+other_number n m apart v is = absurd (let no : false ≡ true = is in cc)
+
+other_meta : (n m : ℕ) → nat_eq n m ≡ false → (r : Row) → is_meta_at m r ≡ true → is_meta_at n r ≡ false
+other_meta n m apart r is =
+    let one = and_both (is_the_number 1 (column r 0)) (is_the_text (codes "LOTSTOCK") (column r 2) && (is_the_number m (column r 3) && (is_signed is_business_day (column r 4) && (is_number ACTS_MAX (column r 5) && is_number ACTS_MAX (column r 6))))) is in
+    let two = and_both (is_the_text (codes "LOTSTOCK") (column r 2)) (is_the_number m (column r 3) && (is_signed is_business_day (column r 4) && (is_number ACTS_MAX (column r 5) && is_number ACTS_MAX (column r 6)))) one.1 in
+    let three = and_both (is_the_number m (column r 3)) (is_signed is_business_day (column r 4) && (is_number ACTS_MAX (column r 5) && is_number ACTS_MAX (column r 6))) two.1 in
+    ap (λ b. is_the_number 1 (column r 0) && (is_the_text (codes "LOTSTOCK") (column r 2) && (b && (is_signed is_business_day (column r 4) && (is_number ACTS_MAX (column r 5) && is_number ACTS_MAX (column r 6)))))) (other_number n m apart (column r 3) three.0)
+    ∙ ap (λ b. is_the_number 1 (column r 0) && b) (and_false (is_the_text (codes "LOTSTOCK") (column r 2)))
+    ∙ and_false (is_the_number 1 (column r 0))
+
+none_of_other : (n m : ℕ) → nat_eq n m ≡ false → (rows : List Row) → AllByRecursion (λ r. is_meta_at m r ≡ true) rows → filter (is_meta_at n) rows ≡ []
+none_of_other n m apart [] all = refl
+none_of_other n m apart (r ∷ rows) all = ap (λ b. if b then r ∷ filter (is_meta_at n) rows else filter (is_meta_at n) rows) (other_meta n m apart r all.0) ∙ none_of_other n m apart rows all.1
+
+-- where all rows of `meta` are of one number, none has a day under another
+no_day : (n m : ℕ) → nat_eq n m ≡ false → (trees : Trees) (day : ℤ) → AllByRecursion (λ r. is_meta_at m r ≡ true) (trees meta_tree) → HasDayAt n trees day → ⊥
+no_day n m apart trees day all has =
+    let none : meta_at n trees ≡ None = ap (λ rows. find (λ s. same_meta 1 (meta_key s)) (map meta_in rows)) (none_of_other n m apart (trees meta_tree) all) in
+    let no : None ≡ Some day = sym (ap (option_map (λ (m : MetaRow). m.day)) none) ∙ has.found in
+    cc
+
+-- rows of the acts under a number that the row of `meta` has are those of its books
+pub same_found : (at found : Found) (trees : Trees) (first : ℤ) (acts : List Act) (day : ℤ) → AreRowsAt at first acts trees → HasDayAt (number_of found) trees day → at ≡ found
+same_found Newest Newest trees first acts day rows has = refl
+same_found First First trees first acts day rows has = refl
+same_found Newest First trees first acts day rows has = absurd (no_day 1 SCHEMA_VERSION refl trees day (newest_meta trees rows.typed) has)
+same_found First Newest trees first acts day rows has = absurd (no_day SCHEMA_VERSION 1 refl trees day rows.typed.0 has)
+
+-- no schema is of two kinds of books
+apart_schemas : (schema : Schema) → HasTables schema → IsFirstSchema schema → ⊥
+apart_schemas schema newest first =
+    let same : (schema_with newest.rest).tables ≡ first_tables = ap (λ (s : Schema). s.tables) (sym newest.is ∙ first.is) in
+    let no : Some (least_table least_tree) ≡ None = ap (λ (tables : List Table). slice_get tables 14) same in
+    cc
+
+pub one_found : (a b : Found) (schema : Schema) → HasSchema a schema → HasSchema b schema → a ≡ b
+one_found Newest Newest schema p q = refl
+one_found First First schema p q = refl
+one_found Newest First schema p q = absurd (apart_schemas schema p q)
+one_found First Newest schema p q = absurd (apart_schemas schema q p)
 
 -- ---- the connection
 
@@ -102,59 +175,85 @@ unlimited_survives {S} g old mid new P is s =
     subst (λ (h : Held S). Survives (unlimited (state g old)) (state g h) P) (sym is)
     (record { clean = s.clean; shield = s.shield; counts = s.counts; limit = refl; closes = s.closes; crash = s.crash })
 
-pub reopened : {S : Type 0} (g : Ghosts S) (old again new : Held S) → (HasCleanDisk (state g again) → IsReady (state g again).now) → (HasCleanDisk (state g again) → Opens (state g again))
-    → (HasCleanDisk (state g again) → (state g again).now.trees ≡ (state g old).committed.trees) → (HasCleanDisk (state g again) → (db : Trees) → (state g again).may_leave db → db ≡ (state g old).committed.trees)
-    → doubt (state g old).is_clean ≤ doubt (state g again).is_clean → ((state g old).IsShielded → (state g again).IsShielded)
-    → (HasCleanDisk (state g new) → IsReady (state g again).now → (state g again).now ≡ (state g again).committed → IsTrue (state g new).is_open → IsStill (state g again).now.trees (state g new))
-    → Survives (state g again) (state g new) (λ db. IsReady (state g again).now → KeepsRows (state g again).now.trees db)
-    → Survives (state g again) (state g new) (λ db. IsReady (state g again).now → TellTables db) → new.in_transaction ≡ false → IsReopened g old new
-reopened g old again new ready opens same crash clean shield kept survives tells outside =
-    let still : HasCleanDisk (state g new) → IsTrue (state g new).is_open → IsStill (state g again).now.trees (state g new) = λ c up. kept c (ready (was_clean c)) (opens (was_clean c)).clean up in
-    record {
-      outside = outside;
-      ready = λ c up. (still c up).ready;
-      same = λ c up. subst (λ (t : Trees). KeepsRows t (state g new).now.trees) (same (was_clean c)) (still c up).rows;
-      settled = λ c up. (still c up).settled;
-      crash = λ c db left. by_both c db (survives.crash c db left) (tells.crash c db left);
-      clean = omega (arith, clean, survives.clean);
-      shield = λ s. survives.shield (shield s);
-    }
-  where
-    was_clean : HasCleanDisk (state g new) → HasCleanDisk (state g again)
-    was_clean c = omega (arith, c, survives.clean)
+-- rows that were kept are those of the acts, and so are those of schema 1 with 0 days for each item
+rows_come : (found : Found) (before after : Trees) (first : ℤ) (acts : List Act) → ComesTo found before after → AreRowsAt found first acts before → AreRowsOf first acts after
+rows_come Newest before after first acts kept rows = record { tables = tables_same before after kept ∙ rows.tables; typed = typed_same before after kept rows.typed }
+rows_come First before after first acts brought rows = record {
+  tables = brought.tables ∙ ap (λ (t : Tables). with_least t) rows.tables ∙ older_books_go_on first acts rows.older;
+  typed = brought.typed rows.typed;
+}
 
-    as_committed : HasCleanDisk (state g new) → (db : Trees) → (state g again).may_leave db → KeepsRows (state g old).committed.trees db × TellTables db
-    as_committed c db before =
-        subst (λ (t : Trees). KeepsRows (state g old).committed.trees t × TellTables t) (sym (crash (was_clean c) db before))
-        (each_itself (state g old).committed.trees the_tables, subst TellTables (same (was_clean c)) (ready_tells (state g again).now (ready (was_clean c))))
+-- a connection that was opened anew keeps the books of the acts, as whichever books they were found
+keeps_books : {S : Type 0} (g : Ghosts S) (old new : Held S) (it : IsReopened g old new) (first : ℤ) (acts : List Act) (day : ℤ) → HasDayAt (number_of it.found) (state g old).committed.trees day → HasCleanDisk (state g new)
+    → AreFoundRows first acts (state g old).committed.trees → KeepsBooks first acts (state g new)
+keeps_books g old new it first acts day has clean (at, rows) = record {
+  books = λ up. record {
+    ready = it.ready clean up;
+    rows = rows_come it.found (state g old).committed.trees (state g new).now.trees first acts (it.comes clean up)
+        (subst (λ (f : Found). AreRowsAt f first acts (state g old).committed.trees) (same_found at it.found (state g old).committed.trees first acts day rows has) rows);
+  };
+  settled = it.settled clean;
+}
 
-    by_both : HasCleanDisk (state g new) → (db : Trees) → (state g again).may_leave db ⊎ (IsReady (state g again).now → KeepsRows (state g again).now.trees db) → (state g again).may_leave db ⊎ (IsReady (state g again).now → TellTables db)
-        → KeepsRows (state g old).committed.trees db × TellTables db
-    by_both c db (inl before) told = as_committed c db before
-    by_both c db (inr rows) (inl before) = as_committed c db before
-    by_both c db (inr rows) (inr told) = (subst (λ (t : Trees). KeepsRows t db) (same (was_clean c)) (rows (ready (was_clean c))), told (ready (was_clean c)))
+module _ {S : Type 0} (g : Ghosts S) (old again new : Held S) (found : Found) (schema : HasSchema found (state g old).now.schema)
+    (ready : HasCleanDisk (state g again) → IsReadyAs found (state g again).now) (opens : HasCleanDisk (state g again) → Opens (state g again))
+    (same : HasCleanDisk (state g again) → (state g again).now.trees ≡ (state g old).committed.trees) (crash : HasCleanDisk (state g again) → (db : Trees) → (state g again).may_leave db → db ≡ (state g old).committed.trees)
+    (clean : doubt (state g old).is_clean ≤ doubt (state g again).is_clean) (shield : (state g old).IsShielded → (state g again).IsShielded)
+    (survives : Survives (state g again) (state g new) (λ db. IsReadyAs found (state g again).now → ComesTo found (state g again).now.trees db × TellTables db)) (outside : new.in_transaction ≡ false) where
+  was_clean : HasCleanDisk (state g new) → HasCleanDisk (state g again)
+  was_clean c = omega (arith, c, survives.clean)
 
--- rows that were kept are those of the acts
-rows_kept : (before after : Trees) (first : ℤ) (acts : List Act) → KeepsRows before after → AreRowsOf first acts before → AreRowsOf first acts after
-rows_kept before after first acts kept rows = record { tables = tables_same before after kept ∙ rows.tables; typed = typed_same before after kept rows.typed }
+  -- the trees as they were found tell their tables
+  as_found : (at : Found) → IsReadyAs at (state g again).now → (state g again).now.trees ≡ (state g old).committed.trees → (db : Trees) → db ≡ (state g old).committed.trees → MayCome at (state g old).committed.trees db
+  as_found Newest is trees db before =
+      subst (λ (t : Trees). KeepsRows (state g old).committed.trees t × TellTables t) (sym before) (each_itself (state g old).committed.trees the_tables, subst TellTables trees (ready_tells (state g again).now is))
+  as_found First is trees db before = inl before
 
--- and a stop leaves them
-pub leaves_opened : {S : Type 0} (g : Ghosts S) (old new : Held S) (first : ℤ) (acts : List Act) → IsReopened g old new → HasCleanDisk (state g new) → AreRowsOf first acts (state g old).committed.trees
-    → LeavesOnly first acts (state g new)
-leaves_opened g old new first acts it clean rows trees left =
-    let found = it.crash clean trees left in
-    record { rows = rows_kept (state g old).committed.trees trees first acts found.0 rows; schema = found.1 }
+  as_come : (at : Found) (db : Trees) → ComesTo at (state g old).committed.trees db × TellTables db → MayCome at (state g old).committed.trees db
+  as_come Newest db it = it
+  as_come First db it = inr it
+
+  left_by : HasCleanDisk (state g new) → (db : Trees) → (state g again).may_leave db ⊎ (IsReadyAs found (state g again).now → ComesTo found (state g again).now.trees db × TellTables db) → MayCome found (state g old).committed.trees db
+  left_by c db (inl before) = as_found found (ready (was_clean c)) (same (was_clean c)) db (crash (was_clean c) db before)
+  left_by c db (inr told) = let it = told (ready (was_clean c)) in as_come found db (subst (λ (t : Trees). ComesTo found t db) (same (was_clean c)) it.0, it.1)
+
+  pub reopened : (HasCleanDisk (state g new) → IsReadyAs found (state g again).now → (state g again).now ≡ (state g again).committed → IsCome found (state g again).now.trees (state g new)) → IsReopened g old new
+  reopened come =
+      let came : HasCleanDisk (state g new) → IsCome found (state g again).now.trees (state g new) = λ c. come c (ready (was_clean c)) (opens (was_clean c)).clean in
+      record {
+        found = found;
+        schema = schema;
+        outside = outside;
+        ready = λ c up. (came c).ready;
+        comes = λ c up. subst (λ (t : Trees). ComesTo found t (state g new).now.trees) (same (was_clean c)) (came c).comes;
+        settled = λ c up. (came c).settled;
+        crash = λ c db left. left_by c db (survives.crash c db left);
+        clean = omega (arith, clean, survives.clean);
+        shield = λ s. survives.shield (shield s);
+      }
+
+  pub reopened_as_found : (HasCleanDisk (state g new) → IsReadyAs found (state g again).now → (state g again).now ≡ (state g again).committed → IsTrue (state g new).is_open → IsLeftAs found (state g again).now.trees (state g new))
+      → IsReopenedAsFound g old new
+  reopened_as_found kept =
+      let still : HasCleanDisk (state g new) → IsTrue (state g new).is_open → IsLeftAs found (state g again).now.trees (state g new) = λ c up. kept c (ready (was_clean c)) (opens (was_clean c)).clean up in
+      record {
+        found = found;
+        schema = schema;
+        outside = outside;
+        ready = λ c up. (still c up).ready;
+        same = λ c up. subst (λ (t : Trees). KeepsRowsAs found t (state g new).now.trees) (same (was_clean c)) (still c up).rows;
+        settled = λ c up. (still c up).settled;
+        crash = λ c db left. left_by c db (survives.crash c db left);
+        clean = omega (arith, clean, survives.clean);
+        shield = λ s. survives.shield (shield s);
+      }
+
+  pub keeps_found : (HasCleanDisk (state g new) → IsReadyAs found (state g again).now → (state g again).now ≡ (state g again).committed → IsCome found (state g again).now.trees (state g new)) → (first : ℤ) (acts : List Act) (day : ℤ)
+      → (IsReadyAs found (state g again).now → HasDayAt (number_of found) (state g again).now.trees day) → HasCleanDisk (state g new) → AreFoundRows first acts (state g old).committed.trees → KeepsBooks first acts (state g new)
+  unfolding reopened
+  keeps_found come first acts day has c rows =
+      keeps_books g old new (reopened come) first acts day (subst (λ (t : Trees). HasDayAt (number_of found) t day) (same (was_clean c)) (has (ready (was_clean c)))) c rows
 
 -- a connection that was opened over what a stop left has the schema of books
 pub tables_opened : (s : State) → Opens s → IsLive s → TellTables s.committed.trees → HasTables s.now.schema
 tables_opened s opens live tells = subst TellTables (sym (ap (λ (d : Database). d.trees) opens.clean)) tells s.now.schema (live opens.is_open).0
-
-pub keeps_books : {S : Type 0} (g : Ghosts S) (old new : Held S) (first : ℤ) (acts : List Act) → IsReopened g old new → HasCleanDisk (state g new) → AreRowsOf first acts (state g old).committed.trees
-    → KeepsBooks first acts (state g new)
-keeps_books g old new first acts it clean rows = record {
-  books = λ up. record {
-    ready = it.ready clean up;
-    rows = rows_kept (state g old).committed.trees (state g new).now.trees first acts (it.same clean up) rows;
-  };
-  settled = it.settled clean;
-}

@@ -14,6 +14,7 @@ use Rattle.slices.specs.Books.{IsBooksOf}
 use Rattle.store.specs.Acting.{day_left}
 use Rattle.store.specs.Books.{KeepsBooks, HoldsBooks}
 use Rattle.store.specs.Connected.{Connected}
+use Rattle.store.specs.declared.reply.Reply.{Reply}
 use Rattle.store.specs.declared.fault.Fault.{Fault}
 use Rattle.store.specs.declared.fault.Fault.TheVariants as fault
 use Rattle.store.specs.declared.tally.Tally.{Tally}
@@ -59,6 +60,11 @@ abbrev pub fault_at : Tally → Fault → RowFault
 fault_at t (fault.Refused why) = Refused (t.accepted + t.repeated + 1) why
 fault_at t fault.Store = Store
 fault_at t fault.Foreign = Foreign
+
+-- the rows with one more, which went so: as far as they have come then, or its fault
+abbrev pub with_row : Filed → Command → Result Reply Fault → Result Filed RowFault
+with_row so_far command (Ok reply) = Ok (counted so_far command reply.repeated)
+with_row so_far command (Err fault) = Err (fault_at so_far.tally fault)
 
 -- the business day after is that of these acts, if the one before is that of those
 abbrev pub DayGoes : ℤ → List Act → ℤ → List Act → ℤ → Type 0

@@ -1,20 +1,59 @@
 -- What making books and opening them leave.
-use Rattle.std.specs.Prelude.{◌≡◌, ◌⊎◌, ◌≤◌, ℤ, true, false, Some, None, [], option_map, IsTrue}
-use Rattle.std.specs.List.{AllByRecursion}
-use Rattle.commands.specs.declared.rows.MetaRow.{MetaRow}
+use Rattle.std.specs.Prelude.{◌≡◌, ◌⊎◌, ◌≤◌, List, ℤ, true, false, None, [], IsTrue}
+use Rattle.commands.specs.Schemas.{without_least}
 use Rattle.sqlite_trees.specs.declared.store.Store.{Ghosts}
 use Rattle.sqlite_trees.specs.View.{IsClean, doubt}
 use Rattle.sqlite.specs.Held.{Held, state}
 use Rattle.sqlite.specs.State.{State, HasCleanDisk, Survives}
 use Rattle.sqlite.specs.Tree.{Trees}
 use Rattle.table_words.specs.Steps.{IsReady}
-use Rattle.table_words.specs.Typed.{tables_in, is_meta, meta_rows_rows}
+use Rattle.tables.specs.Bringing.{first_tables_in, AreFirstTyped}
 use Rattle.tables.specs.Indexing.{KeepsRows}
-use Rattle.tables.specs.Opening.{IsClosed, TellTables}
-pub use Rattle.tables.specs.Settling.{HasDay}
+pub use Rattle.tables.specs.Opening.{HasSchema, IsOfNone}
+use Rattle.tables.specs.Opening.{number_of, IsReadyAs, AreReadTyped, KeepsRowsAs, ComesTo, IsClosed, TellTables}
+use Rattle.tables.specs.Settling.{HasDayAt}
+pub use Rattle.tables.specs.declared.opening.Found.{Found}
+use Rattle.tables.specs.declared.opening.Found.TheVariants.{Newest, First}
 use Rattle.tables.specs.declared.opening.Leftover.{Leftover}
 use Rattle.tables.specs.declared.opening.Leftover.TheVariants as left
-use Rattle.store.specs.Books.{AreBooks}
+use Rattle.machine.specs.Acts.{Act}
+use Rattle.machine.specs.Schemas.{are_of_schema}
+use Rattle.machine.specs.Tables.{tables_of}
+use Rattle.store.specs.Books.{AreRowsOf, AreBooks}
+
+-- Books that are found
+
+-- the rows of books of schema 1 are those of the acts, none of which asks for days
+pub record AreFirstRowsOf (first : ℤ) (acts : List Act) (trees : Trees) : Type 0 where
+  pub tables : first_tables_in trees ≡ without_least (tables_of first acts)
+  pub typed : AreFirstTyped trees
+  pub older : are_of_schema 1 acts ≡ true
+
+-- the rows are those of the acts, as these books have them
+abbrev pub AreRowsAt : Found → ℤ → List Act → Trees → Type 0
+AreRowsAt Newest first acts trees = AreRowsOf first acts trees
+AreRowsAt First first acts trees = AreFirstRowsOf first acts trees
+
+-- as books of the newest schema or of schema 1 have them
+abbrev pub AreFoundRows : ℤ → List Act → Trees → Type 0
+AreFoundRows first acts trees = (found : Found) × AreRowsAt found first acts trees
+
+-- the schema is that of some books, and in books of its number the row of `meta` has this day
+pub record HasFoundDay (old : State) (day : ℤ) : Type 0 where
+  pub found : Found
+  pub schema : HasSchema found old.now.schema
+  pub has : HasDayAt (number_of found) old.committed.trees day
+
+-- the schema is that of some books, but the row of `meta` or another row that is read does not keep the rules of its values
+pub record IsForeignWithin (old : State) : Type 0 where
+  pub found : Found
+  pub schema : HasSchema found old.now.schema
+  pub foreign : (day : ℤ) → HasDayAt (number_of found) old.committed.trees day → ¬ AreReadTyped found old.committed.trees
+
+-- what a stop leaves of books that were found: their rows, or the newest tables, which come of them
+abbrev pub MayCome : Found → Trees → Trees → Type 0
+MayCome Newest old db = KeepsRows old db × TellTables db
+MayCome First old db = (db ≡ old) ⊎ (ComesTo First old db × TellTables db)
 
 -- the state with no limit on steps
 abbrev pub unlimited : State → State
@@ -32,19 +71,33 @@ module _ {S : Type 0} (g : Ghosts S) (old : Held S) where
   IsLeftUnfilled day (left.Connection conn) = IsUnfilled day conn
   IsLeftUnfilled day (left.Store s) = ⊥
 
-  -- a connection that was opened anew, whose tables have the rows of the last commit; a crash leaves them too, as tables that open again
+  -- a connection that was opened anew: its tables are the newest, and come of the rows of the last commit
   pub record IsReopened (new : Held S) : Type 0 where
+    pub found : Found
+    pub schema : HasSchema found (state g old).now.schema
     pub outside : new.in_transaction ≡ false
     pub ready : HasCleanDisk (state g new) → IsTrue (state g new).is_open → IsReady (state g new).now
-    pub same : HasCleanDisk (state g new) → IsTrue (state g new).is_open → KeepsRows (state g old).committed.trees (state g new).now.trees
+    pub comes : HasCleanDisk (state g new) → IsTrue (state g new).is_open → ComesTo found (state g old).committed.trees (state g new).now.trees
     pub settled : HasCleanDisk (state g new) → IsTrue (state g new).is_open → (state g new).committed ≡ (state g new).now
-    pub crash : HasCleanDisk (state g new) → (db : Trees) → (state g new).may_leave db → KeepsRows (state g old).committed.trees db × TellTables db
+    pub crash : HasCleanDisk (state g new) → (db : Trees) → (state g new).may_leave db → MayCome found (state g old).committed.trees db
+    pub clean : doubt (state g old).is_clean ≤ doubt (state g new).is_clean
+    pub shield : (state g old).IsShielded → (state g new).IsShielded
+
+  -- one whose tables have the rows of the last commit, as they were found
+  pub record IsReopenedAsFound (new : Held S) : Type 0 where
+    pub found : Found
+    pub schema : HasSchema found (state g old).now.schema
+    pub outside : new.in_transaction ≡ false
+    pub ready : HasCleanDisk (state g new) → IsTrue (state g new).is_open → IsReadyAs found (state g new).now
+    pub same : HasCleanDisk (state g new) → IsTrue (state g new).is_open → KeepsRowsAs found (state g old).committed.trees (state g new).now.trees
+    pub settled : HasCleanDisk (state g new) → IsTrue (state g new).is_open → (state g new).committed ≡ (state g new).now
+    pub crash : HasCleanDisk (state g new) → (db : Trees) → (state g new).may_leave db → MayCome found (state g old).committed.trees db
     pub clean : doubt (state g old).is_clean ≤ doubt (state g new).is_clean
     pub shield : (state g old).IsShielded → (state g new).IsShielded
 
   -- the connection itself, or one that was opened anew, or its store
   abbrev pub IsLeftOver : Leftover S → Type 0
-  IsLeftOver (left.Connection conn) = (conn ≡ old) ⊎ IsReopened conn
+  IsLeftOver (left.Connection conn) = (conn ≡ old) ⊎ IsReopenedAsFound conn
   IsLeftOver (left.Store s) = IsClosed g old s
 
 -- so far the disk has returned what was written

@@ -4,7 +4,7 @@ ghost use Rattle.std.specs.Prelude.{◌≡◌, ◌≢◌, ◌≤◌, ◌⊎◌, 
 ghost use Rattle.sqlite.specs.State.{HasCleanDisk, Survives, Opens, IsLive};
 ghost use Rattle.sqlite.specs.Held.{state};
 ghost use Rattle.label.specs.Days.{is_business_day};
-ghost use Rattle.table_words.specs.Schema.{schema_0, HasTables};
+ghost use Rattle.table_words.specs.Schema.{schema_0};
 ghost use Rattle.table_words.specs.declared.error.TableFault.TheVariants.{Foreign as ForeignTable};
 ghost use Rattle.tables.specs.Indexing.{HasIndexes};
 ghost use Rattle.machine.specs.Acts.{Act};
@@ -17,8 +17,8 @@ ghost use Rattle.machine.specs.Views.{bins_of_lot, card_of_lot, shipments_of_lot
 ghost use Rattle.store.specs.Heads.{card_head_shown, notice_head_shown};
 ghost use Rattle.store.specs.Handing.{IsHanded, NoBooks};
 ghost use Rattle.store.specs.Queries.{IsShown};
-ghost use Rattle.store.specs.Books.{AreRowsOf, AreBooks, KeepsBooks, HoldsBooks, LeavesOnly, IsClean, IsSettled, AreAsBefore};
-ghost use Rattle.store.specs.Opening.{HasDay, unlimited, IsLeftUnfilled, IsReopened, IsLeftOver, IsCleanLeft};
+ghost use Rattle.store.specs.Books.{AreBooks, KeepsBooks, HoldsBooks, LeavesOnly, IsClean, IsSettled, AreAsBefore};
+ghost use Rattle.store.specs.Opening.{Found, HasSchema, IsOfNone, AreRowsAt, AreFoundRows, HasFoundDay, IsForeignWithin, unlimited, IsLeftUnfilled, IsReopened, IsLeftOver, IsCleanLeft};
 
 use crate::acting::act_once;
 use crate::bins::hand_bins;
@@ -41,8 +41,7 @@ use std::alloc::Global;
 use std::marker::Model;
 use table_words::error::TableFault;
 use tables::creation;
-use tables::opening::{Leftover, ready};
-use tables::settling::settle;
+use tables::opening::{Leftover, ready, settled};
 use values::{Gtin, LotId, Name};
 
 /// The books over a connection, which is outside a transaction between calls and has no limit on steps.
@@ -150,35 +149,37 @@ impl<S: Alter + Drop> Books<S> {
 
     /// Opens the books that are in the tables. Further tables that refer to none, views and indexes that refuse no row
     /// of the books are passed over, and those of the indexes of the books that are missing are made, in one transaction.
-    /// `Foreign` where a table or a column is missing or differs, or where the row of `meta` is missing or has a value
-    /// that no row has; `Store` where memory or the disk fails, and where something else has the name of an index that is
-    /// missing. The tables have the rows that they had.
+    /// Books of schema 1, with nothing of another's making beside them, are brought up to the newest schema, in one
+    /// transaction too: each item asks for 0 days. `Foreign` where a table or a column is missing or differs, or where the
+    /// row of `meta`, or in books of schema 1 an item, is missing or has a value that no row has; `Store` where memory or
+    /// the disk fails, and where something else has the name of an index that is missing. The tables then have the rows
+    /// that they had.
     pub fn open(alloc: Global, conn: Connection<S>) -> Result<Books<S>, OpenFault<S>>
         requires outside { conn.in_transaction ≡ false }
-        ensures books { IfOk result (λ b. HasCleanDisk (state S.Store b.conn) → (first : ℤ) (acts : List Act) → IsHistory first acts → AreRowsOf first acts (state S.Store conn).committed.trees
+        ensures books { IfOk result (λ b. HasCleanDisk (state S.Store b.conn) → (first : ℤ) (acts : List Act) → IsHistory first acts → AreFoundRows first acts (state S.Store conn).committed.trees
             → KeepsBooks first acts (state S.Store b.conn)) }
-        ensures day { IfOk result (λ b. HasCleanDisk (state S.Store b.conn) → HasDay (state S.Store conn).committed.trees b.day) }
-        ensures today { IfOk result (λ b. HasCleanDisk (state S.Store b.conn) → (first : ℤ) (acts : List Act) → IsHistory first acts → AreRowsOf first acts (state S.Store conn).committed.trees
+        ensures day { IfOk result (λ b. HasCleanDisk (state S.Store b.conn) → HasFoundDay (state S.Store conn) b.day) }
+        ensures today { IfOk result (λ b. HasCleanDisk (state S.Store b.conn) → (first : ℤ) (acts : List Act) → IsHistory first acts → AreFoundRows first acts (state S.Store conn).committed.trees
             → b.day ≡ today first acts) }
-        ensures kept { IfOk result (λ b. HasCleanDisk (state S.Store b.conn) → (first : ℤ) (acts : List Act) → IsHistory first acts → AreRowsOf first acts (state S.Store conn).committed.trees
+        ensures kept { IfOk result (λ b. HasCleanDisk (state S.Store b.conn) → (first : ℤ) (acts : List Act) → IsHistory first acts → AreFoundRows first acts (state S.Store conn).committed.trees
             → LeavesOnly first acts (state S.Store b.conn)) }
         ensures opens { IfOk result (λ b. IsReopened S.Store conn b.conn) }
         ensures open { IfOk result (λ b. HasCleanDisk (state S.Store b.conn) → IsTrue (state S.Store b.conn).is_open) }
         ensures settled { IfOk result (λ b. HasCleanDisk (state S.Store b.conn) → IsSettled (state S.Store b.conn)) }
         ensures indexes { IfOk result (λ b. HasCleanDisk (state S.Store b.conn) → HasIndexes (state S.Store b.conn).now.schema) }
         ensures foreign { IfErr result (λ e. IsCleanLeft S.Store e.left → e.fault ≡ Fault.Foreign
-            → (¬ HasTables (state S.Store conn).now.schema) ⊎ ((day : ℤ) → ¬ HasDay (state S.Store conn).committed.trees day)) }
-        ensures known { IfErr result (λ e. IsCleanLeft S.Store e.left → HasTables (state S.Store conn).now.schema → (first : ℤ) (acts : List Act) → IsHistory first acts
-            → AreRowsOf first acts (state S.Store conn).committed.trees → e.fault ≡ Fault.Store) }
+            → IsOfNone (state S.Store conn).now.schema ⊎ IsForeignWithin (state S.Store conn)) }
+        ensures known { IfErr result (λ e. IsCleanLeft S.Store e.left → (found : Found) → HasSchema found (state S.Store conn).now.schema → (first : ℤ) (acts : List Act) → IsHistory first acts
+            → AreRowsAt found first acts (state S.Store conn).committed.trees → e.fault ≡ Fault.Store) }
         ensures again { IfErr result (λ e. IsCleanLeft S.Store e.left → Opens (state S.Store conn) → IsLive (state S.Store conn) → (first : ℤ) (acts : List Act) → IsHistory first acts
             → AreBooks first acts (state S.Store conn).committed.trees → e.fault ≡ Fault.Store) }
-        ensures other { ¬ HasTables (state S.Store conn).now.schema
+        ensures other { IsOfNone (state S.Store conn).now.schema
             → IsErrAnd result (λ e. (e.left ≡ Leftover.Connection conn) × ((e.fault ≡ Fault.Foreign) ⊎ (e.fault ≡ Fault.Store))) }
         ensures left { IfErr result (λ e. IsLeftOver S.Store conn e.left) }
         ensures fault { IfErr result (λ e. (e.fault ≡ Fault.Foreign) ⊎ (e.fault ≡ Fault.Store)) }
     {
-        let mut again = match ready(alloc, conn) {
-            Ok(again) => again,
+        let (mut again, found) = match ready(alloc, conn) {
+            Ok(opened) => opened,
             Err((left, fault)) => {
                 return Err(OpenFault {
                     left,
@@ -186,7 +187,7 @@ impl<S: Alter + Drop> Books<S> {
                 });
             }
         };
-        match settle(alloc, &mut again) {
+        match settled(alloc, &mut again, found) {
             Ok(day) => Ok(Books {
                 conn: again,
                 day,

@@ -10,12 +10,12 @@ ghost use Rattle.machine.specs.Machine.{AllSound};
 ghost use Rattle.slices.specs.Books.{IsBooksOf};
 ghost use Rattle.store.specs.Books.{AreBooks, KeepsBooks, IsSettled};
 ghost use Rattle.store.specs.Knowing.{HasKnown, IsKnown, GoesOnKnown};
-ghost use Rattle.store.specs.Filing.{rows_of, AreKeysOf, counted as counted_lem, fault_at as fault_at_lem, IsRowTaken, IsFiledInside, IsFiledOn};
+ghost use Rattle.store.specs.Filing.{rows_of, AreKeysOf, counted as counted_lem, fault_at as fault_at_lem, with_row as with_row_lem, IsRowTaken, IsFiledInside, IsFiledOn};
 
 use crate::acting::act_inside;
 use crate::day::day_left;
 use crate::repeats::find_open;
-use crate::{Fault, RowFault, Tally};
+use crate::{Fault, Reply, RowFault, Tally};
 use commands::laws::{every_command_is_sound, every_key_is_sound};
 use commands::{Command, Key};
 use label::BusinessDay;
@@ -145,13 +145,26 @@ fn take_row<S: Alter>(
 {
     every_command_is_sound(&row.1);
     every_key_is_sound(row.0);
-    match act_inside(alloc, tx, known, &row.0, &row.1) {
-        Ok(reply) => Ok(counted(so_far, &row.1, reply.repeated)),
+    let acted = act_inside(alloc, tx, known, &row.0, &row.1);
+    with_row(so_far, &row.1, acted)
+}
+
+// What the rows come to with one more, which went so.
+fn with_row(
+    so_far: Filed,
+    command: &Command,
+    acted: Result<Reply, Fault>,
+) -> Result<Filed, RowFault>
+    requires few { so_far.tally.accepted + so_far.tally.repeated < 1000 }
+    ensures { result ≡ with_row_lem so_far command.now acted }
+{
+    match acted {
+        Ok(reply) => Ok(counted(so_far, command, reply.repeated)),
         Err(fault) => Err(fault_at(so_far.tally, fault)),
     }
 }
 
-// What the rows come to with one more.
+// What the rows come to with one more that was acted on.
 fn counted(so_far: Filed, command: &Command, repeated: bool) -> Filed
     requires few { so_far.tally.accepted + so_far.tally.repeated < 1000 }
     ensures { result ≡ counted_lem so_far command.now repeated }

@@ -1,6 +1,6 @@
 //! The rows of `repeats`: the keys, the commands and the answers of the acts.
 
-ghost use Rattle.std.specs.Prelude.{◌≡◌, OnOk, IfOk, IfErr};
+ghost use Rattle.std.specs.Prelude.{◌≡◌, slice_get, OnOk, IfOk, IfErr};
 ghost use Rattle.sqlite.specs.State.{HasCleanDisk, Survives, KeepsCommit, IsUnchanged};
 ghost use Rattle.sqlite.specs.Held.{state};
 ghost use Rattle.commands.specs.Spelling.{key_text};
@@ -49,11 +49,19 @@ pub fn earlier<S: Alter>(
     ensures kept { HasCleanDisk (state S.Store tx.new.conn.now) → IsReady (state S.Store tx.old.conn.now).now → KeepsCommit (state S.Store tx.old.conn.now) (state S.Store tx.new.conn.now) }
     ensures survives { Survives (state S.Store tx.old.conn.now) (state S.Store tx.new.conn.now) (λ _. ⊥) }
 {
-    let mut rows = repeats_of(alloc, tx, k)?;
+    let rows = repeats_of(alloc, tx, k)?;
+    Ok(first_row(rows))
+}
+
+// The first of the rows, where there is one.
+fn first_row(rows: Vec<RepeatRow>) -> Option<RepeatRow>
+    ensures { result ≡ slice_get rows.items 0 }
+{
+    let mut rows = rows;
     if rows.is_empty() {
-        return Ok(None);
+        return None;
     }
-    Ok(Some(rows.remove(0)))
+    Some(rows.remove(0))
 }
 
 /// Keeps the key, the spelling and the answer of an act.

@@ -88,6 +88,9 @@ cards_table tree = keyed_table tree (codes "cards") (text_column (codes "gtin") 
 abbrev pub repeats_table : ℕ → Table
 repeats_table tree = keyed_table tree (codes "repeats") (text_column (codes "k") ∷ number_column (codes "act") ∷ text_column (codes "spell") ∷ text_column (codes "reply") ∷ []) (1 ∷ [])
 
+abbrev pub least_table : ℕ → Table
+least_table tree = keyed_table tree (codes "least") (text_column (codes "gtin") ∷ number_column (codes "days") ∷ []) (1 ∷ [])
+
 -- the trees of the tables; those between them are the indexes of their keys
 abbrev pub meta_tree : ℕ
 meta_tree = 0
@@ -131,15 +134,18 @@ cards_tree = 22
 abbrev pub repeats_tree : ℕ
 repeats_tree = 24
 
+abbrev pub least_tree : ℕ
+least_tree = 26
+
 -- the schema with nothing in it
 abbrev pub schema_0 : Schema
 schema_0 = record { tables = []; indexes = []; views = [] }
 
 -- ---- the schemas that books may have
 
--- the tables of the books, in their order
-abbrev pub the_tables : List Table
-the_tables =
+-- the tables of schema 1, in their order
+abbrev pub first_tables : List Table
+first_tables =
     meta_table meta_tree
     ∷ items_table items_tree
     ∷ bins_table bins_tree
@@ -156,6 +162,10 @@ the_tables =
     ∷ repeats_table repeats_tree
     ∷ []
 
+-- the tables of the books, in their order
+abbrev pub the_tables : List Table
+the_tables = first_tables ++ least_table least_tree ∷ []
+
 -- the tables of the books, and then those of the rest, with its indexes and views
 abbrev pub schema_with : Schema → Schema
 schema_with rest = record rest { tables = the_tables ++ rest.tables }
@@ -170,7 +180,7 @@ refers_to_none t = is_nil t.references
 
 -- the index is not UNIQUE, or is that of a table beside those of the books, or of a key
 abbrev pub is_harmless : Index → Bool
-is_harmless i = not i.is_unique || (nat_lt 25 i.table || starts_with nat_eq i.name (codes "sqlite_autoindex_"))
+is_harmless i = not i.is_unique || (nat_lt 27 i.table || starts_with nat_eq i.name (codes "sqlite_autoindex_"))
 
 -- The schema has the tables of the books. Others may follow that refer to none, and there may be any views, and any
 -- indexes that refuse no row of the books.

@@ -1,5 +1,5 @@
 -- The rows of each table as typed ones, the tables as look-ups by primary key, and what the calls make of them.
-use Rattle.std.specs.Prelude.{◌≡◌, ℕ, Bool, true, false, ◌&&◌, if◌then◌else◌, bytes_eq, nat_eq, codes, List, [], ◌∷◌, filter, find, pos, Option, Some, None}
+use Rattle.std.specs.Prelude.{◌≡◌, ℕ, Bool, true, false, ◌&&◌, if◌then◌else◌, bytes_eq, nat_eq, codes, List, [], ◌∷◌, ◌++◌, filter, find, pos, Option, Some, None}
 use Rattle.std.specs.List.{AllByRecursion}
 use Rattle.sqlite_value.specs.declared.value.Value.TheVariants.{Int, Text}
 use Rattle.sqlite_value.specs.Order.{Row, column, bytes}
@@ -9,10 +9,11 @@ use Rattle.label.specs.Days.{is_day, is_business_day}
 use Rattle.values.specs.declared.lot.LotId.{LotId}
 use Rattle.commands.specs.Words.{bin_kind_word, order_state_word, card_kind_word}
 pub use Rattle.commands.specs.Tables.{Tables}
-use Rattle.commands.specs.declared.limits.TheConstants.{UNITS_MAX, ACTS_MAX, SHORT_MAX, KEY_TEXT_MAX, CARD_NOTE_MAX, SCHEMA_VERSION}
+use Rattle.commands.specs.declared.limits.TheConstants.{UNITS_MAX, ACTS_MAX, SHORT_MAX, LEAST_DAYS_MAX, KEY_TEXT_MAX, CARD_NOTE_MAX, SCHEMA_VERSION}
 use Rattle.table_words.specs.Cells.{typed, is_word, is_the_text, fits_in, is_any, is_number, is_the_number, number_in, is_signed, is_any_number, signed_in, flag_number, flag_in, is_bin_kind, bin_kind_in, is_order_state, is_open_state, order_state_in, is_card_kind, card_kind_in}
 use Rattle.commands.specs.declared.rows.MetaRow.{MetaRow}
 use Rattle.commands.specs.declared.rows.ItemRow.{ItemRow}
+use Rattle.commands.specs.declared.rows.LeastRow.{LeastRow}
 use Rattle.commands.specs.declared.rows.BinRow.{BinRow}
 use Rattle.commands.specs.declared.rows.LotRow.{LotRow}
 use Rattle.commands.specs.declared.rows.RecallRow.{RecallRow}
@@ -25,7 +26,7 @@ use Rattle.commands.specs.declared.rows.ShipmentRow.{ShipmentRow}
 use Rattle.commands.specs.declared.rows.ShiplineRow.{ShiplineRow}
 use Rattle.commands.specs.declared.rows.CardRow.{CardRow}
 use Rattle.commands.specs.declared.rows.RepeatRow.{RepeatRow}
-use Rattle.table_words.specs.Schema.{meta_tree, items_tree, bins_tree, lots_tree, recalls_tree, stock_tree, orders_tree, lines_tree, staged_tree, reserved_tree, shipments_tree, shiplines_tree, cards_tree, repeats_tree}
+use Rattle.table_words.specs.Schema.{meta_tree, items_tree, bins_tree, lots_tree, recalls_tree, stock_tree, orders_tree, lines_tree, staged_tree, reserved_tree, shipments_tree, shiplines_tree, cards_tree, repeats_tree, least_tree}
 
 abbrev pub same_lot_id : LotId → LotId → Bool
 same_lot_id a b = bytes_eq a.gtin b.gtin && bytes_eq a.lot b.lot
@@ -101,6 +102,36 @@ item_key s = s.gtin
 -- its values, in the order of the columns
 abbrev pub item_cells : ItemRow → Row
 item_cells s = Text s.gtin ∷ Text s.name ∷ []
+
+-- ---- least
+
+-- whether the row reads as a typed one
+abbrev pub is_least : Row → Bool
+is_least r = is_word is_gtin (column r 1) && is_number LEAST_DAYS_MAX (column r 2)
+
+-- what it reads as
+abbrev pub least_in : Row → LeastRow
+least_in r = record { gtin = bytes (column r 1); days = number_in (column r 2) }
+
+-- the same of its columns in their order, as a statement answers them
+abbrev pub has_least : Row → Bool
+has_least v = is_word is_gtin (column v 0) && is_number LEAST_DAYS_MAX (column v 1)
+
+abbrev pub least_read : Row → LeastRow
+least_read v = record { gtin = bytes (column v 0); days = number_in (column v 1) }
+
+abbrev pub LeastKey : Type 0
+LeastKey = List ℕ
+
+abbrev pub same_least : LeastKey → LeastKey → Bool
+same_least a b = bytes_eq a b
+
+abbrev pub least_key : LeastRow → LeastKey
+least_key s = s.gtin
+
+-- its values, in the order of the columns
+abbrev pub least_cells : LeastRow → Row
+least_cells s = Text s.gtin ∷ Int (pos s.days) ∷ []
 
 -- ---- bins
 
@@ -475,6 +506,7 @@ abbrev pub tables_in : Trees → Tables
 tables_in trees = record {
   meta = meta_at SCHEMA_VERSION trees;
   item = λ gtin. find (λ s. same_item gtin (item_key s)) (typed is_item item_in (trees items_tree));
+  least = λ gtin. find (λ s. same_least gtin (least_key s)) (typed is_least least_in (trees least_tree));
   bin = λ name. find (λ s. same_bin name (bin_key s)) (typed is_bin bin_in (trees bins_tree));
   lot = λ lot. find (λ s. same_lot lot (lot_key s)) (typed is_lot lot_in (trees lots_tree));
   recall = λ lot. find (λ s. same_recall lot (recall_key s)) (typed is_recall recall_in (trees recalls_tree));
@@ -494,10 +526,10 @@ pub record Rule : Type 0 where
   pub tree : ℕ
   pub is : Row → Bool
 
--- a rule for each table, in the order of the tables
-abbrev pub the_rules : List Rule
-the_rules =
-    record { tree = meta_tree; is = is_meta }
+-- a rule for each table of schema 1, in their order, in books of this schema number
+abbrev pub first_rules : ℕ → List Rule
+first_rules version =
+    record { tree = meta_tree; is = is_meta_at version }
     ∷ record { tree = items_tree; is = is_item }
     ∷ record { tree = bins_tree; is = is_bin }
     ∷ record { tree = lots_tree; is = is_lot }
@@ -513,6 +545,13 @@ the_rules =
     ∷ record { tree = repeats_tree; is = is_repeat }
     ∷ []
 
+-- a rule for each table, in the order of the tables
+abbrev pub rules_at : ℕ → List Rule
+rules_at version = first_rules version ++ record { tree = least_tree; is = is_least } ∷ []
+
+abbrev pub the_rules : List Rule
+the_rules = rules_at SCHEMA_VERSION
+
 -- each row that is stored there reads as a typed one
 abbrev pub Keeps : Trees → Rule → Type 0
 Keeps trees rule = AllByRecursion (λ r. rule.is r ≡ true) (trees rule.tree)
@@ -520,6 +559,10 @@ Keeps trees rule = AllByRecursion (λ r. rule.is r ≡ true) (trees rule.tree)
 -- each stored row reads as a typed one
 pub record AreTyped (trees : Trees) : Type 0 where
   pub each : AllByRecursion (Keeps trees) the_rules
+
+-- the same in books of this schema number
+abbrev pub AreTypedAt : ℕ → Trees → Type 0
+AreTypedAt version trees = AllByRecursion (Keeps trees) (rules_at version)
 
 -- ---- what the calls make of them
 
@@ -530,6 +573,10 @@ with_meta s t = record t { meta = Some s }
 -- the row takes the place of one with its key
 abbrev pub with_item : ItemRow → Tables → Tables
 with_item s t = record t { item = λ at_gtin. if same_item at_gtin (item_key s) then Some s else t.item at_gtin }
+
+-- the row takes the place of one with its key
+abbrev pub with_least : LeastRow → Tables → Tables
+with_least s t = record t { least = λ at_gtin. if same_least at_gtin (least_key s) then Some s else t.least at_gtin }
 
 -- the row takes the place of one with its key
 abbrev pub with_bin : BinRow → Tables → Tables
@@ -589,4 +636,4 @@ abbrev pub with_repeat : RepeatRow → Tables → Tables
 with_repeat s t = record t { repeat = λ at_k. if same_repeat at_k (repeat_key s) then Some s else t.repeat at_k }
 
 abbrev pub no_rows : Tables
-no_rows = record { meta = None; item = λ _. None; bin = λ _. None; lot = λ _. None; recall = λ _. None; stock = λ _ _. None; order = λ _. None; line = λ _ _. None; staged = λ _ _. None; reserved = λ _ _. None; shipment = λ _. None; shipline = λ _ _. None; card = λ _ _. None; repeat = λ _. None }
+no_rows = record { meta = None; item = λ _. None; least = λ _. None; bin = λ _. None; lot = λ _. None; recall = λ _. None; stock = λ _ _. None; order = λ _. None; line = λ _ _. None; staged = λ _ _. None; reserved = λ _ _. None; shipment = λ _. None; shipline = λ _ _. None; card = λ _ _. None; repeat = λ _. None }

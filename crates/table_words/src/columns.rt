@@ -6,14 +6,14 @@ ghost use Rattle.sqlite_value.specs.Value.{owned};
 ghost use Rattle.sqlite_value.specs.Order.{column, bytes};
 ghost use Rattle.values.specs.Values.{is_gtin, is_lot_text, is_name, is_title};
 ghost use Rattle.label.specs.Days.{is_day, is_business_day};
-ghost use Rattle.commands.specs.declared.limits.TheConstants.{CARD_NOTE_MAX, KEY_TEXT_MAX, SHORT_MAX};
+ghost use Rattle.commands.specs.declared.limits.TheConstants.{CARD_NOTE_MAX, KEY_TEXT_MAX, LEAST_DAYS_MAX, SHORT_MAX};
 ghost use Rattle.commands.specs.Words.{bin_kind_word, order_state_word, card_kind_word};
 ghost use Rattle.table_words.specs.Cells.{is_word, fits_in, is_any, is_number, is_the_number, is_the_text, number_in, is_signed, signed_in, is_any_number, flag_number, flag_in, is_bin_kind, bin_kind_in, is_order_state, order_state_in, is_card_kind, card_kind_in};
 ghost use Rattle.table_words.specs.declared.error.TableFault.TheVariants.{Foreign};
 
 use crate::error::TableFault;
-use commands::limits::{CARD_NOTE_MAX, KEY_TEXT_MAX, SHORT_MAX};
-use commands::{BinKind, CardKind, Listed, OrderState, Short};
+use commands::limits::{CARD_NOTE_MAX, KEY_TEXT_MAX, LEAST_DAYS_MAX, SHORT_MAX};
+use commands::{BinKind, CardKind, LeastDays, Listed, OrderState, Short};
 use label::{BusinessDay, Day};
 use sqlite::Row;
 use sqlite::types::ValueRef;
@@ -58,6 +58,14 @@ pub fn of_number(n: u64) -> ValueRef<'static>
     ensures value { owned result ≡ Int (pos n) }
 {
     ValueRef::Int(n as i64)
+}
+
+/// The least remaining days as a column takes them.
+pub fn of_least_days(days: LeastDays) -> ValueRef<'static>
+    ensures value { owned result ≡ Int (pos days) }
+    ensures rule { IsTrue (is_number LEAST_DAYS_MAX (Int (pos days))) }
+{
+    ValueRef::Int(i64::from(days.days()))
 }
 
 /// A number, below 0 or not, as a column takes it.
@@ -261,6 +269,17 @@ pub fn number_at(row: &Row, at: usize, limit: u64) -> Result<u64, TableFault>
         return Err(TableFault::Foreign);
     }
     Ok(n as u64)
+}
+
+/// The least remaining days in a column, or `Foreign`.
+pub fn least_days_at(row: &Row, at: usize) -> Result<LeastDays, TableFault>
+    ensures ok { IfOk result (λ x. IsTrue (is_number LEAST_DAYS_MAX (column row.now at)) × (number_in (column row.now at) ≡ x)) }
+    ensures foreign { IfErr result (λ e. is_number LEAST_DAYS_MAX (column row.now at) ≡ false) }
+{
+    match LeastDays::new(number_at(row, at, u64::from(LEAST_DAYS_MAX))?) {
+        Some(days) => Ok(days),
+        None => Err(TableFault::Foreign),
+    }
 }
 
 /// The number in a column, below 0 or not, or `Foreign`.

@@ -1,7 +1,6 @@
 -- What making the tables of the books leaves in a database that has nothing.
-use Rattle.std.proofs.Common.{◌≡◌, ℕ, IsTrue, true, List, [], ◌∷◌, Ok, Err, Result, OnOk, refl, sym, ap, subst, ◌∙◌}
+use Rattle.std.proofs.Common.{◌≡◌, IsTrue, true, [], Ok, Err, Result, OnOk, refl, sym, ap, subst, ◌∙◌}
 use Rattle.std.specs.List.{AllByRecursion}
-use Rattle.sqlite.specs.Effect.{Database}
 use Rattle.sqlite_catalog.specs.Listing.{IsSound}
 use Rattle.sqlite.specs.Store.{Ghosts}
 use Rattle.sqlite.specs.Tree.{Trees}
@@ -30,7 +29,7 @@ module _ (trees : Trees) (empty : AllByRecursion (λ t. trees t.tree ≡ []) the
   empty_rows = all_weaker (λ t. trees t.tree ≡ []) (λ t. IsRows (trees t.tree)) (λ t e. rw e (tt, tt)) the_tables empty
 
   empty_tables : tables_in trees ≡ no_rows
-  empty_tables = rw (empty.0, empty.1.0, empty.1.1.0, empty.1.1.1.0, empty.1.1.1.1.0, empty.1.1.1.1.1.0, empty.1.1.1.1.1.1.0, empty.1.1.1.1.1.1.1.0, empty.1.1.1.1.1.1.1.1.0, empty.1.1.1.1.1.1.1.1.1.0, empty.1.1.1.1.1.1.1.1.1.1.0, empty.1.1.1.1.1.1.1.1.1.1.1.0, empty.1.1.1.1.1.1.1.1.1.1.1.1.0, empty.1.1.1.1.1.1.1.1.1.1.1.1.1.0) refl
+  empty_tables = rw (empty.0, empty.1.0, empty.1.1.0, empty.1.1.1.0, empty.1.1.1.1.0, empty.1.1.1.1.1.0, empty.1.1.1.1.1.1.0, empty.1.1.1.1.1.1.1.0, empty.1.1.1.1.1.1.1.1.0, empty.1.1.1.1.1.1.1.1.1.0, empty.1.1.1.1.1.1.1.1.1.1.0, empty.1.1.1.1.1.1.1.1.1.1.1.0, empty.1.1.1.1.1.1.1.1.1.1.1.1.0, empty.1.1.1.1.1.1.1.1.1.1.1.1.1.0, empty.1.1.1.1.1.1.1.1.1.1.1.1.1.1.0) refl
 
   empty_typed : AreTyped trees
   empty_typed = record { each = all_weaker (λ t. trees t.tree ≡ []) (Keeps trees) (λ t none. subst (AllByRecursion (λ r. t.is r ≡ true)) (sym none) tt) the_rules empty }

@@ -1,7 +1,7 @@
 -- What a statement that makes an index leaves of the books.
-use Rattle.std.proofs.Common.{◌≡◌, IsTrue, inl, inr, ℕ, ◌+◌, Bool, true, false, not, ◌||◌, cond, is_some, None, Some, slice_get, List, [], ◌∷◌, ◌++◌, Ok, Err, Result, OnErr, Option, refl, sym, ap, subst, ◌∙◌}
+use Rattle.std.proofs.Common.{◌≡◌, IsTrue, inl, inr, ℕ, ◌+◌, Bool, true, false, is_some, None, Some, slice_get, List, [], ◌∷◌, ◌++◌, Ok, Err, Result, OnErr, refl, sym, ap, subst, ◌∙◌}
 use Rattle.std.specs.List.{AllByRecursion, list_all, position_from}
-use Rattle.std.proofs.lemmas.Bool.{cases_Bool, and_parts, and_from}
+use Rattle.std.proofs.lemmas.Bool.{cases_Bool, and_parts}
 use Rattle.sqlite.specs.Command.TheVariants.{CreateIndex, Nothing}
 use Rattle.sqlite.specs.Change.{indexed, next_tree}
 use Rattle.sqlite.specs.Does.{Tally, AtPlace, Defines, MakesIndex}
@@ -21,7 +21,7 @@ use Rattle.table_words.specs.Steps.{IsReady, Goes, ChangesNone}
 use Rattle.table_words.proofs.StepLemmas.{front, tables_same, typed_same}
 use Rattle.table_words.proofs.WriteLemmas.{went, same_value}
 use Rattle.table_words.proofs.CallLemmas.{goes_then}
-use Rattle.tables.specs.Indexing.{HasIndex, KeepsRows, IsIndexed, plan, MakesOrFinds, Indexes}
+use Rattle.tables.specs.Indexing.{HasIndex, KeepsRows, IsIndexed, plan, Indexes}
 
 found_before : (p : Index → Bool) (at : ℕ) (xs : List Index) (x : Index) → is_some (position_from p at xs) ≡ true → is_some (position_from p at (xs ++ x ∷ [])) ≡ true
 found_before p at [] x h = absurd cc

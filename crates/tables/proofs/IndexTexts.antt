@@ -1,5 +1,5 @@
 -- What the texts that make the indexes mean in any schema of books.
-use Rattle.std.proofs.Common.{◌≡◌, inl, inr, ℕ, List, [], ◌∷◌, codes, refl, true, false, None, Ok, Err, Result, sym, subst, Bool, Option}
+use Rattle.std.proofs.Common.{◌≡◌, inl, inr, ℕ, List, [], ◌∷◌, codes, refl, true, false, None, Ok, Result, sym, subst, Bool, Option}
 use Rattle.std.specs.Prelude.{if◌then◌else◌, is_some}
 use Rattle.std.specs.Option.{option_or}
 use Rattle.std.proofs.lemmas.Bool.{cases_Bool}
@@ -18,19 +18,22 @@ use Rattle.sqlite_schema.specs.Names.{table_named, index_named, view_named}
 use Rattle.table_words.specs.Schema.{schema_with, staged_table, reserved_table, shiplines_table}
 use Rattle.sqlite_schema.specs.declared.schema.Index.{Index}
 use Rattle.sqlite_value.specs.Keys.{plain}
-use Rattle.tables.specs.Indexing.{plan, MakesOrFinds, Indexes}
+use Rattle.tables.specs.Indexing.{MakesOrFinds, Indexes}
 use Rattle.tables.specs.declared.indexing.TheConstants.{STAGED_BY_GTIN, RESERVED_BY_GTIN, SHIPLINES_OF_LOT}
 
 -- the index that a CREATE INDEX makes of these places of the table
 abbrev plain_index : List ℕ → ℕ → List ℕ → Index
 plain_index name table places = record { name = name; tree = 0; table = table; columns = places; order = plain; is_unique = false }
 
+-- what follows from which command it is
+abbrev pub whole_of : ℕ → Result Command CompileError → Result Compiled CompileError
+whole_of size command =
+    and_then (and_then (and_then command (λ (c : Command). Ok (c, None))) (λ (found : Command × Option Returning). Ok ([], found)))
+    (λ (p : List (List ℕ) × (Command × Option Returning)). let c : Compiled = record { command = p.1.0; returning = p.1.1; names = []; formats = p.0; start = 0; end = size; tail = size } in Ok c)
+
 -- what follows from whether the name is free
 abbrev whole : ℕ → ℕ → Result Bool CompileError → Result Compiled CompileError
-whole size at is_new =
-    and_then (and_then (and_then (and_then is_new (λ (b : Bool). if b then Ok (CreateIndex at) else Ok Nothing)) (λ (c : Command). Ok (c, None)))
-    (λ (found : Command × Option Returning). Ok ([], found)))
-    (λ (p : List (List ℕ) × (Command × Option Returning)). let c : Compiled = record { command = p.1.0; returning = p.1.1; names = []; formats = p.0; start = 0; end = size; tail = size } in Ok c)
+whole size at is_new = whole_of size (and_then is_new (λ (b : Bool). if b then Ok (CreateIndex at) else Ok Nothing))
 
 outcome : (size at : ℕ) (name : List ℕ) → is_reserved name ≡ false → (same other : Option ℕ) → MakesOrFinds size at same (whole size at (creates true name same other)) × (misses_table (whole size at (creates true name same other)) ≡ false)
 unfolding creates
@@ -42,7 +45,7 @@ outcome size at name free same other = elim (cases_Bool (is_some other)) [
   ]
 ]
 
-understood_as : (schema : Schema) (text : List ℕ) (r : Result Compiled CompileError) → compiled schema text ≡ r → misses_table r ≡ false → understood schema text ≡ r
+pub understood_as : (schema : Schema) (text : List ℕ) (r : Result Compiled CompileError) → compiled schema text ≡ r → misses_table r ≡ false → understood schema text ≡ r
 unfolding understood
 understood_as schema text r is found = rw (is, found) refl
 

@@ -5,3 +5,6 @@ pub mod OpenLemmas
 pub mod IndexTexts
 pub mod IndexLemmas
 pub mod SettleLemmas
+pub mod DropLemmas
+pub mod DropTexts
+pub mod BringLemmas

@@ -1,5 +1,5 @@
 -- The rowids of each table rise where the store was just opened.
-use Rattle.std.proofs.Common.{◌≡◌, ◌⊎◌, ℕ, ◌≤◌, Bool, IsTrue, IfErr, Result, Ok, Err, inl, inr, true, false, [], refl, sym, ap, subst, ◌∙◌, arith}
+use Rattle.std.proofs.Common.{◌≡◌, ◌⊎◌, ℕ, ◌≤◌, IfErr, Result, Ok, Err, inl, inr, true, false, refl, sym, subst, arith}
 use Rattle.sqlite_disk.specs.Disk.{MoreFaults}
 use Rattle.sqlite_trees.specs.Tree.{Trees}
 use Rattle.sqlite_trees.specs.declared.error.StoreError.{StoreError}
@@ -24,7 +24,11 @@ use Rattle.table_words.specs.Schema.{the_tables, schema_with, HasTables}
 use Rattle.table_words.specs.Rows.{IsRows}
 use Rattle.table_words.specs.Steps.{IsReady}
 use Rattle.table_words.proofs.StepLemmas.{front}
-use Rattle.tables.specs.Opening.{TellTables}
+use Rattle.tables.specs.Bringing.{IsFirstReady}
+use Rattle.tables.specs.Older.{IsFirstSchema}
+use Rattle.tables.specs.Opening.{HasSchema, IsReadyAs, IsOfNone, TellTables}
+use Rattle.tables.specs.declared.opening.Found.{Found}
+use Rattle.tables.specs.declared.opening.Found.TheVariants.{Newest, First}
 
 pub ready_over : (v : View) (db : Database) → IsListed (v.trees catalog_tree) v.shape v.reals → IsOrdered v.shape v.trees → IsDatabase db → db.trees ≡ v.trees → HasTables db.schema → IsReady db
 ready_over v db listed ordered sound trees has =
@@ -36,6 +40,27 @@ ready_over v db listed ordered sound trees has =
       sound = subst (λ s. IsSound s db.trees) has.is sound;
       rows = front _ the_tables has.rest.tables (subst (λ (s : Schema). AllByRecursion (λ t. IsRows (db.trees t.tree)) s.tables) has.is rows);
     }
+
+-- the same of books of schema 1
+pub first_over : (v : View) (db : Database) → IsListed (v.trees catalog_tree) v.shape v.reals → IsOrdered v.shape v.trees → IsDatabase db → db.trees ≡ v.trees → IsFirstSchema db.schema → IsFirstReady db
+first_over v db listed ordered sound trees has =
+    let lists : Lists (v.trees catalog_tree) db.schema = subst (λ t. Lists (t catalog_tree) db.schema) trees sound.lists in
+    let rows = all_from (λ t. IsRows (db.trees t.tree)) db.schema.tables (λ t h.
+    subst (λ d. IsRows (d t.tree)) (sym trees) (subst (λ s. IsShaped s (v.trees t.tree)) (table_shape listed (objects_rise v listed ordered).0 lists.listed t h).0 (ordered t.tree))) in
+    record { has = has; rows = subst (λ (s : Schema). AllByRecursion (λ t. IsRows (db.trees t.tree)) s.tables) has.is rows; sound = sound }
+
+pub found_over : (v : View) (db : Database) → IsListed (v.trees catalog_tree) v.shape v.reals → IsOrdered v.shape v.trees → IsDatabase db → db.trees ≡ v.trees → (found : Found) → HasSchema found db.schema → IsReadyAs found db
+found_over v db listed ordered sound trees Newest has = ready_over v db listed ordered sound trees has
+found_over v db listed ordered sound trees First has = first_over v db listed ordered sound trees has
+
+pub of_none : (schema : Schema) → (HasTables schema → ⊥) → (IsFirstSchema schema → ⊥) → IsOfNone schema
+of_none schema newest first Newest = newest
+of_none schema newest first First = first
+
+-- an error tells of memory, or of something else
+pub memory_or_not : (e : Error) → (e ≡ SqliteFailure OutOfMemory) ⊎ (e ≡ SqliteFailure OutOfMemory → ⊥)
+memory_or_not (SqliteFailure OutOfMemory) = inl refl
+memory_or_not e = inr (λ is. cc)
 
 pub open_if_sound : (v : View) → (v.is_open ≡ false → v.is_broken ≡ true) → v.is_broken ≡ false → v.is_open ≡ true
 open_if_sound v law sound = elim (cases_Bool v.is_open) [ inl e ↦ e | inr e ↦ absurd (let bad = law e in cc) ]

@@ -1,26 +1,23 @@
 -- Reading the business day, and making the indexes, in one transaction.
-use Rattle.std.proofs.Common.{◌≡◌, inl, inr, Bool, true, false, List, [], ◌∷◌, filter, IsTrue, Result, Ok, Err, OnOk, IfOk, IfErr, refl, sym, ap, subst, ◌∙◌, arith}
-use Rattle.std.specs.Prelude.{◌≤◌, ◌⊎◌, ℤ, None, Some, option_map, find, if◌then◌else◌}
+use Rattle.std.proofs.Common.{◌≡◌, inl, inr, true, false, List, [], ◌∷◌, IsTrue, Result, Ok, Err, OnOk, IfOk, IfErr, refl, sym, ap, subst, ◌∙◌}
+use Rattle.std.specs.Prelude.{◌⊎◌, ℤ, None, Some, option_map, find}
 use Rattle.std.specs.List.{AllByRecursion}
 use Rattle.std.specs.Result.{IsErrAnd, IsOkAnd}
 use Rattle.commands.specs.declared.rows.MetaRow.{MetaRow}
-use Rattle.sqlite_value.specs.Order.{column}
 use Rattle.sqlite_trees.specs.declared.store.Store.{Ghosts}
 use Rattle.sqlite.specs.Effect.{Database}
 use Rattle.sqlite.specs.Held.{Held, state}
-use Rattle.sqlite.specs.State.{State, HasCleanDisk, KeepsCommit, IsRolledBack, IsUnchanged, Shows, Opens, Survives}
+use Rattle.sqlite.specs.State.{State, KeepsCommit, IsRolledBack, IsUnchanged, Shows, Survives}
 use Rattle.sqlite.specs.Steps.{FailsToCommit}
 use Rattle.sqlite.specs.declared.error.Error.{Error}
 use Rattle.sqlite.specs.Table.{Table}
 use Rattle.sqlite.proofs.StateLemmas.{survives_then}
 use Rattle.sqlite.specs.Tree.{Trees}
-use Rattle.table_words.specs.Cells.{is_the_number}
-use Rattle.table_words.specs.Schema.{meta_tree, the_tables}
+use Rattle.table_words.specs.Schema.{the_tables}
 use Rattle.table_words.specs.Steps.{IsReady}
 use Rattle.table_words.specs.Typed.{is_meta, tables_in, meta_rows_rows}
 use Rattle.table_words.specs.declared.error.TableFault.{TableFault}
-use Rattle.table_words.specs.declared.error.TableFault.TheVariants.{Store as TableStore, Foreign as TableForeign}
-use Rattle.table_words.proofs.StepLemmas.{tables_same, typed_same}
+use Rattle.table_words.specs.declared.error.TableFault.TheVariants.{Foreign as TableForeign}
 use Rattle.tables.specs.Indexing.{HasIndex, KeepsRows, IsIndexed}
 use Rattle.tables.specs.Settling.{HasDay, IsStill}
 

@@ -4,3 +4,5 @@ pub mod Layouts
 pub mod Growing
 pub mod Indexing
 pub mod Settling
+pub mod Older
+pub mod Bringing

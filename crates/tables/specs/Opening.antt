@@ -1,5 +1,5 @@
--- Which trees are those of books, and what is left of a connection that was not opened.
-use Rattle.std.specs.Prelude.{◌≡◌, IsTrue}
+-- Which trees and schemas are those of books, what they come to, and what is left of a connection that was not opened.
+use Rattle.std.specs.Prelude.{◌≡◌, ℕ, IsTrue, ⊤}
 use Rattle.sqlite.specs.Schema.{Schema}
 use Rattle.sqlite.specs.Tree.{Trees}
 use Rattle.sqlite_catalog.specs.Listing.{IsSound}
@@ -8,8 +8,63 @@ use Rattle.sqlite_disk.specs.Disk.{MoreFaults}
 use Rattle.sqlite_trees.specs.declared.store.Store.{Ghosts}
 use Rattle.sqlite_trees.specs.View.{IsClean, IsQuiet}
 use Rattle.sqlite.specs.Held.{Held, state}
+use Rattle.sqlite.specs.Effect.{Database}
+use Rattle.sqlite.specs.State.{State}
+use Rattle.commands.specs.declared.limits.TheConstants.{SCHEMA_VERSION}
+use Rattle.table_words.specs.Steps.{IsReady}
+use Rattle.tables.specs.Bringing.{AreItemsTyped, IsFirstReady, KeepsFirstRows, IsBrought}
+use Rattle.tables.specs.Indexing.{KeepsRows}
+use Rattle.tables.specs.Older.{IsFirstSchema}
+use Rattle.tables.specs.declared.opening.Found.{Found}
+use Rattle.tables.specs.declared.opening.Found.TheVariants.{Newest, First}
 use Rattle.tables.specs.declared.opening.Leftover.{Leftover}
 use Rattle.tables.specs.declared.opening.Leftover.TheVariants as left
+
+-- the schema is that of these books
+abbrev pub HasSchema : Found → Schema → Type 0
+HasSchema Newest schema = HasTables schema
+HasSchema First schema = IsFirstSchema schema
+
+-- and of none
+abbrev pub IsOfNone : Schema → Type 0
+IsOfNone schema = (found : Found) → ¬ HasSchema found schema
+
+-- the database is that of these books, and in order
+abbrev pub IsReadyAs : Found → Database → Type 0
+IsReadyAs Newest db = IsReady db
+IsReadyAs First db = IsFirstReady db
+
+-- their schema number
+abbrev pub number_of : Found → ℕ
+number_of Newest = SCHEMA_VERSION
+number_of First = 1
+
+-- the rows that are read as they are opened, beside that of `meta`, read as typed ones
+abbrev pub AreReadTyped : Found → Trees → Type 0
+AreReadTyped Newest trees = ⊤
+AreReadTyped First trees = AreItemsTyped trees
+
+-- their tables have the rows that they had
+abbrev pub KeepsRowsAs : Found → Trees → Trees → Type 0
+KeepsRowsAs Newest old new = KeepsRows old new
+KeepsRowsAs First old new = KeepsFirstRows old new
+
+-- the newest tables, which come of their rows
+abbrev pub ComesTo : Found → Trees → Trees → Type 0
+ComesTo Newest old new = KeepsRows old new
+ComesTo First old new = IsBrought old new
+
+-- the connection shows the newest tables, and all is committed
+pub record IsCome (found : Found) (old : Trees) (new : State) : Type 0 where
+  pub ready : IsReady new.now
+  pub comes : ComesTo found old new.now.trees
+  pub settled : new.committed ≡ new.now
+
+-- it shows the tables as they were found, and all is committed
+pub record IsLeftAs (found : Found) (old : Trees) (new : State) : Type 0 where
+  pub ready : IsReadyAs found new.now
+  pub rows : KeepsRowsAs found old new.now.trees
+  pub settled : new.committed ≡ new.now
 
 -- whichever schema these trees keep the rules of has the tables of the books
 abbrev pub TellTables : Trees → Type 0

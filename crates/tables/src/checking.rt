@@ -5,9 +5,9 @@ ghost use Rattle.std.specs.List.{list_all};
 ghost use Rattle.sqlite_value.specs.declared.value.Value.TheVariants.{Null};
 ghost use Rattle.sqlite_value.specs.Keys.{plain};
 ghost use Rattle.tables.specs.Layouts.{table_of, BeginsWithTables};
-ghost use Rattle.table_words.specs.Schema.{column, plain_table, keyed_table, id_table, the_tables, schema_0, refers_to_none as refers_to_none_lem, is_harmless as is_harmless_lem, HasTables};
+ghost use Rattle.table_words.specs.Schema.{column, plain_table, keyed_table, id_table, first_tables, the_tables, schema_0, refers_to_none as refers_to_none_lem, is_harmless as is_harmless_lem, HasTables};
 
-use crate::layouts::{FIRST_COUNT, FIRST_TABLES, TableLayout};
+use crate::layouts::{ALL_TABLES, FIRST_TABLES, TABLE_COUNT, TableLayout};
 use sqlite_items::Items;
 use sqlite_schema::code::Terms;
 use sqlite_schema::schema::{Column, Index, Kind, Schema, Stamps, Table};
@@ -16,7 +16,7 @@ use sqlite_value::value::Value;
 use std::alloc::{AllocError, Global};
 
 /// The last tree of the tables and of their keys.
-const LAST_TREE: u32 = 25;
+const LAST_TREE: u32 = 27;
 
 /// What the names of the indexes of keys begin with, and no other.
 const AUTOMATIC: &[u8] = b"sqlite_autoindex_";
@@ -184,8 +184,16 @@ fn tables_match(alloc: Global, found: &[Table], layouts: &[TableLayout]) -> Resu
     Ok(true)
 }
 
+/// Whether they are the tables of the books, in their order.
 fn are_tables(alloc: Global, found: &[Table]) -> Result<bool, AllocError>
     ensures { IfOk result (λ same. IsTrue same ↔ (found.now ≡ the_tables)) }
+{
+    tables_match(alloc, found, &ALL_TABLES)
+}
+
+/// Whether they are the tables of schema 1, in their order.
+pub fn are_first_tables(alloc: Global, found: &[Table]) -> Result<bool, AllocError>
+    ensures { IfOk result (λ same. IsTrue same ↔ (found.now ≡ first_tables)) }
 {
     tables_match(alloc, found, &FIRST_TABLES)
 }
@@ -219,13 +227,13 @@ fn are_harmless(found: &[Index]) -> bool
 fn begin_with_tables(alloc: Global, found: &[Table]) -> Result<bool, AllocError>
     ensures { IfOk result (λ yes. IsTrue yes ↔ BeginsWithTables found.now) }
 {
-    if found.len() < FIRST_COUNT {
+    if found.len() < TABLE_COUNT {
         return Ok(false);
     }
-    if !are_tables(alloc, &found[..FIRST_COUNT])? {
+    if !are_tables(alloc, &found[..TABLE_COUNT])? {
         return Ok(false);
     }
-    Ok(are_apart(&found[FIRST_COUNT..]))
+    Ok(are_apart(&found[TABLE_COUNT..]))
 }
 
 /// Whether the schema has the tables of the books before any others, which refer to none, and no index that refuses a

@@ -15,6 +15,22 @@ pub struct TableLayout {
     pub has_id: bool,
 }
 
+/// The index of a key, as it has to be: its name, the tree of its table, and its columns, in plain order.
+pub struct IndexLayout {
+    pub name: &'static [u8],
+    pub table: u32,
+    pub columns: &'static [usize],
+}
+
+/// The number of the tables.
+pub const TABLE_COUNT: usize = 15;
+
+/// The tables of all steps, in their order.
+pub const ALL_TABLES: [TableLayout; TABLE_COUNT] = [
+    META, ITEMS, BINS, LOTS, RECALLS, STOCK, ORDERS, LINES, STAGED, RESERVED, SHIPMENTS, SHIPLINES,
+    CARDS, REPEATS, LEAST,
+];
+
 /// The number of the tables of schema 1.
 pub const FIRST_COUNT: usize = 14;
 
@@ -23,6 +39,9 @@ pub const FIRST_TABLES: [TableLayout; FIRST_COUNT] = [
     META, ITEMS, BINS, LOTS, RECALLS, STOCK, ORDERS, LINES, STAGED, RESERVED, SHIPMENTS, SHIPLINES,
     CARDS, REPEATS,
 ];
+
+/// The tables that schema 2 adds.
+pub const SECOND_TABLES: [TableLayout; 1] = [LEAST];
 
 const CREATE_META: &str =
     "CREATE TABLE meta (id INTEGER NOT NULL, mark TEXT NOT NULL, version INTEGER NOT NULL, day INTEGER NOT NULL, acts INTEGER NOT NULL, shipments INTEGER NOT NULL, PRIMARY KEY (id)) STRICT";
@@ -257,3 +276,82 @@ const REPEATS: TableLayout = TableLayout {
     places: &[1],
     has_id: false,
 };
+
+const CREATE_LEAST: &str =
+    "CREATE TABLE least (gtin TEXT NOT NULL, days INTEGER NOT NULL, PRIMARY KEY (gtin)) STRICT";
+
+const LEAST: TableLayout = TableLayout {
+    text: CREATE_LEAST,
+    tree: 26,
+    name: b"least",
+    columns: &[(b"gtin", Kind::Text), (b"days", Kind::Integer)],
+    places: &[1],
+    has_id: false,
+};
+
+/// The number of the keys of schema 1 that are not the rowid.
+pub const FIRST_KEY_COUNT: usize = 12;
+
+/// The indexes of the keys of schema 1, in their order. Each is UNIQUE, and stands one tree behind its table.
+pub const FIRST_KEYS: [IndexLayout; FIRST_KEY_COUNT] = [
+    IndexLayout {
+        name: b"sqlite_autoindex_items_1",
+        table: 1,
+        columns: &[1],
+    },
+    IndexLayout {
+        name: b"sqlite_autoindex_bins_1",
+        table: 3,
+        columns: &[1],
+    },
+    IndexLayout {
+        name: b"sqlite_autoindex_lots_1",
+        table: 5,
+        columns: &[1, 2],
+    },
+    IndexLayout {
+        name: b"sqlite_autoindex_recalls_1",
+        table: 7,
+        columns: &[1, 2],
+    },
+    IndexLayout {
+        name: b"sqlite_autoindex_stock_1",
+        table: 9,
+        columns: &[1, 2, 3],
+    },
+    IndexLayout {
+        name: b"sqlite_autoindex_orders_1",
+        table: 11,
+        columns: &[1],
+    },
+    IndexLayout {
+        name: b"sqlite_autoindex_lines_1",
+        table: 13,
+        columns: &[1, 2],
+    },
+    IndexLayout {
+        name: b"sqlite_autoindex_staged_1",
+        table: 15,
+        columns: &[1, 2, 3],
+    },
+    IndexLayout {
+        name: b"sqlite_autoindex_reserved_1",
+        table: 17,
+        columns: &[1, 2, 3],
+    },
+    IndexLayout {
+        name: b"sqlite_autoindex_shiplines_1",
+        table: 20,
+        columns: &[1, 2, 3],
+    },
+    IndexLayout {
+        name: b"sqlite_autoindex_cards_1",
+        table: 22,
+        columns: &[1, 2, 3],
+    },
+    IndexLayout {
+        name: b"sqlite_autoindex_repeats_1",
+        table: 24,
+        columns: &[1],
+    },
+];

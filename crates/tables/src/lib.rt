@@ -1,13 +1,16 @@
-//! The fourteen tables of the books: the schema, and one call for each statement.
+//! The fifteen tables of the books: the schema, and one call for each statement.
 //!
 //! A call works inside the caller's transaction. `Store` is a fault of memory, the disk or size; `Foreign`, a stored
 //! row with a value that no row has.
 #![tactic(auto)]
 
+pub mod bringing;
 mod checking;
 pub mod creation;
+pub mod dropping;
 pub mod indexing;
 mod layouts;
+pub mod older;
 pub mod opening;
 pub mod settling;
 mod steps;

@@ -26,6 +26,7 @@ item_line l staged = line (
     ∷ codes "STAGED" ∷ decimal staged
     ∷ codes "SHIPPED" ∷ decimal l.shipped
     ∷ codes "SHORT" ∷ decimal l.short
+    ∷ codes "LEAST" ∷ decimal l.least
     ∷ [])
 
 abbrev pub item_lines : LineView → List ℕ

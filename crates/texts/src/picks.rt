@@ -57,6 +57,8 @@ fn put_item_line<W: Write>(line: &LineView, staged: u64, out: &mut W) -> Result<
             decimal_text(line.shipped).as_bytes(),
             b"SHORT",
             decimal_text(line.short).as_bytes(),
+            b"LEAST",
+            decimal_text(line.least.days() as u64).as_bytes(),
         ],
         out,
     )

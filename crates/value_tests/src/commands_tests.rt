@@ -42,12 +42,13 @@ fn tells_keys(rt: HostRuntime) {
     }
 }
 
-static CODES: [(Refusal, &str); 8] = [
+static CODES: [(Refusal, &str); 9] = [
     (Refusal::KeyUsed, "K01"),
     (Refusal::ActsFull, "F01"),
     (Refusal::NoSuchLine, "U05"),
     (Refusal::OtherExpiry, "X05"),
     (Refusal::DayNotLater, "S10"),
+    (Refusal::TooFewDays, "S11"),
     (Refusal::OverReserved, "Q02"),
     (Refusal::OverOrdered, "Q06"),
     (Refusal::NoNotice, "N01"),

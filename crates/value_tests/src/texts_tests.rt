@@ -4,7 +4,7 @@ use crate::text_samples::{
     card_row, day, gtin, in_a_01, item, lot, name, oats, shipped_units, short_line, title,
 };
 use commands::{
-    CardKind, CardRow, LineView, Listed, OrderState, OrderView, ReservedLot, ShortView, StagedLot,
+    CardKind, CardRow, LeastDays, LineView, Listed, OrderState, OrderView, ReservedLot, ShortView, StagedLot,
     feed,
 };
 use std::alloc::{AllocError, Global};
@@ -97,6 +97,22 @@ fn a_notice_is_written_line_by_line(rt: HostRuntime) -> Result<(), Fail> {
     Ok(())
 }
 
+// A bin may have all the units that there may be of an item.
+const FULL_BIN: &[u8] = b"BIN A-01 1000000000
+TOTAL BINS 1000000000 SHIPPED 0
+";
+
+#[test]
+fn a_notice_counts_a_full_bin(rt: HostRuntime) -> Result<(), Fail> {
+    let mut start = Vec::new(rt.alloc());
+    let mut text = NoticeText::start(&oats(&rt), &lot(&rt, "L2"), None, &mut start)?;
+    let mut out = Vec::new(rt.alloc());
+    text.bin(&in_a_01(&rt, 1_000_000_000), &mut out)?;
+    text.end(&mut out)?;
+    assert_eq!(rt; out.as_slice(), FULL_BIN);
+    Ok(())
+}
+
 const NEVER_RECEIVED: &[u8] = b"RECALL NOTICE 04012345000016 Rye bread
 LOT Z9 EXPIRY -
 TOTAL BINS 0 SHIPPED 0
@@ -115,7 +131,7 @@ fn a_lot_that_never_came_has_a_notice(rt: HostRuntime) -> Result<(), Fail> {
 const PICK_LIST: &[u8] = b"PICK LIST S-1
 CUSTOMER Corner Shop
 STATE OPEN
-ITEM 09506000134352 ORDERED 12 STAGED 0 SHIPPED 0 SHORT 0
+ITEM 09506000134352 ORDERED 12 STAGED 0 SHIPPED 0 SHORT 0 LEAST 27
 TAKE L0 2026-05-10 5
 FROM A-01 5
 TAKE L2 2026-05-31 7
@@ -139,6 +155,10 @@ fn reserved_lot(
     })
 }
 
+fn least_days(rt: &impl Abort) -> LeastDays {
+    LeastDays::new(27).expect(rt, "27 is one")
+}
+
 // Twelve ordered, with what is reserved and what is staged of them.
 fn order(
     rt: &impl Abort,
@@ -154,6 +174,7 @@ fn order(
         shipped: 0,
         short: 0,
         staged: Listed::from_vec(staged),
+        least: least_days(rt),
     };
     Ok(OrderView {
         customer: title(rt, "Corner Shop"),
@@ -179,7 +200,7 @@ fn a_pick_list_is_written(rt: HostRuntime) -> Result<(), Fail> {
 const STAGED: &[u8] = b"PICK LIST S-1
 CUSTOMER Corner Shop
 STATE OPEN
-ITEM 09506000134352 ORDERED 12 STAGED 12 SHIPPED 0 SHORT 0
+ITEM 09506000134352 ORDERED 12 STAGED 12 SHIPPED 0 SHORT 0 LEAST 27
 ";
 
 #[test]
@@ -202,7 +223,7 @@ fn a_pick_list_adds_up_what_is_staged(rt: HostRuntime) -> Result<(), Fail> {
 }
 
 // The units that the second order is short of, and the text.
-static SHORTAGES: [(u64, &str); 2] = [
+static SHORTAGES: [(u64, &str); 3] = [
     (
         4,
         "SHORTAGES 09506000134352 Oat drink\nSHORT S-2 4 Harbour Cafe\nTOTAL 4\n",
@@ -210,6 +231,10 @@ static SHORTAGES: [(u64, &str); 2] = [
     (
         9,
         "SHORTAGES 09506000134352 Oat drink\nSHORT S-2 9 Harbour Cafe\nTOTAL 9\n",
+    ),
+    (
+        1_000_001,
+        "SHORTAGES 09506000134352 Oat drink\nSHORT S-2 1000001 Harbour Cafe\nTOTAL 1000001\n",
     ),
 ];
 

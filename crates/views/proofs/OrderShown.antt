@@ -6,6 +6,7 @@ use Rattle.values.specs.Values.{same_text}
 use Rattle.values.specs.declared.lot.LotId.{LotId}
 use Rattle.commands.specs.declared.command.OrderLine.{OrderLine}
 use Rattle.commands.specs.declared.rows.BinRow.{BinRow}
+use Rattle.commands.specs.declared.rows.LeastRow.{LeastRow}
 use Rattle.commands.specs.declared.rows.LineRow.{LineRow}
 use Rattle.commands.specs.declared.rows.LotRow.{LotRow}
 use Rattle.commands.specs.declared.rows.OrderRow.{OrderRow}
@@ -16,16 +17,18 @@ use Rattle.commands.specs.declared.views.ReservedLot.{ReservedLot}
 use Rattle.commands.specs.declared.views.StagedLot.{StagedLot}
 use Rattle.machine.specs.Acts.{Act}
 use Rattle.machine.specs.Postings.{is_lot, of_item}
-use Rattle.machine.specs.Standing.{KnownLot, Placed, lots, lots_of, order_named}
+use Rattle.machine.specs.Standing.{KnownLot, Placed, lots, lots_of, order_named, least_days}
 use Rattle.machine.specs.Planning.{reserved, staged_of_lot, goes_before, order_state}
 use Rattle.machine.specs.Once.{IsHistory}
-use Rattle.machine.specs.Tables.{tables_of, bin_row, lot_row, stock_row, line_row, staged_row, reserved_row, order_row}
+use Rattle.machine.specs.Tables.{tables_of, least_row, bin_row, lot_row, stock_row, line_row, staged_row, reserved_row, order_row}
 use Rattle.machine.specs.KeyedRows.{AreRows, same_cell, same_line, same_share}
 use Rattle.machine.specs.Views.{lots_in_order, store_bins_of_lot, reserved_lots, staged_lots, line_view, order_view, text_before}
 use Rattle.row_rules.specs.declared.slice.Rows.{Rows}
 use Rattle.row_rules.specs.Plans.{goes_first}
 use Rattle.row_rules.specs.SeenStages.{reserved_qty, staged_qty}
+use Rattle.row_rules.specs.Status.{days_in, least_seen}
 use Rattle.machine.proofs.Tests.{or_first, or_later, same_text_refl, same_text_turned, some_one}
+use Rattle.rules.proofs.rows.DaysAsked.{days_in_row}
 use Rattle.views.specs.Seen.{lots_seen, reserved_lot, reserved_lots_seen, staged_lot, staged_lots_seen, line_seen, order_seen}
 use Rattle.views.specs.Shown.{AreShown, orders_item, is_staged_for, is_reserved_for}
 use Rattle.views.proofs.Sorting.{IsIn, of_filter, of_ordered, of_inserted, in_any}
@@ -44,6 +47,10 @@ module _ (first : ℤ) (acts : List Act) (history : IsHistory first acts) (p : P
   lines_are : AreRows same_line (λ (r : LineRow). (r.order, r.gtin)) (λ k. same_text o k.0) (λ k. true) (λ k. line_row first acts k.0 k.1) rows.lines
   unfolding tables_of
   lines_are = are.lines
+
+  least_are : (g : List ℕ) → orders_item p g ≡ true → find (λ (r : LeastRow). same_text g r.gtin) rows.least ≡ least_row acts g
+  unfolding tables_of
+  least_are g e = are.least.found g e
 
   abbrev has_any : LotId → Bool
   has_any l = orders_item p l.gtin && (is_staged_for o rows.staged l || is_reserved_for o rows.reserved l)
@@ -146,6 +153,11 @@ module _ (first : ℤ) (acts : List Act) (history : IsHistory first acts) (p : P
         same_kept (λ (r : StagedLot). not (r.qty == 0)) machine_staged (staged_lot rows.staged o) (shown_lot acts) (lots_in_order acts g) (lots_seen g rows.lots) one_staged
         (kept_lots_shown acts has_any rows.lots lots_are g (λ m. not (staged_of_lot first acts o m == 0)) staged_needed ∙ staged_rows_kept)
 
+    -- The days that are asked for
+
+    its_least : least_seen rows.least g ≡ least_days acts g
+    its_least = ap days_in (least_are g (in_any (λ (x : OrderLine). same_text g x.gtin) l p.lines there (same_text_refl g))) ∙ days_in_row first acts history g
+
     one_line : line_view first acts o l ≡ line_seen rows order (shown_line first acts history p named l)
     one_line =
         let short = short_shown first acts history p named l there (λ k. same_text o k.0 && orders_item p k.1.gtin) wanted rows.staged staged_are rows.reserved reserved_are in
@@ -156,6 +168,7 @@ module _ (first : ℤ) (acts : List Act) (history : IsHistory first acts) (p : P
           shipped = (shown_line first acts history p named l).shipped;
           short = short i;
           staged = its_staged i;
+          least = sym its_least i;
         }
 
   abbrev all_lines : List OrderLine

@@ -6,9 +6,9 @@ use Rattle.values.specs.declared.lot.LotId.{LotId}
 use Rattle.commands.specs.declared.rows.LotRow.{LotRow}
 use Rattle.commands.specs.declared.rows.RecallRow.{RecallRow}
 use Rattle.commands.specs.declared.rows.StockRow.{StockRow}
-use Rattle.commands.specs.declared.views.LotStatus.TheVariants.{Recalled, Held, Expired, Free}
+use Rattle.commands.specs.declared.views.LotStatus.TheVariants.{Recalled, Held, Expired, ShortDated, Free}
 use Rattle.machine.specs.Postings.{is_lot}
-use Rattle.machine.specs.Standing.{is_expired}
+use Rattle.machine.specs.Standing.{is_expired, is_short_dated}
 use Rattle.machine.proofs.Tests.{and_later_false, and_both}
 use Rattle.rules.proofs.rows.Ordering.{total_map}
 use Rattle.row_rules.specs.Plans.{inserted}
@@ -53,10 +53,10 @@ module _ (k : LotRow) where
   recall_given given all same =
       any_given (λ r. is_lot k.lot r.lot) (λ r. same_text k.lot.lot r.lot.lot) (λ r e. (and_both (same_text k.lot.gtin r.lot.gtin) (same_text k.lot.lot r.lot.lot) e).1) given all same
 
-module _ (day : ℤ) (of_stock : List ℕ → List StockRow) (stock : List StockRow) (of_recalls : List ℕ → List RecallRow) (recalls : List RecallRow) (of_reserved : List ℕ → List LotUnits)
+module _ (day : ℤ) (days : ℕ) (of_stock : List ℕ → List StockRow) (stock : List StockRow) (of_recalls : List ℕ → List RecallRow) (recalls : List RecallRow) (of_reserved : List ℕ → List LotUnits)
     (reserved : List LotUnits) (of_staged : List ℕ → List LotUnits) (staged : List LotUnits) (gives_stock : GivesRows (λ r. r.lot.lot) of_stock stock)
     (gives_recalls : GivesRows (λ r. r.lot.lot) of_recalls recalls) (gives_reserved : GivesRows (λ u. u.lot.lot) of_reserved reserved) (gives_staged : GivesRows (λ u. u.lot.lot) of_staged staged) where
-  one_given : (k : LotRow) → lot_given day of_stock of_recalls of_reserved of_staged k ≡ lot_told day stock recalls reserved staged k
+  one_given : (k : LotRow) → lot_given day days of_stock of_recalls of_reserved of_staged k ≡ lot_told day days stock recalls reserved staged k
   one_given k =
       let t = k.lot.lot in
       let bins = bins_given k (of_stock t) stock (gives_stock t) in
@@ -69,14 +69,14 @@ module _ (day : ℤ) (of_stock : List ℕ → List StockRow) (stock : List Stock
         lot = t;
         reserved = capped (own i);
         staged = capped (on_stages i);
-        status = if recall i then Recalled else (if k.held then Held else (if is_expired day k.expiry then Expired else Free));
+        status = if recall i then Recalled else (if k.held then Held else (if is_expired day k.expiry then Expired else (if is_short_dated day days k.expiry then ShortDated else Free)));
       }
 
-  pub lots_given : (lots : List LotRow) → map (lot_given day of_stock of_recalls of_reserved of_staged) lots ≡ map (lot_told day stock recalls reserved staged) lots
-  lots_given lots = map_agree (lot_given day of_stock of_recalls of_reserved of_staged) (lot_told day stock recalls reserved staged) one_given lots
+  pub lots_given : (lots : List LotRow) → map (lot_given day days of_stock of_recalls of_reserved of_staged) lots ≡ map (lot_told day days stock recalls reserved staged) lots
+  lots_given lots = map_agree (lot_given day days of_stock of_recalls of_reserved of_staged) (lot_told day days stock recalls reserved staged) one_given lots
 
-module _ (day : ℤ) (rows : Rows) where
-  one_told : (k : LotRow) → lot_told day rows.stock rows.recalls (map reserved_of_lot rows.reserved) (map staged_of_lot rows.staged) k ≡ lot_seen day rows k
+module _ (day : ℤ) (days : ℕ) (rows : Rows) where
+  one_told : (k : LotRow) → lot_told day days rows.stock rows.recalls (map reserved_of_lot rows.reserved) (map staged_of_lot rows.staged) k ≡ lot_seen day days rows k
   one_told k =
       let own : units_on k.lot (map reserved_of_lot rows.reserved) ≡ reserved_on k.lot rows.reserved = total_map (λ u. if is_lot k.lot u.lot then u.qty else 0) reserved_of_lot rows.reserved in
       let on_stages : units_on k.lot (map staged_of_lot rows.staged) ≡ staged_on k.lot rows.staged = total_map (λ u. if is_lot k.lot u.lot then u.qty else 0) staged_of_lot rows.staged in
@@ -86,8 +86,8 @@ module _ (day : ℤ) (rows : Rows) where
         lot = k.lot.lot;
         reserved = capped (own i);
         staged = capped (on_stages i);
-        status = status_seen day rows.recalls k;
+        status = status_seen day days rows.recalls k;
       }
 
-  pub lots_told : (lots : List LotRow) → map (lot_told day rows.stock rows.recalls (map reserved_of_lot rows.reserved) (map staged_of_lot rows.staged)) lots ≡ map (lot_seen day rows) lots
-  lots_told lots = map_agree (lot_told day rows.stock rows.recalls (map reserved_of_lot rows.reserved) (map staged_of_lot rows.staged)) (lot_seen day rows) one_told lots
+  pub lots_told : (lots : List LotRow) → map (lot_told day days rows.stock rows.recalls (map reserved_of_lot rows.reserved) (map staged_of_lot rows.staged)) lots ≡ map (lot_seen day days rows) lots
+  lots_told lots = map_agree (lot_told day days rows.stock rows.recalls (map reserved_of_lot rows.reserved) (map staged_of_lot rows.staged)) (lot_seen day days rows) one_told lots

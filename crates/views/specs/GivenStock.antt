@@ -24,16 +24,17 @@ staged_of_lot r = record { lot = r.lot; qty = r.qty }
 abbrev pub units_on : LotId → List LotUnits → ℕ
 units_on l units = total (λ u. if is_lot l u.lot then u.qty else 0) units
 
-abbrev pub lot_told : ℤ → List StockRow → List RecallRow → List LotUnits → List LotUnits → LotRow → LotView
-lot_told day stock recalls reserved staged k = record {
+-- where its item asks for so many days
+abbrev pub lot_told : ℤ → ℕ → List StockRow → List RecallRow → List LotUnits → List LotUnits → LotRow → LotView
+lot_told day days stock recalls reserved staged k = record {
   bins = bins_seen stock k.lot;
   expiry = k.expiry;
   lot = k.lot.lot;
   reserved = capped (units_on k.lot reserved);
   staged = capped (units_on k.lot staged);
-  status = status_seen day recalls k;
+  status = status_seen day days recalls k;
 }
 
 -- from the rows that are given for the text of the lot
-abbrev pub lot_given : ℤ → (List ℕ → List StockRow) → (List ℕ → List RecallRow) → (List ℕ → List LotUnits) → (List ℕ → List LotUnits) → LotRow → LotView
-lot_given day stock recalls reserved staged k = lot_told day (stock k.lot.lot) (recalls k.lot.lot) (reserved k.lot.lot) (staged k.lot.lot) k
+abbrev pub lot_given : ℤ → ℕ → (List ℕ → List StockRow) → (List ℕ → List RecallRow) → (List ℕ → List LotUnits) → (List ℕ → List LotUnits) → LotRow → LotView
+lot_given day days stock recalls reserved staged k = lot_told day days (stock k.lot.lot) (recalls k.lot.lot) (reserved k.lot.lot) (staged k.lot.lot) k

@@ -20,6 +20,7 @@ use Rattle.commands.specs.declared.views.StagedLot.{StagedLot}
 use Rattle.machine.specs.Postings.{is_lot, of_item}
 use Rattle.row_rules.specs.Plans.{inserted, goes_first, is_store_found, staged_seen}
 use Rattle.row_rules.specs.SeenStages.{reserved_qty, staged_qty}
+use Rattle.row_rules.specs.Status.{least_seen}
 use Rattle.machine.specs.Views.{text_before}
 use Rattle.row_rules.specs.declared.slice.Rows.{Rows}
 
@@ -100,6 +101,7 @@ line_seen rows o l = record {
   shipped = l.shipped;
   short = line_short rows o l;
   staged = staged_lots_seen rows.staged o.order (lots_seen l.gtin rows.lots);
+  least = least_seen rows.least l.gtin;
 }
 
 -- the lines stand by GTIN

@@ -22,10 +22,12 @@ is_staged_for o rows l = list_any (λ r. same_text o r.order && is_lot l r.lot) 
 abbrev pub is_reserved_for : List ℕ → List ReservedRow → LotId → Bool
 is_reserved_for o rows l = list_any (λ r. same_text o r.order && is_lot l r.lot) rows
 
--- The lines of the order; what is staged and what is reserved for it of their items; the lots of that; the stock of the
--- lots that are reserved for it; and the bins of that stock. Other rows of the tables may be there too.
+-- The lines of the order; the days that their items ask for; what is staged and what is reserved for it of their items; the
+-- lots of that; the stock of the lots that are reserved for it; and the bins of that stock. Other rows of the tables may be
+-- there too.
 pub record AreShown (p : Placed) (t : Tables) (rows : Rows) : Type 0 where
   pub lines : AreRows same_line (λ r. (r.order, r.gtin)) (λ k. same_text p.order k.0) (λ k. true) (λ k. t.line k.0 k.1) rows.lines
+  pub least : AreRows same_text (λ r. r.gtin) (orders_item p) (λ g. true) t.least rows.least
   pub lots : AreRows is_lot (λ r. r.lot)
       (λ l. orders_item p l.gtin && (is_staged_for p.order rows.staged l || is_reserved_for p.order rows.reserved l)) (λ l. true) t.lot rows.lots
   pub stock : AreRows same_cell (λ r. (r.lot, r.bin))

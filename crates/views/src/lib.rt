@@ -2,6 +2,7 @@
 #![tactic(auto)]
 
 mod bins;
+mod least;
 mod lines;
 mod looking;
 mod lot_units;

@@ -10,6 +10,7 @@ ghost use Rattle.views.specs.Seen.{order_seen, line_seen, reserved_lot as reserv
 ghost use Rattle.views.specs.Shown.{AreShown};
 
 use crate::bins::store_bins;
+use crate::least::least_of;
 use crate::lines::lines_of_order;
 use crate::lots::lots_of_item;
 use crate::short::line_short;
@@ -21,9 +22,10 @@ use rules::Rows;
 use std::alloc::{AllocError, Global};
 use values::Name;
 
-/// What is shown of an order whose row this is. The rows are those of its lines, of what is staged
-/// and what is reserved for it, of the lots of that, and of the stock of the lots that are reserved
-/// for it, with the bins of that stock; others may be among them. It fails for want of memory alone.
+/// What is shown of an order whose row this is. The rows are those of its lines, of the days that
+/// their items ask for, of what is staged and what is reserved for it, of the lots of that, and of
+/// the stock of the lots that are reserved for it, with the bins of that stock; others may be among
+/// them. It fails for want of memory alone.
 pub fn order_view(alloc: Global, rows: &Rows, order: &OrderRow) -> Result<OrderView, AllocError>
     ensures seen { IfOk result (λ view. view ≡ order_seen rows.now order.now) }
     ensures shown { (first : ℤ) (acts : List Act) (p : Placed) → IsHistory first acts → order_named acts order.now.order ≡ Some p → order_row first acts order.now.order ≡ Some order.now → AreShown p (tables_of first acts) rows.now → IfOk result (λ view. view ≡ order_view_lem first acts p) }
@@ -72,6 +74,7 @@ fn line_view(
         shipped: line.shipped,
         short: line_short(rows, order, line),
         staged: Listed::from_vec(staged),
+        least: least_of(rows.least.as_slice(), &line.gtin),
     })
 }
 

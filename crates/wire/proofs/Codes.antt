@@ -7,7 +7,7 @@ use Rattle.values.specs.declared.fault.LabelFault.{LabelFault}
 use Rattle.values.specs.declared.fault.LabelFault.TheVariants.{BadPrefix, UnknownIdentifier, CutShort, NotADigit, CheckDigit, VariableMeasure, LotEmpty, LotTooLong, LotCharacter, NoSuchDate, IdentifierRepeated, IdentifierMissing, SeparatorMisplaced, OutOfMemory}
 use Rattle.commands.specs.Refusals.{refusal_code}
 use Rattle.commands.specs.declared.refusal.Refusal.{Refusal}
-use Rattle.commands.specs.declared.refusal.Refusal.TheVariants.{KeyUsed, ActsFull, UnknownItem, UnknownBin, UnknownLot, UnknownOrder, NoSuchLine, ItemExists, BinExists, OrderExists, ItemTwice, OtherExpiry, LotRecalled, LotExpired, LotHeld, LotNotHeld, AlreadyRecalled, NotStoreBin, OrderClosed, StillStaged, NothingStaged, DayNotLater, NotInBin, OverReserved, OverStaged, SameBin, OverUnits, OverOrdered, NoNotice}
+use Rattle.commands.specs.declared.refusal.Refusal.TheVariants.{KeyUsed, ActsFull, UnknownItem, UnknownBin, UnknownLot, UnknownOrder, NoSuchLine, ItemExists, BinExists, OrderExists, ItemTwice, OtherExpiry, LotRecalled, LotExpired, LotHeld, LotNotHeld, AlreadyRecalled, NotStoreBin, OrderClosed, StillStaged, NothingStaged, DayNotLater, TooFewDays, NotInBin, OverReserved, OverStaged, SameBin, OverUnits, OverOrdered, NoNotice}
 use Rattle.requests.specs.Faults.{wire_code}
 use Rattle.requests.specs.declared.fault.WireFault.{WireFault}
 use Rattle.requests.specs.declared.fault.WireFault.TheVariants.{Head, Length, Json, Field, Path, Method, TooLarge, Memory}
@@ -35,6 +35,7 @@ refusal_is_name OrderClosed = refl
 refusal_is_name StillStaged = refl
 refusal_is_name NothingStaged = refl
 refusal_is_name DayNotLater = refl
+refusal_is_name TooFewDays = refl
 refusal_is_name NotInBin = refl
 refusal_is_name OverReserved = refl
 refusal_is_name OverStaged = refl

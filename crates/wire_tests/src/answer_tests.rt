@@ -1,6 +1,6 @@
 use crate::tests::read;
 use commands::{
-    BinUnits, ItemRow, LineView, Listed, LotStatus, LotView, OrderState, OrderView, Refusal,
+    BinUnits, ItemRow, LeastDays, LineView, Listed, LotStatus, LotView, OrderState, OrderView, Refusal,
     ReservedLot, Short, StagedLot, StockView,
 };
 use http::StatusCode;
@@ -160,6 +160,7 @@ fn an_order(alloc: Global) -> Option<OrderView> {
         shipped: 0,
         short: 0,
         staged: Listed::from_vec(Vec::new(alloc)),
+        least: LeastDays::new(27)?,
     };
     Some(OrderView {
         customer,

@@ -52,6 +52,16 @@ fn long_text(alloc: Global) -> Option<Vec<u8>> {
 // The length of its head.
 const LONG_HEAD: usize = 47;
 
+#[test]
+fn writes_a_long_answer(rt: HostRuntime) {
+    let text = long_text(rt.alloc()).expect(&rt, "memory");
+    let mut writer = Held { taken: 0, sent: 0 };
+    let end = write_bytes(&mut writer, text.as_slice());
+    assert!(rt; end == Ok(()));
+    assert!(rt; writer.sent == LONG_HEAD + 262_144);
+    drop(text);
+}
+
 // What the bytes are read as: a request, or a fault.
 fn told(alloc: Global, text: &[u8]) -> Option<WireFault> {
     let mut reader = text;

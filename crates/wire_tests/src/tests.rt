@@ -294,8 +294,32 @@ fn limits_heads(rt: HostRuntime) -> Result<(), Fail> {
     Ok(())
 }
 
-static BROKEN_BODIES: [(&str, &str); 12] = [
+static BROKEN_BODIES: [(&str, &str); 18] = [
     ("/items", "[]"),
+    (
+        "/leasts",
+        "{\"key\":\"K-1\",\"gtin\":\"09506000134352\",\"days\":\"7\"}",
+    ),
+    (
+        "/leasts",
+        "{\"key\":\"K-1\",\"gtin\":\"09506000134352\",\"days\":0.5}",
+    ),
+    (
+        "/leasts",
+        "{\"key\":\"K-1\",\"gtin\":\"09506000134352\",\"days\":1.0}",
+    ),
+    (
+        "/leasts",
+        "{\"key\":\"K-1\",\"gtin\":\"09506000134352\",\"days\":-1}",
+    ),
+    (
+        "/leasts",
+        "{\"key\":\"K-1\",\"gtin\":\"09506000134352\",\"days\":3651}",
+    ),
+    (
+        "/leasts",
+        "{\"key\":\"K-1\",\"gtin\":\"09506000134352\"}",
+    ),
     (
         "/items",
         "{\"key\":\"K-9\",\"gtin\":\"09506000134352\",\"name\":\"Oat drink\",\"day\":1}",
@@ -398,7 +422,7 @@ fn asks(
     compared
 }
 
-static COMMANDS: [(&str, &str, &str, &str); 13] = [
+static COMMANDS: [(&str, &str, &str, &str); 15] = [
     (
         "/items",
         "{\"name\":\"Oat drink\",\"key\":\"K-1\",\"gtin\":\"09506000134352\"}",
@@ -476,6 +500,18 @@ static COMMANDS: [(&str, &str, &str, &str); 13] = [
         "{\"key\":\"K-1\",\"gtin\":\"09506000134352\",\"lot\":\"L1\"}",
         "K/K-1",
         "RECALL\n09506000134352\nL1",
+    ),
+    (
+        "/leasts",
+        "{\"key\":\"K-1\",\"gtin\":\"09506000134352\",\"days\":0}",
+        "K/K-1",
+        "LEAST\n09506000134352\n0",
+    ),
+    (
+        "/leasts",
+        "{\"key\":\"K-1\",\"gtin\":\"09506000134352\",\"days\":3650}",
+        "K/K-1",
+        "LEAST\n09506000134352\n3650",
     ),
 ];
 

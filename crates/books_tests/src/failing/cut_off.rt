@@ -15,8 +15,10 @@ static NEW_DAY: &str =
 fn readers_fail(rt: &impl Abort, alloc: Global, books: &Stage, exchange: &Exchange) {
     assert!(rt; exchange.asked.len() == 75);
     let after = Stage::after(rt, alloc, &books.files, Trial::BreakOff(exchange), 0);
-    assert!(rt; after.rows.are_same(&books.rows), "other rows");
     drop(after.next(rt, alloc, exchange));
+    let is_kept = after.rows.are_same(&books.rows);
+    drop(after);
+    assert!(rt; is_kept, "other rows");
 }
 
 /// The books before the request, and after it.
@@ -38,14 +40,11 @@ fn writer_fails(
     let trial = Trial::Leave(exchange, taken);
     let left = Stage::after(rt, alloc, &books.before.files, trial, 0);
     let again = left.next(rt, alloc, exchange);
-    assert!(rt;
-        left.rows.are_same(&books.after.rows),
-        "other rows after {taken} bytes"
-    );
-    assert!(rt;
-        again.rows.are_same(&books.after.rows),
-        "other rows after {taken} bytes"
-    );
+    let acted = left.rows.are_same(&books.after.rows);
+    let is_kept = again.rows.are_same(&books.after.rows);
+    drop(left);
+    drop(again);
+    assert!(rt; acted && is_kept, "other rows after {taken} bytes");
 }
 
 fn writers_fail(rt: &impl Abort, alloc: Global, books: Around<'_>, exchange: &Exchange) {
@@ -66,6 +65,8 @@ fn is_cut_off(rt: &impl Abort, alloc: Global, exchange: &Exchange) {
         after: &after,
     };
     writers_fail(rt, alloc, books, exchange);
+    drop(after);
+    drop(stages);
 }
 
 #[test]

@@ -7,12 +7,13 @@ use crate::failing::stages::{Stage, day_stages};
 use crate::failing::trial::{Seen, Trial};
 use crate::files::Calls;
 use std::alloc::Global;
+use std::mem;
 use std::process::Abort;
 
 // SQL that makes such a row of `meta`, which is read as the books are opened.
 static UNOPENED: &str = r#"UPDATE meta SET id = 2
 UPDATE meta SET mark = 'LOTSTOCk'
-UPDATE meta SET version = 2
+UPDATE meta SET version = 3
 UPDATE meta SET day = 10956
 UPDATE meta SET acts = 1000000000001
 UPDATE meta SET shipments = -1"#;
@@ -21,6 +22,9 @@ UPDATE meta SET shipments = -1"#;
 static READ: &str =
     r#"INSERT INTO items VALUES ('09506000134353', 'Oat drink') => POST /items {"key":"N-1","gtin":"00000000000017","name":"Pea soup"}
 UPDATE items SET name = ' Oat drink' WHERE gtin = '09506000134352' => GET /stock/09506000134352
+UPDATE least SET days = 3651 WHERE gtin = '09506000134352' => GET /stock/09506000134352
+UPDATE least SET days = -1 WHERE gtin = '09506000134352' => POST /leasts {"key":"N-1","gtin":"09506000134352","days":1}
+INSERT INTO least VALUES ('9506000134352', 0) => POST /days {"key":"N-1","day":"2026-05-06"}
 INSERT INTO bins VALUES ('a-01', 'STORE') => POST /bins {"key":"N-1","bin":"B-01","kind":"STORE"}
 UPDATE bins SET kind = 'RETURNS' WHERE name = 'A-01' => POST /moves {"key":"N-1","gtin":"09506000134352","lot":"L1","from":"A-01","to":"Q-01","qty":1}
 INSERT INTO lots VALUES ('9506000134352', 'L1', 20634, 6, 0) => POST /days {"key":"N-1","day":"2026-05-06"}
@@ -82,24 +86,25 @@ fn seen_after(rt: &impl Abort, alloc: Global, books: &Stage, sql: &str, text: &s
     let mut seen = Seen::nothing(alloc);
     let work = Work::Trial(Trial::Ask(sql, text));
     drop(opened(rt, alloc, &books.files, Calls::ALL, work, &mut seen));
-    assert!(rt; seen.is_closed && seen.is_sound, "{sql:?}");
-    assert!(rt;
-        seen.is_unchanged() && books.has(&seen.before) == sql.is_empty(),
-        "{sql:?}"
-    );
+    let is_kept = seen.is_unchanged() && books.has(&seen.before) == sql.is_empty();
+    assert!(rt; seen.is_closed && seen.is_sound && is_kept, "{sql:?}");
     seen
 }
 
 // What answers the request where the SQL was run in the books.
 fn answer_after(rt: &impl Abort, alloc: Global, books: &Stage, sql: &str, asked: &str) -> Vec<u8> {
     let text = text_asked(rt, alloc, asked);
-    let seen = seen_after(rt, alloc, books, sql, text.as_str());
-    seen.taken
+    let mut seen = seen_after(rt, alloc, books, sql, text.as_str());
+    let taken = mem::replace(&mut seen.taken, Vec::new(alloc));
+    drop(seen);
+    taken
 }
 
 fn is_not_opened(rt: &impl Abort, alloc: Global, books: &Stage, sql: &str) {
     let seen = seen_after(rt, alloc, books, sql, "");
-    assert!(rt; !seen.is_opened && seen.is_foreign, "{sql:?}");
+    let is_foreign = !seen.is_opened && seen.is_foreign;
+    drop(seen);
+    assert!(rt; is_foreign, "{sql:?}");
 }
 
 // Books with another row of `meta` are not opened.

@@ -53,10 +53,29 @@ impl Side {
 /// What was counted.
 #[derive(Clone, Copy)]
 struct Count {
-    /// Runs that met a stop.
+    /// Runs that met a stop, or used the last call that there was.
     stops: u64,
-    /// Pairs of files that the stops may have left, with the whole of an act that was not answered.
+    /// Pairs of files that the stops may have left, with nothing of an act that was not answered.
+    none: u64,
+    /// Those with the whole of it.
     whole: u64,
+}
+
+impl Count {
+    /// Nothing yet.
+    const ZERO: Count = Count {
+        stops: 0,
+        none: 0,
+        whole: 0,
+    };
+
+    fn found(&mut self, is_whole: bool) {
+        if is_whole {
+            self.whole = self.whole.saturating_add(1);
+        } else {
+            self.none = self.none.saturating_add(1);
+        }
+    }
 }
 
 /// Exchanges that are served over one connection, and the books before each of them and after the last.
@@ -76,9 +95,9 @@ impl<'a> Run<'a> {
         }
     }
 
-    /// Runs whose file stops after each of these counts of calls, until one meets no stop.
+    /// Runs whose file stops after each of these counts of calls, until one leaves a call: every call is stopped at.
     fn stop(&self, rt: &impl Abort, alloc: Global, side: Side, first: u64, end: u64) -> Count {
-        let mut count = Count { stops: 0, whole: 0 };
+        let mut count = Count::ZERO;
         for calls in first..end {
             if !self.stops(rt, alloc, side.calls(calls), &mut count) {
                 return count;
@@ -87,38 +106,38 @@ impl<'a> Run<'a> {
         count
     }
 
-    // Whether a run with so many calls meets a stop.
+    // Whether a run uses so many calls. One that leaves a call met no stop.
     fn stops(&self, rt: &impl Abort, alloc: Global, calls: Calls, count: &mut Count) -> bool {
         let mut seen = Seen::nothing(alloc);
         let work = Work::Trial(Trial::Serve(self.exchanges));
         let first = self.stages.first().expect(rt, "books");
         let files = opened(rt, alloc, &first.files, calls, work, &mut seen);
-        assert!(rt;
-            seen.is_sound && !seen.is_foreign && seen.repeated == 0,
-            "another answer"
-        );
+        let is_sound = seen.is_sound && !seen.is_foreign && seen.repeated == 0;
         let (is_whole, answered) = (seen.is_whole(self.exchanges.len()), seen.answered);
         drop(seen);
-        if is_whole {
+        let has_spare = files.have_spare();
+        assert!(rt; is_sound && (is_whole || !has_spare), "another answer");
+        if has_spare {
             return false;
         }
         count.stops = count.stops.saturating_add(1);
-        count.whole = count
-            .whole
-            .saturating_add(self.wholes(rt, alloc, &files, answered));
+        self.recover(rt, alloc, &files, answered, count);
         true
     }
 
-    // Of what a stop may have left after so many answers, how many have the whole of an act that was not answered.
-    fn wholes(&self, rt: &impl Abort, alloc: Global, files: &Pair, answered: usize) -> u64 {
-        let mut whole = 0u64;
+    // Counts what a stop may have left after so many answers.
+    fn recover(
+        &self,
+        rt: &impl Abort,
+        alloc: Global,
+        files: &Pair,
+        answered: usize,
+        count: &mut Count,
+    ) {
         for (log, db) in losses(files) {
             let left = files.left(rt, alloc, *log, *db);
-            if self.recovers(rt, alloc, &left, answered) {
-                whole = whole.saturating_add(1);
-            }
+            count.found(self.recovers(rt, alloc, &left, answered));
         }
-        whole
     }
 
     // Opens what a stop left after so many answers, and sends the next request, or the last one again. Whether the books
@@ -129,12 +148,15 @@ impl<'a> Run<'a> {
         let mut seen = Seen::nothing(alloc);
         let work = Work::Trial(Trial::Check(exchange));
         drop(opened(rt, alloc, left, Calls::ALL, work, &mut seen));
-        assert!(rt; seen.is_whole(1), "another answer");
+        let (is_whole, is_repeated) = (seen.is_whole(1), seen.repeated != 0);
         let acted = self.has(at.saturating_add(1), &seen.before);
-        assert!(rt; acted || self.has(answered, &seen.before), "other rows");
-        assert!(rt; self.has(at.saturating_add(1), &seen.after), "other rows");
+        let is_kept = acted || self.has(answered, &seen.before);
+        let is_done = self.has(at.saturating_add(1), &seen.after);
+        drop(seen);
+        assert!(rt; is_whole, "another answer");
+        assert!(rt; is_kept && is_done, "other rows");
         assert!(rt;
-            (seen.repeated != 0) == (acted && exchange.is_told_apart()),
+            is_repeated == (acted && exchange.is_told_apart()),
             "another answer"
         );
         acted && at == answered
@@ -155,13 +177,13 @@ struct Within {
     side: Side,
     /// The first request, and how many.
     requests: (usize, usize),
-    /// The first count of calls, and the one where it ends.
+    /// The first count of calls, and the one where it ends. Without an end every later call is stopped at.
     calls: (u64, u64),
-    /// How many runs meet a stop at least.
+    /// How many calls are stopped at, at least: all of them where there is an end.
     least: u64,
 }
 
-// Only a stop of the log leaves the whole of an act that was not answered, which it then does.
+// Most stops leave nothing of an act that was not answered. Only a stop of the log leaves the whole of one, which it then does.
 fn are_judged(rt: &impl Abort, alloc: Global, stops: Within) {
     let day = day(rt, alloc);
     let stages = stages(rt, alloc, day.as_slice());
@@ -170,7 +192,10 @@ fn are_judged(rt: &impl Abort, alloc: Global, stops: Within) {
     assert!(rt; run.exchanges.len() == requests);
     let (first, end) = stops.calls;
     let count = run.stop(rt, alloc, stops.side, first, end);
+    drop(stages);
+    drop(day);
     assert!(rt; count.stops >= stops.least, "{} stops", count.stops);
+    assert!(rt; count.none > count.whole, "{} with nothing", count.none);
     let leaves_whole = matches!(stops.side, Side::Log);
     assert!(rt; (count.whole != 0) == leaves_whole, "{} whole", count.whole);
 }

@@ -6,7 +6,7 @@ use sqlite::{Alter, Connection};
 use std::alloc::Global;
 use std::process::Abort;
 
-/// The tables, in the order of the queries, but for the last: `repeats`.
+/// The tables, in the order of the queries, but for the last two: `repeats` and `least`.
 static NAMES: [&str; 13] = [
     "meta",
     "items",
@@ -67,4 +67,5 @@ pub(crate) fn has_rows_after<S: Alter>(
     }
     let repeats = shown(rt, alloc, conn, QUERIES[13]);
     are_repeats(rt, repeats.as_str(), done);
+    gives(rt, alloc, conn, QUERIES[14], expected(rt, "least", done));
 }

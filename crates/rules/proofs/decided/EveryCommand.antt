@@ -2,7 +2,7 @@
 use Rattle.std.specs.Prelude.{Result}
 use Rattle.commands.specs.declared.key.Key.{Key}
 use Rattle.commands.specs.declared.command.Command.{Command}
-use Rattle.commands.specs.declared.command.Command.TheVariants.{Item, Bin, Receive, Move, Count, Adjust, Order, Cancel, Pick, Unpick, Ship, Hold, Release, Recall, OpenDay}
+use Rattle.commands.specs.declared.command.Command.TheVariants.{Item, Bin, Receive, Move, Count, Adjust, Order, Cancel, Pick, Unpick, Ship, Hold, Release, Recall, OpenDay, Least}
 use Rattle.row_rules.specs.declared.slice.Slice.{Slice}
 use Rattle.row_rules.specs.declared.slice.Change.{Change}
 use Rattle.row_rules.specs.declared.slice.RuleFault.{RuleFault}
@@ -22,6 +22,7 @@ use Rattle.rules.proofs.decided.lots.HoldDecided.{holds_right}
 use Rattle.rules.proofs.decided.lots.ReleaseDecided.{releases_right}
 use Rattle.rules.proofs.decided.lots.RecallDecided.{recalls_right}
 use Rattle.rules.proofs.decided.days.DayDecided.{days_right}
+use Rattle.rules.proofs.decided.days.LeastDecided.{leasts_right}
 
 pub every_right : (key : Key) (s : Slice) (result : Result Change RuleFault) (command : Command) → AreRight key s result command (command_seen s command) (command_changes s key command)
 every_right key s result (Item i) = items_right key s result i
@@ -39,3 +40,4 @@ every_right key s result (Hold l) = holds_right key s result l
 every_right key s result (Release l) = releases_right key s result l
 every_right key s result (Recall l) = recalls_right key s result l
 every_right key s result (OpenDay day) = days_right key s result day
+every_right key s result (Least l) = leasts_right key s result l

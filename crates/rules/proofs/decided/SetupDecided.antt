@@ -1,5 +1,5 @@
 -- New items and bins are decided as the machine decides them.
-use Rattle.std.proofs.Common.{◌≡◌, ℕ, List, [], ◌∷◌, refl, ap, ◌∙◌}
+use Rattle.std.proofs.Common.{◌≡◌, ℕ, List, [], ◌∷◌, refl, ap, sym, ◌∙◌}
 use Rattle.std.specs.Prelude.{◌||◌, ℤ, None, Result, find}
 use Rattle.values.specs.Values.{same_text}
 use Rattle.commands.specs.declared.key.Key.{Key}
@@ -8,9 +8,10 @@ use Rattle.commands.specs.declared.command.NewItem.{NewItem}
 use Rattle.commands.specs.declared.command.NewBin.{NewBin}
 use Rattle.commands.specs.declared.command.Command.TheVariants.{Item, Bin}
 use Rattle.commands.specs.declared.rows.ItemRow.{ItemRow}
+use Rattle.commands.specs.declared.rows.LeastRow.{LeastRow}
 use Rattle.commands.specs.declared.rows.BinRow.{BinRow}
 use Rattle.machine.specs.Acts.{Act}
-use Rattle.machine.specs.Standing.{items, bins}
+use Rattle.machine.specs.Standing.{items, bins, least_days}
 use Rattle.machine.specs.Verdict.{first_refusal, judgement, verdict}
 use Rattle.machine.specs.Planning.{reserved}
 use Rattle.machine.specs.Once.{IsHistory}
@@ -22,7 +23,8 @@ use Rattle.row_rules.specs.declared.slice.Slice.{Slice}
 use Rattle.row_rules.specs.declared.slice.Change.{Change}
 use Rattle.row_rules.specs.declared.slice.RuleFault.{RuleFault}
 use Rattle.machine.proofs.Tests.{same_text_refl}
-use Rattle.machine.proofs.histories.Accepted.{room_for_acts}
+use Rattle.machine.proofs.histories.Accepted.{room_for_acts, item_accepted}
+use Rattle.machine.proofs.histories.LeastDays.{unknown_item_asks_none}
 use Rattle.machine.proofs.histories.OtherItems.{other_items_are_left_alone}
 use Rattle.rules.proofs.rows.TableSteps.{same_tables, AreNamed, nothing_named, names_changed, reserved_changed, put_found}
 use Rattle.rules.proofs.decided.Decisions.{AreRight, IsChange, plain_same, meta_same}
@@ -39,29 +41,41 @@ module _ (first : ℤ) (acts : List Act) (key : Key) (s : Slice) where
     item_named : AreNamed first item_act acts [] []
     item_named o l = nothing_named o l (reserved first acts o l) (reserved first (item_act ∷ acts) o l) refl
 
-    abbrev item_change : List ℕ → Change
-    item_change text = record { meta = meta_row first (item_act ∷ acts); put = record none_put { items = shown_item i ∷ [] }; dropped = none_dropped; text = text }
+    abbrev days_of : NewItem → LeastRow
+    days_of x = record { gtin = x.gtin; days = least_days acts x.gtin }
 
-    item_step : (text : List ℕ) → applied (item_change text) (tables_of first acts) ≡ tables_but_repeats first item_act acts
+    -- with this row of `least`
+    abbrev item_change : List ℕ → LeastRow → Change
+    item_change text asked = record { meta = meta_row first (item_act ∷ acts); put = record none_put { items = shown_item i ∷ []; least = asked ∷ [] }; dropped = none_dropped; text = text }
+
+    item_step : (text : List ℕ) → applied (item_change text (days_of i)) (tables_of first acts) ≡ tables_but_repeats first item_act acts
     unfolding applied tables_of
-    item_step text = same_tables (applied (item_change text) (tables_of first acts)) (tables_but_repeats first item_act acts) refl
+    item_step text = same_tables (applied (item_change text (days_of i)) (tables_of first acts)) (tables_but_repeats first item_act acts) refl
         (λ g. put_found shown_item (same_text g i.gtin) i (find (λ x. same_text g x.gtin) (items acts)))
+        (λ g. put_found days_of (same_text g i.gtin) i (find (λ x. same_text g x.gtin) (items acts)))
         (λ b. refl) (λ l. refl) (λ l. refl) (λ l b. refl) (λ o. refl) (λ o g. refl) (λ o l. refl) (reserved_changed first item_act acts [] [] item_named) (λ n. refl) (λ n l. refl) (λ l n. refl) (λ k. refl)
 
-    module _ (slice : IsSlice first item_act acts (tables_of first acts) s) where
+    module _ (history : IsHistory first acts) (slice : IsSlice first item_act acts (tables_of first acts) s) where
       item_judged : first_refusal (item_seen s i) ≡ first_refusal (judgement first acts (Item i))
       item_judged = λ j. first_refusal (
           (item_told first acts item_act s slice refl i.gtin (same_text_refl i.gtin) j || slice.items_counted refl j, ItemExists) ∷ [])
+
+      abbrev asking : ℕ → LeastRow
+      asking n = record { gtin = i.gtin; days = n }
+
+      -- a new item asks for no days
+      none_asked : verdict first acts (Item i) ≡ None → ◌≡◌ {A = LeastRow} (record { gtin = i.gtin; days = 0 }) (days_of i)
+      none_asked ok = ap asking (sym (unknown_item_asks_none first acts i.gtin history (item_accepted first acts i ok).new))
 
       item_changed : verdict first acts (Item i) ≡ None → IsChange first item_act acts (item_changes s i)
       item_changed ok =
           let room = room_for_acts first acts (Item i) ok in
           let text = plain_same first acts item_act s slice room refl in
           record {
-            applies = ap (λ m. applied (record { meta = m; put = record none_put { items = shown_item i ∷ [] }; dropped = none_dropped; text = (item_changes s i).text }) (tables_of first acts)) (meta_same first acts item_act s slice room refl refl)
+            applies = (λ j. applied (record (item_change (item_changes s i).text (none_asked ok j)) { meta = meta_same first acts item_act s slice room refl refl j }) (tables_of first acts))
                 ∙ item_step (item_changes s i).text;
             text = text;
-            once = record { items = refl; bins = refl; lots = refl; recalls = refl; stock = refl; orders = refl; lines = refl; staged = refl; reserved = refl; shipments = refl; shiplines = refl; cards = refl };
+            once = record { items = refl; bins = refl; lots = refl; recalls = refl; stock = refl; orders = refl; lines = refl; staged = refl; reserved = refl; shipments = refl; shiplines = refl; cards = refl; least = refl };
             named = names_changed first item_act acts (item_changes s i) item_named;
           }
 
@@ -82,7 +96,7 @@ module _ (first : ℤ) (acts : List Act) (key : Key) (s : Slice) where
       bin_step : (text : List ℕ) → applied (bin_change text) (tables_of first acts) ≡ tables_but_repeats first bin_act acts
       unfolding applied tables_of
       bin_step text = same_tables (applied (bin_change text) (tables_of first acts)) (tables_but_repeats first bin_act acts) refl
-          (λ g. refl)
+          (λ g. refl) (λ g. refl)
           (λ n. put_found shown_bin (same_text n b.bin) b (find (λ x. same_text n x.bin) (bins acts)))
           (λ l. refl) (λ l. refl) (λ l b. refl) (λ o. refl) (λ o g. refl) (λ o l. refl) (reserved_changed first bin_act acts [] [] bin_named) (λ n. refl) (λ n l. refl) (λ l n. refl) (λ k. refl)
 
@@ -98,12 +112,12 @@ module _ (first : ℤ) (acts : List Act) (key : Key) (s : Slice) where
             applies = ap (λ m. applied (record { meta = m; put = record none_put { bins = shown_bin b ∷ [] }; dropped = none_dropped; text = (bin_changes s b).text }) (tables_of first acts)) (meta_same first acts bin_act s slice room refl refl)
                 ∙ bin_step next (bin_changes s b).text;
             text = plain_same first acts bin_act s slice room refl;
-            once = record { items = refl; bins = refl; lots = refl; recalls = refl; stock = refl; orders = refl; lines = refl; staged = refl; reserved = refl; shipments = refl; shiplines = refl; cards = refl };
+            once = record { items = refl; bins = refl; lots = refl; recalls = refl; stock = refl; orders = refl; lines = refl; staged = refl; reserved = refl; shipments = refl; shiplines = refl; cards = refl; least = refl };
             named = names_changed first bin_act acts (bin_changes s b) (bin_named next);
           }
 
 pub items_right : (key : Key) (s : Slice) (result : Result Change RuleFault) (i : NewItem) → AreRight key s result (Item i) (item_seen s i) (item_changes s i)
-items_right key s result i first acts history slice = record { judged = item_judged first acts key s i slice; changed = λ ok next. item_changed first acts key s i slice ok }
+items_right key s result i first acts history slice = record { judged = item_judged first acts key s i history slice; changed = λ ok next. item_changed first acts key s i history slice ok }
 
 pub bins_right : (key : Key) (s : Slice) (result : Result Change RuleFault) (b : NewBin) → AreRight key s result (Bin b) (bin_seen s b) (bin_changes s b)
 bins_right key s result b first acts history slice = record { judged = bin_judged first acts key s b slice; changed = bin_changed first acts key s b slice }

@@ -10,9 +10,9 @@ use Rattle.machine.specs.Once.{IsHistory}
 use Rattle.machine.specs.Tables.{tables_of}
 use Rattle.rules.specs.Slices.{IsSlice, plans, names_bin, names_lot}
 use Rattle.row_rules.specs.Seen.{lot_seen}
-use Rattle.row_rules.specs.Status.{is_past_row}
+use Rattle.row_rules.specs.Status.{is_past_row, is_below_row}
 use Rattle.row_rules.specs.Plans.{is_store_found}
-use Rattle.machine.specs.Verdict.{is_past}
+use Rattle.machine.specs.Verdict.{is_past, is_below}
 use Rattle.row_rules.specs.SeenLots.{is_held_row, sees_hold}
 use Rattle.order_rules.specs.DecidedPick.{sees_store}
 use Rattle.row_rules.specs.declared.slice.Slice.{Slice}
@@ -28,6 +28,13 @@ module _ (first : ℤ) (acts : List Act) (act : Act) (s : Slice) (slice : IsSlic
 
   pub past_told : (l : LotId) (day : ℤ) → names_lot act.command l ≡ true → is_past_row (lot_seen s l) day ≡ is_past (lot_known acts l) day
   past_told l day named = ap (λ k. is_past_row k day) (found_lot first acts act s slice planned l named) ∙ past_same (lot_known acts l) day
+
+  below_same : (k : Option KnownLot) (day : ℤ) (days : ℕ) → is_below_row (option_map (λ k. record { lot = k.lot; expiry = k.expiry; came = k.came; held = is_held acts k.lot }) k) day days ≡ is_below k day days
+  below_same None day days = refl
+  below_same (Some k) day days = refl
+
+  pub below_told : (l : LotId) (day : ℤ) (days : ℕ) → names_lot act.command l ≡ true → is_below_row (lot_seen s l) day days ≡ is_below (lot_known acts l) day days
+  below_told l day days named = ap (λ k. is_below_row k day days) (found_lot first acts act s slice planned l named) ∙ below_same (lot_known acts l) day days
 
   -- a lot that is not known is not held
   held_same : IsHistory first acts → (l : LotId) (k : Option KnownLot) → lot_known acts l ≡ k

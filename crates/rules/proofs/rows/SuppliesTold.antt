@@ -14,7 +14,6 @@ use Rattle.commands.specs.declared.rows.LotRow.{LotRow}
 use Rattle.commands.specs.declared.rows.RecallRow.{RecallRow}
 use Rattle.commands.specs.declared.rows.StockRow.{StockRow}
 use Rattle.commands.specs.declared.limits.TheConstants.{UNITS_MAX}
-use Rattle.commands.specs.declared.views.LotStatus.TheVariants.{Recalled, Held, Expired, Free}
 use Rattle.plan.specs.Lists.{total as plan_total}
 use Rattle.plan.specs.Overlap.{supply_total}
 use Rattle.plan.specs.declared.Supply.{Supply}
@@ -22,17 +21,17 @@ use Rattle.plan.proofs.Nothing.{offered}
 use Rattle.plan.proofs.Ranked.{IsOrder, AllAfter, IsRising, same_non_zero, non_zero}
 use Rattle.machine.specs.Acts.{Act}
 use Rattle.machine.specs.Postings.{Posting, Place, Supplier, InBin, Stage, Shipped, WriteOff, is_lot, of_item, in_house}
-use Rattle.machine.specs.Standing.{KnownLot, lots, lots_of, lot_known, bin_named, is_store_bin, is_store_row, is_held, recalling, is_expired, today, is_shippable}
+use Rattle.machine.specs.Standing.{KnownLot, lots, lots_of, lot_known, bin_named, is_store_bin, is_store_row, is_held, recalling, is_expired, least_expiry, is_shippable}
 use Rattle.machine.specs.Ledger.{postings}
 use Rattle.machine.specs.Planning.{item_postings, in_store, store_units, goes_before, shippable_lots, supplies}
 use Rattle.machine.specs.Once.{IsHistory}
 use Rattle.machine.specs.Tables.{lot_row, recall_row, stock_row, bin_row}
 use Rattle.machine.specs.KeyedRows.{AreRows, AreOwn, no_two, same_cell}
 use Rattle.row_rules.specs.Seen.{capped, has_recall}
-use Rattle.row_rules.specs.Status.{is_free, may_ship}
+use Rattle.row_rules.specs.Status.{may_ship}
 use Rattle.row_rules.specs.Plans.{is_store_found, store_seen, is_usable, goes_first, usable_lots, supply_seen, supplies_seen}
 use Rattle.machine.proofs.Numbers.{unequal_above, later_than}
-use Rattle.machine.proofs.Tests.{and_both, or_none, not_true, same_text_refl, is_lot_is, is_lot_refl, is_lot_turned, or_later}
+use Rattle.machine.proofs.Tests.{and_both, or_none, not_true, same_text_refl, same_text_is, is_lot_is, is_lot_refl, is_lot_turned, or_later}
 use Rattle.machine.proofs.Apart.{AllFound, any_found}
 use Rattle.machine.proofs.histories.Falling.{AllBelow, AreFalling}
 use Rattle.machine.proofs.histories.Cells.{Cells, holds, holds_split}
@@ -57,13 +56,11 @@ pub record TellsSupplies (first : ℤ) (acts : List Act) (g : List ℕ) (lot_row
   pub stock : AreRows same_cell (λ (r : StockRow). (r.lot, r.bin)) (λ k. of_item g k.0) (λ k. true) (λ k. stock_row first acts k.0 k.1) stock_rows
   pub bins : (b : List ℕ) → list_any (λ (r : StockRow). same_text b r.bin) stock_rows ≡ true → find (λ (r : BinRow). same_text b r.name) bin_rows ≡ bin_row acts b
 
--- a lot is free that is neither held nor recalled nor expired
-free_by : (recalled held expired : Bool) → is_free (if recalled then Recalled else (if held then Held else (if expired then Expired else Free))) ≡ not held && not recalled && not expired
-free_by true true e = refl
-free_by true false e = refl
-free_by false true e = refl
-free_by false false true = refl
-free_by false false false = refl
+either_first : (a b c : Bool) → a && b && c ≡ b && a && c
+either_first true true c = refl
+either_first true false c = refl
+either_first false true c = refl
+either_first false false c = refl
 
 -- Ranks: by expiry, then by number
 
@@ -307,16 +304,16 @@ module _ (first : ℤ) (acts : List Act) (history : IsHistory first acts) (g : L
 
   -- Which lots
 
-  abbrev day : ℤ
-  day = today first acts
+  abbrev from : ℤ
+  from = least_expiry first acts g
 
-  usable_told : (k : KnownLot) → is_usable g day recall_rows (show k) ≡ of_item g k.lot && is_shippable first acts k
+  usable_told : (k : KnownLot) → is_usable g from recall_rows (show k) ≡ of_item g k.lot && is_shippable first acts k
   usable_told k =
-      elim (of_item g k.lot) as (λ b. of_item g k.lot ≡ b → b && may_ship day recall_rows (show k) ≡ b && is_shippable first acts k) [
+      elim (of_item g k.lot) as (λ b. of_item g k.lot ≡ b → b && may_ship from recall_rows (show k) ≡ b && is_shippable first acts k) [
         | true ↦ λ e.
             let recalled = sym (any_found (λ (r : RecallRow). is_lot k.lot r.lot) recall_rows) ∙ ap is_some (tells.recalls k.lot e) ∙ some_mapped _ (recalling acts k.lot) in
-            free_by (has_recall recall_rows k.lot) (is_held acts k.lot) (is_expired day k.expiry)
-            ∙ (λ i. not (is_held acts k.lot) && not (recalled i) && not (is_expired day k.expiry))
+            either_first (not (has_recall recall_rows k.lot)) (not (is_held acts k.lot)) (not (is_expired from k.expiry))
+            ∙ (λ i. not (is_held acts k.lot) && not (recalled i) && not (is_expired (least_expiry first acts (same_text_is g k.lot.gtin e i)) k.expiry))
         | false ↦ λ e. refl
       ] refl
 
@@ -333,7 +330,7 @@ module _ (first : ℤ) (acts : List Act) (history : IsHistory first acts) (g : L
     weight l = under_known (lot_known acts l)
 
     abbrev seen_under : LotRow → ℕ
-    seen_under k = if is_usable g day recall_rows k then (if ranks_same r (record { expiry = k.expiry; came = k.came }) then capped (store_seen bin_rows stock_rows k.lot) else 0) else 0
+    seen_under k = if is_usable g from recall_rows k then (if ranks_same r (record { expiry = k.expiry; came = k.came }) then capped (store_seen bin_rows stock_rows k.lot) else 0) else 0
 
     shown_under : (k : KnownLot) → seen_under (show k) ≡ under k
     shown_under k =
@@ -398,7 +395,7 @@ module _ (first : ℤ) (acts : List Act) (history : IsHistory first acts) (g : L
   lot_avail k = store_units acts ips k.lot
 
   abbrev seen_list : List Lot
-  seen_list = map (as_lot row_rank row_avail) (usable_lots g day recall_rows lot_rows)
+  seen_list = map (as_lot row_rank row_avail) (usable_lots g from recall_rows lot_rows)
 
   abbrev told_list : List Lot
   told_list = map (as_lot lot_rank lot_avail) (shippable_lots first acts g)
@@ -410,9 +407,9 @@ module _ (first : ℤ) (acts : List Act) (history : IsHistory first acts) (g : L
   same_at : (r : Rank) → plan_total (λ (x : Lot). if ranks_same r x.rank then x.avail else 0) seen_list ≡ plan_total (λ (x : Lot). if ranks_same r x.rank then x.avail else 0) told_list
   same_at r =
       let f : Lot → ℕ = λ x. if ranks_same r x.rank then x.avail else 0 in
-      same_total f seen_list ∙ total_map f (as_lot row_rank row_avail) (usable_lots g day recall_rows lot_rows)
-      ∙ total_inserted goes_first (λ k. f (as_lot row_rank row_avail k)) [] (filter (is_usable g day recall_rows) lot_rows)
-      ∙ ap (λ n. 0 + n) (total_filter (λ k. f (as_lot row_rank row_avail k)) (is_usable g day recall_rows) lot_rows ∙ rows_tell_lots r ∙ sym (split_all r (lots acts))
+      same_total f seen_list ∙ total_map f (as_lot row_rank row_avail) (usable_lots g from recall_rows lot_rows)
+      ∙ total_inserted goes_first (λ k. f (as_lot row_rank row_avail k)) [] (filter (is_usable g from recall_rows) lot_rows)
+      ∙ ap (λ n. 0 + n) (total_filter (λ k. f (as_lot row_rank row_avail k)) (is_usable g from recall_rows) lot_rows ∙ rows_tell_lots r ∙ sym (split_all r (lots acts))
       ∙ sym (total_filter (λ (k : KnownLot). if is_shippable first acts k then f (as_lot lot_rank lot_avail k) else 0) (λ k. of_item g k.lot) (lots acts))
       ∙ sym (total_filter (λ (k : KnownLot). f (as_lot lot_rank lot_avail k)) (is_shippable first acts) (lots_of acts g))
       ∙ sym (total_ordered goes_before (λ (k : KnownLot). f (as_lot lot_rank lot_avail k)) (filter (is_shippable first acts) (lots_of acts g)))
@@ -458,9 +455,9 @@ module _ (first : ℤ) (acts : List Act) (history : IsHistory first acts) (g : L
 
   seen_rises : RisingLots seen_list
   seen_rises =
-      lots_rise row_rank row_avail (usable_lots g day recall_rows lot_rows)
-      (rising_inserted goes_first (λ x y z e f. rank_further (row_rank x) (row_rank y) (row_rank z) e f) (filter (is_usable g day recall_rows) lot_rows)
-      (ordered_kept goes_first (is_usable g day recall_rows) lot_rows (rows_ordered lot_rows tells.lots.own tells.lots.once)))
+      lots_rise row_rank row_avail (usable_lots g from recall_rows lot_rows)
+      (rising_inserted goes_first (λ x y z e f. rank_further (row_rank x) (row_rank y) (row_rank z) e f) (filter (is_usable g from recall_rows) lot_rows)
+      (ordered_kept goes_first (is_usable g from recall_rows) lot_rows (rows_ordered lot_rows tells.lots.own tells.lots.once)))
 
   told_rises : RisingLots told_list
   told_rises =
@@ -469,9 +466,9 @@ module _ (first : ℤ) (acts : List Act) (history : IsHistory first acts) (g : L
       (ordered_kept goes_before (is_shippable first acts) (lots_of acts g) (ordered_kept goes_before (λ k. of_item g k.lot) (lots acts) (lots_ordered (lots acts) (lots_numbered acts).falling))))
 
   -- the rows tell the supplies, but for lots of which nothing is there
-  pub rows_tell_supplies : offered (supplies_seen g day recall_rows bin_rows stock_rows lot_rows) ≡ offered (supplies first acts g)
+  pub rows_tell_supplies : offered (supplies_seen g from recall_rows bin_rows stock_rows lot_rows) ≡ offered (supplies first acts g)
   rows_tell_supplies =
-      ap offered (sym (map_twice out (as_lot row_rank row_avail) (usable_lots g day recall_rows lot_rows))) ∙ offered_out seen_list
+      ap offered (sym (map_twice out (as_lot row_rank row_avail) (usable_lots g from recall_rows lot_rows))) ∙ offered_out seen_list
       ∙ ap (map out) (same_non_zero ranks_before ranks_same (λ (x : Lot). x.rank) (λ (x : Lot). x.avail) rank_order (λ x y e f. (λ i. record { rank = e i; avail = f i })) seen_list told_list seen_rises told_rises same_at)
       ∙ sym (offered_out told_list) ∙ ap offered (map_twice out (as_lot lot_rank lot_avail) (shippable_lots first acts g))
 
@@ -512,13 +509,13 @@ module _ (first : ℤ) (acts : List Act) (history : IsHistory first acts) (g : L
         | false ↦ λ t. omega arith
       ] refl
 
-  avail_by_rows : (ks : List LotRow) → total (λ (k : LotRow). if is_usable g day recall_rows k then row_avail k else 0) ks ≤ total (λ (k : LotRow). total (λ (r : StockRow). if is_lot k.lot r.lot then own_qty r else 0) stock_rows) ks
+  avail_by_rows : (ks : List LotRow) → total (λ (k : LotRow). if is_usable g from recall_rows k then row_avail k else 0) ks ≤ total (λ (k : LotRow). total (λ (r : StockRow). if is_lot k.lot r.lot then own_qty r else 0) stock_rows) ks
   avail_by_rows [] = omega arith
   avail_by_rows (k ∷ ks) = omega (arith, one, avail_by_rows ks)
     where
-      one : (if is_usable g day recall_rows k then row_avail k else 0) ≤ total (λ (r : StockRow). if is_lot k.lot r.lot then own_qty r else 0) stock_rows
-      one = elim (of_item g k.lot) as (λ b. of_item g k.lot ≡ b → (if b && may_ship day recall_rows k then row_avail k else 0) ≤ total (λ (r : StockRow). if is_lot k.lot r.lot then own_qty r else 0) stock_rows) [
-        | true ↦ λ e. omega (arith, less (may_ship day recall_rows k) (row_avail k), store_by_rows k e stock_rows)
+      one : (if is_usable g from recall_rows k then row_avail k else 0) ≤ total (λ (r : StockRow). if is_lot k.lot r.lot then own_qty r else 0) stock_rows
+      one = elim (of_item g k.lot) as (λ b. of_item g k.lot ≡ b → (if b && may_ship from recall_rows k then row_avail k else 0) ≤ total (λ (r : StockRow). if is_lot k.lot r.lot then own_qty r else 0) stock_rows) [
+        | true ↦ λ e. omega (arith, less (may_ship from recall_rows k) (row_avail k), store_by_rows k e stock_rows)
         | false ↦ λ e. omega arith
       ] refl
         where
@@ -545,14 +542,14 @@ module _ (first : ℤ) (acts : List Act) (history : IsHistory first acts) (g : L
       in_bins (Shipped n o) m e = e
 
   -- the supplies seen are within the limit of a list's sum
-  pub supplies_within_limit : supply_total (supplies_seen g day recall_rows bin_rows stock_rows lot_rows) ≤ UNITS_MAX
+  pub supplies_within_limit : supply_total (supplies_seen g from recall_rows bin_rows stock_rows lot_rows) ≤ UNITS_MAX
   supplies_within_limit =
       omega (
         arith,
-        same_total (λ (x : Supply). x.avail) (supplies_seen g day recall_rows bin_rows stock_rows lot_rows),
-        total_map (λ (x : Supply). x.avail) (supply_seen bin_rows stock_rows) (usable_lots g day recall_rows lot_rows),
-        total_inserted goes_first row_avail [] (filter (is_usable g day recall_rows) lot_rows),
-        total_filter row_avail (is_usable g day recall_rows) lot_rows,
+        same_total (λ (x : Supply). x.avail) (supplies_seen g from recall_rows bin_rows stock_rows lot_rows),
+        total_map (λ (x : Supply). x.avail) (supply_seen bin_rows stock_rows) (usable_lots g from recall_rows lot_rows),
+        total_inserted goes_first row_avail [] (filter (is_usable g from recall_rows) lot_rows),
+        total_filter row_avail (is_usable g from recall_rows) lot_rows,
         avail_by_rows lot_rows,
         totals_swapped (λ (k : LotRow) (r : StockRow). if is_lot k.lot r.lot then own_qty r else 0) lot_rows stock_rows,
         each_row_once stock_rows,

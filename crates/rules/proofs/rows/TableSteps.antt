@@ -13,15 +13,16 @@ use Rattle.machine.specs.Tables.{Tables, tables_of, if_any, reserved_row}
 use Rattle.rules.specs.Slices.{changed, unless_put, differs, NamesChangedReservations}
 use Rattle.row_rules.specs.declared.slice.Change.{Change}
 
-pub same_tables : (t u : Tables) → t.meta ≡ u.meta → ((g : List ℕ) → t.item g ≡ u.item g) → ((b : List ℕ) → t.bin b ≡ u.bin b)
+pub same_tables : (t u : Tables) → t.meta ≡ u.meta → ((g : List ℕ) → t.item g ≡ u.item g) → ((g : List ℕ) → t.least g ≡ u.least g) → ((b : List ℕ) → t.bin b ≡ u.bin b)
     → ((l : LotId) → t.lot l ≡ u.lot l) → ((l : LotId) → t.recall l ≡ u.recall l) → ((l : LotId) (b : List ℕ) → t.stock l b ≡ u.stock l b)
     → ((o : List ℕ) → t.order o ≡ u.order o) → ((o g : List ℕ) → t.line o g ≡ u.line o g) → ((o : List ℕ) (l : LotId) → t.staged o l ≡ u.staged o l)
     → ((o : List ℕ) (l : LotId) → t.reserved o l ≡ u.reserved o l) → ((n : ℕ) → t.shipment n ≡ u.shipment n) → ((n : ℕ) (l : LotId) → t.shipline n l ≡ u.shipline n l)
     → ((l : LotId) (n : ℕ) → t.card l n ≡ u.card l n) → ((k : List ℕ) → t.repeat k ≡ u.repeat k) → t ≡ u
-same_tables t u meta item bin lot recall stock order line staged reserved shipment shipline card repeat =
+same_tables t u meta item least bin lot recall stock order line staged reserved shipment shipline card repeat =
     λ j. record {
       meta = meta j;
       item = λ g. item g j;
+      least = λ g. least g j;
       bin = λ b. bin b j;
       lot = λ l. lot l j;
       recall = λ l. recall l j;

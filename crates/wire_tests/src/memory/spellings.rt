@@ -15,7 +15,7 @@ struct Spelling {
     spelling: &'static str,
 }
 
-static SPELLINGS: [Spelling; 14] = [
+static SPELLINGS: [Spelling; 15] = [
     Spelling {
         path: "/items",
         body: r#"{"key":"K-1","gtin":"09506000134352","name":"Oat drink"}"#,
@@ -85,6 +85,11 @@ static SPELLINGS: [Spelling; 14] = [
         path: "/days",
         body: r#"{"key":"K-1","day":"2026-05-05"}"#,
         spelling: "OPENDAY\n2026-05-05",
+    },
+    Spelling {
+        path: "/leasts",
+        body: r#"{"key":"K-1","gtin":"09506000134352","days":27}"#,
+        spelling: "LEAST\n09506000134352\n27",
     },
 ];
 

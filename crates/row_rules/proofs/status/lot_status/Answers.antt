@@ -10,5 +10,8 @@ returns-then-lot c = search rules
 pub returns-then-is_expired : goal.returns-then-is_expired
 returns-then-is_expired c = search rules
 
-pub returns-else-is_expired : goal.returns-else-is_expired
-returns-else-is_expired c = search rules
+pub returns-then-is_short_dated : goal.returns-then-is_short_dated
+returns-then-is_short_dated c = search rules
+
+pub returns-else-is_short_dated : goal.returns-else-is_short_dated
+returns-else-is_short_dated c = search rules

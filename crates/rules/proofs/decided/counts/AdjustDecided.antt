@@ -53,7 +53,7 @@ module _ (first : ℤ) (acts : List Act) (key : Key) (a : Adjustment) (s : Slice
     posts = written_as (next_number acts) a.lot a.bin a.change;
     there = (adjust_accepted first acts a next.1.passes).there;
     left_is = refl;
-    known = record { items = refl; bins = refl; lots = refl; holds = refl; recalls = refl; orders = refl; cancels = refl; shipments = refl; day = refl };
+    known = record { items = refl; bins = refl; lots = refl; holds = refl; recalls = refl; orders = refl; cancels = refl; shipments = refl; day = refl; asked = refl };
     text = refl;
     touched = λ g. refl;
     planned = refl;

@@ -17,7 +17,7 @@ use Rattle.commands.specs.declared.rows.CardRow.{CardRow}
 use Rattle.commands.specs.declared.rows.ReservedRow.{ReservedRow}
 use Rattle.machine.specs.Acts.{Act}
 use Rattle.machine.specs.Postings.{is_lot, of_item}
-use Rattle.machine.specs.Standing.{has_line, today}
+use Rattle.machine.specs.Standing.{has_line, today, least_expiry}
 use Rattle.machine.specs.Ledger.{postings}
 use Rattle.machine.specs.Planning.{is_open}
 use Rattle.machine.specs.Cards.{lot_units_in_house}
@@ -26,6 +26,7 @@ use Rattle.machine.specs.Tables.{tables_of, bin_row, lot_row, stock_row, order_r
 use Rattle.machine.specs.Touched.{is_touched}
 use Rattle.machine.specs.KeyedRows.{no_two, same_cell, same_line, same_share}
 use Rattle.rules.specs.Slices.{IsSlice, applied, in_bins}
+use Rattle.row_rules.specs.Status.{earliest_seen}
 use Rattle.row_rules.specs.Seen.{none_put, none_dropped, lot_units}
 use Rattle.row_rules.specs.SeenLots.{stock_put, stock_gone}
 use Rattle.goods_rules.specs.DecidedCount.{stock_corrected, correction_replanned, correction_card, correction_cards, change_reply, corrections}
@@ -44,8 +45,9 @@ use Rattle.rules.proofs.rows.LotTold.{found_stock}
 use Rattle.rules.proofs.rows.StockChanged.{with_units, stock_rows_are, bins_with, lots_with}
 use Rattle.rules.proofs.rows.TableSteps.{AreNamed, names_changed, reserved_changed}
 use Rattle.rules.proofs.rows.replanned.OneItem.{TouchesOnly, replanned, replanned_once}
+use Rattle.rules.proofs.rows.DaysAsked.{earliest_told}
 use Rattle.rules.proofs.decided.Decisions.{IsChange, day_seen, number_same, meta_same}
-use Rattle.rules.proofs.decided.counts.CorrectionStep.{Writes, stock_with, bin_at, lot_at, recall_at, line_known, open_at, order_at, line_at, staged_at, written_card, written_cards, write_change, write_step}
+use Rattle.rules.proofs.decided.counts.CorrectionStep.{Writes, stock_with, earliest_at, bin_at, lot_at, recall_at, line_known, open_at, order_at, line_at, staged_at, written_card, written_cards, write_change, write_step}
 
 module _ (first : ℤ) (acts : List Act) (act : Act) (s : Slice) (slice : IsSlice first act acts (tables_of first acts) s) (next : IsHistory first (act ∷ acts))
     (l : LotId) (b : List ℕ) (z : ℤ) (left : ℕ) (writes : Writes first act acts l b z left) where
@@ -111,9 +113,12 @@ module _ (first : ℤ) (acts : List Act) (act : Act) (s : Slice) (slice : IsSlic
   day_is : s.meta.day ≡ today first after
   day_is = day_seen first acts act s slice ∙ sym writes.known.day
 
+  from : earliest_seen s.meta.day s.rows.least g ≡ least_expiry first after g
+  from = earliest_told first acts act s slice writes.planned next.0 g touched ∙ earliest_at first act acts l b z left writes legal g
+
   are_named : AreNamed first act acts puts drops
   are_named =
-      replanned first acts act s slice writes.planned next g only s.meta.day day_is s.rows.orders s.rows.lines s.rows.staged s.rows.lots s.rows.recalls s.rows.bins (stock_corrected s l b left) demands_after supplies_after
+      replanned first acts act s slice writes.planned next g only s.meta.day s.rows.least from s.rows.orders s.rows.lines s.rows.staged s.rows.lots s.rows.recalls s.rows.bins (stock_corrected s l b left) demands_after supplies_after
 
   -- The change is that of the act
 
@@ -159,10 +164,11 @@ module _ (first : ℤ) (acts : List Act) (act : Act) (s : Slice) (slice : IsSlic
       lines = refl;
       staged = refl;
       reserved =
-          replanned_once first acts act s slice writes.planned next g only s.meta.day day_is s.rows.orders s.rows.lines s.rows.staged s.rows.lots s.rows.recalls s.rows.bins (stock_corrected s l b left) demands_after supplies_after;
+          replanned_once first acts act s slice writes.planned next g only s.meta.day s.rows.least from s.rows.orders s.rows.lines s.rows.staged s.rows.lots s.rows.recalls s.rows.bins (stock_corrected s l b left) demands_after supplies_after;
       shipments = refl;
       shiplines = refl;
       cards = cards_once (int_lt (pos 0) z) (int_lt z (pos 0)) (correction_card s l b left z WriteOn) (correction_card s l b left z WrittenOff);
+      least = refl;
     };
     named = names_changed first act acts (corrections s l b left z) are_named;
   }

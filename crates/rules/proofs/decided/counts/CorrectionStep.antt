@@ -1,6 +1,6 @@
 -- The change of an act that writes units of a lot on to a bin, or off it, takes the tables to those with the act, if its reserved rows do.
 use Rattle.std.proofs.Common.{◌≡◌, ℕ, suc, ◌+◌, ◌-◌, ◌≤◌, Bool, true, false, ◌&&◌, List, [], ◌∷◌, ◌++◌, refl, ap, sym, ◌∙◌, arith, append_assoc}
-use Rattle.std.specs.Prelude.{zero, ◌==◌, if◌then◌else◌, ℤ, pos, negsuc, int_lt, Some, find, filter, option_map, flat_map}
+use Rattle.std.specs.Prelude.{zero, ◌==◌, if◌then◌else◌, ℤ, pos, negsuc, int_lt, Some, find, filter, option_map, flat_map, ◌+ℤ◌}
 use Rattle.std.specs.List.{list_all, list_any}
 use Rattle.std.proofs.lemmas.Bool.Decides.{nat_tests}
 use borrow.Author.Tests.{lt-ltb}
@@ -18,14 +18,14 @@ use Rattle.commands.specs.declared.rows.CardRow.{CardRow}
 use Rattle.commands.specs.declared.rows.ReservedRow.{ReservedRow}
 use Rattle.machine.specs.Acts.{Act, gathered, next_number}
 use Rattle.machine.specs.Postings.{Place, InBin, WriteOff, Posting, balance, is_lot, is_stage, is_shipped_to, is_shipment, of_item, is_bin}
-use Rattle.machine.specs.Standing.{items, bins, lots, hold_in, recall_in, orders, cancel_in, says_held, KnownLot, Recalling, Placed, lines_placed, today, shipments, lines_of, has_line}
+use Rattle.machine.specs.Standing.{items, bins, lots, hold_in, recall_in, orders, cancel_in, least_in, days_asked, least_days, least_expiry, says_held, KnownLot, Recalling, Placed, lines_placed, today, shipments, lines_of, has_line}
 use Rattle.machine.specs.Ledger.{posting, postings, postings_of}
 use Rattle.machine.specs.Planning.{in_bin, shipped_of, shipped, is_open, is_open_state, order_state}
 use Rattle.machine.specs.Verdict.{taken_off, put_on}
 use Rattle.machine.specs.Cards.{cards, card_lines, lot_units_in_house}
 use Rattle.machine.specs.Replies.{further_field, change_field}
 use Rattle.machine.specs.Touched.{is_touched}
-use Rattle.machine.specs.Tables.{tables_of, meta_row, if_any, item_row, bin_row, lot_row, recall_row, stock_row, order_row, line_row, staged_row, shipment_row, shipline_row, card_row, reserved_row}
+use Rattle.machine.specs.Tables.{tables_of, meta_row, if_any, item_row, least_row, bin_row, lot_row, recall_row, stock_row, order_row, line_row, staged_row, shipment_row, shipline_row, card_row, reserved_row}
 use Rattle.machine.specs.KeyedRows.{LotBin, same_cell}
 use Rattle.rules.specs.Slices.{applied, tables_but_repeats, changed, unless_put, plans, names_bin, names_lot}
 use Rattle.row_rules.specs.Seen.{none_put, none_dropped}
@@ -39,7 +39,7 @@ use Rattle.rules.proofs.rows.StockChanged.{with_units, cell_changed, stock_row_w
 use Rattle.machine.proofs.histories.PlaceRows.{and_turned}
 use Rattle.machine.proofs.Tests.{same_text_refl, is_lot_refl}
 
--- the act makes nothing known: no item, bin, lot, hold, recall, order, shipment or day
+-- the act makes nothing known: no item, bin, lot, hold, recall, order, shipment, day or days that an item asks for
 pub record MakesNothingKnown (first : ℤ) (act : Act) (acts : List Act) : Type 0 where
   pub items : items (act ∷ acts) ≡ items acts
   pub bins : bins (act ∷ acts) ≡ bins acts
@@ -50,6 +50,7 @@ pub record MakesNothingKnown (first : ℤ) (act : Act) (acts : List Act) : Type 
   pub cancels : gathered cancel_in (act ∷ acts) ≡ gathered cancel_in acts
   pub shipments : shipments first (act ∷ acts) ≡ shipments first acts
   pub day : today first (act ∷ acts) ≡ today first acts
+  pub asked : gathered least_in (act ∷ acts) ≡ gathered least_in acts
 
 -- the act writes z units of a lot on to a bin, or off it, and so the bin has `left` of them
 pub record Writes (first : ℤ) (act : Act) (acts : List Act) (l : LotId) (b : List ℕ) (z : ℤ) (left : ℕ) : Type 0 where
@@ -130,6 +131,15 @@ module _ (first : ℤ) (act : Act) (acts : List Act) (l : LotId) (b : List ℕ) 
 
   pub item_at : (g : List ℕ) → item_row acts g ≡ item_row after g
   item_at g = λ i. option_map (λ (x : NewItem). record { gtin = x.gtin; name = x.name }) (find (λ x. same_text g x.gtin) (sym writes.known.items i))
+
+  days_of : (g : List ℕ) → least_days acts g ≡ least_days after g
+  days_of g = λ i. days_asked (find (λ x. same_text g x.gtin) (sym writes.known.asked i))
+
+  pub earliest_at : (g : List ℕ) → least_expiry first acts g ≡ least_expiry first after g
+  earliest_at g = λ i. sym writes.known.day i +ℤ pos (days_of g i)
+
+  least_at : (g : List ℕ) → least_row acts g ≡ least_row after g
+  least_at g = λ i. option_map (λ (x : NewItem). record { gtin = x.gtin; days = days_of x.gtin i }) (find (λ x. same_text g x.gtin) (sym writes.known.items i))
 
   pub bin_at : (c : List ℕ) → bin_row acts c ≡ bin_row after c
   bin_at c = λ i. option_map (λ (x : NewBin). record { name = x.bin; kind = x.kind }) (find (λ x. same_text c x.bin) (sym writes.known.bins i))
@@ -218,4 +228,4 @@ module _ (first : ℤ) (act : Act) (acts : List Act) (l : LotId) (b : List ℕ) 
     unfolding applied tables_of
     write_step put dropped reserved_at =
         same_tables (applied (write_change text rows put dropped) (tables_of first acts)) (tables_but_repeats first act acts) refl
-        item_at bin_at lot_at recall_at stock_at order_at line_at staged_at reserved_at shipment_at shipline_at card_at (λ k. refl)
+        item_at least_at bin_at lot_at recall_at stock_at order_at line_at staged_at reserved_at shipment_at shipline_at card_at (λ k. refl)

@@ -60,7 +60,7 @@ module _ (first : ℤ) (acts : List Act) (key : Key) (c : Recount) (s : Slice) (
     posts = λ i. posting (next_number acts) c.lot WriteOff (InBin c.bin) (sym (put_on_less c.qty have) i) ++ posting (next_number acts) c.lot (InBin c.bin) WriteOff (sym (taken_off_less c.qty have) i);
     there = omega (arith, taken_off_less c.qty have);
     left_is = omega (arith, put_on_less c.qty have, taken_off_less c.qty have);
-    known = record { items = refl; bins = refl; lots = refl; holds = refl; recalls = refl; orders = refl; cancels = refl; shipments = refl; day = refl };
+    known = record { items = refl; bins = refl; lots = refl; holds = refl; recalls = refl; orders = refl; cancels = refl; shipments = refl; day = refl; asked = refl };
     text = refl;
     touched = λ g. refl;
     planned = refl;

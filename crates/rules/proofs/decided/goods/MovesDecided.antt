@@ -24,7 +24,8 @@ use Rattle.machine.proofs.histories.Accepted.{room_for_acts}
 use Rattle.rules.proofs.rows.LotTold.{found_stock}
 use Rattle.rules.proofs.rows.TableSteps.{AreNamed, names_changed, reserved_changed}
 use Rattle.rules.proofs.rows.replanned.OneItem.{TouchesOnly, replanned, replanned_once}
-use Rattle.rules.proofs.decided.Decisions.{AreRight, IsChange, day_seen, plain_same, meta_same}
+use Rattle.rules.proofs.rows.DaysAsked.{earliest_told}
+use Rattle.rules.proofs.decided.Decisions.{AreRight, IsChange, plain_same, meta_same}
 use Rattle.rules.proofs.decided.goods.MoveJudged.{move_judged}
 use Rattle.rules.proofs.decided.goods.MoveStep.{move_change, move_step, stock_once}
 use Rattle.rules.proofs.decided.goods.MoveTells.{some_moved, accepted, legal_before, demands_after, supplies_after, left_same, brought_same}
@@ -50,7 +51,7 @@ module _ (first : ℤ) (acts : List Act) (key : Key) (m : Movement) (s : Slice) 
 
   are_named : AreNamed first act acts puts drops
   are_named =
-      replanned first acts act s slice refl next g only s.meta.day (day_seen first acts act s slice) s.rows.orders s.rows.lines s.rows.staged s.rows.lots s.rows.recalls s.rows.bins (stock_rows_moved s m)
+      replanned first acts act s slice refl next g only s.meta.day s.rows.least (earliest_told first acts act s slice refl next.0 g only.own) s.rows.orders s.rows.lines s.rows.staged s.rows.lots s.rows.recalls s.rows.bins (stock_rows_moved s m)
       (demands_after first acts key m s slice next) (supplies_after first acts key m s slice next)
 
   -- The change is that of the act
@@ -98,11 +99,12 @@ module _ (first : ℤ) (acts : List Act) (key : Key) (m : Movement) (s : Slice) 
       lines = refl;
       staged = refl;
       reserved =
-          replanned_once first acts act s slice refl next g only s.meta.day (day_seen first acts act s slice) s.rows.orders s.rows.lines s.rows.staged s.rows.lots s.rows.recalls s.rows.bins (stock_rows_moved s m)
+          replanned_once first acts act s slice refl next g only s.meta.day s.rows.least (earliest_told first acts act s slice refl next.0 g only.own) s.rows.orders s.rows.lines s.rows.staged s.rows.lots s.rows.recalls s.rows.bins (stock_rows_moved s m)
           (demands_after first acts key m s slice next) (supplies_after first acts key m s slice next);
       shipments = refl;
       shiplines = refl;
       cards = refl;
+      least = refl;
     };
     named = names_changed first act acts (move_changes s m) are_named;
   }

@@ -24,6 +24,7 @@ use Rattle.machine.proofs.histories.Accepted.{room_for_acts}
 use Rattle.rules.proofs.rows.TableSteps.{AreNamed, names_changed, reserved_changed}
 use Rattle.rules.proofs.rows.replanned.OneItem.{TouchesOnly, replanned, replanned_once}
 use Rattle.rules.proofs.rows.LotUnits.{lot_units_told}
+use Rattle.rules.proofs.rows.DaysAsked.{earliest_told}
 use Rattle.rules.proofs.decided.Decisions.{AreRight, IsChange, day_seen, number_same, plain_same, meta_same}
 use Rattle.rules.proofs.decided.goods.ReceiveJudged.{receive_judged}
 use Rattle.rules.proofs.decided.goods.ReceiveStep.{new_card, receive_change, receive_step}
@@ -57,7 +58,7 @@ module _ (first : ℤ) (acts : List Act) (key : Key) (r : Receipt) (s : Slice) (
 
   are_named : AreNamed first act acts puts drops
   are_named =
-      replanned first acts act s slice refl next g only s.meta.day (day_seen first acts act s slice) s.rows.orders s.rows.lines s.rows.staged (lot_rows_after s r) s.rows.recalls s.rows.bins (stock_rows_after s r)
+      replanned first acts act s slice refl next g only s.meta.day s.rows.least (earliest_told first acts act s slice refl next.0 g only.own) s.rows.orders s.rows.lines s.rows.staged (lot_rows_after s r) s.rows.recalls s.rows.bins (stock_rows_after s r)
       (demands_after first acts key r s slice next) (supplies_after first acts key r s slice next)
 
   -- The change is that of the act
@@ -105,11 +106,12 @@ module _ (first : ℤ) (acts : List Act) (key : Key) (r : Receipt) (s : Slice) (
       lines = refl;
       staged = refl;
       reserved =
-          replanned_once first acts act s slice refl next g only s.meta.day (day_seen first acts act s slice) s.rows.orders s.rows.lines s.rows.staged (lot_rows_after s r) s.rows.recalls s.rows.bins (stock_rows_after s r)
+          replanned_once first acts act s slice refl next g only s.meta.day s.rows.least (earliest_told first acts act s slice refl next.0 g only.own) s.rows.orders s.rows.lines s.rows.staged (lot_rows_after s r) s.rows.recalls s.rows.bins (stock_rows_after s r)
           (demands_after first acts key r s slice next) (supplies_after first acts key r s slice next);
       shipments = refl;
       shiplines = refl;
       cards = refl;
+      least = refl;
     };
     named = names_changed first act acts (receive_changes s key r) are_named;
   }

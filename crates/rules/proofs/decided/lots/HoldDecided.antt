@@ -10,7 +10,7 @@ use Rattle.commands.specs.declared.rows.LotRow.{LotRow}
 use Rattle.commands.specs.declared.rows.ReservedRow.{ReservedRow}
 use Rattle.machine.specs.Acts.{Act, gathered}
 use Rattle.machine.specs.Postings.{is_lot}
-use Rattle.machine.specs.Standing.{Holding, hold_in, says_held, is_held, is_recalled, is_expired, today}
+use Rattle.machine.specs.Standing.{Holding, hold_in, says_held, is_held, is_recalled, is_expired, least_expiry}
 use Rattle.machine.specs.Verdict.{first_refusal, judgement}
 use Rattle.machine.specs.Once.{IsHistory}
 use Rattle.machine.specs.Tables.{tables_of, lot_row, meta_row, reserved_row}
@@ -35,7 +35,8 @@ use Rattle.rules.proofs.rows.TableSteps.{same_tables, AreNamed, names_changed, r
 use Rattle.rules.proofs.rows.replanned.OneItem.{TouchesOnly, replanned, replanned_once}
 use Rattle.machine.proofs.histories.UnshippableLots.{MakesUnshippable, order_row_still, line_row_still, shipline_row_still, card_row_still}
 use Rattle.rules.proofs.rows.ReturnedRows.{returned_once, returned_stock_at, returned_staged_at, demands_after, supplies_after, returned_text}
-use Rattle.rules.proofs.decided.Decisions.{AreRight, IsChange, day_seen, meta_same}
+use Rattle.rules.proofs.rows.DaysAsked.{earliest_told}
+use Rattle.rules.proofs.decided.Decisions.{AreRight, IsChange, meta_same}
 
 module _ (first : ℤ) (acts : List Act) (key : Key) (l : LotId) (s : Slice) (slice : IsSlice first (record { key = key; command = Hold l }) acts (tables_of first acts) s) where
   abbrev act : Act
@@ -72,8 +73,8 @@ module _ (first : ℤ) (acts : List Act) (key : Key) (l : LotId) (s : Slice) (sl
   makes : MakesUnshippable first acts act l
   makes = record {
     posts = refl;
-    itself = λ k e. ap (λ b. not b && not (is_recalled acts k.lot) && not (is_expired (today first acts) k.expiry)) (held_is k.lot ∙ ap (λ t. if t then true else is_held acts k.lot) (is_lot_turned k.lot l ∙ e));
-    others = λ k e. ap (λ b. not b && not (is_recalled acts k.lot) && not (is_expired (today first acts) k.expiry)) (held_is k.lot ∙ ap (λ t. if t then true else is_held acts k.lot) (is_lot_turned k.lot l ∙ e));
+    itself = λ k e. ap (λ b. not b && not (is_recalled acts k.lot) && not (is_expired (least_expiry first acts k.lot.gtin) k.expiry)) (held_is k.lot ∙ ap (λ t. if t then true else is_held acts k.lot) (is_lot_turned k.lot l ∙ e));
+    others = λ k e. ap (λ b. not b && not (is_recalled acts k.lot) && not (is_expired (least_expiry first acts k.lot.gtin) k.expiry)) (held_is k.lot ∙ ap (λ t. if t then true else is_held acts k.lot) (is_lot_turned k.lot l ∙ e));
     same_orders = refl;
     same_cancels = refl;
     same_bins = refl;
@@ -108,7 +109,7 @@ module _ (first : ℤ) (acts : List Act) (key : Key) (l : LotId) (s : Slice) (sl
 
     are_named : AreNamed first act acts puts drops
     are_named =
-        replanned first acts act s slice refl next g only s.meta.day (day_seen first acts act s slice) s.rows.orders s.rows.lines (staged_kept s l) (lot_rows_with_hold s l true) s.rows.recalls (bins_with_returns s) (stock_with_returned s l)
+        replanned first acts act s slice refl next g only s.meta.day s.rows.least (earliest_told first acts act s slice refl next.0 g only.own) s.rows.orders s.rows.lines (staged_kept s l) (lot_rows_with_hold s l true) s.rows.recalls (bins_with_returns s) (stock_with_returned s l)
         (demands_after first acts act l s slice refl named makes next) supplies_are
 
     hold_step : ((o : List ℕ) (m : LotId) → changed (λ (q : ReservedRow). same_text o q.order && is_lot m q.lot) puts drops (reserved_row first acts o m) ≡ reserved_row first after o m)
@@ -116,7 +117,7 @@ module _ (first : ℤ) (acts : List Act) (key : Key) (l : LotId) (s : Slice) (sl
     unfolding applied tables_of
     hold_step reserved_at =
         same_tables (applied hold_change (tables_of first acts)) (tables_but_repeats first act acts) refl
-        (λ g. refl) (λ b. refl) lot_at (λ l. refl) (returned_stock_at first acts act l s slice refl named makes next) (order_row_still first acts act l makes next) (line_row_still first acts act l makes next)
+        (λ g. refl) (λ g. refl) (λ b. refl) lot_at (λ l. refl) (returned_stock_at first acts act l s slice refl named makes next) (order_row_still first acts act l makes next) (line_row_still first acts act l makes next)
         (returned_staged_at first acts act l s slice refl named makes next) reserved_at (λ n. refl) (shipline_row_still first acts act l makes next) (card_row_still first acts act l makes next) (λ k. refl)
 
     hold_changed : IsChange first act acts (hold_changes s l)
@@ -136,11 +137,12 @@ module _ (first : ℤ) (acts : List Act) (key : Key) (l : LotId) (s : Slice) (sl
             lines = refl;
             staged = refl;
             reserved =
-                replanned_once first acts act s slice refl next g only s.meta.day (day_seen first acts act s slice) s.rows.orders s.rows.lines (staged_kept s l) (lot_rows_with_hold s l true) s.rows.recalls (bins_with_returns s) (stock_with_returned s l)
+                replanned_once first acts act s slice refl next g only s.meta.day s.rows.least (earliest_told first acts act s slice refl next.0 g only.own) s.rows.orders s.rows.lines (staged_kept s l) (lot_rows_with_hold s l true) s.rows.recalls (bins_with_returns s) (stock_with_returned s l)
                 (demands_after first acts act l s slice refl named makes next) supplies_are;
             shipments = refl;
             shiplines = refl;
             cards = refl;
+            least = refl;
           };
           named = names_changed first act acts (hold_changes s l) are_named;
         }

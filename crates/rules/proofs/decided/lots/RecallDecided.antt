@@ -11,7 +11,7 @@ use Rattle.commands.specs.declared.rows.RecallRow.{RecallRow}
 use Rattle.commands.specs.declared.rows.ReservedRow.{ReservedRow}
 use Rattle.machine.specs.Acts.{Act, next_number}
 use Rattle.machine.specs.Postings.{is_lot, of_item}
-use Rattle.machine.specs.Standing.{Recalling, recalling, is_held, is_recalled, is_expired, today}
+use Rattle.machine.specs.Standing.{Recalling, recalling, is_held, is_recalled, is_expired, least_expiry}
 use Rattle.machine.specs.Verdict.{first_refusal, judgement}
 use Rattle.machine.specs.Once.{IsHistory}
 use Rattle.machine.specs.Tables.{tables_of, lot_row, recall_row, meta_row, reserved_row}
@@ -31,7 +31,8 @@ use Rattle.rules.proofs.rows.TableSteps.{same_tables, AreNamed, names_changed, r
 use Rattle.rules.proofs.rows.replanned.OneItem.{TouchesOnly, replanned, replanned_once}
 use Rattle.machine.proofs.histories.UnshippableLots.{MakesUnshippable, order_row_still, line_row_still, shipline_row_still, card_row_still}
 use Rattle.rules.proofs.rows.ReturnedRows.{returned_once, returned_stock_at, returned_staged_at, demands_after, supplies_after, returned_text}
-use Rattle.rules.proofs.decided.Decisions.{AreRight, IsChange, day_seen, number_same, meta_same}
+use Rattle.rules.proofs.rows.DaysAsked.{earliest_told}
+use Rattle.rules.proofs.decided.Decisions.{AreRight, IsChange, number_same, meta_same}
 
 module _ (first : ℤ) (acts : List Act) (key : Key) (l : LotId) (s : Slice) (slice : IsSlice first (record { key = key; command = Recall l }) acts (tables_of first acts) s) where
   abbrev act : Act
@@ -70,9 +71,9 @@ module _ (first : ℤ) (acts : List Act) (key : Key) (l : LotId) (s : Slice) (sl
   makes = record {
     posts = refl;
     itself = λ k e.
-        ap (λ b. not (is_held acts k.lot) && not b && not (is_expired (today first acts) k.expiry)) (recalled_is k.lot ∙ ap (λ t. if t then true else is_recalled acts k.lot) (is_lot_turned k.lot l ∙ e))
-        ∙ ap (λ b. b && not (is_expired (today first acts) k.expiry)) (and_false (not (is_held acts k.lot)));
-    others = λ k e. ap (λ b. not (is_held acts k.lot) && not b && not (is_expired (today first acts) k.expiry)) (recalled_is k.lot ∙ ap (λ t. if t then true else is_recalled acts k.lot) (is_lot_turned k.lot l ∙ e));
+        ap (λ b. not (is_held acts k.lot) && not b && not (is_expired (least_expiry first acts k.lot.gtin) k.expiry)) (recalled_is k.lot ∙ ap (λ t. if t then true else is_recalled acts k.lot) (is_lot_turned k.lot l ∙ e))
+        ∙ ap (λ b. b && not (is_expired (least_expiry first acts k.lot.gtin) k.expiry)) (and_false (not (is_held acts k.lot)));
+    others = λ k e. ap (λ b. not (is_held acts k.lot) && not b && not (is_expired (least_expiry first acts k.lot.gtin) k.expiry)) (recalled_is k.lot ∙ ap (λ t. if t then true else is_recalled acts k.lot) (is_lot_turned k.lot l ∙ e));
     same_orders = refl;
     same_cancels = refl;
     same_bins = refl;
@@ -119,7 +120,7 @@ module _ (first : ℤ) (acts : List Act) (key : Key) (l : LotId) (s : Slice) (sl
 
     are_named : AreNamed first act acts puts drops
     are_named =
-        replanned first acts act s slice refl next g only s.meta.day (day_seen first acts act s slice) s.rows.orders s.rows.lines (staged_kept s l) s.rows.lots (recall_rows_after s l) (bins_with_returns s) (stock_with_returned s l)
+        replanned first acts act s slice refl next g only s.meta.day s.rows.least (earliest_told first acts act s slice refl next.0 g only.own) s.rows.orders s.rows.lines (staged_kept s l) s.rows.lots (recall_rows_after s l) (bins_with_returns s) (stock_with_returned s l)
         (demands_after first acts act l s slice refl named makes next) supplies_are
 
     recall_step : ((o : List ℕ) (m : LotId) → changed (λ (q : ReservedRow). same_text o q.order && is_lot m q.lot) puts drops (reserved_row first acts o m) ≡ reserved_row first after o m)
@@ -127,7 +128,7 @@ module _ (first : ℤ) (acts : List Act) (key : Key) (l : LotId) (s : Slice) (sl
     unfolding applied tables_of
     recall_step reserved_at =
         same_tables (applied recall_change (tables_of first acts)) (tables_but_repeats first act acts) refl
-        (λ g. refl) (λ b. refl) (λ l. refl) recall_at (returned_stock_at first acts act l s slice refl named makes next) (order_row_still first acts act l makes next) (line_row_still first acts act l makes next)
+        (λ g. refl) (λ g. refl) (λ b. refl) (λ l. refl) recall_at (returned_stock_at first acts act l s slice refl named makes next) (order_row_still first acts act l makes next) (line_row_still first acts act l makes next)
         (returned_staged_at first acts act l s slice refl named makes next) reserved_at (λ n. refl) (shipline_row_still first acts act l makes next) (card_row_still first acts act l makes next) (λ k. refl)
 
     recall_changed : IsChange first act acts (recall_changes s l)
@@ -150,11 +151,12 @@ module _ (first : ℤ) (acts : List Act) (key : Key) (l : LotId) (s : Slice) (sl
             lines = refl;
             staged = refl;
             reserved =
-                replanned_once first acts act s slice refl next g only s.meta.day (day_seen first acts act s slice) s.rows.orders s.rows.lines (staged_kept s l) s.rows.lots (recall_rows_after s l) (bins_with_returns s) (stock_with_returned s l)
+                replanned_once first acts act s slice refl next g only s.meta.day s.rows.least (earliest_told first acts act s slice refl next.0 g only.own) s.rows.orders s.rows.lines (staged_kept s l) s.rows.lots (recall_rows_after s l) (bins_with_returns s) (stock_with_returned s l)
                 (demands_after first acts act l s slice refl named makes next) supplies_are;
             shipments = refl;
             shiplines = refl;
             cards = refl;
+            least = refl;
           };
           named = names_changed first act acts (recall_changes s l) are_named;
         }

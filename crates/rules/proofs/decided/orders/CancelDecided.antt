@@ -25,7 +25,8 @@ use Rattle.rules.proofs.rows.TableSteps.{AreNamed, names_changed, reserved_chang
 use Rattle.rules.proofs.rows.OrderTold.{found_order_row}
 use Rattle.rules.proofs.rows.OrderItems.{items_told, items_apart}
 use Rattle.rules.proofs.rows.replanned.EachItem.{items_replanned, items_put_once}
-use Rattle.rules.proofs.decided.Decisions.{AreRight, IsChange, day_seen, meta_same, plain_same}
+use Rattle.rules.proofs.rows.DaysAsked.{earliest_told}
+use Rattle.rules.proofs.decided.Decisions.{AreRight, IsChange, meta_same, plain_same}
 use Rattle.rules.proofs.decided.orders.CancelJudged.{cancel_judged}
 use Rattle.rules.proofs.decided.orders.CancelStep.{row_of, new_row, cancel_change, cancel_step}
 use Rattle.rules.proofs.decided.orders.CancelTells.{demands_after, supplies_after}
@@ -43,13 +44,13 @@ module _ (first : ℤ) (acts : List Act) (key : Key) (o : List ℕ) (s : Slice) 
   are_named : AreNamed first act acts (cancel_put s o) (cancel_dropped s o)
   are_named =
       items_replanned (λ (g : List ℕ). g) first acts act s slice refl next (items_seen s o) (items_apart first acts act s slice o (same_text_refl o)) (items_told first acts act s slice o (same_text_refl o))
-      s.meta.day (day_seen first acts act s slice) (other_orders s o) s.rows.lines s.rows.staged s.rows.lots s.rows.recalls s.rows.bins s.rows.stock
+      s.meta.day s.rows.least (earliest_told first acts act s slice refl next.0) (other_orders s o) s.rows.lines s.rows.staged s.rows.lots s.rows.recalls s.rows.bins s.rows.stock
       (demands_after first acts key o s slice) (supplies_after first acts key o s slice)
 
   put_once : no_two is_share_of (cancel_put s o) ≡ true
   put_once =
       items_put_once (λ (g : List ℕ). g) first acts act s slice refl next (items_seen s o) (items_apart first acts act s slice o (same_text_refl o)) (items_told first acts act s slice o (same_text_refl o))
-      s.meta.day (day_seen first acts act s slice) (other_orders s o) s.rows.lines s.rows.staged s.rows.lots s.rows.recalls s.rows.bins s.rows.stock
+      s.meta.day s.rows.least (earliest_told first acts act s slice refl next.0) (other_orders s o) s.rows.lines s.rows.staged s.rows.lots s.rows.recalls s.rows.bins s.rows.stock
       (demands_after first acts key o s slice) (supplies_after first acts key o s slice)
 
   module _ (p : Placed) (named : order_named acts o ≡ Some p) where
@@ -70,7 +71,7 @@ module _ (first : ℤ) (acts : List Act) (key : Key) (o : List ℕ) (s : Slice) 
       applies = ap (λ c. applied c (tables_of first acts)) change_same
           ∙ cancel_step first acts key o p named (plain_reply s) (cancel_put s o) (cancel_dropped s o) (reserved_changed first act acts (cancel_put s o) (cancel_dropped s o) are_named);
       text = plain_same first acts act s slice room refl;
-      once = record { items = refl; bins = refl; lots = refl; recalls = refl; stock = refl; orders = ap (no_two (λ (r t : OrderRow). same_text r.order t.order)) row_is; lines = refl; staged = refl; reserved = put_once; shipments = refl; shiplines = refl; cards = refl };
+      once = record { items = refl; bins = refl; lots = refl; recalls = refl; stock = refl; orders = ap (no_two (λ (r t : OrderRow). same_text r.order t.order)) row_is; lines = refl; staged = refl; reserved = put_once; shipments = refl; shiplines = refl; cards = refl; least = refl };
       named = names_changed first act acts (cancel_changes s o) are_named;
     }
 

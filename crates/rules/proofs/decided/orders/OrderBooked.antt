@@ -15,7 +15,7 @@ use Rattle.plan.specs.Overlap.{plan_rows, rows_from, demand_total, reserved_for}
 use Rattle.plan.proofs.Laying.{plan_rows-append}
 use Rattle.plan.proofs.Nothing.{same_plan}
 use Rattle.machine.specs.Acts.{Act, next_number}
-use Rattle.machine.specs.Standing.{today}
+use Rattle.machine.specs.Standing.{least_expiry}
 use Rattle.machine.specs.Planning.{demands, supplies, plan}
 use Rattle.machine.specs.Once.{IsHistory}
 use Rattle.machine.specs.Tables.{tables_of}
@@ -33,7 +33,7 @@ use Rattle.rules.proofs.rows.NeedsTold.{rows_tell_needs, stages_within_limit}
 use Rattle.rules.proofs.rows.SliceDemands.{slice_tells_demands}
 use Rattle.rules.proofs.rows.SliceSupplies.{slice_tells_supplies}
 use Rattle.rules.proofs.rows.SuppliesTold.{rows_tell_supplies, supplies_within_limit}
-use Rattle.rules.proofs.decided.Decisions.{day_seen}
+use Rattle.rules.proofs.rows.DaysAsked.{earliest_told}
 use Rattle.rules.proofs.decided.orders.OrderStep.{new_row}
 use Rattle.rules.proofs.decided.orders.OrderTells.{is_new, number_is, row_is}
 use Rattle.rules.proofs.decided.orders.OrderPlan.{NotBooked, not_booked, for_behind, named_behind, line_demand, line_rows, plan_after, others_booked}
@@ -72,7 +72,7 @@ module _ (first : ℤ) (acts : List Act) (key : Key) (o : NewOrder) (s : Slice) 
   own_rows = line_rows first acts key o next (is_new first acts key o s slice next) l alone
 
   abbrev offered : List Supply
-  offered = supplies_seen g (today first acts) s.rows.recalls s.rows.bins s.rows.stock s.rows.lots
+  offered = supplies_seen g (least_expiry first acts g) s.rows.recalls s.rows.bins s.rows.stock s.rows.lots
 
   abbrev staged : ℕ
   staged = staged_units g s.rows.staged
@@ -88,7 +88,7 @@ module _ (first : ℤ) (acts : List Act) (key : Key) (o : NewOrder) (s : Slice) 
       let tells = slice_tells_supplies first acts act s slice refl g touched in
       let start : wanted + 0 ≡ wanted = omega arith in
       (λ i. plan_within (record { booking = 0; need = needs_told i } ∷ record { booking = number_is first acts key o s slice next i; need = l.qty } ∷ [])
-      (supplies_seen g (day_seen first acts act s slice i) s.rows.recalls s.rows.bins s.rows.stock s.rows.lots))
+      (supplies_seen g (earliest_told first acts act s slice refl next.0 g touched i) s.rows.recalls s.rows.bins s.rows.stock s.rows.lots))
       ∙ needs_same wanted staged (next_number acts) l.qty offered
       (stages_within_limit first acts next.0 g s.rows.orders s.rows.lines s.rows.staged (slice_tells_demands first acts act s slice refl g touched))
       ∙ plan_of_cut (together ∷ own ∷ []) offered (supplies_within_limit first acts next.0 g s.rows.lots s.rows.recalls s.rows.stock s.rows.bins tells)

@@ -146,4 +146,4 @@ module _ (first : ℤ) (acts : List Act) (key : Key) (o : NewOrder) where
     unfolding applied tables_of
     order_step text put dropped reserved_at =
         same_tables (applied (order_change text put dropped) (tables_of first acts)) (tables_but_repeats first act acts) refl
-        (λ g. refl) (λ b. refl) (λ l. refl) (λ l. refl) (λ l b. refl) order_at line_at (λ q l. refl) reserved_at (λ n. refl) (λ n l. refl) (λ l n. refl) (λ k. refl)
+        (λ g. refl) (λ g. refl) (λ b. refl) (λ l. refl) (λ l. refl) (λ l b. refl) order_at line_at (λ q l. refl) reserved_at (λ n. refl) (λ n l. refl) (λ l n. refl) (λ k. refl)

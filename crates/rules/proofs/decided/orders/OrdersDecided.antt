@@ -44,7 +44,7 @@ module _ (first : ℤ) (acts : List Act) (key : Key) (o : NewOrder) (s : Slice) 
             ∙ order_step first acts key o next.0 (is_new first acts key o s slice next) (some_wanted first acts key o s slice next) (order_reply s o) (order_rows_to_put s o o.lines) []
             (reserved_changed first act acts (order_rows_to_put s o o.lines) [] named);
         text = order_text first acts key o s slice next;
-        once = record { items = refl; bins = refl; lots = refl; recalls = refl; stock = refl; orders = refl; lines = new_lines_once first acts key o s slice next; staged = refl; reserved = order_put_once first acts key o s slice next; shipments = refl; shiplines = refl; cards = refl };
+        once = record { items = refl; bins = refl; lots = refl; recalls = refl; stock = refl; orders = refl; lines = new_lines_once first acts key o s slice next; staged = refl; reserved = order_put_once first acts key o s slice next; shipments = refl; shiplines = refl; cards = refl; least = refl };
         named = names_changed first act acts (order_changes s o) named;
       }
 

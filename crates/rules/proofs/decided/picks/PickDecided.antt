@@ -57,6 +57,7 @@ module _ (first : ℤ) (acts : List Act) (key : Key) (p : Picking) (s : Slice) (
     to_no_shipment = λ n. refl;
     no_card = λ x. refl;
     items = λ g. refl;
+    least = λ g. refl;
     bins = λ b. refl;
     lots = λ l. refl;
     recalls = λ l. refl;
@@ -64,6 +65,7 @@ module _ (first : ℤ) (acts : List Act) (key : Key) (p : Picking) (s : Slice) (
     cancelled = λ o. refl;
     shipments = λ n. refl;
     day = refl;
+    earliest = λ g. refl;
     shipped = refl;
     reply = refl;
     touches = λ g. refl;

@@ -5,24 +5,25 @@ use Rattle.values.specs.Values.{same_text}
 use Rattle.commands.specs.declared.key.Key.{Key}
 use Rattle.commands.specs.declared.command.Picking.{Picking}
 use Rattle.commands.specs.declared.command.Command.TheVariants.{Pick}
-use Rattle.commands.specs.declared.refusal.Refusal.TheVariants.{UnknownItem, UnknownBin, UnknownLot, UnknownOrder, NoSuchLine, LotRecalled, LotExpired, LotHeld, NotStoreBin, OrderClosed, NotInBin, OverReserved}
+use Rattle.commands.specs.declared.refusal.Refusal.TheVariants.{UnknownItem, UnknownBin, UnknownLot, UnknownOrder, NoSuchLine, LotRecalled, LotExpired, TooFewDays, LotHeld, NotStoreBin, OrderClosed, NotInBin, OverReserved}
 use Rattle.machine.specs.Acts.{Act}
 use Rattle.machine.specs.Postings.{is_lot}
-use Rattle.machine.specs.Standing.{lot_known, today}
+use Rattle.machine.specs.Standing.{lot_known, today, least_days}
 use Rattle.machine.specs.Once.{IsHistory}
 use Rattle.machine.specs.Tables.{tables_of}
 use Rattle.rules.specs.Slices.{IsSlice}
 use Rattle.row_rules.specs.Seen.{lot_seen}
-use Rattle.row_rules.specs.Status.{is_past_row}
-use Rattle.machine.specs.Verdict.{first_refusal, judgement, is_past}
+use Rattle.row_rules.specs.Status.{is_past_row, is_below_row, least_seen}
+use Rattle.machine.specs.Verdict.{first_refusal, judgement, is_past, is_below}
 use Rattle.order_rules.specs.DecidedPick.{pick_seen}
 use Rattle.row_rules.specs.declared.slice.Slice.{Slice}
 use Rattle.machine.proofs.Tests.{same_text_refl, is_lot_refl}
 use Rattle.rules.proofs.decided.Decisions.{day_seen}
+use Rattle.rules.proofs.rows.DaysAsked.{days_told}
 use Rattle.rules.proofs.rows.SliceTells.{item_told, bin_told, recall_told}
 use Rattle.rules.proofs.rows.OrderTold.{order_told, open_told, line_told}
 use Rattle.rules.proofs.rows.LotTold.{lot_known_told, in_bin_told}
-use Rattle.rules.proofs.rows.LotStateTold.{past_told, held_told, store_told}
+use Rattle.rules.proofs.rows.LotStateTold.{past_told, below_told, held_told, store_told}
 use Rattle.rules.proofs.rows.StageTold.{reserved_told}
 
 module _ (first : ℤ) (acts : List Act) (key : Key) (p : Picking) (s : Slice) (slice : IsSlice first (record { key = key; command = Pick p }) acts (tables_of first acts) s) (history : IsHistory first acts) where
@@ -44,6 +45,11 @@ module _ (first : ℤ) (acts : List Act) (key : Key) (p : Picking) (s : Slice) (
   past : is_past_row (lot_seen s p.lot) s.meta.day ≡ is_past (lot_known acts p.lot) (today first acts)
   past = past_told first acts act s slice refl p.lot s.meta.day (is_lot_refl p.lot) ∙ ap (is_past (lot_known acts p.lot)) (day_seen first acts act s slice)
 
+  below : is_below_row (lot_seen s p.lot) s.meta.day (least_seen s.rows.least p.lot.gtin) ≡ is_below (lot_known acts p.lot) (today first acts) (least_days acts p.lot.gtin)
+  below =
+      below_told first acts act s slice refl p.lot s.meta.day (least_seen s.rows.least p.lot.gtin) (is_lot_refl p.lot)
+      ∙ (λ i. is_below (lot_known acts p.lot) (day_seen first acts act s slice i) (days_told first acts act s slice refl history p.lot.gtin touched i))
+
   pub pick_judged : first_refusal (pick_seen s p) ≡ first_refusal (judgement first acts (Pick p))
   pick_judged =
       λ i. first_refusal (
@@ -54,6 +60,7 @@ module _ (first : ℤ) (acts : List Act) (key : Key) (p : Picking) (s : Slice) (
       ∷ (not (line_told first acts act s slice p.order named p.lot.gtin i), NoSuchLine)
       ∷ (recall_told first acts act s slice refl p.lot touched i, LotRecalled)
       ∷ (past i, LotExpired)
+      ∷ (below i, TooFewDays)
       ∷ (held_told first acts act s slice refl history p.lot (is_lot_refl p.lot) i, LotHeld)
       ∷ (not (store_told first acts act s slice refl p.bin in_bin i), NotStoreBin)
       ∷ (not (open_told first acts act s slice p.order named i), OrderClosed)

@@ -12,11 +12,11 @@ use Rattle.commands.specs.declared.rows.OrderState.TheVariants.{Open, Done, Canc
 use Rattle.machine.specs.Acts.{Act, next_number}
 use Rattle.machine.specs.Postings.{Place, Posting, balance, is_lot, is_shipped_to, is_shipment, of_item}
 use Rattle.machine.specs.Ledger.{posting, postings, postings_of}
-use Rattle.machine.specs.Standing.{Placed, order_named, lines_of, lines_placed, has_line, is_cancelled, today, shipments_so_far}
+use Rattle.machine.specs.Standing.{Placed, order_named, lines_of, lines_placed, has_line, is_cancelled, today, least_expiry, shipments_so_far}
 use Rattle.machine.specs.Planning.{in_bin, staged_of_lot, shipped_of, is_open, is_open_state, order_state}
 use Rattle.machine.specs.Cards.{cards, card_lines}
 use Rattle.machine.specs.Replies.{further_field}
-use Rattle.machine.specs.Tables.{tables_of, meta_row, if_any, item_row, bin_row, lot_row, recall_row, stock_row, order_row, line_row, staged_row, shipment_row, shipline_row, card_row}
+use Rattle.machine.specs.Tables.{tables_of, meta_row, if_any, item_row, least_row, bin_row, lot_row, recall_row, stock_row, order_row, line_row, staged_row, shipment_row, shipline_row, card_row}
 use Rattle.machine.specs.Touched.{is_touched}
 use Rattle.machine.specs.KeyedRows.{same_cell, same_share}
 use Rattle.rules.specs.Slices.{IsSlice, applied, tables_but_repeats, changed, plans, names_bin, names_lot}
@@ -44,6 +44,7 @@ module _ (first : ℤ) (acts : List Act) (act : Act) (p : Picking) where
     pub to_no_shipment : (n : ℕ) → is_shipment n to ≡ false
     pub no_card : (x : Posting) → card_lines first act acts x from to ≡ []
     pub items : (g : List ℕ) → item_row acts g ≡ item_row after g
+    pub least : (g : List ℕ) → least_row acts g ≡ least_row after g
     pub bins : (b : List ℕ) → bin_row acts b ≡ bin_row after b
     pub lots : (l : LotId) → lot_row acts l ≡ lot_row after l
     pub recalls : (l : LotId) → recall_row acts l ≡ recall_row after l
@@ -51,6 +52,7 @@ module _ (first : ℤ) (acts : List Act) (act : Act) (p : Picking) where
     pub cancelled : (o : List ℕ) → is_cancelled acts o ≡ is_cancelled after o
     pub shipments : (n : ℕ) → shipment_row first acts n ≡ shipment_row first after n
     pub day : today first after ≡ today first acts
+    pub earliest : (g : List ℕ) → least_expiry first after g ≡ least_expiry first acts g
     pub shipped : shipments_so_far first after ≡ shipments_so_far first acts
     pub reply : further_field first act acts act.command ≡ []
     pub touches : (g : List ℕ) → is_touched first act acts g ≡ of_item g p.lot
@@ -129,6 +131,6 @@ module _ (first : ℤ) (acts : List Act) (act : Act) (p : Picking) where
       unfolding applied tables_of
       staging_step put dropped meta named =
           same_tables (applied (changes_with s p stock staged put dropped) (tables_of first acts)) (tables_but_repeats first act acts) (ap Some meta)
-          staging.items staging.bins staging.lots staging.recalls stock_at order_at line_at staged_at
+          staging.items staging.least staging.bins staging.lots staging.recalls stock_at order_at line_at staged_at
           (reserved_changed first act acts put dropped named)
           staging.shipments shipline_at card_at (λ k. refl)

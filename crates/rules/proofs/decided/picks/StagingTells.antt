@@ -37,7 +37,8 @@ use Rattle.rules.proofs.rows.SuppliesTold.{TellsSupplies, in_stock}
 use Rattle.rules.proofs.rows.SliceDemands.{slice_tells_demands}
 use Rattle.rules.proofs.rows.SliceSupplies.{slice_tells_supplies, lots_with_stock}
 use Rattle.rules.proofs.rows.replanned.OneItem.{TouchesOnly, replanned, replanned_once}
-use Rattle.rules.proofs.decided.Decisions.{IsChange, day_seen, plain_same, meta_same}
+use Rattle.rules.proofs.rows.DaysAsked.{earliest_told}
+use Rattle.rules.proofs.decided.Decisions.{IsChange, plain_same, meta_same}
 use Rattle.rules.proofs.decided.picks.StagingStep.{IsStaging, IsLeft, has_line_at, open_at, order_at, line_at, staging_step}
 
 module _ (first : ℤ) (acts : List Act) (act : Act) (p : Picking) (from to : Place) (staging : IsStaging first acts act p from to)
@@ -94,11 +95,11 @@ module _ (first : ℤ) (acts : List Act) (act : Act) (p : Picking) (from to : Pl
   -- planned anew, the rows put and dropped are those that differ
   pub replanned_named : AreNamed first act acts (replanned_with s p stock staged).put (replanned_with s p stock staged).dropped
   replanned_named =
-      replanned first acts act s slice staging.planned next g only s.meta.day (day_seen first acts act s slice ∙ sym staging.day) s.rows.orders s.rows.lines staged_rows s.rows.lots s.rows.recalls s.rows.bins stock_rows demands_after supplies_after
+      replanned first acts act s slice staging.planned next g only s.meta.day s.rows.least (earliest_told first acts act s slice staging.planned next.0 g touched ∙ sym (staging.earliest g)) s.rows.orders s.rows.lines staged_rows s.rows.lots s.rows.recalls s.rows.bins stock_rows demands_after supplies_after
 
   pub replanned_put_once : no_two is_share_of (replanned_with s p stock staged).put ≡ true
   replanned_put_once =
-      replanned_once first acts act s slice staging.planned next g only s.meta.day (day_seen first acts act s slice ∙ sym staging.day) s.rows.orders s.rows.lines staged_rows s.rows.lots s.rows.recalls s.rows.bins stock_rows demands_after supplies_after
+      replanned_once first acts act s slice staging.planned next g only s.meta.day s.rows.least (earliest_told first acts act s slice staging.planned next.0 g touched ∙ sym (staging.earliest g)) s.rows.orders s.rows.lines staged_rows s.rows.lots s.rows.recalls s.rows.bins stock_rows demands_after supplies_after
 
   one_stock : (b : List ℕ) → no_two (λ (x y : StockRow). is_lot x.lot y.lot && same_text x.bin y.bin) (stock_put p.lot b stock) ≡ true
   one_stock b = elim (stock == 0) as (λ t. no_two (λ (x y : StockRow). is_lot x.lot y.lot && same_text x.bin y.bin) (if t then [] else record { lot = p.lot; bin = b; qty = stock } ∷ []) ≡ true) [ true ↦ refl | false ↦ refl ]
@@ -125,6 +126,7 @@ module _ (first : ℤ) (acts : List Act) (act : Act) (p : Picking) (from to : Pl
           shipments = refl;
           shiplines = refl;
           cards = refl;
+          least = refl;
         };
         named = names_changed first act acts (changes_with s p stock staged put dropped) named;
       }

@@ -2,7 +2,7 @@ use Rattle.std.proofs.Common.{◌≡◌, sym, ap, ◌∙◌}
 use Rattle.std.specs.Prelude.{Option}
 use Rattle.commands.specs.declared.refusal.Refusal.{Refusal}
 use Rattle.commands.specs.declared.command.Command.{Command}
-use Rattle.commands.specs.declared.command.Command.TheVariants.{Item, Bin, Receive, Move, Count, Adjust, Order, Cancel, Pick, Unpick, Ship, Hold, Release, Recall, OpenDay}
+use Rattle.commands.specs.declared.command.Command.TheVariants.{Item, Bin, Receive, Move, Count, Adjust, Order, Cancel, Pick, Unpick, Ship, Hold, Release, Recall, OpenDay, Least}
 use Rattle.machine.specs.Verdict.{first_refusal}
 use Rattle.row_rules.specs.declared.slice.Slice.{Slice}
 use Rattle.rules.specs.Commands.{command_seen}
@@ -56,3 +56,6 @@ returns-in-Recall c = judged_as c.args.slice.now c.args.command.now (Recall c.in
 
 pub returns-in-OpenDay : goal.returns-in-OpenDay
 returns-in-OpenDay c = judged_as c.args.slice.now c.args.command.now (OpenDay c.in-OpenDay.day) c.in-OpenDay.is c.judge_day.result c.judge_day.ensures
+
+pub returns-in-Least : goal.returns-in-Least
+returns-in-Least c = judged_as c.args.slice.now c.args.command.now (Least c.in-Least.least) c.in-Least.is c.judge_least.result c.judge_least.ensures

@@ -5,6 +5,7 @@ use Rattle.std.specs.Prelude.{ℤ, None, find, ◌⊎◌}
 use Rattle.values.specs.Values.{same_text}
 use Rattle.values.specs.declared.lot.LotId.{LotId}
 use Rattle.commands.specs.declared.rows.BinRow.{BinRow}
+use Rattle.commands.specs.declared.rows.LeastRow.{LeastRow}
 use Rattle.commands.specs.declared.rows.LotRow.{LotRow}
 use Rattle.commands.specs.declared.rows.RecallRow.{RecallRow}
 use Rattle.commands.specs.declared.rows.StockRow.{StockRow}
@@ -22,7 +23,7 @@ use Rattle.plan.proofs.Fronts.{kept_rows}
 use Rattle.plan.proofs.Counting.{cut_of_is_cut}
 use Rattle.machine.specs.Acts.{Act}
 use Rattle.machine.specs.Postings.{is_lot, of_item}
-use Rattle.machine.specs.Standing.{today, order_named, lot_known}
+use Rattle.machine.specs.Standing.{least_expiry, order_named, lot_known}
 use Rattle.machine.specs.Planning.{plan, reserved, reserved_of}
 use Rattle.machine.specs.Once.{IsHistory}
 use Rattle.machine.specs.Tables.{tables_of}
@@ -30,6 +31,7 @@ use Rattle.machine.specs.Touched.{is_touched}
 use Rattle.machine.specs.KeyedRows.{no_two}
 use Rattle.machine.proofs.histories.PlanRows.{same_pair, plan_once}
 use Rattle.rules.specs.Slices.{IsSlice, plans}
+use Rattle.row_rules.specs.Status.{earliest_seen}
 use Rattle.row_rules.specs.Plans.{demands_seen, supplies_seen, plan_within, named_rows, is_share_of}
 use Rattle.row_rules.specs.Replanning.{shares_behind, item_demands, item_supplies, item_replanned}
 use Rattle.row_rules.specs.declared.slice.Slice.{Slice}
@@ -40,15 +42,15 @@ use Rattle.rules.proofs.rows.DemandsTold.{TellsDemands}
 use Rattle.rules.proofs.rows.SuppliesTold.{TellsSupplies}
 use Rattle.rules.proofs.rows.SliceDemands.{slice_tells_demands}
 use Rattle.rules.proofs.rows.SliceSupplies.{slice_tells_supplies}
+use Rattle.rules.proofs.rows.DaysAsked.{earliest_told}
 use Rattle.rules.proofs.rows.PlanTold.{rows_tell_plan}
 use Rattle.rules.proofs.rows.SharesTold.{by_plan, behind_once, behind_told, behind_elsewhere}
 use Rattle.rules.proofs.rows.replanned.Pairs.{of_parted, of_one_part}
 use Rattle.rules.proofs.rows.replanned.Fronts.{front_same}
 use Rattle.rules.proofs.rows.replanned.Behind.{behind_are}
-use Rattle.rules.proofs.decided.Decisions.{day_seen}
 
 module _ (first : ℤ) (acts : List Act) (act : Act) (s : Slice) (slice : IsSlice first act acts (tables_of first acts) s) (planned : plans act.command ≡ true) (next : IsHistory first (act ∷ acts))
-    (g : List ℕ) (touched : is_touched first act acts g ≡ true) (day : ℤ) (day_is : day ≡ today first (act ∷ acts))
+    (g : List ℕ) (touched : is_touched first act acts g ≡ true) (day : ℤ) (least : List LeastRow) (from : earliest_seen day least g ≡ least_expiry first (act ∷ acts) g)
     (orders : List OrderRow) (lines : List LineRow) (staged : List StagedRow) (lots : List LotRow) (recalls : List RecallRow) (bins : List BinRow) (stock : List StockRow)
     (demands : TellsDemands first (act ∷ acts) g orders lines staged) (supplies : TellsSupplies first (act ∷ acts) g lots recalls stock bins) where
   abbrev after : List Act
@@ -60,13 +62,13 @@ module _ (first : ℤ) (acts : List Act) (act : Act) (s : Slice) (slice : IsSlic
   ds = item_demands g s.rows.lines s.rows.staged s.rows.orders
 
   abbrev ss : List Supply
-  ss = item_supplies g s.meta.day s.rows.recalls s.rows.bins s.rows.stock s.rows.lots
+  ss = item_supplies g (earliest_seen s.meta.day s.rows.least g) s.rows.recalls s.rows.bins s.rows.stock s.rows.lots
 
   abbrev es : List Demand
   es = item_demands g lines staged orders
 
   abbrev ts : List Supply
-  ts = item_supplies g day recalls bins stock lots
+  ts = item_supplies g (earliest_seen day least g) recalls bins stock lots
 
   abbrev kept : ℕ
   kept = cut_of ds ss es ts
@@ -88,12 +90,12 @@ module _ (first : ℤ) (acts : List Act) (act : Act) (s : Slice) (slice : IsSlic
 
   plan_before : plan_rows ds ss ≡ plan first acts g
   plan_before =
-      (λ i. plan_within (demands_seen g s.rows.lines s.rows.staged s.rows.orders) (supplies_seen g (day_seen first acts act s slice i) s.rows.recalls s.rows.bins s.rows.stock s.rows.lots))
+      (λ i. plan_within (demands_seen g s.rows.lines s.rows.staged s.rows.orders) (supplies_seen g (earliest_told first acts act s slice planned next.0 g touched i) s.rows.recalls s.rows.bins s.rows.stock s.rows.lots))
       ∙ rows_tell_plan first acts next.0 g s.rows.orders s.rows.lines s.rows.staged s.rows.lots s.rows.recalls s.rows.stock s.rows.bins wanted offered
 
   plan_after : plan_rows es ts ≡ plan first after g
   plan_after =
-      (λ i. plan_within (demands_seen g lines staged orders) (supplies_seen g (day_is i) recalls bins stock lots))
+      (λ i. plan_within (demands_seen g lines staged orders) (supplies_seen g (from i) recalls bins stock lots))
       ∙ rows_tell_plan first after next g orders lines staged lots recalls stock bins demands supplies
 
   parted_before : plan first acts g ≡ front ++ behind_before
@@ -111,10 +113,10 @@ module _ (first : ℤ) (acts : List Act) (act : Act) (s : Slice) (slice : IsSlic
   news = shares_behind kept orders lots es ts
 
   abbrev pub puts : List ReservedRow
-  puts = (item_replanned s day orders lines staged lots recalls bins stock g).put
+  puts = (item_replanned s day orders lines staged lots recalls bins stock least g).put
 
   abbrev pub drops : List ReservedRow
-  drops = (item_replanned s day orders lines staged lots recalls bins stock g).dropped
+  drops = (item_replanned s day orders lines staged lots recalls bins stock least g).dropped
 
   olds_are : olds ≡ named_rows s.rows.orders s.rows.lots behind_before
   olds_are = behind_are first acts s.rows.orders wanted.orders.own s.rows.lots kept ds ss

@@ -17,3 +17,6 @@ returns-clause-same_stock c = c.from_vec-5.ensures
 
 pub returns-clause-same_bins : goal.returns-clause-same_bins
 returns-clause-same_bins c = c.from_vec-2.ensures
+
+pub returns-clause-same_least : goal.returns-clause-same_least
+returns-clause-same_least c = c.from_vec-10.ensures

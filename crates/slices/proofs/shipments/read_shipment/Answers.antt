@@ -41,4 +41,5 @@ returns-clause-read g c =
       no_lots = c.of_shipment.ensures.no_lots;
       no_recalls = c.of_shipment.ensures.no_recalls;
       no_reserved = c.of_shipment.ensures.no_reserved;
+      no_least = c.of_shipment.ensures.no_least;
     })

@@ -32,8 +32,8 @@ returns-clause-read g c =
     (λ t h. record {
       gtins = c.in_ok-gtins.gtins.items;
       touched = h.0.0.0;
-      units = rw (c.rows_read.ensures.same_items, c.rows_read.ensures.same_lots, c.rows_read.ensures.same_recalls, c.rows_read.ensures.same_stock, c.rows_read.ensures.same_staged, c.rows_read.ensures.same_reserved)
-          (subst (λ (l : List (List ℕ)). AreUnits command l t goods.0.items goods.1.items goods.2.items goods.3.items shares.0.items shares.1.items) c.as_slice.ensures.value h.0.0.1);
+      units = rw (c.rows_read.ensures.same_items, c.rows_read.ensures.same_least, c.rows_read.ensures.same_lots, c.rows_read.ensures.same_recalls, c.rows_read.ensures.same_stock, c.rows_read.ensures.same_staged, c.rows_read.ensures.same_reserved)
+          (subst (λ (l : List (List ℕ)). AreUnits command l t goods.items.items goods.least.items goods.lots.items goods.recalls.items goods.stock.items shares.0.items shares.1.items) c.as_slice.ensures.value h.0.0.1);
       bins = rw c.rows_read.ensures.same_bins (subst (λ (l : List StockRow). AreBins (with_names (λ r. r.bin) l (bins_named command)) t c.in_ok-bins.bins.items) stock_is h.0.1);
       ordered = rw (c.rows_read.ensures.same_orders, c.rows_read.ensures.same_lines)
           (subst (λ (l : List (List ℕ)). AreKnownOrders c.args.known.now (orders_named command) l t c.in_ok-ordered.ordered.0.items c.in_ok-ordered.ordered.1.items) c.as_slice-4.ensures.value

@@ -1,13 +1,11 @@
-use Rattle.std.proofs.Common.{◌≡◌, true, refl, sym, ◌∙◌, arith}
-use Rattle.std.proofs.lemmas.Bool.{eqb-true}
-use Rattle.std.specs.Vec.{vec_len}
+use Rattle.std.proofs.Common.{◌≡◌, true, refl, ◌∙◌}
 use Rattle.sqlite.specs.Held.{state}
 use Rattle.sqlite_value.specs.Order.{column}
 use Rattle.table_words.specs.Cells.{is_the_text}
 use Rattle.table_words.specs.Schema.{repeats_tree}
 use Rattle.table_words.specs.Typed.{is_repeat, tables_in}
 use Rattle.table_words.proofs.StepLemmas.{typed_at}
-use Rattle.store.proofs.RepeatRead.{none_read, first_read}
+use Rattle.store.proofs.RepeatRead.{first_read}
 use Rattle.store.proofs.TypedRows.{typed_among, not_foreign}
 use Rattle.store.proofs.repeats.earlier.Goals as goal
 
@@ -17,11 +15,6 @@ returns-in_err-rows-clause-typed g c clean ready typed =
     not_foreign c.from_residual.result c.in_err-rows.field-0.0 c.from_residual.ensures
     (λ is. c.in_err-rows.ensures.foreign clean ready is (typed_among (λ r. is_repeat r ≡ true) (λ r. is_the_text c.args.k.now (column r 1)) (trees repeats_tree) (typed_at 13 (record { tree = repeats_tree; is = is_repeat }) refl trees typed)))
 
-pub returns-then-is_empty-clause-read : goal.returns-then-is_empty-clause-read
-returns-then-is_empty-clause-read g c clean ready =
-    none_read c.args.k.now (tables_in (state g.S.Store c.args.tx.now.conn.now).now.trees).repeat c.in_ok-rows.rows.items (c.in_ok-rows.ensures.rows clean ready)
-    (omega (arith, eqb-true (vec_len c.in_ok-rows.rows) 0 (sym c.is_empty.ensures ∙ c.if-is_empty.true)))
-
 pub returns-clause-read : goal.returns-clause-read
 returns-clause-read g c clean ready =
-    first_read c.args.k.now (tables_in (state g.S.Store c.args.tx.now.conn.now).now.trees).repeat c.in_ok-rows.rows.items c.remove.result (c.in_ok-rows.ensures.rows clean ready) (omega arith) c.remove.ensures.value
+    c.first_row.ensures ∙ first_read c.args.k.now (tables_in (state g.S.Store c.args.tx.now.conn.now).now.trees).repeat c.in_ok-rows.rows.items (c.in_ok-rows.ensures.rows clean ready)

@@ -1,8 +1,7 @@
-use Rattle.std.proofs.Common.{◌≡◌, ℤ, ◌∙◌, Ok, IfOk, IfErr, OnOk, IsTrue, rules, arith, sym, subst}
+use Rattle.std.proofs.Common.{◌≡◌, ℤ, IsTrue, rules, arith, sym, subst}
 use Rattle.sqlite.specs.Effect.{Database}
 use Rattle.sqlite.specs.Held.{state}
 use Rattle.sqlite.specs.State.{HasCleanDisk, Survives}
-use Rattle.sqlite.specs.Tree.{Trees}
 use Rattle.table_words.specs.Steps.{IsReady}
 use Rattle.tables.specs.Indexing.{HasIndexes, KeepsRows}
 use Rattle.tables.specs.Opening.{TellTables}

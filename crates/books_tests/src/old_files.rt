@@ -1,0 +1,132 @@
+//! Files of books of schema 1 that an earlier program left, and that sqlite3 made of a dump: they open, tell what was done,
+//! and go on.
+
+ghost use Rattle.std.specs.Prelude.{◌<◌};
+
+use crate::asking::Asked;
+use crate::disk::run_from;
+use crate::files::Pair;
+use crate::old_bytes::{FIRST_SCHEMA, FIRST_SCHEMA_RESTORED};
+use crate::steps::{On, Step};
+use crate::table::{Left, Table};
+use std::alloc::Global;
+use std::process::Abort;
+
+/// A file: its size, and a text for each part that is not zeros, of two hexadecimal digits a byte. The first two bytes of
+/// a text are the place of the part.
+pub(crate) struct OldFile {
+    pub(crate) size: usize,
+    pub(crate) parts: &'static [&'static str],
+}
+
+fn digit(rt: &impl Abort, byte: u8) -> u8
+    ensures { result < 16 }
+{
+    match byte {
+        b'0'..=b'9' => byte - b'0',
+        b'a'..=b'f' => byte - b'a' + 10,
+        _ => panic!(rt; "no digit"),
+    }
+}
+
+/// The bytes of a line.
+pub(crate) fn bytes_of(rt: &impl Abort, alloc: Global, line: &str) -> Vec<u8> {
+    let text = line.as_bytes();
+    let mut bytes = Vec::new(alloc);
+    for at in 0..text.len() / 2 {
+        let byte = digit(rt, text[2 * at]) * 16 + digit(rt, text[2 * at + 1]);
+        assert!(rt; bytes.push(byte).is_ok());
+    }
+    bytes
+}
+
+fn place(rt: &impl Abort, bytes: &mut Vec<u8>, at: usize, part: &[u8]) {
+    for (index, byte) in part.iter().enumerate() {
+        match bytes.get_mut(at.saturating_add(index)) {
+            Some(held) => *held = *byte,
+            None => panic!(rt; "a part beyond the file"),
+        }
+    }
+}
+
+fn place_line(rt: &impl Abort, alloc: Global, bytes: &mut Vec<u8>, line: &str) {
+    let held = bytes_of(rt, alloc, line);
+    match held.as_slice() {
+        [high, low, part @ ..] => {
+            place(
+                rt,
+                bytes,
+                usize::from(*high) * 256 + usize::from(*low),
+                part,
+            );
+        }
+        _ => panic!(rt; "a part without a place"),
+    }
+}
+
+fn files_of(rt: &impl Abort, alloc: Global, old: &OldFile) -> Pair {
+    let mut bytes = vec![in alloc; 0u8; old.size].ok().expect(rt, "memory");
+    for line in old.parts {
+        place_line(rt, alloc, &mut bytes, line);
+    }
+    Pair::holding(rt, alloc, bytes)
+}
+
+fn opens(rt: &impl Abort, alloc: Global, old: &OldFile) {
+    run_from(rt, alloc, files_of(rt, alloc, old), OPENED.as_slice());
+}
+
+// The rows of the tables of schema 1 behind `meta` after the acts of `old_files.py`: five of twelve units shipped to the
+// shop, three more staged for it, and four reserved; the cafe's second order gets what is left of that lot and three of the
+// next.
+pub(crate) static OLD_ROWS: [&str; 13] = [
+    "09506000134352|Oat drink\n",
+    "A-01|STORE\nA-02|STORE\nRETURNS|HOLD\n",
+    "09506000134352|L1|20634|4|0\n09506000134352|L2|20604|5|0\n09506000134352|L3|20665|6|0\n",
+    "09506000134352|L2|19\n",
+    "09506000134352|L1|A-01|5\n09506000134352|L1|A-02|2\n09506000134352|L2|A-01|4\n09506000134352|L3|A-02|5\n",
+    "S-1|12|Corner Shop|OPEN\nS-2|13|Harbour Cafe|CANCELLED\nS-3|18|Harbour Cafe|OPEN\n",
+    "S-1|09506000134352|12|5\nS-2|09506000134352|3|0\nS-3|09506000134352|6|0\n",
+    "S-1|09506000134352|L1|3\n",
+    "S-1|09506000134352|L1|4\nS-3|09506000134352|L1|3\nS-3|09506000134352|L3|3\n",
+    "1|17|20577|S-1\n",
+    "1|09506000134352|L2|5\n",
+    "09506000134352|L1|4|20577|RECEIPT|D-1/1|10|10\n09506000134352|L2|5|20577|RECEIPT|D-1/2|10|10\n09506000134352|L2|8|20577|WRITEOFF|A-01|-1|9\n09506000134352|L2|17|20577|SHIPMENT|1|-5|4\n09506000134352|L3|6|20577|RECEIPT|D-1/3|4|4\n09506000134352|L3|9|20577|WRITEON|A-02|1|5\n",
+    "K/K-1|1|ITEM\n09506000134352\nOat drink|{\"act\":1}\nK/K-2|2|BIN\nA-01\nSTORE|{\"act\":2}\nK/K-3|3|BIN\nA-02\nSTORE|{\"act\":3}\nD/D-1/1|4|RECEIVE\n09506000134352\nL1\n2026-06-30\nA-01\n10|{\"act\":4}\nD/D-1/2|5|RECEIVE\n09506000134352\nL2\n2026-05-31\nA-01\n10|{\"act\":5}\nD/D-1/3|6|RECEIVE\n09506000134352\nL3\n2026-07-31\nA-02\n4|{\"act\":6}\nK/K-7|7|MOVE\n09506000134352\nL1\nA-01\nA-02\n2|{\"act\":7}\nK/K-8|8|COUNT\n09506000134352\nL2\nA-01\n9|{\"act\":8,\"change\":-1}\nK/K-9|9|ADJUST\n09506000134352\nL3\nA-02\n1|{\"act\":9,\"change\":1}\nK/K-10|10|HOLD\n09506000134352\nL3|{\"act\":10,\"returned\":0}\nK/K-11|11|RELEASE\n09506000134352\nL3|{\"act\":11}\nK/K-12|12|ORDER\nS-1\nCorner Shop\n09506000134352\n12|{\"act\":12,\"short\":0}\nK/K-13|13|ORDER\nS-2\nHarbour Cafe\n09506000134352\n3|{\"act\":13,\"short\":0}\nK/K-14|14|CANCEL\nS-2|{\"act\":14}\nK/K-15|15|PICK\nS-1\n09506000134352\nL2\nA-01\n7|{\"act\":15}\nK/K-16|16|UNPICK\nS-1\n09506000134352\nL2\nA-01\n2|{\"act\":16}\nK/K-17|17|SHIP\nS-1|{\"act\":17,\"shipment\":1}\nK/K-18|18|ORDER\nS-3\nHarbour Cafe\n09506000134352\n6|{\"act\":18,\"short\":0}\nK/K-19|19|RECALL\n09506000134352\nL2|{\"act\":19,\"returned\":0}\nK/K-20|20|PICK\nS-1\n09506000134352\nL1\nA-01\n3|{\"act\":20}\nK/K-21|21|OPENDAY\n2026-05-05|{\"act\":21,\"returned\":0}\n",
+];
+
+// What the books tell, an act that came before, and how they go on: the staged units are shipped under the next number.
+pub(crate) static OLD_TOLD: &str = r#"
+GET /orders/S-1 => 200 {"customer":"Corner Shop","lines":[{"gtin":"09506000134352","ordered":12,"reserved":[{"lot":"L1","qty":4}],"shipped":5,"short":0,"staged":[{"lot":"L1","qty":3}]}],"order":"S-1","state":"OPEN"}
+GET /orders/S-3 => 200 {"customer":"Harbour Cafe","lines":[{"gtin":"09506000134352","ordered":6,"reserved":[{"lot":"L1","qty":3},{"lot":"L3","qty":3}],"shipped":0,"short":0,"staged":[]}],"order":"S-3","state":"OPEN"}
+GET /cards/09506000134352/L2 => 200 |STOCK CARD 09506000134352 Oat drink|LOT L2 EXPIRY 2026-05-31|            5 2026-05-04 RECEIPT  D-1/2                              10         10|            8 2026-05-04 WRITEOFF A-01                               -1          9|           17 2026-05-04 SHIPMENT 1                                  -5          4|IN HOUSE 4
+GET /notices/09506000134352/L2 => 200 |RECALL NOTICE 09506000134352 Oat drink|LOT L2 EXPIRY 2026-05-31|BIN A-01 4|SHIPMENT 1 2026-05-04 5 S-1 Corner Shop|TOTAL BINS 4 SHIPPED 5
+POST /picks {"key":"K-15","order":"S-1","gtin":"09506000134352","lot":"L2","bin":"A-01","qty":7} => 200 {"act":15}
+POST /bins {"key":"K-15","bin":"A-03","kind":"STORE"} => 409 {"code":"K01"}
+POST /shipments {"key":"K-22","order":"S-1"} => 200 {"act":22,"shipment":2}
+GET /cards/09506000134352/L1 => 200 |STOCK CARD 09506000134352 Oat drink|LOT L1 EXPIRY 2026-06-30|            4 2026-05-04 RECEIPT  D-1/1                              10         10|           22 2026-05-05 SHIPMENT 2                                  -3          7|IN HOUSE 7
+"#;
+
+// The rows as the file was left, and once the books were opened: what a later schema changes and adds is told behind
+// `House`. Each item asks for no days.
+static OPENED: [&[Step]; 2] = [
+    &[
+        Step::On(On::HasMeta("1|LOTSTOCK|1|20578|21|1\n")),
+        Step::On(On::KeepsRows(Left::Old)),
+        Step::House(&[]),
+        Step::On(On::HasMeta("1|LOTSTOCK|2|20578|21|1\n")),
+        Step::On(On::KeepsRows(Left::Old)),
+        Step::On(On::Gives("SELECT gtin || days FROM least", "095060001343520\n")),
+    ],
+    &[Step::House(&[Asked::Each(Table::OldTold)])],
+];
+
+#[test]
+fn opens_books_of_the_first_schema(rt: HostRuntime) {
+    opens(&rt, rt.alloc(), &FIRST_SCHEMA);
+}
+
+#[test]
+fn opens_books_of_the_first_schema_restored_from_a_dump(rt: HostRuntime) {
+    opens(&rt, rt.alloc(), &FIRST_SCHEMA_RESTORED);
+}

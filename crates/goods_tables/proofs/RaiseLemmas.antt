@@ -1,0 +1,82 @@
+-- What the statement that changes the row of `meta` makes of books of an older schema number.
+use Rattle.std.proofs.Common.{◌≡◌, ◌≢◌, ◌≤◌, ℕ, Bool, true, false, List, [], ◌∷◌, drop, filter, find, length, inl, inr, None, IsTrue, refl, sym, ap, subst, ◌∙◌}
+use Rattle.std.specs.List.{AllByRecursion}
+use Rattle.std.proofs.lemmas.Bool.{cases_Bool, and_parts, true≢false}
+use Rattle.sqlite.specs.declared.types.Value.TheVariants.{Int}
+use Rattle.std.specs.Prelude.{pos, map}
+use Rattle.sqlite.specs.Order.{Row, column}
+use Rattle.sqlite.specs.State.{State}
+use Rattle.sqlite.specs.Table.{Table}
+use Rattle.sqlite.proofs.Callers.{runs_as}
+use Rattle.sqlite_keyed.proofs.ListLemmas.{all_both}
+use Rattle.sqlite_trees.specs.Tree.{rowid}
+use Rattle.sqlite_trees.specs.View.{is_int}
+use Rattle.commands.specs.declared.rows.MetaRow.{MetaRow}
+use Rattle.commands.specs.declared.limits.TheConstants.{SCHEMA_VERSION}
+use Rattle.goods_tables.specs.declared.texts.TheConstants.{CHANGE_META}
+use Rattle.goods_tables.specs.Meta.{meta, meta_laws, change_meta, change_meta_laws}
+use Rattle.table_words.specs.Calls.{Counts}
+use Rattle.table_words.specs.Changed.{Changed}
+use Rattle.table_words.specs.Schema.{meta_tree, the_tables, schema_with}
+use Rattle.table_words.specs.Steps.{IsReady, Goes}
+use Rattle.table_words.specs.Typed.{is_meta, is_meta_at, meta_in, same_meta, meta_key, meta_at, with_meta, the_rules, Rule, Keeps, AreTyped, AreTypedAt}
+use Rattle.table_words.proofs.ListLemmas.{over, none_counted_pass}
+use Rattle.table_words.proofs.ScanLemmas.{passes}
+use Rattle.table_words.proofs.WriteLemmas.{updates}
+use Rattle.table_words.proofs.CellLemmas.{and_true, same_the_number}
+use Rattle.table_words.proofs.StepLemmas.{front, sets_off_nothing}
+use Rattle.table_words.proofs.KeyLemmas.{few}
+use Rattle.keyed_rows.specs.Described.{sound}
+use Rattle.keyed_rows.proofs.Laws.{changes, rows_of}
+
+-- a row of `meta` is found by its id, whatever its number
+found_at : (version : ℕ) (s : MetaRow) (r : Row) → is_meta_at version r ≡ true → passes (meta.cells s) meta.tests r ≡ true
+found_at version s r h = and_true _ ∙ same_the_number 1 (column r 0) (Int (pos 1)) 1 (and_parts _ _ h).0 refl
+
+no_typed : (p is : Row → Bool) (rows : List Row) → ((r : Row) → is r ≡ true → p r ≡ true) → AllByRecursion (λ r. p r ≡ false) rows → filter is rows ≡ []
+no_typed p is [] finds none = refl
+no_typed p is (r ∷ rows) finds none = elim (cases_Bool (is r)) [
+  | inl e ↦ absurd (true≢false (sym (finds r e) ∙ none.0))
+  | inr e ↦ rw e (no_typed p is rows finds none.1)
+]
+
+module _ (s : MetaRow) (good : sound meta s ≡ true) (old new : State) (count : ℕ) (ready : IsReady old.now) (h : Counts count CHANGE_META.now (meta.cells s) old new) where
+  abbrev p : Row → Bool
+  p = passes (meta.cells s) meta.tests
+
+  abbrev rows : List Row
+  rows = old.now.trees meta_tree
+
+  turned : Changed (schema_with ready.has.rest) meta_tree (over p (change_meta.values s) rows) old.now new.now × (count ≡ length (filter p rows))
+  turned =
+      let rest = ready.has.rest in
+      let kept = rows_of meta meta_laws old.now ready in
+      let w = runs_as change_meta.text (meta.cells s) old new (schema_with rest) ready.has.is _ (change_meta_laws.is rest).0 (change_meta_laws.is rest).1 count h.executes.0 in
+      updates (schema_with rest) meta.place meta_tree _ _ _ _ _ _ (meta_laws.placed rest) (λ olds news. sets_off_nothing rest meta_tree olds news ready.has.apart) old new meta.tests change_meta.terms _ (meta.cells s) (change_meta.values s) count ready.has.is kept
+      (change_meta_laws.changed s) (change_meta_laws.casts s) (few p rows kept.0 (meta_laws.one_row old.now ready (meta.cells s))) w
+
+  pub raised_some : count ≢ 0 → Goes (with_meta s) old new
+  raised_some some = (changes meta meta_laws change_meta change_meta_laws s good old new count ready h).0 some
+
+  pub raised_none : count ≡ 0 → (version : ℕ) → meta_at version old.now.trees ≡ None
+  raised_none none version =
+      let gone = none_counted_pass p rows (sym turned.1 ∙ none) in
+      ap (λ l. find (λ x. same_meta 1 (meta_key x)) (map meta_in l)) (no_typed p (is_meta_at version) rows (found_at version s) gone)
+
+  each_put : (version : ℕ) (all : List Row) → AllByRecursion (λ r. IsTrue (is_int (rowid r))) all → AllByRecursion (λ r. is_meta_at version r ≡ true) all → AllByRecursion (λ r. is_meta r ≡ true) (over p (change_meta.values s) all)
+  each_put version [] int typed = tt
+  each_put version (r ∷ all) int typed =
+      let own = found_at version s r typed.0 in
+      rw own ((change_meta_laws.becomes s r good int.0 own).0, each_put version all int.1 typed.1)
+
+  pub raised_typed : (version : ℕ) → AreTypedAt version old.now.trees → AreTyped new.now.trees
+  raised_typed version are =
+      let after = over p (change_meta.values s) rows in
+      let trees = front _ the_tables ready.has.rest.tables turned.0.trees_are in
+      let put = each_put version rows (rows_of meta meta_laws old.now ready).1 are.0 in
+      record {
+        each = (
+          subst (AllByRecursion (λ r. is_meta r ≡ true)) (sym trees.0) put,
+          all_both (Keeps old.now.trees) (λ (t : Rule). new.now.trees t.tree ≡ old.now.trees t.tree) (Keeps new.now.trees) (λ t kept is. subst (AllByRecursion (λ r. t.is r ≡ true)) (sym is) kept) (drop 1 the_rules) are.1 trees.1,
+        );
+      }

@@ -1,0 +1,153 @@
+-- The table `least`.
+use Rattle.std.specs.Prelude.{◌≡◌, ℕ, Bool, true, bytes_eq, List, [], ◌∷◌, codes}
+use Rattle.std.proofs.Common.{refl, ◌∙◌, pos}
+use Rattle.std.proofs.lemmas.Bool.{and_parts}
+use Rattle.sqlite.specs.declared.types.Value.TheVariants.{Null, Int, Text}
+use Rattle.sqlite.specs.Order.{Row, column, bytes}
+use Rattle.sqlite.specs.Term.{lit, col}
+use Rattle.sqlite.specs.Listing.{understood}
+use Rattle.sqlite_tied.specs.Compute.{everything}
+use Rattle.values.specs.Values.{is_gtin}
+use Rattle.commands.specs.Tables.{Tables}
+use Rattle.commands.specs.declared.rows.LeastRow.{LeastRow}
+use Rattle.goods_tables.specs.declared.texts.TheConstants.{CHANGE_LEAST, ADD_LEAST, LEAST_OF, ALL_LEAST}
+use Rattle.table_words.specs.Found.{AreRows}
+use Rattle.table_words.specs.Cells.{is_the_text}
+use Rattle.table_words.specs.Schema.{least_tree, least_table}
+use Rattle.table_words.specs.Typed.{is_least, least_in, has_least, least_read, same_least, least_key, least_cells}
+use Rattle.table_words.proofs.Plans.{same, by_rowid}
+use Rattle.table_words.proofs.ScanLemmas.{passes, in_order}
+use Rattle.table_words.proofs.WriteLemmas.{cast_number, cast_null}
+use Rattle.table_words.proofs.CellLemmas.{and_true, same_word, equals_text}
+use Rattle.table_words.proofs.KeyLemmas.{same_bytes, itself_bytes}
+use Rattle.keyed_rows.specs.declared.reading.All.{All}
+use Rattle.keyed_rows.specs.Described.{Described, IsLawful, AddIs, Change, ChangeIs, IsChange, Query, QueryIs, IsSought, keyed}
+use Rattle.keyed_rows.proofs.Laws.{one_keyed, rows_of, found_by_key}
+
+-- what the table is
+abbrev pub least : Described LeastRow (List ℕ)
+least = record {
+  place = 14;
+  layout = keyed least_tree (codes "least") (least_table least_tree).columns (1 ∷ []);
+  is = is_least;
+  reads = least_in;
+  shown = col 1 1 ∷ col 1 2 ∷ [];
+  has = has_least;
+  seen = least_read;
+  key = least_key;
+  same = same_least;
+  cells = least_cells;
+  key_cells = λ gtin. Text gtin ∷ [];
+  look = λ t gtin. t.least gtin;
+  set = λ f t. record t { least = f };
+  tests = same 1 0 ∷ [];
+  add = ADD_LEAST.now;
+  add_terms = lit Null ∷ col 0 0 ∷ col 0 1 ∷ [];
+  source = λ s. Null ∷ least_cells s;
+}
+
+-- its number is within its limit by its type
+abbrev pub fits_least : LeastRow → Bool
+fits_least s = true
+
+-- the statement that changes a row
+abbrev pub change_least : Change LeastRow
+change_least = record { text = CHANGE_LEAST.now; terms = col 0 0 ∷ col 0 1 ∷ []; values = least_cells }
+
+-- those of a gtin
+abbrev pub least_of : Query LeastRow (List ℕ) (List ℕ)
+least_of = record {
+  may = λ gtin. true;
+  text = LEAST_OF.now;
+  params = λ gtin. Text gtin ∷ [];
+  tests = same 1 0 ∷ [];
+  order = by_rowid;
+  wanted = λ gtin s. bytes_eq gtin s.gtin;
+  stored = λ gtin r. is_the_text gtin (column r 1);
+}
+
+abbrev pub AreLeastOf : List ℕ → Tables → List LeastRow → Type 0
+AreLeastOf gtin t rows = AreRows {K = List ℕ} same_least least_key (λ k. bytes_eq gtin k) t.least rows
+
+-- all of them
+abbrev pub all_least : Query LeastRow (List ℕ) All
+all_least = record {
+  may = λ all. true;
+  text = ALL_LEAST.now;
+  params = λ all. [];
+  tests = [];
+  order = by_rowid;
+  wanted = λ all s. true;
+  stored = λ all r. true;
+}
+
+abbrev pub AreAllLeast : All → Tables → List LeastRow → Type 0
+AreAllLeast all t rows = AreRows {K = List ℕ} same_least least_key (λ k. true) t.least rows
+
+-- ---- what holds of them
+
+change_is : ChangeIs least change_least
+unfolding understood everything
+change_is rest = (refl, (refl, refl))
+
+add_is : AddIs least
+unfolding understood everything
+add_is rest = (refl, (refl, refl))
+
+at_gtin : (gtin : List ℕ) (r : Row) → is_least r ≡ true → passes (Text gtin ∷ []) least.tests r ≡ bytes_eq gtin (bytes (column r 1))
+at_gtin gtin r h = and_true _ ∙ same_word is_gtin (column r 1) (Text gtin) gtin (and_parts _ _ h).0 refl
+
+pub least_laws : IsLawful least
+least_laws = record {
+  placed_first = refl;
+  placed = λ rest. refl;
+  itself = itself_bytes;
+  one_key = same_bytes;
+  one_row = λ db ready params. one_keyed db ready 14 least_tree (codes "least") (least_table least_tree).columns (1 ∷ []) refl refl params;
+  at_key = at_gtin;
+  own_key = λ s r. refl;
+  looks = λ trees. refl;
+  sets = λ trees rows. refl;
+  same_set = λ t. refl;
+  ruled = refl;
+  has_shown = λ params r. refl;
+  seen_shown = λ params r. refl;
+  add_is = add_is;
+  added = λ s. refl;
+  casts = λ s. rw (cast_null, cast_number (pos s.days)) refl;
+  comes = λ s rows sound. (refl, (sound, refl));
+}
+
+pub change_least_laws : IsChange least change_least
+change_least_laws = record {
+  is = change_is;
+  changed = λ s r. refl;
+  casts = λ s. rw (cast_number (pos s.days)) refl;
+  becomes = λ s r sound int own. (sound, refl);
+}
+
+least_of_is : QueryIs least least_of
+unfolding understood everything
+least_of_is rest = (refl, refl, (refl, refl))
+
+pub least_of_laws : IsSought least least_of AreLeastOf
+least_of_laws = record {
+  is = least_of_is;
+  at = at_gtin;
+  at_stored = λ gtin r int. and_true _ ∙ equals_text (column r 1) gtin;
+  ordered = λ db ready gtin rows a. in_order db.trees (Text gtin ∷ []) least_tree least_of.tests least.shown rows (rows_of least least_laws db ready).0 a;
+  finds = λ db ready gtin xs are. found_by_key least least_laws (λ k. bytes_eq gtin k) db ready xs are;
+}
+
+all_least_is : QueryIs least all_least
+unfolding understood everything
+all_least_is rest = (refl, refl, (refl, refl))
+
+pub all_least_laws : IsSought least all_least AreAllLeast
+all_least_laws = record {
+  is = all_least_is;
+  at = λ all r h. refl;
+  at_stored = λ all r int. refl;
+  ordered = λ db ready all rows a. in_order db.trees (all_least.params all) least_tree all_least.tests least.shown rows (rows_of least least_laws db ready).0 a;
+  finds = λ db ready all xs are. found_by_key least least_laws (λ k. true) db ready xs are;
+}

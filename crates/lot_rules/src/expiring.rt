@@ -1,0 +1,367 @@
+//! Lots that are out: they expire before the earliest expiry that ships. What is staged of them goes
+//! to RETURNS.
+
+ghost use Rattle.std.specs.Prelude.{◌≡◌, ◌&&◌, not, map, filter, flat_map, Some, IfOk};
+ghost use Rattle.values.specs.Values.{same_text};
+ghost use Rattle.commands.specs.Lists.{total};
+ghost use Rattle.commands.specs.Replies.{reply_text};
+ghost use Rattle.commands.specs.declared.replies.ReplyField.TheVariants.{Returned};
+ghost use Rattle.machine.specs.Postings.{is_lot};
+ghost use Rattle.row_rules.specs.Seen.{capped, number_seen as number_seen_lem, none_put, none_dropped};
+ghost use Rattle.row_rules.specs.LookUps.{rows_given};
+ghost use Rattle.lot_rules.specs.GivenOut.{is_out_given, row_returned as row_returned_lem};
+ghost use Rattle.lot_rules.specs.Expiring.{is_out as is_out_lem, staged_kept_on as staged_kept_on_lem, staged_gone_on as staged_gone_on_lem, stock_returned as stock_returned_lem, stands_in as stands_in_lem, stock_on as stock_on_lem, gtins_seen as gtins_seen_lem, reserved_put_on, reserved_gone_on, changes_on};
+
+use crate::returning::{bins_with_returns, row_returned};
+use commands::{
+    ItemRow, LeastRow, Listed, LotRow, MetaRow, ReplyField, Short, StagedRow, StockRow, reply,
+};
+use label::BusinessDay;
+use row_rules::changing::{none_dropped, none_put, number_seen};
+use row_rules::look_ups::{RowsByText, by_text, staged_by_lot};
+use row_rules::looking::{find_lot, is_same_lot};
+use row_rules::plans::{ItemRows, item_rows};
+use row_rules::pushing::push_if;
+use row_rules::replanning::{Replanned, replan_items};
+use row_rules::status::{earliest, is_past};
+use row_rules::{Change, Slice};
+use std::alloc::{AllocError, Global};
+use values::{Gtin, LotId};
+
+// Lots that are out on a day, with the days that these rows ask for
+
+fn is_out(
+    lots: &RowsByText<'_, LotRow>,
+    day: BusinessDay,
+    asked: &RowsByText<'_, LeastRow>,
+    lot: &LotId,
+) -> bool
+    ensures { result ≡ is_out_given (rows_given lots.now) day (rows_given asked.now) lot.now }
+{
+    let from = earliest(day, asked.rows_of_gtin(&lot.gtin), &lot.gtin);
+    is_past(find_lot(lots.rows_of_lot(&lot.lot), lot), from)
+}
+
+// Staged rows
+
+fn staged_kept_on(
+    alloc: Global,
+    slice: &Slice,
+    day: BusinessDay,
+    least: &[LeastRow],
+) -> Result<Vec<StagedRow>, AllocError>
+    ensures { IfOk result (λ v. v.items ≡ staged_kept_on_lem slice.now day least.now) }
+{
+    let rows = slice.rows.staged.as_slice();
+    let lots = by_text(alloc, slice.rows.lots.as_slice(), rows.len())?;
+    let asked = by_text(alloc, least, rows.len())?;
+    rows_kept_on(alloc, &lots, rows, day, &asked)
+}
+
+fn rows_kept_on(
+    alloc: Global,
+    lots: &RowsByText<'_, LotRow>,
+    rows: &[StagedRow],
+    day: BusinessDay,
+    asked: &RowsByText<'_, LeastRow>,
+) -> Result<Vec<StagedRow>, AllocError>
+    ensures { IfOk result (λ v. v.items ≡ filter (λ r. not (is_out_given (rows_given lots.now) day (rows_given asked.now) r.lot)) rows.now) }
+{
+    let mut kept = Vec::new(alloc);
+    for row in rows {
+        let out = is_out(lots, day, asked, &row.lot);
+        push_if(&mut kept, !out, *row)?;
+    }
+    Ok(kept)
+}
+
+fn staged_gone_on(
+    alloc: Global,
+    slice: &Slice,
+    day: BusinessDay,
+    least: &[LeastRow],
+) -> Result<Vec<StagedRow>, AllocError>
+    ensures { IfOk result (λ v. v.items ≡ staged_gone_on_lem slice.now day least.now) }
+{
+    let rows = slice.rows.staged.as_slice();
+    let lots = by_text(alloc, slice.rows.lots.as_slice(), rows.len())?;
+    let asked = by_text(alloc, least, rows.len())?;
+    rows_gone_on(alloc, &lots, rows, day, &asked)
+}
+
+fn rows_gone_on(
+    alloc: Global,
+    lots: &RowsByText<'_, LotRow>,
+    rows: &[StagedRow],
+    day: BusinessDay,
+    asked: &RowsByText<'_, LeastRow>,
+) -> Result<Vec<StagedRow>, AllocError>
+    ensures { IfOk result (λ v. v.items ≡ filter (λ r. is_out_given (rows_given lots.now) day (rows_given asked.now) r.lot) rows.now) }
+{
+    let mut gone = Vec::new(alloc);
+    for row in rows {
+        let out = is_out(lots, day, asked, &row.lot);
+        push_if(&mut gone, out, *row)?;
+    }
+    Ok(gone)
+}
+
+// Stock rows
+
+// The lots that are out.
+fn lots_out(
+    alloc: Global,
+    slice: &Slice,
+    day: BusinessDay,
+    least: &[LeastRow],
+) -> Result<Vec<LotRow>, AllocError>
+    ensures { IfOk result (λ v. v.items ≡ filter (λ k. is_out_lem slice.now day least.now k.lot) slice.now.rows.lots) }
+{
+    let rows = slice.rows.lots.as_slice();
+    let lots = by_text(alloc, rows, rows.len())?;
+    let asked = by_text(alloc, least, rows.len())?;
+    lots_out_of(alloc, &lots, rows, day, &asked)
+}
+
+fn lots_out_of(
+    alloc: Global,
+    lots: &RowsByText<'_, LotRow>,
+    rows: &[LotRow],
+    day: BusinessDay,
+    asked: &RowsByText<'_, LeastRow>,
+) -> Result<Vec<LotRow>, AllocError>
+    ensures { IfOk result (λ v. v.items ≡ filter (λ k. is_out_given (rows_given lots.now) day (rows_given asked.now) k.lot) rows.now) }
+{
+    let mut out = Vec::new(alloc);
+    for row in rows {
+        let past = is_out(lots, day, asked, &row.lot);
+        push_if(&mut out, past, *row)?;
+    }
+    Ok(out)
+}
+
+// The rows in RETURNS of the lots that are out, where anything comes into it.
+fn stock_returned(
+    alloc: Global,
+    slice: &Slice,
+    day: BusinessDay,
+    least: &[LeastRow],
+) -> Result<Vec<StockRow>, AllocError>
+    ensures { IfOk result (λ v. v.items ≡ stock_returned_lem slice.now day least.now) }
+{
+    let out = lots_out(alloc, slice, day, least)?;
+    let stock = by_text(alloc, slice.rows.stock.as_slice(), out.len())?;
+    let staged = staged_by_lot(alloc, slice.rows.staged.as_slice(), out.len())?;
+    rows_returned(alloc, &stock, &staged, out.as_slice())
+}
+
+fn rows_returned(
+    alloc: Global,
+    stock: &RowsByText<'_, StockRow>,
+    staged: &RowsByText<'_, StagedRow>,
+    lots: &[LotRow],
+) -> Result<Vec<StockRow>, AllocError>
+    ensures { IfOk result (λ v. v.items ≡ flat_map (λ k. row_returned_lem (rows_given stock.now k.lot.lot) (rows_given staged.now k.lot.lot) k.lot) lots.now) }
+{
+    let mut put = Vec::new(alloc);
+    for row in lots {
+        let lot = &row.lot.lot;
+        let own = row_returned(
+            alloc,
+            stock.rows_of_lot(lot),
+            staged.rows_of_lot(lot),
+            &row.lot,
+        )?;
+        put.extend_from_slice(own.as_slice())?;
+    }
+    Ok(put)
+}
+
+fn stands_in(rows: &[StockRow], row: &StockRow) -> bool
+    ensures { result ≡ stands_in_lem rows.now row.now }
+{
+    for other in rows {
+        if is_same_cell(row, other) {
+            return true;
+        }
+    }
+    false
+}
+
+fn is_same_cell(a: &StockRow, b: &StockRow) -> bool
+    ensures { result ≡ is_lot a.now.lot b.now.lot && same_text a.now.bin b.now.bin }
+{
+    let same_lot = is_same_lot(&a.lot, &b.lot);
+    let same_bin = a.bin == b.bin;
+    same_lot && same_bin
+}
+
+// The rows under whose keys none of the others stands.
+fn rows_besides(
+    alloc: Global,
+    rows: &[StockRow],
+    others: &[StockRow],
+) -> Result<Vec<StockRow>, AllocError>
+    ensures { IfOk result (λ v. v.items ≡ filter (λ r. not (stands_in_lem others.now r)) rows.now) }
+{
+    let of_lots = by_text(alloc, others, rows.len())?;
+    rows_apart(alloc, rows, &of_lots)
+}
+
+fn rows_apart(
+    alloc: Global,
+    rows: &[StockRow],
+    others: &RowsByText<'_, StockRow>,
+) -> Result<Vec<StockRow>, AllocError>
+    ensures { IfOk result (λ v. v.items ≡ filter (λ r. not (stands_in_lem (rows_given others.now r.lot.lot) r)) rows.now) }
+{
+    let mut kept = Vec::new(alloc);
+    for row in rows {
+        let there = stands_in(others.rows_of_lot(&row.lot.lot), row);
+        push_if(&mut kept, !there, *row)?;
+    }
+    Ok(kept)
+}
+
+// All stock rows after the act.
+fn stock_on(
+    alloc: Global,
+    slice: &Slice,
+    day: BusinessDay,
+    least: &[LeastRow],
+) -> Result<Vec<StockRow>, AllocError>
+    ensures { IfOk result (λ v. v.items ≡ stock_on_lem slice.now day least.now) }
+{
+    let mut after = stock_returned(alloc, slice, day, least)?;
+    let others = rows_besides(alloc, slice.rows.stock.as_slice(), after.as_slice())?;
+    after.extend_from_slice(others.as_slice())?;
+    Ok(after)
+}
+
+// Reserved rows
+
+fn gtins_seen(alloc: Global, slice: &Slice) -> Result<Vec<Gtin>, AllocError>
+    ensures { IfOk result (λ v. v.items ≡ gtins_seen_lem slice.now) }
+{
+    gtins_of(alloc, slice.rows.items.as_slice())
+}
+
+fn gtins_of(alloc: Global, rows: &[ItemRow]) -> Result<Vec<Gtin>, AllocError>
+    ensures { IfOk result (λ v. v.items ≡ map (λ i. i.gtin) rows.now) }
+{
+    let mut gtins = Vec::new(alloc);
+    for row in rows {
+        gtins.push(row.gtin)?;
+    }
+    Ok(gtins)
+}
+
+// What the plans of the items reserve then.
+fn replan_on(
+    alloc: Global,
+    slice: &Slice,
+    day: BusinessDay,
+    least: &[LeastRow],
+) -> Result<Replanned, AllocError>
+    ensures put { IfOk result (λ r. r.put ≡ reserved_put_on slice.now day least.now) }
+    ensures dropped { IfOk result (λ r. r.dropped ≡ reserved_gone_on slice.now day least.now) }
+{
+    let gtins = gtins_seen(alloc, slice)?;
+    let staged = staged_kept_on(alloc, slice, day, least)?;
+    let bins = bins_with_returns(alloc, slice)?;
+    let stock = stock_on(alloc, slice, day, least)?;
+    let rows = ItemRows {
+        staged: staged.as_slice(),
+        bins: bins.as_slice(),
+        stock: stock.as_slice(),
+        least,
+        ..item_rows(&slice.rows)
+    };
+    replan_items(alloc, slice, gtins.as_slice(), day, &rows)
+}
+
+// The change
+
+/// What an act changes by which lots are out on the day, with the days that these rows ask for, where
+/// it puts these rows of `least`.
+pub fn change_on(
+    alloc: Global,
+    slice: &Slice,
+    day: BusinessDay,
+    least: &[LeastRow],
+    asked: Listed<LeastRow>,
+) -> Result<Change, AllocError>
+    ensures { IfOk result (λ change. change ≡ changes_on slice.now day least.now asked) }
+{
+    let stock = stock_returned(alloc, slice, day, least)?;
+    let staged = staged_gone_on(alloc, slice, day, least)?;
+    let units = sum_units(staged.as_slice());
+    let reserved = replan_on(alloc, slice, day, least)?;
+    let rows = Out {
+        stock,
+        staged,
+        reserved,
+    };
+    Ok(changed(alloc, meta_on(slice, day), units, rows, asked))
+}
+
+fn sum_units(rows: &[StagedRow]) -> u64
+    ensures { result ≡ capped (total (λ r. r.qty) rows.now) }
+{
+    let mut sum = 0_u64;
+    for row in rows {
+        sum = sum.saturating_add(row.qty);
+    }
+    sum
+}
+
+// The rows that change where lots are out.
+#[derive(Drop)]
+struct Out {
+    // The stock rows put in RETURNS.
+    stock: Vec<StockRow>,
+    // The staged rows dropped.
+    staged: Vec<StagedRow>,
+    reserved: Replanned,
+}
+
+// The change by these rows, and so many units returned.
+fn changed(alloc: Global, meta: MetaRow, units: u64, rows: Out, asked: Listed<LeastRow>) -> Change
+    ensures { result ≡ record { meta = meta; put = record none_put { stock = rows.stock.items; reserved = rows.reserved.put; least = asked }; dropped = record none_dropped { staged = rows.staged.items; reserved = rows.reserved.dropped }; text = reply_text meta.acts (Some (Returned units)) } }
+{
+    let Out {
+        stock,
+        staged,
+        reserved,
+    } = rows;
+    let mut put = none_put(alloc);
+    put.stock = Listed::from_vec(stock);
+    put.reserved = reserved.put;
+    put.least = asked;
+    let mut dropped = none_dropped(alloc);
+    dropped.staged = Listed::from_vec(staged);
+    dropped.reserved = reserved.dropped;
+    Change {
+        meta,
+        put,
+        dropped,
+        text: returned_reply(&meta, units),
+    }
+}
+
+fn meta_on(slice: &Slice, day: BusinessDay) -> MetaRow
+    ensures { result ≡ record { day = day; acts = number_seen_lem slice.now; shipments = slice.now.meta.shipments } }
+{
+    MetaRow {
+        day,
+        acts: number_seen(slice),
+        shipments: slice.meta.shipments,
+    }
+}
+
+// The reply says how many units were returned.
+fn returned_reply(meta: &MetaRow, units: u64) -> Short
+    ensures { result ≡ reply_text meta.now.acts (Some (Returned units)) }
+{
+    reply(meta.acts, Some(ReplyField::Returned(units)))
+}
