@@ -72,8 +72,8 @@ echo "> lotd init --db stock.db --day 2026-05-04"
 "$lotd" init --db "$db" --day 2026-05-04
 is_closed init
 
-echo "> lotd serve --db stock.db --port $port --max 17"
-"$lotd" serve --db "$db" --port "$port" --max 17 >"$room/out" &
+echo "> lotd serve --db stock.db --port $port --max 18"
+"$lotd" serve --db "$db" --port "$port" --max 18 >"$room/out" &
 server=$!
 for _ in 1 2 3 4 5 6 7 8 9 10; do
     if [ -s "$room/out" ]; then break; fi
@@ -92,17 +92,19 @@ SHORT S-1 2 Corner Shop
 TOTAL 2"
 # The same order sent again acts once.
 post /orders '{"key":"K-3","order":"S-1","customer":"Corner Shop","lines":[{"gtin":"09506000134352","qty":12}]}' 200 '{"act":4,"short":2}'
+# From now on its lots must have so many days left; the lot has that many.
+post /leasts '{"key":"K-10","gtin":"09506000134352","days":149}' 200 '{"act":5,"returned":0}'
 text /picklists/S-1 "PICK LIST S-1
 CUSTOMER Corner Shop
 STATE OPEN
-ITEM 09506000134352 ORDERED 12 STAGED 0 SHIPPED 0 SHORT 2
+ITEM 09506000134352 ORDERED 12 STAGED 0 SHIPPED 0 SHORT 2 LEAST 149
 TAKE AB12 2026-09-30 10
 FROM A-01 10"
 # More is not picked than is reserved; what is reserved is picked and shipped, and then the lot is recalled.
 post /picks '{"key":"K-4","order":"S-1","gtin":"09506000134352","lot":"AB12","bin":"A-01","qty":11}' 409 '{"code":"Q01"}'
-post /picks '{"key":"K-4","order":"S-1","gtin":"09506000134352","lot":"AB12","bin":"A-01","qty":7}' 200 '{"act":5}'
-post /shipments '{"key":"K-5","order":"S-1"}' 200 '{"act":6,"shipment":1}'
-post /recalls '{"key":"K-6","gtin":"09506000134352","lot":"AB12"}' 200 '{"act":7,"returned":0}'
+post /picks '{"key":"K-4","order":"S-1","gtin":"09506000134352","lot":"AB12","bin":"A-01","qty":7}' 200 '{"act":6}'
+post /shipments '{"key":"K-5","order":"S-1"}' 200 '{"act":7,"shipment":1}'
+post /recalls '{"key":"K-6","gtin":"09506000134352","lot":"AB12"}' 200 '{"act":8,"returned":0}'
 get /stock/09506000134352 200 '{"gtin":"09506000134352","lots":[{"bins":[{"bin":"A-01","qty":3}],"expiry":"2026-09-30","lot":"AB12","reserved":0,"staged":0,"status":"RECALLED"}],"name":"Oat drink"}'
 notice="RECALL NOTICE 09506000134352 Oat drink
 LOT AB12 EXPIRY 2026-09-30
@@ -134,6 +136,6 @@ echo "> lotd card --db stock.db 09506000134352 AB12"
 expect "the card" "STOCK CARD 09506000134352 Oat drink
 LOT AB12 EXPIRY 2026-09-30
             3 2026-05-04 RECEIPT  D-1/1                              10         10
-            6 2026-05-04 SHIPMENT 1                                  -7          3
+            7 2026-05-04 SHIPMENT 1                                  -7          3
 IN HOUSE 3" "$("$lotd" card --db "$db" 09506000134352 AB12)"
 echo "demo: every answer was the expected one"

@@ -1,34 +1,20 @@
-#!/bin/sh
-# Files that are no books, and books with rows that no books have. Files with another mark or schema number, without a
-# table or with a column of another name are refused by every line of the program and stay as they are, byte for byte.
-# For each column of each table there are rows outside its values, made by SQL: every request that reads such a row is
-# answered 503 W91 and every line `lotd: foreign books`, and every row of every table stays as it was. A column by which
-# rows are only sought is never read so: there every answer is that of sound books, and the row stays too.
-# Needs the Rattle kit and python3, and takes about a minute.
-# Exit status 0 only if every answer was the expected one.
-set -eu
-cd "$(dirname "$0")"
-
-room=$(mktemp -d)
-lotd=${LOTD:-$PWD/crates/lotd/out/lotd}
-trap 'rm -rf "$room"' EXIT
-
-if [ -z "${LOTD:-}" ]; then
-    echo "> prove what lotd stands on, and build lotd"
-    sh build.sh
-fi
-
-python3 - "$lotd" "$room" "${PORT:-18083}" <<'PYTHON'
+"""Files that are no books, and books with rows that no books have. Files with another mark or schema number, without a
+table or with a column of another name are refused by every line of the program and stay as they are, byte for byte.
+For each column of each table there are rows outside its values, made by SQL: every request that reads such a row is
+answered 503 W91 and every line `lotd: foreign books`, and every row of every table stays as it was. A column by which
+rows are only sought is never read so: there every answer is that of sound books, and the row stays too.
+Needs the Rattle kit, and takes about a minute. Exit status 0 only if every answer was the expected one.
+"""
 import datetime
 import os
-import select
 import shutil
-import socket
 import sqlite3
 import subprocess
 import sys
 
-lotd, room, port = sys.argv[1], sys.argv[2], int(sys.argv[3])
+import server
+
+lotd, room, port = server.program(), server.room(), server.number("PORT", 18083)
 OATS, RYE = "09506000134352", "04012345000016"
 TABLES = "meta items bins lots recalls stock orders lines staged reserved shipments shiplines cards repeats".split()
 HEADER = "delivery,line,gtin,lot,expiry,bin,qty\n"
@@ -135,42 +121,16 @@ def changed(books, text, values=()):
     return db
 
 
-def listening(server):
-    """The line that the server prints, within a minute."""
-    ready, _, _ = select.select([server.stdout], [], [], 60)
-    return server.stdout.readline() if ready else b"nothing"
-
-
 def asks(path, body):
-    head = "GET %s HTTP/1.1\r\n\r\n" % path
-    if body is not None:
-        head = "POST %s HTTP/1.1\r\nContent-Length: %d\r\n\r\n%s" % (path, len(body), body)
-    with socket.create_connection(("127.0.0.1", port), timeout=60) as peer:
-        peer.sendall(head.encode())
-        peer.shutdown(socket.SHUT_WR)
-        answer = b""
-        while more := peer.recv(65536):
-            answer += more
-    head, _, body = answer.partition(b"\r\n\r\n")
-    return int(head.split(b" ")[1]), body.decode("latin-1")
+    return server.ask(port, server.get(path) if body is None else server.post(path, body))
 
 
 def served(db, exchanges):
     """The answers of one server, which ends by itself."""
-    server = subprocess.Popen([lotd, "serve", "--db", db, "--port", str(port), "--max", str(len(exchanges))], stdout=subprocess.PIPE, stderr=subprocess.PIPE)
-    try:
-        told = listening(server)
-        if told != b"listening on 127.0.0.1:%d\n" % port:
-            fails("the server", "listening on 127.0.0.1:%d" % port, told + server.stderr.read())
+    with server.Server(lotd, db, port, len(exchanges)) as serving:
         answers = [asks(path, body) for path, body in exchanges]
-        if server.wait(timeout=60) != 0:
-            fails("the server", 0, server.returncode)
+        serving.ends()
         return answers
-    finally:
-        server.kill()
-        server.wait()
-        server.stdout.close()
-        server.stderr.close()
 
 
 def run(words, db):
@@ -416,6 +376,4 @@ CONTRADICTIONS = [
 for name, text, readers in CONTRADICTIONS:
     is_read(name, changed(sound_books, text), readers)
 print("  %d contradictions: refused where they are met, every row as it was" % len(CONTRADICTIONS))
-PYTHON
-
-echo "foreign: every file and every row was told as it must be, and none was changed"
+print("foreign: every file and every row was told as it must be, and none was changed")

@@ -1,30 +1,15 @@
-#!/bin/sh
-# Stops of the process: lotd serve is ended by SIGKILL at a random moment around an act, the books are opened again, and
-# every row of every table is that of before the act or that of after it. Where the answer had come, it is that of after.
-# What is shown then is what an undisturbed run shows, and so is the answer of the same request sent again, and its rows.
-# Of three rounds one ends the server after a time from the request on, one from the moment on at which the log of the
-# file grows, one from the first byte of the answer on; how long each takes is measured before. A kill was within an act
-# where the file or its log had changed since the server listened, and the answer was not whole.
-# Needs the Rattle kit and python3. ROUNDS (240) and SEED (1) can be set; 240 rounds take about a minute.
-# Exit status 0 only if no round found anything else, and kills within an act came before it was done and after.
-set -eu
-cd "$(dirname "$0")"
-
-room=$(mktemp -d)
-lotd=${LOTD:-$PWD/crates/lotd/out/lotd}
-trap 'rm -rf "$room"' EXIT
-
-if [ -z "${LOTD:-}" ]; then
-    echo "> prove what lotd stands on, and build lotd"
-    sh build.sh
-fi
-
-python3 - "$lotd" "$room" "${PORT:-18084}" "${ROUNDS:-240}" "${SEED:-1}" <<'PYTHON'
+"""Stops of the process: lotd serve is ended by SIGKILL at a random moment around an act, the books are opened again, and
+every row of every table is that of before the act or that of after it. Where the answer had come, it is that of after.
+What is shown then is what an undisturbed run shows, and so is the answer of the same request sent again, and its rows.
+Of three rounds one ends the server after a time from the request on, one from the moment on at which the log of the
+file grows, one from the first byte of the answer on; how long each takes is measured before. A kill was within an act
+where the file or its log had changed since the server listened, and the answer was not whole.
+Needs the Rattle kit. ROUNDS (240) and SEED (1) can be set; 240 rounds take about a minute.
+Exit status 0 only if no round found anything else, and kills within an act came before it was done and after.
+"""
 import os
 import random
-import select
 import shutil
-import socket
 import sqlite3
 import statistics
 import subprocess
@@ -32,7 +17,10 @@ import sys
 import threading
 import time
 
-lotd, room, port, rounds, seed = sys.argv[1], sys.argv[2], int(sys.argv[3]), int(sys.argv[4]), int(sys.argv[5])
+import server
+
+lotd, room, port = server.program(), server.room(), server.number("PORT", 18084)
+rounds, seed = server.number("ROUNDS", 240), server.number("SEED", 1)
 chance = random.Random(seed)
 
 # One day's work: paths and bodies.
@@ -97,26 +85,7 @@ def log_size(db):
 
 
 def served(db, connections=1):
-    server = subprocess.Popen([lotd, "serve", "--db", db, "--port", str(port), "--max", str(connections)], stdout=subprocess.PIPE)
-    ready, _, _ = select.select([server.stdout], [], [], 60)
-    if not ready or server.stdout.readline().decode() != "listening on 127.0.0.1:%d\n" % port:
-        ended(server)
-        fails("the server does not listen")
-    return server
-
-
-def ended(server):
-    server.kill()
-    server.wait()
-    server.stdout.close()
-
-
-def asked(text):
-    peer = socket.create_connection(("127.0.0.1", port), timeout=60)
-    peer.setsockopt(socket.IPPROTO_TCP, socket.TCP_NODELAY, 1)
-    peer.sendall(text)
-    peer.shutdown(socket.SHUT_WR)
-    return peer
+    return server.Server(lotd, db, port, connections)
 
 
 class Asking:
@@ -125,7 +94,7 @@ class Asking:
     def __init__(self, text):
         self.answer = b""
         self.begun = threading.Event()
-        self.peer = asked(text)
+        self.peer = server.asked(port, text)
         self.reader = threading.Thread(target=self.read)
         self.reader.start()
 
@@ -153,26 +122,17 @@ def until_log_grows(db, size, asking):
         pass
 
 
-def request(path, body):
-    return b"POST %s HTTP/1.1\r\nContent-Length: %d\r\n\r\n%s" % (path.encode(), len(body), body.encode())
-
-
 def answers(db, texts):
     """The answers of one server, which ends by itself."""
-    server = served(db, len(texts))
-    try:
+    with served(db, len(texts)) as serving:
         found = [Asking(text).told() for text in texts]
-        if server.wait(timeout=60) != 0:
-            fails("the server ended with a fault")
+        serving.ends()
         return found
-    finally:
-        ended(server)
 
 
 def timed(db, text):
     """The seconds from the request to the first byte in the log, from there to the answer, and from there to the end."""
-    server = served(db)
-    try:
+    with served(db) as serving:
         size = log_size(db)
         begun = time.perf_counter()
         asking = Asking(text)
@@ -181,17 +141,13 @@ def timed(db, text):
         asking.begun.wait(60)
         answered = time.perf_counter()
         asking.told()
-        if server.wait(timeout=60) != 0:
-            fails("the server ended with a fault")
+        serving.ends()
         return logged - begun, answered - logged, time.perf_counter() - answered
-    finally:
-        ended(server)
 
 
 def killed(db, text, aim, delay):
     """Ends the server so long after what is aimed at. What it had answered, and the bytes before the request and then."""
-    server = served(db)
-    try:
+    with served(db):
         quiet = bytes_of(db)
         size = log_size(db)
         asking = Asking(text)
@@ -202,8 +158,6 @@ def killed(db, text, aim, delay):
         until = time.perf_counter() + delay
         while time.perf_counter() < until:
             pass
-    finally:
-        ended(server)
     return asking.told(), quiet, bytes_of(db)
 
 
@@ -223,7 +177,7 @@ class Act:
     """An act of the day's work: the books before it and after it, what they show, and its answers, undisturbed."""
 
     def __init__(self, base, number, path, body):
-        self.path, self.text = path, request(path, body)
+        self.path, self.text = path, server.post(path, body)
         self.before = os.path.join(room, "before-%d.db" % number)
         after = os.path.join(room, "after-%d.db" % number)
         copied(base, self.before)
@@ -252,7 +206,7 @@ def shown(db):
     """What the books show, asked of a copy."""
     copy = os.path.join(room, "shown.db")
     copied(db, copy)
-    return answers(copy, [b"GET %s HTTP/1.1\r\n\r\n" % path.encode() for path in SHOWN])
+    return answers(copy, [server.get(path) for path in SHOWN])
 
 
 def found_after(act, db, named):
@@ -269,7 +223,7 @@ def found_after(act, db, named):
 
 def goes_on(act, db, done, named):
     """What the books show, and the answer of the same request, are as they must be, and so are the rows after it."""
-    gets = [b"GET %s HTTP/1.1\r\n\r\n" % path.encode() for path in SHOWN]
+    gets = [server.get(path) for path in SHOWN]
     *told, again = answers(db, gets + [act.text])
     if told != (act.shown_after if done else act.shown_before):
         fails("%s: opened again, the books show %r" % (named, told))
@@ -326,6 +280,4 @@ print("  within an act: %d, of these %d before it was done and %d after, the ans
 print("  after the answer: %d, of these %d while the file was written" % (counts["answered"] + counts["copied"], counts["copied"]))
 if counts["torn"] == 0 or counts["done"] == 0:
     fails("no kill came within an act before it was done, or none after")
-PYTHON
-
-echo "kill: every stop left the books of before the act or of after it, and no answered act was lost"
+print("kill: every stop left the books of before the act or of after it, and no answered act was lost")

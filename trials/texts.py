@@ -1,28 +1,17 @@
-#!/bin/sh
-# Long texts by the lines of lotd: a stock card of 100,000 lines and a recall notice of 10,000 shipments, byte for byte as
-# the format says, in the memory that the open books take anyway; and both into an output that is full. The rows are set by
-# python's sqlite3. Needs the Rattle kit and python3, and takes half a minute.
-# Exit status 0 only if every byte, every exit status and every peak of memory was as it must be.
-set -eu
-cd "$(dirname "$0")"
-
-room=$(mktemp -d)
-lotd=${LOTD:-$PWD/crates/lotd/out/lotd}
-trap 'rm -rf "$room"' EXIT
-
-if [ -z "${LOTD:-}" ]; then
-    echo "> prove what lotd stands on, and build lotd"
-    sh build.sh
-fi
-
-python3 - "$lotd" "$room" <<'PYTHON'
+"""Long texts by the lines of lotd: a stock card of 100,000 lines and a recall notice of 10,000 shipments, byte for byte as
+the format says, in the memory that the open books take anyway; and both into an output that is full. The rows are set by
+python's sqlite3. Needs the Rattle kit, and takes half a minute.
+Exit status 0 only if every byte, every exit status and every peak of memory was as it must be.
+"""
 import os
 import sqlite3
 import subprocess
 import sys
 import tempfile
 
-lotd, room = sys.argv[1], sys.argv[2]
+import server
+
+lotd, room = server.program(), server.room()
 OATS, OTHER = "09506000134352", "04012345000016"
 DAY, DAY_TEXT = 20577, "2026-05-04"
 # What two runs may differ by, in KiB. The 100,000 lines are 8 MB as text.
@@ -183,6 +172,4 @@ with open("/dev/full", "wb") as full:
         for db in (short_db, long_db):
             is_refused("a %s into an output that is full" % line, "io", line, "--db", db, OATS, "L1", out=full)
 print("  a card and a notice into an output that is full")
-PYTHON
-
-echo "texts: every byte was as it must be, and no text took more memory than the open books"
+print("texts: every byte was as it must be, and no text took more memory than the open books")

@@ -1,30 +1,16 @@
-#!/bin/sh
-# What an administrator does to the file of the books between two runs of lotd: restored from a dump, analysed, packed,
-# moved to pages of another size, with an index more or less. The books open, tell what they told before, and go on; with a partial index they are
-# foreign, and without it again as they were. Needs the Rattle kit, python3 and
-# the sqlite3 tool, and takes some seconds.
-# Exit status 0 only if every answer was the expected one and every row was kept.
-set -eu
-cd "$(dirname "$0")"
-
-port=${PORT:-18082}
-room=$(mktemp -d)
-lotd=${LOTD:-$PWD/crates/lotd/out/lotd}
-trap 'rm -rf "$room"' EXIT
-
-if [ -z "${LOTD:-}" ]; then
-    echo "> prove what lotd stands on, and build lotd"
-    sh build.sh
-fi
-
-python3 - "$lotd" "$room" "$port" <<'PYTHON'
+"""What an administrator does to the file of the books between two runs of lotd: restored from a dump, analysed, packed,
+moved to pages of another size, with an index more or less. The books open, tell what they told before, and go on; with a
+partial index they are foreign, and without it again as they were. Needs the Rattle kit and the sqlite3 tool, and takes
+some seconds. Exit status 0 only if every answer was the expected one and every row was kept.
+"""
 import os
 import shutil
-import socket
 import subprocess
 import sys
 
-lotd, room, port = sys.argv[1], sys.argv[2], int(sys.argv[3])
+import server
+
+lotd, room, port = server.program(), server.room(), server.number("PORT", 18082)
 OATS = "09506000134352"
 TABLES = (
     "meta items bins lots recalls stock orders lines staged reserved shipments shiplines cards repeats"
@@ -65,40 +51,22 @@ def fail(what, expected, got):
     sys.exit("restored: %s: expected %r, got %r" % (what, expected, got))
 
 
-def asks(text):
-    with socket.create_connection(("127.0.0.1", port), timeout=60) as peer:
-        peer.sendall(text)
-        peer.shutdown(socket.SHUT_WR)
-        answer = b""
-        while more := peer.recv(65536):
-            answer += more
-    head, _, body = answer.partition(b"\r\n\r\n")
-    return int(head.split(b" ")[1]), body.decode()
-
-
 def posts(path, body):
-    return asks(("POST %s HTTP/1.1\r\nContent-Length: %d\r\n\r\n%s" % (path, len(body), body)).encode())
+    return server.ask(port, server.post(path, body))
 
 
 def gets(path):
-    return asks(("GET %s HTTP/1.1\r\n\r\n" % path).encode())
+    return server.ask(port, server.get(path))
 
 
 def served(what, db, exchanges):
     """The server answers these requests as it must, and ends by itself."""
-    server = subprocess.Popen([lotd, "serve", "--db", db, "--port", str(port), "--max", str(len(exchanges))], stdout=subprocess.PIPE, stderr=subprocess.PIPE)
-    try:
-        listening = server.stdout.readline().decode()
-        if listening != "listening on 127.0.0.1:%d\n" % port:
-            fail(what, "listening on 127.0.0.1:%d" % port, listening + server.stderr.read().decode())
+    with server.Server(lotd, db, port, len(exchanges)) as serving:
         for asked, answer in exchanges:
             got = asked()
             if got != answer:
                 fail(what, answer, got)
-        if server.wait(timeout=60) != 0:
-            fail(what, 0, server.returncode)
-    finally:
-        server.kill()
+        serving.ends()
 
 
 def sql(db, text):
@@ -194,6 +162,4 @@ sql(partial, "DROP INDEX lines_open")
 served("without the partial index", partial, told())
 print("  with a partial index refused, without it as they were")
 check("in another journal mode", lambda db: sql(db, "PRAGMA journal_mode = WAL; CREATE TABLE notes (text TEXT); DROP TABLE notes"))
-PYTHON
-
-echo "restored: the books opened, told the same and went on each time"
+print("restored: the books opened, told the same and went on each time")

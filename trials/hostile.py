@@ -1,31 +1,18 @@
-#!/bin/sh
-# Hostile clients at the port of lotd: slow, silent, cut off, talkative and endless ones, with a sound request between
-# each two, which is answered as if nobody else were there. Needs the Rattle kit and python3, and takes about a minute.
-# Exit status 0 only if every answer was the expected one and the server ended by itself after its last connection.
-set -eu
-cd "$(dirname "$0")"
-
-port=${PORT:-18081}
-room=$(mktemp -d)
-db=$room/stock.db
-lotd=${LOTD:-$PWD/crates/lotd/out/lotd}
-trap 'rm -rf "$room"' EXIT
-
-if [ -z "${LOTD:-}" ]; then
-    echo "> prove what lotd stands on, and build lotd"
-    sh build.sh
-fi
-
-echo "> lotd init --db stock.db --day 2026-05-04"
-"$lotd" init --db "$db" --day 2026-05-04
-
-python3 - "$lotd" "$db" "$port" <<'PYTHON'
+"""Hostile clients at the port of lotd: slow, silent, cut off, talkative and endless ones, with a sound request between
+each two, which is answered as if nobody else were there. Needs the Rattle kit, and takes about a minute.
+Exit status 0 only if every answer was the expected one and the server ended by itself after its last connection.
+"""
+import os
 import socket
 import subprocess
 import sys
 import time
 
-lotd, db, port = sys.argv[1], sys.argv[2], int(sys.argv[3])
+import server
+from server import answer_of, post
+
+lotd, port = server.program(), server.number("PORT", 18081)
+db = os.path.join(server.room(), "stock.db")
 
 ITEM = '{"key":"K-1","gtin":"09506000134352","name":"Oat drink"}'
 STOCK = b"GET /stock/09506000134352 HTTP/1.1\r\n\r\n"
@@ -35,23 +22,7 @@ HEAD = 43
 
 
 def connected():
-    peer = socket.create_connection(("127.0.0.1", port), timeout=60)
-    peer.setsockopt(socket.IPPROTO_TCP, socket.TCP_NODELAY, 1)
-    return peer
-
-
-def answer_of(peer):
-    """The status and the body of the answer, or None where the connection was closed without one."""
-    text = b""
-    while True:
-        more = peer.recv(65536)
-        if not more:
-            break
-        text += more
-    if not text:
-        return None
-    head, _, body = text.partition(b"\r\n\r\n")
-    return int(head.split(b" ")[1]), body.decode()
+    return server.connected(port)
 
 
 def refused(status, code):
@@ -59,11 +30,7 @@ def refused(status, code):
 
 
 def asks(text):
-    """Sends a text, ends it, and reads the answer."""
-    with connected() as peer:
-        peer.sendall(text)
-        peer.shutdown(socket.SHUT_WR)
-        return answer_of(peer)
+    return server.ask(port, text)
 
 
 def slow():
@@ -124,10 +91,6 @@ def never_ends():
         return "went on"
 
 
-def post(path, body):
-    return b"POST %s HTTP/1.1\r\nContent-Length: %d\r\n\r\n%s" % (path.encode(), len(body), body.encode())
-
-
 def sound():
     return asks(STOCK)
 
@@ -155,21 +118,12 @@ for client in hostile:
 clients += fronts + cut
 clients += [("the item's stock", sound, SHOWN), ("the next act", lambda: asks(DAY), (200, '{"act":2,"returned":0}'))]
 
-server = subprocess.Popen([lotd, "serve", "--db", db, "--port", str(port), "--max", str(len(clients))], stdout=subprocess.PIPE)
-try:
-    told = server.stdout.readline().decode()
-    if told != "listening on 127.0.0.1:%d\n" % port:
-        sys.exit("hostile: the server said %r" % told)
+subprocess.run([lotd, "init", "--db", db, "--day", "2026-05-04"], check=True)
+with server.Server(lotd, db, port, len(clients)) as serving:
     for name, client, want in clients:
         got = client()
         if got != want:
             sys.exit("hostile: %s: expected %r, got %r" % (name, want, got))
     print("%d clients were answered as they must be" % len(clients))
-    status = server.wait(timeout=60)
-    if status != 0:
-        sys.exit("hostile: the server ended with status %d" % status)
-finally:
-    server.kill()
-PYTHON
-
-echo "hostile: every answer was the expected one, and the server ended by itself"
+    serving.ends()
+print("hostile: every answer was the expected one, and the server ended by itself")
