@@ -23,7 +23,7 @@ use Rattle.commands.specs.declared.command.NewOrder.{NewOrder}
 use Rattle.commands.specs.declared.command.Picking.{Picking}
 use Rattle.commands.specs.declared.command.NewLeast.{NewLeast}
 use Rattle.commands.specs.declared.command.Command.{Command}
-use Rattle.commands.specs.declared.command.Command.TheVariants.{Item, Bin, Receive, Move, Count, Adjust, Order, Cancel, Pick, Unpick, Ship, Hold, Release, Recall, OpenDay, Least}
+use Rattle.commands.specs.declared.command.Command.TheVariants.{Item, Bin, Receive, Move, Count, Adjust, Order, Cancel, Pick, Unpick, Ship, Hold, Release, Recall, OpenDay, Least, Urgent}
 use Rattle.commands.proofs.Joining.{AllLack, PartsLack, lacks_failing, joined_same, and_both}
 use Rattle.commands.proofs.Printing.{Printable, is_printable, name_printable, title_printable, gtin_printable, signed_printable, day_printable}
 use Rattle.label.proofs.DayTexts.{day_text_injective}
@@ -56,6 +56,9 @@ fields_printable (Adjust a) sound =
     let s = and_three (is_lot_id a.lot) (is_name a.bin) (is_delta a.change) sound in
     (refl, (gtin_of_lot_printable a.lot s.0, (lot_of_lot_printable a.lot s.0, (name_printable a.bin s.1, (signed_printable a.change s.2, tt)))))
 fields_printable (Order o) sound =
+    let s = and_three (is_name o.order) (is_title o.customer) (are_lines o.lines) sound in
+    (refl, (name_printable o.order s.0, (title_printable o.customer s.1, lines_printable o.lines (and_both (has_order_lines o.lines) (list_all is_order_line o.lines) s.2).1)))
+fields_printable (Urgent o) sound =
     let s = and_three (is_name o.order) (is_title o.customer) (are_lines o.lines) sound in
     (refl, (name_printable o.order s.0, (title_printable o.customer s.1, lines_printable o.lines (and_both (has_order_lines o.lines) (list_all is_order_line o.lines) s.2).1)))
 fields_printable (Cancel o) sound = (refl, (name_printable o sound, tt))
@@ -214,6 +217,17 @@ order_told x y sx sy e =
     let sound_y = (and_both (has_order_lines y.lines) (list_all is_order_line y.lines) t.2).1 in
     ap Order (order_same x y o c (lines_same x.lines y.lines sound_x sound_y l))
 
+urgent_told : (x y : NewOrder) → is_sound (Urgent x) ≡ true → is_sound (Urgent y) ≡ true → fields (Urgent x) ≡ fields (Urgent y) → Urgent x ≡ Urgent y
+urgent_told x y sx sy e =
+    let s = and_three (is_name x.order) (is_title x.customer) (are_lines x.lines) sx in
+    let t = and_three (is_name y.order) (is_title y.customer) (are_lines y.lines) sy in
+    let o : x.order ≡ y.order = cc in
+    let c : x.customer ≡ y.customer = cc in
+    let l : lines_fields x.lines ≡ lines_fields y.lines = cc in
+    let sound_x = (and_both (has_order_lines x.lines) (list_all is_order_line x.lines) s.2).1 in
+    let sound_y = (and_both (has_order_lines y.lines) (list_all is_order_line y.lines) t.2).1 in
+    ap Urgent (order_same x y o c (lines_same x.lines y.lines sound_x sound_y l))
+
 picking_told : (x y : Picking) → is_picking x ≡ true → is_picking y ≡ true → picking_fields x ≡ picking_fields y → x ≡ y
 picking_told x y sx sy e =
     let s = and_four (is_name x.order) (is_lot_id x.lot) (is_name x.bin) (is_qty x.qty) sx in
@@ -263,6 +277,7 @@ fields_same (Recall x) (Recall y) sx sy e = ap Recall (lot_parts x y (codes "REC
 fields_same (OpenDay x) (OpenDay y) sx sy e =
     let p : day_text x ≡ day_text y = cc in
     ap OpenDay (day_text_injective x y (business_is_day x sx) (business_is_day y sy) p)
+fields_same (Urgent x) (Urgent y) sx sy e = urgent_told x y sx sy e
 fields_same (Least x) (Least y) sx sy e = least_told x y sx sy e
 fields_same a b sx sy e = absurd (apart (word_number (fields a)) (word_number (fields b)) refl (ap word_number e))
 

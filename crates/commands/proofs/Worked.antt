@@ -91,7 +91,7 @@ lengths_in_place = refl
 mark_of_the_books : MARK.now ≡ codes "LOTSTOCK"
 mark_of_the_books = refl
 
-schema : ◌≡◌ {A = ℕ} SCHEMA_VERSION 2
+schema : ◌≡◌ {A = ℕ} SCHEMA_VERSION 3
 schema = refl
 
 least_spelling : spelling (Least (record { gtin = OAT; days = 27 })) ≡ codes "LEAST\n09506000134352\n27"

@@ -15,6 +15,7 @@ without_least t = record {
   recall = t.recall;
   stock = t.stock;
   order = t.order;
+  urgent = t.urgent;
   line = t.line;
   staged = t.staged;
   reserved = t.reserved;
@@ -40,6 +41,28 @@ with_least t = record {
   recall = t.recall;
   stock = t.stock;
   order = t.order;
+  urgent = t.urgent;
+  line = t.line;
+  staged = t.staged;
+  reserved = t.reserved;
+  shipment = t.shipment;
+  shipline = t.shipline;
+  card = t.card;
+  repeat = t.repeat;
+}
+
+-- schema 2 has no table `urgents`: when it is made it has no rows
+abbrev pub without_urgents : Tables → Tables
+without_urgents t = record {
+  meta = t.meta;
+  item = t.item;
+  least = t.least;
+  bin = t.bin;
+  lot = t.lot;
+  recall = t.recall;
+  stock = t.stock;
+  order = t.order;
+  urgent = λ o. None;
   line = t.line;
   staged = t.staged;
   reserved = t.reserved;

@@ -10,7 +10,7 @@ use Rattle.commands.specs.declared.command.Picking.{Picking}
 use Rattle.commands.specs.declared.key.Key.{Key}
 use Rattle.commands.specs.declared.key.Key.TheVariants.{Plain, Line}
 use Rattle.commands.specs.declared.command.Command.{Command}
-use Rattle.commands.specs.declared.command.Command.TheVariants.{Item, Bin, Receive, Move, Count, Adjust, Order, Cancel, Pick, Unpick, Ship, Hold, Release, Recall, OpenDay, Least}
+use Rattle.commands.specs.declared.command.Command.TheVariants.{Item, Bin, Receive, Move, Count, Adjust, Order, Cancel, Pick, Unpick, Ship, Hold, Release, Recall, OpenDay, Least, Urgent}
 
 abbrev pub is_lot_id : LotId → Bool
 is_lot_id l = is_gtin l.gtin && is_lot_text l.lot
@@ -32,6 +32,7 @@ is_sound (Move m) = is_lot_id m.lot && is_name m.from && is_name m.to && is_qty 
 is_sound (Count c) = is_lot_id c.lot && is_name c.bin && is_counted c.qty
 is_sound (Adjust a) = is_lot_id a.lot && is_name a.bin && is_delta a.change
 is_sound (Order o) = is_name o.order && is_title o.customer && are_lines o.lines
+is_sound (Urgent o) = is_name o.order && is_title o.customer && are_lines o.lines
 is_sound (Cancel o) = is_name o
 is_sound (Pick p) = is_picking p
 is_sound (Unpick p) = is_picking p

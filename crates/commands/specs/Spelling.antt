@@ -9,7 +9,7 @@ use Rattle.commands.specs.declared.key.Key.TheVariants.{Plain, Line}
 use Rattle.commands.specs.declared.command.OrderLine.{OrderLine}
 use Rattle.commands.specs.declared.command.Picking.{Picking}
 use Rattle.commands.specs.declared.command.Command.{Command}
-use Rattle.commands.specs.declared.command.Command.TheVariants.{Item, Bin, Receive, Move, Count, Adjust, Order, Cancel, Pick, Unpick, Ship, Hold, Release, Recall, OpenDay, Least}
+use Rattle.commands.specs.declared.command.Command.TheVariants.{Item, Bin, Receive, Move, Count, Adjust, Order, Cancel, Pick, Unpick, Ship, Hold, Release, Recall, OpenDay, Least, Urgent}
 
 -- `K/` and the name, or `D/`, the delivery, `/` and the line
 abbrev pub key_text : Key → List ℕ
@@ -33,6 +33,7 @@ fields (Move m) = codes "MOVE" ∷ m.lot.gtin ∷ m.lot.lot ∷ m.from ∷ m.to 
 fields (Count c) = codes "COUNT" ∷ c.lot.gtin ∷ c.lot.lot ∷ c.bin ∷ decimal c.qty ∷ []
 fields (Adjust a) = codes "ADJUST" ∷ a.lot.gtin ∷ a.lot.lot ∷ a.bin ∷ signed_decimal a.change ∷ []
 fields (Order o) = codes "ORDER" ∷ o.order ∷ o.customer ∷ lines_fields o.lines
+fields (Urgent o) = codes "URGENT" ∷ o.order ∷ o.customer ∷ lines_fields o.lines
 fields (Cancel o) = codes "CANCEL" ∷ o ∷ []
 fields (Pick p) = codes "PICK" ∷ picking_fields p
 fields (Unpick p) = codes "UNPICK" ∷ picking_fields p

@@ -1,4 +1,4 @@
--- The fifteen tables of the books, each as a look-up by its primary key.
+-- The sixteen tables of the books, each as a look-up by its primary key.
 use Rattle.std.specs.Prelude.{ℕ, List, Option}
 use Rattle.values.specs.declared.lot.LotId.{LotId}
 use Rattle.commands.specs.declared.rows.MetaRow.{MetaRow}
@@ -9,6 +9,7 @@ use Rattle.commands.specs.declared.rows.LotRow.{LotRow}
 use Rattle.commands.specs.declared.rows.RecallRow.{RecallRow}
 use Rattle.commands.specs.declared.rows.StockRow.{StockRow}
 use Rattle.commands.specs.declared.rows.OrderRow.{OrderRow}
+use Rattle.commands.specs.declared.rows.UrgentRow.{UrgentRow}
 use Rattle.commands.specs.declared.rows.LineRow.{LineRow}
 use Rattle.commands.specs.declared.rows.StagedRow.{StagedRow}
 use Rattle.commands.specs.declared.rows.ReservedRow.{ReservedRow}
@@ -28,6 +29,7 @@ pub record Tables : Type 0 where
   pub recall : LotId → Option RecallRow
   pub stock : LotId → (bin : List ℕ) → Option StockRow
   pub order : (order : List ℕ) → Option OrderRow
+  pub urgent : (order : List ℕ) → Option UrgentRow
   pub line : (order gtin : List ℕ) → Option LineRow
   pub staged : (order : List ℕ) → LotId → Option StagedRow
   pub reserved : (order : List ℕ) → LotId → Option ReservedRow

@@ -2,6 +2,8 @@
 use Rattle.std.specs.Prelude.{◌≡◌, ℕ, List, [], ◌∷◌, codes, Option, Some, find, bytes_eq}
 use Rattle.commands.specs.declared.command.BinKind.{BinKind}
 use Rattle.commands.specs.declared.command.BinKind.TheVariants.{Store, Hold}
+use Rattle.commands.specs.declared.rows.OrderClass.{OrderClass}
+use Rattle.commands.specs.declared.rows.OrderClass.TheVariants.{Normal, Urgent}
 use Rattle.commands.specs.declared.rows.OrderState.{OrderState}
 use Rattle.commands.specs.declared.rows.OrderState.TheVariants.{Open, Done, Cancelled}
 use Rattle.commands.specs.declared.rows.CardKind.{CardKind}
@@ -12,6 +14,10 @@ use Rattle.commands.specs.declared.views.LotStatus.TheVariants.{Recalled, Held, 
 abbrev pub bin_kind_word : BinKind → List ℕ
 bin_kind_word Store = codes "STORE"
 bin_kind_word Hold = codes "HOLD"
+
+abbrev pub order_class_word : OrderClass → List ℕ
+order_class_word Normal = codes "NORMAL"
+order_class_word Urgent = codes "URGENT"
 
 abbrev pub order_state_word : OrderState → List ℕ
 order_state_word Open = codes "OPEN"

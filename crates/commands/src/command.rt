@@ -178,4 +178,6 @@ pub enum Command {
     OpenDay(BusinessDay),
     /// Says how many days the lots of an item must have left.
     Least(NewLeast),
+    /// Takes a customer's order that is served before those that are not urgent.
+    Urgent(NewOrder),
 }

@@ -64,7 +64,7 @@ pub fn every_command_is_sound(command: &Command)
             let _ = adjustment.bin.as_bytes();
             let _ = adjustment.change.change();
         }
-        Command::Order(order) => {
+        Command::Order(order) | Command::Urgent(order) => {
             let _ = order.order.as_bytes();
             let _ = order.customer.as_bytes();
             lines_are_sound(order.lines.as_slice());

@@ -30,8 +30,9 @@ pub use names::{Added, NamedOrder, Names, OrderStep};
 pub use refusal::Refusal;
 pub use replies::{ReplyField, reply};
 pub use rows::{
-    BinRow, CardKind, CardRow, ItemRow, LeastRow, LineRow, LotRow, MetaRow, OrderRow, OrderState,
-    RecallRow, RepeatRow, ReservedRow, ShiplineRow, ShipmentRow, StagedRow, StockRow,
+    BinRow, CardKind, CardRow, ItemRow, LeastRow, LineRow, LotRow, MetaRow, OrderClass, OrderRow,
+    OrderState, RecallRow, RepeatRow, ReservedRow, ShiplineRow, ShipmentRow, StagedRow, StockRow,
+    UrgentRow,
 };
 pub use short::Short;
 pub use sink::{Sink, Stop, feed};

@@ -34,4 +34,4 @@ pub const CARD_NOTE_MAX: usize = 25;
 pub const MARK: &str = "LOTSTOCK";
 
 /// The schema number in the table `meta`.
-pub const SCHEMA_VERSION: u64 = 2;
+pub const SCHEMA_VERSION: u64 = 3;

@@ -1,4 +1,4 @@
-// The rows of the fifteen tables of the books.
+// The rows of the sixteen tables of the books.
 
 use crate::limits::{CARD_NOTE_MAX, KEY_TEXT_MAX};
 use crate::{BinKind, LeastDays, Listed, Short};
@@ -64,6 +64,14 @@ pub struct StockRow {
     pub qty: u64,
 }
 
+/// When an order is served.
+#[derive(Clone, Copy)]
+pub enum OrderClass {
+    Normal,
+    /// Before all that are normal.
+    Urgent,
+}
+
 /// How an order stands.
 #[derive(Clone, Copy)]
 pub enum OrderState {
@@ -81,6 +89,14 @@ pub struct OrderRow {
     pub act: u64,
     pub customer: Title,
     pub state: OrderState,
+}
+
+/// A row of `urgents`: an urgent order.
+#[derive(Clone, Copy)]
+pub struct UrgentRow {
+    pub order: Name,
+    /// The act by which it was taken.
+    pub act: u64,
 }
 
 /// A row of `lines`: a line of an order.

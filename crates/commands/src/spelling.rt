@@ -38,6 +38,7 @@ pub fn spell(alloc: Global, command: &Command) -> Result<Vec<u8>, AllocError>
         Command::Recall(lot) => spell_lot(alloc, b"RECALL", lot),
         Command::OpenDay(day) => spell_day(alloc, *day),
         Command::Least(least) => spell_least(alloc, least),
+        Command::Urgent(order) => spell_urgent(alloc, order),
     }
 }
 
@@ -233,4 +234,16 @@ fn spell_least(alloc: Global, least: &NewLeast) -> Result<Vec<u8>, AllocError>
             number_text(u32::from(least.days.days())).as_bytes(),
         ],
     )
+}
+
+fn spell_urgent(alloc: Global, order: &NewOrder) -> Result<Vec<u8>, AllocError>
+    ensures { IfOk result (λ text. text.items ≡ spelling (Command.Urgent order.now)) }
+{
+    let mut text = joined(
+        alloc,
+        b"URGENT",
+        &[order.order.as_bytes(), order.customer.as_bytes()],
+    )?;
+    add_lines(&mut text, order.lines.as_slice())?;
+    Ok(text)
 }

@@ -1,6 +1,6 @@
 // The records that queries answer.
 
-use crate::{CardRow, ItemRow, LeastDays, Listed, OrderState};
+use crate::{CardRow, ItemRow, LeastDays, Listed, OrderClass, OrderState};
 use label::{BusinessDay, Day};
 use values::{Gtin, Lot, Name, Title};
 
@@ -83,6 +83,7 @@ pub struct LineView {
 /// An order.
 #[derive(Drop)]
 pub struct OrderView {
+    pub class: OrderClass,
     pub customer: Title,
     /// The lines, by GTIN.
     pub lines: Listed<LineView>,

@@ -1,9 +1,9 @@
 // The words of kinds and states, as tables, spellings and answers have them.
 
 ghost use Rattle.std.specs.Prelude.{◌≡◌};
-ghost use Rattle.commands.specs.Words.{bin_kind_word, bin_kind_of, order_state_word, order_state_of, card_kind_word, card_kind_of, lot_status_word, lot_status_of};
+ghost use Rattle.commands.specs.Words.{bin_kind_word, bin_kind_of, order_class_word, order_state_word, order_state_of, card_kind_word, card_kind_of, lot_status_word, lot_status_of};
 
-use crate::{BinKind, CardKind, LotStatus, OrderState};
+use crate::{BinKind, CardKind, LotStatus, OrderClass, OrderState};
 
 impl BinKind {
     /// `STORE` or `HOLD`.
@@ -27,6 +27,18 @@ impl BinKind {
             return Some(BinKind::Hold);
         }
         None
+    }
+}
+
+impl OrderClass {
+    /// `NORMAL` or `URGENT`.
+    pub fn word(self) -> &'static str
+        ensures { result.now ≡ order_class_word self }
+    {
+        match self {
+            OrderClass::Normal => "NORMAL",
+            OrderClass::Urgent => "URGENT",
+        }
     }
 }
 

@@ -34,6 +34,10 @@ module _ {X : Type 0} (same : X → X → Bool) where
   AllFound all [] = Unit {0}
   AllFound all (x ∷ xs) = (find (same x) all ≡ Some x) × AllFound all xs
 
+  pub found_kept : (keep : X → Bool) (all xs : List X) → AllFound all xs → AllFound all (filter keep xs)
+  found_kept keep all [] h = tt
+  found_kept keep all (x ∷ xs) h = elim (keep x) as (λ b. AllFound all (if b then x ∷ filter keep xs else filter keep xs)) [ true ↦ (h.0, found_kept keep all xs h.1) | false ↦ found_kept keep all xs h.1 ]
+
   module _ (own : (x : X) → same x x ≡ true) (turned : (x y : X) → same x y ≡ same y x) where
     found_behind : (new : X) (all xs : List X) → list_any (same new) xs ≡ false → AllFound all xs → AllFound (new ∷ all) xs
     found_behind new all [] fresh h = tt

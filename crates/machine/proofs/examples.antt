@@ -6,3 +6,4 @@ mod ExampleRecalls
 mod ExampleKeys
 mod ExampleLimits
 mod ExampleLeast
+mod ExampleUrgent

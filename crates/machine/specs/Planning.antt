@@ -1,5 +1,5 @@
 -- Balances by their names, demands, supplies and the plan of an item.
-use Rattle.std.specs.Prelude.{ℕ, ◌-◌, Bool, true, false, not, ◌&&◌, ◌||◌, ◌==◌, nat_lt, if◌then◌else◌, List, map, reverse, flat_map, filter, Option, Some, None, ℤ, int_lt}
+use Rattle.std.specs.Prelude.{ℕ, ◌-◌, Bool, true, false, not, ◌&&◌, ◌||◌, ◌==◌, nat_lt, if◌then◌else◌, List, ◌++◌, map, reverse, flat_map, filter, Option, Some, None, ℤ, int_lt}
 use Rattle.std.specs.List.{list_all}
 use Rattle.values.specs.Values.{same_text}
 use Rattle.values.specs.declared.lot.LotId.{LotId}
@@ -89,9 +89,16 @@ booking_of p l = record { order = p.order; act = p.act; customer = p.customer; i
 abbrev pub lines_of_item : List ℕ → Placed → List Booking
 lines_of_item g p = map (booking_of p) (filter (λ l. same_text g l.gtin) p.lines)
 
--- the bookings of an item in the order in which they are served: by the act number of their order
+abbrev pub is_urgent : Placed → Bool
+is_urgent p = p.urgent
+
+abbrev pub is_normal : Placed → Bool
+is_normal p = not p.urgent
+
+-- the bookings of an item in the order in which they are served: those of urgent orders by the act number of their order,
+-- then those of the others
 abbrev pub bookings : List Act → List ℕ → List Booking
-bookings acts g = reverse (flat_map (lines_of_item g) (orders acts))
+bookings acts g = reverse (flat_map (lines_of_item g) (filter is_urgent (orders acts))) ++ reverse (flat_map (lines_of_item g) (filter is_normal (orders acts)))
 
 -- ordered less staged less shipped, or 0 if cancelled
 abbrev pub need : List Act → List Posting → Booking → ℕ

@@ -5,7 +5,7 @@ use Rattle.commands.specs.Replies.{field_text, further_text, reply_text}
 use Rattle.commands.specs.declared.replies.ReplyField.{ReplyField}
 use Rattle.commands.specs.declared.replies.ReplyField.TheVariants.{ChangedBy, Returned, ShipmentNumber, UnitsShort}
 use Rattle.commands.specs.declared.command.Command.{Command}
-use Rattle.commands.specs.declared.command.Command.TheVariants.{Count, Adjust, Order, Ship, Hold, Recall, OpenDay, Least}
+use Rattle.commands.specs.declared.command.Command.TheVariants.{Count, Adjust, Order, Ship, Hold, Recall, OpenDay, Least, Urgent}
 use Rattle.machine.specs.Acts.{Act, next_number}
 use Rattle.machine.specs.Standing.{shipments_so_far}
 use Rattle.machine.specs.Ledger.{postings_of}
@@ -32,6 +32,7 @@ abbrev pub further : ℤ → Act → List Act → Command → Option ReplyField
 further first act before (Count c) = Some (ChangedBy (pos c.qty -ℤ pos (in_bin first before c.bin c.lot)))
 further first act before (Adjust a) = Some (ChangedBy a.change)
 further first act before (Order o) = Some (UnitsShort (short_of_order first (act ∷ before) o.order))
+further first act before (Urgent o) = Some (UnitsShort (short_of_order first (act ∷ before) o.order))
 further first act before (Ship o) = Some (ShipmentNumber (shipments_so_far first (act ∷ before)))
 further first act before (Hold l) = Some (Returned (units_returned first act before))
 further first act before (Recall l) = Some (Returned (units_returned first act before))

@@ -1,15 +1,16 @@
 -- Which commands the books of a schema have in them.
 use Rattle.std.specs.Prelude.{◌≡◌, ℕ, Bool, true, nat_le, List, ℤ}
 use Rattle.std.specs.List.{list_all}
-use Rattle.commands.specs.Schemas.{without_least, with_least}
+use Rattle.commands.specs.Schemas.{without_least, with_least, without_urgents}
 use Rattle.commands.specs.declared.command.Command.{Command}
-use Rattle.commands.specs.declared.command.Command.TheVariants.{Least}
+use Rattle.commands.specs.declared.command.Command.TheVariants.{Least, Urgent}
 use Rattle.machine.specs.Acts.{Act}
 use Rattle.machine.specs.Tables.{tables_of}
 
 -- the schema that brought the command
 abbrev pub schema_of : Command → ℕ
 schema_of (Least l) = 2
+schema_of (Urgent o) = 3
 schema_of _ = 1
 
 -- no command is of a newer schema
@@ -19,3 +20,7 @@ are_of_schema n acts = list_all (λ act. nat_le (schema_of act.command) n) acts
 -- books of schema 1 become those of the same acts
 abbrev pub OlderBooksGoOn : Type 0
 OlderBooksGoOn = (first : ℤ) (acts : List Act) → are_of_schema 1 acts ≡ true → with_least (without_least (tables_of first acts)) ≡ tables_of first acts
+
+-- and so do those of schema 2, whose new table has no rows
+abbrev pub SecondBooksGoOn : Type 0
+SecondBooksGoOn = (first : ℤ) (acts : List Act) → are_of_schema 2 acts ≡ true → without_urgents (tables_of first acts) ≡ tables_of first acts

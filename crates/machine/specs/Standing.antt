@@ -11,7 +11,7 @@ use Rattle.commands.specs.declared.command.NewLeast.{NewLeast}
 use Rattle.commands.specs.declared.command.Receipt.{Receipt}
 use Rattle.commands.specs.declared.command.OrderLine.{OrderLine}
 use Rattle.commands.specs.declared.command.Command.{Command}
-use Rattle.commands.specs.declared.command.Command.TheVariants.{Item, Bin, Receive, Order, Cancel, Ship, Hold, Release, Recall, OpenDay, Least}
+use Rattle.commands.specs.declared.command.Command.TheVariants.{Item, Bin, Receive, Order, Cancel, Ship, Hold, Release, Recall, OpenDay, Least, Urgent}
 use Rattle.commands.specs.declared.rows.ShipmentRow.{ShipmentRow}
 use Rattle.machine.specs.Acts.{Act, gathered, next_number}
 use Rattle.machine.specs.Postings.{is_lot, of_item}
@@ -184,9 +184,11 @@ pub record Placed : Type 0 where
   pub act : ℕ
   pub customer : List ℕ
   pub lines : List OrderLine
+  pub urgent : Bool
 
 abbrev pub order_in : ℕ → Command → Option Placed
-order_in n (Order o) = Some (record { order = o.order; act = n; customer = o.customer; lines = o.lines })
+order_in n (Order o) = Some (record { order = o.order; act = n; customer = o.customer; lines = o.lines; urgent = false })
+order_in n (Urgent o) = Some (record { order = o.order; act = n; customer = o.customer; lines = o.lines; urgent = true })
 order_in n _ = None
 
 abbrev pub orders : List Act → List Placed

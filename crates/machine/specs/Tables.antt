@@ -12,6 +12,7 @@ use Rattle.commands.specs.declared.rows.LotRow.{LotRow}
 use Rattle.commands.specs.declared.rows.RecallRow.{RecallRow}
 use Rattle.commands.specs.declared.rows.StockRow.{StockRow}
 use Rattle.commands.specs.declared.rows.OrderRow.{OrderRow}
+use Rattle.commands.specs.declared.rows.UrgentRow.{UrgentRow}
 use Rattle.commands.specs.declared.rows.LineRow.{LineRow}
 use Rattle.commands.specs.declared.rows.StagedRow.{StagedRow}
 use Rattle.commands.specs.declared.rows.ReservedRow.{ReservedRow}
@@ -21,7 +22,7 @@ use Rattle.commands.specs.declared.rows.CardRow.{CardRow}
 use Rattle.commands.specs.declared.rows.RepeatRow.{RepeatRow}
 use Rattle.machine.specs.Acts.{Act, next_number}
 use Rattle.machine.specs.Postings.{balance, is_lot, is_shipment}
-use Rattle.machine.specs.Standing.{item_named, least_days, bin_named, lot_known, is_held, recalling, order_named, lines_of, shipments, shipments_so_far, today}
+use Rattle.machine.specs.Standing.{Placed, item_named, least_days, bin_named, lot_known, is_held, recalling, order_named, lines_of, shipments, shipments_so_far, today}
 use Rattle.machine.specs.Ledger.{postings}
 use Rattle.machine.specs.Planning.{in_bin, staged_of_lot, shipped_of, reserved, order_state}
 use Rattle.machine.specs.Cards.{cards}
@@ -54,6 +55,14 @@ stock_row first acts l b = let q = in_bin first acts b l in if_any q (record { l
 
 abbrev pub order_row : ℤ → List Act → List ℕ → Option OrderRow
 order_row first acts o = option_map (λ p. record { order = p.order; act = p.act; customer = p.customer; state = order_state first acts p.order }) (order_named acts o)
+
+abbrev pub if_urgent : Option Placed → Option UrgentRow
+if_urgent None = None
+if_urgent (Some p) = if p.urgent then Some (record { order = p.order; act = p.act }) else None
+
+-- each urgent order has one
+abbrev pub urgent_row : List Act → List ℕ → Option UrgentRow
+urgent_row acts o = if_urgent (order_named acts o)
 
 abbrev pub line_row : ℤ → List Act → List ℕ → List ℕ → Option LineRow
 line_row first acts o g = option_map (λ l. record { order = o; gtin = g; ordered = l.qty; shipped = shipped_of first acts o g }) (find (λ l. same_text g l.gtin) (lines_of acts o))
@@ -94,6 +103,7 @@ tables_of first acts = record {
   recall = recall_row acts;
   stock = stock_row first acts;
   order = order_row first acts;
+  urgent = urgent_row acts;
   line = line_row first acts;
   staged = staged_row first acts;
   reserved = reserved_row first acts;

@@ -4,7 +4,7 @@ use Rattle.std.specs.List.{list_any}
 use Rattle.values.specs.Values.{same_text}
 use Rattle.values.specs.declared.lot.LotId.{LotId}
 use Rattle.commands.specs.declared.command.Command.{Command}
-use Rattle.commands.specs.declared.command.Command.TheVariants.{Item, Bin, Receive, Move, Count, Adjust, Order, Cancel, Pick, Unpick, Ship, Hold, Release, Recall, OpenDay, Least}
+use Rattle.commands.specs.declared.command.Command.TheVariants.{Item, Bin, Receive, Move, Count, Adjust, Order, Cancel, Pick, Unpick, Ship, Hold, Release, Recall, OpenDay, Least, Urgent}
 use Rattle.machine.specs.Acts.{Act}
 use Rattle.machine.specs.Postings.{of_item}
 use Rattle.machine.specs.Standing.{has_line, lots_of, orders, is_shippable}
@@ -24,6 +24,7 @@ touches first act before (Move m) g = of_item g m.lot
 touches first act before (Count c) g = of_item g c.lot
 touches first act before (Adjust a) g = of_item g a.lot
 touches first act before (Order o) g = list_any (λ l. same_text g l.gtin) o.lines
+touches first act before (Urgent o) g = list_any (λ l. same_text g l.gtin) o.lines
 touches first act before (Cancel o) g = has_line before o g
 touches first act before (Pick p) g = of_item g p.lot
 touches first act before (Unpick p) g = of_item g p.lot

@@ -5,10 +5,11 @@ use Rattle.values.specs.Values.{same_text}
 use Rattle.values.specs.declared.lot.LotId.{LotId}
 use Rattle.commands.specs.declared.limits.TheConstants.{ITEMS_MAX, BINS_MAX, UNITS_MAX, OPEN_MAX, ACTS_MAX}
 use Rattle.commands.specs.declared.command.OrderLine.{OrderLine}
+use Rattle.commands.specs.declared.command.NewOrder.{NewOrder}
 use Rattle.commands.specs.declared.refusal.Refusal.{Refusal}
 use Rattle.commands.specs.declared.refusal.Refusal.TheVariants.{ActsFull, UnknownItem, UnknownBin, UnknownLot, UnknownOrder, NoSuchLine, ItemExists, BinExists, OrderExists, ItemTwice, OtherExpiry, LotRecalled, LotExpired, TooFewDays, LotHeld, LotNotHeld, AlreadyRecalled, NotStoreBin, OrderClosed, StillStaged, NothingStaged, DayNotLater, NotInBin, OverReserved, OverStaged, SameBin, OverUnits, OverOrdered}
 use Rattle.commands.specs.declared.command.Command.{Command}
-use Rattle.commands.specs.declared.command.Command.TheVariants.{Item, Bin, Receive, Move, Count, Adjust, Order, Cancel, Pick, Unpick, Ship, Hold, Release, Recall, OpenDay, Least}
+use Rattle.commands.specs.declared.command.Command.TheVariants.{Item, Bin, Receive, Move, Count, Adjust, Order, Cancel, Pick, Unpick, Ship, Hold, Release, Recall, OpenDay, Least, Urgent}
 use Rattle.machine.specs.Acts.{Act}
 use Rattle.machine.specs.Standing.{KnownLot, items, has_item, bins, has_bin, is_store_bin, lot_known, has_lot, is_held, is_recalled, is_expired, is_short_dated, least_days, today, has_order, has_line}
 use Rattle.machine.specs.Planning.{in_bin, staged_of_lot, staged_for_order, units_in_house, is_open, reserved, open_units}
@@ -84,6 +85,13 @@ module _ (first : ℤ) (acts : List Act) where
   abbrev pub over_units : List ℕ → ℕ → ℕ → Bool × Refusal
   over_units g more fewer = (nat_lt (UNITS_MAX + fewer) (units_in_house first acts g + more), OverUnits)
 
+  -- those of an order, urgent or not
+  abbrev pub ordering : NewOrder → Judgement
+  ordering o =
+      (list_any (λ l. not (has_item acts l.gtin)) o.lines, UnknownItem)
+      ∷ (has_order acts o.order, OrderExists) ∷ (names_item_twice o.lines, ItemTwice)
+      ∷ (list_any (λ l. nat_lt OPEN_MAX (open_units first acts l.gtin + l.qty)) o.lines, OverOrdered) ∷ []
+
   -- the conditions of each command, in the order in which they are judged
   abbrev pub judgement : Command → Judgement
   judgement (Item i) = (has_item acts i.gtin || nat_le ITEMS_MAX (length (items acts)), ItemExists) ∷ []
@@ -103,10 +111,8 @@ module _ (first : ℤ) (acts : List Act) where
   judgement (Adjust a) =
       unknown_item a.lot.gtin ∷ unknown_bin a.bin ∷ unknown_lot a.lot
       ∷ not_in_bin a.bin a.lot (taken_off a.change) ∷ over_units a.lot.gtin (put_on a.change) (taken_off a.change) ∷ []
-  judgement (Order o) =
-      (list_any (λ l. not (has_item acts l.gtin)) o.lines, UnknownItem)
-      ∷ (has_order acts o.order, OrderExists) ∷ (names_item_twice o.lines, ItemTwice)
-      ∷ (list_any (λ l. nat_lt OPEN_MAX (open_units first acts l.gtin + l.qty)) o.lines, OverOrdered) ∷ []
+  judgement (Order o) = ordering o
+  judgement (Urgent o) = ordering o
   judgement (Cancel o) =
       unknown_order o ∷ order_closed o ∷ (not (staged_for_order first acts o == 0), StillStaged) ∷ []
   judgement (Pick p) =

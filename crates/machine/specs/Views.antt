@@ -16,6 +16,7 @@ use Rattle.commands.specs.declared.command.OrderLine.{OrderLine}
 use Rattle.commands.specs.declared.views.ReservedLot.{ReservedLot}
 use Rattle.commands.specs.declared.views.StagedLot.{StagedLot}
 use Rattle.commands.specs.declared.views.LineView.{LineView}
+use Rattle.commands.specs.declared.rows.OrderClass.TheVariants.{Normal, Urgent}
 use Rattle.commands.specs.declared.views.OrderView.{OrderView}
 use Rattle.commands.specs.declared.views.LotStatus.{LotStatus}
 use Rattle.commands.specs.declared.views.LotStatus.TheVariants.{Recalled, Held, Expired, ShortDated, Free}
@@ -146,6 +147,7 @@ line_view first acts o l = record {
 -- lines in the order of their items
 abbrev pub order_view : ℤ → List Act → Placed → OrderView
 order_view first acts p = record {
+  class = if p.urgent then Urgent else Normal;
   customer = p.customer;
   lines = map (line_view first acts p.order) (in_order (λ l m. text_before l.gtin m.gtin) p.lines);
   order = p.order;

@@ -3,6 +3,7 @@ use Rattle.std.specs.Prelude.{◌≡◌, [], ◌∷◌, codes, refl, pos, negsuc
 use Rattle.std.specs.Fmt.{digits}
 use Rattle.commands.specs.declared.command.Command.TheVariants.{Count}
 use Rattle.commands.specs.declared.refusal.Refusal.TheVariants.{LotExpired}
+use Rattle.commands.specs.declared.rows.OrderClass.TheVariants.{Normal}
 use Rattle.commands.specs.declared.rows.OrderState.TheVariants.{Open}
 use Rattle.commands.specs.declared.views.LotStatus.TheVariants.{Free}
 use Rattle.commands.specs.declared.rows.CardKind.TheVariants.{Receipt, WriteOff}
@@ -58,6 +59,7 @@ then_no_order_is_short = refl
 
 the_first_order_is_shown : order_shown may_4 with_early_lot S1
     ≡ Ok (record {
+      class = Normal;
       customer = codes "Corner Shop";
       lines = record {
         gtin = OATS;

@@ -15,7 +15,7 @@ use Rattle.commands.specs.declared.command.NewOrder.{NewOrder}
 use Rattle.commands.specs.declared.command.Picking.{Picking}
 use Rattle.commands.specs.declared.command.NewLeast.{NewLeast}
 use Rattle.commands.specs.declared.command.Command.{Command}
-use Rattle.commands.specs.declared.command.Command.TheVariants.{Item, Bin, Receive, Move, Count, Adjust, Order, Cancel, Pick, Unpick, Ship, Hold, Release, Recall, OpenDay, Least}
+use Rattle.commands.specs.declared.command.Command.TheVariants.{Item, Bin, Receive, Move, Count, Adjust, Order, Cancel, Pick, Unpick, Ship, Hold, Release, Recall, OpenDay, Least, Urgent}
 use Rattle.machine.specs.Acts.{Act}
 use Rattle.machine.specs.Standing.{items, has_item, bins, has_bin, is_store_bin, lot_known, has_lot, is_held, is_recalled, is_expired, today, least_days, has_order, has_line}
 use Rattle.machine.specs.Planning.{in_bin, staged_of_lot, staged_for_order, units_in_house, is_open, reserved, open_units}
@@ -141,6 +141,11 @@ module _ (first : ℤ) (acts : List Act) where
   pub order_accepted : (o : NewOrder) → verdict first acts (Order o) ≡ None → OrderAccepted o
   order_accepted o ok =
       let h = passed first acts (Order o) ok in
+      record { known = h.1.0; new = h.1.1.0; single = h.1.1.1.0; fits = h.1.1.1.1.0 }
+
+  pub urgent_accepted : (o : NewOrder) → verdict first acts (Urgent o) ≡ None → OrderAccepted o
+  urgent_accepted o ok =
+      let h = passed first acts (Urgent o) ok in
       record { known = h.1.0; new = h.1.1.0; single = h.1.1.1.0; fits = h.1.1.1.1.0 }
 
   pub record CancelAccepted (o : List ℕ) : Type 0 where

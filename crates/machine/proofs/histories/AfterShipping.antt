@@ -1,6 +1,6 @@
 -- After an order is shipped: its stages are empty, what was staged is in the shipment, and no plan has changed.
 use Rattle.std.proofs.Common.{◌≡◌, ℕ, ◌+◌, ◌-◌, Bool, true, false, ◌&&◌, List, [], ◌∷◌, ◌++◌, refl, ap, sym, ◌∙◌, arith}
-use Rattle.std.specs.Prelude.{◌==◌, if◌then◌else◌, filter, map, flat_map, ℤ}
+use Rattle.std.specs.Prelude.{◌==◌, if◌then◌else◌, filter, map, flat_map, reverse, ℤ}
 use Rattle.std.specs.List.{list_any}
 use Rattle.values.specs.Values.{same_text}
 use Rattle.values.specs.declared.lot.LotId.{LotId}
@@ -13,7 +13,7 @@ use Rattle.machine.specs.Acts.{Act, next_number}
 use Rattle.machine.specs.Postings.{Place, Supplier, InBin, Stage, Shipped, WriteOff, Posting, balance, in_house, is_bin, is_stage, is_shipment, is_lot, of_item}
 use Rattle.machine.specs.Standing.{KnownLot, Placed, lots, orders, lot_known, order_named, is_cancelled, shipments_so_far}
 use Rattle.machine.specs.Ledger.{cleared, shipped_off, postings}
-use Rattle.machine.specs.Planning.{Booking, booking_of, lines_of_item, in_bin, in_store, staged_of_lot, item_postings, shipped_of, staged, shipped, need, demand_of, demands, supplies, shippable_lots, plan, reserved, reserved_of}
+use Rattle.machine.specs.Planning.{is_urgent, is_normal, Booking, booking_of, lines_of_item, in_bin, in_store, staged_of_lot, item_postings, shipped_of, staged, shipped, need, demand_of, demands, supplies, shippable_lots, plan, reserved, reserved_of}
 use Rattle.machine.specs.Cards.{lot_units_in_house}
 use Rattle.machine.specs.Once.{IsHistory}
 use Rattle.machine.proofs.Mapping.{map_reversed, map_appended}
@@ -162,7 +162,12 @@ module _ (first : ℤ) (acts : List Act) (key : Key) (o : List ℕ) (next : IsHi
       ∙ sym (map_appended (demand_before g) (lines_of_item g p) (flat_map (lines_of_item g) os))
 
   demands_after : (g : List ℕ) → demands first after g ≡ demands first acts g
-  demands_after g = map_reversed (demand_after g) (demand_before g) (flat_map (lines_of_item g) (orders acts)) (order_demands g (orders acts))
+  demands_after g =
+      let ones = flat_map (lines_of_item g) (filter is_urgent (orders acts)) in
+      let others = flat_map (lines_of_item g) (filter is_normal (orders acts)) in
+      let same_ones = map_reversed (demand_after g) (demand_before g) ones (order_demands g (filter is_urgent (orders acts))) in
+      let same_others = map_reversed (demand_after g) (demand_before g) others (order_demands g (filter is_normal (orders acts))) in
+      map_appended (demand_after g) (reverse ones) (reverse others) ∙ (λ i. same_ones i ++ same_others i) ∙ sym (map_appended (demand_before g) (reverse ones) (reverse others))
 
   unseen_by : (w : Cells) → ((l : LotId) → w (Shipped number o) l ≡ false) → ((l : LotId) → w (Stage o) l ≡ false) → (ks : List KnownLot) → Unseen w (shipped_off (next_number acts) number o ks ps)
   unseen_by w e f [] = tt

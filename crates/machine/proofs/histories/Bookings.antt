@@ -128,31 +128,6 @@ module _ (acts : List Act) (ps : List Posting) where
   total_turned f [] = refl
   total_turned f (b ∷ bs) = ap (plan_total f) (turned_cons b bs) ∙ omega (arith, total_append f (turned bs) (demand_of acts ps b ∷ []), total_turned f bs)
 
--- numbers in their order
-numbers : IsOrder nat_lt (λ a b. a == b)
-numbers = record {
-  own = λ a. itself a;
-  apart = λ a b h. unequal_below a b (ltb-true a b h);
-  apart_back = λ a b h. unequal_above a b (ltb-true a b h);
-  further = λ a b c h k. further a b c (ltb-true a b h) (ltb-true b c k);
-  one = λ a b h k. one a b (ltb-false a b h) (ltb-false b a k);
-}
-  where
-    itself : (a : ℕ) → (a == a) ≡ true
-    itself a = eq-eqb a a refl
-
-    further : (a b c : ℕ) → a < b → b < c → nat_lt a c ≡ true
-    further a b c h k = lt-ltb a c (omega arith)
-
-    one : (a b : ℕ) → b ≤ a → a ≤ b → a ≡ b
-    one a b h k = omega arith
-
--- the demands of an item rise by number
-pub demands_rise : (first : ℤ) (acts : List Act) (g : List ℕ) → IsHistory first acts → RisingDemands (demands first acts g)
-demands_rise first acts g history =
-    let n = orders_numbered acts in
-    rising_turned acts (item_postings first acts g) (flat_map (lines_of_item g) (orders acts)) (are_lower g (orders acts) (orders_single first acts history) n.falling)
-
 total_over : (f : Booking → ℕ) (bs cs : List Booking) → total f (bs ++ cs) ≡ total f bs + total f cs
 total_over f [] cs = omega arith
 total_over f (b ∷ bs) cs = omega (arith, total_over f bs cs)
@@ -160,16 +135,3 @@ total_over f (b ∷ bs) cs = omega (arith, total_over f bs cs)
 pub total_flat : (f : Booking → ℕ) (g : List ℕ) (os : List Placed) → total f (flat_map (lines_of_item g) os) ≡ total (λ p. total f (lines_of_item g p)) os
 total_flat f g [] = refl
 total_flat f g (p ∷ os) = omega (arith, total_over f (lines_of_item g p) (flat_map (lines_of_item g) os), total_flat f g os)
-
--- what is wanted under a number, order by order
-pub demands_told : (first : ℤ) (acts : List Act) (g : List ℕ) (n : ℕ)
-    → wanted_by n (demands first acts g) ≡ total (λ p. total (λ b. if n == b.act then need acts (item_postings first acts g) b else 0) (lines_of_item g p)) (orders acts)
-demands_told first acts g n =
-    total_turned acts (item_postings first acts g) (λ d. if n == d.booking then d.need else 0) (flat_map (lines_of_item g) (orders acts))
-    ∙ total_flat (λ b. if n == b.act then need acts (item_postings first acts g) b else 0) g (orders acts)
-
--- demands that rise and want the same under each number make the same plan
-pub same_wanted : (first : ℤ) (acts : List Act) (g : List ℕ) → IsHistory first acts → (ds : List Demand) → RisingDemands ds
-    → ((n : ℕ) → wanted_by n ds ≡ wanted_by n (demands first acts g)) → wanted ds ≡ wanted (demands first acts g)
-same_wanted first acts g history ds rise told =
-    same_non_zero nat_lt (λ a b. a == b) (λ d. d.booking) (λ d. d.need) numbers (λ c d e f. (λ i. record { booking = e i; need = f i })) ds (demands first acts g) rise (demands_rise first acts g history) told

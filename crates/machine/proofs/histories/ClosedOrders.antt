@@ -8,7 +8,7 @@ use Rattle.values.specs.declared.lot.LotId.{LotId}
 use Rattle.commands.specs.declared.key.Key.{Key}
 use Rattle.commands.specs.declared.command.OrderLine.{OrderLine}
 use Rattle.commands.specs.declared.command.Command.{Command}
-use Rattle.commands.specs.declared.command.Command.TheVariants.{Item, Bin, Receive, Move, Count, Adjust, Order, Cancel, Pick, Unpick, Ship, Hold, Release, Recall, OpenDay, Least}
+use Rattle.commands.specs.declared.command.Command.TheVariants.{Item, Bin, Receive, Move, Count, Adjust, Order, Cancel, Pick, Unpick, Ship, Hold, Release, Recall, OpenDay, Least, Urgent}
 use Rattle.commands.specs.declared.rows.OrderState.TheVariants.{Open, Done, Cancelled}
 use Rattle.machine.specs.Acts.{Act, next_number}
 use Rattle.machine.specs.Postings.{Place, Supplier, InBin, Stage, Shipped, WriteOff, Posting, balance, is_stage, is_shipped_to, is_lot, any_lot, of_item}
@@ -19,7 +19,7 @@ use Rattle.machine.specs.Verdict.{verdict, names_item_twice}
 use Rattle.machine.specs.Once.{IsHistory}
 use Rattle.machine.specs.Laws.{ClosedOrdersAreEmpty}
 use Rattle.machine.proofs.Tests.{same_text_is, is_lot_item, and_both}
-use Rattle.machine.proofs.histories.Accepted.{order_accepted, cancel_accepted, pick_accepted}
+use Rattle.machine.proofs.histories.Accepted.{order_accepted, urgent_accepted, cancel_accepted, pick_accepted}
 use Rattle.machine.proofs.histories.Cells.{Cells, holds, Inner, Legal, IsPart, without, stage_cell, inner_stage, holds_split}
 use Rattle.machine.proofs.histories.LegalHistories.{legal_history}
 use Rattle.machine.proofs.histories.ItemBalances.{balance-of_item}
@@ -88,6 +88,7 @@ module _ (first : ℤ) (key : Key) (before : List Act) (o : List ℕ) (h : is_ca
   cancelled_after (Item i) ok e = h e
   cancelled_after (Bin b) ok e = h e
   cancelled_after (Order n) ok e = h e
+  cancelled_after (Urgent n) ok e = h e
   cancelled_after (Release l) ok e = h e
 
 pub cancelled_is_unstaged : (first : ℤ) (acts : List Act) → IsHistory first acts → (o : List ℕ) → is_cancelled acts o ≡ true → staged_for_order first acts o ≡ 0
@@ -209,8 +210,14 @@ ordered_grows first act before ok o g = by_command act.command ok
     by_command : (c : Command) → verdict first before c ≡ None → ordered_of before o g ≤ ordered_of (record { key = act.key; command = c } ∷ before) o g
     by_command (Order n) fine =
         elim (same_text o n.order) as (λ b. same_text o n.order ≡ b
-        → ordered_of before o g ≤ line_qty (find (λ l. same_text g l.gtin) (lines_placed (if b then Some (record { order = n.order; act = next_number before; customer = n.customer; lines = n.lines }) else order_named before o)))) [
+        → ordered_of before o g ≤ line_qty (find (λ l. same_text g l.gtin) (lines_placed (if b then Some (record { order = n.order; act = next_number before; customer = n.customer; lines = n.lines; urgent = false }) else order_named before o)))) [
           | true ↦ λ t. omega (arith, none_named (order_named before o) (ap (λ (x : List ℕ). has_order before x) (same_text_is o n.order t) ∙ (order_accepted first before n fine).new))
+          | false ↦ λ t. same_line
+        ] refl
+    by_command (Urgent n) fine =
+        elim (same_text o n.order) as (λ b. same_text o n.order ≡ b
+        → ordered_of before o g ≤ line_qty (find (λ l. same_text g l.gtin) (lines_placed (if b then Some (record { order = n.order; act = next_number before; customer = n.customer; lines = n.lines; urgent = true }) else order_named before o)))) [
+          | true ↦ λ t. omega (arith, none_named (order_named before o) (ap (λ (x : List ℕ). has_order before x) (same_text_is o n.order t) ∙ (urgent_accepted first before n fine).new))
           | false ↦ λ t. same_line
         ] refl
     by_command _ fine = same_line
@@ -258,6 +265,7 @@ module _ (first : ℤ) (key : Key) (before : List Act) (history : IsHistory firs
   served_after (Item i) ok = h
   served_after (Bin b) ok = h
   served_after (Order n) ok = h
+  served_after (Urgent n) ok = h
   served_after (Cancel u) ok = h
   served_after (Release l) ok = h
 

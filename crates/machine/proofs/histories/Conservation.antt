@@ -4,7 +4,7 @@ use Prim.Native.Nat.{zero}
 use Rattle.std.specs.Prelude.{◌==◌, if◌then◌else◌, flat_map, ℤ, pos, negsuc, neg_ℤ, unsigned_abs}
 use Rattle.values.specs.declared.lot.LotId.{LotId}
 use Rattle.commands.specs.declared.command.Command.{Command}
-use Rattle.commands.specs.declared.command.Command.TheVariants.{Item, Bin, Receive, Move, Count, Adjust, Order, Cancel, Pick, Unpick, Ship, Hold, Release, Recall, OpenDay, Least}
+use Rattle.commands.specs.declared.command.Command.TheVariants.{Item, Bin, Receive, Move, Count, Adjust, Order, Cancel, Pick, Unpick, Ship, Hold, Release, Recall, OpenDay, Least, Urgent}
 use Rattle.commands.specs.declared.rows.CardKind.{CardKind}
 use Rattle.commands.specs.declared.rows.CardKind.TheVariants.{Receipt, WriteOn, WriteOff as WrittenOff}
 use Rattle.commands.specs.declared.rows.CardRow.{CardRow}
@@ -78,6 +78,7 @@ ways_posted first act before ps (OpenDay day) = ways_returned (next_number befor
 ways_posted first act before ps (Item i) = tt
 ways_posted first act before ps (Bin b) = tt
 ways_posted first act before ps (Order o) = tt
+ways_posted first act before ps (Urgent o) = tt
 ways_posted first act before ps (Cancel o) = tt
 ways_posted first act before ps (Release l) = tt
 

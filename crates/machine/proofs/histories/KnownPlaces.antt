@@ -9,7 +9,7 @@ use Rattle.commands.specs.declared.key.Key.{Key}
 use Rattle.commands.specs.declared.command.NewBin.{NewBin}
 use Rattle.commands.specs.declared.command.Receipt.{Receipt}
 use Rattle.commands.specs.declared.command.Command.{Command}
-use Rattle.commands.specs.declared.command.Command.TheVariants.{Item, Bin, Receive, Move, Count, Adjust, Order, Cancel, Pick, Unpick, Ship, Hold, Release, Recall, OpenDay, Least}
+use Rattle.commands.specs.declared.command.Command.TheVariants.{Item, Bin, Receive, Move, Count, Adjust, Order, Cancel, Pick, Unpick, Ship, Hold, Release, Recall, OpenDay, Least, Urgent}
 use Rattle.commands.specs.declared.rows.ShipmentRow.{ShipmentRow}
 use Rattle.machine.specs.Acts.{Act, next_number, gathered}
 use Rattle.machine.specs.Postings.{Place, Supplier, InBin, Stage, Shipped, WriteOff, Posting, balance, is_bin, is_stage, is_lot, is_shipment}
@@ -18,7 +18,7 @@ use Rattle.machine.specs.Ledger.{posting, correction, written, cleared, shipped_
 use Rattle.machine.specs.Verdict.{verdict}
 use Rattle.machine.specs.Once.{IsHistory}
 use Rattle.machine.proofs.Tests.{same_text_is, is_lot_refl, is_lot_is, and_both, and_later_false}
-use Rattle.machine.proofs.histories.Accepted.{receive_accepted, move_accepted, count_accepted, adjust_accepted, pick_accepted, unpick_accepted, order_accepted}
+use Rattle.machine.proofs.histories.Accepted.{receive_accepted, move_accepted, count_accepted, adjust_accepted, pick_accepted, unpick_accepted, order_accepted, urgent_accepted}
 use Rattle.machine.proofs.histories.Cells.{Cells, into, holds}
 
 abbrev pub has_shipment : ℤ → List Act → ℕ → Bool
@@ -85,9 +85,17 @@ module _ (first : ℤ) (act : Act) (before : List Act) (ok : verdict first befor
       by_command : (c : Command) → verdict first before c ≡ None → has_line (record { key = act.key; command = c } ∷ before) o g ≡ true
       by_command (Order n) fine =
           elim (same_text o n.order) as (λ b. same_text o n.order ≡ b
-          → list_any (λ l. same_text g l.gtin) (lines_placed (if b then Some (record { order = n.order; act = next_number before; customer = n.customer; lines = n.lines }) else order_named before o)) ≡ true) [
+          → list_any (λ l. same_text g l.gtin) (lines_placed (if b then Some (record { order = n.order; act = next_number before; customer = n.customer; lines = n.lines; urgent = false }) else order_named before o)) ≡ true) [
             | true ↦ λ e.
                 let f : true ≡ false = sym (line_known before o g h) ∙ ap (λ (x : List ℕ). has_order before x) (same_text_is o n.order e) ∙ (order_accepted first before n fine).new in
+                cc
+            | false ↦ λ e. h
+          ] refl
+      by_command (Urgent n) fine =
+          elim (same_text o n.order) as (λ b. same_text o n.order ≡ b
+          → list_any (λ l. same_text g l.gtin) (lines_placed (if b then Some (record { order = n.order; act = next_number before; customer = n.customer; lines = n.lines; urgent = true }) else order_named before o)) ≡ true) [
+            | true ↦ λ e.
+                let f : true ≡ false = sym (line_known before o g h) ∙ ap (λ (x : List ℕ). has_order before x) (same_text_is o n.order e) ∙ (urgent_accepted first before n fine).new in
                 cc
             | false ↦ λ e. h
           ] refl
@@ -266,6 +274,7 @@ known_posted first key before (Least l) ok known = known_returned first (record 
 known_posted first key before (Item i) ok known = tt
 known_posted first key before (Bin b) ok known = tt
 known_posted first key before (Order o) ok known = tt
+known_posted first key before (Urgent o) ok known = tt
 known_posted first key before (Cancel o) ok known = tt
 known_posted first key before (Release l) ok known = tt
 

@@ -10,11 +10,11 @@ use Rattle.commands.specs.declared.key.Key.{Key}
 use Rattle.commands.specs.declared.command.NewItem.{NewItem}
 use Rattle.commands.specs.declared.command.NewLeast.{NewLeast}
 use Rattle.commands.specs.declared.command.Command.{Command}
-use Rattle.commands.specs.declared.command.Command.TheVariants.{Item, Bin, Receive, Move, Count, Adjust, Order, Cancel, Pick, Unpick, Ship, Hold, Release, Recall, OpenDay, Least}
+use Rattle.commands.specs.declared.command.Command.TheVariants.{Item, Bin, Receive, Move, Count, Adjust, Order, Cancel, Pick, Unpick, Ship, Hold, Release, Recall, OpenDay, Least, Urgent}
 use Rattle.commands.specs.declared.rows.LeastRow.{LeastRow}
 use Rattle.machine.specs.Acts.{Act, gathered, next_number}
 use Rattle.machine.specs.Standing.{items, item_named, has_item, least_in, days_asked, least_days}
-use Rattle.machine.specs.Tables.{Tables, meta_row, item_row, least_row, bin_row, lot_row, recall_row, stock_row, order_row, line_row, staged_row, reserved_row, shipment_row, shipline_row, card_row, repeat_row, tables_of}
+use Rattle.machine.specs.Tables.{Tables, meta_row, item_row, least_row, bin_row, lot_row, recall_row, stock_row, order_row, urgent_row, line_row, staged_row, reserved_row, shipment_row, shipline_row, card_row, repeat_row, tables_of}
 use Rattle.machine.specs.Once.{IsHistory}
 use Rattle.machine.specs.Schemas.{schema_of, are_of_schema, OlderBooksGoOn}
 use Rattle.machine.proofs.Tests.{same_text_is, and_both}
@@ -47,6 +47,7 @@ module _ (key : Key) (before : List Act) (g : List ℕ) where
   none_asked first (Count c) h k e = k e
   none_asked first (Adjust a) h k e = k e
   none_asked first (Order o) h k e = k e
+  none_asked first (Urgent o) h k e = k e
   none_asked first (Cancel o) h k e = k e
   none_asked first (Pick p) h k e = k e
   none_asked first (Unpick p) h k e = k e
@@ -74,6 +75,7 @@ still_sound key before g (Move m) e s = e
 still_sound key before g (Count c) e s = e
 still_sound key before g (Adjust a) e s = e
 still_sound key before g (Order o) e s = e
+still_sound key before g (Urgent o) e s = e
 still_sound key before g (Cancel o) e s = e
 still_sound key before g (Pick p) e s = e
 still_sound key before g (Unpick p) e s = e
@@ -99,6 +101,7 @@ still_none key before g (Move m) k e = k e
 still_none key before g (Count c) k e = k e
 still_none key before g (Adjust a) k e = k e
 still_none key before g (Order o) k e = k e
+still_none key before g (Urgent o) k e = let f : false ≡ true = e in cc
 still_none key before g (Cancel o) k e = k e
 still_none key before g (Pick p) k e = k e
 still_none key before g (Unpick p) k e = k e
@@ -131,6 +134,7 @@ with_rows first acts f = record {
   recall = recall_row acts;
   stock = stock_row first acts;
   order = order_row first acts;
+  urgent = urgent_row acts;
   line = line_row first acts;
   staged = staged_row first acts;
   reserved = reserved_row first acts;

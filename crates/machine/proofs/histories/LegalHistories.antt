@@ -5,7 +5,7 @@ use Rattle.std.specs.List.{list_any}
 use Rattle.values.specs.Values.{same_text}
 use Rattle.values.specs.declared.lot.LotId.{LotId}
 use Rattle.commands.specs.declared.command.Command.{Command}
-use Rattle.commands.specs.declared.command.Command.TheVariants.{Item, Bin, Receive, Move, Count, Adjust, Order, Cancel, Pick, Unpick, Ship, Hold, Release, Recall, OpenDay, Least}
+use Rattle.commands.specs.declared.command.Command.TheVariants.{Item, Bin, Receive, Move, Count, Adjust, Order, Cancel, Pick, Unpick, Ship, Hold, Release, Recall, OpenDay, Least, Urgent}
 use Rattle.machine.specs.Acts.{Act, next_number}
 use Rattle.machine.specs.Postings.{Place, Supplier, InBin, Stage, Shipped, WriteOff, Posting, balance, is_bin, is_lot, is_stage}
 use Rattle.machine.specs.Standing.{KnownLot, Placed, lots, orders, shipments_so_far, RETURNS}
@@ -140,6 +140,7 @@ module _ (first : ℤ) (act : Act) (before : List Act) (history : IsHistory firs
   legal_posted (Count c) ok = legal_correction n c.lot c.bin c.qty ps legal
   legal_posted (Adjust a) ok = legal_written n a.lot a.bin a.change ps (adjust_accepted first before a ok).there legal
   legal_posted (Order o) ok = legal
+  legal_posted (Urgent o) ok = legal
   legal_posted (Cancel o) ok = legal
   legal_posted (Pick p) ok = legal_posting n p.lot (InBin p.bin) (Stage p.order) p.qty ps (pick_accepted first before p ok).there legal
   legal_posted (Unpick p) ok = legal_posting n p.lot (Stage p.order) (InBin p.bin) p.qty ps (unpick_accepted first before p ok).there legal

@@ -7,7 +7,7 @@ use Rattle.commands.specs.Limits.{has_order_lines}
 use Rattle.commands.specs.Sound.{is_sound, is_order_line, are_lines}
 use Rattle.commands.specs.declared.command.OrderLine.{OrderLine}
 use Rattle.commands.specs.declared.command.Command.{Command}
-use Rattle.commands.specs.declared.command.Command.TheVariants.{Order, Ship}
+use Rattle.commands.specs.declared.command.Command.TheVariants.{Urgent, Order, Ship}
 use Rattle.machine.specs.Acts.{Act, next_number}
 use Rattle.machine.specs.Standing.{order_named, lines_placed, shipments, shipments_after, shipments_so_far}
 use Rattle.machine.specs.Once.{IsHistory}
@@ -29,7 +29,14 @@ sound_line g (l ∷ ls) e =
 
 ordered_after : (act : Act) (before : List Act) (o g : List ℕ) → ordered_of before o g ≤ QTY_MAX → (c : Command) → is_sound c ≡ true → ordered_of (record { key = act.key; command = c } ∷ before) o g ≤ QTY_MAX
 ordered_after act before o g h (Order n) e =
-    elim (same_text o n.order) as (λ b. line_qty (find (λ l. same_text g l.gtin) (lines_placed (if b then Some (record { order = n.order; act = next_number before; customer = n.customer; lines = n.lines }) else order_named before o))) ≤ QTY_MAX) [
+    elim (same_text o n.order) as (λ b. line_qty (find (λ l. same_text g l.gtin) (lines_placed (if b then Some (record { order = n.order; act = next_number before; customer = n.customer; lines = n.lines; urgent = false }) else order_named before o))) ≤ QTY_MAX) [
+      | true ↦
+          let lines : are_lines n.lines ≡ true = (and_both (is_name n.order && is_title n.customer) (are_lines n.lines) e).1 in
+          sound_line g n.lines (and_both (has_order_lines n.lines) (list_all is_order_line n.lines) lines).1
+      | false ↦ h
+    ]
+ordered_after act before o g h (Urgent n) e =
+    elim (same_text o n.order) as (λ b. line_qty (find (λ l. same_text g l.gtin) (lines_placed (if b then Some (record { order = n.order; act = next_number before; customer = n.customer; lines = n.lines; urgent = true }) else order_named before o))) ≤ QTY_MAX) [
       | true ↦
           let lines : are_lines n.lines ≡ true = (and_both (is_name n.order && is_title n.customer) (are_lines n.lines) e).1 in
           sound_line g n.lines (and_both (has_order_lines n.lines) (list_all is_order_line n.lines) lines).1

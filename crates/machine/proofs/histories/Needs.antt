@@ -16,7 +16,8 @@ use Rattle.machine.proofs.Numbers.{equal_turned, unequal_below}
 use Rattle.machine.proofs.Tests.{same_text_is, or_none}
 use Rattle.machine.proofs.histories.Falling.{AllBelow, AreFalling, found_below}
 use Rattle.machine.proofs.histories.Orders.{orders_numbered, NoNeed}
-use Rattle.machine.proofs.histories.Bookings.{wanted_by, demands_told, none_more}
+use Rattle.machine.proofs.histories.Bookings.{wanted_by, none_more}
+use Rattle.machine.proofs.histories.Served.{demands_told}
 use Rattle.machine.proofs.histories.Reservations.{wanted_under, reserved_within_need}
 
 wanted_either_way : (n : ℕ) (ds : List Demand) → wanted_under n ds ≡ wanted_by n ds

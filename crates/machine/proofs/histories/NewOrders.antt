@@ -4,7 +4,7 @@ use Rattle.std.specs.Prelude.{◌||◌, if◌then◌else◌, ℤ, Option, Some, 
 use Rattle.values.specs.Values.{same_text}
 use Rattle.commands.specs.declared.key.Key.{Key}
 use Rattle.commands.specs.declared.command.Command.{Command}
-use Rattle.commands.specs.declared.command.Command.TheVariants.{Order, Cancel}
+use Rattle.commands.specs.declared.command.Command.TheVariants.{Urgent, Order, Cancel}
 use Rattle.machine.specs.Acts.{Act, next_number}
 use Rattle.machine.specs.Postings.{is_stage, of_item}
 use Rattle.machine.specs.Standing.{Placed, order_named, has_order, lines_placed, is_cancelled}
@@ -36,7 +36,12 @@ module _ (first : ℤ) (key : Key) (before : List Act) (o : List ℕ) (h : is_ca
         | false ↦ λ t f. h f
       ] refl e
   known_after (Order n) ok e =
-      elim (same_text o n.order) as (λ b. is_some (if b then Some (record { order = n.order; act = next_number before; customer = n.customer; lines = n.lines }) else order_named before o) ≡ true) [
+      elim (same_text o n.order) as (λ b. is_some (if b then Some (record { order = n.order; act = next_number before; customer = n.customer; lines = n.lines; urgent = false }) else order_named before o) ≡ true) [
+        | true ↦ refl
+        | false ↦ h e
+      ]
+  known_after (Urgent n) ok e =
+      elim (same_text o n.order) as (λ b. is_some (if b then Some (record { order = n.order; act = next_number before; customer = n.customer; lines = n.lines; urgent = true }) else order_named before o) ≡ true) [
         | true ↦ refl
         | false ↦ h e
       ]

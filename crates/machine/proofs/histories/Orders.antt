@@ -6,7 +6,7 @@ use Rattle.std.proofs.lemmas.Bool.{eqb-true}
 use Rattle.values.specs.Values.{same_text}
 use Rattle.commands.specs.declared.command.OrderLine.{OrderLine}
 use Rattle.commands.specs.declared.command.Command.{Command}
-use Rattle.commands.specs.declared.command.Command.TheVariants.{Order}
+use Rattle.commands.specs.declared.command.Command.TheVariants.{Urgent, Order}
 use Rattle.commands.specs.declared.rows.OrderState.TheVariants.{Open, Done, Cancelled}
 use Rattle.machine.specs.Acts.{Act, next_number}
 use Rattle.machine.specs.Postings.{Posting}
@@ -17,7 +17,7 @@ use Rattle.machine.specs.Once.{IsHistory}
 use Rattle.machine.proofs.Tests.{and_both, same_text_is, same_text_refl, same_text_turned}
 use Rattle.machine.proofs.Apart.{AreApart, AllFound, all_found, any_found}
 use Rattle.machine.proofs.histories.Falling.{AllBelow, AreFalling, below_more, found_one}
-use Rattle.machine.proofs.histories.Accepted.{order_accepted}
+use Rattle.machine.proofs.histories.Accepted.{order_accepted, urgent_accepted}
 
 abbrev pub same_order : Placed → Placed → Bool
 same_order p q = same_text p.order q.order
@@ -27,6 +27,7 @@ same_order p q = same_text p.order q.order
 apart_after : (first : ℤ) (before : List Act) (c : Command) → verdict first before c ≡ None → AreApart same_order (orders before)
     → AreApart same_order (cons_option (order_in (next_number before) c) (orders before))
 apart_after first before (Order o) ok h = (sym (any_found (λ (p : Placed). same_text o.order p.order) (orders before)) ∙ (order_accepted first before o ok).new, h)
+apart_after first before (Urgent o) ok h = (sym (any_found (λ (p : Placed). same_text o.order p.order) (orders before)) ∙ (urgent_accepted first before o ok).new, h)
 apart_after first before _ ok h = h
 
 pub orders_apart : (first : ℤ) (acts : List Act) → IsHistory first acts → AreApart same_order (orders acts)
@@ -52,6 +53,7 @@ AllSingle (p ∷ ps) = (names_item_twice p.lines ≡ false) × AllSingle ps
 
 single_after : (first : ℤ) (before : List Act) (c : Command) → verdict first before c ≡ None → AllSingle (orders before) → AllSingle (cons_option (order_in (next_number before) c) (orders before))
 single_after first before (Order o) ok h = ((order_accepted first before o ok).single, h)
+single_after first before (Urgent o) ok h = ((urgent_accepted first before o ok).single, h)
 single_after first before _ ok h = h
 
 pub orders_single : (first : ℤ) (acts : List Act) → IsHistory first acts → AllSingle (orders acts)
@@ -68,6 +70,7 @@ numbered_after : (before : List Act) (c : Command) → AreNumbered before
     → AllBelow (λ (p : Placed). p.act) (next_number before + 1) (cons_option (order_in (next_number before) c) (orders before))
     × AreFalling (λ (p : Placed). p.act) (cons_option (order_in (next_number before) c) (orders before))
 numbered_after before (Order o) h = ((omega arith, below_more (λ (p : Placed). p.act) (next_number before) (next_number before + 1) (orders before) (omega arith) h.below), (h.below, h.falling))
+numbered_after before (Urgent o) h = ((omega arith, below_more (λ (p : Placed). p.act) (next_number before) (next_number before + 1) (orders before) (omega arith) h.below), (h.below, h.falling))
 numbered_after before _ h = (below_more (λ (p : Placed). p.act) (next_number before) (next_number before + 1) (orders before) (omega arith) h.below, h.falling)
 
 pub orders_numbered : (acts : List Act) → AreNumbered acts

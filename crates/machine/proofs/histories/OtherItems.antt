@@ -13,22 +13,22 @@ use Rattle.commands.specs.declared.command.Receipt.{Receipt}
 use Rattle.commands.specs.declared.command.NewLeast.{NewLeast}
 use Rattle.commands.specs.declared.command.OrderLine.{OrderLine}
 use Rattle.commands.specs.declared.command.Command.{Command}
-use Rattle.commands.specs.declared.command.Command.TheVariants.{Item, Bin, Receive, Move, Count, Adjust, Order, Cancel, Pick, Unpick, Ship, Hold, Release, Recall, OpenDay, Least}
+use Rattle.commands.specs.declared.command.Command.TheVariants.{Item, Bin, Receive, Move, Count, Adjust, Order, Cancel, Pick, Unpick, Ship, Hold, Release, Recall, OpenDay, Least, Urgent}
 use Rattle.plan.specs.Overlap.{plan_rows}
 use Rattle.machine.specs.Acts.{Act, gathered, next_number}
 use Rattle.machine.specs.Postings.{Place, Supplier, InBin, Stage, Shipped, WriteOff, Posting, balance, units_in, units_out, is_bin, is_stage, is_lot, of_item}
 use Rattle.machine.specs.Standing.{KnownLot, Placed, RETURNS, lots, lots_of, lot_among, lot_known, has_bin, bin_named, is_store_bin, is_store_row, orders, order_named, lines_placed, has_line, is_cancelled, is_shippable, is_held, is_recalled, is_expired, says_held, hold_in, recall_in, least_in, days_asked, least_days, least_expiry, today, shipments_so_far}
 use Rattle.machine.specs.Ledger.{posting, written, cleared, shipped_off, lot_returned, returned, posted, postings}
-use Rattle.machine.specs.Planning.{booking_of, lines_of_item, bookings, need, demands, demand_of, supplies, supply_of, goes_before, item_postings, staged, shipped, in_store, plan, reserved, reserved_of}
+use Rattle.machine.specs.Planning.{is_urgent, is_normal, booking_of, lines_of_item, bookings, need, demands, demand_of, supplies, supply_of, goes_before, item_postings, staged, shipped, in_store, plan, reserved, reserved_of}
 use Rattle.machine.specs.Touched.{touches}
 use Rattle.machine.specs.Verdict.{verdict}
 use Rattle.machine.specs.Once.{IsHistory}
 use Rattle.machine.specs.Laws.{OtherItemsAreLeftAlone}
 use Rattle.machine.proofs.Mapping.{map_reversed, map_appended}
 use Rattle.machine.proofs.Tests.{same_text_is, same_text_refl, is_lot_is, or_none}
-use Rattle.machine.proofs.histories.Accepted.{bin_accepted, order_accepted, day_accepted}
+use Rattle.machine.proofs.histories.Accepted.{bin_accepted, order_accepted, urgent_accepted, day_accepted}
 use Rattle.machine.proofs.histories.Orders.{orders_found, same_order}
-use Rattle.machine.proofs.Apart.{AllFound}
+use Rattle.machine.proofs.Apart.{AllFound, found_kept}
 use Rattle.machine.proofs.histories.KnownPlaces.{AllKnown, KnownPlace, known_postings, unknown_line_is_unstaged}
 use Rattle.machine.proofs.histories.Needs.{needs, reserved_within_needs, unknown_is_unreserved}
 
@@ -297,13 +297,26 @@ module _ (first : ℤ) (key : Key) (before : List Act) (g : List ℕ) where
       (other_lot g (next_number before) c.lot WriteOff (InBin c.bin) (c.qty - have) e) (other_lot g (next_number before) c.lot (InBin c.bin) WriteOff (have - c.qty) e)) refl refl
   same_after (Adjust a) h ok e = same_by (Adjust a) (other_written g (next_number before) a.lot a.bin a.change e) refl refl
   same_after (Order o) h ok e =
+      let new : Placed = record { order = o.order; act = next_number before; customer = o.customer; lines = o.lines; urgent = false } in
       same_by (Order o) tt
-      (λ i. map (demand_of before (item_postings first before g)) (reverse (map (booking_of (record { order = o.order; act = next_number before; customer = o.customer; lines = o.lines })) (no_line o.lines e i) ++ flat_map (lines_of_item g) (orders before))))
+      (λ i. map (demand_of before (item_postings first before g)) (reverse (flat_map (lines_of_item g) (filter is_urgent (orders before))) ++ reverse (map (booking_of new) (no_line o.lines e i) ++ flat_map (lines_of_item g) (filter is_normal (orders before)))))
+      refl
+  same_after (Urgent o) h ok e =
+      let new : Placed = record { order = o.order; act = next_number before; customer = o.customer; lines = o.lines; urgent = true } in
+      same_by (Urgent o) tt
+      (λ i. map (demand_of before (item_postings first before g)) (reverse (map (booking_of new) (no_line o.lines e i) ++ flat_map (lines_of_item g) (filter is_urgent (orders before))) ++ reverse (flat_map (lines_of_item g) (filter is_normal (orders before)))))
       refl
   same_after (Cancel o) h ok e =
+      let ps = item_postings first before g in
+      let f = demand_of (done (Cancel o) ∷ before) ps in
+      let k = demand_of before ps in
+      let ones = flat_map (lines_of_item g) (filter is_urgent (orders before)) in
+      let others = flat_map (lines_of_item g) (filter is_normal (orders before)) in
+      let all = orders_found first before h in
+      let same_ones = map_reversed f k ones (cancelled_same o e ps (filter is_urgent (orders before)) (found_kept same_order is_urgent (orders before) (orders before) all)) in
+      let same_others = map_reversed f k others (cancelled_same o e ps (filter is_normal (orders before)) (found_kept same_order is_normal (orders before) (orders before) all)) in
       same_by (Cancel o) tt
-      (map_reversed (demand_of (done (Cancel o) ∷ before) (item_postings first before g)) (demand_of before (item_postings first before g)) (flat_map (lines_of_item g) (orders before))
-      (cancelled_same o e (item_postings first before g) (orders before) (orders_found first before h)))
+      (map_appended f (reverse ones) (reverse others) ∙ (λ i. same_ones i ++ same_others i) ∙ sym (map_appended k (reverse ones) (reverse others)))
       refl
   same_after (Pick p) h ok e = same_by (Pick p) (other_lot g (next_number before) p.lot (InBin p.bin) (Stage p.order) p.qty e) refl refl
   same_after (Unpick p) h ok e = same_by (Unpick p) (other_lot g (next_number before) p.lot (Stage p.order) (InBin p.bin) p.qty e) refl refl
@@ -356,14 +369,33 @@ module _ (first : ℤ) (key : Key) (before : List Act) (g : List ℕ) where
     new_order n ok e s =
         elim (same_text o n.order) as (λ b. same_text o n.order ≡ b → reserved first (done (Order n) ∷ before) o l ≡ reserved first before o l) [
           | true ↦ λ t.
-              let new : Placed = record { order = n.order; act = next_number before; customer = n.customer; lines = n.lines } in
+              let new : Placed = record { order = n.order; act = next_number before; customer = n.customer; lines = n.lines; urgent = false } in
               let named : order_named (done (Order n) ∷ before) o ≡ Some new = ap (λ b. if b then Some new else order_named before o) t in
               let none : filter (λ (x : OrderLine). same_text l.gtin x.gtin) n.lines ≡ [] = ap (λ (x : List ℕ). filter (λ (y : OrderLine). same_text x y.gtin) n.lines) (sym item) ∙ no_line n.lines e in
               let nothing : needs (done (Order n) ∷ before) (item_postings first (done (Order n) ∷ before) l.gtin) l.gtin new ≡ 0 =
               ap (λ (xs : List OrderLine). total (λ b. need (done (Order n) ∷ before) (item_postings first (done (Order n) ∷ before) l.gtin) b) (map (booking_of new) xs)) none in
               let unknown : is_some (order_named before o) ≡ false = ap (λ (x : List ℕ). is_some (order_named before x)) (same_text_is o n.order t) ∙ (order_accepted first before n ok).new in
               omega (arith, reserved_within_needs first (done (Order n) ∷ before) o l new named, nothing, unknown_is_unreserved first before o l (not_some (order_named before o) unknown))
-          | false ↦ λ t. by_plan (Order n) s ∙ ap (λ b. reserved_of (if b then Some (record { order = n.order; act = next_number before; customer = n.customer; lines = n.lines }) else order_named before o) (lot_known before l) (plan first before l.gtin)) t
+          | false ↦ λ t. by_plan (Order n) s ∙ ap (λ b. reserved_of (if b then Some (record { order = n.order; act = next_number before; customer = n.customer; lines = n.lines; urgent = false }) else order_named before o) (lot_known before l) (plan first before l.gtin)) t
+        ] refl
+      where
+        not_some : (p : Option Placed) → is_some p ≡ false → p ≡ None
+        not_some None f = refl
+        not_some (Some p) f = let h : true ≡ false = f in cc
+
+    -- nor has an urgent one without the item
+    new_urgent : (n : NewOrder) → verdict first before (Urgent n) ≡ None → list_any (λ x. same_text g x.gtin) n.lines ≡ false → IsSame (Urgent n) → reserved first (done (Urgent n) ∷ before) o l ≡ reserved first before o l
+    new_urgent n ok e s =
+        elim (same_text o n.order) as (λ b. same_text o n.order ≡ b → reserved first (done (Urgent n) ∷ before) o l ≡ reserved first before o l) [
+          | true ↦ λ t.
+              let new : Placed = record { order = n.order; act = next_number before; customer = n.customer; lines = n.lines; urgent = true } in
+              let named : order_named (done (Urgent n) ∷ before) o ≡ Some new = ap (λ b. if b then Some new else order_named before o) t in
+              let none : filter (λ (x : OrderLine). same_text l.gtin x.gtin) n.lines ≡ [] = ap (λ (x : List ℕ). filter (λ (y : OrderLine). same_text x y.gtin) n.lines) (sym item) ∙ no_line n.lines e in
+              let nothing : needs (done (Urgent n) ∷ before) (item_postings first (done (Urgent n) ∷ before) l.gtin) l.gtin new ≡ 0 =
+              ap (λ (xs : List OrderLine). total (λ b. need (done (Urgent n) ∷ before) (item_postings first (done (Urgent n) ∷ before) l.gtin) b) (map (booking_of new) xs)) none in
+              let unknown : is_some (order_named before o) ≡ false = ap (λ (x : List ℕ). is_some (order_named before x)) (same_text_is o n.order t) ∙ (urgent_accepted first before n ok).new in
+              omega (arith, reserved_within_needs first (done (Urgent n) ∷ before) o l new named, nothing, unknown_is_unreserved first before o l (not_some (order_named before o) unknown))
+          | false ↦ λ t. by_plan (Urgent n) s ∙ ap (λ b. reserved_of (if b then Some (record { order = n.order; act = next_number before; customer = n.customer; lines = n.lines; urgent = true }) else order_named before o) (lot_known before l) (plan first before l.gtin)) t
         ] refl
       where
         not_some : (p : Option Placed) → is_some p ≡ false → p ≡ None
@@ -374,6 +406,7 @@ module _ (first : ℤ) (key : Key) (before : List Act) (g : List ℕ) where
     reserved_after (Receive r) h ok e s =
         by_plan (Receive r) s ∙ ap (λ k. reserved_of (order_named before o) k (plan first before l.gtin)) (known_same r (other_of r.lot l e (ap (same_text g) (sym item) ∙ same_text_refl g)))
     reserved_after (Order n) h ok e s = new_order n ok e s
+    reserved_after (Urgent n) h ok e s = new_urgent n ok e s
     reserved_after (Item i) h ok e s = by_plan (Item i) s
     reserved_after (Bin b) h ok e s = by_plan (Bin b) s
     reserved_after (Move m) h ok e s = by_plan (Move m) s

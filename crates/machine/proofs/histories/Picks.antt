@@ -22,15 +22,15 @@ use Rattle.machine.specs.Acts.{Act, next_number}
 use Rattle.machine.specs.Postings.{Place, Supplier, InBin, Stage, Shipped, WriteOff, Posting, balance, is_stage, is_shipped_to, is_lot, of_item}
 use Rattle.machine.specs.Standing.{KnownLot, Placed, lots, lots_of, lot_known, is_shippable, orders, order_named, is_cancelled}
 use Rattle.machine.specs.Ledger.{postings}
-use Rattle.machine.specs.Planning.{Booking, booking_of, lines_of_item, bookings, need, demand_of, demands, supply_of, supplies, shippable_lots, goes_before, item_postings, staged, shipped, in_store, store_units, plan, reserved, reserved_of}
+use Rattle.machine.specs.Planning.{is_urgent, is_normal, Booking, booking_of, lines_of_item, bookings, need, demand_of, demands, supply_of, supplies, shippable_lots, goes_before, item_postings, staged, shipped, in_store, store_units, plan, reserved, reserved_of}
 use Rattle.machine.specs.Once.{IsHistory}
 use Rattle.machine.specs.Laws.{PickDisturbsNone}
 use Rattle.machine.proofs.Tests.{same_text_is, same_text_refl, same_text_turned, is_lot_is, is_lot_refl, is_lot_item, same_tests, some_one, and_both}
-use Rattle.machine.proofs.Apart.{AllFound, AreApart, distinct_names}
+use Rattle.machine.proofs.Apart.{AllFound, AreApart, distinct_names, found_kept}
 use Rattle.machine.proofs.histories.Quantities.{at_least_one}
 use Rattle.machine.proofs.histories.Accepted.{PickAccepted, pick_accepted}
 use Rattle.machine.proofs.histories.Balances.{holds_posted, balance-elsewhere_of}
-use Rattle.machine.proofs.histories.Bookings.{RisingDemands, AfterDemands, demands_rise}
+use Rattle.machine.proofs.histories.Served.{demands_apart}
 use Rattle.machine.proofs.histories.Cells.{Cells}
 use Rattle.machine.proofs.histories.ItemBalances.{balance-of_item}
 use Rattle.machine.proofs.histories.LegalHistories.{legal_history}
@@ -45,14 +45,6 @@ apart_of_distinct : {X : Type 0} (number : X → ℕ) (xs : List X) → Distinct
 apart_of_distinct number [] h = tt
 apart_of_distinct number (x ∷ xs) h = (h.0, apart_of_distinct number xs h.1)
 
-none_after : (n : ℕ) (ds : List Demand) → AfterDemands n ds → list_any (λ (d : Demand). n == d.booking) ds ≡ false
-none_after n [] h = refl
-none_after n (d ∷ ds) h = (λ i. unequal_back n d.booking (ltb-true n d.booking h.0) i || none_after n ds h.1 i)
-
-pub apart_if_rising : (ds : List Demand) → RisingDemands ds → AreApart (λ (d e : Demand). d.booking == e.booking) ds
-apart_if_rising [] h = tt
-apart_if_rising (d ∷ ds) h = (none_after d.booking ds h.0, apart_if_rising ds h.1)
-
 apart_supplied : (f : KnownLot → Supply) → ((k : KnownLot) → (f k).lot ≡ k.came) → (ks : List KnownLot) → AreApart (λ (k j : KnownLot). k.came == j.came) ks → AreApart (λ (s t : Supply). s.lot == t.lot) (map f ks)
 apart_supplied f named [] h = tt
 apart_supplied f named (k ∷ ks) h = (others ks ∙ h.0, apart_supplied f named ks h.1)
@@ -62,7 +54,7 @@ apart_supplied f named (k ∷ ks) h = (others ks ∙ h.0, apart_supplied f named
     others (j ∷ js) = (λ i. (named k i == named j i) || others js i)
 
 pub bookings_distinct : (first : ℤ) (acts : List Act) (g : List ℕ) → IsHistory first acts → AreBookingsDistinct (demands first acts g)
-bookings_distinct first acts g history = distinct_names nat_eq (λ (d : Demand). d.booking) (demands first acts g) (apart_if_rising (demands first acts g) (demands_rise first acts g history))
+bookings_distinct first acts g history = distinct_names nat_eq (λ (d : Demand). d.booking) (demands first acts g) (demands_apart first acts g history)
 
 pub lots_are_distinct : (first : ℤ) (acts : List Act) (g : List ℕ) → AreLotsDistinct (supplies first acts g)
 lots_are_distinct first acts g =
@@ -199,7 +191,9 @@ module _ (first : ℤ) (before : List Act) (key : Key) (p : Picking) (next : IsH
   demands_after : demands first after g ≡ need_lowered po.act p.qty (demands first before g)
   demands_after =
       same_lowered_needs (demand_of after new) (demand_of before old) po.act p.qty (bookings before g)
-      (each_reversed AgreesOnNeed (flat_map (lines_of_item g) (orders before)) (orders_agree (orders before) (orders_found first before next.0)))
+      (each_append AgreesOnNeed (reverse (flat_map (lines_of_item g) (filter is_urgent (orders before)))) (reverse (flat_map (lines_of_item g) (filter is_normal (orders before))))
+      (each_reversed AgreesOnNeed (flat_map (lines_of_item g) (filter is_urgent (orders before))) (orders_agree (filter is_urgent (orders before)) (found_kept same_order is_urgent (orders before) (orders before) (orders_found first before next.0))))
+      (each_reversed AgreesOnNeed (flat_map (lines_of_item g) (filter is_normal (orders before))) (orders_agree (filter is_normal (orders before)) (found_kept same_order is_normal (orders before) (orders before) (orders_found first before next.0)))))
 
   -- Supplies
 

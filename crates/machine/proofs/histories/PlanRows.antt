@@ -18,7 +18,8 @@ use Rattle.machine.proofs.Numbers.{unequal_above, unequal_turned}
 use Rattle.machine.proofs.Tests.{or_none, and_later_false}
 use Rattle.machine.proofs.histories.Falling.{AllBelow, AreFalling}
 use Rattle.machine.proofs.histories.Lots.{lots_numbered}
-use Rattle.machine.proofs.histories.Bookings.{RisingDemands, AfterDemands, demands_rise}
+use Rattle.machine.proofs.Apart.{AreApart}
+use Rattle.machine.proofs.histories.Served.{demands_apart}
 
 -- Lists in which no two have one number
 
@@ -90,11 +91,11 @@ lots_distinct (k ∷ ks) h = (below_has_none k.came ks h.0, lots_distinct ks h.1
 abbrev Names : List Stretch → Type 0
 Names ss = Distinct (λ (s : Stretch). s.name) ss
 
-laid_has : (n x : ℕ) (ds : List Demand) → AfterDemands n ds → none_has (λ (s : Stretch). s.name) n (demands_laid x ds) ≡ false
+laid_has : (n x : ℕ) (ds : List Demand) → list_any (λ (d : Demand). n == d.booking) ds ≡ false → none_has (λ (s : Stretch). s.name) n (demands_laid x ds) ≡ false
 laid_has n x [] h = refl
-laid_has n x (d ∷ ds) h = (λ i. unequal_back n d.booking (ltb-true n d.booking h.0) i || laid_has n (x + d.need) ds h.1 i)
+laid_has n x (d ∷ ds) h = let two = or_none (n == d.booking) (list_any (λ (d : Demand). n == d.booking) ds) h in (λ i. two.0 i || laid_has n (x + d.need) ds two.1 i)
 
-demands_named : (x : ℕ) (ds : List Demand) → RisingDemands ds → Names (demands_laid x ds)
+demands_named : (x : ℕ) (ds : List Demand) → AreApart (λ (d e : Demand). d.booking == e.booking) ds → Names (demands_laid x ds)
 demands_named x [] h = tt
 demands_named x (d ∷ ds) h = (laid_has d.booking (x + d.need) ds h.0, demands_named (x + d.need) ds h.1)
 
@@ -183,7 +184,7 @@ shippable_distinct first acts g =
 module _ (first : ℤ) (acts : List Act) (history : IsHistory first acts) (g : List ℕ) where
   pub plan_once : no_two same_pair (plan first acts g) ≡ true
   plan_once =
-      once_rows (demands_laid 0 (demands first acts g)) (supplies_laid 0 (supplies first acts g)) (demands_named 0 (demands first acts g) (demands_rise first acts g history))
+      once_rows (demands_laid 0 (demands first acts g)) (supplies_laid 0 (supplies first acts g)) (demands_named 0 (demands first acts g) (demands_apart first acts g history))
       (lots_named (supply_of acts (item_postings first acts g)) (λ k. refl) 0 (shippable_lots first acts g) (shippable_distinct first acts g))
 
   pub plan_some : AllSome (plan first acts g)

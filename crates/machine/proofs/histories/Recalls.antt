@@ -1,6 +1,6 @@
 -- A recall disturbs no booking before the first one that has units of the lot.
 use Rattle.std.proofs.Common.{◌≡◌, ℕ, ◌+◌, ◌-◌, Bool, true, false, ◌&&◌, not, List, [], ◌∷◌, ◌++◌, refl, ap, sym, subst, ◌∙◌, eq-eqb}
-use Rattle.std.specs.Prelude.{◌==◌, ◌||◌, if◌then◌else◌, ℤ, Option, Some, None, is_some, filter, map, flat_map}
+use Rattle.std.specs.Prelude.{◌==◌, ◌||◌, if◌then◌else◌, ℤ, Option, Some, None, is_some, filter, map, flat_map, reverse}
 use Rattle.std.specs.List.{list_any}
 use Rattle.std.proofs.lemmas.Bool.{eqb-true}
 use Rattle.values.specs.Values.{same_text}
@@ -17,12 +17,12 @@ use Rattle.machine.specs.Acts.{Act, next_number}
 use Rattle.machine.specs.Postings.{Posting, is_stage, is_lot, of_item}
 use Rattle.machine.specs.Standing.{KnownLot, Placed, lots, lots_of, lot_known, is_shippable, is_held, is_recalled, recalling, is_expired, least_expiry, is_store_row, orders, order_named, is_cancelled}
 use Rattle.machine.specs.Ledger.{postings}
-use Rattle.machine.specs.Planning.{Booking, booking_of, lines_of_item, bookings, demand_of, demands, supply_of, supplies, shippable_lots, goes_before, item_postings, staged, shipped, staged_of_lot, in_store, store_units, plan, reserved, reserved_of}
+use Rattle.machine.specs.Planning.{is_urgent, is_normal, Booking, booking_of, lines_of_item, bookings, demand_of, demands, supply_of, supplies, shippable_lots, goes_before, item_postings, staged, shipped, staged_of_lot, in_store, store_units, plan, reserved, reserved_of}
 use Rattle.machine.specs.Once.{IsHistory}
 use Rattle.machine.specs.Laws.{has_of_lot, RecallDisturbsNone, RecallDisturbsLaterAlone}
 use Rattle.machine.proofs.Tests.{same_text_is, same_text_refl, same_text_turned, is_lot_is, is_lot_refl, is_lot_turned, same_tests, some_one, or_none, and_false, is_zero}
-use Rattle.machine.proofs.Apart.{AllFound, AreApart}
-use Rattle.machine.proofs.histories.Bookings.{demands_rise}
+use Rattle.machine.proofs.Apart.{AllFound, AreApart, found_kept}
+use Rattle.machine.proofs.histories.Served.{demands_apart as apart_demands}
 use Rattle.machine.proofs.histories.Cells.{Cells, IsPart, Inner, without, holds, holds_split, stage_cell, stage_part, inner_stage}
 use Rattle.machine.proofs.histories.ItemBalances.{balance-of_item}
 use Rattle.machine.proofs.histories.LegalHistories.{legal_history}
@@ -30,7 +30,7 @@ use Rattle.machine.proofs.histories.Lots.{same_known, lots_found, receipt_names_
 use Rattle.machine.proofs.histories.LotsInOrder.{lots_kept_in_order}
 use Rattle.machine.proofs.histories.Orders.{same_order, orders_found, act_names_order}
 use Rattle.machine.proofs.histories.OtherItems.{other_items_are_left_alone}
-use Rattle.machine.proofs.histories.Picks.{Each, each_append, each_reversed, each_kept, each_ordered, apart_if_rising, bookings_distinct, lots_are_distinct}
+use Rattle.machine.proofs.histories.Picks.{Each, each_append, each_reversed, each_kept, each_ordered, bookings_distinct, lots_are_distinct}
 use Rattle.machine.proofs.histories.ReturnsBin.{returns_named}
 use Rattle.machine.proofs.histories.StagedLots.{staged_lots_are_shippable}
 use Rattle.machine.proofs.histories.UnshippableLots.{MakesUnshippable, kept, unstaged, shipped_still}
@@ -175,7 +175,10 @@ module _ (first : ℤ) (before : List Act) (key : Key) (l : LotId) (next : IsHis
   own_orders (w ∷ os) h = each_append IsOwn (lines_of_item g w) (flat_map (lines_of_item g) os) (own_lines w h.0 w.lines) (own_orders os h.1)
 
   bookings_own : Each IsOwn (bookings before g)
-  bookings_own = each_reversed IsOwn (flat_map (lines_of_item g) (orders before)) (own_orders (orders before) (orders_found first before next.0))
+  bookings_own =
+      each_append IsOwn (reverse (flat_map (lines_of_item g) (filter is_urgent (orders before)))) (reverse (flat_map (lines_of_item g) (filter is_normal (orders before))))
+      (each_reversed IsOwn (flat_map (lines_of_item g) (filter is_urgent (orders before))) (own_orders (filter is_urgent (orders before)) (found_kept same_order is_urgent (orders before) (orders before) (orders_found first before next.0))))
+      (each_reversed IsOwn (flat_map (lines_of_item g) (filter is_normal (orders before))) (own_orders (filter is_normal (orders before)) (found_kept same_order is_normal (orders before) (orders before) (orders_found first before next.0))))
 
   -- Supplies
 
@@ -371,7 +374,7 @@ module _ (first : ℤ) (before : List Act) (key : Key) (l : LotId) (next : IsHis
     numbered_as_named o w e (b ∷ bs) h = λ i. order_number o w e b h.0 i || numbered_as_named o w e bs h.1 i
 
     demands_apart : AreApart (λ (d e : Demand). d.booking == e.booking) (was earlier ++ was later)
-    demands_apart = subst (AreApart (λ (d e : Demand). d.booking == e.booking)) demands_before (apart_if_rising (demands first before g) (demands_rise first before g next.0))
+    demands_apart = subst (AreApart (λ (d e : Demand). d.booking == e.booking)) demands_before (apart_demands first before g next.0)
 
     pub earlier_keeps : (o : List ℕ) (m : LotId) → list_any (λ (b : Booking). same_text o b.order) earlier ≡ true → reserved first after o m ≡ reserved first before o m
     earlier_keeps o m h =

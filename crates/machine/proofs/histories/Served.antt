@@ -1,6 +1,6 @@
 -- Bookings of two classes of orders, the urgent ones served first.
 use Rattle.std.proofs.Common.{◌≡◌, ℕ, ◌+◌, ◌≤◌, ◌<◌, Bool, true, false, ◌&&◌, not, List, [], ◌∷◌, ◌++◌, refl, ap, sym, ◌∙◌, subst, arith, eq-eqb}
-use Rattle.std.specs.Prelude.{◌==◌, ◌||◌, if◌then◌else◌, filter, map, flat_map, reverse, nat_lt}
+use Rattle.std.specs.Prelude.{◌==◌, ◌||◌, if◌then◌else◌, ℤ, filter, map, flat_map, reverse, nat_lt}
 use Rattle.std.specs.List.{list_any, AllByRecursion}
 use Rattle.std.proofs.lemmas.Bool.{eqb-true}
 use borrow.Author.Tests.{ltb-false, ltb-true, lt-ltb}
@@ -9,17 +9,19 @@ use Rattle.commands.specs.declared.command.OrderLine.{OrderLine}
 use Rattle.commands.specs.Lists.{total}
 use Rattle.plan.specs.Lists.{total as plan_total}
 use Rattle.plan.specs.declared.Demand.{Demand}
-use Rattle.plan.proofs.Ranked.{IsOrder, AllAfter, IsRising}
+use Rattle.plan.proofs.Ranked.{IsOrder, AllAfter, IsRising, same_non_zero}
+use Rattle.plan.proofs.Nothing.{wanted}
 use Rattle.machine.specs.Acts.{Act}
 use Rattle.machine.specs.Postings.{Posting}
-use Rattle.machine.specs.Standing.{Placed}
-use Rattle.machine.specs.Planning.{Booking, booking_of, lines_of_item, need, demand_of}
+use Rattle.machine.specs.Standing.{Placed, orders}
+use Rattle.machine.specs.Once.{IsHistory}
+use Rattle.machine.specs.Planning.{Booking, booking_of, lines_of_item, need, demand_of, demands, item_postings, is_urgent}
 use Rattle.machine.proofs.Tests.{and_false, or_none}
 use Rattle.machine.proofs.Numbers.{unequal_below, unequal_above}
 use Rattle.machine.proofs.Apart.{AreApart}
 use Rattle.machine.proofs.histories.Falling.{AllBelow, AreFalling, below_more}
-use Rattle.machine.proofs.histories.Orders.{AllSingle}
-use Rattle.machine.proofs.histories.Bookings.{RisingDemands, AfterDemands, are_lower, map_append, turned, turned_cons, rising_turned, total_append, total_turned, total_flat}
+use Rattle.machine.proofs.histories.Orders.{AllSingle, orders_single, orders_numbered}
+use Rattle.machine.proofs.histories.Bookings.{RisingDemands, AfterDemands, wanted_by, are_lower, map_append, turned, turned_cons, rising_turned, total_append, total_turned, total_flat}
 
 -- Numbers of two classes: an urgent one comes before each other, and within a class the lower one
 
@@ -241,6 +243,16 @@ module _ (urgent : Placed → Bool) where
     pub bookings_apart : AreApart (λ (d e : Demand). d.booking == e.booking) (map (demand_of acts ps) (served g os))
     bookings_apart = served_apart u (map (demand_of acts ps) (served g os)) served_rise
 
+  module _ (acts : List Act) (ps : List Posting) (g : List ℕ) (os : List Placed) where
+    abbrev first_class : List Placed
+    first_class = filter urgent os
+
+    abbrev last_class : List Placed
+    last_class = filter (λ p. not (urgent p)) os
+
+    two_parts : map (demand_of acts ps) (served g os) ≡ turned acts ps (flat_map (lines_of_item g) first_class) ++ turned acts ps (flat_map (lines_of_item g) last_class)
+    two_parts = map_append (demand_of acts ps) (reverse (flat_map (lines_of_item g) first_class)) (reverse (flat_map (lines_of_item g) last_class))
+
     parted : (f : Placed → ℕ) (qs : List Placed) → total f (filter urgent qs) + total f (filter (λ p. not (urgent p)) qs) ≡ total f qs
     parted f [] = refl
     parted f (q ∷ qs) = elim (urgent q) as (λ b. total f (if b then q ∷ filter urgent qs else filter urgent qs) + total f (if not b then q ∷ filter (λ p. not (urgent p)) qs else filter (λ p. not (urgent p)) qs) ≡ f q + total f qs) [
@@ -249,11 +261,34 @@ module _ (urgent : Placed → Bool) where
     ]
 
     -- what is wanted under a number, order by order, whatever their class
-    pub served_told : (n : ℕ) → plan_total (λ (d : Demand). if n == d.booking then d.need else 0) (map (demand_of acts ps) (served g os)) ≡ total (λ p. total (λ b. if n == b.act then need acts ps b else 0) (lines_of_item g p)) os
-    served_told n =
+    pub wanted_in_two : (n : ℕ) → plan_total (λ (d : Demand). if n == d.booking then d.need else 0) (map (demand_of acts ps) (served g os)) ≡ total (λ p. total (λ b. if n == b.act then need acts ps b else 0) (lines_of_item g p)) os
+    wanted_in_two n =
         let f : Demand → ℕ = λ (d : Demand). if n == d.booking then d.need else 0 in
         let w : Booking → ℕ = λ (b : Booking). if n == b.act then need acts ps b else 0 in
-        let ones = flat_map (lines_of_item g) first_ones in
-        let others = flat_map (lines_of_item g) last_ones in
-        ap (plan_total f) in_two
-        ∙ omega (arith, total_append acts ps f (turned acts ps ones) (turned acts ps others), total_turned acts ps f ones, total_turned acts ps f others, total_flat w g first_ones, total_flat w g last_ones, parted (λ p. total w (lines_of_item g p)) os)
+        let ones = flat_map (lines_of_item g) first_class in
+        let others = flat_map (lines_of_item g) last_class in
+        ap (plan_total f) two_parts
+        ∙ omega (arith, total_append acts ps f (turned acts ps ones) (turned acts ps others), total_turned acts ps f ones, total_turned acts ps f others, total_flat w g first_class, total_flat w g last_class, parted (λ p. total w (lines_of_item g p)) os)
+
+-- The demands of an item
+
+-- whether a number is that of an urgent order
+abbrev pub urgent_number : List Act → ℕ → Bool
+urgent_number acts = class_in is_urgent (orders acts)
+
+pub demands_rise : (first : ℤ) (acts : List Act) (g : List ℕ) → IsHistory first acts → AreServed (urgent_number acts) (demands first acts g)
+demands_rise first acts g history = served_rise is_urgent acts (item_postings first acts g) g (orders acts) (orders_single first acts history) (orders_numbered acts).falling
+
+pub demands_apart : (first : ℤ) (acts : List Act) (g : List ℕ) → IsHistory first acts → AreApart (λ (d e : Demand). d.booking == e.booking) (demands first acts g)
+demands_apart first acts g history = bookings_apart is_urgent acts (item_postings first acts g) g (orders acts) (orders_single first acts history) (orders_numbered acts).falling
+
+-- what is wanted under a number, order by order
+pub demands_told : (first : ℤ) (acts : List Act) (g : List ℕ) (n : ℕ)
+    → wanted_by n (demands first acts g) ≡ total (λ p. total (λ b. if n == b.act then need acts (item_postings first acts g) b else 0) (lines_of_item g p)) (orders acts)
+demands_told first acts g n = wanted_in_two is_urgent acts (item_postings first acts g) g (orders acts) n
+
+-- demands in this order that want the same under each number make the same plan
+pub same_wanted : (first : ℤ) (acts : List Act) (g : List ℕ) → IsHistory first acts → (ds : List Demand) → AreServed (urgent_number acts) ds
+    → ((n : ℕ) → wanted_by n ds ≡ wanted_by n (demands first acts g)) → wanted ds ≡ wanted (demands first acts g)
+same_wanted first acts g history ds rise told =
+    same_non_zero (comes_first (urgent_number acts)) (λ a b. a == b) (λ d. d.booking) (λ d. d.need) (classes_order (urgent_number acts)) (λ c d e f. (λ i. record { booking = e i; need = f i })) ds (demands first acts g) rise (demands_rise first acts g history) told

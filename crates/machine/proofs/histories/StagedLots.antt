@@ -8,7 +8,7 @@ use Rattle.commands.specs.Lists.{total}
 use Rattle.commands.specs.declared.key.Key.{Key}
 use Rattle.commands.specs.declared.command.Receipt.{Receipt}
 use Rattle.commands.specs.declared.command.Command.{Command}
-use Rattle.commands.specs.declared.command.Command.TheVariants.{Item, Bin, Receive, Move, Count, Adjust, Order, Cancel, Pick, Unpick, Ship, Hold, Release, Recall, OpenDay, Least}
+use Rattle.commands.specs.declared.command.Command.TheVariants.{Item, Bin, Receive, Move, Count, Adjust, Order, Cancel, Pick, Unpick, Ship, Hold, Release, Recall, OpenDay, Least, Urgent}
 use Rattle.machine.specs.Acts.{Act, gathered, next_number}
 use Rattle.machine.specs.Postings.{Place, InBin, Stage, Shipped, Posting, balance, is_stage, is_lot}
 use Rattle.machine.specs.Standing.{KnownLot, Placed, RETURNS, lots, lot_among, lot_known, with_receipt, hold_in, says_held, is_held, is_recalled, is_expired, is_short_dated, least_days, least_expiry, today, is_shippable, orders, order_named, shipments_so_far}
@@ -235,6 +235,7 @@ module _ (first : ℤ) (key : Key) (before : List Act) (history : IsHistory firs
   unstaged_after (Item i) ok e = still (Item i) refl (h e)
   unstaged_after (Bin b) ok e = still (Bin b) refl (h e)
   unstaged_after (Order n) ok e = still (Order n) refl (h e)
+  unstaged_after (Urgent n) ok e = still (Urgent n) refl (h e)
   unstaged_after (Cancel u) ok e = still (Cancel u) refl (h e)
 
 -- what may not be shipped is not staged

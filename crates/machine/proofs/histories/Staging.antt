@@ -3,7 +3,7 @@ use Rattle.std.proofs.Common.{◌≡◌, ℕ, suc, ◌+◌, ◌-◌, ◌≤◌, 
 use Rattle.std.specs.Prelude.{◌==◌, if◌then◌else◌, ℤ, pos, negsuc}
 use Rattle.values.specs.declared.lot.LotId.{LotId}
 use Rattle.commands.specs.declared.command.Command.{Command}
-use Rattle.commands.specs.declared.command.Command.TheVariants.{Item, Bin, Receive, Move, Count, Adjust, Order, Cancel, Pick, Unpick, Ship, Hold, Release, Recall, OpenDay, Least}
+use Rattle.commands.specs.declared.command.Command.TheVariants.{Item, Bin, Receive, Move, Count, Adjust, Order, Cancel, Pick, Unpick, Ship, Hold, Release, Recall, OpenDay, Least, Urgent}
 use Rattle.machine.specs.Acts.{Act, next_number}
 use Rattle.machine.specs.Postings.{Place, Supplier, InBin, Stage, Shipped, WriteOff, Posting, balance, is_bin, is_stage, is_lot}
 use Rattle.machine.specs.Standing.{KnownLot, Placed, RETURNS, lots, orders, shipments_so_far}
@@ -102,6 +102,7 @@ module _ (w : Cells) (staging : IsStaging w) (first : ℤ) (act : Act) (before :
   brings_none (Item i) e = tt
   brings_none (Bin b) e = tt
   brings_none (Order o) e = tt
+  brings_none (Urgent o) e = tt
   brings_none (Cancel o) e = tt
   brings_none (Release l) e = tt
 
