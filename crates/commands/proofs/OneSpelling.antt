@@ -9,8 +9,8 @@ use Rattle.label.specs.Days.{is_day, is_business_day, day_text}
 use Rattle.values.specs.declared.lot.LotId.{LotId}
 use Rattle.commands.specs.Limits.{has_order_lines, is_least_days}
 use Rattle.commands.specs.Words.{bin_kind_word}
-use Rattle.commands.specs.Spelling.{fields, spelling, lines_fields, picking_fields}
-use Rattle.commands.specs.Sound.{is_sound, is_lot_id, is_order_line, are_lines, is_picking}
+use Rattle.commands.specs.Spelling.{fields, spelling, lines_fields, order_fields, picking_fields}
+use Rattle.commands.specs.Sound.{is_sound, is_lot_id, is_order_line, are_lines, is_new_order, is_picking}
 use Rattle.commands.specs.declared.command.BinKind.{BinKind}
 use Rattle.commands.specs.declared.command.OrderLine.{OrderLine}
 use Rattle.commands.specs.declared.command.NewItem.{NewItem}
@@ -32,6 +32,11 @@ use Rattle.commands.proofs.Fields.{AllPrintable, and_three, and_four, qty_printa
 -- each field of a sound command is printable
 lot_fields_printable : (w : List ℕ) (l : LotId) → Printable w → is_lot_id l ≡ true → AllPrintable (w ∷ l.gtin ∷ l.lot ∷ [])
 lot_fields_printable w l upper sound = (upper, (gtin_of_lot_printable l sound, (lot_of_lot_printable l sound, tt)))
+
+order_printable : (o : NewOrder) → is_new_order o ≡ true → AllPrintable (order_fields o)
+order_printable o sound =
+    let s = and_three (is_name o.order) (is_title o.customer) (are_lines o.lines) sound in
+    (name_printable o.order s.0, (title_printable o.customer s.1, lines_printable o.lines (and_both (has_order_lines o.lines) (list_all is_order_line o.lines) s.2).1))
 
 -- at least one part, and each is printable
 abbrev pub PartsPrintable : List (List ℕ) → Type 0
@@ -55,12 +60,8 @@ fields_printable (Count c) sound =
 fields_printable (Adjust a) sound =
     let s = and_three (is_lot_id a.lot) (is_name a.bin) (is_delta a.change) sound in
     (refl, (gtin_of_lot_printable a.lot s.0, (lot_of_lot_printable a.lot s.0, (name_printable a.bin s.1, (signed_printable a.change s.2, tt)))))
-fields_printable (Order o) sound =
-    let s = and_three (is_name o.order) (is_title o.customer) (are_lines o.lines) sound in
-    (refl, (name_printable o.order s.0, (title_printable o.customer s.1, lines_printable o.lines (and_both (has_order_lines o.lines) (list_all is_order_line o.lines) s.2).1)))
-fields_printable (Urgent o) sound =
-    let s = and_three (is_name o.order) (is_title o.customer) (are_lines o.lines) sound in
-    (refl, (name_printable o.order s.0, (title_printable o.customer s.1, lines_printable o.lines (and_both (has_order_lines o.lines) (list_all is_order_line o.lines) s.2).1)))
+fields_printable (Order o) sound = (refl, order_printable o sound)
+fields_printable (Urgent o) sound = (refl, order_printable o sound)
 fields_printable (Cancel o) sound = (refl, (name_printable o sound, tt))
 fields_printable (Pick p) sound = (refl, picking_printable p sound)
 fields_printable (Unpick p) sound = (refl, picking_printable p sound)
@@ -206,7 +207,7 @@ adjustment_told x y sx sy e =
     let q : signed_decimal x.change ≡ signed_decimal y.change = cc in
     ap Adjust (adjustment_same x y (lot_same x.lot y.lot g l) b (change_same x.change y.change s.2 t.2 q))
 
-order_told : (x y : NewOrder) → is_sound (Order x) ≡ true → is_sound (Order y) ≡ true → fields (Order x) ≡ fields (Order y) → Order x ≡ Order y
+order_told : (x y : NewOrder) → is_new_order x ≡ true → is_new_order y ≡ true → order_fields x ≡ order_fields y → x ≡ y
 order_told x y sx sy e =
     let s = and_three (is_name x.order) (is_title x.customer) (are_lines x.lines) sx in
     let t = and_three (is_name y.order) (is_title y.customer) (are_lines y.lines) sy in
@@ -215,18 +216,7 @@ order_told x y sx sy e =
     let l : lines_fields x.lines ≡ lines_fields y.lines = cc in
     let sound_x = (and_both (has_order_lines x.lines) (list_all is_order_line x.lines) s.2).1 in
     let sound_y = (and_both (has_order_lines y.lines) (list_all is_order_line y.lines) t.2).1 in
-    ap Order (order_same x y o c (lines_same x.lines y.lines sound_x sound_y l))
-
-urgent_told : (x y : NewOrder) → is_sound (Urgent x) ≡ true → is_sound (Urgent y) ≡ true → fields (Urgent x) ≡ fields (Urgent y) → Urgent x ≡ Urgent y
-urgent_told x y sx sy e =
-    let s = and_three (is_name x.order) (is_title x.customer) (are_lines x.lines) sx in
-    let t = and_three (is_name y.order) (is_title y.customer) (are_lines y.lines) sy in
-    let o : x.order ≡ y.order = cc in
-    let c : x.customer ≡ y.customer = cc in
-    let l : lines_fields x.lines ≡ lines_fields y.lines = cc in
-    let sound_x = (and_both (has_order_lines x.lines) (list_all is_order_line x.lines) s.2).1 in
-    let sound_y = (and_both (has_order_lines y.lines) (list_all is_order_line y.lines) t.2).1 in
-    ap Urgent (order_same x y o c (lines_same x.lines y.lines sound_x sound_y l))
+    order_same x y o c (lines_same x.lines y.lines sound_x sound_y l)
 
 picking_told : (x y : Picking) → is_picking x ≡ true → is_picking y ≡ true → picking_fields x ≡ picking_fields y → x ≡ y
 picking_told x y sx sy e =
@@ -266,7 +256,7 @@ fields_same (Receive x) (Receive y) sx sy e = receipt_told x y sx sy e
 fields_same (Move x) (Move y) sx sy e = movement_told x y sx sy e
 fields_same (Count x) (Count y) sx sy e = recount_told x y sx sy e
 fields_same (Adjust x) (Adjust y) sx sy e = adjustment_told x y sx sy e
-fields_same (Order x) (Order y) sx sy e = order_told x y sx sy e
+fields_same (Order x) (Order y) sx sy e = let p : order_fields x ≡ order_fields y = cc in ap Order (order_told x y sx sy p)
 fields_same (Cancel x) (Cancel y) sx sy e = let p : x ≡ y = cc in ap Cancel p
 fields_same (Pick x) (Pick y) sx sy e = let p : picking_fields x ≡ picking_fields y = cc in ap Pick (picking_told x y sx sy p)
 fields_same (Unpick x) (Unpick y) sx sy e = let p : picking_fields x ≡ picking_fields y = cc in ap Unpick (picking_told x y sx sy p)
@@ -277,7 +267,7 @@ fields_same (Recall x) (Recall y) sx sy e = ap Recall (lot_parts x y (codes "REC
 fields_same (OpenDay x) (OpenDay y) sx sy e =
     let p : day_text x ≡ day_text y = cc in
     ap OpenDay (day_text_injective x y (business_is_day x sx) (business_is_day y sy) p)
-fields_same (Urgent x) (Urgent y) sx sy e = urgent_told x y sx sy e
+fields_same (Urgent x) (Urgent y) sx sy e = let p : order_fields x ≡ order_fields y = cc in ap Urgent (order_told x y sx sy p)
 fields_same (Least x) (Least y) sx sy e = least_told x y sx sy e
 fields_same a b sx sy e = absurd (apart (word_number (fields a)) (word_number (fields b)) refl (ap word_number e))
 

@@ -2,9 +2,10 @@
 use Rattle.std.specs.Prelude.{◌≡◌, ℕ, ℤ, Bool, true, false, List, [], Option, Some, None}
 use Rattle.values.specs.declared.lot.LotId.{LotId}
 use Rattle.commands.specs.declared.command.OrderLine.{OrderLine}
+use Rattle.commands.specs.declared.command.NewOrder.{NewOrder}
 use Rattle.commands.specs.declared.command.Picking.{Picking}
 use Rattle.commands.specs.declared.command.Command.{Command}
-use Rattle.commands.specs.declared.command.Command.TheVariants.{Item, Bin, Receive, Move, Count, Adjust, Order, Cancel, Pick, Unpick, Ship, Hold, Release, Recall, OpenDay, Least}
+use Rattle.commands.specs.declared.command.Command.TheVariants.{Item, Bin, Receive, Move, Count, Adjust, Order, Cancel, Pick, Unpick, Ship, Hold, Release, Recall, OpenDay, Least, Urgent}
 use Rattle.commands.specs.declared.names.Added.{Added}
 use Rattle.commands.specs.declared.names.Added.TheVariants as added
 use Rattle.commands.specs.declared.names.OrderStep.{OrderStep}
@@ -34,12 +35,15 @@ lot_named l = record none_named { item = Some l.gtin; lot = Some l }
 abbrev pub lot_in_bin : LotId → List ℕ → Named
 lot_in_bin l b = record (lot_named l) { bin = Some b }
 
--- an order, and a lot in a bin with it
+-- an order, with its lines where it is taken, and a lot in a bin with it
 abbrev pub step_named : List ℕ → OrderStep → Option NamedOrder
 step_named o step = Some (record { order = o; step = step })
 
 abbrev pub order_named : List ℕ → OrderStep → Named
 order_named o step = record none_named { order = step_named o step }
+
+abbrev pub new_order_named : NewOrder → Named
+new_order_named o = record (order_named o.order Taken) { lines = o.lines }
 
 abbrev pub picking_named : Picking → OrderStep → Named
 picking_named p step = record (lot_in_bin p.lot p.bin) { order = step_named p.order step }
@@ -51,7 +55,7 @@ names_of (Receive r) = lot_in_bin r.lot r.bin
 names_of (Move m) = record (lot_in_bin m.lot m.from) { other_bin = Some m.to }
 names_of (Count c) = lot_in_bin c.lot c.bin
 names_of (Adjust a) = lot_in_bin a.lot a.bin
-names_of (Order o) = record (order_named o.order Taken) { lines = o.lines }
+names_of (Order o) = new_order_named o
 names_of (Cancel o) = order_named o Cancelled
 names_of (Pick p) = picking_named p Picked
 names_of (Unpick p) = picking_named p Unpicked
@@ -61,6 +65,7 @@ names_of (Release l) = lot_named l
 names_of (Recall l) = lot_named l
 names_of (OpenDay day) = record none_named { day = Some day }
 names_of (Least l) = record none_named { item = Some l.gtin }
+names_of (Urgent o) = new_order_named o
 
 -- what is done with an order
 abbrev pub is_cancelled : OrderStep → Bool

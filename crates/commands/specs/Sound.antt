@@ -6,6 +6,7 @@ use Rattle.label.specs.Days.{is_day, is_business_day}
 use Rattle.values.specs.declared.lot.LotId.{LotId}
 use Rattle.commands.specs.Limits.{has_order_lines, is_least_days}
 use Rattle.commands.specs.declared.command.OrderLine.{OrderLine}
+use Rattle.commands.specs.declared.command.NewOrder.{NewOrder}
 use Rattle.commands.specs.declared.command.Picking.{Picking}
 use Rattle.commands.specs.declared.key.Key.{Key}
 use Rattle.commands.specs.declared.key.Key.TheVariants.{Plain, Line}
@@ -21,6 +22,9 @@ is_order_line l = is_gtin l.gtin && is_qty l.qty
 abbrev pub are_lines : List OrderLine → Bool
 are_lines ls = has_order_lines ls && list_all is_order_line ls
 
+abbrev pub is_new_order : NewOrder → Bool
+is_new_order o = is_name o.order && is_title o.customer && are_lines o.lines
+
 abbrev pub is_picking : Picking → Bool
 is_picking p = is_name p.order && is_lot_id p.lot && is_name p.bin && is_qty p.qty
 
@@ -31,8 +35,8 @@ is_sound (Receive r) = is_lot_id r.lot && is_day r.expiry && is_name r.bin && is
 is_sound (Move m) = is_lot_id m.lot && is_name m.from && is_name m.to && is_qty m.qty
 is_sound (Count c) = is_lot_id c.lot && is_name c.bin && is_counted c.qty
 is_sound (Adjust a) = is_lot_id a.lot && is_name a.bin && is_delta a.change
-is_sound (Order o) = is_name o.order && is_title o.customer && are_lines o.lines
-is_sound (Urgent o) = is_name o.order && is_title o.customer && are_lines o.lines
+is_sound (Order o) = is_new_order o
+is_sound (Urgent o) = is_new_order o
 is_sound (Cancel o) = is_name o
 is_sound (Pick p) = is_picking p
 is_sound (Unpick p) = is_picking p

@@ -7,6 +7,7 @@ use Rattle.commands.specs.Words.{bin_kind_word}
 use Rattle.commands.specs.declared.key.Key.{Key}
 use Rattle.commands.specs.declared.key.Key.TheVariants.{Plain, Line}
 use Rattle.commands.specs.declared.command.OrderLine.{OrderLine}
+use Rattle.commands.specs.declared.command.NewOrder.{NewOrder}
 use Rattle.commands.specs.declared.command.Picking.{Picking}
 use Rattle.commands.specs.declared.command.Command.{Command}
 use Rattle.commands.specs.declared.command.Command.TheVariants.{Item, Bin, Receive, Move, Count, Adjust, Order, Cancel, Pick, Unpick, Ship, Hold, Release, Recall, OpenDay, Least, Urgent}
@@ -21,6 +22,9 @@ abbrev pub lines_fields : List OrderLine → List (List ℕ)
 lines_fields [] = []
 lines_fields (l ∷ ls) = l.gtin ∷ decimal l.qty ∷ lines_fields ls
 
+abbrev pub order_fields : NewOrder → List (List ℕ)
+order_fields o = o.order ∷ o.customer ∷ lines_fields o.lines
+
 abbrev pub picking_fields : Picking → List (List ℕ)
 picking_fields p = p.order ∷ p.lot.gtin ∷ p.lot.lot ∷ p.bin ∷ decimal p.qty ∷ []
 
@@ -32,8 +36,8 @@ fields (Receive r) = codes "RECEIVE" ∷ r.lot.gtin ∷ r.lot.lot ∷ day_text r
 fields (Move m) = codes "MOVE" ∷ m.lot.gtin ∷ m.lot.lot ∷ m.from ∷ m.to ∷ decimal m.qty ∷ []
 fields (Count c) = codes "COUNT" ∷ c.lot.gtin ∷ c.lot.lot ∷ c.bin ∷ decimal c.qty ∷ []
 fields (Adjust a) = codes "ADJUST" ∷ a.lot.gtin ∷ a.lot.lot ∷ a.bin ∷ signed_decimal a.change ∷ []
-fields (Order o) = codes "ORDER" ∷ o.order ∷ o.customer ∷ lines_fields o.lines
-fields (Urgent o) = codes "URGENT" ∷ o.order ∷ o.customer ∷ lines_fields o.lines
+fields (Order o) = codes "ORDER" ∷ order_fields o
+fields (Urgent o) = codes "URGENT" ∷ order_fields o
 fields (Cancel o) = codes "CANCEL" ∷ o ∷ []
 fields (Pick p) = codes "PICK" ∷ picking_fields p
 fields (Unpick p) = codes "UNPICK" ∷ picking_fields p

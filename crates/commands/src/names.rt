@@ -1,7 +1,7 @@
 // What a command names.
 
 ghost use Rattle.std.specs.Prelude.{◌≡◌};
-ghost use Rattle.commands.specs.Names.{AreNames, names_of, none_named, lot_named, lot_in_bin, order_named, picking_named, is_cancelled, is_picked, is_shipped};
+ghost use Rattle.commands.specs.Names.{AreNames, names_of, none_named, lot_named, lot_in_bin, order_named, new_order_named, picking_named, is_cancelled, is_picked, is_shipped};
 
 use crate::{Command, Movement, NewBin, NewItem, NewLeast, NewOrder, OrderLine, Picking};
 use label::BusinessDay;
@@ -97,7 +97,7 @@ impl Command {
             Command::Move(movement) => of_movement(movement),
             Command::Count(recount) => of_lot_in(&recount.lot, &recount.bin),
             Command::Adjust(adjustment) => of_lot_in(&adjustment.lot, &adjustment.bin),
-            Command::Order(order) => of_new_order(order),
+            Command::Order(order) | Command::Urgent(order) => of_new_order(order),
             Command::Cancel(order) => of_order(order, OrderStep::Cancelled),
             Command::Pick(picking) => of_picking(picking, OrderStep::Picked),
             Command::Unpick(picking) => of_picking(picking, OrderStep::Unpicked),
@@ -185,7 +185,7 @@ fn of_order(order: &Name, step: OrderStep) -> Names<'_>
 }
 
 fn of_new_order(order: &NewOrder) -> Names<'_>
-    ensures { AreNames result (names_of (Command.Order order.now)) }
+    ensures { AreNames result (new_order_named order.now) }
 {
     Names {
         lines: order.lines.as_slice(),

@@ -5,7 +5,7 @@ ghost use Rattle.std.specs.Fmt.{signed_decimal};
 ghost use Rattle.std.specs.List.{join_with_byte};
 ghost use Rattle.label.specs.Days.{day_text};
 ghost use Rattle.commands.specs.Words.{bin_kind_word};
-ghost use Rattle.commands.specs.Spelling.{spelling, lines_fields, picking_fields, with_line_feeds};
+ghost use Rattle.commands.specs.Spelling.{spelling, lines_fields, order_fields, picking_fields, with_line_feeds};
 
 use crate::buffer::{Buffer, decimal_text, signed_text};
 use crate::{
@@ -28,7 +28,7 @@ pub fn spell(alloc: Global, command: &Command) -> Result<Vec<u8>, AllocError>
         Command::Move(movement) => spell_movement(alloc, movement),
         Command::Count(recount) => spell_recount(alloc, recount),
         Command::Adjust(adjustment) => spell_adjustment(alloc, adjustment),
-        Command::Order(order) => spell_order(alloc, order),
+        Command::Order(order) => spell_order(alloc, b"ORDER", order),
         Command::Cancel(order) => spell_name(alloc, b"CANCEL", order),
         Command::Pick(picking) => spell_picking(alloc, b"PICK", picking),
         Command::Unpick(picking) => spell_picking(alloc, b"UNPICK", picking),
@@ -38,7 +38,7 @@ pub fn spell(alloc: Global, command: &Command) -> Result<Vec<u8>, AllocError>
         Command::Recall(lot) => spell_lot(alloc, b"RECALL", lot),
         Command::OpenDay(day) => spell_day(alloc, *day),
         Command::Least(least) => spell_least(alloc, least),
-        Command::Urgent(order) => spell_urgent(alloc, order),
+        Command::Urgent(order) => spell_order(alloc, b"URGENT", order),
     }
 }
 
@@ -166,12 +166,12 @@ fn spell_adjustment(alloc: Global, adjustment: &Adjustment) -> Result<Vec<u8>, A
     )
 }
 
-fn spell_order(alloc: Global, order: &NewOrder) -> Result<Vec<u8>, AllocError>
-    ensures { IfOk result (λ text. text.items ≡ spelling (Command.Order order.now)) }
+fn spell_order(alloc: Global, word: &[u8], order: &NewOrder) -> Result<Vec<u8>, AllocError>
+    ensures { IfOk result (λ text. text.items ≡ join_with_byte 10 (word.now ∷ order_fields order.now)) }
 {
     let mut text = joined(
         alloc,
-        b"ORDER",
+        word,
         &[order.order.as_bytes(), order.customer.as_bytes()],
     )?;
     add_lines(&mut text, order.lines.as_slice())?;
@@ -234,16 +234,4 @@ fn spell_least(alloc: Global, least: &NewLeast) -> Result<Vec<u8>, AllocError>
             number_text(u32::from(least.days.days())).as_bytes(),
         ],
     )
-}
-
-fn spell_urgent(alloc: Global, order: &NewOrder) -> Result<Vec<u8>, AllocError>
-    ensures { IfOk result (λ text. text.items ≡ spelling (Command.Urgent order.now)) }
-{
-    let mut text = joined(
-        alloc,
-        b"URGENT",
-        &[order.order.as_bytes(), order.customer.as_bytes()],
-    )?;
-    add_lines(&mut text, order.lines.as_slice())?;
-    Ok(text)
 }
