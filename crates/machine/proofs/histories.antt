@@ -1,7 +1,7 @@
 -- What holds of every history: balances, lots, orders, plans and runs.
 pub mod Accepted
 pub mod LeastDays
-pub mod UrgentOrders
+pub mod OlderBooks
 pub mod Cells
 pub mod Falling
 pub mod Lots

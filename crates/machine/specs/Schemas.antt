@@ -17,10 +17,10 @@ schema_of _ = 1
 abbrev pub are_of_schema : ℕ → List Act → Bool
 are_of_schema n acts = list_all (λ act. nat_le (schema_of act.command) n) acts
 
--- books of schema 1 become those of the same acts
-abbrev pub OlderBooksGoOn : Type 0
-OlderBooksGoOn = (first : ℤ) (acts : List Act) → are_of_schema 1 acts ≡ true → with_least (without_least (tables_of first acts)) ≡ tables_of first acts
+-- the tables of books of schema 1, brought to the newest schema, are those of the same acts
+abbrev pub FirstBooksGoOn : Type 0
+FirstBooksGoOn = (first : ℤ) (acts : List Act) → are_of_schema 1 acts ≡ true → with_least (without_least (without_urgents (tables_of first acts))) ≡ tables_of first acts
 
--- and so do those of schema 2, whose new table has no rows
+-- and so are those of schema 2, whose new table has no rows
 abbrev pub SecondBooksGoOn : Type 0
 SecondBooksGoOn = (first : ℤ) (acts : List Act) → are_of_schema 2 acts ≡ true → without_urgents (tables_of first acts) ≡ tables_of first acts

@@ -1,7 +1,7 @@
 //! Laws over all histories and all runs: functions without effect, whose contracts are the laws.
 
 ghost use Rattle.machine.specs.Laws.{NeverOverdrawn, Conserved, Covered, PickDisturbsNone, RecallDisturbsNone, RecallDisturbsLaterAlone, StagedLotsAreShippable, ShippedLotsAreShippable, ClosedOrdersAreEmpty, OtherItemsAreLeftAlone, Traced, LastLinesTellUnits, RunsGoOn, FilesGoOn, RunsWithMemory, RepeatsActOnce, RepeatsGetTheFirstReply};
-ghost use Rattle.machine.specs.Schemas.{OlderBooksGoOn, SecondBooksGoOn};
+ghost use Rattle.machine.specs.Schemas.{FirstBooksGoOn, SecondBooksGoOn};
 
 /// No more is taken out of places in the warehouse or out of shipments than was brought there.
 pub fn never_overdrawn()
@@ -74,6 +74,6 @@ pub fn repeats_act_once()
 
 /// The tables of books of schema 1, and those of schema 2, brought to the newest schema, are those of the same acts.
 pub fn older_books_go_on()
-    ensures first { OlderBooksGoOn }
+    ensures first { FirstBooksGoOn }
     ensures second { SecondBooksGoOn }
 {}

@@ -1,5 +1,5 @@
 -- The days that the lots of an item must have left.
-use Rattle.std.specs.Prelude.{◌≡◌, ℕ, List, [], ◌∷◌, codes, refl, Some, None}
+use Rattle.std.specs.Prelude.{◌≡◌, ℕ, List, [], ◌∷◌, codes, refl, Some}
 use Rattle.std.specs.Fmt.{digits}
 use Rattle.commands.specs.declared.command.Command.TheVariants.{Least}
 use Rattle.commands.specs.declared.refusal.Refusal.TheVariants.{TooFewDays, UnknownItem}

@@ -1,27 +1,24 @@
 -- The demands of an item stand by number, and are told by what each order wants.
-use Rattle.std.proofs.Common.{◌≡◌, ℕ, ◌+◌, ◌≤◌, ◌<◌, true, false, List, [], ◌∷◌, ◌++◌, refl, ap, sym, ◌∙◌, subst, arith, eq-eqb}
-use Rattle.std.specs.Prelude.{◌==◌, ◌||◌, if◌then◌else◌, ℤ, filter, map, flat_map, reverse, nat_lt}
+use Rattle.std.proofs.Common.{◌≡◌, ℕ, ◌+◌, ◌<◌, true, false, List, [], ◌∷◌, ◌++◌, refl, ap, sym, ◌∙◌, subst, arith}
+use Rattle.std.specs.Prelude.{◌==◌, ◌||◌, if◌then◌else◌, filter, map, flat_map, reverse, nat_lt}
 use Rattle.std.specs.List.{list_any}
 use Rattle.std.specs.Cmp.Lexicographic.{same_text as equal_texts}
 use Rattle.std.proofs.lemmas.List.{reverse-append}
-use borrow.Author.Tests.{ltb-false, ltb-true, lt-ltb}
+use borrow.Author.Tests.{lt-ltb}
 use Rattle.values.specs.Values.{same_text}
 use Rattle.commands.specs.declared.command.OrderLine.{OrderLine}
 use Rattle.commands.specs.Lists.{total}
 use Rattle.plan.specs.Lists.{total as plan_total}
 use Rattle.plan.specs.declared.Demand.{Demand}
-use Rattle.plan.proofs.Ranked.{IsOrder, AllAfter, IsRising, at_rank, same_non_zero}
-use Rattle.plan.proofs.Nothing.{wanted}
+use Rattle.plan.proofs.Ranked.{AllAfter, IsRising, at_rank}
 use Rattle.machine.specs.Acts.{Act}
 use Rattle.machine.specs.Postings.{Posting}
-use Rattle.machine.specs.Standing.{Placed, orders}
-use Rattle.machine.specs.Planning.{Booking, booking_of, lines_of_item, need, demand_of, demands, item_postings}
+use Rattle.machine.specs.Standing.{Placed}
+use Rattle.machine.specs.Planning.{Booking, booking_of, lines_of_item, demand_of}
 use Rattle.machine.specs.Verdict.{names_item_twice}
-use Rattle.machine.specs.Once.{IsHistory}
 use Rattle.machine.proofs.Tests.{or_none}
-use Rattle.machine.proofs.Numbers.{unequal_below, unequal_above}
 use Rattle.machine.proofs.histories.Falling.{AllBelow, AreFalling}
-use Rattle.machine.proofs.histories.Orders.{AllSingle, orders_single, orders_numbered}
+use Rattle.machine.proofs.histories.Orders.{AllSingle}
 
 -- Falling along the newest first, rising along the reverse
 

@@ -1,22 +1,16 @@
 -- The days that items ask for: none before the item is known, none without a Least, and never too many.
-use Rattle.std.proofs.Common.{◌≡◌, ℕ, Bool, true, false, ◌&&◌, not, List, [], ◌∷◌, refl, ap, sym, ◌∙◌}
-use Rattle.std.specs.Prelude.{find, nat_le, if◌then◌else◌, Option, Some, None, is_some, option_map, ℤ}
-use Rattle.std.specs.List.{list_all}
+use Rattle.std.proofs.Common.{◌≡◌, ℕ, Bool, true, false, List, [], ◌∷◌, refl, ap, sym, ◌∙◌}
+use Rattle.std.specs.Prelude.{find, if◌then◌else◌, Some, is_some, ℤ}
 use Rattle.values.specs.Values.{same_text, is_gtin}
 use Rattle.commands.specs.Limits.{is_least_days}
 use Rattle.commands.specs.Sound.{is_sound}
-use Rattle.commands.specs.Schemas.{asking_none}
 use Rattle.commands.specs.declared.key.Key.{Key}
 use Rattle.commands.specs.declared.command.NewItem.{NewItem}
-use Rattle.commands.specs.declared.command.NewLeast.{NewLeast}
 use Rattle.commands.specs.declared.command.Command.{Command}
 use Rattle.commands.specs.declared.command.Command.TheVariants.{Item, Bin, Receive, Move, Count, Adjust, Order, Cancel, Pick, Unpick, Ship, Hold, Release, Recall, OpenDay, Least, Urgent}
-use Rattle.commands.specs.declared.rows.LeastRow.{LeastRow}
-use Rattle.machine.specs.Acts.{Act, gathered, next_number}
-use Rattle.machine.specs.Standing.{items, item_named, has_item, least_in, days_asked, least_days}
-use Rattle.machine.specs.Tables.{Tables, meta_row, item_row, least_row, bin_row, lot_row, recall_row, stock_row, order_row, urgent_row, line_row, staged_row, reserved_row, shipment_row, shipline_row, card_row, repeat_row, tables_of}
+use Rattle.machine.specs.Acts.{Act, gathered}
+use Rattle.machine.specs.Standing.{item_named, has_item, least_in, days_asked, least_days}
 use Rattle.machine.specs.Once.{IsHistory}
-use Rattle.machine.specs.Schemas.{schema_of, are_of_schema, OlderBooksGoOn}
 use Rattle.machine.proofs.Tests.{same_text_is, and_both}
 use Rattle.machine.proofs.histories.Accepted.{least_accepted}
 
@@ -88,62 +82,3 @@ still_sound key before g (OpenDay d) e s = e
 pub least_days_sound : (first : ℤ) (acts : List Act) (g : List ℕ) → IsHistory first acts → is_least_days (least_days acts g) ≡ true
 least_days_sound first [] g h = refl
 least_days_sound first (act ∷ before) g h = still_sound act.key before g act.command (least_days_sound first before g h.0) h.1.sound.command
-
--- Books of schema 1
-
-still_none : (key : Key) (before : List Act) (g : List ℕ) (c : Command) → (are_of_schema 1 before ≡ true → least_days before g ≡ 0) → nat_le (schema_of c) 1 && are_of_schema 1 before ≡ true
-    → least_days (record { key = key; command = c } ∷ before) g ≡ 0
-still_none key before g (Least l) k e = let f : false ≡ true = e in cc
-still_none key before g (Item i) k e = k e
-still_none key before g (Bin b) k e = k e
-still_none key before g (Receive r) k e = k e
-still_none key before g (Move m) k e = k e
-still_none key before g (Count c) k e = k e
-still_none key before g (Adjust a) k e = k e
-still_none key before g (Order o) k e = k e
-still_none key before g (Urgent o) k e = let f : false ≡ true = e in cc
-still_none key before g (Cancel o) k e = k e
-still_none key before g (Pick p) k e = k e
-still_none key before g (Unpick p) k e = k e
-still_none key before g (Ship o) k e = k e
-still_none key before g (Hold l) k e = k e
-still_none key before g (Release l) k e = k e
-still_none key before g (Recall l) k e = k e
-still_none key before g (OpenDay d) k e = k e
-
--- without a Least no item asks for days
-pub none_without_least : (acts : List Act) (g : List ℕ) → are_of_schema 1 acts ≡ true → least_days acts g ≡ 0
-none_without_least [] g e = refl
-none_without_least (act ∷ before) g e = still_none act.key before g act.command (none_without_least before g) e
-
-rows_made : (acts : List Act) (g : List ℕ) → are_of_schema 1 acts ≡ true → asking_none (item_row acts g) ≡ least_row acts g
-rows_made acts g old =
-    elim (item_named acts g) as (λ x. asking_none (option_map (λ (i : NewItem). record { gtin = i.gtin; name = i.name }) x) ≡ option_map (λ (i : NewItem). record { gtin = i.gtin; days = least_days acts i.gtin }) x) [
-      | None ↦ refl
-      | Some i ↦ ap (λ n. Some (record { gtin = i.gtin; days = n })) (sym (none_without_least acts i.gtin old))
-    ]
-
--- all tables, with these rows of `least`
-abbrev with_rows : ℤ → List Act → (List ℕ → Option LeastRow) → Tables
-with_rows first acts f = record {
-  meta = Some (meta_row first acts);
-  item = item_row acts;
-  least = f;
-  bin = bin_row acts;
-  lot = lot_row acts;
-  recall = recall_row acts;
-  stock = stock_row first acts;
-  order = order_row first acts;
-  urgent = urgent_row acts;
-  line = line_row first acts;
-  staged = staged_row first acts;
-  reserved = reserved_row first acts;
-  shipment = shipment_row first acts;
-  shipline = shipline_row first acts;
-  card = card_row first acts;
-  repeat = repeat_row first acts;
-}
-
-pub older_books_go_on : OlderBooksGoOn
-unfolding tables_of
-older_books_go_on first acts old = ap (with_rows first acts) (λ i g. rows_made acts g old i)

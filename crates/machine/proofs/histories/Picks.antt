@@ -4,7 +4,6 @@ use Rattle.std.specs.Prelude.{◌==◌, ◌||◌, if◌then◌else◌, ℤ, Opti
 use Rattle.std.specs.List.{list_any}
 use Rattle.std.proofs.lemmas.Bool.{eqb-true}
 use Rattle.std.proofs.lemmas.List.{reverse-append}
-use borrow.Author.Tests.{ltb-true}
 use Rattle.values.specs.Values.{same_text, is_name, is_qty}
 use Rattle.values.specs.declared.lot.LotId.{LotId}
 use Rattle.commands.specs.Lists.{placed, in_order}
@@ -37,7 +36,7 @@ use Rattle.machine.proofs.histories.LegalHistories.{legal_history}
 use Rattle.machine.proofs.histories.Lots.{same_known, lots_found, found_lot, receipt_names_lot}
 use Rattle.machine.proofs.histories.Orders.{same_order, orders_found, found_order, act_names_order}
 use Rattle.machine.proofs.histories.OtherItems.{other_items_are_left_alone}
-use Rattle.machine.proofs.histories.PlanRows.{Distinct, shippable_distinct, unequal_back}
+use Rattle.machine.proofs.histories.PlanRows.{Distinct, shippable_distinct}
 
 -- No number stands twice
 

@@ -3,7 +3,6 @@ use Rattle.std.proofs.Common.{◌≡◌, ℕ, ◌+◌, ◌<◌, Bool, true, fals
 use Rattle.std.specs.Prelude.{◌==◌, ◌||◌, if◌then◌else◌, ℤ, filter, map}
 use Rattle.std.specs.List.{list_any}
 use Rattle.std.proofs.lemmas.Bool.{eqb-true}
-use borrow.Author.Tests.{ltb-true}
 use Rattle.commands.specs.Lists.{placed, in_order}
 use Rattle.plan.specs.declared.Demand.{Demand}
 use Rattle.plan.specs.declared.Supply.{Supply}

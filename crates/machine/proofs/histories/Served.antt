@@ -16,10 +16,10 @@ use Rattle.machine.specs.Postings.{Posting}
 use Rattle.machine.specs.Standing.{Placed, orders}
 use Rattle.machine.specs.Once.{IsHistory}
 use Rattle.machine.specs.Planning.{Booking, booking_of, lines_of_item, need, demand_of, demands, item_postings, is_urgent}
-use Rattle.machine.proofs.Tests.{and_false, or_none}
+use Rattle.machine.proofs.Tests.{and_false}
 use Rattle.machine.proofs.Numbers.{unequal_below, unequal_above}
 use Rattle.machine.proofs.Apart.{AreApart}
-use Rattle.machine.proofs.histories.Falling.{AllBelow, AreFalling, below_more}
+use Rattle.machine.proofs.histories.Falling.{AllBelow, AreFalling}
 use Rattle.machine.proofs.histories.Orders.{AllSingle, orders_single, orders_numbered}
 use Rattle.machine.proofs.histories.Bookings.{RisingDemands, AfterDemands, wanted_by, are_lower, map_append, turned, turned_cons, rising_turned, total_append, total_turned, total_flat}
 

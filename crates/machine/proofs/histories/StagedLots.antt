@@ -11,7 +11,7 @@ use Rattle.commands.specs.declared.command.Command.{Command}
 use Rattle.commands.specs.declared.command.Command.TheVariants.{Item, Bin, Receive, Move, Count, Adjust, Order, Cancel, Pick, Unpick, Ship, Hold, Release, Recall, OpenDay, Least, Urgent}
 use Rattle.machine.specs.Acts.{Act, gathered, next_number}
 use Rattle.machine.specs.Postings.{Place, InBin, Stage, Shipped, Posting, balance, is_stage, is_lot}
-use Rattle.machine.specs.Standing.{KnownLot, Placed, RETURNS, lots, lot_among, lot_known, with_receipt, hold_in, says_held, is_held, is_recalled, is_expired, is_short_dated, least_days, least_expiry, today, is_shippable, orders, order_named, shipments_so_far}
+use Rattle.machine.specs.Standing.{KnownLot, Placed, RETURNS, lots, lot_among, lot_known, with_receipt, hold_in, says_held, is_held, is_recalled, is_expired, least_days, least_expiry, today, is_shippable, orders, order_named, shipments_so_far}
 use Rattle.machine.specs.Ledger.{posting, cleared, shipped_off, lot_returned, returned, made_unshippable, posted, postings}
 use Rattle.machine.specs.Planning.{staged_of_lot}
 use Rattle.machine.specs.Verdict.{verdict, is_past, is_below}
