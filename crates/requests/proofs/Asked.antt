@@ -12,7 +12,7 @@ use Rattle.requests.specs.declared.fault.WireFault.{WireFault}
 use Rattle.requests.specs.declared.fault.WireFault.TheVariants.{Field, Method}
 use Rattle.requests.specs.declared.routes.Route.{Route}
 use Rattle.requests.specs.declared.routes.Posted.{Posted}
-use Rattle.requests.specs.declared.routes.Posted.TheVariants.{Items, Bins, Receipts, Moves, Counts, Adjustments, Orders, Cancels, Picks, Unpicks, Shipments, Holds, Releases, Recalls, Days, Leasts, GoodsIn}
+use Rattle.requests.specs.declared.routes.Posted.TheVariants.{Items, Bins, Receipts, Moves, Counts, Adjustments, Orders, Cancels, Picks, Unpicks, Shipments, Holds, Releases, Recalls, Days, Leasts, Urgents, GoodsIn}
 
 -- what is no file is JSON
 as_json : (p : Posted) (body : List ℕ) → p ≢ GoodsIn → posted p body ≡ valued p (json body)
@@ -32,6 +32,7 @@ as_json Releases body n = refl
 as_json Recalls body n = refl
 as_json Days body n = refl
 as_json Leasts body n = refl
+as_json Urgents body n = refl
 as_json GoodsIn body n = absurd (n refl)
 
 pub with_json : (p : Posted) (body : List ℕ) (d : Data) (o : Option Ask) → p ≢ GoodsIn → json body ≡ Some d → body_of p d ≡ o

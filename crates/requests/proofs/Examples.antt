@@ -9,13 +9,13 @@ use Rattle.requests.specs.Routes.{table, route_of}
 use Rattle.requests.specs.Head.{length_value, body_length}
 use Rattle.requests.specs.Requests.{read_ask, second_segment, third_segment, query_of}
 use Rattle.requests.specs.Fields.{whole_at, delta_at}
-use Rattle.requests.specs.Bodies.{item_of, count_of, least_of}
+use Rattle.requests.specs.Bodies.{item_of, count_of, least_of, body_of}
 use Rattle.commands.specs.declared.key.Key.TheVariants.{Plain}
-use Rattle.commands.specs.declared.command.Command.TheVariants.{Item, Count, Least}
+use Rattle.commands.specs.declared.command.Command.TheVariants.{Item, Count, Least, Urgent}
 use Rattle.requests.specs.declared.fault.WireFault.TheVariants.{Length, Path, Field, TooLarge, Method as OtherMethod}
 use Rattle.requests.specs.declared.method.Method.TheVariants.{Get, Post}
 use Rattle.requests.specs.declared.routes.Route.TheVariants.{Post as PostTo, Get as GetOf}
-use Rattle.requests.specs.declared.routes.Posted.TheVariants.{Items, Bins, Receipts, Orders, Recalls, Days, Leasts, GoodsIn}
+use Rattle.requests.specs.declared.routes.Posted.TheVariants.{Items, Bins, Receipts, Orders, Recalls, Days, Leasts, Urgents, GoodsIn}
 use Rattle.requests.specs.declared.routes.Shown.TheVariants.{Order as AnOrder, Stock as TheStock, PickList as APickList, Shortages as TheShortages, Card, Notice as ANotice}
 use Rattle.requests.specs.declared.ask.Ask.TheVariants.{Do, GoodsIn as FileOf}
 use Rattle.requests.specs.declared.ask.Query.TheVariants.{Card as CardOf}
@@ -49,6 +49,10 @@ days = refl
 pub leasts : route_of (codes "/leasts") ≡ Some (PostTo Leasts)
 unfolding matchit_on_literals table
 leasts = refl
+
+pub urgents : route_of (codes "/urgents") ≡ Some (PostTo Urgents)
+unfolding matchit_on_literals table
+urgents = refl
 
 pub goods_in : route_of (codes "/goodsin") ≡ Some (PostTo GoodsIn)
 unfolding matchit_on_literals table
@@ -196,6 +200,12 @@ pub least_days : option_map least_of (read (codes "{\"key\":\"K-1\",\"gtin\":\"0
     ≡ Some (Some (Do (Plain (codes "K-1")) (Least (record { gtin = codes "09506000134352"; days = 3650 }))))
 unfolding serde_json_on_literals
 least_days = refl
+
+pub an_urgent_order : option_map (body_of Urgents) (read (codes "{\"key\":\"K-1\",\"order\":\"S-3\",\"customer\":\"Mill Inn\",\"lines\":[{\"gtin\":\"09506000134352\",\"qty\":10}]}"))
+    ≡ Some (Some (Do (Plain (codes "K-1"))
+    (Urgent (record { order = codes "S-3"; customer = codes "Mill Inn"; lines = record { gtin = codes "09506000134352"; qty = 10 } ∷ [] }))))
+unfolding serde_json_on_literals
+an_urgent_order = refl
 
 -- `days` is no text, no fraction, not below 0 and not above 3,650, and has to be there
 pub days_as_a_text : option_map least_of (read (codes "{\"key\":\"K-1\",\"gtin\":\"09506000134352\",\"days\":\"7\"}")) ≡ Some None

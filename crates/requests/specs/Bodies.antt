@@ -5,15 +5,16 @@ use Rattle.values.specs.declared.lot.LotId.{LotId}
 use Rattle.commands.specs.Limits.{has_order_lines}
 use Rattle.commands.specs.declared.key.Key.{Key}
 use Rattle.commands.specs.declared.key.Key.TheVariants.{Plain}
+use Rattle.commands.specs.declared.command.NewOrder.{NewOrder}
 use Rattle.commands.specs.declared.command.OrderLine.{OrderLine}
 use Rattle.commands.specs.declared.command.Picking.{Picking}
 use Rattle.commands.specs.declared.command.Command.{Command}
-use Rattle.commands.specs.declared.command.Command.TheVariants.{Item, Bin, Move, Count, Adjust, Order, Cancel, Pick, Unpick, Ship, Hold, Release, Recall, OpenDay, Least}
+use Rattle.commands.specs.declared.command.Command.TheVariants.{Item, Bin, Move, Count, Adjust, Order, Cancel, Pick, Unpick, Ship, Hold, Release, Recall, OpenDay, Least, Urgent}
 use Rattle.serde_json.specs.Data.{Data, Items, no_items, item}
 use Rattle.serde_json.specs.Find.{get, as_array}
 use Rattle.requests.specs.Fields.{is_object_of, text_at, name_at, title_at, gtin_at, qty_at, counted_at, delta_at, line_at, business_day_at, kind_at, lot_id_at, least_days_at}
 use Rattle.requests.specs.declared.routes.Posted.{Posted}
-use Rattle.requests.specs.declared.routes.Posted.TheVariants.{Items as ToItems, Bins, Receipts, Moves, Counts, Adjustments, Orders, Cancels, Picks, Unpicks, Shipments, Holds, Releases, Recalls, Days, Leasts, GoodsIn as ToGoodsIn}
+use Rattle.requests.specs.declared.routes.Posted.TheVariants.{Items as ToItems, Bins, Receipts, Moves, Counts, Adjustments, Orders, Cancels, Picks, Unpicks, Shipments, Holds, Releases, Recalls, Days, Leasts, Urgents, GoodsIn as ToGoodsIn}
 use Rattle.requests.specs.declared.ask.Ask.{Ask}
 use Rattle.requests.specs.declared.ask.Ask.TheVariants.{Do, Scan}
 
@@ -146,13 +147,16 @@ lines_at name d =
     option_and_then (checked has_order_lines) (option_and_then lines_of (option_and_then as_array (get name d)))
 
 -- key, order, customer, lines
-abbrev pub order_of : Data → Option Ask
-order_of d =
+abbrev pub new_order_asked : Data → Option (Key × NewOrder)
+new_order_asked d =
     if is_object_of 4 d then
     option_and_then (λ key. option_and_then (λ order. option_and_then (λ customer. option_map (λ lines.
-    Do (Plain key) (Order (record { order = order; customer = customer; lines = lines })))
+    keyed key order customer lines)
     (lines_at (codes "lines") d)) (title_at (codes "customer") d)) (name_at (codes "order") d)) (name_at (codes "key") d)
     else None
+  where
+    keyed : List ℕ → List ℕ → List ℕ → List OrderLine → Key × NewOrder
+    keyed key order customer lines = (Plain key, record { order = order; customer = customer; lines = lines })
 
 -- step 9: what a value posted to a route asks, where it has exactly the fields of that route
 abbrev pub body_of : Posted → Data → Option Ask
@@ -162,7 +166,7 @@ body_of Receipts d = scan_of d
 body_of Moves d = move_of d
 body_of Counts d = count_of d
 body_of Adjustments d = adjustment_of d
-body_of Orders d = order_of d
+body_of Orders d = doing Order (new_order_asked d)
 body_of Cancels d = doing Cancel (order_asked d)
 body_of Picks d = doing Pick (picking_asked d)
 body_of Unpicks d = doing Unpick (picking_asked d)
@@ -172,4 +176,5 @@ body_of Releases d = doing Release (lot_asked d)
 body_of Recalls d = doing Recall (lot_asked d)
 body_of Days d = day_of d
 body_of Leasts d = least_of d
+body_of Urgents d = doing Urgent (new_order_asked d)
 body_of ToGoodsIn d = None  -- a file is no JSON

@@ -12,7 +12,7 @@ use Rattle.requests.specs.declared.method.Method.{Method}
 use Rattle.requests.specs.declared.method.Method.TheVariants.{Get, Post}
 use Rattle.requests.specs.declared.routes.Route.{Route}
 use Rattle.requests.specs.declared.routes.Route.TheVariants.{Post as PostTo, Get as GetOf}
-use Rattle.requests.specs.declared.routes.Posted.TheVariants.{Items, Bins, Receipts, Moves, Counts, Adjustments, Orders, Cancels, Picks, Unpicks, Shipments, Holds, Releases, Recalls, Days, Leasts, GoodsIn}
+use Rattle.requests.specs.declared.routes.Posted.TheVariants.{Items, Bins, Receipts, Moves, Counts, Adjustments, Orders, Cancels, Picks, Unpicks, Shipments, Holds, Releases, Recalls, Days, Leasts, Urgents, GoodsIn}
 use Rattle.requests.specs.declared.routes.Shown.TheVariants.{Order, Stock, PickList, Shortages, Card, Notice}
 
 -- the rows of a table
@@ -55,6 +55,7 @@ served =
     ∷ (codes "/recalls", PostTo Recalls)
     ∷ (codes "/days", PostTo Days)
     ∷ (codes "/leasts", PostTo Leasts)
+    ∷ (codes "/urgents", PostTo Urgents)
     ∷ (codes "/goodsin", PostTo GoodsIn)
     ∷ (codes "/orders/{order}", GetOf Order)
     ∷ (codes "/stock/{gtin}", GetOf Stock)

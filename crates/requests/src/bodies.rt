@@ -1,6 +1,6 @@
 ghost use Rattle.std.specs.Prelude.{◌≡◌, ◌≢◌, Some, None, IfOk, IfErr};
 ghost use Rattle.serde_json.specs.View.{view, items_view};
-ghost use Rattle.requests.specs.Bodies.{item_of as item_of_lem, bin_of as bin_of_lem, scan_of as scan_of_lem, move_of as move_of_lem, count_of as count_of_lem, adjustment_of as adjustment_of_lem, day_of as day_of_lem, least_of as least_of_lem, order_of as order_of_lem, line_of as line_of_lem, lines_of as lines_of_lem, lines_at as lines_at_lem, lot_asked as lot_asked_lem, order_asked as order_asked_lem, picking_asked as picking_asked_lem, body_of as body_of_lem};
+ghost use Rattle.requests.specs.Bodies.{item_of as item_of_lem, bin_of as bin_of_lem, scan_of as scan_of_lem, move_of as move_of_lem, count_of as count_of_lem, adjustment_of as adjustment_of_lem, day_of as day_of_lem, least_of as least_of_lem, line_of as line_of_lem, lines_of as lines_of_lem, lines_at as lines_at_lem, lot_asked as lot_asked_lem, new_order_asked as new_order_asked_lem, order_asked as order_asked_lem, picking_asked as picking_asked_lem, body_of as body_of_lem};
 
 use crate::fields::{
     array_at, business_day_at, counted_at, delta_at, gtin_at, is_object_of, kind_at, least_days_at,
@@ -184,10 +184,11 @@ fn lines_at(alloc: Global, value: &Value, name: &str) -> Result<Lines, WireFault
     }
 }
 
-fn order_of(alloc: Global, value: &Value) -> Result<Ask, WireFault>
-    ensures ok { IfOk result (λ a. order_of_lem (view value.now) ≡ Some a) }
+// The bodies of key, order, customer and lines.
+fn new_order_asked(alloc: Global, value: &Value) -> Result<(Key, NewOrder), WireFault>
+    ensures ok { IfOk result (λ a. new_order_asked_lem (view value.now) ≡ Some a) }
     ensures err { IfErr result (λ e. e ≢ WireFault.Memory → (e ≡ WireFault.Field)
-        × (order_of_lem (view value.now) ≡ None)) }
+        × (new_order_asked_lem (view value.now) ≡ None)) }
 {
     if !is_object_of(value, 4) {
         return Err(WireFault::Field);
@@ -202,13 +203,13 @@ fn order_of(alloc: Global, value: &Value) -> Result<Ask, WireFault>
         return Err(WireFault::Field);
     };
     let lines = lines_at(alloc, value, "lines")?;
-    Ok(Ask::Do(
+    Ok((
         Key::Plain(key),
-        Command::Order(NewOrder {
+        NewOrder {
             order,
             customer,
             lines,
-        }),
+        },
     ))
 }
 
@@ -261,7 +262,7 @@ fn picking_asked(value: &Value) -> Option<(Key, Picking)>
 
 // The bodies that need no memory.
 fn plain_body(posted: Posted, value: &Value) -> Option<Ask>
-    requires { (posted ≢ Posted.Receipts) × (posted ≢ Posted.Orders) }
+    requires { (posted ≢ Posted.Receipts) × (posted ≢ Posted.Orders) × (posted ≢ Posted.Urgents) }
     ensures { result ≡ body_of_lem posted (view value.now) }
 {
     match posted {
@@ -300,7 +301,7 @@ fn plain_body(posted: Posted, value: &Value) -> Option<Ask>
         }
         Posted::Days => day_of(value),
         Posted::Leasts => least_of(value),
-        Posted::Receipts | Posted::Orders | Posted::GoodsIn => None,
+        Posted::Receipts | Posted::Orders | Posted::Urgents | Posted::GoodsIn => None,
     }
 }
 
@@ -313,7 +314,14 @@ pub fn body_of(alloc: Global, posted: Posted, value: &Value) -> Result<Ask, Wire
 {
     match posted {
         Posted::Receipts => scan_of(alloc, value),
-        Posted::Orders => order_of(alloc, value),
+        Posted::Orders => {
+            let (key, order) = new_order_asked(alloc, value)?;
+            Ok(Ask::Do(key, Command::Order(order)))
+        }
+        Posted::Urgents => {
+            let (key, order) = new_order_asked(alloc, value)?;
+            Ok(Ask::Do(key, Command::Urgent(order)))
+        }
         _ => match plain_body(posted, value) {
             Some(ask) => Ok(ask),
             None => Err(WireFault::Field),

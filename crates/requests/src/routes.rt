@@ -27,6 +27,7 @@ pub enum Posted {
     Recalls,
     Days,
     Leasts,
+    Urgents,
     GoodsIn,
 }
 
@@ -49,7 +50,7 @@ pub enum Route {
 }
 
 /// The routes that are served.
-pub static ROUTES: [(&str, Route); 23] = [
+pub static ROUTES: [(&str, Route); 24] = [
     ("/items", Route::Post(Posted::Items)),
     ("/bins", Route::Post(Posted::Bins)),
     ("/receipts", Route::Post(Posted::Receipts)),
@@ -66,6 +67,7 @@ pub static ROUTES: [(&str, Route); 23] = [
     ("/recalls", Route::Post(Posted::Recalls)),
     ("/days", Route::Post(Posted::Days)),
     ("/leasts", Route::Post(Posted::Leasts)),
+    ("/urgents", Route::Post(Posted::Urgents)),
     ("/goodsin", Route::Post(Posted::GoodsIn)),
     ("/orders/{order}", Route::Get(Shown::Order)),
     ("/stock/{gtin}", Route::Get(Shown::Stock)),
