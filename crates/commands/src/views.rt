@@ -134,6 +134,6 @@ pub struct ShortLine {
 #[derive(Drop)]
 pub struct ShortView {
     pub item: ItemRow,
-    /// In the order of booking.
+    /// In the order in which they are served.
     pub lines: Listed<ShortLine>,
 }

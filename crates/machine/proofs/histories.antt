@@ -8,6 +8,7 @@ pub mod Lots
 pub mod Orders
 pub mod Bookings
 pub mod Served
+pub mod UrgentFirst
 pub mod Reservations
 pub mod Needs
 pub mod LegalHistories

@@ -12,11 +12,13 @@ use Rattle.commands.specs.declared.rows.ItemRow.{ItemRow}
 use Rattle.commands.specs.declared.rows.CardKind.{CardKind}
 use Rattle.commands.specs.declared.rows.CardKind.TheVariants.{Receipt, WriteOn, WriteOff as WrittenOff, Shipment}
 use Rattle.commands.specs.declared.rows.CardRow.{CardRow}
+use Rattle.plan.specs.declared.Row.{Row}
+use Rattle.plan.specs.Overlap.{plan_rows}
 use Rattle.machine.specs.Acts.{Act}
 use Rattle.machine.specs.Postings.{Place, Supplier, WriteOff, of_item, is_lot, is_shipment, units_in, units_out, balance}
-use Rattle.machine.specs.Standing.{KnownLot, lot_known, is_shippable, bins, orders, shipments}
+use Rattle.machine.specs.Standing.{KnownLot, lot_known, is_shippable, bins, Placed, orders, order_named, shipments}
 use Rattle.machine.specs.Ledger.{postings, postings_of}
-use Rattle.machine.specs.Planning.{Booking, bookings, in_bin, in_store, staged_of_lot, is_open, reserved}
+use Rattle.machine.specs.Planning.{Booking, is_urgent, bookings_of, bookings, demand_of, supplies, item_postings, in_bin, in_store, staged_of_lot, is_open, reserved, reserved_of}
 use Rattle.machine.specs.Once.{IsHistory, Outcome, outcome, acts_after, acts_after_file, same_key, same_command, Accepted, Repeated}
 use Rattle.machine.specs.Machine.{Answer, Told, Run, AllSound, acts_after_all, outcomes}
 use Rattle.machine.specs.Cards.{cards, lot_units_in_house}
@@ -134,6 +136,15 @@ PickDisturbsNone = (first : ℤ) (before : List Act) (key : Key) (p : Picking) (
     let act : Act = record { key = key; command = Pick p } in
     IsHistory first (act ∷ before) →
     reserved first before o l ≡ reserved first (act ∷ before) o l + (if same_text o p.order && is_lot l p.lot then p.qty else 0)
+
+-- the plan of an item with the bookings of urgent orders alone
+abbrev pub urgent_plan : ℤ → List Act → List ℕ → List Row
+urgent_plan first acts g = plan_rows (map (demand_of acts (item_postings first acts g)) (bookings_of is_urgent acts g)) (supplies first acts g)
+
+-- an urgent order gets what it would get if no others had booked but urgent ones
+abbrev pub UrgentOrdersComeFirst : Type 0
+UrgentOrdersComeFirst = (first : ℤ) (acts : List Act) (p : Placed) (l : LotId) → IsHistory first acts → order_named acts p.order ≡ Some p → is_urgent p ≡ true →
+    reserved first acts p.order l ≡ reserved_of (Some p) (lot_known acts l) (urgent_plan first acts l.gtin)
 
 -- the booking has units of the lot, reserved or staged
 abbrev pub has_of_lot : ℤ → List Act → LotId → Booking → Bool

@@ -95,10 +95,13 @@ is_urgent p = p.urgent
 abbrev pub is_normal : Placed → Bool
 is_normal p = not p.urgent
 
--- the bookings of an item in the order in which they are served: those of urgent orders by the act number of their order,
--- then those of the others
+-- those of a class of orders, by the act number of their order
+abbrev pub bookings_of : (Placed → Bool) → List Act → List ℕ → List Booking
+bookings_of class acts g = reverse (flat_map (lines_of_item g) (filter class (orders acts)))
+
+-- the bookings of an item in the order in which they are served: those of urgent orders, then those of the others
 abbrev pub bookings : List Act → List ℕ → List Booking
-bookings acts g = reverse (flat_map (lines_of_item g) (filter is_urgent (orders acts))) ++ reverse (flat_map (lines_of_item g) (filter is_normal (orders acts)))
+bookings acts g = bookings_of is_urgent acts g ++ bookings_of is_normal acts g
 
 -- ordered less staged less shipped, or 0 if cancelled
 abbrev pub need : List Act → List Posting → Booking → ℕ

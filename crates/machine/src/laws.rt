@@ -1,6 +1,6 @@
 //! Laws over all histories and all runs: functions without effect, whose contracts are the laws.
 
-ghost use Rattle.machine.specs.Laws.{NeverOverdrawn, Conserved, Covered, PickDisturbsNone, RecallDisturbsNone, RecallDisturbsLaterAlone, StagedLotsAreShippable, ShippedLotsAreShippable, ClosedOrdersAreEmpty, OtherItemsAreLeftAlone, Traced, LastLinesTellUnits, RunsGoOn, FilesGoOn, RunsWithMemory, RepeatsActOnce, RepeatsGetTheFirstReply};
+ghost use Rattle.machine.specs.Laws.{NeverOverdrawn, Conserved, Covered, UrgentOrdersComeFirst, PickDisturbsNone, RecallDisturbsNone, RecallDisturbsLaterAlone, StagedLotsAreShippable, ShippedLotsAreShippable, ClosedOrdersAreEmpty, OtherItemsAreLeftAlone, Traced, LastLinesTellUnits, RunsGoOn, FilesGoOn, RunsWithMemory, RepeatsActOnce, RepeatsGetTheFirstReply};
 ghost use Rattle.machine.specs.Schemas.{FirstBooksGoOn, SecondBooksGoOn};
 
 /// No more is taken out of places in the warehouse or out of shipments than was brought there.
@@ -23,6 +23,11 @@ pub fn conserved()
 /// The reservations on a lot never add up to more than its units in STORE bins.
 pub fn covered()
     ensures { Covered }
+{}
+
+/// An urgent order gets what it would get if no others had booked but urgent ones.
+pub fn urgent_orders_come_first()
+    ensures { UrgentOrdersComeFirst }
 {}
 
 /// A pick lowers its own reservation by its quantity and changes no other.

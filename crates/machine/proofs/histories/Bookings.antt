@@ -1,4 +1,4 @@
--- The demands of an item stand by number, and are told by what each order wants.
+-- Bookings of some orders stand by number, and their demands are told by what each order wants.
 use Rattle.std.proofs.Common.{◌≡◌, ℕ, ◌+◌, ◌<◌, true, false, List, [], ◌∷◌, ◌++◌, refl, ap, sym, ◌∙◌, subst, arith}
 use Rattle.std.specs.Prelude.{◌==◌, ◌||◌, if◌then◌else◌, filter, map, flat_map, reverse, nat_lt}
 use Rattle.std.specs.List.{list_any}

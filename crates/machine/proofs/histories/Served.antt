@@ -228,12 +228,19 @@ module _ (urgent : Placed → Bool) where
     in_two : map (demand_of acts ps) (served g os) ≡ turned acts ps (flat_map (lines_of_item g) first_ones) ++ turned acts ps (flat_map (lines_of_item g) last_ones)
     in_two = map_append (demand_of acts ps) (reverse (flat_map (lines_of_item g) first_ones)) (reverse (flat_map (lines_of_item g) last_ones))
 
+    classes : AllByRecursion (λ (p : Placed). u p.act ≡ urgent p) os
+    classes = classes_told os falling
+
+    ones : AllClass u true (turned acts ps (flat_map (lines_of_item g) first_ones))
+    ones = class_turned acts ps u true (flat_map (lines_of_item g) first_ones) (orders_booked acts ps u true g first_ones (urgent_kept u os classes))
+
+    -- the demands of the others have numbers of no urgent order
+    pub others : AllClass u false (turned acts ps (flat_map (lines_of_item g) last_ones))
+    others = class_turned acts ps u false (flat_map (lines_of_item g) last_ones) (orders_booked acts ps u false g last_ones (others_kept u os classes))
+
     -- the demands rise in the order of service
     pub served_rise : AreServed u (map (demand_of acts ps) (served g os))
     served_rise =
-        let classes = classes_told os falling in
-        let ones = class_turned acts ps u true (flat_map (lines_of_item g) first_ones) (orders_booked acts ps u true g first_ones (urgent_kept u os classes)) in
-        let others = class_turned acts ps u false (flat_map (lines_of_item g) last_ones) (orders_booked acts ps u false g last_ones (others_kept u os classes)) in
         subst (AreServed u) (sym in_two)
         (served_both u (turned acts ps (flat_map (lines_of_item g) first_ones)) (turned acts ps (flat_map (lines_of_item g) last_ones)) ones others
         (served_in_class u true _ ones (rising_turned acts ps _ (are_lower g first_ones (single_kept urgent os single) (falling_kept urgent os falling))))
