@@ -138,6 +138,8 @@ fn reads_words_back(rt: HostRuntime) {
     );
     assert!(rt; matches!(CardKind::from_word(b"WRITEOFF"), Some(CardKind::WriteOff)));
     assert!(rt; matches!(LotStatus::from_word(b"EXPIRED"), Some(LotStatus::Expired)));
+    assert!(rt; OrderClass::Normal.word() == "NORMAL");
+    assert!(rt; OrderClass::Urgent.word() == "URGENT");
     assert!(rt; BinKind::from_word(b"Hold").is_none());
     assert!(rt; OrderState::from_word(b"HOLD").is_none());
 }
@@ -180,18 +182,30 @@ fn names_what_a_movement_names(rt: HostRuntime) {
     assert!(rt; names.lines.is_empty());
 }
 
-#[test]
-fn names_what_an_order_names(rt: HostRuntime) {
-    let lines = Lines::new(lines(&rt, rt.alloc(), 2)).expect(&rt, "two lines");
-    let command = Command::Order(NewOrder {
-        order: name(&rt, b"S-1"),
-        customer: Title::new(b"Anna").expect(&rt, "a customer"),
-        lines,
-    });
+// An order of two lines.
+fn new_order(rt: &impl Abort, alloc: Global) -> NewOrder {
+    NewOrder {
+        order: name(rt, b"S-1"),
+        customer: Title::new(b"Anna").expect(rt, "a customer"),
+        lines: Lines::new(lines(rt, alloc, 2)).expect(rt, "two lines"),
+    }
+}
+
+fn names_an_order(rt: &impl Abort, command: &Command) {
     let names = command.names();
     assert!(rt; names.lines.len() == 2);
     assert!(rt; names.item.is_none() && names.lot.is_none() && names.bin.is_none());
-    let named = names.order.expect(&rt, "an order");
-    assert!(rt; named.order == name(&rt, b"S-1"));
+    let named = names.order.expect(rt, "an order");
+    assert!(rt; named.order == name(rt, b"S-1"));
     assert!(rt; matches!(named.step, OrderStep::Taken));
+}
+
+#[test]
+fn names_what_an_order_names(rt: HostRuntime) {
+    names_an_order(&rt, &Command::Order(new_order(&rt, rt.alloc())));
+}
+
+#[test]
+fn names_what_an_urgent_order_names(rt: HostRuntime) {
+    names_an_order(&rt, &Command::Urgent(new_order(&rt, rt.alloc())));
 }

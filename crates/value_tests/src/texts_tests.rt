@@ -4,7 +4,7 @@ use crate::text_samples::{
     card_row, day, gtin, in_a_01, item, lot, name, oats, shipped_units, short_line, title,
 };
 use commands::{
-    CardKind, CardRow, LeastDays, LineView, Listed, OrderState, OrderView, ReservedLot, ShortView, StagedLot,
+    CardKind, CardRow, LeastDays, LineView, Listed, OrderClass, OrderState, OrderView, ReservedLot, ShortLine, ShortView, StagedLot,
     feed,
 };
 use std::alloc::{AllocError, Global};
@@ -177,6 +177,7 @@ fn order(
         least: least_days(rt),
     };
     Ok(OrderView {
+        class: OrderClass::Normal,
         customer: title(rt, "Corner Shop"),
         lines: Listed::from_vec(vec![in alloc; line]?),
         order: name(rt, "S-1"),
@@ -249,6 +250,36 @@ fn shortages_are_written(rt: HostRuntime) -> Result<(), Fail> {
         shortages(&view, &mut out)?;
         assert!(rt; out.as_slice() == row.1.as_bytes());
     }
+    Ok(())
+}
+
+// An urgent order stands before those that are not, which came before it.
+static IN_ORDER: [(&str, u64, &str); 3] = [
+    ("S-4", 5, "Mill Inn"),
+    ("S-1", 12, "Corner Shop"),
+    ("S-2", 12, "Harbour Cafe"),
+];
+
+#[test]
+fn shortages_stand_in_the_order_given(rt: HostRuntime) -> Result<(), Fail> {
+    let mut lines = Vec::new(rt.alloc());
+    for row in IN_ORDER.as_slice() {
+        lines.push(ShortLine {
+            order: name(&rt, row.0),
+            qty: row.1,
+            customer: title(&rt, row.2),
+        })?;
+    }
+    let view = ShortView {
+        item: oats(&rt),
+        lines: Listed::from_vec(lines),
+    };
+    let mut out = Vec::new(rt.alloc());
+    shortages(&view, &mut out)?;
+    assert_eq!(rt;
+        out.as_slice(),
+        b"SHORTAGES 09506000134352 Oat drink\nSHORT S-4 5 Mill Inn\nSHORT S-1 12 Corner Shop\nSHORT S-2 12 Harbour Cafe\nTOTAL 29\n".as_slice()
+    );
     Ok(())
 }
 

@@ -1,6 +1,6 @@
 use crate::tests::read;
 use commands::{
-    BinUnits, ItemRow, LeastDays, LineView, Listed, LotStatus, LotView, OrderState, OrderView, Refusal,
+    BinUnits, ItemRow, LeastDays, LineView, Listed, LotStatus, LotView, OrderClass, OrderState, OrderView, Refusal,
     ReservedLot, Short, StagedLot, StockView,
 };
 use http::StatusCode;
@@ -163,6 +163,7 @@ fn an_order(alloc: Global) -> Option<OrderView> {
         least: LeastDays::new(27)?,
     };
     Some(OrderView {
+        class: OrderClass::Normal,
         customer,
         lines: Listed::from_vec(vec![in alloc; line].ok()?),
         order,
@@ -180,7 +181,7 @@ fn writes_an_order(rt: HostRuntime) -> Result<(), Fail> {
         &rt,
         rt.alloc(),
         Answer::Order(shown),
-        b"HTTP/1.1 200 OK\r\ncontent-type: application/json\r\ncontent-length: 193\r\nconnection: close\r\n\r\n{\"customer\":\"Corner Shop\",\"lines\":[{\"gtin\":\"09506000134352\",\"ordered\":12,\"reserved\":[{\"lot\":\"L0\",\"qty\":5},{\"lot\":\"L2\",\"qty\":7}],\"shipped\":0,\"short\":0,\"staged\":[]}],\"order\":\"S-1\",\"state\":\"OPEN\"}".as_slice(),
+        b"HTTP/1.1 200 OK\r\ncontent-type: application/json\r\ncontent-length: 210\r\nconnection: close\r\n\r\n{\"class\":\"NORMAL\",\"customer\":\"Corner Shop\",\"lines\":[{\"gtin\":\"09506000134352\",\"ordered\":12,\"reserved\":[{\"lot\":\"L0\",\"qty\":5},{\"lot\":\"L2\",\"qty\":7}],\"shipped\":0,\"short\":0,\"staged\":[]}],\"order\":\"S-1\",\"state\":\"OPEN\"}".as_slice(),
     )?;
     Ok(())
 }

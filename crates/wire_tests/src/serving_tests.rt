@@ -1,7 +1,7 @@
 //! Requests that are read from a reader, and answers that are written to a writer.
 
 use crate::answer_tests::written;
-use commands::{Listed, OrderState, OrderView};
+use commands::{Listed, OrderClass, OrderState, OrderView};
 use requests::{Read as Reading, RouteTable, WireFault};
 use std::alloc::Global;
 use std::io;
@@ -85,6 +85,7 @@ fn reads_the_longest_body(rt: HostRuntime) {
 // A view with no lines, which no order has, is written too.
 fn no_lines(alloc: Global) -> Option<OrderView> {
     Some(OrderView {
+        class: OrderClass::Urgent,
         customer: Title::new(b"Corner Shop")?,
         lines: Listed::from_vec(Vec::new(alloc)),
         order: Name::new(b"S-1")?,
@@ -105,6 +106,6 @@ fn writes_an_order_without_lines(rt: HostRuntime) {
         &rt,
         rt.alloc(),
         Answer::Order(shown),
-        b"HTTP/1.1 200 OK\r\ncontent-type: application/json\r\ncontent-length: 66\r\nconnection: close\r\n\r\n{\"customer\":\"Corner Shop\",\"lines\":[],\"order\":\"S-1\",\"state\":\"OPEN\"}".as_slice(),
+        b"HTTP/1.1 200 OK\r\ncontent-type: application/json\r\ncontent-length: 83\r\nconnection: close\r\n\r\n{\"class\":\"URGENT\",\"customer\":\"Corner Shop\",\"lines\":[],\"order\":\"S-1\",\"state\":\"OPEN\"}".as_slice(),
     );
 }

@@ -294,7 +294,7 @@ fn limits_heads(rt: HostRuntime) -> Result<(), Fail> {
     Ok(())
 }
 
-static BROKEN_BODIES: [(&str, &str); 18] = [
+static BROKEN_BODIES: [(&str, &str); 20] = [
     ("/items", "[]"),
     (
         "/leasts",
@@ -355,6 +355,14 @@ static BROKEN_BODIES: [(&str, &str); 18] = [
     (
         "/orders",
         "{\"key\":\"K-1\",\"order\":\"S-1\",\"customer\":\"Corner Shop\",\"lines\":[]}",
+    ),
+    (
+        "/urgents",
+        "{\"key\":\"K-1\",\"order\":\"S-3\",\"customer\":\"Mill Inn\",\"lines\":[]}",
+    ),
+    (
+        "/urgents",
+        "{\"key\":\"K-1\",\"class\":\"URGENT\",\"order\":\"S-3\",\"customer\":\"Mill Inn\",\"lines\":[{\"gtin\":\"09506000134352\",\"qty\":10}]}",
     ),
     (
         "/orders",
@@ -422,7 +430,7 @@ fn asks(
     compared
 }
 
-static COMMANDS: [(&str, &str, &str, &str); 15] = [
+static COMMANDS: [(&str, &str, &str, &str); 16] = [
     (
         "/items",
         "{\"name\":\"Oat drink\",\"key\":\"K-1\",\"gtin\":\"09506000134352\"}",
@@ -512,6 +520,12 @@ static COMMANDS: [(&str, &str, &str, &str); 15] = [
         "{\"key\":\"K-1\",\"gtin\":\"09506000134352\",\"days\":3650}",
         "K/K-1",
         "LEAST\n09506000134352\n3650",
+    ),
+    (
+        "/urgents",
+        "{\"key\":\"K-9\",\"order\":\"S-3\",\"customer\":\"Mill Inn\",\"lines\":[{\"gtin\":\"09506000134352\",\"qty\":10},{\"qty\":1,\"gtin\":\"04012345000016\"}]}",
+        "K/K-9",
+        "URGENT\nS-3\nMill Inn\n09506000134352\n10\n04012345000016\n1",
     ),
 ];
 

@@ -15,7 +15,7 @@ struct Spelling {
     spelling: &'static str,
 }
 
-static SPELLINGS: [Spelling; 15] = [
+static SPELLINGS: [Spelling; 16] = [
     Spelling {
         path: "/items",
         body: r#"{"key":"K-1","gtin":"09506000134352","name":"Oat drink"}"#,
@@ -90,6 +90,11 @@ static SPELLINGS: [Spelling; 15] = [
         path: "/leasts",
         body: r#"{"key":"K-1","gtin":"09506000134352","days":27}"#,
         spelling: "LEAST\n09506000134352\n27",
+    },
+    Spelling {
+        path: "/urgents",
+        body: r#"{"key":"K-1","order":"S-3","customer":"Mill Inn","lines":[{"gtin":"09506000134352","qty":10}]}"#,
+        spelling: "URGENT\nS-3\nMill Inn\n09506000134352\n10",
     },
 ];
 
