@@ -32,7 +32,7 @@ BEFORE = [
 
 # What the books tell then: 5 of 12 units are still owed to S-1, which comes first, and S-2 is short of 3.
 TOLD = [
-    ("/orders/S-2", '{"customer":"Harbour Cafe","lines":[{"gtin":"%s","ordered":8,"reserved":[{"lot":"L1","qty":5}],"shipped":0,"short":3,"staged":[]}],"order":"S-2","state":"OPEN"}' % OATS),
+    ("/orders/S-2", '{"class":"NORMAL","customer":"Harbour Cafe","lines":[{"gtin":"%s","ordered":8,"reserved":[{"lot":"L1","qty":5}],"shipped":0,"short":3,"staged":[]}],"order":"S-2","state":"OPEN"}' % OATS),
     ("/shortages/" + OATS, "SHORTAGES %s Oat drink\nSHORT S-2 3 Harbour Cafe\nTOTAL 3\n" % OATS),
     ("/notices/%s/L2" % OATS, "RECALL NOTICE %s Oat drink\nLOT L2 EXPIRY 2026-05-31\nBIN A-01 3\nSHIPMENT 1 2026-05-04 7 S-1 Corner Shop\nTOTAL BINS 3 SHIPPED 7\n" % OATS),
 ]

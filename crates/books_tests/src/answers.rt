@@ -79,12 +79,12 @@ pub(crate) static TWO_CUSTOMERS: &str = r#"
 POST /receipts {"delivery":"D-1","line":1,"label":"01095060001343521726063010L1","bin":"A-01","qty":10} => 200 {"act":6}
 POST /receipts {"delivery":"D-1","line":2,"label":"01095060001343521726053110L2","bin":"A-01","qty":10} => 200 {"act":7}
 POST /orders {"key":"K-8","order":"S-1","customer":"Corner Shop","lines":[{"gtin":"09506000134352","qty":12}]} => 200 {"act":8,"short":0}
-GET /orders/S-1 => 200 {"customer":"Corner Shop","lines":[{"gtin":"09506000134352","ordered":12,"reserved":[{"lot":"L2","qty":10},{"lot":"L1","qty":2}],"shipped":0,"short":0,"staged":[]}],"order":"S-1","state":"OPEN"}
+GET /orders/S-1 => 200 {"class":"NORMAL","customer":"Corner Shop","lines":[{"gtin":"09506000134352","ordered":12,"reserved":[{"lot":"L2","qty":10},{"lot":"L1","qty":2}],"shipped":0,"short":0,"staged":[]}],"order":"S-1","state":"OPEN"}
 POST /orders {"key":"K-9","order":"S-2","customer":"Harbour Cafe","lines":[{"gtin":"09506000134352","qty":12}]} => 200 {"act":9,"short":4}
-GET /orders/S-2 => 200 {"customer":"Harbour Cafe","lines":[{"gtin":"09506000134352","ordered":12,"reserved":[{"lot":"L1","qty":8}],"shipped":0,"short":4,"staged":[]}],"order":"S-2","state":"OPEN"}
+GET /orders/S-2 => 200 {"class":"NORMAL","customer":"Harbour Cafe","lines":[{"gtin":"09506000134352","ordered":12,"reserved":[{"lot":"L1","qty":8}],"shipped":0,"short":4,"staged":[]}],"order":"S-2","state":"OPEN"}
 POST /receipts {"delivery":"D-2","line":1,"label":"01095060001343521726051010L0","bin":"A-01","qty":5} => 200 {"act":10}
-GET /orders/S-1 => 200 {"customer":"Corner Shop","lines":[{"gtin":"09506000134352","ordered":12,"reserved":[{"lot":"L0","qty":5},{"lot":"L2","qty":7}],"shipped":0,"short":0,"staged":[]}],"order":"S-1","state":"OPEN"}
-GET /orders/S-2 => 200 {"customer":"Harbour Cafe","lines":[{"gtin":"09506000134352","ordered":12,"reserved":[{"lot":"L2","qty":3},{"lot":"L1","qty":9}],"shipped":0,"short":0,"staged":[]}],"order":"S-2","state":"OPEN"}
+GET /orders/S-1 => 200 {"class":"NORMAL","customer":"Corner Shop","lines":[{"gtin":"09506000134352","ordered":12,"reserved":[{"lot":"L0","qty":5},{"lot":"L2","qty":7}],"shipped":0,"short":0,"staged":[]}],"order":"S-1","state":"OPEN"}
+GET /orders/S-2 => 200 {"class":"NORMAL","customer":"Harbour Cafe","lines":[{"gtin":"09506000134352","ordered":12,"reserved":[{"lot":"L2","qty":3},{"lot":"L1","qty":9}],"shipped":0,"short":0,"staged":[]}],"order":"S-2","state":"OPEN"}
 POST /receipts {"delivery":"D-2","line":1,"label":"01095060001343521726051010L0","bin":"A-01","qty":5} => 200 {"act":10}
 POST /receipts {"delivery":"D-2","line":1,"label":"01095060001343521726051010L0","bin":"A-01","qty":6} => 409 {"code":"K01"}
 "#;

@@ -47,12 +47,12 @@ pub(crate) static FILES_AND_CUSTOMERS: &str = r#"
 POST /receipts {"delivery":"D-1","line":1,"label":"01095060001343521726063010L1","bin":"A-01","qty":10} => 200 {"act":6}
 POST /goodsin delivery,line,gtin,lot,expiry,bin,qty|D-1,1,09506000134352,L1,260630,A-01,10|D-1,2,09506000134352,L2,260531,A-01,10| => 200 {"accepted":1,"repeated":1}
 POST /orders {"key":"K-8","order":"S-1","customer":"Corner Shop","lines":[{"gtin":"09506000134352","qty":12}]} => 200 {"act":8,"short":0}
-GET /orders/S-1 => 200 {"customer":"Corner Shop","lines":[{"gtin":"09506000134352","ordered":12,"reserved":[{"lot":"L2","qty":10},{"lot":"L1","qty":2}],"shipped":0,"short":0,"staged":[]}],"order":"S-1","state":"OPEN"}
+GET /orders/S-1 => 200 {"class":"NORMAL","customer":"Corner Shop","lines":[{"gtin":"09506000134352","ordered":12,"reserved":[{"lot":"L2","qty":10},{"lot":"L1","qty":2}],"shipped":0,"short":0,"staged":[]}],"order":"S-1","state":"OPEN"}
 POST /goodsin delivery,line,gtin,lot,expiry,bin,qty|D-1,1,09506000134352,L1,260630,A-01,10| => 200 {"accepted":0,"repeated":1}
 POST /orders {"key":"K-9","order":"S-2","customer":"Harbour Cafe","lines":[{"gtin":"09506000134352","qty":12}]} => 200 {"act":9,"short":4}
 POST /goodsin delivery,line,gtin,lot,expiry,bin,qty|D-2,1,09506000134352,L0,260510,A-01,5|D-2,2,09506000134352,L0,260510,B-99,5| => 409 {"code":"U02","row":2}
 POST /goodsin delivery,line,gtin,lot,expiry,bin,qty|D-2,1,09506000134352,L0,260510,A-01,5| => 200 {"accepted":1,"repeated":0}
-GET /orders/S-2 => 200 {"customer":"Harbour Cafe","lines":[{"gtin":"09506000134352","ordered":12,"reserved":[{"lot":"L2","qty":3},{"lot":"L1","qty":9}],"shipped":0,"short":0,"staged":[]}],"order":"S-2","state":"OPEN"}
+GET /orders/S-2 => 200 {"class":"NORMAL","customer":"Harbour Cafe","lines":[{"gtin":"09506000134352","ordered":12,"reserved":[{"lot":"L2","qty":3},{"lot":"L1","qty":9}],"shipped":0,"short":0,"staged":[]}],"order":"S-2","state":"OPEN"}
 "#;
 
 // The rows after the file.

@@ -29,10 +29,10 @@ POST /picks {"key":"G-2","order":"S-1","gtin":"09506000134352","lot":"G1","bin":
 POST /releases {"key":"G-2","gtin":"09506000134352","lot":"G1"} => 200 {"act":12}
 POST /counts {"key":"G-3","gtin":"09506000134352","lot":"G2","bin":"A-01","qty":0} => 200 {"act":13,"change":0}
 POST /counts {"key":"G-4","gtin":"09506000134352","lot":"G2","bin":"A-02","qty":3} => 200 {"act":14,"change":3}
-GET /orders/S-2 => 200 {"customer":"Harbour Cafe","lines":[{"gtin":"09506000134352","ordered":12,"reserved":[{"lot":"L2","qty":3},{"lot":"G2","qty":3},{"lot":"L1","qty":6}],"shipped":0,"short":0,"staged":[]}],"order":"S-2","state":"OPEN"}
+GET /orders/S-2 => 200 {"class":"NORMAL","customer":"Harbour Cafe","lines":[{"gtin":"09506000134352","ordered":12,"reserved":[{"lot":"L2","qty":3},{"lot":"G2","qty":3},{"lot":"L1","qty":6}],"shipped":0,"short":0,"staged":[]}],"order":"S-2","state":"OPEN"}
 POST /counts {"key":"G-5","gtin":"09506000134352","lot":"G2","bin":"A-02","qty":0} => 200 {"act":15,"change":-3}
 POST /adjustments {"key":"G-6","gtin":"09506000134352","lot":"G3","bin":"A-01","change":2} => 200 {"act":16,"change":2}
-GET /orders/S-2 => 200 {"customer":"Harbour Cafe","lines":[{"gtin":"09506000134352","ordered":12,"reserved":[{"lot":"L2","qty":3},{"lot":"G3","qty":2},{"lot":"L1","qty":7}],"shipped":0,"short":0,"staged":[]}],"order":"S-2","state":"OPEN"}
+GET /orders/S-2 => 200 {"class":"NORMAL","customer":"Harbour Cafe","lines":[{"gtin":"09506000134352","ordered":12,"reserved":[{"lot":"L2","qty":3},{"lot":"G3","qty":2},{"lot":"L1","qty":7}],"shipped":0,"short":0,"staged":[]}],"order":"S-2","state":"OPEN"}
 POST /recalls {"key":"G-7","gtin":"09506000134352","lot":"G1"} => 200 {"act":17,"returned":0}
 POST /receipts {"delivery":"D-9","line":1,"label":"01095060001343521726061010G1","bin":"A-01","qty":4} => 409 {"code":"S01"}
 POST /holds {"key":"G-8","gtin":"09506000134352","lot":"G1"} => 409 {"code":"S01"}
@@ -40,7 +40,7 @@ POST /releases {"key":"G-8","gtin":"09506000134352","lot":"G1"} => 409 {"code":"
 POST /recalls {"key":"G-8","gtin":"09506000134352","lot":"G1"} => 409 {"code":"S05"}
 POST /receipts {"delivery":"D-9","line":1,"label":"01095060001343521726061010G4","bin":"A-01","qty":4} => 200 {"act":18}
 POST /cancels {"key":"G-8","order":"S-2"} => 200 {"act":19}
-GET /orders/S-1 => 200 {"customer":"Corner Shop","lines":[{"gtin":"09506000134352","ordered":12,"reserved":[{"lot":"L0","qty":5},{"lot":"L2","qty":7}],"shipped":0,"short":0,"staged":[]}],"order":"S-1","state":"OPEN"}
+GET /orders/S-1 => 200 {"class":"NORMAL","customer":"Corner Shop","lines":[{"gtin":"09506000134352","ordered":12,"reserved":[{"lot":"L0","qty":5},{"lot":"L2","qty":7}],"shipped":0,"short":0,"staged":[]}],"order":"S-1","state":"OPEN"}
 "#;
 
 // How many lots of the item are gone.

@@ -17,13 +17,13 @@ POST /moves {"key":"K-11","gtin":"09506000134352","lot":"L2","from":"A-01","to":
 POST /moves {"key":"K-11","gtin":"09506000134352","lot":"L2","from":"A-02","to":"A-01","qty":1} => 409 {"code":"Q01"}
 POST /moves {"key":"K-11","gtin":"09506000134352","lot":"L2","from":"A-01","to":"A-01","qty":10} => 409 {"code":"Q04"}
 POST /moves {"key":"K-11","gtin":"09506000134352","lot":"L1","from":"A-01","to":"Q-01","qty":10} => 200 {"act":11}
-GET /orders/S-1 => 200 {"customer":"Corner Shop","lines":[{"gtin":"09506000134352","ordered":12,"reserved":[{"lot":"L0","qty":5},{"lot":"L2","qty":7}],"shipped":0,"short":0,"staged":[]}],"order":"S-1","state":"OPEN"}
-GET /orders/S-2 => 200 {"customer":"Harbour Cafe","lines":[{"gtin":"09506000134352","ordered":12,"reserved":[{"lot":"L2","qty":3}],"shipped":0,"short":9,"staged":[]}],"order":"S-2","state":"OPEN"}
+GET /orders/S-1 => 200 {"class":"NORMAL","customer":"Corner Shop","lines":[{"gtin":"09506000134352","ordered":12,"reserved":[{"lot":"L0","qty":5},{"lot":"L2","qty":7}],"shipped":0,"short":0,"staged":[]}],"order":"S-1","state":"OPEN"}
+GET /orders/S-2 => 200 {"class":"NORMAL","customer":"Harbour Cafe","lines":[{"gtin":"09506000134352","ordered":12,"reserved":[{"lot":"L2","qty":3}],"shipped":0,"short":9,"staged":[]}],"order":"S-2","state":"OPEN"}
 POST /moves {"key":"K-11","gtin":"09506000134352","lot":"L1","from":"A-01","to":"Q-01","qty":10} => 200 {"act":11}
 POST /moves {"key":"K-11","gtin":"09506000134352","lot":"L1","from":"A-01","to":"Q-01","qty":9} => 409 {"code":"K01"}
 POST /moves {"key":"K-12","gtin":"09506000134352","lot":"L1","from":"A-01","to":"Q-01","qty":10} => 409 {"code":"Q01"}
-GET /orders/S-1 => 200 {"customer":"Corner Shop","lines":[{"gtin":"09506000134352","ordered":12,"reserved":[{"lot":"L0","qty":5},{"lot":"L2","qty":7}],"shipped":0,"short":0,"staged":[]}],"order":"S-1","state":"OPEN"}
-GET /orders/S-2 => 200 {"customer":"Harbour Cafe","lines":[{"gtin":"09506000134352","ordered":12,"reserved":[{"lot":"L2","qty":3}],"shipped":0,"short":9,"staged":[]}],"order":"S-2","state":"OPEN"}
+GET /orders/S-1 => 200 {"class":"NORMAL","customer":"Corner Shop","lines":[{"gtin":"09506000134352","ordered":12,"reserved":[{"lot":"L0","qty":5},{"lot":"L2","qty":7}],"shipped":0,"short":0,"staged":[]}],"order":"S-1","state":"OPEN"}
+GET /orders/S-2 => 200 {"class":"NORMAL","customer":"Harbour Cafe","lines":[{"gtin":"09506000134352","ordered":12,"reserved":[{"lot":"L2","qty":3}],"shipped":0,"short":9,"staged":[]}],"order":"S-2","state":"OPEN"}
 "#;
 
 // A lot is written off, and some of it is written on in another bin.
@@ -34,13 +34,13 @@ POST /adjustments {"key":"K-11","gtin":"09506000134352","lot":"L9","bin":"A-01",
 POST /adjustments {"key":"K-11","gtin":"09506000134352","lot":"L1","bin":"A-01","change":0} => 400 {"code":"W04"}
 POST /adjustments {"key":"K-11","gtin":"09506000134352","lot":"L1","bin":"A-01","change":-11} => 409 {"code":"Q01"}
 POST /adjustments {"key":"K-11","gtin":"09506000134352","lot":"L1","bin":"A-01","change":-10} => 200 {"act":11,"change":-10}
-GET /orders/S-1 => 200 {"customer":"Corner Shop","lines":[{"gtin":"09506000134352","ordered":12,"reserved":[{"lot":"L0","qty":5},{"lot":"L2","qty":7}],"shipped":0,"short":0,"staged":[]}],"order":"S-1","state":"OPEN"}
-GET /orders/S-2 => 200 {"customer":"Harbour Cafe","lines":[{"gtin":"09506000134352","ordered":12,"reserved":[{"lot":"L2","qty":3}],"shipped":0,"short":9,"staged":[]}],"order":"S-2","state":"OPEN"}
+GET /orders/S-1 => 200 {"class":"NORMAL","customer":"Corner Shop","lines":[{"gtin":"09506000134352","ordered":12,"reserved":[{"lot":"L0","qty":5},{"lot":"L2","qty":7}],"shipped":0,"short":0,"staged":[]}],"order":"S-1","state":"OPEN"}
+GET /orders/S-2 => 200 {"class":"NORMAL","customer":"Harbour Cafe","lines":[{"gtin":"09506000134352","ordered":12,"reserved":[{"lot":"L2","qty":3}],"shipped":0,"short":9,"staged":[]}],"order":"S-2","state":"OPEN"}
 POST /adjustments {"key":"K-11","gtin":"09506000134352","lot":"L1","bin":"A-01","change":-10} => 200 {"act":11,"change":-10}
 POST /adjustments {"key":"K-11","gtin":"09506000134352","lot":"L1","bin":"A-01","change":-9} => 409 {"code":"K01"}
 POST /adjustments {"key":"K-12","gtin":"09506000134352","lot":"L1","bin":"A-02","change":2} => 200 {"act":12,"change":2}
-GET /orders/S-1 => 200 {"customer":"Corner Shop","lines":[{"gtin":"09506000134352","ordered":12,"reserved":[{"lot":"L0","qty":5},{"lot":"L2","qty":7}],"shipped":0,"short":0,"staged":[]}],"order":"S-1","state":"OPEN"}
-GET /orders/S-2 => 200 {"customer":"Harbour Cafe","lines":[{"gtin":"09506000134352","ordered":12,"reserved":[{"lot":"L2","qty":3},{"lot":"L1","qty":2}],"shipped":0,"short":7,"staged":[]}],"order":"S-2","state":"OPEN"}
+GET /orders/S-1 => 200 {"class":"NORMAL","customer":"Corner Shop","lines":[{"gtin":"09506000134352","ordered":12,"reserved":[{"lot":"L0","qty":5},{"lot":"L2","qty":7}],"shipped":0,"short":0,"staged":[]}],"order":"S-1","state":"OPEN"}
+GET /orders/S-2 => 200 {"class":"NORMAL","customer":"Harbour Cafe","lines":[{"gtin":"09506000134352","ordered":12,"reserved":[{"lot":"L2","qty":3},{"lot":"L1","qty":2}],"shipped":0,"short":7,"staged":[]}],"order":"S-2","state":"OPEN"}
 "#;
 
 // A bin has less of a lot than the books say. The lot's card tells it once, though it is counted twice.
@@ -49,17 +49,17 @@ POST /counts {"key":"K-11","gtin":"04012345000023","lot":"L9","bin":"B-99","qty"
 POST /counts {"key":"K-11","gtin":"09506000134352","lot":"L9","bin":"B-99","qty":8} => 409 {"code":"U02"}
 POST /counts {"key":"K-11","gtin":"09506000134352","lot":"L9","bin":"A-01","qty":8} => 409 {"code":"U03"}
 POST /counts {"key":"K-11","gtin":"09506000134352","lot":"L2","bin":"A-01","qty":8} => 200 {"act":11,"change":-2}
-GET /orders/S-1 => 200 {"customer":"Corner Shop","lines":[{"gtin":"09506000134352","ordered":12,"reserved":[{"lot":"L0","qty":5},{"lot":"L2","qty":7}],"shipped":0,"short":0,"staged":[]}],"order":"S-1","state":"OPEN"}
-GET /orders/S-2 => 200 {"customer":"Harbour Cafe","lines":[{"gtin":"09506000134352","ordered":12,"reserved":[{"lot":"L2","qty":1},{"lot":"L1","qty":10}],"shipped":0,"short":1,"staged":[]}],"order":"S-2","state":"OPEN"}
+GET /orders/S-1 => 200 {"class":"NORMAL","customer":"Corner Shop","lines":[{"gtin":"09506000134352","ordered":12,"reserved":[{"lot":"L0","qty":5},{"lot":"L2","qty":7}],"shipped":0,"short":0,"staged":[]}],"order":"S-1","state":"OPEN"}
+GET /orders/S-2 => 200 {"class":"NORMAL","customer":"Harbour Cafe","lines":[{"gtin":"09506000134352","ordered":12,"reserved":[{"lot":"L2","qty":1},{"lot":"L1","qty":10}],"shipped":0,"short":1,"staged":[]}],"order":"S-2","state":"OPEN"}
 POST /counts {"key":"K-11","gtin":"09506000134352","lot":"L2","bin":"A-01","qty":8} => 200 {"act":11,"change":-2}
 POST /counts {"key":"K-11","gtin":"09506000134352","lot":"L2","bin":"A-01","qty":9} => 409 {"code":"K01"}
 POST /counts {"key":"K-12","gtin":"09506000134352","lot":"L2","bin":"A-01","qty":8} => 200 {"act":12,"change":0}
 GET /cards/09506000134352/L2 => 200 |STOCK CARD 09506000134352 Oat drink|LOT L2 EXPIRY 2026-05-31|            7 2026-05-04 RECEIPT  D-1/2                              10         10|           11 2026-05-04 WRITEOFF A-01                               -2          8|IN HOUSE 8
-GET /orders/S-1 => 200 {"customer":"Corner Shop","lines":[{"gtin":"09506000134352","ordered":12,"reserved":[{"lot":"L0","qty":5},{"lot":"L2","qty":7}],"shipped":0,"short":0,"staged":[]}],"order":"S-1","state":"OPEN"}
-GET /orders/S-2 => 200 {"customer":"Harbour Cafe","lines":[{"gtin":"09506000134352","ordered":12,"reserved":[{"lot":"L2","qty":1},{"lot":"L1","qty":10}],"shipped":0,"short":1,"staged":[]}],"order":"S-2","state":"OPEN"}
+GET /orders/S-1 => 200 {"class":"NORMAL","customer":"Corner Shop","lines":[{"gtin":"09506000134352","ordered":12,"reserved":[{"lot":"L0","qty":5},{"lot":"L2","qty":7}],"shipped":0,"short":0,"staged":[]}],"order":"S-1","state":"OPEN"}
+GET /orders/S-2 => 200 {"class":"NORMAL","customer":"Harbour Cafe","lines":[{"gtin":"09506000134352","ordered":12,"reserved":[{"lot":"L2","qty":1},{"lot":"L1","qty":10}],"shipped":0,"short":1,"staged":[]}],"order":"S-2","state":"OPEN"}
 POST /counts {"key":"K-13","gtin":"09506000134352","lot":"L1","bin":"A-01","qty":0} => 200 {"act":13,"change":-10}
-GET /orders/S-1 => 200 {"customer":"Corner Shop","lines":[{"gtin":"09506000134352","ordered":12,"reserved":[{"lot":"L0","qty":5},{"lot":"L2","qty":7}],"shipped":0,"short":0,"staged":[]}],"order":"S-1","state":"OPEN"}
-GET /orders/S-2 => 200 {"customer":"Harbour Cafe","lines":[{"gtin":"09506000134352","ordered":12,"reserved":[{"lot":"L2","qty":1}],"shipped":0,"short":11,"staged":[]}],"order":"S-2","state":"OPEN"}
+GET /orders/S-1 => 200 {"class":"NORMAL","customer":"Corner Shop","lines":[{"gtin":"09506000134352","ordered":12,"reserved":[{"lot":"L0","qty":5},{"lot":"L2","qty":7}],"shipped":0,"short":0,"staged":[]}],"order":"S-1","state":"OPEN"}
+GET /orders/S-2 => 200 {"class":"NORMAL","customer":"Harbour Cafe","lines":[{"gtin":"09506000134352","ordered":12,"reserved":[{"lot":"L2","qty":1}],"shipped":0,"short":11,"staged":[]}],"order":"S-2","state":"OPEN"}
 "#;
 
 // After the picks: a lot is held, and its staged units are returned. It is released and moved back.
@@ -68,48 +68,48 @@ POST /holds {"key":"K-13","gtin":"04012345000023","lot":"L9"} => 409 {"code":"U0
 POST /holds {"key":"K-13","gtin":"09506000134352","lot":"L9"} => 409 {"code":"U03"}
 POST /releases {"key":"K-13","gtin":"09506000134352","lot":"L0"} => 409 {"code":"S04"}
 POST /holds {"key":"K-13","gtin":"09506000134352","lot":"L0"} => 200 {"act":13,"returned":5}
-GET /orders/S-1 => 200 {"customer":"Corner Shop","lines":[{"gtin":"09506000134352","ordered":12,"reserved":[{"lot":"L2","qty":3},{"lot":"L1","qty":2}],"shipped":0,"short":0,"staged":[{"lot":"L2","qty":7}]}],"order":"S-1","state":"OPEN"}
-GET /orders/S-2 => 200 {"customer":"Harbour Cafe","lines":[{"gtin":"09506000134352","ordered":12,"reserved":[{"lot":"L1","qty":8}],"shipped":0,"short":4,"staged":[]}],"order":"S-2","state":"OPEN"}
+GET /orders/S-1 => 200 {"class":"NORMAL","customer":"Corner Shop","lines":[{"gtin":"09506000134352","ordered":12,"reserved":[{"lot":"L2","qty":3},{"lot":"L1","qty":2}],"shipped":0,"short":0,"staged":[{"lot":"L2","qty":7}]}],"order":"S-1","state":"OPEN"}
+GET /orders/S-2 => 200 {"class":"NORMAL","customer":"Harbour Cafe","lines":[{"gtin":"09506000134352","ordered":12,"reserved":[{"lot":"L1","qty":8}],"shipped":0,"short":4,"staged":[]}],"order":"S-2","state":"OPEN"}
 POST /holds {"key":"K-14","gtin":"09506000134352","lot":"L0"} => 409 {"code":"S03"}
 POST /picks {"key":"K-14","order":"S-1","gtin":"09506000134352","lot":"L0","bin":"RETURNS","qty":5} => 409 {"code":"S03"}
 POST /holds {"key":"K-13","gtin":"09506000134352","lot":"L0"} => 200 {"act":13,"returned":5}
 POST /releases {"key":"K-14","gtin":"09506000134352","lot":"L0"} => 200 {"act":14}
-GET /orders/S-1 => 200 {"customer":"Corner Shop","lines":[{"gtin":"09506000134352","ordered":12,"reserved":[{"lot":"L2","qty":3},{"lot":"L1","qty":2}],"shipped":0,"short":0,"staged":[{"lot":"L2","qty":7}]}],"order":"S-1","state":"OPEN"}
-GET /orders/S-2 => 200 {"customer":"Harbour Cafe","lines":[{"gtin":"09506000134352","ordered":12,"reserved":[{"lot":"L1","qty":8}],"shipped":0,"short":4,"staged":[]}],"order":"S-2","state":"OPEN"}
+GET /orders/S-1 => 200 {"class":"NORMAL","customer":"Corner Shop","lines":[{"gtin":"09506000134352","ordered":12,"reserved":[{"lot":"L2","qty":3},{"lot":"L1","qty":2}],"shipped":0,"short":0,"staged":[{"lot":"L2","qty":7}]}],"order":"S-1","state":"OPEN"}
+GET /orders/S-2 => 200 {"class":"NORMAL","customer":"Harbour Cafe","lines":[{"gtin":"09506000134352","ordered":12,"reserved":[{"lot":"L1","qty":8}],"shipped":0,"short":4,"staged":[]}],"order":"S-2","state":"OPEN"}
 POST /releases {"key":"K-15","gtin":"09506000134352","lot":"L0"} => 409 {"code":"S04"}
 POST /releases {"key":"K-14","gtin":"09506000134352","lot":"L0"} => 200 {"act":14}
 POST /picks {"key":"K-15","order":"S-1","gtin":"09506000134352","lot":"L0","bin":"RETURNS","qty":5} => 409 {"code":"S06"}
 POST /moves {"key":"K-15","gtin":"09506000134352","lot":"L0","from":"RETURNS","to":"A-02","qty":5} => 200 {"act":15}
-GET /orders/S-1 => 200 {"customer":"Corner Shop","lines":[{"gtin":"09506000134352","ordered":12,"reserved":[{"lot":"L0","qty":5}],"shipped":0,"short":0,"staged":[{"lot":"L2","qty":7}]}],"order":"S-1","state":"OPEN"}
-GET /orders/S-2 => 200 {"customer":"Harbour Cafe","lines":[{"gtin":"09506000134352","ordered":12,"reserved":[{"lot":"L2","qty":3},{"lot":"L1","qty":9}],"shipped":0,"short":0,"staged":[]}],"order":"S-2","state":"OPEN"}
+GET /orders/S-1 => 200 {"class":"NORMAL","customer":"Corner Shop","lines":[{"gtin":"09506000134352","ordered":12,"reserved":[{"lot":"L0","qty":5}],"shipped":0,"short":0,"staged":[{"lot":"L2","qty":7}]}],"order":"S-1","state":"OPEN"}
+GET /orders/S-2 => 200 {"class":"NORMAL","customer":"Harbour Cafe","lines":[{"gtin":"09506000134352","ordered":12,"reserved":[{"lot":"L2","qty":3},{"lot":"L1","qty":9}],"shipped":0,"short":0,"staged":[]}],"order":"S-2","state":"OPEN"}
 "#;
 
 // A lot is recalled that orders were to be served from.
 pub(crate) static RECALLED: &str = r#"
 POST /recalls {"key":"K-11","gtin":"04012345000023","lot":"L9"} => 409 {"code":"U01"}
 POST /recalls {"key":"K-11","gtin":"09506000134352","lot":"L2"} => 200 {"act":11,"returned":0}
-GET /orders/S-1 => 200 {"customer":"Corner Shop","lines":[{"gtin":"09506000134352","ordered":12,"reserved":[{"lot":"L0","qty":5},{"lot":"L1","qty":7}],"shipped":0,"short":0,"staged":[]}],"order":"S-1","state":"OPEN"}
-GET /orders/S-2 => 200 {"customer":"Harbour Cafe","lines":[{"gtin":"09506000134352","ordered":12,"reserved":[{"lot":"L1","qty":3}],"shipped":0,"short":9,"staged":[]}],"order":"S-2","state":"OPEN"}
+GET /orders/S-1 => 200 {"class":"NORMAL","customer":"Corner Shop","lines":[{"gtin":"09506000134352","ordered":12,"reserved":[{"lot":"L0","qty":5},{"lot":"L1","qty":7}],"shipped":0,"short":0,"staged":[]}],"order":"S-1","state":"OPEN"}
+GET /orders/S-2 => 200 {"class":"NORMAL","customer":"Harbour Cafe","lines":[{"gtin":"09506000134352","ordered":12,"reserved":[{"lot":"L1","qty":3}],"shipped":0,"short":9,"staged":[]}],"order":"S-2","state":"OPEN"}
 POST /recalls {"key":"K-12","gtin":"09506000134352","lot":"L2"} => 409 {"code":"S05"}
 POST /holds {"key":"K-12","gtin":"09506000134352","lot":"L2"} => 409 {"code":"S01"}
 POST /releases {"key":"K-12","gtin":"09506000134352","lot":"L2"} => 409 {"code":"S01"}
 POST /picks {"key":"K-12","order":"S-1","gtin":"09506000134352","lot":"L2","bin":"A-01","qty":7} => 409 {"code":"S01"}
 POST /recalls {"key":"K-11","gtin":"09506000134352","lot":"L2"} => 200 {"act":11,"returned":0}
 POST /recalls {"key":"K-11","gtin":"09506000134352","lot":"L1"} => 409 {"code":"K01"}
-GET /orders/S-1 => 200 {"customer":"Corner Shop","lines":[{"gtin":"09506000134352","ordered":12,"reserved":[{"lot":"L0","qty":5},{"lot":"L1","qty":7}],"shipped":0,"short":0,"staged":[]}],"order":"S-1","state":"OPEN"}
-GET /orders/S-2 => 200 {"customer":"Harbour Cafe","lines":[{"gtin":"09506000134352","ordered":12,"reserved":[{"lot":"L1","qty":3}],"shipped":0,"short":9,"staged":[]}],"order":"S-2","state":"OPEN"}
+GET /orders/S-1 => 200 {"class":"NORMAL","customer":"Corner Shop","lines":[{"gtin":"09506000134352","ordered":12,"reserved":[{"lot":"L0","qty":5},{"lot":"L1","qty":7}],"shipped":0,"short":0,"staged":[]}],"order":"S-1","state":"OPEN"}
+GET /orders/S-2 => 200 {"class":"NORMAL","customer":"Harbour Cafe","lines":[{"gtin":"09506000134352","ordered":12,"reserved":[{"lot":"L1","qty":3}],"shipped":0,"short":9,"staged":[]}],"order":"S-2","state":"OPEN"}
 "#;
 
 // A receipt comes again after the recall of its lot.
 pub(crate) static RECEIVED_AND_RECALLED: &str = r#"
 POST /recalls {"key":"K-11","gtin":"09506000134352","lot":"L0"} => 200 {"act":11,"returned":0}
-GET /orders/S-1 => 200 {"customer":"Corner Shop","lines":[{"gtin":"09506000134352","ordered":12,"reserved":[{"lot":"L2","qty":10},{"lot":"L1","qty":2}],"shipped":0,"short":0,"staged":[]}],"order":"S-1","state":"OPEN"}
-GET /orders/S-2 => 200 {"customer":"Harbour Cafe","lines":[{"gtin":"09506000134352","ordered":12,"reserved":[{"lot":"L1","qty":8}],"shipped":0,"short":4,"staged":[]}],"order":"S-2","state":"OPEN"}
+GET /orders/S-1 => 200 {"class":"NORMAL","customer":"Corner Shop","lines":[{"gtin":"09506000134352","ordered":12,"reserved":[{"lot":"L2","qty":10},{"lot":"L1","qty":2}],"shipped":0,"short":0,"staged":[]}],"order":"S-1","state":"OPEN"}
+GET /orders/S-2 => 200 {"class":"NORMAL","customer":"Harbour Cafe","lines":[{"gtin":"09506000134352","ordered":12,"reserved":[{"lot":"L1","qty":8}],"shipped":0,"short":4,"staged":[]}],"order":"S-2","state":"OPEN"}
 POST /receipts {"delivery":"D-2","line":1,"label":"01095060001343521726051010L0","bin":"A-01","qty":5} => 200 {"act":10}
 POST /receipts {"delivery":"D-2","line":1,"label":"01095060001343521726051010L0","bin":"A-01","qty":6} => 409 {"code":"K01"}
 POST /receipts {"delivery":"D-2","line":2,"label":"01095060001343521726051010L0","bin":"A-01","qty":5} => 409 {"code":"S01"}
-GET /orders/S-1 => 200 {"customer":"Corner Shop","lines":[{"gtin":"09506000134352","ordered":12,"reserved":[{"lot":"L2","qty":10},{"lot":"L1","qty":2}],"shipped":0,"short":0,"staged":[]}],"order":"S-1","state":"OPEN"}
-GET /orders/S-2 => 200 {"customer":"Harbour Cafe","lines":[{"gtin":"09506000134352","ordered":12,"reserved":[{"lot":"L1","qty":8}],"shipped":0,"short":4,"staged":[]}],"order":"S-2","state":"OPEN"}
+GET /orders/S-1 => 200 {"class":"NORMAL","customer":"Corner Shop","lines":[{"gtin":"09506000134352","ordered":12,"reserved":[{"lot":"L2","qty":10},{"lot":"L1","qty":2}],"shipped":0,"short":0,"staged":[]}],"order":"S-1","state":"OPEN"}
+GET /orders/S-2 => 200 {"class":"NORMAL","customer":"Harbour Cafe","lines":[{"gtin":"09506000134352","ordered":12,"reserved":[{"lot":"L1","qty":8}],"shipped":0,"short":4,"staged":[]}],"order":"S-2","state":"OPEN"}
 "#;
 
 // A recall names a lot that was never received; another has a slash in its number.

@@ -75,4 +75,6 @@ mod table_rows;
 #[cfg(test)]
 mod texts_told;
 #[cfg(test)]
+mod urgent_orders;
+#[cfg(test)]
 mod wide;

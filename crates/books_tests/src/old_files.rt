@@ -97,8 +97,8 @@ pub(crate) static OLD_ROWS: [&str; 13] = [
 
 // What the books tell, an act that came before, and how they go on: the staged units are shipped under the next number.
 pub(crate) static OLD_TOLD: &str = r#"
-GET /orders/S-1 => 200 {"customer":"Corner Shop","lines":[{"gtin":"09506000134352","ordered":12,"reserved":[{"lot":"L1","qty":4}],"shipped":5,"short":0,"staged":[{"lot":"L1","qty":3}]}],"order":"S-1","state":"OPEN"}
-GET /orders/S-3 => 200 {"customer":"Harbour Cafe","lines":[{"gtin":"09506000134352","ordered":6,"reserved":[{"lot":"L1","qty":3},{"lot":"L3","qty":3}],"shipped":0,"short":0,"staged":[]}],"order":"S-3","state":"OPEN"}
+GET /orders/S-1 => 200 {"class":"NORMAL","customer":"Corner Shop","lines":[{"gtin":"09506000134352","ordered":12,"reserved":[{"lot":"L1","qty":4}],"shipped":5,"short":0,"staged":[{"lot":"L1","qty":3}]}],"order":"S-1","state":"OPEN"}
+GET /orders/S-3 => 200 {"class":"NORMAL","customer":"Harbour Cafe","lines":[{"gtin":"09506000134352","ordered":6,"reserved":[{"lot":"L1","qty":3},{"lot":"L3","qty":3}],"shipped":0,"short":0,"staged":[]}],"order":"S-3","state":"OPEN"}
 GET /cards/09506000134352/L2 => 200 |STOCK CARD 09506000134352 Oat drink|LOT L2 EXPIRY 2026-05-31|            5 2026-05-04 RECEIPT  D-1/2                              10         10|            8 2026-05-04 WRITEOFF A-01                               -1          9|           17 2026-05-04 SHIPMENT 1                                  -5          4|IN HOUSE 4
 GET /notices/09506000134352/L2 => 200 |RECALL NOTICE 09506000134352 Oat drink|LOT L2 EXPIRY 2026-05-31|BIN A-01 4|SHIPMENT 1 2026-05-04 5 S-1 Corner Shop|TOTAL BINS 4 SHIPPED 5
 POST /picks {"key":"K-15","order":"S-1","gtin":"09506000134352","lot":"L2","bin":"A-01","qty":7} => 200 {"act":15}

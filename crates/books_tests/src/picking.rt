@@ -13,23 +13,23 @@ pub(crate) static PICKED: &str = r#"
 POST /picks {"key":"P-9","order":"S-1","gtin":"09506000134352","lot":"L2","bin":"A-01","qty":8} => 409 {"code":"Q02"}
 POST /picks {"key":"K-11","order":"S-1","gtin":"09506000134352","lot":"L0","bin":"A-01","qty":5} => 200 {"act":11}
 POST /picks {"key":"K-12","order":"S-1","gtin":"09506000134352","lot":"L2","bin":"A-01","qty":7} => 200 {"act":12}
-GET /orders/S-1 => 200 {"customer":"Corner Shop","lines":[{"gtin":"09506000134352","ordered":12,"reserved":[],"shipped":0,"short":0,"staged":[{"lot":"L0","qty":5},{"lot":"L2","qty":7}]}],"order":"S-1","state":"OPEN"}
-GET /orders/S-2 => 200 {"customer":"Harbour Cafe","lines":[{"gtin":"09506000134352","ordered":12,"reserved":[{"lot":"L2","qty":3},{"lot":"L1","qty":9}],"shipped":0,"short":0,"staged":[]}],"order":"S-2","state":"OPEN"}
+GET /orders/S-1 => 200 {"class":"NORMAL","customer":"Corner Shop","lines":[{"gtin":"09506000134352","ordered":12,"reserved":[],"shipped":0,"short":0,"staged":[{"lot":"L0","qty":5},{"lot":"L2","qty":7}]}],"order":"S-1","state":"OPEN"}
+GET /orders/S-2 => 200 {"class":"NORMAL","customer":"Harbour Cafe","lines":[{"gtin":"09506000134352","ordered":12,"reserved":[{"lot":"L2","qty":3},{"lot":"L1","qty":9}],"shipped":0,"short":0,"staged":[]}],"order":"S-2","state":"OPEN"}
 POST /picks {"key":"K-11","order":"S-1","gtin":"09506000134352","lot":"L0","bin":"A-01","qty":5} => 200 {"act":11}
 POST /picks {"key":"K-11","order":"S-1","gtin":"09506000134352","lot":"L0","bin":"A-01","qty":4} => 409 {"code":"K01"}
 POST /shipments {"key":"K-12","order":"S-1"} => 409 {"code":"K01"}
-GET /orders/S-1 => 200 {"customer":"Corner Shop","lines":[{"gtin":"09506000134352","ordered":12,"reserved":[],"shipped":0,"short":0,"staged":[{"lot":"L0","qty":5},{"lot":"L2","qty":7}]}],"order":"S-1","state":"OPEN"}
-GET /orders/S-2 => 200 {"customer":"Harbour Cafe","lines":[{"gtin":"09506000134352","ordered":12,"reserved":[{"lot":"L2","qty":3},{"lot":"L1","qty":9}],"shipped":0,"short":0,"staged":[]}],"order":"S-2","state":"OPEN"}
+GET /orders/S-1 => 200 {"class":"NORMAL","customer":"Corner Shop","lines":[{"gtin":"09506000134352","ordered":12,"reserved":[],"shipped":0,"short":0,"staged":[{"lot":"L0","qty":5},{"lot":"L2","qty":7}]}],"order":"S-1","state":"OPEN"}
+GET /orders/S-2 => 200 {"class":"NORMAL","customer":"Harbour Cafe","lines":[{"gtin":"09506000134352","ordered":12,"reserved":[{"lot":"L2","qty":3},{"lot":"L1","qty":9}],"shipped":0,"short":0,"staged":[]}],"order":"S-2","state":"OPEN"}
 "#;
 
 // A key that was refused serves another pick, and then it is taken.
 pub(crate) static KEY_LEFT_FREE: &str = r#"
 POST /picks {"key":"P-9","order":"S-1","gtin":"09506000134352","lot":"L2","bin":"A-01","qty":8} => 409 {"code":"Q02"}
-GET /orders/S-1 => 200 {"customer":"Corner Shop","lines":[{"gtin":"09506000134352","ordered":12,"reserved":[{"lot":"L0","qty":5},{"lot":"L2","qty":7}],"shipped":0,"short":0,"staged":[]}],"order":"S-1","state":"OPEN"}
-GET /orders/S-2 => 200 {"customer":"Harbour Cafe","lines":[{"gtin":"09506000134352","ordered":12,"reserved":[{"lot":"L2","qty":3},{"lot":"L1","qty":9}],"shipped":0,"short":0,"staged":[]}],"order":"S-2","state":"OPEN"}
+GET /orders/S-1 => 200 {"class":"NORMAL","customer":"Corner Shop","lines":[{"gtin":"09506000134352","ordered":12,"reserved":[{"lot":"L0","qty":5},{"lot":"L2","qty":7}],"shipped":0,"short":0,"staged":[]}],"order":"S-1","state":"OPEN"}
+GET /orders/S-2 => 200 {"class":"NORMAL","customer":"Harbour Cafe","lines":[{"gtin":"09506000134352","ordered":12,"reserved":[{"lot":"L2","qty":3},{"lot":"L1","qty":9}],"shipped":0,"short":0,"staged":[]}],"order":"S-2","state":"OPEN"}
 POST /picks {"key":"P-9","order":"S-1","gtin":"09506000134352","lot":"L2","bin":"A-01","qty":7} => 200 {"act":11}
-GET /orders/S-1 => 200 {"customer":"Corner Shop","lines":[{"gtin":"09506000134352","ordered":12,"reserved":[{"lot":"L0","qty":5}],"shipped":0,"short":0,"staged":[{"lot":"L2","qty":7}]}],"order":"S-1","state":"OPEN"}
-GET /orders/S-2 => 200 {"customer":"Harbour Cafe","lines":[{"gtin":"09506000134352","ordered":12,"reserved":[{"lot":"L2","qty":3},{"lot":"L1","qty":9}],"shipped":0,"short":0,"staged":[]}],"order":"S-2","state":"OPEN"}
+GET /orders/S-1 => 200 {"class":"NORMAL","customer":"Corner Shop","lines":[{"gtin":"09506000134352","ordered":12,"reserved":[{"lot":"L0","qty":5}],"shipped":0,"short":0,"staged":[{"lot":"L2","qty":7}]}],"order":"S-1","state":"OPEN"}
+GET /orders/S-2 => 200 {"class":"NORMAL","customer":"Harbour Cafe","lines":[{"gtin":"09506000134352","ordered":12,"reserved":[{"lot":"L2","qty":3},{"lot":"L1","qty":9}],"shipped":0,"short":0,"staged":[]}],"order":"S-2","state":"OPEN"}
 POST /picks {"key":"P-9","order":"S-1","gtin":"09506000134352","lot":"L2","bin":"A-01","qty":8} => 409 {"code":"K01"}
 "#;
 
@@ -47,8 +47,8 @@ POST /picks {"key":"P-1","order":"S-1","gtin":"09506000134352","lot":"L2","bin":
 POST /picks {"key":"P-1","order":"S-1","gtin":"09506000134352","lot":"L2","bin":"A-01","qty":8} => 409 {"code":"Q02"}
 POST /picks {"key":"P-1","order":"S-2","gtin":"09506000134352","lot":"L0","bin":"A-01","qty":1} => 409 {"code":"Q02"}
 POST /picks {"key":"P-1","order":"S-1","gtin":"09506000134352","lot":"L2","bin":"A-01","qty":0} => 400 {"code":"W04"}
-GET /orders/S-1 => 200 {"customer":"Corner Shop","lines":[{"gtin":"09506000134352","ordered":12,"reserved":[{"lot":"L0","qty":5},{"lot":"L2","qty":7}],"shipped":0,"short":0,"staged":[]}],"order":"S-1","state":"OPEN"}
-GET /orders/S-2 => 200 {"customer":"Harbour Cafe","lines":[{"gtin":"09506000134352","ordered":12,"reserved":[{"lot":"L2","qty":3},{"lot":"L1","qty":9}],"shipped":0,"short":0,"staged":[]}],"order":"S-2","state":"OPEN"}
+GET /orders/S-1 => 200 {"class":"NORMAL","customer":"Corner Shop","lines":[{"gtin":"09506000134352","ordered":12,"reserved":[{"lot":"L0","qty":5},{"lot":"L2","qty":7}],"shipped":0,"short":0,"staged":[]}],"order":"S-1","state":"OPEN"}
+GET /orders/S-2 => 200 {"class":"NORMAL","customer":"Harbour Cafe","lines":[{"gtin":"09506000134352","ordered":12,"reserved":[{"lot":"L2","qty":3},{"lot":"L1","qty":9}],"shipped":0,"short":0,"staged":[]}],"order":"S-2","state":"OPEN"}
 "#;
 
 // After the picks: three units go back into a bin that serves no orders.
@@ -58,23 +58,23 @@ POST /unpicks {"key":"K-13","order":"S-1","gtin":"09506000134352","lot":"L2","bi
 POST /unpicks {"key":"K-13","order":"S-2","gtin":"09506000134352","lot":"L2","bin":"A-01","qty":1} => 409 {"code":"Q03"}
 POST /unpicks {"key":"K-13","order":"S-1","gtin":"09506000134352","lot":"L2","bin":"B-99","qty":3} => 409 {"code":"U02"}
 POST /unpicks {"key":"K-13","order":"S-1","gtin":"09506000134352","lot":"L2","bin":"Q-01","qty":3} => 200 {"act":13}
-GET /orders/S-1 => 200 {"customer":"Corner Shop","lines":[{"gtin":"09506000134352","ordered":12,"reserved":[{"lot":"L2","qty":3}],"shipped":0,"short":0,"staged":[{"lot":"L0","qty":5},{"lot":"L2","qty":4}]}],"order":"S-1","state":"OPEN"}
-GET /orders/S-2 => 200 {"customer":"Harbour Cafe","lines":[{"gtin":"09506000134352","ordered":12,"reserved":[{"lot":"L1","qty":10}],"shipped":0,"short":2,"staged":[]}],"order":"S-2","state":"OPEN"}
+GET /orders/S-1 => 200 {"class":"NORMAL","customer":"Corner Shop","lines":[{"gtin":"09506000134352","ordered":12,"reserved":[{"lot":"L2","qty":3}],"shipped":0,"short":0,"staged":[{"lot":"L0","qty":5},{"lot":"L2","qty":4}]}],"order":"S-1","state":"OPEN"}
+GET /orders/S-2 => 200 {"class":"NORMAL","customer":"Harbour Cafe","lines":[{"gtin":"09506000134352","ordered":12,"reserved":[{"lot":"L1","qty":10}],"shipped":0,"short":2,"staged":[]}],"order":"S-2","state":"OPEN"}
 POST /unpicks {"key":"K-13","order":"S-1","gtin":"09506000134352","lot":"L2","bin":"Q-01","qty":3} => 200 {"act":13}
 POST /unpicks {"key":"K-13","order":"S-1","gtin":"09506000134352","lot":"L2","bin":"A-01","qty":3} => 409 {"code":"K01"}
 POST /unpicks {"key":"K-14","order":"S-1","gtin":"09506000134352","lot":"L2","bin":"A-01","qty":5} => 409 {"code":"Q03"}
-GET /orders/S-1 => 200 {"customer":"Corner Shop","lines":[{"gtin":"09506000134352","ordered":12,"reserved":[{"lot":"L2","qty":3}],"shipped":0,"short":0,"staged":[{"lot":"L0","qty":5},{"lot":"L2","qty":4}]}],"order":"S-1","state":"OPEN"}
-GET /orders/S-2 => 200 {"customer":"Harbour Cafe","lines":[{"gtin":"09506000134352","ordered":12,"reserved":[{"lot":"L1","qty":10}],"shipped":0,"short":2,"staged":[]}],"order":"S-2","state":"OPEN"}
+GET /orders/S-1 => 200 {"class":"NORMAL","customer":"Corner Shop","lines":[{"gtin":"09506000134352","ordered":12,"reserved":[{"lot":"L2","qty":3}],"shipped":0,"short":0,"staged":[{"lot":"L0","qty":5},{"lot":"L2","qty":4}]}],"order":"S-1","state":"OPEN"}
+GET /orders/S-2 => 200 {"class":"NORMAL","customer":"Harbour Cafe","lines":[{"gtin":"09506000134352","ordered":12,"reserved":[{"lot":"L1","qty":10}],"shipped":0,"short":2,"staged":[]}],"order":"S-2","state":"OPEN"}
 "#;
 
 // After the picks: one lot is recalled, and the rest is shipped.
 pub(crate) static RETURNED_AND_SHIPPED: &str = r#"
 POST /recalls {"key":"K-13","gtin":"09506000134352","lot":"L2"} => 200 {"act":13,"returned":7}
-GET /orders/S-1 => 200 {"customer":"Corner Shop","lines":[{"gtin":"09506000134352","ordered":12,"reserved":[{"lot":"L1","qty":7}],"shipped":0,"short":0,"staged":[{"lot":"L0","qty":5}]}],"order":"S-1","state":"OPEN"}
-GET /orders/S-2 => 200 {"customer":"Harbour Cafe","lines":[{"gtin":"09506000134352","ordered":12,"reserved":[{"lot":"L1","qty":3}],"shipped":0,"short":9,"staged":[]}],"order":"S-2","state":"OPEN"}
+GET /orders/S-1 => 200 {"class":"NORMAL","customer":"Corner Shop","lines":[{"gtin":"09506000134352","ordered":12,"reserved":[{"lot":"L1","qty":7}],"shipped":0,"short":0,"staged":[{"lot":"L0","qty":5}]}],"order":"S-1","state":"OPEN"}
+GET /orders/S-2 => 200 {"class":"NORMAL","customer":"Harbour Cafe","lines":[{"gtin":"09506000134352","ordered":12,"reserved":[{"lot":"L1","qty":3}],"shipped":0,"short":9,"staged":[]}],"order":"S-2","state":"OPEN"}
 POST /shipments {"key":"K-14","order":"S-1"} => 200 {"act":14,"shipment":1}
-GET /orders/S-1 => 200 {"customer":"Corner Shop","lines":[{"gtin":"09506000134352","ordered":12,"reserved":[{"lot":"L1","qty":7}],"shipped":5,"short":0,"staged":[]}],"order":"S-1","state":"OPEN"}
-GET /orders/S-2 => 200 {"customer":"Harbour Cafe","lines":[{"gtin":"09506000134352","ordered":12,"reserved":[{"lot":"L1","qty":3}],"shipped":0,"short":9,"staged":[]}],"order":"S-2","state":"OPEN"}
+GET /orders/S-1 => 200 {"class":"NORMAL","customer":"Corner Shop","lines":[{"gtin":"09506000134352","ordered":12,"reserved":[{"lot":"L1","qty":7}],"shipped":5,"short":0,"staged":[]}],"order":"S-1","state":"OPEN"}
+GET /orders/S-2 => 200 {"class":"NORMAL","customer":"Harbour Cafe","lines":[{"gtin":"09506000134352","ordered":12,"reserved":[{"lot":"L1","qty":3}],"shipped":0,"short":9,"staged":[]}],"order":"S-2","state":"OPEN"}
 POST /shipments {"key":"K-15","order":"S-1"} => 409 {"code":"S09"}
 POST /shipments {"key":"K-14","order":"S-1"} => 200 {"act":14,"shipment":1}
 GET /notices/09506000134352/L2 => 200 |RECALL NOTICE 09506000134352 Oat drink|LOT L2 EXPIRY 2026-05-31|BIN A-01 3|BIN RETURNS 7|TOTAL BINS 10 SHIPPED 0
@@ -86,10 +86,10 @@ pub(crate) static SHIPPED_AND_RECALLED: &str = r#"
 POST /shipments {"key":"K-13","order":"S-9"} => 409 {"code":"U04"}
 POST /shipments {"key":"K-13","order":"S-2"} => 409 {"code":"S09"}
 POST /shipments {"key":"K-13","order":"S-1"} => 200 {"act":13,"shipment":1}
-GET /orders/S-1 => 200 {"customer":"Corner Shop","lines":[{"gtin":"09506000134352","ordered":12,"reserved":[],"shipped":12,"short":0,"staged":[]}],"order":"S-1","state":"DONE"}
+GET /orders/S-1 => 200 {"class":"NORMAL","customer":"Corner Shop","lines":[{"gtin":"09506000134352","ordered":12,"reserved":[],"shipped":12,"short":0,"staged":[]}],"order":"S-1","state":"DONE"}
 POST /recalls {"key":"K-14","gtin":"09506000134352","lot":"L2"} => 200 {"act":14,"returned":0}
-GET /orders/S-1 => 200 {"customer":"Corner Shop","lines":[{"gtin":"09506000134352","ordered":12,"reserved":[],"shipped":12,"short":0,"staged":[]}],"order":"S-1","state":"DONE"}
-GET /orders/S-2 => 200 {"customer":"Harbour Cafe","lines":[{"gtin":"09506000134352","ordered":12,"reserved":[{"lot":"L1","qty":10}],"shipped":0,"short":2,"staged":[]}],"order":"S-2","state":"OPEN"}
+GET /orders/S-1 => 200 {"class":"NORMAL","customer":"Corner Shop","lines":[{"gtin":"09506000134352","ordered":12,"reserved":[],"shipped":12,"short":0,"staged":[]}],"order":"S-1","state":"DONE"}
+GET /orders/S-2 => 200 {"class":"NORMAL","customer":"Harbour Cafe","lines":[{"gtin":"09506000134352","ordered":12,"reserved":[{"lot":"L1","qty":10}],"shipped":0,"short":2,"staged":[]}],"order":"S-2","state":"OPEN"}
 GET /cards/09506000134352/L2 => 200 |STOCK CARD 09506000134352 Oat drink|LOT L2 EXPIRY 2026-05-31|            7 2026-05-04 RECEIPT  D-1/2                              10         10|           13 2026-05-04 SHIPMENT 1                                  -7          3|IN HOUSE 3
 GET /notices/09506000134352/L2 => 200 |RECALL NOTICE 09506000134352 Oat drink|LOT L2 EXPIRY 2026-05-31|BIN A-01 3|SHIPMENT 1 2026-05-04 7 S-1 Corner Shop|TOTAL BINS 3 SHIPPED 7
 GET /cards/09506000134352/L0 => 200 |STOCK CARD 09506000134352 Oat drink|LOT L0 EXPIRY 2026-05-10|           10 2026-05-04 RECEIPT  D-2/1                               5          5|           13 2026-05-04 SHIPMENT 1                                  -5          0|IN HOUSE 0
@@ -109,23 +109,23 @@ POST /picks {"key":"K-15","order":"S-1","gtin":"09506000134352","lot":"L1","bin"
 POST /unpicks {"key":"K-15","order":"S-1","gtin":"09506000134352","lot":"L0","bin":"A-01","qty":1} => 409 {"code":"S07"}
 POST /shipments {"key":"K-13","order":"S-1"} => 200 {"act":13,"shipment":1}
 POST /picks {"key":"K-11","order":"S-1","gtin":"09506000134352","lot":"L0","bin":"A-01","qty":5} => 200 {"act":11}
-GET /orders/S-1 => 200 {"customer":"Corner Shop","lines":[{"gtin":"09506000134352","ordered":12,"reserved":[],"shipped":12,"short":0,"staged":[]}],"order":"S-1","state":"DONE"}
-GET /orders/S-2 => 200 {"customer":"Harbour Cafe","lines":[{"gtin":"09506000134352","ordered":12,"reserved":[{"lot":"L1","qty":10}],"shipped":0,"short":2,"staged":[]}],"order":"S-2","state":"OPEN"}
+GET /orders/S-1 => 200 {"class":"NORMAL","customer":"Corner Shop","lines":[{"gtin":"09506000134352","ordered":12,"reserved":[],"shipped":12,"short":0,"staged":[]}],"order":"S-1","state":"DONE"}
+GET /orders/S-2 => 200 {"class":"NORMAL","customer":"Harbour Cafe","lines":[{"gtin":"09506000134352","ordered":12,"reserved":[{"lot":"L1","qty":10}],"shipped":0,"short":2,"staged":[]}],"order":"S-2","state":"OPEN"}
 "#;
 
 // The first customer cancels, and the second has what was reserved.
 pub(crate) static CANCELLED: &str = r#"
 POST /cancels {"key":"K-11","order":"S-9"} => 409 {"code":"U04"}
 POST /cancels {"key":"K-11","order":"S-1"} => 200 {"act":11}
-GET /orders/S-1 => 200 {"customer":"Corner Shop","lines":[{"gtin":"09506000134352","ordered":12,"reserved":[],"shipped":0,"short":0,"staged":[]}],"order":"S-1","state":"CANCELLED"}
-GET /orders/S-2 => 200 {"customer":"Harbour Cafe","lines":[{"gtin":"09506000134352","ordered":12,"reserved":[{"lot":"L0","qty":5},{"lot":"L2","qty":7}],"shipped":0,"short":0,"staged":[]}],"order":"S-2","state":"OPEN"}
+GET /orders/S-1 => 200 {"class":"NORMAL","customer":"Corner Shop","lines":[{"gtin":"09506000134352","ordered":12,"reserved":[],"shipped":0,"short":0,"staged":[]}],"order":"S-1","state":"CANCELLED"}
+GET /orders/S-2 => 200 {"class":"NORMAL","customer":"Harbour Cafe","lines":[{"gtin":"09506000134352","ordered":12,"reserved":[{"lot":"L0","qty":5},{"lot":"L2","qty":7}],"shipped":0,"short":0,"staged":[]}],"order":"S-2","state":"OPEN"}
 POST /cancels {"key":"K-12","order":"S-1"} => 409 {"code":"S07"}
 POST /shipments {"key":"K-12","order":"S-1"} => 409 {"code":"S07"}
 POST /picks {"key":"K-12","order":"S-1","gtin":"09506000134352","lot":"L0","bin":"A-01","qty":1} => 409 {"code":"S07"}
 POST /cancels {"key":"K-11","order":"S-1"} => 200 {"act":11}
 POST /cancels {"key":"K-11","order":"S-2"} => 409 {"code":"K01"}
-GET /orders/S-1 => 200 {"customer":"Corner Shop","lines":[{"gtin":"09506000134352","ordered":12,"reserved":[],"shipped":0,"short":0,"staged":[]}],"order":"S-1","state":"CANCELLED"}
-GET /orders/S-2 => 200 {"customer":"Harbour Cafe","lines":[{"gtin":"09506000134352","ordered":12,"reserved":[{"lot":"L0","qty":5},{"lot":"L2","qty":7}],"shipped":0,"short":0,"staged":[]}],"order":"S-2","state":"OPEN"}
+GET /orders/S-1 => 200 {"class":"NORMAL","customer":"Corner Shop","lines":[{"gtin":"09506000134352","ordered":12,"reserved":[],"shipped":0,"short":0,"staged":[]}],"order":"S-1","state":"CANCELLED"}
+GET /orders/S-2 => 200 {"class":"NORMAL","customer":"Harbour Cafe","lines":[{"gtin":"09506000134352","ordered":12,"reserved":[{"lot":"L0","qty":5},{"lot":"L2","qty":7}],"shipped":0,"short":0,"staged":[]}],"order":"S-2","state":"OPEN"}
 "#;
 
 static TWO_CUSTOMERS: [Step; 1] = [Step::NewHouse(&[

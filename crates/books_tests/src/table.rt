@@ -23,6 +23,7 @@ use crate::picking_rows::{
     PICKED_ROWS, RETURNED_ROWS, SHIPPED_ROWS, STOCK_TAKEN, STOCK_TAKEN_ROWS,
 };
 use crate::texts_told::{PICK_LISTS, SHORT_OF_FOUR, SHORT_OF_NINE};
+use crate::urgent_orders::{SERVED_FIRST, STAGES_STAY};
 use crate::wide::WIDE;
 use std::str::Lines;
 
@@ -72,6 +73,8 @@ pub(crate) enum Table {
     ADayMore,
     StagedStays,
     StagedReturns,
+    ServedFirst,
+    StagesStay,
     /// What books of schema 1 tell, and how they go on.
     OldTold,
 }
@@ -126,6 +129,8 @@ impl Table {
             Table::ADayMore => A_DAY_MORE,
             Table::StagedStays => STAGED_STAYS,
             Table::StagedReturns => STAGED_RETURNS,
+            Table::ServedFirst => SERVED_FIRST,
+            Table::StagesStay => STAGES_STAY,
             Table::OldTold => OLD_TOLD,
         }
     }

@@ -290,7 +290,7 @@ static SHOWN_STEPS: [DayStep; 6] = [
     },
     DayStep {
         asked: "GET /orders/S-1",
-        told: r#"200 {"customer":"Corner Shop","lines":[{"gtin":"09506000134352","ordered":12,"reserved":[],"shipped":12,"short":0,"staged":[]}],"order":"S-1","state":"DONE"}"#,
+        told: r#"200 {"class":"NORMAL","customer":"Corner Shop","lines":[{"gtin":"09506000134352","ordered":12,"reserved":[],"shipped":12,"short":0,"staged":[]}],"order":"S-1","state":"DONE"}"#,
         repeats: "",
         changes: &[],
     },
