@@ -1,7 +1,7 @@
 #!/bin/sh
 # The main job of Lot stock, from nothing: builds lotd, reads a label, makes books, receives goods by
 # their label, takes an order, shows what is reserved for it, the item's stock, the pick list and the shortages,
-# picks, ships, recalls, prints the recall notice and takes in a goods-in file. Needs the Rattle kit and curl.
+# picks, ships, recalls, prints the recall notice, takes in a goods-in file and takes an urgent order. Needs the Rattle kit and curl.
 # Exit status 0 only if every answer was the expected one.
 set -eu
 cd "$(dirname "$0")"
@@ -72,8 +72,8 @@ echo "> lotd init --db stock.db --day 2026-05-04"
 "$lotd" init --db "$db" --day 2026-05-04
 is_closed init
 
-echo "> lotd serve --db stock.db --port $port --max 18"
-"$lotd" serve --db "$db" --port "$port" --max 18 >"$room/out" &
+echo "> lotd serve --db stock.db --port $port --max 21"
+"$lotd" serve --db "$db" --port "$port" --max 21 >"$room/out" &
 server=$!
 for _ in 1 2 3 4 5 6 7 8 9 10; do
     if [ -s "$room/out" ]; then break; fi
@@ -85,7 +85,7 @@ post /items '{"key":"K-1","gtin":"09506000134352","name":"Oat drink"}' 200 '{"ac
 post /bins '{"key":"K-2","bin":"A-01","kind":"STORE"}' 200 '{"act":2}'
 post /receipts "{\"delivery\":\"D-1\",\"line\":1,\"label\":\"$label\",\"bin\":\"A-01\",\"qty\":10}" 200 '{"act":3}'
 post /orders '{"key":"K-3","order":"S-1","customer":"Corner Shop","lines":[{"gtin":"09506000134352","qty":12}]}' 200 '{"act":4,"short":2}'
-get /orders/S-1 200 '{"customer":"Corner Shop","lines":[{"gtin":"09506000134352","ordered":12,"reserved":[{"lot":"AB12","qty":10}],"shipped":0,"short":2,"staged":[]}],"order":"S-1","state":"OPEN"}'
+get /orders/S-1 200 '{"class":"NORMAL","customer":"Corner Shop","lines":[{"gtin":"09506000134352","ordered":12,"reserved":[{"lot":"AB12","qty":10}],"shipped":0,"short":2,"staged":[]}],"order":"S-1","state":"OPEN"}'
 get /stock/09506000134352 200 '{"gtin":"09506000134352","lots":[{"bins":[{"bin":"A-01","qty":10}],"expiry":"2026-09-30","lot":"AB12","reserved":10,"staged":0,"status":"FREE"}],"name":"Oat drink"}'
 text /shortages/09506000134352 "SHORTAGES 09506000134352 Oat drink
 SHORT S-1 2 Corner Shop
@@ -122,6 +122,13 @@ END
 sed 's/A-01,24$/B-99,24/' "$room/goods.csv" >"$room/no_bin.csv"
 file no_bin.csv 409 '{"code":"U02","row":1}'
 file goods.csv 200 '{"accepted":2,"repeated":0}'
+
+# An urgent order is served before the one that came first, which is short again then.
+post /urgents '{"key":"K-7","order":"S-2","customer":"Mill Inn","lines":[{"gtin":"09506000134352","qty":45}]}' 200 '{"act":11,"short":0}'
+get /orders/S-2 200 '{"class":"URGENT","customer":"Mill Inn","lines":[{"gtin":"09506000134352","ordered":45,"reserved":[{"lot":"AB13","qty":24},{"lot":"AB14","qty":21}],"shipped":0,"short":0,"staged":[]}],"order":"S-2","state":"OPEN"}'
+text /shortages/09506000134352 "SHORTAGES 09506000134352 Oat drink
+SHORT S-1 2 Corner Shop
+TOTAL 2"
 
 wait "$server"
 server=
