@@ -4,8 +4,8 @@ use crate::text_samples::{
     card_row, day, gtin, in_a_01, item, lot, name, oats, shipped_units, short_line, title,
 };
 use commands::{
-    CardKind, CardRow, LeastDays, LineView, Listed, OrderClass, OrderState, OrderView, ReservedLot, ShortLine, ShortView, StagedLot,
-    feed,
+    CardKind, CardRow, LeastDays, LineView, Listed, OrderClass, OrderState, OrderView, ReservedLot,
+    ShortLine, ShortView, StagedLot, feed,
 };
 use std::alloc::{AllocError, Global};
 use std::io::Write;
