@@ -2,7 +2,7 @@
 use Rattle.std.specs.Prelude.{ℕ, List, codes, map}
 use Rattle.serde_json.specs.Data.{Data, number, string, array, object, member, no_members, unsigned}
 use Rattle.serde_json.specs.View.{items_of}
-use Rattle.commands.specs.Words.{order_state_word, lot_status_word}
+use Rattle.commands.specs.Words.{order_class_word, order_state_word, lot_status_word}
 use Rattle.commands.specs.declared.views.ReservedLot.{ReservedLot}
 use Rattle.commands.specs.declared.views.StagedLot.{StagedLot}
 use Rattle.commands.specs.declared.views.LineView.{LineView}
@@ -33,13 +33,13 @@ abbrev pub line_data : LineView → Data
 line_data l =
     line_members l.gtin l.ordered (array (items_of (map reserved_data l.reserved))) l.shipped l.short (array (items_of (map staged_data l.staged)))
 
-abbrev pub order_members : List ℕ → Data → List ℕ → List ℕ → Data
-order_members customer lines order state =
-    object (member (codes "customer") (string customer) (member (codes "lines") lines
-    (member (codes "order") (string order) (member (codes "state") (string state) no_members))))
+abbrev pub order_members : List ℕ → List ℕ → Data → List ℕ → List ℕ → Data
+order_members class customer lines order state =
+    object (member (codes "class") (string class) (member (codes "customer") (string customer) (member (codes "lines") lines
+    (member (codes "order") (string order) (member (codes "state") (string state) no_members)))))
 
 abbrev pub order_data : OrderView → Data
-order_data v = order_members v.customer (array (items_of (map line_data v.lines))) v.order (order_state_word v.state)
+order_data v = order_members (order_class_word v.class) v.customer (array (items_of (map line_data v.lines))) v.order (order_state_word v.state)
 
 abbrev pub bin_members : List ℕ → ℕ → Data
 bin_members bin qty = object (member (codes "bin") (string bin) (member (codes "qty") (count qty) no_members))

@@ -66,6 +66,7 @@ fn put_order(out: &mut Writer, shown: &OrderView) -> Result<(), AllocError>
     ensures { OnOk result (Adds out.old out.new (data_tokens (order_data shown.now))) }
 {
     out.begin_object()?;
+    put_text(out, "class", shown.class.word())?;
     put_text(out, "customer", title_text(&shown.customer))?;
     put_list(out, "lines", shown.lines.as_slice())?;
     put_text(out, "order", name_text(&shown.order))?;
