@@ -182,7 +182,7 @@ SOUGHT = "rows are sought by it, and none is sought by such a value"
 COLUMNS = [
     ("meta", "id", "1", [0, 2, -1], "opening", None),
     ("meta", "mark", "1", [b"", b"LOTSTOCk", b"LOTSTOCK ", b"\xff"], "opening", None),
-    ("meta", "version", "1", [0, 2, -1], "opening", None),
+    ("meta", "version", "1", [0, 1, 2, 4, -1], "opening", None),
     ("meta", "day", "1", DAYS, "opening", None),
     ("meta", "acts", "1", ACTS, "opening", None),
     ("meta", "shipments", "1", ACTS, "opening", None),

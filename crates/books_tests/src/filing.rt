@@ -56,8 +56,8 @@ GET /orders/S-2 => 200 {"class":"NORMAL","customer":"Harbour Cafe","lines":[{"gt
 "#;
 
 // The rows after the file.
-pub(crate) static FILED_ROWS: [&str; 15] = [
-    "1|LOTSTOCK|2|20577|8|0\n",
+pub(crate) static FILED_ROWS: [&str; 16] = [
+    "1|LOTSTOCK|3|20577|8|0\n",
     "04012345000016|Rye bread\n09506000134352|Oat drink\n",
     "A-01|STORE\nA-02|STORE\nQ-01|HOLD\nRETURNS|HOLD\n",
     "04012345000016|N1|20818|8|0\n09506000134352|M1|20787|6|0\n09506000134352|M2|20818|7|0\n",
@@ -72,6 +72,7 @@ pub(crate) static FILED_ROWS: [&str; 15] = [
     "04012345000016|N1|8|20577|RECEIPT|D-9/3|4|4\n09506000134352|M1|6|20577|RECEIPT|D-9/1|5|5\n09506000134352|M2|7|20577|RECEIPT|D-9/2|7|7\n",
     "K/K-1|1|ITEM\n09506000134352\nOat drink|{\"act\":1}\nK/K-2|2|ITEM\n04012345000016\nRye bread|{\"act\":2}\nK/K-3|3|BIN\nA-01\nSTORE|{\"act\":3}\nK/K-4|4|BIN\nA-02\nSTORE|{\"act\":4}\nK/K-5|5|BIN\nQ-01\nHOLD|{\"act\":5}\nD/D-9/1|6|RECEIVE\n09506000134352\nM1\n2026-11-30\nA-01\n5|{\"act\":6}\nD/D-9/2|7|RECEIVE\n09506000134352\nM2\n2026-12-31\nA-02\n7|{\"act\":7}\nD/D-9/3|8|RECEIVE\n04012345000016\nN1\n2026-12-31\nA-02\n4|{\"act\":8}\n",
     "04012345000016|0\n09506000134352|0\n",
+    "",
 ];
 
 // A file that is refused leaves each row of each table as it was.

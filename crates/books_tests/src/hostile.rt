@@ -154,8 +154,8 @@ pub(crate) fn takes_changed<S: Alter>(rt: &impl Abort, house: &mut House<S>) {
 }
 
 // The rows of the items and the bins.
-pub(crate) static GOODS_AND_BINS_ROWS: [&str; 15] = [
-    "1|LOTSTOCK|2|20577|5|0\n",
+pub(crate) static GOODS_AND_BINS_ROWS: [&str; 16] = [
+    "1|LOTSTOCK|3|20577|5|0\n",
     "04012345000016|Rye bread\n09506000134352|Oat drink\n",
     "A-01|STORE\nA-02|STORE\nQ-01|HOLD\nRETURNS|HOLD\n",
     "",
@@ -170,6 +170,7 @@ pub(crate) static GOODS_AND_BINS_ROWS: [&str; 15] = [
     "",
     "K/K-1|1|ITEM\n09506000134352\nOat drink|{\"act\":1}\nK/K-2|2|ITEM\n04012345000016\nRye bread|{\"act\":2}\nK/K-3|3|BIN\nA-01\nSTORE|{\"act\":3}\nK/K-4|4|BIN\nA-02\nSTORE|{\"act\":4}\nK/K-5|5|BIN\nQ-01\nHOLD|{\"act\":5}\n",
     "04012345000016|0\n09506000134352|0\n",
+    "",
 ];
 
 static HOSTILE: [&[Step]; 1] = [&[

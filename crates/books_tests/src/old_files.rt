@@ -114,9 +114,10 @@ static OPENED: [&[Step]; 2] = [
         Step::On(On::HasMeta("1|LOTSTOCK|1|20578|21|1\n")),
         Step::On(On::KeepsRows(Left::Old)),
         Step::House(&[]),
-        Step::On(On::HasMeta("1|LOTSTOCK|2|20578|21|1\n")),
+        Step::On(On::HasMeta("1|LOTSTOCK|3|20578|21|1\n")),
         Step::On(On::KeepsRows(Left::Old)),
         Step::On(On::Gives("SELECT gtin || days FROM least", "095060001343520\n")),
+        Step::On(On::Gives("SELECT ord FROM urgents", "")),
     ],
     &[Step::House(&[Asked::Each(Table::OldTold)])],
 ];

@@ -1,7 +1,9 @@
 //! Books are made, opened, and refused where there are none.
 
+use crate::asking::Asked;
 use crate::disk::run;
 use crate::steps::{On, Step};
+use crate::table::{Left, Table};
 use label::{BusinessDay, Day};
 use sqlite::{Alter, Connection};
 use std::alloc::Global;
@@ -101,7 +103,7 @@ pub(crate) fn not_opened<S: Alter + Drop>(
 /// The one row of `meta`, with its columns in order; the day is 2026-05-04, counted from 1970-01-01.
 const META: On = On::Gives(
     "SELECT id || '|' || mark || '|' || version || '|' || day || '|' || acts || '|' || shipments FROM meta",
-    "1|LOTSTOCK|2|20577|0|0\n",
+    "1|LOTSTOCK|3|20577|0|0\n",
 );
 
 /// The one row of `bins`.
@@ -129,13 +131,15 @@ fn an_empty_database_is_no_books(rt: HostRuntime) {
     run(&rt, rt.alloc(), EMPTY.as_slice());
 }
 
-// Books of a later schema, those with another mark and those without a row of `meta` are foreign; so is a day that no
+// Books with the number of an older or of a later schema, those with another mark and those without a row of `meta` are foreign; so is a day that no
 // books have.
 static OTHER_META: [&[Step]; 1] = [&[
     Step::Make,
-    Step::On(On::Run("UPDATE meta SET version = 3")),
+    Step::On(On::Run("UPDATE meta SET version = 2")),
     Step::OpenNone,
-    Step::On(On::Run("UPDATE meta SET version = 2, mark = 'LOTSTOCk'")),
+    Step::On(On::Run("UPDATE meta SET version = 4")),
+    Step::OpenNone,
+    Step::On(On::Run("UPDATE meta SET version = 3, mark = 'LOTSTOCk'")),
     Step::OpenNone,
     Step::On(On::Run("UPDATE meta SET mark = 'LOTSTOCK', day = 10956")),
     Step::OpenNone,
@@ -164,6 +168,46 @@ static OTHER_TABLES: [&[Step]; 1] = [&[
 #[test]
 fn books_without_a_table_or_a_column_are_foreign(rt: HostRuntime) {
     run(&rt, rt.alloc(), OTHER_TABLES.as_slice());
+}
+
+// Books of schema 2, which are those without `urgents`, are brought up as they are opened, and so are those of schema 1,
+// which have no `least` either.
+static OLDER: [&[Step]; 2] = [
+    &[
+        Step::Make,
+        Step::House(&[Asked::Each(Table::GoodsAndBins)]),
+        Step::On(On::Run("DROP TABLE urgents")),
+        Step::On(On::Run("UPDATE meta SET version = 2")),
+        Step::Open,
+        Step::On(On::HasRows(Left::GoodsAndBins)),
+    ],
+    &[
+        Step::On(On::Run("DROP TABLE urgents")),
+        Step::On(On::Run("DROP TABLE least")),
+        Step::On(On::Run("UPDATE meta SET version = 1")),
+        Step::Open,
+        Step::On(On::HasRows(Left::GoodsAndBins)),
+    ],
+];
+
+#[test]
+fn older_books_are_brought_up(rt: HostRuntime) {
+    run(&rt, rt.alloc(), OLDER.as_slice());
+}
+
+// Older books in which a table of a newer schema stands are foreign, and what is there stays.
+static NEWER_TABLE: [&[Step]; 1] = [&[
+    Step::Make,
+    Step::On(On::Run("DROP TABLE least")),
+    Step::On(On::Run("UPDATE meta SET version = 1")),
+    Step::OpenNone,
+    Step::On(On::Gives("SELECT mark || version FROM meta", "LOTSTOCK1\n")),
+    Step::On(BINS),
+]];
+
+#[test]
+fn older_books_with_a_newer_table_are_foreign(rt: HostRuntime) {
+    run(&rt, rt.alloc(), NEWER_TABLE.as_slice());
 }
 
 // No books are made beside a table of items, which stays.

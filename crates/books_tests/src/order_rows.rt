@@ -9,7 +9,7 @@ use std::alloc::Global;
 use std::process::Abort;
 
 /// What reads the rows of each table, by their keys.
-pub(crate) static QUERIES: [&str; 15] = [
+pub(crate) static QUERIES: [&str; 16] = [
     "SELECT id || '|' || mark || '|' || version || '|' || day || '|' || acts || '|' || shipments FROM meta ORDER BY id",
     "SELECT gtin || '|' || name FROM items ORDER BY gtin",
     "SELECT name || '|' || kind FROM bins ORDER BY name",
@@ -25,11 +25,12 @@ pub(crate) static QUERIES: [&str; 15] = [
     "SELECT gtin || '|' || lot || '|' || act || '|' || day || '|' || kind || '|' || note || '|' || qty || '|' || rest FROM cards ORDER BY gtin, lot, act",
     "SELECT k || '|' || act || '|' || spell || '|' || reply FROM repeats ORDER BY act",
     "SELECT gtin || '|' || days FROM least ORDER BY gtin",
+    "SELECT ord || '|' || act FROM urgents ORDER BY ord",
 ];
 
 // The rows after the two customers.
-pub(crate) static TWO_CUSTOMERS_ROWS: [&str; 15] = [
-    "1|LOTSTOCK|2|20577|10|0\n",
+pub(crate) static TWO_CUSTOMERS_ROWS: [&str; 16] = [
+    "1|LOTSTOCK|3|20577|10|0\n",
     "04012345000016|Rye bread\n09506000134352|Oat drink\n",
     "A-01|STORE\nA-02|STORE\nQ-01|HOLD\nRETURNS|HOLD\n",
     "09506000134352|L0|20583|10|0\n09506000134352|L1|20634|6|0\n09506000134352|L2|20604|7|0\n",
@@ -44,6 +45,7 @@ pub(crate) static TWO_CUSTOMERS_ROWS: [&str; 15] = [
     "09506000134352|L0|10|20577|RECEIPT|D-2/1|5|5\n09506000134352|L1|6|20577|RECEIPT|D-1/1|10|10\n09506000134352|L2|7|20577|RECEIPT|D-1/2|10|10\n",
     "K/K-1|1|ITEM\n09506000134352\nOat drink|{\"act\":1}\nK/K-2|2|ITEM\n04012345000016\nRye bread|{\"act\":2}\nK/K-3|3|BIN\nA-01\nSTORE|{\"act\":3}\nK/K-4|4|BIN\nA-02\nSTORE|{\"act\":4}\nK/K-5|5|BIN\nQ-01\nHOLD|{\"act\":5}\nD/D-1/1|6|RECEIVE\n09506000134352\nL1\n2026-06-30\nA-01\n10|{\"act\":6}\nD/D-1/2|7|RECEIVE\n09506000134352\nL2\n2026-05-31\nA-01\n10|{\"act\":7}\nK/K-8|8|ORDER\nS-1\nCorner Shop\n09506000134352\n12|{\"act\":8,\"short\":0}\nK/K-9|9|ORDER\nS-2\nHarbour Cafe\n09506000134352\n12|{\"act\":9,\"short\":4}\nD/D-2/1|10|RECEIVE\n09506000134352\nL0\n2026-05-10\nA-01\n5|{\"act\":10}\n",
     "04012345000016|0\n09506000134352|0\n",
+    "",
 ];
 
 // The first column of each row, in a line of its own.

@@ -22,8 +22,8 @@ GET /cards/09506000134352/L0 => 200 |STOCK CARD 09506000134352 Oat drink|LOT L0 
 "#;
 
 // The rows after both picks.
-pub(crate) static PICKED_ROWS: [&str; 15] = [
-    "1|LOTSTOCK|2|20577|12|0\n",
+pub(crate) static PICKED_ROWS: [&str; 16] = [
+    "1|LOTSTOCK|3|20577|12|0\n",
     "04012345000016|Rye bread\n09506000134352|Oat drink\n",
     "A-01|STORE\nA-02|STORE\nQ-01|HOLD\nRETURNS|HOLD\n",
     "09506000134352|L0|20583|10|0\n09506000134352|L1|20634|6|0\n09506000134352|L2|20604|7|0\n",
@@ -38,11 +38,12 @@ pub(crate) static PICKED_ROWS: [&str; 15] = [
     "09506000134352|L0|10|20577|RECEIPT|D-2/1|5|5\n09506000134352|L1|6|20577|RECEIPT|D-1/1|10|10\n09506000134352|L2|7|20577|RECEIPT|D-1/2|10|10\n",
     "K/K-1|1|ITEM\n09506000134352\nOat drink|{\"act\":1}\nK/K-2|2|ITEM\n04012345000016\nRye bread|{\"act\":2}\nK/K-3|3|BIN\nA-01\nSTORE|{\"act\":3}\nK/K-4|4|BIN\nA-02\nSTORE|{\"act\":4}\nK/K-5|5|BIN\nQ-01\nHOLD|{\"act\":5}\nD/D-1/1|6|RECEIVE\n09506000134352\nL1\n2026-06-30\nA-01\n10|{\"act\":6}\nD/D-1/2|7|RECEIVE\n09506000134352\nL2\n2026-05-31\nA-01\n10|{\"act\":7}\nK/K-8|8|ORDER\nS-1\nCorner Shop\n09506000134352\n12|{\"act\":8,\"short\":0}\nK/K-9|9|ORDER\nS-2\nHarbour Cafe\n09506000134352\n12|{\"act\":9,\"short\":4}\nD/D-2/1|10|RECEIVE\n09506000134352\nL0\n2026-05-10\nA-01\n5|{\"act\":10}\nK/K-11|11|PICK\nS-1\n09506000134352\nL0\nA-01\n5|{\"act\":11}\nK/K-12|12|PICK\nS-1\n09506000134352\nL2\nA-01\n7|{\"act\":12}\n",
     "04012345000016|0\n09506000134352|0\n",
+    "",
 ];
 
 // The rows after a recall that returned units, and the shipment of the others.
-pub(crate) static RETURNED_ROWS: [&str; 15] = [
-    "1|LOTSTOCK|2|20577|14|1\n",
+pub(crate) static RETURNED_ROWS: [&str; 16] = [
+    "1|LOTSTOCK|3|20577|14|1\n",
     "04012345000016|Rye bread\n09506000134352|Oat drink\n",
     "A-01|STORE\nA-02|STORE\nQ-01|HOLD\nRETURNS|HOLD\n",
     "09506000134352|L0|20583|10|0\n09506000134352|L1|20634|6|0\n09506000134352|L2|20604|7|0\n",
@@ -57,11 +58,12 @@ pub(crate) static RETURNED_ROWS: [&str; 15] = [
     "09506000134352|L0|10|20577|RECEIPT|D-2/1|5|5\n09506000134352|L0|14|20577|SHIPMENT|1|-5|0\n09506000134352|L1|6|20577|RECEIPT|D-1/1|10|10\n09506000134352|L2|7|20577|RECEIPT|D-1/2|10|10\n",
     "K/K-1|1|ITEM\n09506000134352\nOat drink|{\"act\":1}\nK/K-2|2|ITEM\n04012345000016\nRye bread|{\"act\":2}\nK/K-3|3|BIN\nA-01\nSTORE|{\"act\":3}\nK/K-4|4|BIN\nA-02\nSTORE|{\"act\":4}\nK/K-5|5|BIN\nQ-01\nHOLD|{\"act\":5}\nD/D-1/1|6|RECEIVE\n09506000134352\nL1\n2026-06-30\nA-01\n10|{\"act\":6}\nD/D-1/2|7|RECEIVE\n09506000134352\nL2\n2026-05-31\nA-01\n10|{\"act\":7}\nK/K-8|8|ORDER\nS-1\nCorner Shop\n09506000134352\n12|{\"act\":8,\"short\":0}\nK/K-9|9|ORDER\nS-2\nHarbour Cafe\n09506000134352\n12|{\"act\":9,\"short\":4}\nD/D-2/1|10|RECEIVE\n09506000134352\nL0\n2026-05-10\nA-01\n5|{\"act\":10}\nK/K-11|11|PICK\nS-1\n09506000134352\nL0\nA-01\n5|{\"act\":11}\nK/K-12|12|PICK\nS-1\n09506000134352\nL2\nA-01\n7|{\"act\":12}\nK/K-13|13|RECALL\n09506000134352\nL2|{\"act\":13,\"returned\":7}\nK/K-14|14|SHIP\nS-1|{\"act\":14,\"shipment\":1}\n",
     "04012345000016|0\n09506000134352|0\n",
+    "",
 ];
 
 // The rows after a shipment, and the recall of a lot that it holds.
-pub(crate) static SHIPPED_ROWS: [&str; 15] = [
-    "1|LOTSTOCK|2|20577|14|1\n",
+pub(crate) static SHIPPED_ROWS: [&str; 16] = [
+    "1|LOTSTOCK|3|20577|14|1\n",
     "04012345000016|Rye bread\n09506000134352|Oat drink\n",
     "A-01|STORE\nA-02|STORE\nQ-01|HOLD\nRETURNS|HOLD\n",
     "09506000134352|L0|20583|10|0\n09506000134352|L1|20634|6|0\n09506000134352|L2|20604|7|0\n",
@@ -76,11 +78,12 @@ pub(crate) static SHIPPED_ROWS: [&str; 15] = [
     "09506000134352|L0|10|20577|RECEIPT|D-2/1|5|5\n09506000134352|L0|13|20577|SHIPMENT|1|-5|0\n09506000134352|L1|6|20577|RECEIPT|D-1/1|10|10\n09506000134352|L2|7|20577|RECEIPT|D-1/2|10|10\n09506000134352|L2|13|20577|SHIPMENT|1|-7|3\n",
     "K/K-1|1|ITEM\n09506000134352\nOat drink|{\"act\":1}\nK/K-2|2|ITEM\n04012345000016\nRye bread|{\"act\":2}\nK/K-3|3|BIN\nA-01\nSTORE|{\"act\":3}\nK/K-4|4|BIN\nA-02\nSTORE|{\"act\":4}\nK/K-5|5|BIN\nQ-01\nHOLD|{\"act\":5}\nD/D-1/1|6|RECEIVE\n09506000134352\nL1\n2026-06-30\nA-01\n10|{\"act\":6}\nD/D-1/2|7|RECEIVE\n09506000134352\nL2\n2026-05-31\nA-01\n10|{\"act\":7}\nK/K-8|8|ORDER\nS-1\nCorner Shop\n09506000134352\n12|{\"act\":8,\"short\":0}\nK/K-9|9|ORDER\nS-2\nHarbour Cafe\n09506000134352\n12|{\"act\":9,\"short\":4}\nD/D-2/1|10|RECEIVE\n09506000134352\nL0\n2026-05-10\nA-01\n5|{\"act\":10}\nK/K-11|11|PICK\nS-1\n09506000134352\nL0\nA-01\n5|{\"act\":11}\nK/K-12|12|PICK\nS-1\n09506000134352\nL2\nA-01\n7|{\"act\":12}\nK/K-13|13|SHIP\nS-1|{\"act\":13,\"shipment\":1}\nK/K-14|14|RECALL\n09506000134352\nL2|{\"act\":14,\"returned\":0}\n",
     "04012345000016|0\n09506000134352|0\n",
+    "",
 ];
 
 // The rows after these.
-pub(crate) static STOCK_TAKEN_ROWS: [&str; 15] = [
-    "1|LOTSTOCK|2|20577|16|0\n",
+pub(crate) static STOCK_TAKEN_ROWS: [&str; 16] = [
+    "1|LOTSTOCK|3|20577|16|0\n",
     "04012345000016|Rye bread\n09506000134352|Oat drink\n",
     "A-01|STORE\nA-02|STORE\nQ-01|HOLD\nRETURNS|HOLD\n",
     "09506000134352|L0|20583|10|1\n09506000134352|L1|20634|6|0\n09506000134352|L2|20604|7|0\n",
@@ -95,6 +98,7 @@ pub(crate) static STOCK_TAKEN_ROWS: [&str; 15] = [
     "09506000134352|L0|10|20577|RECEIPT|D-2/1|5|5\n09506000134352|L1|6|20577|RECEIPT|D-1/1|10|10\n09506000134352|L1|12|20577|WRITEON|A-02|3|13\n09506000134352|L2|7|20577|RECEIPT|D-1/2|10|10\n09506000134352|L2|11|20577|WRITEOFF|A-01|-2|8\n",
     "K/K-1|1|ITEM\n09506000134352\nOat drink|{\"act\":1}\nK/K-2|2|ITEM\n04012345000016\nRye bread|{\"act\":2}\nK/K-3|3|BIN\nA-01\nSTORE|{\"act\":3}\nK/K-4|4|BIN\nA-02\nSTORE|{\"act\":4}\nK/K-5|5|BIN\nQ-01\nHOLD|{\"act\":5}\nD/D-1/1|6|RECEIVE\n09506000134352\nL1\n2026-06-30\nA-01\n10|{\"act\":6}\nD/D-1/2|7|RECEIVE\n09506000134352\nL2\n2026-05-31\nA-01\n10|{\"act\":7}\nK/K-8|8|ORDER\nS-1\nCorner Shop\n09506000134352\n12|{\"act\":8,\"short\":0}\nK/K-9|9|ORDER\nS-2\nHarbour Cafe\n09506000134352\n12|{\"act\":9,\"short\":4}\nD/D-2/1|10|RECEIVE\n09506000134352\nL0\n2026-05-10\nA-01\n5|{\"act\":10}\nK/K-11|11|COUNT\n09506000134352\nL2\nA-01\n8|{\"act\":11,\"change\":-2}\nK/K-12|12|ADJUST\n09506000134352\nL1\nA-02\n3|{\"act\":12,\"change\":3}\nK/K-13|13|MOVE\n09506000134352\nL1\nA-01\nQ-01\n10|{\"act\":13}\nK/K-14|14|HOLD\n09506000134352\nL0|{\"act\":14,\"returned\":0}\nK/K-15|15|CANCEL\nS-1|{\"act\":15}\nK/K-16|16|COUNT\n09506000134352\nL2\nA-01\n8|{\"act\":16,\"change\":0}\n",
     "04012345000016|0\n09506000134352|0\n",
+    "",
 ];
 
 static STOCKTAKING: [&[Step]; 1] = [&[

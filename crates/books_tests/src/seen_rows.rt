@@ -5,7 +5,7 @@ use sqlite_value::order;
 use std::alloc::Global;
 
 /// What reads the rows of each table.
-static QUERIES: [&str; 15] = [
+static QUERIES: [&str; 16] = [
     "SELECT * FROM meta",
     "SELECT * FROM items",
     "SELECT * FROM bins",
@@ -21,6 +21,7 @@ static QUERIES: [&str; 15] = [
     "SELECT * FROM cards",
     "SELECT * FROM repeats",
     "SELECT * FROM least",
+    "SELECT * FROM urgents",
 ];
 
 /// The rows of every table.

@@ -13,7 +13,8 @@ use std::process::Abort;
 // SQL that makes such a row of `meta`, which is read as the books are opened.
 static UNOPENED: &str = r#"UPDATE meta SET id = 2
 UPDATE meta SET mark = 'LOTSTOCk'
-UPDATE meta SET version = 3
+UPDATE meta SET version = 2
+UPDATE meta SET version = 4
 UPDATE meta SET day = 10956
 UPDATE meta SET acts = 1000000000001
 UPDATE meta SET shipments = -1"#;
@@ -41,6 +42,8 @@ INSERT INTO orders VALUES ('S 1', 8, 'Corner Shop', 'OPEN') => GET /shortages/09
 UPDATE orders SET act = -1 WHERE ord = 'S-1' => GET /orders/S-1
 UPDATE orders SET customer = '' WHERE ord = 'S-1' => GET /picklists/S-1
 UPDATE orders SET state = 'open' WHERE ord = 'S-1' => GET /orders/S-1
+INSERT INTO urgents VALUES ('S_3', 19) => POST /bins {"key":"N-1","bin":"B-01","kind":"STORE"}
+UPDATE urgents SET act = -1 WHERE ord = 'S-3' => GET /orders/S-3
 INSERT INTO lines VALUES ('S-1', '095060001343520', 12, 0) => GET /orders/S-1
 UPDATE lines SET ordered = 1000000001 WHERE ord = 'S-1' => GET /shortages/09506000134352
 UPDATE lines SET shipped = -1 WHERE ord = 'S-1' => POST /shipments {"key":"N-1","order":"S-1"}

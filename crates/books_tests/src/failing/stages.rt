@@ -9,7 +9,7 @@ use std::alloc::Global;
 use std::process::Abort;
 
 // The day's work: two items and three bins; two customers and their lots; units are picked; a recall takes seven of them
-// back; a goods-in file; a new day; and days that the lots of an item must have left. A second answer is that of the request
+// back; a goods-in file; a new day; days that the lots of an item must have left; and an urgent order. A second answer is that of the request
 // that comes again.
 static DAY: &str =
     r#"POST /items {"key":"K-1","gtin":"09506000134352","name":"Oat drink"} => 200 {"act":1}
@@ -27,7 +27,8 @@ POST /picks {"key":"K-12","order":"S-1","gtin":"09506000134352","lot":"L2","bin"
 POST /recalls {"key":"K-13","gtin":"09506000134352","lot":"L2"} => 200 {"act":13,"returned":7}
 POST /goodsin delivery,line,gtin,lot,expiry,bin,qty|D-9,1,09506000134352,M1,261130,A-01,5|D-9,2,09506000134352,M2,261231,A-02,7|D-9,3,04012345000016,N1,261200,A-02,4| => 200 {"accepted":3,"repeated":0} => 200 {"accepted":0,"repeated":3}
 POST /days {"key":"K-17","day":"2026-05-05"} => 200 {"act":17,"returned":0}
-POST /leasts {"key":"K-18","gtin":"09506000134352","days":5} => 200 {"act":18,"returned":0}"#;
+POST /leasts {"key":"K-18","gtin":"09506000134352","days":5} => 200 {"act":18,"returned":0}
+POST /urgents {"key":"K-19","order":"S-3","customer":"Mill Inn","lines":[{"gtin":"04012345000016","qty":5}]} => 200 {"act":19,"short":1}"#;
 
 /// The exchanges of the day, in turn.
 pub(crate) fn day(rt: &impl Abort, alloc: Global) -> Vec<Exchange> {

@@ -6,7 +6,7 @@ use sqlite::{Alter, Connection};
 use std::alloc::Global;
 use std::process::Abort;
 
-/// The tables, in the order of the queries, but for the last two: `repeats` and `least`.
+/// The tables, in the order of the queries, but for the last three: `repeats`, `least` and `urgents`.
 static NAMES: [&str; 13] = [
     "meta",
     "items",
@@ -68,4 +68,5 @@ pub(crate) fn has_rows_after<S: Alter>(
     let repeats = shown(rt, alloc, conn, QUERIES[13]);
     are_repeats(rt, repeats.as_str(), done);
     gives(rt, alloc, conn, QUERIES[14], expected(rt, "least", done));
+    gives(rt, alloc, conn, QUERIES[15], expected(rt, "urgents", done));
 }
