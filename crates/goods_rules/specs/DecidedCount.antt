@@ -57,7 +57,7 @@ stock_corrected s l b found = stock_rows_with l b found s.rows.stock
 -- what changes of the item's reserved rows
 abbrev pub correction_replanned : Slice → LotId → List ℕ → ℕ → Replanned
 correction_replanned s l b found =
-    item_replanned s s.meta.day s.rows.orders s.rows.lines s.rows.staged s.rows.lots s.rows.recalls s.rows.bins (stock_corrected s l b found) s.rows.least l.gtin
+    item_replanned s s.meta.day s.rows.orders s.rows.lines s.rows.staged s.rows.lots s.rows.recalls s.rows.bins (stock_corrected s l b found) s.rows.least s.rows.urgents l.gtin
 
 abbrev pub correction_card : Slice → LotId → List ℕ → ℕ → ℤ → CardKind → CardRow
 correction_card s l b found change kind = record {

@@ -33,7 +33,7 @@ stock_rows_moved s m = stock_rows_with m.lot m.to (units_brought s m) (stock_row
 
 -- what changes of the item's reserved rows
 abbrev pub move_replanned : Slice → Movement → Replanned
-move_replanned s m = item_replanned s s.meta.day s.rows.orders s.rows.lines s.rows.staged s.rows.lots s.rows.recalls s.rows.bins (stock_rows_moved s m) s.rows.least m.lot.gtin
+move_replanned s m = item_replanned s s.meta.day s.rows.orders s.rows.lines s.rows.staged s.rows.lots s.rows.recalls s.rows.bins (stock_rows_moved s m) s.rows.least s.rows.urgents m.lot.gtin
 
 abbrev pub move_changes : Slice → Movement → Change
 move_changes s m = record {

@@ -54,7 +54,7 @@ lot_rows_after s r = lots_put s r ++ s.rows.lots
 -- what changes of the item's reserved rows
 abbrev pub receive_replanned : Slice → Receipt → Replanned
 receive_replanned s r =
-    item_replanned s s.meta.day s.rows.orders s.rows.lines s.rows.staged (lot_rows_after s r) s.rows.recalls s.rows.bins (stock_rows_after s r) s.rows.least r.lot.gtin
+    item_replanned s s.meta.day s.rows.orders s.rows.lines s.rows.staged (lot_rows_after s r) s.rows.recalls s.rows.bins (stock_rows_after s r) s.rows.least s.rows.urgents r.lot.gtin
 
 abbrev pub receive_card : Slice → Key → Receipt → CardRow
 receive_card s key r = record {

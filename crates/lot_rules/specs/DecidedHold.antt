@@ -46,7 +46,7 @@ release_seen s l =
 -- what changes of the item's reserved rows
 abbrev pub release_replanned : Slice → LotId → Replanned
 release_replanned s l =
-    item_replanned s s.meta.day s.rows.orders s.rows.lines s.rows.staged (lot_rows_with_hold s l false) s.rows.recalls s.rows.bins s.rows.stock s.rows.least l.gtin
+    item_replanned s s.meta.day s.rows.orders s.rows.lines s.rows.staged (lot_rows_with_hold s l false) s.rows.recalls s.rows.bins s.rows.stock s.rows.least s.rows.urgents l.gtin
 
 abbrev pub release_changes : Slice → LotId → Change
 release_changes s l = record {
@@ -87,7 +87,7 @@ bins_with_returns s = returns_bin_row ∷ s.rows.bins
 -- what changes of the item's reserved rows where its lots and recalls are these after the act
 abbrev pub returning_replanned : Slice → LotId → List LotRow → List RecallRow → Replanned
 returning_replanned s l lots recalls =
-    item_replanned s s.meta.day s.rows.orders s.rows.lines (staged_kept s l) lots recalls (bins_with_returns s) (stock_with_returned s l) s.rows.least l.gtin
+    item_replanned s s.meta.day s.rows.orders s.rows.lines (staged_kept s l) lots recalls (bins_with_returns s) (stock_with_returned s l) s.rows.least s.rows.urgents l.gtin
 
 abbrev pub returned_reply : Slice → LotId → List ℕ
 returned_reply s l = reply_text (number_seen s) (Some (Returned (staged_of_seen s l)))

@@ -59,7 +59,7 @@ module _ (s : Slice) (day : ℤ) (least : List LeastRow) where
 
   -- what changes of an item's reserved rows
   abbrev pub replanned_on : List ℕ → Replanned
-  replanned_on g = item_replanned s day s.rows.orders s.rows.lines staged_kept_on s.rows.lots s.rows.recalls (bins_with_returns s) stock_on least g
+  replanned_on g = item_replanned s day s.rows.orders s.rows.lines staged_kept_on s.rows.lots s.rows.recalls (bins_with_returns s) stock_on least s.rows.urgents g
 
   -- and item after item
   abbrev pub reserved_put_on : List ReservedRow

@@ -33,7 +33,7 @@ other_orders s o = filter (λ r. not (same_text o r.order)) s.rows.orders
 
 -- what changes of an item's reserved rows
 abbrev pub cancel_replanned : Slice → List ℕ → List ℕ → Replanned
-cancel_replanned s o g = item_replanned s s.meta.day (other_orders s o) s.rows.lines s.rows.staged s.rows.lots s.rows.recalls s.rows.bins s.rows.stock s.rows.least g
+cancel_replanned s o g = item_replanned s s.meta.day (other_orders s o) s.rows.lines s.rows.staged s.rows.lots s.rows.recalls s.rows.bins s.rows.stock s.rows.least s.rows.urgents g
 
 -- and item after item
 abbrev pub cancel_put : Slice → List ℕ → List ReservedRow

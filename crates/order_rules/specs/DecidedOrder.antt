@@ -1,4 +1,4 @@
--- What is decided of an order by the rows of its slice: the conditions judged, and the rows changed.
+-- What is decided of an order by the rows of its slice: the conditions judged, urgent or not, and the rows changed where it is not.
 use Rattle.std.specs.Prelude.{ℕ, ◌+◌, Bool, not, nat_lt, List, [], ◌∷◌, map, flat_map, Some}
 use Rattle.std.specs.List.{list_any}
 use Rattle.commands.specs.Lists.{total}

@@ -76,7 +76,7 @@ pick_changes s p =
 -- what changes of the item's reserved rows where so many units are in the bin and on the stage
 abbrev pub replanned_with : Slice → Picking → ℕ → ℕ → Replanned
 replanned_with s p stock staged =
-    item_replanned s s.meta.day s.rows.orders s.rows.lines (staged_rows_with p.order p.lot staged s.rows.staged) s.rows.lots s.rows.recalls s.rows.bins (stock_rows_with p.lot p.bin stock s.rows.stock) s.rows.least p.lot.gtin
+    item_replanned s s.meta.day s.rows.orders s.rows.lines (staged_rows_with p.order p.lot staged s.rows.staged) s.rows.lots s.rows.recalls s.rows.bins (stock_rows_with p.lot p.bin stock s.rows.stock) s.rows.least s.rows.urgents p.lot.gtin
 
 -- where units are put back, the item is planned anew
 abbrev pub unpick_with : Slice → Picking → ℕ → ℕ → Change

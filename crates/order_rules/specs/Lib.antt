@@ -3,3 +3,4 @@ pub mod DecidedCancel
 pub mod DecidedOrder
 pub mod DecidedPick
 pub mod DecidedShip
+pub mod DecidedUrgent

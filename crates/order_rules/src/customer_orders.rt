@@ -22,7 +22,7 @@ use row_rules::{Change, Slice};
 use std::alloc::{AllocError, Global};
 use values::Gtin;
 
-/// The refusal of an order, if it is refused.
+/// The refusal of an order, urgent or not, if it is refused.
 pub fn judge_order(slice: &Slice, o: &NewOrder) -> Option<Refusal>
     ensures { result ≡ first_refusal (order_seen slice.now o.now) }
 {
@@ -92,7 +92,7 @@ fn exceeds_open(slice: &Slice, line: &OrderLine) -> bool
     OPEN_MAX < open.saturating_add(u64::from(line.qty.units()))
 }
 
-/// What an order changes.
+/// What an order changes that is not urgent.
 pub fn change_order(alloc: Global, slice: &Slice, o: &NewOrder) -> Result<Change, AllocError>
     ensures { IfOk result (λ change. change ≡ order_changes slice.now o.now) }
 {
@@ -124,8 +124,8 @@ fn ordered(
     }
 }
 
-// The reply with the units that are short.
-fn short_reply(slice: &Slice, short: u64) -> Short
+/// The reply with the units that are short.
+pub fn short_reply(slice: &Slice, short: u64) -> Short
     ensures { result ≡ reply_text (number_seen_lem slice.now) (Some (UnitsShort short)) }
 {
     reply(number_seen(slice), Some(ReplyField::UnitsShort(short)))

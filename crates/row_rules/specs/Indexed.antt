@@ -15,9 +15,10 @@ pub record IsIndexed (m : IndexedRows) : Type 0 where
   pub recalls : GivesRows (λ r. r.lot.lot) (rows_given m.recalls) m.rows.recalls.now
   pub bins : GivesRows (λ b. b.name) (rows_given m.bins) m.rows.bins.now
   pub stock : GivesRows (λ r. r.lot.lot) (rows_given m.stock) m.rows.stock.now
+  pub urgents : GivesRows (λ u. u.order) (rows_given m.urgents) m.rows.urgents.now
 
 abbrev pub demands_told : List ℕ → IndexedRows → List Demand
-demands_told g m = item_demands g m.rows.lines.now m.rows.staged.now m.rows.orders.now
+demands_told g m = item_demands g m.rows.lines.now m.rows.staged.now m.rows.urgents.now m.rows.orders.now
 
 abbrev pub supplies_told : List ℕ → IndexedRows → List Supply
 supplies_told g m = item_supplies g (earliest_seen m.day m.rows.least.now g) m.rows.recalls.now m.rows.bins.now m.rows.stock.now m.rows.lots.now

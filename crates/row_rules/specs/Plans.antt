@@ -1,5 +1,5 @@
 -- The plan of an item as rows tell it, and the reserved rows that it changes.
-use Rattle.std.specs.Prelude.{ℕ, ◌-◌, min, Bool, false, not, ◌&&◌, ◌||◌, ◌==◌, nat_lt, if◌then◌else◌, List, [], ◌∷◌, map, filter, find, Option, Some, None, ℤ, int_lt}
+use Rattle.std.specs.Prelude.{ℕ, ◌-◌, min, Bool, false, not, ◌&&◌, ◌||◌, ◌==◌, nat_lt, if◌then◌else◌, List, [], ◌∷◌, ◌++◌, map, filter, find, Option, Some, None, ℤ, int_lt}
 use Rattle.std.specs.List.{list_any, cons_option}
 use Rattle.values.specs.Values.{same_text}
 use Rattle.values.specs.declared.lot.LotId.{LotId}
@@ -9,6 +9,7 @@ use Rattle.commands.specs.declared.rows.LotRow.{LotRow}
 use Rattle.commands.specs.declared.rows.RecallRow.{RecallRow}
 use Rattle.commands.specs.declared.rows.StockRow.{StockRow}
 use Rattle.commands.specs.declared.rows.OrderRow.{OrderRow}
+use Rattle.commands.specs.declared.rows.UrgentRow.{UrgentRow}
 use Rattle.commands.specs.declared.rows.LineRow.{LineRow}
 use Rattle.commands.specs.declared.rows.StagedRow.{StagedRow}
 use Rattle.commands.specs.declared.rows.ReservedRow.{ReservedRow}
@@ -49,9 +50,21 @@ demand_seen g lines staged o = record { booking = o.act; need = need_seen g line
 abbrev pub is_earlier : Demand → Demand → Bool
 is_earlier d e = nat_lt d.booking e.booking
 
--- the demands of the orders, by number
-abbrev pub demands_seen : List ℕ → List LineRow → List StagedRow → List OrderRow → List Demand
-demands_seen g lines staged orders = inserted is_earlier [] (map (demand_seen g lines staged) orders)
+-- one of the rows of urgent orders is the order's
+abbrev pub is_urgent_seen : List UrgentRow → OrderRow → Bool
+is_urgent_seen urgents o = list_any (λ u. same_text o.order u.order) urgents
+
+abbrev pub is_normal_seen : List UrgentRow → OrderRow → Bool
+is_normal_seen urgents o = not (is_urgent_seen urgents o)
+
+-- the demands of orders, by number
+abbrev pub demands_by_number : List ℕ → List LineRow → List StagedRow → List OrderRow → List Demand
+demands_by_number g lines staged orders = inserted is_earlier [] (map (demand_seen g lines staged) orders)
+
+-- those of the urgent orders, and then those of the others
+abbrev pub demands_seen : List ℕ → List LineRow → List StagedRow → List UrgentRow → List OrderRow → List Demand
+demands_seen g lines staged urgents orders =
+    demands_by_number g lines staged (filter (is_urgent_seen urgents) orders) ++ demands_by_number g lines staged (filter (is_normal_seen urgents) orders)
 
 -- Supplies
 

@@ -8,6 +8,7 @@ use Rattle.row_rules.specs.Status.{earliest_seen}
 use Rattle.commands.specs.declared.rows.RecallRow.{RecallRow}
 use Rattle.commands.specs.declared.rows.StockRow.{StockRow}
 use Rattle.commands.specs.declared.rows.OrderRow.{OrderRow}
+use Rattle.commands.specs.declared.rows.UrgentRow.{UrgentRow}
 use Rattle.commands.specs.declared.rows.LineRow.{LineRow}
 use Rattle.commands.specs.declared.rows.StagedRow.{StagedRow}
 use Rattle.commands.specs.declared.rows.ReservedRow.{ReservedRow}
@@ -33,8 +34,8 @@ abbrev pub shares_changed : List ℕ → List ReservedRow → List ReservedRow �
 shares_changed g olds news = record { put = rows_to_put olds news; dropped = rows_to_drop g olds news }
 
 -- what the open orders need of an item, and what it has for them, each up to the limit of its sum
-abbrev pub item_demands : List ℕ → List LineRow → List StagedRow → List OrderRow → List Demand
-item_demands g lines staged orders = demands_within SUM_MAX (demands_seen g lines staged orders)
+abbrev pub item_demands : List ℕ → List LineRow → List StagedRow → List UrgentRow → List OrderRow → List Demand
+item_demands g lines staged urgents orders = demands_within SUM_MAX (demands_seen g lines staged urgents orders)
 
 abbrev pub item_supplies : List ℕ → ℤ → List RecallRow → List BinRow → List StockRow → List LotRow → List Supply
 item_supplies g day recalls bins stock lots = supplies_within SUM_MAX (supplies_seen g day recalls bins stock lots)
@@ -45,10 +46,10 @@ replanned_from g old_orders old_lots ds ss orders lots es ts =
     let kept = cut_of ds ss es ts in
     shares_changed g (shares_behind kept old_orders old_lots ds ss) (shares_behind kept orders lots es ts)
 
-module _ (s : Slice) (day : ℤ) (orders : List OrderRow) (lines : List LineRow) (staged : List StagedRow) (lots : List LotRow) (recalls : List RecallRow) (bins : List BinRow) (stock : List StockRow) (least : List LeastRow) (g : List ℕ) where
+module _ (s : Slice) (day : ℤ) (orders : List OrderRow) (lines : List LineRow) (staged : List StagedRow) (lots : List LotRow) (recalls : List RecallRow) (bins : List BinRow) (stock : List StockRow) (least : List LeastRow) (urgents : List UrgentRow) (g : List ℕ) where
   -- what changes of the item's reserved rows between a slice and these
   abbrev pub item_replanned : Replanned
   item_replanned =
       replanned_from g
-      s.rows.orders s.rows.lots (item_demands g s.rows.lines s.rows.staged s.rows.orders) (item_supplies g (earliest_seen s.meta.day s.rows.least g) s.rows.recalls s.rows.bins s.rows.stock s.rows.lots)
-      orders lots (item_demands g lines staged orders) (item_supplies g (earliest_seen day least g) recalls bins stock lots)
+      s.rows.orders s.rows.lots (item_demands g s.rows.lines s.rows.staged s.rows.urgents s.rows.orders) (item_supplies g (earliest_seen s.meta.day s.rows.least g) s.rows.recalls s.rows.bins s.rows.stock s.rows.lots)
+      orders lots (item_demands g lines staged urgents orders) (item_supplies g (earliest_seen day least g) recalls bins stock lots)

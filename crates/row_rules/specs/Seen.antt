@@ -90,6 +90,7 @@ none_put = record {
   shiplines = [];
   cards = [];
   least = [];
+  urgents = [];
 }
 
 abbrev pub none_dropped : Dropped

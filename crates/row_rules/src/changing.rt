@@ -25,6 +25,7 @@ pub fn none_put(alloc: Global) -> Put
         shiplines: Listed::from_vec(Vec::new(alloc)),
         cards: Listed::from_vec(Vec::new(alloc)),
         least: Listed::from_vec(Vec::new(alloc)),
+        urgents: Listed::from_vec(Vec::new(alloc)),
     }
 }
 

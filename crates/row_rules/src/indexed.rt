@@ -11,14 +11,14 @@ use crate::look_ups::{RowsByText, by_text};
 use crate::plans::ItemRows;
 use crate::status::earliest;
 use crate::supplies::{cut_supplies, supplies_found};
-use commands::{BinRow, LineRow, Listed, RecallRow, StagedRow, StockRow};
+use commands::{BinRow, LineRow, Listed, RecallRow, StagedRow, StockRow, UrgentRow};
 use label::BusinessDay;
 use plan::{Demand, Supply};
 use std::alloc::{AllocError, Global};
 use values::Gtin;
 
-/// The rows that tell the demands and supplies of items on a day: lines and staged rows by their
-/// orders, recalls and stock by their lots, bins by their names.
+/// The rows that tell the demands and supplies of items on a day: lines, staged rows and those of
+/// urgent orders by their orders, recalls and stock by their lots, bins by their names.
 #[derive(Drop)]
 pub struct IndexedRows<'a> {
     pub day: BusinessDay,
@@ -28,6 +28,7 @@ pub struct IndexedRows<'a> {
     pub recalls: RowsByText<'a, RecallRow>,
     pub bins: RowsByText<'a, BinRow>,
     pub stock: RowsByText<'a, StockRow>,
+    pub urgents: RowsByText<'a, UrgentRow>,
 }
 
 /// The rows indexed, once for as many items.
@@ -48,6 +49,7 @@ pub fn indexed_rows<'a>(
     let recalls = by_text(alloc, rows.recalls, of_lots)?;
     let bins = by_text(alloc, rows.bins, rows.stock.len())?;
     let stock = by_text(alloc, rows.stock, rows.lots.len())?;
+    let urgents = by_text(alloc, rows.urgents, of_orders)?;
     Ok(IndexedRows {
         day,
         rows: *rows,
@@ -56,6 +58,7 @@ pub fn indexed_rows<'a>(
         recalls,
         bins,
         stock,
+        urgents,
     })
 }
 
@@ -94,8 +97,14 @@ fn demands_of_item(
     ensures told { IfOk result (λ v. v.items ≡ demands_told gtin.now indexed.now) }
     ensures small { IfOk result (λ v. demand_total v.items ≤ SUM_MAX) }
 {
-    let orders = indexed.rows.orders;
-    let demands = demands_found(alloc, gtin, &indexed.lines, &indexed.staged, orders)?;
+    let demands = demands_found(
+        alloc,
+        gtin,
+        &indexed.lines,
+        &indexed.staged,
+        &indexed.urgents,
+        indexed.rows.orders,
+    )?;
     cut_demands(alloc, demands.as_slice())
 }
 

@@ -12,6 +12,7 @@ ghost use Rattle.row_rules.specs.LookUps.{rows_or, rows_kept, rows_given, row_gi
 use crate::text_key::TextKey;
 use commands::{
     BinRow, LeastRow, LineRow, LotRow, OrderRow, RecallRow, ReservedRow, StagedRow, StockRow,
+    UrgentRow,
 };
 use std::alloc::{AllocError, Global};
 use std::collections::BTreeMap;
@@ -300,6 +301,14 @@ impl Keyed for LineRow {
 }
 
 impl Keyed for StagedRow {
+    ghost text = { λ r. r.order };
+
+    fn key(&self) -> TextKey {
+        TextKey::of_name(&self.order)
+    }
+}
+
+impl Keyed for UrgentRow {
     ghost text = { λ r. r.order };
 
     fn key(&self) -> TextKey {

@@ -13,6 +13,7 @@ use crate::pushing::{push_found, push_if};
 use crate::supplies::cut_supplies;
 use commands::{
     BinRow, LeastRow, LineRow, LotRow, OrderRow, RecallRow, ReservedRow, StagedRow, StockRow,
+    UrgentRow,
 };
 use plan::{Demand, Plan, Row, SUM_MAX, Supply, whole};
 use std::alloc::{AllocError, Global};
@@ -29,6 +30,7 @@ pub struct ItemRows<'a> {
     pub bins: &'a [BinRow],
     pub stock: &'a [StockRow],
     pub least: &'a [LeastRow],
+    pub urgents: &'a [UrgentRow],
 }
 
 /// The rows as they are before the act.
@@ -41,6 +43,7 @@ pub fn item_rows(rows: &Rows) -> ItemRows<'_>
     ensures bins { result.bins.now ≡ rows.now.bins }
     ensures stock { result.stock.now ≡ rows.now.stock }
     ensures least { result.least.now ≡ rows.now.least }
+    ensures urgents { result.urgents.now ≡ rows.now.urgents }
 {
     ItemRows {
         orders: rows.orders.as_slice(),
@@ -51,6 +54,7 @@ pub fn item_rows(rows: &Rows) -> ItemRows<'_>
         bins: rows.bins.as_slice(),
         stock: rows.stock.as_slice(),
         least: rows.least.as_slice(),
+        urgents: rows.urgents.as_slice(),
     }
 }
 

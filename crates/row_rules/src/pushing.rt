@@ -1,9 +1,9 @@
-//! Rows that are kept where they are wanted or found.
+//! Rows put into lists of rows: where they are wanted or found, and in front.
 
-ghost use Rattle.std.specs.Prelude.{◌≡◌, ◌++◌, [], ◌∷◌, if◌then◌else◌, OnOk};
+ghost use Rattle.std.specs.Prelude.{◌≡◌, ◌++◌, [], ◌∷◌, if◌then◌else◌, OnOk, IfOk};
 ghost use Rattle.std.specs.List.{cons_option};
 
-use std::alloc::AllocError;
+use std::alloc::{AllocError, Global};
 
 /// One more row, if it is wanted.
 pub fn push_if<T: Copy>(rows: &mut Vec<T>, wanted: bool, row: T) -> Result<(), AllocError>
@@ -23,4 +23,14 @@ pub fn push_found<T: Copy>(rows: &mut Vec<T>, row: Option<T>) -> Result<(), Allo
         rows.push(r)?;
     }
     Ok(())
+}
+
+/// A row in front of others.
+pub fn in_front<T: Copy>(alloc: Global, row: T, rows: &[T]) -> Result<Vec<T>, AllocError>
+    ensures { IfOk result (λ v. v.items ≡ row ∷ rows.now) }
+{
+    let mut all = Vec::new(alloc);
+    all.push(row)?;
+    all.extend_from_slice(rows)?;
+    Ok(all)
 }

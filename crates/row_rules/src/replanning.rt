@@ -32,8 +32,8 @@ pub fn replan_items(
     day: BusinessDay,
     rows: &ItemRows<'_>,
 ) -> Result<Replanned, AllocError>
-    ensures put { IfOk result (λ r. r.put ≡ flat_map (λ g. (item_replanned slice.now day rows.now.orders.now rows.now.lines.now rows.now.staged.now rows.now.lots.now rows.now.recalls.now rows.now.bins.now rows.now.stock.now rows.now.least.now g).put) gtins.now) }
-    ensures dropped { IfOk result (λ r. r.dropped ≡ flat_map (λ g. (item_replanned slice.now day rows.now.orders.now rows.now.lines.now rows.now.staged.now rows.now.lots.now rows.now.recalls.now rows.now.bins.now rows.now.stock.now rows.now.least.now g).dropped) gtins.now) }
+    ensures put { IfOk result (λ r. r.put ≡ flat_map (λ g. (item_replanned slice.now day rows.now.orders.now rows.now.lines.now rows.now.staged.now rows.now.lots.now rows.now.recalls.now rows.now.bins.now rows.now.stock.now rows.now.least.now rows.now.urgents.now g).put) gtins.now) }
+    ensures dropped { IfOk result (λ r. r.dropped ≡ flat_map (λ g. (item_replanned slice.now day rows.now.orders.now rows.now.lines.now rows.now.staged.now rows.now.lots.now rows.now.recalls.now rows.now.bins.now rows.now.stock.now rows.now.least.now rows.now.urgents.now g).dropped) gtins.now) }
 {
     let old_rows = item_rows(&slice.rows);
     let before = indexed_rows(alloc, slice.meta.day, &old_rows, gtins.len())?;
@@ -73,7 +73,7 @@ pub fn replan_item(
     day: BusinessDay,
     rows: &ItemRows<'_>,
 ) -> Result<Replanned, AllocError>
-    ensures { IfOk result (λ r. r ≡ item_replanned slice.now day rows.now.orders.now rows.now.lines.now rows.now.staged.now rows.now.lots.now rows.now.recalls.now rows.now.bins.now rows.now.stock.now rows.now.least.now gtin.now) }
+    ensures { IfOk result (λ r. r ≡ item_replanned slice.now day rows.now.orders.now rows.now.lines.now rows.now.staged.now rows.now.lots.now rows.now.recalls.now rows.now.bins.now rows.now.stock.now rows.now.least.now rows.now.urgents.now gtin.now) }
 {
     let old_rows = item_rows(&slice.rows);
     let before = indexed_rows(alloc, slice.meta.day, &old_rows, 1)?;

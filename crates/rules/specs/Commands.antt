@@ -4,7 +4,7 @@ use Rattle.commands.specs.declared.limits.TheConstants.{ACTS_MAX}
 use Rattle.commands.specs.declared.key.Key.{Key}
 use Rattle.commands.specs.declared.refusal.Refusal.TheVariants.{ActsFull}
 use Rattle.commands.specs.declared.command.Command.{Command}
-use Rattle.commands.specs.declared.command.Command.TheVariants.{Item, Bin, Receive, Move, Count, Adjust, Order, Cancel, Pick, Unpick, Ship, Hold, Release, Recall, OpenDay, Least}
+use Rattle.commands.specs.declared.command.Command.TheVariants.{Item, Bin, Receive, Move, Count, Adjust, Order, Cancel, Pick, Unpick, Ship, Hold, Release, Recall, OpenDay, Least, Urgent}
 use Rattle.machine.specs.Verdict.{Judgement}
 use Rattle.row_rules.specs.declared.slice.Slice.{Slice}
 use Rattle.row_rules.specs.declared.slice.Change.{Change}
@@ -16,6 +16,7 @@ use Rattle.order_rules.specs.DecidedOrder.{order_seen, order_changes}
 use Rattle.order_rules.specs.DecidedCancel.{cancel_seen, cancel_changes}
 use Rattle.order_rules.specs.DecidedPick.{pick_seen, pick_changes, unpick_seen, unpick_changes}
 use Rattle.order_rules.specs.DecidedShip.{ship_seen, ship_changes}
+use Rattle.order_rules.specs.DecidedUrgent.{urgent_changes}
 use Rattle.lot_rules.specs.DecidedHold.{hold_seen, hold_changes, release_seen, release_changes, recall_seen, recall_changes}
 use Rattle.lot_rules.specs.DecidedDay.{day_judged, day_changes}
 use Rattle.lot_rules.specs.DecidedLeast.{least_judged, least_changes}
@@ -37,6 +38,7 @@ command_seen s (Release l) = release_seen s l
 command_seen s (Recall l) = recall_seen s l
 command_seen s (OpenDay day) = day_judged s day
 command_seen s (Least l) = least_judged s l
+command_seen s (Urgent o) = order_seen s o
 
 -- the number of acts is judged first
 abbrev pub all_seen : Slice → Command → Judgement
@@ -59,3 +61,4 @@ command_changes s key (Release l) = release_changes s l
 command_changes s key (Recall l) = recall_changes s l
 command_changes s key (OpenDay day) = day_changes s day
 command_changes s key (Least l) = least_changes s l
+command_changes s key (Urgent o) = urgent_changes s o

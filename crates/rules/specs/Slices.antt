@@ -51,6 +51,7 @@ applied c t = record {
   recall = λ l. added (λ r. is_lot l r.lot) c.put.recalls (t.recall l);
   stock = λ l b. changed (λ r. is_lot l r.lot && same_text b r.bin) c.put.stock c.dropped.stock (t.stock l b);
   order = λ o. added (λ r. same_text o r.order) c.put.orders (t.order o);
+  urgent = λ o. added (λ r. same_text o r.order) c.put.urgents (t.urgent o);
   line = λ o g. added (λ r. same_text o r.order && same_text g r.gtin) c.put.lines (t.line o g);
   staged = λ o l. changed (λ r. same_text o r.order && is_lot l r.lot) c.put.staged c.dropped.staged (t.staged o l);
   reserved = λ o l. changed (λ r. same_text o r.order && is_lot l r.lot) c.put.reserved c.dropped.reserved (t.reserved o l);
@@ -129,12 +130,12 @@ on_stages rows l = list_any (λ r. is_lot l r.lot) rows.staged
 abbrev pub on_named_stage : Command → Rows → LotId → Bool
 on_named_stage command rows l = list_any (λ r. names_order command r.order && is_lot l r.lot) rows.staged
 
--- The slice has the rows of the items that the command touches, and of the days that they ask for, with the rows of the order that it names, of the
--- bins that it names or that hold units of those items, and of the orders with a line of those items. Of the lots it
--- has those that the command names and those with units in bins or on stages; others may be among them. For a
--- shipment, which plans nothing, it has the order with its lines, what is staged of their items, and the stock of the
--- lots that are staged for the order. What is reserved is told where the command is judged by it, and so is whether there are
--- as many items, or bins, as there may be.
+-- The slice has the rows of the items that the command touches, and of the days that they ask for, with the rows of the order that
+-- it names, of the bins that it names or that hold units of those items, and of the orders with a line of those items; those of
+-- urgent orders tell which of the open ones are urgent. Of the lots it has those that the command names and those with units in
+-- bins or on stages; others may be among them. For a shipment, which plans nothing, it has the order with its lines, what is
+-- staged of their items, and the stock of the lots that are staged for the order. What is reserved is told where the command is
+-- judged by it, and so is whether there are as many items, or bins, as there may be.
 pub record IsSlice (first : ℤ) (act : Act) (acts : List Act) (t : Tables) (s : Slice) : Type 0 where
   pub meta : t.meta ≡ Some s.meta
   pub items_counted : counts_items act.command ≡ true → nat_le ITEMS_MAX s.items ≡ nat_le ITEMS_MAX (length (items acts))
@@ -154,6 +155,9 @@ pub record IsSlice (first : ℤ) (act : Act) (acts : List Act) (t : Tables) (s :
   pub orders : AreRows same_text (λ r. r.order)
       (λ o. names_order act.command o || (plans act.command && is_open first acts o && has_touched_line first act acts o))
       (λ o. names_order act.command o || has_touched_line first act acts o) t.order s.rows.orders
+  pub urgents : AreRows same_text (λ r. r.order)
+      (λ o. plans act.command && is_open first acts o && has_touched_line first act acts o)
+      (λ o. names_order act.command o || has_touched_line first act acts o) t.urgent s.rows.urgents
   pub lines : AreRows same_line (λ r. (r.order, r.gtin))
       (λ k. names_order act.command k.0 || (plans act.command && is_open first acts k.0 && is_touched first act acts k.1))
       (λ k. names_order act.command k.0 || is_touched first act acts k.1) (λ k. t.line k.0 k.1) s.rows.lines
@@ -177,6 +181,7 @@ pub record AreOnce (rows : Put) : Type 0 where
   pub shiplines : no_two (λ r s. (r.number == s.number) && is_lot r.lot s.lot) rows.shiplines ≡ true
   pub cards : no_two (λ r s. is_lot r.lot s.lot && (r.act == s.act)) rows.cards ≡ true
   pub least : no_two (λ r s. same_text r.gtin s.gtin) rows.least ≡ true
+  pub urgents : no_two (λ r s. same_text r.order s.order) rows.urgents ≡ true
 
 -- Decisions
 

@@ -22,8 +22,8 @@ use lot_rules::{
     judge_least, judge_recall, judge_release,
 };
 use order_rules::{
-    change_cancel, change_order, change_pick, change_ship, change_unpick, judge_cancel,
-    judge_order, judge_pick, judge_ship, judge_unpick,
+    change_cancel, change_order, change_pick, change_ship, change_unpick, change_urgent,
+    judge_cancel, judge_order, judge_pick, judge_ship, judge_unpick,
 };
 use std::alloc::{AllocError, Global};
 
@@ -91,6 +91,7 @@ fn judge(slice: &Slice, command: &Command) -> Option<Refusal>
         Command::Recall(lot) => judge_recall(slice, lot),
         Command::OpenDay(day) => judge_day(slice, *day),
         Command::Least(least) => judge_least(slice, least),
+        Command::Urgent(order) => judge_order(slice, order),
     }
 }
 
@@ -115,6 +116,7 @@ fn change(alloc: Global, slice: &Slice, key: &Key, command: &Command) -> Result<
         Command::Recall(lot) => change_recall(alloc, slice, lot),
         Command::OpenDay(day) => change_day(alloc, slice, *day),
         Command::Least(least) => change_least(alloc, slice, least),
+        Command::Urgent(order) => change_urgent(alloc, slice, order),
     }
 }
 

@@ -11,4 +11,4 @@ returns c =
     let rows = c.item_rows.ensures in
     let stock = c.as_slice.ensures.value ∙ c.in_ok-stock.ensures in
     made_same c.replan_item.result _ (move_replanned s m) c.replan_item.ensures
-    (λ i. item_replanned s s.meta.day (rows.orders i) (rows.lines i) (rows.staged i) (rows.lots i) (rows.recalls i) (rows.bins i) (stock i) (rows.least i) m.lot.gtin)
+    (λ i. item_replanned s s.meta.day (rows.orders i) (rows.lines i) (rows.staged i) (rows.lots i) (rows.recalls i) (rows.bins i) (stock i) (rows.least i) (rows.urgents i) m.lot.gtin)

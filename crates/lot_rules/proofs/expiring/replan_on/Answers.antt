@@ -17,7 +17,7 @@ returns-clause-put c =
     let stock = c.as_slice-3.ensures.value ∙ c.in_ok-stock.ensures in
     let gtins = c.as_slice-4.ensures.value ∙ c.in_ok-gtins.ensures in
     part_same c.replan_items.result (λ (r : Replanned). r.put) _ (reserved_put_on s day least) c.replan_items.ensures.put
-    (λ i. flat_map (λ g. (item_replanned s day (rows.orders i) (rows.lines i) (staged i) (rows.lots i) (rows.recalls i) (bins i) (stock i) least g).put) (gtins i))
+    (λ i. flat_map (λ g. (item_replanned s day (rows.orders i) (rows.lines i) (staged i) (rows.lots i) (rows.recalls i) (bins i) (stock i) least (rows.urgents i) g).put) (gtins i))
 
 pub returns-clause-dropped : goal.returns-clause-dropped
 returns-clause-dropped c =
@@ -30,4 +30,4 @@ returns-clause-dropped c =
     let stock = c.as_slice-3.ensures.value ∙ c.in_ok-stock.ensures in
     let gtins = c.as_slice-4.ensures.value ∙ c.in_ok-gtins.ensures in
     part_same c.replan_items.result (λ (r : Replanned). r.dropped) _ (reserved_gone_on s day least) c.replan_items.ensures.dropped
-    (λ i. flat_map (λ g. (item_replanned s day (rows.orders i) (rows.lines i) (staged i) (rows.lots i) (rows.recalls i) (bins i) (stock i) least g).dropped) (gtins i))
+    (λ i. flat_map (λ g. (item_replanned s day (rows.orders i) (rows.lines i) (staged i) (rows.lots i) (rows.recalls i) (bins i) (stock i) least (rows.urgents i) g).dropped) (gtins i))

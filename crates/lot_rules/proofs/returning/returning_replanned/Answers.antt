@@ -13,4 +13,4 @@ returns c =
     let bins = c.as_slice-2.ensures.value ∙ c.in_ok-bins.ensures in
     let stock = c.as_slice-3.ensures.value ∙ c.in_ok-stock.ensures in
     made_same c.replan_item.result _ (returning_replanned s a.lot.now a.lots.now a.recalls.now) c.replan_item.ensures
-    (λ i. item_replanned s s.meta.day (rows.orders i) (rows.lines i) (staged i) a.lots.now a.recalls.now (bins i) (stock i) (rows.least i) a.lot.now.gtin)
+    (λ i. item_replanned s s.meta.day (rows.orders i) (rows.lines i) (staged i) a.lots.now a.recalls.now (bins i) (stock i) (rows.least i) (rows.urgents i) a.lot.now.gtin)

@@ -1,0 +1,59 @@
+-- What an urgent order changes of the rows of its slice. It is judged as any order is (`DecidedOrder`). Its lines are served before those of all orders
+-- that are not urgent, so its items are planned anew.
+use Rattle.std.specs.Prelude.{ℕ, ◌-◌, if◌then◌else◌, List, [], ◌∷◌, ◌++◌, map, flat_map, Some}
+use Rattle.values.specs.Values.{same_text}
+use Rattle.commands.specs.Lists.{total}
+use Rattle.commands.specs.Replies.{reply_text}
+use Rattle.commands.specs.declared.command.OrderLine.{OrderLine}
+use Rattle.commands.specs.declared.command.NewOrder.{NewOrder}
+use Rattle.commands.specs.declared.rows.LineRow.{LineRow}
+use Rattle.commands.specs.declared.rows.UrgentRow.{UrgentRow}
+use Rattle.commands.specs.declared.rows.ReservedRow.{ReservedRow}
+use Rattle.commands.specs.declared.replies.ReplyField.TheVariants.{UnitsShort}
+use Rattle.row_rules.specs.Seen.{capped, number_seen, meta_after, none_put, none_dropped}
+use Rattle.row_rules.specs.Replanning.{item_replanned}
+use Rattle.row_rules.specs.declared.slice.Slice.{Slice}
+use Rattle.row_rules.specs.declared.slice.Change.{Change}
+use Rattle.row_rules.specs.declared.replanning.Replanned.{Replanned}
+use Rattle.order_rules.specs.DecidedOrder.{new_order_row, new_line_rows}
+
+abbrev pub new_urgent_row : Slice → NewOrder → UrgentRow
+new_urgent_row s o = record { order = o.order; act = number_seen s }
+
+-- the lines after the act
+abbrev pub lines_with : Slice → NewOrder → List LineRow
+lines_with s o = new_line_rows o ++ s.rows.lines
+
+abbrev pub items_ordered : List OrderLine → List (List ℕ)
+items_ordered lines = map (λ l. l.gtin) lines
+
+-- what changes of an item's reserved rows
+abbrev pub urgent_replanned : Slice → NewOrder → List ℕ → Replanned
+urgent_replanned s o g =
+    item_replanned s s.meta.day (new_order_row s o ∷ s.rows.orders) (lines_with s o) s.rows.staged s.rows.lots s.rows.recalls s.rows.bins s.rows.stock s.rows.least (new_urgent_row s o ∷ s.rows.urgents) g
+
+-- and item after item
+abbrev pub urgent_put : Slice → NewOrder → List ReservedRow
+urgent_put s o = flat_map (λ g. (urgent_replanned s o g).put) (items_ordered o.lines)
+
+abbrev pub urgent_dropped : Slice → NewOrder → List ReservedRow
+urgent_dropped s o = flat_map (λ g. (urgent_replanned s o g).dropped) (items_ordered o.lines)
+
+abbrev pub units_ordered : List OrderLine → ℕ
+units_ordered lines = capped (total (λ l. l.qty) lines)
+
+-- the units that rows have for an order
+abbrev pub units_for : List ℕ → List ReservedRow → ℕ
+units_for o rows = capped (total (λ r. if same_text o r.order then r.qty else 0) rows)
+
+-- What the order is short of, where these rows are put: all that is reserved for it is new.
+abbrev pub short_with : NewOrder → List ReservedRow → ℕ
+short_with o put = units_ordered o.lines - units_for o.order put
+
+abbrev pub urgent_changes : Slice → NewOrder → Change
+urgent_changes s o = record {
+  meta = meta_after s;
+  put = record none_put { orders = new_order_row s o ∷ []; lines = new_line_rows o; urgents = new_urgent_row s o ∷ []; reserved = urgent_put s o };
+  dropped = record none_dropped { reserved = urgent_dropped s o };
+  text = reply_text (number_seen s) (Some (UnitsShort (short_with o (urgent_put s o))));
+}
