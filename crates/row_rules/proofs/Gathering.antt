@@ -1,6 +1,6 @@
 -- Loops that gather what each element of a list gives, and a search for an item that is named twice.
-use Rattle.std.proofs.Common.{◌≡◌, ℕ, ◌+◌, ◌<◌, true, false, List, ◌++◌, length, get_or, drop, refl, ap, sym, ◌∙◌, append_assoc}
-use Rattle.std.specs.Prelude.{◌||◌, min, [], flat_map}
+use Rattle.std.proofs.Common.{◌≡◌, ℕ, ◌+◌, ◌<◌, Bool, true, false, List, ◌∷◌, ◌++◌, length, get_or, drop, refl, ap, sym, ◌∙◌, append_assoc}
+use Rattle.std.specs.Prelude.{◌||◌, not, min, if◌then◌else◌, [], map, filter, flat_map}
 use Rattle.std.specs.List.{list_any}
 use Rattle.std.proofs.Math.Seq.{drop-length}
 use Rattle.plan.proofs.Running.{drop_from}
@@ -29,6 +29,40 @@ gathered_more f xs i out none new h s e = record {
 
 pub gathered_all : {X Y : Type 0} (f : X → List Y) (xs : List X) (i : ℕ) (out : List Y) → i ≡ length xs → IsGathered f xs i out → out ≡ flat_map f xs
 gathered_all f xs i out e s = sym (append_none out) ∙ sym (ap (λ ys. out ++ flat_map f ys) (drop_end xs i e)) ∙ s.so_far
+
+-- what is made of each is parted: that of those which pass a test, and that of the others
+abbrev pub made_if : {X Y : Type 0} (f : X → Y) (test : X → Bool) → X → List Y
+made_if f test x = if test x then f x ∷ [] else []
+
+made_kept : {X Y : Type 0} (f : X → Y) (test : X → Bool) (xs : List X) → flat_map (made_if f test) xs ≡ map f (filter test xs)
+made_kept f test [] = refl
+made_kept f test (x ∷ xs) =
+    elim (test x) as (λ b. (if b then f x ∷ [] else []) ++ flat_map (made_if f test) xs ≡ map f (if b then x ∷ filter test xs else filter test xs)) [
+      | true ↦ ap (λ ys. f x ∷ ys) (made_kept f test xs)
+      | false ↦ made_kept f test xs
+    ]
+
+pub record AreParted {X Y : Type 0} (f : X → Y) (test : X → Bool) (xs : List X) (i : ℕ) (passed others : List Y) : Type 0 where
+  pub first : IsGathered (made_if f test) xs i passed
+  pub rest : IsGathered (made_if f (λ x. not (test x))) xs i others
+
+module _ {X Y : Type 0} (f : X → Y) (test : X → Bool) (xs : List X) where
+  pub parted_none : (passed others : List Y) → passed ≡ [] → others ≡ [] → AreParted f test xs 0 passed others
+  parted_none passed others p o = record { first = gathered_none (made_if f test) xs passed p; rest = gathered_none (made_if f (λ x. not (test x))) xs others o }
+
+  pub parted_more : (i : ℕ) (passed others : List Y) (none : X) (b : Bool) (y : Y) (new_passed new_others : List Y) → i < length xs → AreParted f test xs i passed others
+      → b ≡ test (get_or xs i none) → y ≡ f (get_or xs i none)
+      → new_passed ≡ passed ++ (if b then y ∷ [] else []) → new_others ≡ others ++ (if not b then y ∷ [] else []) → AreParted f test xs (i + 1) new_passed new_others
+  parted_more i passed others none b y new_passed new_others less s t e p o = record {
+    first = gathered_more (made_if f test) xs i passed none new_passed less s.first (p ∙ (λ j. passed ++ (if t j then e j ∷ [] else [])));
+    rest = gathered_more (made_if f (λ x. not (test x))) xs i others none new_others less s.rest (o ∙ (λ j. others ++ (if not (t j) then e j ∷ [] else [])));
+  }
+
+  pub parted_passed : (i : ℕ) (passed others : List Y) → i ≡ length xs → AreParted f test xs i passed others → passed ≡ map f (filter test xs)
+  parted_passed i passed others e s = gathered_all (made_if f test) xs i passed e s.first ∙ made_kept f test xs
+
+  pub parted_others : (i : ℕ) (passed others : List Y) → i ≡ length xs → AreParted f test xs i passed others → others ≡ map f (filter (λ x. not (test x)) xs)
+  parted_others i passed others e s = gathered_all (made_if f (λ x. not (test x))) xs i others e s.rest ∙ made_kept f (λ x. not (test x)) xs
 
 -- the rows put and the units short, line by line
 pub record IsBooked (f : OrderLine → List ReservedRow) (h : OrderLine → ℕ) (xs : List OrderLine) (i : ℕ) (puts : List ReservedRow) (sum : ℕ) : Type 0 where

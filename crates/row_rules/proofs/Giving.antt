@@ -1,5 +1,5 @@
 -- What is made of rows that are given by their texts is what is made of all rows.
-use Rattle.std.proofs.Common.{◌≡◌, ℕ, ◌&&◌, List, ap, ◌∙◌}
+use Rattle.std.proofs.Common.{◌≡◌, ℕ, ◌&&◌, List, [], ◌++◌, ap, ◌∙◌}
 use Rattle.std.specs.Prelude.{if◌then◌else◌, not, map, filter, find, Result, Ok, Err, IfOk, Vec, ℤ}
 use Rattle.std.specs.List.{list_any}
 use Rattle.std.proofs.lemmas.List.Elements.{filter_agree}
@@ -9,6 +9,7 @@ use Rattle.commands.specs.declared.rows.StockRow.{StockRow}
 use Rattle.commands.specs.declared.rows.LotRow.{LotRow}
 use Rattle.commands.specs.declared.rows.RecallRow.{RecallRow}
 use Rattle.commands.specs.declared.rows.OrderRow.{OrderRow}
+use Rattle.commands.specs.declared.rows.UrgentRow.{UrgentRow}
 use Rattle.commands.specs.declared.rows.LineRow.{LineRow}
 use Rattle.commands.specs.declared.rows.StagedRow.{StagedRow}
 use Rattle.commands.specs.declared.rows.ReservedRow.{ReservedRow}
@@ -17,8 +18,8 @@ use Rattle.machine.specs.Planning.{is_open_state}
 use Rattle.machine.specs.Standing.{is_expired}
 use Rattle.machine.proofs.Tests.{and_both, and_first_false, and_later_false}
 use Rattle.row_rules.specs.Seen.{capped}
-use Rattle.row_rules.specs.Plans.{staged_seen, line_need, demand_seen, is_store_found, store_seen, supply_seen, is_usable, is_share_of, has_qty, rows_to_put, rows_to_drop}
-use Rattle.row_rules.specs.LookUps.{GivesRows, in_store_given, store_given}
+use Rattle.row_rules.specs.Plans.{staged_seen, line_need, demand_seen, is_earlier, is_urgent_seen, inserted, demands_seen, is_store_found, store_seen, supply_seen, is_usable, is_share_of, has_qty, rows_to_put, rows_to_drop}
+use Rattle.row_rules.specs.LookUps.{GivesRows, demand_given, is_urgent_given, demands_given, in_store_given, store_given}
 use Rattle.row_rules.proofs.LookingUp.{find_given, any_given, total_given, total_agree, map_agree}
 
 pub same_items : {X A E : Type 0} (result : Result (Vec X A) E) (xs ys : List X) → IfOk result (λ v. v.items ≡ xs) → xs ≡ ys → IfOk result (λ v. v.items ≡ ys)
@@ -51,11 +52,21 @@ module _ (g : List ℕ) (ordered : List ℕ → List LineRow) (lines : List Line
   line_given o =
       find_given (λ l. same_text o l.order && same_text g l.gtin) (λ l. same_text o l.order) (λ l e. (and_both (same_text o l.order) (same_text g l.gtin) e).0) (ordered o) lines (gives_lines o)
 
-  demand_given : (o : OrderRow) → demand_seen g (ordered o.order) (on_stages o.order) o ≡ demand_seen g lines staged o
-  demand_given o = λ i. record { booking = o.act; need = if is_open_state o.state then line_need (line_given o.order i) (capped (staged_given o.order i)) else 0 }
+  demand_same : (o : OrderRow) → demand_given g ordered on_stages o ≡ demand_seen g lines staged o
+  demand_same o = λ i. record { booking = o.act; need = if is_open_state o.state then line_need (line_given o.order i) (capped (staged_given o.order i)) else 0 }
 
-  pub demands_given : (orders : List OrderRow) → map (λ o. demand_seen g (ordered o.order) (on_stages o.order) o) orders ≡ map (demand_seen g lines staged) orders
-  demands_given orders = map_agree (λ o. demand_seen g (ordered o.order) (on_stages o.order) o) (demand_seen g lines staged) demand_given orders
+  in_order : (orders : List OrderRow) → inserted is_earlier [] (map (demand_given g ordered on_stages) orders) ≡ inserted is_earlier [] (map (demand_seen g lines staged) orders)
+  in_order orders = ap (inserted is_earlier []) (map_agree (demand_given g ordered on_stages) (demand_seen g lines staged) demand_same orders)
+
+  module _ (told : List ℕ → List UrgentRow) (urgents : List UrgentRow) (gives_urgents : GivesRows (λ u. u.order) told urgents) where
+    urgent_same : (o : OrderRow) → is_urgent_given told o ≡ is_urgent_seen urgents o
+    urgent_same o = any_given (λ u. same_text o.order u.order) (λ u. same_text o.order u.order) (λ u e. e) (told o.order) urgents (gives_urgents o.order)
+
+    pub demands_same : (orders : List OrderRow) → demands_given g ordered on_stages told orders ≡ demands_seen g lines staged urgents orders
+    demands_same orders =
+        let urgent = filter_agree (is_urgent_given told) (is_urgent_seen urgents) urgent_same orders in
+        let normal = filter_agree (λ o. not (is_urgent_given told o)) (λ o. not (is_urgent_seen urgents o)) (λ o. ap not (urgent_same o)) orders in
+        (λ i. in_order (urgent i) i ++ in_order (normal i) i)
 
 -- Supplies
 

@@ -8,7 +8,7 @@ pub returns-clause-put : goal.returns-clause-put
 returns-clause-put c =
     let a = c.args in
     let o = c.item_rows-old_rows.ensures in
-    let of : AreOf a.slice.now.rows c.item_rows-old_rows.result = record { orders = o.orders; lines = o.lines; staged = o.staged; lots = o.lots; recalls = o.recalls; bins = o.bins; stock = o.stock; least = o.least } in
+    let of : AreOf a.slice.now.rows c.item_rows-old_rows.result = record { orders = o.orders; lines = o.lines; staged = o.staged; lots = o.lots; recalls = o.recalls; bins = o.bins; stock = o.stock; least = o.least; urgents = o.urgents } in
     let m = c.in_ok-before.ensures in
     let n = c.in_ok-after.ensures in
     let same = between_is a.slice.now a.day c.item_rows-old_rows.result a.rows.now c.in_ok-before.before c.in_ok-after.after of m.day m.rows n.day n.rows in
@@ -18,7 +18,7 @@ pub returns-clause-dropped : goal.returns-clause-dropped
 returns-clause-dropped c =
     let a = c.args in
     let o = c.item_rows-old_rows.ensures in
-    let of : AreOf a.slice.now.rows c.item_rows-old_rows.result = record { orders = o.orders; lines = o.lines; staged = o.staged; lots = o.lots; recalls = o.recalls; bins = o.bins; stock = o.stock; least = o.least } in
+    let of : AreOf a.slice.now.rows c.item_rows-old_rows.result = record { orders = o.orders; lines = o.lines; staged = o.staged; lots = o.lots; recalls = o.recalls; bins = o.bins; stock = o.stock; least = o.least; urgents = o.urgents } in
     let m = c.in_ok-before.ensures in
     let n = c.in_ok-after.ensures in
     let same = between_is a.slice.now a.day c.item_rows-old_rows.result a.rows.now c.in_ok-before.before c.in_ok-after.after of m.day m.rows n.day n.rows in
