@@ -1,5 +1,5 @@
--- What an urgent order changes of the rows of its slice. It is judged as any order is (`DecidedOrder`). Its lines are served before those of all orders
--- that are not urgent, so its items are planned anew.
+-- What an urgent order changes of the rows of its slice. It is judged as any order is (`DecidedOrder`). Its lines are served
+-- before those of all orders that are not urgent, so its items are planned anew.
 use Rattle.std.specs.Prelude.{ℕ, ◌-◌, if◌then◌else◌, List, [], ◌∷◌, ◌++◌, map, flat_map, Some}
 use Rattle.values.specs.Values.{same_text}
 use Rattle.commands.specs.Lists.{total}
@@ -20,9 +20,12 @@ use Rattle.order_rules.specs.DecidedOrder.{new_order_row, new_line_rows}
 abbrev pub new_urgent_row : Slice → NewOrder → UrgentRow
 new_urgent_row s o = record { order = o.order; act = number_seen s }
 
--- the lines after the act
+-- the lines after the act, and the rows of urgent orders
 abbrev pub lines_with : Slice → NewOrder → List LineRow
 lines_with s o = new_line_rows o ++ s.rows.lines
+
+abbrev pub urgents_with : Slice → NewOrder → List UrgentRow
+urgents_with s o = new_urgent_row s o ∷ s.rows.urgents
 
 abbrev pub items_ordered : List OrderLine → List (List ℕ)
 items_ordered lines = map (λ l. l.gtin) lines
@@ -30,7 +33,7 @@ items_ordered lines = map (λ l. l.gtin) lines
 -- what changes of an item's reserved rows
 abbrev pub urgent_replanned : Slice → NewOrder → List ℕ → Replanned
 urgent_replanned s o g =
-    item_replanned s s.meta.day (new_order_row s o ∷ s.rows.orders) (lines_with s o) s.rows.staged s.rows.lots s.rows.recalls s.rows.bins s.rows.stock s.rows.least (new_urgent_row s o ∷ s.rows.urgents) g
+    item_replanned s s.meta.day (new_order_row s o ∷ s.rows.orders) (lines_with s o) s.rows.staged s.rows.lots s.rows.recalls s.rows.bins s.rows.stock s.rows.least (urgents_with s o) g
 
 -- and item after item
 abbrev pub urgent_put : Slice → NewOrder → List ReservedRow

@@ -4,7 +4,7 @@ ghost use Rattle.std.specs.Prelude.{◌≡◌, ◌++◌, Some, IfOk};
 ghost use Rattle.commands.specs.Replies.{reply_text};
 ghost use Rattle.commands.specs.declared.replies.ReplyField.TheVariants.{UnitsShort};
 ghost use Rattle.row_rules.specs.Seen.{meta_after, none_put, none_dropped, number_seen as number_seen_lem};
-ghost use Rattle.order_rules.specs.DecidedUrgent.{new_urgent_row as new_urgent_row_lem, lines_with as lines_with_lem, items_ordered as items_ordered_lem, units_ordered as units_ordered_lem, units_for as units_for_lem, short_with as short_with_lem, urgent_put, urgent_dropped, urgent_changes};
+ghost use Rattle.order_rules.specs.DecidedUrgent.{new_urgent_row as new_urgent_row_lem, lines_with as lines_with_lem, urgents_with as urgents_with_lem, items_ordered as items_ordered_lem, units_ordered as units_ordered_lem, units_for as units_for_lem, short_with as short_with_lem, urgent_put, urgent_dropped, urgent_changes};
 
 use crate::booking::{new_line_rows, new_order_row};
 use crate::customer_orders::short_reply;
@@ -74,11 +74,7 @@ fn replan_with(alloc: Global, slice: &Slice, o: &NewOrder) -> Result<Replanned, 
     let items = items_ordered(alloc, o.lines.as_slice())?;
     let orders = in_front(alloc, new_order_row(slice, o), slice.rows.orders.as_slice())?;
     let lines = lines_with(alloc, slice, o)?;
-    let urgents = in_front(
-        alloc,
-        new_urgent_row(slice, o),
-        slice.rows.urgents.as_slice(),
-    )?;
+    let urgents = urgents_with(alloc, slice, o)?;
     let rows = ItemRows {
         orders: orders.as_slice(),
         lines: lines.as_slice(),
@@ -86,6 +82,14 @@ fn replan_with(alloc: Global, slice: &Slice, o: &NewOrder) -> Result<Replanned, 
         ..item_rows(&slice.rows)
     };
     replan_items(alloc, slice, items.as_slice(), slice.meta.day, &rows)
+}
+
+// The rows of urgent orders after the act: the order is one of them.
+fn urgents_with(alloc: Global, slice: &Slice, o: &NewOrder) -> Result<Vec<UrgentRow>, AllocError>
+    ensures { IfOk result (λ v. v.items ≡ urgents_with_lem slice.now o.now) }
+{
+    let own = new_urgent_row(slice, o);
+    in_front(alloc, own, slice.rows.urgents.as_slice())
 }
 
 // The lines after the act.

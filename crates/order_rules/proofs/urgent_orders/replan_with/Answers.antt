@@ -1,0 +1,31 @@
+use Rattle.std.proofs.Common.{◌∷◌, ap, ◌∙◌}
+use Rattle.std.specs.Prelude.{flat_map}
+use Rattle.row_rules.specs.Replanning.{item_replanned}
+use Rattle.row_rules.specs.declared.replanning.Replanned.{Replanned}
+use Rattle.row_rules.proofs.Making.{part_same}
+use Rattle.order_rules.specs.DecidedUrgent.{items_ordered, urgent_put, urgent_dropped}
+use Rattle.order_rules.proofs.urgent_orders.replan_with.Goals as goal
+
+pub returns-clause-put : goal.returns-clause-put
+returns-clause-put c =
+    let s = c.args.slice.now in
+    let o = c.args.o.now in
+    let rows = c.item_rows.ensures in
+    let items = c.as_slice-6.ensures.value ∙ c.in_ok-items.ensures ∙ ap items_ordered c.as_slice.ensures.value in
+    let orders = c.as_slice-3.ensures.value ∙ c.in_ok-orders.ensures ∙ (λ i. c.new_order_row.ensures i ∷ c.as_slice-2.ensures i) in
+    let lines = c.as_slice-4.ensures.value ∙ c.in_ok-lines.ensures in
+    let urgents = c.as_slice-5.ensures.value ∙ c.in_ok-urgents.ensures in
+    part_same c.replan_items.result (λ (r : Replanned). r.put) _ (urgent_put s o) c.replan_items.ensures.put
+    (λ i. flat_map (λ g. (item_replanned s s.meta.day (orders i) (lines i) (rows.staged i) (rows.lots i) (rows.recalls i) (rows.bins i) (rows.stock i) (rows.least i) (urgents i) g).put) (items i))
+
+pub returns-clause-dropped : goal.returns-clause-dropped
+returns-clause-dropped c =
+    let s = c.args.slice.now in
+    let o = c.args.o.now in
+    let rows = c.item_rows.ensures in
+    let items = c.as_slice-6.ensures.value ∙ c.in_ok-items.ensures ∙ ap items_ordered c.as_slice.ensures.value in
+    let orders = c.as_slice-3.ensures.value ∙ c.in_ok-orders.ensures ∙ (λ i. c.new_order_row.ensures i ∷ c.as_slice-2.ensures i) in
+    let lines = c.as_slice-4.ensures.value ∙ c.in_ok-lines.ensures in
+    let urgents = c.as_slice-5.ensures.value ∙ c.in_ok-urgents.ensures in
+    part_same c.replan_items.result (λ (r : Replanned). r.dropped) _ (urgent_dropped s o) c.replan_items.ensures.dropped
+    (λ i. flat_map (λ g. (item_replanned s s.meta.day (orders i) (lines i) (rows.staged i) (rows.lots i) (rows.recalls i) (rows.bins i) (rows.stock i) (rows.least i) (urgents i) g).dropped) (items i))
