@@ -2,7 +2,7 @@
 use Rattle.std.proofs.Common.{ℕ, ◌+◌, ◌≤◌, Bool, true, false, List, [], ◌∷◌, arith}
 use Rattle.std.specs.Prelude.{◌==◌, if◌then◌else◌}
 use Rattle.plan.specs.Lists.{total}
-use Rattle.plan.specs.Overlap.{Stretch, overlap, plan_rows, reserved_in, reserved_on, demands_laid, supplies_laid}
+use Rattle.plan.specs.Overlap.{Stretch, overlap, plan_rows, reserved_in, reserved_for, reserved_on, demands_laid, supplies_laid}
 use Rattle.plan.specs.declared.Demand.{Demand}
 use Rattle.plan.specs.declared.Supply.{Supply}
 use Rattle.plan.specs.declared.Row.{Row}
@@ -10,7 +10,7 @@ use Rattle.plan.proofs.Sums.{counted_plan, reserved_on_sum}
 use Rattle.plan.proofs.Line.{on_pieces, pieces_on}
 use Rattle.machine.proofs.Numbers.{fewer_if_both, total_zero}
 
-in_booking : (b l : ℕ) (rows : List Row) → reserved_in b l rows ≤ total (λ r. if r.booking == b then r.qty else 0) rows
+in_booking : (b l : ℕ) (rows : List Row) → reserved_in b l rows ≤ reserved_for b rows
 in_booking b l [] = omega arith
 in_booking b l (r ∷ rs) = omega (arith, fewer_if_both (r.booking == b) (r.lot == l) r.qty, in_booking b l rs)
 
@@ -32,9 +32,11 @@ own_rows b x (d ∷ ds) ss =
     own true = omega (arith, on_pieces (λ s. s.lot) (λ s. s.avail) (record { name = d.booking; start = x; stop = x + d.need }) 0 ss)
     own false = omega (arith, total_zero (supplies_laid 0 ss))
 
+pub served_within_need : (b : ℕ) (ds : List Demand) (ss : List Supply) → reserved_for b (plan_rows ds ss) ≤ wanted_under b ds
+served_within_need b ds ss = omega (arith, counted_plan (λ r. r.booking == b) (demands_laid 0 ds) (supplies_laid 0 ss), own_rows b 0 ds ss)
+
 pub reserved_within_need : (b l : ℕ) (ds : List Demand) (ss : List Supply) → reserved_in b l (plan_rows ds ss) ≤ wanted_under b ds
-reserved_within_need b l ds ss =
-    omega (arith, in_booking b l (plan_rows ds ss), counted_plan (λ r. r.booking == b) (demands_laid 0 ds) (supplies_laid 0 ss), own_rows b 0 ds ss)
+reserved_within_need b l ds ss = omega (arith, in_booking b l (plan_rows ds ss), served_within_need b ds ss)
 
 on_supplies : (l y : ℕ) (ds : List Demand) (ss : List Supply)
     → total (λ s. total (λ d. if s.name == l then overlap d s else 0) (demands_laid 0 ds)) (supplies_laid y ss) ≤ there_under l ss

@@ -113,7 +113,7 @@ module _ (u : ℕ → Bool) where
   behind_in_class c n [] e k h = tt
   behind_in_class c n (d ∷ ds) e k h = (same_class_first c n d.booking e k.0 h.0, behind_in_class c n ds e k.1 h.1)
 
-  served_in_class : (c : Bool) (ds : List Demand) → AllClass c ds → RisingDemands ds → AreServed ds
+  pub served_in_class : (c : Bool) (ds : List Demand) → AllClass c ds → RisingDemands ds → AreServed ds
   served_in_class c [] k h = tt
   served_in_class c (d ∷ ds) k h = (behind_in_class c d.booking ds k.0 k.1 h.0, served_in_class c ds k.1 h.1)
 
