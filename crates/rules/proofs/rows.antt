@@ -10,11 +10,14 @@ pub mod PlanTold
 pub mod replanned
 pub mod ReservedLowered
 pub mod SuppliesTold
+pub mod ClassesTold
 pub mod DemandsTold
 pub mod Telling
+pub mod ReservedUnits
 pub mod Ordering
 pub mod LotUnits
 pub mod SameKeys
+pub mod BookingSums
 pub mod OpenUnits
 pub mod LineSums
 pub mod OpenByLines

@@ -53,7 +53,7 @@ module _ (first : ℤ) (acts : List Act) (key : Key) (s : Slice) where
     item_step text = same_tables (applied (item_change text (days_of i)) (tables_of first acts)) (tables_but_repeats first item_act acts) refl
         (λ g. put_found shown_item (same_text g i.gtin) i (find (λ x. same_text g x.gtin) (items acts)))
         (λ g. put_found days_of (same_text g i.gtin) i (find (λ x. same_text g x.gtin) (items acts)))
-        (λ b. refl) (λ l. refl) (λ l. refl) (λ l b. refl) (λ o. refl) (λ o g. refl) (λ o l. refl) (reserved_changed first item_act acts [] [] item_named) (λ n. refl) (λ n l. refl) (λ l n. refl) (λ k. refl)
+        (λ b. refl) (λ l. refl) (λ l. refl) (λ l b. refl) (λ o. refl) (λ o. refl) (λ o g. refl) (λ o l. refl) (reserved_changed first item_act acts [] [] item_named) (λ n. refl) (λ n l. refl) (λ l n. refl) (λ k. refl)
 
     module _ (history : IsHistory first acts) (slice : IsSlice first item_act acts (tables_of first acts) s) where
       item_judged : first_refusal (item_seen s i) ≡ first_refusal (judgement first acts (Item i))
@@ -75,7 +75,7 @@ module _ (first : ℤ) (acts : List Act) (key : Key) (s : Slice) where
             applies = (λ j. applied (record (item_change (item_changes s i).text (none_asked ok j)) { meta = meta_same first acts item_act s slice room refl refl j }) (tables_of first acts))
                 ∙ item_step (item_changes s i).text;
             text = text;
-            once = record { items = refl; bins = refl; lots = refl; recalls = refl; stock = refl; orders = refl; lines = refl; staged = refl; reserved = refl; shipments = refl; shiplines = refl; cards = refl; least = refl };
+            once = record { items = refl; bins = refl; lots = refl; recalls = refl; stock = refl; orders = refl; lines = refl; staged = refl; reserved = refl; shipments = refl; shiplines = refl; cards = refl; least = refl; urgents = refl };
             named = names_changed first item_act acts (item_changes s i) item_named;
           }
 
@@ -98,7 +98,7 @@ module _ (first : ℤ) (acts : List Act) (key : Key) (s : Slice) where
       bin_step text = same_tables (applied (bin_change text) (tables_of first acts)) (tables_but_repeats first bin_act acts) refl
           (λ g. refl) (λ g. refl)
           (λ n. put_found shown_bin (same_text n b.bin) b (find (λ x. same_text n x.bin) (bins acts)))
-          (λ l. refl) (λ l. refl) (λ l b. refl) (λ o. refl) (λ o g. refl) (λ o l. refl) (reserved_changed first bin_act acts [] [] bin_named) (λ n. refl) (λ n l. refl) (λ l n. refl) (λ k. refl)
+          (λ l. refl) (λ l. refl) (λ l b. refl) (λ o. refl) (λ o. refl) (λ o g. refl) (λ o l. refl) (reserved_changed first bin_act acts [] [] bin_named) (λ n. refl) (λ n l. refl) (λ l n. refl) (λ k. refl)
 
     module _ (slice : IsSlice first bin_act acts (tables_of first acts) s) where
       bin_judged : first_refusal (bin_seen s b) ≡ first_refusal (judgement first acts (Bin b))
@@ -112,7 +112,7 @@ module _ (first : ℤ) (acts : List Act) (key : Key) (s : Slice) where
             applies = ap (λ m. applied (record { meta = m; put = record none_put { bins = shown_bin b ∷ [] }; dropped = none_dropped; text = (bin_changes s b).text }) (tables_of first acts)) (meta_same first acts bin_act s slice room refl refl)
                 ∙ bin_step next (bin_changes s b).text;
             text = plain_same first acts bin_act s slice room refl;
-            once = record { items = refl; bins = refl; lots = refl; recalls = refl; stock = refl; orders = refl; lines = refl; staged = refl; reserved = refl; shipments = refl; shiplines = refl; cards = refl; least = refl };
+            once = record { items = refl; bins = refl; lots = refl; recalls = refl; stock = refl; orders = refl; lines = refl; staged = refl; reserved = refl; shipments = refl; shiplines = refl; cards = refl; least = refl; urgents = refl };
             named = names_changed first bin_act acts (bin_changes s b) (bin_named next);
           }
 

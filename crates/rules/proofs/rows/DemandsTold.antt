@@ -1,8 +1,9 @@
 -- The order rows, lines and staged rows of an item tell its demands.
 use Rattle.std.proofs.Common.{◌≡◌, ℕ, ◌+◌, ◌-◌, ◌≤◌, ◌<◌, Bool, true, false, ◌&&◌, not, List, [], ◌∷◌, refl, ap, sym, subst, ◌∙◌, arith, eq-eqb}
 use Rattle.std.specs.Prelude.{◌==◌, nat_lt, if◌then◌else◌, ℤ, Option, Some, None, find, filter, map, option_map}
-use Rattle.std.specs.List.{list_any}
+use Rattle.std.specs.List.{list_any, AllByRecursion}
 use Rattle.std.proofs.lemmas.Bool.{eqb-true}
+use Rattle.std.proofs.lemmas.List.Elements.{filter-append}
 use borrow.Author.Tests.{ltb-false, lt-ltb}
 use Rattle.values.specs.Values.{same_text}
 use Rattle.values.specs.declared.lot.LotId.{LotId}
@@ -10,6 +11,7 @@ use Rattle.commands.specs.Lists.{total}
 use Rattle.commands.specs.declared.command.OrderLine.{OrderLine}
 use Rattle.commands.specs.declared.rows.OrderState.TheVariants.{Open, Done, Cancelled}
 use Rattle.commands.specs.declared.rows.OrderRow.{OrderRow}
+use Rattle.commands.specs.declared.rows.UrgentRow.{UrgentRow}
 use Rattle.commands.specs.declared.rows.LineRow.{LineRow}
 use Rattle.commands.specs.declared.rows.StagedRow.{StagedRow}
 use Rattle.plan.specs.Lists.{total as plan_total}
@@ -21,11 +23,11 @@ use Rattle.machine.specs.Standing.{Placed, orders, order_named, lines_placed, ha
 use Rattle.machine.specs.Ledger.{postings}
 use Rattle.machine.specs.Planning.{Booking, booking_of, lines_of_item, need, demands, item_postings, staged, shipped, shipped_of, is_open, is_open_state, is_shipped_in_full, order_state}
 use Rattle.machine.specs.Once.{IsHistory}
-use Rattle.machine.specs.Tables.{order_row, line_row, staged_row}
+use Rattle.machine.specs.Tables.{order_row, urgent_row, line_row, staged_row}
 use Rattle.machine.specs.KeyedRows.{AreRows, AreOwn, no_two, same_line, same_share}
 use Rattle.machine.specs.Verdict.{names_item_twice}
 use Rattle.row_rules.specs.Seen.{capped}
-use Rattle.row_rules.specs.Plans.{staged_seen, line_need, need_seen, demand_seen, is_earlier, demands_seen}
+use Rattle.row_rules.specs.Plans.{inserted, staged_seen, line_need, need_seen, demand_seen, is_earlier, is_urgent_seen, is_normal_seen, demands_by_number, demands_seen}
 use Rattle.machine.proofs.Numbers.{unequal_turned, later_than, nothing_if}
 use Rattle.machine.proofs.Tests.{and_both, or_none, not_true, same_text_is, same_text_refl, same_text_turned}
 use Rattle.machine.proofs.Apart.{AllFound}
@@ -33,21 +35,26 @@ use Rattle.machine.proofs.histories.Cells.{Cells, holds, holds_split}
 use Rattle.machine.proofs.histories.ItemBalances.{balance-of_item}
 use Rattle.machine.proofs.histories.LegalHistories.{legal_history}
 use Rattle.machine.proofs.histories.Orders.{AllSingle, NoNeed, same_order, orders_apart, orders_found, orders_single, closed_needs_none, act_names_order}
-use Rattle.machine.proofs.histories.Bookings.{RisingDemands, AfterDemands, wanted_by, demands_told, same_wanted, none_more}
+use Rattle.machine.proofs.histories.Bookings.{RisingDemands, AfterDemands, wanted_by, none_more}
+use Rattle.machine.proofs.histories.Served.{AreServed, AllClass, urgent_number, served_in_class, served_both, demands_told, same_wanted}
 use Rattle.machine.proofs.histories.UnitsLimit.{units_within_limit}
 use Rattle.machine.proofs.histories.PlaceRows.{staged_holds, stage_cells}
 use Rattle.rules.proofs.rows.Telling.{rows_tell, some_of_mapped, found_key}
-use Rattle.rules.proofs.rows.Ordering.{AllBehind, AreRising, AllOrdered, AreOrdered, rising_inserted, total_inserted, total_map}
+use Rattle.rules.proofs.rows.Ordering.{AllBehind, AreRising, AllOrdered, AreOrdered, all_inserted, rising_kept, rising_inserted, total_inserted, total_map}
+use Rattle.rules.proofs.rows.KeptRows.{kept_rows}
+use Rattle.rules.proofs.rows.BookingSums.{total_append, total_parted}
+use Rattle.rules.proofs.rows.ClassesTold.{number_told, class_told}
 
 pub same_total : {X : Type 0} (f : X → ℕ) (xs : List X) → plan_total f xs ≡ total f xs
 same_total f [] = refl
 same_total f (x ∷ xs) = ap (λ n. f x + n) (same_total f xs)
 
--- the rows of the item
-pub record TellsDemands (first : ℤ) (acts : List Act) (g : List ℕ) (order_rows : List OrderRow) (line_rows : List LineRow) (staged_rows : List StagedRow) : Type 0 where
+-- the rows of the item, and those of the urgent orders among its orders
+pub record TellsDemands (first : ℤ) (acts : List Act) (g : List ℕ) (order_rows : List OrderRow) (line_rows : List LineRow) (staged_rows : List StagedRow) (urgent_rows : List UrgentRow) : Type 0 where
   pub orders : AreRows same_text (λ (r : OrderRow). r.order) (λ o. is_open first acts o && has_line acts o g) (λ o. true) (order_row first acts) order_rows
   pub lines : AreRows same_line (λ (r : LineRow). (r.order, r.gtin)) (λ k. is_open first acts k.0 && same_text g k.1) (λ k. true) (λ k. line_row first acts k.0 k.1) line_rows
   pub staged : AreRows same_share (λ (r : StagedRow). (r.order, r.lot)) (λ k. of_item g k.1) (λ k. true) (λ k. staged_row first acts k.0 k.1) staged_rows
+  pub urgents : (o : List ℕ) → is_open first acts o && has_line acts o g ≡ true → find (λ (r : UrgentRow). same_text o r.order) urgent_rows ≡ urgent_row acts o
 
 -- what the bookings want under a number
 abbrev pub wants : List Act → List Posting → ℕ → List Booking → ℕ
@@ -92,6 +99,10 @@ pub open_is_uncancelled : (b c : Bool) → is_open_state (if b then Cancelled el
 open_is_uncancelled true c e = let f : false ≡ true = e in cc
 open_is_uncancelled false c e = refl
 
+pub either : (a b : Bool) → a && b ≡ false → a ≡ true → b ≡ false
+either true b e f = e
+either false b e f = cc
+
 -- Numbers
 
 below : (a b : ℕ) → a ≤ b → (b == a) ≡ false → a < b
@@ -113,6 +124,22 @@ after_of d (e ∷ es) h = (h.0, after_of d es h.1)
 rising_of : (ds : List Demand) → AreRising is_earlier ds → RisingDemands ds
 rising_of [] h = tt
 rising_of (d ∷ ds) h = (after_of d ds h.0, rising_of ds h.1)
+
+-- Demands that want something
+
+wanted_twice : (ds : List Demand) → wanted (wanted ds) ≡ wanted ds
+wanted_twice [] = refl
+wanted_twice (d ∷ ds) = elim (not (d.need == 0)) as (λ b. not (d.need == 0) ≡ b → wanted (if b then d ∷ wanted ds else wanted ds) ≡ (if b then d ∷ wanted ds else wanted ds)) [
+  | true ↦ λ e. ap (λ b. if b then d ∷ wanted (wanted ds) else wanted (wanted ds)) e ∙ ap (λ es. d ∷ es) (wanted_twice ds)
+  | false ↦ λ e. wanted_twice ds
+] refl
+
+wanted_same : (n : ℕ) (ds : List Demand) → wanted_by n (wanted ds) ≡ wanted_by n ds
+wanted_same n [] = refl
+wanted_same n (d ∷ ds) = elim (d.need == 0) as (λ b. (d.need == 0) ≡ b → wanted_by n (if not b then d ∷ wanted ds else wanted ds) ≡ (if n == d.booking then d.need else 0) + wanted_by n ds) [
+  | true ↦ λ e. omega (arith, ap (λ q. if n == d.booking then q else 0) (eqb-true d.need 0 e), nothing_if (n == d.booking), wanted_same n ds)
+  | false ↦ λ e. ap (λ q. (if n == d.booking then d.need else 0) + q) (wanted_same n ds)
+] refl
 
 -- The staged rows of an item tell what is staged of it for an order
 module _ (first : ℤ) (acts : List Act) (history : IsHistory first acts) (g : List ℕ) (staged_rows : List StagedRow)
@@ -144,8 +171,8 @@ module _ (first : ℤ) (acts : List Act) (history : IsHistory first acts) (g : L
       let house = holds_split (postings first acts) legal cells (λ p l. in_house p && of_item g l) (record { supplier = λ m. refl; write_off = λ m. refl }) (record { supplier = λ m. refl; write_off = λ m. refl }) (in_the_house o) in
       omega (arith, all, told, house, units_within_limit first acts history g)
 
-module _ (first : ℤ) (acts : List Act) (history : IsHistory first acts) (g : List ℕ) (order_rows : List OrderRow) (line_rows : List LineRow) (staged_rows : List StagedRow)
-    (tells : TellsDemands first acts g order_rows line_rows staged_rows) where
+module _ (first : ℤ) (acts : List Act) (history : IsHistory first acts) (g : List ℕ) (order_rows : List OrderRow) (line_rows : List LineRow) (staged_rows : List StagedRow) (urgent_rows : List UrgentRow)
+    (tells : TellsDemands first acts g order_rows line_rows staged_rows urgent_rows) where
   abbrev ips : List Posting
   ips = item_postings first acts g
 
@@ -201,10 +228,6 @@ module _ (first : ℤ) (acts : List Act) (history : IsHistory first acts) (g : L
   rows_told n [] h = refl
   rows_told n (r ∷ rs) h = λ i. row_told n r h.1 i + rows_told n rs h.2 i
 
-  pub either : (a b : Bool) → a && b ≡ false → a ≡ true → b ≡ false
-  either true b e f = e
-  either false b e f = cc
-
   none_if_not_needed : (n : ℕ) (p : Placed) → order_named acts p.order ≡ Some p → is_open first acts p.order && has_line acts p.order g ≡ false → order_wants n p.order ≡ 0
   none_if_not_needed n p named e =
       ap (wanted_of n) named
@@ -220,16 +243,40 @@ module _ (first : ℤ) (acts : List Act) (history : IsHistory first acts) (g : L
   each_named n [] h = refl
   each_named n (p ∷ ps) h = λ i. wanted_of n (h.0 i) + each_named n ps h.1 i
 
-  told : (n : ℕ) → wanted_by n (demands_seen g line_rows staged_rows order_rows) ≡ wanted_by n (demands first acts g)
+  abbrev one : OrderRow → Demand
+  one = demand_seen g line_rows staged_rows
+
+  -- if it wants something, it is of the class
+  abbrev IsOf : Bool → Demand → Type 0
+  IsOf c d = not (d.need == 0) ≡ true → urgent_number acts d.booking ≡ c
+
+  wanted_class : (c : Bool) (ds : List Demand) → AllByRecursion (IsOf c) ds → AllClass (urgent_number acts) c (wanted ds)
+  wanted_class c [] h = tt
+  wanted_class c (d ∷ ds) h = elim (not (d.need == 0)) as (λ b. not (d.need == 0) ≡ b → AllClass (urgent_number acts) c (if b then d ∷ wanted ds else wanted ds)) [
+    | true ↦ λ e. (h.0 e, wanted_class c ds h.1)
+    | false ↦ λ e. wanted_class c ds h.1
+  ] refl
+
+  told : (n : ℕ) → wanted_by n (demands_seen g line_rows staged_rows urgent_rows order_rows) ≡ wanted_by n (demands first acts g)
   told n =
       let f : Demand → ℕ = λ d. if n == d.booking then d.need else 0 in
-      same_total f (demands_seen g line_rows staged_rows order_rows)
-      ∙ total_inserted is_earlier f [] (map (demand_seen g line_rows staged_rows) order_rows)
-      ∙ ap (λ m. 0 + m) (total_map f (demand_seen g line_rows staged_rows) order_rows ∙ rows_told n order_rows tells.orders.own
+      let ones = filter (is_urgent_seen urgent_rows) order_rows in
+      let others = filter (is_normal_seen urgent_rows) order_rows in
+      let both : total f (demands_seen g line_rows staged_rows urgent_rows order_rows) ≡ total (λ r. f (one r)) order_rows =
+      omega (
+        arith,
+        total_append f (inserted is_earlier [] (map one ones)) (inserted is_earlier [] (map one others)),
+        total_inserted is_earlier f [] (map one ones),
+        total_inserted is_earlier f [] (map one others),
+        total_map f one ones,
+        total_map f one others,
+        total_parted (λ r. f (one r)) (is_urgent_seen urgent_rows) order_rows,
+      ) in
+      same_total f (demands_seen g line_rows staged_rows urgent_rows order_rows) ∙ both
+      ∙ rows_told n order_rows tells.orders.own
       ∙ rows_tell same_text same_text_is same_text_turned (λ (p : Placed). p.order) (λ (r : OrderRow). r.order) show (orders acts) (orders_apart first acts history) (orders_found first acts history)
       (order_wants n) (λ o. is_open first acts o && has_line acts o g) (λ o. true) order_rows tells.orders.found tells.orders.own tells.orders.once (none_if_not_needed n)
-      ∙ each_named n (orders acts) (orders_found first acts history) ∙ sym (demands_told first acts g n))
-      ∙ omega arith
+      ∙ each_named n (orders acts) (orders_found first acts history) ∙ sym (demands_told first acts g n)
 
   -- numbers of orders are apart
   numbers_apart : (r s : OrderRow) → order_row first acts r.order ≡ Some r → order_row first acts s.order ≡ Some s → same_text r.order s.order ≡ false → (r.act == s.act) ≡ false
@@ -260,9 +307,74 @@ module _ (first : ℤ) (acts : List Act) (history : IsHistory first acts) (g : L
       let two = and_both (not (list_any (λ (s : OrderRow). same_text r.order s.order) rs)) (no_two (λ (r s : OrderRow). same_text r.order s.order) rs) e in
       (all_ordered r rs h.1 h.2 (not_true _ two.0), are_ordered rs h.2 two.1)
 
+  -- Each order that wants something is of the class that the rows of urgent orders tell
+
+  abbrev IsClassed : OrderRow → Type 0
+  IsClassed r = not (need_seen g line_rows staged_rows r == 0) ≡ true → urgent_number acts r.act ≡ is_urgent_seen urgent_rows r
+
+  -- an order that is closed, or has no line of the item, wants nothing
+  wants_none : (r : OrderRow) → order_row first acts r.order ≡ Some r → is_open first acts r.order && has_line acts r.order g ≡ false → need_seen g line_rows staged_rows r ≡ 0
+  wants_none r e closed =
+      let m = some_of_mapped show (order_named acts r.order) r e in
+      let own : order_named acts m.0.order ≡ Some m.0 = ap (λ (x : OrderRow). order_named acts x.order) m.2 ∙ m.1 in
+      ap (λ b. if b then need_seen g line_rows staged_rows r else 0) (sym (eq-eqb r.act r.act refl))
+      ∙ row_told r.act r e ∙ ap (λ (x : OrderRow). order_wants r.act x.order) (sym m.2)
+      ∙ none_if_not_needed r.act m.0 own (ap (λ (x : OrderRow). is_open first acts x.order && has_line acts x.order g) m.2 ∙ closed)
+
+  classed : (r : OrderRow) → order_row first acts r.order ≡ Some r → IsClassed r
+  classed r e = elim (is_open first acts r.order && has_line acts r.order g) as (λ b. is_open first acts r.order && has_line acts r.order g ≡ b → IsClassed r) [
+    | true ↦ λ t some.
+        let m = some_of_mapped show (order_named acts r.order) r e in
+        ap (λ (x : OrderRow). urgent_number acts x.act) (sym m.2) ∙ number_told acts r.order m.0 m.1 ∙ sym (class_told acts r.order m.0 m.1 urgent_rows (tells.urgents r.order t))
+    | false ↦ λ t some. let f : false ≡ true = ap (λ n. not (n == 0)) (sym (wants_none r e t)) ∙ some in cc
+  ] refl
+
+  all_classed : (rows : List OrderRow) → AreOwn (λ (r : OrderRow). r.order) (λ o. true) (order_row first acts) rows → AllByRecursion IsClassed rows
+  all_classed [] own = tt
+  all_classed (r ∷ rs) own = (classed r own.1, all_classed rs own.2)
+
+  -- The orders of a class, told by their names
+
+  module _ (c : Bool) (keep : List ℕ → Bool) (of_class : (r : OrderRow) → IsClassed r → keep r.order ≡ true → IsOf c (one r)) where
+    abbrev rows_of : List OrderRow
+    rows_of = filter (λ r. keep r.order) order_rows
+
+    rows_are : AreRows same_text (λ (r : OrderRow). r.order) (λ o. (is_open first acts o && has_line acts o g) && keep o) (λ o. true) (order_row first acts) rows_of
+    rows_are =
+        kept_rows same_text same_text_is (λ (r : OrderRow). r.order) keep (λ o. is_open first acts o && has_line acts o g) (λ o. (is_open first acts o && has_line acts o g) && keep o) (λ o. true) (λ o. true)
+        (order_row first acts) (order_row first acts) (λ o e. and_both (is_open first acts o && has_line acts o g) (keep o) e) (λ o e. e) (λ o e. refl) order_rows tells.orders
+
+    class_kept : (rows : List OrderRow) → AllByRecursion IsClassed rows → AllByRecursion (IsOf c) (map one (filter (λ r. keep r.order) rows))
+    class_kept [] h = tt
+    class_kept (r ∷ rs) h = elim (keep r.order) as (λ b. keep r.order ≡ b → AllByRecursion (IsOf c) (map one (if b then r ∷ filter (λ r. keep r.order) rs else filter (λ r. keep r.order) rs))) [
+      | true ↦ λ e. (of_class r h.0 e, class_kept rs h.1)
+      | false ↦ λ e. class_kept rs h.1
+    ] refl
+
+    abbrev of_number : List Demand
+    of_number = demands_by_number g line_rows staged_rows rows_of
+
+    class_same : AllClass (urgent_number acts) c (wanted of_number)
+    class_same = wanted_class c of_number (all_inserted is_earlier (IsOf c) [] (map one rows_of) tt (class_kept order_rows (all_classed order_rows tells.orders.own)))
+
+    class_served : AreServed (urgent_number acts) (wanted of_number)
+    class_served =
+        served_in_class (urgent_number acts) c (wanted of_number) class_same
+        (rising_of (wanted of_number) (rising_kept is_earlier _ of_number (rising_inserted is_earlier (λ a b c e f. later_than a.booking b.booking c.booking e f) (map one rows_of) (are_ordered rows_of rows_are.own rows_are.once))))
+
+  -- so the demands that want something stand in the order of service
+  rows_served : AreServed (urgent_number acts) (wanted (demands_seen g line_rows staged_rows urgent_rows order_rows))
+  rows_served =
+      let first_names : List ℕ → Bool = λ o. list_any (λ (u : UrgentRow). same_text o u.order) urgent_rows in
+      let last_names : List ℕ → Bool = λ o. not (first_names o) in
+      let ones : (r : OrderRow) → IsClassed r → first_names r.order ≡ true → IsOf true (one r) = λ r h e some. h some ∙ e in
+      let others : (r : OrderRow) → IsClassed r → last_names r.order ≡ true → IsOf false (one r) = λ r h e some. h some ∙ not_true _ e in
+      subst (AreServed (urgent_number acts)) (sym (filter-append _ (of_number true first_names ones) (of_number false last_names others)))
+      (served_both (urgent_number acts) (wanted (of_number true first_names ones)) (wanted (of_number false last_names others)) (class_same true first_names ones) (class_same false last_names others)
+      (class_served true first_names ones) (class_served false last_names others))
+
   -- the rows tell the demands, but for orders that want nothing
-  pub rows_tell_demands : wanted (demands_seen g line_rows staged_rows order_rows) ≡ wanted (demands first acts g)
+  pub rows_tell_demands : wanted (demands_seen g line_rows staged_rows urgent_rows order_rows) ≡ wanted (demands first acts g)
   rows_tell_demands =
-      same_wanted first acts g history (demands_seen g line_rows staged_rows order_rows)
-      (rising_of _ (rising_inserted is_earlier (λ a b c e f. later_than a.booking b.booking c.booking e f) (map (demand_seen g line_rows staged_rows) order_rows) (are_ordered order_rows tells.orders.own tells.orders.once)))
-      told
+      let seen = demands_seen g line_rows staged_rows urgent_rows order_rows in
+      sym (wanted_twice seen) ∙ same_wanted first acts g history (wanted seen) rows_served (λ n. wanted_same n seen ∙ told n)

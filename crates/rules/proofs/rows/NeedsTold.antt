@@ -1,6 +1,6 @@
 -- What the orders of an item need together is what they have open, less what is staged of it.
 use Rattle.std.proofs.Common.{◌≡◌, ℕ, ◌+◌, ◌-◌, ◌≤◌, Bool, true, false, ◌&&◌, List, [], ◌∷◌, refl, ap, sym, ◌∙◌, arith}
-use Rattle.std.specs.Prelude.{◌==◌, if◌then◌else◌, ℤ, Option, Some, None, find, filter, map, flat_map}
+use Rattle.std.specs.Prelude.{◌==◌, if◌then◌else◌, ℤ, Option, Some, None, find, filter, map}
 use Rattle.std.specs.List.{list_all}
 use Rattle.values.specs.Values.{same_text}
 use Rattle.values.specs.declared.lot.LotId.{LotId}
@@ -10,6 +10,7 @@ use Rattle.commands.specs.declared.command.OrderLine.{OrderLine}
 use Rattle.commands.specs.declared.rows.OrderRow.{OrderRow}
 use Rattle.commands.specs.declared.rows.LineRow.{LineRow}
 use Rattle.commands.specs.declared.rows.StagedRow.{StagedRow}
+use Rattle.commands.specs.declared.rows.UrgentRow.{UrgentRow}
 use Rattle.commands.specs.declared.rows.OrderState.TheVariants.{Open, Done, Cancelled}
 use Rattle.plan.specs.declared.Demand.{Demand}
 use Rattle.plan.specs.Overlap.{demand_total}
@@ -32,16 +33,15 @@ use Rattle.machine.proofs.histories.Orders.{NoNeed, same_order, orders_apart, or
 use Rattle.machine.proofs.histories.ClosedOrders.{ordered_of, served_is, served_within_ordered, closed_is_unstaged}
 use Rattle.machine.proofs.histories.Needs.{line_qty}
 use Rattle.machine.proofs.histories.LineLimits.{ordered_within_limit}
-use Rattle.machine.proofs.histories.Bookings.{total_flat}
 use Rattle.machine.proofs.histories.PlaceRows.{staged_holds, stage_cells}
 use Rattle.machine.proofs.histories.UnitsLimit.{units_within_limit}
 use Rattle.rules.proofs.rows.Telling.{totals_swapped, picked, once_apart, found_key}
 use Rattle.rules.proofs.rows.Ordering.{total_map}
-use Rattle.rules.proofs.rows.OpenUnits.{total_reversed}
+use Rattle.rules.proofs.rows.BookingSums.{total_bookings}
 use Rattle.rules.proofs.rows.DemandsTold.{TellsDemands, same_total, staged_same, listed, line_found, single_of, open_is_uncancelled}
 
-module _ (first : ℤ) (acts : List Act) (history : IsHistory first acts) (g : List ℕ) (order_rows : List OrderRow) (line_rows : List LineRow) (staged_rows : List StagedRow)
-    (tells : TellsDemands first acts g order_rows line_rows staged_rows) where
+module _ (first : ℤ) (acts : List Act) (history : IsHistory first acts) (g : List ℕ) (order_rows : List OrderRow) (line_rows : List LineRow) (staged_rows : List StagedRow) (urgent_rows : List UrgentRow)
+    (tells : TellsDemands first acts g order_rows line_rows staged_rows urgent_rows) where
   abbrev ips : List Posting
   ips = item_postings first acts g
 
@@ -179,11 +179,10 @@ module _ (first : ℤ) (acts : List Act) (history : IsHistory first acts) (g : L
   needs_are =
       same_total (λ (d : Demand). d.need) (demands first acts g)
       ∙ total_map (λ (d : Demand). d.need) (demand_of acts ips) (bookings acts g)
-      ∙ total_reversed (λ b. need acts ips b) (flat_map (lines_of_item g) (orders acts))
-      ∙ total_flat (λ b. need acts ips b) g (orders acts)
+      ∙ total_bookings (λ b. need acts ips b) acts g
 
   open_is : open_units first acts g ≡ total (λ p. total booking_open (lines_of_item g p)) (orders acts)
-  open_is = total_reversed booking_open (flat_map (lines_of_item g) (orders acts)) ∙ total_flat booking_open g (orders acts)
+  open_is = total_bookings booking_open acts g
 
   pub rows_tell_needs : demand_total (demands first acts g) + staged_units g staged_rows ≡ open_units first acts g
   rows_tell_needs = omega (arith, needs_are, open_is, stages_told, each_order (orders acts) (orders_found first acts history))

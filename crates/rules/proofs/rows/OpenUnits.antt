@@ -1,14 +1,14 @@
 -- The open units of an item as the rows of a slice tell them.
-use Rattle.std.proofs.Common.{◌≡◌, ℕ, ◌+◌, ◌-◌, true, false, ◌&&◌, List, [], ◌∷◌, ◌++◌, refl, ap, sym, subst, ◌∙◌, arith}
-use Rattle.std.specs.Prelude.{if◌then◌else◌, ℤ, Option, Some, None, find, filter, map, flat_map, reverse, option_map}
+use Rattle.std.proofs.Common.{◌≡◌, ℕ, ◌+◌, ◌-◌, true, false, ◌&&◌, List, [], ◌∷◌, refl, ap, sym, subst, ◌∙◌, arith}
+use Rattle.std.specs.Prelude.{if◌then◌else◌, ℤ, Option, Some, None, find, filter, map, option_map}
 use Rattle.std.specs.List.{list_any}
-use Rattle.std.proofs.lemmas.List.{reverse-append}
 use Rattle.values.specs.Values.{same_text}
 use Rattle.commands.specs.Lists.{total}
 use Rattle.commands.specs.declared.command.OrderLine.{OrderLine}
 use Rattle.commands.specs.declared.rows.OrderRow.{OrderRow}
 use Rattle.commands.specs.declared.rows.LineRow.{LineRow}
 use Rattle.commands.specs.declared.rows.StagedRow.{StagedRow}
+use Rattle.commands.specs.declared.rows.UrgentRow.{UrgentRow}
 use Rattle.machine.specs.Acts.{Act}
 use Rattle.machine.specs.Standing.{Placed, orders, order_named, lines_placed, has_line}
 use Rattle.machine.specs.Planning.{Booking, booking_of, lines_of_item, shipped_of, is_open, order_state, open_units}
@@ -19,21 +19,13 @@ use Rattle.row_rules.specs.OpenLines.{open_of_line}
 use Rattle.machine.proofs.Tests.{same_text_is, same_text_turned}
 use Rattle.machine.proofs.Apart.{AllFound}
 use Rattle.machine.proofs.histories.Orders.{same_order, orders_apart, orders_found, orders_single}
-use Rattle.machine.proofs.histories.Bookings.{total_flat}
+use Rattle.rules.proofs.rows.BookingSums.{total_bookings}
 use Rattle.rules.proofs.rows.OpenByLines.{units_open, open_of_order, open_by_lines}
 use Rattle.rules.proofs.rows.Telling.{rows_tell, some_of_mapped, found_key}
 use Rattle.rules.proofs.rows.DemandsTold.{TellsDemands, listed, line_found, single_of, line_told, no_line, either}
 
-pub total_append : {X : Type 0} (f : X → ℕ) (xs ys : List X) → total f (xs ++ ys) ≡ total f xs + total f ys
-total_append f [] ys = omega arith
-total_append f (x ∷ xs) ys = omega (arith, total_append f xs ys)
-
-pub total_reversed : {X : Type 0} (f : X → ℕ) (xs : List X) → total f (reverse xs) ≡ total f xs
-total_reversed f [] = refl
-total_reversed f (x ∷ xs) = ap (total f) (reverse-append (x ∷ []) xs) ∙ omega (arith, total_append f (reverse xs) (x ∷ []), total_reversed f xs)
-
-module _ (first : ℤ) (acts : List Act) (history : IsHistory first acts) (g : List ℕ) (order_rows : List OrderRow) (line_rows : List LineRow) (staged_rows : List StagedRow)
-    (tells : TellsDemands first acts g order_rows line_rows staged_rows) where
+module _ (first : ℤ) (acts : List Act) (history : IsHistory first acts) (g : List ℕ) (order_rows : List OrderRow) (line_rows : List LineRow) (staged_rows : List StagedRow) (urgent_rows : List UrgentRow)
+    (tells : TellsDemands first acts g order_rows line_rows staged_rows urgent_rows) where
   abbrev show : Placed → OrderRow
   show p = record { order = p.order; act = p.act; customer = p.customer; state = order_state first acts p.order }
 
@@ -66,7 +58,7 @@ module _ (first : ℤ) (acts : List Act) (history : IsHistory first acts) (g : L
       elim (is_open first acts p.order) as (λ b. is_open first acts p.order ≡ b
       → (if b then units_open (find (λ l. same_text p.order l.order && same_text g l.gtin) line_rows) else 0) ≡ total booking_open (lines_of_item g p)) [
         | true ↦ λ e.
-            ap units_open (line_told first acts history g order_rows line_rows staged_rows tells p named e) ∙ by_line p e (find (λ l. same_text g l.gtin) p.lines) refl
+            ap units_open (line_told first acts history g order_rows line_rows staged_rows urgent_rows tells p named e) ∙ by_line p e (find (λ l. same_text g l.gtin) p.lines) refl
             ∙ ap (λ ls. total booking_open (map (booking_of p) ls)) (sym (line_found g p.lines (single_of (orders acts) [] (orders_single first acts history) p.order p named)))
         | false ↦ λ e. sym (none_open p e (filter (λ l. same_text g l.gtin) p.lines))
       ] refl
@@ -88,7 +80,7 @@ module _ (first : ℤ) (acts : List Act) (history : IsHistory first acts) (g : L
       ∙ elim (is_open first acts p.order) as (λ b. is_open first acts p.order ≡ b → total booking_open (lines_of_item g p) ≡ 0) [
         | true ↦ λ t.
             let none : list_any (λ l. same_text g l.gtin) p.lines ≡ false =
-            ap (λ q. list_any (λ l. same_text g l.gtin) (lines_placed q)) (sym named) ∙ either first acts history g order_rows line_rows staged_rows tells (is_open first acts p.order) (has_line acts p.order g) e t in
+            ap (λ q. list_any (λ l. same_text g l.gtin) (lines_placed q)) (sym named) ∙ either (is_open first acts p.order) (has_line acts p.order g) e t in
             ap (λ ls. total booking_open (map (booking_of p) ls)) (no_line g p.lines none)
         | false ↦ λ t. none_open p t (filter (λ l. same_text g l.gtin) p.lines)
       ] refl
@@ -104,5 +96,4 @@ module _ (first : ℤ) (acts : List Act) (history : IsHistory first acts) (g : L
       ∙ rows_told order_rows tells.orders.own
       ∙ rows_tell same_text same_text_is same_text_turned (λ (p : Placed). p.order) (λ (r : OrderRow). r.order) show (orders acts) (orders_apart first acts history) (orders_found first acts history)
       order_open (λ o. is_open first acts o && has_line acts o g) (λ o. true) order_rows tells.orders.found tells.orders.own tells.orders.once none_if_not_needed
-      ∙ each_named (orders acts) (orders_found first acts history) ∙ sym (total_flat booking_open g (orders acts))
-      ∙ sym (total_reversed booking_open (flat_map (lines_of_item g) (orders acts)))
+      ∙ each_named (orders acts) (orders_found first acts history) ∙ sym (total_bookings booking_open acts g)

@@ -39,6 +39,7 @@ use Rattle.rules.proofs.rows.LotTold.{found_stock, in_bin_told}
 use Rattle.rules.proofs.rows.LotUnits.{bin_within_limit}
 use Rattle.machine.proofs.histories.PlaceRows.{staged_holds}
 use Rattle.rules.proofs.rows.SameKeys.{same_share_is}
+use Rattle.rules.proofs.rows.ClassesTold.{same_urgents}
 use Rattle.rules.proofs.rows.SliceDemands.{slice_tells_stages, slice_tells_demands}
 use Rattle.rules.proofs.rows.SliceSupplies.{slice_tells_supplies, is_wanted}
 use Rattle.rules.proofs.rows.SliceTells.{names_touched}
@@ -150,17 +151,19 @@ module _ (first : ℤ) (acts : List Act) (act : Act) (l : LotId) (s : Slice) (sl
 
   -- The demands and supplies of its item
 
-  pub demands_after : TellsDemands first after g s.rows.orders s.rows.lines (staged_kept s l)
+  pub demands_after : TellsDemands first after g s.rows.orders s.rows.lines (staged_kept s l) s.rows.urgents
   demands_after =
       let before = slice_tells_demands first acts act s slice planned g touched in
+      let wanted : (o : List ℕ) → is_open first after o && has_line after o g ≡ true → is_open first acts o && has_line acts o g ≡ true = λ o e. (λ i. open_still first acts act l makes next o i && line_still first acts act l makes next o g i) ∙ e in
       record {
         orders = loosened same_text (λ (x : OrderRow). x.order) (λ o. is_open first acts o && has_line acts o g) (λ o. is_open first after o && has_line after o g) (λ o. true) (λ o. true) (order_row first acts) (order_row first after) s.rows.orders
-            (λ o e. (λ i. open_still first acts act l makes next o i && line_still first acts act l makes next o g i) ∙ e) (λ o e. refl) (order_row_still first acts act l makes next) before.orders;
+            wanted (λ o e. refl) (order_row_still first acts act l makes next) before.orders;
         lines = loosened same_line (λ (x : LineRow). (x.order, x.gtin)) (λ k. is_open first acts k.0 && same_text g k.1) (λ k. is_open first after k.0 && same_text g k.1) (λ k. true) (λ k. true) (λ k. line_row first acts k.0 k.1) (λ k. line_row first after k.0 k.1) s.rows.lines
             (λ k e. ap (λ b. b && same_text g k.1) (open_still first acts act l makes next k.0) ∙ e) (λ k e. refl) (λ k. line_row_still first acts act l makes next k.0 k.1) before.lines;
         staged = loosened same_share (λ (x : StagedRow). (x.order, x.lot)) (λ k. of_item g k.1) (λ k. of_item g k.1) (λ k. true) (λ k. true) (λ k. if is_lot l k.1 then None else staged_row first acts k.0 k.1) (λ k. staged_row first after k.0 k.1) (staged_kept s l)
             (λ k e. e) (λ k e. refl) staged_same
             (rows_left same_share same_share_is (λ (r : StagedRow). (r.order, r.lot)) (λ k. is_lot l k.1) (λ k. staged_row first acts k.0 k.1) (λ k. of_item g k.1) s.rows.staged staged_are);
+        urgents = λ o e. before.urgents o (wanted o e) ∙ same_urgents acts after makes.same_orders o;
       }
 
   bin_there : (b : List ℕ) → list_any (λ (r : StockRow). same_text b r.bin) (stock_with_returned s l) ≡ true → find (λ (r : BinRow). same_text b r.name) (bins_with_returns s) ≡ bin_row after b

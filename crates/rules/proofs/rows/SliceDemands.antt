@@ -1,17 +1,18 @@
 -- The rows of a slice tell what is staged of each item that the command touches, and its demands if the command plans.
 use Rattle.std.proofs.Common.{◌≡◌, ℕ, true, false, ◌&&◌, List, [], ◌∷◌, refl, ap, sym, ◌∙◌}
-use Rattle.std.specs.Prelude.{◌||◌, ℤ}
+use Rattle.std.specs.Prelude.{◌||◌, ℤ, find}
 use Rattle.std.specs.List.{list_any}
 use Rattle.values.specs.Values.{same_text}
 use Rattle.commands.specs.declared.command.OrderLine.{OrderLine}
 use Rattle.commands.specs.declared.rows.OrderRow.{OrderRow}
+use Rattle.commands.specs.declared.rows.UrgentRow.{UrgentRow}
 use Rattle.commands.specs.declared.rows.LineRow.{LineRow}
 use Rattle.commands.specs.declared.rows.StagedRow.{StagedRow}
 use Rattle.machine.specs.Acts.{Act}
 use Rattle.machine.specs.Postings.{of_item}
 use Rattle.machine.specs.Standing.{has_line, lines_of}
 use Rattle.machine.specs.Planning.{is_open}
-use Rattle.machine.specs.Tables.{tables_of, order_row, line_row, staged_row}
+use Rattle.machine.specs.Tables.{tables_of, order_row, urgent_row, line_row, staged_row}
 use Rattle.machine.specs.Touched.{is_touched}
 use Rattle.machine.specs.KeyedRows.{AreRows, OrderItem, OrderLot, same_line, same_share}
 use Rattle.rules.specs.Slices.{IsSlice, plans, has_touched_line, names_order}
@@ -50,11 +51,19 @@ module _ (first : ℤ) (acts : List Act) (act : Act) (s : Slice) (slice : IsSlic
   unfolding tables_of
   line_are = slice.lines
 
-  pub slice_tells_demands : TellsDemands first acts g s.rows.orders s.rows.lines s.rows.staged
+  -- and of each of these orders whether it is urgent
+  urgents_told : (o : List ℕ) → is_open first acts o && has_line acts o g ≡ true → find (λ (r : UrgentRow). same_text o r.order) s.rows.urgents ≡ urgent_row acts o
+  unfolding tables_of
+  urgents_told o e =
+      let two = and_both (is_open first acts o) (has_line acts o g) e in
+      slice.urgents.found o (λ i. planned i && two.0 i && line_touched first acts act s slice g touched (lines_of acts o) two.1 i)
+
+  pub slice_tells_demands : TellsDemands first acts g s.rows.orders s.rows.lines s.rows.staged s.rows.urgents
   slice_tells_demands = record {
     orders = loosened same_text (λ (r : OrderRow). r.order) _ (λ o. is_open first acts o && has_line acts o g) _ (λ o. true) (order_row first acts) (order_row first acts) s.rows.orders
         (λ o e. let two = and_both (is_open first acts o) (has_line acts o g) e in or_later (names_order act.command o) _ (λ i. planned i && two.0 i && line_touched first acts act s slice g touched (lines_of acts o) two.1 i)) (λ o e. refl) (λ o. refl) order_are;
     lines = loosened same_line (λ (r : LineRow). (r.order, r.gtin)) _ (λ k. is_open first acts k.0 && same_text g k.1) _ (λ k. true) (λ k. line_row first acts k.0 k.1) (λ k. line_row first acts k.0 k.1) s.rows.lines
         (λ k e. let two = and_both (is_open first acts k.0) (same_text g k.1) e in or_later (names_order act.command k.0) _ (λ i. planned i && two.0 i && touched_item first acts act s slice g touched k.1 two.1 i)) (λ k e. refl) (λ k. refl) line_are;
     staged = slice_tells_stages first acts act s slice g touched;
+    urgents = urgents_told;
   }

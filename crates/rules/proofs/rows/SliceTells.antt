@@ -5,7 +5,7 @@ use Rattle.std.specs.List.{list_any}
 use Rattle.values.specs.Values.{same_text}
 use Rattle.values.specs.declared.lot.LotId.{LotId}
 use Rattle.commands.specs.declared.command.Command.{Command}
-use Rattle.commands.specs.declared.command.Command.TheVariants.{Item, Bin, Receive, Move, Count, Adjust, Order, Cancel, Pick, Unpick, Ship, Hold, Release, Recall, OpenDay, Least}
+use Rattle.commands.specs.declared.command.Command.TheVariants.{Item, Bin, Receive, Move, Count, Adjust, Order, Cancel, Pick, Unpick, Ship, Hold, Release, Recall, OpenDay, Least, Urgent}
 use Rattle.machine.specs.Acts.{Act}
 use Rattle.machine.specs.Postings.{is_lot}
 use Rattle.machine.specs.Standing.{has_item, item_named, has_bin, bin_named, KnownLot, lot_known, is_held, is_recalled, recalling}
@@ -39,6 +39,7 @@ names_touched first act acts (Release k) l e = is_lot_item l k e
 names_touched first act acts (Recall k) l e = is_lot_item l k e
 names_touched first act acts (OpenDay day) l e = let f : false ≡ true = e in cc
 names_touched first act acts (Least x) l e = let f : false ≡ true = e in cc
+names_touched first act acts (Urgent o) l e = let f : false ≡ true = e in cc
 
 module _ (first : ℤ) (acts : List Act) (act : Act) (s : Slice) (slice : IsSlice first act acts (tables_of first acts) s) (planned : plans act.command ≡ true) where
   found_item : (g : List ℕ) → is_touched first act acts g ≡ true → find (λ r. same_text g r.gtin) s.rows.items ≡ item_row acts g

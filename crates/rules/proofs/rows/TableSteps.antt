@@ -15,10 +15,10 @@ use Rattle.row_rules.specs.declared.slice.Change.{Change}
 
 pub same_tables : (t u : Tables) → t.meta ≡ u.meta → ((g : List ℕ) → t.item g ≡ u.item g) → ((g : List ℕ) → t.least g ≡ u.least g) → ((b : List ℕ) → t.bin b ≡ u.bin b)
     → ((l : LotId) → t.lot l ≡ u.lot l) → ((l : LotId) → t.recall l ≡ u.recall l) → ((l : LotId) (b : List ℕ) → t.stock l b ≡ u.stock l b)
-    → ((o : List ℕ) → t.order o ≡ u.order o) → ((o g : List ℕ) → t.line o g ≡ u.line o g) → ((o : List ℕ) (l : LotId) → t.staged o l ≡ u.staged o l)
+    → ((o : List ℕ) → t.order o ≡ u.order o) → ((o : List ℕ) → t.urgent o ≡ u.urgent o) → ((o g : List ℕ) → t.line o g ≡ u.line o g) → ((o : List ℕ) (l : LotId) → t.staged o l ≡ u.staged o l)
     → ((o : List ℕ) (l : LotId) → t.reserved o l ≡ u.reserved o l) → ((n : ℕ) → t.shipment n ≡ u.shipment n) → ((n : ℕ) (l : LotId) → t.shipline n l ≡ u.shipline n l)
     → ((l : LotId) (n : ℕ) → t.card l n ≡ u.card l n) → ((k : List ℕ) → t.repeat k ≡ u.repeat k) → t ≡ u
-same_tables t u meta item least bin lot recall stock order line staged reserved shipment shipline card repeat =
+same_tables t u meta item least bin lot recall stock order urgent line staged reserved shipment shipline card repeat =
     λ j. record {
       meta = meta j;
       item = λ g. item g j;
@@ -28,6 +28,7 @@ same_tables t u meta item least bin lot recall stock order line staged reserved 
       recall = λ l. recall l j;
       stock = λ l b. stock l b j;
       order = λ o. order o j;
+      urgent = λ o. urgent o j;
       line = λ o g. line o g j;
       staged = λ o l. staged o l j;
       reserved = λ o l. reserved o l j;

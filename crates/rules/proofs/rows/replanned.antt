@@ -7,3 +7,4 @@ pub mod Behind
 pub mod Changed
 pub mod OneItem
 pub mod EachItem
+pub mod PutUnits

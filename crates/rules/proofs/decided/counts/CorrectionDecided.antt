@@ -47,7 +47,7 @@ use Rattle.rules.proofs.rows.TableSteps.{AreNamed, names_changed, reserved_chang
 use Rattle.rules.proofs.rows.replanned.OneItem.{TouchesOnly, replanned, replanned_once}
 use Rattle.rules.proofs.rows.DaysAsked.{earliest_told}
 use Rattle.rules.proofs.decided.Decisions.{IsChange, day_seen, number_same, meta_same}
-use Rattle.rules.proofs.decided.counts.CorrectionStep.{Writes, stock_with, earliest_at, bin_at, lot_at, recall_at, line_known, open_at, order_at, line_at, staged_at, written_card, written_cards, write_change, write_step}
+use Rattle.rules.proofs.decided.counts.CorrectionStep.{Writes, stock_with, earliest_at, bin_at, lot_at, recall_at, line_known, open_at, order_at, urgent_at, line_at, staged_at, written_card, written_cards, write_change, write_step}
 
 module _ (first : ℤ) (acts : List Act) (act : Act) (s : Slice) (slice : IsSlice first act acts (tables_of first acts) s) (next : IsHistory first (act ∷ acts))
     (l : LotId) (b : List ℕ) (z : ℤ) (left : ℕ) (writes : Writes first act acts l b z left) where
@@ -68,16 +68,18 @@ module _ (first : ℤ) (acts : List Act) (act : Act) (s : Slice) (slice : IsSlic
 
   -- Rows after the act
 
-  demands_after : TellsDemands first after g s.rows.orders s.rows.lines s.rows.staged
+  demands_after : TellsDemands first after g s.rows.orders s.rows.lines s.rows.staged s.rows.urgents
   demands_after =
       let before = slice_tells_demands first acts act s slice writes.planned g touched in
+      let wanted : (o : List ℕ) → is_open first after o && has_line after o g ≡ true → is_open first acts o && has_line acts o g ≡ true = λ o e. (λ i. open_at first act acts l b z left writes legal o i && line_known first act acts l b z left writes legal o g i) ∙ e in
       record {
         orders = loosened same_text (λ (x : OrderRow). x.order) (λ o. is_open first acts o && has_line acts o g) (λ o. is_open first after o && has_line after o g) (λ o. true) (λ o. true) (order_row first acts) (order_row first after) s.rows.orders
-            (λ o e. (λ i. open_at first act acts l b z left writes legal o i && line_known first act acts l b z left writes legal o g i) ∙ e) (λ o e. refl) (order_at first act acts l b z left writes legal) before.orders;
+            wanted (λ o e. refl) (order_at first act acts l b z left writes legal) before.orders;
         lines = loosened same_line (λ (x : LineRow). (x.order, x.gtin)) (λ k. is_open first acts k.0 && same_text g k.1) (λ k. is_open first after k.0 && same_text g k.1) (λ k. true) (λ k. true) (λ k. line_row first acts k.0 k.1) (λ k. line_row first after k.0 k.1) s.rows.lines
             (λ k e. ap (λ t. t && same_text g k.1) (open_at first act acts l b z left writes legal k.0) ∙ e) (λ k e. refl) (λ k. line_at first act acts l b z left writes legal k.0 k.1) before.lines;
         staged = loosened same_share (λ (x : StagedRow). (x.order, x.lot)) (λ k. of_item g k.1) (λ k. of_item g k.1) (λ k. true) (λ k. true) (λ k. staged_row first acts k.0 k.1) (λ k. staged_row first after k.0 k.1) s.rows.staged
             (λ k e. e) (λ k e. refl) (λ k. staged_at first act acts l b z left writes legal k.0 k.1) before.staged;
+        urgents = λ o e. before.urgents o (wanted o e) ∙ urgent_at first act acts l b z left writes legal o;
       }
 
   bins_after : (c : List ℕ) → list_any (λ (q : StockRow). same_text c q.bin) (stock_corrected s l b left) ≡ true → find (λ (x : BinRow). same_text c x.name) s.rows.bins ≡ bin_row after c
@@ -118,7 +120,7 @@ module _ (first : ℤ) (acts : List Act) (act : Act) (s : Slice) (slice : IsSlic
 
   are_named : AreNamed first act acts puts drops
   are_named =
-      replanned first acts act s slice writes.planned next g only s.meta.day s.rows.least from s.rows.orders s.rows.lines s.rows.staged s.rows.lots s.rows.recalls s.rows.bins (stock_corrected s l b left) demands_after supplies_after
+      replanned first acts act s slice writes.planned next g only s.meta.day s.rows.least from s.rows.orders s.rows.lines s.rows.staged s.rows.urgents s.rows.lots s.rows.recalls s.rows.bins (stock_corrected s l b left) demands_after supplies_after
 
   -- The change is that of the act
 
@@ -164,11 +166,12 @@ module _ (first : ℤ) (acts : List Act) (act : Act) (s : Slice) (slice : IsSlic
       lines = refl;
       staged = refl;
       reserved =
-          replanned_once first acts act s slice writes.planned next g only s.meta.day s.rows.least from s.rows.orders s.rows.lines s.rows.staged s.rows.lots s.rows.recalls s.rows.bins (stock_corrected s l b left) demands_after supplies_after;
+          replanned_once first acts act s slice writes.planned next g only s.meta.day s.rows.least from s.rows.orders s.rows.lines s.rows.staged s.rows.urgents s.rows.lots s.rows.recalls s.rows.bins (stock_corrected s l b left) demands_after supplies_after;
       shipments = refl;
       shiplines = refl;
       cards = cards_once (int_lt (pos 0) z) (int_lt z (pos 0)) (correction_card s l b left z WriteOn) (correction_card s l b left z WrittenOff);
       least = refl;
+      urgents = refl;
     };
     named = names_changed first act acts (corrections s l b left z) are_named;
   }

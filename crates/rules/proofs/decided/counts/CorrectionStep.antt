@@ -25,7 +25,7 @@ use Rattle.machine.specs.Verdict.{taken_off, put_on}
 use Rattle.machine.specs.Cards.{cards, card_lines, lot_units_in_house}
 use Rattle.machine.specs.Replies.{further_field, change_field}
 use Rattle.machine.specs.Touched.{is_touched}
-use Rattle.machine.specs.Tables.{tables_of, meta_row, if_any, item_row, least_row, bin_row, lot_row, recall_row, stock_row, order_row, line_row, staged_row, shipment_row, shipline_row, card_row, reserved_row}
+use Rattle.machine.specs.Tables.{tables_of, meta_row, if_any, item_row, least_row, bin_row, lot_row, recall_row, stock_row, order_row, urgent_row, line_row, staged_row, shipment_row, shipline_row, card_row, reserved_row}
 use Rattle.machine.specs.KeyedRows.{LotBin, same_cell}
 use Rattle.rules.specs.Slices.{applied, tables_but_repeats, changed, unless_put, plans, names_bin, names_lot}
 use Rattle.row_rules.specs.Seen.{none_put, none_dropped}
@@ -34,6 +34,7 @@ use Rattle.row_rules.specs.declared.slice.Change.{Change}
 use Rattle.machine.proofs.histories.Cells.{Legal}
 use Rattle.machine.proofs.histories.LegalHistories.{legal_posting}
 use Rattle.machine.proofs.histories.Balances.{bin_balance-posted, balance-elsewhere, balance-elsewhere_of}
+use Rattle.rules.proofs.rows.ClassesTold.{same_urgents}
 use Rattle.rules.proofs.rows.TableSteps.{same_tables}
 use Rattle.rules.proofs.rows.StockChanged.{with_units, cell_changed, stock_row_with}
 use Rattle.machine.proofs.histories.PlaceRows.{and_turned}
@@ -170,6 +171,9 @@ module _ (first : ℤ) (act : Act) (acts : List Act) (l : LotId) (b : List ℕ) 
   pub order_at : (o : List ℕ) → order_row first acts o ≡ order_row first after o
   order_at o = λ i. option_map (λ (p : Placed). record { order = p.order; act = p.act; customer = p.customer; state = state_same p.order i }) (find (λ p. same_text o p.order) (sym writes.known.orders i))
 
+  pub urgent_at : (o : List ℕ) → urgent_row acts o ≡ urgent_row after o
+  urgent_at = same_urgents acts after (sym writes.known.orders)
+
   pub line_at : (o g : List ℕ) → line_row first acts o g ≡ line_row first after o g
   line_at o g = λ i. option_map (λ (m : OrderLine). record { order = o; gtin = g; ordered = m.qty; shipped = shipped_same o g i }) (find (λ m. same_text g m.gtin) (lines_same o i))
 
@@ -228,4 +232,4 @@ module _ (first : ℤ) (act : Act) (acts : List Act) (l : LotId) (b : List ℕ) 
     unfolding applied tables_of
     write_step put dropped reserved_at =
         same_tables (applied (write_change text rows put dropped) (tables_of first acts)) (tables_but_repeats first act acts) refl
-        item_at least_at bin_at lot_at recall_at stock_at order_at line_at staged_at reserved_at shipment_at shipline_at card_at (λ k. refl)
+        item_at least_at bin_at lot_at recall_at stock_at order_at urgent_at line_at staged_at reserved_at shipment_at shipline_at card_at (λ k. refl)

@@ -106,7 +106,7 @@ module _ (first : ℤ) (acts : List Act) (key : Key) (day : ℤ) (s : Slice) (sl
   day_step reserved_at =
       let made = makes first acts act s slice told day s.rows.least tells in
       same_tables (applied day_change (tables_of first acts)) (tables_but_repeats first act acts) refl
-      (λ g. refl) (λ g. refl) (λ b. refl) (λ l. refl) (λ l. refl) (stock_at first acts act s slice told day s.rows.least tells next) (order_row_still first acts act _ made next) (line_row_still first acts act _ made next)
+      (λ g. refl) (λ g. refl) (λ b. refl) (λ l. refl) (λ l. refl) (stock_at first acts act s slice told day s.rows.least tells next) (order_row_still first acts act _ made next) (λ o. refl) (line_row_still first acts act _ made next)
       (staged_at first acts act s slice told day s.rows.least tells next) reserved_at (λ n. refl) (shipline_row_still first acts act _ made next) (card_row_still first acts act _ made next) (λ k. refl)
 
   meta_same : meta_on s day s.rows.least ≡ meta_row first after
@@ -138,6 +138,7 @@ module _ (first : ℤ) (acts : List Act) (key : Key) (day : ℤ) (s : Slice) (sl
           shiplines = refl;
           cards = refl;
           least = refl;
+          urgents = refl;
         };
         named = names_changed first act acts (day_changes s day) named;
       }

@@ -144,7 +144,7 @@ module _ (first : ℤ) (acts : List Act) (key : Key) (l : NewLeast) (s : Slice) 
   least_step reserved_at =
       let made = makes first acts act s slice told s.meta.day asked tells in
       same_tables (applied least_change (tables_of first acts)) (tables_but_repeats first act acts) refl
-      (λ g. refl) (least_at first acts key l known) (λ b. refl) (λ m. refl) (λ m. refl) (stock_at first acts act s slice told s.meta.day asked tells next) (order_row_still first acts act _ made next) (line_row_still first acts act _ made next)
+      (λ g. refl) (least_at first acts key l known) (λ b. refl) (λ m. refl) (λ m. refl) (stock_at first acts act s slice told s.meta.day asked tells next) (order_row_still first acts act _ made next) (λ o. refl) (line_row_still first acts act _ made next)
       (staged_at first acts act s slice told s.meta.day asked tells next) reserved_at (λ n. refl) (shipline_row_still first acts act _ made next) (card_row_still first acts act _ made next) (λ k. refl)
 
   least_text : reply_on s s.meta.day asked ≡ reply first act acts
@@ -171,6 +171,7 @@ module _ (first : ℤ) (acts : List Act) (key : Key) (l : NewLeast) (s : Slice) 
           shiplines = refl;
           cards = refl;
           least = refl;
+          urgents = refl;
         };
         named = names_changed first act acts (least_changes s l) named;
       }

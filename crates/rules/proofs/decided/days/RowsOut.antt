@@ -53,6 +53,7 @@ use Rattle.rules.proofs.rows.SliceSupplies.{slice_tells_supplies}
 use Rattle.rules.proofs.rows.StockChanged.{any_kept}
 use Rattle.rules.proofs.rows.SuppliesTold.{TellsSupplies, in_stock}
 use Rattle.machine.proofs.histories.UnshippableLots.{stages_of}
+use Rattle.rules.proofs.rows.ClassesTold.{same_urgents}
 use Rattle.rules.proofs.rows.LeavingLots.{MakesThemUnshippable, unstaged, staged_still, in_bin_still, in_returns, open_still, line_still, order_row_still, line_row_still}
 use Rattle.rules.proofs.decided.days.LotsOut.{SaysWhenLotsShip, TellsWhenLotsShip, out_touched, makes, items_apart, items_told}
 
@@ -298,17 +299,19 @@ module _ (first : ℤ) (acts : List Act) (act : Act) (s : Slice) (slice : IsSlic
   -- The demands and supplies of each item that the act touches
 
   module _ (h : List ℕ) (t : is_touched first act acts h ≡ true) where
-    pub demands_after : TellsDemands first after h s.rows.orders s.rows.lines (staged_kept_on s day least)
+    pub demands_after : TellsDemands first after h s.rows.orders s.rows.lines (staged_kept_on s day least) s.rows.urgents
     demands_after =
         let before = slice_tells_demands first acts act s slice says.planned h t in
+        let wanted : (o : List ℕ) → is_open first after o && has_line after o h ≡ true → is_open first acts o && has_line acts o h ≡ true = λ o e. (λ i. open_still first acts act gone made next o i && line_still first acts act gone made next o h i) ∙ e in
         record {
           orders = loosened same_text (λ (x : OrderRow). x.order) (λ o. is_open first acts o && has_line acts o h) (λ o. is_open first after o && has_line after o h) (λ o. true) (λ o. true) (order_row first acts) (order_row first after) s.rows.orders
-              (λ o e. (λ i. open_still first acts act gone made next o i && line_still first acts act gone made next o h i) ∙ e) (λ o e. refl) (order_row_still first acts act gone made next) before.orders;
+              wanted (λ o e. refl) (order_row_still first acts act gone made next) before.orders;
           lines = loosened same_line (λ (x : LineRow). (x.order, x.gtin)) (λ k. is_open first acts k.0 && same_text h k.1) (λ k. is_open first after k.0 && same_text h k.1) (λ k. true) (λ k. true) (λ k. line_row first acts k.0 k.1) (λ k. line_row first after k.0 k.1) s.rows.lines
               (λ k e. ap (λ b. b && same_text h k.1) (open_still first acts act gone made next k.0) ∙ e) (λ k e. refl) (λ k. line_row_still first acts act gone made next k.0 k.1) before.lines;
           staged = loosened same_share (λ (x : StagedRow). (x.order, x.lot)) (λ k. of_item h k.1) (λ k. of_item h k.1) (λ k. true) (λ k. true) (λ k. if gone k.1 then None else staged_row first acts k.0 k.1) (λ k. staged_row first after k.0 k.1) (staged_kept_on s day least)
               (λ k e. e) (λ k e. refl) staged_same
               (rows_left same_share same_share_is (λ (r : StagedRow). (r.order, r.lot)) (λ k. gone k.1) (λ k. staged_row first acts k.0 k.1) (λ k. of_item h k.1) s.rows.staged before.staged);
+          urgents = λ o e. before.urgents o (wanted o e) ∙ same_urgents acts after made.same_orders o;
         }
 
     bin_there : (b : List ℕ) → list_any (λ (r : StockRow). same_text b r.bin) (stock_on s day least) ≡ true → find (λ (r : BinRow). same_text b r.name) (bins_with_returns s) ≡ bin_row after b
@@ -360,9 +363,9 @@ module _ (first : ℤ) (acts : List Act) (act : Act) (s : Slice) (slice : IsSlic
   pub out_named : AreNamed first act acts (reserved_put_on s day least) (reserved_gone_on s day least)
   out_named =
       items_replanned (λ (g : List ℕ). g) first acts act s slice says.planned next (gtins_seen s) (items_apart first acts act s slice says day least tells) (items_told first acts act s slice says day least tells)
-      day least tells s.rows.orders s.rows.lines (staged_kept_on s day least) s.rows.lots s.rows.recalls (bins_with_returns s) (stock_on s day least) demands_after supplies_after
+      day least tells s.rows.orders s.rows.lines (staged_kept_on s day least) s.rows.urgents s.rows.lots s.rows.recalls (bins_with_returns s) (stock_on s day least) demands_after supplies_after
 
   pub out_put_once : no_two is_share_of (reserved_put_on s day least) ≡ true
   out_put_once =
       items_put_once (λ (g : List ℕ). g) first acts act s slice says.planned next (gtins_seen s) (items_apart first acts act s slice says day least tells) (items_told first acts act s slice says day least tells)
-      day least tells s.rows.orders s.rows.lines (staged_kept_on s day least) s.rows.lots s.rows.recalls (bins_with_returns s) (stock_on s day least) demands_after supplies_after
+      day least tells s.rows.orders s.rows.lines (staged_kept_on s day least) s.rows.urgents s.rows.lots s.rows.recalls (bins_with_returns s) (stock_on s day least) demands_after supplies_after

@@ -171,7 +171,7 @@ module _ (first : ℤ) (acts : List Act) (key : Key) (m : Movement) (text : List
   unfolding applied tables_of
   move_step stock found put dropped reserved_at =
       same_tables (applied (move_change stock put dropped) (tables_of first acts)) (tables_but_repeats first act acts) refl
-      (λ g. refl) (λ g. refl) (λ b. refl) (λ l. refl) (λ l. refl) (λ l b. stock_moved l b stock found) order_at line_at staged_at reserved_at (λ n. refl) shipline_at card_at (λ k. refl)
+      (λ g. refl) (λ g. refl) (λ b. refl) (λ l. refl) (λ l. refl) (λ l b. stock_moved l b stock found) order_at (λ o. refl) line_at staged_at reserved_at (λ n. refl) shipline_at card_at (λ k. refl)
 
   -- no stock row is put twice
   pub stock_once : no_two (λ (r q : StockRow). is_lot r.lot q.lot && same_text r.bin q.bin) (stock_put m.lot m.to brought ++ stock_put m.lot m.from left) ≡ true

@@ -69,16 +69,18 @@ module _ (first : ℤ) (acts : List Act) (key : Key) (m : Movement) (s : Slice) 
 
   -- Order rows, lines and staged rows stay as they are
 
-  pub demands_after : TellsDemands first after g s.rows.orders s.rows.lines s.rows.staged
+  pub demands_after : TellsDemands first after g s.rows.orders s.rows.lines s.rows.staged s.rows.urgents
   demands_after =
       let before = slice_tells_demands first acts act s slice refl g (same_text_refl g) in
+      let wanted : (o : List ℕ) → is_open first after o && has_line after o g ≡ true → is_open first acts o && has_line acts o g ≡ true = λ o e. ap (λ b. b && has_line acts o g) (open_at first acts key m text some_moved accepted.there accepted.apart legal_before o) ∙ e in
       record {
         orders = loosened same_text (λ (x : OrderRow). x.order) (λ o. is_open first acts o && has_line acts o g) (λ o. is_open first after o && has_line after o g) (λ o. true) (λ o. true) (order_row first acts) (order_row first after) s.rows.orders
-            (λ o e. ap (λ b. b && has_line acts o g) (open_at first acts key m text some_moved accepted.there accepted.apart legal_before o) ∙ e) (λ o e. refl) (order_at first acts key m text some_moved accepted.there accepted.apart legal_before) before.orders;
+            wanted (λ o e. refl) (order_at first acts key m text some_moved accepted.there accepted.apart legal_before) before.orders;
         lines = loosened same_line (λ (x : LineRow). (x.order, x.gtin)) (λ k. is_open first acts k.0 && same_text g k.1) (λ k. is_open first after k.0 && same_text g k.1) (λ k. true) (λ k. true) (λ k. line_row first acts k.0 k.1) (λ k. line_row first after k.0 k.1) s.rows.lines
             (λ k e. ap (λ b. b && same_text g k.1) (open_at first acts key m text some_moved accepted.there accepted.apart legal_before k.0) ∙ e) (λ k e. refl) (λ k. line_at first acts key m text some_moved accepted.there accepted.apart legal_before k.0 k.1) before.lines;
         staged = loosened same_share (λ (x : StagedRow). (x.order, x.lot)) (λ k. of_item g k.1) (λ k. of_item g k.1) (λ k. true) (λ k. true) (λ k. staged_row first acts k.0 k.1) (λ k. staged_row first after k.0 k.1) s.rows.staged
             (λ k e. e) (λ k e. refl) (λ k. staged_at first acts key m text some_moved accepted.there accepted.apart legal_before k.0 k.1) before.staged;
+        urgents = λ o e. before.urgents o (wanted o e);
       }
 
   -- Stock

@@ -51,7 +51,7 @@ module _ (first : ℤ) (acts : List Act) (key : Key) (m : Movement) (s : Slice) 
 
   are_named : AreNamed first act acts puts drops
   are_named =
-      replanned first acts act s slice refl next g only s.meta.day s.rows.least (earliest_told first acts act s slice refl next.0 g only.own) s.rows.orders s.rows.lines s.rows.staged s.rows.lots s.rows.recalls s.rows.bins (stock_rows_moved s m)
+      replanned first acts act s slice refl next g only s.meta.day s.rows.least (earliest_told first acts act s slice refl next.0 g only.own) s.rows.orders s.rows.lines s.rows.staged s.rows.urgents s.rows.lots s.rows.recalls s.rows.bins (stock_rows_moved s m)
       (demands_after first acts key m s slice next) (supplies_after first acts key m s slice next)
 
   -- The change is that of the act
@@ -99,12 +99,13 @@ module _ (first : ℤ) (acts : List Act) (key : Key) (m : Movement) (s : Slice) 
       lines = refl;
       staged = refl;
       reserved =
-          replanned_once first acts act s slice refl next g only s.meta.day s.rows.least (earliest_told first acts act s slice refl next.0 g only.own) s.rows.orders s.rows.lines s.rows.staged s.rows.lots s.rows.recalls s.rows.bins (stock_rows_moved s m)
+          replanned_once first acts act s slice refl next g only s.meta.day s.rows.least (earliest_told first acts act s slice refl next.0 g only.own) s.rows.orders s.rows.lines s.rows.staged s.rows.urgents s.rows.lots s.rows.recalls s.rows.bins (stock_rows_moved s m)
           (demands_after first acts key m s slice next) (supplies_after first acts key m s slice next);
       shipments = refl;
       shiplines = refl;
       cards = refl;
       least = refl;
+      urgents = refl;
     };
     named = names_changed first act acts (move_changes s m) are_named;
   }

@@ -58,7 +58,7 @@ module _ (first : ℤ) (acts : List Act) (key : Key) (r : Receipt) (s : Slice) (
 
   are_named : AreNamed first act acts puts drops
   are_named =
-      replanned first acts act s slice refl next g only s.meta.day s.rows.least (earliest_told first acts act s slice refl next.0 g only.own) s.rows.orders s.rows.lines s.rows.staged (lot_rows_after s r) s.rows.recalls s.rows.bins (stock_rows_after s r)
+      replanned first acts act s slice refl next g only s.meta.day s.rows.least (earliest_told first acts act s slice refl next.0 g only.own) s.rows.orders s.rows.lines s.rows.staged s.rows.urgents (lot_rows_after s r) s.rows.recalls s.rows.bins (stock_rows_after s r)
       (demands_after first acts key r s slice next) (supplies_after first acts key r s slice next)
 
   -- The change is that of the act
@@ -106,12 +106,13 @@ module _ (first : ℤ) (acts : List Act) (key : Key) (r : Receipt) (s : Slice) (
       lines = refl;
       staged = refl;
       reserved =
-          replanned_once first acts act s slice refl next g only s.meta.day s.rows.least (earliest_told first acts act s slice refl next.0 g only.own) s.rows.orders s.rows.lines s.rows.staged (lot_rows_after s r) s.rows.recalls s.rows.bins (stock_rows_after s r)
+          replanned_once first acts act s slice refl next g only s.meta.day s.rows.least (earliest_told first acts act s slice refl next.0 g only.own) s.rows.orders s.rows.lines s.rows.staged s.rows.urgents (lot_rows_after s r) s.rows.recalls s.rows.bins (stock_rows_after s r)
           (demands_after first acts key r s slice next) (supplies_after first acts key r s slice next);
       shipments = refl;
       shiplines = refl;
       cards = refl;
       least = refl;
+      urgents = refl;
     };
     named = names_changed first act acts (receive_changes s key r) are_named;
   }

@@ -141,4 +141,4 @@ module _ (first : ℤ) (acts : List Act) (key : Key) (r : Receipt) (text : List 
   unfolding applied tables_of
   receive_step put dropped reserved_at =
       same_tables (applied (receive_change put dropped) (tables_of first acts)) (tables_but_repeats first act acts) refl
-      (λ g. refl) (λ g. refl) (λ b. refl) lot_at (λ l. refl) stock_at order_at line_at staged_at reserved_at (λ n. refl) shipline_at card_at (λ k. refl)
+      (λ g. refl) (λ g. refl) (λ b. refl) lot_at (λ l. refl) stock_at order_at (λ o. refl) line_at staged_at reserved_at (λ n. refl) shipline_at card_at (λ k. refl)

@@ -109,7 +109,7 @@ module _ (first : ℤ) (acts : List Act) (key : Key) (l : LotId) (s : Slice) (sl
 
     are_named : AreNamed first act acts puts drops
     are_named =
-        replanned first acts act s slice refl next g only s.meta.day s.rows.least (earliest_told first acts act s slice refl next.0 g only.own) s.rows.orders s.rows.lines (staged_kept s l) (lot_rows_with_hold s l true) s.rows.recalls (bins_with_returns s) (stock_with_returned s l)
+        replanned first acts act s slice refl next g only s.meta.day s.rows.least (earliest_told first acts act s slice refl next.0 g only.own) s.rows.orders s.rows.lines (staged_kept s l) s.rows.urgents (lot_rows_with_hold s l true) s.rows.recalls (bins_with_returns s) (stock_with_returned s l)
         (demands_after first acts act l s slice refl named makes next) supplies_are
 
     hold_step : ((o : List ℕ) (m : LotId) → changed (λ (q : ReservedRow). same_text o q.order && is_lot m q.lot) puts drops (reserved_row first acts o m) ≡ reserved_row first after o m)
@@ -117,7 +117,7 @@ module _ (first : ℤ) (acts : List Act) (key : Key) (l : LotId) (s : Slice) (sl
     unfolding applied tables_of
     hold_step reserved_at =
         same_tables (applied hold_change (tables_of first acts)) (tables_but_repeats first act acts) refl
-        (λ g. refl) (λ g. refl) (λ b. refl) lot_at (λ l. refl) (returned_stock_at first acts act l s slice refl named makes next) (order_row_still first acts act l makes next) (line_row_still first acts act l makes next)
+        (λ g. refl) (λ g. refl) (λ b. refl) lot_at (λ l. refl) (returned_stock_at first acts act l s slice refl named makes next) (order_row_still first acts act l makes next) (λ o. refl) (line_row_still first acts act l makes next)
         (returned_staged_at first acts act l s slice refl named makes next) reserved_at (λ n. refl) (shipline_row_still first acts act l makes next) (card_row_still first acts act l makes next) (λ k. refl)
 
     hold_changed : IsChange first act acts (hold_changes s l)
@@ -137,12 +137,13 @@ module _ (first : ℤ) (acts : List Act) (key : Key) (l : LotId) (s : Slice) (sl
             lines = refl;
             staged = refl;
             reserved =
-                replanned_once first acts act s slice refl next g only s.meta.day s.rows.least (earliest_told first acts act s slice refl next.0 g only.own) s.rows.orders s.rows.lines (staged_kept s l) (lot_rows_with_hold s l true) s.rows.recalls (bins_with_returns s) (stock_with_returned s l)
+                replanned_once first acts act s slice refl next g only s.meta.day s.rows.least (earliest_told first acts act s slice refl next.0 g only.own) s.rows.orders s.rows.lines (staged_kept s l) s.rows.urgents (lot_rows_with_hold s l true) s.rows.recalls (bins_with_returns s) (stock_with_returned s l)
                 (demands_after first acts act l s slice refl named makes next) supplies_are;
             shipments = refl;
             shiplines = refl;
             cards = refl;
             least = refl;
+            urgents = refl;
           };
           named = names_changed first act acts (hold_changes s l) are_named;
         }

@@ -68,8 +68,8 @@ module _ (first : ℤ) (acts : List Act) (key : Key) (l : LotId) (s : Slice) (sl
 
   -- The rows after it
 
-  demands_after : TellsDemands first after g s.rows.orders s.rows.lines s.rows.staged
-  demands_after = let before = slice_tells_demands first acts act s slice refl g touched in record { orders = before.orders; lines = before.lines; staged = before.staged }
+  demands_after : TellsDemands first after g s.rows.orders s.rows.lines s.rows.staged s.rows.urgents
+  demands_after = let before = slice_tells_demands first acts act s slice refl g touched in record { orders = before.orders; lines = before.lines; staged = before.staged; urgents = before.urgents }
 
   supplies_after : TellsSupplies first after g (lot_rows_with_hold s l false) s.rows.recalls s.rows.stock s.rows.bins
   supplies_after =
@@ -102,7 +102,7 @@ module _ (first : ℤ) (acts : List Act) (key : Key) (l : LotId) (s : Slice) (sl
   unfolding applied tables_of
   release_step reserved_at =
       same_tables (applied release_change (tables_of first acts)) (tables_but_repeats first act acts) refl
-      (λ g. refl) (λ g. refl) (λ b. refl) lot_at (λ l. refl) (λ l b. refl) (λ o. refl) (λ o g. refl) (λ o l. refl) reserved_at (λ n. refl) (λ n l. refl) (λ l n. refl) (λ k. refl)
+      (λ g. refl) (λ g. refl) (λ b. refl) lot_at (λ l. refl) (λ l b. refl) (λ o. refl) (λ o. refl) (λ o g. refl) (λ o l. refl) reserved_at (λ n. refl) (λ n l. refl) (λ l n. refl) (λ k. refl)
 
   module _ (next : IsHistory first (record { key = key; command = Release l } ∷ acts)) where
     only : TouchesOnly first acts act s slice refl next g
@@ -110,7 +110,7 @@ module _ (first : ℤ) (acts : List Act) (key : Key) (l : LotId) (s : Slice) (sl
 
     are_named : AreNamed first act acts puts drops
     are_named =
-        replanned first acts act s slice refl next g only s.meta.day s.rows.least (earliest_told first acts act s slice refl next.0 g only.own) s.rows.orders s.rows.lines s.rows.staged (lot_rows_with_hold s l false) s.rows.recalls s.rows.bins s.rows.stock
+        replanned first acts act s slice refl next g only s.meta.day s.rows.least (earliest_told first acts act s slice refl next.0 g only.own) s.rows.orders s.rows.lines s.rows.staged s.rows.urgents (lot_rows_with_hold s l false) s.rows.recalls s.rows.bins s.rows.stock
         demands_after supplies_after
 
     release_changed : IsChange first act acts (release_changes s l)
@@ -130,12 +130,13 @@ module _ (first : ℤ) (acts : List Act) (key : Key) (l : LotId) (s : Slice) (sl
             lines = refl;
             staged = refl;
             reserved =
-                replanned_once first acts act s slice refl next g only s.meta.day s.rows.least (earliest_told first acts act s slice refl next.0 g only.own) s.rows.orders s.rows.lines s.rows.staged (lot_rows_with_hold s l false) s.rows.recalls s.rows.bins s.rows.stock
+                replanned_once first acts act s slice refl next g only s.meta.day s.rows.least (earliest_told first acts act s slice refl next.0 g only.own) s.rows.orders s.rows.lines s.rows.staged s.rows.urgents (lot_rows_with_hold s l false) s.rows.recalls s.rows.bins s.rows.stock
                 demands_after supplies_after;
             shipments = refl;
             shiplines = refl;
             cards = refl;
             least = refl;
+            urgents = refl;
           };
           named = names_changed first act acts (release_changes s l) are_named;
         }

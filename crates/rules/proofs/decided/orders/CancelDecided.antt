@@ -44,13 +44,13 @@ module _ (first : ℤ) (acts : List Act) (key : Key) (o : List ℕ) (s : Slice) 
   are_named : AreNamed first act acts (cancel_put s o) (cancel_dropped s o)
   are_named =
       items_replanned (λ (g : List ℕ). g) first acts act s slice refl next (items_seen s o) (items_apart first acts act s slice o (same_text_refl o)) (items_told first acts act s slice o (same_text_refl o))
-      s.meta.day s.rows.least (earliest_told first acts act s slice refl next.0) (other_orders s o) s.rows.lines s.rows.staged s.rows.lots s.rows.recalls s.rows.bins s.rows.stock
+      s.meta.day s.rows.least (earliest_told first acts act s slice refl next.0) (other_orders s o) s.rows.lines s.rows.staged s.rows.urgents s.rows.lots s.rows.recalls s.rows.bins s.rows.stock
       (demands_after first acts key o s slice) (supplies_after first acts key o s slice)
 
   put_once : no_two is_share_of (cancel_put s o) ≡ true
   put_once =
       items_put_once (λ (g : List ℕ). g) first acts act s slice refl next (items_seen s o) (items_apart first acts act s slice o (same_text_refl o)) (items_told first acts act s slice o (same_text_refl o))
-      s.meta.day s.rows.least (earliest_told first acts act s slice refl next.0) (other_orders s o) s.rows.lines s.rows.staged s.rows.lots s.rows.recalls s.rows.bins s.rows.stock
+      s.meta.day s.rows.least (earliest_told first acts act s slice refl next.0) (other_orders s o) s.rows.lines s.rows.staged s.rows.urgents s.rows.lots s.rows.recalls s.rows.bins s.rows.stock
       (demands_after first acts key o s slice) (supplies_after first acts key o s slice)
 
   module _ (p : Placed) (named : order_named acts o ≡ Some p) where
@@ -71,7 +71,7 @@ module _ (first : ℤ) (acts : List Act) (key : Key) (o : List ℕ) (s : Slice) 
       applies = ap (λ c. applied c (tables_of first acts)) change_same
           ∙ cancel_step first acts key o p named (plain_reply s) (cancel_put s o) (cancel_dropped s o) (reserved_changed first act acts (cancel_put s o) (cancel_dropped s o) are_named);
       text = plain_same first acts act s slice room refl;
-      once = record { items = refl; bins = refl; lots = refl; recalls = refl; stock = refl; orders = ap (no_two (λ (r t : OrderRow). same_text r.order t.order)) row_is; lines = refl; staged = refl; reserved = put_once; shipments = refl; shiplines = refl; cards = refl; least = refl };
+      once = record { items = refl; bins = refl; lots = refl; recalls = refl; stock = refl; orders = ap (no_two (λ (r t : OrderRow). same_text r.order t.order)) row_is; lines = refl; staged = refl; reserved = put_once; shipments = refl; shiplines = refl; cards = refl; least = refl; urgents = refl };
       named = names_changed first act acts (cancel_changes s o) are_named;
     }
 

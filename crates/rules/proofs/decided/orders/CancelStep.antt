@@ -88,4 +88,4 @@ module _ (first : ℤ) (acts : List Act) (key : Key) (o : List ℕ) where
     unfolding applied tables_of
     cancel_step text put dropped reserved_at =
         same_tables (applied (cancel_change text put dropped) (tables_of first acts)) (tables_but_repeats first act acts) refl
-        (λ g. refl) (λ g. refl) (λ b. refl) (λ l. refl) (λ l. refl) (λ l b. refl) order_at (λ q g. refl) (λ q l. refl) reserved_at (λ n. refl) (λ n l. refl) (λ l n. refl) (λ k. refl)
+        (λ g. refl) (λ g. refl) (λ b. refl) (λ l. refl) (λ l. refl) (λ l b. refl) order_at (λ q. refl) (λ q g. refl) (λ q l. refl) reserved_at (λ n. refl) (λ n l. refl) (λ l n. refl) (λ k. refl)

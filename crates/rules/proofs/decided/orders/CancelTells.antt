@@ -32,7 +32,7 @@ module _ (first : ℤ) (acts : List Act) (key : Key) (o : List ℕ) (s : Slice) 
   abbrev after : List Act
   after = act ∷ acts
 
-  before : TellsDemands first acts g s.rows.orders s.rows.lines s.rows.staged
+  before : TellsDemands first acts g s.rows.orders s.rows.lines s.rows.staged s.rows.urgents
   before = slice_tells_demands first acts act s slice refl g touched
 
   -- an order that is open after the act is another, and was open
@@ -61,8 +61,8 @@ module _ (first : ℤ) (acts : List Act) (key : Key) (o : List ℕ) (s : Slice) 
       (λ k. line_row first acts k.0 k.1) (λ k. line_row first after k.0 k.1) s.rows.lines
       (λ k e. let two = and_both (is_open first after k.0) (same_text g k.1) e in (λ i. was_open k.0 two.0 i && two.1 i)) (λ k e. e) (λ k. refl) before.lines
 
-  pub demands_after : TellsDemands first after g (other_orders s o) s.rows.lines s.rows.staged
-  demands_after = record { orders = orders_after; lines = lines_after; staged = before.staged }
+  pub demands_after : TellsDemands first after g (other_orders s o) s.rows.lines s.rows.staged s.rows.urgents
+  demands_after = record { orders = orders_after; lines = lines_after; staged = before.staged; urgents = λ q e. before.urgents q (few q e).0 }
 
   pub supplies_after : TellsSupplies first after g s.rows.lots s.rows.recalls s.rows.stock s.rows.bins
   supplies_after =

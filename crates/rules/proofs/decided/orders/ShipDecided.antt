@@ -87,6 +87,7 @@ module _ (first : ℤ) (acts : List Act) (key : Key) (o : List ℕ) (s : Slice) 
       shiplines = shiplines_once;
       cards = cards_once;
       least = refl;
+      urgents = refl;
     };
     named = names_changed first act acts (ship_changes s o) (none_named first acts key o s slice next);
   }

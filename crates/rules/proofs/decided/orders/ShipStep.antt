@@ -253,5 +253,5 @@ module _ (first : ℤ) (acts : List Act) (key : Key) (o : List ℕ) (s : Slice) 
   unfolding applied tables_of
   ship_step =
       same_tables (applied (ship_changes s o) (tables_of first acts)) (tables_but_repeats first act acts) (ap (λ m. Some m) (meta_is first acts key o s slice next))
-      (λ g. refl) (λ g. refl) (λ b. refl) (λ l. refl) (λ l. refl) stock_at (order_at first acts key o s slice next) (line_at first acts key o s slice next) (staged_at first acts key o s slice next)
+      (λ g. refl) (λ g. refl) (λ b. refl) (λ l. refl) (λ l. refl) stock_at (order_at first acts key o s slice next) (λ u. refl) (line_at first acts key o s slice next) (staged_at first acts key o s slice next)
       (reserved_changed first act acts [] [] none_named) shipment_at shipline_at card_at (λ k. refl)

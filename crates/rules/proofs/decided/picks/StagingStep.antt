@@ -16,7 +16,7 @@ use Rattle.machine.specs.Standing.{Placed, order_named, lines_of, lines_placed, 
 use Rattle.machine.specs.Planning.{in_bin, staged_of_lot, shipped_of, is_open, is_open_state, order_state}
 use Rattle.machine.specs.Cards.{cards, card_lines}
 use Rattle.machine.specs.Replies.{further_field}
-use Rattle.machine.specs.Tables.{tables_of, meta_row, if_any, item_row, least_row, bin_row, lot_row, recall_row, stock_row, order_row, line_row, staged_row, shipment_row, shipline_row, card_row}
+use Rattle.machine.specs.Tables.{tables_of, meta_row, if_any, if_urgent, item_row, least_row, bin_row, lot_row, recall_row, stock_row, order_row, line_row, staged_row, shipment_row, shipline_row, card_row}
 use Rattle.machine.specs.Touched.{is_touched}
 use Rattle.machine.specs.KeyedRows.{same_cell, same_share}
 use Rattle.rules.specs.Slices.{IsSlice, applied, tables_but_repeats, changed, plans, names_bin, names_lot}
@@ -131,6 +131,6 @@ module _ (first : ℤ) (acts : List Act) (act : Act) (p : Picking) where
       unfolding applied tables_of
       staging_step put dropped meta named =
           same_tables (applied (changes_with s p stock staged put dropped) (tables_of first acts)) (tables_but_repeats first act acts) (ap Some meta)
-          staging.items staging.least staging.bins staging.lots staging.recalls stock_at order_at line_at staged_at
+          staging.items staging.least staging.bins staging.lots staging.recalls stock_at order_at (λ o. ap if_urgent (staging.named o)) line_at staged_at
           (reserved_changed first act acts put dropped named)
           staging.shipments shipline_at card_at (λ k. refl)

@@ -17,7 +17,7 @@ use Rattle.machine.specs.Postings.{Place, is_lot, of_item}
 use Rattle.machine.specs.Standing.{has_line}
 use Rattle.machine.specs.Planning.{is_open}
 use Rattle.machine.specs.Once.{IsHistory}
-use Rattle.machine.specs.Tables.{tables_of, bin_row, lot_row, stock_row, order_row, line_row, staged_row}
+use Rattle.machine.specs.Tables.{tables_of, if_urgent, bin_row, lot_row, stock_row, order_row, line_row, staged_row}
 use Rattle.machine.specs.Touched.{is_touched}
 use Rattle.machine.specs.KeyedRows.{same_cell, same_line, same_share, no_two}
 use Rattle.rules.specs.Slices.{IsSlice, in_bins}
@@ -58,17 +58,19 @@ module _ (first : ℤ) (acts : List Act) (act : Act) (p : Picking) (from to : Pl
   abbrev stock_rows : List StockRow
   stock_rows = stock_rows_with p.lot p.bin stock s.rows.stock
 
-  demands_after : TellsDemands first after g s.rows.orders s.rows.lines staged_rows
+  demands_after : TellsDemands first after g s.rows.orders s.rows.lines staged_rows s.rows.urgents
   demands_after =
       let before = slice_tells_demands first acts act s slice staging.planned g touched in
+      let wanted : (o : List ℕ) → is_open first after o && has_line after o g ≡ true → is_open first acts o && has_line acts o g ≡ true = λ o e. (λ i. open_at first acts act p from to staging o i && has_line_at first acts act p from to staging o g i) ∙ e in
       record {
         orders = loosened same_text (λ (x : OrderRow). x.order) (λ o. is_open first acts o && has_line acts o g) (λ o. is_open first after o && has_line after o g) (λ o. true) (λ o. true) (order_row first acts) (order_row first after) s.rows.orders
-            (λ o e. (λ i. open_at first acts act p from to staging o i && has_line_at first acts act p from to staging o g i) ∙ e) (λ o e. refl) (order_at first acts act p from to staging) before.orders;
+            wanted (λ o e. refl) (order_at first acts act p from to staging) before.orders;
         lines = loosened same_line (λ (x : LineRow). (x.order, x.gtin)) (λ k. is_open first acts k.0 && same_text g k.1) (λ k. is_open first after k.0 && same_text g k.1) (λ k. true) (λ k. true) (λ k. line_row first acts k.0 k.1) (λ k. line_row first after k.0 k.1) s.rows.lines
             (λ k e. ap (λ b. b && same_text g k.1) (open_at first acts act p from to staging k.0) ∙ e) (λ k e. refl) (λ k. line_at first acts act p from to staging k.0 k.1) before.lines;
         staged = loosened same_share (λ (x : StagedRow). (x.order, x.lot)) (λ k. of_item g k.1) (λ k. of_item g k.1) (λ k. true) (λ k. true) (with_staged p.order p.lot staged (λ k. staged_row first acts k.0 k.1)) (λ k. staged_row first after k.0 k.1) staged_rows
             (λ k e. e) (λ k e. refl) (staged_row_with first acts after p.order p.lot staged left.on_stage left.on_others)
             (staged_rows_are p.order p.lot staged (λ k. of_item g k.1) (λ k. staged_row first acts k.0 k.1) s.rows.staged before.staged);
+        urgents = λ o e. before.urgents o (wanted o e) ∙ ap if_urgent (staging.named o);
       }
 
   bins_after : (b : List ℕ) → list_any (λ (r : StockRow). same_text b r.bin) stock_rows ≡ true → find (λ (x : BinRow). same_text b x.name) s.rows.bins ≡ bin_row after b
@@ -95,11 +97,11 @@ module _ (first : ℤ) (acts : List Act) (act : Act) (p : Picking) (from to : Pl
   -- planned anew, the rows put and dropped are those that differ
   pub replanned_named : AreNamed first act acts (replanned_with s p stock staged).put (replanned_with s p stock staged).dropped
   replanned_named =
-      replanned first acts act s slice staging.planned next g only s.meta.day s.rows.least (earliest_told first acts act s slice staging.planned next.0 g touched ∙ sym (staging.earliest g)) s.rows.orders s.rows.lines staged_rows s.rows.lots s.rows.recalls s.rows.bins stock_rows demands_after supplies_after
+      replanned first acts act s slice staging.planned next g only s.meta.day s.rows.least (earliest_told first acts act s slice staging.planned next.0 g touched ∙ sym (staging.earliest g)) s.rows.orders s.rows.lines staged_rows s.rows.urgents s.rows.lots s.rows.recalls s.rows.bins stock_rows demands_after supplies_after
 
   pub replanned_put_once : no_two is_share_of (replanned_with s p stock staged).put ≡ true
   replanned_put_once =
-      replanned_once first acts act s slice staging.planned next g only s.meta.day s.rows.least (earliest_told first acts act s slice staging.planned next.0 g touched ∙ sym (staging.earliest g)) s.rows.orders s.rows.lines staged_rows s.rows.lots s.rows.recalls s.rows.bins stock_rows demands_after supplies_after
+      replanned_once first acts act s slice staging.planned next g only s.meta.day s.rows.least (earliest_told first acts act s slice staging.planned next.0 g touched ∙ sym (staging.earliest g)) s.rows.orders s.rows.lines staged_rows s.rows.urgents s.rows.lots s.rows.recalls s.rows.bins stock_rows demands_after supplies_after
 
   one_stock : (b : List ℕ) → no_two (λ (x y : StockRow). is_lot x.lot y.lot && same_text x.bin y.bin) (stock_put p.lot b stock) ≡ true
   one_stock b = elim (stock == 0) as (λ t. no_two (λ (x y : StockRow). is_lot x.lot y.lot && same_text x.bin y.bin) (if t then [] else record { lot = p.lot; bin = b; qty = stock } ∷ []) ≡ true) [ true ↦ refl | false ↦ refl ]
@@ -127,6 +129,7 @@ module _ (first : ℤ) (acts : List Act) (act : Act) (p : Picking) (from to : Pl
           shiplines = refl;
           cards = refl;
           least = refl;
+          urgents = refl;
         };
         named = names_changed first act acts (changes_with s p stock staged put dropped) named;
       }

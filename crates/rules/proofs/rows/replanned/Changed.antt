@@ -10,6 +10,7 @@ use Rattle.commands.specs.declared.rows.LotRow.{LotRow}
 use Rattle.commands.specs.declared.rows.RecallRow.{RecallRow}
 use Rattle.commands.specs.declared.rows.StockRow.{StockRow}
 use Rattle.commands.specs.declared.rows.OrderRow.{OrderRow}
+use Rattle.commands.specs.declared.rows.UrgentRow.{UrgentRow}
 use Rattle.commands.specs.declared.rows.LineRow.{LineRow}
 use Rattle.commands.specs.declared.rows.StagedRow.{StagedRow}
 use Rattle.commands.specs.declared.rows.ReservedRow.{ReservedRow}
@@ -51,21 +52,21 @@ use Rattle.rules.proofs.rows.replanned.Behind.{behind_are}
 
 module _ (first : ℤ) (acts : List Act) (act : Act) (s : Slice) (slice : IsSlice first act acts (tables_of first acts) s) (planned : plans act.command ≡ true) (next : IsHistory first (act ∷ acts))
     (g : List ℕ) (touched : is_touched first act acts g ≡ true) (day : ℤ) (least : List LeastRow) (from : earliest_seen day least g ≡ least_expiry first (act ∷ acts) g)
-    (orders : List OrderRow) (lines : List LineRow) (staged : List StagedRow) (lots : List LotRow) (recalls : List RecallRow) (bins : List BinRow) (stock : List StockRow)
-    (demands : TellsDemands first (act ∷ acts) g orders lines staged) (supplies : TellsSupplies first (act ∷ acts) g lots recalls stock bins) where
+    (orders : List OrderRow) (lines : List LineRow) (staged : List StagedRow) (urgents : List UrgentRow) (lots : List LotRow) (recalls : List RecallRow) (bins : List BinRow) (stock : List StockRow)
+    (demands : TellsDemands first (act ∷ acts) g orders lines staged urgents) (supplies : TellsSupplies first (act ∷ acts) g lots recalls stock bins) where
   abbrev after : List Act
   after = act ∷ acts
 
   -- The lists before and after, and the plan of each in two parts
 
   abbrev ds : List Demand
-  ds = item_demands g s.rows.lines s.rows.staged s.rows.orders
+  ds = item_demands g s.rows.lines s.rows.staged s.rows.urgents s.rows.orders
 
   abbrev ss : List Supply
   ss = item_supplies g (earliest_seen s.meta.day s.rows.least g) s.rows.recalls s.rows.bins s.rows.stock s.rows.lots
 
   abbrev es : List Demand
-  es = item_demands g lines staged orders
+  es = item_demands g lines staged urgents orders
 
   abbrev ts : List Supply
   ts = item_supplies g (earliest_seen day least g) recalls bins stock lots
@@ -82,7 +83,7 @@ module _ (first : ℤ) (acts : List Act) (act : Act) (s : Slice) (slice : IsSlic
   abbrev behind_after : List Row
   behind_after = rows_from (demand_total (take kept es)) (drop kept es) ts
 
-  wanted : TellsDemands first acts g s.rows.orders s.rows.lines s.rows.staged
+  wanted : TellsDemands first acts g s.rows.orders s.rows.lines s.rows.staged s.rows.urgents
   wanted = slice_tells_demands first acts act s slice planned g touched
 
   offered : TellsSupplies first acts g s.rows.lots s.rows.recalls s.rows.stock s.rows.bins
@@ -90,13 +91,13 @@ module _ (first : ℤ) (acts : List Act) (act : Act) (s : Slice) (slice : IsSlic
 
   plan_before : plan_rows ds ss ≡ plan first acts g
   plan_before =
-      (λ i. plan_within (demands_seen g s.rows.lines s.rows.staged s.rows.orders) (supplies_seen g (earliest_told first acts act s slice planned next.0 g touched i) s.rows.recalls s.rows.bins s.rows.stock s.rows.lots))
-      ∙ rows_tell_plan first acts next.0 g s.rows.orders s.rows.lines s.rows.staged s.rows.lots s.rows.recalls s.rows.stock s.rows.bins wanted offered
+      (λ i. plan_within (demands_seen g s.rows.lines s.rows.staged s.rows.urgents s.rows.orders) (supplies_seen g (earliest_told first acts act s slice planned next.0 g touched i) s.rows.recalls s.rows.bins s.rows.stock s.rows.lots))
+      ∙ rows_tell_plan first acts next.0 g s.rows.orders s.rows.lines s.rows.staged s.rows.urgents s.rows.lots s.rows.recalls s.rows.stock s.rows.bins wanted offered
 
   plan_after : plan_rows es ts ≡ plan first after g
   plan_after =
-      (λ i. plan_within (demands_seen g lines staged orders) (supplies_seen g (from i) recalls bins stock lots))
-      ∙ rows_tell_plan first after next g orders lines staged lots recalls stock bins demands supplies
+      (λ i. plan_within (demands_seen g lines staged urgents orders) (supplies_seen g (from i) recalls bins stock lots))
+      ∙ rows_tell_plan first after next g orders lines staged urgents lots recalls stock bins demands supplies
 
   parted_before : plan first acts g ≡ front ++ behind_before
   parted_before = sym plan_before ∙ plan_parted kept ds ss ∙ ap (λ rows. rows ++ behind_before) (kept_rows ds ss es ts kept (cut_of_is_cut ds ss es ts).front)
@@ -113,10 +114,10 @@ module _ (first : ℤ) (acts : List Act) (act : Act) (s : Slice) (slice : IsSlic
   news = shares_behind kept orders lots es ts
 
   abbrev pub puts : List ReservedRow
-  puts = (item_replanned s day orders lines staged lots recalls bins stock least g).put
+  puts = (item_replanned s day orders lines staged lots recalls bins stock least urgents g).put
 
   abbrev pub drops : List ReservedRow
-  drops = (item_replanned s day orders lines staged lots recalls bins stock least g).dropped
+  drops = (item_replanned s day orders lines staged lots recalls bins stock least urgents g).dropped
 
   olds_are : olds ≡ named_rows s.rows.orders s.rows.lots behind_before
   olds_are = behind_are first acts s.rows.orders wanted.orders.own s.rows.lots kept ds ss

@@ -10,6 +10,7 @@ use Rattle.commands.specs.declared.rows.LotRow.{LotRow}
 use Rattle.commands.specs.declared.rows.RecallRow.{RecallRow}
 use Rattle.commands.specs.declared.rows.StockRow.{StockRow}
 use Rattle.commands.specs.declared.rows.OrderRow.{OrderRow}
+use Rattle.commands.specs.declared.rows.UrgentRow.{UrgentRow}
 use Rattle.commands.specs.declared.rows.LineRow.{LineRow}
 use Rattle.commands.specs.declared.rows.StagedRow.{StagedRow}
 use Rattle.commands.specs.declared.rows.ReservedRow.{ReservedRow}
@@ -37,17 +38,17 @@ use Rattle.rules.proofs.rows.replanned.Changed.{own_named, none_named, all_put_o
 module _ {X : Type 0} (item : X → List ℕ) (first : ℤ) (acts : List Act) (act : Act) (s : Slice) (slice : IsSlice first act acts (tables_of first acts) s) (planned : plans act.command ≡ true) (next : IsHistory first (act ∷ acts))
     (all : List X) (apart : no_two (λ x y. same_text (item x) (item y)) all ≡ true) (touched_are : (g : List ℕ) → list_any (λ x. same_text g (item x)) all ≡ is_touched first act acts g)
     (day : ℤ) (least : List LeastRow) (from : (g : List ℕ) → is_touched first act acts g ≡ true → earliest_seen day least g ≡ least_expiry first (act ∷ acts) g)
-    (orders : List OrderRow) (lines : List LineRow) (staged : List StagedRow) (lots : List LotRow) (recalls : List RecallRow) (bins : List BinRow) (stock : List StockRow)
-    (demands : (g : List ℕ) → is_touched first act acts g ≡ true → TellsDemands first (act ∷ acts) g orders lines staged)
+    (orders : List OrderRow) (lines : List LineRow) (staged : List StagedRow) (urgents : List UrgentRow) (lots : List LotRow) (recalls : List RecallRow) (bins : List BinRow) (stock : List StockRow)
+    (demands : (g : List ℕ) → is_touched first act acts g ≡ true → TellsDemands first (act ∷ acts) g orders lines staged urgents)
     (supplies : (g : List ℕ) → is_touched first act acts g ≡ true → TellsSupplies first (act ∷ acts) g lots recalls stock bins) where
   abbrev after : List Act
   after = act ∷ acts
 
   abbrev puts_of : List ℕ → List ReservedRow
-  puts_of g = (item_replanned s day orders lines staged lots recalls bins stock least g).put
+  puts_of g = (item_replanned s day orders lines staged lots recalls bins stock least urgents g).put
 
   abbrev drops_of : List ℕ → List ReservedRow
-  drops_of g = (item_replanned s day orders lines staged lots recalls bins stock least g).dropped
+  drops_of g = (item_replanned s day orders lines staged lots recalls bins stock least urgents g).dropped
 
   abbrev pub puts : List X → List ReservedRow
   puts xs = flat_map (λ x. puts_of (item x)) xs
@@ -57,16 +58,16 @@ module _ {X : Type 0} (item : X → List ℕ) (first : ℤ) (acts : List Act) (a
 
   module _ (g : List ℕ) (touched : is_touched first act acts g ≡ true) where
     own_of : (q : List ℕ) (l : LotId) → of_item g l ≡ true → IsNamed q l (reserved first acts q l) (reserved first after q l) (puts_of g) (drops_of g)
-    own_of = own_named first acts act s slice planned next g touched day least (from g touched) orders lines staged lots recalls bins stock (demands g touched) (supplies g touched)
+    own_of = own_named first acts act s slice planned next g touched day least (from g touched) orders lines staged urgents lots recalls bins stock (demands g touched) (supplies g touched)
 
     none_of : (q : List ℕ) (l : LotId) → of_item g l ≡ false → IsNamed q l 0 0 (puts_of g) (drops_of g)
-    none_of = none_named first acts act s slice planned next g touched day least (from g touched) orders lines staged lots recalls bins stock (demands g touched) (supplies g touched)
+    none_of = none_named first acts act s slice planned next g touched day least (from g touched) orders lines staged urgents lots recalls bins stock (demands g touched) (supplies g touched)
 
     all_of : AllOf g (puts_of g)
-    all_of = all_put_of first acts act s slice planned next g touched day least (from g touched) orders lines staged lots recalls bins stock (demands g touched) (supplies g touched)
+    all_of = all_put_of first acts act s slice planned next g touched day least (from g touched) orders lines staged urgents lots recalls bins stock (demands g touched) (supplies g touched)
 
     once_of : no_two is_share_of (puts_of g) ≡ true
-    once_of = puts_once first acts act s slice planned next g touched day least (from g touched) orders lines staged lots recalls bins stock (demands g touched) (supplies g touched)
+    once_of = puts_once first acts act s slice planned next g touched day least (from g touched) orders lines staged urgents lots recalls bins stock (demands g touched) (supplies g touched)
 
   abbrev IsTouched : X → Type 0
   IsTouched x = is_touched first act acts (item x) ≡ true

@@ -5,13 +5,13 @@ use Rattle.std.specs.List.{cons_option}
 use Rattle.values.specs.Values.{same_text}
 use Rattle.values.specs.declared.lot.LotId.{LotId}
 use Rattle.commands.specs.declared.command.Command.{Command}
-use Rattle.commands.specs.declared.command.Command.TheVariants.{Order, Receive}
+use Rattle.commands.specs.declared.command.Command.TheVariants.{Order, Receive, Urgent}
 use Rattle.machine.specs.Acts.{Act, next_number}
 use Rattle.machine.specs.Postings.{is_lot}
 use Rattle.machine.specs.Standing.{Placed, KnownLot, order_in, orders, order_named, has_order, lots, lots_after, lot_among, lot_known}
 use Rattle.machine.specs.Verdict.{verdict}
 use Rattle.machine.proofs.Tests.{same_text_is, is_lot_is}
-use Rattle.machine.proofs.histories.Accepted.{order_accepted}
+use Rattle.machine.proofs.histories.Accepted.{order_accepted, urgent_accepted}
 
 -- Orders
 
@@ -19,28 +19,40 @@ module _ (o : List ℕ) (before : List Act) where
   abbrev test : Placed → Bool
   test q = same_text o q.order
 
-  stays : (first : ℤ) (c : Command) → verdict first before c ≡ None → (p : Placed) → order_named before o ≡ Some p → find test (cons_option (order_in (next_number before) c) (orders before)) ≡ Some p
-  stays first (Order w) ok p e =
-      elim (same_text o w.order) as (λ b. same_text o w.order ≡ b → (if b then Some (record { order = w.order; act = next_number before; customer = w.customer; lines = w.lines }) else order_named before o) ≡ Some p) [
-        | true ↦ λ t. let f : false ≡ true = sym (order_accepted first before w ok).new ∙ ap (λ (x : List ℕ). has_order before x) (sym (same_text_is o w.order t)) ∙ ap is_some e in cc
+  stays_behind : (new p : Placed) → has_order before new.order ≡ false → order_named before o ≡ Some p → find test (new ∷ orders before) ≡ Some p
+  stays_behind new p fresh e =
+      elim (same_text o new.order) as (λ b. same_text o new.order ≡ b → (if b then Some new else order_named before o) ≡ Some p) [
+        | true ↦ λ t. let f : false ≡ true = sym fresh ∙ ap (λ (x : List ℕ). has_order before x) (sym (same_text_is o new.order t)) ∙ ap is_some e in cc
         | false ↦ λ t. e
       ] refl
+
+  stays : (first : ℤ) (c : Command) → verdict first before c ≡ None → (p : Placed) → order_named before o ≡ Some p → find test (cons_option (order_in (next_number before) c) (orders before)) ≡ Some p
+  stays first (Order w) ok p e = stays_behind _ p (order_accepted first before w ok).new e
+  stays first (Urgent w) ok p e = stays_behind _ p (urgent_accepted first before w ok).new e
   stays first _ ok p e = e
 
-  comes : (c : Command) (p : Placed) → order_named before o ≡ None → find test (cons_option (order_in (next_number before) c) (orders before)) ≡ Some p → p.act ≡ next_number before
-  comes (Order w) p none e =
-      elim (same_text o w.order) as (λ b. (if b then Some (record { order = w.order; act = next_number before; customer = w.customer; lines = w.lines }) else order_named before o) ≡ Some p → p.act ≡ next_number before) [
-        | true ↦ λ h. let own : record { order = w.order; act = next_number before; customer = w.customer; lines = w.lines } ≡ p = cc in sym (ap (λ (x : Placed). x.act) own)
+  comes_in_front : (new p : Placed) → order_named before o ≡ None → find test (new ∷ orders before) ≡ Some p → p.act ≡ new.act
+  comes_in_front new p none e =
+      elim (same_text o new.order) as (λ b. (if b then Some new else order_named before o) ≡ Some p → p.act ≡ new.act) [
+        | true ↦ λ h. let own : new ≡ p = cc in sym (ap (λ (x : Placed). x.act) own)
         | false ↦ λ h. let f : ◌≡◌ {A = Option Placed} None (Some p) = sym none ∙ h in cc
       ] e
+
+  comes : (c : Command) (p : Placed) → order_named before o ≡ None → find test (cons_option (order_in (next_number before) c) (orders before)) ≡ Some p → p.act ≡ next_number before
+  comes (Order w) p none e = comes_in_front _ p none e
+  comes (Urgent w) p none e = comes_in_front _ p none e
   comes _ p none e = let f : ◌≡◌ {A = Option Placed} None (Some p) = sym none ∙ e in cc
 
-  numbered_after : (c : Command) (p : Placed) → (order_named before o ≡ Some p → 1 ≤ p.act) → find test (cons_option (order_in (next_number before) c) (orders before)) ≡ Some p → 1 ≤ p.act
-  numbered_after (Order w) p h e =
-      elim (same_text o w.order) as (λ b. (if b then Some (record { order = w.order; act = next_number before; customer = w.customer; lines = w.lines }) else order_named before o) ≡ Some p → 1 ≤ p.act) [
-        | true ↦ λ f. let own : record { order = w.order; act = next_number before; customer = w.customer; lines = w.lines } ≡ p = cc in omega (arith, ap (λ (x : Placed). x.act) own)
-        | false ↦ λ f. h f
+  numbered_behind : (new p : Placed) → 1 ≤ new.act → (order_named before o ≡ Some p → 1 ≤ p.act) → find test (new ∷ orders before) ≡ Some p → 1 ≤ p.act
+  numbered_behind new p h k e =
+      elim (same_text o new.order) as (λ b. (if b then Some new else order_named before o) ≡ Some p → 1 ≤ p.act) [
+        | true ↦ λ f. let own : new ≡ p = cc in omega (arith, h, ap (λ (x : Placed). x.act) own)
+        | false ↦ λ f. k f
       ] e
+
+  numbered_after : (c : Command) (p : Placed) → (order_named before o ≡ Some p → 1 ≤ p.act) → find test (cons_option (order_in (next_number before) c) (orders before)) ≡ Some p → 1 ≤ p.act
+  numbered_after (Order w) p h e = numbered_behind _ p (omega arith) h e
+  numbered_after (Urgent w) p h e = numbered_behind _ p (omega arith) h e
   numbered_after _ p h e = h e
 
 -- no order has the number 0

@@ -8,6 +8,7 @@ use Rattle.commands.specs.declared.rows.LotRow.{LotRow}
 use Rattle.commands.specs.declared.rows.RecallRow.{RecallRow}
 use Rattle.commands.specs.declared.rows.StockRow.{StockRow}
 use Rattle.commands.specs.declared.rows.OrderRow.{OrderRow}
+use Rattle.commands.specs.declared.rows.UrgentRow.{UrgentRow}
 use Rattle.commands.specs.declared.rows.LineRow.{LineRow}
 use Rattle.commands.specs.declared.rows.StagedRow.{StagedRow}
 use Rattle.commands.specs.declared.rows.ReservedRow.{ReservedRow}
@@ -38,27 +39,27 @@ module _ (first : ℤ) (acts : List Act) (act : Act) (s : Slice) (slice : IsSlic
     pub others : (h : List ℕ) → same_text g h ≡ false → is_touched first act acts h ≡ false
 
   module _ (only : TouchesOnly) (day : ℤ) (least : List LeastRow) (from : earliest_seen day least g ≡ least_expiry first (act ∷ acts) g)
-      (orders : List OrderRow) (lines : List LineRow) (staged : List StagedRow) (lots : List LotRow) (recalls : List RecallRow) (bins : List BinRow) (stock : List StockRow)
-      (demands : TellsDemands first (act ∷ acts) g orders lines staged) (supplies : TellsSupplies first (act ∷ acts) g lots recalls stock bins) where
+      (orders : List OrderRow) (lines : List LineRow) (staged : List StagedRow) (urgents : List UrgentRow) (lots : List LotRow) (recalls : List RecallRow) (bins : List BinRow) (stock : List StockRow)
+      (demands : TellsDemands first (act ∷ acts) g orders lines staged urgents) (supplies : TellsSupplies first (act ∷ acts) g lots recalls stock bins) where
     abbrev after : List Act
     after = act ∷ acts
 
     abbrev puts : List ReservedRow
-    puts = (item_replanned s day orders lines staged lots recalls bins stock least g).put
+    puts = (item_replanned s day orders lines staged lots recalls bins stock least urgents g).put
 
     abbrev drops : List ReservedRow
-    drops = (item_replanned s day orders lines staged lots recalls bins stock least g).dropped
+    drops = (item_replanned s day orders lines staged lots recalls bins stock least urgents g).dropped
 
     -- the rows put and dropped are those that differ
     pub replanned : AreNamed first act acts puts drops
     replanned o l = elim (of_item g l) as (λ b. of_item g l ≡ b → IsNamed o l (reserved first acts o l) (reserved first after o l) puts drops) [
-      | true ↦ λ e. own_named first acts act s slice planned next g only.own day least from orders lines staged lots recalls bins stock demands supplies o l e
+      | true ↦ λ e. own_named first acts act s slice planned next g only.own day least from orders lines staged urgents lots recalls bins stock demands supplies o l e
       | false ↦ λ e.
-          let none = none_named first acts act s slice planned next g only.own day least from orders lines staged lots recalls bins stock demands supplies o l e in
+          let none = none_named first acts act s slice planned next g only.own day least from orders lines staged urgents lots recalls bins stock demands supplies o l e in
           let same = nothing_named o l (reserved first acts o l) (reserved first after o l) ((other_items_are_left_alone first act acts l.gtin next (only.others l.gtin e)).reserved o l (same_text_refl l.gtin)) in
           record { put = none.put ∙ same.put; dropped = none.dropped ∙ same.dropped }
     ] refl
 
     -- no row is put twice
     pub replanned_once : no_two is_share_of puts ≡ true
-    replanned_once = puts_once first acts act s slice planned next g only.own day least from orders lines staged lots recalls bins stock demands supplies
+    replanned_once = puts_once first acts act s slice planned next g only.own day least from orders lines staged urgents lots recalls bins stock demands supplies

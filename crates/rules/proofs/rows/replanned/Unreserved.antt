@@ -16,10 +16,11 @@ use Rattle.machine.specs.Standing.{Placed, KnownLot, lot_known, lots, lots_of, o
 use Rattle.machine.specs.Planning.{booking_of, lines_of_item, need, demands, supplies, supply_of, shippable_lots, goes_before, item_postings, store_units, plan}
 use Rattle.machine.proofs.Apart.{AllFound}
 use Rattle.machine.proofs.Numbers.{equal_turned, unequal_above}
-use Rattle.machine.proofs.histories.Bookings.{wanted_by, demands_told}
+use Rattle.machine.proofs.histories.Bookings.{wanted_by}
 use Rattle.machine.proofs.histories.Falling.{AllBelow, found_below}
 use Rattle.machine.proofs.histories.Lots.{same_known, lots_found, lots_numbered, receipt_names_lot}
 use Rattle.machine.proofs.histories.Orders.{orders_numbered}
+use Rattle.machine.proofs.histories.Served.{demands_told}
 use Rattle.machine.proofs.histories.Reservations.{there_under, wanted_under, reserved_within_need, reserved_within_supply}
 use Rattle.rules.proofs.rows.DemandsTold.{same_total}
 use Rattle.rules.proofs.rows.Ordering.{total_ordered, total_filter, total_map}
@@ -96,11 +97,11 @@ module _ (first : ℤ) (acts : List Act) (g : List ℕ) (n : ℕ) where
   none_of_lines p e [] = refl
   none_of_lines p e (l ∷ ls) = omega (arith, ap (λ b. if b then need acts (item_postings first acts g) (booking_of p l) else 0) e, none_of_lines p e ls)
 
-  none_of_orders : (ps : List Placed) → AllBelow (λ (p : Placed). p.act) n ps → total under ps ≡ 0
+  pub none_of_orders : (ps : List Placed) → AllBelow (λ (p : Placed). p.act) n ps → total under ps ≡ 0
   none_of_orders [] h = refl
   none_of_orders (p ∷ ps) h = omega (arith, none_of_lines p (unequal_above p.act n h.0) (filter (λ l. same_text g l.gtin) p.lines), none_of_orders ps h.1)
 
-  wanted_either_way : (ds : List Demand) → wanted_under n ds ≡ wanted_by n ds
+  pub wanted_either_way : (ds : List Demand) → wanted_under n ds ≡ wanted_by n ds
   wanted_either_way [] = refl
   wanted_either_way (d ∷ ds) = λ i. (if equal_turned d.booking n i then d.need else 0) + wanted_either_way ds i
 
