@@ -2,7 +2,7 @@
 use Rattle.std.specs.Prelude.{Result}
 use Rattle.commands.specs.declared.key.Key.{Key}
 use Rattle.commands.specs.declared.command.Command.{Command}
-use Rattle.commands.specs.declared.command.Command.TheVariants.{Item, Bin, Receive, Move, Count, Adjust, Order, Cancel, Pick, Unpick, Ship, Hold, Release, Recall, OpenDay, Least}
+use Rattle.commands.specs.declared.command.Command.TheVariants.{Item, Bin, Receive, Move, Count, Adjust, Order, Cancel, Pick, Unpick, Ship, Hold, Release, Recall, OpenDay, Least, Urgent}
 use Rattle.row_rules.specs.declared.slice.Slice.{Slice}
 use Rattle.row_rules.specs.declared.slice.Change.{Change}
 use Rattle.row_rules.specs.declared.slice.RuleFault.{RuleFault}
@@ -14,6 +14,7 @@ use Rattle.rules.proofs.decided.goods.MovesDecided.{moves_right}
 use Rattle.rules.proofs.decided.counts.CountDecided.{counts_right}
 use Rattle.rules.proofs.decided.counts.AdjustDecided.{adjusts_right}
 use Rattle.rules.proofs.decided.orders.OrdersDecided.{orders_right}
+use Rattle.rules.proofs.decided.orders.UrgentDecided.{urgents_right}
 use Rattle.rules.proofs.decided.orders.CancelDecided.{cancels_right}
 use Rattle.rules.proofs.decided.picks.PickDecided.{picks_right}
 use Rattle.rules.proofs.decided.picks.UnpickDecided.{unpicks_right}
@@ -41,3 +42,4 @@ every_right key s result (Release l) = releases_right key s result l
 every_right key s result (Recall l) = recalls_right key s result l
 every_right key s result (OpenDay day) = days_right key s result day
 every_right key s result (Least l) = leasts_right key s result l
+every_right key s result (Urgent o) = urgents_right key s result o

@@ -1,12 +1,17 @@
 -- Orders placed, cancelled and shipped.
+pub mod Placing
 pub mod OrderJudged
 pub mod OrderStep
 pub mod OrderTells
+pub mod OrderShort
 pub mod OrderPlan
 pub mod OrderBooked
 pub mod OrderShares
 pub mod OrderReply
 pub mod OrdersDecided
+pub mod UrgentTells
+pub mod UrgentReply
+pub mod UrgentDecided
 pub mod CancelJudged
 pub mod CancelStep
 pub mod CancelTells

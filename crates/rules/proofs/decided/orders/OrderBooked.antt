@@ -1,5 +1,5 @@
 -- What the rows of an order's slice tell of its lines: the plan in which a line is booked last has its rows of the plan after the act.
-use Rattle.std.proofs.Common.{◌≡◌, ℕ, ◌+◌, ◌-◌, ◌≤◌, min, true, List, [], ◌∷◌, ◌++◌, refl, ap, sym, ◌∙◌, arith}
+use Rattle.std.proofs.Common.{◌≡◌, ℕ, ◌+◌, ◌-◌, ◌≤◌, min, true, false, List, [], ◌∷◌, ◌++◌, refl, ap, sym, ◌∙◌, arith}
 use Rattle.std.specs.Prelude.{ℤ, filter}
 use Rattle.values.specs.Values.{same_text}
 use Rattle.commands.specs.declared.limits.TheConstants.{UNITS_MAX}
@@ -66,10 +66,10 @@ module _ (first : ℤ) (acts : List Act) (key : Key) (o : NewOrder) (s : Slice) 
   together = record { booking = 0; need = wanted }
 
   abbrev own : Demand
-  own = line_demand first acts key o next (is_new first acts key o s slice next) l alone
+  own = line_demand first acts key o next (is_new first acts key o false s slice next) l alone
 
   abbrev own_rows : List Row
-  own_rows = line_rows first acts key o next (is_new first acts key o s slice next) l alone
+  own_rows = line_rows first acts key o next (is_new first acts key o false s slice next) l alone
 
   abbrev offered : List Supply
   offered = supplies_seen g (least_expiry first acts g) s.rows.recalls s.rows.bins s.rows.stock s.rows.lots
@@ -81,16 +81,16 @@ module _ (first : ℤ) (acts : List Act) (key : Key) (o : NewOrder) (s : Slice) 
   needs_told =
       let tells = slice_tells_demands first acts act s slice refl g touched in
       ap (λ n. capped n - capped staged)
-      (rows_tell_open_units first acts next.0 g s.rows.orders s.rows.lines s.rows.staged tells ∙ sym (rows_tell_needs first acts next.0 g s.rows.orders s.rows.lines s.rows.staged tells))
+      (rows_tell_open_units first acts next.0 g s.rows.orders s.rows.lines s.rows.staged s.rows.urgents tells ∙ sym (rows_tell_needs first acts next.0 g s.rows.orders s.rows.lines s.rows.staged s.rows.urgents tells))
 
   booked_is : plan_booked s l ≡ plan_rows (together ∷ []) (supplies first acts g) ++ own_rows
   booked_is =
       let tells = slice_tells_supplies first acts act s slice refl g touched in
       let start : wanted + 0 ≡ wanted = omega arith in
-      (λ i. plan_within (record { booking = 0; need = needs_told i } ∷ record { booking = number_is first acts key o s slice next i; need = l.qty } ∷ [])
+      (λ i. plan_within (record { booking = 0; need = needs_told i } ∷ record { booking = number_is first acts key o false s slice next i; need = l.qty } ∷ [])
       (supplies_seen g (earliest_told first acts act s slice refl next.0 g touched i) s.rows.recalls s.rows.bins s.rows.stock s.rows.lots))
       ∙ needs_same wanted staged (next_number acts) l.qty offered
-      (stages_within_limit first acts next.0 g s.rows.orders s.rows.lines s.rows.staged (slice_tells_demands first acts act s slice refl g touched))
+      (stages_within_limit first acts next.0 g s.rows.orders s.rows.lines s.rows.staged s.rows.urgents (slice_tells_demands first acts act s slice refl g touched))
       ∙ plan_of_cut (together ∷ own ∷ []) offered (supplies_within_limit first acts next.0 g s.rows.lots s.rows.recalls s.rows.stock s.rows.bins tells)
       ∙ same_plan (together ∷ own ∷ []) (together ∷ own ∷ []) offered (supplies first acts g) refl (rows_tell_supplies first acts next.0 g s.rows.lots s.rows.recalls s.rows.stock s.rows.bins tells)
       ∙ plan_rows-append (together ∷ []) (own ∷ []) (supplies first acts g)
@@ -100,23 +100,23 @@ module _ (first : ℤ) (acts : List Act) (key : Key) (o : NewOrder) (s : Slice) 
   together_apart = not_booked (next_number acts) 0 (together ∷ []) (supplies first acts g) (unequal_back 0 (next_number acts) (omega arith), tt)
 
   others_apart : NotBooked (next_number acts) (plan first acts g)
-  others_apart = others_booked first acts key o next (is_new first acts key o s slice next) l alone
+  others_apart = others_booked first acts key o next (is_new first acts key o false s slice next) l alone
 
   after_is : plan first after g ≡ plan first acts g ++ own_rows
-  after_is = plan_after first acts key o next (is_new first acts key o s slice next) l alone
+  after_is = plan_after first acts key o next (is_new first acts key o false s slice next) l alone
 
   -- the rows put are those of the order in the plan after the act
-  pub put_told : line_put s (new_order_row s o) l ≡ named_rows (new_row first acts key o ∷ []) s.rows.lots (plan first after g)
+  pub put_told : line_put s (new_order_row s o) l ≡ named_rows (new_row first acts key o false ∷ []) s.rows.lots (plan first after g)
   put_told =
-      (λ i. named_rows (row_is first acts key o s slice next i ∷ []) s.rows.lots (booked_is i))
-      ∙ named_behind (new_row first acts key o) s.rows.lots (plan_rows (together ∷ []) (supplies first acts g)) own_rows together_apart
-      ∙ sym (named_behind (new_row first acts key o) s.rows.lots (plan first acts g) own_rows others_apart)
-      ∙ ap (named_rows (new_row first acts key o ∷ []) s.rows.lots) (sym after_is)
+      (λ i. named_rows (row_is first acts key o false s slice next i ∷ []) s.rows.lots (booked_is i))
+      ∙ named_behind (new_row first acts key o false) s.rows.lots (plan_rows (together ∷ []) (supplies first acts g)) own_rows together_apart
+      ∙ sym (named_behind (new_row first acts key o false) s.rows.lots (plan first acts g) own_rows others_apart)
+      ∙ ap (named_rows (new_row first acts key o false ∷ []) s.rows.lots) (sym after_is)
 
   -- and so is what they reserve together
   pub served_told : reserved_for (number_seen s) (plan_booked s l) ≡ reserved_for (next_number acts) (plan first after g)
   served_told =
-      (λ i. reserved_for (number_is first acts key o s slice next i) (booked_is i))
+      (λ i. reserved_for (number_is first acts key o false s slice next i) (booked_is i))
       ∙ for_behind (next_number acts) (plan_rows (together ∷ []) (supplies first acts g)) own_rows together_apart
       ∙ sym (for_behind (next_number acts) (plan first acts g) own_rows others_apart)
       ∙ ap (reserved_for (next_number acts)) (sym after_is)

@@ -1,5 +1,5 @@
--- An order judged by its slice is judged as by the acts.
-use Rattle.std.proofs.Common.{◌≡◌, ℕ, ◌+◌, ◌≤◌, ◌<◌, true, false, not, List, [], ◌∷◌, refl, ap, arith}
+-- An order, urgent or not, judged by its slice is judged as by the acts.
+use Rattle.std.proofs.Common.{◌≡◌, ℕ, ◌+◌, ◌≤◌, ◌<◌, Bool, true, false, not, List, [], ◌∷◌, refl, ap, sym, ◌∙◌, arith}
 use Rattle.std.specs.Prelude.{◌||◌, nat_lt, ℤ}
 use Rattle.std.specs.List.{list_any}
 use Rattle.values.specs.Values.{same_text}
@@ -7,7 +7,6 @@ use Rattle.commands.specs.declared.limits.TheConstants.{OPEN_MAX}
 use Rattle.commands.specs.declared.key.Key.{Key}
 use Rattle.commands.specs.declared.command.OrderLine.{OrderLine}
 use Rattle.commands.specs.declared.command.NewOrder.{NewOrder}
-use Rattle.commands.specs.declared.command.Command.TheVariants.{Order}
 use Rattle.commands.specs.declared.refusal.Refusal.TheVariants.{UnknownItem, OrderExists, ItemTwice, OverOrdered}
 use Rattle.commands.specs.Lists.{total}
 use borrow.Author.Tests.{ltb-false, ltb-true, lt-ltb, le-ltb}
@@ -17,7 +16,7 @@ use Rattle.machine.specs.Planning.{open_units}
 use Rattle.machine.specs.Once.{IsHistory}
 use Rattle.machine.specs.Tables.{tables_of}
 use Rattle.machine.specs.Touched.{is_touched}
-use Rattle.rules.specs.Slices.{IsSlice}
+use Rattle.rules.specs.Slices.{IsSlice, plans}
 use Rattle.row_rules.specs.Seen.{capped}
 use Rattle.machine.specs.Verdict.{first_refusal, judgement, names_item_twice}
 use Rattle.row_rules.specs.OpenLines.{open_of_line}
@@ -28,6 +27,7 @@ use Rattle.rules.proofs.rows.SliceTells.{item_told}
 use Rattle.rules.proofs.rows.OrderTold.{order_told}
 use Rattle.rules.proofs.rows.SliceDemands.{slice_tells_demands}
 use Rattle.rules.proofs.rows.OpenUnits.{rows_tell_open_units}
+use Rattle.rules.proofs.decided.orders.Placing.{placing, placing_act, placing_plans, placing_names, placing_judged, touches_are}
 
 -- Lines of the order are of items that it touches
 
@@ -52,26 +52,33 @@ more_than a m n e =
       | false ↦ λ f. let h : n + m ≤ OPEN_MAX = ltb-false OPEN_MAX (n + m) f in le-ltb _ _ (omega arith)
     ] refl
 
-module _ (first : ℤ) (acts : List Act) (key : Key) (o : NewOrder) (s : Slice)
-    (slice : IsSlice first (record { key = key; command = Order o }) acts (tables_of first acts) s) (history : IsHistory first acts) where
+module _ (first : ℤ) (acts : List Act) (key : Key) (o : NewOrder) (u : Bool) (s : Slice)
+    (slice : IsSlice first (placing_act key o u) acts (tables_of first acts) s) (history : IsHistory first acts) where
   abbrev act : Act
-  act = record { key = key; command = Order o }
+  act = placing_act key o u
+
+  planned : plans act.command ≡ true
+  planned = placing_plans u o
+
+  touched : (g : List ℕ) → list_any (λ (m : OrderLine). same_text g m.gtin) o.lines ≡ true → is_touched first act acts g ≡ true
+  touched g e = touches_are first acts key o u g ∙ e
 
   items_told : (ls : List OrderLine) → AllAmong o.lines ls → misses_item s ls ≡ list_any (λ l. not (has_item acts l.gtin)) ls
   items_told [] h = refl
-  items_told (l ∷ ls) h = λ i. not (item_told first acts act s slice refl l.gtin h.0 i) || items_told ls h.1 i
+  items_told (l ∷ ls) h = λ i. not (item_told first acts act s slice planned l.gtin (touched l.gtin h.0) i) || items_told ls h.1 i
 
   units_told : (g : List ℕ) → is_touched first act acts g ≡ true → total (open_of_line g s.rows.orders) s.rows.lines ≡ open_units first acts g
-  units_told g t = rows_tell_open_units first acts history g s.rows.orders s.rows.lines s.rows.staged (slice_tells_demands first acts act s slice refl g t)
+  units_told g t = rows_tell_open_units first acts history g s.rows.orders s.rows.lines s.rows.staged s.rows.urgents (slice_tells_demands first acts act s slice planned g t)
 
   too_much_told : (ls : List OrderLine) → AllAmong o.lines ls → orders_too_much s ls ≡ list_any (λ l. nat_lt OPEN_MAX (open_units first acts l.gtin + l.qty)) ls
   too_much_told [] h = refl
-  too_much_told (l ∷ ls) h = λ i. more_than (total (open_of_line l.gtin s.rows.orders) s.rows.lines) l.qty (open_units first acts l.gtin) (units_told l.gtin h.0) i || too_much_told ls h.1 i
+  too_much_told (l ∷ ls) h = λ i. more_than (total (open_of_line l.gtin s.rows.orders) s.rows.lines) l.qty (open_units first acts l.gtin) (units_told l.gtin (touched l.gtin h.0)) i || too_much_told ls h.1 i
 
-  pub order_judged : first_refusal (order_seen s o) ≡ first_refusal (judgement first acts (Order o))
+  pub order_judged : first_refusal (order_seen s o) ≡ first_refusal (judgement first acts (placing u o))
   order_judged =
-      λ i. first_refusal (
+      (λ i. first_refusal (
       (items_told o.lines (all_among o.lines) i, UnknownItem)
-      ∷ (order_told first acts act s slice o.order (same_text_refl o.order) i, OrderExists)
+      ∷ (order_told first acts act s slice o.order (placing_names u o) i, OrderExists)
       ∷ (names_item_twice o.lines, ItemTwice)
-      ∷ (too_much_told o.lines (all_among o.lines) i, OverOrdered) ∷ [])
+      ∷ (too_much_told o.lines (all_among o.lines) i, OverOrdered) ∷ []))
+      ∙ ap first_refusal (sym (placing_judged first acts u o))

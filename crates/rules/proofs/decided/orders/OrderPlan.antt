@@ -1,10 +1,9 @@
 -- After an order the plan of each of its items has the rows of before, and behind them those of its line.
-use Rattle.std.proofs.Common.{◌≡◌, ℕ, ◌+◌, ◌-◌, ◌<◌, true, false, ◌&&◌, not, List, [], ◌∷◌, ◌++◌, refl, ap, sym, subst, ◌∙◌, arith}
+use Rattle.std.proofs.Common.{◌≡◌, ℕ, ◌+◌, ◌-◌, true, false, ◌&&◌, not, List, [], ◌∷◌, ◌++◌, refl, ap, sym, subst, ◌∙◌, arith}
 use Rattle.std.specs.Prelude.{◌==◌, if◌then◌else◌, ℤ, Option, Some, None, find, filter, map, flat_map, reverse}
-use Rattle.std.specs.List.{cons_option}
+use Rattle.std.specs.List.{list_any, cons_option}
 use Rattle.std.proofs.lemmas.Bool.{eqb-true}
-use Rattle.std.proofs.lemmas.List.{reverse-append}
-use borrow.Author.Tests.{ltb-true}
+use Rattle.std.proofs.lemmas.List.{reverse-append, append_assoc}
 use Rattle.values.specs.Values.{same_text}
 use Rattle.values.specs.declared.lot.LotId.{LotId}
 use Rattle.commands.specs.declared.key.Key.{Key}
@@ -21,12 +20,12 @@ use Rattle.plan.proofs.Laying.{plan_rows-append}
 use Rattle.machine.specs.Acts.{Act, next_number}
 use Rattle.machine.specs.Postings.{of_item}
 use Rattle.machine.specs.Standing.{Placed, KnownLot, orders, order_named, has_order, lot_known}
-use Rattle.machine.specs.Planning.{booking_of, lines_of_item, bookings, need, demand_of, demands, supplies, item_postings, plan, reserved, reserved_of}
+use Rattle.machine.specs.Planning.{is_urgent, is_normal, booking_of, lines_of_item, bookings, need, demand_of, demands, supplies, item_postings, plan, reserved, reserved_of}
 use Rattle.machine.specs.Once.{IsHistory}
 use Rattle.row_rules.specs.Plans.{named_row, named_rows}
-use Rattle.machine.proofs.Tests.{same_text_is, same_text_refl}
-use Rattle.machine.proofs.histories.Bookings.{RisingDemands, AfterDemands, demands_rise}
-use Rattle.machine.proofs.histories.PlanRows.{unequal_back}
+use Rattle.machine.proofs.Tests.{or_none, same_text_is, same_text_refl}
+use Rattle.machine.proofs.Apart.{AreApart}
+use Rattle.machine.proofs.histories.Served.{demands_apart}
 use Rattle.machine.proofs.histories.NewOrders.{new_is_not_cancelled, new_has_nothing_staged, new_has_nothing_shipped}
 use Rattle.machine.proofs.histories.Orders.{act_names_order}
 use Rattle.rules.proofs.decided.orders.OrderStep.{act, after, placed, named_same}
@@ -79,25 +78,25 @@ named_behind order lots (r ∷ rs) ys h =
 
 -- The demands after an order
 
-last_after : (n : ℕ) (ds : List Demand) (d : Demand) → AfterDemands n (ds ++ d ∷ []) → n < d.booking
-last_after n [] d h = ltb-true n d.booking h.0
-last_after n (c ∷ ds) d h = last_after n ds d h.1
+last_apart : (n : ℕ) (ds : List Demand) (d : Demand) → list_any (λ (e : Demand). n == e.booking) (ds ++ d ∷ []) ≡ false → (n == d.booking) ≡ false
+last_apart n [] d h = (or_none (n == d.booking) false h).0
+last_apart n (c ∷ ds) d h = last_apart n ds d (or_none (n == c.booking) _ h).1
 
-others_before : (ds : List Demand) (d : Demand) → RisingDemands (ds ++ d ∷ []) → Others d.booking ds
+others_before : (ds : List Demand) (d : Demand) → AreApart (λ (d e : Demand). d.booking == e.booking) (ds ++ d ∷ []) → Others d.booking ds
 others_before [] d h = tt
-others_before (c ∷ ds) d h = (unequal_back c.booking d.booking (last_after c.booking ds d h.0), others_before ds d h.1)
+others_before (c ∷ ds) d h = (last_apart c.booking ds d h.0, others_before ds d h.1)
 
 map_append : {X Y : Type 0} (f : X → Y) (xs ys : List X) → map f (xs ++ ys) ≡ map f xs ++ map f ys
 map_append f [] ys = refl
 map_append f (x ∷ xs) ys = ap (λ zs. f x ∷ zs) (map_append f xs ys)
 
-module _ (first : ℤ) (acts : List Act) (key : Key) (o : NewOrder) (next : IsHistory first (act first acts key o ∷ acts)) (new : has_order acts o.order ≡ false)
+module _ (first : ℤ) (acts : List Act) (key : Key) (o : NewOrder) (next : IsHistory first (act first acts key o false ∷ acts)) (new : has_order acts o.order ≡ false)
     (l : OrderLine) (alone : filter (λ m. same_text l.gtin m.gtin) o.lines ≡ l ∷ []) where
   abbrev g : List ℕ
   g = l.gtin
 
   abbrev own : Placed
-  own = placed first acts key o
+  own = placed first acts key o false
 
   -- the demand of the line
   abbrev pub line_demand : Demand
@@ -108,12 +107,15 @@ module _ (first : ℤ) (acts : List Act) (key : Key) (o : NewOrder) (next : IsHi
       (λ i. if new_is_not_cancelled first acts next.0 o.order new i then 0 else l.qty - new_has_nothing_staged first acts next.0 o.order new g i - new_has_nothing_shipped first acts next.0 o.order new g i)
       ∙ omega arith
 
-  bookings_after : bookings (after first acts key o) g ≡ bookings acts g ++ booking_of own l ∷ []
+  bookings_after : bookings (after first acts key o false) g ≡ bookings acts g ++ booking_of own l ∷ []
   bookings_after =
-      ap (λ (ls : List OrderLine). reverse (map (booking_of own) ls ++ flat_map (lines_of_item g) (orders acts))) alone
-      ∙ reverse-append (booking_of own l ∷ []) (flat_map (lines_of_item g) (orders acts))
+      let ones = reverse (flat_map (lines_of_item g) (filter is_urgent (orders acts))) in
+      let others = flat_map (lines_of_item g) (filter is_normal (orders acts)) in
+      ap (λ (ls : List OrderLine). ones ++ reverse (map (booking_of own) ls ++ others)) alone
+      ∙ ap (λ bs. ones ++ bs) (reverse-append (booking_of own l ∷ []) others)
+      ∙ sym (append_assoc ones (reverse others) (booking_of own l ∷ []))
 
-  demands_after : demands first (after first acts key o) g ≡ demands first acts g ++ line_demand ∷ []
+  demands_after : demands first (after first acts key o false) g ≡ demands first acts g ++ line_demand ∷ []
   demands_after =
       ap (map (demand_of acts (item_postings first acts g))) bookings_after
       ∙ map_append (demand_of acts (item_postings first acts g)) (bookings acts g) (booking_of own l ∷ [])
@@ -123,7 +125,7 @@ module _ (first : ℤ) (acts : List Act) (key : Key) (o : NewOrder) (next : IsHi
   abbrev pub line_rows : List Row
   line_rows = rows_from (demand_total (demands first acts g)) (line_demand ∷ []) (supplies first acts g)
 
-  pub plan_after : plan first (after first acts key o) g ≡ plan first acts g ++ line_rows
+  pub plan_after : plan first (after first acts key o false) g ≡ plan first acts g ++ line_rows
   plan_after =
       ap (λ ds. plan_rows ds (supplies first acts g)) demands_after
       ∙ plan_rows-append (demands first acts g) (line_demand ∷ []) (supplies first acts g)
@@ -132,7 +134,7 @@ module _ (first : ℤ) (acts : List Act) (key : Key) (o : NewOrder) (next : IsHi
   pub others_booked : NotBooked (next_number acts) (plan first acts g)
   others_booked =
       not_booked (next_number acts) 0 (demands first acts g) (supplies first acts g)
-      (others_before (demands first acts g) line_demand (subst RisingDemands demands_after (demands_rise first (after first acts key o) g next)))
+      (others_before (demands first acts g) line_demand (subst (AreApart (λ (d e : Demand). d.booking == e.booking)) demands_after (demands_apart first (after first acts key o false) g next)))
 
   -- Other orders keep their reservations
 
@@ -140,13 +142,13 @@ module _ (first : ℤ) (acts : List Act) (key : Key) (o : NewOrder) (next : IsHi
   other_number q w e named = elim (next_number acts == w.act) as (λ b. (next_number acts == w.act) ≡ b → b ≡ false) [
     | true ↦ λ t.
         let same : q ≡ o.order =
-        act_names_order (after first acts key o) q o.order w own (named_same first acts key o q e ∙ named) (ap (λ b. if b then Some own else order_named acts o.order) (same_text_refl o.order)) (sym (eqb-true (next_number acts) w.act t)) in
+        act_names_order (after first acts key o false) q o.order w own (named_same first acts key o false q e ∙ named) (ap (λ b. if b then Some own else order_named acts o.order) (same_text_refl o.order)) (sym (eqb-true (next_number acts) w.act t)) in
         sym (ap (λ (x : List ℕ). same_text x o.order) same ∙ same_text_refl o.order) ∙ e
     | false ↦ λ t. refl
   ] refl
 
   by_names : (q : List ℕ) → same_text q o.order ≡ false → (x : Option Placed) (y : Option KnownLot) → order_named acts q ≡ x
-      → reserved_of x y (plan first (after first acts key o) g) ≡ reserved_of x y (plan first acts g)
+      → reserved_of x y (plan first (after first acts key o false) g) ≡ reserved_of x y (plan first acts g)
   by_names q e None y f = refl
   by_names q e (Some w) None f = refl
   by_names q e (Some w) (Some k) f =
@@ -154,9 +156,9 @@ module _ (first : ℤ) (acts : List Act) (key : Key) (o : NewOrder) (next : IsHi
       ap (reserved_in w.act k.came) plan_after
       ∙ omega (arith, none, total-append (λ (r : Row). if (r.booking == w.act) && (r.lot == k.came) then r.qty else 0) (plan first acts g) line_rows)
 
-  pub others_keep : (q : List ℕ) (m : LotId) → same_text q o.order ≡ false → of_item g m ≡ true → reserved first (after first acts key o) q m ≡ reserved first acts q m
+  pub others_keep : (q : List ℕ) (m : LotId) → same_text q o.order ≡ false → of_item g m ≡ true → reserved first (after first acts key o false) q m ≡ reserved first acts q m
   others_keep q m e own_item =
-      (λ i. reserved_of (named_same first acts key o q e i) (lot_known acts m) (plan first (after first acts key o) (sym item i)))
+      (λ i. reserved_of (named_same first acts key o false q e i) (lot_known acts m) (plan first (after first acts key o false) (sym item i)))
       ∙ by_names q e (order_named acts q) (lot_known acts m) refl
       ∙ ap (λ (x : List ℕ). reserved_of (order_named acts q) (lot_known acts m) (plan first acts x)) item
     where

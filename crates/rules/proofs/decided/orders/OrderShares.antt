@@ -79,10 +79,10 @@ module _ (first : ℤ) (acts : List Act) (key : Key) (o : NewOrder) (s : Slice) 
   after = act ∷ acts
 
   abbrev row : OrderRow
-  row = new_row first acts key o
+  row = new_row first acts key o false
 
   new : has_order acts o.order ≡ false
-  new = is_new first acts key o s slice next
+  new = is_new first acts key o false s slice next
 
   -- the line is the one that is found by its item
   abbrev IsFound : OrderLine → Type 0
@@ -95,7 +95,7 @@ module _ (first : ℤ) (acts : List Act) (key : Key) (o : NewOrder) (s : Slice) 
   row_is_there : order_row first after o.order ≡ Some row
   row_is_there =
       sym (ap (λ b. unless_put (if b then Some row else None) false (order_row first acts o.order)) (sym (same_text_refl o.order))
-      ∙ order_at first acts key o next.0 new (some_wanted first acts key o s slice next) o.order)
+      ∙ order_at first acts key o false next.0 new (some_wanted first acts key o false s slice next) o.order)
 
   rows_own : AreOwn (λ (r : OrderRow). r.order) (λ q. true) (order_row first after) (row ∷ [])
   rows_own = (refl, row_is_there, tt)
@@ -114,7 +114,7 @@ module _ (first : ℤ) (acts : List Act) (key : Key) (o : NewOrder) (s : Slice) 
     touched = sym (any_found (same_item l) o.lines) ∙ ap is_some found
 
     pub alone : filter (λ m. same_text g m.gtin) o.lines ≡ l ∷ []
-    alone = line_found g o.lines (is_single first acts key o s slice next) ∙ ap listed found
+    alone = line_found g o.lines (is_single first acts key o false s slice next) ∙ ap listed found
 
     rows_are : put ≡ rows
     rows_are = put_told first acts key o s slice next l touched alone
@@ -162,10 +162,10 @@ module _ (first : ℤ) (acts : List Act) (key : Key) (o : NewOrder) (s : Slice) 
   none_of (l ∷ ls) = none_of ls
 
   lines_once : no_two (λ (l m : OrderLine). same_text l.gtin m.gtin) o.lines ≡ true
-  lines_once = single_once o.lines (is_single first acts key o s slice next)
+  lines_once = single_once o.lines (is_single first acts key o false s slice next)
 
   lines_are : Each IsFound o.lines
-  lines_are = each_found o.lines (lines_found first acts key o s slice next)
+  lines_are = each_found o.lines (lines_found first acts key o false s slice next)
 
   own_named : (l : OrderLine) → IsFound l → (q : List ℕ) (m : LotId) → of_item l.gtin m ≡ true → IsNamed q m (reserved first acts q m) (reserved first after q m) (puts l) (none l)
   own_named l found q m own = own_row l found q m own (same_text q o.order) refl

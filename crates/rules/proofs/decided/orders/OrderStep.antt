@@ -1,5 +1,5 @@
--- The change of an order takes the tables to those with the act, if its reserved rows do.
-use Rattle.std.proofs.Common.{◌≡◌, ℕ, ◌≤◌, true, false, ◌&&◌, List, [], ◌∷◌, refl, ap, sym, ◌∙◌, arith}
+-- The change of an order, urgent or not, takes the tables to those with the act, if its reserved rows do.
+use Rattle.std.proofs.Common.{◌≡◌, ℕ, ◌≤◌, Bool, true, false, ◌&&◌, List, [], ◌∷◌, refl, ap, sym, ◌∙◌, arith}
 use Rattle.std.specs.Prelude.{◌==◌, if◌then◌else◌, ℤ, Option, Some, None, find, map, option_map}
 use Rattle.std.specs.List.{list_all}
 use Rattle.std.proofs.lemmas.Bool.{eqb-true}
@@ -8,60 +8,74 @@ use Rattle.values.specs.declared.lot.LotId.{LotId}
 use Rattle.commands.specs.declared.key.Key.{Key}
 use Rattle.commands.specs.declared.command.OrderLine.{OrderLine}
 use Rattle.commands.specs.declared.command.NewOrder.{NewOrder}
-use Rattle.commands.specs.declared.command.Command.TheVariants.{Order}
 use Rattle.commands.specs.declared.rows.OrderState.TheVariants.{Open, Done, Cancelled}
 use Rattle.commands.specs.declared.rows.OrderRow.{OrderRow}
 use Rattle.commands.specs.declared.rows.LineRow.{LineRow}
+use Rattle.commands.specs.declared.rows.UrgentRow.{UrgentRow}
 use Rattle.commands.specs.declared.rows.ReservedRow.{ReservedRow}
 use Rattle.machine.specs.Acts.{Act, next_number}
 use Rattle.machine.specs.Postings.{is_lot}
-use Rattle.machine.specs.Standing.{Placed, orders, order_named, has_order, lines_of, lines_placed, is_cancelled}
+use Rattle.machine.specs.Standing.{Placed, orders, order_named, has_order, lines_placed, is_cancelled}
 use Rattle.machine.specs.Planning.{shipped_of, order_state}
 use Rattle.machine.specs.Once.{IsHistory}
-use Rattle.machine.specs.Tables.{tables_of, meta_row, order_row, line_row, reserved_row}
+use Rattle.machine.specs.Tables.{tables_of, meta_row, if_urgent, order_row, urgent_row, line_row, reserved_row}
 use Rattle.rules.specs.Slices.{applied, tables_but_repeats, changed, unless_put}
 use Rattle.row_rules.specs.Seen.{none_put, none_dropped}
 use Rattle.order_rules.specs.DecidedOrder.{new_line_rows}
 use Rattle.row_rules.specs.declared.slice.Change.{Change}
 use Rattle.machine.proofs.Tests.{same_text_is}
 use Rattle.machine.proofs.histories.Orders.{found_order}
-use Rattle.machine.proofs.histories.NewOrders.{new_is_not_cancelled, new_is_not_named, new_has_nothing_shipped}
+use Rattle.machine.proofs.histories.NewOrders.{not_some, new_is_not_cancelled, new_is_not_named, new_has_nothing_shipped}
 use Rattle.rules.proofs.rows.TableSteps.{same_tables}
 use Rattle.rules.proofs.rows.AddedRows.{put_over_none}
+use Rattle.rules.proofs.decided.orders.Placing.{placing_act, placed_by, named_with, named_are, state_is, line_row_is, urgent_row_is}
 
 -- some line is of a unit at least
 abbrev pub WantsUnits : List OrderLine → Type 0
 WantsUnits [] = ⊥
 WantsUnits (l ∷ ls) = 1 ≤ l.qty
 
-module _ (first : ℤ) (acts : List Act) (key : Key) (o : NewOrder) where
+-- the row of an order that is urgent, and none of another
+abbrev pub urgents_of : Bool → UrgentRow → List UrgentRow
+urgents_of true r = r ∷ []
+urgents_of false r = []
+
+module _ (first : ℤ) (acts : List Act) (key : Key) (o : NewOrder) (u : Bool) where
   abbrev pub act : Act
-  act = record { key = key; command = Order o }
+  act = placing_act key o u
 
   abbrev pub after : List Act
   after = act ∷ acts
 
   abbrev pub placed : Placed
-  placed = record { order = o.order; act = next_number acts; customer = o.customer; lines = o.lines }
+  placed = placed_by acts o u
 
   abbrev pub new_row : OrderRow
   new_row = record { order = o.order; act = next_number acts; customer = o.customer; state = Open }
 
+  abbrev pub new_urgent : UrgentRow
+  new_urgent = record { order = o.order; act = next_number acts }
+
   abbrev pub order_change : List ℕ → List ReservedRow → List ReservedRow → Change
   order_change text put dropped = record {
     meta = meta_row first after;
-    put = record none_put { orders = new_row ∷ []; lines = new_line_rows o; reserved = put };
+    put = record none_put { orders = new_row ∷ []; lines = new_line_rows o; reserved = put; urgents = urgents_of u new_urgent };
     dropped = record none_dropped { reserved = dropped };
     text = text;
   }
 
   -- Other orders are as they were
 
+  pub named_own : (q : List ℕ) → same_text q o.order ≡ true → order_named after q ≡ Some placed
+  named_own q e = named_are first acts key o u q ∙ ap (λ b. if b then Some placed else order_named acts q) e
+
   pub named_same : (q : List ℕ) → same_text q o.order ≡ false → order_named after q ≡ order_named acts q
-  named_same q e = ap (λ b. if b then Some placed else order_named acts q) e
+  named_same q e = named_are first acts key o u q ∙ ap (λ b. if b then Some placed else order_named acts q) e
 
   pub state_same : (q : List ℕ) → same_text q o.order ≡ false → order_state first after q ≡ order_state first acts q
-  state_same q e = λ i. if is_cancelled acts q then Cancelled else (if list_all (λ l. shipped_of first acts q l.gtin == l.qty) (lines_placed (named_same q e i)) then Done else Open)
+  state_same q e =
+      state_is first acts key o u q
+      ∙ ap (λ b. if is_cancelled acts q then Cancelled else (if list_all (λ l. shipped_of first acts q l.gtin == l.qty) (lines_placed (if b then Some placed else order_named acts q)) then Done else Open)) e
 
   module _ (history : IsHistory first acts) (new : has_order acts o.order ≡ false) (some : WantsUnits o.lines) where
     not_in_full : (ls : List OrderLine) → WantsUnits ls → list_all (λ l. shipped_of first acts o.order l.gtin == l.qty) ls ≡ false
@@ -77,8 +91,9 @@ module _ (first : ℤ) (acts : List Act) (key : Key) (o : NewOrder) where
     pub new_is_open : (q : List ℕ) → same_text q o.order ≡ true → order_state first after q ≡ Open
     new_is_open q e =
         let own : q ≡ o.order = same_text_is q o.order e in
-        let lines : lines_of after q ≡ o.lines = ap (λ b. lines_placed (if b then Some placed else order_named acts q)) e in
-        (λ i. if is_cancelled acts (own i) then Cancelled else (if list_all (λ l. shipped_of first acts (own i) l.gtin == l.qty) (lines i) then Done else Open))
+        let lines : lines_placed (named_with acts o u q) ≡ o.lines = ap (λ b. lines_placed (if b then Some placed else order_named acts q)) e in
+        state_is first acts key o u q
+        ∙ (λ i. if is_cancelled acts (own i) then Cancelled else (if list_all (λ l. shipped_of first acts (own i) l.gtin == l.qty) (lines i) then Done else Open))
         ∙ (λ i. if new_is_not_cancelled first acts history o.order new i then Cancelled else (if not_in_full o.lines some i then Done else Open))
 
     abbrev row_of : Placed → OrderRow
@@ -96,9 +111,11 @@ module _ (first : ℤ) (acts : List Act) (key : Key) (o : NewOrder) where
 
     -- the order's row
     pub order_at : (q : List ℕ) → changed (λ (r : OrderRow). same_text q r.order) (new_row ∷ []) [] (order_row first acts q) ≡ order_row first after q
-    order_at q = elim (same_text q o.order) as (λ b. same_text q o.order ≡ b → unless_put (if b then Some new_row else None) false (order_row first acts q) ≡ option_map row_after (if b then Some placed else order_named acts q)) [
-      | true ↦ λ e. (λ i. Some (record { order = o.order; act = next_number acts; customer = o.customer; state = sym (new_is_open o.order (ap (λ (x : List ℕ). same_text x o.order) (sym (same_text_is q o.order e)) ∙ e)) i }))
-      | false ↦ λ e. others_same q e (order_named acts q) refl
+    order_at q = elim (same_text q o.order) as (λ b. same_text q o.order ≡ b → unless_put (if b then Some new_row else None) false (order_row first acts q) ≡ order_row first after q) [
+      | true ↦ λ e.
+          (λ i. Some (record { order = o.order; act = next_number acts; customer = o.customer; state = sym (new_is_open o.order (ap (λ (x : List ℕ). same_text x o.order) (sym (same_text_is q o.order e)) ∙ e)) i }))
+          ∙ ap (option_map row_after) (sym (named_own q e))
+      | false ↦ λ e. others_same q e (order_named acts q) refl ∙ ap (option_map row_after) (sym (named_same q e))
     ] refl
 
     -- Lines
@@ -134,16 +151,38 @@ module _ (first : ℤ) (acts : List Act) (key : Key) (o : NewOrder) where
         (ap (order_named acts) (same_text_is q o.order e) ∙ new_is_not_named first acts history o.order new)
 
     pub line_at : (q g : List ℕ) → changed (λ (r : LineRow). same_text q r.order && same_text g r.gtin) (new_line_rows o) [] (line_row first acts q g) ≡ line_row first after q g
-    line_at q g = elim (same_text q o.order) as (λ b. same_text q o.order ≡ b → unless_put (find (λ (r : LineRow). same_text q r.order && same_text g r.gtin) (new_line_rows o)) false (line_row first acts q g)
+    line_at q g =
+        elim (same_text q o.order) as (λ b. same_text q o.order ≡ b → unless_put (find (λ (r : LineRow). same_text q r.order && same_text g r.gtin) (new_line_rows o)) false (line_row first acts q g)
         ≡ option_map (line_after q g) (find (λ l. same_text g l.gtin) (lines_placed (if b then Some placed else order_named acts q)))) [
           | true ↦ λ e. (λ i. unless_put (own_lines q g e o.lines i) false (no_line_before q g e i)) ∙ put_over_none (option_map (line_after q g) (find (λ l. same_text g l.gtin) o.lines))
           | false ↦ λ e. (λ i. unless_put (other_lines q g e o.lines i) false (line_row first acts q g))
         ] refl
+        ∙ sym (line_row_is first acts key o u q g)
 
-    pub order_step : (text : List ℕ) (put dropped : List ReservedRow)
-        → ((q : List ℕ) (l : LotId) → changed (λ (r : ReservedRow). same_text q r.order && is_lot l r.lot) put dropped (reserved_row first acts q l) ≡ reserved_row first after q l)
-        → applied (order_change text put dropped) (tables_of first acts) ≡ tables_but_repeats first act acts
-    unfolding applied tables_of
-    order_step text put dropped reserved_at =
-        same_tables (applied (order_change text put dropped) (tables_of first acts)) (tables_but_repeats first act acts) refl
-        (λ g. refl) (λ g. refl) (λ b. refl) (λ l. refl) (λ l. refl) (λ l b. refl) order_at line_at (λ q l. refl) reserved_at (λ n. refl) (λ n l. refl) (λ l n. refl) (λ k. refl)
+-- The row of an urgent order
+
+urgent_by : (acts : List Act) (o : NewOrder) → has_order acts o.order ≡ false → (u : Bool) (q : List ℕ)
+    → changed (λ (r : UrgentRow). same_text q r.order) (urgents_of u (record { order = o.order; act = next_number acts })) [] (urgent_row acts q) ≡ if_urgent (named_with acts o u q)
+urgent_by acts o new true q =
+    elim (same_text q o.order) as (λ b. unless_put (if b then Some (record { order = o.order; act = next_number acts }) else None) false (urgent_row acts q) ≡ if_urgent (if b then Some (placed_by acts o true) else order_named acts q)) [ true ↦ refl | false ↦ refl ]
+urgent_by acts o new false q = elim (same_text q o.order) as (λ b. same_text q o.order ≡ b → urgent_row acts q ≡ if_urgent (if b then Some (placed_by acts o false) else order_named acts q)) [
+  | true ↦ λ e. ap if_urgent (ap (order_named acts) (same_text_is q o.order e) ∙ not_some (order_named acts o.order) new)
+  | false ↦ λ e. refl
+] refl
+
+pub urgent_at : (first : ℤ) (acts : List Act) (key : Key) (o : NewOrder) (u : Bool) → has_order acts o.order ≡ false → (q : List ℕ)
+    → changed (λ (r : UrgentRow). same_text q r.order) (urgents_of u (new_urgent first acts key o u)) [] (urgent_row acts q) ≡ urgent_row (after first acts key o u) q
+urgent_at first acts key o u new q = urgent_by acts o new u q ∙ sym (urgent_row_is first acts key o u q)
+
+pub order_step : (first : ℤ) (acts : List Act) (key : Key) (o : NewOrder) (u : Bool) → IsHistory first acts → has_order acts o.order ≡ false → WantsUnits o.lines → (text : List ℕ) (put dropped : List ReservedRow)
+    → ((q : List ℕ) (l : LotId) → changed (λ (r : ReservedRow). same_text q r.order && is_lot l r.lot) put dropped (reserved_row first acts q l) ≡ reserved_row first (after first acts key o u) q l)
+    → applied (order_change first acts key o u text put dropped) (tables_of first acts) ≡ tables_but_repeats first (act first acts key o u) acts
+unfolding applied tables_of
+order_step first acts key o true history new some text put dropped reserved_at =
+    same_tables (applied (order_change first acts key o true text put dropped) (tables_of first acts)) (tables_but_repeats first (act first acts key o true) acts) refl
+    (λ g. refl) (λ g. refl) (λ b. refl) (λ l. refl) (λ l. refl) (λ l b. refl) (order_at first acts key o true history new some) (urgent_at first acts key o true new) (line_at first acts key o true history new some)
+    (λ q l. refl) reserved_at (λ n. refl) (λ n l. refl) (λ l n. refl) (λ k. refl)
+order_step first acts key o false history new some text put dropped reserved_at =
+    same_tables (applied (order_change first acts key o false text put dropped) (tables_of first acts)) (tables_but_repeats first (act first acts key o false) acts) refl
+    (λ g. refl) (λ g. refl) (λ b. refl) (λ l. refl) (λ l. refl) (λ l b. refl) (order_at first acts key o false history new some) (urgent_at first acts key o false new) (line_at first acts key o false history new some)
+    (λ q l. refl) reserved_at (λ n. refl) (λ n l. refl) (λ l n. refl) (λ k. refl)

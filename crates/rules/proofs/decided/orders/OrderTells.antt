@@ -1,14 +1,13 @@
--- What the rows of an order's slice tell of it: its number and row, and that it is new.
+-- What the rows of an order's slice tell of it, urgent or not: its number and row, and that it is new.
 use Rattle.std.proofs.Common.{◌≡◌, ℕ, Bool, true, false, ◌&&◌, not, List, [], ◌∷◌, refl, ap, ◌∙◌}
 use Rattle.std.specs.Prelude.{◌||◌, ℤ, map}
 use Rattle.std.specs.List.{list_all, list_any}
-use Rattle.values.specs.Values.{same_text, is_qty, is_gtin, is_name, is_title}
+use Rattle.values.specs.Values.{same_text, is_qty, is_gtin}
 use Rattle.commands.specs.Limits.{has_order_lines}
 use Rattle.commands.specs.Sound.{is_order_line, are_lines}
 use Rattle.commands.specs.declared.key.Key.{Key}
 use Rattle.commands.specs.declared.command.OrderLine.{OrderLine}
 use Rattle.commands.specs.declared.command.NewOrder.{NewOrder}
-use Rattle.commands.specs.declared.command.Command.TheVariants.{Order}
 use Rattle.commands.specs.declared.rows.OrderState.TheVariants.{Open}
 use Rattle.commands.specs.declared.rows.LineRow.{LineRow}
 use Rattle.machine.specs.Acts.{Act, next_number}
@@ -24,7 +23,8 @@ use Rattle.row_rules.specs.declared.slice.Slice.{Slice}
 use Rattle.machine.proofs.Tests.{and_both, and_false, or_none, same_text_refl, same_text_turned}
 use Rattle.machine.proofs.Apart.{AreApart, AllFound, all_found}
 use Rattle.machine.proofs.histories.Quantities.{at_least_one}
-use Rattle.machine.proofs.histories.Accepted.{room_for_acts, order_accepted}
+use Rattle.machine.proofs.histories.Accepted.{OrderAccepted, room_for_acts}
+use Rattle.rules.proofs.decided.orders.Placing.{placing, placing_act, placing_lines, placing_accepted}
 use Rattle.rules.proofs.decided.orders.OrderStep.{WantsUnits, new_row}
 use Rattle.rules.proofs.decided.Decisions.{number_same}
 
@@ -61,31 +61,31 @@ lines_once o (l ∷ ls) e =
     let two = or_none (list_any (λ m. same_text l.gtin m.gtin) ls) (names_item_twice ls) e in
     (λ i. not (none_of_item o o.order l.gtin ls two.0 i) && lines_once o ls two.1 i)
 
-module _ (first : ℤ) (acts : List Act) (key : Key) (o : NewOrder) (s : Slice) (slice : IsSlice first (record { key = key; command = Order o }) acts (tables_of first acts) s)
-    (next : IsHistory first (record { key = key; command = Order o } ∷ acts)) where
+module _ (first : ℤ) (acts : List Act) (key : Key) (o : NewOrder) (u : Bool) (s : Slice) (slice : IsSlice first (placing_act key o u) acts (tables_of first acts) s)
+    (next : IsHistory first (placing_act key o u ∷ acts)) where
   abbrev act : Act
-  act = record { key = key; command = Order o }
+  act = placing_act key o u
 
-  abbrev after : List Act
-  after = act ∷ acts
+  accepted : OrderAccepted first acts o
+  accepted = placing_accepted first acts u o next.1.passes
 
   pub is_new : has_order acts o.order ≡ false
-  is_new = (order_accepted first acts o next.1.passes).new
+  is_new = accepted.new
 
   pub is_single : names_item_twice o.lines ≡ false
-  is_single = (order_accepted first acts o next.1.passes).single
+  is_single = accepted.single
 
   pub are_sound : are_lines o.lines ≡ true
-  are_sound = (and_both (is_name o.order && is_title o.customer) (are_lines o.lines) next.1.sound.command).1
+  are_sound = placing_lines u o next.1.sound.command
 
   pub some_wanted : WantsUnits o.lines
   some_wanted = wants_units o.lines are_sound
 
   pub number_is : number_seen s ≡ next_number acts
-  number_is = number_same first acts act s slice (room_for_acts first acts (Order o) next.1.passes)
+  number_is = number_same first acts act s slice (room_for_acts first acts (placing u o) next.1.passes)
 
   -- the order row put is that of the act
-  pub row_is : new_order_row s o ≡ new_row first acts key o
+  pub row_is : new_order_row s o ≡ new_row first acts key o u
   row_is = ap (λ n. record { order = o.order; act = n; customer = o.customer; state = Open }) number_is
 
   pub new_lines_once : no_two (λ (r t : LineRow). same_text r.order t.order && same_text r.gtin t.gtin) (new_line_rows o) ≡ true

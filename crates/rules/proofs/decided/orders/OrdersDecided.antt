@@ -1,5 +1,5 @@
 -- New orders are decided as the machine decides them.
-use Rattle.std.proofs.Common.{◌≡◌, List, [], ◌∷◌, refl, ap, ◌∙◌}
+use Rattle.std.proofs.Common.{◌≡◌, false, List, [], ◌∷◌, refl, ap, ◌∙◌}
 use Rattle.std.specs.Prelude.{ℤ, Result}
 use Rattle.commands.specs.declared.key.Key.{Key}
 use Rattle.commands.specs.declared.command.NewOrder.{NewOrder}
@@ -28,10 +28,10 @@ module _ (first : ℤ) (acts : List Act) (key : Key) (o : NewOrder) (s : Slice) 
   act = record { key = key; command = Order o }
 
   -- what is made of the rows is the change of the act
-  change_same : order_changes s o ≡ order_change first acts key o (order_reply s o) (order_rows_to_put s o o.lines) []
+  change_same : order_changes s o ≡ order_change first acts key o false (order_reply s o) (order_rows_to_put s o o.lines) []
   change_same = λ i. record {
     meta = meta_same first acts act s slice (room_for_acts first acts (Order o) next.1.passes) refl refl i;
-    put = record none_put { orders = row_is first acts key o s slice next i ∷ []; lines = new_line_rows o; reserved = order_rows_to_put s o o.lines };
+    put = record none_put { orders = row_is first acts key o false s slice next i ∷ []; lines = new_line_rows o; reserved = order_rows_to_put s o o.lines };
     dropped = none_dropped;
     text = order_reply s o;
   }
@@ -41,12 +41,12 @@ module _ (first : ℤ) (acts : List Act) (key : Key) (o : NewOrder) (s : Slice) 
       let named = order_named_rows first acts key o s slice next in
       record {
         applies = ap (λ c. applied c (tables_of first acts)) change_same
-            ∙ order_step first acts key o next.0 (is_new first acts key o s slice next) (some_wanted first acts key o s slice next) (order_reply s o) (order_rows_to_put s o o.lines) []
+            ∙ order_step first acts key o false next.0 (is_new first acts key o false s slice next) (some_wanted first acts key o false s slice next) (order_reply s o) (order_rows_to_put s o o.lines) []
             (reserved_changed first act acts (order_rows_to_put s o o.lines) [] named);
         text = order_text first acts key o s slice next;
-        once = record { items = refl; bins = refl; lots = refl; recalls = refl; stock = refl; orders = refl; lines = new_lines_once first acts key o s slice next; staged = refl; reserved = order_put_once first acts key o s slice next; shipments = refl; shiplines = refl; cards = refl; least = refl };
+        once = record { items = refl; bins = refl; lots = refl; recalls = refl; stock = refl; orders = refl; lines = new_lines_once first acts key o false s slice next; staged = refl; reserved = order_put_once first acts key o s slice next; shipments = refl; shiplines = refl; cards = refl; least = refl; urgents = refl };
         named = names_changed first act acts (order_changes s o) named;
       }
 
 pub orders_right : (key : Key) (s : Slice) (result : Result Change RuleFault) (o : NewOrder) → AreRight key s result (Order o) (order_seen s o) (order_changes s o)
-orders_right key s result o first acts history slice = record { judged = order_judged first acts key o s slice history; changed = λ ok next. order_changed first acts key o s slice next }
+orders_right key s result o first acts history slice = record { judged = order_judged first acts key o false s slice history; changed = λ ok next. order_changed first acts key o s slice next }

@@ -2,7 +2,7 @@ use Rattle.std.proofs.Common.{◌≡◌, sym, subst}
 use Rattle.std.specs.Prelude.{Result, IfOk}
 use Rattle.commands.specs.declared.key.Key.{Key}
 use Rattle.commands.specs.declared.command.Command.{Command}
-use Rattle.commands.specs.declared.command.Command.TheVariants.{Item, Bin, Receive, Move, Count, Adjust, Order, Cancel, Pick, Unpick, Ship, Hold, Release, Recall, OpenDay, Least}
+use Rattle.commands.specs.declared.command.Command.TheVariants.{Item, Bin, Receive, Move, Count, Adjust, Order, Cancel, Pick, Unpick, Ship, Hold, Release, Recall, OpenDay, Least, Urgent}
 use Rattle.row_rules.specs.declared.slice.Slice.{Slice}
 use Rattle.row_rules.specs.declared.slice.Change.{Change}
 use Rattle.rules.specs.Commands.{command_changes}
@@ -59,3 +59,6 @@ returns-in-OpenDay c = changed_as c.args.slice.now c.args.key.now c.args.command
 
 pub returns-in-Least : goal.returns-in-Least
 returns-in-Least c = changed_as c.args.slice.now c.args.key.now c.args.command.now (Least c.in-Least.least) c.in-Least.is c.change_least.result c.change_least.ensures
+
+pub returns-in-Urgent : goal.returns-in-Urgent
+returns-in-Urgent c = changed_as c.args.slice.now c.args.key.now c.args.command.now (Urgent c.in-Urgent.order) c.in-Urgent.is c.change_urgent.result c.change_urgent.ensures

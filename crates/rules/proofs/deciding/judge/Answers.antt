@@ -2,7 +2,7 @@ use Rattle.std.proofs.Common.{◌≡◌, sym, ap, ◌∙◌}
 use Rattle.std.specs.Prelude.{Option}
 use Rattle.commands.specs.declared.refusal.Refusal.{Refusal}
 use Rattle.commands.specs.declared.command.Command.{Command}
-use Rattle.commands.specs.declared.command.Command.TheVariants.{Item, Bin, Receive, Move, Count, Adjust, Order, Cancel, Pick, Unpick, Ship, Hold, Release, Recall, OpenDay, Least}
+use Rattle.commands.specs.declared.command.Command.TheVariants.{Item, Bin, Receive, Move, Count, Adjust, Order, Cancel, Pick, Unpick, Ship, Hold, Release, Recall, OpenDay, Least, Urgent}
 use Rattle.machine.specs.Verdict.{first_refusal}
 use Rattle.row_rules.specs.declared.slice.Slice.{Slice}
 use Rattle.rules.specs.Commands.{command_seen}
@@ -59,3 +59,6 @@ returns-in-OpenDay c = judged_as c.args.slice.now c.args.command.now (OpenDay c.
 
 pub returns-in-Least : goal.returns-in-Least
 returns-in-Least c = judged_as c.args.slice.now c.args.command.now (Least c.in-Least.least) c.in-Least.is c.judge_least.result c.judge_least.ensures
+
+pub returns-in-Urgent : goal.returns-in-Urgent
+returns-in-Urgent c = judged_as c.args.slice.now c.args.command.now (Urgent c.in-Urgent.order) c.in-Urgent.is c.judge_order.result c.judge_order.ensures
