@@ -27,6 +27,7 @@ before_orders = record {
     staged = [];
     reserved = [];
     least = record { gtin = OATS; days = 0 } ∷ [];
+    urgents = [];
   };
 }
 

@@ -1,11 +1,15 @@
 -- Items planned anew by the rows of a slice, in which no reserved rows are.
-use Rattle.std.specs.Prelude.{◌≡◌, ℕ, ℤ, false, [], ◌∷◌, codes, refl}
+use Rattle.std.specs.Prelude.{◌≡◌, ℕ, ℤ, false, List, [], ◌∷◌, codes, refl}
+use Rattle.std.specs.Fmt.{digits}
 use Rattle.values.specs.declared.lot.LotId.{LotId}
 use Rattle.commands.specs.declared.command.BinKind.TheVariants.{Store}
+use Rattle.commands.specs.declared.command.NewOrder.{NewOrder}
 use Rattle.commands.specs.declared.key.Key.TheVariants.{Line}
 use Rattle.commands.specs.declared.rows.OrderState.TheVariants.{Open}
 use Rattle.goods_rules.specs.DecidedReceive.{receive_changes}
 use Rattle.order_rules.specs.DecidedCancel.{cancel_changes}
+use Rattle.order_rules.specs.DecidedOrder.{order_changes}
+use Rattle.order_rules.specs.DecidedUrgent.{urgent_changes}
 use Rattle.lot_rules.specs.DecidedHold.{hold_changes}
 use Rattle.lot_rules.specs.DecidedLeast.{least_changes}
 use Rattle.row_rules.specs.declared.slice.Slice.{Slice}
@@ -29,6 +33,7 @@ two_orders = record {
     staged = [];
     reserved = [];
     least = record { gtin = OATS; days = 0 } ∷ [];
+    urgents = [];
   };
 }
 
@@ -87,3 +92,61 @@ a_cancel_serves_the_later_order = refl
 
 a_cancel_drops_its_own_rows : (cancel_changes two_orders S1).dropped.reserved ≡ record { order = S1; lot = L2; qty = 10 } ∷ record { order = S1; lot = L1; qty = 2 } ∷ []
 a_cancel_drops_its_own_rows = refl
+
+-- Five units of a lot that expires first have come in: the first order has these and 7 of L2, the second 3 of L2 and 9 of L1.
+abbrev with_early_lot : Slice
+with_early_lot = record two_orders {
+  meta = record { day = may_4; acts = 10; shipments = 0 };
+  rows = record two_orders.rows {
+    lots = record { lot = L0; expiry = may_10; came = 10; held = false } ∷ two_orders.rows.lots;
+    stock = record { lot = L0; bin = A1; qty = 5 } ∷ two_orders.rows.stock;
+  };
+}
+
+abbrev S3 : List ℕ
+S3 = codes "S-3"
+
+abbrev S4 : List ℕ
+S4 = codes "S-4"
+
+abbrev ordered : List ℕ → ℕ → NewOrder
+ordered name qty = record { order = name; customer = codes "Mill Inn"; lines = record { gtin = OATS; qty = qty } ∷ [] }
+
+-- an urgent order takes what it needs from the front, and the others move behind it
+an_urgent_order_is_served_first :
+    (urgent_changes with_early_lot (ordered S3 10)).put.reserved
+    ≡ record { order = S3; lot = L0; qty = 5 } ∷ record { order = S3; lot = L2; qty = 5 } ∷ record { order = S1; lot = L2; qty = 5 } ∷ record { order = S1; lot = L1; qty = 7 } ∷ record { order = S2; lot = L1; qty = 3 } ∷ []
+an_urgent_order_is_served_first = refl
+
+an_urgent_order_takes_from_the_others : (urgent_changes with_early_lot (ordered S3 10)).dropped.reserved ≡ record { order = S1; lot = L0; qty = 5 } ∷ record { order = S2; lot = L2; qty = 3 } ∷ []
+an_urgent_order_takes_from_the_others = refl
+
+an_urgent_order_is_not_short : (urgent_changes with_early_lot (ordered S3 10)).text ≡ codes "{\"act\":11,\"short\":0}"
+unfolding digits
+an_urgent_order_is_not_short = refl
+
+abbrev after_an_urgent_order : Slice
+after_an_urgent_order = record with_early_lot {
+  meta = record { day = may_4; acts = 11; shipments = 0 };
+  rows = record with_early_lot.rows {
+    orders = record { order = S3; act = 11; customer = codes "Mill Inn"; state = Open } ∷ with_early_lot.rows.orders;
+    lines = record { order = S3; gtin = OATS; ordered = 10; shipped = 0 } ∷ with_early_lot.rows.lines;
+    urgents = record { order = S3; act = 11 } ∷ [];
+  };
+}
+
+-- a second one is served behind the first, and leaves nothing to the others
+a_second_urgent_order_keeps_to_the_first : (urgent_changes after_an_urgent_order (ordered S4 20)).put.reserved ≡ record { order = S4; lot = L2; qty = 5 } ∷ record { order = S4; lot = L1; qty = 10 } ∷ []
+a_second_urgent_order_keeps_to_the_first = refl
+
+a_second_urgent_order_takes_all_that_is_left :
+    (urgent_changes after_an_urgent_order (ordered S4 20)).dropped.reserved ≡ record { order = S1; lot = L2; qty = 5 } ∷ record { order = S1; lot = L1; qty = 7 } ∷ record { order = S2; lot = L1; qty = 3 } ∷ []
+a_second_urgent_order_takes_all_that_is_left = refl
+
+a_second_urgent_order_is_short : (urgent_changes after_an_urgent_order (ordered S4 20)).text ≡ codes "{\"act\":12,\"short\":5}"
+unfolding digits
+a_second_urgent_order_is_short = refl
+
+-- an order that is not urgent is served behind all of them
+an_order_is_served_last : (order_changes after_an_urgent_order (ordered S4 20)).put.reserved ≡ []
+an_order_is_served_last = refl

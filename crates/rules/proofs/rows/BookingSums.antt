@@ -4,7 +4,7 @@ use Rattle.std.specs.Prelude.{if◌then◌else◌, filter, flat_map, reverse}
 use Rattle.std.proofs.lemmas.List.{reverse-append}
 use Rattle.commands.specs.Lists.{total}
 use Rattle.machine.specs.Acts.{Act}
-use Rattle.machine.specs.Standing.{Placed, orders}
+use Rattle.machine.specs.Standing.{orders}
 use Rattle.machine.specs.Planning.{Booking, bookings, lines_of_item, is_urgent, is_normal}
 use Rattle.machine.proofs.histories.Bookings.{total_flat}
 

@@ -1,6 +1,6 @@
 -- The rows of urgent orders tell of which class an order is.
 use Rattle.std.proofs.Common.{◌≡◌, ℕ, true, false, List, [], ◌∷◌, refl, ap, sym, subst, ◌∙◌}
-use Rattle.std.specs.Prelude.{if◌then◌else◌, Bool, Option, Some, None, find, is_some}
+use Rattle.std.specs.Prelude.{if◌then◌else◌, Bool, Some, None, find, is_some}
 use Rattle.std.specs.List.{list_any, AllByRecursion}
 use Rattle.values.specs.Values.{same_text}
 use Rattle.commands.specs.declared.rows.UrgentRow.{UrgentRow}

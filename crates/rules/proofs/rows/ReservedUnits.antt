@@ -1,6 +1,6 @@
 -- The reserved rows of an order and an item add up to what the item's plan reserves for the order.
 use Rattle.std.proofs.Common.{◌≡◌, ℕ, ◌+◌, Bool, true, false, ◌&&◌, not, List, [], ◌∷◌, ◌++◌, refl, ap, sym, ◌∙◌, arith, eq-eqb}
-use Rattle.std.specs.Prelude.{◌==◌, ◌||◌, if◌then◌else◌, ℤ, Option, Some, None, find, filter, map, flat_map, option_map, is_some}
+use Rattle.std.specs.Prelude.{◌==◌, ◌||◌, if◌then◌else◌, ℤ, Option, Some, None, find, filter, map, option_map, is_some}
 use Rattle.std.specs.List.{list_any, AllByRecursion}
 use Rattle.std.proofs.lemmas.Bool.{eqb-true}
 use Rattle.std.proofs.lemmas.List.{map-id}
@@ -8,7 +8,6 @@ use Rattle.values.specs.Values.{same_text}
 use Rattle.values.specs.declared.lot.LotId.{LotId}
 use Rattle.commands.specs.Lists.{total}
 use Rattle.commands.specs.declared.rows.ReservedRow.{ReservedRow}
-use Rattle.plan.specs.declared.Demand.{Demand}
 use Rattle.plan.specs.declared.Row.{Row}
 use Rattle.plan.specs.declared.Supply.{Supply}
 use Rattle.plan.specs.Overlap.{Stretch, row_of, rows_of_demand, rows_of_stretches, demands_laid, supplies_laid, reserved_in, reserved_for}
@@ -19,14 +18,14 @@ use Rattle.machine.specs.Planning.{plan, demands, supplies, supply_of, item_post
 use Rattle.machine.specs.Tables.{if_any, reserved_row}
 use Rattle.machine.specs.KeyedRows.{AreRows, AreOwn, OrderLot, same_share, no_two}
 use Rattle.machine.proofs.Numbers.{equal_turned, unequal_above}
-use Rattle.machine.proofs.Tests.{and_both, and_false, is_zero, not_true, or_first, or_later, some_one, same_text_is, same_text_refl, is_lot_is, is_lot_refl, is_lot_turned}
+use Rattle.machine.proofs.Tests.{and_both, and_false, is_zero, not_true, or_first, or_later, same_text_is, is_lot_is, is_lot_refl, is_lot_turned}
 use Rattle.machine.proofs.Apart.{AreApart, AllFound, all_found, any_found, apart-filter}
 use Rattle.machine.proofs.histories.Falling.{AllBelow, AreFalling}
 use Rattle.machine.proofs.histories.Lots.{same_known, lots_apart, lots_found, lots_numbered, found_lot}
 use Rattle.machine.proofs.histories.PlaceRows.{any_some}
 use Rattle.rules.proofs.rows.DemandsTold.{same_total}
 use Rattle.rules.proofs.rows.FoundRows.{found_passes, find_kept, same_finds, kept_once}
-use Rattle.rules.proofs.rows.Ordering.{all_in_order, total_filter}
+use Rattle.rules.proofs.rows.Ordering.{all_in_order}
 use Rattle.rules.proofs.rows.Telling.{once_apart, picked, totals_swapped, rows_tell}
 
 -- What all have

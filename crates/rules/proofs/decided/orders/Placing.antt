@@ -10,9 +10,7 @@ use Rattle.commands.specs.declared.command.NewOrder.{NewOrder}
 use Rattle.commands.specs.declared.command.Command.{Command}
 use Rattle.commands.specs.declared.command.Command.TheVariants.{Order, Urgent}
 use Rattle.commands.specs.declared.rows.OrderState.TheVariants.{Open, Done, Cancelled}
-use Rattle.commands.specs.declared.rows.LineRow.{LineRow}
 use Rattle.machine.specs.Acts.{Act, next_number}
-use Rattle.machine.specs.Postings.{Posting}
 use Rattle.machine.specs.Standing.{Placed, orders, order_named, lines_placed, is_cancelled}
 use Rattle.machine.specs.Planning.{Booking, item_postings, shipped_of, order_state, need}
 use Rattle.machine.specs.Tables.{if_urgent, line_row, urgent_row}

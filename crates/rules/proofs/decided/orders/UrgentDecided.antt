@@ -1,9 +1,8 @@
 -- Urgent orders are decided as the machine decides them.
 use Rattle.std.proofs.Common.{◌≡◌, ℕ, true, false, ◌&&◌, not, List, [], ◌∷◌, refl, ap, ◌∙◌}
-use Rattle.std.specs.Prelude.{◌||◌, ℤ, Some, Result, map, nat_le, length}
+use Rattle.std.specs.Prelude.{◌||◌, ℤ, Some, Result}
 use Rattle.std.specs.List.{list_any}
 use Rattle.values.specs.Values.{same_text}
-use Rattle.commands.specs.declared.limits.TheConstants.{ACTS_MAX}
 use Rattle.commands.specs.declared.key.Key.{Key}
 use Rattle.commands.specs.declared.command.OrderLine.{OrderLine}
 use Rattle.commands.specs.declared.command.NewOrder.{NewOrder}

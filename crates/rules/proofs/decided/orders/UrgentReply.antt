@@ -1,6 +1,6 @@
 -- The reply to an urgent order says what its plans leave short: all that is reserved for it is among the rows that are put.
 use Rattle.std.proofs.Common.{◌≡◌, ℕ, ◌+◌, ◌-◌, ◌≤◌, true, false, List, [], ◌∷◌, ◌++◌, refl, ap, sym, ◌∙◌, arith, eq-eqb}
-use Rattle.std.specs.Prelude.{◌==◌, if◌then◌else◌, ℤ, Some, None, find, map, flat_map, is_some, codes, decimal}
+use Rattle.std.specs.Prelude.{◌==◌, if◌then◌else◌, ℤ, Some, find, map, is_some, codes, decimal}
 use Rattle.values.specs.Values.{same_text}
 use Rattle.commands.specs.Lists.{total}
 use Rattle.commands.specs.declared.key.Key.{Key}

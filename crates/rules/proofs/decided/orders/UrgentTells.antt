@@ -1,6 +1,6 @@
 -- The rows of a slice with those of an urgent order tell the demands and supplies of each of its items after the act.
-use Rattle.std.proofs.Common.{◌≡◌, ℕ, Bool, true, false, ◌&&◌, List, [], ◌∷◌, ◌++◌, refl, ap, sym, subst, ◌∙◌}
-use Rattle.std.specs.Prelude.{◌||◌, if◌then◌else◌, ℤ, Option, Some, None, find, map, option_map}
+use Rattle.std.proofs.Common.{◌≡◌, ℕ, Bool, true, false, ◌&&◌, List, [], ◌∷◌, refl, ap, sym, subst, ◌∙◌}
+use Rattle.std.specs.Prelude.{◌||◌, if◌then◌else◌, ℤ, Some, None, find, map, option_map}
 use Rattle.std.specs.List.{list_any}
 use Rattle.values.specs.Values.{same_text}
 use Rattle.commands.specs.declared.key.Key.{Key}
@@ -11,7 +11,7 @@ use Rattle.commands.specs.declared.rows.OrderState.TheVariants.{Open}
 use Rattle.commands.specs.declared.rows.OrderRow.{OrderRow}
 use Rattle.commands.specs.declared.rows.UrgentRow.{UrgentRow}
 use Rattle.commands.specs.declared.rows.LineRow.{LineRow}
-use Rattle.machine.specs.Acts.{Act, next_number}
+use Rattle.machine.specs.Acts.{Act}
 use Rattle.machine.specs.Standing.{Placed, has_order, has_line, lines_of, lines_placed, order_named}
 use Rattle.machine.specs.Planning.{is_open, is_open_state, order_state}
 use Rattle.machine.specs.Once.{IsHistory}
@@ -19,7 +19,6 @@ use Rattle.machine.specs.Tables.{tables_of, if_urgent, order_row, line_row, urge
 use Rattle.machine.specs.Touched.{is_touched}
 use Rattle.machine.specs.KeyedRows.{AreRows, OrderItem, same_line}
 use Rattle.rules.specs.Slices.{IsSlice, has_touched_line}
-use Rattle.row_rules.specs.Seen.{number_seen}
 use Rattle.order_rules.specs.DecidedOrder.{new_order_row, new_line_rows}
 use Rattle.order_rules.specs.DecidedUrgent.{new_urgent_row, lines_with}
 use Rattle.row_rules.specs.declared.slice.Slice.{Slice}
