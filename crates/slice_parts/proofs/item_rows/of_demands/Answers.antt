@@ -11,3 +11,6 @@ returns-clause-same_staged c = c.from_vec-8.ensures
 
 pub returns-clause-same_reserved : goal.returns-clause-same_reserved
 returns-clause-same_reserved c = c.from_vec-9.ensures
+
+pub returns-clause-same_urgents : goal.returns-clause-same_urgents
+returns-clause-same_urgents c = c.from_vec-11.ensures

@@ -20,3 +20,6 @@ returns-clause-same_bins c = c.from_vec-2.ensures
 
 pub returns-clause-same_least : goal.returns-clause-same_least
 returns-clause-same_least c = c.from_vec-10.ensures
+
+pub returns-clause-same_urgents : goal.returns-clause-same_urgents
+returns-clause-same_urgents c = c.from_vec-11.ensures
