@@ -22,7 +22,7 @@ use Rattle.table_words.specs.Typed.{Tables, tables_in, Rule, the_rules, Keeps, A
 use Rattle.table_words.specs.Steps.{IsReady, Goes}
 
 pub tables_same : (old new : Trees) → AllByRecursion (λ t. new t.tree ≡ old t.tree) the_tables → tables_in new ≡ tables_in old
-tables_same old new same = rw (same.0, same.1.0, same.1.1.0, same.1.1.1.0, same.1.1.1.1.0, same.1.1.1.1.1.0, same.1.1.1.1.1.1.0, same.1.1.1.1.1.1.1.0, same.1.1.1.1.1.1.1.1.0, same.1.1.1.1.1.1.1.1.1.0, same.1.1.1.1.1.1.1.1.1.1.0, same.1.1.1.1.1.1.1.1.1.1.1.0, same.1.1.1.1.1.1.1.1.1.1.1.1.0, same.1.1.1.1.1.1.1.1.1.1.1.1.1.0, same.1.1.1.1.1.1.1.1.1.1.1.1.1.1.0) refl
+tables_same old new same = rw (same.0, same.1.0, same.1.1.0, same.1.1.1.0, same.1.1.1.1.0, same.1.1.1.1.1.0, same.1.1.1.1.1.1.0, same.1.1.1.1.1.1.1.0, same.1.1.1.1.1.1.1.1.0, same.1.1.1.1.1.1.1.1.1.0, same.1.1.1.1.1.1.1.1.1.1.0, same.1.1.1.1.1.1.1.1.1.1.1.0, same.1.1.1.1.1.1.1.1.1.1.1.1.0, same.1.1.1.1.1.1.1.1.1.1.1.1.1.0, same.1.1.1.1.1.1.1.1.1.1.1.1.1.1.0, same.1.1.1.1.1.1.1.1.1.1.1.1.1.1.1.0) refl
 
 pub typed_same : (old new : Trees) → AllByRecursion (λ t. new t.tree ≡ old t.tree) the_tables → AreTyped old → AreTyped new
 typed_same old new same h = record {

@@ -91,6 +91,9 @@ repeats_table tree = keyed_table tree (codes "repeats") (text_column (codes "k")
 abbrev pub least_table : ℕ → Table
 least_table tree = keyed_table tree (codes "least") (text_column (codes "gtin") ∷ number_column (codes "days") ∷ []) (1 ∷ [])
 
+abbrev pub urgents_table : ℕ → Table
+urgents_table tree = keyed_table tree (codes "urgents") (text_column (codes "ord") ∷ number_column (codes "act") ∷ []) (1 ∷ [])
+
 -- the trees of the tables; those between them are the indexes of their keys
 abbrev pub meta_tree : ℕ
 meta_tree = 0
@@ -137,6 +140,9 @@ repeats_tree = 24
 abbrev pub least_tree : ℕ
 least_tree = 26
 
+abbrev pub urgents_tree : ℕ
+urgents_tree = 28
+
 -- the schema with nothing in it
 abbrev pub schema_0 : Schema
 schema_0 = record { tables = []; indexes = []; views = [] }
@@ -162,9 +168,13 @@ first_tables =
     ∷ repeats_table repeats_tree
     ∷ []
 
+-- those of schema 2
+abbrev pub second_tables : List Table
+second_tables = first_tables ++ least_table least_tree ∷ []
+
 -- the tables of the books, in their order
 abbrev pub the_tables : List Table
-the_tables = first_tables ++ least_table least_tree ∷ []
+the_tables = second_tables ++ urgents_table urgents_tree ∷ []
 
 -- the tables of the books, and then those of the rest, with its indexes and views
 abbrev pub schema_with : Schema → Schema
@@ -180,7 +190,7 @@ refers_to_none t = is_nil t.references
 
 -- the index is not UNIQUE, or is that of a table beside those of the books, or of a key
 abbrev pub is_harmless : Index → Bool
-is_harmless i = not i.is_unique || (nat_lt 27 i.table || starts_with nat_eq i.name (codes "sqlite_autoindex_"))
+is_harmless i = not i.is_unique || (nat_lt 29 i.table || starts_with nat_eq i.name (codes "sqlite_autoindex_"))
 
 -- The schema has the tables of the books. Others may follow that refer to none, and there may be any views, and any
 -- indexes that refuse no row of the books.

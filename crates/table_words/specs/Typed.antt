@@ -19,6 +19,7 @@ use Rattle.commands.specs.declared.rows.LotRow.{LotRow}
 use Rattle.commands.specs.declared.rows.RecallRow.{RecallRow}
 use Rattle.commands.specs.declared.rows.StockRow.{StockRow}
 use Rattle.commands.specs.declared.rows.OrderRow.{OrderRow}
+use Rattle.commands.specs.declared.rows.UrgentRow.{UrgentRow}
 use Rattle.commands.specs.declared.rows.LineRow.{LineRow}
 use Rattle.commands.specs.declared.rows.StagedRow.{StagedRow}
 use Rattle.commands.specs.declared.rows.ReservedRow.{ReservedRow}
@@ -26,7 +27,7 @@ use Rattle.commands.specs.declared.rows.ShipmentRow.{ShipmentRow}
 use Rattle.commands.specs.declared.rows.ShiplineRow.{ShiplineRow}
 use Rattle.commands.specs.declared.rows.CardRow.{CardRow}
 use Rattle.commands.specs.declared.rows.RepeatRow.{RepeatRow}
-use Rattle.table_words.specs.Schema.{meta_tree, items_tree, bins_tree, lots_tree, recalls_tree, stock_tree, orders_tree, lines_tree, staged_tree, reserved_tree, shipments_tree, shiplines_tree, cards_tree, repeats_tree, least_tree}
+use Rattle.table_words.specs.Schema.{meta_tree, items_tree, bins_tree, lots_tree, recalls_tree, stock_tree, orders_tree, lines_tree, staged_tree, reserved_tree, shipments_tree, shiplines_tree, cards_tree, repeats_tree, least_tree, urgents_tree}
 
 abbrev pub same_lot_id : LotId → LotId → Bool
 same_lot_id a b = bytes_eq a.gtin b.gtin && bytes_eq a.lot b.lot
@@ -286,6 +287,36 @@ order_cells s = Text s.order ∷ Int (pos s.act) ∷ Text s.customer ∷ Text (o
 abbrev pub is_open_order : OrderRow → Bool
 is_open_order s = is_open_state s.state
 
+-- ---- urgents
+
+-- whether the row reads as a typed one
+abbrev pub is_urgent : Row → Bool
+is_urgent r = is_word is_name (column r 1) && is_number ACTS_MAX (column r 2)
+
+-- what it reads as
+abbrev pub urgent_in : Row → UrgentRow
+urgent_in r = record { order = bytes (column r 1); act = number_in (column r 2) }
+
+-- the same of its columns in their order, as a statement answers them
+abbrev pub has_urgent : Row → Bool
+has_urgent v = is_word is_name (column v 0) && is_number ACTS_MAX (column v 1)
+
+abbrev pub urgent_read : Row → UrgentRow
+urgent_read v = record { order = bytes (column v 0); act = number_in (column v 1) }
+
+abbrev pub UrgentKey : Type 0
+UrgentKey = List ℕ
+
+abbrev pub same_urgent : UrgentKey → UrgentKey → Bool
+same_urgent a b = bytes_eq a b
+
+abbrev pub urgent_key : UrgentRow → UrgentKey
+urgent_key s = s.order
+
+-- its values, in the order of the columns
+abbrev pub urgent_cells : UrgentRow → Row
+urgent_cells s = Text s.order ∷ Int (pos s.act) ∷ []
+
 -- ---- lines
 
 -- whether the row reads as a typed one
@@ -512,6 +543,7 @@ tables_in trees = record {
   recall = λ lot. find (λ s. same_recall lot (recall_key s)) (typed is_recall recall_in (trees recalls_tree));
   stock = λ lot bin. find (λ s. same_stock (lot, bin) (stock_key s)) (typed is_stock stock_in (trees stock_tree));
   order = λ order. find (λ s. same_order order (order_key s)) (typed is_order order_in (trees orders_tree));
+  urgent = λ order. find (λ s. same_urgent order (urgent_key s)) (typed is_urgent urgent_in (trees urgents_tree));
   line = λ order gtin. find (λ s. same_line (order, gtin) (line_key s)) (typed is_line line_in (trees lines_tree));
   staged = λ order lot. find (λ s. same_staged (order, lot) (staged_key s)) (typed is_staged staged_in (trees staged_tree));
   reserved = λ order lot. find (λ s. same_reserved (order, lot) (reserved_key s)) (typed is_reserved reserved_in (trees reserved_tree));
@@ -545,9 +577,13 @@ first_rules version =
     ∷ record { tree = repeats_tree; is = is_repeat }
     ∷ []
 
+-- and for each table of schema 2
+abbrev pub second_rules : ℕ → List Rule
+second_rules version = first_rules version ++ record { tree = least_tree; is = is_least } ∷ []
+
 -- a rule for each table, in the order of the tables
 abbrev pub rules_at : ℕ → List Rule
-rules_at version = first_rules version ++ record { tree = least_tree; is = is_least } ∷ []
+rules_at version = second_rules version ++ record { tree = urgents_tree; is = is_urgent } ∷ []
 
 abbrev pub the_rules : List Rule
 the_rules = rules_at SCHEMA_VERSION
@@ -602,6 +638,10 @@ abbrev pub with_order : OrderRow → Tables → Tables
 with_order s t = record t { order = λ at_order. if same_order at_order (order_key s) then Some s else t.order at_order }
 
 -- the row takes the place of one with its key
+abbrev pub with_urgent : UrgentRow → Tables → Tables
+with_urgent s t = record t { urgent = λ at_order. if same_urgent at_order (urgent_key s) then Some s else t.urgent at_order }
+
+-- the row takes the place of one with its key
 abbrev pub with_line : LineRow → Tables → Tables
 with_line s t = record t { line = λ at_order at_gtin. if same_line (at_order, at_gtin) (line_key s) then Some s else t.line at_order at_gtin }
 
@@ -636,4 +676,4 @@ abbrev pub with_repeat : RepeatRow → Tables → Tables
 with_repeat s t = record t { repeat = λ at_k. if same_repeat at_k (repeat_key s) then Some s else t.repeat at_k }
 
 abbrev pub no_rows : Tables
-no_rows = record { meta = None; item = λ _. None; least = λ _. None; bin = λ _. None; lot = λ _. None; recall = λ _. None; stock = λ _ _. None; order = λ _. None; line = λ _ _. None; staged = λ _ _. None; reserved = λ _ _. None; shipment = λ _. None; shipline = λ _ _. None; card = λ _ _. None; repeat = λ _. None }
+no_rows = record { meta = None; item = λ _. None; least = λ _. None; bin = λ _. None; lot = λ _. None; recall = λ _. None; stock = λ _ _. None; order = λ _. None; urgent = λ _. None; line = λ _ _. None; staged = λ _ _. None; reserved = λ _ _. None; shipment = λ _. None; shipline = λ _ _. None; card = λ _ _. None; repeat = λ _. None }
