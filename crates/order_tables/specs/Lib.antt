@@ -2,3 +2,4 @@ pub mod Orders
 pub mod Lines
 pub mod Staged
 pub mod Reserved
+pub mod Urgents

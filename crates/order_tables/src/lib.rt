@@ -6,3 +6,4 @@ pub mod orders;
 pub mod reserved;
 pub mod staged;
 pub mod texts;
+pub mod urgents;

@@ -55,8 +55,14 @@ pub(crate) const STAGED_OF_ORDER: &str =
 
 pub(crate) const ALL_STAGED: &str = "SELECT ord, gtin, lot, qty FROM staged ORDER BY rowid";
 
+pub(crate) const ADD_URGENT: &str = "INSERT INTO urgents (ord, act) VALUES (?1, ?2)";
+
+pub(crate) const URGENTS_OF: &str = "SELECT ord, act FROM urgents WHERE ord = ?1 ORDER BY rowid";
+
+pub(crate) const ALL_URGENTS: &str = "SELECT ord, act FROM urgents ORDER BY rowid";
+
 /// All of them. A connection keeps the plans of its last 64 texts, so the tables together have at most 60.
-pub const TEXTS: [&str; 19] = [
+pub const TEXTS: [&str; 22] = [
     CHANGE_LINE,
     ADD_LINE,
     LINES_OF_ORDER,
@@ -76,4 +82,7 @@ pub const TEXTS: [&str; 19] = [
     STAGED_OF_ITEM,
     STAGED_OF_ORDER,
     ALL_STAGED,
+    ADD_URGENT,
+    URGENTS_OF,
+    ALL_URGENTS,
 ];
