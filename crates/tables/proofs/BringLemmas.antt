@@ -1,23 +1,21 @@
--- What bringing books of schema 1 up makes of their tables.
-use Rattle.std.proofs.Common.{◌≡◌, ◌⊎◌, inl, inr, ℕ, ℤ, Bool, true, false, IsTrue, IfOk, IfErr, OnOk, OnErr, Result, Ok, Err, Option, Some, None, List, [], ◌∷◌, ◌++◌, ◌||◌, map, filter, drop, cond, refl, sym, ap, subst, ◌∙◌, arith}
+-- What bringing older books up makes of their tables.
+use Rattle.std.proofs.Common.{◌≡◌, ◌⊎◌, inl, inr, ℕ, ℤ, Bool, true, false, IfOk, IfErr, OnOk, Result, Ok, Err, Option, Some, None, List, [], ◌∷◌, ◌++◌, ◌||◌, map, filter, drop, cond, refl, sym, ap, subst, ◌∙◌}
 use Rattle.std.specs.Prelude.{if◌then◌else◌, option_map, find, bytes_eq}
 use Rattle.std.specs.List.{AllByRecursion, list_all, list_any}
 use Rattle.std.specs.Result.{IsErrAnd, IsOkAnd}
 use Rattle.std.proofs.lemmas.Bool.{cases_Bool}
 use Rattle.std.proofs.lemmas.Slice.Eq.{bytes_eq-Decides}
-use Rattle.sqlite.specs.Effect.{Database, IsDatabase}
+use Rattle.sqlite.specs.Effect.{Database}
 use Rattle.sqlite.specs.Held.{Held, state}
 use Rattle.sqlite.specs.Listing.{understood}
 use Rattle.sqlite.specs.Order.{Row, column}
 use Rattle.sqlite.specs.Schema.{Schema}
-use Rattle.sqlite.specs.State.{State, HasCleanDisk, IsLive, IsUnchanged, IsRolledBack, KeepsCommit, Shows}
-use Rattle.sqlite.specs.Steps.{FailsToCommit}
+use Rattle.sqlite.specs.State.{State, IsUnchanged}
 use Rattle.sqlite.specs.Table.{Table}
 use Rattle.sqlite.specs.Tree.{Trees}
 use Rattle.sqlite.specs.Change.{created}
-use Rattle.sqlite.specs.declared.error.Error.{Error}
 use Rattle.sqlite_catalog.specs.Listing.{IsSound}
-use Rattle.sqlite_keyed.proofs.ListLemmas.{all_both, all-filter}
+use Rattle.sqlite_keyed.proofs.ListLemmas.{all_both, all_weaker, all-filter, all-append}
 use Rattle.sqlite_tied.specs.Compute.{everything}
 use Rattle.sqlite_trees.specs.declared.store.Store.{Ghosts}
 use Rattle.commands.specs.Schemas.{with_least, asking_none}
@@ -26,81 +24,113 @@ use Rattle.commands.specs.declared.rows.LeastRow.{LeastRow}
 use Rattle.commands.specs.declared.rows.MetaRow.{MetaRow}
 use Rattle.keyed_rows.specs.Writes.{each_written}
 use Rattle.table_words.specs.Cells.{typed, is_the_number}
-use Rattle.table_words.specs.Found.{AreRows}
 use Rattle.table_words.specs.Rows.{IsRows}
-use Rattle.table_words.specs.Schema.{first_tables, the_tables, least_table, least_tree, meta_tree, items_tree, is_harmless}
+use Rattle.table_words.specs.Schema.{schema_with, the_tables, least_table, least_tree, urgents_table, urgents_tree, meta_tree, is_harmless}
 use Rattle.table_words.specs.Steps.{IsReady, Goes}
-use Rattle.table_words.specs.Typed.{Tables, tables_in, with_meta, with_least as with_least_row, same_item, item_key, ItemKey, is_meta_at, meta_in, same_meta, meta_key, meta_rows_rows, meta_at, is_item, is_least, Rule, first_rules, Keeps, AreTyped, AreTypedAt}
+use Rattle.table_words.specs.Typed.{Tables, tables_in, with_meta, with_least as with_least_row, is_meta_at, meta_in, same_meta, meta_key, meta_rows_rows, meta_at, is_item, is_least, is_urgent, Rule, first_rules, second_rules, Keeps, AreTyped, AreTypedAt}
 use Rattle.table_words.specs.declared.error.TableFault.{TableFault}
 use Rattle.table_words.specs.declared.error.TableFault.TheVariants.{Foreign as TableForeign}
-use Rattle.table_words.proofs.CallLemmas.{put_back, commit_back}
 use Rattle.table_words.proofs.StepLemmas.{tables_same, typed_same}
-use Rattle.tables.specs.Bringing.{first_tables_in, AreFirstTyped, AreItemsTyped, KeepsFirstRows, AreFirstRows, IsFirstReady, IsFirst, HasRoom, row_of, AsksNone, IsBrought, IsWritten, IsFilled}
+use Rattle.tables.specs.Bringing.{as_brought, older_tables_in, AreOlderTyped, AreFillersTyped, AreOlderRows, IsOlderReady, IsOlder, HasRoom, row_of, AsksNone, Fills, IsWritten, IsFilled}
 use Rattle.tables.specs.Growing.{Makes, IsGrown}
-use Rattle.tables.specs.Indexing.{KeepsRows, HasIndexes, IsIndexed}
-use Rattle.tables.specs.Older.{first_with, IsFirstSchema, HasOurs}
-use Rattle.tables.specs.Opening.{TellTables}
+use Rattle.tables.specs.Indexing.{HasIndexes, IsIndexed}
+use Rattle.tables.specs.Older.{number, older_tables, lacking_tables, older_with, KeepsOlderRows, HasOurs}
+use Rattle.tables.specs.declared.older.OlderBooks.{OlderBooks}
+use Rattle.tables.specs.declared.older.OlderBooks.TheVariants.{First, Second}
 use Rattle.tables.specs.Settling.{HasDayAt, HasRow}
-use Rattle.tables.specs.declared.layouts.TheConstants.{CREATE_LEAST}
-use Rattle.tables.proofs.OpenLemmas.{ready_tells}
+use Rattle.tables.specs.declared.layouts.TheConstants.{CREATE_LEAST, CREATE_URGENTS}
 use Rattle.tables.proofs.SettleLemmas.{each_itself}
 
--- ---- the tables that schema 1 lacks
+-- ---- the tables that they lack
 
-pub least_added : Makes (first_with []) CREATE_LEAST.now (least_table 0)
+-- schema 1 with the table of schema 2
+abbrev least_schema : Schema
+least_schema = created (older_with First []) (least_table 0)
+
+pub least_added : Makes (older_with First []) CREATE_LEAST.now (least_table 0)
 unfolding understood everything
 least_added = (refl, refl, refl, refl, (refl, refl))
 
--- schema 1 without the indexes of the books, and the table `least` behind its own
-abbrev pub second_schema : Schema
-second_schema = created (first_with []) (least_table 0)
+pub urgents_added : Makes least_schema CREATE_URGENTS.now (urgents_table 0)
+unfolding understood everything
+urgents_added = (refl, refl, refl, refl, (refl, refl))
 
-second_harmless : list_all is_harmless second_schema.indexes ≡ true
+pub urgents_behind : Makes (older_with Second []) CREATE_URGENTS.now (urgents_table 0)
+unfolding understood everything
+urgents_behind = (refl, refl, refl, refl, (refl, refl))
+
+-- the newest schema as it comes of theirs
+abbrev pub reached : OlderBooks → Schema
+reached First = created least_schema (urgents_table 0)
+reached Second = created (older_with Second []) (urgents_table 0)
+
+reached_harmless : (older : OlderBooks) → list_all is_harmless (reached older).indexes ≡ true
 unfolding Rattle.std.specs.Fmt.digits
-second_harmless = refl
+reached_harmless First = refl
+reached_harmless Second = refl
 
-pub bare_grown : (base : Trees) (s : State) → HasOurs base [] s → IsGrown base (first_with []) (first_with []) s
-bare_grown base s has = record { added = []; split = refl; schema_is = has.schema_is; sound = has.sound; kept = has.kept; empty = tt; inside = has.inside }
+pub bare_grown : (older : OlderBooks) (base : Trees) (s : State) → HasOurs older base [] s → IsGrown base (older_with older []) (older_with older []) s
+bare_grown First base s has = record { added = []; split = refl; schema_is = has.schema_is; sound = has.sound; kept = has.kept; empty = tt; inside = has.inside }
+bare_grown Second base s has = record { added = []; split = refl; schema_is = has.schema_is; sound = has.sound; kept = has.kept; empty = tt; inside = has.inside }
 
-pub grown_room : (base : Trees) (s : State) → AreFirstRows base → IsGrown base (first_with []) second_schema s → HasRoom base s
-grown_room base s rows made =
-    let last : AllByRecursion (λ (t : Table). s.now.trees t.tree ≡ []) (drop 14 second_schema.tables) = subst (λ (l : List Table). AllByRecursion (λ t. s.now.trees t.tree ≡ []) (drop 14 l)) (sym made.split) made.empty in
-    let kept : AllByRecursion (λ t. IsRows (s.now.trees t.tree)) first_tables =
-    all_both (λ t. IsRows (base t.tree)) (λ t. s.now.trees t.tree ≡ base t.tree) (λ t. IsRows (s.now.trees t.tree)) (λ t good is. subst IsRows (sym is) good) first_tables rows made.kept in
-    let least : IsRows (s.now.trees least_tree) = subst IsRows (sym last.0) (tt, tt) in
+abbrev IsEmpty : Trees → Table → Type 0
+IsEmpty trees t = trees t.tree ≡ []
+
+-- what was added is what they lacked
+added_empty : (older : OlderBooks) (base : Trees) (s : State) → IsGrown base (older_with older []) (reached older) s → AllByRecursion (IsEmpty s.now.trees) (lacking_tables older)
+added_empty First base s made = subst (λ (l : List Table). AllByRecursion (IsEmpty s.now.trees) (drop 14 l)) (sym made.split) made.empty
+added_empty Second base s made = subst (λ (l : List Table). AllByRecursion (IsEmpty s.now.trees) (drop 15 l)) (sym made.split) made.empty
+
+all_tables : (older : OlderBooks) (trees : Trees) → AreOlderRows older trees → AllByRecursion (IsEmpty trees) (lacking_tables older) → AllByRecursion (λ t. IsRows (trees t.tree)) the_tables
+all_tables older trees rows empty = joined older (all-append (λ t. IsRows (trees t.tree)) (older_tables older) (lacking_tables older) rows (all_weaker (IsEmpty trees) (λ t. IsRows (trees t.tree)) (λ t none. subst IsRows (sym none) (tt, tt)) (lacking_tables older) empty))
+  where
+    joined : (older : OlderBooks) → AllByRecursion (λ t. IsRows (trees t.tree)) (older_tables older ++ lacking_tables older) → AllByRecursion (λ t. IsRows (trees t.tree)) the_tables
+    joined First all = all
+    joined Second all = all
+
+-- the indexes of the keys, and nothing else
+abbrev bare : OlderBooks → Schema
+bare older = record { tables = []; indexes = (reached older).indexes; views = [] }
+
+reached_is : (older : OlderBooks) (s : State) → s.now.schema ≡ reached older → s.now.schema ≡ schema_with (bare older)
+reached_is First s is = is
+reached_is Second s is = is
+
+pub grown_room : (older : OlderBooks) (base : Trees) (s : State) → AreOlderRows older base → IsGrown base (older_with older []) (reached older) s → HasRoom older base s
+grown_room older base s rows made =
+    let empty = added_empty older base s made in
+    let is = reached_is older s made.schema_is in
+    let kept : AreOlderRows older s.now.trees =
+    all_both (λ t. IsRows (base t.tree)) (λ t. s.now.trees t.tree ≡ base t.tree) (λ t. IsRows (s.now.trees t.tree)) (λ t good same. subst IsRows (sym same) good) (older_tables older) rows made.kept in
     record {
       ready = record {
-        has = record { rest = record { tables = []; indexes = second_schema.indexes; views = [] }; is = made.schema_is; apart = refl; harmless = second_harmless };
-        rows = with_last (λ t. IsRows (s.now.trees t.tree)) first_tables (least_table least_tree) kept least;
-        sound = subst (λ t. IsSound t s.now.trees) made.schema_is made.sound;
+        has = record { rest = bare older; is = is; apart = refl; harmless = reached_harmless older };
+        rows = all_tables older s.now.trees kept empty;
+        sound = subst (λ t. IsSound t s.now.trees) is made.sound;
       };
       kept = made.kept;
-      empty = last.0;
+      empty = empty;
       inside = made.inside;
     }
-  where
-    with_last : (P : Table → Type 0) (ts : List Table) (t : Table) → AllByRecursion P ts → P t → AllByRecursion P (ts ++ t ∷ [])
-    with_last P [] t all p = (p, tt)
-    with_last P (x ∷ ts) t all p = (all.0, with_last P ts t all.1 p)
 
 -- ---- the row of `meta`
 
 -- the row that was read is that of the trees
-pub row_read : {R : Type 0} (rows : Result R TableFault) (items : R → List MetaRow) (r : Result MetaRow TableFault) (trees : Trees) → IfOk rows (λ x. find (λ _. true) (items x) ≡ meta_at 1 trees)
-    → OnOk rows (AllByRecursion (λ r. is_meta_at 1 r ≡ true) (meta_rows_rows 1 trees)) → IfOk r (λ m. IsOkAnd rows (λ x. find (λ _. true) (items x) ≡ Some m)) → IfOk r (HasRow 1 trees)
-row_read (Ok x) items (Ok m) trees is typed h = record { typed = typed; found = sym is ∙ h }
-row_read (Err e) items (Ok m) trees is typed h = absurd h
-row_read rows items (Err e) trees is typed h = tt
+pub row_read : {R : Type 0} (rows : Result R TableFault) (items : R → List MetaRow) (r : Result MetaRow TableFault) (version : ℕ) (trees : Trees) → IfOk rows (λ x. find (λ _. true) (items x) ≡ meta_at version trees)
+    → OnOk rows (AllByRecursion (λ r. is_meta_at version r ≡ true) (meta_rows_rows 1 trees)) → IfOk r (λ m. IsOkAnd rows (λ x. find (λ _. true) (items x) ≡ Some m)) → IfOk r (HasRow version trees)
+row_read (Ok x) items (Ok m) version trees is typed h = record { typed = typed; found = sym is ∙ h }
+row_read (Err e) items (Ok m) version trees is typed h = absurd h
+row_read rows items (Err e) version trees is typed h = tt
 
 -- and where none is read, the trees have none
-pub no_row : {R : Type 0} (rows : Result R TableFault) (items : R → List MetaRow) (r : Result MetaRow TableFault) (trees : Trees) → IfOk rows (λ x. find (λ _. true) (items x) ≡ meta_at 1 trees)
-    → IfErr rows (λ e. e ≡ TableForeign → ¬ AllByRecursion (λ r. is_meta_at 1 r ≡ true) (meta_rows_rows 1 trees)) → IfErr r (λ e. IsErrAnd rows (λ x. x ≡ e) ⊎ IsOkAnd rows (λ x. find (λ _. true) (items x) ≡ None))
-    → IfErr r (λ e. e ≡ TableForeign → (day : ℤ) → ¬ HasDayAt 1 trees day)
-no_row rows items (Ok m) trees is other h = tt
-no_row (Ok x) items (Err e) trees is other (inl h) = absurd h
-no_row (Ok x) items (Err e) trees is other (inr none) = λ foreign day has. let no : None ≡ Some day = ap (option_map (λ (m : MetaRow). m.day)) (sym none ∙ is) ∙ has.found in cc
-no_row (Err x) items (Err e) trees is other (inl same) = λ foreign day has. other (same ∙ foreign) has.typed
-no_row (Err x) items (Err e) trees is other (inr h) = absurd h
+pub no_row : {R : Type 0} (rows : Result R TableFault) (items : R → List MetaRow) (r : Result MetaRow TableFault) (version : ℕ) (trees : Trees) → IfOk rows (λ x. find (λ _. true) (items x) ≡ meta_at version trees)
+    → IfErr rows (λ e. e ≡ TableForeign → ¬ AllByRecursion (λ r. is_meta_at version r ≡ true) (meta_rows_rows 1 trees)) → IfErr r (λ e. IsErrAnd rows (λ x. x ≡ e) ⊎ IsOkAnd rows (λ x. find (λ _. true) (items x) ≡ None))
+    → IfErr r (λ e. e ≡ TableForeign → (day : ℤ) → ¬ HasDayAt version trees day)
+no_row rows items (Ok m) version trees is other h = tt
+no_row (Ok x) items (Err e) version trees is other (inl h) = absurd h
+no_row (Ok x) items (Err e) version trees is other (inr none) = λ foreign day has. let no : None ≡ Some day = ap (option_map (λ (m : MetaRow). m.day)) (sym none ∙ is) ∙ has.found in cc
+no_row (Err x) items (Err e) version trees is other (inl same) = λ foreign day has. other (same ∙ foreign) has.typed
+no_row (Err x) items (Err e) version trees is other (inr h) = absurd h
 
 pub on_row : {R : Type 0} (P : Type 0) (rows : Result R TableFault) (items : R → List MetaRow) (r : Result MetaRow TableFault) → OnOk rows P → IfOk r (λ m. IsOkAnd rows (λ x. find (λ _. true) (items x) ≡ Some m)) → OnOk r P
 on_row P (Ok x) items (Ok m) h is = h
@@ -108,17 +138,22 @@ on_row P (Err e) items (Ok m) h is = absurd is
 on_row P rows items (Err e) h is = tt
 
 -- the day hangs on the rows of `meta` alone
-pub same_day : (a b : Trees) (day : ℤ) → a meta_tree ≡ b meta_tree → HasDayAt 1 a day → HasDayAt 1 b day
-same_day a b day same has = record {
-  typed = subst (λ (rows : List Row). AllByRecursion (λ r. is_meta_at 1 r ≡ true) (filter (λ r. is_the_number 1 (column r 0)) rows)) same has.typed;
-  found = subst (λ (rows : List Row). option_map (λ (m : MetaRow). m.day) (find (λ s. same_meta 1 (meta_key s)) (typed (is_meta_at 1) meta_in rows)) ≡ Some day) same has.found;
+pub same_day : (version : ℕ) (a b : Trees) (day : ℤ) → a meta_tree ≡ b meta_tree → HasDayAt version a day → HasDayAt version b day
+same_day version a b day same has = record {
+  typed = subst (λ (rows : List Row). AllByRecursion (λ r. is_meta_at version r ≡ true) (filter (λ r. is_the_number 1 (column r 0)) rows)) same has.typed;
+  found = subst (λ (rows : List Row). option_map (λ (m : MetaRow). m.day) (find (λ s. same_meta 1 (meta_key s)) (typed (is_meta_at version) meta_in rows)) ≡ Some day) same has.found;
 }
 
-pub day_of_row : (trees : Trees) (m : MetaRow) → HasRow 1 trees m → HasDayAt 1 trees m.day
-day_of_row trees m has = record { typed = has.typed; found = ap (option_map (λ (x : MetaRow). x.day)) has.found }
+pub day_of_row : (version : ℕ) (trees : Trees) (m : MetaRow) → HasRow version trees m → HasDayAt version trees m.day
+day_of_row version trees m has = record { typed = has.typed; found = ap (option_map (λ (x : MetaRow). x.day)) has.found }
 
-pub same_items : (a b : Trees) → a items_tree ≡ b items_tree → AreItemsTyped a → AreItemsTyped b
-same_items a b same are = subst (AllByRecursion (λ r. is_item r ≡ true)) same are
+pub meta_kept : (older : OlderBooks) (old new : Trees) → KeepsOlderRows older old new → new meta_tree ≡ old meta_tree
+meta_kept First old new kept = kept.0
+meta_kept Second old new kept = kept.0
+
+pub same_fillers : (older : OlderBooks) (old new : Trees) → KeepsOlderRows older old new → AreFillersTyped older old → AreFillersTyped older new
+same_fillers First old new kept are = subst (AllByRecursion (λ r. is_item r ≡ true)) (sym kept.1.0) are
+same_fillers Second old new kept are = tt
 
 -- what is wanted of all is wanted of those that a test lets through
 pub all_stored : (rows : List Row) → AllByRecursion (λ r. is_item r ≡ true) rows → AllByRecursion (λ r. is_item r ≡ true) (filter (λ r. true) rows)
@@ -126,15 +161,22 @@ all_stored rows all = all-filter (λ r. is_item r ≡ true) (λ r. true) rows al
 
 -- ---- the tables as they read
 
-pub first_same : (old new : Trees) → KeepsFirstRows old new → first_tables_in new ≡ first_tables_in old
-first_same old new same = rw (tables_in, same.0, same.1.0, same.1.1.0, same.1.1.1.0, same.1.1.1.1.0, same.1.1.1.1.1.0, same.1.1.1.1.1.1.0, same.1.1.1.1.1.1.1.0, same.1.1.1.1.1.1.1.1.0, same.1.1.1.1.1.1.1.1.1.0, same.1.1.1.1.1.1.1.1.1.1.0, same.1.1.1.1.1.1.1.1.1.1.1.0, same.1.1.1.1.1.1.1.1.1.1.1.1.0, same.1.1.1.1.1.1.1.1.1.1.1.1.1.0) refl
+pub older_same : (older : OlderBooks) (old new : Trees) → KeepsOlderRows older old new → older_tables_in older new ≡ older_tables_in older old
+older_same First old new same = rw (tables_in, same.0, same.1.0, same.1.1.0, same.1.1.1.0, same.1.1.1.1.0, same.1.1.1.1.1.0, same.1.1.1.1.1.1.0, same.1.1.1.1.1.1.1.0, same.1.1.1.1.1.1.1.1.0, same.1.1.1.1.1.1.1.1.1.0, same.1.1.1.1.1.1.1.1.1.1.0, same.1.1.1.1.1.1.1.1.1.1.1.0, same.1.1.1.1.1.1.1.1.1.1.1.1.0, same.1.1.1.1.1.1.1.1.1.1.1.1.1.0) refl
+older_same Second old new same = rw (tables_in, same.0, same.1.0, same.1.1.0, same.1.1.1.0, same.1.1.1.1.0, same.1.1.1.1.1.0, same.1.1.1.1.1.1.0, same.1.1.1.1.1.1.1.0, same.1.1.1.1.1.1.1.1.0, same.1.1.1.1.1.1.1.1.1.0, same.1.1.1.1.1.1.1.1.1.1.0, same.1.1.1.1.1.1.1.1.1.1.1.0, same.1.1.1.1.1.1.1.1.1.1.1.1.0, same.1.1.1.1.1.1.1.1.1.1.1.1.1.0, same.1.1.1.1.1.1.1.1.1.1.1.1.1.1.0) refl
 
-pub first_typed_same : (old new : Trees) → KeepsFirstRows old new → AreFirstTyped old → AreFirstTyped new
-first_typed_same old new same are = all_both (Keeps old) (λ (t : Rule). new t.tree ≡ old t.tree) (Keeps new) (λ t kept is. subst (AllByRecursion (λ r. t.is r ≡ true)) (sym is) kept) (first_rules 1) are same
+module _ (old new : Trees) where
+  still_typed : (rules : List Rule) → AllByRecursion (λ (t : Rule). new t.tree ≡ old t.tree) rules → AllByRecursion (Keeps old) rules → AllByRecursion (Keeps new) rules
+  still_typed rules same are = all_both (Keeps old) (λ (t : Rule). new t.tree ≡ old t.tree) (Keeps new) (λ t kept is. subst (AllByRecursion (λ r. t.is r ≡ true)) (sym is) kept) rules are same
 
--- under the newest number, and with no row in `least`, they read as those of schema 1
-seen_first : (trees : Trees) (row : MetaRow) → trees least_tree ≡ [] → meta_at 1 trees ≡ Some row → with_meta row (tables_in trees) ≡ first_tables_in trees
-seen_first trees row none found = rw (tables_in, none, found) refl
+  pub older_typed_same : (older : OlderBooks) → KeepsOlderRows older old new → AreOlderTyped older old → AreOlderTyped older new
+  older_typed_same First same are = still_typed (first_rules 1) same are
+  older_typed_same Second same are = still_typed (second_rules 2) same are
+
+-- under the newest number, and with no rows in the tables that they lack, they read as theirs
+seen_older : (older : OlderBooks) (trees : Trees) (row : MetaRow) → AllByRecursion (IsEmpty trees) (lacking_tables older) → meta_at (number older) trees ≡ Some row → with_meta row (tables_in trees) ≡ older_tables_in older trees
+seen_older First trees row none found = rw (tables_in, none.0, none.1.0, found) refl
+seen_older Second trees row none found = rw (tables_in, none.0, found) refl
 
 -- what is found under a key after these rows were put
 looked : List LeastRow → List ℕ → Option LeastRow → Option LeastRow
@@ -171,50 +213,62 @@ asked_rows (i ∷ items) g = elim (cases_Bool (bytes_eq g i.gtin)) [
   | inr e ↦ rw e (asked_rows items g)
 ]
 
--- with a row for each item, they are those of schema 1 with 0 days for each
-filled_least : (trees : Trees) (rows : List LeastRow) → AsksNone trees rows → each_written with_least_row rows (first_tables_in trees) ≡ with_least (first_tables_in trees)
-filled_least trees rows asks =
-    let each : (g : List ℕ) → looked rows g None ≡ asking_none ((tables_in trees).item g) = λ g.
-    ap (λ l. looked l g None) asks.2 ∙ looked_rows asks.0 g None ∙ sym (asked_rows asks.0 g) ∙ ap asking_none (asks.1.found g refl) in
-    least_written rows (first_tables_in trees) ∙ (λ j. record (first_tables_in trees) { least = λ g. each g j })
+-- with a row for each item, they have 0 days for each
+filled_least : (t : Tables) (trees : Trees) (rows : List LeastRow) → t.item ≡ (tables_in trees).item → AsksNone trees rows → ((g : List ℕ) → t.least g ≡ None) → each_written with_least_row rows t ≡ with_least t
+filled_least t trees rows items asks none =
+    let each : (g : List ℕ) → looked rows g (t.least g) ≡ asking_none (t.item g) = λ g.
+    ap (looked rows g) (none g) ∙ ap (λ l. looked l g None) asks.2 ∙ looked_rows asks.0 g None ∙ sym (asked_rows asks.0 g) ∙ ap asking_none (asks.1.found g refl ∙ sym (ap (λ f. f g) items)) in
+    least_written rows t ∙ (λ j. record t { least = λ g. each g j })
+
+-- so with the rows that are added they are the newest tables
+filled_older : (older : OlderBooks) (trees : Trees) (rows : List LeastRow) → Fills older trees rows → each_written with_least_row rows (older_tables_in older trees) ≡ as_brought older (older_tables_in older trees)
+filled_older First trees rows fills = filled_least (older_tables_in First trees) trees rows refl fills (λ g. refl)
+filled_older Second trees rows fills = ap (λ l. each_written with_least_row l (older_tables_in Second trees)) fills
 
 -- ---- what is written
 
-typed_before : (base old : Trees) → KeepsFirstRows base old → old least_tree ≡ [] → AreFirstTyped base → AreTypedAt 1 old
-typed_before base old kept none are = with_rule (first_rules 1) (first_typed_same base old kept are)
-  where
-    with_rule : (rules : List Rule) → AllByRecursion (Keeps old) rules → AllByRecursion (Keeps old) (rules ++ record { tree = least_tree; is = is_least } ∷ [])
-    with_rule [] all = (subst (AllByRecursion (λ r. is_least r ≡ true)) (sym none) tt, tt)
-    with_rule (r ∷ rules) all = (all.0, with_rule rules all.1)
+none_typed : (trees : Trees) (rule : Rule) → trees rule.tree ≡ [] → Keeps trees rule
+none_typed trees rule none = subst (AllByRecursion (λ r. rule.is r ≡ true)) (sym none) tt
 
-pub written : (base : Trees) (old mid new : State) (row : MetaRow) (rows : List LeastRow) → HasRoom base old → HasRow 1 old.now.trees row → AsksNone old.now.trees rows → Goes (with_meta row) old mid → (AreTypedAt 1 old.now.trees → AreTyped mid.now.trees)
-    → Goes (each_written with_least_row rows) mid new → IsWritten base new
-written base old mid new row rows room has asks raised typed added = record {
+abbrev least_rule : Rule
+least_rule = record { tree = least_tree; is = is_least }
+
+abbrev urgent_rule : Rule
+urgent_rule = record { tree = urgents_tree; is = is_urgent }
+
+typed_before : (older : OlderBooks) (trees : Trees) → AllByRecursion (IsEmpty trees) (lacking_tables older) → AreOlderTyped older trees → AreTypedAt (number older) trees
+typed_before First trees none are =
+    all-append (Keeps trees) (second_rules 1) (urgent_rule ∷ []) (all-append (Keeps trees) (first_rules 1) (least_rule ∷ []) are (none_typed trees least_rule none.0, tt)) (none_typed trees urgent_rule none.1.0, tt)
+typed_before Second trees none are = all-append (Keeps trees) (second_rules 2) (urgent_rule ∷ []) are (none_typed trees urgent_rule none.0, tt)
+
+pub written : (older : OlderBooks) (base : Trees) (old mid new : State) (row : MetaRow) (rows : List LeastRow) → HasRoom older base old → HasRow (number older) old.now.trees row → Fills older old.now.trees rows
+    → Goes (with_meta row) old mid → (AreTypedAt (number older) old.now.trees → AreTyped mid.now.trees) → Goes (each_written with_least_row rows) mid new → IsWritten older base new
+written older base old mid new row rows room has fills raised typed added = record {
   ready = added.ready;
   brought = record {
-    tables = added.tables ∙ ap (each_written with_least_row rows) (raised.tables ∙ seen_first old.now.trees row room.empty has.found) ∙ filled_least old.now.trees rows asks
-        ∙ ap with_least (first_same base old.now.trees room.kept);
-    typed = λ are. added.typed (typed (typed_before base old.now.trees room.kept room.empty are));
+    tables = added.tables ∙ ap (each_written with_least_row rows) (raised.tables ∙ seen_older older old.now.trees row room.empty has.found) ∙ filled_older older old.now.trees rows fills
+        ∙ ap (as_brought older) (older_same older base old.now.trees room.kept);
+    typed = λ are. added.typed (typed (typed_before older old.now.trees room.empty (older_typed_same base old.now.trees older room.kept are)));
   };
   inside = added.mode ∙ raised.mode ∙ room.inside;
 }
 
-pub same_asked : (a b : Database) (rows : List LeastRow) → b ≡ a → AsksNone a.trees rows → AsksNone b.trees rows
-same_asked a b rows is asks = subst (λ (d : Database). AsksNone d.trees rows) (sym is) asks
+pub same_filling : (older : OlderBooks) (a b : Database) (rows : List LeastRow) → b ≡ a → Fills older a.trees rows → Fills older b.trees rows
+same_filling older a b rows is fills = subst (λ (d : Database). Fills older d.trees rows) (sym is) fills
 
-pub same_row : (a b : Database) (row : MetaRow) → b ≡ a → HasRow 1 a.trees row → HasRow 1 b.trees row
-same_row a b row is has = subst (λ (d : Database). HasRow 1 d.trees row) (sym is) has
+pub same_row : (version : ℕ) (a b : Database) (row : MetaRow) → b ≡ a → HasRow version a.trees row → HasRow version b.trees row
+same_row version a b row is has = subst (λ (d : Database). HasRow version d.trees row) (sym is) has
 
-pub same_room : (base : Trees) (old new : State) → HasRoom base old → IsUnchanged old new → HasRoom base new
-same_room base old new room same = record {
+pub same_room : (older : OlderBooks) (base : Trees) (old new : State) → HasRoom older base old → IsUnchanged old new → HasRoom older base new
+same_room older base old new room same = record {
   ready = subst IsReady (sym same.0.now_is) room.ready;
-  kept = subst (λ (d : Database). KeepsFirstRows base d.trees) (sym same.0.now_is) room.kept;
-  empty = subst (λ (d : Database). d.trees least_tree ≡ []) (sym same.0.now_is) room.empty;
+  kept = subst (λ (d : Database). KeepsOlderRows older base d.trees) (sym same.0.now_is) room.kept;
+  empty = subst (λ (d : Database). AllByRecursion (IsEmpty d.trees) (lacking_tables older)) (sym same.0.now_is) room.empty;
   inside = same.0.mode ∙ room.inside;
 }
 
-pub filled : (base : Trees) (mid new : State) → IsWritten base mid → IsIndexed mid new → HasIndexes new.now.schema → IsFilled base new
-filled base mid new it made indexes = record {
+pub filled : (older : OlderBooks) (base : Trees) (mid new : State) → IsWritten older base mid → IsIndexed mid new → HasIndexes new.now.schema → IsFilled older base new
+filled older base mid new it made indexes = record {
   written = record {
     ready = made.ready;
     brought = record {
@@ -228,14 +282,10 @@ filled base mid new it made indexes = record {
 
 -- ---- the transaction
 
--- one that begins over books of schema 1
-pub begins_first : {S : Type 0} (g : Ghosts S) (old begun : Held S) → begun ≡ record old { in_transaction = true } → IsFirstReady (state g old).now → IsFirst (state g old).now.trees (state g begun)
-begins_first g old begun is ready = rw is (record {
+-- one that begins over older books
+pub begins_older : {S : Type 0} (g : Ghosts S) (old begun : Held S) (older : OlderBooks) → begun ≡ record old { in_transaction = true } → IsOlderReady older (state g old).now → IsOlder older (state g old).now.trees (state g begun)
+begins_older g old begun older is ready = rw is (record {
   ours = ready.has.ours;
-  has = record { schema_is = ready.has.is; apart = ready.has.apart; sound = ready.sound; kept = each_itself (state g old).now.trees first_tables; inside = refl };
+  has = record { schema_is = ready.has.is; apart = ready.has.apart; sound = ready.sound; kept = each_itself (state g old).now.trees (older_tables older); inside = refl };
   rows = ready.rows;
 })
-
-pub on_committed : {X E : Type 0} (r : Result X E) (P : Type 0) → P → OnOk r P
-on_committed (Ok x) P p = p
-on_committed (Err e) P p = tt

@@ -1,4 +1,4 @@
--- What a statement that drops an index of the books leaves of books of schema 1.
+-- What a statement that drops an index of the books leaves of older books.
 use Rattle.std.proofs.Common.{◌≡◌, ◌+◌, inl, inr, ℕ, Bool, true, false, not, None, Some, slice_get, Option, List, [], ◌∷◌, ◌++◌, filter, length, Ok, refl, sym, ap, subst, ◌∙◌, append_assoc, arith}
 use Rattle.std.proofs.lemmas.Bool.{cases_Bool, and_parts, or_cases, or_parts, not-true, eq-eqb, ne_eqb, ltb-true}
 use Rattle.std.proofs.lemmas.Grind.{common_steps}
@@ -23,8 +23,9 @@ use Rattle.table_words.specs.Found.{no_two}
 use Rattle.table_words.proofs.WriteLemmas.{went, same_value}
 use Rattle.tables.specs.Indexing.{plan}
 use Rattle.tables.specs.Layouts.{PlainIndex, is_of}
-use Rattle.table_words.specs.Schema.{first_tables}
-use Rattle.tables.specs.Older.{first_keys, first_with, our_indexes, is_ours, same_named, AreOurs, HasOurs, lacks, HasFewer, drop_found, Drops}
+use Rattle.tables.specs.Older.{older_tables, older_keys, last_tree, older_with, our_indexes, is_index_of_books, is_ours, same_named, AreOurs, KeepsOlderRows, HasOurs, lacks, HasFewer, drop_found, Drops}
+use Rattle.tables.specs.declared.older.OlderBooks.{OlderBooks}
+use Rattle.tables.specs.declared.older.OlderBooks.TheVariants.{First, Second}
 
 -- ---- what a filter keeps
 
@@ -54,8 +55,8 @@ once_filtered same p (x ∷ xs) h =
     let none = none_filtered (same x) p xs (not-true _ two.0) in
     elim (cases_Bool (p x)) [ inl e ↦ rw (e, none) more | inr e ↦ rw e more ]
 
-ours_filtered : (p : Index → Bool) (xs : List Index) → AreOurs xs → AreOurs (filter p xs)
-ours_filtered p xs are = record { each = all_filtered is_ours p xs are.each; once = once_filtered same_named p xs are.once }
+ours_filtered : (older : OlderBooks) (p : Index → Bool) (xs : List Index) → AreOurs older xs → AreOurs older (filter p xs)
+ours_filtered older p xs are = record { each = all_filtered (is_ours older) p xs are.each; once = once_filtered same_named p xs are.once }
 
 -- ---- the names of the indexes of the books
 
@@ -82,9 +83,9 @@ unnamed (l ∷ ls) i xs gone among = elim (or_cases (is_of l i) (list_any (λ k.
 ]
 
 -- where none has one of the names, there is none
-pub nothing_left : (xs : List Index) → AreOurs xs → AllByRecursion (λ l. lacks l.0 xs ≡ true) our_indexes → xs ≡ []
-nothing_left [] are gone = refl
-nothing_left (i ∷ xs) are gone = absurd (unnamed our_indexes i xs gone (and_parts (nat_lt 25 i.tree) _ (and_parts (is_ours i) (list_all is_ours xs) are.each).0).1)
+pub nothing_left : (older : OlderBooks) (xs : List Index) → AreOurs older xs → AllByRecursion (λ l. lacks l.0 xs ≡ true) our_indexes → xs ≡ []
+nothing_left older [] are gone = refl
+nothing_left older (i ∷ xs) are gone = absurd (unnamed our_indexes i xs gone (and_parts (nat_lt (last_tree older) i.tree) _ (and_parts (is_ours older i) (list_all (is_ours older) xs) are.each).0).1)
 
 -- ---- the index that is found
 
@@ -94,7 +95,10 @@ at_front front x xs n is = grind (arith, common_steps, gets)
 one_longer : (front : List Index) (x : Index) (n : ℕ) → length front ≡ n → length (front ++ x ∷ []) ≡ n + 1
 one_longer front x n is = grind (arith, common_steps)
 
-module _ (name : List ℕ) (named : (i : Index) → is_ours i ≡ true → same_name i.name name ≡ true → i.name ≡ name) where
+module _ (older : OlderBooks) (name : List ℕ) (named : (i : Index) → is_index_of_books i ≡ true → same_name i.name name ≡ true → i.name ≡ name) where
+  named_ours : (i : Index) → is_ours older i ≡ true → same_name i.name name ≡ true → i.name ≡ name
+  named_ours i ours = named i (and_parts (nat_lt (last_tree older) i.tree) _ ours).1
+
   none_found : (n : ℕ) (xs : List Index) → position_from (λ i. same_name i.name name) n xs ≡ None → lacks name xs ≡ true
   none_found n [] none = refl
   none_found n (x ∷ xs) none = elim (cases_Bool (same_name x.name name)) [
@@ -102,21 +106,21 @@ module _ (name : List ℕ) (named : (i : Index) → is_ours i ≡ true → same_
     | inr past ↦ rw past (none_found (n + 1) xs (rw past at none))
   ]
 
-  none_after : (x : Index) (xs : List Index) → x.name ≡ name → list_all is_ours xs ≡ true → list_any (same_named x) xs ≡ false → lacks name xs ≡ true
+  none_after : (x : Index) (xs : List Index) → x.name ≡ name → list_all (is_ours older) xs ≡ true → list_any (same_named x) xs ≡ false → lacks name xs ≡ true
   none_after x [] is each apart = refl
   none_after x (y ∷ ys) is each apart =
-      let ours = and_parts (is_ours y) (list_all is_ours ys) each in
+      let ours = and_parts (is_ours older y) (list_all (is_ours older) ys) each in
       let two = or_parts (same_named x y) (list_any (same_named x) ys) apart in
       elim (cases_Bool (same_name y.name name)) [
-        | inl there ↦ absurd (let same = (bytes_eq-Decides x.name y.name).1 (is ∙ sym (named y ours.0 there)) in let no = two.0 in cc)
+        | inl there ↦ absurd (let same = (bytes_eq-Decides x.name y.name).1 (is ∙ sym (named_ours y ours.0 there)) in let no = two.0 in cc)
         | inr past ↦ rw past (none_after x ys is ours.1 two.1)
       ]
 
-  finds : (front xs : List Index) (n at : ℕ) → length front ≡ n → list_all is_ours xs ≡ true → no_two same_named xs ≡ true → position_from (λ i. same_name i.name name) n xs ≡ Some at
-      → (i : Index) × (slice_get (front ++ xs) at ≡ Some i) × (is_ours i ≡ true) × (lacks name (filter (λ j. not (j.tree == i.tree)) xs) ≡ true)
+  finds : (front xs : List Index) (n at : ℕ) → length front ≡ n → list_all (is_ours older) xs ≡ true → no_two same_named xs ≡ true → position_from (λ i. same_name i.name name) n xs ≡ Some at
+      → (i : Index) × (slice_get (front ++ xs) at ≡ Some i) × (is_ours older i ≡ true) × (lacks name (filter (λ j. not (j.tree == i.tree)) xs) ≡ true)
   finds front [] n at is each once found = absurd cc
   finds front (x ∷ xs) n at is each once found =
-      let ours = and_parts (is_ours x) (list_all is_ours xs) each in
+      let ours = and_parts (is_ours older x) (list_all (is_ours older) xs) each in
       let two = and_parts (not (list_any (same_named x) xs)) (no_two same_named xs) once in
       elim (cases_Bool (same_name x.name name)) [
         | inl here ↦
@@ -124,7 +128,7 @@ module _ (name : List ℕ) (named : (i : Index) → is_ours i ≡ true → same_
               x,
               subst (λ k. slice_get (front ++ x ∷ xs) k ≡ Some x) place (at_front front x xs n is),
               ours.0,
-              rw (eq-eqb x.tree x.tree refl) (all_filtered (λ i. not (same_name i.name name)) _ xs (none_after x xs (named x ours.0 here) ours.1 (not-true _ two.0))),
+              rw (eq-eqb x.tree x.tree refl) (all_filtered (λ i. not (same_name i.name name)) _ xs (none_after x xs (named_ours x ours.0 here) ours.1 (not-true _ two.0))),
             )
         | inr past ↦
             let more = finds (front ++ x ∷ []) xs (n + 1) at (one_longer front x n is) ours.1 two.1 (rw past at found) in (
@@ -137,24 +141,26 @@ module _ (name : List ℕ) (named : (i : Index) → is_ours i ≡ true → same_
 
 -- ---- the schema without it
 
-low_keys : list_all (λ i. nat_lt i.tree 26) first_keys ≡ true
-low_keys = refl
+low_keys : (older : OlderBooks) → list_all (λ i. nat_lt i.tree (last_tree older + 1)) (older_keys older) ≡ true
+low_keys First = refl
+low_keys Second = refl
 
-keys_stay : (t : ℕ) → nat_lt 25 t ≡ true → AllByRecursion (λ i. not (i.tree == t) ≡ true) first_keys
-keys_stay t behind = all_weaker (λ i. nat_lt i.tree 26 ≡ true) (λ i. not (i.tree == t) ≡ true) (λ i low. let h = ltb-true i.tree 26 low in let k = ltb-true 25 t behind in rw (ne_eqb i.tree t (λ e. omega arith)) refl)
-    first_keys (all_from_test (λ i. nat_lt i.tree 26) first_keys low_keys)
+keys_stay : (older : OlderBooks) (t : ℕ) → nat_lt (last_tree older) t ≡ true → AllByRecursion (λ i. not (i.tree == t) ≡ true) (older_keys older)
+keys_stay older t behind = all_weaker (λ i. nat_lt i.tree (last_tree older + 1) ≡ true) (λ i. not (i.tree == t) ≡ true)
+    (λ i low. let h = ltb-true i.tree (last_tree older + 1) low in let k = ltb-true (last_tree older) t behind in rw (ne_eqb i.tree t (λ e. omega arith)) refl)
+    (older_keys older) (all_from_test (λ i. nat_lt i.tree (last_tree older + 1)) (older_keys older) (low_keys older))
 
-dropped : (ours : List Index) (t : ℕ) → nat_lt 25 t ≡ true → without_index (first_with ours) t ≡ first_with (filter (λ i. not (i.tree == t)) ours)
-dropped ours t behind = ap (λ (l : List Index). let s : Schema = record { tables = first_tables; indexes = l; views = [] } in s) (front_stays (λ i. not (i.tree == t)) first_keys ours (keys_stay t behind))
+dropped : (older : OlderBooks) (ours : List Index) (t : ℕ) → nat_lt (last_tree older) t ≡ true → without_index (older_with older ours) t ≡ older_with older (filter (λ i. not (i.tree == t)) ours)
+dropped older ours t behind = ap (λ (l : List Index). let s : Schema = record { tables = older_tables older; indexes = l; views = [] } in s) (front_stays (λ i. not (i.tree == t)) (older_keys older) ours (keys_stay older t behind))
 
 -- ---- what the statement leaves
 
-module _ (text name : List ℕ) (m : Drops text name) (base : Trees) (ours : List Index) (old new : State) (count : ℕ) (has : HasOurs base ours old) (h : ExecutesInside 0 text [] old new (Ok count)) where
+module _ (text name : List ℕ) (m : Drops text name) (older : OlderBooks) (base : Trees) (ours : List Index) (old new : State) (count : ℕ) (has : HasOurs older base ours old) (h : ExecutesInside 0 text [] old new (Ok count)) where
   -- there was none
-  was_none : position_from (λ i. same_name i.name name) 12 ours ≡ None → HasFewer base ours name new
+  was_none : position_from (λ i. same_name i.name name) (length (older_keys older)) ours ≡ None → HasFewer older base ours name new
   was_none none =
-      let is = m.means ours ∙ ap (λ o. Ok (plan m.size (drop_found o))) none in
-      let ran = runs_as text [] old new (first_with ours) has.schema_is Nothing (ap command_of is) (subst IsPlain (sym is) (refl, refl)) count h.0 in
+      let is = m.means older ours ∙ ap (λ o. Ok (plan m.size (drop_found o))) none in
+      let ran = runs_as text [] old new (older_with older ours) has.schema_is Nothing (ap command_of is) (subst IsPlain (sym is) (refl, refl)) count h.0 in
       let now : new.now ≡ old.now = ran.0.0.now_is in
       record {
         left = ours;
@@ -162,48 +168,48 @@ module _ (text name : List ℕ) (m : Drops text name) (base : Trees) (ours : Lis
           schema_is = ap (λ (d : Database). d.schema) now ∙ has.schema_is;
           apart = has.apart;
           sound = subst IsDatabase (sym now) has.sound;
-          kept = subst (λ (d : Database). AllByRecursion (λ t. d.trees t.tree ≡ base t.tree) first_tables) (sym now) has.kept;
+          kept = subst (λ (d : Database). KeepsOlderRows older base d.trees) (sym now) has.kept;
           inside = h.1.mode;
         };
-        gone = none_found name m.named 12 ours none;
+        gone = none_found older name m.named (length (older_keys older)) ours none;
         fewer = λ other lack. lack;
       }
 
   -- it was dropped
-  was_dropped : (at : ℕ) → position_from (λ i. same_name i.name name) 12 ours ≡ Some at → HasFewer base ours name new
+  was_dropped : (at : ℕ) → position_from (λ i. same_name i.name name) (length (older_keys older)) ours ≡ Some at → HasFewer older base ours name new
   was_dropped at found =
-      let is = m.means ours ∙ ap (λ o. Ok (plan m.size (drop_found o))) found in
-      let w = runs_as text [] old new (first_with ours) has.schema_is (DropIndex at) (ap command_of is) (subst IsPlain (sym is) (refl, refl)) count h.0 in
-      let it = finds name m.named first_keys ours 12 at refl has.apart.each has.apart.once found in
+      let is = m.means older ours ∙ ap (λ o. Ok (plan m.size (drop_found o))) found in
+      let w = runs_as text [] old new (older_with older ours) has.schema_is (DropIndex at) (ap command_of is) (subst IsPlain (sym is) (refl, refl)) count h.0 in
+      let it = finds older name m.named (older_keys older) ours (length (older_keys older)) at refl has.apart.each has.apart.once found in
       let i : Index = it.0 in
       let there : slice_get old.now.schema.indexes at ≡ Some i = ap (λ (s : Schema). slice_get s.indexes at) has.schema_is ∙ it.1 in
-      let behind : nat_lt 25 i.tree ≡ true = (and_parts (nat_lt 25 i.tree) _ it.2).0 in
+      let behind : nat_lt (last_tree older) i.tree ≡ true = (and_parts (nat_lt (last_tree older) i.tree) _ it.2).0 in
       let all = went (subst (λ o. AtPlace (λ (x : Index). Defines (mode_of old) (Leaves (without_index old.now.schema x.tree) old.now.trees (RefusesToAlter (RefusesToDropIndex x)))) o (Ok (w.tally, new.now))) there w.changed) in
       let now : new.now ≡ all.0 = ap (λ (p : Tally × Database). p.1) (same_value all.2) in
       let left = filter (λ (j : Index). not (j.tree == i.tree)) ours in
-      let rows : AllByRecursion (λ t. all.0.trees t.tree ≡ old.now.trees t.tree) first_tables = subst (λ (s : Schema). AllByRecursion (λ t. all.0.trees t.tree ≡ old.now.trees t.tree) s.tables) (ap (λ s. without_index s i.tree) has.schema_is) all.1.1 in
-      let kept : AllByRecursion (λ t. all.0.trees t.tree ≡ base t.tree) first_tables =
-      all_both _ (λ t. old.now.trees t.tree ≡ base t.tree) (λ t. all.0.trees t.tree ≡ base t.tree) (λ t p q. p ∙ q) first_tables rows has.kept in
+      let rows : AllByRecursion (λ t. all.0.trees t.tree ≡ old.now.trees t.tree) (older_tables older) = subst (λ (s : Schema). AllByRecursion (λ t. all.0.trees t.tree ≡ old.now.trees t.tree) s.tables) (ap (λ s. without_index s i.tree) has.schema_is) all.1.1 in
+      let kept : AllByRecursion (λ t. all.0.trees t.tree ≡ base t.tree) (older_tables older) =
+      all_both _ (λ t. old.now.trees t.tree ≡ base t.tree) (λ t. all.0.trees t.tree ≡ base t.tree) (λ t p q. p ∙ q) (older_tables older) rows has.kept in
       record {
         left = left;
         has = record {
-          schema_is = ap (λ (d : Database). d.schema) now ∙ all.1.0 ∙ ap (λ s. without_index s i.tree) has.schema_is ∙ dropped ours i.tree behind;
-          apart = ours_filtered _ ours has.apart;
+          schema_is = ap (λ (d : Database). d.schema) now ∙ all.1.0 ∙ ap (λ s. without_index s i.tree) has.schema_is ∙ dropped older ours i.tree behind;
+          apart = ours_filtered older _ ours has.apart;
           sound = w.sound;
-          kept = subst (λ (d : Database). AllByRecursion (λ t. d.trees t.tree ≡ base t.tree) first_tables) (sym now) kept;
+          kept = subst (λ (d : Database). KeepsOlderRows older base d.trees) (sym now) kept;
           inside = h.1.mode;
         };
         gone = it.3;
         fewer = λ other lack. all_filtered (λ j. not (same_name j.name other)) _ ours lack;
       }
 
-  by_place : (found : Option ℕ) → position_from (λ i. same_name i.name name) 12 ours ≡ found → HasFewer base ours name new
+  by_place : (found : Option ℕ) → position_from (λ i. same_name i.name name) (length (older_keys older)) ours ≡ found → HasFewer older base ours name new
   by_place None is = was_none is
   by_place (Some at) is = was_dropped at is
 
-  pub drops_one : HasFewer base ours name new
-  drops_one = by_place (position_from (λ i. same_name i.name name) 12 ours) refl
+  pub drops_one : HasFewer older base ours name new
+  drops_one = by_place (position_from (λ i. same_name i.name name) (length (older_keys older)) ours) refl
 
 -- none has one of the four names, so none is left
-pub all_gone : (base : Trees) (ours : List Index) (s : State) → HasOurs base ours s → AllByRecursion (λ l. lacks l.0 ours ≡ true) our_indexes → HasOurs base [] s
-all_gone base ours s has gone = subst (λ l. HasOurs base l s) (nothing_left ours has.apart gone) has
+pub all_gone : (older : OlderBooks) (base : Trees) (ours : List Index) (s : State) → HasOurs older base ours s → AllByRecursion (λ l. lacks l.0 ours ≡ true) our_indexes → HasOurs older base [] s
+all_gone older base ours s has gone = subst (λ l. HasOurs older base l s) (nothing_left older ours has.apart gone) has

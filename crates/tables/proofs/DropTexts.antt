@@ -1,8 +1,6 @@
--- What the texts that drop the indexes mean in books of schema 1.
-use Rattle.std.proofs.Common.{◌≡◌, ◌∙◌, ℕ, List, codes, refl, Option, None, Some, Ok, Result, true, false}
+-- What the texts that drop the indexes mean in older books.
+use Rattle.std.proofs.Common.{◌≡◌, ◌∙◌, ℕ, List, codes, refl, Option, None, Some, Ok, Result, true, false, length}
 use Rattle.std.specs.List.{AllByRecursion, position_from}
-use Rattle.std.proofs.lemmas.Bool.{and_parts}
-use Rattle.std.specs.Prelude.{nat_lt}
 use Rattle.sqlite_schema.specs.Names.{same_name}
 use Rattle.sqlite_schema.specs.declared.schema.Index.{Index}
 use Rattle.sqlite.specs.Command.TheVariants.{DropIndex}
@@ -14,7 +12,9 @@ use Rattle.sqlite_resolve.specs.declared.error.CompileError.{CompileError}
 use Rattle.sqlite_resolve.specs.declared.error.CompileError.TheVariants.{NoSuchIndex}
 use Rattle.tables.specs.Indexing.{plan}
 use Rattle.tables.specs.Layouts.{PlainIndex}
-use Rattle.tables.specs.Older.{first_with, our_indexes, is_ours, drop_found, Drops}
+use Rattle.tables.specs.Older.{older_with, older_keys, our_indexes, is_index_of_books, drop_found, Drops}
+use Rattle.tables.specs.declared.older.OlderBooks.{OlderBooks}
+use Rattle.tables.specs.declared.older.OlderBooks.TheVariants.{First, Second}
 use Rattle.tables.specs.declared.dropping.TheConstants.{DROP_STAGED_BY_GTIN, DROP_RESERVED_BY_GTIN, DROP_SHIPLINES_OF_LOT, DROP_ORDERS_BY_STATE}
 use Rattle.tables.proofs.IndexTexts.{whole_of, understood_as}
 use Rattle.tables.proofs.DropLemmas.{named_by}
@@ -27,21 +27,28 @@ outcome : (size : ℕ) (found : Option ℕ) → (found_at size found ≡ Ok (pla
 outcome size None = (refl, refl)
 outcome size (Some at) = (refl, refl)
 
-drops_found : (size : ℕ) (name text : List ℕ) → ((ours : List Index) → compiled (first_with ours) text ≡ found_at size (position_from (λ i. same_name i.name name) 12 ours))
-    → (ours : List Index) → understood (first_with ours) text ≡ Ok (plan size (drop_found (position_from (λ i. same_name i.name name) 12 ours)))
-drops_found size name text means ours =
-    let o = outcome size (position_from (λ i. same_name i.name name) 12 ours) in
-    understood_as (first_with ours) text _ (means ours) o.1 ∙ o.0
+-- the place of the index of this name among those that stand behind the keys
+abbrev placed : List ℕ → OlderBooks → List Index → Option ℕ
+placed name older ours = position_from (λ i. same_name i.name name) (length (older_keys older)) ours
+
+abbrev Means : ℕ → List ℕ → List ℕ → Type 0
+Means size name text = (older : OlderBooks) (ours : List Index) → compiled (older_with older ours) text ≡ found_at size (placed name older ours)
+
+drops_found : (size : ℕ) (name text : List ℕ) → Means size name text → (older : OlderBooks) (ours : List Index) → understood (older_with older ours) text ≡ Ok (plan size (drop_found (placed name older ours)))
+drops_found size name text means older ours =
+    let o = outcome size (placed name older ours) in
+    understood_as (older_with older ours) text _ (means older ours) o.1 ∙ o.0
 
 abbrev IsApart : List ℕ → Type 0
 IsApart name = AllByRecursion (λ (l : PlainIndex). same_name l.0 name ≡ true → l.0 ≡ name) our_indexes
 
-ours_named : (name : List ℕ) → IsApart name → (i : Index) → is_ours i ≡ true → same_name i.name name ≡ true → i.name ≡ name
-ours_named name apart i ours same = named_by name our_indexes apart i (and_parts (nat_lt 25 i.tree) _ ours).1 same
+ours_named : (name : List ℕ) → IsApart name → (i : Index) → is_index_of_books i ≡ true → same_name i.name name ≡ true → i.name ≡ name
+ours_named name apart i ours same = named_by name our_indexes apart i ours same
 
-staged_by_gtin_means : (ours : List Index) → compiled (first_with ours) DROP_STAGED_BY_GTIN.now ≡ found_at 35 (position_from (λ i. same_name i.name (codes "staged_by_gtin")) 12 ours)
+staged_by_gtin_means : Means 35 (codes "staged_by_gtin") DROP_STAGED_BY_GTIN.now
 unfolding everything
-staged_by_gtin_means ours = refl
+staged_by_gtin_means First ours = refl
+staged_by_gtin_means Second ours = refl
 
 staged_by_gtin_apart : IsApart (codes "staged_by_gtin")
 unfolding everything
@@ -50,9 +57,10 @@ staged_by_gtin_apart = (λ same. refl, (λ same. absurd cc, (λ same. absurd cc,
 pub staged_by_gtin_dropped : Drops DROP_STAGED_BY_GTIN.now (codes "staged_by_gtin")
 staged_by_gtin_dropped = record { size = 35; means = drops_found 35 (codes "staged_by_gtin") DROP_STAGED_BY_GTIN.now staged_by_gtin_means; named = ours_named (codes "staged_by_gtin") staged_by_gtin_apart }
 
-reserved_by_gtin_means : (ours : List Index) → compiled (first_with ours) DROP_RESERVED_BY_GTIN.now ≡ found_at 37 (position_from (λ i. same_name i.name (codes "reserved_by_gtin")) 12 ours)
+reserved_by_gtin_means : Means 37 (codes "reserved_by_gtin") DROP_RESERVED_BY_GTIN.now
 unfolding everything
-reserved_by_gtin_means ours = refl
+reserved_by_gtin_means First ours = refl
+reserved_by_gtin_means Second ours = refl
 
 reserved_by_gtin_apart : IsApart (codes "reserved_by_gtin")
 unfolding everything
@@ -61,9 +69,10 @@ reserved_by_gtin_apart = (λ same. absurd cc, (λ same. refl, (λ same. absurd c
 pub reserved_by_gtin_dropped : Drops DROP_RESERVED_BY_GTIN.now (codes "reserved_by_gtin")
 reserved_by_gtin_dropped = record { size = 37; means = drops_found 37 (codes "reserved_by_gtin") DROP_RESERVED_BY_GTIN.now reserved_by_gtin_means; named = ours_named (codes "reserved_by_gtin") reserved_by_gtin_apart }
 
-shiplines_of_lot_means : (ours : List Index) → compiled (first_with ours) DROP_SHIPLINES_OF_LOT.now ≡ found_at 37 (position_from (λ i. same_name i.name (codes "shiplines_of_lot")) 12 ours)
+shiplines_of_lot_means : Means 37 (codes "shiplines_of_lot") DROP_SHIPLINES_OF_LOT.now
 unfolding everything
-shiplines_of_lot_means ours = refl
+shiplines_of_lot_means First ours = refl
+shiplines_of_lot_means Second ours = refl
 
 shiplines_of_lot_apart : IsApart (codes "shiplines_of_lot")
 unfolding everything
@@ -72,9 +81,10 @@ shiplines_of_lot_apart = (λ same. absurd cc, (λ same. absurd cc, (λ same. ref
 pub shiplines_of_lot_dropped : Drops DROP_SHIPLINES_OF_LOT.now (codes "shiplines_of_lot")
 shiplines_of_lot_dropped = record { size = 37; means = drops_found 37 (codes "shiplines_of_lot") DROP_SHIPLINES_OF_LOT.now shiplines_of_lot_means; named = ours_named (codes "shiplines_of_lot") shiplines_of_lot_apart }
 
-orders_by_state_means : (ours : List Index) → compiled (first_with ours) DROP_ORDERS_BY_STATE.now ≡ found_at 36 (position_from (λ i. same_name i.name (codes "orders_by_state")) 12 ours)
+orders_by_state_means : Means 36 (codes "orders_by_state") DROP_ORDERS_BY_STATE.now
 unfolding everything
-orders_by_state_means ours = refl
+orders_by_state_means First ours = refl
+orders_by_state_means Second ours = refl
 
 orders_by_state_apart : IsApart (codes "orders_by_state")
 unfolding everything

@@ -24,11 +24,12 @@ use Rattle.table_words.specs.Schema.{the_tables, schema_with, HasTables}
 use Rattle.table_words.specs.Rows.{IsRows}
 use Rattle.table_words.specs.Steps.{IsReady}
 use Rattle.table_words.proofs.StepLemmas.{front}
-use Rattle.tables.specs.Bringing.{IsFirstReady}
-use Rattle.tables.specs.Older.{IsFirstSchema}
-use Rattle.tables.specs.Opening.{HasSchema, IsReadyAs, IsOfNone, TellTables}
+use Rattle.tables.specs.Bringing.{IsOlderReady}
+use Rattle.tables.specs.Older.{IsOlderSchema}
+use Rattle.tables.specs.Opening.{HasSchema, IsReadyAs, TellTables}
 use Rattle.tables.specs.declared.opening.Found.{Found}
-use Rattle.tables.specs.declared.opening.Found.TheVariants.{Newest, First}
+use Rattle.tables.specs.declared.opening.Found.TheVariants.{Newest, Older}
+use Rattle.tables.specs.declared.older.OlderBooks.{OlderBooks}
 
 pub ready_over : (v : View) (db : Database) → IsListed (v.trees catalog_tree) v.shape v.reals → IsOrdered v.shape v.trees → IsDatabase db → db.trees ≡ v.trees → HasTables db.schema → IsReady db
 ready_over v db listed ordered sound trees has =
@@ -41,9 +42,9 @@ ready_over v db listed ordered sound trees has =
       rows = front _ the_tables has.rest.tables (subst (λ (s : Schema). AllByRecursion (λ t. IsRows (db.trees t.tree)) s.tables) has.is rows);
     }
 
--- the same of books of schema 1
-pub first_over : (v : View) (db : Database) → IsListed (v.trees catalog_tree) v.shape v.reals → IsOrdered v.shape v.trees → IsDatabase db → db.trees ≡ v.trees → IsFirstSchema db.schema → IsFirstReady db
-first_over v db listed ordered sound trees has =
+-- the same of older books
+pub older_over : (v : View) (db : Database) → IsListed (v.trees catalog_tree) v.shape v.reals → IsOrdered v.shape v.trees → IsDatabase db → db.trees ≡ v.trees → (older : OlderBooks) → IsOlderSchema older db.schema → IsOlderReady older db
+older_over v db listed ordered sound trees older has =
     let lists : Lists (v.trees catalog_tree) db.schema = subst (λ t. Lists (t catalog_tree) db.schema) trees sound.lists in
     let rows = all_from (λ t. IsRows (db.trees t.tree)) db.schema.tables (λ t h.
     subst (λ d. IsRows (d t.tree)) (sym trees) (subst (λ s. IsShaped s (v.trees t.tree)) (table_shape listed (objects_rise v listed ordered).0 lists.listed t h).0 (ordered t.tree))) in
@@ -51,11 +52,7 @@ first_over v db listed ordered sound trees has =
 
 pub found_over : (v : View) (db : Database) → IsListed (v.trees catalog_tree) v.shape v.reals → IsOrdered v.shape v.trees → IsDatabase db → db.trees ≡ v.trees → (found : Found) → HasSchema found db.schema → IsReadyAs found db
 found_over v db listed ordered sound trees Newest has = ready_over v db listed ordered sound trees has
-found_over v db listed ordered sound trees First has = first_over v db listed ordered sound trees has
-
-pub of_none : (schema : Schema) → (HasTables schema → ⊥) → (IsFirstSchema schema → ⊥) → IsOfNone schema
-of_none schema newest first Newest = newest
-of_none schema newest first First = first
+found_over v db listed ordered sound trees (Older older) has = older_over v db listed ordered sound trees older has
 
 -- an error tells of memory, or of something else
 pub memory_or_not : (e : Error) → (e ≡ SqliteFailure OutOfMemory) ⊎ (e ≡ SqliteFailure OutOfMemory → ⊥)

@@ -5,9 +5,9 @@ use Rattle.sqlite_tied.specs.Compute.{everything}
 use Rattle.sqlite.specs.Listing.{understood}
 use Rattle.sqlite.specs.Schema.{Schema}
 use Rattle.sqlite.specs.Change.{created}
-use Rattle.table_words.specs.Schema.{schema_0, is_harmless, meta_table, items_table, bins_table, lots_table, recalls_table, stock_table, orders_table, lines_table, staged_table, reserved_table, shipments_table, shiplines_table, cards_table, repeats_table, least_table}
+use Rattle.table_words.specs.Schema.{schema_0, is_harmless, meta_table, items_table, bins_table, lots_table, recalls_table, stock_table, orders_table, lines_table, staged_table, reserved_table, shipments_table, shiplines_table, cards_table, repeats_table, least_table, urgents_table}
 use Rattle.tables.specs.Growing.{Makes}
-use Rattle.tables.specs.declared.layouts.TheConstants.{CREATE_META, CREATE_ITEMS, CREATE_BINS, CREATE_LOTS, CREATE_RECALLS, CREATE_STOCK, CREATE_ORDERS, CREATE_LINES, CREATE_STAGED, CREATE_RESERVED, CREATE_SHIPMENTS, CREATE_SHIPLINES, CREATE_CARDS, CREATE_REPEATS, CREATE_LEAST}
+use Rattle.tables.specs.declared.layouts.TheConstants.{CREATE_META, CREATE_ITEMS, CREATE_BINS, CREATE_LOTS, CREATE_RECALLS, CREATE_STOCK, CREATE_ORDERS, CREATE_LINES, CREATE_STAGED, CREATE_RESERVED, CREATE_SHIPMENTS, CREATE_SHIPLINES, CREATE_CARDS, CREATE_REPEATS, CREATE_LEAST, CREATE_URGENTS}
 
 pub meta_made : Makes schema_0 CREATE_META.now (meta_table 0)
 unfolding understood everything
@@ -111,9 +111,16 @@ pub least_made : Makes with_repeats CREATE_LEAST.now (least_table 0)
 unfolding understood everything
 least_made = (refl, refl, refl, refl, (refl, refl))
 
+abbrev with_least : Schema
+with_least = created with_repeats (least_table 0)
+
+pub urgents_made : Makes with_least CREATE_URGENTS.now (urgents_table 0)
+unfolding understood everything
+urgents_made = (refl, refl, refl, refl, (refl, refl))
+
 -- the schema with the tables of all steps, and nothing else
 abbrev pub the_schema : Schema
-the_schema = created with_repeats (least_table 0)
+the_schema = created with_least (urgents_table 0)
 
 pub the_harmless : list_all is_harmless the_schema.indexes ≡ true
 unfolding Rattle.std.specs.Fmt.digits

@@ -1,21 +1,39 @@
--- Books of schema 1, and what is left of their schema without the indexes of the books.
-use Rattle.std.specs.Prelude.{◌≡◌, ℕ, Bool, true, not, ◌&&◌, List, [], ◌∷◌, ◌++◌, codes, Option, Some, None, Ok, bytes_eq, nat_lt}
+-- Books of the older schemas, and what is left of their schema without the indexes of the books.
+use Rattle.std.specs.Prelude.{◌≡◌, ℕ, Bool, true, not, ◌&&◌, List, [], ◌∷◌, ◌++◌, codes, length, Option, Some, None, Ok, bytes_eq, nat_lt}
 use Rattle.std.specs.List.{AllByRecursion, list_all, list_any, position_from}
 use Rattle.sqlite.specs.Effect.{IsDatabase}
 use Rattle.sqlite.specs.Listing.{understood}
 use Rattle.sqlite.specs.Schema.{Schema}
 use Rattle.sqlite.specs.State.{State}
+use Rattle.sqlite.specs.Table.{Table}
 use Rattle.sqlite.specs.Tree.{Trees}
 use Rattle.sqlite_schema.specs.Names.{same_name}
 use Rattle.sqlite_schema.specs.declared.schema.Index.{Index}
 use Rattle.sqlite_schema.specs.declared.command.Command.{Command}
 use Rattle.sqlite_schema.specs.declared.command.Command.TheVariants.{DropIndex, Nothing}
 use Rattle.table_words.specs.Found.{no_two}
-use Rattle.table_words.specs.Schema.{first_tables}
+use Rattle.table_words.specs.Schema.{first_tables, second_tables, least_table, least_tree, urgents_table, urgents_tree}
 use Rattle.tables.specs.Indexing.{plan}
 use Rattle.tables.specs.Layouts.{key_at, PlainIndex, is_of}
+use Rattle.tables.specs.declared.older.OlderBooks.{OlderBooks}
+use Rattle.tables.specs.declared.older.OlderBooks.TheVariants.{First, Second}
 
--- the indexes of their keys
+-- their schema number
+abbrev pub number : OlderBooks → ℕ
+number First = 1
+number Second = 2
+
+-- the tables that they have, in their order
+abbrev pub older_tables : OlderBooks → List Table
+older_tables First = first_tables
+older_tables Second = second_tables
+
+-- those of the newest books that they lack
+abbrev pub lacking_tables : OlderBooks → List Table
+lacking_tables First = least_table least_tree ∷ urgents_table urgents_tree ∷ []
+lacking_tables Second = urgents_table urgents_tree ∷ []
+
+-- the indexes of the keys of the tables of schema 1
 abbrev pub first_keys : List Index
 first_keys =
     key_at (codes "sqlite_autoindex_items_1") 1 (1 ∷ [])
@@ -32,9 +50,19 @@ first_keys =
     ∷ key_at (codes "sqlite_autoindex_repeats_1") 24 (1 ∷ [])
     ∷ []
 
--- schema 1 with these indexes behind those of the keys, and nothing else
-abbrev pub first_with : List Index → Schema
-first_with ours = record { tables = first_tables; indexes = first_keys ++ ours; views = [] }
+-- those of the tables that they have
+abbrev pub older_keys : OlderBooks → List Index
+older_keys First = first_keys
+older_keys Second = first_keys ++ key_at (codes "sqlite_autoindex_least_1") 26 (1 ∷ []) ∷ []
+
+-- the last tree of these tables and keys
+abbrev pub last_tree : OlderBooks → ℕ
+last_tree First = 25
+last_tree Second = 27
+
+-- their schema with these indexes behind those of the keys, and nothing else
+abbrev pub older_with : OlderBooks → List Index → Schema
+older_with older ours = record { tables = older_tables older; indexes = older_keys older ++ ours; views = [] }
 
 -- the indexes of the books beside those of the keys, and the one that they had once, by the state of the orders
 abbrev pub our_indexes : List PlainIndex
@@ -45,36 +73,44 @@ our_indexes =
     ∷ (codes "orders_by_state", 11, 4 ∷ [])
     ∷ []
 
--- whether the index is one of these, behind the tables
-abbrev pub is_ours : Index → Bool
-is_ours i = nat_lt 25 i.tree && list_any (λ l. is_of l i) our_indexes
+-- whether the index is one of these, in whatever tree
+abbrev pub is_index_of_books : Index → Bool
+is_index_of_books i = list_any (λ l. is_of l i) our_indexes
+
+-- and behind the tables
+abbrev pub is_ours : OlderBooks → Index → Bool
+is_ours older i = nat_lt (last_tree older) i.tree && is_index_of_books i
 
 abbrev pub same_named : Index → Index → Bool
 same_named i j = bytes_eq i.name j.name
 
 -- they are indexes of the books, each once
-pub record AreOurs (indexes : List Index) : Type 0 where
-  pub each : list_all is_ours indexes ≡ true
+pub record AreOurs (older : OlderBooks) (indexes : List Index) : Type 0 where
+  pub each : list_all (is_ours older) indexes ≡ true
   pub once : no_two same_named indexes ≡ true
 
 -- the indexes of the keys, and then those of the books that stand
-pub record AreFirstIndexes (indexes : List Index) : Type 0 where
+pub record AreOlderIndexes (older : OlderBooks) (indexes : List Index) : Type 0 where
   pub ours : List Index
-  pub is : indexes ≡ first_keys ++ ours
-  pub apart : AreOurs ours
+  pub is : indexes ≡ older_keys older ++ ours
+  pub apart : AreOurs older ours
 
--- The schema is that of books of schema 1: their tables with any of the indexes of the books, and nothing of another's making.
-pub record IsFirstSchema (schema : Schema) : Type 0 where
+-- The schema is that of these books: their tables with any of the indexes of the books, and nothing of another's making.
+pub record IsOlderSchema (older : OlderBooks) (schema : Schema) : Type 0 where
   pub ours : List Index
-  pub is : schema ≡ first_with ours
-  pub apart : AreOurs ours
+  pub is : schema ≡ older_with older ours
+  pub apart : AreOurs older ours
 
--- The schema is that of schema 1 with these indexes: the tables have the rows that they had, and the transaction goes on.
-pub record HasOurs (base : Trees) (ours : List Index) (s : State) : Type 0 where
-  pub schema_is : s.now.schema ≡ first_with ours
-  pub apart : AreOurs ours
+-- the tables of these books have the rows that they had
+abbrev pub KeepsOlderRows : OlderBooks → Trees → Trees → Type 0
+KeepsOlderRows older old new = AllByRecursion (λ t. new t.tree ≡ old t.tree) (older_tables older)
+
+-- The schema is that of these books with these indexes: the tables have the rows that they had, and the transaction goes on.
+pub record HasOurs (older : OlderBooks) (base : Trees) (ours : List Index) (s : State) : Type 0 where
+  pub schema_is : s.now.schema ≡ older_with older ours
+  pub apart : AreOurs older ours
   pub sound : IsDatabase s.now
-  pub kept : AllByRecursion (λ t. s.now.trees t.tree ≡ base t.tree) first_tables
+  pub kept : KeepsOlderRows older base s.now.trees
   pub inside : s.in_transaction ≡ true
 
 -- no index has this name, but for the case of its letters
@@ -82,9 +118,9 @@ abbrev pub lacks : List ℕ → List Index → Bool
 lacks name indexes = list_all (λ i. not (same_name i.name name)) indexes
 
 -- the schema has fewer of these indexes, none of this name
-pub record HasFewer (base : Trees) (ours : List Index) (name : List ℕ) (s : State) : Type 0 where
+pub record HasFewer (older : OlderBooks) (base : Trees) (ours : List Index) (name : List ℕ) (s : State) : Type 0 where
   pub left : List Index
-  pub has : HasOurs base left s
+  pub has : HasOurs older base left s
   pub gone : lacks name left ≡ true
   pub fewer : (other : List ℕ) → lacks other ours ≡ true → lacks other left ≡ true
 
@@ -93,8 +129,8 @@ abbrev pub drop_found : Option ℕ → Command
 drop_found None = Nothing
 drop_found (Some at) = DropIndex at
 
--- the text drops the index of this name, if there is one
+-- in any older books the text drops the index of this name, if there is one
 pub record Drops (text name : List ℕ) : Type 0 where
   pub size : ℕ
-  pub means : (ours : List Index) → understood (first_with ours) text ≡ Ok (plan size (drop_found (position_from (λ i. same_name i.name name) 12 ours)))
-  pub named : (i : Index) → is_ours i ≡ true → same_name i.name name ≡ true → i.name ≡ name
+  pub means : (older : OlderBooks) (ours : List Index) → understood (older_with older ours) text ≡ Ok (plan size (drop_found (position_from (λ i. same_name i.name name) (length (older_keys older)) ours)))
+  pub named : (i : Index) → is_index_of_books i ≡ true → same_name i.name name ≡ true → i.name ≡ name

@@ -12,18 +12,18 @@ use Rattle.sqlite.specs.Effect.{Database}
 use Rattle.sqlite.specs.State.{State}
 use Rattle.commands.specs.declared.limits.TheConstants.{SCHEMA_VERSION}
 use Rattle.table_words.specs.Steps.{IsReady}
-use Rattle.tables.specs.Bringing.{AreItemsTyped, IsFirstReady, KeepsFirstRows, IsBrought}
+use Rattle.tables.specs.Bringing.{AreFillersTyped, IsOlderReady, IsBrought}
 use Rattle.tables.specs.Indexing.{KeepsRows}
-use Rattle.tables.specs.Older.{IsFirstSchema}
+use Rattle.tables.specs.Older.{number, IsOlderSchema, KeepsOlderRows}
 use Rattle.tables.specs.declared.opening.Found.{Found}
-use Rattle.tables.specs.declared.opening.Found.TheVariants.{Newest, First}
+use Rattle.tables.specs.declared.opening.Found.TheVariants.{Newest, Older}
 use Rattle.tables.specs.declared.opening.Leftover.{Leftover}
 use Rattle.tables.specs.declared.opening.Leftover.TheVariants as left
 
 -- the schema is that of these books
 abbrev pub HasSchema : Found → Schema → Type 0
 HasSchema Newest schema = HasTables schema
-HasSchema First schema = IsFirstSchema schema
+HasSchema (Older older) schema = IsOlderSchema older schema
 
 -- and of none
 abbrev pub IsOfNone : Schema → Type 0
@@ -32,27 +32,27 @@ IsOfNone schema = (found : Found) → ¬ HasSchema found schema
 -- the database is that of these books, and in order
 abbrev pub IsReadyAs : Found → Database → Type 0
 IsReadyAs Newest db = IsReady db
-IsReadyAs First db = IsFirstReady db
+IsReadyAs (Older older) db = IsOlderReady older db
 
 -- their schema number
 abbrev pub number_of : Found → ℕ
 number_of Newest = SCHEMA_VERSION
-number_of First = 1
+number_of (Older older) = number older
 
 -- the rows that are read as they are opened, beside that of `meta`, read as typed ones
 abbrev pub AreReadTyped : Found → Trees → Type 0
 AreReadTyped Newest trees = ⊤
-AreReadTyped First trees = AreItemsTyped trees
+AreReadTyped (Older older) trees = AreFillersTyped older trees
 
 -- their tables have the rows that they had
 abbrev pub KeepsRowsAs : Found → Trees → Trees → Type 0
 KeepsRowsAs Newest old new = KeepsRows old new
-KeepsRowsAs First old new = KeepsFirstRows old new
+KeepsRowsAs (Older older) old new = KeepsOlderRows older old new
 
 -- the newest tables, which come of their rows
 abbrev pub ComesTo : Found → Trees → Trees → Type 0
 ComesTo Newest old new = KeepsRows old new
-ComesTo First old new = IsBrought old new
+ComesTo (Older older) old new = IsBrought older old new
 
 -- the connection shows the newest tables, and all is committed
 pub record IsCome (found : Found) (old : Trees) (new : State) : Type 0 where

@@ -1,18 +1,22 @@
-//! Brings books of schema 1 up to the newest schema, in one transaction.
+//! Brings older books up to the newest schema, in one transaction.
 
-ghost use Rattle.std.specs.Prelude.{◌≡◌, ◌≢◌, ◌⊎◌, ℤ, None, Some, false, IsTrue, IsErrAnd, IsOkAnd, OnOk, OnErr, IfOk, IfErr, find, true, map};
+ghost use Rattle.std.specs.Prelude.{◌≡◌, ◌≢◌, ◌⊎◌, ℕ, ℤ, None, Some, false, IsTrue, IsErrAnd, IsOkAnd, OnOk, OnErr, IfOk, IfErr, find, true, map};
+ghost use Rattle.std.specs.List.{AllByRecursion};
 ghost use Rattle.sqlite.specs.State.{HasCleanDisk, Survives, KeepsCommit, IsUnchanged};
 ghost use Rattle.sqlite.specs.Held.{state};
 ghost use Rattle.sqlite.specs.Tree.{Trees};
 ghost use Rattle.table_words.specs.Steps.{IsReady};
+ghost use Rattle.table_words.specs.Typed.{is_meta_at, meta_rows_rows, meta_at};
 ghost use Rattle.table_words.specs.declared.error.TableFault.TheVariants.{Foreign as ForeignTable};
-ghost use Rattle.tables.specs.Bringing.{AreItemsTyped, IsFirst, IsFirstReady, HasRoom, AsksNone, IsBrought, IsWritten, IsFilled, row_of};
+ghost use Rattle.tables.specs.Bringing.{AreItemsTyped, AreFillersTyped, IsOlder, IsOlderReady, HasRoom, AsksNone, Fills, IsBrought, IsWritten, IsFilled, row_of};
 ghost use Rattle.tables.specs.Indexing.{HasIndexes};
+ghost use Rattle.tables.specs.Older.{number};
 ghost use Rattle.tables.specs.Opening.{TellTables};
 ghost use Rattle.tables.specs.Settling.{HasDayAt, HasRow};
 
 use crate::dropping::drop_indexes;
 use crate::indexing::make_indexes;
+use crate::older::OlderBooks;
 use crate::steps::{STEPS, run_steps};
 use commands::{ItemRow, LeastDays, LeastRow, MetaRow};
 use goods_tables::items::Items;
@@ -25,16 +29,16 @@ use sqlite::{Alter, Connection, Error, Transaction};
 use std::alloc::{AllocError, Global};
 use table_words::error::TableFault;
 
-/// Makes the tables that schema 1 lacks behind those that it has, once no index of the books is in their way.
-fn make_room<S: Alter>(tx: &mut Transaction<'_, S>) -> Result<(), Error>
+/// Makes the tables that these books lack behind those that they have, once no index of the books is in their way.
+fn make_room<S: Alter>(tx: &mut Transaction<'_, S>, older: OlderBooks) -> Result<(), Error>
     ensures same_reference { tx.new.conn.ghost_name ≡ tx.old.conn.ghost_name }
-    ensures done { HasCleanDisk (state S.Store tx.new.conn.now) → (base : Trees) → IsFirst base (state S.Store tx.old.conn.now)
-        → OnOk result (HasRoom base (state S.Store tx.new.conn.now)) }
+    ensures done { HasCleanDisk (state S.Store tx.new.conn.now) → (base : Trees) → IsOlder older base (state S.Store tx.old.conn.now)
+        → OnOk result (HasRoom older base (state S.Store tx.new.conn.now)) }
     ensures kept { HasCleanDisk (state S.Store tx.new.conn.now) → KeepsCommit (state S.Store tx.old.conn.now) (state S.Store tx.new.conn.now) }
     ensures survives { Survives (state S.Store tx.old.conn.now) (state S.Store tx.new.conn.now) (λ _. ⊥) }
 {
     drop_indexes(tx)?;
-    run_steps(tx, &STEPS, 1)
+    run_steps(tx, &STEPS, older.number())
 }
 
 /// The row of `meta` that was read; `Foreign` where there is none.
@@ -48,17 +52,44 @@ fn first_meta(rows: Result<Vec<MetaRow>, TableFault>) -> Result<MetaRow, TableFa
     }
 }
 
-/// The row of `meta` in books of schema 1; `Foreign` where there is no such row, or one with a value that no row has.
-fn stored_meta<S: Alter>(alloc: Global, tx: &mut Transaction<'_, S>) -> Result<MetaRow, TableFault>
+/// The rows of `meta` in these books, which is one at most; `Foreign` where one has a value that no row has.
+fn meta_rows_of<S: Alter>(
+    alloc: Global,
+    tx: &mut Transaction<'_, S>,
+    older: OlderBooks,
+) -> Result<Vec<MetaRow>, TableFault>
     ensures same_reference { tx.new.conn.ghost_name ≡ tx.old.conn.ghost_name }
-    ensures row { HasCleanDisk (state S.Store tx.new.conn.now) → IsReady (state S.Store tx.old.conn.now).now → IfOk result (HasRow 1 (state S.Store tx.old.conn.now).now.trees) }
+    ensures rows { HasCleanDisk (state S.Store tx.new.conn.now) → IsReady (state S.Store tx.old.conn.now).now
+        → IfOk result (λ rows. find (λ _. true) rows.items ≡ meta_at (number older) (state S.Store tx.old.conn.now).now.trees) }
+    ensures typed { HasCleanDisk (state S.Store tx.new.conn.now) → IsReady (state S.Store tx.old.conn.now).now
+        → OnOk result (AllByRecursion (λ r. is_meta_at (number older) r ≡ true) (meta_rows_rows 1 (state S.Store tx.old.conn.now).now.trees)) }
     ensures foreign { HasCleanDisk (state S.Store tx.new.conn.now) → IsReady (state S.Store tx.old.conn.now).now
-        → IfErr result (λ e. e ≡ ForeignTable → (day : ℤ) → ¬ HasDayAt 1 (state S.Store tx.old.conn.now).now.trees day) }
+        → IfErr result (λ e. e ≡ ForeignTable → ¬ AllByRecursion (λ r. is_meta_at (number older) r ≡ true) (meta_rows_rows 1 (state S.Store tx.old.conn.now).now.trees)) }
     ensures same { HasCleanDisk (state S.Store tx.new.conn.now) → IsReady (state S.Store tx.old.conn.now).now → OnOk result (IsUnchanged (state S.Store tx.old.conn.now) (state S.Store tx.new.conn.now)) }
     ensures kept { HasCleanDisk (state S.Store tx.new.conn.now) → IsReady (state S.Store tx.old.conn.now).now → KeepsCommit (state S.Store tx.old.conn.now) (state S.Store tx.new.conn.now) }
     ensures survives { Survives (state S.Store tx.old.conn.now) (state S.Store tx.new.conn.now) (λ _. ⊥) }
 {
-    first_meta(meta_rows_at::<1, S>(alloc, tx))
+    match older {
+        OlderBooks::First => meta_rows_at::<1, S>(alloc, tx),
+        OlderBooks::Second => meta_rows_at::<2, S>(alloc, tx),
+    }
+}
+
+/// The row of `meta` in these books; `Foreign` where there is no such row, or one with a value that no row has.
+fn stored_meta<S: Alter>(
+    alloc: Global,
+    tx: &mut Transaction<'_, S>,
+    older: OlderBooks,
+) -> Result<MetaRow, TableFault>
+    ensures same_reference { tx.new.conn.ghost_name ≡ tx.old.conn.ghost_name }
+    ensures row { HasCleanDisk (state S.Store tx.new.conn.now) → IsReady (state S.Store tx.old.conn.now).now → IfOk result (HasRow (number older) (state S.Store tx.old.conn.now).now.trees) }
+    ensures foreign { HasCleanDisk (state S.Store tx.new.conn.now) → IsReady (state S.Store tx.old.conn.now).now
+        → IfErr result (λ e. e ≡ ForeignTable → (day : ℤ) → ¬ HasDayAt (number older) (state S.Store tx.old.conn.now).now.trees day) }
+    ensures same { HasCleanDisk (state S.Store tx.new.conn.now) → IsReady (state S.Store tx.old.conn.now).now → OnOk result (IsUnchanged (state S.Store tx.old.conn.now) (state S.Store tx.new.conn.now)) }
+    ensures kept { HasCleanDisk (state S.Store tx.new.conn.now) → IsReady (state S.Store tx.old.conn.now).now → KeepsCommit (state S.Store tx.old.conn.now) (state S.Store tx.new.conn.now) }
+    ensures survives { Survives (state S.Store tx.old.conn.now) (state S.Store tx.new.conn.now) (λ _. ⊥) }
+{
+    first_meta(meta_rows_of(alloc, tx, older))
 }
 
 fn none_asked() -> LeastDays
@@ -78,24 +109,63 @@ fn least_rows(alloc: Global, items: &[ItemRow]) -> Result<Vec<LeastRow>, AllocEr
         .collect(alloc)
 }
 
-/// The row of `meta` in books of schema 1, and a row of `least` for each item. `Foreign` where there is no such row of
-/// `meta`, or where that or an item has a value that no row has.
-fn read_old<S: Alter>(
+/// A row of `least` for each item, which asks for 0 days. `Foreign` where an item has a value that no row has.
+fn asking_none<S: Alter>(
     alloc: Global,
     tx: &mut Transaction<'_, S>,
-) -> Result<(MetaRow, Vec<LeastRow>), TableFault>
+) -> Result<Vec<LeastRow>, TableFault>
     ensures same_reference { tx.new.conn.ghost_name ≡ tx.old.conn.ghost_name }
-    ensures row { HasCleanDisk (state S.Store tx.new.conn.now) → IsReady (state S.Store tx.old.conn.now).now → IfOk result (λ read. HasRow 1 (state S.Store tx.old.conn.now).now.trees read.0) }
-    ensures asked { HasCleanDisk (state S.Store tx.new.conn.now) → IsReady (state S.Store tx.old.conn.now).now → IfOk result (λ read. AsksNone (state S.Store tx.old.conn.now).now.trees read.1.items) }
+    ensures rows { HasCleanDisk (state S.Store tx.new.conn.now) → IsReady (state S.Store tx.old.conn.now).now → IfOk result (λ rows. AsksNone (state S.Store tx.old.conn.now).now.trees rows.items) }
     ensures foreign { HasCleanDisk (state S.Store tx.new.conn.now) → IsReady (state S.Store tx.old.conn.now).now
-        → IfErr result (λ e. e ≡ ForeignTable → (day : ℤ) → HasDayAt 1 (state S.Store tx.old.conn.now).now.trees day → ¬ AreItemsTyped (state S.Store tx.old.conn.now).now.trees) }
+        → IfErr result (λ e. e ≡ ForeignTable → ¬ AreItemsTyped (state S.Store tx.old.conn.now).now.trees) }
     ensures same { HasCleanDisk (state S.Store tx.new.conn.now) → IsReady (state S.Store tx.old.conn.now).now → OnOk result (IsUnchanged (state S.Store tx.old.conn.now) (state S.Store tx.new.conn.now)) }
     ensures kept { HasCleanDisk (state S.Store tx.new.conn.now) → IsReady (state S.Store tx.old.conn.now).now → KeepsCommit (state S.Store tx.old.conn.now) (state S.Store tx.new.conn.now) }
     ensures survives { Survives (state S.Store tx.old.conn.now) (state S.Store tx.new.conn.now) (λ _. ⊥) }
 {
-    let row = stored_meta(alloc, tx)?;
     let items = seek::<Items, All, S>(alloc, tx, &All)?;
-    let least = least_rows(alloc, items.as_slice())?;
+    Ok(least_rows(alloc, items.as_slice())?)
+}
+
+/// The rows of `least` that are added: from schema 1 one for each item, which asks for 0 days, else none. `Foreign` where
+/// an item that is read has a value that no row has.
+fn fillers<S: Alter>(
+    alloc: Global,
+    tx: &mut Transaction<'_, S>,
+    older: OlderBooks,
+) -> Result<Vec<LeastRow>, TableFault>
+    ensures same_reference { tx.new.conn.ghost_name ≡ tx.old.conn.ghost_name }
+    ensures rows { HasCleanDisk (state S.Store tx.new.conn.now) → IsReady (state S.Store tx.old.conn.now).now → IfOk result (λ rows. Fills older (state S.Store tx.old.conn.now).now.trees rows.items) }
+    ensures foreign { HasCleanDisk (state S.Store tx.new.conn.now) → IsReady (state S.Store tx.old.conn.now).now
+        → IfErr result (λ e. e ≡ ForeignTable → ¬ AreFillersTyped older (state S.Store tx.old.conn.now).now.trees) }
+    ensures same { HasCleanDisk (state S.Store tx.new.conn.now) → IsReady (state S.Store tx.old.conn.now).now → IsTrue (state S.Store tx.old.conn.now).is_open
+        → OnOk result (IsUnchanged (state S.Store tx.old.conn.now) (state S.Store tx.new.conn.now)) }
+    ensures kept { HasCleanDisk (state S.Store tx.new.conn.now) → IsReady (state S.Store tx.old.conn.now).now → KeepsCommit (state S.Store tx.old.conn.now) (state S.Store tx.new.conn.now) }
+    ensures survives { Survives (state S.Store tx.old.conn.now) (state S.Store tx.new.conn.now) (λ _. ⊥) }
+{
+    match older {
+        OlderBooks::First => asking_none(alloc, tx),
+        OlderBooks::Second => Ok(Vec::new(alloc)),
+    }
+}
+
+/// The row of `meta` in these books, and the rows of `least` that are added. `Foreign` where there is no such row of
+/// `meta`, or where that or an item that is read has a value that no row has.
+fn read_old<S: Alter>(
+    alloc: Global,
+    tx: &mut Transaction<'_, S>,
+    older: OlderBooks,
+) -> Result<(MetaRow, Vec<LeastRow>), TableFault>
+    ensures same_reference { tx.new.conn.ghost_name ≡ tx.old.conn.ghost_name }
+    ensures row { HasCleanDisk (state S.Store tx.new.conn.now) → IsReady (state S.Store tx.old.conn.now).now → IfOk result (λ read. HasRow (number older) (state S.Store tx.old.conn.now).now.trees read.0) }
+    ensures fills { HasCleanDisk (state S.Store tx.new.conn.now) → IsReady (state S.Store tx.old.conn.now).now → IfOk result (λ read. Fills older (state S.Store tx.old.conn.now).now.trees read.1.items) }
+    ensures foreign { HasCleanDisk (state S.Store tx.new.conn.now) → IsReady (state S.Store tx.old.conn.now).now
+        → IfErr result (λ e. e ≡ ForeignTable → (day : ℤ) → HasDayAt (number older) (state S.Store tx.old.conn.now).now.trees day → ¬ AreFillersTyped older (state S.Store tx.old.conn.now).now.trees) }
+    ensures same { HasCleanDisk (state S.Store tx.new.conn.now) → IsReady (state S.Store tx.old.conn.now).now → OnOk result (IsUnchanged (state S.Store tx.old.conn.now) (state S.Store tx.new.conn.now)) }
+    ensures kept { HasCleanDisk (state S.Store tx.new.conn.now) → IsReady (state S.Store tx.old.conn.now).now → KeepsCommit (state S.Store tx.old.conn.now) (state S.Store tx.new.conn.now) }
+    ensures survives { Survives (state S.Store tx.old.conn.now) (state S.Store tx.new.conn.now) (λ _. ⊥) }
+{
+    let row = stored_meta(alloc, tx, older)?;
+    let least = fillers(alloc, tx, older)?;
     Ok((row, least))
 }
 
@@ -106,9 +176,10 @@ fn write_new<S: Alter>(
     least: &[LeastRow],
 ) -> Result<(), TableFault>
     ensures same_reference { tx.new.conn.ghost_name ≡ tx.old.conn.ghost_name }
-    ensures done { HasCleanDisk (state S.Store tx.new.conn.now) → (base : Trees) → HasRoom base (state S.Store tx.old.conn.now) → HasRow 1 (state S.Store tx.old.conn.now).now.trees row.now
-        → AsksNone (state S.Store tx.old.conn.now).now.trees least.now → OnOk result (IsWritten base (state S.Store tx.new.conn.now)) }
-    ensures never_foreign { HasCleanDisk (state S.Store tx.new.conn.now) → IsReady (state S.Store tx.old.conn.now).now → HasRow 1 (state S.Store tx.old.conn.now).now.trees row.now
+    ensures done { HasCleanDisk (state S.Store tx.new.conn.now) → (older : OlderBooks) (base : Trees) → HasRoom older base (state S.Store tx.old.conn.now)
+        → HasRow (number older) (state S.Store tx.old.conn.now).now.trees row.now → Fills older (state S.Store tx.old.conn.now).now.trees least.now
+        → OnOk result (IsWritten older base (state S.Store tx.new.conn.now)) }
+    ensures never_foreign { HasCleanDisk (state S.Store tx.new.conn.now) → IsReady (state S.Store tx.old.conn.now).now → (version : ℕ) → HasRow version (state S.Store tx.old.conn.now).now.trees row.now
         → IfErr result (λ e. e ≢ ForeignTable) }
     ensures kept { HasCleanDisk (state S.Store tx.new.conn.now) → KeepsCommit (state S.Store tx.old.conn.now) (state S.Store tx.new.conn.now) }
     ensures survives { Survives (state S.Store tx.old.conn.now) (state S.Store tx.new.conn.now) (λ _. ⊥) }
@@ -117,49 +188,55 @@ fn write_new<S: Alter>(
     add_all::<Least, S>(tx, least)
 }
 
-/// Makes of the tables of schema 1 those of the newest, with their indexes; the business day in them.
-fn bring<S: Alter>(alloc: Global, tx: &mut Transaction<'_, S>) -> Result<BusinessDay, TableFault>
+/// Makes of the tables of these books those of the newest, with their indexes; the business day in them.
+fn bring<S: Alter>(
+    alloc: Global,
+    tx: &mut Transaction<'_, S>,
+    older: OlderBooks,
+) -> Result<BusinessDay, TableFault>
     ensures same_reference { tx.new.conn.ghost_name ≡ tx.old.conn.ghost_name }
-    ensures day { HasCleanDisk (state S.Store tx.new.conn.now) → (base : Trees) → IsFirst base (state S.Store tx.old.conn.now) → IfOk result (HasDayAt 1 base) }
-    ensures done { HasCleanDisk (state S.Store tx.new.conn.now) → (base : Trees) → IsFirst base (state S.Store tx.old.conn.now)
-        → OnOk result (IsFilled base (state S.Store tx.new.conn.now)) }
-    ensures foreign { HasCleanDisk (state S.Store tx.new.conn.now) → (base : Trees) → IsFirst base (state S.Store tx.old.conn.now)
-        → IfErr result (λ e. e ≡ ForeignTable → (day : ℤ) → HasDayAt 1 base day → ¬ AreItemsTyped base) }
-    ensures kept { HasCleanDisk (state S.Store tx.new.conn.now) → (base : Trees) → IsFirst base (state S.Store tx.old.conn.now) → KeepsCommit (state S.Store tx.old.conn.now) (state S.Store tx.new.conn.now) }
+    ensures day { HasCleanDisk (state S.Store tx.new.conn.now) → (base : Trees) → IsOlder older base (state S.Store tx.old.conn.now) → IfOk result (HasDayAt (number older) base) }
+    ensures done { HasCleanDisk (state S.Store tx.new.conn.now) → (base : Trees) → IsOlder older base (state S.Store tx.old.conn.now)
+        → OnOk result (IsFilled older base (state S.Store tx.new.conn.now)) }
+    ensures foreign { HasCleanDisk (state S.Store tx.new.conn.now) → (base : Trees) → IsOlder older base (state S.Store tx.old.conn.now)
+        → IfErr result (λ e. e ≡ ForeignTable → (day : ℤ) → HasDayAt (number older) base day → ¬ AreFillersTyped older base) }
+    ensures kept { HasCleanDisk (state S.Store tx.new.conn.now) → (base : Trees) → IsOlder older base (state S.Store tx.old.conn.now) → KeepsCommit (state S.Store tx.old.conn.now) (state S.Store tx.new.conn.now) }
     ensures survives { Survives (state S.Store tx.old.conn.now) (state S.Store tx.new.conn.now) (λ _. ⊥) }
 {
-    make_room(tx)?;
-    let (row, least) = read_old(alloc, tx)?;
+    make_room(tx, older)?;
+    let (row, least) = read_old(alloc, tx, older)?;
     write_new(tx, &row, least.as_slice())?;
     make_indexes(tx)?;
     Ok(row.day)
 }
 
-/// Brings books of schema 1 up, in one transaction of its own; the business day that is stored. The tables have the rows
-/// that they had, `least` has one for each item, with 0 days, and `meta` has the newest number. `Foreign` where the row of
-/// `meta` is missing or has a value that no row has, or an item has one. After an error the tables are as they were.
+/// Brings these books up, in one transaction of its own; the business day that is stored. The tables have the rows that
+/// they had, `meta` has the newest number, and of the tables that were lacking `least` has one row for each item, with 0
+/// days, the others none. `Foreign` where the row of `meta` is missing or has a value that no row has, or, from schema 1,
+/// an item has one. After an error the tables are as they were.
 pub fn bring_up<S: Alter>(
     alloc: Global,
     conn: &mut Connection<S>,
+    older: OlderBooks,
 ) -> Result<BusinessDay, TableFault>
     requires outside { conn.old.in_transaction ≡ false }
-    ensures day { HasCleanDisk (state S.Store conn.new) → IsFirstReady (state S.Store conn.old).now → IfOk result (HasDayAt 1 (state S.Store conn.old).now.trees) }
-    ensures foreign { HasCleanDisk (state S.Store conn.new) → IsFirstReady (state S.Store conn.old).now
-        → IfErr result (λ e. e ≡ ForeignTable → (day : ℤ) → HasDayAt 1 (state S.Store conn.old).now.trees day → ¬ AreItemsTyped (state S.Store conn.old).now.trees) }
+    ensures day { HasCleanDisk (state S.Store conn.new) → IsOlderReady older (state S.Store conn.old).now → IfOk result (HasDayAt (number older) (state S.Store conn.old).now.trees) }
+    ensures foreign { HasCleanDisk (state S.Store conn.new) → IsOlderReady older (state S.Store conn.old).now
+        → IfErr result (λ e. e ≡ ForeignTable → (day : ℤ) → HasDayAt (number older) (state S.Store conn.old).now.trees day → ¬ AreFillersTyped older (state S.Store conn.old).now.trees) }
     ensures open { HasCleanDisk (state S.Store conn.new) → OnOk result (IsTrue (state S.Store conn.new).is_open) }
-    ensures ready { HasCleanDisk (state S.Store conn.new) → IsFirstReady (state S.Store conn.old).now → OnOk result (IsReady (state S.Store conn.new).now) }
-    ensures brought { HasCleanDisk (state S.Store conn.new) → IsFirstReady (state S.Store conn.old).now
-        → OnOk result (IsBrought (state S.Store conn.old).now.trees (state S.Store conn.new).now.trees) }
-    ensures indexes { HasCleanDisk (state S.Store conn.new) → IsFirstReady (state S.Store conn.old).now → OnOk result (HasIndexes (state S.Store conn.new).now.schema) }
+    ensures ready { HasCleanDisk (state S.Store conn.new) → IsOlderReady older (state S.Store conn.old).now → OnOk result (IsReady (state S.Store conn.new).now) }
+    ensures brought { HasCleanDisk (state S.Store conn.new) → IsOlderReady older (state S.Store conn.old).now
+        → OnOk result (IsBrought older (state S.Store conn.old).now.trees (state S.Store conn.new).now.trees) }
+    ensures indexes { HasCleanDisk (state S.Store conn.new) → IsOlderReady older (state S.Store conn.old).now → OnOk result (HasIndexes (state S.Store conn.new).now.schema) }
     ensures settled { HasCleanDisk (state S.Store conn.new) → OnOk result ((state S.Store conn.new).committed ≡ (state S.Store conn.new).now) }
-    ensures failed { HasCleanDisk (state S.Store conn.new) → IsFirstReady (state S.Store conn.old).now → (state S.Store conn.old).now ≡ (state S.Store conn.old).committed
+    ensures failed { HasCleanDisk (state S.Store conn.new) → IsOlderReady older (state S.Store conn.old).now → (state S.Store conn.old).now ≡ (state S.Store conn.old).committed
         → IsTrue (state S.Store conn.new).is_open → OnErr result (((state S.Store conn.new).now ≡ (state S.Store conn.old).now) × ((state S.Store conn.new).committed ≡ (state S.Store conn.old).now)) }
     ensures survives { Survives (state S.Store conn.old) (state S.Store conn.new)
-        (λ db. IsFirstReady (state S.Store conn.old).now → IsBrought (state S.Store conn.old).now.trees db × TellTables db) }
+        (λ db. IsOlderReady older (state S.Store conn.old).now → IsBrought older (state S.Store conn.old).now.trees db × TellTables db) }
     ensures outside { conn.new.in_transaction ≡ false }
 {
     let mut tx = conn.transaction();
-    let day = bring(alloc, &mut tx)?;
+    let day = bring(alloc, &mut tx, older)?;
     tx.commit()?;
     Ok(day)
 }

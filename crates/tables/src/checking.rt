@@ -5,9 +5,9 @@ ghost use Rattle.std.specs.List.{list_all};
 ghost use Rattle.sqlite_value.specs.declared.value.Value.TheVariants.{Null};
 ghost use Rattle.sqlite_value.specs.Keys.{plain};
 ghost use Rattle.tables.specs.Layouts.{table_of, BeginsWithTables};
-ghost use Rattle.table_words.specs.Schema.{column, plain_table, keyed_table, id_table, first_tables, the_tables, schema_0, refers_to_none as refers_to_none_lem, is_harmless as is_harmless_lem, HasTables};
+ghost use Rattle.table_words.specs.Schema.{column, plain_table, keyed_table, id_table, the_tables, schema_0, refers_to_none as refers_to_none_lem, is_harmless as is_harmless_lem, HasTables};
 
-use crate::layouts::{ALL_TABLES, FIRST_TABLES, TABLE_COUNT, TableLayout};
+use crate::layouts::{ALL_TABLES, TABLE_COUNT, TableLayout};
 use sqlite_items::Items;
 use sqlite_schema::code::Terms;
 use sqlite_schema::schema::{Column, Index, Kind, Schema, Stamps, Table};
@@ -16,7 +16,7 @@ use sqlite_value::value::Value;
 use std::alloc::{AllocError, Global};
 
 /// The last tree of the tables and of their keys.
-const LAST_TREE: u32 = 27;
+const LAST_TREE: u32 = 29;
 
 /// What the names of the indexes of keys begin with, and no other.
 const AUTOMATIC: &[u8] = b"sqlite_autoindex_";
@@ -170,7 +170,11 @@ fn is_table(alloc: Global, found: &Table, layout: &TableLayout) -> Result<bool, 
 }
 
 /// Whether they are the tables of these layouts, in their order.
-fn tables_match(alloc: Global, found: &[Table], layouts: &[TableLayout]) -> Result<bool, AllocError>
+pub fn tables_match(
+    alloc: Global,
+    found: &[Table],
+    layouts: &[TableLayout],
+) -> Result<bool, AllocError>
     ensures { IfOk result (λ same. IsTrue same ↔ (found.now ≡ map table_of layouts.now)) }
 {
     if found.len() != layouts.len() {
@@ -189,13 +193,6 @@ fn are_tables(alloc: Global, found: &[Table]) -> Result<bool, AllocError>
     ensures { IfOk result (λ same. IsTrue same ↔ (found.now ≡ the_tables)) }
 {
     tables_match(alloc, found, &ALL_TABLES)
-}
-
-/// Whether they are the tables of schema 1, in their order.
-pub fn are_first_tables(alloc: Global, found: &[Table]) -> Result<bool, AllocError>
-    ensures { IfOk result (λ same. IsTrue same ↔ (found.now ≡ first_tables)) }
-{
-    tables_match(alloc, found, &FIRST_TABLES)
 }
 
 fn refers_to_none(found: &Table) -> bool

@@ -1,4 +1,4 @@
-//! Drops the indexes of the books that stand in books of schema 1.
+//! Drops the indexes of the books that stand in older books.
 
 ghost use Rattle.std.specs.Prelude.{List, [], ℕ, OnOk};
 ghost use Rattle.std.specs.Prelude.{◌≡◌};
@@ -7,6 +7,7 @@ ghost use Rattle.sqlite.specs.Held.{state};
 ghost use Rattle.sqlite.specs.Tree.{Trees};
 ghost use Rattle.sqlite_schema.specs.declared.schema.Index.{Index};
 ghost use Rattle.tables.specs.Older.{HasOurs, HasFewer, Drops};
+ghost use Rattle.tables.specs.declared.older.OlderBooks.{OlderBooks};
 
 use sqlite::{Alter, Error, Transaction};
 
@@ -21,8 +22,8 @@ const DROP_ORDERS_BY_STATE: &str = "DROP INDEX IF EXISTS orders_by_state";
 /// Runs the text, which drops the index of its name where there is one.
 fn drop_index<S: Alter>(tx: &mut Transaction<'_, S>, text: &str) -> Result<(), Error>
     ensures same_reference { tx.new.conn.ghost_name ≡ tx.old.conn.ghost_name }
-    ensures done { HasCleanDisk (state S.Store tx.new.conn.now) → (base : Trees) (name : List ℕ) (ours : List Index) → Drops text.now name
-        → HasOurs base ours (state S.Store tx.old.conn.now) → OnOk result (HasFewer base ours name (state S.Store tx.new.conn.now)) }
+    ensures done { HasCleanDisk (state S.Store tx.new.conn.now) → (older : OlderBooks) (base : Trees) (name : List ℕ) (ours : List Index) → Drops text.now name
+        → HasOurs older base ours (state S.Store tx.old.conn.now) → OnOk result (HasFewer older base ours name (state S.Store tx.new.conn.now)) }
     ensures kept { HasCleanDisk (state S.Store tx.new.conn.now) → KeepsCommit (state S.Store tx.old.conn.now) (state S.Store tx.new.conn.now) }
     ensures survives { Survives (state S.Store tx.old.conn.now) (state S.Store tx.new.conn.now) (λ _. ⊥) }
 {
@@ -34,8 +35,8 @@ fn drop_index<S: Alter>(tx: &mut Transaction<'_, S>, text: &str) -> Result<(), E
 /// are then all that the schema has.
 pub fn drop_indexes<S: Alter>(tx: &mut Transaction<'_, S>) -> Result<(), Error>
     ensures same_reference { tx.new.conn.ghost_name ≡ tx.old.conn.ghost_name }
-    ensures done { HasCleanDisk (state S.Store tx.new.conn.now) → (base : Trees) (ours : List Index) → HasOurs base ours (state S.Store tx.old.conn.now)
-        → OnOk result (HasOurs base [] (state S.Store tx.new.conn.now)) }
+    ensures done { HasCleanDisk (state S.Store tx.new.conn.now) → (older : OlderBooks) (base : Trees) (ours : List Index) → HasOurs older base ours (state S.Store tx.old.conn.now)
+        → OnOk result (HasOurs older base [] (state S.Store tx.new.conn.now)) }
     ensures kept { HasCleanDisk (state S.Store tx.new.conn.now) → KeepsCommit (state S.Store tx.old.conn.now) (state S.Store tx.new.conn.now) }
     ensures survives { Survives (state S.Store tx.old.conn.now) (state S.Store tx.new.conn.now) (λ _. ⊥) }
 {

@@ -23,12 +23,12 @@ pub struct IndexLayout {
 }
 
 /// The number of the tables.
-pub const TABLE_COUNT: usize = 15;
+pub const TABLE_COUNT: usize = 16;
 
 /// The tables of all steps, in their order.
 pub const ALL_TABLES: [TableLayout; TABLE_COUNT] = [
     META, ITEMS, BINS, LOTS, RECALLS, STOCK, ORDERS, LINES, STAGED, RESERVED, SHIPMENTS, SHIPLINES,
-    CARDS, REPEATS, LEAST,
+    CARDS, REPEATS, LEAST, URGENTS,
 ];
 
 /// The number of the tables of schema 1.
@@ -42,6 +42,9 @@ pub const FIRST_TABLES: [TableLayout; FIRST_COUNT] = [
 
 /// The tables that schema 2 adds.
 pub const SECOND_TABLES: [TableLayout; 1] = [LEAST];
+
+/// The tables that schema 3 adds.
+pub const THIRD_TABLES: [TableLayout; 1] = [URGENTS];
 
 const CREATE_META: &str =
     "CREATE TABLE meta (id INTEGER NOT NULL, mark TEXT NOT NULL, version INTEGER NOT NULL, day INTEGER NOT NULL, acts INTEGER NOT NULL, shipments INTEGER NOT NULL, PRIMARY KEY (id)) STRICT";
@@ -289,11 +292,24 @@ const LEAST: TableLayout = TableLayout {
     has_id: false,
 };
 
-/// The number of the keys of schema 1 that are not the rowid.
-pub const FIRST_KEY_COUNT: usize = 12;
+const CREATE_URGENTS: &str =
+    "CREATE TABLE urgents (ord TEXT NOT NULL, act INTEGER NOT NULL, PRIMARY KEY (ord)) STRICT";
 
-/// The indexes of the keys of schema 1, in their order. Each is UNIQUE, and stands one tree behind its table.
-pub const FIRST_KEYS: [IndexLayout; FIRST_KEY_COUNT] = [
+const URGENTS: TableLayout = TableLayout {
+    text: CREATE_URGENTS,
+    tree: 28,
+    name: b"urgents",
+    columns: &[(b"ord", Kind::Text), (b"act", Kind::Integer)],
+    places: &[1],
+    has_id: false,
+};
+
+/// The number of the keys of schema 2 that are not the rowid.
+pub const OLDER_KEY_COUNT: usize = 13;
+
+/// The indexes of the keys of schema 2, in their order; those of schema 1 are the first of them. Each is UNIQUE, and stands
+/// one tree behind its table.
+pub const OLDER_KEYS: [IndexLayout; OLDER_KEY_COUNT] = [
     IndexLayout {
         name: b"sqlite_autoindex_items_1",
         table: 1,
@@ -352,6 +368,11 @@ pub const FIRST_KEYS: [IndexLayout; FIRST_KEY_COUNT] = [
     IndexLayout {
         name: b"sqlite_autoindex_repeats_1",
         table: 24,
+        columns: &[1],
+    },
+    IndexLayout {
+        name: b"sqlite_autoindex_least_1",
+        table: 26,
         columns: &[1],
     },
 ];

@@ -1,4 +1,4 @@
-//! The fifteen tables of the books: the schema, and one call for each statement.
+//! The sixteen tables of the books: the schema, and one call for each statement.
 //!
 //! A call works inside the caller's transaction. `Store` is a fault of memory, the disk or size; `Foreign`, a stored
 //! row with a value that no row has.

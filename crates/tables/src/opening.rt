@@ -18,7 +18,7 @@ ghost use Rattle.tables.specs.declared.opening.Found.{Found};
 
 use crate::bringing::bring_up;
 use crate::checking::has_tables;
-use crate::older::is_first_schema;
+use crate::older::{OlderBooks, is_schema_of};
 use crate::settling::settle;
 use label::BusinessDay;
 use sqlite::{Alter, Connection, Error, ErrorCode};
@@ -40,8 +40,8 @@ pub enum Leftover<S: Alter> {
 pub enum Found {
     /// Books of the newest schema, whatever stands beside their tables.
     Newest,
-    /// Books of schema 1, with nothing of another's making beside their tables.
-    First,
+    /// Books of an older schema, with nothing of another's making beside their tables.
+    Older(OlderBooks),
 }
 
 /// Which books the schema is that of; `Foreign` where it is that of none.
@@ -54,8 +54,11 @@ fn judged(alloc: Global, schema: &Schema) -> Result<Found, TableFault>
     if has_tables(alloc, schema)? {
         return Ok(Found::Newest);
     }
-    if is_first_schema(alloc, schema)? {
-        return Ok(Found::First);
+    if is_schema_of(alloc, schema, OlderBooks::First)? {
+        return Ok(Found::Older(OlderBooks::First));
+    }
+    if is_schema_of(alloc, schema, OlderBooks::Second)? {
+        return Ok(Found::Older(OlderBooks::Second));
     }
     Err(TableFault::Foreign)
 }
@@ -132,8 +135,8 @@ pub fn ready<S: Alter + Drop>(
     }
 }
 
-/// The business day that is stored, over books that were found: the newest get the indexes that they lack, and those of
-/// schema 1 are brought up, in one transaction. `Foreign` where the row of `meta` is missing or has a value that no row has,
+/// The business day that is stored, over books that were found: the newest get the indexes that they lack, and older ones
+/// are brought up, in one transaction. `Foreign` where the row of `meta` is missing or has a value that no row has,
 /// or in books of schema 1 an item has one. After an error the tables are as they were.
 pub fn settled<S: Alter>(
     alloc: Global,
@@ -156,6 +159,6 @@ pub fn settled<S: Alter>(
 {
     match found {
         Found::Newest => settle(alloc, conn),
-        Found::First => bring_up(alloc, conn),
+        Found::Older(older) => bring_up(alloc, conn, older),
     }
 }

@@ -7,7 +7,7 @@ ghost use Rattle.sqlite.specs.State.{HasCleanDisk, Survives, KeepsCommit};
 ghost use Rattle.sqlite.specs.Held.{state};
 ghost use Rattle.tables.specs.Growing.{IsGrown, AreMade, grown, added_by, added_above};
 
-use crate::layouts::{FIRST_TABLES, SECOND_TABLES, TableLayout};
+use crate::layouts::{FIRST_TABLES, SECOND_TABLES, THIRD_TABLES, TableLayout};
 use sqlite::{Alter, Error, Transaction};
 
 /// A step of the schema.
@@ -20,7 +20,7 @@ pub struct Step {
 
 /// The steps of the schema, in the order of their numbers. The tables of all of them stand before any others, in this
 /// order; the indexes of the books are made behind the tables.
-pub const STEPS: [Step; 2] = [
+pub const STEPS: [Step; 3] = [
     Step {
         version: 1,
         tables: &FIRST_TABLES,
@@ -28,6 +28,10 @@ pub const STEPS: [Step; 2] = [
     Step {
         version: 2,
         tables: &SECOND_TABLES,
+    },
+    Step {
+        version: 3,
+        tables: &THIRD_TABLES,
     },
 ];
 

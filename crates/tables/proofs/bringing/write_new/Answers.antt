@@ -1,18 +1,19 @@
-use Rattle.std.proofs.Common.{◌≡◌, arith}
+use Rattle.std.proofs.Common.{arith}
 use Rattle.sqlite.specs.Held.{state}
 use Rattle.sqlite.specs.State.{HasCleanDisk}
 use Rattle.table_words.proofs.CallLemmas.{kept_then, on_ok_then}
+use Rattle.tables.specs.Older.{number}
 use Rattle.tables.proofs.BringLemmas.{written}
 use Rattle.tables.proofs.bringing.write_new.Goals as goal
 
 pub returns-clause-done : goal.returns-clause-done
-returns-clause-done g c clean base room has asks =
+returns-clause-done g c clean older base room has fills =
     let old = state g.S.Store c.args.tx.now.conn.now in
     let mid = state g.S.Store c.raise_meta.new.tx.conn.now in
     let new = state g.S.Store c.add_all.new.tx.conn.now in
     let was : HasCleanDisk mid = omega (arith, clean, c.add_all.ensures.writes.survives.clean) in
     let raised = c.in_ok-raise_meta.ensures.done was room.ready in
-    on_ok_then c.add_all.result (c.add_all.ensures.writes.done clean raised.ready) (written base old mid new c.args.row.now c.args.least.now room has asks raised (c.in_ok-raise_meta.ensures.typed was room.ready 1))
+    on_ok_then c.add_all.result (c.add_all.ensures.writes.done clean raised.ready) (written older base old mid new c.args.row.now c.args.least.now room has fills raised (c.in_ok-raise_meta.ensures.typed was room.ready (number older)))
 
 pub returns-clause-kept : goal.returns-clause-kept
 returns-clause-kept g c clean =

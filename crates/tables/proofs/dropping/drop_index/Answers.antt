@@ -10,6 +10,6 @@ pub returns-clause-kept : goal.returns-clause-kept
 returns-clause-kept g c clean = keeps g.S.Store _ _ c.args.tx.now.conn.now c.execute.new.self.conn.now _ c.execute.ensures.ended (c.execute.ensures.runs clean)
 
 pub returns-clause-done : goal.returns-clause-done
-returns-clause-done g c clean base name ours m has =
+returns-clause-done g c clean older base name ours m has =
     let inside = was_inside _ c.in_ok-execute.ensures.ended in
-    drops_one c.args.text.now name m base ours (state g.S.Store c.args.tx.now.conn.now) (state g.S.Store c.execute.new.self.conn.now) _ has (c.in_ok-execute.ensures.runs clean inside)
+    drops_one c.args.text.now name m older base ours (state g.S.Store c.args.tx.now.conn.now) (state g.S.Store c.execute.new.self.conn.now) _ has (c.in_ok-execute.ensures.runs clean inside)
