@@ -12,6 +12,7 @@ use Rattle.commands.specs.declared.rows.LotRow.{LotRow}
 use Rattle.commands.specs.declared.rows.RecallRow.{RecallRow}
 use Rattle.commands.specs.declared.rows.StockRow.{StockRow}
 use Rattle.commands.specs.declared.rows.OrderRow.{OrderRow}
+use Rattle.commands.specs.declared.rows.UrgentRow.{UrgentRow}
 use Rattle.commands.specs.declared.rows.LineRow.{LineRow}
 use Rattle.commands.specs.declared.rows.StagedRow.{StagedRow}
 use Rattle.commands.specs.declared.rows.ReservedRow.{ReservedRow}
@@ -20,7 +21,7 @@ use Rattle.commands.specs.declared.rows.ShiplineRow.{ShiplineRow}
 use Rattle.commands.specs.declared.rows.CardRow.{CardRow}
 use Rattle.sqlite.specs.State.{State}
 use Rattle.table_words.specs.Steps.{Goes}
-use Rattle.table_words.specs.Typed.{tables_in, with_meta, with_item, with_least, with_bin, with_lot, with_recall, with_stock, without_stock, with_order, with_line, with_staged, without_staged, with_reserved, without_reserved, with_shipment, with_shipline, with_card}
+use Rattle.table_words.specs.Typed.{tables_in, with_meta, with_item, with_least, with_bin, with_lot, with_recall, with_stock, without_stock, with_order, with_urgent, with_line, with_staged, without_staged, with_reserved, without_reserved, with_shipment, with_shipline, with_card}
 use Rattle.machine.specs.Postings.{is_lot}
 use Rattle.machine.specs.KeyedRows.{no_two}
 use Rattle.rules.specs.Slices.{applied, changed, added, AreOnce}
@@ -118,6 +119,11 @@ order_rows_written : (puts : List OrderRow) (t : Tables) → no_two (λ r s. sam
 order_rows_written puts t = table_put (λ t. t.order) (λ f t. record t { order = f }) (λ f t. refl) (λ f g t. refl) (λ t. refl) (λ o r. same_text o r.order)
     (λ r s. same_text r.order s.order) (λ o r s. texts_meet o r.order s.order) puts t
 
+urgents_written : (puts : List UrgentRow) (t : Tables) → no_two (λ r s. same_text r.order s.order) puts ≡ true
+    → each_written with_urgent puts t ≡ record t { urgent = λ o. added (λ r. same_text o r.order) puts (t.urgent o) }
+urgents_written puts t = table_put (λ t. t.urgent) (λ f t. record t { urgent = f }) (λ f t. refl) (λ f g t. refl) (λ t. refl) (λ o r. same_text o r.order)
+    (λ r s. same_text r.order s.order) (λ o r s. texts_meet o r.order s.order) puts t
+
 line_rows_written : (puts : List LineRow) (t : Tables) → no_two (λ r s. same_text r.order s.order && same_text r.gtin s.gtin) puts ≡ true
     → each_written with_line puts t ≡ record t { line = λ o g. added (λ r. same_text o r.order && same_text g r.gtin) puts (t.line o g) }
 line_rows_written puts t = table_put {K = List ℕ × List ℕ} (λ t k. t.line k.0 k.1) (λ f t. record t { line = λ o g. f (o, g) }) (λ f t. refl) (λ f g t. refl) (λ t. refl)
@@ -139,6 +145,7 @@ reserved_written puts drops t = table_written {K = List ℕ × LotId} (λ t k. t
 abbrev with_orders : Put → Dropped → Tables → Tables
 with_orders p d t = record t {
   order = λ o. added (λ r. same_text o r.order) p.orders (t.order o);
+  urgent = λ o. added (λ r. same_text o r.order) p.urgents (t.urgent o);
   line = λ o g. added (λ r. same_text o r.order && same_text g r.gtin) p.lines (t.line o g);
   staged = λ o l. changed (λ r. same_text o r.order && is_lot l r.lot) p.staged d.staged (t.staged o l);
   reserved = λ o l. changed (λ r. same_text o r.order && is_lot l r.lot) p.reserved d.reserved (t.reserved o l);
@@ -146,16 +153,19 @@ with_orders p d t = record t {
 
 orders_are : (p : Put) (d : Dropped) (t : Tables) → AreOnce p → orders_written p d t ≡ with_orders p d t
 orders_are p d t once =
+    let put_urgents : Tables → Tables = each_written with_urgent p.urgents in
     let put_lines : Tables → Tables = each_written with_line p.lines in
     let put_staged : Tables → Tables = rows_written with_staged (λ r. without_staged r.order r.lot) p.staged d.staged in
     let put_reserved : Tables → Tables = rows_written with_reserved (λ r. without_reserved r.order r.lot) p.reserved d.reserved in
     let one : Tables = record t { order = λ o. added (λ r. same_text o r.order) p.orders (t.order o) } in
-    let two : Tables = record one { line = λ o g. added (λ r. same_text o r.order && same_text g r.gtin) p.lines (t.line o g) } in
-    let three : Tables = record two { staged = λ o l. changed (λ r. same_text o r.order && is_lot l r.lot) p.staged d.staged (t.staged o l) } in
-    ap (λ u. put_reserved (put_staged (put_lines u))) (order_rows_written p.orders t once.orders)
-    ∙ ap (λ u. put_reserved (put_staged u)) (line_rows_written p.lines one once.lines)
-    ∙ ap put_reserved (staged_written p.staged d.staged two once.staged)
-    ∙ reserved_written p.reserved d.reserved three once.reserved
+    let two : Tables = record one { urgent = λ o. added (λ r. same_text o r.order) p.urgents (t.urgent o) } in
+    let three : Tables = record two { line = λ o g. added (λ r. same_text o r.order && same_text g r.gtin) p.lines (t.line o g) } in
+    let four : Tables = record three { staged = λ o l. changed (λ r. same_text o r.order && is_lot l r.lot) p.staged d.staged (t.staged o l) } in
+    ap (λ u. put_reserved (put_staged (put_lines (put_urgents u)))) (order_rows_written p.orders t once.orders)
+    ∙ ap (λ u. put_reserved (put_staged (put_lines u))) (urgents_written p.urgents one once.urgents)
+    ∙ ap (λ u. put_reserved (put_staged u)) (line_rows_written p.lines two once.lines)
+    ∙ ap put_reserved (staged_written p.staged d.staged three once.staged)
+    ∙ reserved_written p.reserved d.reserved four once.reserved
 
 -- ---- what has gone
 

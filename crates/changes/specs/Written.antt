@@ -1,7 +1,7 @@
 -- The rows of a change, written table by table.
 use Rattle.std.specs.Prelude.{List}
 use Rattle.commands.specs.Tables.{Tables}
-use Rattle.table_words.specs.Typed.{with_meta, with_item, with_least, with_bin, with_lot, with_recall, with_stock, without_stock, with_order, with_line, with_staged, without_staged, with_reserved, without_reserved, with_shipment, with_shipline, with_card}
+use Rattle.table_words.specs.Typed.{with_meta, with_item, with_least, with_bin, with_lot, with_recall, with_stock, without_stock, with_order, with_urgent, with_line, with_staged, without_staged, with_reserved, without_reserved, with_shipment, with_shipline, with_card}
 use Rattle.keyed_rows.specs.Writes.{each_written}
 use Rattle.row_rules.specs.declared.slice.Put.{Put}
 use Rattle.row_rules.specs.declared.slice.Dropped.{Dropped}
@@ -26,9 +26,9 @@ lots_written puts drops t = units_written puts drops (each_written with_recall p
 abbrev pub goods_written : Put → Dropped → Tables → Tables
 goods_written puts drops t = lots_written puts drops (names_written puts t)
 
--- orders and their lines
+-- orders, which of them are urgent, and their lines
 abbrev pub lines_written : Put → Tables → Tables
-lines_written puts t = each_written with_line puts.lines (each_written with_order puts.orders t)
+lines_written puts t = each_written with_line puts.lines (each_written with_urgent puts.urgents (each_written with_order puts.orders t))
 
 -- what is staged and reserved for orders
 abbrev pub shares_written : Put → Dropped → Tables → Tables

@@ -25,6 +25,7 @@ use order_tables::lines::Lines;
 use order_tables::orders::Orders;
 use order_tables::reserved::Reserved;
 use order_tables::staged::Staged;
+use order_tables::urgents::Urgents;
 use rules::{Change, Dropped, Put};
 use sqlite::{Alter, Transaction};
 use table_words::error::TableFault;
@@ -102,7 +103,7 @@ fn write_goods<S: Alter>(
     write_lots(tx, put, dropped, brings_lots(put, act))
 }
 
-/// Orders and their lines.
+/// Orders, which of them are urgent, and their lines.
 fn write_lines<S: Alter>(
     tx: &mut Transaction<'_, S>,
     put: &Put,
@@ -112,6 +113,7 @@ fn write_lines<S: Alter>(
     ensures writes { Writes (lines_written put.now) (state S.Store tx.old.conn.now) (state S.Store tx.new.conn.now) result }
 {
     put_rows::<Orders, S>(tx, &put.orders, are_new)?;
+    add_rows::<Urgents, S>(tx, &put.urgents)?;
     put_rows::<Lines, S>(tx, &put.lines, are_new)
 }
 
