@@ -1,11 +1,12 @@
 -- How a line ends: what its words come to, and what the side of the books told of its work.
 use Rattle.std.specs.Prelude.{◌≡◌, ◌⊎◌, ℕ, ℤ, List, IsTrue, Option, Some, Result, Ok, Err}
+use Rattle.std.specs.Io.KnownBytes.{Keeps}
 use Rattle.clap.specs.declared.error.Error.{Error}
 use Rattle.values.specs.Values.{is_gtin, is_lot_text}
 use Rattle.values.specs.declared.lot.LotId.{LotId}
 use Rattle.label.specs.Days.{is_business_day, parsed_day}
 use Rattle.command_line.specs.Lines.{IsFaultOfWords, IsNoBusinessDay, IsPrinted, IsRefused}
-use Rattle.command_line.specs.Statuses.{IsStatusOf}
+use Rattle.command_line.specs.Statuses.{IsStatusOf, IsOutputOf}
 use Rattle.command_line.specs.declared.fault.Fault.{Fault}
 use Rattle.command_line.specs.declared.fault.Fault.TheVariants.{Value, Io}
 use Rattle.command_line.specs.declared.running.Work.{Work}
@@ -52,15 +53,17 @@ IsEndOf works Unknown old new end = end ≡ Err Value
 abbrev pub IsNoLine : Result Unit Fault → Type 0
 IsNoLine end = (error : Error) × (fault : Fault) × IsFaultOfWords error fault × (end ≡ Err fault)
 
--- a line was read, which ended so, or was done and its output could not be flushed
-abbrev pub IsLineDone : Works → Option (List ℕ) → Result Unit Fault → Type 0
-IsLineDone works old end =
-    (line : Line) × (printed : Option (List ℕ)) × (IsEndOf works line old printed end ⊎ ((done : Unit) × IsEndOf works line old printed (Ok done) × (end ≡ Err Io)))
+-- a line was read, which ended so, or was done and its output could not be flushed; what it printed stays
+abbrev pub IsLineDone : Works → Option (List ℕ) → Option (List ℕ) → Result Unit Fault → Type 0
+IsLineDone works old new end =
+    (line : Line) × (printed : Option (List ℕ)) × Keeps printed new
+    × (IsEndOf works line old printed end ⊎ ((done : Unit) × IsEndOf works line old printed (Ok done) × (end ≡ Err Io)))
 
--- how the words of a line may end
-abbrev pub IsEnded : Works → Option (List ℕ) → Result Unit Fault → Type 0
-IsEnded works old end = IsNoLine end ⊎ IsLineDone works old end
+-- how the words of a line may end, with what the output had and has
+abbrev pub IsEnded : Works → Option (List ℕ) → Option (List ℕ) → Result Unit Fault → Type 0
+IsEnded works old new end = (IsNoLine end × (new ≡ old)) ⊎ IsLineDone works old new end
 
--- the status is that of such an end
-abbrev pub IsRun : Works → Option (List ℕ) → ℕ → Type 0
-IsRun works old status = (end : Result Unit Fault) × IsEnded works old end × IsStatusOf end status
+-- the words came to such an end, and the status and what is written then are those of it
+abbrev pub IsRun : Works → Option (List ℕ) → Option (List ℕ) → ℕ → Type 0
+IsRun works old new status =
+    (end : Result Unit Fault) × (printed : Option (List ℕ)) × IsEnded works old printed end × IsStatusOf end status × IsOutputOf end printed new status

@@ -6,18 +6,24 @@ use Rattle.clap.specs.declared.error.Error.{Error}
 use Rattle.clap.specs.declared.error.kind.ErrorKind.TheVariants.{OutOfMemory}
 use Rattle.label.specs.Days.{is_business_day, day_text, parsed_day}
 use Rattle.values.specs.Faults.{fault_code}
+use Rattle.commands.specs.declared.limits.TheConstants.{SCHEMA_VERSION}
 use Rattle.commands.specs.Refusals.{refusal_code}
 use Rattle.goodsin.specs.Faults.{file_fault_code}
 use Rattle.goodsin.specs.declared.fault.FileFault.TheVariants.{Row as RowOfFile}
 use Rattle.label.specs.Labels.{label_read}
 use Rattle.values.specs.declared.fault.LabelFault.{LabelFault}
 use Rattle.label.specs.declared.gs1.Label.{Label as LabelSaid}
+use Rattle.command_line.specs.declared.version.TheConstants.{VERSION}
 use Rattle.command_line.specs.declared.fault.Fault.{Fault}
 use Rattle.command_line.specs.declared.fault.Fault.TheVariants.{Usage, Label, File, Row, Refused, Value, Io, Store, Foreign}
 
 -- what `lotd label` prints
 abbrev pub label_lines : LabelSaid → List ℕ
 label_lines label = codes "GTIN " ++ label.gtin ++ codes "\nLOT " ++ label.lot ++ codes "\nEXPIRY " ++ day_text label.expiry ++ codes "\n"
+
+-- what `lotd --version` prints
+abbrev pub version_line : List ℕ
+version_line = codes "lotd " ++ VERSION.now ++ codes ", schema " ++ decimal SCHEMA_VERSION ++ codes "\n"
 
 -- what is told after `lotd: `
 abbrev pub told_code : Fault → List ℕ

@@ -1,8 +1,10 @@
--- With which status the program ends.
-use Rattle.std.specs.Prelude.{◌≡◌, ◌≢◌, ◌⊎◌, ℕ, Result, Ok, Err}
+-- With which status the program ends, and what it then writes to the output.
+use Rattle.std.specs.Prelude.{◌≡◌, ◌≢◌, ◌⊎◌, ℕ, List, Option, Result, Ok, Err}
+use Rattle.std.specs.Io.KnownBytes.{Appends}
 use Rattle.clap.specs.Values.{kind_of}
 use Rattle.clap.specs.declared.error.Error.{Error}
 use Rattle.clap.specs.declared.error.kind.ErrorKind.TheVariants.{DisplayHelp, DisplayVersion}
+use Rattle.command_line.specs.Lines.{version_line}
 use Rattle.command_line.specs.declared.fault.Fault.{Fault}
 use Rattle.command_line.specs.declared.fault.Fault.TheVariants.{Usage, Label, File, Row, Refused, Value, Io, Store, Foreign}
 use Rattle.command_line.specs.declared.running.TheConstants.{DONE, REFUSED, MISUSED}
@@ -23,3 +25,21 @@ IsStatusOf (Err Value) status = status ≡ REFUSED
 IsStatusOf (Err Io) status = status ≡ REFUSED
 IsStatusOf (Err Store) status = status ≡ REFUSED
 IsStatusOf (Err Foreign) status = status ≡ REFUSED
+
+-- words that are no line write nothing to the output; where the version was asked for, it was printed
+pub record IsOutputOfWords (error : Error) (old new : Option (List ℕ)) (status : ℕ) : Type 0 where
+  pub misused : kind_of error ≢ DisplayHelp → kind_of error ≢ DisplayVersion → new ≡ old
+  pub version : kind_of error ≡ DisplayVersion → status ≡ DONE → Appends old new version_line
+
+-- telling how a line ended writes nothing to the output, but for words that ask for help or the version
+abbrev pub IsOutputOf : Result Unit Fault → Option (List ℕ) → Option (List ℕ) → ℕ → Type 0
+IsOutputOf (Ok done) old new status = new ≡ old
+IsOutputOf (Err (Usage error)) old new status = IsOutputOfWords error old new status
+IsOutputOf (Err (Label fault)) old new status = new ≡ old
+IsOutputOf (Err (File fault)) old new status = new ≡ old
+IsOutputOf (Err (Row row why)) old new status = new ≡ old
+IsOutputOf (Err (Refused why)) old new status = new ≡ old
+IsOutputOf (Err Value) old new status = new ≡ old
+IsOutputOf (Err Io) old new status = new ≡ old
+IsOutputOf (Err Store) old new status = new ≡ old
+IsOutputOf (Err Foreign) old new status = new ≡ old

@@ -5,6 +5,7 @@ mod fault;
 mod label_line;
 mod lot_lines;
 mod running;
+mod version;
 mod words;
 
 pub use fault::Fault;

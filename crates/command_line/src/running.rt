@@ -1,14 +1,18 @@
 ghost use Rattle.std.specs.Prelude.{◌≡◌, ◌≤◌, OnOk};
 ghost use Rattle.std.specs.Io.KnownBytes.{Appends};
-ghost use Rattle.command_line.specs.Lines.{told_line};
-ghost use Rattle.command_line.specs.Statuses.{IsStatusOf, IsStatusOfWords};
+ghost use Rattle.clap.specs.Values.{kind_of};
+ghost use Rattle.clap.specs.declared.error.kind.ErrorKind.TheVariants.{DisplayVersion};
+ghost use Rattle.command_line.specs.Lines.{told_line, version_line};
+ghost use Rattle.command_line.specs.Statuses.{IsStatusOf, IsStatusOfWords, IsOutputOf, IsOutputOfWords};
 ghost use Rattle.command_line.specs.Ends.{IsEndOf, IsEnded, IsMade, IsRun};
 
 use crate::fault::Fault;
 use crate::label_line::{first_day, print_label};
 use crate::lot_lines::{print_card, print_notice};
+use crate::version::print_version;
 use crate::words::{Line, read_line};
 use clap::Error;
+use clap::error::ErrorKind;
 use label::BusinessDay;
 use std::alloc::Global;
 use std::convert::AsStr;
@@ -16,7 +20,7 @@ use std::io;
 use std::io::Write;
 use values::LotId;
 
-/// The exit status of a line that was done, and of a call for help.
+/// The exit status of a line that was done, and of a call for help or the version.
 pub const DONE: u8 = 0;
 
 /// The exit status of a line that was refused or met a fault.
@@ -56,7 +60,8 @@ pub trait BooksAt {
 }
 
 /// Runs the line that the words are, the program's name first: what it prints goes to `out`, and a
-/// fault to `err` as one line, `lotd: `, its code and, where a row of a file is named, ` row ` and its number. The result is the exit status, by how the line ended.
+/// fault to `err` as one line, `lotd: `, its code and, where a row of a file is named, ` row ` and its number. The result
+/// is the exit status, by how the line ended.
 pub fn run<'a, B: BooksAt, S: AsStr, W: Write, E: Write>(
     alloc: Global,
     books: &B,
@@ -64,7 +69,7 @@ pub fn run<'a, B: BooksAt, S: AsStr, W: Write, E: Write>(
     out: &mut W,
     err: &mut E,
 ) -> u8
-    ensures status { IsRun (B.ends books.now) (W.contents out.old) result }
+    ensures status { IsRun (B.ends books.now) (W.contents out.old) (W.contents out.new) result }
     ensures range { result ≤ MISUSED }
 {
     let end = do_line(alloc, books, words, out);
@@ -77,7 +82,7 @@ fn do_line<'a, B: BooksAt, S: AsStr, W: Write>(
     words: &'a [S],
     out: &mut W,
 ) -> Result<(), Fault>
-    ensures { IsEnded (B.ends books.now) (W.contents out.old) result }
+    ensures { IsEnded (B.ends books.now) (W.contents out.old) (W.contents out.new) result }
 {
     let line = read_line(alloc, words)?;
     end_line(books, line, out)?;
@@ -115,7 +120,8 @@ fn make_books<B: BooksAt, W: Write>(
 
 /// Tells how a line ended, and gives its exit status.
 fn tell_end<W: Write, E: Write>(end: Result<(), Fault>, out: &mut W, err: &mut E) -> u8
-    ensures { IsStatusOf end result }
+    ensures status { IsStatusOf end result }
+    ensures output { IsOutputOf end (W.contents out.old) (W.contents out.new) result }
 {
     match end {
         Ok(()) => DONE,
@@ -142,22 +148,29 @@ fn write_fault<E: Write>(fault: &Fault, err: &mut E) -> io::Result<()>
     }
 }
 
-// Help is told on `out`, and words that are no line on `err`.
+// Help and the version are told on `out`, and words that are no line on `err`.
 fn tell_usage<W: Write, E: Write>(error: &Error, out: &mut W, err: &mut E) -> u8
-    ensures { IsStatusOfWords error.now result }
+    ensures status { IsStatusOfWords error.now result }
+    ensures output { IsOutputOfWords error.now (W.contents out.old) (W.contents out.new) result }
 {
     if error.use_stderr() {
         let _ = write!(err, "{error}");
         return MISUSED;
     }
-    match write_help(error, out) {
+    match print_words(error, out) {
         Ok(()) => DONE,
         Err(_) => tell(&Fault::Io, err),
     }
 }
 
-fn write_help<W: Write>(help: &Error, out: &mut W) -> io::Result<()> {
-    write!(out, "{help}")?;
+/// Prints the help or the version.
+fn print_words<W: Write>(asked: &Error, out: &mut W) -> io::Result<()>
+    ensures { kind_of asked.now ≡ DisplayVersion → OnOk result (Appends (W.contents out.old) (W.contents out.new) version_line) }
+{
+    if asked.kind() == ErrorKind::DisplayVersion {
+        return print_version(out);
+    }
+    write!(out, "{asked}")?;
     out.flush()
 }
 

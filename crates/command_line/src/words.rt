@@ -1,3 +1,4 @@
+use crate::version::VERSION;
 use clap::{Arg, ArgAction, ArgMatches, Command, Error, value_parser};
 use std::alloc::{AllocError, Global};
 use std::convert::AsStr;
@@ -71,13 +72,29 @@ struct Words {
     values: &'static [Value],
 }
 
-const EXAMPLES: &str = "Examples:
+const AFTER_HELP: &str = "Examples:
   lotd init --db stock.db --day 2026-05-04
   lotd serve --db stock.db --port 8080 --max 1000
   lotd import --db stock.db goods.csv
   lotd card --db stock.db 09506000134352 L2
   lotd notice --db stock.db 09506000134352 L2
-  lotd label --day 2026-05-04 ']C101095060001343521726093010AB12'";
+  lotd label --day 2026-05-04 ']C101095060001343521726093010AB12'
+
+Exit status: 0 where the line was done, 2 where the words are no line of the
+program, and else 1. Then standard error has `lotd: ` and one of these:
+  store          the file is not there; or a server has it open; or it is no
+                 database, or has a second name; or the user may not write it;
+                 or disk or memory did not suffice
+  foreign books  other tables than the books', or (init) there are tables
+  io             the port is taken, the file to import cannot be read, or the
+                 output cannot be written
+  value          a day, a GTIN or a lot breaks its rule
+  U02 row 3, ..  what is asked is refused, by this code
+
+While a server has the file open, no other line can. Ask the server:
+  curl http://127.0.0.1:8080/cards/09506000134352/L2
+  curl http://127.0.0.1:8080/notices/09506000134352/L2
+  curl --data-binary @goods.csv http://127.0.0.1:8080/goodsin";
 
 static LINES: [Words; 6] = [
     Words {
@@ -132,7 +149,9 @@ static LINES: [Words; 6] = [
 
 The file begins with the line delivery,line,gtin,lot,expiry,bin,qty and has a
 receipt a line, at most 1000; the expiry is written YYMMDD.
-A FILE that begins with a dash goes after two dashes: lotd import --db PATH -- FILE",
+A FILE that begins with a dash goes after two dashes: lotd import --db PATH -- FILE
+While a server has the file open, ask it:
+  curl --data-binary @goods.csv http://127.0.0.1:8080/goodsin",
         values: &[
             Value {
                 id: "db",
@@ -154,7 +173,9 @@ A FILE that begins with a dash goes after two dashes: lotd import --db PATH -- F
         examples: "Example:
   lotd card --db stock.db 09506000134352 L2
 
-A LOT that begins with a dash goes after two dashes: lotd card --db PATH -- GTIN LOT",
+A LOT that begins with a dash goes after two dashes: lotd card --db PATH -- GTIN LOT
+While a server has the file open, ask it:
+  curl http://127.0.0.1:8080/cards/09506000134352/L2",
         values: &[
             Value {
                 id: "db",
@@ -182,7 +203,9 @@ A LOT that begins with a dash goes after two dashes: lotd card --db PATH -- GTIN
         examples: "Example:
   lotd notice --db stock.db 09506000134352 L2
 
-A LOT that begins with a dash goes after two dashes: lotd notice --db PATH -- GTIN LOT",
+A LOT that begins with a dash goes after two dashes: lotd notice --db PATH -- GTIN LOT
+While a server has the file open, ask it:
+  curl http://127.0.0.1:8080/notices/09506000134352/L2",
         values: &[
             Value {
                 id: "db",
@@ -308,7 +331,8 @@ fn program<'a>(alloc: Global) -> Result<Command<'a>, AllocError> {
 fn bare_program<'a>(alloc: Global) -> Command<'a> {
     Command::new(alloc, "lotd")
         .about("Lot stock: the stock of a food wholesaler, lot by lot")
-        .after_help(EXAMPLES)
+        .version(VERSION)
+        .after_help(AFTER_HELP)
         .subcommand_required(true)
 }
 

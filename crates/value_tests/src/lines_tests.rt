@@ -2,6 +2,7 @@
 
 use command_line::{BooksAt, Fault, Work, run};
 use commands::Refusal;
+use commands::limits::SCHEMA_VERSION;
 use goodsin::FileFault;
 use std::alloc::Global;
 use std::io;
@@ -130,6 +131,69 @@ fn tells_help_and_misuse_apart(rt: HostRuntime) {
     }
 }
 
+// What the help of a line says, among else.
+static HELP_SAYS: [(&[&str], &str); 7] = [
+    (
+        &["lotd", "--help"],
+        "\n  store          the file is not there; or a server has it open; or it is no\n",
+    ),
+    (
+        &["lotd", "--help"],
+        "\n                 or disk or memory did not suffice\n",
+    ),
+    (
+        &["lotd", "--help"],
+        "\n  curl http://127.0.0.1:8080/cards/09506000134352/L2\n",
+    ),
+    (&["lotd", "--help"], "--version"),
+    (
+        &["lotd", "card", "--help"],
+        "\n  curl http://127.0.0.1:8080/cards/09506000134352/L2\n",
+    ),
+    (
+        &["lotd", "notice", "--help"],
+        "\n  curl http://127.0.0.1:8080/notices/09506000134352/L2\n",
+    ),
+    (
+        &["lotd", "import", "--help"],
+        "\n  curl --data-binary @goods.csv http://127.0.0.1:8080/goodsin\n",
+    ),
+];
+
+fn says(end: &impl Abort, alloc: Global, words: &[&str], part: &str) {
+    let mut printed = Vec::new(alloc);
+    let mut told = Vec::new(alloc);
+    let status = run(alloc, &NoBooks, words, &mut printed, &mut told);
+    assert!(end; status == 0);
+    let text = std::str::from_utf8(printed.as_slice())
+        .ok()
+        .expect(end, "text");
+    assert!(end; text.contains(part), "{part:?}");
+}
+
+#[test]
+fn help_says_what_a_fault_may_be_and_how_to_ask_a_server(rt: HostRuntime) {
+    for row in HELP_SAYS.as_slice() {
+        says(&rt, rt.alloc(), row.0, row.1);
+    }
+}
+
+static VERSION: [&[&str]; 2] = [&["lotd", "--version"], &["lotd", "-V"]];
+
+#[test]
+fn tells_its_version_and_schema(rt: HostRuntime) {
+    let expected = format!(in rt.alloc(); "lotd 1.0.0, schema {SCHEMA_VERSION}\n").ok();
+    let expected = expected.expect(&rt, "memory");
+    for words in VERSION.as_slice() {
+        let mut printed = Vec::new(rt.alloc());
+        let mut told = Vec::new(rt.alloc());
+        let status = run(rt.alloc(), &NoBooks, words, &mut printed, &mut told);
+        assert!(rt; status == 0);
+        is_text(&rt, printed.as_slice(), expected.as_str());
+        is_text(&rt, told.as_slice(), "");
+    }
+}
+
 // An output that takes nothing.
 #[derive(Drop)]
 struct Full;
@@ -144,7 +208,7 @@ impl Write for Full {
     }
 }
 
-static PRINTED: [&[&str]; 2] = [
+static PRINTED: [&[&str]; 3] = [
     &[
         "lotd",
         "label",
@@ -153,6 +217,7 @@ static PRINTED: [&[&str]; 2] = [
         "]C101095060001343521726093010AB12",
     ],
     &["lotd", "--help"],
+    &["lotd", "--version"],
 ];
 
 fn cannot_print(end: &impl Abort, alloc: Global, words: &[&str]) {
