@@ -8,6 +8,7 @@ use crate::expiring::change_on;
 use commands::{LeastRow, NewLeast, Refusal};
 use row_rules::changing::one;
 use row_rules::judging::first_of;
+use row_rules::pushing::in_front;
 use row_rules::seeing::sees_item;
 use row_rules::{Change, Slice};
 use std::alloc::{AllocError, Global};
@@ -37,10 +38,7 @@ fn least_rows_after(
 ) -> Result<Vec<LeastRow>, AllocError>
     ensures { IfOk result (λ v. v.items ≡ least_rows_after_lem slice.now least.now) }
 {
-    let mut rows = Vec::new(alloc);
-    rows.push(least_row_put(least))?;
-    rows.extend_from_slice(slice.rows.least.as_slice())?;
-    Ok(rows)
+    in_front(alloc, least_row_put(least), slice.rows.least.as_slice())
 }
 
 /// What changes where the lots of an item must have so many days left.
