@@ -6,7 +6,6 @@ pub mod Members
 pub mod LotsShown
 pub mod QuantitiesShown
 pub mod BinsShown
-pub mod ReservedShown
 pub mod ShortShown
 pub mod LinesShown
 pub mod OrderShown
@@ -14,5 +13,6 @@ pub mod AllBinsShown
 pub mod LotTotals
 pub mod StockTold
 pub mod StockGiven
+pub mod Service
 pub mod ShortsShown
 pub mod ShortGiven

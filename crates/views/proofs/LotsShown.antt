@@ -14,10 +14,10 @@ use Rattle.machine.specs.KeyedRows.{AreRows}
 use Rattle.machine.specs.Views.{lots_in_order}
 use Rattle.machine.proofs.Tests.{is_lot_is, is_lot_refl, is_lot_turned}
 use Rattle.machine.proofs.histories.Lots.{same_known, lots_apart, lots_found, receipt_names_lot}
-use Rattle.rules.proofs.rows.Ordering.{AreRising, rising_inserted, rising_ordered, ordered_kept}
+use Rattle.rules.proofs.rows.Ordering.{AreRising, rising_inserted, rising_ordered, ordered_kept, rising_kept}
 use Rattle.rules.proofs.rows.Telling.{some_of_mapped, once_apart}
 use Rattle.views.specs.Seen.{lots_seen}
-use Rattle.views.proofs.Sorting.{IsIn, in_map, of_map, in_filter, of_filter, found_in, in_ordered, of_ordered, in_inserted, of_inserted, same_rising, rising_kept, rising_map}
+use Rattle.views.proofs.Sorting.{IsIn, in_map, of_map, in_filter, of_filter, found_in, in_ordered, of_ordered, in_inserted, of_inserted, same_rising, rising_map}
 use Rattle.views.proofs.Lists.{filter_all}
 use Rattle.views.proofs.Ranks.{IsEither, rank_strict, rank_further, rank_either, are_ordered}
 use Rattle.views.proofs.Members.{member_found, all_have, own_row}

@@ -6,7 +6,7 @@ ghost use Rattle.machine.specs.Once.{IsHistory};
 ghost use Rattle.machine.specs.Standing.{Placed, order_named};
 ghost use Rattle.machine.specs.Tables.{order_row, tables_of};
 ghost use Rattle.machine.specs.Views.{order_view as order_view_lem};
-ghost use Rattle.views.specs.Seen.{order_seen, line_seen, reserved_lot as reserved_lot_lem, reserved_lots_seen, staged_lot as staged_lot_lem, staged_lots_seen};
+ghost use Rattle.views.specs.Seen.{class_seen, order_seen, line_seen, reserved_lot as reserved_lot_lem, reserved_lots_seen, staged_lot as staged_lot_lem, staged_lots_seen};
 ghost use Rattle.views.specs.Shown.{AreShown};
 
 use crate::bins::store_bins;
@@ -15,15 +15,17 @@ use crate::lines::lines_of_order;
 use crate::lots::lots_of_item;
 use crate::short::line_short;
 use commands::{
-    LineRow, LineView, Listed, LotRow, OrderRow, OrderView, ReservedLot, StagedLot, StagedRow,
+    LineRow, LineView, Listed, LotRow, OrderClass, OrderRow, OrderView, ReservedLot, StagedLot,
+    StagedRow, UrgentRow,
 };
+use row_rules::demands::is_urgent;
 use row_rules::stages::{reserved_units, staged_units};
 use rules::Rows;
 use std::alloc::{AllocError, Global};
 use values::Name;
 
-/// What is shown of an order whose row this is. The rows are those of its lines, of the days that
-/// their items ask for, of what is staged and what is reserved for it, of the lots of that, and of
+/// What is shown of an order whose row this is. The rows are that of `urgents` if it is urgent, those
+/// of its lines, of the days that their items ask for, of what is staged and what is reserved for it, of the lots of that, and of
 /// the stock of the lots that are reserved for it, with the bins of that stock; others may be among
 /// them. It fails for want of memory alone.
 pub fn order_view(alloc: Global, rows: &Rows, order: &OrderRow) -> Result<OrderView, AllocError>
@@ -33,11 +35,22 @@ pub fn order_view(alloc: Global, rows: &Rows, order: &OrderRow) -> Result<OrderV
     let lines = lines_of_order(alloc, rows.lines.as_slice(), &order.order)?;
     let views = line_views(alloc, rows, order, lines.as_slice())?;
     Ok(OrderView {
+        class: class_of(rows.urgents.as_slice(), order),
         customer: order.customer,
         lines: Listed::from_vec(views),
         order: order.order,
         state: order.state,
     })
+}
+
+fn class_of(urgents: &[UrgentRow], order: &OrderRow) -> OrderClass
+    ensures { result ≡ class_seen urgents.now order.now }
+{
+    if is_urgent(urgents, &order.order) {
+        OrderClass::Urgent
+    } else {
+        OrderClass::Normal
+    }
 }
 
 fn line_views(
