@@ -61,4 +61,4 @@ pub returns-in-Least : goal.returns-in-Least
 returns-in-Least c = judged_as c.args.slice.now c.args.command.now (Least c.in-Least.least) c.in-Least.is c.judge_least.result c.judge_least.ensures
 
 pub returns-in-Urgent : goal.returns-in-Urgent
-returns-in-Urgent c = judged_as c.args.slice.now c.args.command.now (Urgent c.in-Urgent.order) c.in-Urgent.is c.judge_order.result c.judge_order.ensures
+returns-in-Urgent c = judged_as c.args.slice.now c.args.command.now (Urgent c.in-Urgent.order) c.in-Urgent.is c.judge_order-in-Urgent.result c.judge_order-in-Urgent.ensures
