@@ -38,3 +38,5 @@ mod worked;
 mod worked_days;
 #[cfg(test)]
 mod worked_orders;
+#[cfg(test)]
+mod worked_urgent;

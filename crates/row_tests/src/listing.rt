@@ -2,7 +2,7 @@
 
 use commands::{
     BinKind, BinRow, CardKind, CardRow, ItemRow, LeastRow, LineRow, LotRow, MetaRow, OrderRow,
-    OrderState, RecallRow, ReservedRow, ShiplineRow, ShipmentRow, StagedRow, StockRow,
+    OrderState, RecallRow, ReservedRow, ShiplineRow, ShipmentRow, StagedRow, StockRow, UrgentRow,
     decimal_text, signed_text,
 };
 use label::{BusinessDay, Day};
@@ -109,6 +109,7 @@ impl Listing {
 
     fn orders(&mut self, rows: &Put) {
         self.order_rows(rows.orders.as_slice());
+        self.urgents(rows.urgents.as_slice());
         self.lines(rows.lines.as_slice());
         self.staged(b"put", rows.staged.as_slice());
         self.reserved(b"put", rows.reserved.as_slice());
@@ -206,6 +207,15 @@ impl Listing {
             self.number(row.act);
             self.field(row.customer.as_bytes());
             self.field(state_name(row.state));
+            self.end();
+        }
+    }
+
+    fn urgents(&mut self, rows: &[UrgentRow]) {
+        for row in rows {
+            self.row(b"put", b"urgent");
+            self.field(row.order.as_bytes());
+            self.number(row.act);
             self.end();
         }
     }

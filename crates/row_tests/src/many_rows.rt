@@ -5,7 +5,8 @@ use crate::listing::Listing;
 use crate::samples::{BREAD, OATS, Written, add, business_day, gtin};
 use crate::stock_views::view_of;
 use commands::{
-    BinRow, ItemRow, LineRow, Listed, LotRow, OrderRow, RecallRow, ReservedRow, StagedRow, StockRow,
+    BinRow, ItemRow, LineRow, Listed, LotRow, OrderRow, RecallRow, ReservedRow, StagedRow,
+    StockRow, UrgentRow,
 };
 use plan::{Demand, Row, Supply};
 use row_rules::demands::demands_seen;
@@ -179,11 +180,22 @@ fn names_rows_of_many_orders_and_lots(rt: HostRuntime) {
     expect_rows(&rt, named.as_slice(), listing.as_bytes());
 }
 
-// Of the act 10 + place: 900 units and as many as its number, less one shipped and two staged.
+// The acts of S-12 and S-30, and then the others from 10 on.
+fn number_served(place: u64) -> u64 {
+    match place {
+        0 => 12,
+        1 => 30,
+        2..4 => 8 + place,
+        4..21 => 9 + place,
+        _ => 10 + place,
+    }
+}
+
+// Of each act: 900 units and as many as its number, less one shipped and two staged.
 fn expect_demands(rt: &impl Abort, demands: &[Demand]) {
     assert_eq!(rt; demands.len(), 40);
     for (place, demand) in demands.iter().enumerate() {
-        let number = 10 + place as u64;
+        let number = number_served(place as u64);
         let need = 897 + number;
         assert_eq!(rt; demand.booking, number);
         assert_eq!(rt; demand.need, if number == 30 { need - 4 } else { need });
@@ -191,7 +203,7 @@ fn expect_demands(rt: &impl Abort, demands: &[Demand]) {
 }
 
 // S-20 has two lines of the item, of which the first counts, and each order has one of another item.
-// S-30 has units of two lots on its stage.
+// S-30 has units of two lots on its stage. It is urgent, and so is S-12.
 #[test]
 fn sees_demands_of_many_orders(rt: HostRuntime) {
     let alloc = rt.alloc();
@@ -207,12 +219,14 @@ fn sees_demands_of_many_orders(rt: HostRuntime) {
         add(&rt, &mut lines, *line);
     }
     let staged: Vec<StagedRow> = falling(&rt, alloc, "S-#|L1|2", &["S-30|L2|4"]);
+    let urgents: Vec<UrgentRow> = rising(&rt, alloc, "U-#|#", &["S-30|30", "S-12|12"]);
     let item = gtin(&rt, OATS);
     let demands = demands_seen(
         alloc,
         &item,
         lines.as_slice(),
         staged.as_slice(),
+        urgents.as_slice(),
         orders.as_slice(),
     )
     .or_else(|_| {
@@ -221,6 +235,7 @@ fn sees_demands_of_many_orders(rt: HostRuntime) {
             &item,
             lines.as_slice(),
             staged.as_slice(),
+            urgents.as_slice(),
             orders.as_slice(),
         )
     })
@@ -354,6 +369,7 @@ fn rows_of_many(rt: &impl Abort, alloc: Global) -> Rows {
         staged: Listed::from_vec(rising(rt, alloc, "S-#|L#|2", &["S-30|L31|40", "S-31|E1|1"])),
         reserved: Listed::from_vec(falling(rt, alloc, "S-#|L#|#", &["S-1|L20|5", "S-10|L11|100"])),
         least: Listed::from_vec(Vec::new(alloc)),
+        urgents: Listed::from_vec(Vec::new(alloc)),
     }
 }
 

@@ -4,6 +4,7 @@
 use crate::listing::Listing;
 use crate::samples::{NO_ROWS, Sample, Written, rows};
 use crate::worked::THREE_LOTS;
+use crate::worked_urgent::TWO_URGENT;
 use commands::{OrderRow, OrderView};
 use rules::Rows;
 use std::alloc::Global;
@@ -46,12 +47,12 @@ const RESERVED: Sample = Sample {
 };
 
 // Of the twelve that Corner Shop ordered five are staged, and six of the others are reserved.
-const ONE_SHORT: &[u8] = b"S-1 Corner Shop OPEN\n\
+const ONE_SHORT: &[u8] = b"NORMAL S-1 Corner Shop OPEN\n\
     09506000134352 12 0 1 0\n\
     reserved L2 2026-05-31 6 A-01 3 A-02 3\n\
     staged L0 5\n";
 
-static VIEWED: [Viewed; 5] = [
+static VIEWED: [Viewed; 7] = [
     // The lots that expire first are reserved first. With each line stands what its item asks for.
     Viewed {
         rows: Sample {
@@ -59,7 +60,7 @@ static VIEWED: [Viewed; 5] = [
             ..RESERVED
         },
         order: CORNER_SHOP,
-        text: b"S-1 Corner Shop OPEN\n\
+        text: b"NORMAL S-1 Corner Shop OPEN\n\
             09506000134352 12 0 0 3650\n\
             reserved L0 2026-05-10 5 A-01 5\n\
             reserved L2 2026-05-31 7 A-01 10\n",
@@ -67,7 +68,7 @@ static VIEWED: [Viewed; 5] = [
     Viewed {
         rows: RESERVED,
         order: HARBOUR_CAFE,
-        text: b"S-2 Harbour Cafe OPEN\n\
+        text: b"NORMAL S-2 Harbour Cafe OPEN\n\
             09506000134352 12 0 0 0\n\
             reserved L2 2026-05-31 3 A-01 10\n\
             reserved L1 2026-06-30 9 A-01 10\n",
@@ -112,6 +113,21 @@ static VIEWED: [Viewed; 5] = [
         },
         order: CORNER_SHOP,
         text: ONE_SHORT,
+    },
+    // An urgent order, and one that is short since it is not.
+    Viewed {
+        rows: TWO_URGENT,
+        order: "S-3|11|Mill Inn|OPEN",
+        text: b"URGENT S-3 Mill Inn OPEN\n\
+            09506000134352 10 0 0 0\n\
+            reserved L0 2026-05-10 5 A-01 5\n\
+            reserved L2 2026-05-31 5 A-01 10\n",
+    },
+    Viewed {
+        rows: TWO_URGENT,
+        order: CORNER_SHOP,
+        text: b"NORMAL S-1 Corner Shop OPEN\n\
+            09506000134352 12 0 12 0\n",
     },
 ];
 

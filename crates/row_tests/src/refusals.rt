@@ -9,6 +9,7 @@ use std::alloc::Global;
 use std::process::Abort;
 
 // A command that is refused, and why.
+#[derive(Clone, Copy)]
 pub(crate) struct Refused {
     pub(crate) before: Sample,
     pub(crate) told: Told,

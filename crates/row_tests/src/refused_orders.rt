@@ -66,6 +66,24 @@ fn refuses_orders(rt: HostRuntime) {
     expect(&rt, rt.alloc(), ORDERS.as_slice());
 }
 
+// The order as an urgent one.
+fn as_urgent(case: &Refused) -> Refused {
+    Refused {
+        told: match case.told {
+            Told::Order(order, customer, lines) => Told::Urgent(order, customer, lines),
+            other => other,
+        },
+        ..*case
+    }
+}
+
+#[test]
+fn refuses_urgent_orders(rt: HostRuntime) {
+    for case in ORDERS.as_slice() {
+        expect(&rt, rt.alloc(), &[as_urgent(case)]);
+    }
+}
+
 // Units are staged for the order S-1, which there is not.
 const ORDER_UNKNOWN: Sample = Sample {
     staged: "S-2|L1|4\nS-1|L1|1",

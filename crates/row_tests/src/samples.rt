@@ -3,7 +3,7 @@
 use commands::{
     Adjustment, BinKind, BinRow, Command, ItemRow, Key, LeastDays, LeastRow, LineRow, Lines,
     Listed, LotRow, MetaRow, Movement, NewBin, NewItem, NewLeast, NewOrder, OrderLine, OrderRow,
-    OrderState, Picking, RecallRow, Receipt, Recount, ReservedRow, StagedRow, StockRow,
+    OrderState, Picking, RecallRow, Receipt, Recount, ReservedRow, StagedRow, StockRow, UrgentRow,
 };
 use label::{BusinessDay, Day};
 use rules::{Change, Rows, RuleFault, Slice, decide};
@@ -41,6 +41,8 @@ pub struct Sample {
     pub stock: &'static str,
     /// Name, act, customer, `OPEN`, `DONE` or `CANCELLED`.
     pub orders: &'static str,
+    /// Name, act, of the urgent ones.
+    pub urgents: &'static str,
     /// Order, GTIN, units ordered, units shipped.
     pub lines: &'static str,
     /// Order, lot, units.
@@ -72,6 +74,8 @@ pub enum Told {
     Adjust(&'static str, &'static str, i64),
     /// An order: its name, its customer, its lines (GTIN and units, as in a sample).
     Order(&'static str, &'static str, &'static str),
+    /// An urgent order, in the same way.
+    Urgent(&'static str, &'static str, &'static str),
     /// A picking: the order, the lot, the bin, the units.
     Pick(&'static str, &'static str, &'static str, u64),
     /// Units put back: the order, the lot, the bin, the units.
@@ -104,6 +108,7 @@ pub const NO_ROWS: Sample = Sample {
     recalls: "",
     stock: "",
     orders: "",
+    urgents: "",
     lines: "",
     staged: "",
     reserved: "",
@@ -291,6 +296,16 @@ impl Written for OrderRow {
     }
 }
 
+impl Written for UrgentRow {
+    fn read(rt: &impl Abort, text: &str) -> UrgentRow {
+        let (order, act) = cut(rt, text);
+        UrgentRow {
+            order: name(rt, order),
+            act: number(rt, act),
+        }
+    }
+}
+
 impl Written for LineRow {
     fn read(rt: &impl Abort, text: &str) -> LineRow {
         let (order, rest) = cut(rt, text);
@@ -351,6 +366,7 @@ pub(crate) fn rows(rt: &impl Abort, alloc: Global, sample: &Sample) -> Rows {
         staged: listed(rt, alloc, sample.staged),
         reserved: listed(rt, alloc, sample.reserved),
         least: listed(rt, alloc, sample.least),
+        urgents: listed(rt, alloc, sample.urgents),
     }
 }
 
@@ -398,13 +414,13 @@ fn adjust(rt: &impl Abort, text: &str, bin: &str, change: i64) -> Command {
     })
 }
 
-fn order(rt: &impl Abort, alloc: Global, order: &str, customer: &str, lines: &str) -> Command {
+fn order(rt: &impl Abort, alloc: Global, order: &str, customer: &str, lines: &str) -> NewOrder {
     let lines = rows_of(rt, alloc, lines);
-    Command::Order(NewOrder {
+    NewOrder {
         order: name(rt, order),
         customer: title(rt, customer),
         lines: Lines::new(lines).expect(rt, "lines"),
-    })
+    }
 }
 
 fn movement(rt: &impl Abort, text: &str, from: &str, to: &str, units: u64) -> Command {
@@ -439,7 +455,12 @@ pub(crate) fn command(rt: &impl Abort, alloc: Global, told: &Told) -> Command {
         Told::Move(lot, from, to, units) => movement(rt, lot, from, to, units),
         Told::Count(lot, bin, units) => count(rt, lot, bin, units),
         Told::Adjust(lot, bin, change) => adjust(rt, lot, bin, change),
-        Told::Order(name, customer, lines) => order(rt, alloc, name, customer, lines),
+        Told::Order(name, customer, lines) => {
+            Command::Order(order(rt, alloc, name, customer, lines))
+        }
+        Told::Urgent(name, customer, lines) => {
+            Command::Urgent(order(rt, alloc, name, customer, lines))
+        }
         Told::Pick(order, lot, bin, units) => Command::Pick(picking(rt, order, lot, bin, units)),
         Told::Unpick(order, lot, bin, units) => {
             Command::Unpick(picking(rt, order, lot, bin, units))

@@ -1,8 +1,10 @@
-//! What three hundred orders are short of one item: the last of them is given first, and others stand
-//! among them.
+//! What two urgent orders and the two of the two-customer example are short of; and what three hundred
+//! orders are short of one item: the last of them is given first, and others stand among them.
 
+use crate::listing::Listing;
 use crate::many_rows::filled;
-use crate::samples::{Written, add};
+use crate::samples::{Written, add, rows};
+use crate::worked_urgent::TWO_URGENT;
 use commands::{ItemRow, LineRow, Listed, OrderRow, ReservedRow, ShortLine, ShortView, StagedRow};
 use rules::Rows;
 use std::alloc::Global;
@@ -16,6 +18,20 @@ fn view_of(rt: &impl Abort, alloc: Global, rows: &Rows, item: &ItemRow) -> Short
         Ok(view) => view,
         Err(_) => short_view(alloc, rows, item).ok().expect(rt, "memory"),
     }
+}
+
+const URGENT_FIRST: &[u8] = b"S-4 Mill Inn 5\nS-1 Corner Shop 12\nS-2 Harbour Cafe 12\n";
+
+#[test]
+fn shows_shortages_of_urgent_orders_first(rt: HostRuntime) {
+    let alloc = rt.alloc();
+    let rows = rows(&rt, alloc, &TWO_URGENT);
+    let item = ItemRow::read(&rt, "09506000134352|Oat drink");
+    let view = view_of(&rt, alloc, &rows, &item);
+    let listing = Listing::of_shorts(&view);
+    drop(rows);
+    drop(view);
+    assert_eq!(rt; listing.as_bytes(), URGENT_FIRST);
 }
 
 // The rows of so many numbers, the greatest first.
@@ -45,7 +61,7 @@ fn falling<R: Written>(rt: &impl Abort, alloc: Global, form: &str, others: &[&st
 
 // Of the others, S-20 and S-500 are closed, S-30 has no line of the item, and S-40 is served in full.
 // S-320 has two lines of the item, of which the first counts, and S-150 units of two lots on its
-// stage.
+// stage. It is urgent, and so is S-399.
 fn rows_of_many(rt: &impl Abort, alloc: Global) -> Rows {
     let orders = [
         "S-20|20|Corner Shop|DONE",
@@ -72,15 +88,25 @@ fn rows_of_many(rt: &impl Abort, alloc: Global) -> Rows {
         staged: Listed::from_vec(falling(rt, alloc, "S-#|L1|2", &["S-150|L2|4"])),
         reserved: Listed::from_vec(falling(rt, alloc, "S-#|L1|50", &["S-40|L2|5"])),
         least: Listed::from_vec(Vec::new(alloc)),
+        urgents: Listed::from_vec(falling(rt, alloc, "U-#|#", &["S-399|399", "S-150|150"])),
     }
 }
 
-// Of the act 100 + place: 9,000 units and as many as its number, less one shipped, two staged and
-// fifty reserved.
+// The acts of the two urgent orders, and then the others from 100 on.
+fn number_served(place: u64) -> u64 {
+    match place {
+        0 => 150,
+        1 => 399,
+        2..52 => 98 + place,
+        _ => 99 + place,
+    }
+}
+
+// Of each act: 9,000 units and as many as its number, less one shipped, two staged and fifty reserved.
 fn expect_lines(rt: &impl Abort, alloc: Global, lines: &[ShortLine]) {
     assert_eq!(rt; lines.len(), 300);
     for (place, line) in lines.iter().enumerate() {
-        let number = 100 + place as u64;
+        let number = number_served(place as u64);
         let own: OrderRow = filled(rt, alloc, "S-#|#|Shop #|OPEN", number);
         let units = 8947 + number;
         assert_eq!(rt; line.order.as_bytes(), own.order.as_bytes());

@@ -5,7 +5,7 @@ use commands::{BinKind, spell};
 use std::alloc::Global;
 use std::process::Abort;
 
-static SPELLINGS: [(Told, &str); 17] = [
+static SPELLINGS: [(Told, &str); 18] = [
     (
         Told::Item(Item(OATS, "Oat drink")),
         "ITEM\n09506000134352\nOat drink",
@@ -31,6 +31,10 @@ static SPELLINGS: [(Told, &str); 17] = [
     (
         Told::Order("S-1", "Corner Shop", "09506000134352|12\n04012345000016|3"),
         "ORDER\nS-1\nCorner Shop\n09506000134352\n12\n04012345000016\n3",
+    ),
+    (
+        Told::Urgent("S-1", "Mill Inn", "09506000134352|12\n04012345000016|3"),
+        "URGENT\nS-1\nMill Inn\n09506000134352\n12\n04012345000016\n3",
     ),
     (Told::Cancel("S-1"), "CANCEL\nS-1"),
     (

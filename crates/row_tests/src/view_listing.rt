@@ -1,13 +1,16 @@
 //! Views as texts, a row a line, so that tests compare them whole.
 
 use crate::listing::{Listing, state_name};
-use commands::{BinUnits, LineView, LotStatus, LotView, OrderView, ReservedLot, StockView};
+use commands::{
+    BinUnits, LineView, LotStatus, LotView, OrderView, ReservedLot, ShortView, StockView,
+};
 
 impl Listing {
-    /// The order, each line with its reserved lots, their bins, and its staged lots.
+    /// The order with its class, each line with its reserved lots, their bins, and its staged lots.
     pub(crate) fn of_order(view: &OrderView) -> Listing {
         let mut listing = Listing::empty();
-        listing.word(view.order.as_bytes());
+        listing.word(view.class.word().as_bytes());
+        listing.field(view.order.as_bytes());
         listing.field(view.customer.as_bytes());
         listing.field(state_name(view.state));
         listing.end();
@@ -25,6 +28,18 @@ impl Listing {
         listing.end();
         for lot in view.lots.as_slice() {
             listing.lot_view(lot);
+        }
+        listing
+    }
+
+    /// The orders that are short of an item, with their customers and what they are short of.
+    pub(crate) fn of_shorts(view: &ShortView) -> Listing {
+        let mut listing = Listing::empty();
+        for line in view.lines.as_slice() {
+            listing.word(line.order.as_bytes());
+            listing.field(line.customer.as_bytes());
+            listing.number(line.qty);
+            listing.end();
         }
         listing
     }

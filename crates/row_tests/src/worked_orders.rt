@@ -68,7 +68,7 @@ const L0_STAGED: Sample = Sample {
     ..THREE_LOTS
 };
 
-const ALL_STAGED: Sample = Sample {
+pub(crate) const ALL_STAGED: Sample = Sample {
     acts: 12,
     stock: "L1|A-01|10\nL2|A-01|3",
     staged: "S-1|L0|5\nS-1|L2|7",
@@ -191,7 +191,7 @@ const LOTS_OF_ALL_KINDS: Sample = Sample {
 };
 
 // The two orders, and a second item.
-const TWO_ITEMS: Sample = Sample {
+pub(crate) const TWO_ITEMS: Sample = Sample {
     items: "09506000134352|Oat drink\n04012345000016|Rye bread",
     ..TWO_ORDERS
 };
