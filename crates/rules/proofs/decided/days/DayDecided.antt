@@ -1,5 +1,5 @@
 -- The opening of a day is decided as the machine decides it.
-use Rattle.std.proofs.Common.{◌≡◌, ℕ, Bool, true, false, ◌&&◌, not, List, [], ◌∷◌, ◌++◌, refl, sym, ◌∙◌, arith}
+use Rattle.std.proofs.Common.{◌≡◌, ℕ, Bool, true, false, ◌&&◌, not, List, ◌∷◌, ◌++◌, refl, ◌∙◌, arith}
 use Rattle.std.specs.Prelude.{◌==◌, ◌||◌, ℤ, pos, ◌+ℤ◌, Some, Result, nat_le, length, codes, decimal}
 use Rattle.std.specs.List.{list_any}
 use Rattle.values.specs.Values.{same_text}

@@ -25,7 +25,7 @@ use Rattle.lot_rules.specs.DecidedLeast.{least_judged, least_row_put, least_rows
 use Rattle.row_rules.specs.declared.slice.Slice.{Slice}
 use Rattle.row_rules.specs.declared.slice.Change.{Change}
 use Rattle.row_rules.specs.declared.slice.RuleFault.{RuleFault}
-use Rattle.machine.proofs.Tests.{same_text_is, same_text_refl}
+use Rattle.machine.proofs.Tests.{same_text_is}
 use Rattle.machine.proofs.histories.Accepted.{room_for_acts, least_accepted}
 use Rattle.rules.proofs.rows.FoundRows.{found_passes}
 use Rattle.rules.proofs.rows.TableSteps.{same_tables, names_changed, reserved_changed}

@@ -1,6 +1,6 @@
 -- An act that says from which expiry on lots ship: which lots it makes unshippable, and which items it touches, by the rows of its slice.
 use Rattle.std.proofs.Common.{◌≡◌, ℕ, Bool, true, false, ◌&&◌, not, List, [], ◌∷◌, ◌++◌, refl, ap, sym, ◌∙◌}
-use Rattle.std.specs.Prelude.{◌||◌, ◌==◌, if◌then◌else◌, ℤ, Option, Some, None, find, filter, map, option_map, is_some}
+use Rattle.std.specs.Prelude.{◌||◌, if◌then◌else◌, ℤ, Option, Some, None, find, filter, map, option_map, is_some}
 use Rattle.std.specs.List.{list_any}
 use Rattle.values.specs.Values.{same_text}
 use Rattle.values.specs.declared.lot.LotId.{LotId}
@@ -9,11 +9,10 @@ use Rattle.commands.specs.declared.rows.LeastRow.{LeastRow}
 use Rattle.commands.specs.declared.rows.LotRow.{LotRow}
 use Rattle.commands.specs.declared.rows.StagedRow.{StagedRow}
 use Rattle.machine.specs.Acts.{Act, gathered, next_number}
-use Rattle.machine.specs.Postings.{InBin, Stage, Posting, is_lot, of_item}
+use Rattle.machine.specs.Postings.{InBin, Stage, Posting, is_lot}
 use Rattle.machine.specs.Standing.{RETURNS, KnownLot, Placed, bins, lots, lot_known, hold_in, is_held, recall_in, is_recalled, is_expired, is_shippable, has_item, orders, cancel_in, least_expiry, says_held}
 use Rattle.machine.specs.Ledger.{posting, lot_returned, returned, made_unshippable, postings, postings_of}
 use Rattle.machine.specs.Planning.{staged_of_lot}
-use Rattle.machine.specs.Once.{IsHistory}
 use Rattle.machine.specs.Tables.{tables_of, lot_row, item_row}
 use Rattle.machine.specs.Touched.{is_touched}
 use Rattle.machine.specs.KeyedRows.{AreRows, AreOwn, no_two}
@@ -23,10 +22,9 @@ use Rattle.row_rules.specs.SeenStages.{staged_qty}
 use Rattle.row_rules.specs.Status.{is_past_row, earliest_seen}
 use Rattle.lot_rules.specs.Expiring.{is_out, gtins_seen}
 use Rattle.row_rules.specs.declared.slice.Slice.{Slice}
-use Rattle.machine.proofs.Tests.{or_first, or_later, or_none, and_later_false, same_text_is, same_text_refl, is_lot_is}
+use Rattle.machine.proofs.Tests.{or_later, or_none, and_later_false, same_text_is, is_lot_is}
 use Rattle.machine.proofs.Apart.{AllFound, any_found}
 use Rattle.machine.proofs.histories.Lots.{same_known, lots_found}
-use Rattle.machine.proofs.histories.LotItems.{lots_have_items, item_of_lot}
 use Rattle.rules.proofs.rows.FoundRows.{found_passes, found_own}
 use Rattle.rules.proofs.rows.StageTold.{on_stage_told}
 use Rattle.rules.proofs.rows.SliceTells.{item_told}
