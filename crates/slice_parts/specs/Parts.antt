@@ -1,5 +1,5 @@
 -- What slices are made of besides the tables: the names in a command, and which rows count.
-use Rattle.std.specs.Prelude.{ℕ, ℤ, Bool, not, ◌&&◌, if◌then◌else◌, List, [], ◌∷◌, ◌++◌, filter, Option, Some, None, option_map}
+use Rattle.std.specs.Prelude.{ℕ, ℤ, Bool, not, ◌&&◌, if◌then◌else◌, List, [], ◌∷◌, ◌++◌, map, filter, Option, Some, None, option_map}
 use Rattle.std.specs.Option.{option_to_list}
 use Rattle.std.specs.List.{list_any}
 use Rattle.values.specs.Values.{same_text}
@@ -13,6 +13,7 @@ use Rattle.commands.specs.declared.rows.LotRow.{LotRow}
 use Rattle.commands.specs.declared.rows.RecallRow.{RecallRow}
 use Rattle.commands.specs.declared.rows.StockRow.{StockRow}
 use Rattle.commands.specs.declared.rows.OrderRow.{OrderRow}
+use Rattle.commands.specs.declared.rows.UrgentRow.{UrgentRow}
 use Rattle.commands.specs.declared.rows.LineRow.{LineRow}
 use Rattle.commands.specs.declared.rows.StagedRow.{StagedRow}
 use Rattle.machine.specs.Postings.{is_lot}
@@ -84,6 +85,20 @@ has_line_in line_rows o = list_any (λ l. same_text o l.order) line_rows
 
 abbrev pub with_lines : List LineRow → List OrderRow → List OrderRow
 with_lines line_rows order_rows = filter (λ r. has_line_in line_rows r.order) order_rows
+
+-- Urgent orders
+
+-- one of the rows of urgent orders is the order's
+abbrev pub has_urgent_row : List UrgentRow → List ℕ → Bool
+has_urgent_row urgent_rows o = list_any (λ u. same_text o u.order) urgent_rows
+
+-- the lines of urgent orders
+abbrev pub urgent_lines : List UrgentRow → List LineRow → List LineRow
+urgent_lines urgent_rows line_rows = filter (λ l. has_urgent_row urgent_rows l.order) line_rows
+
+-- the names of these that orders of the rows have
+abbrev pub names_among : List (List ℕ) → List OrderRow → List (List ℕ)
+names_among names order_rows = map (λ r. r.order) (filter (λ r. is_among names r.order) order_rows)
 
 -- Lots
 

@@ -1,0 +1,93 @@
+//! Which orders are urgent, as far as a slice asks for it.
+
+ghost use Rattle.std.specs.Prelude.{◌≡◌, filter, map, IfOk};
+ghost use Rattle.row_rules.specs.LookUps.{rows_given};
+ghost use Rattle.slice_parts.specs.Parts.{is_among, has_urgent_row as has_urgent_row_lem, urgent_lines as urgent_lines_lem, names_among as names_among_lem};
+
+use crate::naming::has_name;
+use crate::order_names::orders_of;
+use commands::{LineRow, OrderRow, UrgentRow};
+use row_rules::look_ups::{RowsByText, by_text};
+use std::alloc::{AllocError, Global};
+use values::Name;
+
+/// Whether one of the rows of urgent orders is the order's.
+fn has_urgent_row(urgents: &[UrgentRow], order: &Name) -> bool
+    ensures { result ≡ has_urgent_row_lem urgents.now order.now }
+{
+    for row in urgents {
+        if *order == row.order {
+            return true;
+        }
+    }
+    false
+}
+
+/// The lines of urgent orders.
+pub fn urgent_lines(
+    alloc: Global,
+    lines: &[LineRow],
+    urgents: &[UrgentRow],
+) -> Result<Vec<LineRow>, AllocError>
+    ensures { IfOk result (λ rows. rows.items ≡ urgent_lines_lem urgents.now lines.now) }
+{
+    let own = by_text(alloc, urgents, lines.len())?;
+    with_own_urgents(alloc, lines, &own)
+}
+
+/// The lines of the orders that have one of the rows that are given for their names.
+fn with_own_urgents(
+    alloc: Global,
+    lines: &[LineRow],
+    urgents: &RowsByText<'_, UrgentRow>,
+) -> Result<Vec<LineRow>, AllocError>
+    ensures { IfOk result (λ rows. rows.items ≡ filter (λ l. has_urgent_row_lem (rows_given urgents.now l.order) l.order) lines.now) }
+{
+    let mut rows = Vec::new(alloc);
+    for line in lines {
+        if has_urgent_row(urgents.rows_of_name(&line.order), &line.order) {
+            rows.push(*line)?;
+        }
+    }
+    Ok(rows)
+}
+
+/// The orders that have one of these names.
+fn rows_among(
+    alloc: Global,
+    names: &[Name],
+    orders: &[OrderRow],
+) -> Result<Vec<OrderRow>, AllocError>
+    ensures { IfOk result (λ rows. rows.items ≡ filter (λ r. is_among names.now r.order) orders.now) }
+{
+    let mut rows = Vec::new(alloc);
+    for order in orders {
+        if has_name(names, &order.order) {
+            rows.push(*order)?;
+        }
+    }
+    Ok(rows)
+}
+
+/// The names of these that orders of the rows have.
+pub fn names_among(
+    alloc: Global,
+    names: &[Name],
+    orders: &[OrderRow],
+) -> Result<Vec<Name>, AllocError>
+    ensures { IfOk result (λ found. found.items ≡ names_among_lem names.now orders.now) }
+{
+    let rows = rows_among(alloc, names, orders)?;
+    orders_of(alloc, rows.as_slice())
+}
+
+/// The orders of rows of urgent ones.
+pub fn urgent_names(alloc: Global, rows: &[UrgentRow]) -> Result<Vec<Name>, AllocError>
+    ensures { IfOk result (λ names. names.items ≡ map (λ r. r.order) rows.now) }
+{
+    let mut names = Vec::new(alloc);
+    for row in rows {
+        names.push(row.order)?;
+    }
+    Ok(names)
+}
