@@ -1,5 +1,5 @@
 -- After an order the plan of each of its items has the rows of before, and behind them those of its line.
-use Rattle.std.proofs.Common.{◌≡◌, ℕ, ◌+◌, ◌-◌, true, false, ◌&&◌, not, List, [], ◌∷◌, ◌++◌, refl, ap, sym, subst, ◌∙◌, arith}
+use Rattle.std.proofs.Common.{◌≡◌, ℕ, ◌+◌, true, false, ◌&&◌, not, List, [], ◌∷◌, ◌++◌, refl, ap, sym, subst, ◌∙◌, arith}
 use Rattle.std.specs.Prelude.{◌==◌, if◌then◌else◌, ℤ, Option, Some, None, find, filter, map, flat_map, reverse}
 use Rattle.std.specs.List.{list_any, cons_option}
 use Rattle.std.proofs.lemmas.Bool.{eqb-true}
@@ -20,14 +20,14 @@ use Rattle.plan.proofs.Laying.{plan_rows-append}
 use Rattle.machine.specs.Acts.{Act, next_number}
 use Rattle.machine.specs.Postings.{of_item}
 use Rattle.machine.specs.Standing.{Placed, KnownLot, orders, order_named, has_order, lot_known}
-use Rattle.machine.specs.Planning.{is_urgent, is_normal, booking_of, lines_of_item, bookings, need, demand_of, demands, supplies, item_postings, plan, reserved, reserved_of}
+use Rattle.machine.specs.Planning.{is_urgent, is_normal, booking_of, lines_of_item, bookings, demand_of, demands, supplies, item_postings, plan, reserved, reserved_of}
 use Rattle.machine.specs.Once.{IsHistory}
 use Rattle.row_rules.specs.Plans.{named_row, named_rows}
 use Rattle.machine.proofs.Tests.{or_none, same_text_is, same_text_refl}
 use Rattle.machine.proofs.Apart.{AreApart}
 use Rattle.machine.proofs.histories.Served.{demands_apart}
-use Rattle.machine.proofs.histories.NewOrders.{new_is_not_cancelled, new_has_nothing_staged, new_has_nothing_shipped}
 use Rattle.machine.proofs.histories.Orders.{act_names_order}
+use Rattle.rules.proofs.decided.orders.Placing.{new_needs}
 use Rattle.rules.proofs.decided.orders.OrderStep.{act, after, placed, named_same}
 
 -- Rows of other bookings
@@ -102,11 +102,6 @@ module _ (first : ℤ) (acts : List Act) (key : Key) (o : NewOrder) (next : IsHi
   abbrev pub line_demand : Demand
   line_demand = record { booking = next_number acts; need = l.qty }
 
-  pub needs_all : need acts (item_postings first acts g) (booking_of own l) ≡ l.qty
-  needs_all =
-      (λ i. if new_is_not_cancelled first acts next.0 o.order new i then 0 else l.qty - new_has_nothing_staged first acts next.0 o.order new g i - new_has_nothing_shipped first acts next.0 o.order new g i)
-      ∙ omega arith
-
   bookings_after : bookings (after first acts key o false) g ≡ bookings acts g ++ booking_of own l ∷ []
   bookings_after =
       let ones = reverse (flat_map (lines_of_item g) (filter is_urgent (orders acts))) in
@@ -119,7 +114,7 @@ module _ (first : ℤ) (acts : List Act) (key : Key) (o : NewOrder) (next : IsHi
   demands_after =
       ap (map (demand_of acts (item_postings first acts g))) bookings_after
       ∙ map_append (demand_of acts (item_postings first acts g)) (bookings acts g) (booking_of own l ∷ [])
-      ∙ ap (λ n. demands first acts g ++ record { booking = next_number acts; need = n } ∷ []) needs_all
+      ∙ ap (λ n. demands first acts g ++ record { booking = next_number acts; need = n } ∷ []) (new_needs first acts next.0 (booking_of own l) new)
 
   -- the rows of the line
   abbrev pub line_rows : List Row

@@ -13,19 +13,18 @@ use Rattle.commands.specs.declared.command.OrderLine.{OrderLine}
 use Rattle.commands.specs.declared.command.NewOrder.{NewOrder}
 use Rattle.plan.specs.Overlap.{reserved_for}
 use Rattle.machine.specs.Acts.{Act, next_number}
-use Rattle.machine.specs.Standing.{Placed, orders, has_order, lines_placed, is_cancelled}
-use Rattle.machine.specs.Planning.{Booking, booking_of, bookings, lines_of_item, plan, short_of, short_of_order, need, staged, shipped_of, item_postings}
+use Rattle.machine.specs.Standing.{Placed, orders, has_order, lines_placed}
+use Rattle.machine.specs.Planning.{Booking, booking_of, bookings, lines_of_item, plan, short_of, short_of_order, need, item_postings}
 use Rattle.machine.specs.Once.{IsHistory}
 use Rattle.machine.specs.Verdict.{names_item_twice}
 use Rattle.row_rules.specs.Seen.{capped}
 use Rattle.machine.proofs.Tests.{and_both, or_none, same_text_refl}
 use Rattle.machine.proofs.Apart.{AllFound, any_found}
 use Rattle.machine.proofs.histories.Quantities.{at_most_limit}
-use Rattle.machine.proofs.histories.NewOrders.{new_is_not_cancelled, new_has_nothing_staged, new_has_nothing_shipped}
 use Rattle.rules.proofs.rows.Ordering.{total_filter}
 use Rattle.rules.proofs.rows.BookingSums.{total_flat_map, total_bookings}
 use Rattle.rules.proofs.rows.DemandsTold.{listed, line_found}
-use Rattle.rules.proofs.decided.orders.Placing.{orders_are, need_same}
+use Rattle.rules.proofs.decided.orders.Placing.{new_needs, orders_are, need_same}
 use Rattle.rules.proofs.decided.orders.OrderStep.{after, placed, named_own}
 use Rattle.rules.proofs.decided.orders.OrderTells.{same_item}
 
@@ -83,10 +82,7 @@ module _ (first : ℤ) (acts : List Act) (key : Key) (o : NewOrder) (u : Bool) (
 
   -- a line needs all that it asks for
   pub line_needs : (l : OrderLine) → need later (item_postings first later l.gtin) (booking_of own l) ≡ l.qty
-  line_needs l =
-      let wanted : (if is_cancelled acts o.order then 0 else l.qty - staged (item_postings first acts l.gtin) o.order l.gtin - shipped_of first acts o.order l.gtin) ≡ l.qty =
-      (λ i. if new_is_not_cancelled first acts history o.order new i then 0 else l.qty - new_has_nothing_staged first acts history o.order new l.gtin i - new_has_nothing_shipped first acts history o.order new l.gtin i) ∙ omega arith in
-      need_same first acts key o u (booking_of own l) l.gtin ∙ wanted
+  line_needs l = need_same first acts key o u (booking_of own l) l.gtin ∙ new_needs first acts history (booking_of own l) new
 
   line_short : (l : OrderLine) → find (same_item l) o.lines ≡ Some l → total own_short (lines_of_item l.gtin own) ≡ l.qty - reserved_for (next_number acts) (plan first later l.gtin)
   line_short l found =

@@ -1,5 +1,5 @@
 -- A command that places an order, urgent or not: what it touches, what it makes known, and what it leaves as it was.
-use Rattle.std.proofs.Common.{◌≡◌, ℕ, Bool, true, false, ◌&&◌, List, ◌∷◌, refl}
+use Rattle.std.proofs.Common.{◌≡◌, ℕ, ◌-◌, Bool, true, false, ◌&&◌, List, ◌∷◌, refl, ◌∙◌, arith}
 use Rattle.std.specs.Prelude.{◌==◌, if◌then◌else◌, ℤ, Option, Some, None, find, option_map}
 use Rattle.std.specs.List.{list_all, list_any}
 use Rattle.values.specs.Values.{same_text, is_name, is_title}
@@ -11,13 +11,15 @@ use Rattle.commands.specs.declared.command.Command.{Command}
 use Rattle.commands.specs.declared.command.Command.TheVariants.{Order, Urgent}
 use Rattle.commands.specs.declared.rows.OrderState.TheVariants.{Open, Done, Cancelled}
 use Rattle.machine.specs.Acts.{Act, next_number}
-use Rattle.machine.specs.Standing.{Placed, orders, order_named, lines_placed, is_cancelled}
+use Rattle.machine.specs.Standing.{Placed, orders, order_named, has_order, lines_placed, is_cancelled}
 use Rattle.machine.specs.Planning.{Booking, item_postings, shipped_of, order_state, need}
+use Rattle.machine.specs.Once.{IsHistory}
 use Rattle.machine.specs.Tables.{if_urgent, line_row, urgent_row}
 use Rattle.machine.specs.Touched.{is_touched}
 use Rattle.machine.specs.Verdict.{judgement, ordering, verdict}
 use Rattle.machine.proofs.Tests.{and_both, same_text_refl}
 use Rattle.machine.proofs.histories.Accepted.{OrderAccepted, order_accepted, urgent_accepted}
+use Rattle.machine.proofs.histories.NewOrders.{new_is_not_cancelled, new_has_nothing_staged, new_has_nothing_shipped}
 use Rattle.rules.specs.Slices.{plans, names_order}
 
 abbrev pub placing : Bool → NewOrder → Command
@@ -45,6 +47,12 @@ placing_judged first acts false o = refl
 pub placing_accepted : (first : ℤ) (acts : List Act) (u : Bool) (o : NewOrder) → verdict first acts (placing u o) ≡ None → OrderAccepted first acts o
 placing_accepted first acts true o ok = urgent_accepted first acts o ok
 placing_accepted first acts false o ok = order_accepted first acts o ok
+
+-- a booking of an order that is new needs all that it asks for
+pub new_needs : (first : ℤ) (acts : List Act) → IsHistory first acts → (b : Booking) → has_order acts b.order ≡ false → need acts (item_postings first acts b.item) b ≡ b.ordered
+new_needs first acts history b new =
+    (λ i. if new_is_not_cancelled first acts history b.order new i then 0 else b.ordered - new_has_nothing_staged first acts history b.order new b.item i - new_has_nothing_shipped first acts history b.order new b.item i)
+    ∙ omega arith
 
 -- Of the acts with it
 
