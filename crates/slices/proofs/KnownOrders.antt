@@ -18,7 +18,7 @@ use Rattle.slices.proofs.RowsTold.{and_true, or_true, rows_read, rows_joined, ro
 use Rattle.slices.proofs.SeekSteps.{each_read}
 use Rattle.slices.proofs.SliceTold.{sought, among_names, once_names}
 
-any_more : {X : Type 0} (p q : X → Bool) (xs : List X) → ((x : X) → p x ≡ true → q x ≡ true) → list_any p xs ≡ true → list_any q xs ≡ true
+pub any_more : {X : Type 0} (p q : X → Bool) (xs : List X) → ((x : X) → p x ≡ true → q x ≡ true) → list_any p xs ≡ true → list_any q xs ≡ true
 any_more p q [] more e = e
 any_more p q (x ∷ xs) more e =
     elim (p x) as (λ b. p x ≡ b → b || list_any p xs ≡ true → q x || list_any q xs ≡ true) [
@@ -27,7 +27,7 @@ any_more p q (x ∷ xs) more e =
     ] refl e
 
 -- one of those that pass, with its place among the texts
-some_passes : (p : List ℕ → Bool) (xs : List (List ℕ)) (P : Type 0) → ((x : List ℕ) → is_among xs x ≡ true → p x ≡ true → P) → list_any p xs ≡ true → P
+pub some_passes : (p : List ℕ → Bool) (xs : List (List ℕ)) (P : Type 0) → ((x : List ℕ) → is_among xs x ≡ true → p x ≡ true → P) → list_any p xs ≡ true → P
 some_passes p [] P f e = absurd (let none : false ≡ true = e in cc)
 some_passes p (x ∷ xs) P f e =
     elim (p x) as (λ b. p x ≡ b → b || list_any p xs ≡ true → P) [
@@ -36,7 +36,7 @@ some_passes p (x ∷ xs) P f e =
     ] refl e
 
 -- a key of which the table has no row is not found among rows of the table
-not_found : {K R : Type 0} (same : K → K → Bool) (key : R → K) → ((k m : K) → same k m ≡ true → k ≡ m) → (allowed : K → Bool) (row : K → Option R) (rows : List R) → AreOwn key allowed row rows → (k : K) → row k ≡ None → find (λ r. same k (key r)) rows ≡ None
+pub not_found : {K R : Type 0} (same : K → K → Bool) (key : R → K) → ((k m : K) → same k m ≡ true → k ≡ m) → (allowed : K → Bool) (row : K → Option R) (rows : List R) → AreOwn key allowed row rows → (k : K) → row k ≡ None → find (λ r. same k (key r)) rows ≡ None
 not_found same key is allowed row [] h k e = refl
 not_found {R = R} same key is allowed row (r ∷ rows) h k e =
     elim (same k (key r)) as (λ b. same k (key r) ≡ b → (if b then Some r else find (λ s. same k (key s)) rows) ≡ None) [
@@ -46,7 +46,7 @@ not_found {R = R} same key is allowed row (r ∷ rows) h k e =
 
 -- the names that are not named
 
-among_others : (named names : List (List ℕ)) (o : List ℕ) → is_among (other_names named names) o ≡ is_among names o && not (is_among named o)
+pub among_others : (named names : List (List ℕ)) (o : List ℕ) → is_among (other_names named names) o ≡ is_among names o && not (is_among named o)
 among_others named [] o = refl
 among_others named (n ∷ names) o =
     elim (same_text o n) as (λ b. same_text o n ≡ b → is_among (other_names named (n ∷ names)) o ≡ (b || is_among names o) && not (is_among named o)) [

@@ -12,6 +12,7 @@ pub mod DayTold
 pub mod OrdersTold
 pub mod KnownOrders
 pub mod OwnRows
+pub mod UrgentOrders
 pub mod PickRight
 pub mod ShipmentRight
 pub mod SliceRight

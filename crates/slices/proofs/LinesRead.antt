@@ -7,13 +7,12 @@ use Rattle.table_words.specs.Steps.{IsReady}
 use Rattle.table_words.specs.Typed.{tables_in}
 use Rattle.table_words.specs.declared.error.TableFault.{TableFault}
 use Rattle.row_rules.specs.declared.slice.Put.{Put}
-use Rattle.open_lines.specs.OpenLines.{Entries}
 use Rattle.slices.specs.Reading.{IsRead}
 use Rattle.slices.specs.Bounding.{AreBounds}
 use Rattle.slices.specs.Slicing.{IsFirstKnown, HoldsOf, Knows}
 use Rattle.slices.specs.declared.knowing.Bounds.{Bounds}
 use Rattle.slices.specs.declared.knowing.Known.{Known}
-use Rattle.slices.proofs.Covering.{covers_read}
+use Rattle.slices.proofs.Covering.{covers_read, covers_urgent_read}
 
 -- a number that is not below the limit tells nothing
 none_bound : (t : Tables) (b : Bounds) → b ≡ record { items = ITEMS_MAX; bins = BINS_MAX } → AreBounds b t
@@ -22,9 +21,10 @@ none_bound t b none = subst (λ (x : Bounds). AreBounds x t) (sym none) (record 
 pub first_read : (old new : State) (r : Result Known TableFault) → IsRead IsFirstKnown old new r → HasCleanDisk new → IsReady old.now → IsTrue old.is_open → IfOk r (λ known. HoldsOf known (tables_in old.now.trees))
 first_read old new (Ok known) one clean ready up =
     let told = (one.answers clean ready up).1 in
-    record { lines = covers_read (tables_in old.now.trees) known.lines told.lines; bounds = none_bound (tables_in old.now.trees) known.bounds told.bounds }
+    let t : Tables = tables_in old.now.trees in
+    record { lines = covers_read t known.lines known.urgent told.lines; urgent = covers_urgent_read t known.lines known.urgent told.lines; bounds = none_bound t known.bounds told.bounds }
 first_read old new (Err e) one clean ready up = tt
 
-pub put_read : {X : Type 0} (puts : Put) (known : Entries) (old new : State) (r : Result X TableFault) → IsRead (λ t _. Knows puts t known) old new r → HasCleanDisk new → IsReady old.now → IsTrue old.is_open → OnOk r (Knows puts (tables_in old.now.trees) known)
+pub put_read : {X : Type 0} (puts : Put) (known : Known) (old new : State) (r : Result X TableFault) → IsRead (λ t _. Knows puts t known) old new r → HasCleanDisk new → IsReady old.now → IsTrue old.is_open → OnOk r (Knows puts (tables_in old.now.trees) known)
 put_read puts known old new (Ok x) one clean ready up = (one.answers clean ready up).1
 put_read puts known old new (Err e) one clean ready up = tt

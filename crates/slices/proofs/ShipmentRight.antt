@@ -9,7 +9,7 @@ use Rattle.commands.specs.declared.key.Key.{Key}
 use Rattle.commands.specs.declared.command.Command.TheVariants.{Ship}
 use Rattle.commands.specs.declared.rows.LineRow.{LineRow}
 use Rattle.commands.specs.declared.rows.StagedRow.{StagedRow}
-use Rattle.table_words.specs.Typed.{ItemKey, same_item, item_key, LeastKey, same_least, least_key, BinKey, same_bin, bin_key, LotKey, same_lot, lot_key, RecallKey, same_recall, recall_key, StockKey, same_stock, stock_key, StagedKey, same_staged, staged_key, ReservedKey, same_reserved, reserved_key, OrderKey, same_order, order_key, LineKey, same_line, line_key}
+use Rattle.table_words.specs.Typed.{ItemKey, same_item, item_key, LeastKey, same_least, least_key, BinKey, same_bin, bin_key, LotKey, same_lot, lot_key, RecallKey, same_recall, recall_key, StockKey, same_stock, stock_key, StagedKey, same_staged, staged_key, ReservedKey, same_reserved, reserved_key, OrderKey, same_order, order_key, UrgentKey, same_urgent, urgent_key, LineKey, same_line, line_key}
 use Rattle.machine.specs.Acts.{Act}
 use Rattle.machine.specs.Postings.{is_lot}
 use Rattle.machine.specs.Standing.{has_line}
@@ -86,6 +86,7 @@ module _ (first : ℤ) (acts : List Act) (key : Key) (order : List ℕ) (s : Sli
     orders = rows_as {K = OrderKey} same_order order_key same_text_is same_text_refl (is_among (order ∷ [])) (is_among (order ∷ [])) (λ o. same_text o order || false) (λ o. same_text o order || has_touched_line first act acts o) t.order s.rows.orders
         (λ o e. e) (λ o e. one_named o (has_touched_line first act acts o) e)
         (sought {K = OrderKey} same_order order_key same_text_is same_text_refl (λ o. o) t.order (order ∷ []) (is_among (order ∷ [])) s.rows.orders refl (λ x. refl) are.named.orders);
+    urgents = no_rows {K = UrgentKey} same_urgent urgent_key (λ o. false) (λ o. same_text o order || has_touched_line first act acts o) t.urgent s.rows.urgents are.no_urgents none;
     lines = rows_as {K = LineKey} same_line line_key same_line_is same_line_refl (λ k. is_among (order ∷ []) k.0) (λ k. is_among (order ∷ []) k.0) (λ k. same_text k.0 order || false) (λ k. same_text k.0 order || touched k.1) (λ k. t.line k.0 k.1) s.rows.lines
         (λ k e. e) (λ k e. one_named k.0 (touched k.1) e)
         (sought {K = LineKey} same_line line_key same_line_is same_line_refl (λ k. k.0) (λ k. t.line k.0 k.1) (order ∷ []) (is_among (order ∷ [])) s.rows.lines refl (λ x. refl) are.named.lines);

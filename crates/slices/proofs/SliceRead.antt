@@ -18,11 +18,11 @@ use Rattle.open_lines.specs.OpenLines.{Entries, Loses, has_closed_row, has_line_
 use Rattle.slices.specs.Books.{IsBooksOf}
 use Rattle.slices.specs.Reading.{IsRead}
 use Rattle.slices.specs.Bounding.{AreBounds, with_counts}
-use Rattle.slices.specs.Slicing.{Covers, HoldsOf, IsSliceIn, AreSlicedOn, orders_named, order_shipped}
+use Rattle.slices.specs.Slicing.{HoldsOf, IsSliceIn, AreSlicedOn, orders_named, order_shipped}
 use Rattle.slices.specs.declared.knowing.Bounds.{Bounds}
 use Rattle.slices.specs.declared.knowing.Known.{Known}
 use Rattle.slices.proofs.AtMost.{bounds_counted}
-use Rattle.slices.proofs.Covering.{covers_met, covers_shipped}
+use Rattle.slices.proofs.Covering.{StaysKnown, known_met, known_shipped}
 use Rattle.slices.proofs.SliceRight.{slice_right}
 
 pub slice_read : (known : Known) (command : Command) (old new : State) (r : Result Slice TableFault) → IsRead (λ t s. IsSliceIn known command t s) old new r → HasCleanDisk new → IsTrue old.is_open → (first : ℤ) (acts : List Act) (key : Key) → IsHistory first acts → IsBooksOf first acts old.now
@@ -31,19 +31,21 @@ slice_read known command old new (Ok s) one clean up first acts key history book
     slice_right first acts key command known (subst (λ (t : Tables). HoldsOf known t) books.rows.tables holds) history s (subst (λ (t : Tables). IsSliceIn known command t s) books.rows.tables (one.answers clean books.ready up).1)
 slice_read known command old new (Err e) one clean up first acts key history books holds = tt
 
-covers_sliced : (shipped : Option (List ℕ)) (command : Command) (t : Tables) (rows : Rows) (old new : Entries) → AreSlicedOn shipped old command t rows → Loses (λ g o. has_closed_row rows.orders o && has_line_row rows.lines g o) old new → Covers old t → Covers new t
-covers_sliced None command t rows old new are = covers_met old (orders_named command) are.gtins t rows.orders rows.lines old new are.ordered
-covers_sliced (Some order) command t rows old new are = covers_shipped (order ∷ []) t rows.orders rows.lines old new are.named
+known_sliced : (shipped : Option (List ℕ)) (known : Known) (command : Command) (t : Tables) (rows : Rows) (old new : Entries) → AreSlicedOn shipped known command t rows → Loses (λ g o. has_closed_row rows.orders o && has_line_row rows.lines g o) old new → StaysKnown t old new
+known_sliced None known command t rows old new are = known_met known.lines (orders_named command) are.gtins t rows.orders rows.lines old new are.ordered
+known_sliced (Some order) known command t rows old new are = known_shipped (order ∷ []) t rows.orders rows.lines old new are.named
 
 -- without the closed orders that it tells, and with the numbers that it tells, what is known is so
 pub slice_holds : (command : Command) (before after : State) (r : Result Slice TableFault) (old new : Known) → IsRead (λ t s. IsSliceIn old command t s) before after r
-    → IfOk r (λ s. Loses (λ g o. has_closed_row s.rows.orders o && has_line_row s.rows.lines g o) old.lines new.lines) → IfOk r (λ s. new.bounds ≡ with_counts command s.items s.bins old.bounds) → IfErr r (λ e. new ≡ old)
+    → IfOk r (λ s. Loses (λ g o. has_closed_row s.rows.orders o && has_line_row s.rows.lines g o) old.lines new.lines) → IfOk r (λ s. Loses (λ g o. has_closed_row s.rows.orders o && has_line_row s.rows.lines g o) old.urgent new.urgent)
+    → IfOk r (λ s. new.bounds ≡ with_counts command s.items s.bins old.bounds) → IfErr r (λ e. new ≡ old)
     → HasCleanDisk after → IsReady before.now → IsTrue before.is_open → HoldsOf old (tables_in before.now.trees) → HoldsOf new (tables_in before.now.trees)
-slice_holds command before after (Ok s) old new one met counted unread clean ready up holds =
+slice_holds command before after (Ok s) old new one met met_urgent counted unread clean ready up holds =
     let t : Tables = tables_in before.now.trees in
     let slice = (one.answers clean ready up).1 in
     record {
-      lines = covers_sliced (order_shipped command) command t s.rows old.lines new.lines slice.rows met holds.lines;
+      lines = λ o g is_up there. known_sliced (order_shipped command) old command t s.rows old.lines new.lines slice.rows met o g is_up (holds.lines o g is_up there);
+      urgent = λ o g is_up there hurried. known_sliced (order_shipped command) old command t s.rows old.urgent new.urgent slice.rows met_urgent o g is_up (holds.urgent o g is_up there hurried);
       bounds = subst (λ (b : Bounds). AreBounds b t) (sym counted) (bounds_counted command t old.bounds s.items s.bins slice.counted holds.bounds);
     }
-slice_holds command before after (Err e) old new one met counted unread clean ready up holds = subst (λ (k : Known). HoldsOf k (tables_in before.now.trees)) (sym unread) holds
+slice_holds command before after (Err e) old new one met met_urgent counted unread clean ready up holds = subst (λ (k : Known). HoldsOf k (tables_in before.now.trees)) (sym unread) holds

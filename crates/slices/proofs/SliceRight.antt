@@ -13,14 +13,14 @@ use Rattle.commands.specs.declared.command.NewItem.{NewItem}
 use Rattle.commands.specs.declared.command.NewBin.{NewBin}
 use Rattle.commands.specs.declared.command.OrderLine.{OrderLine}
 use Rattle.commands.specs.declared.command.Command.{Command}
-use Rattle.commands.specs.declared.command.Command.TheVariants.{Item, Bin, Receive, Move, Count, Adjust, Order, Cancel, Pick, Unpick, Ship, Hold, Release, Recall, OpenDay, Least}
+use Rattle.commands.specs.declared.command.Command.TheVariants.{Item, Bin, Receive, Move, Count, Adjust, Order, Urgent, Cancel, Pick, Unpick, Ship, Hold, Release, Recall, OpenDay, Least}
 use Rattle.commands.specs.declared.rows.ItemRow.{ItemRow}
 use Rattle.commands.specs.declared.rows.BinRow.{BinRow}
 use Rattle.commands.specs.declared.rows.StockRow.{StockRow}
 use Rattle.commands.specs.declared.rows.LineRow.{LineRow}
 use Rattle.commands.specs.declared.rows.StagedRow.{StagedRow}
 use Rattle.commands.specs.declared.rows.OrderState.TheVariants.{Open, Done, Cancelled}
-use Rattle.table_words.specs.Typed.{ItemKey, same_item, item_key, LeastKey, same_least, least_key, BinKey, same_bin, bin_key, LotKey, same_lot, lot_key, RecallKey, same_recall, recall_key, StockKey, same_stock, stock_key, StagedKey, same_staged, staged_key, OrderKey, same_order, order_key, LineKey, same_line, line_key, is_open_order}
+use Rattle.table_words.specs.Typed.{ItemKey, same_item, item_key, LeastKey, same_least, least_key, BinKey, same_bin, bin_key, LotKey, same_lot, lot_key, RecallKey, same_recall, recall_key, StockKey, same_stock, stock_key, StagedKey, same_staged, staged_key, OrderKey, same_order, order_key, UrgentKey, same_urgent, urgent_key, LineKey, same_line, line_key, is_open_order}
 use Rattle.machine.specs.Acts.{Act, next_number}
 use Rattle.machine.specs.Standing.{items, item_in, bins, Placed, orders, order_named, lines_of, lines_placed, is_cancelled}
 use Rattle.machine.specs.Planning.{order_state, is_open_state, is_open, shipped_of}
@@ -32,7 +32,7 @@ use Rattle.machine.specs.Postings.{is_lot}
 use Rattle.machine.specs.KeyedRows.{AreRows, no_two}
 use Rattle.rules.specs.Slices.{IsSlice, names_order, names_bin, names_lot, counts_items, counts_bins, plans, is_named, is_named_lot, is_either, in_bins, on_stages, on_named_stage, has_touched_line}
 use Rattle.row_rules.specs.declared.slice.Slice.{Slice}
-use Rattle.machine.proofs.Tests.{and_both, or_false, some_one, same_text_is, same_text_refl, same_text_turned, is_lot_is, is_lot_refl, is_lot_turned, is_lot_item}
+use Rattle.machine.proofs.Tests.{and_both, or_false, or_later, some_one, same_text_is, same_text_refl, same_text_turned, is_lot_is, is_lot_refl, is_lot_turned, is_lot_item}
 use Rattle.machine.proofs.Apart.{AreApart, any_found}
 use Rattle.machine.proofs.histories.Accepted.{item_accepted}
 use Rattle.machine.proofs.histories.Notices.{bins_apart}
@@ -53,6 +53,7 @@ use Rattle.slices.proofs.ShipmentRight.{shipment_right}
 use Rattle.slices.proofs.LinesTold.{line_some, taken}
 use Rattle.slices.proofs.DayTold.{affected_told, affected_once}
 use Rattle.slices.proofs.KnownOrders.{has_line_of, orders_told, lines_told}
+use Rattle.slices.proofs.UrgentOrders.{urgents_told}
 
 -- Names
 
@@ -85,6 +86,7 @@ named_told first act acts (Move m) e f lines none x = named_only x lines (is_amo
 named_told first act acts (Count c) e f lines none x = named_only x lines (is_among (c.lot.gtin ∷ []) x) none ∙ or_false (same_text x c.lot.gtin)
 named_told first act acts (Adjust a) e f lines none x = named_only x lines (is_among (a.lot.gtin ∷ []) x) none ∙ or_false (same_text x a.lot.gtin)
 named_told first act acts (Order o) e f lines none x = named_only x lines (is_among (with_names (λ l. l.gtin) o.lines []) x) none ∙ among_names (λ l. l.gtin) o.lines [] x
+named_told first act acts (Urgent o) e f lines none x = named_only x lines (is_among (with_names (λ l. l.gtin) o.lines []) x) none ∙ among_names (λ l. l.gtin) o.lines [] x
 named_told first act acts (Cancel o) e f lines all x = taken first acts o lines all x
 named_told first act acts (Pick p) e f lines none x = named_only x lines (is_among (p.lot.gtin ∷ []) x) none ∙ or_false (same_text x p.lot.gtin)
 named_told first act acts (Unpick p) e f lines none x = named_only x lines (is_among (p.lot.gtin ∷ []) x) none ∙ or_false (same_text x p.lot.gtin)
@@ -209,7 +211,7 @@ module _ (first : ℤ) (acts : List Act) where
     abbrev act : Act
     act = record { key = key; command = command }
 
-    module _ (unshipped : order_shipped command ≡ None) (history : IsHistory first acts) (s : Slice) (meta : (tables_of first acts).meta ≡ Some s.meta) (counted : AreCounts known.bounds command (tables_of first acts) s.items s.bins) (rows : ArePlanned known.lines command (tables_of first acts) s.rows) where
+    module _ (unshipped : order_shipped command ≡ None) (history : IsHistory first acts) (s : Slice) (meta : (tables_of first acts).meta ≡ Some s.meta) (counted : AreCounts known.bounds command (tables_of first acts) s.items s.bins) (rows : ArePlanned known command (tables_of first acts) s.rows) where
       abbrev t : Tables
       t = tables_of first acts
 
@@ -302,6 +304,23 @@ module _ (first : ℤ) (acts : List Act) where
           by false false o named bins stages e =
               own_any {K = StagedKey} staged_key (λ k. touched k.1.gtin) (λ k. t.staged k.0 k.1) (λ r. is_lot l r.lot) s.rows.staged (touched l.gtin ≡ true) staged_rows.own (λ r is there. of_lot r.lot is there) (stages ∙ e)
 
+      -- the orders, and which of them are urgent
+      abbrev orders_needed : List ℕ → Bool
+      orders_needed o = is_among (orders_named command) o || (is_open_in t o && has_line_of gtins t o)
+
+      abbrev orders_allowed : List ℕ → Bool
+      orders_allowed o = is_among (orders_named command) o || has_line_of gtins t o
+
+      order_rows : AreRows {K = OrderKey} same_order order_key orders_needed orders_allowed t.order s.rows.orders
+      order_rows = orders_told known.lines (orders_named command) gtins t holds.lines keyed (order_once command) once s.rows.orders s.rows.lines rows.ordered
+
+      allowed_so : (o : List ℕ) → orders_allowed o ≡ true → names_order command o || has_touched_line first act acts o ≡ true
+      allowed_so o e = ap (λ b. b || has_touched_line first act acts o) (sym (order_told command o)) ∙ ap (λ b. is_among (orders_named command) o || b) (sym (touched_line o)) ∙ e
+
+      urgent_rows : AreRows {K = UrgentKey} same_urgent urgent_key (λ o. is_open_in t o && has_line_of gtins t o) orders_allowed t.urgent s.rows.urgents
+      urgent_rows =
+          urgents_told t gtins orders_needed orders_allowed s.rows.orders order_rows (λ o e. or_later (is_among (orders_named command) o) (is_open_in t o && has_line_of gtins t o) e) known.urgent holds.urgent s.rows.urgents rows.urgents
+
       planned_right : IsSlice first act acts (tables_of first acts) s
       planned_right = record {
         meta = meta;
@@ -326,12 +345,14 @@ module _ (first : ℤ) (acts : List Act) where
             (once_names (λ (r : StockRow). r.bin) s.rows.stock (bins_named command) (bin_once command))
             (λ b. among_names (λ (r : StockRow). r.bin) s.rows.stock (bins_named command) b ∙ ap (λ c. c || list_any (λ r. same_text b r.bin) s.rows.stock) (bin_told command b)) rows.bins);
         orders = rows_as {K = OrderKey} same_order order_key same_text_is same_text_refl
-            (λ o. is_among (orders_named command) o || (is_open_in t o && has_line_of gtins t o)) (λ o. is_among (orders_named command) o || has_line_of gtins t o)
+            orders_needed orders_allowed
             (λ o. names_order command o || ((plans command && is_open first acts o) && has_touched_line first act acts o)) (λ o. names_order command o || has_touched_line first act acts o) t.order s.rows.orders
             (λ o e. needs (is_among (orders_named command) o) (names_order command o) (is_open first acts o) (is_open_in t o) (has_touched_line first act acts o) (has_line_of gtins t o) (order_told command o) (open_told o) (touched_line o)
             (either (names_order command o) (plans command) (is_open first acts o) (has_touched_line first act acts o) e))
-            (λ o e. ap (λ b. b || has_touched_line first act acts o) (sym (order_told command o)) ∙ ap (λ b. is_among (orders_named command) o || b) (sym (touched_line o)) ∙ e)
-            (orders_told known.lines (orders_named command) gtins t holds.lines keyed (order_once command) once s.rows.orders s.rows.lines rows.ordered);
+            allowed_so order_rows;
+        urgents = rows_as {K = UrgentKey} same_urgent urgent_key same_text_is same_text_refl (λ o. is_open_in t o && has_line_of gtins t o) orders_allowed
+            (λ o. (plans command && is_open first acts o) && has_touched_line first act acts o) (λ o. names_order command o || has_touched_line first act acts o) t.urgent s.rows.urgents
+            (λ o e. opened (plans command) (is_open first acts o) (is_open_in t o) (has_touched_line first act acts o) (has_line_of gtins t o) (open_told o) (touched_line o) e) allowed_so urgent_rows;
         lines = rows_as {K = LineKey} same_line line_key same_line_is same_line_refl
             (λ k. is_among (orders_named command) k.0 || (is_open_in t k.0 && is_among gtins k.1)) (λ k. is_among (orders_named command) k.0 || is_among gtins k.1)
             (λ k. names_order command k.0 || ((plans command && is_open first acts k.0) && touched k.1)) (λ k. names_order command k.0 || touched k.1) (λ k. t.line k.0 k.1) s.rows.lines
@@ -348,10 +369,15 @@ module _ (first : ℤ) (acts : List Act) where
           needs a false true q h g e f same w = ap (λ b. b || (q && g)) e ∙ ap (λ b. b && g) (f refl) ∙ same ∙ w
           needs a false false q h g e f same w = absurd (let none : false ≡ true = w in cc)
 
+          opened : (c p q h g : Bool) → (p ≡ true → q ≡ true) → g ≡ h → (c && p) && h ≡ true → q && g ≡ true
+          opened true true q h g f same w = ap (λ b. b && g) (f refl) ∙ same ∙ w
+          opened true false q h g f same w = absurd (let none : false ≡ true = w in cc)
+          opened false p q h g f same w = absurd (let none : false ≡ true = w in cc)
+
     -- by what the command ships
     pub slice_right : IsHistory first acts → (s : Slice) → IsSliceIn known command (tables_of first acts) s → IsSlice first act acts (tables_of first acts) s
     slice_right history s slice = by (order_shipped command) refl slice.rows
       where
-        by : (x : Option (List ℕ)) → order_shipped command ≡ x → AreSlicedOn x known.lines command (tables_of first acts) s.rows → IsSlice first act acts (tables_of first acts) s
+        by : (x : Option (List ℕ)) → order_shipped command ≡ x → AreSlicedOn x known command (tables_of first acts) s.rows → IsSlice first act acts (tables_of first acts) s
         by None e are = planned_right e history s slice.meta slice.counted are
         by (Some o) e are = subst (λ (c : Command). IsSlice first (record { key = key; command = c }) acts (tables_of first acts) s) (sym (ships command o e)) (shipment_right first acts key o s slice.meta are)

@@ -1,5 +1,5 @@
 -- The rows that a slice is made of.
-use Rattle.std.specs.Prelude.{◌≡◌, ℕ, ℤ, Bool, true, false, List, [], ◌∷◌, ◌++◌, map, filter, Option, Some, None, is_some}
+use Rattle.std.specs.Prelude.{◌≡◌, ℕ, ℤ, Bool, true, false, ◌&&◌, ◌||◌, List, [], ◌∷◌, ◌++◌, map, filter, Option, Some, None, is_some}
 use Rattle.values.specs.Values.{same_text}
 use Rattle.commands.specs.Names.{names_of}
 use Rattle.commands.specs.Tables.{Tables}
@@ -13,11 +13,12 @@ use Rattle.commands.specs.declared.rows.LotRow.{LotRow}
 use Rattle.commands.specs.declared.rows.RecallRow.{RecallRow}
 use Rattle.commands.specs.declared.rows.StockRow.{StockRow}
 use Rattle.commands.specs.declared.rows.OrderRow.{OrderRow}
+use Rattle.commands.specs.declared.rows.UrgentRow.{UrgentRow}
 use Rattle.commands.specs.declared.rows.LineRow.{LineRow}
 use Rattle.commands.specs.declared.rows.StagedRow.{StagedRow}
 use Rattle.commands.specs.declared.rows.ReservedRow.{ReservedRow}
 use Rattle.table_words.specs.Found.{AreRows, only_if}
-use Rattle.table_words.specs.Typed.{ItemKey, same_item, item_key, LeastKey, same_least, least_key, BinKey, same_bin, bin_key, LotKey, same_lot, lot_key, RecallKey, same_recall, recall_key, StockKey, same_stock, stock_key, OrderKey, same_order, order_key, is_open_order, LineKey, same_line, line_key, StagedKey, same_staged, staged_key, ReservedKey, same_reserved, reserved_key}
+use Rattle.table_words.specs.Typed.{ItemKey, same_item, item_key, LeastKey, same_least, least_key, BinKey, same_bin, bin_key, LotKey, same_lot, lot_key, RecallKey, same_recall, recall_key, StockKey, same_stock, stock_key, OrderKey, same_order, order_key, is_open_order, UrgentKey, same_urgent, urgent_key, LineKey, same_line, line_key, StagedKey, same_staged, staged_key, ReservedKey, same_reserved, reserved_key}
 use Rattle.open_lines.specs.OpenLines.{Entries, orders_at, holds, are_apart, Gains, has_line_row}
 use Rattle.rules.specs.Slices.{counts_items, counts_bins}
 use Rattle.row_rules.specs.declared.slice.Rows.{Rows}
@@ -29,7 +30,7 @@ use Rattle.slices.specs.declared.knowing.Known.{Known}
 pub use Rattle.slices.specs.Reading.{Each}
 use Rattle.slices.specs.ByLot.{AreLotsOf, AreStockOf}
 use Rattle.slices.specs.ByOrder.{AreReservedOn}
-pub use Rattle.slice_parts.specs.Parts.{is_among, with_name, with_names, with_some, items_named, lots_named, orders_named, bins_named, whole_orders, order_shipped, order_picked, held_lots, lots_on_stage, others, other_names, has_line_in, with_lines, is_ending, not_recalled, items_of_lots, with_staged}
+pub use Rattle.slice_parts.specs.Parts.{is_among, with_name, with_names, with_some, items_named, lots_named, orders_named, bins_named, whole_orders, order_shipped, order_picked, held_lots, lots_on_stage, others, other_names, has_line_in, with_lines, has_urgent_row, urgent_lines, names_among, is_ending, not_recalled, items_of_lots, with_staged}
 
 -- the row passes
 abbrev pub is_passed : {R : Type 0} → (R → Bool) → Option R → Bool
@@ -150,6 +151,21 @@ pub record AreKnownOrders (known : Entries) (named gtins : List (List ℕ)) (t :
   pub orders : order_rows ≡ own ++ rest
   pub lines : line_rows ≡ own_lines ++ rest_lines
 
+-- Urgent orders
+
+-- the names with one of the items
+abbrev pub names_at : Entries → List (List ℕ) → List (List ℕ)
+names_at known [] = []
+names_at known (g ∷ gtins) = orders_at known g ++ names_at known gtins
+
+-- the rows of the urgent ones among these orders, one name after another
+abbrev pub AreUrgents : List (List ℕ) → Tables → List UrgentRow → Type 0
+AreUrgents names t urgent_rows = Each (λ o found. AreRows {K = UrgentKey} same_urgent urgent_key (λ k. same_text o k) t.urgent found) names urgent_rows
+
+-- those of the orders that may be urgent and have a line of one of the items
+abbrev pub AreUrgentsFor : Entries → List (List ℕ) → List OrderRow → Tables → List UrgentRow → Type 0
+AreUrgentsFor known gtins order_rows = AreUrgents (names_among (names_at known gtins) order_rows)
+
 -- Openings of a day
 
 -- of all lots those that end between the days, by what their items ask for, and are not among the recalls of their items
@@ -178,31 +194,58 @@ pub record AreAffected (day : ℤ) (t : Tables) (gtins : List (List ℕ)) : Type
 abbrev pub Covers : Entries → Tables → Type 0
 Covers known t = (o g : List ℕ) → is_open_in t o ≡ true → is_some (t.line o g) ≡ true → holds known g o ≡ true
 
--- those of the tables, as they are read: all lines of the open orders
-pub record AreOpenLines (t : Tables) (known : Entries) : Type 0 where
+-- so do the urgent ones, among those that may be urgent
+abbrev pub CoversUrgent : Entries → Tables → Type 0
+CoversUrgent known t = (o g : List ℕ) → is_open_in t o ≡ true → is_some (t.line o g) ≡ true → is_some (t.urgent o) ≡ true → holds known g o ≡ true
+
+-- those of the tables, as they are read: all lines of the open orders, and those of the urgent ones
+pub record AreOpenLines (t : Tables) (known urgent : Entries) : Type 0 where
   pub all : List OrderRow
   pub read : AreRows {K = OrderKey} same_order order_key (λ key. true) (λ key. only_if is_open_order (t.order key)) all
   pub lines : List LineRow
   pub lines_read : AreAllLines (map order_key all) t lines
   pub added : Gains (has_line_row lines) [] known
+  pub urgents : List UrgentRow
+  pub urgents_read : AreUrgents (map order_key all) t urgents
+  pub urgent_added : Gains (has_line_row (urgent_lines urgents lines)) [] urgent
 
--- the lines of the open ones among these orders, which the tables have, are known
-abbrev pub KnowsOpen : List OrderRow → Tables → Entries → Type 0
-KnowsOpen orders t known = (g o : List ℕ) → is_among (map order_key (filter is_open_order orders)) o ≡ true → is_some (t.line o g) ≡ true → holds known g o ≡ true
+-- the orders that a change opens, and those that it puts as urgent ones
+abbrev pub opens : List OrderRow → List ℕ → Bool
+opens rows o = is_among (map order_key (filter is_open_order rows)) o
 
--- so are the lines that a change puts, and those of the orders that it puts
-pub record Knows (puts : Put) (t : Tables) (known : Entries) : Type 0 where
-  pub lines : (g o : List ℕ) → has_line_row puts.lines g o ≡ true → holds known g o ≡ true
-  pub opened : KnowsOpen puts.orders t known
+abbrev pub opened_by : Put → List (List ℕ)
+opened_by puts = map order_key (filter is_open_order puts.orders) ++ other_names (map order_key (filter is_open_order puts.orders)) (map urgent_key puts.urgents)
+
+-- the lines of these, and those that it puts
+pub record AreLinesPut (puts : Put) (t : Tables) (line_rows : List LineRow) : Type 0 where
+  pub read : List LineRow
+  pub are_read : AreAllLines (opened_by puts) t read
+  pub lines : line_rows ≡ read ++ puts.lines
+
+-- the rows of the urgent ones among the orders of these lines, and those that it puts
+pub record AreUrgentsPut (puts : Put) (line_rows : List LineRow) (t : Tables) (urgent_rows : List UrgentRow) : Type 0 where
+  pub read : List UrgentRow
+  pub are_read : AreUrgents (with_names (λ (r : LineRow). r.order) line_rows []) t read
+  pub urgents : urgent_rows ≡ read ++ puts.urgents
+
+-- whether the line comes with a change: it is put, or the tables have it and its order is opened, or put as an urgent one
+abbrev pub comes : Put → Tables → List ℕ → List ℕ → Bool
+comes puts t g o = has_line_row puts.lines g o || (is_some (t.line o g) && (opens puts.orders o || has_urgent_row puts.urgents o))
+
+-- the lines that come are known, and among those of orders that may be urgent where the order is, or comes to be so
+pub record Knows (puts : Put) (t : Tables) (known : Known) : Type 0 where
+  pub lines : (g o : List ℕ) → comes puts t g o ≡ true → holds known.lines g o ≡ true
+  pub urgent : (g o : List ℕ) → comes puts t g o ≡ true → is_some (t.urgent o) || has_urgent_row puts.urgents o ≡ true → holds known.urgent g o ≡ true
 
 -- what is known first: those, and no number
 pub record IsFirstKnown (t : Tables) (known : Known) : Type 0 where
-  pub lines : AreOpenLines t known.lines
+  pub lines : AreOpenLines t known.lines known.urgent
   pub bounds : known.bounds ≡ record { items = ITEMS_MAX; bins = BINS_MAX }
 
 -- what is known of the books is so
 pub record HoldsOf (known : Known) (t : Tables) : Type 0 where
   pub lines : Covers known.lines t
+  pub urgent : CoversUrgent known.urgent t
   pub bounds : AreBounds known.bounds t
 
 -- Slices
@@ -227,12 +270,13 @@ abbrev pub AreTouched : Command → Tables → List (List ℕ) → Type 0
 AreTouched command = AreTouchedOn (names_of command).day command
 
 -- the rows that a command asks for that is no shipment
-pub record ArePlanned (known : Entries) (command : Command) (t : Tables) (rows : Rows) : Type 0 where
+pub record ArePlanned (known : Known) (command : Command) (t : Tables) (rows : Rows) : Type 0 where
   pub gtins : List (List ℕ)
   pub touched : AreTouched command t gtins
   pub units : AreUnits command gtins t rows.items rows.least rows.lots rows.recalls rows.stock rows.staged rows.reserved
   pub bins : AreBins (with_names (λ r. r.bin) rows.stock (bins_named command)) t rows.bins
-  pub ordered : AreKnownOrders known (orders_named command) gtins t rows.orders rows.lines
+  pub ordered : AreKnownOrders known.lines (orders_named command) gtins t rows.orders rows.lines
+  pub urgents : AreUrgentsFor known.urgent gtins rows.orders t rows.urgents
 
 -- those that the shipment of an order asks for: the order with its lines, what is staged of their items, and the stock
 -- of the lots that are staged for the order
@@ -246,17 +290,18 @@ pub record AreShipped (order : List ℕ) (t : Tables) (rows : Rows) : Type 0 whe
   pub no_recalls : rows.recalls ≡ []
   pub no_reserved : rows.reserved ≡ []
   pub no_least : rows.least ≡ []
+  pub no_urgents : rows.urgents ≡ []
 
 -- the rows that the command asks for, by the order that it ships
-abbrev pub AreSlicedOn : Option (List ℕ) → Entries → Command → Tables → Rows → Type 0
+abbrev pub AreSlicedOn : Option (List ℕ) → Known → Command → Tables → Rows → Type 0
 AreSlicedOn None known command t rows = ArePlanned known command t rows
 AreSlicedOn (Some order) known command t rows = AreShipped order t rows
 
-abbrev pub AreSliced : Entries → Command → Tables → Rows → Type 0
+abbrev pub AreSliced : Known → Command → Tables → Rows → Type 0
 AreSliced known command = AreSlicedOn (order_shipped command) known command
 
 -- the slice of a command, as it is read
 pub record IsSliceIn (known : Known) (command : Command) (t : Tables) (s : Slice) : Type 0 where
   pub meta : t.meta ≡ Some s.meta
   pub counted : AreCounts known.bounds command t s.items s.bins
-  pub rows : AreSliced known.lines command t s.rows
+  pub rows : AreSliced known command t s.rows

@@ -21,6 +21,8 @@ pub struct Bounds {
 pub struct Known {
     /// The orders that may be open, by the items of their lines.
     pub lines: OpenLines,
+    /// Those of them that may be urgent.
+    pub urgent: OpenLines,
     pub bounds: Bounds,
 }
 

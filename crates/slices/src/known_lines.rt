@@ -1,45 +1,69 @@
 //! What is known of the books: as it is read, and with the rows of a change.
 
-ghost use Rattle.std.specs.Prelude.{◌≡◌, ℤ, List, map, filter, OnOk, IfOk, IfErr, IsTrue};
+ghost use Rattle.std.specs.Prelude.{◌≡◌, ℤ, List, [], OnOk, IfOk, IfErr, IsTrue};
 ghost use Rattle.sqlite.specs.State.{HasCleanDisk, Survives, KeepsCommit, IsUnchanged};
 ghost use Rattle.sqlite.specs.Held.{state};
 ghost use Rattle.table_words.specs.Steps.{IsReady};
-ghost use Rattle.table_words.specs.Typed.{tables_in, order_key, is_open_order};
+ghost use Rattle.table_words.specs.Typed.{tables_in};
 ghost use Rattle.table_words.specs.declared.error.TableFault.TheVariants.{Foreign};
-ghost use Rattle.open_lines.specs.OpenLines.{Keeps};
+ghost use Rattle.open_lines.specs.OpenLines.{Gains, Keeps, has_line_row};
 ghost use Rattle.machine.specs.Acts.{Act};
 ghost use Rattle.slices.specs.Books.{IsBooksOf};
 ghost use Rattle.slices.specs.Bounding.{IsRaised};
 ghost use Rattle.slices.specs.Reading.{IsRead};
-ghost use Rattle.slices.specs.Slicing.{AreOpenLines, IsFirstKnown, HoldsOf, KnowsOpen, Knows, AreAllLines};
+ghost use Rattle.slice_parts.specs.Parts.{urgent_lines as urgent_lines_lem};
+ghost use Rattle.slices.specs.Slicing.{AreOpenLines, IsFirstKnown, HoldsOf, Knows, opened_by, AreLinesPut, AreUrgentsPut};
 
 use crate::knowing::{Bounds, Known};
-use crate::sought::{read_rows, seek_all};
-use commands::{LineRow, OrderRow};
+use crate::sought::{read_rows, seek_all, seek_both};
+use commands::{LineRow, UrgentRow};
 use open_lines::OpenLines;
 use order_tables::lines::Lines;
 use order_tables::orders::{Open, Orders};
+use order_tables::urgents::Urgents;
 use rules::Put;
-use slice_parts::order_names::{open_rows, orders_of};
+use slice_parts::order_names::{open_rows, orders_of, orders_of_lines, other_names};
+use slice_parts::urgent_rows::{urgent_lines, urgent_names};
 use sqlite::{Alter, Transaction};
-use std::alloc::Global;
+use std::alloc::{AllocError, Global};
 use table_words::error::TableFault;
 use values::Name;
 
-/// The open orders, by the items of their lines.
+/// The orders of lines, by their items.
+fn lines_known(alloc: Global, lines: &[LineRow]) -> Result<OpenLines, AllocError>
+    ensures { IfOk result (λ known. Gains (has_line_row lines.now) [] known) }
+{
+    let mut known = OpenLines::new(alloc);
+    known.add_rows(lines)?;
+    Ok(known)
+}
+
+/// The urgent ones of these orders, by the items of their lines.
+fn urgent_known(
+    alloc: Global,
+    lines: &[LineRow],
+    urgents: &[UrgentRow],
+) -> Result<OpenLines, AllocError>
+    ensures { IfOk result (λ known. Gains (has_line_row (urgent_lines_lem urgents.now lines.now)) [] known) }
+{
+    let own = urgent_lines(alloc, lines, urgents)?;
+    lines_known(alloc, own.as_slice())
+}
+
+/// The open orders, by the items of their lines; and the urgent ones of them.
 fn open_lines_in<S: Alter>(
     alloc: Global,
     tx: &mut Transaction<'_, S>,
-) -> Result<OpenLines, TableFault>
+) -> Result<(OpenLines, OpenLines), TableFault>
     ensures same_reference { tx.new.conn.ghost_name ≡ tx.old.conn.ghost_name }
-    ensures read { IsRead AreOpenLines (state S.Store tx.old.conn.now) (state S.Store tx.new.conn.now) result }
+    ensures read { IsRead (λ t known. AreOpenLines t known.0 known.1) (state S.Store tx.old.conn.now) (state S.Store tx.new.conn.now) result }
 {
     let orders = read_rows::<Orders, Open, S>(alloc, tx, &Open)?;
     let names = orders_of(alloc, orders.as_slice())?;
-    let lines = seek_all::<Lines, Name, S>(alloc, tx, names.as_slice())?;
-    let mut known = OpenLines::new(alloc);
-    known.add_rows(lines.as_slice())?;
-    Ok(known)
+    let (rows, urgents) = seek_both::<Name, Lines, Urgents, S>(alloc, tx, names.as_slice())?;
+    let urgent = urgent_known(alloc, rows.as_slice(), urgents.as_slice())?;
+    let lines = lines_known(alloc, rows.as_slice())?;
+    Ok((lines, urgent))
 }
 
 // What is known first: the open orders, and no number.
@@ -50,14 +74,15 @@ fn known_in_tables<S: Alter>(
     ensures same_reference { tx.new.conn.ghost_name ≡ tx.old.conn.ghost_name }
     ensures read { IsRead IsFirstKnown (state S.Store tx.old.conn.now) (state S.Store tx.new.conn.now) result }
 {
-    let lines = open_lines_in(alloc, tx)?;
+    let (lines, urgent) = open_lines_in(alloc, tx)?;
     Ok(Known {
         lines,
+        urgent,
         bounds: Bounds::unknown(),
     })
 }
 
-/// What is known of the books first: the open orders, by the items of their lines. The items and bins are counted where a
+/// What is known of the books first: the open orders and the urgent ones of them, by the items of their lines. The items and bins are counted where a
 /// command is judged by their number. It changes nothing. `Foreign` where a row that is read breaks a rule of its values.
 pub fn first_known<S: Alter>(
     alloc: Global,
@@ -78,50 +103,83 @@ pub fn first_known<S: Alter>(
     known_in_tables(alloc, tx)
 }
 
-/// The lines that the open ones among these orders have.
-fn lines_of_open<S: Alter>(
+/// The orders that the change opens, and those that it puts as urgent ones.
+fn orders_opened(alloc: Global, put: &Put) -> Result<Vec<Name>, AllocError>
+    ensures { IfOk result (λ names. names.items ≡ opened_by put.now) }
+{
+    let open = open_rows(alloc, put.orders.as_slice())?;
+    let mut names = orders_of(alloc, open.as_slice())?;
+    let urgent = urgent_names(alloc, put.urgents.as_slice())?;
+    let others = other_names(alloc, urgent.as_slice(), names.as_slice())?;
+    names.extend_from_slice(others.as_slice())?;
+    Ok(names)
+}
+
+/// The lines that these orders have, and those that the change puts.
+fn lines_put<S: Alter>(
     alloc: Global,
     tx: &mut Transaction<'_, S>,
-    orders: &[OrderRow],
+    put: &Put,
 ) -> Result<Vec<LineRow>, TableFault>
     ensures same_reference { tx.new.conn.ghost_name ≡ tx.old.conn.ghost_name }
-    ensures read { IsRead (λ t rows. AreAllLines (map order_key (filter is_open_order orders.now)) t rows.items) (state S.Store tx.old.conn.now) (state S.Store tx.new.conn.now) result }
+    ensures read { IsRead (λ t rows. AreLinesPut put.now t rows.items) (state S.Store tx.old.conn.now) (state S.Store tx.new.conn.now) result }
 {
-    let open = open_rows(alloc, orders)?;
-    let names = orders_of(alloc, open.as_slice())?;
-    seek_all::<Lines, Name, S>(alloc, tx, names.as_slice())
+    let names = orders_opened(alloc, put)?;
+    let mut lines = seek_all::<Lines, Name, S>(alloc, tx, names.as_slice())?;
+    lines.extend_from_slice(put.lines.as_slice())?;
+    Ok(lines)
 }
 
-/// The open ones among these orders, by the lines that they have.
-fn add_opened<S: Alter>(
+/// The rows of the urgent ones among the orders of these lines, and those that the change puts.
+fn urgents_put<S: Alter>(
     alloc: Global,
     tx: &mut Transaction<'_, S>,
-    known: &mut OpenLines,
-    orders: &[OrderRow],
-) -> Result<(), TableFault>
+    put: &Put,
+    lines: &[LineRow],
+) -> Result<Vec<UrgentRow>, TableFault>
     ensures same_reference { tx.new.conn.ghost_name ≡ tx.old.conn.ghost_name }
-    ensures keeps { Keeps known.old known.new }
-    ensures read { IsRead (λ t _. KnowsOpen orders.now t known.new) (state S.Store tx.old.conn.now) (state S.Store tx.new.conn.now) result }
+    ensures read { IsRead (λ t rows. AreUrgentsPut put.now lines.now t rows.items) (state S.Store tx.old.conn.now) (state S.Store tx.new.conn.now) result }
 {
-    let lines = lines_of_open(alloc, tx, orders)?;
-    known.add_rows(lines.as_slice())?;
-    Ok(())
+    let names = orders_of_lines(alloc, lines)?;
+    let mut urgents = seek_all::<Urgents, Name, S>(alloc, tx, names.as_slice())?;
+    urgents.extend_from_slice(put.urgents.as_slice())?;
+    Ok(urgents)
 }
 
-/// Those, and the lines that the change puts.
+/// The orders of these lines, and the urgent ones of them.
+fn add_known(
+    alloc: Global,
+    known: &mut Known,
+    lines: &[LineRow],
+    urgents: &[UrgentRow],
+) -> Result<(), AllocError>
+    ensures keeps { Keeps known.old.lines known.new.lines }
+    ensures keeps_urgent { Keeps known.old.urgent known.new.urgent }
+    ensures bounds { known.new.bounds ≡ known.old.bounds }
+    ensures added { OnOk result (Gains (has_line_row lines.now) known.old.lines known.new.lines) }
+    ensures added_urgent { OnOk result (Gains (has_line_row (urgent_lines_lem urgents.now lines.now)) known.old.urgent known.new.urgent) }
+{
+    known.lines.add_rows(lines)?;
+    let own = urgent_lines(alloc, lines, urgents)?;
+    known.urgent.add_rows(own.as_slice())
+}
+
+/// What is known of the books, with what the change puts.
 fn add_put<S: Alter>(
     alloc: Global,
     tx: &mut Transaction<'_, S>,
-    known: &mut OpenLines,
+    known: &mut Known,
     put: &Put,
 ) -> Result<(), TableFault>
     ensures same_reference { tx.new.conn.ghost_name ≡ tx.old.conn.ghost_name }
-    ensures keeps { Keeps known.old known.new }
+    ensures keeps { Keeps known.old.lines known.new.lines }
+    ensures keeps_urgent { Keeps known.old.urgent known.new.urgent }
+    ensures bounds { known.new.bounds ≡ known.old.bounds }
     ensures read { IsRead (λ t _. Knows put.now t known.new) (state S.Store tx.old.conn.now) (state S.Store tx.new.conn.now) result }
 {
-    add_opened(alloc, tx, known, put.orders.as_slice())?;
-    known.add_rows(put.lines.as_slice())?;
-    Ok(())
+    let lines = lines_put(alloc, tx, put)?;
+    let urgents = urgents_put(alloc, tx, put, lines.as_slice())?;
+    Ok(add_known(alloc, known, lines.as_slice(), urgents.as_slice())?)
 }
 
 /// With what a change puts, which is about to be written, what is known of the books. It changes nothing of the tables.
@@ -134,9 +192,10 @@ pub fn know_put<S: Alter>(
 ) -> Result<(), TableFault>
     ensures same_reference { tx.new.conn.ghost_name ≡ tx.old.conn.ghost_name }
     ensures keeps { Keeps known.old.lines known.new.lines }
+    ensures keeps_urgent { Keeps known.old.urgent known.new.urgent }
     ensures raised { IsRaised put.now known.old.bounds known.new.bounds }
     ensures known { HasCleanDisk (state S.Store tx.new.conn.now) → IsReady (state S.Store tx.old.conn.now).now → IsTrue (state S.Store tx.old.conn.now).is_open
-        → OnOk result (Knows put.now (tables_in (state S.Store tx.old.conn.now).now.trees) known.new.lines) }
+        → OnOk result (Knows put.now (tables_in (state S.Store tx.old.conn.now).now.trees) known.new) }
     ensures fault { HasCleanDisk (state S.Store tx.new.conn.now) → IsTrue (state S.Store tx.old.conn.now).is_open
         → (first : ℤ) (acts : List Act) → IsBooksOf first acts (state S.Store tx.old.conn.now).now
         → IfErr result (λ e. e ≡ Foreign → ⊥) }
@@ -147,5 +206,5 @@ pub fn know_put<S: Alter>(
     ensures survives { Survives (state S.Store tx.old.conn.now) (state S.Store tx.new.conn.now) (λ _. ⊥) }
 {
     known.bounds = known.bounds.raised(put);
-    add_put(alloc, tx, &mut known.lines, put)
+    add_put(alloc, tx, known, put)
 }

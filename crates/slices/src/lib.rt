@@ -18,6 +18,7 @@ mod shown_shorts;
 mod shown_stock;
 mod slices;
 mod sought;
+mod urgent_orders;
 
 pub use heads::{Head, read_head};
 pub use knowing::{Bounds, Known};

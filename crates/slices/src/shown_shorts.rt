@@ -4,16 +4,17 @@ ghost use Rattle.std.specs.Prelude.{◌≡◌};
 ghost use Rattle.std.specs.Option.{option_copied};
 ghost use Rattle.sqlite.specs.Held.{state};
 ghost use Rattle.slices.specs.Reading.{IsRead};
-ghost use Rattle.slices.specs.ShownShort.{AreOrderedFor, AreOfDemands};
+ghost use Rattle.slices.specs.ShownShort.{AreOrderedFor, AreUrgentFor, AreOfDemands};
 
+use crate::knowing::Known;
 use crate::known_orders::read_known_orders;
 use crate::order_slices::read_orders;
 use crate::query::Query;
 use crate::shown_stock::item_row;
 use crate::slices::read_booked;
-use commands::{ItemRow, LineRow, OrderRow, Refusal, ShortView};
+use crate::urgent_orders::{read_urgents, urgents_of};
+use commands::{ItemRow, LineRow, OrderRow, Refusal, ShortView, UrgentRow};
 use label::BusinessDay;
-use open_lines::OpenLines;
 use rules::Rows;
 use slice_parts::item_rows::of_demands;
 use sqlite::{Alter, Transaction};
@@ -27,7 +28,7 @@ use views::short_view;
 fn read_ordered<S: Alter>(
     alloc: Global,
     tx: &mut Transaction<'_, S>,
-    known: Option<&OpenLines>,
+    known: Option<&Known>,
     gtin: &Gtin,
 ) -> Result<(Vec<OrderRow>, Vec<LineRow>), TableFault>
     ensures same_reference { tx.new.conn.ghost_name ≡ tx.old.conn.ghost_name }
@@ -35,32 +36,50 @@ fn read_ordered<S: Alter>(
 {
     let gtins = [*gtin];
     match known {
-        Some(known) => read_known_orders(alloc, tx, known, &[], &gtins),
+        Some(known) => read_known_orders(alloc, tx, &known.lines, &[], &gtins),
         None => read_orders(alloc, tx, &[], &gtins),
     }
 }
 
-/// The open orders with a line of the item, those lines, and what is staged and reserved of it.
+/// The rows of the urgent ones among these orders with a line of the item. Where nothing is known, each is looked up.
+fn read_urgent_ones<S: Alter>(
+    alloc: Global,
+    tx: &mut Transaction<'_, S>,
+    known: Option<&Known>,
+    gtin: &Gtin,
+    orders: &[OrderRow],
+) -> Result<Vec<UrgentRow>, TableFault>
+    ensures same_reference { tx.new.conn.ghost_name ≡ tx.old.conn.ghost_name }
+    ensures read { IsRead (λ t rows. AreUrgentFor (option_copied known.entry) gtin.now orders.now t rows.items) (state S.Store tx.old.conn.now) (state S.Store tx.new.conn.now) result }
+{
+    match known {
+        Some(known) => read_urgents(alloc, tx, &known.urgent, &[*gtin], orders),
+        None => urgents_of(alloc, tx, orders),
+    }
+}
+
+/// The open orders with a line of the item, those lines, which of them are urgent, and what is staged and reserved of it.
 fn read_demands<S: Alter>(
     alloc: Global,
     tx: &mut Transaction<'_, S>,
-    known: Option<&OpenLines>,
+    known: Option<&Known>,
     gtin: &Gtin,
 ) -> Result<Rows, TableFault>
     ensures same_reference { tx.new.conn.ghost_name ≡ tx.old.conn.ghost_name }
     ensures read { IsRead (λ t rows. AreOfDemands (option_copied known.entry) gtin.now t rows) (state S.Store tx.old.conn.now) (state S.Store tx.new.conn.now) result }
 {
     let (orders, lines) = read_ordered(alloc, tx, known, gtin)?;
+    let urgents = read_urgent_ones(alloc, tx, known, gtin, orders.as_slice())?;
     let (staged, reserved) = read_booked(alloc, tx, &[*gtin])?;
-    Ok(of_demands(alloc, orders, lines, staged, reserved))
+    Ok(of_demands(alloc, orders, lines, staged, reserved, urgents))
 }
 
 /// The bookings of an item that are short, by its GTIN.
 #[derive(Clone, Copy)]
 pub struct ShortQuery<'a> {
     pub gtin: Gtin,
-    /// The orders that may be open, by the items of their lines, where they are known.
-    pub known: Option<&'a OpenLines>,
+    /// What is known of the books, if anything is.
+    pub known: Option<&'a Known>,
 }
 
 impl<'a> Query for ShortQuery<'a> {

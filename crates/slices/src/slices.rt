@@ -16,7 +16,7 @@ ghost use Rattle.open_lines.specs.OpenLines.{Loses, has_closed_row, has_line_row
 ghost use Rattle.slices.specs.Reading.{IsRead};
 ghost use Rattle.slices.specs.Bounding.{with_counts};
 ghost use Rattle.slices.specs.ByLot.{AreLotsOf};
-ghost use Rattle.slices.specs.Slicing.{AreGoods, AreBooked, AreShares, AreUnits, AreBins, AreCounts, AreTaken, AreTouched, ArePlanned, AreSliced, HoldsOf, IsSliceIn, bins_named, with_names, held_lots};
+ghost use Rattle.slices.specs.Slicing.{AreGoods, AreBooked, AreShares, AreUnits, AreKnownOrders, AreUrgentsFor, AreBins, AreCounts, AreTaken, AreTouched, ArePlanned, AreSliced, HoldsOf, IsSliceIn, bins_named, with_names, held_lots};
 
 use crate::by_order::reserved_for_pick;
 use crate::knowing::{Bounds, Known};
@@ -25,9 +25,10 @@ use crate::opening::affected_items;
 use crate::reading::{meta_row, told_bins, told_items};
 use crate::shipments::read_shipment;
 use crate::sought::{seek_all, seek_both};
+use crate::urgent_orders::read_urgents;
 use commands::{
     Added, BinRow, Command, ItemRow, LeastRow, LineRow, Listed, LotRow, MetaRow, OrderRow,
-    RecallRow, ReservedRow, StagedRow, StockRow,
+    RecallRow, ReservedRow, StagedRow, StockRow, UrgentRow,
 };
 use goods_tables::bins::Bins;
 use goods_tables::items::Items;
@@ -35,7 +36,6 @@ use goods_tables::least::Least;
 use goods_tables::lots::Lots;
 use goods_tables::recalls::Recalls;
 use goods_tables::stock::Stock;
-use open_lines::OpenLines;
 use order_tables::lines::Lines;
 use order_tables::reserved::Reserved;
 use order_tables::staged::Staged;
@@ -178,6 +178,7 @@ fn rows_read(
     bins: Vec<BinRow>,
     ordered: (Vec<OrderRow>, Vec<LineRow>),
     shares: (Vec<StagedRow>, Vec<ReservedRow>),
+    urgents: Vec<UrgentRow>,
 ) -> Rows
     ensures same_items { result.items ≡ goods.items.items }
     ensures same_bins { result.bins ≡ bins.items }
@@ -189,6 +190,7 @@ fn rows_read(
     ensures same_staged { result.staged ≡ shares.0.items }
     ensures same_reserved { result.reserved ≡ shares.1.items }
     ensures same_least { result.least ≡ goods.least.items }
+    ensures same_urgents { result.urgents ≡ urgents.items }
 {
     let (orders, lines) = ordered;
     let (staged, reserved) = shares;
@@ -203,6 +205,7 @@ fn rows_read(
         staged: Listed::from_vec(staged),
         reserved: Listed::from_vec(reserved),
         least: Listed::from_vec(goods.least),
+        urgents: Listed::from_vec(urgents),
     }
 }
 
@@ -244,11 +247,29 @@ fn read_counts<S: Alter>(
     }
 }
 
+/// The orders that the command names, and those that may be open and have a line of one of the items; their lines; and the
+/// rows of the urgent ones among them.
+fn read_ordered<S: Alter>(
+    alloc: Global,
+    tx: &mut Transaction<'_, S>,
+    known: &Known,
+    named: &[Name],
+    gtins: &[Gtin],
+) -> Result<((Vec<OrderRow>, Vec<LineRow>), Vec<UrgentRow>), TableFault>
+    ensures same_reference { tx.new.conn.ghost_name ≡ tx.old.conn.ghost_name }
+    ensures read { IsRead (λ t rows. AreKnownOrders known.now.lines named.now gtins.now t rows.0.0.items rows.0.1.items
+        × AreUrgentsFor known.now.urgent gtins.now rows.0.0.items t rows.1.items) (state S.Store tx.old.conn.now) (state S.Store tx.new.conn.now) result }
+{
+    let ordered = read_known_orders(alloc, tx, &known.lines, named, gtins)?;
+    let urgents = read_urgents(alloc, tx, &known.urgent, gtins, ordered.0.as_slice())?;
+    Ok((ordered, urgents))
+}
+
 /// The rows that a command asks for that is no shipment.
 fn read_planned<S: Alter>(
     alloc: Global,
     tx: &mut Transaction<'_, S>,
-    known: &OpenLines,
+    known: &Known,
     command: &Command,
 ) -> Result<Rows, TableFault>
     ensures same_reference { tx.new.conn.ghost_name ≡ tx.old.conn.ghost_name }
@@ -258,15 +279,15 @@ fn read_planned<S: Alter>(
     let named = named_orders(alloc, command)?;
     let (goods, shares) = read_units(alloc, tx, command, gtins.as_slice())?;
     let bins = read_bins(alloc, tx, command, goods.stock.as_slice())?;
-    let ordered = read_known_orders(alloc, tx, known, named.as_slice(), gtins.as_slice())?;
-    Ok(rows_read(goods, bins, ordered, shares))
+    let (ordered, urgents) = read_ordered(alloc, tx, known, named.as_slice(), gtins.as_slice())?;
+    Ok(rows_read(goods, bins, ordered, shares, urgents))
 }
 
 /// The rows of the slice.
 fn read_rows<S: Alter>(
     alloc: Global,
     tx: &mut Transaction<'_, S>,
-    known: &OpenLines,
+    known: &Known,
     command: &Command,
 ) -> Result<Rows, TableFault>
     ensures same_reference { tx.new.conn.ghost_name ≡ tx.old.conn.ghost_name }
@@ -290,7 +311,7 @@ fn read_rest<S: Alter>(
     ensures read { IsRead (λ t s. (t.meta ≡ Some meta → IsSliceIn known.now command.now t s)) (state S.Store tx.old.conn.now) (state S.Store tx.new.conn.now) result }
 {
     let (items, bins) = read_counts(alloc, tx, known.bounds, command)?;
-    let rows = read_rows(alloc, tx, &known.lines, command)?;
+    let rows = read_rows(alloc, tx, known, command)?;
     Ok(Slice {
         meta,
         items,
@@ -316,15 +337,17 @@ fn slice_in<S: Alter>(
 // Forgets the closed orders among the rows that were read, and keeps the numbers that were counted.
 fn learn(known: &mut Known, command: &Command, slice: &Result<Slice, TableFault>)
     ensures met { IfOk slice.now (λ s. Loses (λ g o. has_closed_row s.rows.orders o && has_line_row s.rows.lines g o) known.old.lines known.new.lines) }
+    ensures met_urgent { IfOk slice.now (λ s. Loses (λ g o. has_closed_row s.rows.orders o && has_line_row s.rows.lines g o) known.old.urgent known.new.urgent) }
     ensures counted { IfOk slice.now (λ s. known.new.bounds ≡ with_counts command.now s.items s.bins known.old.bounds) }
     ensures unread { IfErr slice.now (λ e. known.new ≡ known.old) }
 {
     match slice {
         Ok(slice) => {
             known.bounds = known.bounds.with_counts(command, slice.items, slice.bins);
-            known
-                .lines
-                .forget_closed(slice.rows.orders.as_slice(), slice.rows.lines.as_slice());
+            let orders = slice.rows.orders.as_slice();
+            let lines = slice.rows.lines.as_slice();
+            known.lines.forget_closed(orders, lines);
+            known.urgent.forget_closed(orders, lines);
         }
         Err(_) => {}
     }

@@ -42,4 +42,5 @@ returns-clause-read g c =
       no_recalls = c.of_shipment.ensures.no_recalls;
       no_reserved = c.of_shipment.ensures.no_reserved;
       no_least = c.of_shipment.ensures.no_least;
+      no_urgents = c.of_shipment.ensures.no_urgents;
     })

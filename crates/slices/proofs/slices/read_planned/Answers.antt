@@ -2,7 +2,7 @@ use Rattle.std.proofs.Common.{◌≡◌, ℕ, List, sym, subst, ◌∙◌}
 use Rattle.commands.specs.declared.rows.StockRow.{StockRow}
 use Rattle.sqlite.specs.declared.error.Error.TheVariants.{SqliteFailure}
 use Rattle.sqlite.specs.declared.error.ErrorCode.TheVariants.{OutOfMemory}
-use Rattle.slices.specs.Slicing.{orders_named, bins_named, with_names, AreUnits, AreBins, AreKnownOrders}
+use Rattle.slices.specs.Slicing.{orders_named, bins_named, with_names, AreUnits, AreBins, AreKnownOrders, AreUrgentsFor}
 use Rattle.slices.proofs.ReadSteps.{has_read, read_on, and_then, so_told, fails_first, fails_later, no_room_left}
 use Rattle.slices.proofs.slices.read_planned.Goals as goal
 
@@ -36,6 +36,8 @@ returns-clause-read g c =
           (subst (λ (l : List (List ℕ)). AreUnits command l t goods.items.items goods.least.items goods.lots.items goods.recalls.items goods.stock.items shares.0.items shares.1.items) c.as_slice.ensures.value h.0.0.1);
       bins = rw c.rows_read.ensures.same_bins (subst (λ (l : List StockRow). AreBins (with_names (λ r. r.bin) l (bins_named command)) t c.in_ok-bins.bins.items) stock_is h.0.1);
       ordered = rw (c.rows_read.ensures.same_orders, c.rows_read.ensures.same_lines)
-          (subst (λ (l : List (List ℕ)). AreKnownOrders c.args.known.now (orders_named command) l t c.in_ok-ordered.ordered.0.items c.in_ok-ordered.ordered.1.items) c.as_slice-4.ensures.value
-          (subst (λ (l : List (List ℕ)). AreKnownOrders c.args.known.now l c.as_slice-4.result.now t c.in_ok-ordered.ordered.0.items c.in_ok-ordered.ordered.1.items) of_orders h.1));
+          (subst (λ (l : List (List ℕ)). AreKnownOrders c.args.known.now.lines (orders_named command) l t c.in_ok-ordered.ordered.0.items c.in_ok-ordered.ordered.1.items) c.as_slice-4.ensures.value
+          (subst (λ (l : List (List ℕ)). AreKnownOrders c.args.known.now.lines l c.as_slice-4.result.now t c.in_ok-ordered.ordered.0.items c.in_ok-ordered.ordered.1.items) of_orders h.1.0));
+      urgents = rw (c.rows_read.ensures.same_orders, c.rows_read.ensures.same_urgents)
+          (subst (λ (l : List (List ℕ)). AreUrgentsFor c.args.known.now.urgent l c.in_ok-ordered.ordered.0.items t c.in_ok-ordered.urgents.items) c.as_slice-4.ensures.value h.1.1);
     })

@@ -9,7 +9,7 @@ returns-clause-read g c = slice_read c.args.known.now c.args.command.now (state 
 
 pub returns-clause-holds : goal.returns-clause-holds
 returns-clause-holds g c =
-    slice_holds c.args.command.now (state g.S.Store c.args.tx.now.conn.now) (state g.S.Store c.slice_in-slice.new.tx.conn.now) c.slice_in-slice.result c.args.known.now c.learn.new.known c.slice_in-slice.ensures.read c.learn.ensures.met c.learn.ensures.counted c.learn.ensures.unread
+    slice_holds c.args.command.now (state g.S.Store c.args.tx.now.conn.now) (state g.S.Store c.slice_in-slice.new.tx.conn.now) c.slice_in-slice.result c.args.known.now c.learn.new.known c.slice_in-slice.ensures.read c.learn.ensures.met c.learn.ensures.met_urgent c.learn.ensures.counted c.learn.ensures.unread
 
 pub returns-clause-fault : goal.returns-clause-fault
 returns-clause-fault g c clean = read_fault (λ t s. IsSliceIn c.args.known.now c.args.command.now t s) (state g.S.Store c.args.tx.now.conn.now) (state g.S.Store c.slice_in-slice.new.tx.conn.now) c.slice_in-slice.result c.slice_in-slice.ensures.read clean
