@@ -14,7 +14,7 @@ use Rattle.slices.specs.ShownShort.{IsKnownOf}
 use Rattle.slices.specs.declared.knowing.Known.{Known}
 use Rattle.store.specs.Books.{KeepsBooks, IsSettled, IsAsBefore}
 use Rattle.store.specs.Connected.{Connected, IsIdle}
-use Rattle.store.specs.Knowing.{HasKnown, IsKnown, lines_known}
+use Rattle.store.specs.Knowing.{HasKnown, IsKnown}
 use Rattle.store.specs.Opening.{IsReopened}
 use Rattle.store.specs.Queries.{IsShown}
 use Rattle.store.specs.Showing.{IsShownOn}
@@ -49,13 +49,9 @@ shown_by_books g first acts shown (Err (Refused why)) new is day = (is.0, record
 shown_by_books g first acts shown (Err Store) new is day = record { keeps = is.1; day = day }
 shown_by_books g first acts shown (Err Foreign) new is day = absurd is.0
 
--- what is known of the open orders of a history
-lines_so : (known : Option Known) (s : State) → HasKnown known s → IsKnownOf (lines_known known) (tables_in s.now.trees)
-lines_so None s has = tt
-lines_so (Some k) s has = has.lines
-
-pub known_of_acts : (known : Option Known) (first : ℤ) (acts : List Act) (s : State) → KeepsBooks first acts s → (IsTrue s.is_open → HasKnown known s) → IsTrue s.is_open → IsKnownOf (lines_known known) (tables_of first acts)
-known_of_acts known first acts s held has up = subst (IsKnownOf (lines_known known)) (held.books up).rows.tables (lines_so known s (has up))
+-- what is known of the books of a history
+pub known_of_acts : (known : Option Known) (first : ℤ) (acts : List Act) (s : State) → KeepsBooks first acts s → (IsTrue s.is_open → HasKnown known s) → IsTrue s.is_open → IsKnownOf known (tables_of first acts)
+known_of_acts known first acts s held has up = subst (IsKnownOf known) (held.books up).rows.tables (has up)
 
 -- where nothing is known yet
 pub known_unread : (s : State) → (HasCleanDisk s → IsSettled s) → IsKnown None s

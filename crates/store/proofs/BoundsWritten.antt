@@ -6,7 +6,7 @@ use Rattle.commands.specs.Tables.{Tables}
 use Rattle.commands.specs.declared.rows.ItemRow.{ItemRow}
 use Rattle.commands.specs.declared.rows.BinRow.{BinRow}
 use Rattle.commands.specs.declared.rows.RepeatRow.{RepeatRow}
-use Rattle.table_words.specs.Typed.{item_key, bin_key, with_item, with_least, with_bin, with_lot, with_recall, with_stock, without_stock, with_order, with_line, with_staged, without_staged, with_reserved, without_reserved, with_shipment, with_shipline, with_card, with_repeat}
+use Rattle.table_words.specs.Typed.{item_key, bin_key, with_item, with_least, with_bin, with_lot, with_recall, with_stock, without_stock, with_order, with_urgent, with_line, with_staged, without_staged, with_reserved, without_reserved, with_shipment, with_shipline, with_card, with_repeat}
 use Rattle.machine.proofs.Tests.{or_first, or_later}
 use Rattle.row_rules.specs.declared.slice.Put.{Put}
 use Rattle.row_rules.specs.declared.slice.Change.{Change}
@@ -70,15 +70,17 @@ module _ (c : Change) (row : RepeatRow) (t : Tables) where
       let d = c.dropped in
       let goods : Tables = goods_written p d t in
       let one : Tables = each_written with_order p.orders goods in
-      let two : Tables = lines_written p goods in
-      let three : Tables = each_written (λ r. without_staged r.order r.lot) d.staged two in
-      let four : Tables = each_written with_staged p.staged three in
-      let five : Tables = each_written (λ r. without_reserved r.order r.lot) d.reserved four in
-      rows_spare named with_reserved (λ r u. refl) p.reserved five
-      ∙ rows_spare named (λ r. without_reserved r.order r.lot) (λ r u. refl) d.reserved four
-      ∙ rows_spare named with_staged (λ r u. refl) p.staged three
-      ∙ rows_spare named (λ r. without_staged r.order r.lot) (λ r u. refl) d.staged two
-      ∙ rows_spare named with_line (λ r u. refl) p.lines one
+      let two : Tables = each_written with_urgent p.urgents one in
+      let three : Tables = lines_written p goods in
+      let four : Tables = each_written (λ r. without_staged r.order r.lot) d.staged three in
+      let five : Tables = each_written with_staged p.staged four in
+      let six : Tables = each_written (λ r. without_reserved r.order r.lot) d.reserved five in
+      rows_spare named with_reserved (λ r u. refl) p.reserved six
+      ∙ rows_spare named (λ r. without_reserved r.order r.lot) (λ r u. refl) d.reserved five
+      ∙ rows_spare named with_staged (λ r u. refl) p.staged four
+      ∙ rows_spare named (λ r. without_staged r.order r.lot) (λ r u. refl) d.staged three
+      ∙ rows_spare named with_line (λ r u. refl) p.lines two
+      ∙ rows_spare named with_urgent (λ r u. refl) p.urgents one
       ∙ rows_spare named with_order (λ r u. refl) p.orders goods
 
   change_spares : named (with_repeat row (change_written c t)) ≡ named (names_written c.put t)

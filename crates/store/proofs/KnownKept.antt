@@ -24,7 +24,7 @@ use Rattle.store.specs.Books.{IsSettled}
 use Rattle.store.specs.Knowing.{HasKnown, IsKnown, GoesOnKnown, LeavesKnown}
 use Rattle.store.proofs.ActsWhole.{KeepsInside, begun_commit, failed_commit_kept}
 use Rattle.store.proofs.HandedOn.{Stays, settled_back}
-use Rattle.store.proofs.LinesWritten.{covers_written}
+use Rattle.store.proofs.LinesWritten.{covers_written, covers_urgent_written}
 use Rattle.store.proofs.BoundsWritten.{bounds_more, bounds_written}
 
 -- of the tables of a database
@@ -71,20 +71,25 @@ pub goes_known_from : {X E : Type 0} (known after : Option Known) (r : Result X 
 goes_known_from known after r old mid new same goes = ok_to r (λ a. (same.0.was_open, a.1, a.2 ∙ same.0.mode, λ h. a.3 (known_kept known old mid same h))) goes
 
 -- more orders are known, and no number is smaller
-pub holds_more : (known after : Known) (puts : Put) (t : Tables) → Keeps known.lines after.lines → IsRaised puts known.bounds after.bounds → HoldsOf known t → HoldsOf after t
-holds_more known after puts t keeps raised holds = record { lines = λ o g up there. keeps g o (holds.lines o g up there); bounds = bounds_more puts known.bounds after.bounds t raised holds.bounds }
+pub holds_more : (known after : Known) (puts : Put) (t : Tables) → Keeps known.lines after.lines → Keeps known.urgent after.urgent → IsRaised puts known.bounds after.bounds → HoldsOf known t → HoldsOf after t
+holds_more known after puts t keeps keeps_urgent raised holds = record {
+  lines = λ o g up there. keeps g o (holds.lines o g up there);
+  urgent = λ o g up there hurried. keeps_urgent g o (holds.urgent o g up there hurried);
+  bounds = bounds_more puts known.bounds after.bounds t raised holds.bounds;
+}
 
 -- a change is written
-pub known_written : {X E : Type 0} (known after : Known) (change : Change) (row : RepeatRow) (r : Result X E) (old mid new : State) → IsUnchanged old mid → Keeps known.lines after.lines → IsRaised change.put known.bounds after.bounds
-    → Knows change.put (tables_in old.now.trees) after.lines → OnOk r (Goes (λ t. with_repeat row (change_written change t)) mid new) → LeavesKnown (Some known) (Some after) r old new
-known_written known after change row r old mid new same keeps raised knows wrote = record {
-  before = holds_more known after change.put (tables_in old.now.trees) keeps raised;
+pub known_written : {X E : Type 0} (known after : Known) (change : Change) (row : RepeatRow) (r : Result X E) (old mid new : State) → IsUnchanged old mid → Keeps known.lines after.lines → Keeps known.urgent after.urgent
+    → IsRaised change.put known.bounds after.bounds → Knows change.put (tables_in old.now.trees) after → OnOk r (Goes (λ t. with_repeat row (change_written change t)) mid new) → LeavesKnown (Some known) (Some after) r old new
+known_written known after change row r old mid new same keeps keeps_urgent raised knows wrote = record {
+  before = holds_more known after change.put (tables_in old.now.trees) keeps keeps_urgent raised;
   answered = ok_to r (λ goes. (
     same.0.was_open,
     goes.ready,
     goes.mode ∙ same.0.mode,
     λ holds. subst (λ (t : Tables). HoldsOf after t) (sym (goes.tables ∙ ap (λ (db : Database). with_repeat row (change_written change (tables_in db.trees))) same.0.now_is)) (record {
-      lines = covers_written change row (tables_in old.now.trees) known.lines after.lines holds.lines keeps knows;
+      lines = covers_written change row (tables_in old.now.trees) known after holds.lines keeps knows;
+      urgent = covers_urgent_written change row (tables_in old.now.trees) known after holds.urgent keeps_urgent knows;
       bounds = bounds_written change row (tables_in old.now.trees) known.bounds after.bounds raised holds.bounds;
     }),
   )) wrote;

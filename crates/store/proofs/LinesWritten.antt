@@ -4,19 +4,22 @@ use Rattle.std.specs.Prelude.{◌||◌, if◌then◌else◌, Option, Some, is_so
 use Rattle.values.specs.Values.{same_text}
 use Rattle.commands.specs.Tables.{Tables}
 use Rattle.commands.specs.declared.rows.OrderRow.{OrderRow}
+use Rattle.commands.specs.declared.rows.UrgentRow.{UrgentRow}
 use Rattle.commands.specs.declared.rows.LineRow.{LineRow}
 use Rattle.commands.specs.declared.rows.RepeatRow.{RepeatRow}
-use Rattle.table_words.specs.Typed.{with_item, with_least, with_bin, with_lot, with_recall, with_stock, without_stock, with_order, with_line, with_staged, without_staged, with_reserved, without_reserved, with_shipment, with_shipline, with_card, with_repeat, order_key, is_open_order}
+use Rattle.table_words.specs.Typed.{with_item, with_least, with_bin, with_lot, with_recall, with_stock, without_stock, with_order, with_urgent, with_line, with_staged, without_staged, with_reserved, without_reserved, with_shipment, with_shipline, with_card, with_repeat, order_key, is_open_order}
 use Rattle.machine.proofs.Tests.{or_first, or_later}
 use Rattle.row_rules.specs.declared.slice.Put.{Put}
 use Rattle.row_rules.specs.declared.slice.Dropped.{Dropped}
 use Rattle.row_rules.specs.declared.slice.Change.{Change}
 use Rattle.keyed_rows.specs.Writes.{each_written}
 use Rattle.changes.specs.Written.{lines_written, goods_written, change_written}
-use Rattle.open_lines.specs.OpenLines.{Entries, holds, Keeps, has_line_row}
-use Rattle.slices.specs.Slicing.{is_among, is_passed, is_open_in, Covers, Knows}
+use Rattle.open_lines.specs.OpenLines.{Keeps, has_line_row}
+use Rattle.slices.specs.Slicing.{is_among, is_passed, is_open_in, has_urgent_row, opens, comes, Covers, CoversUrgent, Knows}
+use Rattle.slices.specs.declared.knowing.Known.{Known}
+use Rattle.slices.proofs.RowsTold.{and_true}
 
--- The tables of orders and lines are left by what writes others
+-- The tables of orders, of urgent ones and of lines are left by what writes others
 
 module _ {X : Type 0} (get : Tables → X) where
   pub rows_spare : {R : Type 0} (write : R → Tables → Tables) → ((r : R) (t : Tables) → get (write r t) ≡ get t) → (rows : List R) (t : Tables) → get (each_written write rows t) ≡ get t
@@ -24,10 +27,10 @@ module _ {X : Type 0} (get : Tables → X) where
   rows_spare write spares (r ∷ rows) t = rows_spare write spares rows (write r t) ∙ spares r t
 
 abbrev Ordered : Type 0
-Ordered = (List ℕ → Option OrderRow) × (List ℕ → List ℕ → Option LineRow)
+Ordered = (List ℕ → Option OrderRow) × (List ℕ → List ℕ → Option LineRow) × (List ℕ → Option UrgentRow)
 
 abbrev ordered : Tables → Ordered
-ordered t = (t.order, t.line)
+ordered t = (t.order, t.line, t.urgent)
 
 goods_spare : (p : Put) (d : Dropped) (t : Tables) → ordered (goods_written p d t) ≡ ordered t
 goods_spare p d t =
@@ -66,9 +69,6 @@ change_spares c t =
 
 -- An order is open after rows are put because one of them opens it, or it was open
 
-abbrev opens : List OrderRow → List ℕ → Bool
-opens rows o = is_among (map order_key (filter is_open_order rows)) o
-
 opens_later : (r : OrderRow) (rows : List OrderRow) (o : List ℕ) → opens rows o ≡ true → opens (r ∷ rows) o ≡ true
 opens_later r rows o e = by_row (is_open_order r)
   where
@@ -104,6 +104,19 @@ line_put (r ∷ rows) t g o there = elim (line_put rows (with_line r t) g o ther
     by_key true is e = inl (or_first (same_text o r.order && same_text g r.gtin) (has_line_row rows g o) is)
     by_key false is e = inr e
 
+-- and so is an urgent order
+
+urgent_put : (rows : List UrgentRow) (t : Tables) (o : List ℕ) → is_some ((each_written with_urgent rows t).urgent o) ≡ true → (has_urgent_row rows o ≡ true) ⊎ (is_some (t.urgent o) ≡ true)
+urgent_put [] t o there = inr there
+urgent_put (r ∷ rows) t o there = elim (urgent_put rows (with_urgent r t) o there) [
+  | inl later ↦ inl (or_later (same_text o r.order) (has_urgent_row rows o) later)
+  | inr before ↦ by_key (same_text o r.order) refl before
+]
+  where
+    by_key : (b : Bool) → same_text o r.order ≡ b → is_some (if b then Some r else t.urgent o) ≡ true → (has_urgent_row (r ∷ rows) o ≡ true) ⊎ (is_some (t.urgent o) ≡ true)
+    by_key true is e = inl (or_first (same_text o r.order) (has_urgent_row rows o) is)
+    by_key false is e = inr e
+
 module _ (c : Change) (row : RepeatRow) (t : Tables) where
   abbrev puts : Put
   puts = c.put
@@ -114,11 +127,14 @@ module _ (c : Change) (row : RepeatRow) (t : Tables) where
   abbrev with_orders : Tables
   with_orders = each_written with_order c.put.orders before
 
+  abbrev with_urgents : Tables
+  with_urgents = each_written with_urgent c.put.urgents with_orders
+
   -- an order of the tables after is open
   open_after : (o : List ℕ) → is_open_in (with_repeat row (change_written c t)) o ≡ true → (opens c.put.orders o ≡ true) ⊎ (is_open_in t o ≡ true)
   open_after o up =
       let lined : is_open_in (lines_written c.put before) o ≡ true = sym (ap (λ (x : Ordered). is_passed is_open_order (x.0 o)) (change_spares c t)) ∙ up in
-      let put : is_open_in with_orders o ≡ true = sym (ap (λ (f : List ℕ → Option OrderRow). is_passed is_open_order (f o)) (rows_spare (λ u. u.order) with_line (λ r u. refl) c.put.lines with_orders)) ∙ lined in
+      let put : is_open_in with_orders o ≡ true = sym (ap (λ (f : List ℕ → Option OrderRow). is_passed is_open_order (f o)) (rows_spare (λ u. u.order) with_line (λ r u. refl) c.put.lines with_urgents ∙ rows_spare (λ u. u.order) with_urgent (λ r u. refl) c.put.urgents with_orders)) ∙ lined in
       elim (open_put c.put.orders before o put) [
         | inl opened ↦ inl opened
         | inr was ↦ inr (sym (ap (λ (x : Ordered). is_passed is_open_order (x.0 o)) (goods_spare c.put c.dropped t)) ∙ was)
@@ -127,17 +143,55 @@ module _ (c : Change) (row : RepeatRow) (t : Tables) where
   line_after : (g o : List ℕ) → is_some ((with_repeat row (change_written c t)).line o g) ≡ true → (has_line_row c.put.lines g o ≡ true) ⊎ (is_some (t.line o g) ≡ true)
   line_after g o there =
       let lined : is_some ((lines_written c.put before).line o g) ≡ true = sym (ap (λ (x : Ordered). is_some (x.1 o g)) (change_spares c t)) ∙ there in
-      elim (line_put c.put.lines with_orders g o lined) [
+      elim (line_put c.put.lines with_urgents g o lined) [
         | inl put ↦ inl put
         | inr was ↦ inr (sym (ap (λ (x : Ordered). is_some (x.1 o g)) (goods_spare c.put c.dropped t))
-            ∙ sym (ap (λ (f : List ℕ → List ℕ → Option LineRow). is_some (f o g)) (rows_spare (λ u. u.line) with_order (λ r u. refl) c.put.orders before)) ∙ was)
+            ∙ sym (ap (λ (f : List ℕ → List ℕ → Option LineRow). is_some (f o g)) (rows_spare (λ u. u.line) with_urgent (λ r u. refl) c.put.urgents with_orders ∙ rows_spare (λ u. u.line) with_order (λ r u. refl) c.put.orders before)) ∙ was)
       ]
 
-  pub covers_written : (old new : Entries) → Covers old t → Keeps old new → Knows c.put t new → Covers new (with_repeat row (change_written c t))
+  urgent_after : (o : List ℕ) → is_some ((with_repeat row (change_written c t)).urgent o) ≡ true → (has_urgent_row c.put.urgents o ≡ true) ⊎ (is_some (t.urgent o) ≡ true)
+  urgent_after o there =
+      let lined : is_some ((lines_written c.put before).urgent o) ≡ true = sym (ap (λ (x : Ordered). is_some (x.2 o)) (change_spares c t)) ∙ there in
+      let put : is_some (with_urgents.urgent o) ≡ true = sym (ap (λ (f : List ℕ → Option UrgentRow). is_some (f o)) (rows_spare (λ u. u.urgent) with_line (λ r u. refl) c.put.lines with_urgents)) ∙ lined in
+      elim (urgent_put c.put.urgents with_orders o put) [
+        | inl put ↦ inl put
+        | inr was ↦ inr (sym (ap (λ (x : Ordered). is_some (x.2 o)) (goods_spare c.put c.dropped t))
+            ∙ sym (ap (λ (f : List ℕ → Option UrgentRow). is_some (f o)) (rows_spare (λ u. u.urgent) with_order (λ r u. refl) c.put.orders before)) ∙ was)
+      ]
+
+  -- what comes with the change
+  come_put : (g o : List ℕ) → has_line_row c.put.lines g o ≡ true → comes c.put t g o ≡ true
+  come_put g o put = or_first _ _ put
+
+  come_opened : (g o : List ℕ) → is_some (t.line o g) ≡ true → opens c.put.orders o ≡ true → comes c.put t g o ≡ true
+  come_opened g o was opened = or_later (has_line_row c.put.lines g o) _ (and_true _ _ was (or_first _ _ opened))
+
+  come_urgent : (g o : List ℕ) → is_some (t.line o g) ≡ true → has_urgent_row c.put.urgents o ≡ true → comes c.put t g o ≡ true
+  come_urgent g o was urgent = or_later (has_line_row c.put.lines g o) _ (and_true _ _ was (or_later (opens c.put.orders o) _ urgent))
+
+  pub covers_written : (old new : Known) → Covers old.lines t → Keeps old.lines new.lines → Knows c.put t new → Covers new.lines (with_repeat row (change_written c t))
   covers_written old new covers keeps knows o g up there = elim (line_after g o there) [
-    | inl put ↦ knows.lines g o put
+    | inl put ↦ knows.lines g o (come_put g o put)
     | inr was ↦ elim (open_after o up) [
-      | inl opened ↦ knows.opened g o opened was
+      | inl opened ↦ knows.lines g o (come_opened g o was opened)
       | inr open_before ↦ keeps g o (covers o g open_before was)
     ]
   ]
+
+  is_urgent_after : (o : List ℕ) → (has_urgent_row c.put.urgents o ≡ true) ⊎ (is_some (t.urgent o) ≡ true) → is_some (t.urgent o) || has_urgent_row c.put.urgents o ≡ true
+  is_urgent_after o (inl put) = or_later (is_some (t.urgent o)) _ put
+  is_urgent_after o (inr was) = or_first _ _ was
+
+  pub covers_urgent_written : (old new : Known) → CoversUrgent old.urgent t → Keeps old.urgent new.urgent → Knows c.put t new → CoversUrgent new.urgent (with_repeat row (change_written c t))
+  covers_urgent_written old new covers keeps knows o g up there hurried =
+      let now = is_urgent_after o (urgent_after o hurried) in
+      elim (line_after g o there) [
+        | inl put ↦ knows.urgent g o (come_put g o put) now
+        | inr was ↦ elim (open_after o up) [
+          | inl opened ↦ knows.urgent g o (come_opened g o was opened) now
+          | inr open_before ↦ elim (urgent_after o hurried) [
+            | inl put ↦ knows.urgent g o (come_urgent g o was put) now
+            | inr urgent_before ↦ keeps g o (covers o g open_before was urgent_before)
+          ]
+        ]
+      ]

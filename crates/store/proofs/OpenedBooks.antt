@@ -1,10 +1,9 @@
 -- From a connection that was opened anew to the books over it.
-use Rattle.std.proofs.Common.{◌≡◌, inl, inr, ℕ, Bool, true, false, ◌&&◌, List, [], ◌∷◌, filter, map, slice_get, IsTrue, Result, Err, refl, sym, ap, subst, ◌∙◌, arith}
+use Rattle.std.proofs.Common.{◌≡◌, inl, inr, ℕ, Bool, true, false, ◌&&◌, List, [], ◌∷◌, ◌++◌, filter, map, slice_get, IsTrue, Result, Err, refl, sym, ap, subst, ◌∙◌, arith}
 use Rattle.std.specs.Prelude.{◌≤◌, ◌⊎◌, ℤ, pos, codes, nat_eq, None, Some, option_map, find, if◌then◌else◌}
 use Rattle.std.specs.List.{AllByRecursion}
-use Rattle.std.proofs.lemmas.Bool.{eqb-true}
+use Rattle.std.proofs.lemmas.Bool.{cases_Bool, eqb-true}
 use Rattle.label.specs.Days.{is_business_day}
-use Rattle.commands.specs.Schemas.{with_least}
 use Rattle.commands.specs.Tables.{Tables}
 use Rattle.commands.specs.declared.limits.TheConstants.{ACTS_MAX, SCHEMA_VERSION}
 use Rattle.commands.specs.declared.rows.MetaRow.{MetaRow}
@@ -20,30 +19,34 @@ use Rattle.sqlite.specs.Schema.{Schema}
 use Rattle.sqlite.specs.Table.{Table}
 use Rattle.sqlite.specs.Tree.{Trees}
 use Rattle.table_words.specs.Cells.{is_the_number, is_the_text, is_signed, is_number}
-use Rattle.table_words.specs.Schema.{meta_tree, least_tree, least_table, first_tables, the_tables, schema_with, HasTables}
-use Rattle.table_words.specs.Typed.{is_meta, is_meta_at, meta_in, meta_at, same_meta, meta_key, AreTyped}
+use Rattle.table_words.specs.Schema.{meta_tree, least_tree, least_table, urgents_tree, urgents_table, first_tables, second_tables, the_tables, schema_with, HasTables}
+use Rattle.table_words.specs.Typed.{tables_in, is_meta, is_meta_at, meta_in, meta_at, same_meta, meta_key, AreTyped}
 use Rattle.table_words.specs.declared.error.TableFault.{TableFault}
 use Rattle.table_words.specs.declared.error.TableFault.TheVariants.{Store as TableStore, Foreign as TableForeign}
 use Rattle.table_words.proofs.StepLemmas.{tables_same, typed_same, typed_at}
 use Rattle.tables.specs.Indexing.{KeepsRows}
-use Rattle.tables.specs.Older.{IsFirstSchema}
+use Rattle.tables.specs.Bringing.{as_older, as_brought}
+use Rattle.tables.specs.Older.{number, older_tables, IsOlderSchema}
+use Rattle.tables.specs.declared.older.OlderBooks.{OlderBooks}
+use Rattle.tables.specs.declared.older.OlderBooks.TheVariants.{First, Second}
 use Rattle.tables.specs.Settling.{HasDayAt}
 use Rattle.tables.proofs.SettleLemmas.{each_itself}
 use Rattle.tables.proofs.OpenLemmas.{ready_tells}
 use Rattle.tables.specs.Opening.{number_of, HasSchema, IsReadyAs, AreReadTyped, KeepsRowsAs, ComesTo, IsCome, IsLeftAs, IsLeft, TellTables}
 use Rattle.tables.specs.declared.opening.Found.{Found}
-use Rattle.tables.specs.declared.opening.Found.TheVariants.{Newest, First}
+use Rattle.tables.specs.declared.opening.Found.TheVariants.{Newest, Older}
 use Rattle.tables.specs.declared.opening.Leftover.{Leftover}
 use Rattle.tables.specs.declared.opening.Leftover.TheVariants as left
 use Rattle.machine.specs.Acts.{Act}
 use Rattle.machine.specs.Standing.{today}
+use Rattle.machine.specs.Schemas.{are_of_schema}
 use Rattle.machine.specs.Tables.{tables_of}
 use Rattle.machine.proofs.Tests.{and_both, and_false}
-use Rattle.machine.proofs.histories.LeastDays.{older_books_go_on}
+use Rattle.machine.proofs.histories.OlderBooks.{first_books_go_on, second_books_go_on}
 use Rattle.store.specs.Books.{AreRowsOf, KeepsBooks}
 use Rattle.store.specs.Faults.{fault_of}
 use Rattle.store.specs.declared.fault.Fault.{Fault}
-use Rattle.store.specs.Opening.{AreFirstRowsOf, AreRowsAt, AreFoundRows, MayCome, IsReopened, IsReopenedAsFound, IsLeftOver, unlimited}
+use Rattle.store.specs.Opening.{AreOlderRowsOf, AreRowsAt, AreFoundRows, MayCome, IsReopened, IsReopenedAsFound, IsLeftOver, unlimited}
 use Rattle.store.specs.declared.fault.Fault.TheVariants.{Store, Foreign}
 
 -- ---- faults
@@ -89,21 +92,34 @@ newest_day trees first acts rows = record {
   found = ap (λ (t : Tables). option_map (λ (m : MetaRow). m.day) t.meta) rows.tables;
 }
 
-first_day : (trees : Trees) (first : ℤ) (acts : List Act) → AreFirstRowsOf first acts trees → HasDayAt 1 trees (today first acts)
+-- the rows of `meta` come first among those of older books
+older_meta : (older : OlderBooks) (trees : Trees) (first : ℤ) (acts : List Act) → AreOlderRowsOf older first acts trees → AllByRecursion (λ r. is_meta_at (number older) r ≡ true) (trees meta_tree)
+older_meta First trees first acts rows = rows.typed.0
+older_meta Second trees first acts rows = rows.typed.0
+
+same_meta_as : (older : OlderBooks) (t : Tables) → (as_older older t).meta ≡ t.meta
+same_meta_as First t = refl
+same_meta_as Second t = refl
+
+older_day : (older : OlderBooks) (trees : Trees) (first : ℤ) (acts : List Act) → AreOlderRowsOf older first acts trees → HasDayAt (number older) trees (today first acts)
 unfolding tables_of
-first_day trees first acts rows = record {
-  typed = typed_among (λ r. is_meta_at 1 r ≡ true) (λ r. is_the_number 1 (column r 0)) (trees meta_tree) rows.typed.0;
-  found = ap (λ (t : Tables). option_map (λ (m : MetaRow). m.day) t.meta) rows.tables;
-}
+older_day older trees first acts rows =
+    let seen : Tables = record (tables_in trees) { meta = meta_at (number older) trees } in
+    let same : meta_at (number older) trees ≡ (tables_of first acts).meta = sym (same_meta_as older seen) ∙ ap (λ (t : Tables). t.meta) rows.tables ∙ same_meta_as older (tables_of first acts) in
+    record {
+      typed = typed_among (λ r. is_meta_at (number older) r ≡ true) (λ r. is_the_number 1 (column r 0)) (trees meta_tree) (older_meta older trees first acts rows);
+      found = ap (option_map (λ (m : MetaRow). m.day)) same;
+    }
 
 pub has_day : (found : Found) (trees : Trees) (first : ℤ) (acts : List Act) → AreRowsAt found first acts trees → HasDayAt (number_of found) trees (today first acts)
 has_day Newest trees first acts rows = newest_day trees first acts rows
-has_day First trees first acts rows = first_day trees first acts rows
+has_day (Older older) trees first acts rows = older_day older trees first acts rows
 
 -- what is read beside it is typed
 pub read_typed : (found : Found) (trees : Trees) (first : ℤ) (acts : List Act) → AreRowsAt found first acts trees → AreReadTyped found trees
 read_typed Newest trees first acts rows = tt
-read_typed First trees first acts rows = rows.typed.1.0
+read_typed (Older First) trees first acts rows = rows.typed.1.0
+read_typed (Older Second) trees first acts rows = tt
 
 -- there is one day
 pub one_day : (version : ℕ) (trees : Trees) (a b : ℤ) → HasDayAt version trees a → HasDayAt version trees b → a ≡ b
@@ -136,25 +152,57 @@ no_day n m apart trees day all has =
     let no : None ≡ Some day = sym (ap (option_map (λ (m : MetaRow). m.day)) none) ∙ has.found in
     cc
 
+-- so rows of the acts have a day under the number of their books alone
+rows_number : (found : Found) (trees : Trees) (first : ℤ) (acts : List Act) → AreRowsAt found first acts trees → AllByRecursion (λ r. is_meta_at (number_of found) r ≡ true) (trees meta_tree)
+rows_number Newest trees first acts rows = newest_meta trees rows.typed
+rows_number (Older older) trees first acts rows = older_meta older trees first acts rows
+
+-- books with one number are the same
+one_number : (a b : Found) → number_of a ≡ number_of b → a ≡ b
+one_number Newest Newest is = refl
+one_number (Older First) (Older First) is = refl
+one_number (Older Second) (Older Second) is = refl
+one_number Newest (Older First) is = cc
+one_number Newest (Older Second) is = cc
+one_number (Older First) Newest is = cc
+one_number (Older First) (Older Second) is = cc
+one_number (Older Second) Newest is = cc
+one_number (Older Second) (Older First) is = cc
+
 -- rows of the acts under a number that the row of `meta` has are those of its books
 pub same_found : (at found : Found) (trees : Trees) (first : ℤ) (acts : List Act) (day : ℤ) → AreRowsAt at first acts trees → HasDayAt (number_of found) trees day → at ≡ found
-same_found Newest Newest trees first acts day rows has = refl
-same_found First First trees first acts day rows has = refl
-same_found Newest First trees first acts day rows has = absurd (no_day 1 SCHEMA_VERSION refl trees day (newest_meta trees rows.typed) has)
-same_found First Newest trees first acts day rows has = absurd (no_day SCHEMA_VERSION 1 refl trees day rows.typed.0 has)
+same_found at found trees first acts day rows has = elim (cases_Bool (nat_eq (number_of found) (number_of at))) [
+  | inl is ↦ one_number at found (sym (eqb-true (number_of found) (number_of at) is))
+  | inr apart ↦ absurd (no_day (number_of found) (number_of at) apart trees day (rows_number at trees first acts rows) has)
+]
 
--- no schema is of two kinds of books
-apart_schemas : (schema : Schema) → HasTables schema → IsFirstSchema schema → ⊥
-apart_schemas schema newest first =
-    let same : (schema_with newest.rest).tables ≡ first_tables = ap (λ (s : Schema). s.tables) (sym newest.is ∙ first.is) in
-    let no : Some (least_table least_tree) ≡ None = ap (λ (tables : List Table). slice_get tables 14) same in
-    cc
+-- no schema is of two kinds of books: their tables are not as many
+tables_of_found : Found → List Table → List Table
+tables_of_found Newest others = the_tables ++ others
+tables_of_found (Older older) others = older_tables older
+
+has_tables_of : (found : Found) (schema : Schema) → HasSchema found schema → (others : List Table) × (schema.tables ≡ tables_of_found found others)
+unfolding tables_of_found
+has_tables_of Newest schema has = (has.rest.tables, ap (λ (s : Schema). s.tables) has.is)
+has_tables_of (Older older) schema has = ([], ap (λ (s : Schema). s.tables) has.is)
+
+others_apart : (a b : Found) (xs ys : List Table) → tables_of_found a xs ≡ tables_of_found b ys → a ≡ b
+unfolding tables_of_found
+others_apart Newest Newest xs ys same = refl
+others_apart (Older First) (Older First) xs ys same = refl
+others_apart (Older Second) (Older Second) xs ys same = refl
+others_apart Newest (Older First) xs ys same = let no : Some (least_table least_tree) ≡ None = ap (λ (tables : List Table). slice_get tables 14) same in cc
+others_apart Newest (Older Second) xs ys same = let no : Some (urgents_table urgents_tree) ≡ None = ap (λ (tables : List Table). slice_get tables 15) same in cc
+others_apart (Older First) Newest xs ys same = let no : None ≡ Some (least_table least_tree) = ap (λ (tables : List Table). slice_get tables 14) same in cc
+others_apart (Older First) (Older Second) xs ys same = let no : None ≡ Some (least_table least_tree) = ap (λ (tables : List Table). slice_get tables 14) same in cc
+others_apart (Older Second) Newest xs ys same = let no : None ≡ Some (urgents_table urgents_tree) = ap (λ (tables : List Table). slice_get tables 15) same in cc
+others_apart (Older Second) (Older First) xs ys same = let no : Some (least_table least_tree) ≡ None = ap (λ (tables : List Table). slice_get tables 14) same in cc
 
 pub one_found : (a b : Found) (schema : Schema) → HasSchema a schema → HasSchema b schema → a ≡ b
-one_found Newest Newest schema p q = refl
-one_found First First schema p q = refl
-one_found Newest First schema p q = absurd (apart_schemas schema p q)
-one_found First Newest schema p q = absurd (apart_schemas schema q p)
+one_found a b schema p q =
+    let one = has_tables_of a schema p in
+    let two = has_tables_of b schema q in
+    others_apart a b one.0 two.0 (sym one.1 ∙ two.1)
 
 -- ---- the connection
 
@@ -175,11 +223,16 @@ unlimited_survives {S} g old mid new P is s =
     subst (λ (h : Held S). Survives (unlimited (state g old)) (state g h) P) (sym is)
     (record { clean = s.clean; shield = s.shield; counts = s.counts; limit = refl; closes = s.closes; crash = s.crash })
 
--- rows that were kept are those of the acts, and so are those of schema 1 with 0 days for each item
+-- what older books come to is the tables of the same acts
+goes_on : (older : OlderBooks) (first : ℤ) (acts : List Act) → are_of_schema (number older) acts ≡ true → as_brought older (as_older older (tables_of first acts)) ≡ tables_of first acts
+goes_on First first acts old = first_books_go_on first acts old
+goes_on Second first acts old = second_books_go_on first acts old
+
+-- rows that were kept are those of the acts, and so are those that came of older ones
 rows_come : (found : Found) (before after : Trees) (first : ℤ) (acts : List Act) → ComesTo found before after → AreRowsAt found first acts before → AreRowsOf first acts after
 rows_come Newest before after first acts kept rows = record { tables = tables_same before after kept ∙ rows.tables; typed = typed_same before after kept rows.typed }
-rows_come First before after first acts brought rows = record {
-  tables = brought.tables ∙ ap (λ (t : Tables). with_least t) rows.tables ∙ older_books_go_on first acts rows.older;
+rows_come (Older older) before after first acts brought rows = record {
+  tables = brought.tables ∙ ap (as_brought older) rows.tables ∙ goes_on older first acts rows.older_acts;
   typed = brought.typed rows.typed;
 }
 
@@ -207,11 +260,11 @@ module _ {S : Type 0} (g : Ghosts S) (old again new : Held S) (found : Found) (s
   as_found : (at : Found) → IsReadyAs at (state g again).now → (state g again).now.trees ≡ (state g old).committed.trees → (db : Trees) → db ≡ (state g old).committed.trees → MayCome at (state g old).committed.trees db
   as_found Newest is trees db before =
       subst (λ (t : Trees). KeepsRows (state g old).committed.trees t × TellTables t) (sym before) (each_itself (state g old).committed.trees the_tables, subst TellTables trees (ready_tells (state g again).now is))
-  as_found First is trees db before = inl before
+  as_found (Older older) is trees db before = inl before
 
   as_come : (at : Found) (db : Trees) → ComesTo at (state g old).committed.trees db × TellTables db → MayCome at (state g old).committed.trees db
   as_come Newest db it = it
-  as_come First db it = inr it
+  as_come (Older older) db it = inr it
 
   left_by : HasCleanDisk (state g new) → (db : Trees) → (state g again).may_leave db ⊎ (IsReadyAs found (state g again).now → ComesTo found (state g again).now.trees db × TellTables db) → MayCome found (state g old).committed.trees db
   left_by c db (inl before) = as_found found (ready (was_clean c)) (same (was_clean c)) db (crash (was_clean c) db before)

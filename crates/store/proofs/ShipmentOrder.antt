@@ -80,6 +80,7 @@ found_still test x xs h = elim (test x) as (λ b. is_some (if b then Some x else
 
 order_stays : (before : List Act) (key : Key) (c : Command) (o : List ℕ) → has_order before o ≡ true → has_order (record { key = key; command = c } ∷ before) o ≡ true
 order_stays before key (Order n) o h = found_still (λ (p : Placed). same_text o p.order) _ (orders before) h
+order_stays before key (Urgent n) o h = found_still (λ (p : Placed). same_text o p.order) _ (orders before) h
 order_stays before key _ o h = h
 
 have_orders : (first : ℤ) (acts : List Act) → IsHistory first acts → AllByRecursion (λ (s : ShipmentRow). has_order acts s.order ≡ true) (shipments first acts)

@@ -1,9 +1,8 @@
 -- What the books know of their tables.
-use Rattle.std.specs.Prelude.{◌≡◌, Option, Result, IsTrue, IfSome, OnOk, option_map}
+use Rattle.std.specs.Prelude.{◌≡◌, Option, Result, IsTrue, IfSome, OnOk}
 use Rattle.sqlite.specs.State.{State, HasCleanDisk}
 use Rattle.table_words.specs.Steps.{IsReady}
 use Rattle.table_words.specs.Typed.{tables_in}
-use Rattle.open_lines.specs.OpenLines.{Entries}
 use Rattle.slices.specs.Slicing.{HoldsOf}
 use Rattle.slices.specs.declared.knowing.Known.{Known}
 use Rattle.store.specs.Books.{IsSettled}
@@ -11,10 +10,6 @@ use Rattle.store.specs.Books.{IsSettled}
 -- once it has been read, what is known of the tables is so
 abbrev pub HasKnown : Option Known → State → Type 0
 HasKnown known s = IfSome known (λ k. HoldsOf k (tables_in s.now.trees))
-
--- what is known of the open orders
-abbrev pub lines_known : Option Known → Option Entries
-lines_known known = option_map (λ k. k.lines) known
 
 -- the connection is settled, and as long as no fault of the disk has shut it, what is known of the tables that it shows is so
 abbrev pub IsKnown : Option Known → State → Type 0

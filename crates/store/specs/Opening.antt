@@ -1,19 +1,20 @@
 -- What making books and opening them leave.
 use Rattle.std.specs.Prelude.{◌≡◌, ◌⊎◌, ◌≤◌, List, ℤ, true, false, None, [], IsTrue}
-use Rattle.commands.specs.Schemas.{without_least}
 use Rattle.sqlite_trees.specs.declared.store.Store.{Ghosts}
 use Rattle.sqlite_trees.specs.View.{IsClean, doubt}
 use Rattle.sqlite.specs.Held.{Held, state}
 use Rattle.sqlite.specs.State.{State, HasCleanDisk, Survives}
 use Rattle.sqlite.specs.Tree.{Trees}
 use Rattle.table_words.specs.Steps.{IsReady}
-use Rattle.tables.specs.Bringing.{first_tables_in, AreFirstTyped}
+use Rattle.tables.specs.Bringing.{as_older, older_tables_in, AreOlderTyped}
 use Rattle.tables.specs.Indexing.{KeepsRows}
+use Rattle.tables.specs.Older.{number}
 pub use Rattle.tables.specs.Opening.{HasSchema, IsOfNone}
 use Rattle.tables.specs.Opening.{number_of, IsReadyAs, AreReadTyped, KeepsRowsAs, ComesTo, IsClosed, TellTables}
 use Rattle.tables.specs.Settling.{HasDayAt}
 pub use Rattle.tables.specs.declared.opening.Found.{Found}
-use Rattle.tables.specs.declared.opening.Found.TheVariants.{Newest, First}
+use Rattle.tables.specs.declared.opening.Found.TheVariants.{Newest, Older}
+use Rattle.tables.specs.declared.older.OlderBooks.{OlderBooks}
 use Rattle.tables.specs.declared.opening.Leftover.{Leftover}
 use Rattle.tables.specs.declared.opening.Leftover.TheVariants as left
 use Rattle.machine.specs.Acts.{Act}
@@ -23,18 +24,18 @@ use Rattle.store.specs.Books.{AreRowsOf, AreBooks}
 
 -- Books that are found
 
--- the rows of books of schema 1 are those of the acts, none of which asks for days
-pub record AreFirstRowsOf (first : ℤ) (acts : List Act) (trees : Trees) : Type 0 where
-  pub tables : first_tables_in trees ≡ without_least (tables_of first acts)
-  pub typed : AreFirstTyped trees
-  pub older : are_of_schema 1 acts ≡ true
+-- the rows of older books are those of the acts, none of which has a command of a newer schema
+pub record AreOlderRowsOf (older : OlderBooks) (first : ℤ) (acts : List Act) (trees : Trees) : Type 0 where
+  pub tables : older_tables_in older trees ≡ as_older older (tables_of first acts)
+  pub typed : AreOlderTyped older trees
+  pub older_acts : are_of_schema (number older) acts ≡ true
 
 -- the rows are those of the acts, as these books have them
 abbrev pub AreRowsAt : Found → ℤ → List Act → Trees → Type 0
 AreRowsAt Newest first acts trees = AreRowsOf first acts trees
-AreRowsAt First first acts trees = AreFirstRowsOf first acts trees
+AreRowsAt (Older older) first acts trees = AreOlderRowsOf older first acts trees
 
--- as books of the newest schema or of schema 1 have them
+-- as books of the newest schema or of an older one have them
 abbrev pub AreFoundRows : ℤ → List Act → Trees → Type 0
 AreFoundRows first acts trees = (found : Found) × AreRowsAt found first acts trees
 
@@ -53,7 +54,7 @@ pub record IsForeignWithin (old : State) : Type 0 where
 -- what a stop leaves of books that were found: their rows, or the newest tables, which come of them
 abbrev pub MayCome : Found → Trees → Trees → Type 0
 MayCome Newest old db = KeepsRows old db × TellTables db
-MayCome First old db = (db ≡ old) ⊎ (ComesTo First old db × TellTables db)
+MayCome (Older older) old db = (db ≡ old) ⊎ (ComesTo (Older older) old db × TellTables db)
 
 -- the state with no limit on steps
 abbrev pub unlimited : State → State

@@ -26,7 +26,6 @@ use crate::cards::hand_cards;
 use crate::day::day_left;
 use crate::filing::{every_row_is_sound, file_once};
 use crate::heads::{show_card_head, show_notice_head};
-use crate::knowing::lines_known;
 use crate::shipments::hand_shipments;
 use crate::showing::show;
 use crate::{EachFault, Fault, Reply, RowFault, Tally};
@@ -149,11 +148,11 @@ impl<S: Alter + Drop> Books<S> {
 
     /// Opens the books that are in the tables. Further tables that refer to none, views and indexes that refuse no row
     /// of the books are passed over, and those of the indexes of the books that are missing are made, in one transaction.
-    /// Books of schema 1, with nothing of another's making beside them, are brought up to the newest schema, in one
-    /// transaction too: each item asks for 0 days. `Foreign` where a table or a column is missing or differs, or where the
-    /// row of `meta`, or in books of schema 1 an item, is missing or has a value that no row has; `Store` where memory or
-    /// the disk fails, and where something else has the name of an index that is missing. The tables then have the rows
-    /// that they had.
+    /// Books of an older schema, with nothing of another's making beside them, are brought up to the newest, in one
+    /// transaction too: from schema 1 each item asks for 0 days, and no order is urgent. `Foreign` where a table or a
+    /// column is missing or differs, or where the row of `meta`, or in books of schema 1 an item, is missing or has a value
+    /// that no row has; `Store` where memory or the disk fails, and where something else has the name of an index that is
+    /// missing. The tables then have the rows that they had.
     pub fn open(alloc: Global, conn: Connection<S>) -> Result<Books<S>, OpenFault<S>>
         requires outside { conn.in_transaction ≡ false }
         ensures books { IfOk result (λ b. HasCleanDisk (state S.Store b.conn) → (first : ℤ) (acts : List Act) → IsHistory first acts → AreFoundRows first acts (state S.Store conn).committed.trees
@@ -329,7 +328,7 @@ impl<S: Alter> Books<S> {
         show(self.alloc, &mut self.conn, self.day, &query)
     }
 
-    /// Shows the bookings of an item that are short, in the order of booking. An item that is not known is refused (U01).
+    /// Shows the bookings of an item that are short, in the order of service. An item that is not known is refused (U01).
     /// Nothing is changed; `Store` where memory or the disk did not suffice, and `Foreign` never on books of a history.
     pub fn short_rows(&mut self, gtin: &Gtin) -> Result<ShortView, Fault>
         ensures clean { IsClean S.Store self.new → IsClean S.Store self.old }
@@ -341,7 +340,7 @@ impl<S: Alter> Books<S> {
     {
         let query = ShortQuery {
             gtin: *gtin,
-            known: lines_known(self.known.as_ref()),
+            known: self.known.as_ref(),
         };
         show(self.alloc, &mut self.conn, self.day, &query)
     }

@@ -8,11 +8,9 @@ ghost use Rattle.table_words.specs.Typed.{tables_in};
 ghost use Rattle.machine.specs.Acts.{Act};
 ghost use Rattle.slices.specs.Books.{IsBooksOf};
 ghost use Rattle.slices.specs.Slicing.{HoldsOf};
-ghost use Rattle.std.specs.Option.{option_copied};
-ghost use Rattle.store.specs.Knowing.{HasKnown, lines_known as lines_known_lem};
+ghost use Rattle.store.specs.Knowing.{HasKnown};
 
 use crate::Fault;
-use open_lines::OpenLines;
 use slices::{Known, first_known};
 use sqlite::{Alter, Transaction};
 use std::alloc::Global;
@@ -41,15 +39,5 @@ pub fn known_in<S: Alter>(
             Ok(found) => Ok(found),
             Err(fault) => Err(Fault::from(fault)),
         },
-    }
-}
-
-/// What is known of the open orders.
-pub fn lines_known(known: Option<&Known>) -> Option<&OpenLines>
-    ensures { option_copied result ≡ lines_known_lem (option_copied known.entry) }
-{
-    match known {
-        Some(found) => Some(&found.lines),
-        None => None,
     }
 }

@@ -1,13 +1,12 @@
-use Rattle.std.proofs.Common.{ap, sym, subst, arith, ◌∙◌}
+use Rattle.std.proofs.Common.{sym, subst, arith}
 use Rattle.std.specs.Prelude.{Option}
 use Rattle.sqlite.specs.State.{HasCleanDisk}
 use Rattle.sqlite.specs.Held.{state}
 use Rattle.machine.specs.Queries.{short_shown}
 use Rattle.machine.specs.Tables.{tables_of}
-use Rattle.open_lines.specs.OpenLines.{Entries}
+use Rattle.slices.specs.declared.knowing.Known.{Known}
 use Rattle.slices.specs.ShownShort.{IsKnownOf}
 use Rattle.store.specs.Books.{HoldsBooks, IsAsBefore}
-use Rattle.store.specs.Knowing.{lines_known}
 use Rattle.store.proofs.BooksWhole.{whole_then, look_kept, shown_by_books, known_of_acts}
 use Rattle.store.proofs.books.Books.short_rows.Goals as goal
 
@@ -17,7 +16,7 @@ returns-clause-shown g c clean first acts history holds =
     let before : HasCleanDisk (state g.S.Store c.self.inside.conn) = omega (arith, clean, c.show.ensures.survives.clean) in
     let known = known_of_acts c.self.inside.known first acts (state g.S.Store c.self.inside.conn) was.keeps (c.self.invariant.1 before).1 in
     shown_by_books g.S.Store first acts (short_shown first acts c.args.gtin.now) c.show.result (record { conn = c.show.new.conn; day = c.self.inside.day })
-    (c.show.ensures.shown clean first acts history was.keeps (sym was.day) (λ up. subst (λ (x : Option Entries). IsKnownOf x (tables_of first acts)) (sym (c.lines_known.ensures ∙ ap lines_known c.as_ref.ensures.value)) (known up))) was.day
+    (c.show.ensures.shown clean first acts history was.keeps (sym was.day) (λ up. subst (λ (x : Option Known). IsKnownOf x (tables_of first acts)) (sym c.as_ref.ensures.value) (known up))) was.day
 
 pub invariant_of-self : goal.invariant_of-self
 invariant_of-self g c = whole_then g.S.Store c.self.inside.known c.self.inside.conn c.show.new.conn c.show.ensures.survives c.show.ensures.outside c.show.ensures.stays c.self.invariant
