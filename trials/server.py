@@ -35,11 +35,13 @@ def number(name, otherwise):
 
 
 class Server:
-    """`lotd serve` on a file, for so many connections. It listens, and is gone at the end of the `with`."""
+    """`lotd serve` on a file, for so many connections. It listens, and is gone at the end of the `with`. `words` go behind
+    its own, and its standard error to `errors`."""
 
-    def __init__(self, lotd, db, port, connections):
-        words = [lotd, "serve", "--db", db, "--port", str(port), "--max", str(connections)]
-        self.process = subprocess.Popen(words, stdout=subprocess.PIPE, stderr=subprocess.PIPE)
+    def __init__(self, lotd, db, port, connections, words=(), errors=subprocess.PIPE):
+        line = [lotd, "serve", "--db", db, "--port", str(port), "--max", str(connections), *words]
+        self.fault = b""
+        self.process = subprocess.Popen(line, stdout=subprocess.PIPE, stderr=errors)
         ready, _, _ = select.select([self.process.stdout], [], [], 60)
         told = self.process.stdout.readline() if ready else b"nothing"
         if told != b"listening on 127.0.0.1:%d\n" % port:
@@ -57,8 +59,9 @@ class Server:
         self.process.kill()
         self.process.wait()
         self.process.stdout.close()
-        self.fault = self.process.stderr.read()
-        self.process.stderr.close()
+        if self.process.stderr:
+            self.fault = self.process.stderr.read()
+            self.process.stderr.close()
 
     def ends(self):
         """Waits until it has ended by itself."""
@@ -80,11 +83,17 @@ def asked(port, text):
     return peer
 
 
-def answer_of(peer):
-    """The status and the body of the answer, or None where the connection was closed without one."""
+def bytes_of(peer):
+    """What comes until the connection is closed."""
     text = b""
     while more := peer.recv(65536):
         text += more
+    return text
+
+
+def answer_of(peer):
+    """The status and the body of the answer, or None where the connection was closed without one."""
+    text = bytes_of(peer)
     if not text:
         return None
     head, _, body = text.partition(b"\r\n\r\n")

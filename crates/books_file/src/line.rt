@@ -1,6 +1,7 @@
-ghost use Rattle.std.specs.Prelude.{◌≡◌, None, Ok, IfOk, IfErr, OnOk};
+ghost use Rattle.std.specs.Prelude.{◌≡◌, false, None, Ok, IfOk, IfErr, OnOk};
 ghost use Rattle.sqlite.specs.WalFiles.{image_at};
 ghost use Rattle.command_line.specs.declared.fault.Fault.TheVariants as fault;
+ghost use Rattle.service.specs.Serving.{is_logged};
 ghost use Rattle.books_file.specs.Lines.{IsLineDone, HasLineDone};
 
 use crate::first_page::lay_first_page;
@@ -25,23 +26,26 @@ impl FilesAt for HostFiles<'_> {
     }
 }
 
-/// Does the work of a line with the books in the file at the path, and closes it. Only the making of books makes a file:
+/// Does the work of a line with the books in the file at the path, and closes it. What it prints goes to `out`, and the log
+/// of a server to `log`, where it keeps one. Only the making of books makes a file:
 /// where there is none, any other work is `Store` and leaves nothing behind. What the log still holds is copied into the
 /// file at the end, also where the port cannot be had. `start` says what is supposed of the file. Where it answers `Ok`,
 /// the line was done, as `line_worked` says; what a goods-in file of the host holds nothing says.
-pub fn work_in_file<S: Start, W: Write>(
+pub fn work_in_file<S: Start, W: Write, L: Write>(
     rt: &HostRuntime,
     db: &str,
     start: S,
     work: &Work<'_>,
     out: &mut W,
+    log: &mut L,
 ) -> Result<(), Fault>
-    ensures done { OnOk result (HasLineDone ⟦<FileFrom<S> as Disk>⟧ (image_at S.Start) (λ _. None) work.now (W.contents out.old) (W.contents out.new) (Ok tt)) }
+    ensures done { OnOk result (HasLineDone ⟦<FileFrom<S> as Disk>⟧ (image_at S.Start) (λ _. None) work.now (W.contents out.old) (W.contents out.new) (L.contents log.old) (L.contents log.new) (Ok tt)) }
+    ensures quiet { is_logged work.now ≡ false → log.new ≡ log.old }
 {
     if !is_ready(rt, db, work) {
         return Err(Fault::Store);
     }
-    let done = line_worked(rt, &HostFiles { rt }, db, start, work, out)?;
+    let done = line_worked(rt, &HostFiles { rt }, db, start, work, out, log)?;
     done.1
 }
 
@@ -50,18 +54,20 @@ pub fn work_in_file<S: Start, W: Write>(
 /// those of the work over the database that was in it. The error is `Store` where the file cannot be opened or closed,
 /// and else that of the work.
 // The one function over the connection's own type: each costs the proof as much as all else here.
-pub fn line_worked<S: Start, F: FilesAt, W: Write>(
+pub fn line_worked<S: Start, F: FilesAt, W: Write, L: Write>(
     rt: &HostRuntime,
     files: &F,
     db: &str,
     start: S,
     work: &Work<'_>,
     out: &mut W,
+    log: &mut L,
 ) -> Result<(Files<FileFrom<S>>, Result<(), Fault>), Fault>
-    ensures done { IfOk result (λ w. IsLineDone ⟦<FileFrom<S> as Disk>⟧ (image_at S.Start) (F.bytes files.now) work.now (W.contents out.old) (W.contents out.new) w.1 w.0) }
+    ensures done { IfOk result (λ w. IsLineDone ⟦<FileFrom<S> as Disk>⟧ (image_at S.Start) (F.bytes files.now) work.now (W.contents out.old) (W.contents out.new) (L.contents log.old) (L.contents log.new) w.1 w.0) }
+    ensures quiet { is_logged work.now ≡ false → log.new ≡ log.old }
 {
     match Connection::open_from(rt, db, false, start) {
-        Ok(conn) => match worked(rt, files, conn, work, out) {
+        Ok(conn) => match worked(rt, files, conn, work, out, log) {
             Ok((conn, end)) => match conn.close_files() {
                 Ok(left) => Ok((left, end)),
                 Err((_, store)) => {

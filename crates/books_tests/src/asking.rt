@@ -1,7 +1,7 @@
 //! A house over a connection is asked, and its answers are compared.
 
 use crate::answers::NO_REQUESTS;
-use crate::exchange::{answer, request};
+use crate::exchange::{answer, logged, request};
 use crate::filing::takes_times;
 use crate::hostile::{refuses_hostile, takes_changed};
 use crate::opening::{books_of, new_books};
@@ -10,6 +10,7 @@ use crate::wide::{Long, exchanges_long};
 use house::{Answered, House, ServeFault};
 use sqlite::{Alter, Connection};
 use std::alloc::Global;
+use std::io::Write;
 use std::process::Abort;
 
 #[derive(Clone, Copy)]
@@ -26,9 +27,9 @@ pub(crate) enum Asked {
     All(Table),
     /// Each text that is no request.
     NoRequests,
-    /// Each of them read from a reader, and its answer written to a writer.
+    /// Each of them read from a reader, and its answer written to a writer; the log takes less than its line.
     NoRequestsServed,
-    /// The writer takes less than the answer.
+    /// The writer takes less than the answer, which is logged all the same.
     FullWriter,
     /// Each hostile text.
     Hostile,
@@ -111,21 +112,22 @@ fn answers_no_requests<S: Alter>(rt: &impl Abort, house: &mut House<S>) {
     }
 }
 
-fn is_served<S: Alter>(
+fn is_served<S: Alter, L: Write>(
     rt: &impl Abort,
     alloc: Global,
     house: &mut House<S>,
     asked: &str,
     expected: &str,
+    log: &mut L,
 ) {
     let mut reader = asked.as_bytes();
     let mut writer: Vec<u8> = Vec::new(alloc);
-    let served = house.serve_one(&mut reader, &mut writer);
+    let served = house.serve_logged(&mut reader, &mut writer, log);
     assert!(rt; served == Ok(()));
     is_answer(rt, writer.as_slice(), asked, expected);
 }
 
-/// The house serves what the exchange says.
+/// The house serves what the exchange says, and logs it.
 pub(crate) fn served_exchange<S: Alter>(
     rt: &impl Abort,
     alloc: Global,
@@ -134,21 +136,36 @@ pub(crate) fn served_exchange<S: Alter>(
 ) {
     let asked = request(rt, alloc, line);
     let expected = answer(rt, alloc, line);
-    is_served(rt, alloc, house, asked.as_str(), expected.as_str());
+    let mut log: Vec<u8> = Vec::new(alloc);
+    is_served(
+        rt,
+        alloc,
+        house,
+        asked.as_str(),
+        expected.as_str(),
+        &mut log,
+    );
+    let logged = logged(rt, alloc, line, expected.len());
+    assert!(rt; log.as_slice() == logged.as_str().as_bytes(), "{line:?}");
 }
 
+// A log that takes less than a line changes no answer.
 fn serves_no_requests<S: Alter>(rt: &impl Abort, alloc: Global, house: &mut House<S>) {
     for row in NO_REQUESTS.as_slice() {
-        is_served(rt, alloc, house, row.0, row.1);
+        let mut room = [0; 8];
+        let mut log = room.as_mut_slice();
+        is_served(rt, alloc, house, row.0, row.1, &mut log);
     }
 }
 
-fn is_full<S: Alter>(rt: &impl Abort, house: &mut House<S>) {
+fn is_full<S: Alter>(rt: &impl Abort, alloc: Global, house: &mut House<S>) {
     let mut reader = b"GET /items HTTP/1.1\r\n\r\n".as_slice();
     let mut room = [0; 8];
     let mut writer = room.as_mut_slice();
-    let served = house.serve_one(&mut reader, &mut writer);
+    let mut log: Vec<u8> = Vec::new(alloc);
+    let served = house.serve_logged(&mut reader, &mut writer, &mut log);
     assert!(rt; served == Err(ServeFault::Write));
+    assert!(rt; log.as_slice() == b"GET /items 405 133\n".as_slice());
 }
 
 fn ask<S: Alter>(rt: &impl Abort, alloc: Global, house: &mut House<S>, asked: Asked) {
@@ -160,7 +177,7 @@ fn ask<S: Alter>(rt: &impl Abort, alloc: Global, house: &mut House<S>, asked: As
         Asked::All(table) => all(rt, alloc, house, table),
         Asked::NoRequests => answers_no_requests(rt, house),
         Asked::NoRequestsServed => serves_no_requests(rt, alloc, house),
-        Asked::FullWriter => is_full(rt, house),
+        Asked::FullWriter => is_full(rt, alloc, house),
         Asked::Hostile => refuses_hostile(rt, house),
         Asked::Changed => takes_changed(rt, house),
     }

@@ -15,7 +15,8 @@ use tables::opening::Leftover;
 #[derive(Clone, Copy)]
 pub(crate) enum Work<'a> {
     Steps(&'a [Step]),
-    Clients(&'a TcpListener, u32),
+    /// So many clients, and what is logged of them, where there is a log.
+    Clients(&'a TcpListener, u32, Option<&'static str>),
     Lines(&'a HostRuntime, u16),
     LinesRun(&'a HostRuntime),
     /// What a disk may stop.
@@ -31,8 +32,8 @@ fn worked<S: Alter + Drop>(
 ) -> Leftover<S> {
     match work {
         Work::Steps(steps) => Leftover::Connection(take_all(rt, alloc, conn, steps)),
-        Work::Clients(listener, count) => {
-            Leftover::Connection(clients_served(rt, alloc, conn, listener, count))
+        Work::Clients(listener, count, logged) => {
+            Leftover::Connection(clients_served(rt, alloc, conn, listener, count, logged))
         }
         Work::Lines(host, port) => Leftover::Connection(lines_worked(host, rt, conn, port)),
         Work::LinesRun(host) => Leftover::Connection(lines_run(host, rt, conn)),
@@ -123,9 +124,15 @@ pub(crate) fn run_after(rt: &impl Abort, alloc: Global, first: &[Step], then: &[
     run(rt, alloc, [first, then].as_slice());
 }
 
-/// Serves so many clients that wait at the listener, over books in new files.
-pub(crate) fn run_clients(rt: &impl Abort, alloc: Global, listener: &TcpListener, count: u32) {
-    let work = Work::Clients(listener, count);
+/// Serves so many clients that wait at the listener, over books in new files, and logs this, or has no log.
+pub(crate) fn run_clients(
+    rt: &impl Abort,
+    alloc: Global,
+    listener: &TcpListener,
+    count: u32,
+    logged: Option<&'static str>,
+) {
+    let work = Work::Clients(listener, count, logged);
     done(rt, alloc, &Pair::empty(alloc), work);
 }
 

@@ -86,6 +86,19 @@ pub(crate) fn answer(rt: &impl Abort, alloc: Global, line: &str) -> String {
     text_told(rt, alloc, told)
 }
 
+/// The line that a log gets of an exchange whose answer has so many bytes.
+pub(crate) fn logged(rt: &impl Abort, alloc: Global, line: &str, bytes: usize) -> String {
+    let (asked, told) = parted(rt, line, " => ");
+    let (method, rest) = parted(rt, asked, " ");
+    let target = match rest.split_once(" ") {
+        Some((path, _)) => path,
+        None => rest,
+    };
+    let (status, _) = parted(rt, told, " ");
+    let text = format!(in alloc; "{method} {target} {status} {bytes}\n");
+    text.ok().expect(rt, "memory")
+}
+
 /// The text of `STATUS BODY`. A text stands there with `|` before each of its lines.
 pub(crate) fn text_told(rt: &impl Abort, alloc: Global, told: &str) -> String {
     let (status, body) = parted(rt, told, " ");

@@ -66,10 +66,12 @@ const NEW_ITEM: &[u8] =
 const ITEM_MADE: &[u8] =
     b"HTTP/1.1 200 OK\r\ncontent-type: application/json\r\ncontent-length: 9\r\nconnection: close\r\n\r\n{\"act\":1}";
 
-// Does the work of a line over the file, and compares what is told of its end.
+// Does the work of a line over the file, and compares what is told of its end. It logs nothing.
 fn works(rt: &impl Abort, db: &str, work: &Work<'_>, told: &str, out: &mut Out<'_>) {
     let host = out.host;
-    let end = work_in_file(host, db, Unknown, work, out);
+    let mut log: Vec<u8> = Vec::new(host.alloc());
+    let end = work_in_file(host, db, Unknown, work, out, &mut log);
+    assert!(rt; log.is_empty());
     let mut line = Vec::new(host.alloc());
     if let Err(fault) = end {
         let _ = tell(&fault, &mut line);
@@ -113,7 +115,12 @@ fn serves(host: &HostRuntime, rt: &impl Abort, db: &str) {
         printed: Vec::new(host.alloc()),
         client: None,
     };
-    works(rt, db, &Work::Serve { port, max: 1 }, "", &mut out);
+    let work = Work::Serve {
+        port,
+        max: 1,
+        log: false,
+    };
+    works(rt, db, &work, "", &mut out);
     assert!(rt; answer(rt, out).as_slice() == ITEM_MADE);
 }
 

@@ -21,10 +21,16 @@ struct OverOne<'a, S: Alter> {
 impl<S: Alter + Drop> BooksAt for OverOne<'_, S> {
     ghost ends = { λ _ _ _ _. Unit {0} };
 
-    fn work<W: Write>(&self, _db: &str, work: &Work<'_>, out: &mut W) -> Result<(), Fault> {
+    fn work<W: Write, L: Write>(
+        &self,
+        _db: &str,
+        work: &Work<'_>,
+        out: &mut W,
+        log: &mut L,
+    ) -> Result<(), Fault> {
         match self.conn.replace(None) {
             Some(conn) => {
-                let (conn, end) = worked(self.host, &GoodsFiles, conn, work, out)?;
+                let (conn, end) = worked(self.host, &GoodsFiles, conn, work, out, log)?;
                 drop(self.conn.replace(Some(conn)));
                 end
             }

@@ -4,7 +4,7 @@ use crate::disk::{run_clients, run_lines};
 use crate::opening::{business_day, new_books};
 use command_line::{Fault, Work, tell};
 use house::House;
-use service::{FilesAt, Worked, serve_on, worked};
+use service::{FilesAt, Worked, serve_logged, serve_on, worked};
 use sqlite::{Alter, Connection};
 use std::alloc::Global;
 use std::io::{self, Read, Write};
@@ -12,16 +12,24 @@ use std::net::{Shutdown, TcpListener, TcpStream};
 use std::process::Abort;
 use std::time::Instant;
 
-// A house with new books serves so many clients that wait at the listener.
+// A house with new books serves so many clients that wait at the listener, and logs this, or has no log.
 pub(crate) fn clients_served<S: Alter + Drop>(
     rt: &impl Abort,
     alloc: Global,
     conn: Connection<S>,
     listener: &TcpListener,
     count: u32,
+    logged: Option<&str>,
 ) -> Connection<S> {
     let mut house = House::new(alloc, new_books(rt, alloc, conn));
-    serve_on(listener, &mut house, count);
+    match logged {
+        Some(lines) => {
+            let mut log: Vec<u8> = Vec::new(alloc);
+            serve_logged(listener, &mut house, count, &mut log);
+            assert!(rt; log.as_slice() == lines.as_bytes(), "{lines:?}");
+        }
+        None => serve_on(listener, &mut house, count),
+    }
     house.close().close()
 }
 
@@ -48,7 +56,7 @@ fn is_answered(rt: &impl Abort, alloc: Global, client: TcpStream, expected: &[u8
 }
 
 // Clients send, their connections are served in the same thread, and they read to the end. Of two that are gone by then,
-// one broke off within its text and one did not wait for its answer; its bin is made.
+// one broke off within its text and one did not wait for its answer; its bin is made. Each is logged.
 #[test]
 fn serves_connections_one_after_another(rt: HostRuntime) {
     let listener = TcpListener::bind(&rt, "127.0.0.1:0").expect(&rt, "a listener");
@@ -57,7 +65,7 @@ fn serves_connections_one_after_another(rt: HostRuntime) {
     let third = sent(&rt, &rt, &listener, SECOND_BIN);
     drop(sent(&rt, &rt, &listener, THIRD_BIN));
     let last = sent(&rt, &rt, &listener, THIRD_BIN);
-    run_clients(&rt, rt.alloc(), &listener, 5);
+    run_clients(&rt, rt.alloc(), &listener, 5, Some(FIVE_LOGGED));
     is_answered(&rt, rt.alloc(), first, BIN_MADE);
     is_answered(&rt, rt.alloc(), third, SECOND_MADE);
     is_answered(&rt, rt.alloc(), last, THIRD_MADE);
@@ -74,12 +82,17 @@ fn waits_ten_seconds_for_a_client(rt: HostRuntime) {
         .write_all([b'x'; 40_000].as_slice())
         .expect(&rt, "sent");
     let start = Instant::now(&rt).expect(&rt, "a time");
-    run_clients(&rt, rt.alloc(), &listener, 2);
+    run_clients(&rt, rt.alloc(), &listener, 2, None);
     let waited = start.elapsed(&rt).expect(&rt, "a time");
     assert!(rt; waited.as_secs() >= 19, "{} s", waited.as_secs());
     is_answered(&rt, rt.alloc(), silent, b"");
     is_answered(&rt, rt.alloc(), going_on, BIN_MADE);
 }
+
+const FIVE_LOGGED: &str =
+    "POST /bins 200 98\nPOST /bins 400 113\nPOST /bins 200 98\nPOST /bins 200 98\nPOST /bins 200 98\n";
+
+const ONE_LOGGED: &str = "POST /bins 200 98\n";
 
 const NEW_BIN: &[u8] =
     b"POST /bins HTTP/1.1\r\nContent-Length: 41\r\n\r\n{\"key\":\"K-1\",\"bin\":\"A-01\",\"kind\":\"STORE\"}";
@@ -177,7 +190,7 @@ fn ended<S: Alter + Drop>(
     }
 }
 
-// A line that prints nothing.
+// A line that prints nothing and logs nothing.
 fn silent<S: Alter + Drop>(
     host: &HostRuntime,
     rt: &impl Abort,
@@ -186,8 +199,9 @@ fn silent<S: Alter + Drop>(
     expected: &str,
 ) -> Connection<S> {
     let mut printed: Vec<u8> = Vec::new(host.alloc());
-    let found = worked(host, &GoodsFiles, conn, work, &mut printed);
-    assert!(rt; printed.is_empty());
+    let mut log: Vec<u8> = Vec::new(host.alloc());
+    let found = worked(host, &GoodsFiles, conn, work, &mut printed, &mut log);
+    assert!(rt; printed.is_empty() && log.is_empty());
     ended(rt, host.alloc(), found, expected)
 }
 
@@ -198,7 +212,12 @@ fn taken<S: Alter + Drop>(
     port: u16,
 ) -> Connection<S> {
     let listener = TcpListener::bind(host, ("127.0.0.1", port)).expect(rt, "a listener");
-    let conn = silent(host, rt, conn, &Work::Serve { port, max: 1 }, "lotd: io\n");
+    let work = Work::Serve {
+        port,
+        max: 1,
+        log: true,
+    };
+    let conn = silent(host, rt, conn, &work, "lotd: io\n");
     drop(listener);
     conn
 }
@@ -216,13 +235,14 @@ fn served<S: Alter + Drop>(
         listens_elsewhere: false,
         client: None,
     };
-    let found = worked(
-        host,
-        &GoodsFiles,
-        conn,
-        &Work::Serve { port, max: 1 },
-        &mut out,
-    );
+    let work = Work::Serve {
+        port,
+        max: 1,
+        log: true,
+    };
+    let mut log: Vec<u8> = Vec::new(host.alloc());
+    let found = worked(host, &GoodsFiles, conn, &work, &mut out, &mut log);
+    assert!(rt; log.as_slice() == ONE_LOGGED.as_bytes());
     assert!(rt; !out.listens_elsewhere);
     let told = format!(in host.alloc(); "listening on 127.0.0.1:{port}\n").ok();
     assert!(rt; out.told.as_slice() == told.expect(rt, "memory").as_str().as_bytes());

@@ -42,7 +42,7 @@ IsLabelTold date text old new (Err fault) = IsRefused date text fault
 -- what a line comes to, with what the output had and has
 abbrev pub IsEndOf : Works → Line → Option (List ℕ) → Option (List ℕ) → Result Unit Fault → Type 0
 IsEndOf works (Init db day) old new end = IsMade works db.now day.now end
-IsEndOf works (Serve db port max) old new end = works db.now (ServeBooks port max) end
+IsEndOf works (Serve db port max log) old new end = works db.now (ServeBooks port max log) end
 IsEndOf works (Import db file) old new end = works db.now (ImportFile file) end
 IsEndOf works (Card db gtin lot) old new end = IsWithLot works db.now CardOf gtin.now lot.now end
 IsEndOf works (Notice db gtin lot) old new end = IsWithLot works db.now NoticeOf gtin.now lot.now end

@@ -11,31 +11,33 @@ use std::io::Write;
 use values::{Gtin, Lot, LotId};
 
 /// Has the stock card of a lot printed. The GTIN and the lot are judged before the file is touched.
-pub(crate) fn print_card<B: BooksAt, W: Write>(
+pub(crate) fn print_card<B: BooksAt, W: Write, L: Write>(
     books: &B,
     db: &str,
     gtin: &str,
     lot: &str,
     out: &mut W,
+    log: &mut L,
 ) -> Result<(), Fault>
     ensures { IsWithLot (B.ends books.now) db.now Card gtin.now lot.now result }
 {
     let lot = lot_named(gtin, lot)?;
-    books.work(db, &Work::Card(lot), out)
+    books.work(db, &Work::Card(lot), out, log)
 }
 
 /// Has the recall notice of a lot printed. The GTIN and the lot are judged before the file is touched.
-pub(crate) fn print_notice<B: BooksAt, W: Write>(
+pub(crate) fn print_notice<B: BooksAt, W: Write, L: Write>(
     books: &B,
     db: &str,
     gtin: &str,
     lot: &str,
     out: &mut W,
+    log: &mut L,
 ) -> Result<(), Fault>
     ensures { IsWithLot (B.ends books.now) db.now Notice gtin.now lot.now result }
 {
     let lot = lot_named(gtin, lot)?;
-    books.work(db, &Work::Notice(lot), out)
+    books.work(db, &Work::Notice(lot), out, log)
 }
 
 /// The lot that a GTIN and a LOT name.

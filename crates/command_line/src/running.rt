@@ -34,8 +34,8 @@ pub const MISUSED: u8 = 2;
 pub enum Work<'a> {
     /// Makes them; they begin on the business day.
     Make(BusinessDay),
-    /// Opens them, listens on the port and answers so many connections.
-    Serve { port: u16, max: u32 },
+    /// Opens them, listens on the port and answers so many connections, and keeps a log or none.
+    Serve { port: u16, max: u32, log: bool },
     /// Opens them, and then the goods-in file: takes its rows in, all or none, and prints how many were accepted and
     /// how many repeated.
     Import { file: &'a str },
@@ -54,14 +54,20 @@ pub trait BooksAt {
     // How the work with the books in this file may end.
     ghost ends: { Self → List ℕ → Work → Result Unit Fault → Type 0 };
 
-    /// Does the work with the books in the file. What it prints goes to `out`.
-    fn work<W: Write>(&self, db: &str, work: &Work<'_>, out: &mut W) -> Result<(), Fault>
+    /// Does the work with the books in the file. What it prints goes to `out`, and the log of a server to `log`.
+    fn work<W: Write, L: Write>(
+        &self,
+        db: &str,
+        work: &Work<'_>,
+        out: &mut W,
+        log: &mut L,
+    ) -> Result<(), Fault>
         ensures { ends self.now db.now work.now result };
 }
 
-/// Runs the line that the words are, the program's name first: what it prints goes to `out`, and a
-/// fault to `err` as one line, `lotd: `, its code and, where a row of a file is named, ` row ` and its number. The result
-/// is the exit status, by how the line ended.
+/// Runs the line that the words are, the program's name first: what it prints goes to `out`, and to `err` the log of a
+/// server and a fault as one line, `lotd: `, its code and, where a row of a file is named, ` row ` and its number. The
+/// result is the exit status, by how the line ended.
 pub fn run<'a, B: BooksAt, S: AsStr, W: Write, E: Write>(
     alloc: Global,
     books: &B,
@@ -72,50 +78,69 @@ pub fn run<'a, B: BooksAt, S: AsStr, W: Write, E: Write>(
     ensures status { IsRun (B.ends books.now) (W.contents out.old) (W.contents out.new) result }
     ensures range { result ≤ MISUSED }
 {
-    let end = do_line(alloc, books, words, out);
+    let end = do_line(alloc, books, words, out, err);
     tell_end(end, out, err)
 }
 
-fn do_line<'a, B: BooksAt, S: AsStr, W: Write>(
+fn do_line<'a, B: BooksAt, S: AsStr, W: Write, L: Write>(
     alloc: Global,
     books: &B,
     words: &'a [S],
     out: &mut W,
+    log: &mut L,
 ) -> Result<(), Fault>
     ensures { IsEnded (B.ends books.now) (W.contents out.old) (W.contents out.new) result }
 {
     let line = read_line(alloc, words)?;
-    end_line(books, line, out)?;
+    end_line(books, line, out, log)?;
     out.flush()?;
     Ok(())
 }
 
 /// Does what a line asks for.
-fn end_line<'a, B: BooksAt, W: Write>(books: &B, line: Line<'a>, out: &mut W) -> Result<(), Fault>
+fn end_line<'a, B: BooksAt, W: Write, L: Write>(
+    books: &B,
+    line: Line<'a>,
+    out: &mut W,
+    log: &mut L,
+) -> Result<(), Fault>
     ensures { IsEndOf (B.ends books.now) line.entry (W.contents out.old) (W.contents out.new) result }
 {
     match line {
-        Line::Init { db, day } => make_books(books, db, day, out),
-        Line::Serve { db, port, max } => books.work(db, &Work::Serve { port, max }, out),
-        Line::Import { db, file } => books.work(db, &Work::Import { file }, out),
-        Line::Card { db, gtin, lot } => print_card(books, db, gtin, lot, out),
-        Line::Notice { db, gtin, lot } => print_notice(books, db, gtin, lot, out),
+        Line::Init { db, day } => make_books(books, db, day, out, log),
+        Line::Serve {
+            db,
+            port,
+            max,
+            log: logged,
+        } => {
+            let work = Work::Serve {
+                port,
+                max,
+                log: logged,
+            };
+            books.work(db, &work, out, log)
+        }
+        Line::Import { db, file } => books.work(db, &Work::Import { file }, out, log),
+        Line::Card { db, gtin, lot } => print_card(books, db, gtin, lot, out, log),
+        Line::Notice { db, gtin, lot } => print_notice(books, db, gtin, lot, out, log),
         Line::Label { day, text } => print_label(day, text, out),
         Line::Unknown => Err(Fault::Value),
     }
 }
 
 /// Has new books made, which begin on the business day that the date is.
-fn make_books<B: BooksAt, W: Write>(
+fn make_books<B: BooksAt, W: Write, L: Write>(
     books: &B,
     db: &str,
     date: &str,
     out: &mut W,
+    log: &mut L,
 ) -> Result<(), Fault>
     ensures { IsMade (B.ends books.now) db.now date.now result }
 {
     let day = first_day(date)?;
-    books.work(db, &Work::Make(day), out)
+    books.work(db, &Work::Make(day), out, log)
 }
 
 /// Tells how a line ended, and gives its exit status.

@@ -16,11 +16,13 @@ pub enum Line<'a> {
         db: &'a str,
         day: &'a str,
     },
-    /// `lotd serve --db PATH --port N --max M`: answers M connections to the port N of 127.0.0.1.
+    /// `lotd serve --db PATH --port N --max M`: answers M connections to the port N of 127.0.0.1; with `--log` it logs the
+    /// requests.
     Serve {
         db: &'a str,
         port: u16,
         max: u32,
+        log: bool,
     },
     /// `lotd import --db PATH FILE`: takes in the goods-in file FILE, all rows or none.
     Import {
@@ -54,6 +56,8 @@ enum Kind {
     Port,
     /// How many connections are answered before the end, after `--` and its name.
     Connections,
+    /// `--` and its name, which may be left out, and no value.
+    Flag,
 }
 
 /// A value on a line.
@@ -138,6 +142,12 @@ static LINES: [Words; 6] = [
                 stands_for: "M",
                 help: "How many connections to serve before the end, 1 to 1000000",
                 kind: Kind::Connections,
+            },
+            Value {
+                id: "log",
+                stands_for: "",
+                help: "Write method, target, status and bytes of each answer to standard error",
+                kind: Kind::Flag,
             },
         ],
     },
@@ -292,7 +302,12 @@ fn init_line<'a>(found: &ArgMatches<'a>) -> Line<'a> {
 fn serve_line<'a>(found: &ArgMatches<'a>) -> Line<'a> {
     let (port, max) = (found.get_one::<u16>("port"), found.get_one::<u32>("max"));
     match (found.get_str("db"), port, max) {
-        (Some(db), Some(port), Some(max)) => Line::Serve { db, port, max },
+        (Some(db), Some(port), Some(max)) => Line::Serve {
+            db,
+            port,
+            max,
+            log: found.get_flag("log"),
+        },
         _ => Line::Unknown,
     }
 }
@@ -361,23 +376,25 @@ fn subcommand<'a>(alloc: Global, line: &'static Words) -> Result<Command<'a>, Al
 }
 
 fn arg<'a>(alloc: Global, value: &'static Value) -> Arg<'a> {
-    let arg = Arg::new(alloc, value.id)
-        .value_name(value.stands_for)
-        .help(value.help)
-        .required(true)
-        .action(ArgAction::Set);
-    of_kind(arg, value)
+    of_kind(Arg::new(alloc, value.id).help(value.help), value)
 }
 
 fn of_kind<'a>(arg: Arg<'a>, value: &'static Value) -> Arg<'a> {
     match value.kind {
-        Kind::Bare => arg,
-        Kind::Named => arg.long(value.id),
-        Kind::Port => arg
+        Kind::Bare => with_value(arg, value),
+        Kind::Named => with_value(arg, value).long(value.id),
+        Kind::Port => with_value(arg, value)
             .long(value.id)
             .value_parser(value_parser!(u16).range(1024..=65535)),
-        Kind::Connections => arg
+        Kind::Connections => with_value(arg, value)
             .long(value.id)
             .value_parser(value_parser!(u32).range(1..=1_000_000)),
+        Kind::Flag => arg.long(value.id).action(ArgAction::SetTrue),
     }
+}
+
+fn with_value<'a>(arg: Arg<'a>, value: &'static Value) -> Arg<'a> {
+    arg.value_name(value.stands_for)
+        .required(true)
+        .action(ArgAction::Set)
 }

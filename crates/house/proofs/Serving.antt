@@ -1,5 +1,5 @@
 -- What is read of a reader and written to a writer.
-use Rattle.std.proofs.Common.{◌≡◌, ◌≢◌, ℕ, false, List, Option, refl, subst, inl, inr, ◌⊎◌}
+use Rattle.std.proofs.Common.{◌≡◌, ◌≢◌, ℕ, false, List, ◌++◌, Option, refl, sym, subst, inl, inr, ◌⊎◌}
 use Rattle.std.specs.Prelude.{Result}
 use Rattle.std.specs.Io.KnownBytes.{IsAtEnd}
 use Rattle.requests.specs.Requests.{IsReading}
@@ -10,6 +10,8 @@ use Rattle.requests.specs.declared.request.Read.TheVariants.{Need, Bad, Request}
 use Rattle.house.specs.Answers.{no_memory}
 use Rattle.texts.specs.Writing.{Writes}
 use Rattle.wire.specs.declared.serving.ServeFault.{ServeFault}
+use Rattle.wire.specs.Logging.{IsLogged}
+use Rattle.wire.proofs.LogLines.{logged_of_beginning}
 use Rattle.house.specs.Serving.{IsWhole}
 
 settled_text : (text bytes : List ℕ) (to : Option (List ℕ)) (r : Read) → IsReading text r → needs_more r ≡ false → IsWhole text to ⊎ (bytes ≡ no_memory)
@@ -32,3 +34,8 @@ whole text bytes to (Bad TooLarge) read (inl n) memory = settled_text text bytes
 
 pub writes : (r : Result (Unit {0}) ServeFault) (old new : Option (List ℕ)) (written bytes : List ℕ) → written ≡ bytes → Writes r old new written → Writes r old new bytes
 writes r old new written bytes e h = subst (Writes r old new) e h
+
+-- the line that is written of what was kept of a text is that of the text
+pub logs : (old new : Option (List ℕ)) (text kept lost seen bytes wanted : List ℕ) → text ≡ kept ++ lost → seen ≡ kept → bytes ≡ wanted → IsLogged old new seen bytes → IsLogged old new text wanted
+logs old new text kept lost seen bytes wanted parts is_kept is_wanted h =
+    subst (λ t. IsLogged old new t wanted) (sym parts) (logged_of_beginning old new kept lost wanted (subst (IsLogged old new kept) is_wanted (subst (λ t. IsLogged old new t bytes) is_kept h)))

@@ -6,6 +6,7 @@ use Rattle.machine.specs.Acts.{Act}
 use Rattle.requests.specs.Requests.{IsReading}
 use Rattle.requests.specs.Laws.{needs_more}
 use Rattle.requests.specs.declared.request.Read.{Read}
+use Rattle.wire.specs.Logging.{IsLogged}
 use Rattle.store.specs.Connected.{Connected}
 use Rattle.house.specs.Answers.{no_memory}
 use Rattle.house.specs.House.{StepsTo}
@@ -22,3 +23,7 @@ pub record IsServed {S : Type 0} (g : Ghosts S) (first : ℤ) (acts : List Act) 
   pub whole : IsWhole text to ⊎ (bytes ≡ no_memory)
   pub steps : StepsTo g first acts text bytes was books
   pub written : IsWritten bytes
+
+-- the same, and the log got the line of the text and its answer
+abbrev pub IsServedAndLogged : {S : Type 0} → Ghosts S → ℤ → List Act → (from to : Option (List ℕ)) → (was books : Connected S) → (List ℕ → Type 0) → (old new : Option (List ℕ)) → Type 0
+IsServedAndLogged g first acts from to was books IsWritten old new = (s : IsServed g first acts from to was books IsWritten) × IsLogged old new s.text s.bytes

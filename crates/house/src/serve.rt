@@ -1,4 +1,4 @@
-//! One request from a reader, and its answer to a writer.
+//! One request from a reader, its answer to a writer, and its line to a log.
 
 ghost use Rattle.std.specs.Prelude.{◌≡◌, ◌≢◌, ℕ, ℤ, List, Result, Err, codes};
 ghost use Rattle.machine.specs.Acts.{Act};
@@ -7,12 +7,13 @@ ghost use Rattle.texts.specs.Writing.{Writes};
 ghost use Rattle.store.specs.Books.{IsClean, HoldsBooks, AreAsBefore};
 ghost use Rattle.house.specs.Answers.{status_of};
 ghost use Rattle.house.specs.House.{books_of};
-ghost use Rattle.house.specs.Serving.{IsServed};
+ghost use Rattle.house.specs.Serving.{IsServed, IsServedAndLogged};
 
 use crate::House;
 use sqlite::Alter;
-use std::io::{Read, Write};
+use std::io::{self, Read, Write};
 use wire::ServeFault;
+use wire::logging::write_log_line;
 use wire::serving::{read_whole, write_bytes};
 
 impl<S: Alter> House<S> {
@@ -34,8 +35,30 @@ impl<S: Alter> House<S> {
             → (bytes : List ℕ) × Writes result (W.contents writer.old) (W.contents writer.new) bytes × (status_of bytes ≢ codes "HTTP/1.1 200" → AreAsBefore S.Store (books_of self.old) (books_of self.new)) }
         ensures unread { result ≡ Err ServeFault.Read → (books_of self.new ≡ books_of self.old) × (writer.new ≡ writer.old) }
     {
-        let reading = read_whole(self.alloc, &mut self.routes, reader)?;
-        let answer = self.answer_reading(&reading);
-        write_bytes(writer, answer.as_bytes())
+        self.serve_logged(reader, writer, &mut io::sink())
+    }
+
+    /// The same, and behind the answer the log gets a line, as `write_log_line` has it. Where the reader fails it gets none.
+    /// What the log does not take is lost, and nothing else depends on it.
+    pub fn serve_logged<R: Read, W: Write, L: Write>(
+        &mut self,
+        reader: &mut R,
+        writer: &mut W,
+        log: &mut L,
+    ) -> Result<(), ServeFault>
+        ensures clean { IsClean S.Store (books_of self.new) → IsClean S.Store (books_of self.old) }
+        ensures served { IsClean S.Store (books_of self.new)
+            → (first : ℤ) (acts : List Act) → IsHistory first acts → HoldsBooks S.Store first acts (books_of self.old)
+            → result ≢ Err ServeFault.Read
+            → IsServedAndLogged S.Store first acts (R.remaining reader.old) (R.remaining reader.new) (books_of self.old) (books_of self.new) (Writes result (W.contents writer.old) (W.contents writer.new)) (L.contents log.old) (L.contents log.new) }
+        ensures as_before { IsClean S.Store (books_of self.new) → result ≢ Err ServeFault.Read
+            → (bytes : List ℕ) × Writes result (W.contents writer.old) (W.contents writer.new) bytes × (status_of bytes ≢ codes "HTTP/1.1 200" → AreAsBefore S.Store (books_of self.old) (books_of self.new)) }
+        ensures unread { result ≡ Err ServeFault.Read → (books_of self.new ≡ books_of self.old) × (writer.new ≡ writer.old) × (log.new ≡ log.old) }
+    {
+        let heard = read_whole(self.alloc, &mut self.routes, reader)?;
+        let answer = self.answer_reading(&heard.reading);
+        let end = write_bytes(writer, answer.as_bytes());
+        write_log_line(heard.text.as_slice(), answer.as_bytes(), log);
+        end
     }
 }

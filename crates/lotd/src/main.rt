@@ -19,8 +19,14 @@ impl BooksAt for InFiles<'_> {
     ghost ends = { λ _ _ _ _. Unit {0} };
 
     /// What is supposed of the file is `Unknown`: whatever it has, and that a torn write leaves each byte old or new.
-    fn work<W: Write>(&self, db: &str, work: &Work<'_>, out: &mut W) -> Result<(), Fault> {
-        work_in_file(self.rt, db, Unknown, work, out)
+    fn work<W: Write, L: Write>(
+        &self,
+        db: &str,
+        work: &Work<'_>,
+        out: &mut W,
+        log: &mut L,
+    ) -> Result<(), Fault> {
+        work_in_file(self.rt, db, Unknown, work, out, log)
     }
 }
 

@@ -1,5 +1,5 @@
 -- Books that go on by steps.
-use Rattle.std.proofs.Common.{◌≡◌, ◌≢◌, ℕ, ◌+◌, List, [], ◌∷◌, ◌++◌, length-append, refl, subst, sym, inl, inr, Ok, Err, arith, rules}
+use Rattle.std.proofs.Common.{◌≡◌, ◌≢◌, ap, true, Bool, ℕ, ◌+◌, List, [], ◌∷◌, ◌++◌, length-append, refl, subst, sym, inl, inr, Ok, Err, arith, rules}
 use Rattle.std.specs.Prelude.{ℤ, Option, Result}
 use Rattle.sqlite_trees.specs.declared.store.Store.{Ghosts}
 use Rattle.sqlite.specs.Held.{Held, state}
@@ -8,65 +8,87 @@ use Rattle.machine.specs.Once.{IsHistory}
 use Rattle.store.specs.Connected.{Connected}
 use Rattle.store.specs.Books.{HoldsBooks}
 use Rattle.house.specs.House.{RunsTo, LeavesBooks}
-use Rattle.house.specs.Serving.{IsServed}
+use Rattle.house.specs.Serving.{IsServedAndLogged}
 use Rattle.house.proofs.Running.{run_none, run_step}
 use Rattle.wire.specs.declared.serving.ServeFault.{ServeFault}
 use Rattle.wire.specs.declared.serving.ServeFault.TheVariants.{Read, Write}
-use Rattle.service.specs.Serving.{GoesOn, HasServed, KeepsRun}
+use Rattle.wire.specs.Logging.{IsLogged}
+use Rattle.service.specs.Serving.{AreLogged, AreLoggedIf, GoesOn, HasServed, HasLogged, KeepsRun, KeepsLogged}
 
 -- before the first text
-pub none_served : {S : Type 0} (g : Ghosts S) (first : ℤ) (acts : List Act) (n : ℕ) (books : Connected S) → IsHistory first acts → HoldsBooks g first acts books → HasServed g first acts n books books
-none_served g first acts n books history holds = record {
-  texts = [];
-  answers = [];
-  few = omega arith;
-  runs = run_none g first acts books history holds;
-}
+pub none_logged : {S : Type 0} (g : Ghosts S) (first : ℤ) (acts : List Act) (n : ℕ) (books : Connected S) (logged : Bool) (log : Option (List ℕ)) → IsHistory first acts → HoldsBooks g first acts books
+    → HasLogged g first acts n books books logged log log
+none_logged g first acts n books logged log history holds = (
+  record {
+    texts = [];
+    answers = [];
+    few = omega arith;
+    runs = run_none g first acts books history holds;
+  },
+  λ asked. refl,
+)
 
-on_by : {S : Type 0} (g : Ghosts S) (first : ℤ) (acts : List Act) (n : ℕ) (was mid new : Connected S) → (r : HasServed g first acts n was mid) → GoesOn g first r.runs.after mid new
-    → HasServed g first acts (n + 1) was new
-on_by g first acts n was mid new r (inl same) = record {
-  texts = r.texts;
-  answers = r.answers;
-  few = omega (arith, r.few);
-  runs = subst (λ b. RunsTo g first acts r.texts r.answers was b) (sym same) r.runs;
-}
-on_by g first acts n was mid new r (inr step) =
-    let len = length-append r.texts (step.0 ∷ []) in
-    record {
-      texts = r.texts ++ step.0 ∷ [];
-      answers = r.answers ++ step.1 ∷ [];
-      few = omega (arith, r.few, len);
-      runs = run_step g first acts r.texts r.answers was mid new step.0 step.1 r.runs step.2;
-    }
+-- one line more
+more_logged : (old mid new : Option (List ℕ)) (texts answers : List (List ℕ)) (text bytes : List ℕ) → AreLogged old mid texts answers → IsLogged mid new text bytes
+    → AreLogged old new (texts ++ text ∷ []) (answers ++ bytes ∷ [])
+more_logged old mid new [] [] text bytes none h = (new, subst (λ o. IsLogged o new text bytes) none h, refl)
+more_logged old mid new (t ∷ texts) (b ∷ answers) text bytes was h = (was.0, was.1, more_logged was.0 mid new texts answers text bytes was.2 h)
+more_logged old mid new [] (b ∷ answers) text bytes was h = absurd was
+more_logged old mid new (t ∷ texts) [] text bytes was h = absurd was
 
--- one connection more
-pub one_served : {S : Type 0} (g : Ghosts S) (first : ℤ) (acts : List Act) (n : ℕ) (was mid new : Connected S) → HasServed g first acts n was mid
-    → ((a : List Act) → IsHistory first a → HoldsBooks g first a mid → GoesOn g first a mid new) → HasServed g first acts (n + 1) was new
-one_served g first acts n was mid new r f = on_by g first acts n was mid new r (f r.runs.after r.runs.history r.runs.holds)
+module _ {S : Type 0} (g : Ghosts S) (first : ℤ) (acts : List Act) where
+  module _ (n : ℕ) (was mid new : Connected S) (old between last : Option (List ℕ)) where
+    on_by : (r : HasLogged g first acts n was mid true old between) → GoesOn g first r.0.runs.after mid new between last → HasLogged g first acts (n + 1) was new true old last
+    on_by r (inl same) = (
+      record {
+        texts = r.0.texts;
+        answers = r.0.answers;
+        few = omega (arith, r.0.few);
+        runs = subst (λ b. RunsTo g first acts r.0.texts r.0.answers was b) (sym same.0) r.0.runs;
+      },
+      λ asked. subst (λ o. AreLogged old o r.0.texts r.0.answers) (sym same.1) (r.1 asked),
+    )
+    on_by r (inr step) =
+        let len = length-append r.0.texts (step.0 ∷ []) in (
+          record {
+            texts = r.0.texts ++ step.0 ∷ [];
+            answers = r.0.answers ++ step.1 ∷ [];
+            few = omega (arith, r.0.few, len);
+            runs = run_step g first acts r.0.texts r.0.answers was mid new step.0 step.1 r.0.runs step.2;
+          },
+          λ asked. more_logged old between last r.0.texts r.0.answers step.0 step.1 (r.1 asked) step.3,
+        )
 
--- a connection that a house was closed over
-pub keeps_run : {S : Type 0} (g : Ghosts S) (first : ℤ) (acts : List Act) (max : ℕ) (was books : Connected S) (conn : Held S) → HasServed g first acts max was books → conn ≡ books.conn
-    → LeavesBooks first acts [] (state g was.conn) → KeepsRun g first acts max conn
-keeps_run g first acts max was books conn r at leaves =
-    subst (KeepsRun g first acts max) (sym at) (record {
-      texts = r.texts;
-      answers = r.answers;
-      after = r.runs.after;
-      few = r.few;
-      run = r.runs.run;
-      history = r.runs.history;
-      keeps = r.runs.holds.keeps;
-      kept = r.runs.kept [] leaves;
-    })
+    -- one connection more
+    pub one_served : HasLogged g first acts n was mid true old between → ((a : List Act) → IsHistory first a → HoldsBooks g first a mid → GoesOn g first a mid new between last)
+        → HasLogged g first acts (n + 1) was new true old last
+    one_served r f = on_by r (f r.0.runs.after r.0.runs.history r.0.runs.holds)
 
--- what was read and answered is one step
-pub goes_on : {S : Type 0} (g : Ghosts S) (first : ℤ) (acts : List Act) (from to : Option (List ℕ)) (was books : Connected S) (W : List ℕ → Type 0) → IsServed g first acts from to was books W → GoesOn g first acts was books
-goes_on g first acts from to was books W s = inr (s.text, s.bytes, s.steps)
+  -- a connection that a house was closed over
+  pub keeps_logged : (max : ℕ) (was books : Connected S) (conn : Held S) → conn ≡ books.conn → LeavesBooks first acts [] (state g was.conn)
+      → (logged : Bool) (old new : Option (List ℕ)) → HasLogged g first acts max was books logged old new → KeepsLogged g first acts max conn logged old new
+  keeps_logged max was books conn at leaves logged old new r =
+      subst (λ c. KeepsLogged g first acts max c logged old new) (sym at) (
+        record {
+          texts = r.0.texts;
+          answers = r.0.answers;
+          after = r.0.runs.after;
+          few = r.0.few;
+          run = r.0.runs.run;
+          history = r.0.runs.history;
+          keeps = r.0.runs.holds.keeps;
+          kept = r.0.runs.kept [] leaves;
+        },
+        r.1,
+      )
 
--- where nothing was read the books are as they were
-pub read_or_not : {S X : Type 0} (g : Ghosts S) (first : ℤ) (acts : List Act) (was books : Connected S) (r : Result Unit ServeFault) → (r ≢ Err Read → GoesOn g first acts was books) → (r ≡ Err Read → (books ≡ was) × X)
-    → GoesOn g first acts was books
-read_or_not g first acts was books (Ok done) step none = step (search rules)
-read_or_not g first acts was books (Err Write) step none = step (search rules)
-read_or_not g first acts was books (Err Read) step none = inl (none refl).0
+  module _ (was books : Connected S) (old new : Option (List ℕ)) where
+    -- what was read and answered is one step
+    pub goes_on : (from to : Option (List ℕ)) (W : List ℕ → Type 0) → IsServedAndLogged g first acts from to was books W old new → GoesOn g first acts was books old new
+    goes_on from to W s = inr (s.0.text, s.0.bytes, s.0.steps, s.1)
+
+    -- where nothing was read the books and the log are as they were
+    pub read_or_not : (r : Result Unit ServeFault) → (r ≢ Err Read → GoesOn g first acts was books old new) → (r ≡ Err Read → (books ≡ was) × (new ≡ old)) → GoesOn g first acts was books old new
+    read_or_not (Ok done) step none = step (search rules)
+    read_or_not (Err Write) step none = step (search rules)
+    read_or_not (Err Read) step none = inl (none refl)

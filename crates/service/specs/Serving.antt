@@ -1,5 +1,5 @@
 -- What serving a port does to the books, and what a line's work does.
-use Rattle.std.specs.Prelude.{◌≡◌, ◌≢◌, ◌⊎◌, ◌↔◌, ◌≤◌, ℕ, ℤ, List, [], length, zip, false, Option, Result, Ok, Err, IsErr, IsErrOf, IsTrue, ◌++◌, codes}
+use Rattle.std.specs.Prelude.{◌≡◌, ◌≢◌, ◌⊎◌, ◌↔◌, ◌≤◌, ℕ, ℤ, List, [], ◌∷◌, length, zip, Bool, true, false, Option, Result, Ok, Err, IsErr, IsErrOf, IsTrue, ◌++◌, codes}
 use Rattle.std.specs.Fmt.{decimal}
 use Rattle.std.specs.Io.KnownBytes.{Appends}
 use Rattle.sqlite_trees.specs.declared.store.Store.{Ghosts}
@@ -10,6 +10,7 @@ use Rattle.table_words.specs.Schema.{schema_0}
 use Rattle.store.specs.Connected.{Connected}
 use Rattle.store.specs.Books.{KeepsBooks}
 use Rattle.store.specs.Opening.{IsOfNone, AreFoundRows}
+use Rattle.wire.specs.Logging.{IsLogged}
 use Rattle.house.specs.House.{Run, StepsTo, RunsTo, LeavesBooks}
 use Rattle.command_line.specs.declared.fault.Fault.{Fault}
 use Rattle.command_line.specs.declared.fault.Fault.TheVariants.{Io, Foreign}
@@ -19,9 +20,10 @@ use Rattle.service.specs.Importing.{KeepsFile, IsFileImported}
 use Rattle.service.specs.Printing.{LeavesSheet}
 use Rattle.service.specs.declared.books_lines.Sheet.TheVariants as sheet
 
--- the books are as they were, or one step over some text further
-abbrev pub GoesOn : {S : Type 0} → Ghosts S → ℤ → List Act → Connected S → Connected S → Type 0
-GoesOn g first acts old new = (new ≡ old) ⊎ ((text : List ℕ) × (bytes : List ℕ) × StepsTo g first acts text bytes old new)
+-- the books and the log are as they were, or one step over some text further
+abbrev pub GoesOn : {S : Type 0} → Ghosts S → ℤ → List Act → Connected S → Connected S → (old new : Option (List ℕ)) → Type 0
+GoesOn g first acts was books old new =
+    ((books ≡ was) × (new ≡ old)) ⊎ ((text : List ℕ) × (bytes : List ℕ) × StepsTo g first acts text bytes was books × IsLogged old new text bytes)
 
 -- the books are those of the acts after a run over so many texts at most
 pub record HasServed {S : Type 0} (g : Ghosts S) (first : ℤ) (acts : List Act) (max : ℕ) (was books : Connected S) : Type 0 where
@@ -29,6 +31,21 @@ pub record HasServed {S : Type 0} (g : Ghosts S) (first : ℤ) (acts : List Act)
   pub answers : List (List ℕ)
   pub few : length texts ≤ max
   pub runs : RunsTo g first acts texts answers was books
+
+-- the log got a line for each text and its answer, one after another, or a beginning of the line
+abbrev pub AreLogged : (old new : Option (List ℕ)) → (texts answers : List (List ℕ)) → Type 0
+AreLogged old new [] [] = new ≡ old
+AreLogged old new (text ∷ texts) (bytes ∷ answers) = (mid : Option (List ℕ)) × IsLogged old mid text bytes × AreLogged mid new texts answers
+AreLogged old new [] (bytes ∷ answers) = ⊥
+AreLogged old new (text ∷ texts) [] = ⊥
+
+-- the same, where a log is asked for
+abbrev pub AreLoggedIf : Bool → (old new : Option (List ℕ)) → (texts answers : List (List ℕ)) → Type 0
+AreLoggedIf logged old new texts answers = logged ≡ true → AreLogged old new texts answers
+
+-- the books are those of the acts after such a run, and its texts and answers are logged
+abbrev pub HasLogged : {S : Type 0} → Ghosts S → ℤ → List Act → ℕ → (was books : Connected S) → Bool → (old new : Option (List ℕ)) → Type 0
+HasLogged g first acts max was books logged old new = (r : HasServed g first acts max was books) × AreLoggedIf logged old new r.texts r.answers
 
 -- the connection keeps the books of the acts after a run over so many texts at most
 pub record KeepsRun {S : Type 0} (g : Ghosts S) (first : ℤ) (acts : List Act) (max : ℕ) (conn : Held S) : Type 0 where
@@ -42,18 +59,31 @@ pub record KeepsRun {S : Type 0} (g : Ghosts S) (first : ℤ) (acts : List Act) 
   -- what was answered is kept
   pub kept : LeavesBooks first after (zip texts answers) (state g conn)
 
--- what the work makes of a connection
-abbrev pub IsWorked : {S : Type 0} → Ghosts S → Held S → Work → Held S → Type 0
-IsWorked g old (Make day) new = KeepsBooks day [] (state g new) × IsTrue (state g new).is_open
-IsWorked g old (Serve port max) new = (first : ℤ) (acts : List Act) → IsHistory first acts → AreFoundRows first acts (state g old).committed.trees → KeepsRun g first acts max new
-IsWorked g old (Import file) new = (first : ℤ) (acts : List Act) → IsHistory first acts → AreFoundRows first acts (state g old).committed.trees → KeepsFile g first acts new
-IsWorked g old (Card lot) new = (first : ℤ) (acts : List Act) → IsHistory first acts → AreFoundRows first acts (state g old).committed.trees → KeepsBooks first acts (state g new)
-IsWorked g old (Notice lot) new = (first : ℤ) (acts : List Act) → IsHistory first acts → AreFoundRows first acts (state g old).committed.trees → KeepsBooks first acts (state g new)
+-- the same, and its texts and answers are logged
+abbrev pub KeepsLogged : {S : Type 0} → Ghosts S → ℤ → List Act → ℕ → Held S → Bool → (old new : Option (List ℕ)) → Type 0
+KeepsLogged g first acts max conn logged old new = (r : KeepsRun g first acts max conn) × AreLoggedIf logged old new r.texts r.answers
+
+-- a server logs where that is asked for, and no other work does
+abbrev pub is_logged : Work → Bool
+is_logged (Make day) = false
+is_logged (Serve port max log) = log
+is_logged (Import file) = false
+is_logged (Card lot) = false
+is_logged (Notice lot) = false
+
+-- what the work makes of a connection, with what the log had and has
+abbrev pub IsWorked : {S : Type 0} → Ghosts S → Held S → Work → (log_old log_new : Option (List ℕ)) → Held S → Type 0
+IsWorked g old (Make day) log_old log_new new = KeepsBooks day [] (state g new) × IsTrue (state g new).is_open
+IsWorked g old (Serve port max log) log_old log_new new = (first : ℤ) (acts : List Act) → IsHistory first acts → AreFoundRows first acts (state g old).committed.trees
+    → KeepsLogged g first acts max new log log_old log_new
+IsWorked g old (Import file) log_old log_new new = (first : ℤ) (acts : List Act) → IsHistory first acts → AreFoundRows first acts (state g old).committed.trees → KeepsFile g first acts new
+IsWorked g old (Card lot) log_old log_new new = (first : ℤ) (acts : List Act) → IsHistory first acts → AreFoundRows first acts (state g old).committed.trees → KeepsBooks first acts (state g new)
+IsWorked g old (Notice lot) log_old log_new new = (first : ℤ) (acts : List Act) → IsHistory first acts → AreFoundRows first acts (state g old).committed.trees → KeepsBooks first acts (state g new)
 
 -- when the work is refused, and as what
 abbrev pub IsJudged : {S A : Type 0} → Ghosts S → Held S → Work → Result A Fault → Type 0
 IsJudged g old (Make day) result = old.in_transaction ≡ false → IsErrOf result Foreign ↔ ((state g old).now.schema ≢ schema_0)
-IsJudged g old (Serve port max) result = IsOfNone (state g old).now.schema → IsErr result
+IsJudged g old (Serve port max log) result = IsOfNone (state g old).now.schema → IsErr result
 IsJudged g old (Import file) result = IsOfNone (state g old).now.schema → IsErr result
 IsJudged g old (Card lot) result = IsOfNone (state g old).now.schema → IsErr result
 IsJudged g old (Notice lot) result = IsOfNone (state g old).now.schema → IsErr result
@@ -71,7 +101,7 @@ IsPortTold port old new (Err fault) = fault ≡ Io
 -- the files by their names, where they are known
 abbrev pub IsTold : {S : Type 0} → Ghosts S → (List ℕ → Option (List ℕ)) → Held S → Work → (old new : Option (List ℕ)) → Result Unit Fault → Held S → Type 0
 IsTold g files conn (Make day) old new end left = (end ≡ Ok tt) × (new ≡ old)
-IsTold g files conn (Serve port max) old new end left = IsPortTold port old new end
+IsTold g files conn (Serve port max log) old new end left = IsPortTold port old new end
 IsTold {S} g files conn (Import file) old new end left = (first : ℤ) (acts : List Act) → IsHistory first acts → AreFoundRows first acts (state g conn).committed.trees
     → (books : Connected S) × (left ≡ books.conn) × IsFileImported g first acts (files file.now) end books old new
 IsTold g files conn (Card lot) old new end left = (first : ℤ) (acts : List Act) → IsHistory first acts → AreFoundRows first acts (state g conn).committed.trees

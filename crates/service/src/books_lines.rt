@@ -10,13 +10,13 @@ ghost use Rattle.store.specs.Books.{KeepsBooks, HoldsBooks, IsClean};
 ghost use Rattle.store.specs.Opening.{IsOfNone, AreFoundRows};
 ghost use Rattle.store.specs.Connected.{Connected};
 ghost use Rattle.house.specs.House.{books_of, LeavesBooks};
-ghost use Rattle.service.specs.Serving.{HasServed, KeepsRun, IsWorked, IsJudged, IsTold, IsPortTold, told_port};
+ghost use Rattle.service.specs.Serving.{HasLogged, KeepsLogged, is_logged, IsWorked, IsJudged, IsTold, IsPortTold, told_port};
 ghost use Rattle.service.specs.Importing.{KeepsFile, IsFileImported};
 ghost use Rattle.service.specs.Printing.{IsSheetPrinted, LeavesSheet};
 
 use crate::goods_file::{FilesAt, import_file};
 use crate::lot_texts::{print_card, print_notice};
-use crate::serve::serve_on;
+use crate::serve::serve_logged_if;
 use command_line::{Fault, Work};
 use house::House;
 use label::BusinessDay;
@@ -30,31 +30,38 @@ use values::LotId;
 /// A connection after the work over it, and how that work ended.
 pub type Worked<S> = (Connection<S>, Result<(), Fault>);
 
-/// Does the work with the books over this connection, and gives the connection back. What it prints goes to `out`.
-/// Books that were made are empty; books that were served are those of a run over at most as many texts as connections
-/// were to be answered; books into which a file was imported are those after it, or as they were; books of which a text
-/// was printed are as they were. What was printed is the text that the machine shows of the lot or the tally of the file,
+/// Does the work with the books over this connection, and gives the connection back. What it prints goes to `out`, and the
+/// log of a server to `log`, where it keeps one. Books that were made are empty; books that were served are those of a run
+/// over at most as many texts as connections were to be answered, for each of which the log has a line, as far as it took
+/// them; books into which a file was imported are those after it, or as they were; books of which a text was printed are
+/// as they were. What was printed is the text that the machine shows of the lot or the tally of the file,
 /// and the work is refused exactly where the machine refuses. Books of schema 1 are brought up as they are opened. Where
 /// the books cannot be made or opened, nothing is printed, the connection is dropped and the error is `Foreign` for other
 /// tables and else `Store`, also for a connection within a transaction. A port that cannot be had, a file that cannot be
 /// opened and output that cannot be written are `Io` beside the connection.
-pub fn worked<S: Alter + Drop, F: FilesAt, W: Write>(
+pub fn worked<S: Alter + Drop, F: FilesAt, W: Write, L: Write>(
     rt: &HostRuntime,
     files: &F,
     conn: Connection<S>,
     work: &Work<'_>,
     out: &mut W,
+    log: &mut L,
 ) -> Result<Worked<S>, Fault>
     ensures clean { IfOk result (λ w. HasCleanDisk (state S.Store w.0) → HasCleanDisk (state S.Store conn)) }
-    ensures worked { IfOk result (λ w. HasCleanDisk (state S.Store w.0) → IsWorked S.Store conn work.now w.0) }
+    ensures worked { IfOk result (λ w. HasCleanDisk (state S.Store w.0) → IsWorked S.Store conn work.now (L.contents log.old) (L.contents log.new) w.0) }
     ensures told { IfOk result (λ w. HasCleanDisk (state S.Store w.0) → IsTold S.Store (F.bytes files.now) conn work.now (W.contents out.old) (W.contents out.new) w.1 w.0) }
+    ensures quiet { is_logged work.now ≡ false → log.new ≡ log.old }
     ensures judged { IsJudged S.Store conn work.now result }
     ensures within { conn.in_transaction ≡ true → IsErrOf result Fault.Store }
     ensures fault { IfErr result (λ fault. (fault ≡ Fault.Store) ⊎ (fault ≡ Fault.Foreign)) }
 {
     match work {
         Work::Make(day) => made(rt.alloc(), conn, *day),
-        Work::Serve { port, max } => served(rt, conn, *port, *max, out),
+        Work::Serve {
+            port,
+            max,
+            log: logged,
+        } => served(rt, conn, *port, *max, *logged, out, log),
         Work::Import { file } => imported(rt.alloc(), files, conn, *file, out),
         Work::Card(lot) => printed(rt.alloc(), conn, Sheet::Card, lot, out),
         Work::Notice(lot) => printed(rt.alloc(), conn, Sheet::Notice, lot, out),
@@ -84,41 +91,47 @@ fn made<S: Alter + Drop>(
 }
 
 /// Opens the books, listens on the port and answers so many connections.
-fn served<S: Alter + Drop, W: Write>(
+fn served<S: Alter + Drop, W: Write, L: Write>(
     rt: &HostRuntime,
     conn: Connection<S>,
     port: u16,
     max: u32,
+    logged: bool,
     out: &mut W,
+    log: &mut L,
 ) -> Result<Worked<S>, Fault>
     ensures clean { IfOk result (λ w. HasCleanDisk (state S.Store w.0) → HasCleanDisk (state S.Store conn)) }
     ensures served { IfOk result (λ w. HasCleanDisk (state S.Store w.0) → (first : ℤ) (acts : List Act) → IsHistory first acts
-        → AreFoundRows first acts (state S.Store conn).committed.trees → KeepsRun S.Store first acts max w.0) }
+        → AreFoundRows first acts (state S.Store conn).committed.trees → KeepsLogged S.Store first acts max w.0 logged (L.contents log.old) (L.contents log.new)) }
+    ensures quiet { logged ≡ false → log.new ≡ log.old }
     ensures told { IfOk result (λ w. HasCleanDisk (state S.Store w.0) → IsPortTold port (W.contents out.old) (W.contents out.new) w.1) }
     ensures other { IsOfNone (state S.Store conn).now.schema → IsErr result }
     ensures within { conn.in_transaction ≡ true → IsErrOf result Fault.Store }
     ensures fault { IfErr result (λ fault. (fault ≡ Fault.Store) ⊎ (fault ≡ Fault.Foreign)) }
 {
     match opened(rt.alloc(), conn) {
-        Ok(books) => Ok(serve_books(rt, books, port, max, out)),
+        Ok(books) => Ok(serve_books(rt, books, port, max, logged, out, log)),
         Err(fault) => Err(fault),
     }
 }
 
-fn serve_books<S: Alter + Drop, W: Write>(
+fn serve_books<S: Alter + Drop, W: Write, L: Write>(
     rt: &HostRuntime,
     books: Books<S>,
     port: u16,
     max: u32,
+    logged: bool,
     out: &mut W,
+    log: &mut L,
 ) -> Worked<S>
     ensures clean { HasCleanDisk (state S.Store result.0) → IsClean S.Store books }
     ensures served { HasCleanDisk (state S.Store result.0) → (first : ℤ) (acts : List Act) → IsHistory first acts → HoldsBooks S.Store first acts books
-        → LeavesBooks first acts [] (state S.Store books.conn) → KeepsRun S.Store first acts max result.0 }
+        → LeavesBooks first acts [] (state S.Store books.conn) → KeepsLogged S.Store first acts max result.0 logged (L.contents log.old) (L.contents log.new) }
+    ensures quiet { logged ≡ false → log.new ≡ log.old }
     ensures told { IsPortTold port (W.contents out.old) (W.contents out.new) result.1 }
 {
     let mut house = House::new(rt.alloc(), books);
-    let end = serve_port(rt, port, max, out, &mut house);
+    let end = serve_port(rt, port, max, logged, out, log, &mut house);
     (house.close().close(), end)
 }
 
@@ -256,22 +269,25 @@ fn cause<S: Alter + Drop>(fault: OpenFault<S>) -> Fault
     }
 }
 
-fn serve_port<S: Alter + Drop, W: Write>(
+fn serve_port<S: Alter + Drop, W: Write, L: Write>(
     rt: &HostRuntime,
     port: u16,
     max: u32,
+    logged: bool,
     out: &mut W,
+    log: &mut L,
     house: &mut House<S>,
 ) -> Result<(), Fault>
     ensures clean { IsClean S.Store (books_of house.new) → IsClean S.Store (books_of house.old) }
     ensures served { IsClean S.Store (books_of house.new)
         → (first : ℤ) (acts : List Act) → IsHistory first acts → HoldsBooks S.Store first acts (books_of house.old)
-        → HasServed S.Store first acts max (books_of house.old) (books_of house.new) }
+        → HasLogged S.Store first acts max (books_of house.old) (books_of house.new) logged (L.contents log.old) (L.contents log.new) }
+    ensures quiet { logged ≡ false → log.new ≡ log.old }
     ensures told { IsPortTold port (W.contents out.old) (W.contents out.new) result }
 {
     let listener = TcpListener::bind(rt, ("127.0.0.1", port))?;
     tell_port(port, out)?;
-    serve_on(&listener, house, max);
+    serve_logged_if(logged, &listener, house, max, log);
     Ok(())
 }
 

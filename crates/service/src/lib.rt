@@ -10,4 +10,4 @@ mod serve;
 pub use books_lines::{Worked, worked};
 pub use goods_file::{FilesAt, import};
 pub use lot_texts::{print_card, print_notice};
-pub use serve::serve_on;
+pub use serve::{serve_logged, serve_on};

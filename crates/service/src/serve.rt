@@ -1,13 +1,13 @@
-ghost use Rattle.std.specs.Prelude.{ℤ, List};
+ghost use Rattle.std.specs.Prelude.{◌≡◌, ℤ, List, true, false};
 ghost use Rattle.machine.specs.Acts.{Act};
 ghost use Rattle.machine.specs.Once.{IsHistory};
 ghost use Rattle.store.specs.Books.{IsClean, HoldsBooks};
 ghost use Rattle.house.specs.House.{books_of};
-ghost use Rattle.service.specs.Serving.{GoesOn, HasServed};
+ghost use Rattle.service.specs.Serving.{GoesOn, HasServed, HasLogged};
 
 use house::House;
 use sqlite::Alter;
-use std::io::Read;
+use std::io::{self, Read, Write};
 use std::net::{Shutdown, TcpListener, TcpStream};
 use std::time::Duration;
 
@@ -26,33 +26,69 @@ pub fn serve_on<S: Alter + Drop>(listener: &TcpListener, house: &mut House<S>, m
         → (first : ℤ) (acts : List Act) → IsHistory first acts → HoldsBooks S.Store first acts (books_of house.old)
         → HasServed S.Store first acts max (books_of house.old) (books_of house.new) }
 {
+    serve_logged(listener, house, max, &mut io::sink());
+}
+
+/// The same, and the log has a line for each text of the run, as far as it took them.
+pub fn serve_logged<S: Alter + Drop, L: Write>(
+    listener: &TcpListener,
+    house: &mut House<S>,
+    max: u32,
+    log: &mut L,
+)
+    ensures clean { IsClean S.Store (books_of house.new) → IsClean S.Store (books_of house.old) }
+    ensures served { IsClean S.Store (books_of house.new)
+        → (first : ℤ) (acts : List Act) → IsHistory first acts → HoldsBooks S.Store first acts (books_of house.old)
+        → HasLogged S.Store first acts max (books_of house.old) (books_of house.new) true (L.contents log.old) (L.contents log.new) }
+{
     for _ in 0..max {
-        serve_next(listener, house);
+        serve_next(listener, house, log);
+    }
+}
+
+/// The one or the other.
+pub(crate) fn serve_logged_if<S: Alter + Drop, L: Write>(
+    logged: bool,
+    listener: &TcpListener,
+    house: &mut House<S>,
+    max: u32,
+    log: &mut L,
+)
+    ensures clean { IsClean S.Store (books_of house.new) → IsClean S.Store (books_of house.old) }
+    ensures served { IsClean S.Store (books_of house.new)
+        → (first : ℤ) (acts : List Act) → IsHistory first acts → HoldsBooks S.Store first acts (books_of house.old)
+        → HasLogged S.Store first acts max (books_of house.old) (books_of house.new) logged (L.contents log.old) (L.contents log.new) }
+    ensures quiet { logged ≡ false → log.new ≡ log.old }
+{
+    if logged {
+        serve_logged(listener, house, max, log);
+    } else {
+        serve_on(listener, house, max);
     }
 }
 
 /// Waits for the next connection and answers it.
-fn serve_next<S: Alter + Drop>(listener: &TcpListener, house: &mut House<S>)
+fn serve_next<S: Alter + Drop, L: Write>(listener: &TcpListener, house: &mut House<S>, log: &mut L)
     ensures clean { IsClean S.Store (books_of house.new) → IsClean S.Store (books_of house.old) }
     ensures step { IsClean S.Store (books_of house.new)
         → (first : ℤ) (acts : List Act) → IsHistory first acts → HoldsBooks S.Store first acts (books_of house.old)
-        → GoesOn S.Store first acts (books_of house.old) (books_of house.new) }
+        → GoesOn S.Store first acts (books_of house.old) (books_of house.new) (L.contents log.old) (L.contents log.new) }
 {
     if let Ok((stream, _)) = listener.accept() {
-        serve_stream(&stream, house);
+        serve_stream(&stream, house, log);
     }
 }
 
-fn serve_stream<S: Alter + Drop>(stream: &TcpStream, house: &mut House<S>)
+fn serve_stream<S: Alter + Drop, L: Write>(stream: &TcpStream, house: &mut House<S>, log: &mut L)
     ensures clean { IsClean S.Store (books_of house.new) → IsClean S.Store (books_of house.old) }
     ensures step { IsClean S.Store (books_of house.new)
         → (first : ℤ) (acts : List Act) → IsHistory first acts → HoldsBooks S.Store first acts (books_of house.old)
-        → GoesOn S.Store first acts (books_of house.old) (books_of house.new) }
+        → GoesOn S.Store first acts (books_of house.old) (books_of house.new) (L.contents log.old) (L.contents log.new) }
 {
     let _ = stream.set_read_timeout(Some(Duration::from_secs(PATIENCE)));
     let _ = stream.set_write_timeout(Some(Duration::from_secs(PATIENCE)));
     let (mut reader, mut writer) = (stream, stream);
-    if let Ok(()) = house.serve_one(&mut reader, &mut writer) {
+    if let Ok(()) = house.serve_logged(&mut reader, &mut writer, log) {
         read_to_the_end(stream);
     }
 }

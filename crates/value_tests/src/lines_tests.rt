@@ -17,7 +17,13 @@ struct NoBooks;
 impl BooksAt for NoBooks {
     ghost ends = { λ _ _ _ _. Unit {0} };
 
-    fn work<W: Write>(&self, _db: &str, _work: &Work<'_>, _out: &mut W) -> Result<(), Fault> {
+    fn work<W: Write, L: Write>(
+        &self,
+        _db: &str,
+        _work: &Work<'_>,
+        _out: &mut W,
+        _log: &mut L,
+    ) -> Result<(), Fault> {
         Err(Fault::Store)
     }
 }
@@ -103,7 +109,7 @@ static HELP: [&[&str]; 6] = [
     &["lotd", "label", "--help"],
 ];
 
-static MISUSE: [&[&str]; 11] = [
+static MISUSE: [&[&str]; 12] = [
     &["lotd", "card", "--db", "x", "09506000134352"],
     &["lotd", "notice", "09506000134352", "L2"],
     &["lotd", "import", "--db", "x"],
@@ -115,6 +121,7 @@ static MISUSE: [&[&str]; 11] = [
     &[
         "lotd", "serve", "--db", "x", "--port", "1024", "--max", "1000001",
     ],
+    &["lotd", "card", "--db", "x", "--log", "09506000134352", "L2"],
     &["lotd"],
     &["lotd", "lable"],
     &["lotd", "label", "--day", "2026-05-04"],
@@ -272,7 +279,7 @@ impl Awaited {
         let same = match work {
             Work::Make(day) => day.day().text().as_slice() == self.word.as_bytes(),
             Work::Import { file } => *file == self.word,
-            Work::Serve { port, max } => *port == self.port && *max == self.max,
+            Work::Serve { port, max, log: _ } => *port == self.port && *max == self.max,
             Work::Card(lot) | Work::Notice(lot) => is_lot_word(*lot, self.word),
         };
         same && db == self.db
@@ -294,11 +301,20 @@ impl Awaited {
 impl BooksAt for Awaited {
     ghost ends = { λ _ _ _ _. Unit {0} };
 
-    fn work<W: Write>(&self, db: &str, work: &Work<'_>, out: &mut W) -> Result<(), Fault> {
+    fn work<W: Write, L: Write>(
+        &self,
+        db: &str,
+        work: &Work<'_>,
+        out: &mut W,
+        log: &mut L,
+    ) -> Result<(), Fault> {
         if !self.is_this(db, work) {
             return Err(Fault::Value);
         }
         let _ = out.write_all(b"worked\n");
+        if let Work::Serve { log: true, .. } = work {
+            let _ = log.write_all(b"GET /orders/S-1 404 105\n");
+        }
         self.ended()
     }
 }
@@ -311,7 +327,7 @@ struct Handed {
     told: &'static str,
 }
 
-static HANDED_ON: [Handed; 18] = [
+static HANDED_ON: [Handed; 20] = [
     Handed {
         words: &["lotd", "init", "--db", "stock.db", "--day", "2026-05-04"],
         to: Awaited {
@@ -389,6 +405,35 @@ static HANDED_ON: [Handed; 18] = [
         },
         status: 1,
         told: "lotd: foreign books\n",
+    },
+    // A log goes where faults are told.
+    Handed {
+        words: &[
+            "lotd", "serve", "--db", "stock.db", "--port", "8080", "--max", "2000", "--log",
+        ],
+        to: Awaited {
+            db: "stock.db",
+            word: "",
+            port: 8080,
+            max: 2000,
+            end: End::Done,
+        },
+        status: 0,
+        told: "GET /orders/S-1 404 105\n",
+    },
+    Handed {
+        words: &[
+            "lotd", "serve", "--log", "--db", "stock.db", "--port", "8080", "--max", "2000",
+        ],
+        to: Awaited {
+            db: "stock.db",
+            word: "",
+            port: 8080,
+            max: 2000,
+            end: End::Store,
+        },
+        status: 1,
+        told: "GET /orders/S-1 404 105\nlotd: store\n",
     },
     Handed {
         words: &["lotd", "import", "--db", "stock.db", "goods.csv"],

@@ -6,3 +6,4 @@ pub mod Examples
 pub mod Bounded
 pub mod ReadOn
 pub mod WriteOut
+pub mod LogLines

@@ -1,5 +1,6 @@
 -- What is read of a reader and written to a writer.
 use Rattle.std.proofs.Common.{◌≡◌, ◌≢◌, ℕ, ◌+◌, ◌-◌, ◌<◌, true, false, List, [], ◌++◌, length, Option, refl, sym, ap, ◌∙◌, subst, inl, inr, arith, length-append, append-nil}
+use Rattle.std.specs.Global.{Vec}
 use Rattle.std.specs.Io.KnownBytes.{Consumes}
 use Rattle.std.proofs.KnownBytes.{Consumes-trans}
 use Rattle.requests.specs.Requests.{IsReading}
@@ -31,13 +32,26 @@ taken_on first from to old new t e was h =
     subst (Consumes first to) (sym taken.2) (Consumes-trans first from to old taken.0 was taken.1)
 
 -- no more is read
-pub at_stop : (first from to : Option (List ℕ)) (old new : List ℕ) (t : Taken) (r : Read) → t ≢ More → Consumes first from old
-    → (r ≢ Bad Memory → IsReading old r) → IsTaken from to old new t → IsRead first to (stopped t r)
-at_stop first from to old new More r n was read h = absurd (n refl)
-at_stop first from to old new End r n was read h =
-    record { text = old ++ []; taken = Consumes-trans first from to old [] was h.0; read = λ has. subst (λ t. IsReading t r) (sym (append-nil old)) (read has); whole = inr h.1 }
-at_stop first from to old new NoRoom r n was read h =
-    record { text = old ++ h.0; taken = Consumes-trans first from to old h.0 was h.1; read = λ has. absurd (has refl); whole = inl refl }
+module _ (first from to : Option (List ℕ)) (old : List ℕ) (kept : Vec ℕ) where
+  pub at_stop : (t : Taken) (r : Read) → t ≢ More → Consumes first from old → (r ≢ Bad Memory → IsReading old r) → IsTaken from to old kept.items t
+      → IsRead first to (record { reading = stopped t r; text = kept })
+  at_stop More r n was read h = absurd (n refl)
+  at_stop End r n was read h = record {
+    text = old ++ [];
+    taken = Consumes-trans first from to old [] was h.0;
+    read = λ has. subst (λ t. IsReading t r) (sym (append-nil old)) (read has);
+    whole = inr h.1;
+    lost = [];
+    parts = ap (λ t. t ++ []) (sym h.2);
+  }
+  at_stop NoRoom r n was read h = record {
+    text = old ++ h.0;
+    taken = Consumes-trans first from to old h.0 was h.1;
+    read = λ has. absurd (has refl);
+    whole = inl refl;
+    lost = h.0;
+    parts = ap (λ t. t ++ h.0) (sym h.2);
+  }
 
 -- a reading that needs no more
 pub settled : (r : Read) → ((e : WireFault) → r ≡ Need e → ⊥) → needs_more r ≡ false

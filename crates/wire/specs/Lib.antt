@@ -5,3 +5,4 @@ pub mod Laws
 pub mod ShortAnswers
 pub mod Serving
 pub mod Tokens
+pub mod Logging

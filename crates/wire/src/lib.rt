@@ -3,6 +3,7 @@
 
 mod answer;
 pub mod laws;
+pub mod logging;
 mod members;
 mod order;
 pub mod serving;

@@ -24,6 +24,14 @@ pub enum ServeFault {
 /// How much is read at a time.
 const CHUNK: usize = 4_096;
 
+/// What was read of a reader.
+#[derive(Drop)]
+pub struct Heard {
+    pub reading: Reading,
+    /// The text that has this reading, or a beginning of it where there was no memory.
+    pub text: Vec<u8>,
+}
+
 /// What came of one read.
 enum Taken {
     /// The text has grown.
@@ -66,13 +74,13 @@ fn stopped(stop: Taken, fault: WireFault) -> Reading
     }
 }
 
-/// Reads until no more bytes are needed or the reader comes to its end. What was read then has this reading, which is
-/// `Bad` with `W90` where there was no memory for what was read. The fault is `Read` where the reader fails.
+/// Reads until no more bytes are needed or the reader comes to its end. The reading is `Bad` with `W90` where there was no
+/// memory for what was read. The fault is `Read` where the reader fails.
 pub fn read_whole<R: Read>(
     alloc: Global,
     routes: &mut RouteTable,
     reader: &mut R,
-) -> Result<Reading, ServeFault>
+) -> Result<Heard, ServeFault>
     ensures read { IfOk result (IsRead (R.remaining reader.old) (R.remaining reader.new)) }
     ensures fault { IfErr result (λ e. e ≡ ServeFault.Read) }
 {
@@ -80,11 +88,14 @@ pub fn read_whole<R: Read>(
     loop {
         let fault = match read_request(alloc, routes, text.as_slice()) {
             Reading::Need(fault) => fault,
-            reading => return Ok(reading),
+            reading => return Ok(Heard { reading, text }),
         };
         match read_more(reader, &mut text)? {
             Taken::More => {}
-            stop => return Ok(stopped(stop, fault)),
+            stop => {
+                let reading = stopped(stop, fault);
+                return Ok(Heard { reading, text });
+            }
         }
     }
 }

@@ -9,6 +9,8 @@
 #[cfg(test)]
 mod answer_tests;
 #[cfg(test)]
+mod logging_tests;
+#[cfg(test)]
 mod memory;
 #[cfg(test)]
 mod serving_tests;

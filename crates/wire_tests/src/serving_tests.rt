@@ -8,7 +8,7 @@ use std::io;
 use std::io::Write;
 use std::process::Abort;
 use values::{Name, Title};
-use wire::serving::{read_whole, write_bytes};
+use wire::serving::{Heard, read_whole, write_bytes};
 use wire::{Answer, ServeFault};
 
 // A writer that holds back what it takes until it is flushed.
@@ -67,9 +67,23 @@ fn told(alloc: Global, text: &[u8]) -> Option<WireFault> {
     let mut reader = text;
     let mut routes = RouteTable::new();
     match read_whole(alloc, &mut routes, &mut reader) {
-        Ok(Reading::Request(_)) => None,
-        Ok(Reading::Need(fault)) | Ok(Reading::Bad(fault)) => Some(fault),
+        Ok(heard) => fault_of(heard, text),
         Err(ServeFault::Read) | Err(ServeFault::Write) => Some(WireFault::Memory),
+    }
+}
+
+// The fault of what was heard, which is the whole text.
+fn fault_of(heard: Heard, text: &[u8]) -> Option<WireFault> {
+    let Heard {
+        reading,
+        text: kept,
+    } = heard;
+    let is_whole = kept.as_slice() == text;
+    drop(kept);
+    match reading {
+        Reading::Request(_) if is_whole => None,
+        Reading::Need(fault) | Reading::Bad(fault) => Some(fault),
+        Reading::Request(_) => Some(WireFault::Length),
     }
 }
 

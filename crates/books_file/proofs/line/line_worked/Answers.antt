@@ -1,16 +1,14 @@
 use Rattle.books_file.proofs.line.line_worked.Goals as goal
 
-pub returns-in-Ok-close_files : goal.returns-in-Ok-close_files
-returns-in-Ok-close_files g c =
+pub returns-in-Ok-close_files-clause-done : goal.returns-in-Ok-close_files-clause-done
+returns-in-Ok-close_files-clause-done g c =
     let first = c.in-Ok.ensures in
     let then = c.in-Ok-worked.ensures in
     record {
-      done = record {
-        opened = c.in-Ok.conn;
-        closed = c.in-Ok-worked.conn;
-        found = λ clean. (first.opened (then.clean clean), first.found (then.clean clean));
-        worked = then.worked;
-        told = then.told;
-        copied = c.in-Ok-close_files.ensures.copied;
-      };
+      opened = c.in-Ok.conn;
+      closed = c.in-Ok-worked.conn;
+      found = λ clean. (first.opened (then.clean clean), first.found (then.clean clean));
+      worked = then.worked;
+      told = then.told;
+      copied = c.in-Ok-close_files.ensures.copied;
     }

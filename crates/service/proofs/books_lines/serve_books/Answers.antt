@@ -3,14 +3,16 @@ use Rattle.sqlite.specs.Held.{state}
 use Rattle.sqlite.specs.State.{HasCleanDisk}
 use Rattle.store.specs.Books.{HoldsBooks}
 use Rattle.house.specs.House.{books_of}
-use Rattle.service.specs.Serving.{HasServed}
-use Rattle.service.proofs.Serving.{keeps_run}
+use Rattle.service.specs.Serving.{HasLogged}
+use Rattle.service.proofs.Serving.{keeps_logged}
 use Rattle.service.proofs.books_lines.serve_books.Goals as goal
 
 pub returns-clause-served : goal.returns-clause-served
 returns-clause-served g c clean first acts history holds leaves =
     let at = c.close-2.ensures.same ∙ ap (λ b. b.conn) c.close.ensures in
-    keeps_run g.S.Store first acts c.args.max c.args.books (books_of c.serve_port-end.new.house) c.close-2.result
-    (subst (λ b. HasServed g.S.Store first acts c.args.max b (books_of c.serve_port-end.new.house)) c.new-house.ensures
+    let after = books_of c.serve_port-end.new.house in
+    let old = g.L.Write.contents c.args.log.now in
+    let new = g.L.Write.contents c.serve_port-end.new.log in
+    keeps_logged g.S.Store first acts c.args.max c.args.books after c.close-2.result at leaves c.args.logged old new
+    (subst (λ b. HasLogged g.S.Store first acts c.args.max b after c.args.logged old new) c.new-house.ensures
     (c.serve_port-end.ensures.served (subst (λ h. HasCleanDisk (state g.S.Store h)) at clean) first acts history (subst (HoldsBooks g.S.Store first acts) (sym c.new-house.ensures) holds)))
-    at leaves

@@ -3,14 +3,16 @@ use Rattle.command_line.specs.declared.fault.Fault.TheVariants.{Io}
 use Rattle.house.specs.House.{books_of}
 use Rattle.service.specs.Serving.{IsPortTold}
 use Rattle.service.proofs.Importing.{by_fault}
-use Rattle.service.proofs.Serving.{none_served}
+use Rattle.service.proofs.Serving.{none_logged}
 use Rattle.service.proofs.books_lines.serve_port.Goals as goal
 
 pub returns-in_err-listener-clause-served : goal.returns-in_err-listener-clause-served
-returns-in_err-listener-clause-served g c clean first acts history holds = none_served g.S.Store first acts c.args.max (books_of c.args.house.now) history holds
+returns-in_err-listener-clause-served g c clean first acts history holds =
+    none_logged g.S.Store first acts c.args.max (books_of c.args.house.now) c.args.logged (g.L.Write.contents c.args.log.now) history holds
 
 pub returns-in_err-tell_port-clause-served : goal.returns-in_err-tell_port-clause-served
-returns-in_err-tell_port-clause-served g c clean first acts history holds = none_served g.S.Store first acts c.args.max (books_of c.args.house.now) history holds
+returns-in_err-tell_port-clause-served g c clean first acts history holds =
+    none_logged g.S.Store first acts c.args.max (books_of c.args.house.now) c.args.logged (g.L.Write.contents c.args.log.now) history holds
 
 pub returns-in_err-listener-clause-told : goal.returns-in_err-listener-clause-told
 returns-in_err-listener-clause-told g c =

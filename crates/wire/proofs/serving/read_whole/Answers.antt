@@ -1,4 +1,4 @@
-use Rattle.std.proofs.Common.{◌≡◌, inl, sym, subst, refl, rules}
+use Rattle.std.proofs.Common.{◌≡◌, [], inl, sym, subst, refl, rules, append-nil}
 use Rattle.std.specs.Io.KnownBytes.{Consumes}
 use Rattle.std.proofs.KnownBytes.{Consumes-nil}
 use Rattle.requests.specs.Requests.{IsReading}
@@ -27,11 +27,13 @@ returns-in_default-clause-read g c = record {
   taken = c.loop-fault.invariant;
   read = λ has. subst (λ t. IsReading t c.read_request.result) c.as_slice.ensures.value (c.read_request.ensures has);
   whole = inl (settled c.read_request.result c.in_default.not-Need);
+  lost = [];
+  parts = sym (append-nil c.loop-fault.text.items);
 }
 
 pub returns-in_default-2-clause-read : goal.returns-in_default-2-clause-read
 returns-in_default-2-clause-read g c =
     let need = Need c.in-Need.fault in
-    rw c.stopped.ensures
+    rw c.stopped-reading.ensures
     (at_stop _ _ _ _ _ c.in_ok-stop.stop need c.in_default-2.not-More c.loop-fault.invariant
     (λ has. subst (λ t. IsReading t need) c.as_slice.ensures.value (c.in-Need.ensures has)) c.in_ok-stop.ensures.taken)
