@@ -20,6 +20,7 @@ fn told<S: Alter>(
 ) -> (u64, u64) {
     let mut known = Known {
         lines: OpenLines::new(alloc),
+        urgent: OpenLines::new(alloc),
         bounds: Bounds {
             items: ITEMS_MAX,
             bins,

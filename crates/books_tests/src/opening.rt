@@ -131,8 +131,8 @@ fn an_empty_database_is_no_books(rt: HostRuntime) {
     run(&rt, rt.alloc(), EMPTY.as_slice());
 }
 
-// Books with the number of an older or of a later schema, those with another mark and those without a row of `meta` are foreign; so is a day that no
-// books have.
+// Books with the number of an older or of a later schema, those with another mark and those without a row of `meta` are
+// foreign; so is a day that no books have.
 static OTHER_META: [&[Step]; 1] = [&[
     Step::Make,
     Step::On(On::Run("UPDATE meta SET version = 2")),

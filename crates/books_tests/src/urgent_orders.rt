@@ -42,7 +42,7 @@ POST /shipments {"key":"K-15","order":"S-3"} => 200 {"act":15,"shipment":1}
 GET /orders/S-3 => 200 {"class":"URGENT","customer":"Mill Inn","lines":[{"gtin":"09506000134352","ordered":10,"reserved":[{"lot":"L2","qty":3}],"shipped":7,"short":0,"staged":[]}],"order":"S-3","state":"OPEN"}
 "#;
 
-static TAKEN: &str = "SELECT ord || '|' || act FROM urgents ORDER BY ord";
+const TAKEN: &str = "SELECT ord || '|' || act FROM urgents ORDER BY ord";
 
 static IN_FRONT: [Step; 2] = [
     Step::House(&[Asked::Each(Table::ServedFirst)]),

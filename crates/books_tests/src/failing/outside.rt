@@ -42,7 +42,6 @@ INSERT INTO orders VALUES ('S 1', 8, 'Corner Shop', 'OPEN') => GET /shortages/09
 UPDATE orders SET act = -1 WHERE ord = 'S-1' => GET /orders/S-1
 UPDATE orders SET customer = '' WHERE ord = 'S-1' => GET /picklists/S-1
 UPDATE orders SET state = 'open' WHERE ord = 'S-1' => GET /orders/S-1
-INSERT INTO urgents VALUES ('S_3', 19) => POST /bins {"key":"N-1","bin":"B-01","kind":"STORE"}
 UPDATE urgents SET act = -1 WHERE ord = 'S-3' => GET /orders/S-3
 INSERT INTO lines VALUES ('S-1', '095060001343520', 12, 0) => GET /orders/S-1
 UPDATE lines SET ordered = 1000000001 WHERE ord = 'S-1' => GET /shortages/09506000134352
@@ -72,6 +71,7 @@ UPDATE repeats SET reply = '1234567890123456789012345678901234567890123456789012
 static UNSEEN: &str =
     r#"INSERT INTO recalls VALUES ('0950600013435X', 'L1', 13) => GET /stock/09506000134352
 INSERT INTO stock VALUES ('', 'L1', 'A-01', 10) => GET /stock/09506000134352
+INSERT INTO urgents VALUES ('S_3', 19) => GET /orders/S-3
 INSERT INTO lines VALUES ('s-2', '09506000134352', 12, 0) => GET /orders/S-2
 INSERT INTO shipments VALUES (-1, 11, 20577, 'S-1') => GET /notices/09506000134352/L2
 INSERT INTO shiplines VALUES (1, '0950600013435', 'L2', 1) => GET /notices/09506000134352/L2

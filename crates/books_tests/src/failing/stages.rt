@@ -9,8 +9,8 @@ use std::alloc::Global;
 use std::process::Abort;
 
 // The day's work: two items and three bins; two customers and their lots; units are picked; a recall takes seven of them
-// back; a goods-in file; a new day; days that the lots of an item must have left; and an urgent order. A second answer is that of the request
-// that comes again.
+// back; a goods-in file; a new day; days that the lots of an item must have left; and an urgent order. A second answer is
+// that of the request that comes again.
 static DAY: &str =
     r#"POST /items {"key":"K-1","gtin":"09506000134352","name":"Oat drink"} => 200 {"act":1}
 POST /items {"key":"K-2","gtin":"04012345000016","name":"Rye bread"} => 200 {"act":2}
