@@ -1,11 +1,11 @@
 #!/usr/bin/env python3
-"""Makes src/old_bytes.rt: the files of books of schema 1 that the tests open.
+"""Makes src/old_bytes.rt: the files of books of schemas 1 and 2 that the tests open.
 
-    python3 old_files.py LOTD > src/old_bytes.rt && rt fmt
+    python3 old_files.py FIRST SECOND > src/old_bytes.rt && rt fmt
 
-LOTD is the program as it was while schema 1 was the newest; its books are made over pages of 512 bytes, with each of the
-fifteen commands in them. The second file is what sqlite3 makes of a dump of the first. Needs sqlite3. What is not in a part
-of a file is zeros.
+FIRST is the program as it was while schema 1 was the newest, SECOND that of schema 2; their books are made over pages of
+512 bytes, with each of the fifteen commands of schema 1 in them. Of those of schema 1 there is also what sqlite3 makes of a
+dump. Needs sqlite3. What is not in a part of a file is zeros.
 """
 import os
 import re
@@ -92,8 +92,8 @@ def asks(port, path, body):
 
 def make(lotd, db, port=18099):
     empty_file(db)
-    subprocess.run([*lotd, "init", "--db", db, "--day", "2026-05-04"], check=True, stdout=subprocess.DEVNULL)
-    server = subprocess.Popen([*lotd, "serve", "--db", db, "--port", str(port), "--max", str(len(ACTS))], stdout=subprocess.DEVNULL)
+    subprocess.run([lotd, "init", "--db", db, "--day", "2026-05-04"], check=True, stdout=subprocess.DEVNULL)
+    server = subprocess.Popen([lotd, "serve", "--db", db, "--port", str(port), "--max", str(len(ACTS))], stdout=subprocess.DEVNULL)
     for path, body, expected in ACTS:
         got = asks(port, path, body)
         if got != expected:
@@ -129,15 +129,17 @@ def told(name, what, db):
 
 
 def main():
-    lotd = sys.argv[1:]
+    first_program, second_program = sys.argv[1:]
     with tempfile.TemporaryDirectory() as room:
-        db, new = os.path.join(room, "first.db"), os.path.join(room, "restored.db")
-        make(lotd, db)
-        restore(db, new)
-        print("//! The bytes of files of books of schema 1, as `old_files.py` makes them.\n")
+        first, restored, second = (os.path.join(room, name) for name in ("first.db", "restored.db", "second.db"))
+        make(first_program, first)
+        restore(first, restored)
+        make(second_program, second)
+        print("//! The bytes of files of books of schemas 1 and 2, as `old_files.py` makes them.\n")
         print("use crate::old_files::OldFile;\n")
-        print(told("FIRST_SCHEMA", "Books of schema 1 as the program made them.", db))
-        print(told("FIRST_SCHEMA_RESTORED", "The same as sqlite3 made them of a dump.", new), end="")
+        print(told("FIRST_SCHEMA", "Books of schema 1 as the program made them.", first))
+        print(told("FIRST_SCHEMA_RESTORED", "The same as sqlite3 made them of a dump.", restored))
+        print(told("SECOND_SCHEMA", "Books of schema 2 as the program made them.", second), end="")
 
 
 main()

@@ -1,12 +1,12 @@
-//! Files of books of schema 1 that an earlier program left, and that sqlite3 made of a dump: they open, tell what was done,
-//! and go on.
+//! Files of books of schemas 1 and 2 that earlier programs left, and that sqlite3 made of a dump: they open, tell what was
+//! done, and go on.
 
 ghost use Rattle.std.specs.Prelude.{◌<◌};
 
 use crate::asking::Asked;
 use crate::disk::run_from;
 use crate::files::Pair;
-use crate::old_bytes::{FIRST_SCHEMA, FIRST_SCHEMA_RESTORED};
+use crate::old_bytes::{FIRST_SCHEMA, FIRST_SCHEMA_RESTORED, SECOND_SCHEMA};
 use crate::steps::{On, Step};
 use crate::table::{Left, Table};
 use std::alloc::Global;
@@ -72,8 +72,8 @@ fn files_of(rt: &impl Abort, alloc: Global, old: &OldFile) -> Pair {
     Pair::holding(rt, alloc, bytes)
 }
 
-fn opens(rt: &impl Abort, alloc: Global, old: &OldFile) {
-    run_from(rt, alloc, files_of(rt, alloc, old), OPENED.as_slice());
+fn opens(rt: &impl Abort, alloc: Global, old: &OldFile, steps: &[&[Step]]) {
+    run_from(rt, alloc, files_of(rt, alloc, old), steps);
 }
 
 // The rows of the tables of schema 1 behind `meta` after the acts of `old_files.py`: five of twelve units shipped to the
@@ -95,7 +95,8 @@ pub(crate) static OLD_ROWS: [&str; 13] = [
     "K/K-1|1|ITEM\n09506000134352\nOat drink|{\"act\":1}\nK/K-2|2|BIN\nA-01\nSTORE|{\"act\":2}\nK/K-3|3|BIN\nA-02\nSTORE|{\"act\":3}\nD/D-1/1|4|RECEIVE\n09506000134352\nL1\n2026-06-30\nA-01\n10|{\"act\":4}\nD/D-1/2|5|RECEIVE\n09506000134352\nL2\n2026-05-31\nA-01\n10|{\"act\":5}\nD/D-1/3|6|RECEIVE\n09506000134352\nL3\n2026-07-31\nA-02\n4|{\"act\":6}\nK/K-7|7|MOVE\n09506000134352\nL1\nA-01\nA-02\n2|{\"act\":7}\nK/K-8|8|COUNT\n09506000134352\nL2\nA-01\n9|{\"act\":8,\"change\":-1}\nK/K-9|9|ADJUST\n09506000134352\nL3\nA-02\n1|{\"act\":9,\"change\":1}\nK/K-10|10|HOLD\n09506000134352\nL3|{\"act\":10,\"returned\":0}\nK/K-11|11|RELEASE\n09506000134352\nL3|{\"act\":11}\nK/K-12|12|ORDER\nS-1\nCorner Shop\n09506000134352\n12|{\"act\":12,\"short\":0}\nK/K-13|13|ORDER\nS-2\nHarbour Cafe\n09506000134352\n3|{\"act\":13,\"short\":0}\nK/K-14|14|CANCEL\nS-2|{\"act\":14}\nK/K-15|15|PICK\nS-1\n09506000134352\nL2\nA-01\n7|{\"act\":15}\nK/K-16|16|UNPICK\nS-1\n09506000134352\nL2\nA-01\n2|{\"act\":16}\nK/K-17|17|SHIP\nS-1|{\"act\":17,\"shipment\":1}\nK/K-18|18|ORDER\nS-3\nHarbour Cafe\n09506000134352\n6|{\"act\":18,\"short\":0}\nK/K-19|19|RECALL\n09506000134352\nL2|{\"act\":19,\"returned\":0}\nK/K-20|20|PICK\nS-1\n09506000134352\nL1\nA-01\n3|{\"act\":20}\nK/K-21|21|OPENDAY\n2026-05-05|{\"act\":21,\"returned\":0}\n",
 ];
 
-// What the books tell, an act that came before, and how they go on: the staged units are shipped under the next number.
+// What the books tell, an act that came before, and how they go on: the staged units are shipped under the next number, and
+// an urgent order gets all that is left of the lot, and two of the next, of which the shop gets the rest.
 pub(crate) static OLD_TOLD: &str = r#"
 GET /orders/S-1 => 200 {"class":"NORMAL","customer":"Corner Shop","lines":[{"gtin":"09506000134352","ordered":12,"reserved":[{"lot":"L1","qty":4}],"shipped":5,"short":0,"staged":[{"lot":"L1","qty":3}]}],"order":"S-1","state":"OPEN"}
 GET /orders/S-3 => 200 {"class":"NORMAL","customer":"Harbour Cafe","lines":[{"gtin":"09506000134352","ordered":6,"reserved":[{"lot":"L1","qty":3},{"lot":"L3","qty":3}],"shipped":0,"short":0,"staged":[]}],"order":"S-3","state":"OPEN"}
@@ -105,29 +106,62 @@ POST /picks {"key":"K-15","order":"S-1","gtin":"09506000134352","lot":"L2","bin"
 POST /bins {"key":"K-15","bin":"A-03","kind":"STORE"} => 409 {"code":"K01"}
 POST /shipments {"key":"K-22","order":"S-1"} => 200 {"act":22,"shipment":2}
 GET /cards/09506000134352/L1 => 200 |STOCK CARD 09506000134352 Oat drink|LOT L1 EXPIRY 2026-06-30|            4 2026-05-04 RECEIPT  D-1/1                              10         10|           22 2026-05-05 SHIPMENT 2                                  -3          7|IN HOUSE 7
+POST /urgents {"key":"K-23","order":"S-4","customer":"Mill Inn","lines":[{"gtin":"09506000134352","qty":9}]} => 200 {"act":23,"short":0}
+GET /orders/S-4 => 200 {"class":"URGENT","customer":"Mill Inn","lines":[{"gtin":"09506000134352","ordered":9,"reserved":[{"lot":"L1","qty":7},{"lot":"L3","qty":2}],"shipped":0,"short":0,"staged":[]}],"order":"S-4","state":"OPEN"}
+GET /shortages/09506000134352 => 200 |SHORTAGES 09506000134352 Oat drink|SHORT S-1 1 Corner Shop|SHORT S-3 6 Harbour Cafe|TOTAL 7
 "#;
 
-// The rows as the file was left, and once the books were opened: what a later schema changes and adds is told behind
-// `House`. Each item asks for no days.
-static OPENED: [&[Step]; 2] = [
+// The books are brought up as a house opens them, and what they had stays.
+const BROUGHT: &[Step] = &[
+    Step::House(&[]),
+    Step::On(On::HasMeta("1|LOTSTOCK|3|20578|21|1\n")),
+    Step::On(On::KeepsRows(Left::Old)),
+    Step::On(On::Gives("SELECT ord FROM urgents", "")),
+];
+
+const GOES_ON: &[Step] = &[Step::House(&[Asked::Each(Table::OldTold)])];
+
+const DAYS_LEFT: &str = "SELECT gtin || '|' || days FROM least";
+
+// Each item asks for no days once the books are brought up.
+static OF_THE_FIRST: [&[Step]; 4] = [
     &[
         Step::On(On::HasMeta("1|LOTSTOCK|1|20578|21|1\n")),
         Step::On(On::KeepsRows(Left::Old)),
-        Step::House(&[]),
-        Step::On(On::HasMeta("1|LOTSTOCK|3|20578|21|1\n")),
-        Step::On(On::KeepsRows(Left::Old)),
-        Step::On(On::Gives("SELECT gtin || days FROM least", "095060001343520\n")),
-        Step::On(On::Gives("SELECT ord FROM urgents", "")),
     ],
-    &[Step::House(&[Asked::Each(Table::OldTold)])],
+    BROUGHT,
+    &[Step::On(On::Gives(DAYS_LEFT, "09506000134352|0\n"))],
+    GOES_ON,
+];
+
+// An item asks for the days that it asked for before.
+static OF_THE_SECOND: [&[Step]; 4] = [
+    &[
+        Step::On(On::HasMeta("1|LOTSTOCK|2|20578|21|1\n")),
+        Step::On(On::KeepsRows(Left::Old)),
+        Step::On(On::Run("UPDATE least SET days = 1")),
+    ],
+    BROUGHT,
+    &[Step::On(On::Gives(DAYS_LEFT, "09506000134352|1\n"))],
+    GOES_ON,
 ];
 
 #[test]
 fn opens_books_of_the_first_schema(rt: HostRuntime) {
-    opens(&rt, rt.alloc(), &FIRST_SCHEMA);
+    opens(&rt, rt.alloc(), &FIRST_SCHEMA, OF_THE_FIRST.as_slice());
 }
 
 #[test]
 fn opens_books_of_the_first_schema_restored_from_a_dump(rt: HostRuntime) {
-    opens(&rt, rt.alloc(), &FIRST_SCHEMA_RESTORED);
+    opens(
+        &rt,
+        rt.alloc(),
+        &FIRST_SCHEMA_RESTORED,
+        OF_THE_FIRST.as_slice(),
+    );
+}
+
+#[test]
+fn opens_books_of_the_second_schema(rt: HostRuntime) {
+    opens(&rt, rt.alloc(), &SECOND_SCHEMA, OF_THE_SECOND.as_slice());
 }
