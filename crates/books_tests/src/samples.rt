@@ -3,7 +3,7 @@ use commands::limits::{CARD_NOTE_MAX, KEY_TEXT_MAX, UNITS_MAX};
 use commands::{
     BinKind, BinRow, CardKind, CardRow, ItemRow, LineRow, Listed, LotRow, MetaRow, OrderRow,
     OrderState, RecallRow, RepeatRow, ReservedRow, ShiplineRow, ShipmentRow, Short, StagedRow,
-    StockRow,
+    StockRow, UrgentRow,
 };
 use label::{BusinessDay, Day};
 use std::alloc::Global;
@@ -131,6 +131,13 @@ pub(crate) fn open_order(rt: &impl Abort) -> OrderRow {
         order: name(rt, b"S-2"),
         state: OrderState::Open,
         ..order(rt)
+    }
+}
+
+pub(crate) fn urgent(rt: &impl Abort) -> UrgentRow {
+    UrgentRow {
+        order: name(rt, b"S-1"),
+        act: 4,
     }
 }
 

@@ -22,6 +22,7 @@ use order_tables::lines::Lines;
 use order_tables::orders::{Open, Orders};
 use order_tables::reserved::Reserved;
 use order_tables::staged::Staged;
+use order_tables::urgents::Urgents;
 use sqlite::{Alter, Connection, Transaction};
 use std::alloc::Global;
 use std::process::Abort;
@@ -145,6 +146,8 @@ fn puts_orders<S: Alter>(rt: &impl Abort, tx: &mut Transaction<'_, S>) {
         rt,
         put::<Reserved, S>(tx, &samples::other_reserved(rt), true),
     );
+    is_done(rt, add::<Urgents, S>(tx, &samples::urgent(rt)));
+    is_refused(rt, add::<Urgents, S>(tx, &samples::urgent(rt)));
 }
 
 fn puts_history<S: Alter>(rt: &impl Abort, alloc: Global, tx: &mut Transaction<'_, S>) {
@@ -177,11 +180,13 @@ enum Sought {
     StagedOfOrder,
     Reserved,
     ReservedOfOrder,
+    Urgent,
+    NoUrgent,
     Shipment,
     Repeat,
 }
 
-static SOUGHT: [Sought; 20] = [
+static SOUGHT: [Sought; 22] = [
     Sought::Meta,
     Sought::Item,
     Sought::Bin,
@@ -200,6 +205,8 @@ static SOUGHT: [Sought; 20] = [
     Sought::StagedOfOrder,
     Sought::Reserved,
     Sought::ReservedOfOrder,
+    Sought::Urgent,
+    Sought::NoUrgent,
     Sought::Shipment,
     Sought::Repeat,
 ];
@@ -332,6 +339,20 @@ fn finds_units<S: Alter>(
         Sought::StagedOfOrder => only(rt, seek::<Staged, Name, S>(alloc, tx, &order)).qty == 7,
         Sought::Reserved => is_reserved(rt, seek::<Reserved, Gtin, S>(alloc, tx, &gtin)),
         Sought::ReservedOfOrder => only(rt, seek::<Reserved, Name, S>(alloc, tx, &order)).qty == 8,
+        _ => finds_urgents(rt, alloc, tx, sought),
+    }
+}
+
+fn finds_urgents<S: Alter>(
+    rt: &impl Abort,
+    alloc: Global,
+    tx: &mut Transaction<'_, S>,
+    sought: Sought,
+) -> bool {
+    let (order, other) = (samples::name(rt, b"S-1"), samples::name(rt, b"S-2"));
+    match sought {
+        Sought::Urgent => only(rt, seek::<Urgents, Name, S>(alloc, tx, &order)).act == 4,
+        Sought::NoUrgent => count(rt, seek::<Urgents, Name, S>(alloc, tx, &other)) == 0,
         _ => finds_history(rt, alloc, tx, sought),
     }
 }
