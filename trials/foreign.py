@@ -16,12 +16,13 @@ import server
 
 lotd, room, port = server.program(), server.room(), server.number("PORT", 18083)
 OATS, RYE = "09506000134352", "04012345000016"
-TABLES = "meta items bins lots recalls stock orders lines staged reserved shipments shiplines cards repeats".split()
+TABLES = "meta items bins lots recalls stock orders lines staged reserved shipments shiplines cards repeats least urgents".split()
 HEADER = "delivery,line,gtin,lot,expiry,bin,qty\n"
 FOREIGN = (503, '{"code":"W91"}')
 REFUSED = (1, b"", b"lotd: foreign books\n")
 
-# What the warehouse did: three lots, one of them held; two orders, one shipped in part; a recall, and units staged.
+# What the warehouse did: three lots, one of them held; two orders, one shipped in part; a recall, and units staged; days that
+# the lots of an item must have left, and an urgent order.
 FIRST_RECEIPT = '{"delivery":"D-1","line":1,"label":"01%s1726063010L1","bin":"A-01","qty":10}' % OATS
 WORK = [
     ("/items", '{"key":"K-1","gtin":"%s","name":"Oat drink"}' % OATS),
@@ -38,6 +39,8 @@ WORK = [
     ("/orders", '{"key":"K-12","order":"S-2","customer":"Harbour Cafe","lines":[{"gtin":"%s","qty":8}]}' % OATS),
     ("/recalls", '{"key":"K-13","gtin":"%s","lot":"L2"}' % OATS),
     ("/picks", '{"key":"K-14","order":"S-1","gtin":"%s","lot":"L1","bin":"A-01","qty":2}' % OATS),
+    ("/leasts", '{"key":"K-15","gtin":"%s","days":1}' % OATS),
+    ("/urgents", '{"key":"K-16","order":"S-9","customer":"Mill Inn","lines":[{"gtin":"%s","qty":1}]}' % OATS),
 ]
 
 
@@ -54,6 +57,7 @@ ASKED = {
     "count": ("/counts", of_lot("N-5", "L1", ',"bin":"A-01","qty":9')),
     "adjustment": ("/adjustments", of_lot("N-6", "L1", ',"bin":"A-01","change":-1')),
     "order": ("/orders", '{"key":"N-7","order":"S-3","customer":"Corner Shop","lines":[{"gtin":"%s","qty":1}]}' % OATS),
+    "urgent": ("/urgents", '{"key":"N-16","order":"S-4","customer":"Mill Inn","lines":[{"gtin":"%s","qty":1}]}' % OATS),
     "cancel": ("/cancels", '{"key":"N-8","order":"S-2"}'),
     "pick": ("/picks", of_lot("N-9", "L1", ',"order":"S-2","bin":"A-01","qty":1')),
     "unpick": ("/unpicks", of_lot("N-10", "L1", ',"order":"S-1","bin":"A-01","qty":1')),
@@ -61,10 +65,12 @@ ASKED = {
     "hold": ("/holds", of_lot("N-12", "L1", "")),
     "release": ("/releases", of_lot("N-13", "L4", "")),
     "recall": ("/recalls", of_lot("N-14", "L1", "")),
+    "least": ("/leasts", '{"key":"N-17","gtin":"%s","days":2}' % OATS),
     "day": ("/days", '{"key":"N-15","day":"2026-05-05"}'),
     "goodsin": ("/goodsin", HEADER + "D-4,1,%s,L5,261130,A-01,1\n" % OATS),
     "repeat": ("/receipts", FIRST_RECEIPT),
     "show order": ("/orders/S-1", None),
+    "show urgent": ("/orders/S-9", None),
     "show stock": ("/stock/" + OATS, None),
     "pick list": ("/picklists/S-1", None),
     "shortages": ("/shortages/" + OATS, None),
@@ -152,6 +158,7 @@ EXPIRIES = [day("1951-01-01") - 1, day("2249-12-31") + 1, -(2**63), 2**63 - 1]
 DAYS = [day("2000-01-01") - 1, day("2199-12-31") + 1, -(2**63), 2**63 - 1]
 ACTS = [-1, 10**12 + 1, -(2**63), 2**63 - 1]
 UNITS = [-1, 10**9 + 1, -(2**63), 2**63 - 1]
+DAYS_LEFT = [-1, 3651, -(2**63), 2**63 - 1]
 FLAGS = [-1, 2]
 KINDS = [b"", b"store", b"STORE ", b"RETURNS"]
 STATES = [b"", b"open", b"OPEN\x00", b"SHIPPED"]
@@ -159,8 +166,9 @@ POSTINGS = [b"", b"receipt", b"RECEIPTS", b"MOVE"]
 
 # Who reads what. An act on the oats but a shipment reads all rows of the item, its lots that have units or are named, and
 # the bins and open orders concerned; a shipment its order, and what is staged of the item; what is reserved for an order a
-# pick of it alone. An order is shown by its own rows. The first act reads the open orders.
-PLANNED = "receipt move count adjustment order cancel pick unpick hold release recall day goodsin".split()
+# pick of it alone. An order is shown by its own rows, and what the items of its lines ask for. The first act reads the open
+# orders, each with its row of `urgents`.
+PLANNED = "receipt move count adjustment order urgent cancel pick unpick hold release recall least day goodsin".split()
 ACTS_ON_ITEM = PLANNED + ["shipment"]
 ACTS_ON_ORDER = ["unpick", "shipment"]
 ALL_ACTS = ["item", "bin"] + ACTS_ON_ITEM
@@ -240,6 +248,10 @@ COLUMNS = [
     ("repeats", "act", "k = 'D/D-1/1'", ACTS, ["repeat"], None),
     ("repeats", "spell", "k = 'D/D-1/1'", [], [], "any text is a value of it"),
     ("repeats", "reply", "k = 'D/D-1/1'", [b"x" * 97, b"x" * 1000], ["repeat"], None),
+    ("least", "gtin", "gtin = '%s'" % OATS, GTINS, ["day"], None),
+    ("least", "days", "gtin = '%s'" % OATS, DAYS_LEFT, ["show stock"] + SHOWN_ORDER + PLANNED, None),
+    ("urgents", "ord", "ord = 'S-9'", NAMES, [], SOUGHT),
+    ("urgents", "act", "ord = 'S-9'", ACTS, ["show urgent"] + OF_ORDERS, None),
 ]
 
 
@@ -371,7 +383,7 @@ print("  %d rows outside their values: %d refused where they are read, every row
 # Rows that contradict one another, as no act leaves them, and who meets it.
 CONTRADICTIONS = [
     ("a line of a shipment that is gone", "DELETE FROM shipments", ["notice"]),
-    ("a shipment of an order that is gone", "UPDATE shipments SET ord = 'S-9'", ["notice"]),
+    ("a shipment of an order that is gone", "UPDATE shipments SET ord = 'S-8'", ["notice"]),
 ]
 for name, text, readers in CONTRADICTIONS:
     is_read(name, changed(sound_books, text), readers)

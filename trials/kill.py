@@ -43,6 +43,7 @@ WORK = [
     ("/goodsin", GOODS),
     ("/shipments", '{"key":"K-15","order":"S-1"}'),
     ("/days", '{"key":"K-16","day":"2026-05-05"}'),
+    ("/urgents", '{"key":"K-17","order":"S-3","customer":"Mill Inn","lines":[{"gtin":"09506000134352","qty":4}]}'),
 ]
 SHOWN = ["/stock/09506000134352", "/orders/S-1"]
 HEADER = b"HTTP/1.1 200 OK\r\n"

@@ -13,7 +13,7 @@ import server
 lotd, room, port = server.program(), server.room(), server.number("PORT", 18082)
 OATS = "09506000134352"
 TABLES = (
-    "meta items bins lots recalls stock orders lines staged reserved shipments shiplines cards repeats"
+    "meta items bins lots recalls stock orders lines staged reserved shipments shiplines cards repeats least urgents"
 ).split()
 INDEXES = ["reserved_by_gtin", "shiplines_of_lot", "staged_by_gtin"]
 
