@@ -187,7 +187,7 @@ fn number_served(place: u64) -> u64 {
         1 => 30,
         2..4 => 8 + place,
         4..21 => 9 + place,
-        _ => 10 + place,
+        _ => place.saturating_add(10),
     }
 }
 
@@ -196,9 +196,9 @@ fn expect_demands(rt: &impl Abort, demands: &[Demand]) {
     assert_eq!(rt; demands.len(), 40);
     for (place, demand) in demands.iter().enumerate() {
         let number = number_served(place as u64);
-        let need = 897 + number;
+        let need = number.saturating_add(897);
         assert_eq!(rt; demand.booking, number);
-        assert_eq!(rt; demand.need, if number == 30 { need - 4 } else { need });
+        assert_eq!(rt; demand.need, if number == 30 { 923 } else { need });
     }
 }
 

@@ -98,7 +98,7 @@ fn number_served(place: u64) -> u64 {
         0 => 150,
         1 => 399,
         2..52 => 98 + place,
-        _ => 99 + place,
+        _ => place.saturating_add(99),
     }
 }
 
@@ -108,10 +108,10 @@ fn expect_lines(rt: &impl Abort, alloc: Global, lines: &[ShortLine]) {
     for (place, line) in lines.iter().enumerate() {
         let number = number_served(place as u64);
         let own: OrderRow = filled(rt, alloc, "S-#|#|Shop #|OPEN", number);
-        let units = 8947 + number;
+        let units = number.saturating_add(8947);
         assert_eq!(rt; line.order.as_bytes(), own.order.as_bytes());
         assert_eq!(rt; line.customer.as_bytes(), own.customer.as_bytes());
-        assert_eq!(rt; line.qty, if number == 150 { units - 4 } else { units });
+        assert_eq!(rt; line.qty, if number == 150 { 9093 } else { units });
     }
 }
 
