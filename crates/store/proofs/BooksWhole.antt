@@ -1,12 +1,11 @@
 -- What books keep true of themselves: they are idle, and what they know of their tables is so.
 use Rattle.std.proofs.Common.{◌≡◌, List, Result, Ok, Err, IsTrue, false, subst, ◌∙◌, arith}
-use Rattle.std.specs.Prelude.{ℤ, Option, Some, None}
+use Rattle.std.specs.Prelude.{ℤ, Option, None}
 use Rattle.commands.specs.declared.refusal.Refusal.{Refusal}
 use Rattle.sqlite.specs.Held.{Held, state}
 use Rattle.sqlite.specs.State.{State, HasCleanDisk, Survives}
 use Rattle.sqlite.specs.Tree.{Trees}
 use Rattle.sqlite_trees.specs.declared.store.Store.{Ghosts}
-use Rattle.table_words.specs.Typed.{tables_in}
 use Rattle.machine.specs.Acts.{Act}
 use Rattle.machine.specs.Standing.{today}
 use Rattle.machine.specs.Tables.{tables_of}

@@ -1,5 +1,5 @@
 -- The shipments with units of a lot stand by number, as the tables have them.
-use Rattle.std.proofs.Common.{◌≡◌, ◌<◌, ◌≤◌, ℕ, suc, ◌+◌, Bool, true, false, not, cond, ◌&&◌, List, [], ◌∷◌, ◌++◌, map, filter, find, reverse, length, slice_get, Option, Some, None, inl, inr, refl, sym, ap, ◌∙◌, subst, arith, append_assoc, append-nil}
+use Rattle.std.proofs.Common.{◌≡◌, ◌<◌, ◌≤◌, ℕ, suc, ◌+◌, Bool, true, false, cond, ◌&&◌, List, [], ◌∷◌, map, filter, find, reverse, length, slice_get, Option, Some, None, inl, inr, refl, sym, ap, ◌∙◌, subst, arith}
 use Rattle.std.specs.Prelude.{ℤ, ◌==◌, nat_eq, nat_lt, if◌then◌else◌, option_map, is_some}
 use Rattle.std.specs.List.{AllByRecursion}
 use Rattle.std.proofs.lemmas.Bool.{cases_Bool, eqb-true}
@@ -8,31 +8,31 @@ use Rattle.std.proofs.lemmas.List.{reverse-append}
 use Rattle.std.proofs.lemmas.List.Sorted.{IsPermutation-reverse, IsPermutation-sym}
 use Rattle.sqlite_trees.specs.Tree.{IsAscending}
 use Rattle.sqlite_rules.specs.Lists.{Has}
-use Rattle.sqlite_rules.proofs.ListLemmas.{all_has, has_found, has_filtered}
+use Rattle.sqlite_rules.proofs.ListLemmas.{all_has}
 use Rattle.sqlite_keyed.proofs.ListLemmas.{all-append, all_weaker, all-filter, all_map, ascending-append, ascending-map, ascending-filter, filter_all}
 use Rattle.values.specs.Values.{same_text}
 use Rattle.values.specs.declared.lot.LotId.{LotId}
 use Rattle.commands.specs.declared.key.Key.{Key}
 use Rattle.commands.specs.declared.command.Command.{Command}
-use Rattle.commands.specs.declared.command.Command.TheVariants.{Order, Ship}
+use Rattle.commands.specs.declared.command.Command.TheVariants.{Order, Ship, Urgent}
 use Rattle.commands.specs.declared.rows.ItemRow.{ItemRow}
 use Rattle.commands.specs.declared.rows.OrderRow.{OrderRow}
 use Rattle.commands.specs.declared.rows.ShiplineRow.{ShiplineRow}
 use Rattle.commands.specs.declared.rows.ShipmentRow.{ShipmentRow}
 use Rattle.commands.specs.declared.views.ShippedUnits.{ShippedUnits}
-use Rattle.machine.specs.Acts.{Act, next_number}
+use Rattle.machine.specs.Acts.{Act}
 use Rattle.machine.specs.Postings.{balance, is_lot, is_shipment}
 use Rattle.machine.specs.Ledger.{postings}
 use Rattle.machine.specs.Planning.{order_state}
-use Rattle.machine.specs.Standing.{Placed, today, orders, order_named, has_order, shipments, shipments_after}
-use Rattle.machine.specs.Tables.{if_any, shipline_row, shipment_row, order_row, tables_of}
+use Rattle.machine.specs.Standing.{Placed, orders, order_named, has_order, shipments, shipments_after}
+use Rattle.machine.specs.Tables.{shipment_row, tables_of}
 use Rattle.machine.specs.Once.{IsHistory}
 use Rattle.machine.specs.Verdict.{verdict}
 use Rattle.machine.specs.Views.{shipments_of_lot, shipped_units, has_shipped_units, customer_of}
 use Rattle.machine.proofs.histories.Accepted.{ship_accepted}
 use Rattle.machine.proofs.histories.Notices.{traced}
 use Rattle.table_words.proofs.CellLemmas.{same_number, itself_number}
-use Rattle.each_row.proofs.Rising.{few_with_key, found_alike, found_wanted, one_order}
+use Rattle.each_row.proofs.Rising.{few_with_key, found_alike, found_wanted}
 use Rattle.history_tables.specs.ByKey.{AreByNumber}
 use Rattle.slices.specs.Shipped.{with_order, with_shipment, units_told}
 use Rattle.store.specs.Shipments.{later_shipments}

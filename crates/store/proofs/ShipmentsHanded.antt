@@ -1,7 +1,6 @@
 -- The shipments of a lot handed to a sink, one look-up after another.
-use Rattle.std.proofs.Common.{◌≡◌, ℕ, List, [], ◌∷◌, ◌++◌, map, filter, slice_get, Option, Some, None, refl, sym, ap, ◌∙◌, subst, append_assoc, append-nil}
+use Rattle.std.proofs.Common.{◌≡◌, ℕ, List, [], ◌∷◌, ◌++◌, map, slice_get, Option, Some, None, refl, sym, ap, ◌∙◌, subst, append_assoc, append-nil}
 use Rattle.std.specs.Prelude.{ℤ, nat_lt, option_map, Result, Ok, Err}
-use Rattle.std.specs.List.{AllByRecursion}
 use Rattle.sqlite_keyed.proofs.ListLemmas.{all-filter, all-slice_get}
 use Rattle.values.specs.declared.lot.LotId.{LotId}
 use Rattle.commands.specs.Sinks.{Reaches, ReachesWithin, StopsWithin}

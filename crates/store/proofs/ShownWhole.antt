@@ -8,7 +8,7 @@ use Rattle.table_words.proofs.CallLemmas.{kept_undone, kept_then}
 use Rattle.machine.specs.Acts.{Act}
 use Rattle.machine.specs.Once.{IsHistory}
 use Rattle.slices.specs.Books.{IsBooksOf}
-use Rattle.store.specs.Books.{KeepsBooks, IsSettled}
+use Rattle.store.specs.Books.{KeepsBooks}
 use Rattle.store.specs.Showing.{IsFoundAs, IsShownAs, IsShownOn}
 use Rattle.store.specs.declared.fault.Fault.{Fault}
 use Rattle.store.specs.declared.fault.Fault.TheVariants.{Store}

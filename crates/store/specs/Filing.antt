@@ -1,11 +1,10 @@
 -- What the rows of a file come to, and what they leave of the books.
-use Rattle.std.specs.Prelude.{◌≡◌, ℕ, ◌+◌, Bool, true, false, List, ◌∷◌, map, Option, Some, None, Result, Ok, Err, ℤ, IsTrue, All}
+use Rattle.std.specs.Prelude.{◌≡◌, ◌+◌, Bool, true, false, List, map, Some, None, Result, Ok, Err, ℤ, IsTrue, All}
 use Rattle.sqlite_trees.specs.declared.store.Store.{Ghosts}
 use Rattle.sqlite.specs.State.{State}
 use Rattle.sqlite.specs.Held.{state}
 use Rattle.commands.specs.declared.key.Key.{Key}
 use Rattle.commands.specs.declared.command.Command.{Command}
-use Rattle.commands.specs.declared.refusal.Refusal.{Refusal}
 use Rattle.machine.specs.Acts.{Act}
 use Rattle.machine.specs.Standing.{today}
 use Rattle.machine.specs.Once as once

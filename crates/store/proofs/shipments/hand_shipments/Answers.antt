@@ -1,8 +1,7 @@
-use Rattle.std.proofs.Common.{◌≡◌, List, Some, refl, sym, ◌∙◌, slice_get, arith}
+use Rattle.std.proofs.Common.{sym, ◌∙◌, arith}
 use Rattle.std.proofs.lemmas.Result.{err_from_is_err_and}
 use Rattle.sqlite.specs.State.{HasCleanDisk}
 use Rattle.sqlite.specs.Held.{state}
-use Rattle.store.specs.Shipments.{later_shipments}
 use Rattle.store.proofs.HandedOn.{never_commits_itself, never_commits_later, stays_itself, stays_then}
 use Rattle.store.proofs.ShipmentsHanded.{none_handed, one_handed, all_handed, some_handed, stop_handed}
 use Rattle.store.proofs.shipments.hand_shipments.Goals as goal
