@@ -120,12 +120,22 @@ def parts_of(db):
     return len(data), found
 
 
-def told(name, what, db):
-    """A line for each part: its place in two bytes and then its bytes, each in two hexadecimal digits."""
+def lines_of(db):
+    """The size of the file, and a line for each part: its place in two bytes and then its bytes, each in two hexadecimal digits."""
     size, parts = parts_of(db)
-    lines = ['        "%s",' % (at.to_bytes(2, "big").hex() + part.hex()) for at, part in parts]
+    return size, ['        "%s",' % (at.to_bytes(2, "big").hex() + part.hex()) for at, part in parts]
+
+
+def told(name, what, size, lines):
     text = "/// %s\npub(crate) static %s: OldFile = OldFile {\n    size: %d,\n    parts: &[\n%s\n    ],\n};\n"
     return text % (what, name, size, "\n".join(lines))
+
+
+def halves(lines):
+    """The first lines, up to half of what all have, and the rest."""
+    room = sum(map(len, lines)) / 2
+    front = next(count for count in range(len(lines) + 1) if sum(map(len, lines[:count])) >= room)
+    return lines[:front], lines[front:]
 
 
 def main():
@@ -137,9 +147,12 @@ def main():
         make(second_program, second)
         print("//! The bytes of files of books of schemas 1 and 2, as `old_files.py` makes them.\n")
         print("use crate::old_files::OldFile;\n")
-        print(told("FIRST_SCHEMA", "Books of schema 1 as the program made them.", first))
-        print(told("FIRST_SCHEMA_RESTORED", "The same as sqlite3 made them of a dump.", restored))
-        print(told("SECOND_SCHEMA", "Books of schema 2 as the program made them.", second), end="")
+        print(told("FIRST_SCHEMA", "Books of schema 1 as the program made them.", *lines_of(first)))
+        print(told("FIRST_SCHEMA_RESTORED", "The same as sqlite3 made them of a dump.", *lines_of(restored)))
+        size, lines = lines_of(second)
+        front, rest = halves(lines)
+        print(told("SECOND_SCHEMA", "Books of schema 2 as the program made them, the first parts of the file.", size, front))
+        print(told("SECOND_SCHEMA_REST", "Those behind them.", size, rest), end="")
 
 
 main()

@@ -6,7 +6,7 @@ ghost use Rattle.std.specs.Prelude.{◌<◌};
 use crate::asking::Asked;
 use crate::disk::run_from;
 use crate::files::Pair;
-use crate::old_bytes::{FIRST_SCHEMA, FIRST_SCHEMA_RESTORED, SECOND_SCHEMA};
+use crate::old_bytes::{FIRST_SCHEMA, FIRST_SCHEMA_RESTORED, SECOND_SCHEMA, SECOND_SCHEMA_REST};
 use crate::steps::{On, Step};
 use crate::table::{Left, Table};
 use std::alloc::Global;
@@ -64,16 +64,42 @@ fn place_line(rt: &impl Abort, alloc: Global, bytes: &mut Vec<u8>, line: &str) {
     }
 }
 
-fn files_of(rt: &impl Abort, alloc: Global, old: &OldFile) -> Pair {
-    let mut bytes = vec![in alloc; 0u8; old.size].ok().expect(rt, "memory");
+fn place_parts(rt: &impl Abort, alloc: Global, bytes: &mut Vec<u8>, old: &OldFile) {
     for line in old.parts {
-        place_line(rt, alloc, &mut bytes, line);
+        place_line(rt, alloc, bytes, line);
     }
-    Pair::holding(rt, alloc, bytes)
 }
 
-fn opens(rt: &impl Abort, alloc: Global, old: &OldFile, steps: &[&[Step]]) {
-    run_from(rt, alloc, files_of(rt, alloc, old), steps);
+fn file_of(rt: &impl Abort, alloc: Global, old: &OldFile) -> Vec<u8> {
+    let mut bytes = vec![in alloc; 0u8; old.size].ok().expect(rt, "memory");
+    place_parts(rt, alloc, &mut bytes, old);
+    bytes
+}
+
+// Each function that names such a file takes long to check, and one that names a whole file of schema 2 too long.
+
+/// Books of schema 1 as a program made them.
+pub(crate) fn first_books(rt: &impl Abort, alloc: Global) -> Pair {
+    Pair::holding(rt, alloc, file_of(rt, alloc, &FIRST_SCHEMA))
+}
+
+fn restored_books(rt: &impl Abort, alloc: Global) -> Pair {
+    Pair::holding(rt, alloc, file_of(rt, alloc, &FIRST_SCHEMA_RESTORED))
+}
+
+fn front_of_second(rt: &impl Abort, alloc: Global) -> Vec<u8> {
+    file_of(rt, alloc, &SECOND_SCHEMA)
+}
+
+fn place_rest_of_second(rt: &impl Abort, alloc: Global, bytes: &mut Vec<u8>) {
+    place_parts(rt, alloc, bytes, &SECOND_SCHEMA_REST);
+}
+
+/// Books of schema 2 as a program made them.
+pub(crate) fn second_books(rt: &impl Abort, alloc: Global) -> Pair {
+    let mut bytes = front_of_second(rt, alloc);
+    place_rest_of_second(rt, alloc, &mut bytes);
+    Pair::holding(rt, alloc, bytes)
 }
 
 // The rows of the tables of schema 1 behind `meta` after the acts of `old_files.py`: five of twelve units shipped to the
@@ -148,20 +174,18 @@ static OF_THE_SECOND: [&[Step]; 4] = [
 
 #[test]
 fn opens_books_of_the_first_schema(rt: HostRuntime) {
-    opens(&rt, rt.alloc(), &FIRST_SCHEMA, OF_THE_FIRST.as_slice());
+    let files = first_books(&rt, rt.alloc());
+    run_from(&rt, rt.alloc(), files, OF_THE_FIRST.as_slice());
 }
 
 #[test]
 fn opens_books_of_the_first_schema_restored_from_a_dump(rt: HostRuntime) {
-    opens(
-        &rt,
-        rt.alloc(),
-        &FIRST_SCHEMA_RESTORED,
-        OF_THE_FIRST.as_slice(),
-    );
+    let files = restored_books(&rt, rt.alloc());
+    run_from(&rt, rt.alloc(), files, OF_THE_FIRST.as_slice());
 }
 
 #[test]
 fn opens_books_of_the_second_schema(rt: HostRuntime) {
-    opens(&rt, rt.alloc(), &SECOND_SCHEMA, OF_THE_SECOND.as_slice());
+    let files = second_books(&rt, rt.alloc());
+    run_from(&rt, rt.alloc(), files, OF_THE_SECOND.as_slice());
 }
