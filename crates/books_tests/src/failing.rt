@@ -1,5 +1,6 @@
 //! Clients and disks that fail at each place, and rows that no act leaves: what is answered, and what the books are then.
 
+mod brought_up;
 mod cut_off;
 mod ends;
 mod outside;

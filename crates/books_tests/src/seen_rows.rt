@@ -4,7 +4,7 @@ use sqlite::{Alter, Connection, Row};
 use sqlite_value::order;
 use std::alloc::Global;
 
-/// What reads the rows of each table.
+/// What reads the rows of each table; those of a later schema stand behind those of an earlier one.
 static QUERIES: [&str; 16] = [
     "SELECT * FROM meta",
     "SELECT * FROM items",
@@ -24,21 +24,29 @@ static QUERIES: [&str; 16] = [
     "SELECT * FROM urgents",
 ];
 
-/// The rows of every table.
+/// How many tables schema 1 has.
+const FIRST_TABLES: usize = 14;
+
+/// The rows of every table of a schema.
 #[derive(Drop)]
 pub(crate) struct Rows {
     tables: Vec<Vec<Row>>,
 }
 
 impl Rows {
-    /// The rows that the connection shows, where it shows them.
+    /// The rows that the connection shows, where it shows those of every table of a schema.
     pub(crate) fn of<S: Alter>(alloc: Global, conn: &mut Connection<S>) -> Option<Rows> {
         let mut tables = Vec::new(alloc);
         for query in QUERIES.as_slice() {
-            let rows = conn.query_all(query, &[]).ok()?;
-            tables.push(rows).ok()?;
+            match conn.query_all(query, &[]) {
+                Ok(rows) => tables.push(rows).ok()?,
+                Err(_) => break,
+            }
         }
-        Some(Rows { tables })
+        match tables.len() >= FIRST_TABLES {
+            true => Some(Rows { tables }),
+            false => None,
+        }
     }
 
     /// Whether the rows are the same, table by table and in their order.

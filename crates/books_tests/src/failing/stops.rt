@@ -20,7 +20,7 @@ static LOSSES: [(Loss, Loss); 5] = [
     (Loss::All, Loss::Nothing),
 ];
 
-fn losses(files: &Pair) -> &'static [(Loss, Loss)] {
+pub(super) fn losses(files: &Pair) -> &'static [(Loss, Loss)] {
     match files.unsynced() {
         0 => &LOSSES[..1],
         1 => &LOSSES[..3],
@@ -30,13 +30,13 @@ fn losses(files: &Pair) -> &'static [(Loss, Loss)] {
 
 /// The file that stops.
 #[derive(Clone, Copy)]
-enum Side {
+pub(super) enum Side {
     Log,
     Database,
 }
 
 impl Side {
-    fn calls(self, count: u64) -> Calls {
+    pub(super) fn calls(self, count: u64) -> Calls {
         match self {
             Side::Log => Calls {
                 log: count,
@@ -52,29 +52,99 @@ impl Side {
 
 /// What was counted.
 #[derive(Clone, Copy)]
-struct Count {
+pub(super) struct Count {
     /// Runs that met a stop, or used the last call that there was.
-    stops: u64,
-    /// Pairs of files that the stops may have left, with nothing of an act that was not answered.
-    none: u64,
+    pub(super) stops: u64,
+    /// Pairs of files that the stops may have left, with nothing of what was not answered.
+    pub(super) none: u64,
     /// Those with the whole of it.
-    whole: u64,
+    pub(super) whole: u64,
 }
 
 impl Count {
     /// Nothing yet.
-    const ZERO: Count = Count {
+    pub(super) const ZERO: Count = Count {
         stops: 0,
         none: 0,
         whole: 0,
     };
 
-    fn found(&mut self, is_whole: bool) {
+    pub(super) fn found(&mut self, is_whole: bool) {
         if is_whole {
             self.whole = self.whole.saturating_add(1);
         } else {
             self.none = self.none.saturating_add(1);
         }
+    }
+}
+
+/// What is done over books whose disks stop.
+pub(super) trait Stopped {
+    /// The books before it.
+    fn files(&self) -> Option<&Pair>;
+
+    /// The requests that are served.
+    fn exchanges(&self) -> &[Exchange];
+
+    /// Opens what a stop left after so many answers, and goes on. Whether the books had the whole of what was not answered.
+    fn recovers<R: Abort>(&self, rt: &R, alloc: Global, left: &Pair, answered: usize) -> bool;
+}
+
+/// Runs whose file stops after each of these counts of calls, until one leaves a call: every call is stopped at.
+pub(super) fn stop<T: Stopped>(
+    rt: &impl Abort,
+    alloc: Global,
+    run: &T,
+    side: Side,
+    calls: (u64, u64),
+) -> Count {
+    let mut count = Count::ZERO;
+    for calls in calls.0..calls.1 {
+        if !stops(rt, alloc, run, side.calls(calls), &mut count) {
+            return count;
+        }
+    }
+    count
+}
+
+// Whether a run uses so many calls. One that leaves a call met no stop.
+fn stops<T: Stopped>(
+    rt: &impl Abort,
+    alloc: Global,
+    run: &T,
+    calls: Calls,
+    count: &mut Count,
+) -> bool {
+    let mut seen = Seen::nothing(alloc);
+    let exchanges = run.exchanges();
+    let work = Work::Trial(Trial::Serve(exchanges));
+    let first = run.files().expect(rt, "books");
+    let files = opened(rt, alloc, first, calls, work, &mut seen);
+    let is_sound = seen.is_sound && !seen.is_foreign && seen.repeated == 0;
+    let (is_whole, answered) = (seen.is_whole(exchanges.len()), seen.answered);
+    drop(seen);
+    let has_spare = files.have_spare();
+    assert!(rt; is_sound && (is_whole || !has_spare), "another answer");
+    if has_spare {
+        return false;
+    }
+    count.stops = count.stops.saturating_add(1);
+    recover(rt, alloc, run, &files, answered, count);
+    true
+}
+
+// Counts what a stop may have left after so many answers.
+fn recover<T: Stopped>(
+    rt: &impl Abort,
+    alloc: Global,
+    run: &T,
+    files: &Pair,
+    answered: usize,
+    count: &mut Count,
+) {
+    for (log, db) in losses(files) {
+        let left = files.left(rt, alloc, *log, *db);
+        count.found(run.recovers(rt, alloc, &left, answered));
     }
 }
 
@@ -95,54 +165,29 @@ impl<'a> Run<'a> {
         }
     }
 
-    /// Runs whose file stops after each of these counts of calls, until one leaves a call: every call is stopped at.
-    fn stop(&self, rt: &impl Abort, alloc: Global, side: Side, first: u64, end: u64) -> Count {
-        let mut count = Count::ZERO;
-        for calls in first..end {
-            if !self.stops(rt, alloc, side.calls(calls), &mut count) {
-                return count;
-            }
+    // Whether rows were found, and are those of the books after so many requests.
+    fn has(&self, answered: usize, found: &Option<Rows>) -> bool {
+        match self.stages.get(answered) {
+            Some(stage) => stage.has(found),
+            None => false,
         }
-        count
     }
+}
 
-    // Whether a run uses so many calls. One that leaves a call met no stop.
-    fn stops(&self, rt: &impl Abort, alloc: Global, calls: Calls, count: &mut Count) -> bool {
-        let mut seen = Seen::nothing(alloc);
-        let work = Work::Trial(Trial::Serve(self.exchanges));
-        let first = self.stages.first().expect(rt, "books");
-        let files = opened(rt, alloc, &first.files, calls, work, &mut seen);
-        let is_sound = seen.is_sound && !seen.is_foreign && seen.repeated == 0;
-        let (is_whole, answered) = (seen.is_whole(self.exchanges.len()), seen.answered);
-        drop(seen);
-        let has_spare = files.have_spare();
-        assert!(rt; is_sound && (is_whole || !has_spare), "another answer");
-        if has_spare {
-            return false;
-        }
-        count.stops = count.stops.saturating_add(1);
-        self.recover(rt, alloc, &files, answered, count);
-        true
-    }
-
-    // Counts what a stop may have left after so many answers.
-    fn recover(
-        &self,
-        rt: &impl Abort,
-        alloc: Global,
-        files: &Pair,
-        answered: usize,
-        count: &mut Count,
-    ) {
-        for (log, db) in losses(files) {
-            let left = files.left(rt, alloc, *log, *db);
-            count.found(self.recovers(rt, alloc, &left, answered));
+impl Stopped for Run<'_> {
+    fn files(&self) -> Option<&Pair> {
+        match self.stages.first() {
+            Some(stage) => Some(&stage.files),
+            None => None,
         }
     }
 
-    // Opens what a stop left after so many answers, and sends the next request, or the last one again. Whether the books
-    // had the whole of the next one's act, though it was not answered.
-    fn recovers(&self, rt: &impl Abort, alloc: Global, left: &Pair, answered: usize) -> bool {
+    fn exchanges(&self) -> &[Exchange] {
+        self.exchanges
+    }
+
+    // Sends the next request, or the last one again.
+    fn recovers<R: Abort>(&self, rt: &R, alloc: Global, left: &Pair, answered: usize) -> bool {
         let at = answered.min(self.exchanges.len().saturating_sub(1));
         let exchange = self.exchanges.get(at).expect(rt, "a request");
         let mut seen = Seen::nothing(alloc);
@@ -160,14 +205,6 @@ impl<'a> Run<'a> {
             "another answer"
         );
         acted && at == answered
-    }
-
-    // Whether rows were found, and are those of the books after so many requests.
-    fn has(&self, answered: usize, found: &Option<Rows>) -> bool {
-        match self.stages.get(answered) {
-            Some(stage) => stage.has(found),
-            None => false,
-        }
     }
 }
 
@@ -190,8 +227,7 @@ fn are_judged(rt: &impl Abort, alloc: Global, stops: Within) {
     let (at, requests) = stops.requests;
     let run = Run::part(day.as_slice(), stages.as_slice(), at, requests);
     assert!(rt; run.exchanges.len() == requests);
-    let (first, end) = stops.calls;
-    let count = run.stop(rt, alloc, stops.side, first, end);
+    let count = stop(rt, alloc, &run, stops.side, stops.calls);
     drop(stages);
     drop(day);
     assert!(rt; count.stops >= stops.least, "{} stops", count.stops);
@@ -204,7 +240,7 @@ fn are_judged(rt: &impl Abort, alloc: Global, stops: Within) {
 fn the_log_stops_early_in_a_day(rt: HostRuntime) {
     let stops = Within {
         side: Side::Log,
-        requests: (0, 15),
+        requests: (0, 17),
         calls: (0, 120),
         least: 120,
     };
@@ -215,7 +251,7 @@ fn the_log_stops_early_in_a_day(rt: HostRuntime) {
 fn the_log_stops_late_in_a_day(rt: HostRuntime) {
     let stops = Within {
         side: Side::Log,
-        requests: (0, 15),
+        requests: (0, 17),
         calls: (120, u64::MAX),
         least: 30,
     };
@@ -226,7 +262,7 @@ fn the_log_stops_late_in_a_day(rt: HostRuntime) {
 fn the_database_stops_early_in_a_day(rt: HostRuntime) {
     let stops = Within {
         side: Side::Database,
-        requests: (0, 15),
+        requests: (0, 17),
         calls: (0, 120),
         least: 120,
     };
@@ -237,7 +273,7 @@ fn the_database_stops_early_in_a_day(rt: HostRuntime) {
 fn the_database_stops_late_in_a_day(rt: HostRuntime) {
     let stops = Within {
         side: Side::Database,
-        requests: (0, 15),
+        requests: (0, 17),
         calls: (120, u64::MAX),
         least: 20,
     };
