@@ -1,0 +1,234 @@
+//! The tables of items, bins and lots, compared.
+
+use crate::compared::Compared;
+use crate::key::{RowKey, TableName};
+use crate::kinds::same_bin_kind;
+use crate::lot::by_lot;
+use commands::{BinRow, ItemRow, LeastRow, LotRow, MetaRow, RecallRow, StockRow};
+use goods_tables::bins::Bins;
+use goods_tables::items::Items;
+use goods_tables::least::Least;
+use goods_tables::lots::Lots;
+use goods_tables::meta::Meta;
+use goods_tables::recalls::Recalls;
+use goods_tables::stock::Stock;
+use std::cmp::Ordering;
+
+impl Compared for Meta {
+    ghost use Rattle.same_rows.specs.Same.{one_cmp};
+    ghost use Rattle.same_rows.specs.Laws.{meta_compared};
+    ghost use Rattle.same_rows.specs.declared.key.RowKey.TheVariants as row;
+    ghost use Rattle.same_rows.specs.declared.key.TableName.TheVariants as table;
+
+    ghost order = { one_cmp };
+
+    ghost table_name = { table.Meta };
+
+    ghost named = { λ k. row.Meta };
+
+    ghost compared_laws = { meta_compared };
+
+    fn table_name() -> TableName {
+        TableName::Meta
+    }
+
+    fn by_key(_: &MetaRow, _: &MetaRow) -> Ordering {
+        Ordering::Equal
+    }
+
+    fn same_row(a: &MetaRow, b: &MetaRow) -> bool {
+        a.day == b.day && a.acts == b.acts && a.shipments == b.shipments
+    }
+
+    fn row_key(_: &MetaRow) -> RowKey {
+        RowKey::Meta
+    }
+}
+
+impl Compared for Items {
+    ghost use Rattle.same_rows.specs.Same.{text_cmp};
+    ghost use Rattle.same_rows.specs.Laws.{items_compared};
+    ghost use Rattle.same_rows.specs.declared.key.RowKey.TheVariants as row;
+    ghost use Rattle.same_rows.specs.declared.key.TableName.TheVariants as table;
+
+    ghost order = { text_cmp };
+
+    ghost table_name = { table.Items };
+
+    ghost named = { row.Item };
+
+    ghost compared_laws = { items_compared };
+
+    fn table_name() -> TableName {
+        TableName::Items
+    }
+
+    fn by_key(a: &ItemRow, b: &ItemRow) -> Ordering {
+        a.gtin.as_bytes().cmp(b.gtin.as_bytes())
+    }
+
+    fn same_row(a: &ItemRow, b: &ItemRow) -> bool {
+        a.gtin == b.gtin && a.name == b.name
+    }
+
+    fn row_key(row: &ItemRow) -> RowKey {
+        RowKey::Item(row.gtin)
+    }
+}
+
+impl Compared for Least {
+    ghost use Rattle.same_rows.specs.Same.{text_cmp};
+    ghost use Rattle.same_rows.specs.Laws.{least_compared};
+    ghost use Rattle.same_rows.specs.declared.key.RowKey.TheVariants as row;
+    ghost use Rattle.same_rows.specs.declared.key.TableName.TheVariants as table;
+
+    ghost order = { text_cmp };
+
+    ghost table_name = { table.Least };
+
+    ghost named = { row.Least };
+
+    ghost compared_laws = { least_compared };
+
+    fn table_name() -> TableName {
+        TableName::Least
+    }
+
+    fn by_key(a: &LeastRow, b: &LeastRow) -> Ordering {
+        a.gtin.as_bytes().cmp(b.gtin.as_bytes())
+    }
+
+    fn same_row(a: &LeastRow, b: &LeastRow) -> bool {
+        a.gtin == b.gtin && a.days == b.days
+    }
+
+    fn row_key(row: &LeastRow) -> RowKey {
+        RowKey::Least(row.gtin)
+    }
+}
+
+impl Compared for Bins {
+    ghost use Rattle.same_rows.specs.Same.{text_cmp};
+    ghost use Rattle.same_rows.specs.Laws.{bins_compared};
+    ghost use Rattle.same_rows.specs.declared.key.RowKey.TheVariants as row;
+    ghost use Rattle.same_rows.specs.declared.key.TableName.TheVariants as table;
+
+    ghost order = { text_cmp };
+
+    ghost table_name = { table.Bins };
+
+    ghost named = { row.Bin };
+
+    ghost compared_laws = { bins_compared };
+
+    fn table_name() -> TableName {
+        TableName::Bins
+    }
+
+    fn by_key(a: &BinRow, b: &BinRow) -> Ordering {
+        a.name.as_bytes().cmp(b.name.as_bytes())
+    }
+
+    fn same_row(a: &BinRow, b: &BinRow) -> bool {
+        a.name == b.name && same_bin_kind(a.kind, b.kind)
+    }
+
+    fn row_key(row: &BinRow) -> RowKey {
+        RowKey::Bin(row.name)
+    }
+}
+
+impl Compared for Lots {
+    ghost use Rattle.same_rows.specs.Same.{lot_cmp};
+    ghost use Rattle.same_rows.specs.Laws.{lots_compared};
+    ghost use Rattle.same_rows.specs.declared.key.RowKey.TheVariants as row;
+    ghost use Rattle.same_rows.specs.declared.key.TableName.TheVariants as table;
+
+    ghost order = { lot_cmp };
+
+    ghost table_name = { table.Lots };
+
+    ghost named = { row.Lot };
+
+    ghost compared_laws = { lots_compared };
+
+    fn table_name() -> TableName {
+        TableName::Lots
+    }
+
+    fn by_key(a: &LotRow, b: &LotRow) -> Ordering {
+        by_lot(&a.lot, &b.lot)
+    }
+
+    fn same_row(a: &LotRow, b: &LotRow) -> bool {
+        a.lot == b.lot && a.expiry == b.expiry && a.came == b.came && a.held == b.held
+    }
+
+    fn row_key(row: &LotRow) -> RowKey {
+        RowKey::Lot(row.lot)
+    }
+}
+
+impl Compared for Recalls {
+    ghost use Rattle.same_rows.specs.Same.{lot_cmp};
+    ghost use Rattle.same_rows.specs.Laws.{recalls_compared};
+    ghost use Rattle.same_rows.specs.declared.key.RowKey.TheVariants as row;
+    ghost use Rattle.same_rows.specs.declared.key.TableName.TheVariants as table;
+
+    ghost order = { lot_cmp };
+
+    ghost table_name = { table.Recalls };
+
+    ghost named = { row.Recall };
+
+    ghost compared_laws = { recalls_compared };
+
+    fn table_name() -> TableName {
+        TableName::Recalls
+    }
+
+    fn by_key(a: &RecallRow, b: &RecallRow) -> Ordering {
+        by_lot(&a.lot, &b.lot)
+    }
+
+    fn same_row(a: &RecallRow, b: &RecallRow) -> bool {
+        a.lot == b.lot && a.act == b.act
+    }
+
+    fn row_key(row: &RecallRow) -> RowKey {
+        RowKey::Recall(row.lot)
+    }
+}
+
+impl Compared for Stock {
+    ghost use Rattle.same_rows.specs.Same.{text_cmp, lot_cmp, pair_cmp};
+    ghost use Rattle.same_rows.specs.Laws.{stock_compared};
+    ghost use Rattle.same_rows.specs.declared.key.RowKey.TheVariants as row;
+    ghost use Rattle.same_rows.specs.declared.key.TableName.TheVariants as table;
+
+    ghost order = { pair_cmp lot_cmp text_cmp };
+
+    ghost table_name = { table.Stock };
+
+    ghost named = { λ k. row.Stock k.0 k.1 };
+
+    ghost compared_laws = { stock_compared };
+
+    fn table_name() -> TableName {
+        TableName::Stock
+    }
+
+    fn by_key(a: &StockRow, b: &StockRow) -> Ordering {
+        let first = by_lot(&a.lot, &b.lot);
+        let second = a.bin.as_bytes().cmp(b.bin.as_bytes());
+        first.then(second)
+    }
+
+    fn same_row(a: &StockRow, b: &StockRow) -> bool {
+        a.lot == b.lot && a.bin == b.bin && a.qty == b.qty
+    }
+
+    fn row_key(row: &StockRow) -> RowKey {
+        RowKey::Stock(row.lot, row.bin)
+    }
+}

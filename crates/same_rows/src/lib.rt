@@ -1,0 +1,15 @@
+//! Whether two lists of rows are the same table, and where not, the first row that differs.
+#![tactic(auto)]
+
+mod compared;
+mod differing;
+mod goods;
+mod history;
+mod key;
+mod kinds;
+mod lot;
+mod orders;
+
+pub use compared::Compared;
+pub use differing::first_difference;
+pub use key::{RowKey, TableName};

@@ -1,0 +1,82 @@
+-- What the texts ask for.
+use Rattle.std.proofs.Common.{refl}
+use Rattle.sqlite.specs.Listing.{understood}
+use Rattle.sqlite_tied.specs.Compute.{everything}
+use Rattle.goods_tables.specs.Meta.{meta}
+use Rattle.goods_tables.specs.Items.{items, all_items, all_items_laws}
+use Rattle.goods_tables.specs.Least.{least}
+use Rattle.goods_tables.specs.Bins.{bins, all_bins, all_bins_laws}
+use Rattle.goods_tables.specs.Lots.{lots, all_lots, all_lots_laws}
+use Rattle.goods_tables.specs.Recalls.{recalls}
+use Rattle.goods_tables.specs.Stock.{stock}
+use Rattle.order_tables.specs.Orders.{orders}
+use Rattle.order_tables.specs.Urgents.{urgents}
+use Rattle.order_tables.specs.Lines.{lines}
+use Rattle.order_tables.specs.Staged.{staged, all_staged, all_staged_laws}
+use Rattle.order_tables.specs.Reserved.{reserved}
+use Rattle.history_tables.specs.Shipments.{shipments}
+use Rattle.history_tables.specs.Shiplines.{shiplines}
+use Rattle.history_tables.specs.Cards.{cards}
+use Rattle.history_tables.specs.Repeats.{repeats}
+use Rattle.whole_tables.specs.declared.texts.TheConstants.{ALL_META, ALL_LEAST, ALL_RECALLS, ALL_STOCK, ALL_ORDERS, ALL_URGENTS, ALL_LINES, ALL_RESERVED, ALL_SHIPMENTS, ALL_SHIPLINES, ALL_CARDS, ALL_REPEATS}
+use Rattle.whole_tables.specs.Whole.{WholeIs}
+
+pub meta_is : WholeIs meta ALL_META.now
+unfolding understood everything
+meta_is rest = (refl, refl, (refl, refl))
+
+pub items_is : WholeIs items all_items.text
+items_is = all_items_laws.is
+
+pub least_is : WholeIs least ALL_LEAST.now
+unfolding understood everything
+least_is rest = (refl, refl, (refl, refl))
+
+pub bins_is : WholeIs bins all_bins.text
+bins_is = all_bins_laws.is
+
+pub lots_is : WholeIs lots all_lots.text
+lots_is = all_lots_laws.is
+
+pub recalls_is : WholeIs recalls ALL_RECALLS.now
+unfolding understood everything
+recalls_is rest = (refl, refl, (refl, refl))
+
+pub stock_is : WholeIs stock ALL_STOCK.now
+unfolding understood everything
+stock_is rest = (refl, refl, (refl, refl))
+
+pub orders_is : WholeIs orders ALL_ORDERS.now
+unfolding understood everything
+orders_is rest = (refl, refl, (refl, refl))
+
+pub urgents_is : WholeIs urgents ALL_URGENTS.now
+unfolding understood everything
+urgents_is rest = (refl, refl, (refl, refl))
+
+pub lines_is : WholeIs lines ALL_LINES.now
+unfolding understood everything
+lines_is rest = (refl, refl, (refl, refl))
+
+pub staged_is : WholeIs staged all_staged.text
+staged_is = all_staged_laws.is
+
+pub reserved_is : WholeIs reserved ALL_RESERVED.now
+unfolding understood everything
+reserved_is rest = (refl, refl, (refl, refl))
+
+pub shipments_is : WholeIs shipments ALL_SHIPMENTS.now
+unfolding understood everything
+shipments_is rest = (refl, refl, (refl, refl))
+
+pub shiplines_is : WholeIs shiplines ALL_SHIPLINES.now
+unfolding understood everything
+shiplines_is rest = (refl, refl, (refl, refl))
+
+pub cards_is : WholeIs cards ALL_CARDS.now
+unfolding understood everything
+cards_is rest = (refl, refl, (refl, refl))
+
+pub repeats_is : WholeIs repeats ALL_REPEATS.now
+unfolding understood everything
+repeats_is rest = (refl, refl, (refl, refl))

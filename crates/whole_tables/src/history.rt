@@ -1,0 +1,60 @@
+//! The tables of what has gone and of the acts, read whole.
+
+use crate::entire::Entire;
+use crate::texts::{ALL_CARDS, ALL_REPEATS, ALL_SHIPLINES, ALL_SHIPMENTS};
+use history_tables::cards::Cards;
+use history_tables::repeats::Repeats;
+use history_tables::shiplines::Shiplines;
+use history_tables::shipments::Shipments;
+
+impl Entire for Shipments {
+    ghost use Rattle.whole_tables.specs.declared.texts.TheConstants.{ALL_SHIPMENTS};
+    ghost use Rattle.whole_tables.specs.Laws.{shipments_is};
+
+    ghost whole = { ALL_SHIPMENTS.now };
+
+    ghost whole_laws = { shipments_is };
+
+    fn whole_text() -> &'static str {
+        ALL_SHIPMENTS
+    }
+}
+
+impl Entire for Shiplines {
+    ghost use Rattle.whole_tables.specs.declared.texts.TheConstants.{ALL_SHIPLINES};
+    ghost use Rattle.whole_tables.specs.Laws.{shiplines_is};
+
+    ghost whole = { ALL_SHIPLINES.now };
+
+    ghost whole_laws = { shiplines_is };
+
+    fn whole_text() -> &'static str {
+        ALL_SHIPLINES
+    }
+}
+
+impl Entire for Cards {
+    ghost use Rattle.whole_tables.specs.declared.texts.TheConstants.{ALL_CARDS};
+    ghost use Rattle.whole_tables.specs.Laws.{cards_is};
+
+    ghost whole = { ALL_CARDS.now };
+
+    ghost whole_laws = { cards_is };
+
+    fn whole_text() -> &'static str {
+        ALL_CARDS
+    }
+}
+
+impl Entire for Repeats {
+    ghost use Rattle.whole_tables.specs.declared.texts.TheConstants.{ALL_REPEATS};
+    ghost use Rattle.whole_tables.specs.Laws.{repeats_is};
+
+    ghost whole = { ALL_REPEATS.now };
+
+    ghost whole_laws = { repeats_is };
+
+    fn whole_text() -> &'static str {
+        ALL_REPEATS
+    }
+}

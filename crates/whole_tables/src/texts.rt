@@ -1,0 +1,45 @@
+//! The texts of the statements that read a table whole and that no act runs. They are run once each, so they are not among
+//! those whose plans a connection keeps.
+
+pub(crate) const ALL_META: &str =
+    "SELECT id, mark, version, day, acts, shipments FROM meta ORDER BY rowid";
+
+pub(crate) const ALL_LEAST: &str = "SELECT gtin, days FROM least ORDER BY rowid";
+
+pub(crate) const ALL_RECALLS: &str = "SELECT gtin, lot, act FROM recalls ORDER BY rowid";
+
+pub(crate) const ALL_STOCK: &str = "SELECT gtin, lot, bin, qty FROM stock ORDER BY rowid";
+
+pub(crate) const ALL_ORDERS: &str = "SELECT ord, act, customer, state FROM orders ORDER BY rowid";
+
+pub(crate) const ALL_URGENTS: &str = "SELECT ord, act FROM urgents ORDER BY rowid";
+
+pub(crate) const ALL_LINES: &str = "SELECT ord, gtin, ordered, shipped FROM lines ORDER BY rowid";
+
+pub(crate) const ALL_RESERVED: &str = "SELECT ord, gtin, lot, qty FROM reserved ORDER BY rowid";
+
+pub(crate) const ALL_SHIPMENTS: &str = "SELECT number, act, day, ord FROM shipments ORDER BY rowid";
+
+pub(crate) const ALL_SHIPLINES: &str =
+    "SELECT number, gtin, lot, qty FROM shiplines ORDER BY rowid";
+
+pub(crate) const ALL_CARDS: &str =
+    "SELECT gtin, lot, act, day, kind, note, qty, rest FROM cards ORDER BY rowid";
+
+pub(crate) const ALL_REPEATS: &str = "SELECT k, act, spell, reply FROM repeats ORDER BY rowid";
+
+/// All of them.
+pub const WHOLE_TEXTS: [&str; 12] = [
+    ALL_META,
+    ALL_LEAST,
+    ALL_RECALLS,
+    ALL_STOCK,
+    ALL_ORDERS,
+    ALL_URGENTS,
+    ALL_LINES,
+    ALL_RESERVED,
+    ALL_SHIPMENTS,
+    ALL_SHIPLINES,
+    ALL_CARDS,
+    ALL_REPEATS,
+];
