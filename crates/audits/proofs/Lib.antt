@@ -1,0 +1,4 @@
+pub mod Telling
+pub mod Tables
+pub mod Memory
+pub mod Findings

@@ -1,0 +1,10 @@
+//! A file of the books held against the acts that it keeps.
+#![tactic(auto)]
+
+mod comparing;
+mod finding;
+mod replayed;
+mod whole;
+
+pub use finding::{Finding, Unread};
+pub use whole::audit;

@@ -1,0 +1,42 @@
+use Rattle.std.proofs.Common.{List, ℕ, Option, Result, Ok, Err}
+use Rattle.std.specs.Prelude.{ℤ}
+use Rattle.std.proofs.KnownBytes.{Appends-nil}
+use Rattle.sqlite.specs.Held.{state}
+use Rattle.machine.specs.Acts.{Act}
+use Rattle.texts.specs.Writing.{Writes}
+use Rattle.texts.proofs.Beginnings.{beginning_of_none}
+use Rattle.histories.specs.Text.{history_text}
+use Rattle.histories.specs.Start.{IsStart}
+use Rattle.histories.specs.Printed.{IsHistoryPrinted}
+use Rattle.histories.proofs.Twice.{was_clean, ready_on, held_on, left_on, survives_on}
+use Rattle.histories.proofs.printing.print_history.Goals as goal
+
+printed : {E : Type 0} (first : ℤ) (acts : List Act) (old new : Option (List ℕ)) (begun : ℤ) (r : Result Unit E) → IsStart first acts begun → Writes r old new (history_text begun acts) → IsHistoryPrinted first acts old new r
+printed first acts old new begun (Ok done) start h = (begun, start, h)
+printed first acts old new begun (Err fault) start h = (begun, h)
+
+pub returns-in-Ok-clause-printed : goal.returns-in-Ok-clause-printed
+returns-in-Ok-clause-printed g c clean ready first acts history held today =
+    let at = g.W.Write.contents in
+    let a = state g.S.Store c.args.conn.now in
+    let b = state g.S.Store c.find_start.new.conn in
+    let d = state g.S.Store c.print_from.new.conn in
+    let one = c.in-Ok.ensures.survives in
+    let two = c.print_from.ensures.survives in
+    let same = c.in-Ok.ensures.same in
+    let was = was_clean a b d one two same clean in
+    printed first acts (at c.args.out) (at c.print_from.result.0) c.in-Ok.begun c.print_from.result.1 (c.in-Ok.ensures.start was ready first acts history held today)
+    (c.print_from.ensures.printed clean (ready_on a b d one two same clean ready) first acts history (held_on a b d one two same first acts clean ready held))
+
+pub returns-in-Ok-clause-left : goal.returns-in-Ok-clause-left
+returns-in-Ok-clause-left g c clean ready =
+    left_on (state g.S.Store c.args.conn.now) (state g.S.Store c.find_start.new.conn) (state g.S.Store c.print_from.new.conn) c.in-Ok.ensures.survives c.print_from.ensures.survives c.in-Ok.ensures.same clean ready c.print_from.ensures.left
+
+pub returns-in-Ok-clause-survives : goal.returns-in-Ok-clause-survives
+returns-in-Ok-clause-survives g c =
+    survives_on (state g.S.Store c.args.conn.now) (state g.S.Store c.find_start.new.conn) (state g.S.Store c.print_from.new.conn) c.in-Ok.ensures.survives c.print_from.ensures.survives c.in-Ok.ensures.same
+
+pub returns-in-Err-clause-printed : goal.returns-in-Err-clause-printed
+returns-in-Err-clause-printed g c clean ready first acts history held today =
+    let at = g.W.Write.contents in
+    (first, beginning_of_none (at c.args.out) (at c.args.out) (history_text first acts) (Appends-nil (at c.args.out)))

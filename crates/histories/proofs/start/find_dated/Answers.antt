@@ -1,0 +1,39 @@
+use Rattle.std.proofs.Common.{refl, subst, ◌∙◌, Ok, Err, None}
+use Rattle.std.proofs.lemmas.Result.{IfOk-weaker}
+use Rattle.sqlite.specs.Held.{state}
+use Rattle.table_words.proofs.CallLemmas.{on_ok_if}
+use Rattle.each_row.specs.declared.fault.EachFault.{EachFault}
+use Rattle.each_row.specs.Handed.{HandsOver, IsLeft}
+use Rattle.histories.specs.Start.{Passes, Finds}
+use Rattle.histories.specs.declared.dated.FirstDated.{FirstDated}
+use Rattle.histories.specs.declared.fault.HistoryFault.TheVariants.{Foreign}
+use Rattle.histories.proofs.Begun.{none_dated, one_dated}
+use Rattle.histories.proofs.Kept.{rows, found, mine, stays}
+use Rattle.histories.proofs.start.find_dated.Goals as goal
+
+pub returns-in-Ok-clause-dated : goal.returns-in-Ok-clause-dated
+returns-in-Ok-clause-dated g c clean ready first acts history held =
+    let old = state g.S.Store c.args.conn.now in
+    let start : FirstDated = record { alloc = c.args.alloc; done = 0; found = None; fault = Foreign } in
+    none_dated first acts history (rows first acts history old ready held) start c.each_of_all.new.sink refl (mine first acts history old ready held) (found first acts history old ready held) (c.in-Ok.ensures.handed clean ready held.typed)
+
+pub returns-in-Err-clause-dated : goal.returns-in-Err-clause-dated
+returns-in-Err-clause-dated g c clean ready first acts history held =
+    let old = state g.S.Store c.args.conn.now in
+    let start : FirstDated = record { alloc = c.args.alloc; done = 0; found = None; fault = Foreign } in
+    IfOk-weaker c.found_at.result _ _ (λ d h.
+    h.1 ∙ one_dated first acts history (rows first acts history old ready held) start c.each_of_all.new.sink refl (mine first acts history old ready held)
+    (subst (λ (e : EachFault). HandsOver Passes Finds start (rows first acts history old ready held) c.each_of_all.new.sink (Err e)) h.0 (c.in-Err.ensures.handed clean ready held.typed)) (λ none. h.2 (h.1 ∙ none))) c.found_at.ensures
+
+pub returns-in-Ok-clause-left : goal.returns-in-Ok-clause-left
+returns-in-Ok-clause-left g c clean ready = stays (state g.S.Store c.args.conn.now) (state g.S.Store c.each_of_all.new.conn) (Ok tt) (c.in-Ok.ensures.left clean ready)
+
+pub returns-in-Err-clause-left : goal.returns-in-Err-clause-left
+returns-in-Err-clause-left g c clean ready = stays (state g.S.Store c.args.conn.now) (state g.S.Store c.each_of_all.new.conn) (Err c.in-Err.cause) (c.in-Err.ensures.left clean ready)
+
+pub returns-in-Ok-clause-same : goal.returns-in-Ok-clause-same
+returns-in-Ok-clause-same g c clean ready = c.in-Ok.ensures.left clean ready
+
+pub returns-in-Err-clause-same : goal.returns-in-Err-clause-same
+returns-in-Err-clause-same g c clean ready =
+    on_ok_if c.found_at.result _ c.found_at.ensures (λ d h. subst (λ (e : EachFault). IsLeft (state g.S.Store c.args.conn.now) (state g.S.Store c.each_of_all.new.conn) (Err e)) h.0 (c.in-Err.ensures.left clean ready))

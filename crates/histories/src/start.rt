@@ -1,0 +1,160 @@
+//! The day on which the acts of the books began.
+
+ghost use Rattle.std.specs.Prelude.{◌≡◌, ◌≢◌, ◌⊎◌, ℤ, List, Some, None, false, IfOk, OnOk};
+ghost use Rattle.sqlite.specs.Held.{state};
+ghost use Rattle.sqlite.specs.State.{HasCleanDisk, Survives, IsUnchanged, IsRolledBack};
+ghost use Rattle.machine.specs.Acts.{Act};
+ghost use Rattle.machine.specs.Once.{IsHistory};
+ghost use Rattle.machine.specs.Standing.{today as today_of};
+ghost use Rattle.machine.specs.Tables.{card_row};
+ghost use Rattle.commands.specs.declared.rows.CardRow.{CardRow as Record};
+ghost use Rattle.table_words.specs.Steps.{IsReady};
+ghost use Rattle.each_row.specs.declared.fault.EachFault.TheVariants.{Stopped};
+ghost use Rattle.histories.specs.Books.{HasRowsOf};
+ghost use Rattle.histories.specs.Start.{IsStart, first_dated, receipt, day_without_receipt};
+
+use crate::HistoryFault;
+use crate::dated::{Dated, FirstDated};
+use commands::{CardRow, Sink, Stop};
+use each_row::EachFault;
+use history_tables::cards::Cards;
+use history_tables::repeats::Repeats;
+use label::Day;
+use sqlite::{Alter, Connection};
+use std::alloc::Global;
+use values::LotId;
+use whole_tables::each_of_all;
+
+/// Takes card lines up to that of an act of a lot.
+#[derive(Drop)]
+pub(crate) struct CardDay {
+    pub(crate) lot: LotId,
+    pub(crate) act: u64,
+    pub(crate) day: Option<Day>,
+}
+
+impl Sink<CardRow> for CardDay {
+    ghost use Rattle.histories.specs.Start.{IsPassed, TellsDay};
+
+    ghost takes = { IsPassed };
+
+    ghost stops = { TellsDay };
+
+    fn take(&mut self, row: &CardRow) -> Result<(), Stop> {
+        if row.act == self.act && row.lot == self.lot {
+            self.day = Some(row.day.day());
+            return Err(Stop);
+        }
+        Ok(())
+    }
+}
+
+/// The day on which the acts of the books began, as the tables tell it; `today` is the business day after them. Nothing
+/// is changed.
+pub(crate) fn find_start<S: Alter>(
+    alloc: Global,
+    conn: &mut Connection<S>,
+    today: Day,
+) -> Result<Day, HistoryFault>
+    ensures start { HasCleanDisk (state S.Store conn.new) → IsReady (state S.Store conn.old).now → (first : ℤ) (acts : List Act) → IsHistory first acts → HasRowsOf first acts (state S.Store conn.old).now.trees → today ≡ today_of first acts
+        → IfOk result (λ begun. IsStart first acts begun) }
+    ensures same { HasCleanDisk (state S.Store conn.new) → IsReady (state S.Store conn.old).now → OnOk result (IsUnchanged (state S.Store conn.old) (state S.Store conn.new)) }
+    ensures left { HasCleanDisk (state S.Store conn.new) → IsReady (state S.Store conn.old).now → IsUnchanged (state S.Store conn.old) (state S.Store conn.new) ⊎ IsRolledBack (state S.Store conn.old) (state S.Store conn.new) }
+    ensures outside { conn.old.in_transaction ≡ false → conn.new.in_transaction ≡ false }
+    ensures survives { Survives (state S.Store conn.old) (state S.Store conn.new) (λ _. ¬ IsReady (state S.Store conn.old).now) }
+{
+    let found = find_dated(alloc, conn)?;
+    match receipt_of(&found) {
+        Some((lot, act)) => card_day(alloc, conn, &lot, act),
+        None => Ok(day_known(&found, today)),
+    }
+}
+
+/// The lot and the act of the receipt that was found.
+fn receipt_of(found: &Option<Dated>) -> Option<(LotId, u64)>
+    ensures { result ≡ receipt found.now }
+{
+    match found {
+        Some(Dated::Receipt(lot, act)) => Some((*lot, *act)),
+        _ => None,
+    }
+}
+
+/// The day before the one whose opening was found, and else the business day.
+fn day_known(found: &Option<Dated>, today: Day) -> Day
+    ensures { result ≡ day_without_receipt found.now today }
+{
+    match found {
+        Some(Dated::Opening(last)) => *last,
+        _ => today,
+    }
+}
+
+/// What the first act that tells of a day tells, if there is one.
+fn find_dated<S: Alter>(
+    alloc: Global,
+    conn: &mut Connection<S>,
+) -> Result<Option<Dated>, HistoryFault>
+    ensures dated { HasCleanDisk (state S.Store conn.new) → IsReady (state S.Store conn.old).now → (first : ℤ) (acts : List Act) → IsHistory first acts → HasRowsOf first acts (state S.Store conn.old).now.trees
+        → IfOk result (λ found. found ≡ first_dated acts) }
+    ensures same { HasCleanDisk (state S.Store conn.new) → IsReady (state S.Store conn.old).now → OnOk result (IsUnchanged (state S.Store conn.old) (state S.Store conn.new)) }
+    ensures left { HasCleanDisk (state S.Store conn.new) → IsReady (state S.Store conn.old).now → IsUnchanged (state S.Store conn.old) (state S.Store conn.new) ⊎ IsRolledBack (state S.Store conn.old) (state S.Store conn.new) }
+    ensures outside { conn.old.in_transaction ≡ false → conn.new.in_transaction ≡ false }
+    ensures survives { Survives (state S.Store conn.old) (state S.Store conn.new) (λ _. ¬ IsReady (state S.Store conn.old).now) }
+{
+    let mut rows = FirstDated {
+        alloc,
+        done: 0,
+        found: None,
+        fault: HistoryFault::Foreign,
+    };
+    match each_of_all::<Repeats, S, FirstDated>(alloc, conn, &mut rows) {
+        Ok(()) => Ok(None),
+        Err(cause) => found_at(cause, &rows),
+    }
+}
+
+/// What was found where the rows came to an end.
+fn found_at(cause: EachFault, rows: &FirstDated) -> Result<Option<Dated>, HistoryFault>
+    ensures { IfOk result (λ found. (cause ≡ Stopped) × (found ≡ rows.now.found) × (found ≢ None)) }
+{
+    match (cause, rows.found) {
+        (EachFault::Stopped, Some(dated)) => Ok(Some(dated)),
+        (cause, _) => Err(HistoryFault::of(cause, rows.fault)),
+    }
+}
+
+/// The day of the card line of this act of the lot.
+fn card_day<S: Alter>(
+    alloc: Global,
+    conn: &mut Connection<S>,
+    lot: &LotId,
+    act: u64,
+) -> Result<Day, HistoryFault>
+    ensures day { HasCleanDisk (state S.Store conn.new) → IsReady (state S.Store conn.old).now → (first : ℤ) (acts : List Act) → IsHistory first acts → HasRowsOf first acts (state S.Store conn.old).now.trees
+        → IfOk result (λ day. (row : Record) × (card_row first acts lot.now act ≡ Some row) × (day ≡ row.day)) }
+    ensures same { HasCleanDisk (state S.Store conn.new) → IsReady (state S.Store conn.old).now → OnOk result (IsUnchanged (state S.Store conn.old) (state S.Store conn.new)) }
+    ensures left { HasCleanDisk (state S.Store conn.new) → IsReady (state S.Store conn.old).now → IsUnchanged (state S.Store conn.old) (state S.Store conn.new) ⊎ IsRolledBack (state S.Store conn.old) (state S.Store conn.new) }
+    ensures outside { conn.old.in_transaction ≡ false → conn.new.in_transaction ≡ false }
+    ensures survives { Survives (state S.Store conn.old) (state S.Store conn.new) (λ _. ¬ IsReady (state S.Store conn.old).now) }
+{
+    let mut line = CardDay {
+        lot: *lot,
+        act,
+        day: None,
+    };
+    match each_of_all::<Cards, S, CardDay>(alloc, conn, &mut line) {
+        Ok(()) => Err(HistoryFault::Foreign),
+        Err(cause) => day_at(cause, &line),
+    }
+}
+
+/// The day of the line at which the card lines came to an end.
+fn day_at(cause: EachFault, line: &CardDay) -> Result<Day, HistoryFault>
+    ensures { IfOk result (λ day. (cause ≡ Stopped) × (line.now.day ≡ Some day)) }
+{
+    match (cause, line.day) {
+        (EachFault::Stopped, Some(day)) => Ok(day),
+        (cause, _) => Err(HistoryFault::of(cause, HistoryFault::Foreign)),
+    }
+}

@@ -1,0 +1,48 @@
+//! One act, done again.
+
+ghost use Rattle.std.specs.Prelude.{◌≡◌, ◌∷◌, ℤ, List};
+ghost use Rattle.machine.specs.Acts.{Act};
+ghost use Rattle.machine.specs.Once.{IsHistory};
+ghost use Rattle.store.specs.Books.{HoldsBooks, IsClean};
+ghost use Rattle.replays.specs.Replaying.{IsReplayed};
+
+use crate::NotReplayed;
+use crate::kind::is_key_of;
+use commands::laws::{every_command_is_sound, every_key_is_sound};
+use commands::{Command, Key, Refusal};
+use sqlite::Alter;
+use store::{Books, Fault};
+
+/// Does the act of this number again. `Ok` exactly where it goes on with the history, as far as memory suffices: the books
+/// are then those of it too.
+pub(crate) fn act_again<S: Alter>(
+    books: &mut Books<S>,
+    number: u64,
+    key: &Key,
+    command: &Command,
+) -> Result<(), NotReplayed>
+    ensures clean { IsClean S.Store books.new → IsClean S.Store books.old }
+    ensures replayed { IsClean S.Store books.new → (first : ℤ) (acts : List Act) → IsHistory first acts → HoldsBooks S.Store first acts books.old
+        → IsReplayed S.Store first (record { key = key.now; command = command.now } ∷ acts) result books.new }
+{
+    if !is_key_of(key, command) {
+        return Err(NotReplayed::Unspelled { act: number });
+    }
+    every_key_is_sound(*key);
+    every_command_is_sound(command);
+    match books.act(key, command) {
+        Ok(reply) => {
+            if reply.repeated {
+                Err(NotReplayed::Refused {
+                    act: number,
+                    why: Refusal::KeyUsed,
+                })
+            } else {
+                Ok(())
+            }
+        }
+        Err(Fault::Refused(why)) => Err(NotReplayed::Refused { act: number, why }),
+        Err(Fault::Store) => Err(NotReplayed::Store),
+        Err(Fault::Foreign) => Err(NotReplayed::Foreign),
+    }
+}

@@ -1,0 +1,12 @@
+/// What is told of the acts that are done again, as they are.
+pub trait Progress {
+    /// So many acts of so many are done.
+    fn done(&mut self, acts: u64, of: u64);
+}
+
+/// Nobody is told.
+pub struct NoProgress;
+
+impl Progress for NoProgress {
+    fn done(&mut self, _: u64, _: u64) {}
+}
