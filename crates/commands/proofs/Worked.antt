@@ -82,7 +82,7 @@ more_than_reserved = refl
 not_recalled : refusal_code NoNotice ≡ codes "N01"
 not_recalled = refl
 
-limits_of_the_warehouse : ◌≡◌ {A = List ℕ} (ORDER_LINES_MAX ∷ ITEMS_MAX ∷ BINS_MAX ∷ UNITS_MAX ∷ OPEN_MAX ∷ ACTS_MAX ∷ []) (20 ∷ 10_000 ∷ 10_000 ∷ 1_000_000_000 ∷ 1_000_000_000 ∷ 1_000_000_000_000 ∷ [])
+limits_of_the_warehouse : ◌≡◌ {A = List ℕ} (ORDER_LINES_MAX ∷ ITEMS_MAX ∷ BINS_MAX ∷ UNITS_MAX ∷ OPEN_MAX ∷ ACTS_MAX ∷ []) (200 ∷ 10_000 ∷ 10_000 ∷ 10_000_000_000 ∷ 10_000_000_000 ∷ 1_000_000_000_000 ∷ [])
 limits_of_the_warehouse = refl
 
 lengths_in_place : ◌≡◌ {A = List ℕ} (SHORT_MAX ∷ KEY_TEXT_MAX ∷ CARD_NOTE_MAX ∷ []) (96 ∷ 27 ∷ 25 ∷ [])
@@ -91,7 +91,7 @@ lengths_in_place = refl
 mark_of_the_books : MARK.now ≡ codes "LOTSTOCK"
 mark_of_the_books = refl
 
-schema : ◌≡◌ {A = ℕ} SCHEMA_VERSION 3
+schema : ◌≡◌ {A = ℕ} SCHEMA_VERSION 4
 schema = refl
 
 least_spelling : spelling (Least (record { gtin = OAT; days = 27 })) ≡ codes "LEAST\n09506000134352\n27"

@@ -7,6 +7,6 @@ pub use Rattle.commands.specs.declared.limits.TheConstants.{ORDER_LINES_MAX, ITE
 abbrev pub is_least_days : ℕ → Bool
 is_least_days n = is_between 0 LEAST_DAYS_MAX n
 
--- an order has 1 to 20 lines
+-- an order has 1 to 200 lines
 abbrev pub has_order_lines : {X : Type 0} → List X → Bool
 has_order_lines lines = is_between 1 ORDER_LINES_MAX (length lines)

@@ -70,7 +70,7 @@ pub struct OrderLine {
     pub qty: Qty,
 }
 
-/// The 1 to 20 lines of an order.
+/// The 1 to 200 lines of an order.
 #[derive(Drop)]
 pub struct Lines {
     lines: Listed<OrderLine>,
@@ -90,7 +90,7 @@ impl Model for Lines {
 }
 
 impl Lines {
-    /// The lines, if there are 1 to 20.
+    /// The lines, if there are 1 to 200.
     pub fn new(lines: Vec<OrderLine>) -> Option<Lines>
         ensures { result ≡ checked has_order_lines lines.items }
     {

@@ -1,7 +1,7 @@
 // The limits of the warehouse, and the marks of its tables.
 
 /// The lines of an order, at most.
-pub const ORDER_LINES_MAX: usize = 20;
+pub const ORDER_LINES_MAX: usize = 200;
 
 /// The items, at most.
 pub const ITEMS_MAX: u64 = 10_000;
@@ -10,10 +10,10 @@ pub const ITEMS_MAX: u64 = 10_000;
 pub const BINS_MAX: u64 = 10_000;
 
 /// The units of one item in the house, at most.
-pub const UNITS_MAX: u64 = 1_000_000_000;
+pub const UNITS_MAX: u64 = 10_000_000_000;
 
 /// The units of one item that open orders still want, at most.
-pub const OPEN_MAX: u64 = 1_000_000_000;
+pub const OPEN_MAX: u64 = 10_000_000_000;
 
 /// The least remaining days that an item asks for, at most.
 pub const LEAST_DAYS_MAX: u16 = 3_650;
@@ -34,4 +34,4 @@ pub const CARD_NOTE_MAX: usize = 25;
 pub const MARK: &str = "LOTSTOCK";
 
 /// The schema number in the table `meta`.
-pub const SCHEMA_VERSION: u64 = 3;
+pub const SCHEMA_VERSION: u64 = 4;

@@ -1,17 +1,23 @@
 -- The table `least`.
-use Rattle.std.specs.Prelude.{◌≡◌, ℕ, Bool, true, bytes_eq, List, [], ◌∷◌, codes}
+use Rattle.std.specs.Prelude.{◌≡◌, ℕ, Bool, true, nat_lt, bytes_eq, List, [], ◌∷◌, codes}
 use Rattle.std.proofs.Common.{refl, ◌∙◌, pos}
 use Rattle.std.proofs.lemmas.Bool.{and_parts}
+use Rattle.sqlite.specs.declared.types.Value.{Value}
 use Rattle.sqlite.specs.declared.types.Value.TheVariants.{Null, Int, Text}
+use Rattle.sqlite.specs.Collation.TheVariants.{Binary}
 use Rattle.sqlite.specs.Order.{Row, column, bytes}
 use Rattle.sqlite.specs.Term.{lit, col}
 use Rattle.sqlite.specs.Listing.{understood}
+use Rattle.sqlite_sql.specs.declared.ops.BinaryOp.TheVariants.{Compare}
+use Rattle.sqlite_sql.specs.declared.ops.CompareOp.TheVariants.{Gt}
+use Rattle.sqlite_sql.specs.Ops.{binary, is_true}
 use Rattle.sqlite_tied.specs.Compute.{everything}
 use Rattle.values.specs.Values.{is_gtin}
 use Rattle.commands.specs.Tables.{Tables}
 use Rattle.commands.specs.declared.rows.LeastRow.{LeastRow}
-use Rattle.goods_tables.specs.declared.texts.TheConstants.{CHANGE_LEAST, ADD_LEAST, LEAST_OF, ALL_LEAST}
-use Rattle.table_words.specs.Found.{AreRows}
+use Rattle.commands.specs.declared.limits.TheConstants.{LEAST_DAYS_MAX}
+use Rattle.goods_tables.specs.declared.texts.TheConstants.{CHANGE_LEAST, ADD_LEAST, LEAST_OF, ASKING_LEAST}
+use Rattle.table_words.specs.Found.{AreRows, only_if}
 use Rattle.table_words.specs.Cells.{is_the_text}
 use Rattle.table_words.specs.Schema.{least_tree, least_table}
 use Rattle.table_words.specs.Typed.{is_least, least_in, has_least, least_read, same_least, least_key, least_cells}
@@ -20,9 +26,10 @@ use Rattle.table_words.proofs.ScanLemmas.{passes, in_order}
 use Rattle.table_words.proofs.WriteLemmas.{cast_number, cast_null}
 use Rattle.table_words.proofs.CellLemmas.{and_true, same_word, equals_text}
 use Rattle.table_words.proofs.KeyLemmas.{same_bytes, itself_bytes}
-use Rattle.keyed_rows.specs.declared.reading.All.{All}
+use Rattle.goods_tables.specs.declared.least.Asking.{Asking}
 use Rattle.keyed_rows.specs.Described.{Described, IsLawful, AddIs, Change, ChangeIs, IsChange, Query, QueryIs, IsSought, keyed}
-use Rattle.keyed_rows.proofs.Laws.{one_keyed, rows_of, found_by_key}
+use Rattle.keyed_rows.proofs.Above.{above, above_count}
+use Rattle.keyed_rows.proofs.Laws.{one_keyed, rows_of, found_by_key, found_by_test}
 
 -- what the table is
 abbrev pub least : Described LeastRow (List ℕ)
@@ -69,20 +76,28 @@ least_of = record {
 abbrev pub AreLeastOf : List ℕ → Tables → List LeastRow → Type 0
 AreLeastOf gtin t rows = AreRows {K = List ℕ} same_least least_key (λ k. bytes_eq gtin k) t.least rows
 
--- all of them
-abbrev pub all_least : Query LeastRow (List ℕ) All
-all_least = record {
-  may = λ all. true;
-  text = ALL_LEAST.now;
-  params = λ all. [];
-  tests = [];
+-- the item asks for some days
+abbrev pub is_asking : LeastRow → Bool
+is_asking s = nat_lt 0 s.days
+
+-- whether the value is above 0, as the database compares them
+abbrev pub is_above_0 : Value → Bool
+is_above_0 v = is_true (binary (Compare Gt Binary) v (Int (pos 0)))
+
+-- those of the items that ask for some
+abbrev pub asking : Query LeastRow (List ℕ) Asking
+asking = record {
+  may = λ by. true;
+  text = ASKING_LEAST.now;
+  params = λ by. Int (pos 0) ∷ [];
+  tests = above 2 0 ∷ [];
   order = by_rowid;
-  wanted = λ all s. true;
-  stored = λ all r. true;
+  wanted = λ by s. is_asking s;
+  stored = λ by r. is_above_0 (column r 2);
 }
 
-abbrev pub AreAllLeast : All → Tables → List LeastRow → Type 0
-AreAllLeast all t rows = AreRows {K = List ℕ} same_least least_key (λ k. true) t.least rows
+abbrev pub AreAsking : Asking → Tables → List LeastRow → Type 0
+AreAsking by t rows = AreRows {K = List ℕ} same_least least_key (λ k. true) (λ k. only_if is_asking (t.least k)) rows
 
 -- ---- what holds of them
 
@@ -139,15 +154,18 @@ least_of_laws = record {
   finds = λ db ready gtin xs are. found_by_key least least_laws (λ k. bytes_eq gtin k) db ready xs are;
 }
 
-all_least_is : QueryIs least all_least
+asking_is : QueryIs least asking
 unfolding understood everything
-all_least_is rest = (refl, refl, (refl, refl))
+asking_is rest = (refl, refl, (refl, refl))
 
-pub all_least_laws : IsSought least all_least AreAllLeast
-all_least_laws = record {
-  is = all_least_is;
-  at = λ all r h. refl;
-  at_stored = λ all r int. refl;
-  ordered = λ db ready all rows a. in_order db.trees (all_least.params all) least_tree all_least.tests least.shown rows (rows_of least least_laws db ready).0 a;
-  finds = λ db ready all xs are. found_by_key least least_laws (λ k. true) db ready xs are;
+asking_at : (by : Asking) (r : Row) → is_least r ≡ true → passes (asking.params by) asking.tests r ≡ is_asking (least_in r)
+asking_at by r h = and_true _ ∙ above_count LEAST_DAYS_MAX (column r 2) 0 (and_parts _ _ h).1
+
+pub asking_laws : IsSought least asking AreAsking
+asking_laws = record {
+  is = asking_is;
+  at = asking_at;
+  at_stored = λ by r int. and_true _;
+  ordered = λ db ready by rows a. in_order db.trees (asking.params by) least_tree asking.tests least.shown rows (rows_of least least_laws db ready).0 a;
+  finds = λ db ready by xs are. found_by_test least least_laws is_asking db ready xs are;
 }

@@ -1,13 +1,13 @@
 //! The table `least`.
 
-use crate::texts::{ADD_LEAST, ALL_LEAST, CHANGE_LEAST, LEAST_OF};
+use crate::texts::{ADD_LEAST, ASKING_LEAST, CHANGE_LEAST, LEAST_OF};
 use commands::LeastRow;
-use keyed_rows::reading::{All, Sought, query_rows};
+use keyed_rows::reading::{Sought, query_rows};
 use keyed_rows::running::count;
 use keyed_rows::table::{Changing, Table};
 use sqlite::{Alter, Row, Transaction};
 use std::alloc::Global;
-use table_words::columns::{gtin_at, least_days_at, of_gtin, of_least_days};
+use table_words::columns::{gtin_at, least_days_at, of_gtin, of_least_days, of_number};
 use table_words::error::TableFault;
 use values::Gtin;
 
@@ -87,25 +87,28 @@ impl Sought<Gtin> for Least {
     }
 }
 
-impl Sought<All> for Least {
-    ghost use Rattle.goods_tables.specs.Least.{all_least, AreAllLeast, all_least_laws};
+/// What the rows of items that ask for some days are sought by.
+pub struct Asking;
 
-    ghost query = { all_least };
+impl Sought<Asking> for Least {
+    ghost use Rattle.goods_tables.specs.Least.{asking, AreAsking, asking_laws};
 
-    ghost are_of = { AreAllLeast };
+    ghost query = { asking };
 
-    ghost query_laws = { all_least_laws };
+    ghost are_of = { AreAsking };
 
-    fn query_text(_: &All) -> &'static str {
-        ALL_LEAST
+    ghost query_laws = { asking_laws };
+
+    fn query_text(_: &Asking) -> &'static str {
+        ASKING_LEAST
     }
 
     fn run_query<S: Alter>(
         alloc: Global,
         tx: &mut Transaction<'_, S>,
         sql: &str,
-        _: &All,
+        _: &Asking,
     ) -> Result<Vec<LeastRow>, TableFault> {
-        query_rows::<Least, S>(alloc, tx, sql, &[])
+        query_rows::<Least, S>(alloc, tx, sql, &[of_number(0)])
     }
 }

@@ -18,7 +18,7 @@ pub(crate) const ADD_LEAST: &str = "INSERT INTO least (gtin, days) VALUES (?1, ?
 
 pub(crate) const LEAST_OF: &str = "SELECT gtin, days FROM least WHERE gtin = ?1 ORDER BY rowid";
 
-pub(crate) const ALL_LEAST: &str = "SELECT gtin, days FROM least ORDER BY rowid";
+pub(crate) const ASKING_LEAST: &str = "SELECT gtin, days FROM least WHERE days > ?1 ORDER BY rowid";
 
 pub(crate) const CHANGE_LOT: &str =
     "UPDATE lots SET gtin = ?1, lot = ?2, expiry = ?3, came = ?4, held = ?5 WHERE gtin = ?1 AND lot = ?2";
@@ -76,7 +76,7 @@ pub const TEXTS: [&str; 26] = [
     CHANGE_LEAST,
     ADD_LEAST,
     LEAST_OF,
-    ALL_LEAST,
+    ASKING_LEAST,
     CHANGE_LOT,
     ADD_LOT,
     LOTS_OF,

@@ -1,21 +1,14 @@
 -- The lines of a lot's shipments as they are read one at a time, by number.
-use Rattle.std.proofs.Common.{bytes_eq, ◌≡◌, ◌<◌, ℕ, Bool, true, false, cond, ◌&&◌, List, [], ◌∷◌, ◌++◌, codes, map, find, slice_get, Option, Some, None, Result, Ok, Err, pos, refl, sym, ap, ap₂, ◌∙◌, subst, arith, inl, inr, Equal, Less, int_cmp, is_gt}
+use Rattle.std.proofs.Common.{bytes_eq, ◌≡◌, ◌<◌, ℕ, Bool, true, false, cond, ◌&&◌, List, [], ◌∷◌, ◌++◌, codes, map, find, slice_get, Option, Some, None, Result, Ok, Err, pos, refl, sym, ap, ap₂, ◌∙◌, subst, arith, inl, inr, Equal, Less}
 use Rattle.std.specs.Prelude.{◌⊎◌, nat_eq, nat_lt, if◌then◌else◌, IsSome, IfOk, IfErr, OnOk, OnErr}
 use Rattle.std.specs.List.{AllByRecursion}
 use Rattle.std.proofs.lemmas.Bool.{cases_Bool, and_parts}
-use Rattle.std.proofs.lemmas.Bool.Decides.{nat_tests}
-use Rattle.std.proofs.lemmas.Int.{ints}
 use Rattle.sqlite.specs.Schema.{Schema}
-use Rattle.sqlite.specs.declared.types.Value.{Value}
 use Rattle.sqlite.specs.declared.types.Value.TheVariants.{Null, Int, Text}
 use Rattle.sqlite.specs.Order.{Row, column, bytes}
-use Rattle.sqlite.specs.Term.{Term, col, op2}
+use Rattle.sqlite.specs.Term.{Term}
 use Rattle.sqlite.specs.Command.TheVariants.{Select}
-use Rattle.sqlite.specs.Collation.TheVariants.{Binary}
 use Rattle.sqlite.specs.Effect.{Database}
-use Rattle.sqlite_sql.specs.declared.ops.BinaryOp.TheVariants.{Compare}
-use Rattle.sqlite_sql.specs.declared.ops.CompareOp.TheVariants.{Gt}
-use Rattle.sqlite_sql.specs.Ops.{binary, is_true, from_truth}
 use Rattle.sqlite_tied.specs.Compute.{everything}
 use Rattle.sqlite.specs.Listing.{understood, reads_listing}
 use Rattle.sqlite.specs.State.{State, Shown, Survives, IsUnchanged, IsRolledBack}
@@ -24,7 +17,6 @@ use Rattle.sqlite_trees.specs.Tree.{Trees, rowid}
 use Rattle.sqlite_rules.specs.Lists.{Has}
 use Rattle.sqlite_rules.proofs.ListLemmas.{all_has}
 use Rattle.sqlite_value.specs.Order.{value_cmp}
-use Rattle.sqlite_value.proofs.OrderLemmas.{value_cmp-Int}
 use Rattle.sqlite_keyed.proofs.ListLemmas.{map-map, all_map}
 use Rattle.values.specs.Values.{is_gtin, is_lot_text}
 use Rattle.values.specs.declared.lot.LotId.{LotId}
@@ -53,15 +45,12 @@ use Rattle.each_row.proofs.Rising.{one_order}
 use Rattle.each_row.proofs.Over.{rest_shown, over}
 use Rattle.history_tables.specs.ByKey.{AreByNumber}
 use Rattle.history_tables.specs.Taken.{row_taken}
+use Rattle.keyed_rows.proofs.Above.{above, above_count}
 use Rattle.keyed_rows.proofs.Laws.{apart, rows_of, typed_rows}
 use Rattle.history_tables.specs.Shiplines.{shiplines, shiplines_laws}
 
 abbrev pub after_text : List ℕ
 after_text = SHIPLINES_AFTER.now
-
--- the column at this place is above the parameter at that one
-abbrev above : ℕ → ℕ → Term
-above place parameter = op2 (Compare Gt Binary) (col 1 place) (col 0 parameter)
 
 abbrev shown : List Term
 shown = shiplines.shown
@@ -78,21 +67,6 @@ unfolding understood everything
 after_plain rest = (refl, refl)
 
 -- ---- the tests
-
-truth_back : (b : Bool) → is_true (from_truth (Some b)) ≡ b
-truth_back true = refl
-truth_back false = refl
-
-greater : (m n : ℕ) → is_gt (int_cmp (pos m) (pos n)) ≡ nat_lt n m
-greater m n = grind (arith, ints, nat_tests)
-
-above_int : (m n : ℕ) → is_true (binary (Compare Gt Binary) (Int (pos m)) (Int (pos n))) ≡ nat_lt n m
-unfolding binary
-above_int m n = truth_back (is_gt (value_cmp (Int (pos m)) (Int (pos n)))) ∙ ap is_gt (value_cmp-Int (pos m) (pos n)) ∙ greater m n
-
-above_count : (limit : ℕ) (v : Value) (n : ℕ) → is_number limit v ≡ true → is_true (binary (Compare Gt Binary) v (Int (pos n))) ≡ nat_lt n (number_in v)
-above_count limit (Int (pos m)) n h = above_int m n
-above_count limit v n h = absurd cc
 
 ship_number : (r : Row) → is_shipline r ≡ true → is_number ACTS_MAX (column r 1) ≡ true
 ship_number r h = (and_parts _ _ h).0

@@ -11,7 +11,7 @@ use Rattle.values.specs.Values.{is_gtin, is_lot_text, is_name}
 use Rattle.commands.specs.Tables.{Tables}
 use Rattle.commands.specs.declared.rows.ReservedRow.{ReservedRow}
 use Rattle.commands.specs.declared.limits.TheConstants.{UNITS_MAX}
-use Rattle.order_tables.specs.declared.texts.TheConstants.{ADD_RESERVED, CHANGE_RESERVED, RESERVED_OF_ITEM, RESERVED_OF_ORDER, DROP_RESERVED}
+use Rattle.order_tables.specs.declared.texts.TheConstants.{ADD_RESERVED, CHANGE_RESERVED, RESERVED_OF_ITEM, RESERVED_OF_ORDER, RESERVED_OF, DROP_RESERVED}
 use Rattle.table_words.specs.Found.{AreRows}
 use Rattle.table_words.specs.Cells.{is_the_text}
 use Rattle.table_words.specs.Schema.{reserved_tree, reserved_table}
@@ -83,6 +83,21 @@ reserved_of_order = record {
 
 abbrev pub AreReservedOfOrder : List ℕ → Tables → List ReservedRow → Type 0
 AreReservedOfOrder name t rows = AreRows {K = ReservedKey} same_reserved reserved_key (λ k. bytes_eq name k.0) (λ k. t.reserved k.0 k.1) rows
+
+-- that of an order and a lot
+abbrev pub reserved_of : Query ReservedRow ReservedKey ReservedKey
+reserved_of = record {
+  may = λ by. true;
+  text = RESERVED_OF.now;
+  params = reserved.key_cells;
+  tests = reserved.tests;
+  order = by_rowid;
+  wanted = λ key s. same_reserved key (reserved_key s);
+  stored = λ key r. is_the_text key.0 (column r 1) && (is_the_text key.1.gtin (column r 2) && is_the_text key.1.lot (column r 3));
+}
+
+abbrev pub AreReservedOf : ReservedKey → Tables → List ReservedRow → Type 0
+AreReservedOf key t rows = AreRows {K = ReservedKey} same_reserved reserved_key (λ k. same_reserved key k) (λ k. t.reserved k.0 k.1) rows
 
 -- ---- what holds of them
 
@@ -164,4 +179,17 @@ reserved_of_order_laws = record {
   at_stored = λ name r int. and_true _ ∙ equals_text (column r 1) name;
   ordered = λ db ready name rows a. in_order db.trees (reserved_of_order.params name) reserved_tree reserved_of_order.tests reserved.shown rows (rows_of reserved reserved_laws db ready).0 a;
   finds = λ db ready name xs are. found_by_key reserved reserved_laws (λ k. bytes_eq name k.0) db ready xs are;
+}
+
+reserved_of_is : QueryIs reserved reserved_of
+unfolding understood everything
+reserved_of_is rest = (refl, refl, (refl, refl))
+
+pub reserved_of_laws : IsSought reserved reserved_of AreReservedOf
+reserved_of_laws = record {
+  is = reserved_of_is;
+  at = at_key;
+  at_stored = λ key r int. ap₂ ◌&&◌ (equals_text (column r 1) key.0) (ap₂ ◌&&◌ (equals_text (column r 2) key.1.gtin) (and_true _ ∙ equals_text (column r 3) key.1.lot));
+  ordered = λ db ready key rows a. in_order db.trees (reserved_of.params key) reserved_tree reserved_of.tests reserved.shown rows (rows_of reserved reserved_laws db ready).0 a;
+  finds = λ db ready key xs are. found_by_key reserved reserved_laws (λ k. same_reserved key k) db ready xs are;
 }

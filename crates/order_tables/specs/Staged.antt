@@ -11,7 +11,7 @@ use Rattle.values.specs.Values.{is_gtin, is_lot_text, is_name}
 use Rattle.commands.specs.Tables.{Tables}
 use Rattle.commands.specs.declared.rows.StagedRow.{StagedRow}
 use Rattle.commands.specs.declared.limits.TheConstants.{UNITS_MAX}
-use Rattle.order_tables.specs.declared.texts.TheConstants.{ADD_STAGED, CHANGE_STAGED, STAGED_OF_ITEM, STAGED_OF_ORDER, ALL_STAGED, DROP_STAGED}
+use Rattle.order_tables.specs.declared.texts.TheConstants.{ADD_STAGED, CHANGE_STAGED, STAGED_OF_ITEM, STAGED_OF_ORDER, STAGED_OF, ALL_STAGED, DROP_STAGED}
 use Rattle.table_words.specs.Found.{AreRows}
 use Rattle.table_words.specs.Cells.{is_the_text}
 use Rattle.table_words.specs.Schema.{staged_tree, staged_table}
@@ -84,6 +84,21 @@ staged_of_order = record {
 
 abbrev pub AreStagedOfOrder : List ℕ → Tables → List StagedRow → Type 0
 AreStagedOfOrder name t rows = AreRows {K = StagedKey} same_staged staged_key (λ k. bytes_eq name k.0) (λ k. t.staged k.0 k.1) rows
+
+-- that of an order and a lot
+abbrev pub staged_of : Query StagedRow StagedKey StagedKey
+staged_of = record {
+  may = λ by. true;
+  text = STAGED_OF.now;
+  params = staged.key_cells;
+  tests = staged.tests;
+  order = by_rowid;
+  wanted = λ key s. same_staged key (staged_key s);
+  stored = λ key r. is_the_text key.0 (column r 1) && (is_the_text key.1.gtin (column r 2) && is_the_text key.1.lot (column r 3));
+}
+
+abbrev pub AreStagedOf : StagedKey → Tables → List StagedRow → Type 0
+AreStagedOf key t rows = AreRows {K = StagedKey} same_staged staged_key (λ k. same_staged key k) (λ k. t.staged k.0 k.1) rows
 
 -- all of them
 abbrev pub all_staged : Query StagedRow StagedKey All
@@ -180,6 +195,19 @@ staged_of_order_laws = record {
   at_stored = λ name r int. and_true _ ∙ equals_text (column r 1) name;
   ordered = λ db ready name rows a. in_order db.trees (staged_of_order.params name) staged_tree staged_of_order.tests staged.shown rows (rows_of staged staged_laws db ready).0 a;
   finds = λ db ready name xs are. found_by_key staged staged_laws (λ k. bytes_eq name k.0) db ready xs are;
+}
+
+staged_of_is : QueryIs staged staged_of
+unfolding understood everything
+staged_of_is rest = (refl, refl, (refl, refl))
+
+pub staged_of_laws : IsSought staged staged_of AreStagedOf
+staged_of_laws = record {
+  is = staged_of_is;
+  at = at_key;
+  at_stored = λ key r int. ap₂ ◌&&◌ (equals_text (column r 1) key.0) (ap₂ ◌&&◌ (equals_text (column r 2) key.1.gtin) (and_true _ ∙ equals_text (column r 3) key.1.lot));
+  ordered = λ db ready key rows a. in_order db.trees (staged_of.params key) staged_tree staged_of.tests staged.shown rows (rows_of staged staged_laws db ready).0 a;
+  finds = λ db ready key xs are. found_by_key staged staged_laws (λ k. same_staged key k) db ready xs are;
 }
 
 all_staged_is : QueryIs staged all_staged

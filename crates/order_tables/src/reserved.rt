@@ -1,7 +1,7 @@
 //! The table `reserved`.
 
 use crate::texts::{
-    ADD_RESERVED, CHANGE_RESERVED, DROP_RESERVED, RESERVED_OF_ITEM, RESERVED_OF_ORDER,
+    ADD_RESERVED, CHANGE_RESERVED, DROP_RESERVED, RESERVED_OF, RESERVED_OF_ITEM, RESERVED_OF_ORDER,
 };
 use commands::ReservedRow;
 use commands::limits::UNITS_MAX;
@@ -152,5 +152,29 @@ impl Sought<Name> for Reserved {
         order: &Name,
     ) -> Result<Vec<ReservedRow>, TableFault> {
         query_rows::<Reserved, S>(alloc, tx, sql, &[of_name(order)])
+    }
+}
+
+impl Sought<(Name, LotId)> for Reserved {
+    ghost use Rattle.order_tables.specs.Reserved.{reserved_of, AreReservedOf, reserved_of_laws};
+
+    ghost query = { reserved_of };
+
+    ghost are_of = { AreReservedOf };
+
+    ghost query_laws = { reserved_of_laws };
+
+    fn query_text(_: &(Name, LotId)) -> &'static str {
+        RESERVED_OF
+    }
+
+    fn run_query<S: Alter>(
+        alloc: Global,
+        tx: &mut Transaction<'_, S>,
+        sql: &str,
+        key: &(Name, LotId),
+    ) -> Result<Vec<ReservedRow>, TableFault> {
+        let cells = [of_name(&key.0), of_gtin(&key.1.gtin), of_lot(&key.1.lot)];
+        query_rows::<Reserved, S>(alloc, tx, sql, &cells)
     }
 }

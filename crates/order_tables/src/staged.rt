@@ -1,7 +1,7 @@
 //! The table `staged`.
 
 use crate::texts::{
-    ADD_STAGED, ALL_STAGED, CHANGE_STAGED, DROP_STAGED, STAGED_OF_ITEM, STAGED_OF_ORDER,
+    ADD_STAGED, ALL_STAGED, CHANGE_STAGED, DROP_STAGED, STAGED_OF, STAGED_OF_ITEM, STAGED_OF_ORDER,
 };
 use commands::StagedRow;
 use commands::limits::UNITS_MAX;
@@ -175,5 +175,29 @@ impl Sought<All> for Staged {
         _: &All,
     ) -> Result<Vec<StagedRow>, TableFault> {
         query_rows::<Staged, S>(alloc, tx, sql, &[])
+    }
+}
+
+impl Sought<(Name, LotId)> for Staged {
+    ghost use Rattle.order_tables.specs.Staged.{staged_of, AreStagedOf, staged_of_laws};
+
+    ghost query = { staged_of };
+
+    ghost are_of = { AreStagedOf };
+
+    ghost query_laws = { staged_of_laws };
+
+    fn query_text(_: &(Name, LotId)) -> &'static str {
+        STAGED_OF
+    }
+
+    fn run_query<S: Alter>(
+        alloc: Global,
+        tx: &mut Transaction<'_, S>,
+        sql: &str,
+        key: &(Name, LotId),
+    ) -> Result<Vec<StagedRow>, TableFault> {
+        let cells = [of_name(&key.0), of_gtin(&key.1.gtin), of_lot(&key.1.lot)];
+        query_rows::<Staged, S>(alloc, tx, sql, &cells)
     }
 }

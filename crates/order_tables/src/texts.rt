@@ -39,6 +39,9 @@ pub(crate) const RESERVED_OF_ITEM: &str =
 pub(crate) const RESERVED_OF_ORDER: &str =
     "SELECT ord, gtin, lot, qty FROM reserved WHERE ord = ?1 ORDER BY rowid";
 
+pub(crate) const RESERVED_OF: &str =
+    "SELECT ord, gtin, lot, qty FROM reserved WHERE ord = ?1 AND gtin = ?2 AND lot = ?3 ORDER BY rowid";
+
 pub(crate) const DROP_STAGED: &str = "DELETE FROM staged WHERE ord = ?1 AND gtin = ?2 AND lot = ?3";
 
 pub(crate) const CHANGE_STAGED: &str =
@@ -53,6 +56,9 @@ pub(crate) const STAGED_OF_ITEM: &str =
 pub(crate) const STAGED_OF_ORDER: &str =
     "SELECT ord, gtin, lot, qty FROM staged WHERE ord = ?1 ORDER BY rowid";
 
+pub(crate) const STAGED_OF: &str =
+    "SELECT ord, gtin, lot, qty FROM staged WHERE ord = ?1 AND gtin = ?2 AND lot = ?3 ORDER BY rowid";
+
 pub(crate) const ALL_STAGED: &str = "SELECT ord, gtin, lot, qty FROM staged ORDER BY rowid";
 
 pub(crate) const ADD_URGENT: &str = "INSERT INTO urgents (ord, act) VALUES (?1, ?2)";
@@ -62,7 +68,7 @@ pub(crate) const URGENTS_OF: &str = "SELECT ord, act FROM urgents WHERE ord = ?1
 pub(crate) const ALL_URGENTS: &str = "SELECT ord, act FROM urgents ORDER BY rowid";
 
 /// All of them. A connection keeps the plans of its last 64 texts, so the tables together have at most 60.
-pub const TEXTS: [&str; 22] = [
+pub const TEXTS: [&str; 24] = [
     CHANGE_LINE,
     ADD_LINE,
     LINES_OF_ORDER,
@@ -76,11 +82,13 @@ pub const TEXTS: [&str; 22] = [
     ADD_RESERVED,
     RESERVED_OF_ITEM,
     RESERVED_OF_ORDER,
+    RESERVED_OF,
     DROP_STAGED,
     CHANGE_STAGED,
     ADD_STAGED,
     STAGED_OF_ITEM,
     STAGED_OF_ORDER,
+    STAGED_OF,
     ALL_STAGED,
     ADD_URGENT,
     URGENTS_OF,

@@ -141,7 +141,7 @@ abbrev pub lines_of : Items → Option (List OrderLine)
 lines_of no_items = Some []
 lines_of (item d ds) = option_and_then (λ l. option_map (λ ls. l ∷ ls) (lines_of ds)) (line_of d)
 
--- a list of 1 to 20 lines
+-- a list of 1 to 200 lines
 abbrev pub lines_at : List ℕ → Data → Option (List OrderLine)
 lines_at name d =
     option_and_then (checked has_order_lines) (option_and_then lines_of (option_and_then as_array (get name d)))

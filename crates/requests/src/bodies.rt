@@ -169,7 +169,7 @@ fn lines_of(alloc: Global, items: &[Value]) -> Result<Vec<OrderLine>, WireFault>
     Ok(found)
 }
 
-// A list of 1 to 20 lines.
+// A list of 1 to 200 lines.
 fn lines_at(alloc: Global, value: &Value, name: &str) -> Result<Lines, WireFault>
     ensures ok { IfOk result (λ v. lines_at_lem name.now (view value.now) ≡ Some v) }
     ensures err { IfErr result (λ e. e ≢ WireFault.Memory → (e ≡ WireFault.Field)

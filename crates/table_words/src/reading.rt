@@ -38,7 +38,7 @@ fn read_all<T: Readable>(alloc: Global, rows: &[Row]) -> Result<Vec<T::Record>, 
     ensures ok { IfOk result (λ found. map T.reads rows.now ≡ found.items) }
     ensures foreign { IfErr result (λ e. e ≡ Foreign → ¬ AllByRecursion (λ v. T.has v ≡ true) rows.now) }
 {
-    let mut found = Vec::new(alloc);
+    let mut found = Vec::with_capacity(alloc, rows.len())?;
     for row in rows {
         found.push(T::read(alloc, row)?)?;
     }

@@ -1,8 +1,7 @@
 -- What bringing older books up makes of their tables.
-use Rattle.std.proofs.Common.{◌≡◌, ◌⊎◌, inl, inr, ℕ, ℤ, Bool, true, false, IfOk, IfErr, OnOk, Result, Ok, Err, Option, Some, None, List, [], ◌∷◌, ◌++◌, ◌||◌, map, filter, drop, cond, refl, sym, ap, subst, ◌∙◌}
+use Rattle.std.proofs.Common.{◌≡◌, inl, inr, ℕ, ℤ, Bool, true, false, Option, Some, None, List, [], ◌∷◌, ◌++◌, ◌||◌, map, filter, drop, cond, refl, sym, ap, subst, ◌∙◌}
 use Rattle.std.specs.Prelude.{if◌then◌else◌, option_map, find, bytes_eq}
 use Rattle.std.specs.List.{AllByRecursion, list_all, list_any}
-use Rattle.std.specs.Result.{IsErrAnd, IsOkAnd}
 use Rattle.std.proofs.lemmas.Bool.{cases_Bool}
 use Rattle.std.proofs.lemmas.Slice.Eq.{bytes_eq-Decides}
 use Rattle.sqlite.specs.Effect.{Database}
@@ -27,9 +26,7 @@ use Rattle.table_words.specs.Cells.{typed, is_the_number}
 use Rattle.table_words.specs.Rows.{IsRows}
 use Rattle.table_words.specs.Schema.{schema_with, the_tables, least_table, least_tree, urgents_table, urgents_tree, meta_tree, is_harmless}
 use Rattle.table_words.specs.Steps.{IsReady, Goes}
-use Rattle.table_words.specs.Typed.{Tables, tables_in, with_meta, with_least as with_least_row, is_meta_at, meta_in, same_meta, meta_key, meta_rows_rows, meta_at, is_item, is_least, is_urgent, Rule, first_rules, second_rules, Keeps, AreTyped, AreTypedAt}
-use Rattle.table_words.specs.declared.error.TableFault.{TableFault}
-use Rattle.table_words.specs.declared.error.TableFault.TheVariants.{Foreign as TableForeign}
+use Rattle.table_words.specs.Typed.{Tables, tables_in, with_meta, with_least as with_least_row, is_meta_at, meta_in, same_meta, meta_key, meta_at, is_item, is_least, is_urgent, Rule, first_rules, second_rules, Keeps, AreTyped, AreTypedAt}
 use Rattle.table_words.proofs.StepLemmas.{tables_same, typed_same}
 use Rattle.tables.specs.Bringing.{as_brought, older_tables_in, AreOlderTyped, AreFillersTyped, AreOlderRows, IsOlderReady, IsOlder, HasRoom, row_of, AsksNone, Fills, IsWritten, IsFilled}
 use Rattle.tables.specs.Growing.{Makes, IsGrown}
@@ -115,37 +112,12 @@ grown_room older base s rows made =
 
 -- ---- the row of `meta`
 
--- the row that was read is that of the trees
-pub row_read : {R : Type 0} (rows : Result R TableFault) (items : R → List MetaRow) (r : Result MetaRow TableFault) (version : ℕ) (trees : Trees) → IfOk rows (λ x. find (λ _. true) (items x) ≡ meta_at version trees)
-    → OnOk rows (AllByRecursion (λ r. is_meta_at version r ≡ true) (meta_rows_rows 1 trees)) → IfOk r (λ m. IsOkAnd rows (λ x. find (λ _. true) (items x) ≡ Some m)) → IfOk r (HasRow version trees)
-row_read (Ok x) items (Ok m) version trees is typed h = record { typed = typed; found = sym is ∙ h }
-row_read (Err e) items (Ok m) version trees is typed h = absurd h
-row_read rows items (Err e) version trees is typed h = tt
-
--- and where none is read, the trees have none
-pub no_row : {R : Type 0} (rows : Result R TableFault) (items : R → List MetaRow) (r : Result MetaRow TableFault) (version : ℕ) (trees : Trees) → IfOk rows (λ x. find (λ _. true) (items x) ≡ meta_at version trees)
-    → IfErr rows (λ e. e ≡ TableForeign → ¬ AllByRecursion (λ r. is_meta_at version r ≡ true) (meta_rows_rows 1 trees)) → IfErr r (λ e. IsErrAnd rows (λ x. x ≡ e) ⊎ IsOkAnd rows (λ x. find (λ _. true) (items x) ≡ None))
-    → IfErr r (λ e. e ≡ TableForeign → (day : ℤ) → ¬ HasDayAt version trees day)
-no_row rows items (Ok m) version trees is other h = tt
-no_row (Ok x) items (Err e) version trees is other (inl h) = absurd h
-no_row (Ok x) items (Err e) version trees is other (inr none) = λ foreign day has. let no : None ≡ Some day = ap (option_map (λ (m : MetaRow). m.day)) (sym none ∙ is) ∙ has.found in cc
-no_row (Err x) items (Err e) version trees is other (inl same) = λ foreign day has. other (same ∙ foreign) has.typed
-no_row (Err x) items (Err e) version trees is other (inr h) = absurd h
-
-pub on_row : {R : Type 0} (P : Type 0) (rows : Result R TableFault) (items : R → List MetaRow) (r : Result MetaRow TableFault) → OnOk rows P → IfOk r (λ m. IsOkAnd rows (λ x. find (λ _. true) (items x) ≡ Some m)) → OnOk r P
-on_row P (Ok x) items (Ok m) h is = h
-on_row P (Err e) items (Ok m) h is = absurd is
-on_row P rows items (Err e) h is = tt
-
 -- the day hangs on the rows of `meta` alone
 pub same_day : (version : ℕ) (a b : Trees) (day : ℤ) → a meta_tree ≡ b meta_tree → HasDayAt version a day → HasDayAt version b day
 same_day version a b day same has = record {
   typed = subst (λ (rows : List Row). AllByRecursion (λ r. is_meta_at version r ≡ true) (filter (λ r. is_the_number 1 (column r 0)) rows)) same has.typed;
   found = subst (λ (rows : List Row). option_map (λ (m : MetaRow). m.day) (find (λ s. same_meta 1 (meta_key s)) (typed (is_meta_at version) meta_in rows)) ≡ Some day) same has.found;
 }
-
-pub day_of_row : (version : ℕ) (trees : Trees) (m : MetaRow) → HasRow version trees m → HasDayAt version trees m.day
-day_of_row version trees m has = record { typed = has.typed; found = ap (option_map (λ (x : MetaRow). x.day)) has.found }
 
 pub meta_kept : (older : OlderBooks) (old new : Trees) → KeepsOlderRows older old new → new meta_tree ≡ old meta_tree
 meta_kept First old new kept = kept.0

@@ -1,5 +1,5 @@
 -- Which trees and schemas are those of books, what they come to, and what is left of a connection that was not opened.
-use Rattle.std.specs.Prelude.{◌≡◌, ℕ, IsTrue, ⊤}
+use Rattle.std.specs.Prelude.{◌≡◌, ℤ, IsTrue, ⊤}
 use Rattle.sqlite.specs.Schema.{Schema}
 use Rattle.sqlite.specs.Tree.{Trees}
 use Rattle.sqlite_catalog.specs.Listing.{IsSound}
@@ -10,11 +10,11 @@ use Rattle.sqlite_trees.specs.View.{IsClean, IsQuiet}
 use Rattle.sqlite.specs.Held.{Held, state}
 use Rattle.sqlite.specs.Effect.{Database}
 use Rattle.sqlite.specs.State.{State}
-use Rattle.commands.specs.declared.limits.TheConstants.{SCHEMA_VERSION}
 use Rattle.table_words.specs.Steps.{IsReady}
 use Rattle.tables.specs.Bringing.{AreFillersTyped, IsOlderReady, IsBrought}
 use Rattle.tables.specs.Indexing.{KeepsRows}
 use Rattle.tables.specs.Older.{number, IsOlderSchema, KeepsOlderRows}
+use Rattle.tables.specs.Settling.{HasDayAt, HasDay, IsNumbered}
 use Rattle.tables.specs.declared.opening.Found.{Found}
 use Rattle.tables.specs.declared.opening.Found.TheVariants.{Newest, Older}
 use Rattle.tables.specs.declared.opening.Leftover.{Leftover}
@@ -34,10 +34,10 @@ abbrev pub IsReadyAs : Found → Database → Type 0
 IsReadyAs Newest db = IsReady db
 IsReadyAs (Older older) db = IsOlderReady older db
 
--- their schema number
-abbrev pub number_of : Found → ℕ
-number_of Newest = SCHEMA_VERSION
-number_of (Older older) = number older
+-- the row of `meta` has this day, under a number that these books may have
+abbrev pub HasDayIn : Found → Trees → ℤ → Type 0
+HasDayIn Newest trees day = HasDay trees day
+HasDayIn (Older older) trees day = HasDayAt (number older) trees day
 
 -- the rows that are read as they are opened, beside that of `meta`, read as typed ones
 abbrev pub AreReadTyped : Found → Trees → Type 0
@@ -51,7 +51,7 @@ KeepsRowsAs (Older older) old new = KeepsOlderRows older old new
 
 -- the newest tables, which come of their rows
 abbrev pub ComesTo : Found → Trees → Trees → Type 0
-ComesTo Newest old new = KeepsRows old new
+ComesTo Newest old new = IsNumbered old new
 ComesTo (Older older) old new = IsBrought older old new
 
 -- the connection shows the newest tables, and all is committed

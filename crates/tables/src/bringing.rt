@@ -1,12 +1,10 @@
 //! Brings older books up to the newest schema, in one transaction.
 
-ghost use Rattle.std.specs.Prelude.{◌≡◌, ◌≢◌, ◌⊎◌, ℕ, ℤ, None, Some, false, IsTrue, IsErrAnd, IsOkAnd, OnOk, OnErr, IfOk, IfErr, find, true, map};
-ghost use Rattle.std.specs.List.{AllByRecursion};
+ghost use Rattle.std.specs.Prelude.{◌≡◌, ◌≢◌, ℕ, ℤ, false, IsTrue, OnOk, OnErr, IfOk, IfErr, map};
 ghost use Rattle.sqlite.specs.State.{HasCleanDisk, Survives, KeepsCommit, IsUnchanged};
 ghost use Rattle.sqlite.specs.Held.{state};
 ghost use Rattle.sqlite.specs.Tree.{Trees};
 ghost use Rattle.table_words.specs.Steps.{IsReady};
-ghost use Rattle.table_words.specs.Typed.{is_meta_at, meta_rows_rows, meta_at};
 ghost use Rattle.table_words.specs.declared.error.TableFault.TheVariants.{Foreign as ForeignTable};
 ghost use Rattle.tables.specs.Bringing.{AreItemsTyped, AreFillersTyped, IsOlder, IsOlderReady, HasRoom, AsksNone, Fills, IsBrought, IsWritten, IsFilled, row_of};
 ghost use Rattle.tables.specs.Indexing.{HasIndexes};
@@ -17,11 +15,12 @@ ghost use Rattle.tables.specs.Settling.{HasDayAt, HasRow};
 use crate::dropping::drop_indexes;
 use crate::indexing::make_indexes;
 use crate::older::OlderBooks;
+use crate::settling::meta_row_at;
 use crate::steps::{STEPS, run_steps};
 use commands::{ItemRow, LeastDays, LeastRow, MetaRow};
 use goods_tables::items::Items;
 use goods_tables::least::Least;
-use goods_tables::meta::{meta_rows_at, raise_meta};
+use goods_tables::meta::raise_meta;
 use keyed_rows::reading::{All, seek};
 use keyed_rows::rows::add_all;
 use label::BusinessDay;
@@ -41,40 +40,6 @@ fn make_room<S: Alter>(tx: &mut Transaction<'_, S>, older: OlderBooks) -> Result
     run_steps(tx, &STEPS, older.number())
 }
 
-/// The row of `meta` that was read; `Foreign` where there is none.
-fn first_meta(rows: Result<Vec<MetaRow>, TableFault>) -> Result<MetaRow, TableFault>
-    ensures row { IfOk result (λ m. IsOkAnd rows (λ rows. find (λ _. true) rows.items ≡ Some m)) }
-    ensures fault { IfErr result (λ e. IsErrAnd rows (λ x. x ≡ e) ⊎ IsOkAnd rows (λ rows. find (λ _. true) rows.items ≡ None)) }
-{
-    match rows?.as_slice().first() {
-        Some(row) => Ok(*row),
-        None => Err(TableFault::Foreign),
-    }
-}
-
-/// The rows of `meta` in these books, which is one at most; `Foreign` where one has a value that no row has.
-fn meta_rows_of<S: Alter>(
-    alloc: Global,
-    tx: &mut Transaction<'_, S>,
-    older: OlderBooks,
-) -> Result<Vec<MetaRow>, TableFault>
-    ensures same_reference { tx.new.conn.ghost_name ≡ tx.old.conn.ghost_name }
-    ensures rows { HasCleanDisk (state S.Store tx.new.conn.now) → IsReady (state S.Store tx.old.conn.now).now
-        → IfOk result (λ rows. find (λ _. true) rows.items ≡ meta_at (number older) (state S.Store tx.old.conn.now).now.trees) }
-    ensures typed { HasCleanDisk (state S.Store tx.new.conn.now) → IsReady (state S.Store tx.old.conn.now).now
-        → OnOk result (AllByRecursion (λ r. is_meta_at (number older) r ≡ true) (meta_rows_rows 1 (state S.Store tx.old.conn.now).now.trees)) }
-    ensures foreign { HasCleanDisk (state S.Store tx.new.conn.now) → IsReady (state S.Store tx.old.conn.now).now
-        → IfErr result (λ e. e ≡ ForeignTable → ¬ AllByRecursion (λ r. is_meta_at (number older) r ≡ true) (meta_rows_rows 1 (state S.Store tx.old.conn.now).now.trees)) }
-    ensures same { HasCleanDisk (state S.Store tx.new.conn.now) → IsReady (state S.Store tx.old.conn.now).now → OnOk result (IsUnchanged (state S.Store tx.old.conn.now) (state S.Store tx.new.conn.now)) }
-    ensures kept { HasCleanDisk (state S.Store tx.new.conn.now) → IsReady (state S.Store tx.old.conn.now).now → KeepsCommit (state S.Store tx.old.conn.now) (state S.Store tx.new.conn.now) }
-    ensures survives { Survives (state S.Store tx.old.conn.now) (state S.Store tx.new.conn.now) (λ _. ⊥) }
-{
-    match older {
-        OlderBooks::First => meta_rows_at::<1, S>(alloc, tx),
-        OlderBooks::Second => meta_rows_at::<2, S>(alloc, tx),
-    }
-}
-
 /// The row of `meta` in these books; `Foreign` where there is no such row, or one with a value that no row has.
 fn stored_meta<S: Alter>(
     alloc: Global,
@@ -89,7 +54,10 @@ fn stored_meta<S: Alter>(
     ensures kept { HasCleanDisk (state S.Store tx.new.conn.now) → IsReady (state S.Store tx.old.conn.now).now → KeepsCommit (state S.Store tx.old.conn.now) (state S.Store tx.new.conn.now) }
     ensures survives { Survives (state S.Store tx.old.conn.now) (state S.Store tx.new.conn.now) (λ _. ⊥) }
 {
-    first_meta(meta_rows_of(alloc, tx, older))
+    match older {
+        OlderBooks::First => meta_row_at::<1, S>(alloc, tx),
+        OlderBooks::Second => meta_row_at::<2, S>(alloc, tx),
+    }
 }
 
 fn none_asked() -> LeastDays

@@ -1,4 +1,4 @@
-//! Whether a schema that was found is that of books of an older schema, and of which.
+//! Whether a schema that was found is that of books that lack tables, and of which.
 
 ghost use Rattle.std.specs.Prelude.{◌≡◌, ◌↔◌, IsTrue, IfOk, length, map};
 ghost use Rattle.std.specs.List.{list_any, list_all};
@@ -11,7 +11,7 @@ use crate::layouts::{ALL_TABLES, IndexLayout, OLDER_KEYS};
 use sqlite_schema::schema::{Index, Schema, Table};
 use std::alloc::{AllocError, Global};
 
-/// Books of an older schema.
+/// Books of an older schema, which lack tables of the newest.
 #[derive(Clone, Copy)]
 pub enum OlderBooks {
     /// Of schema 1, which has no table `least` and none `urgents`.

@@ -12,8 +12,7 @@ ghost use Rattle.sqlite.specs.declared.error.ErrorCode.TheVariants.{OutOfMemory}
 ghost use Rattle.sqlite.specs.declared.error.Error.TheVariants.{SqliteFailure};
 ghost use Rattle.table_words.specs.declared.error.TableFault.TheVariants.{Foreign, Store};
 ghost use Rattle.tables.specs.Indexing.{HasIndexes};
-ghost use Rattle.tables.specs.Opening.{HasSchema, IsOfNone, IsReadyAs, number_of, AreReadTyped, ComesTo, IsCome, IsLeftAs, TellTables, IsLeft, IsClosed, HasFailed};
-ghost use Rattle.tables.specs.Settling.{HasDayAt};
+ghost use Rattle.tables.specs.Opening.{HasSchema, IsOfNone, IsReadyAs, HasDayIn, AreReadTyped, ComesTo, IsCome, IsLeftAs, TellTables, IsLeft, IsClosed, HasFailed};
 ghost use Rattle.tables.specs.declared.opening.Found.{Found};
 
 use crate::bringing::bring_up;
@@ -38,9 +37,10 @@ pub enum Leftover<S: Alter> {
 /// Which books a schema is that of.
 #[derive(Clone, Copy)]
 pub enum Found {
-    /// Books of the newest schema, whatever stands beside their tables.
+    /// Books with the newest tables, whatever stands beside these: of the newest schema, or of schema 3, as the row of
+    /// `meta` tells.
     Newest,
-    /// Books of an older schema, with nothing of another's making beside their tables.
+    /// Books that lack tables, with nothing of another's making beside those that they have.
     Older(OlderBooks),
 }
 
@@ -135,18 +135,19 @@ pub fn ready<S: Alter + Drop>(
     }
 }
 
-/// The business day that is stored, over books that were found: the newest get the indexes that they lack, and older ones
-/// are brought up, in one transaction. `Foreign` where the row of `meta` is missing or has a value that no row has,
-/// or in books of schema 1 an item has one. After an error the tables are as they were.
+/// The business day that is stored, over books that were found: those with the newest tables get the newest number and the
+/// indexes that they lack, and others are brought up, in one transaction. `Foreign` where the row of `meta` is missing, has
+/// another number or a value that no row has, or in books of schema 1 an item has one. After an error the tables are as
+/// they were.
 pub fn settled<S: Alter>(
     alloc: Global,
     conn: &mut Connection<S>,
     found: Found,
 ) -> Result<BusinessDay, TableFault>
     requires outside { conn.old.in_transaction ≡ false }
-    ensures day { HasCleanDisk (state S.Store conn.new) → IsReadyAs found (state S.Store conn.old).now → IfOk result (HasDayAt (number_of found) (state S.Store conn.old).now.trees) }
+    ensures day { HasCleanDisk (state S.Store conn.new) → IsReadyAs found (state S.Store conn.old).now → IfOk result (HasDayIn found (state S.Store conn.old).now.trees) }
     ensures foreign { HasCleanDisk (state S.Store conn.new) → IsReadyAs found (state S.Store conn.old).now
-        → IfErr result (λ e. e ≡ Foreign → (day : ℤ) → HasDayAt (number_of found) (state S.Store conn.old).now.trees day → ¬ AreReadTyped found (state S.Store conn.old).now.trees) }
+        → IfErr result (λ e. e ≡ Foreign → (day : ℤ) → HasDayIn found (state S.Store conn.old).now.trees day → ¬ AreReadTyped found (state S.Store conn.old).now.trees) }
     ensures open { HasCleanDisk (state S.Store conn.new) → OnOk result (IsTrue (state S.Store conn.new).is_open) }
     ensures indexes { HasCleanDisk (state S.Store conn.new) → IsReadyAs found (state S.Store conn.old).now → OnOk result (HasIndexes (state S.Store conn.new).now.schema) }
     ensures comes { HasCleanDisk (state S.Store conn.new) → IsReadyAs found (state S.Store conn.old).now → (state S.Store conn.old).now ≡ (state S.Store conn.old).committed

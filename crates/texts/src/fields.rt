@@ -16,10 +16,10 @@ pub const ACT_WIDTH: usize = 13;
 pub const KIND_WIDTH: usize = 8;
 
 /// The width of the quantity in a card line.
-pub const QTY_WIDTH: usize = 11;
+pub const QTY_WIDTH: usize = 12;
 
 /// The width of the units in the house in a card line.
-pub const REST_WIDTH: usize = 10;
+pub const REST_WIDTH: usize = 11;
 
 /// The word of a kind at the left of its field.
 pub(crate) fn kind_field(kind: CardKind) -> Buffer<CARD_NOTE_MAX>

@@ -82,10 +82,10 @@ fn lines(rt: &impl Abort, alloc: Global, count: usize) -> Vec<OrderLine> {
 #[test]
 fn keeps_lines(rt: HostRuntime) {
     assert!(rt; Lines::new(lines(&rt, rt.alloc(), 0)).is_none());
-    assert!(rt; Lines::new(lines(&rt, rt.alloc(), 21)).is_none());
-    let twenty = Lines::new(lines(&rt, rt.alloc(), 20)).expect(&rt, "twenty lines");
-    assert!(rt; twenty.as_slice().len() == 20);
-    assert!(rt; twenty.into_vec().len() == 20);
+    assert!(rt; Lines::new(lines(&rt, rt.alloc(), 201)).is_none());
+    let most = Lines::new(lines(&rt, rt.alloc(), 200)).expect(&rt, "two hundred lines");
+    assert!(rt; most.as_slice().len() == 200);
+    assert!(rt; most.into_vec().len() == 200);
 }
 
 #[test]

@@ -1,5 +1,5 @@
-//! The tests of what commands are made of, of values, labels, plans, commands and texts, of the program's lines, and of
-//! the orders that may be open.
+//! The tests of what commands are made of, of values, labels, plans, commands, spellings and texts, of the program's
+//! lines, and of the orders that may be open.
 //!
 //! They are a crate of their own, since the tests of a crate are proved together with all of that crate once more.
 #![tactic(auto)]
@@ -22,6 +22,8 @@ mod open_lines_tests;
 mod plain;
 #[cfg(test)]
 mod plan_tests;
+#[cfg(test)]
+mod spellings_tests;
 #[cfg(test)]
 mod text_samples;
 #[cfg(test)]

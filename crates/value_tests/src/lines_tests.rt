@@ -100,16 +100,17 @@ fn answer(alloc: Global, words: &[&str]) -> (u8, bool, bool) {
     (status, !printed.is_empty(), !told.is_empty())
 }
 
-static HELP: [&[&str]; 6] = [
+static HELP: [&[&str]; 7] = [
     &["lotd", "card", "--help"],
     &["lotd", "notice", "--help"],
     &["lotd", "import", "--help"],
+    &["lotd", "history", "--help"],
     &["lotd", "--help"],
     &["lotd", "help", "label"],
     &["lotd", "label", "--help"],
 ];
 
-static MISUSE: [&[&str]; 12] = [
+static MISUSE: [&[&str]; 14] = [
     &["lotd", "card", "--db", "x", "09506000134352"],
     &["lotd", "notice", "09506000134352", "L2"],
     &["lotd", "import", "--db", "x"],
@@ -122,6 +123,8 @@ static MISUSE: [&[&str]; 12] = [
         "lotd", "serve", "--db", "x", "--port", "1024", "--max", "1000001",
     ],
     &["lotd", "card", "--db", "x", "--log", "09506000134352", "L2"],
+    &["lotd", "history"],
+    &["lotd", "history", "--db", "x", "--day", "2026-05-04"],
     &["lotd"],
     &["lotd", "lable"],
     &["lotd", "label", "--day", "2026-05-04"],
@@ -281,6 +284,7 @@ impl Awaited {
             Work::Import { file } => *file == self.word,
             Work::Serve { port, max, log: _ } => *port == self.port && *max == self.max,
             Work::Card(lot) | Work::Notice(lot) => is_lot_word(*lot, self.word),
+            Work::History => self.word == "history",
         };
         same && db == self.db
     }
@@ -327,7 +331,7 @@ struct Handed {
     told: &'static str,
 }
 
-static HANDED_ON: [Handed; 20] = [
+static HANDED_ON: [Handed; 22] = [
     Handed {
         words: &["lotd", "init", "--db", "stock.db", "--day", "2026-05-04"],
         to: Awaited {
@@ -602,6 +606,30 @@ static HANDED_ON: [Handed; 20] = [
         },
         status: 1,
         told: "lotd: value\n",
+    },
+    Handed {
+        words: &["lotd", "history", "--db", "stock.db"],
+        to: Awaited {
+            db: "stock.db",
+            word: "history",
+            port: 0,
+            max: 0,
+            end: End::Done,
+        },
+        status: 0,
+        told: "",
+    },
+    Handed {
+        words: &["lotd", "history", "--db", "stock.db"],
+        to: Awaited {
+            db: "stock.db",
+            word: "history",
+            port: 0,
+            max: 0,
+            end: End::Io,
+        },
+        status: 1,
+        told: "lotd: io\n",
     },
 ];
 

@@ -15,8 +15,8 @@ use texts::{CardLines, CardText, NoticeLines, NoticeText, TextFault, pick_list, 
 
 const CARD: &[u8] = b"STOCK CARD 09506000134352 Oat drink
 LOT L2 EXPIRY 2026-05-31
-            7 2026-05-04 RECEIPT  D-1/2                              10         10
-           13 2026-05-04 SHIPMENT 1                                  -7          3
+            7 2026-05-04 RECEIPT  D-1/2                               10          10
+           13 2026-05-04 SHIPMENT 1                                   -7           3
 IN HOUSE 3
 ";
 
@@ -41,12 +41,15 @@ fn a_card_is_written_line_by_line(rt: HostRuntime) -> Result<(), Fail> {
     Ok(())
 }
 
-// Lines of other kinds, and one whose numbers are wider than their fields, which stay whole.
+// Lines of other kinds; two whose fields are full, one with the widest reference and one with the widest quantity, since all
+// the units that there may be of an item may go at once; and one whose numbers are wider than their fields, which stay whole.
 const LINES: &[u8] =
-    b"           11 2026-05-04 WRITEOFF A-01                               -2          8
-           12 2026-05-04 WRITEON  A-01                                1          9
-10000000000000 2026-05-04 RECEIPT  D-1/2                              10 10000000000
-IN HOUSE 10000000000
+    b"           11 2026-05-04 WRITEOFF A-01                                -2           8
+           12 2026-05-04 WRITEON  A-01                                 1           9
+1000000000000 2026-05-04 RECEIPT  DELIVERY-2026-05-04A/9999      1000000 10000000000
+1000000000000 2026-05-04 WRITEOFF STORE-HALL-1-RACK-01      -10000000000 10000000000
+10000000000000 2026-05-04 RECEIPT  D-1/2                               10 100000000000
+IN HOUSE 100000000000
 ";
 
 #[test]
@@ -59,11 +62,27 @@ fn a_card_has_lines_of_every_kind(rt: HostRuntime) -> Result<(), Fail> {
         card_row(&rt, 12, CardKind::WriteOn, "A-01", 1, 9),
         card_row(
             &rt,
+            1_000_000_000_000,
+            CardKind::Receipt,
+            "DELIVERY-2026-05-04A/9999",
+            1_000_000,
+            10_000_000_000,
+        ),
+        card_row(
+            &rt,
+            1_000_000_000_000,
+            CardKind::WriteOff,
+            "STORE-HALL-1-RACK-01",
+            -10_000_000_000,
+            10_000_000_000,
+        ),
+        card_row(
+            &rt,
             10_000_000_000_000,
             CardKind::Receipt,
             "D-1/2",
             10,
-            10_000_000_000,
+            100_000_000_000,
         ),
     ];
     let mut out = Vec::new(rt.alloc());
@@ -98,8 +117,8 @@ fn a_notice_is_written_line_by_line(rt: HostRuntime) -> Result<(), Fail> {
 }
 
 // A bin may have all the units that there may be of an item.
-const FULL_BIN: &[u8] = b"BIN A-01 1000000000
-TOTAL BINS 1000000000 SHIPPED 0
+const FULL_BIN: &[u8] = b"BIN A-01 10000000000
+TOTAL BINS 10000000000 SHIPPED 0
 ";
 
 #[test]
@@ -107,7 +126,7 @@ fn a_notice_counts_a_full_bin(rt: HostRuntime) -> Result<(), Fail> {
     let mut start = Vec::new(rt.alloc());
     let mut text = NoticeText::start(&oats(&rt), &lot(&rt, "L2"), None, &mut start)?;
     let mut out = Vec::new(rt.alloc());
-    text.bin(&in_a_01(&rt, 1_000_000_000), &mut out)?;
+    text.bin(&in_a_01(&rt, 10_000_000_000), &mut out)?;
     text.end(&mut out)?;
     assert_eq!(rt; out.as_slice(), FULL_BIN);
     Ok(())

@@ -16,3 +16,4 @@ pub mod StockGiven
 pub mod Service
 pub mod ShortsShown
 pub mod ShortGiven
+pub mod OrderGiven

@@ -16,24 +16,11 @@ use Rattle.row_rules.specs.Seen.{capped, has_recall}
 use Rattle.row_rules.specs.Status.{status_seen}
 use Rattle.row_rules.specs.LookUps.{GivesRows}
 use Rattle.row_rules.specs.declared.slice.Rows.{Rows}
-use Rattle.row_rules.proofs.LookingUp.{any_given, total_given, map_agree}
+use Rattle.row_rules.proofs.LookingUp.{filter_given, any_given, total_given, map_agree}
 use Rattle.views.specs.Seen.{bin_before, bin_units}
 use Rattle.views.specs.SeenStock.{bins_seen, reserved_on, staged_on, lot_seen}
 use Rattle.views.specs.GivenStock.{reserved_of_lot, staged_of_lot, units_on, lot_told, lot_given}
 use Rattle.views.specs.declared.lot_units.LotUnits.{LotUnits}
-
--- nothing outside the part passes the test
-module _ {X : Type 0} (test part : X → Bool) (none : (x : X) → part x ≡ false → test x ≡ false) where
-  filter_in_part : (xs : List X) → filter test (filter part xs) ≡ filter test xs
-  filter_in_part [] = refl
-  filter_in_part (x ∷ xs) =
-      elim (part x) as (λ b. part x ≡ b → filter test (if b then x ∷ filter part xs else filter part xs) ≡ (if test x then x ∷ filter test xs else filter test xs)) [
-        | true ↦ λ e. ap (λ ys. if test x then x ∷ ys else ys) (filter_in_part xs)
-        | false ↦ λ e. filter_in_part xs ∙ sym (ap (λ b. if b then x ∷ filter test xs else filter test xs) (none x e))
-      ] refl
-
-  filter_given : (given all : List X) → filter part given ≡ filter part all → filter test given ≡ filter test all
-  filter_given given all same = sym (filter_in_part given) ∙ ap (filter test) same ∙ filter_in_part all
 
 -- lots of other texts are other lots
 other_lot : (l m : LotId) → same_text l.lot m.lot ≡ false → is_lot l m ≡ false
@@ -43,7 +30,7 @@ other_lot l m e = and_later_false (same_text l.gtin m.gtin) (same_text l.lot m.l
 module _ (k : LotRow) where
   bins_given : (given all : List StockRow) → filter (λ r. same_text k.lot.lot r.lot.lot) given ≡ filter (λ r. same_text k.lot.lot r.lot.lot) all → bins_seen given k.lot ≡ bins_seen all k.lot
   bins_given given all same =
-      ap (λ rs. inserted bin_before [] (map bin_units rs)) (filter_given (λ r. is_lot k.lot r.lot) (λ r. same_text k.lot.lot r.lot.lot) (λ r e. other_lot k.lot r.lot e) given all same)
+      ap (λ rs. inserted bin_before [] (map bin_units rs)) (filter_given (λ r. is_lot k.lot r.lot) (λ r. same_text k.lot.lot r.lot.lot) (λ r e. (and_both (same_text k.lot.gtin r.lot.gtin) (same_text k.lot.lot r.lot.lot) e).1) given all same)
 
   units_given : (given all : List LotUnits) → filter (λ u. same_text k.lot.lot u.lot.lot) given ≡ filter (λ u. same_text k.lot.lot u.lot.lot) all → units_on k.lot given ≡ units_on k.lot all
   units_given given all same =

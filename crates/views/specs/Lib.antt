@@ -6,3 +6,4 @@ pub mod GivenStock
 pub mod SeenShort
 pub mod ShownShort
 pub mod GivenShort
+pub mod GivenOrder

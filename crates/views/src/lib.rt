@@ -2,6 +2,7 @@
 #![tactic(auto)]
 
 mod bins;
+mod found_rows;
 mod least;
 mod lines;
 mod looking;

@@ -6,19 +6,23 @@ ghost use Rattle.machine.specs.Once.{IsHistory};
 ghost use Rattle.machine.specs.Standing.{Placed, order_named};
 ghost use Rattle.machine.specs.Tables.{order_row, tables_of};
 ghost use Rattle.machine.specs.Views.{order_view as order_view_lem};
-ghost use Rattle.views.specs.Seen.{class_seen, order_seen, line_seen, reserved_lot as reserved_lot_lem, reserved_lots_seen, staged_lot as staged_lot_lem, staged_lots_seen};
+ghost use Rattle.row_rules.specs.LookUps.{rows_given};
+ghost use Rattle.views.specs.Seen.{class_seen, order_seen, line_seen, staged_lot as staged_lot_lem, staged_lots_seen};
+ghost use Rattle.views.specs.GivenOrder.{reserved_lot_given, reserved_lots_given, line_found};
 ghost use Rattle.views.specs.Shown.{AreShown};
 
 use crate::bins::store_bins;
+use crate::found_rows::{FoundRows, found_rows};
 use crate::least::least_of;
 use crate::lines::lines_of_order;
 use crate::lots::lots_of_item;
-use crate::short::line_short;
+use crate::short::short_by;
 use commands::{
-    LineRow, LineView, Listed, LotRow, OrderClass, OrderRow, OrderView, ReservedLot, StagedLot,
-    StagedRow, UrgentRow,
+    BinRow, LineRow, LineView, Listed, LotRow, OrderClass, OrderRow, OrderView, ReservedLot,
+    ReservedRow, StagedLot, StagedRow, StockRow, UrgentRow,
 };
 use row_rules::demands::is_urgent;
+use row_rules::look_ups::RowsByText;
 use row_rules::stages::{reserved_units, staged_units};
 use rules::Rows;
 use std::alloc::{AllocError, Global};
@@ -61,9 +65,21 @@ fn line_views(
 ) -> Result<Vec<LineView>, AllocError>
     ensures { IfOk result (λ v. v.items ≡ map (line_seen rows.now order.now) lines.now) }
 {
+    let found = found_rows(alloc, rows, lines.len())?;
+    views_found(alloc, &found, order, lines)
+}
+
+fn views_found(
+    alloc: Global,
+    found: &FoundRows<'_>,
+    order: &OrderRow,
+    lines: &[LineRow],
+) -> Result<Vec<LineView>, AllocError>
+    ensures { IfOk result (λ v. v.items ≡ map (line_found found.now order.now) lines.now) }
+{
     let mut views = Vec::new(alloc);
     for line in lines {
-        let view = line_view(alloc, rows, order, line)?;
+        let view = line_view(alloc, found, order, line)?;
         views.push(view)?;
     }
     Ok(views)
@@ -71,57 +87,71 @@ fn line_views(
 
 fn line_view(
     alloc: Global,
-    rows: &Rows,
+    found: &FoundRows<'_>,
     order: &OrderRow,
     line: &LineRow,
 ) -> Result<LineView, AllocError>
-    ensures { IfOk result (λ view. view ≡ line_seen rows.now order.now line.now) }
+    ensures { IfOk result (λ view. view ≡ line_found found.now order.now line.now) }
 {
-    let lots = lots_of_item(alloc, rows.lots.as_slice(), &line.gtin)?;
-    let reserved = reserved_lots(alloc, rows, &order.order, lots.as_slice())?;
-    let staged = staged_lots(alloc, rows.staged.as_slice(), &order.order, lots.as_slice())?;
+    let reserved = found.reserved.rows_of_gtin(&line.gtin);
+    let staged = found.staged.rows_of_gtin(&line.gtin);
+    let stock = found.stock.rows_of_gtin(&line.gtin);
+    let least = found.least.rows_of_gtin(&line.gtin);
+    let lots = lots_of_item(alloc, found.lots.rows_of_gtin(&line.gtin), &line.gtin)?;
+    let taken = reserved_lots(
+        alloc,
+        &found.bins,
+        stock,
+        reserved,
+        &order.order,
+        lots.as_slice(),
+    )?;
+    let on_stage = staged_lots(alloc, staged, &order.order, lots.as_slice())?;
     Ok(LineView {
         gtin: line.gtin,
         ordered: line.ordered,
-        reserved: Listed::from_vec(reserved),
+        reserved: Listed::from_vec(taken),
         shipped: line.shipped,
-        short: line_short(rows, order, line),
-        staged: Listed::from_vec(staged),
-        least: least_of(rows.least.as_slice(), &line.gtin),
+        short: short_by(staged, reserved, order, line),
+        staged: Listed::from_vec(on_stage),
+        least: least_of(least, &line.gtin),
     })
 }
 
 fn reserved_lots(
     alloc: Global,
-    rows: &Rows,
+    bins: &RowsByText<'_, BinRow>,
+    stock: &[StockRow],
+    reserved: &[ReservedRow],
     order: &Name,
     lots: &[LotRow],
 ) -> Result<Vec<ReservedLot>, AllocError>
-    ensures { IfOk result (λ v. v.items ≡ reserved_lots_seen rows.now order.now lots.now) }
+    ensures { IfOk result (λ v. v.items ≡ reserved_lots_given (rows_given bins.now) stock.now reserved.now order.now lots.now) }
 {
-    let mut reserved = Vec::new(alloc);
+    let mut taken = Vec::new(alloc);
     for lot in lots {
-        let shown = reserved_lot(alloc, rows, order, lot)?;
-        push_reserved(&mut reserved, shown)?;
+        let shown = reserved_lot(alloc, bins, stock, reserved, order, lot)?;
+        push_reserved(&mut taken, shown)?;
     }
-    Ok(reserved)
+    Ok(taken)
 }
 
 fn reserved_lot(
     alloc: Global,
-    rows: &Rows,
+    bins: &RowsByText<'_, BinRow>,
+    stock: &[StockRow],
+    reserved: &[ReservedRow],
     order: &Name,
     lot: &LotRow,
 ) -> Result<ReservedLot, AllocError>
-    ensures { IfOk result (λ shown. shown ≡ reserved_lot_lem rows.now order.now lot.now) }
+    ensures { IfOk result (λ shown. shown ≡ reserved_lot_given (rows_given bins.now) stock.now reserved.now order.now lot.now) }
 {
-    let qty = reserved_units(rows.reserved.as_slice(), order, &lot.lot);
-    let bins = store_bins(alloc, rows.bins.as_slice(), rows.stock.as_slice(), &lot.lot)?;
+    let units = store_bins(alloc, bins, stock, &lot.lot)?;
     Ok(ReservedLot {
         lot: lot.lot.lot,
         expiry: lot.expiry,
-        qty,
-        bins: Listed::from_vec(bins),
+        qty: reserved_units(reserved, order, &lot.lot),
+        bins: Listed::from_vec(units),
     })
 }
 

@@ -4,26 +4,13 @@ ghost use Rattle.std.specs.Prelude.{◌≡◌, ◌-◌, ◌&&◌, if◌then◌el
 ghost use Rattle.values.specs.Values.{same_text};
 ghost use Rattle.machine.specs.Postings.{of_item};
 ghost use Rattle.row_rules.specs.Plans.{staged_seen};
-ghost use Rattle.views.specs.Seen.{reserved_seen, line_need as line_need_lem, line_short as line_short_lem};
+ghost use Rattle.views.specs.Seen.{reserved_seen, line_need as line_need_lem};
 ghost use Rattle.views.specs.GivenShort.{line_told};
 
 use commands::{LineRow, OrderRow, OrderState, ReservedRow, StagedRow};
-use rules::Rows;
 use values::{Gtin, Name};
 
-/// What the line needs less what is reserved for it.
-pub fn line_short(rows: &Rows, order: &OrderRow, line: &LineRow) -> u64
-    ensures { result ≡ line_short_lem rows.now order.now line.now }
-{
-    short_by(
-        rows.staged.as_slice(),
-        rows.reserved.as_slice(),
-        order,
-        line,
-    )
-}
-
-/// The same, by what is staged and what is reserved.
+/// What the line needs less what is reserved for it, by what is staged and what is reserved.
 pub fn short_by(
     staged: &[StagedRow],
     reserved: &[ReservedRow],

@@ -1,7 +1,7 @@
 use crate::tests::read;
 use commands::{
     BinUnits, ItemRow, LeastDays, LineView, Listed, LotStatus, LotView, OrderClass, OrderState,
-    OrderView, Refusal, ReservedLot, Short, StagedLot, StockView,
+    OrderView, Refusal, ReservedLot, Short, StockView,
 };
 use http::StatusCode;
 use label::Day;

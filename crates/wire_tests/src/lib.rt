@@ -13,6 +13,8 @@ mod logging_tests;
 #[cfg(test)]
 mod memory;
 #[cfg(test)]
+mod order_lines;
+#[cfg(test)]
 mod serving_tests;
 #[cfg(test)]
 mod tests;

@@ -20,7 +20,7 @@ const ADD_AN_ITEM: &[u8] =
 
 // What a text was read as, less what it asks.
 #[derive(Clone, Copy, PartialEq, Eq, Debug)]
-enum Outcome {
+pub(crate) enum Outcome {
     Need(WireFault),
     Bad(WireFault),
     Request,
@@ -264,7 +264,7 @@ fn post(alloc: Global, path: &str, body: &[u8]) -> Result<Vec<u8>, AllocError> {
 }
 
 // What a body posted to a path is read as.
-fn posted(alloc: Global, path: &str, body: &[u8]) -> Result<Outcome, AllocError> {
+pub(crate) fn posted(alloc: Global, path: &str, body: &[u8]) -> Result<Outcome, AllocError> {
     let text = post(alloc, path, body)?;
     Ok(told(alloc, text.as_slice()))
 }
@@ -294,7 +294,7 @@ fn limits_heads(rt: HostRuntime) -> Result<(), Fail> {
     Ok(())
 }
 
-static BROKEN_BODIES: [(&str, &str); 20] = [
+static BROKEN_BODIES: [(&str, &str); 19] = [
     ("/items", "[]"),
     (
         "/leasts",
@@ -364,10 +364,6 @@ static BROKEN_BODIES: [(&str, &str); 20] = [
     (
         "/orders",
         "{\"key\":\"K-1\",\"order\":\"S-1\",\"customer\":\"Corner Shop\",\"lines\":[{\"gtin\":\"09506000134352\",\"qty\":12,\"lot\":\"L1\"}]}",
-    ),
-    (
-        "/orders",
-        "{\"key\":\"K-1\",\"order\":\"S-1\",\"customer\":\"Corner Shop\",\"lines\":[{\"gtin\":\"09506000134017\",\"qty\":1},{\"gtin\":\"09506000134024\",\"qty\":1},{\"gtin\":\"09506000134031\",\"qty\":1},{\"gtin\":\"09506000134048\",\"qty\":1},{\"gtin\":\"09506000134055\",\"qty\":1},{\"gtin\":\"09506000134062\",\"qty\":1},{\"gtin\":\"09506000134079\",\"qty\":1},{\"gtin\":\"09506000134086\",\"qty\":1},{\"gtin\":\"09506000134093\",\"qty\":1},{\"gtin\":\"09506000134109\",\"qty\":1},{\"gtin\":\"09506000134116\",\"qty\":1},{\"gtin\":\"09506000134123\",\"qty\":1},{\"gtin\":\"09506000134130\",\"qty\":1},{\"gtin\":\"09506000134147\",\"qty\":1},{\"gtin\":\"09506000134154\",\"qty\":1},{\"gtin\":\"09506000134161\",\"qty\":1},{\"gtin\":\"09506000134178\",\"qty\":1},{\"gtin\":\"09506000134185\",\"qty\":1},{\"gtin\":\"09506000134192\",\"qty\":1},{\"gtin\":\"09506000134208\",\"qty\":1},{\"gtin\":\"09506000134215\",\"qty\":1}]}",
     ),
 ];
 

@@ -12,9 +12,9 @@ many zero = warehouse
 many (suc n) = delivered (codes "D-1") n (receive L1 june_30 A1 1_000_000) ∷ many n
 
 abbrev nearly_full : List Act
-nearly_full = delivered (codes "D-2") 1 (receive L1 june_30 A1 999_999) ∷ many 999
+nearly_full = delivered (codes "D-2") 1 (receive L1 june_30 A1 999_999) ∷ many 9_999
 
-one_unit_is_missing : units_in_house may_4 nearly_full OATS ≡ 999_999_999
+one_unit_is_missing : units_in_house may_4 nearly_full OATS ≡ 9_999_999_999
 one_unit_is_missing = refl
 
 the_last_unit_is_received : verdict may_4 nearly_full (receive L1 june_30 A1 1) ≡ None

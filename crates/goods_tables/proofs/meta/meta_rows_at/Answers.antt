@@ -2,7 +2,7 @@ use Rattle.std.proofs.Common.{refl, sym, subst}
 use Rattle.sqlite.specs.Given.{IsPlain}
 use Rattle.sqlite.specs.Held.{state}
 use Rattle.sqlite.specs.Listing.{understood}
-use Rattle.table_words.proofs.CallLemmas.{on_ok_if, if_ok, if_err}
+use Rattle.table_words.proofs.CallLemmas.{on_ok_if, if_ok, if_err, query_same}
 use Rattle.goods_tables.proofs.MetaLemmas.{meta_rows_text, meta_rows_plain, meta_rows_reads, meta_rows_typed}
 use Rattle.goods_tables.proofs.meta.meta_rows_at.Goals as goal
 
@@ -23,6 +23,13 @@ returns-clause-foreign g c clean ready =
 
 pub returns-clause-same : goal.returns-clause-same
 returns-clause-same g c clean ready = c.query.ensures.same clean (subst (λ s. IsPlain (understood s meta_rows_text)) (sym ready.has.is) (meta_rows_plain ready.has.rest))
+
+-- a row that is none of such books was shown, and nothing changed
+pub returns-clause-still : goal.returns-clause-still
+returns-clause-still g c clean ready =
+    let plain = subst (λ s. IsPlain (understood s meta_rows_text)) (sym ready.has.is) (meta_rows_plain ready.has.rest) in
+    if_err c.query.result _ _ (c.query.ensures.foreign clean) (λ e shows is.
+    let h = shows is in query_same meta_rows_text _ (state g.S.Store c.args.tx.now.conn.now) (state g.S.Store c.query.new.tx.conn.now) h.rows plain h.shown)
 
 pub returns-clause-kept : goal.returns-clause-kept
 returns-clause-kept g c clean ready = c.query.ensures.kept clean (subst (λ s. IsPlain (understood s meta_rows_text)) (sym ready.has.is) (meta_rows_plain ready.has.rest))

@@ -7,7 +7,8 @@ use Rattle.keyed_rows.proofs.Writing.{same_error}
 use Rattle.tables.specs.Bringing.{AreFillersTyped, Fills}
 use Rattle.tables.specs.Older.{number}
 use Rattle.tables.specs.Settling.{HasDayAt}
-use Rattle.tables.proofs.BringLemmas.{meta_kept, same_day, same_fillers, same_room, day_of_row, filled, same_filling, same_row}
+use Rattle.tables.proofs.BringLemmas.{meta_kept, same_day, same_fillers, same_room, filled, same_filling, same_row}
+use Rattle.tables.proofs.SettleLemmas.{day_of_row}
 use Rattle.tables.proofs.bringing.bring.Goals as goal
 
 pub returns-clause-done : goal.returns-clause-done

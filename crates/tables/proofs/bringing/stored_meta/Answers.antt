@@ -1,17 +1,32 @@
+use Rattle.std.proofs.Common.{◌≡◌, ℤ, IfOk, IfErr, sym, subst}
 use Rattle.sqlite.specs.Held.{state}
+use Rattle.sqlite.specs.State.{HasCleanDisk}
+use Rattle.table_words.specs.Steps.{IsReady}
+use Rattle.table_words.specs.declared.error.TableFault.TheVariants.{Foreign}
 use Rattle.tables.specs.Older.{number}
-use Rattle.tables.proofs.BringLemmas.{row_read, no_row, on_row}
+use Rattle.tables.specs.Settling.{HasRow, HasDayAt}
+use Rattle.tables.specs.declared.older.OlderBooks.{OlderBooks}
 use Rattle.tables.proofs.bringing.stored_meta.Goals as goal
 
-pub returns-clause-row : goal.returns-clause-row
-returns-clause-row g c clean ready =
-    let read = c.meta_rows_of.ensures in
-    row_read c.meta_rows_of.result (λ rows. rows.items) c.first_meta.result (number c.args.older) (state g.S.Store c.args.tx.now.conn.now).now.trees (read.rows clean ready) (read.typed clean ready) c.first_meta.ensures.row
+pub returns-in-First-clause-row : goal.returns-in-First-clause-row
+returns-in-First-clause-row g c =
+    let old = (state g.S.Store c.args.tx.now.conn.now).now in
+    subst (λ (o : OlderBooks). HasCleanDisk (state g.S.Store c.meta_row_at.new.tx.conn.now) → IsReady old → IfOk c.meta_row_at.result (HasRow (number o) old.trees)) (sym c.in-First.is) c.meta_row_at.ensures.row
 
-pub returns-clause-foreign : goal.returns-clause-foreign
-returns-clause-foreign g c clean ready =
-    let read = c.meta_rows_of.ensures in
-    no_row c.meta_rows_of.result (λ rows. rows.items) c.first_meta.result (number c.args.older) (state g.S.Store c.args.tx.now.conn.now).now.trees (read.rows clean ready) (read.foreign clean ready) c.first_meta.ensures.fault
+pub returns-in-First-clause-foreign : goal.returns-in-First-clause-foreign
+returns-in-First-clause-foreign g c =
+    let old = (state g.S.Store c.args.tx.now.conn.now).now in
+    subst (λ (o : OlderBooks). HasCleanDisk (state g.S.Store c.meta_row_at.new.tx.conn.now) → IsReady old → IfErr c.meta_row_at.result (λ e. e ≡ Foreign → (day : ℤ) → ¬ HasDayAt (number o) old.trees day)) (sym c.in-First.is)
+    c.meta_row_at.ensures.foreign
 
-pub returns-clause-same : goal.returns-clause-same
-returns-clause-same g c clean ready = on_row _ c.meta_rows_of.result (λ rows. rows.items) c.first_meta.result (c.meta_rows_of.ensures.same clean ready) c.first_meta.ensures.row
+pub returns-in-Second-clause-row : goal.returns-in-Second-clause-row
+returns-in-Second-clause-row g c =
+    let old = (state g.S.Store c.args.tx.now.conn.now).now in
+    subst (λ (o : OlderBooks). HasCleanDisk (state g.S.Store c.meta_row_at-in-Second.new.tx.conn.now) → IsReady old → IfOk c.meta_row_at-in-Second.result (HasRow (number o) old.trees)) (sym c.in-Second.is)
+    c.meta_row_at-in-Second.ensures.row
+
+pub returns-in-Second-clause-foreign : goal.returns-in-Second-clause-foreign
+returns-in-Second-clause-foreign g c =
+    let old = (state g.S.Store c.args.tx.now.conn.now).now in
+    subst (λ (o : OlderBooks). HasCleanDisk (state g.S.Store c.meta_row_at-in-Second.new.tx.conn.now) → IsReady old → IfErr c.meta_row_at-in-Second.result (λ e. e ≡ Foreign → (day : ℤ) → ¬ HasDayAt (number o) old.trees day)) (sym c.in-Second.is)
+    c.meta_row_at-in-Second.ensures.foreign
