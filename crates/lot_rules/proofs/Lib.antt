@@ -1,1 +1,2 @@
 pub mod GivingOut
+pub mod PlanKept

@@ -3,3 +3,4 @@ pub mod Expiring
 pub mod DecidedDay
 pub mod DecidedLeast
 pub mod GivenOut
+pub mod KeptPlan

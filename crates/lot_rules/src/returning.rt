@@ -21,9 +21,8 @@ use row_rules::{Change, Slice};
 use std::alloc::{AllocError, Global};
 use values::{LotId, Name};
 
-// The bin RETURNS, which is there from the start and is a HOLD bin.
-
-fn returns() -> Name
+/// The bin RETURNS, which is there from the start and is a HOLD bin.
+pub fn returns() -> Name
     ensures { result ≡ RETURNS }
 {
     Name::new(b"RETURNS").unwrap()

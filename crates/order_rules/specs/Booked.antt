@@ -1,5 +1,5 @@
 -- What a line of an order reserves: it is booked last, behind what all other orders need of its item.
-use Rattle.std.specs.Prelude.{ℕ, ◌-◌, List, [], ◌∷◌}
+use Rattle.std.specs.Prelude.{◌≡◌, ℕ, ◌-◌, List, [], ◌∷◌}
 use Rattle.commands.specs.declared.command.OrderLine.{OrderLine}
 use Rattle.commands.specs.declared.rows.OrderRow.{OrderRow}
 use Rattle.commands.specs.declared.rows.ReservedRow.{ReservedRow}
@@ -10,6 +10,8 @@ use Rattle.row_rules.specs.Seen.{capped, number_seen, staged_units}
 use Rattle.row_rules.specs.OpenLines.{open_units_among}
 use Rattle.row_rules.specs.Status.{earliest_seen}
 use Rattle.row_rules.specs.Plans.{supplies_seen, plan_within, named_rows}
+use Rattle.row_rules.specs.Indexed.{IsIndexed}
+use Rattle.row_rules.specs.declared.indexed.IndexedRows.{IndexedRows}
 use Rattle.row_rules.specs.declared.slice.Slice.{Slice}
 
 -- what open orders have ordered of the item and not got
@@ -40,3 +42,13 @@ line_put s order l = named_rows (order ∷ []) s.rows.lots (plan_booked s l)
 -- what the line is short of
 abbrev pub line_short : Slice → OrderLine → ℕ
 line_short s l = l.qty - reserved_for (number_seen s) (plan_booked s l)
+
+-- the rows of the slice that tell supplies, indexed
+pub record IsIndexOf (s : Slice) (m : IndexedRows) : Type 0 where
+  pub indexed : IsIndexed m
+  pub day : m.day ≡ s.meta.day
+  pub lots : m.rows.lots.now ≡ s.rows.lots
+  pub recalls : m.rows.recalls.now ≡ s.rows.recalls
+  pub bins : m.rows.bins.now ≡ s.rows.bins
+  pub stock : m.rows.stock.now ≡ s.rows.stock
+  pub least : m.rows.least.now ≡ s.rows.least

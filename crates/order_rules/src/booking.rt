@@ -4,17 +4,16 @@ ghost use Rattle.std.specs.Prelude.{◌≡◌, map, flat_map, IfOk};
 ghost use Rattle.commands.specs.Lists.{total};
 ghost use Rattle.row_rules.specs.Seen.{capped};
 ghost use Rattle.order_rules.specs.DecidedOrder.{new_order_row as new_order_row_lem, new_line_rows as new_line_rows_lem, order_rows_to_put, short_seen};
-ghost use Rattle.order_rules.specs.Booked.{open_units_seen as open_units_seen_lem, needs_seen as needs_seen_lem, demand_before as demand_before_lem, demand_booked as demand_booked_lem, plan_booked as plan_booked_lem, line_put, line_short};
+ghost use Rattle.order_rules.specs.Booked.{IsIndexOf, open_units_seen as open_units_seen_lem, needs_seen as needs_seen_lem, demand_before as demand_before_lem, demand_booked as demand_booked_lem, plan_booked as plan_booked_lem, line_put, line_short};
 
 use commands::{LineRow, Listed, NewOrder, OrderLine, OrderRow, OrderState, ReservedRow};
 use plan::{Demand, Plan};
 use row_rules::Slice;
 use row_rules::changing::number_seen;
+use row_rules::indexed::{IndexedRows, indexed_rows, supplies_of_item};
 use row_rules::open_lines::sum_of_open_units;
-use row_rules::plans::{named_rows, plan_with_last};
-use row_rules::status::earliest;
+use row_rules::plans::{item_rows, named_rows, plan_with_last};
 use row_rules::summing::sum_of_staged;
-use row_rules::supplies::supplies_seen;
 use std::alloc::{AllocError, Global};
 use values::{Gtin, Name};
 
@@ -67,7 +66,7 @@ fn line_rows(alloc: Global, order: &Name, lines: &[OrderLine]) -> Result<Vec<Lin
     Ok(rows)
 }
 
-// What these lines of an order reserve and are short of.
+// What these lines of an order reserve and are short of. The rows are indexed once for all lines.
 fn book_lines(
     alloc: Global,
     slice: &Slice,
@@ -77,10 +76,26 @@ fn book_lines(
     ensures put { IfOk result (λ b. b.put ≡ flat_map (line_put slice.now order.now) lines.now) }
     ensures short { IfOk result (λ b. b.short ≡ capped (total (line_short slice.now) lines.now)) }
 {
+    let rows = item_rows(&slice.rows);
+    let indexed = indexed_rows(alloc, slice.meta.day, &rows, lines.len())?;
+    book_each(alloc, slice, &indexed, order, lines)
+}
+
+fn book_each(
+    alloc: Global,
+    slice: &Slice,
+    indexed: &IndexedRows<'_>,
+    order: &OrderRow,
+    lines: &[OrderLine],
+) -> Result<Booked, AllocError>
+    requires { IsIndexOf slice.now indexed.now }
+    ensures put { IfOk result (λ b. b.put ≡ flat_map (line_put slice.now order.now) lines.now) }
+    ensures short { IfOk result (λ b. b.short ≡ capped (total (line_short slice.now) lines.now)) }
+{
     let mut put = Vec::new(alloc);
     let mut short = 0_u64;
     for line in lines {
-        let booked = book_line(alloc, slice, order, line)?;
+        let booked = book_line(alloc, slice, indexed, order, line)?;
         put.extend_from_slice(booked.put.as_slice())?;
         short = short.saturating_add(booked.short);
     }
@@ -93,13 +108,15 @@ fn book_lines(
 fn book_line(
     alloc: Global,
     slice: &Slice,
+    indexed: &IndexedRows<'_>,
     order: &OrderRow,
     line: &OrderLine,
 ) -> Result<Booked, AllocError>
+    requires { IsIndexOf slice.now indexed.now }
     ensures put { IfOk result (λ b. b.put ≡ line_put slice.now order.now line.now) }
     ensures short { IfOk result (λ b. b.short ≡ line_short slice.now line.now) }
 {
-    let plan = plan_booked(alloc, slice, line)?;
+    let plan = plan_booked(alloc, slice, indexed, line)?;
     let shares = named_rows(alloc, &[*order], slice.rows.lots.as_slice(), plan.rows())?;
     Ok(Booked {
         put: Listed::from_vec(shares),
@@ -108,20 +125,16 @@ fn book_line(
 }
 
 // The plan of a line's item, in which the line is booked behind what the other orders need.
-fn plan_booked(alloc: Global, slice: &Slice, line: &OrderLine) -> Result<Plan, AllocError>
+fn plan_booked(
+    alloc: Global,
+    slice: &Slice,
+    indexed: &IndexedRows<'_>,
+    line: &OrderLine,
+) -> Result<Plan, AllocError>
+    requires { IsIndexOf slice.now indexed.now }
     ensures { IfOk result (λ plan. plan ≡ plan_booked_lem slice.now line.now) }
 {
-    let rows = &slice.rows;
-    let from = earliest(slice.meta.day, rows.least.as_slice(), &line.gtin);
-    let supplies = supplies_seen(
-        alloc,
-        &line.gtin,
-        from,
-        rows.recalls.as_slice(),
-        rows.bins.as_slice(),
-        rows.stock.as_slice(),
-        rows.lots.as_slice(),
-    )?;
+    let supplies = supplies_of_item(alloc, &line.gtin, indexed)?;
     let before = demand_before(slice, &line.gtin);
     plan_with_last(
         alloc,

@@ -16,6 +16,7 @@ use commands::limits::OPEN_MAX;
 use commands::{LineRow, Listed, NewOrder, OrderLine, OrderRow, Refusal, ReplyField, Short, reply};
 use row_rules::changing::{meta_next, none_dropped, none_put, number_seen, one};
 use row_rules::judging::first_of;
+use row_rules::looking::is_same_item;
 use row_rules::orders_seen::sees_order;
 use row_rules::seeing::sees_item;
 use row_rules::{Change, Slice};
@@ -66,7 +67,7 @@ fn names_item(lines: &[OrderLine], gtin: &Gtin) -> bool
     ensures { result ≡ list_any (λ m. same_text gtin.now m.gtin) lines.now }
 {
     for line in lines {
-        if *gtin == line.gtin {
+        if is_same_item(gtin, &line.gtin) {
             return true;
         }
     }

@@ -17,7 +17,7 @@ use row_rules::cards::lot_units;
 use row_rules::changing::{none_dropped, none_put, number_seen, one};
 use row_rules::demands::sum_staged_for;
 use row_rules::judging::first_of;
-use row_rules::look_ups::{RowsByText, by_text, staged_by_lot};
+use row_rules::look_ups::{RowsByText, by_item, by_text, staged_by_lot};
 use row_rules::orders_seen::{lines_seen, order_row_seen, sees_open, sees_order, staged_for_seen};
 use row_rules::pushing::push_if;
 use row_rules::{Change, Put, Slice};
@@ -140,9 +140,21 @@ fn ship_lines(
 ) -> Result<Vec<LineRow>, AllocError>
     ensures { IfOk result (λ v. v.items ≡ map (line_shipped_lem staged.now) rows.now) }
 {
+    let of_items = by_item(alloc, staged, rows.len())?;
+    ship_found(alloc, rows, &of_items)
+}
+
+fn ship_found(
+    alloc: Global,
+    rows: &[LineRow],
+    staged: &RowsByText<'_, StagedRow>,
+) -> Result<Vec<LineRow>, AllocError>
+    ensures { IfOk result (λ v. v.items ≡ map (λ r. line_shipped_lem (rows_given staged.now r.gtin) r) rows.now) }
+{
     let mut shipped = Vec::new(alloc);
     for row in rows {
-        shipped.push(line_shipped(staged, row))?;
+        let own = staged.rows_of_gtin(&row.gtin);
+        shipped.push(line_shipped(own, row))?;
     }
     Ok(shipped)
 }

@@ -6,6 +6,7 @@ use Rattle.std.proofs.lemmas.List.Elements.{filter_agree}
 use Rattle.values.specs.Values.{same_text}
 use Rattle.commands.specs.declared.rows.BinRow.{BinRow}
 use Rattle.commands.specs.declared.rows.StockRow.{StockRow}
+use Rattle.commands.specs.declared.rows.LeastRow.{LeastRow}
 use Rattle.commands.specs.declared.rows.LotRow.{LotRow}
 use Rattle.commands.specs.declared.rows.RecallRow.{RecallRow}
 use Rattle.commands.specs.declared.rows.OrderRow.{OrderRow}
@@ -20,7 +21,8 @@ use Rattle.machine.proofs.Tests.{and_both, and_first_false, and_later_false}
 use Rattle.row_rules.specs.Seen.{capped}
 use Rattle.row_rules.specs.Plans.{staged_seen, line_need, demand_seen, is_earlier, is_urgent_seen, inserted, demands_seen, is_store_found, store_seen, supply_seen, is_usable, is_share_of, has_qty, rows_to_put, rows_to_drop}
 use Rattle.row_rules.specs.LookUps.{GivesRows, demand_given, is_urgent_given, demands_given, in_store_given, store_given}
-use Rattle.row_rules.proofs.LookingUp.{find_given, any_given, total_given, total_agree, map_agree}
+use Rattle.row_rules.specs.Status.{days_in, least_seen}
+use Rattle.row_rules.proofs.LookingUp.{filter_given, find_given, any_given, total_given, total_agree, map_agree}
 
 pub same_items : {X A E : Type 0} (result : Result (Vec X A) E) (xs ys : List X) → IfOk result (λ v. v.items ≡ xs) → xs ≡ ys → IfOk result (λ v. v.items ≡ ys)
 same_items (Ok v) xs ys h e = h ∙ e
@@ -97,3 +99,16 @@ module _ (g : List ℕ) (day : ℤ) (of_lots : List ℕ → List RecallRow) (rec
   usable_given lots =
       filter_agree (λ k. is_usable g day (of_lots k.lot.lot) k) (is_usable g day recalls)
       (λ k. λ i. of_item g k.lot && (not (recall_given k i) && not k.held && not (is_expired day k.expiry))) lots
+
+  -- of lots that are given by their items
+  pub usable_of_item : (of_items : List ℕ → List LotRow) (lots : List LotRow) → GivesRows (λ k. k.lot.gtin) of_items lots
+      → filter (λ k. is_usable g day (of_lots k.lot.lot) k) (of_items g) ≡ filter (is_usable g day recalls) lots
+  usable_of_item of_items lots gives_lots =
+      usable_given (of_items g)
+      ∙ filter_given (is_usable g day recalls) (λ k. of_item g k.lot)
+      (λ k e. (and_both (of_item g k.lot) (not (list_any (λ r. is_lot k.lot r.lot) recalls) && not k.held && not (is_expired day k.expiry)) e).0)
+      (of_items g) lots (gives_lots g)
+
+-- the days that rows ask for, which are given by their items
+pub least_given : (of_items : List ℕ → List LeastRow) (least : List LeastRow) → GivesRows (λ r. r.gtin) of_items least → (g : List ℕ) → least_seen (of_items g) g ≡ least_seen least g
+least_given of_items least gives g = ap days_in (find_given (λ r. same_text g r.gtin) (λ r. same_text g r.gtin) (λ r e. e) (of_items g) least (gives g))

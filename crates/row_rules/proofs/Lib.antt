@@ -12,3 +12,4 @@ pub mod LookingUp
 pub mod Giving
 pub mod GivingLots
 pub mod InOrder
+pub mod RowsApart

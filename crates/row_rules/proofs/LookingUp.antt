@@ -35,6 +35,17 @@ filter_twice test (x ∷ xs) =
 
 -- all that pass the test are in the part
 module _ {X : Type 0} (test part : X → Bool) (within : (x : X) → test x ≡ true → part x ≡ true) where
+  filter_in_part : (xs : List X) → filter test (filter part xs) ≡ filter test xs
+  filter_in_part [] = refl
+  filter_in_part (x ∷ xs) =
+      elim (part x) as (λ b. part x ≡ b → filter test (if b then x ∷ filter part xs else filter part xs) ≡ (if test x then x ∷ filter test xs else filter test xs)) [
+        | true ↦ λ e. ap (λ ys. if test x then x ∷ ys else ys) (filter_in_part xs)
+        | false ↦ λ e. filter_in_part xs ∙ sym (ap (λ b. if b then x ∷ filter test xs else filter test xs) (outside (test x) (part x) (within x) e))
+      ] refl
+
+  pub filter_given : (given all : List X) → filter part given ≡ filter part all → filter test given ≡ filter test all
+  filter_given given all same = sym (filter_in_part given) ∙ ap (filter test) same ∙ filter_in_part all
+
   find_in_part : (xs : List X) → find test (filter part xs) ≡ find test xs
   find_in_part [] = refl
   find_in_part (x ∷ xs) =

@@ -16,6 +16,8 @@ pub record IsIndexed (m : IndexedRows) : Type 0 where
   pub bins : GivesRows (λ b. b.name) (rows_given m.bins) m.rows.bins.now
   pub stock : GivesRows (λ r. r.lot.lot) (rows_given m.stock) m.rows.stock.now
   pub urgents : GivesRows (λ u. u.order) (rows_given m.urgents) m.rows.urgents.now
+  pub lots : GivesRows (λ k. k.lot.gtin) (rows_given m.lots) m.rows.lots.now
+  pub least : GivesRows (λ r. r.gtin) (rows_given m.least) m.rows.least.now
 
 abbrev pub demands_told : List ℕ → IndexedRows → List Demand
 demands_told g m = item_demands g m.rows.lines.now m.rows.staged.now m.rows.urgents.now m.rows.orders.now

@@ -4,6 +4,7 @@ pub mod SeenOrders
 pub mod OpenLines
 pub mod Plans
 pub mod Replanning
+pub mod Apart
 pub mod LookUps
 pub mod Indexed
 pub mod SeenLots

@@ -1,6 +1,7 @@
 -- The plan of an item changed in place: which of its reserved rows an act puts and drops, by the rows of the slice and by those that
 -- there are after it.
-use Rattle.std.specs.Prelude.{ℕ, List, ◌∷◌, take, drop, ℤ}
+use Rattle.std.specs.Prelude.{ℕ, ◌==◌, Bool, ◌&&◌, not, List, ◌∷◌, take, drop, filter, ℤ}
+use Rattle.std.specs.List.{list_any}
 use Rattle.commands.specs.declared.rows.BinRow.{BinRow}
 use Rattle.commands.specs.declared.rows.LotRow.{LotRow}
 use Rattle.commands.specs.declared.rows.LeastRow.{LeastRow}
@@ -15,6 +16,7 @@ use Rattle.commands.specs.declared.rows.ReservedRow.{ReservedRow}
 use Rattle.plan.specs.declared.TheConstants.{SUM_MAX}
 use Rattle.plan.specs.declared.Demand.{Demand}
 use Rattle.plan.specs.declared.Supply.{Supply}
+use Rattle.plan.specs.declared.Row.{Row}
 use Rattle.plan.specs.Overlap.{plan_rows, demand_total}
 use Rattle.plan.specs.Changes.{cut_of}
 use Rattle.row_rules.specs.Plans.{demands_seen, supplies_seen, demands_within, supplies_within, named_rows, rows_to_put, rows_to_drop}
@@ -25,9 +27,21 @@ use Rattle.row_rules.specs.declared.replanning.Replanned.{Replanned}
 abbrev pub first_as_one : ℕ → List Demand → List Demand
 first_as_one n ds = record { booking = 0; need = demand_total (take n ds) } ∷ drop n ds
 
--- the shares of the demands behind the first n
-abbrev pub shares_behind : ℕ → List OrderRow → List LotRow → List Demand → List Supply → List ReservedRow
-shares_behind n orders lots ds ss = named_rows orders lots (plan_rows (first_as_one n ds) ss)
+-- the rows of the plan in which one demand stands for the first n
+abbrev pub rows_behind : ℕ → List Demand → List Supply → List Row
+rows_behind n ds ss = plan_rows (first_as_one n ds) ss
+
+-- two rows are one: booking, lot and units
+abbrev pub same_row : Row → Row → Bool
+same_row r s = (r.booking == s.booking) && (r.lot == s.lot) && (r.qty == s.qty)
+
+-- the rows that are not among the others
+abbrev pub rows_apart : List Row → List Row → List Row
+rows_apart others rows = filter (λ r. not (list_any (same_row r) others)) rows
+
+-- the shares of the rows that are not among the others
+abbrev pub shares_apart : List OrderRow → List LotRow → List Row → List Row → List ReservedRow
+shares_apart orders lots others rows = named_rows orders lots (rows_apart others rows)
 
 -- the shares of an item that differ, of those before and after
 abbrev pub shares_changed : List ℕ → List ReservedRow → List ReservedRow → Replanned
@@ -40,11 +54,16 @@ item_demands g lines staged urgents orders = demands_within SUM_MAX (demands_see
 abbrev pub item_supplies : List ℕ → ℤ → List RecallRow → List BinRow → List StockRow → List LotRow → List Supply
 item_supplies g day recalls bins stock lots = supplies_within SUM_MAX (supplies_seen g day recalls bins stock lots)
 
--- what changes of an item's reserved rows, by the orders, lots, demands and supplies before and those after
+-- what changes of an item's reserved rows where these are the rows of its plan before and after, by the orders and lots before and after
+abbrev pub replanned_rows : List ℕ → List OrderRow → List LotRow → List Row → List OrderRow → List LotRow → List Row → Replanned
+replanned_rows g old_orders old_lots olds orders lots news =
+    shares_changed g (shares_apart old_orders old_lots news olds) (shares_apart orders lots olds news)
+
+-- the same by the demands and supplies before and after
 abbrev pub replanned_from : List ℕ → List OrderRow → List LotRow → List Demand → List Supply → List OrderRow → List LotRow → List Demand → List Supply → Replanned
 replanned_from g old_orders old_lots ds ss orders lots es ts =
     let kept = cut_of ds ss es ts in
-    shares_changed g (shares_behind kept old_orders old_lots ds ss) (shares_behind kept orders lots es ts)
+    replanned_rows g old_orders old_lots (rows_behind kept ds ss) orders lots (rows_behind kept es ts)
 
 module _ (s : Slice) (day : ℤ) (orders : List OrderRow) (lines : List LineRow) (staged : List StagedRow) (lots : List LotRow) (recalls : List RecallRow) (bins : List BinRow) (stock : List StockRow) (least : List LeastRow) (urgents : List UrgentRow) (g : List ℕ) where
   -- what changes of the item's reserved rows between a slice and these

@@ -7,18 +7,21 @@ ghost use Rattle.plan.specs.declared.TheConstants.{SUM_MAX};
 ghost use Rattle.row_rules.specs.Indexed.{IsIndexed, demands_told, supplies_told};
 
 use crate::demands::{cut_demands, demands_found};
-use crate::look_ups::{RowsByText, by_text};
+use crate::look_ups::{RowsByText, by_item, by_text};
 use crate::plans::ItemRows;
 use crate::status::earliest;
 use crate::supplies::{cut_supplies, supplies_found};
-use commands::{BinRow, LineRow, Listed, RecallRow, StagedRow, StockRow, UrgentRow};
+use commands::{
+    BinRow, LeastRow, LineRow, Listed, LotRow, RecallRow, StagedRow, StockRow, UrgentRow,
+};
 use label::BusinessDay;
 use plan::{Demand, Supply};
 use std::alloc::{AllocError, Global};
 use values::Gtin;
 
 /// The rows that tell the demands and supplies of items on a day: lines, staged rows and those of
-/// urgent orders by their orders, recalls and stock by their lots, bins by their names.
+/// urgent orders by their orders, recalls and stock by their lots, bins by their names, lots and what
+/// is asked for by their items.
 #[derive(Drop)]
 pub struct IndexedRows<'a> {
     pub day: BusinessDay,
@@ -29,6 +32,8 @@ pub struct IndexedRows<'a> {
     pub bins: RowsByText<'a, BinRow>,
     pub stock: RowsByText<'a, StockRow>,
     pub urgents: RowsByText<'a, UrgentRow>,
+    pub lots: RowsByText<'a, LotRow>,
+    pub least: RowsByText<'a, LeastRow>,
 }
 
 /// The rows indexed, once for as many items.
@@ -50,6 +55,8 @@ pub fn indexed_rows<'a>(
     let bins = by_text(alloc, rows.bins, rows.stock.len())?;
     let stock = by_text(alloc, rows.stock, rows.lots.len())?;
     let urgents = by_text(alloc, rows.urgents, of_orders)?;
+    let lots = by_item(alloc, rows.lots, items)?;
+    let least = by_text(alloc, rows.least, items)?;
     Ok(IndexedRows {
         day,
         rows: *rows,
@@ -59,6 +66,8 @@ pub fn indexed_rows<'a>(
         bins,
         stock,
         urgents,
+        lots,
+        least,
     })
 }
 
@@ -108,7 +117,8 @@ fn demands_of_item(
     cut_demands(alloc, demands.as_slice())
 }
 
-fn supplies_of_item(
+/// What these rows tell of the supplies of an item, up to the limit of a list's sum.
+pub fn supplies_of_item(
     alloc: Global,
     gtin: &Gtin,
     indexed: &IndexedRows<'_>,
@@ -117,7 +127,7 @@ fn supplies_of_item(
     ensures told { IfOk result (λ v. v.items ≡ supplies_told gtin.now indexed.now) }
     ensures small { IfOk result (λ v. supply_total v.items ≤ SUM_MAX) }
 {
-    let from = earliest(indexed.day, indexed.rows.least, gtin);
+    let from = earliest(indexed.day, indexed.least.rows_of_gtin(gtin), gtin);
     let supplies = supplies_found(
         alloc,
         gtin,
@@ -125,7 +135,7 @@ fn supplies_of_item(
         &indexed.recalls,
         &indexed.bins,
         &indexed.stock,
-        indexed.rows.lots,
+        indexed.lots.rows_of_gtin(gtin),
     )?;
     cut_supplies(alloc, supplies.as_slice())
 }

@@ -2,10 +2,11 @@
 //! the parts that changes have in common.
 #![tactic(auto)]
 
+mod apart;
 pub mod cards;
 pub mod changing;
 pub mod demands;
-mod indexed;
+pub mod indexed;
 pub mod judging;
 pub mod look_ups;
 pub mod looking;

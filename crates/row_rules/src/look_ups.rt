@@ -89,38 +89,127 @@ pub fn by_text<'a, T: Keyed>(
 ) -> Result<RowsByText<'a, T>, AllocError>
     ensures { IfOk result (λ found. GivesRows T.text (rows_given found) rows.now) }
 {
+    found_by::<Own, T>(alloc, rows, times)
+}
+
+/// The staged rows, to be found by their lots so many times. By their orders they are found as any
+/// other rows are.
+pub fn staged_by_lot<'a>(
+    alloc: Global,
+    rows: &'a [StagedRow],
+    times: usize,
+) -> Result<RowsByText<'a, StagedRow>, AllocError>
+    ensures { IfOk result (λ found. GivesRows (λ r. r.lot.lot) (rows_given found) rows.now) }
+{
+    found_by::<OfLot, StagedRow>(alloc, rows, times)
+}
+
+/// A row of an item.
+pub trait HasItem: Copy {
+    ghost use Rattle.std.specs.Prelude.{ℕ, List};
+
+    ghost item: { Self → List ℕ };
+
+    fn item(&self) -> Gtin
+        ensures { result ≡ item self.now };
+}
+
+/// The rows, to be found by their items so many times.
+pub fn by_item<'a, T: HasItem>(
+    alloc: Global,
+    rows: &'a [T],
+    times: usize,
+) -> Result<RowsByText<'a, T>, AllocError>
+    ensures { IfOk result (λ found. GivesRows T.item (rows_given found) rows.now) }
+{
+    found_by::<OfItem, T>(alloc, rows, times)
+}
+
+/// One of the texts of rows, by which they are found.
+trait TextOf<T: Copy> {
+    ghost use Rattle.std.specs.Prelude.{ℕ, List, reverse};
+
+    ghost text: { T → List ℕ };
+
+    fn key(row: &T) -> TextKey
+        ensures { result ≡ reverse (text row.now) };
+}
+
+/// The text that rows have for themselves.
+struct Own;
+
+impl<T: Keyed> TextOf<T> for Own {
+    ghost text = { T.text };
+
+    fn key(row: &T) -> TextKey {
+        row.key()
+    }
+}
+
+/// The lot of a staged row.
+struct OfLot;
+
+impl TextOf<StagedRow> for OfLot {
+    ghost text = { λ r. r.lot.lot };
+
+    fn key(row: &StagedRow) -> TextKey {
+        TextKey::of_lot(&row.lot.lot)
+    }
+}
+
+/// The item of a row.
+struct OfItem;
+
+impl<T: HasItem> TextOf<T> for OfItem {
+    ghost text = { T.item };
+
+    fn key(row: &T) -> TextKey {
+        TextKey::of_gtin(&row.item())
+    }
+}
+
+fn found_by<'a, K: TextOf<T>, T: Copy>(
+    alloc: Global,
+    rows: &'a [T],
+    times: usize,
+) -> Result<RowsByText<'a, T>, AllocError>
+    ensures { IfOk result (λ found. GivesRows K.text (rows_given found) rows.now) }
+{
     if rows.len() <= FEW || times <= FEW {
         return Ok(RowsByText {
             groups: BTreeMap::new(alloc),
             others: rows,
         });
     }
-    let groups = group(alloc, rows)?;
+    let groups = group::<K, T>(alloc, rows)?;
     Ok(RowsByText {
         groups,
         others: &rows[..0],
     })
 }
 
-fn group<T: Keyed>(alloc: Global, rows: &[T]) -> Result<BTreeMap<TextKey, Vec<T>>, AllocError>
-    ensures { IfOk result (λ groups. (k : List ℕ) → rows_or [] (get (slice_cmp nat_cmp) groups (reverse k)) ≡ filter (λ r. same_text k (T.text r)) rows.now) }
+fn group<K: TextOf<T>, T: Copy>(
+    alloc: Global,
+    rows: &[T],
+) -> Result<BTreeMap<TextKey, Vec<T>>, AllocError>
+    ensures { IfOk result (λ groups. (k : List ℕ) → rows_or [] (get (slice_cmp nat_cmp) groups (reverse k)) ≡ filter (λ r. same_text k (K.text r)) rows.now) }
 {
     let mut groups = BTreeMap::new(alloc);
     for row in rows {
-        add_row(alloc, &mut groups, row)?;
+        add_row::<K, T>(alloc, &mut groups, row)?;
     }
     Ok(groups)
 }
 
 // One row more with its text.
-fn add_row<T: Keyed>(
+fn add_row<K: TextOf<T>, T: Copy>(
     alloc: Global,
     groups: &mut BTreeMap<TextKey, Vec<T>>,
     row: &T,
 ) -> Result<(), AllocError>
-    ensures { OnOk result ((k : List ℕ) → rows_or [] (get (slice_cmp nat_cmp) groups.new (reverse k)) ≡ rows_or [] (get (slice_cmp nat_cmp) groups.old (reverse k)) ++ (if same_text k (T.text row.now) then row.now ∷ [] else [])) }
+    ensures { OnOk result ((k : List ℕ) → rows_or [] (get (slice_cmp nat_cmp) groups.new (reverse k)) ≡ rows_or [] (get (slice_cmp nat_cmp) groups.old (reverse k)) ++ (if same_text k (K.text row.now) then row.now ∷ [] else [])) }
 {
-    add_under(alloc, groups, row.key(), row)
+    add_under(alloc, groups, K::key(row), row)
 }
 
 // One row more under a key.
@@ -148,54 +237,6 @@ fn push_row<T: Copy>(rows: &mut Vec<T>, row: T) -> Result<(), AllocError>
 {
     rows.push(row)?;
     Ok(())
-}
-
-// Staged rows by their lots
-
-/// The staged rows, to be found by their lots so many times. By their orders they are found as any
-/// other rows are.
-pub fn staged_by_lot<'a>(
-    alloc: Global,
-    rows: &'a [StagedRow],
-    times: usize,
-) -> Result<RowsByText<'a, StagedRow>, AllocError>
-    ensures { IfOk result (λ found. GivesRows (λ r. r.lot.lot) (rows_given found) rows.now) }
-{
-    if rows.len() <= FEW || times <= FEW {
-        return Ok(RowsByText {
-            groups: BTreeMap::new(alloc),
-            others: rows,
-        });
-    }
-    let groups = group_by_lot(alloc, rows)?;
-    Ok(RowsByText {
-        groups,
-        others: &rows[..0],
-    })
-}
-
-fn group_by_lot(
-    alloc: Global,
-    rows: &[StagedRow],
-) -> Result<BTreeMap<TextKey, Vec<StagedRow>>, AllocError>
-    ensures { IfOk result (λ groups. (k : List ℕ) → rows_or [] (get (slice_cmp nat_cmp) groups (reverse k)) ≡ filter (λ r. same_text k r.lot.lot) rows.now) }
-{
-    let mut groups = BTreeMap::new(alloc);
-    for row in rows {
-        add_staged(alloc, &mut groups, row)?;
-    }
-    Ok(groups)
-}
-
-// One staged row more with its lot.
-fn add_staged(
-    alloc: Global,
-    groups: &mut BTreeMap<TextKey, Vec<StagedRow>>,
-    row: &StagedRow,
-) -> Result<(), AllocError>
-    ensures { OnOk result ((k : List ℕ) → rows_or [] (get (slice_cmp nat_cmp) groups.new (reverse k)) ≡ rows_or [] (get (slice_cmp nat_cmp) groups.old (reverse k)) ++ (if same_text k row.now.lot.lot then row.now ∷ [] else [])) }
-{
-    add_under(alloc, groups, TextKey::of_lot(&row.lot.lot), row)
 }
 
 // By a number
@@ -369,5 +410,39 @@ impl Numbered for LotRow {
 
     fn number_of(&self) -> u64 {
         self.came
+    }
+}
+
+// The items of rows
+
+impl HasItem for LotRow {
+    ghost item = { λ r. r.lot.gtin };
+
+    fn item(&self) -> Gtin {
+        self.lot.gtin
+    }
+}
+
+impl HasItem for StockRow {
+    ghost item = { λ r. r.lot.gtin };
+
+    fn item(&self) -> Gtin {
+        self.lot.gtin
+    }
+}
+
+impl HasItem for StagedRow {
+    ghost item = { λ r. r.lot.gtin };
+
+    fn item(&self) -> Gtin {
+        self.lot.gtin
+    }
+}
+
+impl HasItem for ReservedRow {
+    ghost item = { λ r. r.lot.gtin };
+
+    fn item(&self) -> Gtin {
+        self.lot.gtin
     }
 }

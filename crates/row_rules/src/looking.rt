@@ -8,11 +8,23 @@ ghost use Rattle.row_rules.specs.Seen.{has_recall as has_recall_lem};
 use commands::{BinRow, ItemRow, LeastRow, LotRow, OrderRow, RecallRow, StockRow};
 use values::{Gtin, LotId, Name};
 
+/// Whether the two are one item. The check digit and the one before it are compared first, since most
+/// items differ in them.
+pub fn is_same_item(a: &Gtin, b: &Gtin) -> bool
+    ensures { result ≡ same_text a.now b.now }
+{
+    let (digits, others) = (a.as_bytes(), b.as_bytes());
+    if digits.get(13) != others.get(13) || digits.get(12) != others.get(12) {
+        return false;
+    }
+    *a == *b
+}
+
 /// Whether the two are one lot.
 pub fn is_same_lot(a: &LotId, b: &LotId) -> bool
     ensures { result ≡ is_lot a.now b.now }
 {
-    a.gtin == b.gtin && a.lot == b.lot
+    is_same_item(&a.gtin, &b.gtin) && a.lot == b.lot
 }
 
 /// The row of an item.
@@ -20,7 +32,7 @@ pub fn find_item(rows: &[ItemRow], gtin: &Gtin) -> Option<ItemRow>
     ensures { result ≡ find (λ r. same_text gtin.now r.gtin) rows.now }
 {
     for row in rows {
-        if *gtin == row.gtin {
+        if is_same_item(gtin, &row.gtin) {
             return Some(*row);
         }
     }
@@ -32,7 +44,7 @@ pub fn find_least(rows: &[LeastRow], gtin: &Gtin) -> Option<LeastRow>
     ensures { result ≡ find (λ r. same_text gtin.now r.gtin) rows.now }
 {
     for row in rows {
-        if *gtin == row.gtin {
+        if is_same_item(gtin, &row.gtin) {
             return Some(*row);
         }
     }

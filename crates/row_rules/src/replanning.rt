@@ -6,14 +6,15 @@ ghost use Rattle.plan.specs.Limits.{AreSmall};
 ghost use Rattle.plan.specs.Overlap.{demand_total};
 ghost use Rattle.plan.specs.declared.TheConstants.{SUM_MAX};
 ghost use Rattle.row_rules.specs.Indexed.{IsIndexed, replanned_between};
-ghost use Rattle.row_rules.specs.Replanning.{first_as_one as first_as_one_lem, shares_behind, shares_changed as shares_changed_lem, item_replanned};
+ghost use Rattle.row_rules.specs.Replanning.{first_as_one as first_as_one_lem, rows_behind, shares_apart as shares_apart_lem, shares_changed as shares_changed_lem, replanned_rows, item_replanned};
 
 use crate::Slice;
+use crate::apart::rows_apart;
 use crate::indexed::{IndexedRows, ItemLists, indexed_rows, item_lists};
 use crate::plans::{ItemRows, item_rows, named_rows, rows_to_drop, rows_to_put};
 use commands::{Listed, ReservedRow};
 use label::BusinessDay;
-use plan::{Demand, cut, sum_of_needs, whole};
+use plan::{Demand, Row, cut, sum_of_needs, whole};
 use std::alloc::{AllocError, Global};
 use values::Gtin;
 
@@ -94,33 +95,28 @@ fn replan_between(
 {
     let was = item_lists(alloc, gtin, before)?;
     let will = item_lists(alloc, gtin, after)?;
-    let shares = shares_behind_cut(alloc, &before.rows, &was, &after.rows, &will)?;
-    shares_changed(
-        alloc,
-        gtin,
-        shares.before.as_slice(),
-        shares.after.as_slice(),
-    )
+    let plans = plans_behind_cut(alloc, &was, &will)?;
+    let olds = plans.before.as_slice();
+    let news = plans.after.as_slice();
+    replan_rows(alloc, gtin, &before.rows, olds, &after.rows, news)
 }
 
-// What is reserved before and after of the demands behind the cut.
+// The rows of an item's plan before and after, where one demand stands for those of the cut.
 #[derive(Drop)]
-struct Shares {
-    before: Vec<ReservedRow>,
-    after: Vec<ReservedRow>,
+struct Plans {
+    before: Vec<Row>,
+    after: Vec<Row>,
 }
 
-fn shares_behind_cut(
+fn plans_behind_cut(
     alloc: Global,
-    old_rows: &ItemRows<'_>,
     before: &ItemLists,
-    rows: &ItemRows<'_>,
     after: &ItemLists,
-) -> Result<Shares, AllocError>
+) -> Result<Plans, AllocError>
     requires before { AreSmall before.now.demands before.now.supplies }
     requires after { AreSmall after.now.demands after.now.supplies }
-    ensures before { IfOk result (λ r. r.before.items ≡ shares_behind (cut_of before.now.demands before.now.supplies after.now.demands after.now.supplies) old_rows.now.orders.now old_rows.now.lots.now before.now.demands before.now.supplies) }
-    ensures after { IfOk result (λ r. r.after.items ≡ shares_behind (cut_of before.now.demands before.now.supplies after.now.demands after.now.supplies) rows.now.orders.now rows.now.lots.now after.now.demands after.now.supplies) }
+    ensures before { IfOk result (λ r. r.before.items ≡ rows_behind (cut_of before.now.demands before.now.supplies after.now.demands after.now.supplies) before.now.demands before.now.supplies) }
+    ensures after { IfOk result (λ r. r.after.items ≡ rows_behind (cut_of before.now.demands before.now.supplies after.now.demands after.now.supplies) after.now.demands after.now.supplies) }
 {
     let wanted = before.demands.as_slice();
     let offered = before.supplies.as_slice();
@@ -130,10 +126,47 @@ fn shares_behind_cut(
     let old_demands = first_as_one(alloc, kept, wanted)?;
     let demands = first_as_one(alloc, kept, wants)?;
     let mut plan = whole(alloc, old_demands.as_slice(), offered)?;
-    let before = named_rows(alloc, old_rows.orders, old_rows.lots, plan.rows())?;
+    let before = rows_of(alloc, plan.rows())?;
     plan.replan(1, demands.as_slice(), offers)?;
-    let after = named_rows(alloc, rows.orders, rows.lots, plan.rows())?;
-    Ok(Shares { before, after })
+    let after = rows_of(alloc, plan.rows())?;
+    Ok(Plans { before, after })
+}
+
+fn rows_of(alloc: Global, rows: &[Row]) -> Result<Vec<Row>, AllocError>
+    ensures { IfOk result (λ v. v.items ≡ rows.now) }
+{
+    let mut own = Vec::new(alloc);
+    own.extend_from_slice(rows)?;
+    Ok(own)
+}
+
+// What changes of an item's reserved rows where these are the rows of its plan before and after.
+fn replan_rows(
+    alloc: Global,
+    gtin: &Gtin,
+    old_rows: &ItemRows<'_>,
+    olds: &[Row],
+    rows: &ItemRows<'_>,
+    news: &[Row],
+) -> Result<Replanned, AllocError>
+    ensures { IfOk result (λ r. r ≡ replanned_rows gtin.now old_rows.now.orders.now old_rows.now.lots.now olds.now rows.now.orders.now rows.now.lots.now news.now) }
+{
+    let before = shares_apart(alloc, old_rows, news, olds)?;
+    let after = shares_apart(alloc, rows, olds, news)?;
+    shares_changed(alloc, gtin, before.as_slice(), after.as_slice())
+}
+
+// The shares of the rows that are not among the others.
+fn shares_apart(
+    alloc: Global,
+    rows: &ItemRows<'_>,
+    others: &[Row],
+    own: &[Row],
+) -> Result<Vec<ReservedRow>, AllocError>
+    ensures { IfOk result (λ v. v.items ≡ shares_apart_lem rows.now.orders.now rows.now.lots.now others.now own.now) }
+{
+    let apart = rows_apart(alloc, others, own)?;
+    named_rows(alloc, rows.orders, rows.lots, apart.as_slice())
 }
 
 // The demands with one in the place of the first `count`.

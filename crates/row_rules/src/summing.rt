@@ -5,7 +5,7 @@ ghost use Rattle.commands.specs.Lists.{total};
 ghost use Rattle.machine.specs.Postings.{is_lot};
 ghost use Rattle.row_rules.specs.Seen.{capped, stock_units, staged_units};
 
-use crate::looking::is_same_lot;
+use crate::looking::{is_same_item, is_same_lot};
 use commands::{StagedRow, StockRow};
 use values::{Gtin, LotId};
 
@@ -15,7 +15,7 @@ pub fn sum_of_stock(rows: &[StockRow], gtin: &Gtin) -> u64
 {
     let mut sum = 0_u64;
     for row in rows {
-        if *gtin == row.lot.gtin {
+        if is_same_item(gtin, &row.lot.gtin) {
             sum = sum.saturating_add(row.qty);
         }
     }
@@ -28,7 +28,7 @@ pub fn sum_of_staged(rows: &[StagedRow], gtin: &Gtin) -> u64
 {
     let mut sum = 0_u64;
     for row in rows {
-        if *gtin == row.lot.gtin {
+        if is_same_item(gtin, &row.lot.gtin) {
             sum = sum.saturating_add(row.qty);
         }
     }

@@ -108,7 +108,12 @@ impl Ord for TextKey {
 
     ghost matches_eq = { texts_ties };
 
+    // Most keys differ in their first bytes.
     fn cmp(&self, other: &Self) -> Ordering {
-        self.turned.as_bytes().cmp(other.turned.as_bytes())
+        let (own, others) = (self.turned.as_bytes(), other.turned.as_bytes());
+        match (own.first(), others.first()) {
+            (Some(a), Some(b)) if a != b => a.cmp(b),
+            _ => own.cmp(others),
+        }
     }
 }

@@ -1,9 +1,9 @@
-// Lots of which nothing is left, but for a lot that the command names, and rows that a shipment does not read: the same
-// is decided with them and without them.
+// Lots of which nothing is left, but for a lot that the command names, and rows that a shipment or a pick does not read:
+// the same is decided with them and without them.
 
 use crate::refusals::{Refused, expect as expect_refused};
 use crate::samples::{NO_ROWS, OATS, Sample, Told};
-use crate::worked::{TWO_LOTS, TWO_ORDERS, Worked, expect};
+use crate::worked::{OATS_ALONE, TWO_LOTS, TWO_ORDERS, Worked, expect};
 use commands::Refusal;
 
 // Three lots are gone, one of which is held, and one recalled. Two have units.
@@ -252,4 +252,58 @@ static SHIPPING: [Worked; 2] = [
 #[test]
 fn ships_by_its_own_rows(rt: HostRuntime) {
     expect(&rt, rt.alloc(), SHIPPING.as_slice());
+}
+
+// What a pick of lot L2 for S-1 names, and no other order and no other lot.
+const FEW_FOR_PICKING: Sample = Sample {
+    acts: 9,
+    lots: "L2|2026-05-31|7|free",
+    stock: "L2|A-01|10",
+    orders: "S-1|8|Corner Shop|OPEN",
+    lines: "S-1|09506000134352|12|0",
+    reserved: "S-1|L2|10",
+    ..OATS_ALONE
+};
+
+static PICKING: [Worked; 2] = [
+    Worked {
+        before: ALL_WITH_ORDERS,
+        told: PICK,
+        changes: PICKED,
+    },
+    Worked {
+        before: FEW_FOR_PICKING,
+        told: PICK,
+        changes: PICKED,
+    },
+];
+
+#[test]
+fn picks_by_its_own_rows(rt: HostRuntime) {
+    expect(&rt, rt.alloc(), PICKING.as_slice());
+}
+
+// What another order has reserved of the lot is of no use, and its recall is found.
+static PICKING_REFUSED: [Refused; 2] = [
+    Refused {
+        before: Sample {
+            reserved: "S-2|L2|10",
+            ..FEW_FOR_PICKING
+        },
+        told: PICK,
+        why: Refusal::OverReserved,
+    },
+    Refused {
+        before: Sample {
+            recalls: "L2|9",
+            ..FEW_FOR_PICKING
+        },
+        told: PICK,
+        why: Refusal::LotRecalled,
+    },
+];
+
+#[test]
+fn refuses_a_pick_by_its_own_rows(rt: HostRuntime) {
+    expect_refused(&rt, rt.alloc(), PICKING_REFUSED.as_slice());
 }

@@ -13,6 +13,8 @@ mod listing;
 #[cfg(test)]
 mod many_lots;
 #[cfg(test)]
+mod many_orders;
+#[cfg(test)]
 mod many_rows;
 #[cfg(test)]
 mod order_views;

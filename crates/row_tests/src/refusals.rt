@@ -111,7 +111,7 @@ const LOT_RECALLED: Sample = Sample {
     lots: "L1|2026-06-30|6|free",
     recalls: "L1|5",
     stock: "L2|Q-01|600000000",
-    staged: "S-1|L3|399999999",
+    staged: "S-1|L3|9399999999",
     ..LAST_ACT
 };
 

@@ -1,14 +1,14 @@
 // The refusals of commands on orders, each once, in the order in which they are judged.
 
-use crate::refusals::{LAST_ACT, OAT_DRINK, Refused, STORE_BIN, expect};
+use crate::refusals::{LAST_ACT, Refused, expect};
 use crate::samples::{Sample, Told};
 use commands::Refusal;
 use commands::limits::ACTS_MAX;
 
-// There is an order S-1, and one of which 999,999,989 units are open.
+// There is an order S-1, and one of which 9,999,999,989 units are open.
 const ORDER_KNOWN: Sample = Sample {
     orders: "S-1|8|Corner Shop|OPEN\nS-2|9|Harbour Cafe|OPEN",
-    lines: "S-2|09506000134352|1000000000|11",
+    lines: "S-2|09506000134352|10000000000|11",
     ..LAST_ACT
 };
 

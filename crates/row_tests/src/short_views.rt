@@ -5,7 +5,7 @@ use crate::listing::Listing;
 use crate::many_rows::filled;
 use crate::samples::{Written, add, rows};
 use crate::worked_urgent::TWO_URGENT;
-use commands::{ItemRow, LineRow, Listed, OrderRow, ReservedRow, ShortLine, ShortView, StagedRow};
+use commands::{ItemRow, Listed, OrderRow, ShortLine, ShortView};
 use rules::Rows;
 use std::alloc::Global;
 use std::process::Abort;

@@ -135,8 +135,8 @@ const NEARLY_FULL: Sample = Sample {
     lots: "L2|2026-05-31|7|held\nL3|2026-05-31|8|free",
     stock: "L2|Q-01|600000000",
     orders: "S-1|9|Corner Shop|OPEN",
-    lines: "S-1|09506000134352|399999999|0",
-    staged: "S-1|L3|399999999",
+    lines: "S-1|09506000134352|9399999999|0",
+    staged: "S-1|L3|9399999999",
     ..OATS_ALONE
 };
 
@@ -362,7 +362,7 @@ static COUNTING: [Worked; 6] = [
         told: Told::Count("L3", "Q-01", 6),
         changes: b"meta 2026-05-04 1000000000000 0\n\
             put stock 09506000134352 L3 Q-01 6\n\
-            put card 09506000134352 L3 1000000000000 2026-05-04 WRITEON Q-01 1 400000005\n\
+            put card 09506000134352 L3 1000000000000 2026-05-04 WRITEON Q-01 1 9400000005\n\
             {\"act\":1000000000000,\"change\":1}",
     },
 ];

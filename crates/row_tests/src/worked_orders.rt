@@ -200,7 +200,7 @@ pub(crate) const TWO_ITEMS: Sample = Sample {
 const NEARLY_ALL_ORDERED: Sample = Sample {
     acts: ACTS_MAX - 1,
     orders: "S-2|8|Harbour Cafe|OPEN\nS-3|9|Harbour Cafe|CANCELLED",
-    lines: "S-2|09506000134352|1000000000|11\nS-3|09506000134352|1000000|0",
+    lines: "S-2|09506000134352|10000000000|11\nS-3|09506000134352|1000000|0",
     ..OATS_ALONE
 };
 

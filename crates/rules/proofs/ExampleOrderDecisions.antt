@@ -76,8 +76,8 @@ an_order_is_of_known_items = refl
 an_item_is_ordered_once : first_refusal (order_seen before_orders (record { order = S1; customer = codes "Corner Shop"; lines = record { gtin = OATS; qty = 1 } ∷ record { gtin = OATS; qty = 1 } ∷ [] })) ≡ Some ItemTwice
 an_item_is_ordered_once = refl
 
-no_more_is_ordered_than_the_limit : first_refusal (order_seen after_an_order (ordered S2 999_999_989)) ≡ Some OverOrdered
+no_more_is_ordered_than_the_limit : first_refusal (order_seen after_an_order (ordered S2 9_999_999_989)) ≡ Some OverOrdered
 no_more_is_ordered_than_the_limit = refl
 
-up_to_the_limit_is_ordered : first_refusal (order_seen after_an_order (ordered S2 999_999_988)) ≡ None
+up_to_the_limit_is_ordered : first_refusal (order_seen after_an_order (ordered S2 9_999_999_988)) ≡ None
 up_to_the_limit_is_ordered = refl

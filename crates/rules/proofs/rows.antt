@@ -1,5 +1,6 @@
 -- What typed rows tell of a history, and what changing them does.
 pub mod TableSteps
+pub mod Planned
 pub mod SliceTells
 pub mod DaysAsked
 pub mod SliceDemands

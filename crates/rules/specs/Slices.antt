@@ -7,6 +7,7 @@ use Rattle.commands.specs.declared.command.Command.{Command}
 use Rattle.commands.specs.declared.names.Added.{Added}
 use Rattle.commands.specs.declared.names.Added.TheVariants.{Item, Bin}
 use Rattle.commands.specs.declared.names.NamedOrder.{NamedOrder}
+use Rattle.commands.specs.declared.names.OrderStep.{OrderStep}
 use Rattle.commands.specs.Names.{names_of, is_picked, is_shipped}
 use Rattle.commands.specs.declared.limits.TheConstants.{ITEMS_MAX, BINS_MAX}
 use Rattle.commands.specs.declared.rows.ReservedRow.{ReservedRow}
@@ -104,13 +105,21 @@ counts_items command = is_item (names_of command).adds
 abbrev pub counts_bins : Command → Bool
 counts_bins command = is_bin (names_of command).adds
 
--- whether the command plans: a shipment takes what is staged for its order, and no plan changes
-abbrev pub plans_with : Option NamedOrder → Bool
-plans_with None = true
-plans_with (Some n) = not (is_shipped n.step)
+-- whether the command ships an order, and whether it picks for one
+abbrev pub takes_step : (OrderStep → Bool) → Option NamedOrder → Bool
+takes_step is_done None = false
+takes_step is_done (Some n) = is_done n.step
 
+abbrev pub ships : Command → Bool
+ships command = takes_step is_shipped (names_of command).order
+
+abbrev pub picks : Command → Bool
+picks command = takes_step is_picked (names_of command).order
+
+-- whether the command plans: a shipment takes what is staged for its order, and a pick what is reserved for it, and no
+-- plan changes beside
 abbrev pub plans : Command → Bool
-plans command = plans_with (names_of command).order
+plans command = not (ships command) && not (picks command)
 
 -- whether the command is judged by what is reserved for the order on the lot
 abbrev pub is_share : Option NamedOrder → Option LotId → List ℕ → LotId → Bool
@@ -133,24 +142,26 @@ on_named_stage command rows l = list_any (λ r. names_order command r.order && i
 -- The slice has the rows of the items that the command touches, and of the days that they ask for, with the rows of the order that
 -- it names, of the bins that it names or that hold units of those items, and of the orders with a line of those items; those of
 -- urgent orders tell which of the open ones are urgent. Of the lots it has those that the command names and those with units in
--- bins or on stages; others may be among them. For a shipment, which plans nothing, it has the order with its lines, what is
--- staged of their items, and the stock of the lots that are staged for the order. What is reserved is told where the command is
--- judged by it, and so is whether there are as many items, or bins, as there may be.
+-- bins or on stages; others may be among them. Two commands plan nothing and ask for less. For a shipment it has the order with
+-- its lines, what is staged of their items, and the stock of the lots that are staged for the order. For a pick it has what it
+-- names: the item, the lot, its recall, the bin, the units of the lot in the bin, the order, its line of the item, and what is
+-- staged and what is reserved of the lot for it. What is reserved is told where the command is judged by it, and so is whether
+-- there are as many items, or bins, as there may be.
 pub record IsSlice (first : ℤ) (act : Act) (acts : List Act) (t : Tables) (s : Slice) : Type 0 where
   pub meta : t.meta ≡ Some s.meta
   pub items_counted : counts_items act.command ≡ true → nat_le ITEMS_MAX s.items ≡ nat_le ITEMS_MAX (length (items acts))
   pub bins_counted : counts_bins act.command ≡ true → nat_le BINS_MAX s.bins ≡ nat_le BINS_MAX (length (bins acts))
-  pub items : AreRows same_text (λ r. r.gtin) (λ g. plans act.command && is_touched first act acts g) (is_touched first act acts) t.item s.rows.items
-  pub least : AreRows same_text (λ r. r.gtin) (λ g. plans act.command && is_touched first act acts g) (is_touched first act acts) t.least s.rows.least
+  pub items : AreRows same_text (λ r. r.gtin) (λ g. not (ships act.command) && is_touched first act acts g) (is_touched first act acts) t.item s.rows.items
+  pub least : AreRows same_text (λ r. r.gtin) (λ g. not (ships act.command) && is_touched first act acts g) (is_touched first act acts) t.least s.rows.least
   pub lots : AreRows is_lot (λ r. r.lot)
-      (λ l. plans act.command && is_touched first act acts l.gtin && (names_lot act.command l || in_bins s.rows l || on_stages s.rows l))
+      (λ l. not (ships act.command) && is_touched first act acts l.gtin && (names_lot act.command l || (plans act.command && (in_bins s.rows l || on_stages s.rows l))))
       (λ l. is_touched first act acts l.gtin) t.lot s.rows.lots
-  pub recalls : AreRows is_lot (λ r. r.lot) (λ l. plans act.command && is_touched first act acts l.gtin) (λ l. is_touched first act acts l.gtin) t.recall s.rows.recalls
+  pub recalls : AreRows is_lot (λ r. r.lot) (λ l. (plans act.command || names_lot act.command l) && is_touched first act acts l.gtin) (λ l. is_touched first act acts l.gtin) t.recall s.rows.recalls
   pub stock : AreRows same_cell (λ r. (r.lot, r.bin))
-      (λ k. is_touched first act acts k.0.gtin && (plans act.command || on_named_stage act.command s.rows k.0))
+      (λ k. is_touched first act acts k.0.gtin && (plans act.command || (names_lot act.command k.0 && names_bin act.command k.1) || (ships act.command && on_named_stage act.command s.rows k.0)))
       (λ k. is_touched first act acts k.0.gtin) (λ k. t.stock k.0 k.1) s.rows.stock
   pub bins : AreRows same_text (λ r. r.name)
-      (λ b. plans act.command && (names_bin act.command b || list_any (λ r. same_text b r.bin) s.rows.stock))
+      (λ b. names_bin act.command b || (plans act.command && list_any (λ r. same_text b r.bin) s.rows.stock))
       (λ b. names_bin act.command b || list_any (λ r. same_text b r.bin) s.rows.stock) t.bin s.rows.bins
   pub orders : AreRows same_text (λ r. r.order)
       (λ o. names_order act.command o || (plans act.command && is_open first acts o && has_touched_line first act acts o))
@@ -159,10 +170,11 @@ pub record IsSlice (first : ℤ) (act : Act) (acts : List Act) (t : Tables) (s :
       (λ o. plans act.command && is_open first acts o && has_touched_line first act acts o)
       (λ o. names_order act.command o || has_touched_line first act acts o) t.urgent s.rows.urgents
   pub lines : AreRows same_line (λ r. (r.order, r.gtin))
-      (λ k. names_order act.command k.0 || (plans act.command && is_open first acts k.0 && is_touched first act acts k.1))
+      (λ k. ((not (picks act.command) || is_touched first act acts k.1) && names_order act.command k.0) || (plans act.command && is_open first acts k.0 && is_touched first act acts k.1))
       (λ k. names_order act.command k.0 || is_touched first act acts k.1) (λ k. t.line k.0 k.1) s.rows.lines
   pub staged : AreRows same_share (λ r. (r.order, r.lot))
-      (λ k. is_touched first act acts k.1.gtin) (λ k. is_touched first act acts k.1.gtin) (λ k. t.staged k.0 k.1) s.rows.staged
+      (λ k. (not (picks act.command) || (names_order act.command k.0 && names_lot act.command k.1)) && is_touched first act acts k.1.gtin)
+      (λ k. is_touched first act acts k.1.gtin) (λ k. t.staged k.0 k.1) s.rows.staged
   pub reserved : AreRows same_share (λ r. (r.order, r.lot))
       (λ k. names_reserved act.command k.0 k.1) (λ k. names_order act.command k.0 || is_touched first act acts k.1.gtin) (λ k. t.reserved k.0 k.1) s.rows.reserved
 

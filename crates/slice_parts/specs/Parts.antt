@@ -7,7 +7,7 @@ use Rattle.values.specs.declared.lot.LotId.{LotId}
 use Rattle.commands.specs.declared.command.Command.{Command}
 use Rattle.commands.specs.declared.names.NamedOrder.{NamedOrder}
 use Rattle.commands.specs.declared.names.OrderStep.{OrderStep}
-use Rattle.commands.specs.Names.{names_of, is_cancelled, is_picked, is_shipped}
+use Rattle.commands.specs.Names.{names_of, is_cancelled}
 use Rattle.commands.specs.declared.rows.LeastRow.{LeastRow}
 use Rattle.commands.specs.declared.rows.LotRow.{LotRow}
 use Rattle.commands.specs.declared.rows.RecallRow.{RecallRow}
@@ -62,13 +62,6 @@ order_where is_done (Some n) = if is_done n.step then Some n.order else None
 -- the order that a command takes whole, since it cancels it: it touches the item of each of its lines
 abbrev pub whole_orders : Command → List (List ℕ)
 whole_orders command = option_to_list (order_where is_cancelled (names_of command).order)
-
--- the order that a command ships, and the one that it picks for
-abbrev pub order_shipped : Command → Option (List ℕ)
-order_shipped command = order_where is_shipped (names_of command).order
-
-abbrev pub order_picked : Command → Option (List ℕ)
-order_picked command = order_where is_picked (names_of command).order
 
 -- Orders and lines
 

@@ -166,3 +166,11 @@ known_met known named gtins t orders lines old new are loses = still_known t (λ
 -- the order that is shipped
 pub known_shipped : (named : List (List ℕ)) (t : Tables) (orders : List OrderRow) (lines : List LineRow) (old new : Entries) → AreNamed named t orders lines → Loses (λ g o. has_closed_row orders o && has_line_row lines g o) old new → StaysKnown t old new
 known_shipped named t orders lines old new are loses = still_known t (λ k. true) orders lines old new (each_own t _ orders are.orders) loses
+
+-- the order that is picked for
+pub known_picked : (order : List ℕ) (t : Tables) (orders : List OrderRow) (lines : List LineRow) (old new : Entries) → read.AreRows {K = OrderKey} same_order order_key (λ k. same_text order k) t.order orders
+    → Loses (λ g o. has_closed_row orders o && has_line_row lines g o) old new → StaysKnown t old new
+known_picked order t orders lines old new are loses =
+    still_known t (λ k. true) orders lines old new
+    (own_more {K = OrderKey} same_order order_key same_text_is same_text_refl (λ k. same_text order k) (λ k. true) t.order orders (λ k h. refl) (rows_read {K = OrderKey} same_order order_key same_text_is same_text_refl (λ k. same_text order k) t.order orders are).own)
+    loses

@@ -1,11 +1,12 @@
 -- What is read of the tables of a history is the slice of the command.
-use Rattle.std.proofs.Common.{◌≡◌, ℕ, Bool, true, false, ◌&&◌, List, [], ◌∷◌, length, refl, ap, sym, subst, ◌∙◌}
+use Rattle.std.proofs.Common.{◌≡◌, ℕ, Bool, true, false, ◌&&◌, not, List, [], ◌∷◌, length, refl, ap, sym, subst, ◌∙◌}
 use Rattle.std.specs.Prelude.{◌||◌, ◌==◌, nat_le, if◌then◌else◌, find, Option, Some, None, option_map, is_some, ℤ}
 use Rattle.std.specs.List.{list_any, list_all, cons_option}
 use Rattle.std.specs.Option.{option_to_list}
 use Rattle.values.specs.Values.{same_text}
 use Rattle.values.specs.declared.lot.LotId.{LotId}
-use Rattle.commands.specs.Names.{names_of}
+use Rattle.commands.specs.Names.{names_of, is_picked}
+use Rattle.commands.specs.declared.names.NamedOrder.{NamedOrder}
 use Rattle.commands.specs.Tables.{Tables}
 use Rattle.commands.specs.declared.key.Key.{Key}
 use Rattle.commands.specs.declared.limits.TheConstants.{ITEMS_MAX, BINS_MAX}
@@ -20,7 +21,7 @@ use Rattle.commands.specs.declared.rows.StockRow.{StockRow}
 use Rattle.commands.specs.declared.rows.LineRow.{LineRow}
 use Rattle.commands.specs.declared.rows.StagedRow.{StagedRow}
 use Rattle.commands.specs.declared.rows.OrderState.TheVariants.{Open, Done, Cancelled}
-use Rattle.table_words.specs.Typed.{ItemKey, same_item, item_key, LeastKey, same_least, least_key, BinKey, same_bin, bin_key, LotKey, same_lot, lot_key, RecallKey, same_recall, recall_key, StockKey, same_stock, stock_key, StagedKey, same_staged, staged_key, OrderKey, same_order, order_key, UrgentKey, same_urgent, urgent_key, LineKey, same_line, line_key, is_open_order}
+use Rattle.table_words.specs.Typed.{ItemKey, same_item, item_key, LeastKey, same_least, least_key, BinKey, same_bin, bin_key, LotKey, same_lot, lot_key, RecallKey, same_recall, recall_key, StockKey, same_stock, stock_key, StagedKey, same_staged, staged_key, ReservedKey, same_reserved, reserved_key, OrderKey, same_order, order_key, UrgentKey, same_urgent, urgent_key, LineKey, same_line, line_key, is_open_order}
 use Rattle.machine.specs.Acts.{Act, next_number}
 use Rattle.machine.specs.Standing.{items, item_in, bins, Placed, orders, order_named, lines_of, lines_placed, is_cancelled}
 use Rattle.machine.specs.Planning.{order_state, is_open_state, is_open, shipped_of}
@@ -30,7 +31,7 @@ use Rattle.machine.specs.Once.{IsHistory}
 use Rattle.machine.specs.Verdict.{verdict}
 use Rattle.machine.specs.Postings.{is_lot}
 use Rattle.machine.specs.KeyedRows.{AreRows, no_two}
-use Rattle.rules.specs.Slices.{IsSlice, names_order, names_bin, names_lot, counts_items, counts_bins, plans, is_named, is_named_lot, is_either, in_bins, on_stages, on_named_stage, has_touched_line}
+use Rattle.rules.specs.Slices.{IsSlice, names_order, names_bin, names_lot, counts_items, counts_bins, ships, picks, plans, takes_step, is_share, names_reserved, is_named, is_named_lot, is_either, in_bins, on_stages, on_named_stage, has_touched_line}
 use Rattle.row_rules.specs.declared.slice.Slice.{Slice}
 use Rattle.machine.proofs.Tests.{and_both, or_false, or_later, some_one, same_text_is, same_text_refl, same_text_turned, is_lot_is, is_lot_refl, is_lot_turned, is_lot_item}
 use Rattle.machine.proofs.Apart.{AreApart, any_found}
@@ -39,7 +40,7 @@ use Rattle.machine.proofs.histories.Notices.{bins_apart}
 use Rattle.machine.proofs.histories.Orders.{found_order}
 use Rattle.rules.proofs.rows.SliceTells.{some_mapped, names_touched}
 use Rattle.slice_parts.specs.Keys.{has_key, with_keys}
-use Rattle.slices.specs.Slicing.{is_among, with_names, with_some, items_named, lots_named, orders_named, bins_named, whole_orders, order_shipped, held_lots, AreAllLines, AreCounts, AreTaken, AreTouched, ArePlanned, AreSlicedOn, IsSliceIn, is_passed, is_open_in, HoldsOf}
+use Rattle.slices.specs.Slicing.{is_among, with_names, with_some, items_named, lots_named, orders_named, bins_named, whole_orders, held_lots, AreAllLines, AreCounts, AreTaken, AreTouched, ArePlanned, AreSliced, is_passed, is_open_in, HoldsOf}
 use Rattle.slices.specs.declared.knowing.Known.{Known}
 use Rattle.slices.proofs.AtMost.{told_number}
 use Rattle.slices.proofs.KeysTold.{same_cell_is, same_cell_refl, same_share_is, same_share_refl, same_line_is, same_line_refl}
@@ -47,8 +48,8 @@ use Rattle.slices.proofs.RowsTold.{rows_as}
 use Rattle.slices.proofs.SliceTold.{among_with, once_with, among_names, once_names, sought}
 use Rattle.slice_parts.proofs.KeysOnce.{has_keys, once_keys}
 use Rattle.slices.proofs.KeysRead.{keys_read}
-use Rattle.slices.proofs.OwnRows.{own_any}
-use Rattle.slices.proofs.PickRight.{picked_rows}
+use Rattle.slices.proofs.OwnRows.{own_any, no_rows}
+use Rattle.slices.proofs.PickRight.{pick_right}
 use Rattle.slices.proofs.ShipmentRight.{shipment_right}
 use Rattle.slices.proofs.LinesTold.{line_some, taken}
 use Rattle.slices.proofs.DayTold.{affected_told, affected_once}
@@ -77,7 +78,7 @@ named_only : (x : List ℕ) (lines : List LineRow) (own : Bool) → lines ≡ []
 named_only x lines own none = ap (λ l. own || list_any (λ r. same_text x r.gtin) l) none ∙ or_false own
 
 -- the items that a command names, with those of the lines that it takes, are those that it touches
-named_told : (first : ℤ) (act : Act) (acts : List Act) (command : Command) → (names_of command).day ≡ None → order_shipped command ≡ None → (lines : List LineRow) → AreAllLines (whole_orders command) (tables_of first acts) lines
+named_told : (first : ℤ) (act : Act) (acts : List Act) (command : Command) → (names_of command).day ≡ None → ships command ≡ false → (lines : List LineRow) → AreAllLines (whole_orders command) (tables_of first acts) lines
     → (x : List ℕ) → is_among (items_named command) x || list_any (λ r. same_text x r.gtin) lines ≡ touches first act acts command x
 named_told first act acts (Item i) e f lines none x = named_only x lines (is_among (i.gtin ∷ []) x) none ∙ or_false (same_text x i.gtin)
 named_told first act acts (Bin b) e f lines none x = named_only x lines false none
@@ -97,11 +98,11 @@ named_told first act acts (Recall l) e f lines none x = named_only x lines (is_a
 named_told first act acts (OpenDay day) e f lines none x = absurd cc
 named_told first act acts (Least l) e f lines none x = named_only x lines (is_among (l.gtin ∷ []) x) none ∙ or_false (same_text x l.gtin)
 
-taken_told : (first : ℤ) (act : Act) (acts : List Act) (command : Command) → (names_of command).day ≡ None → order_shipped command ≡ None → (gtins : List (List ℕ)) → AreTaken command (tables_of first acts) gtins → (x : List ℕ) → is_among gtins x ≡ touches first act acts command x
+taken_told : (first : ℤ) (act : Act) (acts : List Act) (command : Command) → (names_of command).day ≡ None → ships command ≡ false → (gtins : List (List ℕ)) → AreTaken command (tables_of first acts) gtins → (x : List ℕ) → is_among gtins x ≡ touches first act acts command x
 taken_told first act acts command e f gtins are x =
     ap (λ l. is_among l x) are.items ∙ among_names (λ (r : LineRow). r.gtin) are.lines (items_named command) x ∙ named_told first act acts command e f are.lines are.read x
 
-items_told : (first : ℤ) (key : Key) (command : Command) (acts : List Act) → order_shipped command ≡ None → IsHistory first acts → (gtins : List (List ℕ)) → AreTouched command (tables_of first acts) gtins → (x : List ℕ) → is_among gtins x ≡ touches first (record { key = key; command = command }) acts command x
+items_told : (first : ℤ) (key : Key) (command : Command) (acts : List Act) → ships command ≡ false → IsHistory first acts → (gtins : List (List ℕ)) → AreTouched command (tables_of first acts) gtins → (x : List ℕ) → is_among gtins x ≡ touches first (record { key = key; command = command }) acts command x
 items_told first key (OpenDay day) acts f history gtins are x = affected_told first key day acts history gtins are x
 items_told first key command acts f history gtins are x = taken_told first (record { key = key; command = command }) acts command refl f gtins are x
 
@@ -142,9 +143,10 @@ lot_among (Some k) l = or_false (is_lot l k)
 lot_told : (command : Command) (l : LotId) → has_key is_lot (lots_named command) l ≡ names_lot command l
 lot_told command l = lot_among (names_of command).lot l
 
-ships : (command : Command) (o : List ℕ) → order_shipped command ≡ Some o → command ≡ Ship o
-ships (Ship p) o e = ap Ship (some_one p o e)
-ships _ o e = absurd cc
+-- a command that is no pick is not judged by what is reserved
+no_share : (order : Option NamedOrder) (lot : Option LotId) (o : List ℕ) (l : LotId) → takes_step is_picked order ≡ false → is_share order lot o l ≡ true → ⊥
+no_share None lot o l none e = let no : false ≡ true = e in cc
+no_share (Some n) lot o l none e = let no : false ≡ true = ap (λ b. if b then same_text o n.order && is_named_lot lot l else false) (sym none) ∙ e in cc
 
 -- Counts
 
@@ -211,7 +213,7 @@ module _ (first : ℤ) (acts : List Act) where
     abbrev act : Act
     act = record { key = key; command = command }
 
-    module _ (unshipped : order_shipped command ≡ None) (history : IsHistory first acts) (s : Slice) (meta : (tables_of first acts).meta ≡ Some s.meta) (counted : AreCounts known.bounds command (tables_of first acts) s.items s.bins) (rows : ArePlanned known command (tables_of first acts) s.rows) where
+    module _ (unshipped : ships command ≡ false) (unpicked : picks command ≡ false) (history : IsHistory first acts) (s : Slice) (meta : (tables_of first acts).meta ≡ Some s.meta) (counted : AreCounts known.bounds command (tables_of first acts) s.items s.bins) (rows : ArePlanned known command (tables_of first acts) s.rows) where
       abbrev t : Tables
       t = tables_of first acts
 
@@ -262,12 +264,24 @@ module _ (first : ℤ) (acts : List Act) where
       either false true b c e = e
       either false false b c e = absurd (let none : false ≡ true = e in cc)
 
+      either_line : (l n a b c : Bool) → (l && n) || ((a && b) && c) ≡ true → n || (b && c) ≡ true
+      either_line true n a b c e = either n a b c e
+      either_line false n a b c e = or_later n (b && c) (either false a b c e)
+
+      or_asked : (n p a : Bool) → n || (p && a) ≡ true → n || a ≡ true
+      or_asked true p a e = refl
+      or_asked false p a e = both p a e
+
+      asked : (n p a b : Bool) → n || (p && (a || b)) ≡ true → (n || a) || b ≡ true
+      asked true p a b e = refl
+      asked false p a b e = both p (a || b) e
+
       -- the stock and what is staged
       stock_rows : AreRows {K = StockKey} same_stock stock_key (λ k. touched k.0.gtin) (λ k. touched k.0.gtin) (λ k. t.stock k.0 k.1) s.rows.stock
-      stock_rows = sought {K = StockKey} same_stock stock_key same_cell_is same_cell_refl (λ k. k.0.gtin) (λ k. t.stock k.0 k.1) gtins touched s.rows.stock once told rows.units.goods.stock
+      stock_rows = sought {K = StockKey} same_stock stock_key same_cell_is same_cell_refl (λ k. k.0.gtin) (λ k. t.stock k.0 k.1) gtins touched s.rows.stock once told rows.goods.stock
 
       staged_rows : AreRows {K = StagedKey} same_staged staged_key (λ k. touched k.1.gtin) (λ k. touched k.1.gtin) (λ k. t.staged k.0 k.1) s.rows.staged
-      staged_rows = sought {K = StagedKey} same_staged staged_key same_share_is same_share_refl (λ k. k.1.gtin) (λ k. t.staged k.0 k.1) gtins touched s.rows.staged once told rows.units.shares.staged
+      staged_rows = sought {K = StagedKey} same_staged staged_key same_share_is same_share_refl (λ k. k.1.gtin) (λ k. t.staged k.0 k.1) gtins touched s.rows.staged once told rows.staged
 
       -- the lots
       abbrev held : List LotId
@@ -326,21 +340,21 @@ module _ (first : ℤ) (acts : List Act) where
         meta = meta;
         items_counted = counted_items;
         bins_counted = counted_bins;
-        items = rows_as {K = ItemKey} same_item item_key same_text_is same_text_refl touched touched (λ g. plans command && touched g) touched t.item s.rows.items (λ g e. both (plans command) (touched g) e) (λ g e. e)
-            (sought {K = ItemKey} same_item item_key same_text_is same_text_refl (λ k. k) t.item gtins touched s.rows.items once told rows.units.goods.items);
-        least = rows_as {K = LeastKey} same_least least_key same_text_is same_text_refl touched touched (λ g. plans command && touched g) touched t.least s.rows.least (λ g e. both (plans command) (touched g) e) (λ g e. e)
-            (sought {K = LeastKey} same_least least_key same_text_is same_text_refl (λ k. k) t.least gtins touched s.rows.least once told rows.units.goods.least);
+        items = rows_as {K = ItemKey} same_item item_key same_text_is same_text_refl touched touched (λ g. not (ships command) && touched g) touched t.item s.rows.items (λ g e. both (not (ships command)) (touched g) e) (λ g e. e)
+            (sought {K = ItemKey} same_item item_key same_text_is same_text_refl (λ k. k) t.item gtins touched s.rows.items once told rows.goods.items);
+        least = rows_as {K = LeastKey} same_least least_key same_text_is same_text_refl touched touched (λ g. not (ships command) && touched g) touched t.least s.rows.least (λ g e. both (not (ships command)) (touched g) e) (λ g e. e)
+            (sought {K = LeastKey} same_least least_key same_text_is same_text_refl (λ k. k) t.least gtins touched s.rows.least once told rows.goods.least);
         lots = rows_as {K = LotKey} same_lot lot_key is_lot_is is_lot_refl (has_key is_lot held) (has_key is_lot held)
-            (λ l. (plans command && touched l.gtin) && ((names_lot command l || in_bins s.rows l) || on_stages s.rows l)) (λ l. touched l.gtin) t.lot s.rows.lots
-            (λ l e. held_told l ∙ both (plans command && touched l.gtin) ((names_lot command l || in_bins s.rows l) || on_stages s.rows l) e) held_touched
-            (keys_read is_lot is_lot_is is_lot_turned {K = LotKey} same_lot lot_key is_lot_is is_lot_refl (λ k. k) t.lot held (has_key is_lot held) s.rows.lots held_once (λ l. refl) rows.units.lots);
-        recalls = rows_as {K = RecallKey} same_recall recall_key is_lot_is is_lot_refl (λ k. touched k.gtin) (λ k. touched k.gtin) (λ k. plans command && touched k.gtin) (λ k. touched k.gtin) t.recall s.rows.recalls (λ k e. both (plans command) (touched k.gtin) e) (λ k e. e)
-            (sought {K = RecallKey} same_recall recall_key is_lot_is is_lot_refl (λ k. k.gtin) t.recall gtins touched s.rows.recalls once told rows.units.goods.recalls);
-        stock = rows_as {K = StockKey} same_stock stock_key same_cell_is same_cell_refl (λ k. touched k.0.gtin) (λ k. touched k.0.gtin) (λ k. touched k.0.gtin && (plans command || on_named_stage command s.rows k.0)) (λ k. touched k.0.gtin) (λ k. t.stock k.0 k.1) s.rows.stock
-            (λ k e. (and_both (touched k.0.gtin) (plans command || on_named_stage command s.rows k.0) e).0) (λ k e. e) stock_rows;
+            (λ l. (not (ships command) && touched l.gtin) && (names_lot command l || (plans command && (in_bins s.rows l || on_stages s.rows l)))) (λ l. touched l.gtin) t.lot s.rows.lots
+            (λ l e. held_told l ∙ asked (names_lot command l) (plans command) (in_bins s.rows l) (on_stages s.rows l) (both (not (ships command) && touched l.gtin) (names_lot command l || (plans command && (in_bins s.rows l || on_stages s.rows l))) e)) held_touched
+            (keys_read is_lot is_lot_is is_lot_turned {K = LotKey} same_lot lot_key is_lot_is is_lot_refl (λ k. k) t.lot held (has_key is_lot held) s.rows.lots held_once (λ l. refl) rows.lots);
+        recalls = rows_as {K = RecallKey} same_recall recall_key is_lot_is is_lot_refl (λ k. touched k.gtin) (λ k. touched k.gtin) (λ k. (plans command || names_lot command k) && touched k.gtin) (λ k. touched k.gtin) t.recall s.rows.recalls (λ k e. both (plans command || names_lot command k) (touched k.gtin) e) (λ k e. e)
+            (sought {K = RecallKey} same_recall recall_key is_lot_is is_lot_refl (λ k. k.gtin) t.recall gtins touched s.rows.recalls once told rows.goods.recalls);
+        stock = rows_as {K = StockKey} same_stock stock_key same_cell_is same_cell_refl (λ k. touched k.0.gtin) (λ k. touched k.0.gtin) (λ k. touched k.0.gtin && ((plans command || (names_lot command k.0 && names_bin command k.1)) || (ships command && on_named_stage command s.rows k.0))) (λ k. touched k.0.gtin) (λ k. t.stock k.0 k.1) s.rows.stock
+            (λ k e. (and_both (touched k.0.gtin) ((plans command || (names_lot command k.0 && names_bin command k.1)) || (ships command && on_named_stage command s.rows k.0)) e).0) (λ k e. e) stock_rows;
         bins = rows_as {K = BinKey} same_bin bin_key same_text_is same_text_refl (λ b. names_bin command b || list_any (λ r. same_text b r.bin) s.rows.stock) (λ b. names_bin command b || list_any (λ r. same_text b r.bin) s.rows.stock)
-            (λ b. plans command && (names_bin command b || list_any (λ r. same_text b r.bin) s.rows.stock)) (λ b. names_bin command b || list_any (λ r. same_text b r.bin) s.rows.stock) t.bin s.rows.bins
-            (λ b e. both (plans command) (names_bin command b || list_any (λ r. same_text b r.bin) s.rows.stock) e) (λ b e. e)
+            (λ b. names_bin command b || (plans command && list_any (λ r. same_text b r.bin) s.rows.stock)) (λ b. names_bin command b || list_any (λ r. same_text b r.bin) s.rows.stock) t.bin s.rows.bins
+            (λ b e. or_asked (names_bin command b) (plans command) (list_any (λ r. same_text b r.bin) s.rows.stock) e) (λ b e. e)
             (sought {K = BinKey} same_bin bin_key same_text_is same_text_refl (λ k. k) t.bin (with_names (λ (r : StockRow). r.bin) s.rows.stock (bins_named command)) (λ b. names_bin command b || list_any (λ r. same_text b r.bin) s.rows.stock) s.rows.bins
             (once_names (λ (r : StockRow). r.bin) s.rows.stock (bins_named command) (bin_once command))
             (λ b. among_names (λ (r : StockRow). r.bin) s.rows.stock (bins_named command) b ∙ ap (λ c. c || list_any (λ r. same_text b r.bin) s.rows.stock) (bin_told command b)) rows.bins);
@@ -355,13 +369,15 @@ module _ (first : ℤ) (acts : List Act) where
             (λ o e. opened (plans command) (is_open first acts o) (is_open_in t o) (has_touched_line first act acts o) (has_line_of gtins t o) (open_told o) (touched_line o) e) allowed_so urgent_rows;
         lines = rows_as {K = LineKey} same_line line_key same_line_is same_line_refl
             (λ k. is_among (orders_named command) k.0 || (is_open_in t k.0 && is_among gtins k.1)) (λ k. is_among (orders_named command) k.0 || is_among gtins k.1)
-            (λ k. names_order command k.0 || ((plans command && is_open first acts k.0) && touched k.1)) (λ k. names_order command k.0 || touched k.1) (λ k. t.line k.0 k.1) s.rows.lines
+            (λ k. ((not (picks command) || touched k.1) && names_order command k.0) || ((plans command && is_open first acts k.0) && touched k.1)) (λ k. names_order command k.0 || touched k.1) (λ k. t.line k.0 k.1) s.rows.lines
             (λ k e. needs (is_among (orders_named command) k.0) (names_order command k.0) (is_open first acts k.0) (is_open_in t k.0) (touched k.1) (is_among gtins k.1) (order_told command k.0) (open_told k.0) (told k.1)
-            (either (names_order command k.0) (plans command) (is_open first acts k.0) (touched k.1) e))
+            (either_line (not (picks command) || touched k.1) (names_order command k.0) (plans command) (is_open first acts k.0) (touched k.1) e))
             (λ k e. ap (λ b. b || touched k.1) (sym (order_told command k.0)) ∙ ap (λ b. is_among (orders_named command) k.0 || b) (sym (told k.1)) ∙ e)
             (lines_told known.lines (orders_named command) gtins t holds.lines keyed (order_once command) once s.rows.orders s.rows.lines rows.ordered);
-        staged = staged_rows;
-        reserved = picked_rows command touched t s.rows.reserved rows.units.shares.reserved;
+        staged = rows_as {K = StagedKey} same_staged staged_key same_share_is same_share_refl (λ k. touched k.1.gtin) (λ k. touched k.1.gtin) (λ k. (not (picks command) || (names_order command k.0 && names_lot command k.1)) && touched k.1.gtin) (λ k. touched k.1.gtin) (λ k. t.staged k.0 k.1) s.rows.staged
+            (λ k e. both (not (picks command) || (names_order command k.0 && names_lot command k.1)) (touched k.1.gtin) e) (λ k e. e) staged_rows;
+        reserved = no_rows {K = ReservedKey} same_reserved reserved_key (λ k. names_reserved command k.0 k.1) (λ k. names_order command k.0 || touched k.1.gtin) (λ k. t.reserved k.0 k.1) s.rows.reserved rows.no_reserved
+            (λ k e. no_share (names_of command).order (names_of command).lot k.0 k.1 unpicked e);
       }
         where
           needs : (a n p q h g : Bool) → a ≡ n → (p ≡ true → q ≡ true) → g ≡ h → n || (p && h) ≡ true → a || (q && g) ≡ true
@@ -374,10 +390,9 @@ module _ (first : ℤ) (acts : List Act) where
           opened true false q h g f same w = absurd (let none : false ≡ true = w in cc)
           opened false p q h g f same w = absurd (let none : false ≡ true = w in cc)
 
-    -- by what the command ships
-    pub slice_right : IsHistory first acts → (s : Slice) → IsSliceIn known command (tables_of first acts) s → IsSlice first act acts (tables_of first acts) s
-    slice_right history s slice = by (order_shipped command) refl slice.rows
-      where
-        by : (x : Option (List ℕ)) → order_shipped command ≡ x → AreSlicedOn x known command (tables_of first acts) s.rows → IsSlice first act acts (tables_of first acts) s
-        by None e are = planned_right e history s slice.meta slice.counted are
-        by (Some o) e are = subst (λ (c : Command). IsSlice first (record { key = key; command = c }) acts (tables_of first acts) s) (sym (ships command o e)) (shipment_right first acts key o s slice.meta are)
+-- by what the command is
+pub slice_right : (first : ℤ) (acts : List Act) (key : Key) (command : Command) (known : Known) → HoldsOf known (tables_of first acts) → IsHistory first acts → (s : Slice) → (tables_of first acts).meta ≡ Some s.meta
+    → AreCounts known.bounds command (tables_of first acts) s.items s.bins → AreSliced known command (tables_of first acts) s.rows → IsSlice first (record { key = key; command = command }) acts (tables_of first acts) s
+slice_right first acts key (Ship o) known holds history s meta counted are = shipment_right first acts key o s meta are
+slice_right first acts key (Pick p) known holds history s meta counted are = pick_right first acts key p s meta are
+slice_right first acts key command known holds history s meta counted are = planned_right first acts key command known holds refl refl history s meta counted are

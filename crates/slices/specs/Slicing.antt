@@ -1,9 +1,12 @@
 -- The rows that a slice is made of.
 use Rattle.std.specs.Prelude.{◌≡◌, ℕ, ℤ, Bool, true, false, ◌&&◌, ◌||◌, List, [], ◌∷◌, ◌++◌, map, filter, Option, Some, None, is_some}
 use Rattle.values.specs.Values.{same_text}
+use Rattle.values.specs.declared.lot.LotId.{LotId}
 use Rattle.commands.specs.Names.{names_of}
 use Rattle.commands.specs.Tables.{Tables}
 use Rattle.commands.specs.declared.command.Command.{Command}
+use Rattle.commands.specs.declared.command.Command.TheVariants.{Pick, Ship}
+use Rattle.commands.specs.declared.command.Picking.{Picking}
 use Rattle.commands.specs.declared.limits.TheConstants.{ITEMS_MAX, BINS_MAX}
 use Rattle.commands.specs.declared.rows.MetaRow.{MetaRow}
 use Rattle.commands.specs.declared.rows.ItemRow.{ItemRow}
@@ -18,7 +21,8 @@ use Rattle.commands.specs.declared.rows.LineRow.{LineRow}
 use Rattle.commands.specs.declared.rows.StagedRow.{StagedRow}
 use Rattle.commands.specs.declared.rows.ReservedRow.{ReservedRow}
 use Rattle.table_words.specs.Found.{AreRows, only_if}
-use Rattle.table_words.specs.Typed.{ItemKey, same_item, item_key, LeastKey, same_least, least_key, BinKey, same_bin, bin_key, LotKey, same_lot, lot_key, RecallKey, same_recall, recall_key, StockKey, same_stock, stock_key, OrderKey, same_order, order_key, is_open_order, UrgentKey, same_urgent, urgent_key, LineKey, same_line, line_key, StagedKey, same_staged, staged_key, ReservedKey, same_reserved, reserved_key}
+use Rattle.table_words.specs.Typed.{same_lot_id, ItemKey, same_item, item_key, LeastKey, same_least, least_key, BinKey, same_bin, bin_key, LotKey, same_lot, lot_key, RecallKey, same_recall, recall_key, StockKey, same_stock, stock_key, OrderKey, same_order, order_key, is_open_order, UrgentKey, same_urgent, urgent_key, LineKey, same_line, line_key, StagedKey, same_staged, staged_key, ReservedKey, same_reserved, reserved_key}
+use Rattle.goods_tables.specs.Least.{is_asking}
 use Rattle.open_lines.specs.OpenLines.{Entries, orders_at, holds, are_apart, Gains, has_line_row}
 use Rattle.rules.specs.Slices.{counts_items, counts_bins}
 use Rattle.row_rules.specs.declared.slice.Rows.{Rows}
@@ -29,8 +33,7 @@ use Rattle.slices.specs.declared.knowing.Bounds.{Bounds}
 use Rattle.slices.specs.declared.knowing.Known.{Known}
 pub use Rattle.slices.specs.Reading.{Each}
 use Rattle.slices.specs.ByLot.{AreLotsOf, AreStockOf}
-use Rattle.slices.specs.ByOrder.{AreReservedOn}
-pub use Rattle.slice_parts.specs.Parts.{is_among, with_name, with_names, with_some, items_named, lots_named, orders_named, bins_named, whole_orders, order_shipped, order_picked, held_lots, lots_on_stage, others, other_names, has_line_in, with_lines, has_urgent_row, urgent_lines, names_among, is_ending, not_recalled, items_of_lots, with_staged}
+pub use Rattle.slice_parts.specs.Parts.{is_among, with_name, with_names, with_some, items_named, lots_named, orders_named, bins_named, whole_orders, held_lots, lots_on_stage, others, other_names, has_line_in, with_lines, has_urgent_row, urgent_lines, names_among, is_ending, not_recalled, items_of_lots, with_staged}
 
 -- the row passes
 abbrev pub is_passed : {R : Type 0} → (R → Bool) → Option R → Bool
@@ -66,17 +69,6 @@ pub record AreBooked (gtins : List (List ℕ)) (t : Tables) (staged_rows : List 
 -- what is staged of items, one item after another
 abbrev pub AreStaged : List (List ℕ) → Tables → List StagedRow → Type 0
 AreStaged gtins t staged_rows = Each (λ g found. AreRows {K = StagedKey} same_staged staged_key (λ k. same_text g k.1.gtin) (λ k. t.staged k.0 k.1) found) gtins staged_rows
-
--- what is staged of the items, and what is reserved for the order that the command picks for
-pub record AreShares (command : Command) (gtins : List (List ℕ)) (t : Tables) (staged_rows : List StagedRow) (reserved_rows : List ReservedRow) : Type 0 where
-  pub staged : AreStaged gtins t staged_rows
-  pub reserved : AreReservedOn (order_picked command) t reserved_rows
-
--- those of the items, these, and the rows of the lots that the command names or that have units
-pub record AreUnits (command : Command) (gtins : List (List ℕ)) (t : Tables) (item_rows : List ItemRow) (least_rows : List LeastRow) (lot_rows : List LotRow) (recall_rows : List RecallRow) (stock_rows : List StockRow) (staged_rows : List StagedRow) (reserved_rows : List ReservedRow) : Type 0 where
-  pub goods : AreGoods gtins t item_rows least_rows recall_rows stock_rows
-  pub shares : AreShares command gtins t staged_rows reserved_rows
-  pub lots : AreLotsOf (held_lots command stock_rows staged_rows) t lot_rows
 
 -- the rows of the bins, one bin after another
 abbrev pub AreBins : List (List ℕ) → Tables → List BinRow → Type 0
@@ -173,7 +165,7 @@ pub record AreEnding (old new : ℤ) (t : Tables) (lot_rows : List LotRow) : Typ
   pub all : List LotRow
   pub read : AreRows {K = LotKey} same_lot lot_key (λ key. true) t.lot all
   pub least : List LeastRow
-  pub least_read : AreRows {K = LeastKey} same_least least_key (λ key. true) t.least least
+  pub least_read : AreRows {K = LeastKey} same_least least_key (λ key. true) (λ key. only_if is_asking (t.least key)) least
   pub recalls : List RecallRow
   pub recalls_read : Each (λ g found. AreRows {K = RecallKey} same_recall recall_key (λ k. same_text g k.gtin) t.recall found) (items_of_lots (filter (is_ending old new least) all)) recalls
   pub lots : lot_rows ≡ not_recalled recalls (filter (is_ending old new least) all)
@@ -269,14 +261,17 @@ AreTouchedOn (Some day) command t gtins = AreAffected day t gtins
 abbrev pub AreTouched : Command → Tables → List (List ℕ) → Type 0
 AreTouched command = AreTouchedOn (names_of command).day command
 
--- the rows that a command asks for that is no shipment
+-- the rows that a command asks for that is no shipment and no pick
 pub record ArePlanned (known : Known) (command : Command) (t : Tables) (rows : Rows) : Type 0 where
   pub gtins : List (List ℕ)
   pub touched : AreTouched command t gtins
-  pub units : AreUnits command gtins t rows.items rows.least rows.lots rows.recalls rows.stock rows.staged rows.reserved
+  pub goods : AreGoods gtins t rows.items rows.least rows.recalls rows.stock
+  pub staged : AreStaged gtins t rows.staged
+  pub lots : AreLotsOf (held_lots command rows.stock rows.staged) t rows.lots
   pub bins : AreBins (with_names (λ r. r.bin) rows.stock (bins_named command)) t rows.bins
   pub ordered : AreKnownOrders known.lines (orders_named command) gtins t rows.orders rows.lines
   pub urgents : AreUrgentsFor known.urgent gtins rows.orders t rows.urgents
+  pub no_reserved : rows.reserved ≡ []
 
 -- those that the shipment of an order asks for: the order with its lines, what is staged of their items, and the stock
 -- of the lots that are staged for the order
@@ -292,13 +287,38 @@ pub record AreShipped (order : List ℕ) (t : Tables) (rows : Rows) : Type 0 whe
   pub no_least : rows.least ≡ []
   pub no_urgents : rows.urgents ≡ []
 
--- the rows that the command asks for, by the order that it ships
-abbrev pub AreSlicedOn : Option (List ℕ) → Known → Command → Tables → Rows → Type 0
-AreSlicedOn None known command t rows = ArePlanned known command t rows
-AreSlicedOn (Some order) known command t rows = AreShipped order t rows
+-- Those that a pick asks for, each by its key. The item with the days that it asks for and its recalls, the lot and its stock, and
+-- the bin
+pub record AreGoodsIn (l : LotId) (bin : List ℕ) (t : Tables) (item_rows : List ItemRow) (least_rows : List LeastRow) (bin_rows : List BinRow) (lot_rows : List LotRow) (recall_rows : List RecallRow) (stock_rows : List StockRow) : Type 0 where
+  pub items : AreRows {K = ItemKey} same_item item_key (λ k. same_text l.gtin k) t.item item_rows
+  pub least : AreRows {K = LeastKey} same_least least_key (λ k. same_text l.gtin k) t.least least_rows
+  pub bins : AreRows {K = BinKey} same_bin bin_key (λ k. same_text bin k) t.bin bin_rows
+  pub lots : AreRows {K = LotKey} same_lot lot_key (same_lot l) t.lot lot_rows
+  pub recalls : AreRows {K = RecallKey} same_recall recall_key (λ k. same_text l.gtin k.gtin) t.recall recall_rows
+  pub stock : AreRows {K = StockKey} same_stock stock_key (λ k. same_lot_id l k.0) (λ k. t.stock k.0 k.1) stock_rows
 
+-- the order and its line of the item, and not whether it is urgent
+pub record AreOrderOf (order gtin : List ℕ) (t : Tables) (order_rows : List OrderRow) (urgent_rows : List UrgentRow) (line_rows : List LineRow) : Type 0 where
+  pub orders : AreRows {K = OrderKey} same_order order_key (λ k. same_text order k) t.order order_rows
+  pub no_urgents : urgent_rows ≡ []
+  pub lines : AreRows {K = LineKey} same_line line_key (λ k. same_line (order, gtin) k) (λ k. t.line k.0 k.1) line_rows
+
+-- what is staged and what is reserved of the lot for the order
+pub record AreSharesOf (order : List ℕ) (l : LotId) (t : Tables) (staged_rows : List StagedRow) (reserved_rows : List ReservedRow) : Type 0 where
+  pub staged : AreRows {K = StagedKey} same_staged staged_key (λ k. same_staged (order, l) k) (λ k. t.staged k.0 k.1) staged_rows
+  pub reserved : AreRows {K = ReservedKey} same_reserved reserved_key (λ k. same_reserved (order, l) k) (λ k. t.reserved k.0 k.1) reserved_rows
+
+-- these together
+pub record ArePicked (p : Picking) (t : Tables) (rows : Rows) : Type 0 where
+  pub goods : AreGoodsIn p.lot p.bin t rows.items rows.least rows.bins rows.lots rows.recalls rows.stock
+  pub ordered : AreOrderOf p.order p.lot.gtin t rows.orders rows.urgents rows.lines
+  pub shares : AreSharesOf p.order p.lot t rows.staged rows.reserved
+
+-- the rows that the command asks for
 abbrev pub AreSliced : Known → Command → Tables → Rows → Type 0
-AreSliced known command = AreSlicedOn (order_shipped command) known command
+AreSliced known (Ship order) t rows = AreShipped order t rows
+AreSliced known (Pick p) t rows = ArePicked p t rows
+AreSliced known command t rows = ArePlanned known command t rows
 
 -- the slice of a command, as it is read
 pub record IsSliceIn (known : Known) (command : Command) (t : Tables) (s : Slice) : Type 0 where

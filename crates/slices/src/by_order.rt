@@ -3,14 +3,12 @@
 ghost use Rattle.std.specs.Prelude.{◌≡◌};
 ghost use Rattle.sqlite.specs.Held.{state};
 ghost use Rattle.slices.specs.Reading.{IsRead};
-ghost use Rattle.slices.specs.ByOrder.{AreStagedOf, AreReservedOf, AreReservedOn};
-ghost use Rattle.slices.specs.Slicing.{order_picked as order_picked_lem};
+ghost use Rattle.slices.specs.ByOrder.{AreStagedOf, AreReservedOf};
 
 use crate::sought::read_rows;
-use commands::{Command, ReservedRow, StagedRow};
+use commands::{ReservedRow, StagedRow};
 use order_tables::reserved::Reserved;
 use order_tables::staged::Staged;
-use slice_parts::naming::order_picked;
 use sqlite::{Alter, Transaction};
 use std::alloc::Global;
 use table_words::error::TableFault;
@@ -28,19 +26,4 @@ pub fn booked_for<S: Alter>(
     let staged = read_rows::<Staged, Name, S>(alloc, tx, order)?;
     let reserved = read_rows::<Reserved, Name, S>(alloc, tx, order)?;
     Ok((staged, reserved))
-}
-
-/// What is reserved for the order that the command picks for. Where it is no pick, nothing is read.
-pub fn reserved_for_pick<S: Alter>(
-    alloc: Global,
-    tx: &mut Transaction<'_, S>,
-    command: &Command,
-) -> Result<Vec<ReservedRow>, TableFault>
-    ensures same_reference { tx.new.conn.ghost_name ≡ tx.old.conn.ghost_name }
-    ensures read { IsRead (λ t rows. AreReservedOn (order_picked_lem command.now) t rows.items) (state S.Store tx.old.conn.now) (state S.Store tx.new.conn.now) result }
-{
-    match order_picked(command) {
-        Some(order) => read_rows::<Reserved, Name, S>(alloc, tx, &order),
-        None => Ok(Vec::new(alloc)),
-    }
 }

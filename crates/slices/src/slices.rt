@@ -16,20 +16,18 @@ ghost use Rattle.open_lines.specs.OpenLines.{Loses, has_closed_row, has_line_row
 ghost use Rattle.slices.specs.Reading.{IsRead};
 ghost use Rattle.slices.specs.Bounding.{with_counts};
 ghost use Rattle.slices.specs.ByLot.{AreLotsOf};
-ghost use Rattle.slices.specs.Slicing.{AreGoods, AreBooked, AreShares, AreUnits, AreKnownOrders, AreUrgentsFor, AreBins, AreCounts, AreTaken, AreTouched, ArePlanned, AreSliced, HoldsOf, IsSliceIn, bins_named, with_names, held_lots};
+ghost use Rattle.slices.specs.Slicing.{AreGoods, AreBooked, AreKnownOrders, AreUrgentsFor, AreBins, AreCounts, AreTaken, AreTouched, ArePlanned, AreSliced, HoldsOf, IsSliceIn, orders_named, bins_named, with_names, held_lots};
 
-use crate::by_order::reserved_for_pick;
 use crate::knowing::{Bounds, Known};
 use crate::known_orders::read_known_orders;
 use crate::opening::affected_items;
+use crate::picks::read_pick;
 use crate::reading::{meta_row, told_bins, told_items};
+use crate::rows_read::{Goods, Ordered, Shares, rows_read};
 use crate::shipments::read_shipment;
 use crate::sought::{seek_all, seek_both};
 use crate::urgent_orders::read_urgents;
-use commands::{
-    Added, BinRow, Command, ItemRow, LeastRow, LineRow, Listed, LotRow, MetaRow, OrderRow,
-    RecallRow, ReservedRow, StagedRow, StockRow, UrgentRow,
-};
+use commands::{Added, BinRow, Command, LotRow, MetaRow, ReservedRow, StagedRow, StockRow};
 use goods_tables::bins::Bins;
 use goods_tables::items::Items;
 use goods_tables::least::Least;
@@ -41,7 +39,7 @@ use order_tables::reserved::Reserved;
 use order_tables::staged::Staged;
 use rules::{Rows, Slice};
 use slice_parts::lots_held::lots_held;
-use slice_parts::naming::{bins_with, items_with, named_orders, order_shipped, whole_orders};
+use slice_parts::naming::{bins_with, items_with, named_orders, whole_orders};
 use sqlite::{Alter, Transaction};
 use std::alloc::Global;
 use table_words::error::TableFault;
@@ -76,36 +74,6 @@ fn touched_items<S: Alter>(
     }
 }
 
-/// Rows of goods.
-#[derive(Drop)]
-struct Goods {
-    items: Vec<ItemRow>,
-    least: Vec<LeastRow>,
-    lots: Vec<LotRow>,
-    recalls: Vec<RecallRow>,
-    stock: Vec<StockRow>,
-}
-
-/// Of the items their own rows, what they ask for, their recalls and their stock.
-fn read_goods<S: Alter>(
-    alloc: Global,
-    tx: &mut Transaction<'_, S>,
-    gtins: &[Gtin],
-) -> Result<
-    (
-        (Vec<ItemRow>, Vec<LeastRow>),
-        (Vec<RecallRow>, Vec<StockRow>),
-    ),
-    TableFault,
->
-    ensures same_reference { tx.new.conn.ghost_name ≡ tx.old.conn.ghost_name }
-    ensures read { IsRead (λ t rows. AreGoods gtins.now t rows.0.0.items rows.0.1.items rows.1.0.items rows.1.1.items) (state S.Store tx.old.conn.now) (state S.Store tx.new.conn.now) result }
-{
-    let items = seek_both::<Gtin, Items, Least, S>(alloc, tx, gtins)?;
-    let units = seek_both::<Gtin, Recalls, Stock, S>(alloc, tx, gtins)?;
-    Ok((items, units))
-}
-
 /// What is staged and what is reserved of the items.
 pub fn read_booked<S: Alter>(
     alloc: Global,
@@ -116,21 +84,6 @@ pub fn read_booked<S: Alter>(
     ensures read { IsRead (λ t rows. AreBooked gtins.now t rows.0.items rows.1.items) (state S.Store tx.old.conn.now) (state S.Store tx.new.conn.now) result }
 {
     seek_both::<Gtin, Staged, Reserved, S>(alloc, tx, gtins)
-}
-
-/// What is staged of the items, and what is reserved for the order that the command picks for.
-fn read_shares<S: Alter>(
-    alloc: Global,
-    tx: &mut Transaction<'_, S>,
-    command: &Command,
-    gtins: &[Gtin],
-) -> Result<(Vec<StagedRow>, Vec<ReservedRow>), TableFault>
-    ensures same_reference { tx.new.conn.ghost_name ≡ tx.old.conn.ghost_name }
-    ensures read { IsRead (λ t rows. AreShares command.now gtins.now t rows.0.items rows.1.items) (state S.Store tx.old.conn.now) (state S.Store tx.new.conn.now) result }
-{
-    let staged = seek_all::<Staged, Gtin, S>(alloc, tx, gtins)?;
-    let reserved = reserved_for_pick(alloc, tx, command)?;
-    Ok((staged, reserved))
 }
 
 /// The lots that the command names or that have units.
@@ -148,67 +101,6 @@ fn read_lots<S: Alter>(
     seek_all::<Lots, LotId, S>(alloc, tx, lots.as_slice())
 }
 
-/// The rows of the items, those of the lots that the command names or that have units, what is staged of the items, and
-/// what is reserved for the order that the command picks for.
-fn read_units<S: Alter>(
-    alloc: Global,
-    tx: &mut Transaction<'_, S>,
-    command: &Command,
-    gtins: &[Gtin],
-) -> Result<(Goods, (Vec<StagedRow>, Vec<ReservedRow>)), TableFault>
-    ensures same_reference { tx.new.conn.ghost_name ≡ tx.old.conn.ghost_name }
-    ensures read { IsRead (λ t rows. AreUnits command.now gtins.now t rows.0.items.items rows.0.least.items rows.0.lots.items rows.0.recalls.items rows.0.stock.items rows.1.0.items rows.1.1.items) (state S.Store tx.old.conn.now) (state S.Store tx.new.conn.now) result }
-{
-    let ((items, least), (recalls, stock)) = read_goods(alloc, tx, gtins)?;
-    let shares = read_shares(alloc, tx, command, gtins)?;
-    let lots = read_lots(alloc, tx, command, stock.as_slice(), shares.0.as_slice())?;
-    let goods = Goods {
-        items,
-        least,
-        lots,
-        recalls,
-        stock,
-    };
-    Ok((goods, shares))
-}
-
-/// The rows that were read, together.
-fn rows_read(
-    goods: Goods,
-    bins: Vec<BinRow>,
-    ordered: (Vec<OrderRow>, Vec<LineRow>),
-    shares: (Vec<StagedRow>, Vec<ReservedRow>),
-    urgents: Vec<UrgentRow>,
-) -> Rows
-    ensures same_items { result.items ≡ goods.items.items }
-    ensures same_bins { result.bins ≡ bins.items }
-    ensures same_lots { result.lots ≡ goods.lots.items }
-    ensures same_recalls { result.recalls ≡ goods.recalls.items }
-    ensures same_stock { result.stock ≡ goods.stock.items }
-    ensures same_orders { result.orders ≡ ordered.0.items }
-    ensures same_lines { result.lines ≡ ordered.1.items }
-    ensures same_staged { result.staged ≡ shares.0.items }
-    ensures same_reserved { result.reserved ≡ shares.1.items }
-    ensures same_least { result.least ≡ goods.least.items }
-    ensures same_urgents { result.urgents ≡ urgents.items }
-{
-    let (orders, lines) = ordered;
-    let (staged, reserved) = shares;
-    Rows {
-        items: Listed::from_vec(goods.items),
-        bins: Listed::from_vec(bins),
-        lots: Listed::from_vec(goods.lots),
-        recalls: Listed::from_vec(goods.recalls),
-        stock: Listed::from_vec(goods.stock),
-        orders: Listed::from_vec(orders),
-        lines: Listed::from_vec(lines),
-        staged: Listed::from_vec(staged),
-        reserved: Listed::from_vec(reserved),
-        least: Listed::from_vec(goods.least),
-        urgents: Listed::from_vec(urgents),
-    }
-}
-
 /// The bins that the command names or that hold the stock.
 fn read_bins<S: Alter>(
     alloc: Global,
@@ -221,6 +113,34 @@ fn read_bins<S: Alter>(
 {
     let names = bins_with(alloc, command, stock)?;
     seek_all::<Bins, Name, S>(alloc, tx, names.as_slice())
+}
+
+/// Of the items their own rows, what they ask for, their recalls and their stock; the lots that the command names or that
+/// have units; and the bins that it names or that hold units.
+fn read_goods<S: Alter>(
+    alloc: Global,
+    tx: &mut Transaction<'_, S>,
+    command: &Command,
+    gtins: &[Gtin],
+    staged: &[StagedRow],
+) -> Result<Goods, TableFault>
+    ensures same_reference { tx.new.conn.ghost_name ≡ tx.old.conn.ghost_name }
+    ensures read { IsRead (λ t goods. AreGoods gtins.now t goods.items.items goods.least.items goods.recalls.items goods.stock.items
+        × AreLotsOf (held_lots command.now goods.stock.items staged.now) t goods.lots.items
+        × AreBins (with_names (λ r. r.bin) goods.stock.items (bins_named command.now)) t goods.bins.items) (state S.Store tx.old.conn.now) (state S.Store tx.new.conn.now) result }
+{
+    let (items, least) = seek_both::<Gtin, Items, Least, S>(alloc, tx, gtins)?;
+    let (recalls, stock) = seek_both::<Gtin, Recalls, Stock, S>(alloc, tx, gtins)?;
+    let lots = read_lots(alloc, tx, command, stock.as_slice(), staged)?;
+    let bins = read_bins(alloc, tx, command, stock.as_slice())?;
+    Ok(Goods {
+        items,
+        least,
+        bins,
+        lots,
+        recalls,
+        stock,
+    })
 }
 
 /// The number of items and that of bins, where the command is judged by them, and else 0. One that is known and below
@@ -253,19 +173,24 @@ fn read_ordered<S: Alter>(
     alloc: Global,
     tx: &mut Transaction<'_, S>,
     known: &Known,
-    named: &[Name],
+    command: &Command,
     gtins: &[Gtin],
-) -> Result<((Vec<OrderRow>, Vec<LineRow>), Vec<UrgentRow>), TableFault>
+) -> Result<Ordered, TableFault>
     ensures same_reference { tx.new.conn.ghost_name ≡ tx.old.conn.ghost_name }
-    ensures read { IsRead (λ t rows. AreKnownOrders known.now.lines named.now gtins.now t rows.0.0.items rows.0.1.items
-        × AreUrgentsFor known.now.urgent gtins.now rows.0.0.items t rows.1.items) (state S.Store tx.old.conn.now) (state S.Store tx.new.conn.now) result }
+    ensures read { IsRead (λ t ordered. AreKnownOrders known.now.lines (orders_named command.now) gtins.now t ordered.orders.items ordered.lines.items
+        × AreUrgentsFor known.now.urgent gtins.now ordered.orders.items t ordered.urgents.items) (state S.Store tx.old.conn.now) (state S.Store tx.new.conn.now) result }
 {
-    let ordered = read_known_orders(alloc, tx, &known.lines, named, gtins)?;
-    let urgents = read_urgents(alloc, tx, &known.urgent, gtins, ordered.0.as_slice())?;
-    Ok((ordered, urgents))
+    let named = named_orders(alloc, command)?;
+    let (orders, lines) = read_known_orders(alloc, tx, &known.lines, named.as_slice(), gtins)?;
+    let urgents = read_urgents(alloc, tx, &known.urgent, gtins, orders.as_slice())?;
+    Ok(Ordered {
+        orders,
+        urgents,
+        lines,
+    })
 }
 
-/// The rows that a command asks for that is no shipment.
+/// The rows that a command asks for that is no shipment and no pick.
 fn read_planned<S: Alter>(
     alloc: Global,
     tx: &mut Transaction<'_, S>,
@@ -276,11 +201,14 @@ fn read_planned<S: Alter>(
     ensures read { IsRead (λ t rows. ArePlanned known.now command.now t rows) (state S.Store tx.old.conn.now) (state S.Store tx.new.conn.now) result }
 {
     let gtins = touched_items(alloc, tx, command)?;
-    let named = named_orders(alloc, command)?;
-    let (goods, shares) = read_units(alloc, tx, command, gtins.as_slice())?;
-    let bins = read_bins(alloc, tx, command, goods.stock.as_slice())?;
-    let (ordered, urgents) = read_ordered(alloc, tx, known, named.as_slice(), gtins.as_slice())?;
-    Ok(rows_read(goods, bins, ordered, shares, urgents))
+    let staged = seek_all::<Staged, Gtin, S>(alloc, tx, gtins.as_slice())?;
+    let goods = read_goods(alloc, tx, command, gtins.as_slice(), staged.as_slice())?;
+    let ordered = read_ordered(alloc, tx, known, command, gtins.as_slice())?;
+    let shares = Shares {
+        staged,
+        reserved: Vec::new(alloc),
+    };
+    Ok(rows_read(goods, ordered, shares))
 }
 
 /// The rows of the slice.
@@ -293,9 +221,10 @@ fn read_rows<S: Alter>(
     ensures same_reference { tx.new.conn.ghost_name ≡ tx.old.conn.ghost_name }
     ensures read { IsRead (λ t rows. AreSliced known.now command.now t rows) (state S.Store tx.old.conn.now) (state S.Store tx.new.conn.now) result }
 {
-    match order_shipped(command) {
-        Some(order) => read_shipment(alloc, tx, &order),
-        None => read_planned(alloc, tx, known, command),
+    match command {
+        Command::Ship(order) => read_shipment(alloc, tx, order),
+        Command::Pick(picking) => read_pick(alloc, tx, picking),
+        _ => read_planned(alloc, tx, known, command),
     }
 }
 

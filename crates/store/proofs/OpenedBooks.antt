@@ -19,20 +19,20 @@ use Rattle.sqlite.specs.Schema.{Schema}
 use Rattle.sqlite.specs.Table.{Table}
 use Rattle.sqlite.specs.Tree.{Trees}
 use Rattle.table_words.specs.Cells.{is_the_number, is_the_text, is_signed, is_number}
-use Rattle.table_words.specs.Schema.{meta_tree, least_tree, least_table, urgents_tree, urgents_table, first_tables, second_tables, the_tables, schema_with, HasTables}
+use Rattle.table_words.specs.Schema.{meta_tree, least_tree, least_table, urgents_tree, urgents_table, the_tables, HasTables}
 use Rattle.table_words.specs.Typed.{tables_in, is_meta, is_meta_at, meta_in, meta_at, same_meta, meta_key, AreTyped}
 use Rattle.table_words.specs.declared.error.TableFault.{TableFault}
 use Rattle.table_words.specs.declared.error.TableFault.TheVariants.{Store as TableStore, Foreign as TableForeign}
 use Rattle.table_words.proofs.StepLemmas.{tables_same, typed_same, typed_at}
 use Rattle.tables.specs.Indexing.{KeepsRows}
 use Rattle.tables.specs.Bringing.{as_older, as_brought}
-use Rattle.tables.specs.Older.{number, older_tables, IsOlderSchema}
+use Rattle.tables.specs.Older.{number, older_tables}
 use Rattle.tables.specs.declared.older.OlderBooks.{OlderBooks}
 use Rattle.tables.specs.declared.older.OlderBooks.TheVariants.{First, Second}
-use Rattle.tables.specs.Settling.{HasDayAt}
+use Rattle.tables.specs.Settling.{HasDayAt, IsRaised, IsNumbered}
 use Rattle.tables.proofs.SettleLemmas.{each_itself}
 use Rattle.tables.proofs.OpenLemmas.{ready_tells}
-use Rattle.tables.specs.Opening.{number_of, HasSchema, IsReadyAs, AreReadTyped, KeepsRowsAs, ComesTo, IsCome, IsLeftAs, IsLeft, TellTables}
+use Rattle.tables.specs.Opening.{HasDayIn, HasSchema, IsReadyAs, AreReadTyped, KeepsRowsAs, ComesTo, IsCome, IsLeftAs, IsLeft, TellTables}
 use Rattle.tables.specs.declared.opening.Found.{Found}
 use Rattle.tables.specs.declared.opening.Found.TheVariants.{Newest, Older}
 use Rattle.tables.specs.declared.opening.Leftover.{Leftover}
@@ -46,7 +46,7 @@ use Rattle.machine.proofs.histories.OlderBooks.{first_books_go_on, second_books_
 use Rattle.store.specs.Books.{AreRowsOf, KeepsBooks}
 use Rattle.store.specs.Faults.{fault_of}
 use Rattle.store.specs.declared.fault.Fault.{Fault}
-use Rattle.store.specs.Opening.{AreOlderRowsOf, AreRowsAt, AreFoundRows, MayCome, IsReopened, IsReopenedAsFound, IsLeftOver, unlimited}
+use Rattle.store.specs.Opening.{third_number, AreThirdRowsOf, AreOlderRowsOf, AreRowsAt, AreFoundRows, MayCome, IsReopened, IsReopenedAsFound, IsLeftOver, unlimited}
 use Rattle.store.specs.declared.fault.Fault.TheVariants.{Store, Foreign}
 
 -- ---- faults
@@ -111,8 +111,16 @@ older_day older trees first acts rows =
       found = ap (option_map (λ (m : MetaRow). m.day)) same;
     }
 
-pub has_day : (found : Found) (trees : Trees) (first : ℤ) (acts : List Act) → AreRowsAt found first acts trees → HasDayAt (number_of found) trees (today first acts)
-has_day Newest trees first acts rows = newest_day trees first acts rows
+third_day : (trees : Trees) (first : ℤ) (acts : List Act) → AreThirdRowsOf first acts trees → HasDayAt third_number trees (today first acts)
+unfolding tables_of
+third_day trees first acts rows = record {
+  typed = typed_among (λ r. is_meta_at third_number r ≡ true) (λ r. is_the_number 1 (column r 0)) (trees meta_tree) rows.typed.0;
+  found = ap (λ (t : Tables). option_map (λ (m : MetaRow). m.day) t.meta) rows.tables;
+}
+
+pub has_day : (found : Found) (trees : Trees) (first : ℤ) (acts : List Act) → AreRowsAt found first acts trees → HasDayIn found trees (today first acts)
+has_day Newest trees first acts (inl rows) = inl (newest_day trees first acts rows)
+has_day Newest trees first acts (inr rows) = inr (third_day trees first acts rows)
 has_day (Older older) trees first acts rows = older_day older trees first acts rows
 
 -- what is read beside it is typed
@@ -122,7 +130,7 @@ read_typed (Older First) trees first acts rows = rows.typed.1.0
 read_typed (Older Second) trees first acts rows = tt
 
 -- there is one day
-pub one_day : (version : ℕ) (trees : Trees) (a b : ℤ) → HasDayAt version trees a → HasDayAt version trees b → a ≡ b
+one_day : (version : ℕ) (trees : Trees) (a b : ℤ) → HasDayAt version trees a → HasDayAt version trees b → a ≡ b
 one_day version trees a b p q = let both : Some a ≡ Some b = sym p.found ∙ q.found in cc
 
 -- ---- which books they are
@@ -152,29 +160,61 @@ no_day n m apart trees day all has =
     let no : None ≡ Some day = sym (ap (option_map (λ (m : MetaRow). m.day)) none) ∙ has.found in
     cc
 
--- so rows of the acts have a day under the number of their books alone
-rows_number : (found : Found) (trees : Trees) (first : ℤ) (acts : List Act) → AreRowsAt found first acts trees → AllByRecursion (λ r. is_meta_at (number_of found) r ≡ true) (trees meta_tree)
-rows_number Newest trees first acts rows = newest_meta trees rows.typed
-rows_number (Older older) trees first acts rows = older_meta older trees first acts rows
+-- the numbers that books may have
+abbrev IsNumberOf : Found → ℕ → Type 0
+IsNumberOf Newest n = (n ≡ SCHEMA_VERSION) ⊎ (n ≡ third_number)
+IsNumberOf (Older older) n = n ≡ number older
 
 -- books with one number are the same
-one_number : (a b : Found) → number_of a ≡ number_of b → a ≡ b
-one_number Newest Newest is = refl
-one_number (Older First) (Older First) is = refl
-one_number (Older Second) (Older Second) is = refl
-one_number Newest (Older First) is = cc
-one_number Newest (Older Second) is = cc
-one_number (Older First) Newest is = cc
-one_number (Older First) (Older Second) is = cc
-one_number (Older Second) Newest is = cc
-one_number (Older Second) (Older First) is = cc
+one_number : (a b : Found) (n : ℕ) → IsNumberOf a n → IsNumberOf b n → a ≡ b
+one_number Newest Newest n p q = refl
+one_number (Older First) (Older First) n p q = refl
+one_number (Older Second) (Older Second) n p q = refl
+one_number Newest (Older First) n (inl p) q = cc
+one_number Newest (Older First) n (inr p) q = cc
+one_number Newest (Older Second) n (inl p) q = cc
+one_number Newest (Older Second) n (inr p) q = cc
+one_number (Older First) Newest n p (inl q) = cc
+one_number (Older First) Newest n p (inr q) = cc
+one_number (Older First) (Older Second) n p q = cc
+one_number (Older Second) Newest n p (inl q) = cc
+one_number (Older Second) Newest n p (inr q) = cc
+one_number (Older Second) (Older First) n p q = cc
 
--- rows of the acts under a number that the row of `meta` has are those of its books
-pub same_found : (at found : Found) (trees : Trees) (first : ℤ) (acts : List Act) (day : ℤ) → AreRowsAt at first acts trees → HasDayAt (number_of found) trees day → at ≡ found
-same_found at found trees first acts day rows has = elim (cases_Bool (nat_eq (number_of found) (number_of at))) [
-  | inl is ↦ one_number at found (sym (eqb-true (number_of found) (number_of at) is))
-  | inr apart ↦ absurd (no_day (number_of found) (number_of at) apart trees day (rows_number at trees first acts rows) has)
-]
+-- the row of `meta` has this day under this number of the books
+record HasNumber (found : Found) (trees : Trees) (day : ℤ) : Type 0 where
+  version : ℕ
+  is : IsNumberOf found version
+  has : HasDayAt version trees day
+
+number_found : (found : Found) (trees : Trees) (day : ℤ) → HasDayIn found trees day → HasNumber found trees day
+number_found Newest trees day (inl has) = record { version = SCHEMA_VERSION; is = inl refl; has = has }
+number_found Newest trees day (inr has) = record { version = third_number; is = inr refl; has = has }
+number_found (Older older) trees day has = record { version = number older; is = refl; has = has }
+
+-- rows of the acts have this number of their books, and no other
+record AreNumbered (found : Found) (trees : Trees) (day : ℤ) : Type 0 where
+  own : HasNumber found trees day
+  all : AllByRecursion (λ r. is_meta_at own.version r ≡ true) (trees meta_tree)
+
+rows_numbered : (found : Found) (trees : Trees) (first : ℤ) (acts : List Act) → AreRowsAt found first acts trees → AreNumbered found trees (today first acts)
+rows_numbered Newest trees first acts (inl rows) = record { own = record { version = SCHEMA_VERSION; is = inl refl; has = newest_day trees first acts rows }; all = newest_meta trees rows.typed }
+rows_numbered Newest trees first acts (inr rows) = record { own = record { version = third_number; is = inr refl; has = third_day trees first acts rows }; all = rows.typed.0 }
+rows_numbered (Older older) trees first acts rows = record { own = record { version = number older; is = refl; has = older_day older trees first acts rows }; all = older_meta older trees first acts rows }
+
+-- rows of the acts under a number that the row of `meta` has are those of its books, and of their last day
+pub same_found : (at found : Found) (trees : Trees) (first : ℤ) (acts : List Act) (day : ℤ) → AreRowsAt at first acts trees → HasDayIn found trees day → (at ≡ found) × (day ≡ today first acts)
+same_found at found trees first acts day rows has =
+    let rows_at = rows_numbered at trees first acts rows in
+    let read = number_found found trees day has in
+    elim (cases_Bool (nat_eq read.version rows_at.own.version)) [
+      | inl is ↦
+          let same : read.version ≡ rows_at.own.version = eqb-true read.version rows_at.own.version is in (
+            one_number at found rows_at.own.version rows_at.own.is (subst (IsNumberOf found) same read.is),
+            one_day rows_at.own.version trees day (today first acts) (subst (λ (n : ℕ). HasDayAt n trees day) same read.has) rows_at.own.has,
+          )
+      | inr apart ↦ absurd (no_day read.version rows_at.own.version apart trees day rows_at.all read.has)
+    ]
 
 -- no schema is of two kinds of books: their tables are not as many
 tables_of_found : Found → List Table → List Table
@@ -230,23 +270,31 @@ goes_on Second first acts old = second_books_go_on first acts old
 
 -- rows that were kept are those of the acts, and so are those that came of older ones
 rows_come : (found : Found) (before after : Trees) (first : ℤ) (acts : List Act) → ComesTo found before after → AreRowsAt found first acts before → AreRowsOf first acts after
-rows_come Newest before after first acts kept rows = record { tables = tables_same before after kept ∙ rows.tables; typed = typed_same before after kept rows.typed }
+rows_come Newest before after first acts (inl kept) (inl rows) = record { tables = tables_same before after kept.rows ∙ rows.tables; typed = typed_same before after kept.rows rows.typed }
+rows_come Newest before after first acts (inr raised) (inr rows) = record { tables = raised.tables ∙ rows.tables; typed = raised.typed rows.typed }
+rows_come Newest before after first acts (inl kept) (inr rows) = absurd (no_day SCHEMA_VERSION third_number refl before kept.day rows.typed.0 kept.has)
+rows_come Newest before after first acts (inr raised) (inl rows) = absurd (no_day third_number SCHEMA_VERSION refl before raised.day (newest_meta before rows.typed) raised.has)
 rows_come (Older older) before after first acts brought rows = record {
   tables = brought.tables ∙ ap (as_brought older) rows.tables ∙ goes_on older first acts rows.older_acts;
   typed = brought.typed rows.typed;
 }
 
 -- a connection that was opened anew keeps the books of the acts, as whichever books they were found
-keeps_books : {S : Type 0} (g : Ghosts S) (old new : Held S) (it : IsReopened g old new) (first : ℤ) (acts : List Act) (day : ℤ) → HasDayAt (number_of it.found) (state g old).committed.trees day → HasCleanDisk (state g new)
+keeps_books : {S : Type 0} (g : Ghosts S) (old new : Held S) (it : IsReopened g old new) (first : ℤ) (acts : List Act) (day : ℤ) → HasDayIn it.found (state g old).committed.trees day → HasCleanDisk (state g new)
     → AreFoundRows first acts (state g old).committed.trees → KeepsBooks first acts (state g new)
 keeps_books g old new it first acts day has clean (at, rows) = record {
   books = λ up. record {
     ready = it.ready clean up;
     rows = rows_come it.found (state g old).committed.trees (state g new).now.trees first acts (it.comes clean up)
-        (subst (λ (f : Found). AreRowsAt f first acts (state g old).committed.trees) (same_found at it.found (state g old).committed.trees first acts day rows has) rows);
+        (subst (λ (f : Found). AreRowsAt f first acts (state g old).committed.trees) (same_found at it.found (state g old).committed.trees first acts day rows has).0 rows);
   };
   settled = it.settled clean;
 }
+
+-- rows that were kept, or raised
+as_numbered : (old db : Trees) → IsNumbered old db → KeepsRows old db ⊎ IsRaised old db
+as_numbered old db (inl kept) = inl kept.rows
+as_numbered old db (inr raised) = inr raised
 
 module _ {S : Type 0} (g : Ghosts S) (old again new : Held S) (found : Found) (schema : HasSchema found (state g old).now.schema)
     (ready : HasCleanDisk (state g again) → IsReadyAs found (state g again).now) (opens : HasCleanDisk (state g again) → Opens (state g again))
@@ -259,11 +307,12 @@ module _ {S : Type 0} (g : Ghosts S) (old again new : Held S) (found : Found) (s
   -- the trees as they were found tell their tables
   as_found : (at : Found) → IsReadyAs at (state g again).now → (state g again).now.trees ≡ (state g old).committed.trees → (db : Trees) → db ≡ (state g old).committed.trees → MayCome at (state g old).committed.trees db
   as_found Newest is trees db before =
-      subst (λ (t : Trees). KeepsRows (state g old).committed.trees t × TellTables t) (sym before) (each_itself (state g old).committed.trees the_tables, subst TellTables trees (ready_tells (state g again).now is))
+      subst (λ (t : Trees). (KeepsRows (state g old).committed.trees t ⊎ IsRaised (state g old).committed.trees t) × TellTables t) (sym before)
+      (inl (each_itself (state g old).committed.trees the_tables), subst TellTables trees (ready_tells (state g again).now is))
   as_found (Older older) is trees db before = inl before
 
   as_come : (at : Found) (db : Trees) → ComesTo at (state g old).committed.trees db × TellTables db → MayCome at (state g old).committed.trees db
-  as_come Newest db it = it
+  as_come Newest db it = (as_numbered (state g old).committed.trees db it.0, it.1)
   as_come (Older older) db it = inr it
 
   left_by : HasCleanDisk (state g new) → (db : Trees) → (state g again).may_leave db ⊎ (IsReadyAs found (state g again).now → ComesTo found (state g again).now.trees db × TellTables db) → MayCome found (state g old).committed.trees db
@@ -302,10 +351,10 @@ module _ {S : Type 0} (g : Ghosts S) (old again new : Held S) (found : Found) (s
       }
 
   pub keeps_found : (HasCleanDisk (state g new) → IsReadyAs found (state g again).now → (state g again).now ≡ (state g again).committed → IsCome found (state g again).now.trees (state g new)) → (first : ℤ) (acts : List Act) (day : ℤ)
-      → (IsReadyAs found (state g again).now → HasDayAt (number_of found) (state g again).now.trees day) → HasCleanDisk (state g new) → AreFoundRows first acts (state g old).committed.trees → KeepsBooks first acts (state g new)
+      → (IsReadyAs found (state g again).now → HasDayIn found (state g again).now.trees day) → HasCleanDisk (state g new) → AreFoundRows first acts (state g old).committed.trees → KeepsBooks first acts (state g new)
   unfolding reopened
   keeps_found come first acts day has c rows =
-      keeps_books g old new (reopened come) first acts day (subst (λ (t : Trees). HasDayAt (number_of found) t day) (same (was_clean c)) (has (ready (was_clean c)))) c rows
+      keeps_books g old new (reopened come) first acts day (subst (λ (t : Trees). HasDayIn found t day) (same (was_clean c)) (has (ready (was_clean c)))) c rows
 
 -- a connection that was opened over what a stop left has the schema of books
 pub tables_opened : (s : State) → Opens s → IsLive s → TellTables s.committed.trees → HasTables s.now.schema

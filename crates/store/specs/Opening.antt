@@ -1,17 +1,18 @@
 -- What making books and opening them leave.
-use Rattle.std.specs.Prelude.{◌≡◌, ◌⊎◌, ◌≤◌, List, ℤ, true, false, None, [], IsTrue}
+use Rattle.std.specs.Prelude.{◌≡◌, ◌⊎◌, ◌≤◌, List, ℕ, ℤ, true, false, None, [], IsTrue}
 use Rattle.sqlite_trees.specs.declared.store.Store.{Ghosts}
 use Rattle.sqlite_trees.specs.View.{IsClean, doubt}
 use Rattle.sqlite.specs.Held.{Held, state}
 use Rattle.sqlite.specs.State.{State, HasCleanDisk, Survives}
 use Rattle.sqlite.specs.Tree.{Trees}
 use Rattle.table_words.specs.Steps.{IsReady}
+use Rattle.table_words.specs.Typed.{AreTypedAt}
 use Rattle.tables.specs.Bringing.{as_older, older_tables_in, AreOlderTyped}
 use Rattle.tables.specs.Indexing.{KeepsRows}
 use Rattle.tables.specs.Older.{number}
 pub use Rattle.tables.specs.Opening.{HasSchema, IsOfNone}
-use Rattle.tables.specs.Opening.{number_of, IsReadyAs, AreReadTyped, KeepsRowsAs, ComesTo, IsClosed, TellTables}
-use Rattle.tables.specs.Settling.{HasDayAt}
+use Rattle.tables.specs.Opening.{HasDayIn, IsReadyAs, AreReadTyped, KeepsRowsAs, ComesTo, IsClosed, TellTables}
+use Rattle.tables.specs.Settling.{third_tables_in, IsRaised}
 pub use Rattle.tables.specs.declared.opening.Found.{Found}
 use Rattle.tables.specs.declared.opening.Found.TheVariants.{Newest, Older}
 use Rattle.tables.specs.declared.older.OlderBooks.{OlderBooks}
@@ -24,6 +25,16 @@ use Rattle.store.specs.Books.{AreRowsOf, AreBooks}
 
 -- Books that are found
 
+-- the number of books of schema 3
+abbrev pub third_number : ℕ
+third_number = 3
+
+-- the rows of books of schema 3 are those of the acts: its commands and its tables are the newest, and the number of the row
+-- of `meta` alone is another
+pub record AreThirdRowsOf (first : ℤ) (acts : List Act) (trees : Trees) : Type 0 where
+  pub tables : third_tables_in trees ≡ tables_of first acts
+  pub typed : AreTypedAt third_number trees
+
 -- the rows of older books are those of the acts, none of which has a command of a newer schema
 pub record AreOlderRowsOf (older : OlderBooks) (first : ℤ) (acts : List Act) (trees : Trees) : Type 0 where
   pub tables : older_tables_in older trees ≡ as_older older (tables_of first acts)
@@ -32,28 +43,28 @@ pub record AreOlderRowsOf (older : OlderBooks) (first : ℤ) (acts : List Act) (
 
 -- the rows are those of the acts, as these books have them
 abbrev pub AreRowsAt : Found → ℤ → List Act → Trees → Type 0
-AreRowsAt Newest first acts trees = AreRowsOf first acts trees
+AreRowsAt Newest first acts trees = AreRowsOf first acts trees ⊎ AreThirdRowsOf first acts trees
 AreRowsAt (Older older) first acts trees = AreOlderRowsOf older first acts trees
 
 -- as books of the newest schema or of an older one have them
 abbrev pub AreFoundRows : ℤ → List Act → Trees → Type 0
 AreFoundRows first acts trees = (found : Found) × AreRowsAt found first acts trees
 
--- the schema is that of some books, and in books of its number the row of `meta` has this day
+-- the schema is that of some books, and under a number of theirs the row of `meta` has this day
 pub record HasFoundDay (old : State) (day : ℤ) : Type 0 where
   pub found : Found
   pub schema : HasSchema found old.now.schema
-  pub has : HasDayAt (number_of found) old.committed.trees day
+  pub has : HasDayIn found old.committed.trees day
 
 -- the schema is that of some books, but the row of `meta` or another row that is read does not keep the rules of its values
 pub record IsForeignWithin (old : State) : Type 0 where
   pub found : Found
   pub schema : HasSchema found old.now.schema
-  pub foreign : (day : ℤ) → HasDayAt (number_of found) old.committed.trees day → ¬ AreReadTyped found old.committed.trees
+  pub foreign : (day : ℤ) → HasDayIn found old.committed.trees day → ¬ AreReadTyped found old.committed.trees
 
--- what a stop leaves of books that were found: their rows, or the newest tables, which come of them
+-- what a stop leaves of books that were found: their rows, or the newest tables under the newest number, which come of them
 abbrev pub MayCome : Found → Trees → Trees → Type 0
-MayCome Newest old db = KeepsRows old db × TellTables db
+MayCome Newest old db = (KeepsRows old db ⊎ IsRaised old db) × TellTables db
 MayCome (Older older) old db = (db ≡ old) ⊎ (ComesTo (Older older) old db × TellTables db)
 
 -- the state with no limit on steps

@@ -148,11 +148,12 @@ impl<S: Alter + Drop> Books<S> {
 
     /// Opens the books that are in the tables. Further tables that refer to none, views and indexes that refuse no row
     /// of the books are passed over, and those of the indexes of the books that are missing are made, in one transaction.
-    /// Books of an older schema, with nothing of another's making beside them, are brought up to the newest, in one
-    /// transaction too: from schema 1 each item asks for 0 days, and no order is urgent. `Foreign` where a table or a
-    /// column is missing or differs, or where the row of `meta`, or in books of schema 1 an item, is missing or has a value
-    /// that no row has; `Store` where memory or the disk fails, and where something else has the name of an index that is
-    /// missing. The tables then have the rows that they had.
+    /// In it books of schema 3, which has the same tables, get the newest number. Books of schema 1 or 2, with nothing of
+    /// another's making beside them, are brought up to the newest, in one transaction too: from schema 1 each item asks
+    /// for 0 days, and no order is urgent. `Foreign` where a table or a column is missing or differs, or where the row of
+    /// `meta`, or in books of schema 1 an item, is missing or has a value that no row has; `Store` where memory or the disk
+    /// fails, and where something else has the name of an index that is missing. The tables then have the rows that they
+    /// had.
     pub fn open(alloc: Global, conn: Connection<S>) -> Result<Books<S>, OpenFault<S>>
         requires outside { conn.in_transaction ≡ false }
         ensures books { IfOk result (λ b. HasCleanDisk (state S.Store b.conn) → (first : ℤ) (acts : List Act) → IsHistory first acts → AreFoundRows first acts (state S.Store conn).committed.trees

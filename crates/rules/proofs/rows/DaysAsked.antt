@@ -1,5 +1,5 @@
--- What the slice of any command that plans tells of the days that an item asks for, and so from which expiry on its lots ship.
-use Rattle.std.proofs.Common.{◌≡◌, ℕ, true, ◌&&◌, List, refl, ap, sym, ◌∙◌}
+-- What the slice of any command but a shipment tells of the days that an item asks for, and so from which expiry on its lots ship.
+use Rattle.std.proofs.Common.{◌≡◌, ℕ, true, ◌&&◌, not, List, refl, ap, sym, ◌∙◌}
 use Rattle.std.specs.Prelude.{find, Option, Some, None, option_map, is_some, ℤ, pos, ◌+ℤ◌}
 use Rattle.values.specs.Values.{same_text}
 use Rattle.commands.specs.declared.command.NewItem.{NewItem}
@@ -9,7 +9,7 @@ use Rattle.machine.specs.Standing.{items, item_named, least_days, least_expiry}
 use Rattle.machine.specs.Once.{IsHistory}
 use Rattle.machine.specs.Tables.{tables_of, least_row}
 use Rattle.machine.specs.Touched.{is_touched}
-use Rattle.rules.specs.Slices.{IsSlice, plans}
+use Rattle.rules.specs.Slices.{IsSlice, ships}
 use Rattle.row_rules.specs.Status.{days_in, least_seen, earliest_seen}
 use Rattle.row_rules.specs.declared.slice.Slice.{Slice}
 use Rattle.machine.proofs.Tests.{same_text_is}
@@ -25,11 +25,11 @@ days_in_row first acts history g = by_item (item_named acts g) refl
     by_item None e = sym (unknown_item_asks_none first acts g history (ap is_some e))
     by_item (Some i) e = ap (least_days acts) (sym (same_text_is g i.gtin (found_passes (λ (x : NewItem). same_text g x.gtin) (items acts) i e)))
 
-module _ (first : ℤ) (acts : List Act) (act : Act) (s : Slice) (slice : IsSlice first act acts (tables_of first acts) s) (planned : plans act.command ≡ true) (history : IsHistory first acts)
+module _ (first : ℤ) (acts : List Act) (act : Act) (s : Slice) (slice : IsSlice first act acts (tables_of first acts) s) (goods : not (ships act.command) ≡ true) (history : IsHistory first acts)
     (g : List ℕ) (touched : is_touched first act acts g ≡ true) where
   found_least : find (λ (r : LeastRow). same_text g r.gtin) s.rows.least ≡ least_row acts g
   unfolding tables_of
-  found_least = slice.least.found g (λ i. planned i && touched i)
+  found_least = slice.least.found g (λ i. goods i && touched i)
 
   pub days_told : least_seen s.rows.least g ≡ least_days acts g
   days_told = ap days_in found_least ∙ days_in_row first acts history g

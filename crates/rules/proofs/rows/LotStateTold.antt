@@ -1,5 +1,5 @@
--- What the slice of any command that plans tells of the state of a lot that it names, and of the kind of a bin that it names.
-use Rattle.std.proofs.Common.{◌≡◌, true, List, refl, ap, sym, ◌∙◌, ℕ}
+-- What the slice of any command but a shipment tells of the state of a lot that it names, and of the kind of a bin that it names.
+use Rattle.std.proofs.Common.{◌≡◌, true, not, List, refl, ap, sym, ◌∙◌, ℕ}
 use Rattle.std.specs.Prelude.{ℤ, Option, Some, None, option_map}
 use Rattle.values.specs.declared.lot.LotId.{LotId}
 use Rattle.commands.specs.declared.command.NewBin.{NewBin}
@@ -8,7 +8,7 @@ use Rattle.machine.specs.Postings.{is_lot}
 use Rattle.machine.specs.Standing.{KnownLot, lots, lot_known, is_held, bin_named, is_store_row, is_store_bin}
 use Rattle.machine.specs.Once.{IsHistory}
 use Rattle.machine.specs.Tables.{tables_of}
-use Rattle.rules.specs.Slices.{IsSlice, plans, names_bin, names_lot}
+use Rattle.rules.specs.Slices.{IsSlice, ships, names_bin, names_lot}
 use Rattle.row_rules.specs.Seen.{lot_seen}
 use Rattle.row_rules.specs.Status.{is_past_row, is_below_row}
 use Rattle.row_rules.specs.Plans.{is_store_found}
@@ -21,20 +21,20 @@ use Rattle.machine.proofs.histories.Lots.{not_held}
 use Rattle.rules.proofs.rows.Telling.{found_key}
 use Rattle.rules.proofs.rows.SliceTells.{found_lot, found_bin}
 
-module _ (first : ℤ) (acts : List Act) (act : Act) (s : Slice) (slice : IsSlice first act acts (tables_of first acts) s) (planned : plans act.command ≡ true) where
+module _ (first : ℤ) (acts : List Act) (act : Act) (s : Slice) (slice : IsSlice first act acts (tables_of first acts) s) (goods : not (ships act.command) ≡ true) where
   past_same : (k : Option KnownLot) (day : ℤ) → is_past_row (option_map (λ k. record { lot = k.lot; expiry = k.expiry; came = k.came; held = is_held acts k.lot }) k) day ≡ is_past k day
   past_same None day = refl
   past_same (Some k) day = refl
 
   pub past_told : (l : LotId) (day : ℤ) → names_lot act.command l ≡ true → is_past_row (lot_seen s l) day ≡ is_past (lot_known acts l) day
-  past_told l day named = ap (λ k. is_past_row k day) (found_lot first acts act s slice planned l named) ∙ past_same (lot_known acts l) day
+  past_told l day named = ap (λ k. is_past_row k day) (found_lot first acts act s slice goods l named) ∙ past_same (lot_known acts l) day
 
   below_same : (k : Option KnownLot) (day : ℤ) (days : ℕ) → is_below_row (option_map (λ k. record { lot = k.lot; expiry = k.expiry; came = k.came; held = is_held acts k.lot }) k) day days ≡ is_below k day days
   below_same None day days = refl
   below_same (Some k) day days = refl
 
   pub below_told : (l : LotId) (day : ℤ) (days : ℕ) → names_lot act.command l ≡ true → is_below_row (lot_seen s l) day days ≡ is_below (lot_known acts l) day days
-  below_told l day days named = ap (λ k. is_below_row k day days) (found_lot first acts act s slice planned l named) ∙ below_same (lot_known acts l) day days
+  below_told l day days named = ap (λ k. is_below_row k day days) (found_lot first acts act s slice goods l named) ∙ below_same (lot_known acts l) day days
 
   -- a lot that is not known is not held
   held_same : IsHistory first acts → (l : LotId) (k : Option KnownLot) → lot_known acts l ≡ k
@@ -43,11 +43,11 @@ module _ (first : ℤ) (acts : List Act) (act : Act) (s : Slice) (slice : IsSlic
   held_same history l (Some k) e = ap (is_held acts) (sym (found_key is_lot is_lot_is is_lot_turned (λ (k : KnownLot). k.lot) l (lots acts) k e))
 
   pub held_told : IsHistory first acts → (l : LotId) → names_lot act.command l ≡ true → sees_hold s l ≡ is_held acts l
-  held_told history l named = ap is_held_row (found_lot first acts act s slice planned l named) ∙ held_same history l (lot_known acts l) refl
+  held_told history l named = ap is_held_row (found_lot first acts act s slice goods l named) ∙ held_same history l (lot_known acts l) refl
 
   store_same : (x : Option NewBin) → is_store_found (option_map (λ x. record { name = x.bin; kind = x.kind }) x) ≡ is_store_row x
   store_same None = refl
   store_same (Some x) = refl
 
   pub store_told : (b : List ℕ) → names_bin act.command b ≡ true → sees_store s b ≡ is_store_bin acts b
-  store_told b t = ap is_store_found (found_bin first acts act s slice planned b t) ∙ store_same (bin_named acts b)
+  store_told b t = ap is_store_found (found_bin first acts act s slice goods b t) ∙ store_same (bin_named acts b)

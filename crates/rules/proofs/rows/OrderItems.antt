@@ -8,10 +8,11 @@ use Rattle.machine.specs.Acts.{Act}
 use Rattle.machine.specs.Standing.{has_line}
 use Rattle.machine.specs.Tables.{tables_of}
 use Rattle.machine.specs.KeyedRows.{no_two}
-use Rattle.rules.specs.Slices.{IsSlice, names_order}
+use Rattle.rules.specs.Slices.{IsSlice, picks, names_order}
 use Rattle.row_rules.specs.SeenOrders.{items_seen}
 use Rattle.row_rules.specs.declared.slice.Slice.{Slice}
-use Rattle.machine.proofs.Tests.{and_both, not_true, same_text_is}
+use Rattle.machine.specs.Touched.{is_touched}
+use Rattle.machine.proofs.Tests.{and_both, not_true, or_first, same_text_is}
 use Rattle.machine.proofs.Apart.{any_found}
 use Rattle.rules.proofs.rows.OrderTold.{line_told}
 
@@ -44,10 +45,10 @@ module _ (o : List ℕ) where
         | false ↦ λ t. own_apart rs two.1
       ] refl
 
-module _ (first : ℤ) (acts : List Act) (act : Act) (s : Slice) (slice : IsSlice first act acts (tables_of first acts) s) (o : List ℕ) (named : names_order act.command o ≡ true) where
+module _ (first : ℤ) (acts : List Act) (act : Act) (s : Slice) (slice : IsSlice first act acts (tables_of first acts) s) (whole : not (picks act.command) ≡ true) (o : List ℕ) (named : names_order act.command o ≡ true) where
   -- they are the items of which the order has lines
   pub items_told : (g : List ℕ) → list_any (same_text g) (items_seen s o) ≡ has_line acts o g
-  items_told g = any_own o g s.rows.lines ∙ sym (any_found (λ (l : LineRow). same_text o l.order && same_text g l.gtin) s.rows.lines) ∙ line_told first acts act s slice o named g
+  items_told g = any_own o g s.rows.lines ∙ sym (any_found (λ (l : LineRow). same_text o l.order && same_text g l.gtin) s.rows.lines) ∙ line_told first acts act s slice o named g (or_first (not (picks act.command)) (is_touched first act acts g) whole)
 
   -- and none is there twice
   pub items_apart : no_two same_text (items_seen s o) ≡ true

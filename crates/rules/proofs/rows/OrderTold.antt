@@ -1,6 +1,6 @@
--- What the slice of a command tells of the order that it names: its row, its state, its lines and what is staged for it.
+-- What the slice of a command tells of the order that it names: its row, its state, its lines, and, unless it is a pick, what is staged for it.
 use Rattle.std.proofs.Common.{◌≡◌, ℕ, ◌+◌, Bool, true, false, ◌&&◌, not, List, [], ◌∷◌, refl, ap, sym, ◌∙◌, arith, eq-eqb}
-use Rattle.std.specs.Prelude.{◌==◌, if◌then◌else◌, find, Option, Some, None, option_map, is_some, ℤ}
+use Rattle.std.specs.Prelude.{◌||◌, ◌==◌, if◌then◌else◌, find, Option, Some, None, option_map, is_some, ℤ}
 use Rattle.std.specs.List.{list_all}
 use Rattle.std.proofs.lemmas.Bool.{eqb-true}
 use Rattle.values.specs.Values.{same_text}
@@ -19,7 +19,7 @@ use Rattle.machine.specs.Once.{IsHistory}
 use Rattle.machine.specs.Tables.{tables_of, order_row, line_row, staged_row}
 use Rattle.machine.specs.Touched.{is_touched}
 use Rattle.machine.specs.KeyedRows.{AreRows, AreOwn, OrderLot, same_share}
-use Rattle.rules.specs.Slices.{IsSlice, names_order}
+use Rattle.rules.specs.Slices.{IsSlice, picks, names_order}
 use Rattle.row_rules.specs.Seen.{capped}
 use Rattle.row_rules.specs.SeenOrders.{order_row_seen, sees_order, is_open_row, sees_open, line_row_seen, sees_line, staged_for, staged_for_seen}
 use Rattle.row_rules.specs.declared.slice.Slice.{Slice}
@@ -31,6 +31,7 @@ use Rattle.machine.proofs.histories.Orders.{found_order}
 use Rattle.machine.proofs.histories.KnownPlaces.{KnownPlace, unknown_holds_nothing}
 use Rattle.machine.proofs.histories.PlaceRows.{stage_cells, staged_holds}
 use Rattle.rules.proofs.rows.SliceTells.{some_mapped}
+use Rattle.rules.proofs.rows.SliceDemands.{staged_touched}
 
 module _ (first : ℤ) (acts : List Act) (act : Act) (s : Slice) (slice : IsSlice first act acts (tables_of first acts) s) (o : List ℕ) (named : names_order act.command o ≡ true) where
   pub found_order_row : order_row_seen s o ≡ order_row first acts o
@@ -58,16 +59,17 @@ module _ (first : ℤ) (acts : List Act) (act : Act) (s : Slice) (slice : IsSlic
   pub open_told : sees_open s o ≡ is_open first acts o
   open_told = ap is_open_row found_order_row ∙ open_by (order_named acts o) refl
 
-  pub found_line_row : (g : List ℕ) → line_row_seen s o g ≡ line_row first acts o g
+  -- a pick tells of the line of the item that it touches
+  pub found_line_row : (g : List ℕ) → not (picks act.command) || is_touched first act acts g ≡ true → line_row_seen s o g ≡ line_row first acts o g
   unfolding tables_of
-  found_line_row g = slice.lines.found (o, g) (or_first (names_order act.command o) _ named)
+  found_line_row g asked = slice.lines.found (o, g) (or_first ((not (picks act.command) || is_touched first act acts g) && names_order act.command o) _ (λ i. asked i && named i))
 
-  pub line_told : (g : List ℕ) → sees_line s o g ≡ has_line acts o g
-  line_told g = ap is_some (found_line_row g) ∙ some_mapped _ (find (λ l. same_text g l.gtin) (lines_of acts o)) ∙ any_found (λ (l : OrderLine). same_text g l.gtin) (lines_of acts o)
+  pub line_told : (g : List ℕ) → not (picks act.command) || is_touched first act acts g ≡ true → sees_line s o g ≡ has_line acts o g
+  line_told g asked = ap is_some (found_line_row g asked) ∙ some_mapped _ (find (λ l. same_text g l.gtin) (lines_of acts o)) ∙ any_found (λ (l : OrderLine). same_text g l.gtin) (lines_of acts o)
 
 -- Units staged for an order, each item of whose lines the act touches
 
-module _ (first : ℤ) (acts : List Act) (act : Act) (s : Slice) (slice : IsSlice first act acts (tables_of first acts) s) (history : IsHistory first acts)
+module _ (first : ℤ) (acts : List Act) (act : Act) (s : Slice) (slice : IsSlice first act acts (tables_of first acts) s) (whole : not (picks act.command) ≡ true) (history : IsHistory first acts)
     (o : List ℕ) (touched : (g : List ℕ) → has_line acts o g ≡ true → is_touched first act acts g ≡ true) where
   abbrev pick : LotId → List ℕ → Bool
   pick l q = same_text o q && is_touched first act acts l.gtin
@@ -76,8 +78,7 @@ module _ (first : ℤ) (acts : List Act) (act : Act) (s : Slice) (slice : IsSlic
   stage p l = is_stage o p && any_lot l
 
   staged_are : AreRows same_share (λ r. (r.order, r.lot)) (λ (k : OrderLot). is_touched first act acts k.1.gtin) (λ (k : OrderLot). is_touched first act acts k.1.gtin) (λ k. staged_row first acts k.0 k.1) s.rows.staged
-  unfolding tables_of
-  staged_are = slice.staged
+  staged_are = staged_touched first acts act s slice whole
 
   inside : (p : Place) (l : LotId) → stage_cells pick p l ≡ true → stage p l ≡ true
   inside (Stage q) l e = ap (λ b. b && true) (and_both (same_text o q) (is_touched first act acts l.gtin) e).0

@@ -37,6 +37,7 @@ use Rattle.rules.proofs.rows.DemandsTold.{TellsDemands}
 use Rattle.rules.proofs.rows.DroppedRows.{rows_left, dropped_at}
 use Rattle.rules.proofs.rows.LotTold.{found_stock, in_bin_told}
 use Rattle.rules.proofs.rows.LotUnits.{bin_within_limit}
+use Rattle.rules.proofs.rows.Planned.{no_pick}
 use Rattle.machine.proofs.histories.PlaceRows.{staged_holds}
 use Rattle.rules.proofs.rows.SameKeys.{same_share_is}
 use Rattle.rules.proofs.rows.ClassesTold.{same_urgents}
@@ -77,7 +78,7 @@ module _ (first : ℤ) (acts : List Act) (act : Act) (l : LotId) (s : Slice) (sl
   touched = names_touched first act acts act.command l named
 
   staged_are : AreRows same_share (λ (r : StagedRow). (r.order, r.lot)) (λ (k : OrderLot). of_item g k.1) (λ (k : OrderLot). true) (λ k. staged_row first acts k.0 k.1) s.rows.staged
-  staged_are = slice_tells_stages first acts act s slice g touched
+  staged_are = slice_tells_stages first acts act s slice g touched (no_pick act.command planned)
 
   stock_are : AreRows same_cell (λ (r : StockRow). (r.lot, r.bin)) (λ (k : LotBin). of_item g k.0) (λ (k : LotBin). true) (λ k. stock_row first acts k.0 k.1) s.rows.stock
   stock_are = (slice_tells_supplies first acts act s slice planned g touched).stock

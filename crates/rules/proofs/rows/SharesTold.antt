@@ -1,5 +1,5 @@
 -- The plan's rows by names are the reserved rows of the item.
-use Rattle.std.proofs.Common.{◌≡◌, ℕ, Bool, true, false, ◌&&◌, not, List, [], ◌∷◌, ◌++◌, refl, ap, sym, subst, ◌∙◌, arith, eq-eqb, inl, inr}
+use Rattle.std.proofs.Common.{◌≡◌, ℕ, Bool, true, false, ◌&&◌, not, List, [], ◌∷◌, refl, ap, sym, ◌∙◌, arith, eq-eqb, inl, inr}
 use Rattle.std.specs.Prelude.{◌==◌, ◌||◌, if◌then◌else◌, ℤ, Option, Some, None, find, filter, map, option_map, ◌⊎◌}
 use Rattle.std.specs.List.{list_any, cons_option}
 use Rattle.std.proofs.lemmas.Bool.{eqb-true}
@@ -31,7 +31,7 @@ use Rattle.rules.proofs.rows.Telling.{some_of_mapped}
 use Rattle.rules.proofs.rows.DemandsTold.{no_line}
 use Rattle.rules.proofs.rows.SuppliesTold.{TellsSupplies, in_stock, none_in_store}
 use Rattle.rules.proofs.rows.TableSteps.{share_row}
-use Rattle.rules.proofs.rows.replanned.Pairs.{some_behind, once_behind, none_else, reserved_parted}
+use Rattle.rules.proofs.rows.replanned.Pairs.{none_else}
 use Rattle.rules.proofs.rows.replanned.Unreserved.{none_reserved}
 use Rattle.machine.proofs.histories.PlanRows.{same_pair, AllSome, plan_once, plan_some}
 
@@ -270,18 +270,9 @@ module _ (first : ℤ) (acts : List Act) (history : IsHistory first acts) (g : L
     by_stock p k e f false none =
         inr (none_reserved first acts g l (λ own. none_in_store first acts history g lot_rows recall_rows stock_rows bin_rows tells l own none) k f p.act)
 
-  -- Of the plan in two parts, the rows of the second
+  -- Rows of the plan, as far as what is not reserved in the plan is not reserved in them
 
-  module _ (front rest : List Row) (parted : plan first acts g ≡ front ++ rest) where
-    rest_some : AllSome rest
-    rest_some = some_behind front rest (subst AllSome parted (plan_some first acts history g))
-
-    rest_once : no_two same_pair rest ≡ true
-    rest_once = once_behind front rest (ap (no_two same_pair) (sym parted) ∙ plan_once first acts history g)
-
-    none_behind : (b k : ℕ) → reserved_in b k (plan first acts g) ≡ 0 → reserved_in b k rest ≡ 0
-    none_behind b k none = omega (arith, none, ap (reserved_in b k) parted, reserved_parted b k front rest)
-
+  module _ (rest : List Row) (rest_some : AllSome rest) (rest_once : no_two same_pair rest ≡ true) (none_behind : (b k : ℕ) → reserved_in b k (plan first acts g) ≡ 0 → reserved_in b k rest ≡ 0) where
     pub behind_once : no_two is_share_of (named_rows order_rows lot_rows rest) ≡ true
     behind_once = named_once first acts order_rows lot_rows orders_own tells.lots.own rest rest_once
 
@@ -319,11 +310,11 @@ module _ (first : ℤ) (acts : List Act) (history : IsHistory first acts) (g : L
   -- The whole plan
 
   pub shares_once : no_two is_share_of (named_rows order_rows lot_rows (plan first acts g)) ≡ true
-  shares_once = behind_once [] (plan first acts g) refl
+  shares_once = behind_once (plan first acts g) (plan_some first acts history g) (plan_once first acts history g) (λ b k e. e)
 
   pub shares_told : (o : List ℕ) (l : LotId) → of_item g l ≡ true → (is_open first acts o && has_line acts o g ≡ true → find (λ (r : OrderRow). same_text o r.order) order_rows ≡ order_row first acts o)
       → find (λ (r : ReservedRow). same_text o r.order && is_lot l r.lot) (named_rows order_rows lot_rows (plan first acts g)) ≡ share_row o l (reserved first acts o l)
-  shares_told o l own found = behind_told [] (plan first acts g) refl o l own found ∙ ap (share_row o l) (sym (by_plan o l own found))
+  shares_told o l own found = behind_told (plan first acts g) (plan_some first acts history g) (plan_once first acts history g) (λ b k e. e) o l own found ∙ ap (share_row o l) (sym (by_plan o l own found))
 
   pub shares_elsewhere : (o : List ℕ) (l : LotId) → of_item g l ≡ false → find (λ (r : ReservedRow). same_text o r.order && is_lot l r.lot) (named_rows order_rows lot_rows (plan first acts g)) ≡ None
-  shares_elsewhere o l other = behind_elsewhere [] (plan first acts g) refl o l other
+  shares_elsewhere o l other = behind_elsewhere (plan first acts g) (plan_some first acts history g) (plan_once first acts history g) (λ b k e. e) o l other

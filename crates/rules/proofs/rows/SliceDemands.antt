@@ -1,5 +1,5 @@
--- The rows of a slice tell what is staged of each item that the command touches, and its demands if the command plans.
-use Rattle.std.proofs.Common.{◌≡◌, ℕ, true, false, ◌&&◌, List, [], ◌∷◌, refl, ap, sym, ◌∙◌}
+-- The rows of a slice tell what is staged of each item that the command touches, unless it is a pick, and its demands if it plans.
+use Rattle.std.proofs.Common.{◌≡◌, ℕ, true, false, ◌&&◌, not, List, [], ◌∷◌, refl, ap, sym, ◌∙◌}
 use Rattle.std.specs.Prelude.{◌||◌, ℤ, find}
 use Rattle.std.specs.List.{list_any}
 use Rattle.values.specs.Values.{same_text}
@@ -15,13 +15,21 @@ use Rattle.machine.specs.Planning.{is_open}
 use Rattle.machine.specs.Tables.{tables_of, order_row, urgent_row, line_row, staged_row}
 use Rattle.machine.specs.Touched.{is_touched}
 use Rattle.machine.specs.KeyedRows.{AreRows, OrderItem, OrderLot, same_line, same_share}
-use Rattle.rules.specs.Slices.{IsSlice, plans, has_touched_line, names_order}
+use Rattle.rules.specs.Slices.{IsSlice, picks, plans, has_touched_line, names_order, names_lot}
 use Rattle.row_rules.specs.declared.slice.Slice.{Slice}
-use Rattle.machine.proofs.Tests.{and_both, or_later, same_text_is}
+use Rattle.machine.proofs.Tests.{and_both, or_first, or_later, same_text_is}
 use Rattle.rules.proofs.rows.AfterRows.{loosened}
 use Rattle.rules.proofs.rows.DemandsTold.{TellsDemands}
+use Rattle.rules.proofs.rows.Planned.{no_pick}
 
--- The staged rows of any slice are those of each item that the command touches
+-- The staged rows of a slice are those of the items that the command touches
+module _ (first : ℤ) (acts : List Act) (act : Act) (s : Slice) (slice : IsSlice first act acts (tables_of first acts) s) (whole : not (picks act.command) ≡ true) where
+  pub staged_touched : AreRows same_share (λ (r : StagedRow). (r.order, r.lot)) (λ (k : OrderLot). is_touched first act acts k.1.gtin) (λ (k : OrderLot). is_touched first act acts k.1.gtin) (λ k. staged_row first acts k.0 k.1) s.rows.staged
+  unfolding tables_of
+  staged_touched = loosened same_share (λ (r : StagedRow). (r.order, r.lot)) _ (λ k. is_touched first act acts k.1.gtin) _ (λ k. is_touched first act acts k.1.gtin) (λ k. staged_row first acts k.0 k.1) (λ k. staged_row first acts k.0 k.1) s.rows.staged
+      (λ k e i. or_first (not (picks act.command)) (names_order act.command k.0 && names_lot act.command k.1) whole i && e i) (λ k e. e) (λ k. refl) slice.staged
+
+-- and of each of these items
 module _ (first : ℤ) (acts : List Act) (act : Act) (s : Slice) (slice : IsSlice first act acts (tables_of first acts) s) (g : List ℕ) (touched : is_touched first act acts g ≡ true) where
   touched_item : (h : List ℕ) → same_text g h ≡ true → is_touched first act acts h ≡ true
   touched_item h e = ap (λ (x : List ℕ). is_touched first act acts x) (sym (same_text_is g h e)) ∙ touched
@@ -33,13 +41,9 @@ module _ (first : ℤ) (acts : List Act) (act : Act) (s : Slice) (slice : IsSlic
     | false ↦ λ t f. or_later (is_touched first act acts l.gtin) _ (line_touched ls f)
   ] refl e
 
-  staged_are : AreRows same_share (λ (r : StagedRow). (r.order, r.lot)) (λ (k : OrderLot). is_touched first act acts k.1.gtin) (λ (k : OrderLot). is_touched first act acts k.1.gtin) (λ k. staged_row first acts k.0 k.1) s.rows.staged
-  unfolding tables_of
-  staged_are = slice.staged
-
-  pub slice_tells_stages : AreRows same_share (λ (r : StagedRow). (r.order, r.lot)) (λ (k : OrderLot). of_item g k.1) (λ (k : OrderLot). true) (λ k. staged_row first acts k.0 k.1) s.rows.staged
-  slice_tells_stages = loosened same_share (λ (r : StagedRow). (r.order, r.lot)) _ (λ k. of_item g k.1) _ (λ k. true) (λ k. staged_row first acts k.0 k.1) (λ k. staged_row first acts k.0 k.1) s.rows.staged
-      (λ k e. touched_item k.1.gtin e) (λ k e. refl) (λ k. refl) staged_are
+  pub slice_tells_stages : not (picks act.command) ≡ true → AreRows same_share (λ (r : StagedRow). (r.order, r.lot)) (λ (k : OrderLot). of_item g k.1) (λ (k : OrderLot). true) (λ k. staged_row first acts k.0 k.1) s.rows.staged
+  slice_tells_stages whole = loosened same_share (λ (r : StagedRow). (r.order, r.lot)) _ (λ k. of_item g k.1) _ (λ k. true) (λ k. staged_row first acts k.0 k.1) (λ k. staged_row first acts k.0 k.1) s.rows.staged
+      (λ k e. touched_item k.1.gtin e) (λ k e. refl) (λ k. refl) (staged_touched first acts act s slice whole)
 
 -- With the order rows and lines they tell its demands, where the command plans
 module _ (first : ℤ) (acts : List Act) (act : Act) (s : Slice) (slice : IsSlice first act acts (tables_of first acts) s) (planned : plans act.command ≡ true) (g : List ℕ) (touched : is_touched first act acts g ≡ true) where
@@ -47,7 +51,7 @@ module _ (first : ℤ) (acts : List Act) (act : Act) (s : Slice) (slice : IsSlic
   unfolding tables_of
   order_are = slice.orders
 
-  line_are : AreRows same_line (λ (r : LineRow). (r.order, r.gtin)) (λ (k : OrderItem). names_order act.command k.0 || (plans act.command && is_open first acts k.0 && is_touched first act acts k.1)) (λ (k : OrderItem). names_order act.command k.0 || is_touched first act acts k.1) (λ k. line_row first acts k.0 k.1) s.rows.lines
+  line_are : AreRows same_line (λ (r : LineRow). (r.order, r.gtin)) (λ (k : OrderItem). ((not (picks act.command) || is_touched first act acts k.1) && names_order act.command k.0) || (plans act.command && is_open first acts k.0 && is_touched first act acts k.1)) (λ (k : OrderItem). names_order act.command k.0 || is_touched first act acts k.1) (λ k. line_row first acts k.0 k.1) s.rows.lines
   unfolding tables_of
   line_are = slice.lines
 
@@ -63,7 +67,7 @@ module _ (first : ℤ) (acts : List Act) (act : Act) (s : Slice) (slice : IsSlic
     orders = loosened same_text (λ (r : OrderRow). r.order) _ (λ o. is_open first acts o && has_line acts o g) _ (λ o. true) (order_row first acts) (order_row first acts) s.rows.orders
         (λ o e. let two = and_both (is_open first acts o) (has_line acts o g) e in or_later (names_order act.command o) _ (λ i. planned i && two.0 i && line_touched first acts act s slice g touched (lines_of acts o) two.1 i)) (λ o e. refl) (λ o. refl) order_are;
     lines = loosened same_line (λ (r : LineRow). (r.order, r.gtin)) _ (λ k. is_open first acts k.0 && same_text g k.1) _ (λ k. true) (λ k. line_row first acts k.0 k.1) (λ k. line_row first acts k.0 k.1) s.rows.lines
-        (λ k e. let two = and_both (is_open first acts k.0) (same_text g k.1) e in or_later (names_order act.command k.0) _ (λ i. planned i && two.0 i && touched_item first acts act s slice g touched k.1 two.1 i)) (λ k e. refl) (λ k. refl) line_are;
-    staged = slice_tells_stages first acts act s slice g touched;
+        (λ k e. let two = and_both (is_open first acts k.0) (same_text g k.1) e in or_later ((not (picks act.command) || is_touched first act acts k.1) && names_order act.command k.0) _ (λ i. planned i && two.0 i && touched_item first acts act s slice g touched k.1 two.1 i)) (λ k e. refl) (λ k. refl) line_are;
+    staged = slice_tells_stages first acts act s slice g touched (no_pick act.command planned);
     urgents = urgents_told;
   }

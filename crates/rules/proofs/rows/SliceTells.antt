@@ -1,5 +1,5 @@
--- What the slice of any command that plans tells of the items, bins and lots that it touches.
-use Rattle.std.proofs.Common.{◌≡◌, ℕ, true, false, ◌&&◌, List, refl, ap, ◌∙◌}
+-- What the slice of any command but a shipment tells of the items, bins and lots that it touches.
+use Rattle.std.proofs.Common.{◌≡◌, ℕ, true, false, ◌&&◌, not, List, refl, ap, ◌∙◌}
 use Rattle.std.specs.Prelude.{◌||◌, find, Option, Some, None, option_map, is_some, ℤ}
 use Rattle.std.specs.List.{list_any}
 use Rattle.values.specs.Values.{same_text}
@@ -11,7 +11,7 @@ use Rattle.machine.specs.Postings.{is_lot}
 use Rattle.machine.specs.Standing.{has_item, item_named, has_bin, bin_named, KnownLot, lot_known, is_held, is_recalled, recalling}
 use Rattle.machine.specs.Tables.{tables_of, item_row, bin_row, lot_row, recall_row}
 use Rattle.machine.specs.Touched.{is_touched, touches}
-use Rattle.rules.specs.Slices.{IsSlice, plans, names_bin, names_lot, in_bins, on_stages}
+use Rattle.rules.specs.Slices.{IsSlice, ships, plans, names_bin, names_lot, in_bins, on_stages}
 use Rattle.row_rules.specs.Seen.{sees_item, sees_bin, lot_seen, sees_recall, expires_otherwise_than}
 use Rattle.machine.specs.Verdict.{expires_otherwise}
 use Rattle.row_rules.specs.declared.slice.Slice.{Slice}
@@ -41,17 +41,17 @@ names_touched first act acts (OpenDay day) l e = let f : false ≡ true = e in c
 names_touched first act acts (Least x) l e = let f : false ≡ true = e in cc
 names_touched first act acts (Urgent o) l e = let f : false ≡ true = e in cc
 
-module _ (first : ℤ) (acts : List Act) (act : Act) (s : Slice) (slice : IsSlice first act acts (tables_of first acts) s) (planned : plans act.command ≡ true) where
+module _ (first : ℤ) (acts : List Act) (act : Act) (s : Slice) (slice : IsSlice first act acts (tables_of first acts) s) (goods : not (ships act.command) ≡ true) where
   found_item : (g : List ℕ) → is_touched first act acts g ≡ true → find (λ r. same_text g r.gtin) s.rows.items ≡ item_row acts g
   unfolding tables_of
-  found_item g t = slice.items.found g (λ i. planned i && t i)
+  found_item g t = slice.items.found g (λ i. goods i && t i)
 
   pub item_told : (g : List ℕ) → is_touched first act acts g ≡ true → sees_item s g ≡ has_item acts g
   item_told g t = ap is_some (found_item g t) ∙ some_mapped _ (item_named acts g)
 
   pub found_bin : (b : List ℕ) → names_bin act.command b ≡ true → find (λ r. same_text b r.name) s.rows.bins ≡ bin_row acts b
   unfolding tables_of
-  found_bin b t = slice.bins.found b (λ i. planned i && or_first (names_bin act.command b) (list_any (λ r. same_text b r.bin) s.rows.stock) t i)
+  found_bin b t = slice.bins.found b (or_first (names_bin act.command b) (plans act.command && list_any (λ r. same_text b r.bin) s.rows.stock) t)
 
   pub bin_told : (b : List ℕ) → names_bin act.command b ≡ true → sees_bin s b ≡ has_bin acts b
   bin_told b t = ap is_some (found_bin b t) ∙ some_mapped _ (bin_named acts b)
@@ -62,8 +62,7 @@ module _ (first : ℤ) (acts : List Act) (act : Act) (s : Slice) (slice : IsSlic
   -- a lot that the command names
   pub found_lot : (l : LotId) → names_lot act.command l ≡ true → lot_seen s l ≡ lot_row acts l
   unfolding tables_of
-  found_lot l named =
-      slice.lots.found l (λ i. planned i && named_touched l named i && or_first (names_lot act.command l || in_bins s.rows l) (on_stages s.rows l) (or_first (names_lot act.command l) (in_bins s.rows l) named) i)
+  found_lot l named = slice.lots.found l (λ i. goods i && named_touched l named i && or_first (names_lot act.command l) (plans act.command && (in_bins s.rows l || on_stages s.rows l)) named i)
 
   expiry_same : (k : Option KnownLot) (day : ℤ) → expires_otherwise_than (option_map (λ k. record { lot = k.lot; expiry = k.expiry; came = k.came; held = is_held acts k.lot }) k) day ≡ expires_otherwise k day
   expiry_same None day = refl
@@ -72,9 +71,10 @@ module _ (first : ℤ) (acts : List Act) (act : Act) (s : Slice) (slice : IsSlic
   pub expiry_told : (l : LotId) (day : ℤ) → names_lot act.command l ≡ true → expires_otherwise_than (lot_seen s l) day ≡ expires_otherwise (lot_known acts l) day
   expiry_told l day named = ap (λ k. expires_otherwise_than k day) (found_lot l named) ∙ expiry_same (lot_known acts l) day
 
-  pub found_recall : (l : LotId) → is_touched first act acts l.gtin ≡ true → find (λ r. is_lot l r.lot) s.rows.recalls ≡ recall_row acts l
+  -- the recall of a lot that it names, and of each lot of an item that it plans
+  pub found_recall : (l : LotId) → is_touched first act acts l.gtin ≡ true → plans act.command || names_lot act.command l ≡ true → find (λ r. is_lot l r.lot) s.rows.recalls ≡ recall_row acts l
   unfolding tables_of
-  found_recall l t = slice.recalls.found l (λ i. planned i && t i)
+  found_recall l t asked = slice.recalls.found l (λ i. asked i && t i)
 
-  pub recall_told : (l : LotId) → is_touched first act acts l.gtin ≡ true → sees_recall s l ≡ is_recalled acts l
-  recall_told l t = ap is_some (found_recall l t) ∙ some_mapped _ (recalling acts l)
+  pub recall_told : (l : LotId) → is_touched first act acts l.gtin ≡ true → plans act.command || names_lot act.command l ≡ true → sees_recall s l ≡ is_recalled acts l
+  recall_told l t asked = ap is_some (found_recall l t asked) ∙ some_mapped _ (recalling acts l)

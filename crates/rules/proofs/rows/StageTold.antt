@@ -1,13 +1,13 @@
--- What the slice of any command tells of the units of a lot that are staged for an order, if it touches the lot, and of those that are
--- reserved, if it is judged by them.
-use Rattle.std.proofs.Common.{◌≡◌, ℕ, true, false, List, refl, ap, sym, ◌∙◌}
-use Rattle.std.specs.Prelude.{◌==◌, if◌then◌else◌, ℤ, Some, None}
+-- What the slice of any command tells of the units of a lot that are staged for an order, if it touches the lot, and names both if it
+-- is a pick; and of those that are reserved, if it is judged by them.
+use Rattle.std.proofs.Common.{◌≡◌, ℕ, true, false, ◌&&◌, not, List, refl, ap, sym, ◌∙◌}
+use Rattle.std.specs.Prelude.{◌||◌, ◌==◌, if◌then◌else◌, ℤ, Some, None}
 use Rattle.values.specs.declared.lot.LotId.{LotId}
 use Rattle.machine.specs.Acts.{Act}
 use Rattle.machine.specs.Planning.{staged_of_lot, reserved}
 use Rattle.machine.specs.Tables.{tables_of, if_any, staged_row, reserved_row}
 use Rattle.machine.specs.Touched.{is_touched}
-use Rattle.rules.specs.Slices.{IsSlice, names_reserved}
+use Rattle.rules.specs.Slices.{IsSlice, picks, names_order, names_lot, names_reserved}
 use Rattle.row_rules.specs.SeenStages.{reserved_qty, reserved_found, reserved_seen, staged_qty, staged_found, on_stage_seen}
 use Rattle.row_rules.specs.declared.slice.Slice.{Slice}
 use Rattle.machine.proofs.Tests.{is_zero}
@@ -20,12 +20,12 @@ any_reserved : (q : ℕ) (o : List ℕ) (l : LotId) → reserved_qty (if_any q (
 any_reserved q o l = elim (q == 0) as (λ t. (q == 0) ≡ t → reserved_qty (if t then None else Some (record { order = o; lot = l; qty = q })) ≡ q) [ true ↦ λ e. sym (is_zero q e) | false ↦ λ e. refl ] refl
 
 module _ (first : ℤ) (acts : List Act) (act : Act) (s : Slice) (slice : IsSlice first act acts (tables_of first acts) s) where
-  pub found_staged : (o : List ℕ) (l : LotId) → is_touched first act acts l.gtin ≡ true → staged_found s.rows.staged o l ≡ staged_row first acts o l
+  pub found_staged : (o : List ℕ) (l : LotId) → is_touched first act acts l.gtin ≡ true → not (picks act.command) || (names_order act.command o && names_lot act.command l) ≡ true → staged_found s.rows.staged o l ≡ staged_row first acts o l
   unfolding tables_of
-  found_staged o l t = slice.staged.found (o, l) t
+  found_staged o l t asked = slice.staged.found (o, l) (λ i. asked i && t i)
 
-  pub on_stage_told : (o : List ℕ) (l : LotId) → is_touched first act acts l.gtin ≡ true → on_stage_seen s o l ≡ staged_of_lot first acts o l
-  on_stage_told o l t = ap staged_qty (found_staged o l t) ∙ any_staged (staged_of_lot first acts o l) o l
+  pub on_stage_told : (o : List ℕ) (l : LotId) → is_touched first act acts l.gtin ≡ true → not (picks act.command) || (names_order act.command o && names_lot act.command l) ≡ true → on_stage_seen s o l ≡ staged_of_lot first acts o l
+  on_stage_told o l t asked = ap staged_qty (found_staged o l t asked) ∙ any_staged (staged_of_lot first acts o l) o l
 
   -- what is reserved, where the command is judged by it
   pub found_reserved : (o : List ℕ) (l : LotId) → names_reserved act.command o l ≡ true → reserved_found s.rows.reserved o l ≡ reserved_row first acts o l

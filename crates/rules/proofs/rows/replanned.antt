@@ -4,6 +4,7 @@ pub mod Unreserved
 pub mod Pairs
 pub mod Fronts
 pub mod Behind
+pub mod Alike
 pub mod Changed
 pub mod OneItem
 pub mod EachItem

@@ -1,14 +1,24 @@
-use Rattle.std.proofs.Common.{[], ◌∷◌, ap, ◌∙◌}
+use Rattle.std.proofs.Common.{◌≡◌, true, [], ◌∷◌, ap, sym, ◌∙◌}
 use Rattle.commands.specs.declared.rows.LeastRow.{LeastRow}
 use Rattle.row_rules.proofs.Making.{made_same}
 use Rattle.lot_rules.specs.Expiring.{changes_on}
 use Rattle.lot_rules.specs.DecidedLeast.{least_changes}
+use Rattle.lot_rules.specs.KeptPlan.{keeps_plan}
+use Rattle.lot_rules.proofs.PlanKept.{asked_alone_changes}
 use Rattle.lot_rules.proofs.least.change_least.Goals as goal
+
+pub returns-then-keeps_plan : goal.returns-then-keeps_plan
+returns-then-keeps_plan c =
+    let s = c.args.slice.now in
+    let rows = c.as_slice.ensures.value ∙ c.in_ok-rows.ensures in
+    let asked = c.in_ok-asked.ensures ∙ ap (λ (row : LeastRow). row ∷ []) c.least_row_put.ensures in
+    let keeps : keeps_plan s c.as_slice.result.now ≡ true = sym c.keeps_plan.ensures ∙ c.if-keeps_plan.true in
+    c.change_asked.ensures ∙ asked_alone_changes s c.as_slice.result.now c.in_ok-asked.asked keeps ∙ (λ i. changes_on s s.meta.day (rows i) (asked i))
 
 pub returns : goal.returns
 returns c =
     let s = c.args.slice.now in
-    let rows = c.as_slice.ensures.value ∙ c.in_ok-rows.ensures in
+    let rows = c.as_slice-2.ensures.value ∙ c.in_ok-rows.ensures in
     let asked = c.in_ok-asked.ensures ∙ ap (λ (row : LeastRow). row ∷ []) c.least_row_put.ensures in
     made_same c.change_on.result _ (least_changes s c.args.least.now) c.change_on.ensures
     (λ i. changes_on s s.meta.day (rows i) (asked i))

@@ -1,20 +1,9 @@
-use Rattle.std.proofs.Common.{arith, ap, ◌∙◌, ◌++◌, [], ◌∷◌}
-use Rattle.commands.specs.declared.rows.LineRow.{LineRow}
-use Rattle.order_rules.specs.DecidedShip.{line_shipped}
-use Rattle.row_rules.proofs.Walking.{mapped_all, mapped_more}
+use Rattle.row_rules.specs.LookUps.{rows_given}
+use Rattle.row_rules.proofs.Giving.{same_items}
+use Rattle.order_rules.proofs.ShippedGiven.{lines_given}
 use Rattle.order_rules.proofs.shipments.ship_lines.Goals as goal
-
-pub loop-row-preserved : goal.loop-row-preserved
-loop-row-preserved c =
-    let a = c.args in
-    let l = c.loop-row in
-    let f : LineRow → LineRow = line_shipped a.staged.now in
-    mapped_more f a.rows.now l.row-index l.shipped.items c.row-item.result c.push.new.self.items c.loop-row-test.true l.invariant
-    (c.in_ok-push.ensures.items ∙ ap (λ (y : LineRow). l.shipped.items ++ y ∷ []) (c.line_shipped.ensures ∙ ap f c.row-item.is))
 
 pub returns : goal.returns
 returns c =
     let a = c.args in
-    let l = c.loop-row in
-    let f : LineRow → LineRow = line_shipped a.staged.now in
-    mapped_all f a.rows.now l.row-index l.shipped.items (omega arith) l.invariant
+    same_items c.ship_found.result _ _ c.ship_found.ensures (lines_given (rows_given c.in_ok-of_items.of_items) a.staged.now c.in_ok-of_items.ensures a.rows.now)

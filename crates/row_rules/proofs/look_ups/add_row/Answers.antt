@@ -13,6 +13,6 @@ pub returns : goal.returns
 returns g c =
     let row = c.args.row.now in
     let old = c.args.groups.now in
-    let text = ap reverse c.key.ensures ∙ reverse-reverse (g.T.Keyed.text row) in
+    let text = ap reverse c.key.ensures ∙ reverse-reverse (g.K.TextOf.text row) in
     ok_then c.add_under.result c.add_under.ensures
     (λ more k. more k ∙ ap (λ (t : List ℕ). rows_or [] (get (slice_cmp nat_cmp) old (reverse k)) ++ (if same_text k t then row ∷ [] else [])) text)

@@ -8,4 +8,4 @@ use Rattle.row_rules.specs.LookUps.{rows_or}
 use Rattle.row_rules.proofs.look_ups.group.Given as goal
 
 abbrev pub invariant-loop-row : goal.invariant-loop-row
-invariant-loop-row g l = (k : List ℕ) → rows_or [] (get (slice_cmp nat_cmp) l.groups (reverse k)) ≡ filter (λ r. same_text k (g.T.Keyed.text r)) (take l.row-index l.rows)
+invariant-loop-row g l = (k : List ℕ) → rows_or [] (get (slice_cmp nat_cmp) l.groups (reverse k)) ≡ filter (λ r. same_text k (g.K.TextOf.text r)) (take l.row-index l.rows)

@@ -25,7 +25,7 @@ use Rattle.machine.specs.Once.{IsHistory}
 use Rattle.machine.specs.Tables.{tables_of, bin_row, lot_row, stock_row, order_row, line_row, staged_row}
 use Rattle.machine.specs.Touched.{is_touched}
 use Rattle.machine.specs.KeyedRows.{no_two, same_cell, same_line, same_share}
-use Rattle.rules.specs.Slices.{IsSlice, applied, in_bins}
+use Rattle.rules.specs.Slices.{IsSlice, applied, names_bin, in_bins}
 use Rattle.row_rules.specs.Status.{earliest_seen}
 use Rattle.row_rules.specs.Seen.{none_put, none_dropped, lot_units}
 use Rattle.row_rules.specs.SeenLots.{stock_put, stock_gone}
@@ -41,6 +41,7 @@ use Rattle.rules.proofs.rows.SuppliesTold.{TellsSupplies, in_stock}
 use Rattle.rules.proofs.rows.SliceDemands.{slice_tells_demands}
 use Rattle.rules.proofs.rows.SliceSupplies.{slice_tells_supplies, lots_with_stock}
 use Rattle.rules.proofs.rows.LotUnits.{lot_units_told}
+use Rattle.rules.proofs.rows.Planned.{no_shipment, asked_if_planned}
 use Rattle.rules.proofs.rows.LotTold.{found_stock}
 use Rattle.rules.proofs.rows.StockChanged.{with_units, stock_rows_are, bins_with, lots_with}
 use Rattle.rules.proofs.rows.TableSteps.{AreNamed, names_changed, reserved_changed}
@@ -85,7 +86,7 @@ module _ (first : ℤ) (acts : List Act) (act : Act) (s : Slice) (slice : IsSlic
   bins_after : (c : List ℕ) → list_any (λ (q : StockRow). same_text c q.bin) (stock_corrected s l b left) ≡ true → find (λ (x : BinRow). same_text c x.name) s.rows.bins ≡ bin_row after c
   unfolding tables_of
   bins_after c e =
-      slice.bins.found c (λ i. writes.planned i && (ap (λ t. t || list_any (λ (q : StockRow). same_text c q.bin) s.rows.stock) (writes.named c) ∙ bins_with l b left c s.rows.stock e) i) ∙ bin_at first act acts l b z left writes legal c
+      slice.bins.found c (asked_if_planned act.command writes.planned (names_bin act.command c) (list_any (λ (q : StockRow). same_text c q.bin) s.rows.stock) (ap (λ t. t || list_any (λ (q : StockRow). same_text c q.bin) s.rows.stock) (writes.named c) ∙ bins_with l b left c s.rows.stock e)) ∙ bin_at first act acts l b z left writes legal c
 
   supplies_after : TellsSupplies first after g s.rows.lots s.rows.recalls (stock_corrected s l b left) s.rows.bins
   supplies_after =
@@ -116,7 +117,7 @@ module _ (first : ℤ) (acts : List Act) (act : Act) (s : Slice) (slice : IsSlic
   day_is = day_seen first acts act s slice ∙ sym writes.known.day
 
   from : earliest_seen s.meta.day s.rows.least g ≡ least_expiry first after g
-  from = earliest_told first acts act s slice writes.planned next.0 g touched ∙ earliest_at first act acts l b z left writes legal g
+  from = earliest_told first acts act s slice (no_shipment act.command writes.planned) next.0 g touched ∙ earliest_at first act acts l b z left writes legal g
 
   are_named : AreNamed first act acts puts drops
   are_named =

@@ -16,16 +16,17 @@ use Rattle.machine.specs.Planning.{staged_of_lot}
 use Rattle.machine.specs.Tables.{tables_of, lot_row, item_row}
 use Rattle.machine.specs.Touched.{is_touched}
 use Rattle.machine.specs.KeyedRows.{AreRows, AreOwn, no_two}
-use Rattle.rules.specs.Slices.{IsSlice, plans, names_lot, in_bins, on_stages}
+use Rattle.rules.specs.Slices.{IsSlice, ships, picks, plans, names_order, names_lot, in_bins, on_stages}
 use Rattle.row_rules.specs.Seen.{lot_seen}
 use Rattle.row_rules.specs.SeenStages.{staged_qty}
 use Rattle.row_rules.specs.Status.{is_past_row, earliest_seen}
 use Rattle.lot_rules.specs.Expiring.{is_out, gtins_seen}
 use Rattle.row_rules.specs.declared.slice.Slice.{Slice}
-use Rattle.machine.proofs.Tests.{or_later, or_none, and_later_false, same_text_is, is_lot_is}
+use Rattle.machine.proofs.Tests.{or_first, or_later, or_none, and_later_false, same_text_is, is_lot_is}
 use Rattle.machine.proofs.Apart.{AllFound, any_found}
 use Rattle.machine.proofs.histories.Lots.{same_known, lots_found}
 use Rattle.rules.proofs.rows.FoundRows.{found_passes, found_own}
+use Rattle.rules.proofs.rows.Planned.{no_shipment, no_pick, asked_if_planned}
 use Rattle.rules.proofs.rows.StageTold.{on_stage_told}
 use Rattle.rules.proofs.rows.SliceTells.{item_told}
 use Rattle.rules.proofs.rows.LeavingLots.{MakesThemUnshippable}
@@ -110,7 +111,7 @@ module _ (first : ℤ) (acts : List Act) (act : Act) (s : Slice) (slice : IsSlic
   -- a lot with units on stages
   lot_in : (l : LotId) → is_touched first act acts l.gtin ≡ true → on_stages s.rows l ≡ true → lot_seen s l ≡ lot_row acts l
   unfolding tables_of
-  lot_in l t on = slice.lots.found l (λ i. says.planned i && t i && or_later (names_lot act.command l || in_bins s.rows l) (on_stages s.rows l) on i)
+  lot_in l t on = slice.lots.found l (λ i. no_shipment act.command says.planned i && t i && asked_if_planned act.command says.planned (names_lot act.command l) (in_bins s.rows l || on_stages s.rows l) (or_later (names_lot act.command l) (in_bins s.rows l || on_stages s.rows l) (or_later (in_bins s.rows l) (on_stages s.rows l) on)) i)
 
   -- a lot that the slice has is of an item that the act touches
   pub out_touched : (l : LotId) → is_out s day least l ≡ true → is_touched first act acts l.gtin ≡ true
@@ -168,7 +169,7 @@ module _ (first : ℤ) (acts : List Act) (act : Act) (s : Slice) (slice : IsSlic
   not_staged : (k : KnownLot) → lot_known acts k.lot ≡ Some k → was k ≡ true → gone k.lot ≡ false → (o : List ℕ) → staged_of_lot first acts o k.lot ≡ 0
   not_staged k found t e o = elim (on_stages s.rows k.lot) as (λ b. on_stages s.rows k.lot ≡ b → staged_of_lot first acts o k.lot ≡ 0) [
     | true ↦ λ on. let f : true ≡ false = sym (gone_is k found t on) ∙ e in cc
-    | false ↦ λ off. sym (on_stage_told first acts act s slice o k.lot (lot_touched k found t)) ∙ ap staged_qty (not_found o k.lot s.rows.staged off)
+    | false ↦ λ off. sym (on_stage_told first acts act s slice o k.lot (lot_touched k found t) (or_first (not (picks act.command)) (names_order act.command o && names_lot act.command k.lot) (no_pick act.command says.planned))) ∙ ap staged_qty (not_found o k.lot s.rows.staged off)
   ] refl
 
   none_returned : (k : KnownLot) → ((o : List ℕ) → staged_of_lot first acts o k.lot ≡ 0) → (ps : List Placed) → lot_returned (next_number acts) ps (postings first acts) k ≡ []
@@ -219,7 +220,7 @@ module _ (first : ℤ) (acts : List Act) (act : Act) (s : Slice) (slice : IsSlic
 
   -- Items
 
-  items_are : AreRows same_text (λ (r : ItemRow). r.gtin) (λ g. plans act.command && is_touched first act acts g) (is_touched first act acts) (item_row acts) s.rows.items
+  items_are : AreRows same_text (λ (r : ItemRow). r.gtin) (λ g. not (ships act.command) && is_touched first act acts g) (is_touched first act acts) (item_row acts) s.rows.items
   unfolding tables_of
   items_are = slice.items
 
@@ -239,7 +240,7 @@ module _ (first : ℤ) (acts : List Act) (act : Act) (s : Slice) (slice : IsSlic
   items_told g =
       any_gtin g s.rows.items ∙ sym (any_found (λ (r : ItemRow). same_text g r.gtin) s.rows.items)
       ∙ elim (is_touched first act acts g) as (λ b. is_touched first act acts g ≡ b → is_some (find (λ (r : ItemRow). same_text g r.gtin) s.rows.items) ≡ b) [
-        | true ↦ λ t. item_told first acts act s slice says.planned g t ∙ says.item_known g t
+        | true ↦ λ t. item_told first acts act s slice (no_shipment act.command says.planned) g t ∙ says.item_known g t
         | false ↦ λ t. none t (find (λ (r : ItemRow). same_text g r.gtin) s.rows.items) refl
       ] refl
     where

@@ -45,10 +45,11 @@ use Rattle.rules.proofs.rows.FoundRows.{there_found}
 use Rattle.rules.proofs.rows.LotTold.{in_bin_told}
 use Rattle.rules.proofs.rows.LotUnits.{bin_within_limit}
 use Rattle.machine.proofs.histories.PlaceRows.{staged_holds}
+use Rattle.rules.proofs.rows.Planned.{no_pick}
 use Rattle.rules.proofs.rows.PutRows.{rows_over}
 use Rattle.rules.proofs.rows.ReturnedRows.{still_some}
 use Rattle.rules.proofs.rows.SameKeys.{same_share_is, same_cell_is, same_cell_refl, same_cell_turned}
-use Rattle.rules.proofs.rows.SliceDemands.{slice_tells_demands}
+use Rattle.rules.proofs.rows.SliceDemands.{staged_touched, slice_tells_demands}
 use Rattle.rules.proofs.rows.SliceSupplies.{slice_tells_supplies}
 use Rattle.rules.proofs.rows.StockChanged.{any_kept}
 use Rattle.rules.proofs.rows.SuppliesTold.{TellsSupplies, in_stock}
@@ -288,8 +289,7 @@ module _ (first : ℤ) (acts : List Act) (act : Act) (s : Slice) (slice : IsSlic
   ] refl
 
   pub all_staged_are : AreRows same_share (λ (r : StagedRow). (r.order, r.lot)) (λ (k : OrderLot). is_touched first act acts k.1.gtin) (λ (k : OrderLot). is_touched first act acts k.1.gtin) (λ k. staged_row first acts k.0 k.1) s.rows.staged
-  unfolding tables_of
-  all_staged_are = slice.staged
+  all_staged_are = staged_touched first acts act s slice (no_pick act.command says.planned)
 
   pub staged_at : (o : List ℕ) (m : LotId) → changed (λ (r : StagedRow). same_text o r.order && is_lot m r.lot) [] (staged_gone_on s day least) (staged_row first acts o m) ≡ staged_row first after o m
   staged_at o m =

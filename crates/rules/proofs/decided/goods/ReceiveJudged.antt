@@ -18,7 +18,7 @@ use Rattle.machine.specs.Once.{IsHistory}
 use Rattle.machine.specs.Tables.{tables_of, stock_row, staged_row}
 use Rattle.machine.specs.Touched.{is_touched}
 use Rattle.machine.specs.KeyedRows.{AreRows, LotBin, OrderLot, same_cell, same_share}
-use Rattle.rules.specs.Slices.{IsSlice, plans, on_named_stage}
+use Rattle.rules.specs.Slices.{IsSlice, ships, plans, names_bin, names_lot, on_named_stage}
 use Rattle.row_rules.specs.Seen.{capped, is_over, stock_units, staged_units}
 use Rattle.goods_rules.specs.DecidedReceive.{receive_seen}
 use Rattle.machine.specs.Verdict.{first_refusal, judgement}
@@ -28,6 +28,8 @@ use Rattle.machine.proofs.histories.Cells.{without, holds, holds_split}
 use Rattle.machine.proofs.histories.LegalHistories.{legal_history}
 use Rattle.machine.proofs.histories.PlaceRows.{bin_cells, stage_cells, stock_holds, staged_holds}
 use Rattle.rules.proofs.decided.Decisions.{day_seen}
+use Rattle.rules.proofs.rows.Planned.{no_pick}
+use Rattle.rules.proofs.rows.SliceDemands.{staged_touched}
 use Rattle.rules.proofs.rows.SliceTells.{item_told, bin_told, expiry_told, recall_told}
 
 module _ (first : ℤ) (acts : List Act) (act : Act) (s : Slice) (slice : IsSlice first act acts (tables_of first acts) s) (planned : plans act.command ≡ true) (history : IsHistory first acts) (g : List ℕ) (touched : is_touched first act acts g ≡ true) where
@@ -52,20 +54,19 @@ module _ (first : ℤ) (acts : List Act) (act : Act) (s : Slice) (slice : IsSlic
   bins_inside WriteOff l e = e
   bins_inside (Shipped n o) l e = e
 
-  stock_are : AreRows same_cell (λ r. (r.lot, r.bin)) (λ (k : LotBin). is_touched first act acts k.0.gtin && (plans act.command || on_named_stage act.command s.rows k.0)) (λ (k : LotBin). is_touched first act acts k.0.gtin) (λ k. stock_row first acts k.0 k.1) s.rows.stock
+  stock_are : AreRows same_cell (λ r. (r.lot, r.bin)) (λ (k : LotBin). is_touched first act acts k.0.gtin && (plans act.command || (names_lot act.command k.0 && names_bin act.command k.1) || (ships act.command && on_named_stage act.command s.rows k.0))) (λ (k : LotBin). is_touched first act acts k.0.gtin) (λ k. stock_row first acts k.0 k.1) s.rows.stock
   unfolding tables_of
   stock_are = slice.stock
 
   staged_are : AreRows same_share (λ r. (r.order, r.lot)) (λ (k : OrderLot). is_touched first act acts k.1.gtin) (λ (k : OrderLot). is_touched first act acts k.1.gtin) (λ k. staged_row first acts k.0 k.1) s.rows.staged
-  unfolding tables_of
-  staged_are = slice.staged
+  staged_are = staged_touched first acts act s slice (no_pick act.command planned)
 
   -- an item's units in the house are those of its stock rows and its staged rows
   pub units_are : units_in_house first acts g ≡ stock_units g s.rows.stock + staged_units g s.rows.staged
   units_are =
       let legal = legal_history first acts history in
       holds_split (postings first acts) legal (bin_cells (λ l b. of_item g l)) (λ p l. in_house p && of_item g l) (record { supplier = λ m. refl; write_off = λ m. refl }) (record { supplier = λ m. refl; write_off = λ m. refl }) bins_inside
-      ∙ (λ i. stock_holds first acts legal (λ l b. of_item g l) _ _ s.rows.stock stock_are (λ l b e j. touched_item l e j && or_first (plans act.command) (on_named_stage act.command s.rows l) planned j) i
+      ∙ (λ i. stock_holds first acts legal (λ l b. of_item g l) _ _ s.rows.stock stock_are (λ l b e j. touched_item l e j && or_first (plans act.command || (names_lot act.command l && names_bin act.command b)) (ships act.command && on_named_stage act.command s.rows l) (or_first (plans act.command) (names_lot act.command l && names_bin act.command b) planned) j) i
       + ((λ j. holds (λ p l. stages_left p l j) (postings first acts)) ∙ staged_holds first acts legal (λ l o. of_item g l) _ _ s.rows.staged staged_are (λ l o e. touched_item l e)) i)
 
   more_than : (a b m n : ℕ) → n ≡ a + b → nat_lt UNITS_MAX (capped (capped (capped a + capped b) + m)) ≡ nat_lt (UNITS_MAX + 0) (n + m)
@@ -98,6 +99,6 @@ module _ (first : ℤ) (acts : List Act) (key : Key) (r : Receipt) (s : Slice)
       (not (item_told first acts act s slice refl r.lot.gtin touched i), UnknownItem)
       ∷ (not (bin_told first acts act s slice refl r.bin (same_text_refl r.bin) i), UnknownBin)
       ∷ (expiry_told first acts act s slice refl r.lot r.expiry (is_lot_refl r.lot) i, OtherExpiry)
-      ∷ (recall_told first acts act s slice refl r.lot touched i, LotRecalled)
+      ∷ (recall_told first acts act s slice refl r.lot touched refl i, LotRecalled)
       ∷ (is_expired (day_seen first acts act s slice i) r.expiry, LotExpired)
       ∷ (over_told first acts act s slice refl history r.lot.gtin touched r.qty i, OverUnits) ∷ [])

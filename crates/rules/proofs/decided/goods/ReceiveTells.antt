@@ -173,7 +173,7 @@ module _ (first : ℤ) (acts : List Act) (key : Key) (r : Receipt) (s : Slice) (
   pub supplies_after : TellsSupplies first after g (lot_rows_after s r) s.rows.recalls (stock_rows_after s r) s.rows.bins
   supplies_after = record {
     lots = loosened is_lot (λ (k : LotRow). k.lot) (is_wanted (Receive r) s.rows g) (in_stock g (stock_rows_after s r)) (λ l. true) (λ l. true) (lot_row after) (lot_row after) (lot_rows_after s r) still_wanted (λ l e. e) (λ l. refl) lots_after;
-    recalls = λ l e. found_recall first acts act s slice refl l (touched_item l e);
+    recalls = λ l e. found_recall first acts act s slice refl l (touched_item l e) refl;
     stock = stock_after_are;
     bins = bins_after;
   }

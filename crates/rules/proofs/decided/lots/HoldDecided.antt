@@ -59,7 +59,7 @@ module _ (first : ℤ) (acts : List Act) (key : Key) (l : LotId) (s : Slice) (sl
       λ i. first_refusal (
       (not (item_told first acts act s slice refl g touched i), UnknownItem)
       ∷ (not (lot_known_told first acts act s slice refl l named i), UnknownLot)
-      ∷ (recall_told first acts act s slice refl l touched i, LotRecalled)
+      ∷ (recall_told first acts act s slice refl l touched refl i, LotRecalled)
       ∷ (held_told first acts act s slice refl history l named i, LotHeld) ∷ [])
 
   -- The lot is held after it

@@ -54,7 +54,7 @@ module _ (first : ℤ) (acts : List Act) (key : Key) (l : LotId) (s : Slice) (sl
   recall_judged =
       λ i. first_refusal (
       (not (item_told first acts act s slice refl g touched i), UnknownItem)
-      ∷ (recall_told first acts act s slice refl l touched i, AlreadyRecalled) ∷ [])
+      ∷ (recall_told first acts act s slice refl l touched refl i, AlreadyRecalled) ∷ [])
 
   -- The lot is recalled after it
 

@@ -55,7 +55,7 @@ module _ (first : ℤ) (acts : List Act) (key : Key) (l : LotId) (s : Slice) (sl
       λ i. first_refusal (
       (not (item_told first acts act s slice refl g touched i), UnknownItem)
       ∷ (not (lot_known_told first acts act s slice refl l (is_lot_refl l) i), UnknownLot)
-      ∷ (recall_told first acts act s slice refl l touched i, LotRecalled)
+      ∷ (recall_told first acts act s slice refl l touched refl i, LotRecalled)
       ∷ (not (held_told first acts act s slice refl history l (is_lot_refl l) i), LotNotHeld) ∷ [])
 
   -- The lot is not held after it

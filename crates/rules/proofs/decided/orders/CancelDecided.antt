@@ -43,13 +43,13 @@ module _ (first : ℤ) (acts : List Act) (key : Key) (o : List ℕ) (s : Slice) 
 
   are_named : AreNamed first act acts (cancel_put s o) (cancel_dropped s o)
   are_named =
-      items_replanned (λ (g : List ℕ). g) first acts act s slice refl next (items_seen s o) (items_apart first acts act s slice o (same_text_refl o)) (items_told first acts act s slice o (same_text_refl o))
+      items_replanned (λ (g : List ℕ). g) first acts act s slice refl next (items_seen s o) (items_apart first acts act s slice refl o (same_text_refl o)) (items_told first acts act s slice refl o (same_text_refl o))
       s.meta.day s.rows.least (earliest_told first acts act s slice refl next.0) (other_orders s o) s.rows.lines s.rows.staged s.rows.urgents s.rows.lots s.rows.recalls s.rows.bins s.rows.stock
       (demands_after first acts key o s slice) (supplies_after first acts key o s slice)
 
   put_once : no_two is_share_of (cancel_put s o) ≡ true
   put_once =
-      items_put_once (λ (g : List ℕ). g) first acts act s slice refl next (items_seen s o) (items_apart first acts act s slice o (same_text_refl o)) (items_told first acts act s slice o (same_text_refl o))
+      items_put_once (λ (g : List ℕ). g) first acts act s slice refl next (items_seen s o) (items_apart first acts act s slice refl o (same_text_refl o)) (items_told first acts act s slice refl o (same_text_refl o))
       s.meta.day s.rows.least (earliest_told first acts act s slice refl next.0) (other_orders s o) s.rows.lines s.rows.staged s.rows.urgents s.rows.lots s.rows.recalls s.rows.bins s.rows.stock
       (demands_after first acts key o s slice) (supplies_after first acts key o s slice)
 

@@ -1,5 +1,5 @@
 -- The cancelling of an order judged by its slice is judged as by the acts.
-use Rattle.std.proofs.Common.{◌≡◌, ℕ, not, List, [], ◌∷◌}
+use Rattle.std.proofs.Common.{◌≡◌, ℕ, not, List, [], ◌∷◌, refl}
 use Rattle.std.specs.Prelude.{ℤ}
 use Rattle.commands.specs.declared.key.Key.{Key}
 use Rattle.commands.specs.declared.command.Command.TheVariants.{Cancel}
@@ -24,4 +24,4 @@ module _ (first : ℤ) (acts : List Act) (key : Key) (o : List ℕ) (s : Slice)
       λ i. first_refusal (
       (not (order_told first acts act s slice o (same_text_refl o) i), UnknownOrder)
       ∷ (not (open_told first acts act s slice o (same_text_refl o) i), OrderClosed)
-      ∷ (not (staged_for_order_told first acts act s slice history o (λ g e. e) i), StillStaged) ∷ [])
+      ∷ (not (staged_for_order_told first acts act s slice refl history o (λ g e. e) i), StillStaged) ∷ [])

@@ -23,6 +23,7 @@ use Rattle.row_rules.specs.OpenLines.{open_of_line}
 use Rattle.order_rules.specs.DecidedOrder.{order_seen, misses_item, orders_too_much}
 use Rattle.row_rules.specs.declared.slice.Slice.{Slice}
 use Rattle.machine.proofs.Tests.{or_later, same_text_refl}
+use Rattle.rules.proofs.rows.Planned.{no_shipment}
 use Rattle.rules.proofs.rows.SliceTells.{item_told}
 use Rattle.rules.proofs.rows.OrderTold.{order_told}
 use Rattle.rules.proofs.rows.SliceDemands.{slice_tells_demands}
@@ -65,7 +66,7 @@ module _ (first : ℤ) (acts : List Act) (key : Key) (o : NewOrder) (u : Bool) (
 
   items_told : (ls : List OrderLine) → AllAmong o.lines ls → misses_item s ls ≡ list_any (λ l. not (has_item acts l.gtin)) ls
   items_told [] h = refl
-  items_told (l ∷ ls) h = λ i. not (item_told first acts act s slice planned l.gtin (touched l.gtin h.0) i) || items_told ls h.1 i
+  items_told (l ∷ ls) h = λ i. not (item_told first acts act s slice (no_shipment act.command planned) l.gtin (touched l.gtin h.0) i) || items_told ls h.1 i
 
   units_told : (g : List ℕ) → is_touched first act acts g ≡ true → total (open_of_line g s.rows.orders) s.rows.lines ≡ open_units first acts g
   units_told g t = rows_tell_open_units first acts history g s.rows.orders s.rows.lines s.rows.staged s.rows.urgents (slice_tells_demands first acts act s slice planned g t)

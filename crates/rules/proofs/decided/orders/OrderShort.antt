@@ -30,17 +30,17 @@ use Rattle.rules.proofs.decided.orders.OrderTells.{same_item}
 
 -- Sound lines want little together
 
-wanted_within : (ls : List OrderLine) → list_all is_order_line ls ≡ true → total (λ l. l.qty) ls ≤ length ls * 1_000_000
+wanted_within : (ls : List OrderLine) → list_all is_order_line ls ≡ true → total (λ l. l.qty) ls ≤ length ls * QTY_MAX
 wanted_within [] e = omega arith
 wanted_within (l ∷ ls) e =
     let two = and_both (is_order_line l) (list_all is_order_line ls) e in
     let one : l.qty ≤ QTY_MAX = at_most_limit l.qty (and_both (is_gtin l.gtin) (is_qty l.qty) two.0).1 in
     omega (arith, one, wanted_within ls two.1)
 
-few_lines : (n : ℕ) → nat_le 1 n && nat_le n ORDER_LINES_MAX ≡ true → n ≤ 20
+few_lines : (n : ℕ) → nat_le 1 n && nat_le n ORDER_LINES_MAX ≡ true → n ≤ ORDER_LINES_MAX
 few_lines n e = let h = (and_both (nat_le 1 n) (nat_le n ORDER_LINES_MAX) e).1 in grind (arith, nat_tests, h)
 
-pub little_wanted : (ls : List OrderLine) → are_lines ls ≡ true → total (λ l. l.qty) ls ≤ 20_000_000
+pub little_wanted : (ls : List OrderLine) → are_lines ls ≡ true → total (λ l. l.qty) ls ≤ ORDER_LINES_MAX * QTY_MAX
 little_wanted ls e =
     let two = and_both (has_order_lines ls) (list_all is_order_line ls) e in
     omega (arith, few_lines (length ls) two.0, wanted_within ls two.1)

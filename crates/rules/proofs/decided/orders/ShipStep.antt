@@ -195,7 +195,7 @@ module _ (first : ℤ) (acts : List Act) (key : Key) (o : List ℕ) (s : Slice) 
   card_same l has staged =
       let told : lot_units l s.rows.stock s.rows.staged ≡ lot_units_in_house first acts l =
       lot_units_told first acts next.0 l.gtin l (same_text_refl l.gtin) s.rows.stock s.rows.staged (λ k. is_touched first act acts k.0.gtin && on_named_stage act.command s.rows k.0) (λ k. is_touched first act acts k.0.gtin) (λ k. of_item l.gtin k.1) (λ k. true)
-      stock_are (slice_tells_stages first acts act s slice l.gtin has)
+      stock_are (slice_tells_stages first acts act s slice l.gtin has refl)
       (λ m b e. ap (λ (x : LotId). is_touched first act acts x.gtin && on_named_stage act.command s.rows x) (sym (is_lot_is l m e)) ∙ (λ i. has i && staged i)) (λ m u e. is_lot_item l m e) in
       let house : lot_units_in_house first after l + units l ≡ lot_units_in_house first acts l = house_after first acts key o next l in
       let few : min (units l) UNITS_MAX ≡ units l = omega (arith, house, lot_within_limit first acts next.0 l.gtin l (same_text_refl l.gtin)) in

@@ -147,7 +147,7 @@ module _ (first : ℤ) (acts : List Act) (key : Key) (o : List ℕ) (s : Slice) 
   -- of this one what was staged, and no more than is ordered
   pub line_units : (g : List ℕ) → has_line acts o g ≡ true → capped (shipped_of first acts o g + capped (staged_seen g o s.rows.staged)) ≡ shipped_of first after o g
   line_units g has =
-      let staged_is = staged_same first acts next.0 g s.rows.staged (slice_tells_stages first acts act s slice g has) o ∙ of_postings first acts key o next o g acts in
+      let staged_is = staged_same first acts next.0 g s.rows.staged (slice_tells_stages first acts act s slice g has refl) o ∙ of_postings first acts key o next o g acts in
       let more = shipped_after first acts key o next o g ∙ ap (λ b. shipped_of first acts o g + (if b then balance (is_stage o) (of_item g) (postings first acts) else 0)) (same_text_refl o) in
       let served = served_is first after (legal_history first after next) o g in
       omega (arith, staged_is, more, served, served_within_ordered first after next o g, ordered_within_limit first after next o g)
@@ -176,7 +176,7 @@ module _ (first : ℤ) (acts : List Act) (key : Key) (o : List ℕ) (s : Slice) 
       find_mapped (line_shipped s.rows.staged) (line_test g) (lines_seen s o)
       ∙ ap (option_map (line_shipped s.rows.staged))
       (find_kept (line_test g) (λ (r : LineRow). same_text o r.order) s.rows.lines ∙ same_finds (λ r. same_text o r.order && line_test g r) (line_test g) (λ r. twice (same_text o r.order) (same_text g r.gtin)) s.rows.lines
-      ∙ found_line_row first acts act s slice o (same_text_refl o) g)
+      ∙ found_line_row first acts act s slice o (same_text_refl o) g refl)
       ∙ shipped_line g (line_placed g) refl
 
   pub line_at : (u g : List ℕ) → changed (λ (r : LineRow). same_text u r.order && same_text g r.gtin) (lines_shipped s o) [] (line_row first acts u g) ≡ line_row first after u g

@@ -1,8 +1,9 @@
 -- The reply to an urgent order says what its plans leave short: all that is reserved for it is among the rows that are put.
-use Rattle.std.proofs.Common.{◌≡◌, ℕ, ◌+◌, ◌-◌, ◌≤◌, true, false, List, [], ◌∷◌, ◌++◌, refl, ap, sym, ◌∙◌, arith, eq-eqb}
+use Rattle.std.proofs.Common.{◌≡◌, ℕ, ◌+◌, ◌-◌, ◌*◌, ◌≤◌, true, false, List, [], ◌∷◌, ◌++◌, refl, ap, sym, ◌∙◌, arith, eq-eqb}
 use Rattle.std.specs.Prelude.{◌==◌, if◌then◌else◌, ℤ, Some, find, map, is_some, codes, decimal}
-use Rattle.values.specs.Values.{same_text}
+use Rattle.values.specs.Values.{QTY_MAX, same_text}
 use Rattle.commands.specs.Lists.{total}
+use Rattle.commands.specs.declared.limits.TheConstants.{ORDER_LINES_MAX}
 use Rattle.commands.specs.declared.key.Key.{Key}
 use Rattle.commands.specs.declared.command.OrderLine.{OrderLine}
 use Rattle.commands.specs.declared.command.NewOrder.{NewOrder}
@@ -119,7 +120,7 @@ module _ (first : ℤ) (acts : List Act) (key : Key) (o : NewOrder) (s : Slice) 
       (little_wanted o.lines (are_sound first acts key o true s slice next)) all_put (lines_split o.lines found)
       ∙ sym (short_is first acts key o true next.0 new (is_single first acts key o true s slice next) found)
     where
-      told : (asked reserved short put : ℕ) → asked ≤ 20_000_000 → put ≡ reserved → short + reserved ≡ asked → capped asked - capped put ≡ short
+      told : (asked reserved short put : ℕ) → asked ≤ ORDER_LINES_MAX * QTY_MAX → put ≡ reserved → short + reserved ≡ asked → capped asked - capped put ≡ short
       told asked reserved short put little same split = omega (arith, little, same, split)
 
   pub urgent_text : reply_text (number_seen s) (Some (UnitsShort (short_with o (urgent_put s o)))) ≡ reply first act acts

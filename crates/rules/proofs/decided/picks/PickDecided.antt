@@ -27,7 +27,7 @@ use Rattle.machine.proofs.histories.Accepted.{pick_accepted}
 use Rattle.machine.proofs.histories.Cells.{Legal}
 use Rattle.machine.proofs.histories.LegalHistories.{legal_history}
 use Rattle.machine.proofs.histories.Picks.{pick_disturbs_none}
-use Rattle.rules.proofs.rows.LotTold.{in_bin_told}
+use Rattle.rules.proofs.rows.LotTold.{own_in_bin_told}
 use Rattle.rules.proofs.rows.StageTold.{on_stage_told, found_reserved, reserved_told}
 use Rattle.rules.proofs.rows.StageUnits.{stage_within_limit}
 use Rattle.rules.proofs.rows.StockChanged.{taken_out, taken_elsewhere}
@@ -69,7 +69,7 @@ module _ (first : ℤ) (acts : List Act) (key : Key) (p : Picking) (s : Slice) (
     shipped = refl;
     reply = refl;
     touches = λ g. refl;
-    planned = refl;
+    names_order = λ o. refl;
     names_bin = λ b. refl;
     names_lot = λ l. refl;
   }
@@ -89,15 +89,18 @@ module _ (first : ℤ) (acts : List Act) (key : Key) (p : Picking) (s : Slice) (
   own : same_text p.order p.order && is_lot p.lot p.lot ≡ true
   own = λ i. same_text_refl p.order i && is_lot_refl p.lot i
 
+  in_bin_named : is_lot p.lot p.lot && same_text p.bin p.bin ≡ true
+  in_bin_named = λ i. is_lot_refl p.lot i && same_text_refl p.bin i
+
   in_bin_after : in_bin first after p.bin p.lot ≡ in_bin_seen s p.bin p.lot - p.qty
   in_bin_after =
       taken_out first acts after (next_number acts) p.lot p.bin p.qty legal (Stage p.order) refl (λ c. refl) there
-      ∙ ap (λ n. n - p.qty) (sym (in_bin_told first acts act s slice refl p.bin p.lot touched))
+      ∙ ap (λ n. n - p.qty) (sym (own_in_bin_told first acts act s slice p.bin p.lot touched in_bin_named))
 
   on_stage_after : staged_of_lot first after p.order p.lot ≡ capped (on_stage_seen s p.order p.lot + p.qty)
   on_stage_after =
       let e = staged_here first acts after (next_number acts) p.order p.lot p.qty legal (InBin p.bin) refl (λ c. refl) there in
-      omega (arith, e, on_stage_told first acts act s slice p.order p.lot touched, stage_within_limit first acts next.0 p.order p.lot, small)
+      omega (arith, e, on_stage_told first acts act s slice p.order p.lot touched own, stage_within_limit first acts next.0 p.order p.lot, small)
 
   left : IsLeft first acts act p (in_bin_seen s p.bin p.lot - p.qty) (capped (on_stage_seen s p.order p.lot + p.qty))
   left = record {

@@ -22,7 +22,7 @@ use Rattle.rules.proofs.decided.Decisions.{day_seen}
 use Rattle.rules.proofs.rows.DaysAsked.{days_told}
 use Rattle.rules.proofs.rows.SliceTells.{item_told, bin_told, recall_told}
 use Rattle.rules.proofs.rows.OrderTold.{order_told, open_told, line_told}
-use Rattle.rules.proofs.rows.LotTold.{lot_known_told, in_bin_told}
+use Rattle.rules.proofs.rows.LotTold.{lot_known_told, own_in_bin_told}
 use Rattle.rules.proofs.rows.LotStateTold.{past_told, below_told, held_told, store_told}
 use Rattle.rules.proofs.rows.StageTold.{reserved_told}
 
@@ -42,6 +42,9 @@ module _ (first : ℤ) (acts : List Act) (key : Key) (p : Picking) (s : Slice) (
   in_bin : same_text p.bin p.bin ≡ true
   in_bin = same_text_refl p.bin
 
+  in_bin_named : is_lot p.lot p.lot && same_text p.bin p.bin ≡ true
+  in_bin_named = λ i. is_lot_refl p.lot i && in_bin i
+
   past : is_past_row (lot_seen s p.lot) s.meta.day ≡ is_past (lot_known acts p.lot) (today first acts)
   past = past_told first acts act s slice refl p.lot s.meta.day (is_lot_refl p.lot) ∙ ap (is_past (lot_known acts p.lot)) (day_seen first acts act s slice)
 
@@ -57,12 +60,12 @@ module _ (first : ℤ) (acts : List Act) (key : Key) (p : Picking) (s : Slice) (
       ∷ (not (bin_told first acts act s slice refl p.bin in_bin i), UnknownBin)
       ∷ (not (lot_known_told first acts act s slice refl p.lot (is_lot_refl p.lot) i), UnknownLot)
       ∷ (not (order_told first acts act s slice p.order named i), UnknownOrder)
-      ∷ (not (line_told first acts act s slice p.order named p.lot.gtin i), NoSuchLine)
-      ∷ (recall_told first acts act s slice refl p.lot touched i, LotRecalled)
+      ∷ (not (line_told first acts act s slice p.order named p.lot.gtin touched i), NoSuchLine)
+      ∷ (recall_told first acts act s slice refl p.lot touched (is_lot_refl p.lot) i, LotRecalled)
       ∷ (past i, LotExpired)
       ∷ (below i, TooFewDays)
       ∷ (held_told first acts act s slice refl history p.lot (is_lot_refl p.lot) i, LotHeld)
       ∷ (not (store_told first acts act s slice refl p.bin in_bin i), NotStoreBin)
       ∷ (not (open_told first acts act s slice p.order named i), OrderClosed)
-      ∷ (nat_lt (in_bin_told first acts act s slice refl p.bin p.lot touched i) p.qty, NotInBin)
+      ∷ (nat_lt (own_in_bin_told first acts act s slice p.bin p.lot touched in_bin_named i) p.qty, NotInBin)
       ∷ (nat_lt (reserved_told first acts act s slice p.order p.lot own i) p.qty, OverReserved) ∷ [])

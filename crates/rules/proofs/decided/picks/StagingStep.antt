@@ -1,7 +1,7 @@
 -- An act that brings units of a lot from a bin onto the stage of an order, or back: the change takes the tables to those with
 -- the act, if its reserved rows do.
-use Rattle.std.proofs.Common.{◌≡◌, ℕ, true, false, ◌&&◌, List, [], ◌∷◌, ◌++◌, refl, ap, sym, ◌∙◌}
-use Rattle.std.specs.Prelude.{◌==◌, if◌then◌else◌, ℤ, Some, find, filter, option_map, flat_map}
+use Rattle.std.proofs.Common.{◌≡◌, ℕ, true, false, ◌&&◌, not, List, [], ◌∷◌, ◌++◌, refl, ap, sym, ◌∙◌}
+use Rattle.std.specs.Prelude.{◌||◌, ◌==◌, if◌then◌else◌, ℤ, Some, find, filter, option_map, flat_map}
 use Rattle.std.specs.List.{list_any, list_all}
 use Rattle.values.specs.Values.{same_text}
 use Rattle.values.specs.declared.lot.LotId.{LotId}
@@ -19,14 +19,15 @@ use Rattle.machine.specs.Replies.{further_field}
 use Rattle.machine.specs.Tables.{tables_of, meta_row, if_any, if_urgent, item_row, least_row, bin_row, lot_row, recall_row, stock_row, order_row, line_row, staged_row, shipment_row, shipline_row, card_row}
 use Rattle.machine.specs.Touched.{is_touched}
 use Rattle.machine.specs.KeyedRows.{same_cell, same_share}
-use Rattle.rules.specs.Slices.{IsSlice, applied, tables_but_repeats, changed, plans, names_bin, names_lot}
+use Rattle.rules.specs.Slices.{IsSlice, applied, tables_but_repeats, changed, picks, names_order, names_bin, names_lot}
 use Rattle.row_rules.specs.SeenLots.{stock_put, stock_gone}
 use Rattle.row_rules.specs.SeenStages.{staged_put, staged_gone}
 use Rattle.order_rules.specs.DecidedPick.{changes_with}
 use Rattle.row_rules.specs.declared.slice.Slice.{Slice}
+use Rattle.machine.proofs.Tests.{or_later, same_text_refl, is_lot_refl}
 use Rattle.machine.proofs.histories.Balances.{balance-elsewhere, balance-elsewhere_of}
 use Rattle.rules.proofs.rows.TableSteps.{AreNamed, same_tables, reserved_changed}
-use Rattle.rules.proofs.rows.LotTold.{found_stock}
+use Rattle.rules.proofs.rows.LotTold.{found_own_stock}
 use Rattle.rules.proofs.rows.StageTold.{found_staged}
 use Rattle.rules.proofs.rows.StockChanged.{cell_changed, stock_row_with}
 use Rattle.rules.proofs.rows.StagedChanged.{share_changed, staged_row_with}
@@ -56,7 +57,7 @@ module _ (first : ℤ) (acts : List Act) (act : Act) (p : Picking) where
     pub shipped : shipments_so_far first after ≡ shipments_so_far first acts
     pub reply : further_field first act acts act.command ≡ []
     pub touches : (g : List ℕ) → is_touched first act acts g ≡ of_item g p.lot
-    pub planned : plans act.command ≡ true
+    pub names_order : (o : List ℕ) → names_order act.command o ≡ same_text o p.order
     pub names_bin : (b : List ℕ) → names_bin act.command b ≡ same_text b p.bin
     pub names_lot : (l : LotId) → names_lot act.command l ≡ is_lot l p.lot
 
@@ -116,14 +117,21 @@ module _ (first : ℤ) (acts : List Act) (act : Act) (p : Picking) where
     card_at l n = ap (find (λ c. is_lot l c.lot && (n == c.act))) cards_same
 
     module _ (s : Slice) (slice : IsSlice first act acts (tables_of first acts) s) (stock staged : ℕ) (left : IsLeft stock staged) (touched : is_touched first act acts p.lot.gtin ≡ true) where
+      -- it names the lot, the bin and the order
+      own_bin : names_lot act.command p.lot && names_bin act.command p.bin ≡ true
+      own_bin = λ i. (staging.names_lot p.lot ∙ is_lot_refl p.lot) i && (staging.names_bin p.bin ∙ same_text_refl p.bin) i
+
+      own_share : not (picks act.command) || (names_order act.command p.order && names_lot act.command p.lot) ≡ true
+      own_share = or_later (not (picks act.command)) _ (λ i. (staging.names_order p.order ∙ same_text_refl p.order) i && (staging.names_lot p.lot ∙ is_lot_refl p.lot) i)
+
       stock_at : (l : LotId) (b : List ℕ) → changed (λ r. is_lot l r.lot && same_text b r.bin) (stock_put p.lot p.bin stock) (stock_gone s.rows.stock p.lot p.bin stock) (stock_row first acts l b) ≡ stock_row first after l b
       stock_at l b =
-          cell_changed p.lot p.bin stock (λ k. stock_row first acts k.0 k.1) (in_bin first acts p.bin p.lot) s.rows.stock (found_stock first acts act s slice staging.planned p.lot p.bin touched) refl (l, b)
+          cell_changed p.lot p.bin stock (λ k. stock_row first acts k.0 k.1) (in_bin first acts p.bin p.lot) s.rows.stock (found_own_stock first acts act s slice p.lot p.bin touched own_bin) refl (l, b)
           ∙ stock_row_with first acts after p.lot p.bin stock left.here left.elsewhere (l, b)
 
       staged_at : (o : List ℕ) (l : LotId) → changed (λ r. same_text o r.order && is_lot l r.lot) (staged_put p.order p.lot staged) (staged_gone s.rows.staged p.order p.lot staged) (staged_row first acts o l) ≡ staged_row first after o l
       staged_at o l =
-          share_changed p.order p.lot staged (λ k. staged_row first acts k.0 k.1) (staged_of_lot first acts p.order p.lot) s.rows.staged (found_staged first acts act s slice p.order p.lot touched) refl (o, l)
+          share_changed p.order p.lot staged (λ k. staged_row first acts k.0 k.1) (staged_of_lot first acts p.order p.lot) s.rows.staged (found_staged first acts act s slice p.order p.lot touched own_share) refl (o, l)
           ∙ staged_row_with first acts after p.order p.lot staged left.on_stage left.on_others (o, l)
 
       pub staging_step : (put dropped : List ReservedRow) → (changes_with s p stock staged put dropped).meta ≡ meta_row first after → AreNamed first act acts put dropped

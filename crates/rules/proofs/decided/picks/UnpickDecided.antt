@@ -64,7 +64,7 @@ module _ (first : ℤ) (acts : List Act) (key : Key) (p : Picking) (s : Slice) (
     shipped = refl;
     reply = refl;
     touches = λ g. refl;
-    planned = refl;
+    names_order = λ o. refl;
     names_bin = λ b. refl;
     names_lot = λ l. refl;
   }
@@ -89,7 +89,7 @@ module _ (first : ℤ) (acts : List Act) (key : Key) (p : Picking) (s : Slice) (
   on_stage_after : staged_of_lot first after p.order p.lot ≡ on_stage_seen s p.order p.lot - p.qty
   on_stage_after =
       unstaged_here first acts after (next_number acts) p.order p.lot p.qty legal (InBin p.bin) refl (λ c. refl) there
-      ∙ ap (λ n. n - p.qty) (sym (on_stage_told first acts act s slice p.order p.lot touched))
+      ∙ ap (λ n. n - p.qty) (sym (on_stage_told first acts act s slice p.order p.lot touched refl))
 
   left : IsLeft first acts act p (capped (in_bin_seen s p.bin p.lot + p.qty)) (on_stage_seen s p.order p.lot - p.qty)
   left = record {
@@ -109,8 +109,8 @@ module _ (first : ℤ) (acts : List Act) (key : Key) (p : Picking) (s : Slice) (
   unpick_changed =
       staging_changed first acts act p (Stage p.order) (InBin p.bin) staging s slice next in_bin_left staged_left left
       (replanned_with s p in_bin_left staged_left).put (replanned_with s p in_bin_left staged_left).dropped
-      (replanned_named first acts act p (Stage p.order) (InBin p.bin) staging s slice next in_bin_left staged_left left)
-      (replanned_put_once first acts act p (Stage p.order) (InBin p.bin) staging s slice next in_bin_left staged_left left)
+      (replanned_named first acts act p (Stage p.order) (InBin p.bin) staging s slice next in_bin_left staged_left left refl)
+      (replanned_put_once first acts act p (Stage p.order) (InBin p.bin) staging s slice next in_bin_left staged_left left refl)
 
 pub unpicks_right : (key : Key) (s : Slice) (result : Result Change RuleFault) (p : Picking) → AreRight key s result (Unpick p) (unpick_seen s p) (unpick_changes s p)
 unpicks_right key s result p first acts history slice = record { judged = unpick_judged first acts key p s slice; changed = λ ok next. unpick_changed first acts key p s slice next }

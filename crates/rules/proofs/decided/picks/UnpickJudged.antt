@@ -38,6 +38,6 @@ module _ (first : ℤ) (acts : List Act) (key : Key) (p : Picking) (s : Slice) (
       ∷ (not (bin_told first acts act s slice refl p.bin in_bin i), UnknownBin)
       ∷ (not (lot_known_told first acts act s slice refl p.lot (is_lot_refl p.lot) i), UnknownLot)
       ∷ (not (order_told first acts act s slice p.order named i), UnknownOrder)
-      ∷ (not (line_told first acts act s slice p.order named p.lot.gtin i), NoSuchLine)
+      ∷ (not (line_told first acts act s slice p.order named p.lot.gtin refl i), NoSuchLine)
       ∷ (not (open_told first acts act s slice p.order named i), OrderClosed)
-      ∷ (nat_lt (on_stage_told first acts act s slice p.order p.lot touched i) p.qty, OverStaged) ∷ [])
+      ∷ (nat_lt (on_stage_told first acts act s slice p.order p.lot touched refl i) p.qty, OverStaged) ∷ [])

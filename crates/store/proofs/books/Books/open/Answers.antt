@@ -3,15 +3,14 @@ use Rattle.std.specs.Prelude.{ℤ}
 use Rattle.sqlite.specs.Held.{state}
 use Rattle.sqlite.specs.State.{HasCleanDisk}
 use Rattle.sqlite.specs.Tree.{Trees}
-use Rattle.tables.specs.Opening.{number_of, AreReadTyped}
-use Rattle.tables.specs.Settling.{HasDayAt}
+use Rattle.tables.specs.Opening.{HasDayIn, AreReadTyped}
 use Rattle.tables.specs.declared.opening.Found.{Found}
 use Rattle.tables.specs.declared.opening.Found.TheVariants.{Newest}
 use Rattle.machine.specs.Standing.{today}
 use Rattle.store.specs.Opening.{AreRowsAt}
 use Rattle.store.proofs.ActsWhole.{kept_acts}
 use Rattle.store.proofs.BooksWhole.{known_unread, settled_reopened}
-use Rattle.store.proofs.OpenedBooks.{reopened, reopened_as_found, keeps_found, tables_opened, has_day, read_typed, one_day, same_found, one_found, foreign_if, store_else, either_told, left_over}
+use Rattle.store.proofs.OpenedBooks.{reopened, reopened_as_found, keeps_found, tables_opened, has_day, read_typed, same_found, one_found, foreign_if, store_else, either_told, left_over}
 use Rattle.store.proofs.books.Books.open.Goals as goal
 
 pub returns-in-Ok-settled-clause-books : goal.returns-in-Ok-settled-clause-books
@@ -28,7 +27,7 @@ returns-in-Ok-settled-clause-day g c clean =
     record {
       found = c.in-Ok.opened.1;
       schema = was.found;
-      has = subst (λ (t : Trees). HasDayAt (number_of c.in-Ok.opened.1) t c.in-Ok-settled.day) (was.same before) (c.in-Ok-settled.ensures.day clean (was.ready before));
+      has = subst (λ (t : Trees). HasDayIn c.in-Ok.opened.1 t c.in-Ok-settled.day) (was.same before) (c.in-Ok-settled.ensures.day clean (was.ready before));
     }
 
 pub returns-in-Ok-settled-clause-today : goal.returns-in-Ok-settled-clause-today
@@ -38,9 +37,8 @@ returns-in-Ok-settled-clause-today g c clean first acts history (at, rows) =
     let before : HasCleanDisk (state g.S.Store c.in-Ok.opened.0) = omega (arith, clean, c.settled.ensures.survives.clean) in
     let trees = (state g.S.Store c.args.conn).committed.trees in
     let day = c.in-Ok-settled.day in
-    let has : HasDayAt (number_of found) trees day = subst (λ (t : Trees). HasDayAt (number_of found) t day) (was.same before) (c.in-Ok-settled.ensures.day clean (was.ready before)) in
-    let same : at ≡ found = same_found at found trees first acts day rows has in
-    one_day (number_of found) trees day (today first acts) has (has_day found trees first acts (subst (λ (f : Found). AreRowsAt f first acts trees) same rows))
+    let has : HasDayIn found trees day = subst (λ (t : Trees). HasDayIn found t day) (was.same before) (c.in-Ok-settled.ensures.day clean (was.ready before)) in
+    (same_found at found trees first acts day rows has).1
 
 pub returns-in-Err-settled-clause-foreign : goal.returns-in-Err-settled-clause-foreign
 returns-in-Err-settled-clause-foreign g c clean foreign =
@@ -51,7 +49,7 @@ returns-in-Err-settled-clause-foreign g c clean foreign =
     inr (record {
       found = found;
       schema = was.found;
-      foreign = subst (λ (t : Trees). (day : ℤ) → HasDayAt (number_of found) t day → ¬ AreReadTyped found t) (was.same before) (c.in-Err-settled.ensures.foreign clean (was.ready before) fault);
+      foreign = subst (λ (t : Trees). (day : ℤ) → HasDayIn found t day → ¬ AreReadTyped found t) (was.same before) (c.in-Err-settled.ensures.foreign clean (was.ready before) fault);
     })
 
 pub returns-in-Err-settled-clause-known : goal.returns-in-Err-settled-clause-known
@@ -73,7 +71,7 @@ returns-in-Err-settled-clause-again g c clean opens live first acts history book
     let schema = (state g.S.Store c.args.conn).now.schema in
     let same : Newest ≡ found = one_found Newest found schema (tables_opened (state g.S.Store c.args.conn) opens live books.schema) was.found in
     let own : AreRowsAt found first acts (state g.S.Store c.in-Ok.opened.0).now.trees =
-    subst (λ (t : Trees). AreRowsAt found first acts t) (sym (was.same before)) (subst (λ (f : Found). AreRowsAt f first acts (state g.S.Store c.args.conn).committed.trees) same books.rows) in
+    subst (λ (t : Trees). AreRowsAt found first acts t) (sym (was.same before)) (subst (λ (f : Found). AreRowsAt f first acts (state g.S.Store c.args.conn).committed.trees) same (inl books.rows)) in
     c.from-in-Err-settled.ensures ∙ store_else c.in-Err-settled.fault
     (λ is. c.in-Err-settled.ensures.foreign clean (was.ready before) is (today first acts) (has_day found (state g.S.Store c.in-Ok.opened.0).now.trees first acts own) (read_typed found (state g.S.Store c.in-Ok.opened.0).now.trees first acts own))
 

@@ -1,0 +1,42 @@
+//! Items, each once, however many rows are of them.
+
+use crate::key_list::{Has, KeyList, KeyOf};
+use commands::{LineRow, OrderLine};
+use row_rules::text_key::TextKey;
+use values::Gtin;
+
+/// The items of rows.
+pub type ItemList = KeyList<Gtin, TextKey>;
+
+impl KeyOf<Gtin> for TextKey {
+    ghost use Rattle.std.specs.Prelude.{reverse};
+    ghost use Rattle.values.specs.Values.{same_text};
+    ghost use Rattle.slice_parts.specs.NameOrder.{names_told};
+
+    ghost same = { same_text };
+
+    ghost key = { reverse };
+
+    ghost told = { names_told };
+
+    fn of(gtin: &Gtin) -> Self {
+        TextKey::of_gtin(gtin)
+    }
+}
+
+impl Has<Gtin> for OrderLine {
+    ghost of_row = { λ l. l.gtin };
+
+    fn value(&self) -> Gtin {
+        self.gtin
+    }
+}
+
+// the item of a line
+impl Has<Gtin> for LineRow {
+    ghost of_row = { λ r. r.gtin };
+
+    fn value(&self) -> Gtin {
+        self.gtin
+    }
+}

@@ -1,0 +1,102 @@
+//! The rows that a pick is decided by.
+
+ghost use Rattle.std.specs.Prelude.{◌≡◌};
+ghost use Rattle.sqlite.specs.Held.{state};
+ghost use Rattle.slices.specs.Reading.{IsRead};
+ghost use Rattle.slices.specs.Slicing.{AreGoodsIn, AreOrderOf, AreSharesOf, ArePicked};
+
+use crate::rows_read::{Goods, Ordered, Shares, rows_read};
+use crate::sought::read_rows;
+use commands::Picking;
+use goods_tables::bins::Bins;
+use goods_tables::items::Items;
+use goods_tables::least::Least;
+use goods_tables::lots::Lots;
+use goods_tables::recalls::Recalls;
+use goods_tables::stock::Stock;
+use order_tables::lines::Lines;
+use order_tables::orders::Orders;
+use order_tables::reserved::Reserved;
+use order_tables::staged::Staged;
+use rules::Rows;
+use sqlite::{Alter, Transaction};
+use std::alloc::Global;
+use table_words::error::TableFault;
+use values::{Gtin, LotId, Name};
+
+/// The item of the lot with the days that it asks for and its recalls, the lot with its stock, and the bin.
+fn read_goods<S: Alter>(
+    alloc: Global,
+    tx: &mut Transaction<'_, S>,
+    lot: &LotId,
+    bin: &Name,
+) -> Result<Goods, TableFault>
+    ensures same_reference { tx.new.conn.ghost_name ≡ tx.old.conn.ghost_name }
+    ensures read { IsRead (λ t goods. AreGoodsIn lot.now bin.now t goods.items.items goods.least.items goods.bins.items goods.lots.items goods.recalls.items goods.stock.items) (state S.Store tx.old.conn.now) (state S.Store tx.new.conn.now) result }
+{
+    let items = read_rows::<Items, Gtin, S>(alloc, tx, &lot.gtin)?;
+    let least = read_rows::<Least, Gtin, S>(alloc, tx, &lot.gtin)?;
+    let lots = read_rows::<Lots, LotId, S>(alloc, tx, lot)?;
+    let recalls = read_rows::<Recalls, Gtin, S>(alloc, tx, &lot.gtin)?;
+    let stock = read_rows::<Stock, LotId, S>(alloc, tx, lot)?;
+    let bins = read_rows::<Bins, Name, S>(alloc, tx, bin)?;
+    Ok(Goods {
+        items,
+        least,
+        bins,
+        lots,
+        recalls,
+        stock,
+    })
+}
+
+/// The order, and its line of the item. Whether it is urgent is not asked.
+fn read_order<S: Alter>(
+    alloc: Global,
+    tx: &mut Transaction<'_, S>,
+    order: &Name,
+    gtin: &Gtin,
+) -> Result<Ordered, TableFault>
+    ensures same_reference { tx.new.conn.ghost_name ≡ tx.old.conn.ghost_name }
+    ensures read { IsRead (λ t ordered. AreOrderOf order.now gtin.now t ordered.orders.items ordered.urgents.items ordered.lines.items) (state S.Store tx.old.conn.now) (state S.Store tx.new.conn.now) result }
+{
+    let orders = read_rows::<Orders, Name, S>(alloc, tx, order)?;
+    let lines = read_rows::<Lines, (Name, Gtin), S>(alloc, tx, &(*order, *gtin))?;
+    Ok(Ordered {
+        orders,
+        urgents: Vec::new(alloc),
+        lines,
+    })
+}
+
+/// What is staged and what is reserved of the lot for the order.
+fn read_shares<S: Alter>(
+    alloc: Global,
+    tx: &mut Transaction<'_, S>,
+    order: &Name,
+    lot: &LotId,
+) -> Result<Shares, TableFault>
+    ensures same_reference { tx.new.conn.ghost_name ≡ tx.old.conn.ghost_name }
+    ensures read { IsRead (λ t shares. AreSharesOf order.now lot.now t shares.staged.items shares.reserved.items) (state S.Store tx.old.conn.now) (state S.Store tx.new.conn.now) result }
+{
+    let key = (*order, *lot);
+    let staged = read_rows::<Staged, (Name, LotId), S>(alloc, tx, &key)?;
+    let reserved = read_rows::<Reserved, (Name, LotId), S>(alloc, tx, &key)?;
+    Ok(Shares { staged, reserved })
+}
+
+/// What the pick names, each by its key. It takes units from its own reservation and changes no plan beside, so nothing
+/// is read of the item's other lots and open orders.
+pub fn read_pick<S: Alter>(
+    alloc: Global,
+    tx: &mut Transaction<'_, S>,
+    p: &Picking,
+) -> Result<Rows, TableFault>
+    ensures same_reference { tx.new.conn.ghost_name ≡ tx.old.conn.ghost_name }
+    ensures read { IsRead (λ t rows. ArePicked p.now t rows) (state S.Store tx.old.conn.now) (state S.Store tx.new.conn.now) result }
+{
+    let goods = read_goods(alloc, tx, &p.lot, &p.bin)?;
+    let ordered = read_order(alloc, tx, &p.order, &p.lot.gtin)?;
+    let shares = read_shares(alloc, tx, &p.order, &p.lot)?;
+    Ok(rows_read(goods, ordered, shares))
+}
