@@ -6,7 +6,7 @@ ghost use Rattle.books_file.specs.Lines.{IsLineDone, HasLineDone};
 
 use crate::first_page::lay_first_page;
 use command_line::{Fault, Work};
-use service::{FilesAt, worked};
+use service::{FilesAt, do_work};
 use sqlite::{Connection, FileFrom, Files, Start};
 use sqlite_disk::Disk;
 use std::fs::{self, File};
@@ -67,7 +67,7 @@ pub fn line_worked<S: Start, F: FilesAt, W: Write, L: Write>(
     ensures quiet { is_logged work.now ≡ false → log.new ≡ log.old }
 {
     match Connection::open_from(rt, db, false, start) {
-        Ok(conn) => match worked(rt, files, conn, work, out, log) {
+        Ok(conn) => match do_work(rt, files, conn, work, out, log) {
             Ok((conn, end)) => match conn.close_files() {
                 Ok(left) => Ok((left, end)),
                 Err((_, store)) => {

@@ -10,9 +10,9 @@ use Rattle.command_line.specs.Statuses.{IsStatusOf, IsOutputOf}
 use Rattle.command_line.specs.declared.fault.Fault.{Fault}
 use Rattle.command_line.specs.declared.fault.Fault.TheVariants.{Value, Io}
 use Rattle.command_line.specs.declared.running.Work.{Work}
-use Rattle.command_line.specs.declared.running.Work.TheVariants.{Make, Serve as ServeBooks, Import as ImportFile, Card as CardOf, Notice as NoticeOf}
+use Rattle.command_line.specs.declared.running.Work.TheVariants.{Make, Serve as ServeBooks, Import as ImportFile, Card as CardOf, Notice as NoticeOf, History as HistoryOf}
 use Rattle.command_line.specs.declared.words.Line.{Line}
-use Rattle.command_line.specs.declared.words.Line.TheVariants.{Label, Init, Serve, Import, Card, Notice, Unknown}
+use Rattle.command_line.specs.declared.words.Line.TheVariants.{Label, Init, Serve, Import, Card, Notice, History, Unknown}
 
 -- how the work with the books in this file may end
 abbrev pub Works : Type 1
@@ -46,6 +46,7 @@ IsEndOf works (Serve db port max log) old new end = works db.now (ServeBooks por
 IsEndOf works (Import db file) old new end = works db.now (ImportFile file) end
 IsEndOf works (Card db gtin lot) old new end = IsWithLot works db.now CardOf gtin.now lot.now end
 IsEndOf works (Notice db gtin lot) old new end = IsWithLot works db.now NoticeOf gtin.now lot.now end
+IsEndOf works (History db) old new end = works db.now HistoryOf end
 IsEndOf works (Label day text) old new end = IsLabelTold day.now text.now old new end
 IsEndOf works Unknown old new end = end ≡ Err Value
 

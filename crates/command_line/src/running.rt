@@ -43,6 +43,8 @@ pub enum Work<'a> {
     Card(LotId),
     /// Opens them and prints the recall notice of the lot.
     Notice(LotId),
+    /// Opens them and prints the acts, one a line.
+    History,
 }
 
 /// Where the books are that the lines speak of.
@@ -124,6 +126,7 @@ fn end_line<'a, B: BooksAt, W: Write, L: Write>(
         Line::Import { db, file } => books.work(db, &Work::Import { file }, out, log),
         Line::Card { db, gtin, lot } => print_card(books, db, gtin, lot, out, log),
         Line::Notice { db, gtin, lot } => print_notice(books, db, gtin, lot, out, log),
+        Line::History { db } => books.work(db, &Work::History, out, log),
         Line::Label { day, text } => print_label(day, text, out),
         Line::Unknown => Err(Fault::Value),
     }

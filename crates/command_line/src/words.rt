@@ -41,6 +41,10 @@ pub enum Line<'a> {
         gtin: &'a str,
         lot: &'a str,
     },
+    /// `lotd history --db PATH`: prints the acts, one a line.
+    History {
+        db: &'a str,
+    },
     /// No line that the program has. `clap` refuses such words before.
     Unknown,
 }
@@ -82,6 +86,7 @@ const AFTER_HELP: &str = "Examples:
   lotd import --db stock.db goods.csv
   lotd card --db stock.db 09506000134352 L2
   lotd notice --db stock.db 09506000134352 L2
+  lotd history --db stock.db
   lotd label --day 2026-05-04 ']C101095060001343521726093010AB12'
 
 Exit status: 0 where the line was done, 2 where the words are no line of the
@@ -100,7 +105,7 @@ While a server has the file open, no other line can. Ask the server:
   curl http://127.0.0.1:8080/notices/09506000134352/L2
   curl --data-binary @goods.csv http://127.0.0.1:8080/goodsin";
 
-static LINES: [Words; 6] = [
+static LINES: [Words; 7] = [
     Words {
         name: "init",
         about: "Make new books",
@@ -238,6 +243,21 @@ While a server has the file open, ask it:
         ],
     },
     Words {
+        name: "history",
+        about: "Print the acts, one a line: number, day, key, command",
+        examples: "Example:
+  lotd history --db stock.db
+
+The fields of a line are parted by tabs; of the command they are its word and its
+values, as OPENDAY and the day.",
+        values: &[Value {
+            id: "db",
+            stands_for: "PATH",
+            help: "The file of the books",
+            kind: Kind::Named,
+        }],
+    },
+    Words {
         name: "label",
         about: "Print the GTIN, the lot and the expiry day of a GS1 label",
         examples: "Examples:
@@ -281,6 +301,7 @@ fn line_found<'a>(matches: &ArgMatches<'a>) -> Line<'a> {
         Some(("import", found)) => import_line(found),
         Some(("card", found)) => card_line(found),
         Some(("notice", found)) => notice_line(found),
+        Some(("history", found)) => history_line(found),
         _ => Line::Unknown,
     }
 }
@@ -332,6 +353,13 @@ fn notice_line<'a>(found: &ArgMatches<'a>) -> Line<'a> {
     match (found.get_str("db"), gtin, lot) {
         (Some(db), Some(gtin), Some(lot)) => Line::Notice { db, gtin, lot },
         _ => Line::Unknown,
+    }
+}
+
+fn history_line<'a>(found: &ArgMatches<'a>) -> Line<'a> {
+    match found.get_str("db") {
+        Some(db) => Line::History { db },
+        None => Line::Unknown,
     }
 }
 

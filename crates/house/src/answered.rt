@@ -1,6 +1,6 @@
 //! The bytes of an answer.
 
-ghost use Rattle.std.specs.Prelude.{◌≡◌, Result};
+ghost use Rattle.std.specs.Prelude.{◌≡◌};
 ghost use Rattle.house.specs.Asking.{fault_shown};
 ghost use Rattle.house.specs.House.{bytes_of, IsLongIfOk};
 
@@ -33,7 +33,7 @@ impl Answered {
 }
 
 /// The answer to a query that is refused, or that failed.
-pub(crate) fn not_shown(fault: Fault) -> Answered
+pub(crate) fn answer_query_fault(fault: Fault) -> Answered
     ensures told { bytes_of result ≡ fault_shown fault }
     ensures in_place { IsLongIfOk result }
 {

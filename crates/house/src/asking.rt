@@ -31,17 +31,17 @@ fn is_served(key: &Key, command: &Command) -> bool
 }
 
 /// The answer that tells how an act went. It takes no memory.
-fn told(done: Result<Reply, Fault>) -> Block
+fn reply_block(done: Result<Reply, Fault>) -> Block
     ensures { result ≡ told_answer done }
 {
     match done {
         Ok(reply) => reply_answer(&reply.text),
-        Err(fault) => not_acted(fault),
+        Err(fault) => answer_act_fault(fault),
     }
 }
 
 /// The answer where an act was refused, or failed. It takes no memory.
-fn not_acted(fault: Fault) -> Block
+fn answer_act_fault(fault: Fault) -> Block
     ensures { result ≡ told_answer (Err fault) }
 {
     match fault {
@@ -63,7 +63,7 @@ pub(crate) fn act<S: Alter>(books: &mut Books<S>, key: &Key, command: &Command) 
     if !is_served(key, command) {
         return fault_answer(WireFault::Path);
     }
-    told(books.act(key, command))
+    reply_block(books.act(key, command))
 }
 
 /// Receives what a scanned label says. The label is read at the business day of the books.

@@ -32,24 +32,24 @@ pub(crate) fn take_in<S: Alter>(alloc: Global, books: &mut Books<S>, file: &[u8]
             let done = books.act_all(rows.as_slice());
             // A call: dropped at the end of its scope it is dropped field by field (docs/GATE.md).
             drop(rows);
-            told_file(done)
+            tally_block(done)
         }
-        Err(fault) => not_read(fault),
+        Err(fault) => answer_file_fault(fault),
     }
 }
 
 /// The answer that tells how the rows of a file went. It takes no memory.
-fn told_file(done: Result<Tally, RowFault>) -> Block
+fn tally_block(done: Result<Tally, RowFault>) -> Block
     ensures { result ≡ told_file_answer done }
 {
     match done {
         Ok(tally) => tally_answer(tally.accepted, tally.repeated),
-        Err(fault) => not_taken(fault),
+        Err(fault) => answer_row_fault(fault),
     }
 }
 
 /// The answer where a row of a file was refused, or the file failed. It takes no memory.
-fn not_taken(fault: RowFault) -> Block
+fn answer_row_fault(fault: RowFault) -> Block
     ensures { result ≡ told_file_answer (Err fault) }
 {
     match fault {
@@ -60,7 +60,7 @@ fn not_taken(fault: RowFault) -> Block
 }
 
 /// The answer to a file that does not read as one. It takes no memory.
-fn not_read(fault: FileFault) -> Block
+fn answer_file_fault(fault: FileFault) -> Block
     ensures { result ≡ file_fault_answer fault }
 {
     match fault {

@@ -74,7 +74,7 @@ fn put_card_rest<S: Alter, W: Write>(
     let (mut out, lined) = put_card_lines(books, lot, text, out);
     match lined {
         Ok(text) => {
-            let end = stopped(text.end(&mut out));
+            let end = text_end(text.end(&mut out));
             (out, end)
         }
         Err(fault) => (out, Err(fault)),
@@ -178,7 +178,7 @@ fn put_notice_tail<S: Alter, W: Write>(
     let (mut out, lined) = put_shipments(books, lot, text, out);
     match lined {
         Ok(text) => {
-            let end = stopped(text.end(&mut out));
+            let end = text_end(text.end(&mut out));
             (out, end)
         }
         Err(fault) => (out, Err(fault)),
@@ -230,7 +230,7 @@ fn put_shipments<S: Alter, W: Write>(
 }
 
 /// A writer that failed takes no more.
-fn stopped(end: Result<(), TextFault>) -> Result<(), EachFault>
+fn text_end(end: Result<(), TextFault>) -> Result<(), EachFault>
     ensures { result ≡ stopped_at end }
 {
     match end {

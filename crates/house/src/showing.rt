@@ -13,7 +13,7 @@ ghost use Rattle.house.specs.House.{bytes_of, IsLongIfOk};
 ghost use Rattle.house.specs.LotTexts.{text_answer};
 
 use crate::Answered;
-use crate::answered::not_shown;
+use crate::answered::answer_query_fault;
 use crate::lot_texts::{write_card, write_notice};
 use commands::{Listed, OrderView, ShortView};
 use requests::WireFault;
@@ -34,8 +34,8 @@ pub(crate) fn show_order<S: Alter>(alloc: Global, books: &mut Books<S>, order: &
     ensures in_place { IsLongIfOk result }
 {
     match books.order_rows(order) {
-        Ok(view) => told(alloc, Ok(Answer::Order(view))),
-        Err(fault) => told(alloc, Err(fault)),
+        Ok(view) => answer_shown(alloc, Ok(Answer::Order(view))),
+        Err(fault) => answer_shown(alloc, Err(fault)),
     }
 }
 
@@ -48,8 +48,8 @@ pub(crate) fn show_stock<S: Alter>(alloc: Global, books: &mut Books<S>, gtin: &G
     ensures in_place { IsLongIfOk result }
 {
     match books.stock(gtin) {
-        Ok(view) => told(alloc, Ok(Answer::Stock(view))),
-        Err(fault) => told(alloc, Err(fault)),
+        Ok(view) => answer_shown(alloc, Ok(Answer::Stock(view))),
+        Err(fault) => answer_shown(alloc, Err(fault)),
     }
 }
 
@@ -66,8 +66,8 @@ pub(crate) fn show_pick_list<S: Alter>(
     ensures in_place { IsLongIfOk result }
 {
     match books.order_rows(order) {
-        Ok(view) => told(alloc, pick_list_of(alloc, view)),
-        Err(fault) => told(alloc, Err(fault)),
+        Ok(view) => answer_shown(alloc, pick_list_of(alloc, view)),
+        Err(fault) => answer_shown(alloc, Err(fault)),
     }
 }
 
@@ -80,8 +80,8 @@ pub(crate) fn show_shortages<S: Alter>(alloc: Global, books: &mut Books<S>, gtin
     ensures in_place { IsLongIfOk result }
 {
     match books.short_rows(gtin) {
-        Ok(view) => told(alloc, shortages_of(alloc, view)),
-        Err(fault) => told(alloc, Err(fault)),
+        Ok(view) => answer_shown(alloc, shortages_of(alloc, view)),
+        Err(fault) => answer_shown(alloc, Err(fault)),
     }
 }
 
@@ -94,7 +94,7 @@ pub(crate) fn show_card<S: Alter>(alloc: Global, books: &mut Books<S>, lot: &Lot
     ensures in_place { IsLongIfOk result }
 {
     let (text, end) = write_card(books, lot, Vec::new(alloc));
-    told(alloc, text_of(text, end))
+    answer_shown(alloc, text_of(text, end))
 }
 
 /// Shows the recall notice of a lot.
@@ -106,7 +106,7 @@ pub(crate) fn show_notice<S: Alter>(alloc: Global, books: &mut Books<S>, lot: &L
     ensures in_place { IsLongIfOk result }
 {
     let (text, end) = write_notice(books, lot, Vec::new(alloc));
-    told(alloc, text_of(text, end))
+    answer_shown(alloc, text_of(text, end))
 }
 
 /// The text that was written, where that is the whole.
@@ -143,17 +143,17 @@ fn shortages_of(alloc: Global, view: ShortView) -> Result<Answer, Fault>
 }
 
 /// The bytes of what is shown, where there is memory for them, or of why nothing is.
-fn told(alloc: Global, asked: Result<Answer, Fault>) -> Answered
+fn answer_shown(alloc: Global, asked: Result<Answer, Fault>) -> Answered
     ensures told { (bytes_of result ≡ asked_answer asked) ⊎ (bytes_of result ≡ no_memory) }
     ensures in_place { IsLongIfOk result }
 {
     match asked {
-        Ok(answer) => bytes_told(alloc, answer),
-        Err(fault) => not_shown(fault),
+        Ok(answer) => answer_in_bytes(alloc, answer),
+        Err(fault) => answer_query_fault(fault),
     }
 }
 
-fn bytes_told(alloc: Global, answer: Answer) -> Answered
+fn answer_in_bytes(alloc: Global, answer: Answer) -> Answered
     ensures told { (bytes_of result ≡ answer_bytes answer) ⊎ (bytes_of result ≡ no_memory) }
     ensures in_place { IsLongIfOk result }
 {

@@ -2,7 +2,6 @@
 use Rattle.std.proofs.Common.{◌≡◌, ◌≢◌, ℕ, List, Ok, Err, Result, Option, Some, None, refl, sym, ap, subst, ◌∙◌, inl, inr}
 use Rattle.std.specs.Prelude.{ℤ, IfSome}
 use Rattle.std.specs.Result.{IsErr, IsErrAnd, OnOk}
-use Rattle.std.specs.Io.KnownBytes.{Appends}
 use Rattle.sqlite_trees.specs.declared.store.Store.{Ghosts}
 use Rattle.sqlite.specs.Held.{state}
 use Rattle.commands.specs.declared.key.Key.{Key}
@@ -10,19 +9,18 @@ use Rattle.commands.specs.declared.command.Command.{Command}
 use Rattle.machine.specs.Acts.{Act}
 use Rattle.machine.specs.Standing.{today}
 use Rattle.machine.specs.Once.{IsHistory, acts_after_file}
-use Rattle.goodsin.specs.Rows.{IsReceipt}
 use Rattle.goodsin.specs.Files.{file_read}
 use Rattle.goodsin.specs.declared.fault.FileFault.{FileFault}
 use Rattle.goodsin.specs.declared.fault.FileFault.TheVariants.{Reader, Memory}
 use Rattle.store.specs.Connected.{Connected}
-use Rattle.store.specs.Books.{HoldsBooks, LeavesOnly}
+use Rattle.store.specs.Books.{LeavesOnly}
 use Rattle.store.specs.Filing.{rows_of, IsFiled}
 use Rattle.store.specs.declared.tally.Tally.{Tally}
 use Rattle.store.specs.declared.tally.RowFault.{RowFault}
 use Rattle.store.specs.declared.tally.RowFault.TheVariants.{Refused, Store as StoreRow, Foreign as ForeignRow}
 use Rattle.command_line.specs.declared.fault.Fault.{Fault}
 use Rattle.command_line.specs.declared.fault.Fault.TheVariants.{Usage, Label, File, Row, Refused as RefusedText, Value, Io, Store, Foreign}
-use Rattle.service.specs.Importing.{HasRows, KeepsFile, IsToldOfFile, AreRead, HasFault, IsTakenIn, IsImported, IsFileImported, tally_line}
+use Rattle.service.specs.Importing.{HasRows, KeepsFile, IsToldOfFile, AreRead, HasFault, IsTakenIn, IsImported, IsFileImported}
 
 pub by_fault : {X : Type 0} (r : Result X Fault) (f : Fault) → IsErr r × IsErrAnd r (λ e. e ≡ f) → (P : Result X Fault → Type 0) → P (Err f) → P r
 by_fault (Ok x) f h P p = absurd (let no = h.0 in cc)

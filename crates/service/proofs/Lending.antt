@@ -1,5 +1,5 @@
 -- What a writer that was lent holds once it is back. `same`: the reference that came back, if it is the one that was lent, leaves what it holds.
-use Rattle.std.proofs.Common.{◌≡◌, ℕ, List, ◌∷◌, ◌++◌, Option, Some, None, sym, subst}
+use Rattle.std.proofs.Common.{◌≡◌, ℕ, List, ◌++◌, Option, Some, None, sym, subst}
 use Rattle.std.specs.Io.KnownBytes.{Appends}
 use Rattle.texts.specs.Writing.{AppendsBeginning}
 use Rattle.service.specs.Lending.{behind}

@@ -2,3 +2,4 @@ pub mod Serving
 pub mod Importing
 pub mod Lending
 pub mod Printing
+pub mod ActsPrinted

@@ -1,5 +1,5 @@
 -- Books that go on by steps.
-use Rattle.std.proofs.Common.{◌≡◌, ◌≢◌, ap, true, Bool, ℕ, ◌+◌, List, [], ◌∷◌, ◌++◌, length-append, refl, subst, sym, inl, inr, Ok, Err, arith, rules}
+use Rattle.std.proofs.Common.{◌≡◌, ◌≢◌, true, Bool, ℕ, ◌+◌, List, [], ◌∷◌, ◌++◌, length-append, refl, subst, sym, inl, inr, Ok, Err, arith, rules}
 use Rattle.std.specs.Prelude.{ℤ, Option, Result}
 use Rattle.sqlite_trees.specs.declared.store.Store.{Ghosts}
 use Rattle.sqlite.specs.Held.{Held, state}
@@ -13,7 +13,7 @@ use Rattle.house.proofs.Running.{run_none, run_step}
 use Rattle.wire.specs.declared.serving.ServeFault.{ServeFault}
 use Rattle.wire.specs.declared.serving.ServeFault.TheVariants.{Read, Write}
 use Rattle.wire.specs.Logging.{IsLogged}
-use Rattle.service.specs.Serving.{AreLogged, AreLoggedIf, GoesOn, HasServed, HasLogged, KeepsRun, KeepsLogged}
+use Rattle.service.specs.Serving.{AreLogged, GoesOn, HasLogged, KeepsLogged}
 
 -- before the first text
 pub none_logged : {S : Type 0} (g : Ghosts S) (first : ℤ) (acts : List Act) (n : ℕ) (books : Connected S) (logged : Bool) (log : Option (List ℕ)) → IsHistory first acts → HoldsBooks g first acts books

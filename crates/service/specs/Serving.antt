@@ -15,8 +15,9 @@ use Rattle.house.specs.House.{Run, StepsTo, RunsTo, LeavesBooks}
 use Rattle.command_line.specs.declared.fault.Fault.{Fault}
 use Rattle.command_line.specs.declared.fault.Fault.TheVariants.{Io, Foreign}
 use Rattle.command_line.specs.declared.running.Work.{Work}
-use Rattle.command_line.specs.declared.running.Work.TheVariants.{Make, Serve, Import, Card, Notice}
+use Rattle.command_line.specs.declared.running.Work.TheVariants.{Make, Serve, Import, Card, Notice, History}
 use Rattle.service.specs.Importing.{KeepsFile, IsFileImported}
+use Rattle.histories.specs.Printed.{IsHistoryPrinted}
 use Rattle.service.specs.Printing.{LeavesSheet}
 use Rattle.service.specs.declared.books_lines.Sheet.TheVariants as sheet
 
@@ -70,6 +71,7 @@ is_logged (Serve port max log) = log
 is_logged (Import file) = false
 is_logged (Card lot) = false
 is_logged (Notice lot) = false
+is_logged History = false
 
 -- what the work makes of a connection, with what the log had and has
 abbrev pub IsWorked : {S : Type 0} → Ghosts S → Held S → Work → (log_old log_new : Option (List ℕ)) → Held S → Type 0
@@ -79,6 +81,7 @@ IsWorked g old (Serve port max log) log_old log_new new = (first : ℤ) (acts : 
 IsWorked g old (Import file) log_old log_new new = (first : ℤ) (acts : List Act) → IsHistory first acts → AreFoundRows first acts (state g old).committed.trees → KeepsFile g first acts new
 IsWorked g old (Card lot) log_old log_new new = (first : ℤ) (acts : List Act) → IsHistory first acts → AreFoundRows first acts (state g old).committed.trees → KeepsBooks first acts (state g new)
 IsWorked g old (Notice lot) log_old log_new new = (first : ℤ) (acts : List Act) → IsHistory first acts → AreFoundRows first acts (state g old).committed.trees → KeepsBooks first acts (state g new)
+IsWorked g old History log_old log_new new = (first : ℤ) (acts : List Act) → IsHistory first acts → AreFoundRows first acts (state g old).committed.trees → KeepsBooks first acts (state g new)
 
 -- when the work is refused, and as what
 abbrev pub IsJudged : {S A : Type 0} → Ghosts S → Held S → Work → Result A Fault → Type 0
@@ -87,6 +90,7 @@ IsJudged g old (Serve port max log) result = IsOfNone (state g old).now.schema �
 IsJudged g old (Import file) result = IsOfNone (state g old).now.schema → IsErr result
 IsJudged g old (Card lot) result = IsOfNone (state g old).now.schema → IsErr result
 IsJudged g old (Notice lot) result = IsOfNone (state g old).now.schema → IsErr result
+IsJudged g old History result = IsOfNone (state g old).now.schema → IsErr result
 
 -- what is printed once the port is listened on
 abbrev pub told_port : ℕ → List ℕ
@@ -108,3 +112,5 @@ IsTold g files conn (Card lot) old new end left = (first : ℤ) (acts : List Act
     → LeavesSheet g first acts sheet.Card lot old new end left
 IsTold g files conn (Notice lot) old new end left = (first : ℤ) (acts : List Act) → IsHistory first acts → AreFoundRows first acts (state g conn).committed.trees
     → LeavesSheet g first acts sheet.Notice lot old new end left
+IsTold g files conn History old new end left = (first : ℤ) (acts : List Act) → IsHistory first acts → AreFoundRows first acts (state g conn).committed.trees
+    → IsHistoryPrinted first acts old new end

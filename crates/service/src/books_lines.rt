@@ -14,6 +14,7 @@ ghost use Rattle.service.specs.Serving.{HasLogged, KeepsLogged, is_logged, IsWor
 ghost use Rattle.service.specs.Importing.{KeepsFile, IsFileImported};
 ghost use Rattle.service.specs.Printing.{IsSheetPrinted, LeavesSheet};
 
+use crate::acts_text::open_and_print_acts;
 use crate::goods_file::{FilesAt, import_file};
 use crate::lot_texts::{print_card, print_notice};
 use crate::serve::serve_logged_if;
@@ -28,25 +29,25 @@ use store::{Books, OpenFault};
 use values::LotId;
 
 /// A connection after the work over it, and how that work ended.
-pub type Worked<S> = (Connection<S>, Result<(), Fault>);
+pub type AfterWork<S> = (Connection<S>, Result<(), Fault>);
 
 /// Does the work with the books over this connection, and gives the connection back. What it prints goes to `out`, and the
 /// log of a server to `log`, where it keeps one. Books that were made are empty; books that were served are those of a run
 /// over at most as many texts as connections were to be answered, for each of which the log has a line, as far as it took
 /// them; books into which a file was imported are those after it, or as they were; books of which a text was printed are
-/// as they were. What was printed is the text that the machine shows of the lot or the tally of the file,
-/// and the work is refused exactly where the machine refuses. Books of schema 1 are brought up as they are opened. Where
+/// as they were. What was printed is the text that the machine shows of the lot, the acts or the tally of the file, and the
+/// work is refused exactly where the machine refuses. Books of schema 1 are brought up as they are opened. Where
 /// the books cannot be made or opened, nothing is printed, the connection is dropped and the error is `Foreign` for other
 /// tables and else `Store`, also for a connection within a transaction. A port that cannot be had, a file that cannot be
 /// opened and output that cannot be written are `Io` beside the connection.
-pub fn worked<S: Alter + Drop, F: FilesAt, W: Write, L: Write>(
+pub fn do_work<S: Alter + Drop, F: FilesAt, W: Write, L: Write>(
     rt: &HostRuntime,
     files: &F,
     conn: Connection<S>,
     work: &Work<'_>,
     out: &mut W,
     log: &mut L,
-) -> Result<Worked<S>, Fault>
+) -> Result<AfterWork<S>, Fault>
     ensures clean { IfOk result (λ w. HasCleanDisk (state S.Store w.0) → HasCleanDisk (state S.Store conn)) }
     ensures worked { IfOk result (λ w. HasCleanDisk (state S.Store w.0) → IsWorked S.Store conn work.now (L.contents log.old) (L.contents log.new) w.0) }
     ensures told { IfOk result (λ w. HasCleanDisk (state S.Store w.0) → IsTold S.Store (F.bytes files.now) conn work.now (W.contents out.old) (W.contents out.new) w.1 w.0) }
@@ -56,24 +57,25 @@ pub fn worked<S: Alter + Drop, F: FilesAt, W: Write, L: Write>(
     ensures fault { IfErr result (λ fault. (fault ≡ Fault.Store) ⊎ (fault ≡ Fault.Foreign)) }
 {
     match work {
-        Work::Make(day) => made(rt.alloc(), conn, *day),
+        Work::Make(day) => make_books(rt.alloc(), conn, *day),
         Work::Serve {
             port,
             max,
             log: logged,
-        } => served(rt, conn, *port, *max, *logged, out, log),
-        Work::Import { file } => imported(rt.alloc(), files, conn, *file, out),
-        Work::Card(lot) => printed(rt.alloc(), conn, Sheet::Card, lot, out),
-        Work::Notice(lot) => printed(rt.alloc(), conn, Sheet::Notice, lot, out),
+        } => open_and_serve(rt, conn, *port, *max, *logged, out, log),
+        Work::Import { file } => open_and_import(rt.alloc(), files, conn, *file, out),
+        Work::Card(lot) => open_and_print(rt.alloc(), conn, Sheet::Card, lot, out),
+        Work::Notice(lot) => open_and_print(rt.alloc(), conn, Sheet::Notice, lot, out),
+        Work::History => open_and_print_acts(rt.alloc(), conn, out),
     }
 }
 
 /// Makes the books.
-fn made<S: Alter + Drop>(
+fn make_books<S: Alter + Drop>(
     alloc: Global,
     conn: Connection<S>,
     day: BusinessDay,
-) -> Result<Worked<S>, Fault>
+) -> Result<AfterWork<S>, Fault>
     ensures clean { IfOk result (λ w. HasCleanDisk (state S.Store w.0) → HasCleanDisk (state S.Store conn)) }
     ensures made { IfOk result (λ w. HasCleanDisk (state S.Store w.0) → KeepsBooks day [] (state S.Store w.0) × IsTrue (state S.Store w.0).is_open) }
     ensures done { IfOk result (λ w. w.1 ≡ Ok tt) }
@@ -91,7 +93,7 @@ fn made<S: Alter + Drop>(
 }
 
 /// Opens the books, listens on the port and answers so many connections.
-fn served<S: Alter + Drop, W: Write, L: Write>(
+fn open_and_serve<S: Alter + Drop, W: Write, L: Write>(
     rt: &HostRuntime,
     conn: Connection<S>,
     port: u16,
@@ -99,7 +101,7 @@ fn served<S: Alter + Drop, W: Write, L: Write>(
     logged: bool,
     out: &mut W,
     log: &mut L,
-) -> Result<Worked<S>, Fault>
+) -> Result<AfterWork<S>, Fault>
     ensures clean { IfOk result (λ w. HasCleanDisk (state S.Store w.0) → HasCleanDisk (state S.Store conn)) }
     ensures served { IfOk result (λ w. HasCleanDisk (state S.Store w.0) → (first : ℤ) (acts : List Act) → IsHistory first acts
         → AreFoundRows first acts (state S.Store conn).committed.trees → KeepsLogged S.Store first acts max w.0 logged (L.contents log.old) (L.contents log.new)) }
@@ -109,7 +111,7 @@ fn served<S: Alter + Drop, W: Write, L: Write>(
     ensures within { conn.in_transaction ≡ true → IsErrOf result Fault.Store }
     ensures fault { IfErr result (λ fault. (fault ≡ Fault.Store) ⊎ (fault ≡ Fault.Foreign)) }
 {
-    match opened(rt.alloc(), conn) {
+    match open_books(rt.alloc(), conn) {
         Ok(books) => Ok(serve_books(rt, books, port, max, logged, out, log)),
         Err(fault) => Err(fault),
     }
@@ -123,7 +125,7 @@ fn serve_books<S: Alter + Drop, W: Write, L: Write>(
     logged: bool,
     out: &mut W,
     log: &mut L,
-) -> Worked<S>
+) -> AfterWork<S>
     ensures clean { HasCleanDisk (state S.Store result.0) → IsClean S.Store books }
     ensures served { HasCleanDisk (state S.Store result.0) → (first : ℤ) (acts : List Act) → IsHistory first acts → HoldsBooks S.Store first acts books
         → LeavesBooks first acts [] (state S.Store books.conn) → KeepsLogged S.Store first acts max result.0 logged (L.contents log.old) (L.contents log.new) }
@@ -136,13 +138,13 @@ fn serve_books<S: Alter + Drop, W: Write, L: Write>(
 }
 
 /// Opens the books, and then imports the goods-in file.
-fn imported<S: Alter + Drop, F: FilesAt, W: Write>(
+fn open_and_import<S: Alter + Drop, F: FilesAt, W: Write>(
     alloc: Global,
     files: &F,
     conn: Connection<S>,
     name: &str,
     out: &mut W,
-) -> Result<Worked<S>, Fault>
+) -> Result<AfterWork<S>, Fault>
     ensures clean { IfOk result (λ w. HasCleanDisk (state S.Store w.0) → HasCleanDisk (state S.Store conn)) }
     ensures imported { IfOk result (λ w. HasCleanDisk (state S.Store w.0) → (first : ℤ) (acts : List Act) → IsHistory first acts
         → AreFoundRows first acts (state S.Store conn).committed.trees → KeepsFile S.Store first acts w.0) }
@@ -153,7 +155,7 @@ fn imported<S: Alter + Drop, F: FilesAt, W: Write>(
     ensures within { conn.in_transaction ≡ true → IsErrOf result Fault.Store }
     ensures fault { IfErr result (λ fault. (fault ≡ Fault.Store) ⊎ (fault ≡ Fault.Foreign)) }
 {
-    match opened(alloc, conn) {
+    match open_books(alloc, conn) {
         Ok(books) => Ok(import_books(alloc, files, books, name, out)),
         Err(fault) => Err(fault),
     }
@@ -165,7 +167,7 @@ fn import_books<S: Alter + Drop, F: FilesAt, W: Write>(
     books: Books<S>,
     name: &str,
     out: &mut W,
-) -> Worked<S>
+) -> AfterWork<S>
     ensures clean { HasCleanDisk (state S.Store result.0) → IsClean S.Store books }
     ensures imported { HasCleanDisk (state S.Store result.0) → (first : ℤ) (acts : List Act) → IsHistory first acts → HoldsBooks S.Store first acts books
         → KeepsFile S.Store first acts result.0 }
@@ -187,13 +189,13 @@ enum Sheet {
 }
 
 /// Opens the books, and then prints a text of a lot.
-fn printed<S: Alter + Drop, W: Write>(
+fn open_and_print<S: Alter + Drop, W: Write>(
     alloc: Global,
     conn: Connection<S>,
     sheet: Sheet,
     lot: &LotId,
     out: &mut W,
-) -> Result<Worked<S>, Fault>
+) -> Result<AfterWork<S>, Fault>
     ensures clean { IfOk result (λ w. HasCleanDisk (state S.Store w.0) → HasCleanDisk (state S.Store conn)) }
     ensures printed { IfOk result (λ w. HasCleanDisk (state S.Store w.0) → (first : ℤ) (acts : List Act) → IsHistory first acts
         → AreFoundRows first acts (state S.Store conn).committed.trees → KeepsBooks first acts (state S.Store w.0)) }
@@ -203,7 +205,7 @@ fn printed<S: Alter + Drop, W: Write>(
     ensures within { conn.in_transaction ≡ true → IsErrOf result Fault.Store }
     ensures fault { IfErr result (λ fault. (fault ≡ Fault.Store) ⊎ (fault ≡ Fault.Foreign)) }
 {
-    match opened(alloc, conn) {
+    match open_books(alloc, conn) {
         Ok(books) => Ok(print_books(books, sheet, lot, out)),
         Err(fault) => Err(fault),
     }
@@ -214,7 +216,7 @@ fn print_books<S: Alter + Drop, W: Write>(
     sheet: Sheet,
     lot: &LotId,
     out: &mut W,
-) -> Worked<S>
+) -> AfterWork<S>
     ensures clean { HasCleanDisk (state S.Store result.0) → IsClean S.Store books }
     ensures printed { HasCleanDisk (state S.Store result.0) → (first : ℤ) (acts : List Act) → IsHistory first acts → HoldsBooks S.Store first acts books
         → KeepsBooks first acts (state S.Store result.0) }
@@ -242,10 +244,14 @@ fn print_sheet<S: Alter, W: Write>(
     }
 }
 
-fn opened<S: Alter + Drop>(alloc: Global, conn: Connection<S>) -> Result<Books<S>, Fault>
+pub(crate) fn open_books<S: Alter + Drop>(
+    alloc: Global,
+    conn: Connection<S>,
+) -> Result<Books<S>, Fault>
     ensures clean { IfOk result (λ b. IsClean S.Store b → HasCleanDisk (state S.Store conn)) }
     ensures books { IfOk result (λ b. IsClean S.Store b → (first : ℤ) (acts : List Act) → IsHistory first acts
         → AreFoundRows first acts (state S.Store conn).committed.trees → HoldsBooks S.Store first acts b × LeavesBooks first acts [] (state S.Store b.conn)) }
+    ensures open { IfOk result (λ b. IsClean S.Store b → IsTrue (state S.Store b.conn).is_open) }
     ensures other { IsOfNone (state S.Store conn).now.schema → IsErr result }
     ensures within { conn.in_transaction ≡ true → IsErrOf result Fault.Store }
     ensures fault { IfErr result (λ fault. (fault ≡ Fault.Store) ⊎ (fault ≡ Fault.Foreign)) }
@@ -287,7 +293,7 @@ fn serve_port<S: Alter + Drop, W: Write, L: Write>(
 {
     let listener = TcpListener::bind(rt, ("127.0.0.1", port))?;
     tell_port(port, out)?;
-    serve_logged_if(logged, &listener, house, max, log);
+    serve_logged_if(rt, logged, &listener, house, max, log);
     Ok(())
 }
 

@@ -80,14 +80,14 @@ fn take_in<S: Alter, R: Read + Drop>(
             let done = books.act_all(rows.as_slice());
             // A call: dropped at the end of its scope it is dropped field by field (docs/GATE.md).
             drop(rows);
-            told(done)
+            import_result(done)
         }
         Err(fault) => Err(Fault::File(fault)),
     }
 }
 
 /// How the rows of a file went, as the line tells it.
-fn told(done: Result<Tally, RowFault>) -> Result<Tally, Fault>
+fn import_result(done: Result<Tally, RowFault>) -> Result<Tally, Fault>
     ensures { IsToldOfFile done result }
 {
     match done {

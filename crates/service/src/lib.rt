@@ -1,13 +1,15 @@
 //! The work of the program's lines with the books, and the serving of a port, wherever the books are kept.
 #![tactic(auto)]
 
+mod acts_text;
 mod books_lines;
 mod goods_file;
 mod lent;
 mod lot_texts;
 mod serve;
+mod timed;
 
-pub use books_lines::{Worked, worked};
+pub use books_lines::{AfterWork, do_work};
 pub use goods_file::{FilesAt, import};
 pub use lot_texts::{print_card, print_notice};
 pub use serve::{serve_logged, serve_on};

@@ -31,7 +31,7 @@ pub fn print_card<S: Alter, W: Write>(
     let (lent, end) = write_card(books, lot, Lent { out });
     // The reference ends here, and what it leaves is known.
     let Lent { out: _out } = lent;
-    told(end)
+    print_result(end)
 }
 
 /// Prints the recall notice of a lot, row by row. The error is the refusal (U01, N01), and then nothing was printed; or
@@ -48,11 +48,11 @@ pub fn print_notice<S: Alter, W: Write>(
     let (lent, end) = write_notice(books, lot, Lent { out });
     // The reference ends here, and what it leaves is known.
     let Lent { out: _out } = lent;
-    told(end)
+    print_result(end)
 }
 
 /// How the writing went, as the line tells it.
-fn told(end: Result<(), EachFault>) -> Result<(), Fault>
+fn print_result(end: Result<(), EachFault>) -> Result<(), Fault>
     ensures { result ≡ told_as end }
 {
     match end {

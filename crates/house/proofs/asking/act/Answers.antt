@@ -16,10 +16,10 @@ returns-clause-acted g c clean first acts history holds =
     let sound : IsSoundRequest (act_of key command) = record { kind = yes; key = c.every_key_is_sound.ensures.sound; command = c.every_command_is_sound.ensures.sound } in
     subst (λ b. IsDone g.S.Store first acts c.args.books.now (act_answer first acts (act_of key command)) (acts_with first acts (act_of key command)) b c.act.new.self
     ⊎ IsUndone g.S.Store first acts c.args.books.now (acts_with first acts (act_of key command)) b c.act.new.self)
-    (sym c.told.ensures)
+    (sym c.reply_block.ensures)
     (acted g.S.Store first acts c.args.books.now (act_of key command) yes sound history c.act.new.self holds clean c.act.ensures.survives c.act.result
     (c.act.ensures.acted clean yes first acts history holds) (c.act.ensures.kept clean yes first acts history holds))
 
 pub returns-clause-as_before : goal.returns-clause-as_before
 returns-clause-as_before g c clean ne =
-    act_unanswered c.act.result (state g.S.Store c.args.books.now.conn) (state g.S.Store c.act.new.self.conn) (c.act.ensures.as_before clean) (subst (λ b. status_of b ≢ codes "HTTP/1.1 200") c.told.ensures ne)
+    act_unanswered c.act.result (state g.S.Store c.args.books.now.conn) (state g.S.Store c.act.new.self.conn) (c.act.ensures.as_before clean) (subst (λ b. status_of b ≢ codes "HTTP/1.1 200") c.reply_block.ensures ne)

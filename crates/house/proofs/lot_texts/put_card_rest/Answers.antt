@@ -17,9 +17,9 @@ returns-in-Ok-clause-put g c clean first acts history holds =
     let put = subst (λ r. Puts g.S.Store first acts (flat_map card_line lines) old mid (at c.args.out) (at c.put_card_lines-out.result.0) r) c.in-Ok.is (c.put_card_lines-out.ensures.put clean first acts history holds) in
     let rest = subst (λ r. IfOk r (λ t. t ≡ rest_after c.args.text lines)) c.in-Ok.is (c.put_card_lines-out.ensures.rest clean first acts history holds) in
     let end = put_end g.S.Store first acts c.end.result (card_end c.in-Ok.text) mid (at c.put_card_lines-out.result.0) (at c.end.new.out) put.1.holds c.end.ensures in
-    put_behind g.S.Store first acts c.stopped-end.result (flat_map card_line lines) (card_end (rest_after c.args.text lines)) old mid mid (at c.args.out) (at c.put_card_lines-out.result.0) (at c.end.new.out) put.0 put.1
-    (subst (λ n. Puts g.S.Store first acts (card_end n) mid mid (at c.put_card_lines-out.result.0) (at c.end.new.out) c.stopped-end.result) rest
-    (subst (λ r. Puts g.S.Store first acts (card_end c.in-Ok.text) mid mid (at c.put_card_lines-out.result.0) (at c.end.new.out) r) (sym c.stopped-end.ensures) end))
+    put_behind g.S.Store first acts c.text_end-end.result (flat_map card_line lines) (card_end (rest_after c.args.text lines)) old mid mid (at c.args.out) (at c.put_card_lines-out.result.0) (at c.end.new.out) put.0 put.1
+    (subst (λ n. Puts g.S.Store first acts (card_end n) mid mid (at c.put_card_lines-out.result.0) (at c.end.new.out) c.text_end-end.result) rest
+    (subst (λ r. Puts g.S.Store first acts (card_end c.in-Ok.text) mid mid (at c.put_card_lines-out.result.0) (at c.end.new.out) r) (sym c.text_end-end.ensures) end))
 
 pub returns-in-Err-clause-put : goal.returns-in-Err-clause-put
 returns-in-Err-clause-put g c clean first acts history holds =

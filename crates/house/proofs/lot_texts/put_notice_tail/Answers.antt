@@ -17,10 +17,10 @@ returns-in-Ok-clause-put g c clean first acts history holds =
     let put = subst (λ r. Puts g.S.Store first acts (flat_map shipment_line shipments) old mid (at c.args.out) (at c.put_shipments-out.result.0) r) c.in-Ok.is (c.put_shipments-out.ensures.put clean first acts history holds) in
     let counted = subst (λ r. IfOk r (λ t. t ≡ record c.args.text { shipped = c.args.text.shipped + total (λ s. s.qty) shipments })) c.in-Ok.is (c.put_shipments-out.ensures.counted clean first acts history holds) in
     let end = put_end g.S.Store first acts c.end.result (notice_end c.in-Ok.text.in_bins c.in-Ok.text.shipped) mid (at c.put_shipments-out.result.0) (at c.end.new.out) put.1.holds c.end.ensures in
-    put_behind g.S.Store first acts c.stopped-end.result (flat_map shipment_line shipments) (notice_end c.args.text.in_bins (c.args.text.shipped + total (λ s. s.qty) shipments)) old mid mid
+    put_behind g.S.Store first acts c.text_end-end.result (flat_map shipment_line shipments) (notice_end c.args.text.in_bins (c.args.text.shipped + total (λ s. s.qty) shipments)) old mid mid
     (at c.args.out) (at c.put_shipments-out.result.0) (at c.end.new.out) put.0 put.1
-    (subst (λ (t : Totals). Puts g.S.Store first acts (notice_end t.in_bins t.shipped) mid mid (at c.put_shipments-out.result.0) (at c.end.new.out) c.stopped-end.result) counted
-    (subst (λ r. Puts g.S.Store first acts (notice_end c.in-Ok.text.in_bins c.in-Ok.text.shipped) mid mid (at c.put_shipments-out.result.0) (at c.end.new.out) r) (sym c.stopped-end.ensures) end))
+    (subst (λ (t : Totals). Puts g.S.Store first acts (notice_end t.in_bins t.shipped) mid mid (at c.put_shipments-out.result.0) (at c.end.new.out) c.text_end-end.result) counted
+    (subst (λ r. Puts g.S.Store first acts (notice_end c.in-Ok.text.in_bins c.in-Ok.text.shipped) mid mid (at c.put_shipments-out.result.0) (at c.end.new.out) r) (sym c.text_end-end.ensures) end))
 
 pub returns-in-Err-clause-put : goal.returns-in-Err-clause-put
 returns-in-Err-clause-put g c clean first acts history holds =

@@ -15,10 +15,10 @@ returns-clause-shown g c clean first acts history holds =
     let new = c.write_card-text.new.books in
     let end = c.write_card-text.result.1 in
     let written = c.write_card-text.result.0.items in
-    let bytes = bytes_of c.told.result in
+    let bytes = bytes_of c.answer_shown.result in
     written_told g.S.Store first acts history card_text shown old new end written bytes
     (subst (λ (none : List ℕ). Tells g.S.Store first acts card_text shown old new (Some none) (Some written) end) c.new.ensures.items (c.write_card-text.ensures.told clean first acts history holds))
-    (subst (λ asked. (bytes ≡ asked_answer asked) ⊎ (bytes ≡ no_memory)) c.text_of.ensures c.told.ensures.told)
+    (subst (λ asked. (bytes ≡ asked_answer asked) ⊎ (bytes ≡ no_memory)) c.text_of.ensures c.answer_shown.ensures.told)
 
 pub returns-clause-as_before : goal.returns-clause-as_before
 returns-clause-as_before g c clean = c.write_card-text.ensures.as_before clean

@@ -5,11 +5,11 @@ use Rattle.house.proofs.showing.show_order.Goals as goal
 
 pub returns-in-Ok-clause-shown : goal.returns-in-Ok-clause-shown
 returns-in-Ok-clause-shown g c clean first acts history holds =
-    view_told g.S.Store first acts history Order (order_shown first acts c.args.order.now) _ _ c.in-Ok.ensures.survives clean c.in-Ok.view _ (c.in-Ok.ensures.shown clean first acts history holds) c.told.ensures.told
+    view_told g.S.Store first acts history Order (order_shown first acts c.args.order.now) _ _ c.in-Ok.ensures.survives clean c.in-Ok.view _ (c.in-Ok.ensures.shown clean first acts history holds) c.answer_shown.ensures.told
 
 pub returns-in-Err-clause-shown : goal.returns-in-Err-clause-shown
 returns-in-Err-clause-shown g c clean first acts history holds =
-    fault_told g.S.Store first acts history Order (order_shown first acts c.args.order.now) _ _ c.in-Err.ensures.survives clean c.in-Err.fault _ (c.in-Err.ensures.shown clean first acts history holds) c.told-in-Err.ensures.told
+    fault_told g.S.Store first acts history Order (order_shown first acts c.args.order.now) _ _ c.in-Err.ensures.survives clean c.in-Err.fault _ (c.in-Err.ensures.shown clean first acts history holds) c.answer_shown-in-Err.ensures.told
 
 pub returns-in-Ok-clause-as_before : goal.returns-in-Ok-clause-as_before
 returns-in-Ok-clause-as_before g c clean = c.in-Ok.ensures.as_before clean

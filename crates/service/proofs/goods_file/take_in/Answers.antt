@@ -14,9 +14,9 @@ returns-in-Ok-clause-taken g c clean first acts history holds =
     let keys = receipts_have_keys rows (subst (λ l. All IsReceipt l) (sym same) c.in-Ok.ensures.kinds) in
     let done = c.act_all-done.ensures in
     let read = read_as g.S.Store first acts from _ c.in-Ok.rows (c.day-today.ensures.value ∙ holds.day) c.in-Ok.ensures.file in
-    taken_by g.S.Store first acts from c.act_all-done.new.self rows c.act_all-done.result c.told.result
+    taken_by g.S.Store first acts from c.act_all-done.new.self rows c.act_all-done.result c.import_result.result
     (subst (λ l. AreRead g.S.Store first acts from l) (sym same) read)
-    (done.history keys first acts history) (done.filed clean keys first acts history holds) (done.kept clean keys first acts history holds) c.told.ensures
+    (done.history keys first acts history) (done.filed clean keys first acts history holds) (done.kept clean keys first acts history holds) c.import_result.ensures
 
 pub returns-in-Err-clause-taken : goal.returns-in-Err-clause-taken
 returns-in-Err-clause-taken g c clean first acts history holds =

@@ -1,6 +1,6 @@
 use Rattle.std.proofs.Common.{inr}
 use Rattle.house.proofs.Stepping.{ok_status}
-use Rattle.house.proofs.showing.bytes_told.Goals as goal
+use Rattle.house.proofs.showing.answer_in_bytes.Goals as goal
 
 pub returns-clause-told : goal.returns-clause-told
 returns-clause-told c = inr c.fault_answer.ensures

@@ -1,5 +1,5 @@
 use Rattle.std.proofs.Common.{rules}
-use Rattle.house.proofs.answered.not_shown.Goals as goal
+use Rattle.house.proofs.answered.answer_query_fault.Goals as goal
 
 pub returns-in-Refused : goal.returns-in-Refused
 returns-in-Refused c = search rules

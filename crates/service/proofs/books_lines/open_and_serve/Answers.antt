@@ -1,4 +1,4 @@
-use Rattle.service.proofs.books_lines.served.Goals as goal
+use Rattle.service.proofs.books_lines.open_and_serve.Goals as goal
 
 pub returns-in-Ok-clause-served : goal.returns-in-Ok-clause-served
 returns-in-Ok-clause-served g c clean first acts history rows =

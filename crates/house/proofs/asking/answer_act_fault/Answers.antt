@@ -1,7 +1,7 @@
 use Rattle.std.proofs.Common.{Err, ap, sym, ◌∙◌}
 use Rattle.store.specs.declared.fault.Fault.{Fault}
 use Rattle.house.specs.Asking.{told_answer}
-use Rattle.house.proofs.asking.not_acted.Goals as goal
+use Rattle.house.proofs.asking.answer_act_fault.Goals as goal
 
 pub returns-in-Refused : goal.returns-in-Refused
 returns-in-Refused c = c.conflict.ensures ∙ sym (ap (λ (f : Fault). told_answer (Err f)) c.in-Refused.is)

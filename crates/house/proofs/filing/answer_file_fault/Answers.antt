@@ -1,7 +1,7 @@
 use Rattle.std.proofs.Common.{ap, sym, ◌∙◌}
 use Rattle.house.specs.Answers.{cause_answer, cause_row_answer, file_fault_answer}
 use Rattle.house.proofs.FileTold.{told_without_memory, told_by_cause}
-use Rattle.house.proofs.filing.not_read.Goals as goal
+use Rattle.house.proofs.filing.answer_file_fault.Goals as goal
 
 pub returns-in-Row : goal.returns-in-Row
 returns-in-Row c = c.cause_row_answer.ensures ∙ ap (λ t. cause_row_answer t c.in-Row.row) c.code.ensures.value ∙ sym (ap file_fault_answer c.in-Row.is)

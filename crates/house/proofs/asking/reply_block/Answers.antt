@@ -1,9 +1,9 @@
 use Rattle.std.proofs.Common.{ap, sym, ◌∙◌}
 use Rattle.house.specs.Asking.{told_answer}
-use Rattle.house.proofs.asking.told.Goals as goal
+use Rattle.house.proofs.asking.reply_block.Goals as goal
 
 pub returns-in-Ok : goal.returns-in-Ok
 returns-in-Ok c = c.reply_answer.ensures ∙ sym (ap told_answer c.in-Ok.is)
 
 pub returns-in-Err : goal.returns-in-Err
-returns-in-Err c = c.not_acted.ensures ∙ sym (ap told_answer c.in-Err.is)
+returns-in-Err c = c.answer_act_fault.ensures ∙ sym (ap told_answer c.in-Err.is)

@@ -1,4 +1,4 @@
-use Rattle.service.proofs.books_lines.printed.Goals as goal
+use Rattle.service.proofs.books_lines.open_and_print.Goals as goal
 
 pub returns-in-Ok-clause-printed : goal.returns-in-Ok-clause-printed
 returns-in-Ok-clause-printed g c clean first acts history rows =

@@ -1,7 +1,7 @@
 use Rattle.std.proofs.Common.{Err, ap, sym, ◌∙◌}
 use Rattle.store.specs.declared.tally.RowFault.{RowFault}
 use Rattle.house.specs.Asking.{told_file_answer}
-use Rattle.house.proofs.filing.not_taken.Goals as goal
+use Rattle.house.proofs.filing.answer_row_fault.Goals as goal
 
 pub returns-in-Refused : goal.returns-in-Refused
 returns-in-Refused c = c.row_conflict.ensures ∙ sym (ap (λ (f : RowFault). told_file_answer (Err f)) c.in-Refused.is)

@@ -1,4 +1,4 @@
-use Rattle.service.proofs.books_lines.imported.Goals as goal
+use Rattle.service.proofs.books_lines.open_and_import.Goals as goal
 
 pub returns-in-Ok-clause-imported : goal.returns-in-Ok-clause-imported
 returns-in-Ok-clause-imported g c clean first acts history rows =
