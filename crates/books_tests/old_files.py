@@ -1,11 +1,11 @@
 #!/usr/bin/env python3
-"""Makes src/old_bytes.rt: the files of books of schemas 1 and 2 that the tests open.
+"""Makes src/old_bytes.rt: the files of books of schemas 1, 2 and 3 that the tests open.
 
-    python3 old_files.py FIRST SECOND > src/old_bytes.rt && rt fmt
+    python3 old_files.py FIRST SECOND THIRD > src/old_bytes.rt && rt fmt
 
-FIRST is the program as it was while schema 1 was the newest, SECOND that of schema 2; their books are made over pages of
-512 bytes, with each of the fifteen commands of schema 1 in them. Of those of schema 1 there is also what sqlite3 makes of a
-dump. Needs sqlite3. What is not in a part of a file is zeros.
+FIRST is the program as it was while schema 1 was the newest, SECOND that of schema 2, THIRD that of schema 3; their books
+are made over pages of 512 bytes, with each of the fifteen commands of schema 1 in them. Of those of schema 1 there is also
+what sqlite3 makes of a dump. Needs sqlite3. What is not in a part of a file is zeros.
 """
 import os
 import re
@@ -138,21 +138,26 @@ def halves(lines):
     return lines[:front], lines[front:]
 
 
+def in_halves(name, what, db):
+    size, lines = lines_of(db)
+    front, rest = halves(lines)
+    return told(name, what + ", the first parts of the file.", size, front) + "\n" + told(name + "_REST", "Those behind them.", size, rest)
+
+
 def main():
-    first_program, second_program = sys.argv[1:]
+    first_program, second_program, third_program = sys.argv[1:]
     with tempfile.TemporaryDirectory() as room:
-        first, restored, second = (os.path.join(room, name) for name in ("first.db", "restored.db", "second.db"))
+        first, restored, second, third = (os.path.join(room, name) for name in ("first.db", "restored.db", "second.db", "third.db"))
         make(first_program, first)
         restore(first, restored)
         make(second_program, second)
-        print("//! The bytes of files of books of schemas 1 and 2, as `old_files.py` makes them.\n")
+        make(third_program, third)
+        print("//! The bytes of files of books of schemas 1, 2 and 3, as `old_files.py` makes them.\n")
         print("use crate::old_files::OldFile;\n")
         print(told("FIRST_SCHEMA", "Books of schema 1 as the program made them.", *lines_of(first)))
         print(told("FIRST_SCHEMA_RESTORED", "The same as sqlite3 made them of a dump.", *lines_of(restored)))
-        size, lines = lines_of(second)
-        front, rest = halves(lines)
-        print(told("SECOND_SCHEMA", "Books of schema 2 as the program made them, the first parts of the file.", size, front))
-        print(told("SECOND_SCHEMA_REST", "Those behind them.", size, rest), end="")
+        print(in_halves("SECOND_SCHEMA", "Books of schema 2 as the program made them", second))
+        print(in_halves("THIRD_SCHEMA", "Books of schema 3 as the program made them", third), end="")
 
 
 main()

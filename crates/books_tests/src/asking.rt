@@ -4,6 +4,7 @@ use crate::answers::NO_REQUESTS;
 use crate::exchange::{answer, logged, request};
 use crate::filing::takes_times;
 use crate::hostile::{refuses_hostile, takes_changed};
+use crate::many_lines::exchanges_many_lines;
 use crate::opening::{books_of, new_books};
 use crate::table::Table;
 use crate::wide::{Long, exchanges_long};
@@ -23,6 +24,8 @@ pub(crate) enum Asked {
     Times(usize, &'static str),
     /// A text that is long.
     Long(Long),
+    /// All that is asked of two hundred items.
+    ManyLines,
     /// All requests of the table by one call.
     All(Table),
     /// Each text that is no request.
@@ -174,6 +177,7 @@ fn ask<S: Alter>(rt: &impl Abort, alloc: Global, house: &mut House<S>, asked: As
         Asked::Part(table, first, count) => part(rt, alloc, house, table, first, count),
         Asked::Times(times, told) => takes_times(rt, alloc, house, times, told),
         Asked::Long(long) => exchanges_long(rt, alloc, house, long),
+        Asked::ManyLines => exchanges_many_lines(rt, alloc, house),
         Asked::All(table) => all(rt, alloc, house, table),
         Asked::NoRequests => answers_no_requests(rt, house),
         Asked::NoRequestsServed => serves_no_requests(rt, alloc, house),

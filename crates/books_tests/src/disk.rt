@@ -3,7 +3,7 @@
 use crate::failing::trial::{Seen, Trial, tried};
 use crate::files::{Calls, Pair, Stopping};
 use crate::lines::lines_run;
-use crate::serving::{clients_served, lines_worked};
+use crate::serving::{TestClock, clients_served, lines_worked};
 use crate::steps::{Step, take_all};
 use sqlite::{Alter, Connection, Files, Options};
 use std::alloc::Global;
@@ -16,7 +16,7 @@ use tables::opening::Leftover;
 pub(crate) enum Work<'a> {
     Steps(&'a [Step]),
     /// So many clients, and what is logged of them, where there is a log.
-    Clients(&'a TcpListener, u32, Option<&'static str>),
+    Clients(TestClock<'a>, &'a TcpListener, u32, Option<&'static str>),
     Lines(&'a HostRuntime, u16),
     LinesRun(&'a HostRuntime),
     /// What a disk may stop.
@@ -32,8 +32,8 @@ fn worked<S: Alter + Drop>(
 ) -> Leftover<S> {
     match work {
         Work::Steps(steps) => Leftover::Connection(take_all(rt, alloc, conn, steps)),
-        Work::Clients(listener, count, logged) => {
-            Leftover::Connection(clients_served(rt, alloc, conn, listener, count, logged))
+        Work::Clients(clock, listener, count, logged) => {
+            Leftover::Connection(clients_served(rt, alloc, conn, clock, listener, count, logged))
         }
         Work::Lines(host, port) => Leftover::Connection(lines_worked(host, rt, conn, port)),
         Work::LinesRun(host) => Leftover::Connection(lines_run(host, rt, conn)),
@@ -106,6 +106,11 @@ fn done(rt: &impl Abort, alloc: Global, files: &Pair, work: Work<'_>) -> Pair {
     left
 }
 
+/// The files after the steps were taken over them.
+pub(crate) fn after(rt: &impl Abort, alloc: Global, files: &Pair, steps: &[Step]) -> Pair {
+    done(rt, alloc, files, Work::Steps(steps))
+}
+
 /// Takes the steps over new files, which are closed after each list of them and opened again for the next.
 pub(crate) fn run(rt: &impl Abort, alloc: Global, lists: &[&[Step]]) {
     run_from(rt, alloc, Pair::empty(alloc), lists);
@@ -115,7 +120,7 @@ pub(crate) fn run(rt: &impl Abort, alloc: Global, lists: &[&[Step]]) {
 pub(crate) fn run_from(rt: &impl Abort, alloc: Global, files: Pair, lists: &[&[Step]]) {
     let mut files = files;
     for steps in lists {
-        files = done(rt, alloc, &files, Work::Steps(steps));
+        files = after(rt, alloc, &files, steps);
     }
 }
 
@@ -128,11 +133,12 @@ pub(crate) fn run_after(rt: &impl Abort, alloc: Global, first: &[Step], then: &[
 pub(crate) fn run_clients(
     rt: &impl Abort,
     alloc: Global,
+    clock: TestClock<'_>,
     listener: &TcpListener,
     count: u32,
     logged: Option<&'static str>,
 ) {
-    let work = Work::Clients(listener, count, logged);
+    let work = Work::Clients(clock, listener, count, logged);
     done(rt, alloc, &Pair::empty(alloc), work);
 }
 

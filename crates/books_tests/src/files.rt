@@ -172,6 +172,11 @@ impl Pair {
         self.log.has_spare && self.db.has_spare
     }
 
+    /// Whether the database has the same bytes. Its log is begun anew at each opening.
+    pub(crate) fn is_same_database(&self, other: &Pair) -> bool {
+        self.db.written.as_slice() == other.db.written.as_slice()
+    }
+
     /// Of how many of the files a stop can lose what was written.
     pub(crate) fn unsynced(&self) -> usize {
         usize::from(!self.log.is_synced()) + usize::from(!self.db.is_synced())

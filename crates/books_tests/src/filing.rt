@@ -57,7 +57,7 @@ GET /orders/S-2 => 200 {"class":"NORMAL","customer":"Harbour Cafe","lines":[{"gt
 
 // The rows after the file.
 pub(crate) static FILED_ROWS: [&str; 16] = [
-    "1|LOTSTOCK|3|20577|8|0\n",
+    "1|LOTSTOCK|4|20577|8|0\n",
     "04012345000016|Rye bread\n09506000134352|Oat drink\n",
     "A-01|STORE\nA-02|STORE\nQ-01|HOLD\nRETURNS|HOLD\n",
     "04012345000016|N1|20818|8|0\n09506000134352|M1|20787|6|0\n09506000134352|M2|20818|7|0\n",

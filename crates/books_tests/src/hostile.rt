@@ -155,7 +155,7 @@ pub(crate) fn takes_changed<S: Alter>(rt: &impl Abort, house: &mut House<S>) {
 
 // The rows of the items and the bins.
 pub(crate) static GOODS_AND_BINS_ROWS: [&str; 16] = [
-    "1|LOTSTOCK|3|20577|5|0\n",
+    "1|LOTSTOCK|4|20577|5|0\n",
     "04012345000016|Rye bread\n09506000134352|Oat drink\n",
     "A-01|STORE\nA-02|STORE\nQ-01|HOLD\nRETURNS|HOLD\n",
     "",

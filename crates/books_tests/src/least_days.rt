@@ -45,7 +45,7 @@ POST /leasts {"key":"K-13","gtin":"09506000134352","days":7} => 200 {"act":13,"r
 GET /orders/S-1 => 200 {"class":"NORMAL","customer":"Corner Shop","lines":[{"gtin":"09506000134352","ordered":12,"reserved":[{"lot":"L2","qty":3},{"lot":"L1","qty":2}],"shipped":0,"short":0,"staged":[{"lot":"L2","qty":7}]}],"order":"S-1","state":"OPEN"}
 GET /orders/S-2 => 200 {"class":"NORMAL","customer":"Harbour Cafe","lines":[{"gtin":"09506000134352","ordered":12,"reserved":[{"lot":"L1","qty":8}],"shipped":0,"short":4,"staged":[]}],"order":"S-2","state":"OPEN"}
 POST /picks {"key":"K-14","order":"S-1","gtin":"09506000134352","lot":"L0","bin":"A-01","qty":1} => 409 {"code":"S11"}
-GET /cards/09506000134352/L0 => 200 |STOCK CARD 09506000134352 Oat drink|LOT L0 EXPIRY 2026-05-10|           10 2026-05-04 RECEIPT  D-2/1                               5          5|IN HOUSE 5
+GET /cards/09506000134352/L0 => 200 |STOCK CARD 09506000134352 Oat drink|LOT L0 EXPIRY 2026-05-10|           10 2026-05-04 RECEIPT  D-2/1                                5           5|IN HOUSE 5
 "#;
 
 static AT_ITS_LAST_DAY: [Step; 1] = [Step::House(&[Asked::Each(Table::AskedFor)])];

@@ -25,6 +25,8 @@ mod files;
 #[cfg(test)]
 mod filing;
 #[cfg(test)]
+mod foreign_files;
+#[cfg(test)]
 mod gone_lots;
 #[cfg(test)]
 mod goods;
@@ -42,6 +44,8 @@ mod lines;
 mod lots_spread;
 #[cfg(test)]
 mod lots_told;
+#[cfg(test)]
+mod many_lines;
 #[cfg(test)]
 mod memory;
 #[cfg(test)]

@@ -6,7 +6,7 @@ use crate::serving::GoodsFiles;
 use crate::steps::Step;
 use crate::table::Table;
 use command_line::{BooksAt, Fault, Work, run};
-use service::worked;
+use service::do_work;
 use sqlite::{Alter, Connection};
 use std::cell::Cell;
 use std::io::Write;
@@ -30,7 +30,7 @@ impl<S: Alter + Drop> BooksAt for OverOne<'_, S> {
     ) -> Result<(), Fault> {
         match self.conn.replace(None) {
             Some(conn) => {
-                let (conn, end) = worked(self.host, &GoodsFiles, conn, work, out, log)?;
+                let (conn, end) = do_work(self.host, &GoodsFiles, conn, work, out, log)?;
                 drop(self.conn.replace(Some(conn)));
                 end
             }
@@ -47,12 +47,13 @@ struct Line {
     told: &'static str,
 }
 
-// The card and the notice of a lot that was shipped and recalled, and of lots that have none; a file, once and again.
-static LINES: [Line; 7] = [
+// The card and the notice of a lot that was shipped and recalled, and of lots that have none; all acts; a file, once and
+// again.
+static LINES: [Line; 8] = [
     Line {
         words: &["lotd", "card", "--db", "stock.db", "09506000134352", "L2"],
         status: 0,
-        printed: "STOCK CARD 09506000134352 Oat drink\nLOT L2 EXPIRY 2026-05-31\n            7 2026-05-04 RECEIPT  D-1/2                              10         10\n           13 2026-05-04 SHIPMENT 1                                  -7          3\nIN HOUSE 3\n",
+        printed: "STOCK CARD 09506000134352 Oat drink\nLOT L2 EXPIRY 2026-05-31\n            7 2026-05-04 RECEIPT  D-1/2                               10          10\n           13 2026-05-04 SHIPMENT 1                                   -7           3\nIN HOUSE 3\n",
         told: "",
     },
     Line {
@@ -78,6 +79,12 @@ static LINES: [Line; 7] = [
         status: 1,
         printed: "",
         told: "lotd: U03\n",
+    },
+    Line {
+        words: &["lotd", "history", "--db", "stock.db"],
+        status: 0,
+        printed: "1\t2026-05-04\tK/K-1\tITEM\t09506000134352\tOat drink\n2\t2026-05-04\tK/K-2\tITEM\t04012345000016\tRye bread\n3\t2026-05-04\tK/K-3\tBIN\tA-01\tSTORE\n4\t2026-05-04\tK/K-4\tBIN\tA-02\tSTORE\n5\t2026-05-04\tK/K-5\tBIN\tQ-01\tHOLD\n6\t2026-05-04\tD/D-1/1\tRECEIVE\t09506000134352\tL1\t2026-06-30\tA-01\t10\n7\t2026-05-04\tD/D-1/2\tRECEIVE\t09506000134352\tL2\t2026-05-31\tA-01\t10\n8\t2026-05-04\tK/K-8\tORDER\tS-1\tCorner Shop\t09506000134352\t12\n9\t2026-05-04\tK/K-9\tORDER\tS-2\tHarbour Cafe\t09506000134352\t12\n10\t2026-05-04\tD/D-2/1\tRECEIVE\t09506000134352\tL0\t2026-05-10\tA-01\t5\n11\t2026-05-04\tK/K-11\tPICK\tS-1\t09506000134352\tL0\tA-01\t5\n12\t2026-05-04\tK/K-12\tPICK\tS-1\t09506000134352\tL2\tA-01\t7\n13\t2026-05-04\tK/K-13\tSHIP\tS-1\n14\t2026-05-04\tK/K-14\tRECALL\t09506000134352\tL2\n",
+        told: "",
     },
     Line {
         words: &["lotd", "import", "--db", "stock.db", "more.csv"],

@@ -1,12 +1,15 @@
-//! Files of books of schemas 1 and 2 that earlier programs left, and that sqlite3 made of a dump: they open, tell what was
-//! done, and go on.
+//! Files of books of schemas 1, 2 and 3 that earlier programs left, and that sqlite3 made of a dump: they open, tell what
+//! was done, and go on.
 
 ghost use Rattle.std.specs.Prelude.{◌<◌};
 
 use crate::asking::Asked;
 use crate::disk::run_from;
 use crate::files::Pair;
-use crate::old_bytes::{FIRST_SCHEMA, FIRST_SCHEMA_RESTORED, SECOND_SCHEMA, SECOND_SCHEMA_REST};
+use crate::old_bytes::{
+    FIRST_SCHEMA, FIRST_SCHEMA_RESTORED, SECOND_SCHEMA, SECOND_SCHEMA_REST, THIRD_SCHEMA,
+    THIRD_SCHEMA_REST,
+};
 use crate::steps::{On, Step};
 use crate::table::{Left, Table};
 use std::alloc::Global;
@@ -76,7 +79,7 @@ fn file_of(rt: &impl Abort, alloc: Global, old: &OldFile) -> Vec<u8> {
     bytes
 }
 
-// Each function that names such a file takes long to check, and one that names a whole file of schema 2 too long.
+// Each function that names such a file takes long to check, and one that names a whole file of schema 2 or 3 too long.
 
 /// Books of schema 1 as a program made them.
 pub(crate) fn first_books(rt: &impl Abort, alloc: Global) -> Pair {
@@ -99,6 +102,21 @@ fn place_rest_of_second(rt: &impl Abort, alloc: Global, bytes: &mut Vec<u8>) {
 pub(crate) fn second_books(rt: &impl Abort, alloc: Global) -> Pair {
     let mut bytes = front_of_second(rt, alloc);
     place_rest_of_second(rt, alloc, &mut bytes);
+    Pair::holding(rt, alloc, bytes)
+}
+
+fn front_of_third(rt: &impl Abort, alloc: Global) -> Vec<u8> {
+    file_of(rt, alloc, &THIRD_SCHEMA)
+}
+
+fn place_rest_of_third(rt: &impl Abort, alloc: Global, bytes: &mut Vec<u8>) {
+    place_parts(rt, alloc, bytes, &THIRD_SCHEMA_REST);
+}
+
+/// Books of schema 3 as a program made them.
+pub(crate) fn third_books(rt: &impl Abort, alloc: Global) -> Pair {
+    let mut bytes = front_of_third(rt, alloc);
+    place_rest_of_third(rt, alloc, &mut bytes);
     Pair::holding(rt, alloc, bytes)
 }
 
@@ -126,12 +144,12 @@ pub(crate) static OLD_ROWS: [&str; 13] = [
 pub(crate) static OLD_TOLD: &str = r#"
 GET /orders/S-1 => 200 {"class":"NORMAL","customer":"Corner Shop","lines":[{"gtin":"09506000134352","ordered":12,"reserved":[{"lot":"L1","qty":4}],"shipped":5,"short":0,"staged":[{"lot":"L1","qty":3}]}],"order":"S-1","state":"OPEN"}
 GET /orders/S-3 => 200 {"class":"NORMAL","customer":"Harbour Cafe","lines":[{"gtin":"09506000134352","ordered":6,"reserved":[{"lot":"L1","qty":3},{"lot":"L3","qty":3}],"shipped":0,"short":0,"staged":[]}],"order":"S-3","state":"OPEN"}
-GET /cards/09506000134352/L2 => 200 |STOCK CARD 09506000134352 Oat drink|LOT L2 EXPIRY 2026-05-31|            5 2026-05-04 RECEIPT  D-1/2                              10         10|            8 2026-05-04 WRITEOFF A-01                               -1          9|           17 2026-05-04 SHIPMENT 1                                  -5          4|IN HOUSE 4
+GET /cards/09506000134352/L2 => 200 |STOCK CARD 09506000134352 Oat drink|LOT L2 EXPIRY 2026-05-31|            5 2026-05-04 RECEIPT  D-1/2                               10          10|            8 2026-05-04 WRITEOFF A-01                                -1           9|           17 2026-05-04 SHIPMENT 1                                   -5           4|IN HOUSE 4
 GET /notices/09506000134352/L2 => 200 |RECALL NOTICE 09506000134352 Oat drink|LOT L2 EXPIRY 2026-05-31|BIN A-01 4|SHIPMENT 1 2026-05-04 5 S-1 Corner Shop|TOTAL BINS 4 SHIPPED 5
 POST /picks {"key":"K-15","order":"S-1","gtin":"09506000134352","lot":"L2","bin":"A-01","qty":7} => 200 {"act":15}
 POST /bins {"key":"K-15","bin":"A-03","kind":"STORE"} => 409 {"code":"K01"}
 POST /shipments {"key":"K-22","order":"S-1"} => 200 {"act":22,"shipment":2}
-GET /cards/09506000134352/L1 => 200 |STOCK CARD 09506000134352 Oat drink|LOT L1 EXPIRY 2026-06-30|            4 2026-05-04 RECEIPT  D-1/1                              10         10|           22 2026-05-05 SHIPMENT 2                                  -3          7|IN HOUSE 7
+GET /cards/09506000134352/L1 => 200 |STOCK CARD 09506000134352 Oat drink|LOT L1 EXPIRY 2026-06-30|            4 2026-05-04 RECEIPT  D-1/1                               10          10|           22 2026-05-05 SHIPMENT 2                                   -3           7|IN HOUSE 7
 POST /urgents {"key":"K-23","order":"S-4","customer":"Mill Inn","lines":[{"gtin":"09506000134352","qty":9}]} => 200 {"act":23,"short":0}
 GET /orders/S-4 => 200 {"class":"URGENT","customer":"Mill Inn","lines":[{"gtin":"09506000134352","ordered":9,"reserved":[{"lot":"L1","qty":7},{"lot":"L3","qty":2}],"shipped":0,"short":0,"staged":[]}],"order":"S-4","state":"OPEN"}
 GET /shortages/09506000134352 => 200 |SHORTAGES 09506000134352 Oat drink|SHORT S-1 1 Corner Shop|SHORT S-3 6 Harbour Cafe|TOTAL 7
@@ -140,10 +158,11 @@ GET /shortages/09506000134352 => 200 |SHORTAGES 09506000134352 Oat drink|SHORT S
 // The books are brought up as a house opens them, and what they had stays.
 const BROUGHT: &[Step] = &[
     Step::House(&[]),
-    Step::On(On::HasMeta("1|LOTSTOCK|3|20578|21|1\n")),
+    Step::On(On::HasMeta("1|LOTSTOCK|4|20578|21|1\n")),
     Step::On(On::KeepsRows(Left::Old)),
-    Step::On(On::Gives("SELECT ord FROM urgents", "")),
 ];
+
+const URGENT: &str = "SELECT ord || '|' || act FROM urgents";
 
 const GOES_ON: &[Step] = &[Step::House(&[Asked::Each(Table::OldTold)])];
 
@@ -156,7 +175,10 @@ static OF_THE_FIRST: [&[Step]; 4] = [
         Step::On(On::KeepsRows(Left::Old)),
     ],
     BROUGHT,
-    &[Step::On(On::Gives(DAYS_LEFT, "09506000134352|0\n"))],
+    &[
+        Step::On(On::Gives(DAYS_LEFT, "09506000134352|0\n")),
+        Step::On(On::Gives(URGENT, "")),
+    ],
     GOES_ON,
 ];
 
@@ -168,7 +190,26 @@ static OF_THE_SECOND: [&[Step]; 4] = [
         Step::On(On::Run("UPDATE least SET days = 1")),
     ],
     BROUGHT,
-    &[Step::On(On::Gives(DAYS_LEFT, "09506000134352|1\n"))],
+    &[
+        Step::On(On::Gives(DAYS_LEFT, "09506000134352|1\n")),
+        Step::On(On::Gives(URGENT, "")),
+    ],
+    GOES_ON,
+];
+
+// An order is urgent that was, too; this one was cancelled.
+static OF_THE_THIRD: [&[Step]; 4] = [
+    &[
+        Step::On(On::HasMeta("1|LOTSTOCK|3|20578|21|1\n")),
+        Step::On(On::KeepsRows(Left::Old)),
+        Step::On(On::Run("UPDATE least SET days = 1")),
+        Step::On(On::Run("INSERT INTO urgents VALUES ('S-2', 13)")),
+    ],
+    BROUGHT,
+    &[
+        Step::On(On::Gives(DAYS_LEFT, "09506000134352|1\n")),
+        Step::On(On::Gives(URGENT, "S-2|13\n")),
+    ],
     GOES_ON,
 ];
 
@@ -188,4 +229,10 @@ fn opens_books_of_the_first_schema_restored_from_a_dump(rt: HostRuntime) {
 fn opens_books_of_the_second_schema(rt: HostRuntime) {
     let files = second_books(&rt, rt.alloc());
     run_from(&rt, rt.alloc(), files, OF_THE_SECOND.as_slice());
+}
+
+#[test]
+fn opens_books_of_the_third_schema(rt: HostRuntime) {
+    let files = third_books(&rt, rt.alloc());
+    run_from(&rt, rt.alloc(), files, OF_THE_THIRD.as_slice());
 }

@@ -103,7 +103,7 @@ pub(crate) fn not_opened<S: Alter + Drop>(
 /// The one row of `meta`, with its columns in order; the day is 2026-05-04, counted from 1970-01-01.
 const META: On = On::Gives(
     "SELECT id || '|' || mark || '|' || version || '|' || day || '|' || acts || '|' || shipments FROM meta",
-    "1|LOTSTOCK|3|20577|0|0\n",
+    "1|LOTSTOCK|4|20577|0|0\n",
 );
 
 /// The one row of `bins`.
@@ -131,17 +131,24 @@ fn an_empty_database_is_no_books(rt: HostRuntime) {
     run(&rt, rt.alloc(), EMPTY.as_slice());
 }
 
-// Books with the number of an older or of a later schema, those with another mark and those without a row of `meta` are
-// foreign; so is a day that no books have.
+// Books with the number of a schema that lacks tables, of one that there never was or of a later one, those with another
+// mark and those without a row of `meta` are foreign; so is a day that no books have. With the number of schema 3, which
+// has the same tables, it is no different.
 static OTHER_META: [&[Step]; 1] = [&[
     Step::Make,
     Step::On(On::Run("UPDATE meta SET version = 2")),
     Step::OpenNone,
-    Step::On(On::Run("UPDATE meta SET version = 4")),
+    Step::On(On::Run("UPDATE meta SET version = 0")),
     Step::OpenNone,
-    Step::On(On::Run("UPDATE meta SET version = 3, mark = 'LOTSTOCk'")),
+    Step::On(On::Run("UPDATE meta SET version = 5")),
+    Step::OpenNone,
+    Step::On(On::Run("UPDATE meta SET version = 4, mark = 'LOTSTOCk'")),
+    Step::OpenNone,
+    Step::On(On::Run("UPDATE meta SET version = 3")),
     Step::OpenNone,
     Step::On(On::Run("UPDATE meta SET mark = 'LOTSTOCK', day = 10956")),
+    Step::OpenNone,
+    Step::On(On::Run("UPDATE meta SET version = 4")),
     Step::OpenNone,
     Step::On(On::Run("DELETE FROM meta")),
     Step::OpenNone,
@@ -170,12 +177,17 @@ fn books_without_a_table_or_a_column_are_foreign(rt: HostRuntime) {
     run(&rt, rt.alloc(), OTHER_TABLES.as_slice());
 }
 
-// Books of schema 2, which are those without `urgents`, are brought up as they are opened, and so are those of schema 1,
-// which have no `least` either.
-static OLDER: [&[Step]; 2] = [
+// Books of schema 3, whose number alone is another, are brought up as they are opened, and so are those of schema 2, which
+// are those without `urgents`, and of schema 1, which have no `least` either.
+static OLDER: [&[Step]; 3] = [
     &[
         Step::Make,
         Step::House(&[Asked::Each(Table::GoodsAndBins)]),
+        Step::On(On::Run("UPDATE meta SET version = 3")),
+        Step::Open,
+        Step::On(On::HasRows(Left::GoodsAndBins)),
+    ],
+    &[
         Step::On(On::Run("DROP TABLE urgents")),
         Step::On(On::Run("UPDATE meta SET version = 2")),
         Step::Open,
@@ -262,7 +274,7 @@ fn missing_indexes_are_made(rt: HostRuntime) {
     run(&rt, rt.alloc(), INDEXES_MADE.as_slice());
 }
 
-// What others put beside the books is passed over, and stays.
+// What others put beside the books is passed over, and stays; so it is with those of schema 3.
 static OTHERS_BESIDE: [&[Step]; 2] = [
     &[
         Step::Make,
@@ -271,6 +283,7 @@ static OTHERS_BESIDE: [&[Step]; 2] = [
         Step::On(On::Run("CREATE UNIQUE INDEX sizes_of ON sizes (tbl, idx)")),
         Step::On(On::Run("INSERT INTO sizes VALUES ('items', NULL, '3')")),
         Step::On(On::Run("CREATE VIEW names AS SELECT name FROM bins")),
+        Step::On(On::Run("UPDATE meta SET version = 3")),
         Step::Open,
     ],
     &[

@@ -30,7 +30,7 @@ pub(crate) static QUERIES: [&str; 16] = [
 
 // The rows after the two customers.
 pub(crate) static TWO_CUSTOMERS_ROWS: [&str; 16] = [
-    "1|LOTSTOCK|3|20577|10|0\n",
+    "1|LOTSTOCK|4|20577|10|0\n",
     "04012345000016|Rye bread\n09506000134352|Oat drink\n",
     "A-01|STORE\nA-02|STORE\nQ-01|HOLD\nRETURNS|HOLD\n",
     "09506000134352|L0|20583|10|0\n09506000134352|L1|20634|6|0\n09506000134352|L2|20604|7|0\n",

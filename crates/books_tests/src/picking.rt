@@ -3,7 +3,7 @@
 use crate::asking::Asked;
 use crate::disk::run_after;
 use crate::lots_told::{RETURNED, SHIPPED};
-use crate::steps::Step;
+use crate::steps::{On, Step};
 use crate::table::Table;
 use std::alloc::Global;
 use std::process::Abort;
@@ -90,9 +90,9 @@ GET /orders/S-1 => 200 {"class":"NORMAL","customer":"Corner Shop","lines":[{"gti
 POST /recalls {"key":"K-14","gtin":"09506000134352","lot":"L2"} => 200 {"act":14,"returned":0}
 GET /orders/S-1 => 200 {"class":"NORMAL","customer":"Corner Shop","lines":[{"gtin":"09506000134352","ordered":12,"reserved":[],"shipped":12,"short":0,"staged":[]}],"order":"S-1","state":"DONE"}
 GET /orders/S-2 => 200 {"class":"NORMAL","customer":"Harbour Cafe","lines":[{"gtin":"09506000134352","ordered":12,"reserved":[{"lot":"L1","qty":10}],"shipped":0,"short":2,"staged":[]}],"order":"S-2","state":"OPEN"}
-GET /cards/09506000134352/L2 => 200 |STOCK CARD 09506000134352 Oat drink|LOT L2 EXPIRY 2026-05-31|            7 2026-05-04 RECEIPT  D-1/2                              10         10|           13 2026-05-04 SHIPMENT 1                                  -7          3|IN HOUSE 3
+GET /cards/09506000134352/L2 => 200 |STOCK CARD 09506000134352 Oat drink|LOT L2 EXPIRY 2026-05-31|            7 2026-05-04 RECEIPT  D-1/2                               10          10|           13 2026-05-04 SHIPMENT 1                                   -7           3|IN HOUSE 3
 GET /notices/09506000134352/L2 => 200 |RECALL NOTICE 09506000134352 Oat drink|LOT L2 EXPIRY 2026-05-31|BIN A-01 3|SHIPMENT 1 2026-05-04 7 S-1 Corner Shop|TOTAL BINS 3 SHIPPED 7
-GET /cards/09506000134352/L0 => 200 |STOCK CARD 09506000134352 Oat drink|LOT L0 EXPIRY 2026-05-10|           10 2026-05-04 RECEIPT  D-2/1                               5          5|           13 2026-05-04 SHIPMENT 1                                  -5          0|IN HOUSE 0
+GET /cards/09506000134352/L0 => 200 |STOCK CARD 09506000134352 Oat drink|LOT L0 EXPIRY 2026-05-10|           10 2026-05-04 RECEIPT  D-2/1                                5           5|           13 2026-05-04 SHIPMENT 1                                   -5           0|IN HOUSE 0
 GET /notices/09506000134352/L0 => 404 {"code":"N01"}
 GET /cards/09506000134352/Z9 => 404 {"code":"U03"}
 GET /notices/09506000134352/Z9 => 404 {"code":"N01"}
@@ -194,4 +194,23 @@ static ORDER_CANCELLED: [Step; 1] = [Step::House(&[Asked::Each(Table::Cancelled)
 #[test]
 fn cancels_an_order(rt: HostRuntime) {
     continues(&rt, rt.alloc(), ORDER_CANCELLED.as_slice());
+}
+
+// Three hundred orders of the same item wait behind the two customers. They are set as rows: a number each from the digits
+// of a table beside the books.
+static AMONG_MANY: [Step; 5] = [
+    Step::On(On::Run("CREATE TABLE digits (d INTEGER NOT NULL)")),
+    Step::On(On::Run("INSERT INTO digits VALUES (0), (1), (2), (3), (4), (5), (6), (7), (8), (9)")),
+    Step::On(On::Run(
+        "INSERT INTO orders SELECT 'M-' || (a.d * 100 + b.d * 10 + c.d), 10, 'Mill Inn', 'OPEN' FROM digits a, digits b, digits c WHERE a.d < 3",
+    )),
+    Step::On(On::Run(
+        "INSERT INTO lines SELECT ord, '09506000134352', 1, 0 FROM orders WHERE customer = 'Mill Inn'",
+    )),
+    Step::House(&[Asked::Each(Table::Picked)]),
+];
+
+#[test]
+fn picks_among_three_hundred_open_orders(rt: HostRuntime) {
+    continues(&rt, rt.alloc(), AMONG_MANY.as_slice());
 }

@@ -16,14 +16,14 @@ POST /cancels {"key":"K-15","order":"S-1"} => 200 {"act":15}
 POST /counts {"key":"K-16","gtin":"09506000134352","lot":"L2","bin":"A-01","qty":8} => 200 {"act":16,"change":0}
 GET /orders/S-1 => 200 {"class":"NORMAL","customer":"Corner Shop","lines":[{"gtin":"09506000134352","ordered":12,"reserved":[],"shipped":0,"short":0,"staged":[]}],"order":"S-1","state":"CANCELLED"}
 GET /orders/S-2 => 200 {"class":"NORMAL","customer":"Harbour Cafe","lines":[{"gtin":"09506000134352","ordered":12,"reserved":[{"lot":"L2","qty":8},{"lot":"L1","qty":3}],"shipped":0,"short":1,"staged":[]}],"order":"S-2","state":"OPEN"}
-GET /cards/09506000134352/L2 => 200 |STOCK CARD 09506000134352 Oat drink|LOT L2 EXPIRY 2026-05-31|            7 2026-05-04 RECEIPT  D-1/2                              10         10|           11 2026-05-04 WRITEOFF A-01                               -2          8|IN HOUSE 8
-GET /cards/09506000134352/L1 => 200 |STOCK CARD 09506000134352 Oat drink|LOT L1 EXPIRY 2026-06-30|            6 2026-05-04 RECEIPT  D-1/1                              10         10|           12 2026-05-04 WRITEON  A-02                                3         13|IN HOUSE 13
-GET /cards/09506000134352/L0 => 200 |STOCK CARD 09506000134352 Oat drink|LOT L0 EXPIRY 2026-05-10|           10 2026-05-04 RECEIPT  D-2/1                               5          5|IN HOUSE 5
+GET /cards/09506000134352/L2 => 200 |STOCK CARD 09506000134352 Oat drink|LOT L2 EXPIRY 2026-05-31|            7 2026-05-04 RECEIPT  D-1/2                               10          10|           11 2026-05-04 WRITEOFF A-01                                -2           8|IN HOUSE 8
+GET /cards/09506000134352/L1 => 200 |STOCK CARD 09506000134352 Oat drink|LOT L1 EXPIRY 2026-06-30|            6 2026-05-04 RECEIPT  D-1/1                               10          10|           12 2026-05-04 WRITEON  A-02                                 3          13|IN HOUSE 13
+GET /cards/09506000134352/L0 => 200 |STOCK CARD 09506000134352 Oat drink|LOT L0 EXPIRY 2026-05-10|           10 2026-05-04 RECEIPT  D-2/1                                5           5|IN HOUSE 5
 "#;
 
 // The rows after both picks.
 pub(crate) static PICKED_ROWS: [&str; 16] = [
-    "1|LOTSTOCK|3|20577|12|0\n",
+    "1|LOTSTOCK|4|20577|12|0\n",
     "04012345000016|Rye bread\n09506000134352|Oat drink\n",
     "A-01|STORE\nA-02|STORE\nQ-01|HOLD\nRETURNS|HOLD\n",
     "09506000134352|L0|20583|10|0\n09506000134352|L1|20634|6|0\n09506000134352|L2|20604|7|0\n",
@@ -43,7 +43,7 @@ pub(crate) static PICKED_ROWS: [&str; 16] = [
 
 // The rows after a recall that returned units, and the shipment of the others.
 pub(crate) static RETURNED_ROWS: [&str; 16] = [
-    "1|LOTSTOCK|3|20577|14|1\n",
+    "1|LOTSTOCK|4|20577|14|1\n",
     "04012345000016|Rye bread\n09506000134352|Oat drink\n",
     "A-01|STORE\nA-02|STORE\nQ-01|HOLD\nRETURNS|HOLD\n",
     "09506000134352|L0|20583|10|0\n09506000134352|L1|20634|6|0\n09506000134352|L2|20604|7|0\n",
@@ -63,7 +63,7 @@ pub(crate) static RETURNED_ROWS: [&str; 16] = [
 
 // The rows after a shipment, and the recall of a lot that it holds.
 pub(crate) static SHIPPED_ROWS: [&str; 16] = [
-    "1|LOTSTOCK|3|20577|14|1\n",
+    "1|LOTSTOCK|4|20577|14|1\n",
     "04012345000016|Rye bread\n09506000134352|Oat drink\n",
     "A-01|STORE\nA-02|STORE\nQ-01|HOLD\nRETURNS|HOLD\n",
     "09506000134352|L0|20583|10|0\n09506000134352|L1|20634|6|0\n09506000134352|L2|20604|7|0\n",
@@ -83,7 +83,7 @@ pub(crate) static SHIPPED_ROWS: [&str; 16] = [
 
 // The rows after these.
 pub(crate) static STOCK_TAKEN_ROWS: [&str; 16] = [
-    "1|LOTSTOCK|3|20577|16|0\n",
+    "1|LOTSTOCK|4|20577|16|0\n",
     "04012345000016|Rye bread\n09506000134352|Oat drink\n",
     "A-01|STORE\nA-02|STORE\nQ-01|HOLD\nRETURNS|HOLD\n",
     "09506000134352|L0|20583|10|1\n09506000134352|L1|20634|6|0\n09506000134352|L2|20604|7|0\n",

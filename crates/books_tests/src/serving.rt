@@ -4,19 +4,45 @@ use crate::disk::{run_clients, run_lines};
 use crate::opening::{business_day, new_books};
 use command_line::{Fault, Work, tell};
 use house::House;
-use service::{FilesAt, Worked, serve_logged, serve_on, worked};
+use service::{AfterWork, FilesAt, do_work, serve_logged, serve_on};
 use sqlite::{Alter, Connection};
 use std::alloc::Global;
+use std::cell::Cell;
 use std::io::{self, Read, Write};
 use std::net::{Shutdown, TcpListener, TcpStream};
 use std::process::Abort;
-use std::time::Instant;
+use std::time::{Clock, Duration, Instant};
+
+/// A clock of a test.
+#[derive(Clone, Copy)]
+pub(crate) enum TestClock<'a> {
+    Host(&'a HostRuntime),
+    /// It goes on by so many seconds each time that it is read, and has been read so often.
+    Stepping(u64, &'a Cell<u64>),
+}
+
+impl Clock for TestClock<'_> {
+    fn monotonic(&self) -> io::Result<Duration> {
+        match *self {
+            TestClock::Host(host) => host.monotonic(),
+            TestClock::Stepping(seconds, readings) => {
+                readings.set(readings.get().saturating_add(1));
+                Ok(Duration::from_secs(seconds.saturating_mul(readings.get())))
+            }
+        }
+    }
+
+    fn since_1970(&self) -> io::Result<Duration> {
+        self.monotonic()
+    }
+}
 
 // A house with new books serves so many clients that wait at the listener, and logs this, or has no log.
 pub(crate) fn clients_served<S: Alter + Drop>(
     rt: &impl Abort,
     alloc: Global,
     conn: Connection<S>,
+    clock: TestClock<'_>,
     listener: &TcpListener,
     count: u32,
     logged: Option<&str>,
@@ -25,10 +51,10 @@ pub(crate) fn clients_served<S: Alter + Drop>(
     match logged {
         Some(lines) => {
             let mut log: Vec<u8> = Vec::new(alloc);
-            serve_logged(listener, &mut house, count, &mut log);
+            serve_logged(&clock, listener, &mut house, count, &mut log);
             assert!(rt; log.as_slice() == lines.as_bytes(), "{lines:?}");
         }
-        None => serve_on(listener, &mut house, count),
+        None => serve_on(&clock, listener, &mut house, count),
     }
     house.close().close()
 }
@@ -65,7 +91,14 @@ fn serves_connections_one_after_another(rt: HostRuntime) {
     let third = sent(&rt, &rt, &listener, SECOND_BIN);
     drop(sent(&rt, &rt, &listener, THIRD_BIN));
     let last = sent(&rt, &rt, &listener, THIRD_BIN);
-    run_clients(&rt, rt.alloc(), &listener, 5, Some(FIVE_LOGGED));
+    run_clients(
+        &rt,
+        rt.alloc(),
+        TestClock::Host(&rt),
+        &listener,
+        5,
+        Some(FIVE_LOGGED),
+    );
     is_answered(&rt, rt.alloc(), first, BIN_MADE);
     is_answered(&rt, rt.alloc(), third, SECOND_MADE);
     is_answered(&rt, rt.alloc(), last, THIRD_MADE);
@@ -82,12 +115,31 @@ fn waits_ten_seconds_for_a_client(rt: HostRuntime) {
         .write_all([b'x'; 40_000].as_slice())
         .expect(&rt, "sent");
     let start = Instant::now(&rt).expect(&rt, "a time");
-    run_clients(&rt, rt.alloc(), &listener, 2, None);
+    run_clients(&rt, rt.alloc(), TestClock::Host(&rt), &listener, 2, None);
     let waited = start.elapsed(&rt).expect(&rt, "a time");
     assert!(rt; waited.as_secs() >= 19, "{} s", waited.as_secs());
     is_answered(&rt, rt.alloc(), silent, b"");
     is_answered(&rt, rt.alloc(), going_on, BIN_MADE);
 }
+
+// Of a client whose time is over, what it has sent is all that it sends: here a head that does not end. The clock is read as
+// the client comes, before each read and before each write: at 16 seconds the head is read, at 32 no more is, and at 48
+// there is still time for the answer.
+#[test]
+fn ends_a_client_whose_time_is_over(rt: HostRuntime) {
+    let listener = TcpListener::bind(&rt, "127.0.0.1:0").expect(&rt, "a listener");
+    let slow = begun(&rt, &rt, &listener, b"POST /bins HTTP/1.1\r\n");
+    let readings = Cell::new(0);
+    let clock = TestClock::Stepping(16, &readings);
+    let start = Instant::now(&rt).expect(&rt, "a time");
+    run_clients(&rt, rt.alloc(), clock, &listener, 1, None);
+    let waited = start.elapsed(&rt).expect(&rt, "a time");
+    assert!(rt; waited.as_secs() < 10, "{} s", waited.as_secs());
+    is_answered(&rt, rt.alloc(), slow, NO_HEAD);
+}
+
+const NO_HEAD: &[u8] =
+    b"HTTP/1.1 400 Bad Request\r\ncontent-type: application/json\r\ncontent-length: 14\r\nconnection: close\r\n\r\n{\"code\":\"W01\"}";
 
 const FIVE_LOGGED: &str =
     "POST /bins 200 98\nPOST /bins 400 113\nPOST /bins 200 98\nPOST /bins 200 98\nPOST /bins 200 98\n";
@@ -177,7 +229,7 @@ fn told_of(alloc: Global, end: Result<(), Fault>) -> Vec<u8> {
 fn ended<S: Alter + Drop>(
     rt: &impl Abort,
     alloc: Global,
-    found: Result<Worked<S>, Fault>,
+    found: Result<AfterWork<S>, Fault>,
     expected: &str,
 ) -> Connection<S> {
     match found {
@@ -200,7 +252,7 @@ fn silent<S: Alter + Drop>(
 ) -> Connection<S> {
     let mut printed: Vec<u8> = Vec::new(host.alloc());
     let mut log: Vec<u8> = Vec::new(host.alloc());
-    let found = worked(host, &GoodsFiles, conn, work, &mut printed, &mut log);
+    let found = do_work(host, &GoodsFiles, conn, work, &mut printed, &mut log);
     assert!(rt; printed.is_empty() && log.is_empty());
     ended(rt, host.alloc(), found, expected)
 }
@@ -241,7 +293,7 @@ fn served<S: Alter + Drop>(
         log: true,
     };
     let mut log: Vec<u8> = Vec::new(host.alloc());
-    let found = worked(host, &GoodsFiles, conn, &work, &mut out, &mut log);
+    let found = do_work(host, &GoodsFiles, conn, &work, &mut out, &mut log);
     assert!(rt; log.as_slice() == ONE_LOGGED.as_bytes());
     assert!(rt; !out.listens_elsewhere);
     let told = format!(in host.alloc(); "listening on 127.0.0.1:{port}\n").ok();

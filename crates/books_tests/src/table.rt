@@ -11,7 +11,7 @@ use crate::goods::{
 };
 use crate::hostile::GOODS_AND_BINS_ROWS;
 use crate::least_days::{A_DAY_MORE, ASKED_FOR, STAGED_RETURNS, STAGED_STAYS};
-use crate::limits::{LAST_UNIT, MANY_UNITS, NEXT_DAY, TWENTY_LINES, TWO_LINES};
+use crate::limits::{LAST_UNIT, MANY_UNITS, NEXT_DAY, TWO_LINES};
 use crate::old_files::{OLD_ROWS, OLD_TOLD};
 use crate::order_rows::TWO_CUSTOMERS_ROWS;
 use crate::orders_shown::ORDERS_SHOWN;
@@ -63,7 +63,6 @@ pub(crate) enum Table {
     FilesAndCustomers,
     NextDay,
     TwoLines,
-    TwentyLines,
     ManyUnits,
     LastUnit,
     GoneNamed,
@@ -119,7 +118,6 @@ impl Table {
             Table::FilesAndCustomers => FILES_AND_CUSTOMERS,
             Table::NextDay => NEXT_DAY,
             Table::TwoLines => TWO_LINES,
-            Table::TwentyLines => TWENTY_LINES,
             Table::ManyUnits => MANY_UNITS,
             Table::LastUnit => LAST_UNIT,
             Table::GoneNamed => GONE_NAMED,

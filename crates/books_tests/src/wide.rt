@@ -1,5 +1,5 @@
-//! Files and texts at their full length: goods-in files of a thousand rows, each as wide as a row may be, the card of the
-//! lot that they bring, and the notice of a lot in three hundred shipments.
+//! Files and texts at their full length: goods-in files of a thousand rows, each as wide as a row may be, which bring an item
+//! to the limit of its units, the card of the lot that they bring, and the notice of a lot in three hundred shipments.
 
 use crate::asking::{Asked, exchanges, served_exchange};
 use crate::disk::run;
@@ -13,17 +13,34 @@ use std::process::Abort;
 /// A text that is long.
 #[derive(Clone, Copy)]
 pub(crate) enum Long {
-    /// The file of a delivery of twenty characters.
-    File(&'static str),
-    /// The card of the lot after the files of both deliveries, between which all of it was written off.
+    /// The files of ten deliveries, of twenty characters each.
+    Files,
+    /// One file more.
+    LastFile,
+    /// The card of the lot after these. Before the last of them all of it was written off.
     Card,
     /// The notice of the lot in three hundred shipments.
     Notice,
 }
 
-const FIRST_DELIVERY: &str = "DELIVERY-2026-05-04A";
+// The units of a row.
+const UNITS: u64 = 1_000_000;
 
-const SECOND_DELIVERY: &str = "DELIVERY-2026-05-04B";
+// Ten deliveries, with the units of their last rows, bring all the units that an item may have but one.
+static DELIVERIES: [(&str, u64); 10] = [
+    ("DELIVERY-2026-05-04A", UNITS),
+    ("DELIVERY-2026-05-04B", UNITS),
+    ("DELIVERY-2026-05-04C", UNITS),
+    ("DELIVERY-2026-05-04D", UNITS),
+    ("DELIVERY-2026-05-04E", UNITS),
+    ("DELIVERY-2026-05-04F", UNITS),
+    ("DELIVERY-2026-05-04G", UNITS),
+    ("DELIVERY-2026-05-04H", UNITS),
+    ("DELIVERY-2026-05-04I", UNITS),
+    ("DELIVERY-2026-05-04J", UNITS - 1),
+];
+
+const LAST_DELIVERY: &str = "DELIVERY-2026-05-04K";
 
 // The lines of a delivery: a thousand numbers of four digits.
 const FIRST_LINE: u64 = 9_000;
@@ -37,11 +54,16 @@ fn push(rt: &impl Abort, text: &mut String, more: Result<String, AllocError>) {
     assert!(rt; text.push_str(more.as_str()).is_ok());
 }
 
-fn file(rt: &impl Abort, alloc: Global, delivery: &str) -> String {
+fn file(rt: &impl Abort, alloc: Global, delivery: &str, last: u64) -> String {
     let mut rows = String::new(alloc);
     for number in FIRST_LINE..FIRST_LINE + ROWS {
+        let units = if number == FIRST_LINE + ROWS - 1 {
+            last
+        } else {
+            UNITS
+        };
         let row = format!(in alloc;
-            "{delivery},{number},09506000134352,LOT-2026-06-30-00001,260630,STORE-HALL-1-RACK-01,1000000|"
+            "{delivery},{number},09506000134352,LOT-2026-06-30-00001,260630,STORE-HALL-1-RACK-01,{units}|"
         );
         push(rt, &mut rows, row);
     }
@@ -51,26 +73,49 @@ fn file(rt: &impl Abort, alloc: Global, delivery: &str) -> String {
     line.ok().expect(rt, "memory")
 }
 
-// The card's lines of a file whose first row is this act.
-fn receipts(rt: &impl Abort, alloc: Global, act: u64, delivery: &str) -> String {
-    let mut lines = String::new(alloc);
+// Adds the card's lines of the file of a delivery, all of whose rows but the last have as many units. The first row is this
+// act, and so many units were there before it.
+fn push_receipts(
+    rt: &impl Abort,
+    alloc: Global,
+    lines: &mut String,
+    delivery: &str,
+    act: u64,
+    before: u64,
+    last: u64,
+) {
+    let mut rest = before;
     for row in 0..ROWS {
+        let units = if row == ROWS - 1 { last } else { UNITS };
+        rest = rest.saturating_add(units);
         let line = format!(in alloc;
-            "{:>13} 2026-05-04 RECEIPT  {delivery}/{}     1000000 {:>10}|",
+            "{:>13} 2026-05-04 RECEIPT  {delivery}/{} {units:>12} {rest:>11}|",
             act.saturating_add(row),
-            FIRST_LINE + row,
-            (row + 1) * 1_000_000
+            FIRST_LINE + row
         );
-        push(rt, &mut lines, line);
+        push(rt, lines, line);
+    }
+}
+
+// The card's lines of the ten deliveries.
+fn receipts(rt: &impl Abort, alloc: Global) -> String {
+    let mut lines = String::new(alloc);
+    let mut act = 7_u64;
+    let mut before = 0_u64;
+    for row in DELIVERIES.as_slice() {
+        push_receipts(rt, alloc, &mut lines, row.0, act, before, row.1);
+        act = act.saturating_add(ROWS);
+        before = before.saturating_add(ROWS * UNITS);
     }
     lines
 }
 
 fn card(rt: &impl Abort, alloc: Global) -> String {
-    let first = receipts(rt, alloc, 7, FIRST_DELIVERY);
-    let second = receipts(rt, alloc, 1_008, SECOND_DELIVERY);
+    let first = receipts(rt, alloc);
+    let mut last = String::new(alloc);
+    push_receipts(rt, alloc, &mut last, LAST_DELIVERY, 10_009, 0, UNITS);
     let line = format!(in alloc;
-        "GET /cards/09506000134352/LOT-2026-06-30-00001 => 200 |STOCK CARD 09506000134352 Oat drink|LOT LOT-2026-06-30-00001 EXPIRY 2026-06-30|{first}         1007 2026-05-04 WRITEOFF STORE-HALL-1-RACK-01      -1000000000          0|{second}IN HOUSE 1000000000"
+        "GET /cards/09506000134352/LOT-2026-06-30-00001 => 200 |STOCK CARD 09506000134352 Oat drink|LOT LOT-2026-06-30-00001 EXPIRY 2026-06-30|{first}        10007 2026-05-04 RECEIPT  D-1/1                                1 10000000000|        10008 2026-05-04 WRITEOFF STORE-HALL-1-RACK-01      -10000000000           0|{last}IN HOUSE 1000000000"
     );
     line.ok().expect(rt, "memory")
 }
@@ -87,6 +132,12 @@ fn notice(rt: &impl Abort, alloc: Global) -> String {
     line.ok().expect(rt, "memory")
 }
 
+fn exchanges_files<S: Alter>(rt: &impl Abort, alloc: Global, house: &mut House<S>) {
+    for row in DELIVERIES.as_slice() {
+        exchanges(rt, alloc, house, file(rt, alloc, row.0, row.1).as_str());
+    }
+}
+
 /// The house answers as the text says, and writes the card as it is served.
 pub(crate) fn exchanges_long<S: Alter>(
     rt: &impl Abort,
@@ -95,35 +146,43 @@ pub(crate) fn exchanges_long<S: Alter>(
     long: Long,
 ) {
     match long {
-        Long::File(delivery) => {
-            exchanges(rt, alloc, house, file(rt, alloc, delivery).as_str());
+        Long::Files => exchanges_files(rt, alloc, house),
+        Long::LastFile => {
+            exchanges(
+                rt,
+                alloc,
+                house,
+                file(rt, alloc, LAST_DELIVERY, UNITS).as_str(),
+            );
         }
         Long::Card => served_exchange(rt, alloc, house, card(rt, alloc).as_str()),
         Long::Notice => exchanges(rt, alloc, house, notice(rt, alloc).as_str()),
     }
 }
 
-// A bin with a name of twenty characters has all the units that an item may have, is emptied, and has them again. Two
-// orders of another item are short of a million each.
+// A bin with a name of twenty characters has all the units that an item may have but one, gets that one and no other, is
+// emptied by one count, and has a tenth of them again. Two orders of another item are short of a million each.
 pub(crate) static WIDE: &str = r#"
 POST /bins {"key":"K-6","bin":"STORE-HALL-1-RACK-01","kind":"STORE"} => 200 {"act":6}
-GET /stock/09506000134352 => 200 {"gtin":"09506000134352","lots":[{"bins":[{"bin":"STORE-HALL-1-RACK-01","qty":1000000000}],"expiry":"2026-06-30","lot":"LOT-2026-06-30-00001","reserved":0,"staged":0,"status":"FREE"}],"name":"Oat drink"}
-POST /counts {"key":"K-7","gtin":"09506000134352","lot":"LOT-2026-06-30-00001","bin":"STORE-HALL-1-RACK-01","qty":0} => 200 {"act":1007,"change":-1000000000}
-POST /recalls {"key":"K-8","gtin":"09506000134352","lot":"LOT-2026-06-30-00001"} => 200 {"act":2008,"returned":0}
+GET /stock/09506000134352 => 200 {"gtin":"09506000134352","lots":[{"bins":[{"bin":"STORE-HALL-1-RACK-01","qty":9999999999}],"expiry":"2026-06-30","lot":"LOT-2026-06-30-00001","reserved":0,"staged":0,"status":"FREE"}],"name":"Oat drink"}
+POST /receipts {"delivery":"D-1","line":1,"label":"01095060001343521726063010LOT-2026-06-30-00001","bin":"STORE-HALL-1-RACK-01","qty":1} => 200 {"act":10007}
+POST /receipts {"delivery":"D-1","line":2,"label":"01095060001343521726063010LOT-2026-06-30-00001","bin":"STORE-HALL-1-RACK-01","qty":1} => 409 {"code":"Q05"}
+POST /counts {"key":"K-7","gtin":"09506000134352","lot":"LOT-2026-06-30-00001","bin":"STORE-HALL-1-RACK-01","qty":0} => 200 {"act":10008,"change":-10000000000}
+POST /recalls {"key":"K-8","gtin":"09506000134352","lot":"LOT-2026-06-30-00001"} => 200 {"act":11009,"returned":0}
 GET /notices/09506000134352/LOT-2026-06-30-00001 => 200 |RECALL NOTICE 09506000134352 Oat drink|LOT LOT-2026-06-30-00001 EXPIRY 2026-06-30|BIN STORE-HALL-1-RACK-01 1000000000|TOTAL BINS 1000000000 SHIPPED 0
-POST /orders {"key":"K-9","order":"S-1","customer":"Corner Shop","lines":[{"gtin":"04012345000016","qty":1000000}]} => 200 {"act":2009,"short":1000000}
-POST /orders {"key":"K-10","order":"S-2","customer":"Harbour Cafe","lines":[{"gtin":"04012345000016","qty":1000000}]} => 200 {"act":2010,"short":1000000}
+POST /orders {"key":"K-9","order":"S-1","customer":"Corner Shop","lines":[{"gtin":"04012345000016","qty":1000000}]} => 200 {"act":11010,"short":1000000}
+POST /orders {"key":"K-10","order":"S-2","customer":"Harbour Cafe","lines":[{"gtin":"04012345000016","qty":1000000}]} => 200 {"act":11011,"short":1000000}
 GET /shortages/04012345000016 => 200 |SHORTAGES 04012345000016 Rye bread|SHORT S-1 1000000 Corner Shop|SHORT S-2 1000000 Harbour Cafe|TOTAL 2000000
 "#;
 
 static WIDE_FILES: [&[Step]; 1] = [&[Step::NewHouse(&[
     Asked::Each(Table::GoodsAndBins),
     Asked::Part(Table::Wide, 0, 1),
-    Asked::Long(Long::File(FIRST_DELIVERY)),
-    Asked::Part(Table::Wide, 1, 2),
-    Asked::Long(Long::File(SECOND_DELIVERY)),
+    Asked::Long(Long::Files),
+    Asked::Part(Table::Wide, 1, 4),
+    Asked::Long(Long::LastFile),
     Asked::Long(Long::Card),
-    Asked::Part(Table::Wide, 3, 5),
+    Asked::Part(Table::Wide, 5, 5),
 ])]];
 
 #[test]

@@ -6,7 +6,7 @@ use crate::exchange::Exchange;
 use crate::failing::stops::{Side, Stopped, stop};
 use crate::failing::trial::{Seen, Trial};
 use crate::files::{Calls, Pair};
-use crate::old_files::{first_books, second_books};
+use crate::old_files::{first_books, second_books, third_books};
 use crate::seen_rows::Rows;
 use std::alloc::Global;
 use std::process::Abort;
@@ -93,15 +93,15 @@ impl Stopped for Bringing {
     }
 }
 
-// The file that stops, and at how many calls at least.
-static SIDES: [(Side, u64); 2] = [(Side::Log, 30), (Side::Database, 30)];
+// The files that stop.
+static SIDES: [Side; 2] = [Side::Log, Side::Database];
 
-// Some stops leave the tables of the older schema, and some those of the newest.
-fn are_brought_up(rt: &impl Abort, alloc: Global, files: Pair) {
+// Some stops leave the tables of the older schema, and some those of the newest; each file stops at so many calls at least.
+fn are_brought_up(rt: &impl Abort, alloc: Global, files: Pair, least: u64) {
     let run = Bringing::of(rt, alloc, files);
-    for (side, least) in SIDES.as_slice() {
+    for side in SIDES.as_slice() {
         let count = stop(rt, alloc, &run, *side, (0, u64::MAX));
-        assert!(rt; count.stops >= *least, "{} stops", count.stops);
+        assert!(rt; count.stops >= least, "{} stops", count.stops);
         assert!(rt; count.none != 0, "{} of the older schema", count.none);
         assert!(rt; count.whole != 0, "{} of the newest", count.whole);
     }
@@ -110,10 +110,16 @@ fn are_brought_up(rt: &impl Abort, alloc: Global, files: Pair) {
 
 #[test]
 fn disks_stop_as_books_of_the_first_schema_are_brought_up(rt: HostRuntime) {
-    are_brought_up(&rt, rt.alloc(), first_books(&rt, rt.alloc()));
+    are_brought_up(&rt, rt.alloc(), first_books(&rt, rt.alloc()), 30);
 }
 
 #[test]
 fn disks_stop_as_books_of_the_second_schema_are_brought_up(rt: HostRuntime) {
-    are_brought_up(&rt, rt.alloc(), second_books(&rt, rt.alloc()));
+    are_brought_up(&rt, rt.alloc(), second_books(&rt, rt.alloc()), 30);
+}
+
+// One page is written.
+#[test]
+fn disks_stop_as_books_of_the_third_schema_are_brought_up(rt: HostRuntime) {
+    are_brought_up(&rt, rt.alloc(), third_books(&rt, rt.alloc()), 3);
 }

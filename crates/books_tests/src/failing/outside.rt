@@ -14,7 +14,7 @@ use std::process::Abort;
 static UNOPENED: &str = r#"UPDATE meta SET id = 2
 UPDATE meta SET mark = 'LOTSTOCk'
 UPDATE meta SET version = 2
-UPDATE meta SET version = 4
+UPDATE meta SET version = 5
 UPDATE meta SET day = 10956
 UPDATE meta SET acts = 1000000000001
 UPDATE meta SET shipments = -1"#;
@@ -25,7 +25,7 @@ static READ: &str =
 UPDATE items SET name = ' Oat drink' WHERE gtin = '09506000134352' => GET /stock/09506000134352
 UPDATE least SET days = 3651 WHERE gtin = '09506000134352' => GET /stock/09506000134352
 UPDATE least SET days = -1 WHERE gtin = '09506000134352' => POST /leasts {"key":"N-1","gtin":"09506000134352","days":1}
-INSERT INTO least VALUES ('9506000134352', 0) => POST /days {"key":"N-1","day":"2026-05-06"}
+INSERT INTO least VALUES ('9506000134352', 1) => POST /days {"key":"N-1","day":"2026-05-06"}
 INSERT INTO bins VALUES ('a-01', 'STORE') => POST /bins {"key":"N-1","bin":"B-01","kind":"STORE"}
 UPDATE bins SET kind = 'RETURNS' WHERE name = 'A-01' => POST /moves {"key":"N-1","gtin":"09506000134352","lot":"L1","from":"A-01","to":"Q-01","qty":1}
 INSERT INTO lots VALUES ('9506000134352', 'L1', 20634, 6, 0) => POST /days {"key":"N-1","day":"2026-05-06"}
@@ -37,14 +37,14 @@ INSERT INTO recalls VALUES ('09506000134352', '', 13) => GET /stock/095060001343
 UPDATE recalls SET act = 1000000000001 WHERE lot = 'L2' => GET /notices/09506000134352/L2
 INSERT INTO stock VALUES ('09506000134352', 'L12345678901234567890', 'A-01', 10) => GET /stock/09506000134352
 UPDATE stock SET bin = 'A_01' WHERE lot = 'L1' => GET /stock/09506000134352
-UPDATE stock SET qty = 1000000001 WHERE lot = 'L1' => GET /picklists/S-1
+UPDATE stock SET qty = 10000000001 WHERE lot = 'L1' => GET /picklists/S-1
 INSERT INTO orders VALUES ('S 1', 8, 'Corner Shop', 'OPEN') => GET /shortages/09506000134352
 UPDATE orders SET act = -1 WHERE ord = 'S-1' => GET /orders/S-1
 UPDATE orders SET customer = '' WHERE ord = 'S-1' => GET /picklists/S-1
 UPDATE orders SET state = 'open' WHERE ord = 'S-1' => GET /orders/S-1
 UPDATE urgents SET act = -1 WHERE ord = 'S-3' => GET /orders/S-3
 INSERT INTO lines VALUES ('S-1', '095060001343520', 12, 0) => GET /orders/S-1
-UPDATE lines SET ordered = 1000000001 WHERE ord = 'S-1' => GET /shortages/09506000134352
+UPDATE lines SET ordered = 10000000001 WHERE ord = 'S-1' => GET /shortages/09506000134352
 UPDATE lines SET shipped = -1 WHERE ord = 'S-1' => POST /shipments {"key":"N-1","order":"S-1"}
 INSERT INTO staged VALUES ('S_1', '09506000134352', 'L1', 1) => GET /stock/09506000134352
 INSERT INTO staged VALUES ('S-1', '', 'L1', 1) => POST /days {"key":"N-1","day":"2026-05-06"}
@@ -53,12 +53,12 @@ UPDATE staged SET qty = -1 WHERE ord = 'S-1' => POST /unpicks {"key":"N-1","orde
 INSERT INTO reserved VALUES ('', '09506000134352', 'L1', 1) => GET /stock/09506000134352
 INSERT INTO reserved VALUES ('S-2', '09506000134353', 'L1', 1) => GET /orders/S-2
 INSERT INTO reserved VALUES ('S-1', '09506000134352', 'L 1', 1) => GET /orders/S-1
-UPDATE reserved SET qty = 1000000001 WHERE ord = 'S-1' => POST /picks {"key":"N-1","order":"S-1","gtin":"09506000134352","lot":"L1","bin":"A-01","qty":1}
+UPDATE reserved SET qty = 10000000001 WHERE ord = 'S-1' => POST /picks {"key":"N-1","order":"S-1","gtin":"09506000134352","lot":"L1","bin":"A-01","qty":1}
 INSERT INTO shiplines VALUES (1, '09506000134352', 'L2', 1); INSERT INTO shipments VALUES (1, -1, 20577, 'S-1') => GET /notices/09506000134352/L2
 INSERT INTO shiplines VALUES (1, '09506000134352', 'L2', 1); INSERT INTO shipments VALUES (1, 11, 84006, 'S-1') => GET /notices/09506000134352/L2
 INSERT INTO shiplines VALUES (1, '09506000134352', 'L2', 1); INSERT INTO shipments VALUES (1, 11, 20577, 's-1') => GET /notices/09506000134352/L2
 INSERT INTO shiplines VALUES (1000000000001, '09506000134352', 'L2', 1) => GET /notices/09506000134352/L2
-INSERT INTO shiplines VALUES (1, '09506000134352', 'L2', 1000000001); INSERT INTO shipments VALUES (1, 11, 20577, 'S-1') => GET /notices/09506000134352/L2
+INSERT INTO shiplines VALUES (1, '09506000134352', 'L2', 10000000001); INSERT INTO shipments VALUES (1, 11, 20577, 'S-1') => GET /notices/09506000134352/L2
 UPDATE cards SET act = 1000000000001 WHERE lot = 'L1' => GET /cards/09506000134352/L1
 UPDATE cards SET day = 10956 WHERE lot = 'L1' => GET /cards/09506000134352/L1
 UPDATE cards SET kind = 'MOVE' WHERE lot = 'L1' => GET /cards/09506000134352/L1

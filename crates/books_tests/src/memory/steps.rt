@@ -54,7 +54,7 @@ static SET_UP_STEPS: [DayStep; 6] = [
         told: "",
         repeats: "",
         changes: &[
-            ("meta", "1|LOTSTOCK|3|20577|0|0\n"),
+            ("meta", "1|LOTSTOCK|4|20577|0|0\n"),
             ("bins", "RETURNS|HOLD\n"),
         ],
     },
@@ -63,7 +63,7 @@ static SET_UP_STEPS: [DayStep; 6] = [
         told: r#"200 {"act":1}"#,
         repeats: "K/K-1|1|ITEM\n09506000134352\nOat drink|{\"act\":1}\n",
         changes: &[
-            ("meta", "1|LOTSTOCK|3|20577|1|0\n"),
+            ("meta", "1|LOTSTOCK|4|20577|1|0\n"),
             ("items", "09506000134352|Oat drink\n"),
             ("least", "09506000134352|0\n"),
         ],
@@ -73,7 +73,7 @@ static SET_UP_STEPS: [DayStep; 6] = [
         told: r#"200 {"act":2}"#,
         repeats: "K/K-2|2|ITEM\n04012345000016\nRye bread|{\"act\":2}\n",
         changes: &[
-            ("meta", "1|LOTSTOCK|3|20577|2|0\n"),
+            ("meta", "1|LOTSTOCK|4|20577|2|0\n"),
             (
                 "items",
                 "04012345000016|Rye bread\n09506000134352|Oat drink\n",
@@ -86,7 +86,7 @@ static SET_UP_STEPS: [DayStep; 6] = [
         told: r#"200 {"act":3}"#,
         repeats: "K/K-3|3|BIN\nA-01\nSTORE|{\"act\":3}\n",
         changes: &[
-            ("meta", "1|LOTSTOCK|3|20577|3|0\n"),
+            ("meta", "1|LOTSTOCK|4|20577|3|0\n"),
             ("bins", "A-01|STORE\nRETURNS|HOLD\n"),
         ],
     },
@@ -95,7 +95,7 @@ static SET_UP_STEPS: [DayStep; 6] = [
         told: r#"200 {"act":4}"#,
         repeats: "K/K-4|4|BIN\nA-02\nSTORE|{\"act\":4}\n",
         changes: &[
-            ("meta", "1|LOTSTOCK|3|20577|4|0\n"),
+            ("meta", "1|LOTSTOCK|4|20577|4|0\n"),
             ("bins", "A-01|STORE\nA-02|STORE\nRETURNS|HOLD\n"),
         ],
     },
@@ -104,7 +104,7 @@ static SET_UP_STEPS: [DayStep; 6] = [
         told: r#"200 {"act":5}"#,
         repeats: "K/K-5|5|BIN\nQ-01\nHOLD|{\"act\":5}\n",
         changes: &[
-            ("meta", "1|LOTSTOCK|3|20577|5|0\n"),
+            ("meta", "1|LOTSTOCK|4|20577|5|0\n"),
             ("bins", "A-01|STORE\nA-02|STORE\nQ-01|HOLD\nRETURNS|HOLD\n"),
         ],
     },
@@ -117,7 +117,7 @@ static BOOKED_STEPS: [DayStep; 5] = [
         told: r#"200 {"act":6}"#,
         repeats: "D/D-1/1|6|RECEIVE\n09506000134352\nL1\n2026-06-30\nA-01\n10|{\"act\":6}\n",
         changes: &[
-            ("meta", "1|LOTSTOCK|3|20577|6|0\n"),
+            ("meta", "1|LOTSTOCK|4|20577|6|0\n"),
             ("lots", "09506000134352|L1|20634|6|0\n"),
             ("stock", "09506000134352|L1|A-01|10\n"),
             ("cards", "09506000134352|L1|6|20577|RECEIPT|D-1/1|10|10\n"),
@@ -128,7 +128,7 @@ static BOOKED_STEPS: [DayStep; 5] = [
         told: r#"200 {"act":7}"#,
         repeats: "D/D-1/2|7|RECEIVE\n09506000134352\nL2\n2026-05-31\nA-01\n10|{\"act\":7}\n",
         changes: &[
-            ("meta", "1|LOTSTOCK|3|20577|7|0\n"),
+            ("meta", "1|LOTSTOCK|4|20577|7|0\n"),
             (
                 "lots",
                 "09506000134352|L1|20634|6|0\n09506000134352|L2|20604|7|0\n",
@@ -148,7 +148,7 @@ static BOOKED_STEPS: [DayStep; 5] = [
         told: r#"200 {"act":8,"short":0}"#,
         repeats: "K/K-8|8|ORDER\nS-1\nCorner Shop\n09506000134352\n12|{\"act\":8,\"short\":0}\n",
         changes: &[
-            ("meta", "1|LOTSTOCK|3|20577|8|0\n"),
+            ("meta", "1|LOTSTOCK|4|20577|8|0\n"),
             ("orders", "S-1|8|Corner Shop|OPEN\n"),
             ("lines", "S-1|09506000134352|12|0\n"),
             (
@@ -162,7 +162,7 @@ static BOOKED_STEPS: [DayStep; 5] = [
         told: r#"200 {"act":9,"short":4}"#,
         repeats: "K/K-9|9|ORDER\nS-2\nHarbour Cafe\n09506000134352\n12|{\"act\":9,\"short\":4}\n",
         changes: &[
-            ("meta", "1|LOTSTOCK|3|20577|9|0\n"),
+            ("meta", "1|LOTSTOCK|4|20577|9|0\n"),
             (
                 "orders",
                 "S-1|8|Corner Shop|OPEN\nS-2|9|Harbour Cafe|OPEN\n",
@@ -182,7 +182,7 @@ static BOOKED_STEPS: [DayStep; 5] = [
         told: r#"200 {"act":10}"#,
         repeats: "D/D-2/1|10|RECEIVE\n09506000134352\nL0\n2026-05-10\nA-01\n5|{\"act\":10}\n",
         changes: &[
-            ("meta", "1|LOTSTOCK|3|20577|10|0\n"),
+            ("meta", "1|LOTSTOCK|4|20577|10|0\n"),
             (
                 "lots",
                 "09506000134352|L0|20583|10|0\n09506000134352|L1|20634|6|0\n09506000134352|L2|20604|7|0\n",
@@ -210,7 +210,7 @@ static SHIPPED_STEPS: [DayStep; 4] = [
         told: r#"200 {"act":11}"#,
         repeats: "K/K-11|11|PICK\nS-1\n09506000134352\nL0\nA-01\n5|{\"act\":11}\n",
         changes: &[
-            ("meta", "1|LOTSTOCK|3|20577|11|0\n"),
+            ("meta", "1|LOTSTOCK|4|20577|11|0\n"),
             (
                 "stock",
                 "09506000134352|L1|A-01|10\n09506000134352|L2|A-01|10\n",
@@ -227,7 +227,7 @@ static SHIPPED_STEPS: [DayStep; 4] = [
         told: r#"200 {"act":12}"#,
         repeats: "K/K-12|12|PICK\nS-1\n09506000134352\nL2\nA-01\n7|{\"act\":12}\n",
         changes: &[
-            ("meta", "1|LOTSTOCK|3|20577|12|0\n"),
+            ("meta", "1|LOTSTOCK|4|20577|12|0\n"),
             (
                 "stock",
                 "09506000134352|L1|A-01|10\n09506000134352|L2|A-01|3\n",
@@ -247,7 +247,7 @@ static SHIPPED_STEPS: [DayStep; 4] = [
         told: r#"200 {"act":13,"shipment":1}"#,
         repeats: "K/K-13|13|SHIP\nS-1|{\"act\":13,\"shipment\":1}\n",
         changes: &[
-            ("meta", "1|LOTSTOCK|3|20577|13|1\n"),
+            ("meta", "1|LOTSTOCK|4|20577|13|1\n"),
             (
                 "orders",
                 "S-1|8|Corner Shop|DONE\nS-2|9|Harbour Cafe|OPEN\n",
@@ -273,7 +273,7 @@ static SHIPPED_STEPS: [DayStep; 4] = [
         told: r#"200 {"act":14,"returned":0}"#,
         repeats: "K/K-14|14|RECALL\n09506000134352\nL2|{\"act\":14,\"returned\":0}\n",
         changes: &[
-            ("meta", "1|LOTSTOCK|3|20577|14|1\n"),
+            ("meta", "1|LOTSTOCK|4|20577|14|1\n"),
             ("recalls", "09506000134352|L2|14\n"),
             ("reserved", "S-2|09506000134352|L1|10\n"),
         ],
@@ -308,7 +308,7 @@ static SHOWN_STEPS: [DayStep; 6] = [
     },
     DayStep {
         asked: "GET /cards/09506000134352/L2",
-        told: "200 |STOCK CARD 09506000134352 Oat drink|LOT L2 EXPIRY 2026-05-31|            7 2026-05-04 RECEIPT  D-1/2                              10         10|           13 2026-05-04 SHIPMENT 1                                  -7          3|IN HOUSE 3",
+        told: "200 |STOCK CARD 09506000134352 Oat drink|LOT L2 EXPIRY 2026-05-31|            7 2026-05-04 RECEIPT  D-1/2                               10          10|           13 2026-05-04 SHIPMENT 1                                   -7           3|IN HOUSE 3",
         repeats: "",
         changes: &[],
     },
@@ -328,7 +328,7 @@ static LAST_STEPS: [DayStep; 4] = [
         told: r#"200 {"accepted":3,"repeated":0}"#,
         repeats: "D/D-9/1|15|RECEIVE\n09506000134352\nM1\n2026-11-30\nA-01\n5|{\"act\":15}\nD/D-9/2|16|RECEIVE\n09506000134352\nM2\n2026-12-31\nA-02\n7|{\"act\":16}\nD/D-9/3|17|RECEIVE\n04012345000016\nN1\n2026-12-31\nA-02\n4|{\"act\":17}\n",
         changes: &[
-            ("meta", "1|LOTSTOCK|3|20577|17|1\n"),
+            ("meta", "1|LOTSTOCK|4|20577|17|1\n"),
             (
                 "lots",
                 "04012345000016|N1|20818|17|0\n09506000134352|L0|20583|10|0\n09506000134352|L1|20634|6|0\n09506000134352|L2|20604|7|0\n09506000134352|M1|20787|15|0\n09506000134352|M2|20818|16|0\n",
@@ -351,14 +351,14 @@ static LAST_STEPS: [DayStep; 4] = [
         asked: r#"POST /days {"key":"K-18","day":"2026-05-05"}"#,
         told: r#"200 {"act":18,"returned":0}"#,
         repeats: "K/K-18|18|OPENDAY\n2026-05-05|{\"act\":18,\"returned\":0}\n",
-        changes: &[("meta", "1|LOTSTOCK|3|20578|18|1\n")],
+        changes: &[("meta", "1|LOTSTOCK|4|20578|18|1\n")],
     },
     DayStep {
         asked: r#"POST /leasts {"key":"K-19","gtin":"09506000134352","days":57}"#,
         told: r#"200 {"act":19,"returned":0}"#,
         repeats: "K/K-19|19|LEAST\n09506000134352\n57|{\"act\":19,\"returned\":0}\n",
         changes: &[
-            ("meta", "1|LOTSTOCK|3|20578|19|1\n"),
+            ("meta", "1|LOTSTOCK|4|20578|19|1\n"),
             ("least", "04012345000016|0\n09506000134352|57\n"),
             (
                 "reserved",
@@ -371,7 +371,7 @@ static LAST_STEPS: [DayStep; 4] = [
         told: r#"200 {"act":20,"short":5}"#,
         repeats: "K/K-20|20|URGENT\nS-3\nMill Inn\n09506000134352\n6\n04012345000016\n9|{\"act\":20,\"short\":5}\n",
         changes: &[
-            ("meta", "1|LOTSTOCK|3|20578|20|1\n"),
+            ("meta", "1|LOTSTOCK|4|20578|20|1\n"),
             (
                 "orders",
                 "S-1|8|Corner Shop|DONE\nS-2|9|Harbour Cafe|OPEN\nS-3|20|Mill Inn|OPEN\n",
