@@ -1,7 +1,8 @@
 #!/bin/sh
 # The main job of Lot stock, from nothing: builds lotd, reads a label, makes books, receives goods by
 # their label, takes an order, shows what is reserved for it, the item's stock, the pick list and the shortages,
-# picks, ships, recalls, prints the recall notice, takes in a goods-in file and takes an urgent order. Needs the Rattle kit and curl.
+# picks, ships, recalls, prints the recall notice, takes in a goods-in file and takes an urgent order. Needs the Rattle kit,
+# python3 and curl.
 # Exit status 0 only if every answer was the expected one.
 set -eu
 cd "$(dirname "$0")"
@@ -142,7 +143,9 @@ expect "the notice" "$notice" "$("$lotd" notice --db "$db" 09506000134352 AB12)"
 echo "> lotd card --db stock.db 09506000134352 AB12"
 expect "the card" "STOCK CARD 09506000134352 Oat drink
 LOT AB12 EXPIRY 2026-09-30
-            3 2026-05-04 RECEIPT  D-1/1                              10         10
-            7 2026-05-04 SHIPMENT 1                                  -7          3
+            3 2026-05-04 RECEIPT  D-1/1                               10          10
+            7 2026-05-04 SHIPMENT 1                                   -7           3
 IN HOUSE 3" "$("$lotd" card --db "$db" 09506000134352 AB12)"
+echo "> lotd history --db stock.db | tail -1"
+expect "the last act" "$(printf '11\t2026-05-04\tK/K-7\tURGENT\tS-2\tMill Inn\t09506000134352\t45')" "$("$lotd" history --db "$db" | tail -1)"
 echo "demo: every answer was the expected one"

@@ -157,25 +157,26 @@ TITLES = [b"", b"x" * 41, b" x", b"x ", b"x\x7fy", b"x\x1fy", b"x\xc3\xa4"]
 EXPIRIES = [day("1951-01-01") - 1, day("2249-12-31") + 1, -(2**63), 2**63 - 1]
 DAYS = [day("2000-01-01") - 1, day("2199-12-31") + 1, -(2**63), 2**63 - 1]
 ACTS = [-1, 10**12 + 1, -(2**63), 2**63 - 1]
-UNITS = [-1, 10**9 + 1, -(2**63), 2**63 - 1]
+UNITS = [-1, 10**10 + 1, -(2**63), 2**63 - 1]
 DAYS_LEFT = [-1, 3651, -(2**63), 2**63 - 1]
 FLAGS = [-1, 2]
 KINDS = [b"", b"store", b"STORE ", b"RETURNS"]
 STATES = [b"", b"open", b"OPEN\x00", b"SHIPPED"]
 POSTINGS = [b"", b"receipt", b"RECEIPTS", b"MOVE"]
 
-# Who reads what. An act on the oats but a shipment reads all rows of the item, its lots that have units or are named, and
-# the bins and open orders concerned; a shipment its order, and what is staged of the item; what is reserved for an order a
-# pick of it alone. An order is shown by its own rows, and what the items of its lines ask for. The first act reads the open
-# orders, each with its row of `urgents`.
-PLANNED = "receipt move count adjustment order urgent cancel pick unpick hold release recall least day goodsin".split()
-ACTS_ON_ITEM = PLANNED + ["shipment"]
+# Who reads what. An act on the oats but a pick or a shipment reads all rows of the item, its lots that have units or are
+# named, and the bins and open orders concerned; a pick what it names, its item's recalls and the bins of its lot; a shipment
+# its order, and what is staged of the item; what is reserved for an order a pick of it alone. An order is shown by its own
+# rows, and what the items of its lines ask for. The first act reads the open orders, each with its row of `urgents`.
+PLANNED = "receipt move count adjustment order urgent cancel unpick hold release recall least day goodsin".split()
+NAMED = PLANNED + ["pick"]
+ACTS_ON_ITEM = NAMED + ["shipment"]
 ACTS_ON_ORDER = ["unpick", "shipment"]
 ALL_ACTS = ["item", "bin"] + ACTS_ON_ITEM
 SHOWN_ORDER = ["show order", "pick list"]
-OF_ITEM = ["show stock", "shortages", "card", "notice", "item"] + PLANNED
-OF_LOT = SHOWN_ORDER + ["show stock", "card"] + PLANNED
-OF_RECALLS = ["show stock", "card", "notice"] + PLANNED
+OF_ITEM = ["show stock", "shortages", "card", "notice", "item"] + NAMED
+OF_LOT = SHOWN_ORDER + ["show stock", "card"] + NAMED
+OF_RECALLS = ["show stock", "card", "notice"] + NAMED
 OF_STOCK = ["show stock"] + PLANNED
 OF_ORDERS = ["shortages"] + ALL_ACTS
 OF_LINES = SHOWN_ORDER + ["shortages"] + ACTS_ON_ITEM
@@ -190,14 +191,14 @@ SOUGHT = "rows are sought by it, and none is sought by such a value"
 COLUMNS = [
     ("meta", "id", "1", [0, 2, -1], "opening", None),
     ("meta", "mark", "1", [b"", b"LOTSTOCk", b"LOTSTOCK ", b"\xff"], "opening", None),
-    ("meta", "version", "1", [0, 1, 2, 4, -1], "opening", None),
+    ("meta", "version", "1", [0, 1, 2, 5, -1], "opening", None),
     ("meta", "day", "1", DAYS, "opening", None),
     ("meta", "acts", "1", ACTS, "opening", None),
     ("meta", "shipments", "1", ACTS, "opening", None),
     ("items", "gtin", "gtin = '%s'" % RYE, GTINS, ["item"], None),
     ("items", "name", "gtin = '%s'" % OATS, TITLES, OF_ITEM, None),
     ("bins", "name", "name = 'Q-01'", NAMES, ["bin"], None),
-    ("bins", "kind", "name = 'A-01'", KINDS, SHOWN_ORDER + ["bin"] + PLANNED, None),
+    ("bins", "kind", "name = 'A-01'", KINDS, SHOWN_ORDER + ["bin"] + NAMED, None),
     ("lots", "gtin", "lot = 'L1'", GTINS, ["day"], None),
     ("lots", "lot", "lot = 'L1'", LOTS, ["show stock", "day"], None),
     ("lots", "expiry", "lot = 'L1'", EXPIRIES, OF_LOT, None),
@@ -249,7 +250,7 @@ COLUMNS = [
     ("repeats", "spell", "k = 'D/D-1/1'", [], [], "any text is a value of it"),
     ("repeats", "reply", "k = 'D/D-1/1'", [b"x" * 97, b"x" * 1000], ["repeat"], None),
     ("least", "gtin", "gtin = '%s'" % OATS, GTINS, ["day"], None),
-    ("least", "days", "gtin = '%s'" % OATS, DAYS_LEFT, ["show stock"] + SHOWN_ORDER + PLANNED, None),
+    ("least", "days", "gtin = '%s'" % OATS, DAYS_LEFT, ["show stock"] + SHOWN_ORDER + NAMED, None),
     ("urgents", "ord", "ord = 'S-9'", NAMES, [], SOUGHT),
     ("urgents", "act", "ord = 'S-9'", ACTS, ["show urgent"] + OF_ORDERS, None),
 ]

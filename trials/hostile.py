@@ -1,8 +1,9 @@
 """Hostile clients at the port of lotd: slow, silent, cut off, talkative and endless ones, with a sound request between
-each two, which is answered as if nobody else were there. Needs the Rattle kit, and takes about a minute.
+each two, which is answered as if nobody else were there. Needs the Rattle kit, and takes a minute and a half.
 Exit status 0 only if every answer was the expected one and the server ended by itself after its last connection.
 """
 import os
+import select
 import socket
 import subprocess
 import sys
@@ -19,6 +20,8 @@ STOCK = b"GET /stock/09506000134352 HTTP/1.1\r\n\r\n"
 SHOWN = (200, '{"gtin":"09506000134352","lots":[],"name":"Oat drink"}')
 DAY = b'POST /days HTTP/1.1\r\nContent-Length: 32\r\n\r\n{"key":"K-9","day":"2026-05-05"}'
 HEAD = 43
+# The connections of clients that do not hang up.
+left_open = []
 
 
 def connected():
@@ -53,6 +56,30 @@ def stuck():
     with connected() as peer:
         peer.sendall(DAY[:-1])
         return answer_of(peer)
+
+
+def dripping():
+    """Sends a byte every nine seconds, until it is answered: after thirty seconds, by what has come until then."""
+    start = time.monotonic()
+    with connected() as peer:
+        for byte in STOCK:
+            peer.sendall(bytes([byte]))
+            if select.select([peer], [], [], 9)[0]:
+                break
+        got, took = answer_of(peer), time.monotonic() - start
+    return got if 29 < took < 32 else "after %.1f seconds: %r" % (took, got)
+
+
+def dripping_on():
+    """Sends its request, takes its answer, sends a byte every nine seconds behind it and does not hang up."""
+    peer = connected()
+    left_open.append(peer)
+    peer.sendall(STOCK)
+    got = answer_of(peer)
+    for _ in range(3):
+        time.sleep(9)
+        peer.sendall(b"x")
+    return got
 
 
 def gone(size):
@@ -92,7 +119,10 @@ def never_ends():
 
 
 def sound():
-    return asks(STOCK)
+    """Is answered within five seconds: of the thirty of a client that still hangs on three are left."""
+    start = time.monotonic()
+    got, took = asks(STOCK), time.monotonic() - start
+    return got if took < 5 else "after %.1f seconds: %r" % (took, got)
 
 
 # What each client is called, what it does, and what it must be told.
@@ -101,6 +131,8 @@ hostile = [
     ("nothing at all", silent, None),
     ("nothing, and an end", lambda: asks(b""), refused(400, "W01")),
     ("all but the last byte", stuck, None),
+    ("a byte every nine seconds", dripping, refused(400, "W01")),
+    ("a byte every nine seconds behind the request", dripping_on, SHOWN),
     ("all but the last byte, and an end", lambda: asks(DAY[:-1]), refused(400, "W02")),
     ("270,400 bytes without an end", endless_head, refused(413, "W08")),
     ("100,000 bytes behind the request", talkative, SHOWN),

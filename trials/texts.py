@@ -81,7 +81,7 @@ def card_rows(count):
 
 def card_text(rows):
     lines = ["STOCK CARD %s Oat drink" % OATS, "LOT L1 EXPIRY 2026-09-04"]
-    lines += ["%13d %s %-8s %-25s %11d %10d" % (act, DAY_TEXT, kind, note, change, rest) for act, kind, note, change, rest in rows]
+    lines += ["%13d %s %-8s %-25s %12d %11d" % (act, DAY_TEXT, kind, note, change, rest) for act, kind, note, change, rest in rows]
     lines.append("IN HOUSE %d" % rows[-1][4])
     return ("\n".join(lines) + "\n").encode()
 
