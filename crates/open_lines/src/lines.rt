@@ -4,30 +4,30 @@ ghost use Rattle.std.specs.Prelude.{◌≡◌, ◌&&◌, true, [], OnOk, OnErr};
 ghost use Rattle.values.specs.Values.{same_text};
 ghost use Rattle.open_lines.specs.OpenLines.{orders_at, are_apart, with_order, without_order, ChangesAt, IsSame, Gains, Loses, Keeps, has_line_row, is_closed_state, has_closed_row};
 
-use crate::item::Item;
 use commands::{LineRow, OrderRow, OrderState};
 use std::alloc::{AllocError, Global};
 use std::collections::BTreeMap;
 use std::marker::Model;
+use text_keys::TextKey;
 use values::{Gtin, Name};
 
 /// For each item the orders that may be open and have a line of it, each once. What reads them looks at their rows: an
 /// order that is closed, or is none, may stand here too.
 #[derive(Drop)]
 pub struct OpenLines {
-    orders: BTreeMap<Item, Vec<Name>>,
+    orders: BTreeMap<TextKey, Vec<Name>>,
     alloc: Global,
 }
 
 impl Model for OpenLines {
-    ghost use Rattle.std.specs.Prelude.{map};
+    ghost use Rattle.std.specs.Prelude.{map, reverse};
     ghost use Rattle.open_lines.specs.OpenLines.{Entries, AreApart};
 
     ghost Value = { Entries };
 
-    ghost view = { λ s. map (λ e. (e.0, e.1.items)) s.orders.entries };
+    ghost view = { λ s. map (λ e. (reverse e.0, e.1.items)) s.orders.entries };
 
-    ghost invariant = { λ s. AreApart (map (λ e. (e.0, e.1.items)) s.orders.entries) };
+    ghost invariant = { λ s. AreApart (map (λ e. (reverse e.0, e.1.items)) s.orders.entries) };
 }
 
 fn is_closed(state: OrderState) -> bool
@@ -74,7 +74,7 @@ impl OpenLines {
         ensures orders { result.now ≡ orders_at self.now gtin.now }
         ensures once { are_apart result.now ≡ true }
     {
-        match self.orders.get(&Item::of(gtin)) {
+        match self.orders.get(&TextKey::of_gtin(gtin)) {
             Some(orders) => orders.as_slice(),
             None => &[],
         }
@@ -85,12 +85,12 @@ impl OpenLines {
         ensures added { OnOk result (ChangesAt gtin (with_order order) self.old self.new) }
         ensures refused { OnErr result (IsSame self.old self.new) }
     {
-        match self.orders.get_mut(&Item::of(&gtin)) {
+        match self.orders.get_mut(&TextKey::of_gtin(&gtin)) {
             Some(orders) => add_name(orders, order),
             None => {
                 let mut orders = Vec::new(self.alloc);
                 orders.push(order)?;
-                self.orders.insert(Item::of(&gtin), orders)?;
+                self.orders.insert(TextKey::of_gtin(&gtin), orders)?;
                 Ok(())
             }
         }
@@ -100,7 +100,7 @@ impl OpenLines {
     fn remove(&mut self, gtin: &Gtin, order: &Name)
         ensures { ChangesAt gtin.now (without_order order.now) self.old self.new }
     {
-        if let Some(orders) = self.orders.get_mut(&Item::of(gtin)) {
+        if let Some(orders) = self.orders.get_mut(&TextKey::of_gtin(gtin)) {
             drop_name(orders, order);
         }
     }

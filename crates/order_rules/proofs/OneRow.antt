@@ -9,24 +9,21 @@ use Rattle.plan.specs.Overlap.{plan_rows, reserved_in}
 use Rattle.plan.specs.declared.Demand.{Demand}
 use Rattle.plan.specs.declared.Supply.{Supply}
 use Rattle.plan.specs.declared.Row.{Row}
+use Rattle.order_rules.specs.DecidedPick.{one_row}
 
 module _ (b l : ℕ) where
-  -- the rows of a plan in which so many units are reserved, all for a booking on a lot
-  abbrev pub one_row : ℕ → List Row
-  one_row n = if not (n == 0) then record { booking = b; lot = l; qty = n } ∷ [] else []
-
   abbrev demand : ℕ → List Demand
   demand n = record { booking = b; need = n } ∷ []
 
   abbrev supply : ℕ → List Supply
   supply n = record { lot = l; avail = n } ∷ []
 
-  is_plan : (n : ℕ) → one_row n ≡ plan_rows (demand n) (supply n)
+  is_plan : (n : ℕ) → one_row b l n ≡ plan_rows (demand n) (supply n)
   is_plan n =
       let all : min (0 + n) (0 + n) - max 0 0 ≡ n = omega arith in
-      sym (append-nil (one_row (min (0 + n) (0 + n) - max 0 0)) ∙ ap one_row all)
+      sym (append-nil (one_row b l (min (0 + n) (0 + n) - max 0 0)) ∙ ap (one_row b l) all)
 
-  reserved_of_one : (n : ℕ) → reserved_in b l (one_row n) ≡ n
+  reserved_of_one : (n : ℕ) → reserved_in b l (one_row b l n) ≡ n
   reserved_of_one n =
       elim (n == 0) as (λ t. (n == 0) ≡ t → reserved_in b l (if not t then record { booking = b; lot = l; qty = n } ∷ [] else []) ≡ n) [
         | true ↦ λ e. omega (arith, eqb-true n 0 e)
@@ -43,7 +40,7 @@ module _ (b l : ℕ) where
   unfolding IsDistinct
   alone k = (tt, tt)
 
-  pub left_of_one : (n q : ℕ) (before after : List Row) → before ≡ one_row n → IsPicked b l q before after → reserved_in b l after ≡ n - q
-  left_of_one n q before after e picked =
-      let is : after ≡ plan_rows (need_lowered b q (demand n)) (avail_lowered l q (supply n)) = picked (demand n) (supply n) (alone b) (alone l) (e ∙ is_plan n) in
+  pub left_of_one : (n q : ℕ) (after : List Row) → IsPicked b l q (one_row b l n) after → reserved_in b l after ≡ n - q
+  left_of_one n q after picked =
+      let is : after ≡ plan_rows (need_lowered b q (demand n)) (avail_lowered l q (supply n)) = picked (demand n) (supply n) (alone b) (alone l) (is_plan n) in
       ap (reserved_in b l) (is ∙ (λ i. plan_rows (lowered_demand n q i) (lowered_supply n q i)) ∙ sym (is_plan (n - q))) ∙ reserved_of_one (n - q)

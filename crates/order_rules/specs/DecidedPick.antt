@@ -1,20 +1,45 @@
 -- What is decided of units picked for an order, and of those put back, by the rows of the slice: the conditions judged, and the rows changed.
-use Rattle.std.specs.Prelude.{ℕ, ◌+◌, ◌-◌, Bool, not, nat_lt, List, [], ◌∷◌, find}
+use Rattle.std.specs.Prelude.{◌≡◌, ℕ, ◌+◌, ◌-◌, ◌==◌, Bool, not, nat_lt, if◌then◌else◌, List, [], ◌∷◌, find}
 use Rattle.values.specs.Values.{same_text}
 use Rattle.commands.specs.declared.refusal.Refusal.TheVariants.{UnknownItem, UnknownBin, UnknownLot, UnknownOrder, NoSuchLine, LotRecalled, LotExpired, TooFewDays, LotHeld, NotStoreBin, OrderClosed, NotInBin, OverReserved, OverStaged}
 use Rattle.commands.specs.declared.command.Picking.{Picking}
 use Rattle.commands.specs.declared.rows.ReservedRow.{ReservedRow}
 use Rattle.machine.specs.Verdict.{Judgement}
+use Rattle.plan.specs.Changes.{IsPicked}
+use Rattle.plan.specs.Overlap.{reserved_in}
+use Rattle.plan.specs.declared.Row.{Row}
 use Rattle.row_rules.specs.Seen.{capped, sees_item, sees_bin, lot_seen, sees_recall, meta_after, plain_reply, none_put}
 use Rattle.row_rules.specs.Status.{is_past_row, is_below_row, least_seen}
-use Rattle.row_rules.specs.SeenOrders.{sees_order, sees_open, sees_line}
-use Rattle.row_rules.specs.SeenLots.{sees_lot, sees_hold, in_bin_seen, stock_put, stock_gone, stock_rows_with}
-use Rattle.row_rules.specs.SeenStages.{reserved_seen, reserved_put, reserved_gone, on_stage_seen, staged_put, staged_gone, staged_rows_with}
+use Rattle.row_rules.specs.SeenOrders.{sees_order, sees_open, sees_line, order_row_seen}
+use Rattle.row_rules.specs.SeenLots.{sees_lot, sees_hold, stock_found, in_bin_seen, stock_put, stock_gone, stock_rows_with}
+use Rattle.row_rules.specs.SeenStages.{reserved_found, reserved_seen, reserved_put, reserved_gone, staged_found, on_stage_seen, staged_put, staged_gone, staged_rows_with}
 use Rattle.row_rules.specs.Plans.{is_store_found}
 use Rattle.row_rules.specs.Replanning.{item_replanned}
 use Rattle.row_rules.specs.declared.slice.Slice.{Slice}
 use Rattle.row_rules.specs.declared.slice.Change.{Change}
 use Rattle.row_rules.specs.declared.replanning.Replanned.{Replanned}
+use Rattle.order_rules.specs.declared.pick_seen.UnitsSeen.{UnitsSeen}
+use Rattle.order_rules.specs.declared.pick_seen.PickSeen.{PickSeen}
+
+-- Looking up
+
+-- the rows of the units that a picking moves, and what it names
+abbrev pub units_found : Slice → Picking → UnitsSeen
+units_found s p = record {
+  in_bin = stock_found s.rows.stock p.lot p.bin;
+  staged = staged_found s.rows.staged p.order p.lot;
+  reserved = reserved_found s.rows.reserved p.order p.lot;
+}
+
+abbrev pub named_found : Slice → Picking → PickSeen
+named_found s p = record {
+  item = sees_item s p.lot.gtin;
+  bin = find (λ r. same_text p.bin r.name) s.rows.bins;
+  lot = lot_seen s p.lot;
+  order = order_row_seen s p.order;
+  line = sees_line s p.order p.lot.gtin;
+  units = units_found s p;
+}
 
 -- Judging
 
@@ -67,6 +92,14 @@ changes_with s p stock staged put dropped = record {
 -- Units picked are taken from their own reservation, and disturb no other: this much is left of it.
 abbrev pub reserved_left : Slice → Picking → ℕ
 reserved_left s p = reserved_seen s p.order p.lot - p.qty
+
+-- The rows of a plan that reserves so many units, all for one booking on one lot; and what is left of them by a plan from
+-- which units are picked.
+abbrev pub one_row : ℕ → ℕ → ℕ → List Row
+one_row b l n = if not (n == 0) then record { booking = b; lot = l; qty = n } ∷ [] else []
+
+abbrev pub IsLeftInPlan : ℕ → ℕ → ℕ → Type 0
+IsLeftInPlan n q left = (b l : ℕ) (after : List Row) → IsPicked b l q (one_row b l n) after → reserved_in b l after ≡ left
 
 abbrev pub pick_changes : Slice → Picking → Change
 pick_changes s p =

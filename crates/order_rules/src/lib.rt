@@ -4,6 +4,7 @@
 mod booking;
 mod cancelling;
 mod customer_orders;
+mod pick_seen;
 mod picking;
 mod shipments;
 mod urgent_orders;

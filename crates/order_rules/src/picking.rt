@@ -1,58 +1,53 @@
 //! Units that go from a bin onto the stage of an order, and back.
 
-ghost use Rattle.std.specs.Prelude.{◌≡◌, ◌+◌, ◌-◌, ◌≤◌, IfOk};
+ghost use Rattle.std.specs.Prelude.{◌≡◌, ◌+◌, ◌-◌, ◌==◌, [], if◌then◌else◌, IfOk};
+ghost use Rattle.std.specs.List.{cons_option};
 ghost use Rattle.machine.specs.Verdict.{first_refusal};
-ghost use Rattle.plan.specs.declared.TheConstants.{SUM_MAX as SUM_MAX_lem};
 ghost use Rattle.row_rules.specs.Seen.{capped, none_put};
-ghost use Rattle.row_rules.specs.SeenStages.{reserved_put as reserved_put_lem, reserved_gone as reserved_gone_lem};
-ghost use Rattle.order_rules.specs.DecidedPick.{pick_seen, unpick_seen, pick_changes, unpick_changes, changes_with, reserved_left, replanned_with as replanned_with_lem, sees_store as sees_store_lem};
+ghost use Rattle.row_rules.specs.SeenStages.{reserved_qty as reserved_qty_lem, reserved_put as reserved_put_lem};
+ghost use Rattle.order_rules.specs.DecidedPick.{units_found, pick_seen, unpick_seen, pick_changes, unpick_changes, changes_with, IsLeftInPlan, replanned_with as replanned_with_lem};
 
-use commands::{Listed, LotRow, Picking, Refusal, ReservedRow, StagedRow, StockRow};
-use label::BusinessDay;
-use plan::{Plan, Row, SUM_MAX};
+use crate::pick_seen::{PickSeen, UnitsSeen};
+use commands::{Listed, Picking, Refusal, ReservedRow, StagedRow, StockRow};
 use row_rules::changing::{meta_next, none_put, plain_reply};
 use row_rules::judging::first_of;
-use row_rules::orders_seen::{order_row_seen, sees_line, sees_open, sees_order};
+use row_rules::orders_seen::is_open_row;
 use row_rules::plans::{ItemRows, item_rows};
-use row_rules::pushing::push_if;
+use row_rules::pushing::row_gone;
 use row_rules::replanning::{Replanned, replan_item};
-use row_rules::seeing::{lot_seen, sees_bin, sees_hold, sees_item, sees_recall};
-use row_rules::stages::{
-    on_stage_seen, reserved_gone, reserved_put, reserved_seen, staged_gone, staged_put,
-    staged_rows_with,
-};
+use row_rules::seeing::{is_held_row, sees_recall};
+use row_rules::stages::{reserved_put, reserved_qty, staged_put, staged_qty, staged_rows_with};
 use row_rules::status::{is_below, is_past, least_days};
-use row_rules::stock::{sees_lot, stock_gone, stock_put, stock_rows_with, units_in_bin};
-use row_rules::supplies::is_store_bin;
+use row_rules::stock::{stock_put, stock_rows_with, units_of};
+use row_rules::supplies::is_store;
 use row_rules::{Change, Dropped, Put, Slice};
 use std::alloc::{AllocError, Global};
-use values::{Name, Qty};
+use values::Qty;
 
 /// The refusal of a picking, if it is refused.
 pub fn judge_pick(slice: &Slice, p: &Picking) -> Option<Refusal>
     ensures { result ≡ first_refusal (pick_seen slice.now p.now) }
 {
-    let known_item = sees_item(slice, &p.lot.gtin);
-    let known_bin = sees_bin(slice, &p.bin);
-    let known_lot = sees_lot(slice, &p.lot);
-    let known_order = sees_order(slice, &p.order);
-    let known_line = sees_line(slice, &p.order, &p.lot.gtin);
+    let seen = PickSeen::of(slice, p);
+    let known_bin = seen.bin.is_some();
+    let known_lot = seen.lot.is_some();
+    let known_order = seen.order.is_some();
     let recalled = sees_recall(slice, &p.lot);
-    let past = is_past(lot_seen(slice, &p.lot), slice.meta.day.day());
+    let past = is_past(seen.lot, slice.meta.day.day());
     let days = least_days(slice.rows.least.as_slice(), &p.lot.gtin);
-    let below = is_below(lot_seen(slice, &p.lot), slice.meta.day, days);
-    let held = sees_hold(slice, &p.lot);
-    let store = sees_store(slice, &p.bin);
-    let open = sees_open(slice, &p.order);
-    let in_bin = units_in_bin(slice, &p.bin, &p.lot);
-    let reserved = reserved_seen(slice, &p.order, &p.lot);
+    let below = is_below(seen.lot, slice.meta.day, days);
+    let held = is_held_row(seen.lot);
+    let store = is_store(seen.bin);
+    let open = is_open_row(seen.order);
+    let in_bin = units_of(seen.units.in_bin);
+    let reserved = reserved_qty(seen.units.reserved);
     let units = u64::from(p.qty.units());
     first_of(&[
-        (!known_item, Refusal::UnknownItem),
+        (!seen.item, Refusal::UnknownItem),
         (!known_bin, Refusal::UnknownBin),
         (!known_lot, Refusal::UnknownLot),
         (!known_order, Refusal::UnknownOrder),
-        (!known_line, Refusal::NoSuchLine),
+        (!seen.line, Refusal::NoSuchLine),
         (recalled, Refusal::LotRecalled),
         (past, Refusal::LotExpired),
         (below, Refusal::TooFewDays),
@@ -68,50 +63,44 @@ pub fn judge_pick(slice: &Slice, p: &Picking) -> Option<Refusal>
 pub fn judge_unpick(slice: &Slice, p: &Picking) -> Option<Refusal>
     ensures { result ≡ first_refusal (unpick_seen slice.now p.now) }
 {
-    let known_item = sees_item(slice, &p.lot.gtin);
-    let known_bin = sees_bin(slice, &p.bin);
-    let known_lot = sees_lot(slice, &p.lot);
-    let known_order = sees_order(slice, &p.order);
-    let known_line = sees_line(slice, &p.order, &p.lot.gtin);
-    let open = sees_open(slice, &p.order);
-    let staged = on_stage_seen(slice, &p.order, &p.lot);
+    let seen = PickSeen::of(slice, p);
+    let known_bin = seen.bin.is_some();
+    let known_lot = seen.lot.is_some();
+    let known_order = seen.order.is_some();
+    let open = is_open_row(seen.order);
+    let staged = staged_qty(seen.units.staged);
     let units = u64::from(p.qty.units());
     first_of(&[
-        (!known_item, Refusal::UnknownItem),
+        (!seen.item, Refusal::UnknownItem),
         (!known_bin, Refusal::UnknownBin),
         (!known_lot, Refusal::UnknownLot),
         (!known_order, Refusal::UnknownOrder),
-        (!known_line, Refusal::NoSuchLine),
+        (!seen.line, Refusal::NoSuchLine),
         (!open, Refusal::OrderClosed),
         (staged < units, Refusal::OverStaged),
     ])
-}
-
-// Whether the bin is a STORE bin.
-fn sees_store(slice: &Slice, bin: &Name) -> bool
-    ensures { result ≡ sees_store_lem slice.now bin.now }
-{
-    is_store_bin(slice.rows.bins.as_slice(), bin)
 }
 
 /// What a picking changes.
 pub fn change_pick(alloc: Global, slice: &Slice, p: &Picking) -> Result<Change, AllocError>
     ensures { IfOk result (λ change. change ≡ pick_changes slice.now p.now) }
 {
-    let in_bin = less(units_in_bin(slice, &p.bin, &p.lot), p.qty);
-    let staged = more(on_stage_seen(slice, &p.order, &p.lot), p.qty);
-    let reserved = own_row_lowered(alloc, slice, p)?;
-    change_with(alloc, slice, p, in_bin, staged, reserved)
+    let seen = UnitsSeen::of(slice, p);
+    let in_bin = less(units_of(seen.in_bin), p.qty);
+    let staged = more(staged_qty(seen.staged), p.qty);
+    let reserved = own_row_lowered(alloc, &seen, p)?;
+    change_with(alloc, slice, p, &seen, in_bin, staged, reserved)
 }
 
 /// What units put back change.
 pub fn change_unpick(alloc: Global, slice: &Slice, p: &Picking) -> Result<Change, AllocError>
     ensures { IfOk result (λ change. change ≡ unpick_changes slice.now p.now) }
 {
-    let in_bin = more(units_in_bin(slice, &p.bin, &p.lot), p.qty);
-    let staged = less(on_stage_seen(slice, &p.order, &p.lot), p.qty);
+    let seen = UnitsSeen::of(slice, p);
+    let in_bin = more(units_of(seen.in_bin), p.qty);
+    let staged = less(staged_qty(seen.staged), p.qty);
     let reserved = replanned_with(alloc, slice, p, in_bin, staged)?;
-    change_with(alloc, slice, p, in_bin, staged, reserved)
+    change_with(alloc, slice, p, &seen, in_bin, staged, reserved)
 }
 
 fn less(units: u64, qty: Qty) -> u64
@@ -126,48 +115,26 @@ fn more(units: u64, qty: Qty) -> u64
     units.saturating_add(u64::from(qty.units()))
 }
 
-// What units that are picked change of the reserved rows: they are taken from their own row.
-fn own_row_lowered(alloc: Global, slice: &Slice, p: &Picking) -> Result<Replanned, AllocError>
-    ensures put { IfOk result (λ r. r.put ≡ reserved_put_lem p.now.order p.now.lot (reserved_left slice.now p.now)) }
-    ensures dropped { IfOk result (λ r. r.dropped ≡ reserved_gone_lem slice.now.rows.reserved p.now.order p.now.lot (reserved_left slice.now p.now)) }
+// What is left of a reservation from which units are picked: as much as a plan leaves that has it alone.
+fn left_of(reserved: u64, qty: Qty) -> u64
+    ensures left { result ≡ reserved - qty }
+    ensures in_plan { IsLeftInPlan reserved qty result }
 {
-    let left = own_row_left(alloc, slice, p)?;
-    let olds = slice.rows.reserved.as_slice();
+    less(reserved, qty)
+}
+
+// What units that are picked change of the reserved rows: they are taken from their own row.
+fn own_row_lowered(alloc: Global, seen: &UnitsSeen, p: &Picking) -> Result<Replanned, AllocError>
+    ensures put { IfOk result (λ r. r.put ≡ reserved_put_lem p.now.order p.now.lot (reserved_qty_lem seen.now.reserved - p.now.qty)) }
+    ensures dropped { IfOk result (λ r. r.dropped ≡ if (reserved_qty_lem seen.now.reserved - p.now.qty) == 0 then cons_option seen.now.reserved [] else []) }
+{
+    let left = left_of(reserved_qty(seen.reserved), p.qty);
     let put = reserved_put(alloc, &p.order, &p.lot, left)?;
-    let dropped = reserved_gone(alloc, olds, &p.order, &p.lot, left)?;
+    let dropped = row_gone(alloc, seen.reserved, left)?;
     Ok(Replanned {
         put: Listed::from_vec(put),
         dropped: Listed::from_vec(dropped),
     })
-}
-
-// What is left of the row that is reserved for the order on the lot. A plan holds up to SUM_MAX units
-// of it.
-fn own_row_left(alloc: Global, slice: &Slice, p: &Picking) -> Result<u64, AllocError>
-    ensures { IfOk result (λ left. left ≡ reserved_left slice.now p.now) }
-{
-    let reserved = reserved_seen(slice, &p.order, &p.lot);
-    let row = Row {
-        booking: order_row_seen(slice, &p.order).map_or(0, |order| order.act),
-        lot: lot_seen(slice, &p.lot).map_or(0, |lot| lot.came),
-        qty: reserved.min(SUM_MAX),
-    };
-    let units = u64::from(p.qty.units()).min(row.qty);
-    let left = left_in_plan(alloc, row, units)?;
-    Ok(reserved - row.qty + left)
-}
-
-// What is left of a row once units are picked from the plan that has it alone.
-fn left_in_plan(alloc: Global, row: Row, units: u64) -> Result<u64, AllocError>
-    requires small { row.qty ≤ SUM_MAX_lem }
-    requires there { units ≤ row.qty }
-    ensures { IfOk result (λ left. left ≡ row.qty - units) }
-{
-    let mut rows = Vec::new(alloc);
-    push_if(&mut rows, row.qty != 0, row)?;
-    let mut plan = Plan::of(rows);
-    plan.pick(row.booking, row.lot, units);
-    Ok(plan.reserved(row.booking, row.lot))
 }
 
 // The change after which so many units of the lot are in the bin and on the stage.
@@ -175,17 +142,18 @@ fn change_with(
     alloc: Global,
     slice: &Slice,
     p: &Picking,
+    seen: &UnitsSeen,
     in_bin: u64,
     staged: u64,
     reserved: Replanned,
 ) -> Result<Change, AllocError>
+    requires { seen.now ≡ units_found slice.now p.now }
     ensures { IfOk result (λ change. change ≡ changes_with slice.now p.now in_bin staged reserved.put reserved.dropped) }
 {
     let stock = stock_put(alloc, &p.lot, &p.bin, in_bin)?;
     let on_stage = staged_put(alloc, &p.order, &p.lot, staged)?;
-    let rows = &slice.rows;
-    let stock_gone = stock_gone(alloc, rows.stock.as_slice(), &p.lot, &p.bin, in_bin)?;
-    let stage_gone = staged_gone(alloc, rows.staged.as_slice(), &p.order, &p.lot, staged)?;
+    let stock_gone = row_gone(alloc, seen.in_bin, in_bin)?;
+    let stage_gone = row_gone(alloc, seen.staged, staged)?;
     Ok(Change {
         meta: meta_next(slice),
         put: rows_of(alloc, stock, on_stage, reserved.put),

@@ -1,5 +1,5 @@
 -- What is sought among the rows that are given for a text is what is sought among all rows; and how the rows come to stand with their texts and numbers.
-use Rattle.std.proofs.Common.{◌≡◌, ℕ, ◌+◌, ◌<◌, Bool, true, false, cond, List, [], ◌∷◌, ◌++◌, length, get_or, take, refl, ap, sym, subst, ◌∙◌, arith}
+use Rattle.std.proofs.Common.{◌≡◌, ℕ, ◌+◌, ◌<◌, Bool, true, false, cond, List, [], ◌∷◌, ◌++◌, length, get_or, take, refl, ap, sym, ◌∙◌, arith}
 use Rattle.std.specs.Prelude.{◌==◌, ◌||◌, if◌then◌else◌, map, flat_map, reverse, filter, find, Option, Some, None, is_some, Result, Ok, Err, OnOk, Vec}
 use Rattle.std.specs.List.{list_any}
 use Rattle.std.specs.Option.{option_or}
@@ -8,13 +8,14 @@ use Rattle.std.specs.Cmp.{unsigned_tied}
 use Rattle.std.specs.Cmp.Lexicographic.{slice_cmp, texts_ties}
 use Rattle.std.specs.BTreeMap.{BTreeMap, get, is_at}
 use Rattle.std.specs.Map.{lookup}
-use Rattle.std.proofs.lemmas.List.{take_more, reverse-reverse}
+use Rattle.std.proofs.lemmas.List.{take_more}
 use Rattle.std.proofs.lemmas.List.Folds.{find-append}
 use Rattle.std.proofs.lemmas.Map.Lookups.{exact_bytes, exact_unsigned}
 use Rattle.std.proofs.lemmas.Map.Views.{tells_apart}
 use Rattle.values.specs.Values.{same_text}
+use Rattle.text_keys.proofs.Turned.{turned_same}
 use Rattle.commands.specs.Lists.{total}
-use Rattle.machine.proofs.Tests.{same_tests, same_text_refl, same_text_is, same_text_turned}
+use Rattle.machine.proofs.Tests.{same_text_turned}
 use Rattle.machine.proofs.Numbers.{equal_turned}
 use Rattle.row_rules.specs.LookUps.{rows_or}
 use Rattle.row_rules.proofs.Walking.{append_none}
@@ -115,17 +116,6 @@ gathered_agree f g same [] = refl
 gathered_agree f g same (x ∷ xs) = λ i. same x i ++ gathered_agree f g same xs i
 
 -- Rows by their texts
-
-pub turned_same : (a b : List ℕ) → same_text (reverse a) (reverse b) ≡ same_text a b
-turned_same a b =
-    same_tests (same_text (reverse a) (reverse b)) (same_text a b) (λ e. same (sym (reverse-reverse a) ∙ ap reverse (same_text_is (reverse a) (reverse b) e) ∙ reverse-reverse b))
-    (λ e. turned (same_text_is a b e))
-  where
-    same : a ≡ b → same_text a b ≡ true
-    same h = subst (λ (x : List ℕ). same_text a x ≡ true) h (same_text_refl a)
-
-    turned : a ≡ b → same_text (reverse a) (reverse b) ≡ true
-    turned h = subst (λ (x : List ℕ). same_text (reverse a) (reverse x) ≡ true) h (same_text_refl (reverse a))
 
 -- one row more with its text
 pub row_added : {X A : Type 0} (x : X) (k t : List ℕ) (v : Vec X A) (old new : BTreeMap (List ℕ) (Vec X A)) (there : Option (Vec X A)) → k ≡ reverse t → there ≡ get (slice_cmp nat_cmp) old k

@@ -23,6 +23,5 @@ pub mod status;
 pub mod stock;
 pub mod summing;
 pub mod supplies;
-pub mod text_key;
 
 pub use slice::{Change, Dropped, Put, Rows, RuleFault, Slice};

@@ -9,13 +9,13 @@ ghost use Rattle.std.specs.BTreeMap.{get};
 ghost use Rattle.values.specs.Values.{same_text};
 ghost use Rattle.row_rules.specs.LookUps.{rows_or, rows_kept, rows_given, row_given, GivesRows, GivesFirst};
 
-use crate::text_key::TextKey;
 use commands::{
     BinRow, LeastRow, LineRow, LotRow, OrderRow, RecallRow, ReservedRow, StagedRow, StockRow,
     UrgentRow,
 };
 use std::alloc::{AllocError, Global};
 use std::collections::BTreeMap;
+use text_keys::TextKey;
 use values::{Gtin, Lot, Name};
 
 /// Up to so many rows, or look-ups, a walk over the rows is as good as a map of them.

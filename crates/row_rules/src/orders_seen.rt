@@ -34,7 +34,8 @@ pub fn sees_open(slice: &Slice, order: &Name) -> bool
     is_open_row(order_row_seen(slice, order))
 }
 
-fn is_open_row(row: Option<OrderRow>) -> bool
+/// Whether there is a row of the order, and it is open.
+pub fn is_open_row(row: Option<OrderRow>) -> bool
     ensures { result ≡ is_open_row_lem row }
 {
     match row {

@@ -1,6 +1,6 @@
 //! Rows put into lists of rows: where they are wanted or found, and in front.
 
-ghost use Rattle.std.specs.Prelude.{◌≡◌, ◌++◌, [], ◌∷◌, if◌then◌else◌, OnOk, IfOk};
+ghost use Rattle.std.specs.Prelude.{◌≡◌, ◌==◌, ◌++◌, [], ◌∷◌, if◌then◌else◌, OnOk, IfOk};
 ghost use Rattle.std.specs.List.{cons_option};
 
 use std::alloc::{AllocError, Global};
@@ -23,6 +23,17 @@ pub fn push_found<T: Copy>(rows: &mut Vec<T>, row: Option<T>) -> Result<(), Allo
         rows.push(r)?;
     }
     Ok(())
+}
+
+/// The row that is dropped where so many units are left of it: a row of no units is not kept.
+pub fn row_gone<T: Copy>(alloc: Global, row: Option<T>, left: u64) -> Result<Vec<T>, AllocError>
+    ensures { IfOk result (λ v. v.items ≡ if left == 0 then cons_option row [] else []) }
+{
+    let mut gone = Vec::new(alloc);
+    if left == 0 {
+        push_found(&mut gone, row)?;
+    }
+    Ok(gone)
 }
 
 /// A row in front of others.

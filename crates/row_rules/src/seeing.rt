@@ -37,7 +37,8 @@ pub fn sees_hold(slice: &Slice, lot: &LotId) -> bool
     is_held_row(lot_seen(slice, lot))
 }
 
-fn is_held_row(row: Option<LotRow>) -> bool
+/// Whether there is a row of the lot, and it is held.
+pub fn is_held_row(row: Option<LotRow>) -> bool
     ensures { result ≡ is_held_row_lem row }
 {
     match row {

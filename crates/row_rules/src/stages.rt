@@ -3,11 +3,11 @@
 ghost use Rattle.std.specs.Prelude.{◌≡◌, ◌&&◌, not, filter, IfOk};
 ghost use Rattle.values.specs.Values.{same_text};
 ghost use Rattle.machine.specs.Postings.{is_lot};
-ghost use Rattle.row_rules.specs.SeenStages.{reserved_qty as reserved_qty_lem, reserved_found as reserved_found_lem, reserved_seen as reserved_seen_lem, reserved_put as reserved_put_lem, reserved_gone as reserved_gone_lem, staged_qty as staged_qty_lem, staged_found as staged_found_lem, on_stage_seen as on_stage_seen_lem, staged_put as staged_put_lem, staged_gone as staged_gone_lem, staged_rows_with as staged_rows_with_lem};
+ghost use Rattle.row_rules.specs.SeenStages.{reserved_qty as reserved_qty_lem, reserved_found as reserved_found_lem, reserved_seen as reserved_seen_lem, reserved_put as reserved_put_lem, staged_qty as staged_qty_lem, staged_found as staged_found_lem, staged_put as staged_put_lem, staged_rows_with as staged_rows_with_lem};
 
 use crate::Slice;
 use crate::looking::is_same_lot;
-use crate::pushing::{push_found, push_if};
+use crate::pushing::push_if;
 use commands::{ReservedRow, StagedRow};
 use std::alloc::{AllocError, Global};
 use values::{LotId, Name};
@@ -26,7 +26,8 @@ pub fn reserved_units(rows: &[ReservedRow], order: &Name, lot: &LotId) -> u64
     reserved_qty(find_reserved(rows, order, lot))
 }
 
-fn find_reserved(rows: &[ReservedRow], order: &Name, lot: &LotId) -> Option<ReservedRow>
+/// The row of a lot that is reserved for an order.
+pub fn find_reserved(rows: &[ReservedRow], order: &Name, lot: &LotId) -> Option<ReservedRow>
     ensures { result ≡ reserved_found_lem rows.now order.now lot.now }
 {
     for row in rows {
@@ -37,7 +38,8 @@ fn find_reserved(rows: &[ReservedRow], order: &Name, lot: &LotId) -> Option<Rese
     None
 }
 
-fn reserved_qty(row: Option<ReservedRow>) -> u64
+/// The units of a reserved row, if there is one.
+pub fn reserved_qty(row: Option<ReservedRow>) -> u64
     ensures { result ≡ reserved_qty_lem row }
 {
     match row {
@@ -66,31 +68,6 @@ pub fn reserved_put(
     Ok(put)
 }
 
-/// The reserved row that is dropped where so many units of a lot stay reserved for an order.
-pub fn reserved_gone(
-    alloc: Global,
-    rows: &[ReservedRow],
-    order: &Name,
-    lot: &LotId,
-    qty: u64,
-) -> Result<Vec<ReservedRow>, AllocError>
-    ensures { IfOk result (λ v. v.items ≡ reserved_gone_lem rows.now order.now lot.now qty) }
-{
-    let old = find_reserved(rows, order, lot);
-    let mut gone = Vec::new(alloc);
-    if qty == 0 {
-        push_found(&mut gone, old)?;
-    }
-    Ok(gone)
-}
-
-/// The units of a lot that are staged for an order.
-pub fn on_stage_seen(slice: &Slice, order: &Name, lot: &LotId) -> u64
-    ensures { result ≡ on_stage_seen_lem slice.now order.now lot.now }
-{
-    staged_units(slice.rows.staged.as_slice(), order, lot)
-}
-
 /// The units of a lot that rows have staged for an order.
 pub fn staged_units(rows: &[StagedRow], order: &Name, lot: &LotId) -> u64
     ensures { result ≡ staged_qty_lem (staged_found_lem rows.now order.now lot.now) }
@@ -98,7 +75,8 @@ pub fn staged_units(rows: &[StagedRow], order: &Name, lot: &LotId) -> u64
     staged_qty(find_staged(rows, order, lot))
 }
 
-fn find_staged(rows: &[StagedRow], order: &Name, lot: &LotId) -> Option<StagedRow>
+/// The row of a lot on the stage of an order.
+pub fn find_staged(rows: &[StagedRow], order: &Name, lot: &LotId) -> Option<StagedRow>
     ensures { result ≡ staged_found_lem rows.now order.now lot.now }
 {
     for row in rows {
@@ -109,7 +87,8 @@ fn find_staged(rows: &[StagedRow], order: &Name, lot: &LotId) -> Option<StagedRo
     None
 }
 
-fn staged_qty(row: Option<StagedRow>) -> u64
+/// The units of a staged row, if there is one.
+pub fn staged_qty(row: Option<StagedRow>) -> u64
     ensures { result ≡ staged_qty_lem row }
 {
     match row {
@@ -136,24 +115,6 @@ pub fn staged_put(
         })?;
     }
     Ok(put)
-}
-
-/// The staged row that is dropped where so many units of a lot are staged for an order.
-pub fn staged_gone(
-    alloc: Global,
-    rows: &[StagedRow],
-    order: &Name,
-    lot: &LotId,
-    qty: u64,
-) -> Result<Vec<StagedRow>, AllocError>
-    ensures { IfOk result (λ v. v.items ≡ staged_gone_lem rows.now order.now lot.now qty) }
-{
-    let old = find_staged(rows, order, lot);
-    let mut gone = Vec::new(alloc);
-    if qty == 0 {
-        push_found(&mut gone, old)?;
-    }
-    Ok(gone)
 }
 
 /// The staged rows, where so many units of a lot are staged for an order.

@@ -8,7 +8,7 @@ ghost use Rattle.row_rules.specs.SeenLots.{sees_lot as sees_lot_lem, stock_found
 
 use crate::Slice;
 use crate::looking::{find_lot, find_stock, is_same_lot};
-use crate::pushing::{push_found, push_if};
+use crate::pushing::{push_if, row_gone};
 use commands::StockRow;
 use std::alloc::{AllocError, Global};
 use values::{LotId, Name};
@@ -34,7 +34,8 @@ pub fn units_among(rows: &[StockRow], lot: &LotId, bin: &Name) -> u64
     units_of(find_stock(rows, lot, bin))
 }
 
-fn units_of(row: Option<StockRow>) -> u64
+/// The units of a stock row, if there is one.
+pub fn units_of(row: Option<StockRow>) -> u64
     ensures { result ≡ stock_qty row }
 {
     match row {
@@ -73,12 +74,7 @@ pub fn stock_gone(
 ) -> Result<Vec<StockRow>, AllocError>
     ensures { IfOk result (λ v. v.items ≡ stock_gone_lem rows.now lot.now bin.now qty) }
 {
-    let old = find_stock(rows, lot, bin);
-    let mut gone = Vec::new(alloc);
-    if qty == 0 {
-        push_found(&mut gone, old)?;
-    }
-    Ok(gone)
+    row_gone(alloc, find_stock(rows, lot, bin), qty)
 }
 
 /// The stock rows, where a lot has so many units in a bin.

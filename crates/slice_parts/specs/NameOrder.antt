@@ -6,7 +6,7 @@ use Rattle.std.specs.Cmp.Lexicographic.{slice_cmp, texts_ties}
 use Rattle.std.proofs.Common.{sym, ◌∙◌}
 use Rattle.values.specs.Values.{same_text}
 use Rattle.machine.proofs.Tests.{same_text_turned}
-use Rattle.row_rules.proofs.LookingUp.{turned_same}
+use Rattle.text_keys.proofs.Turned.{turned_same}
 use Rattle.slice_parts.specs.Keys.{AreKeyed}
 
 -- one name exactly if neither is before the other

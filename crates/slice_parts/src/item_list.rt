@@ -1,8 +1,8 @@
 //! Items, each once, however many rows are of them.
 
 use crate::key_list::{Has, KeyList, KeyOf};
-use commands::{LineRow, OrderLine};
-use row_rules::text_key::TextKey;
+use commands::{LineRow, LotRow, OrderLine, StagedRow};
+use text_keys::TextKey;
 use values::Gtin;
 
 /// The items of rows.
@@ -38,5 +38,23 @@ impl Has<Gtin> for LineRow {
 
     fn value(&self) -> Gtin {
         self.gtin
+    }
+}
+
+// the item of a lot
+impl Has<Gtin> for LotRow {
+    ghost of_row = { λ r. r.lot.gtin };
+
+    fn value(&self) -> Gtin {
+        self.lot.gtin
+    }
+}
+
+// the item of staged units
+impl Has<Gtin> for StagedRow {
+    ghost of_row = { λ r. r.lot.gtin };
+
+    fn value(&self) -> Gtin {
+        self.lot.gtin
     }
 }

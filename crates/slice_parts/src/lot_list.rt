@@ -1,12 +1,27 @@
 //! Lots, each once, however many rows name them.
 
-use crate::key_list::{Has, KeyList};
-use crate::lot_key::LotKey;
+use crate::key_list::{Has, KeyList, KeyOf};
 use commands::{ReservedRow, StagedRow, StockRow};
+use text_keys::LotKey;
 use values::LotId;
 
 /// The lots of rows.
 pub type LotList = KeyList<LotId, LotKey>;
+
+impl KeyOf<LotId> for LotKey {
+    ghost use Rattle.machine.specs.Postings.{is_lot};
+    ghost use Rattle.slice_parts.specs.LotOrder.{lot_key, lots_told};
+
+    ghost same = { is_lot };
+
+    ghost key = { lot_key };
+
+    ghost told = { lots_told };
+
+    fn of(lot: &LotId) -> Self {
+        LotKey::of(lot)
+    }
+}
 
 impl Has<LotId> for LotId {
     ghost of_row = { λ l. l };

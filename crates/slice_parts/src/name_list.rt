@@ -2,7 +2,7 @@
 
 use crate::key_list::{Has, KeyList, KeyOf};
 use commands::{LineRow, StockRow};
-use row_rules::text_key::TextKey;
+use text_keys::TextKey;
 use values::Name;
 
 /// The names of orders, or of bins.

@@ -24,5 +24,4 @@ pub mod SliceRead
 pub mod StockRight
 pub mod ShortRight
 pub mod KnownTold
-pub mod HeadRead
 pub mod ShippedRead

@@ -1,6 +1,6 @@
 -- What is read of the tables of a history are the rows by which the bookings of an item that are short are shown.
 use Rattle.std.proofs.Common.{◌≡◌, ℕ, Bool, true, ◌&&◌, List, [], ◌∷◌, refl, sym, subst, ◌∙◌}
-use Rattle.std.specs.Prelude.{Option, Some, None, is_some, ℤ}
+use Rattle.std.specs.Prelude.{Option, Some, None, is_some, ℤ, Ok}
 use Rattle.values.specs.Values.{same_text}
 use Rattle.commands.specs.Tables.{Tables}
 use Rattle.commands.specs.declared.rows.ItemRow.{ItemRow}
@@ -82,13 +82,8 @@ module _ (first : ℤ) (acts : List Act) (known : Option Known) (g : List ℕ) (
         (sought {K = ReservedKey} same_reserved reserved_key same_share_is same_share_refl (λ k. k.1.gtin) (λ k. t.reserved k.0 k.1) (g ∷ []) (same_text g) rows.reserved refl named are.booked.reserved);
   }
 
--- no such item
-pub unknown_right : (first : ℤ) (acts : List Act) (known : Option Known) (g : List ℕ) → IsShortIn known g (tables_of first acts) None → item_row acts g ≡ None
-unfolding tables_of
-unknown_right first acts known g e = e
-
--- or its row, and the rows by which its bookings are shown
-pub short_right : (first : ℤ) (acts : List Act) (known : Option Known) (g : List ℕ) (row : ItemRow) (rows : Rows) → IsKnownOf known (tables_of first acts) → IsShortIn known g (tables_of first acts) (Some (row, rows))
+-- the row of the item, and the rows by which its bookings are shown
+pub short_right : (first : ℤ) (acts : List Act) (known : Option Known) (g : List ℕ) (row : ItemRow) (rows : Rows) → IsKnownOf known (tables_of first acts) → IsShortIn known g (tables_of first acts) (Ok (row, rows))
     → (item_row acts g ≡ Some row) × AreDemanded first acts row.gtin rows
 unfolding tables_of
 short_right first acts known g row rows so (e, are) = (e, subst (λ (x : List ℕ). AreDemanded first acts x rows) (sym (named_so acts g row e)) (demanded first acts known g rows so are))

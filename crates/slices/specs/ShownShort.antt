@@ -1,6 +1,8 @@
 -- The rows by which the bookings of an item that are short are shown.
-use Rattle.std.specs.Prelude.{◌≡◌, ℕ, List, [], ◌∷◌, map, Option, Some, None, IfSome}
+use Rattle.std.specs.Prelude.{◌≡◌, ℕ, List, [], ◌∷◌, map, Option, Some, None, IfSome, Result, Ok, Err}
 use Rattle.commands.specs.Tables.{Tables}
+use Rattle.commands.specs.declared.refusal.Refusal.{Refusal}
+use Rattle.commands.specs.declared.refusal.Refusal.TheVariants.{UnknownItem}
 use Rattle.commands.specs.declared.rows.ItemRow.{ItemRow}
 use Rattle.commands.specs.declared.rows.LineRow.{LineRow}
 use Rattle.commands.specs.declared.rows.OrderRow.{OrderRow}
@@ -30,7 +32,7 @@ pub record AreOfDemands (known : Option Known) (g : List ℕ) (t : Tables) (rows
   pub urgents : AreUrgentFor known g rows.orders t rows.urgents
   pub booked : AreBooked (g ∷ []) t rows.staged rows.reserved
 
--- the row of the item, if there is one, and these
-abbrev pub IsShortIn : Option Known → List ℕ → Tables → Option (ItemRow × Rows) → Type 0
-IsShortIn known g t None = t.item g ≡ None
-IsShortIn known g t (Some found) = (t.item g ≡ Some found.0) × AreOfDemands known g t found.1
+-- the row of the item and these, or the refusal where there is none
+abbrev pub IsShortIn : Option Known → List ℕ → Tables → Result (ItemRow × Rows) Refusal → Type 0
+IsShortIn known g t (Err why) = (t.item g ≡ None) × (why ≡ UnknownItem)
+IsShortIn known g t (Ok found) = (t.item g ≡ Some found.0) × AreOfDemands known g t found.1

@@ -3,7 +3,6 @@
 #![tactic(auto)]
 
 mod by_order;
-mod heads;
 mod knowing;
 mod known_lines;
 mod known_orders;
@@ -15,6 +14,7 @@ mod reading;
 mod rows_read;
 mod shipments;
 mod shipped;
+mod shown_heads;
 mod shown_orders;
 mod shown_shorts;
 mod shown_stock;
@@ -22,11 +22,11 @@ mod slices;
 mod sought;
 mod urgent_orders;
 
-pub use heads::{Head, read_head};
 pub use knowing::{Bounds, Known};
 pub use known_lines::{first_known, know_put};
 pub use query::{Query, find};
 pub use shipped::read_shipped;
+pub use shown_heads::{CardHeadQuery, NoticeHeadQuery};
 pub use shown_orders::OrderQuery;
 pub use shown_shorts::ShortQuery;
 pub use shown_stock::StockQuery;

@@ -1,6 +1,6 @@
-//! A query: what is found of it in the tables, and what is shown of that.
+//! A query: what is found of it in the tables, or why there is nothing to show, and what is shown.
 
-ghost use Rattle.std.specs.Prelude.{◌≡◌, ℤ, List, Some, None, Ok, Err, OnOk, IfOk, IfErr, IsTrue};
+ghost use Rattle.std.specs.Prelude.{◌≡◌, ℤ, List, Ok, OnOk, IfOk, IfErr, IsTrue};
 ghost use Rattle.sqlite.specs.State.{HasCleanDisk, Survives, KeepsCommit, IsUnchanged};
 ghost use Rattle.sqlite.specs.Held.{state};
 ghost use Rattle.table_words.specs.Steps.{IsReady};
@@ -18,13 +18,14 @@ use sqlite::{Alter, Transaction};
 use std::alloc::{AllocError, Global};
 use table_words::error::TableFault;
 
-/// What the books are asked. An impl says all of it: what is found in the tables, what is shown of
-/// that, and the refusal where there is nothing of the kind.
+/// What the books are asked. An impl says all of it: what is found in the tables, or why there is
+/// nothing to show, and what is shown of what is found.
 pub trait Query: Copy {
-    ghost use Rattle.std.specs.Prelude.{List, Option, Result, ℤ};
+    ghost use Rattle.std.specs.Prelude.{◌≡◌, List, Result, Err, ℤ};
     ghost use Rattle.commands.specs.Tables.{Tables};
     ghost use Rattle.commands.specs.declared.refusal.Refusal.{Refusal};
     ghost use Rattle.machine.specs.Acts.{Act};
+    ghost use Rattle.machine.specs.Tables.{tables_of};
 
     /// The rows by which it is shown.
     type Found;
@@ -35,18 +36,21 @@ pub trait Query: Copy {
     /// What it takes to be so of the tables.
     ghost suits: { Self → Tables → Type 0 };
 
-    /// What the tables have of it.
-    ghost is_in: { Self → Tables → Option Self.Found → Type 0 };
+    /// What the tables have of it, or the refusal where they have nothing to show.
+    ghost is_in: { Self → Tables → Result Self.Found Refusal → Type 0 };
 
     /// What the machine shows of it, or its refusal.
     ghost shown: { ℤ → List Act → Self → Result Self.View Refusal };
 
-    /// The rows by which it is shown, or `None` where it is not known.
+    /// What the tables have nothing of, the machine refuses.
+    ghost refused: { (first : ℤ) (acts : List Act) (query : Self) (why : Refusal) → is_in query (tables_of first acts) (Err why) → shown first acts query ≡ Err why };
+
+    /// The rows by which it is shown, or the refusal.
     fn read<S: Alter>(
         &self,
         alloc: Global,
         tx: &mut Transaction<'_, S>,
-    ) -> Result<Option<Self::Found>, TableFault>
+    ) -> Result<Result<Self::Found, Refusal>, TableFault>
         ensures same_reference { tx.new.conn.ghost_name ≡ tx.old.conn.ghost_name }
         ensures read { IsRead (λ t found. is_in self.now t found) (state S.Store tx.old.conn.now) (state S.Store tx.new.conn.now) result };
 
@@ -57,21 +61,17 @@ pub trait Query: Copy {
         day: BusinessDay,
         found: Self::Found,
     ) -> Result<Self::View, AllocError>
-        ensures { (first : ℤ) (acts : List Act) → IsHistory first acts → today first acts ≡ day → suits self.now (tables_of first acts) → is_in self.now (tables_of first acts) (Some found)
+        ensures { (first : ℤ) (acts : List Act) → IsHistory first acts → today first acts ≡ day → suits self.now (tables_of first acts) → is_in self.now (tables_of first acts) (Ok found)
             → IfOk result (λ view. shown first acts self.now ≡ Ok view) };
-
-    /// The refusal where it is not known.
-    fn unknown(&self) -> Refusal
-        ensures { (first : ℤ) (acts : List Act) → is_in self.now (tables_of first acts) None → shown first acts self.now ≡ Err result };
 }
 
-/// The rows by which a query is shown; `None` where it is not known. It changes nothing. `Foreign`
+/// The rows by which a query is shown, or why there is nothing to show. It changes nothing. `Foreign`
 /// where a row that is read breaks a rule of its values.
 pub fn find<Q: Query, S: Alter>(
     alloc: Global,
     tx: &mut Transaction<'_, S>,
     query: &Q,
-) -> Result<Option<Q::Found>, TableFault>
+) -> Result<Result<Q::Found, Refusal>, TableFault>
     ensures same_reference { tx.new.conn.ghost_name ≡ tx.old.conn.ghost_name }
     ensures read { HasCleanDisk (state S.Store tx.new.conn.now) → IsTrue (state S.Store tx.old.conn.now).is_open
         → (first : ℤ) (acts : List Act) → IsBooksOf first acts (state S.Store tx.old.conn.now).now

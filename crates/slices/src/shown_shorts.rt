@@ -86,6 +86,7 @@ impl<'a> Query for ShortQuery<'a> {
     ghost use Rattle.std.specs.Option.{option_copied};
     ghost use Rattle.machine.specs.Queries.{short_shown};
     ghost use Rattle.slices.specs.ShownShort.{IsKnownOf, IsShortIn};
+    ghost use Rattle.slices.specs.Refused.{short_refused};
 
     type Found = (ItemRow, Rows);
 
@@ -97,18 +98,20 @@ impl<'a> Query for ShortQuery<'a> {
 
     ghost shown = { λ first acts q. short_shown first acts q.gtin };
 
+    ghost refused = { λ first acts q why found. short_refused first acts (option_copied q.known) q.gtin why found };
+
     fn read<S: Alter>(
         &self,
         alloc: Global,
         tx: &mut Transaction<'_, S>,
-    ) -> Result<Option<(ItemRow, Rows)>, TableFault> {
+    ) -> Result<Result<(ItemRow, Rows), Refusal>, TableFault> {
         let known = item_row(alloc, tx, &self.gtin)?;
         match known {
             Some(row) => {
                 let rows = read_demands(alloc, tx, self.known, &self.gtin)?;
-                Ok(Some((row, rows)))
+                Ok(Ok((row, rows)))
             }
-            None => Ok(None),
+            None => Ok(Err(Refusal::UnknownItem)),
         }
     }
 
@@ -123,9 +126,5 @@ impl<'a> Query for ShortQuery<'a> {
         // A call: dropped at the end of its scope it is dropped field by field (docs/GATE.md).
         drop(rows);
         view
-    }
-
-    fn unknown(&self) -> Refusal {
-        Refusal::UnknownItem
     }
 }

@@ -12,7 +12,6 @@ pub mod DayTold
 pub mod FilesInside
 pub mod FilesWhole
 pub mod CardOrder
-pub mod HeadsShown
 pub mod HandedOn
 pub mod AsBefore
 pub mod Listings

@@ -25,7 +25,6 @@ use crate::bins::hand_bins;
 use crate::cards::hand_cards;
 use crate::day::day_left;
 use crate::filing::{every_row_is_sound, file_once};
-use crate::heads::{show_card_head, show_notice_head};
 use crate::shipments::hand_shipments;
 use crate::showing::show;
 use crate::{EachFault, Fault, Reply, RowFault, Tally};
@@ -34,7 +33,7 @@ use commands::{
     ShortView, Sink, StockView,
 };
 use label::{BusinessDay, Day};
-use slices::{Known, OrderQuery, ShortQuery, StockQuery};
+use slices::{CardHeadQuery, Known, NoticeHeadQuery, OrderQuery, ShortQuery, StockQuery};
 use sqlite::{Alter, Connection};
 use std::alloc::Global;
 use std::marker::Model;
@@ -357,7 +356,8 @@ impl<S: Alter> Books<S> {
         ensures stays { IsClean S.Store self.new → IsSettled (state S.Store self.new.conn) }
         ensures survives { Survives (state S.Store self.old.conn) (state S.Store self.new.conn) (λ _. ⊥) }
     {
-        show_card_head(self.alloc, &mut self.conn, lot)
+        let query = CardHeadQuery { lot: *lot };
+        show(self.alloc, &mut self.conn, self.day, &query)
     }
 
     /// The item of a lot's recall notice and the day on which the lot expires, `None` for a lot that never came. An item
@@ -371,7 +371,8 @@ impl<S: Alter> Books<S> {
         ensures stays { IsClean S.Store self.new → IsSettled (state S.Store self.new.conn) }
         ensures survives { Survives (state S.Store self.old.conn) (state S.Store self.new.conn) (λ _. ⊥) }
     {
-        show_notice_head(self.alloc, &mut self.conn, lot)
+        let query = NoticeHeadQuery { lot: *lot };
+        show(self.alloc, &mut self.conn, self.day, &query)
     }
 
     /// Hands the lines of a lot's stock card to the sink, by act, one at a time, until it stops. It is outside every

@@ -9,7 +9,6 @@ mod day;
 mod each_fault;
 mod fault;
 mod filing;
-mod heads;
 mod knowing;
 mod outside;
 mod repeats;

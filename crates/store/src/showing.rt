@@ -1,9 +1,10 @@
 //! What is asked of the books, shown.
 
-ghost use Rattle.std.specs.Prelude.{◌≡◌, ◌≢◌, ℕ, false, None, ℤ, List, IsTrue, IfOk, IfErr, IsOkAnd};
+ghost use Rattle.std.specs.Prelude.{◌≡◌, ℕ, false, ℤ, List, IsTrue, IfOk, IfErr, Ok, Err};
 ghost use Rattle.sqlite.specs.State.{HasCleanDisk, Survives, KeepsCommit};
 ghost use Rattle.sqlite.specs.Held.{state};
 ghost use Rattle.table_words.specs.Steps.{IsReady};
+ghost use Rattle.commands.specs.declared.refusal.Refusal.{Refusal as Why};
 ghost use Rattle.machine.specs.Acts.{Act};
 ghost use Rattle.machine.specs.Once.{IsHistory};
 ghost use Rattle.machine.specs.Standing.{today};
@@ -14,13 +15,13 @@ ghost use Rattle.store.specs.Showing.{IsFoundAs, IsShownAs, IsShownOn};
 
 use crate::Fault;
 use crate::repeats::find_open;
+use commands::Refusal;
 use label::BusinessDay;
 use slices::{Query, find};
 use sqlite::{Alter, Connection, Transaction};
 use std::alloc::Global;
 
-/// Shows what is asked as it stands on the business day, and changes nothing. What is not known is
-/// refused.
+/// Shows what is asked as it stands on the business day, or the refusal, and changes nothing.
 pub fn show<Q: Query, S: Alter>(
     alloc: Global,
     conn: &mut Connection<S>,
@@ -41,12 +42,12 @@ pub fn show<Q: Query, S: Alter>(
     view_of(alloc, day, query, found)
 }
 
-// The rows by which it is shown, if it is known.
+// The rows by which it is shown, or the refusal.
 fn find_found<Q: Query, S: Alter>(
     alloc: Global,
     tx: &mut Transaction<'_, S>,
     query: &Q,
-) -> Result<Option<Q::Found>, Fault>
+) -> Result<Result<Q::Found, Refusal>, Fault>
     ensures same_reference { tx.new.conn.ghost_name ≡ tx.old.conn.ghost_name }
     ensures read { HasCleanDisk (state S.Store tx.new.conn.now) → (first : ℤ) (acts : List Act)
         → (IsTrue (state S.Store tx.old.conn.now).is_open → IsBooksOf first acts (state S.Store tx.old.conn.now).now) → IfOk result (λ found. Q.is_in query.now (tables_of first acts) found) }
@@ -63,19 +64,19 @@ fn find_found<Q: Query, S: Alter>(
     }
 }
 
-// The view, where the rows were read. What is not known is refused, and not told as want of memory.
+// The view, where the rows were read. A refusal is no want of memory.
 fn view_of<Q: Query>(
     alloc: Global,
     day: BusinessDay,
     query: &Q,
-    found: Result<Option<Q::Found>, Fault>,
+    found: Result<Result<Q::Found, Refusal>, Fault>,
 ) -> Result<Q::View, Fault>
     ensures shown { (first : ℤ) (acts : List Act) → IsHistory first acts → today first acts ≡ day → IsFoundAs (λ x. Q.suits query.now (tables_of first acts) × Q.is_in query.now (tables_of first acts) x) found → IsShownAs (Q.shown first acts query.now) result }
-    ensures unknown { IsOkAnd found (λ it. it ≡ None) → IfErr result (λ e. e ≢ Fault.Store) }
+    ensures refused { (why : Why) → found ≡ Ok (Err why) → result ≡ Err (Fault.Refused why) }
 {
     match found {
         Err(fault) => Err(fault),
-        Ok(None) => Err(Fault::Refused(query.unknown())),
-        Ok(Some(found)) => Ok(query.view(alloc, day, found)?),
+        Ok(Err(why)) => Err(Fault::Refused(why)),
+        Ok(Ok(found)) => Ok(query.view(alloc, day, found)?),
     }
 }

@@ -7,7 +7,7 @@ ghost use Rattle.views.specs.GivenStock.{reserved_of_lot, staged_of_lot, units_o
 use commands::{ReservedRow, StagedRow};
 use row_rules::look_ups::Keyed;
 use row_rules::looking::is_same_lot;
-use row_rules::text_key::TextKey;
+use text_keys::TextKey;
 use std::alloc::{AllocError, Global};
 use values::LotId;
 

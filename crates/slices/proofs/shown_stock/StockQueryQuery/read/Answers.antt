@@ -1,4 +1,4 @@
-use Rattle.std.proofs.Common.{sym, ◌∙◌}
+use Rattle.std.proofs.Common.{refl, sym, ◌∙◌}
 use Rattle.slices.proofs.ReadSteps.{has_read, and_then, so_told, fails_first, fails_later}
 use Rattle.slices.proofs.shown_stock.StockQueryQuery.read.Goals as goal
 
@@ -12,4 +12,4 @@ pub returns-in_ok-rows-in-Some-clause-read : goal.returns-in_ok-rows-in-Some-cla
 returns-in_ok-rows-in-Some-clause-read g c = so_told (and_then c.in_ok-known.ensures.read c.in_ok-rows-in-Some.ensures.read) (λ t h. (sym h.0 ∙ c.in-Some.is, h.1))
 
 pub returns-in-None-clause-read : goal.returns-in-None-clause-read
-returns-in-None-clause-read g c = so_told c.in_ok-known.ensures.read (λ t h. sym h ∙ c.in-None.is)
+returns-in-None-clause-read g c = so_told c.in_ok-known.ensures.read (λ t h. (sym h ∙ c.in-None.is, refl))

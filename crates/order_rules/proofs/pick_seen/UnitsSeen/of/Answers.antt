@@ -1,0 +1,15 @@
+use Rattle.std.proofs.Common.{List, ap, ◌∙◌}
+use Rattle.commands.specs.declared.rows.StockRow.{StockRow}
+use Rattle.commands.specs.declared.rows.StagedRow.{StagedRow}
+use Rattle.commands.specs.declared.rows.ReservedRow.{ReservedRow}
+use Rattle.row_rules.specs.SeenLots.{stock_found}
+use Rattle.row_rules.specs.SeenStages.{staged_found, reserved_found}
+use Rattle.order_rules.proofs.pick_seen.UnitsSeen.of.Goals as goal
+
+pub returns : goal.returns
+returns c =
+    let p = c.args.p.now in
+    let stock = c.find_stock.ensures ∙ ap (λ (rows : List StockRow). stock_found rows p.lot p.bin) c.as_slice.ensures in
+    let staged = c.find_staged.ensures ∙ ap (λ (rows : List StagedRow). staged_found rows p.order p.lot) c.as_slice-2.ensures in
+    let reserved = c.find_reserved.ensures ∙ ap (λ (rows : List ReservedRow). reserved_found rows p.order p.lot) c.as_slice-3.ensures in
+    λ i. record { in_bin = stock i; staged = staged i; reserved = reserved i }
