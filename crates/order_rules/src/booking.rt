@@ -12,7 +12,7 @@ use row_rules::Slice;
 use row_rules::changing::number_seen;
 use row_rules::indexed::{IndexedRows, indexed_rows, supplies_of_item};
 use row_rules::open_lines::sum_of_open_units;
-use row_rules::plans::{item_rows, named_rows, plan_with_last};
+use row_rules::plans::{ItemRows, item_rows, named_rows, plan_with_last};
 use row_rules::summing::sum_of_staged;
 use std::alloc::{AllocError, Global};
 use values::{Gtin, Name};
@@ -66,7 +66,8 @@ fn line_rows(alloc: Global, order: &Name, lines: &[OrderLine]) -> Result<Vec<Lin
     Ok(rows)
 }
 
-// What these lines of an order reserve and are short of. The rows are indexed once for all lines.
+// What these lines of an order reserve and are short of. The rows are indexed once for all lines;
+// those of orders tell of no supply, and are left out.
 fn book_lines(
     alloc: Global,
     slice: &Slice,
@@ -76,7 +77,13 @@ fn book_lines(
     ensures put { IfOk result (λ b. b.put ≡ flat_map (line_put slice.now order.now) lines.now) }
     ensures short { IfOk result (λ b. b.short ≡ capped (total (line_short slice.now) lines.now)) }
 {
-    let rows = item_rows(&slice.rows);
+    let rows = ItemRows {
+        orders: &[],
+        lines: &[],
+        staged: &[],
+        urgents: &[],
+        ..item_rows(&slice.rows)
+    };
     let indexed = indexed_rows(alloc, slice.meta.day, &rows, lines.len())?;
     book_each(alloc, slice, &indexed, order, lines)
 }
