@@ -18,7 +18,7 @@ use Rattle.tables.specs.declared.opening.Leftover.{Leftover}
 use Rattle.tables.specs.declared.opening.Leftover.TheVariants as left
 use Rattle.machine.specs.Acts.{Act}
 use Rattle.machine.specs.Once.{IsHistory}
-use Rattle.machine.specs.Tables.{Tables, tables_of}
+use Rattle.machine.specs.Tables.{Tables, tables_of, repeat_row}
 use Rattle.slices.specs.Books.{AreRowsOf, IsBooksOf}
 use Rattle.store.specs.Opening.{AreRowsAt}
 use Rattle.same_rows.specs.declared.key.RowKey.{RowKey}
@@ -67,19 +67,17 @@ abbrev pub IsTaken : Option ℤ → ℤ → List Act → Type 0
 IsTaken (Some given) day acts = day ≡ given
 IsTaken None day acts = first_day (tables_of day acts) (start_of acts) ≡ Some day
 
--- where these are the acts of which the stored rows are
-module _ (AreOf : ℤ → List Act → Type 0) (given : Option ℤ) where
-  -- they are those of so many acts, begun on this day
-  pub record IsSound (count : ℕ) (day : ℤ) : Type 0 where
-    pub acts : List Act
-    pub history : IsHistory day acts
-    pub rows : AreOf day acts
-    pub number : length acts ≡ count
-    pub taken : IsTaken given day acts
+-- the rows are those of so many acts, begun on this day
+pub record IsSound (given : Option ℤ) (trees : Trees) (count : ℕ) (day : ℤ) : Type 0 where
+  pub acts : List Act
+  pub history : IsHistory day acts
+  pub rows : AreRowsOf day acts trees
+  pub number : length acts ≡ count
+  pub taken : IsTaken given day acts
 
-  -- they are those of no acts, begun on a day that is asked about
-  abbrev pub AreOfNone : Type 0
-  AreOfNone = (day : ℤ) (acts : List Act) → IsAsked given day → IsHistory day acts → ¬ AreOf day acts
+-- the stored rows are so of no acts, begun on a day that is asked about
+abbrev pub AreOfNone : (ℤ → List Act → Type 0) → Option ℤ → Type 0
+AreOfNone AreOf given = (day : ℤ) (acts : List Act) → IsAsked given day → IsHistory day acts → ¬ AreOf day acts
 
 -- `repeats` spells acts, begun on a day that is asked about, and this row is not the one that they give
 pub record IsOther (given : Option ℤ) (row : RowKey) (tables : Tables) : Type 0 where
@@ -92,23 +90,21 @@ pub record IsOther (given : Option ℤ) (row : RowKey) (tables : Tables) : Type 
   pub history : IsHistory day acts
   pub differs : RowDiffers row tables (tables_of day acts)
 
--- no day is given, and this row would tell it, but there is none such: whatever acts `repeats` spells, they give it
+-- no day is given, and this row would tell it, but there is none such: whatever acts have these rows of `repeats`, they give it
 pub record IsMissing (given : Option ℤ) (row : RowKey) (tables : Tables) : Type 0 where
   pub none : given ≡ None
-  pub rows : List RepeatRow
-  pub repeats : AreRepeats rows tables
-  pub differs : (day : ℤ) (acts : List Act) → Spell rows acts → IsHistory day acts → RowDiffers row tables (tables_of day acts)
+  pub differs : (day : ℤ) (acts : List Act) → IsHistory day acts → ((k : List ℕ) → tables.repeat k ≡ repeat_row day acts k) → RowDiffers row tables (tables_of day acts)
 
--- what a finding says of the stored rows, and of the tables that are compared
+-- what a finding says of these tables, and of the stored rows that they come of
 abbrev pub Says : (ℤ → List Act → Type 0) → Option ℤ → Trees → Finding → Type 0
-Says AreOf given trees (Sound count day) = IsSound AreOf given count day
+Says AreOf given trees (Sound count day) = IsSound given trees count day
 Says AreOf given trees (Differs row) = AreOfNone AreOf given × (IsOther given row (tables_in trees) ⊎ IsMissing given row (tables_in trees))
 Says AreOf given trees (Untyped name) = AreOfNone AreOf given × ¬ Keeps trees (rule_called name)
 Says AreOf given trees (Unnumbered k) = AreOfNone AreOf given × IsUnnumbered (tables_in trees).repeat k
 Says AreOf given trees (Unspelled act) = AreOfNone AreOf given
 Says AreOf given trees (Refused act why) = AreOfNone AreOf given
 
--- the same of the newest tables
+-- the same of tables that are stored so
 abbrev pub SaysIn : Trees → Option ℤ → Finding → Type 0
 SaysIn trees given f = Says (λ day acts. AreRowsOf day acts trees) given trees f
 

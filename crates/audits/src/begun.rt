@@ -1,10 +1,13 @@
 //! The day that the acts began on, as the tables tell it.
 
-ghost use Rattle.std.specs.Prelude.{◌≡◌, find, Option, IfOk};
+ghost use Rattle.std.specs.Prelude.{◌≡◌, true, find, Some, None, IfOk};
 ghost use Rattle.sqlite.specs.Held.{state};
-ghost use Rattle.sqlite.specs.State.{HasCleanDisk, Survives, IsUnchanged};
+ghost use Rattle.sqlite.specs.State.{HasCleanDisk, Survives};
 ghost use Rattle.table_words.specs.Steps.{IsReady};
+ghost use Rattle.table_words.specs.Typed.{same_card, card_key};
 ghost use Rattle.replays.specs.Starting.{day_before as day_before_lem};
+ghost use Rattle.replays.specs.declared.start.Start.TheVariants.{Received};
+ghost use Rattle.audits.specs.Beginning.{IsBegun};
 
 use commands::{CardRow, MetaRow};
 use goods_tables::meta::Meta;
@@ -44,13 +47,21 @@ fn day_before(day: BusinessDay) -> BusinessDay
     }
 }
 
+/// The row of `meta`.
+fn meta_of(rows: &[MetaRow]) -> Option<MetaRow>
+    ensures { result ≡ find (λ _. true) rows.now }
+{
+    rows.first().copied()
+}
+
 /// The day of the row of `meta`.
 fn day_of_books<S: Alter>(alloc: Global, tx: &mut Transaction<'_, S>) -> Result<Begun, Fault>
     ensures same_reference { tx.new.conn.ghost_name ≡ tx.old.conn.ghost_name }
+    ensures begun { HasCleanDisk (state S.Store tx.new.conn.now) → IsReady (state S.Store tx.old.conn.now).now → IfOk result (IsBegun None (state S.Store tx.old.conn.now) (state S.Store tx.new.conn.now)) }
     ensures survives { Survives (state S.Store tx.old.conn.now) (state S.Store tx.new.conn.now) (λ _. ⊥) }
 {
     match all_rows::<Meta, S>(alloc, tx) {
-        Ok(rows) => match rows.as_slice().first() {
+        Ok(rows) => match meta_of(rows.as_slice()) {
             Some(row) => Ok(Begun::On(row.day)),
             None => Ok(Begun::Missing(RowKey::Meta)),
         },
@@ -60,9 +71,11 @@ fn day_of_books<S: Alter>(alloc: Global, tx: &mut Transaction<'_, S>) -> Result<
 }
 
 /// The line of the act in the lot's card.
-fn card_of(rows: &[CardRow], lot: &LotId, act: u64) -> Option<CardRow> {
+fn card_of(rows: &[CardRow], lot: &LotId, act: u64) -> Option<CardRow>
+    ensures { result ≡ find (λ c. same_card (lot.now, act) (card_key c)) rows.now }
+{
     for row in rows {
-        if row.act == act && row.lot == *lot {
+        if *lot == row.lot && act == row.act {
             return Some(*row);
         }
     }
@@ -77,6 +90,8 @@ fn day_of_receipt<S: Alter>(
     act: u64,
 ) -> Result<Begun, Fault>
     ensures same_reference { tx.new.conn.ghost_name ≡ tx.old.conn.ghost_name }
+    ensures begun { HasCleanDisk (state S.Store tx.new.conn.now) → IsReady (state S.Store tx.old.conn.now).now
+        → IfOk result (IsBegun (Some (Received lot act)) (state S.Store tx.old.conn.now) (state S.Store tx.new.conn.now)) }
     ensures survives { Survives (state S.Store tx.old.conn.now) (state S.Store tx.new.conn.now) (λ _. ⊥) }
 {
     match all_rows::<Cards, S>(alloc, tx) {
@@ -96,6 +111,7 @@ pub(crate) fn first_day<S: Alter>(
     start: Option<Start>,
 ) -> Result<Begun, Fault>
     ensures same_reference { tx.new.conn.ghost_name ≡ tx.old.conn.ghost_name }
+    ensures begun { HasCleanDisk (state S.Store tx.new.conn.now) → IsReady (state S.Store tx.old.conn.now).now → IfOk result (IsBegun start (state S.Store tx.old.conn.now) (state S.Store tx.new.conn.now)) }
     ensures survives { Survives (state S.Store tx.old.conn.now) (state S.Store tx.new.conn.now) (λ _. ⊥) }
 {
     match start {

@@ -1,13 +1,17 @@
 -- The day that acts began on, as their tables tell it.
-use Rattle.std.specs.Prelude.{◌≡◌, ◌⊎◌, ℕ, List, [], ◌∷◌, Option, Some, None, option_map, if◌then◌else◌, ℤ, pos, ◌-ℤ◌, int_lt, true, IsTrue}
+use Rattle.std.specs.Prelude.{◌≡◌, ◌≢◌, ℕ, List, [], ◌∷◌, reverse, Option, Some, None, option_map, if◌then◌else◌, ℤ, pos, ◌-ℤ◌, IsTrue}
 use Rattle.label.specs.Days.{is_business_day}
+use Rattle.commands.specs.Sound.{is_sound}
+use Rattle.commands.specs.Spelling.{spelling}
 use Rattle.commands.specs.declared.rows.MetaRow.{MetaRow}
 use Rattle.commands.specs.declared.rows.CardRow.{CardRow}
+use Rattle.commands.specs.declared.rows.RepeatRow.{RepeatRow}
 use Rattle.commands.specs.declared.command.Command.{Command}
 use Rattle.commands.specs.declared.command.Command.TheVariants.{Receive, OpenDay}
 use Rattle.machine.specs.Acts.{Act, next_number}
 use Rattle.machine.specs.Once.{IsHistory}
 use Rattle.machine.specs.Tables.{Tables, tables_of}
+use Rattle.replays.specs.Spelled.{spelled_rows}
 use Rattle.replays.specs.declared.start.Start.{Start}
 use Rattle.replays.specs.declared.start.Start.TheVariants.{Received, Opened}
 
@@ -27,6 +31,14 @@ abbrev pub start_of : List Act → Option Start
 start_of [] = None
 start_of (act ∷ before) = told_first (start_of before) (told_by (next_number before) act.command)
 
+-- what a row tells, where it spells a command
+abbrev pub IsReadFrom : RepeatRow → Option (Option Start) → Type 0
+IsReadFrom row told = (command : Command) → IsTrue (is_sound command) → row.spell ≡ spelling command → told ≡ Some (told_by row.act command)
+
+-- where the rows, the oldest first, are those of a history, this is what the oldest of its acts tells that tells it
+abbrev pub Tell : List RepeatRow → Option Start → Type 0
+Tell rows start = (first : ℤ) (acts : List Act) → IsHistory first acts → reverse rows ≡ spelled_rows first acts → start ≡ start_of acts
+
 -- the day before; of the first business day that day itself
 abbrev pub day_before : ℤ → ℤ
 day_before day = if is_business_day (day -ℤ pos 1) then day -ℤ pos 1 else day
@@ -38,17 +50,11 @@ first_day t None = option_map (λ (m : MetaRow). m.day) t.meta
 first_day t (Some (Received lot act)) = option_map (λ (c : CardRow). c.day) (t.card lot act)
 first_day t (Some (Opened day)) = Some (day_before day)
 
--- no act opens a day before one that receives
-abbrev pub is_kept : Option Start → Type 0
-is_kept None = Unit {0}
-is_kept (Some (Received lot act)) = Unit {0}
-is_kept (Some (Opened day)) = ⊥
+-- acts begun on the day that their tables tell have the same tables
+abbrev pub TheDayThatIsToldStands : Type 0
+TheDayThatIsToldStands = (first day : ℤ) (acts : List Act) → IsHistory first acts → first_day (tables_of first acts) (start_of acts) ≡ Some day
+    → IsHistory day acts × (tables_of first acts ≡ tables_of day acts)
 
--- then the tables of a history tell the day that it began on
-abbrev pub TablesTellTheFirstDay : Type 0
-TablesTellTheFirstDay = (first : ℤ) (acts : List Act) → IsHistory first acts → is_kept (start_of acts) → first_day (tables_of first acts) (start_of acts) ≡ Some first
-
--- and where an act opens a day before any receives, each earlier day gives the same tables
-abbrev pub EarlierDaysAreAlike : Type 0
-EarlierDaysAreAlike = (first second day : ℤ) (acts : List Act) → IsHistory first acts → start_of acts ≡ Some (Opened day)
-    → IsTrue (is_business_day second) → int_lt second day ≡ true → IsHistory second acts × (tables_of first acts ≡ tables_of second acts)
+-- which is the day that they began on, but where an act opens a day before any receives
+abbrev pub TheFirstDayIsTold : Type 0
+TheFirstDayIsTold = (first : ℤ) (acts : List Act) → IsHistory first acts → ((day : ℤ) → start_of acts ≢ Some (Opened day)) → first_day (tables_of first acts) (start_of acts) ≡ Some first

@@ -1,10 +1,7 @@
 //! What rows of `repeats` tell of the day that their acts began on.
 
-ghost use Rattle.std.specs.Prelude.{◌≡◌, ℤ, List, IfOk, reverse};
-ghost use Rattle.machine.specs.Acts.{Act};
-ghost use Rattle.machine.specs.Once.{IsHistory};
-ghost use Rattle.replays.specs.Spelled.{spelled_rows};
-ghost use Rattle.replays.specs.Starting.{told_by as told_by_lem, start_of as start_of_lem};
+ghost use Rattle.std.specs.Prelude.{◌≡◌, IfOk};
+ghost use Rattle.replays.specs.Starting.{told_by as told_by_lem, IsReadFrom, Tell};
 
 use commands::{Command, RepeatRow};
 use label::BusinessDay;
@@ -31,16 +28,25 @@ fn told_by(act: u64, command: &Command) -> Option<Start>
     }
 }
 
+/// What the act of a row tells; `None` where its spelling is none.
+fn told_by_row(alloc: Global, row: &RepeatRow) -> Result<Option<Option<Start>>, AllocError>
+    ensures { IfOk result (IsReadFrom row.now) }
+{
+    match parse(alloc, row.spell.as_slice())? {
+        Some(command) => Ok(Some(told_by(row.act, &command))),
+        None => Ok(None),
+    }
+}
+
 /// What the oldest act tells that receives or opens a day; `None` where none does. The rows of `repeats` are the oldest
 /// first; one whose spelling is none ends the search.
 pub fn start_of(alloc: Global, rows: &[RepeatRow]) -> Result<Option<Start>, AllocError>
-    ensures { IfOk result (λ start. (first : ℤ) (acts : List Act) → IsHistory first acts → reverse rows.now ≡ spelled_rows first acts → start ≡ start_of_lem acts) }
+    ensures { IfOk result (Tell rows.now) }
 {
     for row in rows {
-        let Some(command) = parse(alloc, row.spell.as_slice())? else {
+        let Some(told) = told_by_row(alloc, row)? else {
             return Ok(None);
         };
-        let told = told_by(row.act, &command);
         if told.is_some() {
             return Ok(told);
         }
