@@ -74,13 +74,13 @@ says_untyped given trees name un = (λ day acts asked h are. un (keeps_called tr
 
 module _ (day : ℤ) (trees : Trees) (rows : List RepeatRow) (repeats : AreRepeats (reverse rows) (tables_in trees)) where
   of_none_other : (acts : List Act) (row : RowKey) → Spell (reverse rows) acts → IsHistory day acts → RowDiffers row (tables_in trees) (tables_of day acts) → AreOfNoneFrom day trees
-  of_none_other acts row spelled history differs others h are =
-      let same : others ≡ acts = no_other day (tables_in trees) (reverse rows) acts others repeats spelled history h are.tables in
+  of_none_other acts row spells history differs others h are =
+      let same : others ≡ acts = no_other day (tables_in trees) (reverse rows) acts others repeats spells history h are.tables in
       two_tables row (tables_in trees) (tables_of day acts) differs (subst (λ x. tables_in trees ≡ tables_of day x) same are.tables)
 
   pub found_held : (acts : List Act) (count : ℕ) → Spell (reverse rows) acts → IsHistory day acts → count ≡ length rows → (f : Finding) → IsHeld day acts count trees f → SaysIn trees (Some day) f
-  found_held acts count spelled history all (Sound n first) h =
-      let same = spell_length (reverse rows) acts spelled in
+  found_held acts count spells history all (Sound n first) h =
+      let same = spell_length (reverse rows) acts spells in
       record {
         acts = acts;
         history = subst (λ d. IsHistory d acts) (sym h.1) history;
@@ -88,14 +88,14 @@ module _ (day : ℤ) (trees : Trees) (rows : List RepeatRow) (repeats : AreRepea
         number = same ∙ length-reverse rows ∙ sym all ∙ sym h.0;
         taken = h.1;
       }
-  found_held acts count spelled history all (Differs row) h = (
-    from_given day trees (of_none_other acts row spelled history h),
-    inl (record { rows = reverse rows; repeats = repeats; day = day; asked = refl; acts = acts; spelled = spelled; history = history; differs = h }),
+  found_held acts count spells history all (Differs row) h = (
+    from_given day trees (of_none_other acts row spells history h),
+    inl (record { rows = reverse rows; repeats = repeats; day = day; asked = refl; acts = acts; spelled = spells; history = history; differs = h }),
   )
-  found_held acts count spelled history all (Untyped name) h = says_untyped (Some day) trees name h
-  found_held acts count spelled history all (Unnumbered k) h = absurd h
-  found_held acts count spelled history all (Unspelled act) h = absurd h
-  found_held acts count spelled history all (Refused act why) h = absurd h
+  found_held acts count spells history all (Untyped name) h = says_untyped (Some day) trees name h
+  found_held acts count spells history all (Unnumbered k) h = absurd h
+  found_held acts count spells history all (Unspelled act) h = absurd h
+  found_held acts count spells history all (Refused act why) h = absurd h
 
   pub of_none_spelled : ((acts : List Act) → Spell (reverse rows) acts → ¬ IsHistory day acts) → AreOfNoneIn trees (Some day)
   of_none_spelled none = from_given day trees (λ others h are. none_spelled day (tables_in trees) (reverse rows) repeats none others h are.tables)
@@ -144,7 +144,7 @@ module _ (trees : Trees) (rows : List RepeatRow) (repeats : AreRepeats (reverse 
   lacks (Some (Opened day)) row t u un has = absurd un
 
   not_opened : (s : Option Start) (row : RowKey) (t : Tables) (day : ℤ) → IsUntold t s row → s ≢ Some (Opened day)
-  not_opened None row t day un e = none-some _ (sym e)
+  not_opened None row t day un e = none-some _ e
   not_opened (Some (Received l n)) row t day un e = let no : Received l n ≡ Opened day = same_Some _ _ e in cc
   not_opened (Some (Opened d)) row t day un e = absurd un
 

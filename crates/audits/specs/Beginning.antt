@@ -1,5 +1,5 @@
 -- What tables tell of the day that their acts began on.
-use Rattle.std.specs.Prelude.{◌≡◌, Option, Some, None}
+use Rattle.std.specs.Prelude.{◌≡◌, Option, Some, None, ℤ}
 use Rattle.sqlite.specs.State.{State}
 use Rattle.table_words.specs.Typed.{Tables, tables_in, Keeps}
 use Rattle.same_rows.specs.declared.key.RowKey.{RowKey}
@@ -16,6 +16,11 @@ abbrev pub IsUntold : Tables → Option Start → RowKey → Type 0
 IsUntold t None row = (row ≡ Meta) × (t.meta ≡ None)
 IsUntold t (Some (Received lot act)) row = (row ≡ Card lot act) × (t.card lot act ≡ None)
 IsUntold t (Some (Opened day)) row = ⊥
+
+-- the day of the row, if there is one
+abbrev pub day_or_missing : Option ℤ → RowKey → Begun
+day_or_missing (Some day) row = On day
+day_or_missing None row = Missing row
 
 -- the day is told, and nothing is changed; or it is not
 abbrev pub IsBegun : Option Start → State → State → Begun → Type 0

@@ -1,13 +1,14 @@
 //! The day that the acts began on, as the tables tell it.
 
-ghost use Rattle.std.specs.Prelude.{◌≡◌, true, find, Some, None, IfOk};
+ghost use Rattle.std.specs.Prelude.{◌≡◌, true, find, option_map, Some, None, IfOk};
 ghost use Rattle.sqlite.specs.Held.{state};
 ghost use Rattle.sqlite.specs.State.{HasCleanDisk, Survives};
 ghost use Rattle.table_words.specs.Steps.{IsReady};
 ghost use Rattle.table_words.specs.Typed.{same_card, card_key};
 ghost use Rattle.replays.specs.Starting.{day_before as day_before_lem};
 ghost use Rattle.replays.specs.declared.start.Start.TheVariants.{Received};
-ghost use Rattle.audits.specs.Beginning.{IsBegun};
+ghost use Rattle.same_rows.specs.declared.key.RowKey.TheVariants as row;
+ghost use Rattle.audits.specs.Beginning.{day_or_missing, IsBegun};
 
 use commands::{CardRow, MetaRow};
 use goods_tables::meta::Meta;
@@ -47,42 +48,42 @@ fn day_before(day: BusinessDay) -> BusinessDay
     }
 }
 
-/// The row of `meta`.
-fn meta_of(rows: &[MetaRow]) -> Option<MetaRow>
-    ensures { result ≡ find (λ _. true) rows.now }
+/// The day of the row of `meta`, of which there is one at most.
+fn meta_day(rows: &[MetaRow]) -> Begun
+    ensures { result ≡ day_or_missing (option_map (λ m. m.day) (find (λ _. true) rows.now)) row.Meta }
 {
-    rows.first().copied()
+    match rows.first() {
+        Some(row) => Begun::On(row.day),
+        None => Begun::Missing(RowKey::Meta),
+    }
 }
 
-/// The day of the row of `meta`.
+/// The same, of the stored row.
 fn day_of_books<S: Alter>(alloc: Global, tx: &mut Transaction<'_, S>) -> Result<Begun, Fault>
     ensures same_reference { tx.new.conn.ghost_name ≡ tx.old.conn.ghost_name }
     ensures begun { HasCleanDisk (state S.Store tx.new.conn.now) → IsReady (state S.Store tx.old.conn.now).now → IfOk result (IsBegun None (state S.Store tx.old.conn.now) (state S.Store tx.new.conn.now)) }
     ensures survives { Survives (state S.Store tx.old.conn.now) (state S.Store tx.new.conn.now) (λ _. ⊥) }
 {
     match all_rows::<Meta, S>(alloc, tx) {
-        Ok(rows) => match meta_of(rows.as_slice()) {
-            Some(row) => Ok(Begun::On(row.day)),
-            None => Ok(Begun::Missing(RowKey::Meta)),
-        },
+        Ok(rows) => Ok(meta_day(rows.as_slice())),
         Err(TableFault::Foreign) => Ok(Begun::Untyped(TableName::Meta)),
         Err(TableFault::Store(_)) => Err(Fault::Store),
     }
 }
 
-/// The line of the act in the lot's card.
-fn card_of(rows: &[CardRow], lot: &LotId, act: u64) -> Option<CardRow>
-    ensures { result ≡ find (λ c. same_card (lot.now, act) (card_key c)) rows.now }
+/// The day of the line of the act in the lot's card.
+fn card_day(rows: &[CardRow], lot: LotId, act: u64) -> Begun
+    ensures { result ≡ day_or_missing (option_map (λ c. c.day) (find (λ c. same_card (lot, act) (card_key c)) rows.now)) (row.Card lot act) }
 {
     for row in rows {
-        if *lot == row.lot && act == row.act {
-            return Some(*row);
+        if lot == row.lot && act == row.act {
+            return Begun::On(row.day);
         }
     }
-    None
+    Begun::Missing(RowKey::Card(lot, act))
 }
 
-/// The day of the line of the act in the lot's card.
+/// The same, of the stored lines.
 fn day_of_receipt<S: Alter>(
     alloc: Global,
     tx: &mut Transaction<'_, S>,
@@ -95,10 +96,7 @@ fn day_of_receipt<S: Alter>(
     ensures survives { Survives (state S.Store tx.old.conn.now) (state S.Store tx.new.conn.now) (λ _. ⊥) }
 {
     match all_rows::<Cards, S>(alloc, tx) {
-        Ok(rows) => match card_of(rows.as_slice(), &lot, act) {
-            Some(row) => Ok(Begun::On(row.day)),
-            None => Ok(Begun::Missing(RowKey::Card(lot, act))),
-        },
+        Ok(rows) => Ok(card_day(rows.as_slice(), lot, act)),
         Err(TableFault::Foreign) => Ok(Begun::Untyped(TableName::Cards)),
         Err(TableFault::Store(_)) => Err(Fault::Store),
     }
@@ -114,9 +112,11 @@ pub(crate) fn first_day<S: Alter>(
     ensures begun { HasCleanDisk (state S.Store tx.new.conn.now) → IsReady (state S.Store tx.old.conn.now).now → IfOk result (IsBegun start (state S.Store tx.old.conn.now) (state S.Store tx.new.conn.now)) }
     ensures survives { Survives (state S.Store tx.old.conn.now) (state S.Store tx.new.conn.now) (λ _. ⊥) }
 {
-    match start {
-        None => day_of_books(alloc, tx),
-        Some(Start::Received(lot, act)) => day_of_receipt(alloc, tx, lot, act),
-        Some(Start::Opened(day)) => Ok(Begun::On(day_before(day))),
+    let Some(told) = start else {
+        return day_of_books(alloc, tx);
+    };
+    match told {
+        Start::Received(lot, act) => day_of_receipt(alloc, tx, lot, act),
+        Start::Opened(day) => Ok(Begun::On(day_before(day))),
     }
 }
