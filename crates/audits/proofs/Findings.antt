@@ -1,11 +1,14 @@
 -- What follows of what was compared.
-use Rattle.std.proofs.Common.{◌≡◌, ◌≢◌, ℕ, ◌+◌, List, [], ◌∷◌, length, find, Option, Some, None, Result, Ok, Err, IfOk, IfErr, refl, sym, ap, subst, ◌∙◌, true, false, arith, IsTrue}
-use Rattle.std.specs.Prelude.{ℤ, reverse, IfSome}
+use Rattle.std.proofs.Common.{◌≡◌, ◌≢◌, ℕ, ◌+◌, List, [], ◌∷◌, length, find, Option, Some, None, Result, Ok, Err, IfOk, IfErr, inl, inr, refl, sym, ap, subst, ◌∙◌, arith}
+use Rattle.std.specs.Prelude.{ℤ, reverse, option_map}
+use Rattle.std.proofs.lemmas.Option.{same_Some, none-some}
 use Rattle.std.proofs.lemmas.List.{length-reverse}
 use Rattle.sqlite.specs.State.{State, HasCleanDisk, Survives, IsUnchanged}
 use Rattle.sqlite.specs.Effect.{Database}
 use Rattle.sqlite.specs.Tree.{Trees}
 use Rattle.values.specs.Values.{same_text}
+use Rattle.commands.specs.declared.rows.MetaRow.{MetaRow}
+use Rattle.commands.specs.declared.rows.CardRow.{CardRow}
 use Rattle.commands.specs.declared.rows.RepeatRow.{RepeatRow}
 use Rattle.table_words.specs.Steps.{IsReady}
 use Rattle.table_words.specs.Typed.{tables_in, Keeps, AreTyped, same_repeat, repeat_key}
@@ -18,13 +21,19 @@ use Rattle.same_rows.specs.declared.key.TableName.{TableName}
 use Rattle.same_rows.specs.Differing.{RowDiffers, rule_called}
 use Rattle.same_rows.specs.Same.{FindAlike}
 use Rattle.replays.specs.Replaying.{Spell}
-use Rattle.replays.specs.Spelled.{AreNewestFirst, AreRepeats}
-use Rattle.replays.proofs.Spelled.{no_other, none_spelled}
+use Rattle.replays.specs.Spelled.{AreNewestFirst, AreRepeats, IsUnnumbered}
+use Rattle.replays.specs.Starting.{start_of, first_day, Tell}
+use Rattle.replays.specs.declared.start.Start.{Start}
+use Rattle.replays.specs.declared.start.Start.TheVariants.{Received, Opened}
+use Rattle.replays.proofs.Spelled.{spelled, no_other, none_spelled}
+use Rattle.replays.proofs.FirstDay.{first_day_told}
+use Rattle.replays.proofs.EarlierDays.{told_day_stands}
 use Rattle.audits.specs.declared.finding.Unread.{Unread}
 use Rattle.audits.specs.declared.finding.Finding.{Finding}
 use Rattle.audits.specs.declared.finding.Finding.TheVariants.{Sound, Differs, Untyped, Unnumbered, Unspelled, Refused}
 use Rattle.audits.specs.Comparing.{SameTables, AreSeen, Tells, IsUnread}
-use Rattle.audits.specs.Auditing.{IsHeld, IsSound, AreOfNone, IsOther, IsFinding}
+use Rattle.audits.specs.Beginning.{IsUntold}
+use Rattle.audits.specs.Auditing.{IsHeld, AreOfNone, SaysIn}
 use Rattle.audits.proofs.Tables.{same_tables, typed_tables, keeps_called, two_tables}
 
 -- ---- tables compared with those of books of the acts
@@ -49,35 +58,118 @@ spell_length [] (act ∷ acts) h = absurd h
 spell_length (row ∷ rows) [] h = absurd h
 spell_length (row ∷ rows) (act ∷ acts) h = let more = spell_length rows acts h.1 in omega (arith, more)
 
+-- the tables are those of no acts, begun on this day
+abbrev pub AreOfNoneFrom : ℤ → Trees → Type 0
+AreOfNoneFrom day trees = (acts : List Act) → IsHistory day acts → ¬ AreRowsOf day acts trees
+
+abbrev pub AreOfNoneIn : Trees → Option ℤ → Type 0
+AreOfNoneIn trees given = AreOfNone (λ day acts. AreRowsOf day acts trees) given
+
+from_given : (day : ℤ) (trees : Trees) → AreOfNoneFrom day trees → AreOfNoneIn trees (Some day)
+from_given day trees none other acts asked h are = none acts (subst (λ d. IsHistory d acts) asked h) (subst (λ d. AreRowsOf d acts trees) asked are)
+
 -- a row with a value that no row has is of no acts
-pub of_none_untyped : (day : ℤ) (trees : Trees) (name : TableName) → ¬ Keeps trees (rule_called name) → AreOfNone day trees
-of_none_untyped day trees name un others h are = un (keeps_called trees name are.typed)
+pub says_untyped : (given : Option ℤ) (trees : Trees) (name : TableName) → ¬ Keeps trees (rule_called name) → SaysIn trees given (Untyped name)
+says_untyped given trees name un = (λ day acts asked h are. un (keeps_called trees name are.typed), un)
 
 module _ (day : ℤ) (trees : Trees) (rows : List RepeatRow) (repeats : AreRepeats (reverse rows) (tables_in trees)) where
-  of_none_other : (acts : List Act) (row : RowKey) → Spell (reverse rows) acts → IsHistory day acts → RowDiffers row (tables_in trees) (tables_of day acts) → AreOfNone day trees
-  of_none_other acts row spelled history differs others h are =
-      let same : others ≡ acts = no_other day (tables_in trees) (reverse rows) acts others repeats spelled history h are.tables in
+  of_none_other : (acts : List Act) (row : RowKey) → Spell (reverse rows) acts → IsHistory day acts → RowDiffers row (tables_in trees) (tables_of day acts) → AreOfNoneFrom day trees
+  of_none_other acts row spells history differs others h are =
+      let same : others ≡ acts = no_other day (tables_in trees) (reverse rows) acts others repeats spells history h are.tables in
       two_tables row (tables_in trees) (tables_of day acts) differs (subst (λ x. tables_in trees ≡ tables_of day x) same are.tables)
 
-  pub found_held : (acts : List Act) (count : ℕ) → Spell (reverse rows) acts → IsHistory day acts → count ≡ length rows → (f : Finding) → IsHeld day acts count trees f → IsFinding day trees f
-  found_held acts count spelled history all (Sound n) h =
-      let same = spell_length (reverse rows) acts spelled in
-      record { acts = acts; history = history; rows = h.1; number = same ∙ length-reverse rows ∙ sym all ∙ sym h.0 }
-  found_held acts count spelled history all (Differs row) h =
-      (of_none_other acts row spelled history h, record { rows = reverse rows; repeats = repeats; acts = acts; spelled = spelled; history = history; differs = h })
-  found_held acts count spelled history all (Untyped name) h = (of_none_untyped day trees name h, h)
-  found_held acts count spelled history all Unnumbered h = absurd h
-  found_held acts count spelled history all (Unspelled act) h = absurd h
-  found_held acts count spelled history all (Refused act why) h = absurd h
+  pub found_held : (acts : List Act) (count : ℕ) → Spell (reverse rows) acts → IsHistory day acts → count ≡ length rows → (f : Finding) → IsHeld day acts count trees f → SaysIn trees (Some day) f
+  found_held acts count spells history all (Sound n first) h =
+      let same = spell_length (reverse rows) acts spells in
+      record {
+        acts = acts;
+        history = subst (λ d. IsHistory d acts) (sym h.1) history;
+        rows = subst (λ d. AreRowsOf d acts trees) (sym h.1) h.2;
+        number = same ∙ length-reverse rows ∙ sym all ∙ sym h.0;
+        taken = h.1;
+      }
+  found_held acts count spells history all (Differs row) h = (
+    from_given day trees (of_none_other acts row spells history h),
+    inl (record { rows = reverse rows; repeats = repeats; day = day; asked = refl; acts = acts; spelled = spells; history = history; differs = h }),
+  )
+  found_held acts count spells history all (Untyped name) h = says_untyped (Some day) trees name h
+  found_held acts count spells history all (Unnumbered k) h = absurd h
+  found_held acts count spells history all (Unspelled act) h = absurd h
+  found_held acts count spells history all (Refused act why) h = absurd h
 
-  pub of_none_spelled : ((acts : List Act) → Spell (reverse rows) acts → ¬ IsHistory day acts) → AreOfNone day trees
-  of_none_spelled none others h are = none_spelled day (tables_in trees) (reverse rows) repeats none others h are.tables
+  pub of_none_spelled : ((acts : List Act) → Spell (reverse rows) acts → ¬ IsHistory day acts) → AreOfNoneIn trees (Some day)
+  of_none_spelled none = from_given day trees (λ others h are. none_spelled day (tables_in trees) (reverse rows) repeats none others h are.tables)
 
--- numbers that do not rise are of no acts
-pub of_none_unnumbered : (day : ℤ) (trees : Trees) (rows : List RepeatRow) → ((k : List ℕ) → find (λ r. same_text k r.k) rows ≡ (tables_in trees).repeat k)
-    → ((first : ℤ) (acts : List Act) → IsHistory first acts → ((k : List ℕ) → find (λ r. same_text k r.k) rows ≡ repeat_row first acts k) → ⊥) → AreOfNone day trees
+-- ---- the day that the tables tell
+
+module _ (trees : Trees) (rows : List RepeatRow) (repeats : AreRepeats (reverse rows) (tables_in trees)) (start : Option Start) (tell : Tell rows start) where
+  start_is : (day : ℤ) (acts : List Act) → IsHistory day acts → ((k : List ℕ) → (tables_in trees).repeat k ≡ repeat_row day acts k) → start ≡ start_of acts
+  start_is day acts h same = tell day acts h (spelled day acts (reverse rows) h repeats.order (λ k. repeats.found k ∙ same k))
+
+  same_repeats : (day : ℤ) (acts : List Act) → AreRowsOf day acts trees → (k : List ℕ) → (tables_in trees).repeat k ≡ repeat_row day acts k
+  unfolding tables_of
+  same_repeats day acts are k = ap (λ (t : Tables). t.repeat k) are.tables
+
+  module _ (day : ℤ) (told : first_day (tables_in trees) start ≡ Some day) where
+    tells : (first : ℤ) (acts : List Act) → IsHistory first acts → AreRowsOf first acts trees → first_day (tables_of first acts) (start_of acts) ≡ Some day
+    tells first acts h are =
+        subst (λ t. first_day t (start_of acts) ≡ Some day) are.tables
+        (subst (λ s. first_day (tables_in trees) s ≡ Some day) (start_is first acts h (same_repeats first acts are)) told)
+
+    none_from_any : AreOfNoneIn trees (Some day) → AreOfNoneIn trees None
+    none_from_any none first acts asked h are =
+        let stands = told_day_stands first day acts h (tells first acts h are) in
+        none day acts refl stands.0 (record { tables = are.tables ∙ stands.1; typed = are.typed })
+
+    -- what is found from that day is found from any
+    pub says_told : (f : Finding) → SaysIn trees (Some day) f → SaysIn trees None f
+    says_told (Sound n first) s =
+        record { acts = s.acts; history = s.history; rows = s.rows; number = s.number; taken = tells first s.acts s.history s.rows ∙ ap (λ d. Some d) (sym s.taken) }
+    says_told (Differs row) s = (
+      none_from_any s.0,
+      elim s.1 [
+        | inl o ↦ inl (record { rows = o.rows; repeats = o.repeats; day = o.day; asked = tt; acts = o.acts; spelled = o.spelled; history = o.history; differs = o.differs })
+        | inr m ↦ absurd (none-some day (sym m.none))
+      ],
+    )
+    says_told (Untyped name) s = (none_from_any s.0, s.1)
+    says_told (Unnumbered k) s = (none_from_any s.0, s.1)
+    says_told (Unspelled act) s = none_from_any s
+    says_told (Refused act why) s = none_from_any s
+
+  -- a row that is missing differs from that of tables that tell a day
+  lacks : (s : Option Start) (row : RowKey) (t u : Tables) → IsUntold t s row → first_day u s ≢ None → RowDiffers row t u
+  lacks None row t u un has = subst (λ r. RowDiffers r t u) (sym un.0) (λ same. has (ap (λ m. option_map (λ (m : MetaRow). m.day) m) (sym same ∙ un.1)))
+  lacks (Some (Received l n)) row t u un has = subst (λ r. RowDiffers r t u) (sym un.0) (λ same. has (ap (λ c. option_map (λ (c : CardRow). c.day) c) (sym same ∙ un.1)))
+  lacks (Some (Opened day)) row t u un has = absurd un
+
+  not_opened : (s : Option Start) (row : RowKey) (t : Tables) (day : ℤ) → IsUntold t s row → s ≢ Some (Opened day)
+  not_opened None row t day un e = none-some _ e
+  not_opened (Some (Received l n)) row t day un e = let no : Received l n ≡ Opened day = same_Some _ _ e in cc
+  not_opened (Some (Opened d)) row t day un e = absurd un
+
+  pub says_missing : (row : RowKey) → IsUntold (tables_in trees) start row → SaysIn trees None (Differs row)
+  says_missing row un =
+      let differs : (day : ℤ) (acts : List Act) → IsHistory day acts → ((k : List ℕ) → (tables_in trees).repeat k ≡ repeat_row day acts k) → RowDiffers row (tables_in trees) (tables_of day acts) =
+      λ day acts h same.
+      let is = start_is day acts h same in
+      lacks start row (tables_in trees) (tables_of day acts) un (λ none.
+      let told = first_day_told day acts h (λ d opened. not_opened start row (tables_in trees) d un (is ∙ opened)) in
+      none-some day (sym (sym (ap (first_day (tables_of day acts)) is ∙ told) ∙ none))) in (
+        λ day acts asked h are. two_tables row (tables_in trees) (tables_of day acts) (differs day acts h (same_repeats day acts are)) are.tables,
+        inr (record { none = refl; differs = differs }),
+      )
+
+-- ---- numbers that do not rise are of no acts
+
+pub says_unnumbered : (given : Option ℤ) (trees : Trees) (rows : List RepeatRow) (k : List ℕ) → ((k : List ℕ) → find (λ r. same_text k r.k) rows ≡ (tables_in trees).repeat k)
+    → ((first : ℤ) (acts : List Act) → IsHistory first acts → ((k : List ℕ) → find (λ r. same_text k r.k) rows ≡ repeat_row first acts k) → ⊥)
+    → IsUnnumbered (λ k. find (λ r. same_text k r.k) rows) k → SaysIn trees given (Unnumbered k)
 unfolding tables_of
-of_none_unnumbered day trees rows found unlike others h are = unlike day others h (λ k. found k ∙ ap (λ (t : Tables). t.repeat k) are.tables)
+says_unnumbered given trees rows k found unlike un = (
+  λ day acts asked h are. unlike day acts h (λ k. found k ∙ ap (λ (t : Tables). t.repeat k) are.tables),
+  subst (λ look. IsUnnumbered look k) (λ i k. found k i) un,
+)
 
 pub repeats_by_act : (t : Tables) (rows sorted : List RepeatRow) → ((k : List ℕ) → find (λ r. same_text k r.k) rows ≡ t.repeat k) → AreNewestFirst (reverse sorted) → FindAlike same_repeat repeat_key rows (reverse sorted) → AreRepeats (reverse sorted) t
 repeats_by_act t rows sorted found order alike = record { order = order; found = λ k. sym (alike k) ∙ found k }

@@ -1,4 +1,5 @@
 pub mod Telling
 pub mod Tables
 pub mod Memory
+pub mod Beginning
 pub mod Findings

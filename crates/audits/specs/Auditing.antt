@@ -1,25 +1,32 @@
 -- What an audit finds.
-use Rattle.std.specs.Prelude.{◌≡◌, ◌⊎◌, ◌≤◌, ℕ, false, List, reverse, length, ℤ}
+use Rattle.std.specs.Prelude.{◌≡◌, ◌⊎◌, ◌≤◌, ⊤, ℕ, false, List, reverse, length, Option, Some, None, ℤ}
 use Rattle.sqlite.specs.Steps.{over_memory}
 use Rattle.sqlite.specs.Held.{Held, state}
 use Rattle.sqlite.specs.Tree.{Trees}
-use Rattle.sqlite.specs.State.{HasCleanDisk}
+use Rattle.sqlite.specs.State.{State, HasCleanDisk}
 use Rattle.sqlite_trees.specs.declared.memory.MemStore.{MemStore}
 use Rattle.sqlite_trees.specs.declared.store.Store.{Ghosts}
 use Rattle.sqlite_trees.specs.View.{doubt}
 use Rattle.commands.specs.declared.rows.RepeatRow.{RepeatRow}
 use Rattle.table_words.specs.Typed.{tables_in, Keeps}
-use Rattle.tables.specs.Opening.{IsClosed}
+use Rattle.tables.specs.Bringing.{IsBrought}
+use Rattle.tables.specs.Opening.{HasSchema, IsClosed}
+use Rattle.tables.specs.Settling.{IsRaised}
+use Rattle.tables.specs.declared.opening.Found.{Found}
+use Rattle.tables.specs.declared.opening.Found.TheVariants.{Newest, Older}
 use Rattle.tables.specs.declared.opening.Leftover.{Leftover}
 use Rattle.tables.specs.declared.opening.Leftover.TheVariants as left
 use Rattle.machine.specs.Acts.{Act}
 use Rattle.machine.specs.Once.{IsHistory}
-use Rattle.machine.specs.Tables.{tables_of}
+use Rattle.machine.specs.Tables.{Tables, tables_of, repeat_row}
 use Rattle.slices.specs.Books.{AreRowsOf, IsBooksOf}
+use Rattle.store.specs.Opening.{AreRowsAt}
 use Rattle.same_rows.specs.declared.key.RowKey.{RowKey}
+use Rattle.same_rows.specs.declared.key.TableName.{TableName}
 use Rattle.same_rows.specs.Differing.{RowDiffers, rule_called}
 use Rattle.replays.specs.Replaying.{Spell}
-use Rattle.replays.specs.Spelled.{AreRepeats}
+use Rattle.replays.specs.Spelled.{AreRepeats, IsUnnumbered}
+use Rattle.replays.specs.Starting.{first_day, start_of}
 use Rattle.replays.specs.declared.fault.NotReplayed.{NotReplayed}
 use Rattle.replays.specs.declared.fault.NotReplayed.TheVariants as fault
 use Rattle.audits.specs.declared.finding.Finding.{Finding}
@@ -39,45 +46,80 @@ AreNone day rows (fault.Refused act why) = (acts : List Act) → Spell (reverse 
 AreNone day rows fault.Store = Unit {0}
 AreNone day rows fault.Foreign = ⊥
 
--- what is found of tables that are compared with those of these acts, of which there are so many
+-- what is found of tables that are compared with those of these acts, begun on this day, of which there are so many
 abbrev pub IsHeld : ℤ → List Act → ℕ → Trees → Finding → Type 0
-IsHeld day acts count trees (Sound n) = (n ≡ count) × AreRowsOf day acts trees
+IsHeld day acts count trees (Sound n first) = (n ≡ count) × (first ≡ day) × AreRowsOf day acts trees
 IsHeld day acts count trees (Differs row) = RowDiffers row (tables_in trees) (tables_of day acts)
 IsHeld day acts count trees (Untyped name) = ¬ Keeps trees (rule_called name)
-IsHeld day acts count trees Unnumbered = ⊥
+IsHeld day acts count trees (Unnumbered k) = ⊥
 IsHeld day acts count trees (Unspelled act) = ⊥
 IsHeld day acts count trees (Refused act why) = ⊥
 
 -- The claims
 
--- the tables are those of so many acts, begun on this day
-pub record IsSound (day : ℤ) (count : ℕ) (trees : Trees) : Type 0 where
+-- the days that are asked about: the given one, or where none is given, each
+abbrev pub IsAsked : Option ℤ → ℤ → Type 0
+IsAsked (Some given) day = day ≡ given
+IsAsked None day = ⊤
+
+-- the day that is taken: the given one, or the one that the tables of the acts tell
+abbrev pub IsTaken : Option ℤ → ℤ → List Act → Type 0
+IsTaken (Some given) day acts = day ≡ given
+IsTaken None day acts = first_day (tables_of day acts) (start_of acts) ≡ Some day
+
+-- the rows are those of so many acts, begun on this day
+pub record IsSound (given : Option ℤ) (trees : Trees) (count : ℕ) (day : ℤ) : Type 0 where
   pub acts : List Act
   pub history : IsHistory day acts
   pub rows : AreRowsOf day acts trees
   pub number : length acts ≡ count
+  pub taken : IsTaken given day acts
 
--- they are those of no acts begun on this day
-abbrev pub AreOfNone : ℤ → Trees → Type 0
-AreOfNone day trees = (acts : List Act) → IsHistory day acts → ¬ AreRowsOf day acts trees
+-- the stored rows are so of no acts, begun on a day that is asked about
+abbrev pub AreOfNone : (ℤ → List Act → Type 0) → Option ℤ → Type 0
+AreOfNone AreOf given = (day : ℤ) (acts : List Act) → IsAsked given day → IsHistory day acts → ¬ AreOf day acts
 
--- `repeats` spells acts, and this row is not the one that they give
-pub record IsOther (day : ℤ) (row : RowKey) (trees : Trees) : Type 0 where
+-- `repeats` spells acts, begun on a day that is asked about, and this row is not the one that they give
+pub record IsOther (given : Option ℤ) (row : RowKey) (tables : Tables) : Type 0 where
   pub rows : List RepeatRow
-  pub repeats : AreRepeats rows (tables_in trees)
+  pub repeats : AreRepeats rows tables
+  pub day : ℤ
+  pub asked : IsAsked given day
   pub acts : List Act
   pub spelled : Spell rows acts
   pub history : IsHistory day acts
-  pub differs : RowDiffers row (tables_in trees) (tables_of day acts)
+  pub differs : RowDiffers row tables (tables_of day acts)
 
--- what a finding says of the tables, begun on this day
-abbrev pub IsFinding : ℤ → Trees → Finding → Type 0
-IsFinding day trees (Sound count) = IsSound day count trees
-IsFinding day trees (Differs row) = AreOfNone day trees × IsOther day row trees
-IsFinding day trees (Untyped name) = AreOfNone day trees × ¬ Keeps trees (rule_called name)
-IsFinding day trees Unnumbered = AreOfNone day trees
-IsFinding day trees (Unspelled act) = AreOfNone day trees
-IsFinding day trees (Refused act why) = AreOfNone day trees
+-- no day is given, and this row would tell it, but there is none such: whatever acts have these rows of `repeats`, they give it
+pub record IsMissing (given : Option ℤ) (row : RowKey) (tables : Tables) : Type 0 where
+  pub none : given ≡ None
+  pub differs : (day : ℤ) (acts : List Act) → IsHistory day acts → ((k : List ℕ) → tables.repeat k ≡ repeat_row day acts k) → RowDiffers row tables (tables_of day acts)
+
+-- what a finding says of these tables, and of the stored rows that they come of
+abbrev pub Says : (ℤ → List Act → Type 0) → Option ℤ → Trees → Finding → Type 0
+Says AreOf given trees (Sound count day) = IsSound given trees count day
+Says AreOf given trees (Differs row) = AreOfNone AreOf given × (IsOther given row (tables_in trees) ⊎ IsMissing given row (tables_in trees))
+Says AreOf given trees (Untyped name) = AreOfNone AreOf given × ¬ Keeps trees (rule_called name)
+Says AreOf given trees (Unnumbered k) = AreOfNone AreOf given × IsUnnumbered (tables_in trees).repeat k
+Says AreOf given trees (Unspelled act) = AreOfNone AreOf given
+Says AreOf given trees (Refused act why) = AreOfNone AreOf given
+
+-- the same of tables that are stored so
+abbrev pub SaysIn : Trees → Option ℤ → Finding → Type 0
+SaysIn trees given f = Says (λ day acts. AreRowsOf day acts trees) given trees f
+
+-- the newest tables that those of older books come to
+abbrev pub AreRaised : Found → Trees → Trees → Type 0
+AreRaised Newest old new = IsRaised old new
+AreRaised (Older older) old new = IsBrought older old new
+
+-- the schema is that of these books; the tables that are compared are the stored ones, or what they come to
+pub record IsFinding (given : Option ℤ) (old : State) (f : Finding) : Type 0 where
+  pub found : Found
+  pub schema : HasSchema found old.now.schema
+  pub compared : Trees
+  pub are : (compared ≡ old.committed.trees) ⊎ AreRaised found old.committed.trees compared
+  pub says : Says (λ day acts. AreRowsAt found day acts old.committed.trees) given compared f
 
 -- What is left
 

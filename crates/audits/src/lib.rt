@@ -1,6 +1,7 @@
 //! A file of the books held against the acts that it keeps.
 #![tactic(auto)]
 
+mod begun;
 mod comparing;
 mod finding;
 mod replayed;

@@ -1,6 +1,6 @@
 //! An audit.
 
-ghost use Rattle.std.specs.Prelude.{◌≡◌, ℕ, ℤ, List, false, IfOk, reverse};
+ghost use Rattle.std.specs.Prelude.{◌≡◌, ℕ, ℤ, List, Some, None, false, IfOk, reverse};
 ghost use Rattle.sqlite.specs.Held.{state};
 ghost use Rattle.sqlite.specs.State.{HasCleanDisk, Survives};
 ghost use Rattle.sqlite.specs.Steps.{over_memory};
@@ -16,15 +16,16 @@ ghost use Rattle.tables.specs.Opening.{IsReadyAs};
 ghost use Rattle.whole_tables.specs.Whole.{AreAll};
 ghost use Rattle.replays.specs.Spelled.{AreRepeats};
 ghost use Rattle.audits.specs.Comparing.{IsUnread};
-ghost use Rattle.audits.specs.Auditing.{IsHeld, IsFinding, IsLeftAlone};
+ghost use Rattle.audits.specs.Auditing.{IsHeld, SaysIn, IsFinding, IsLeftAlone};
 
+use crate::begun::{Begun, first_day};
 use crate::comparing::compare_tables;
 use crate::finding::{Finding, Unread};
 use crate::replayed::act_rows;
 use commands::RepeatRow;
 use history_tables::repeats::Repeats;
 use label::BusinessDay;
-use replays::{NotReplayed, Progress, by_act};
+use replays::{NotReplayed, Progress, by_act, start_of};
 use same_rows::TableName;
 use sqlite::{Alter, Connection, Transaction};
 use sqlite_trees::memory::MemStore;
@@ -50,11 +51,12 @@ fn hold_against<S: Alter>(
     tx: &mut Transaction<'_, S>,
     again: Connection<MemStore>,
     acts: usize,
+    day: BusinessDay,
 ) -> Result<Finding, Fault>
     requires outside { again.in_transaction ≡ false }
     ensures same_reference { tx.new.conn.ghost_name ≡ tx.old.conn.ghost_name }
-    ensures held { HasCleanDisk (state S.Store tx.new.conn.now) → IsReady (state S.Store tx.old.conn.now).now → (first : ℤ) (done : List Act) → IsBooksOf first done (state over_memory again).now
-        → IfOk result (IsHeld first done acts (state S.Store tx.old.conn.now).now.trees) }
+    ensures held { HasCleanDisk (state S.Store tx.new.conn.now) → IsReady (state S.Store tx.old.conn.now).now → (done : List Act) → IsBooksOf day done (state over_memory again).now
+        → IfOk result (IsHeld day done acts (state S.Store tx.old.conn.now).now.trees) }
     ensures survives { Survives (state S.Store tx.old.conn.now) (state S.Store tx.new.conn.now) (λ _. ⊥) }
 {
     let mut again = again;
@@ -63,7 +65,10 @@ fn hold_against<S: Alter>(
     let told = compare_tables(alloc, tx, &mut other);
     other.rollback();
     match told {
-        Ok(None) => Ok(Finding::Sound { acts: acts as u64 }),
+        Ok(None) => Ok(Finding::Sound {
+            acts: acts as u64,
+            day,
+        }),
         Ok(Some(row)) => Ok(Finding::Differs(row)),
         Err(unread) => tell_unread(unread),
     }
@@ -79,11 +84,11 @@ fn do_again<S: Alter, P: Progress>(
 ) -> Result<Finding, Fault>
     ensures same_reference { tx.new.conn.ghost_name ≡ tx.old.conn.ghost_name }
     ensures found { HasCleanDisk (state S.Store tx.new.conn.now) → IsReady (state S.Store tx.old.conn.now).now → AreRepeats (reverse rows.now) (tables_in (state S.Store tx.old.conn.now).now.trees)
-        → IfOk result (IsFinding day (state S.Store tx.old.conn.now).now.trees) }
+        → IfOk result (SaysIn (state S.Store tx.old.conn.now).now.trees (Some day)) }
     ensures survives { Survives (state S.Store tx.old.conn.now) (state S.Store tx.new.conn.now) (λ _. ⊥) }
 {
     match act_rows(alloc, day, rows, progress) {
-        Ok(again) => hold_against(alloc, tx, again, rows.len()),
+        Ok(again) => hold_against(alloc, tx, again, rows.len(), day),
         Err(NotReplayed::Unspelled { act }) => Ok(Finding::Unspelled { act }),
         Err(NotReplayed::Refused { act, why }) => Ok(Finding::Refused { act, why }),
         Err(NotReplayed::Store) => Err(Fault::Store),
@@ -91,23 +96,45 @@ fn do_again<S: Alter, P: Progress>(
     }
 }
 
-/// The audit, by all rows of `repeats`.
+/// The audit from the day that the tables tell, by the rows of `repeats`, the oldest first.
+fn audit_told<S: Alter, P: Progress>(
+    alloc: Global,
+    tx: &mut Transaction<'_, S>,
+    rows: &[RepeatRow],
+    progress: &mut P,
+) -> Result<Finding, Fault>
+    ensures same_reference { tx.new.conn.ghost_name ≡ tx.old.conn.ghost_name }
+    ensures found { HasCleanDisk (state S.Store tx.new.conn.now) → IsReady (state S.Store tx.old.conn.now).now → AreRepeats (reverse rows.now) (tables_in (state S.Store tx.old.conn.now).now.trees)
+        → IfOk result (SaysIn (state S.Store tx.old.conn.now).now.trees None) }
+    ensures survives { Survives (state S.Store tx.old.conn.now) (state S.Store tx.new.conn.now) (λ _. ⊥) }
+{
+    let start = start_of(alloc, rows)?;
+    match first_day(alloc, tx, start)? {
+        Begun::On(day) => do_again(alloc, tx, day, rows, progress),
+        Begun::Missing(row) => Ok(Finding::Differs(row)),
+        Begun::Untyped(name) => Ok(Finding::Untyped(name)),
+    }
+}
+
+/// The audit by all rows of `repeats`.
 fn audit_rows<S: Alter, P: Progress>(
     alloc: Global,
     tx: &mut Transaction<'_, S>,
-    day: BusinessDay,
+    given: Option<BusinessDay>,
     rows: &mut [RepeatRow],
     progress: &mut P,
 ) -> Result<Finding, Fault>
     ensures same_reference { tx.new.conn.ghost_name ≡ tx.old.conn.ghost_name }
     ensures found { HasCleanDisk (state S.Store tx.new.conn.now) → IsReady (state S.Store tx.old.conn.now).now → AreAll repeats (tables_in (state S.Store tx.old.conn.now).now.trees) rows.old
-        → IfOk result (IsFinding day (state S.Store tx.old.conn.now).now.trees) }
+        → IfOk result (SaysIn (state S.Store tx.old.conn.now).now.trees given) }
     ensures survives { Survives (state S.Store tx.old.conn.now) (state S.Store tx.new.conn.now) (λ _. ⊥) }
 {
-    if by_act(rows) {
-        do_again(alloc, tx, day, rows, progress)
-    } else {
-        Ok(Finding::Unnumbered)
+    if let Some(key) = by_act(rows) {
+        return Ok(Finding::Unnumbered(key));
+    }
+    match given {
+        Some(day) => do_again(alloc, tx, day, rows, progress),
+        None => audit_told(alloc, tx, rows, progress),
     }
 }
 
@@ -115,12 +142,12 @@ fn audit_rows<S: Alter, P: Progress>(
 fn audit_inside<S: Alter, P: Progress>(
     alloc: Global,
     tx: &mut Transaction<'_, S>,
-    day: BusinessDay,
+    given: Option<BusinessDay>,
     progress: &mut P,
 ) -> Result<Finding, Fault>
     ensures same_reference { tx.new.conn.ghost_name ≡ tx.old.conn.ghost_name }
     ensures found { HasCleanDisk (state S.Store tx.new.conn.now) → IsReady (state S.Store tx.old.conn.now).now
-        → IfOk result (IsFinding day (state S.Store tx.old.conn.now).now.trees) }
+        → IfOk result (SaysIn (state S.Store tx.old.conn.now).now.trees given) }
     ensures survives { Survives (state S.Store tx.old.conn.now) (state S.Store tx.new.conn.now) (λ _. ⊥) }
 {
     let mut rows = match all_rows::<Repeats, S>(alloc, tx) {
@@ -128,24 +155,24 @@ fn audit_inside<S: Alter, P: Progress>(
         Err(TableFault::Foreign) => return Ok(Finding::Untyped(TableName::Repeats)),
         Err(TableFault::Store(_)) => return Err(Fault::Store),
     };
-    audit_rows(alloc, tx, day, &mut rows, progress)
+    audit_rows(alloc, tx, given, &mut rows, progress)
 }
 
 /// The audit over a connection, in a transaction of its own that is rolled back.
 fn audit_open<S: Alter, P: Progress>(
     alloc: Global,
     conn: &mut Connection<S>,
-    day: BusinessDay,
+    given: Option<BusinessDay>,
     progress: &mut P,
 ) -> Result<Finding, Fault>
     requires outside { conn.old.in_transaction ≡ false }
     ensures outside { conn.new.in_transaction ≡ false }
-    ensures found { HasCleanDisk (state S.Store conn.new) → IsReady (state S.Store conn.old).now → IfOk result (IsFinding day (state S.Store conn.old).now.trees) }
+    ensures found { HasCleanDisk (state S.Store conn.new) → IsReady (state S.Store conn.old).now → IfOk result (SaysIn (state S.Store conn.old).now.trees given) }
     ensures survives { Survives (state S.Store conn.old) (state S.Store conn.new) (λ _. ⊥) }
 {
     let _outside = conn.is_autocommit();
     let mut tx = conn.transaction();
-    let finding = audit_inside(alloc, &mut tx, day, progress);
+    let finding = audit_inside(alloc, &mut tx, given, progress);
     tx.rollback();
     finding
 }
@@ -155,39 +182,41 @@ fn audit_found<S: Alter, P: Progress>(
     alloc: Global,
     conn: &mut Connection<S>,
     found: Found,
-    day: BusinessDay,
+    given: Option<BusinessDay>,
     progress: &mut P,
 ) -> Result<Finding, Fault>
     requires outside { conn.old.in_transaction ≡ false }
     ensures outside { conn.new.in_transaction ≡ false }
-    ensures found { HasCleanDisk (state S.Store conn.new) → IsReadyAs found (state S.Store conn.old).now → IfOk result (IsFinding day (state S.Store conn.old).now.trees) }
+    ensures found { HasCleanDisk (state S.Store conn.new) → IsReadyAs found (state S.Store conn.old).now → IfOk result (SaysIn (state S.Store conn.old).now.trees given) }
     ensures survives { Survives (state S.Store conn.old) (state S.Store conn.new) (λ _. ⊥) }
 {
     match found {
-        Found::Newest => audit_open(alloc, conn, day, progress),
+        Found::Newest => audit_open(alloc, conn, given, progress),
         Found::Older(_) => Err(Fault::Foreign),
     }
 }
 
 /// Holds the tables of the books over this connection against the acts that their `repeats` spells: does the acts again, the
-/// oldest first, on books in memory begun on this day, and compares every row of every table. `Sound` exactly where the
-/// tables are those of the acts, and else the first difference, as far as memory and the disk suffice. No row is changed,
-/// and nothing is committed. `Foreign` where the tables are not those of the newest schema; in books of schema 3 the row of
-/// `meta` has a number that no row of the newest has.
+/// oldest first, on books in memory, and compares every row of every table. They are begun on the given day, or where none
+/// is given, on the one that the tables tell: the day of the books, where no act opens a day or receives; that of the line
+/// of the first receipt in its lot's card, where no act opens a day before it; or else the day before the first that was
+/// opened. Books of an older schema are compared as they would be brought up. `Sound` exactly where the tables are those of
+/// the acts, and else the first difference, as far as memory and the disk suffice. No row is changed, and nothing is
+/// committed. `Foreign` where the tables are not those of books.
 pub fn audit<S: Alter + Drop, P: Progress>(
     alloc: Global,
     conn: Connection<S>,
-    day: BusinessDay,
+    given: Option<BusinessDay>,
     progress: &mut P,
 ) -> (Leftover<S>, Result<Finding, Fault>)
     requires outside { conn.in_transaction ≡ false }
-    ensures found { IsCleanLeft S.Store result.0 → IfOk result.1 (IsFinding day (state S.Store conn).committed.trees) }
+    ensures found { IsCleanLeft S.Store result.0 → IfOk result.1 (IsFinding given (state S.Store conn)) }
     ensures left { IsLeftAlone S.Store conn result.0 }
 {
     let (mut again, found) = match ready(alloc, conn) {
         Ok(opened) => opened,
         Err((left, fault)) => return (left, Err(Fault::from(fault))),
     };
-    let finding = audit_found(alloc, &mut again, found, day, progress);
+    let finding = audit_found(alloc, &mut again, found, given, progress);
     (Leftover::Connection(again), finding)
 }

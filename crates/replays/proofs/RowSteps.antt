@@ -21,7 +21,7 @@ rows_more rows i r low is =
     let taken : take (i + 1) rows ≡ take i rows ++ r ∷ [] = take_more rows i r low ∙ ap (λ x. take i rows ++ x ∷ []) (sym is) in
     ap reverse taken ∙ reverse-append (take i rows) (r ∷ [])
 
-rows_parts : (rows : List RepeatRow) (k : ℕ) → reverse rows ≡ reverse (drop k rows) ++ reverse (take k rows)
+pub rows_parts : (rows : List RepeatRow) (k : ℕ) → reverse rows ≡ reverse (drop k rows) ++ reverse (take k rows)
 rows_parts rows k = ap reverse (sym (take-append-drop k rows)) ∙ reverse-append (take k rows) (drop k rows)
 
 -- the older rows spell the older acts

@@ -8,8 +8,10 @@ pub mod laws;
 mod order;
 mod progress;
 mod rows;
+mod start;
 
 pub use fault::NotReplayed;
 pub use order::by_act;
-pub use progress::{NoProgress, Progress};
+pub use progress::Progress;
 pub use rows::replay_rows;
+pub use start::{Start, start_of};

@@ -3,10 +3,3 @@ pub trait Progress {
     /// So many acts of so many are done.
     fn done(&mut self, acts: u64, of: u64);
 }
-
-/// Nobody is told.
-pub struct NoProgress;
-
-impl Progress for NoProgress {
-    fn done(&mut self, _: u64, _: u64) {}
-}

@@ -10,9 +10,9 @@ use Rattle.same_rows.specs.declared.key.TableName.TheVariants as table
 use Rattle.history_tables.specs.Repeats.{repeats}
 use Rattle.keyed_rows.specs.Reads.{Finds}
 use Rattle.whole_tables.specs.Whole.{AreAll, rows_of}
-use Rattle.audits.specs.Auditing.{IsFinding}
+use Rattle.audits.specs.Auditing.{SaysIn}
 use Rattle.audits.proofs.Telling.{earlier}
-use Rattle.audits.proofs.Findings.{of_none_untyped}
+use Rattle.audits.proofs.Findings.{says_untyped}
 use Rattle.audits.proofs.whole.audit_inside.Goals as goal
 
 pub returns-clause-found : goal.returns-clause-found
@@ -26,4 +26,4 @@ returns-clause-found g c = λ clean ready.
     let all = subst (AreAll repeats (tables_in o.now.trees)) (sym c.deref_mut.ensures.value) (finds.rows before ready) in
     let there : IsReady m.now = subst IsReady (sym is) ready in
     let rows = subst (λ (x : Database). AreAll repeats (tables_in x.trees) c.deref_mut.result.now) (sym is) all in
-    subst (λ (x : Database). IfOk c.audit_rows.result (IsFinding c.args.day x.trees)) is (c.audit_rows.ensures.found clean there rows)
+    subst (λ (x : Database). IfOk c.audit_rows.result (SaysIn x.trees c.args.given)) is (c.audit_rows.ensures.found clean there rows)

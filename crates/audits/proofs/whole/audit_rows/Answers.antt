@@ -1,15 +1,27 @@
-use Rattle.std.proofs.Common.{◌≡◌, refl, sym, ◌∙◌, true≢false}
+use Rattle.std.proofs.Common.{◌≡◌, IfOk, Some, None, refl, sym, subst}
+use Rattle.std.proofs.lemmas.Option.{none-some}
 use Rattle.sqlite.specs.Held.{state}
 use Rattle.table_words.specs.Typed.{tables_in}
-use Rattle.audits.proofs.Findings.{of_none_unnumbered, repeats_by_act}
+use Rattle.audits.specs.Auditing.{SaysIn}
+use Rattle.audits.proofs.Findings.{says_unnumbered, repeats_by_act}
 use Rattle.audits.proofs.whole.audit_rows.Goals as goal
 
-pub returns-then-by_act-clause-found : goal.returns-then-by_act-clause-found
-returns-then-by_act-clause-found g c = λ clean ready all.
-    c.do_again.ensures.found clean ready
-    (repeats_by_act (tables_in (state g.S.Store c.args.tx.now.conn.now).now.trees) c.args.rows.now c.by_act.new.rows (λ k. all.found k refl) (c.by_act.ensures.order all.once c.if-by_act.true) (c.by_act.ensures.found all.once))
+pub returns-in-Some-clause-found : goal.returns-in-Some-clause-found
+returns-in-Some-clause-found g c = λ clean ready all.
+    let told = c.in-Some.ensures in
+    says_unnumbered c.args.given (state g.S.Store c.args.tx.now.conn.now).now.trees c.args.rows.now c.in-Some.key (λ k. all.found k refl)
+    (λ first acts history found. none-some c.in-Some.key (sym (told.every all.once first acts history found))) (told.unnumbered all.once)
 
-pub returns-else-by_act-clause-found : goal.returns-else-by_act-clause-found
-returns-else-by_act-clause-found g c = λ clean ready all.
-    of_none_unnumbered c.args.day (state g.S.Store c.args.tx.now.conn.now).now.trees c.args.rows.now (λ k. all.found k refl)
-    (λ first acts history found. true≢false (sym (c.by_act.ensures.every all.once first acts history found) ∙ c.if-by_act.false))
+pub returns-in-None-clause-found : goal.returns-in-None-clause-found
+returns-in-None-clause-found g c = λ clean ready all.
+    let trees = (state g.S.Store c.args.tx.now.conn.now).now.trees in
+    let sorted = c.in_default.ensures in
+    subst (λ given. IfOk c.audit_told.result (SaysIn trees given)) (sym c.in-None.is)
+    (c.audit_told.ensures.found clean ready (repeats_by_act (tables_in trees) c.args.rows.now c.by_act.new.rows (λ k. all.found k refl) (sorted.order all.once refl) (sorted.found all.once)))
+
+pub returns-in-Some-given-clause-found : goal.returns-in-Some-given-clause-found
+returns-in-Some-given-clause-found g c = λ clean ready all.
+    let trees = (state g.S.Store c.args.tx.now.conn.now).now.trees in
+    let sorted = c.in_default.ensures in
+    subst (λ given. IfOk c.do_again.result (SaysIn trees given)) (sym c.in-Some-given.is)
+    (c.do_again.ensures.found clean ready (repeats_by_act (tables_in trees) c.args.rows.now c.by_act.new.rows (λ k. all.found k refl) (sorted.order all.once refl) (sorted.found all.once)))

@@ -9,7 +9,7 @@ returns-in-Ok-clause-found g c = λ clean ready repeats.
     let done = c.in-Ok.ensures.done in
     if_ok_then c.hold_against.result _ _
     (found_held c.args.day (state g.S.Store c.args.tx.now.conn.now).now.trees c.args.rows.now repeats done.acts (length c.args.rows.now) done.spelled done.history refl)
-    (c.hold_against.ensures.held clean ready c.args.day done.acts done.books)
+    (c.hold_against.ensures.held clean ready done.acts done.books)
 
 pub returns-in-Err-Unspelled-clause-found : goal.returns-in-Err-Unspelled-clause-found
 returns-in-Err-Unspelled-clause-found g c = λ clean ready repeats.

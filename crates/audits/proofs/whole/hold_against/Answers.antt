@@ -13,34 +13,34 @@ use Rattle.audits.proofs.Findings.{held_same, held_other, held_untyped}
 use Rattle.audits.proofs.whole.hold_against.Goals as goal
 
 pub returns-in-Ok-None-clause-held : goal.returns-in-Ok-None-clause-held
-returns-in-Ok-None-clause-held g c = λ clean ready first done books.
+returns-in-Ok-None-clause-held g c = λ clean ready done books.
     let o = state g.S.Store c.args.tx.now.conn.now in
     let n = state g.S.Store c.compare_tables-told.new.books.conn.now in
     let b = state over_memory c.transaction-other.result.conn.now in
     let d = state over_memory c.compare_tables-told.new.again.conn.now in
-    let shown : IsBooksOf first done b.now = subst (λ h. IsBooksOf first done (state over_memory h).now) (sym c.transaction-other.ensures.begun) books in
+    let shown : IsBooksOf c.args.day done b.now = subst (λ h. IsBooksOf c.args.day done (state over_memory h).now) (sym c.transaction-other.ensures.begun) books in
     let seen : AreSeen o n b d = record { clean = clean; clean_too = memory_clean c.compare_tables-told.new.again.conn.now; ready = ready; ready_too = shown.ready } in
     let told : Tells SameTables o n b d (Ok None) = subst (λ r. Tells SameTables o n b d r) (c.in-Ok-None.is ∙ ap (λ x. Ok x) c.in-Ok-None.field-0-is) c.compare_tables-told.ensures.tells in
-    (refl, held_same o n b d first done seen shown told)
+    (refl, refl, held_same o n b d c.args.day done seen shown told)
 
 pub returns-in-Ok-Some-clause-held : goal.returns-in-Ok-Some-clause-held
-returns-in-Ok-Some-clause-held g c = λ clean ready first done books.
+returns-in-Ok-Some-clause-held g c = λ clean ready done books.
     let o = state g.S.Store c.args.tx.now.conn.now in
     let n = state g.S.Store c.compare_tables-told.new.books.conn.now in
     let b = state over_memory c.transaction-other.result.conn.now in
     let d = state over_memory c.compare_tables-told.new.again.conn.now in
-    let shown : IsBooksOf first done b.now = subst (λ h. IsBooksOf first done (state over_memory h).now) (sym c.transaction-other.ensures.begun) books in
+    let shown : IsBooksOf c.args.day done b.now = subst (λ h. IsBooksOf c.args.day done (state over_memory h).now) (sym c.transaction-other.ensures.begun) books in
     let seen : AreSeen o n b d = record { clean = clean; clean_too = memory_clean c.compare_tables-told.new.again.conn.now; ready = ready; ready_too = shown.ready } in
     let told : Tells SameTables o n b d (Ok (Some c.in-Ok-Some.row)) = subst (λ r. Tells SameTables o n b d r) (c.in-Ok-Some.is ∙ ap (λ x. Ok x) c.in-Ok-Some.field-0-is) c.compare_tables-told.ensures.tells in
-    held_other o n b d first done seen shown c.in-Ok-Some.row told
+    held_other o n b d c.args.day done seen shown c.in-Ok-Some.row told
 
 pub returns-clause-held : goal.returns-clause-held
-returns-clause-held g c = λ clean ready first done books.
+returns-clause-held g c = λ clean ready done books.
     let o = state g.S.Store c.args.tx.now.conn.now in
     let n = state g.S.Store c.compare_tables-told.new.books.conn.now in
     let b = state over_memory c.transaction-other.result.conn.now in
     let d = state over_memory c.compare_tables-told.new.again.conn.now in
-    let shown : IsBooksOf first done b.now = subst (λ h. IsBooksOf first done (state over_memory h).now) (sym c.transaction-other.ensures.begun) books in
+    let shown : IsBooksOf c.args.day done b.now = subst (λ h. IsBooksOf c.args.day done (state over_memory h).now) (sym c.transaction-other.ensures.begun) books in
     let seen : AreSeen o n b d = record { clean = clean; clean_too = memory_clean c.compare_tables-told.new.again.conn.now; ready = ready; ready_too = shown.ready } in
     let told : Tells SameTables o n b d (Err c.in-Err.unread) = subst (λ r. Tells SameTables o n b d r) c.in-Err.is c.compare_tables-told.ensures.tells in
-    c.tell_unread.ensures first done c.args.acts o.now.trees (held_untyped o n b d first done seen shown c.in-Err.unread told)
+    c.tell_unread.ensures c.args.day done c.args.acts o.now.trees (held_untyped o n b d c.args.day done seen shown c.in-Err.unread told)
