@@ -95,11 +95,11 @@ fn first_after<S: Alter>(
         &[of_gtin(&lot.gtin), of_lot(&lot.lot), of_number(number)],
         &mut first,
     );
-    taken(first, handed)
+    first_of(first, handed)
 }
 
 // What was taken, whether or not there was more.
-fn taken(first: First, handed: Result<(), EachFault>) -> Result<Option<ShiplineRow>, TableFault>
+fn first_of(first: First, handed: Result<(), EachFault>) -> Result<Option<ShiplineRow>, TableFault>
     ensures { result ≡ row_taken first.row handed }
 {
     match handed {

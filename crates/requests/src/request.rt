@@ -122,7 +122,7 @@ pub fn query_of(alloc: Global, shown: Shown, target: &[u8]) -> Result<Query, Wir
     }
 }
 
-fn posted(alloc: Global, route: Posted, body: &[u8]) -> Result<Ask, WireFault>
+fn read_post(alloc: Global, route: Posted, body: &[u8]) -> Result<Ask, WireFault>
     ensures ok { IfOk result (λ a. posted_lem route body.now ≡ Ok a) }
     ensures err { IfErr result (λ e. e ≢ WireFault.Memory → posted_lem route body.now ≡ Err e) }
 {
@@ -142,7 +142,7 @@ fn read_route(alloc: Global, route: Route, target: &[u8], body: &[u8]) -> Result
         → read_route_lem route target.now body.now ≡ Err e) }
 {
     match route {
-        Route::Post(route) => posted(alloc, route, body),
+        Route::Post(route) => read_post(alloc, route, body),
         Route::Get(shown) => match query_of(alloc, shown, target) {
             Ok(query) => Ok(Ask::Show(query)),
             Err(e) => Err(e),
@@ -171,7 +171,7 @@ fn read_ask(
 }
 
 // The reading of a text, by what it asks.
-fn answered(asked: Result<Ask, WireFault>) -> Read
+fn reading_of(asked: Result<Ask, WireFault>) -> Read
     ensures { result ≡ answered_lem asked }
 {
     match asked {
@@ -192,7 +192,7 @@ fn after_head(alloc: Global, routes: &mut RouteTable, head: Head, rest: &[u8]) -
                 return Read::Need(WireFault::Length);
             }
             let (body, _) = rest.split_at(n as usize);
-            answered(read_ask(alloc, routes, head.method, head.target, body))
+            reading_of(read_ask(alloc, routes, head.method, head.target, body))
         }
     }
 }

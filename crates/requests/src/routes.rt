@@ -135,7 +135,7 @@ fn is_path(target: &[u8]) -> bool
 }
 
 // The routes that are served.
-fn served(alloc: Global) -> Result<Router<Route>, WireFault>
+fn build_router(alloc: Global) -> Result<Router<Route>, WireFault>
     ensures ok { IfOk result (λ r. r ≡ table) }
     ensures err { IfErr result (λ e. e ≡ WireFault.Memory) }
 {
@@ -177,13 +177,13 @@ impl RouteTable {
     }
 
     // The table, taken out or made.
-    fn taken(&mut self, alloc: Global) -> Result<Router<Route>, WireFault>
+    fn take_or_build(&mut self, alloc: Global) -> Result<Router<Route>, WireFault>
         ensures ok { IfOk result (λ r. r ≡ table) }
         ensures err { IfErr result (λ e. (e ≡ WireFault.Memory) × (self.old ≡ false)) }
     {
         match self.router.take() {
             Some(router) => Ok(router),
-            None => served(alloc),
+            None => build_router(alloc),
         }
     }
 
@@ -200,7 +200,7 @@ impl RouteTable {
         if !is_path(target) {
             return Err(WireFault::Path);
         }
-        let router = self.taken(alloc)?;
+        let router = self.take_or_build(alloc)?;
         let found = found_at(&router, std::str::from_utf8(target).unwrap());
         self.router = Some(router);
         found.ok_or(WireFault::Path)

@@ -58,7 +58,7 @@ fn decision(alloc: Global, slice: &Slice, key: &Key, command: &Command) -> Resul
     if let Some(why) = refusal(slice, command) {
         return Err(RuleFault::Refused(why));
     }
-    made(change(alloc, slice, key, command))
+    rule_result(change(alloc, slice, key, command))
 }
 
 // The number of acts is judged first.
@@ -121,7 +121,7 @@ fn change(alloc: Global, slice: &Slice, key: &Key, command: &Command) -> Result<
 }
 
 // What is answered where the command is accepted.
-fn made(change: Result<Change, AllocError>) -> Result<Change, RuleFault>
+fn rule_result(change: Result<Change, AllocError>) -> Result<Change, RuleFault>
     ensures ok { IfOk result (λ made. change ≡ Ok made) }
     ensures err { IfErr result (λ fault. fault ≡ RuleFault.NoMemory) }
 {

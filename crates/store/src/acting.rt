@@ -17,8 +17,8 @@ ghost use Rattle.store.specs.Acting.{IsActedOn, IsActedInside, IsDecidedByRows};
 ghost use Rattle.store.specs.Knowing.{HasKnown, IsKnown, LeavesKnown};
 
 use crate::knowing::known_in;
-use crate::repeats::{earlier, find_open, keep_act};
-use crate::telling::{decided, told_again};
+use crate::repeats::{act_under_key, find_open, keep_act};
+use crate::telling::{decide_anew, repeat_reply};
 use crate::{Fault, Reply};
 use changes::write_change;
 use commands::{Command, Key, Listed, spell};
@@ -96,9 +96,9 @@ fn act_open<S: Alter>(
         → KeepsCommit (state S.Store tx.old.conn.now) (state S.Store tx.new.conn.now) }
     ensures survives { Survives (state S.Store tx.old.conn.now) (state S.Store tx.new.conn.now) (λ _. ⊥) }
 {
-    let found = earlier(alloc, tx, &key.text())?;
+    let found = act_under_key(alloc, tx, &key.text())?;
     match found {
-        Some(row) => told_again(alloc, &row, command),
+        Some(row) => repeat_reply(alloc, &row, command),
         None => act_anew(alloc, tx, known, key, command),
     }
 }
@@ -173,7 +173,7 @@ fn change_of<S: Alter>(
     ensures survives { Survives (state S.Store tx.old.conn.now) (state S.Store tx.new.conn.now) (λ _. ⊥) }
 {
     let slice = read_slice(alloc, tx, known, command)?;
-    let change = decided(alloc, &slice, key, command);
+    let change = decide_anew(alloc, &slice, key, command);
     // (as `change` above)
     drop(slice);
     change

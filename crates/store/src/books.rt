@@ -39,7 +39,7 @@ use std::alloc::Global;
 use std::marker::Model;
 use table_words::error::TableFault;
 use tables::creation;
-use tables::opening::{Leftover, ready, settled};
+use tables::opening::{Leftover, ready, settle_found};
 use values::{Gtin, LotId, Name};
 
 /// The books over a connection, which is outside a transaction between calls and has no limit on steps.
@@ -186,7 +186,7 @@ impl<S: Alter + Drop> Books<S> {
                 });
             }
         };
-        match settled(alloc, &mut again, found) {
+        match settle_found(alloc, &mut again, found) {
             Ok(day) => Ok(Books {
                 conn: again,
                 day,

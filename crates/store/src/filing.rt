@@ -159,13 +159,13 @@ fn with_row(
     ensures { result ≡ with_row_lem so_far command.now acted }
 {
     match acted {
-        Ok(reply) => Ok(counted(so_far, command, reply.repeated)),
+        Ok(reply) => Ok(count_reply(so_far, command, reply.repeated)),
         Err(fault) => Err(fault_at(so_far.tally, fault)),
     }
 }
 
 // What the rows come to with one more that was acted on.
-fn counted(so_far: Filed, command: &Command, repeated: bool) -> Filed
+fn count_reply(so_far: Filed, command: &Command, repeated: bool) -> Filed
     requires few { so_far.tally.accepted + so_far.tally.repeated < 1000 }
     ensures { result ≡ counted_lem so_far command.now repeated }
 {

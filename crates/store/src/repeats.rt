@@ -35,7 +35,7 @@ pub fn find_open<S: Alter>(tx: &mut Transaction<'_, S>) -> Result<(), Fault>
 }
 
 /// The row under this key, if an act bears it.
-pub fn earlier<S: Alter>(
+pub fn act_under_key<S: Alter>(
     alloc: Global,
     tx: &mut Transaction<'_, S>,
     k: &Text<KEY_TEXT_MAX>,

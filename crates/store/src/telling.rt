@@ -17,7 +17,7 @@ use std::alloc::Global;
 
 /// The answer to a command whose key an earlier act bears: that act's answer, if the command is the
 /// same, and K01 if it is another.
-pub fn told_again(alloc: Global, row: &RepeatRow, command: &Command) -> Result<Reply, Fault>
+pub fn repeat_reply(alloc: Global, row: &RepeatRow, command: &Command) -> Result<Reply, Fault>
     ensures { IsToldAgain (spelling command.now) row.now result }
 {
     let spelled = spell(alloc, command)?;
@@ -31,7 +31,7 @@ pub fn told_again(alloc: Global, row: &RepeatRow, command: &Command) -> Result<R
 }
 
 /// The decision on a command whose key is new.
-pub fn decided(alloc: Global, slice: &Slice, key: &Key, command: &Command) -> Result<Change, Fault>
+pub fn decide_anew(alloc: Global, slice: &Slice, key: &Key, command: &Command) -> Result<Change, Fault>
     ensures { (first : ℤ) (acts : List Act) →
         let act : Act = record { key = key.now; command = command.now } in
         IsHistory first acts → IsTrue (is_key_of key.now command.now) → bearer key.now acts ≡ None →

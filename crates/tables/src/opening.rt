@@ -45,7 +45,7 @@ pub enum Found {
 }
 
 /// Which books the schema is that of; `Foreign` where it is that of none.
-fn judged(alloc: Global, schema: &Schema) -> Result<Found, TableFault>
+fn judge(alloc: Global, schema: &Schema) -> Result<Found, TableFault>
     ensures found { IfOk result (λ found. HasSchema found schema.now) }
     ensures foreign { IfErr result (λ e. e ≡ Foreign → IsOfNone schema.now) }
     ensures other { IsOfNone schema.now → IsErrAnd result (λ e. (e ≡ Foreign) ⊎ (e ≡ Store (SqliteFailure OutOfMemory))) }
@@ -80,7 +80,7 @@ fn over<S: Alter + Drop>(alloc: Global, store: S) -> Result<Connection<S>, (Erro
 }
 
 /// Opens the store of a connection once more, and so learns that its tables are in order.
-fn reopened<S: Alter + Drop>(
+fn reopen<S: Alter + Drop>(
     alloc: Global,
     conn: Connection<S>,
 ) -> Result<Connection<S>, (Error, S)>
@@ -125,11 +125,11 @@ pub fn ready<S: Alter + Drop>(
 {
     // Outside a transaction the connection shows what is committed.
     let _outside = conn.is_autocommit();
-    let found = match judged(alloc, conn.schema()) {
+    let found = match judge(alloc, conn.schema()) {
         Ok(found) => found,
         Err(fault) => return Err((Leftover::Connection(conn), fault)),
     };
-    match reopened(alloc, conn) {
+    match reopen(alloc, conn) {
         Ok(again) => Ok((again, found)),
         Err((error, store)) => Err((Leftover::Store(store), TableFault::Store(error))),
     }
@@ -139,7 +139,7 @@ pub fn ready<S: Alter + Drop>(
 /// indexes that they lack, and others are brought up, in one transaction. `Foreign` where the row of `meta` is missing, has
 /// another number or a value that no row has, or in books of schema 1 an item has one. After an error the tables are as
 /// they were.
-pub fn settled<S: Alter>(
+pub fn settle_found<S: Alter>(
     alloc: Global,
     conn: &mut Connection<S>,
     found: Found,

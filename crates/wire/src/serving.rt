@@ -65,7 +65,7 @@ fn flush<W: Write>(writer: &mut W) -> Result<(), ServeFault>
 }
 
 /// The reading where no more is read. In a function of its own, so that its caller has one exit for it.
-fn stopped(stop: Taken, fault: WireFault) -> Reading
+fn end_reading(stop: Taken, fault: WireFault) -> Reading
     ensures { result ≡ stopped_lem stop (Need fault) }
 {
     match stop {
@@ -93,7 +93,7 @@ pub fn read_whole<R: Read>(
         match read_more(reader, &mut text)? {
             Taken::More => {}
             stop => {
-                let reading = stopped(stop, fault);
+                let reading = end_reading(stop, fault);
                 return Ok(Heard { reading, text });
             }
         }

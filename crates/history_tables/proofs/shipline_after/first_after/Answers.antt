@@ -10,26 +10,26 @@ use Rattle.history_tables.proofs.shipline_after.first_after.Goals as goal
 pub returns-clause-found : goal.returns-clause-found
 returns-clause-found g c clean ready are rows by_number =
     let plain = subst (λ s. IsPlain (understood s after_text)) (sym ready.has.is) (after_plain ready.has.rest) in
-    rw c.taken.ensures
+    rw c.first_of.ensures
     (found_of c.args.lot.now c.args.number (state g.S.Store c.args.conn.now) (state g.S.Store c.each-handed.new.conn) _ c.each-handed.new.sink refl ready are c.each-handed.result
     (rw (c.of_gtin.ensures.value, c.of_lot.ensures.value, c.of_number.ensures.value) at (c.each-handed.ensures.handed clean plain)) rows by_number)
 
 pub returns-clause-foreign : goal.returns-clause-foreign
 returns-clause-foreign g c clean ready are =
     let plain = subst (λ s. IsPlain (understood s after_text)) (sym ready.has.is) (after_plain ready.has.rest) in
-    rw c.taken.ensures
+    rw c.first_of.ensures
     (foreign_of c.args.lot.now c.args.number (state g.S.Store c.args.conn.now) (state g.S.Store c.each-handed.new.conn) _ c.each-handed.new.sink refl ready are c.each-handed.result
     (rw (c.of_gtin.ensures.value, c.of_lot.ensures.value, c.of_number.ensures.value) at (c.each-handed.ensures.handed clean plain)))
 
 pub returns-clause-same : goal.returns-clause-same
 returns-clause-same g c clean ready =
     let plain = subst (λ s. IsPlain (understood s after_text)) (sym ready.has.is) (after_plain ready.has.rest) in
-    rw c.taken.ensures (same_of c.each-handed.new.sink.row (state g.S.Store c.args.conn.now) (state g.S.Store c.each-handed.new.conn) c.each-handed.result (c.each-handed.ensures.left clean plain))
+    rw c.first_of.ensures (same_of c.each-handed.new.sink.row (state g.S.Store c.args.conn.now) (state g.S.Store c.each-handed.new.conn) c.each-handed.result (c.each-handed.ensures.left clean plain))
 
 pub returns-clause-left : goal.returns-clause-left
 returns-clause-left g c clean ready =
     let plain = subst (λ s. IsPlain (understood s after_text)) (sym ready.has.is) (after_plain ready.has.rest) in
-    rw c.taken.ensures (left_of c.each-handed.new.sink.row (state g.S.Store c.args.conn.now) (state g.S.Store c.each-handed.new.conn) c.each-handed.result (c.each-handed.ensures.left clean plain))
+    rw c.first_of.ensures (left_of c.each-handed.new.sink.row (state g.S.Store c.args.conn.now) (state g.S.Store c.each-handed.new.conn) c.each-handed.result (c.each-handed.ensures.left clean plain))
 
 pub returns-clause-survives : goal.returns-clause-survives
 returns-clause-survives g c =

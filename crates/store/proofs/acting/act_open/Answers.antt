@@ -18,7 +18,7 @@ pub returns-in_err-found-clause-acted : goal.returns-in_err-found-clause-acted
 returns-in_err-found-clause-acted g c clean kind first acts history up books holds =
     let act : Act = record { key = c.args.key.now; command = c.args.command.now } in
     let old = state g.S.Store c.args.tx.now.conn.now in
-    let new = state g.S.Store c.earlier.new.tx.conn.now in
+    let new = state g.S.Store c.act_under_key.new.tx.conn.now in
     by_error c.from_residual.result (fault_of c.in_err-found.field-0.0) c.from_residual.ensures (λ r. IsActedInside first acts act r old new)
     (fails_inside first acts act c.in_err-found.field-0.0 old new (c.in_err-found.ensures.typed clean books.ready books.rows.typed))
 
@@ -26,17 +26,17 @@ pub returns-in-Some-clause-acted : goal.returns-in-Some-clause-acted
 returns-in-Some-clause-acted g c clean kind first acts history up books holds =
     let act : Act = record { key = c.args.key.now; command = c.args.command.now } in
     let old = state g.S.Store c.args.tx.now.conn.now in
-    let new = state g.S.Store c.earlier.new.tx.conn.now in
+    let new = state g.S.Store c.act_under_key.new.tx.conn.now in
     let same = c.in_ok-found.ensures.same clean books.ready in
     let read : ◌≡◌ {A = Option RepeatRow} (Some c.in-Some.row) ((tables_in old.now.trees).repeat (key_text c.args.key.now)) =
     sym c.in-Some.is ∙ c.in_ok-found.ensures.read clean books.ready ∙ ap (λ k. (tables_in old.now.trees).repeat k) c.text.ensures in
-    told_inside first acts act c.in-Some.row (row_is_found first acts (key_text c.args.key.now) old.now c.in-Some.row books read) c.told_again.result old new up books same c.told_again.ensures
+    told_inside first acts act c.in-Some.row (row_is_found first acts (key_text c.args.key.now) old.now c.in-Some.row books read) c.repeat_reply.result old new up books same c.repeat_reply.ensures
 
 pub returns-in-None-clause-acted : goal.returns-in-None-clause-acted
 returns-in-None-clause-acted g c clean kind first acts history up books holds =
     let act : Act = record { key = c.args.key.now; command = c.args.command.now } in
     let old = state g.S.Store c.args.tx.now.conn.now in
-    let mid = state g.S.Store c.earlier.new.tx.conn.now in
+    let mid = state g.S.Store c.act_under_key.new.tx.conn.now in
     let new = state g.S.Store c.act_anew.new.tx.conn.now in
     let was : HasCleanDisk mid = omega (arith, clean, c.act_anew.ensures.survives.clean) in
     let same = c.in_ok-found.ensures.same was books.ready in
@@ -48,7 +48,7 @@ returns-in-None-clause-acted g c clean kind first acts history up books holds =
 pub returns-in-None-clause-kept : goal.returns-in-None-clause-kept
 returns-in-None-clause-kept g c clean ready up =
     let old = state g.S.Store c.args.tx.now.conn.now in
-    let mid = state g.S.Store c.earlier.new.tx.conn.now in
+    let mid = state g.S.Store c.act_under_key.new.tx.conn.now in
     let new = state g.S.Store c.act_anew.new.tx.conn.now in
     let was : HasCleanDisk mid = omega (arith, clean, c.act_anew.ensures.survives.clean) in
     let same = c.in_ok-found.ensures.same was ready in
@@ -56,16 +56,16 @@ returns-in-None-clause-kept g c clean ready up =
 
 pub returns-in_err-found-clause-known : goal.returns-in_err-found-clause-known
 returns-in_err-found-clause-known g c clean ready up =
-    known_if_err c.args.known.now c.args.known.now c.from_residual.result (state g.S.Store c.args.tx.now.conn.now) (state g.S.Store c.earlier.new.tx.conn.now) c.from_residual.ensures.0 (λ h. h)
+    known_if_err c.args.known.now c.args.known.now c.from_residual.result (state g.S.Store c.args.tx.now.conn.now) (state g.S.Store c.act_under_key.new.tx.conn.now) c.from_residual.ensures.0 (λ h. h)
 
 pub returns-in-Some-clause-known : goal.returns-in-Some-clause-known
 returns-in-Some-clause-known g c clean ready up =
-    known_same c.args.known.now c.told_again.result (state g.S.Store c.args.tx.now.conn.now) (state g.S.Store c.earlier.new.tx.conn.now) (c.in_ok-found.ensures.same clean ready) ready
+    known_same c.args.known.now c.repeat_reply.result (state g.S.Store c.args.tx.now.conn.now) (state g.S.Store c.act_under_key.new.tx.conn.now) (c.in_ok-found.ensures.same clean ready) ready
 
 pub returns-in-None-clause-known : goal.returns-in-None-clause-known
 returns-in-None-clause-known g c clean ready up =
     let old = state g.S.Store c.args.tx.now.conn.now in
-    let mid = state g.S.Store c.earlier.new.tx.conn.now in
+    let mid = state g.S.Store c.act_under_key.new.tx.conn.now in
     let new = state g.S.Store c.act_anew.new.tx.conn.now in
     let was : HasCleanDisk mid = omega (arith, clean, c.act_anew.ensures.survives.clean) in
     let same = c.in_ok-found.ensures.same was ready in

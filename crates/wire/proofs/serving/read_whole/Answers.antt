@@ -34,6 +34,6 @@ returns-in_default-clause-read g c = record {
 pub returns-in_default-2-clause-read : goal.returns-in_default-2-clause-read
 returns-in_default-2-clause-read g c =
     let need = Need c.in-Need.fault in
-    rw c.stopped-reading.ensures
+    rw c.end_reading-reading.ensures
     (at_stop _ _ _ _ _ c.in_ok-stop.stop need c.in_default-2.not-More c.loop-fault.invariant
     (λ has. subst (λ t. IsReading t need) c.as_slice.ensures.value (c.in-Need.ensures has)) c.in_ok-stop.ensures.taken)

@@ -5,7 +5,7 @@ use Rattle.table_words.specs.declared.error.TableFault.TheVariants.{Foreign}
 use Rattle.table_words.proofs.CallLemmas.{if_err}
 use Rattle.tables.specs.Opening.{IsReadyAs, HasDayIn, AreReadTyped, ComesTo, TellTables}
 use Rattle.tables.specs.declared.opening.Found.{Found}
-use Rattle.tables.proofs.opening.settled.Goals as goal
+use Rattle.tables.proofs.opening.settle_found.Goals as goal
 
 pub returns-in-Newest-clause-foreign : goal.returns-in-Newest-clause-foreign
 returns-in-Newest-clause-foreign g c =

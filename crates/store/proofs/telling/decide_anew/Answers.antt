@@ -3,7 +3,7 @@ use Rattle.machine.specs.Acts.{Act}
 use Rattle.store.specs.Acting.{IsDecided}
 use Rattle.store.specs.declared.fault.Fault.{Fault}
 use Rattle.store.proofs.DecidedAs.{fault_told}
-use Rattle.store.proofs.telling.decided.Goals as goal
+use Rattle.store.proofs.telling.decide_anew.Goals as goal
 
 pub returns-in-Err : goal.returns-in-Err
 returns-in-Err c first acts history kind fresh slice =

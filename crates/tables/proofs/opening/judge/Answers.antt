@@ -1,6 +1,6 @@
 use Rattle.tables.specs.declared.older.OlderBooks.TheVariants.{First, Second}
 use Rattle.tables.specs.declared.opening.Found.TheVariants.{Newest, Older}
-use Rattle.tables.proofs.opening.judged.Goals as goal
+use Rattle.tables.proofs.opening.judge.Goals as goal
 
 pub returns-then-branch-clause-other : goal.returns-then-branch-clause-other
 returns-then-branch-clause-other c none = none Newest (c.in_ok-has_tables.ensures.0 c.if-branch.true)

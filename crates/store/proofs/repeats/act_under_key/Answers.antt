@@ -7,7 +7,7 @@ use Rattle.table_words.specs.Typed.{is_repeat, tables_in}
 use Rattle.table_words.proofs.StepLemmas.{typed_at}
 use Rattle.store.proofs.RepeatRead.{first_read}
 use Rattle.store.proofs.TypedRows.{typed_among, not_foreign}
-use Rattle.store.proofs.repeats.earlier.Goals as goal
+use Rattle.store.proofs.repeats.act_under_key.Goals as goal
 
 pub returns-in_err-rows-clause-typed : goal.returns-in_err-rows-clause-typed
 returns-in_err-rows-clause-typed g c clean ready typed =
