@@ -1,6 +1,6 @@
 -- Books in memory.
-use Rattle.std.proofs.Common.{◌≡◌, List, refl}
-use Rattle.std.specs.Prelude.{ℤ, reverse, IsTrue, Err}
+use Rattle.std.proofs.Common.{List, refl}
+use Rattle.std.specs.Prelude.{ℤ, IsTrue, Err}
 use Rattle.sqlite.specs.Steps.{over_memory}
 use Rattle.sqlite.specs.Held.{Held, state}
 use Rattle.sqlite.specs.State.{HasCleanDisk}

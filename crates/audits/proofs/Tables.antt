@@ -1,22 +1,14 @@
 -- Tables that are compared one by one are the same.
-use Rattle.std.proofs.Common.{◌≡◌, ◌≢◌, Option, Some, None, Result, Ok, Err, IfOk, IfErr, refl, sym, ap, ap₂, subst, ◌∙◌, true, find}
-use Rattle.std.specs.Prelude.{ℤ, List, IfSome}
-use Rattle.std.specs.List.{AllByRecursion}
+use Rattle.std.proofs.Common.{◌≡◌, ◌≢◌, ap}
 use Rattle.sqlite.specs.Effect.{Database}
-use Rattle.sqlite.specs.State.{State, HasCleanDisk, Survives, IsUnchanged}
 use Rattle.sqlite.specs.Tree.{Trees}
 use Rattle.commands.specs.Tables.{Tables}
-use Rattle.table_words.specs.Found.{AreRows}
-use Rattle.table_words.specs.Steps.{IsReady}
 use Rattle.table_words.specs.Typed.{tables_in, Keeps, AreTyped}
-use Rattle.table_words.specs.declared.error.TableFault.{TableFault}
-use Rattle.keyed_rows.specs.Described.{Described, rule_of}
 use Rattle.same_rows.specs.declared.key.RowKey.{RowKey}
 use Rattle.same_rows.specs.declared.key.RowKey.TheVariants as row
 use Rattle.same_rows.specs.declared.key.TableName.{TableName}
 use Rattle.same_rows.specs.declared.key.TableName.TheVariants as table
 use Rattle.same_rows.specs.Differing.{RowDiffers, rule_called}
-use Rattle.replays.specs.Alike.{FindTheSame}
 use Rattle.replays.proofs.Alike.{one_tables}
 use Rattle.audits.specs.Comparing.{SameTables}
 

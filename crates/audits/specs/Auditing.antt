@@ -22,7 +22,6 @@ use Rattle.machine.specs.Tables.{Tables, tables_of, repeat_row}
 use Rattle.slices.specs.Books.{AreRowsOf, IsBooksOf}
 use Rattle.store.specs.Opening.{AreRowsAt}
 use Rattle.same_rows.specs.declared.key.RowKey.{RowKey}
-use Rattle.same_rows.specs.declared.key.TableName.{TableName}
 use Rattle.same_rows.specs.Differing.{RowDiffers, rule_called}
 use Rattle.replays.specs.Replaying.{Spell}
 use Rattle.replays.specs.Spelled.{AreRepeats, IsUnnumbered}

@@ -6,7 +6,7 @@ use Rattle.sqlite.specs.Held.{Held, state}
 use Rattle.sqlite.specs.State.{State, HasCleanDisk, Survives, IsUnchanged}
 use Rattle.sqlite.specs.Tree.{Trees}
 use Rattle.table_words.specs.Steps.{IsReady}
-use Rattle.table_words.specs.Typed.{tables_in, Keeps, AreTyped}
+use Rattle.table_words.specs.Typed.{tables_in, Keeps}
 use Rattle.keyed_rows.specs.Described.{Described, rule_of}
 use Rattle.goods_tables.specs.Meta.{meta}
 use Rattle.goods_tables.specs.Items.{items}

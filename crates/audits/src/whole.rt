@@ -8,7 +8,6 @@ ghost use Rattle.sqlite.specs.Tree.{Trees};
 ghost use Rattle.table_words.specs.Steps.{IsReady};
 ghost use Rattle.table_words.specs.Typed.{tables_in};
 ghost use Rattle.machine.specs.Acts.{Act};
-ghost use Rattle.machine.specs.Once.{IsHistory};
 ghost use Rattle.slices.specs.Books.{IsBooksOf};
 ghost use Rattle.store.specs.Opening.{IsCleanLeft};
 ghost use Rattle.history_tables.specs.Repeats.{repeats};

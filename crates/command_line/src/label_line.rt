@@ -1,4 +1,4 @@
-ghost use Rattle.std.specs.Prelude.{◌≡◌, OnOk, IfSome, IfOk, IfErr, IsTrue, Some};
+ghost use Rattle.std.specs.Prelude.{◌≡◌, OnOk, IfOk, IfErr, IsTrue, Some};
 ghost use Rattle.std.specs.Io.KnownBytes.{Appends};
 ghost use Rattle.label.specs.Days.{is_business_day, parsed_day};
 ghost use Rattle.command_line.specs.Lines.{label_lines, IsPrinted, IsRefused, IsNoBusinessDay};

@@ -1,5 +1,5 @@
 ghost use Rattle.std.specs.Prelude.{◌≡◌, ◌≤◌, ◌+◌, ◌++◌, length};
-ghost use Rattle.commands.specs.Replies.{field_text, further_text, reply_text};
+ghost use Rattle.commands.specs.Replies.{field_text, reply_text};
 
 use crate::limits::SHORT_MAX;
 use crate::{Buffer, Short};

@@ -3,7 +3,6 @@
 ghost use Rattle.std.specs.Prelude.{◌≡◌, ◌++◌, ◌∷◌, [], IfOk, OnOk, decimal, map};
 ghost use Rattle.std.specs.Fmt.{signed_decimal};
 ghost use Rattle.std.specs.List.{join_with_byte};
-ghost use Rattle.label.specs.Days.{day_text};
 ghost use Rattle.commands.specs.Words.{bin_kind_word};
 ghost use Rattle.commands.specs.Spelling.{spelling, lines_fields, order_fields, picking_fields, with_line_feeds};
 

@@ -17,7 +17,7 @@ use Rattle.commands.proofs.Handing.{reaches_one_more}
 use Rattle.table_words.specs.declared.error.TableFault.{TableFault}
 use Rattle.table_words.specs.declared.error.TableFault.TheVariants.{Store, Foreign}
 use Rattle.each_row.specs.declared.fault.EachFault.TheVariants.{Fault}
-use Rattle.each_row.specs.Handed.{HandsAll, HandsSome, HandsUpToForeign, HandsUpTo, Hands}
+use Rattle.each_row.specs.Handed.{HandsAll, HandsSome, HandsUpTo, Hands}
 
 -- the rows given so far are rows of the table, the sink took what they read as, and the connection shows what it did
 pub record HasHanded {S X K : Type 0} (g : Ghosts S) (has : Row → Bool) (read : Row → X) (takes : K → X → K → Type 0) (sql : List ℕ) (params : Row) (old now : Held S) (before after : K) : Type 0 where

@@ -1,5 +1,5 @@
 -- The order of columns, and that of the numbers and texts in them.
-use Rattle.std.proofs.Common.{◌≡◌, ◌<◌, ℕ, ℤ, pos, Bool, true, false, List, sym, ap, ◌∙◌, arith, int_cmp, is_eq, Less, Equal, bytes_eq}
+use Rattle.std.proofs.Common.{◌≡◌, ◌<◌, ℕ, pos, Bool, true, List, sym, ap, ◌∙◌, arith, int_cmp, is_eq, Less, Equal}
 use Rattle.std.specs.Ordering.{nat_cmp}
 use Rattle.std.specs.Cmp.Lexicographic.{slice_cmp}
 use Rattle.std.proofs.lemmas.Int.{ints}

@@ -1,5 +1,5 @@
 -- A scan of one table in the order of a column in which no two rows that pass are equal.
-use Rattle.std.proofs.Common.{◌≡◌, ℕ, Bool, true, false, cond, ◌&&◌, List, [], ◌∷◌, map, filter, find, inl, inr, Option, refl, sym, ap, ◌∙◌, subst, Ordering, Less, Equal, Greater, is_eq, is_gt, true≢false, IsPermutation}
+use Rattle.std.proofs.Common.{◌≡◌, ℕ, Bool, true, false, cond, ◌&&◌, List, [], ◌∷◌, map, filter, find, refl, sym, ap, ◌∙◌, subst, Ordering, Less, Equal, Greater, is_eq, is_gt, true≢false, IsPermutation}
 use Rattle.std.specs.List.{AllByRecursion}
 use Rattle.std.specs.Cmp.{IsTotalOrder}
 use Rattle.std.specs.Ordering.{ordering_reverse}
@@ -7,7 +7,6 @@ use Rattle.std.proofs.lemmas.Bool.{false_from_ne_true}
 use Rattle.std.proofs.lemmas.Cmp.{on_total}
 use Rattle.std.proofs.lemmas.List.Elements.{recursion_from_All, All-from_recursion}
 use Rattle.std.proofs.lemmas.List.Sorted.{All-permutation, IsPermutation-map, IsPermutation-sym}
-use Rattle.sqlite_value.specs.declared.value.Value.{Value}
 use Rattle.sqlite_value.specs.declared.keys.Key.{Key}
 use Rattle.sqlite_value.specs.declared.keys.Collation.TheVariants.{Binary}
 use Rattle.sqlite_value.specs.Order.{Row, column, value_cmp}
@@ -27,7 +26,7 @@ use Rattle.table_words.specs.Cells.{typed}
 use Rattle.table_words.proofs.KeyLemmas.{IsSame}
 use Rattle.table_words.proofs.CellLemmas.{typed-filter}
 use Rattle.table_words.proofs.Plans.{scan}
-use Rattle.table_words.proofs.ScanLemmas.{passes, show, env, q, out, kept_are}
+use Rattle.table_words.proofs.ScanLemmas.{passes, show, q, out, kept_are}
 use Rattle.each_row.specs.Ordered.{AreInOrder}
 use Rattle.each_row.proofs.Rising.{few_with_key, found_alike, found_wanted}
 

@@ -1,48 +1,36 @@
 -- What the query of `meta` means, and what it answers.
-use Rattle.std.proofs.Common.{◌≡◌, ◌≢◌, ◌≤◌, ℕ, ℤ, Bool, true, false, not, ◌&&◌, ◌||◌, cond, List, [], ◌∷◌, codes, map, filter, find, length, pos, Ok, Err, Some, None, inl, inr, IsTrue, refl, sym, ap, ap₂, subst, ◌∙◌, bytes_eq, Equal}
-use Rattle.std.specs.Prelude.{◌↔◌, nat_eq, if◌then◌else◌, Option}
+use Rattle.std.proofs.Common.{◌≡◌, ℕ, true, false, List, [], ◌∷◌, codes, map, filter, find, pos, IsTrue, refl, ap, ◌∙◌, Equal}
+use Rattle.std.specs.Prelude.{◌↔◌, nat_eq}
 use Rattle.std.specs.List.{AllByRecursion}
 use Rattle.std.proofs.lemmas.Bool.{and_parts}
-use Rattle.sqlite.specs.declared.types.Value.{Value}
-use Rattle.sqlite.specs.declared.types.Value.TheVariants.{Null, Int, Text}
-use Rattle.sqlite.specs.Order.{Row, column, bytes}
-use Rattle.sqlite.specs.Term.{Term, lit, col}
-use Rattle.sqlite.specs.Command.TheVariants.{Delete, Insert, Update, Select}
-use Rattle.sqlite.specs.Source.TheVariants.{Values}
-use Rattle.sqlite.specs.Tree.{Trees, with_tree}
-use Rattle.sqlite.specs.Edit.{next_rowid}
+use Rattle.sqlite.specs.declared.types.Value.TheVariants.{Null, Int}
+use Rattle.sqlite.specs.Order.{Row, column}
+use Rattle.sqlite.specs.Term.{Term, col}
+use Rattle.sqlite.specs.Command.TheVariants.{Select}
 use Rattle.sqlite.specs.Schema.{Schema}
 use Rattle.sqlite.specs.Effect.{Database}
 use Rattle.sqlite_tied.specs.Compute.{everything}
 use Rattle.sqlite.specs.Listing.{understood, reads_listing}
-use Rattle.sqlite.specs.State.{State, ExecutesInside, Shown}
-use Rattle.sqlite.proofs.Callers.{IsPlain, command_of, runs_as, reads_as}
-use Rattle.sqlite_schema.specs.declared.schema.Constraint.TheVariants.{Unique}
-use Rattle.sqlite_trees.specs.Tree.{rowid, put_row}
+use Rattle.sqlite.specs.State.{State, Shown}
+use Rattle.sqlite.proofs.Callers.{IsPlain, command_of, reads_as}
+use Rattle.sqlite_trees.specs.Tree.{rowid}
 use Rattle.sqlite_trees.specs.View.{is_int}
 use Rattle.sqlite_rules.specs.Lists.{Has}
-use Rattle.sqlite_rules.specs.Cast.{cast_all}
 use Rattle.sqlite_value.specs.Order.{value_cmp}
-use Rattle.sqlite_keyed.proofs.ListLemmas.{all-filter, all_map, all_weaker}
 use Rattle.sqlite_rules.proofs.ListLemmas.{all_has}
-use Rattle.values.specs.Values.{is_gtin, is_lot_text, is_name, is_title}
-use Rattle.label.specs.Days.{is_day, is_business_day}
-use Rattle.values.specs.declared.lot.LotId.{LotId}
-use Rattle.commands.specs.declared.limits.TheConstants.{UNITS_MAX, ACTS_MAX, SHORT_MAX, KEY_TEXT_MAX, CARD_NOTE_MAX, SCHEMA_VERSION}
 use Rattle.commands.specs.declared.rows.MetaRow.{MetaRow}
-use Rattle.goods_tables.specs.declared.texts.TheConstants.{CHANGE_META, ADD_META, META_ROWS}
-use Rattle.table_words.specs.Cells.{typed, is_word, is_the_text, fits_in, is_any, is_number, is_the_number, number_in, is_signed, is_any_number, signed_in, flag_number, flag_in, bin_kind_in, order_state_in, card_kind_in}
-use Rattle.table_words.specs.Schema.{schema_with, meta_tree, meta_table}
-use Rattle.table_words.specs.Typed.{same_lot_id, is_meta, is_meta_at, meta_in, has_meta, meta_read, MetaKey, same_meta, meta_key, meta_cells, with_meta, tables_in, Tables, AreTyped, meta_rows_rows}
-use Rattle.table_words.specs.Steps.{IsReady, Goes}
+use Rattle.goods_tables.specs.declared.texts.TheConstants.{META_ROWS}
+use Rattle.table_words.specs.Cells.{typed, is_the_number}
+use Rattle.table_words.specs.Schema.{schema_with, meta_tree}
+use Rattle.table_words.specs.Typed.{is_meta_at, meta_in, has_meta, meta_read, MetaKey, same_meta, meta_key, meta_rows_rows}
+use Rattle.table_words.specs.Steps.{IsReady}
 use Rattle.table_words.specs.Found.{AreRows}
-use Rattle.table_words.proofs.Plans.{same, scan, by_rowid, alone}
-use Rattle.table_words.proofs.ListLemmas.{over, IsRows-filter, IsRows-over, IsRows-put_row, all_over, all_put_row, any_counted, none_counted_pass, none_over, stays_put, filter_same_on}
-use Rattle.table_words.proofs.ScanLemmas.{passes, show, in_order, scanned}
-use Rattle.table_words.proofs.WriteLemmas.{deletes, inserts, inserts_at, updates, only_shown, cast_number, cast_null}
-use Rattle.table_words.proofs.CellLemmas.{and_true, and_assoc, same_word, same_count, same_the_number, equals_text, equals_number, same_number, itself_number, same_lots, itself_lot, id_is, typed-filter, both_typed, shown_typed, flag_back, bin_kind_back, order_state_back, card_kind_back}
-use Rattle.table_words.proofs.StepLemmas.{ready_after, sets_off_nothing, goes, typed_at, typed_put}
-use Rattle.table_words.proofs.KeyLemmas.{AtMostOne, one_by_key, one_by_rowid, few, none_had, IsSame, same_bytes, same_both, itself_bytes, itself_both, meets, found_without, found_put, found_over, are_rows}
+use Rattle.table_words.proofs.Plans.{same, scan, alone}
+use Rattle.table_words.proofs.ListLemmas.{filter_same_on}
+use Rattle.table_words.proofs.ScanLemmas.{passes, show, scanned}
+use Rattle.table_words.proofs.WriteLemmas.{only_shown}
+use Rattle.table_words.proofs.CellLemmas.{and_true, same_the_number, equals_number, same_number, itself_number, typed-filter, both_typed, shown_typed}
+use Rattle.table_words.proofs.KeyLemmas.{AtMostOne, one_by_rowid, few, IsSame, are_rows}
 
 abbrev pub tests : List Term
 tests = same 0 0 ∷ []

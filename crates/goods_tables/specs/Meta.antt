@@ -1,5 +1,5 @@
 -- The table `meta`.
-use Rattle.std.specs.Prelude.{◌≡◌, ℕ, Bool, true, ◌&&◌, nat_le, List, [], ◌∷◌, codes}
+use Rattle.std.specs.Prelude.{◌≡◌, Bool, true, ◌&&◌, nat_le, [], ◌∷◌, codes}
 use Rattle.std.proofs.Common.{refl, sym, subst, ◌∙◌, pos}
 use Rattle.std.proofs.lemmas.Bool.{and_parts}
 use Rattle.sqlite.specs.declared.types.Value.TheVariants.{Null, Int, Text}

@@ -1,5 +1,5 @@
 -- Worked examples of goods-in files.
-use Rattle.std.specs.Prelude.{◌≡◌, ℕ, List, [], ◌∷◌, ◌++◌, codes, refl, ℤ, pos, Option, Some, None, Ok, Err}
+use Rattle.std.specs.Prelude.{◌≡◌, ℕ, List, [], ◌∷◌, ◌++◌, codes, refl, ℤ, pos, Some, None, Ok, Err}
 use Rattle.csv.proofs.OnLiterals.{csv_on_literals}
 use Rattle.csv.specs.Records.{field_at}
 use Rattle.label.specs.Expiry.{expiry_read}

@@ -1,7 +1,6 @@
-ghost use Rattle.std.specs.Prelude.{◌≡◌, ◌≢◌, ◌≤◌, ◌+◌, ◌++◌, ◌∷◌, [], ℕ, ℤ, List, true, false, length, All, IfOk, IfErr, OnOk, IfSome, IsTrue, MatchOption, None, Some, Ok, Err};
+ghost use Rattle.std.specs.Prelude.{◌≡◌, ◌≢◌, ◌≤◌, ◌+◌, ◌++◌, ◌∷◌, [], ℕ, ℤ, List, true, false, length, All, IfOk, IfErr, OnOk, IfSome, IsTrue, None, Some, Ok, Err};
 ghost use Rattle.label.specs.Days.{is_business_day};
 ghost use Rattle.csv.specs.Reading.{expected_len};
-ghost use Rattle.csv.specs.Records.{fields_of};
 ghost use Rattle.goodsin.specs.Rows.{Fields, IsReceipt, is_header as is_header_lem};
 ghost use Rattle.goodsin.specs.Files.{file_read, row_read};
 ghost use Rattle.goodsin.specs.Reading.{AreAll, Begins, IsReading, Stands};

@@ -1,6 +1,6 @@
-ghost use Rattle.std.specs.Prelude.{◌≡◌, ◌≤◌, length, codes, IsTrue};
+ghost use Rattle.std.specs.Prelude.{◌≡◌, ◌≤◌, length, IsTrue};
 ghost use Rattle.std.specs.List.{list_all};
-ghost use Rattle.values.specs.Values.{first_is, is_digit as is_digit_lem};
+ghost use Rattle.values.specs.Values.{is_digit as is_digit_lem};
 ghost use Rattle.label.specs.Days.{is_business_day};
 ghost use Rattle.csv.specs.Records.{fields_of};
 ghost use Rattle.goodsin.specs.Rows.{command_of as command_of_lem, expiry_at, gtin_at, has_text as has_text_lem, is_header as is_header_lem, is_number as is_number_lem, key_of as key_of_lem, line_at, lot_of as lot_of_lem, lot_text_at, name_at, number_at, number_from, number_of as number_of_lem, qty_at, receipt_of as receipt_of_lem};

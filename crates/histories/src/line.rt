@@ -1,6 +1,6 @@
 //! The line of an act.
 
-ghost use Rattle.std.specs.Prelude.{◌≡◌, ◌++◌, ◌∷◌, [], IfOk, OnOk};
+ghost use Rattle.std.specs.Prelude.{◌≡◌, ◌++◌, ◌∷◌, IfOk, OnOk};
 ghost use Rattle.texts.specs.Writing.{Writes};
 ghost use Rattle.histories.specs.Text.{tabbed};
 ghost use Rattle.histories.specs.Lines.{row_line};

@@ -1,5 +1,5 @@
 -- The rows of a lot's card as they are read one at a time, by act.
-use Rattle.std.proofs.Common.{◌≡◌, ◌<◌, ℕ, Bool, true, false, ◌&&◌, List, [], ◌∷◌, codes, map, Result, refl, sym, ap, ap₂, ◌∙◌, subst, arith, Equal}
+use Rattle.std.proofs.Common.{◌≡◌, ◌<◌, ℕ, true, false, ◌&&◌, List, [], ◌∷◌, codes, map, Result, refl, sym, ap, ap₂, ◌∙◌, subst, arith, Equal}
 use Rattle.std.specs.Prelude.{nat_eq}
 use Rattle.std.specs.List.{AllByRecursion}
 use Rattle.std.proofs.lemmas.Bool.{and_parts}
@@ -17,14 +17,14 @@ use Rattle.sqlite_trees.specs.Tree.{rowid}
 use Rattle.sqlite_rules.specs.Lists.{Has}
 use Rattle.sqlite_rules.proofs.ListLemmas.{all_has}
 use Rattle.sqlite_value.specs.Order.{value_cmp}
-use Rattle.sqlite_keyed.proofs.ListLemmas.{map-map, all_map, all_weaker}
+use Rattle.sqlite_keyed.proofs.ListLemmas.{map-map, all_map}
 use Rattle.values.specs.Values.{is_gtin, is_lot_text}
 use Rattle.values.specs.declared.lot.LotId.{LotId}
 use Rattle.commands.specs.declared.limits.TheConstants.{ACTS_MAX}
 use Rattle.commands.specs.declared.rows.CardRow.{CardRow}
 use Rattle.history_tables.specs.declared.texts.TheConstants.{CARDS_BY_ACT}
 use Rattle.table_words.specs.Schema.{schema_with, cards_tree}
-use Rattle.table_words.specs.Typed.{same_lot_id, same_card, is_card, card_in, has_card, card_read, card_key, tables_in, AreTyped}
+use Rattle.table_words.specs.Typed.{same_lot_id, is_card, card_in, has_card, card_read, tables_in, AreTyped}
 use Rattle.table_words.specs.Cells.{is_number}
 use Rattle.table_words.specs.Steps.{IsReady}
 use Rattle.table_words.proofs.Plans.{same, scan, alone}

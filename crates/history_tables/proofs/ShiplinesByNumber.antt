@@ -22,7 +22,7 @@ use Rattle.values.specs.Values.{is_gtin, is_lot_text}
 use Rattle.values.specs.declared.lot.LotId.{LotId}
 use Rattle.commands.specs.declared.limits.TheConstants.{ACTS_MAX}
 use Rattle.commands.specs.declared.rows.ShiplineRow.{ShiplineRow}
-use Rattle.commands.specs.Sinks.{Reaches, StopsWithin}
+use Rattle.commands.specs.Sinks.{Reaches}
 use Rattle.history_tables.specs.declared.texts.TheConstants.{SHIPLINES_AFTER}
 use Rattle.history_tables.specs.declared.shipline_after.First.{First}
 use Rattle.table_words.specs.Cells.{typed, is_number, number_in}
@@ -30,7 +30,7 @@ use Rattle.table_words.specs.Schema.{schema_with, shiplines_tree}
 use Rattle.table_words.specs.Typed.{same_lot_id, same_shipline, shipline_key, is_shipline, shipline_in, has_shipline, shipline_read, tables_in, AreTyped}
 use Rattle.table_words.specs.Steps.{IsReady}
 use Rattle.table_words.specs.declared.error.TableFault.{TableFault}
-use Rattle.table_words.specs.declared.error.TableFault.TheVariants.{Store, Foreign}
+use Rattle.table_words.specs.declared.error.TableFault.TheVariants.{Foreign}
 use Rattle.table_words.proofs.Plans.{same, scan, alone}
 use Rattle.table_words.proofs.ScanLemmas.{passes, show}
 use Rattle.table_words.proofs.CellLemmas.{and_true, and_assoc, same_word, same_lots, itself_lot, same_number, itself_number}
@@ -38,7 +38,6 @@ use Rattle.table_words.proofs.KeyLemmas.{itself_both}
 use Rattle.each_row.specs.declared.fault.EachFault.{EachFault}
 use Rattle.each_row.specs.declared.fault.EachFault.TheVariants.{Fault, Stopped}
 use Rattle.each_row.specs.Handed.{Hands, HandsOver, IsLeft}
-use Rattle.each_row.specs.Ordered.{AreInOrder}
 use Rattle.each_row.proofs.Keys.{number_rises, number_ties}
 use Rattle.each_row.proofs.OrderedScans.{by_column, stored, are_shown, stored_good, in_key_order}
 use Rattle.each_row.proofs.Rising.{one_order}

@@ -29,7 +29,6 @@ use values::LotId;
 pub struct Cards;
 
 impl Table for Cards {
-    ghost use Rattle.std.specs.Prelude.{ℕ};
     ghost use Rattle.history_tables.specs.Cards.{cards, fits_card, cards_laws};
 
     type Row = CardRow;

@@ -15,7 +15,6 @@ use values::LotId;
 pub struct Shiplines;
 
 impl Table for Shiplines {
-    ghost use Rattle.std.specs.Prelude.{ℕ};
     ghost use Rattle.history_tables.specs.Shiplines.{shiplines, fits_shipline, shiplines_laws};
 
     type Row = ShiplineRow;

@@ -17,7 +17,6 @@ use table_words::error::TableFault;
 pub struct Shipments;
 
 impl Table for Shipments {
-    ghost use Rattle.std.specs.Prelude.{ℕ};
     ghost use Rattle.history_tables.specs.Shipments.{shipments, fits_shipment, shipments_laws};
 
     type Row = ShipmentRow;

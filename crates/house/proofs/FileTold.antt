@@ -8,7 +8,7 @@ use Rattle.sqlite.specs.Held.{state}
 use Rattle.sqlite.specs.State.{Survives}
 use Rattle.commands.specs.declared.refusal.Refusal.{Refusal}
 use Rattle.commands.specs.declared.key.Key.{Key}
-use Rattle.commands.specs.declared.key.Key.TheVariants.{Line, Plain}
+use Rattle.commands.specs.declared.key.Key.TheVariants.{Line}
 use Rattle.commands.specs.declared.command.Command.{Command}
 use Rattle.commands.specs.declared.command.Command.TheVariants.{Receive}
 use Rattle.machine.specs.Acts.{Act}

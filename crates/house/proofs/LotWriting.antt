@@ -1,5 +1,5 @@
 -- The stock card and the recall notice of a lot, written part after part.
-use Rattle.std.proofs.Common.{◌≡◌, ℕ, ◌+◌, List, [], ◌++◌, Option, Some, None, Ok, Err, Result, refl, sym, ap, subst, ◌∙◌, inl, inr, append_assoc, zero-add}
+use Rattle.std.proofs.Common.{◌≡◌, ℕ, ◌+◌, List, ◌++◌, Option, Some, None, Ok, Err, Result, refl, sym, ap, subst, ◌∙◌, inl, inr, append_assoc, zero-add}
 use Rattle.std.specs.Prelude.{ℤ, Bool, true, false, if◌then◌else◌, flat_map}
 use Rattle.std.specs.Io.KnownBytes.{Appends}
 use Rattle.std.proofs.KnownBytes.{Appends-trans, Appends-nil}
@@ -9,13 +9,9 @@ use Rattle.commands.specs.Lists.{total}
 use Rattle.commands.specs.declared.refusal.Refusal.{Refusal}
 use Rattle.commands.specs.declared.refusal.Refusal.TheVariants.{UnknownItem, UnknownLot, NoNotice}
 use Rattle.commands.specs.declared.rows.ItemRow.{ItemRow}
-use Rattle.commands.specs.declared.rows.CardRow.{CardRow}
-use Rattle.commands.specs.declared.views.BinUnits.{BinUnits}
-use Rattle.commands.specs.declared.views.ShippedUnits.{ShippedUnits}
 use Rattle.commands.specs.declared.views.CardView.{CardView}
 use Rattle.commands.specs.declared.views.NoticeView.{NoticeView}
 use Rattle.sqlite_trees.specs.declared.store.Store.{Ghosts}
-use Rattle.sqlite_trees.specs.Tree.{Trees}
 use Rattle.sqlite.specs.Held.{state}
 use Rattle.sqlite.specs.State.{Survives}
 use Rattle.machine.specs.Acts.{Act}
@@ -28,15 +24,12 @@ use Rattle.machine.specs.Views.{card_of_lot, bins_of_lot, shipments_of_lot, card
 use Rattle.machine.proofs.histories.Lots.{found_lot}
 use Rattle.machine.proofs.histories.LastLines.{last_line_tells_units}
 use Rattle.texts.specs.declared.fault.TextFault.{TextFault}
-use Rattle.texts.specs.declared.sinks.CardLines.{CardLines}
-use Rattle.texts.specs.declared.sinks.NoticeLines.{NoticeLines}
 use Rattle.texts.specs.Card.{card_text, card_start, card_line, card_end}
 use Rattle.texts.specs.Notice.{notice_text, notice_start, bin_line, shipment_line, notice_end, Totals}
-use Rattle.texts.specs.Sinks.{AddsCardLine, CutsCardLine, AddsBinLine, CutsBinLine, AddsShipmentLine, CutsShipmentLine}
 use Rattle.texts.specs.Writing.{AppendsBeginning, Writes}
 use Rattle.texts.proofs.Beginnings.{beginning_of_first, beginning_of_second, beginning_of_none}
 use Rattle.store.specs.Connected.{Connected}
-use Rattle.store.specs.Books.{HoldsBooks, MayLeave, IsClean}
+use Rattle.store.specs.Books.{HoldsBooks, IsClean}
 use Rattle.store.specs.Handing.{IsHanded, NoBooks}
 use Rattle.store.specs.Heads.{head_of_card, head_of_notice, card_head_shown, notice_head_shown}
 use Rattle.store.specs.Queries.{IsShown}

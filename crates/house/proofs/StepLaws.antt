@@ -10,7 +10,6 @@ use Rattle.commands.specs.declared.refusal.Refusal.{Refusal}
 use Rattle.commands.specs.declared.key.Key.{Key}
 use Rattle.commands.specs.declared.command.Command.{Command}
 use Rattle.commands.specs.declared.views.OrderView.{OrderView}
-use Rattle.commands.specs.declared.views.ShortView.{ShortView}
 use Rattle.commands.specs.declared.views.StockView.{StockView}
 use Rattle.machine.specs.Acts.{Act}
 use Rattle.machine.specs.Standing.{today}

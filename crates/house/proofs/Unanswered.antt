@@ -1,5 +1,5 @@
 -- What is not answered 200 leaves the tables as before, whatever tables they are.
-use Rattle.std.proofs.Common.{◌≢◌, ℕ, ◌<◌, List, ◌∷◌, [], ◌++◌, subst}
+use Rattle.std.proofs.Common.{◌≢◌, List, ◌∷◌, [], ◌++◌}
 use Rattle.std.specs.Prelude.{Result, Ok, Err, OnErr, All, codes}
 use Rattle.std.proofs.lemmas.List.Elements.{All-contains, Contains-get_or, Contains-append_left, Contains-push}
 use Rattle.sqlite.specs.State.{State}

@@ -1,5 +1,5 @@
 -- What the statements on a table make of the books, of any table that keeps the laws.
-use Rattle.std.proofs.Common.{◌≡◌, ◌≢◌, ◌≤◌, ℕ, Bool, true, false, not, ◌&&◌, List, [], ◌∷◌, ◌++◌, filter, find, map, length, slice_get, Option, Some, None, Ok, inl, inr, IsTrue, refl, sym, ap, subst, ◌∙◌, arith, Equal}
+use Rattle.std.proofs.Common.{◌≡◌, ◌≢◌, ℕ, Bool, true, not, List, [], ◌∷◌, filter, map, length, slice_get, Some, None, inl, inr, IsTrue, refl, sym, ap, subst, ◌∙◌, arith, Equal}
 use Rattle.std.specs.Prelude.{if◌then◌else◌, ◌↔◌}
 use Rattle.std.specs.List.{AllByRecursion}
 use Rattle.std.proofs.lemmas.Bool.{cases_Bool, eq-eqb}
@@ -22,7 +22,6 @@ use Rattle.table_words.specs.Found.{AreRows, only_if}
 use Rattle.table_words.proofs.CellLemmas.{typed-filter, both_typed, shown_typed}
 use Rattle.table_words.specs.Schema.{the_tables, schema_with}
 use Rattle.table_words.specs.Rows.{IsRows}
-use Rattle.table_words.specs.Changed.{Changed}
 use Rattle.table_words.specs.Cells.{typed}
 use Rattle.table_words.specs.Typed.{Tables, tables_in, AreTyped}
 use Rattle.table_words.specs.Steps.{IsReady, Goes}
@@ -35,7 +34,7 @@ use Rattle.table_words.proofs.ScanLemmas.{passes, show}
 use Rattle.table_words.proofs.WriteLemmas.{goes_in, updates, deletes}
 use Rattle.table_words.proofs.StepLemmas.{ready_after, sets_off_nothing, goes, typed_at, typed_put}
 use Rattle.table_words.proofs.KeyLemmas.{AtMostOne, one_by_key, few, none_had, meets, found_put, found_over, found_without, are_rows, are_rows_if}
-use Rattle.keyed_rows.specs.Described.{keyed, Described, IsLawful, Change, IsChange, DropIs, Query, IsSought, Stores, laid, rule_of, sound, with_row, without_row, found, stored_of}
+use Rattle.keyed_rows.specs.Described.{keyed, Described, IsLawful, Change, IsChange, DropIs, Query, IsSought, laid, rule_of, sound, with_row, without_row, found, stored_of}
 
 all_over_ids : (P : Row → Type 0) (p : Row → Bool) (values : Row) (rows : List Row) → ((r : Row) → IsTrue (is_int (rowid r)) → p r ≡ true → P (rowid r ∷ values)) → AllByRecursion (λ r. IsTrue (is_int (rowid r))) rows → AllByRecursion P rows → AllByRecursion P (over p values rows)
 all_over_ids P p values [] f k h = tt

@@ -1,6 +1,5 @@
 -- A table of the books as one description, and the laws that it keeps.
 use Rattle.std.specs.Prelude.{◌≡◌, ℕ, Bool, true, false, ◌++◌, ◌/◌, if◌then◌else◌, length, List, [], ◌∷◌, filter, map, find, slice_get, Option, Some, None, IsTrue}
-use Rattle.std.specs.List.{AllByRecursion}
 use Rattle.sqlite.specs.Order.{Row}
 use Rattle.sqlite.specs.Term.{Term, col}
 use Rattle.sqlite.specs.Table.{Table}

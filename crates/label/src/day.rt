@@ -1,8 +1,7 @@
-ghost use Rattle.std.specs.Prelude.{◌≡◌, ◌≤◌, ◌<◌, ◌+◌, ◌%◌, ℤ, pos, length, drop, IsTrue, Some, IfSome};
-ghost use Rattle.std.specs.Str.{all_ascii_digits};
+ghost use Rattle.std.specs.Prelude.{◌≡◌, ◌≤◌, ◌<◌, ◌+◌, ℤ, IsTrue, Some, IfSome};
 ghost use Rattle.jiff.specs.Words.{epoch_day};
 ghost use Rattle.values.specs.Values.{checked};
-ghost use Rattle.label.specs.Days.{is_day, is_business_day, date_of, year_of_day, dated_day, day_text, parsed_day, is_day_form, two_digits as two_digits_lem};
+ghost use Rattle.label.specs.Days.{is_day, is_business_day, date_of, year_of_day, dated_day, day_text, parsed_day, is_day_form};
 
 use crate::digits::{digit, two_digits};
 use jiff::civil::Date;

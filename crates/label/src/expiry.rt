@@ -1,4 +1,4 @@
-ghost use Rattle.std.specs.Prelude.{◌≡◌, ◌≤◌, ◌↔◌, ℤ, pos, length, IsTrue, Ok};
+ghost use Rattle.std.specs.Prelude.{◌≡◌, ◌≤◌, ◌↔◌, ℤ, pos, IsTrue, Ok};
 ghost use Rattle.jiff.specs.Words.{days_in_month};
 ghost use Rattle.label.specs.Days.{is_business_day, is_day, dated_day};
 ghost use Rattle.label.specs.Expiry.{full_year as full_year_lem, day_in_month, expiry_read, expiry_text, IsExpiry};

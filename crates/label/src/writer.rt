@@ -1,4 +1,4 @@
-ghost use Rattle.std.specs.Prelude.{◌≡◌, ◌++◌, List, ℕ, ℤ, IsTrue, IfOk, IfErr, OnOk, Ok};
+ghost use Rattle.std.specs.Prelude.{◌≡◌, ℤ, IsTrue, IfOk, IfErr, Ok};
 ghost use Rattle.label.specs.Days.{is_business_day};
 ghost use Rattle.label.specs.Labels.{label_text, label_read};
 ghost use Rattle.label.specs.Expiry.{expiry_text, IsWithinCentury};

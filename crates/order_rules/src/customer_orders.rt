@@ -1,6 +1,6 @@
 //! Orders that come in.
 
-ghost use Rattle.std.specs.Prelude.{◌≡◌, ◌+◌, not, nat_lt, Some, IfOk};
+ghost use Rattle.std.specs.Prelude.{◌≡◌, ◌+◌, nat_lt, Some, IfOk};
 ghost use Rattle.std.specs.List.{list_any};
 ghost use Rattle.values.specs.Values.{same_text};
 ghost use Rattle.commands.specs.declared.limits.TheConstants.{OPEN_MAX};

@@ -1,6 +1,6 @@
 //! Urgent orders that come in.
 
-ghost use Rattle.std.specs.Prelude.{◌≡◌, ◌++◌, Some, IfOk};
+ghost use Rattle.std.specs.Prelude.{◌≡◌, Some, IfOk};
 ghost use Rattle.commands.specs.Replies.{reply_text};
 ghost use Rattle.commands.specs.declared.replies.ReplyField.TheVariants.{UnitsShort};
 ghost use Rattle.row_rules.specs.Seen.{meta_after, none_put, none_dropped, number_seen as number_seen_lem};

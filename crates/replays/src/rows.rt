@@ -1,6 +1,6 @@
 //! The acts that rows of `repeats` spell, done again.
 
-ghost use Rattle.std.specs.Prelude.{◌≡◌, [], ℤ, List};
+ghost use Rattle.std.specs.Prelude.{[], ℤ, List};
 ghost use Rattle.machine.specs.Acts.{Act};
 ghost use Rattle.machine.specs.Once.{IsHistory};
 ghost use Rattle.store.specs.Books.{HoldsBooks, IsClean};

@@ -1,5 +1,5 @@
 -- How a lot stands on a day, by its row and the recalls, and whether it may be shipped.
-use Rattle.std.specs.Prelude.{ℕ, Bool, true, false, not, ◌&&◌, if◌then◌else◌, List, find, Option, Some, None, ℤ, pos, ◌+ℤ◌}
+use Rattle.std.specs.Prelude.{ℕ, Bool, false, not, ◌&&◌, if◌then◌else◌, List, find, Option, Some, None, ℤ, pos, ◌+ℤ◌}
 use Rattle.values.specs.Values.{same_text}
 use Rattle.commands.specs.declared.rows.LotRow.{LotRow}
 use Rattle.commands.specs.declared.rows.LeastRow.{LeastRow}

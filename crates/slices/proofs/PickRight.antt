@@ -1,5 +1,5 @@
 -- What is read for a pick of the tables of a history is its slice.
-use Rattle.std.proofs.Common.{◌≡◌, ℕ, Bool, true, false, ◌&&◌, List, ◌∷◌, ap, sym, ◌∙◌}
+use Rattle.std.proofs.Common.{◌≡◌, ℕ, Bool, true, false, ◌&&◌, List, sym, ◌∙◌}
 use Rattle.std.specs.Prelude.{◌||◌, Some, ℤ}
 use Rattle.std.specs.List.{list_any}
 use Rattle.values.specs.Values.{same_text}

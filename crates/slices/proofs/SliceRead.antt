@@ -1,5 +1,5 @@
 -- What the read of a slice tells on the books of a history.
-use Rattle.std.proofs.Common.{◌≡◌, ℕ, ◌&&◌, List, [], ◌∷◌, Result, Ok, Err, IfOk, IfErr, IsTrue, sym, subst}
+use Rattle.std.proofs.Common.{◌≡◌, ◌&&◌, List, [], ◌∷◌, Result, Ok, Err, IfOk, IfErr, IsTrue, sym, subst}
 use Rattle.std.specs.Prelude.{ℤ}
 use Rattle.commands.specs.Tables.{Tables}
 use Rattle.commands.specs.declared.key.Key.{Key}

@@ -33,7 +33,7 @@ use Rattle.machine.specs.Postings.{is_lot}
 use Rattle.machine.specs.KeyedRows.{AreRows, no_two}
 use Rattle.rules.specs.Slices.{IsSlice, names_order, names_bin, names_lot, counts_items, counts_bins, ships, picks, plans, takes_step, is_share, names_reserved, is_named, is_named_lot, is_either, in_bins, on_stages, on_named_stage, has_touched_line}
 use Rattle.row_rules.specs.declared.slice.Slice.{Slice}
-use Rattle.machine.proofs.Tests.{and_both, or_false, or_later, some_one, same_text_is, same_text_refl, same_text_turned, is_lot_is, is_lot_refl, is_lot_turned, is_lot_item}
+use Rattle.machine.proofs.Tests.{and_both, or_false, or_later, same_text_is, same_text_refl, same_text_turned, is_lot_is, is_lot_refl, is_lot_turned, is_lot_item}
 use Rattle.machine.proofs.Apart.{AreApart, any_found}
 use Rattle.machine.proofs.histories.Accepted.{item_accepted}
 use Rattle.machine.proofs.histories.Notices.{bins_apart}

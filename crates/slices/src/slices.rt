@@ -1,6 +1,6 @@
 //! The slice of the tables that a command is decided by.
 
-ghost use Rattle.std.specs.Prelude.{◌≡◌, ◌&&◌, ℤ, false, List, Some, Err, OnOk, IfOk, IfErr, IsTrue};
+ghost use Rattle.std.specs.Prelude.{◌≡◌, ◌&&◌, ℤ, List, Some, Err, OnOk, IfOk, IfErr, IsTrue};
 ghost use Rattle.sqlite.specs.State.{HasCleanDisk, Survives, KeepsCommit, IsUnchanged};
 ghost use Rattle.sqlite.specs.Held.{state};
 ghost use Rattle.table_words.specs.Steps.{IsReady};

@@ -1,5 +1,5 @@
 -- The bins with units of a lot stand by name, as the tables have them.
-use Rattle.std.proofs.Common.{◌≡◌, ℕ, Bool, true, false, cond, List, [], ◌∷◌, map, filter, find, Option, refl, sym, ap, ◌∙◌, subst, true≢false, Ordering, Less, Equal, Greater, is_eq, is_lt, bytes_eq}
+use Rattle.std.proofs.Common.{◌≡◌, ℕ, Bool, true, false, List, [], ◌∷◌, map, filter, refl, sym, ap, ◌∙◌, subst, true≢false, Ordering, Less, Equal, Greater, is_eq, is_lt, bytes_eq}
 use Rattle.std.specs.Prelude.{ℤ, if◌then◌else◌, Result}
 use Rattle.std.specs.List.{AllByRecursion, IsDistinct}
 use Rattle.std.specs.Ordering.{nat_cmp, ordering_reverse}
@@ -17,7 +17,7 @@ use Rattle.commands.specs.declared.views.BinUnits.{BinUnits}
 use Rattle.machine.specs.Acts.{Act}
 use Rattle.machine.specs.Planning.{in_bin}
 use Rattle.machine.specs.Standing.{bins}
-use Rattle.machine.specs.Tables.{stock_row, tables_of}
+use Rattle.machine.specs.Tables.{tables_of}
 use Rattle.machine.specs.Once.{IsHistory}
 use Rattle.machine.specs.Views.{bins_of_lot, text_before, has_bin_units}
 use Rattle.machine.proofs.Tests.{same_text_is}

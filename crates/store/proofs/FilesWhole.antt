@@ -1,8 +1,8 @@
 -- The rows of a file within a transaction, and then the transaction's end.
-use Rattle.std.proofs.Common.{◌≡◌, true, false, List, Ok, Err, Result, sym, ap, subst, ◌∙◌, IsTrue, arith}
+use Rattle.std.proofs.Common.{◌≡◌, true, false, List, Ok, Err, Result, sym, subst, ◌∙◌, IsTrue, arith}
 use Rattle.std.specs.Prelude.{ℤ}
 use Rattle.std.specs.Result.{IsErr, IsErrAnd}
-use Rattle.sqlite.specs.State.{State, HasCleanDisk, Shows, KeepsCommit, IsRolledBack, Survives}
+use Rattle.sqlite.specs.State.{State, HasCleanDisk, Shows, IsRolledBack, Survives}
 use Rattle.sqlite.proofs.StateLemmas.{survives_then, survives_weaker}
 use Rattle.sqlite.specs.Steps.{FailsToCommit}
 use Rattle.sqlite.specs.Store.{Ghosts}
@@ -16,7 +16,6 @@ use Rattle.machine.specs.Standing.{today}
 use Rattle.machine.specs.Once.{IsHistory, acts_after_file}
 use Rattle.slices.specs.Books.{IsBooksOf}
 use Rattle.store.specs.Books.{AreBooks, KeepsBooks}
-use Rattle.store.specs.Connected.{Connected}
 use Rattle.store.specs.Filing.{rows_of, AreKeysOf, IsFiledInside, IsFiledOn, IsFiled}
 use Rattle.store.specs.declared.tally.RowFault.{RowFault}
 use Rattle.store.specs.declared.tally.RowFault.TheVariants.{Refused, Store, Foreign}

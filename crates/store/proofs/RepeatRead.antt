@@ -1,6 +1,6 @@
 -- The row that is read under a key.
 use Rattle.std.proofs.Common.{◌≡◌, ℕ, List, [], ◌∷◌, ap, sym, ◌∙◌}
-use Rattle.std.specs.Prelude.{bytes_eq, slice_get, Option, Some, None, find, if◌then◌else◌}
+use Rattle.std.specs.Prelude.{bytes_eq, slice_get, Option, Some, find, if◌then◌else◌}
 use Rattle.commands.specs.declared.rows.RepeatRow.{RepeatRow}
 use Rattle.table_words.specs.Found.{AreRows}
 use Rattle.table_words.specs.Typed.{RepeatKey, same_repeat, repeat_key}

@@ -1,6 +1,6 @@
 //! What is asked of the books, shown.
 
-ghost use Rattle.std.specs.Prelude.{◌≡◌, ℕ, false, ℤ, List, IsTrue, IfOk, IfErr, Ok, Err};
+ghost use Rattle.std.specs.Prelude.{◌≡◌, false, ℤ, List, IsTrue, IfOk, IfErr, Ok, Err};
 ghost use Rattle.sqlite.specs.State.{HasCleanDisk, Survives, KeepsCommit};
 ghost use Rattle.sqlite.specs.Held.{state};
 ghost use Rattle.table_words.specs.Steps.{IsReady};

@@ -1,7 +1,6 @@
 //! What an act is told: by the row that an earlier act left, or by the decision.
 
-ghost use Rattle.std.specs.Prelude.{◌≡◌, true, false, None, ℤ, List, IsTrue, IfOk, IfErr};
-ghost use Rattle.values.specs.Values.{same_text};
+ghost use Rattle.std.specs.Prelude.{◌≡◌, true, None, ℤ, List, IsTrue};
 ghost use Rattle.commands.specs.Spelling.{spelling};
 ghost use Rattle.machine.specs.Acts.{Act};
 ghost use Rattle.machine.specs.Once.{IsHistory, is_key_of, bearer};
@@ -31,7 +30,12 @@ pub fn repeat_reply(alloc: Global, row: &RepeatRow, command: &Command) -> Result
 }
 
 /// The decision on a command whose key is new.
-pub fn decide_anew(alloc: Global, slice: &Slice, key: &Key, command: &Command) -> Result<Change, Fault>
+pub fn decide_anew(
+    alloc: Global,
+    slice: &Slice,
+    key: &Key,
+    command: &Command,
+) -> Result<Change, Fault>
     ensures { (first : ℤ) (acts : List Act) →
         let act : Act = record { key = key.now; command = command.now } in
         IsHistory first acts → IsTrue (is_key_of key.now command.now) → bearer key.now acts ≡ None →

@@ -1,7 +1,7 @@
 -- What a call on a transaction leaves.
 use Rattle.std.proofs.Common.{◌≡◌, ◌⊎◌, inl, inr, ℕ, Bool, true, false, List, Ok, Err, Result, OnOk, OnErr, IfOk, IfErr, IsTrue, refl, sym, ap, subst, ◌∙◌, arith}
 use Rattle.std.proofs.lemmas.Bool.{cases_Bool}
-use Rattle.std.specs.Prelude.{◌≢◌, map}
+use Rattle.std.specs.Prelude.{map}
 use Rattle.std.specs.List.{AllByRecursion}
 use Rattle.sqlite.specs.Order.{Row}
 use Rattle.sqlite.specs.Store.{Ghosts}
@@ -15,7 +15,7 @@ use Rattle.sqlite.proofs.Callers.{IsPlain}
 use Rattle.sqlite.proofs.StateLemmas.{survives_then}
 use Rattle.sqlite.specs.Effect.{Database}
 use Rattle.table_words.specs.Typed.{Tables, tables_in, AreTyped}
-use Rattle.table_words.specs.Steps.{IsReady, Goes, IsUndone, ChangesNone}
+use Rattle.table_words.specs.Steps.{IsReady, Goes, ChangesNone}
 use Rattle.table_words.specs.Calls.{Reads, ShowsForeign}
 
 -- a call that answered was made inside a transaction

@@ -1,7 +1,7 @@
 -- Columns and typed rows under what is done to stored rows.
-use Rattle.std.proofs.Common.{◌≡◌, inl, inr, ℕ, Bool, true, false, not, ◌&&◌, bytes_eq, List, [], ◌∷◌, ◌++◌, map, filter, cond, pos, negsuc, ℤ, int_eq, int_cmp, arith, true≢false, subst, refl, sym, ap, ap₂, ◌∙◌, is_eq, Equal, codes, length, get_or, take, ◌+◌, ◌<◌}
+use Rattle.std.proofs.Common.{◌≡◌, inl, inr, ℕ, Bool, true, false, ◌&&◌, bytes_eq, List, [], ◌∷◌, ◌++◌, map, filter, pos, negsuc, ℤ, int_eq, int_cmp, arith, true≢false, subst, refl, sym, ap, ap₂, ◌∙◌, is_eq, Equal, codes, length, get_or, take, ◌+◌, ◌<◌}
 use Rattle.std.specs.List.{AllByRecursion}
-use Rattle.std.proofs.lemmas.Bool.{cases_Bool, cases_eq, eq-eqb, ne_eqb, and_parts}
+use Rattle.std.proofs.lemmas.Bool.{cases_Bool, and_parts}
 use Rattle.std.proofs.lemmas.Map.Text.{is_eq-slice_cmp}
 use Rattle.sqlite_value.specs.declared.value.Value.{Value}
 use Rattle.sqlite_value.specs.declared.value.Value.TheVariants.{Null, Int, Real, Text, Blob}
@@ -21,7 +21,7 @@ use Rattle.sqlite_sql.specs.declared.ops.BinaryOp.TheVariants.{Compare}
 use Rattle.sqlite_sql.specs.declared.ops.CompareOp.TheVariants.{Eq}
 use Rattle.sqlite_sql.specs.Ops.{binary, is_true, from_truth}
 use Rattle.table_words.specs.Typed.{same_lot_id}
-use Rattle.table_words.specs.Cells.{typed, is_word, is_the_text, is_number, is_the_number, number_in, is_signed, signed_in, flag_number, flag_in, is_bin_kind, bin_kind_in, is_order_state, is_open_state, order_state_in, is_card_kind, card_kind_in}
+use Rattle.table_words.specs.Cells.{typed, is_word, is_the_text, is_number, is_the_number, number_in, flag_number, flag_in, is_bin_kind, bin_kind_in, is_order_state, is_open_state, order_state_in, is_card_kind, card_kind_in}
 use Rattle.values.specs.declared.lot.LotId.{LotId}
 use Rattle.commands.specs.Words.{bin_kind_word, order_state_of, order_state_word, card_kind_word}
 use Rattle.commands.specs.declared.command.BinKind.{BinKind}

@@ -1,19 +1,16 @@
 -- No two rows of a table have one key, and what a look-up by key finds after a write.
-use Rattle.std.proofs.Common.{◌≡◌, ◌≤◌, ℕ, ◌+◌, inl, inr, Bool, true, false, not, ◌&&◌, ◌||◌, cond, List, [], ◌∷◌, map, filter, find, length, slice_get, Option, Some, None, refl, sym, ap, ap₂, ◌∙◌, subst, arith, IsTrue, Ordering, Less, Equal, Greater, is_eq, bytes_eq, true≢false}
-use Rattle.std.proofs.lemmas.Bool.{cases_Bool, and_parts, and_from, not-true, both_ways, false_from_ne_true}
+use Rattle.std.proofs.Common.{◌≡◌, ◌≤◌, ℕ, ◌+◌, inl, inr, Bool, true, false, not, ◌&&◌, cond, List, [], ◌∷◌, filter, find, length, slice_get, Option, Some, None, refl, sym, ap, ap₂, ◌∙◌, subst, arith, IsTrue, Ordering, Less, Equal, Greater, is_eq, bytes_eq, true≢false}
+use Rattle.std.proofs.lemmas.Bool.{cases_Bool, and_parts, and_from, not-true, false_from_ne_true}
 use Rattle.std.specs.List.{AllByRecursion, list_any, list_all}
 use Rattle.std.specs.Ordering.{is_ne, match_ordering, ordering_reverse}
 use Rattle.std.proofs.lemmas.Slice.Eq.{bytes_eq-Decides}
 use Rattle.sqlite_value.specs.declared.value.Value.{Value}
 use Rattle.sqlite_value.specs.declared.value.Value.TheVariants.{Null, Int, Real, Text, Blob}
-use Rattle.sqlite_value.specs.Order.{Row, column, bytes, value_cmp}
+use Rattle.sqlite_value.specs.Order.{Row, column, value_cmp}
 use Rattle.sqlite_value.specs.Keys.{plain, first_key}
 use Rattle.sqlite_value.specs.declared.keys.Collation.TheVariants.{Binary}
 use Rattle.sqlite_value.proofs.OrderLemmas.{value_cmp_total}
-use Rattle.sqlite_sql.specs.declared.ops.BinaryOp.TheVariants.{Compare}
-use Rattle.sqlite_sql.specs.declared.ops.CompareOp.TheVariants.{Eq, Ne}
 use Rattle.sqlite_sql.specs.Ops.{binary, is_true, is_null, from_truth}
-use Rattle.sqlite_sql.specs.Term.{Term}
 use Rattle.sqlite_trees.specs.Tree.{Trees, rowid, put_row, IsTable}
 use Rattle.sqlite_trees.specs.View.{is_int}
 use Rattle.sqlite_schema.specs.declared.schema.Constraint.TheVariants.{Unique}
@@ -22,9 +19,9 @@ use Rattle.sqlite_schema.specs.declared.schema.Schema.{Schema}
 use Rattle.sqlite_schema.specs.declared.schema.Table.{Table}
 use Rattle.sqlite_schema.specs.Rules.{agree, differ, equal, clashes, guards, passes as passes_rule}
 use Rattle.sqlite_rules.specs.Lists.{Has}
-use Rattle.sqlite_rules.specs.Edit.{is_taken, id_in}
-use Rattle.sqlite_rules.proofs.ListLemmas.{all_has, all_from, test_has, some_from, some_has, has_filtered}
-use Rattle.sqlite_rules.proofs.TableLemmas.{int_is, has_put, put_has}
+use Rattle.sqlite_rules.specs.Edit.{is_taken}
+use Rattle.sqlite_rules.proofs.ListLemmas.{all_has, all_from, test_has, some_from, has_filtered}
+use Rattle.sqlite_rules.proofs.TableLemmas.{has_put}
 use Rattle.sqlite_keyed.proofs.ListLemmas.{ascending-filter}
 use Rattle.table_words.specs.Rows.{IsRows}
 use Rattle.table_words.specs.Cells.{typed}

@@ -1,9 +1,8 @@
 -- What a column of a stored row reads as.
-use Rattle.std.specs.Prelude.{ℕ, ℤ, Bool, true, false, nat_eq, nat_le, bytes_eq, length, List, [], ◌∷◌, map, filter, pos, is_some, unwrap_or}
+use Rattle.std.specs.Prelude.{ℕ, ℤ, Bool, true, false, nat_eq, nat_le, bytes_eq, length, List, map, filter, pos, is_some, unwrap_or}
 use Rattle.sqlite_value.specs.declared.value.Value.{Value}
 use Rattle.sqlite_value.specs.declared.value.Value.TheVariants.{Int, Text}
 use Rattle.sqlite_value.specs.Order.{Row, bytes}
-use Rattle.commands.specs.declared.limits.TheConstants.{CARD_NOTE_MAX, KEY_TEXT_MAX, SHORT_MAX}
 use Rattle.commands.specs.Words.{bin_kind_of, order_state_of, card_kind_of}
 use Rattle.commands.specs.declared.command.BinKind.{BinKind}
 use Rattle.commands.specs.declared.command.BinKind.TheVariants.{Hold}

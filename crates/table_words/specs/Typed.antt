@@ -1,5 +1,5 @@
 -- The rows of each table as typed ones, the tables as look-ups by primary key, and what the calls make of them.
-use Rattle.std.specs.Prelude.{◌≡◌, ℕ, Bool, true, false, ◌&&◌, if◌then◌else◌, bytes_eq, nat_eq, codes, List, [], ◌∷◌, ◌++◌, filter, find, pos, Option, Some, None}
+use Rattle.std.specs.Prelude.{◌≡◌, ℕ, Bool, true, ◌&&◌, if◌then◌else◌, bytes_eq, nat_eq, codes, List, [], ◌∷◌, ◌++◌, filter, find, pos, Option, Some, None}
 use Rattle.std.specs.List.{AllByRecursion}
 use Rattle.sqlite_value.specs.declared.value.Value.TheVariants.{Int, Text}
 use Rattle.sqlite_value.specs.Order.{Row, column, bytes}

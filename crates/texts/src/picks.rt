@@ -1,4 +1,4 @@
-ghost use Rattle.std.specs.Prelude.{◌≡◌, flat_map};
+ghost use Rattle.std.specs.Prelude.{flat_map};
 ghost use Rattle.texts.specs.PickList.{pick_list_text, pick_list_start, item_lines, item_line, take_lines, take_line, from_line};
 ghost use Rattle.texts.specs.Writing.{Writes};
 

@@ -11,7 +11,6 @@ pub struct Text<const N: usize> {
 
 impl<const N: usize> Model for Text<N> {
     ghost use Rattle.std.specs.Prelude.{List, ℕ, take, length};
-    ghost use Rattle.std.proofs.Common.{ap, ◌∙◌};
     ghost use Rattle.values.specs.Padded.{padded, IsPadded};
 
     ghost Value = { List ℕ };

@@ -1,5 +1,5 @@
 -- What is shown of lots by the rows that are given for their texts is what all rows show of them.
-use Rattle.std.proofs.Common.{◌≡◌, ℕ, Bool, true, false, List, [], ◌∷◌, refl, ap, sym, ◌∙◌}
+use Rattle.std.proofs.Common.{◌≡◌, ℕ, false, List, [], ap}
 use Rattle.std.specs.Prelude.{if◌then◌else◌, ℤ, map, filter}
 use Rattle.values.specs.Values.{same_text}
 use Rattle.values.specs.declared.lot.LotId.{LotId}

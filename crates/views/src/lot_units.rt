@@ -7,8 +7,8 @@ ghost use Rattle.views.specs.GivenStock.{reserved_of_lot, staged_of_lot, units_o
 use commands::{ReservedRow, StagedRow};
 use row_rules::look_ups::Keyed;
 use row_rules::looking::is_same_lot;
-use text_keys::TextKey;
 use std::alloc::{AllocError, Global};
+use text_keys::TextKey;
 use values::LotId;
 
 /// Units of a lot.

@@ -1,10 +1,10 @@
 //! What is shown of the stock of an item.
 
-ghost use Rattle.std.specs.Prelude.{◌≡◌, map, IfOk, ℤ, List, Some};
+ghost use Rattle.std.specs.Prelude.{◌≡◌, map, IfOk, ℤ, List};
 ghost use Rattle.machine.specs.Acts.{Act};
 ghost use Rattle.machine.specs.Once.{IsHistory};
 ghost use Rattle.machine.specs.Standing.{today};
-ghost use Rattle.machine.specs.Tables.{item_row, tables_of};
+ghost use Rattle.machine.specs.Tables.{tables_of};
 ghost use Rattle.machine.specs.Views.{stock_view as stock_view_lem};
 ghost use Rattle.row_rules.specs.LookUps.{rows_given};
 ghost use Rattle.views.specs.SeenStock.{stock_seen, lot_seen};

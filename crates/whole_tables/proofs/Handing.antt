@@ -9,7 +9,7 @@ use Rattle.table_words.specs.Schema.{schema_with}
 use Rattle.table_words.specs.Steps.{IsReady}
 use Rattle.table_words.specs.Typed.{tables_in, AreTyped}
 use Rattle.table_words.proofs.CellLemmas.{both_typed, shown_typed}
-use Rattle.table_words.proofs.ScanLemmas.{passes, show, in_order}
+use Rattle.table_words.proofs.ScanLemmas.{show, in_order}
 use Rattle.keyed_rows.specs.Described.{Described, IsLawful}
 use Rattle.keyed_rows.proofs.Laws.{rows_of as kept_rows, typed_rows, found_by_key}
 use Rattle.each_row.specs.declared.fault.EachFault.{EachFault}

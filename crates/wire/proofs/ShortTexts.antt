@@ -1,5 +1,5 @@
 -- The short texts are compact JSON: names have nothing to escape.
-use Rattle.std.proofs.Common.{◌≡◌, refl, ℕ, true, false, List, [], ◌∷◌, ◌++◌, codes, arith, append_assoc}
+use Rattle.std.proofs.Common.{◌≡◌, refl, ℕ, true, false, List, [], ◌∷◌, arith, append_assoc}
 use Rattle.std.specs.Prelude.{pos, negsuc, ◌==◌, nat_lt, IsTrue, length, Some, None}
 use Rattle.std.specs.List.{list_all}
 use Rattle.std.proofs.lemmas.Bool.Decides.{nat_tests}

@@ -1,7 +1,7 @@
 //! The line of a log for a request that was answered.
 
 ghost use Rattle.std.specs.Prelude.{◌≡◌, ◌+◌, ◌≤◌, ◌++◌, length, take, drop, option_map};
-ghost use Rattle.wire.specs.Logging.{is_gap as is_gap_lem, without_gap as without_gap_lem, cut_word as cut_word_lem, next_word as next_word_lem, shown_byte as shown_byte_lem, shown_word, status_digits, line_with as line_with_lem, line_behind as line_behind_lem, log_line as log_line_lem, IsLogged};
+ghost use Rattle.wire.specs.Logging.{is_gap as is_gap_lem, without_gap as without_gap_lem, cut_word as cut_word_lem, next_word as next_word_lem, shown_byte as shown_byte_lem, shown_word, line_with as line_with_lem, line_behind as line_behind_lem, log_line as log_line_lem, IsLogged};
 
 use crate::Block;
 use std::io::Write;

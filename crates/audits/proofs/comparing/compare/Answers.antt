@@ -1,4 +1,4 @@
-use Rattle.std.proofs.Common.{◌≡◌, Err, sym, subst}
+use Rattle.std.proofs.Common.{Err, sym, subst}
 use Rattle.sqlite.specs.Held.{state}
 use Rattle.audits.specs.declared.finding.Unread.TheVariants.{Untyped}
 use Rattle.audits.specs.Comparing.{Tells, SameTable}

@@ -1,4 +1,3 @@
-use Rattle.sqlite.specs.Held.{state}
 use Rattle.audits.proofs.Memory.{memory_clean}
 use Rattle.audits.proofs.replayed.new_books.Goals as goal
 

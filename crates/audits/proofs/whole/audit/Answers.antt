@@ -1,8 +1,5 @@
-use Rattle.std.proofs.Common.{inl, inr, arith, ◌≡◌}
-use Rattle.std.specs.Prelude.{◌⊎◌}
+use Rattle.std.proofs.Common.{inl, inr, arith}
 use Rattle.sqlite.specs.Held.{state}
-use Rattle.sqlite.specs.State.{HasCleanDisk}
-use Rattle.sqlite.specs.Tree.{Trees}
 use Rattle.audits.proofs.Telling.{earlier}
 use Rattle.audits.proofs.whole.audit.Goals as goal
 

@@ -1,5 +1,4 @@
 use Rattle.sqlite.specs.Held.{state}
-use Rattle.table_words.proofs.CallLemmas.{on_ok}
 use Rattle.goods_tables.proofs.RaiseLemmas.{raised_some, raised_none, raised_typed}
 use Rattle.goods_tables.proofs.meta.raise_meta.Goals as goal
 

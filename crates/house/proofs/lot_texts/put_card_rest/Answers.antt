@@ -1,4 +1,4 @@
-use Rattle.std.proofs.Common.{◌≡◌, subst, sym, ℕ, ◌++◌}
+use Rattle.std.proofs.Common.{◌≡◌, subst, sym, ℕ}
 use Rattle.std.specs.Prelude.{flat_map, IfOk}
 use Rattle.commands.specs.Cards.{rest_after}
 use Rattle.machine.specs.Views.{card_of_lot}

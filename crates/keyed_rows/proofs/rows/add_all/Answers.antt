@@ -1,7 +1,6 @@
 use Rattle.std.proofs.Common.{refl, ◌∙◌, arith}
 use Rattle.std.proofs.lemmas.Grind.{common_steps}
 use Rattle.sqlite.specs.Held.{state}
-use Rattle.keyed_rows.specs.Writes.{each_written}
 use Rattle.keyed_rows.specs.Described.{with_row}
 use Rattle.keyed_rows.proofs.Writing.{writes_first, writes_more, writes_failed, writes_all}
 use Rattle.keyed_rows.proofs.rows.add_all.Goals as goal

@@ -1,4 +1,4 @@
-use Rattle.std.proofs.Common.{◌+◌, ◌-◌, ◌∙◌, List, []}
+use Rattle.std.proofs.Common.{◌+◌, ◌-◌, ◌∙◌, []}
 use Rattle.std.specs.Prelude.{◌==◌, if◌then◌else◌}
 use Rattle.std.specs.List.{cons_option}
 use Rattle.row_rules.specs.Seen.{capped, stock_qty}

@@ -1,4 +1,4 @@
-use Rattle.std.proofs.Common.{◌≡◌, [], take}
+use Rattle.std.proofs.Common.{[], take}
 use Rattle.std.specs.Prelude.{ℤ, Ok}
 use Rattle.machine.specs.Once.{IsHistory}
 use Rattle.store.specs.Books.{HoldsBooks, IsClean}

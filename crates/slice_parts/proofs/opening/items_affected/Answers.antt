@@ -3,7 +3,7 @@ use Rattle.values.specs.Values.{same_text}
 use Rattle.commands.specs.declared.rows.LotRow.{LotRow}
 use Rattle.commands.specs.declared.rows.StagedRow.{StagedRow}
 use Rattle.slice_parts.specs.Keys.{with_keys}
-use Rattle.slice_parts.specs.Parts.{with_names, items_of_lots}
+use Rattle.slice_parts.specs.Parts.{items_of_lots}
 use Rattle.slice_parts.proofs.NamesOnce.{names_once}
 use Rattle.slice_parts.proofs.opening.items_affected.Goals as goal
 

@@ -1,4 +1,4 @@
-use Rattle.std.proofs.Common.{◌≡◌, ℕ, List, sym, subst, ◌∙◌}
+use Rattle.std.proofs.Common.{ℕ, List, subst, ◌∙◌}
 use Rattle.commands.specs.declared.rows.StagedRow.{StagedRow}
 use Rattle.slices.specs.ByLot.{AreLotsOf}
 use Rattle.slices.specs.Slicing.{orders_named, held_lots, AreStaged, AreGoods, AreKnownOrders, AreUrgentsFor}

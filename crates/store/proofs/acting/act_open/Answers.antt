@@ -5,7 +5,7 @@ use Rattle.commands.specs.Spelling.{key_text}
 use Rattle.commands.specs.declared.rows.RepeatRow.{RepeatRow}
 use Rattle.table_words.specs.Steps.{IsReady}
 use Rattle.table_words.specs.Typed.{tables_in}
-use Rattle.table_words.proofs.CallLemmas.{kept_unchanged, kept_then, on_ok}
+use Rattle.table_words.proofs.CallLemmas.{kept_unchanged, kept_then}
 use Rattle.machine.specs.Acts.{Act}
 use Rattle.store.specs.Acting.{IsActedInside}
 use Rattle.store.specs.Faults.{fault_of}

@@ -1,4 +1,4 @@
-use Rattle.std.proofs.Common.{subst, sym, ap, ◌∷◌, OnOk}
+use Rattle.std.proofs.Common.{subst, sym, ◌∷◌, OnOk}
 use Rattle.json.specs.Token.{Token}
 use Rattle.wire.specs.Tokens.{Adds}
 use Rattle.wire.proofs.Adding.{one_added, adds_last, list_tokens}

@@ -1,4 +1,4 @@
-use Rattle.std.proofs.Common.{◌≡◌, [], inl, sym, subst, refl, rules, append-nil}
+use Rattle.std.proofs.Common.{[], inl, sym, subst, refl, rules, append-nil}
 use Rattle.std.specs.Io.KnownBytes.{Consumes}
 use Rattle.std.proofs.KnownBytes.{Consumes-nil}
 use Rattle.requests.specs.Requests.{IsReading}

@@ -1,4 +1,4 @@
-use Rattle.std.proofs.Common.{◌≡◌, ◌≢◌, ◌+◌, take, true, sym, ap, subst, subst₂, ◌∙◌, refl, rules, arith}
+use Rattle.std.proofs.Common.{◌≡◌, ◌≢◌, ◌+◌, take, true, sym, ap, subst, subst₂, ◌∙◌, rules, arith}
 use Rattle.std.specs.Prelude.{[], All, codes, map, is_ok}
 use Rattle.std.proofs.lemmas.Grind.{common_steps}
 use Rattle.sqlite.specs.Held.{state}
