@@ -1,8 +1,8 @@
 #!/bin/sh
 # The main job of Lot stock, from nothing: builds lotd, reads a label, makes books, receives goods by
 # their label, takes an order, shows what is reserved for it, the item's stock, the pick list and the shortages,
-# picks, ships, recalls, prints the recall notice, takes in a goods-in file and takes an urgent order. Needs the Rattle kit,
-# python3 and curl.
+# picks, ships, recalls, prints the recall notice, takes in a goods-in file, takes an urgent order, and does all acts again.
+# Needs the Rattle kit, python3 and curl.
 # Exit status 0 only if every answer was the expected one.
 set -eu
 cd "$(dirname "$0")"
@@ -148,4 +148,7 @@ LOT AB12 EXPIRY 2026-09-30
 IN HOUSE 3" "$("$lotd" card --db "$db" 09506000134352 AB12)"
 echo "> lotd history --db stock.db | tail -1"
 expect "the last act" "$(printf '11\t2026-05-04\tK/K-7\tURGENT\tS-2\tMill Inn\t09506000134352\t45')" "$("$lotd" history --db "$db" | tail -1)"
+# Every row is that of the acts: with an urgent order and a file in it, from the day on which the books were made.
+echo "> lotd audit --db stock.db"
+expect "the audit" "audited 11 acts from 2026-05-04" "$("$lotd" audit --db "$db")"
 echo "demo: every answer was the expected one"

@@ -2,7 +2,8 @@
 table or with a column of another name are refused by every line of the program and stay as they are, byte for byte.
 For each column of each table there are rows outside its values, made by SQL: every request that reads such a row is
 answered 503 W91 and every line `lotd: foreign books`, and every row of every table stays as it was. A column by which
-rows are only sought is never read so: there every answer is that of sound books, and the row stays too.
+rows are only sought is never read so: there every answer is that of sound books, and the row stays too. An audit reads
+every row: it tells the table of each such row, and changes nothing.
 Needs the Rattle kit, and takes about a minute. Exit status 0 only if every answer was the expected one.
 """
 import datetime
@@ -287,6 +288,25 @@ def opens_nowhere(name, db):
             fails("%s: lotd %s" % (name, words[0]), "the file as it was", "another")
 
 
+def is_told(name, db, table, key=None):
+    """An audit tells this table, and the key where one is given, and the file stays as it was, byte for byte."""
+    was = bytes_of(db)
+    status, printed, fault = run(["audit", "--db", "DB"], db)
+    want = b"lotd: differs %s" % table.encode()
+    if (status, printed) != (1, b"") or not fault.startswith(want) or fault.count(b"\n") != 1:
+        fails("%s: lotd audit" % name, want, (status, printed, fault))
+    if key is not None and fault != b"%s %s\n" % (want, key.encode()):
+        fails("%s: lotd audit" % name, key, fault)
+    if bytes_of(db) != was:
+        fails("%s: lotd audit" % name, "the file as it was", "another")
+
+
+def is_sound(name, db, acts):
+    audit = server.audited(lotd, db)
+    if audit != "audited %d acts from 2026-05-04\n" % acts:
+        fails("%s: lotd audit" % name, "%d acts" % acts, audit)
+
+
 def init_refuses(name, db):
     was = bytes_of(db)
     got = run(["init", "--db", "DB", "--day", "2026-05-04"], db)
@@ -322,6 +342,7 @@ def is_passed_over(name, db, table):
 def check(table, column, where, value, readers):
     name = "%s.%s = %r" % (table, column, value if isinstance(value, int) else value[:50])
     db = outside(table, column, where, value)
+    is_told(name, db, table)
     if readers == "opening":
         opens_nowhere(name, db)
     elif readers:
@@ -339,6 +360,7 @@ for (path, body), answer in zip(WORK, served(sound_books, WORK)):
 with open(FILE, "w") as goods:
     goods.write(ASKED["goodsin"][1])
 sound_rows = rows_of(sound_books)
+is_sound("the books", sound_books, len(WORK))
 for name, ask in ASKED.items():
     answer = served(fresh(sound_books), [ask])[0]
     if answer[0] != 200:
@@ -351,6 +373,7 @@ for name, words in LINES.items():
 day_books = fresh(sound_books)
 day_answers = served(day_books, list(ASKED.values()))
 day_rows = rows_of(day_books)
+is_sound("the day", day_books, day_rows["meta"][0][4])
 
 # No books at all, or not these.
 renamed = 0
@@ -360,6 +383,7 @@ for table in TABLES:
         opens_nowhere("%s.%s renamed" % (table, column), changed(sound_books, "ALTER TABLE %s RENAME COLUMN %s TO other" % (table, column)))
         renamed += 1
 opens_nowhere("meta without a row", changed(sound_books, "DELETE FROM meta"))
+is_told("meta without a row", changed(sound_books, "DELETE FROM meta"), "meta", "1")
 empty = os.path.join(room, "empty.db")
 open(empty, "wb").close()
 opens_nowhere("an empty database", changed(empty, "PRAGMA user_version = 1"))
@@ -379,14 +403,15 @@ for table, column, where, values, readers, why in COLUMNS:
         read, passed = (read + 1, passed) if readers else (read, passed + 1)
     if not readers:
         print("  no request reads such a row of %s.%s: %s" % (table, column, why))
-print("  %d rows outside their values: %d refused where they are read, every row as it was; %d that nothing reads" % (read + passed, read, passed))
+print("  %d rows outside their values, each told by an audit: %d refused where they are read, every row as it was; %d that nothing reads" % (read + passed, read, passed))
 
-# Rows that contradict one another, as no act leaves them, and who meets it.
+# Rows that contradict one another, as no act leaves them, who meets it, and what an audit tells.
 CONTRADICTIONS = [
-    ("a line of a shipment that is gone", "DELETE FROM shipments", ["notice"]),
-    ("a shipment of an order that is gone", "UPDATE shipments SET ord = 'S-8'", ["notice"]),
+    ("a line of a shipment that is gone", "DELETE FROM shipments", ["notice"], "shipments", "1"),
+    ("a shipment of an order that is gone", "UPDATE shipments SET ord = 'S-8'", ["notice"], "shipments", "1"),
 ]
-for name, text, readers in CONTRADICTIONS:
+for name, text, readers, table, key in CONTRADICTIONS:
+    is_told(name, changed(sound_books, text), table, key)
     is_read(name, changed(sound_books, text), readers)
 print("  %d contradictions: refused where they are met, every row as it was" % len(CONTRADICTIONS))
 print("foreign: every file and every row was told as it must be, and none was changed")

@@ -1,6 +1,7 @@
 """Hostile clients at the port of lotd: slow, silent, cut off, talkative and endless ones, with a sound request between
 each two, which is answered as if nobody else were there. Needs the Rattle kit, and takes a minute and a half.
-Exit status 0 only if every answer was the expected one and the server ended by itself after its last connection.
+Exit status 0 only if every answer was the expected one, the server ended by itself after its last connection, and every
+row of its books is that of the two acts.
 """
 import os
 import select
@@ -158,4 +159,7 @@ with server.Server(lotd, db, port, len(clients)) as serving:
             sys.exit("hostile: %s: expected %r, got %r" % (name, want, got))
     print("%d clients were answered as they must be" % len(clients))
     serving.ends()
+audit = server.audited(lotd, db)
+if audit != "audited 2 acts from 2026-05-04\n":
+    sys.exit("hostile: an audit tells %r" % audit)
 print("hostile: every answer was the expected one, and the server ended by itself")

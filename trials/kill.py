@@ -1,6 +1,7 @@
 """Stops of the process: lotd serve is ended by SIGKILL at a random moment around an act, the books are opened again, and
 every row of every table is that of before the act or that of after it. Where the answer had come, it is that of after.
 What is shown then is what an undisturbed run shows, and so is the answer of the same request sent again, and its rows.
+In the end the books are held against their acts (`lotd audit`), and every row is that of them.
 Of three rounds one ends the server after a time from the request on, one from the moment on at which the log of the
 file grows, one from the first byte of the answer on; how long each takes is measured before. A kill was within an act
 where the file or its log had changed since the server listened, and the answer was not whole.
@@ -232,6 +233,9 @@ def goes_on(act, db, done, named):
         fails("%s: asked again, it is answered %r" % (named, again))
     if rows(db) != act.rows_after:
         fails("%s: asked again, the tables are not those after the act" % named)
+    audit = server.audited(lotd, db)
+    if audit != "audited %d acts from 2026-05-04\n" % act.rows_after["meta"][0][4]:
+        fails("%s: an audit tells %r" % (named, audit))
 
 
 def kind_of(act, told, quiet, left, done):

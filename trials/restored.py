@@ -1,6 +1,6 @@
 """What an administrator does to the file of the books between two runs of lotd: restored from a dump, analysed, packed,
-moved to pages of another size, with an index more or less. The books open, tell what they told before, and go on; with a
-partial index they are foreign, and without it again as they were. Needs the Rattle kit and the sqlite3 tool, and takes
+moved to pages of another size, with an index more or less. The books open, tell what they told before, and go on, and
+then every row is that of the acts; with a partial index they are foreign, and without it again as they were. Needs the Rattle kit and the sqlite3 tool, and takes
 some seconds. Exit status 0 only if every answer was the expected one and every row was kept.
 """
 import os
@@ -127,6 +127,9 @@ def check(name, change, kept_indexes=INDEXES):
     card = subprocess.run([lotd, "card", "--db", db, OATS, "L1"], capture_output=True, text=True)
     if card.returncode != 0 or not card.stdout.endswith("IN HOUSE 10\n"):
         fail(name, "IN HOUSE 10", card.stdout + card.stderr)
+    audit = server.audited(lotd, db)
+    if audit != "audited 11 acts from 2026-05-04\n":
+        fail(name, "audited 11 acts from 2026-05-04", audit)
     print("  " + name)
 
 

@@ -105,6 +105,12 @@ def ask(port, text):
         return answer_of(peer)
 
 
+def audited(lotd, db):
+    """What an audit of the books in this file prints, or tells."""
+    done = subprocess.run([lotd, "audit", "--db", db], capture_output=True, text=True, timeout=60)
+    return (done.stdout if done.returncode == 0 else "") + done.stderr
+
+
 def post(path, body):
     return b"POST %s HTTP/1.1\r\nContent-Length: %d\r\n\r\n%s" % (path.encode(), len(body), body.encode())
 

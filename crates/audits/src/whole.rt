@@ -1,6 +1,6 @@
 //! An audit.
 
-ghost use Rattle.std.specs.Prelude.{◌≡◌, ℕ, ℤ, List, Some, None, false, IfOk, reverse};
+ghost use Rattle.std.specs.Prelude.{◌≡◌, ℕ, ℤ, List, Some, None, false, IfOk, IsErr, reverse};
 ghost use Rattle.sqlite.specs.Held.{state};
 ghost use Rattle.sqlite.specs.State.{HasCleanDisk, Survives};
 ghost use Rattle.sqlite.specs.Steps.{over_memory};
@@ -11,7 +11,7 @@ ghost use Rattle.machine.specs.Acts.{Act};
 ghost use Rattle.slices.specs.Books.{IsBooksOf};
 ghost use Rattle.store.specs.Opening.{IsCleanLeft};
 ghost use Rattle.history_tables.specs.Repeats.{repeats};
-ghost use Rattle.tables.specs.Opening.{IsReadyAs};
+ghost use Rattle.tables.specs.Opening.{IsOfNone, IsReadyAs};
 ghost use Rattle.whole_tables.specs.Whole.{AreAll};
 ghost use Rattle.replays.specs.Spelled.{AreRepeats};
 ghost use Rattle.audits.specs.Comparing.{IsUnread};
@@ -211,6 +211,7 @@ pub fn audit<S: Alter + Drop, P: Progress>(
     requires outside { conn.in_transaction ≡ false }
     ensures found { IsCleanLeft S.Store result.0 → IfOk result.1 (IsFinding given (state S.Store conn)) }
     ensures left { IsLeftAlone S.Store conn result.0 }
+    ensures other { IsOfNone (state S.Store conn).now.schema → IsErr result.1 }
 {
     let (mut again, found) = match ready(alloc, conn) {
         Ok(opened) => opened,

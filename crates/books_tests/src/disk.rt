@@ -2,7 +2,7 @@
 
 use crate::failing::trial::{Seen, Trial, tried};
 use crate::files::{Calls, Pair, Stopping};
-use crate::lines::lines_run;
+use crate::lines::{Turn, lines_run};
 use crate::serving::{TestClock, clients_served, lines_worked};
 use crate::steps::{Step, take_all};
 use sqlite::{Alter, Connection, Files, Options};
@@ -18,7 +18,7 @@ pub(crate) enum Work<'a> {
     /// So many clients, and what is logged of them, where there is a log.
     Clients(TestClock<'a>, &'a TcpListener, u32, Option<&'static str>),
     Lines(&'a HostRuntime, u16),
-    LinesRun(&'a HostRuntime),
+    LinesRun(&'a HostRuntime, &'a [Turn]),
     /// What a disk may stop.
     Trial(Trial<'a>),
 }
@@ -36,7 +36,7 @@ fn worked<S: Alter + Drop>(
             Leftover::Connection(clients_served(rt, alloc, conn, clock, listener, count, logged))
         }
         Work::Lines(host, port) => Leftover::Connection(lines_worked(host, rt, conn, port)),
-        Work::LinesRun(host) => Leftover::Connection(lines_run(host, rt, conn)),
+        Work::LinesRun(host, turns) => Leftover::Connection(lines_run(host, rt, conn, turns)),
         Work::Trial(trial) => tried(rt, alloc, conn, trial, seen),
     }
 }
@@ -149,8 +149,18 @@ pub(crate) fn run_lines(host: &HostRuntime, rt: &impl Abort, port: u16) {
 }
 
 /// Takes the steps over new files, which are closed and opened again for lines of the program.
-pub(crate) fn run_lines_after(host: &HostRuntime, rt: &impl Abort, steps: &[Step]) {
+pub(crate) fn run_lines_after(host: &HostRuntime, rt: &impl Abort, steps: &[Step], turns: &[Turn]) {
     let alloc = host.alloc();
     let files = done(rt, alloc, &Pair::empty(alloc), Work::Steps(steps));
-    done(rt, alloc, &files, Work::LinesRun(host));
+    after_lines(host, rt, &files, turns);
+}
+
+/// The files after these lines of the program were run over them.
+pub(crate) fn after_lines(
+    host: &HostRuntime,
+    rt: &impl Abort,
+    files: &Pair,
+    turns: &[Turn],
+) -> Pair {
+    done(rt, host.alloc(), files, Work::LinesRun(host, turns))
 }

@@ -11,6 +11,8 @@ mod answers;
 #[cfg(test)]
 mod asking;
 #[cfg(test)]
+mod audit_lines;
+#[cfg(test)]
 mod bounds;
 #[cfg(test)]
 mod days;

@@ -40,64 +40,99 @@ impl<S: Alter + Drop> BooksAt for OverOne<'_, S> {
 }
 
 /// A line: its words, its exit status, and what is printed and told.
-struct Line {
-    words: &'static [&'static str],
-    status: u8,
-    printed: &'static str,
-    told: &'static str,
+#[derive(Clone, Copy)]
+pub(crate) struct Line {
+    pub(crate) words: &'static [&'static str],
+    pub(crate) status: u8,
+    pub(crate) printed: &'static str,
+    pub(crate) told: &'static str,
+}
+
+/// What is done over the connection.
+#[derive(Clone, Copy)]
+pub(crate) enum Turn {
+    Line(Line),
+    /// An audit prints this, and all is well.
+    Sound(&'static str),
+    /// An audit tells this.
+    Told(&'static str),
+    /// Another program executes this statement.
+    Change(&'static str),
+}
+
+static AUDIT: [&str; 4] = ["lotd", "audit", "--db", "stock.db"];
+
+/// An audit of books that are sound.
+fn sound(printed: &'static str) -> Line {
+    Line {
+        words: AUDIT.as_slice(),
+        status: 0,
+        printed,
+        told: "",
+    }
+}
+
+/// An audit of books that are not.
+fn unsound(told: &'static str) -> Line {
+    Line {
+        words: AUDIT.as_slice(),
+        status: 1,
+        printed: "",
+        told,
+    }
 }
 
 // The card and the notice of a lot that was shipped and recalled, and of lots that have none; all acts; a file, once and
 // again.
-static LINES: [Line; 8] = [
-    Line {
+static LINES: [Turn; 8] = [
+    Turn::Line(Line {
         words: &["lotd", "card", "--db", "stock.db", "09506000134352", "L2"],
         status: 0,
         printed: "STOCK CARD 09506000134352 Oat drink\nLOT L2 EXPIRY 2026-05-31\n            7 2026-05-04 RECEIPT  D-1/2                               10          10\n           13 2026-05-04 SHIPMENT 1                                   -7           3\nIN HOUSE 3\n",
         told: "",
-    },
-    Line {
+    }),
+    Turn::Line(Line {
         words: &["lotd", "notice", "--db", "stock.db", "09506000134352", "L2"],
         status: 0,
         printed: "RECALL NOTICE 09506000134352 Oat drink\nLOT L2 EXPIRY 2026-05-31\nBIN A-01 3\nSHIPMENT 1 2026-05-04 7 S-1 Corner Shop\nTOTAL BINS 3 SHIPPED 7\n",
         told: "",
-    },
-    Line {
+    }),
+    Turn::Line(Line {
         words: &["lotd", "notice", "--db", "stock.db", "04012345000016", "Z8"],
         status: 1,
         printed: "",
         told: "lotd: N01\n",
-    },
-    Line {
+    }),
+    Turn::Line(Line {
         words: &["lotd", "notice", "--db", "stock.db", "09506000134352", "L0"],
         status: 1,
         printed: "",
         told: "lotd: N01\n",
-    },
-    Line {
+    }),
+    Turn::Line(Line {
         words: &["lotd", "card", "--db", "stock.db", "04012345000016", "Z8"],
         status: 1,
         printed: "",
         told: "lotd: U03\n",
-    },
-    Line {
+    }),
+    Turn::Line(Line {
         words: &["lotd", "history", "--db", "stock.db"],
         status: 0,
         printed: "1\t2026-05-04\tK/K-1\tITEM\t09506000134352\tOat drink\n2\t2026-05-04\tK/K-2\tITEM\t04012345000016\tRye bread\n3\t2026-05-04\tK/K-3\tBIN\tA-01\tSTORE\n4\t2026-05-04\tK/K-4\tBIN\tA-02\tSTORE\n5\t2026-05-04\tK/K-5\tBIN\tQ-01\tHOLD\n6\t2026-05-04\tD/D-1/1\tRECEIVE\t09506000134352\tL1\t2026-06-30\tA-01\t10\n7\t2026-05-04\tD/D-1/2\tRECEIVE\t09506000134352\tL2\t2026-05-31\tA-01\t10\n8\t2026-05-04\tK/K-8\tORDER\tS-1\tCorner Shop\t09506000134352\t12\n9\t2026-05-04\tK/K-9\tORDER\tS-2\tHarbour Cafe\t09506000134352\t12\n10\t2026-05-04\tD/D-2/1\tRECEIVE\t09506000134352\tL0\t2026-05-10\tA-01\t5\n11\t2026-05-04\tK/K-11\tPICK\tS-1\t09506000134352\tL0\tA-01\t5\n12\t2026-05-04\tK/K-12\tPICK\tS-1\t09506000134352\tL2\tA-01\t7\n13\t2026-05-04\tK/K-13\tSHIP\tS-1\n14\t2026-05-04\tK/K-14\tRECALL\t09506000134352\tL2\n",
         told: "",
-    },
-    Line {
+    }),
+    Turn::Line(Line {
         words: &["lotd", "import", "--db", "stock.db", "more.csv"],
         status: 0,
         printed: "accepted 1 repeated 0\n",
         told: "",
-    },
-    Line {
+    }),
+    Turn::Line(Line {
         words: &["lotd", "import", "--db", "stock.db", "more.csv"],
         status: 0,
         printed: "accepted 0 repeated 1\n",
         told: "",
-    },
+    }),
 ];
 
 fn is_run<S: Alter + Drop>(rt: &impl Abort, books: &OverOne<'_, S>, line: &Line, index: usize) {
@@ -110,24 +145,37 @@ fn is_run<S: Alter + Drop>(rt: &impl Abort, books: &OverOne<'_, S>, line: &Line,
     assert!(rt; told.as_slice() == line.told.as_bytes(), "at {index}");
 }
 
+fn is_changed<S: Alter + Drop>(rt: &impl Abort, books: &OverOne<'_, S>, text: &str, index: usize) {
+    let mut conn = books.conn.replace(None).expect(rt, "the connection");
+    assert!(rt; conn.execute(text, &[]).is_ok(), "at {index}");
+    drop(books.conn.replace(Some(conn)));
+}
+
 /// Each line is run over the connection, which comes back.
 pub(crate) fn lines_run<S: Alter + Drop>(
     host: &HostRuntime,
     rt: &impl Abort,
     conn: Connection<S>,
+    turns: &[Turn],
 ) -> Connection<S> {
     let books = OverOne {
         host,
         conn: Cell::new(Some(conn)),
     };
-    for (index, line) in LINES.as_slice().iter().enumerate() {
-        is_run(rt, &books, line, index);
+    for (index, turn) in turns.iter().enumerate() {
+        match turn {
+            Turn::Line(line) => is_run(rt, &books, line, index),
+            Turn::Sound(printed) => is_run(rt, &books, &sound(printed), index),
+            Turn::Told(told) => is_run(rt, &books, &unsound(told), index),
+            Turn::Change(text) => is_changed(rt, &books, text, index),
+        }
     }
     let OverOne { conn, host: _ } = books;
     conn.into_inner().expect(rt, "the connection")
 }
 
-static HISTORY: [Step; 1] = [Step::NewHouse(&[
+/// A day's work.
+pub(crate) static HISTORY: [Step; 1] = [Step::NewHouse(&[
     Asked::Each(Table::GoodsAndBins),
     Asked::Each(Table::TwoCustomers),
     Asked::Each(Table::Picked),
@@ -136,5 +184,5 @@ static HISTORY: [Step; 1] = [Step::NewHouse(&[
 
 #[test]
 fn lines_print_and_tell(rt: HostRuntime) {
-    crate::disk::run_lines_after(&rt, &rt, HISTORY.as_slice());
+    crate::disk::run_lines_after(&rt, &rt, HISTORY.as_slice(), LINES.as_slice());
 }

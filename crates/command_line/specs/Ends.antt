@@ -1,5 +1,5 @@
 -- How a line ends: what its words come to, and what the side of the books told of its work.
-use Rattle.std.specs.Prelude.{◌≡◌, ◌⊎◌, ℕ, ℤ, List, IsTrue, Option, Some, Result, Ok, Err}
+use Rattle.std.specs.Prelude.{◌≡◌, ◌⊎◌, ℕ, ℤ, List, IsTrue, Option, Some, None, option_map, Result, Ok, Err}
 use Rattle.std.specs.Io.KnownBytes.{Keeps}
 use Rattle.clap.specs.declared.error.Error.{Error}
 use Rattle.values.specs.Values.{is_gtin, is_lot_text}
@@ -10,19 +10,24 @@ use Rattle.command_line.specs.Statuses.{IsStatusOf, IsOutputOf}
 use Rattle.command_line.specs.declared.fault.Fault.{Fault}
 use Rattle.command_line.specs.declared.fault.Fault.TheVariants.{Value, Io}
 use Rattle.command_line.specs.declared.running.Work.{Work}
-use Rattle.command_line.specs.declared.running.Work.TheVariants.{Make, Serve as ServeBooks, Import as ImportFile, Card as CardOf, Notice as NoticeOf, History as HistoryOf}
+use Rattle.command_line.specs.declared.running.Work.TheVariants.{Make, Serve as ServeBooks, Import as ImportFile, Card as CardOf, Notice as NoticeOf, History as HistoryOf, Audit as AuditOf}
 use Rattle.command_line.specs.declared.words.Line.{Line}
-use Rattle.command_line.specs.declared.words.Line.TheVariants.{Label, Init, Serve, Import, Card, Notice, History, Unknown}
+use Rattle.command_line.specs.declared.words.Line.TheVariants.{Label, Init, Serve, Import, Card, Notice, History, Audit, Unknown}
 
 -- how the work with the books in this file may end
 abbrev pub Works : Type 1
 Works = List ℕ → Work → Result Unit Fault → Type 0
 
--- the date is the first business day of the books that are made, or it is none
-abbrev pub IsMade : Works → List ℕ → List ℕ → Result Unit Fault → Type 0
-IsMade works db date end =
-    ((day : ℤ) × (parsed_day date ≡ Some day) × IsTrue (is_business_day day) × works db (Make day) end)
+-- the date is a business day, and the work is with that; or it is none
+abbrev pub IsOnDay : Works → List ℕ → (ℤ → Work) → (date : List ℕ) → Result Unit Fault → Type 0
+IsOnDay works db work date end =
+    ((day : ℤ) × (parsed_day date ≡ Some day) × IsTrue (is_business_day day) × works db (work day) end)
     ⊎ (IsNoBusinessDay date × (end ≡ Err Value))
+
+-- the audit is on the day that is given, or on none
+abbrev pub IsAudited : Works → List ℕ → Option (List ℕ) → Result Unit Fault → Type 0
+IsAudited works db None end = works db (AuditOf None) end
+IsAudited works db (Some date) end = IsOnDay works db (λ day. AuditOf (Some day)) date end
 
 -- the GTIN or the lot breaks its rule
 abbrev pub IsNoLot : (gtin lot : List ℕ) → Type 0
@@ -41,12 +46,13 @@ IsLabelTold date text old new (Err fault) = IsRefused date text fault
 
 -- what a line comes to, with what the output had and has
 abbrev pub IsEndOf : Works → Line → Option (List ℕ) → Option (List ℕ) → Result Unit Fault → Type 0
-IsEndOf works (Init db day) old new end = IsMade works db.now day.now end
+IsEndOf works (Init db day) old new end = IsOnDay works db.now Make day.now end
 IsEndOf works (Serve db port max log) old new end = works db.now (ServeBooks port max log) end
 IsEndOf works (Import db file) old new end = works db.now (ImportFile file) end
 IsEndOf works (Card db gtin lot) old new end = IsWithLot works db.now CardOf gtin.now lot.now end
 IsEndOf works (Notice db gtin lot) old new end = IsWithLot works db.now NoticeOf gtin.now lot.now end
 IsEndOf works (History db) old new end = works db.now HistoryOf end
+IsEndOf works (Audit db day) old new end = IsAudited works db.now (option_map (λ d. d.now) day) end
 IsEndOf works (Label day text) old new end = IsLabelTold day.now text.now old new end
 IsEndOf works Unknown old new end = end ≡ Err Value
 

@@ -1,5 +1,5 @@
 -- What the lines of the program print and tell.
-use Rattle.std.specs.Prelude.{◌≡◌, ◌≢◌, ◌⊎◌, ℕ, ℤ, List, ◌++◌, codes, IsTrue, Option, Some, None, Ok, Err, decimal}
+use Rattle.std.specs.Prelude.{◌≡◌, ◌≢◌, ◌⊎◌, ℕ, ℤ, List, [], ◌++◌, codes, IsTrue, Option, Some, Ok, Err, decimal}
 use Rattle.std.specs.Io.KnownBytes.{Appends}
 use Rattle.clap.specs.Values.{kind_of}
 use Rattle.clap.specs.declared.error.Error.{Error}
@@ -13,9 +13,10 @@ use Rattle.goodsin.specs.declared.fault.FileFault.TheVariants.{Row as RowOfFile}
 use Rattle.label.specs.Labels.{label_read}
 use Rattle.values.specs.declared.fault.LabelFault.{LabelFault}
 use Rattle.label.specs.declared.gs1.Label.{Label as LabelSaid}
+use Rattle.command_line.specs.Audits.{audit_code, audit_place}
 use Rattle.command_line.specs.declared.version.TheConstants.{VERSION}
 use Rattle.command_line.specs.declared.fault.Fault.{Fault}
-use Rattle.command_line.specs.declared.fault.Fault.TheVariants.{Usage, Label, File, Row, Refused, Value, Io, Store, Foreign}
+use Rattle.command_line.specs.declared.fault.Fault.TheVariants.{Usage, Label, File, Row, Refused, Audit, Value, Io, Store, Foreign}
 
 -- what `lotd label` prints
 abbrev pub label_lines : LabelSaid → List ℕ
@@ -32,24 +33,25 @@ told_code (Label fault) = fault_code fault
 told_code (File fault) = file_fault_code fault
 told_code (Row row why) = refusal_code why
 told_code (Refused why) = refusal_code why
+told_code (Audit fault) = audit_code fault
 told_code Value = codes "value"
 told_code Io = codes "io"
 told_code Store = codes "store"
 told_code Foreign = codes "foreign books"
 
--- the row of a file that is named
-abbrev pub told_row : Fault → Option ℕ
-told_row (File (RowOfFile row)) = Some row
-told_row (Row row why) = Some row
-told_row _ = None
+abbrev pub row_told : ℕ → List ℕ
+row_told row = codes " row " ++ decimal row
 
-abbrev pub line_of : List ℕ → Option ℕ → List ℕ
-line_of code None = codes "lotd: " ++ code ++ codes "\n"
-line_of code (Some row) = codes "lotd: " ++ code ++ codes " row " ++ decimal row ++ codes "\n"
+-- the row of a file, the row or the table of the books, or the act that is named
+abbrev pub told_place : Fault → List ℕ
+told_place (File (RowOfFile row)) = row_told row
+told_place (Row row why) = row_told row
+told_place (Audit fault) = audit_place fault
+told_place _ = []
 
 -- the line that tells a fault
 abbrev pub told_line : Fault → List ℕ
-told_line fault = line_of (told_code fault) (told_row fault)
+told_line fault = codes "lotd: " ++ told_code fault ++ told_place fault ++ codes "\n"
 
 -- the fault of words that are no line: want of memory, or what `clap` says of them
 abbrev pub IsFaultOfWords : Error → Fault → Type 0
@@ -83,5 +85,6 @@ IsRefused day text (Usage error) = ⊥
 IsRefused day text (File fault) = ⊥
 IsRefused day text (Row row why) = ⊥
 IsRefused day text (Refused why) = ⊥
+IsRefused day text (Audit fault) = ⊥
 IsRefused day text Store = ⊥
 IsRefused day text Foreign = ⊥

@@ -1,10 +1,11 @@
-ghost use Rattle.std.specs.Prelude.{◌≡◌};
+ghost use Rattle.std.specs.Prelude.{◌≡◌, OnOk};
 
+use crate::audit_fault::AuditFault;
 use clap::Error;
 use clap::error::ErrorKind;
 use commands::Refusal;
 use goodsin::FileFault;
-use std::io;
+use std::io::{self, Write};
 use values::LabelFault;
 
 /// Why a line of the program is not done.
@@ -20,6 +21,8 @@ pub enum Fault {
     Row { row: u16, refusal: Refusal },
     /// What is asked for is refused.
     Refused(Refusal),
+    /// The rows of the books are not those of their acts.
+    Audit(AuditFault),
     /// A date on the line is no business day, or a GTIN or a lot breaks its rule.
     Value,
     /// The output could not be written.
@@ -31,7 +34,8 @@ pub enum Fault {
 }
 
 impl Fault {
-    ghost use Rattle.command_line.specs.Lines.{told_code, told_row};
+    ghost use Rattle.std.specs.Io.KnownBytes.{Appends};
+    ghost use Rattle.command_line.specs.Lines.{told_code, told_place};
 
     /// What is told on standard error after `lotd: `.
     pub(crate) fn code(&self) -> &'static str
@@ -43,6 +47,7 @@ impl Fault {
             Fault::File(fault) => fault.code(),
             Fault::Row { row: _, refusal } => refusal.code(),
             Fault::Refused(refusal) => refusal.code(),
+            Fault::Audit(fault) => fault.code(),
             Fault::Value => "value",
             Fault::Io => "io",
             Fault::Store => "store",
@@ -50,14 +55,15 @@ impl Fault {
         }
     }
 
-    /// The row of a file that it is about, counted from 1.
-    pub(crate) fn row(&self) -> Option<u16>
-        ensures { result ≡ told_row self.now }
+    /// Writes what it is about, where that is a row of a file, a row or a table of the books, or an act.
+    pub(crate) fn write_place<E: Write>(&self, err: &mut E) -> io::Result<()>
+        ensures { OnOk result (Appends (E.contents err.old) (E.contents err.new) (told_place self.now)) }
     {
         match self {
-            Fault::File(FileFault::Row(row)) => Some(*row),
-            Fault::Row { row, refusal: _ } => Some(*row),
-            _ => None,
+            Fault::File(FileFault::Row(row)) => write!(err, " row {row}"),
+            Fault::Row { row, refusal: _ } => write!(err, " row {row}"),
+            Fault::Audit(fault) => fault.write_place(err),
+            _ => Ok(()),
         }
     }
 }

@@ -1,6 +1,7 @@
 //! The lines of the program `lotd`: its words, what each line asks for, and what is told.
 #![tactic(auto)]
 
+mod audit_fault;
 mod fault;
 mod label_line;
 mod lot_lines;
@@ -8,5 +9,6 @@ mod running;
 mod version;
 mod words;
 
+pub use audit_fault::{AuditFault, ROW_KEY_MAX, TABLE_NAME_MAX};
 pub use fault::Fault;
 pub use running::{BooksAt, DONE, MISUSED, REFUSED, Work, run, tell, tell_words};

@@ -1,10 +1,11 @@
-ghost use Rattle.std.specs.Prelude.{◌≡◌, ◌≤◌, OnOk};
+ghost use Rattle.std.specs.Prelude.{◌≡◌, ◌≤◌, Some, option_map, OnOk};
 ghost use Rattle.std.specs.Io.KnownBytes.{Appends};
 ghost use Rattle.clap.specs.Values.{kind_of};
 ghost use Rattle.clap.specs.declared.error.kind.ErrorKind.TheVariants.{DisplayVersion};
 ghost use Rattle.command_line.specs.Lines.{told_line, version_line};
 ghost use Rattle.command_line.specs.Statuses.{IsStatusOf, IsStatusOfWords, IsOutputOf, IsOutputOfWords};
-ghost use Rattle.command_line.specs.Ends.{IsEndOf, IsEnded, IsMade, IsRun};
+ghost use Rattle.command_line.specs.Ends.{IsAudited, IsEndOf, IsEnded, IsOnDay, IsRun};
+ghost use Rattle.command_line.specs.declared.running.Work.TheVariants.{Make, Audit};
 
 use crate::fault::Fault;
 use crate::label_line::{first_day, print_label};
@@ -45,6 +46,9 @@ pub enum Work<'a> {
     Notice(LotId),
     /// Opens them and prints the acts, one a line.
     History,
+    /// Does their acts again, begun on the day that is given or else on the one that their rows tell, compares every row of
+    /// every table, and prints how many acts there are.
+    Audit(Option<BusinessDay>),
 }
 
 /// Where the books are that the lines speak of.
@@ -68,8 +72,8 @@ pub trait BooksAt {
 }
 
 /// Runs the line that the words are, the program's name first: what it prints goes to `out`, and to `err` the log of a
-/// server and a fault as one line, `lotd: `, its code and, where a row of a file is named, ` row ` and its number. The
-/// result is the exit status, by how the line ended.
+/// server and a fault as one line, `lotd: `, its code and what it is about, as ` row ` and its number where that is a row
+/// of a file. The result is the exit status, by how the line ended.
 pub fn run<'a, B: BooksAt, S: AsStr, W: Write, E: Write>(
     alloc: Global,
     books: &B,
@@ -127,6 +131,7 @@ fn end_line<'a, B: BooksAt, W: Write, L: Write>(
         Line::Card { db, gtin, lot } => print_card(books, db, gtin, lot, out, log),
         Line::Notice { db, gtin, lot } => print_notice(books, db, gtin, lot, out, log),
         Line::History { db } => books.work(db, &Work::History, out, log),
+        Line::Audit { db, day } => audit_books(books, db, day, out, log),
         Line::Label { day, text } => print_label(day, text, out),
         Line::Unknown => Err(Fault::Value),
     }
@@ -140,10 +145,40 @@ fn make_books<B: BooksAt, W: Write, L: Write>(
     out: &mut W,
     log: &mut L,
 ) -> Result<(), Fault>
-    ensures { IsMade (B.ends books.now) db.now date.now result }
+    ensures { IsOnDay (B.ends books.now) db.now Make date.now result }
 {
     let day = first_day(date)?;
     books.work(db, &Work::Make(day), out, log)
+}
+
+/// Has the books audited. A date that is given is judged before the file is touched.
+fn audit_books<B: BooksAt, W: Write, L: Write>(
+    books: &B,
+    db: &str,
+    date: Option<&str>,
+    out: &mut W,
+    log: &mut L,
+) -> Result<(), Fault>
+    ensures { IsAudited (B.ends books.now) db.now (option_map (λ d. d.now) date.entry) result }
+{
+    match date {
+        Some(date) => audit_from(books, db, date, out, log),
+        None => books.work(db, &Work::Audit(None), out, log),
+    }
+}
+
+/// Has the books audited that began on the business day that the date is.
+fn audit_from<B: BooksAt, W: Write, L: Write>(
+    books: &B,
+    db: &str,
+    date: &str,
+    out: &mut W,
+    log: &mut L,
+) -> Result<(), Fault>
+    ensures { IsOnDay (B.ends books.now) db.now (λ day. Audit (Some day)) date.now result }
+{
+    let day = first_day(date)?;
+    books.work(db, &Work::Audit(Some(day)), out, log)
 }
 
 /// Tells how a line ended, and gives its exit status.
@@ -170,10 +205,9 @@ fn write_fault<E: Write>(fault: &Fault, err: &mut E) -> io::Result<()>
     ensures { OnOk result (Appends (E.contents err.old) (E.contents err.new) (told_line fault.now)) }
 {
     let code = fault.code();
-    match fault.row() {
-        Some(row) => writeln!(err, "lotd: {code} row {row}"),
-        None => writeln!(err, "lotd: {code}"),
-    }
+    write!(err, "lotd: {code}")?;
+    fault.write_place(err)?;
+    err.write_all(b"\n")
 }
 
 // Help and the version are told on `out`, and words that are no line on `err`.

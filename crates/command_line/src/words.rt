@@ -45,6 +45,11 @@ pub enum Line<'a> {
     History {
         db: &'a str,
     },
+    /// `lotd audit --db PATH [--day DATE]`: does the acts again and compares every row of every table.
+    Audit {
+        db: &'a str,
+        day: Option<&'a str>,
+    },
     /// No line that the program has. `clap` refuses such words before.
     Unknown,
 }
@@ -56,6 +61,8 @@ enum Kind {
     Bare,
     /// A text after `--` and its name.
     Named,
+    /// A text after `--` and its name, which may be left out.
+    Optional,
     /// A port that takes no privilege, after `--` and its name.
     Port,
     /// How many connections are answered before the end, after `--` and its name.
@@ -87,6 +94,7 @@ const AFTER_HELP: &str = "Examples:
   lotd card --db stock.db 09506000134352 L2
   lotd notice --db stock.db 09506000134352 L2
   lotd history --db stock.db
+  lotd audit --db stock.db
   lotd label --day 2026-05-04 ']C101095060001343521726093010AB12'
 
 Exit status: 0 where the line was done, 2 where the words are no line of the
@@ -100,12 +108,21 @@ program, and else 1. Then standard error has `lotd: ` and one of these:
   value          a day, a GTIN or a lot breaks its rule
   U02 row 3, ..  what is asked is refused, by this code
 
+or, where an audit finds that the rows are not those of the acts, one of these:
+  differs stock 09506000134352 AB12 A-01
+                 the row of this table with this key is another, is missing, or
+                 is one too many
+  differs stock  a row of this table has a value that no act leaves
+  spelling act 17
+                 no command or no key is written in the row of this act
+  Q02 act 17     this act is refused after those before it, by this code
+
 While a server has the file open, no other line can. Ask the server:
   curl http://127.0.0.1:8080/cards/09506000134352/L2
   curl http://127.0.0.1:8080/notices/09506000134352/L2
   curl --data-binary @goods.csv http://127.0.0.1:8080/goodsin";
 
-static LINES: [Words; 7] = [
+static LINES: [Words; 8] = [
     Words {
         name: "init",
         about: "Make new books",
@@ -258,6 +275,32 @@ values, as OPENDAY and the day.",
         }],
     },
     Words {
+        name: "audit",
+        about: "Do all acts again and compare every row of every table",
+        examples: "Examples:
+  lotd audit --db stock.db
+  lotd audit --db stock.db --day 2026-05-04
+
+It prints `audited N acts from DATE` where the rows of the books are those of the
+acts that they keep, and else tells the first row that is not, or the act that is
+none. No row is changed. It takes about as long as the acts took; on a terminal
+it shows how many are done.",
+        values: &[
+            Value {
+                id: "db",
+                stands_for: "PATH",
+                help: "The file of the books",
+                kind: Kind::Named,
+            },
+            Value {
+                id: "day",
+                stands_for: "DATE",
+                help: "The business day on which the books began; else as their rows tell it",
+                kind: Kind::Optional,
+            },
+        ],
+    },
+    Words {
         name: "label",
         about: "Print the GTIN, the lot and the expiry day of a GS1 label",
         examples: "Examples:
@@ -302,6 +345,7 @@ fn line_found<'a>(matches: &ArgMatches<'a>) -> Line<'a> {
         Some(("card", found)) => card_line(found),
         Some(("notice", found)) => notice_line(found),
         Some(("history", found)) => history_line(found),
+        Some(("audit", found)) => audit_line(found),
         _ => Line::Unknown,
     }
 }
@@ -363,6 +407,16 @@ fn history_line<'a>(found: &ArgMatches<'a>) -> Line<'a> {
     }
 }
 
+fn audit_line<'a>(found: &ArgMatches<'a>) -> Line<'a> {
+    match found.get_str("db") {
+        Some(db) => Line::Audit {
+            db,
+            day: found.get_str("day"),
+        },
+        None => Line::Unknown,
+    }
+}
+
 fn program<'a>(alloc: Global) -> Result<Command<'a>, AllocError> {
     let mut program = bare_program(alloc);
     for line in LINES.as_slice() {
@@ -411,6 +465,7 @@ fn of_kind<'a>(arg: Arg<'a>, value: &'static Value) -> Arg<'a> {
     match value.kind {
         Kind::Bare => with_value(arg, value),
         Kind::Named => with_value(arg, value).long(value.id),
+        Kind::Optional => with_value(arg, value).long(value.id).required(false),
         Kind::Port => with_value(arg, value)
             .long(value.id)
             .value_parser(value_parser!(u16).range(1024..=65535)),

@@ -1,3 +1,4 @@
+pub mod Rows
 pub mod Serving
 pub mod Importing
 pub mod Lending

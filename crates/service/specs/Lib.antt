@@ -1,3 +1,5 @@
+pub mod Rows
+pub mod Auditing
 pub mod Serving
 pub mod Importing
 pub mod Printing

@@ -15,7 +15,8 @@ use Rattle.house.specs.House.{Run, StepsTo, RunsTo, LeavesBooks}
 use Rattle.command_line.specs.declared.fault.Fault.{Fault}
 use Rattle.command_line.specs.declared.fault.Fault.TheVariants.{Io, Foreign}
 use Rattle.command_line.specs.declared.running.Work.{Work}
-use Rattle.command_line.specs.declared.running.Work.TheVariants.{Make, Serve, Import, Card, Notice, History}
+use Rattle.command_line.specs.declared.running.Work.TheVariants.{Make, Serve, Import, Card, Notice, History, Audit}
+use Rattle.service.specs.Auditing.{IsAuditTold, IsLeftAs}
 use Rattle.service.specs.Importing.{KeepsFile, IsFileImported}
 use Rattle.histories.specs.Printed.{IsHistoryPrinted}
 use Rattle.service.specs.Printing.{LeavesSheet}
@@ -72,6 +73,7 @@ is_logged (Import file) = false
 is_logged (Card lot) = false
 is_logged (Notice lot) = false
 is_logged History = false
+is_logged (Audit given) = false
 
 -- what the work makes of a connection, with what the log had and has
 abbrev pub IsWorked : {S : Type 0} → Ghosts S → Held S → Work → (log_old log_new : Option (List ℕ)) → Held S → Type 0
@@ -82,6 +84,7 @@ IsWorked g old (Import file) log_old log_new new = (first : ℤ) (acts : List Ac
 IsWorked g old (Card lot) log_old log_new new = (first : ℤ) (acts : List Act) → IsHistory first acts → AreFoundRows first acts (state g old).committed.trees → KeepsBooks first acts (state g new)
 IsWorked g old (Notice lot) log_old log_new new = (first : ℤ) (acts : List Act) → IsHistory first acts → AreFoundRows first acts (state g old).committed.trees → KeepsBooks first acts (state g new)
 IsWorked g old History log_old log_new new = (first : ℤ) (acts : List Act) → IsHistory first acts → AreFoundRows first acts (state g old).committed.trees → KeepsBooks first acts (state g new)
+IsWorked g old (Audit given) log_old log_new new = IsLeftAs g old new
 
 -- when the work is refused, and as what
 abbrev pub IsJudged : {S A : Type 0} → Ghosts S → Held S → Work → Result A Fault → Type 0
@@ -91,6 +94,7 @@ IsJudged g old (Import file) result = IsOfNone (state g old).now.schema → IsEr
 IsJudged g old (Card lot) result = IsOfNone (state g old).now.schema → IsErr result
 IsJudged g old (Notice lot) result = IsOfNone (state g old).now.schema → IsErr result
 IsJudged g old History result = IsOfNone (state g old).now.schema → IsErr result
+IsJudged g old (Audit given) result = IsOfNone (state g old).now.schema → IsErr result
 
 -- what is printed once the port is listened on
 abbrev pub told_port : ℕ → List ℕ
@@ -114,3 +118,4 @@ IsTold g files conn (Notice lot) old new end left = (first : ℤ) (acts : List A
     → LeavesSheet g first acts sheet.Notice lot old new end left
 IsTold g files conn History old new end left = (first : ℤ) (acts : List Act) → IsHistory first acts → AreFoundRows first acts (state g conn).committed.trees
     → IsHistoryPrinted first acts old new end
+IsTold g files conn (Audit given) old new end left = IsAuditTold given (state g conn) old new end

@@ -15,6 +15,7 @@ ghost use Rattle.service.specs.Importing.{KeepsFile, IsFileImported};
 ghost use Rattle.service.specs.Printing.{IsSheetPrinted, LeavesSheet};
 
 use crate::acts_text::open_and_print_acts;
+use crate::audit_line::audit_books;
 use crate::goods_file::{FilesAt, import_file};
 use crate::lot_texts::{print_card, print_notice};
 use crate::serve::serve_logged_if;
@@ -36,10 +37,12 @@ pub type AfterWork<S> = (Connection<S>, Result<(), Fault>);
 /// over at most as many texts as connections were to be answered, for each of which the log has a line, as far as it took
 /// them; books into which a file was imported are those after it, or as they were; books of which a text was printed are
 /// as they were. What was printed is the text that the machine shows of the lot, the acts or the tally of the file, and the
-/// work is refused exactly where the machine refuses. Books of schema 1 are brought up as they are opened. Where
-/// the books cannot be made or opened, nothing is printed, the connection is dropped and the error is `Foreign` for other
-/// tables and else `Store`, also for a connection within a transaction. A port that cannot be had, a file that cannot be
-/// opened and output that cannot be written are `Io` beside the connection.
+/// work is refused exactly where the machine refuses. Books of an older schema are brought up as they are opened. An audit
+/// opens none: whatever the tables hold, nothing is committed, and what it tells holds of them; how far it is it shows on
+/// standard error, where that is a terminal. Where the books cannot be made, opened or audited, nothing is printed, the
+/// connection is dropped and the error is `Foreign` for other tables and else `Store`, also for a connection within a
+/// transaction. A port that cannot be had, a file that cannot be opened and output that cannot be written are `Io` beside
+/// the connection.
 pub fn do_work<S: Alter + Drop, F: FilesAt, W: Write, L: Write>(
     rt: &HostRuntime,
     files: &F,
@@ -67,6 +70,7 @@ pub fn do_work<S: Alter + Drop, F: FilesAt, W: Write, L: Write>(
         Work::Card(lot) => open_and_print(rt.alloc(), conn, Sheet::Card, lot, out),
         Work::Notice(lot) => open_and_print(rt.alloc(), conn, Sheet::Notice, lot, out),
         Work::History => open_and_print_acts(rt.alloc(), conn, out),
+        Work::Audit(given) => audit_books(rt, conn, *given, out),
     }
 }
 

@@ -2,11 +2,14 @@
 #![tactic(auto)]
 
 mod acts_text;
+mod audit_line;
 mod books_lines;
 mod goods_file;
 mod lent;
 mod lot_texts;
+mod row_text;
 mod serve;
+mod shown;
 mod timed;
 
 pub use books_lines::{AfterWork, do_work};

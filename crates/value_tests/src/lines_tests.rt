@@ -1,14 +1,15 @@
 //! The lines of the program that need no books.
 
-use command_line::{BooksAt, Fault, Work, run};
+use command_line::{AuditFault, BooksAt, Fault, Work, run};
 use commands::Refusal;
 use commands::limits::SCHEMA_VERSION;
 use goodsin::FileFault;
+use label::BusinessDay;
 use std::alloc::Global;
 use std::io;
 use std::io::Write;
 use std::process::Abort;
-use values::LotId;
+use values::{LotId, Text};
 
 // No line of these tests needs the file of the books.
 #[derive(Clone, Copy)]
@@ -100,17 +101,18 @@ fn answer(alloc: Global, words: &[&str]) -> (u8, bool, bool) {
     (status, !printed.is_empty(), !told.is_empty())
 }
 
-static HELP: [&[&str]; 7] = [
+static HELP: [&[&str]; 8] = [
     &["lotd", "card", "--help"],
     &["lotd", "notice", "--help"],
     &["lotd", "import", "--help"],
     &["lotd", "history", "--help"],
+    &["lotd", "audit", "--help"],
     &["lotd", "--help"],
     &["lotd", "help", "label"],
     &["lotd", "label", "--help"],
 ];
 
-static MISUSE: [&[&str]; 14] = [
+static MISUSE: [&[&str]; 17] = [
     &["lotd", "card", "--db", "x", "09506000134352"],
     &["lotd", "notice", "09506000134352", "L2"],
     &["lotd", "import", "--db", "x"],
@@ -125,6 +127,9 @@ static MISUSE: [&[&str]; 14] = [
     &["lotd", "card", "--db", "x", "--log", "09506000134352", "L2"],
     &["lotd", "history"],
     &["lotd", "history", "--db", "x", "--day", "2026-05-04"],
+    &["lotd", "audit", "--day", "2026-05-04"],
+    &["lotd", "audit", "--db", "x", "--day"],
+    &["lotd", "audit", "--db", "x", "2026-05-04"],
     &["lotd"],
     &["lotd", "lable"],
     &["lotd", "label", "--day", "2026-05-04"],
@@ -142,7 +147,7 @@ fn tells_help_and_misuse_apart(rt: HostRuntime) {
 }
 
 // What the help of a line says, among else.
-static HELP_SAYS: [(&[&str], &str); 7] = [
+static HELP_SAYS: [(&[&str], &str); 9] = [
     (
         &["lotd", "--help"],
         "\n  store          the file is not there; or a server has it open; or it is no\n",
@@ -156,6 +161,14 @@ static HELP_SAYS: [(&[&str], &str); 7] = [
         "\n  curl http://127.0.0.1:8080/cards/09506000134352/L2\n",
     ),
     (&["lotd", "--help"], "--version"),
+    (
+        &["lotd", "--help"],
+        "\n  differs stock 09506000134352 AB12 A-01\n",
+    ),
+    (
+        &["lotd", "audit", "--help"],
+        "Do all acts again and compare every row of every table",
+    ),
     (
         &["lotd", "card", "--help"],
         "\n  curl http://127.0.0.1:8080/cards/09506000134352/L2\n",
@@ -254,6 +267,10 @@ enum End {
     File(FileFault),
     Row(u16, Refusal),
     Refused(Refusal),
+    Differs(&'static str, &'static str),
+    Untyped(&'static str),
+    Spelling(u64),
+    Act(u64, Refusal),
 }
 
 // What a line has to hand on: the file, and the first day of the books, the goods-in file, or the port and how many
@@ -277,6 +294,28 @@ fn is_lot_word(lot: LotId, word: &str) -> bool {
     }
 }
 
+// The word of an audit is the day that it is given.
+fn is_audit_word(given: Option<BusinessDay>, word: &str) -> bool {
+    match given {
+        Some(day) => day.day().text().as_slice() == word.as_bytes(),
+        None => word == "no day",
+    }
+}
+
+// A row of a table differs, or a value of it is none.
+fn differs(table: &str, key: Option<&str>) -> Fault {
+    let Some(table) = Text::new(table.as_bytes()) else {
+        return Fault::Value;
+    };
+    let Some(key) = key else {
+        return Fault::Audit(AuditFault::Table { table });
+    };
+    match Text::new(key.as_bytes()) {
+        Some(key) => Fault::Audit(AuditFault::Row { table, key }),
+        None => Fault::Value,
+    }
+}
+
 impl Awaited {
     fn is_this(&self, db: &str, work: &Work<'_>) -> bool {
         let same = match work {
@@ -285,6 +324,7 @@ impl Awaited {
             Work::Serve { port, max, log: _ } => *port == self.port && *max == self.max,
             Work::Card(lot) | Work::Notice(lot) => is_lot_word(*lot, self.word),
             Work::History => self.word == "history",
+            Work::Audit(given) => is_audit_word(*given, self.word),
         };
         same && db == self.db
     }
@@ -298,6 +338,10 @@ impl Awaited {
             End::File(fault) => Err(Fault::File(fault)),
             End::Row(row, refusal) => Err(Fault::Row { row, refusal }),
             End::Refused(refusal) => Err(Fault::Refused(refusal)),
+            End::Differs(table, key) => Err(differs(table, Some(key))),
+            End::Untyped(table) => Err(differs(table, None)),
+            End::Spelling(act) => Err(Fault::Audit(AuditFault::Spelling { act })),
+            End::Act(act, refusal) => Err(Fault::Audit(AuditFault::Act { act, refusal })),
         }
     }
 }
@@ -331,7 +375,7 @@ struct Handed {
     told: &'static str,
 }
 
-static HANDED_ON: [Handed; 22] = [
+static HANDED_ON: [Handed; 30] = [
     Handed {
         words: &["lotd", "init", "--db", "stock.db", "--day", "2026-05-04"],
         to: Awaited {
@@ -630,6 +674,107 @@ static HANDED_ON: [Handed; 22] = [
         },
         status: 1,
         told: "lotd: io\n",
+    },
+    Handed {
+        words: &["lotd", "audit", "--db", "stock.db"],
+        to: Awaited {
+            db: "stock.db",
+            word: "no day",
+            port: 0,
+            max: 0,
+            end: End::Done,
+        },
+        status: 0,
+        told: "",
+    },
+    Handed {
+        words: &["lotd", "audit", "--day", "2026-05-04", "--db", "stock.db"],
+        to: Awaited {
+            db: "stock.db",
+            word: "2026-05-04",
+            port: 0,
+            max: 0,
+            end: End::Done,
+        },
+        status: 0,
+        told: "",
+    },
+    Handed {
+        words: &["lotd", "audit", "--db", "stock.db"],
+        to: Awaited {
+            db: "stock.db",
+            word: "no day",
+            port: 0,
+            max: 0,
+            end: End::Differs("stock", "09506000134352 AB12 A-01"),
+        },
+        status: 1,
+        told: "lotd: differs stock 09506000134352 AB12 A-01\n",
+    },
+    // The longest name of a table, and the longest key.
+    Handed {
+        words: &["lotd", "audit", "--db", "stock.db"],
+        to: Awaited {
+            db: "stock.db",
+            word: "no day",
+            port: 0,
+            max: 0,
+            end: End::Differs(
+                "shiplines",
+                "18446744073709551615 09506000134352 ABCDEFGHIJKLMNOPQRST",
+            ),
+        },
+        status: 1,
+        told: "lotd: differs shiplines 18446744073709551615 09506000134352 ABCDEFGHIJKLMNOPQRST\n",
+    },
+    Handed {
+        words: &["lotd", "audit", "--db", "stock.db"],
+        to: Awaited {
+            db: "stock.db",
+            word: "no day",
+            port: 0,
+            max: 0,
+            end: End::Untyped("cards"),
+        },
+        status: 1,
+        told: "lotd: differs cards\n",
+    },
+    Handed {
+        words: &["lotd", "audit", "--db", "stock.db"],
+        to: Awaited {
+            db: "stock.db",
+            word: "no day",
+            port: 0,
+            max: 0,
+            end: End::Spelling(17),
+        },
+        status: 1,
+        told: "lotd: spelling act 17\n",
+    },
+    Handed {
+        words: &["lotd", "audit", "--db", "stock.db", "--day", "2026-05-04"],
+        to: Awaited {
+            db: "stock.db",
+            word: "2026-05-04",
+            port: 0,
+            max: 0,
+            end: End::Act(17, Refusal::OverReserved),
+        },
+        status: 1,
+        told: "lotd: Q02 act 17\n",
+    },
+    // The day is judged before the file is touched.
+    Handed {
+        words: &["lotd", "audit", "--db", "stock.db", "--day", "2026-02-30"],
+        to: Awaited {
+            db: "stock.db",
+            word: "2026-02-30",
+            port: 0,
+            max: 0,
+            end: End::Done,
+        },
+        status: 1,
+        told: "lotd: value\n",
     },
 ];
 

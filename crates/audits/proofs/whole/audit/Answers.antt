@@ -16,3 +16,6 @@ returns-clause-left g c =
       clean = omega (arith, was.clean, done.survives.clean);
       shield = λ h. done.survives.shield (was.shield h);
     })
+
+pub returns-clause-other : goal.returns-clause-other
+returns-clause-other g c none = absurd (none c.in-Ok.opened.1 c.in-Ok.ensures.found)

@@ -1,5 +1,6 @@
 use Rattle.std.proofs.Common.{◌≡◌, false, sym, subst}
 use Rattle.std.specs.Prelude.{IfOk}
+use Rattle.std.proofs.lemmas.Result.{IfOk-weaker}
 use Rattle.sqlite.specs.Held.{state}
 use Rattle.sqlite.specs.State.{HasCleanDisk}
 use Rattle.service.specs.Serving.{IsWorked, IsTold, IsJudged, is_logged}
@@ -85,3 +86,18 @@ returns-in-History-clause-told g c =
     let at = g.W.Write.contents in
     subst (λ work. IfOk c.open_and_print_acts.result (λ w. HasCleanDisk (state g.S.Store w.0) → IsTold g.S.Store (g.F.FilesAt.bytes c.args.files.now) c.args.conn work (at c.args.out.now) (at c.open_and_print_acts.new.out) w.1 w.0))
     (sym c.in-History.is) c.open_and_print_acts.ensures.told
+
+pub returns-in-Audit-clause-worked : goal.returns-in-Audit-clause-worked
+returns-in-Audit-clause-worked g c =
+    let log = g.L.Write.contents c.args.log.now in
+    subst (λ work. IfOk c.audit_books.result (λ w. HasCleanDisk (state g.S.Store w.0) → IsWorked g.S.Store c.args.conn work log log w.0))
+    (sym c.in-Audit.is) (IfOk-weaker c.audit_books.result _ _ (λ w left clean. left) c.audit_books.ensures.left)
+
+pub returns-in-Audit-clause-judged : goal.returns-in-Audit-clause-judged
+returns-in-Audit-clause-judged g c = subst (λ w. IsJudged g.S.Store c.args.conn w c.audit_books.result) (sym c.in-Audit.is) c.audit_books.ensures.other
+
+pub returns-in-Audit-clause-told : goal.returns-in-Audit-clause-told
+returns-in-Audit-clause-told g c =
+    let at = g.W.Write.contents in
+    subst (λ work. IfOk c.audit_books.result (λ w. HasCleanDisk (state g.S.Store w.0) → IsTold g.S.Store (g.F.FilesAt.bytes c.args.files.now) c.args.conn work (at c.args.out.now) (at c.audit_books.new.out) w.1 w.0))
+    (sym c.in-Audit.is) c.audit_books.ensures.told
