@@ -21,10 +21,9 @@ ghost use Rattle.store.specs.Books.{AreBooks, KeepsBooks, HoldsBooks, LeavesOnly
 ghost use Rattle.store.specs.Opening.{Found, HasSchema, IsOfNone, AreRowsAt, AreFoundRows, HasFoundDay, IsForeignWithin, unlimited, IsLeftUnfilled, IsReopened, IsLeftOver, IsCleanLeft};
 
 use crate::acting::act_once;
-use crate::bins::hand_bins;
-use crate::cards::hand_cards;
 use crate::day::day_left;
 use crate::filing::{every_row_is_sound, file_once};
+use crate::lot_rows::{CardLines, LotBins, hand_rows};
 use crate::shipments::hand_shipments;
 use crate::showing::show;
 use crate::{EachFault, Fault, Reply, RowFault, Tally};
@@ -390,7 +389,7 @@ impl<S: Alter> Books<S> {
         ensures stays { IsClean S.Store self.new → IsSettled (state S.Store self.new.conn) }
         ensures survives { Survives (state S.Store self.old.conn) (state S.Store self.new.conn) (NoBooks (state S.Store self.old.conn)) }
     {
-        hand_cards(self.alloc, &mut self.conn, lot, sink)
+        hand_rows::<CardLines, S, K>(self.alloc, &mut self.conn, lot, sink)
     }
 
     /// Hands the bins with units of a lot to the sink, by name, one at a time, until it stops. It is outside every
@@ -408,7 +407,7 @@ impl<S: Alter> Books<S> {
         ensures stays { IsClean S.Store self.new → IsSettled (state S.Store self.new.conn) }
         ensures survives { Survives (state S.Store self.old.conn) (state S.Store self.new.conn) (NoBooks (state S.Store self.old.conn)) }
     {
-        hand_bins(self.alloc, &mut self.conn, lot, sink)
+        hand_rows::<LotBins, S, K>(self.alloc, &mut self.conn, lot, sink)
     }
 
     /// Hands the shipments with units of a lot to the sink, by number, one at a time, until it stops. No transaction is open

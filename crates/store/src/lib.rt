@@ -2,14 +2,13 @@
 #![tactic(auto)]
 
 mod acting;
-mod bins;
 mod books;
-mod cards;
 mod day;
 mod each_fault;
 mod fault;
 mod filing;
 mod knowing;
+mod lot_rows;
 mod outside;
 mod repeats;
 mod reply;

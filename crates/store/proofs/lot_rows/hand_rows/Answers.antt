@@ -1,20 +1,15 @@
-use Rattle.std.proofs.Common.{sym, subst, inl, arith}
+use Rattle.std.proofs.Common.{Ok, Err, inl, arith}
 use Rattle.std.proofs.lemmas.Result.{err_from_is_err_and}
 use Rattle.sqlite.specs.State.{HasCleanDisk}
 use Rattle.sqlite.specs.Held.{state}
-use Rattle.table_words.specs.Typed.{Tables}
-use Rattle.std.specs.Prelude.{Ok, Err}
-use Rattle.machine.specs.Views.{bins_of_lot}
-use Rattle.goods_tables.specs.BinsOfLot.{AreByBin}
-use Rattle.store.proofs.BinOrder.{stock_rows, bins_by_name, bins_handed}
 use Rattle.store.proofs.HandedOn.{books_on, left_keeps, handed_all, handed_some, handed_none, never_commits_none, never_commits_on, left_stays, handed_stays}
-use Rattle.store.proofs.bins.hand_bins.Goals as goal
+use Rattle.store.proofs.lot_rows.hand_rows.Goals as goal
 
 pub returns-in_err-find_open_outside-clause-handed : goal.returns-in_err-find_open_outside-clause-handed
 returns-in_err-find_open_outside-clause-handed g c clean first acts history held =
     let p = err_from_is_err_and c.from_residual.result c.from_residual.ensures.1 in
     rw (p.1, p.2, c.in_err-find_open_outside.ensures.fault)
-    (handed_none first acts g.K.Sink.takes g.K.Sink.stops (bins_of_lot first acts c.args.lot.now) c.args.sink.now (state g.S.Store c.args.conn.now) (state g.S.Store c.find_open_outside.new.conn) held (c.in_err-find_open_outside.ensures.failed clean))
+    (handed_none first acts g.K.Sink.takes g.K.Sink.stops (g.R.LotRows.told first acts c.args.lot.now) c.args.sink.now (state g.S.Store c.args.conn.now) (state g.S.Store c.find_open_outside.new.conn) held (c.in_err-find_open_outside.ensures.failed clean))
 
 pub returns-in_err-find_open_outside-clause-survives : goal.returns-in_err-find_open_outside-clause-survives
 returns-in_err-find_open_outside-clause-survives g c =
@@ -25,35 +20,33 @@ returns-in-Ok-clause-handed g c clean first acts history held =
     let l = c.args.lot.now in
     let old = state g.S.Store c.args.conn.now in
     let mid = state g.S.Store c.find_open_outside.new.conn in
-    let new = state g.S.Store c.each_bin.new.conn in
-    let late : HasCleanDisk mid = omega (arith, clean, c.each_bin.ensures.survives.clean) in
+    let new = state g.S.Store c.each.new.conn in
+    let late : HasCleanDisk mid = omega (arith, clean, c.each.ensures.survives.clean) in
     let same = c.in_ok-find_open_outside.ensures.open late in
     let books = books_on first acts old mid held same in
-    let rows = subst (λ (t : Tables). AreByBin t l (stock_rows first acts l history)) (sym books.rows.tables) (bins_by_name first acts l history) in
-    handed_all first acts g.K.Sink.takes g.K.Sink.stops (bins_of_lot first acts l) c.args.sink.now c.each_bin.new.sink old mid new (left_keeps first acts old mid held (inl same))
-    (bins_handed first acts l history g.K.Sink.takes g.K.Sink.stops c.args.sink.now c.each_bin.new.sink (Ok tt) (c.in-Ok.ensures.handed clean books.ready books.rows.typed (stock_rows first acts l history) rows)) (c.in-Ok.ensures.left clean books.ready)
+    handed_all first acts g.K.Sink.takes g.K.Sink.stops (g.R.LotRows.told first acts l) c.args.sink.now c.each.new.sink old mid new (left_keeps first acts old mid held (inl same))
+    (c.in-Ok.ensures.handed clean first acts history books) (c.in-Ok.ensures.left clean books.ready)
 
 pub returns-in-Ok-clause-survives : goal.returns-in-Ok-clause-survives
 returns-in-Ok-clause-survives g c =
-    never_commits_on (state g.S.Store c.args.conn.now) (state g.S.Store c.find_open_outside.new.conn) (state g.S.Store c.each_bin.new.conn) c.find_open_outside.ensures.survives c.each_bin.ensures.survives (λ late. c.in_ok-find_open_outside.ensures.open late)
+    never_commits_on (state g.S.Store c.args.conn.now) (state g.S.Store c.find_open_outside.new.conn) (state g.S.Store c.each.new.conn) c.find_open_outside.ensures.survives c.each.ensures.survives (λ late. c.in_ok-find_open_outside.ensures.open late)
 
 pub returns-in-Err-clause-handed : goal.returns-in-Err-clause-handed
 returns-in-Err-clause-handed g c clean first acts history held =
     let l = c.args.lot.now in
     let old = state g.S.Store c.args.conn.now in
     let mid = state g.S.Store c.find_open_outside.new.conn in
-    let new = state g.S.Store c.each_bin.new.conn in
-    let late : HasCleanDisk mid = omega (arith, clean, c.each_bin.ensures.survives.clean) in
+    let new = state g.S.Store c.each.new.conn in
+    let late : HasCleanDisk mid = omega (arith, clean, c.each.ensures.survives.clean) in
     let same = c.in_ok-find_open_outside.ensures.open late in
     let books = books_on first acts old mid held same in
-    let rows = subst (λ (t : Tables). AreByBin t l (stock_rows first acts l history)) (sym books.rows.tables) (bins_by_name first acts l history) in
     rw c.from.ensures
-    (handed_some first acts g.K.Sink.takes g.K.Sink.stops (bins_of_lot first acts l) c.args.sink.now c.each_bin.new.sink old mid new c.in-Err.fault (left_keeps first acts old mid held (inl same))
-    (bins_handed first acts l history g.K.Sink.takes g.K.Sink.stops c.args.sink.now c.each_bin.new.sink (Err c.in-Err.fault) (c.in-Err.ensures.handed clean books.ready books.rows.typed (stock_rows first acts l history) rows)) (c.in-Err.ensures.left clean books.ready))
+    (handed_some first acts g.K.Sink.takes g.K.Sink.stops (g.R.LotRows.told first acts l) c.args.sink.now c.each.new.sink old mid new c.in-Err.fault (left_keeps first acts old mid held (inl same))
+    (c.in-Err.ensures.handed clean first acts history books) (c.in-Err.ensures.left clean books.ready))
 
 pub returns-in-Err-clause-survives : goal.returns-in-Err-clause-survives
 returns-in-Err-clause-survives g c =
-    never_commits_on (state g.S.Store c.args.conn.now) (state g.S.Store c.find_open_outside.new.conn) (state g.S.Store c.each_bin.new.conn) c.find_open_outside.ensures.survives c.each_bin.ensures.survives (λ late. c.in_ok-find_open_outside.ensures.open late)
+    never_commits_on (state g.S.Store c.args.conn.now) (state g.S.Store c.find_open_outside.new.conn) (state g.S.Store c.each.new.conn) c.find_open_outside.ensures.survives c.each.ensures.survives (λ late. c.in_ok-find_open_outside.ensures.open late)
 
 pub returns-in_err-find_open_outside-clause-stays : goal.returns-in_err-find_open_outside-clause-stays
 returns-in_err-find_open_outside-clause-stays g c clean at =
@@ -63,14 +56,14 @@ pub returns-in-Ok-clause-stays : goal.returns-in-Ok-clause-stays
 returns-in-Ok-clause-stays g c clean at =
     let old = state g.S.Store c.args.conn.now in
     let mid = state g.S.Store c.find_open_outside.new.conn in
-    let new = state g.S.Store c.each_bin.new.conn in
-    let late : HasCleanDisk mid = omega (arith, clean, c.each_bin.ensures.survives.clean) in
+    let new = state g.S.Store c.each.new.conn in
+    let late : HasCleanDisk mid = omega (arith, clean, c.each.ensures.survives.clean) in
     handed_stays old mid new (Ok tt) at (c.in_ok-find_open_outside.ensures.open late) (c.in-Ok.ensures.left clean)
 
 pub returns-in-Err-clause-stays : goal.returns-in-Err-clause-stays
 returns-in-Err-clause-stays g c clean at =
     let old = state g.S.Store c.args.conn.now in
     let mid = state g.S.Store c.find_open_outside.new.conn in
-    let new = state g.S.Store c.each_bin.new.conn in
-    let late : HasCleanDisk mid = omega (arith, clean, c.each_bin.ensures.survives.clean) in
+    let new = state g.S.Store c.each.new.conn in
+    let late : HasCleanDisk mid = omega (arith, clean, c.each.ensures.survives.clean) in
     handed_stays old mid new (Err c.in-Err.fault) at (c.in_ok-find_open_outside.ensures.open late) (c.in-Err.ensures.left clean)
