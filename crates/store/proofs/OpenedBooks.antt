@@ -111,7 +111,7 @@ older_day older trees first acts rows =
       found = ap (option_map (λ (m : MetaRow). m.day)) same;
     }
 
-third_day : (trees : Trees) (first : ℤ) (acts : List Act) → AreThirdRowsOf first acts trees → HasDayAt third_number trees (today first acts)
+pub third_day : (trees : Trees) (first : ℤ) (acts : List Act) → AreThirdRowsOf first acts trees → HasDayAt third_number trees (today first acts)
 unfolding tables_of
 third_day trees first acts rows = record {
   typed = typed_among (λ r. is_meta_at third_number r ≡ true) (λ r. is_the_number 1 (column r 0)) (trees meta_tree) rows.typed.0;
@@ -269,7 +269,7 @@ goes_on First first acts old = first_books_go_on first acts old
 goes_on Second first acts old = second_books_go_on first acts old
 
 -- rows that were kept are those of the acts, and so are those that came of older ones
-rows_come : (found : Found) (before after : Trees) (first : ℤ) (acts : List Act) → ComesTo found before after → AreRowsAt found first acts before → AreRowsOf first acts after
+pub rows_come : (found : Found) (before after : Trees) (first : ℤ) (acts : List Act) → ComesTo found before after → AreRowsAt found first acts before → AreRowsOf first acts after
 rows_come Newest before after first acts (inl kept) (inl rows) = record { tables = tables_same before after kept.rows ∙ rows.tables; typed = typed_same before after kept.rows rows.typed }
 rows_come Newest before after first acts (inr raised) (inr rows) = record { tables = raised.tables ∙ rows.tables; typed = raised.typed rows.typed }
 rows_come Newest before after first acts (inl kept) (inr rows) = absurd (no_day SCHEMA_VERSION third_number refl before kept.day rows.typed.0 kept.has)

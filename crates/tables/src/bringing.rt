@@ -156,8 +156,9 @@ fn write_new<S: Alter>(
     add_all::<Least, S>(tx, least)
 }
 
-/// Makes of the tables of these books those of the newest, with their indexes; the business day in them.
-fn bring<S: Alter>(
+/// Makes of the tables of these books those of the newest, with their indexes; the business day in them. `Foreign` where the
+/// row of `meta` is missing or has a value that no row has, or, from schema 1, an item has one.
+pub fn bring<S: Alter>(
     alloc: Global,
     tx: &mut Transaction<'_, S>,
     older: OlderBooks,

@@ -1,4 +1,4 @@
-use Rattle.std.proofs.Common.{◌≡◌, Some, None, sym, subst}
+use Rattle.std.proofs.Common.{Some, sym, subst}
 use Rattle.sqlite.specs.Held.{state}
 use Rattle.table_words.specs.Typed.{tables_in}
 use Rattle.history_tables.specs.Cards.{cards}

@@ -1,18 +1,13 @@
-use Rattle.std.proofs.Common.{◌≡◌, List, IfOk, Err, refl, sym, subst}
+use Rattle.std.proofs.Common.{◌≡◌, IfOk, sym, subst}
 use Rattle.sqlite.specs.Held.{state}
 use Rattle.sqlite.specs.Effect.{Database}
-use Rattle.sqlite.specs.State.{State, HasCleanDisk}
-use Rattle.commands.specs.declared.rows.RepeatRow.{RepeatRow}
+use Rattle.sqlite.specs.State.{HasCleanDisk}
 use Rattle.table_words.specs.Steps.{IsReady}
 use Rattle.table_words.specs.Typed.{tables_in}
-use Rattle.table_words.specs.declared.error.TableFault.TheVariants.{Foreign}
-use Rattle.same_rows.specs.declared.key.TableName.TheVariants as table
 use Rattle.history_tables.specs.Repeats.{repeats}
-use Rattle.keyed_rows.specs.Reads.{Finds}
-use Rattle.whole_tables.specs.Whole.{AreAll, rows_of}
+use Rattle.whole_tables.specs.Whole.{AreAll}
 use Rattle.audits.specs.Auditing.{SaysIn}
 use Rattle.audits.proofs.Telling.{earlier}
-use Rattle.audits.proofs.Findings.{says_untyped}
 use Rattle.audits.proofs.whole.audit_inside.Goals as goal
 
 pub returns-clause-found : goal.returns-clause-found

@@ -1,12 +1,7 @@
-use Rattle.std.proofs.Common.{◌≡◌, List, Ok, Err, Some, None, Option, Result, refl, sym, ap, subst, ◌∙◌}
-use Rattle.std.specs.Prelude.{ℤ}
+use Rattle.std.proofs.Common.{Ok, Err, Some, None, refl, sym, ap, subst, ◌∙◌}
 use Rattle.sqlite.specs.Held.{state}
-use Rattle.sqlite.specs.State.{State, HasCleanDisk}
 use Rattle.sqlite.specs.Steps.{over_memory}
-use Rattle.table_words.specs.Steps.{IsReady}
-use Rattle.machine.specs.Acts.{Act}
 use Rattle.slices.specs.Books.{IsBooksOf}
-use Rattle.same_rows.specs.declared.key.RowKey.{RowKey}
 use Rattle.audits.specs.Comparing.{SameTables, AreSeen, Tells}
 use Rattle.audits.proofs.Memory.{memory_clean}
 use Rattle.audits.proofs.Findings.{held_same, held_other, held_untyped}
