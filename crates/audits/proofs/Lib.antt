@@ -3,3 +3,4 @@ pub mod Tables
 pub mod Memory
 pub mod Beginning
 pub mod Findings
+pub mod Raised

@@ -9,11 +9,8 @@ use Rattle.sqlite_trees.specs.declared.store.Store.{Ghosts}
 use Rattle.sqlite_trees.specs.View.{doubt}
 use Rattle.commands.specs.declared.rows.RepeatRow.{RepeatRow}
 use Rattle.table_words.specs.Typed.{tables_in, Keeps}
-use Rattle.tables.specs.Bringing.{IsBrought}
-use Rattle.tables.specs.Opening.{HasSchema, IsClosed}
-use Rattle.tables.specs.Settling.{IsRaised}
+use Rattle.tables.specs.Opening.{HasSchema, ComesTo, IsClosed}
 use Rattle.tables.specs.declared.opening.Found.{Found}
-use Rattle.tables.specs.declared.opening.Found.TheVariants.{Newest, Older}
 use Rattle.tables.specs.declared.opening.Leftover.{Leftover}
 use Rattle.tables.specs.declared.opening.Leftover.TheVariants as left
 use Rattle.machine.specs.Acts.{Act}
@@ -107,18 +104,17 @@ Says AreOf given trees (Refused act why) = AreOfNone AreOf given
 abbrev pub SaysIn : Trees → Option ℤ → Finding → Type 0
 SaysIn trees given f = Says (λ day acts. AreRowsOf day acts trees) given trees f
 
--- the newest tables that those of older books come to
-abbrev pub AreRaised : Found → Trees → Trees → Type 0
-AreRaised Newest old new = IsRaised old new
-AreRaised (Older older) old new = IsBrought older old new
+-- what is found of stored tables of these books: the tables that are compared are those, or the newest, which come of them
+pub record IsFound (found : Found) (given : Option ℤ) (trees : Trees) (f : Finding) : Type 0 where
+  pub compared : Trees
+  pub are : (compared ≡ trees) ⊎ ComesTo found trees compared
+  pub says : Says (λ day acts. AreRowsAt found day acts trees) given compared f
 
--- the schema is that of these books; the tables that are compared are the stored ones, or what they come to
+-- the schema is that of some books, and so is found of what is committed
 pub record IsFinding (given : Option ℤ) (old : State) (f : Finding) : Type 0 where
   pub found : Found
   pub schema : HasSchema found old.now.schema
-  pub compared : Trees
-  pub are : (compared ≡ old.committed.trees) ⊎ AreRaised found old.committed.trees compared
-  pub says : Says (λ day acts. AreRowsAt found day acts old.committed.trees) given compared f
+  pub finding : IsFound found given old.committed.trees f
 
 -- What is left
 

@@ -1,3 +1,4 @@
 pub mod Comparing
 pub mod Beginning
+pub mod Raising
 pub mod Auditing

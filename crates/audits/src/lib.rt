@@ -4,6 +4,7 @@
 mod begun;
 mod comparing;
 mod finding;
+mod raising;
 mod replayed;
 mod whole;
 

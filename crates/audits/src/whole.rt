@@ -15,11 +15,13 @@ ghost use Rattle.tables.specs.Opening.{IsOfNone, IsReadyAs};
 ghost use Rattle.whole_tables.specs.Whole.{AreAll};
 ghost use Rattle.replays.specs.Spelled.{AreRepeats};
 ghost use Rattle.audits.specs.Comparing.{IsUnread};
-ghost use Rattle.audits.specs.Auditing.{IsHeld, SaysIn, IsFinding, IsLeftAlone};
+ghost use Rattle.audits.specs.Raising.{IsBegunOver};
+ghost use Rattle.audits.specs.Auditing.{IsHeld, SaysIn, IsFound, IsFinding, IsLeftAlone};
 
 use crate::begun::{Begun, first_day};
 use crate::comparing::compare_tables;
 use crate::finding::{Finding, Unread};
+use crate::raising::raise;
 use crate::replayed::act_rows;
 use commands::RepeatRow;
 use history_tables::repeats::Repeats;
@@ -157,27 +159,26 @@ fn audit_inside<S: Alter, P: Progress>(
     audit_rows(alloc, tx, given, &mut rows, progress)
 }
 
-/// The audit over a connection, in a transaction of its own that is rolled back.
-fn audit_open<S: Alter, P: Progress>(
+/// The audit within a transaction over these books, whose tables are made the newest first.
+fn audit_raised<S: Alter, P: Progress>(
     alloc: Global,
-    conn: &mut Connection<S>,
+    tx: &mut Transaction<'_, S>,
+    found: Found,
     given: Option<BusinessDay>,
     progress: &mut P,
 ) -> Result<Finding, Fault>
-    requires outside { conn.old.in_transaction ≡ false }
-    ensures outside { conn.new.in_transaction ≡ false }
-    ensures found { HasCleanDisk (state S.Store conn.new) → IsReady (state S.Store conn.old).now → IfOk result (SaysIn (state S.Store conn.old).now.trees given) }
-    ensures survives { Survives (state S.Store conn.old) (state S.Store conn.new) (λ _. ⊥) }
+    ensures same_reference { tx.new.conn.ghost_name ≡ tx.old.conn.ghost_name }
+    ensures found { HasCleanDisk (state S.Store tx.new.conn.now) → (base : Trees) → IsBegunOver found base (state S.Store tx.old.conn.now) → IfOk result (IsFound found given base) }
+    ensures survives { Survives (state S.Store tx.old.conn.now) (state S.Store tx.new.conn.now) (λ _. ⊥) }
 {
-    let _outside = conn.is_autocommit();
-    let mut tx = conn.transaction();
-    let finding = audit_inside(alloc, &mut tx, given, progress);
-    tx.rollback();
-    finding
+    match raise(alloc, tx, found) {
+        Ok(()) => audit_inside(alloc, tx, given, progress),
+        Err(fault) => Err(Fault::from(fault)),
+    }
 }
 
-/// The audit of books that were found.
-fn audit_found<S: Alter, P: Progress>(
+/// The audit over a connection to these books, in a transaction of its own that is rolled back.
+fn audit_open<S: Alter, P: Progress>(
     alloc: Global,
     conn: &mut Connection<S>,
     found: Found,
@@ -186,13 +187,14 @@ fn audit_found<S: Alter, P: Progress>(
 ) -> Result<Finding, Fault>
     requires outside { conn.old.in_transaction ≡ false }
     ensures outside { conn.new.in_transaction ≡ false }
-    ensures found { HasCleanDisk (state S.Store conn.new) → IsReadyAs found (state S.Store conn.old).now → IfOk result (SaysIn (state S.Store conn.old).now.trees given) }
+    ensures found { HasCleanDisk (state S.Store conn.new) → IsReadyAs found (state S.Store conn.old).now → IfOk result (IsFound found given (state S.Store conn.old).now.trees) }
     ensures survives { Survives (state S.Store conn.old) (state S.Store conn.new) (λ _. ⊥) }
 {
-    match found {
-        Found::Newest => audit_open(alloc, conn, given, progress),
-        Found::Older(_) => Err(Fault::Foreign),
-    }
+    let _outside = conn.is_autocommit();
+    let mut tx = conn.transaction();
+    let finding = audit_raised(alloc, &mut tx, found, given, progress);
+    tx.rollback();
+    finding
 }
 
 /// Holds the tables of the books over this connection against the acts that their `repeats` spells: does the acts again, the
@@ -201,7 +203,7 @@ fn audit_found<S: Alter, P: Progress>(
 /// of the first receipt in its lot's card, where no act opens a day before it; or else the day before the first that was
 /// opened. Books of an older schema are compared as they would be brought up. `Sound` exactly where the tables are those of
 /// the acts, and else the first difference, as far as memory and the disk suffice. No row is changed, and nothing is
-/// committed. `Foreign` where the tables are not those of books.
+/// committed. `Foreign` where the tables are not those of books, and where those of an older schema could not be brought up.
 pub fn audit<S: Alter + Drop, P: Progress>(
     alloc: Global,
     conn: Connection<S>,
@@ -217,6 +219,6 @@ pub fn audit<S: Alter + Drop, P: Progress>(
         Ok(opened) => opened,
         Err((left, fault)) => return (left, Err(Fault::from(fault))),
     };
-    let finding = audit_found(alloc, &mut again, found, given, progress);
+    let finding = audit_open(alloc, &mut again, found, given, progress);
     (Leftover::Connection(again), finding)
 }

@@ -4,7 +4,6 @@ use Rattle.sqlite.specs.Effect.{Database}
 use Rattle.sqlite.specs.State.{HasCleanDisk}
 use Rattle.table_words.specs.Steps.{IsReady}
 use Rattle.table_words.specs.Typed.{tables_in}
-use Rattle.same_rows.specs.declared.key.TableName.TheVariants as table
 use Rattle.history_tables.specs.Repeats.{repeats}
 use Rattle.whole_tables.specs.Whole.{AreAll}
 use Rattle.audits.specs.Auditing.{SaysIn}

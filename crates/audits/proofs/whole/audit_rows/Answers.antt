@@ -1,4 +1,4 @@
-use Rattle.std.proofs.Common.{IfOk, Some, None, refl, sym, subst}
+use Rattle.std.proofs.Common.{IfOk, refl, sym, subst}
 use Rattle.std.proofs.lemmas.Option.{none-some}
 use Rattle.sqlite.specs.Held.{state}
 use Rattle.table_words.specs.Typed.{tables_in}

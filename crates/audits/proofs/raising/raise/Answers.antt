@@ -1,0 +1,21 @@
+use Rattle.std.proofs.Common.{OnOk, sym, subst}
+use Rattle.sqlite.specs.Held.{state}
+use Rattle.table_words.proofs.CallLemmas.{on_ok_then}
+use Rattle.tables.specs.declared.opening.Found.{Found}
+use Rattle.audits.specs.Raising.{IsBegunOver, AreShown}
+use Rattle.audits.proofs.Raised.{shown_newest, shown_brought}
+use Rattle.audits.proofs.raising.raise.Goals as goal
+
+pub returns-in-Newest-clause-shown : goal.returns-in-Newest-clause-shown
+returns-in-Newest-clause-shown g c = λ clean base begun.
+    let o = state g.S.Store c.args.tx.now.conn.now in
+    let n = state g.S.Store c.raise_number.new.tx.conn.now in
+    let is = subst (λ (f : Found). IsBegunOver f base o) c.in-Newest.is begun in
+    subst (λ (f : Found). OnOk c.raise_number.result (AreShown f base n)) (sym c.in-Newest.is) (on_ok_then c.raise_number.result (c.raise_number.ensures.shown clean is.0) (shown_newest base o n is.1))
+
+pub returns-in-Ok-clause-shown : goal.returns-in-Ok-clause-shown
+returns-in-Ok-clause-shown g c = λ clean base begun.
+    let o = state g.S.Store c.args.tx.now.conn.now in
+    let n = state g.S.Store c.bring.new.tx.conn.now in
+    let is = subst (λ (f : Found). IsBegunOver f base o) c.in-Older.is begun in
+    subst (λ (f : Found). AreShown f base n) (sym c.in-Older.is) (shown_brought c.in-Older.older base n (c.in-Ok.ensures.done clean base is))

@@ -1,0 +1,21 @@
+use Rattle.std.proofs.Common.{sym, subst, arith}
+use Rattle.sqlite.specs.Held.{state}
+use Rattle.sqlite.specs.State.{HasCleanDisk}
+use Rattle.table_words.specs.Steps.{IsReady}
+use Rattle.audits.proofs.Raised.{shown_still, shown_raised, on_ok_both}
+use Rattle.audits.proofs.raising.raise_number.Goals as goal
+
+pub returns-in-Ok-clause-shown : goal.returns-in-Ok-clause-shown
+returns-in-Ok-clause-shown g c = λ clean ready.
+    let old = state g.S.Store c.args.tx.now.conn.now in
+    let mid = state g.S.Store c.meta_row_at.new.tx.conn.now in
+    let new = state g.S.Store c.raise_meta.new.tx.conn.now in
+    let was : HasCleanDisk mid = omega (arith, clean, c.raise_meta.ensures.survives.clean) in
+    let same = c.in-Ok.ensures.same was ready in
+    let again = subst IsReady (sym same.0.now_is) ready in
+    on_ok_both c.raise_meta.result _ _ _ _ (c.raise_meta.ensures.done clean again) (c.raise_meta.ensures.typed clean again 3) (shown_raised old mid new c.in-Ok.row (c.in-Ok.ensures.row was ready) same)
+
+pub returns-in-Err-Foreign-clause-shown : goal.returns-in-Err-Foreign-clause-shown
+returns-in-Err-Foreign-clause-shown g c = λ clean ready.
+    let none = c.in-Err-Foreign.ensures in
+    shown_still (state g.S.Store c.args.tx.now.conn.now) (state g.S.Store c.meta_row_at.new.tx.conn.now) ready (none.still clean ready c.in-Err-Foreign.field-0-is) (none.foreign clean ready c.in-Err-Foreign.field-0-is)
