@@ -5,6 +5,7 @@ use crate::disk::{after_lines, run_lines_after};
 use crate::files::Pair;
 use crate::lines::{HISTORY, Line, Turn};
 use crate::old_files::{first_books, second_books, third_books};
+use std::process::Abort;
 
 // Each change is undone before the next.
 static AUDITS: [Turn; 36] = [
@@ -91,8 +92,8 @@ fn an_audit_finds_later_acts_too(rt: HostRuntime) {
 
 static OLDER: [Turn; 1] = [Turn::Sound("audited 21 acts from 2026-05-04\n")];
 
-fn stays(rt: &HostRuntime, files: Pair) {
-    let left = after_lines(rt, rt, &files, OLDER.as_slice());
+fn stays(host: &HostRuntime, rt: &impl Abort, files: Pair) {
+    let left = after_lines(host, rt, &files, OLDER.as_slice());
     let is_kept = left.is_same_database(&files);
     drop(left);
     drop(files);
@@ -101,7 +102,7 @@ fn stays(rt: &HostRuntime, files: Pair) {
 
 #[test]
 fn an_audit_leaves_older_books_as_they_are(rt: HostRuntime) {
-    stays(&rt, first_books(&rt, rt.alloc()));
-    stays(&rt, second_books(&rt, rt.alloc()));
-    stays(&rt, third_books(&rt, rt.alloc()));
+    stays(&rt, &rt, first_books(&rt, rt.alloc()));
+    stays(&rt, &rt, second_books(&rt, rt.alloc()));
+    stays(&rt, &rt, third_books(&rt, rt.alloc()));
 }
