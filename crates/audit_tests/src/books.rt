@@ -20,6 +20,8 @@ use tables::opening::Leftover;
 pub(crate) enum Trial<'a> {
     /// The acts are done, and the audit says this.
     Sound(&'a [Part], &'a str),
+    /// Likewise, where this day is given as the first, or none is.
+    Begun(&'a [Part], Option<&'a str>, &'a str),
     /// Of the line `SQL => WORDS` the SQL is run after the week's acts, and the audit says these words, whether the first
     /// day is given or not. A bar stands for a line feed.
     Changed(&'a str),
@@ -38,9 +40,13 @@ impl Progress for Untold {
     fn done(&mut self, _: u64, _: u64) {}
 }
 
-fn first_day(rt: &impl Abort) -> BusinessDay {
-    let day = Day::parse(b"2026-05-04").expect(rt, "a day");
+fn business_day(rt: &impl Abort, text: &str) -> BusinessDay {
+    let day = Day::parse(text.as_bytes()).expect(rt, "a day");
     BusinessDay::new(day).expect(rt, "a business day")
+}
+
+fn first_day(rt: &impl Abort) -> BusinessDay {
+    business_day(rt, "2026-05-04")
 }
 
 fn parted<'a>(rt: &impl Abort, text: &'a str, at: &str) -> (&'a str, &'a str) {
@@ -197,6 +203,19 @@ fn sound<S: Alter + Drop>(
     says_always(rt, alloc, conn, expected)
 }
 
+fn begun<S: Alter + Drop>(
+    rt: &impl Abort,
+    alloc: Global,
+    conn: Connection<S>,
+    parts: &[Part],
+    given: Option<&str>,
+    expected: &str,
+) -> Connection<S> {
+    let conn = worked(rt, alloc, conn, parts);
+    let day = given.map(|text| business_day(rt, text));
+    says(rt, alloc, conn, day, expected)
+}
+
 /// The spelling of an act of the week.
 fn spelling(rt: &impl Abort, alloc: Global, number: u32) -> String {
     let line = Part::Weeks.lines().nth(number.saturating_sub(1) as usize);
@@ -275,6 +294,7 @@ fn tried<S: Alter + Drop>(
 ) -> Connection<S> {
     match trial {
         Trial::Sound(parts, expected) => sound(rt, alloc, conn, parts, expected),
+        Trial::Begun(parts, given, expected) => begun(rt, alloc, conn, parts, given, expected),
         Trial::Changed(line) => says_of_change(rt, alloc, conn, line),
         Trial::Given(line) => says_given(rt, alloc, conn, line),
         Trial::Bytes(number) => notices_bytes(rt, alloc, conn, number),

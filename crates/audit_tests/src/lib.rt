@@ -13,6 +13,8 @@ mod parts;
 #[cfg(test)]
 mod rows;
 #[cfg(test)]
+mod starting_days;
+#[cfg(test)]
 mod told;
 #[cfg(test)]
 mod worked;

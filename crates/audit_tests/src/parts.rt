@@ -29,6 +29,8 @@ pub(crate) enum Part {
     StagedReturns,
     ServedFirst,
     StagesStay,
+    /// A day is opened before anything is received.
+    OpenedFirst,
 }
 
 impl Part {
@@ -57,6 +59,7 @@ impl Part {
             Part::StagedReturns => STAGED_RETURNS,
             Part::ServedFirst => SERVED_FIRST,
             Part::StagesStay => STAGES_STAY,
+            Part::OpenedFirst => OPENED_FIRST,
         }
     }
 }
@@ -164,3 +167,8 @@ K/K-14|CANCEL|S-3";
 static STAGES_STAY: &str = "K/K-13|URGENT|S-3|Mill Inn|09506000134352|10
 K/K-14|PICK|S-3|09506000134352|L1|A-01|7
 K/K-15|SHIP|S-3";
+
+static OPENED_FIRST: &str = "K/I-1|ITEM|09506000134352|Oat drink
+K/O-1|OPENDAY|2026-05-06
+K/B-1|BIN|A-01|STORE
+D/D-1/1|RECEIVE|09506000134352|L1|2026-06-30|A-01|10";
