@@ -1,6 +1,18 @@
-//! The tests of audits: books in memory are held against their acts as they are, and with a row changed, taken out or added
-//! by SQL.
+//! The tests of audits: books in memory are held against their acts as they are, and with values changed, rows taken out
+//! and put in, and acts changed by SQL.
 #![tactic(auto)]
 
 #[cfg(test)]
-mod changed_rows;
+mod acts;
+#[cfg(test)]
+mod books;
+#[cfg(test)]
+mod columns;
+#[cfg(test)]
+mod parts;
+#[cfg(test)]
+mod rows;
+#[cfg(test)]
+mod told;
+#[cfg(test)]
+mod worked;

@@ -1,0 +1,296 @@
+//! Books in memory in which acts were done, changed by SQL, and audited.
+
+use crate::parts::Part;
+use crate::told::words;
+use audits::{Finding, audit};
+use commands::{Command, Key};
+use label::{BusinessDay, Day};
+use replays::Progress;
+use spellings::{parse, parse_key};
+use sqlite::types::ValueRef;
+use sqlite::{Alter, Connection};
+use std::alloc::Global;
+use std::process::Abort;
+use std::str::Lines;
+use store::{Books, Fault};
+use tables::opening::Leftover;
+
+/// What is tried over new books of 2026-05-04.
+#[derive(Clone, Copy)]
+pub(crate) enum Trial<'a> {
+    /// The acts are done, and the audit says this.
+    Sound(&'a [Part], &'a str),
+    /// Of the line `SQL => WORDS` the SQL is run after the week's acts, and the audit says these words, whether the first
+    /// day is given or not. A bar stands for a line feed.
+    Changed(&'a str),
+    /// Likewise, where the first day is given.
+    Given(&'a str),
+    /// After the week's acts each byte of the spelling of the act of this number becomes another, one at a time, and each
+    /// time the audit tells of it.
+    Bytes(usize),
+}
+
+/// Nobody is told of the acts.
+#[derive(Drop)]
+struct Untold;
+
+impl Progress for Untold {
+    fn done(&mut self, _: u64, _: u64) {}
+}
+
+fn first_day(rt: &impl Abort) -> BusinessDay {
+    let day = Day::parse(b"2026-05-04").expect(rt, "a day");
+    BusinessDay::new(day).expect(rt, "a business day")
+}
+
+fn parted<'a>(rt: &impl Abort, text: &'a str, at: &str) -> (&'a str, &'a str) {
+    text.split_once(at).expect(rt, "two parts")
+}
+
+// The text with a line feed for each bar.
+fn with_line_feeds(rt: &impl Abort, alloc: Global, text: &str) -> String {
+    text.replace(alloc, '|', "\n").ok().expect(rt, "memory")
+}
+
+fn command(rt: &impl Abort, alloc: Global, fields: &str) -> Command {
+    let spelling = with_line_feeds(rt, alloc, fields);
+    let found = parse(alloc, spelling.as_bytes()).expect(rt, "memory");
+    found.expect(rt, "a command")
+}
+
+fn key(rt: &impl Abort, alloc: Global, text: &str) -> Key {
+    let found = parse_key(alloc, text.as_bytes()).expect(rt, "memory");
+    found.expect(rt, "a key")
+}
+
+fn act<S: Alter>(rt: &impl Abort, alloc: Global, books: &mut Books<S>, line: &str) {
+    let (text, fields) = parted(rt, line, "|");
+    let key = key(rt, alloc, text);
+    let command = command(rt, alloc, fields);
+    let reply = books.act(&key, &command);
+    drop(command);
+    assert!(rt; !reply.expect(rt, "an act").repeated, "{line:?}");
+}
+
+fn acts<S: Alter>(rt: &impl Abort, alloc: Global, books: &mut Books<S>, lines: Lines<'static>) {
+    for line in lines {
+        act(rt, alloc, books, line);
+    }
+}
+
+fn new_books<S: Alter + Drop>(rt: &impl Abort, alloc: Global, conn: Connection<S>) -> Books<S> {
+    assert!(rt; conn.is_autocommit());
+    match Books::create(alloc, conn, first_day(rt)) {
+        Ok(books) => books,
+        Err(_) => panic!(rt; "no books were made"),
+    }
+}
+
+/// The connection of new books in which these acts were done.
+fn worked<S: Alter + Drop>(
+    rt: &impl Abort,
+    alloc: Global,
+    conn: Connection<S>,
+    parts: &[Part],
+) -> Connection<S> {
+    let mut books = new_books(rt, alloc, conn);
+    for part in parts {
+        acts(rt, alloc, &mut books, part.lines());
+    }
+    books.close()
+}
+
+/// What the audit finds, and the connection.
+fn audited<S: Alter + Drop>(
+    rt: &impl Abort,
+    alloc: Global,
+    conn: Connection<S>,
+    given: Option<BusinessDay>,
+) -> (Connection<S>, Result<Finding, Fault>) {
+    assert!(rt; conn.is_autocommit());
+    let (left, found) = audit(alloc, conn, given, &mut Untold);
+    match left {
+        Leftover::Connection(conn) => (conn, found),
+        Leftover::Store(_) => panic!(rt; "the connection is lost"),
+    }
+}
+
+// Whether it is said, where several may be.
+fn may_be(said: &[u8], expected: &str) -> bool {
+    expected.split(" or ").any(|words| words.as_bytes() == said)
+}
+
+/// The audit says this.
+fn says<S: Alter + Drop>(
+    rt: &impl Abort,
+    alloc: Global,
+    conn: Connection<S>,
+    given: Option<BusinessDay>,
+    expected: &str,
+) -> Connection<S> {
+    let (conn, found) = audited(rt, alloc, conn, given);
+    let said = words(rt, alloc, &found);
+    assert!(rt;
+        may_be(said.as_slice(), expected),
+        "{expected:?}: {found:?}"
+    );
+    conn
+}
+
+/// The audit says this, whether the first day is given or is to be found.
+fn says_always<S: Alter + Drop>(
+    rt: &impl Abort,
+    alloc: Global,
+    conn: Connection<S>,
+    expected: &str,
+) -> Connection<S> {
+    let conn = says(rt, alloc, conn, Some(first_day(rt)), expected);
+    says(rt, alloc, conn, None, expected)
+}
+
+fn run<S: Alter>(rt: &impl Abort, alloc: Global, conn: &mut Connection<S>, sql: &str) {
+    let text = with_line_feeds(rt, alloc, sql);
+    assert!(rt; conn.execute_batch(text.as_str()).is_ok(), "{sql:?}");
+}
+
+/// The books after the week's acts and the change, and what the audit is to say.
+fn changed<'a, S: Alter + Drop>(
+    rt: &impl Abort,
+    alloc: Global,
+    conn: Connection<S>,
+    line: &'a str,
+) -> (Connection<S>, &'a str) {
+    let (sql, expected) = parted(rt, line, " => ");
+    let mut conn = worked(rt, alloc, conn, &[Part::Weeks]);
+    run(rt, alloc, &mut conn, sql);
+    (conn, expected)
+}
+
+fn says_of_change<S: Alter + Drop>(
+    rt: &impl Abort,
+    alloc: Global,
+    conn: Connection<S>,
+    line: &str,
+) -> Connection<S> {
+    let (conn, expected) = changed(rt, alloc, conn, line);
+    says_always(rt, alloc, conn, expected)
+}
+
+fn says_given<S: Alter + Drop>(
+    rt: &impl Abort,
+    alloc: Global,
+    conn: Connection<S>,
+    line: &str,
+) -> Connection<S> {
+    let (conn, expected) = changed(rt, alloc, conn, line);
+    says(rt, alloc, conn, Some(first_day(rt)), expected)
+}
+
+fn sound<S: Alter + Drop>(
+    rt: &impl Abort,
+    alloc: Global,
+    conn: Connection<S>,
+    parts: &[Part],
+    expected: &str,
+) -> Connection<S> {
+    let conn = worked(rt, alloc, conn, parts);
+    says_always(rt, alloc, conn, expected)
+}
+
+/// The spelling of an act of the week.
+fn spelling(rt: &impl Abort, alloc: Global, number: usize) -> String {
+    let line = Part::Weeks.lines().nth(number.saturating_sub(1));
+    let (_, fields) = parted(rt, line.expect(rt, "an act"), "|");
+    with_line_feeds(rt, alloc, fields)
+}
+
+fn put_spelling<S: Alter>(
+    rt: &impl Abort,
+    conn: &mut Connection<S>,
+    number: usize,
+    spelling: &[u8],
+) {
+    let params = [ValueRef::Text(spelling), ValueRef::Int(number as i64)];
+    let changed = conn.execute("UPDATE repeats SET spell = ?1 WHERE act = ?2", &params);
+    assert!(rt; changed == Ok(1));
+}
+
+// An act whose spelling is another is spelled otherwise, or it is refused, or a later one is; or a row differs.
+fn is_noticed(found: &Result<Finding, Fault>, number: u64) -> bool {
+    match found {
+        Ok(Finding::Unspelled { act }) => *act == number,
+        Ok(Finding::Refused { act, .. }) => number <= *act,
+        Ok(Finding::Differs(_)) => true,
+        _ => false,
+    }
+}
+
+// The text, of which the byte at this place is another.
+fn damaged(rt: &impl Abort, alloc: Global, text: &[u8], at: usize) -> Vec<u8> {
+    let mut bytes = text.to_vec(alloc).expect(rt, "memory");
+    match bytes.get_mut(at) {
+        Some(byte) => *byte ^= 1,
+        None => panic!(rt; "no byte"),
+    }
+    bytes
+}
+
+fn notices_byte<S: Alter + Drop>(
+    rt: &impl Abort,
+    alloc: Global,
+    conn: Connection<S>,
+    number: usize,
+    spelling: &[u8],
+) -> Connection<S> {
+    let mut conn = conn;
+    put_spelling(rt, &mut conn, number, spelling);
+    let (conn, found) = audited(rt, alloc, conn, Some(first_day(rt)));
+    assert!(rt;
+        is_noticed(&found, number as u64),
+        "{spelling:?}: {found:?}"
+    );
+    conn
+}
+
+fn notices_bytes<S: Alter + Drop>(
+    rt: &impl Abort,
+    alloc: Global,
+    conn: Connection<S>,
+    number: usize,
+) -> Connection<S> {
+    let mut conn = worked(rt, alloc, conn, &[Part::Weeks]);
+    let text = spelling(rt, alloc, number);
+    for at in 0..text.len() {
+        let bytes = damaged(rt, alloc, text.as_bytes(), at);
+        conn = notices_byte(rt, alloc, conn, number, bytes.as_slice());
+    }
+    conn
+}
+
+fn tried<S: Alter + Drop>(
+    rt: &impl Abort,
+    alloc: Global,
+    conn: Connection<S>,
+    trial: Trial<'_>,
+) -> Connection<S> {
+    match trial {
+        Trial::Sound(parts, expected) => sound(rt, alloc, conn, parts, expected),
+        Trial::Changed(line) => says_of_change(rt, alloc, conn, line),
+        Trial::Given(line) => says_given(rt, alloc, conn, line),
+        Trial::Bytes(number) => notices_bytes(rt, alloc, conn, number),
+    }
+}
+
+/// Tries it over new books in memory.
+// The one function over the connection's own type: each takes long to check.
+pub(crate) fn in_memory(rt: &impl Abort, alloc: Global, trial: Trial<'_>) {
+    let conn = Connection::open_in_memory(alloc).expect(rt, "memory");
+    drop(tried(rt, alloc, conn, trial));
+}
+
+/// Tries each line of the text as a change.
+pub(crate) fn each_changed(rt: &impl Abort, alloc: Global, text: &str) {
+    for line in text.lines() {
+        in_memory(rt, alloc, Trial::Changed(line));
+    }
+}
