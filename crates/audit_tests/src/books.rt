@@ -27,7 +27,7 @@ pub(crate) enum Trial<'a> {
     Given(&'a str),
     /// After the week's acts each byte of the spelling of the act of this number becomes another, one at a time, and each
     /// time the audit tells of it.
-    Bytes(usize),
+    Bytes(u32),
 }
 
 /// Nobody is told of the acts.
@@ -198,8 +198,8 @@ fn sound<S: Alter + Drop>(
 }
 
 /// The spelling of an act of the week.
-fn spelling(rt: &impl Abort, alloc: Global, number: usize) -> String {
-    let line = Part::Weeks.lines().nth(number.saturating_sub(1));
+fn spelling(rt: &impl Abort, alloc: Global, number: u32) -> String {
+    let line = Part::Weeks.lines().nth(number.saturating_sub(1) as usize);
     let (_, fields) = parted(rt, line.expect(rt, "an act"), "|");
     with_line_feeds(rt, alloc, fields)
 }
@@ -207,10 +207,10 @@ fn spelling(rt: &impl Abort, alloc: Global, number: usize) -> String {
 fn put_spelling<S: Alter>(
     rt: &impl Abort,
     conn: &mut Connection<S>,
-    number: usize,
+    number: u32,
     spelling: &[u8],
 ) {
-    let params = [ValueRef::Text(spelling), ValueRef::Int(number as i64)];
+    let params = [ValueRef::Text(spelling), ValueRef::Int(i64::from(number))];
     let changed = conn.execute("UPDATE repeats SET spell = ?1 WHERE act = ?2", &params);
     assert!(rt; changed == Ok(1));
 }
@@ -239,14 +239,14 @@ fn notices_byte<S: Alter + Drop>(
     rt: &impl Abort,
     alloc: Global,
     conn: Connection<S>,
-    number: usize,
+    number: u32,
     spelling: &[u8],
 ) -> Connection<S> {
     let mut conn = conn;
     put_spelling(rt, &mut conn, number, spelling);
     let (conn, found) = audited(rt, alloc, conn, Some(first_day(rt)));
     assert!(rt;
-        is_noticed(&found, number as u64),
+        is_noticed(&found, u64::from(number)),
         "{spelling:?}: {found:?}"
     );
     conn
@@ -256,7 +256,7 @@ fn notices_bytes<S: Alter + Drop>(
     rt: &impl Abort,
     alloc: Global,
     conn: Connection<S>,
-    number: usize,
+    number: u32,
 ) -> Connection<S> {
     let mut conn = worked(rt, alloc, conn, &[Part::Weeks]);
     let text = spelling(rt, alloc, number);
