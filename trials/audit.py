@@ -8,8 +8,10 @@ are 100,000 acts in their place: how long an audit takes against the acts, and i
 Exit status 0 only if every line was as it must be.
 """
 import os
+import pty
 import random
 import re
+import resource
 import sqlite3
 import subprocess
 import sys
@@ -40,24 +42,23 @@ def run(*words):
 
 
 def bytes_of(db):
-    """The bytes of the file and of its log, where there are any."""
-    found = []
-    for name in (db, db + "-wal"):
-        if os.path.exists(name) and os.path.getsize(name):
-            with open(name, "rb") as file:
-                found.append(file.read())
-    return found
+    with open(db, "rb") as file:
+        return file.read()
+
+
+def has_log(db):
+    """Whether the log has a page that is not in the file yet. One in which nothing is left has a few bytes."""
+    return os.path.exists(db + "-wal") and 512 < os.path.getsize(db + "-wal")
 
 
 def audited(what, db, *words):
-    """What an audit tells, in one line. The file is as it was, byte for byte; or, where there was a log, its rows are."""
-    before = bytes_of(db)
-    rows = rows_of(db, room) if len(before) > 1 else None
+    """What an audit tells, in one line. The file is as it was, byte for byte; or each row is, where what its log holds is
+    copied into the file as it is closed."""
+    is_copied = has_log(db)
+    before = rows_of(db, room) if is_copied else bytes_of(db)
     status, printed, told = run("audit", "--db", db, *words)
-    if rows is None and bytes_of(db) != before:
-        fails(what, "the file as it was", "another")
-    if rows is not None and rows_of(db, room) != rows:
-        fails(what, "each row as it was", "others")
+    if (rows_of(db, room) if is_copied else bytes_of(db)) != before:
+        fails(what, "each row as it was" if is_copied else "the file as it was", "another")
     if status == 0 and told == "" and re.fullmatch(r"audited \d+ acts from \d{4}-\d\d-\d\d\n", printed):
         return printed[:-1]
     if status == 1 and printed == "" and re.fullmatch(r"lotd: [^\n]+\n", told):
@@ -138,7 +139,8 @@ def are_typed(table, rows):
 
 
 def differs(table, key):
-    fields = [str(part) if isinstance(part, int) else part.decode("latin-1") for part in key]
+    """What is told of a row. The key of an act may be any text: what is no visible ASCII in it is shown as `?`."""
+    fields = [str(part) if isinstance(part, int) else re.sub(r"[^!-~]", "?", part.decode("latin-1")) for part in key]
     return "differs %s %s" % (table, " ".join(fields))
 
 
@@ -200,9 +202,11 @@ def numbers_told(rows):
 
 
 def compared(rows, again):
-    """The first difference of the rows and those of the acts."""
+    """The first difference of the rows and those of the acts. Books of schema 3 have the newest tables."""
     for table in TABLES:
         mine, theirs = rows[table], again[table]
+        if table == "meta":
+            mine = {key: {**row, "version": row["version"] if row["version"] != 3 else 4} for key, row in mine.items()}
         if not are_typed(table, mine):
             return "differs " + table
         key = min((key for key in {*mine, *theirs} if mine.get(key) != theirs.get(key)), default=None)
@@ -358,6 +362,18 @@ def is_told(sound, db, named, counts):
             fails("%s (%s)" % (named, "day given" if given is not None else "no day"), expected, got)
         kind = re.sub(r"[UXSQKF]\d\d", "refused", got.split(" ")[0])
         counts[kind] = counts.get(kind, 0) + 1
+    told_by_history(named, db, rows)
+
+
+def told_by_history(what, db, rows):
+    """The history of damaged books prints lines of the rows as they stand, up to one that is of no next act or spells none."""
+    status, printed, told = run("history", "--db", db)
+    ordered = list(rows["repeats"].values())
+    lines = [[str(act["act"]), act["k"].decode("latin-1")] + act["spell"].decode("latin-1").split("\n") for act in ordered]
+    got = [line.split("\t")[:1] + line.split("\t")[2:] for line in printed.split("\n")[:-1]]
+    are_all = all(act["act"] == at and acts.fields_of(act["spell"]) for at, act in enumerate(ordered, 1))
+    if not (status == 0 and told == "" and are_all and got == lines or (status, told) == (1, "lotd: foreign books\n") and got == lines[:len(got)]):
+        fails("%s: history" % what, (lines, are_all), (status, printed, told))
 
 
 # Older books
@@ -560,6 +576,64 @@ def each_byte():
     print("  %d bytes of spellings, each another: told, of which %d spell another command" % (tried, spelled), flush=True)
 
 
+def filed(db, files, rows=1_000):
+    """So many goods-in files are taken in by one server, of so many receipts of as many items; the seconds that they took, of
+    the clock and of the processor."""
+    subprocess.run([lotd, "init", "--db", db, "--day", day_text(FIRST)], check=True, timeout=60)
+    items = [acts.gtin_of(number) for number in range(rows)]
+    clerk = acts.Clerk(lotd, db, port, len(items) + 20)
+    for number, gtin in enumerate(items):
+        clerk.ask(server.post("/items", acts.json.dumps({"key": "I-%d" % number, "gtin": gtin, "name": "Item %d" % number})))
+    for number in range(20):
+        clerk.ask(server.post("/bins", acts.json.dumps({"key": "B-%d" % number, "bin": "A-%02d" % number, "kind": "STORE"})))
+    clerk, used = acts.Clerk(lotd, db, port, files + 1), processor()
+    clerk.ask(server.get("/orders/NONE"))
+    begun = time.perf_counter()
+    for delivery in range(files):
+        lines = ["D-%d,%d,%s,L%d,%02d1130,A-%02d,5" % (delivery, line + 1, items[line], delivery // 5, 27 + delivery // 5 % 9, (line + delivery) % 20)
+                 for line in range(rows)]
+        text = "delivery,line,gtin,lot,expiry,bin,qty\n" + "\n".join(lines) + "\n"
+        if (got := clerk.ask(server.post("/goodsin", text))) != (200, '{"accepted":%d,"repeated":0}' % rows):
+            fails("a file", rows, got)
+    took = time.perf_counter() - begun
+    return took, processor() - used
+
+
+def processor():
+    """The seconds of the processor of all lines that have ended."""
+    used = resource.getrusage(resource.RUSAGE_CHILDREN)
+    return used.ru_utime + used.ru_stime
+
+
+def on_a_terminal(*words):
+    """The exit status of a line, what it prints, and the bytes that come to the terminal of its standard error."""
+    ours, theirs = pty.openpty()
+    process = subprocess.Popen([lotd, *words], stdout=subprocess.PIPE, stderr=theirs)
+    os.close(theirs)
+    shown = b""
+    try:
+        while more := os.read(ours, 65536):
+            shown += more
+    except OSError:
+        pass
+    os.close(ours)
+    printed = process.stdout.read()
+    process.stdout.close()
+    return process.wait(timeout=60), printed.decode(), shown.decode()
+
+
+def how_far():
+    """On a terminal it is shown how many acts are done, in one line that is blanked in the end."""
+    db = path_of("files")
+    filed(db, 20)
+    count = is_sound("files", db, FIRST)
+    shown = "".join("\raudit: %d of %d acts" % (done, count) for done in range(10_000, count, 10_000)) + "\r" + " " * 56 + "\r"
+    expected = 0, "audited %d acts from %s\n" % (count, day_text(FIRST)), shown
+    if (got := on_a_terminal("audit", "--db", db)) != expected:
+        fails("on a terminal", expected, got)
+    print("  %d acts by files: sound; on a terminal it is shown how many are done" % count, flush=True)
+
+
 # Runs a line and tells its peak. A process of its own, since a child has at least the peak of the process that starts it.
 MEASURED = """
 import os, sys
@@ -582,40 +656,23 @@ def measured(*words):
 
 
 def big():
-    """100,000 receipts, by files of 1,000 rows that one server takes in, and their audit."""
+    """100,000 receipts, by files of 1,000 rows that one server takes in, and their audit. The times are those of the
+    processor, which the machine's other work changes less."""
     db = path_of("big")
-    subprocess.run([lotd, "init", "--db", db, "--day", day_text(FIRST)], check=True, timeout=60)
-    items = [acts.gtin_of(number) for number in range(1_000)]
-    clerk = acts.Clerk(lotd, db, port, len(items) + 20)
-    for number, gtin in enumerate(items):
-        clerk.ask(server.post("/items", acts.json.dumps({"key": "I-%d" % number, "gtin": gtin, "name": "Item %d" % number})))
-    for number in range(20):
-        clerk.ask(server.post("/bins", acts.json.dumps({"key": "B-%d" % number, "bin": "A-%02d" % number, "kind": "STORE"})))
-    files = []
-    for delivery in range(100):
-        rows = ["%s,%d,%s,L%d,%02d1130,A-%02d,%d" % ("D-%d" % delivery, line + 1, items[line], delivery // 5, 27 + delivery // 5 % 9, (line + delivery) % 20, 5)
-                for line in range(1_000)]
-        files.append("delivery,line,gtin,lot,expiry,bin,qty\n" + "\n".join(rows) + "\n")
-    clerk = acts.Clerk(lotd, db, port, 101)
-    clerk.ask(server.get("/orders/NONE"))
-    begun = time.perf_counter()
-    for text in files:
-        if (got := clerk.ask(server.post("/goodsin", text))) != (200, '{"accepted":1000,"repeated":0}'):
-            fails("a file", 1_000, got)
-    took = time.perf_counter() - begun
+    took, used = filed(db, 100)
     size = os.path.getsize(db)
-    print("  100,000 receipts in files of 1,000: %.1f s; the file has %.1f MB" % (took, size / 1e6), flush=True)
-    refused, opened, open_took, _ = measured("card", "--db", db, items[0], "NONE")
-    status, peak, audit_took, used = measured("audit", "--db", db)
-    if (refused, status) != (1, 0):
-        fails("the lines", (1, 0), (refused, status))
-    print("  opening: %.1f s, peak %.1f MB" % (open_took, opened / 1e6))
-    print("  audit: %.1f s (%.1f of a processor), %.2f of the receipts' time; peak %.1f MB, %.2f of that of the open books, %.2f of the file"
-          % (audit_took, used, audit_took / took, peak / 1e6, peak / opened, peak / size))
-    status, history, history_took, _ = measured("history", "--db", db)
-    print("  history: %.1f s, peak %.1f MB" % (history_took, history / 1e6))
-    if audit_took > 1.2 * took:
-        fails("the time", "at most 1.2 of %.1f s" % took, audit_took)
+    print("  100,000 receipts in files of 1,000: %.1f s, %.1f of the processor; the file has %.1f MB" % (took, used, size / 1e6), flush=True)
+    refused, opened, took, opening = measured("card", "--db", db, acts.gtin_of(0), "NONE")
+    print("  opening: %.1f s, %.1f of the processor; peak %.1f MB" % (took, opening, opened / 1e6), flush=True)
+    status, peak, took, auditing = measured("audit", "--db", db)
+    print("  audit: %.1f s, %.1f of the processor, %.2f of the receipts'; peak %.1f MB, %.2f of the open books'"
+          % (took, auditing, auditing / used, peak / 1e6, peak / opened), flush=True)
+    told, history, took, printing = measured("history", "--db", db)
+    print("  history: %.1f s, %.1f of the processor; peak %.1f MB" % (took, printing, history / 1e6))
+    if (refused, status, told) != (1, 0, 0):
+        fails("the lines", (1, 0, 0), (refused, status, told))
+    if auditing > 1.2 * used:
+        fails("the time", "at most 1.2 of %.1f s" % used, auditing)
     if peak > 3 * opened:
         fails("the memory", "at most 3 of %d" % opened, peak)
 
@@ -628,6 +685,7 @@ else:
     other_beginnings()
     killed_books()
     older_books()
+    how_far()
     each_byte()
     damages()
     print("audit: all books were told as they must be, and none was changed")
