@@ -9,9 +9,13 @@ mod books;
 #[cfg(test)]
 mod columns;
 #[cfg(test)]
+mod older;
+#[cfg(test)]
 mod parts;
 #[cfg(test)]
 mod rows;
+#[cfg(test)]
+mod starting_days;
 #[cfg(test)]
 mod told;
 #[cfg(test)]
