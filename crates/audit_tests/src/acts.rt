@@ -1,6 +1,6 @@
 //! Acts are changed after the week's acts: their numbers, their keys, their spellings.
 
-use crate::books::{Trial, each_changed, in_memory};
+use crate::books::{Trial, WEEK, each_changed, in_memory};
 
 // A gap moves the numbers of those behind it.
 static NUMBERS: &str = "UPDATE repeats SET act = 0 WHERE act = 1 => unnumbered K/I-1
@@ -55,18 +55,18 @@ static RECEIPTS: &str =
 
 #[test]
 fn other_numbers_are_told(rt: HostRuntime) {
-    each_changed(&rt, rt.alloc(), NUMBERS);
+    each_changed(&rt, rt.alloc(), WEEK, NUMBERS);
     in_memory(&rt, rt.alloc(), Trial::Given(RECEIPTS));
 }
 
 #[test]
 fn other_keys_are_told(rt: HostRuntime) {
-    each_changed(&rt, rt.alloc(), KEYS);
+    each_changed(&rt, rt.alloc(), WEEK, KEYS);
 }
 
 #[test]
 fn other_spellings_are_told(rt: HostRuntime) {
-    each_changed(&rt, rt.alloc(), SPELLINGS);
+    each_changed(&rt, rt.alloc(), WEEK, SPELLINGS);
 }
 
 #[test]

@@ -15,6 +15,9 @@ use std::str::Lines;
 use store::{Books, Fault};
 use tables::opening::Leftover;
 
+/// The acts of the week.
+pub(crate) const WEEK: &[Part] = &[Part::Weeks];
+
 /// What is tried over new books of 2026-05-04.
 #[derive(Clone, Copy)]
 pub(crate) enum Trial<'a> {
@@ -22,10 +25,10 @@ pub(crate) enum Trial<'a> {
     Sound(&'a [Part], &'a str),
     /// Likewise, where this day is given as the first, or none is.
     Begun(&'a [Part], Option<&'a str>, &'a str),
-    /// Of the line `SQL => WORDS` the SQL is run after the week's acts, and the audit says these words, whether the first
-    /// day is given or not. A bar stands for a line feed.
-    Changed(&'a str),
-    /// Likewise, where the first day is given.
+    /// Of the line `SQL => WORDS` the SQL is run after the acts, and the audit says these words, whether the first day is
+    /// given or not. A bar stands for a line feed.
+    Changed(&'a [Part], &'a str),
+    /// Likewise after the week's acts, where the first day is given.
     Given(&'a str),
     /// After the week's acts each byte of the spelling of the act of this number becomes another, one at a time, and each
     /// time the audit tells of it.
@@ -159,15 +162,16 @@ fn run<S: Alter>(rt: &impl Abort, alloc: Global, conn: &mut Connection<S>, sql: 
     assert!(rt; conn.execute_batch(text.as_str()).is_ok(), "{sql:?}");
 }
 
-/// The books after the week's acts and the change, and what the audit is to say.
+/// The books after the acts and the change, and what the audit is to say.
 fn changed<'a, S: Alter + Drop>(
     rt: &impl Abort,
     alloc: Global,
     conn: Connection<S>,
+    parts: &[Part],
     line: &'a str,
 ) -> (Connection<S>, &'a str) {
     let (sql, expected) = parted(rt, line, " => ");
-    let mut conn = worked(rt, alloc, conn, &[Part::Weeks]);
+    let mut conn = worked(rt, alloc, conn, parts);
     run(rt, alloc, &mut conn, sql);
     (conn, expected)
 }
@@ -176,9 +180,10 @@ fn says_of_change<S: Alter + Drop>(
     rt: &impl Abort,
     alloc: Global,
     conn: Connection<S>,
+    parts: &[Part],
     line: &str,
 ) -> Connection<S> {
-    let (conn, expected) = changed(rt, alloc, conn, line);
+    let (conn, expected) = changed(rt, alloc, conn, parts, line);
     says_always(rt, alloc, conn, expected)
 }
 
@@ -188,7 +193,7 @@ fn says_given<S: Alter + Drop>(
     conn: Connection<S>,
     line: &str,
 ) -> Connection<S> {
-    let (conn, expected) = changed(rt, alloc, conn, line);
+    let (conn, expected) = changed(rt, alloc, conn, WEEK, line);
     says(rt, alloc, conn, Some(first_day(rt)), expected)
 }
 
@@ -223,12 +228,7 @@ fn spelling(rt: &impl Abort, alloc: Global, number: u32) -> String {
     with_line_feeds(rt, alloc, fields)
 }
 
-fn put_spelling<S: Alter>(
-    rt: &impl Abort,
-    conn: &mut Connection<S>,
-    number: u32,
-    spelling: &[u8],
-) {
+fn put_spelling<S: Alter>(rt: &impl Abort, conn: &mut Connection<S>, number: u32, spelling: &[u8]) {
     let params = [ValueRef::Text(spelling), ValueRef::Int(i64::from(number))];
     let changed = conn.execute("UPDATE repeats SET spell = ?1 WHERE act = ?2", &params);
     assert!(rt; changed == Ok(1));
@@ -277,7 +277,7 @@ fn notices_bytes<S: Alter + Drop>(
     conn: Connection<S>,
     number: u32,
 ) -> Connection<S> {
-    let mut conn = worked(rt, alloc, conn, &[Part::Weeks]);
+    let mut conn = worked(rt, alloc, conn, WEEK);
     let text = spelling(rt, alloc, number);
     for at in 0..text.len() {
         let bytes = damaged(rt, alloc, text.as_bytes(), at);
@@ -295,7 +295,7 @@ fn tried<S: Alter + Drop>(
     match trial {
         Trial::Sound(parts, expected) => sound(rt, alloc, conn, parts, expected),
         Trial::Begun(parts, given, expected) => begun(rt, alloc, conn, parts, given, expected),
-        Trial::Changed(line) => says_of_change(rt, alloc, conn, line),
+        Trial::Changed(parts, line) => says_of_change(rt, alloc, conn, parts, line),
         Trial::Given(line) => says_given(rt, alloc, conn, line),
         Trial::Bytes(number) => notices_bytes(rt, alloc, conn, number),
     }
@@ -308,9 +308,9 @@ pub(crate) fn in_memory(rt: &impl Abort, alloc: Global, trial: Trial<'_>) {
     drop(tried(rt, alloc, conn, trial));
 }
 
-/// Tries each line of the text as a change.
-pub(crate) fn each_changed(rt: &impl Abort, alloc: Global, text: &str) {
+/// Tries each line of the text as a change after the acts.
+pub(crate) fn each_changed(rt: &impl Abort, alloc: Global, parts: &[Part], text: &str) {
     for line in text.lines() {
-        in_memory(rt, alloc, Trial::Changed(line));
+        in_memory(rt, alloc, Trial::Changed(parts, line));
     }
 }

@@ -1,6 +1,6 @@
 //! One value is changed, in each column of each table after the week's acts.
 
-use crate::books::each_changed;
+use crate::books::{WEEK, each_changed};
 
 // To a value that a row may have: what is told is the row, or, where the column is of the key, the lesser of the two keys.
 static GOODS: &str = "UPDATE meta SET day = day + 1 => meta 1
@@ -79,17 +79,17 @@ UPDATE repeats SET reply = '' WHERE act = 1 => repeats K/I-1";
 
 #[test]
 fn a_changed_value_of_the_goods_is_told(rt: HostRuntime) {
-    each_changed(&rt, rt.alloc(), GOODS);
+    each_changed(&rt, rt.alloc(), WEEK, GOODS);
 }
 
 #[test]
 fn a_changed_value_of_the_orders_is_told(rt: HostRuntime) {
-    each_changed(&rt, rt.alloc(), ORDERS);
+    each_changed(&rt, rt.alloc(), WEEK, ORDERS);
 }
 
 #[test]
 fn a_changed_value_of_the_history_is_told(rt: HostRuntime) {
-    each_changed(&rt, rt.alloc(), HISTORY);
+    each_changed(&rt, rt.alloc(), WEEK, HISTORY);
 }
 
 // To a value that no row has.
@@ -152,5 +152,5 @@ UPDATE repeats SET reply = '1234567890123456789012345678901234567890123456789012
 
 #[test]
 fn a_value_that_no_row_has_is_told(rt: HostRuntime) {
-    each_changed(&rt, rt.alloc(), UNTYPED);
+    each_changed(&rt, rt.alloc(), WEEK, UNTYPED);
 }

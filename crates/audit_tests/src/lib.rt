@@ -9,6 +9,8 @@ mod books;
 #[cfg(test)]
 mod columns;
 #[cfg(test)]
+mod older;
+#[cfg(test)]
 mod parts;
 #[cfg(test)]
 mod rows;

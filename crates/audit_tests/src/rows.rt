@@ -1,8 +1,9 @@
 //! One row is taken out of each table after the week's acts, and one row more is put into it.
 
-use crate::books::each_changed;
+use crate::books::{WEEK, each_changed};
 
-static OUT: &str = "DELETE FROM items WHERE gtin = '04012345000016' => items 04012345000016
+static OUT: &str = "DELETE FROM meta => meta 1
+DELETE FROM items WHERE gtin = '04012345000016' => items 04012345000016
 DELETE FROM least WHERE gtin = '09506000134352' => least 09506000134352
 DELETE FROM bins WHERE name = 'RETURNS' => bins RETURNS
 DELETE FROM lots WHERE lot = 'N2' => lots 04012345000016 N2
@@ -19,7 +20,8 @@ DELETE FROM cards WHERE act = 15 => cards 09506000134352 L1 15
 DELETE FROM repeats WHERE act = 28 => meta 1
 DELETE FROM repeats WHERE act = 17 => meta 1";
 
-static MORE: &str = "INSERT INTO items VALUES ('05012345678900', 'Pea soup') => items 05012345678900
+static MORE: &str = "INSERT INTO meta VALUES (2, 'LOTSTOCK', 4, 20578, 28, 1) => untyped meta
+INSERT INTO items VALUES ('05012345678900', 'Pea soup') => items 05012345678900
 INSERT INTO least VALUES ('05012345678900', 0) => least 05012345678900
 INSERT INTO bins VALUES ('B-01', 'STORE') => bins B-01
 INSERT INTO lots VALUES ('09506000134352', 'L0', 20634, 6, 0) => lots 09506000134352 L0
@@ -54,20 +56,20 @@ DROP INDEX staged_by_gtin => sound 28 2026-05-04";
 
 #[test]
 fn a_missing_row_is_told(rt: HostRuntime) {
-    each_changed(&rt, rt.alloc(), OUT);
+    each_changed(&rt, rt.alloc(), WEEK, OUT);
 }
 
 #[test]
 fn a_row_too_many_is_told(rt: HostRuntime) {
-    each_changed(&rt, rt.alloc(), MORE);
+    each_changed(&rt, rt.alloc(), WEEK, MORE);
 }
 
 #[test]
 fn the_first_of_several_rows_is_told(rt: HostRuntime) {
-    each_changed(&rt, rt.alloc(), SEVERAL);
+    each_changed(&rt, rt.alloc(), WEEK, SEVERAL);
 }
 
 #[test]
 fn rows_in_another_order_are_sound(rt: HostRuntime) {
-    each_changed(&rt, rt.alloc(), MOVED);
+    each_changed(&rt, rt.alloc(), WEEK, MOVED);
 }

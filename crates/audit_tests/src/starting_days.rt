@@ -1,6 +1,6 @@
 //! The day that the acts began on, given or to be found.
 
-use crate::books::{Trial, in_memory};
+use crate::books::{Trial, WEEK, in_memory};
 use crate::parts::Part;
 
 // Acts of books of 2026-05-04, the first day that is given, and what the audit says. Where a day was opened before anything
@@ -8,7 +8,7 @@ use crate::parts::Part;
 static BEGUN: [(&[Part], Option<&str>, &str); 7] = [
     (&[], None, "sound 0 2026-05-04"),
     (&[], Some("2026-05-05"), "meta 1"),
-    (&[Part::Weeks], Some("2026-05-03"), "shipments 1"),
+    (WEEK, Some("2026-05-03"), "shipments 1"),
     (&[Part::OpenedFirst], None, "sound 4 2026-05-05"),
     (
         &[Part::OpenedFirst],
