@@ -1,16 +1,19 @@
 -- The stock card and the recall notice of a lot, written part after part.
 use Rattle.std.proofs.Common.{◌≡◌, ℕ, ◌+◌, List, ◌++◌, Option, Some, None, Ok, Err, Result, refl, sym, ap, subst, ◌∙◌, inl, inr, append_assoc, zero-add}
-use Rattle.std.specs.Prelude.{ℤ, Bool, true, false, if◌then◌else◌, flat_map}
+use Rattle.std.specs.Prelude.{ℤ, Bool, true, false, if◌then◌else◌, flat_map, OnOk}
 use Rattle.std.specs.Io.KnownBytes.{Appends}
-use Rattle.std.proofs.KnownBytes.{Appends-trans, Appends-nil}
+use Rattle.std.proofs.KnownBytes.{Appends-trans}
 use Rattle.values.specs.declared.lot.LotId.{LotId}
 use Rattle.commands.specs.Cards.{rest_after}
 use Rattle.commands.specs.Lists.{total}
+use Rattle.commands.specs.Sinks.{Reaches}
 use Rattle.commands.specs.declared.refusal.Refusal.{Refusal}
 use Rattle.commands.specs.declared.refusal.Refusal.TheVariants.{UnknownItem, UnknownLot, NoNotice}
 use Rattle.commands.specs.declared.rows.ItemRow.{ItemRow}
+use Rattle.commands.specs.declared.views.BinUnits.{BinUnits}
 use Rattle.commands.specs.declared.views.CardView.{CardView}
 use Rattle.commands.specs.declared.views.NoticeView.{NoticeView}
+use Rattle.commands.specs.declared.views.ShippedUnits.{ShippedUnits}
 use Rattle.sqlite_trees.specs.declared.store.Store.{Ghosts}
 use Rattle.sqlite.specs.Held.{state}
 use Rattle.sqlite.specs.State.{Survives}
@@ -26,27 +29,28 @@ use Rattle.machine.proofs.histories.LastLines.{last_line_tells_units}
 use Rattle.texts.specs.declared.fault.TextFault.{TextFault}
 use Rattle.texts.specs.Card.{card_text, card_start, card_line, card_end}
 use Rattle.texts.specs.Notice.{notice_text, notice_start, bin_line, shipment_line, notice_end, Totals}
+use Rattle.texts.specs.declared.sinks.NoticeLines.{NoticeLines}
+use Rattle.texts.specs.Sinks.{AddsBinLine, AddsShipmentLine, CutsShipmentLine}
 use Rattle.texts.specs.Writing.{AppendsBeginning, Writes}
-use Rattle.texts.proofs.Beginnings.{beginning_of_first, beginning_of_second, beginning_of_none}
+use Rattle.texts.proofs.Lined.{bins_lined, shipments_lined}
+use Rattle.texts.proofs.Beginnings.{beginning_of_first, beginning_of_second}
 use Rattle.store.specs.Connected.{Connected}
 use Rattle.store.specs.Books.{HoldsBooks, IsClean}
-use Rattle.store.specs.Handing.{IsHanded, NoBooks}
+use Rattle.store.specs.Handing.{HandsRecords, IsHanded, NoBooks}
 use Rattle.store.specs.Heads.{head_of_card, head_of_notice, card_head_shown, notice_head_shown}
-use Rattle.store.specs.Queries.{IsShown}
-use Rattle.store.specs.declared.fault.Fault.{Fault as StoreFault}
 use Rattle.store.specs.declared.fault.Fault.TheVariants.{Refused, Store, Foreign}
 use Rattle.store.specs.declared.each_fault.EachFault.{EachFault}
 use Rattle.store.specs.declared.each_fault.EachFault.TheVariants.{Fault, Stopped}
 use Rattle.house.specs.LotTexts.{card_from, notice_from, Stays, Puts, Tells, shown_text, stopped_at}
-use Rattle.house.proofs.Handing.{some_written, cut_written}
+use Rattle.house.proofs.Handing.{all_written, some_written, cut_written}
 
 module _ {S : Type 0} (g : Ghosts S) (first : ℤ) (acts : List Act) where
   -- The books
 
-  pub same_books : (books : Connected S) → HoldsBooks g first acts books → Stays g first acts books books
+  same_books : (books : Connected S) → HoldsBooks g first acts books → Stays g first acts books books
   same_books books holds = record { holds = holds; kept = λ trees left. left }
 
-  pub stays_on : (a b c : Connected S) → Stays g first acts a b → Stays g first acts b c → Stays g first acts a c
+  stays_on : (a b c : Connected S) → Stays g first acts a b → Stays g first acts b c → Stays g first acts a c
   stays_on a b c p q = record { holds = q.holds; kept = λ trees left. p.kept trees (q.kept trees left) }
 
   -- a query commits nothing
@@ -57,7 +61,7 @@ module _ {S : Type 0} (g : Ghosts S) (first : ℤ) (acts : List Act) where
   }
 
   -- and neither does handing records on, on the books of a history
-  pub stays_handed : (old new : Connected S) → IsHistory first acts → Survives (state g old.conn) (state g new.conn) (NoBooks (state g old.conn)) → IsClean g new
+  stays_handed : (old new : Connected S) → IsHistory first acts → Survives (state g old.conn) (state g new.conn) (NoBooks (state g old.conn)) → IsClean g new
       → HoldsBooks g first acts old → HoldsBooks g first acts new → Stays g first acts old new
   stays_handed old new history survives clean was holds = record {
     holds = holds;
@@ -76,61 +80,70 @@ module _ {S : Type 0} (g : Ghosts S) (first : ℤ) (acts : List Act) where
   put_behind (Err Stopped) a b was mid books old between new first_part stays h = (beginning_of_second old between new a b first_part h.0, stays_on was mid books stays h.1)
 
   -- a was not written whole
-  pub put_part : (X Y : Type 0) (fault : EachFault) (a b : List ℕ) (was books : Connected S) (old new : Option (List ℕ)) → Puts {X = X} g first acts a was books old new (Err fault)
-      → Puts {X = Y} g first acts (a ++ b) was books old new (Err fault)
-  put_part X Y (Fault (Refused why)) a b was books old new h = absurd h
-  put_part X Y (Fault Store) a b was books old new h = (beginning_of_first old new a b h.0, h.1)
-  put_part X Y (Fault Foreign) a b was books old new h = absurd h
-  put_part X Y Stopped a b was books old new h = (beginning_of_first old new a b h.0, h.1)
+  pub put_part : (fault : EachFault) (a b : List ℕ) (was books : Connected S) (old new : Option (List ℕ)) → Puts {X = Unit} g first acts a was books old new (Err fault)
+      → Puts {X = Unit} g first acts (a ++ b) was books old new (Err fault)
+  put_part (Fault (Refused why)) a b was books old new h = absurd h
+  put_part (Fault Store) a b was books old new h = (beginning_of_first old new a b h.0, h.1)
+  put_part (Fault Foreign) a b was books old new h = absurd h
+  put_part Stopped a b was books old new h = (beginning_of_first old new a b h.0, h.1)
 
   -- the end of a text, over books that are not asked any more
-  pub put_end : (r : Result Unit TextFault) (text : List ℕ) (books : Connected S) (old new : Option (List ℕ)) → HoldsBooks g first acts books → Writes r old new text
+  put_end : (r : Result Unit TextFault) (text : List ℕ) (books : Connected S) (old new : Option (List ℕ)) → HoldsBooks g first acts books → Writes r old new text
       → Puts g first acts text books books old new (stopped_at r)
   put_end (Ok done) text books old new holds written = (written, same_books books holds)
   put_end (Err fault) text books old new holds written = (written, same_books books holds)
+
+  -- a was written, and then the end b
+  pub put_whole : (r : Result Unit TextFault) (end : Result Unit EachFault) (a b : List ℕ) (was books : Connected S) (old between new : Option (List ℕ)) → Puts {X = Unit} g first acts a was books old between (Ok tt)
+      → end ≡ stopped_at r → Writes r between new b → Puts g first acts (a ++ b) was books old new end
+  put_whole r end a b was books old between new first_part is written =
+      put_behind end a b was books books old between new first_part.0 first_part.1 (subst (λ e. Puts g first acts b books books between new e) (sym is) (put_end r b books between new first_part.1.holds written))
 
   -- Records
 
   module _ {K T : Type 0} (at : K → Option (List ℕ)) (line : T → List ℕ) (adds cuts : K → T → K → Type 0)
       (added : (before : K) (x : T) (after : K) → adds before x after → Appends (at before) (at after) (line x))
       (cut : (before : K) (x : T) (after : K) → cuts before x after → AppendsBeginning (at before) (at after) (line x)) where
-    pub lines_cut : (X : Type 0) (fault : EachFault) (xs : List T) (before after : K) (was books : Connected S) → Stays g first acts was books
-        → IsHanded g first acts adds cuts xs before after (Err fault) books → Puts {X = X} g first acts (flat_map line xs) was books (at before) (at after) (Err fault)
-    lines_cut X (Fault (Refused why)) xs before after was books stays h = absurd h.0
-    lines_cut X (Fault Store) xs before after was books stays h = (some_written at line adds cuts added cut before xs after h.0, stays)
-    lines_cut X (Fault Foreign) xs before after was books stays h = absurd h.0
-    lines_cut X Stopped xs before after was books stays h = (cut_written at line adds cuts added cut before xs after h.0, stays)
+    pub lines_put : (r : Result Unit EachFault) (xs : List T) (before after : K) (was books : Connected S) → IsHistory first acts → Survives (state g was.conn) (state g books.conn) (NoBooks (state g was.conn))
+        → IsClean g books → HoldsBooks g first acts was → IsHanded g first acts adds cuts xs before after r books → Puts g first acts (flat_map line xs) was books (at before) (at after) r
+    lines_put (Ok done) xs before after was books history survives clean holds h = (all_written at line adds cuts added cut before xs after h.0, stays_handed was books history survives clean holds h.1)
+    lines_put (Err (Fault (Refused why))) xs before after was books history survives clean holds h = absurd h.0
+    lines_put (Err (Fault Store)) xs before after was books history survives clean holds h = (some_written at line adds cuts added cut before xs after h.0, stays_handed was books history survives clean holds h.1)
+    lines_put (Err (Fault Foreign)) xs before after was books history survives clean holds h = absurd h.0
+    lines_put (Err Stopped) xs before after was books history survives clean holds h = (cut_written at line adds cuts added cut before xs after h.0, stays_handed was books history survives clean holds h.1)
 
   -- The whole
 
-  -- a text that is shown was written
-  pub told_by : {V : Type 0} (text : V → List ℕ) (shown : Result V Refusal) (view : V) (r : Result Unit EachFault) (was mid books : Connected S) (old new : Option (List ℕ)) → shown ≡ Ok view
-      → Stays g first acts was mid → Puts g first acts (text view) mid books old new r → Tells g first acts text shown was books old new r
-  told_by text shown view (Ok done) was mid books old new is stays h = (view, is, h.0, stays_on was mid books stays h.1)
-  told_by text shown view (Err (Fault (Refused why))) was mid books old new is stays h = absurd h
-  told_by text shown view (Err (Fault Store)) was mid books old new is stays h =
-      (subst (λ s. AppendsBeginning old new (shown_text text s)) (sym is) h.0, stays_on was mid books stays h.1)
-  told_by text shown view (Err (Fault Foreign)) was mid books old new is stays h = absurd h
-  told_by text shown view (Err Stopped) was mid books old new is stays h = (view, is, h.0, stays_on was mid books stays h.1)
+  told_by : {V : Type 0} (text : V → List ℕ) (shown : Result V Refusal) (view : V) (r : Result Unit EachFault) (was books : Connected S) (old new : Option (List ℕ)) → shown ≡ Ok view
+      → Puts g first acts (text view) was books old new r → Tells g first acts text shown was books old new r
+  told_by text shown view (Ok done) was books old new is h = (view, is, h.0, h.1)
+  told_by text shown view (Err (Fault (Refused why))) was books old new is h = absurd h
+  told_by text shown view (Err (Fault Store)) was books old new is h = (subst (λ s. AppendsBeginning old new (shown_text text s)) (sym is) h.0, h.1)
+  told_by text shown view (Err (Fault Foreign)) was books old new is h = absurd h
+  told_by text shown view (Err Stopped) was books old new is h = (view, is, h.0, h.1)
 
-  -- nothing was written, since the head is refused, or could not be read
-  pub head_refused : {V H : Type 0} (text : V → List ℕ) (shown : Result V Refusal) (head : Result H Refusal) (fault : StoreFault) (was books : Connected S) (at : Option (List ℕ))
-      → ((why : Refusal) → head ≡ Err why → shown ≡ Err why) → IsShown g first acts head (Err fault) books → ((HoldsBooks g first acts books) → Stays g first acts was books)
-      → Tells g first acts text shown was books at at (Err (Fault fault))
-  head_refused text shown head (Refused why) was books at same h stays = (same why h.0, Appends-nil at, stays h.1)
-  head_refused text shown head Store was books at same h stays = (beginning_of_none at at (shown_text text shown) (Appends-nil at), stays h)
-  head_refused text shown head Foreign was books at same h stays = absurd h
+  -- a text that is shown was written, b behind a
+  pub told_whole : {V : Type 0} (text : V → List ℕ) (shown : Result V Refusal) (view : V) (a b : List ℕ) (r : Result Unit EachFault) (was mid books : Connected S) (old between new : Option (List ℕ))
+      → shown ≡ Ok view → a ++ b ≡ text view → Stays g first acts was mid → Appends old between a → Puts g first acts b mid books between new r → Tells g first acts text shown was books old new r
+  told_whole text shown view a b r was mid books old between new is whole stays written h =
+      told_by text shown view r was books old new is (subst (λ t. Puts g first acts t was books old new r) whole (put_behind r a b was mid books old between new written stays h))
+
+  -- its start was not written whole
+  pub told_cut : {V : Type 0} (text : V → List ℕ) (shown : Result V Refusal) (view : V) (a b : List ℕ) (was books : Connected S) (old new : Option (List ℕ))
+      → shown ≡ Ok view → a ++ b ≡ text view → Stays g first acts was books → AppendsBeginning old new a → Tells g first acts text shown was books old new (Err Stopped)
+  told_cut text shown view a b was books old new is whole stays written = (view, is, subst (AppendsBeginning old new) whole (beginning_of_first old new a b written), stays)
+
+-- the units of the bins and of the shipments that a notice tells of
+pub both_counted : {W : Type 0} (at : W → Option (List ℕ)) (r : Result Unit EachFault) (bins : List BinUnits) (shipments : List ShippedUnits) (before between after : NoticeLines W)
+    → Reaches (AddsBinLine at) before bins between → HandsRecords (AddsShipmentLine at) (CutsShipmentLine at) shipments between after r
+    → OnOk r (after.text ≡ record { in_bins = before.text.in_bins + total (λ u. u.qty) bins; shipped = before.text.shipped + total (λ s. s.qty) shipments })
+both_counted at (Ok done) bins shipments before between after reached h =
+    (shipments_lined at between shipments after h).1 ∙ ap (λ (t : Totals). record t { shipped = t.shipped + total (λ s. s.qty) shipments }) (bins_lined at before bins between reached).1
+both_counted at (Err fault) bins shipments before between after reached h = tt
 
 -- Cards
 
 module _ (first : ℤ) (acts : List Act) (l : LotId) where
-  card_refused_by : (shown : Result CardView Refusal) (why : Refusal) → head_of_card shown ≡ Err why → shown ≡ Err why
-  card_refused_by (Ok view) why e = absurd (let it = e in cc)
-  card_refused_by (Err other) why e = let same : other ≡ why = cc in ap (λ (x : Refusal). Err x) same
-
-  pub card_refused : (why : Refusal) → card_head_shown first acts l ≡ Err why → card_shown first acts l ≡ Err why
-  card_refused why = card_refused_by (card_shown first acts l) why
-
   abbrev card_shows : CardView → Result CardView Refusal
   card_shows v = Ok v
 
@@ -173,13 +186,6 @@ module _ (first : ℤ) (acts : List Act) (l : LotId) where
 
   -- Notices
 
-  notice_refused_by : (shown : Result NoticeView Refusal) (why : Refusal) → head_of_notice shown ≡ Err why → shown ≡ Err why
-  notice_refused_by (Ok view) why e = absurd (let it = e in cc)
-  notice_refused_by (Err other) why e = let same : other ≡ why = cc in ap (λ (x : Refusal). Err x) same
-
-  pub notice_refused : (why : Refusal) → notice_head_shown first acts l ≡ Err why → notice_shown first acts l ≡ Err why
-  notice_refused why = notice_refused_by (notice_shown first acts l) why
-
   abbrev notice_shows : NoticeView → Result NoticeView Refusal
   notice_shows v = Ok v
 
@@ -205,8 +211,8 @@ module _ (first : ℤ) (acts : List Act) (l : LotId) where
 
   -- the start, the bins, the shipments and the end are the notice
   pub notice_whole : (item : ItemRow) (expiry : Option ℤ) (t : Totals) → t ≡ record { in_bins = 0; shipped = 0 }
-      → notice_start item l.lot expiry ++ (flat_map bin_line (bins_of_lot first acts l) ++ (flat_map shipment_line (shipments_of_lot first acts l)
-      ++ notice_end (t.in_bins + total (λ u. u.qty) (bins_of_lot first acts l)) (t.shipped + total (λ s. s.qty) (shipments_of_lot first acts l))))
+      → notice_start item l.lot expiry ++ (flat_map bin_line (bins_of_lot first acts l) ++ flat_map shipment_line (shipments_of_lot first acts l)
+      ++ notice_end (t.in_bins + total (λ u. u.qty) (bins_of_lot first acts l)) (t.shipped + total (λ s. s.qty) (shipments_of_lot first acts l)))
       ≡ notice_text (notice_from first acts l item expiry)
   notice_whole item expiry t none =
       let head = notice_start item l.lot expiry in
@@ -215,6 +221,6 @@ module _ (first : ℤ) (acts : List Act) (l : LotId) where
       let n = total (λ u. u.qty) (bins_of_lot first acts l) in
       let m = total (λ x. x.qty) (shipments_of_lot first acts l) in
       let end = notice_end (t.in_bins + n) (t.shipped + m) in
-      sym (append_assoc head b (s ++ end)) ∙ sym (append_assoc (head ++ b) s end)
+      sym (append_assoc head (b ++ s) end) ∙ sym (ap (λ k. k ++ end) (append_assoc head b s))
       ∙ ap (λ (x : Totals). head ++ b ++ s ++ notice_end (x.in_bins + n) (x.shipped + m)) none
       ∙ ap (λ k. head ++ b ++ s ++ notice_end k (0 + m)) (zero-add n) ∙ ap (λ k. head ++ b ++ s ++ notice_end n k) (zero-add m)

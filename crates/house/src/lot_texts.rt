@@ -1,6 +1,6 @@
 //! The stock card and the recall notice of a lot, written row by row: no call takes memory that grows with the rows.
 
-ghost use Rattle.std.specs.Prelude.{◌≡◌, ◌+◌, ℤ, List, ◌++◌, flat_map, IfOk};
+ghost use Rattle.std.specs.Prelude.{◌≡◌, ◌+◌, ℤ, List, ◌++◌, flat_map, OnOk};
 ghost use Rattle.commands.specs.Cards.{rest_after};
 ghost use Rattle.commands.specs.Lists.{total};
 ghost use Rattle.machine.specs.Acts.{Act};
@@ -10,10 +10,8 @@ ghost use Rattle.machine.specs.Views.{card_of_lot, bins_of_lot, shipments_of_lot
 ghost use Rattle.texts.specs.Card.{card_text, card_line, card_end};
 ghost use Rattle.texts.specs.Notice.{notice_text, bin_line, shipment_line, notice_end};
 ghost use Rattle.store.specs.Books.{IsClean, HoldsBooks, AreAsBefore};
-ghost use Rattle.house.specs.LotTexts.{card_from, notice_from, Puts, Tells, stopped_at};
+ghost use Rattle.house.specs.LotTexts.{Puts, Tells, stopped_at};
 
-use commands::ItemRow;
-use label::Day;
 use sqlite::Alter;
 use std::io::Write;
 use store::{Books, EachFault};
@@ -33,33 +31,18 @@ pub fn write_card<S: Alter, W: Write>(
     ensures told { IsClean S.Store books.new → (first : ℤ) (acts : List Act) → IsHistory first acts → HoldsBooks S.Store first acts books.old
         → Tells S.Store first acts card_text (card_shown first acts lot.now) books.old books.new (W.contents out) (W.contents result.0) result.1 }
 {
+    let mut out = out;
     match books.card_head(lot) {
-        Ok((item, expiry)) => put_card(books, lot, &item, expiry, out),
+        Ok((item, expiry)) => match CardText::start(&item, &lot.lot, expiry, &mut out) {
+            Ok(text) => put_card(books, lot, text, out),
+            Err(_) => (out, Err(EachFault::Stopped)),
+        },
         Err(fault) => (out, Err(EachFault::Fault(fault))),
     }
 }
 
-fn put_card<S: Alter, W: Write>(
-    books: &mut Books<S>,
-    lot: &LotId,
-    item: &ItemRow,
-    expiry: Day,
-    out: W,
-) -> (W, Result<(), EachFault>)
-    ensures clean { IsClean S.Store books.new → IsClean S.Store books.old }
-    ensures as_before { IsClean S.Store books.new → AreAsBefore S.Store books.old books.new }
-    ensures put { IsClean S.Store books.new → (first : ℤ) (acts : List Act) → IsHistory first acts → HoldsBooks S.Store first acts books.old
-        → Puts S.Store first acts (card_text (card_from first acts lot.now item.now expiry)) books.old books.new (W.contents out) (W.contents result.0) result.1 }
-{
-    let mut out = out;
-    match CardText::start(item, &lot.lot, expiry, &mut out) {
-        Ok(text) => put_card_rest(books, lot, text, out),
-        Err(_) => (out, Err(EachFault::Stopped)),
-    }
-}
-
 // The lines and the end.
-fn put_card_rest<S: Alter, W: Write>(
+fn put_card<S: Alter, W: Write>(
     books: &mut Books<S>,
     lot: &LotId,
     text: CardText,
@@ -71,34 +54,14 @@ fn put_card_rest<S: Alter, W: Write>(
         → Puts S.Store first acts (flat_map card_line (card_of_lot first acts lot.now) ++ card_end (rest_after text (card_of_lot first acts lot.now))) books.old books.new
         (W.contents out) (W.contents result.0) result.1 }
 {
-    let (mut out, lined) = put_card_lines(books, lot, text, out);
-    match lined {
-        Ok(text) => {
+    let mut lines = CardLines { text, out };
+    let handed = books.each_card(lot, &mut lines);
+    let CardLines { text, mut out } = lines;
+    match handed {
+        Ok(()) => {
             let end = text_end(text.end(&mut out));
             (out, end)
         }
-        Err(fault) => (out, Err(fault)),
-    }
-}
-
-fn put_card_lines<S: Alter, W: Write>(
-    books: &mut Books<S>,
-    lot: &LotId,
-    text: CardText,
-    out: W,
-) -> (W, Result<CardText, EachFault>)
-    ensures clean { IsClean S.Store books.new → IsClean S.Store books.old }
-    ensures as_before { IsClean S.Store books.new → AreAsBefore S.Store books.old books.new }
-    ensures put { IsClean S.Store books.new → (first : ℤ) (acts : List Act) → IsHistory first acts → HoldsBooks S.Store first acts books.old
-        → Puts S.Store first acts (flat_map card_line (card_of_lot first acts lot.now)) books.old books.new (W.contents out) (W.contents result.0) result.1 }
-    ensures rest { IsClean S.Store books.new → (first : ℤ) (acts : List Act) → IsHistory first acts → HoldsBooks S.Store first acts books.old
-        → IfOk result.1 (λ t. t ≡ rest_after text (card_of_lot first acts lot.now)) }
-{
-    let mut lines = CardLines { text, out };
-    let handed = books.each_card(lot, &mut lines);
-    let CardLines { text, out } = lines;
-    match handed {
-        Ok(()) => (out, Ok(text)),
         Err(fault) => (out, Err(fault)),
     }
 }
@@ -116,68 +79,35 @@ pub fn write_notice<S: Alter, W: Write>(
     ensures told { IsClean S.Store books.new → (first : ℤ) (acts : List Act) → IsHistory first acts → HoldsBooks S.Store first acts books.old
         → Tells S.Store first acts notice_text (notice_shown first acts lot.now) books.old books.new (W.contents out) (W.contents result.0) result.1 }
 {
+    let mut out = out;
     match books.notice_head(lot) {
-        Ok((item, expiry)) => put_notice(books, lot, &item, expiry, out),
+        Ok((item, expiry)) => match NoticeText::start(&item, &lot.lot, expiry, &mut out) {
+            Ok(text) => put_notice(books, lot, text, out),
+            Err(_) => (out, Err(EachFault::Stopped)),
+        },
         Err(fault) => (out, Err(EachFault::Fault(fault))),
     }
 }
 
+// The bins, the shipments and the end.
 fn put_notice<S: Alter, W: Write>(
     books: &mut Books<S>,
     lot: &LotId,
-    item: &ItemRow,
-    expiry: Option<Day>,
-    out: W,
-) -> (W, Result<(), EachFault>)
-    ensures clean { IsClean S.Store books.new → IsClean S.Store books.old }
-    ensures as_before { IsClean S.Store books.new → AreAsBefore S.Store books.old books.new }
-    ensures put { IsClean S.Store books.new → (first : ℤ) (acts : List Act) → IsHistory first acts → HoldsBooks S.Store first acts books.old
-        → Puts S.Store first acts (notice_text (notice_from first acts lot.now item.now expiry)) books.old books.new (W.contents out) (W.contents result.0) result.1 }
-{
-    let mut out = out;
-    match NoticeText::start(item, &lot.lot, expiry, &mut out) {
-        Ok(text) => put_notice_rest(books, lot, text, out),
-        Err(_) => (out, Err(EachFault::Stopped)),
-    }
-}
-
-// The bins, the shipments and the end.
-fn put_notice_rest<S: Alter, W: Write>(
-    books: &mut Books<S>,
-    lot: &LotId,
     text: NoticeText,
     out: W,
 ) -> (W, Result<(), EachFault>)
     ensures clean { IsClean S.Store books.new → IsClean S.Store books.old }
     ensures as_before { IsClean S.Store books.new → AreAsBefore S.Store books.old books.new }
     ensures put { IsClean S.Store books.new → (first : ℤ) (acts : List Act) → IsHistory first acts → HoldsBooks S.Store first acts books.old
-        → Puts S.Store first acts (flat_map bin_line (bins_of_lot first acts lot.now) ++ (flat_map shipment_line (shipments_of_lot first acts lot.now)
-        ++ notice_end (text.in_bins + total (λ u. u.qty) (bins_of_lot first acts lot.now)) (text.shipped + total (λ s. s.qty) (shipments_of_lot first acts lot.now)))) books.old books.new
+        → Puts S.Store first acts (flat_map bin_line (bins_of_lot first acts lot.now) ++ flat_map shipment_line (shipments_of_lot first acts lot.now)
+        ++ notice_end (text.in_bins + total (λ u. u.qty) (bins_of_lot first acts lot.now)) (text.shipped + total (λ s. s.qty) (shipments_of_lot first acts lot.now))) books.old books.new
         (W.contents out) (W.contents result.0) result.1 }
 {
-    let (out, lined) = put_bins(books, lot, text, out);
-    match lined {
-        Ok(text) => put_notice_tail(books, lot, text, out),
-        Err(fault) => (out, Err(fault)),
-    }
-}
-
-// The shipments and the end.
-fn put_notice_tail<S: Alter, W: Write>(
-    books: &mut Books<S>,
-    lot: &LotId,
-    text: NoticeText,
-    out: W,
-) -> (W, Result<(), EachFault>)
-    ensures clean { IsClean S.Store books.new → IsClean S.Store books.old }
-    ensures as_before { IsClean S.Store books.new → AreAsBefore S.Store books.old books.new }
-    ensures put { IsClean S.Store books.new → (first : ℤ) (acts : List Act) → IsHistory first acts → HoldsBooks S.Store first acts books.old
-        → Puts S.Store first acts (flat_map shipment_line (shipments_of_lot first acts lot.now) ++ notice_end text.in_bins (text.shipped + total (λ s. s.qty) (shipments_of_lot first acts lot.now))) books.old books.new
-        (W.contents out) (W.contents result.0) result.1 }
-{
-    let (mut out, lined) = put_shipments(books, lot, text, out);
-    match lined {
-        Ok(text) => {
+    let mut lines = NoticeLines { text, out };
+    let handed = put_notice_lines(books, lot, &mut lines);
+    let NoticeLines { text, mut out } = lines;
+    match handed {
+        Ok(()) => {
             let end = text_end(text.end(&mut out));
             (out, end)
         }
@@ -185,48 +115,25 @@ fn put_notice_tail<S: Alter, W: Write>(
     }
 }
 
-fn put_bins<S: Alter, W: Write>(
+// The bins and the shipments.
+fn put_notice_lines<S: Alter, W: Write>(
     books: &mut Books<S>,
     lot: &LotId,
-    text: NoticeText,
-    out: W,
-) -> (W, Result<NoticeText, EachFault>)
+    lines: &mut NoticeLines<W>,
+) -> Result<(), EachFault>
     ensures clean { IsClean S.Store books.new → IsClean S.Store books.old }
     ensures as_before { IsClean S.Store books.new → AreAsBefore S.Store books.old books.new }
     ensures put { IsClean S.Store books.new → (first : ℤ) (acts : List Act) → IsHistory first acts → HoldsBooks S.Store first acts books.old
-        → Puts S.Store first acts (flat_map bin_line (bins_of_lot first acts lot.now)) books.old books.new (W.contents out) (W.contents result.0) result.1 }
+        → Puts S.Store first acts (flat_map bin_line (bins_of_lot first acts lot.now) ++ flat_map shipment_line (shipments_of_lot first acts lot.now)) books.old books.new
+        (W.contents lines.old.out) (W.contents lines.new.out) result }
     ensures counted { IsClean S.Store books.new → (first : ℤ) (acts : List Act) → IsHistory first acts → HoldsBooks S.Store first acts books.old
-        → IfOk result.1 (λ t. t ≡ record text { in_bins = text.in_bins + total (λ u. u.qty) (bins_of_lot first acts lot.now) }) }
+        → OnOk result (lines.new.text ≡ record {
+          in_bins = lines.old.text.in_bins + total (λ u. u.qty) (bins_of_lot first acts lot.now);
+          shipped = lines.old.text.shipped + total (λ s. s.qty) (shipments_of_lot first acts lot.now);
+        }) }
 {
-    let mut lines = NoticeLines { text, out };
-    let handed = books.each_bin(lot, &mut lines);
-    let NoticeLines { text, out } = lines;
-    match handed {
-        Ok(()) => (out, Ok(text)),
-        Err(fault) => (out, Err(fault)),
-    }
-}
-
-fn put_shipments<S: Alter, W: Write>(
-    books: &mut Books<S>,
-    lot: &LotId,
-    text: NoticeText,
-    out: W,
-) -> (W, Result<NoticeText, EachFault>)
-    ensures clean { IsClean S.Store books.new → IsClean S.Store books.old }
-    ensures as_before { IsClean S.Store books.new → AreAsBefore S.Store books.old books.new }
-    ensures put { IsClean S.Store books.new → (first : ℤ) (acts : List Act) → IsHistory first acts → HoldsBooks S.Store first acts books.old
-        → Puts S.Store first acts (flat_map shipment_line (shipments_of_lot first acts lot.now)) books.old books.new (W.contents out) (W.contents result.0) result.1 }
-    ensures counted { IsClean S.Store books.new → (first : ℤ) (acts : List Act) → IsHistory first acts → HoldsBooks S.Store first acts books.old
-        → IfOk result.1 (λ t. t ≡ record text { shipped = text.shipped + total (λ s. s.qty) (shipments_of_lot first acts lot.now) }) }
-{
-    let mut lines = NoticeLines { text, out };
-    let handed = books.each_shipment(lot, &mut lines);
-    let NoticeLines { text, out } = lines;
-    match handed {
-        Ok(()) => (out, Ok(text)),
-        Err(fault) => (out, Err(fault)),
-    }
+    books.each_bin(lot, lines)?;
+    books.each_shipment(lot, lines)
 }
 
 /// A writer that failed takes no more.

@@ -1,42 +1,33 @@
-use Rattle.std.proofs.Common.{◌++◌, subst, refl, Err}
+use Rattle.std.proofs.Common.{subst, Ok, Err}
 use Rattle.std.specs.Prelude.{flat_map}
 use Rattle.commands.specs.Cards.{rest_after}
 use Rattle.machine.specs.Views.{card_of_lot}
-use Rattle.texts.specs.Card.{card_start, card_line, card_end}
-use Rattle.texts.proofs.Beginnings.{beginning_of_first}
-use Rattle.store.specs.declared.each_fault.EachFault.TheVariants.{Stopped}
-use Rattle.house.specs.LotTexts.{Puts}
-use Rattle.house.proofs.LotWriting.{same_books, put_behind, card_whole}
-use Rattle.sqlite.specs.Held.{state}
-use Rattle.store.proofs.AsBefore.{as_before_itself}
+use Rattle.texts.specs.Card.{card_line, card_end}
+use Rattle.texts.specs.Sinks.{AddsCardLine, CutsCardLine}
+use Rattle.texts.specs.Writing.{Writes}
+use Rattle.texts.proofs.Lined.{card_lined}
+use Rattle.house.proofs.LotWriting.{put_part, put_whole, lines_put}
 use Rattle.house.proofs.lot_texts.put_card.Goals as goal
 
 pub returns-in-Ok-clause-put : goal.returns-in-Ok-clause-put
 returns-in-Ok-clause-put g c clean first acts history holds =
-    let l = c.args.lot.now in
-    let old = c.args.books.now in
-    let new = c.put_card_rest.new.books in
     let at = g.W.Write.contents in
-    let lines = card_of_lot first acts l in
-    let head = card_start c.args.item.now l.lot c.args.expiry in
-    let rest = flat_map card_line lines ++ card_end (rest_after c.in-Ok.text lines) in
-    subst (λ t. Puts g.S.Store first acts t old new (at c.args.out) (at c.put_card_rest.result.0) c.put_card_rest.result.1) (card_whole first acts l c.args.item.now c.args.expiry c.in-Ok.text c.in-Ok.ensures.none)
-    (put_behind g.S.Store first acts c.put_card_rest.result.1 head rest old old new (at c.args.out) (at c.start.new.out) (at c.put_card_rest.result.0) c.in-Ok.ensures.written
-    (same_books g.S.Store first acts old holds) (c.put_card_rest.ensures.put clean first acts history holds))
+    let was = c.args.books.now in
+    let books = c.each_card-handed.new.self in
+    let after = c.each_card-handed.new.sink in
+    let rows = card_of_lot first acts c.args.lot.now in
+    let h = c.in-Ok.ensures.handed clean first acts history holds in
+    let put = lines_put g.S.Store first acts (λ k. at k.out) card_line (AddsCardLine at) (CutsCardLine at) (λ _ _ _ w. w.written) (λ _ _ _ w. w.written) (Ok tt) rows _ after was books history c.in-Ok.ensures.survives clean holds h in
+    put_whole g.S.Store first acts c.end.result c.text_end-end.result (flat_map card_line rows) (card_end (rest_after c.args.text rows)) was books (at c.args.out) (at after.out) (at c.end.new.out) put c.text_end-end.ensures
+    (subst (λ n. Writes c.end.result (at after.out) (at c.end.new.out) (card_end n)) (card_lined at _ rows after h.0).1 c.end.ensures)
 
 pub returns-in-Err-clause-put : goal.returns-in-Err-clause-put
 returns-in-Err-clause-put g c clean first acts history holds =
-    let l = c.args.lot.now in
-    let old = c.args.books.now in
     let at = g.W.Write.contents in
-    let lines = card_of_lot first acts l in
-    let head = card_start c.args.item.now l.lot c.args.expiry in
-    let rest = flat_map card_line lines ++ card_end (rest_after 0 lines) in
-    subst (λ t. Puts {X = Unit} g.S.Store first acts t old old (at c.args.out) (at c.start.new.out) (Err Stopped)) (card_whole first acts l c.args.item.now c.args.expiry 0 refl)
-    (beginning_of_first (at c.args.out) (at c.start.new.out) head rest c.in-Err.ensures.written, same_books g.S.Store first acts old holds)
-
-pub returns-in-Ok-clause-as_before : goal.returns-in-Ok-clause-as_before
-returns-in-Ok-clause-as_before g c clean = c.put_card_rest.ensures.as_before clean
-
-pub returns-in-Err-clause-as_before : goal.returns-in-Err-clause-as_before
-returns-in-Err-clause-as_before g c clean = as_before_itself (state g.S.Store c.args.books.now.conn)
+    let was = c.args.books.now in
+    let books = c.each_card-handed.new.self in
+    let after = c.each_card-handed.new.sink in
+    let rows = card_of_lot first acts c.args.lot.now in
+    let h = c.in-Err.ensures.handed clean first acts history holds in
+    put_part g.S.Store first acts c.in-Err.fault (flat_map card_line rows) (card_end (rest_after c.args.text rows)) was books (at c.args.out) (at after.out)
+    (lines_put g.S.Store first acts (λ k. at k.out) card_line (AddsCardLine at) (CutsCardLine at) (λ _ _ _ w. w.written) (λ _ _ _ w. w.written) (Err c.in-Err.fault) rows _ after was books history c.in-Err.ensures.survives clean holds h)
