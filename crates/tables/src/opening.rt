@@ -80,10 +80,7 @@ fn over<S: Alter + Drop>(alloc: Global, store: S) -> Result<Connection<S>, (Erro
 }
 
 /// Opens the store of a connection once more, and so learns that its tables are in order.
-fn reopen<S: Alter + Drop>(
-    alloc: Global,
-    conn: Connection<S>,
-) -> Result<Connection<S>, (Error, S)>
+fn reopen<S: Alter + Drop>(alloc: Global, conn: Connection<S>) -> Result<Connection<S>, (Error, S)>
     ensures ready { IfOk result (λ c. HasCleanDisk (state S.Store c) → (found : Found) → HasSchema found (state S.Store c).now.schema → IsReadyAs found (state S.Store c).now) }
     ensures opens { IfOk result (λ c. HasCleanDisk (state S.Store c) → Opens (state S.Store c) × IsLive (state S.Store c) × IsTrue (state S.Store conn).is_open) }
     ensures fresh { IfOk result IsNew }
