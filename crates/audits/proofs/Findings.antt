@@ -1,8 +1,9 @@
 -- What follows of what was compared.
-use Rattle.std.proofs.Common.{◌≡◌, ◌≢◌, ℕ, List, [], ◌∷◌, length, find, Option, Some, None, Result, Ok, Err, IfOk, inl, inr, refl, sym, ap, subst, ◌∙◌, arith}
+use Rattle.std.proofs.Common.{◌≡◌, ◌≢◌, ℕ, List, [], ◌∷◌, ◌++◌, take, drop, length, find, Option, Some, None, Result, Ok, Err, IfOk, inl, inr, refl, sym, ap, subst, ◌∙◌, arith}
 use Rattle.std.specs.Prelude.{ℤ, reverse, option_map}
 use Rattle.std.proofs.lemmas.Option.{same_Some, none-some}
 use Rattle.std.proofs.lemmas.List.{length-reverse}
+use Rattle.std.proofs.Math.Seq.{take-append_seam}
 use Rattle.sqlite.specs.State.{State}
 use Rattle.sqlite.specs.Tree.{Trees}
 use Rattle.values.specs.Values.{same_text}
@@ -177,3 +178,8 @@ repeats_by_act t rows sorted found order alike = record { order = order; found =
 pub if_ok_then : {X E : Type 0} (r : Result X E) (P Q : X → Type 0) → ((x : X) → P x → Q x) → IfOk r P → IfOk r Q
 if_ok_then (Ok x) P Q f h = f x h
 if_ok_then (Err e) P Q f h = tt
+
+-- ---- rows that were put in order in place
+
+pub in_place : {X : Type 0} (before after : List X) (n : ℕ) → length after ≡ length before → length before ≡ n → take n (after ++ drop (length after) before) ≡ after
+in_place before after n e f = subst (λ n. take n (after ++ drop (length after) before) ≡ after) (e ∙ f) (take-append_seam after (drop (length after) before))

@@ -1,6 +1,7 @@
 pub mod Telling
+pub mod InHalves
 pub mod Tables
-pub mod Memory
+pub mod Again
 pub mod Beginning
 pub mod Findings
 pub mod Raised

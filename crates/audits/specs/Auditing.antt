@@ -1,10 +1,8 @@
 -- What an audit finds.
 use Rattle.std.specs.Prelude.{◌≡◌, ◌⊎◌, ◌≤◌, ⊤, ℕ, false, List, reverse, length, Option, Some, None, ℤ}
-use Rattle.sqlite.specs.Steps.{over_memory}
 use Rattle.sqlite.specs.Held.{Held, state}
 use Rattle.sqlite.specs.Tree.{Trees}
 use Rattle.sqlite.specs.State.{State, HasCleanDisk}
-use Rattle.sqlite_trees.specs.declared.memory.MemStore.{MemStore}
 use Rattle.sqlite_trees.specs.declared.store.Store.{Ghosts}
 use Rattle.sqlite_trees.specs.View.{doubt}
 use Rattle.commands.specs.declared.rows.RepeatRow.{RepeatRow}
@@ -29,11 +27,11 @@ use Rattle.audits.specs.declared.finding.Finding.{Finding}
 use Rattle.audits.specs.declared.finding.Finding.TheVariants.{Sound, Differs, Untyped, Unnumbered, Unspelled, Refused}
 
 -- the rows, the oldest first, spell a history from this day, and the connection shows the books of it
-pub record AreDone (day : ℤ) (rows : List RepeatRow) (conn : Held MemStore) : Type 0 where
+pub record AreDone {S : Type 0} (g : Ghosts S) (day : ℤ) (rows : List RepeatRow) (conn : Held S) : Type 0 where
   pub acts : List Act
   pub spelled : Spell (reverse rows) acts
   pub history : IsHistory day acts
-  pub books : IsBooksOf day acts (state over_memory conn).now
+  pub books : IsBooksOf day acts (state g conn).now
 
 -- they spell none; or memory did not suffice
 abbrev pub AreNone : ℤ → List RepeatRow → NotReplayed → Type 0

@@ -2,9 +2,10 @@
 
 ghost use Rattle.std.specs.Prelude.{◌≡◌};
 ghost use Rattle.sqlite.specs.Held.{state};
-ghost use Rattle.audits.specs.Comparing.{Tells, TellsNext, SameTable, SameGoods, SameOrders, SameHistory, SameTables};
+ghost use Rattle.audits.specs.Comparing.{Tells, TellsNext, SameGoods, SameOrders, SameHistory, SameTables};
 
-use crate::finding::Unread;
+use crate::halves::next_halves;
+use crate::one_table::{Told, compare, next};
 use goods_tables::bins::Bins;
 use goods_tables::items::Items;
 use goods_tables::least::Least;
@@ -21,59 +22,15 @@ use order_tables::orders::Orders;
 use order_tables::reserved::Reserved;
 use order_tables::staged::Staged;
 use order_tables::urgents::Urgents;
-use same_rows::{Compared, RowKey, first_difference};
 use sqlite::{Alter, Transaction};
 use std::alloc::Global;
-use table_words::error::TableFault;
-use whole_tables::all_rows;
-
-/// What comparing has told so far: a row that differs, or none.
-type Told = Result<Option<RowKey>, Unread>;
-
-/// The first row of the table that the two have not alike.
-fn compare<T: Compared, S: Alter, M: Alter>(
-    alloc: Global,
-    books: &mut Transaction<'_, S>,
-    again: &mut Transaction<'_, M>,
-) -> Told
-    ensures same_reference { books.new.conn.ghost_name ≡ books.old.conn.ghost_name }
-    ensures same_reference_too { again.new.conn.ghost_name ≡ again.old.conn.ghost_name }
-    ensures tells { Tells (SameTable T.table) (state S.Store books.old.conn.now) (state S.Store books.new.conn.now) (state M.Store again.old.conn.now) (state M.Store again.new.conn.now) result }
-{
-    let mut mine = match all_rows::<T, S>(alloc, books) {
-        Ok(rows) => rows,
-        Err(TableFault::Foreign) => return Err(Unread::Untyped(T::table_name())),
-        Err(TableFault::Store(_)) => return Err(Unread::Store),
-    };
-    let mut theirs = match all_rows::<T, M>(alloc, again) {
-        Ok(rows) => rows,
-        Err(_) => return Err(Unread::Store),
-    };
-    Ok(first_difference::<T>(&mut mine, &mut theirs))
-}
-
-/// Compares the table too, where nothing was told so far.
-fn next<T: Compared, S: Alter, M: Alter>(
-    alloc: Global,
-    books: &mut Transaction<'_, S>,
-    again: &mut Transaction<'_, M>,
-    so_far: Told,
-) -> Told
-    ensures same_reference { books.new.conn.ghost_name ≡ books.old.conn.ghost_name }
-    ensures same_reference_too { again.new.conn.ghost_name ≡ again.old.conn.ghost_name }
-    ensures tells { TellsNext S.Store M.Store (SameTable T.table) so_far books.old.conn.now books.new.conn.now again.old.conn.now again.new.conn.now result }
-{
-    match so_far {
-        Ok(None) => compare::<T, S, M>(alloc, books, again),
-        _ => so_far,
-    }
-}
 
 /// The tables of the goods.
 fn compare_goods<S: Alter, M: Alter>(
     alloc: Global,
     books: &mut Transaction<'_, S>,
     again: &mut Transaction<'_, M>,
+    middle: &i64,
 ) -> Told
     ensures same_reference { books.new.conn.ghost_name ≡ books.old.conn.ghost_name }
     ensures same_reference_too { again.new.conn.ghost_name ≡ again.old.conn.ghost_name }
@@ -84,7 +41,7 @@ fn compare_goods<S: Alter, M: Alter>(
     let bins = next::<Bins, S, M>(alloc, books, again, items);
     let lots = next::<Lots, S, M>(alloc, books, again, bins);
     let recalls = next::<Recalls, S, M>(alloc, books, again, lots);
-    next::<Stock, S, M>(alloc, books, again, recalls)
+    next_halves::<Stock, S, M>(alloc, books, again, middle, recalls)
 }
 
 /// And those of the orders.
@@ -92,6 +49,7 @@ fn compare_orders<S: Alter, M: Alter>(
     alloc: Global,
     books: &mut Transaction<'_, S>,
     again: &mut Transaction<'_, M>,
+    middle: &i64,
     so_far: Told,
 ) -> Told
     ensures same_reference { books.new.conn.ghost_name ≡ books.old.conn.ghost_name }
@@ -99,9 +57,9 @@ fn compare_orders<S: Alter, M: Alter>(
     ensures tells { TellsNext S.Store M.Store SameOrders so_far books.old.conn.now books.new.conn.now again.old.conn.now again.new.conn.now result }
 {
     let orders = next::<Orders, S, M>(alloc, books, again, so_far);
-    let lines = next::<Lines, S, M>(alloc, books, again, orders);
+    let lines = next_halves::<Lines, S, M>(alloc, books, again, middle, orders);
     let staged = next::<Staged, S, M>(alloc, books, again, lines);
-    next::<Reserved, S, M>(alloc, books, again, staged)
+    next_halves::<Reserved, S, M>(alloc, books, again, middle, staged)
 }
 
 /// And those of what was shipped and done.
@@ -109,6 +67,7 @@ fn compare_history<S: Alter, M: Alter>(
     alloc: Global,
     books: &mut Transaction<'_, S>,
     again: &mut Transaction<'_, M>,
+    middle: &i64,
     so_far: Told,
 ) -> Told
     ensures same_reference { books.new.conn.ghost_name ≡ books.old.conn.ghost_name }
@@ -116,24 +75,26 @@ fn compare_history<S: Alter, M: Alter>(
     ensures tells { TellsNext S.Store M.Store SameHistory so_far books.old.conn.now books.new.conn.now again.old.conn.now again.new.conn.now result }
 {
     let shipments = next::<Shipments, S, M>(alloc, books, again, so_far);
-    let shiplines = next::<Shiplines, S, M>(alloc, books, again, shipments);
-    let cards = next::<Cards, S, M>(alloc, books, again, shiplines);
-    let repeats = next::<Repeats, S, M>(alloc, books, again, cards);
+    let shiplines = next_halves::<Shiplines, S, M>(alloc, books, again, middle, shipments);
+    let cards = next_halves::<Cards, S, M>(alloc, books, again, middle, shiplines);
+    let repeats = next_halves::<Repeats, S, M>(alloc, books, again, middle, cards);
     let least = next::<Least, S, M>(alloc, books, again, repeats);
     next::<Urgents, S, M>(alloc, books, again, least)
 }
 
-/// The first row of any table that the two have not alike, in the order of the tables and of their keys.
+/// The first row of any table that the two have not alike, in the order of the tables and of their keys. Tables that grow with
+/// the acts are halved about the rowid `middle`.
 pub(crate) fn compare_tables<S: Alter, M: Alter>(
     alloc: Global,
     books: &mut Transaction<'_, S>,
     again: &mut Transaction<'_, M>,
+    middle: &i64,
 ) -> Told
     ensures same_reference { books.new.conn.ghost_name ≡ books.old.conn.ghost_name }
     ensures same_reference_too { again.new.conn.ghost_name ≡ again.old.conn.ghost_name }
     ensures tells { Tells SameTables (state S.Store books.old.conn.now) (state S.Store books.new.conn.now) (state M.Store again.old.conn.now) (state M.Store again.new.conn.now) result }
 {
-    let goods = compare_goods(alloc, books, again);
-    let orders = compare_orders(alloc, books, again, goods);
-    compare_history(alloc, books, again, orders)
+    let goods = compare_goods(alloc, books, again, middle);
+    let orders = compare_orders(alloc, books, again, middle, goods);
+    compare_history(alloc, books, again, middle, orders)
 }

@@ -4,6 +4,8 @@
 mod begun;
 mod comparing;
 mod finding;
+mod halves;
+mod one_table;
 mod raising;
 mod replayed;
 mod whole;

@@ -3,7 +3,6 @@
 ghost use Rattle.std.specs.Prelude.{◌≡◌, ℕ, ℤ, List, Some, None, false, IfOk, IsErr, reverse};
 ghost use Rattle.sqlite.specs.Held.{state};
 ghost use Rattle.sqlite.specs.State.{HasCleanDisk, Survives};
-ghost use Rattle.sqlite.specs.Steps.{over_memory};
 ghost use Rattle.sqlite.specs.Tree.{Trees};
 ghost use Rattle.table_words.specs.Steps.{IsReady};
 ghost use Rattle.table_words.specs.Typed.{tables_in};
@@ -24,12 +23,12 @@ use crate::finding::{Finding, Unread};
 use crate::raising::raise;
 use crate::replayed::act_rows;
 use commands::RepeatRow;
+use empty_database::{Honest, open_in_memory};
 use history_tables::repeats::Repeats;
 use label::BusinessDay;
 use replays::{NotReplayed, Progress, by_act, start_of};
 use same_rows::TableName;
 use sqlite::{Alter, Connection, Transaction};
-use sqlite_trees::memory::MemStore;
 use std::alloc::Global;
 use store::Fault;
 use table_words::error::TableFault;
@@ -46,24 +45,26 @@ fn tell_unread(unread: Unread) -> Result<Finding, Fault>
     }
 }
 
-/// Compares the tables with those of books in memory of so many acts.
-fn hold_against<S: Alter>(
+/// Compares the tables with those of books of so many acts.
+fn hold_against<S: Alter, M: Honest + Drop>(
     alloc: Global,
     tx: &mut Transaction<'_, S>,
-    again: Connection<MemStore>,
+    again: Connection<M>,
     acts: usize,
     day: BusinessDay,
 ) -> Result<Finding, Fault>
     requires outside { again.in_transaction ≡ false }
     ensures same_reference { tx.new.conn.ghost_name ≡ tx.old.conn.ghost_name }
-    ensures held { HasCleanDisk (state S.Store tx.new.conn.now) → IsReady (state S.Store tx.old.conn.now).now → (done : List Act) → IsBooksOf day done (state over_memory again).now
+    ensures held { HasCleanDisk (state S.Store tx.new.conn.now) → IsReady (state S.Store tx.old.conn.now).now → (done : List Act) → IsBooksOf day done (state M.Store again).now
         → IfOk result (IsHeld day done acts (state S.Store tx.old.conn.now).now.trees) }
     ensures survives { Survives (state S.Store tx.old.conn.now) (state S.Store tx.new.conn.now) (λ _. ⊥) }
 {
     let mut again = again;
     let _outside = again.is_autocommit();
     let mut other = again.transaction();
-    let told = compare_tables(alloc, tx, &mut other);
+    // An act adds one row to most of the tables that grow.
+    let middle = (acts / 2) as i64;
+    let told = compare_tables(alloc, tx, &mut other, &middle);
     other.rollback();
     match told {
         Ok(None) => Ok(Finding::Sound {
@@ -75,21 +76,29 @@ fn hold_against<S: Alter>(
     }
 }
 
-/// The acts of the rows done again, and the tables compared with those of them.
-fn do_again<S: Alter, P: Progress>(
+/// The acts of the rows done again in an empty database, and the tables compared with those of them. The rows are let go
+/// before the tables are read.
+fn do_again<S: Alter, M: Honest + Drop, P: Progress>(
     alloc: Global,
     tx: &mut Transaction<'_, S>,
+    empty: Connection<M>,
     day: BusinessDay,
-    rows: &[RepeatRow],
+    rows: Vec<RepeatRow>,
     progress: &mut P,
 ) -> Result<Finding, Fault>
+    requires { empty.in_transaction ≡ false }
     ensures same_reference { tx.new.conn.ghost_name ≡ tx.old.conn.ghost_name }
-    ensures found { HasCleanDisk (state S.Store tx.new.conn.now) → IsReady (state S.Store tx.old.conn.now).now → AreRepeats (reverse rows.now) (tables_in (state S.Store tx.old.conn.now).now.trees)
+    ensures found { HasCleanDisk (state S.Store tx.new.conn.now) → IsReady (state S.Store tx.old.conn.now).now → AreRepeats (reverse rows.items) (tables_in (state S.Store tx.old.conn.now).now.trees)
         → IfOk result (SaysIn (state S.Store tx.old.conn.now).now.trees (Some day)) }
     ensures survives { Survives (state S.Store tx.old.conn.now) (state S.Store tx.new.conn.now) (λ _. ⊥) }
 {
-    match act_rows(alloc, day, rows, progress) {
-        Ok(again) => hold_against(alloc, tx, again, rows.len(), day),
+    let told = rows.as_slice();
+    let acts = told.len();
+    match act_rows(alloc, empty, day, told, progress) {
+        Ok(again) => {
+            drop(rows);
+            hold_against(alloc, tx, again, acts, day)
+        }
         Err(NotReplayed::Unspelled { act }) => Ok(Finding::Unspelled { act }),
         Err(NotReplayed::Refused { act, why }) => Ok(Finding::Refused { act, why }),
         Err(NotReplayed::Store) => Err(Fault::Store),
@@ -98,87 +107,118 @@ fn do_again<S: Alter, P: Progress>(
 }
 
 /// The audit from the day that the tables tell, by the rows of `repeats`, the oldest first.
-fn audit_told<S: Alter, P: Progress>(
+fn audit_told<S: Alter, M: Honest + Drop, P: Progress>(
     alloc: Global,
     tx: &mut Transaction<'_, S>,
-    rows: &[RepeatRow],
+    empty: Connection<M>,
+    rows: Vec<RepeatRow>,
     progress: &mut P,
 ) -> Result<Finding, Fault>
+    requires { empty.in_transaction ≡ false }
     ensures same_reference { tx.new.conn.ghost_name ≡ tx.old.conn.ghost_name }
-    ensures found { HasCleanDisk (state S.Store tx.new.conn.now) → IsReady (state S.Store tx.old.conn.now).now → AreRepeats (reverse rows.now) (tables_in (state S.Store tx.old.conn.now).now.trees)
+    ensures found { HasCleanDisk (state S.Store tx.new.conn.now) → IsReady (state S.Store tx.old.conn.now).now → AreRepeats (reverse rows.items) (tables_in (state S.Store tx.old.conn.now).now.trees)
         → IfOk result (SaysIn (state S.Store tx.old.conn.now).now.trees None) }
     ensures survives { Survives (state S.Store tx.old.conn.now) (state S.Store tx.new.conn.now) (λ _. ⊥) }
 {
-    let start = start_of(alloc, rows)?;
+    let start = start_of(alloc, rows.as_slice())?;
     match first_day(alloc, tx, start)? {
-        Begun::On(day) => do_again(alloc, tx, day, rows, progress),
+        Begun::On(day) => do_again(alloc, tx, empty, day, rows, progress),
         Begun::Missing(row) => Ok(Finding::Differs(row)),
         Begun::Untyped(name) => Ok(Finding::Untyped(name)),
     }
 }
 
 /// The audit by all rows of `repeats`.
-fn audit_rows<S: Alter, P: Progress>(
+fn audit_rows<S: Alter, M: Honest + Drop, P: Progress>(
     alloc: Global,
     tx: &mut Transaction<'_, S>,
+    empty: Connection<M>,
     given: Option<BusinessDay>,
-    rows: &mut [RepeatRow],
+    mut rows: Vec<RepeatRow>,
     progress: &mut P,
 ) -> Result<Finding, Fault>
+    requires { empty.in_transaction ≡ false }
     ensures same_reference { tx.new.conn.ghost_name ≡ tx.old.conn.ghost_name }
-    ensures found { HasCleanDisk (state S.Store tx.new.conn.now) → IsReady (state S.Store tx.old.conn.now).now → AreAll repeats (tables_in (state S.Store tx.old.conn.now).now.trees) rows.old
+    ensures found { HasCleanDisk (state S.Store tx.new.conn.now) → IsReady (state S.Store tx.old.conn.now).now → AreAll repeats (tables_in (state S.Store tx.old.conn.now).now.trees) rows.items
         → IfOk result (SaysIn (state S.Store tx.old.conn.now).now.trees given) }
     ensures survives { Survives (state S.Store tx.old.conn.now) (state S.Store tx.new.conn.now) (λ _. ⊥) }
 {
-    if let Some(key) = by_act(rows) {
+    if let Some(key) = by_act(&mut rows) {
         return Ok(Finding::Unnumbered(key));
     }
     match given {
-        Some(day) => do_again(alloc, tx, day, rows, progress),
-        None => audit_told(alloc, tx, rows, progress),
+        Some(day) => do_again(alloc, tx, empty, day, rows, progress),
+        None => audit_told(alloc, tx, empty, rows, progress),
     }
 }
 
 /// The audit within a transaction.
-fn audit_inside<S: Alter, P: Progress>(
+fn audit_inside<S: Alter, M: Honest + Drop, P: Progress>(
     alloc: Global,
     tx: &mut Transaction<'_, S>,
+    empty: Connection<M>,
     given: Option<BusinessDay>,
     progress: &mut P,
 ) -> Result<Finding, Fault>
+    requires { empty.in_transaction ≡ false }
     ensures same_reference { tx.new.conn.ghost_name ≡ tx.old.conn.ghost_name }
     ensures found { HasCleanDisk (state S.Store tx.new.conn.now) → IsReady (state S.Store tx.old.conn.now).now
         → IfOk result (SaysIn (state S.Store tx.old.conn.now).now.trees given) }
     ensures survives { Survives (state S.Store tx.old.conn.now) (state S.Store tx.new.conn.now) (λ _. ⊥) }
 {
-    let mut rows = match all_rows::<Repeats, S>(alloc, tx) {
+    let rows = match all_rows::<Repeats, S>(alloc, tx) {
         Ok(rows) => rows,
         Err(TableFault::Foreign) => return Ok(Finding::Untyped(TableName::Repeats)),
         Err(TableFault::Store(_)) => return Err(Fault::Store),
     };
-    audit_rows(alloc, tx, given, &mut rows, progress)
+    audit_rows(alloc, tx, empty, given, rows, progress)
 }
 
 /// The audit within a transaction over these books, whose tables are made the newest first.
-fn audit_raised<S: Alter, P: Progress>(
+fn audit_raised<S: Alter, M: Honest + Drop, P: Progress>(
     alloc: Global,
     tx: &mut Transaction<'_, S>,
+    empty: Connection<M>,
     found: Found,
     given: Option<BusinessDay>,
     progress: &mut P,
 ) -> Result<Finding, Fault>
+    requires { empty.in_transaction ≡ false }
     ensures same_reference { tx.new.conn.ghost_name ≡ tx.old.conn.ghost_name }
     ensures found { HasCleanDisk (state S.Store tx.new.conn.now) → (base : Trees) → IsBegunOver found base (state S.Store tx.old.conn.now) → IfOk result (IsFound found given base) }
     ensures survives { Survives (state S.Store tx.old.conn.now) (state S.Store tx.new.conn.now) (λ _. ⊥) }
 {
     match raise(alloc, tx, found) {
-        Ok(()) => audit_inside(alloc, tx, given, progress),
+        Ok(()) => audit_inside(alloc, tx, empty, given, progress),
         Err(fault) => Err(Fault::from(fault)),
     }
 }
 
 /// The audit over a connection to these books, in a transaction of its own that is rolled back.
-fn audit_open<S: Alter, P: Progress>(
+fn audit_open<S: Alter, M: Honest + Drop, P: Progress>(
+    alloc: Global,
+    conn: &mut Connection<S>,
+    empty: Connection<M>,
+    found: Found,
+    given: Option<BusinessDay>,
+    progress: &mut P,
+) -> Result<Finding, Fault>
+    requires outside { conn.old.in_transaction ≡ false }
+    requires outside_too { empty.in_transaction ≡ false }
+    ensures outside { conn.new.in_transaction ≡ false }
+    ensures found { HasCleanDisk (state S.Store conn.new) → IsReadyAs found (state S.Store conn.old).now → IfOk result (IsFound found given (state S.Store conn.old).now.trees) }
+    ensures survives { Survives (state S.Store conn.old) (state S.Store conn.new) (λ _. ⊥) }
+{
+    let _outside = conn.is_autocommit();
+    let mut tx = conn.transaction();
+    let finding = audit_raised(alloc, &mut tx, empty, found, given, progress);
+    tx.rollback();
+    finding
+}
+
+/// The same, against books in memory.
+// The one function over the type of their connection: each costs the proof as much as several others (docs/GATE.md).
+fn audit_in_memory<S: Alter, P: Progress>(
     alloc: Global,
     conn: &mut Connection<S>,
     found: Found,
@@ -190,11 +230,10 @@ fn audit_open<S: Alter, P: Progress>(
     ensures found { HasCleanDisk (state S.Store conn.new) → IsReadyAs found (state S.Store conn.old).now → IfOk result (IsFound found given (state S.Store conn.old).now.trees) }
     ensures survives { Survives (state S.Store conn.old) (state S.Store conn.new) (λ _. ⊥) }
 {
-    let _outside = conn.is_autocommit();
-    let mut tx = conn.transaction();
-    let finding = audit_raised(alloc, &mut tx, found, given, progress);
-    tx.rollback();
-    finding
+    match open_in_memory(alloc) {
+        Ok(empty) => audit_open(alloc, conn, empty, found, given, progress),
+        Err(_) => Err(Fault::Store),
+    }
 }
 
 /// Holds the tables of the books over this connection against the acts that their `repeats` spells: does the acts again, the
@@ -219,6 +258,6 @@ pub fn audit<S: Alter + Drop, P: Progress>(
         Ok(opened) => opened,
         Err((left, fault)) => return (left, Err(Fault::from(fault))),
     };
-    let finding = audit_open(alloc, &mut again, found, given, progress);
+    let finding = audit_in_memory(alloc, &mut again, found, given, progress);
     (Leftover::Connection(again), finding)
 }

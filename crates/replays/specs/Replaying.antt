@@ -1,6 +1,7 @@
 -- What it is to do acts again.
-use Rattle.std.specs.Prelude.{◌≡◌, List, [], ◌∷◌, reverse, Result, Ok, Err, ℤ}
+use Rattle.std.specs.Prelude.{◌≡◌, List, [], ◌∷◌, reverse, Result, Ok, Err, ℤ, IsTrue}
 use Rattle.sqlite_trees.specs.declared.store.Store.{Ghosts}
+use Rattle.sqlite.specs.Held.{state}
 use Rattle.commands.specs.Spelling.{key_text, spelling}
 use Rattle.commands.specs.declared.rows.RepeatRow.{RepeatRow}
 use Rattle.machine.specs.Acts.{Act}
@@ -10,9 +11,13 @@ use Rattle.store.specs.Connected.{Connected}
 use Rattle.replays.specs.declared.fault.NotReplayed.{NotReplayed}
 use Rattle.replays.specs.declared.fault.NotReplayed.TheVariants.{Unspelled, Refused, Store, Foreign}
 
--- the books are those of the acts, which are a history; or the acts are none; or memory did not suffice
+-- the disk has not shut the connection
+abbrev pub IsOpen : {S : Type 0} → Ghosts S → Connected S → Type 0
+IsOpen g books = IsTrue (state g books.conn).is_open
+
+-- the books are those of the acts, which are a history, and open; or the acts are none; or memory did not suffice
 abbrev pub IsReplayed : {S : Type 0} → Ghosts S → ℤ → List Act → Result (Unit {0}) NotReplayed → Connected S → Type 0
-IsReplayed g first acts (Ok done) books = IsHistory first acts × HoldsBooks g first acts books
+IsReplayed g first acts (Ok done) books = IsHistory first acts × IsOpen g books × HoldsBooks g first acts books
 IsReplayed g first acts (Err (Unspelled act)) books = ¬ IsHistory first acts
 IsReplayed g first acts (Err (Refused act why)) books = ¬ IsHistory first acts
 IsReplayed g first acts (Err Store) books = Unit {0}
@@ -34,7 +39,7 @@ Spell (row ∷ rows) [] = ⊥
 
 -- the books are those of an act more, which the row is of; or of no act that goes on with the history; or memory did not suffice
 abbrev pub IsRowReplayed : {S : Type 0} → Ghosts S → ℤ → List Act → RepeatRow → Result (Unit {0}) NotReplayed → Connected S → Type 0
-IsRowReplayed g first acts row (Ok done) books = (act : Act) × IsRowOf row act × IsHistory first (act ∷ acts) × HoldsBooks g first (act ∷ acts) books
+IsRowReplayed g first acts row (Ok done) books = (act : Act) × IsRowOf row act × IsHistory first (act ∷ acts) × IsOpen g books × HoldsBooks g first (act ∷ acts) books
 IsRowReplayed g first acts row (Err (Unspelled number)) books = (act : Act) → IsRowOf row act → ¬ IsHistory first (act ∷ acts)
 IsRowReplayed g first acts row (Err (Refused number why)) books = (act : Act) → IsRowOf row act → ¬ IsHistory first (act ∷ acts)
 IsRowReplayed g first acts row (Err Store) books = Unit {0}
@@ -42,7 +47,7 @@ IsRowReplayed g first acts row (Err Foreign) books = ⊥
 
 -- the same of all rows, the oldest act first
 abbrev pub AreRowsReplayed : {S : Type 0} → Ghosts S → ℤ → List RepeatRow → Result (Unit {0}) NotReplayed → Connected S → Type 0
-AreRowsReplayed g first rows (Ok done) books = (acts : List Act) × Spell (reverse rows) acts × IsHistory first acts × HoldsBooks g first acts books
+AreRowsReplayed g first rows (Ok done) books = (acts : List Act) × Spell (reverse rows) acts × IsHistory first acts × IsOpen g books × HoldsBooks g first acts books
 AreRowsReplayed g first rows (Err (Unspelled number)) books = (acts : List Act) → Spell (reverse rows) acts → ¬ IsHistory first acts
 AreRowsReplayed g first rows (Err (Refused number why)) books = (acts : List Act) → Spell (reverse rows) acts → ¬ IsHistory first acts
 AreRowsReplayed g first rows (Err Store) books = Unit {0}

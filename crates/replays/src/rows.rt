@@ -4,7 +4,7 @@ ghost use Rattle.std.specs.Prelude.{[], ℤ, List};
 ghost use Rattle.machine.specs.Acts.{Act};
 ghost use Rattle.machine.specs.Once.{IsHistory};
 ghost use Rattle.store.specs.Books.{HoldsBooks, IsClean};
-ghost use Rattle.replays.specs.Replaying.{IsRowReplayed, AreRowsReplayed};
+ghost use Rattle.replays.specs.Replaying.{IsOpen, IsRowReplayed, AreRowsReplayed};
 
 use crate::again::act_again;
 use crate::{NotReplayed, Progress};
@@ -23,7 +23,7 @@ pub fn replay_rows<S: Alter, P: Progress>(
     progress: &mut P,
 ) -> Result<(), NotReplayed>
     ensures clean { IsClean S.Store books.new → IsClean S.Store books.old }
-    ensures replayed { IsClean S.Store books.new → (first : ℤ) → IsHistory first [] → HoldsBooks S.Store first [] books.old
+    ensures replayed { IsClean S.Store books.new → (first : ℤ) → IsHistory first [] → IsOpen S.Store books.old → HoldsBooks S.Store first [] books.old
         → AreRowsReplayed S.Store first rows.now result books.new }
 {
     for row in rows {

@@ -11,5 +11,5 @@ mod lot;
 mod orders;
 
 pub use compared::Compared;
-pub use differing::first_difference;
+pub use differing::{are_same, first_difference};
 pub use key::{RowKey, TableName};

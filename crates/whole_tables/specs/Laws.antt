@@ -1,5 +1,5 @@
 -- What the texts ask for.
-use Rattle.std.proofs.Common.{refl}
+use Rattle.std.proofs.Common.{refl, ℕ, List}
 use Rattle.sqlite.specs.Listing.{understood}
 use Rattle.sqlite_tied.specs.Compute.{everything}
 use Rattle.goods_tables.specs.Meta.{meta}
@@ -18,8 +18,11 @@ use Rattle.history_tables.specs.Shipments.{shipments}
 use Rattle.history_tables.specs.Shiplines.{shiplines}
 use Rattle.history_tables.specs.Cards.{cards}
 use Rattle.history_tables.specs.Repeats.{repeats}
-use Rattle.whole_tables.specs.declared.texts.TheConstants.{ALL_META, ALL_LEAST, ALL_RECALLS, ALL_STOCK, ALL_ORDERS, ALL_URGENTS, ALL_LINES, ALL_RESERVED, ALL_SHIPMENTS, ALL_SHIPLINES, ALL_CARDS, ALL_REPEATS}
+use Rattle.whole_tables.specs.declared.texts.TheConstants.{ALL_META, ALL_LEAST, ALL_RECALLS, ALL_STOCK, ALL_ORDERS, ALL_URGENTS, ALL_LINES, ALL_RESERVED, ALL_SHIPMENTS, ALL_SHIPLINES, ALL_CARDS, ALL_REPEATS, LOWER_STOCK, UPPER_STOCK, LOWER_LINES, UPPER_LINES, LOWER_RESERVED, UPPER_RESERVED, LOWER_SHIPLINES, UPPER_SHIPLINES, LOWER_CARDS, UPPER_CARDS, LOWER_REPEATS, UPPER_REPEATS}
 use Rattle.whole_tables.specs.Whole.{WholeIs}
+use Rattle.whole_tables.specs.Halves.{HalvesAre}
+use Rattle.whole_tables.specs.declared.halves.Half.{Half}
+use Rattle.whole_tables.specs.declared.halves.Half.TheVariants.{Lower, Upper}
 
 pub meta_is : WholeIs meta ALL_META.now
 unfolding understood everything
@@ -80,3 +83,57 @@ cards_is rest = (refl, refl, (refl, refl))
 pub repeats_is : WholeIs repeats ALL_REPEATS.now
 unfolding understood everything
 repeats_is rest = (refl, refl, (refl, refl))
+
+abbrev pub stock_half : Half → List ℕ
+stock_half Lower = LOWER_STOCK.now
+stock_half Upper = UPPER_STOCK.now
+
+pub stock_halves : HalvesAre stock stock_half
+unfolding understood everything
+stock_halves Lower rest = (refl, refl, (refl, refl))
+stock_halves Upper rest = (refl, refl, (refl, refl))
+
+abbrev pub lines_half : Half → List ℕ
+lines_half Lower = LOWER_LINES.now
+lines_half Upper = UPPER_LINES.now
+
+pub lines_halves : HalvesAre lines lines_half
+unfolding understood everything
+lines_halves Lower rest = (refl, refl, (refl, refl))
+lines_halves Upper rest = (refl, refl, (refl, refl))
+
+abbrev pub reserved_half : Half → List ℕ
+reserved_half Lower = LOWER_RESERVED.now
+reserved_half Upper = UPPER_RESERVED.now
+
+pub reserved_halves : HalvesAre reserved reserved_half
+unfolding understood everything
+reserved_halves Lower rest = (refl, refl, (refl, refl))
+reserved_halves Upper rest = (refl, refl, (refl, refl))
+
+abbrev pub shiplines_half : Half → List ℕ
+shiplines_half Lower = LOWER_SHIPLINES.now
+shiplines_half Upper = UPPER_SHIPLINES.now
+
+pub shiplines_halves : HalvesAre shiplines shiplines_half
+unfolding understood everything
+shiplines_halves Lower rest = (refl, refl, (refl, refl))
+shiplines_halves Upper rest = (refl, refl, (refl, refl))
+
+abbrev pub cards_half : Half → List ℕ
+cards_half Lower = LOWER_CARDS.now
+cards_half Upper = UPPER_CARDS.now
+
+pub cards_halves : HalvesAre cards cards_half
+unfolding understood everything
+cards_halves Lower rest = (refl, refl, (refl, refl))
+cards_halves Upper rest = (refl, refl, (refl, refl))
+
+abbrev pub repeats_half : Half → List ℕ
+repeats_half Lower = LOWER_REPEATS.now
+repeats_half Upper = UPPER_REPEATS.now
+
+pub repeats_halves : HalvesAre repeats repeats_half
+unfolding understood everything
+repeats_halves Lower rest = (refl, refl, (refl, refl))
+repeats_halves Upper rest = (refl, refl, (refl, refl))

@@ -1,7 +1,8 @@
 //! The tables of items, bins and lots, read whole.
 
 use crate::entire::Entire;
-use crate::texts::{ALL_LEAST, ALL_META, ALL_RECALLS, ALL_STOCK};
+use crate::halves::{Half, Halved};
+use crate::texts::{ALL_LEAST, ALL_META, ALL_RECALLS, ALL_STOCK, LOWER_STOCK, UPPER_STOCK};
 use goods_tables::bins::Bins;
 use goods_tables::items::Items;
 use goods_tables::least::Least;
@@ -99,5 +100,20 @@ impl Entire for Stock {
 
     fn whole_text() -> &'static str {
         ALL_STOCK
+    }
+}
+
+impl Halved for Stock {
+    ghost use Rattle.whole_tables.specs.Laws.{stock_half, stock_halves};
+
+    ghost half = { stock_half };
+
+    ghost halves_laws = { stock_halves };
+
+    fn half_text(part: Half) -> &'static str {
+        match part {
+            Half::Lower => LOWER_STOCK,
+            Half::Upper => UPPER_STOCK,
+        }
     }
 }

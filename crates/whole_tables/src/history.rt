@@ -1,7 +1,11 @@
 //! The tables of what has gone and of the acts, read whole.
 
 use crate::entire::Entire;
-use crate::texts::{ALL_CARDS, ALL_REPEATS, ALL_SHIPLINES, ALL_SHIPMENTS};
+use crate::halves::{Half, Halved};
+use crate::texts::{
+    ALL_CARDS, ALL_REPEATS, ALL_SHIPLINES, ALL_SHIPMENTS, LOWER_CARDS, LOWER_REPEATS,
+    LOWER_SHIPLINES, UPPER_CARDS, UPPER_REPEATS, UPPER_SHIPLINES,
+};
 use history_tables::cards::Cards;
 use history_tables::repeats::Repeats;
 use history_tables::shiplines::Shiplines;
@@ -56,5 +60,50 @@ impl Entire for Repeats {
 
     fn whole_text() -> &'static str {
         ALL_REPEATS
+    }
+}
+
+impl Halved for Shiplines {
+    ghost use Rattle.whole_tables.specs.Laws.{shiplines_half, shiplines_halves};
+
+    ghost half = { shiplines_half };
+
+    ghost halves_laws = { shiplines_halves };
+
+    fn half_text(part: Half) -> &'static str {
+        match part {
+            Half::Lower => LOWER_SHIPLINES,
+            Half::Upper => UPPER_SHIPLINES,
+        }
+    }
+}
+
+impl Halved for Cards {
+    ghost use Rattle.whole_tables.specs.Laws.{cards_half, cards_halves};
+
+    ghost half = { cards_half };
+
+    ghost halves_laws = { cards_halves };
+
+    fn half_text(part: Half) -> &'static str {
+        match part {
+            Half::Lower => LOWER_CARDS,
+            Half::Upper => UPPER_CARDS,
+        }
+    }
+}
+
+impl Halved for Repeats {
+    ghost use Rattle.whole_tables.specs.Laws.{repeats_half, repeats_halves};
+
+    ghost half = { repeats_half };
+
+    ghost halves_laws = { repeats_halves };
+
+    fn half_text(part: Half) -> &'static str {
+        match part {
+            Half::Lower => LOWER_REPEATS,
+            Half::Upper => UPPER_REPEATS,
+        }
     }
 }

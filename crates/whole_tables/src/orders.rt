@@ -1,7 +1,11 @@
 //! The tables of orders, read whole.
 
 use crate::entire::Entire;
-use crate::texts::{ALL_LINES, ALL_ORDERS, ALL_RESERVED, ALL_URGENTS};
+use crate::halves::{Half, Halved};
+use crate::texts::{
+    ALL_LINES, ALL_ORDERS, ALL_RESERVED, ALL_URGENTS, LOWER_LINES, LOWER_RESERVED, UPPER_LINES,
+    UPPER_RESERVED,
+};
 use keyed_rows::reading::{All, Sought};
 use order_tables::lines::Lines;
 use order_tables::orders::Orders;
@@ -71,5 +75,35 @@ impl Entire for Reserved {
 
     fn whole_text() -> &'static str {
         ALL_RESERVED
+    }
+}
+
+impl Halved for Lines {
+    ghost use Rattle.whole_tables.specs.Laws.{lines_half, lines_halves};
+
+    ghost half = { lines_half };
+
+    ghost halves_laws = { lines_halves };
+
+    fn half_text(part: Half) -> &'static str {
+        match part {
+            Half::Lower => LOWER_LINES,
+            Half::Upper => UPPER_LINES,
+        }
+    }
+}
+
+impl Halved for Reserved {
+    ghost use Rattle.whole_tables.specs.Laws.{reserved_half, reserved_halves};
+
+    ghost half = { reserved_half };
+
+    ghost halves_laws = { reserved_halves };
+
+    fn half_text(part: Half) -> &'static str {
+        match part {
+            Half::Lower => LOWER_RESERVED,
+            Half::Upper => UPPER_RESERVED,
+        }
     }
 }

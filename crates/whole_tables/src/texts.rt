@@ -28,8 +28,44 @@ pub(crate) const ALL_CARDS: &str =
 
 pub(crate) const ALL_REPEATS: &str = "SELECT k, act, spell, reply FROM repeats ORDER BY rowid";
 
+pub(crate) const LOWER_STOCK: &str =
+    "SELECT gtin, lot, bin, qty FROM stock WHERE rowid <= ?1 ORDER BY rowid";
+
+pub(crate) const UPPER_STOCK: &str =
+    "SELECT gtin, lot, bin, qty FROM stock WHERE rowid > ?1 ORDER BY rowid";
+
+pub(crate) const LOWER_LINES: &str =
+    "SELECT ord, gtin, ordered, shipped FROM lines WHERE rowid <= ?1 ORDER BY rowid";
+
+pub(crate) const UPPER_LINES: &str =
+    "SELECT ord, gtin, ordered, shipped FROM lines WHERE rowid > ?1 ORDER BY rowid";
+
+pub(crate) const LOWER_RESERVED: &str =
+    "SELECT ord, gtin, lot, qty FROM reserved WHERE rowid <= ?1 ORDER BY rowid";
+
+pub(crate) const UPPER_RESERVED: &str =
+    "SELECT ord, gtin, lot, qty FROM reserved WHERE rowid > ?1 ORDER BY rowid";
+
+pub(crate) const LOWER_SHIPLINES: &str =
+    "SELECT number, gtin, lot, qty FROM shiplines WHERE rowid <= ?1 ORDER BY rowid";
+
+pub(crate) const UPPER_SHIPLINES: &str =
+    "SELECT number, gtin, lot, qty FROM shiplines WHERE rowid > ?1 ORDER BY rowid";
+
+pub(crate) const LOWER_CARDS: &str =
+    "SELECT gtin, lot, act, day, kind, note, qty, rest FROM cards WHERE rowid <= ?1 ORDER BY rowid";
+
+pub(crate) const UPPER_CARDS: &str =
+    "SELECT gtin, lot, act, day, kind, note, qty, rest FROM cards WHERE rowid > ?1 ORDER BY rowid";
+
+pub(crate) const LOWER_REPEATS: &str =
+    "SELECT k, act, spell, reply FROM repeats WHERE rowid <= ?1 ORDER BY rowid";
+
+pub(crate) const UPPER_REPEATS: &str =
+    "SELECT k, act, spell, reply FROM repeats WHERE rowid > ?1 ORDER BY rowid";
+
 /// All of them.
-pub const WHOLE_TEXTS: [&str; 12] = [
+pub const WHOLE_TEXTS: [&str; 24] = [
     ALL_META,
     ALL_LEAST,
     ALL_RECALLS,
@@ -42,4 +78,16 @@ pub const WHOLE_TEXTS: [&str; 12] = [
     ALL_SHIPLINES,
     ALL_CARDS,
     ALL_REPEATS,
+    LOWER_STOCK,
+    UPPER_STOCK,
+    LOWER_LINES,
+    UPPER_LINES,
+    LOWER_RESERVED,
+    UPPER_RESERVED,
+    LOWER_SHIPLINES,
+    UPPER_SHIPLINES,
+    LOWER_CARDS,
+    UPPER_CARDS,
+    LOWER_REPEATS,
+    UPPER_REPEATS,
 ];

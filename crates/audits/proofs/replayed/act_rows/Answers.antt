@@ -1,26 +1,25 @@
 use Rattle.std.proofs.Common.{sym, subst, IsTrue}
 use Rattle.label.specs.Days.{is_business_day}
-use Rattle.sqlite.specs.Steps.{over_memory}
 use Rattle.sqlite.specs.Held.{state}
 use Rattle.slices.specs.Books.{IsBooksOf}
 use Rattle.audits.specs.Auditing.{AreNone}
-use Rattle.audits.proofs.Memory.{memory_clean, memory_open, none_of}
+use Rattle.audits.proofs.Again.{none_of}
 use Rattle.audits.proofs.replayed.act_rows.Goals as goal
 
 pub returns-in-Ok-replay_rows-clause-done : goal.returns-in-Ok-replay_rows-clause-done
 returns-in-Ok-replay_rows-clause-done g c =
     let new = c.replay_rows.new.books in
-    let it = c.in-Ok-replay_rows.ensures.replayed (memory_clean new.conn) c.args.day (subst (λ d. IsTrue (is_business_day d)) c.day-business.ensures.value c.day-business.ensures.business) c.in-Ok.ensures.books in
+    let it = c.in-Ok-replay_rows.ensures.replayed (g.met.M.Honest.always_clean new.conn.store) c.args.day (subst (λ d. IsTrue (is_business_day d)) c.day-business.ensures.value c.day-business.ensures.business) c.in-Ok.ensures.open c.in-Ok.ensures.books in
     record {
       acts = it.0;
       spelled = it.1;
       history = it.2;
-      books = subst (λ h. IsBooksOf c.args.day it.0 (state over_memory h).now) (sym c.close.ensures.same) (it.3.keeps.books (memory_open new.conn));
+      books = subst (λ h. IsBooksOf c.args.day it.0 (state g.M.Store h).now) (sym c.close.ensures.same) (it.4.keeps.books it.3);
     }
 
 pub returns-in-Err-replay_rows-clause-none : goal.returns-in-Err-replay_rows-clause-none
 returns-in-Err-replay_rows-clause-none g c =
-    none_of c.args.day c.args.rows.now c.replay_rows.new.books c.in-Err-replay_rows.fault (c.in-Err-replay_rows.ensures.replayed (memory_clean c.replay_rows.new.books.conn) c.args.day (subst (λ d. IsTrue (is_business_day d)) c.day-business.ensures.value c.day-business.ensures.business) c.in-Ok.ensures.books)
+    none_of g.M.Store c.args.day c.args.rows.now c.replay_rows.new.books c.in-Err-replay_rows.fault (c.in-Err-replay_rows.ensures.replayed (g.met.M.Honest.always_clean c.replay_rows.new.books.conn.store) c.args.day (subst (λ d. IsTrue (is_business_day d)) c.day-business.ensures.value c.day-business.ensures.business) c.in-Ok.ensures.open c.in-Ok.ensures.books)
 
 pub returns-in-Err-clause-none : goal.returns-in-Err-clause-none
 returns-in-Err-clause-none g c = subst (AreNone c.args.day c.args.rows.now) (sym c.in-Err.ensures.fault) tt

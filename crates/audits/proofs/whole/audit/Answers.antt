@@ -10,11 +10,11 @@ use Rattle.audits.proofs.whole.audit.Goals as goal
 pub returns-clause-left : goal.returns-clause-left
 returns-clause-left g c =
     let was = c.in-Ok.ensures in
-    let done = c.audit_open-finding.ensures in
+    let done = c.audit_in_memory-finding.ensures in
     inr (record {
       outside = done.outside;
       crash = λ clean db left. elim (done.survives.crash clean db left) [
-        | inl before ↦ was.crash (earlier (state g.S.Store c.in-Ok.opened.0) (state g.S.Store c.audit_open-finding.new.conn) done.survives clean) db before
+        | inl before ↦ was.crash (earlier (state g.S.Store c.in-Ok.opened.0) (state g.S.Store c.audit_in_memory-finding.new.conn) done.survives clean) db before
         | inr none ↦ absurd none
       ];
       clean = omega (arith, was.clean, done.survives.clean);
@@ -25,12 +25,12 @@ pub returns-clause-found : goal.returns-clause-found
 returns-clause-found g c = λ clean.
     let old = state g.S.Store c.args.conn in
     let again = state g.S.Store c.in-Ok.opened.0 in
-    let new = state g.S.Store c.audit_open-finding.new.conn in
+    let new = state g.S.Store c.audit_in_memory-finding.new.conn in
     let found = c.in-Ok.opened.1 in
     let was = c.in-Ok.ensures in
-    let done = c.audit_open-finding.ensures in
+    let done = c.audit_in_memory-finding.ensures in
     let before : HasCleanDisk again = earlier again new done.survives clean in
-    if_ok_then c.audit_open-finding.result (IsFound found c.args.given again.now.trees) (IsFinding c.args.given old)
+    if_ok_then c.audit_in_memory-finding.result (IsFound found c.args.given again.now.trees) (IsFinding c.args.given old)
     (λ f is. record { found = found; schema = was.found; finding = subst (λ (trees : Trees). IsFound found c.args.given trees f) (was.same before) is }) (done.found clean (was.ready before))
 
 pub returns-clause-other : goal.returns-clause-other

@@ -18,7 +18,6 @@ returns-clause-found g c = λ clean ready.
     let before : HasCleanDisk m = earlier m n c.audit_rows.ensures.survives clean in
     let finds = c.in-Ok.ensures.finds in
     let is : m.now ≡ o.now = (finds.same before ready).0.now_is in
-    let all = subst (AreAll repeats (tables_in o.now.trees)) (sym c.deref_mut.ensures.value) (finds.rows before ready) in
     let there : IsReady m.now = subst IsReady (sym is) ready in
-    let rows = subst (λ (x : Database). AreAll repeats (tables_in x.trees) c.deref_mut.result.now) (sym is) all in
+    let rows = subst (λ (x : Database). AreAll repeats (tables_in x.trees) c.in-Ok.rows.items) (sym is) (finds.rows before ready) in
     subst (λ (x : Database). IfOk c.audit_rows.result (SaysIn x.trees c.args.given)) is (c.audit_rows.ensures.found clean there rows)

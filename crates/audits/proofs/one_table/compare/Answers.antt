@@ -3,7 +3,7 @@ use Rattle.sqlite.specs.Held.{state}
 use Rattle.audits.specs.declared.finding.Unread.TheVariants.{Untyped}
 use Rattle.audits.specs.Comparing.{Tells, SameTable}
 use Rattle.audits.proofs.Telling.{told_untyped, told_failed, told_failed_too, told_rows}
-use Rattle.audits.proofs.comparing.compare.Goals as goal
+use Rattle.audits.proofs.one_table.compare.Goals as goal
 
 pub returns-in-Err-Foreign-clause-tells : goal.returns-in-Err-Foreign-clause-tells
 returns-in-Err-Foreign-clause-tells g c =

@@ -1,0 +1,54 @@
+//! One table of books compared with that of the acts that were done again.
+
+ghost use Rattle.std.specs.Prelude.{◌≡◌};
+ghost use Rattle.sqlite.specs.Held.{state};
+ghost use Rattle.audits.specs.Comparing.{Tells, TellsNext, SameTable};
+
+use crate::finding::Unread;
+use same_rows::{Compared, RowKey, first_difference};
+use sqlite::{Alter, Transaction};
+use std::alloc::Global;
+use table_words::error::TableFault;
+use whole_tables::all_rows;
+
+/// What comparing has told so far: a row that differs, or none.
+pub(crate) type Told = Result<Option<RowKey>, Unread>;
+
+/// The first row of the table that the two have not alike.
+pub(crate) fn compare<T: Compared, S: Alter, M: Alter>(
+    alloc: Global,
+    books: &mut Transaction<'_, S>,
+    again: &mut Transaction<'_, M>,
+) -> Told
+    ensures same_reference { books.new.conn.ghost_name ≡ books.old.conn.ghost_name }
+    ensures same_reference_too { again.new.conn.ghost_name ≡ again.old.conn.ghost_name }
+    ensures tells { Tells (SameTable T.table) (state S.Store books.old.conn.now) (state S.Store books.new.conn.now) (state M.Store again.old.conn.now) (state M.Store again.new.conn.now) result }
+{
+    let mut mine = match all_rows::<T, S>(alloc, books) {
+        Ok(rows) => rows,
+        Err(TableFault::Foreign) => return Err(Unread::Untyped(T::table_name())),
+        Err(TableFault::Store(_)) => return Err(Unread::Store),
+    };
+    let mut theirs = match all_rows::<T, M>(alloc, again) {
+        Ok(rows) => rows,
+        Err(_) => return Err(Unread::Store),
+    };
+    Ok(first_difference::<T>(&mut mine, &mut theirs))
+}
+
+/// Compares the table too, where nothing was told so far.
+pub(crate) fn next<T: Compared, S: Alter, M: Alter>(
+    alloc: Global,
+    books: &mut Transaction<'_, S>,
+    again: &mut Transaction<'_, M>,
+    so_far: Told,
+) -> Told
+    ensures same_reference { books.new.conn.ghost_name ≡ books.old.conn.ghost_name }
+    ensures same_reference_too { again.new.conn.ghost_name ≡ again.old.conn.ghost_name }
+    ensures tells { TellsNext S.Store M.Store (SameTable T.table) so_far books.old.conn.now books.new.conn.now again.old.conn.now again.new.conn.now result }
+{
+    match so_far {
+        Ok(None) => compare::<T, S, M>(alloc, books, again),
+        _ => so_far,
+    }
+}
