@@ -28,11 +28,12 @@ use Rattle.replays.proofs.Spelled.{spelled, no_other, none_spelled}
 use Rattle.replays.proofs.FirstDay.{first_day_told}
 use Rattle.replays.proofs.EarlierDays.{told_day_stands}
 use Rattle.audits.specs.declared.finding.Unread.{Unread}
+use Rattle.audits.specs.declared.finding.Unread.TheVariants as unread
 use Rattle.audits.specs.declared.finding.Finding.{Finding}
 use Rattle.audits.specs.declared.finding.Finding.TheVariants.{Sound, Differs, Untyped, Unnumbered, Unspelled, Refused}
 use Rattle.audits.specs.Comparing.{SameTables, AreSeen, Tells, IsUnread}
 use Rattle.audits.specs.Beginning.{IsUntold}
-use Rattle.audits.specs.Auditing.{IsHeld, AreOfNone, SaysIn}
+use Rattle.audits.specs.Auditing.{IsHeld, AreOfNone, SaysIn, told_unread}
 use Rattle.audits.proofs.Tables.{same_tables, typed_tables, keeps_called, two_tables}
 
 -- ---- tables compared with those of books of the acts
@@ -70,6 +71,15 @@ from_given day trees none other acts asked h are = none acts (subst (λ d. IsHis
 -- a row with a value that no row has is of no acts
 pub says_untyped : (given : Option ℤ) (trees : Trees) (name : TableName) → ¬ Keeps trees (rule_called name) → SaysIn trees given (Untyped name)
 says_untyped given trees name un = (λ day acts asked h are. un (keeps_called trees name are.typed), un)
+
+-- tables that were not read
+pub held_unread : (first : ℤ) (acts : List Act) (count : ℕ) (trees : Trees) (e : Unread) → IsUnread trees e → IfOk (told_unread e) (IsHeld first acts count trees)
+held_unread first acts count trees (unread.Untyped name) h = h
+held_unread first acts count trees unread.Store h = tt
+
+pub says_unread : (given : Option ℤ) (trees : Trees) (e : Unread) → IsUnread trees e → IfOk (told_unread e) (SaysIn trees given)
+says_unread given trees (unread.Untyped name) h = says_untyped given trees name h
+says_unread given trees unread.Store h = tt
 
 module _ (day : ℤ) (trees : Trees) (rows : List RepeatRow) (repeats : AreRepeats (reverse rows) (tables_in trees)) where
   of_none_other : (acts : List Act) (row : RowKey) → Spell (reverse rows) acts → IsHistory day acts → RowDiffers row (tables_in trees) (tables_of day acts) → AreOfNoneFrom day trees

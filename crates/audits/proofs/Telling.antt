@@ -12,6 +12,7 @@ use Rattle.table_words.specs.declared.error.TableFault.TheVariants.{Foreign}
 use Rattle.keyed_rows.specs.Described.{Described}
 use Rattle.keyed_rows.specs.Reads.{Finds}
 use Rattle.whole_tables.specs.Whole.{AreAll, rows_of}
+pub use Rattle.whole_tables.proofs.Calls.{unchanged_then, earlier}
 use Rattle.same_rows.specs.declared.key.TableName.{TableName}
 use Rattle.same_rows.specs.Same.{AreOnce, FindAlike, IsFirstOther, IsCompared}
 use Rattle.same_rows.proofs.Parting.{if_some}
@@ -21,17 +22,6 @@ use Rattle.same_rows.specs.Differing.{RowDiffers}
 use Rattle.audits.specs.declared.finding.Unread.{Unread}
 use Rattle.audits.specs.declared.finding.Unread.TheVariants.{Untyped, Store}
 use Rattle.audits.specs.Comparing.{Both, SameTable, IsUnread, AreSeen, Tells, TellsNext}
-
--- two calls that change nothing change nothing
-pub unchanged_then : (a b c : State) → IsUnchanged a b → IsUnchanged b c → IsUnchanged a c
-unchanged_then a b c p q = (
-  record { was_open = p.0.was_open; is_open = q.0.is_open; now_is = q.0.now_is ∙ p.0.now_is; committed_is = q.0.committed_is ∙ p.0.committed_is; mode = q.0.mode ∙ p.0.mode },
-  record { changes = q.1.changes ∙ p.1.changes; last_rowid = q.1.last_rowid ∙ p.1.last_rowid },
-  q.2 ∙ p.2,
-)
-
-pub earlier : (a b : State) → Survives a b (λ _. ⊥) → HasCleanDisk b → HasCleanDisk a
-earlier a b h clean = omega (arith, clean, h.clean)
 
 module _ (P Q : Database → Database → Type 0) (o m n b c d : State) (r : Result (Option RowKey) Unread) (one : Tells P o m b c (Ok None)) (two : Tells Q m n c d r) where
   -- what was seen before the second

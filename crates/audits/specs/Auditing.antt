@@ -1,5 +1,5 @@
 -- What an audit finds.
-use Rattle.std.specs.Prelude.{◌≡◌, ◌⊎◌, ◌≤◌, ⊤, ℕ, false, List, reverse, length, Option, Some, None, ℤ}
+use Rattle.std.specs.Prelude.{◌≡◌, ◌⊎◌, ◌≤◌, ⊤, ℕ, false, List, length, Option, Some, None, Result, Ok, Err, ℤ}
 use Rattle.sqlite.specs.Held.{Held, state}
 use Rattle.sqlite.specs.Tree.{Trees}
 use Rattle.sqlite.specs.State.{State, HasCleanDisk}
@@ -23,20 +23,24 @@ use Rattle.replays.specs.Spelled.{AreRepeats, IsUnnumbered}
 use Rattle.replays.specs.Starting.{first_day, start_of}
 use Rattle.replays.specs.declared.fault.NotReplayed.{NotReplayed}
 use Rattle.replays.specs.declared.fault.NotReplayed.TheVariants as fault
+use Rattle.store.specs.declared.fault.Fault.{Fault}
+use Rattle.store.specs.declared.fault.Fault.TheVariants.{Store}
+use Rattle.audits.specs.declared.finding.Unread.{Unread}
+use Rattle.audits.specs.declared.finding.Unread.TheVariants as unread
 use Rattle.audits.specs.declared.finding.Finding.{Finding}
 use Rattle.audits.specs.declared.finding.Finding.TheVariants.{Sound, Differs, Untyped, Unnumbered, Unspelled, Refused}
 
--- the rows, the oldest first, spell a history from this day, and the connection shows the books of it
+-- the rows, the newest first, spell a history from this day, and the connection shows the books of it
 pub record AreDone {S : Type 0} (g : Ghosts S) (day : ℤ) (rows : List RepeatRow) (conn : Held S) : Type 0 where
   pub acts : List Act
-  pub spelled : Spell (reverse rows) acts
+  pub spelled : Spell rows acts
   pub history : IsHistory day acts
   pub books : IsBooksOf day acts (state g conn).now
 
 -- they spell none; or memory did not suffice
 abbrev pub AreNone : ℤ → List RepeatRow → NotReplayed → Type 0
-AreNone day rows (fault.Unspelled act) = (acts : List Act) → Spell (reverse rows) acts → ¬ IsHistory day acts
-AreNone day rows (fault.Refused act why) = (acts : List Act) → Spell (reverse rows) acts → ¬ IsHistory day acts
+AreNone day rows (fault.Unspelled act) = (acts : List Act) → Spell rows acts → ¬ IsHistory day acts
+AreNone day rows (fault.Refused act why) = (acts : List Act) → Spell rows acts → ¬ IsHistory day acts
 AreNone day rows fault.Store = Unit {0}
 AreNone day rows fault.Foreign = ⊥
 
@@ -48,6 +52,11 @@ IsHeld day acts count trees (Untyped name) = ¬ Keeps trees (rule_called name)
 IsHeld day acts count trees (Unnumbered k) = ⊥
 IsHeld day acts count trees (Unspelled act) = ⊥
 IsHeld day acts count trees (Refused act why) = ⊥
+
+-- what is told where tables were not read
+abbrev pub told_unread : Unread → Result Finding Fault
+told_unread (unread.Untyped name) = Ok (Untyped name)
+told_unread unread.Store = Err Store
 
 -- The claims
 

@@ -7,6 +7,7 @@ mod finding;
 mod halves;
 mod one_table;
 mod raising;
+mod reading;
 mod replayed;
 mod whole;
 

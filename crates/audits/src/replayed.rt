@@ -31,19 +31,19 @@ fn new_books<M: Honest + Drop>(
     }
 }
 
-/// A connection over the books of the acts that the rows spell, the oldest first, begun on this day, in what was an empty
+/// A connection over the books of the acts that the rows spell, the newest first, begun on this day, in what was an empty
 /// database; or why they are no history from that day.
 pub(crate) fn act_rows<M: Honest + Drop, P: Progress>(
     alloc: Global,
     empty: Connection<M>,
     day: BusinessDay,
-    rows: &[RepeatRow],
+    rows: Vec<RepeatRow>,
     progress: &mut P,
 ) -> Result<Connection<M>, NotReplayed>
     requires { empty.in_transaction ≡ false }
     ensures outside { IfOk result (λ conn. conn.in_transaction ≡ false) }
-    ensures done { IfOk result (AreDone M.Store day rows.now) }
-    ensures none { IfErr result (AreNone day rows.now) }
+    ensures done { IfOk result (AreDone M.Store day rows.items) }
+    ensures none { IfErr result (AreNone day rows.items) }
 {
     // The books may begin on it.
     let _business = day.day();

@@ -13,31 +13,27 @@ ghost use Rattle.history_tables.specs.Repeats.{repeats};
 ghost use Rattle.tables.specs.Opening.{IsOfNone, IsReadyAs};
 ghost use Rattle.whole_tables.specs.Whole.{AreAll};
 ghost use Rattle.replays.specs.Spelled.{AreRepeats};
-ghost use Rattle.audits.specs.Comparing.{IsUnread};
 ghost use Rattle.audits.specs.Raising.{IsBegunOver};
-ghost use Rattle.audits.specs.Auditing.{IsHeld, SaysIn, IsFound, IsFinding, IsLeftAlone};
+ghost use Rattle.audits.specs.Auditing.{IsHeld, SaysIn, IsFound, IsFinding, IsLeftAlone, told_unread};
 
 use crate::begun::{Begun, first_day};
 use crate::comparing::compare_tables;
 use crate::finding::{Finding, Unread};
 use crate::raising::raise;
+use crate::reading::read_acts;
 use crate::replayed::act_rows;
 use commands::RepeatRow;
 use empty_database::{Honest, open_in_memory};
-use history_tables::repeats::Repeats;
 use label::BusinessDay;
 use replays::{NotReplayed, Progress, by_act, start_of};
-use same_rows::TableName;
 use sqlite::{Alter, Connection, Transaction};
 use std::alloc::Global;
 use store::Fault;
-use table_words::error::TableFault;
 use tables::opening::{Found, Leftover, ready};
-use whole_tables::all_rows;
 
-/// What is found where tables were not compared.
+/// What is found where tables were not read.
 fn tell_unread(unread: Unread) -> Result<Finding, Fault>
-    ensures { (first : ℤ) (done : List Act) (count : ℕ) (trees : Trees) → IsUnread trees unread → IfOk result (IsHeld first done count trees) }
+    ensures { result ≡ told_unread unread }
 {
     match unread {
         Unread::Untyped(name) => Ok(Finding::Untyped(name)),
@@ -76,14 +72,13 @@ fn hold_against<S: Alter, M: Honest + Drop>(
     }
 }
 
-/// The acts of the rows done again in an empty database, and the tables compared with those of them. The rows are let go
-/// before the tables are read.
+/// The acts of the rows, the oldest first, done again in an empty database, and the tables compared with those of them.
 fn do_again<S: Alter, M: Honest + Drop, P: Progress>(
     alloc: Global,
     tx: &mut Transaction<'_, S>,
     empty: Connection<M>,
     day: BusinessDay,
-    rows: Vec<RepeatRow>,
+    mut rows: Vec<RepeatRow>,
     progress: &mut P,
 ) -> Result<Finding, Fault>
     requires { empty.in_transaction ≡ false }
@@ -92,13 +87,10 @@ fn do_again<S: Alter, M: Honest + Drop, P: Progress>(
         → IfOk result (SaysIn (state S.Store tx.old.conn.now).now.trees (Some day)) }
     ensures survives { Survives (state S.Store tx.old.conn.now) (state S.Store tx.new.conn.now) (λ _. ⊥) }
 {
-    let told = rows.as_slice();
-    let acts = told.len();
-    match act_rows(alloc, empty, day, told, progress) {
-        Ok(again) => {
-            drop(rows);
-            hold_against(alloc, tx, again, acts, day)
-        }
+    let acts = rows.as_slice().len();
+    rows.reverse();
+    match act_rows(alloc, empty, day, rows, progress) {
+        Ok(again) => hold_against(alloc, tx, again, acts, day),
         Err(NotReplayed::Unspelled { act }) => Ok(Finding::Unspelled { act }),
         Err(NotReplayed::Refused { act, why }) => Ok(Finding::Refused { act, why }),
         Err(NotReplayed::Store) => Err(Fault::Store),
@@ -166,12 +158,10 @@ fn audit_inside<S: Alter, M: Honest + Drop, P: Progress>(
         → IfOk result (SaysIn (state S.Store tx.old.conn.now).now.trees given) }
     ensures survives { Survives (state S.Store tx.old.conn.now) (state S.Store tx.new.conn.now) (λ _. ⊥) }
 {
-    let rows = match all_rows::<Repeats, S>(alloc, tx) {
-        Ok(rows) => rows,
-        Err(TableFault::Foreign) => return Ok(Finding::Untyped(TableName::Repeats)),
-        Err(TableFault::Store(_)) => return Err(Fault::Store),
-    };
-    audit_rows(alloc, tx, empty, given, rows, progress)
+    match read_acts(alloc, tx) {
+        Ok(rows) => audit_rows(alloc, tx, empty, given, rows, progress),
+        Err(unread) => tell_unread(unread),
+    }
 }
 
 /// The audit within a transaction over these books, whose tables are made the newest first.

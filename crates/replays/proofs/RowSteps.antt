@@ -68,17 +68,9 @@ ends_here first row rows newer so_far spelled h none acts all j = go parts.older
     go [] s j = s
     go (act ∷ os) s j = none act s.0 (subst (λ before. IsHistory first (act ∷ before)) (spell_one first rows os so_far j.0 h s.1 spelled) j)
 
-ends_acts : (first : ℤ) (rows : List RepeatRow) (i : ℕ) (row : RepeatRow) (so_far : List Act) → i < length rows → row ≡ get_or rows i row → Spell (reverse (take i rows)) so_far → IsHistory first so_far
-    → ((act : Act) → IsRowOf row act → ¬ IsHistory first (act ∷ so_far)) → (acts : List Act) → Spell (reverse rows) acts → ¬ IsHistory first acts
-ends_acts first rows i row so_far low is spelled h none =
-    let whole : reverse rows ≡ reverse (drop (i + 1) rows) ++ row ∷ reverse (take i rows) =
-    rows_parts rows (i + 1) ∙ ap (λ rs. reverse (drop (i + 1) rows) ++ rs) (rows_more rows i row low is) in
-    λ acts all. ends_here first row (reverse (take i rows)) (reverse (drop (i + 1) rows)) so_far spelled h none acts (subst (λ rs. Spell rs acts) whole all)
-
-pub ends_rows : {S : Type 0} (g : Ghosts S) (first : ℤ) (rows : List RepeatRow) (i : ℕ) (row : RepeatRow) (so_far : List Act) (fault : NotReplayed) (books : Connected S)
-    → i < length rows → row ≡ get_or rows i row → Spell (reverse (take i rows)) so_far → IsHistory first so_far
-    → IsRowReplayed g first so_far row (Err fault) books → AreRowsReplayed g first rows (Err fault) books
-ends_rows g first rows i row so_far (fault.Unspelled number) books low is spelled h none = ends_acts first rows i row so_far low is spelled h none
-ends_rows g first rows i row so_far (fault.Refused number why) books low is spelled h none = ends_acts first rows i row so_far low is spelled h none
-ends_rows g first rows i row so_far fault.Store books low is spelled h none = tt
-ends_rows g first rows i row so_far fault.Foreign books low is spelled h none = none
+pub ends_rows : {S : Type 0} (g : Ghosts S) (first : ℤ) (newer rows : List RepeatRow) (row : RepeatRow) (so_far : List Act) (fault : NotReplayed) (books : Connected S)
+    → Spell rows so_far → IsHistory first so_far → IsRowReplayed g first so_far row (Err fault) books → AreRowsReplayed g first (newer ++ row ∷ rows) (Err fault) books
+ends_rows g first newer rows row so_far (fault.Unspelled number) books spelled h none = ends_here first row rows newer so_far spelled h none
+ends_rows g first newer rows row so_far (fault.Refused number why) books spelled h none = ends_here first row rows newer so_far spelled h none
+ends_rows g first newer rows row so_far fault.Store books spelled h none = tt
+ends_rows g first newer rows row so_far fault.Foreign books spelled h none = none

@@ -1,5 +1,5 @@
 -- What it is to do acts again.
-use Rattle.std.specs.Prelude.{◌≡◌, List, [], ◌∷◌, reverse, Result, Ok, Err, ℤ, IsTrue}
+use Rattle.std.specs.Prelude.{◌≡◌, List, [], ◌∷◌, Result, Ok, Err, ℤ, IsTrue}
 use Rattle.sqlite_trees.specs.declared.store.Store.{Ghosts}
 use Rattle.sqlite.specs.Held.{state}
 use Rattle.commands.specs.Spelling.{key_text, spelling}
@@ -45,10 +45,10 @@ IsRowReplayed g first acts row (Err (Refused number why)) books = (act : Act) �
 IsRowReplayed g first acts row (Err Store) books = Unit {0}
 IsRowReplayed g first acts row (Err Foreign) books = ⊥
 
--- the same of all rows, the oldest act first
+-- the same of all rows, the newest act first
 abbrev pub AreRowsReplayed : {S : Type 0} → Ghosts S → ℤ → List RepeatRow → Result (Unit {0}) NotReplayed → Connected S → Type 0
-AreRowsReplayed g first rows (Ok done) books = (acts : List Act) × Spell (reverse rows) acts × IsHistory first acts × IsOpen g books × HoldsBooks g first acts books
-AreRowsReplayed g first rows (Err (Unspelled number)) books = (acts : List Act) → Spell (reverse rows) acts → ¬ IsHistory first acts
-AreRowsReplayed g first rows (Err (Refused number why)) books = (acts : List Act) → Spell (reverse rows) acts → ¬ IsHistory first acts
+AreRowsReplayed g first rows (Ok done) books = (acts : List Act) × Spell rows acts × IsHistory first acts × IsOpen g books × HoldsBooks g first acts books
+AreRowsReplayed g first rows (Err (Unspelled number)) books = (acts : List Act) → Spell rows acts → ¬ IsHistory first acts
+AreRowsReplayed g first rows (Err (Refused number why)) books = (acts : List Act) → Spell rows acts → ¬ IsHistory first acts
 AreRowsReplayed g first rows (Err Store) books = Unit {0}
 AreRowsReplayed g first rows (Err Foreign) books = ⊥

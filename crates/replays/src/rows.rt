@@ -1,6 +1,6 @@
 //! The acts that rows of `repeats` spell, done again.
 
-ghost use Rattle.std.specs.Prelude.{[], ℤ, List};
+ghost use Rattle.std.specs.Prelude.{◌≡◌, [], ℤ, List, vec_len};
 ghost use Rattle.machine.specs.Acts.{Act};
 ghost use Rattle.machine.specs.Once.{IsHistory};
 ghost use Rattle.store.specs.Books.{HoldsBooks, IsClean};
@@ -14,25 +14,41 @@ use sqlite::Alter;
 use std::alloc::Global;
 use store::Books;
 
-/// Does the acts again that the rows of `repeats` spell, the oldest first, on books in which nothing has been done. `Ok`
-/// exactly where the rows spell a history from the books' day, as far as memory suffices: the books are then those of it.
+/// Does the acts again that the rows of `repeats` spell, on books in which nothing has been done. The newest row is the first,
+/// and each is let go once its act is done. `Ok` exactly where the rows spell a history from the books' day, as far as memory
+/// suffices: the books are then those of it.
 pub fn replay_rows<S: Alter, P: Progress>(
     alloc: Global,
     books: &mut Books<S>,
-    rows: &[RepeatRow],
+    mut rows: Vec<RepeatRow>,
     progress: &mut P,
 ) -> Result<(), NotReplayed>
     ensures clean { IsClean S.Store books.new → IsClean S.Store books.old }
     ensures replayed { IsClean S.Store books.new → (first : ℤ) → IsHistory first [] → IsOpen S.Store books.old → HoldsBooks S.Store first [] books.old
-        → AreRowsReplayed S.Store first rows.now result books.new }
+        → AreRowsReplayed S.Store first rows.items result books.new }
 {
-    for row in rows {
-        match replay_row(alloc, books, row) {
-            Ok(()) => progress.done(row.act, rows.len() as u64),
+    let all = rows.len() as u64;
+    while let Some(row) = rows.pop() {
+        match replay_row(alloc, books, &row) {
+            Ok(()) => progress.done(row.act, all),
             Err(fault) => return Err(fault),
         }
+        give_back(&mut rows);
     }
     Ok(())
+}
+
+/// How many rows go before their room is given back.
+const GIVEN_BACK: usize = 4096;
+
+/// Gives back the room of rows that are gone, now and then.
+fn give_back(rows: &mut Vec<RepeatRow>)
+    ensures items { rows.new.items ≡ rows.old.items }
+    ensures len { vec_len rows.new ≡ vec_len rows.old }
+{
+    if rows.len() % GIVEN_BACK == 0 {
+        rows.shrink_to_fit();
+    }
 }
 
 /// Does the act again that a row spells.

@@ -1,5 +1,5 @@
 -- What a query of half a table shows, and how the halves make the whole.
-use Rattle.std.proofs.Common.{◌≡◌, ◌↔◌, inl, inr, ℕ, ℤ, Bool, true, false, not, ◌&&◌, List, [], ◌∷◌, ◌++◌, ◌∙◌, Ordering, Less, Equal, Greater, is_le, is_gt, int_cmp, map, filter, true≢false, Some, refl, sym, ap, subst, arith}
+use Rattle.std.proofs.Common.{◌≡◌, ◌↔◌, inl, inr, ℕ, ℤ, Bool, true, false, not, ◌&&◌, List, [], ◌∷◌, ◌++◌, ◌∙◌, Ordering, Less, Equal, Greater, is_le, is_gt, int_cmp, map, filter, true≢false, Some, Vec, Global, Result, Ok, Err, refl, sym, ap, ap₂, subst, arith}
 use Rattle.std.specs.Prelude.{IsTrue}
 use Rattle.std.specs.List.{AllByRecursion}
 use Rattle.std.proofs.lemmas.Bool.{cases_Bool}
@@ -11,26 +11,31 @@ use Rattle.sqlite.specs.declared.types.Value.TheVariants.{Null, Int, Real, Text,
 use Rattle.sqlite.specs.Collation.TheVariants.{Binary}
 use Rattle.sqlite.specs.Effect.{Database}
 use Rattle.sqlite.specs.Order.{Row}
-use Rattle.sqlite.specs.State.{State, Shown}
+use Rattle.sqlite.specs.State.{State, HasCleanDisk, Shown}
 use Rattle.sqlite.proofs.Callers.{reads_as}
 use Rattle.sqlite_sql.specs.declared.ops.BinaryOp.TheVariants.{Compare}
 use Rattle.sqlite_sql.specs.declared.ops.CompareOp.TheVariants.{Le, Gt}
 use Rattle.sqlite_sql.specs.Ops.{binary, is_true, from_truth}
 use Rattle.sqlite_value.specs.Order.{value_cmp}
 use Rattle.sqlite_value.proofs.OrderLemmas.{value_cmp-Int}
-use Rattle.sqlite_keyed.proofs.ListLemmas.{all-append}
+use Rattle.sqlite_keyed.proofs.ListLemmas.{all-append, all-filter}
 use Rattle.sqlite_trees.specs.Tree.{IsAscending, rowid}
 use Rattle.sqlite_trees.specs.View.{is_int}
 use Rattle.table_words.specs.Cells.{typed}
 use Rattle.table_words.specs.Schema.{schema_with}
 use Rattle.table_words.specs.Steps.{IsReady}
+use Rattle.table_words.specs.declared.error.TableFault.{TableFault}
+use Rattle.table_words.specs.declared.error.TableFault.TheVariants.{Foreign}
+use Rattle.table_words.proofs.CallLemmas.{inside_then}
 use Rattle.table_words.proofs.CellLemmas.{and_true, both_typed, shown_typed}
 use Rattle.table_words.proofs.ScanLemmas.{show, in_order}
 use Rattle.keyed_rows.specs.Described.{Described, IsLawful}
 use Rattle.keyed_rows.proofs.Laws.{rows_of as kept_rows}
 use Rattle.whole_tables.specs.declared.halves.Half.{Half}
 use Rattle.whole_tables.specs.declared.halves.Half.TheVariants.{Lower, Upper}
-use Rattle.whole_tables.specs.Halves.{HalvesAre, test_of, is_in, half_of}
+use Rattle.whole_tables.specs.Halves.{HalvesAre, test_of, is_in, half_of, FindsHalf, FindsStored}
+use Rattle.whole_tables.specs.Whole.{rows_of}
+use Rattle.whole_tables.proofs.Calls.{unchanged_then, earlier}
 
 module _ {X K : Type 0} (d : Described X K) (laws : IsLawful d) (text : Half → List ℕ) (are : HalvesAre d text) (part : Half) (middle : ℤ) (old new : State) (ready : IsReady old.now) (rows : List Row) (h : Shown (text part) (Int middle ∷ []) old new rows) where
   turn : rows ≡ map (show (Int middle ∷ []) d.shown) (half_of d part middle old.now.trees)
@@ -123,3 +128,61 @@ module _ {X K : Type 0} (d : Described X K) (laws : IsLawful d) (middle : ℤ) (
 
   pub halves_read : typed d.is d.reads (db.trees d.layout.tree) ≡ typed d.is d.reads (half_of d Lower middle db.trees) ++ typed d.is d.reads (half_of d Upper middle db.trees)
   halves_read = ap (typed d.is d.reads) (sym halves_are) ∙ ap (map d.reads) (filter-append d.is (half_of d Lower middle db.trees) (half_of d Upper middle db.trees)) ∙ map-append d.reads _ _
+
+-- ---- the calls that read them
+
+module _ {X K : Type 0} (d : Described X K) (laws : IsLawful d) (middle : ℤ) where
+  abbrev Half_found : Half → State → State → Result (Vec X Global) TableFault → Type 0
+  Half_found part old new r = FindsHalf {X = X} {A = Global} d part middle old new r
+
+  abbrev All_found : State → State → Result (Vec X Global) TableFault → Type 0
+  All_found old new r = FindsStored {X = X} {A = Global} d (rows_of d) old new r
+
+  -- a half that is not typed leaves the table untyped
+  half_untyped : (part : Half) (db : Database) → ¬ AllByRecursion (λ r. d.is r ≡ true) (half_of d part middle db.trees) → ¬ AllByRecursion (λ r. d.is r ≡ true) (rows_of d db.trees)
+  half_untyped part db not_typed all = not_typed (all-filter (λ r. d.is r ≡ true) (is_in part middle) (rows_of d db.trees) all)
+
+  pub lower_failed : (o m : State) (e : TableFault) → Half_found Lower o m (Err e) → All_found o m (Err e)
+  lower_failed o m e h = record {
+    rows = λ clean ready. tt;
+    typed = λ clean ready. tt;
+    foreign = λ clean ready is. half_untyped Lower o.now (h.foreign clean ready is);
+    same = λ clean ready. tt;
+    survives = h.survives;
+  }
+
+  module _ (o m n : State) (lower : Vec X Global) (h : Half_found Lower o m (Ok lower)) where
+    then_is : HasCleanDisk m → IsReady o.now → m.now ≡ o.now
+    then_is clean ready = (h.same clean ready).0.now_is
+
+    pub upper_failed : (e : TableFault) → Half_found Upper m n (Err e) → All_found o n (Err e)
+    upper_failed e i = record {
+      rows = λ clean ready. tt;
+      typed = λ clean ready. tt;
+      foreign = λ clean ready is.
+          let before = earlier m n i.survives clean in
+          let there = then_is before ready in
+          subst (λ (x : Database). ¬ AllByRecursion (λ r. d.is r ≡ true) (rows_of d x.trees)) there (half_untyped Upper m.now (i.foreign clean (subst IsReady (sym there) ready) is));
+      same = λ clean ready. tt;
+      survives = inside_then o m n h.survives i.survives;
+    }
+
+    pub both_found : (upper all : Vec X Global) → all.items ≡ lower.items ++ upper.items → Half_found Upper m n (Ok upper) → All_found o n (Ok all)
+    both_found upper all is i = record {
+      rows = λ clean ready.
+          let before = earlier m n i.survives clean in
+          let there = then_is before ready in
+          let high = subst (λ (x : Database). upper.items ≡ typed d.is d.reads (half_of d Upper middle x.trees)) there (i.rows clean (subst IsReady (sym there) ready)) in
+          is ∙ ap₂ ◌++◌ (h.rows before ready) high ∙ sym (halves_read d laws middle o.now ready);
+      typed = λ clean ready.
+          let before = earlier m n i.survives clean in
+          let there = then_is before ready in
+          let high = subst (λ (x : Database). AllByRecursion (λ r. d.is r ≡ true) (half_of d Upper middle x.trees)) there (i.typed clean (subst IsReady (sym there) ready)) in
+          halves_typed d laws middle o.now ready (h.typed before ready) high;
+      foreign = λ clean ready. tt;
+      same = λ clean ready.
+          let before = earlier m n i.survives clean in
+          let there = then_is before ready in
+          unchanged_then o m n (h.same before ready) (i.same clean (subst IsReady (sym there) ready));
+      survives = inside_then o m n h.survives i.survives;
+    }

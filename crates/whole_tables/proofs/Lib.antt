@@ -1,3 +1,4 @@
 pub mod Wholes
 pub mod Handing
 pub mod Halving
+pub mod Calls

@@ -43,10 +43,14 @@ abbrev pub HalvesAre : {X K : Type 0} → Described X K → (Half → List ℕ) 
 HalvesAre d text =
     (part : Half) (rest : Schema) → (command_of (understood (schema_with rest) (text part)) ≡ Select (alone (scan d.layout.tree (test_of part ∷ []) d.shown by_rowid)) (map (λ c. c.name) d.layout.columns)) × (reads_listing (schema_with rest) (text part) ≡ false) × IsPlain (understood (schema_with rest) (text part))
 
--- the rows of the half were read, and nothing was changed; `Foreign` only where one of those stored is not typed
-pub record FindsHalf {X K A : Type 0} (d : Described X K) (part : Half) (middle : ℤ) (old new : State) (result : Result (Vec X A) TableFault) : Type 0 where
-  pub rows : HasCleanDisk new → IsReady old.now → IfOk result (λ found. found.items ≡ typed d.is d.reads (half_of d part middle old.now.trees))
-  pub typed : HasCleanDisk new → IsReady old.now → OnOk result (AllByRecursion (λ r. d.is r ≡ true) (half_of d part middle old.now.trees))
-  pub foreign : HasCleanDisk new → IsReady old.now → IfErr result (λ e. e ≡ Foreign → ¬ AllByRecursion (λ r. d.is r ≡ true) (half_of d part middle old.now.trees))
+-- the rows that are stored so were read, and nothing was changed; `Foreign` only where one of them is not typed
+pub record FindsStored {X K A : Type 0} (d : Described X K) (stored : Trees → List Row) (old new : State) (result : Result (Vec X A) TableFault) : Type 0 where
+  pub rows : HasCleanDisk new → IsReady old.now → IfOk result (λ found. found.items ≡ typed d.is d.reads (stored old.now.trees))
+  pub typed : HasCleanDisk new → IsReady old.now → OnOk result (AllByRecursion (λ r. d.is r ≡ true) (stored old.now.trees))
+  pub foreign : HasCleanDisk new → IsReady old.now → IfErr result (λ e. e ≡ Foreign → ¬ AllByRecursion (λ r. d.is r ≡ true) (stored old.now.trees))
   pub same : HasCleanDisk new → IsReady old.now → OnOk result (IsUnchanged old new)
   pub survives : Survives old new (λ _. ⊥)
+
+-- those of the half
+abbrev pub FindsHalf : {X K A : Type 0} → Described X K → Half → ℤ → State → State → Result (Vec X A) TableFault → Type 0
+FindsHalf d part middle old new result = FindsStored d (half_of d part middle) old new result

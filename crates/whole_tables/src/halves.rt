@@ -1,8 +1,9 @@
 //! Tables that are read in two halves, each of which takes half the memory.
 
-ghost use Rattle.std.specs.Prelude.{◌≡◌, refl};
+ghost use Rattle.std.specs.Prelude.{◌≡◌};
 ghost use Rattle.sqlite.specs.Held.{state};
-ghost use Rattle.whole_tables.specs.Halves.{FindsHalf};
+ghost use Rattle.whole_tables.specs.Halves.{FindsHalf, FindsStored};
+ghost use Rattle.whole_tables.specs.Whole.{rows_of};
 
 use crate::entire::Entire;
 use keyed_rows::reading::query_rows;
@@ -48,4 +49,28 @@ pub fn half_rows<T: Halved, S: Alter>(
     ensures finds { FindsHalf T.table part middle.now (state S.Store tx.old.conn.now) (state S.Store tx.new.conn.now) result }
 {
     query_rows::<T, S>(alloc, tx, T::half_text(part), &[of_signed(middle)])
+}
+
+/// All rows of the table, the oldest first, read one half after the other about this rowid, which takes less memory than to
+/// read them at once; `Foreign` where one of them has a value that no row has.
+pub fn rows_by_halves<T: Halved, S: Alter>(
+    alloc: Global,
+    tx: &mut Transaction<'_, S>,
+    middle: &i64,
+) -> Result<Vec<T::Row>, TableFault>
+    ensures same_reference { tx.new.conn.ghost_name ≡ tx.old.conn.ghost_name }
+    ensures finds { FindsStored T.table (rows_of T.table) (state S.Store tx.old.conn.now) (state S.Store tx.new.conn.now) result }
+{
+    let mut rows = match half_rows::<T, S>(alloc, tx, Half::Lower, middle) {
+        Ok(lower) => lower,
+        Err(fault) => return Err(fault),
+    };
+    let mut upper = match half_rows::<T, S>(alloc, tx, Half::Upper, middle) {
+        Ok(upper) => upper,
+        Err(fault) => return Err(fault),
+    };
+    match rows.append(&mut upper) {
+        Ok(()) => Ok(rows),
+        Err(fault) => Err(TableFault::from(fault)),
+    }
 }

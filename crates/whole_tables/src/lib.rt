@@ -11,4 +11,4 @@ pub mod texts;
 
 pub use each::each_of_all;
 pub use entire::{Entire, all_rows};
-pub use halves::{Half, Halved, half_rows};
+pub use halves::{Half, Halved, half_rows, rows_by_halves};

@@ -63,31 +63,3 @@ pub(crate) const LOWER_REPEATS: &str =
 
 pub(crate) const UPPER_REPEATS: &str =
     "SELECT k, act, spell, reply FROM repeats WHERE rowid > ?1 ORDER BY rowid";
-
-/// All of them.
-pub const WHOLE_TEXTS: [&str; 24] = [
-    ALL_META,
-    ALL_LEAST,
-    ALL_RECALLS,
-    ALL_STOCK,
-    ALL_ORDERS,
-    ALL_URGENTS,
-    ALL_LINES,
-    ALL_RESERVED,
-    ALL_SHIPMENTS,
-    ALL_SHIPLINES,
-    ALL_CARDS,
-    ALL_REPEATS,
-    LOWER_STOCK,
-    UPPER_STOCK,
-    LOWER_LINES,
-    UPPER_LINES,
-    LOWER_RESERVED,
-    UPPER_RESERVED,
-    LOWER_SHIPLINES,
-    UPPER_SHIPLINES,
-    LOWER_CARDS,
-    UPPER_CARDS,
-    LOWER_REPEATS,
-    UPPER_REPEATS,
-];

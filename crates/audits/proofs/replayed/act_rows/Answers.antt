@@ -19,7 +19,7 @@ returns-in-Ok-replay_rows-clause-done g c =
 
 pub returns-in-Err-replay_rows-clause-none : goal.returns-in-Err-replay_rows-clause-none
 returns-in-Err-replay_rows-clause-none g c =
-    none_of g.M.Store c.args.day c.args.rows.now c.replay_rows.new.books c.in-Err-replay_rows.fault (c.in-Err-replay_rows.ensures.replayed (g.met.M.Honest.always_clean c.replay_rows.new.books.conn.store) c.args.day (subst (λ d. IsTrue (is_business_day d)) c.day-business.ensures.value c.day-business.ensures.business) c.in-Ok.ensures.open c.in-Ok.ensures.books)
+    none_of g.M.Store c.args.day c.args.rows.items c.replay_rows.new.books c.in-Err-replay_rows.fault (c.in-Err-replay_rows.ensures.replayed (g.met.M.Honest.always_clean c.replay_rows.new.books.conn.store) c.args.day (subst (λ d. IsTrue (is_business_day d)) c.day-business.ensures.value c.day-business.ensures.business) c.in-Ok.ensures.open c.in-Ok.ensures.books)
 
 pub returns-in-Err-clause-none : goal.returns-in-Err-clause-none
-returns-in-Err-clause-none g c = subst (AreNone c.args.day c.args.rows.now) (sym c.in-Err.ensures.fault) tt
+returns-in-Err-clause-none g c = subst (AreNone c.args.day c.args.rows.items) (sym c.in-Err.ensures.fault) tt

@@ -1,8 +1,9 @@
-use Rattle.std.proofs.Common.{Ok, Err, Some, None, refl, sym, ap, subst, ◌∙◌}
+use Rattle.std.proofs.Common.{IfOk, Ok, Err, Some, None, refl, sym, ap, subst, ◌∙◌}
 use Rattle.sqlite.specs.Held.{state}
 use Rattle.slices.specs.Books.{IsBooksOf}
+use Rattle.audits.specs.Auditing.{IsHeld}
 use Rattle.audits.specs.Comparing.{SameTables, AreSeen, Tells}
-use Rattle.audits.proofs.Findings.{held_same, held_other, held_untyped}
+use Rattle.audits.proofs.Findings.{held_same, held_other, held_untyped, held_unread}
 use Rattle.audits.proofs.whole.hold_against.Goals as goal
 
 pub returns-in-Ok-None-clause-held : goal.returns-in-Ok-None-clause-held
@@ -36,4 +37,4 @@ returns-clause-held g c = λ clean ready done books.
     let shown : IsBooksOf c.args.day done b.now = subst (λ h. IsBooksOf c.args.day done (state g.M.Store h).now) (sym c.transaction-other.ensures.begun) books in
     let seen : AreSeen o n b d = record { clean = clean; clean_too = g.met.M.Honest.always_clean c.compare_tables-told.new.again.conn.now.store; ready = ready; ready_too = shown.ready } in
     let told : Tells SameTables o n b d (Err c.in-Err.unread) = subst (λ r. Tells SameTables o n b d r) c.in-Err.is c.compare_tables-told.ensures.tells in
-    c.tell_unread.ensures c.args.day done c.args.acts o.now.trees (held_untyped o n b d c.args.day done seen shown c.in-Err.unread told)
+    subst (λ r. IfOk r (IsHeld c.args.day done c.args.acts o.now.trees)) (sym c.tell_unread.ensures) (held_unread c.args.day done c.args.acts o.now.trees c.in-Err.unread (held_untyped o n b d c.args.day done seen shown c.in-Err.unread told))

@@ -1,24 +1,51 @@
-use Rattle.std.proofs.Common.{◌∷◌, sym, subst}
-use Rattle.replays.specs.Replaying.{Spell}
-use Rattle.replays.proofs.RowSteps.{rows_more, ends_rows}
+use Rattle.std.proofs.Common.{◌≡◌, [], ◌∷◌, ◌++◌, ◌-◌, take, append_assoc, arith, sym, ap, subst, ◌∙◌}
+use Rattle.std.specs.Prelude.{Ok, Err}
+use Rattle.std.proofs.lemmas.List.{append-nil}
+use Rattle.replays.specs.Replaying.{AreRowsReplayed}
+use Rattle.replays.proofs.RowSteps.{ends_rows}
 use Rattle.replays.proofs.rows.replay_rows.Goals as goal
+
+pub loop-row-init : goal.loop-row-init
+loop-row-init g c = (λ clean. clean, ([], sym (append-nil c.args.rows.items), λ clean first history is_open holds. ([], tt, history, is_open, holds)))
+
+pub returns-in-Err-clause-clean : goal.returns-in-Err-clause-clean
+returns-in-Err-clause-clean g c = λ clean. c.loop-row.invariant.0 (c.replay_row.ensures.clean clean)
 
 pub returns-in-Err-clause-replayed : goal.returns-in-Err-clause-replayed
 returns-in-Err-clause-replayed g c = λ clean first history is_open holds.
-    let rows = c.args.rows.now in
-    let i = c.loop-row.row-index in
-    let held = c.loop-row.invariant.held (c.replay_row.ensures.clean clean) first history is_open holds in
-    ends_rows g.S.Store first rows i c.row-item.result held.0 c.in-Err.fault c.replay_row.new.books c.loop-row-test.true c.row-item.is held.1 held.2
-    (c.in-Err.ensures.replayed clean first held.0 held.2 held.4)
+    let row = c.in-Some.row in
+    let left = c.pop.new.self.items in
+    let so_far = c.loop-row.invariant.1 in
+    let held = so_far.2 (c.replay_row.ensures.clean clean) first history is_open holds in
+    let parts : c.args.rows.items ≡ left ++ row ∷ so_far.0 = so_far.1 ∙ ap (λ l. l ++ so_far.0) c.in-Some.ensures.items ∙ append_assoc left (row ∷ []) so_far.0 in
+    subst (λ rows. AreRowsReplayed g.S.Store first rows (Err c.in-Err.fault) c.replay_row.new.books) (sym parts)
+    (ends_rows g.S.Store first left so_far.0 row held.0 c.in-Err.fault c.replay_row.new.books held.1 held.2 (c.in-Err.ensures.replayed clean first held.0 held.2 held.4))
+
+pub loop-row-smaller : goal.loop-row-smaller
+loop-row-smaller g c = omega (arith, c.in-Some.ensures.cases, c.give_back.ensures.len)
 
 pub loop-row-preserved : goal.loop-row-preserved
-loop-row-preserved g c = record {
-  clean = λ clean. c.loop-row.invariant.clean (c.replay_row.ensures.clean clean);
-  held = λ clean first history is_open holds.
-      let rows = c.args.rows.now in
-      let i = c.loop-row.row-index in
-      let held = c.loop-row.invariant.held (c.replay_row.ensures.clean clean) first history is_open holds in
-      let one = c.in-Ok.ensures.replayed clean first held.0 held.2 held.4 in
-      let more = rows_more rows i c.row-item.result c.loop-row-test.true c.row-item.is in
-      (one.0 ∷ held.0, subst (λ rs. Spell rs (one.0 ∷ held.0)) (sym more) (one.1, held.1), one.2, one.3, one.4);
-}
+loop-row-preserved g c =
+    let row = c.in-Some.row in
+    let left = c.pop.new.self.items in
+    let so_far = c.loop-row.invariant.1 in (
+      λ clean. c.loop-row.invariant.0 (c.replay_row.ensures.clean clean),
+      (
+        row ∷ so_far.0,
+        so_far.1 ∙ ap (λ l. l ++ so_far.0) c.in-Some.ensures.items ∙ append_assoc left (row ∷ []) so_far.0 ∙ ap (λ l. l ++ row ∷ so_far.0) (sym c.give_back.ensures.items),
+        λ clean first history is_open holds.
+            let held = so_far.2 (c.replay_row.ensures.clean clean) first history is_open holds in
+            let one = c.in-Ok.ensures.replayed clean first held.0 held.2 held.4 in
+            (one.0 ∷ held.0, (one.1, held.1), one.2, one.3, one.4),
+      ),
+    )
+
+pub returns-clause-clean : goal.returns-clause-clean
+returns-clause-clean g c = c.loop-row.invariant.0
+
+pub returns-clause-replayed : goal.returns-clause-replayed
+returns-clause-replayed g c = λ clean first history is_open holds.
+    let so_far = c.loop-row.invariant.1 in
+    let none : c.loop-row.rows.items ≡ [] =
+    c.in_default.ensures.items ∙ append-nil c.pop.new.self.items ∙ c.in_default.ensures.rest ∙ ap (λ n. take (n - 1) c.loop-row.rows.items) c.in_default.ensures.cases.0 in
+    subst (λ rows. AreRowsReplayed g.S.Store first rows (Ok tt) c.loop-row.books) (sym (so_far.1 ∙ ap (λ l. l ++ so_far.0) none)) (so_far.2 clean first history is_open holds)

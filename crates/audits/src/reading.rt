@@ -1,0 +1,78 @@
+//! The acts of books, read.
+
+ghost use Rattle.std.specs.Prelude.{◌≡◌, OnOk, IfOk, IfErr};
+ghost use Rattle.sqlite.specs.Held.{state};
+ghost use Rattle.sqlite.specs.State.{HasCleanDisk, Survives};
+ghost use Rattle.table_words.specs.Steps.{IsReady};
+ghost use Rattle.table_words.specs.Typed.{tables_in};
+ghost use Rattle.history_tables.specs.Repeats.{repeats};
+ghost use Rattle.whole_tables.specs.Whole.{AreAll};
+ghost use Rattle.audits.specs.Comparing.{IsUnread};
+
+use crate::finding::Unread;
+use commands::{MetaRow, RepeatRow};
+use goods_tables::meta::Meta;
+use history_tables::repeats::Repeats;
+use same_rows::TableName;
+use sqlite::{Alter, Transaction};
+use std::alloc::Global;
+use table_words::error::TableFault;
+use whole_tables::{all_rows, rows_by_halves};
+
+/// The middle of as many rows as there are acts.
+fn middle_of(rows: &[MetaRow]) -> i64 {
+    match rows.first() {
+        Some(row) => i64::try_from(row.acts / 2).unwrap_or(0),
+        None => 0,
+    }
+}
+
+/// About which rowid the acts are halved: half of them stand up to it, as far as they stand as they were written.
+fn middle_act<S: Alter>(alloc: Global, tx: &mut Transaction<'_, S>) -> Result<i64, Unread>
+    ensures same_reference { tx.new.conn.ghost_name ≡ tx.old.conn.ghost_name }
+    ensures same { HasCleanDisk (state S.Store tx.new.conn.now) → IsReady (state S.Store tx.old.conn.now).now → OnOk result ((state S.Store tx.new.conn.now).now ≡ (state S.Store tx.old.conn.now).now) }
+    ensures unread { HasCleanDisk (state S.Store tx.new.conn.now) → IsReady (state S.Store tx.old.conn.now).now → IfErr result (IsUnread (state S.Store tx.old.conn.now).now.trees) }
+    ensures survives { Survives (state S.Store tx.old.conn.now) (state S.Store tx.new.conn.now) (λ _. ⊥) }
+{
+    match all_rows::<Meta, S>(alloc, tx) {
+        Ok(rows) => Ok(middle_of(rows.as_slice())),
+        Err(TableFault::Foreign) => Err(Unread::Untyped(TableName::Meta)),
+        Err(TableFault::Store(_)) => Err(Unread::Store),
+    }
+}
+
+/// All rows of `repeats`, read one half after the other.
+fn act_rows_about<S: Alter>(
+    alloc: Global,
+    tx: &mut Transaction<'_, S>,
+    middle: &i64,
+) -> Result<Vec<RepeatRow>, Unread>
+    ensures same_reference { tx.new.conn.ghost_name ≡ tx.old.conn.ghost_name }
+    ensures rows { HasCleanDisk (state S.Store tx.new.conn.now) → IsReady (state S.Store tx.old.conn.now).now → IfOk result (λ rows. AreAll repeats (tables_in (state S.Store tx.old.conn.now).now.trees) rows.items) }
+    ensures same { HasCleanDisk (state S.Store tx.new.conn.now) → IsReady (state S.Store tx.old.conn.now).now → OnOk result ((state S.Store tx.new.conn.now).now ≡ (state S.Store tx.old.conn.now).now) }
+    ensures unread { HasCleanDisk (state S.Store tx.new.conn.now) → IsReady (state S.Store tx.old.conn.now).now → IfErr result (IsUnread (state S.Store tx.old.conn.now).now.trees) }
+    ensures survives { Survives (state S.Store tx.old.conn.now) (state S.Store tx.new.conn.now) (λ _. ⊥) }
+{
+    match rows_by_halves::<Repeats, S>(alloc, tx, middle) {
+        Ok(rows) => Ok(rows),
+        Err(TableFault::Foreign) => Err(Unread::Untyped(TableName::Repeats)),
+        Err(TableFault::Store(_)) => Err(Unread::Store),
+    }
+}
+
+/// All rows of `repeats`.
+pub(crate) fn read_acts<S: Alter>(
+    alloc: Global,
+    tx: &mut Transaction<'_, S>,
+) -> Result<Vec<RepeatRow>, Unread>
+    ensures same_reference { tx.new.conn.ghost_name ≡ tx.old.conn.ghost_name }
+    ensures rows { HasCleanDisk (state S.Store tx.new.conn.now) → IsReady (state S.Store tx.old.conn.now).now → IfOk result (λ rows. AreAll repeats (tables_in (state S.Store tx.old.conn.now).now.trees) rows.items) }
+    ensures same { HasCleanDisk (state S.Store tx.new.conn.now) → IsReady (state S.Store tx.old.conn.now).now → OnOk result ((state S.Store tx.new.conn.now).now ≡ (state S.Store tx.old.conn.now).now) }
+    ensures unread { HasCleanDisk (state S.Store tx.new.conn.now) → IsReady (state S.Store tx.old.conn.now).now → IfErr result (IsUnread (state S.Store tx.old.conn.now).now.trees) }
+    ensures survives { Survives (state S.Store tx.old.conn.now) (state S.Store tx.new.conn.now) (λ _. ⊥) }
+{
+    match middle_act(alloc, tx) {
+        Ok(middle) => act_rows_about(alloc, tx, &middle),
+        Err(unread) => Err(unread),
+    }
+}
