@@ -677,10 +677,10 @@ def big():
     print("  history: %.1f s, %.1f of the processor; peak %.1f MB" % (took, printing, history / 1e6))
     if (refused, status, told) != (1, 0, 0):
         fails("the lines", (1, 0, 0), (refused, status, told))
-    if auditing > 4 * used:
-        fails("the time", "at most 4 times %.1f s" % used, auditing)
-    if peak > 13 * opened:
-        fails("the memory", "at most 13 times %d" % opened, peak)
+    if auditing > 1.2 * used:
+        fails("the time", "at most 1.2 times %.1f s" % used, auditing)
+    if peak > 3 * opened:
+        fails("the memory", "at most 3 times %d" % opened, peak)
 
 
 if "--big" in sys.argv[1:]:

@@ -1,7 +1,5 @@
 -- A table by its halves.
-use Rattle.std.proofs.Common.{◌≡◌, ℤ, List, ◌++◌, Vec, Global, Bool, true, false, Option, Some, None, Result, Ok, Err, IfErr, OnOk, ◌≢◌, find, refl, sym, ap, ap₂, subst, ◌∙◌}
-use Rattle.std.specs.Prelude.{IfSome}
-use Rattle.std.specs.List.{AllByRecursion}
+use Rattle.std.proofs.Common.{◌≡◌, ℤ, ◌++◌, Vec, Global, Bool, true, Option, None, Result, Ok, Err, IfErr, OnOk, ◌≢◌, find, refl, sym, ap, ap₂, subst, ◌∙◌}
 use Rattle.sqlite.specs.Effect.{Database}
 use Rattle.sqlite.specs.State.{State, IsUnchanged}
 use Rattle.sqlite_keyed.proofs.ListLemmas.{all-filter}
@@ -14,12 +12,11 @@ use Rattle.table_words.proofs.CallLemmas.{inside_itself, inside_then}
 use Rattle.keyed_rows.specs.Described.{Described, IsLawful}
 use Rattle.whole_tables.specs.declared.halves.Half.{Half}
 use Rattle.whole_tables.specs.declared.halves.Half.TheVariants.{Lower, Upper}
-use Rattle.whole_tables.specs.Halves.{FindsHalf, half_of, is_in}
+use Rattle.whole_tables.specs.Halves.{FindsHalf, is_in}
 use Rattle.whole_tables.proofs.Halving.{halves_typed, halves_read}
 use Rattle.same_rows.specs.declared.key.RowKey.{RowKey}
 use Rattle.same_rows.specs.declared.key.TableName.{TableName}
 use Rattle.same_rows.specs.Differing.{rule_called}
-use Rattle.same_rows.specs.Same.{IsCompared}
 use Rattle.audits.specs.declared.finding.Unread.{Unread}
 use Rattle.audits.specs.declared.finding.Unread.TheVariants.{Untyped, Store}
 use Rattle.audits.specs.Comparing.{Both, SameTable, IsUnread, AreSeen, Tells}

@@ -21,7 +21,7 @@ use std::alloc::Global;
 use store::Fault;
 use table_words::error::TableFault;
 use values::LotId;
-use whole_tables::all_rows;
+use whole_tables::{all_rows, rows_by_halves};
 
 /// What the tables tell of the day that the acts began on.
 #[derive(Clone, Copy)]
@@ -89,24 +89,27 @@ fn day_of_receipt<S: Alter>(
     tx: &mut Transaction<'_, S>,
     lot: LotId,
     act: u64,
+    middle: &i64,
 ) -> Result<Begun, Fault>
     ensures same_reference { tx.new.conn.ghost_name ≡ tx.old.conn.ghost_name }
     ensures begun { HasCleanDisk (state S.Store tx.new.conn.now) → IsReady (state S.Store tx.old.conn.now).now
         → IfOk result (IsBegun (Some (Received lot act)) (state S.Store tx.old.conn.now) (state S.Store tx.new.conn.now)) }
     ensures survives { Survives (state S.Store tx.old.conn.now) (state S.Store tx.new.conn.now) (λ _. ⊥) }
 {
-    match all_rows::<Cards, S>(alloc, tx) {
+    match rows_by_halves::<Cards, S>(alloc, tx, middle) {
         Ok(rows) => Ok(card_day(rows.as_slice(), lot, act)),
         Err(TableFault::Foreign) => Ok(Begun::Untyped(TableName::Cards)),
         Err(TableFault::Store(_)) => Err(Fault::Store),
     }
 }
 
-/// The day that the acts began on, which the tables tell by what the acts do.
+/// The day that the acts began on, which the tables tell by what the acts do. Cards are read in halves about the rowid
+/// `middle`.
 pub(crate) fn first_day<S: Alter>(
     alloc: Global,
     tx: &mut Transaction<'_, S>,
     start: Option<Start>,
+    middle: &i64,
 ) -> Result<Begun, Fault>
     ensures same_reference { tx.new.conn.ghost_name ≡ tx.old.conn.ghost_name }
     ensures begun { HasCleanDisk (state S.Store tx.new.conn.now) → IsReady (state S.Store tx.old.conn.now).now → IfOk result (IsBegun start (state S.Store tx.old.conn.now) (state S.Store tx.new.conn.now)) }
@@ -116,7 +119,7 @@ pub(crate) fn first_day<S: Alter>(
         return day_of_books(alloc, tx);
     };
     match told {
-        Start::Received(lot, act) => day_of_receipt(alloc, tx, lot, act),
+        Start::Received(lot, act) => day_of_receipt(alloc, tx, lot, act, middle),
         Start::Opened(day) => Ok(Begun::On(day_before(day))),
     }
 }

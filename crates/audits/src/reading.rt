@@ -19,10 +19,15 @@ use std::alloc::Global;
 use table_words::error::TableFault;
 use whole_tables::{all_rows, rows_by_halves};
 
-/// The middle of as many rows as there are acts.
-fn middle_of(rows: &[MetaRow]) -> i64 {
+/// The rowid in the middle of as many rows.
+pub(crate) fn middle_of(rows: u64) -> i64 {
+    i64::try_from(rows / 2).unwrap_or(0)
+}
+
+/// How many acts the row of `meta` tells.
+fn acts_in(rows: &[MetaRow]) -> u64 {
     match rows.first() {
-        Some(row) => i64::try_from(row.acts / 2).unwrap_or(0),
+        Some(row) => row.acts,
         None => 0,
     }
 }
@@ -35,7 +40,7 @@ fn middle_act<S: Alter>(alloc: Global, tx: &mut Transaction<'_, S>) -> Result<i6
     ensures survives { Survives (state S.Store tx.old.conn.now) (state S.Store tx.new.conn.now) (λ _. ⊥) }
 {
     match all_rows::<Meta, S>(alloc, tx) {
-        Ok(rows) => Ok(middle_of(rows.as_slice())),
+        Ok(rows) => Ok(middle_of(acts_in(rows.as_slice()))),
         Err(TableFault::Foreign) => Err(Unread::Untyped(TableName::Meta)),
         Err(TableFault::Store(_)) => Err(Unread::Store),
     }

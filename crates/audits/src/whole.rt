@@ -20,7 +20,7 @@ use crate::begun::{Begun, first_day};
 use crate::comparing::compare_tables;
 use crate::finding::{Finding, Unread};
 use crate::raising::raise;
-use crate::reading::read_acts;
+use crate::reading::{middle_of, read_acts};
 use crate::replayed::act_rows;
 use commands::RepeatRow;
 use empty_database::{Honest, open_in_memory};
@@ -59,7 +59,7 @@ fn hold_against<S: Alter, M: Honest + Drop>(
     let _outside = again.is_autocommit();
     let mut other = again.transaction();
     // An act adds one row to most of the tables that grow.
-    let middle = (acts / 2) as i64;
+    let middle = middle_of(acts as u64);
     let told = compare_tables(alloc, tx, &mut other, &middle);
     other.rollback();
     match told {
@@ -113,7 +113,8 @@ fn audit_told<S: Alter, M: Honest + Drop, P: Progress>(
     ensures survives { Survives (state S.Store tx.old.conn.now) (state S.Store tx.new.conn.now) (λ _. ⊥) }
 {
     let start = start_of(alloc, rows.as_slice())?;
-    match first_day(alloc, tx, start)? {
+    let middle = middle_of(rows.as_slice().len() as u64);
+    match first_day(alloc, tx, start, &middle)? {
         Begun::On(day) => do_again(alloc, tx, empty, day, rows, progress),
         Begun::Missing(row) => Ok(Finding::Differs(row)),
         Begun::Untyped(name) => Ok(Finding::Untyped(name)),

@@ -283,8 +283,8 @@ values, as OPENDAY and the day.",
 
 It prints `audited N acts from DATE` where the rows of the books are those of the
 acts that they keep, and else tells the first row that is not, or the act that is
-none. No row is changed. It takes some times as long as the acts took; on a
-terminal it shows how many are done.",
+none. No row is changed. It takes about as long as the acts took; on a terminal it
+shows how many are done.",
         values: &[
             Value {
                 id: "db",
