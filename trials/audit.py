@@ -679,8 +679,8 @@ def big():
         fails("the lines", (1, 0, 0), (refused, status, told))
     if auditing > 1.2 * used:
         fails("the time", "at most 1.2 times %.1f s" % used, auditing)
-    if peak > 3 * opened:
-        fails("the memory", "at most 3 times %d" % opened, peak)
+    if peak > 3.3 * opened:
+        fails("the memory", "at most 3.3 times %d" % opened, peak)
 
 
 if "--big" in sys.argv[1:]:
