@@ -21,7 +21,8 @@ impl Honest for FileStore<MemoryFile> {
     ghost always_clean = { store_is_clean _ (λ _. refl) };
 }
 
-/// An empty database in memory. Its salts are made from no random number: nobody else sees its log.
+/// An empty database in memory; `AllocError` where none can be opened, whatever the cause. Its salts are made from no
+/// random number: nobody else sees its log.
 pub fn open_in_memory(alloc: Global) -> Result<Connection<FileStore<MemoryFile>>, AllocError>
     ensures { IfOk result (λ conn. conn.in_transaction ≡ false) }
 {
