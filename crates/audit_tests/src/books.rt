@@ -13,7 +13,7 @@ use std::alloc::Global;
 use std::process::Abort;
 use std::str::Lines;
 use store::{Books, Fault};
-use tables::opening::Leftover;
+use tables::opening::{Leftover, Orderly};
 
 /// The acts of the week.
 pub(crate) const WEEK: &[Part] = &[Part::Weeks];
@@ -110,7 +110,7 @@ fn worked<S: Alter + Drop>(
 }
 
 /// What the audit finds, and the connection.
-fn audited<S: Alter + Drop>(
+fn audited<S: Orderly + Drop>(
     rt: &impl Abort,
     alloc: Global,
     conn: Connection<S>,
@@ -130,7 +130,7 @@ fn may_be(said: &[u8], expected: &str) -> bool {
 }
 
 /// The audit says this.
-fn says<S: Alter + Drop>(
+fn says<S: Orderly + Drop>(
     rt: &impl Abort,
     alloc: Global,
     conn: Connection<S>,
@@ -147,7 +147,7 @@ fn says<S: Alter + Drop>(
 }
 
 /// The audit says this, whether the first day is given or is to be found.
-fn says_always<S: Alter + Drop>(
+fn says_always<S: Orderly + Drop>(
     rt: &impl Abort,
     alloc: Global,
     conn: Connection<S>,
@@ -176,7 +176,7 @@ fn changed<'a, S: Alter + Drop>(
     (conn, expected)
 }
 
-fn says_of_change<S: Alter + Drop>(
+fn says_of_change<S: Orderly + Drop>(
     rt: &impl Abort,
     alloc: Global,
     conn: Connection<S>,
@@ -187,7 +187,7 @@ fn says_of_change<S: Alter + Drop>(
     says_always(rt, alloc, conn, expected)
 }
 
-fn says_given<S: Alter + Drop>(
+fn says_given<S: Orderly + Drop>(
     rt: &impl Abort,
     alloc: Global,
     conn: Connection<S>,
@@ -197,7 +197,7 @@ fn says_given<S: Alter + Drop>(
     says(rt, alloc, conn, Some(first_day(rt)), expected)
 }
 
-fn sound<S: Alter + Drop>(
+fn sound<S: Orderly + Drop>(
     rt: &impl Abort,
     alloc: Global,
     conn: Connection<S>,
@@ -208,7 +208,7 @@ fn sound<S: Alter + Drop>(
     says_always(rt, alloc, conn, expected)
 }
 
-fn begun<S: Alter + Drop>(
+fn begun<S: Orderly + Drop>(
     rt: &impl Abort,
     alloc: Global,
     conn: Connection<S>,
@@ -254,7 +254,7 @@ fn damaged(rt: &impl Abort, alloc: Global, text: &[u8], at: usize) -> Vec<u8> {
     bytes
 }
 
-fn notices_byte<S: Alter + Drop>(
+fn notices_byte<S: Orderly + Drop>(
     rt: &impl Abort,
     alloc: Global,
     conn: Connection<S>,
@@ -271,7 +271,7 @@ fn notices_byte<S: Alter + Drop>(
     conn
 }
 
-fn notices_bytes<S: Alter + Drop>(
+fn notices_bytes<S: Orderly + Drop>(
     rt: &impl Abort,
     alloc: Global,
     conn: Connection<S>,
@@ -286,7 +286,7 @@ fn notices_bytes<S: Alter + Drop>(
     conn
 }
 
-fn tried<S: Alter + Drop>(
+fn tried<S: Orderly + Drop>(
     rt: &impl Abort,
     alloc: Global,
     conn: Connection<S>,

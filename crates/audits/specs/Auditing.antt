@@ -126,14 +126,14 @@ pub record IsFinding (given : Option ℤ) (old : State) (f : Finding) : Type 0 w
 -- What is left
 
 module _ {S : Type 0} (g : Ghosts S) (old : Held S) where
-  -- a connection that was opened anew, outside a transaction: nothing was committed
+  -- a connection that was found open, outside a transaction: nothing was committed
   pub record IsUntouched (new : Held S) : Type 0 where
     pub outside : new.in_transaction ≡ false
     pub crash : HasCleanDisk (state g new) → (db : Trees) → (state g new).may_leave db → db ≡ (state g old).committed.trees
     pub clean : doubt (state g old).is_clean ≤ doubt (state g new).is_clean
     pub shield : (state g old).IsShielded → (state g new).IsShielded
 
-  -- the connection itself, or one that was opened anew, or its store
+  -- the connection as it was, or one that was found open, or its store
   abbrev pub IsLeftAlone : Leftover S → Type 0
   IsLeftAlone (left.Connection conn) = (conn ≡ old) ⊎ IsUntouched conn
   IsLeftAlone (left.Store s) = IsClosed g old s

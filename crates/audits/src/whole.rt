@@ -29,7 +29,7 @@ use replays::{NotReplayed, Progress, by_act, start_of};
 use sqlite::{Alter, Connection, Transaction};
 use std::alloc::Global;
 use store::Fault;
-use tables::opening::{Found, Leftover, ready};
+use tables::opening::{Found, Leftover, Orderly, ready};
 
 /// What is found where tables were not read.
 fn tell_unread(unread: Unread) -> Result<Finding, Fault>
@@ -234,7 +234,7 @@ fn audit_in_memory<S: Alter, P: Progress>(
 /// opened. Books of an older schema are compared as they would be brought up. `Sound` exactly where the tables are those of
 /// the acts, and else the first difference, as far as memory and the disk suffice. No row is changed, and nothing is
 /// committed. `Foreign` where the tables are not those of books, and where those of an older schema could not be brought up.
-pub fn audit<S: Alter + Drop, P: Progress>(
+pub fn audit<S: Orderly + Drop, P: Progress>(
     alloc: Global,
     conn: Connection<S>,
     given: Option<BusinessDay>,

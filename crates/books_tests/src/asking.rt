@@ -13,6 +13,7 @@ use sqlite::{Alter, Connection};
 use std::alloc::Global;
 use std::io::Write;
 use std::process::Abort;
+use tables::opening::Orderly;
 
 #[derive(Clone, Copy)]
 pub(crate) enum Asked {
@@ -213,7 +214,7 @@ pub(crate) fn new_house_asked<S: Alter + Drop>(
 }
 
 /// A house with the books that are there is asked all this.
-pub(crate) fn house_asked<S: Alter + Drop>(
+pub(crate) fn house_asked<S: Orderly + Drop>(
     rt: &impl Abort,
     alloc: Global,
     conn: Connection<S>,
@@ -223,7 +224,7 @@ pub(crate) fn house_asked<S: Alter + Drop>(
     closed_after(rt, alloc, house, list)
 }
 
-fn answered<S: Alter + Drop>(
+fn answered<S: Orderly + Drop>(
     rt: &impl Abort,
     alloc: Global,
     conn: Connection<S>,
@@ -235,7 +236,7 @@ fn answered<S: Alter + Drop>(
 }
 
 /// The house answers as each exchange of the table says, and the books are closed and opened again after it.
-pub(crate) fn answered_in_turn<S: Alter + Drop>(
+pub(crate) fn answered_in_turn<S: Orderly + Drop>(
     rt: &impl Abort,
     alloc: Global,
     conn: Connection<S>,

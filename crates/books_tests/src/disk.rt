@@ -5,11 +5,11 @@ use crate::files::{Calls, Pair, Stopping};
 use crate::lines::{Turn, lines_run};
 use crate::serving::{TestClock, clients_served, lines_worked};
 use crate::steps::{Step, take_all};
-use sqlite::{Alter, Connection, Files, Options};
+use sqlite::{Connection, Files, Options};
 use std::alloc::Global;
 use std::net::TcpListener;
 use std::process::Abort;
-use tables::opening::Leftover;
+use tables::opening::{Leftover, Orderly};
 
 /// What is done over one connection.
 #[derive(Clone, Copy)]
@@ -23,7 +23,7 @@ pub(crate) enum Work<'a> {
     Trial(Trial<'a>),
 }
 
-fn worked<S: Alter + Drop>(
+fn worked<S: Orderly + Drop>(
     rt: &impl Abort,
     alloc: Global,
     conn: Connection<S>,

@@ -11,6 +11,7 @@ use service::import;
 use sqlite::{Alter, Connection};
 use std::alloc::Global;
 use std::process::Abort;
+use tables::opening::Orderly;
 
 // Files that do not read as one, one without rows, and files of which a row is refused.
 pub(crate) static FILES_REFUSED: &str = r#"
@@ -164,7 +165,7 @@ fn takes_a_thousand_rows(rt: HostRuntime) {
 }
 
 /// The books that are there import a file with this text; what is printed and what is told is this.
-pub(crate) fn imported<S: Alter + Drop>(
+pub(crate) fn imported<S: Orderly + Drop>(
     rt: &impl Abort,
     alloc: Global,
     conn: Connection<S>,

@@ -11,6 +11,7 @@ use sqlite::{Alter, Connection};
 use std::cell::Cell;
 use std::io::Write;
 use std::process::Abort;
+use tables::opening::Orderly;
 
 /// The books over one connection, in whatever file a line says that they are.
 struct OverOne<'a, S: Alter> {
@@ -18,7 +19,7 @@ struct OverOne<'a, S: Alter> {
     conn: Cell<Option<Connection<S>>>,
 }
 
-impl<S: Alter + Drop> BooksAt for OverOne<'_, S> {
+impl<S: Orderly + Drop> BooksAt for OverOne<'_, S> {
     ghost ends = { λ _ _ _ _. Unit {0} };
 
     fn work<W: Write, L: Write>(
@@ -135,7 +136,7 @@ static LINES: [Turn; 8] = [
     }),
 ];
 
-fn is_run<S: Alter + Drop>(rt: &impl Abort, books: &OverOne<'_, S>, line: &Line, index: usize) {
+fn is_run<S: Orderly + Drop>(rt: &impl Abort, books: &OverOne<'_, S>, line: &Line, index: usize) {
     let alloc = books.host.alloc();
     let mut printed: Vec<u8> = Vec::new(alloc);
     let mut told: Vec<u8> = Vec::new(alloc);
@@ -152,7 +153,7 @@ fn is_changed<S: Alter + Drop>(rt: &impl Abort, books: &OverOne<'_, S>, text: &s
 }
 
 /// Each line is run over the connection, which comes back.
-pub(crate) fn lines_run<S: Alter + Drop>(
+pub(crate) fn lines_run<S: Orderly + Drop>(
     host: &HostRuntime,
     rt: &impl Abort,
     conn: Connection<S>,

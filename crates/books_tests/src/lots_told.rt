@@ -7,6 +7,7 @@ use sqlite::{Alter, Connection};
 use std::alloc::Global;
 use std::process::Abort;
 use store::{Books, EachFault, Fault};
+use tables::opening::Orderly;
 use values::{Gtin, Lot, LotId};
 
 /// A record that is told.
@@ -228,7 +229,7 @@ fn tells<S: Alter>(rt: &impl Abort, books: &mut Books<S>, told: &Told) {
 }
 
 /// The books tell all this of the lots.
-pub(crate) fn tells_of_lots<S: Alter + Drop>(
+pub(crate) fn tells_of_lots<S: Orderly + Drop>(
     rt: &impl Abort,
     alloc: Global,
     conn: Connection<S>,

@@ -9,7 +9,7 @@ use sqlite::{Alter, Connection};
 use std::alloc::Global;
 use std::process::Abort;
 use store::{Books, Fault, OpenFault};
-use tables::opening::Leftover;
+use tables::opening::{Leftover, Orderly};
 
 pub(crate) fn business_day(rt: &impl Abort, text: &[u8]) -> BusinessDay {
     BusinessDay::new(Day::parse(text).expect(rt, "a day")).expect(rt, "a business day")
@@ -29,7 +29,7 @@ pub(crate) fn new_books<S: Alter + Drop>(
 }
 
 /// Books over a connection that another owner left.
-pub(crate) fn books_of<S: Alter + Drop>(
+pub(crate) fn books_of<S: Orderly + Drop>(
     rt: &impl Abort,
     alloc: Global,
     conn: Connection<S>,
@@ -56,7 +56,7 @@ pub(crate) fn made<S: Alter + Drop>(
     closed(rt, new_books(rt, alloc, conn))
 }
 
-pub(crate) fn opened<S: Alter + Drop>(
+pub(crate) fn opened<S: Orderly + Drop>(
     rt: &impl Abort,
     alloc: Global,
     conn: Connection<S>,
@@ -88,7 +88,7 @@ pub(crate) fn not_made<S: Alter + Drop>(
 }
 
 /// Opening what is not books.
-pub(crate) fn not_opened<S: Alter + Drop>(
+pub(crate) fn not_opened<S: Orderly + Drop>(
     rt: &impl Abort,
     alloc: Global,
     conn: Connection<S>,

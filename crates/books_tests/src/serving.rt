@@ -12,6 +12,7 @@ use std::io::{self, Read, Write};
 use std::net::{Shutdown, TcpListener, TcpStream};
 use std::process::Abort;
 use std::time::{Clock, Duration, Instant};
+use tables::opening::Orderly;
 
 /// A clock of a test.
 #[derive(Clone, Copy)]
@@ -243,7 +244,7 @@ fn ended<S: Alter + Drop>(
 }
 
 // A line that prints nothing and logs nothing.
-fn silent<S: Alter + Drop>(
+fn silent<S: Orderly + Drop>(
     host: &HostRuntime,
     rt: &impl Abort,
     conn: Connection<S>,
@@ -257,7 +258,7 @@ fn silent<S: Alter + Drop>(
     ended(rt, host.alloc(), found, expected)
 }
 
-fn taken<S: Alter + Drop>(
+fn taken<S: Orderly + Drop>(
     host: &HostRuntime,
     rt: &impl Abort,
     conn: Connection<S>,
@@ -274,7 +275,7 @@ fn taken<S: Alter + Drop>(
     conn
 }
 
-fn served<S: Alter + Drop>(
+fn served<S: Orderly + Drop>(
     host: &HostRuntime,
     rt: &impl Abort,
     conn: Connection<S>,
@@ -309,7 +310,7 @@ fn served<S: Alter + Drop>(
 
 // A line makes books, another finds its port taken, a third serves a client, and two import files: one that is not there,
 // and one of an item that nobody took into the range.
-pub(crate) fn lines_worked<S: Alter + Drop>(
+pub(crate) fn lines_worked<S: Orderly + Drop>(
     host: &HostRuntime,
     rt: &impl Abort,
     conn: Connection<S>,

@@ -13,6 +13,7 @@ use crate::table_rows::{creates_nothing, drops, fills, finds, is_no_schema, is_s
 use sqlite::{Alter, Connection};
 use std::alloc::Global;
 use std::process::Abort;
+use tables::opening::Orderly;
 
 #[derive(Clone, Copy)]
 pub(crate) enum Step {
@@ -97,7 +98,7 @@ fn done_on<S: Alter + Drop>(
     conn
 }
 
-fn take<S: Alter + Drop>(
+fn take<S: Orderly + Drop>(
     rt: &impl Abort,
     alloc: Global,
     conn: Connection<S>,
@@ -120,7 +121,7 @@ fn take<S: Alter + Drop>(
     }
 }
 
-pub(crate) fn take_all<S: Alter + Drop>(
+pub(crate) fn take_all<S: Orderly + Drop>(
     rt: &impl Abort,
     alloc: Global,
     conn: Connection<S>,

@@ -28,7 +28,7 @@ use std::alloc::Global;
 use std::process::Abort;
 use table_words::error::TableFault;
 use tables::creation::create;
-use tables::opening::{Found, Leftover, ready};
+use tables::opening::{Found, Leftover, Orderly, ready};
 use values::{Gtin, LotId, Name, Text};
 
 /// The rows that a table gives.
@@ -58,7 +58,7 @@ fn is_refused(rt: &impl Abort, done: Result<(), TableFault>) {
 }
 
 /// The connection over the tables.
-pub(crate) fn is_schema<S: Alter + Drop>(
+pub(crate) fn is_schema<S: Orderly + Drop>(
     rt: &impl Abort,
     alloc: Global,
     conn: Connection<S>,
@@ -87,7 +87,7 @@ fn handed_back<S: Alter + Drop>(
 }
 
 /// The connection as it comes back from an opening that is refused, since the schema is another.
-pub(crate) fn is_no_schema<S: Alter + Drop>(
+pub(crate) fn is_no_schema<S: Orderly + Drop>(
     rt: &impl Abort,
     alloc: Global,
     conn: Connection<S>,

@@ -47,6 +47,6 @@ IsFindingTold (Refused act why) old new end = IsFaultTold (Act act why) old new 
 abbrev pub IsAuditTold : Option ℤ → State → (old new : Option (List ℕ)) → Result Unit Fault → Type 0
 IsAuditTold given books old new end = (finding : Finding) × IsFinding given books finding × IsFindingTold finding old new end
 
--- no row was changed: the connection is as it was, or was opened anew, and nothing was committed
+-- no row was changed: the connection is as it was, or was found open, and nothing was committed
 abbrev pub IsLeftAs : {S : Type 0} → Ghosts S → (old new : Held S) → Type 0
 IsLeftAs g old new = IsLeftAlone g old (Connection new)

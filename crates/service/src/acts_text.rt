@@ -18,9 +18,10 @@ use sqlite::{Alter, Connection};
 use std::alloc::Global;
 use std::io::Write;
 use store::Books;
+use tables::opening::Orderly;
 
 /// Opens the books, and then prints their acts, one a line. Nothing is changed.
-pub(crate) fn open_and_print_acts<S: Alter + Drop, W: Write>(
+pub(crate) fn open_and_print_acts<S: Orderly + Drop, W: Write>(
     alloc: Global,
     conn: Connection<S>,
     out: &mut W,

@@ -14,13 +14,13 @@ use audits::{Finding, audit};
 use command_line::{AuditFault, Fault};
 use label::BusinessDay;
 use same_rows::RowKey;
-use sqlite::{Alter, Connection};
+use sqlite::Connection;
 use std::io::{self, Write};
-use tables::opening::Leftover;
+use tables::opening::{Leftover, Orderly};
 
 /// Holds the books against their acts, begun on the given day or else on the one that their rows tell, and prints how many
 /// acts there are, where every row is that of the acts. No row is changed. On a terminal it shows how far it is.
-pub(crate) fn audit_books<S: Alter + Drop, W: Write>(
+pub(crate) fn audit_books<S: Orderly + Drop, W: Write>(
     rt: &HostRuntime,
     conn: Connection<S>,
     given: Option<BusinessDay>,

@@ -27,6 +27,7 @@ use std::alloc::Global;
 use std::io::{self, Write};
 use std::net::TcpListener;
 use store::{Books, OpenFault};
+use tables::opening::Orderly;
 use values::LotId;
 
 /// A connection after the work over it, and how that work ended.
@@ -43,7 +44,7 @@ pub type AfterWork<S> = (Connection<S>, Result<(), Fault>);
 /// connection is dropped and the error is `Foreign` for other tables and else `Store`, also for a connection within a
 /// transaction. A port that cannot be had, a file that cannot be opened and output that cannot be written are `Io` beside
 /// the connection.
-pub fn do_work<S: Alter + Drop, F: FilesAt, W: Write, L: Write>(
+pub fn do_work<S: Orderly + Drop, F: FilesAt, W: Write, L: Write>(
     rt: &HostRuntime,
     files: &F,
     conn: Connection<S>,
@@ -97,7 +98,7 @@ fn make_books<S: Alter + Drop>(
 }
 
 /// Opens the books, listens on the port and answers so many connections.
-fn open_and_serve<S: Alter + Drop, W: Write, L: Write>(
+fn open_and_serve<S: Orderly + Drop, W: Write, L: Write>(
     rt: &HostRuntime,
     conn: Connection<S>,
     port: u16,
@@ -142,7 +143,7 @@ fn serve_books<S: Alter + Drop, W: Write, L: Write>(
 }
 
 /// Opens the books, and then imports the goods-in file.
-fn open_and_import<S: Alter + Drop, F: FilesAt, W: Write>(
+fn open_and_import<S: Orderly + Drop, F: FilesAt, W: Write>(
     alloc: Global,
     files: &F,
     conn: Connection<S>,
@@ -193,7 +194,7 @@ enum Sheet {
 }
 
 /// Opens the books, and then prints a text of a lot.
-fn open_and_print<S: Alter + Drop, W: Write>(
+fn open_and_print<S: Orderly + Drop, W: Write>(
     alloc: Global,
     conn: Connection<S>,
     sheet: Sheet,
@@ -248,7 +249,7 @@ fn print_sheet<S: Alter, W: Write>(
     }
 }
 
-pub(crate) fn open_books<S: Alter + Drop>(
+pub(crate) fn open_books<S: Orderly + Drop>(
     alloc: Global,
     conn: Connection<S>,
 ) -> Result<Books<S>, Fault>

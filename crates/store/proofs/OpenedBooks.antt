@@ -1,4 +1,4 @@
--- From a connection that was opened anew to the books over it.
+-- From a connection that was found open to the books over it.
 use Rattle.std.proofs.Common.{◌≡◌, inl, inr, ℕ, Bool, true, false, ◌&&◌, List, [], ◌∷◌, ◌++◌, filter, map, slice_get, IsTrue, Result, Err, refl, sym, ap, subst, ◌∙◌, arith}
 use Rattle.std.specs.Prelude.{◌≤◌, ◌⊎◌, ℤ, pos, codes, nat_eq, None, Some, option_map, find, if◌then◌else◌}
 use Rattle.std.specs.List.{AllByRecursion}
@@ -32,7 +32,7 @@ use Rattle.tables.specs.declared.older.OlderBooks.TheVariants.{First, Second}
 use Rattle.tables.specs.Settling.{HasDayAt, IsRaised, IsNumbered}
 use Rattle.tables.proofs.SettleLemmas.{each_itself}
 use Rattle.tables.proofs.OpenLemmas.{ready_tells}
-use Rattle.tables.specs.Opening.{HasDayIn, HasSchema, IsReadyAs, AreReadTyped, KeepsRowsAs, ComesTo, IsCome, IsLeftAs, IsLeft, TellTables}
+use Rattle.tables.specs.Opening.{HasDayIn, HasSchema, IsReadyAs, AreReadTyped, KeepsRowsAs, ComesTo, IsCome, IsLeftAs, IsLeft, IsOpenAndSettled, TellTables}
 use Rattle.tables.specs.declared.opening.Found.{Found}
 use Rattle.tables.specs.declared.opening.Found.TheVariants.{Newest, Older}
 use Rattle.tables.specs.declared.opening.Leftover.{Leftover}
@@ -279,7 +279,7 @@ rows_come (Older older) before after first acts brought rows = record {
   typed = brought.typed rows.typed;
 }
 
--- a connection that was opened anew keeps the books of the acts, as whichever books they were found
+-- a connection that was found open keeps the books of the acts, as whichever books they were found
 keeps_books : {S : Type 0} (g : Ghosts S) (old new : Held S) (it : IsReopened g old new) (first : ℤ) (acts : List Act) (day : ℤ) → HasDayIn it.found (state g old).committed.trees day → HasCleanDisk (state g new)
     → AreFoundRows first acts (state g old).committed.trees → KeepsBooks first acts (state g new)
 keeps_books g old new it first acts day has clean (at, rows) = record {
@@ -297,7 +297,7 @@ as_numbered old db (inl kept) = inl kept.rows
 as_numbered old db (inr raised) = inr raised
 
 module _ {S : Type 0} (g : Ghosts S) (old again new : Held S) (found : Found) (schema : HasSchema found (state g old).now.schema)
-    (ready : HasCleanDisk (state g again) → IsReadyAs found (state g again).now) (opens : HasCleanDisk (state g again) → Opens (state g again))
+    (ready : HasCleanDisk (state g again) → IsReadyAs found (state g again).now) (opens : HasCleanDisk (state g again) → IsOpenAndSettled (state g again))
     (same : HasCleanDisk (state g again) → (state g again).now.trees ≡ (state g old).committed.trees) (crash : HasCleanDisk (state g again) → (db : Trees) → (state g again).may_leave db → db ≡ (state g old).committed.trees)
     (clean : doubt (state g old).is_clean ≤ doubt (state g again).is_clean) (shield : (state g old).IsShielded → (state g again).IsShielded)
     (survives : Survives (state g again) (state g new) (λ db. IsReadyAs found (state g again).now → ComesTo found (state g again).now.trees db × TellTables db)) (outside : new.in_transaction ≡ false) where

@@ -83,7 +83,7 @@ module _ {S : Type 0} (g : Ghosts S) (old : Held S) where
   IsLeftUnfilled day (left.Connection conn) = IsUnfilled day conn
   IsLeftUnfilled day (left.Store s) = ⊥
 
-  -- a connection that was opened anew: its tables are the newest, and come of the rows of the last commit
+  -- a connection that was found open: its tables are the newest, and come of the rows of the last commit
   pub record IsReopened (new : Held S) : Type 0 where
     pub found : Found
     pub schema : HasSchema found (state g old).now.schema
@@ -107,7 +107,7 @@ module _ {S : Type 0} (g : Ghosts S) (old : Held S) where
     pub clean : doubt (state g old).is_clean ≤ doubt (state g new).is_clean
     pub shield : (state g old).IsShielded → (state g new).IsShielded
 
-  -- the connection itself, or one that was opened anew, or its store
+  -- the connection as it was, or one that was found open, or its store
   abbrev pub IsLeftOver : Leftover S → Type 0
   IsLeftOver (left.Connection conn) = (conn ≡ old) ⊎ IsReopenedAsFound conn
   IsLeftOver (left.Store s) = IsClosed g old s

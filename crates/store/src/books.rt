@@ -38,7 +38,7 @@ use std::alloc::Global;
 use std::marker::Model;
 use table_words::error::TableFault;
 use tables::creation;
-use tables::opening::{Leftover, ready, settle_found};
+use tables::opening::{Leftover, Orderly, ready, settle_found};
 use values::{Gtin, LotId, Name};
 
 /// The books over a connection, which is outside a transaction between calls and has no limit on steps.
@@ -143,7 +143,9 @@ impl<S: Alter + Drop> Books<S> {
             alloc,
         })
     }
+}
 
+impl<S: Orderly + Drop> Books<S> {
     /// Opens the books that are in the tables. Further tables that refer to none, views and indexes that refuse no row
     /// of the books are passed over, and those of the indexes of the books that are missing are made, in one transaction.
     /// In it books of schema 3, which has the same tables, get the newest number. Books of schema 1 or 2, with nothing of

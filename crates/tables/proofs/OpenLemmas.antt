@@ -1,17 +1,13 @@
--- The rowids of each table rise where the store was just opened.
-use Rattle.std.proofs.Common.{◌≡◌, ◌⊎◌, ℕ, ◌≤◌, IfErr, Result, Ok, Err, inl, inr, true, false, refl, sym, subst, arith}
-use Rattle.sqlite_disk.specs.Disk.{MoreFaults}
+-- The rowids of each table rise in what is committed, and what is left of a connection that was not found open.
+use Rattle.std.proofs.Common.{◌≡◌, ◌⊎◌, ℕ, ◌≤◌, List, None, IsTrue, inl, inr, sym, ap, subst, ◌∙◌, arith}
 use Rattle.sqlite_trees.specs.Tree.{Trees}
-use Rattle.sqlite_trees.specs.declared.error.StoreError.{StoreError}
-use Rattle.sqlite_trees.specs.declared.error.StoreError.TheVariants as stored
-use Rattle.sqlite_rules.specs.Calls.{Excuses}
 use Rattle.sqlite.specs.declared.error.Error.{Error}
-use Rattle.sqlite.specs.declared.error.Error.TheVariants.{SqliteFailure}
-use Rattle.sqlite.specs.declared.error.ErrorCode.TheVariants.{OutOfMemory}
-use Rattle.sqlite.specs.State.{store_error}
-use Rattle.sqlite.specs.Steps.{FailsToOpen}
+use Rattle.sqlite_trees.specs.declared.store.Store.{Ghosts}
+use Rattle.sqlite_trees.specs.View.{IsQuiet, doubt, IsRolledBack as IsUndone}
+use Rattle.sqlite.specs.Held.{Held, state}
+use Rattle.sqlite.specs.State.{State, HasCleanDisk, IsNotRun, IsUnchanged, IsRolledBack}
+use Rattle.sqlite_value.specs.Order.{Row}
 use Rattle.sqlite.specs.Schema.{Schema}
-use Rattle.std.proofs.lemmas.Bool.{cases_Bool}
 use Rattle.std.specs.List.{AllByRecursion}
 use Rattle.sqlite.specs.View.{View, IsOrdered, IsShaped}
 use Rattle.sqlite.specs.Effect.{Database, IsDatabase}
@@ -25,8 +21,9 @@ use Rattle.table_words.specs.Rows.{IsRows}
 use Rattle.table_words.specs.Steps.{IsReady}
 use Rattle.table_words.proofs.StepLemmas.{front}
 use Rattle.tables.specs.Bringing.{IsOlderReady}
+use Rattle.tables.specs.Orderly.{IsInOrder}
 use Rattle.tables.specs.Older.{IsOlderSchema}
-use Rattle.tables.specs.Opening.{HasSchema, IsReadyAs, TellTables}
+use Rattle.tables.specs.Opening.{HasSchema, IsReadyAs, TellTables, IsClosed}
 use Rattle.tables.specs.declared.opening.Found.{Found}
 use Rattle.tables.specs.declared.opening.Found.TheVariants.{Newest, Older}
 use Rattle.tables.specs.declared.older.OlderBooks.{OlderBooks}
@@ -54,31 +51,50 @@ pub found_over : (v : View) (db : Database) → IsListed (v.trees catalog_tree) 
 found_over v db listed ordered sound trees Newest has = ready_over v db listed ordered sound trees has
 found_over v db listed ordered sound trees (Older older) has = older_over v db listed ordered sound trees older has
 
--- an error tells of memory, or of something else
-pub memory_or_not : (e : Error) → (e ≡ SqliteFailure OutOfMemory) ⊎ (e ≡ SqliteFailure OutOfMemory → ⊥)
-memory_or_not (SqliteFailure OutOfMemory) = inl refl
-memory_or_not e = inr (λ is. cc)
+-- what is committed is listed and in order, and is a database
+pub found_committed : (v : View) (db : Database) → IsInOrder v → IsDatabase db → db.trees ≡ v.committed → (found : Found) → HasSchema found db.schema → IsReadyAs found db
+found_committed v db order sound trees found has =
+    found_over (record v { trees = v.committed; shape = v.committed_shape; reals = v.committed_reals }) db order.listed order.ordered sound trees found has
 
-pub open_if_sound : (v : View) → (v.is_open ≡ false → v.is_broken ≡ true) → v.is_broken ≡ false → v.is_open ≡ true
-open_if_sound v law sound = elim (cases_Bool v.is_open) [ inl e ↦ e | inr e ↦ absurd (let bad = law e in cc) ]
+-- a statement that was not made ready changes nothing, or the store failed
+pub not_run_left : (sql : List ℕ) (params : Row) (old new : State) (e : Error) → IsNotRun old new sql params e → IsUnchanged old new ⊎ IsRolledBack old new
+unfolding IsNotRun
+not_run_left sql params old new e (inl h) = inl h.1
+not_run_left sql params old new e (inr h) = inr h.3
 
--- what is listed and obeyed is opened again, but for memory and the disk
-pub fails_for : (was : Database) (trees : Trees) (e : Error) (first mid last : ℕ) → IsDatabase was → trees ≡ was.trees → first ≤ mid → FailsToOpen trees (MoreFaults mid last) e
-    → (e ≡ SqliteFailure OutOfMemory) ⊎ MoreFaults first last
-fails_for was trees e first mid last database same counts (inl none) = absurd (none.1 was.schema (subst (IsSound was.schema) (sym same) database))
-fails_for was trees e first mid last database same counts (inr why) = by_cause why.0 why.1 why.2
-  where
-    by_cause : (cause : StoreError) → e ≡ store_error cause → Excuses (MoreFaults mid last) ⊥ cause → (e ≡ SqliteFailure OutOfMemory) ⊎ MoreFaults first last
-    by_cause stored.OutOfMemory is excused = inl is
-    by_cause stored.Io is excused = inr (omega (arith, counts, excused))
-    by_cause stored.Corrupt is excused = inr (omega (arith, counts, excused))
-    by_cause stored.Full is excused = inr (omega (arith, counts, excused))
-    by_cause stored.Broken is excused = absurd excused
-    by_cause stored.Unstorable is excused = absurd excused
+-- the limit on steps is no part of it
+pub left_unlimited : (old new : State) → IsUnchanged (record old { step_limit = None }) new ⊎ IsRolledBack (record old { step_limit = None }) new → IsUnchanged old new ⊎ IsRolledBack old new
+left_unlimited old new (inl (shows, counts, marks)) = inl (
+  record { was_open = shows.was_open; is_open = shows.is_open; now_is = shows.now_is; committed_is = shows.committed_is; mode = shows.mode },
+  record { changes = counts.changes; last_rowid = counts.last_rowid },
+  marks,
+)
+left_unlimited old new (inr back) = inr (record {
+  was_open = back.was_open;
+  undone = back.undone;
+  autocommit = back.autocommit;
+  unmarked = back.unmarked;
+  counts = record { changes = back.counts.changes; last_rowid = back.counts.last_rowid };
+})
 
--- the trees tell their schema
-pub same_schema : (old new : Database) → IsDatabase old → IsDatabase new → new.trees ≡ old.trees → new.schema ≡ old.schema
-same_schema old new p q same = lists_once (old.trees catalog_tree) new.schema old.schema (subst (λ t. Lists (t catalog_tree) new.schema) same q.lists) p.lists
+-- so the last commit is as it was
+pub committed_kept : (old new : State) → IsUnchanged old new ⊎ IsRolledBack old new → IsTrue new.is_open → new.committed ≡ old.committed
+committed_kept old new (inl same) up = same.0.committed_is
+committed_kept old new (inr back) up = (back.undone up).1
+
+-- the store of a connection that was not found open
+pub closed_left : {S : Type 0} (g : Ghosts S) (old mid : Held S) (s : S) → doubt (state g old).is_clean ≤ doubt (state g mid).is_clean → ((state g old).IsShielded → (state g mid).IsShielded)
+    → (HasCleanDisk (state g mid) → (db : Trees) → (state g mid).may_leave db → (state g old).may_leave db)
+    → (HasCleanDisk (state g mid) → IsUnchanged (state g old) (state g mid) ⊎ IsRolledBack (state g old) (state g mid))
+    → IsUndone (g.view mid.store) (g.view s) → IsQuiet g.view g.faults g.recovers g.is_shielded mid.store s → IsClosed g old s
+closed_left g old mid s clean shield crash failed undone quiet = record {
+  clean = omega (arith, clean, quiet.clean);
+  shield = λ h. quiet.shield (shield h);
+  outcomes = λ c db left. crash (omega (arith, c, quiet.clean)) db (quiet.outcomes db left);
+  tables = λ c up.
+      let was : HasCleanDisk (state g mid) = omega (arith, c, quiet.clean) in
+      (undone.undone up).0 ∙ ap (λ (d : Database). d.trees) (committed_kept (state g old) (state g mid) (failed was) ((undone.kept c).was_open up));
+}
 
 -- so the trees of books tell that they have the tables
 pub ready_tells : (db : Database) → IsReady db → TellTables db.trees
@@ -88,8 +104,3 @@ ready_tells db ready schema sound = record {
   apart = ready.has.apart;
   harmless = ready.has.harmless;
 }
-
--- two facts of one error
-pub if_err_both : {X E : Type 0} (r : Result X E) (P Q : E → Type 0) → IfErr r P → IfErr r Q → IfErr r (λ e. P e × Q e)
-if_err_both (Ok x) P Q h k = tt
-if_err_both (Err e) P Q h k = (h, k)

@@ -6,3 +6,4 @@ pub mod Indexing
 pub mod Settling
 pub mod Older
 pub mod Bringing
+pub mod Orderly

@@ -1,12 +1,11 @@
 -- Which trees and schemas are those of books, what they come to, and what is left of a connection that was not opened.
-use Rattle.std.specs.Prelude.{◌≡◌, ℤ, IsTrue, ⊤}
+use Rattle.std.specs.Prelude.{◌≡◌, ◌≤◌, ℤ, IsTrue, ⊤}
 use Rattle.sqlite.specs.Schema.{Schema}
 use Rattle.sqlite.specs.Tree.{Trees}
 use Rattle.sqlite_catalog.specs.Listing.{IsSound}
 use Rattle.table_words.specs.Schema.{HasTables}
-use Rattle.sqlite_disk.specs.Disk.{MoreFaults}
 use Rattle.sqlite_trees.specs.declared.store.Store.{Ghosts}
-use Rattle.sqlite_trees.specs.View.{IsClean, IsQuiet}
+use Rattle.sqlite_trees.specs.View.{IsClean, doubt}
 use Rattle.sqlite.specs.Held.{Held, state}
 use Rattle.sqlite.specs.Effect.{Database}
 use Rattle.sqlite.specs.State.{State}
@@ -60,6 +59,11 @@ pub record IsCome (found : Found) (old : Trees) (new : State) : Type 0 where
   pub comes : ComesTo found old new.now.trees
   pub settled : new.committed ≡ new.now
 
+-- it is open, and shows what is committed
+pub record IsOpenAndSettled (s : State) : Type 0 where
+  pub is_open : IsTrue s.is_open
+  pub clean : s.now ≡ s.committed
+
 -- it shows the tables as they were found, and all is committed
 pub record IsLeftAs (found : Found) (old : Trees) (new : State) : Type 0 where
   pub ready : IsReadyAs found new.now
@@ -73,15 +77,12 @@ TellTables trees = (schema : Schema) → IsSound schema trees → HasTables sche
 module _ {S : Type 0} (g : Ghosts S) (old : Held S) where
   -- the store of the connection, which still has the tables of the last commit; a crash leaves nothing new
   pub record IsClosed (s : S) : Type 0 where
-    pub quiet : IsQuiet g.view g.faults g.recovers g.is_shielded old.store s
+    pub clean : doubt (state g old).is_clean ≤ doubt (g.view s).is_clean
+    pub shield : (state g old).IsShielded → g.is_shielded s
+    pub outcomes : IsClean (g.view s) → (db : Trees) → g.recovers s db → (state g old).may_leave db
     pub tables : IsClean (g.view s) → IsTrue (g.view s).is_open → (g.view s).trees ≡ (state g old).committed.trees
 
   -- the connection itself, or its store
   abbrev pub IsLeft : Leftover S → Type 0
   IsLeft (left.Connection conn) = conn ≡ old
   IsLeft (left.Store s) = IsClosed s
-
-  -- the disk failed as the store was opened again
-  abbrev pub HasFailed : Leftover S → Type 0
-  HasFailed (left.Connection conn) = ⊥
-  HasFailed (left.Store s) = IsClean (g.view s) → IsTrue (state g old).is_open → MoreFaults (g.faults old.store) (g.faults s)

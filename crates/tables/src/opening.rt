@@ -1,18 +1,15 @@
 //! A connection whose tables are ready.
 
-ghost use Rattle.std.specs.Prelude.{◌≡◌, ◌⊎◌, ◌≤◌, ℤ, false, IfOk, IfErr, OnOk, OnErr, IsErrAnd, IsTrue};
-ghost use Rattle.sqlite_disk.specs.Disk.{MoreFaults};
-ghost use Rattle.sqlite.specs.State.{HasCleanDisk, Survives, Opens, IsLive};
-ghost use Rattle.sqlite.specs.Held.{state, IsNew};
-ghost use Rattle.sqlite.specs.Steps.{IsFresh, FailsToOpen};
+ghost use Rattle.std.specs.Prelude.{◌≡◌, ◌⊎◌, ◌≤◌, ℤ, false, None, IfOk, IfErr, OnOk, OnErr, IsErrAnd, IsTrue};
+ghost use Rattle.sqlite.specs.State.{HasCleanDisk, Survives, IsUnchanged, IsRolledBack};
+ghost use Rattle.sqlite.specs.Held.{state};
 ghost use Rattle.sqlite.specs.Tree.{Trees};
-ghost use Rattle.sqlite_trees.specs.View.{IsClean, IsQuiet, doubt};
-ghost use Rattle.sqlite.specs.Effect.{IsDatabase};
+ghost use Rattle.sqlite_trees.specs.View.{doubt};
 ghost use Rattle.sqlite.specs.declared.error.ErrorCode.TheVariants.{OutOfMemory};
 ghost use Rattle.sqlite.specs.declared.error.Error.TheVariants.{SqliteFailure};
 ghost use Rattle.table_words.specs.declared.error.TableFault.TheVariants.{Foreign, Store};
 ghost use Rattle.tables.specs.Indexing.{HasIndexes};
-ghost use Rattle.tables.specs.Opening.{HasSchema, IsOfNone, IsReadyAs, HasDayIn, AreReadTyped, ComesTo, IsCome, IsLeftAs, TellTables, IsLeft, IsClosed, HasFailed};
+ghost use Rattle.tables.specs.Opening.{HasSchema, IsOfNone, IsReadyAs, HasDayIn, AreReadTyped, ComesTo, IsCome, IsLeftAs, TellTables, IsLeft, IsOpenAndSettled};
 ghost use Rattle.tables.specs.declared.opening.Found.{Found};
 
 use crate::bringing::bring_up;
@@ -20,7 +17,8 @@ use crate::checking::has_tables;
 use crate::older::{OlderBooks, is_schema_of};
 use crate::settling::settle;
 use label::BusinessDay;
-use sqlite::{Alter, Connection, Error, ErrorCode};
+use sqlite::{Alter, Connection, Error, FileStore, MemStore};
+use sqlite_disk::Disk;
 use sqlite_schema::schema::Schema;
 use std::alloc::Global;
 use table_words::error::TableFault;
@@ -30,7 +28,7 @@ use table_words::error::TableFault;
 pub enum Leftover<S: Alter> {
     /// The connection, as it was.
     Connection(Connection<S>),
-    /// Its store, whose tables are as they were: memory or the disk failed as it was opened again.
+    /// Its store, whose tables are as they were: memory failed, or the disk had shut it.
     Store(S),
 }
 
@@ -49,7 +47,6 @@ fn judge(alloc: Global, schema: &Schema) -> Result<Found, TableFault>
     ensures found { IfOk result (λ found. HasSchema found schema.now) }
     ensures foreign { IfErr result (λ e. e ≡ Foreign → IsOfNone schema.now) }
     ensures other { IsOfNone schema.now → IsErrAnd result (λ e. (e ≡ Foreign) ⊎ (e ≡ Store (SqliteFailure OutOfMemory))) }
-    ensures cause { IfErr result (λ e. (e ≡ Foreign) ⊎ (e ≡ Store (SqliteFailure OutOfMemory))) }
 {
     if has_tables(alloc, schema)? {
         return Ok(Found::Newest);
@@ -63,53 +60,56 @@ fn judge(alloc: Global, schema: &Schema) -> Result<Found, TableFault>
     Err(TableFault::Foreign)
 }
 
-/// Opens a store that was just made or recovered.
-fn over<S: Alter + Drop>(alloc: Global, store: S) -> Result<Connection<S>, (Error, S)>
-    requires { IsClean (S.Store.view store) → IsFresh (S.Store.view store) }
-    ensures ready { IfOk result (λ c. HasCleanDisk (state S.Store c) → (found : Found) → HasSchema found (state S.Store c).now.schema → IsReadyAs found (state S.Store c).now) }
-    ensures opens { IfOk result (λ c. HasCleanDisk (state S.Store c) → Opens (state S.Store c) × IsLive (state S.Store c)) }
-    ensures fresh { IfOk result IsNew }
-    ensures trees { IfOk result (λ c. HasCleanDisk (state S.Store c) → (state S.Store c).now.trees ≡ (S.Store.view store).trees) }
-    ensures clean { IfOk result (λ c. doubt (S.Store.view store).is_clean ≤ doubt (state S.Store c).is_clean) }
-    ensures shield { IfOk result (λ c. S.Store.is_shielded store → (state S.Store c).IsShielded) }
-    ensures quiet { IfErr result (λ e. IsQuiet S.Store.view S.Store.faults S.Store.recovers S.Store.is_shielded store e.1) }
-    ensures rows { IfErr result (λ e. IsClean (S.Store.view e.1) → IsTrue (S.Store.view e.1).is_open → (S.Store.view e.1).trees ≡ (S.Store.view store).trees) }
-    ensures err { IfErr result (λ e. IsClean (S.Store.view e.1) → FailsToOpen (S.Store.view store).trees (MoreFaults (S.Store.faults store) (S.Store.faults e.1)) e.0) }
-{
-    Connection::over(alloc, store)
+/// A store of which it is known, whatever its transaction is in, that the trees of the last commit are listed and in order.
+pub trait Orderly: Alter {
+    ghost use Rattle.tables.specs.Orderly.{IsInOrder};
+
+    ghost in_order: { (s : Self) → IsTrue (Self.Store.view s).is_open → IsInOrder (Self.Store.view s) };
 }
 
-/// Opens the store of a connection once more, and so learns that its tables are in order.
-fn reopen<S: Alter + Drop>(alloc: Global, conn: Connection<S>) -> Result<Connection<S>, (Error, S)>
-    ensures ready { IfOk result (λ c. HasCleanDisk (state S.Store c) → (found : Found) → HasSchema found (state S.Store c).now.schema → IsReadyAs found (state S.Store c).now) }
-    ensures opens { IfOk result (λ c. HasCleanDisk (state S.Store c) → Opens (state S.Store c) × IsLive (state S.Store c) × IsTrue (state S.Store conn).is_open) }
-    ensures fresh { IfOk result IsNew }
-    ensures same { IfOk result (λ c. HasCleanDisk (state S.Store c) → (state S.Store c).now.trees ≡ (state S.Store conn).committed.trees) }
-    ensures clean { IfOk result (λ c. doubt (state S.Store conn).is_clean ≤ doubt (state S.Store c).is_clean) }
-    ensures shield { IfOk result (λ c. (state S.Store conn).IsShielded → (state S.Store c).IsShielded) }
-    ensures closed { IfErr result (λ e. IsClosed S.Store conn e.1) }
-    ensures cause { IfErr result (λ e. IsClean (S.Store.view e.1) → IsTrue (state S.Store conn).is_open → IsDatabase (state S.Store conn).committed
-        → (e.0 ≡ SqliteFailure OutOfMemory) ⊎ MoreFaults (S.Store.faults conn.store) (S.Store.faults e.1)) }
-{
-    let store = conn.into_store();
-    if store.is_broken() {
-        return Err((Error::SqliteFailure(ErrorCode::Closed), store));
-    }
-    over(alloc, store)
+impl<D: Disk> Orderly for FileStore<D> {
+    ghost use Rattle.tables.specs.Orderly.{file_in_order};
+
+    ghost in_order = { file_in_order _ };
 }
 
-/// A connection over the tables, outside a transaction, opened anew, and which books they are. `Foreign` where the schema
+impl Orderly for MemStore {
+    ghost use Rattle.tables.specs.Orderly.{memory_in_order};
+
+    ghost in_order = { λ s _. memory_in_order s };
+}
+
+// A statement that is made ready and never run. It has no parameters and no columns, so nothing is copied.
+const NEVER_RUN: &str = "BEGIN";
+
+/// Lifts the limit on steps, and finds the connection open, or fails: makes a statement ready.
+fn find_open<S: Alter>(conn: &mut Connection<S>) -> Result<(), Error>
+    ensures open { HasCleanDisk (state S.Store conn.new) → OnOk result (IsUnchanged (state S.Store conn.old) (state S.Store conn.new)) }
+    ensures failed { HasCleanDisk (state S.Store conn.new) → OnErr result (IsUnchanged (state S.Store conn.old) (state S.Store conn.new) ⊎ IsRolledBack (state S.Store conn.old) (state S.Store conn.new)) }
+    ensures outside { conn.old.in_transaction ≡ false → conn.new.in_transaction ≡ false }
+    ensures limit { conn.new.step_limit ≡ None }
+    ensures clean { doubt (state S.Store conn.old).is_clean ≤ doubt (state S.Store conn.new).is_clean }
+    ensures shield { (state S.Store conn.old).IsShielded → (state S.Store conn.new).IsShielded }
+    ensures crash { HasCleanDisk (state S.Store conn.new) → (db : Trees) → (state S.Store conn.new).may_leave db → (state S.Store conn.old).may_leave db }
+{
+    conn.set_step_limit(None);
+    conn.prepare(NEVER_RUN)?;
+    Ok(())
+}
+
+/// A connection over the tables, outside a transaction, found open, and which books they are. `Foreign` where the schema
 /// is not one of books: the connection is then as it was, and so it is where there is no memory to compare the schema.
-/// `Store` where memory or the disk fails.
-pub fn ready<S: Alter + Drop>(
+/// `Store` where memory fails, or the disk has shut the connection.
+pub fn ready<S: Orderly + Drop>(
     alloc: Global,
     conn: Connection<S>,
 ) -> Result<(Connection<S>, Found), (Leftover<S>, TableFault)>
     requires outside { conn.in_transaction ≡ false }
     ensures ready { IfOk result (λ r. HasCleanDisk (state S.Store r.0) → IsReadyAs r.1 (state S.Store r.0).now) }
     ensures found { IfOk result (λ r. HasSchema r.1 (state S.Store conn).now.schema) }
-    ensures opens { IfOk result (λ r. HasCleanDisk (state S.Store r.0) → Opens (state S.Store r.0)) }
-    ensures fresh { IfOk result (λ r. IsNew r.0) }
+    ensures opens { IfOk result (λ r. HasCleanDisk (state S.Store r.0) → IsOpenAndSettled (state S.Store r.0)) }
+    ensures outside { IfOk result (λ r. r.0.in_transaction ≡ false) }
+    ensures unlimited { IfOk result (λ r. r.0.step_limit ≡ None) }
     ensures same { IfOk result (λ r. HasCleanDisk (state S.Store r.0) → (state S.Store r.0).now.trees ≡ (state S.Store conn).committed.trees) }
     ensures crash { IfOk result (λ r. HasCleanDisk (state S.Store r.0) → (db : Trees) → (state S.Store r.0).may_leave db → db ≡ (state S.Store conn).committed.trees) }
     ensures clean { IfOk result (λ r. doubt (state S.Store conn).is_clean ≤ doubt (state S.Store r.0).is_clean) }
@@ -118,7 +118,6 @@ pub fn ready<S: Alter + Drop>(
     ensures other { IsOfNone (state S.Store conn).now.schema
         → IsErrAnd result (λ e. (e.0 ≡ Leftover.Connection conn) × ((e.1 ≡ Foreign) ⊎ (e.1 ≡ Store (SqliteFailure OutOfMemory)))) }
     ensures left { IfErr result (λ e. IsLeft S.Store conn e.0) }
-    ensures cause { IfErr result (λ e. (e.1 ≡ Foreign) ⊎ ((e.1 ≡ Store (SqliteFailure OutOfMemory)) ⊎ HasFailed S.Store conn e.0)) }
 {
     // Outside a transaction the connection shows what is committed.
     let _outside = conn.is_autocommit();
@@ -126,9 +125,10 @@ pub fn ready<S: Alter + Drop>(
         Ok(found) => found,
         Err(fault) => return Err((Leftover::Connection(conn), fault)),
     };
-    match reopen(alloc, conn) {
-        Ok(again) => Ok((again, found)),
-        Err((error, store)) => Err((Leftover::Store(store), TableFault::Store(error))),
+    let mut conn = conn;
+    match find_open(&mut conn) {
+        Ok(()) => Ok((conn, found)),
+        Err(error) => Err((Leftover::Store(conn.into_store()), TableFault::Store(error))),
     }
 }
 

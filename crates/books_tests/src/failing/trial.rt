@@ -9,7 +9,7 @@ use sqlite::{Alter, Connection};
 use std::alloc::Global;
 use std::process::Abort;
 use store::{Books, Fault, OpenFault};
-use tables::opening::Leftover;
+use tables::opening::{Leftover, Orderly};
 
 /// What is tried over one connection.
 #[derive(Clone, Copy)]
@@ -97,7 +97,7 @@ static NO_DISK: &str =
     "HTTP/1.1 503 Service Unavailable\r\ncontent-type: application/json\r\ncontent-length: 14\r\nconnection: close\r\n\r\n{\"code\":\"W90\"}";
 
 /// Tries it, and gives back what is left of the connection.
-pub(crate) fn tried<S: Alter + Drop>(
+pub(crate) fn tried<S: Orderly + Drop>(
     rt: &impl Abort,
     alloc: Global,
     conn: Connection<S>,
@@ -126,7 +126,7 @@ fn look_before<S: Alter>(
     }
 }
 
-fn books<S: Alter + Drop>(
+fn books<S: Orderly + Drop>(
     rt: &impl Abort,
     alloc: Global,
     conn: Connection<S>,

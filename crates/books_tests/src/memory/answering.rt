@@ -8,6 +8,7 @@ use house::House;
 use sqlite::{Alter, Connection};
 use std::alloc::Global;
 use std::process::Abort;
+use tables::opening::Orderly;
 use trials::{Told, is_refused};
 
 /// A request and what may answer it, byte for byte.
@@ -64,7 +65,7 @@ fn is_answered<S: Alter>(rt: &impl Abort, alloc: Global, house: &mut House<S>, s
 }
 
 /// The house again, whose tables have the rows after so many steps.
-pub(crate) fn compared<S: Alter + Drop>(
+pub(crate) fn compared<S: Orderly + Drop>(
     rt: &impl Abort,
     alloc: Global,
     house: House<S>,
@@ -97,7 +98,7 @@ pub(crate) enum Compares {
 }
 
 // The step at the place. Where there was no memory the rows are as before, and the request is sent again.
-fn next<S: Alter + Drop>(
+fn next<S: Orderly + Drop>(
     host: &HostRuntime,
     rt: &impl Abort,
     house: House<S>,
@@ -121,7 +122,7 @@ fn next<S: Alter + Drop>(
 }
 
 /// The day's work by one house, whose books are closed and opened again where the rows are compared.
-pub(crate) fn day_tried<S: Alter + Drop>(
+pub(crate) fn day_tried<S: Orderly + Drop>(
     host: &HostRuntime,
     rt: &impl Abort,
     conn: Connection<S>,
@@ -156,7 +157,7 @@ fn serve<S: Alter>(
 }
 
 /// A request that is read from a reader, and whose answer is written to a writer.
-pub(crate) fn serve_one_tried<S: Alter + Drop>(
+pub(crate) fn serve_one_tried<S: Orderly + Drop>(
     host: &HostRuntime,
     rt: &impl Abort,
     conn: Connection<S>,

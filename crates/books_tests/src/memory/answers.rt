@@ -9,6 +9,7 @@ use house::{Answered, House};
 use sqlite::{Alter, Connection};
 use std::alloc::{AllocError, Global};
 use std::process::Abort;
+use tables::opening::Orderly;
 use trials::{Call, Told, is_refused};
 
 fn all_answers(rt: &impl Abort, alloc: Global) -> Vec<Answers> {
@@ -114,7 +115,7 @@ fn ask_all<S: Alter>(
 
 /// All are asked of a house with items and bins. Where one of them had no memory, the other answers and the rows are those
 /// of the same requests without it, which are asked over the other connection.
-pub(crate) fn answer_all_tried<S: Alter + Drop>(
+pub(crate) fn answer_all_tried<S: Orderly + Drop>(
     host: &HostRuntime,
     rt: &impl Abort,
     conn: Connection<S>,
@@ -150,7 +151,7 @@ pub(crate) fn answer_all_tried<S: Alter + Drop>(
 }
 
 // Nothing was answered and the rows are as before; all are asked again.
-fn asked_again<S: Alter + Drop>(
+fn asked_again<S: Orderly + Drop>(
     host: &HostRuntime,
     rt: &impl Abort,
     conn: Connection<S>,

@@ -10,7 +10,7 @@ use sqlite_trees::store::Store;
 use std::alloc::Global;
 use std::process::Abort;
 use store::{Books, Fault, OpenFault};
-use tables::opening::Leftover;
+use tables::opening::{Leftover, Orderly};
 use trials::{Call, Told, is_refused};
 
 /// What a call that makes or opens books left.
@@ -28,7 +28,7 @@ enum Making {
     Open,
 }
 
-fn call<S: Alter + Drop>(
+fn call<S: Orderly + Drop>(
     host: &HostRuntime,
     rt: &impl Abort,
     conn: Connection<S>,
@@ -75,7 +75,7 @@ fn what_is_left<S: Alter + Drop>(
 }
 
 // The call is made again, and now has memory.
-fn again<S: Alter + Drop>(
+fn again<S: Orderly + Drop>(
     host: &HostRuntime,
     rt: &impl Abort,
     conn: Connection<S>,
@@ -88,7 +88,7 @@ fn again<S: Alter + Drop>(
 }
 
 // No memory: there is no table.
-fn created_again<S: Alter + Drop>(
+fn created_again<S: Orderly + Drop>(
     host: &HostRuntime,
     rt: &impl Abort,
     conn: Connection<S>,
@@ -105,7 +105,7 @@ fn created_again<S: Alter + Drop>(
 }
 
 /// New books. Where there is no memory for them there is no table, and they are made again.
-pub(crate) fn create_tried<S: Alter + Drop>(
+pub(crate) fn create_tried<S: Orderly + Drop>(
     host: &HostRuntime,
     rt: &impl Abort,
     conn: Connection<S>,
@@ -119,7 +119,7 @@ pub(crate) fn create_tried<S: Alter + Drop>(
 }
 
 /// A store over which a connection can be opened again.
-pub(crate) trait Reopened: Alter + Drop {
+pub(crate) trait Reopened: Orderly + Drop {
     /// The connection over what is committed, if there is memory for it.
     fn reopened(self, alloc: Global) -> Option<Connection<Self>>;
 }

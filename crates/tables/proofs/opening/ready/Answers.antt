@@ -1,31 +1,44 @@
-use Rattle.std.proofs.Common.{◌≡◌, inl, inr, sym, ap, subst, ◌∙◌}
+use Rattle.std.proofs.Common.{◌≡◌, sym, ap, subst, ◌∙◌}
 use Rattle.std.specs.Prelude.{not, IsTrue}
 use Rattle.sqlite.specs.Effect.{Database}
 use Rattle.sqlite.specs.Held.{state}
-use Rattle.table_words.specs.declared.error.TableFault.TheVariants.{Store}
-use Rattle.tables.specs.Opening.{HasSchema}
-use Rattle.tables.proofs.OpenLemmas.{same_schema, memory_or_not}
+use Rattle.tables.specs.Opening.{HasSchema, IsReadyAs}
+use Rattle.tables.proofs.OpenLemmas.{found_committed, closed_left}
 use Rattle.tables.proofs.opening.ready.Goals as goal
 
-pub returns-in-Ok-reopen-clause-ready : goal.returns-in-Ok-reopen-clause-ready
-returns-in-Ok-reopen-clause-ready g c clean =
+pub returns-in-Ok-find_open-clause-ready : goal.returns-in-Ok-find_open-clause-ready
+returns-in-Ok-find_open-clause-ready g c clean =
     let old = state g.S.Store c.args.conn in
-    let new = state g.S.Store c.in-Ok-reopen.again in
-    let opens = c.in-Ok-reopen.ensures.opens clean in
+    let same = (c.in-Ok-find_open.ensures.open clean).0 in
     let outside : IsTrue c.is_autocommit-outside.result = c.is_autocommit-outside.ensures.value ∙ ap not c.requires.outside in
-    let settled : old.now ≡ old.committed = c.is_autocommit-outside.ensures.settled outside opens.2 in
-    let kept : new.now.schema ≡ old.committed.schema = same_schema old.committed new.now (c.schema.ensures.live opens.2).1 (opens.1 opens.0.is_open).0 (c.in-Ok-reopen.ensures.same clean) in
+    let settled : old.now ≡ old.committed = c.is_autocommit-outside.ensures.settled outside same.was_open in
     let found : HasSchema c.in-Ok.found old.now.schema = subst (HasSchema c.in-Ok.found) c.schema.ensures.value c.in-Ok.ensures.found in
-    c.in-Ok-reopen.ensures.ready clean c.in-Ok.found (subst (HasSchema c.in-Ok.found) (sym (kept ∙ sym (ap (λ (d : Database). d.schema) settled))) found)
+    let ready = found_committed (g.S.Store.view c.args.conn.store) old.now (g.met.S.Orderly.in_order c.args.conn.store same.was_open)
+    (c.schema.ensures.live same.was_open).0 (ap (λ (d : Database). d.trees) settled) c.in-Ok.found found in
+    subst (λ (d : Database). IsReadyAs c.in-Ok.found d) (sym same.now_is) ready
 
-pub returns-in-Ok-reopen-clause-crash : goal.returns-in-Ok-reopen-clause-crash
-returns-in-Ok-reopen-clause-crash g c clean db left =
-    let opens = (c.in-Ok-reopen.ensures.opens clean).0 in
-    g.met.S.Store.settled c.in-Ok-reopen.again.store db opens.is_open left ∙ sym (ap (λ (d : Database). d.trees) opens.clean) ∙ c.in-Ok-reopen.ensures.same clean
+pub returns-in-Ok-find_open-clause-opens : goal.returns-in-Ok-find_open-clause-opens
+returns-in-Ok-find_open-clause-opens g c clean =
+    let old = state g.S.Store c.args.conn in
+    let same = (c.in-Ok-find_open.ensures.open clean).0 in
+    let outside : IsTrue c.is_autocommit-outside.result = c.is_autocommit-outside.ensures.value ∙ ap not c.requires.outside in
+    let settled : old.now ≡ old.committed = c.is_autocommit-outside.ensures.settled outside same.was_open in
+    record { is_open = same.is_open; clean = same.now_is ∙ settled ∙ sym same.committed_is }
 
-pub returns-in-Err-reopen-clause-cause : goal.returns-in-Err-reopen-clause-cause
-returns-in-Err-reopen-clause-cause g c =
-    inr (elim (memory_or_not c.in-Err-reopen.error) [
-      | inl is ↦ inl (ap Store is)
-      | inr other ↦ inr (λ clean up. elim (c.in-Err-reopen.ensures.cause clean up (c.schema.ensures.live up).1) [ inl is ↦ absurd (other is) | inr more ↦ more ])
-    ])
+pub returns-in-Ok-find_open-clause-same : goal.returns-in-Ok-find_open-clause-same
+returns-in-Ok-find_open-clause-same g c clean =
+    let old = state g.S.Store c.args.conn in
+    let same = (c.in-Ok-find_open.ensures.open clean).0 in
+    let outside : IsTrue c.is_autocommit-outside.result = c.is_autocommit-outside.ensures.value ∙ ap not c.requires.outside in
+    let settled : old.now ≡ old.committed = c.is_autocommit-outside.ensures.settled outside same.was_open in
+    ap (λ (d : Database). d.trees) (same.now_is ∙ settled)
+
+pub returns-in-Ok-find_open-clause-crash : goal.returns-in-Ok-find_open-clause-crash
+returns-in-Ok-find_open-clause-crash g c clean db left =
+    let same = (c.in-Ok-find_open.ensures.open clean).0 in
+    g.met.S.Store.settled c.find_open.new.conn.store db same.is_open left ∙ ap (λ (d : Database). d.trees) same.committed_is
+
+pub returns-in-Err-find_open-clause-left : goal.returns-in-Err-find_open-clause-left
+returns-in-Err-find_open-clause-left g c =
+    let tried = c.find_open.ensures in
+    closed_left g.S.Store c.args.conn c.find_open.new.conn c.into_store.result tried.clean tried.shield tried.crash c.in-Err-find_open.ensures.failed c.into_store.ensures.undone c.into_store.ensures.quiet
