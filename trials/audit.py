@@ -99,12 +99,16 @@ RULES = {
     "state": lambda value: value in (b"OPEN", b"DONE", b"CANCELLED"),
     "card kind": lambda value: value in (b"RECEIPT", b"WRITEON", b"WRITEOFF", b"SHIPMENT"),
     "day": acts.is_business_day,
-    "expiry": lambda value: -6940 <= value <= 102_267,
-    "number": lambda value: 0 <= value <= DIGITS,
-    "units": lambda value: 0 <= value <= 10**10,
+    "expiry": lambda value: 10_957 <= value <= 102_267,
+    "total": lambda value: 0 <= value <= DIGITS,
+    "number": lambda value: 1 <= value <= DIGITS,
+    "units": lambda value: 1 <= value <= 10**10,
+    "rest": lambda value: 0 <= value <= 10**10,
+    "ordered": lambda value: 1 <= value <= 10**6,
+    "shipped": lambda value: 0 <= value <= 10**6,
+    "change": lambda value: value != 0 and -(10**10) <= value <= 10**6,
     "days": lambda value: 0 <= value <= 3_650,
     "flag": lambda value: value in (0, 1),
-    "whole": lambda value: True,
     "note": lambda value: len(value) <= 25,
     "key": lambda value: len(value) <= 27,
     "reply": lambda value: len(value) <= 96,
@@ -115,19 +119,19 @@ RULES = {
 }
 # The rule of each column.
 COLUMNS = {
-    "meta": {"id": "id", "mark": "mark", "version": "version", "day": "day", "acts": "number", "shipments": "number"},
+    "meta": {"id": "id", "mark": "mark", "version": "version", "day": "day", "acts": "total", "shipments": "total"},
     "items": {"gtin": "gtin", "name": "title"},
     "bins": {"name": "name", "kind": "bin kind"},
     "lots": {"gtin": "gtin", "lot": "lot", "expiry": "expiry", "came": "number", "held": "flag"},
     "recalls": {"gtin": "gtin", "lot": "lot", "act": "number"},
     "stock": {"gtin": "gtin", "lot": "lot", "bin": "name", "qty": "units"},
     "orders": {"ord": "name", "act": "number", "customer": "title", "state": "state"},
-    "lines": {"ord": "name", "gtin": "gtin", "ordered": "units", "shipped": "units"},
-    "staged": {"ord": "name", "gtin": "gtin", "lot": "lot", "qty": "units"},
-    "reserved": {"ord": "name", "gtin": "gtin", "lot": "lot", "qty": "units"},
+    "lines": {"ord": "name", "gtin": "gtin", "ordered": "ordered", "shipped": "shipped"},
+    "staged": {"ord": "name", "gtin": "gtin", "lot": "lot", "qty": "ordered"},
+    "reserved": {"ord": "name", "gtin": "gtin", "lot": "lot", "qty": "ordered"},
     "shipments": {"number": "number", "act": "number", "day": "day", "ord": "name"},
-    "shiplines": {"number": "number", "gtin": "gtin", "lot": "lot", "qty": "units"},
-    "cards": {"gtin": "gtin", "lot": "lot", "act": "number", "day": "day", "kind": "card kind", "note": "note", "qty": "whole", "rest": "units"},
+    "shiplines": {"number": "number", "gtin": "gtin", "lot": "lot", "qty": "ordered"},
+    "cards": {"gtin": "gtin", "lot": "lot", "act": "number", "day": "day", "kind": "card kind", "note": "note", "qty": "change", "rest": "rest"},
     "repeats": {"k": "key", "act": "number", "spell": "spelling", "reply": "reply"},
     "least": {"gtin": "gtin", "days": "days"},
     "urgents": {"ord": "name", "act": "number"},
@@ -188,12 +192,10 @@ def done_again(rows, first):
 
 
 def numbers_told(rows):
-    """What may be told where two acts have one number, or one has none."""
+    """What may be told where two acts have one number."""
     told, last = set(), None
     for act in sorted(rows.values(), key=lambda act: act["act"]):
-        if act["act"] == 0:
-            told.add(differs("repeats", (act["k"],)))
-        elif last and last["act"] == act["act"]:
+        if last and last["act"] == act["act"]:
             told |= {differs("repeats", (row["k"],)) for row in rows.values() if row["act"] == act["act"]}
         if told:
             return told

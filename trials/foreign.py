@@ -155,10 +155,15 @@ GTINS = [b"", b"09506000134353", b"9506000134352", b"095060001343520", b"0950600
 LOTS = [b"", b"L" * 21, b"L 1", b"L#1", b"L\x1d", b"L\xff"]
 NAMES = [b"", b"A" * 21, b"a-01", b"A 01", b"A_01", b"A\x00"]
 TITLES = [b"", b"x" * 41, b" x", b"x ", b"x\x7fy", b"x\x1fy", b"x\xc3\xa4"]
-EXPIRIES = [day("1951-01-01") - 1, day("2249-12-31") + 1, -(2**63), 2**63 - 1]
+EXPIRIES = [day("2000-01-01") - 1, day("2249-12-31") + 1, -(2**63), 2**63 - 1]
 DAYS = [day("2000-01-01") - 1, day("2199-12-31") + 1, -(2**63), 2**63 - 1]
-ACTS = [-1, 10**12 + 1, -(2**63), 2**63 - 1]
-UNITS = [-1, 10**10 + 1, -(2**63), 2**63 - 1]
+TOTALS = [-1, 10**12 + 1, -(2**63), 2**63 - 1]
+ACTS = [0] + TOTALS
+REST = [-1, 10**10 + 1, -(2**63), 2**63 - 1]
+UNITS = [0] + REST
+SHIPPED = [-1, 10**6 + 1, -(2**63), 2**63 - 1]
+ORDERED = [0] + SHIPPED
+CHANGES = [0, 10**6 + 1, -(10**10) - 1, -(2**63), 2**63 - 1]
 DAYS_LEFT = [-1, 3651, -(2**63), 2**63 - 1]
 FLAGS = [-1, 2]
 KINDS = [b"", b"store", b"STORE ", b"RETURNS"]
@@ -194,8 +199,8 @@ COLUMNS = [
     ("meta", "mark", "1", [b"", b"LOTSTOCk", b"LOTSTOCK ", b"\xff"], "opening", None),
     ("meta", "version", "1", [0, 1, 2, 5, -1], "opening", None),
     ("meta", "day", "1", DAYS, "opening", None),
-    ("meta", "acts", "1", ACTS, "opening", None),
-    ("meta", "shipments", "1", ACTS, "opening", None),
+    ("meta", "acts", "1", TOTALS, "opening", None),
+    ("meta", "shipments", "1", TOTALS, "opening", None),
     ("items", "gtin", "gtin = '%s'" % RYE, GTINS, ["item"], None),
     ("items", "name", "gtin = '%s'" % OATS, TITLES, OF_ITEM, None),
     ("bins", "name", "name = 'Q-01'", NAMES, ["bin"], None),
@@ -218,34 +223,34 @@ COLUMNS = [
     ("orders", "state", "ord = 'S-1'", STATES, SHOWN_ORDER + ["notice"] + ACTS_ON_ORDER, None),
     ("lines", "ord", "ord = 'S-1'", NAMES, [], SOUGHT),
     ("lines", "gtin", "ord = 'S-1'", GTINS, SHOWN_ORDER + ACTS_ON_ORDER, None),
-    ("lines", "ordered", "ord = 'S-1'", UNITS, OF_LINES, None),
-    ("lines", "shipped", "ord = 'S-1'", UNITS, OF_LINES, None),
+    ("lines", "ordered", "ord = 'S-1'", ORDERED, OF_LINES, None),
+    ("lines", "shipped", "ord = 'S-1'", SHIPPED, OF_LINES, None),
     ("staged", "ord", "ord = 'S-1'", NAMES, OF_STAGED, None),
     ("staged", "gtin", "ord = 'S-1'", GTINS, SHOWN_ORDER + ["day"], None),
     ("staged", "lot", "ord = 'S-1'", LOTS, SHOWN_ORDER + OF_STAGED, None),
-    ("staged", "qty", "ord = 'S-1'", UNITS, SHOWN_ORDER + OF_STAGED, None),
+    ("staged", "qty", "ord = 'S-1'", ORDERED, SHOWN_ORDER + OF_STAGED, None),
     ("reserved", "ord", "ord = 'S-1'", NAMES, OF_RESERVED, None),
     ("reserved", "gtin", "ord = 'S-1'", GTINS, SHOWN_ORDER, None),
     ("reserved", "lot", "ord = 'S-1'", LOTS, SHOWN_ORDER + OF_RESERVED, None),
-    ("reserved", "qty", "ord = 'S-1'", UNITS, SHOWN_ORDER + OF_RESERVED, None),
-    ("reserved", "qty", "ord = 'S-2'", UNITS, ["pick"] + OF_RESERVED, None),
+    ("reserved", "qty", "ord = 'S-1'", ORDERED, SHOWN_ORDER + OF_RESERVED, None),
+    ("reserved", "qty", "ord = 'S-2'", ORDERED, ["pick"] + OF_RESERVED, None),
     ("shipments", "number", "1", ACTS, [], SOUGHT),
     ("shipments", "act", "1", ACTS, ["notice"], None),
     ("shipments", "day", "1", DAYS, ["notice"], None),
     ("shipments", "ord", "1", NAMES, ["notice"], None),
     ("shiplines", "number", "1", [10**12 + 1, 2**63 - 1], ["notice"], None),
-    ("shiplines", "number", "1", [-1, -(2**63)], [], "the shipments of a lot are sought from number 1 on"),
+    ("shiplines", "number", "1", [0, -1, -(2**63)], [], "the shipments of a lot are sought from number 1 on"),
     ("shiplines", "gtin", "1", GTINS, [], SOUGHT),
     ("shiplines", "lot", "1", LOTS, [], SOUGHT),
-    ("shiplines", "qty", "1", UNITS, ["notice"], None),
+    ("shiplines", "qty", "1", ORDERED, ["notice"], None),
     ("cards", "gtin", "lot = 'L1'", GTINS, [], SOUGHT),
     ("cards", "lot", "lot = 'L1'", LOTS, [], SOUGHT),
     ("cards", "act", "lot = 'L1'", ACTS, ["card"], None),
     ("cards", "day", "lot = 'L1'", DAYS, ["card"], None),
     ("cards", "kind", "lot = 'L1'", POSTINGS, ["card"], None),
     ("cards", "note", "lot = 'L1'", [b"D" * 26, b"D" * 1000], ["card"], None),
-    ("cards", "qty", "lot = 'L1'", [], [], "any whole number is a value of it"),
-    ("cards", "rest", "lot = 'L1'", UNITS, ["card"], None),
+    ("cards", "qty", "lot = 'L1'", CHANGES, ["card"], None),
+    ("cards", "rest", "lot = 'L1'", REST, ["card"], None),
     ("repeats", "k", "k = 'D/D-1/1'", [b"", b"K", b"D" * 28, b"\xff"], [], SOUGHT),
     ("repeats", "act", "k = 'D/D-1/1'", ACTS, ["repeat"], None),
     ("repeats", "spell", "k = 'D/D-1/1'", [], [], "any text is a value of it"),

@@ -3,7 +3,7 @@
 use crate::books::{Trial, WEEK, each_changed, in_memory};
 
 // A gap moves the numbers of those behind it.
-static NUMBERS: &str = "UPDATE repeats SET act = 0 WHERE act = 1 => unnumbered K/I-1
+static NUMBERS: &str = "UPDATE repeats SET act = 0 WHERE act = 1 => untyped repeats
 UPDATE repeats SET act = 2 WHERE act = 3 => unnumbered K/I-2 or unnumbered K/B-1
 UPDATE repeats SET act = act + 1 WHERE 20 < act => repeats D/D-3/1
 UPDATE repeats SET act = 1000 WHERE act = 28 => repeats K/H-2

@@ -29,7 +29,7 @@ UPDATE stock SET gtin = '05012345678900' WHERE lot = 'N1' => stock 0401234500001
 UPDATE stock SET lot = 'L0' WHERE lot = 'L1' AND bin = 'A-01' => stock 09506000134352 L0 A-01
 UPDATE stock SET bin = 'A-02' WHERE lot = 'L1' AND bin = 'Q-01' => stock 09506000134352 L1 A-02
 UPDATE stock SET qty = qty - 1 WHERE lot = 'L1' AND bin = 'Q-01' => stock 09506000134352 L1 Q-01
-UPDATE stock SET qty = 0 WHERE lot = 'L2' AND bin = 'A-02' => stock 09506000134352 L2 A-02";
+UPDATE stock SET qty = 2 WHERE lot = 'L2' AND bin = 'A-02' => stock 09506000134352 L2 A-02";
 
 static ORDERS: &str = "UPDATE orders SET ord = 'S-4' WHERE ord = 'S-2' => orders S-2
 UPDATE orders SET ord = 'S-0' WHERE ord = 'S-3' => orders S-0
@@ -103,50 +103,61 @@ UPDATE bins SET kind = 'store' WHERE name = 'A-01' => untyped bins
 UPDATE lots SET gtin = '' WHERE lot = 'L1' => untyped lots
 UPDATE lots SET lot = 'L 1' WHERE lot = 'L1' => untyped lots
 UPDATE lots SET expiry = 102268 WHERE lot = 'L1' => untyped lots
-UPDATE lots SET came = -1 WHERE lot = 'L1' => untyped lots
+UPDATE lots SET expiry = 10956 WHERE lot = 'L1' => untyped lots
+UPDATE lots SET came = 0 WHERE lot = 'L1' => untyped lots
 UPDATE lots SET held = 2 WHERE lot = 'L1' => untyped lots
 UPDATE recalls SET gtin = '0950600013435X' => untyped recalls
 UPDATE recalls SET lot = '' => untyped recalls
 UPDATE recalls SET act = 1000000000001 => untyped recalls
+UPDATE recalls SET act = 0 => untyped recalls
 UPDATE stock SET gtin = '' WHERE lot = 'N1' => untyped stock
 UPDATE stock SET lot = 'L12345678901234567890' WHERE lot = 'N1' => untyped stock
 UPDATE stock SET bin = 'A_01' WHERE lot = 'N1' => untyped stock
 UPDATE stock SET qty = 10000000001 WHERE lot = 'N1' => untyped stock
+UPDATE stock SET qty = 0 WHERE lot = 'N1' => untyped stock
 UPDATE orders SET ord = 'S 1' WHERE ord = 'S-1' => untyped orders
-UPDATE orders SET act = -1 WHERE ord = 'S-1' => untyped orders
+UPDATE orders SET act = 0 WHERE ord = 'S-1' => untyped orders
 UPDATE orders SET customer = '' WHERE ord = 'S-1' => untyped orders
 UPDATE orders SET state = 'open' WHERE ord = 'S-1' => untyped orders
 UPDATE urgents SET ord = 'S_3' => untyped urgents
-UPDATE urgents SET act = -1 => untyped urgents
+UPDATE urgents SET act = 0 => untyped urgents
 UPDATE lines SET ord = 's-2' WHERE ord = 'S-2' => untyped lines
 UPDATE lines SET gtin = '095060001343520' WHERE ord = 'S-2' => untyped lines
-UPDATE lines SET ordered = 10000000001 WHERE ord = 'S-2' => untyped lines
-UPDATE lines SET shipped = -1 WHERE ord = 'S-2' => untyped lines
+UPDATE lines SET ordered = 1000001 WHERE ord = 'S-2' => untyped lines
+UPDATE lines SET ordered = 0 WHERE ord = 'S-2' => untyped lines
+UPDATE lines SET shipped = 1000001 WHERE ord = 'S-2' => untyped lines
 UPDATE staged SET ord = '' WHERE ord = 'S-3' => untyped staged
 UPDATE staged SET gtin = '09506000134353' WHERE ord = 'S-3' => untyped staged
 UPDATE staged SET lot = 'L#1' WHERE ord = 'S-3' => untyped staged
-UPDATE staged SET qty = -1 WHERE ord = 'S-3' => untyped staged
+UPDATE staged SET qty = 0 WHERE ord = 'S-3' => untyped staged
+UPDATE staged SET qty = 1000001 WHERE ord = 'S-3' => untyped staged
 UPDATE reserved SET ord = '' WHERE ord = 'S-3' => untyped reserved
 UPDATE reserved SET gtin = '09506000134353' WHERE ord = 'S-3' => untyped reserved
 UPDATE reserved SET lot = 'L 1' WHERE ord = 'S-3' => untyped reserved
-UPDATE reserved SET qty = 10000000001 WHERE ord = 'S-3' => untyped reserved
-UPDATE shipments SET number = -1 => untyped shipments
-UPDATE shipments SET act = -1 => untyped shipments
+UPDATE reserved SET qty = 1000001 WHERE ord = 'S-3' => untyped reserved
+UPDATE reserved SET qty = 0 WHERE ord = 'S-3' => untyped reserved
+UPDATE shipments SET number = 0 => untyped shipments
+UPDATE shipments SET act = 0 => untyped shipments
 UPDATE shipments SET day = 84006 => untyped shipments
 UPDATE shipments SET ord = 's-1' => untyped shipments
 UPDATE shiplines SET number = 1000000000001 => untyped shiplines
 UPDATE shiplines SET gtin = '0950600013435' => untyped shiplines
 UPDATE shiplines SET lot = 'L 2' => untyped shiplines
-UPDATE shiplines SET qty = -1 => untyped shiplines
+UPDATE shiplines SET number = 0 => untyped shiplines
+UPDATE shiplines SET qty = 0 => untyped shiplines
+UPDATE shiplines SET qty = 1000001 => untyped shiplines
 UPDATE cards SET gtin = '' WHERE lot = 'L3' => untyped cards
 UPDATE cards SET lot = '' WHERE lot = 'L3' => untyped cards
-UPDATE cards SET act = 1000000000001 WHERE lot = 'L3' => untyped cards
+UPDATE cards SET act = 0 WHERE lot = 'L3' => untyped cards
 UPDATE cards SET day = 10956 WHERE lot = 'L3' => untyped cards
 UPDATE cards SET kind = 'MOVE' WHERE lot = 'L3' => untyped cards
 UPDATE cards SET note = '12345678901234567890123456' WHERE lot = 'L3' => untyped cards
+UPDATE cards SET qty = 0 WHERE lot = 'L3' => untyped cards
+UPDATE cards SET qty = 1000001 WHERE lot = 'L3' => untyped cards
+UPDATE cards SET qty = -10000000001 WHERE lot = 'L3' => untyped cards
 UPDATE cards SET rest = -1 WHERE lot = 'L3' => untyped cards
 UPDATE repeats SET k = '1234567890123456789012345678' WHERE act = 1 => untyped repeats
-UPDATE repeats SET act = -1 WHERE act = 1 => untyped repeats
+UPDATE repeats SET act = 0 WHERE act = 1 => untyped repeats
 UPDATE repeats SET act = 1000000000001 WHERE act = 1 => untyped repeats
 UPDATE repeats SET reply = '1234567890123456789012345678901234567890123456789012345678901234567890123456789012345678901234567' WHERE act = 1 => untyped repeats";
 

@@ -27,7 +27,7 @@ INSERT INTO bins VALUES ('B-01', 'STORE') => bins B-01
 INSERT INTO lots VALUES ('09506000134352', 'L0', 20634, 6, 0) => lots 09506000134352 L0
 INSERT INTO recalls VALUES ('04012345000016', 'N1', 24) => recalls 04012345000016 N1
 INSERT INTO stock VALUES ('09506000134352', 'L1', 'A-02', 1) => stock 09506000134352 L1 A-02
-INSERT INTO stock VALUES ('09506000134352', 'L3', 'RETURNS', 0) => stock 09506000134352 L3 RETURNS
+INSERT INTO stock VALUES ('09506000134352', 'L3', 'RETURNS', 1) => stock 09506000134352 L3 RETURNS
 INSERT INTO orders VALUES ('S-4', 19, 'Mill Inn', 'CANCELLED') => orders S-4
 INSERT INTO urgents VALUES ('S-2', 16) => urgents S-2
 INSERT INTO lines VALUES ('S-3', '04012345000016', 1, 0) => lines S-3 04012345000016
@@ -35,7 +35,7 @@ INSERT INTO staged VALUES ('S-1', '09506000134352', 'L2', 1) => staged S-1 09506
 INSERT INTO reserved VALUES ('S-3', '09506000134352', 'L1', 1) => reserved S-3 09506000134352 L1
 INSERT INTO shipments VALUES (2, 13, 20577, 'S-1') => shipments 2
 INSERT INTO shiplines VALUES (1, '09506000134352', 'L3', 1) => shiplines 1 09506000134352 L3
-INSERT INTO cards VALUES ('09506000134352', 'L2', 10, 20577, 'WRITEON', 'A-01', 0, 10) => cards 09506000134352 L2 10
+INSERT INTO cards VALUES ('09506000134352', 'L2', 10, 20577, 'WRITEON', 'A-01', 1, 10) => cards 09506000134352 L2 10
 INSERT INTO repeats VALUES ('K/Z-1', 29, 'BIN|B-01|STORE', '{\"act\":29}') => meta 1";
 
 // Of several rows the first is told, in the order of the tables and then of the keys: least and urgents come last.

@@ -57,9 +57,9 @@ static AUDITS: [Turn; 36] = [
     Turn::Change("UPDATE items SET name = '' WHERE gtin = '04012345000016'"),
     Turn::Told("lotd: differs items\n"),
     Turn::Change("UPDATE items SET name = 'Rye bread' WHERE gtin = '04012345000016'"),
-    // An act without a number of its own.
+    // The numbers of acts begin at 1.
     Turn::Change("UPDATE repeats SET act = 0 WHERE act = 4"),
-    Turn::Told("lotd: differs repeats K/K-4\n"),
+    Turn::Told("lotd: differs repeats\n"),
     Turn::Change("UPDATE repeats SET act = 4 WHERE act = 0"),
     // A spelling that is none, and one of an act that is refused.
     Turn::Change("UPDATE repeats SET spell = 'BIN' WHERE act = 4"),

@@ -1,5 +1,5 @@
 // One row for each table.
-use commands::limits::{CARD_NOTE_MAX, KEY_TEXT_MAX, UNITS_MAX};
+use commands::limits::{CARD_NOTE_MAX, KEY_TEXT_MAX};
 use commands::{
     BinKind, BinRow, CardKind, CardRow, ItemRow, LineRow, Listed, LotRow, MetaRow, OrderRow,
     OrderState, RecallRow, RepeatRow, ReservedRow, ShiplineRow, ShipmentRow, Short, StagedRow,
@@ -8,7 +8,7 @@ use commands::{
 use label::{BusinessDay, Day};
 use std::alloc::Global;
 use std::process::Abort;
-use values::{Gtin, Lot, LotId, Name, Text, Title};
+use values::{Gtin, Lot, LotId, Name, QTY_MAX, Text, Title};
 
 pub(crate) fn name(rt: &impl Abort, text: &[u8]) -> Name {
     Name::new(text).expect(rt, "a name")
@@ -81,7 +81,7 @@ pub(crate) fn other_bin(rt: &impl Abort) -> BinRow {
 pub(crate) fn known_lot(rt: &impl Abort) -> LotRow {
     LotRow {
         lot: lot(rt),
-        expiry: Day::parse(b"1951-01-01").expect(rt, "a day"),
+        expiry: Day::parse(b"2000-01-01").expect(rt, "a day"),
         came: 3,
         held: true,
     }
@@ -153,8 +153,8 @@ pub(crate) fn line(rt: &impl Abort) -> LineRow {
 // A line with as many units as there can be, all of them shipped.
 pub(crate) fn full_line(rt: &impl Abort) -> LineRow {
     LineRow {
-        ordered: UNITS_MAX,
-        shipped: UNITS_MAX,
+        ordered: u64::from(QTY_MAX),
+        shipped: u64::from(QTY_MAX),
         ..line(rt)
     }
 }

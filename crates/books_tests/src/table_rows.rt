@@ -217,7 +217,7 @@ fn ordered(rt: &impl Abort, lines: Result<Vec<LineRow>, TableFault>) -> Option<u
 }
 
 fn is_lot(row: LotRow) -> bool {
-    row.expiry.number() == -6940 && row.held
+    row.expiry.number() == 10_957 && row.held
 }
 
 fn are_lots(rt: &impl Abort, rows: Result<Vec<LotRow>, TableFault>) -> bool {

@@ -24,7 +24,7 @@ use Rattle.commands.specs.declared.limits.TheConstants.{UNITS_MAX}
 use Rattle.commands.specs.declared.rows.StockRow.{StockRow}
 use Rattle.commands.specs.declared.views.BinUnits.{BinUnits}
 use Rattle.goods_tables.specs.declared.texts.TheConstants.{BINS_OF_LOT}
-use Rattle.table_words.specs.Cells.{is_word, is_number}
+use Rattle.table_words.specs.Cells.{is_word, is_count}
 use Rattle.table_words.specs.Schema.{schema_with, stock_tree}
 use Rattle.table_words.specs.Typed.{same_lot_id, is_stock, stock_in, tables_in, AreTyped}
 use Rattle.table_words.specs.Steps.{IsReady}
@@ -72,7 +72,7 @@ bin_name r h = (and_parts _ _ (and_parts _ _ (and_parts _ _ h).1).1).0
 
 has_shown : (r : Row) → is_stock r ≡ true → has_bin_units (column r 3 ∷ column r 4 ∷ []) ≡ true
 has_shown r h =
-    let shown_both = is_word is_name (column r 3) && is_number UNITS_MAX (column r 4) in
+    let shown_both = is_word is_name (column r 3) && is_count UNITS_MAX (column r 4) in
     let behind = and_parts (is_word is_gtin (column r 1)) (is_word is_lot_text (column r 2) && shown_both) h in
     (and_parts (is_word is_lot_text (column r 2)) shown_both behind.1).1
 

@@ -9,13 +9,13 @@ use Rattle.values.specs.declared.lot.LotId.{LotId}
 use Rattle.commands.specs.declared.limits.TheConstants.{UNITS_MAX}
 use Rattle.commands.specs.declared.rows.StockRow.{StockRow}
 use Rattle.commands.specs.declared.views.BinUnits.{BinUnits}
-use Rattle.table_words.specs.Cells.{is_word, is_number, number_in}
+use Rattle.table_words.specs.Cells.{is_word, is_count, number_in}
 use Rattle.table_words.specs.Typed.{Tables}
 use Rattle.each_row.specs.Ordered.{AreInOrder}
 
 -- the columns of a bin and its units
 abbrev pub has_bin_units : Row → Bool
-has_bin_units v = is_word is_name (column v 0) && is_number UNITS_MAX (column v 1)
+has_bin_units v = is_word is_name (column v 0) && is_count UNITS_MAX (column v 1)
 
 abbrev pub bin_units_read : Row → BinUnits
 bin_units_read v = record { bin = bytes (column v 0); qty = number_in (column v 1) }

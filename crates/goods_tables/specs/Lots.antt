@@ -1,5 +1,5 @@
 -- The table `lots`.
-use Rattle.std.specs.Prelude.{◌≡◌, ℕ, Bool, true, ◌&&◌, nat_le, bytes_eq, List, [], ◌∷◌, codes}
+use Rattle.std.specs.Prelude.{◌≡◌, ℕ, Bool, true, ◌&&◌, bytes_eq, List, [], ◌∷◌, codes}
 use Rattle.std.proofs.Common.{refl, ap, ap₂, ◌∙◌, pos}
 use Rattle.std.proofs.lemmas.Bool.{and_parts}
 use Rattle.sqlite.specs.declared.types.Value.{Value}
@@ -11,14 +11,14 @@ use Rattle.sqlite.specs.Listing.{understood}
 use Rattle.sqlite_tied.specs.Compute.{everything}
 use Rattle.sqlite_trees.specs.Tree.{rowid}
 use Rattle.sqlite_rules.specs.Edit.{with_rowid}
-use Rattle.values.specs.Values.{is_gtin, is_lot_text}
+use Rattle.values.specs.Values.{is_between, is_gtin, is_lot_text}
 use Rattle.values.specs.declared.lot.LotId.{LotId}
 use Rattle.commands.specs.Tables.{Tables}
 use Rattle.commands.specs.declared.rows.LotRow.{LotRow}
 use Rattle.commands.specs.declared.limits.TheConstants.{ACTS_MAX}
 use Rattle.goods_tables.specs.declared.texts.TheConstants.{ADD_LOT, CHANGE_LOT, LOTS_OF, LOT_OF, ALL_LOTS}
 use Rattle.table_words.specs.Found.{AreRows}
-use Rattle.table_words.specs.Cells.{is_the_text, flag_number}
+use Rattle.table_words.specs.Cells.{is_the_text, is_expiry, flag_number}
 use Rattle.table_words.specs.Schema.{lots_tree, lots_table}
 use Rattle.table_words.specs.Typed.{is_lot, lot_in, has_lot, lot_read, same_lot, lot_key, lot_cells}
 use Rattle.table_words.proofs.Plans.{same, by_rowid}
@@ -53,7 +53,7 @@ lots = record {
 
 -- its numbers are within their limits
 abbrev pub fits_lot : LotRow → Bool
-fits_lot s = nat_le s.came ACTS_MAX
+fits_lot s = is_expiry s.expiry && is_between 1 ACTS_MAX s.came
 
 -- the statement that changes a row
 abbrev pub change_lot : Change LotRow

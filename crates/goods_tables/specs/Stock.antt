@@ -1,5 +1,5 @@
 -- The table `stock`.
-use Rattle.std.specs.Prelude.{◌≡◌, ℕ, Bool, true, ◌&&◌, nat_le, bytes_eq, List, [], ◌∷◌, codes}
+use Rattle.std.specs.Prelude.{◌≡◌, ℕ, Bool, true, ◌&&◌, bytes_eq, List, [], ◌∷◌, codes}
 use Rattle.std.proofs.Common.{refl, ap₂, ◌∙◌, pos}
 use Rattle.std.proofs.lemmas.Bool.{and_parts}
 use Rattle.sqlite.specs.declared.types.Value.TheVariants.{Null, Text}
@@ -7,7 +7,7 @@ use Rattle.sqlite.specs.Order.{Row, column, bytes}
 use Rattle.sqlite.specs.Term.{lit, col}
 use Rattle.sqlite.specs.Listing.{understood}
 use Rattle.sqlite_tied.specs.Compute.{everything}
-use Rattle.values.specs.Values.{is_gtin, is_lot_text, is_name}
+use Rattle.values.specs.Values.{is_between, is_gtin, is_lot_text, is_name}
 use Rattle.values.specs.declared.lot.LotId.{LotId}
 use Rattle.commands.specs.Tables.{Tables}
 use Rattle.commands.specs.declared.rows.StockRow.{StockRow}
@@ -49,7 +49,7 @@ stock = record {
 
 -- its numbers are within their limits
 abbrev pub fits_stock : StockRow → Bool
-fits_stock s = nat_le s.qty UNITS_MAX
+fits_stock s = is_between 1 UNITS_MAX s.qty
 
 -- the statement that changes a row
 abbrev pub change_stock : Change StockRow

@@ -15,7 +15,7 @@ use commands::{BinUnits, Sink};
 use each_row::{EachFault, each};
 use sqlite::{Alter, Connection, Row};
 use std::alloc::Global;
-use table_words::columns::{name_at, number_at, of_gtin, of_lot};
+use table_words::columns::{count_at, name_at, of_gtin, of_lot};
 use table_words::error::TableFault;
 use table_words::reading::Readable;
 use values::LotId;
@@ -33,7 +33,7 @@ impl Readable for BinsOfLot {
     ghost reads = { bin_units_read };
 
     fn read(_: Global, row: &Row) -> Result<BinUnits, TableFault> {
-        match (name_at(row, 0), number_at(row, 1, UNITS_MAX)) {
+        match (name_at(row, 0), count_at(row, 1, UNITS_MAX)) {
             (Ok(bin), Ok(qty)) => Ok(BinUnits { bin, qty }),
             _ => Err(TableFault::Foreign),
         }

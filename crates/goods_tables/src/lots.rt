@@ -9,7 +9,8 @@ use keyed_rows::table::{Changing, Table};
 use sqlite::{Alter, Row, Transaction};
 use std::alloc::Global;
 use table_words::columns::{
-    day_at, flag_at, gtin_at, lot_at, number_at, of_day, of_flag, of_gtin, of_lot, of_number,
+    count_at, expiry_at, flag_at, gtin_at, is_expiry, lot_at, of_day, of_flag, of_gtin, of_lot,
+    of_number,
 };
 use table_words::error::TableFault;
 use values::{Gtin, LotId};
@@ -35,7 +36,7 @@ impl Table for Lots {
     }
 
     fn fits(row: &LotRow) -> bool {
-        row.came <= ACTS_MAX
+        is_expiry(row.expiry) && 1 <= row.came && row.came <= ACTS_MAX
     }
 
     fn run<S: Alter>(
@@ -57,8 +58,8 @@ impl Table for Lots {
         match (
             gtin_at(row, 0),
             lot_at(row, 1),
-            day_at(row, 2),
-            number_at(row, 3, ACTS_MAX),
+            expiry_at(row, 2),
+            count_at(row, 3, ACTS_MAX),
             flag_at(row, 4),
         ) {
             (Ok(gtin), Ok(lot), Ok(expiry), Ok(came), Ok(held)) => Ok(LotRow {

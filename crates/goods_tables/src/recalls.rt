@@ -8,7 +8,7 @@ use keyed_rows::running::count;
 use keyed_rows::table::Table;
 use sqlite::{Alter, Row, Transaction};
 use std::alloc::Global;
-use table_words::columns::{gtin_at, lot_at, number_at, of_gtin, of_lot, of_number};
+use table_words::columns::{count_at, gtin_at, lot_at, of_gtin, of_lot, of_number};
 use table_words::error::TableFault;
 use values::{Gtin, LotId};
 
@@ -33,7 +33,7 @@ impl Table for Recalls {
     }
 
     fn fits(row: &RecallRow) -> bool {
-        row.act <= ACTS_MAX
+        1 <= row.act && row.act <= ACTS_MAX
     }
 
     fn run<S: Alter>(
@@ -50,7 +50,7 @@ impl Table for Recalls {
     }
 
     fn read(_: Global, row: &Row) -> Result<RecallRow, TableFault> {
-        match (gtin_at(row, 0), lot_at(row, 1), number_at(row, 2, ACTS_MAX)) {
+        match (gtin_at(row, 0), lot_at(row, 1), count_at(row, 2, ACTS_MAX)) {
             (Ok(gtin), Ok(lot), Ok(act)) => Ok(RecallRow {
                 lot: LotId { gtin, lot },
                 act,

@@ -9,7 +9,7 @@ use keyed_rows::table::{Changing, Losing, Table};
 use sqlite::{Alter, Row, Transaction};
 use std::alloc::Global;
 use table_words::columns::{
-    gtin_at, lot_at, name_at, number_at, of_gtin, of_lot, of_name, of_number,
+    count_at, gtin_at, lot_at, name_at, of_gtin, of_lot, of_name, of_number,
 };
 use table_words::error::TableFault;
 use values::{Gtin, LotId, Name};
@@ -35,7 +35,7 @@ impl Table for Stock {
     }
 
     fn fits(row: &StockRow) -> bool {
-        row.qty <= UNITS_MAX
+        1 <= row.qty && row.qty <= UNITS_MAX
     }
 
     fn run<S: Alter>(
@@ -57,7 +57,7 @@ impl Table for Stock {
             gtin_at(row, 0),
             lot_at(row, 1),
             name_at(row, 2),
-            number_at(row, 3, UNITS_MAX),
+            count_at(row, 3, UNITS_MAX),
         ) {
             (Ok(gtin), Ok(lot), Ok(bin), Ok(qty)) => Ok(StockRow {
                 lot: LotId { gtin, lot },

@@ -29,7 +29,7 @@ use Rattle.table_words.specs.Cells.{is_number}
 use Rattle.table_words.specs.Steps.{IsReady}
 use Rattle.table_words.proofs.Plans.{same, scan, alone}
 use Rattle.table_words.proofs.ScanLemmas.{passes, show}
-use Rattle.table_words.proofs.CellLemmas.{and_true, same_word, same_lots, itself_lot, same_number, itself_number}
+use Rattle.table_words.proofs.CellLemmas.{and_true, same_word, counted, same_lots, itself_lot, same_number, itself_number}
 use Rattle.table_words.proofs.KeyLemmas.{itself_both}
 use Rattle.each_row.specs.declared.fault.EachFault.{EachFault}
 use Rattle.each_row.specs.Handed.{Hands, HandsOver}
@@ -60,7 +60,7 @@ cards_by_act_plain rest = (refl, refl)
 
 -- the number of the act is in range
 act_number : (r : Row) → is_card r ≡ true → is_number ACTS_MAX (column r 3) ≡ true
-act_number r h = (and_parts _ _ (and_parts _ _ (and_parts _ _ h).1).1).0
+act_number r h = counted ACTS_MAX (column r 3) (and_parts _ _ (and_parts _ _ (and_parts _ _ h).1).1).0
 
 module _ (lot : LotId) where
   abbrev params : Row

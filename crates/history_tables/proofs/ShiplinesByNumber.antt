@@ -33,7 +33,7 @@ use Rattle.table_words.specs.declared.error.TableFault.{TableFault}
 use Rattle.table_words.specs.declared.error.TableFault.TheVariants.{Foreign}
 use Rattle.table_words.proofs.Plans.{same, scan, alone}
 use Rattle.table_words.proofs.ScanLemmas.{passes, show}
-use Rattle.table_words.proofs.CellLemmas.{and_true, and_assoc, same_word, same_lots, itself_lot, same_number, itself_number}
+use Rattle.table_words.proofs.CellLemmas.{and_true, and_assoc, same_word, counted, same_lots, itself_lot, same_number, itself_number}
 use Rattle.table_words.proofs.KeyLemmas.{itself_both}
 use Rattle.each_row.specs.declared.fault.EachFault.{EachFault}
 use Rattle.each_row.specs.declared.fault.EachFault.TheVariants.{Fault, Stopped}
@@ -68,7 +68,7 @@ after_plain rest = (refl, refl)
 -- ---- the tests
 
 ship_number : (r : Row) → is_shipline r ≡ true → is_number ACTS_MAX (column r 1) ≡ true
-ship_number r h = (and_parts _ _ h).0
+ship_number r h = counted ACTS_MAX (column r 1) (and_parts _ _ h).0
 
 -- the same look-up, whether it is by number or among those above
 one_test : (a : Bool) (n k m : ℕ) → ((a && nat_lt n m) && nat_eq k m) ≡ cond (nat_lt n k) (nat_eq k m && a) false
@@ -107,7 +107,7 @@ module _ (lot : LotId) (n : ℕ) where
       let p1 = and_parts _ _ p0.1 in
       let p2 = and_parts _ _ p1.1 in
       ap₂ ◌&&◌ (same_word is_gtin (column r 2) (Text lot.gtin) lot.gtin p1.0 refl)
-      (ap₂ ◌&&◌ (same_word is_lot_text (column r 3) (Text lot.lot) lot.lot p2.0 refl) (and_true _ ∙ above_count ACTS_MAX (column r 1) n p0.0))
+      (ap₂ ◌&&◌ (same_word is_lot_text (column r 3) (Text lot.lot) lot.lot p2.0 refl) (and_true _ ∙ above_count ACTS_MAX (column r 1) n (counted ACTS_MAX (column r 1) p0.0)))
       ∙ and_assoc (bytes_eq lot.gtin (bytes (column r 2))) (bytes_eq lot.lot (bytes (column r 3))) (nat_lt n (number_in (column r 1)))
 
   of_lot : (r : Row) → is_shipline r ≡ true → passes params tests r ≡ true → lot ≡ (shipline_in r).lot

@@ -11,11 +11,11 @@ use Rattle.sqlite.specs.Listing.{understood}
 use Rattle.sqlite_tied.specs.Compute.{everything}
 use Rattle.sqlite_trees.specs.Tree.{rowid}
 use Rattle.sqlite_rules.specs.Edit.{with_rowid}
-use Rattle.values.specs.Values.{is_gtin, is_lot_text}
+use Rattle.values.specs.Values.{is_between, is_gtin, is_lot_text}
 use Rattle.commands.specs.declared.rows.CardRow.{CardRow}
 use Rattle.commands.specs.declared.limits.TheConstants.{ACTS_MAX, UNITS_MAX}
 use Rattle.history_tables.specs.declared.texts.TheConstants.{ADD_CARD}
-use Rattle.table_words.specs.Cells.{number_in}
+use Rattle.table_words.specs.Cells.{number_in, is_card_units}
 use Rattle.table_words.specs.Schema.{cards_tree, cards_table}
 use Rattle.table_words.specs.Typed.{same_lot_id, CardKey, is_card, card_in, has_card, card_read, same_card, card_key, card_cells}
 use Rattle.table_words.proofs.Plans.{same}
@@ -50,7 +50,7 @@ cards = record {
 
 -- its numbers are within their limits
 abbrev pub fits_card : CardRow → Bool
-fits_card s = nat_le s.act ACTS_MAX && nat_le s.rest UNITS_MAX
+fits_card s = is_between 1 ACTS_MAX s.act && is_card_units s.qty && nat_le s.rest UNITS_MAX
 
 -- ---- what holds of them
 

@@ -1,5 +1,5 @@
 -- The table `repeats`.
-use Rattle.std.specs.Prelude.{◌≡◌, ℕ, Bool, true, nat_le, bytes_eq, List, [], ◌∷◌, codes}
+use Rattle.std.specs.Prelude.{◌≡◌, ℕ, Bool, true, bytes_eq, List, [], ◌∷◌, codes}
 use Rattle.std.proofs.Common.{refl, ◌∙◌, pos}
 use Rattle.std.proofs.lemmas.Bool.{and_parts}
 use Rattle.sqlite.specs.declared.types.Value.TheVariants.{Null, Text}
@@ -7,6 +7,7 @@ use Rattle.sqlite.specs.Order.{Row, column, bytes}
 use Rattle.sqlite.specs.Term.{lit, col}
 use Rattle.sqlite.specs.Listing.{understood}
 use Rattle.sqlite_tied.specs.Compute.{everything}
+use Rattle.values.specs.Values.{is_between}
 use Rattle.commands.specs.Tables.{Tables}
 use Rattle.commands.specs.declared.rows.RepeatRow.{RepeatRow}
 use Rattle.commands.specs.declared.limits.TheConstants.{ACTS_MAX, KEY_TEXT_MAX}
@@ -47,7 +48,7 @@ repeats = record {
 
 -- its numbers are within their limits
 abbrev pub fits_repeat : RepeatRow → Bool
-fits_repeat s = nat_le s.act ACTS_MAX
+fits_repeat s = is_between 1 ACTS_MAX s.act
 
 -- that of a key
 abbrev pub repeats_of : Query RepeatRow (List ℕ) (List ℕ)

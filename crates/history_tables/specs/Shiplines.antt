@@ -1,5 +1,5 @@
 -- The table `shiplines`.
-use Rattle.std.specs.Prelude.{◌≡◌, Bool, true, ◌&&◌, nat_le, nat_eq, [], ◌∷◌, codes}
+use Rattle.std.specs.Prelude.{◌≡◌, Bool, true, ◌&&◌, nat_eq, [], ◌∷◌, codes}
 use Rattle.std.proofs.Common.{refl, ap₂, ◌∙◌, pos}
 use Rattle.std.proofs.lemmas.Bool.{and_parts}
 use Rattle.sqlite.specs.declared.types.Value.TheVariants.{Null, Int, Text}
@@ -7,9 +7,9 @@ use Rattle.sqlite.specs.Order.{Row, column}
 use Rattle.sqlite.specs.Term.{lit, col}
 use Rattle.sqlite.specs.Listing.{understood}
 use Rattle.sqlite_tied.specs.Compute.{everything}
-use Rattle.values.specs.Values.{is_gtin, is_lot_text}
+use Rattle.values.specs.Values.{QTY_MAX, is_between, is_gtin, is_lot_text}
 use Rattle.commands.specs.declared.rows.ShiplineRow.{ShiplineRow}
-use Rattle.commands.specs.declared.limits.TheConstants.{ACTS_MAX, UNITS_MAX}
+use Rattle.commands.specs.declared.limits.TheConstants.{ACTS_MAX}
 use Rattle.history_tables.specs.declared.texts.TheConstants.{ADD_SHIPLINE}
 use Rattle.table_words.specs.Schema.{shiplines_tree, shiplines_table}
 use Rattle.table_words.specs.Typed.{same_lot_id, ShiplineKey, is_shipline, shipline_in, has_shipline, shipline_read, same_shipline, shipline_key, shipline_cells}
@@ -45,7 +45,7 @@ shiplines = record {
 
 -- its numbers are within their limits
 abbrev pub fits_shipline : ShiplineRow → Bool
-fits_shipline s = nat_le s.number ACTS_MAX && nat_le s.qty UNITS_MAX
+fits_shipline s = is_between 1 ACTS_MAX s.number && is_between 1 QTY_MAX s.qty
 
 -- ---- what holds of them
 

@@ -7,6 +7,7 @@ use Rattle.sqlite.specs.Order.{Row, column}
 use Rattle.sqlite.specs.Term.{lit, col}
 use Rattle.sqlite.specs.Listing.{understood}
 use Rattle.sqlite_tied.specs.Compute.{everything}
+use Rattle.values.specs.Values.{is_between}
 use Rattle.commands.specs.Tables.{Tables}
 use Rattle.commands.specs.declared.rows.ShipmentRow.{ShipmentRow}
 use Rattle.commands.specs.declared.limits.TheConstants.{ACTS_MAX}
@@ -47,7 +48,7 @@ shipments = record {
 
 -- its numbers are within their limits
 abbrev pub fits_shipment : ShipmentRow → Bool
-fits_shipment s = nat_le s.number ACTS_MAX && nat_le s.act ACTS_MAX
+fits_shipment s = is_between 1 ACTS_MAX s.number && is_between 1 ACTS_MAX s.act
 
 -- the rows of a number
 abbrev pub shipments_of : Query ShipmentRow ℕ ℕ

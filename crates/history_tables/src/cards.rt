@@ -19,8 +19,9 @@ use keyed_rows::table::Table;
 use sqlite::{Alter, Connection, Row, Transaction};
 use std::alloc::Global;
 use table_words::columns::{
-    business_day_at, card_kind_at, gtin_at, lot_at, note_at, number_at, of_business_day,
-    of_card_kind, of_gtin, of_lot, of_number, of_signed, of_text, signed_at,
+    business_day_at, card_kind_at, card_units_at, count_at, gtin_at, is_card_units, lot_at,
+    note_at, number_at, of_business_day, of_card_kind, of_gtin, of_lot, of_number, of_signed,
+    of_text,
 };
 use table_words::error::TableFault;
 use values::LotId;
@@ -46,7 +47,8 @@ impl Table for Cards {
     }
 
     fn fits(row: &CardRow) -> bool {
-        row.act <= ACTS_MAX && row.rest <= UNITS_MAX
+        let is_of_act = 1 <= row.act && row.act <= ACTS_MAX;
+        is_of_act && is_card_units(row.qty) && row.rest <= UNITS_MAX
     }
 
     fn run<S: Alter>(
@@ -71,11 +73,11 @@ impl Table for Cards {
         match (
             gtin_at(row, 0),
             lot_at(row, 1),
-            number_at(row, 2, ACTS_MAX),
+            count_at(row, 2, ACTS_MAX),
             business_day_at(row, 3),
             card_kind_at(row, 4),
             note_at(row, 5),
-            signed_at(row, 6),
+            card_units_at(row, 6),
             number_at(row, 7, UNITS_MAX),
         ) {
             (Ok(gtin), Ok(lot), Ok(act), Ok(day), Ok(kind), Ok(note), Ok(qty), Ok(rest)) => Ok(

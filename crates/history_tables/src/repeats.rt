@@ -1,9 +1,10 @@
 //! The table `repeats`.
 
-ghost use Rattle.std.specs.Prelude.{◌≡◌, ◌≢◌, ◌<◌, true, OnOk, OnErr, IfOk, IfErr, bytes_eq};
+ghost use Rattle.std.specs.Prelude.{◌≡◌, ◌≢◌, true, false, OnOk, OnErr, IfOk, IfErr, bytes_eq};
 ghost use Rattle.std.specs.List.{AllByRecursion};
 ghost use Rattle.sqlite.specs.State.{HasCleanDisk, Survives, KeepsCommit, IsUnchanged};
 ghost use Rattle.sqlite.specs.Held.{state};
+ghost use Rattle.values.specs.Values.{is_between};
 ghost use Rattle.table_words.specs.Found.{AreRows};
 ghost use Rattle.table_words.specs.Steps.{IsReady, Goes, ChangesNone, IsTooBig};
 ghost use Rattle.table_words.specs.Typed.{tables_in, with_repeat, is_repeat, repeat_key, same_repeat, RepeatKey, repeats_of_rows};
@@ -18,7 +19,7 @@ use keyed_rows::table::{Table, add};
 use sqlite::{Alter, Row, Transaction};
 use std::alloc::Global;
 use table_words::columns::{
-    key_text_at, number_at, of_number, of_short, of_spelling, of_text, short_at, spelling_at,
+    count_at, key_text_at, of_number, of_short, of_spelling, of_text, short_at, spelling_at,
 };
 use table_words::error::TableFault;
 use values::Text;
@@ -44,7 +45,7 @@ impl Table for Repeats {
     }
 
     fn fits(row: &RepeatRow) -> bool {
-        row.act <= ACTS_MAX
+        1 <= row.act && row.act <= ACTS_MAX
     }
 
     fn run<S: Alter>(
@@ -64,7 +65,7 @@ impl Table for Repeats {
     fn read(alloc: Global, row: &Row) -> Result<RepeatRow, TableFault> {
         match (
             key_text_at(row, 0),
-            number_at(row, 1, ACTS_MAX),
+            count_at(row, 1, ACTS_MAX),
             short_at(row, 3),
         ) {
             (Ok(k), Ok(act), Ok(reply)) => match spelling_at(alloc, row, 2) {
@@ -104,7 +105,7 @@ impl Sought<Text<KEY_TEXT_MAX>> for Repeats {
     }
 }
 
-/// Adds the row. A number above its limit is refused as too big.
+/// Adds the row. An act outside its limits is refused as too big.
 pub fn put_repeat<S: Alter>(tx: &mut Transaction<'_, S>, row: &RepeatRow) -> Result<(), TableFault>
     ensures same_reference { tx.new.conn.ghost_name ≡ tx.old.conn.ghost_name }
     ensures done { HasCleanDisk (state S.Store tx.new.conn.now) → IsReady (state S.Store tx.old.conn.now).now
@@ -113,7 +114,7 @@ pub fn put_repeat<S: Alter>(tx: &mut Transaction<'_, S>, row: &RepeatRow) -> Res
     ensures kept { HasCleanDisk (state S.Store tx.new.conn.now) → KeepsCommit (state S.Store tx.old.conn.now) (state S.Store tx.new.conn.now) }
     ensures survives { Survives (state S.Store tx.old.conn.now) (state S.Store tx.new.conn.now) (λ _. ⊥) }
     ensures never_foreign { IfErr result (λ e. e ≢ Foreign) }
-    ensures size_act { ACTS_MAX < row.now.act → IsTooBig result tx.old.conn.now tx.new.conn.now }
+    ensures size_act { is_between 1 ACTS_MAX row.now.act ≡ false → IsTooBig result tx.old.conn.now tx.new.conn.now }
 {
     add::<Repeats, S>(tx, row)
 }

@@ -2,14 +2,14 @@
 
 use crate::texts::ADD_SHIPLINE;
 use commands::ShiplineRow;
-use commands::limits::{ACTS_MAX, UNITS_MAX};
+use commands::limits::ACTS_MAX;
 use keyed_rows::running::count;
 use keyed_rows::table::Table;
 use sqlite::{Alter, Row, Transaction};
 use std::alloc::Global;
-use table_words::columns::{gtin_at, lot_at, number_at, of_gtin, of_lot, of_number};
+use table_words::columns::{count_at, gtin_at, lot_at, of_gtin, of_lot, of_number};
 use table_words::error::TableFault;
-use values::LotId;
+use values::{LotId, QTY_MAX};
 
 /// The table.
 pub struct Shiplines;
@@ -32,7 +32,8 @@ impl Table for Shiplines {
     }
 
     fn fits(row: &ShiplineRow) -> bool {
-        row.number <= ACTS_MAX && row.qty <= UNITS_MAX
+        let is_numbered = 1 <= row.number && row.number <= ACTS_MAX;
+        is_numbered && 1 <= row.qty && row.qty <= u64::from(QTY_MAX)
     }
 
     fn run<S: Alter>(
@@ -51,10 +52,10 @@ impl Table for Shiplines {
 
     fn read(_: Global, row: &Row) -> Result<ShiplineRow, TableFault> {
         match (
-            number_at(row, 0, ACTS_MAX),
+            count_at(row, 0, ACTS_MAX),
             gtin_at(row, 1),
             lot_at(row, 2),
-            number_at(row, 3, UNITS_MAX),
+            count_at(row, 3, u64::from(QTY_MAX)),
         ) {
             (Ok(number), Ok(gtin), Ok(lot), Ok(qty)) => Ok(ShiplineRow {
                 number,

@@ -9,7 +9,7 @@ use keyed_rows::table::Table;
 use sqlite::{Alter, Row, Transaction};
 use std::alloc::Global;
 use table_words::columns::{
-    business_day_at, name_at, number_at, of_business_day, of_name, of_number,
+    business_day_at, count_at, name_at, of_business_day, of_name, of_number,
 };
 use table_words::error::TableFault;
 
@@ -34,7 +34,8 @@ impl Table for Shipments {
     }
 
     fn fits(row: &ShipmentRow) -> bool {
-        row.number <= ACTS_MAX && row.act <= ACTS_MAX
+        let is_numbered = 1 <= row.number && row.number <= ACTS_MAX;
+        is_numbered && 1 <= row.act && row.act <= ACTS_MAX
     }
 
     fn run<S: Alter>(
@@ -53,8 +54,8 @@ impl Table for Shipments {
 
     fn read(_: Global, row: &Row) -> Result<ShipmentRow, TableFault> {
         match (
-            number_at(row, 0, ACTS_MAX),
-            number_at(row, 1, ACTS_MAX),
+            count_at(row, 0, ACTS_MAX),
+            count_at(row, 1, ACTS_MAX),
             business_day_at(row, 2),
             name_at(row, 3),
         ) {

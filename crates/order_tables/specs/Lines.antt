@@ -7,10 +7,9 @@ use Rattle.sqlite.specs.Order.{Row, column, bytes}
 use Rattle.sqlite.specs.Term.{lit, col}
 use Rattle.sqlite.specs.Listing.{understood}
 use Rattle.sqlite_tied.specs.Compute.{everything}
-use Rattle.values.specs.Values.{is_gtin, is_name}
+use Rattle.values.specs.Values.{QTY_MAX, is_between, is_gtin, is_name}
 use Rattle.commands.specs.Tables.{Tables}
 use Rattle.commands.specs.declared.rows.LineRow.{LineRow}
-use Rattle.commands.specs.declared.limits.TheConstants.{UNITS_MAX}
 use Rattle.order_tables.specs.declared.texts.TheConstants.{ADD_LINE, CHANGE_LINE, LINES_OF_ORDER, LINE_OF}
 use Rattle.table_words.specs.Found.{AreRows}
 use Rattle.table_words.specs.Cells.{is_the_text}
@@ -48,7 +47,7 @@ lines = record {
 
 -- its numbers are within their limits
 abbrev pub fits_line : LineRow → Bool
-fits_line s = nat_le s.ordered UNITS_MAX && nat_le s.shipped UNITS_MAX
+fits_line s = is_between 1 QTY_MAX s.ordered && nat_le s.shipped QTY_MAX
 
 -- the statement that changes a row
 abbrev pub change_line : Change LineRow

@@ -1,5 +1,5 @@
 -- The table `orders`.
-use Rattle.std.specs.Prelude.{◌≡◌, ℕ, Bool, true, nat_le, bytes_eq, List, [], ◌∷◌, codes}
+use Rattle.std.specs.Prelude.{◌≡◌, ℕ, Bool, true, bytes_eq, List, [], ◌∷◌, codes}
 use Rattle.std.proofs.Common.{refl, ap, ◌∙◌, pos}
 use Rattle.std.proofs.lemmas.Bool.{and_parts}
 use Rattle.sqlite.specs.declared.types.Value.{Value}
@@ -11,14 +11,14 @@ use Rattle.sqlite.specs.Listing.{understood}
 use Rattle.sqlite_tied.specs.Compute.{everything}
 use Rattle.sqlite_trees.specs.Tree.{rowid}
 use Rattle.sqlite_rules.specs.Edit.{with_rowid}
-use Rattle.values.specs.Values.{is_name, is_title}
+use Rattle.values.specs.Values.{is_between, is_name, is_title}
 use Rattle.commands.specs.Tables.{Tables}
 use Rattle.commands.specs.declared.rows.OrderRow.{OrderRow}
 use Rattle.commands.specs.declared.limits.TheConstants.{ACTS_MAX}
 use Rattle.order_tables.specs.declared.texts.TheConstants.{ADD_ORDER, CHANGE_ORDER, ORDERS_OF, OPEN_ORDERS}
 use Rattle.order_tables.specs.declared.orders.Open.{Open}
 use Rattle.table_words.specs.Found.{AreRows, only_if}
-use Rattle.table_words.specs.Cells.{is_word, is_the_text, is_number, is_order_state}
+use Rattle.table_words.specs.Cells.{is_word, is_the_text, is_count, is_order_state}
 use Rattle.table_words.specs.Schema.{orders_tree, orders_table}
 use Rattle.table_words.specs.Typed.{is_order, order_in, has_order, order_read, same_order, order_key, order_cells, is_open_order}
 use Rattle.table_words.proofs.Plans.{same, by_rowid}
@@ -53,7 +53,7 @@ orders = record {
 
 -- its numbers are within their limits
 abbrev pub fits_order : OrderRow → Bool
-fits_order s = nat_le s.act ACTS_MAX
+fits_order s = is_between 1 ACTS_MAX s.act
 
 -- the statement that changes a row
 abbrev pub change_order : Change OrderRow
@@ -158,7 +158,7 @@ open_orders_is rest = (refl, refl, (refl, refl))
 open_orders_at : (by : Open) (r : Row) → is_order r ≡ true → passes (open_orders.params by) open_orders.tests r ≡ is_open_order (order_in r)
 open_orders_at by r h =
     let p0 = and_parts (is_word is_name (column r 1)) _ h in
-    let p1 = and_parts (is_number ACTS_MAX (column r 2)) _ p0.1 in
+    let p1 = and_parts (is_count ACTS_MAX (column r 2)) _ p0.1 in
     let p2 = and_parts (is_word is_title (column r 3)) _ p1.1 in
     and_true _ ∙ same_word is_order_state (column r 4) (Text (codes "OPEN")) (codes "OPEN") p2.1 refl ∙ open_is (column r 4)
 

@@ -1,5 +1,5 @@
 -- The table `reserved`.
-use Rattle.std.specs.Prelude.{◌≡◌, ℕ, Bool, true, ◌&&◌, nat_le, bytes_eq, List, [], ◌∷◌, codes}
+use Rattle.std.specs.Prelude.{◌≡◌, ℕ, Bool, true, ◌&&◌, bytes_eq, List, [], ◌∷◌, codes}
 use Rattle.std.proofs.Common.{refl, ap₂, ◌∙◌, pos}
 use Rattle.std.proofs.lemmas.Bool.{and_parts}
 use Rattle.sqlite.specs.declared.types.Value.TheVariants.{Null, Text}
@@ -7,10 +7,9 @@ use Rattle.sqlite.specs.Order.{Row, column, bytes}
 use Rattle.sqlite.specs.Term.{lit, col}
 use Rattle.sqlite.specs.Listing.{understood}
 use Rattle.sqlite_tied.specs.Compute.{everything}
-use Rattle.values.specs.Values.{is_gtin, is_lot_text, is_name}
+use Rattle.values.specs.Values.{QTY_MAX, is_between, is_gtin, is_lot_text, is_name}
 use Rattle.commands.specs.Tables.{Tables}
 use Rattle.commands.specs.declared.rows.ReservedRow.{ReservedRow}
-use Rattle.commands.specs.declared.limits.TheConstants.{UNITS_MAX}
 use Rattle.order_tables.specs.declared.texts.TheConstants.{ADD_RESERVED, CHANGE_RESERVED, RESERVED_OF_ITEM, RESERVED_OF_ORDER, RESERVED_OF, DROP_RESERVED}
 use Rattle.table_words.specs.Found.{AreRows}
 use Rattle.table_words.specs.Cells.{is_the_text}
@@ -48,7 +47,7 @@ reserved = record {
 
 -- its numbers are within their limits
 abbrev pub fits_reserved : ReservedRow → Bool
-fits_reserved s = nat_le s.qty UNITS_MAX
+fits_reserved s = is_between 1 QTY_MAX s.qty
 
 -- the statement that changes a row
 abbrev pub change_reserved : Change ReservedRow

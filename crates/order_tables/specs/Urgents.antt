@@ -1,5 +1,5 @@
 -- The table `urgents`.
-use Rattle.std.specs.Prelude.{◌≡◌, ℕ, Bool, true, nat_le, bytes_eq, List, [], ◌∷◌, codes}
+use Rattle.std.specs.Prelude.{◌≡◌, ℕ, Bool, true, bytes_eq, List, [], ◌∷◌, codes}
 use Rattle.std.proofs.Common.{refl, ◌∙◌, pos}
 use Rattle.std.proofs.lemmas.Bool.{and_parts}
 use Rattle.sqlite.specs.declared.types.Value.TheVariants.{Null, Text}
@@ -7,7 +7,7 @@ use Rattle.sqlite.specs.Order.{Row, column, bytes}
 use Rattle.sqlite.specs.Term.{lit, col}
 use Rattle.sqlite.specs.Listing.{understood}
 use Rattle.sqlite_tied.specs.Compute.{everything}
-use Rattle.values.specs.Values.{is_name}
+use Rattle.values.specs.Values.{is_between, is_name}
 use Rattle.commands.specs.Tables.{Tables}
 use Rattle.commands.specs.declared.rows.UrgentRow.{UrgentRow}
 use Rattle.commands.specs.declared.limits.TheConstants.{ACTS_MAX}
@@ -49,7 +49,7 @@ urgents = record {
 
 -- its number is within its limit
 abbrev pub fits_urgent : UrgentRow → Bool
-fits_urgent s = nat_le s.act ACTS_MAX
+fits_urgent s = is_between 1 ACTS_MAX s.act
 
 -- that of a name
 abbrev pub urgents_of : Query UrgentRow (List ℕ) (List ℕ)

@@ -2,15 +2,14 @@
 
 use crate::texts::{ADD_LINE, CHANGE_LINE, LINE_OF, LINES_OF_ORDER};
 use commands::LineRow;
-use commands::limits::UNITS_MAX;
 use keyed_rows::reading::{Sought, query_rows};
 use keyed_rows::running::count;
 use keyed_rows::table::{Changing, Table};
 use sqlite::{Alter, Row, Transaction};
 use std::alloc::Global;
-use table_words::columns::{gtin_at, name_at, number_at, of_gtin, of_name, of_number};
+use table_words::columns::{count_at, gtin_at, name_at, number_at, of_gtin, of_name, of_number};
 use table_words::error::TableFault;
-use values::{Gtin, Name};
+use values::{Gtin, Name, QTY_MAX};
 
 /// The table.
 pub struct Lines;
@@ -33,7 +32,8 @@ impl Table for Lines {
     }
 
     fn fits(row: &LineRow) -> bool {
-        row.ordered <= UNITS_MAX && row.shipped <= UNITS_MAX
+        let most = u64::from(QTY_MAX);
+        1 <= row.ordered && row.ordered <= most && row.shipped <= most
     }
 
     fn run<S: Alter>(
@@ -54,8 +54,8 @@ impl Table for Lines {
         match (
             name_at(row, 0),
             gtin_at(row, 1),
-            number_at(row, 2, UNITS_MAX),
-            number_at(row, 3, UNITS_MAX),
+            count_at(row, 2, u64::from(QTY_MAX)),
+            number_at(row, 3, u64::from(QTY_MAX)),
         ) {
             (Ok(order), Ok(gtin), Ok(ordered), Ok(shipped)) => Ok(LineRow {
                 order,

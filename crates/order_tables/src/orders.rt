@@ -9,7 +9,7 @@ use keyed_rows::table::{Changing, Table};
 use sqlite::{Alter, Row, Transaction};
 use std::alloc::Global;
 use table_words::columns::{
-    name_at, number_at, of_name, of_number, of_order_state, of_title, order_state_at, title_at,
+    count_at, name_at, of_name, of_number, of_order_state, of_title, order_state_at, title_at,
 };
 use table_words::error::TableFault;
 use values::Name;
@@ -35,7 +35,7 @@ impl Table for Orders {
     }
 
     fn fits(row: &OrderRow) -> bool {
-        row.act <= ACTS_MAX
+        1 <= row.act && row.act <= ACTS_MAX
     }
 
     fn run<S: Alter>(
@@ -55,7 +55,7 @@ impl Table for Orders {
     fn read(_: Global, row: &Row) -> Result<OrderRow, TableFault> {
         match (
             name_at(row, 0),
-            number_at(row, 1, ACTS_MAX),
+            count_at(row, 1, ACTS_MAX),
             title_at(row, 2),
             order_state_at(row, 3),
         ) {

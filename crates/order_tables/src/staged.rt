@@ -4,17 +4,16 @@ use crate::texts::{
     ADD_STAGED, ALL_STAGED, CHANGE_STAGED, DROP_STAGED, STAGED_OF, STAGED_OF_ITEM, STAGED_OF_ORDER,
 };
 use commands::StagedRow;
-use commands::limits::UNITS_MAX;
 use keyed_rows::reading::{All, Sought, query_rows};
 use keyed_rows::running::count;
 use keyed_rows::table::{Changing, Losing, Table};
 use sqlite::{Alter, Row, Transaction};
 use std::alloc::Global;
 use table_words::columns::{
-    gtin_at, lot_at, name_at, number_at, of_gtin, of_lot, of_name, of_number,
+    count_at, gtin_at, lot_at, name_at, of_gtin, of_lot, of_name, of_number,
 };
 use table_words::error::TableFault;
-use values::{Gtin, LotId, Name};
+use values::{Gtin, LotId, Name, QTY_MAX};
 
 /// The table.
 pub struct Staged;
@@ -37,7 +36,7 @@ impl Table for Staged {
     }
 
     fn fits(row: &StagedRow) -> bool {
-        row.qty <= UNITS_MAX
+        1 <= row.qty && row.qty <= u64::from(QTY_MAX)
     }
 
     fn run<S: Alter>(
@@ -59,7 +58,7 @@ impl Table for Staged {
             name_at(row, 0),
             gtin_at(row, 1),
             lot_at(row, 2),
-            number_at(row, 3, UNITS_MAX),
+            count_at(row, 3, u64::from(QTY_MAX)),
         ) {
             (Ok(order), Ok(gtin), Ok(lot), Ok(qty)) => Ok(StagedRow {
                 order,

@@ -8,7 +8,7 @@ use keyed_rows::running::count;
 use keyed_rows::table::Table;
 use sqlite::{Alter, Row, Transaction};
 use std::alloc::Global;
-use table_words::columns::{name_at, number_at, of_name, of_number};
+use table_words::columns::{count_at, name_at, of_name, of_number};
 use table_words::error::TableFault;
 use values::Name;
 
@@ -33,7 +33,7 @@ impl Table for Urgents {
     }
 
     fn fits(row: &UrgentRow) -> bool {
-        row.act <= ACTS_MAX
+        1 <= row.act && row.act <= ACTS_MAX
     }
 
     fn run<S: Alter>(
@@ -46,7 +46,7 @@ impl Table for Urgents {
     }
 
     fn read(_: Global, row: &Row) -> Result<UrgentRow, TableFault> {
-        match (name_at(row, 0), number_at(row, 1, ACTS_MAX)) {
+        match (name_at(row, 0), count_at(row, 1, ACTS_MAX)) {
             (Ok(order), Ok(act)) => Ok(UrgentRow { order, act }),
             _ => Err(TableFault::Foreign),
         }

@@ -12,4 +12,5 @@ pub mod LookingUp
 pub mod Giving
 pub mod GivingLots
 pub mod InOrder
+pub mod Sorted
 pub mod RowsApart

@@ -1,4 +1,5 @@
 pub mod rows
 pub mod decided
+mod OlderLimits
 mod ExampleOrderDecisions
 mod ExampleReplanning

@@ -1,3 +1,4 @@
 pub mod Slices
 pub mod Made
 pub mod Commands
+pub mod OlderLimits

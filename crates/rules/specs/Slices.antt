@@ -146,7 +146,8 @@ on_named_stage command rows l = list_any (λ r. names_order command r.order && i
 -- its lines, what is staged of their items, and the stock of the lots that are staged for the order. For a pick it has what it
 -- names: the item, the lot, its recall, the bin, the units of the lot in the bin, the order, its line of the item, and what is
 -- staged and what is reserved of the lot for it. What is reserved is told where the command is judged by it, and so is whether
--- there are as many items, or bins, as there may be.
+-- there are as many items, or bins, as there may be. Whatever is staged or reserved for the order that it names may be among
+-- the rows, also of items that it does not touch.
 pub record IsSlice (first : ℤ) (act : Act) (acts : List Act) (t : Tables) (s : Slice) : Type 0 where
   pub meta : t.meta ≡ Some s.meta
   pub items_counted : counts_items act.command ≡ true → nat_le ITEMS_MAX s.items ≡ nat_le ITEMS_MAX (length (items acts))
@@ -174,7 +175,7 @@ pub record IsSlice (first : ℤ) (act : Act) (acts : List Act) (t : Tables) (s :
       (λ k. names_order act.command k.0 || is_touched first act acts k.1) (λ k. t.line k.0 k.1) s.rows.lines
   pub staged : AreRows same_share (λ r. (r.order, r.lot))
       (λ k. (not (picks act.command) || (names_order act.command k.0 && names_lot act.command k.1)) && is_touched first act acts k.1.gtin)
-      (λ k. is_touched first act acts k.1.gtin) (λ k. t.staged k.0 k.1) s.rows.staged
+      (λ k. names_order act.command k.0 || is_touched first act acts k.1.gtin) (λ k. t.staged k.0 k.1) s.rows.staged
   pub reserved : AreRows same_share (λ r. (r.order, r.lot))
       (λ k. names_reserved act.command k.0 k.1) (λ k. names_order act.command k.0 || is_touched first act acts k.1.gtin) (λ k. t.reserved k.0 k.1) s.rows.reserved
 

@@ -2,6 +2,7 @@
 #![tactic(auto)]
 
 mod deciding;
+pub mod laws;
 
 pub use deciding::decide;
 pub use row_rules::{Change, Dropped, Put, Rows, RuleFault, Slice};

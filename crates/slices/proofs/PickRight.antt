@@ -84,8 +84,8 @@ module _ (first : ℤ) (acts : List Act) (key : Key) (p : Picking) (s : Slice) (
     urgents = no_rows {K = UrgentKey} same_urgent urgent_key (λ o. false) (λ o. same_text o p.order || has_touched_line first act acts o) t.urgent s.rows.urgents are.ordered.no_urgents none;
     lines = rows_read_as {K = LineKey} same_line line_key same_line_is same_line_refl (λ k. same_line (p.order, p.lot.gtin) k) (λ k. (touched k.1 && same_text k.0 p.order) || false) (λ k. same_text k.0 p.order || touched k.1) (λ k. t.line k.0 k.1) s.rows.lines
         own_line (λ k e. named p.order k.0 (touched k.1) (and_both (same_text p.order k.0) (same_text p.lot.gtin k.1) e).0) are.ordered.lines;
-    staged = rows_read_as {K = StagedKey} same_staged staged_key same_share_is same_share_refl (λ k. same_staged (p.order, p.lot) k) (λ k. (same_text k.0 p.order && is_lot k.1 p.lot) && touched k.1.gtin) (λ k. touched k.1.gtin) (λ k. t.staged k.0 k.1) s.rows.staged
-        (λ k e. own_share k (and_both (same_text k.0 p.order && is_lot k.1 p.lot) (touched k.1.gtin) e).0) (λ k e. lot_touched k.1 (and_both (same_text p.order k.0) (same_lot_id p.lot k.1) e).1) are.shares.staged;
+    staged = rows_read_as {K = StagedKey} same_staged staged_key same_share_is same_share_refl (λ k. same_staged (p.order, p.lot) k) (λ k. (same_text k.0 p.order && is_lot k.1 p.lot) && touched k.1.gtin) (λ k. same_text k.0 p.order || touched k.1.gtin) (λ k. t.staged k.0 k.1) s.rows.staged
+        (λ k e. own_share k (and_both (same_text k.0 p.order && is_lot k.1 p.lot) (touched k.1.gtin) e).0) (λ k e. named p.order k.0 (touched k.1.gtin) (and_both (same_text p.order k.0) (same_lot_id p.lot k.1) e).0) are.shares.staged;
     reserved = rows_read_as {K = ReservedKey} same_reserved reserved_key same_share_is same_share_refl (λ k. same_reserved (p.order, p.lot) k) (λ k. same_text k.0 p.order && is_lot k.1 p.lot) (λ k. same_text k.0 p.order || touched k.1.gtin) (λ k. t.reserved k.0 k.1) s.rows.reserved
         own_share (λ k e. named p.order k.0 (touched k.1.gtin) (and_both (same_text p.order k.0) (same_lot_id p.lot k.1) e).0) are.shares.reserved;
   }

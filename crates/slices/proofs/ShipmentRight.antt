@@ -15,7 +15,7 @@ use Rattle.machine.specs.Postings.{is_lot}
 use Rattle.machine.specs.Standing.{has_line}
 use Rattle.machine.specs.Tables.{tables_of}
 use Rattle.machine.specs.KeyedRows.{AreRows}
-use Rattle.machine.proofs.Tests.{and_both, or_false, or_first, same_text_is, same_text_refl, is_lot_is, is_lot_turned, is_lot_item}
+use Rattle.machine.proofs.Tests.{and_both, or_false, or_first, or_later, same_text_is, same_text_refl, is_lot_is, is_lot_turned, is_lot_item}
 use Rattle.rules.specs.Slices.{IsSlice, on_named_stage, has_touched_line}
 use Rattle.row_rules.specs.declared.slice.Slice.{Slice}
 use Rattle.slice_parts.specs.Keys.{has_key}
@@ -90,6 +90,7 @@ module _ (first : ℤ) (acts : List Act) (key : Key) (order : List ℕ) (s : Sli
     lines = rows_as {K = LineKey} same_line line_key same_line_is same_line_refl (λ k. is_among (order ∷ []) k.0) (λ k. is_among (order ∷ []) k.0) (λ k. same_text k.0 order || false) (λ k. same_text k.0 order || touched k.1) (λ k. t.line k.0 k.1) s.rows.lines
         (λ k e. e) (λ k e. one_named k.0 (touched k.1) e)
         (sought {K = LineKey} same_line line_key same_line_is same_line_refl (λ k. k.0) (λ k. t.line k.0 k.1) (order ∷ []) (is_among (order ∷ [])) s.rows.lines refl (λ x. refl) are.named.lines);
-    staged = staged_rows;
+    staged = rows_as {K = StagedKey} same_staged staged_key same_share_is same_share_refl (λ k. touched k.1.gtin) (λ k. touched k.1.gtin) (λ k. touched k.1.gtin) (λ k. same_text k.0 order || touched k.1.gtin) (λ k. t.staged k.0 k.1) s.rows.staged
+        (λ k e. e) (λ k e. or_later (same_text k.0 order) (touched k.1.gtin) e) staged_rows;
     reserved = no_rows {K = ReservedKey} same_reserved reserved_key (λ k. false) (λ k. same_text k.0 order || touched k.1.gtin) (λ k. t.reserved k.0 k.1) s.rows.reserved are.no_reserved none;
   }

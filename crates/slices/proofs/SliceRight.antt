@@ -374,8 +374,8 @@ module _ (first : ℤ) (acts : List Act) where
             (either_line (not (picks command) || touched k.1) (names_order command k.0) (plans command) (is_open first acts k.0) (touched k.1) e))
             (λ k e. ap (λ b. b || touched k.1) (sym (order_told command k.0)) ∙ ap (λ b. is_among (orders_named command) k.0 || b) (sym (told k.1)) ∙ e)
             (lines_told known.lines (orders_named command) gtins t holds.lines keyed (order_once command) once s.rows.orders s.rows.lines rows.ordered);
-        staged = rows_as {K = StagedKey} same_staged staged_key same_share_is same_share_refl (λ k. touched k.1.gtin) (λ k. touched k.1.gtin) (λ k. (not (picks command) || (names_order command k.0 && names_lot command k.1)) && touched k.1.gtin) (λ k. touched k.1.gtin) (λ k. t.staged k.0 k.1) s.rows.staged
-            (λ k e. both (not (picks command) || (names_order command k.0 && names_lot command k.1)) (touched k.1.gtin) e) (λ k e. e) staged_rows;
+        staged = rows_as {K = StagedKey} same_staged staged_key same_share_is same_share_refl (λ k. touched k.1.gtin) (λ k. touched k.1.gtin) (λ k. (not (picks command) || (names_order command k.0 && names_lot command k.1)) && touched k.1.gtin) (λ k. names_order command k.0 || touched k.1.gtin) (λ k. t.staged k.0 k.1) s.rows.staged
+            (λ k e. both (not (picks command) || (names_order command k.0 && names_lot command k.1)) (touched k.1.gtin) e) (λ k e. or_later (names_order command k.0) (touched k.1.gtin) e) staged_rows;
         reserved = no_rows {K = ReservedKey} same_reserved reserved_key (λ k. names_reserved command k.0 k.1) (λ k. names_order command k.0 || touched k.1.gtin) (λ k. t.reserved k.0 k.1) s.rows.reserved rows.no_reserved
             (λ k e. no_share (names_of command).order (names_of command).lot k.0 k.1 unpicked e);
       }

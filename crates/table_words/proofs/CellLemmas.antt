@@ -21,7 +21,7 @@ use Rattle.sqlite_sql.specs.declared.ops.BinaryOp.TheVariants.{Compare}
 use Rattle.sqlite_sql.specs.declared.ops.CompareOp.TheVariants.{Eq}
 use Rattle.sqlite_sql.specs.Ops.{binary, is_true, from_truth}
 use Rattle.table_words.specs.Typed.{same_lot_id}
-use Rattle.table_words.specs.Cells.{typed, is_word, is_the_text, is_number, is_the_number, number_in, flag_number, flag_in, is_bin_kind, bin_kind_in, is_order_state, is_open_state, order_state_in, is_card_kind, card_kind_in}
+use Rattle.table_words.specs.Cells.{typed, is_word, is_the_text, is_number, is_count, is_the_number, number_in, flag_number, flag_in, is_bin_kind, bin_kind_in, is_order_state, is_open_state, order_state_in, is_card_kind, card_kind_in}
 use Rattle.values.specs.declared.lot.LotId.{LotId}
 use Rattle.commands.specs.Words.{bin_kind_word, order_state_of, order_state_word, card_kind_word}
 use Rattle.commands.specs.declared.command.BinKind.{BinKind}
@@ -117,9 +117,14 @@ same_int : (m n : ℕ) → is_true (binary (Compare Eq Binary) (Int (pos m)) (In
 unfolding binary
 same_int m n = truth_back (is_eq (value_cmp (Int (pos m)) (Int (pos n)))) ∙ ap is_eq (value_cmp-Int (pos m) (pos n)) ∙ same_nats m n
 
-pub same_count : (limit : ℕ) (v w : Value) (n : ℕ) → is_number limit v ≡ true → w ≡ Int (pos n) → is_true (binary (Compare Eq Binary) v w) ≡ nat_eq n (number_in v)
+pub same_count : (limit : ℕ) (v w : Value) (n : ℕ) → is_count limit v ≡ true → w ≡ Int (pos n) → is_true (binary (Compare Eq Binary) v w) ≡ nat_eq n (number_in v)
 same_count limit (Int (pos m)) w n h e = rw e (same_int m n)
 same_count limit v w n h e = absurd cc
+
+-- a number from 1 on is one from 0 on
+pub counted : (limit : ℕ) (v : Value) → is_count limit v ≡ true → is_number limit v ≡ true
+counted limit (Int (pos n)) h = (and_parts _ _ h).1
+counted limit v h = absurd cc
 
 -- where a column is the same in each row, the test is that of the parameter
 pub same_the_number : (k : ℕ) (v w : Value) (n : ℕ) → is_the_number k v ≡ true → w ≡ Int (pos n) → is_true (binary (Compare Eq Binary) v w) ≡ nat_eq n k

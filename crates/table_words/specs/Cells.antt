@@ -1,9 +1,12 @@
 -- What a column of a stored row reads as.
-use Rattle.std.specs.Prelude.{ℕ, ℤ, Bool, true, false, nat_eq, nat_le, bytes_eq, length, List, map, filter, pos, is_some, unwrap_or}
+use Rattle.std.specs.Prelude.{ℕ, ℤ, Bool, true, false, ◌&&◌, nat_eq, nat_le, nat_lt, int_le, bytes_eq, length, List, map, filter, pos, negsuc, is_some, unwrap_or}
 use Rattle.sqlite_value.specs.declared.value.Value.{Value}
 use Rattle.sqlite_value.specs.declared.value.Value.TheVariants.{Int, Text}
 use Rattle.sqlite_value.specs.Order.{Row, bytes}
+use Rattle.values.specs.Values.{QTY_MAX, is_between}
+use Rattle.label.specs.Days.{is_day}
 use Rattle.commands.specs.Words.{bin_kind_of, order_state_of, card_kind_of}
+use Rattle.commands.specs.declared.limits.TheConstants.{UNITS_MAX}
 use Rattle.commands.specs.declared.command.BinKind.{BinKind}
 use Rattle.commands.specs.declared.command.BinKind.TheVariants.{Hold}
 use Rattle.commands.specs.declared.rows.OrderState.{OrderState}
@@ -41,6 +44,11 @@ abbrev pub is_number : ℕ → Value → Bool
 is_number limit (Int (pos n)) = nat_le n limit
 is_number limit _ = false
 
+-- a number from 1 to the limit
+abbrev pub is_count : ℕ → Value → Bool
+is_count limit (Int (pos n)) = is_between 1 limit n
+is_count limit _ = false
+
 abbrev pub number_in : Value → ℕ
 number_in (Int (pos n)) = n
 number_in _ = 0
@@ -61,6 +69,15 @@ signed_in _ = pos 0
 
 abbrev pub is_any_number : ℤ → Bool
 is_any_number n = true
+
+-- the units of a card line: one command brings 1 to 1,000,000, and a count may write off all that an item has
+abbrev pub is_card_units : ℤ → Bool
+is_card_units (pos n) = is_between 1 QTY_MAX n
+is_card_units (negsuc n) = nat_lt n UNITS_MAX
+
+-- the expiry of a lot, which was not past when units of it first came: none is before 2000-01-01, the first day of books
+abbrev pub is_expiry : ℤ → Bool
+is_expiry n = int_le (pos 10_957) n && is_day n
 
 -- ---- yes and no, as 1 and 0
 

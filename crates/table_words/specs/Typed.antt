@@ -4,13 +4,13 @@ use Rattle.std.specs.List.{AllByRecursion}
 use Rattle.sqlite_value.specs.declared.value.Value.TheVariants.{Int, Text}
 use Rattle.sqlite_value.specs.Order.{Row, column, bytes}
 use Rattle.sqlite.specs.Tree.{Trees}
-use Rattle.values.specs.Values.{is_gtin, is_lot_text, is_name, is_title}
-use Rattle.label.specs.Days.{is_day, is_business_day}
+use Rattle.values.specs.Values.{QTY_MAX, is_gtin, is_lot_text, is_name, is_title}
+use Rattle.label.specs.Days.{is_business_day}
 use Rattle.values.specs.declared.lot.LotId.{LotId}
 use Rattle.commands.specs.Words.{bin_kind_word, order_state_word, card_kind_word}
 pub use Rattle.commands.specs.Tables.{Tables}
 use Rattle.commands.specs.declared.limits.TheConstants.{UNITS_MAX, ACTS_MAX, SHORT_MAX, LEAST_DAYS_MAX, KEY_TEXT_MAX, CARD_NOTE_MAX, SCHEMA_VERSION}
-use Rattle.table_words.specs.Cells.{typed, is_word, is_the_text, fits_in, is_any, is_number, is_the_number, number_in, is_signed, is_any_number, signed_in, flag_number, flag_in, is_bin_kind, bin_kind_in, is_order_state, is_open_state, order_state_in, is_card_kind, card_kind_in}
+use Rattle.table_words.specs.Cells.{typed, is_word, is_the_text, fits_in, is_any, is_number, is_count, is_the_number, number_in, is_signed, is_card_units, is_expiry, signed_in, flag_number, flag_in, is_bin_kind, bin_kind_in, is_order_state, is_open_state, order_state_in, is_card_kind, card_kind_in}
 use Rattle.commands.specs.declared.rows.MetaRow.{MetaRow}
 use Rattle.commands.specs.declared.rows.ItemRow.{ItemRow}
 use Rattle.commands.specs.declared.rows.LeastRow.{LeastRow}
@@ -168,7 +168,7 @@ bin_cells s = Text s.name ∷ Text (bin_kind_word s.kind) ∷ []
 
 -- whether the row reads as a typed one
 abbrev pub is_lot : Row → Bool
-is_lot r = is_word is_gtin (column r 1) && (is_word is_lot_text (column r 2) && (is_signed is_day (column r 3) && (is_number ACTS_MAX (column r 4) && is_number 1 (column r 5))))
+is_lot r = is_word is_gtin (column r 1) && (is_word is_lot_text (column r 2) && (is_signed is_expiry (column r 3) && (is_count ACTS_MAX (column r 4) && is_number 1 (column r 5))))
 
 -- what it reads as
 abbrev pub lot_in : Row → LotRow
@@ -176,7 +176,7 @@ lot_in r = record { lot = record { gtin = bytes (column r 1); lot = bytes (colum
 
 -- the same of its columns in their order, as a statement answers them
 abbrev pub has_lot : Row → Bool
-has_lot v = is_word is_gtin (column v 0) && (is_word is_lot_text (column v 1) && (is_signed is_day (column v 2) && (is_number ACTS_MAX (column v 3) && is_number 1 (column v 4))))
+has_lot v = is_word is_gtin (column v 0) && (is_word is_lot_text (column v 1) && (is_signed is_expiry (column v 2) && (is_count ACTS_MAX (column v 3) && is_number 1 (column v 4))))
 
 abbrev pub lot_read : Row → LotRow
 lot_read v = record { lot = record { gtin = bytes (column v 0); lot = bytes (column v 1) }; expiry = signed_in (column v 2); came = number_in (column v 3); held = flag_in (column v 4) }
@@ -198,7 +198,7 @@ lot_cells s = Text s.lot.gtin ∷ Text s.lot.lot ∷ Int s.expiry ∷ Int (pos s
 
 -- whether the row reads as a typed one
 abbrev pub is_recall : Row → Bool
-is_recall r = is_word is_gtin (column r 1) && (is_word is_lot_text (column r 2) && is_number ACTS_MAX (column r 3))
+is_recall r = is_word is_gtin (column r 1) && (is_word is_lot_text (column r 2) && is_count ACTS_MAX (column r 3))
 
 -- what it reads as
 abbrev pub recall_in : Row → RecallRow
@@ -206,7 +206,7 @@ recall_in r = record { lot = record { gtin = bytes (column r 1); lot = bytes (co
 
 -- the same of its columns in their order, as a statement answers them
 abbrev pub has_recall : Row → Bool
-has_recall v = is_word is_gtin (column v 0) && (is_word is_lot_text (column v 1) && is_number ACTS_MAX (column v 2))
+has_recall v = is_word is_gtin (column v 0) && (is_word is_lot_text (column v 1) && is_count ACTS_MAX (column v 2))
 
 abbrev pub recall_read : Row → RecallRow
 recall_read v = record { lot = record { gtin = bytes (column v 0); lot = bytes (column v 1) }; act = number_in (column v 2) }
@@ -228,7 +228,7 @@ recall_cells s = Text s.lot.gtin ∷ Text s.lot.lot ∷ Int (pos s.act) ∷ []
 
 -- whether the row reads as a typed one
 abbrev pub is_stock : Row → Bool
-is_stock r = is_word is_gtin (column r 1) && (is_word is_lot_text (column r 2) && (is_word is_name (column r 3) && is_number UNITS_MAX (column r 4)))
+is_stock r = is_word is_gtin (column r 1) && (is_word is_lot_text (column r 2) && (is_word is_name (column r 3) && is_count UNITS_MAX (column r 4)))
 
 -- what it reads as
 abbrev pub stock_in : Row → StockRow
@@ -236,7 +236,7 @@ stock_in r = record { lot = record { gtin = bytes (column r 1); lot = bytes (col
 
 -- the same of its columns in their order, as a statement answers them
 abbrev pub has_stock : Row → Bool
-has_stock v = is_word is_gtin (column v 0) && (is_word is_lot_text (column v 1) && (is_word is_name (column v 2) && is_number UNITS_MAX (column v 3)))
+has_stock v = is_word is_gtin (column v 0) && (is_word is_lot_text (column v 1) && (is_word is_name (column v 2) && is_count UNITS_MAX (column v 3)))
 
 abbrev pub stock_read : Row → StockRow
 stock_read v = record { lot = record { gtin = bytes (column v 0); lot = bytes (column v 1) }; bin = bytes (column v 2); qty = number_in (column v 3) }
@@ -258,7 +258,7 @@ stock_cells s = Text s.lot.gtin ∷ Text s.lot.lot ∷ Text s.bin ∷ Int (pos s
 
 -- whether the row reads as a typed one
 abbrev pub is_order : Row → Bool
-is_order r = is_word is_name (column r 1) && (is_number ACTS_MAX (column r 2) && (is_word is_title (column r 3) && is_word is_order_state (column r 4)))
+is_order r = is_word is_name (column r 1) && (is_count ACTS_MAX (column r 2) && (is_word is_title (column r 3) && is_word is_order_state (column r 4)))
 
 -- what it reads as
 abbrev pub order_in : Row → OrderRow
@@ -266,7 +266,7 @@ order_in r = record { order = bytes (column r 1); act = number_in (column r 2); 
 
 -- the same of its columns in their order, as a statement answers them
 abbrev pub has_order : Row → Bool
-has_order v = is_word is_name (column v 0) && (is_number ACTS_MAX (column v 1) && (is_word is_title (column v 2) && is_word is_order_state (column v 3)))
+has_order v = is_word is_name (column v 0) && (is_count ACTS_MAX (column v 1) && (is_word is_title (column v 2) && is_word is_order_state (column v 3)))
 
 abbrev pub order_read : Row → OrderRow
 order_read v = record { order = bytes (column v 0); act = number_in (column v 1); customer = bytes (column v 2); state = order_state_in (column v 3) }
@@ -291,7 +291,7 @@ is_open_order s = is_open_state s.state
 
 -- whether the row reads as a typed one
 abbrev pub is_urgent : Row → Bool
-is_urgent r = is_word is_name (column r 1) && is_number ACTS_MAX (column r 2)
+is_urgent r = is_word is_name (column r 1) && is_count ACTS_MAX (column r 2)
 
 -- what it reads as
 abbrev pub urgent_in : Row → UrgentRow
@@ -299,7 +299,7 @@ urgent_in r = record { order = bytes (column r 1); act = number_in (column r 2) 
 
 -- the same of its columns in their order, as a statement answers them
 abbrev pub has_urgent : Row → Bool
-has_urgent v = is_word is_name (column v 0) && is_number ACTS_MAX (column v 1)
+has_urgent v = is_word is_name (column v 0) && is_count ACTS_MAX (column v 1)
 
 abbrev pub urgent_read : Row → UrgentRow
 urgent_read v = record { order = bytes (column v 0); act = number_in (column v 1) }
@@ -321,7 +321,7 @@ urgent_cells s = Text s.order ∷ Int (pos s.act) ∷ []
 
 -- whether the row reads as a typed one
 abbrev pub is_line : Row → Bool
-is_line r = is_word is_name (column r 1) && (is_word is_gtin (column r 2) && (is_number UNITS_MAX (column r 3) && is_number UNITS_MAX (column r 4)))
+is_line r = is_word is_name (column r 1) && (is_word is_gtin (column r 2) && (is_count QTY_MAX (column r 3) && is_number QTY_MAX (column r 4)))
 
 -- what it reads as
 abbrev pub line_in : Row → LineRow
@@ -329,7 +329,7 @@ line_in r = record { order = bytes (column r 1); gtin = bytes (column r 2); orde
 
 -- the same of its columns in their order, as a statement answers them
 abbrev pub has_line : Row → Bool
-has_line v = is_word is_name (column v 0) && (is_word is_gtin (column v 1) && (is_number UNITS_MAX (column v 2) && is_number UNITS_MAX (column v 3)))
+has_line v = is_word is_name (column v 0) && (is_word is_gtin (column v 1) && (is_count QTY_MAX (column v 2) && is_number QTY_MAX (column v 3)))
 
 abbrev pub line_read : Row → LineRow
 line_read v = record { order = bytes (column v 0); gtin = bytes (column v 1); ordered = number_in (column v 2); shipped = number_in (column v 3) }
@@ -351,7 +351,7 @@ line_cells s = Text s.order ∷ Text s.gtin ∷ Int (pos s.ordered) ∷ Int (pos
 
 -- whether the row reads as a typed one
 abbrev pub is_staged : Row → Bool
-is_staged r = is_word is_name (column r 1) && (is_word is_gtin (column r 2) && (is_word is_lot_text (column r 3) && is_number UNITS_MAX (column r 4)))
+is_staged r = is_word is_name (column r 1) && (is_word is_gtin (column r 2) && (is_word is_lot_text (column r 3) && is_count QTY_MAX (column r 4)))
 
 -- what it reads as
 abbrev pub staged_in : Row → StagedRow
@@ -359,7 +359,7 @@ staged_in r = record { order = bytes (column r 1); lot = record { gtin = bytes (
 
 -- the same of its columns in their order, as a statement answers them
 abbrev pub has_staged : Row → Bool
-has_staged v = is_word is_name (column v 0) && (is_word is_gtin (column v 1) && (is_word is_lot_text (column v 2) && is_number UNITS_MAX (column v 3)))
+has_staged v = is_word is_name (column v 0) && (is_word is_gtin (column v 1) && (is_word is_lot_text (column v 2) && is_count QTY_MAX (column v 3)))
 
 abbrev pub staged_read : Row → StagedRow
 staged_read v = record { order = bytes (column v 0); lot = record { gtin = bytes (column v 1); lot = bytes (column v 2) }; qty = number_in (column v 3) }
@@ -381,7 +381,7 @@ staged_cells s = Text s.order ∷ Text s.lot.gtin ∷ Text s.lot.lot ∷ Int (po
 
 -- whether the row reads as a typed one
 abbrev pub is_reserved : Row → Bool
-is_reserved r = is_word is_name (column r 1) && (is_word is_gtin (column r 2) && (is_word is_lot_text (column r 3) && is_number UNITS_MAX (column r 4)))
+is_reserved r = is_word is_name (column r 1) && (is_word is_gtin (column r 2) && (is_word is_lot_text (column r 3) && is_count QTY_MAX (column r 4)))
 
 -- what it reads as
 abbrev pub reserved_in : Row → ReservedRow
@@ -389,7 +389,7 @@ reserved_in r = record { order = bytes (column r 1); lot = record { gtin = bytes
 
 -- the same of its columns in their order, as a statement answers them
 abbrev pub has_reserved : Row → Bool
-has_reserved v = is_word is_name (column v 0) && (is_word is_gtin (column v 1) && (is_word is_lot_text (column v 2) && is_number UNITS_MAX (column v 3)))
+has_reserved v = is_word is_name (column v 0) && (is_word is_gtin (column v 1) && (is_word is_lot_text (column v 2) && is_count QTY_MAX (column v 3)))
 
 abbrev pub reserved_read : Row → ReservedRow
 reserved_read v = record { order = bytes (column v 0); lot = record { gtin = bytes (column v 1); lot = bytes (column v 2) }; qty = number_in (column v 3) }
@@ -411,7 +411,7 @@ reserved_cells s = Text s.order ∷ Text s.lot.gtin ∷ Text s.lot.lot ∷ Int (
 
 -- whether the row reads as a typed one
 abbrev pub is_shipment : Row → Bool
-is_shipment r = is_number ACTS_MAX (column r 0) && (is_number ACTS_MAX (column r 2) && (is_signed is_business_day (column r 3) && is_word is_name (column r 4)))
+is_shipment r = is_count ACTS_MAX (column r 0) && (is_count ACTS_MAX (column r 2) && (is_signed is_business_day (column r 3) && is_word is_name (column r 4)))
 
 -- what it reads as
 abbrev pub shipment_in : Row → ShipmentRow
@@ -419,7 +419,7 @@ shipment_in r = record { number = number_in (column r 0); act = number_in (colum
 
 -- the same of its columns in their order, as a statement answers them
 abbrev pub has_shipment : Row → Bool
-has_shipment v = is_number ACTS_MAX (column v 0) && (is_number ACTS_MAX (column v 1) && (is_signed is_business_day (column v 2) && is_word is_name (column v 3)))
+has_shipment v = is_count ACTS_MAX (column v 0) && (is_count ACTS_MAX (column v 1) && (is_signed is_business_day (column v 2) && is_word is_name (column v 3)))
 
 abbrev pub shipment_read : Row → ShipmentRow
 shipment_read v = record { number = number_in (column v 0); act = number_in (column v 1); day = signed_in (column v 2); order = bytes (column v 3) }
@@ -441,7 +441,7 @@ shipment_cells s = Int (pos s.number) ∷ Int (pos s.act) ∷ Int s.day ∷ Text
 
 -- whether the row reads as a typed one
 abbrev pub is_shipline : Row → Bool
-is_shipline r = is_number ACTS_MAX (column r 1) && (is_word is_gtin (column r 2) && (is_word is_lot_text (column r 3) && is_number UNITS_MAX (column r 4)))
+is_shipline r = is_count ACTS_MAX (column r 1) && (is_word is_gtin (column r 2) && (is_word is_lot_text (column r 3) && is_count QTY_MAX (column r 4)))
 
 -- what it reads as
 abbrev pub shipline_in : Row → ShiplineRow
@@ -449,7 +449,7 @@ shipline_in r = record { number = number_in (column r 1); lot = record { gtin = 
 
 -- the same of its columns in their order, as a statement answers them
 abbrev pub has_shipline : Row → Bool
-has_shipline v = is_number ACTS_MAX (column v 0) && (is_word is_gtin (column v 1) && (is_word is_lot_text (column v 2) && is_number UNITS_MAX (column v 3)))
+has_shipline v = is_count ACTS_MAX (column v 0) && (is_word is_gtin (column v 1) && (is_word is_lot_text (column v 2) && is_count QTY_MAX (column v 3)))
 
 abbrev pub shipline_read : Row → ShiplineRow
 shipline_read v = record { number = number_in (column v 0); lot = record { gtin = bytes (column v 1); lot = bytes (column v 2) }; qty = number_in (column v 3) }
@@ -471,7 +471,7 @@ shipline_cells s = Int (pos s.number) ∷ Text s.lot.gtin ∷ Text s.lot.lot ∷
 
 -- whether the row reads as a typed one
 abbrev pub is_card : Row → Bool
-is_card r = is_word is_gtin (column r 1) && (is_word is_lot_text (column r 2) && (is_number ACTS_MAX (column r 3) && (is_signed is_business_day (column r 4) && (is_word is_card_kind (column r 5) && (is_word (fits_in CARD_NOTE_MAX) (column r 6) && (is_signed is_any_number (column r 7) && is_number UNITS_MAX (column r 8)))))))
+is_card r = is_word is_gtin (column r 1) && (is_word is_lot_text (column r 2) && (is_count ACTS_MAX (column r 3) && (is_signed is_business_day (column r 4) && (is_word is_card_kind (column r 5) && (is_word (fits_in CARD_NOTE_MAX) (column r 6) && (is_signed is_card_units (column r 7) && is_number UNITS_MAX (column r 8)))))))
 
 -- what it reads as
 abbrev pub card_in : Row → CardRow
@@ -479,7 +479,7 @@ card_in r = record { lot = record { gtin = bytes (column r 1); lot = bytes (colu
 
 -- the same of its columns in their order, as a statement answers them
 abbrev pub has_card : Row → Bool
-has_card v = is_word is_gtin (column v 0) && (is_word is_lot_text (column v 1) && (is_number ACTS_MAX (column v 2) && (is_signed is_business_day (column v 3) && (is_word is_card_kind (column v 4) && (is_word (fits_in CARD_NOTE_MAX) (column v 5) && (is_signed is_any_number (column v 6) && is_number UNITS_MAX (column v 7)))))))
+has_card v = is_word is_gtin (column v 0) && (is_word is_lot_text (column v 1) && (is_count ACTS_MAX (column v 2) && (is_signed is_business_day (column v 3) && (is_word is_card_kind (column v 4) && (is_word (fits_in CARD_NOTE_MAX) (column v 5) && (is_signed is_card_units (column v 6) && is_number UNITS_MAX (column v 7)))))))
 
 abbrev pub card_read : Row → CardRow
 card_read v = record { lot = record { gtin = bytes (column v 0); lot = bytes (column v 1) }; act = number_in (column v 2); day = signed_in (column v 3); kind = card_kind_in (column v 4); note = bytes (column v 5); qty = signed_in (column v 6); rest = number_in (column v 7) }
@@ -501,7 +501,7 @@ card_cells s = Text s.lot.gtin ∷ Text s.lot.lot ∷ Int (pos s.act) ∷ Int s.
 
 -- whether the row reads as a typed one
 abbrev pub is_repeat : Row → Bool
-is_repeat r = is_word (fits_in KEY_TEXT_MAX) (column r 1) && (is_number ACTS_MAX (column r 2) && (is_word is_any (column r 3) && is_word (fits_in SHORT_MAX) (column r 4)))
+is_repeat r = is_word (fits_in KEY_TEXT_MAX) (column r 1) && (is_count ACTS_MAX (column r 2) && (is_word is_any (column r 3) && is_word (fits_in SHORT_MAX) (column r 4)))
 
 -- what it reads as
 abbrev pub repeat_in : Row → RepeatRow
@@ -509,7 +509,7 @@ repeat_in r = record { k = bytes (column r 1); act = number_in (column r 2); spe
 
 -- the same of its columns in their order, as a statement answers them
 abbrev pub has_repeat : Row → Bool
-has_repeat v = is_word (fits_in KEY_TEXT_MAX) (column v 0) && (is_number ACTS_MAX (column v 1) && (is_word is_any (column v 2) && is_word (fits_in SHORT_MAX) (column v 3)))
+has_repeat v = is_word (fits_in KEY_TEXT_MAX) (column v 0) && (is_count ACTS_MAX (column v 1) && (is_word is_any (column v 2) && is_word (fits_in SHORT_MAX) (column v 3)))
 
 abbrev pub repeat_read : Row → RepeatRow
 repeat_read v = record { k = bytes (column v 0); act = number_in (column v 1); spell = bytes (column v 2); reply = bytes (column v 3) }

@@ -8,17 +8,17 @@ ghost use Rattle.values.specs.Values.{is_gtin, is_lot_text, is_name, is_title};
 ghost use Rattle.label.specs.Days.{is_day, is_business_day};
 ghost use Rattle.commands.specs.declared.limits.TheConstants.{CARD_NOTE_MAX, KEY_TEXT_MAX, LEAST_DAYS_MAX, SHORT_MAX};
 ghost use Rattle.commands.specs.Words.{bin_kind_word, order_state_word, card_kind_word};
-ghost use Rattle.table_words.specs.Cells.{is_word, fits_in, is_any, is_number, is_the_number, is_the_text, number_in, is_signed, signed_in, is_any_number, flag_number, flag_in, is_bin_kind, bin_kind_in, is_order_state, order_state_in, is_card_kind, card_kind_in};
+ghost use Rattle.table_words.specs.Cells.{is_word, fits_in, is_any, is_number, is_count, is_the_number, is_the_text, number_in, is_signed, signed_in, is_any_number, is_card_units as is_card_units_lem, is_expiry as is_expiry_lem, flag_number, flag_in, is_bin_kind, bin_kind_in, is_order_state, order_state_in, is_card_kind, card_kind_in};
 ghost use Rattle.table_words.specs.declared.error.TableFault.TheVariants.{Foreign};
 
 use crate::error::TableFault;
-use commands::limits::{CARD_NOTE_MAX, KEY_TEXT_MAX, LEAST_DAYS_MAX, SHORT_MAX};
+use commands::limits::{CARD_NOTE_MAX, KEY_TEXT_MAX, LEAST_DAYS_MAX, SHORT_MAX, UNITS_MAX};
 use commands::{BinKind, CardKind, LeastDays, Listed, OrderState, Short};
 use label::{BusinessDay, Day};
 use sqlite::Row;
 use sqlite::types::ValueRef;
 use std::alloc::Global;
-use values::{Gtin, Lot, Name, Text, Title};
+use values::{Gtin, Lot, Name, QTY_MAX, Text, Title};
 
 /// A GTIN as a column takes it.
 pub fn of_gtin(gtin: &Gtin) -> ValueRef<'_>
@@ -271,6 +271,18 @@ pub fn number_at(row: &Row, at: usize, limit: u64) -> Result<u64, TableFault>
     Ok(n as u64)
 }
 
+/// The number from 1 to the limit in a column, or `Foreign`.
+pub fn count_at(row: &Row, at: usize, limit: u64) -> Result<u64, TableFault>
+    ensures ok { IfOk result (λ x. IsTrue (is_count limit (column row.now at)) × (number_in (column row.now at) ≡ x)) }
+    ensures foreign { IfErr result (λ e. is_count limit (column row.now at) ≡ false) }
+{
+    let n = integer_at(row, at)?;
+    if n < 1 || n as u64 > limit {
+        return Err(TableFault::Foreign);
+    }
+    Ok(n as u64)
+}
+
 /// The least remaining days in a column, or `Foreign`.
 pub fn least_days_at(row: &Row, at: usize) -> Result<LeastDays, TableFault>
     ensures ok { IfOk result (λ x. IsTrue (is_number LEAST_DAYS_MAX (column row.now at)) × (number_in (column row.now at) ≡ x)) }
@@ -282,16 +294,33 @@ pub fn least_days_at(row: &Row, at: usize) -> Result<LeastDays, TableFault>
     }
 }
 
-/// The number in a column, below 0 or not, or `Foreign`.
-pub fn signed_at(row: &Row, at: usize) -> Result<i64, TableFault>
-    ensures ok { IfOk result (λ x. IsTrue (is_signed is_any_number (column row.now at)) × (signed_in (column row.now at) ≡ x)) }
-    ensures foreign { IfErr result (λ e. is_signed is_any_number (column row.now at) ≡ false) }
+/// Whether a card line may have that many units: up to 1,000,000 that come, up to 10,000,000,000 that go, and not none.
+pub fn is_card_units(units: i64) -> bool
+    ensures { result ≡ is_card_units_lem units }
 {
-    integer_at(row, at)
+    let limit = if units < 0 {
+        UNITS_MAX
+    } else {
+        u64::from(QTY_MAX)
+    };
+    let size = units.unsigned_abs();
+    1 <= size && size <= limit
+}
+
+/// The units of a card line in a column, below 0 where they went, or `Foreign`.
+pub fn card_units_at(row: &Row, at: usize) -> Result<i64, TableFault>
+    ensures ok { IfOk result (λ x. IsTrue (is_signed is_card_units_lem (column row.now at)) × (signed_in (column row.now at) ≡ x)) }
+    ensures foreign { IfErr result (λ e. is_signed is_card_units_lem (column row.now at) ≡ false) }
+{
+    let n = integer_at(row, at)?;
+    if !is_card_units(n) {
+        return Err(TableFault::Foreign);
+    }
+    Ok(n)
 }
 
 /// The day in a column, or `Foreign`.
-pub fn day_at(row: &Row, at: usize) -> Result<Day, TableFault>
+fn day_at(row: &Row, at: usize) -> Result<Day, TableFault>
     ensures ok { IfOk result (λ x. IsTrue (is_signed is_day (column row.now at)) × (signed_in (column row.now at) ≡ x)) }
     ensures foreign { IfErr result (λ e. is_signed is_day (column row.now at) ≡ false) }
 {
@@ -299,6 +328,25 @@ pub fn day_at(row: &Row, at: usize) -> Result<Day, TableFault>
         Some(day) => Ok(day),
         None => Err(TableFault::Foreign),
     }
+}
+
+/// Whether the day may be the expiry of a lot: none is before 2000-01-01.
+pub fn is_expiry(day: Day) -> bool
+    ensures { result ≡ is_expiry_lem day }
+{
+    10_957 <= day.number()
+}
+
+/// The expiry of a lot in a column, or `Foreign`.
+pub fn expiry_at(row: &Row, at: usize) -> Result<Day, TableFault>
+    ensures ok { IfOk result (λ x. IsTrue (is_signed is_expiry_lem (column row.now at)) × (signed_in (column row.now at) ≡ x)) }
+    ensures foreign { IfErr result (λ e. is_signed is_expiry_lem (column row.now at) ≡ false) }
+{
+    let day = day_at(row, at)?;
+    if !is_expiry(day) {
+        return Err(TableFault::Foreign);
+    }
+    Ok(day)
 }
 
 /// The business day in a column, or `Foreign`.

@@ -127,9 +127,18 @@ pub same_fillers : (older : OlderBooks) (old new : Trees) → KeepsOlderRows old
 same_fillers First old new kept are = subst (AllByRecursion (λ r. is_item r ≡ true)) (sym kept.1.0) are
 same_fillers Second old new kept are = tt
 
+pub same_read : (older : OlderBooks) (old new : Trees) → KeepsOlderRows older old new → AreFillersTyped older new → AreFillersTyped older old
+same_read First old new kept are = subst (AllByRecursion (λ r. is_item r ≡ true)) kept.1.0 are
+same_read Second old new kept are = tt
+
 -- what is wanted of all is wanted of those that a test lets through
 pub all_stored : (rows : List Row) → AllByRecursion (λ r. is_item r ≡ true) rows → AllByRecursion (λ r. is_item r ≡ true) (filter (λ r. true) rows)
 all_stored rows all = all-filter (λ r. is_item r ≡ true) (λ r. true) rows all
+
+-- and what is so of all that a test lets through that lets all through
+pub all_read : (rows : List Row) → AllByRecursion (λ r. is_item r ≡ true) (filter (λ r. true) rows) → AllByRecursion (λ r. is_item r ≡ true) rows
+all_read [] all = tt
+all_read (r ∷ rows) all = (all.0, all_read rows all.1)
 
 -- ---- the tables as they read
 
@@ -189,13 +198,17 @@ asked_rows (i ∷ items) g = elim (cases_Bool (bytes_eq g i.gtin)) [
 filled_least : (t : Tables) (trees : Trees) (rows : List LeastRow) → t.item ≡ (tables_in trees).item → AsksNone trees rows → ((g : List ℕ) → t.least g ≡ None) → each_written with_least_row rows t ≡ with_least t
 filled_least t trees rows items asks none =
     let each : (g : List ℕ) → looked rows g (t.least g) ≡ asking_none (t.item g) = λ g.
-    ap (looked rows g) (none g) ∙ ap (λ l. looked l g None) asks.2 ∙ looked_rows asks.0 g None ∙ sym (asked_rows asks.0 g) ∙ ap asking_none (asks.1.found g refl ∙ sym (ap (λ f. f g) items)) in
+    ap (looked rows g) (none g) ∙ ap (λ l. looked l g None) asks.3 ∙ looked_rows asks.1 g None ∙ sym (asked_rows asks.1 g) ∙ ap asking_none (asks.2.found g refl ∙ sym (ap (λ f. f g) items)) in
     least_written rows t ∙ (λ j. record t { least = λ g. each g j })
 
 -- so with the rows that are added they are the newest tables
 filled_older : (older : OlderBooks) (trees : Trees) (rows : List LeastRow) → Fills older trees rows → each_written with_least_row rows (older_tables_in older trees) ≡ as_brought older (older_tables_in older trees)
 filled_older First trees rows fills = filled_least (older_tables_in First trees) trees rows refl fills (λ g. refl)
 filled_older Second trees rows fills = ap (λ l. each_written with_least_row l (older_tables_in Second trees)) fills
+
+fillers_typed : (older : OlderBooks) (trees : Trees) (rows : List LeastRow) → Fills older trees rows → AreFillersTyped older trees
+fillers_typed First trees rows fills = fills.0
+fillers_typed Second trees rows fills = tt
 
 -- ---- what is written
 
@@ -218,6 +231,7 @@ pub written : (older : OlderBooks) (base : Trees) (old mid new : State) (row : M
 written older base old mid new row rows room has fills raised typed added = record {
   ready = added.ready;
   brought = record {
+    read = same_read older base old.now.trees room.kept (fillers_typed older old.now.trees rows fills);
     tables = added.tables ∙ ap (each_written with_least_row rows) (raised.tables ∙ seen_older older old.now.trees row room.empty has.found) ∙ filled_older older old.now.trees rows fills
         ∙ ap (as_brought older) (older_same older base old.now.trees room.kept);
     typed = λ are. added.typed (typed (typed_before older old.now.trees room.empty (older_typed_same base old.now.trees older room.kept are)));
@@ -244,6 +258,7 @@ filled older base mid new it made indexes = record {
   written = record {
     ready = made.ready;
     brought = record {
+      read = it.brought.read;
       tables = tables_same mid.now.trees new.now.trees made.rows ∙ it.brought.tables;
       typed = λ are. typed_same mid.now.trees new.now.trees made.rows (it.brought.typed are);
     };

@@ -23,7 +23,7 @@ use Rattle.table_words.proofs.StepLemmas.{front}
 use Rattle.tables.specs.Bringing.{IsOlderReady}
 use Rattle.tables.specs.Orderly.{IsInOrder}
 use Rattle.tables.specs.Older.{IsOlderSchema}
-use Rattle.tables.specs.Opening.{HasSchema, IsReadyAs, TellTables, IsClosed}
+use Rattle.tables.specs.Opening.{HasSchema, IsReadyAs, Tells, TellTables, IsClosed}
 use Rattle.tables.specs.declared.opening.Found.{Found}
 use Rattle.tables.specs.declared.opening.Found.TheVariants.{Newest, Older}
 use Rattle.tables.specs.declared.older.OlderBooks.{OlderBooks}
@@ -104,3 +104,7 @@ ready_tells db ready schema sound = record {
   apart = ready.has.apart;
   harmless = ready.has.harmless;
 }
+
+-- and so do those of older books
+pub older_tells : (older : OlderBooks) (db : Database) → IsOlderReady older db → Tells (Older older) db.trees
+older_tells older db ready schema sound = subst (IsOlderSchema older) (lists_once (db.trees catalog_tree) db.schema schema ready.sound.lists sound.lists) ready.has

@@ -78,17 +78,18 @@ pub record HasRoom (older : OlderBooks) (base : Trees) (s : State) : Type 0 wher
 abbrev pub row_of : ItemRow → LeastRow
 row_of i = record { gtin = i.gtin; days = 0 }
 
--- these are such rows, one for each item
+-- these are such rows, one for each item, and each item that is stored reads as a typed one
 abbrev pub AsksNone : Trees → List LeastRow → Type 0
-AsksNone trees rows = (items : List ItemRow) × AreRows {K = ItemKey} same_item item_key (λ key. true) (tables_in trees).item items × (rows ≡ map row_of items)
+AsksNone trees rows = AreItemsTyped trees × (items : List ItemRow) × AreRows {K = ItemKey} same_item item_key (λ key. true) (tables_in trees).item items × (rows ≡ map row_of items)
 
 -- the rows of `least` that are added: from schema 1 those, else none
 abbrev pub Fills : OlderBooks → Trees → List LeastRow → Type 0
 Fills First trees rows = AsksNone trees rows
 Fills Second trees rows = rows ≡ []
 
--- the trees have the newest tables, which come of those of these books
+-- the trees have the newest tables, which come of those of these books; what was read of these reads as typed rows
 pub record IsBrought (older : OlderBooks) (base trees : Trees) : Type 0 where
+  pub read : AreFillersTyped older base
   pub tables : tables_in trees ≡ as_brought older (older_tables_in older base)
   pub typed : AreOlderTyped older base → AreTyped trees
 

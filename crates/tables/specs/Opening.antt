@@ -70,9 +70,13 @@ pub record IsLeftAs (found : Found) (old : Trees) (new : State) : Type 0 where
   pub rows : KeepsRowsAs found old new.now.trees
   pub settled : new.committed ≡ new.now
 
--- whichever schema these trees keep the rules of has the tables of the books
+-- whichever schema these trees keep the rules of is that of these books
+abbrev pub Tells : Found → Trees → Type 0
+Tells found trees = (schema : Schema) → IsSound schema trees → HasSchema found schema
+
+-- or has the newest tables
 abbrev pub TellTables : Trees → Type 0
-TellTables trees = (schema : Schema) → IsSound schema trees → HasTables schema
+TellTables trees = Tells Newest trees
 
 module _ {S : Type 0} (g : Ghosts S) (old : Held S) where
   -- the store of the connection, which still has the tables of the last commit; a crash leaves nothing new

@@ -1,5 +1,5 @@
-//! Rows with a value outside those of a column, which no act leaves: for each column of each table one. No whole number is
-//! outside `cards.qty`, and no text outside `repeats.spell`.
+//! Rows with a value outside those of a column, which no act leaves: for each column of each table one at least. No text is
+//! outside `repeats.spell`.
 
 use crate::disk::{Work, opened};
 use crate::exchange::{parted, text_asked};
@@ -31,40 +31,52 @@ UPDATE bins SET kind = 'RETURNS' WHERE name = 'A-01' => POST /moves {"key":"N-1"
 INSERT INTO lots VALUES ('9506000134352', 'L1', 20634, 6, 0) => POST /days {"key":"N-1","day":"2026-05-06"}
 INSERT INTO lots VALUES ('09506000134352', 'L 1', 20634, 6, 0) => GET /stock/09506000134352
 UPDATE lots SET expiry = 102268 WHERE lot = 'L1' => GET /stock/09506000134352
-UPDATE lots SET came = -1 WHERE lot = 'L1' => GET /cards/09506000134352/L1
+UPDATE lots SET expiry = 10956 WHERE lot = 'L1' => GET /cards/09506000134352/L1
+UPDATE lots SET came = 0 WHERE lot = 'L1' => GET /cards/09506000134352/L1
 UPDATE lots SET held = 2 WHERE lot = 'L1' => POST /holds {"key":"N-1","gtin":"09506000134352","lot":"L1"}
 INSERT INTO recalls VALUES ('09506000134352', '', 13) => GET /stock/09506000134352
 UPDATE recalls SET act = 1000000000001 WHERE lot = 'L2' => GET /notices/09506000134352/L2
+UPDATE recalls SET act = 0 WHERE lot = 'L2' => GET /notices/09506000134352/L2
 INSERT INTO stock VALUES ('09506000134352', 'L12345678901234567890', 'A-01', 10) => GET /stock/09506000134352
 UPDATE stock SET bin = 'A_01' WHERE lot = 'L1' => GET /stock/09506000134352
 UPDATE stock SET qty = 10000000001 WHERE lot = 'L1' => GET /picklists/S-1
+UPDATE stock SET qty = 0 WHERE lot = 'L1' => GET /stock/09506000134352
 INSERT INTO orders VALUES ('S 1', 8, 'Corner Shop', 'OPEN') => GET /shortages/09506000134352
-UPDATE orders SET act = -1 WHERE ord = 'S-1' => GET /orders/S-1
+UPDATE orders SET act = 0 WHERE ord = 'S-1' => GET /orders/S-1
 UPDATE orders SET customer = '' WHERE ord = 'S-1' => GET /picklists/S-1
 UPDATE orders SET state = 'open' WHERE ord = 'S-1' => GET /orders/S-1
-UPDATE urgents SET act = -1 WHERE ord = 'S-3' => GET /orders/S-3
+UPDATE urgents SET act = 0 WHERE ord = 'S-3' => GET /orders/S-3
 INSERT INTO lines VALUES ('S-1', '095060001343520', 12, 0) => GET /orders/S-1
-UPDATE lines SET ordered = 10000000001 WHERE ord = 'S-1' => GET /shortages/09506000134352
+UPDATE lines SET ordered = 1000001 WHERE ord = 'S-1' => GET /shortages/09506000134352
+UPDATE lines SET ordered = 0 WHERE ord = 'S-1' => GET /orders/S-1
 UPDATE lines SET shipped = -1 WHERE ord = 'S-1' => POST /shipments {"key":"N-1","order":"S-1"}
+UPDATE lines SET shipped = 1000001 WHERE ord = 'S-1' => GET /picklists/S-1
 INSERT INTO staged VALUES ('S_1', '09506000134352', 'L1', 1) => GET /stock/09506000134352
 INSERT INTO staged VALUES ('S-1', '', 'L1', 1) => POST /days {"key":"N-1","day":"2026-05-06"}
 INSERT INTO staged VALUES ('S-1', '09506000134352', 'L#1', 1) => GET /orders/S-1
-UPDATE staged SET qty = -1 WHERE ord = 'S-1' => POST /unpicks {"key":"N-1","order":"S-1","gtin":"09506000134352","lot":"L0","bin":"A-01","qty":1}
+UPDATE staged SET qty = 0 WHERE ord = 'S-1' => POST /unpicks {"key":"N-1","order":"S-1","gtin":"09506000134352","lot":"L0","bin":"A-01","qty":1}
+UPDATE staged SET qty = 1000001 WHERE ord = 'S-1' => GET /stock/09506000134352
 INSERT INTO reserved VALUES ('', '09506000134352', 'L1', 1) => GET /stock/09506000134352
 INSERT INTO reserved VALUES ('S-2', '09506000134353', 'L1', 1) => GET /orders/S-2
 INSERT INTO reserved VALUES ('S-1', '09506000134352', 'L 1', 1) => GET /orders/S-1
-UPDATE reserved SET qty = 10000000001 WHERE ord = 'S-1' => POST /picks {"key":"N-1","order":"S-1","gtin":"09506000134352","lot":"L1","bin":"A-01","qty":1}
-INSERT INTO shiplines VALUES (1, '09506000134352', 'L2', 1); INSERT INTO shipments VALUES (1, -1, 20577, 'S-1') => GET /notices/09506000134352/L2
+UPDATE reserved SET qty = 1000001 WHERE ord = 'S-1' => POST /picks {"key":"N-1","order":"S-1","gtin":"09506000134352","lot":"L1","bin":"A-01","qty":1}
+UPDATE reserved SET qty = 0 WHERE ord = 'S-1' => GET /orders/S-1
+INSERT INTO shiplines VALUES (1, '09506000134352', 'L2', 1); INSERT INTO shipments VALUES (1, 0, 20577, 'S-1') => GET /notices/09506000134352/L2
 INSERT INTO shiplines VALUES (1, '09506000134352', 'L2', 1); INSERT INTO shipments VALUES (1, 11, 84006, 'S-1') => GET /notices/09506000134352/L2
 INSERT INTO shiplines VALUES (1, '09506000134352', 'L2', 1); INSERT INTO shipments VALUES (1, 11, 20577, 's-1') => GET /notices/09506000134352/L2
 INSERT INTO shiplines VALUES (1000000000001, '09506000134352', 'L2', 1) => GET /notices/09506000134352/L2
-INSERT INTO shiplines VALUES (1, '09506000134352', 'L2', 10000000001); INSERT INTO shipments VALUES (1, 11, 20577, 'S-1') => GET /notices/09506000134352/L2
+INSERT INTO shiplines VALUES (1, '09506000134352', 'L2', 1000001); INSERT INTO shipments VALUES (1, 11, 20577, 'S-1') => GET /notices/09506000134352/L2
+INSERT INTO shiplines VALUES (1, '09506000134352', 'L2', 0); INSERT INTO shipments VALUES (1, 11, 20577, 'S-1') => GET /notices/09506000134352/L2
 UPDATE cards SET act = 1000000000001 WHERE lot = 'L1' => GET /cards/09506000134352/L1
+UPDATE cards SET act = 0 WHERE lot = 'L1' => GET /cards/09506000134352/L1
 UPDATE cards SET day = 10956 WHERE lot = 'L1' => GET /cards/09506000134352/L1
 UPDATE cards SET kind = 'MOVE' WHERE lot = 'L1' => GET /cards/09506000134352/L1
 UPDATE cards SET note = '123456789012345678901234567' WHERE lot = 'L1' => GET /cards/09506000134352/L1
+UPDATE cards SET qty = 0 WHERE lot = 'L1' => GET /cards/09506000134352/L1
+UPDATE cards SET qty = 1000001 WHERE lot = 'L1' => GET /cards/09506000134352/L1
+UPDATE cards SET qty = -10000000001 WHERE lot = 'L1' => GET /cards/09506000134352/L1
 UPDATE cards SET rest = -1 WHERE lot = 'L1' => GET /cards/09506000134352/L1
-UPDATE repeats SET act = -1 WHERE k = 'K/K-1' => POST /items {"key":"K-1","gtin":"09506000134352","name":"Oat drink"}
+UPDATE repeats SET act = 0 WHERE k = 'K/K-1' => POST /items {"key":"K-1","gtin":"09506000134352","name":"Oat drink"}
 UPDATE repeats SET reply = '1234567890123456789012345678901234567890123456789012345678901234567890123456789012345678901234567' WHERE k = 'K/K-1' => POST /items {"key":"K-1","gtin":"09506000134352","name":"Oat drink"}"#;
 
 // SQL that makes such a row where no request seeks it, and a request that seeks its neighbours.
@@ -73,7 +85,7 @@ static UNSEEN: &str =
 INSERT INTO stock VALUES ('', 'L1', 'A-01', 10) => GET /stock/09506000134352
 INSERT INTO urgents VALUES ('S_3', 19) => GET /orders/S-3
 INSERT INTO lines VALUES ('s-2', '09506000134352', 12, 0) => GET /orders/S-2
-INSERT INTO shipments VALUES (-1, 11, 20577, 'S-1') => GET /notices/09506000134352/L2
+INSERT INTO shipments VALUES (0, 11, 20577, 'S-1') => GET /notices/09506000134352/L2
 INSERT INTO shiplines VALUES (1, '0950600013435', 'L2', 1) => GET /notices/09506000134352/L2
 INSERT INTO shiplines VALUES (1, '09506000134352', 'L 2', 1) => GET /notices/09506000134352/L2
 INSERT INTO cards VALUES ('', 'L1', 6, 20577, 'RECEIPT', 'D-1/1', 10, 10) => GET /cards/09506000134352/L1

@@ -16,7 +16,7 @@ use Rattle.machine.specs.Standing.{Placed, orders, order_named, has_lot, has_ord
 use Rattle.machine.specs.Ledger.{postings}
 use Rattle.machine.specs.Planning.{is_open, is_open_state, is_shipped_in_full, order_state, shipped_of, staged_for_order}
 use Rattle.machine.specs.Once.{IsHistory}
-use Rattle.machine.specs.Tables.{tables_of, order_row, line_row, staged_row}
+use Rattle.machine.specs.Tables.{tables_of, if_any, order_row, line_row, staged_row}
 use Rattle.machine.specs.Touched.{is_touched}
 use Rattle.machine.specs.KeyedRows.{AreRows, AreOwn, OrderLot, same_share}
 use Rattle.rules.specs.Slices.{IsSlice, picks, names_order}
@@ -28,7 +28,7 @@ use Rattle.machine.proofs.Apart.{any_found}
 use Rattle.machine.proofs.histories.Cells.{Cells, without, holds_split}
 use Rattle.machine.proofs.histories.LegalHistories.{legal_history}
 use Rattle.machine.proofs.histories.Orders.{found_order}
-use Rattle.machine.proofs.histories.KnownPlaces.{KnownPlace, unknown_holds_nothing}
+use Rattle.machine.proofs.histories.KnownPlaces.{KnownPlace, unknown_holds_nothing, unknown_line_is_unstaged}
 use Rattle.machine.proofs.histories.PlaceRows.{stage_cells, staged_holds}
 use Rattle.rules.proofs.rows.SliceTells.{some_mapped}
 use Rattle.rules.proofs.rows.SliceDemands.{staged_touched}
@@ -77,7 +77,7 @@ module _ (first : ℤ) (acts : List Act) (act : Act) (s : Slice) (slice : IsSlic
   abbrev stage : Cells
   stage p l = is_stage o p && any_lot l
 
-  staged_are : AreRows same_share (λ r. (r.order, r.lot)) (λ (k : OrderLot). is_touched first act acts k.1.gtin) (λ (k : OrderLot). is_touched first act acts k.1.gtin) (λ k. staged_row first acts k.0 k.1) s.rows.staged
+  staged_are : AreRows same_share (λ r. (r.order, r.lot)) (λ (k : OrderLot). is_touched first act acts k.1.gtin) (λ (k : OrderLot). true) (λ k. staged_row first acts k.0 k.1) s.rows.staged
   staged_are = staged_touched first acts act s slice whole
 
   inside : (p : Place) (l : LotId) → stage_cells pick p l ≡ true → stage p l ≡ true
@@ -103,14 +103,27 @@ module _ (first : ℤ) (acts : List Act) (act : Act) (s : Slice) (slice : IsSlic
   missed (InBin b) l k h = refl
   missed (Shipped n q) l k h = refl
 
-  all_touched : (rows : List StagedRow) → AreOwn {K = OrderLot} (λ (r : StagedRow). (r.order, r.lot)) (λ k. is_touched first act acts k.1.gtin) (λ k. staged_row first acts k.0 k.1) rows
+  -- a row of the order is of an item of which it has a line
+  row_touched : (r : StagedRow) → staged_row first acts r.order r.lot ≡ Some r → same_text o r.order ≡ true → is_touched first act acts r.lot.gtin ≡ true
+  row_touched r is e = elim (has_line acts o r.lot.gtin) as (λ b. has_line acts o r.lot.gtin ≡ b → is_touched first act acts r.lot.gtin ≡ true) [
+    | true ↦ touched r.lot.gtin
+    | false ↦ λ none.
+        let unstaged : staged_row first acts r.order r.lot ≡ None =
+        ap (λ (x : List ℕ). staged_row first acts x r.lot) (sym (same_text_is o r.order e))
+        ∙ ap (λ q. if_any q (record { order = o; lot = r.lot; qty = q })) (unknown_line_is_unstaged first acts history o r.lot none) in
+        absurd (let clash : None ≡ Some r = sym unstaged ∙ is in cc)
+  ] refl
+
+  row_picked : (r : StagedRow) → staged_row first acts r.order r.lot ≡ Some r → pick r.lot r.order ≡ same_text o r.order
+  row_picked r is = elim (same_text o r.order) as (λ b. same_text o r.order ≡ b → b && is_touched first act acts r.lot.gtin ≡ b) [
+    | true ↦ λ e. row_touched r is e
+    | false ↦ λ e. refl
+  ] refl
+
+  all_touched : (rows : List StagedRow) → AreOwn {K = OrderLot} (λ (r : StagedRow). (r.order, r.lot)) (λ k. true) (λ k. staged_row first acts k.0 k.1) rows
       → total (λ (r : StagedRow). if pick r.lot r.order then r.qty else 0) rows ≡ staged_for o rows
   all_touched [] h = refl
-  all_touched (r ∷ rs) h = λ i. (if (ap (λ b. same_text o r.order && b) h.0 ∙ kept (same_text o r.order)) i then r.qty else 0) + all_touched rs h.2 i
-    where
-      kept : (a : Bool) → a && true ≡ a
-      kept true = refl
-      kept false = refl
+  all_touched (r ∷ rs) h = λ i. (if row_picked r h.1 i then r.qty else 0) + all_touched rs h.2 i
 
   -- the staged rows of the order add up to what is staged for it
   pub staged_rows_told : staged_for o s.rows.staged ≡ staged_for_order first acts o

@@ -22,12 +22,12 @@ use Rattle.rules.proofs.rows.AfterRows.{loosened}
 use Rattle.rules.proofs.rows.DemandsTold.{TellsDemands}
 use Rattle.rules.proofs.rows.Planned.{no_pick}
 
--- The staged rows of a slice are those of the items that the command touches
+-- The staged rows of a slice tell what is staged of the items that the command touches
 module _ (first : ℤ) (acts : List Act) (act : Act) (s : Slice) (slice : IsSlice first act acts (tables_of first acts) s) (whole : not (picks act.command) ≡ true) where
-  pub staged_touched : AreRows same_share (λ (r : StagedRow). (r.order, r.lot)) (λ (k : OrderLot). is_touched first act acts k.1.gtin) (λ (k : OrderLot). is_touched first act acts k.1.gtin) (λ k. staged_row first acts k.0 k.1) s.rows.staged
+  pub staged_touched : AreRows same_share (λ (r : StagedRow). (r.order, r.lot)) (λ (k : OrderLot). is_touched first act acts k.1.gtin) (λ (k : OrderLot). true) (λ k. staged_row first acts k.0 k.1) s.rows.staged
   unfolding tables_of
-  staged_touched = loosened same_share (λ (r : StagedRow). (r.order, r.lot)) _ (λ k. is_touched first act acts k.1.gtin) _ (λ k. is_touched first act acts k.1.gtin) (λ k. staged_row first acts k.0 k.1) (λ k. staged_row first acts k.0 k.1) s.rows.staged
-      (λ k e i. or_first (not (picks act.command)) (names_order act.command k.0 && names_lot act.command k.1) whole i && e i) (λ k e. e) (λ k. refl) slice.staged
+  staged_touched = loosened same_share (λ (r : StagedRow). (r.order, r.lot)) _ (λ k. is_touched first act acts k.1.gtin) _ (λ k. true) (λ k. staged_row first acts k.0 k.1) (λ k. staged_row first acts k.0 k.1) s.rows.staged
+      (λ k e i. or_first (not (picks act.command)) (names_order act.command k.0 && names_lot act.command k.1) whole i && e i) (λ k e. refl) (λ k. refl) slice.staged
 
 -- and of each of these items
 module _ (first : ℤ) (acts : List Act) (act : Act) (s : Slice) (slice : IsSlice first act acts (tables_of first acts) s) (g : List ℕ) (touched : is_touched first act acts g ≡ true) where

@@ -288,7 +288,7 @@ module _ (first : ℤ) (acts : List Act) (act : Act) (s : Slice) (slice : IsSlic
     | false ↦ λ t. ap (λ n. if_any n (record { order = k.0; lot = k.1; qty = n })) (sym (staged_still first acts act gone made next k.0 k.1 t))
   ] refl
 
-  pub all_staged_are : AreRows same_share (λ (r : StagedRow). (r.order, r.lot)) (λ (k : OrderLot). is_touched first act acts k.1.gtin) (λ (k : OrderLot). is_touched first act acts k.1.gtin) (λ k. staged_row first acts k.0 k.1) s.rows.staged
+  pub all_staged_are : AreRows same_share (λ (r : StagedRow). (r.order, r.lot)) (λ (k : OrderLot). is_touched first act acts k.1.gtin) (λ (k : OrderLot). true) (λ k. staged_row first acts k.0 k.1) s.rows.staged
   all_staged_are = staged_touched first acts act s slice (no_pick act.command says.planned)
 
   pub staged_at : (o : List ℕ) (m : LotId) → changed (λ (r : StagedRow). same_text o r.order && is_lot m r.lot) [] (staged_gone_on s day least) (staged_row first acts o m) ≡ staged_row first after o m

@@ -58,7 +58,7 @@ module _ (first : ℤ) (acts : List Act) (act : Act) (s : Slice) (slice : IsSlic
   unfolding tables_of
   stock_are = slice.stock
 
-  staged_are : AreRows same_share (λ r. (r.order, r.lot)) (λ (k : OrderLot). is_touched first act acts k.1.gtin) (λ (k : OrderLot). is_touched first act acts k.1.gtin) (λ k. staged_row first acts k.0 k.1) s.rows.staged
+  staged_are : AreRows same_share (λ r. (r.order, r.lot)) (λ (k : OrderLot). is_touched first act acts k.1.gtin) (λ (k : OrderLot). true) (λ k. staged_row first acts k.0 k.1) s.rows.staged
   staged_are = staged_touched first acts act s slice (no_pick act.command planned)
 
   -- an item's units in the house are those of its stock rows and its staged rows

@@ -1,6 +1,6 @@
 -- The rows that the shipping of an order puts and drops: its staged rows, its lines and its own row.
 use Rattle.std.proofs.Common.{◌≡◌, ℕ, ◌+◌, ◌<◌, Bool, true, false, ◌&&◌, List, [], ◌∷◌, refl, ap, sym, subst, ◌∙◌, arith}
-use Rattle.std.specs.Prelude.{if◌then◌else◌, length, find, Option, Some, None, option_map, is_some, ℤ}
+use Rattle.std.specs.Prelude.{◌||◌, if◌then◌else◌, length, find, Option, Some, None, option_map, is_some, ℤ}
 use Rattle.std.specs.List.{list_any}
 use Rattle.std.proofs.lemmas.Bool.Decides.{nat_tests}
 use Rattle.values.specs.Values.{same_text}
@@ -20,7 +20,7 @@ use Rattle.machine.specs.Once.{IsHistory}
 use Rattle.machine.specs.Tables.{tables_of, meta_row, if_any, line_row, staged_row}
 use Rattle.machine.specs.Touched.{is_touched}
 use Rattle.machine.specs.KeyedRows.{AreRows, OrderLot, same_share}
-use Rattle.rules.specs.Slices.{IsSlice, changed, unless_put}
+use Rattle.rules.specs.Slices.{IsSlice, names_order, changed, unless_put}
 use Rattle.row_rules.specs.Seen.{capped, number_seen}
 use Rattle.row_rules.specs.Plans.{staged_seen}
 use Rattle.row_rules.specs.SeenOrders.{lines_seen}
@@ -93,7 +93,7 @@ module _ (first : ℤ) (acts : List Act) (key : Key) (o : List ℕ) (s : Slice) 
 
   -- Staged rows
 
-  staged_are : AreRows same_share (λ (r : StagedRow). (r.order, r.lot)) (λ (k : OrderLot). is_touched first act acts k.1.gtin) (λ (k : OrderLot). is_touched first act acts k.1.gtin) (λ k. staged_row first acts k.0 k.1) s.rows.staged
+  staged_are : AreRows same_share (λ (r : StagedRow). (r.order, r.lot)) (λ (k : OrderLot). is_touched first act acts k.1.gtin) (λ (k : OrderLot). names_order act.command k.0 || is_touched first act acts k.1.gtin) (λ k. staged_row first acts k.0 k.1) s.rows.staged
   unfolding tables_of
   staged_are = slice.staged
 
@@ -115,7 +115,7 @@ module _ (first : ℤ) (acts : List Act) (key : Key) (o : List ℕ) (s : Slice) 
       by_find e None f = sym (unstaged l e)
       by_find e (Some r) f =
           let two = and_both (same_text o r.order) (is_lot l r.lot) (found_passes (staged_test l) s.rows.staged r f) in
-          let own : staged_row first acts r.order r.lot ≡ Some r = found_own (λ (r : StagedRow). (r.order, r.lot)) (λ (k : OrderLot). is_touched first act acts k.1.gtin) (λ k. staged_row first acts k.0 k.1) (staged_test l) s.rows.staged staged_are.own r f in
+          let own : staged_row first acts r.order r.lot ≡ Some r = found_own (λ (r : StagedRow). (r.order, r.lot)) (λ (k : OrderLot). names_order act.command k.0 || is_touched first act acts k.1.gtin) (λ k. staged_row first acts k.0 k.1) (staged_test l) s.rows.staged staged_are.own r f in
           sym own ∙ (λ i. staged_row first acts (sym (same_text_is o r.order two.0) i) (sym (is_lot_is l r.lot two.1) i))
 
   staged_own : (l : LotId) → (if list_any (staged_test l) (rows_shipped o s.rows.staged) then None else staged_row first acts o l) ≡ staged_row first after o l

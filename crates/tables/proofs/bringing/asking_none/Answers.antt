@@ -4,11 +4,14 @@ use Rattle.table_words.specs.Schema.{items_tree}
 use Rattle.table_words.specs.declared.error.TableFault.TheVariants.{Foreign}
 use Rattle.keyed_rows.proofs.Writing.{same_error}
 use Rattle.tables.specs.Bringing.{row_of, AreItemsTyped}
-use Rattle.tables.proofs.BringLemmas.{all_stored}
+use Rattle.tables.proofs.BringLemmas.{all_stored, all_read}
 use Rattle.tables.proofs.bringing.asking_none.Goals as goal
 
 pub returns-clause-rows : goal.returns-clause-rows
-returns-clause-rows g c clean ready = (c.in_ok-items.items.items, c.in_ok-items.ensures.finds.rows clean ready, c.in_ok-least_rows.ensures ∙ ap (map row_of) c.as_slice.ensures.value)
+returns-clause-rows g c clean ready =
+    let old = state g.S.Store c.args.tx.now.conn.now in
+    let typed = all_read (old.now.trees items_tree) (c.in_ok-items.ensures.finds.typed clean ready) in
+    (typed, c.in_ok-items.items.items, c.in_ok-items.ensures.finds.rows clean ready, c.in_ok-least_rows.ensures ∙ ap (map row_of) c.as_slice.ensures.value)
 
 pub returns-in_err-items-clause-foreign : goal.returns-in_err-items-clause-foreign
 returns-in_err-items-clause-foreign g c clean ready =
