@@ -20,6 +20,8 @@ enum Turn {
     Card(&'static str),
     /// The port is served, and a client has an item made.
     Serve,
+    /// The port is to be served, which is taken: this is told before the file is read.
+    FindTaken,
     /// No file is there.
     HasNone,
     /// The file has pages of so many bytes.
@@ -124,6 +126,18 @@ fn serves(host: &HostRuntime, rt: &impl Abort, db: &str) {
     assert!(rt; answer(rt, out).as_slice() == ITEM_MADE);
 }
 
+fn finds_taken(host: &HostRuntime, rt: &impl Abort, db: &str) {
+    let listener = TcpListener::bind(host, "127.0.0.1:0").expect(rt, "a listener");
+    let port = listener.local_addr().expect(rt, "an address").port();
+    let work = Work::Serve {
+        port,
+        max: 1,
+        log: true,
+    };
+    silent(host, rt, db, &work, "lotd: io\n");
+    drop(listener);
+}
+
 fn making(rt: &impl Abort) -> Work<'static> {
     let day = Day::parse(b"2026-05-04").and_then(BusinessDay::new);
     Work::Make(day.expect(rt, "a business day"))
@@ -166,6 +180,7 @@ fn take(host: &HostRuntime, rt: &impl Abort, db: &str, turn: Turn) {
         Turn::Make(told) => silent(host, rt, db, &making(rt), told),
         Turn::Card(told) => silent(host, rt, db, &card(rt), told),
         Turn::Serve => serves(host, rt, db),
+        Turn::FindTaken => finds_taken(host, rt, db),
         Turn::HasNone => assert!(rt; !fs::exists(host, db).expect(rt, "a folder")),
         Turn::HasPages(size) => assert!(rt; page_size(host, rt, db) == size),
         Turn::Has(held) => assert!(rt; bytes(host, rt, db).as_slice() == held),
@@ -208,6 +223,7 @@ static LAID: [&[Turn]; 3] = [
     &[Turn::PutPage, Turn::Make(""), Turn::HasPages(1024)],
     &[
         Turn::Put(b"no database"),
+        Turn::FindTaken,
         Turn::Make("lotd: store\n"),
         Turn::Has(b"no database"),
     ],

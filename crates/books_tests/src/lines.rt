@@ -6,7 +6,7 @@ use crate::serving::GoodsFiles;
 use crate::steps::Step;
 use crate::table::Table;
 use command_line::{BooksAt, Fault, Work, run};
-use service::do_work;
+use service::{do_work, listen};
 use sqlite::{Alter, Connection};
 use std::cell::Cell;
 use std::io::Write;
@@ -29,9 +29,11 @@ impl<S: Orderly + Drop> BooksAt for OverOne<'_, S> {
         out: &mut W,
         log: &mut L,
     ) -> Result<(), Fault> {
+        let listener = listen(self.host, work)?;
         match self.conn.replace(None) {
             Some(conn) => {
-                let (conn, end) = do_work(self.host, &GoodsFiles, conn, work, out, log)?;
+                let at = listener.as_ref();
+                let (conn, end) = do_work(self.host, &GoodsFiles, at, conn, work, out, log)?;
                 drop(self.conn.replace(Some(conn)));
                 end
             }

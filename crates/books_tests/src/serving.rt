@@ -4,7 +4,7 @@ use crate::disk::{run_clients, run_lines};
 use crate::opening::{business_day, new_books};
 use command_line::{Fault, Work, tell};
 use house::House;
-use service::{AfterWork, FilesAt, do_work, serve_logged, serve_on};
+use service::{AfterWork, FilesAt, do_work, listen, serve_logged, serve_on};
 use sqlite::{Alter, Connection};
 use std::alloc::Global;
 use std::cell::Cell;
@@ -145,7 +145,7 @@ const NO_HEAD: &[u8] =
 const FIVE_LOGGED: &str =
     "POST /bins 200 98\nPOST /bins 400 113\nPOST /bins 200 98\nPOST /bins 200 98\nPOST /bins 200 98\n";
 
-const ONE_LOGGED: &str = "POST /bins 200 98\n";
+const TWICE_LOGGED: &str = "POST /bins 200 98\nPOST /bins 200 98\n";
 
 const NEW_BIN: &[u8] =
     b"POST /bins HTTP/1.1\r\nContent-Length: 41\r\n\r\n{\"key\":\"K-1\",\"bin\":\"A-01\",\"kind\":\"STORE\"}";
@@ -253,28 +253,27 @@ fn silent<S: Orderly + Drop>(
 ) -> Connection<S> {
     let mut printed: Vec<u8> = Vec::new(host.alloc());
     let mut log: Vec<u8> = Vec::new(host.alloc());
-    let found = do_work(host, &GoodsFiles, conn, work, &mut printed, &mut log);
+    let listener = listen(host, work).expect(rt, "no port");
+    let at = listener.as_ref();
+    let found = do_work(host, &GoodsFiles, at, conn, work, &mut printed, &mut log);
     assert!(rt; printed.is_empty() && log.is_empty());
     ended(rt, host.alloc(), found, expected)
 }
 
-fn taken<S: Orderly + Drop>(
-    host: &HostRuntime,
-    rt: &impl Abort,
-    conn: Connection<S>,
-    port: u16,
-) -> Connection<S> {
+// A port that is taken is told before there are books.
+fn taken(host: &HostRuntime, rt: &impl Abort, port: u16) {
     let listener = TcpListener::bind(host, ("127.0.0.1", port)).expect(rt, "a listener");
     let work = Work::Serve {
         port,
         max: 1,
         log: true,
     };
-    let conn = silent(host, rt, conn, &work, "lotd: io\n");
+    let error = listen(host, &work).expect_err(rt, "a port that is taken");
+    assert!(rt; told_of(host.alloc(), Err(Fault::from(error))).as_slice() == b"lotd: io\n");
     drop(listener);
-    conn
 }
 
+// Of two clients one comes before the books are opened, and one once the port is told. Both send the same.
 fn served<S: Orderly + Drop>(
     host: &HostRuntime,
     rt: &impl Abort,
@@ -290,15 +289,19 @@ fn served<S: Orderly + Drop>(
     };
     let work = Work::Serve {
         port,
-        max: 1,
+        max: 2,
         log: true,
     };
     let mut log: Vec<u8> = Vec::new(host.alloc());
-    let found = do_work(host, &GoodsFiles, conn, &work, &mut out, &mut log);
-    assert!(rt; log.as_slice() == ONE_LOGGED.as_bytes());
+    let listener = listen(host, &work).expect(rt, "a port");
+    let at = listener.as_ref();
+    let early = sent(host, rt, at.expect(rt, "a port"), NEW_BIN);
+    let found = do_work(host, &GoodsFiles, at, conn, &work, &mut out, &mut log);
+    assert!(rt; log.as_slice() == TWICE_LOGGED.as_bytes());
     assert!(rt; !out.listens_elsewhere);
     let told = format!(in host.alloc(); "listening on 127.0.0.1:{port}\n").ok();
     assert!(rt; out.told.as_slice() == told.expect(rt, "memory").as_str().as_bytes());
+    is_answered(rt, host.alloc(), early, BIN_MADE);
     is_answered(
         rt,
         host.alloc(),
@@ -308,8 +311,8 @@ fn served<S: Orderly + Drop>(
     ended(rt, host.alloc(), found, "")
 }
 
-// A line makes books, another finds its port taken, a third serves a client, and two import files: one that is not there,
-// and one of an item that nobody took into the range.
+// A line makes books, another finds its port taken, a third serves two clients, and two import files: one that is not
+// there, and one of an item that nobody took into the range.
 pub(crate) fn lines_worked<S: Orderly + Drop>(
     host: &HostRuntime,
     rt: &impl Abort,
@@ -318,7 +321,7 @@ pub(crate) fn lines_worked<S: Orderly + Drop>(
 ) -> Connection<S> {
     let day = business_day(rt, b"2026-05-04");
     let conn = silent(host, rt, conn, &Work::Make(day), "");
-    let conn = taken(host, rt, conn, port);
+    taken(host, rt, port);
     let conn = served(host, rt, conn, port);
     let none = Work::Import { file: "none.csv" };
     let conn = silent(host, rt, conn, &none, "lotd: io\n");

@@ -1,8 +1,10 @@
 -- The rows of `repeats` in the books of a history, as they are handed over.
-use Rattle.std.proofs.Common.{◌≡◌, ℕ, true, List, [], ◌∷◌, refl, sym, subst, ap, ap₂, ◌∙◌, Option, Some, find, inl}
+use Rattle.std.proofs.Common.{◌≡◌, ℕ, Bool, true, List, [], ◌∷◌, refl, sym, subst, ap, ap₂, ◌∙◌, Option, Some, find, filter, inl, inr}
 use Rattle.std.specs.Prelude.{◌⊎◌, ℤ, Result, Ok, Err}
 use Rattle.std.specs.List.{AllByRecursion}
+use Rattle.std.proofs.lemmas.Bool.{cases_Bool}
 use Rattle.std.proofs.lemmas.Option.{same_Some}
+use Rattle.sqlite.specs.Order.{Row}
 use Rattle.sqlite.specs.State.{State, IsUnchanged, IsRolledBack}
 use Rattle.values.specs.Values.{same_text}
 use Rattle.commands.specs.declared.rows.CardRow.{CardRow}
@@ -11,6 +13,7 @@ use Rattle.commands.specs.Sinks.{Reaches, StopsWithin}
 use Rattle.machine.specs.Acts.{Act}
 use Rattle.machine.specs.Once.{IsHistory}
 use Rattle.machine.specs.Tables.{Tables, tables_of, card_row, repeat_row}
+use Rattle.table_words.specs.Cells.{typed}
 use Rattle.table_words.specs.Steps.{IsReady}
 use Rattle.table_words.specs.Typed.{tables_in, CardKey, same_card, card_key}
 use Rattle.table_words.proofs.KeyLemmas.{itself_bytes, same_bytes}
@@ -22,7 +25,9 @@ use Rattle.each_row.specs.Handed.{HandsOver, IsLeft}
 use Rattle.history_tables.specs.Cards.{cards, cards_laws}
 use Rattle.history_tables.specs.Repeats.{repeats, repeats_laws}
 use Rattle.texts.specs.Writing.{Writes}
-use Rattle.whole_tables.specs.Whole.{AreAll, typed_rows_of}
+use Rattle.whole_tables.specs.declared.halves.Half.TheVariants.{Upper}
+use Rattle.whole_tables.specs.Halves.{is_in, half_of}
+use Rattle.whole_tables.specs.Whole.{AreAll, rows_of, typed_rows_of}
 use Rattle.whole_tables.proofs.Handing.{typed_are_all}
 use Rattle.histories.specs.Text.{history_text}
 use Rattle.histories.specs.Books.{HasRowsOf}
@@ -30,8 +35,26 @@ use Rattle.histories.specs.Lines.{AddsLine, CutsLine}
 use Rattle.histories.specs.Start.{IsPassed, TellsDay}
 use Rattle.histories.specs.declared.lines.HistoryLines.{HistoryLines}
 use Rattle.histories.specs.declared.start.CardDay.{CardDay}
-use Rattle.histories.proofs.Owned.{owned, at_place}
+use Rattle.whole_tables.proofs.Owned.{owned, at_place}
 use Rattle.histories.proofs.Printed.{none_yet, all_written, some_written, cut_written}
+
+-- what holds of all typed rows holds of those among some of the rows
+typed_some : {X : Type 0} (P : X → Type 0) (is : Row → Bool) (read : Row → X) (part : Row → Bool) (rows : List Row) → AllByRecursion P (typed is read rows) → AllByRecursion P (typed is read (filter part rows))
+typed_some P is read part [] all = tt
+typed_some P is read part (r ∷ rows) all = elim (cases_Bool (is r)) [
+  | inl typed_one ↦
+      let both = rw typed_one at all in
+      elim (cases_Bool (part r)) [
+        | inl within ↦ rw (within, typed_one) (both.0, typed_some P is read part rows both.1)
+        | inr without ↦ rw without (typed_some P is read part rows both.1)
+      ]
+  | inr untyped ↦
+      let others = rw untyped at all in
+      elim (cases_Bool (part r)) [
+        | inl within ↦ rw (within, untyped) (typed_some P is read part rows others)
+        | inr without ↦ rw without (typed_some P is read part rows others)
+      ]
+]
 
 module _ (first : ℤ) (acts : List Act) (history : IsHistory first acts) (old : State) (ready : IsReady old.now) (held : HasRowsOf first acts old.now.trees) where
   abbrev pub rows : List RepeatRow
@@ -49,6 +72,10 @@ module _ (first : ℤ) (acts : List Act) (history : IsHistory first acts) (old :
 
   pub mine : AllByRecursion (λ r. repeat_row first acts r.k ≡ Some r) rows
   mine = owned same_text (λ (r : RepeatRow). r.k) itself_bytes same_bytes {row = repeat_row first acts} rows once found
+
+  -- those above a rowid are among them
+  pub mine_above : (rowid : ℤ) → AllByRecursion (λ r. repeat_row first acts r.k ≡ Some r) (typed repeats.is repeats.reads (half_of repeats Upper rowid old.now.trees))
+  mine_above rowid = typed_some (λ r. repeat_row first acts r.k ≡ Some r) repeats.is repeats.reads (is_in Upper rowid) (rows_of repeats old.now.trees) mine
 
   -- what was written, by how it ended
   pub told : {W : Type 0} (contents : W → Option (List ℕ)) (begun : ℤ) (start after : HistoryLines W) → start.done ≡ 0 → start.day ≡ begun → (r : Result Unit EachFault)

@@ -1,7 +1,7 @@
 pub mod Acts
-pub mod Owned
 pub mod Walking
 pub mod Printed
 pub mod Begun
 pub mod Kept
 pub mod Twice
+pub mod Above

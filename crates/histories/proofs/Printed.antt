@@ -33,11 +33,11 @@ begun_text begun acts newer older old new parts h =
     let more = begins begun newer older in
     subst (AppendsBeginning old new) (sym (ap (history_text begun) parts ∙ more.1)) (beginning_of_first old new (history_text begun older) more.0 h)
 
-whole_beginning : (old new : Option (List ℕ)) (text : List ℕ) → Appends old new text → AppendsBeginning old new text
+pub whole_beginning : (old new : Option (List ℕ)) (text : List ℕ) → Appends old new text → AppendsBeginning old new text
 whole_beginning old new text h = record { front = text; rest = []; parts = sym (append-nil text); written = h }
 
 -- the line of an act's row, on the day after it
-line_is : (first begun : ℤ) (act : Act) (older : List Act) (was day : ℤ) → IsHistory first (act ∷ older) → was ≡ today begun older → IsDayAfter (spelling act.command) was day → day ≡ today begun (act ∷ older)
+pub line_is : (first begun : ℤ) (act : Act) (older : List Act) (was day : ℤ) → IsHistory first (act ∷ older) → was ≡ today begun older → IsDayAfter (spelling act.command) was day → day ≡ today begun (act ∷ older)
 line_is first begun act older was day history same after = after act.command history.1.sound.command refl ∙ ap (day_after_command act.command) same
 
 module _ {W : Type 0} (contents : W → Option (List ℕ)) (first begun : ℤ) (acts : List Act) (history : IsHistory first acts) (start : HistoryLines W) where

@@ -10,4 +10,6 @@ mod spelled;
 mod start;
 
 pub use fault::HistoryFault;
-pub use printing::print_history;
+pub use line::act_text;
+pub use lines::{day_after, day_then};
+pub use printing::{print_above, print_history};

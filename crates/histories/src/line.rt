@@ -2,7 +2,7 @@
 
 ghost use Rattle.std.specs.Prelude.{◌≡◌, ◌++◌, ◌∷◌, IfOk, OnOk};
 ghost use Rattle.texts.specs.Writing.{Writes};
-ghost use Rattle.histories.specs.Text.{tabbed};
+ghost use Rattle.histories.specs.Text.{tabbed, history_line};
 ghost use Rattle.histories.specs.Lines.{row_line};
 
 use crate::HistoryFault;
@@ -21,20 +21,27 @@ pub(crate) fn put_line<W: Write>(
 ) -> Result<(), HistoryFault>
     ensures { Writes result (W.contents out.old) (W.contents out.new) (row_line day row.now) }
 {
-    let line = line_text(alloc, day, row)?;
+    let line = act_text(alloc, row.act, day, row.k.as_bytes(), row.spell.as_slice())?;
     match put(line.as_slice(), out) {
         Ok(()) => Ok(()),
         Err(_) => Err(HistoryFault::Output),
     }
 }
 
-fn line_text(alloc: Global, day: Day, row: &RepeatRow) -> Result<Vec<u8>, AllocError>
-    ensures { IfOk result (λ line. line.items ≡ row_line day row.now) }
+/// The line of an act: its number, its day, the text of its key and the spelling of its command.
+pub fn act_text(
+    alloc: Global,
+    number: u64,
+    day: Day,
+    key: &[u8],
+    spell: &[u8],
+) -> Result<Vec<u8>, AllocError>
+    ensures { IfOk result (λ line. line.items ≡ history_line number day key.now spell.now) }
 {
-    let spell = with_tabs(alloc, row.spell.as_slice())?;
-    let mut line = decimal_text(row.act).as_bytes().to_vec(alloc)?;
+    let spell = with_tabs(alloc, spell)?;
+    let mut line = decimal_text(number).as_bytes().to_vec(alloc)?;
     add_field(&mut line, &day.text())?;
-    add_field(&mut line, row.k.as_bytes())?;
+    add_field(&mut line, key)?;
     add_field(&mut line, spell.as_slice())?;
     line.push(b'\n')?;
     Ok(line)

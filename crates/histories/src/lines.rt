@@ -61,7 +61,7 @@ impl<W: Write> HistoryLines<W> {
 }
 
 /// The business day after the command that is spelled so: the day that it opens, or the day before it.
-fn day_after(alloc: Global, day: Day, spell: &[u8]) -> Result<Day, HistoryFault>
+pub fn day_after(alloc: Global, day: Day, spell: &[u8]) -> Result<Day, HistoryFault>
     ensures { IfOk result (λ after. IsDayAfter spell.now day after) }
 {
     let command = read_spelling(alloc, spell)?;
@@ -71,7 +71,8 @@ fn day_after(alloc: Global, day: Day, spell: &[u8]) -> Result<Day, HistoryFault>
     Ok(after)
 }
 
-fn day_then(command: &Command, day: Day) -> Day
+/// The business day after a command.
+pub fn day_then(command: &Command, day: Day) -> Day
     ensures { result ≡ day_after_command command.now day }
 {
     match command {

@@ -1,5 +1,5 @@
 -- What serving a port does to the books, and what a line's work does.
-use Rattle.std.specs.Prelude.{◌≡◌, ◌≢◌, ◌⊎◌, ◌↔◌, ◌≤◌, ℕ, ℤ, List, [], ◌∷◌, length, zip, Bool, true, false, Option, Result, Ok, Err, IsErr, IsErrOf, IsTrue, ◌++◌, codes}
+use Rattle.std.specs.Prelude.{◌≡◌, ◌≢◌, ◌⊎◌, ◌↔◌, ◌≤◌, ℕ, ℤ, List, [], ◌∷◌, length, zip, Bool, true, false, Option, Result, Ok, Err, IsErr, IsErrOf, IsSome, IsTrue, ◌++◌, codes}
 use Rattle.std.specs.Fmt.{decimal}
 use Rattle.std.specs.Io.KnownBytes.{Appends}
 use Rattle.sqlite_trees.specs.declared.store.Store.{Ghosts}
@@ -75,6 +75,16 @@ is_logged (Notice lot) = false
 is_logged History = false
 is_logged (Audit given) = false
 
+-- a server listens, and other work may or may not
+abbrev pub Listens : {A : Type 0} → Work → Option A → Type 0
+Listens (Make day) listener = Unit {0}
+Listens (Serve port max log) listener = IsSome listener
+Listens (Import file) listener = Unit {0}
+Listens (Card lot) listener = Unit {0}
+Listens (Notice lot) listener = Unit {0}
+Listens History listener = Unit {0}
+Listens (Audit given) listener = Unit {0}
+
 -- what the work makes of a connection, with what the log had and has
 abbrev pub IsWorked : {S : Type 0} → Ghosts S → Held S → Work → (log_old log_new : Option (List ℕ)) → Held S → Type 0
 IsWorked g old (Make day) log_old log_new new = KeepsBooks day [] (state g new) × IsTrue (state g new).is_open
@@ -96,11 +106,11 @@ IsJudged g old (Notice lot) result = IsOfNone (state g old).now.schema → IsErr
 IsJudged g old History result = IsOfNone (state g old).now.schema → IsErr result
 IsJudged g old (Audit given) result = IsOfNone (state g old).now.schema → IsErr result
 
--- what is printed once the port is listened on
+-- what is printed once the books are open and the port is answered
 abbrev pub told_port : ℕ → List ℕ
 told_port port = codes "listening on 127.0.0.1:" ++ decimal port ++ codes "\n"
 
--- the port was told and served, or it could not be had, or the output not be written
+-- the port was told and served, or the output could not be written
 abbrev pub IsPortTold : ℕ → (old new : Option (List ℕ)) → Result Unit Fault → Type 0
 IsPortTold port old new (Ok done) = Appends old new (told_port port)
 IsPortTold port old new (Err fault) = fault ≡ Io

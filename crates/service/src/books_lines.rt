@@ -10,7 +10,7 @@ ghost use Rattle.store.specs.Books.{KeepsBooks, HoldsBooks, IsClean};
 ghost use Rattle.store.specs.Opening.{IsOfNone, AreFoundRows};
 ghost use Rattle.store.specs.Connected.{Connected};
 ghost use Rattle.house.specs.House.{books_of, LeavesBooks};
-ghost use Rattle.service.specs.Serving.{HasLogged, KeepsLogged, is_logged, IsWorked, IsJudged, IsTold, IsPortTold, told_port};
+ghost use Rattle.service.specs.Serving.{HasLogged, KeepsLogged, Listens, is_logged, IsWorked, IsJudged, IsTold, IsPortTold, told_port};
 ghost use Rattle.service.specs.Importing.{KeepsFile, IsFileImported};
 ghost use Rattle.service.specs.Printing.{IsSheetPrinted, LeavesSheet};
 
@@ -42,16 +42,18 @@ pub type AfterWork<S> = (Connection<S>, Result<(), Fault>);
 /// opens none: whatever the tables hold, nothing is committed, and what it tells holds of them; how far it is it shows on
 /// standard error, where that is a terminal. Where the books cannot be made, opened or audited, nothing is printed, the
 /// connection is dropped and the error is `Foreign` for other tables and else `Store`, also for a connection within a
-/// transaction. A port that cannot be had, a file that cannot be opened and output that cannot be written are `Io` beside
-/// the connection.
+/// transaction. A file that cannot be opened and output that cannot be written are `Io` beside the connection. A server's
+/// port is that of `listen`.
 pub fn do_work<S: Orderly + Drop, F: FilesAt, W: Write, L: Write>(
     rt: &HostRuntime,
     files: &F,
+    listener: Option<&TcpListener>,
     conn: Connection<S>,
     work: &Work<'_>,
     out: &mut W,
     log: &mut L,
 ) -> Result<AfterWork<S>, Fault>
+    requires listens { Listens work.now listener }
     ensures clean { IfOk result (λ w. HasCleanDisk (state S.Store w.0) → HasCleanDisk (state S.Store conn)) }
     ensures worked { IfOk result (λ w. HasCleanDisk (state S.Store w.0) → IsWorked S.Store conn work.now (L.contents log.old) (L.contents log.new) w.0) }
     ensures told { IfOk result (λ w. HasCleanDisk (state S.Store w.0) → IsTold S.Store (F.bytes files.now) conn work.now (W.contents out.old) (W.contents out.new) w.1 w.0) }
@@ -66,7 +68,7 @@ pub fn do_work<S: Orderly + Drop, F: FilesAt, W: Write, L: Write>(
             port,
             max,
             log: logged,
-        } => open_and_serve(rt, conn, *port, *max, *logged, out, log),
+        } => open_and_serve(rt, listener.unwrap(), conn, *port, *max, *logged, out, log),
         Work::Import { file } => open_and_import(rt.alloc(), files, conn, *file, out),
         Work::Card(lot) => open_and_print(rt.alloc(), conn, Sheet::Card, lot, out),
         Work::Notice(lot) => open_and_print(rt.alloc(), conn, Sheet::Notice, lot, out),
@@ -97,9 +99,10 @@ fn make_books<S: Alter + Drop>(
     }
 }
 
-/// Opens the books, listens on the port and answers so many connections.
+/// Opens the books, tells the port and answers so many connections.
 fn open_and_serve<S: Orderly + Drop, W: Write, L: Write>(
     rt: &HostRuntime,
+    listener: &TcpListener,
     conn: Connection<S>,
     port: u16,
     max: u32,
@@ -117,13 +120,14 @@ fn open_and_serve<S: Orderly + Drop, W: Write, L: Write>(
     ensures fault { IfErr result (λ fault. (fault ≡ Fault.Store) ⊎ (fault ≡ Fault.Foreign)) }
 {
     match open_books(rt.alloc(), conn) {
-        Ok(books) => Ok(serve_books(rt, books, port, max, logged, out, log)),
+        Ok(books) => Ok(serve_books(rt, listener, books, port, max, logged, out, log)),
         Err(fault) => Err(fault),
     }
 }
 
 fn serve_books<S: Alter + Drop, W: Write, L: Write>(
     rt: &HostRuntime,
+    listener: &TcpListener,
     books: Books<S>,
     port: u16,
     max: u32,
@@ -138,7 +142,7 @@ fn serve_books<S: Alter + Drop, W: Write, L: Write>(
     ensures told { IsPortTold port (W.contents out.old) (W.contents out.new) result.1 }
 {
     let mut house = House::new(rt.alloc(), books);
-    let end = serve_port(rt, port, max, logged, out, log, &mut house);
+    let end = serve_port(rt, listener, port, max, logged, out, log, &mut house);
     (house.close().close(), end)
 }
 
@@ -282,6 +286,7 @@ fn cause<S: Alter + Drop>(fault: OpenFault<S>) -> Fault
 
 fn serve_port<S: Alter + Drop, W: Write, L: Write>(
     rt: &HostRuntime,
+    listener: &TcpListener,
     port: u16,
     max: u32,
     logged: bool,
@@ -296,13 +301,12 @@ fn serve_port<S: Alter + Drop, W: Write, L: Write>(
     ensures quiet { logged ≡ false → log.new ≡ log.old }
     ensures told { IsPortTold port (W.contents out.old) (W.contents out.new) result }
 {
-    let listener = TcpListener::bind(rt, ("127.0.0.1", port))?;
     tell_port(port, out)?;
-    serve_logged_if(rt, logged, &listener, house, max, log);
+    serve_logged_if(rt, logged, listener, house, max, log);
     Ok(())
 }
 
-/// Tells that the port is listened on.
+/// Tells that the port is answered.
 fn tell_port<W: Write>(port: u16, out: &mut W) -> io::Result<()>
     ensures { OnOk result (Appends (W.contents out.old) (W.contents out.new) (told_port port)) }
 {

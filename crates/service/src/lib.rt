@@ -15,4 +15,4 @@ mod timed;
 pub use books_lines::{AfterWork, do_work};
 pub use goods_file::{FilesAt, import};
 pub use lot_texts::{print_card, print_notice};
-pub use serve::{serve_logged, serve_on};
+pub use serve::{listen, serve_logged, serve_on};

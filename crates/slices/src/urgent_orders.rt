@@ -1,16 +1,14 @@
 //! Which of the orders of a slice are urgent.
 
-ghost use Rattle.std.specs.Prelude.{◌≡◌, IfOk, map};
+ghost use Rattle.std.specs.Prelude.{◌≡◌, IfOk};
 ghost use Rattle.sqlite.specs.Held.{state};
-ghost use Rattle.table_words.specs.Typed.{order_key};
 ghost use Rattle.slices.specs.Reading.{IsRead};
-ghost use Rattle.slices.specs.Slicing.{names_at, AreUrgents, AreUrgentsFor};
+ghost use Rattle.slices.specs.Slicing.{names_at, AreUrgentsFor};
 
 use crate::sought::seek_all;
 use commands::{OrderRow, UrgentRow};
 use open_lines::OpenLines;
 use order_tables::urgents::Urgents;
-use slice_parts::order_names::orders_of;
 use slice_parts::urgent_rows::names_among;
 use sqlite::{Alter, Transaction};
 use std::alloc::{AllocError, Global};
@@ -41,18 +39,5 @@ pub fn read_urgents<S: Alter>(
 {
     let may_be = names_with(alloc, known, gtins)?;
     let names = names_among(alloc, may_be.as_slice(), orders)?;
-    seek_all::<Urgents, Name, S>(alloc, tx, names.as_slice())
-}
-
-/// The rows of the urgent ones among these orders.
-pub fn urgents_of<S: Alter>(
-    alloc: Global,
-    tx: &mut Transaction<'_, S>,
-    orders: &[OrderRow],
-) -> Result<Vec<UrgentRow>, TableFault>
-    ensures same_reference { tx.new.conn.ghost_name ≡ tx.old.conn.ghost_name }
-    ensures read { IsRead (λ t rows. AreUrgents (map order_key orders.now) t rows.items) (state S.Store tx.old.conn.now) (state S.Store tx.new.conn.now) result }
-{
-    let names = orders_of(alloc, orders)?;
     seek_all::<Urgents, Name, S>(alloc, tx, names.as_slice())
 }

@@ -9,7 +9,7 @@ use Rattle.sqlite_trees.specs.declared.store.Store.{Ghosts}
 use Rattle.machine.specs.Acts.{Act}
 use Rattle.machine.specs.Standing.{today}
 use Rattle.machine.specs.Tables.{tables_of}
-use Rattle.slices.specs.ShownShort.{IsKnownOf}
+use Rattle.queries.specs.ShownShort.{IsKnownOf}
 use Rattle.slices.specs.declared.knowing.Known.{Known}
 use Rattle.store.specs.Books.{KeepsBooks, IsSettled, IsAsBefore}
 use Rattle.store.specs.Connected.{Connected, IsIdle}

@@ -13,6 +13,7 @@ pub mod FilesInside
 pub mod FilesWhole
 pub mod CardOrder
 pub mod HandedOn
+pub mod ActsHanded
 pub mod AsBefore
 pub mod Listings
 pub mod BinOrder

@@ -34,7 +34,7 @@ use Rattle.machine.proofs.histories.Notices.{traced}
 use Rattle.table_words.proofs.CellLemmas.{same_number, itself_number}
 use Rattle.each_row.proofs.Rising.{few_with_key, found_alike, found_wanted}
 use Rattle.history_tables.specs.ByKey.{AreByNumber}
-use Rattle.slices.specs.Shipped.{with_order, with_shipment, units_told}
+use Rattle.queries.specs.Shipped.{with_order, with_shipment, units_told}
 use Rattle.store.specs.Shipments.{later_shipments}
 use Rattle.store.proofs.Listings.{found_mapped, listing_found}
 

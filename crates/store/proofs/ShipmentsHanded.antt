@@ -11,7 +11,7 @@ use Rattle.machine.specs.Acts.{Act}
 use Rattle.machine.specs.Tables.{tables_of}
 use Rattle.machine.specs.Views.{shipments_of_lot}
 use Rattle.machine.specs.Once.{IsHistory}
-use Rattle.slices.specs.Shipped.{units_told}
+use Rattle.queries.specs.Shipped.{units_told}
 use Rattle.store.specs.Shipments.{later_shipments, as_found, line_told, IsToldAs}
 use Rattle.store.specs.Showing.{IsFoundAs}
 use Rattle.table_words.specs.declared.error.TableFault.{TableFault}

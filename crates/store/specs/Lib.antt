@@ -11,4 +11,5 @@ pub mod Heads
 pub mod Shipments
 pub mod EachFaults
 pub mod Handing
+pub mod ActRows
 pub mod Knowing

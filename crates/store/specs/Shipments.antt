@@ -7,7 +7,7 @@ use Rattle.commands.specs.declared.views.ShippedUnits.{ShippedUnits}
 use Rattle.machine.specs.Acts.{Act}
 use Rattle.machine.specs.Tables.{tables_of}
 use Rattle.machine.specs.Views.{shipments_of_lot}
-use Rattle.slices.specs.Shipped.{units_told}
+use Rattle.queries.specs.Shipped.{units_told}
 use Rattle.store.specs.Books.{KeepsBooks}
 use Rattle.store.specs.Showing.{IsFoundAs}
 use Rattle.store.specs.declared.fault.Fault.{Fault}

@@ -15,11 +15,13 @@ ghost use Rattle.store.specs.Filing.{rows_of, AreKeysOf, IsFiled};
 ghost use Rattle.machine.specs.Queries.{order_shown, short_shown, stock_shown};
 ghost use Rattle.machine.specs.Views.{bins_of_lot, card_of_lot, shipments_of_lot};
 ghost use Rattle.store.specs.Heads.{card_head_shown, notice_head_shown};
+ghost use Rattle.store.specs.ActRows.{AreActsHanded};
 ghost use Rattle.store.specs.Handing.{IsHanded, NoBooks};
 ghost use Rattle.store.specs.Queries.{IsShown};
 ghost use Rattle.store.specs.Books.{AreBooks, KeepsBooks, HoldsBooks, LeavesOnly, IsClean, IsSettled, AreAsBefore};
 ghost use Rattle.store.specs.Opening.{Found, HasSchema, IsOfNone, AreRowsAt, AreFoundRows, HasFoundDay, IsForeignWithin, unlimited, IsLeftUnfilled, IsReopened, IsLeftOver, IsCleanLeft};
 
+use crate::act_rows::hand_acts;
 use crate::acting::act_once;
 use crate::day::day_left;
 use crate::filing::{every_row_is_sound, file_once};
@@ -28,11 +30,12 @@ use crate::shipments::hand_shipments;
 use crate::showing::show;
 use crate::{EachFault, Fault, Reply, RowFault, Tally};
 use commands::{
-    BinKind, BinRow, BinUnits, CardRow, Command, ItemRow, Key, MetaRow, OrderView, ShippedUnits,
-    ShortView, Sink, StockView,
+    BinKind, BinRow, BinUnits, CardRow, Command, ItemRow, Key, MetaRow, OrderView, RepeatRow,
+    ShippedUnits, ShortView, Sink, StockView,
 };
 use label::{BusinessDay, Day};
-use slices::{CardHeadQuery, Known, NoticeHeadQuery, OrderQuery, ShortQuery, StockQuery};
+use queries::{CardHeadQuery, NoticeHeadQuery, OrderQuery, ShortQuery, StockQuery};
+use slices::Known;
 use sqlite::{Alter, Connection};
 use std::alloc::Global;
 use std::marker::Model;
@@ -392,6 +395,20 @@ impl<S: Alter> Books<S> {
         ensures survives { Survives (state S.Store self.old.conn) (state S.Store self.new.conn) (NoBooks (state S.Store self.old.conn)) }
     {
         hand_rows::<CardLines, S, K>(self.alloc, &mut self.conn, lot, sink)
+    }
+
+    /// Hands the rows of the acts to the sink, in the order in which they are stored, one at a time, until it stops. It is
+    /// outside every transaction, and nothing is changed; `Store` where memory or the disk did not suffice, and `Foreign`
+    /// and a refusal never on books of a history.
+    pub fn each_act<K: Sink<RepeatRow>>(&mut self, sink: &mut K) -> Result<(), EachFault>
+        ensures clean { IsClean S.Store self.new → IsClean S.Store self.old }
+        ensures handed { IsClean S.Store self.new → (first : ℤ) (acts : List Act) → IsHistory first acts → HoldsBooks S.Store first acts self.old
+            → AreActsHanded first acts K.takes K.stops sink.old sink.new result × HoldsBooks S.Store first acts self.new }
+        ensures as_before { IsClean S.Store self.new → AreAsBefore S.Store self.old self.new }
+        ensures stays { IsClean S.Store self.new → IsSettled (state S.Store self.new.conn) }
+        ensures survives { Survives (state S.Store self.old.conn) (state S.Store self.new.conn) (NoBooks (state S.Store self.old.conn)) }
+    {
+        hand_acts(self.alloc, &mut self.conn, sink)
     }
 
     /// Hands the bins with units of a lot to the sink, by name, one at a time, until it stops. It is outside every

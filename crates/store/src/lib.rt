@@ -1,6 +1,7 @@
 //! The books: one act is one transaction.
 #![tactic(auto)]
 
+mod act_rows;
 mod acting;
 mod books;
 mod day;

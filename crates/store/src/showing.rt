@@ -17,7 +17,7 @@ use crate::Fault;
 use crate::repeats::find_open;
 use commands::Refusal;
 use label::BusinessDay;
-use slices::{Query, find};
+use queries::{Query, find};
 use sqlite::{Alter, Connection, Transaction};
 use std::alloc::Global;
 

@@ -2,3 +2,5 @@ pub mod Wholes
 pub mod Handing
 pub mod Halving
 pub mod Calls
+pub mod Above
+pub mod Owned

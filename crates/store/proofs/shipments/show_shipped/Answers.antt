@@ -7,7 +7,7 @@ use Rattle.sqlite.specs.Held.{state}
 use Rattle.machine.specs.Acts.{Act}
 use Rattle.machine.specs.Once.{IsHistory}
 use Rattle.machine.specs.Tables.{tables_of}
-use Rattle.slices.specs.Shipped.{units_told}
+use Rattle.queries.specs.Shipped.{units_told}
 use Rattle.store.specs.Books.{KeepsBooks}
 use Rattle.store.specs.Shipments.{IsToldAs, IsToldOn}
 use Rattle.store.specs.Showing.{IsFoundAs}

@@ -2,7 +2,7 @@ use Rattle.std.proofs.Common.{refl, ap}
 use Rattle.std.proofs.lemmas.Result.{err_from_is_err_and}
 use Rattle.sqlite.specs.Held.{state}
 use Rattle.machine.specs.Tables.{tables_of}
-use Rattle.slices.specs.Shipped.{units_told}
+use Rattle.queries.specs.Shipped.{units_told}
 use Rattle.store.specs.Shipments.{as_found}
 use Rattle.store.proofs.HandedOn.{never_commits_none, never_commits_itself, stays_itself}
 use Rattle.store.proofs.ShipmentsHanded.{err_as_found}

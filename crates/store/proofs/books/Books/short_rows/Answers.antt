@@ -5,7 +5,7 @@ use Rattle.sqlite.specs.Held.{state}
 use Rattle.machine.specs.Queries.{short_shown}
 use Rattle.machine.specs.Tables.{tables_of}
 use Rattle.slices.specs.declared.knowing.Known.{Known}
-use Rattle.slices.specs.ShownShort.{IsKnownOf}
+use Rattle.queries.specs.ShownShort.{IsKnownOf}
 use Rattle.store.specs.Books.{HoldsBooks, IsAsBefore}
 use Rattle.store.proofs.BooksWhole.{whole_then, look_kept, shown_by_books, known_of_acts}
 use Rattle.store.proofs.books.Books.short_rows.Goals as goal

@@ -1,0 +1,11 @@
+use Rattle.slices.proofs.ReadSteps.{has_read, and_then, so_told, fails_first, fails_later}
+use Rattle.queries.proofs.by_order.booked_for.Goals as goal
+
+pub returns-in_err-staged-clause-read : goal.returns-in_err-staged-clause-read
+returns-in_err-staged-clause-read g c = fails_first c.from_residual.ensures c.in_err-staged.ensures.read
+
+pub returns-in_err-reserved-clause-read : goal.returns-in_err-reserved-clause-read
+returns-in_err-reserved-clause-read g c = fails_later (has_read c.in_ok-staged.ensures.read) c.from_residual-in_err-reserved.ensures c.in_err-reserved.ensures.read
+
+pub returns-clause-read : goal.returns-clause-read
+returns-clause-read g c = so_told (and_then c.in_ok-staged.ensures.read c.in_ok-reserved.ensures.read) (λ t h. h)

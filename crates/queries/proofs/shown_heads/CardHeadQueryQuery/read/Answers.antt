@@ -1,0 +1,13 @@
+use Rattle.std.proofs.Common.{◌∙◌}
+use Rattle.queries.specs.Heads.{card_head_of}
+use Rattle.slices.proofs.ReadSteps.{has_read, and_then, so_told, fails_first, fails_later}
+use Rattle.queries.proofs.shown_heads.CardHeadQueryQuery.read.Goals as goal
+
+pub returns-in_err-item-clause-read : goal.returns-in_err-item-clause-read
+returns-in_err-item-clause-read g c = fails_first c.from_residual.ensures c.in_err-item.ensures.read
+
+pub returns-in_err-lot-clause-read : goal.returns-in_err-lot-clause-read
+returns-in_err-lot-clause-read g c = fails_later (has_read c.in_ok-item.ensures.read) c.from_residual-in_err-lot.ensures c.in_err-lot.ensures.read
+
+pub returns-clause-read : goal.returns-clause-read
+returns-clause-read g c = so_told (and_then c.in_ok-item.ensures.read c.in_ok-lot.ensures.read) (λ t h. c.card_head_of.ensures ∙ (λ i. card_head_of (h.0 i) (h.1 i)))

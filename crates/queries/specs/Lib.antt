@@ -1,0 +1,7 @@
+pub mod ByOrder
+pub mod ShownOrders
+pub mod ShownStock
+pub mod ShownShort
+pub mod Heads
+pub mod Shipped
+pub mod Refused

@@ -1,0 +1,19 @@
+//! Queries: the rows by which something is shown, read from the tables by seeks, and what is shown of them.
+#![tactic(auto)]
+
+mod by_order;
+mod open_orders;
+mod query;
+mod reading;
+mod shipped;
+mod shown_heads;
+mod shown_orders;
+mod shown_shorts;
+mod shown_stock;
+
+pub use query::{Query, find};
+pub use shipped::read_shipped;
+pub use shown_heads::{CardHeadQuery, NoticeHeadQuery};
+pub use shown_orders::OrderQuery;
+pub use shown_shorts::ShortQuery;
+pub use shown_stock::StockQuery;

@@ -1,6 +1,0 @@
-use Rattle.std.proofs.Common.{sym, ◌∙◌}
-use Rattle.slices.specs.Refused.{notice_head_right}
-use Rattle.slices.proofs.shown_heads.NoticeHeadQueryQuery.view.Goals as goal
-
-pub returns : goal.returns
-returns c first acts history is_day suits found = notice_head_right first acts c.args.self.now.lot ∙ sym found

@@ -1,0 +1,32 @@
+-- The rows of `repeats` in the books of a history.
+use Rattle.std.proofs.Common.{◌≡◌, ℕ, List, find, refl, ap, ◌∙◌, Some}
+use Rattle.std.specs.Prelude.{ℤ}
+use Rattle.std.specs.List.{AllByRecursion}
+use Rattle.values.specs.Values.{same_text}
+use Rattle.commands.specs.declared.rows.RepeatRow.{RepeatRow}
+use Rattle.sqlite.specs.State.{State}
+use Rattle.machine.specs.Acts.{Act}
+use Rattle.machine.specs.Tables.{Tables, tables_of, repeat_row}
+use Rattle.table_words.specs.Typed.{tables_in}
+use Rattle.table_words.proofs.KeyLemmas.{itself_bytes, same_bytes}
+use Rattle.history_tables.specs.Repeats.{repeats, repeats_laws}
+use Rattle.slices.specs.Books.{IsBooksOf}
+use Rattle.whole_tables.specs.Whole.{AreAll, typed_rows_of}
+use Rattle.whole_tables.proofs.Handing.{typed_are_all}
+use Rattle.whole_tables.proofs.Owned.{owned}
+
+module _ (first : ℤ) (acts : List Act) (s : State) (books : IsBooksOf first acts s.now) where
+  abbrev pub act_rows : List RepeatRow
+  act_rows = typed_rows_of repeats s.now.trees
+
+  are : AreAll repeats (tables_in s.now.trees) act_rows
+  are = typed_are_all repeats repeats_laws s books.ready
+
+  -- each act has one
+  pub act_rows_found : (k : List ℕ) → find (λ (r : RepeatRow). same_text k r.k) act_rows ≡ repeat_row first acts k
+  unfolding tables_of
+  act_rows_found k = are.found k refl ∙ ap (λ (t : Tables). t.repeat k) books.rows.tables
+
+  -- and each is that of an act
+  pub act_rows_own : AllByRecursion (λ (r : RepeatRow). repeat_row first acts r.k ≡ Some r) act_rows
+  act_rows_own = owned same_text (λ (r : RepeatRow). r.k) itself_bytes same_bytes {row = repeat_row first acts} act_rows are.once act_rows_found
