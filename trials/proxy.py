@@ -16,28 +16,17 @@ import threading
 import time
 
 import server
-from server import TOP, post
+from nginx import found, proxy
 
 GTIN = "09506000134352"
 USER = "Authorization: Basic %s" % base64.b64encode(b"scanner:secret").decode()
 NO_ONE = "Authorization: Basic %s" % base64.b64encode(b"scanner:other").decode()
 
 
-def found(name):
-    """The path of a program of the system."""
-    path = shutil.which(name, path=os.environ.get("PATH", "") + ":/usr/sbin")
-    if path is None:
-        print("proxy: there is no %s; on Debian: apt-get install nginx openssl" % name, file=sys.stderr)
-        sys.exit(3)
-    return path
-
-
-nginx, openssl = found("nginx"), found("openssl")
+nginx, openssl = (found(name, "proxy", "nginx openssl") for name in ("nginx", "openssl"))
 lotd, room, port = server.program(), server.room(), server.number("PORT", 18085)
 tls = port + 1
 db, backup = os.path.join(room, "books", "stock.db"), os.path.join(room, "backup")
-# The proxy's workers have another user, and read the passwords at each request.
-os.chmod(room, 0o755)
 os.mkdir(os.path.dirname(db), 0o700)
 
 
@@ -50,50 +39,7 @@ def is_told(what, expected, got):
         fail(what, expected, got)
 
 
-# ---- the proxy
-
-def proxy_file():
-    """The file of the repository, with other ports and files."""
-    with open(os.path.join(TOP, "ops/nginx.conf"), encoding="utf-8") as file:
-        text = file.read()
-    for old, new in [
-        ("listen 8443 ssl;", "listen 127.0.0.1:%d ssl;" % tls),
-        ("http://127.0.0.1:8080;", "http://127.0.0.1:%d;" % port),
-        ("/etc/nginx/lotd.crt", room + "/lotd.crt"),
-        ("/etc/nginx/lotd.key", room + "/lotd.key"),
-        ("auth_basic_user_file /etc/nginx/lotd.users", "auth_basic_user_file %s/lotd.users" % room),
-        ("access_log /var/log/nginx/lotd.log", "access_log %s/lotd.log" % room),
-        ("http {\n", "http {\n" + "".join("    %s_temp_path %s/%s;\n" % (it, room, it) for it in
-                                        ("client_body", "proxy", "fastcgi", "uwsgi", "scgi"))),
-    ]:
-        if text.count(old) != 1:
-            fail("ops/nginx.conf", "one " + old.strip(), text.count(old))
-        text = text.replace(old, new)
-    path = os.path.join(room, "nginx.conf")
-    with open(path, "w", encoding="utf-8") as file:
-        file.write(text)
-    return path
-
-
-def proxy():
-    """The proxy, which listens."""
-    subprocess.run([openssl, *"req -x509 -newkey rsa:2048 -nodes -days 2 -subj /CN=localhost -addext".split(), "subjectAltName=DNS:localhost",
-                    "-keyout", room + "/lotd.key", "-out", room + "/lotd.crt"], check=True, capture_output=True)
-    hashed = subprocess.run([openssl, "passwd", "-apr1", "secret"], check=True, capture_output=True, text=True).stdout
-    with open(room + "/lotd.users", "w", encoding="utf-8") as file:
-        file.write("scanner:" + hashed)
-    started = subprocess.Popen([nginx, "-p", room, "-c", proxy_file(), "-e", room + "/error.log",
-                                "-g", "daemon off; pid %s/nginx.pid; error_log %s/error.log;" % (room, room)])
-    for _ in range(100):
-        try:
-            socket.create_connection(("127.0.0.1", tls), timeout=1).close()
-            return started
-        except OSError:
-            time.sleep(0.1)
-    started.kill()
-    with open(room + "/error.log", encoding="utf-8") as file:
-        fail("nginx", "that it listens", file.read())
-
+# ---- requests through the proxy
 
 def connected():
     """A connection with TLS to the proxy, whose certificate is the one that was made."""
@@ -252,7 +198,7 @@ def restored(acts):
 
 
 subprocess.run([lotd, "init", "--db", db, "--day", "2026-05-04"], check=True)
-started = proxy()
+started = proxy(nginx, openssl, room, tls, port)
 try:
     with Service(1_000_000):
         while shown("/stock/" + GTIN)[0] == 502:

@@ -1,13 +1,18 @@
 -- What the rows of acts tell of the day that these began on.
-use Rattle.std.proofs.Common.{◌≡◌, ℕ, ◌+◌, ◌<◌, true, false, List, [], ◌∷◌, ◌++◌, length, take, drop, get_or, Option, Some, None, refl, sym, ap, subst, ◌∙◌}
-use Rattle.std.specs.Prelude.{ℤ, reverse, is_some}
+use Rattle.std.proofs.Common.{◌≡◌, ℕ, ◌+◌, ◌<◌, true, false, List, [], ◌∷◌, ◌++◌, length, take, drop, get_or, take-append-drop, Option, Some, None, inr, refl, sym, ap, subst, ◌∙◌}
+use Rattle.std.specs.Prelude.{ℤ, reverse, is_some, IsTrue}
+use Rattle.std.proofs.lemmas.List.{take_more, drop_more}
 use Rattle.std.proofs.lemmas.Option.{same_Some, none-some}
+use Rattle.commands.specs.Sound.{is_sound}
+use Rattle.commands.specs.Spelling.{spelling}
+use Rattle.commands.specs.declared.command.Command.{Command}
 use Rattle.commands.specs.declared.rows.RepeatRow.{RepeatRow}
+use Rattle.commands.proofs.OneSpelling.{one_spelling}
 use Rattle.machine.specs.Acts.{Act, next_number}
 use Rattle.machine.specs.Once.{IsHistory}
 use Rattle.replays.specs.declared.start.Start.{Start}
 use Rattle.replays.specs.Spelled.{row_of, spelled_rows}
-use Rattle.replays.specs.Starting.{told_by, told_first, start_of, IsReadFrom, Tell}
+use Rattle.replays.specs.Starting.{told_by, told_first, start_of, Tells, IsReadFrom, TellNothing, TellFirst, Tell}
 use Rattle.replays.proofs.RowSteps.{rows_more, rows_parts}
 use Rattle.replays.proofs.Steps.{older}
 
@@ -40,6 +45,13 @@ tell_none_first first [] h e = refl
 tell_none_first first (act ∷ before) h e = cc
 
 module _ (rows : List RepeatRow) (i : ℕ) (row : RepeatRow) (low : i < length rows) (is : row ≡ get_or rows i row) (none : TellNone (take i rows)) (told : Option (Option Start)) (read : IsReadFrom row told) where
+  -- what a row tells is what any command does that it spells
+  read_as : (told : Option (Option Start)) → IsReadFrom row told → (command : Command) → IsTrue (is_sound command) → row.spell ≡ spelling command → told ≡ Some (told_by row.act command)
+  read_as None none command sound is = absurd (none command sound is)
+  read_as (Some told) one command sound is =
+      let same = one_spelling one.command command one.sound sound (sym one.spelled ∙ is) in
+      ap (λ t. Some t) (one.told ∙ ap (told_by row.act) same)
+
   -- the newest of the acts so far tells what was read
   newest : (first : ℤ) (acts : List Act) → IsHistory first acts → row ∷ reverse (take i rows) ≡ spelled_rows first acts → told ≡ Some (start_of acts)
   newest first [] h e = cc
@@ -48,7 +60,7 @@ module _ (rows : List RepeatRow) (i : ℕ) (row : RepeatRow) (low : i < length r
       let rest : reverse (take i rows) ≡ spelled_rows first before = cc in
       let untold = none first before h.0 rest in
       let number : row.act ≡ next_number before = ap (λ r. r.act) own in
-      read act.command h.1.sound.command (ap (λ r. r.spell) own)
+      read_as told read act.command h.1.sound.command (ap (λ r. r.spell) own)
       ∙ ap (λ n. Some (told_by n act.command)) number ∙ ap (λ s. Some (told_first s (told_by (next_number before) act.command))) (sym untold)
 
   -- one more that tells nothing
@@ -72,3 +84,26 @@ module _ (rows : List RepeatRow) (i : ℕ) (row : RepeatRow) (low : i < length r
   -- a spelling that is none is of no history
   pub tell_ends : told ≡ None → Tell rows None
   tell_ends it first acts h e = let parts = so_far first acts h e in absurd (none-some (start_of parts.0.older) (sym it ∙ parts.1))
+
+-- ---- the rows themselves
+
+all_snoc : (rows : List RepeatRow) (row : RepeatRow) → TellNothing rows → Tells row None → TellNothing (rows ++ row ∷ [])
+all_snoc [] row all h = (h, tt)
+all_snoc (r ∷ rows) row all h = (all.0, all_snoc rows row all.1 h)
+
+module _ (rows : List RepeatRow) (i : ℕ) (row : RepeatRow) (low : i < length rows) (is : row ≡ get_or rows i row) (nothing : TellNothing (take i rows)) (told : Option (Option Start)) (read : IsReadFrom row told) where
+  -- one more that tells nothing
+  pub nothing_more : (here : Option Start) → told ≡ Some here → is_some here ≡ false → TellNothing (take (i + 1) rows)
+  nothing_more None it empty = subst TellNothing (sym (take_more rows i row low ∙ ap (λ x. take i rows ++ x ∷ []) (sym is))) (all_snoc (take i rows) row nothing (subst (IsReadFrom row) it read))
+  nothing_more (Some s) it empty = cc
+
+  here_parts : rows ≡ take i rows ++ row ∷ drop (i + 1) rows
+  here_parts = sym (take-append-drop i rows) ∙ ap (λ l. take i rows ++ l) (drop_more rows i row low ∙ ap (λ x. x ∷ drop (i + 1) rows) (sym is))
+
+  -- the first that tells it
+  pub first_here : (here : Option Start) → told ≡ Some here → is_some here ≡ true → TellFirst rows here
+  first_here None it full = cc
+  first_here (Some s) it full = record { earlier = take i rows; row = row; later = drop (i + 1) rows; parts = here_parts; nothing = nothing; is = subst (IsReadFrom row) it read }
+
+  pub first_ends : told ≡ None → TellFirst rows None
+  first_ends it = inr (record { earlier = take i rows; row = row; later = drop (i + 1) rows; parts = here_parts; nothing = nothing; is = subst (IsReadFrom row) it read })

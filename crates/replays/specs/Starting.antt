@@ -1,5 +1,6 @@
 -- The day that acts began on, as their tables tell it.
-use Rattle.std.specs.Prelude.{◌≡◌, ◌≢◌, ℕ, List, [], ◌∷◌, reverse, Option, Some, None, option_map, if◌then◌else◌, ℤ, pos, ◌-ℤ◌, IsTrue}
+use Rattle.std.specs.Prelude.{◌≡◌, ◌≢◌, ◌⊎◌, ℕ, List, [], ◌∷◌, ◌++◌, reverse, Option, Some, None, option_map, if◌then◌else◌, ℤ, pos, ◌-ℤ◌, IsTrue}
+use Rattle.std.specs.List.{AllByRecursion}
 use Rattle.label.specs.Days.{is_business_day}
 use Rattle.commands.specs.Sound.{is_sound}
 use Rattle.commands.specs.Spelling.{spelling}
@@ -31,9 +32,39 @@ abbrev pub start_of : List Act → Option Start
 start_of [] = None
 start_of (act ∷ before) = told_first (start_of before) (told_by (next_number before) act.command)
 
--- what a row tells, where it spells a command
+-- the row spells a command, which tells this
+pub record Tells (row : RepeatRow) (what : Option Start) : Type 0 where
+  pub command : Command
+  pub sound : IsTrue (is_sound command)
+  pub spelled : row.spell ≡ spelling command
+  pub told : what ≡ told_by row.act command
+
+-- it spells none
+abbrev pub SpellsNone : RepeatRow → Type 0
+SpellsNone row = (command : Command) → IsTrue (is_sound command) → row.spell ≢ spelling command
+
+-- what a row tells; none where it spells none
 abbrev pub IsReadFrom : RepeatRow → Option (Option Start) → Type 0
-IsReadFrom row told = (command : Command) → IsTrue (is_sound command) → row.spell ≡ spelling command → told ≡ Some (told_by row.act command)
+IsReadFrom row (Some told) = Tells row told
+IsReadFrom row None = SpellsNone row
+
+-- the rows spell commands that tell nothing
+abbrev pub TellNothing : List RepeatRow → Type 0
+TellNothing rows = AllByRecursion (λ row. Tells row None) rows
+
+-- of the rows the first that does not
+pub record IsFirstBeside (rows : List RepeatRow) (Is : RepeatRow → Type 0) : Type 0 where
+  pub earlier : List RepeatRow
+  pub row : RepeatRow
+  pub later : List RepeatRow
+  pub parts : rows ≡ earlier ++ row ∷ later
+  pub nothing : TellNothing earlier
+  pub is : Is row
+
+-- what the rows tell, the oldest first: what the first that tells of the day does, unless one before it spells no command
+abbrev pub TellFirst : List RepeatRow → Option Start → Type 0
+TellFirst rows (Some start) = IsFirstBeside rows (λ row. Tells row (Some start))
+TellFirst rows None = TellNothing rows ⊎ IsFirstBeside rows SpellsNone
 
 -- where the rows, the oldest first, are those of a history, this is what the oldest of its acts tells that tells it
 abbrev pub Tell : List RepeatRow → Option Start → Type 0

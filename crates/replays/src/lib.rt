@@ -10,6 +10,7 @@ mod progress;
 mod rows;
 mod start;
 
+pub use again::act_again;
 pub use fault::NotReplayed;
 pub use order::by_act;
 pub use progress::Progress;

@@ -1,6 +1,6 @@
 //! The acts that rows of `repeats` spell, done again.
 
-ghost use Rattle.std.specs.Prelude.{◌≡◌, [], ℤ, List, vec_len};
+ghost use Rattle.std.specs.Prelude.{◌≡◌, [], ℤ, List, OnOk, vec_len};
 ghost use Rattle.machine.specs.Acts.{Act};
 ghost use Rattle.machine.specs.Once.{IsHistory};
 ghost use Rattle.store.specs.Books.{HoldsBooks, IsClean};
@@ -9,6 +9,7 @@ ghost use Rattle.replays.specs.Replaying.{IsOpen, IsRowReplayed, AreRowsReplayed
 use crate::again::act_again;
 use crate::{NotReplayed, Progress};
 use commands::RepeatRow;
+use commands::laws::{every_command_is_sound, every_key_is_sound};
 use spellings::{parse, parse_key};
 use sqlite::Alter;
 use std::alloc::Global;
@@ -16,7 +17,8 @@ use store::Books;
 
 /// Does the acts again that the rows of `repeats` spell, on books in which nothing has been done. The newest row is the first,
 /// and each is let go once its act is done. `Ok` exactly where the rows spell a history from the books' day, as far as memory
-/// suffices: the books are then those of it.
+/// suffices: the books are then those of it, and open where they were. Else the first act that has no key or spelling of its
+/// own, or is refused, with its number.
 pub fn replay_rows<S: Alter, P: Progress>(
     alloc: Global,
     books: &mut Books<S>,
@@ -24,8 +26,10 @@ pub fn replay_rows<S: Alter, P: Progress>(
     progress: &mut P,
 ) -> Result<(), NotReplayed>
     ensures clean { IsClean S.Store books.new → IsClean S.Store books.old }
-    ensures replayed { IsClean S.Store books.new → (first : ℤ) → IsHistory first [] → IsOpen S.Store books.old → HoldsBooks S.Store first [] books.old
+    ensures replayed { IsClean S.Store books.new → (first : ℤ) → IsHistory first [] → HoldsBooks S.Store first [] books.old
         → AreRowsReplayed S.Store first rows.items result books.new }
+    ensures open { IsClean S.Store books.new → (first : ℤ) → IsHistory first [] → HoldsBooks S.Store first [] books.old → IsOpen S.Store books.old
+        → OnOk result (IsOpen S.Store books.new) }
 {
     let all = rows.len() as u64;
     while let Some(row) = rows.pop() {
@@ -67,5 +71,7 @@ fn replay_row<S: Alter>(
     let Some(command) = parse(alloc, row.spell.as_slice())? else {
         return Err(NotReplayed::Unspelled { act: row.act });
     };
+    every_key_is_sound(key);
+    every_command_is_sound(&command);
     act_again(books, row.act, &key, &command)
 }

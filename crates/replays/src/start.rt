@@ -1,8 +1,9 @@
 //! What rows of `repeats` tell of the day that their acts began on.
 
 ghost use Rattle.std.specs.Prelude.{◌≡◌, IfOk};
-ghost use Rattle.replays.specs.Starting.{told_by as told_by_lem, IsReadFrom, Tell};
+ghost use Rattle.replays.specs.Starting.{told_by as told_by_lem, IsReadFrom, Tell, TellFirst};
 
+use commands::laws::every_command_is_sound;
 use commands::{Command, RepeatRow};
 use label::BusinessDay;
 use spellings::parse;
@@ -33,7 +34,10 @@ fn told_by_row(alloc: Global, row: &RepeatRow) -> Result<Option<Option<Start>>, 
     ensures { IfOk result (IsReadFrom row.now) }
 {
     match parse(alloc, row.spell.as_slice())? {
-        Some(command) => Ok(Some(told_by(row.act, &command))),
+        Some(command) => {
+            every_command_is_sound(&command);
+            Ok(Some(told_by(row.act, &command)))
+        }
         None => Ok(None),
     }
 }
@@ -41,7 +45,8 @@ fn told_by_row(alloc: Global, row: &RepeatRow) -> Result<Option<Option<Start>>, 
 /// What the oldest act tells that receives or opens a day; `None` where none does. The rows of `repeats` are the oldest
 /// first; one whose spelling is none ends the search.
 pub fn start_of(alloc: Global, rows: &[RepeatRow]) -> Result<Option<Start>, AllocError>
-    ensures { IfOk result (Tell rows.now) }
+    ensures tell { IfOk result (Tell rows.now) }
+    ensures first { IfOk result (TellFirst rows.now) }
 {
     for row in rows {
         let Some(told) = told_by_row(alloc, row)? else {

@@ -5,8 +5,7 @@ use Rattle.sqlite_catalog.specs.Listing.{IsSound}
 use Rattle.sqlite.specs.Store.{Ghosts}
 use Rattle.sqlite.specs.Tree.{Trees}
 use Rattle.sqlite.specs.Held.{Held, state}
-use Rattle.sqlite.specs.State.{State, HasCleanDisk, IsLive, Survives}
-use Rattle.sqlite.proofs.StateLemmas.{survives_then}
+use Rattle.sqlite.specs.State.{State, IsLive}
 use Rattle.sqlite_keyed.proofs.ListLemmas.{all_weaker}
 use Rattle.table_words.specs.Schema.{the_tables, schema_0}
 use Rattle.table_words.specs.Rows.{IsRows}
@@ -62,14 +61,6 @@ filled meta bin made put both last none p q r = record {
 pub begins_void : {S : Type 0} (g : Ghosts S) (old begun : Held S) → begun ≡ record old { in_transaction = true } → IsLive (state g old) → (state g old).now.schema ≡ schema_0
     → IsTrue (state g begun).is_open → IsVoid (state g begun)
 begins_void g old begun is live empty up = rw is (record { schema_is = empty; sound = (live (rw is at up)).0; inside = refl })
-
--- a crash within the transaction or its commit leaves what there was, or what is committed
-pub crash_made : {S : Type 0} (g : Ghosts S) (old begun : Held S) (last new : State) (P : Trees → Type 0) → begun ≡ record old { in_transaction = true } → Survives (state g begun) last (λ _. ⊥)
-    → Survives last new (λ db. db ≡ last.now.trees) → (HasCleanDisk new → P last.now.trees) → Survives (state g old) new P
-crash_made g old begun last new P is one two made =
-    let first = rw is at one in
-    let whole : Survives (state g old) last (λ _. ⊥) = record { clean = first.clean; shield = first.shield; counts = first.counts; limit = first.limit; closes = first.closes; crash = first.crash } in
-    survives_then (state g old) last new (λ _. ⊥) (λ db. db ≡ last.now.trees) P (λ _ db none. absurd none) (λ clean db e. subst P (sym e) (made clean)) whole two
 
 pub on_ok_then : {X E P Q : Type 0} (r : Result X E) → (P → Q) → OnOk r P → OnOk r Q
 on_ok_then (Ok x) f p = f p

@@ -1,4 +1,5 @@
 pub mod Texts
+pub mod EndLemmas
 pub mod GrowLemmas
 pub mod CreateLemmas
 pub mod OpenLemmas

@@ -1,5 +1,5 @@
 -- The row of `meta`, read and put under the newest number, and making the indexes, in one transaction.
-use Rattle.std.proofs.Common.{◌≡◌, ◌⊎◌, inl, inr, ℕ, ℤ, true, false, List, [], ◌∷◌, IsTrue, Result, Ok, Err, Option, None, Some, OnOk, IfOk, IfErr, refl, sym, ap, subst, ◌∙◌}
+use Rattle.std.proofs.Common.{◌≡◌, ◌⊎◌, inl, inr, ℕ, ℤ, true, List, [], ◌∷◌, Result, Ok, Err, Option, None, Some, OnOk, IfOk, IfErr, refl, sym, ap, subst, ◌∙◌}
 use Rattle.std.specs.Prelude.{option_map, find}
 use Rattle.std.specs.List.{AllByRecursion}
 use Rattle.std.specs.Result.{IsErrAnd, IsOkAnd}
@@ -9,11 +9,8 @@ use Rattle.sqlite_keyed.proofs.ListLemmas.{all_both}
 use Rattle.sqlite_trees.specs.declared.store.Store.{Ghosts}
 use Rattle.sqlite.specs.Effect.{Database}
 use Rattle.sqlite.specs.Held.{Held, state}
-use Rattle.sqlite.specs.State.{State, KeepsCommit, IsRolledBack, IsUnchanged, Shows, Survives}
-use Rattle.sqlite.specs.Steps.{FailsToCommit}
-use Rattle.sqlite.specs.declared.error.Error.{Error}
+use Rattle.sqlite.specs.State.{State, IsUnchanged}
 use Rattle.sqlite.specs.Table.{Table}
-use Rattle.sqlite.proofs.StateLemmas.{survives_then}
 use Rattle.sqlite.specs.Tree.{Trees}
 use Rattle.table_words.specs.Schema.{the_tables}
 use Rattle.table_words.specs.Steps.{IsReady, Goes}
@@ -22,7 +19,7 @@ use Rattle.table_words.specs.declared.error.TableFault.{TableFault}
 use Rattle.table_words.specs.declared.error.TableFault.TheVariants.{Foreign as TableForeign}
 use Rattle.table_words.proofs.StepLemmas.{tables_same, typed_same}
 use Rattle.tables.specs.Indexing.{KeepsRows, IsIndexed}
-use Rattle.tables.specs.Settling.{HasRow, HasDayAt, IsNumbered, Numbers, IsSettledAt, IsStill}
+use Rattle.tables.specs.Settling.{HasRow, HasDayAt, IsNumbered, Numbers}
 use Rattle.tables.specs.declared.settling.TheConstants.{THIRD}
 
 pub begun_state : {S : Type 0} (g : Ghosts S) (old begun : Held S) → begun ≡ record old { in_transaction = true } → state g begun ≡ record (state g old) { in_transaction = true }
@@ -125,36 +122,3 @@ then_indexed old mid new rows (inr raised) = inr (record {
 
 pub numbers_then : (old mid new : State) → Numbers old mid → IsIndexed mid new → Numbers old new
 numbers_then old mid new it made = record { ready = made.ready; comes = then_indexed old.now.trees mid.now.trees new.now.trees made.rows it.comes; mode = made.mode ∙ it.mode }
-
--- ---- the transaction in which the day is read and the indexes are made
-
-pub still_itself : (trees : Trees) (new : State) → IsReady new.now → new.now.trees ≡ trees → new.committed ≡ new.now → IsStill trees new
-still_itself trees new ready same settled = record { ready = ready; rows = subst (KeepsRows trees) (sym same) (each_itself trees the_tables); settled = settled }
-
-module _ (old begun last new : State) (is : begun ≡ record old { in_transaction = true }) where
-  pub settled_at : Numbers begun last → Shows last new last.now last.now false → IsSettledAt old.now.trees new
-  settled_at it shows = record {
-    ready = subst IsReady (sym shows.now_is) it.ready;
-    comes = subst (λ (d : Database). IsNumbered old.now.trees d.trees) (sym shows.now_is) (subst (λ (d : Database). IsNumbered d.trees last.now.trees) (ap (λ (s : State). s.now) is) it.comes);
-    settled = shows.committed_is ∙ sym shows.now_is;
-  }
-
-  pub undone_still : KeepsCommit begun last → IsRolledBack last new → IsReady old.now → old.now ≡ old.committed → IsTrue new.is_open → IsStill old.now.trees new
-  undone_still kept undone ready settled up =
-      let back = undone.undone up in
-      let before : last.committed ≡ old.committed = kept.committed (undone.was_open up) ∙ ap (λ (s : State). s.committed) is in
-      let now : new.now ≡ old.now = back.0 ∙ before ∙ sym settled in
-      still_itself old.now.trees new (subst IsReady (sym now) ready) (ap (λ (d : Database). d.trees) now) (back.1 ∙ sym back.0)
-
-  pub uncommitted_still : (e : Error) → KeepsCommit begun last → last.in_transaction ≡ begun.in_transaction → FailsToCommit last new e → IsReady old.now → old.now ≡ old.committed → IsTrue new.is_open
-      → IsStill old.now.trees new
-  uncommitted_still e kept mode (inl fails) ready settled up = undone_still kept fails.3 ready settled up
-  uncommitted_still e kept mode (inr late) ready settled up = absurd (let inside : begun.in_transaction ≡ true = ap (λ (s : State). s.in_transaction) is in let out = late.1 in cc)
-
--- a stop before the commit leaves what there was
-pub stops_before : {S : Type 0} (g : Ghosts S) (old begun : Held S) (last new : State) (P : Trees → Type 0) → begun ≡ record old { in_transaction = true } → Survives (state g begun) last (λ _. ⊥) → Survives last new (λ _. ⊥)
-    → Survives (state g old) new P
-stops_before g old begun last new P is one two =
-    let first = rw is at one in
-    let whole : Survives (state g old) last (λ _. ⊥) = record { clean = first.clean; shield = first.shield; counts = first.counts; limit = first.limit; closes = first.closes; crash = first.crash } in
-    survives_then (state g old) last new (λ _. ⊥) (λ _. ⊥) P (λ _ db none. absurd none) (λ _ db none. absurd none) whole two

@@ -1,3 +1,4 @@
+pub mod Ending
 pub mod Creation
 pub mod Opening
 pub mod Layouts

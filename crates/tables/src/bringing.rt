@@ -13,6 +13,7 @@ ghost use Rattle.tables.specs.Opening.{TellTables};
 ghost use Rattle.tables.specs.Settling.{HasDayAt, HasRow};
 
 use crate::dropping::drop_indexes;
+use crate::ending::finish;
 use crate::indexing::make_indexes;
 use crate::older::OlderBooks;
 use crate::settling::meta_row_at;
@@ -205,7 +206,6 @@ pub fn bring_up<S: Alter>(
     ensures outside { conn.new.in_transaction ≡ false }
 {
     let mut tx = conn.transaction();
-    let day = bring(alloc, &mut tx, older)?;
-    tx.commit()?;
-    Ok(day)
+    let day = bring(alloc, &mut tx, older);
+    finish(tx, day)
 }

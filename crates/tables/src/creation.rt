@@ -12,6 +12,7 @@ ghost use Rattle.tables.specs.Indexing.{HasIndexes};
 ghost use Rattle.tables.specs.Opening.{TellTables};
 
 use crate::checking::is_empty_schema;
+use crate::ending::finish;
 use crate::indexing::make_indexes;
 use crate::steps::{STEPS, run_steps};
 use commands::{BinRow, MetaRow};
@@ -82,7 +83,6 @@ pub fn create<S: Alter>(
         return Err(TableFault::Foreign);
     }
     let mut tx = conn.transaction();
-    fill(&mut tx, meta, bin)?;
-    tx.commit()?;
-    Ok(())
+    let filled = fill(&mut tx, meta, bin);
+    finish(tx, filled)
 }

@@ -8,6 +8,7 @@ pub mod bringing;
 mod checking;
 pub mod creation;
 pub mod dropping;
+pub mod ending;
 pub mod indexing;
 mod layouts;
 pub mod older;

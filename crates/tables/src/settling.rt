@@ -9,6 +9,7 @@ ghost use Rattle.tables.specs.Indexing.{HasIndexes};
 ghost use Rattle.tables.specs.Opening.{TellTables};
 ghost use Rattle.tables.specs.Settling.{HasRow, HasDayAt, HasDay, IsNumbered, Numbers, IsSettledAt, IsStill};
 
+use crate::ending::finish;
 use crate::indexing::make_indexes;
 use commands::MetaRow;
 use goods_tables::meta::{NEWEST, meta_rows_at, raise_meta};
@@ -128,7 +129,6 @@ pub fn settle<S: Alter>(alloc: Global, conn: &mut Connection<S>) -> Result<Busin
     ensures outside { conn.new.in_transaction ≡ false }
 {
     let mut tx = conn.transaction();
-    let day = day_and_indexes(alloc, &mut tx)?;
-    tx.commit()?;
-    Ok(day)
+    let day = day_and_indexes(alloc, &mut tx);
+    finish(tx, day)
 }

@@ -12,8 +12,8 @@ invariant-loop-row g l =
     (IsClean g.S.Store l.books → IsClean g.S.Store l.fn.books)
     × ((done : List RepeatRow)
     × (l.fn.rows.items ≡ l.rows.items ++ done)
-    × (IsClean g.S.Store l.books → (first : ℤ) → IsHistory first [] → IsOpen g.S.Store l.fn.books → HoldsBooks g.S.Store first [] l.fn.books
-    → AreRowsReplayed g.S.Store first done (Ok tt) l.books))
+    × (IsClean g.S.Store l.books → (first : ℤ) → IsHistory first [] → HoldsBooks g.S.Store first [] l.fn.books
+    → AreRowsReplayed g.S.Store first done (Ok tt) l.books × (IsOpen g.S.Store l.fn.books → IsOpen g.S.Store l.books)))
 
 abbrev pub decreases-loop-row : goal.decreases-loop-row
 decreases-loop-row g l = vec_len l.rows

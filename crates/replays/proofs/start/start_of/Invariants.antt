@@ -1,6 +1,7 @@
 use Rattle.std.proofs.Common.{take}
+use Rattle.replays.specs.Starting.{TellNothing}
 use Rattle.replays.proofs.Starting.{TellNone}
 use Rattle.replays.proofs.start.start_of.Given as goal
 
 abbrev pub invariant-loop-row : goal.invariant-loop-row
-invariant-loop-row l = TellNone (take l.row-index l.rows)
+invariant-loop-row l = TellNone (take l.row-index l.rows) × TellNothing (take l.row-index l.rows)

@@ -1,171 +1,117 @@
-use Rattle.std.proofs.Common.{◌≡◌, true, ℤ, ◌∙◌, IfErr, IsTrue, rules, arith, sym, ap, subst}
+use Rattle.std.proofs.Common.{◌≡◌, true, false, ℤ, Result, ◌∙◌, OnOk, OnErr, IfErr, IsTrue, rules, arith, sym, subst}
+use Rattle.std.proofs.lemmas.Result.{on_ok_weaker}
 use Rattle.sqlite.specs.Effect.{Database}
 use Rattle.sqlite.specs.Held.{state}
-use Rattle.sqlite.specs.State.{State, HasCleanDisk, Survives}
+use Rattle.sqlite.specs.State.{State, HasCleanDisk, Shows, IsRolledBack, KeepsCommit, Survives}
+use Rattle.sqlite.specs.Tree.{Trees}
 use Rattle.table_words.specs.Steps.{IsReady}
-use Rattle.table_words.specs.declared.error.TableFault.TheVariants.{Foreign as ForeignTable}
-use Rattle.table_words.proofs.CallLemmas.{put_back, commit_back, commit_settled}
-use Rattle.tables.specs.Bringing.{AreFillersTyped, IsOlderReady, IsBrought}
+use Rattle.table_words.specs.declared.error.TableFault.{TableFault}
+use Rattle.table_words.specs.declared.error.TableFault.TheVariants.{Foreign as ForeignTable, Store as TableStore}
+use Rattle.table_words.proofs.CallLemmas.{put_back}
+use Rattle.tables.specs.Bringing.{AreFillersTyped, IsOlderReady, IsBrought, IsFilled}
+use Rattle.tables.specs.Ending.{Ends}
 use Rattle.tables.specs.Indexing.{HasIndexes}
 use Rattle.tables.specs.Older.{number}
 use Rattle.tables.specs.Opening.{TellTables}
 use Rattle.tables.specs.Settling.{HasDayAt}
-use Rattle.keyed_rows.proofs.Writing.{same_error}
-use Rattle.tables.proofs.CreateLemmas.{crash_made}
+use Rattle.tables.specs.declared.older.OlderBooks.{OlderBooks}
+use Rattle.tables.proofs.EndLemmas.{err_of, whole_of, undone_of, if_so, survives_of}
 use Rattle.tables.proofs.OpenLemmas.{ready_tells}
 use Rattle.tables.proofs.BringLemmas.{begins_older}
-use Rattle.tables.proofs.SettleLemmas.{begun_state, stops_before}
+use Rattle.tables.proofs.SettleLemmas.{begun_state}
 use Rattle.tables.proofs.bringing.bring_up.Goals as goal
 
-pub returns-clause-day : goal.returns-clause-day
-returns-clause-day g c =
+module _ (older : OlderBooks) (base : Trees) (done r : Result ℤ TableFault) (last new : State) (ends : Ends (λ cause e. e ≡ TableStore cause) done r last new) (clean : HasCleanDisk new) (filled : OnOk done (IsFilled older base last)) where
+  brought_whole : OnOk r (IsReady new.now × IsBrought older base new.now.trees × HasIndexes new.now.schema)
+  brought_whole = whole_of (λ cause e. e ≡ TableStore cause) done r last new ends clean (λ (it : IsFilled older base last) (shows : Shows last new last.now last.now false). (
+    subst IsReady (sym shows.now_is) it.written.ready,
+    subst (λ (d : Database). IsBrought older base d.trees) (sym shows.now_is) it.written.brought,
+    subst (λ (d : Database). HasIndexes d.schema) (sym shows.now_is) it.indexes,
+  )) filled
+
+  brought_back : (old begun : State) → begun ≡ record old { in_transaction = true } → KeepsCommit begun last → old.now ≡ old.committed → IsTrue new.is_open → OnErr r ((new.now ≡ old.now) × (new.committed ≡ old.now))
+  brought_back old begun is kept settled up = undone_of (λ cause e. e ≡ TableStore cause) done r last new ends clean (λ (it : IsFilled older base last). it.written.inside) (λ (undone : IsRolledBack last new).
+      let back = put_back old begun last new is kept undone (λ _. settled) up in
+      (back, (undone.undone up).1 ∙ sym (undone.undone up).0 ∙ back)) filled
+
+pub returns-clause-survives : goal.returns-clause-survives
+returns-clause-survives g c =
     let old = c.args.conn.now in
     let begun = c.transaction-tx.result.conn.now in
-    let last = state g.S.Store c.bring.new.tx.conn.now in
-    let new = state g.S.Store c.commit.new.self.0 in
+    let last = state g.S.Store c.bring-day.new.tx.conn.now in
+    let new = state g.S.Store c.finish.new.tx.0 in
     let base = (state g.S.Store old).now.trees in
-    let whole : HasCleanDisk new → IsOlderReady c.args.older (state g.S.Store old).now → HasDayAt (number c.args.older) base c.in_ok-day.day = λ clean ready.
-    let was : HasCleanDisk last = omega (arith, clean, c.commit.ensures.survives.clean) in
-    c.in_ok-day.ensures.day was base (begins_older g.S.Store old begun c.args.older c.transaction-tx.ensures.begun ready) in
+    let whole : Survives (state g.S.Store old) new (λ db. IsOlderReady c.args.older (state g.S.Store old).now → IsBrought c.args.older base db × TellTables db) =
+    survives_of c.bring-day.result (state g.S.Store old) (state g.S.Store begun) last new _ (begun_state g.S.Store old begun c.transaction-tx.ensures.begun) c.bring-day.ensures.survives c.finish.ensures.survives (λ clean.
+    let was : HasCleanDisk last = omega (arith, clean, c.finish.ensures.survives.clean) in
+    if_so _ c.bring-day.result (λ ready. on_ok_weaker c.bring-day.result (λ (done : IsFilled c.args.older base last). (done.written.brought, ready_tells last.now done.written.ready))
+    (c.bring-day.ensures.done was base (begins_older g.S.Store old begun c.args.older c.transaction-tx.ensures.begun ready)))) in
     search (rules, whole)
 
-pub returns-clause-open : goal.returns-clause-open
-returns-clause-open g c =
+pub returns-clause-foreign : goal.returns-clause-foreign
+returns-clause-foreign g c =
     let old = c.args.conn.now in
     let begun = c.transaction-tx.result.conn.now in
-    let last = state g.S.Store c.bring.new.tx.conn.now in
-    let new = state g.S.Store c.commit.new.self.0 in
+    let last = state g.S.Store c.bring-day.new.tx.conn.now in
+    let new = state g.S.Store c.finish.new.tx.0 in
     let base = (state g.S.Store old).now.trees in
-    let whole : HasCleanDisk new → IsTrue new.is_open = λ clean. (c.in_ok-commit.ensures.ok clean).1.is_open in
+    let whole : HasCleanDisk new → IsOlderReady c.args.older (state g.S.Store old).now → IfErr c.finish.result (λ e. e ≡ ForeignTable → (day : ℤ) → HasDayAt (number c.args.older) base day → ¬ AreFillersTyped c.args.older base) = λ clean ready.
+    let was : HasCleanDisk last = omega (arith, clean, c.finish.ensures.survives.clean) in
+    err_of (λ cause e. e ≡ TableStore cause) c.bring-day.result c.finish.result last new (λ e. e ≡ ForeignTable → (day : ℤ) → HasDayAt (number c.args.older) base day → ¬ AreFillersTyped c.args.older base) c.finish.ensures.ends
+    (λ cause e is foreign. absurd (let no : TableStore cause ≡ ForeignTable = sym is ∙ foreign in cc))
+    (c.bring-day.ensures.foreign was base (begins_older g.S.Store old begun c.args.older c.transaction-tx.ensures.begun ready)) in
     search (rules, whole)
 
 pub returns-clause-ready : goal.returns-clause-ready
 returns-clause-ready g c =
     let old = c.args.conn.now in
     let begun = c.transaction-tx.result.conn.now in
-    let last = state g.S.Store c.bring.new.tx.conn.now in
-    let new = state g.S.Store c.commit.new.self.0 in
+    let last = state g.S.Store c.bring-day.new.tx.conn.now in
+    let new = state g.S.Store c.finish.new.tx.0 in
     let base = (state g.S.Store old).now.trees in
-    let whole : HasCleanDisk new → IsOlderReady c.args.older (state g.S.Store old).now → IsReady new.now = λ clean ready.
-    let was : HasCleanDisk last = omega (arith, clean, c.commit.ensures.survives.clean) in
-    let done = c.in_ok-day.ensures.done was base (begins_older g.S.Store old begun c.args.older c.transaction-tx.ensures.begun ready) in
-    subst IsReady (sym (c.in_ok-commit.ensures.ok clean).1.now_is) done.written.ready in
-    let same : c.commit.new.self.0 ≡ c.conn-2-1.given.0 = search rules in
-    subst (λ h. HasCleanDisk (state g.S.Store h) → IsOlderReady c.args.older (state g.S.Store old).now → IsReady (state g.S.Store h).now) same whole
+    let whole : HasCleanDisk new → IsOlderReady c.args.older (state g.S.Store old).now → OnOk c.finish.result (IsReady new.now) = λ clean ready.
+    let was : HasCleanDisk last = omega (arith, clean, c.finish.ensures.survives.clean) in
+    let done = c.bring-day.ensures.done was base (begins_older g.S.Store old begun c.args.older c.transaction-tx.ensures.begun ready) in
+    on_ok_weaker c.finish.result (λ (it : IsReady new.now × IsBrought c.args.older base new.now.trees × HasIndexes new.now.schema). it.0) (brought_whole c.args.older base c.bring-day.result c.finish.result last new c.finish.ensures.ends clean done) in
+    let same : c.finish.new.tx.0 ≡ c.conn-1.given.0 = search rules in
+    subst (λ h. HasCleanDisk (state g.S.Store h) → IsOlderReady c.args.older (state g.S.Store old).now → OnOk c.finish.result (IsReady (state g.S.Store h).now)) same whole
 
 pub returns-clause-brought : goal.returns-clause-brought
 returns-clause-brought g c =
     let old = c.args.conn.now in
     let begun = c.transaction-tx.result.conn.now in
-    let last = state g.S.Store c.bring.new.tx.conn.now in
-    let new = state g.S.Store c.commit.new.self.0 in
+    let last = state g.S.Store c.bring-day.new.tx.conn.now in
+    let new = state g.S.Store c.finish.new.tx.0 in
     let base = (state g.S.Store old).now.trees in
-    let whole : HasCleanDisk new → IsOlderReady c.args.older (state g.S.Store old).now → IsBrought c.args.older base new.now.trees = λ clean ready.
-    let was : HasCleanDisk last = omega (arith, clean, c.commit.ensures.survives.clean) in
-    let done = c.in_ok-day.ensures.done was base (begins_older g.S.Store old begun c.args.older c.transaction-tx.ensures.begun ready) in
-    subst (λ (d : Database). IsBrought c.args.older base d.trees) (sym (c.in_ok-commit.ensures.ok clean).1.now_is) done.written.brought in
+    let whole : HasCleanDisk new → IsOlderReady c.args.older (state g.S.Store old).now → OnOk c.finish.result (IsBrought c.args.older base new.now.trees) = λ clean ready.
+    let was : HasCleanDisk last = omega (arith, clean, c.finish.ensures.survives.clean) in
+    let done = c.bring-day.ensures.done was base (begins_older g.S.Store old begun c.args.older c.transaction-tx.ensures.begun ready) in
+    on_ok_weaker c.finish.result (λ (it : IsReady new.now × IsBrought c.args.older base new.now.trees × HasIndexes new.now.schema). it.1) (brought_whole c.args.older base c.bring-day.result c.finish.result last new c.finish.ensures.ends clean done) in
     search (rules, whole)
 
 pub returns-clause-indexes : goal.returns-clause-indexes
 returns-clause-indexes g c =
     let old = c.args.conn.now in
     let begun = c.transaction-tx.result.conn.now in
-    let last = state g.S.Store c.bring.new.tx.conn.now in
-    let new = state g.S.Store c.commit.new.self.0 in
+    let last = state g.S.Store c.bring-day.new.tx.conn.now in
+    let new = state g.S.Store c.finish.new.tx.0 in
     let base = (state g.S.Store old).now.trees in
-    let whole : HasCleanDisk new → IsOlderReady c.args.older (state g.S.Store old).now → HasIndexes new.now.schema = λ clean ready.
-    let was : HasCleanDisk last = omega (arith, clean, c.commit.ensures.survives.clean) in
-    let done = c.in_ok-day.ensures.done was base (begins_older g.S.Store old begun c.args.older c.transaction-tx.ensures.begun ready) in
-    subst (λ (d : Database). HasIndexes d.schema) (sym (c.in_ok-commit.ensures.ok clean).1.now_is) done.indexes in
+    let whole : HasCleanDisk new → IsOlderReady c.args.older (state g.S.Store old).now → OnOk c.finish.result (HasIndexes new.now.schema) = λ clean ready.
+    let was : HasCleanDisk last = omega (arith, clean, c.finish.ensures.survives.clean) in
+    let done = c.bring-day.ensures.done was base (begins_older g.S.Store old begun c.args.older c.transaction-tx.ensures.begun ready) in
+    on_ok_weaker c.finish.result (λ (it : IsReady new.now × IsBrought c.args.older base new.now.trees × HasIndexes new.now.schema). it.2) (brought_whole c.args.older base c.bring-day.result c.finish.result last new c.finish.ensures.ends clean done) in
     search (rules, whole)
 
-pub returns-clause-settled : goal.returns-clause-settled
-returns-clause-settled g c =
+pub returns-clause-failed : goal.returns-clause-failed
+returns-clause-failed g c =
     let old = c.args.conn.now in
     let begun = c.transaction-tx.result.conn.now in
-    let last = state g.S.Store c.bring.new.tx.conn.now in
-    let new = state g.S.Store c.commit.new.self.0 in
+    let last = state g.S.Store c.bring-day.new.tx.conn.now in
+    let new = state g.S.Store c.finish.new.tx.0 in
     let base = (state g.S.Store old).now.trees in
-    let whole : HasCleanDisk new → new.committed ≡ new.now = λ clean. (c.in_ok-commit.ensures.ok clean).1.committed_is ∙ sym (c.in_ok-commit.ensures.ok clean).1.now_is in
-    search (rules, whole)
-
-pub returns-clause-survives : goal.returns-clause-survives
-returns-clause-survives g c =
-    let old = c.args.conn.now in
-    let begun = c.transaction-tx.result.conn.now in
-    let last = state g.S.Store c.bring.new.tx.conn.now in
-    let new = state g.S.Store c.commit.new.self.0 in
-    let base = (state g.S.Store old).now.trees in
-    let whole : Survives (state g.S.Store old) new (λ db. IsOlderReady c.args.older (state g.S.Store old).now → IsBrought c.args.older base db × TellTables db) = crash_made g.S.Store old begun last new _ c.transaction-tx.ensures.begun c.in_ok-day.ensures.survives c.commit.ensures.survives (λ clean ready.
-    let was : HasCleanDisk last = omega (arith, clean, c.commit.ensures.survives.clean) in
-    let done = c.in_ok-day.ensures.done was base (begins_older g.S.Store old begun c.args.older c.transaction-tx.ensures.begun ready) in
-    (done.written.brought, ready_tells last.now done.written.ready)) in
-    search (rules, whole)
-
-pub returns-in_err-commit-clause-survives : goal.returns-in_err-commit-clause-survives
-returns-in_err-commit-clause-survives g c =
-    let old = c.args.conn.now in
-    let begun = c.transaction-tx.result.conn.now in
-    let last = state g.S.Store c.bring.new.tx.conn.now in
-    let new = state g.S.Store c.commit.new.self.0 in
-    let base = (state g.S.Store old).now.trees in
-    let whole : Survives (state g.S.Store old) new (λ db. IsOlderReady c.args.older (state g.S.Store old).now → IsBrought c.args.older base db × TellTables db) = crash_made g.S.Store old begun last new _ c.transaction-tx.ensures.begun c.in_ok-day.ensures.survives c.commit.ensures.survives (λ clean ready.
-    let was : HasCleanDisk last = omega (arith, clean, c.commit.ensures.survives.clean) in
-    let done = c.in_ok-day.ensures.done was base (begins_older g.S.Store old begun c.args.older c.transaction-tx.ensures.begun ready) in
-    (done.written.brought, ready_tells last.now done.written.ready)) in
-    search (rules, whole)
-
-pub returns-in_err-day-clause-survives : goal.returns-in_err-day-clause-survives
-returns-in_err-day-clause-survives g c =
-    let old = c.args.conn.now in
-    let begun = c.transaction-tx.result.conn.now in
-    let last = state g.S.Store c.bring.new.tx.conn.now in
-    let new = state g.S.Store c.drop-tx.new.self.0 in
-    let base = (state g.S.Store old).now.trees in
-    let whole : Survives (state g.S.Store old) new (λ db. IsOlderReady c.args.older (state g.S.Store old).now → IsBrought c.args.older base db × TellTables db) = stops_before g.S.Store old begun last new _ c.transaction-tx.ensures.begun c.in_err-day.ensures.survives c.drop-tx.ensures.survives in
-    search (rules, whole)
-
-pub returns-in_err-day-clause-foreign : goal.returns-in_err-day-clause-foreign
-returns-in_err-day-clause-foreign g c clean ready =
-    let old = c.args.conn.now in
-    let begun = c.transaction-tx.result.conn.now in
-    let last = state g.S.Store c.bring.new.tx.conn.now in
-    let base = (state g.S.Store old).now.trees in
-    let same : c.drop-tx.new.self.0 ≡ c.conn-1.given.0 = search rules in
-    let new : HasCleanDisk (state g.S.Store c.drop-tx.new.self.0) = subst (λ h. HasCleanDisk (state g.S.Store h)) (sym same) clean in
-    let was : HasCleanDisk last = omega (arith, new, c.drop-tx.ensures.survives.clean) in
-    same_error c.from_residual.result c.in_err-day.field-0.0 c.from_residual.ensures (λ r. IfErr r (λ e. e ≡ ForeignTable → (day : ℤ) → HasDayAt (number c.args.older) base day → ¬ AreFillersTyped c.args.older base))
-    (c.in_err-day.ensures.foreign was base (begins_older g.S.Store old begun c.args.older c.transaction-tx.ensures.begun ready))
-
-pub returns-in_err-day-clause-failed : goal.returns-in_err-day-clause-failed
-returns-in_err-day-clause-failed g c =
-    let old = c.args.conn.now in
-    let begun = c.transaction-tx.result.conn.now in
-    let last = state g.S.Store c.bring.new.tx.conn.now in
-    let new = state g.S.Store c.drop-tx.new.self.0 in
-    let base = (state g.S.Store old).now.trees in
-    let whole : HasCleanDisk new → IsOlderReady c.args.older (state g.S.Store old).now → (state g.S.Store old).now ≡ (state g.S.Store old).committed → IsTrue new.is_open → (new.now ≡ (state g.S.Store old).now) × (new.committed ≡ (state g.S.Store old).now) = λ clean ready settled up.
-    let was : HasCleanDisk last = omega (arith, clean, c.drop-tx.ensures.survives.clean) in
-    let undone = c.drop-tx.ensures.undone clean in
-    let back = put_back (state g.S.Store old) (state g.S.Store begun) last new (begun_state g.S.Store old begun c.transaction-tx.ensures.begun) (c.in_err-day.ensures.kept was base (begins_older g.S.Store old begun c.args.older c.transaction-tx.ensures.begun ready)) undone (λ _. settled) up in
-    (back, (undone.undone up).1 ∙ sym (undone.undone up).0 ∙ back) in
-    search (rules, whole)
-
-pub returns-in_err-commit-clause-failed : goal.returns-in_err-commit-clause-failed
-returns-in_err-commit-clause-failed g c =
-    let old = c.args.conn.now in
-    let begun = c.transaction-tx.result.conn.now in
-    let last = state g.S.Store c.bring.new.tx.conn.now in
-    let new = state g.S.Store c.commit.new.self.0 in
-    let base = (state g.S.Store old).now.trees in
-    let whole : HasCleanDisk new → IsOlderReady c.args.older (state g.S.Store old).now → (state g.S.Store old).now ≡ (state g.S.Store old).committed → IsTrue new.is_open → (new.now ≡ (state g.S.Store old).now) × (new.committed ≡ (state g.S.Store old).now) = λ clean ready settled up.
-    let was : HasCleanDisk last = omega (arith, clean, c.commit.ensures.survives.clean) in
-    let is = begun_state g.S.Store old begun c.transaction-tx.ensures.begun in
+    let whole : HasCleanDisk new → IsOlderReady c.args.older (state g.S.Store old).now → (state g.S.Store old).now ≡ (state g.S.Store old).committed → IsTrue new.is_open → OnErr c.finish.result ((new.now ≡ (state g.S.Store old).now) × (new.committed ≡ (state g.S.Store old).now)) = λ clean ready settled up.
+    let was : HasCleanDisk last = omega (arith, clean, c.finish.ensures.survives.clean) in
     let books = begins_older g.S.Store old begun c.args.older c.transaction-tx.ensures.begun ready in
-    let done = c.in_ok-day.ensures.done was base books in
-    let fails = c.in_err-commit.ensures.err clean in
-    let begun_in : (state g.S.Store begun).in_transaction ≡ true = ap (λ (s : State). s.in_transaction) is in
-    let mode = done.written.inside ∙ sym begun_in in
-    let back = commit_back (state g.S.Store old) (state g.S.Store begun) last new _ is (c.in_ok-day.ensures.kept was base books) mode fails (λ _. settled) up in
-    (back, commit_settled (state g.S.Store begun) last new _ begun_in mode fails up ∙ back) in
+    brought_back c.args.older base c.bring-day.result c.finish.result last new c.finish.ensures.ends clean (c.bring-day.ensures.done was base books)
+    (state g.S.Store old) (state g.S.Store begun) (begun_state g.S.Store old begun c.transaction-tx.ensures.begun) (c.bring-day.ensures.kept was base books) settled up in
     search (rules, whole)

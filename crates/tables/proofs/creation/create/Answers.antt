@@ -1,117 +1,28 @@
-use Rattle.std.proofs.Common.{◌≡◌, subst, sym, ◌∙◌, arith, rules}
+use Rattle.std.proofs.Common.{◌≡◌, ◌∙◌, IsTrue, rules, arith, sym}
+use Rattle.std.proofs.lemmas.Result.{on_ok_weaker}
 use Rattle.sqlite.specs.Held.{state}
 use Rattle.sqlite.specs.State.{HasCleanDisk, Survives}
 use Rattle.table_words.specs.Schema.{schema_0}
-use Rattle.table_words.specs.Steps.{IsReady}
-use Rattle.table_words.specs.Typed.{tables_in, AreTyped}
-use Rattle.sqlite.specs.Effect.{Database}
-use Rattle.tables.specs.Creation.{first_rows}
+use Rattle.tables.specs.Creation.{Holds, first_rows}
 use Rattle.tables.specs.Indexing.{HasIndexes}
 use Rattle.tables.specs.Opening.{TellTables}
+use Rattle.tables.proofs.CreateLemmas.{begins_void}
+use Rattle.tables.proofs.EndLemmas.{then_so, survives_of}
 use Rattle.tables.proofs.OpenLemmas.{ready_tells}
-use Rattle.tables.proofs.CreateLemmas.{begins_void, crash_made}
+use Rattle.tables.proofs.SettleLemmas.{begun_state}
 use Rattle.tables.proofs.creation.create.Goals as goal
-
-pub returns-in_err-commit-clause-survives : goal.returns-in_err-commit-clause-survives
-returns-in_err-commit-clause-survives g c =
-    let old = c.args.conn.now in
-    let begun = c.transaction-tx.result.conn.now in
-    let last = state g.S.Store c.fill.new.tx.conn.now in
-    let whole : Survives (state g.S.Store old) (state g.S.Store c.commit.new.self.0) (λ trees. (tables_in trees ≡ first_rows c.args.meta.now c.args.bin.now) × AreTyped trees) =
-    crash_made g.S.Store old begun last _ _ c.transaction-tx.ensures.begun c.fill.ensures.survives c.commit.ensures.survives (λ clean.
-    let clean_last : HasCleanDisk last = omega (arith, clean, c.commit.ensures.survives.clean) in
-    let blank : (state g.S.Store old).now.schema ≡ schema_0 = sym c.schema.ensures.value ∙ c.is_empty_schema.ensures.0 c.if-not-is_empty_schema.false in
-    let filled = c.in_ok-fill.ensures.done clean_last (begins_void g.S.Store old begun c.transaction-tx.ensures.begun c.schema.ensures.live blank (c.in_ok-fill.ensures.was_open clean_last)) in
-    (filled.0.tables, filled.0.typed)) in
-    search (rules, whole)
-
-pub returns-clause-foreign : goal.returns-clause-foreign
-returns-clause-foreign g c = search rules
-
-pub returns-clause-unchanged : goal.returns-clause-unchanged
-returns-clause-unchanged g c = search rules
-
-pub returns-clause-open : goal.returns-clause-open
-returns-clause-open g c = search rules
-
-pub returns-clause-ready : goal.returns-clause-ready
-returns-clause-ready g c =
-    let old = c.args.conn.now in
-    let begun = c.transaction-tx.result.conn.now in
-    let last = state g.S.Store c.fill.new.tx.conn.now in
-    let new = state g.S.Store c.commit.new.self.0 in
-    let whole : HasCleanDisk new → IsReady new.now = λ clean.
-    let clean_last : HasCleanDisk last = omega (arith, clean, c.commit.ensures.survives.clean) in
-    let blank : (state g.S.Store old).now.schema ≡ schema_0 = sym c.schema.ensures.value ∙ c.is_empty_schema.ensures.0 c.if-not-is_empty_schema.false in
-    let filled = c.in_ok-fill.ensures.done clean_last (begins_void g.S.Store old begun c.transaction-tx.ensures.begun c.schema.ensures.live blank (c.in_ok-fill.ensures.was_open clean_last)) in
-    subst IsReady (sym (c.in_ok-commit.ensures.ok clean).1.now_is) filled.0.ready in
-    let same : c.commit.new.self.0 ≡ c.conn-2-1.given.0 = search rules in
-    subst (λ h. HasCleanDisk (state g.S.Store h) → IsReady (state g.S.Store h).now) same whole
-
-pub returns-clause-tables : goal.returns-clause-tables
-returns-clause-tables g c = search rules
-
-pub returns-clause-typed : goal.returns-clause-typed
-returns-clause-typed g c = search rules
-
-pub returns-clause-indexes : goal.returns-clause-indexes
-returns-clause-indexes g c =
-    let old = c.args.conn.now in
-    let begun = c.transaction-tx.result.conn.now in
-    let last = state g.S.Store c.fill.new.tx.conn.now in
-    let new = state g.S.Store c.commit.new.self.0 in
-    let whole : HasCleanDisk new → HasIndexes new.now.schema = λ clean.
-    let clean_last : HasCleanDisk last = omega (arith, clean, c.commit.ensures.survives.clean) in
-    let blank : (state g.S.Store old).now.schema ≡ schema_0 = sym c.schema.ensures.value ∙ c.is_empty_schema.ensures.0 c.if-not-is_empty_schema.false in
-    let filled = c.in_ok-fill.ensures.done clean_last (begins_void g.S.Store old begun c.transaction-tx.ensures.begun c.schema.ensures.live blank (c.in_ok-fill.ensures.was_open clean_last)) in
-    subst (λ (d : Database). HasIndexes d.schema) (sym (c.in_ok-commit.ensures.ok clean).1.now_is) filled.1 in
-    let same : c.commit.new.self.0 ≡ c.conn-2-1.given.0 = search rules in
-    subst (λ h. HasCleanDisk (state g.S.Store h) → HasIndexes (state g.S.Store h).now.schema) same whole
-
-pub returns-clause-failed : goal.returns-clause-failed
-returns-clause-failed g c = search rules
-
-pub returns-clause-settled : goal.returns-clause-settled
-returns-clause-settled g c = search rules
-
-pub returns-clause-survives : goal.returns-clause-survives
-returns-clause-survives g c =
-    let old = c.args.conn.now in
-    let begun = c.transaction-tx.result.conn.now in
-    let last = state g.S.Store c.fill.new.tx.conn.now in
-    let whole : Survives (state g.S.Store old) (state g.S.Store c.commit.new.self.0) (λ trees. (tables_in trees ≡ first_rows c.args.meta.now c.args.bin.now) × AreTyped trees) =
-    crash_made g.S.Store old begun last _ _ c.transaction-tx.ensures.begun c.fill.ensures.survives c.commit.ensures.survives (λ clean.
-    let clean_last : HasCleanDisk last = omega (arith, clean, c.commit.ensures.survives.clean) in
-    let blank : (state g.S.Store old).now.schema ≡ schema_0 = sym c.schema.ensures.value ∙ c.is_empty_schema.ensures.0 c.if-not-is_empty_schema.false in
-    let filled = c.in_ok-fill.ensures.done clean_last (begins_void g.S.Store old begun c.transaction-tx.ensures.begun c.schema.ensures.live blank (c.in_ok-fill.ensures.was_open clean_last)) in
-    (filled.0.tables, filled.0.typed)) in
-    search (rules, whole)
-
-pub returns-clause-outside : goal.returns-clause-outside
-returns-clause-outside g c = search rules
 
 pub returns-clause-tells : goal.returns-clause-tells
 returns-clause-tells g c =
     let old = c.args.conn.now in
     let begun = c.transaction-tx.result.conn.now in
-    let last = state g.S.Store c.fill.new.tx.conn.now in
-    let whole : Survives (state g.S.Store old) (state g.S.Store c.commit.new.self.0) TellTables =
-    crash_made g.S.Store old begun last _ _ c.transaction-tx.ensures.begun c.fill.ensures.survives c.commit.ensures.survives (λ clean.
-    let clean_last : HasCleanDisk last = omega (arith, clean, c.commit.ensures.survives.clean) in
+    let last = state g.S.Store c.fill-filled.new.tx.conn.now in
+    let new = state g.S.Store c.finish.new.tx.0 in
     let blank : (state g.S.Store old).now.schema ≡ schema_0 = sym c.schema.ensures.value ∙ c.is_empty_schema.ensures.0 c.if-not-is_empty_schema.false in
-    let filled = c.in_ok-fill.ensures.done clean_last (begins_void g.S.Store old begun c.transaction-tx.ensures.begun c.schema.ensures.live blank (c.in_ok-fill.ensures.was_open clean_last)) in
-    ready_tells last.now filled.0.ready) in
-    search (rules, whole)
-
-pub returns-in_err-commit-clause-tells : goal.returns-in_err-commit-clause-tells
-returns-in_err-commit-clause-tells g c =
-    let old = c.args.conn.now in
-    let begun = c.transaction-tx.result.conn.now in
-    let last = state g.S.Store c.fill.new.tx.conn.now in
-    let whole : Survives (state g.S.Store old) (state g.S.Store c.commit.new.self.0) TellTables =
-    crash_made g.S.Store old begun last _ _ c.transaction-tx.ensures.begun c.fill.ensures.survives c.commit.ensures.survives (λ clean.
-    let clean_last : HasCleanDisk last = omega (arith, clean, c.commit.ensures.survives.clean) in
-    let blank : (state g.S.Store old).now.schema ≡ schema_0 = sym c.schema.ensures.value ∙ c.is_empty_schema.ensures.0 c.if-not-is_empty_schema.false in
-    let filled = c.in_ok-fill.ensures.done clean_last (begins_void g.S.Store old begun c.transaction-tx.ensures.begun c.schema.ensures.live blank (c.in_ok-fill.ensures.was_open clean_last)) in
-    ready_tells last.now filled.0.ready) in
+    let whole : Survives (state g.S.Store old) new TellTables =
+    survives_of c.fill-filled.result (state g.S.Store old) (state g.S.Store begun) last new TellTables (begun_state g.S.Store old begun c.transaction-tx.ensures.begun) c.fill-filled.ensures.survives c.finish.ensures.survives (λ clean.
+    let was : HasCleanDisk last = omega (arith, clean, c.finish.ensures.survives.clean) in
+    then_so (TellTables last.now.trees) c.fill-filled.result (c.fill-filled.ensures.was_open was) (λ (up : IsTrue (state g.S.Store begun).is_open).
+    on_ok_weaker c.fill-filled.result (λ (done : Holds (first_rows c.args.meta.now c.args.bin.now) last × HasIndexes last.now.schema). ready_tells last.now done.0.ready)
+    (c.fill-filled.ensures.done was (begins_void g.S.Store old begun c.transaction-tx.ensures.begun c.schema.ensures.live blank up)))) in
     search (rules, whole)

@@ -1,0 +1,28 @@
+// Elements made of text alone. Nothing here reads HTML, so a name or a lot is shown as it is written.
+
+function filled(it, attributes, children) {
+  for (const [name, value] of Object.entries(attributes)) {
+    if (name.startsWith("on")) it.addEventListener(name.slice(2), value);
+    else if (value === true) it.setAttribute(name, "");
+    else if (value !== false && value != null) it.setAttribute(name, value);
+  }
+  it.append(...children.flat(9).filter(child => child != null && child !== false));
+  return it;
+}
+
+export const tag = (name, attributes = {}, ...children) => filled(document.createElement(name), attributes, children);
+export const svg = (name, attributes = {}, ...children) =>
+  filled(document.createElementNS("http://www.w3.org/2000/svg", name), attributes, children);
+
+/** A button that does something and sends no form. */
+export const button = (words, onclick, attributes = {}) => tag("button", { type: "button", ...attributes, onclick }, words);
+
+/** Asks before something that cannot be taken back. Gives whether it is meant. */
+export function isMeant(question, yes) {
+  return new Promise(resolve => {
+    const box = tag("dialog", { onclose: () => { box.remove(); resolve(box.returnValue === "yes"); } }, tag("p", {}, question),
+      tag("div", { class: "pair" }, button("Back", () => box.close("no")), button(yes, () => box.close("yes"), { class: "danger" })));
+    document.body.append(box);
+    box.showModal();
+  });
+}

@@ -1,0 +1,51 @@
+// The scanner as a keyboard: it types the text of a symbol, quickly, and then Enter. A label that was typed into any field
+// is taken out of that field again and told by the event "label".
+import { GS, isLabel } from "./label.js";
+import { setting } from "./kept.js";
+
+const GAP = 400, TWICE = 200;  // ms after which a key begins something new; within which a second Enter is none
+let typed = "", before = "", last = 0, slowest = 0, ended = 0, isFast = false;
+
+function key(field, text, now) {
+  if (!typed || now - last > GAP) { typed = ""; before = field.value; slowest = 0; } else slowest = Math.max(slowest, now - last);
+  last = now;
+  typed += text;
+}
+
+/** The separator comes as byte 29, as Ctrl and ], as F8, or as the character that is set for this device. */
+const isSeparator = event => event.key === GS || event.key === "F8" || (event.ctrlKey && event.key === "]");
+const labelIn = text => [setting("separator") ? text.replaceAll(setting("separator"), GS) : text].find(isLabel);
+
+/** Whether what was typed in one go is no mere end of what the field has: it begins as a label does, or stands there alone. */
+const isWhole = field => typed.startsWith("]") || field.value.replaceAll(GS, "") === typed.replaceAll(GS, "");
+
+/** Whether what the last Enter ended came faster than fingers are. */
+export const wasScanned = () => isFast;
+
+export function begin(main) {
+  document.addEventListener("beforeinput", event => {
+    if (event.target instanceof HTMLInputElement && event.data) key(event.target, event.data, event.timeStamp);
+  }, true);
+  document.addEventListener("keydown", event => {
+    if (document.querySelector("dialog[open]")) return;
+    const isPlain = event.key.length === 1 && event.key !== " " && !event.ctrlKey && !event.altKey && !event.metaKey;
+    if (!document.activeElement.matches("input, textarea, select") && (isPlain || isSeparator(event)))
+      main.querySelector("input:not([type=file])")?.focus();
+    const field = document.activeElement;
+    if (!(field instanceof HTMLInputElement)) return;
+    if (isSeparator(event)) {
+      event.preventDefault();
+      key(field, GS, event.timeStamp);
+    } else if (event.key === "Enter") {
+      const now = event.timeStamp, isAgain = !typed && now - ended < TWICE;
+      const scanned = isWhole(field) ? labelIn(typed) : undefined, label = scanned ?? labelIn(field.value);
+      if (isAgain || label) { event.preventDefault(); event.stopPropagation(); }             // CR LF is one end
+      isFast = typed.length > 2 && slowest < 40;
+      ended = now;
+      typed = "";
+      if (isAgain || !label) return;
+      field.value = scanned ? before : "";
+      field.dispatchEvent(new CustomEvent("label", { bubbles: true, detail: label }));
+    }
+  }, true);
+}

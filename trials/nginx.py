@@ -1,0 +1,71 @@
+"""What the trials behind the proxy share: the file of `ops/nginx.conf` with its ports and files elsewhere, and nginx with it."""
+import os
+import shutil
+import socket
+import subprocess
+import sys
+import time
+
+from server import TOP
+
+USER, PASSWORD = "scanner", "secret"
+
+
+def found(name, trial, packages):
+    """The path of a program of the system, or the end of the trial with status 3."""
+    path = shutil.which(name, path=os.environ.get("PATH", "") + ":/usr/sbin")
+    if path is None:
+        print("%s: there is no %s; on Debian: apt-get install %s" % (trial, name, packages), file=sys.stderr)
+        sys.exit(3)
+    return path
+
+
+def write_users(room, *names):
+    """The file of these names, each with the password."""
+    hashed = subprocess.run(["openssl", "passwd", "-apr1", PASSWORD], check=True, capture_output=True, text=True).stdout
+    with open(room + "/lotd.users", "w", encoding="utf-8") as file:
+        file.writelines("%s:%s" % (name, hashed) for name in names)
+
+
+def proxy_file(room, tls, port):
+    """The file of the repository: it listens on `tls` and asks at `port`, and its page is that of the repository."""
+    with open(os.path.join(TOP, "ops/nginx.conf"), encoding="utf-8") as file:
+        text = file.read()
+    for old, new in [
+        ("listen 8443 ssl;", "listen 127.0.0.1:%d ssl;" % tls),
+        ("http://127.0.0.1:8080;", "http://127.0.0.1:%d;" % port),
+        ("/etc/nginx/lotd.crt", room + "/lotd.crt"),
+        ("/etc/nginx/lotd.key", room + "/lotd.key"),
+        ("auth_basic_user_file /etc/nginx/lotd.users", "auth_basic_user_file %s/lotd.users" % room),
+        ("access_log /var/log/nginx/lotd.log", "access_log %s/lotd.log" % room),
+        ("root /usr/local/share/lotd", "root %s/shared" % room),
+        ("http {\n", "http {\n" + "".join("    %s_temp_path %s/%s;\n" % (it, room, it) for it in
+                                        ("client_body", "proxy", "fastcgi", "uwsgi", "scgi"))),
+    ]:
+        if text.count(old) != 1:
+            sys.exit("ops/nginx.conf: expected one %r, got %d" % (old.strip(), text.count(old)))
+        text = text.replace(old, new)
+    path = os.path.join(room, "nginx.conf")
+    with open(path, "w", encoding="utf-8") as file:
+        file.write(text)
+    return path
+
+
+def proxy(nginx, openssl, room, tls, port):
+    """nginx, which listens. Its workers have another user, who may read the room."""
+    os.chmod(room, 0o755)
+    shutil.copytree(os.path.join(TOP, "ops/page"), room + "/shared/page")
+    subprocess.run([openssl, *"req -x509 -newkey rsa:2048 -nodes -days 2 -subj /CN=localhost -addext".split(), "subjectAltName=DNS:localhost",
+                    "-keyout", room + "/lotd.key", "-out", room + "/lotd.crt"], check=True, capture_output=True)
+    write_users(room, USER)
+    started = subprocess.Popen([nginx, "-p", room, "-c", proxy_file(room, tls, port), "-e", room + "/error.log",
+                                "-g", "daemon off; pid %s/nginx.pid; error_log %s/error.log;" % (room, room)])
+    for _ in range(100):
+        try:
+            socket.create_connection(("127.0.0.1", tls), timeout=1).close()
+            return started
+        except OSError:
+            time.sleep(0.1)
+    started.kill()
+    with open(room + "/error.log", encoding="utf-8") as file:
+        sys.exit("nginx does not listen: %s" % file.read())

@@ -1,0 +1,722 @@
+"""The page of `ops/page` in a real browser, behind the proxy of `ops/nginx.conf` with its ports and files elsewhere: the way of
+a lot from goods in to the recall notice, by scanned labels; answers that are lost, a server that is killed, 503, a page of
+another server, a server that is silent, a closed and a killed browser, no network, two windows: each act stands once; what is
+refused, in words, for every code of the documents; lots and names with marks; requests of other origins; small and large.
+Needs the Rattle kit and Debian's nginx, openssl, chromium, chromium-driver and python3-selenium, and takes three minutes.
+It has four ports from PORT on. SHOTS names a folder for pictures of the screens.
+Exit status 0 only if all was as expected, and 3 where nginx, the browser or selenium is not there.
+"""
+import base64
+import http.server
+import json
+import os
+import re
+import socket
+import socketserver
+import ssl
+import subprocess
+import sys
+import threading
+import time
+import urllib.error
+import urllib.request
+
+import browser
+import nginx
+import server
+from browser import by_hand, cdp, console, enter, every, go, is_fit, is_printed, is_told, key, mean, one, press, run, scan, text
+from browser import until, until_answered, until_told
+from server import TOP
+
+driver = browser.chromedriver()
+programs = [nginx.found(name, "page", "nginx openssl") for name in ("nginx", "openssl")]
+lotd, room = server.program(), server.room()
+TLS, GATE, BACK, OTHER = (server.number("PORT", 18090) + it for it in range(4))
+OWN = "https://localhost:%d" % TLS
+DB = room + "/stock.db"
+OAT, TEA = "09506000134352", "04006381333931"
+GS = browser.GS
+DAY = time.strftime("%Y-%m-%d")
+steps = 0
+
+
+def passed(what):
+    global steps
+    steps += 1
+    print("  %2d %s" % (steps, what), flush=True)
+
+
+# ---- lotd, a gate before it that may spoil an answer, and another site
+
+class Lotd:
+    process = None
+
+    def up(self):
+        self.process = server.Server(lotd, DB, BACK, 1_000_000)
+
+    def down(self):
+        if self.process:
+            self.process.end()
+            self.process = None
+
+
+def request_of(peer):
+    """A request, whole."""
+    raw = b""
+    while b"\r\n\r\n" not in raw:
+        more = peer.recv(65536)
+        if not more:
+            return raw
+        raw += more
+    length = re.search(rb"(?i)\r\ncontent-length: *(\d+)", raw)
+    wanted = raw.index(b"\r\n\r\n") + 4 + (int(length[1]) if length else 0)
+    while len(raw) < wanted:
+        more = peer.recv(65536)
+        if not more:
+            break
+        raw += more
+    return raw
+
+
+def answer(status, kind, body):
+    return b"HTTP/1.1 %s\r\ncontent-type: %s\r\ncontent-length: %d\r\nconnection: close\r\n\r\n%s" % (status, kind, len(body), body)
+
+
+SPOILED = {
+    "503": answer(b"503 Service Unavailable", b"application/json", b'{"code":"W90"}'),
+    "other": answer(b"200 OK", b"text/html", b"<h1>Guest Wi-Fi</h1>"),
+}
+
+
+class Gate(socketserver.BaseRequestHandler):
+    """Between the proxy and lotd. `lost` hands a POST over and throws its answer away, `kill` kills lotd then too; `silent`
+    takes requests and says nothing, as a server does that is just starting; `503` and `other` answer in lotd's place."""
+    mode = "pass"
+    posts = []                                  # the bodies that came since the list was emptied
+
+    def handle(self):
+        raw, mode = request_of(self.request), Gate.mode
+        if raw.startswith(b"POST"):
+            Gate.posts.append(raw.split(b"\r\n\r\n", 1)[1])
+        elif mode in ("lost", "kill"):
+            mode = "pass"
+        while Gate.mode == "silent":
+            time.sleep(0.05)
+        if mode in SPOILED:
+            self.request.sendall(SPOILED[mode])
+            return
+        try:
+            with server.asked(BACK, raw) as behind:
+                told = server.bytes_of(behind)
+        except OSError:
+            return
+        if mode == "kill":
+            house.down()
+        if mode in ("pass", "silent"):
+            try:
+                self.request.sendall(told)
+            except OSError:
+                pass                            # who asked is gone
+
+
+class Threads(socketserver.ThreadingTCPServer):
+    allow_reuse_address = daemon_threads = True
+    request_queue_size = 64
+
+    def handle_error(self, *_):
+        pass
+
+
+class OtherSite(http.server.BaseHTTPRequestHandler):
+    """Another site, whose pages send a hold with the browser's password: by a form as text, whose `=` stands within the key of
+    a name that is no field, by a script, and by a link to what changes nothing."""
+    BODY = '{"key":"EVIL","gtin":"%s","lot":"L4"}' % OAT
+    PAGES = {
+        "/form": "<form method=post enctype=text/plain action=%s/holds><input name='%s' value='\"}'></form><script>document.forms[0].submit()</script>"
+                 % (OWN, BODY[:-1].replace("L4\"", "L4\",\"x\":\"")),
+        "/script": "<script>fetch('%s/holds',{method:'POST',mode:'no-cors',credentials:'include',body:'%s'})"
+                   ".finally(()=>document.title='sent')</script>" % (OWN, BODY),
+        "/picture": "<img src=%s/stock/%s onerror=\"document.title='sent'\">" % (OWN, OAT),
+    }
+
+    def do_GET(self):
+        body = self.PAGES.get(self.path, "").encode()
+        self.send_response(200)
+        self.send_header("content-type", "text/html")
+        self.end_headers()
+        self.wfile.write(body)
+
+    def log_message(self, *_):
+        pass
+
+
+house = Lotd()
+
+
+def asked(path, body=None, **fields):
+    """The status, the body and the head of an answer, through the proxy."""
+    trusted = ssl.create_default_context(cafile=room + "/lotd.crt")
+    fields.setdefault("Authorization", "Basic " + base64.b64encode(("%s:%s" % (nginx.USER, nginx.PASSWORD)).encode()).decode())
+    wanted = urllib.request.Request(OWN + path, None if body is None else body.encode(), {name.replace("_", "-"): it for name, it in fields.items()})
+    try:
+        with urllib.request.urlopen(wanted, context=trusted) as told:
+            return told.status, told.read().decode(), dict(told.headers)
+    except urllib.error.HTTPError as fault:
+        return fault.code, fault.read().decode(), dict(fault.headers)
+
+
+def lots_of(gtin=OAT):
+    return {lot["lot"]: lot for lot in json.loads(asked("/stock/" + gtin)[1])["lots"]}
+
+
+def in_days(days):
+    return time.strftime("%y%m%d", time.gmtime(time.time() + days * 86400))
+
+
+def label(lot, days, gtin=OAT, is_last=False):
+    """The label of a lot that expires so many days from now; the lot is the last of it, or the first with byte 29 behind it."""
+    expiry = in_days(days)
+    return "]C101%s17%s10%s" % (gtin, expiry, lot) if is_last else "]C110%s%s01%s17%s" % (lot, GS, gtin, expiry)
+
+
+def logged():
+    """What the proxy logged, each as the name, the request and the status; a browser asks for an icon when it likes."""
+    with open(room + "/lotd.log", encoding="utf-8") as file:
+        return [re.search(r' (\S+) "(.*?) HTTP/[\d.]+" (\d+) ', line).groups() for line in file if "favicon" not in line]
+
+
+# ---- what is tried
+
+def has_all_words():
+    """Every code that the documents name has words in the page, and the page has no other."""
+    wanted = {"P01"}
+    for name in ("README.md", "docs/LABELS.md", "docs/FILES.md"):
+        with open(os.path.join(TOP, name), encoding="utf-8") as file:
+            cells = [cell.strip() for line in file if line.startswith("|") for cell in line.split("|")]
+        for cell in cells:
+            codes = re.findall(r"\b[A-Z]\d\d\b", cell)
+            if re.fullmatch(r"`?[A-Z]\d\d`? to `?[A-Z]\d\d`?", cell):
+                wanted |= {"%s%02d" % (codes[0][0], it) for it in range(int(codes[0][1:]), int(codes[1][1:]) + 1)}
+            elif re.fullmatch(r"(`?[A-Z]\d\d`? ?)+", cell):
+                wanted |= set(codes)
+    is_told("codes that were not found", set(), {"U01", "S11", "F01", "W90", "L13", "L90", "G04", "G90"} - wanted)
+    with open(os.path.join(TOP, "ops/page/words.js"), encoding="utf-8") as file:
+        words = set(re.findall(r'\b([A-Z]\d\d): \["\S', file.read()))
+    is_told("codes without words, or words without a code", set(), wanted ^ words)
+    is_told("what the browser's console says", [], console())
+    passed("each of the %d codes of the documents has words; the browser's console has no fault" % len(words))
+
+
+def makes_items_and_bins():
+    for gtin, name in ((OAT, "Oat drink"), ("4006381333931", '<b>x</b>&"')):
+        go("items")
+        by_hand(gtin)
+        by_hand(name)
+        press("Make an item", "dialog")
+        until_told("Item ")
+    is_told("the name as it was typed", '<b>x</b>&"', json.loads(asked("/stock/" + TEA)[1])["name"])
+    go("bins")
+    for bin in ("A-01", "A-02", "B-07"):
+        by_hand(bin.lower())
+        until("the kind", lambda: browser.page.switch_to.active_element.get_attribute("name") == "kind")
+        enter()
+        until_told("Bin " + bin)
+    until("the bin's label", lambda: every(".symbol rect"))
+    is_fit("bin")
+    is_printed("bin", [".symbol"], ["form", "nav", "header", "button"])
+    passed("items and bins are made by keyboard alone; a small letter is made a capital, an EAN-13 fourteen digits")
+
+
+def takes_goods_in():
+    go("in")
+    by_hand("D-1")
+    is_told("the first line", "1", one("[name=line]").get_attribute("value"))
+    enter()
+    came = (("L0", 6, "A-01", 5, "F8"), ("L2", 27, "A-01", 10, "Ctrl-]"), ("L3", 150, "A-02", 8, "byte"), ("L4", 90, "B-07", 4, "insert"))
+    for number, (lot, days, bin, qty, separator) in enumerate(came):
+        scan(label(lot, days), separator)
+        until("the label is read", lambda: lot in one("[name=label]").get_attribute("value") and "Oat drink" in text(".about"))
+        if number == 1:
+            is_fit("receive")
+        scan(bin)
+        by_hand(str(qty))
+        until_told("Received %d of %s" % (qty, lot))
+        is_told("the next line", str(number + 2), one("[name=line]").get_attribute("value"))
+    for lot, qty in (("A/B%C?", 3), (".", 1), ("..", 2)):
+        one("[name=label]").click()
+        scan(label(lot, 200, is_last=True))
+        scan("B-07")
+        by_hand(str(qty))
+        until_told("Received %d of %s in" % (qty, lot))
+    wanted = {lot: qty for lot, _, _, qty, _ in came} | {"A/B%C?": 3, ".": 1, "..": 2}
+    is_told("what came", wanted, {lot: it["bins"][0]["qty"] for lot, it in lots_of().items()})
+    passed("seven receipts by scan; the separator as F8, as Ctrl ], as byte 29 typed and inserted, and none; lots A/B%C? and . and ..")
+
+
+def takes_the_set_character():
+    go("device")
+    choose = "const it = document.getElementById('separator'); it.value = '%s'; it.dispatchEvent(new Event('change'))"
+    run(choose % "|")
+    one("#try").click()
+    scan(label("L9", 9), "|")
+    until("the scan is shown", lambda: "LOT    L9" in text(".raw") and "␝" in text(".raw"))
+    is_fit("device")
+    run(choose % "")
+    passed("the separator as a character that is set for the device")
+
+
+def refuses_in_words():
+    go("in")
+    one("[name=label]").click()
+    scan(label("L2", 27).replace(OAT, OAT[:-1] + "3"))
+    scan("A-01")
+    scan("1111")
+    until_told("A scan is no quantity", "refused")
+    by_hand("7")
+    until_told("The check digit of the item is wrong", "refused")
+    is_told("the code too", True, "W05 L05" in text("#told"))
+    is_fit("refused")
+    go("file")
+    path = room + "/goods.csv"
+    rows = "delivery,line,gtin,lot,expiry,bin,qty\n" + "".join("F-1,%d,%s,L5,%s,%s,3\n" % (line, OAT, in_days(40), bin) for line, bin in ((1, "A-01"), (2, "Z-99")))
+    for text_of_file in (rows, rows.replace("Z-99", "A-02")):
+        with open(path, "w", encoding="ascii") as file:
+            file.write(text_of_file)
+        one("#file").send_keys(path)
+        press("Send the file")
+        if text_of_file == rows:
+            until_told("Row 2: This bin is not known", "refused")
+            is_told("the row itself", True, "F-1,2,%s" % OAT in text("#told"))
+            is_fit("file")
+    until_told("2 rows taken in, 0 were there before")
+    passed("a label, a scan in the place of a number, a file's first fault with its row: refused in words")
+
+
+def receives(line, lot, days, bin, qty):
+    go("in")
+    one("[name=line]").click()
+    by_hand(str(line))
+    scan(label(lot, days))
+    scan(bin)
+    by_hand(str(qty))
+
+
+def tells_a_line_that_came():
+    """The same line of the same delivery by another device would be answered as done, and add nothing."""
+    receipt = json.dumps({"delivery": "D-1", "line": 50, "label": label("L2", 27), "bin": "A-01", "qty": 6})
+    is_told("another device's receipt", 200, asked("/receipts", receipt)[0])
+    before = lots_of()["L2"]["bins"]
+    receives(50, "L2", 27, "A-01", 6)
+    until_told("This line was received already", "refused")
+    is_told("which act it was", True, "AGAIN act" in text("#told"))
+    browser.offline(True)
+    one("[name=line]").click()
+    by_hand("51")
+    scan(label("L2", 27))
+    scan("A-01")
+    by_hand("6")
+    until("it is kept", lambda: text("#sent") == "1 not answered yet, trying")
+    is_told("meanwhile another device", 200, asked("/receipts", receipt.replace('"line": 50', '"line": 51'))[0])
+    browser.offline(False)
+    until_told("This line was received already", "refused")
+    is_told("it came once", [{"bin": "A-01", "qty": before[0]["qty"] + 6}], lots_of()["L2"]["bins"])
+    go("outbox")
+    if text("#sent") != "All answered":
+        press("Seen")
+    until_answered()
+    Gate.mode, Gate.posts[:] = "lost", []
+    receives(52, "L2", 27, "A-01", 6)
+    until_told("Kept, not answered yet, trying: Received 6 of L2", "wait")
+    browser.page.refresh()
+    Gate.mode = "pass"
+    until_answered()
+    is_told("its own line is no other's", (1, 12), (len(set(Gate.posts)), lots_of()["L2"]["bins"][0]["qty"] - before[0]["qty"]))
+    go("outbox")
+    is_told("and is told as done", True, "Received 6 of L2 in A-01 (D-1/52)" in one(".sent .done").text)
+    passed("a line that another device received, also while this one had no network, is told and adds nothing; its own one stands once")
+
+
+def orders_short():
+    go("new")
+    for gtin, qty in ((OAT, "55"), (TEA, "2")):
+        by_hand(gtin)
+        by_hand(qty)
+        until("the line", lambda: len(every(".lines li")) >= (1 if gtin == OAT else 2))
+    is_told("a name is text", '<b>x</b>&"', every(".lines h3")[1].text.split("\n")[0])
+    one("[name=order]").click()
+    by_hand("s-1")
+    by_hand("Corner Shop & <Sons>", ends=False)
+    is_fit("new")
+    enter()
+    until_told("Order S-1 for Corner Shop & <Sons>")
+    until("the order", lambda: "Oat drink" in text("main"))
+    is_told("its answer", True, "short" in text("#told"))
+    go("new")
+    by_hand(OAT)
+    by_hand("10")
+    one("[name=order]").click()
+    by_hand("S-2")
+    one("#urgent").click()
+    one("[name=customer]").click()
+    by_hand("10 Downing Street Catering")
+    until_told("Urgent order S-2 for 10 Downing Street Catering")
+    lines = json.loads(asked("/orders/S-1")[1])["lines"]
+    short = {line["gtin"]: line["short"] for line in lines}
+    is_told("the older one is short", True, short[OAT] > 0 and short[TEA] == 2)
+    go("order/S-1")
+    until("its pictures", lambda: "Oat drink" in text("main") and all("short %d" % it in text("main") for it in short.values()))
+    is_fit("order")
+    go("item/" + OAT)
+    until("the shortages", lambda: "Short %d" % short[OAT] in text("main"))
+    is_fit("item")
+    passed('an order that is short, an urgent one before it, of a customer whose name begins as a label does; stock and shortages')
+
+
+def picks():
+    go("pick/S-1")
+    until("the list", lambda: "Oat drink" in text("main"))
+    is_fit("pick")
+    is_printed("list", [".symbol", ".take"], ["form", "nav", "header"])
+    scan(label("L0", 6))
+    until_told("L0 is not on this list", "refused")       # the urgent order has it
+    lot = "A/B%C?"
+    scan(label(lot, 200, is_last=True))
+    until("it is chosen", lambda: one("[name=lot]").get_attribute("value") == lot)
+    scan("B-07")
+    is_fit("pick-chosen")
+    by_hand("3")
+    until_told("Picked 3 of A/B%C? from B-07 for S-1")
+    is_told("it stands once", (3, []), (lots_of()[lot]["staged"], lots_of()[lot]["bins"]))
+    scan(label("L3", 150))
+    scan("A-01")
+    by_hand("4")
+    until_told("There are not that many in the bin", "refused")
+    scan(label("L3", 150))
+    scan("A-02")
+    by_hand("4")
+    until_told("Picked 4 of L3")
+    press("Put back")
+    scan(label("L3", 150))
+    scan("A-02")
+    by_hand("1")
+    until_told("Put back 1 of L3 into A-02")
+    is_fit("put-back")
+    press("Ship")
+    is_fit("sure")
+    press("Ship", "dialog")
+    until_told("shipment 1")
+    passed("a pick by scan, of a lot A/B%C? too; a wrong bin; put back; shipped; the pick list on paper")
+
+
+def shows_lots():
+    go("")
+    scan(label("A/B%C?", 200, is_last=True))
+    until("the lot", lambda: "Stock card: 0 in the house" in text("main"))
+    is_told("its own page", True, browser.page.current_url.endswith("A%2FB%25C%3F"))
+    for lot, qty in ((".", 1), ("..", 2)):
+        go("lot/%s/%s" % (OAT, lot))
+        until("the lot " + lot, lambda: "Stock card: %d in the house" % qty in text("main"))
+    go("lot/%s/L3" % OAT)
+    until("the lot", lambda: "Stock card" in text("main"))
+    mean("Hold")
+    until_told("Hold: L3 of Oat drink")
+    until("its state", lambda: "HELD" in text(".lot"))
+    mean("Release")
+    until_told("Release: L3")
+    until("its state", lambda: "HELD" not in text(".lot"))
+    mean("Recall")
+    until_told("Recall: L3 of Oat drink")
+    until("the notice", lambda: "Recall notice: 5 in bins, 3 shipped" in text("main") and "Corner Shop & <Sons>" in text("main"))
+    is_fit("recalled")
+    is_printed("notice", [".lot", ".paper"], ["form", "nav", "header", ".pair"])
+    mean("Recall")
+    until_told("This lot is recalled already", "refused")
+    go("item/" + OAT)
+    until("the item", lambda: "Oat drink" in text("main"))
+    by_hand("20")
+    until_told("must have 20 days left")
+    until("its lots", lambda: "TOO FEW DAYS" in text("main"))
+    passed("hold, release, recall, the notice with the customers to call, the card, lots of dots, least days")
+
+
+def moves_one():
+    """Moves one of L2 from A-01 to A-02 by the page."""
+    go("moves")
+    scan(label("L2", 27))
+    scan("A-01")
+    scan("A-02")
+    by_hand("1")
+
+
+def in_second_bin():
+    return {it["bin"]: it["qty"] for it in lots_of()["L2"]["bins"]}.get("A-02", 0)
+
+
+def are_once(what, before, acts):
+    """So many acts stand, and each was sent as the same bytes whenever it was."""
+    is_told(what + " stands once", before + acts, in_second_bin())
+    is_told("the same bytes each time", acts, len(set(Gate.posts)))
+
+
+def acts_once():
+    for mode, words in (("lost", "no answer came from lotd, which had done it: 502"), ("kill", "lotd was killed between doing it and answering")):
+        before, Gate.posts[:] = in_second_bin(), []
+        Gate.mode = mode
+        moves_one()
+        until_told("Kept, not answered yet, trying: Moved 1 of L2", "wait")
+        is_told("the sign", "1 not answered yet, trying", text("#sent"))
+        if mode == "lost":
+            is_fit("waiting")
+            go("outbox")
+            until("what came", lambda: "502: lotd does not run, or is starting" in text("main"))
+            is_fit("outbox")
+        browser.page.refresh()
+        Gate.mode = "pass"
+        if mode == "kill":
+            time.sleep(1)
+            house.up()
+        until_answered()
+        are_once(mode, before, 1)
+        is_told("more than once", True, len(Gate.posts) > 1)
+        passed("%s; the page was loaded anew; %d times the same bytes, one act" % (words, len(Gate.posts)))
+    for mode, words in (("503", "503 W90"), ("other", "a page of another server with 200 is no answer"), ("silent", "a server that is silent at first")):
+        before, Gate.posts[:] = in_second_bin(), []
+        if mode == "silent":
+            go("moves")
+        Gate.mode = mode
+        moves_one()
+        until_told("Kept, not answered yet, trying", "wait")
+        time.sleep(2)
+        Gate.mode = "pass"
+        until_told("Moved 1 of L2")
+        are_once(mode, before, 1)
+        passed("%s: sent %d times, one act" % (words, len(Gate.posts)))
+
+
+def shows_again():
+    """A screen whose server is silent says so, and reads what it shows as soon as the server answers."""
+    go("")
+    Gate.mode = "silent"
+    run("location.hash = '#/item/%s'" % OAT)
+    until("what a screen says", lambda: "No answer yet" in text("main"))
+    Gate.mode = "pass"
+    until("the screen", lambda: "Oat drink" in text("main") and "No answer yet" not in text("main"), 10)
+    Gate.mode = "503"
+    run("location.hash = '#/item/%s'" % TEA)
+    until("what a screen says", lambda: "503 W90: lotd has no memory or no disk" in text("main"))
+    Gate.mode = "pass"
+    until("the screen", lambda: "Nothing is short" not in text("main") and "Short 2" in text("main"), 10)
+    passed("a screen whose server is silent or has no memory says so, and shows what it has as soon as there is an answer")
+
+
+def outlasts_a_password():
+    """Another password is no answer of lotd, though its status is 401; nor are two windows two acts."""
+    before, Gate.posts[:] = in_second_bin(), []
+    go("moves")
+    nginx.write_users(room)
+    scan(label("L2", 27))
+    scan("A-01")
+    scan("A-02")
+    by_hand("1")
+    until_told("Kept, not answered yet, trying", "wait")
+    nginx.write_users(room, nginx.USER, "picker-1")
+    browser.log_in(nginx.USER)
+    until_answered()
+    are_once("behind another password", before, 1)
+    Gate.mode = "503"
+    moves_one()
+    until_told("Kept, not answered yet, trying", "wait")
+    page = browser.page
+    first = page.current_window_handle
+    page.switch_to.new_window("tab")
+    moves_one()
+    until("both wait", lambda: text("#sent") == "2 not answered yet, trying")
+    Gate.mode = "pass"
+    until_told("Moved 1 of L2")
+    until_answered()
+    page.close()
+    page.switch_to.window(first)
+    until_answered()
+    are_once("each of two windows", before, 3)
+    passed("a password that was changed (401) loses nothing; two windows over one outbox: each act once, told in both")
+
+
+def goes_on_offline():
+    before, Gate.posts[:] = in_second_bin(), []
+    go("moves")
+    browser.offline(True)
+    for sent in (1, 2):
+        scan(label("L2", 27))
+        scan("A-01")
+        scan("A-02")
+        by_hand("1")
+        until("the sign", lambda: text("#sent") == "%d not answered yet, trying" % sent)
+    run("location.hash = '#/item/%s'" % OAT)
+    until("what a screen says", lambda: "No connection" in text("main"))
+    is_fit("offline")
+    browser.offline(False)
+    until_answered()
+    are_once("without network", before, 2)
+    until("the screen is there again", lambda: "Oat drink" in text("main") and "No connection" not in text("main"))
+    passed("without network two acts are kept; back, both stand once, in their order")
+
+
+def outlasts_a_dead_battery():
+    before = in_second_bin()
+    Gate.mode, Gate.posts[:] = "lost", []
+    go("moves")
+    scan(label("L2", 27))
+    scan("A-01")
+    scan("A-02")
+    by_hand("1", ends=False)
+    time.sleep(0.25)
+    enter()
+    until("it was sent", lambda: Gate.posts)
+    browser.kill()
+    is_told("it was done before", before + 1, in_second_bin())
+    browser.begin(room, TLS, driver)
+    is_told("the sign", "1 not answered yet, trying", text("#sent"))
+    Gate.mode = "pass"
+    until_answered()
+    are_once("behind a dead battery", before, 1)
+    is_told("more than once", True, len(Gate.posts) > 1)
+    passed("the browser was killed behind the send: kept, and one act")
+
+
+def is_shut():
+    """The headers, the password, and what another origin asks."""
+    status, _, fields = asked("/page/")
+    is_told("the policy", (200, True, "nosniff"), (status, "default-src 'none'" in fields["Content-Security-Policy"], fields["X-Content-Type-Options"]))
+    is_told("the policy of an answer", True, "Content-Security-Policy" in asked("/stock/" + OAT)[2])
+    is_told("without the password", [401, 401], [asked(path, Authorization="")[0] for path in ("/page/", "/stock/" + OAT)])
+    is_told("no cookie", [], [name for name in (*fields, *asked("/stock/" + OAT)[2]) if name.lower() == "set-cookie"])
+    hold = OtherSite.BODY.replace("EVIL", "OTHER-1")
+    for origin in ("https://evil.example", "null", "http://localhost:%d" % TLS, "https://localhost", "https://localhost:%d.evil.example" % TLS):
+        is_told("an act from " + origin, 403, asked("/holds", hold, Origin=origin)[0])
+    for site in ("cross-site", "same-site", "other"):
+        is_told("an act from a page that is " + site, 403, asked("/holds", hold, Sec_Fetch_Site=site)[0])
+    is_told("an act from the page's own origin", 200, asked("/holds", hold, Origin=OWN, Sec_Fetch_Site="same-origin")[0])
+    is_told("and from a program", 200, asked("/releases", hold.replace("OTHER-1", "OTHER-2"))[0])
+    passed("policy and password; an act of another origin is refused (403), a program's and the page's own are not")
+
+
+def is_shut_to_other_sites():
+    """The browser sends the password with a form of another site's page, so it is the proxy that refuses it."""
+    go("")
+    Gate.posts[:] = []
+    for way, request in (("form", "POST /holds"), ("script", "POST /holds"), ("picture", "GET /stock/" + OAT)):
+        before = len(logged())
+        browser.page.get("http://localhost:%d/%s" % (OTHER, way))
+        until("the proxy was asked by a " + way, lambda: len(logged()) > before)
+        name, *told = logged()[before]
+        is_told("a " + way + " of another site", [request, "403"], told)
+        if way == "form":
+            is_told("the name that the browser sent with it", nginx.USER, name)
+    is_told("nothing came to lotd", [], Gate.posts)
+    is_told("the lot is as it was", "FREE", lots_of()["L4"]["status"])
+    go("")
+    is_told("HTML of a text is refused by the browser", "TypeError",
+            run("try { document.body.innerHTML = '<b>x</b>'; return 'set' } catch (it) { return it.name }"))
+    is_told("a script within the page too", "undefined",
+            run("const it = document.createElement('script'); try { it.text = 'window.within = 1' } catch { } document.body.append(it); return typeof window.within"))
+    passed("a form of another site, with the browser's password, a script and a picture: refused by the proxy (403)")
+
+
+def bars_names():
+    """A name that begins with picker may pick, and not recall."""
+    browser.log_in("picker-1")
+    go("lot/%s/L4" % OAT)
+    until("the lot", lambda: "Stock card" in text("main"))
+    Gate.posts[:] = []
+    mean("Recall")
+    until_told("This name may not do that", "refused")
+    is_told("nothing came to lotd", [], Gate.posts)
+    before = in_second_bin()
+    moves_one()
+    until_told("Moved 1 of L2")
+    are_once("a picker's move", before, 1)
+    browser.log_in(nginx.USER)
+    passed("a name that may not recall is told so in words, and moves as the others")
+
+
+def shows_home():
+    go("")
+    is_fit("home")
+    by_hand("9")
+    until("the number of the menu", lambda: text("#title") == "An order")
+    key("Escape", None, "Escape", 27)
+    until("home", lambda: text("#title") == "Lot stock")
+    scan("]E0" + TEA[1:])
+    until("an item's EAN-13", lambda: '<b>x</b>&"' in text("main"))
+    is_told("as text", 0, len(every("main h2 b")))
+    for where in ("constructor", "lot/%", "lot/1/constructor", "order/__proto__"):
+        go(where)
+    go("")
+    passed("home: a number opens a screen, an EAN-13 the item, and its name of marks is shown as text; an address that is none")
+
+
+def fits_all_screens():
+    for where in ("", "in", "file", "pick", "pick/S-2", "moves", "counts", "adjustments", "lot", "lot/%s/L2" % OAT, "order", "order/S-2", "new",
+                  "item", "item/" + OAT, "items", "bins", "days", "outbox", "device"):
+        go(where)
+        until("it is read", lambda: "/" not in where or "Oat drink" in text("main"))
+        is_fit("screen-" + (where.replace("/", "-") or "home"))
+    passed("no screen is wider than 360 points, each target is large enough for a glove, and all have names for a screen reader")
+
+
+def counts_and_writes_off():
+    go("counts")
+    scan(label("L4", 90))
+    scan("B-07")
+    by_hand("3")
+    until_told("Counted 3 of L4 in B-07")
+    is_told("the change", True, "change -1" in text("#told"))
+    go("adjustments")
+    scan(label("L4", 90))
+    scan("B-07")
+    by_hand("-3")
+    until_told("Wrote off 3 of L4 in B-07")
+    is_told("none is left", [], lots_of()["L4"]["bins"])
+    passed("a count and a write-off")
+
+
+def opens_the_day():
+    go("days")
+    tomorrow = time.gmtime(time.time() + 86400)
+    one("[name=day]").send_keys(time.strftime("%m%d%Y", tomorrow))
+    mean("Open the day")
+    until_told("Opened " + time.strftime("%Y-%m-%d", tomorrow))
+    go("order/S-2")
+    until("the order", lambda: "Downing" in text("main"))
+    mean("Cancel the order")
+    until_told("Cancelled S-2")
+    until("its state", lambda: "CANCELLED" in text("main"))
+    passed("the day is opened, an order cancelled")
+
+
+STEPS = [has_all_words, makes_items_and_bins, takes_goods_in, takes_the_set_character, refuses_in_words, tells_a_line_that_came, orders_short, picks, shows_lots,
+         acts_once, shows_again, outlasts_a_password, goes_on_offline, is_shut, is_shut_to_other_sites, bars_names, shows_home, fits_all_screens,
+         counts_and_writes_off, opens_the_day, has_all_words, outlasts_a_dead_battery]
+
+subprocess.run([lotd, "init", "--db", DB, "--day", DAY], check=True)
+started = None
+began = time.monotonic()
+try:
+    house.up()
+    for kind, port in ((Gate, GATE), (OtherSite, OTHER)):
+        threading.Thread(target=Threads(("127.0.0.1", port), kind).serve_forever, daemon=True).start()
+    started = nginx.proxy(*programs, room, TLS, GATE)
+    browser.begin(room, TLS, driver)
+    browser.size(*browser.HAND)
+    for step in STEPS:
+        step()
+finally:
+    browser.end()
+    house.down()
+    if started:
+        started.terminate()
+        started.wait()
+told = server.audited(lotd, DB)
+is_told("an audit", True, re.fullmatch(r"audited \d+ acts from %s\n" % DAY, told) is not None)
+print("  %s" % told.strip())
+print("page: all was as expected, in %d s" % (time.monotonic() - began))
