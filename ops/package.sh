@@ -18,8 +18,8 @@ root=$room/root
 shared=$root/usr/share/lotd
 documents=$root/usr/share/doc/lotd
 
-# The version is the program's, and the moment of the last commit, so that a later one is a newer one.
-made=$(git log -1 --format=%ct)
+# The version is the program's and the moment of the last commit (or of SOURCE_DATE_EPOCH), so that a later one is a newer one.
+made=${SOURCE_DATE_EPOCH:-$(git log -1 --format=%ct)}
 version=$("$LOTD" --version | sed -n 's/^lotd \([0-9.]*\), schema .*/\1/p')+$(date -u -d "@$made" +%Y%m%d%H%M%S)
 arch=$(dpkg --print-architecture)
 
@@ -80,7 +80,7 @@ cat >"$root/DEBIAN/prerm" <<'SCRIPT'
 #!/bin/sh
 set -e
 if [ "$1" = remove ] && [ -d /run/systemd/system ]; then
-    systemctl disable --now lotd.service
+    systemctl disable --now lotd.service || true
 fi
 SCRIPT
 cat >"$root/DEBIAN/postrm" <<'SCRIPT'

@@ -238,10 +238,10 @@ def is_fit(name):
 
 
 def is_printed(name, shown, hidden):
-    """On paper these are seen, and those are not."""
+    """Printed are these, and those are not."""
     cdp("Emulation.setEmulatedMedia", media="print")
-    is_told("on the paper of " + name, [], [it for it in shown if not one(it).is_displayed()])
-    is_told("not on the paper of " + name, [], [it for it in hidden if any(each.is_displayed() for each in every(it))])
+    is_told("what is printed of " + name, [], [it for it in shown if not one(it).is_displayed()])
+    is_told("what is not printed of " + name, [], [it for it in hidden if any(each.is_displayed() for each in every(it))])
     cdp("Emulation.setEmulatedMedia", media="")
     if SHOTS:
         with open("%s/%s.pdf" % (SHOTS, name), "wb") as file:

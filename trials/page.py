@@ -379,9 +379,11 @@ def picks():
     is_printed("list", [".symbol", ".take"], ["form", "nav", "header"])
     scan(label("L0", 6))
     until_told("L0 is not on this list", "refused")       # the urgent order has it
+    time.sleep(1.6)                                       # in which a person sees it
     lot = "A/B%C?"
     scan(label(lot, 200, is_last=True))
     until("it is chosen", lambda: one("[name=lot]").get_attribute("value") == lot)
+    is_told("what was told before the label", "", text("#told"))
     scan("B-07")
     is_fit("pick-chosen")
     by_hand("3")
@@ -405,7 +407,7 @@ def picks():
     is_fit("sure")
     press("Ship", "dialog")
     until_told("shipment 1")
-    passed("a pick by scan, of a lot A/B%C? too; a wrong bin; put back; shipped; the pick list on paper")
+    passed("a pick by scan, of a lot A/B%C? too; a wrong bin; put back; shipped; the pick list, printed")
 
 
 def shows_lots():

@@ -3,7 +3,7 @@
 import { tag } from "./dom.js";
 import { bare, gtin, parts } from "./label.js";
 import { nameOf } from "./ask.js";
-import { refuse } from "./told.js";
+import { clear, refuse } from "./told.js";
 import { setting } from "./kept.js";
 import { wasScanned } from "./scan.js";
 
@@ -72,6 +72,7 @@ export function form({ names, preset = {}, button, done, label, more }) {
     novalidate: true,
     onlabel(event) {
       const found = parts(event.detail);
+      clear();
       if (label) return label(event.detail, found, it);
       if (!all.gtin || !found.gtin) return refuse("That is not asked here");
       all.gtin.field.value = found.gtin;

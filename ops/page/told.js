@@ -36,5 +36,5 @@ export function refuse(words, more, code) {
 }
 
 export const wait = (words, more) => tell("wait", tag("b", {}, words), more && tag("span", {}, more));
-/** Another screen: what was told is over, unless it came just now. */
+/** Another screen, or a label: what was told is over, unless it came just now. */
 export const clear = () => Date.now() - since > 1500 && document.getElementById("told").replaceChildren();

@@ -1,5 +1,5 @@
 -- What comes of a query, told in bytes.
-use Rattle.std.proofs.Common.{◌≡◌, ℕ, List, refl, ap, sym, ◌∙◌, inl, inr, ◌⊎◌}
+use Rattle.std.proofs.Common.{◌≡◌, ℕ, List, refl, ap, sym, subst, ◌∙◌, inl, inr, ◌⊎◌}
 use Rattle.std.specs.Prelude.{ℤ, Result, Ok, Err}
 use Rattle.sqlite_trees.specs.declared.store.Store.{Ghosts}
 use Rattle.sqlite_trees.specs.Tree.{Trees}
@@ -17,7 +17,11 @@ use Rattle.store.specs.declared.fault.Fault.TheVariants.{Refused, Store, Foreign
 use Rattle.store.specs.Books.{HoldsBooks, MayLeave, IsClean}
 use Rattle.store.specs.Queries.{IsShown}
 use Rattle.house.specs.Answers.{no_memory, view_answer}
-use Rattle.house.specs.Asking.{fault_shown, asked_answer, IsWritten, IsDone, IsUndone}
+use Rattle.house.specs.Asking.{fault_shown, asked_answer, IsWritten, IsTextOf, IsDone, IsUndone}
+
+-- the text of a view that is shown was written
+pub text_written : {V : Type 0} (text : V → List ℕ) (shown : Result V Fault) (view : V) (answer : Answer) → shown ≡ Ok view → answer ≡ Text (text view) → IsTextOf text shown (Ok answer)
+text_written {V} text shown view answer is written = subst (λ (s : Result V Fault). IsTextOf text s (Ok answer)) (sym is) written
 
 module _ {S V : Type 0} (g : Ghosts S) (first : ℤ) (acts : List Act) (history : IsHistory first acts) (answer : V → Answer) (shown : Result V Refusal) (old books : Connected S)
     (survives : Survives (state g old.conn) (state g books.conn) (λ _. ⊥)) (clean : IsClean g books) where
@@ -62,3 +66,10 @@ module _ {S V : Type 0} (g : Ghosts S) (first : ℤ) (acts : List Act) (history 
       → IsDone g first acts old (view_answer answer shown) acts bytes books ⊎ IsUndone g first acts old acts bytes books
   fault_told fault bytes h (inl is) = fault_told_so fault bytes h is
   fault_told fault bytes h (inr is) = unseen bytes is (left fault h)
+
+  -- the text of what is shown is told, or why there is none
+  pub shown_told : (text : V → List ℕ) → ((view : V) → answer view ≡ Text (text view)) → (found : Result V Fault) (asked : Result Answer Fault) (bytes : List ℕ) → IsShown {V = V} g first acts shown found books → IsTextOf text found asked
+      → (bytes ≡ asked_answer asked) ⊎ (bytes ≡ no_memory) → IsDone g first acts old (view_answer answer shown) acts bytes books ⊎ IsUndone g first acts old acts bytes books
+  shown_told text is (Ok view) asked bytes h written told = text_told view (text view) asked bytes (is view) h written told
+  shown_told text is (Err fault) asked bytes h written (inl told) = fault_told fault bytes h (inl (told ∙ ap asked_answer written))
+  shown_told text is (Err fault) asked bytes h written (inr none) = fault_told fault bytes h (inr none)

@@ -65,6 +65,11 @@ abbrev pub IsWritten : List ℕ → Result Answer Fault → Type 0
 IsWritten text (Ok answer) = answer ≡ Text text
 IsWritten text (Err fault) = fault ≡ Store
 
+-- the text of what is shown, or why nothing is
+abbrev pub IsTextOf : {V : Type 0} → (V → List ℕ) → Result V Fault → Result Answer Fault → Type 0
+IsTextOf text (Ok view) result = IsWritten (text view) result
+IsTextOf text (Err fault) result = result ≡ Err fault
+
 -- what is wanted is told and done
 pub record IsDone {S : Type 0} (g : Ghosts S) (first : ℤ) (acts : List Act) (old : Connected S) (wanted : List ℕ) (next : List Act) (bytes : List ℕ) (books : Connected S) : Type 0 where
   pub answer : bytes ≡ wanted

@@ -1,5 +1,5 @@
 -- The machine over texts: a step, a run, and the house whose books are those of the acts.
-use Rattle.std.specs.Prelude.{◌≡◌, ◌⊎◌, ℕ, List, [], ◌∷◌, ◌++◌, zip, Contains, map, codes, Vec, ℤ}
+use Rattle.std.specs.Prelude.{◌≡◌, ◌≢◌, ◌⊎◌, ℕ, List, [], ◌∷◌, ◌++◌, zip, Contains, map, codes, Vec, ℤ}
 use Rattle.sqlite_trees.specs.declared.store.Store.{Ghosts}
 use Rattle.sqlite_trees.specs.Tree.{Trees}
 use Rattle.sqlite.specs.Held.{state}
@@ -11,10 +11,10 @@ use Rattle.requests.specs.declared.ask.Ask.{Ask}
 use Rattle.requests.specs.declared.ask.Ask.TheVariants.{Show}
 use Rattle.requests.specs.declared.ask.Query.{Query}
 use Rattle.requests.specs.declared.request.Read.{Read}
-use Rattle.requests.specs.declared.request.Read.TheVariants.{Request}
+use Rattle.requests.specs.declared.request.Read.TheVariants.{Need, Bad, Request}
 use Rattle.store.specs.Connected.{Connected}
-use Rattle.store.specs.Books.{AreBooks, HoldsBooks}
-use Rattle.house.specs.Answers.{answer_of, acts_of, no_memory, status_of}
+use Rattle.store.specs.Books.{AreBooks, HoldsBooks, AreAsBefore}
+use Rattle.house.specs.Answers.{answer_of, acts_of, fault_answer, no_memory, status_of}
 use Rattle.house.specs.declared.answered.Answered.{Answered}
 use Rattle.house.specs.declared.answered.Answered.TheVariants.{Short, Long}
 use Rattle.house.specs.declared.house.House.{House}
@@ -41,6 +41,14 @@ Run first old [] [] new = new ≡ old
 Run first old (text ∷ texts) (bytes ∷ answers) new = (mid : List Act) × Step first old text bytes mid × Run first mid texts answers new
 Run first old [] (bytes ∷ answers) new = ⊥
 Run first old (text ∷ texts) [] new = ⊥
+
+-- whatever the books, a text that is no request is answered by its fault and changes nothing, a request that shows something
+-- changes nothing, and another changes something only where it is answered 200
+abbrev pub Answers : {S : Type 0} → Ghosts S → Read → List ℕ → Connected S → Connected S → Type 0
+Answers g (Need e) bytes was books = (bytes ≡ fault_answer e) × (books ≡ was)
+Answers g (Bad e) bytes was books = (bytes ≡ fault_answer e) × (books ≡ was)
+Answers g (Request (Show query)) bytes was books = AreAsBefore g was books
+Answers g (Request ask) bytes was books = status_of bytes ≢ codes "HTTP/1.1 200" → AreAsBefore g was books
 
 -- the books of a house
 abbrev pub books_of : {S : Type 0} → House S → Connected S

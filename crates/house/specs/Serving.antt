@@ -1,15 +1,19 @@
 -- What is read of a reader and written to a writer. `from` and `to` are the bytes that the reader had left, where they are known.
-use Rattle.std.specs.Prelude.{◌≡◌, ◌⊎◌, ℕ, List, false, Option, ℤ}
+use Rattle.std.specs.Prelude.{◌≡◌, ◌≢◌, ◌⊎◌, ℕ, List, false, Option, ℤ, codes}
 use Rattle.std.specs.Io.KnownBytes.{Consumes, IsAtEnd}
 use Rattle.sqlite_trees.specs.declared.store.Store.{Ghosts}
 use Rattle.machine.specs.Acts.{Act}
+use Rattle.machine.specs.Once.{IsHistory}
 use Rattle.requests.specs.Requests.{IsReading}
 use Rattle.requests.specs.Laws.{needs_more}
+use Rattle.requests.specs.declared.fault.WireFault.TheVariants.{Memory}
 use Rattle.requests.specs.declared.request.Read.{Read}
+use Rattle.requests.specs.declared.request.Read.TheVariants.{Bad}
 use Rattle.wire.specs.Logging.{IsLogged}
+use Rattle.store.specs.Books.{HoldsBooks, AreAsBefore}
 use Rattle.store.specs.Connected.{Connected}
-use Rattle.house.specs.Answers.{no_memory}
-use Rattle.house.specs.House.{StepsTo}
+use Rattle.house.specs.Answers.{no_memory, status_of}
+use Rattle.house.specs.House.{Answers, StepsTo}
 
 -- the text needs no more bytes, or there are none
 abbrev pub IsWhole : List ℕ → Option (List ℕ) → Type 0
@@ -22,6 +26,19 @@ pub record IsServed {S : Type 0} (g : Ghosts S) (first : ℤ) (acts : List Act) 
   pub taken : Consumes from to text
   pub whole : IsWhole text to ⊎ (bytes ≡ no_memory)
   pub steps : StepsTo g first acts text bytes was books
+  pub written : IsWritten bytes
+
+-- The same over books of whatever acts, or of none: the bytes are the answer of the reading, and of the books of each history
+-- they are the machine's.
+pub record IsServedAnyhow {S : Type 0} (g : Ghosts S) (from to : Option (List ℕ)) (was books : Connected S) (IsWritten : List ℕ → Type 0) : Type 0 where
+  pub text : List ℕ
+  pub reading : Read
+  pub bytes : List ℕ
+  pub taken : Consumes from to text
+  pub read : reading ≢ Bad Memory → IsReading text reading
+  pub answer : Answers g reading bytes was books
+  pub as_before : status_of bytes ≢ codes "HTTP/1.1 200" → AreAsBefore g was books
+  pub steps : (first : ℤ) (acts : List Act) → IsHistory first acts → HoldsBooks g first acts was → StepsTo g first acts text bytes was books
   pub written : IsWritten bytes
 
 -- the same, and the log got the line of the text and its answer

@@ -7,7 +7,7 @@ ghost use Rattle.requests.specs.Requests.{IsReading};
 ghost use Rattle.store.specs.Books.{IsClean, HoldsBooks, AreAsBefore};
 ghost use Rattle.house.specs.Answers.{ask_answer, acts_asked, no_memory, status_of};
 ghost use Rattle.house.specs.Asking.{Does};
-ghost use Rattle.house.specs.House.{books_of, bytes_of, texts_of, StepsTo, RunsTo, IsInPlace, IsAskedInPlace};
+ghost use Rattle.house.specs.House.{books_of, bytes_of, texts_of, Answers, StepsTo, RunsTo, IsInPlace, IsAskedInPlace};
 
 use crate::Answered;
 use crate::asking::{act, scan};
@@ -94,6 +94,7 @@ impl<S: Alter> House<S> {
             → (text : List ℕ) → (reading.now ≢ Read.Bad WireFault.Memory → IsReading text reading.now)
             → StepsTo S.Store first acts text (bytes_of result) (books_of self.old) (books_of self.new) }
         ensures as_before { IsClean S.Store (books_of self.new) → status_of (bytes_of result) ≢ codes "HTTP/1.1 200" → AreAsBefore S.Store (books_of self.old) (books_of self.new) }
+        ensures answer { IsClean S.Store (books_of self.new) → Answers S.Store reading.now (bytes_of result) (books_of self.old) (books_of self.new) }
         ensures in_place { (text : List ℕ) → (reading.now ≢ Read.Bad WireFault.Memory → IsReading text reading.now)
             → IsInPlace text result }
         ensures memory { reading.now ≡ Read.Bad WireFault.Memory → bytes_of result ≡ no_memory }
@@ -111,6 +112,7 @@ fn answer_ask<S: Alter>(alloc: Global, books: &mut Books<S>, ask: &Ask) -> Answe
     ensures clean { IsClean S.Store books.new → IsClean S.Store books.old }
     ensures done { IsClean S.Store books.new → (first : ℤ) (acts : List Act) → IsHistory first acts
         → Does S.Store first acts books.old (ask_answer first acts ask.now) (acts_asked first acts ask.now) (bytes_of result) books.new }
+    ensures answer { IsClean S.Store books.new → Answers S.Store (Read.Request ask.now) (bytes_of result) books.old books.new }
     ensures as_before { IsClean S.Store books.new → status_of (bytes_of result) ≢ codes "HTTP/1.1 200" → AreAsBefore S.Store books.old books.new }
     ensures in_place { IsAskedInPlace ask.now result }
 {

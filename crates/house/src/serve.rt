@@ -1,13 +1,12 @@
 //! One request from a reader, its answer to a writer, and its line to a log.
 
-ghost use Rattle.std.specs.Prelude.{◌≡◌, ◌≢◌, ℕ, ℤ, List, Result, Err, codes};
+ghost use Rattle.std.specs.Prelude.{◌≡◌, ◌≢◌, ℤ, List, Result, Err};
 ghost use Rattle.machine.specs.Acts.{Act};
 ghost use Rattle.machine.specs.Once.{IsHistory};
 ghost use Rattle.texts.specs.Writing.{Writes};
-ghost use Rattle.store.specs.Books.{IsClean, HoldsBooks, AreAsBefore};
-ghost use Rattle.house.specs.Answers.{status_of};
+ghost use Rattle.store.specs.Books.{IsClean, HoldsBooks};
 ghost use Rattle.house.specs.House.{books_of};
-ghost use Rattle.house.specs.Serving.{IsServed, IsServedAndLogged};
+ghost use Rattle.house.specs.Serving.{IsServed, IsServedAnyhow, IsServedAndLogged};
 
 use crate::House;
 use sqlite::Alter;
@@ -32,7 +31,7 @@ impl<S: Alter> House<S> {
             → result ≢ Err ServeFault.Read
             → IsServed S.Store first acts (R.remaining reader.old) (R.remaining reader.new) (books_of self.old) (books_of self.new) (Writes result (W.contents writer.old) (W.contents writer.new)) }
         ensures as_before { IsClean S.Store (books_of self.new) → result ≢ Err ServeFault.Read
-            → (bytes : List ℕ) × Writes result (W.contents writer.old) (W.contents writer.new) bytes × (status_of bytes ≢ codes "HTTP/1.1 200" → AreAsBefore S.Store (books_of self.old) (books_of self.new)) }
+            → IsServedAnyhow S.Store (R.remaining reader.old) (R.remaining reader.new) (books_of self.old) (books_of self.new) (Writes result (W.contents writer.old) (W.contents writer.new)) }
         ensures unread { result ≡ Err ServeFault.Read → (books_of self.new ≡ books_of self.old) × (writer.new ≡ writer.old) }
     {
         self.serve_logged(reader, writer, &mut io::sink())
@@ -52,7 +51,7 @@ impl<S: Alter> House<S> {
             → result ≢ Err ServeFault.Read
             → IsServedAndLogged S.Store first acts (R.remaining reader.old) (R.remaining reader.new) (books_of self.old) (books_of self.new) (Writes result (W.contents writer.old) (W.contents writer.new)) (L.contents log.old) (L.contents log.new) }
         ensures as_before { IsClean S.Store (books_of self.new) → result ≢ Err ServeFault.Read
-            → (bytes : List ℕ) × Writes result (W.contents writer.old) (W.contents writer.new) bytes × (status_of bytes ≢ codes "HTTP/1.1 200" → AreAsBefore S.Store (books_of self.old) (books_of self.new)) }
+            → IsServedAnyhow S.Store (R.remaining reader.old) (R.remaining reader.new) (books_of self.old) (books_of self.new) (Writes result (W.contents writer.old) (W.contents writer.new)) }
         ensures unread { result ≡ Err ServeFault.Read → (books_of self.new ≡ books_of self.old) × (writer.new ≡ writer.old) × (log.new ≡ log.old) }
     {
         let heard = read_whole(self.alloc, &mut self.routes, reader)?;

@@ -8,7 +8,7 @@ ghost use Rattle.store.specs.Books.{IsClean, AreAsBefore};
 ghost use Rattle.texts.specs.PickList.{pick_list_text};
 ghost use Rattle.texts.specs.Shortages.{shortages_text};
 ghost use Rattle.house.specs.Answers.{order_answer, stock_answer, pick_list_answer, shortages_answer, card_answer, notice_answer, no_memory};
-ghost use Rattle.house.specs.Asking.{Does, IsWritten, asked_answer};
+ghost use Rattle.house.specs.Asking.{Does, IsTextOf, asked_answer};
 ghost use Rattle.house.specs.House.{bytes_of, IsLongIfOk};
 ghost use Rattle.house.specs.LotTexts.{text_answer};
 
@@ -33,10 +33,8 @@ pub(crate) fn show_order<S: Alter>(alloc: Global, books: &mut Books<S>, order: &
     ensures as_before { IsClean S.Store books.new → AreAsBefore S.Store books.old books.new }
     ensures in_place { IsLongIfOk result }
 {
-    match books.order_rows(order) {
-        Ok(view) => answer_shown(alloc, Ok(Answer::Order(view))),
-        Err(fault) => answer_shown(alloc, Err(fault)),
-    }
+    let shown = books.order_rows(order).map(Answer::Order);
+    answer_shown(alloc, shown)
 }
 
 /// Shows the stock of an item.
@@ -47,10 +45,8 @@ pub(crate) fn show_stock<S: Alter>(alloc: Global, books: &mut Books<S>, gtin: &G
     ensures as_before { IsClean S.Store books.new → AreAsBefore S.Store books.old books.new }
     ensures in_place { IsLongIfOk result }
 {
-    match books.stock(gtin) {
-        Ok(view) => answer_shown(alloc, Ok(Answer::Stock(view))),
-        Err(fault) => answer_shown(alloc, Err(fault)),
-    }
+    let shown = books.stock(gtin).map(Answer::Stock);
+    answer_shown(alloc, shown)
 }
 
 /// Shows the pick list of an order.
@@ -65,10 +61,8 @@ pub(crate) fn show_pick_list<S: Alter>(
     ensures as_before { IsClean S.Store books.new → AreAsBefore S.Store books.old books.new }
     ensures in_place { IsLongIfOk result }
 {
-    match books.order_rows(order) {
-        Ok(view) => answer_shown(alloc, pick_list_of(alloc, view)),
-        Err(fault) => answer_shown(alloc, Err(fault)),
-    }
+    let shown = books.order_rows(order);
+    answer_shown(alloc, pick_list_of(alloc, shown))
 }
 
 /// Shows the shortages of an item.
@@ -79,10 +73,8 @@ pub(crate) fn show_shortages<S: Alter>(alloc: Global, books: &mut Books<S>, gtin
     ensures as_before { IsClean S.Store books.new → AreAsBefore S.Store books.old books.new }
     ensures in_place { IsLongIfOk result }
 {
-    match books.short_rows(gtin) {
-        Ok(view) => answer_shown(alloc, shortages_of(alloc, view)),
-        Err(fault) => answer_shown(alloc, Err(fault)),
-    }
+    let shown = books.short_rows(gtin);
+    answer_shown(alloc, shortages_of(alloc, shown))
 }
 
 /// Shows the stock card of a lot.
@@ -120,10 +112,11 @@ fn text_of(text: Vec<u8>, end: Result<(), EachFault>) -> Result<Answer, Fault>
     }
 }
 
-/// The pick list, where there is memory for it.
-fn pick_list_of(alloc: Global, view: OrderView) -> Result<Answer, Fault>
-    ensures { IsWritten (pick_list_text view) result }
+/// The pick list of what is shown, where there is memory for it.
+fn pick_list_of(alloc: Global, shown: Result<OrderView, Fault>) -> Result<Answer, Fault>
+    ensures { IsTextOf pick_list_text shown result }
 {
+    let view = shown?;
     let mut text = Vec::new(alloc);
     match pick_list(&view, &mut text) {
         Ok(()) => Ok(Answer::Text(Listed::from_vec(text))),
@@ -131,10 +124,11 @@ fn pick_list_of(alloc: Global, view: OrderView) -> Result<Answer, Fault>
     }
 }
 
-/// The shortages, where there is memory for them.
-fn shortages_of(alloc: Global, view: ShortView) -> Result<Answer, Fault>
-    ensures { IsWritten (shortages_text view) result }
+/// The shortages of what is shown, where there is memory for them.
+fn shortages_of(alloc: Global, shown: Result<ShortView, Fault>) -> Result<Answer, Fault>
+    ensures { IsTextOf shortages_text shown result }
 {
+    let view = shown?;
     let mut text = Vec::new(alloc);
     match shortages(&view, &mut text) {
         Ok(()) => Ok(Answer::Text(Listed::from_vec(text))),

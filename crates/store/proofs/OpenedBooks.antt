@@ -19,7 +19,7 @@ use Rattle.sqlite.specs.Schema.{Schema}
 use Rattle.sqlite.specs.Table.{Table}
 use Rattle.sqlite.specs.Tree.{Trees}
 use Rattle.table_words.specs.Cells.{is_the_number, is_the_text, is_signed, is_number}
-use Rattle.table_words.specs.Schema.{meta_tree, least_tree, least_table, urgents_tree, urgents_table, the_tables, HasTables}
+use Rattle.table_words.specs.Schema.{meta_tree, least_tree, least_table, urgents_tree, urgents_table, the_tables}
 use Rattle.table_words.specs.Typed.{tables_in, is_meta, is_meta_at, meta_in, meta_at, same_meta, meta_key, AreTyped}
 use Rattle.table_words.specs.declared.error.TableFault.{TableFault}
 use Rattle.table_words.specs.declared.error.TableFault.TheVariants.{Store as TableStore, Foreign as TableForeign}
@@ -31,8 +31,8 @@ use Rattle.tables.specs.declared.older.OlderBooks.{OlderBooks}
 use Rattle.tables.specs.declared.older.OlderBooks.TheVariants.{First, Second}
 use Rattle.tables.specs.Settling.{HasDayAt, IsRaised, IsNumbered}
 use Rattle.tables.proofs.SettleLemmas.{each_itself}
-use Rattle.tables.proofs.OpenLemmas.{ready_tells}
-use Rattle.tables.specs.Opening.{HasDayIn, HasSchema, IsReadyAs, AreReadTyped, KeepsRowsAs, ComesTo, IsCome, IsLeftAs, IsLeft, IsOpenAndSettled, TellTables}
+use Rattle.tables.proofs.OpenLemmas.{ready_tells, older_tells}
+use Rattle.tables.specs.Opening.{HasDayIn, HasSchema, IsReadyAs, AreReadTyped, KeepsRowsAs, ComesTo, IsCome, IsLeftAs, IsLeft, IsOpenAndSettled, Tells, TellTables}
 use Rattle.tables.specs.declared.opening.Found.{Found}
 use Rattle.tables.specs.declared.opening.Found.TheVariants.{Newest, Older}
 use Rattle.tables.specs.declared.opening.Leftover.{Leftover}
@@ -122,6 +122,12 @@ pub has_day : (found : Found) (trees : Trees) (first : ℤ) (acts : List Act) �
 has_day Newest trees first acts (inl rows) = inl (newest_day trees first acts rows)
 has_day Newest trees first acts (inr rows) = inr (third_day trees first acts rows)
 has_day (Older older) trees first acts rows = older_day older trees first acts rows
+
+-- what came of books was read as typed rows
+pub came_typed : (found : Found) (old new : Trees) → ComesTo found old new → AreReadTyped found old
+came_typed Newest old new come = tt
+came_typed (Older First) old new come = come.read
+came_typed (Older Second) old new come = tt
 
 -- what is read beside it is typed
 pub read_typed : (found : Found) (trees : Trees) (first : ℤ) (acts : List Act) → AreRowsAt found first acts trees → AreReadTyped found trees
@@ -309,7 +315,7 @@ module _ {S : Type 0} (g : Ghosts S) (old again new : Held S) (found : Found) (s
   as_found Newest is trees db before =
       subst (λ (t : Trees). (KeepsRows (state g old).committed.trees t ⊎ IsRaised (state g old).committed.trees t) × TellTables t) (sym before)
       (inl (each_itself (state g old).committed.trees the_tables), subst TellTables trees (ready_tells (state g again).now is))
-  as_found (Older older) is trees db before = inl before
+  as_found (Older older) is trees db before = inl (before, subst (Tells (Older older)) (trees ∙ sym before) (older_tells older (state g again).now is))
 
   as_come : (at : Found) (db : Trees) → ComesTo at (state g old).committed.trees db × TellTables db → MayCome at (state g old).committed.trees db
   as_come Newest db it = (as_numbered (state g old).committed.trees db it.0, it.1)
@@ -357,5 +363,5 @@ module _ {S : Type 0} (g : Ghosts S) (old again new : Held S) (found : Found) (s
       keeps_books g old new (reopened come) first acts day (subst (λ (t : Trees). HasDayIn found t day) (same (was_clean c)) (has (ready (was_clean c)))) c rows
 
 -- a connection that was opened over what a stop left has the schema of books
-pub tables_opened : (s : State) → Opens s → IsLive s → TellTables s.committed.trees → HasTables s.now.schema
-tables_opened s opens live tells = subst TellTables (sym (ap (λ (d : Database). d.trees) opens.clean)) tells s.now.schema (live opens.is_open).0
+pub schema_opened : (found : Found) (s : State) → Opens s → IsLive s → Tells found s.committed.trees → HasSchema found s.now.schema
+schema_opened found s opens live tells = subst (Tells found) (sym (ap (λ (d : Database). d.trees) opens.clean)) tells s.now.schema (live opens.is_open).0

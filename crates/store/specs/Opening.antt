@@ -11,6 +11,7 @@ use Rattle.tables.specs.Bringing.{as_older, older_tables_in, AreOlderTyped}
 use Rattle.tables.specs.Indexing.{KeepsRows}
 use Rattle.tables.specs.Older.{number}
 pub use Rattle.tables.specs.Opening.{HasSchema, IsOfNone}
+pub use Rattle.tables.specs.Opening.{Tells}
 use Rattle.tables.specs.Opening.{HasDayIn, IsReadyAs, AreReadTyped, KeepsRowsAs, ComesTo, IsClosed, TellTables}
 use Rattle.tables.specs.Settling.{third_tables_in, IsRaised}
 pub use Rattle.tables.specs.declared.opening.Found.{Found}
@@ -50,11 +51,13 @@ AreRowsAt (Older older) first acts trees = AreOlderRowsOf older first acts trees
 abbrev pub AreFoundRows : ℤ → List Act → Trees → Type 0
 AreFoundRows first acts trees = (found : Found) × AreRowsAt found first acts trees
 
--- the schema is that of some books, and under a number of theirs the row of `meta` has this day
+-- the schema is that of some books, under a number of theirs the row of `meta` has this day, and what else is read of them
+-- keeps the rules of its values
 pub record HasFoundDay (old : State) (day : ℤ) : Type 0 where
   pub found : Found
   pub schema : HasSchema found old.now.schema
   pub has : HasDayIn found old.committed.trees day
+  pub read : AreReadTyped found old.committed.trees
 
 -- the schema is that of some books, but the row of `meta` or another row that is read does not keep the rules of its values
 pub record IsForeignWithin (old : State) : Type 0 where
@@ -62,10 +65,11 @@ pub record IsForeignWithin (old : State) : Type 0 where
   pub schema : HasSchema found old.now.schema
   pub foreign : (day : ℤ) → HasDayIn found old.committed.trees day → ¬ AreReadTyped found old.committed.trees
 
--- what a stop leaves of books that were found: their rows, or the newest tables under the newest number, which come of them
+-- what a stop leaves of books that were found: their rows, which tell their schema, or the newest tables under the newest
+-- number, which come of them
 abbrev pub MayCome : Found → Trees → Trees → Type 0
 MayCome Newest old db = (KeepsRows old db ⊎ IsRaised old db) × TellTables db
-MayCome (Older older) old db = (db ≡ old) ⊎ (ComesTo (Older older) old db × TellTables db)
+MayCome (Older older) old db = ((db ≡ old) × Tells (Older older) db) ⊎ (ComesTo (Older older) old db × TellTables db)
 
 -- the state with no limit on steps
 abbrev pub unlimited : State → State

@@ -19,7 +19,7 @@ ghost use Rattle.store.specs.ActRows.{AreActsHanded};
 ghost use Rattle.store.specs.Handing.{IsHanded, NoBooks};
 ghost use Rattle.store.specs.Queries.{IsShown};
 ghost use Rattle.store.specs.Books.{AreBooks, KeepsBooks, HoldsBooks, LeavesOnly, IsClean, IsSettled, AreAsBefore};
-ghost use Rattle.store.specs.Opening.{Found, HasSchema, IsOfNone, AreRowsAt, AreFoundRows, HasFoundDay, IsForeignWithin, unlimited, IsLeftUnfilled, IsReopened, IsLeftOver, IsCleanLeft};
+ghost use Rattle.store.specs.Opening.{Found, HasSchema, IsOfNone, AreRowsAt, AreFoundRows, Tells, HasFoundDay, IsForeignWithin, unlimited, IsLeftUnfilled, IsReopened, IsLeftOver, IsCleanLeft};
 
 use crate::act_rows::hand_acts;
 use crate::acting::act_once;
@@ -174,8 +174,8 @@ impl<S: Orderly + Drop> Books<S> {
             → IsOfNone (state S.Store conn).now.schema ⊎ IsForeignWithin (state S.Store conn)) }
         ensures known { IfErr result (λ e. IsCleanLeft S.Store e.left → (found : Found) → HasSchema found (state S.Store conn).now.schema → (first : ℤ) (acts : List Act) → IsHistory first acts
             → AreRowsAt found first acts (state S.Store conn).committed.trees → e.fault ≡ Fault.Store) }
-        ensures again { IfErr result (λ e. IsCleanLeft S.Store e.left → Opens (state S.Store conn) → IsLive (state S.Store conn) → (first : ℤ) (acts : List Act) → IsHistory first acts
-            → AreBooks first acts (state S.Store conn).committed.trees → e.fault ≡ Fault.Store) }
+        ensures again { IfErr result (λ e. IsCleanLeft S.Store e.left → Opens (state S.Store conn) → IsLive (state S.Store conn) → (found : Found) → Tells found (state S.Store conn).committed.trees
+            → (first : ℤ) (acts : List Act) → IsHistory first acts → AreRowsAt found first acts (state S.Store conn).committed.trees → e.fault ≡ Fault.Store) }
         ensures other { IsOfNone (state S.Store conn).now.schema
             → IsErrAnd result (λ e. (e.left ≡ Leftover.Connection conn) × ((e.fault ≡ Fault.Foreign) ⊎ (e.fault ≡ Fault.Store))) }
         ensures left { IfErr result (λ e. IsLeftOver S.Store conn e.left) }

@@ -4,22 +4,12 @@ use Rattle.machine.specs.Queries.{order_shown}
 use Rattle.wire.specs.declared.answer.Answer.{Answer}
 use Rattle.wire.specs.declared.answer.Answer.TheVariants.{Text}
 use Rattle.texts.specs.PickList.{pick_list_text}
-use Rattle.house.proofs.ShownTold.{text_told, fault_told}
+use Rattle.house.proofs.ShownTold.{shown_told}
 use Rattle.house.proofs.showing.show_pick_list.Goals as goal
 
 abbrev as_text : OrderView → Answer
 as_text v = Text (pick_list_text v)
 
-pub returns-in-Ok-clause-shown : goal.returns-in-Ok-clause-shown
-returns-in-Ok-clause-shown g c clean first acts history holds =
-    text_told g.S.Store first acts history as_text (order_shown first acts c.args.order.now) _ _ c.in-Ok.ensures.survives clean c.in-Ok.view (pick_list_text c.in-Ok.view) c.pick_list_of.result _ refl (c.in-Ok.ensures.shown clean first acts history holds) c.pick_list_of.ensures c.answer_shown.ensures.told
-
-pub returns-in-Err-clause-shown : goal.returns-in-Err-clause-shown
-returns-in-Err-clause-shown g c clean first acts history holds =
-    fault_told g.S.Store first acts history as_text (order_shown first acts c.args.order.now) _ _ c.in-Err.ensures.survives clean c.in-Err.fault _ (c.in-Err.ensures.shown clean first acts history holds) c.answer_shown-in-Err.ensures.told
-
-pub returns-in-Ok-clause-as_before : goal.returns-in-Ok-clause-as_before
-returns-in-Ok-clause-as_before g c clean = c.in-Ok.ensures.as_before clean
-
-pub returns-in-Err-clause-as_before : goal.returns-in-Err-clause-as_before
-returns-in-Err-clause-as_before g c clean = c.in-Err.ensures.as_before clean
+pub returns-clause-shown : goal.returns-clause-shown
+returns-clause-shown g c clean first acts history holds =
+    shown_told g.S.Store first acts history as_text (order_shown first acts c.args.order.now) _ _ c.order_rows-shown.ensures.survives clean pick_list_text (λ view. refl) c.order_rows-shown.result c.pick_list_of.result _ (c.order_rows-shown.ensures.shown clean first acts history holds) c.pick_list_of.ensures c.answer_shown.ensures.told

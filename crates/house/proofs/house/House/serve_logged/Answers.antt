@@ -19,4 +19,15 @@ returns-clause-served g c clean first acts history holds written =
 
 pub returns-clause-as_before : goal.returns-clause-as_before
 returns-clause-as_before g c clean written =
-    (bytes_of c.answer_reading-answer.result, writes c.write_bytes-end.result _ _ _ _ c.as_bytes.ensures c.write_bytes-end.ensures.written, c.answer_reading-answer.ensures.as_before clean)
+    let r = c.in_ok-heard.ensures.read in
+    record {
+      text = r.text;
+      reading = c.in_ok-heard.heard.reading;
+      bytes = bytes_of c.answer_reading-answer.result;
+      taken = r.taken;
+      read = r.read;
+      answer = c.answer_reading-answer.ensures.answer clean;
+      as_before = c.answer_reading-answer.ensures.as_before clean;
+      steps = λ first acts history holds. c.answer_reading-answer.ensures.step clean first acts history holds r.text r.read;
+      written = writes c.write_bytes-end.result _ _ _ _ c.as_bytes.ensures c.write_bytes-end.ensures.written;
+    }

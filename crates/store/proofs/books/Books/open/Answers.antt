@@ -5,12 +5,11 @@ use Rattle.sqlite.specs.State.{HasCleanDisk}
 use Rattle.sqlite.specs.Tree.{Trees}
 use Rattle.tables.specs.Opening.{HasDayIn, AreReadTyped}
 use Rattle.tables.specs.declared.opening.Found.{Found}
-use Rattle.tables.specs.declared.opening.Found.TheVariants.{Newest}
 use Rattle.machine.specs.Standing.{today}
 use Rattle.store.specs.Opening.{AreRowsAt}
 use Rattle.store.proofs.ActsWhole.{kept_acts}
 use Rattle.store.proofs.BooksWhole.{known_unread, settled_reopened}
-use Rattle.store.proofs.OpenedBooks.{reopened, reopened_as_found, keeps_found, tables_opened, has_day, read_typed, same_found, one_found, foreign_if, store_else, either_told, left_over}
+use Rattle.store.proofs.OpenedBooks.{reopened, reopened_as_found, keeps_found, schema_opened, has_day, came_typed, read_typed, same_found, one_found, foreign_if, store_else, either_told, left_over}
 use Rattle.store.proofs.books.Books.open.Goals as goal
 
 pub returns-in-Ok-settle_found-clause-books : goal.returns-in-Ok-settle_found-clause-books
@@ -28,6 +27,7 @@ returns-in-Ok-settle_found-clause-day g c clean =
       found = c.in-Ok.opened.1;
       schema = was.found;
       has = subst (λ (t : Trees). HasDayIn c.in-Ok.opened.1 t c.in-Ok-settle_found.day) (was.same before) (c.in-Ok-settle_found.ensures.day clean (was.ready before));
+      read = subst (AreReadTyped c.in-Ok.opened.1) (was.same before) (came_typed c.in-Ok.opened.1 _ _ (c.in-Ok-settle_found.ensures.comes clean (was.ready before) (was.opens before).clean).comes);
     }
 
 pub returns-in-Ok-settle_found-clause-today : goal.returns-in-Ok-settle_found-clause-today
@@ -64,14 +64,14 @@ returns-in-Err-settle_found-clause-known g c clean at schema first acts history 
     (λ is. c.in-Err-settle_found.ensures.foreign clean (was.ready before) is (today first acts) (has_day found (state g.S.Store c.in-Ok.opened.0).now.trees first acts own) (read_typed found (state g.S.Store c.in-Ok.opened.0).now.trees first acts own))
 
 pub returns-in-Err-settle_found-clause-again : goal.returns-in-Err-settle_found-clause-again
-returns-in-Err-settle_found-clause-again g c clean opens live first acts history books =
+returns-in-Err-settle_found-clause-again g c clean opens live at tells first acts history rows =
     let was = c.in-Ok.ensures in
     let before : HasCleanDisk (state g.S.Store c.in-Ok.opened.0) = omega (arith, clean, c.settle_found.ensures.survives.clean) in
     let found = c.in-Ok.opened.1 in
     let schema = (state g.S.Store c.args.conn).now.schema in
-    let same : Newest ≡ found = one_found Newest found schema (tables_opened (state g.S.Store c.args.conn) opens live books.schema) was.found in
+    let same : at ≡ found = one_found at found schema (schema_opened at (state g.S.Store c.args.conn) opens live tells) was.found in
     let own : AreRowsAt found first acts (state g.S.Store c.in-Ok.opened.0).now.trees =
-    subst (λ (t : Trees). AreRowsAt found first acts t) (sym (was.same before)) (subst (λ (f : Found). AreRowsAt f first acts (state g.S.Store c.args.conn).committed.trees) same (inl books.rows)) in
+    subst (λ (t : Trees). AreRowsAt found first acts t) (sym (was.same before)) (subst (λ (f : Found). AreRowsAt f first acts (state g.S.Store c.args.conn).committed.trees) same rows) in
     c.from-in-Err-settle_found.ensures ∙ store_else c.in-Err-settle_found.fault
     (λ is. c.in-Err-settle_found.ensures.foreign clean (was.ready before) is (today first acts) (has_day found (state g.S.Store c.in-Ok.opened.0).now.trees first acts own) (read_typed found (state g.S.Store c.in-Ok.opened.0).now.trees first acts own))
 
@@ -103,8 +103,8 @@ pub returns-in-Err-clause-known : goal.returns-in-Err-clause-known
 returns-in-Err-clause-known g c clean at schema first acts history rows = c.from.ensures ∙ store_else c.in-Err.fault (λ is. c.in-Err.ensures.foreign is at schema)
 
 pub returns-in-Err-clause-again : goal.returns-in-Err-clause-again
-returns-in-Err-clause-again g c clean opens live first acts history books =
-    c.from.ensures ∙ store_else c.in-Err.fault (λ is. c.in-Err.ensures.foreign is Newest (tables_opened (state g.S.Store c.args.conn) opens live books.schema))
+returns-in-Err-clause-again g c clean opens live at tells first acts history rows =
+    c.from.ensures ∙ store_else c.in-Err.fault (λ is. c.in-Err.ensures.foreign is at (schema_opened at (state g.S.Store c.args.conn) opens live tells))
 
 pub returns-in-Err-clause-other : goal.returns-in-Err-clause-other
 returns-in-Err-clause-other g c schema = ((c.in-Err.ensures.other schema).0, either_told c.in-Err.fault c.from.result c.from.ensures)
