@@ -161,8 +161,8 @@ TOTALS = [-1, 10**12 + 1, -(2**63), 2**63 - 1]
 ACTS = [0] + TOTALS
 REST = [-1, 10**10 + 1, -(2**63), 2**63 - 1]
 UNITS = [0] + REST
-SHIPPED = [-1, 10**6 + 1, -(2**63), 2**63 - 1]
-ORDERED = [0] + SHIPPED
+UNITS_SHIPPED = [-1, 10**6 + 1, -(2**63), 2**63 - 1]
+ORDERED = [0] + UNITS_SHIPPED
 CHANGES = [0, 10**6 + 1, -(10**10) - 1, -(2**63), 2**63 - 1]
 DAYS_LEFT = [-1, 3651, -(2**63), 2**63 - 1]
 FLAGS = [-1, 2]
@@ -191,6 +191,11 @@ OF_STAGED = OF_STOCK + ["shortages", "shipment"]
 
 # Where rows are only sought by a column, with the sound value of a request or of another row.
 SOUGHT = "rows are sought by it, and none is sought by such a value"
+
+# Where no request reads them.
+UNREAD = "a notice reads the lines of the card, and an audit compares the two"
+
+SHIPPED = "kind = 'SHIPMENT'"
 
 # Each column of each table: the row that has a bad value there (a copy of it, for a column of the key), the values,
 # and who reads it; without a reader, why nobody does. The row of `meta` is read as the books are opened.
@@ -224,7 +229,7 @@ COLUMNS = [
     ("lines", "ord", "ord = 'S-1'", NAMES, [], SOUGHT),
     ("lines", "gtin", "ord = 'S-1'", GTINS, SHOWN_ORDER + ACTS_ON_ORDER, None),
     ("lines", "ordered", "ord = 'S-1'", ORDERED, OF_LINES, None),
-    ("lines", "shipped", "ord = 'S-1'", SHIPPED, OF_LINES, None),
+    ("lines", "shipped", "ord = 'S-1'", UNITS_SHIPPED, OF_LINES, None),
     ("staged", "ord", "ord = 'S-1'", NAMES, OF_STAGED, None),
     ("staged", "gtin", "ord = 'S-1'", GTINS, SHOWN_ORDER + ["day"], None),
     ("staged", "lot", "ord = 'S-1'", LOTS, SHOWN_ORDER + OF_STAGED, None),
@@ -238,11 +243,10 @@ COLUMNS = [
     ("shipments", "act", "1", ACTS, ["notice"], None),
     ("shipments", "day", "1", DAYS, ["notice"], None),
     ("shipments", "ord", "1", NAMES, ["notice"], None),
-    ("shiplines", "number", "1", [10**12 + 1, 2**63 - 1], ["notice"], None),
-    ("shiplines", "number", "1", [0, -1, -(2**63)], [], "the shipments of a lot are sought from number 1 on"),
-    ("shiplines", "gtin", "1", GTINS, [], SOUGHT),
-    ("shiplines", "lot", "1", LOTS, [], SOUGHT),
-    ("shiplines", "qty", "1", ORDERED, ["notice"], None),
+    ("shiplines", "number", "1", ACTS, [], UNREAD),
+    ("shiplines", "gtin", "1", GTINS, [], UNREAD),
+    ("shiplines", "lot", "1", LOTS, [], UNREAD),
+    ("shiplines", "qty", "1", ORDERED, [], UNREAD),
     ("cards", "gtin", "lot = 'L1'", GTINS, [], SOUGHT),
     ("cards", "lot", "lot = 'L1'", LOTS, [], SOUGHT),
     ("cards", "act", "lot = 'L1'", ACTS, ["card"], None),
@@ -251,6 +255,13 @@ COLUMNS = [
     ("cards", "note", "lot = 'L1'", [b"D" * 26, b"D" * 1000], ["card"], None),
     ("cards", "qty", "lot = 'L1'", CHANGES, ["card"], None),
     ("cards", "rest", "lot = 'L1'", REST, ["card"], None),
+    ("cards", "act", SHIPPED, [10**12 + 1, 2**63 - 1], ["notice"], None),
+    ("cards", "act", SHIPPED, [0, -1, -(2**63)], [], "the shipments of a lot are sought from act 1 on"),
+    ("cards", "day", SHIPPED, DAYS, ["notice"], None),
+    ("cards", "kind", SHIPPED, POSTINGS, ["notice"], None),
+    ("cards", "note", SHIPPED, [b"", b"A-01", b"1000000000001", b"18446744073709551616", b"D" * 26], ["notice"], None),
+    ("cards", "qty", SHIPPED, [1, 2**63 - 1], ["notice"], None),
+    ("cards", "rest", SHIPPED, REST, ["notice"], None),
     ("repeats", "k", "k = 'D/D-1/1'", [b"", b"K", b"D" * 28, b"\xff"], [], SOUGHT),
     ("repeats", "act", "k = 'D/D-1/1'", ACTS, ["repeat"], None),
     ("repeats", "spell", "k = 'D/D-1/1'", [], [], "any text is a value of it"),

@@ -128,12 +128,12 @@ class Threads(socketserver.ThreadingTCPServer):
 
 
 class OtherSite(http.server.BaseHTTPRequestHandler):
-    """Another site, whose pages send a hold with the browser's password: by a form as text, whose `=` stands within the key of
-    a name that is no field, by a script, and by a link to what changes nothing."""
+    """Another site, whose pages send a hold with the browser's password: by a form as text, whose `=` stands in a member that
+    another one of its name follows; by a script; and a picture of what lotd shows."""
     BODY = '{"key":"EVIL","gtin":"%s","lot":"L4"}' % OAT
     PAGES = {
-        "/form": "<form method=post enctype=text/plain action=%s/holds><input name='%s' value='\"}'></form><script>document.forms[0].submit()</script>"
-                 % (OWN, BODY[:-1].replace("L4\"", "L4\",\"x\":\"")),
+        "/form": "<form method=post enctype=text/plain action=%s/holds><input name='%s' value='%s'></form><script>document.forms[0].submit()</script>"
+                 % (OWN, BODY.replace('L4"}', ""), '","lot":"L4"}'),
         "/script": "<script>fetch('%s/holds',{method:'POST',mode:'no-cors',credentials:'include',body:'%s'})"
                    ".finally(()=>document.title='sent')</script>" % (OWN, BODY),
         "/picture": "<img src=%s/stock/%s onerror=\"document.title='sent'\">" % (OWN, OAT),

@@ -64,18 +64,17 @@ def is_refused(what, code, *words, out=None):
     return peak
 
 
-def card_rows(count):
-    """The lines of a card, of each kind in turn: act, kind, reference, change, and what is in the house after it."""
+def card_rows(count, shipments):
+    """The lines of a card, the shipments among them: act, kind, reference, change, and what is in the house after it."""
+    changes = [(10, "RECEIPT", "D-0/1", 9_000_000)]
+    for n in range(1, count - len(shipments)):
+        kind, note, change = [("RECEIPT", "D-%d/%d" % (n, n % 9_999 + 1), 9), ("WRITEON", "A-01", 1), ("WRITEOFF", "A-02", -2)][n % 3]
+        changes.append((3 * n + 10, kind, note, change))
+    changes += [(act, "SHIPMENT", str(number), -qty) for number, act, qty, _, _ in shipments]
     rest, rows = 0, []
-    for n in range(count):
-        kind, note, change = [
-            ("RECEIPT", "D-%d/%d" % (n, n % 9_999 + 1), 9),
-            ("WRITEON", "A-01", 1),
-            ("WRITEOFF", "A-02", -2),
-            ("SHIPMENT", str(n + 1), -3),
-        ][n % 4]
+    for act, kind, note, change in sorted(changes):
         rest += change
-        rows.append((3 * n + 10, kind, note, change, rest))
+        rows.append((act, kind, note, change, rest))
     return rows
 
 
@@ -127,8 +126,6 @@ def set_rows(db, cards, bins, shipments):
     conn.executemany("INSERT INTO shipments VALUES (?, ?, ?, ?)", backwards([(number, act, DAY, order) for number, act, order in sorted(both)]))
     conn.executemany("INSERT INTO shiplines VALUES (?, ?, 'L1', ?)", backwards([(number, OATS, qty) for number, _, qty, _, _ in shipments]))
     conn.executemany("INSERT INTO shiplines VALUES (?, ?, 'L2', 1)", [(number + 1, OATS) for number, *_ in shipments])
-    # Books of an earlier program have no such index, and tell the same a hundred times slower.
-    conn.execute("CREATE INDEX IF NOT EXISTS shiplines_of_lot ON shiplines (gtin, lot, number)")
     last = max([act for act, *_ in cards] + [act for _, act, *_ in shipments]) + 2
     conn.execute("UPDATE meta SET acts = ?, shipments = ?", (last, 2 * len(shipments)))
     conn.commit()
@@ -139,7 +136,8 @@ def books(name, card_count, bin_count, shipment_count):
     """Books with such a lot, its card and its notice."""
     db = os.path.join(room, name + ".db")
     subprocess.run([lotd, "init", "--db", db, "--day", DAY_TEXT], check=True)
-    cards, bins, shipments = card_rows(card_count), bin_rows(bin_count), shipment_rows(shipment_count)
+    bins, shipments = bin_rows(bin_count), shipment_rows(shipment_count)
+    cards = card_rows(card_count, shipments)
     set_rows(db, cards, bins, shipments)
     return db, card_text(cards), notice_text(bins, shipments)
 
@@ -159,9 +157,9 @@ def checked(name, counts):
     return db, of_card, of_notice
 
 
-short_db, short_card, short_notice = checked("short", (100, 10, 100))
+short_db, short_card, short_notice = checked("short", (200, 10, 100))
 long_db, long_card, _ = checked("long", (100_000, 10, 100))
-_, _, long_notice = checked("shipped", (100, 1_000, 10_000))
+_, _, long_notice = checked("shipped", (10_100, 1_000, 10_000))
 if long_card > max(short_card, 0) + SLACK:
     fail("the memory of a card", "at most %d KiB more" % (max(short_card, 0) + SLACK), long_card)
 if long_notice > max(short_notice, 0) + SLACK:

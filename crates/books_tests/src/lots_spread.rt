@@ -15,8 +15,10 @@ const SPREAD: &[Told] = &[Told {
     notice: Ok(Some(b"2026-05-31")),
     lines: &[
         Record::Line(6, CardKind::Receipt, b"D-1/2", 20, 20),
-        Record::Line(9, CardKind::Shipment, b"9", -4, 16),
-        Record::Line(10, CardKind::WriteOff, b"A-01", -1, 15),
+        Record::Line(7, CardKind::WriteOff, b"A-01", -1, 19),
+        Record::Line(8, CardKind::Shipment, b"2", -3, 16),
+        Record::Line(9, CardKind::Shipment, b"9", -4, 12),
+        Record::Line(10, CardKind::Shipment, b"10", -5, 7),
     ],
     bins: &[
         Record::Bin(b"A-01", 7),
@@ -49,7 +51,7 @@ static SPREAD_OUT: [&[Step]; 1] = [&[
         "INSERT INTO shiplines (number, gtin, lot, qty) VALUES (10, '09506000134352', 'L2', 5), (9, '09506000134352', 'L2', 4), (9, '09506000134352', 'L1', 6), (2, '09506000134352', 'L2', 3)",
     )),
     Step::On(On::Run(
-        "INSERT INTO cards (gtin, lot, act, day, kind, note, qty, rest) VALUES ('09506000134352', 'L2', 10, 20577, 'WRITEOFF', 'A-01', -1, 15), ('09506000134352', 'L2', 6, 20577, 'RECEIPT', 'D-1/2', 20, 20), ('09506000134352', 'L2', 9, 20577, 'SHIPMENT', '9', -4, 16)",
+        "INSERT INTO cards (gtin, lot, act, day, kind, note, qty, rest) VALUES ('09506000134352', 'L2', 10, 20577, 'SHIPMENT', '10', -5, 7), ('09506000134352', 'L2', 7, 20577, 'WRITEOFF', 'A-01', -1, 19), ('09506000134352', 'L1', 9, 20577, 'SHIPMENT', '9', -6, 8), ('09506000134352', 'L2', 6, 20577, 'RECEIPT', 'D-1/2', 20, 20), ('09506000134352', 'L2', 9, 20577, 'SHIPMENT', '9', -4, 12), ('09506000134352', 'L2', 8, 20577, 'SHIPMENT', '2', -3, 16)",
     )),
     Step::Lots(SPREAD),
 ]];

@@ -244,11 +244,15 @@ fn no_books_are_made_beside_a_table_of_items(rt: HostRuntime) {
 const INDEX_NAMES: &str =
     "SELECT name FROM sqlite_schema WHERE type = 'index' AND name NOT LIKE 'sqlite%' ORDER BY name";
 
-// An index that is missing is made as the books are opened, and so are all of them.
+// An index that is missing is made as the books are opened, and so are all of them. One that books had once stays.
 static INDEXES_MADE: [&[Step]; 2] = [
     &[
         Step::Make,
-        Step::On(On::Run("DROP INDEX shiplines_of_lot")),
+        Step::On(On::Gives(INDEX_NAMES, "reserved_by_gtin\nstaged_by_gtin\n")),
+        Step::On(On::Run(
+            "CREATE INDEX shiplines_of_lot ON shiplines (gtin, lot, number)",
+        )),
+        Step::On(On::Run("DROP INDEX staged_by_gtin")),
         Step::Open,
         Step::On(On::Gives(
             INDEX_NAMES,
@@ -260,10 +264,7 @@ static INDEXES_MADE: [&[Step]; 2] = [
     ],
     &[
         Step::Open,
-        Step::On(On::Gives(
-            INDEX_NAMES,
-            "reserved_by_gtin\nshiplines_of_lot\nstaged_by_gtin\n",
-        )),
+        Step::On(On::Gives(INDEX_NAMES, "reserved_by_gtin\nstaged_by_gtin\n")),
         Step::On(META),
         Step::On(BINS),
     ],

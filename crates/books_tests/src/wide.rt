@@ -200,10 +200,13 @@ static MANY_SHIPMENTS: [&[Step]; 1] = [&[
     Step::On(On::Run("CREATE TABLE digits (d INTEGER NOT NULL)")),
     Step::On(On::Run("INSERT INTO digits VALUES (0), (1), (2), (3), (4), (5), (6), (7), (8), (9)")),
     Step::On(On::Run(
-        "INSERT INTO shipments SELECT a.d * 100 + b.d * 10 + c.d + 1, 8, 20577, 'S-1' FROM digits a, digits b, digits c WHERE a.d < 3",
+        "INSERT INTO shipments SELECT a.d * 100 + b.d * 10 + c.d + 1, a.d * 100 + b.d * 10 + c.d + 101, 20577, 'S-1' FROM digits a, digits b, digits c WHERE a.d < 3",
     )),
     Step::On(On::Run(
         "INSERT INTO shiplines SELECT number, '09506000134352', 'L2', 1000000 FROM shipments",
+    )),
+    Step::On(On::Run(
+        "INSERT INTO cards SELECT '09506000134352', 'L2', act, day, 'SHIPMENT', '' || number, -1000000, 0 FROM shipments",
     )),
     Step::House(&[Asked::Long(Long::Notice)]),
 ]];

@@ -1,2 +1,2 @@
 pub mod CardsByAct
-pub mod ShiplinesByNumber
+pub mod CardsAfter

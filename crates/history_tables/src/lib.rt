@@ -3,7 +3,7 @@
 
 pub mod cards;
 pub mod repeats;
-pub mod shipline_after;
 pub mod shiplines;
 pub mod shipments;
+pub mod shipped_after;
 pub mod texts;

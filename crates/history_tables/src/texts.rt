@@ -6,6 +6,9 @@ pub(crate) const ADD_CARD: &str =
 pub(crate) const CARDS_BY_ACT: &str =
     "SELECT gtin, lot, act, day, kind, note, qty, rest FROM cards WHERE gtin = ?1 AND lot = ?2 ORDER BY act";
 
+pub(crate) const CARDS_AFTER: &str =
+    "SELECT gtin, lot, act, day, kind, note, qty, rest FROM cards WHERE gtin = ?1 AND lot = ?2 AND act > ?3 ORDER BY act";
+
 pub(crate) const ADD_REPEAT: &str =
     "INSERT INTO repeats (k, act, spell, reply) VALUES (?1, ?2, ?3, ?4)";
 
@@ -14,9 +17,6 @@ pub(crate) const REPEATS_OF: &str =
 
 pub(crate) const ADD_SHIPLINE: &str =
     "INSERT INTO shiplines (number, gtin, lot, qty) VALUES (?1, ?2, ?3, ?4)";
-
-pub(crate) const SHIPLINES_AFTER: &str =
-    "SELECT number, gtin, lot, qty FROM shiplines WHERE gtin = ?1 AND lot = ?2 AND number > ?3 ORDER BY number";
 
 pub(crate) const ADD_SHIPMENT: &str =
     "INSERT INTO shipments (number, act, day, ord) VALUES (?1, ?2, ?3, ?4)";
@@ -28,10 +28,10 @@ pub(crate) const SHIPMENTS_OF: &str =
 pub const TEXTS: [&str; 8] = [
     ADD_CARD,
     CARDS_BY_ACT,
+    CARDS_AFTER,
     ADD_REPEAT,
     REPEATS_OF,
     ADD_SHIPLINE,
-    SHIPLINES_AFTER,
     ADD_SHIPMENT,
     SHIPMENTS_OF,
 ];

@@ -14,7 +14,7 @@ use Rattle.slices.specs.declared.knowing.Known.{Known}
 use Rattle.store.specs.Books.{KeepsBooks, IsSettled, IsAsBefore}
 use Rattle.store.specs.Connected.{Connected, IsIdle}
 use Rattle.store.specs.Knowing.{HasKnown, IsKnown}
-use Rattle.store.specs.Opening.{IsReopened}
+use Rattle.store.specs.Opening.{IsOpenedFrom}
 use Rattle.store.specs.Queries.{IsShown}
 use Rattle.store.specs.Showing.{IsShownOn}
 use Rattle.store.specs.declared.fault.Fault.{Fault}
@@ -59,5 +59,5 @@ known_unread s settled clean = (settled clean, λ up. tt)
 pub settled_books : (first : ℤ) (acts : List Act) (s : State) → KeepsBooks first acts s → IsSettled s
 settled_books first acts s held = record { ready = λ up. (held.books up).ready; settled = held.settled }
 
-pub settled_reopened : {S : Type 0} (g : Ghosts S) (old new : Held S) → IsReopened g old new → HasCleanDisk (state g new) → IsSettled (state g new)
-settled_reopened g old new it clean = record { ready = it.ready clean; settled = it.settled clean }
+pub settled_opened : {S : Type 0} (g : Ghosts S) (old new : Held S) → IsOpenedFrom g old new → HasCleanDisk (state g new) → IsSettled (state g new)
+settled_opened g old new it clean = record { ready = it.ready clean; settled = it.settled clean }

@@ -32,7 +32,7 @@ use Rattle.each_row.specs.Ordered.{AreInOrder}
 use Rattle.each_row.proofs.Rising.{few_with_key, found_alike, found_wanted}
 
 -- none, or one of this act
-abbrev IsOne : ℕ → List CardRow → Type 0
+abbrev pub IsOne : ℕ → List CardRow → Type 0
 IsOne n rows = (rows ≡ []) ⊎ ((c : CardRow) × (rows ≡ c ∷ []) × (c.act ≡ n))
 
 -- ---- the lines of one act
@@ -155,7 +155,7 @@ module _ (first : ℤ) (act : Act) (before : List Act) (l : LotId) where
   none_back : (ks : List KnownLot) (ps : List Posting) → own (all_lines (returned (next_number before) ks (orders before) ps)) ≡ []
   none_back ks ps = ap own (returned_has_no_line (next_number before) (orders before) ps first act before ks)
 
-  one_line : (ps : List Posting) (c : Command) → IsOne (next_number before) (own (all_lines (posted first act before ps c)))
+  pub one_line : (ps : List Posting) (c : Command) → IsOne (next_number before) (own (all_lines (posted first act before ps c)))
   one_line ps (Receive r) = of_posting (next_number before) r.lot Supplier (InBin r.bin) r.qty
   one_line ps (Move m) = of_posting (next_number before) m.lot (InBin m.from) (InBin m.to) m.qty
   one_line ps (Count c) = of_correction (next_number before) c.lot c.bin (balance (is_bin c.bin) (is_lot c.lot) ps) c.qty

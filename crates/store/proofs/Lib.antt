@@ -18,6 +18,7 @@ pub mod AsBefore
 pub mod Listings
 pub mod BinOrder
 pub mod ShipmentOrder
+pub mod ShipmentCards
 pub mod ShipmentsHanded
 pub mod LinesWritten
 pub mod BoundsWritten

@@ -46,7 +46,7 @@ use Rattle.machine.proofs.histories.OlderBooks.{first_books_go_on, second_books_
 use Rattle.store.specs.Books.{AreRowsOf, KeepsBooks}
 use Rattle.store.specs.Faults.{fault_of}
 use Rattle.store.specs.declared.fault.Fault.{Fault}
-use Rattle.store.specs.Opening.{third_number, AreThirdRowsOf, AreOlderRowsOf, AreRowsAt, AreFoundRows, MayCome, IsReopened, IsReopenedAsFound, IsLeftOver, unlimited}
+use Rattle.store.specs.Opening.{third_number, AreThirdRowsOf, AreOlderRowsOf, AreRowsAt, AreFoundRows, MayCome, IsOpenedFrom, IsOpenedAsFound, IsLeftOver, unlimited}
 use Rattle.store.specs.declared.fault.Fault.TheVariants.{Store, Foreign}
 
 -- ---- faults
@@ -286,7 +286,7 @@ rows_come (Older older) before after first acts brought rows = record {
 }
 
 -- a connection that was found open keeps the books of the acts, as whichever books they were found
-keeps_books : {S : Type 0} (g : Ghosts S) (old new : Held S) (it : IsReopened g old new) (first : ℤ) (acts : List Act) (day : ℤ) → HasDayIn it.found (state g old).committed.trees day → HasCleanDisk (state g new)
+keeps_books : {S : Type 0} (g : Ghosts S) (old new : Held S) (it : IsOpenedFrom g old new) (first : ℤ) (acts : List Act) (day : ℤ) → HasDayIn it.found (state g old).committed.trees day → HasCleanDisk (state g new)
     → AreFoundRows first acts (state g old).committed.trees → KeepsBooks first acts (state g new)
 keeps_books g old new it first acts day has clean (at, rows) = record {
   books = λ up. record {
@@ -302,32 +302,32 @@ as_numbered : (old db : Trees) → IsNumbered old db → KeepsRows old db ⊎ Is
 as_numbered old db (inl kept) = inl kept.rows
 as_numbered old db (inr raised) = inr raised
 
-module _ {S : Type 0} (g : Ghosts S) (old again new : Held S) (found : Found) (schema : HasSchema found (state g old).now.schema)
-    (ready : HasCleanDisk (state g again) → IsReadyAs found (state g again).now) (opens : HasCleanDisk (state g again) → IsOpenAndSettled (state g again))
-    (same : HasCleanDisk (state g again) → (state g again).now.trees ≡ (state g old).committed.trees) (crash : HasCleanDisk (state g again) → (db : Trees) → (state g again).may_leave db → db ≡ (state g old).committed.trees)
-    (clean : doubt (state g old).is_clean ≤ doubt (state g again).is_clean) (shield : (state g old).IsShielded → (state g again).IsShielded)
-    (survives : Survives (state g again) (state g new) (λ db. IsReadyAs found (state g again).now → ComesTo found (state g again).now.trees db × TellTables db)) (outside : new.in_transaction ≡ false) where
-  was_clean : HasCleanDisk (state g new) → HasCleanDisk (state g again)
+module _ {S : Type 0} (g : Ghosts S) (old checked new : Held S) (found : Found) (schema : HasSchema found (state g old).now.schema)
+    (ready : HasCleanDisk (state g checked) → IsReadyAs found (state g checked).now) (opens : HasCleanDisk (state g checked) → IsOpenAndSettled (state g checked))
+    (same : HasCleanDisk (state g checked) → (state g checked).now.trees ≡ (state g old).committed.trees) (crash : HasCleanDisk (state g checked) → (db : Trees) → (state g checked).may_leave db → db ≡ (state g old).committed.trees)
+    (clean : doubt (state g old).is_clean ≤ doubt (state g checked).is_clean) (shield : (state g old).IsShielded → (state g checked).IsShielded)
+    (survives : Survives (state g checked) (state g new) (λ db. IsReadyAs found (state g checked).now → ComesTo found (state g checked).now.trees db × TellTables db)) (outside : new.in_transaction ≡ false) where
+  was_clean : HasCleanDisk (state g new) → HasCleanDisk (state g checked)
   was_clean c = omega (arith, c, survives.clean)
 
   -- the trees as they were found tell their tables
-  as_found : (at : Found) → IsReadyAs at (state g again).now → (state g again).now.trees ≡ (state g old).committed.trees → (db : Trees) → db ≡ (state g old).committed.trees → MayCome at (state g old).committed.trees db
+  as_found : (at : Found) → IsReadyAs at (state g checked).now → (state g checked).now.trees ≡ (state g old).committed.trees → (db : Trees) → db ≡ (state g old).committed.trees → MayCome at (state g old).committed.trees db
   as_found Newest is trees db before =
       subst (λ (t : Trees). (KeepsRows (state g old).committed.trees t ⊎ IsRaised (state g old).committed.trees t) × TellTables t) (sym before)
-      (inl (each_itself (state g old).committed.trees the_tables), subst TellTables trees (ready_tells (state g again).now is))
-  as_found (Older older) is trees db before = inl (before, subst (Tells (Older older)) (trees ∙ sym before) (older_tells older (state g again).now is))
+      (inl (each_itself (state g old).committed.trees the_tables), subst TellTables trees (ready_tells (state g checked).now is))
+  as_found (Older older) is trees db before = inl (before, subst (Tells (Older older)) (trees ∙ sym before) (older_tells older (state g checked).now is))
 
   as_come : (at : Found) (db : Trees) → ComesTo at (state g old).committed.trees db × TellTables db → MayCome at (state g old).committed.trees db
   as_come Newest db it = (as_numbered (state g old).committed.trees db it.0, it.1)
   as_come (Older older) db it = inr it
 
-  left_by : HasCleanDisk (state g new) → (db : Trees) → (state g again).may_leave db ⊎ (IsReadyAs found (state g again).now → ComesTo found (state g again).now.trees db × TellTables db) → MayCome found (state g old).committed.trees db
+  left_by : HasCleanDisk (state g new) → (db : Trees) → (state g checked).may_leave db ⊎ (IsReadyAs found (state g checked).now → ComesTo found (state g checked).now.trees db × TellTables db) → MayCome found (state g old).committed.trees db
   left_by c db (inl before) = as_found found (ready (was_clean c)) (same (was_clean c)) db (crash (was_clean c) db before)
   left_by c db (inr told) = let it = told (ready (was_clean c)) in as_come found db (subst (λ (t : Trees). ComesTo found t db) (same (was_clean c)) it.0, it.1)
 
-  pub reopened : (HasCleanDisk (state g new) → IsReadyAs found (state g again).now → (state g again).now ≡ (state g again).committed → IsCome found (state g again).now.trees (state g new)) → IsReopened g old new
-  reopened come =
-      let came : HasCleanDisk (state g new) → IsCome found (state g again).now.trees (state g new) = λ c. come c (ready (was_clean c)) (opens (was_clean c)).clean in
+  pub opened_from : (HasCleanDisk (state g new) → IsReadyAs found (state g checked).now → (state g checked).now ≡ (state g checked).committed → IsCome found (state g checked).now.trees (state g new)) → IsOpenedFrom g old new
+  opened_from come =
+      let came : HasCleanDisk (state g new) → IsCome found (state g checked).now.trees (state g new) = λ c. come c (ready (was_clean c)) (opens (was_clean c)).clean in
       record {
         found = found;
         schema = schema;
@@ -340,10 +340,10 @@ module _ {S : Type 0} (g : Ghosts S) (old again new : Held S) (found : Found) (s
         shield = λ s. survives.shield (shield s);
       }
 
-  pub reopened_as_found : (HasCleanDisk (state g new) → IsReadyAs found (state g again).now → (state g again).now ≡ (state g again).committed → IsTrue (state g new).is_open → IsLeftAs found (state g again).now.trees (state g new))
-      → IsReopenedAsFound g old new
-  reopened_as_found kept =
-      let still : HasCleanDisk (state g new) → IsTrue (state g new).is_open → IsLeftAs found (state g again).now.trees (state g new) = λ c up. kept c (ready (was_clean c)) (opens (was_clean c)).clean up in
+  pub opened_as_found : (HasCleanDisk (state g new) → IsReadyAs found (state g checked).now → (state g checked).now ≡ (state g checked).committed → IsTrue (state g new).is_open → IsLeftAs found (state g checked).now.trees (state g new))
+      → IsOpenedAsFound g old new
+  opened_as_found kept =
+      let still : HasCleanDisk (state g new) → IsTrue (state g new).is_open → IsLeftAs found (state g checked).now.trees (state g new) = λ c up. kept c (ready (was_clean c)) (opens (was_clean c)).clean up in
       record {
         found = found;
         schema = schema;
@@ -356,11 +356,11 @@ module _ {S : Type 0} (g : Ghosts S) (old again new : Held S) (found : Found) (s
         shield = λ s. survives.shield (shield s);
       }
 
-  pub keeps_found : (HasCleanDisk (state g new) → IsReadyAs found (state g again).now → (state g again).now ≡ (state g again).committed → IsCome found (state g again).now.trees (state g new)) → (first : ℤ) (acts : List Act) (day : ℤ)
-      → (IsReadyAs found (state g again).now → HasDayIn found (state g again).now.trees day) → HasCleanDisk (state g new) → AreFoundRows first acts (state g old).committed.trees → KeepsBooks first acts (state g new)
-  unfolding reopened
+  pub keeps_found : (HasCleanDisk (state g new) → IsReadyAs found (state g checked).now → (state g checked).now ≡ (state g checked).committed → IsCome found (state g checked).now.trees (state g new)) → (first : ℤ) (acts : List Act) (day : ℤ)
+      → (IsReadyAs found (state g checked).now → HasDayIn found (state g checked).now.trees day) → HasCleanDisk (state g new) → AreFoundRows first acts (state g old).committed.trees → KeepsBooks first acts (state g new)
+  unfolding opened_from
   keeps_found come first acts day has c rows =
-      keeps_books g old new (reopened come) first acts day (subst (λ (t : Trees). HasDayIn found t day) (same (was_clean c)) (has (ready (was_clean c)))) c rows
+      keeps_books g old new (opened_from come) first acts day (subst (λ (t : Trees). HasDayIn found t day) (same (was_clean c)) (has (ready (was_clean c)))) c rows
 
 -- a connection that was opened over what a stop left has the schema of books
 pub schema_opened : (found : Found) (s : State) → Opens s → IsLive s → Tells found s.committed.trees → HasSchema found s.now.schema

@@ -88,7 +88,7 @@ module _ {S : Type 0} (g : Ghosts S) (old : Held S) where
   IsLeftUnfilled day (left.Store s) = ⊥
 
   -- a connection that was found open: its tables are the newest, and come of the rows of the last commit
-  pub record IsReopened (new : Held S) : Type 0 where
+  pub record IsOpenedFrom (new : Held S) : Type 0 where
     pub found : Found
     pub schema : HasSchema found (state g old).now.schema
     pub outside : new.in_transaction ≡ false
@@ -100,7 +100,7 @@ module _ {S : Type 0} (g : Ghosts S) (old : Held S) where
     pub shield : (state g old).IsShielded → (state g new).IsShielded
 
   -- one whose tables have the rows of the last commit, as they were found
-  pub record IsReopenedAsFound (new : Held S) : Type 0 where
+  pub record IsOpenedAsFound (new : Held S) : Type 0 where
     pub found : Found
     pub schema : HasSchema found (state g old).now.schema
     pub outside : new.in_transaction ≡ false
@@ -113,7 +113,7 @@ module _ {S : Type 0} (g : Ghosts S) (old : Held S) where
 
   -- the connection as it was, or one that was found open, or its store
   abbrev pub IsLeftOver : Leftover S → Type 0
-  IsLeftOver (left.Connection conn) = (conn ≡ old) ⊎ IsReopenedAsFound conn
+  IsLeftOver (left.Connection conn) = (conn ≡ old) ⊎ IsOpenedAsFound conn
   IsLeftOver (left.Store s) = IsClosed g old s
 
 -- so far the disk has returned what was written

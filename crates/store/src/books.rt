@@ -19,7 +19,7 @@ ghost use Rattle.store.specs.ActRows.{AreActsHanded};
 ghost use Rattle.store.specs.Handing.{IsHanded, NoBooks};
 ghost use Rattle.store.specs.Queries.{IsShown};
 ghost use Rattle.store.specs.Books.{AreBooks, KeepsBooks, HoldsBooks, LeavesOnly, IsClean, IsSettled, AreAsBefore};
-ghost use Rattle.store.specs.Opening.{Found, HasSchema, IsOfNone, AreRowsAt, AreFoundRows, Tells, HasFoundDay, IsForeignWithin, unlimited, IsLeftUnfilled, IsReopened, IsLeftOver, IsCleanLeft};
+ghost use Rattle.store.specs.Opening.{Found, HasSchema, IsOfNone, AreRowsAt, AreFoundRows, Tells, HasFoundDay, IsForeignWithin, unlimited, IsLeftUnfilled, IsOpenedFrom, IsLeftOver, IsCleanLeft};
 
 use crate::act_rows::hand_acts;
 use crate::acting::act_once;
@@ -166,7 +166,7 @@ impl<S: Orderly + Drop> Books<S> {
             → b.day ≡ today first acts) }
         ensures kept { IfOk result (λ b. HasCleanDisk (state S.Store b.conn) → (first : ℤ) (acts : List Act) → IsHistory first acts → AreFoundRows first acts (state S.Store conn).committed.trees
             → LeavesOnly first acts (state S.Store b.conn)) }
-        ensures opens { IfOk result (λ b. IsReopened S.Store conn b.conn) }
+        ensures opens { IfOk result (λ b. IsOpenedFrom S.Store conn b.conn) }
         ensures open { IfOk result (λ b. HasCleanDisk (state S.Store b.conn) → IsTrue (state S.Store b.conn).is_open) }
         ensures settled { IfOk result (λ b. HasCleanDisk (state S.Store b.conn) → IsSettled (state S.Store b.conn)) }
         ensures indexes { IfOk result (λ b. HasCleanDisk (state S.Store b.conn) → HasIndexes (state S.Store b.conn).now.schema) }
@@ -181,7 +181,7 @@ impl<S: Orderly + Drop> Books<S> {
         ensures left { IfErr result (λ e. IsLeftOver S.Store conn e.left) }
         ensures fault { IfErr result (λ e. (e.fault ≡ Fault.Foreign) ⊎ (e.fault ≡ Fault.Store)) }
     {
-        let (mut again, found) = match ready(alloc, conn) {
+        let (mut checked, found) = match ready(alloc, conn) {
             Ok(opened) => opened,
             Err((left, fault)) => {
                 return Err(OpenFault {
@@ -190,15 +190,15 @@ impl<S: Orderly + Drop> Books<S> {
                 });
             }
         };
-        match settle_found(alloc, &mut again, found) {
+        match settle_found(alloc, &mut checked, found) {
             Ok(day) => Ok(Books {
-                conn: again,
+                conn: checked,
                 day,
                 known: None,
                 alloc,
             }),
             Err(fault) => Err(OpenFault {
-                left: Leftover::Connection(again),
+                left: Leftover::Connection(checked),
                 fault: Fault::from(fault),
             }),
         }

@@ -13,6 +13,7 @@ mod lot_rows;
 mod outside;
 mod repeats;
 mod reply;
+mod shipline;
 mod shipments;
 mod showing;
 mod tally;

@@ -1,6 +1,6 @@
 //! The shipments with units of a lot, one at a time.
 
-ghost use Rattle.std.specs.Prelude.{◌≡◌, false, ℤ, List, IsTrue, IfOk, IfErr};
+ghost use Rattle.std.specs.Prelude.{◌≡◌, false, ℤ, List, Option, IsTrue, IfOk, IfErr};
 ghost use Rattle.sqlite.specs.State.{HasCleanDisk, Survives, KeepsCommit};
 ghost use Rattle.sqlite.specs.Held.{state};
 ghost use Rattle.commands.specs.declared.rows.ShiplineRow.{ShiplineRow as Line};
@@ -13,19 +13,28 @@ ghost use Rattle.slices.specs.Books.{IsBooksOf};
 ghost use Rattle.queries.specs.Shipped.{units_told};
 ghost use Rattle.store.specs.Books.{KeepsBooks, IsSettled};
 ghost use Rattle.store.specs.Handing.{IsHandedOn, NoBooks};
-ghost use Rattle.store.specs.Shipments.{IsNextOn, IsToldAs, IsToldOn, line_told};
+ghost use Rattle.store.specs.declared.shipments.ShippedAt.{ShippedAt as Found};
+ghost use Rattle.store.specs.Shipments.{IsFoundOn, IsNextOn, IsToldAs, IsToldBy, IsToldOn, line_told};
 ghost use Rattle.store.specs.Showing.{IsFoundAs};
 
 use crate::Fault;
 use crate::each_fault::EachFault;
 use crate::outside::find_open_outside;
 use crate::repeats::find_open;
-use commands::{ShiplineRow, ShippedUnits, Sink};
-use history_tables::shipline_after::shipline_after;
+use crate::shipline::shipline_of;
+use commands::{CardRow, ShiplineRow, ShippedUnits, Sink};
+use history_tables::shipped_after::shipped_after;
 use queries::read_shipped;
 use sqlite::{Alter, Connection, Transaction};
 use std::alloc::Global;
 use values::LotId;
+
+/// A shipment with units of a lot, and the act under which it stands on the lot's card.
+#[derive(Clone, Copy)]
+struct ShippedAt {
+    act: u64,
+    units: ShippedUnits,
+}
 
 // What is told of a line, as the books have it.
 fn find_shipped<S: Alter>(
@@ -81,12 +90,12 @@ fn show_shipped<S: Alter>(
     told_of(found)
 }
 
-// What is told of a line that was found.
+// What is told of a line. Where it is none, the rows are of no books.
 fn told_line<S: Alter>(
     alloc: Global,
     conn: &mut Connection<S>,
     line: Option<ShiplineRow>,
-) -> Result<Option<ShippedUnits>, Fault>
+) -> Result<ShippedUnits, Fault>
     requires outside { conn.old.in_transaction ≡ false }
     ensures outside { conn.new.in_transaction ≡ false }
     ensures told { HasCleanDisk (state S.Store conn.new) → (first : ℤ) (acts : List Act) → IsHistory first acts → KeepsBooks first acts (state S.Store conn.old)
@@ -95,31 +104,53 @@ fn told_line<S: Alter>(
     ensures survives { Survives (state S.Store conn.old) (state S.Store conn.new) (NoBooks (state S.Store conn.old)) }
 {
     match line {
+        None => Err(Fault::Foreign),
+        Some(line) => show_shipped(alloc, conn, &line),
+    }
+}
+
+// What is told of a line of a card that was found.
+fn told_card<S: Alter>(
+    alloc: Global,
+    conn: &mut Connection<S>,
+    card: Option<CardRow>,
+) -> Result<Option<ShippedAt>, Fault>
+    requires outside { conn.old.in_transaction ≡ false }
+    ensures outside { conn.new.in_transaction ≡ false }
+    ensures told { HasCleanDisk (state S.Store conn.new) → (first : ℤ) (acts : List Act) → IsHistory first acts → KeepsBooks first acts (state S.Store conn.old)
+        → (next : Option Found) → IsToldBy first acts card next → IsFoundOn first acts next result (state S.Store conn.new) }
+    ensures stays { HasCleanDisk (state S.Store conn.new) → IsSettled (state S.Store conn.old) → KeepsCommit (state S.Store conn.old) (state S.Store conn.new) × IsSettled (state S.Store conn.new) }
+    ensures survives { Survives (state S.Store conn.old) (state S.Store conn.new) (NoBooks (state S.Store conn.old)) }
+{
+    match card {
         None => Ok(None),
-        Some(line) => {
-            let units = show_shipped(alloc, conn, &line)?;
-            Ok(Some(units))
+        Some(card) => {
+            let units = told_line(alloc, conn, shipline_of(&card))?;
+            Ok(Some(ShippedAt {
+                act: card.act,
+                units,
+            }))
         }
     }
 }
 
-// What is told of the next shipment after a number with units of the lot, if there is one.
+// What is told of the next shipment with units of the lot after an act, if there is one.
 fn next_shipped<S: Alter>(
     alloc: Global,
     conn: &mut Connection<S>,
     lot: &LotId,
-    number: u64,
-) -> Result<Option<ShippedUnits>, Fault>
+    act: u64,
+) -> Result<Option<ShippedAt>, Fault>
     requires outside { conn.old.in_transaction ≡ false }
     ensures outside { conn.new.in_transaction ≡ false }
     ensures next { HasCleanDisk (state S.Store conn.new) → (first : ℤ) (acts : List Act) → IsHistory first acts → KeepsBooks first acts (state S.Store conn.old)
-        → IsNextOn first acts lot.now number result (state S.Store conn.new) }
+        → IsNextOn first acts lot.now act result (state S.Store conn.new) }
     ensures stays { HasCleanDisk (state S.Store conn.new) → IsSettled (state S.Store conn.old) → KeepsCommit (state S.Store conn.old) (state S.Store conn.new) × IsSettled (state S.Store conn.new) }
     ensures survives { Survives (state S.Store conn.old) (state S.Store conn.new) (NoBooks (state S.Store conn.old)) }
 {
     find_open_outside(conn)?;
-    let line = shipline_after(alloc, conn, lot, number)?;
-    told_line(alloc, conn, line)
+    let card = shipped_after(alloc, conn, lot, act)?;
+    told_card(alloc, conn, card)
 }
 
 /// Hands the shipments with units of a lot to the sink, by number, until it stops. Nothing is changed.
@@ -136,13 +167,13 @@ pub fn hand_shipments<S: Alter, K: Sink<ShippedUnits>>(
     ensures stays { HasCleanDisk (state S.Store conn.new) → IsSettled (state S.Store conn.old) → KeepsCommit (state S.Store conn.old) (state S.Store conn.new) × IsSettled (state S.Store conn.new) }
     ensures survives { Survives (state S.Store conn.old) (state S.Store conn.new) (NoBooks (state S.Store conn.old)) }
 {
-    let mut number = 0;
+    let mut act = 0;
     'shipments: for _ in 0..u64::MAX {
-        let Some(units) = next_shipped(alloc, conn, lot, number)? else {
+        let Some(shipped) = next_shipped(alloc, conn, lot, act)? else {
             return Ok(());
         };
-        sink.take(&units)?;
-        number = units.number;
+        sink.take(&shipped.units)?;
+        act = shipped.act;
     }
     Err(EachFault::Fault(Fault::Store))
 }

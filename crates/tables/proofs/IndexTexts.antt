@@ -15,11 +15,11 @@ use Rattle.sqlite_resolve.specs.declared.compiled.Compiled.{Compiled}
 use Rattle.sqlite_resolve.specs.declared.error.CompileError.{CompileError}
 use Rattle.sqlite_resolve.specs.declared.error.CompileError.TheVariants.{Exists}
 use Rattle.sqlite_schema.specs.Names.{table_named, index_named, view_named}
-use Rattle.table_words.specs.Schema.{schema_with, staged_table, reserved_table, shiplines_table}
+use Rattle.table_words.specs.Schema.{schema_with, staged_table, reserved_table}
 use Rattle.sqlite_schema.specs.declared.schema.Index.{Index}
 use Rattle.sqlite_value.specs.Keys.{plain}
 use Rattle.tables.specs.Indexing.{MakesOrFinds, Indexes}
-use Rattle.tables.specs.declared.indexing.TheConstants.{STAGED_BY_GTIN, RESERVED_BY_GTIN, SHIPLINES_OF_LOT}
+use Rattle.tables.specs.declared.indexing.TheConstants.{STAGED_BY_GTIN, RESERVED_BY_GTIN}
 
 -- the index that a CREATE INDEX makes of these places of the table
 abbrev plain_index : List ℕ → ℕ → List ℕ → Index
@@ -96,29 +96,6 @@ reserved_by_gtin_made = record {
   table = reserved_table 17;
   index = plain_index (codes "reserved_by_gtin") 17 (2 ∷ []);
   means = makes_or_finds 62 9 (codes "reserved_by_gtin") RESERVED_BY_GTIN.now reserved_by_gtin_free reserved_by_gtin_means;
-  whole = λ command. refl;
-  placed = λ rest. refl;
-  defined = refl;
-  plain = refl;
-  named = refl;
-}
-
-shiplines_of_lot_free : is_reserved (codes "shiplines_of_lot") ≡ false
-unfolding everything
-shiplines_of_lot_free = refl
-
-shiplines_of_lot_means : (rest : Schema) → compiled (schema_with rest) SHIPLINES_OF_LOT.now ≡ whole 76 11 (creates true (codes "shiplines_of_lot") (index_named (schema_with rest) (codes "shiplines_of_lot")) (option_or (table_named (schema_with rest) (codes "shiplines_of_lot")) (view_named (schema_with rest) (codes "shiplines_of_lot"))))
-unfolding everything
-shiplines_of_lot_means rest = refl
-
-pub shiplines_of_lot_made : Indexes SHIPLINES_OF_LOT.now (codes "shiplines_of_lot")
-unfolding everything
-shiplines_of_lot_made = record {
-  size = 76;
-  at = 11;
-  table = shiplines_table 20;
-  index = plain_index (codes "shiplines_of_lot") 20 (2 ∷ 3 ∷ 1 ∷ []);
-  means = makes_or_finds 76 11 (codes "shiplines_of_lot") SHIPLINES_OF_LOT.now shiplines_of_lot_free shiplines_of_lot_means;
   whole = λ command. refl;
   placed = λ rest. refl;
   defined = refl;

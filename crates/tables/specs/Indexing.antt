@@ -23,7 +23,7 @@ HasIndex schema name = is_some (index_named schema name) ≡ true
 
 -- the indexes of the books beside those of the keys
 abbrev pub index_names : List (List ℕ)
-index_names = codes "staged_by_gtin" ∷ codes "reserved_by_gtin" ∷ codes "shiplines_of_lot" ∷ []
+index_names = codes "staged_by_gtin" ∷ codes "reserved_by_gtin" ∷ []
 
 abbrev pub HasIndexes : Schema → Type 0
 HasIndexes schema = AllByRecursion (HasIndex schema) index_names

@@ -64,7 +64,7 @@ last_tree Second = 27
 abbrev pub older_with : OlderBooks → List Index → Schema
 older_with older ours = record { tables = older_tables older; indexes = older_keys older ++ ours; views = [] }
 
--- the indexes of the books beside those of the keys, and the one that they had once, by the state of the orders
+-- the indexes of the books beside those of the keys, and the two that they had once, of the shipped lines of a lot and by the state of the orders
 abbrev pub our_indexes : List PlainIndex
 our_indexes =
     (codes "staged_by_gtin", 15, 2 ∷ [])

@@ -12,9 +12,6 @@ const STAGED_BY_GTIN: &str = "CREATE INDEX IF NOT EXISTS staged_by_gtin ON stage
 
 const RESERVED_BY_GTIN: &str = "CREATE INDEX IF NOT EXISTS reserved_by_gtin ON reserved (gtin)";
 
-const SHIPLINES_OF_LOT: &str =
-    "CREATE INDEX IF NOT EXISTS shiplines_of_lot ON shiplines (gtin, lot, number)";
-
 /// Runs the text, which makes an index where there is none of its name.
 fn make_index<S: Alter>(tx: &mut Transaction<'_, S>, text: &str) -> Result<(), Error>
     ensures same_reference { tx.new.conn.ghost_name ≡ tx.old.conn.ghost_name }
@@ -41,6 +38,5 @@ pub fn make_indexes<S: Alter>(tx: &mut Transaction<'_, S>) -> Result<(), Error>
     ensures survives { Survives (state S.Store tx.old.conn.now) (state S.Store tx.new.conn.now) (λ _. ⊥) }
 {
     make_index(tx, STAGED_BY_GTIN)?;
-    make_index(tx, RESERVED_BY_GTIN)?;
-    make_index(tx, SHIPLINES_OF_LOT)
+    make_index(tx, RESERVED_BY_GTIN)
 }

@@ -114,7 +114,8 @@ fn is_of(found: &Index, name: &[u8], table: u32, columns: &[usize]) -> bool
         && !found.is_unique
 }
 
-/// Whether it is an index of the books beside those of the keys; one by the state of the orders is no longer made.
+/// Whether it is an index of the books beside those of the keys; that of the shipped lines of a lot and that by the state of
+/// the orders are no longer made.
 fn is_index_of_books(found: &Index) -> bool
     ensures { result ≡ is_index_of_books_lem found.now }
 {

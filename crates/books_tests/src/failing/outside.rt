@@ -1,5 +1,5 @@
 //! Rows with a value outside those of a column, which no act leaves: for each column of each table one at least. No text is
-//! outside `repeats.spell`.
+//! outside `repeats.spell`, and of `cards.qty` a number above 0 in the line of a shipment alone.
 
 use crate::disk::{Work, opened};
 use crate::exchange::{parted, text_asked};
@@ -61,12 +61,12 @@ INSERT INTO reserved VALUES ('S-2', '09506000134353', 'L1', 1) => GET /orders/S-
 INSERT INTO reserved VALUES ('S-1', '09506000134352', 'L 1', 1) => GET /orders/S-1
 UPDATE reserved SET qty = 1000001 WHERE ord = 'S-1' => POST /picks {"key":"N-1","order":"S-1","gtin":"09506000134352","lot":"L1","bin":"A-01","qty":1}
 UPDATE reserved SET qty = 0 WHERE ord = 'S-1' => GET /orders/S-1
-INSERT INTO shiplines VALUES (1, '09506000134352', 'L2', 1); INSERT INTO shipments VALUES (1, 0, 20577, 'S-1') => GET /notices/09506000134352/L2
-INSERT INTO shiplines VALUES (1, '09506000134352', 'L2', 1); INSERT INTO shipments VALUES (1, 11, 84006, 'S-1') => GET /notices/09506000134352/L2
-INSERT INTO shiplines VALUES (1, '09506000134352', 'L2', 1); INSERT INTO shipments VALUES (1, 11, 20577, 's-1') => GET /notices/09506000134352/L2
-INSERT INTO shiplines VALUES (1000000000001, '09506000134352', 'L2', 1) => GET /notices/09506000134352/L2
-INSERT INTO shiplines VALUES (1, '09506000134352', 'L2', 1000001); INSERT INTO shipments VALUES (1, 11, 20577, 'S-1') => GET /notices/09506000134352/L2
-INSERT INTO shiplines VALUES (1, '09506000134352', 'L2', 0); INSERT INTO shipments VALUES (1, 11, 20577, 'S-1') => GET /notices/09506000134352/L2
+INSERT INTO cards VALUES ('09506000134352', 'L2', 90, 20577, 'SHIPMENT', '1', -1, 0); INSERT INTO shipments VALUES (1, 0, 20577, 'S-1') => GET /notices/09506000134352/L2
+INSERT INTO cards VALUES ('09506000134352', 'L2', 90, 20577, 'SHIPMENT', '1', -1, 0); INSERT INTO shipments VALUES (1, 11, 84006, 'S-1') => GET /notices/09506000134352/L2
+INSERT INTO cards VALUES ('09506000134352', 'L2', 90, 20577, 'SHIPMENT', '1', -1, 0); INSERT INTO shipments VALUES (1, 11, 20577, 's-1') => GET /notices/09506000134352/L2
+INSERT INTO cards VALUES ('09506000134352', 'L2', 90, 20577, 'SHIPMENT', '1000000000001', -1, 0) => GET /notices/09506000134352/L2
+INSERT INTO cards VALUES ('09506000134352', 'L2', 90, 20577, 'SHIPMENT', 'first', -1, 0) => GET /notices/09506000134352/L2
+INSERT INTO cards VALUES ('09506000134352', 'L2', 90, 20577, 'SHIPMENT', '1', 1, 0); INSERT INTO shipments VALUES (1, 11, 20577, 'S-1') => GET /notices/09506000134352/L2
 UPDATE cards SET act = 1000000000001 WHERE lot = 'L1' => GET /cards/09506000134352/L1
 UPDATE cards SET act = 0 WHERE lot = 'L1' => GET /cards/09506000134352/L1
 UPDATE cards SET day = 10956 WHERE lot = 'L1' => GET /cards/09506000134352/L1
@@ -86,6 +86,8 @@ INSERT INTO stock VALUES ('', 'L1', 'A-01', 10) => GET /stock/09506000134352
 INSERT INTO urgents VALUES ('S_3', 19) => GET /orders/S-3
 INSERT INTO lines VALUES ('s-2', '09506000134352', 12, 0) => GET /orders/S-2
 INSERT INTO shipments VALUES (0, 11, 20577, 'S-1') => GET /notices/09506000134352/L2
+INSERT INTO shiplines VALUES (1000000000001, '09506000134352', 'L2', 1) => GET /notices/09506000134352/L2
+INSERT INTO shiplines VALUES (1, '09506000134352', 'L2', 1000001) => GET /notices/09506000134352/L2
 INSERT INTO shiplines VALUES (1, '0950600013435', 'L2', 1) => GET /notices/09506000134352/L2
 INSERT INTO shiplines VALUES (1, '09506000134352', 'L 2', 1) => GET /notices/09506000134352/L2
 INSERT INTO cards VALUES ('', 'L1', 6, 20577, 'RECEIPT', 'D-1/1', 10, 10) => GET /cards/09506000134352/L1

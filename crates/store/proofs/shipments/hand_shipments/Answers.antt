@@ -14,16 +14,16 @@ shipments-init g c = (
   stays_itself (state g.S.Store c.args.conn.now),
 )
 
-pub returns-in_err-units-clause-handed : goal.returns-in_err-units-clause-handed
-returns-in_err-units-clause-handed g c clean first acts history held =
+pub returns-in_err-shipped-clause-handed : goal.returns-in_err-shipped-clause-handed
+returns-in_err-shipped-clause-handed g c clean first acts history held =
     let p = err_from_is_err_and c.from_residual.result c.from_residual.ensures.1 in
     let was : HasCleanDisk (state g.S.Store c.shipments.conn) = omega (arith, clean, c.next_shipped.ensures.survives.clean) in
     let so_far = c.shipments.invariant.2 was first acts history held in
-    let next = c.in_err-units.ensures.next clean first acts history so_far.1 in
-    rw (p.1, p.2, next.0) (some_handed first acts c.args.lot.now history g.K.Sink.takes g.K.Sink.stops c.shipments.number c.args.sink.now c.shipments.sink so_far.0, next.1)
+    let next = c.in_err-shipped.ensures.next clean first acts history so_far.1 in
+    rw (p.1, p.2, next.0) (some_handed first acts c.args.lot.now history g.K.Sink.takes g.K.Sink.stops c.shipments.act c.args.sink.now c.shipments.sink so_far.0, next.1)
 
-pub returns-in_err-units-clause-survives : goal.returns-in_err-units-clause-survives
-returns-in_err-units-clause-survives g c =
+pub returns-in_err-shipped-clause-survives : goal.returns-in_err-shipped-clause-survives
+returns-in_err-shipped-clause-survives g c =
     never_commits_later (state g.S.Store c.args.conn.now) (state g.S.Store c.shipments.conn) (state g.S.Store c.next_shipped.new.conn) c.shipments.invariant.1 c.next_shipped.ensures.survives
     (λ late first acts history held. (c.shipments.invariant.2 late first acts history held).1)
 
@@ -31,8 +31,8 @@ pub returns-in_default-clause-handed : goal.returns-in_default-clause-handed
 returns-in_default-clause-handed g c clean first acts history held =
     let was : HasCleanDisk (state g.S.Store c.shipments.conn) = omega (arith, clean, c.next_shipped.ensures.survives.clean) in
     let so_far = c.shipments.invariant.2 was first acts history held in
-    let next = c.in_ok-units.ensures.next clean first acts history so_far.1 in
-    (all_handed first acts c.args.lot.now history g.K.Sink.takes g.K.Sink.stops c.shipments.number c.args.sink.now c.shipments.sink so_far.0 (sym c.in_default.is ∙ next.0), next.1)
+    let next = c.in_ok-shipped.ensures.next clean first acts history so_far.1 in
+    (all_handed first acts c.args.lot.now history g.K.Sink.takes g.K.Sink.stops c.shipments.act c.args.sink.now c.shipments.sink so_far.0 (sym c.in_default.is ∙ next.0), next.1)
 
 pub returns-in_default-clause-survives : goal.returns-in_default-clause-survives
 returns-in_default-clause-survives g c =
@@ -44,9 +44,9 @@ returns-in_err-take-clause-handed g c clean first acts history held =
     let p = err_from_is_err_and c.from_residual-in_err-take.result c.from_residual-in_err-take.ensures.1 in
     let was : HasCleanDisk (state g.S.Store c.shipments.conn) = omega (arith, clean, c.next_shipped.ensures.survives.clean) in
     let so_far = c.shipments.invariant.2 was first acts history held in
-    let next = c.in_ok-units.ensures.next clean first acts history so_far.1 in
+    let next = c.in_ok-shipped.ensures.next clean first acts history so_far.1 in
     rw (p.1, p.2)
-    (stop_handed first acts c.args.lot.now history g.K.Sink.takes g.K.Sink.stops c.shipments.number c.args.sink.now c.shipments.sink c.take.new.self c.in-Some.units so_far.0 (sym next.0 ∙ c.in-Some.is) c.in_err-take.ensures.stopped, next.1)
+    (stop_handed first acts c.args.lot.now history g.K.Sink.takes g.K.Sink.stops c.shipments.act c.args.sink.now c.shipments.sink c.take.new.self c.in-Some.shipped so_far.0 (sym next.0 ∙ c.in-Some.is) c.in_err-take.ensures.stopped, next.1)
 
 pub returns-in_err-take-clause-survives : goal.returns-in_err-take-clause-survives
 returns-in_err-take-clause-survives g c =
@@ -61,8 +61,8 @@ shipments-preserved g c = (
   λ clean first acts history held.
       let was : HasCleanDisk (state g.S.Store c.shipments.conn) = omega (arith, clean, c.next_shipped.ensures.survives.clean) in
       let so_far = c.shipments.invariant.2 was first acts history held in
-      let next = c.in_ok-units.ensures.next clean first acts history so_far.1 in (
-        one_handed first acts c.args.lot.now history g.K.Sink.takes g.K.Sink.stops c.shipments.number c.args.sink.now c.shipments.sink c.take.new.self c.in-Some.units so_far.0 (sym next.0 ∙ c.in-Some.is) c.in_ok-take.ensures.taken,
+      let next = c.in_ok-shipped.ensures.next clean first acts history so_far.1 in (
+        one_handed first acts c.args.lot.now history g.K.Sink.takes g.K.Sink.stops c.shipments.act c.args.sink.now c.shipments.sink c.take.new.self c.in-Some.shipped so_far.0 (sym next.0 ∙ c.in-Some.is) c.in_ok-take.ensures.taken,
         next.1,
       ),
   λ clean at.
@@ -73,13 +73,13 @@ shipments-preserved g c = (
 pub returns-clause-handed : goal.returns-clause-handed
 returns-clause-handed g c clean first acts history held =
     let so_far = c.shipments.invariant.2 clean first acts history held in
-    (some_handed first acts c.args.lot.now history g.K.Sink.takes g.K.Sink.stops c.shipments.number c.args.sink.now c.shipments.sink so_far.0, so_far.1)
+    (some_handed first acts c.args.lot.now history g.K.Sink.takes g.K.Sink.stops c.shipments.act c.args.sink.now c.shipments.sink so_far.0, so_far.1)
 
 pub returns-clause-survives : goal.returns-clause-survives
 returns-clause-survives g c = c.shipments.invariant.1
 
-pub returns-in_err-units-clause-stays : goal.returns-in_err-units-clause-stays
-returns-in_err-units-clause-stays g c clean at =
+pub returns-in_err-shipped-clause-stays : goal.returns-in_err-shipped-clause-stays
+returns-in_err-shipped-clause-stays g c clean at =
     let was : HasCleanDisk (state g.S.Store c.shipments.conn) = omega (arith, clean, c.next_shipped.ensures.survives.clean) in
     stays_then (state g.S.Store c.args.conn.now) (state g.S.Store c.shipments.conn) (state g.S.Store c.next_shipped.new.conn) (c.shipments.invariant.3 was at) (c.next_shipped.ensures.stays clean)
 

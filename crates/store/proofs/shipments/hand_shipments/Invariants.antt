@@ -14,5 +14,5 @@ invariant-shipments g l =
     let old = state g.S.Store l.fn.conn in
     let now = state g.S.Store l.conn in
     (l.conn.in_transaction ≡ false) × Survives old now (NoBooks old)
-    × (HasCleanDisk now → (first : ℤ) (acts : List Act) → IsHistory first acts → KeepsBooks first acts old → HasHanded first acts l.lot g.K.Sink.takes l.number l.fn.sink l.sink × KeepsBooks first acts now)
+    × (HasCleanDisk now → (first : ℤ) (acts : List Act) → IsHistory first acts → KeepsBooks first acts old → HasHanded first acts l.lot g.K.Sink.takes l.act l.fn.sink l.sink × KeepsBooks first acts now)
     × (HasCleanDisk now → IsSettled old → KeepsCommit old now × IsSettled now)

@@ -8,8 +8,8 @@ use Rattle.tables.specs.declared.opening.Found.{Found}
 use Rattle.machine.specs.Standing.{today}
 use Rattle.store.specs.Opening.{AreRowsAt}
 use Rattle.store.proofs.ActsWhole.{kept_acts}
-use Rattle.store.proofs.BooksWhole.{known_unread, settled_reopened}
-use Rattle.store.proofs.OpenedBooks.{reopened, reopened_as_found, keeps_found, schema_opened, has_day, came_typed, read_typed, same_found, one_found, foreign_if, store_else, either_told, left_over}
+use Rattle.store.proofs.BooksWhole.{known_unread, settled_opened}
+use Rattle.store.proofs.OpenedBooks.{opened_from, opened_as_found, keeps_found, schema_opened, has_day, came_typed, read_typed, same_found, one_found, foreign_if, store_else, either_told, left_over}
 use Rattle.store.proofs.books.Books.open.Goals as goal
 
 pub returns-in-Ok-settle_found-clause-books : goal.returns-in-Ok-settle_found-clause-books
@@ -79,13 +79,13 @@ pub returns-in-Err-settle_found-clause-left : goal.returns-in-Err-settle_found-c
 returns-in-Err-settle_found-clause-left g c =
     let was = c.in-Ok.ensures in
     let read = c.settle_found.ensures in
-    inr (reopened_as_found g.S.Store c.args.conn c.in-Ok.opened.0 c.settle_found.new.conn c.in-Ok.opened.1 was.found was.ready was.opens was.same was.crash was.clean was.shield read.survives read.outside c.in-Err-settle_found.ensures.failed)
+    inr (opened_as_found g.S.Store c.args.conn c.in-Ok.opened.0 c.settle_found.new.conn c.in-Ok.opened.1 was.found was.ready was.opens was.same was.crash was.clean was.shield read.survives read.outside c.in-Err-settle_found.ensures.failed)
 
 pub returns-in-Ok-settle_found-clause-opens : goal.returns-in-Ok-settle_found-clause-opens
 returns-in-Ok-settle_found-clause-opens g c =
     let was = c.in-Ok.ensures in
     let read = c.settle_found.ensures in
-    reopened g.S.Store c.args.conn c.in-Ok.opened.0 c.settle_found.new.conn c.in-Ok.opened.1 was.found was.ready was.opens was.same was.crash was.clean was.shield read.survives read.outside c.in-Ok-settle_found.ensures.comes
+    opened_from g.S.Store c.args.conn c.in-Ok.opened.0 c.settle_found.new.conn c.in-Ok.opened.1 was.found was.ready was.opens was.same was.crash was.clean was.shield read.survives read.outside c.in-Ok-settle_found.ensures.comes
 
 pub returns-in-Ok-settle_found-clause-other : goal.returns-in-Ok-settle_found-clause-other
 returns-in-Ok-settle_found-clause-other g c none = absurd (none c.in-Ok.opened.1 c.in-Ok.ensures.found)
@@ -129,16 +129,16 @@ invariant_of-result g c =
     let read = c.settle_found.ensures in (
       search rules,
       known_unread (state g.S.Store c.settle_found.new.conn)
-          (settled_reopened g.S.Store c.args.conn c.settle_found.new.conn
-          (reopened g.S.Store c.args.conn c.in-Ok.opened.0 c.settle_found.new.conn c.in-Ok.opened.1 was.found was.ready was.opens was.same was.crash was.clean was.shield read.survives read.outside c.in-Ok-settle_found.ensures.comes)),
+          (settled_opened g.S.Store c.args.conn c.settle_found.new.conn
+          (opened_from g.S.Store c.args.conn c.in-Ok.opened.0 c.settle_found.new.conn c.in-Ok.opened.1 was.found was.ready was.opens was.same was.crash was.clean was.shield read.survives read.outside c.in-Ok-settle_found.ensures.comes)),
     )
 
 pub returns-in-Ok-settle_found-clause-settled : goal.returns-in-Ok-settle_found-clause-settled
 returns-in-Ok-settle_found-clause-settled g c clean =
     let was = c.in-Ok.ensures in
     let read = c.settle_found.ensures in
-    settled_reopened g.S.Store c.args.conn c.settle_found.new.conn
-    (reopened g.S.Store c.args.conn c.in-Ok.opened.0 c.settle_found.new.conn c.in-Ok.opened.1 was.found was.ready was.opens was.same was.crash was.clean was.shield read.survives read.outside c.in-Ok-settle_found.ensures.comes) clean
+    settled_opened g.S.Store c.args.conn c.settle_found.new.conn
+    (opened_from g.S.Store c.args.conn c.in-Ok.opened.0 c.settle_found.new.conn c.in-Ok.opened.1 was.found was.ready was.opens was.same was.crash was.clean was.shield read.survives read.outside c.in-Ok-settle_found.ensures.comes) clean
 
 pub returns-in-Ok-settle_found-clause-kept : goal.returns-in-Ok-settle_found-clause-kept
 returns-in-Ok-settle_found-clause-kept g c clean first acts history rows =

@@ -4,21 +4,21 @@ use Rattle.sqlite.specs.Held.{state}
 use Rattle.sqlite.specs.Listing.{understood}
 use Rattle.sqlite.proofs.StateLemmas.{survives_weaker}
 use Rattle.sqlite.proofs.Callers.{never_commits}
-use Rattle.history_tables.proofs.ShiplinesByNumber.{after_text, after_plain, found_of, foreign_of, same_of, left_of}
-use Rattle.history_tables.proofs.shipline_after.first_after.Goals as goal
+use Rattle.history_tables.proofs.CardsAfter.{after_text, after_plain, found_of, foreign_of, same_of, left_of}
+use Rattle.history_tables.proofs.shipped_after.first_after.Goals as goal
 
 pub returns-clause-found : goal.returns-clause-found
-returns-clause-found g c clean ready are rows by_number =
+returns-clause-found g c clean ready are rows listed =
     let plain = subst (λ s. IsPlain (understood s after_text)) (sym ready.has.is) (after_plain ready.has.rest) in
     rw c.first_of.ensures
-    (found_of c.args.lot.now c.args.number (state g.S.Store c.args.conn.now) (state g.S.Store c.each-handed.new.conn) _ c.each-handed.new.sink refl ready are c.each-handed.result
-    (rw (c.of_gtin.ensures.value, c.of_lot.ensures.value, c.of_number.ensures.value) at (c.each-handed.ensures.handed clean plain)) rows by_number)
+    (found_of c.args.lot.now c.args.act (state g.S.Store c.args.conn.now) (state g.S.Store c.each-handed.new.conn) _ c.each-handed.new.sink refl ready are c.each-handed.result
+    (rw (c.of_gtin.ensures.value, c.of_lot.ensures.value, c.of_number.ensures.value) at (c.each-handed.ensures.handed clean plain)) rows listed)
 
 pub returns-clause-foreign : goal.returns-clause-foreign
 returns-clause-foreign g c clean ready are =
     let plain = subst (λ s. IsPlain (understood s after_text)) (sym ready.has.is) (after_plain ready.has.rest) in
     rw c.first_of.ensures
-    (foreign_of c.args.lot.now c.args.number (state g.S.Store c.args.conn.now) (state g.S.Store c.each-handed.new.conn) _ c.each-handed.new.sink refl ready are c.each-handed.result
+    (foreign_of c.args.lot.now c.args.act (state g.S.Store c.args.conn.now) (state g.S.Store c.each-handed.new.conn) _ c.each-handed.new.sink refl ready are c.each-handed.result
     (rw (c.of_gtin.ensures.value, c.of_lot.ensures.value, c.of_number.ensures.value) at (c.each-handed.ensures.handed clean plain)))
 
 pub returns-clause-same : goal.returns-clause-same
