@@ -1,1 +1,2 @@
+pub mod FirstPage
 pub mod Lines

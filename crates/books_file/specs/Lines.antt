@@ -1,8 +1,10 @@
 -- What a line does with the books in a file.
-use Rattle.std.specs.Prelude.{ℕ, List, Option, Result}
+use Rattle.std.specs.Prelude.{◌≡◌, ◌⊎◌, ℕ, List, Option, Result, Ok, Err, IsErrAnd}
 use Rattle.sqlite_disk.specs.declared.Disk.{Ghosts}
 use Rattle.sqlite_disk.specs.declared.Files.{Files}
 use Rattle.sqlite_wal.specs.Reads.{AreClean}
+use Rattle.sqlite_trees.specs.declared.store.Store as trees
+use Rattle.sqlite_trees.specs.View.{IsQuiet}
 use Rattle.sqlite.specs.Recovery.{Image}
 use Rattle.sqlite.specs.declared.FileStore.{FileStore}
 use Rattle.sqlite.specs.State.{HasCleanDisk}
@@ -10,24 +12,80 @@ use Rattle.sqlite.specs.Held.{Held}
 use Rattle.sqlite.specs.Files.{over_files, file_state, IsOpened}
 use Rattle.sqlite.specs.Start.{FindsIn}
 use Rattle.sqlite.specs.Closing.{IsCopied}
+use Rattle.tables.specs.declared.opening.Leftover.{Leftover}
+use Rattle.tables.specs.declared.opening.Leftover.TheVariants.{Connection, Store as StoreOf}
+use Rattle.store.specs.Opening.{IsCleanLeft}
 use Rattle.command_line.specs.declared.fault.Fault.{Fault}
+use Rattle.command_line.specs.declared.fault.Fault.TheVariants.{Io, Store}
 use Rattle.command_line.specs.declared.running.Work.{Work}
-use Rattle.service.specs.Serving.{IsWorked, IsTold}
+use Rattle.service.specs.Serving.{IsServer, IsWorked, IsJudged, IsTold}
+use Rattle.service.specs.Failing.{IsNotBegun}
+use Rattle.books_file.specs.declared.left.FilesLeft.{FilesLeft}
+use Rattle.books_file.specs.declared.left.FilesLeft.TheVariants as left
 
--- The file that held this was opened and closed, and between the two the work was done; `files` has the bytes of the goods-in files, `old` and
--- `new` what the output held and holds. All of it where the disk has returned what was written until the end.
-pub record IsLineDone {D : Type 0} (g : Ghosts D) (held : Image) (files : List ℕ → Option (List ℕ)) (work : Work) (old new log_old log_new : Option (List ℕ)) (end : Result Unit Fault) (left : Files D) : Type 0 where
-  pub opened : Held (FileStore D g)
-  pub closed : Held (FileStore D g)
-  -- the database that the file held
-  pub found : HasCleanDisk (file_state closed) → IsOpened opened × FindsIn held (file_state opened)
-  -- what became of it
-  pub worked : HasCleanDisk (file_state closed) → IsWorked over_files opened work log_old log_new closed
-  -- what was printed, and how it ended
-  pub told : HasCleanDisk (file_state closed) → IsTold over_files files opened work old new end closed
-  -- the file alone holds what was committed, as it reads now and after a crash
-  pub copied : AreClean g left.log left.db → IsCopied closed left
+-- this is the store of what is left of a connection, and since then it was only rolled back: a stop leaves nothing new
+abbrev pub IsStoreOf : {S : Type 0} → trees.Ghosts S → Leftover S → S → Type 0
+IsStoreOf g (Connection conn) store = IsQuiet g.view g.faults g.recovers g.is_shielded conn.store store
+IsStoreOf g (StoreOf it) store = store ≡ it
 
--- the same, of a file and a log that nobody is given
-abbrev pub HasLineDone : {D : Type 0} → Ghosts D → Image → (List ℕ → Option (List ℕ)) → Work → (old new log_old log_new : Option (List ℕ)) → Result Unit Fault → Type 0
-HasLineDone {D} g held files work old new log_old log_new end = (left : Files D) × IsLineDone g held files work old new log_old log_new end left
+-- the files could not be opened, or a server's port could not be had
+abbrev pub IsUnopenedAs : Work → Fault → Type 0
+IsUnopenedAs work fault = (fault ≡ Store) ⊎ (IsServer work × (fault ≡ Io))
+
+-- how a line ends whose files could not be closed after its work
+abbrev pub closing_fault : Result Unit Fault → Fault
+closing_fault (Ok done) = Store
+closing_fault (Err fault) = fault
+
+-- `held` is what the file and its log held, `files` has the bytes of the goods-in files by their names, where they are known, and `old`, `new`,
+-- `log_old` and `log_new` are what the output and the log held and hold. What is said of books is said of a disk that has returned what was
+-- written until the end.
+module _ {D : Type 0} (g : Ghosts D) (held : Image) (files : List ℕ → Option (List ℕ)) (work : Work) (old new log_old log_new : Option (List ℕ)) where
+  -- the connection was opened over the database that the file held
+  abbrev pub IsOver : Held (FileStore D g) → Type 0
+  IsOver opened = IsOpened opened × FindsIn held (file_state opened)
+
+  -- the work was done from the one connection to the other, and this is what became of the books, was printed and logged, and how it ended
+  pub record IsWorkDone (opened closed : Held (FileStore D g)) (end : Result Unit Fault) : Type 0 where
+    pub found : HasCleanDisk (file_state closed) → IsOver opened
+    pub judged : IsJudged over_files opened work (Ok (closed, end))
+    pub worked : HasCleanDisk (file_state closed) → IsWorked over_files opened work log_old log_new closed
+    pub told : HasCleanDisk (file_state closed) → IsTold over_files files opened work old new end closed
+
+  -- the file was opened, the work was done, and the file closed
+  pub record IsLineDone (end : Result Unit Fault) (left : Files D) : Type 0 where
+    pub opened : Held (FileStore D g)
+    pub closed : Held (FileStore D g)
+    pub done : IsWorkDone opened closed end
+    -- the file alone holds what was committed, as it reads now and after a crash
+    pub copied : AreClean g left.log left.db → IsCopied closed left
+
+  -- the file was opened, but no work was begun: nothing was printed or logged
+  pub record IsLineIdle (opened : Held (FileStore D g)) (left : Leftover (FileStore D g)) (end : Result Unit Fault) : Type 0 where
+    pub fault : Fault
+    pub ended : end ≡ Err fault
+    pub found : IsCleanLeft over_files left → IsOver opened
+    pub judged : IsJudged over_files opened work (Err (left, fault))
+    pub idle : IsNotBegun over_files opened work left fault
+    pub silent : (new ≡ old) × (log_new ≡ log_old)
+
+  -- the work was done, but the file could not be closed
+  pub record IsUnclosed (opened : Held (FileStore D g)) (left : Leftover (FileStore D g)) (end : Result Unit Fault) : Type 0 where
+    pub closed : Held (FileStore D g)
+    pub is : left ≡ Connection closed
+    pub work_end : Result Unit Fault
+    pub done : IsWorkDone opened closed work_end
+    pub ended : end ≡ Err (closing_fault work_end)
+
+  -- either of the two, and the store is left
+  pub record IsLineBroken (end : Result Unit Fault) (store : FileStore D g) : Type 0 where
+    pub opened : Held (FileStore D g)
+    pub left : Leftover (FileStore D g)
+    pub how : IsLineIdle opened left end ⊎ IsUnclosed opened left end
+    pub is_store : IsStoreOf over_files left store
+
+  -- how a line ends, and what it leaves of the files
+  abbrev pub IsLineEnd : Result Unit Fault → FilesLeft D g → Type 0
+  IsLineEnd end left.Unopened = IsErrAnd end (IsUnopenedAs work) × (new ≡ old) × (log_new ≡ log_old)
+  IsLineEnd end (left.Closed kept) = IsLineDone end kept
+  IsLineEnd end (left.Store store) = IsLineBroken end store

@@ -2,6 +2,10 @@
 #![tactic(auto)]
 
 mod first_page;
+mod left;
 mod line;
+mod program;
 
-pub use line::{HostFiles, line_worked, work_in_file};
+pub use left::FilesLeft;
+pub use line::{HostFiles, InFiles, line_worked};
+pub use program::run_words;

@@ -1,15 +1,15 @@
-ghost use Rattle.std.specs.Prelude.{◌≡◌, false, None, Ok, IfOk, IfErr, OnOk};
+ghost use Rattle.std.specs.Prelude.{◌≡◌, false};
 ghost use Rattle.sqlite.specs.WalFiles.{image_at};
-ghost use Rattle.command_line.specs.declared.fault.Fault.TheVariants as fault;
 ghost use Rattle.service.specs.Serving.{Listens, is_logged};
-ghost use Rattle.books_file.specs.Lines.{IsLineDone, HasLineDone};
+ghost use Rattle.books_file.specs.Lines.{IsLineEnd, closing_fault as closing_fault_lem};
 
-use crate::first_page::lay_first_page;
-use command_line::{Fault, Work};
+use crate::first_page::is_ready;
+use crate::left::{FilesLeft, store_of};
+use command_line::{BooksAt, Fault, Work};
 use service::{FilesAt, do_work, listen};
-use sqlite::{Connection, FileFrom, Files, Start};
+use sqlite::{Connection, FileFrom, Start};
 use sqlite_disk::Disk;
-use std::fs::{self, File};
+use std::fs::File;
 use std::io::{self, Write};
 use std::net::TcpListener;
 
@@ -27,34 +27,45 @@ impl FilesAt for HostFiles<'_> {
     }
 }
 
-/// Does the work of a line with the books in the file at the path, and closes it. What it prints goes to `out`, and the log
-/// of a server to `log`, where it keeps one. Only the making of books makes a file:
-/// where there is none, any other work is `Store` and leaves nothing behind. What the log still holds is copied into the
-/// file at the end. A server's port is had before the file is opened: where it cannot be, the work is `Io`, and no byte of
-/// the file was read. `start` says what is supposed of the file. Where it answers `Ok`,
-/// the line was done, as `line_worked` says; what a goods-in file of the host holds nothing says.
-pub fn work_in_file<S: Start, W: Write, L: Write>(
-    rt: &HostRuntime,
-    db: &str,
-    start: S,
-    work: &Work<'_>,
-    out: &mut W,
-    log: &mut L,
-) -> Result<(), Fault>
-    ensures done { OnOk result (HasLineDone ⟦<FileFrom<S> as Disk>⟧ (image_at S.Start) (λ _. None) work.now (W.contents out.old) (W.contents out.new) (L.contents log.old) (L.contents log.new) (Ok tt)) }
-    ensures quiet { is_logged work.now ≡ false → log.new ≡ log.old }
-{
-    if !is_ready(rt, db, work) {
-        return Err(Fault::Store);
+/// The books in files of the host.
+#[derive(Drop)]
+pub struct InFiles<'a, S: Start> {
+    pub rt: &'a HostRuntime,
+    /// What is supposed of the file.
+    pub start: S,
+}
+
+impl<S: Start> BooksAt for InFiles<'_, S> {
+    ghost use Rattle.std.specs.Prelude.{None};
+    ghost use Rattle.sqlite.specs.WalFiles.{image_at};
+    ghost use Rattle.books_file.specs.Lines.{IsLineEnd};
+
+    type Left = FilesLeft<FileFrom<S>>;
+
+    // What a goods-in file of the host holds nothing says.
+    ghost ends = { λ _ _ work old new log_old log_new end left. IsLineEnd ⟦<FileFrom<S> as Disk>⟧ (image_at S.Start) (λ _. None) work old new log_old log_new end left };
+
+    /// Only the making of books makes a file: where there is none, any other work is `Store` and leaves nothing behind.
+    fn work<W: Write, L: Write>(
+        self,
+        db: &str,
+        work: &Work<'_>,
+        out: &mut W,
+        log: &mut L,
+    ) -> (FilesLeft<FileFrom<S>>, Result<(), Fault>) {
+        let InFiles { rt, start } = self;
+        if !is_ready(rt, db, work) {
+            return (FilesLeft::Unopened, Err(Fault::Store));
+        }
+        line_worked(rt, &HostFiles { rt }, db, start, work, out, log)
     }
-    let done = line_worked(rt, &HostFiles { rt }, db, start, work, out, log)?;
-    done.1
 }
 
 /// Opens the file at the path, does the work with the books in it, copies what the log holds into it, and gives the file
-/// and its log back with how the work ended. Whatever the file held, its end, what was printed and what it holds then are
-/// those of the work over the database that was in it. The error is `Io` where a server's port cannot be had, which is
-/// tried first, `Store` where the file cannot be opened or closed, and else that of the work.
+/// and its log back with how the work ended. Whatever the file held, its end, what was printed and logged and what it holds
+/// then are those of the work over the database that was in it. The fault is `Io` where a server's port cannot be had, which
+/// is tried first, `Store` where the file cannot be opened or closed, and else that of the work. Where no work was begun the
+/// log is not copied: a file of another making stays as it is, to the byte.
 pub fn line_worked<S: Start, F: FilesAt, W: Write, L: Write>(
     rt: &HostRuntime,
     files: &F,
@@ -63,12 +74,14 @@ pub fn line_worked<S: Start, F: FilesAt, W: Write, L: Write>(
     work: &Work<'_>,
     out: &mut W,
     log: &mut L,
-) -> Result<(Files<FileFrom<S>>, Result<(), Fault>), Fault>
-    ensures done { IfOk result (λ w. IsLineDone ⟦<FileFrom<S> as Disk>⟧ (image_at S.Start) (F.bytes files.now) work.now (W.contents out.old) (W.contents out.new) (L.contents log.old) (L.contents log.new) w.1 w.0) }
+) -> (FilesLeft<FileFrom<S>>, Result<(), Fault>)
+    ensures done { IsLineEnd ⟦<FileFrom<S> as Disk>⟧ (image_at S.Start) (F.bytes files.now) work.now (W.contents out.old) (W.contents out.new) (L.contents log.old) (L.contents log.new) result.1 result.0 }
     ensures quiet { is_logged work.now ≡ false → log.new ≡ log.old }
 {
-    let listener = listen(rt, work)?;
-    work_over(rt, files, listener.as_ref(), db, start, work, out, log)
+    match listen(rt, work) {
+        Ok(listener) => work_over(rt, files, listener.as_ref(), db, start, work, out, log),
+        Err(_) => (FilesLeft::Unopened, Err(Fault::Io)),
+    }
 }
 
 /// The same, where a server's port is listened on.
@@ -82,39 +95,26 @@ fn work_over<S: Start, F: FilesAt, W: Write, L: Write>(
     work: &Work<'_>,
     out: &mut W,
     log: &mut L,
-) -> Result<(Files<FileFrom<S>>, Result<(), Fault>), Fault>
+) -> (FilesLeft<FileFrom<S>>, Result<(), Fault>)
     requires listens { Listens work.now listener }
-    ensures done { IfOk result (λ w. IsLineDone ⟦<FileFrom<S> as Disk>⟧ (image_at S.Start) (F.bytes files.now) work.now (W.contents out.old) (W.contents out.new) (L.contents log.old) (L.contents log.new) w.1 w.0) }
+    ensures done { IsLineEnd ⟦<FileFrom<S> as Disk>⟧ (image_at S.Start) (F.bytes files.now) work.now (W.contents out.old) (W.contents out.new) (L.contents log.old) (L.contents log.new) result.1 result.0 }
     ensures quiet { is_logged work.now ≡ false → log.new ≡ log.old }
 {
     match Connection::open_from(rt, db, false, start) {
         Ok(conn) => match do_work(rt, files, listener, conn, work, out, log) {
             Ok((conn, end)) => match conn.close_files() {
-                Ok(left) => Ok((left, end)),
-                Err((_, store)) => {
-                    drop(store.close());
-                    Err(first_fault(end))
-                }
+                Ok(left) => (FilesLeft::Closed(left), end),
+                Err((_, store)) => (FilesLeft::Store(store), Err(closing_fault(end))),
             },
-            Err(fault) => Err(fault),
+            Err((left, fault)) => (FilesLeft::Store(store_of(left)), Err(fault)),
         },
-        Err(_) => Err(Fault::Store),
-    }
-}
-
-/// Whether the file can be opened; for books that are to be made its first page is laid. To open a file that is not there
-/// makes it.
-fn is_ready(rt: &HostRuntime, db: &str, work: &Work<'_>) -> bool {
-    match work {
-        Work::Make(_) => lay_first_page(rt, db).is_ok(),
-        _ => fs::exists(rt, db).unwrap_or(false),
+        Err(_) => (FilesLeft::Unopened, Err(Fault::Store)),
     }
 }
 
 /// The fault of the work, or that the file could not be closed.
-fn first_fault(end: Result<(), Fault>) -> Fault
-    ensures work { IfErr end (λ fault. result ≡ fault) }
-    ensures closing { OnOk end (result ≡ fault.Store) }
+fn closing_fault(end: Result<(), Fault>) -> Fault
+    ensures { result ≡ closing_fault_lem end }
 {
     match end {
         Ok(()) => Fault::Store,

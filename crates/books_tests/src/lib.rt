@@ -47,6 +47,8 @@ mod lots_spread;
 #[cfg(test)]
 mod lots_told;
 #[cfg(test)]
+mod many_clients;
+#[cfg(test)]
 mod many_lines;
 #[cfg(test)]
 mod memory;
@@ -64,6 +66,8 @@ mod orders_shown;
 mod picking;
 #[cfg(test)]
 mod picking_rows;
+#[cfg(test)]
+mod program_lines;
 #[cfg(test)]
 mod samples;
 #[cfg(test)]

@@ -19,26 +19,41 @@ struct OverOne<'a, S: Alter> {
     conn: Cell<Option<Connection<S>>>,
 }
 
-impl<S: Orderly + Drop> BooksAt for OverOne<'_, S> {
-    ghost ends = { λ _ _ _ _. Unit {0} };
-
-    fn work<W: Write, L: Write>(
+impl<S: Orderly + Drop> OverOne<'_, S> {
+    fn worked<W: Write, L: Write>(
         &self,
-        _db: &str,
         work: &Work<'_>,
         out: &mut W,
         log: &mut L,
     ) -> Result<(), Fault> {
         let listener = listen(self.host, work)?;
-        match self.conn.replace(None) {
-            Some(conn) => {
-                let at = listener.as_ref();
-                let (conn, end) = do_work(self.host, &GoodsFiles, at, conn, work, out, log)?;
+        let Some(conn) = self.conn.replace(None) else {
+            return Err(Fault::Io);
+        };
+        let at = listener.as_ref();
+        match do_work(self.host, &GoodsFiles, at, conn, work, out, log) {
+            Ok((conn, end)) => {
                 drop(self.conn.replace(Some(conn)));
                 end
             }
-            None => Err(Fault::Io),
+            Err((_left, fault)) => Err(fault),
         }
+    }
+}
+
+impl<S: Orderly + Drop> BooksAt for &OverOne<'_, S> {
+    type Left = ();
+
+    ghost ends = { λ _ _ _ _ _ _ _ _ _. Unit {0} };
+
+    fn work<W: Write, L: Write>(
+        self,
+        _db: &str,
+        work: &Work<'_>,
+        out: &mut W,
+        log: &mut L,
+    ) -> ((), Result<(), Fault>) {
+        ((), self.worked(work, out, log))
     }
 }
 
@@ -142,7 +157,7 @@ fn is_run<S: Orderly + Drop>(rt: &impl Abort, books: &OverOne<'_, S>, line: &Lin
     let alloc = books.host.alloc();
     let mut printed: Vec<u8> = Vec::new(alloc);
     let mut told: Vec<u8> = Vec::new(alloc);
-    let status = run(alloc, books, line.words, &mut printed, &mut told);
+    let (_, status) = run(alloc, books, line.words, &mut printed, &mut told);
     assert!(rt; status == line.status, "at {index}");
     assert!(rt; printed.as_slice() == line.printed.as_bytes(), "at {index}");
     assert!(rt; told.as_slice() == line.told.as_bytes(), "at {index}");

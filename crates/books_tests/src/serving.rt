@@ -4,7 +4,7 @@ use crate::disk::{run_clients, run_lines};
 use crate::opening::{business_day, new_books};
 use command_line::{Fault, Work, tell};
 use house::House;
-use service::{AfterWork, FilesAt, do_work, listen, serve_logged, serve_on};
+use service::{AfterWork, FilesAt, NotBegun, do_work, listen, serve_logged, serve_on};
 use sqlite::{Alter, Connection};
 use std::alloc::Global;
 use std::cell::Cell;
@@ -230,7 +230,7 @@ fn told_of(alloc: Global, end: Result<(), Fault>) -> Vec<u8> {
 fn ended<S: Alter + Drop>(
     rt: &impl Abort,
     alloc: Global,
-    found: Result<AfterWork<S>, Fault>,
+    found: Result<AfterWork<S>, NotBegun<S>>,
     expected: &str,
 ) -> Connection<S> {
     match found {

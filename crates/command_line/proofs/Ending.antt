@@ -1,9 +1,12 @@
--- The fault of a `?` over output.
-use Rattle.std.proofs.Common.{◌≡◌, Ok, Err, Result, ap}
-use Rattle.std.specs.Result.{IsErr, IsErrAnd}
+-- The end of a line whose output is flushed.
+use Rattle.std.proofs.Common.{◌≡◌, ◌⊎◌, inl, inr, sym, subst, Ok, Err, Result}
+use Rattle.std.specs.Prelude.{IfErr, OnOk}
 use Rattle.command_line.specs.declared.fault.Fault.{Fault}
 use Rattle.command_line.specs.declared.fault.Fault.TheVariants.{Io}
 
-pub told_io : (r : Result Unit Fault) → IsErr r × IsErrAnd r (λ e. e ≡ Io) → r ≡ Err Io
-told_io (Ok done) h = absurd (let no = h.0 in cc)
-told_io (Err e) h = ap (λ (x : Fault). Err x) h.1
+-- what holds of the end holds of what it is then, or it was well and the output could not be flushed
+pub flushed : (P : Result Unit Fault → Type 0) (end flush : Result Unit Fault) → IfErr end (λ fault. flush ≡ Err fault) → OnOk end ((flush ≡ Ok tt) ⊎ (flush ≡ Err Io))
+    → P end → P flush ⊎ ((done : Unit) × P (Ok done) × (flush ≡ Err Io))
+flushed P (Err fault) flush same end h = inl (subst P (sym same) h)
+flushed P (Ok done) flush same (inl well) h = inl (subst P (sym well) h)
+flushed P (Ok done) flush same (inr io) h = inr (done, h, io)

@@ -76,15 +76,15 @@ pub record HasFault (day text : List ℕ) (fault : LabelFault) : Type 0 where
   pub business : IsTrue (is_business_day today)
   pub fault_is : label_read today text ≡ Err fault
 
--- why the line is refused; that output fails has no cause in the line
-abbrev pub IsRefused : List ℕ → List ℕ → Fault → Type 0
-IsRefused day text (Label fault) = HasFault day text fault
-IsRefused day text Value = IsNoBusinessDay day
-IsRefused day text Io = Unit {0}
-IsRefused day text (Usage error) = ⊥
-IsRefused day text (File fault) = ⊥
-IsRefused day text (Row row why) = ⊥
-IsRefused day text (Refused why) = ⊥
-IsRefused day text (Audit fault) = ⊥
-IsRefused day text Store = ⊥
-IsRefused day text Foreign = ⊥
+-- why the line is refused, and then nothing was printed; that output fails has no cause in the line
+abbrev pub IsRefused : (day text : List ℕ) → (old new : Option (List ℕ)) → Fault → Type 0
+IsRefused day text old new (Label fault) = HasFault day text fault × (new ≡ old)
+IsRefused day text old new Value = IsNoBusinessDay day × (new ≡ old)
+IsRefused day text old new Io = Unit {0}
+IsRefused day text old new (Usage error) = ⊥
+IsRefused day text old new (File fault) = ⊥
+IsRefused day text old new (Row row why) = ⊥
+IsRefused day text old new (Refused why) = ⊥
+IsRefused day text old new (Audit fault) = ⊥
+IsRefused day text old new Store = ⊥
+IsRefused day text old new Foreign = ⊥

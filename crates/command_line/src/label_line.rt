@@ -11,7 +11,7 @@ use std::io::Write;
 /// Prints what a label says on a business day. The day is judged first, then the label.
 pub(crate) fn print_label<W: Write>(day: &str, text: &str, out: &mut W) -> Result<(), Fault>
     ensures printed { OnOk result (IsPrinted day.now text.now (W.contents out.old) (W.contents out.new)) }
-    ensures refused { IfErr result (IsRefused day.now text.now) }
+    ensures refused { IfErr result (IsRefused day.now text.now (W.contents out.old) (W.contents out.new)) }
 {
     let today = business_day(day)?;
     let label = match read(text.as_bytes(), today) {

@@ -6,38 +6,42 @@ ghost use Rattle.command_line.specs.Ends.{IsWithLot, IsNoLot};
 ghost use Rattle.command_line.specs.declared.running.Work.TheVariants.{Card, Notice};
 
 use crate::fault::Fault;
-use crate::running::{BooksAt, Work};
+use crate::running::{BooksAt, LineEnd, Work, work_with};
 use std::io::Write;
 use values::{Gtin, Lot, LotId};
 
 /// Has the stock card of a lot printed. The GTIN and the lot are judged before the file is touched.
-pub(crate) fn print_card<B: BooksAt, W: Write, L: Write>(
-    books: &B,
+pub(crate) fn print_card<B: BooksAt + Drop, W: Write, L: Write>(
+    books: B,
     db: &str,
     gtin: &str,
     lot: &str,
     out: &mut W,
     log: &mut L,
-) -> Result<(), Fault>
-    ensures { IsWithLot (B.ends books.now) db.now Card gtin.now lot.now result }
+) -> LineEnd<B::Left>
+    ensures { IsWithLot (B.ends books) (W.contents out.old) (W.contents out.new) (L.contents log.old) (L.contents log.new) db.now Card gtin.now lot.now result.1 result.0 }
 {
-    let lot = lot_named(gtin, lot)?;
-    books.work(db, &Work::Card(lot), out, log)
+    match lot_named(gtin, lot) {
+        Ok(lot) => work_with(books, db, &Work::Card(lot), out, log),
+        Err(fault) => (None, Err(fault)),
+    }
 }
 
 /// Has the recall notice of a lot printed. The GTIN and the lot are judged before the file is touched.
-pub(crate) fn print_notice<B: BooksAt, W: Write, L: Write>(
-    books: &B,
+pub(crate) fn print_notice<B: BooksAt + Drop, W: Write, L: Write>(
+    books: B,
     db: &str,
     gtin: &str,
     lot: &str,
     out: &mut W,
     log: &mut L,
-) -> Result<(), Fault>
-    ensures { IsWithLot (B.ends books.now) db.now Notice gtin.now lot.now result }
+) -> LineEnd<B::Left>
+    ensures { IsWithLot (B.ends books) (W.contents out.old) (W.contents out.new) (L.contents log.old) (L.contents log.new) db.now Notice gtin.now lot.now result.1 result.0 }
 {
-    let lot = lot_named(gtin, lot)?;
-    books.work(db, &Work::Notice(lot), out, log)
+    match lot_named(gtin, lot) {
+        Ok(lot) => work_with(books, db, &Work::Notice(lot), out, log),
+        Err(fault) => (None, Err(fault)),
+    }
 }
 
 /// The lot that a GTIN and a LOT name.

@@ -1,10 +1,10 @@
-ghost use Rattle.std.specs.Prelude.{◌≡◌, ◌≤◌, Some, option_map, OnOk};
-ghost use Rattle.std.specs.Io.KnownBytes.{Appends};
+ghost use Rattle.std.specs.Prelude.{◌≡◌, ◌⊎◌, ◌≤◌, Some, Ok, Err, option_map, IfErr, OnOk};
+ghost use Rattle.std.specs.Io.KnownBytes.{Appends, Keeps};
 ghost use Rattle.clap.specs.Values.{kind_of};
 ghost use Rattle.clap.specs.declared.error.kind.ErrorKind.TheVariants.{DisplayVersion};
 ghost use Rattle.command_line.specs.Lines.{told_line, version_line};
 ghost use Rattle.command_line.specs.Statuses.{IsStatusOf, IsStatusOfWords, IsOutputOf, IsOutputOfWords};
-ghost use Rattle.command_line.specs.Ends.{IsAudited, IsEndOf, IsEnded, IsOnDay, IsRun};
+ghost use Rattle.command_line.specs.Ends.{IsAudited, IsEndOf, IsEnded, IsOnDay, IsRun, IsToldOf, IsWorked};
 ghost use Rattle.command_line.specs.declared.running.Work.TheVariants.{Make, Audit};
 
 use crate::fault::Fault;
@@ -53,64 +53,86 @@ pub enum Work<'a> {
 
 /// Where the books are that the lines speak of.
 pub trait BooksAt {
-    ghost use Rattle.std.specs.Prelude.{ℕ, List, Result};
+    ghost use Rattle.std.specs.Prelude.{ℕ, List, Option, Result};
     ghost use Rattle.command_line.specs.declared.fault.Fault.{Fault};
     ghost use Rattle.command_line.specs.declared.running.Work.{Work};
 
-    // How the work with the books in this file may end.
-    ghost ends: { Self → List ℕ → Work → Result Unit Fault → Type 0 };
+    /// What is left of the files of the books.
+    type Left: Drop;
+
+    // How the work with the books in this file may end, by what the output and the log held and hold, and what is left.
+    ghost ends: { Self → List ℕ → Work → Option (List ℕ) → Option (List ℕ) → Option (List ℕ) → Option (List ℕ) → Result Unit Fault → Self.Left → Type 0 };
 
     /// Does the work with the books in the file. What it prints goes to `out`, and the log of a server to `log`.
     fn work<W: Write, L: Write>(
-        &self,
+        self,
         db: &str,
         work: &Work<'_>,
         out: &mut W,
         log: &mut L,
-    ) -> Result<(), Fault>
-        ensures { ends self.now db.now work.now result };
+    ) -> (Self::Left, Result<(), Fault>)
+        ensures { ends self db.now work.now (W.contents out.old) (W.contents out.new) (L.contents log.old) (L.contents log.new) result.1 result.0 };
 }
+
+/// What is left of the files of the books, where a line named one, and how the line ended.
+pub(crate) type LineEnd<T> = (Option<T>, Result<(), Fault>);
 
 /// Runs the line that the words are, the program's name first: what it prints goes to `out`, and to `err` the log of a
 /// server and a fault as one line, `lotd: `, its code and what it is about, as ` row ` and its number where that is a row
-/// of a file. The result is the exit status, by how the line ended.
-pub fn run<'a, B: BooksAt, S: AsStr, W: Write, E: Write>(
+/// of a file. The result is the exit status, by how the line ended, and what is left of the files of the books, where the
+/// line named one.
+pub fn run<'a, B: BooksAt + Drop, S: AsStr, W: Write, E: Write>(
     alloc: Global,
-    books: &B,
+    books: B,
     words: &'a [S],
     out: &mut W,
     err: &mut E,
-) -> u8
-    ensures status { IsRun (B.ends books.now) (W.contents out.old) (W.contents out.new) result }
-    ensures range { result ≤ MISUSED }
+) -> (Option<B::Left>, u8)
+    ensures status { IsRun (B.ends books) (W.contents out.old) (W.contents out.new) (E.contents err.old) (E.contents err.new) result.1 result.0 }
+    ensures range { result.1 ≤ MISUSED }
 {
-    let end = do_line(alloc, books, words, out, err);
-    tell_end(end, out, err)
+    let (left, end) = do_line(alloc, books, words, out, err);
+    let status = tell_end(end, out, err);
+    (left, status)
 }
 
-fn do_line<'a, B: BooksAt, S: AsStr, W: Write, L: Write>(
+fn do_line<'a, B: BooksAt + Drop, S: AsStr, W: Write, L: Write>(
     alloc: Global,
-    books: &B,
+    books: B,
     words: &'a [S],
     out: &mut W,
     log: &mut L,
-) -> Result<(), Fault>
-    ensures { IsEnded (B.ends books.now) (W.contents out.old) (W.contents out.new) result }
+) -> LineEnd<B::Left>
+    ensures { IsEnded (B.ends books) (W.contents out.old) (W.contents out.new) (L.contents log.old) (L.contents log.new) result.1 result.0 }
 {
-    let line = read_line(alloc, words)?;
-    end_line(books, line, out, log)?;
+    match read_line(alloc, words) {
+        Ok(line) => {
+            let (left, end) = end_line(books, line, out, log);
+            (left, flush_done(end, out))
+        }
+        Err(error) => (None, Err(Fault::from(error))),
+    }
+}
+
+/// Flushes the output of a line that was done.
+fn flush_done<W: Write>(end: Result<(), Fault>, out: &mut W) -> Result<(), Fault>
+    ensures kept { Keeps (W.contents out.old) (W.contents out.new) }
+    ensures fault { IfErr end (λ fault. result ≡ Err fault) }
+    ensures done { OnOk end ((result ≡ Ok tt) ⊎ (result ≡ Err Fault.Io)) }
+{
+    end?;
     out.flush()?;
     Ok(())
 }
 
 /// Does what a line asks for.
-fn end_line<'a, B: BooksAt, W: Write, L: Write>(
-    books: &B,
+fn end_line<'a, B: BooksAt + Drop, W: Write, L: Write>(
+    books: B,
     line: Line<'a>,
     out: &mut W,
     log: &mut L,
-) -> Result<(), Fault>
-    ensures { IsEndOf (B.ends books.now) line.entry (W.contents out.old) (W.contents out.new) result }
+) -> LineEnd<B::Left>
+    ensures { IsEndOf (B.ends books) (W.contents out.old) (W.contents out.new) (L.contents log.old) (L.contents log.new) line.entry result.1 result.0 }
 {
     match line {
         Line::Init { db, day } => make_books(books, db, day, out, log),
@@ -125,66 +147,85 @@ fn end_line<'a, B: BooksAt, W: Write, L: Write>(
                 max,
                 log: logged,
             };
-            books.work(db, &work, out, log)
+            work_with(books, db, &work, out, log)
         }
-        Line::Import { db, file } => books.work(db, &Work::Import { file }, out, log),
+        Line::Import { db, file } => work_with(books, db, &Work::Import { file }, out, log),
         Line::Card { db, gtin, lot } => print_card(books, db, gtin, lot, out, log),
         Line::Notice { db, gtin, lot } => print_notice(books, db, gtin, lot, out, log),
-        Line::History { db } => books.work(db, &Work::History, out, log),
+        Line::History { db } => work_with(books, db, &Work::History, out, log),
         Line::Audit { db, day } => audit_books(books, db, day, out, log),
-        Line::Label { day, text } => print_label(day, text, out),
-        Line::Unknown => Err(Fault::Value),
+        Line::Label { day, text } => (None, print_label(day, text, out)),
+        Line::Unknown => (None, Err(Fault::Value)),
     }
 }
 
+/// Has the work done with the books in the file.
+pub(crate) fn work_with<B: BooksAt, W: Write, L: Write>(
+    books: B,
+    db: &str,
+    work: &Work<'_>,
+    out: &mut W,
+    log: &mut L,
+) -> LineEnd<B::Left>
+    ensures { IsWorked (B.ends books) (W.contents out.old) (W.contents out.new) (L.contents log.old) (L.contents log.new) db.now work.now result.1 result.0 }
+{
+    let (left, end) = books.work(db, work, out, log);
+    (Some(left), end)
+}
+
 /// Has new books made, which begin on the business day that the date is.
-fn make_books<B: BooksAt, W: Write, L: Write>(
-    books: &B,
+fn make_books<B: BooksAt + Drop, W: Write, L: Write>(
+    books: B,
     db: &str,
     date: &str,
     out: &mut W,
     log: &mut L,
-) -> Result<(), Fault>
-    ensures { IsOnDay (B.ends books.now) db.now Make date.now result }
+) -> LineEnd<B::Left>
+    ensures { IsOnDay (B.ends books) (W.contents out.old) (W.contents out.new) (L.contents log.old) (L.contents log.new) db.now Make date.now result.1 result.0 }
 {
-    let day = first_day(date)?;
-    books.work(db, &Work::Make(day), out, log)
+    match first_day(date) {
+        Ok(day) => work_with(books, db, &Work::Make(day), out, log),
+        Err(fault) => (None, Err(fault)),
+    }
 }
 
 /// Has the books audited. A date that is given is judged before the file is touched.
-fn audit_books<B: BooksAt, W: Write, L: Write>(
-    books: &B,
+fn audit_books<B: BooksAt + Drop, W: Write, L: Write>(
+    books: B,
     db: &str,
     date: Option<&str>,
     out: &mut W,
     log: &mut L,
-) -> Result<(), Fault>
-    ensures { IsAudited (B.ends books.now) db.now (option_map (λ d. d.now) date.entry) result }
+) -> LineEnd<B::Left>
+    ensures { IsAudited (B.ends books) (W.contents out.old) (W.contents out.new) (L.contents log.old) (L.contents log.new) db.now (option_map (λ d. d.now) date.entry) result.1 result.0 }
 {
     match date {
         Some(date) => audit_from(books, db, date, out, log),
-        None => books.work(db, &Work::Audit(None), out, log),
+        None => work_with(books, db, &Work::Audit(None), out, log),
     }
 }
 
 /// Has the books audited that began on the business day that the date is.
-fn audit_from<B: BooksAt, W: Write, L: Write>(
-    books: &B,
+fn audit_from<B: BooksAt + Drop, W: Write, L: Write>(
+    books: B,
     db: &str,
     date: &str,
     out: &mut W,
     log: &mut L,
-) -> Result<(), Fault>
-    ensures { IsOnDay (B.ends books.now) db.now (λ day. Audit (Some day)) date.now result }
+) -> LineEnd<B::Left>
+    ensures { IsOnDay (B.ends books) (W.contents out.old) (W.contents out.new) (L.contents log.old) (L.contents log.new) db.now (λ day. Audit (Some day)) date.now result.1 result.0 }
 {
-    let day = first_day(date)?;
-    books.work(db, &Work::Audit(Some(day)), out, log)
+    match first_day(date) {
+        Ok(day) => work_with(books, db, &Work::Audit(Some(day)), out, log),
+        Err(fault) => (None, Err(fault)),
+    }
 }
 
 /// Tells how a line ended, and gives its exit status.
 fn tell_end<W: Write, E: Write>(end: Result<(), Fault>, out: &mut W, err: &mut E) -> u8
     ensures status { IsStatusOf end result }
     ensures output { IsOutputOf end (W.contents out.old) (W.contents out.new) result }
+    ensures told { IsToldOf end (E.contents err.old) (E.contents err.new) }
 {
     match end {
         Ok(()) => DONE,

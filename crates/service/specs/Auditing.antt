@@ -21,6 +21,10 @@ use Rattle.service.specs.Rows.{table_of, table_text, key_text}
 abbrev pub sound_line : ℕ → ℤ → List ℕ
 sound_line acts day = codes "audited " ++ decimal acts ++ codes " acts from " ++ day_text day ++ codes "\n"
 
+-- what is shown on a terminal once so many acts of so many are done again, from the first column on
+abbrev pub progress_line : (acts all : ℕ) → List ℕ
+progress_line acts all = codes "\raudit: " ++ decimal acts ++ codes " of " ++ decimal all ++ codes " acts"
+
 -- it was printed, or the output could not be written
 abbrev pub IsSoundTold : ℕ → ℤ → (old new : Option (List ℕ)) → Result Unit Fault → Type 0
 IsSoundTold acts day old new (Ok done) = Appends old new (sound_line acts day)

@@ -1,4 +1,5 @@
 pub mod Rows
+pub mod Failing
 pub mod Auditing
 pub mod Serving
 pub mod Importing

@@ -1,5 +1,5 @@
 -- What serving a port does to the books, and what a line's work does.
-use Rattle.std.specs.Prelude.{◌≡◌, ◌≢◌, ◌⊎◌, ◌↔◌, ◌≤◌, ℕ, ℤ, List, [], ◌∷◌, length, zip, Bool, true, false, Option, Result, Ok, Err, IsErr, IsErrOf, IsSome, IsTrue, ◌++◌, codes}
+use Rattle.std.specs.Prelude.{◌≡◌, ◌≢◌, ◌⊎◌, ◌↔◌, ◌≤◌, ℕ, ℤ, List, [], ◌∷◌, length, zip, Bool, true, false, Option, Result, Ok, Err, IsErr, IsErrAnd, IsSome, IsTrue, ◌++◌, codes}
 use Rattle.std.specs.Fmt.{decimal}
 use Rattle.std.specs.Io.KnownBytes.{Appends}
 use Rattle.sqlite_trees.specs.declared.store.Store.{Ghosts}
@@ -7,6 +7,7 @@ use Rattle.sqlite.specs.Held.{Held, state}
 use Rattle.machine.specs.Acts.{Act}
 use Rattle.machine.specs.Once.{IsHistory}
 use Rattle.table_words.specs.Schema.{schema_0}
+use Rattle.tables.specs.declared.opening.Leftover.{Leftover}
 use Rattle.store.specs.Connected.{Connected}
 use Rattle.store.specs.Books.{KeepsBooks}
 use Rattle.store.specs.Opening.{IsOfNone, AreFoundRows}
@@ -85,6 +86,16 @@ Listens (Notice lot) listener = Unit {0}
 Listens History listener = Unit {0}
 Listens (Audit given) listener = Unit {0}
 
+-- the work is that of a server
+abbrev pub IsServer : Work → Type 0
+IsServer (Make day) = ⊥
+IsServer (Serve port max log) = Unit {0}
+IsServer (Import file) = ⊥
+IsServer (Card lot) = ⊥
+IsServer (Notice lot) = ⊥
+IsServer History = ⊥
+IsServer (Audit given) = ⊥
+
 -- what the work makes of a connection, with what the log had and has
 abbrev pub IsWorked : {S : Type 0} → Ghosts S → Held S → Work → (log_old log_new : Option (List ℕ)) → Held S → Type 0
 IsWorked g old (Make day) log_old log_new new = KeepsBooks day [] (state g new) × IsTrue (state g new).is_open
@@ -96,9 +107,9 @@ IsWorked g old (Notice lot) log_old log_new new = (first : ℤ) (acts : List Act
 IsWorked g old History log_old log_new new = (first : ℤ) (acts : List Act) → IsHistory first acts → AreFoundRows first acts (state g old).committed.trees → KeepsBooks first acts (state g new)
 IsWorked g old (Audit given) log_old log_new new = IsLeftAs g old new
 
--- when the work is refused, and as what
-abbrev pub IsJudged : {S A : Type 0} → Ghosts S → Held S → Work → Result A Fault → Type 0
-IsJudged g old (Make day) result = old.in_transaction ≡ false → IsErrOf result Foreign ↔ ((state g old).now.schema ≢ schema_0)
+-- on which schema there is no work
+abbrev pub IsJudged : {S : Type 0} → Ghosts S → Held S → Work → Result (Held S × Result Unit Fault) (Leftover S × Fault) → Type 0
+IsJudged g old (Make day) result = old.in_transaction ≡ false → IsErrAnd result (λ e. e.1 ≡ Foreign) ↔ ((state g old).now.schema ≢ schema_0)
 IsJudged g old (Serve port max log) result = IsOfNone (state g old).now.schema → IsErr result
 IsJudged g old (Import file) result = IsOfNone (state g old).now.schema → IsErr result
 IsJudged g old (Card lot) result = IsOfNone (state g old).now.schema → IsErr result

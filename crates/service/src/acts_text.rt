@@ -1,6 +1,7 @@
 //! The acts of the books, printed.
 
-ghost use Rattle.std.specs.Prelude.{◌≡◌, ◌⊎◌, ℤ, List, true, IsTrue, IsErr, IsErrOf, IfOk, IfErr};
+ghost use Rattle.std.specs.Prelude.{◌≡◌, ℤ, List, true, IsTrue, IsErr, IsErrAnd, IfOk, IfErr};
+ghost use Rattle.tables.specs.declared.opening.Leftover.TheVariants as leftover;
 ghost use Rattle.sqlite.specs.Held.{state};
 ghost use Rattle.sqlite.specs.State.{HasCleanDisk};
 ghost use Rattle.machine.specs.Acts.{Act};
@@ -8,9 +9,10 @@ ghost use Rattle.machine.specs.Once.{IsHistory};
 ghost use Rattle.store.specs.Books.{KeepsBooks, HoldsBooks, IsClean};
 ghost use Rattle.store.specs.Opening.{IsOfNone, AreFoundRows};
 ghost use Rattle.histories.specs.Printed.{IsHistoryPrinted};
+ghost use Rattle.service.specs.Failing.{IsUnopened};
 ghost use Rattle.service.specs.ActsTold.{fault_told};
 
-use crate::books_lines::{AfterWork, open_books};
+use crate::books_lines::{AfterWork, NotBegun, open_books};
 use crate::lent::Lent;
 use command_line::Fault;
 use histories::{HistoryFault, print_history};
@@ -25,15 +27,16 @@ pub(crate) fn open_and_print_acts<S: Orderly + Drop, W: Write>(
     alloc: Global,
     conn: Connection<S>,
     out: &mut W,
-) -> Result<AfterWork<S>, Fault>
+) -> Result<AfterWork<S>, NotBegun<S>>
     ensures clean { IfOk result (λ w. HasCleanDisk (state S.Store w.0) → HasCleanDisk (state S.Store conn)) }
     ensures printed { IfOk result (λ w. HasCleanDisk (state S.Store w.0) → (first : ℤ) (acts : List Act) → IsHistory first acts
         → AreFoundRows first acts (state S.Store conn).committed.trees → KeepsBooks first acts (state S.Store w.0)) }
     ensures told { IfOk result (λ w. HasCleanDisk (state S.Store w.0) → (first : ℤ) (acts : List Act) → IsHistory first acts
         → AreFoundRows first acts (state S.Store conn).committed.trees → IsHistoryPrinted first acts (W.contents out.old) (W.contents out.new) w.1) }
     ensures other { IsOfNone (state S.Store conn).now.schema → IsErr result }
-    ensures within { conn.in_transaction ≡ true → IsErrOf result Fault.Store }
-    ensures fault { IfErr result (λ fault. (fault ≡ Fault.Store) ⊎ (fault ≡ Fault.Foreign)) }
+    ensures within { conn.in_transaction ≡ true → IsErrAnd result (λ e. (e.0 ≡ leftover.Connection conn) × (e.1 ≡ Fault.Store)) }
+    ensures left { IfErr result (λ e. IsUnopened S.Store conn e.0 e.1) }
+    ensures silent { IsErr result → out.new ≡ out.old }
 {
     match open_books(alloc, conn) {
         Ok(books) => Ok(print_acts(alloc, books, out)),

@@ -1,13 +1,14 @@
 //! The books held against their acts, and what is told of it.
 
-ghost use Rattle.std.specs.Prelude.{◌≡◌, ◌⊎◌, true, IsErr, IsErrOf, IfOk, IfErr, OnOk};
+ghost use Rattle.std.specs.Prelude.{◌≡◌, true, IsErr, IsErrAnd, IfOk, IfErr, OnOk};
 ghost use Rattle.std.specs.Io.KnownBytes.{Appends};
 ghost use Rattle.sqlite.specs.Held.{state};
 ghost use Rattle.sqlite.specs.State.{HasCleanDisk};
 ghost use Rattle.store.specs.Opening.{IsOfNone};
+ghost use Rattle.service.specs.Failing.{IsUnaudited};
 ghost use Rattle.service.specs.Auditing.{IsAuditTold, IsFindingTold, IsLeftAs, row_fault as row_fault_lem, sound_line};
 
-use crate::books_lines::AfterWork;
+use crate::books_lines::{AfterWork, NotBegun, fault_of_books};
 use crate::row_text::{key_text, table_of, table_text};
 use crate::shown::Shown;
 use audits::{Finding, audit};
@@ -25,16 +26,17 @@ pub(crate) fn audit_books<S: Orderly + Drop, W: Write>(
     conn: Connection<S>,
     given: Option<BusinessDay>,
     out: &mut W,
-) -> Result<AfterWork<S>, Fault>
+) -> Result<AfterWork<S>, NotBegun<S>>
     ensures clean { IfOk result (λ w. HasCleanDisk (state S.Store w.0) → HasCleanDisk (state S.Store conn)) }
     ensures left { IfOk result (λ w. IsLeftAs S.Store conn w.0) }
     ensures told { IfOk result (λ w. HasCleanDisk (state S.Store w.0) → IsAuditTold given (state S.Store conn) (W.contents out.old) (W.contents out.new) w.1) }
     ensures other { IsOfNone (state S.Store conn).now.schema → IsErr result }
-    ensures within { conn.in_transaction ≡ true → IsErrOf result Fault.Store }
-    ensures fault { IfErr result (λ fault. (fault ≡ Fault.Store) ⊎ (fault ≡ Fault.Foreign)) }
+    ensures within { conn.in_transaction ≡ true → IsErrAnd result (λ e. (e.0 ≡ Leftover.Connection conn) × (e.1 ≡ Fault.Store)) }
+    ensures failed { IfErr result (λ e. IsUnaudited S.Store conn e.0 e.1) }
+    ensures silent { IsErr result → out.new ≡ out.old }
 {
     if !conn.is_autocommit() {
-        return Err(Fault::Store);
+        return Err((Leftover::Connection(conn), Fault::Store));
     }
     let mut shown = Shown::new(rt);
     let (left, found) = audit(rt.alloc(), conn, given, &mut shown);
@@ -42,18 +44,9 @@ pub(crate) fn audit_books<S: Orderly + Drop, W: Write>(
     match found {
         Ok(finding) => match left {
             Leftover::Connection(conn) => Ok((conn, tell_finding(&finding, out))),
-            Leftover::Store(_) => Err(Fault::Store),
+            left => Err((left, Fault::Store)),
         },
-        Err(fault) => Err(cause(fault)),
-    }
-}
-
-fn cause(fault: store::Fault) -> Fault
-    ensures { (result ≡ Fault.Store) ⊎ (result ≡ Fault.Foreign) }
-{
-    match fault {
-        store::Fault::Foreign => Fault::Foreign,
-        _ => Fault::Store,
+        Err(fault) => Err((left, fault_of_books(fault))),
     }
 }
 

@@ -12,7 +12,7 @@ mod serve;
 mod shown;
 mod timed;
 
-pub use books_lines::{AfterWork, do_work};
+pub use books_lines::{AfterWork, NotBegun, do_work};
 pub use goods_file::{FilesAt, import};
 pub use lot_texts::{print_card, print_notice};
 pub use serve::{listen, serve_logged, serve_on};

@@ -1,9 +1,9 @@
-ghost use Rattle.std.specs.Prelude.{◌≡◌, ℤ, List, true, false, IfOk};
+ghost use Rattle.std.specs.Prelude.{◌≡◌, ℤ, List, true, false, IfOk, OnErr};
 ghost use Rattle.machine.specs.Acts.{Act};
 ghost use Rattle.machine.specs.Once.{IsHistory};
 ghost use Rattle.store.specs.Books.{IsClean, HoldsBooks};
 ghost use Rattle.house.specs.House.{books_of};
-ghost use Rattle.service.specs.Serving.{GoesOn, HasServed, HasLogged, Listens};
+ghost use Rattle.service.specs.Serving.{GoesOn, HasServed, HasLogged, IsServer, Listens};
 
 use crate::timed::Timed;
 use command_line::Work;
@@ -25,7 +25,8 @@ const READS_AFTER_ANSWER: u32 = 1024;
 /// Listens on the port of a server, before its books are opened: a port that is taken is told at once, and who connects
 /// while they are opened waits until they are. Other work listens on none.
 pub fn listen(rt: &HostRuntime, work: &Work<'_>) -> io::Result<Option<TcpListener>>
-    ensures { IfOk result (λ listener. Listens work.now listener) }
+    ensures listens { IfOk result (λ listener. Listens work.now listener) }
+    ensures server { OnErr result (IsServer work.now) }
 {
     match work {
         Work::Serve { port, .. } => Ok(Some(TcpListener::bind(rt, ("127.0.0.1", *port))?)),

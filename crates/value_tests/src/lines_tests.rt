@@ -16,16 +16,18 @@ use values::{LotId, Text};
 struct NoBooks;
 
 impl BooksAt for NoBooks {
-    ghost ends = { λ _ _ _ _. Unit {0} };
+    type Left = ();
+
+    ghost ends = { λ _ _ _ _ _ _ _ _ _. Unit {0} };
 
     fn work<W: Write, L: Write>(
-        &self,
+        self,
         _db: &str,
         _work: &Work<'_>,
         _out: &mut W,
         _log: &mut L,
-    ) -> Result<(), Fault> {
-        Err(Fault::Store)
+    ) -> ((), Result<(), Fault>) {
+        ((), Err(Fault::Store))
     }
 }
 
@@ -46,7 +48,7 @@ fn expect_label(
     let words = ["lotd", "label", "--day", day, "--", text];
     let mut printed = Vec::new(alloc);
     let mut told = Vec::new(alloc);
-    let got = run(alloc, &NoBooks, words.as_slice(), &mut printed, &mut told);
+    let (_, got) = run(alloc, NoBooks, words.as_slice(), &mut printed, &mut told);
     assert!(end; got == status, "{text:?}");
     is_text(end, printed.as_slice(), out);
     is_text(end, told.as_slice(), err);
@@ -97,7 +99,7 @@ fn prints_what_a_label_says(rt: HostRuntime) {
 fn answer(alloc: Global, words: &[&str]) -> (u8, bool, bool) {
     let mut printed = Vec::new(alloc);
     let mut told = Vec::new(alloc);
-    let status = run(alloc, &NoBooks, words, &mut printed, &mut told);
+    let (_, status) = run(alloc, NoBooks, words, &mut printed, &mut told);
     (status, !printed.is_empty(), !told.is_empty())
 }
 
@@ -186,7 +188,7 @@ static HELP_SAYS: [(&[&str], &str); 9] = [
 fn says(end: &impl Abort, alloc: Global, words: &[&str], part: &str) {
     let mut printed = Vec::new(alloc);
     let mut told = Vec::new(alloc);
-    let status = run(alloc, &NoBooks, words, &mut printed, &mut told);
+    let (_, status) = run(alloc, NoBooks, words, &mut printed, &mut told);
     assert!(end; status == 0);
     let text = std::str::from_utf8(printed.as_slice())
         .ok()
@@ -210,7 +212,7 @@ fn tells_its_version_and_schema(rt: HostRuntime) {
     for words in VERSION.as_slice() {
         let mut printed = Vec::new(rt.alloc());
         let mut told = Vec::new(rt.alloc());
-        let status = run(rt.alloc(), &NoBooks, words, &mut printed, &mut told);
+        let (_, status) = run(rt.alloc(), NoBooks, words, &mut printed, &mut told);
         assert!(rt; status == 0);
         is_text(&rt, printed.as_slice(), expected.as_str());
         is_text(&rt, told.as_slice(), "");
@@ -245,7 +247,7 @@ static PRINTED: [&[&str]; 3] = [
 
 fn cannot_print(end: &impl Abort, alloc: Global, words: &[&str]) {
     let mut told = Vec::new(alloc);
-    let status = run(alloc, &NoBooks, words, &mut Full, &mut told);
+    let (_, status) = run(alloc, NoBooks, words, &mut Full, &mut told);
     assert!(end; status == 1);
     is_text(end, told.as_slice(), "lotd: io\n");
 }
@@ -346,24 +348,26 @@ impl Awaited {
     }
 }
 
-impl BooksAt for Awaited {
-    ghost ends = { λ _ _ _ _. Unit {0} };
+impl BooksAt for &Awaited {
+    type Left = ();
+
+    ghost ends = { λ _ _ _ _ _ _ _ _ _. Unit {0} };
 
     fn work<W: Write, L: Write>(
-        &self,
+        self,
         db: &str,
         work: &Work<'_>,
         out: &mut W,
         log: &mut L,
-    ) -> Result<(), Fault> {
+    ) -> ((), Result<(), Fault>) {
         if !self.is_this(db, work) {
-            return Err(Fault::Value);
+            return ((), Err(Fault::Value));
         }
         let _ = out.write_all(b"worked\n");
         if let Work::Serve { log: true, .. } = work {
             let _ = log.write_all(b"GET /orders/S-1 404 105\n");
         }
-        self.ended()
+        ((), self.ended())
     }
 }
 
@@ -781,7 +785,7 @@ static HANDED_ON: [Handed; 30] = [
 fn expect_handed(end: &impl Abort, alloc: Global, row: &Handed) {
     let mut printed = Vec::new(alloc);
     let mut told = Vec::new(alloc);
-    let status = run(alloc, &row.to, row.words, &mut printed, &mut told);
+    let (_, status) = run(alloc, &row.to, row.words, &mut printed, &mut told);
     assert!(end; status == row.status);
     is_text(end, told.as_slice(), row.told);
     let is_worked = printed.as_slice() == b"worked\n".as_slice();

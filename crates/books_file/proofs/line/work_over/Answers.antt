@@ -1,3 +1,7 @@
+use Rattle.std.proofs.Common.{inl, inr, refl, ap, Err}
+use Rattle.sqlite.specs.Files.{over_files}
+use Rattle.tables.specs.declared.opening.Leftover.TheVariants.{Connection}
+use Rattle.service.proofs.Failing.{clean_before}
 use Rattle.books_file.proofs.line.work_over.Goals as goal
 
 pub returns-in-Ok-close_files-clause-done : goal.returns-in-Ok-close_files-clause-done
@@ -7,8 +11,58 @@ returns-in-Ok-close_files-clause-done g c =
     record {
       opened = c.in-Ok.conn;
       closed = c.in-Ok-do_work.conn;
-      found = λ clean. (first.opened (then.clean clean), first.found (then.clean clean));
-      worked = then.worked;
-      told = then.told;
+      done = record {
+        found = λ clean. (first.opened (then.clean clean), first.found (then.clean clean));
+        judged = then.judged;
+        worked = then.worked;
+        told = then.told;
+      };
       copied = c.in-Ok-close_files.ensures.copied;
     }
+
+pub returns-in-Ok-do_work-clause-done : goal.returns-in-Ok-do_work-clause-done
+returns-in-Ok-do_work-clause-done g c =
+    let first = c.in-Ok.ensures in
+    let then = c.in-Ok-do_work.ensures in
+    record {
+      opened = c.in-Ok.conn;
+      left = Connection c.in-Ok-do_work.conn;
+      how = inr (
+          record {
+            closed = c.in-Ok-do_work.conn;
+            is = refl;
+            work_end = c.in-Ok-do_work.end;
+            done = record {
+              found = λ clean. (first.opened (then.clean clean), first.found (then.clean clean));
+              judged = then.judged;
+              worked = then.worked;
+              told = then.told;
+            };
+            ended = ap Err c.closing_fault.ensures;
+          }
+          );
+      is_store = c.in-Err-close_files.ensures.err.0.quiet;
+    }
+
+pub returns-in-Ok-clause-done : goal.returns-in-Ok-clause-done
+returns-in-Ok-clause-done g c =
+    let first = c.in-Ok.ensures in
+    let then = c.in-Err-do_work.ensures in
+    record {
+      opened = c.in-Ok.conn;
+      left = c.in-Err-do_work.left;
+      how = inl (
+          record {
+            fault = c.in-Err-do_work.fault;
+            ended = refl;
+            found = λ clean. let was = clean_before over_files c.in-Ok.conn c.args.work.now c.in-Err-do_work.left c.in-Err-do_work.fault then.left clean in (first.opened was, first.found was);
+            judged = then.judged;
+            idle = then.left;
+            silent = (ap g.W.Write.contents (then.silent refl), ap g.L.Write.contents (then.unlogged refl));
+          }
+          );
+      is_store = c.store_of.ensures;
+    }
+
+pub returns-clause-done : goal.returns-clause-done
+returns-clause-done g c = (inl refl, refl, refl)

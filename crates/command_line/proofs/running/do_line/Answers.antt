@@ -1,10 +1,18 @@
-use Rattle.std.proofs.Common.{inl, inr}
-use Rattle.command_line.proofs.Ending.{told_io}
+use Rattle.std.proofs.Common.{inr}
+use Rattle.command_line.specs.Ends.{IsEndOf}
+use Rattle.command_line.proofs.Ending.{flushed}
 use Rattle.command_line.proofs.running.do_line.Goals as goal
 
-pub returns-in_err-flush : goal.returns-in_err-flush
-returns-in_err-flush g c =
-    inr (c.in_ok-line.line, g.W.Write.contents c.end_line.new.out, c.flush.ensures.bytes, inr (c.in_ok-end_line.field-0, c.in_ok-end_line.ensures, told_io c.from_residual-in_err-flush.result c.from_residual-in_err-flush.ensures))
-
-pub returns : goal.returns
-returns g c = inr (c.in_ok-line.line, g.W.Write.contents c.end_line.new.out, c.flush.ensures.bytes, inl c.in_ok-end_line.ensures)
+pub returns-in-Ok : goal.returns-in-Ok
+returns-in-Ok g c =
+    let out = g.W.Write.contents in
+    let log = g.L.Write.contents in
+    let done = c.end_line-left in
+    let flush = c.flush_done in
+    inr (
+      c.in-Ok.line,
+      out done.new.out,
+      flush.ensures.kept,
+      flushed (λ e. IsEndOf (g.B.BooksAt.ends c.args.books) (out c.args.out.now) (out done.new.out) (log c.args.log.now) (log done.new.log) c.in-Ok.line e done.result.0)
+          done.result.1 flush.result flush.ensures.fault flush.ensures.done done.ensures,
+    )

@@ -1,9 +1,10 @@
 use Rattle.std.proofs.Common.{◌≡◌, false, sym, subst}
-use Rattle.std.specs.Prelude.{IfOk}
+use Rattle.std.specs.Prelude.{IfOk, IfErr}
 use Rattle.std.proofs.lemmas.Result.{IfOk-weaker}
 use Rattle.sqlite.specs.Held.{state}
 use Rattle.sqlite.specs.State.{HasCleanDisk}
 use Rattle.service.specs.Serving.{IsWorked, IsTold, IsJudged, is_logged}
+use Rattle.service.specs.Failing.{IsNotBegun}
 use Rattle.service.proofs.books_lines.do_work.Goals as goal
 
 pub returns-in-Make-clause-judged : goal.returns-in-Make-clause-judged
@@ -101,3 +102,24 @@ returns-in-Audit-clause-told g c =
     let at = g.W.Write.contents in
     subst (λ work. IfOk c.audit_books.result (λ w. HasCleanDisk (state g.S.Store w.0) → IsTold g.S.Store (g.F.FilesAt.bytes c.args.files.now) c.args.conn work (at c.args.out.now) (at c.audit_books.new.out) w.1 w.0))
     (sym c.in-Audit.is) c.audit_books.ensures.told
+
+pub returns-in-Make-clause-left : goal.returns-in-Make-clause-left
+returns-in-Make-clause-left g c = subst (λ w. IfErr c.make_books.result (λ e. IsNotBegun g.S.Store c.args.conn w e.0 e.1)) (sym c.in-Make.is) c.make_books.ensures.left
+
+pub returns-in-Serve-clause-left : goal.returns-in-Serve-clause-left
+returns-in-Serve-clause-left g c = subst (λ w. IfErr c.open_and_serve.result (λ e. IsNotBegun g.S.Store c.args.conn w e.0 e.1)) (sym c.in-Serve.is) c.open_and_serve.ensures.left
+
+pub returns-in-Import-clause-left : goal.returns-in-Import-clause-left
+returns-in-Import-clause-left g c = subst (λ w. IfErr c.open_and_import.result (λ e. IsNotBegun g.S.Store c.args.conn w e.0 e.1)) (sym c.in-Import.is) c.open_and_import.ensures.left
+
+pub returns-in-Card-clause-left : goal.returns-in-Card-clause-left
+returns-in-Card-clause-left g c = subst (λ w. IfErr c.open_and_print.result (λ e. IsNotBegun g.S.Store c.args.conn w e.0 e.1)) (sym c.in-Card.is) c.open_and_print.ensures.left
+
+pub returns-in-Notice-clause-left : goal.returns-in-Notice-clause-left
+returns-in-Notice-clause-left g c = subst (λ w. IfErr c.open_and_print-in-Notice.result (λ e. IsNotBegun g.S.Store c.args.conn w e.0 e.1)) (sym c.in-Notice.is) c.open_and_print-in-Notice.ensures.left
+
+pub returns-in-History-clause-left : goal.returns-in-History-clause-left
+returns-in-History-clause-left g c = subst (λ w. IfErr c.open_and_print_acts.result (λ e. IsNotBegun g.S.Store c.args.conn w e.0 e.1)) (sym c.in-History.is) c.open_and_print_acts.ensures.left
+
+pub returns-in-Audit-clause-left : goal.returns-in-Audit-clause-left
+returns-in-Audit-clause-left g c = subst (λ w. IfErr c.audit_books.result (λ e. IsNotBegun g.S.Store c.args.conn w e.0 e.1)) (sym c.in-Audit.is) c.audit_books.ensures.failed
