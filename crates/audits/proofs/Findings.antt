@@ -1,16 +1,18 @@
 -- What follows of what was compared.
 use Rattle.std.proofs.Common.{◌≡◌, ◌≢◌, ℕ, List, [], ◌∷◌, ◌++◌, take, drop, length, find, Option, Some, None, Result, Ok, Err, IfOk, inl, inr, refl, sym, ap, subst, ◌∙◌, arith}
-use Rattle.std.specs.Prelude.{ℤ, reverse, option_map}
+use Rattle.std.specs.Prelude.{◌⊎◌, ℤ, reverse, option_map, IfErr}
 use Rattle.std.proofs.lemmas.Option.{same_Some, none-some}
-use Rattle.std.proofs.lemmas.List.{length-reverse}
+use Rattle.std.proofs.lemmas.List.{length-reverse, reverse-reverse}
 use Rattle.std.proofs.Math.Seq.{take-append_seam}
 use Rattle.sqlite.specs.State.{State}
 use Rattle.sqlite.specs.Tree.{Trees}
 use Rattle.values.specs.Values.{same_text}
+use Rattle.commands.specs.declared.refusal.Refusal.{Refusal}
 use Rattle.commands.specs.declared.rows.MetaRow.{MetaRow}
 use Rattle.commands.specs.declared.rows.CardRow.{CardRow}
 use Rattle.commands.specs.declared.rows.RepeatRow.{RepeatRow}
 use Rattle.table_words.specs.Typed.{tables_in, Keeps, same_repeat, repeat_key}
+use Rattle.table_words.proofs.CallLemmas.{if_err}
 use Rattle.machine.specs.Acts.{Act}
 use Rattle.machine.specs.Once.{IsHistory}
 use Rattle.machine.specs.Tables.{Tables, tables_of, repeat_row}
@@ -19,21 +21,24 @@ use Rattle.same_rows.specs.declared.key.RowKey.{RowKey}
 use Rattle.same_rows.specs.declared.key.TableName.{TableName}
 use Rattle.same_rows.specs.Differing.{RowDiffers, rule_called}
 use Rattle.same_rows.specs.Same.{FindAlike}
-use Rattle.replays.specs.Replaying.{Spell}
+use Rattle.replays.specs.Replaying.{Spell, BreakUnspelled, BreakRefused}
 use Rattle.replays.specs.Spelled.{AreNewestFirst, AreRepeats, IsUnnumbered}
-use Rattle.replays.specs.Starting.{start_of, first_day, Tell}
+use Rattle.replays.specs.Starting.{start_of, first_day, Tell, TellFirst}
 use Rattle.replays.specs.declared.start.Start.{Start}
 use Rattle.replays.specs.declared.start.Start.TheVariants.{Received, Opened}
-use Rattle.replays.proofs.Spelled.{spelled, no_other, none_spelled}
+use Rattle.replays.proofs.RowSteps.{none_unspelled, none_refused}
+use Rattle.replays.proofs.Spelled.{one_order, spelled, no_other, none_spelled}
 use Rattle.replays.proofs.FirstDay.{first_day_told}
 use Rattle.replays.proofs.EarlierDays.{told_day_stands}
+use Rattle.store.specs.declared.fault.Fault.{Fault}
+use Rattle.store.specs.declared.fault.Fault.TheVariants.{Store, Foreign}
 use Rattle.audits.specs.declared.finding.Unread.{Unread}
 use Rattle.audits.specs.declared.finding.Unread.TheVariants as unread
 use Rattle.audits.specs.declared.finding.Finding.{Finding}
 use Rattle.audits.specs.declared.finding.Finding.TheVariants.{Sound, Differs, Untyped, Unnumbered, Unspelled, Refused}
 use Rattle.audits.specs.Comparing.{SameTables, AreSeen, Tells, IsUnread}
 use Rattle.audits.specs.Beginning.{IsUntold}
-use Rattle.audits.specs.Auditing.{IsHeld, AreOfNone, SaysIn, told_unread}
+use Rattle.audits.specs.Auditing.{IsHeld, AreOfNone, IsBegunOn, AreBroken, SaysIn, told_unread}
 use Rattle.audits.proofs.Tables.{same_tables, typed_tables, keeps_called, two_tables}
 
 -- ---- tables compared with those of books of the acts
@@ -99,19 +104,28 @@ module _ (day : ℤ) (trees : Trees) (rows : List RepeatRow) (repeats : AreRepea
       }
   found_held acts count spells history all (Differs row) h = (
     from_given day trees (of_none_other acts row spells history h),
-    inl (record { rows = reverse rows; repeats = repeats; day = day; asked = refl; acts = acts; spelled = spells; history = history; differs = h }),
+    inl (record { rows = reverse rows; repeats = repeats; day = day; begun = refl; acts = acts; spelled = spells; history = history; differs = h }),
   )
   found_held acts count spells history all (Untyped name) h = says_untyped (Some day) trees name h
   found_held acts count spells history all (Unnumbered k) h = absurd h
   found_held acts count spells history all (Unspelled act) h = absurd h
   found_held acts count spells history all (Refused act why) h = absurd h
 
-  pub of_none_spelled : ((acts : List Act) → Spell (reverse rows) acts → ¬ IsHistory day acts) → AreOfNoneIn trees (Some day)
+  of_none_spelled : ((acts : List Act) → Spell (reverse rows) acts → ¬ IsHistory day acts) → AreOfNoneIn trees (Some day)
   of_none_spelled none = from_given day trees (λ others h are. none_spelled day (tables_in trees) (reverse rows) repeats none others h are.tables)
+
+  broken : (Break : ℤ → List RepeatRow → Type 0) → Break day (reverse rows) → AreBroken (Some day) (tables_in trees) Break
+  broken Break breaks = record { rows = reverse rows; repeats = repeats; day = day; begun = refl; breaks = breaks }
+
+  pub says_unspelled : (act : ℕ) → BreakUnspelled day (reverse rows) act → SaysIn trees (Some day) (Unspelled act)
+  says_unspelled act breaks = (of_none_spelled (none_unspelled day (reverse rows) act breaks), broken (λ day rows. BreakUnspelled day rows act) breaks)
+
+  pub says_refused : (act : ℕ) (why : Refusal) → BreakRefused day (reverse rows) act why → SaysIn trees (Some day) (Refused act why)
+  says_refused act why breaks = (of_none_spelled (none_refused day (reverse rows) act why breaks), broken (λ day rows. BreakRefused day rows act why) breaks)
 
 -- ---- the day that the tables tell
 
-module _ (trees : Trees) (rows : List RepeatRow) (repeats : AreRepeats (reverse rows) (tables_in trees)) (start : Option Start) (tell : Tell rows start) where
+module _ (trees : Trees) (rows : List RepeatRow) (repeats : AreRepeats (reverse rows) (tables_in trees)) (start : Option Start) (tell : Tell rows start) (first_told : TellFirst rows start) where
   start_is : (day : ℤ) (acts : List Act) → IsHistory day acts → ((k : List ℕ) → (tables_in trees).repeat k ≡ repeat_row day acts k) → start ≡ start_of acts
   start_is day acts h same = tell day acts h (spelled day acts (reverse rows) h repeats.order (λ k. repeats.found k ∙ same k))
 
@@ -119,7 +133,14 @@ module _ (trees : Trees) (rows : List RepeatRow) (repeats : AreRepeats (reverse 
   unfolding tables_of
   same_repeats day acts are k = ap (λ (t : Tables). t.repeat k) are.tables
 
+  -- the rows are those by which the table is looked up
+  told_by_these : (others : List RepeatRow) → AreRepeats others (tables_in trees) → TellFirst (reverse others) start
+  told_by_these others are = subst (λ rs. TellFirst rs start) (sym (reverse-reverse rows) ∙ ap reverse (one_order (tables_in trees) (reverse rows) others repeats are)) first_told
+
   module _ (day : ℤ) (told : first_day (tables_in trees) start ≡ Some day) where
+    begun_here : (others : List RepeatRow) (other : ℤ) → AreRepeats others (tables_in trees) → other ≡ day → IsBegunOn None others (tables_in trees) other
+    begun_here others other are is = (start, told_by_these others are, told ∙ ap (λ d. Some d) (sym is))
+
     tells : (first : ℤ) (acts : List Act) → IsHistory first acts → AreRowsOf first acts trees → first_day (tables_of first acts) (start_of acts) ≡ Some day
     tells first acts h are =
         subst (λ t. first_day t (start_of acts) ≡ Some day) are.tables
@@ -130,6 +151,9 @@ module _ (trees : Trees) (rows : List RepeatRow) (repeats : AreRepeats (reverse 
         let stands = told_day_stands first day acts h (tells first acts h are) in
         none day acts refl stands.0 (record { tables = are.tables ∙ stands.1; typed = are.typed })
 
+    begun_told : (Break : ℤ → List RepeatRow → Type 0) → AreBroken (Some day) (tables_in trees) Break → AreBroken None (tables_in trees) Break
+    begun_told Break b = record { rows = b.rows; repeats = b.repeats; day = b.day; begun = begun_here b.rows b.day b.repeats b.begun; breaks = b.breaks }
+
     -- what is found from that day is found from any
     pub says_told : (f : Finding) → SaysIn trees (Some day) f → SaysIn trees None f
     says_told (Sound n first) s =
@@ -137,14 +161,14 @@ module _ (trees : Trees) (rows : List RepeatRow) (repeats : AreRepeats (reverse 
     says_told (Differs row) s = (
       none_from_any s.0,
       elim s.1 [
-        | inl o ↦ inl (record { rows = o.rows; repeats = o.repeats; day = o.day; asked = tt; acts = o.acts; spelled = o.spelled; history = o.history; differs = o.differs })
+        | inl o ↦ inl (record { rows = o.rows; repeats = o.repeats; day = o.day; begun = begun_here o.rows o.day o.repeats o.begun; acts = o.acts; spelled = o.spelled; history = o.history; differs = o.differs })
         | inr m ↦ absurd (none-some day (sym m.none))
       ],
     )
     says_told (Untyped name) s = (none_from_any s.0, s.1)
     says_told (Unnumbered k) s = (none_from_any s.0, s.1)
-    says_told (Unspelled act) s = none_from_any s
-    says_told (Refused act why) s = none_from_any s
+    says_told (Unspelled act) s = (none_from_any s.0, begun_told (λ day rows. BreakUnspelled day rows act) s.1)
+    says_told (Refused act why) s = (none_from_any s.0, begun_told (λ day rows. BreakRefused day rows act why) s.1)
 
   -- a row that is missing differs from that of tables that tell a day
   lacks : (s : Option Start) (row : RowKey) (t u : Tables) → IsUntold t s row → first_day u s ≢ None → RowDiffers row t u
@@ -166,7 +190,7 @@ module _ (trees : Trees) (rows : List RepeatRow) (repeats : AreRepeats (reverse 
       let told = first_day_told day acts h (λ d opened. not_opened start row (tables_in trees) d un (is ∙ opened)) in
       none-some day (sym (sym (ap (first_day (tables_of day acts)) is ∙ told) ∙ none))) in (
         λ day acts asked h are. two_tables row (tables_in trees) (tables_of day acts) (differs day acts h (same_repeats day acts are)) are.tables,
-        inr (record { none = refl; differs = differs }),
+        inr (record { none = refl; rows = reverse rows; repeats = repeats; start = start; told = told_by_these (reverse rows) repeats; untold = un; differs = differs }),
       )
 
 -- ---- numbers that do not rise are of no acts
@@ -188,6 +212,18 @@ repeats_by_act t rows sorted found order alike = record { order = order; found =
 pub if_ok_then : {X E : Type 0} (r : Result X E) (P Q : X → Type 0) → ((x : X) → P x → Q x) → IfOk r P → IfOk r Q
 if_ok_then (Ok x) P Q f h = f x h
 if_ok_then (Err e) P Q f h = tt
+
+-- of a fault of memory or the disk
+pub never_of_store : {X : Type 0} (r : Result X Fault) (A : Type 0) → IfErr r (λ e. e ≡ Store) → IfErr r (λ e. e ≡ Foreign → A)
+never_of_store r A h = if_err r (λ e. e ≡ Store) (λ e. e ≡ Foreign → A) h (λ e is foreign. cc)
+
+pub either_of_store : {X : Type 0} (r : Result X Fault) → IfErr r (λ e. e ≡ Store) → IfErr r (λ e. (e ≡ Foreign) ⊎ (e ≡ Store))
+either_of_store r h = if_err r (λ e. e ≡ Store) (λ e. (e ≡ Foreign) ⊎ (e ≡ Store)) h (λ e is. inr is)
+
+pub store_left : {X : Type 0} (r : Result X Fault) (A : Type 0) → ¬ A → IfErr r (λ e. e ≡ Foreign → A) → IfErr r (λ e. (e ≡ Foreign) ⊎ (e ≡ Store)) → IfErr r (λ e. e ≡ Store)
+store_left (Ok x) A none f h = tt
+store_left (Err e) A none f (inl is) = absurd (none (f is))
+store_left (Err e) A none f (inr is) = is
 
 -- ---- rows that were put in order in place
 

@@ -1,33 +1,40 @@
 -- What older tables come to.
-use Rattle.std.proofs.Common.{◌≡◌, List, Option, Result, Ok, Err, inl, inr, sym, ap, subst}
-use Rattle.std.specs.Prelude.{ℤ, OnOk}
+use Rattle.std.proofs.Common.{◌≡◌, ◌≢◌, ℕ, true, refl, List, Some, None, Option, Result, Ok, Err, inl, inr, sym, ap, subst, ◌∙◌}
+use Rattle.std.specs.Prelude.{ℤ, OnOk, IfErr}
+use Rattle.sqlite_trees.specs.declared.store.Store.{Ghosts}
 use Rattle.sqlite.specs.Effect.{Database}
+use Rattle.sqlite.specs.Held.{Held, state}
 use Rattle.sqlite.specs.State.{State, IsUnchanged}
 use Rattle.sqlite.specs.Tree.{Trees}
 use Rattle.commands.specs.declared.rows.MetaRow.{MetaRow}
 use Rattle.table_words.specs.Steps.{IsReady, Goes}
-use Rattle.table_words.specs.Typed.{with_meta, AreTyped, AreTypedAt}
+use Rattle.table_words.specs.Typed.{tables_in, meta_at, with_meta, AreTyped, AreTypedAt}
+use Rattle.table_words.specs.declared.error.TableFault.{TableFault}
+use Rattle.table_words.specs.declared.error.TableFault.TheVariants.{Foreign}
+use Rattle.table_words.proofs.CallLemmas.{if_err}
 use Rattle.tables.specs.Bringing.{IsFilled}
-use Rattle.tables.specs.Settling.{HasRow, HasDayAt, Numbers}
+use Rattle.tables.specs.Settling.{HasRow, HasDayAt, IsRaised}
 use Rattle.tables.specs.declared.older.OlderBooks.{OlderBooks}
 use Rattle.tables.specs.declared.opening.Found.{Found}
 use Rattle.tables.specs.declared.opening.Found.TheVariants.{Newest, Older}
-use Rattle.tables.proofs.SettleLemmas.{raised_numbers}
+use Rattle.tables.specs.Opening.{IsReadyAs}
+use Rattle.tables.proofs.BringLemmas.{begins_older}
+use Rattle.tables.proofs.SettleLemmas.{day_of_row}
 use Rattle.machine.specs.Acts.{Act}
 use Rattle.machine.specs.Standing.{today}
 use Rattle.store.specs.Books.{AreRowsOf}
 use Rattle.store.specs.Opening.{AreRowsAt}
-use Rattle.store.proofs.OpenedBooks.{third_day, rows_come}
+use Rattle.store.proofs.OpenedBooks.{third_day, has_day, read_typed, rows_come}
 use Rattle.audits.specs.declared.finding.Finding.{Finding}
 use Rattle.audits.specs.declared.finding.Finding.TheVariants.{Sound, Differs, Untyped, Unnumbered, Unspelled, Refused}
-use Rattle.audits.specs.Raising.{AreShown}
+use Rattle.audits.specs.Raising.{IsBegunOver, AreShown, CannotBeRaised}
 use Rattle.audits.specs.Auditing.{AreOfNone, Says, SaysIn, IsFound}
 
 -- books that are not of schema 3 stay
 pub shown_still : (old new : State) → IsReady old.now → IsUnchanged old new → ((day : ℤ) → ¬ HasDayAt 3 old.now.trees day) → AreShown Newest old.now.trees new
 shown_still old new ready same none = record {
   ready = subst IsReady (sym same.0.now_is) ready;
-  are = inl (ap (λ (d : Database). d.trees) same.0.now_is);
+  are = inl (ap (λ (d : Database). d.trees) same.0.now_is, none);
   rows = λ day acts rows. subst (λ (d : Database). AreRowsOf day acts d.trees) (sym same.0.now_is) (elim rows [
     | inl newest ↦ newest
     | inr third ↦ absurd (none (today day acts) (third_day old.now.trees day acts third))
@@ -37,15 +44,38 @@ shown_still old new ready same none = record {
 -- those of schema 3 get the newest number
 pub shown_raised : (old mid new : State) (row : MetaRow) → HasRow 3 old.now.trees row → IsUnchanged old mid → Goes (with_meta row) mid new → (AreTypedAt 3 mid.now.trees → AreTyped new.now.trees) → AreShown Newest old.now.trees new
 shown_raised old mid new row has same goes typed =
-    let it : Numbers old new = raised_numbers old mid new row has same goes typed in
-    record { ready = it.ready; are = inr it.comes; rows = λ day acts. rows_come Newest old.now.trees new.now.trees day acts it.comes }
+    let it : IsRaised old.now.trees new.now.trees = record {
+      day = row.day;
+      has = day_of_row 3 old.now.trees row has;
+      tables = goes.tables ∙ ap (λ (d : Database). with_meta row (tables_in d.trees)) same.0.now_is ∙ ap (λ (m : Option MetaRow). record (tables_in old.now.trees) { meta = m }) (sym has.found);
+      typed = λ are. typed (subst (λ (d : Database). AreTypedAt 3 d.trees) (sym same.0.now_is) are);
+    } in
+    record { ready = goes.ready; are = inr it; rows = λ day acts. rows_come Newest old.now.trees new.now.trees day acts (inr it) }
+
+-- the row that was read is there
+pub raised_there : (r : Result (Unit {0}) TableFault) (old mid : State) (row : MetaRow) → IsUnchanged old mid → HasRow 3 old.now.trees row → IfErr r (λ e. e ≡ Foreign → (version : ℕ) → meta_at version mid.now.trees ≡ None)
+    → IfErr r (λ e. e ≢ Foreign)
+raised_there r old mid row same has h = if_err r (λ e. e ≡ Foreign → (version : ℕ) → meta_at version mid.now.trees ≡ None) (λ e. e ≢ Foreign) h
+    (λ e none is.
+    let there : Some row ≡ None = sym has.found ∙ ap (λ (d : Database). meta_at 3 d.trees) (sym same.0.now_is) ∙ none is 3 in
+    cc)
 
 pub shown_brought : (older : OlderBooks) (base : Trees) (new : State) → IsFilled older base new → AreShown (Older older) base new
 shown_brought older base new it = record {
   ready = it.written.ready;
-  are = inr it.written.brought;
+  are = it.written.brought;
   rows = λ day acts. rows_come (Older older) base new.now.trees day acts it.written.brought;
 }
+
+-- a transaction that was just begun over books
+pub begun_over : {S : Type 0} (g : Ghosts S) (old begun : Held S) (found : Found) → begun ≡ record old { in_transaction = true } → IsReadyAs found (state g old).now → IsBegunOver found (state g old).now.trees (state g begun)
+begun_over g old begun Newest is ready = rw is (ready, refl)
+begun_over g old begun (Older older) is ready = begins_older g old begun older is ready
+
+-- books of a history can be brought up
+pub raised_of_acts : (found : Found) (trees : Trees) (first : ℤ) (acts : List Act) → AreRowsAt found first acts trees → ¬ CannotBeRaised found trees
+raised_of_acts Newest trees first acts rows cannot = cannot
+raised_of_acts (Older older) trees first acts rows cannot = cannot (today first acts) (has_day (Older older) trees first acts rows) (read_typed (Older older) trees first acts rows)
 
 -- the same over a transaction that was begun
 pub shown_newest : (base : Trees) (old new : State) → old.now.trees ≡ base → AreShown Newest old.now.trees new → AreShown Newest base new
@@ -66,8 +96,8 @@ says_fewer P Q given trees so (Sound count day) s = s
 says_fewer P Q given trees so (Differs row) s = (fewer P Q given so s.0, s.1)
 says_fewer P Q given trees so (Untyped name) s = (fewer P Q given so s.0, s.1)
 says_fewer P Q given trees so (Unnumbered k) s = (fewer P Q given so s.0, s.1)
-says_fewer P Q given trees so (Unspelled act) s = fewer P Q given so s
-says_fewer P Q given trees so (Refused act why) s = fewer P Q given so s
+says_fewer P Q given trees so (Unspelled act) s = (fewer P Q given so s.0, s.1)
+says_fewer P Q given trees so (Refused act why) s = (fewer P Q given so s.0, s.1)
 
 pub found_shown : (found : Found) (given : Option ℤ) (base : Trees) (s : State) → AreShown found base s → (f : Finding) → SaysIn s.now.trees given f → IsFound found given base f
 found_shown found given base s shown f says = record {

@@ -1,5 +1,5 @@
 -- What an audit finds.
-use Rattle.std.specs.Prelude.{◌≡◌, ◌⊎◌, ◌≤◌, ⊤, ℕ, false, List, length, Option, Some, None, Result, Ok, Err, ℤ}
+use Rattle.std.specs.Prelude.{◌≡◌, ◌⊎◌, ◌≤◌, ⊤, ℕ, false, List, length, reverse, Option, Some, None, Result, Ok, Err, ℤ}
 use Rattle.sqlite.specs.Held.{Held, state}
 use Rattle.sqlite.specs.Tree.{Trees}
 use Rattle.sqlite.specs.State.{State, HasCleanDisk}
@@ -7,7 +7,7 @@ use Rattle.sqlite_trees.specs.declared.store.Store.{Ghosts}
 use Rattle.sqlite_trees.specs.View.{doubt}
 use Rattle.commands.specs.declared.rows.RepeatRow.{RepeatRow}
 use Rattle.table_words.specs.Typed.{tables_in, Keeps}
-use Rattle.tables.specs.Opening.{HasSchema, ComesTo, IsClosed}
+use Rattle.tables.specs.Opening.{HasSchema, IsClosed}
 use Rattle.tables.specs.declared.opening.Found.{Found}
 use Rattle.tables.specs.declared.opening.Leftover.{Leftover}
 use Rattle.tables.specs.declared.opening.Leftover.TheVariants as left
@@ -18,13 +18,16 @@ use Rattle.slices.specs.Books.{AreRowsOf, IsBooksOf}
 use Rattle.store.specs.Opening.{AreRowsAt}
 use Rattle.same_rows.specs.declared.key.RowKey.{RowKey}
 use Rattle.same_rows.specs.Differing.{RowDiffers, rule_called}
-use Rattle.replays.specs.Replaying.{Spell}
+use Rattle.replays.specs.Replaying.{Spell, BreakUnspelled, BreakRefused}
 use Rattle.replays.specs.Spelled.{AreRepeats, IsUnnumbered}
-use Rattle.replays.specs.Starting.{first_day, start_of}
+use Rattle.replays.specs.Starting.{first_day, start_of, TellFirst}
+use Rattle.replays.specs.declared.start.Start.{Start}
 use Rattle.replays.specs.declared.fault.NotReplayed.{NotReplayed}
 use Rattle.replays.specs.declared.fault.NotReplayed.TheVariants as fault
 use Rattle.store.specs.declared.fault.Fault.{Fault}
 use Rattle.store.specs.declared.fault.Fault.TheVariants.{Store}
+use Rattle.audits.specs.Beginning.{IsUntold}
+use Rattle.audits.specs.Raising.{AreNewest, CannotBeRaised}
 use Rattle.audits.specs.declared.finding.Unread.{Unread}
 use Rattle.audits.specs.declared.finding.Unread.TheVariants as unread
 use Rattle.audits.specs.declared.finding.Finding.{Finding}
@@ -37,10 +40,10 @@ pub record AreDone {S : Type 0} (g : Ghosts S) (day : ℤ) (rows : List RepeatRo
   pub history : IsHistory day acts
   pub books : IsBooksOf day acts (state g conn).now
 
--- they spell none; or memory did not suffice
+-- they break off; or memory did not suffice
 abbrev pub AreNone : ℤ → List RepeatRow → NotReplayed → Type 0
-AreNone day rows (fault.Unspelled act) = (acts : List Act) → Spell rows acts → ¬ IsHistory day acts
-AreNone day rows (fault.Refused act why) = (acts : List Act) → Spell rows acts → ¬ IsHistory day acts
+AreNone day rows (fault.Unspelled act) = BreakUnspelled day rows act
+AreNone day rows (fault.Refused act why) = BreakRefused day rows act why
 AreNone day rows fault.Store = Unit {0}
 AreNone day rows fault.Foreign = ⊥
 
@@ -70,6 +73,11 @@ abbrev pub IsTaken : Option ℤ → ℤ → List Act → Type 0
 IsTaken (Some given) day acts = day ≡ given
 IsTaken None day acts = first_day (tables_of day acts) (start_of acts) ≡ Some day
 
+-- the day that the acts of these rows are begun on, the newest first: the given one, or the one that they and the tables tell
+abbrev pub IsBegunOn : Option ℤ → List RepeatRow → Tables → ℤ → Type 0
+IsBegunOn (Some given) rows tables day = day ≡ given
+IsBegunOn None rows tables day = (start : Option Start) × TellFirst (reverse rows) start × (first_day tables start ≡ Some day)
+
 -- the rows are those of so many acts, begun on this day
 pub record IsSound (given : Option ℤ) (trees : Trees) (count : ℕ) (day : ℤ) : Type 0 where
   pub acts : List Act
@@ -82,21 +90,34 @@ pub record IsSound (given : Option ℤ) (trees : Trees) (count : ℕ) (day : ℤ
 abbrev pub AreOfNone : (ℤ → List Act → Type 0) → Option ℤ → Type 0
 AreOfNone AreOf given = (day : ℤ) (acts : List Act) → IsAsked given day → IsHistory day acts → ¬ AreOf day acts
 
--- `repeats` spells acts, begun on a day that is asked about, and this row is not the one that they give
+-- `repeats` spells acts, begun on that day, and this row is not the one that they give
 pub record IsOther (given : Option ℤ) (row : RowKey) (tables : Tables) : Type 0 where
   pub rows : List RepeatRow
   pub repeats : AreRepeats rows tables
   pub day : ℤ
-  pub asked : IsAsked given day
+  pub begun : IsBegunOn given rows tables day
   pub acts : List Act
   pub spelled : Spell rows acts
   pub history : IsHistory day acts
   pub differs : RowDiffers row tables (tables_of day acts)
 
--- no day is given, and this row would tell it, but there is none such: whatever acts have these rows of `repeats`, they give it
+-- no day is given, and this row would tell it, but is not there: whatever acts have these rows of `repeats`, they give it
 pub record IsMissing (given : Option ℤ) (row : RowKey) (tables : Tables) : Type 0 where
   pub none : given ≡ None
+  pub rows : List RepeatRow
+  pub repeats : AreRepeats rows tables
+  pub start : Option Start
+  pub told : TellFirst (reverse rows) start
+  pub untold : IsUntold tables start row
   pub differs : (day : ℤ) (acts : List Act) → IsHistory day acts → ((k : List ℕ) → tables.repeat k ≡ repeat_row day acts k) → RowDiffers row tables (tables_of day acts)
+
+-- the rows of `repeats` break off so, their acts begun on that day
+pub record AreBroken (given : Option ℤ) (tables : Tables) (Break : ℤ → List RepeatRow → Type 0) : Type 0 where
+  pub rows : List RepeatRow
+  pub repeats : AreRepeats rows tables
+  pub day : ℤ
+  pub begun : IsBegunOn given rows tables day
+  pub breaks : Break day rows
 
 -- what a finding says of these tables, and of the stored rows that they come of
 abbrev pub Says : (ℤ → List Act → Type 0) → Option ℤ → Trees → Finding → Type 0
@@ -104,17 +125,17 @@ Says AreOf given trees (Sound count day) = IsSound given trees count day
 Says AreOf given trees (Differs row) = AreOfNone AreOf given × (IsOther given row (tables_in trees) ⊎ IsMissing given row (tables_in trees))
 Says AreOf given trees (Untyped name) = AreOfNone AreOf given × ¬ Keeps trees (rule_called name)
 Says AreOf given trees (Unnumbered k) = AreOfNone AreOf given × IsUnnumbered (tables_in trees).repeat k
-Says AreOf given trees (Unspelled act) = AreOfNone AreOf given
-Says AreOf given trees (Refused act why) = AreOfNone AreOf given
+Says AreOf given trees (Unspelled act) = AreOfNone AreOf given × AreBroken given (tables_in trees) (λ day rows. BreakUnspelled day rows act)
+Says AreOf given trees (Refused act why) = AreOfNone AreOf given × AreBroken given (tables_in trees) (λ day rows. BreakRefused day rows act why)
 
 -- the same of tables that are stored so
 abbrev pub SaysIn : Trees → Option ℤ → Finding → Type 0
 SaysIn trees given f = Says (λ day acts. AreRowsOf day acts trees) given trees f
 
--- what is found of stored tables of these books: the tables that are compared are those, or the newest, which come of them
+-- what is found of stored tables of these books: those that are compared are the newest
 pub record IsFound (found : Found) (given : Option ℤ) (trees : Trees) (f : Finding) : Type 0 where
   pub compared : Trees
-  pub are : (compared ≡ trees) ⊎ ComesTo found trees compared
+  pub are : AreNewest found trees compared
   pub says : Says (λ day acts. AreRowsAt found day acts trees) given compared f
 
 -- the schema is that of some books, and so is found of what is committed
@@ -122,6 +143,14 @@ pub record IsFinding (given : Option ℤ) (old : State) (f : Finding) : Type 0 w
   pub found : Found
   pub schema : HasSchema found old.now.schema
   pub finding : IsFound found given old.committed.trees f
+
+-- What is not found
+
+-- the schema is an older one, and the tables cannot be brought up
+pub record AreNotRaised (old : State) : Type 0 where
+  pub found : Found
+  pub schema : HasSchema found old.now.schema
+  pub foreign : CannotBeRaised found old.committed.trees
 
 -- What is left
 

@@ -1,6 +1,6 @@
 //! The day that the acts began on, as the tables tell it.
 
-ghost use Rattle.std.specs.Prelude.{◌≡◌, true, find, option_map, Some, None, IfOk};
+ghost use Rattle.std.specs.Prelude.{◌≡◌, true, find, option_map, Some, None, IfOk, IfErr};
 ghost use Rattle.sqlite.specs.Held.{state};
 ghost use Rattle.sqlite.specs.State.{HasCleanDisk, Survives};
 ghost use Rattle.table_words.specs.Steps.{IsReady};
@@ -8,6 +8,7 @@ ghost use Rattle.table_words.specs.Typed.{same_card, card_key};
 ghost use Rattle.replays.specs.Starting.{day_before as day_before_lem};
 ghost use Rattle.replays.specs.declared.start.Start.TheVariants.{Received};
 ghost use Rattle.same_rows.specs.declared.key.RowKey.TheVariants as row;
+ghost use Rattle.store.specs.declared.fault.Fault.TheVariants.{Store as StoreFault};
 ghost use Rattle.audits.specs.Beginning.{day_or_missing, IsBegun};
 
 use commands::{CardRow, MetaRow};
@@ -62,6 +63,7 @@ fn meta_day(rows: &[MetaRow]) -> Begun
 fn day_of_books<S: Alter>(alloc: Global, tx: &mut Transaction<'_, S>) -> Result<Begun, Fault>
     ensures same_reference { tx.new.conn.ghost_name ≡ tx.old.conn.ghost_name }
     ensures begun { HasCleanDisk (state S.Store tx.new.conn.now) → IsReady (state S.Store tx.old.conn.now).now → IfOk result (IsBegun None (state S.Store tx.old.conn.now) (state S.Store tx.new.conn.now)) }
+    ensures fault { IfErr result (λ e. e ≡ StoreFault) }
     ensures survives { Survives (state S.Store tx.old.conn.now) (state S.Store tx.new.conn.now) (λ _. ⊥) }
 {
     match all_rows::<Meta, S>(alloc, tx) {
@@ -94,6 +96,7 @@ fn day_of_receipt<S: Alter>(
     ensures same_reference { tx.new.conn.ghost_name ≡ tx.old.conn.ghost_name }
     ensures begun { HasCleanDisk (state S.Store tx.new.conn.now) → IsReady (state S.Store tx.old.conn.now).now
         → IfOk result (IsBegun (Some (Received lot act)) (state S.Store tx.old.conn.now) (state S.Store tx.new.conn.now)) }
+    ensures fault { IfErr result (λ e. e ≡ StoreFault) }
     ensures survives { Survives (state S.Store tx.old.conn.now) (state S.Store tx.new.conn.now) (λ _. ⊥) }
 {
     match rows_by_halves::<Cards, S>(alloc, tx, middle) {
@@ -113,6 +116,7 @@ pub(crate) fn first_day<S: Alter>(
 ) -> Result<Begun, Fault>
     ensures same_reference { tx.new.conn.ghost_name ≡ tx.old.conn.ghost_name }
     ensures begun { HasCleanDisk (state S.Store tx.new.conn.now) → IsReady (state S.Store tx.old.conn.now).now → IfOk result (IsBegun start (state S.Store tx.old.conn.now) (state S.Store tx.new.conn.now)) }
+    ensures fault { IfErr result (λ e. e ≡ StoreFault) }
     ensures survives { Survives (state S.Store tx.old.conn.now) (state S.Store tx.new.conn.now) (λ _. ⊥) }
 {
     let Some(told) = start else {

@@ -1,12 +1,13 @@
 //! The newest tables, as those of older books come to them.
 
-ghost use Rattle.std.specs.Prelude.{◌≡◌, OnOk};
+ghost use Rattle.std.specs.Prelude.{◌≡◌, ◌≢◌, OnOk, IfErr};
 ghost use Rattle.sqlite.specs.Held.{state};
 ghost use Rattle.sqlite.specs.State.{HasCleanDisk, Survives};
 ghost use Rattle.sqlite.specs.Tree.{Trees};
 ghost use Rattle.table_words.specs.Steps.{IsReady};
+ghost use Rattle.table_words.specs.declared.error.TableFault.TheVariants.{Foreign as ForeignTable};
 ghost use Rattle.tables.specs.declared.opening.Found.TheVariants.{Newest};
-ghost use Rattle.audits.specs.Raising.{IsBegunOver, AreShown};
+ghost use Rattle.audits.specs.Raising.{IsBegunOver, AreShown, CannotBeRaised};
 
 use goods_tables::meta::raise_meta;
 use sqlite::{Alter, Transaction};
@@ -21,6 +22,7 @@ fn raise_number<S: Alter>(alloc: Global, tx: &mut Transaction<'_, S>) -> Result<
     ensures same_reference { tx.new.conn.ghost_name ≡ tx.old.conn.ghost_name }
     ensures shown { HasCleanDisk (state S.Store tx.new.conn.now) → IsReady (state S.Store tx.old.conn.now).now
         → OnOk result (AreShown Newest (state S.Store tx.old.conn.now).now.trees (state S.Store tx.new.conn.now)) }
+    ensures never_foreign { HasCleanDisk (state S.Store tx.new.conn.now) → IsReady (state S.Store tx.old.conn.now).now → IfErr result (λ e. e ≢ ForeignTable) }
     ensures survives { Survives (state S.Store tx.old.conn.now) (state S.Store tx.new.conn.now) (λ _. ⊥) }
 {
     match meta_row_at::<3, S>(alloc, tx) {
@@ -38,6 +40,7 @@ pub(crate) fn raise<S: Alter>(
 ) -> Result<(), TableFault>
     ensures same_reference { tx.new.conn.ghost_name ≡ tx.old.conn.ghost_name }
     ensures shown { HasCleanDisk (state S.Store tx.new.conn.now) → (base : Trees) → IsBegunOver found base (state S.Store tx.old.conn.now) → OnOk result (AreShown found base (state S.Store tx.new.conn.now)) }
+    ensures foreign { HasCleanDisk (state S.Store tx.new.conn.now) → (base : Trees) → IsBegunOver found base (state S.Store tx.old.conn.now) → IfErr result (λ e. e ≡ ForeignTable → CannotBeRaised found base) }
     ensures survives { Survives (state S.Store tx.old.conn.now) (state S.Store tx.new.conn.now) (λ _. ⊥) }
 {
     match found {

@@ -1,20 +1,23 @@
 //! An audit.
 
-ghost use Rattle.std.specs.Prelude.{◌≡◌, ℕ, ℤ, List, Some, None, false, IfOk, IsErr, reverse};
+ghost use Rattle.std.specs.Prelude.{◌≡◌, ◌⊎◌, ℕ, ℤ, List, Some, None, false, IfOk, IfErr, IsErr, reverse};
 ghost use Rattle.sqlite.specs.Held.{state};
 ghost use Rattle.sqlite.specs.State.{HasCleanDisk, Survives};
 ghost use Rattle.sqlite.specs.Tree.{Trees};
 ghost use Rattle.table_words.specs.Steps.{IsReady};
 ghost use Rattle.table_words.specs.Typed.{tables_in};
 ghost use Rattle.machine.specs.Acts.{Act};
+ghost use Rattle.machine.specs.Once.{IsHistory};
 ghost use Rattle.slices.specs.Books.{IsBooksOf};
-ghost use Rattle.store.specs.Opening.{IsCleanLeft};
+ghost use Rattle.store.specs.Opening.{IsCleanLeft, HasSchema, AreRowsAt};
+ghost use Rattle.store.specs.declared.fault.Fault.TheVariants.{Store as StoreFault, Foreign as ForeignFault};
 ghost use Rattle.history_tables.specs.Repeats.{repeats};
 ghost use Rattle.tables.specs.Opening.{IsOfNone, IsReadyAs};
+ghost use Rattle.tables.specs.declared.opening.Found.{Found as FoundBooks};
 ghost use Rattle.whole_tables.specs.Whole.{AreAll};
 ghost use Rattle.replays.specs.Spelled.{AreRepeats};
-ghost use Rattle.audits.specs.Raising.{IsBegunOver};
-ghost use Rattle.audits.specs.Auditing.{IsHeld, SaysIn, IsFound, IsFinding, IsLeftAlone, told_unread};
+ghost use Rattle.audits.specs.Raising.{IsBegunOver, CannotBeRaised};
+ghost use Rattle.audits.specs.Auditing.{IsHeld, SaysIn, IsFound, IsFinding, AreNotRaised, IsLeftAlone, told_unread};
 
 use crate::begun::{Begun, first_day};
 use crate::comparing::compare_tables;
@@ -33,7 +36,8 @@ use tables::opening::{Found, Leftover, Orderly, ready};
 
 /// What is found where tables were not read.
 fn tell_unread(unread: Unread) -> Result<Finding, Fault>
-    ensures { result ≡ told_unread unread }
+    ensures told { result ≡ told_unread unread }
+    ensures fault { IfErr result (λ e. e ≡ StoreFault) }
 {
     match unread {
         Unread::Untyped(name) => Ok(Finding::Untyped(name)),
@@ -53,6 +57,7 @@ fn hold_against<S: Alter, M: Honest + Drop>(
     ensures same_reference { tx.new.conn.ghost_name ≡ tx.old.conn.ghost_name }
     ensures held { HasCleanDisk (state S.Store tx.new.conn.now) → IsReady (state S.Store tx.old.conn.now).now → (done : List Act) → IsBooksOf day done (state M.Store again).now
         → IfOk result (IsHeld day done acts (state S.Store tx.old.conn.now).now.trees) }
+    ensures fault { IfErr result (λ e. e ≡ StoreFault) }
     ensures survives { Survives (state S.Store tx.old.conn.now) (state S.Store tx.new.conn.now) (λ _. ⊥) }
 {
     let mut again = again;
@@ -85,6 +90,7 @@ fn do_again<S: Alter, M: Honest + Drop, P: Progress>(
     ensures same_reference { tx.new.conn.ghost_name ≡ tx.old.conn.ghost_name }
     ensures found { HasCleanDisk (state S.Store tx.new.conn.now) → IsReady (state S.Store tx.old.conn.now).now → AreRepeats (reverse rows.items) (tables_in (state S.Store tx.old.conn.now).now.trees)
         → IfOk result (SaysIn (state S.Store tx.old.conn.now).now.trees (Some day)) }
+    ensures fault { IfErr result (λ e. e ≡ StoreFault) }
     ensures survives { Survives (state S.Store tx.old.conn.now) (state S.Store tx.new.conn.now) (λ _. ⊥) }
 {
     let acts = rows.as_slice().len();
@@ -93,8 +99,7 @@ fn do_again<S: Alter, M: Honest + Drop, P: Progress>(
         Ok(again) => hold_against(alloc, tx, again, acts, day),
         Err(NotReplayed::Unspelled { act }) => Ok(Finding::Unspelled { act }),
         Err(NotReplayed::Refused { act, why }) => Ok(Finding::Refused { act, why }),
-        Err(NotReplayed::Store) => Err(Fault::Store),
-        Err(NotReplayed::Foreign) => Err(Fault::Foreign),
+        Err(NotReplayed::Store | NotReplayed::Foreign) => Err(Fault::Store),
     }
 }
 
@@ -110,6 +115,7 @@ fn audit_told<S: Alter, M: Honest + Drop, P: Progress>(
     ensures same_reference { tx.new.conn.ghost_name ≡ tx.old.conn.ghost_name }
     ensures found { HasCleanDisk (state S.Store tx.new.conn.now) → IsReady (state S.Store tx.old.conn.now).now → AreRepeats (reverse rows.items) (tables_in (state S.Store tx.old.conn.now).now.trees)
         → IfOk result (SaysIn (state S.Store tx.old.conn.now).now.trees None) }
+    ensures fault { IfErr result (λ e. e ≡ StoreFault) }
     ensures survives { Survives (state S.Store tx.old.conn.now) (state S.Store tx.new.conn.now) (λ _. ⊥) }
 {
     let start = start_of(alloc, rows.as_slice())?;
@@ -134,6 +140,7 @@ fn audit_rows<S: Alter, M: Honest + Drop, P: Progress>(
     ensures same_reference { tx.new.conn.ghost_name ≡ tx.old.conn.ghost_name }
     ensures found { HasCleanDisk (state S.Store tx.new.conn.now) → IsReady (state S.Store tx.old.conn.now).now → AreAll repeats (tables_in (state S.Store tx.old.conn.now).now.trees) rows.items
         → IfOk result (SaysIn (state S.Store tx.old.conn.now).now.trees given) }
+    ensures fault { IfErr result (λ e. e ≡ StoreFault) }
     ensures survives { Survives (state S.Store tx.old.conn.now) (state S.Store tx.new.conn.now) (λ _. ⊥) }
 {
     if let Some(key) = by_act(&mut rows) {
@@ -157,6 +164,7 @@ fn audit_inside<S: Alter, M: Honest + Drop, P: Progress>(
     ensures same_reference { tx.new.conn.ghost_name ≡ tx.old.conn.ghost_name }
     ensures found { HasCleanDisk (state S.Store tx.new.conn.now) → IsReady (state S.Store tx.old.conn.now).now
         → IfOk result (SaysIn (state S.Store tx.old.conn.now).now.trees given) }
+    ensures fault { IfErr result (λ e. e ≡ StoreFault) }
     ensures survives { Survives (state S.Store tx.old.conn.now) (state S.Store tx.new.conn.now) (λ _. ⊥) }
 {
     match read_acts(alloc, tx) {
@@ -177,6 +185,8 @@ fn audit_raised<S: Alter, M: Honest + Drop, P: Progress>(
     requires { empty.in_transaction ≡ false }
     ensures same_reference { tx.new.conn.ghost_name ≡ tx.old.conn.ghost_name }
     ensures found { HasCleanDisk (state S.Store tx.new.conn.now) → (base : Trees) → IsBegunOver found base (state S.Store tx.old.conn.now) → IfOk result (IsFound found given base) }
+    ensures foreign { HasCleanDisk (state S.Store tx.new.conn.now) → (base : Trees) → IsBegunOver found base (state S.Store tx.old.conn.now) → IfErr result (λ e. e ≡ ForeignFault → CannotBeRaised found base) }
+    ensures fault { IfErr result (λ e. (e ≡ ForeignFault) ⊎ (e ≡ StoreFault)) }
     ensures survives { Survives (state S.Store tx.old.conn.now) (state S.Store tx.new.conn.now) (λ _. ⊥) }
 {
     match raise(alloc, tx, found) {
@@ -198,6 +208,8 @@ fn audit_open<S: Alter, M: Honest + Drop, P: Progress>(
     requires outside_too { empty.in_transaction ≡ false }
     ensures outside { conn.new.in_transaction ≡ false }
     ensures found { HasCleanDisk (state S.Store conn.new) → IsReadyAs found (state S.Store conn.old).now → IfOk result (IsFound found given (state S.Store conn.old).now.trees) }
+    ensures foreign { HasCleanDisk (state S.Store conn.new) → IsReadyAs found (state S.Store conn.old).now → IfErr result (λ e. e ≡ ForeignFault → CannotBeRaised found (state S.Store conn.old).now.trees) }
+    ensures fault { IfErr result (λ e. (e ≡ ForeignFault) ⊎ (e ≡ StoreFault)) }
     ensures survives { Survives (state S.Store conn.old) (state S.Store conn.new) (λ _. ⊥) }
 {
     let _outside = conn.is_autocommit();
@@ -219,6 +231,8 @@ fn audit_in_memory<S: Alter, P: Progress>(
     requires outside { conn.old.in_transaction ≡ false }
     ensures outside { conn.new.in_transaction ≡ false }
     ensures found { HasCleanDisk (state S.Store conn.new) → IsReadyAs found (state S.Store conn.old).now → IfOk result (IsFound found given (state S.Store conn.old).now.trees) }
+    ensures foreign { HasCleanDisk (state S.Store conn.new) → IsReadyAs found (state S.Store conn.old).now → IfErr result (λ e. e ≡ ForeignFault → CannotBeRaised found (state S.Store conn.old).now.trees) }
+    ensures fault { IfErr result (λ e. (e ≡ ForeignFault) ⊎ (e ≡ StoreFault)) }
     ensures survives { Survives (state S.Store conn.old) (state S.Store conn.new) (λ _. ⊥) }
 {
     match open_in_memory(alloc) {
@@ -233,7 +247,8 @@ fn audit_in_memory<S: Alter, P: Progress>(
 /// of the first receipt in its lot's card, where no act opens a day before it; or else the day before the first that was
 /// opened. Books of an older schema are compared as they would be brought up. `Sound` exactly where the tables are those of
 /// the acts, and else the first difference, as far as memory and the disk suffice. No row is changed, and nothing is
-/// committed. `Foreign` where the tables are not those of books, and where those of an older schema could not be brought up.
+/// committed. `Foreign` where the tables are not those of books, and where those of an older schema cannot be brought up: never
+/// on books of a history. `Store` where memory or the disk fails.
 pub fn audit<S: Orderly + Drop, P: Progress>(
     alloc: Global,
     conn: Connection<S>,
@@ -242,6 +257,10 @@ pub fn audit<S: Orderly + Drop, P: Progress>(
 ) -> (Leftover<S>, Result<Finding, Fault>)
     requires outside { conn.in_transaction ≡ false }
     ensures found { IsCleanLeft S.Store result.0 → IfOk result.1 (IsFinding given (state S.Store conn)) }
+    ensures foreign { IsCleanLeft S.Store result.0 → IfErr result.1 (λ e. e ≡ ForeignFault → IsOfNone (state S.Store conn).now.schema ⊎ AreNotRaised (state S.Store conn)) }
+    ensures known { IsCleanLeft S.Store result.0 → (found : FoundBooks) → HasSchema found (state S.Store conn).now.schema → (first : ℤ) (acts : List Act) → IsHistory first acts
+        → AreRowsAt found first acts (state S.Store conn).committed.trees → IfErr result.1 (λ e. e ≡ StoreFault) }
+    ensures fault { IfErr result.1 (λ e. (e ≡ ForeignFault) ⊎ (e ≡ StoreFault)) }
     ensures left { IsLeftAlone S.Store conn result.0 }
     ensures other { IsOfNone (state S.Store conn).now.schema → IsErr result.1 }
 {

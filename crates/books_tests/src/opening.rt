@@ -249,9 +249,7 @@ static INDEXES_MADE: [&[Step]; 2] = [
     &[
         Step::Make,
         Step::On(On::Gives(INDEX_NAMES, "reserved_by_gtin\nstaged_by_gtin\n")),
-        Step::On(On::Run(
-            "CREATE INDEX shiplines_of_lot ON shiplines (gtin, lot, number)",
-        )),
+        Step::On(On::Run("CREATE INDEX shiplines_of_lot ON shiplines (gtin, lot, number)")),
         Step::On(On::Run("DROP INDEX staged_by_gtin")),
         Step::Open,
         Step::On(On::Gives(

@@ -1,9 +1,8 @@
 -- An act within a transaction, and then the transaction's end.
-use Rattle.std.proofs.Common.{◌≡◌, inl, inr, true, false, List, Ok, Err, Result, refl, sym, ap, subst, ◌∙◌, IsTrue, arith}
+use Rattle.std.proofs.Common.{◌≡◌, true, false, List, Ok, Err, Result, OnOk, refl, sym, ap, subst, ◌∙◌, IsTrue, arith}
 use Rattle.std.specs.Prelude.{ℤ}
-use Rattle.std.specs.Result.{IsErr, IsErrAnd}
+use Rattle.std.specs.Result.{IsOk}
 use Rattle.sqlite.specs.State.{State, HasCleanDisk, Shows, KeepsCommit, IsRolledBack, Survives}
-use Rattle.sqlite.proofs.StateLemmas.{survives_then, survives_weaker}
 use Rattle.sqlite.specs.Steps.{FailsToCommit}
 use Rattle.sqlite.specs.Effect.{Database}
 use Rattle.sqlite.specs.Tree.{Trees}
@@ -11,7 +10,9 @@ use Rattle.sqlite.specs.Store.{Ghosts}
 use Rattle.sqlite.specs.Held.{Held, state}
 use Rattle.sqlite.specs.declared.error.Error.{Error}
 use Rattle.table_words.specs.Steps.{IsReady}
-use Rattle.table_words.proofs.CallLemmas.{put_back, inside_then, kept_undone, kept_unchanged}
+use Rattle.table_words.proofs.CallLemmas.{put_back}
+use Rattle.tables.specs.Ending.{Ends}
+use Rattle.tables.proofs.EndLemmas.{rolled_back, survives_of}
 use Rattle.tables.proofs.OpenLemmas.{ready_tells}
 use Rattle.machine.specs.Acts.{Act}
 use Rattle.machine.specs.Once.{IsHistory, is_key_of, acts_after}
@@ -21,7 +22,6 @@ use Rattle.store.specs.declared.fault.Fault.TheVariants.{Refused, Store, Foreign
 use Rattle.slices.specs.Books.{IsBooksOf}
 use Rattle.store.specs.Books.{AreBooks, KeepsBooks, LeavesOnly}
 use Rattle.store.specs.Acting.{IsActedOn, IsActedInside}
-use Rattle.store.proofs.FaultsTold.{by_error}
 
 module _ (first : ℤ) (acts : List Act) (old begun : State) (is : begun ≡ record old { in_transaction = true }) (held : KeepsBooks first acts old) where
   was_open : IsTrue begun.is_open → IsTrue old.is_open
@@ -54,8 +54,7 @@ module _ (first : ℤ) (acts : List Act) (old begun : State) (is : begun ≡ rec
 
   -- the commit fails
   pub not_committed : (last new : State) (e : Error) → KeepsCommit begun last → last.in_transaction ≡ begun.in_transaction → FailsToCommit last new e → KeepsBooks first acts new
-  not_committed last new e kept mode (inl fails) = undone_whole last new kept fails.3
-  not_committed last new e kept mode (inr late) = absurd (let inside : begun.in_transaction ≡ true = ap (λ (s : State). s.in_transaction) is in let out = late.1 in cc)
+  not_committed last new e kept mode fails = undone_whole last new kept (rolled_back last new e (mode ∙ ap (λ (s : State). s.in_transaction) is) fails)
 
   -- what is refused, and what fails, leaves the books
   refused_whole : (act : Act) (fault : Fault) (last new : State) → IsActedInside first acts act (Err fault) begun last → KeepsBooks first acts new → IsActedOn first acts act (Err fault) new
@@ -65,18 +64,6 @@ module _ (first : ℤ) (acts : List Act) (old begun : State) (is : begun ≡ rec
 
 pub begun_state : {S : Type 0} (g : Ghosts S) (old begun : Held S) → begun ≡ record old { in_transaction = true } → state g begun ≡ record (state g old) { in_transaction = true }
 begun_state g old begun is = ap (state g) is
-
--- to begin a transaction writes nothing
-pub begun_survives : (old begun : State) → begun ≡ record old { in_transaction = true } → Survives old begun (λ _. ⊥)
-begun_survives old begun is =
-    subst (λ (s : State). Survives old s (λ _. ⊥)) (sym is) (record {
-      clean = omega arith;
-      shield = λ h. h;
-      counts = omega arith;
-      limit = refl;
-      closes = λ _ up. inl up;
-      crash = λ _ db left. inl left;
-    })
 
 -- what the connection shows is what the next opening finds once it is committed
 pub books_in : {first : ℤ} {acts : List Act} (db : Database) → IsBooksOf first acts db → AreBooks first acts db.trees
@@ -103,46 +90,34 @@ SurvivesWhole act old new =
     → AreBooks first (acts_after first acts act) trees)
 
 module _ (act : Act) (old begun last new : State) (is : begun ≡ record old { in_transaction = true }) where
-  pub act_committed : (reply : Reply) → ActsInside act (Ok reply) begun last → Survives last new (λ db. db ≡ last.now.trees) → (HasCleanDisk new → Shows last new last.now last.now false) → ActsWhole act (Ok reply) old new
-  act_committed reply inside ends shows clean kind first acts history held =
-      let was : HasCleanDisk last = omega (arith, clean, ends.clean) in
-      acted_whole first acts old begun is held act reply last new (inside was kind first acts history (books_begun first acts old begun is held)) (shows clean)
-
-  pub act_not_committed : (reply : Reply) (e : Error) (r : Result Reply Fault) → ActsInside act (Ok reply) begun last → KeepsInside begun last → Survives last new (λ db. db ≡ last.now.trees)
-      → (HasCleanDisk new → FailsToCommit last new e) → IsErr r × IsErrAnd r (λ x. x ≡ Store) → ActsWhole act r old new
-  act_not_committed reply e r inside keeps ends fails told clean kind first acts history held =
-      let was : HasCleanDisk last = omega (arith, clean, ends.clean) in
+  pub act_finished : {Q : Trees → Type 0} (done r : Result Reply Fault) → ActsInside act done begun last → KeepsInside begun last → Survives last new Q → Ends (λ _ e. e ≡ Store) done r last new → ActsWhole act r old new
+  act_finished (Ok reply) (Ok same) inside keeps survives ends clean kind first acts history held =
+      let was : HasCleanDisk last = omega (arith, clean, survives.clean) in
       let done = inside was kind first acts history (books_begun first acts old begun is held) in
-      let kept : KeepsCommit begun last = keeps was (λ up. (books_begun first acts old begun is held up).ready) in
-      by_error r Store told (λ x. IsActedOn first acts act x new) (not_committed first acts old begun is held last new e kept done.2.mode (fails clean))
+      subst (λ (x : Reply). IsActedOn first acts act (Ok x) new) (sym ends.0) (acted_whole first acts old begun is held act reply last new done (ends.1 clean))
+  act_finished (Ok reply) (Err e) inside keeps survives ends clean kind first acts history held =
+      let was : HasCleanDisk last = omega (arith, clean, survives.clean) in
+      let books = books_begun first acts old begun is held in
+      let done = inside was kind first acts history books in
+      subst (λ (x : Fault). IsActedOn first acts act (Err x) new) (sym ends.1) (not_committed first acts old begun is held last new ends.0 (keeps was (λ up. (books up).ready)) done.2.mode (ends.2 clean))
+  act_finished (Err fault) r inside keeps survives ends clean kind first acts history held =
+      let was : HasCleanDisk last = omega (arith, clean, survives.clean) in
+      let books = books_begun first acts old begun is held in
+      subst (λ (x : Result Reply Fault). IsActedOn first acts act x new) (sym ends.0)
+      (refused_whole first acts old begun is held act fault last new (inside was kind first acts history books) (undone_whole first acts old begun is held last new (keeps was (λ up. (books up).ready)) (ends.1 clean)))
 
-  pub act_undone : (fault : Fault) (r : Result Reply Fault) → ActsInside act (Err fault) begun last → KeepsInside begun last → Survives last new (λ _. ⊥)
-      → (HasCleanDisk new → IsRolledBack last new) → IsErr r × IsErrAnd r (λ x. x ≡ fault) → ActsWhole act r old new
-  act_undone fault r inside keeps ends undone told clean kind first acts history held =
-      let was : HasCleanDisk last = omega (arith, clean, ends.clean) in
-      let done = inside was kind first acts history (books_begun first acts old begun is held) in
-      let kept : KeepsCommit begun last = keeps was (λ up. (books_begun first acts old begun is held up).ready) in
-      by_error r fault told (λ x. IsActedOn first acts act x new) (refused_whole first acts old begun is held act fault last new done (undone_whole first acts old begun is held last new kept (undone clean)))
+  -- a stop leaves the books before or with the whole act
+  pub act_stopped : (done : Result Reply Fault) → ActsInside act done begun last → Survives begun last (λ _. ⊥) → Survives last new (λ db. IsOk done × (db ≡ last.now.trees)) → SurvivesWhole act old new
+  act_stopped done inside before ends = survives_of done old begun last new _ is before ends (λ clean. by_answer done inside (let was : HasCleanDisk last = omega (arith, clean, ends.clean) in was))
+    where
+      by_answer : (done : Result Reply Fault) → ActsInside act done begun last → HasCleanDisk last → OnOk done (IsTrue (is_key_of act.key act.command) → (first : ℤ) (acts : List Act) → IsHistory first acts → KeepsBooks first acts old
+          → AreBooks first (acts_after first acts act) last.now.trees)
+      by_answer (Ok reply) inside was = λ kind first acts history held. books_in last.now (books_after first acts old begun is held act reply last (inside was kind first acts history (books_begun first acts old begun is held)))
+      by_answer (Err fault) inside was = tt
 
-  -- a stop in the commit leaves the books before or with the whole act
-  pub stop_in_commit : (reply : Reply) → ActsInside act (Ok reply) begun last → Survives begun last (λ _. ⊥) → Survives last new (λ db. db ≡ last.now.trees) → SurvivesWhole act old new
-  stop_in_commit reply inside before ends =
-      survives_then old last new (λ _. ⊥) (λ db. db ≡ last.now.trees) _ (λ _ db none. absurd none) (λ clean db e kind first acts history held.
-      let was : HasCleanDisk last = omega (arith, clean, ends.clean) in
-      subst (AreBooks first (acts_after first acts act)) (sym e) (books_in last.now (books_after first acts old begun is held act reply last (inside was kind first acts history (books_begun first acts old begun is held)))))
-      (inside_then old begun last (begun_survives old begun is) before) ends
-
-  -- a stop before it leaves the books before
-  pub stop_before_commit : Survives begun last (λ _. ⊥) → Survives last new (λ _. ⊥) → SurvivesWhole act old new
-  stop_before_commit before ends = survives_weaker old new (λ _. ⊥) _ (λ _ db none. absurd none) (inside_then old last new (inside_then old begun last (begun_survives old begun is) before) ends)
-
--- to begin a transaction commits nothing, nor does a commit that fails
+-- to begin a transaction commits nothing
 pub begun_commit : (old begun : State) → begun ≡ record old { in_transaction = true } → KeepsCommit old begun
 begun_commit old begun is = subst (λ (s : State). KeepsCommit old s) (sym is) (record { was_open = λ up. up; committed = λ up. refl })
-
-pub failed_commit_kept : (last new : State) (e : Error) → FailsToCommit last new e → KeepsCommit last new
-failed_commit_kept last new e (inl fails) = kept_undone last new fails.3
-failed_commit_kept last new e (inr late) = kept_unchanged last new late.2
 
 -- what was answered is kept: a crash leaves the last commit while the connection is open
 pub kept_acts : {S : Type 0} (g : Ghosts S) (h : Held S) (first : ℤ) (acts : List Act) → ((db : Trees) → IsTrue (g.view h.store).is_open → g.recovers h.store db → db ≡ (g.view h.store).committed)

@@ -1,16 +1,15 @@
 -- The rows of a file within a transaction, and then the transaction's end.
-use Rattle.std.proofs.Common.{◌≡◌, true, false, List, Ok, Err, Result, sym, subst, ◌∙◌, IsTrue, arith}
+use Rattle.std.proofs.Common.{◌≡◌, true, false, List, Ok, Err, Result, OnOk, sym, subst, ◌∙◌, IsTrue, arith}
 use Rattle.std.specs.Prelude.{ℤ}
-use Rattle.std.specs.Result.{IsErr, IsErrAnd}
-use Rattle.sqlite.specs.State.{State, HasCleanDisk, Shows, IsRolledBack, Survives}
-use Rattle.sqlite.proofs.StateLemmas.{survives_then, survives_weaker}
-use Rattle.sqlite.specs.Steps.{FailsToCommit}
+use Rattle.std.specs.Result.{IsErr, IsErrAnd, IsOk}
+use Rattle.sqlite.specs.State.{State, HasCleanDisk, Shows, Survives}
 use Rattle.sqlite.specs.Store.{Ghosts}
 use Rattle.sqlite.specs.Held.{Held, state}
-use Rattle.sqlite.specs.declared.error.Error.{Error}
-use Rattle.table_words.proofs.CallLemmas.{inside_then}
+use Rattle.sqlite.specs.Tree.{Trees}
 use Rattle.commands.specs.declared.key.Key.{Key}
 use Rattle.commands.specs.declared.command.Command.{Command}
+use Rattle.tables.specs.Ending.{Ends}
+use Rattle.tables.proofs.EndLemmas.{survives_of}
 use Rattle.machine.specs.Acts.{Act}
 use Rattle.machine.specs.Standing.{today}
 use Rattle.machine.specs.Once.{IsHistory, acts_after_file}
@@ -20,7 +19,7 @@ use Rattle.store.specs.Filing.{rows_of, AreKeysOf, IsFiledInside, IsFiledOn, IsF
 use Rattle.store.specs.declared.tally.RowFault.{RowFault}
 use Rattle.store.specs.declared.tally.RowFault.TheVariants.{Refused, Store, Foreign}
 use Rattle.store.specs.declared.filing.Filed.{Filed}
-use Rattle.store.proofs.ActsWhole.{KeepsInside, books_in, books_begun, undone_whole, not_committed, begun_survives}
+use Rattle.store.proofs.ActsWhole.{KeepsInside, books_in, books_begun, undone_whole, not_committed}
 
 pub by_row_error : {X : Type 0} (r : Result X RowFault) (f : RowFault) → IsErr r × IsErrAnd r (λ e. e ≡ f) → (P : Result X RowFault → Type 0) → P (Err f) → P r
 by_row_error (Ok x) f h P p = absurd (let no = h.0 in cc)
@@ -64,40 +63,30 @@ FileSurvives rows old new =
     → AreBooks first (acts_after_file first acts (rows_of rows)) trees)
 
 module _ (rows : List (Key × Command)) (day : ℤ) (old begun last new : State) (is : begun ≡ record old { in_transaction = true }) where
-  pub file_committed : (filed : Filed) → FilesInside rows day (Ok filed) begun last → Survives last new (λ db. db ≡ last.now.trees) → (HasCleanDisk new → Shows last new last.now last.now false)
-      → FilesWhole rows day (Ok filed) old new
-  file_committed filed inside ends shows clean keys first acts history held =
-      let was : HasCleanDisk last = omega (arith, clean, ends.clean) in
-      filed_whole first acts (rows_of rows) day old begun is history held filed last new (inside was keys first acts history (books_begun first acts old begun is held)) (shows clean)
-
-  pub file_not_committed : (filed : Filed) (e : Error) (r : Result Filed RowFault) → FilesInside rows day (Ok filed) begun last → KeepsInside begun last → Survives last new (λ db. db ≡ last.now.trees)
-      → (HasCleanDisk new → FailsToCommit last new e) → IsErr r × IsErrAnd r (λ x. x ≡ Store) → FilesWhole rows day r old new
-  file_not_committed filed e r inside keeps ends fails told clean keys first acts history held =
-      let was : HasCleanDisk last = omega (arith, clean, ends.clean) in
+  pub file_finished : {Q : Trees → Type 0} (done r : Result Filed RowFault) → FilesInside rows day done begun last → KeepsInside begun last → Survives last new Q → Ends (λ _ e. e ≡ Store) done r last new → FilesWhole rows day r old new
+  file_finished (Ok filed) (Ok same) inside keeps survives ends clean keys first acts history held =
+      let was : HasCleanDisk last = omega (arith, clean, survives.clean) in
+      let done = inside was keys first acts history (books_begun first acts old begun is held) in
+      subst (λ (x : Filed). IsFiledOn first acts (rows_of rows) day (Ok x) new) (sym ends.0) (filed_whole first acts (rows_of rows) day old begun is history held filed last new done (ends.1 clean))
+  file_finished (Ok filed) (Err e) inside keeps survives ends clean keys first acts history held =
+      let was : HasCleanDisk last = omega (arith, clean, survives.clean) in
       let books = books_begun first acts old begun is held in
       let done = inside was keys first acts history books in
-      by_row_error r Store told (λ x. IsFiledOn first acts (rows_of rows) day x new) (not_committed first acts old begun is held last new e (keeps was (λ up. (books up).ready)) done.1.mode (fails clean))
-
-  pub file_undone : (fault : RowFault) (r : Result Filed RowFault) → FilesInside rows day (Err fault) begun last → KeepsInside begun last → Survives last new (λ _. ⊥)
-      → (HasCleanDisk new → IsRolledBack last new) → IsErr r × IsErrAnd r (λ x. x ≡ fault) → FilesWhole rows day r old new
-  file_undone fault r inside keeps ends undone told clean keys first acts history held =
-      let was : HasCleanDisk last = omega (arith, clean, ends.clean) in
+      subst (λ (x : RowFault). IsFiledOn first acts (rows_of rows) day (Err x) new) (sym ends.1) (not_committed first acts old begun is held last new ends.0 (keeps was (λ up. (books up).ready)) done.1.mode (ends.2 clean))
+  file_finished (Err fault) r inside keeps survives ends clean keys first acts history held =
+      let was : HasCleanDisk last = omega (arith, clean, survives.clean) in
       let books = books_begun first acts old begun is held in
-      by_row_error r fault told (λ x. IsFiledOn first acts (rows_of rows) day x new)
-      (refused_file first acts (rows_of rows) day old begun is history held fault last new (inside was keys first acts history books) (undone_whole first acts old begun is held last new (keeps was (λ up. (books up).ready)) (undone clean)))
+      subst (λ (x : Result Filed RowFault). IsFiledOn first acts (rows_of rows) day x new) (sym ends.0)
+      (refused_file first acts (rows_of rows) day old begun is history held fault last new (inside was keys first acts history books) (undone_whole first acts old begun is held last new (keeps was (λ up. (books up).ready)) (ends.1 clean)))
 
-  -- a stop in the commit leaves the books before or with the whole file
-  pub stop_in_file_commit : (filed : Filed) → FilesInside rows day (Ok filed) begun last → Survives begun last (λ _. ⊥) → Survives last new (λ db. db ≡ last.now.trees) → FileSurvives rows old new
-  stop_in_file_commit filed inside before ends =
-      survives_then old last new (λ _. ⊥) (λ db. db ≡ last.now.trees) _ (λ _ db none. absurd none) (λ clean db e keys first acts history held.
-      let was : HasCleanDisk last = omega (arith, clean, ends.clean) in
-      let done = inside was keys first acts history (books_begun first acts old begun is held) in
-      subst (AreBooks first (acts_after_file first acts (rows_of rows))) (sym e) (books_in last.now done.1.books))
-      (inside_then old begun last (begun_survives old begun is) before) ends
-
-  -- a stop before it leaves the books before
-  pub stop_before_file_commit : Survives begun last (λ _. ⊥) → Survives last new (λ _. ⊥) → FileSurvives rows old new
-  stop_before_file_commit before ends = survives_weaker old new (λ _. ⊥) _ (λ _ db none. absurd none) (inside_then old last new (inside_then old begun last (begun_survives old begun is) before) ends)
+  -- a stop leaves the books before or with the whole file
+  pub file_stopped : (done : Result Filed RowFault) → FilesInside rows day done begun last → Survives begun last (λ _. ⊥) → Survives last new (λ db. IsOk done × (db ≡ last.now.trees)) → FileSurvives rows old new
+  file_stopped done inside before ends = survives_of done old begun last new _ is before ends (λ clean. by_answer done inside (let was : HasCleanDisk last = omega (arith, clean, ends.clean) in was))
+    where
+      by_answer : (done : Result Filed RowFault) → FilesInside rows day done begun last → HasCleanDisk last → OnOk done (AreKeysOf rows → (first : ℤ) (acts : List Act) → IsHistory first acts → KeepsBooks first acts old
+          → AreBooks first (acts_after_file first acts (rows_of rows)) last.now.trees)
+      by_answer (Ok filed) inside was = λ keys first acts history held. books_in last.now (inside was keys first acts history (books_begun first acts old begun is held)).1.books
+      by_answer (Err fault) inside was = tt
 
 -- the same of the books, which know their business day
 module _ {S : Type 0} (g : Ghosts S) (first : ℤ) (acts rows : List Act) (day : ℤ) where

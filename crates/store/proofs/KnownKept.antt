@@ -1,9 +1,8 @@
 -- What is known of the tables: after a call within a transaction, and at the transaction's end.
-use Rattle.std.proofs.Common.{◌≡◌, inl, inr, true, false, Ok, Err, Result, OnOk, OnErr, sym, ap, subst, ◌∙◌, IsTrue, arith}
+use Rattle.std.proofs.Common.{◌≡◌, true, false, Ok, Err, Result, OnOk, OnErr, sym, ap, subst, ◌∙◌, IsTrue, arith}
 use Rattle.std.specs.Prelude.{Option, Some, IfSome}
 use Rattle.std.specs.Result.{IsErr}
 use Rattle.sqlite.specs.State.{State, HasCleanDisk, Shows, KeepsCommit, IsUnchanged, IsRolledBack, Survives}
-use Rattle.sqlite.specs.Steps.{FailsToCommit}
 use Rattle.sqlite.specs.Effect.{Database}
 use Rattle.sqlite.specs.Tree.{Trees}
 use Rattle.sqlite.specs.declared.error.Error.{Error}
@@ -12,7 +11,9 @@ use Rattle.commands.specs.Tables.{Tables}
 use Rattle.commands.specs.declared.rows.RepeatRow.{RepeatRow}
 use Rattle.table_words.specs.Steps.{IsReady, Goes}
 use Rattle.table_words.specs.Typed.{tables_in, with_repeat}
-use Rattle.table_words.proofs.CallLemmas.{kept_then, kept_undone, on_err}
+use Rattle.table_words.proofs.CallLemmas.{kept_then}
+use Rattle.tables.specs.Ending.{Ends}
+use Rattle.tables.proofs.EndLemmas.{if_so, whole_of, undone_of, kept_of}
 use Rattle.row_rules.specs.declared.slice.Put.{Put}
 use Rattle.row_rules.specs.declared.slice.Change.{Change}
 use Rattle.changes.specs.Written.{change_written}
@@ -22,7 +23,7 @@ use Rattle.slices.specs.Slicing.{HoldsOf, Knows}
 use Rattle.slices.specs.declared.knowing.Known.{Known}
 use Rattle.store.specs.Books.{IsSettled}
 use Rattle.store.specs.Knowing.{HasKnown, IsKnown, GoesOnKnown, LeavesKnown}
-use Rattle.store.proofs.ActsWhole.{KeepsInside, begun_commit, failed_commit_kept}
+use Rattle.store.proofs.ActsWhole.{KeepsInside, begun_commit}
 use Rattle.store.proofs.HandedOn.{Stays, settled_back}
 use Rattle.store.proofs.LinesWritten.{covers_written, covers_urgent_written}
 use Rattle.store.proofs.BoundsWritten.{bounds_more, bounds_written}
@@ -97,6 +98,10 @@ known_written known after change row r old mid new same keeps keeps_urgent raise
 
 -- The transaction's end
 
+whichever : {X E P : Type 0} (r : Result X E) → OnOk r P → OnErr r P → P
+whichever (Ok x) p q = p
+whichever (Err e) p q = q
+
 module _ (old begun last new : State) (is : begun ≡ record old { in_transaction = true }) (before : Survives begun last (λ _. ⊥)) where
   clean_first : HasCleanDisk last → HasCleanDisk old
   clean_first clean =
@@ -120,60 +125,53 @@ module _ (old begun last new : State) (is : begun ≡ record old { in_transactio
       last_clean : HasCleanDisk new → HasCleanDisk last
       last_clean clean = omega (arith, clean, ends.clean)
 
-      -- it is committed
-      pub known_committed : (after : Option Known) → (HasCleanDisk last → (IsTrue begun.is_open → IsReady begun.now) → IsTrue begun.is_open × IsReady last.now × (last.in_transaction ≡ begun.in_transaction) × (HasKnown known begun → HasKnown after last))
-          → (HasCleanDisk new → Shows last new last.now last.now false) → IsKnown after new
-      known_committed after inside shown clean =
-          let was = last_clean clean in
-          let goes = inside was (ready_begun was) in
-          let shows = shown clean in (
-            record { ready = λ _. subst IsReady (sym shows.now_is) goes.1; settled = λ _. shows.committed_is ∙ sym shows.now_is },
-            λ _. subst (KnownIn after) (sym shows.now_is) (goes.3 (holds_begun was goes.0)),
-          )
-
-      -- it is undone
       kept_last : KeepsInside begun last → HasCleanDisk last → KeepsCommit old last
       kept_last keeps was = kept_then old begun last (begun_commit old begun is) (keeps was (ready_begun was))
 
-      pub settled_undone : KeepsInside begun last → (HasCleanDisk new → IsRolledBack last new) → HasCleanDisk new → IsSettled new
-      settled_undone keeps undone clean =
-          let was = last_clean clean in
-          settled_back old last new (is_known (clean_first was)).0 (kept_last keeps was) (undone clean)
+      module _ {X E : Type 0} (made : Error → E → Type 0) (done r : Result X E) (keeps : KeepsInside begun last) (ended : Ends made done r last new) where
+        -- it is undone, or the commit fails
+        pub kept_finished : HasCleanDisk new → OnErr r (KeepsCommit old new)
+        kept_finished clean = kept_of made done r last new ended clean (kept_then old last new (kept_last keeps (last_clean clean)))
 
-      pub kept_if_undone : {X E : Type 0} (r : Result X E) → KeepsInside begun last → (HasCleanDisk new → IsRolledBack last new) → HasCleanDisk new → OnErr r (KeepsCommit old new)
-      kept_if_undone r keeps undone clean = on_err r (kept_then old last new (kept_last keeps (last_clean clean)) (kept_undone last new (undone clean)))
+        module _ (after : Option Known) (goes : HasCleanDisk last → (IsTrue begun.is_open → IsReady begun.now) → GoesOnKnown known after done begun last) where
+          abbrev Went : Type 0
+          Went = IsTrue begun.is_open × IsReady last.now × (last.in_transaction ≡ begun.in_transaction) × (HasKnown known begun → HasKnown after last)
 
-      pub known_undone : (after : Option Known) → (HasCleanDisk last → (IsTrue begun.is_open → IsReady begun.now) → HasKnown known begun → HasKnown after begun) → KeepsInside begun last → (HasCleanDisk new → IsRolledBack last new) → IsKnown after new
-      known_undone after inside keeps undone clean =
-          let was = last_clean clean in
-          let kept = kept_last keeps was in
-          let back = undone clean in
-          let at = is_known (clean_first was) in (
-            settled_undone keeps undone clean,
-            λ up.
-                let first_up : IsTrue old.is_open = kept.was_open (back.was_open up) in
-                let shows : new.now ≡ old.now = (back.undone up).0 ∙ kept.committed (back.was_open up) ∙ at.0.settled first_up in
-                subst (KnownIn after) (sym shows) (subst (KnownIn after) now_is (inside was (ready_begun was) (subst (KnownIn known) (sym now_is) (at.1 first_up)))),
-          )
+          went_on : HasCleanDisk new → OnOk done Went
+          went_on clean = goes (last_clean clean) (ready_begun (last_clean clean))
 
-      -- the commit fails
-      rolled_back : (e : Error) → (HasCleanDisk last → (IsTrue begun.is_open → IsReady begun.now) → last.in_transaction ≡ begun.in_transaction) → (HasCleanDisk new → FailsToCommit last new e) → HasCleanDisk new → IsRolledBack last new
-      rolled_back e mode fails clean = by_failure (mode (last_clean clean) (ready_begun (last_clean clean))) (fails clean)
-        where
-          by_failure : last.in_transaction ≡ begun.in_transaction → FailsToCommit last new e → IsRolledBack last new
-          by_failure same (inl failed) = failed.3
-          by_failure same (inr late) = absurd (let inside : begun.in_transaction ≡ true = ap (λ (s : State). s.in_transaction) is in let out = late.1 in cc)
+          undone : {P : Type 0} → HasCleanDisk new → (IsRolledBack last new → P) → OnErr r P
+          undone clean f = undone_of made done r last new ended clean (λ (went : Went). went.2 ∙ ap (λ (s : State). s.in_transaction) is) f (went_on clean)
 
-      pub known_not_committed : (after : Option Known) (e : Error) → (HasCleanDisk last → (IsTrue begun.is_open → IsReady begun.now) → HasKnown known begun → HasKnown after begun)
-          → (HasCleanDisk last → (IsTrue begun.is_open → IsReady begun.now) → last.in_transaction ≡ begun.in_transaction) → KeepsInside begun last → (HasCleanDisk new → FailsToCommit last new e) → IsKnown after new
-      known_not_committed after e inside mode keeps fails = known_undone after inside keeps (rolled_back e mode fails)
+          settled_undone : HasCleanDisk new → IsRolledBack last new → IsSettled new
+          settled_undone clean back =
+              let was = last_clean clean in
+              settled_back old last new (is_known (clean_first was)).0 (kept_last keeps was) back
 
-      pub kept_if_not_committed : {X E : Type 0} (r : Result X E) (e : Error) → KeepsInside begun last → (HasCleanDisk new → FailsToCommit last new e) → HasCleanDisk new → OnErr r (KeepsCommit old new)
-      kept_if_not_committed r e keeps fails clean = on_err r (kept_then old last new (kept_last keeps (last_clean clean)) (failed_commit_kept last new e (fails clean)))
+          -- it is committed
+          known_committed : HasCleanDisk new → OnOk r (IsSettled new × (IsTrue new.is_open → HasKnown after new))
+          known_committed clean = whole_of made done r last new ended clean (λ (went : Went) (shows : Shows last new last.now last.now false). (
+            record { ready = λ _. subst IsReady (sym shows.now_is) went.1; settled = λ _. shows.committed_is ∙ sym shows.now_is },
+            λ _. subst (KnownIn after) (sym shows.now_is) (went.3 (holds_begun (last_clean clean) went.0)),
+          )) (went_on clean)
 
-      pub settled_not_committed : (e : Error) → (HasCleanDisk last → (IsTrue begun.is_open → IsReady begun.now) → last.in_transaction ≡ begun.in_transaction) → KeepsInside begun last → (HasCleanDisk new → FailsToCommit last new e)
-          → HasCleanDisk new → IsSettled new
-      settled_not_committed e mode keeps fails = settled_undone keeps (rolled_back e mode fails)
+          pub known_answered : OnOk r (IsKnown after new)
+          known_answered = if_so (IsSettled new × (IsTrue new.is_open → HasKnown after new)) r known_committed
+
+          pub settled_finished : HasCleanDisk new → IsSettled new
+          settled_finished clean = whichever r (ok_to r (λ (at : IsSettled new × (IsTrue new.is_open → HasKnown after new)). at.0) (known_committed clean)) (undone clean (settled_undone clean))
+
+          pub known_finished : (HasCleanDisk last → (IsTrue begun.is_open → IsReady begun.now) → HasKnown known begun → HasKnown after begun) → IsKnown after new
+          known_finished before clean = whichever r (known_committed clean) (undone clean (λ (back : IsRolledBack last new).
+              let was = last_clean clean in
+              let kept = kept_last keeps was in
+              let at = is_known (clean_first was) in (
+                settled_undone clean back,
+                λ up.
+                    let first_up : IsTrue old.is_open = kept.was_open (back.was_open up) in
+                    let shows : new.now ≡ old.now = (back.undone up).0 ∙ kept.committed (back.was_open up) ∙ at.0.settled first_up in
+                    subst (KnownIn after) (sym shows) (subst (KnownIn after) now_is (before was (ready_begun was) (subst (KnownIn known) (sym now_is) (at.1 first_up)))),
+              )))
 
 -- A look leaves what is known
 

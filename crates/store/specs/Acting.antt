@@ -1,5 +1,5 @@
 -- What an act answers, and what it leaves of the books.
-use Rattle.std.specs.Prelude.{◌≡◌, Bool, if◌then◌else◌, List, Some, None, Result, Ok, Err, ℤ, IsTrue}
+use Rattle.std.specs.Prelude.{◌≡◌, Bool, if◌then◌else◌, List, Some, Result, Ok, Err, ℤ, IsTrue}
 use Rattle.sqlite_trees.specs.declared.store.Store.{Ghosts}
 use Rattle.sqlite.specs.Held.{state}
 use Rattle.sqlite.specs.State.{State}
@@ -45,14 +45,7 @@ IsActedInside first acts act (Err (Refused why)) old new = once.Refused why ≡ 
 IsActedInside first acts act (Err Store) old new = Unit {0}
 IsActedInside first acts act (Err Foreign) old new = ⊥
 
--- a decision, with the faults of the books; there is no memory for it only where the rules refuse nothing
-abbrev pub IsDecided : ℤ → Act → List Act → Result Change Fault → Type 0
-IsDecided first act acts (Ok change) = IsDecision first act acts (Ok change)
-IsDecided first act acts (Err (Refused why)) = verdict first acts act.command ≡ Some why
-IsDecided first act acts (Err Store) = verdict first acts act.command ≡ None
-IsDecided first act acts (Err Foreign) = ⊥
-
--- the same where rows are read for it first, which memory and the disk may not suffice for
+-- a decision by rows that are read for it, with the faults of the books: memory and the disk may not suffice for them
 abbrev pub IsDecidedByRows : ℤ → Act → List Act → Result Change Fault → Type 0
 IsDecidedByRows first act acts (Ok change) = IsDecision first act acts (Ok change)
 IsDecidedByRows first act acts (Err (Refused why)) = verdict first acts act.command ≡ Some why

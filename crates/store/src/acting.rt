@@ -18,14 +18,15 @@ ghost use Rattle.store.specs.Knowing.{HasKnown, IsKnown, LeavesKnown};
 
 use crate::knowing::known_in;
 use crate::repeats::{act_under_key, find_open, keep_act};
-use crate::telling::{decide_anew, repeat_reply};
+use crate::telling::repeat_reply;
 use crate::{Fault, Reply};
 use changes::write_change;
 use commands::{Command, Key, Listed, spell};
-use rules::Change;
+use rules::{Change, decide};
 use slices::{Known, know_put, read_slice};
 use sqlite::{Alter, Connection, Transaction};
 use std::alloc::Global;
+use tables::ending::finish;
 
 /// Acts on the command under its key, in one transaction.
 ///
@@ -52,9 +53,8 @@ pub fn act_once<S: Alter>(
 {
     let _outside = conn.is_autocommit();
     let mut tx = conn.transaction();
-    let reply = act_inside(alloc, &mut tx, known, key, command)?;
-    tx.commit()?;
-    Ok(reply)
+    let reply = act_inside(alloc, &mut tx, known, key, command);
+    finish(tx, reply)
 }
 
 /// The act within its transaction.
@@ -173,10 +173,10 @@ fn change_of<S: Alter>(
     ensures survives { Survives (state S.Store tx.old.conn.now) (state S.Store tx.new.conn.now) (λ _. ⊥) }
 {
     let slice = read_slice(alloc, tx, known, command)?;
-    let change = decide_anew(alloc, &slice, key, command);
+    let change = decide(alloc, &slice, key, command);
     // (as `change` above)
     drop(slice);
-    change
+    change.map_err(Fault::from)
 }
 
 // Writes what an accepted command changes; the orders that it opens, and the items and bins that it makes, are known before.

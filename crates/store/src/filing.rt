@@ -22,6 +22,7 @@ use label::BusinessDay;
 use slices::Known;
 use sqlite::{Alter, Connection, Transaction};
 use std::alloc::Global;
+use tables::ending::finish;
 
 /// How far the rows of a file have come.
 #[derive(Clone, Copy)]
@@ -64,9 +65,8 @@ pub fn file_once<S: Alter>(
 {
     let _outside = conn.is_autocommit();
     let mut tx = conn.transaction();
-    let filed = file_inside(alloc, &mut tx, known, day, rows)?;
-    tx.commit()?;
-    Ok(filed)
+    let filed = file_inside(alloc, &mut tx, known, day, rows);
+    finish(tx, filed)
 }
 
 // The rows within their transaction.

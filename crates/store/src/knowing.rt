@@ -35,9 +35,6 @@ pub fn known_in<S: Alter>(
 {
     match known.take() {
         Some(found) => Ok(found),
-        None => match first_known(alloc, tx) {
-            Ok(found) => Ok(found),
-            Err(fault) => Err(Fault::from(fault)),
-        },
+        None => first_known(alloc, tx).map_err(Fault::from),
     }
 }

@@ -1,8 +1,9 @@
-use Rattle.std.proofs.Common.{OnOk, sym, subst}
+use Rattle.std.proofs.Common.{◌≡◌, ◌≢◌, OnOk, sym, subst}
 use Rattle.sqlite.specs.Held.{state}
-use Rattle.table_words.proofs.CallLemmas.{on_ok_then}
+use Rattle.table_words.specs.declared.error.TableFault.TheVariants.{Foreign}
+use Rattle.table_words.proofs.CallLemmas.{on_ok_then, if_err}
 use Rattle.tables.specs.declared.opening.Found.{Found}
-use Rattle.audits.specs.Raising.{IsBegunOver, AreShown}
+use Rattle.audits.specs.Raising.{IsBegunOver, AreShown, CannotBeRaised}
 use Rattle.audits.proofs.Raised.{shown_newest, shown_brought}
 use Rattle.audits.proofs.raising.raise.Goals as goal
 
@@ -19,3 +20,13 @@ returns-in-Ok-clause-shown g c = λ clean base begun.
     let n = state g.S.Store c.bring.new.tx.conn.now in
     let is = subst (λ (f : Found). IsBegunOver f base o) c.in-Older.is begun in
     subst (λ (f : Found). AreShown f base n) (sym c.in-Older.is) (shown_brought c.in-Older.older base n (c.in-Ok.ensures.done clean base is))
+
+pub returns-in-Newest-clause-foreign : goal.returns-in-Newest-clause-foreign
+returns-in-Newest-clause-foreign g c = λ clean base begun.
+    let is = subst (λ (f : Found). IsBegunOver f base (state g.S.Store c.args.tx.now.conn.now)) c.in-Newest.is begun in
+    if_err c.raise_number.result (λ e. e ≢ Foreign) (λ e. e ≡ Foreign → CannotBeRaised c.args.found base) (c.raise_number.ensures.never_foreign clean is.0) (λ e never foreign. absurd (never foreign))
+
+pub returns-in-Err-clause-foreign : goal.returns-in-Err-clause-foreign
+returns-in-Err-clause-foreign g c = λ clean base begun foreign.
+    let is = subst (λ (f : Found). IsBegunOver f base (state g.S.Store c.args.tx.now.conn.now)) c.in-Older.is begun in
+    subst (λ (f : Found). CannotBeRaised f base) (sym c.in-Older.is) (c.in-Err.ensures.foreign clean base is foreign)

@@ -2,7 +2,7 @@ use Rattle.std.proofs.Common.{sym, subst, arith}
 use Rattle.sqlite.specs.Held.{state}
 use Rattle.sqlite.specs.State.{HasCleanDisk}
 use Rattle.table_words.specs.Steps.{IsReady}
-use Rattle.audits.proofs.Raised.{shown_still, shown_raised, on_ok_both}
+use Rattle.audits.proofs.Raised.{shown_still, shown_raised, raised_there, on_ok_both}
 use Rattle.audits.proofs.raising.raise_number.Goals as goal
 
 pub returns-in-Ok-clause-shown : goal.returns-in-Ok-clause-shown
@@ -19,3 +19,12 @@ pub returns-in-Err-Foreign-clause-shown : goal.returns-in-Err-Foreign-clause-sho
 returns-in-Err-Foreign-clause-shown g c = λ clean ready.
     let none = c.in-Err-Foreign.ensures in
     shown_still (state g.S.Store c.args.tx.now.conn.now) (state g.S.Store c.meta_row_at.new.tx.conn.now) ready (none.still clean ready c.in-Err-Foreign.field-0-is) (none.foreign clean ready c.in-Err-Foreign.field-0-is)
+
+pub returns-in-Ok-clause-never_foreign : goal.returns-in-Ok-clause-never_foreign
+returns-in-Ok-clause-never_foreign g c = λ clean ready.
+    let old = state g.S.Store c.args.tx.now.conn.now in
+    let mid = state g.S.Store c.meta_row_at.new.tx.conn.now in
+    let was : HasCleanDisk mid = omega (arith, clean, c.raise_meta.ensures.survives.clean) in
+    let same = c.in-Ok.ensures.same was ready in
+    let again = subst IsReady (sym same.0.now_is) ready in
+    raised_there c.raise_meta.result old mid c.in-Ok.row same (c.in-Ok.ensures.row was ready) (c.raise_meta.ensures.foreign clean again)

@@ -1,10 +1,19 @@
-use Rattle.std.proofs.Common.{inl, inr, arith, subst}
+use Rattle.std.proofs.Common.{◌≡◌, inl, inr, arith, sym, subst, ◌∙◌}
+use Rattle.std.specs.Prelude.{◌⊎◌}
 use Rattle.sqlite.specs.Held.{state}
 use Rattle.sqlite.specs.State.{HasCleanDisk}
 use Rattle.sqlite.specs.Tree.{Trees}
-use Rattle.audits.specs.Auditing.{IsFound, IsFinding}
+use Rattle.table_words.proofs.CallLemmas.{if_err}
+use Rattle.tables.specs.Opening.{IsOfNone}
+use Rattle.tables.specs.declared.opening.Found.{Found}
+use Rattle.store.specs.Opening.{AreRowsAt}
+use Rattle.store.specs.declared.fault.Fault.TheVariants.{Foreign}
+use Rattle.store.proofs.OpenedBooks.{one_found, foreign_if, store_else, either_told}
+use Rattle.audits.specs.Raising.{CannotBeRaised}
+use Rattle.audits.specs.Auditing.{IsFound, IsFinding, AreNotRaised}
 use Rattle.audits.proofs.Telling.{earlier}
-use Rattle.audits.proofs.Findings.{if_ok_then}
+use Rattle.audits.proofs.Findings.{if_ok_then, store_left}
+use Rattle.audits.proofs.Raised.{raised_of_acts}
 use Rattle.audits.proofs.whole.audit.Goals as goal
 
 pub returns-clause-left : goal.returns-clause-left
@@ -32,6 +41,39 @@ returns-clause-found g c = λ clean.
     let before : HasCleanDisk again = earlier again new done.survives clean in
     if_ok_then c.audit_in_memory-finding.result (IsFound found c.args.given again.now.trees) (IsFinding c.args.given old)
     (λ f is. record { found = found; schema = was.found; finding = subst (λ (trees : Trees). IsFound found c.args.given trees f) (was.same before) is }) (done.found clean (was.ready before))
+
+pub returns-clause-foreign : goal.returns-clause-foreign
+returns-clause-foreign g c = λ clean.
+    let old = state g.S.Store c.args.conn in
+    let again = state g.S.Store c.in-Ok.opened.0 in
+    let found = c.in-Ok.opened.1 in
+    let was = c.in-Ok.ensures in
+    let done = c.audit_in_memory-finding.ensures in
+    let before : HasCleanDisk again = earlier again (state g.S.Store c.audit_in_memory-finding.new.conn) done.survives clean in
+    if_err c.audit_in_memory-finding.result (λ e. e ≡ Foreign → CannotBeRaised found again.now.trees) (λ e. e ≡ Foreign → IsOfNone old.now.schema ⊎ AreNotRaised old) (done.foreign clean (was.ready before))
+    (λ e cannot is. inr (record { found = found; schema = was.found; foreign = subst (CannotBeRaised found) (was.same before) (cannot is) }))
+
+pub returns-clause-known : goal.returns-clause-known
+returns-clause-known g c = λ clean at schema first acts history rows.
+    let old = state g.S.Store c.args.conn in
+    let again = state g.S.Store c.in-Ok.opened.0 in
+    let found = c.in-Ok.opened.1 in
+    let was = c.in-Ok.ensures in
+    let done = c.audit_in_memory-finding.ensures in
+    let before : HasCleanDisk again = earlier again (state g.S.Store c.audit_in_memory-finding.new.conn) done.survives clean in
+    let same : at ≡ found = one_found at found old.now.schema schema was.found in
+    let own : AreRowsAt found first acts again.now.trees =
+    subst (AreRowsAt found first acts) (sym (was.same before)) (subst (λ (f : Found). AreRowsAt f first acts old.committed.trees) same rows) in
+    store_left c.audit_in_memory-finding.result (CannotBeRaised found again.now.trees) (raised_of_acts found again.now.trees first acts own) (done.foreign clean (was.ready before)) done.fault
+
+pub returns-in-Err-clause-foreign : goal.returns-in-Err-clause-foreign
+returns-in-Err-clause-foreign g c = λ clean is. inl (c.in-Err.ensures.foreign (foreign_if c.in-Err.fault (sym c.from.ensures ∙ is)))
+
+pub returns-in-Err-clause-known : goal.returns-in-Err-clause-known
+returns-in-Err-clause-known g c = λ clean at schema first acts history rows. c.from.ensures ∙ store_else c.in-Err.fault (λ is. c.in-Err.ensures.foreign is at schema)
+
+pub returns-in-Err-clause-fault : goal.returns-in-Err-clause-fault
+returns-in-Err-clause-fault g c = either_told c.in-Err.fault c.from.result c.from.ensures
 
 pub returns-clause-other : goal.returns-clause-other
 returns-clause-other g c none = absurd (none c.in-Ok.opened.1 c.in-Ok.ensures.found)

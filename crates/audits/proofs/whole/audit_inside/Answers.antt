@@ -25,4 +25,4 @@ returns-in-Ok-clause-found g c = λ clean ready.
 pub returns-in-Err-clause-found : goal.returns-in-Err-clause-found
 returns-in-Err-clause-found g c = λ clean ready.
     let trees = (state g.S.Store c.args.tx.now.conn.now).now.trees in
-    subst (λ r. IfOk r (SaysIn trees c.args.given)) (sym c.tell_unread.ensures) (says_unread c.args.given trees c.in-Err.unread (c.in-Err.ensures.unread clean ready))
+    subst (λ r. IfOk r (SaysIn trees c.args.given)) (sym c.tell_unread.ensures.told) (says_unread c.args.given trees c.in-Err.unread (c.in-Err.ensures.unread clean ready))

@@ -5,7 +5,7 @@ use Rattle.sqlite.specs.State.{HasCleanDisk}
 use Rattle.table_words.specs.Steps.{IsReady}
 use Rattle.table_words.specs.Typed.{tables_in}
 use Rattle.replays.specs.Spelled.{AreRepeats}
-use Rattle.replays.specs.Starting.{Tell}
+use Rattle.replays.specs.Starting.{Tell, TellFirst}
 use Rattle.audits.specs.Beginning.{IsBegun}
 use Rattle.audits.specs.Auditing.{SaysIn}
 use Rattle.audits.proofs.Telling.{earlier}
@@ -24,7 +24,7 @@ returns-in-On-clause-found g c = λ clean ready repeats.
     let there : IsReady m.now = subst IsReady (sym is) ready in
     let rows = subst (λ (x : Database). AreRepeats (reverse c.args.rows.items) (tables_in x.trees)) (sym is) repeats in
     let says = subst (λ (x : Database). IfOk c.do_again.result (SaysIn x.trees (Some c.in-On.day))) is (c.do_again.ensures.found clean there rows) in
-    if_ok_then c.do_again.result (SaysIn o.now.trees (Some c.in-On.day)) (SaysIn o.now.trees None) (says_told o.now.trees c.args.rows.items repeats start (subst (λ rs. Tell rs start) c.as_slice.ensures.value c.in_ok-start.ensures) c.in-On.day begun.0) says
+    if_ok_then c.do_again.result (SaysIn o.now.trees (Some c.in-On.day)) (SaysIn o.now.trees None) (says_told o.now.trees c.args.rows.items repeats start (subst (λ rs. Tell rs start) c.as_slice.ensures.value c.in_ok-start.ensures.tell) (subst (λ rs. TellFirst rs start) c.as_slice.ensures.value c.in_ok-start.ensures.first) c.in-On.day begun.0) says
 
 pub returns-in-Missing-clause-found : goal.returns-in-Missing-clause-found
 returns-in-Missing-clause-found g c = λ clean ready repeats.
@@ -32,7 +32,7 @@ returns-in-Missing-clause-found g c = λ clean ready repeats.
     let m = state g.S.Store c.first_day.new.tx.conn.now in
     let start = c.in_ok-start.start in
     let begun = subst (IsBegun start o m) c.in-Missing.is (c.in_ok-day.ensures.begun clean ready) in
-    says_missing o.now.trees c.args.rows.items repeats start (subst (λ rs. Tell rs start) c.as_slice.ensures.value c.in_ok-start.ensures) c.in-Missing.row begun
+    says_missing o.now.trees c.args.rows.items repeats start (subst (λ rs. Tell rs start) c.as_slice.ensures.value c.in_ok-start.ensures.tell) (subst (λ rs. TellFirst rs start) c.as_slice.ensures.value c.in_ok-start.ensures.first) c.in-Missing.row begun
 
 pub returns-in-Untyped-clause-found : goal.returns-in-Untyped-clause-found
 returns-in-Untyped-clause-found g c = λ clean ready repeats.

@@ -1,10 +1,8 @@
-use Rattle.std.proofs.Common.{List, length, ap, subst}
+use Rattle.std.proofs.Common.{length, ap, subst}
 use Rattle.sqlite.specs.Held.{state}
-use Rattle.machine.specs.Acts.{Act}
-use Rattle.machine.specs.Once.{IsHistory}
-use Rattle.replays.specs.Replaying.{Spell}
+use Rattle.replays.specs.Replaying.{Spell, BreakUnspelled, BreakRefused}
 use Rattle.audits.specs.Auditing.{AreNone}
-use Rattle.audits.proofs.Findings.{found_held, of_none_spelled, if_ok_then}
+use Rattle.audits.proofs.Findings.{found_held, says_unspelled, says_refused, if_ok_then}
 use Rattle.audits.proofs.whole.do_again.Goals as goal
 
 pub returns-in-Ok-clause-found : goal.returns-in-Ok-clause-found
@@ -16,10 +14,12 @@ returns-in-Ok-clause-found g c = λ clean ready repeats.
 
 pub returns-in-Err-Unspelled-clause-found : goal.returns-in-Err-Unspelled-clause-found
 returns-in-Err-Unspelled-clause-found g c = λ clean ready repeats.
-    of_none_spelled c.args.day (state g.S.Store c.args.tx.now.conn.now).now.trees c.args.rows.items repeats
-    (subst (λ rs. (acts : List Act) → Spell rs acts → ¬ IsHistory c.args.day acts) c.reverse.ensures.items (subst (AreNone c.args.day c.reverse.new.self.items) c.in-Err-Unspelled.field-0-is c.in-Err-Unspelled.ensures.none))
+    rw c.in-Err-Unspelled.field-0-is
+    (says_unspelled c.args.day (state g.S.Store c.args.tx.now.conn.now).now.trees c.args.rows.items repeats c.in-Err-Unspelled.act
+    (subst (λ rs. BreakUnspelled c.args.day rs c.in-Err-Unspelled.act) c.reverse.ensures.items (subst (AreNone c.args.day c.reverse.new.self.items) c.in-Err-Unspelled.field-0-is c.in-Err-Unspelled.ensures.none)))
 
 pub returns-in-Err-Refused-clause-found : goal.returns-in-Err-Refused-clause-found
 returns-in-Err-Refused-clause-found g c = λ clean ready repeats.
-    of_none_spelled c.args.day (state g.S.Store c.args.tx.now.conn.now).now.trees c.args.rows.items repeats
-    (subst (λ rs. (acts : List Act) → Spell rs acts → ¬ IsHistory c.args.day acts) c.reverse.ensures.items (subst (AreNone c.args.day c.reverse.new.self.items) c.in-Err-Refused.field-0-is c.in-Err-Refused.ensures.none))
+    rw c.in-Err-Refused.field-0-is
+    (says_refused c.args.day (state g.S.Store c.args.tx.now.conn.now).now.trees c.args.rows.items repeats c.in-Err-Refused.act c.in-Err-Refused.why
+    (subst (λ rs. BreakRefused c.args.day rs c.in-Err-Refused.act c.in-Err-Refused.why) c.reverse.ensures.items (subst (AreNone c.args.day c.reverse.new.self.items) c.in-Err-Refused.field-0-is c.in-Err-Refused.ensures.none)))

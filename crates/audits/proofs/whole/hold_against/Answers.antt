@@ -37,4 +37,4 @@ returns-clause-held g c = λ clean ready done books.
     let shown : IsBooksOf c.args.day done b.now = subst (λ h. IsBooksOf c.args.day done (state g.M.Store h).now) (sym c.transaction-other.ensures.begun) books in
     let seen : AreSeen o n b d = record { clean = clean; clean_too = g.met.M.Honest.always_clean c.compare_tables-told.new.again.conn.now.store; ready = ready; ready_too = shown.ready } in
     let told : Tells SameTables o n b d (Err c.in-Err.unread) = subst (λ r. Tells SameTables o n b d r) c.in-Err.is c.compare_tables-told.ensures.tells in
-    subst (λ r. IfOk r (IsHeld c.args.day done c.args.acts o.now.trees)) (sym c.tell_unread.ensures) (held_unread c.args.day done c.args.acts o.now.trees c.in-Err.unread (held_untyped o n b d c.args.day done seen shown c.in-Err.unread told))
+    subst (λ r. IfOk r (IsHeld c.args.day done c.args.acts o.now.trees)) (sym c.tell_unread.ensures.told) (held_unread c.args.day done c.args.acts o.now.trees c.in-Err.unread (held_untyped o n b d c.args.day done seen shown c.in-Err.unread told))

@@ -15,4 +15,4 @@ returns-in_err-slice-clause-decided g c clean kind first acts history up books h
 pub returns-clause-decided : goal.returns-clause-decided
 returns-clause-decided g c clean kind first acts history up books holds fresh =
     let act : Act = record { key = c.args.key.now; command = c.args.command.now } in
-    decided_by_rows first act acts c.decide_anew-change.result (c.decide_anew-change.ensures first acts history kind fresh (c.in_ok-slice.ensures.read clean up first acts c.args.key.now history books holds))
+    decided_by_rows first act acts c.decide-change.result c.map_err.result c.map_err.ensures.cases (c.decide-change.ensures.decides first acts history kind fresh (c.in_ok-slice.ensures.read clean up first acts c.args.key.now history books holds))

@@ -1,0 +1,55 @@
+use crate::reading::ReadFault;
+use histories::HistoryFault;
+use std::alloc::AllocError;
+
+/// Why a line was not found to be that of an act of the books.
+#[derive(Clone, Copy, PartialEq, Eq, Debug)]
+pub enum LineFault {
+    /// Memory did not suffice.
+    Memory,
+    /// The input cannot be read.
+    Input,
+    /// A row is not of the act that comes next, or spells no command.
+    Foreign,
+    /// The line bears the number of this act, and is not its line.
+    Differs(u64),
+    /// The line bears another number than that of the act which comes next, or is longer than any line may be.
+    OutOfTurn,
+}
+
+impl From<AllocError> for LineFault {
+    ghost use Rattle.std.specs.Prelude.{◌≡◌};
+    ghost use Rattle.act_lines.specs.declared.fault.LineFault.TheVariants.{Memory};
+
+    ghost from_gives = { λ _ fault. fault ≡ Memory };
+
+    fn from(_: AllocError) -> LineFault {
+        LineFault::Memory
+    }
+}
+
+impl From<ReadFault> for LineFault {
+    ghost use Rattle.act_lines.specs.Known.{IsNoMisfit};
+
+    ghost from_gives = { λ _ fault. IsNoMisfit fault };
+
+    fn from(fault: ReadFault) -> LineFault {
+        match fault {
+            ReadFault::Memory => LineFault::Memory,
+            ReadFault::Input => LineFault::Input,
+        }
+    }
+}
+
+impl From<HistoryFault> for LineFault {
+    ghost use Rattle.act_lines.specs.Known.{IsNoMisfit};
+
+    ghost from_gives = { λ _ fault. IsNoMisfit fault };
+
+    fn from(fault: HistoryFault) -> LineFault {
+        match fault {
+            HistoryFault::Store => LineFault::Memory,
+            HistoryFault::Foreign | HistoryFault::Output => LineFault::Foreign,
+        }
+    }
+}
