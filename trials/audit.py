@@ -420,7 +420,7 @@ def read_back(db, new, schema=4, shuffled=False):
 
 def old_files():
     """The files of books of older schemas that the tests keep: a name, the bytes, and the count of their acts."""
-    with open(os.path.join(server.TOP, "crates/books_tests/src/old_bytes.rt")) as file:
+    with open(os.path.join(server.TOP, "crates/file_tests/src/old_bytes.rt")) as file:
         text = file.read()
     parts = {name: (int(size.replace("_", "")), re.findall(r'"([0-9a-f]+)"', lines))
              for name, size, lines in re.findall(r"static (\w+): OldFile = OldFile \{\s*size: ([\d_]+),\s*parts: &\[(.*?)\],\s*\}", text, re.S)}

@@ -1,5 +1,5 @@
 #!/bin/sh
-# Every request for memory refused. Tests of books_tests do a day's work over books in memory, and calls on books alone;
+# Every request for memory refused. Tests of file_tests do a day's work over books in memory, and calls on books alone;
 # tests of wire_tests make calls that need no books. Each is run once for each request for memory that is made within a call,
 # which is then refused. It compares each answer and the rows of each table itself: where the call had no memory everything
 # is as before, and the same call made again is answered as ever; else its answer and the rows are the ones of ever. Here the
@@ -16,7 +16,7 @@ cd "$(dirname "$0")"
 room=$(mktemp -d)
 trap 'rm -rf "$room"' EXIT
 
-for crate in wire_tests books_tests; do
+for crate in wire_tests file_tests; do
     echo "> build $crate, and run its tests without memory"
     (cd "../crates/$crate" && rt test -- without_memory >"$room/$crate.txt") || {
         tail -n 20 "$room/$crate.txt"

@@ -3,6 +3,7 @@ taken says so at once, before it reads its file. Needs the Rattle kit, and takes
 are, else 80; the rows are set by python's sqlite3.
 Exit status 0 only if each was told and answered as it must be.
 """
+import atexit
 import os
 import select
 import socket
@@ -41,8 +42,10 @@ def set_rows(db):
 
 
 def begun(db, at):
-    """A server that is just begun, for one connection."""
-    return subprocess.Popen([lotd, "serve", "--db", db, "--port", str(at), "--max", "1"], stdout=subprocess.PIPE, stderr=subprocess.PIPE)
+    """A server that is just begun, for one connection. It is gone where the trial ends before."""
+    process = subprocess.Popen([lotd, "serve", "--db", db, "--port", str(at), "--max", "1"], stdout=subprocess.PIPE, stderr=subprocess.PIPE)
+    atexit.register(process.kill)
+    return process
 
 
 def has_told(process):

@@ -42,15 +42,6 @@ pub(crate) static NO_REQUESTS: [(&str, &str); 8] = [
     ),
 ];
 
-// Two items and three bins.
-pub(crate) static GOODS_AND_BINS: &str = r#"
-POST /items {"key":"K-1","gtin":"09506000134352","name":"Oat drink"} => 200 {"act":1}
-POST /items {"key":"K-2","gtin":"04012345000016","name":"Rye bread"} => 200 {"act":2}
-POST /bins {"key":"K-3","bin":"A-01","kind":"STORE"} => 200 {"act":3}
-POST /bins {"key":"K-4","bin":"A-02","kind":"STORE"} => 200 {"act":4}
-POST /bins {"key":"K-5","bin":"Q-01","kind":"HOLD"} => 200 {"act":5}
-"#;
-
 // What is refused on these: a lot that is expired, and an order that nobody placed.
 pub(crate) static REFUSED: &str = r#"
 POST /receipts {"delivery":"D-0","line":1,"label":"01095060001343521777010110AB12","bin":"A-01","qty":10} => 409 {"code":"S02"}
@@ -72,21 +63,6 @@ GET /stock/09506000134352 => 200 {"gtin":"09506000134352","lots":[{"bins":[{"bin
 
 pub(crate) static STOCK_OF_THREE_LOTS: &str = r#"
 GET /stock/09506000134352 => 200 {"gtin":"09506000134352","lots":[{"bins":[{"bin":"A-01","qty":5}],"expiry":"2026-05-10","lot":"L0","reserved":5,"staged":0,"status":"FREE"},{"bins":[{"bin":"A-01","qty":10}],"expiry":"2026-05-31","lot":"L2","reserved":10,"staged":0,"status":"FREE"},{"bins":[{"bin":"A-01","qty":10}],"expiry":"2026-06-30","lot":"L1","reserved":9,"staged":0,"status":"FREE"}],"name":"Oat drink"}
-"#;
-
-// Two deliveries and two customers; the last receipt comes again, and then with another quantity.
-pub(crate) static TWO_CUSTOMERS: &str = r#"
-POST /receipts {"delivery":"D-1","line":1,"label":"01095060001343521726063010L1","bin":"A-01","qty":10} => 200 {"act":6}
-POST /receipts {"delivery":"D-1","line":2,"label":"01095060001343521726053110L2","bin":"A-01","qty":10} => 200 {"act":7}
-POST /orders {"key":"K-8","order":"S-1","customer":"Corner Shop","lines":[{"gtin":"09506000134352","qty":12}]} => 200 {"act":8,"short":0}
-GET /orders/S-1 => 200 {"class":"NORMAL","customer":"Corner Shop","lines":[{"gtin":"09506000134352","ordered":12,"reserved":[{"lot":"L2","qty":10},{"lot":"L1","qty":2}],"shipped":0,"short":0,"staged":[]}],"order":"S-1","state":"OPEN"}
-POST /orders {"key":"K-9","order":"S-2","customer":"Harbour Cafe","lines":[{"gtin":"09506000134352","qty":12}]} => 200 {"act":9,"short":4}
-GET /orders/S-2 => 200 {"class":"NORMAL","customer":"Harbour Cafe","lines":[{"gtin":"09506000134352","ordered":12,"reserved":[{"lot":"L1","qty":8}],"shipped":0,"short":4,"staged":[]}],"order":"S-2","state":"OPEN"}
-POST /receipts {"delivery":"D-2","line":1,"label":"01095060001343521726051010L0","bin":"A-01","qty":5} => 200 {"act":10}
-GET /orders/S-1 => 200 {"class":"NORMAL","customer":"Corner Shop","lines":[{"gtin":"09506000134352","ordered":12,"reserved":[{"lot":"L0","qty":5},{"lot":"L2","qty":7}],"shipped":0,"short":0,"staged":[]}],"order":"S-1","state":"OPEN"}
-GET /orders/S-2 => 200 {"class":"NORMAL","customer":"Harbour Cafe","lines":[{"gtin":"09506000134352","ordered":12,"reserved":[{"lot":"L2","qty":3},{"lot":"L1","qty":9}],"shipped":0,"short":0,"staged":[]}],"order":"S-2","state":"OPEN"}
-POST /receipts {"delivery":"D-2","line":1,"label":"01095060001343521726051010L0","bin":"A-01","qty":5} => 200 {"act":10}
-POST /receipts {"delivery":"D-2","line":1,"label":"01095060001343521726051010L0","bin":"A-01","qty":6} => 409 {"code":"K01"}
 "#;
 
 static NO_REQUESTS_ANSWERED: [&[Step]; 1] = [&[Step::NewHouse(&[Asked::NoRequests]), Step::Open]];

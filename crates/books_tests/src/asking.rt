@@ -1,13 +1,14 @@
 //! A house over a connection is asked, and its answers are compared.
 
 use crate::answers::NO_REQUESTS;
-use crate::exchange::{answer, logged, request};
 use crate::filing::takes_times;
 use crate::hostile::{refuses_hostile, takes_changed};
 use crate::many_lines::exchanges_many_lines;
+use crate::many_lots::{Size, exchanges_size};
 use crate::opening::{books_of, new_books};
 use crate::table::Table;
 use crate::wide::{Long, exchanges_long};
+use book_trials::{Receiver, answer, logged, request};
 use house::{Answered, House, ServeFault};
 use sqlite::{Alter, Connection};
 use std::alloc::Global;
@@ -27,6 +28,8 @@ pub(crate) enum Asked {
     Long(Long),
     /// All that is asked of two hundred items.
     ManyLines,
+    /// What is of a size above those of a usual day.
+    Size(Size),
     /// All requests of the table by one call.
     All(Table),
     /// Each text that is no request.
@@ -64,8 +67,8 @@ pub(crate) fn exchanges<S: Alter>(
     house: &mut House<S>,
     line: &str,
 ) {
-    let asked = request(rt, alloc, line);
-    let expected = answer(rt, alloc, line);
+    let asked = request(alloc, line).expect(rt, "a request");
+    let expected = answer(alloc, line).expect(rt, "an answer");
     is_answered(rt, house, asked.as_str(), expected.as_str());
 }
 
@@ -85,14 +88,14 @@ fn part<S: Alter>(
 fn texts(rt: &impl Abort, alloc: Global, table: Table) -> Vec<Vec<u8>> {
     let mut texts = Vec::new(alloc);
     for line in table.lines() {
-        let text = request(rt, alloc, line).into_bytes();
+        let text = request(alloc, line).expect(rt, "a request").into_bytes();
         assert!(rt; texts.push(text).is_ok());
     }
     texts
 }
 
 fn is_told(rt: &impl Abort, alloc: Global, found: &[u8], line: &str) {
-    let expected = answer(rt, alloc, line);
+    let expected = answer(alloc, line).expect(rt, "an answer");
     is_answer(rt, found, line, expected.as_str());
 }
 
@@ -131,16 +134,16 @@ fn is_served<S: Alter, L: Write>(
     is_answer(rt, writer.as_slice(), asked, expected);
 }
 
-/// The house serves what the exchange says, and logs it.
+/// The house serves what the exchange says, and logs it, though the log takes a few bytes at once.
 pub(crate) fn served_exchange<S: Alter>(
     rt: &impl Abort,
     alloc: Global,
     house: &mut House<S>,
     line: &str,
 ) {
-    let asked = request(rt, alloc, line);
-    let expected = answer(rt, alloc, line);
-    let mut log: Vec<u8> = Vec::new(alloc);
+    let asked = request(alloc, line).expect(rt, "a request");
+    let expected = answer(alloc, line).expect(rt, "an answer");
+    let mut log = Receiver::sipping(alloc, 3);
     is_served(
         rt,
         alloc,
@@ -149,8 +152,11 @@ pub(crate) fn served_exchange<S: Alter>(
         expected.as_str(),
         &mut log,
     );
-    let logged = logged(rt, alloc, line, expected.len());
-    assert!(rt; log.as_slice() == logged.as_str().as_bytes(), "{line:?}");
+    let logged = logged(alloc, line, expected.len()).expect(rt, "a line of the log");
+    assert!(rt;
+        log.taken.as_slice() == logged.as_str().as_bytes(),
+        "{logged:?}"
+    );
 }
 
 // A log that takes less than a line changes no answer.
@@ -179,6 +185,7 @@ fn ask<S: Alter>(rt: &impl Abort, alloc: Global, house: &mut House<S>, asked: As
         Asked::Times(times, told) => takes_times(rt, alloc, house, times, told),
         Asked::Long(long) => exchanges_long(rt, alloc, house, long),
         Asked::ManyLines => exchanges_many_lines(rt, alloc, house),
+        Asked::Size(size) => exchanges_size(rt, alloc, house, size),
         Asked::All(table) => all(rt, alloc, house, table),
         Asked::NoRequests => answers_no_requests(rt, house),
         Asked::NoRequestsServed => serves_no_requests(rt, alloc, house),

@@ -1,4 +1,4 @@
-//! The tests over a connection: those of the tables, of the books, of the house and of the service.
+//! The tests over books in memory: those of the tables, of the books, of the house and of the service.
 //!
 //! They are a crate of their own: the tests of a crate are proved together with all of that crate once more, and each
 //! program over a connection makes the code of the whole database.
@@ -11,29 +11,17 @@ mod answers;
 #[cfg(test)]
 mod asking;
 #[cfg(test)]
-mod audit_lines;
-#[cfg(test)]
 mod bounds;
 #[cfg(test)]
 mod days;
 #[cfg(test)]
 mod disk;
 #[cfg(test)]
-mod exchange;
-#[cfg(test)]
-mod failing;
-#[cfg(test)]
-mod files;
-#[cfg(test)]
 mod filing;
-#[cfg(test)]
-mod foreign_files;
 #[cfg(test)]
 mod gone_lots;
 #[cfg(test)]
 mod goods;
-#[cfg(test)]
-mod host_file;
 #[cfg(test)]
 mod hostile;
 #[cfg(test)]
@@ -41,21 +29,13 @@ mod least_days;
 #[cfg(test)]
 mod limits;
 #[cfg(test)]
-mod lines;
-#[cfg(test)]
 mod lots_spread;
 #[cfg(test)]
 mod lots_told;
 #[cfg(test)]
-mod many_clients;
-#[cfg(test)]
 mod many_lines;
 #[cfg(test)]
-mod memory;
-#[cfg(test)]
-mod old_bytes;
-#[cfg(test)]
-mod old_files;
+mod many_lots;
 #[cfg(test)]
 mod opening;
 #[cfg(test)]
@@ -67,13 +47,7 @@ mod picking;
 #[cfg(test)]
 mod picking_rows;
 #[cfg(test)]
-mod program_lines;
-#[cfg(test)]
 mod samples;
-#[cfg(test)]
-mod seen_rows;
-#[cfg(test)]
-mod serving;
 #[cfg(test)]
 mod steps;
 #[cfg(test)]

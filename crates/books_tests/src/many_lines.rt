@@ -3,82 +3,20 @@
 use crate::asking::{Asked, exchanges};
 use crate::disk::run;
 use crate::steps::Step;
+use book_trials::{Spread, acts_on_each, answers_spread};
 use house::House;
 use sqlite::Alter;
-use std::alloc::{AllocError, Global};
+use std::alloc::Global;
 use std::process::Abort;
 
 const LINES: u64 = 200;
 
-fn text(rt: &impl Abort, made: Result<String, AllocError>) -> String {
-    made.ok().expect(rt, "memory")
-}
-
-// The GTIN of a number below a thousand: ten digits, those of the number, and the check digit.
-fn gtin(rt: &impl Abort, alloc: Global, number: u64) -> String {
-    let (hundreds, tens, ones) = (number / 100 % 10, number / 10 % 10, number % 10);
-    let check = (10 - (48 + 3 * hundreds + tens + 3 * ones) % 10) % 10;
-    text(
-        rt,
-        format!(in alloc; "0950600013{hundreds}{tens}{ones}{check}"),
-    )
-}
-
-// What is written of the item of a number, whose GTIN stands at each `#`.
-fn of_item(rt: &impl Abort, alloc: Global, written: &str, number: u64) -> String {
-    let item = gtin(rt, alloc, number);
-    text(rt, written.replace(alloc, '#', item.as_str()))
-}
-
-// What is written of so many items, with a mark between each two.
-fn of_items(rt: &impl Abort, alloc: Global, written: &str, between: &str, count: u64) -> String {
-    let mut all = String::new(alloc);
-    for number in 0..count {
-        if number != 0 {
-            assert!(rt; all.push_str(between).is_ok());
-        }
-        let one = of_item(rt, alloc, written, number);
-        assert!(rt; all.push_str(one.as_str()).is_ok());
-    }
-    all
-}
-
-/// An exchange about so many items: at `@` stands what is written of each, with a mark between each two.
-struct Spread {
-    line: &'static str,
-    written: &'static str,
-    between: &'static str,
-    count: u64,
-}
-
-fn exchanges_spread<S: Alter>(rt: &impl Abort, alloc: Global, house: &mut House<S>, row: &Spread) {
-    let all = of_items(rt, alloc, row.written, row.between, row.count);
-    let line = text(rt, row.line.replace(alloc, '@', all.as_str()));
-    exchanges(rt, alloc, house, line.as_str());
-}
-
-// Each item is asked about in turn. The first act has this number.
-fn acts_on_each<S: Alter>(
-    rt: &impl Abort,
-    alloc: Global,
-    house: &mut House<S>,
-    written: &str,
-    first: u64,
-) {
-    for number in 0..LINES {
-        let asked = of_item(rt, alloc, written, number);
-        let act = first.saturating_add(number);
-        let line = text(rt, format!(in alloc; "{asked} => 200 {{\"act\":{act}}}"));
-        exchanges(rt, alloc, house, line.as_str());
-    }
-}
-
-const NEW_ITEM: &str = r##"POST /items {"key":"I-#","gtin":"#","name":"Item #"}"##;
+const NEW_ITEM: &str = r##"POST /items {"key":"I-#","gtin":"#","name":"Item #"} => 200 {"act":^}"##;
 
 const NEW_BIN: &str = r#"POST /bins {"key":"K-1","bin":"A-01","kind":"STORE"} => 200 {"act":201}"#;
 
 const PICK: &str =
-    r##"POST /picks {"key":"P-#","order":"S-1","gtin":"#","lot":"L1","bin":"A-01","qty":5}"##;
+    r##"POST /picks {"key":"P-#","order":"S-1","gtin":"#","lot":"L1","bin":"A-01","qty":5} => 200 {"act":^}"##;
 
 // An order of one line more than may be, and one with an item twice, are refused. Of each item five units come, and seven
 // are ordered.
@@ -155,17 +93,25 @@ static SHIPPED: [Spread; 5] = [
     },
 ];
 
+/// The house answers each of these.
+pub(crate) fn exchanges_spread<S: Alter>(
+    rt: &impl Abort,
+    alloc: Global,
+    house: &mut House<S>,
+    rows: &[Spread],
+) {
+    for row in rows {
+        assert!(rt; answers_spread(alloc, house, row), "{:?}", row.line);
+    }
+}
+
 /// Two hundred items, and an order of them all.
 pub(crate) fn exchanges_many_lines<S: Alter>(rt: &impl Abort, alloc: Global, house: &mut House<S>) {
-    acts_on_each(rt, alloc, house, NEW_ITEM, 1);
+    assert!(rt; acts_on_each(alloc, house, NEW_ITEM, LINES, 1), "items");
     exchanges(rt, alloc, house, NEW_BIN);
-    for row in TAKEN.as_slice() {
-        exchanges_spread(rt, alloc, house, row);
-    }
-    acts_on_each(rt, alloc, house, PICK, 403);
-    for row in SHIPPED.as_slice() {
-        exchanges_spread(rt, alloc, house, row);
-    }
+    exchanges_spread(rt, alloc, house, TAKEN.as_slice());
+    assert!(rt; acts_on_each(alloc, house, PICK, LINES, 403), "picks");
+    exchanges_spread(rt, alloc, house, SHIPPED.as_slice());
 }
 
 static MANY_LINES: [&[Step]; 2] = [&[Step::NewHouse(&[Asked::ManyLines])], &[Step::Open]];

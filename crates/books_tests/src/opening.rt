@@ -4,16 +4,12 @@ use crate::asking::Asked;
 use crate::disk::run;
 use crate::steps::{On, Step};
 use crate::table::{Left, Table};
-use label::{BusinessDay, Day};
+use book_trials::closed;
 use sqlite::{Alter, Connection};
 use std::alloc::Global;
 use std::process::Abort;
-use store::{Books, Fault, OpenFault};
-use tables::opening::{Leftover, Orderly};
-
-pub(crate) fn business_day(rt: &impl Abort, text: &[u8]) -> BusinessDay {
-    BusinessDay::new(Day::parse(text).expect(rt, "a day")).expect(rt, "a business day")
-}
+use store::Books;
+use tables::opening::Orderly;
 
 /// Makes books of 2026-05-04.
 pub(crate) fn new_books<S: Alter + Drop>(
@@ -21,11 +17,7 @@ pub(crate) fn new_books<S: Alter + Drop>(
     alloc: Global,
     conn: Connection<S>,
 ) -> Books<S> {
-    assert!(rt; conn.is_autocommit());
-    match Books::create(alloc, conn, business_day(rt, b"2026-05-04")) {
-        Ok(books) => books,
-        Err(_) => panic!(rt; "no books were made"),
-    }
+    book_trials::new_books(alloc, conn).expect(rt, "new books")
 }
 
 /// Books over a connection that another owner left.
@@ -34,18 +26,7 @@ pub(crate) fn books_of<S: Orderly + Drop>(
     alloc: Global,
     conn: Connection<S>,
 ) -> Books<S> {
-    assert!(rt; conn.is_autocommit());
-    match Books::open(alloc, conn) {
-        Ok(books) => books,
-        Err(_) => panic!(rt; "the books do not open"),
-    }
-}
-
-/// The books are of 2026-05-04, and are closed.
-pub(crate) fn closed<S: Alter>(rt: &impl Abort, books: Books<S>) -> Connection<S> {
-    let day = books.day();
-    assert!(rt; day.text().as_slice() == b"2026-05-04".as_slice());
-    books.close()
+    book_trials::opened_books(alloc, conn).expect(rt, "books")
 }
 
 pub(crate) fn made<S: Alter + Drop>(
@@ -53,7 +34,7 @@ pub(crate) fn made<S: Alter + Drop>(
     alloc: Global,
     conn: Connection<S>,
 ) -> Connection<S> {
-    closed(rt, new_books(rt, alloc, conn))
+    closed(new_books(rt, alloc, conn)).expect(rt, "the day")
 }
 
 pub(crate) fn opened<S: Orderly + Drop>(
@@ -61,17 +42,7 @@ pub(crate) fn opened<S: Orderly + Drop>(
     alloc: Global,
     conn: Connection<S>,
 ) -> Connection<S> {
-    closed(rt, books_of(rt, alloc, conn))
-}
-
-/// The connection as it comes back where it is foreign.
-fn handed_back<S: Alter + Drop>(rt: &impl Abort, found: OpenFault<S>) -> Connection<S> {
-    let OpenFault { left, fault } = found;
-    assert!(rt; matches!(fault, Fault::Foreign));
-    match left {
-        Leftover::Connection(conn) => conn,
-        Leftover::Store(_) => panic!(rt; "the connection is lost"),
-    }
+    closed(books_of(rt, alloc, conn)).expect(rt, "the day")
 }
 
 /// Making books where there is a table.
@@ -80,11 +51,7 @@ pub(crate) fn not_made<S: Alter + Drop>(
     alloc: Global,
     conn: Connection<S>,
 ) -> Connection<S> {
-    assert!(rt; conn.is_autocommit());
-    match Books::create(alloc, conn, business_day(rt, b"2027-01-01")) {
-        Ok(_) => panic!(rt; "books were made"),
-        Err(found) => handed_back(rt, found),
-    }
+    book_trials::not_made(alloc, conn).expect(rt, "no books")
 }
 
 /// Opening what is not books.
@@ -93,11 +60,7 @@ pub(crate) fn not_opened<S: Orderly + Drop>(
     alloc: Global,
     conn: Connection<S>,
 ) -> Connection<S> {
-    assert!(rt; conn.is_autocommit());
-    match Books::open(alloc, conn) {
-        Ok(_) => panic!(rt; "books were opened"),
-        Err(found) => handed_back(rt, found),
-    }
+    book_trials::not_opened(alloc, conn).expect(rt, "no books")
 }
 
 /// The one row of `meta`, with its columns in order; the day is 2026-05-04, counted from 1970-01-01.

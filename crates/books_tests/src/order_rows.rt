@@ -4,29 +4,10 @@ use crate::asking::Asked;
 use crate::disk::run;
 use crate::steps::{On, Step};
 use crate::table::{Left, Table};
-use sqlite::{Alter, Connection, Row};
+use book_trials::{QUERIES, shown};
+use sqlite::{Alter, Connection};
 use std::alloc::Global;
 use std::process::Abort;
-
-/// What reads the rows of each table, by their keys.
-pub(crate) static QUERIES: [&str; 16] = [
-    "SELECT id || '|' || mark || '|' || version || '|' || day || '|' || acts || '|' || shipments FROM meta ORDER BY id",
-    "SELECT gtin || '|' || name FROM items ORDER BY gtin",
-    "SELECT name || '|' || kind FROM bins ORDER BY name",
-    "SELECT gtin || '|' || lot || '|' || expiry || '|' || came || '|' || held FROM lots ORDER BY gtin, lot",
-    "SELECT gtin || '|' || lot || '|' || act FROM recalls ORDER BY gtin, lot",
-    "SELECT gtin || '|' || lot || '|' || bin || '|' || qty FROM stock ORDER BY gtin, lot, bin",
-    "SELECT ord || '|' || act || '|' || customer || '|' || state FROM orders ORDER BY ord",
-    "SELECT ord || '|' || gtin || '|' || ordered || '|' || shipped FROM lines ORDER BY ord, gtin",
-    "SELECT ord || '|' || gtin || '|' || lot || '|' || qty FROM staged ORDER BY ord, gtin, lot",
-    "SELECT ord || '|' || gtin || '|' || lot || '|' || qty FROM reserved ORDER BY ord, gtin, lot",
-    "SELECT number || '|' || act || '|' || day || '|' || ord FROM shipments ORDER BY number",
-    "SELECT number || '|' || gtin || '|' || lot || '|' || qty FROM shiplines ORDER BY number, gtin, lot",
-    "SELECT gtin || '|' || lot || '|' || act || '|' || day || '|' || kind || '|' || note || '|' || qty || '|' || rest FROM cards ORDER BY gtin, lot, act",
-    "SELECT k || '|' || act || '|' || spell || '|' || reply FROM repeats ORDER BY act",
-    "SELECT gtin || '|' || days FROM least ORDER BY gtin",
-    "SELECT ord || '|' || act FROM urgents ORDER BY ord",
-];
 
 // The rows after the two customers.
 pub(crate) static TWO_CUSTOMERS_ROWS: [&str; 16] = [
@@ -48,30 +29,6 @@ pub(crate) static TWO_CUSTOMERS_ROWS: [&str; 16] = [
     "",
 ];
 
-// The first column of each row, in a line of its own.
-fn lines_of(rt: &impl Abort, alloc: Global, rows: &[Row]) -> String {
-    let mut text = String::new(alloc);
-    for row in rows {
-        let column = row.get::<String>(0).expect(rt, "a text");
-        assert!(rt; text.push_str(column.as_str()).is_ok());
-        assert!(rt; text.push_str("\n").is_ok());
-    }
-    text
-}
-
-/// The rows that the query gives.
-pub(crate) fn shown<S: Alter>(
-    rt: &impl Abort,
-    alloc: Global,
-    conn: &mut Connection<S>,
-    query: &str,
-) -> String {
-    let rows = conn.query_all(query, &[]).expect(rt, "rows");
-    let found = lines_of(rt, alloc, rows.as_slice());
-    drop(rows);
-    found
-}
-
 // The query gives these rows.
 pub(crate) fn gives<S: Alter>(
     rt: &impl Abort,
@@ -80,7 +37,7 @@ pub(crate) fn gives<S: Alter>(
     query: &str,
     expected: &str,
 ) {
-    let found = shown(rt, alloc, conn, query);
+    let found = shown(alloc, conn, query).expect(rt, "rows");
     assert!(rt; found.as_str() == expected, "{query:?}");
 }
 
@@ -93,19 +50,6 @@ pub(crate) fn has_rows<S: Alter>(
 ) {
     assert!(rt; expected.len() == QUERIES.len());
     for (query, rows) in QUERIES.as_slice().iter().zip(expected) {
-        gives(rt, alloc, conn, query, rows);
-    }
-}
-
-// The tables behind `meta` have these rows, as many tables as are told: those that a later schema has more are not.
-pub(crate) fn keeps_rows<S: Alter>(
-    rt: &impl Abort,
-    alloc: Global,
-    conn: &mut Connection<S>,
-    expected: &[&str],
-) {
-    assert!(rt; expected.len() < QUERIES.len());
-    for (query, rows) in QUERIES.as_slice().iter().skip(1).zip(expected) {
         gives(rt, alloc, conn, query, rows);
     }
 }

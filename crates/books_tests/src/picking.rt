@@ -8,20 +8,6 @@ use crate::table::Table;
 use std::alloc::Global;
 use std::process::Abort;
 
-// Both lots that the first customer has are picked, and one pick comes again.
-pub(crate) static PICKED: &str = r#"
-POST /picks {"key":"P-9","order":"S-1","gtin":"09506000134352","lot":"L2","bin":"A-01","qty":8} => 409 {"code":"Q02"}
-POST /picks {"key":"K-11","order":"S-1","gtin":"09506000134352","lot":"L0","bin":"A-01","qty":5} => 200 {"act":11}
-POST /picks {"key":"K-12","order":"S-1","gtin":"09506000134352","lot":"L2","bin":"A-01","qty":7} => 200 {"act":12}
-GET /orders/S-1 => 200 {"class":"NORMAL","customer":"Corner Shop","lines":[{"gtin":"09506000134352","ordered":12,"reserved":[],"shipped":0,"short":0,"staged":[{"lot":"L0","qty":5},{"lot":"L2","qty":7}]}],"order":"S-1","state":"OPEN"}
-GET /orders/S-2 => 200 {"class":"NORMAL","customer":"Harbour Cafe","lines":[{"gtin":"09506000134352","ordered":12,"reserved":[{"lot":"L2","qty":3},{"lot":"L1","qty":9}],"shipped":0,"short":0,"staged":[]}],"order":"S-2","state":"OPEN"}
-POST /picks {"key":"K-11","order":"S-1","gtin":"09506000134352","lot":"L0","bin":"A-01","qty":5} => 200 {"act":11}
-POST /picks {"key":"K-11","order":"S-1","gtin":"09506000134352","lot":"L0","bin":"A-01","qty":4} => 409 {"code":"K01"}
-POST /shipments {"key":"K-12","order":"S-1"} => 409 {"code":"K01"}
-GET /orders/S-1 => 200 {"class":"NORMAL","customer":"Corner Shop","lines":[{"gtin":"09506000134352","ordered":12,"reserved":[],"shipped":0,"short":0,"staged":[{"lot":"L0","qty":5},{"lot":"L2","qty":7}]}],"order":"S-1","state":"OPEN"}
-GET /orders/S-2 => 200 {"class":"NORMAL","customer":"Harbour Cafe","lines":[{"gtin":"09506000134352","ordered":12,"reserved":[{"lot":"L2","qty":3},{"lot":"L1","qty":9}],"shipped":0,"short":0,"staged":[]}],"order":"S-2","state":"OPEN"}
-"#;
-
 // A key that was refused serves another pick, and then it is taken.
 pub(crate) static KEY_LEFT_FREE: &str = r#"
 POST /picks {"key":"P-9","order":"S-1","gtin":"09506000134352","lot":"L2","bin":"A-01","qty":8} => 409 {"code":"Q02"}
@@ -79,26 +65,6 @@ POST /shipments {"key":"K-15","order":"S-1"} => 409 {"code":"S09"}
 POST /shipments {"key":"K-14","order":"S-1"} => 200 {"act":14,"shipment":1}
 GET /notices/09506000134352/L2 => 200 |RECALL NOTICE 09506000134352 Oat drink|LOT L2 EXPIRY 2026-05-31|BIN A-01 3|BIN RETURNS 7|TOTAL BINS 10 SHIPPED 0
 GET /picklists/S-1 => 200 |PICK LIST S-1|CUSTOMER Corner Shop|STATE OPEN|ITEM 09506000134352 ORDERED 12 STAGED 0 SHIPPED 5 SHORT 0 LEAST 0|TAKE L1 2026-06-30 7|FROM A-01 10
-"#;
-
-// After the picks: all is shipped, and one lot is recalled. Cards and notices of its lots, and of none.
-pub(crate) static SHIPPED_AND_RECALLED: &str = r#"
-POST /shipments {"key":"K-13","order":"S-9"} => 409 {"code":"U04"}
-POST /shipments {"key":"K-13","order":"S-2"} => 409 {"code":"S09"}
-POST /shipments {"key":"K-13","order":"S-1"} => 200 {"act":13,"shipment":1}
-GET /orders/S-1 => 200 {"class":"NORMAL","customer":"Corner Shop","lines":[{"gtin":"09506000134352","ordered":12,"reserved":[],"shipped":12,"short":0,"staged":[]}],"order":"S-1","state":"DONE"}
-POST /recalls {"key":"K-14","gtin":"09506000134352","lot":"L2"} => 200 {"act":14,"returned":0}
-GET /orders/S-1 => 200 {"class":"NORMAL","customer":"Corner Shop","lines":[{"gtin":"09506000134352","ordered":12,"reserved":[],"shipped":12,"short":0,"staged":[]}],"order":"S-1","state":"DONE"}
-GET /orders/S-2 => 200 {"class":"NORMAL","customer":"Harbour Cafe","lines":[{"gtin":"09506000134352","ordered":12,"reserved":[{"lot":"L1","qty":10}],"shipped":0,"short":2,"staged":[]}],"order":"S-2","state":"OPEN"}
-GET /cards/09506000134352/L2 => 200 |STOCK CARD 09506000134352 Oat drink|LOT L2 EXPIRY 2026-05-31|            7 2026-05-04 RECEIPT  D-1/2                               10          10|           13 2026-05-04 SHIPMENT 1                                   -7           3|IN HOUSE 3
-GET /notices/09506000134352/L2 => 200 |RECALL NOTICE 09506000134352 Oat drink|LOT L2 EXPIRY 2026-05-31|BIN A-01 3|SHIPMENT 1 2026-05-04 7 S-1 Corner Shop|TOTAL BINS 3 SHIPPED 7
-GET /cards/09506000134352/L0 => 200 |STOCK CARD 09506000134352 Oat drink|LOT L0 EXPIRY 2026-05-10|           10 2026-05-04 RECEIPT  D-2/1                                5           5|           13 2026-05-04 SHIPMENT 1                                   -5           0|IN HOUSE 0
-GET /notices/09506000134352/L0 => 404 {"code":"N01"}
-GET /cards/09506000134352/Z9 => 404 {"code":"U03"}
-GET /notices/09506000134352/Z9 => 404 {"code":"N01"}
-GET /cards/04012345000023/L2 => 404 {"code":"U01"}
-GET /notices/04012345000023/L2 => 404 {"code":"U01"}
-GET /picklists/S-1 => 200 |PICK LIST S-1|CUSTOMER Corner Shop|STATE DONE|ITEM 09506000134352 ORDERED 12 STAGED 0 SHIPPED 12 SHORT 0 LEAST 0
 "#;
 
 // What is refused for an order that is done, and answered again.

@@ -7,7 +7,7 @@ use crate::filing::imported;
 use crate::gone_lots::puts_gone;
 use crate::lots_told::{Told, tells_of_lots};
 use crate::opening::{made, not_made, not_opened, opened};
-use crate::order_rows::{QUERIES, gives, has_rows, keeps_rows};
+use crate::order_rows::{gives, has_rows};
 use crate::table::{Left, Table};
 use crate::table_rows::{creates_nothing, drops, fills, finds, is_no_schema, is_schema};
 use sqlite::{Alter, Connection};
@@ -53,10 +53,6 @@ pub(crate) enum On {
     Gives(&'static str, &'static str),
     /// Each table has these rows.
     HasRows(Left),
-    /// The one row of `meta`.
-    HasMeta(&'static str),
-    /// The tables behind `meta` have these rows, as many tables as are told.
-    KeepsRows(Left),
     /// No tables are created, since there is a table.
     CreateNothing,
     /// An item gets lots that are gone.
@@ -76,8 +72,6 @@ fn do_on<S: Alter>(rt: &impl Abort, alloc: Global, conn: &mut Connection<S>, on:
         On::Run(text) => assert!(rt; conn.execute(text, &[]).is_ok()),
         On::Gives(query, lines) => gives(rt, alloc, conn, query, lines),
         On::HasRows(left) => has_rows(rt, alloc, conn, left.rows()),
-        On::HasMeta(row) => gives(rt, alloc, conn, QUERIES[0], row),
-        On::KeepsRows(left) => keeps_rows(rt, alloc, conn, left.rows()),
         On::CreateNothing => creates_nothing(rt, conn),
         On::PutGone => puts_gone(rt, alloc, conn),
         On::TellBins => tells_bins(rt, alloc, conn),

@@ -1,8 +1,6 @@
 //! The tables of exchanges and of rows, by name, so that the steps of a test can name them.
 
-use crate::answers::{
-    GOODS_AND_BINS, REFUSED, STOCK_BEFORE, STOCK_OF_ONE_LOT, STOCK_OF_THREE_LOTS, TWO_CUSTOMERS,
-};
+use crate::answers::{REFUSED, STOCK_BEFORE, STOCK_OF_ONE_LOT, STOCK_OF_THREE_LOTS};
 use crate::days::OPENED;
 use crate::filing::{FILED, FILED_ROWS, FILED_TWICE, FILES_AND_CUSTOMERS, FILES_REFUSED};
 use crate::gone_lots::GONE_NAMED;
@@ -12,12 +10,10 @@ use crate::goods::{
 use crate::hostile::GOODS_AND_BINS_ROWS;
 use crate::least_days::{A_DAY_MORE, ASKED_FOR, STAGED_RETURNS, STAGED_STAYS};
 use crate::limits::{LAST_UNIT, MANY_UNITS, NEXT_DAY, TWO_LINES};
-use crate::old_files::{OLD_ROWS, OLD_TOLD};
 use crate::order_rows::TWO_CUSTOMERS_ROWS;
 use crate::orders_shown::ORDERS_SHOWN;
 use crate::picking::{
-    CANCELLED, DONE, KEY_LEFT_FREE, PICKED, PICKS_REFUSED, RETURNED_AND_SHIPPED,
-    SHIPPED_AND_RECALLED, UNPICKED,
+    CANCELLED, DONE, KEY_LEFT_FREE, PICKS_REFUSED, RETURNED_AND_SHIPPED, UNPICKED,
 };
 use crate::picking_rows::{
     PICKED_ROWS, RETURNED_ROWS, SHIPPED_ROWS, STOCK_TAKEN, STOCK_TAKEN_ROWS,
@@ -25,6 +21,7 @@ use crate::picking_rows::{
 use crate::texts_told::{PICK_LISTS, SHORT_OF_FOUR, SHORT_OF_NINE};
 use crate::urgent_orders::{SERVED_FIRST, STAGES_STAY};
 use crate::wide::WIDE;
+use book_trials::History;
 use std::str::Lines;
 
 /// Exchanges: a line each, `METHOD PATH BODY => STATUS BODY` (`exchange` has the form).
@@ -74,8 +71,6 @@ pub(crate) enum Table {
     StagedReturns,
     ServedFirst,
     StagesStay,
-    /// What books of schema 1 tell, and how they go on.
-    OldTold,
 }
 
 impl Table {
@@ -86,12 +81,12 @@ impl Table {
 
     fn text(self) -> &'static str {
         match self {
-            Table::GoodsAndBins => GOODS_AND_BINS,
+            Table::GoodsAndBins => History::GoodsAndBins.text(),
             Table::Refused => REFUSED,
             Table::StockBefore => STOCK_BEFORE,
             Table::StockOfOneLot => STOCK_OF_ONE_LOT,
             Table::StockOfThreeLots => STOCK_OF_THREE_LOTS,
-            Table::TwoCustomers => TWO_CUSTOMERS,
+            Table::TwoCustomers => History::TwoCustomers.text(),
             Table::Opened => OPENED,
             Table::Moved => MOVED,
             Table::Adjusted => ADJUSTED,
@@ -100,12 +95,12 @@ impl Table {
             Table::Recalled => RECALLED,
             Table::ReceivedAndRecalled => RECEIVED_AND_RECALLED,
             Table::NeverReceived => NEVER_RECEIVED,
-            Table::Picked => PICKED,
+            Table::Picked => History::Picked.text(),
             Table::KeyLeftFree => KEY_LEFT_FREE,
             Table::PicksRefused => PICKS_REFUSED,
             Table::Unpicked => UNPICKED,
             Table::ReturnedAndShipped => RETURNED_AND_SHIPPED,
-            Table::ShippedAndRecalled => SHIPPED_AND_RECALLED,
+            Table::ShippedAndRecalled => History::ShippedAndRecalled.text(),
             Table::Done => DONE,
             Table::Cancelled => CANCELLED,
             Table::StockTaken => STOCK_TAKEN,
@@ -129,7 +124,6 @@ impl Table {
             Table::StagedReturns => STAGED_RETURNS,
             Table::ServedFirst => SERVED_FIRST,
             Table::StagesStay => STAGES_STAY,
-            Table::OldTold => OLD_TOLD,
         }
     }
 }
@@ -144,8 +138,6 @@ pub(crate) enum Left {
     Shipped,
     StockTaken,
     Filed,
-    /// In books of schema 1.
-    Old,
 }
 
 impl Left {
@@ -158,7 +150,6 @@ impl Left {
             Left::Shipped => SHIPPED_ROWS.as_slice(),
             Left::StockTaken => STOCK_TAKEN_ROWS.as_slice(),
             Left::Filed => FILED_ROWS.as_slice(),
-            Left::Old => OLD_ROWS.as_slice(),
         }
     }
 }

@@ -1,7 +1,7 @@
 //! Connections that are served over sockets.
 
 use crate::disk::{run_clients, run_lines};
-use crate::opening::{business_day, new_books};
+use book_trials::{first_day, new_books};
 use command_line::{Fault, Work, tell};
 use house::House;
 use service::{AfterWork, FilesAt, NotBegun, do_work, listen, serve_logged, serve_on};
@@ -48,7 +48,7 @@ pub(crate) fn clients_served<S: Alter + Drop>(
     count: u32,
     logged: Option<&str>,
 ) -> Connection<S> {
-    let mut house = House::new(alloc, new_books(rt, alloc, conn));
+    let mut house = House::new(alloc, new_books(alloc, conn).expect(rt, "new books"));
     match logged {
         Some(lines) => {
             let mut log: Vec<u8> = Vec::new(alloc);
@@ -94,7 +94,7 @@ fn serves_connections_one_after_another(rt: HostRuntime) {
     let last = sent(&rt, &rt, &listener, THIRD_BIN);
     run_clients(
         &rt,
-        rt.alloc(),
+        &rt,
         TestClock::Host(&rt),
         &listener,
         5,
@@ -116,7 +116,7 @@ fn waits_ten_seconds_for_a_client(rt: HostRuntime) {
         .write_all([b'x'; 40_000].as_slice())
         .expect(&rt, "sent");
     let start = Instant::now(&rt).expect(&rt, "a time");
-    run_clients(&rt, rt.alloc(), TestClock::Host(&rt), &listener, 2, None);
+    run_clients(&rt, &rt, TestClock::Host(&rt), &listener, 2, None);
     let waited = start.elapsed(&rt).expect(&rt, "a time");
     assert!(rt; waited.as_secs() >= 19, "{} s", waited.as_secs());
     is_answered(&rt, rt.alloc(), silent, b"");
@@ -133,7 +133,7 @@ fn ends_a_client_whose_time_is_over(rt: HostRuntime) {
     let readings = Cell::new(0);
     let clock = TestClock::Stepping(16, &readings);
     let start = Instant::now(&rt).expect(&rt, "a time");
-    run_clients(&rt, rt.alloc(), clock, &listener, 1, None);
+    run_clients(&rt, &rt, clock, &listener, 1, None);
     let waited = start.elapsed(&rt).expect(&rt, "a time");
     assert!(rt; waited.as_secs() < 10, "{} s", waited.as_secs());
     is_answered(&rt, rt.alloc(), slow, NO_HEAD);
@@ -319,7 +319,7 @@ pub(crate) fn lines_worked<S: Orderly + Drop>(
     conn: Connection<S>,
     port: u16,
 ) -> Connection<S> {
-    let day = business_day(rt, b"2026-05-04");
+    let day = first_day().expect(rt, "a day");
     let conn = silent(host, rt, conn, &Work::Make(day), "");
     taken(host, rt, port);
     let conn = served(host, rt, conn, port);

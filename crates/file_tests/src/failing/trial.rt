@@ -1,9 +1,7 @@
 //! What is tried over one connection, whose disks may stop.
 
-use crate::exchange::Exchange;
-use crate::failing::ends::{Receiver, Sender};
-use crate::opening::business_day;
 use crate::seen_rows::Rows;
+use book_trials::{Exchange, Receiver, Sender, first_day};
 use house::{House, ServeFault};
 use sqlite::{Alter, Connection};
 use std::alloc::Global;
@@ -134,7 +132,7 @@ fn books<S: Orderly + Drop>(
 ) -> Result<Books<S>, OpenFault<S>> {
     assert!(rt; conn.is_autocommit());
     match trial {
-        Trial::Make => Books::create(alloc, conn, business_day(rt, b"2026-05-04")),
+        Trial::Make => Books::create(alloc, conn, first_day().expect(rt, "a day")),
         _ => Books::open(alloc, conn),
     }
 }

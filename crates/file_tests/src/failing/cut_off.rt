@@ -1,8 +1,8 @@
 //! Clients that are cut off: a request whose reader or writer fails after each number of bytes.
 
-use crate::exchange::Exchange;
 use crate::failing::stages::{BEFORE_RECEIPTS, Stage, day_stages};
 use crate::failing::trial::Trial;
+use book_trials::Exchange;
 use std::alloc::Global;
 use std::process::Abort;
 
@@ -71,6 +71,6 @@ fn is_cut_off(rt: &impl Abort, alloc: Global, exchange: &Exchange) {
 
 #[test]
 fn clients_break_off(rt: HostRuntime) {
-    let exchange = Exchange::of_line(&rt, rt.alloc(), NEW_DAY);
+    let exchange = Exchange::of_line(rt.alloc(), NEW_DAY).expect(&rt, "an exchange");
     is_cut_off(&rt, rt.alloc(), &exchange);
 }

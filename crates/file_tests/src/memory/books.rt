@@ -3,8 +3,9 @@
 use crate::memory::answering::house_after;
 use crate::memory::rows::has_rows_after;
 use crate::memory::steps::{BOOKED, MADE};
-use crate::opening::{business_day, closed};
-use crate::order_rows::gives;
+use crate::opening::closed;
+use crate::rows::gives;
+use book_trials::first_day;
 use sqlite::{Alter, Connection, MemStore};
 use sqlite_trees::store::Store;
 use std::alloc::Global;
@@ -35,7 +36,7 @@ fn call<S: Orderly + Drop>(
     making: Making,
 ) -> Left<S> {
     assert!(rt; conn.is_autocommit());
-    let (alloc, day) = (host.alloc(), business_day(rt, b"2026-05-04"));
+    let (alloc, day) = (host.alloc(), first_day().expect(rt, "a day"));
     let call = Call::begin(host, making.name(), "the books", "no memory");
     let found = match making {
         Making::Create => Books::create(alloc, conn, day),

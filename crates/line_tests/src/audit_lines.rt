@@ -1,11 +1,9 @@
 //! The line that holds the books against their acts: after a day's work, as it is and once another program has changed a
-//! row, damaged an act, or put an act in its place that is refused; and over older books, which stay as they are.
+//! row, damaged an act, or put an act in its place that is refused.
 
-use crate::disk::{after_lines, run_lines_after};
-use crate::files::Pair;
-use crate::lines::{HISTORY, Line, Turn};
-use crate::old_files::{first_books, second_books, third_books};
-use std::process::Abort;
+use crate::disk::run_lines_after;
+use crate::lines::Turn;
+use book_trials::{History, Line};
 
 // Each change is undone before the next.
 static AUDITS: [Turn; 36] = [
@@ -82,27 +80,10 @@ static MORE: [Turn; 2] = [
 
 #[test]
 fn an_audit_tells_the_first_row_that_is_another(rt: HostRuntime) {
-    run_lines_after(&rt, &rt, HISTORY.as_slice(), AUDITS.as_slice());
+    run_lines_after(&rt, &rt, History::ALL.as_slice(), AUDITS.as_slice());
 }
 
 #[test]
 fn an_audit_finds_later_acts_too(rt: HostRuntime) {
-    run_lines_after(&rt, &rt, HISTORY.as_slice(), MORE.as_slice());
-}
-
-static OLDER: [Turn; 1] = [Turn::Sound("audited 21 acts from 2026-05-04\n")];
-
-fn stays(host: &HostRuntime, rt: &impl Abort, files: Pair) {
-    let left = after_lines(host, rt, &files, OLDER.as_slice());
-    let is_kept = left.is_same_database(&files);
-    drop(left);
-    drop(files);
-    assert!(rt; is_kept, "other bytes");
-}
-
-#[test]
-fn an_audit_leaves_older_books_as_they_are(rt: HostRuntime) {
-    stays(&rt, &rt, first_books(&rt, rt.alloc()));
-    stays(&rt, &rt, second_books(&rt, rt.alloc()));
-    stays(&rt, &rt, third_books(&rt, rt.alloc()));
+    run_lines_after(&rt, &rt, History::ALL.as_slice(), MORE.as_slice());
 }

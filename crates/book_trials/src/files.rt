@@ -3,7 +3,6 @@
 use sqlite::Files;
 use sqlite_disk::{Crash, Disk, Fuse, Memory};
 use std::alloc::Global;
-use std::process::Abort;
 
 /// A disk in memory that stops after so many calls.
 pub(crate) type Stopping = Fuse<Memory>;
@@ -22,21 +21,23 @@ struct Stored {
 
 /// The two files.
 #[derive(Drop)]
-pub(crate) struct Pair {
+pub struct Pair {
     log: Stored,
     db: Stored,
 }
 
 /// After how many calls each file stops.
 #[derive(Clone, Copy)]
-pub(crate) struct Calls {
-    pub(crate) log: u64,
-    pub(crate) db: u64,
+pub struct Calls {
+    /// The log.
+    pub log: u64,
+    /// The database.
+    pub db: u64,
 }
 
 impl Calls {
     /// More than any work comes to.
-    pub(crate) const ALL: Calls = Calls {
+    pub const ALL: Calls = Calls {
         log: u64::MAX,
         db: u64::MAX,
     };
@@ -44,28 +45,28 @@ impl Calls {
 
 /// What of a file is lost that was written after its last sync.
 #[derive(Clone, Copy)]
-pub(crate) enum Loss {
+pub enum Loss {
+    /// Nothing.
     Nothing,
+    /// All.
     All,
     /// Every other sector.
     Torn,
 }
 
-fn copied(rt: &impl Abort, alloc: Global, bytes: &[u8]) -> Vec<u8> {
-    let mut copy = Vec::new(alloc);
-    assert!(rt; copy.extend_from_slice(bytes).is_ok());
-    copy
+fn copied(alloc: Global, bytes: &[u8]) -> Option<Vec<u8>> {
+    bytes.to_vec(alloc).ok()
 }
 
 // What was written, with every other sector as it was synced.
-fn torn(rt: &impl Abort, alloc: Global, written: &[u8], synced: &[u8]) -> Vec<u8> {
-    let mut bytes = copied(rt, alloc, written);
+fn torn(alloc: Global, written: &[u8], synced: &[u8]) -> Option<Vec<u8>> {
+    let mut bytes = copied(alloc, written)?;
     for (at, byte) in bytes.iter_mut().enumerate() {
         if at / SECTOR % 2 == 1 {
             *byte = synced.get(at).copied().unwrap_or(0);
         }
     }
-    bytes
+    Some(bytes)
 }
 
 impl Stored {
@@ -77,41 +78,55 @@ impl Stored {
         }
     }
 
-    fn of(rt: &impl Abort, alloc: Global, disk: Stopping) -> Stored {
+    // A file that is synced.
+    fn holding(alloc: Global, bytes: Vec<u8>) -> Option<Stored> {
+        let synced = copied(alloc, bytes.as_slice())?;
+        Some(Stored {
+            written: bytes,
+            synced,
+            has_spare: true,
+        })
+    }
+
+    fn of(alloc: Global, disk: Stopping) -> Option<Stored> {
         let mut disk = disk;
         let has_spare = disk.may_be_used() && disk.len().is_ok();
-        let written = copied(rt, alloc, disk.inner().bytes());
+        let written = copied(alloc, disk.inner().bytes());
         disk.crash();
-        let synced = copied(rt, alloc, disk.inner().bytes());
-        Stored {
-            written,
-            synced,
-            has_spare,
+        let synced = copied(alloc, disk.inner().bytes());
+        drop(disk);
+        match (written, synced) {
+            (Some(written), Some(synced)) => Some(Stored {
+                written,
+                synced,
+                has_spare,
+            }),
+            _ => None,
         }
     }
 
-    fn disk(&self, rt: &impl Abort, alloc: Global, calls: u64) -> Stopping {
+    fn disk(&self, alloc: Global, calls: u64) -> Option<Stopping> {
         let mut file = Memory::new(alloc);
         let is_made = file.write_at(0, self.synced.as_slice()).is_ok()
             && file.sync().is_ok()
             && file.set_len(self.written.len()).is_ok()
             && file.write_at(0, self.written.as_slice()).is_ok();
-        assert!(rt; is_made, "no file");
-        Fuse::new(file, calls)
+        match is_made {
+            true => Some(Fuse::new(file, calls)),
+            false => None,
+        }
     }
 
-    fn left(&self, rt: &impl Abort, alloc: Global, loss: Loss) -> Stored {
+    fn left(&self, alloc: Global, loss: Loss) -> Option<Stored> {
         let (written, synced) = (self.written.as_slice(), self.synced.as_slice());
         let bytes = match loss {
-            Loss::Nothing => copied(rt, alloc, written),
-            Loss::All => copied(rt, alloc, synced),
-            Loss::Torn => torn(rt, alloc, written, synced),
+            Loss::Nothing => copied(alloc, written),
+            Loss::All => copied(alloc, synced),
+            Loss::Torn => torn(alloc, written, synced),
         };
-        let synced = copied(rt, alloc, bytes.as_slice());
-        Stored {
-            written: bytes,
-            synced,
-            has_spare: true,
+        match bytes {
+            Some(bytes) => Stored::holding(alloc, bytes),
+            None => None,
         }
     }
 
@@ -121,21 +136,20 @@ impl Stored {
 }
 
 impl Pair {
-    /// A file of the books that holds these bytes, and a log with nothing in it.
-    pub(crate) fn holding(rt: &impl Abort, alloc: Global, bytes: Vec<u8>) -> Pair {
-        let synced = copied(rt, alloc, bytes.as_slice());
-        Pair {
-            log: Stored::empty(alloc),
-            db: Stored {
-                written: bytes,
-                synced,
-                has_spare: true,
-            },
+    fn both(log: Option<Stored>, db: Option<Stored>) -> Option<Pair> {
+        match (log, db) {
+            (Some(log), Some(db)) => Some(Pair { log, db }),
+            _ => None,
         }
     }
 
+    /// A file of the books that holds these bytes, and a log with nothing in it.
+    pub fn holding(alloc: Global, bytes: Vec<u8>) -> Option<Pair> {
+        Pair::both(Some(Stored::empty(alloc)), Stored::holding(alloc, bytes))
+    }
+
     /// Files with nothing in them.
-    pub(crate) fn empty(alloc: Global) -> Pair {
+    pub fn empty(alloc: Global) -> Pair {
         Pair {
             log: Stored::empty(alloc),
             db: Stored::empty(alloc),
@@ -143,42 +157,39 @@ impl Pair {
     }
 
     /// The files that the disks hold.
-    pub(crate) fn of(rt: &impl Abort, alloc: Global, files: Files<Stopping>) -> Pair {
+    pub(crate) fn of(alloc: Global, files: Files<Stopping>) -> Option<Pair> {
         let Files { log, db } = files;
-        Pair {
-            log: Stored::of(rt, alloc, log),
-            db: Stored::of(rt, alloc, db),
-        }
+        Pair::both(Stored::of(alloc, log), Stored::of(alloc, db))
     }
 
     /// Disks that hold the files, and stop after so many calls.
-    pub(crate) fn disks(&self, rt: &impl Abort, alloc: Global, calls: Calls) -> Files<Stopping> {
-        Files {
-            log: self.log.disk(rt, alloc, calls.log),
-            db: self.db.disk(rt, alloc, calls.db),
+    pub(crate) fn disks(&self, alloc: Global, calls: Calls) -> Option<Files<Stopping>> {
+        match (
+            self.log.disk(alloc, calls.log),
+            self.db.disk(alloc, calls.db),
+        ) {
+            (Some(log), Some(db)) => Some(Files { log, db }),
+            _ => None,
         }
     }
 
     /// The files as a stop leaves them.
-    pub(crate) fn left(&self, rt: &impl Abort, alloc: Global, log: Loss, db: Loss) -> Pair {
-        Pair {
-            log: self.log.left(rt, alloc, log),
-            db: self.db.left(rt, alloc, db),
-        }
+    pub fn left(&self, alloc: Global, log: Loss, db: Loss) -> Option<Pair> {
+        Pair::both(self.log.left(alloc, log), self.db.left(alloc, db))
     }
 
     /// Whether both disks took each call, and take one more.
-    pub(crate) fn have_spare(&self) -> bool {
+    pub fn have_spare(&self) -> bool {
         self.log.has_spare && self.db.has_spare
     }
 
     /// Whether the database has the same bytes. Its log is begun anew at each opening.
-    pub(crate) fn is_same_database(&self, other: &Pair) -> bool {
+    pub fn is_same_database(&self, other: &Pair) -> bool {
         self.db.written.as_slice() == other.db.written.as_slice()
     }
 
     /// Of how many of the files a stop can lose what was written.
-    pub(crate) fn unsynced(&self) -> usize {
+    pub fn unsynced(&self) -> usize {
         usize::from(!self.log.is_synced()) + usize::from(!self.db.is_synced())
     }
 }

@@ -2,7 +2,6 @@
 
 mod brought_up;
 mod cut_off;
-mod ends;
 mod outside;
 mod stages;
 mod stops;

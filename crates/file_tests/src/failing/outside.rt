@@ -1,11 +1,10 @@
 //! Rows with a value outside those of a column, which no act leaves: for each column of each table one at least. No text is
 //! outside `repeats.spell`, and of `cards.qty` a number above 0 in the line of a shipment alone.
 
-use crate::disk::{Work, opened};
-use crate::exchange::{parted, text_asked};
+use crate::disk::opened;
 use crate::failing::stages::{Stage, day_stages};
 use crate::failing::trial::{Seen, Trial};
-use crate::files::Calls;
+use book_trials::{Calls, parted, text_asked};
 use std::alloc::Global;
 use std::mem;
 use std::process::Abort;
@@ -101,8 +100,8 @@ static FOREIGN: &str =
 // What is seen where the SQL was run in the books and the text then sent, which leaves every row as it was.
 fn seen_after(rt: &impl Abort, alloc: Global, books: &Stage, sql: &str, text: &str) -> Seen {
     let mut seen = Seen::nothing(alloc);
-    let work = Work::Trial(Trial::Ask(sql, text));
-    drop(opened(rt, alloc, &books.files, Calls::ALL, work, &mut seen));
+    let trial = Trial::Ask(sql, text);
+    drop(opened(rt, alloc, &books.files, Calls::ALL, trial, &mut seen));
     let is_kept = seen.is_unchanged() && books.has(&seen.before) == sql.is_empty();
     assert!(rt; seen.is_closed && seen.is_sound && is_kept, "{sql:?}");
     seen
@@ -110,7 +109,7 @@ fn seen_after(rt: &impl Abort, alloc: Global, books: &Stage, sql: &str, text: &s
 
 // What answers the request where the SQL was run in the books.
 fn answer_after(rt: &impl Abort, alloc: Global, books: &Stage, sql: &str, asked: &str) -> Vec<u8> {
-    let text = text_asked(rt, alloc, asked);
+    let text = text_asked(alloc, asked).expect(rt, "a request");
     let mut seen = seen_after(rt, alloc, books, sql, text.as_str());
     let taken = mem::replace(&mut seen.taken, Vec::new(alloc));
     drop(seen);
@@ -135,7 +134,7 @@ fn books_with_another_row_of_meta_are_foreign(rt: HostRuntime) {
 }
 
 fn is_refused(rt: &impl Abort, alloc: Global, books: &Stage, line: &str) {
-    let (sql, asked) = parted(rt, line, " => ");
+    let (sql, asked) = parted(line, " => ").expect(rt, "two parts");
     let answer = answer_after(rt, alloc, books, sql, asked);
     assert!(rt; answer.as_slice() == FOREIGN.as_bytes(), "{line:?}");
 }
@@ -151,7 +150,7 @@ fn rows_of_no_books_are_foreign(rt: HostRuntime) {
 }
 
 fn is_passed_over(rt: &impl Abort, alloc: Global, books: &Stage, line: &str) {
-    let (sql, asked) = parted(rt, line, " => ");
+    let (sql, asked) = parted(line, " => ").expect(rt, "two parts");
     let sound = answer_after(rt, alloc, books, "", asked);
     let answer = answer_after(rt, alloc, books, sql, asked);
     assert!(rt; sound.starts_with(b"HTTP/1.1 200"), "{line:?}");

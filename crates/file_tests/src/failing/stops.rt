@@ -1,12 +1,11 @@
 //! Runs whose disks stop after each count of calls, and what is found of the books when they are opened again: every act
 //! that was answered, and of the one that was not all or nothing.
 
-use crate::disk::{Work, opened};
-use crate::exchange::Exchange;
+use crate::disk::opened;
 use crate::failing::stages::{RECALL, Stage, day, stages};
 use crate::failing::trial::{Seen, Trial};
-use crate::files::{Calls, Loss, Pair};
 use crate::seen_rows::Rows;
+use book_trials::{Calls, Exchange, Loss, Pair};
 use std::alloc::Global;
 use std::process::Abort;
 
@@ -117,9 +116,9 @@ fn stops<T: Stopped>(
 ) -> bool {
     let mut seen = Seen::nothing(alloc);
     let exchanges = run.exchanges();
-    let work = Work::Trial(Trial::Serve(exchanges));
+    let trial = Trial::Serve(exchanges);
     let first = run.files().expect(rt, "books");
-    let files = opened(rt, alloc, first, calls, work, &mut seen);
+    let files = opened(rt, alloc, first, calls, trial, &mut seen);
     let is_sound = seen.is_sound && !seen.is_foreign && seen.repeated == 0;
     let (is_whole, answered) = (seen.is_whole(exchanges.len()), seen.answered);
     drop(seen);
@@ -143,7 +142,7 @@ fn recover<T: Stopped>(
     count: &mut Count,
 ) {
     for (log, db) in losses(files) {
-        let left = files.left(rt, alloc, *log, *db);
+        let left = files.left(alloc, *log, *db).expect(rt, "memory");
         count.found(run.recovers(rt, alloc, &left, answered));
     }
 }
@@ -191,8 +190,8 @@ impl Stopped for Run<'_> {
         let at = answered.min(self.exchanges.len().saturating_sub(1));
         let exchange = self.exchanges.get(at).expect(rt, "a request");
         let mut seen = Seen::nothing(alloc);
-        let work = Work::Trial(Trial::Check(exchange));
-        drop(opened(rt, alloc, left, Calls::ALL, work, &mut seen));
+        let trial = Trial::Check(exchange);
+        drop(opened(rt, alloc, left, Calls::ALL, trial, &mut seen));
         let (is_whole, is_repeated) = (seen.is_whole(1), seen.repeated != 0);
         let acted = self.has(at.saturating_add(1), &seen.before);
         let is_kept = acted || self.has(answered, &seen.before);

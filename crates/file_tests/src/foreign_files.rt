@@ -1,9 +1,9 @@
 //! Files of books that are no more those of their schema: they do not open, and not one byte of the database changes.
 
 use crate::disk::after;
-use crate::files::Pair;
 use crate::old_files::{first_books, second_books, third_books};
 use crate::steps::{On, Step};
+use book_trials::Pair;
 use std::alloc::Global;
 use std::process::Abort;
 

@@ -1,18 +1,18 @@
-//! The two ends of a client, which may fail.
+//! The two ends of a client, which may fail, and what a line prints to.
 
 use std::alloc::Global;
 use std::io::{self, ErrorKind, Read, Write};
 
 /// Sends a text, and then ends or fails.
 #[derive(Drop)]
-pub(crate) struct Sender<'a> {
+pub struct Sender<'a> {
     rest: &'a [u8],
     ends: bool,
 }
 
 impl<'a> Sender<'a> {
     /// Sends the text, and ends.
-    pub(crate) fn whole(text: &'a str) -> Sender<'a> {
+    pub fn whole(text: &'a str) -> Sender<'a> {
         Sender {
             rest: text.as_bytes(),
             ends: true,
@@ -20,7 +20,7 @@ impl<'a> Sender<'a> {
     }
 
     /// Sends so many bytes of the text, and fails.
-    pub(crate) fn failing(text: &'a str, sent: usize) -> Sender<'a> {
+    pub fn failing(text: &'a str, sent: usize) -> Sender<'a> {
         let bytes = text.as_bytes();
         Sender {
             rest: &bytes[..sent.min(bytes.len())],
@@ -43,27 +43,42 @@ impl Read for Sender<'_> {
 
 /// Takes an answer, or fails within it or at the flush.
 #[derive(Drop)]
-pub(crate) struct Receiver {
-    pub(crate) taken: Vec<u8>,
+pub struct Receiver {
+    /// What was taken.
+    pub taken: Vec<u8>,
     room: usize,
+    /// How many bytes it takes at once.
+    at_once: usize,
     flushes: bool,
 }
 
 impl Receiver {
     /// Takes all.
-    pub(crate) fn whole(alloc: Global) -> Receiver {
+    pub fn whole(alloc: Global) -> Receiver {
         Receiver {
             taken: Vec::new(alloc),
             room: usize::MAX,
+            at_once: usize::MAX,
+            flushes: true,
+        }
+    }
+
+    /// Takes all, a few bytes at once.
+    pub fn sipping(alloc: Global, at_once: usize) -> Receiver {
+        Receiver {
+            taken: Vec::new(alloc),
+            room: usize::MAX,
+            at_once,
             flushes: true,
         }
     }
 
     /// Takes so many bytes, and then fails.
-    pub(crate) fn failing(alloc: Global, room: usize) -> Receiver {
+    pub fn failing(alloc: Global, room: usize) -> Receiver {
         Receiver {
             taken: Vec::new(alloc),
             room,
+            at_once: usize::MAX,
             flushes: false,
         }
     }
@@ -71,7 +86,7 @@ impl Receiver {
 
 impl Write for Receiver {
     fn write(&mut self, buf: &[u8]) -> io::Result<usize> {
-        let count = buf.len().min(self.room);
+        let count = buf.len().min(self.room).min(self.at_once);
         if count == 0 {
             return Err(io::Error::from(ErrorKind::BrokenPipe));
         }

@@ -18,6 +18,10 @@ enum Turn {
     Make(&'static str),
     /// The card of a lot that never came is asked for, and this is told of it.
     Card(&'static str),
+    /// The books are held against their acts, and this is told of it.
+    Audit(&'static str),
+    /// The acts are asked for, and this is told of them.
+    History(&'static str),
     /// The port is served, and a client has an item made.
     Serve,
     /// The port is to be served, which is taken: this is told before the file is read.
@@ -183,6 +187,8 @@ fn take(host: &HostRuntime, rt: &impl Abort, db: &str, turn: Turn) {
     match turn {
         Turn::Make(told) => silent(host, rt, db, &making(rt), told),
         Turn::Card(told) => silent(host, rt, db, &card(rt), told),
+        Turn::Audit(told) => silent(host, rt, db, &Work::Audit(None), told),
+        Turn::History(told) => silent(host, rt, db, &Work::History, told),
         Turn::Serve => serves(host, rt, db),
         Turn::FindTaken => finds_taken(host, rt, db),
         Turn::HasNone => assert!(rt; !fs::exists(host, db).expect(rt, "a folder")),
@@ -204,8 +210,11 @@ fn take_all(host: &HostRuntime, rt: &impl Abort, folder: &str, db: &str, turns: 
 }
 
 // Books are made, asked for a lot, given an item, and asked again. Only the making of books makes a file.
-static KEPT: [Turn; 9] = [
+static KEPT: [Turn; 12] = [
     Turn::Card("lotd: store\n"),
+    Turn::HasNone,
+    Turn::Audit("lotd: store\n"),
+    Turn::History("lotd: store\n"),
     Turn::HasNone,
     Turn::Make(""),
     Turn::HasPages(1024),
@@ -223,12 +232,20 @@ fn keeps_books_in_a_file(rt: HostRuntime) {
 
 // Where the making of books stopped after the first page, and where an empty file is there, it goes on; a file that is
 // none of books stays as it is.
-static LAID: [&[Turn]; 3] = [
+static LAID: [&[Turn]; 4] = [
     &[Turn::PutPage, Turn::Make(""), Turn::HasPages(1024)],
+    &[
+        Turn::PutPage,
+        Turn::Audit("lotd: foreign books\n"),
+        Turn::History("lotd: foreign books\n"),
+        Turn::HasPages(1024),
+    ],
     &[
         Turn::Put(b"no database"),
         Turn::FindTaken,
         Turn::Make("lotd: store\n"),
+        Turn::Audit("lotd: store\n"),
+        Turn::History("lotd: store\n"),
         Turn::Has(b"no database"),
     ],
     &[Turn::Put(b""), Turn::Make(""), Turn::HasPages(1024)],

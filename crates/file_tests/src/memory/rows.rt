@@ -1,7 +1,8 @@
 //! The rows of every table after so many steps of the day.
 
 use crate::memory::steps::{DayStep, step_at};
-use crate::order_rows::{QUERIES, gives, shown};
+use crate::rows::{gives, shown};
+use book_trials::QUERIES;
 use sqlite::{Alter, Connection};
 use std::alloc::Global;
 use std::process::Abort;

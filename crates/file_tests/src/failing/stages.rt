@@ -1,10 +1,9 @@
 //! The books as they stand between two requests of a day's work.
 
-use crate::disk::{Work, opened};
-use crate::exchange::Exchange;
+use crate::disk::opened;
 use crate::failing::trial::{Seen, Trial};
-use crate::files::{Calls, Pair};
 use crate::seen_rows::Rows;
+use book_trials::{Calls, Exchange, Pair};
 use std::alloc::Global;
 use std::process::Abort;
 
@@ -34,7 +33,8 @@ POST /urgents {"key":"K-19","order":"S-3","customer":"Mill Inn","lines":[{"gtin"
 pub(crate) fn day(rt: &impl Abort, alloc: Global) -> Vec<Exchange> {
     let mut exchanges = Vec::new(alloc);
     for line in DAY.lines() {
-        assert!(rt; exchanges.push(Exchange::of_line(rt, alloc, line)).is_ok());
+        let exchange = Exchange::of_line(alloc, line).expect(rt, "an exchange");
+        assert!(rt; exchanges.push(exchange).is_ok());
     }
     exchanges
 }
@@ -62,7 +62,7 @@ impl Stage {
         count: usize,
     ) -> Stage {
         let mut seen = Seen::nothing(alloc);
-        let files = opened(rt, alloc, files, Calls::ALL, Work::Trial(trial), &mut seen);
+        let files = opened(rt, alloc, files, Calls::ALL, trial, &mut seen);
         Stage::seen(rt, files, seen, count)
     }
 
@@ -83,8 +83,8 @@ impl Stage {
     /// The books after a request: they are opened for it, with the rows that they were closed with, and closed after it.
     pub(crate) fn next(&self, rt: &impl Abort, alloc: Global, exchange: &Exchange) -> Stage {
         let mut seen = Seen::nothing(alloc);
-        let work = Work::Trial(Trial::Check(exchange));
-        let files = opened(rt, alloc, &self.files, Calls::ALL, work, &mut seen);
+        let trial = Trial::Check(exchange);
+        let files = opened(rt, alloc, &self.files, Calls::ALL, trial, &mut seen);
         assert!(rt; self.has(&seen.before), "other rows");
         Stage::seen(rt, files, seen, 1)
     }

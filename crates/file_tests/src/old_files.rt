@@ -3,15 +3,13 @@
 
 ghost use Rattle.std.specs.Prelude.{◌<◌};
 
-use crate::asking::Asked;
 use crate::disk::run_from;
-use crate::files::Pair;
 use crate::old_bytes::{
     FIRST_SCHEMA, FIRST_SCHEMA_RESTORED, SECOND_SCHEMA, SECOND_SCHEMA_REST, THIRD_SCHEMA,
     THIRD_SCHEMA_REST,
 };
 use crate::steps::{On, Step};
-use crate::table::{Left, Table};
+use book_trials::Pair;
 use std::alloc::Global;
 use std::process::Abort;
 
@@ -79,15 +77,19 @@ fn file_of(rt: &impl Abort, alloc: Global, old: &OldFile) -> Vec<u8> {
     bytes
 }
 
+fn books(rt: &impl Abort, alloc: Global, bytes: Vec<u8>) -> Pair {
+    Pair::holding(alloc, bytes).expect(rt, "memory")
+}
+
 // Each function that names such a file takes long to check, and one that names a whole file of schema 2 or 3 too long.
 
 /// Books of schema 1 as a program made them.
 pub(crate) fn first_books(rt: &impl Abort, alloc: Global) -> Pair {
-    Pair::holding(rt, alloc, file_of(rt, alloc, &FIRST_SCHEMA))
+    books(rt, alloc, file_of(rt, alloc, &FIRST_SCHEMA))
 }
 
 fn restored_books(rt: &impl Abort, alloc: Global) -> Pair {
-    Pair::holding(rt, alloc, file_of(rt, alloc, &FIRST_SCHEMA_RESTORED))
+    books(rt, alloc, file_of(rt, alloc, &FIRST_SCHEMA_RESTORED))
 }
 
 fn front_of_second(rt: &impl Abort, alloc: Global) -> Vec<u8> {
@@ -102,7 +104,7 @@ fn place_rest_of_second(rt: &impl Abort, alloc: Global, bytes: &mut Vec<u8>) {
 pub(crate) fn second_books(rt: &impl Abort, alloc: Global) -> Pair {
     let mut bytes = front_of_second(rt, alloc);
     place_rest_of_second(rt, alloc, &mut bytes);
-    Pair::holding(rt, alloc, bytes)
+    books(rt, alloc, bytes)
 }
 
 fn front_of_third(rt: &impl Abort, alloc: Global) -> Vec<u8> {
@@ -117,7 +119,7 @@ fn place_rest_of_third(rt: &impl Abort, alloc: Global, bytes: &mut Vec<u8>) {
 pub(crate) fn third_books(rt: &impl Abort, alloc: Global) -> Pair {
     let mut bytes = front_of_third(rt, alloc);
     place_rest_of_third(rt, alloc, &mut bytes);
-    Pair::holding(rt, alloc, bytes)
+    books(rt, alloc, bytes)
 }
 
 // The rows of the tables of schema 1 behind `meta` after the acts of `old_files.py`: five of twelve units shipped to the
@@ -157,14 +159,14 @@ GET /shortages/09506000134352 => 200 |SHORTAGES 09506000134352 Oat drink|SHORT S
 
 // The books are brought up as a house opens them, and what they had stays.
 const BROUGHT: &[Step] = &[
-    Step::House(&[]),
+    Step::Open,
     Step::On(On::HasMeta("1|LOTSTOCK|4|20578|21|1\n")),
-    Step::On(On::KeepsRows(Left::Old)),
+    Step::On(On::KeepsRows),
 ];
 
 const URGENT: &str = "SELECT ord || '|' || act FROM urgents";
 
-const GOES_ON: &[Step] = &[Step::House(&[Asked::Each(Table::OldTold)])];
+const GOES_ON: &[Step] = &[Step::GoOn];
 
 const DAYS_LEFT: &str = "SELECT gtin || '|' || days FROM least";
 
@@ -172,7 +174,7 @@ const DAYS_LEFT: &str = "SELECT gtin || '|' || days FROM least";
 static OF_THE_FIRST: [&[Step]; 4] = [
     &[
         Step::On(On::HasMeta("1|LOTSTOCK|1|20578|21|1\n")),
-        Step::On(On::KeepsRows(Left::Old)),
+        Step::On(On::KeepsRows),
     ],
     BROUGHT,
     &[
@@ -186,7 +188,7 @@ static OF_THE_FIRST: [&[Step]; 4] = [
 static OF_THE_SECOND: [&[Step]; 4] = [
     &[
         Step::On(On::HasMeta("1|LOTSTOCK|2|20578|21|1\n")),
-        Step::On(On::KeepsRows(Left::Old)),
+        Step::On(On::KeepsRows),
         Step::On(On::Run("UPDATE least SET days = 1")),
     ],
     BROUGHT,
@@ -201,7 +203,7 @@ static OF_THE_SECOND: [&[Step]; 4] = [
 static OF_THE_THIRD: [&[Step]; 4] = [
     &[
         Step::On(On::HasMeta("1|LOTSTOCK|3|20578|21|1\n")),
-        Step::On(On::KeepsRows(Left::Old)),
+        Step::On(On::KeepsRows),
         Step::On(On::Run("UPDATE least SET days = 1")),
         Step::On(On::Run("INSERT INTO urgents VALUES ('S-2', 13)")),
     ],

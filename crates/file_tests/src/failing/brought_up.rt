@@ -1,13 +1,12 @@
 //! Older books whose disks stop as they are brought up: what is found is the tables of their schema or those of the newest,
 //! each whole, and the books go on from there.
 
-use crate::disk::{Work, opened};
-use crate::exchange::Exchange;
+use crate::disk::opened;
 use crate::failing::stops::{Side, Stopped, stop};
 use crate::failing::trial::{Seen, Trial};
-use crate::files::{Calls, Pair};
 use crate::old_files::{first_books, second_books, third_books};
 use crate::seen_rows::Rows;
+use book_trials::{Calls, Exchange, Pair};
 use std::alloc::Global;
 use std::process::Abort;
 
@@ -18,8 +17,8 @@ static GOES_ON: &str =
 // The rows of the books as they are found, and after the exchange.
 fn rows_around(rt: &impl Abort, alloc: Global, files: &Pair, exchange: &Exchange) -> (Rows, Rows) {
     let mut seen = Seen::nothing(alloc);
-    let work = Work::Trial(Trial::Check(exchange));
-    drop(opened(rt, alloc, files, Calls::ALL, work, &mut seen));
+    let trial = Trial::Check(exchange);
+    drop(opened(rt, alloc, files, Calls::ALL, trial, &mut seen));
     let is_done = seen.is_whole(1) && seen.repeated == 0;
     let (before, after) = (seen.before.take(), seen.after.take());
     drop(seen);
@@ -30,8 +29,8 @@ fn rows_around(rt: &impl Abort, alloc: Global, files: &Pair, exchange: &Exchange
 // The files after the books were opened and closed.
 fn files_opened(rt: &impl Abort, alloc: Global, files: &Pair) -> Pair {
     let mut seen = Seen::nothing(alloc);
-    let work = Work::Trial(Trial::Serve(&[]));
-    let left = opened(rt, alloc, files, Calls::ALL, work, &mut seen);
+    let trial = Trial::Serve(&[]);
+    let left = opened(rt, alloc, files, Calls::ALL, trial, &mut seen);
     let is_done = seen.is_whole(0);
     drop(seen);
     assert!(rt; is_done, "the books do not open");
@@ -53,7 +52,7 @@ struct Bringing {
 
 impl Bringing {
     fn of(rt: &impl Abort, alloc: Global, files: Pair) -> Bringing {
-        let exchange = Exchange::of_line(rt, alloc, GOES_ON);
+        let exchange = Exchange::of_line(alloc, GOES_ON).expect(rt, "an exchange");
         let brought_up = files_opened(rt, alloc, &files);
         let (older, next) = rows_around(rt, alloc, &files, &exchange);
         let (newest, again) = rows_around(rt, alloc, &brought_up, &exchange);

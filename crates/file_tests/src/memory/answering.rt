@@ -1,9 +1,9 @@
 //! A house that answers the day's requests, for each of which there may be no memory.
 
-use crate::exchange::{text_asked, text_told};
 use crate::memory::rows::has_rows_after;
 use crate::memory::steps::{ALL, DayStep, MADE, NO_MEMORY, SET_UP, step_at};
 use crate::opening::{books_of, new_books};
+use book_trials::{text_asked, text_told};
 use house::House;
 use sqlite::{Alter, Connection};
 use std::alloc::Global;
@@ -22,9 +22,9 @@ pub(crate) struct Answers {
 impl Answers {
     pub(crate) fn of(rt: &impl Abort, alloc: Global, step: &DayStep) -> Answers {
         Answers {
-            asked: text_asked(rt, alloc, step.asked),
-            expected: text_told(rt, alloc, step.told),
-            no_memory: text_told(rt, alloc, NO_MEMORY),
+            asked: text_asked(alloc, step.asked).expect(rt, "a request"),
+            expected: text_told(alloc, step.told).expect(rt, "an answer"),
+            no_memory: text_told(alloc, NO_MEMORY).expect(rt, "an answer"),
         }
     }
 

@@ -1,0 +1,27 @@
+//! What the tests over books share: what is asked and answered as they write it down, a worked history, the two files of the
+//! books in memory, the rows of the tables, and lines of the program over one connection.
+//!
+//! Nothing here ends a test. It tells what it found, and the test judges that. `None` is told too where there is no memory.
+#![tactic(auto)]
+
+mod ends;
+mod exchange;
+mod files;
+mod history;
+mod lines;
+mod opening;
+mod over_files;
+mod rows;
+mod spread;
+
+pub use ends::{Receiver, Sender};
+pub use exchange::{
+    Exchange, answer, answers_line, logged, parted, request, text_asked, text_told,
+};
+pub use files::{Calls, Loss, Pair};
+pub use history::{History, made};
+pub use lines::{Line, line_run};
+pub use opening::{closed, first_day, new_books, not_made, not_opened, opened_books};
+pub use over_files::{Left, Work, over};
+pub use rows::{QUERIES, shown};
+pub use spread::{Spread, acts_on_each, answers_spread, line_of, of_act, of_numbers};

@@ -1,0 +1,59 @@
+//! Work over a connection to files in memory.
+
+use crate::files::{Calls, Pair, Stopping};
+use sqlite::{Alter, Connection, Files, Options};
+use std::alloc::Global;
+use tables::opening::{Leftover, Orderly};
+
+/// What is done over one connection.
+pub trait Work {
+    /// Does it, and gives what is left of the connection.
+    fn work<S: Orderly + Drop>(&mut self, conn: Connection<S>) -> Leftover<S>;
+}
+
+/// What work left.
+#[derive(Drop)]
+pub struct Left {
+    /// The files.
+    pub files: Pair,
+    /// They were opened, and closed after the work.
+    pub is_closed: bool,
+}
+
+// The one function over the connection's own type: each takes long to check.
+fn worked<W: Work>(
+    alloc: Global,
+    files: Files<Stopping>,
+    options: Options,
+    work: &mut W,
+) -> (Files<Stopping>, bool) {
+    if !files.may_be_used() {
+        return (files, false);
+    }
+    let conn = match Connection::open_files(alloc, files, options) {
+        Ok(conn) => conn,
+        Err((_, left)) => return (left.into_files(), false),
+    };
+    let conn = match work.work(conn) {
+        Leftover::Connection(conn) => conn,
+        Leftover::Store(store) => return (store.close(), false),
+    };
+    match conn.close_files() {
+        Ok(files) => (files, true),
+        Err((_, store)) => (store.close(), false),
+    }
+}
+
+/// Opens a connection over the files, whose disks stop after so many calls, works and closes it.
+pub fn over<W: Work>(
+    alloc: Global,
+    files: &Pair,
+    calls: Calls,
+    options: Options,
+    work: &mut W,
+) -> Option<Left> {
+    let files = files.disks(alloc, calls)?;
+    let (files, is_closed) = worked(alloc, files, options, work);
+    let files = Pair::of(alloc, files)?;
+    Some(Left { files, is_closed })
+}
