@@ -183,7 +183,9 @@ def set_shipments(db):
     numbers = range(1, SHIPMENTS + 1)
     conn.execute("INSERT INTO orders VALUES ('S-1', 3, 'Corner Shop', 'OPEN')")
     conn.execute("INSERT INTO recalls VALUES (?, 'L1', 4)", (OATS,))
-    conn.executemany("INSERT INTO shipments VALUES (?, ?, ?, 'S-1')", [(n, n + 4, DAY) for n in numbers])
+    last = LINES + 2
+    conn.executemany("INSERT INTO shipments VALUES (?, ?, ?, 'S-1')", [(n, last + n, DAY) for n in numbers])
+    conn.executemany("INSERT INTO cards VALUES (?, 'L1', ?, ?, 'SHIPMENT', ?, -1000000, 0)", [(OATS, last + n, DAY, str(n)) for n in numbers])
     conn.executemany("INSERT INTO shiplines VALUES (?, ?, 'L1', 1000000)", [(n, OATS) for n in numbers])
     conn.execute("UPDATE meta SET shipments = ?", (SHIPMENTS,))
     conn.commit()

@@ -66,8 +66,8 @@ def is_refused(what, code, *words, out=None):
 
 def card_rows(count, shipments):
     """The lines of a card, the shipments among them: act, kind, reference, change, and what is in the house after it."""
-    changes = [(10, "RECEIPT", "D-0/1", 9_000_000)]
-    for n in range(1, count - len(shipments)):
+    changes = [(n, "RECEIPT", "D-0/%d" % n, 1_000_000) for n in range(1, 10)]
+    for n in range(1, count - len(shipments) - 8):
         kind, note, change = [("RECEIPT", "D-%d/%d" % (n, n % 9_999 + 1), 9), ("WRITEON", "A-01", 1), ("WRITEOFF", "A-02", -2)][n % 3]
         changes.append((3 * n + 10, kind, note, change))
     changes += [(act, "SHIPMENT", str(number), -qty) for number, act, qty, _, _ in shipments]

@@ -1,5 +1,5 @@
 -- Lines of a text.
-use Rattle.std.specs.Prelude.{◌≡◌, ◌≢◌, ◌==◌, if◌then◌else◌, ℕ, List, [], ◌∷◌, ◌++◌, All, map, Option, Some, None}
+use Rattle.std.specs.Prelude.{◌≡◌, ◌≢◌, ℕ, List, [], ◌∷◌, ◌++◌, All, Option, Some, None}
 
 -- it is told what a reader has left
 abbrev pub Tells : Option (List ℕ) → Type 0
@@ -15,7 +15,3 @@ pub record IsLine (line : List ℕ) : Type 0 where
   pub body : List ℕ
   pub is : line ≡ body ++ 10 ∷ []
   pub one : IsPart body
-
--- each tab is a line feed
-abbrev pub untabbed : List ℕ → List ℕ
-untabbed text = map (λ b. if b == 9 then 10 else b) text

@@ -1,6 +1,8 @@
 //! Books in memory in which acts were done, changed by SQL, and audited.
 
+use crate::long_orders::{self, ACTS};
 use crate::parts::Part;
+use crate::printed::{history_of, long_text, words as ended};
 use crate::told::words;
 use audits::{Finding, audit};
 use commands::{Command, Key};
@@ -30,6 +32,12 @@ pub(crate) enum Trial<'a> {
     Changed(&'a [Part], &'a str),
     /// Likewise after the week's acts, where the first day is given.
     Given(&'a str),
+    /// Likewise of the history, printed to an output with room for so many bytes.
+    Ends(usize, &'a str),
+    /// The acts are done, and this is their history.
+    Printed(&'a [Part], &'a str),
+    /// The long orders are audited, their history is printed, and a value of one is changed.
+    Long,
     /// After the week's acts each byte of the spelling of the act of this number becomes another, one at a time, and each
     /// time the audit tells of it.
     Bytes(u32),
@@ -95,18 +103,28 @@ fn new_books<S: Alter + Drop>(rt: &impl Abort, alloc: Global, conn: Connection<S
     }
 }
 
-/// The connection of new books in which these acts were done.
+/// New books in which these acts were done.
+fn worked_books<S: Alter + Drop>(
+    rt: &impl Abort,
+    alloc: Global,
+    conn: Connection<S>,
+    parts: &[Part],
+) -> Books<S> {
+    let mut books = new_books(rt, alloc, conn);
+    for part in parts {
+        acts(rt, alloc, &mut books, part.lines());
+    }
+    books
+}
+
+/// The connection of such books.
 fn worked<S: Alter + Drop>(
     rt: &impl Abort,
     alloc: Global,
     conn: Connection<S>,
     parts: &[Part],
 ) -> Connection<S> {
-    let mut books = new_books(rt, alloc, conn);
-    for part in parts {
-        acts(rt, alloc, &mut books, part.lines());
-    }
-    books.close()
+    worked_books(rt, alloc, conn, parts).close()
 }
 
 /// What the audit finds, and the connection.
@@ -195,6 +213,79 @@ fn says_given<S: Orderly + Drop>(
 ) -> Connection<S> {
     let (conn, expected) = changed(rt, alloc, conn, WEEK, line);
     says(rt, alloc, conn, Some(first_day(rt)), expected)
+}
+
+fn ends<S: Alter + Drop>(
+    rt: &impl Abort,
+    alloc: Global,
+    conn: Connection<S>,
+    room: usize,
+    line: &str,
+) -> Connection<S> {
+    let (sql, expected) = parted(rt, line, " => ");
+    let books = worked_books(rt, alloc, conn, WEEK);
+    let today = books.day();
+    let mut conn = books.close();
+    run(rt, alloc, &mut conn, sql);
+    let (text, end) = history_of(alloc, &mut conn, today, room);
+    let said = ended(rt, alloc, text.as_slice(), end);
+    assert!(rt; said.as_slice() == expected.as_bytes(), "{line:?}: {end:?}");
+    conn
+}
+
+/// This is the history of the books.
+fn prints<S: Alter + Drop>(
+    rt: &impl Abort,
+    alloc: Global,
+    books: Books<S>,
+    expected: &str,
+) -> Connection<S> {
+    let today = books.day();
+    let mut conn = books.close();
+    let (text, end) = history_of(alloc, &mut conn, today, usize::MAX);
+    assert!(rt; end == Ok(()), "{end:?}");
+    assert!(rt; text.as_slice() == expected.as_bytes(), "{text:?}");
+    conn
+}
+
+fn prints_parts<S: Alter + Drop>(
+    rt: &impl Abort,
+    alloc: Global,
+    conn: Connection<S>,
+    parts: &[Part],
+    expected: &str,
+) -> Connection<S> {
+    let books = worked_books(rt, alloc, conn, parts);
+    prints(rt, alloc, books, expected)
+}
+
+/// The books of the long orders.
+fn long_books<S: Alter + Drop>(rt: &impl Abort, alloc: Global, conn: Connection<S>) -> Books<S> {
+    let mut books = new_books(rt, alloc, conn);
+    for number in 0..ACTS {
+        let line = long_orders::act(rt, alloc, number);
+        act(rt, alloc, &mut books, line.as_str());
+    }
+    books
+}
+
+// The lines of the second order are in the newer half of their table.
+fn reads_long_orders<S: Orderly + Drop>(
+    rt: &impl Abort,
+    alloc: Global,
+    conn: Connection<S>,
+) -> Connection<S> {
+    let books = long_books(rt, alloc, conn);
+    let text = long_text(rt, alloc);
+    let conn = prints(rt, alloc, books, text.as_str());
+    let mut conn = says_always(rt, alloc, conn, "sound 202 2026-05-04");
+    run(
+        rt,
+        alloc,
+        &mut conn,
+        "UPDATE lines SET shipped = -1 WHERE ord = 'S-2'",
+    );
+    says_always(rt, alloc, conn, "untyped lines")
 }
 
 fn sound<S: Orderly + Drop>(
@@ -297,6 +388,9 @@ fn tried<S: Orderly + Drop>(
         Trial::Begun(parts, given, expected) => begun(rt, alloc, conn, parts, given, expected),
         Trial::Changed(parts, line) => says_of_change(rt, alloc, conn, parts, line),
         Trial::Given(line) => says_given(rt, alloc, conn, line),
+        Trial::Ends(room, line) => ends(rt, alloc, conn, room, line),
+        Trial::Printed(parts, expected) => prints_parts(rt, alloc, conn, parts, expected),
+        Trial::Long => reads_long_orders(rt, alloc, conn),
         Trial::Bytes(number) => notices_bytes(rt, alloc, conn, number),
     }
 }

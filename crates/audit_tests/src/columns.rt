@@ -1,6 +1,7 @@
 //! One value is changed, in each column of each table after the week's acts.
 
 use crate::books::{WEEK, each_changed};
+use crate::parts::Part;
 
 // To a value that a row may have: what is told is the row, or, where the column is of the key, the lesser of the two keys.
 static GOODS: &str = "UPDATE meta SET day = day + 1 => meta 1
@@ -164,4 +165,24 @@ UPDATE repeats SET reply = '1234567890123456789012345678901234567890123456789012
 #[test]
 fn a_value_that_no_row_has_is_told(rt: HostRuntime) {
     each_changed(&rt, rt.alloc(), WEEK, UNTYPED);
+}
+
+const MANY_RECEIPTS: &[Part] = &[Part::GoodsAndBins, Part::Delivered];
+
+// Of 13 acts each of these rows is in the newer half of its table.
+static NEWER: &str =
+    "UPDATE repeats SET reply = '1234567890123456789012345678901234567890123456789012345678901234567890123456789012345678901234567' WHERE act = 13 => untyped repeats
+UPDATE cards SET rest = -1 WHERE act = 13 => untyped cards
+UPDATE cards SET rest = 9 WHERE act = 13 => cards 09506000134352 L8 13
+UPDATE stock SET qty = -1 WHERE lot = 'L8' => untyped stock
+UPDATE stock SET qty = 9 WHERE lot = 'L8' => stock 09506000134352 L8 A-01";
+
+#[test]
+fn a_changed_value_in_a_newer_half_is_told(rt: HostRuntime) {
+    each_changed(
+        &rt,
+        rt.alloc(),
+        &[Part::GoodsAndBins, Part::Delivered],
+        NEWER,
+    );
 }

@@ -12,6 +12,8 @@ pub(crate) enum Part {
     Weeks,
     /// A file of three receipts, after the goods and bins.
     Filed,
+    /// More receipts than other acts, after the goods and bins.
+    Delivered,
     /// A lot that never came is recalled, and one that came, after the goods and bins.
     NeverReceived,
     /// Two deliveries and two customers, after the goods and bins.
@@ -44,6 +46,7 @@ impl Part {
             Part::GoodsAndBins => GOODS_AND_BINS,
             Part::Weeks => WEEKS,
             Part::Filed => FILED,
+            Part::Delivered => DELIVERED,
             Part::NeverReceived => NEVER_RECEIVED,
             Part::TwoCustomers => TWO_CUSTOMERS,
             Part::Picked => PICKED,
@@ -104,6 +107,15 @@ K/H-2|HOLD|04012345000016|N2";
 static FILED: &str = "D/D-9/1|RECEIVE|09506000134352|M1|2026-11-30|A-01|5
 D/D-9/2|RECEIVE|09506000134352|M2|2026-12-31|A-02|7
 D/D-9/3|RECEIVE|04012345000016|N1|2026-12-31|A-02|4";
+
+static DELIVERED: &str = "D/D-1/1|RECEIVE|09506000134352|L1|2026-06-30|A-01|1
+D/D-1/2|RECEIVE|09506000134352|L2|2026-06-30|A-01|2
+D/D-1/3|RECEIVE|09506000134352|L3|2026-06-30|A-01|3
+D/D-1/4|RECEIVE|09506000134352|L4|2026-06-30|A-01|4
+D/D-1/5|RECEIVE|09506000134352|L5|2026-06-30|A-01|5
+D/D-1/6|RECEIVE|09506000134352|L6|2026-06-30|A-01|6
+D/D-1/7|RECEIVE|09506000134352|L7|2026-06-30|A-01|7
+D/D-1/8|RECEIVE|09506000134352|L8|2026-06-30|A-01|8";
 
 static NEVER_RECEIVED: &str = "K/K-11|RECALL|04012345000016|Z9
 D/D-1/2|RECEIVE|04012345000016|A/B|2026-12-31|A-01|4

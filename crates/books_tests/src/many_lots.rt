@@ -193,8 +193,12 @@ static MANY_UNITS: [&[Step]; 1] = [&[
     Step::On(On::Run("INSERT INTO lines SELECT ord, '09506000134352', 1000000, 0 FROM orders")),
     Step::On(On::Run("INSERT INTO orders VALUES ('S-1', 5007, 'Corner Shop', 'OPEN')")),
     Step::On(On::Run("INSERT INTO lines VALUES ('S-1', '04012345000016', 1000000, 0)")),
-    Step::On(On::Run("INSERT INTO lots VALUES ('04012345000016', 'L1', 20634, 5008, 0)")),
-    Step::On(On::Run("INSERT INTO staged VALUES ('S-1', '04012345000016', 'L1', 5000000000)")),
+    Step::On(On::Run(
+        "INSERT INTO lots SELECT '04012345000016', ord, 20634, act, 0 FROM orders WHERE ord <> 'S-1'",
+    )),
+    Step::On(On::Run(
+        "INSERT INTO staged SELECT 'S-1', '04012345000016', ord, 1000000 FROM orders WHERE ord <> 'S-1'",
+    )),
     Step::On(On::Run("UPDATE meta SET acts = 5008")),
     Step::House(&[Asked::Size(Size::Totals)]),
 ]];

@@ -1,8 +1,8 @@
 //! Lines of the program over a file of the host, in the folder that the tests run in: the file is opened for each line and
 //! closed after it.
 
-use books_file::InFiles;
-use command_line::{BooksAt, Work, tell};
+use crate::over_host::work_end;
+use command_line::{Work, tell};
 use label::{BusinessDay, Day};
 use sqlite::Unknown;
 use std::fs;
@@ -76,11 +76,7 @@ const ITEM_MADE: &[u8] =
 fn works(rt: &impl Abort, db: &str, work: &Work<'_>, told: &str, out: &mut Out<'_>) {
     let host = out.host;
     let mut log: Vec<u8> = Vec::new(host.alloc());
-    let books = InFiles {
-        rt: host,
-        start: Unknown,
-    };
-    let (_left, end) = books.work(db, work, out, &mut log);
+    let end = work_end(host, Unknown, db, work, out, &mut log);
     assert!(rt; log.is_empty());
     let mut line = Vec::new(host.alloc());
     if let Err(fault) = end {

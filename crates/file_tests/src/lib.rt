@@ -26,6 +26,8 @@ mod old_files;
 #[cfg(test)]
 mod opening;
 #[cfg(test)]
+mod over_host;
+#[cfg(test)]
 mod program_lines;
 #[cfg(test)]
 mod rows;

@@ -1,8 +1,7 @@
 //! One server of the program answers as many connections as it is told, and then ends: far more than fit into the queue of
 //! a port. Each client comes as the line of the one before it is logged.
 
-use books_file::InFiles;
-use command_line::run;
+use crate::over_host::line_status;
 use sqlite::Unknown;
 use std::cell::Cell;
 use std::fs;
@@ -89,11 +88,7 @@ fn runs(
 ) -> (u32, u32) {
     let mut out = Bell { clients, lines: 0 };
     let mut err = Bell { clients, lines: 0 };
-    let books = InFiles {
-        rt: host,
-        start: Unknown,
-    };
-    let (_left, status) = run(host.alloc(), books, words, &mut out, &mut err);
+    let status = line_status(host, Unknown, words, &mut out, &mut err);
     assert!(rt; status == 0);
     (out.lines, err.lines)
 }
@@ -111,6 +106,7 @@ fn answers_as_many_as_it_is_told(rt: HostRuntime) {
     let none = Cell::new(None);
     let making = ["lotd", "init", "--db", DB, "--day", "2026-05-04"];
     assert!(rt; runs(&rt, &rt, making.as_slice(), &none) == (0, 0));
+    drop(none.into_inner());
     let port = free_port(&rt, &rt);
     let word = format!(in rt.alloc(); "{port}").expect(&rt, "memory");
     let serving = [

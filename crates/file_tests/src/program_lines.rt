@@ -1,8 +1,7 @@
 //! Every line of the program over one file of the host, in the folder that the tests run in: its words, what is printed and
 //! told, and the exit status, byte for byte. The file is opened for each line and closed after it.
 
-use books_file::InFiles;
-use command_line::run;
+use crate::over_host::line_status;
 use sqlite::Unknown;
 use std::fs;
 use std::io::{self, ErrorKind, Read, Write};
@@ -82,11 +81,7 @@ fn output<'a>(host: &'a HostRuntime, port: u16, request: &'static [u8]) -> Out<'
 fn runs(rt: &impl Abort, words: &[&str], status: u8, told: &str, out: &mut Out<'_>) {
     let host = out.host;
     let mut err: Vec<u8> = Vec::new(host.alloc());
-    let books = InFiles {
-        rt: host,
-        start: Unknown,
-    };
-    let (_left, found) = run(host.alloc(), books, words, out, &mut err);
+    let found = line_status(host, Unknown, words, out, &mut err);
     assert!(rt; found == status, "{told:?}");
     assert!(rt; err.as_slice() == told.as_bytes(), "{told:?}");
 }
@@ -287,8 +282,8 @@ static TURNS: [Turn; 38] = [
     Turn::Told(&["lotd", "label", "--day", "2026-05-04", ""], "lotd: L12\n"),
     Turn::Done(&["lotd", "--version"], "lotd 1.0.0, schema 4\n"),
     Turn::Misused(
-        &["lotd", "cards", "--db", DB],
-        "error: unrecognized subcommand 'cards'\n\nUsage: lotd <COMMAND>\n\nFor more information, try '--help'.\n",
+        &["lotd", "weigh", "--db", DB],
+        "error: unrecognized subcommand 'weigh'\n\nUsage: lotd <COMMAND>\n\nFor more information, try '--help'.\n",
     ),
     Turn::Misused(
         &["lotd", "card", "09506000134352", "L2"],

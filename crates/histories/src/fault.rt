@@ -1,3 +1,6 @@
+ghost use Rattle.std.specs.Prelude.{◌≡◌};
+ghost use Rattle.histories.specs.Faults.{fault_of};
+
 use each_row::EachFault;
 use std::alloc::AllocError;
 use table_words::error::TableFault;
@@ -26,7 +29,9 @@ impl From<AllocError> for HistoryFault {
 
 impl HistoryFault {
     /// Why not all rows were handed over, where a sink that stopped did for `stopped`.
-    pub(crate) fn of(cause: EachFault, stopped: HistoryFault) -> HistoryFault {
+    pub(crate) fn of(cause: EachFault, stopped: HistoryFault) -> HistoryFault
+        ensures { result ≡ fault_of cause stopped }
+    {
         match cause {
             EachFault::Stopped => stopped,
             EachFault::Fault(TableFault::Foreign) => HistoryFault::Foreign,

@@ -1,6 +1,6 @@
 //! The day on which the acts of the books began.
 
-ghost use Rattle.std.specs.Prelude.{◌≡◌, ◌≢◌, ◌⊎◌, ℤ, List, Some, None, false, IfOk, OnOk};
+ghost use Rattle.std.specs.Prelude.{◌≡◌, ◌≢◌, ◌⊎◌, ℤ, List, Some, None, false, IfOk, IfErr, OnOk};
 ghost use Rattle.sqlite.specs.Held.{state};
 ghost use Rattle.sqlite.specs.State.{HasCleanDisk, Survives, IsUnchanged, IsRolledBack};
 ghost use Rattle.machine.specs.Acts.{Act};
@@ -11,7 +11,9 @@ ghost use Rattle.commands.specs.declared.rows.CardRow.{CardRow as Record};
 ghost use Rattle.table_words.specs.Steps.{IsReady};
 ghost use Rattle.each_row.specs.declared.fault.EachFault.TheVariants.{Stopped};
 ghost use Rattle.histories.specs.Books.{HasRowsOf};
+ghost use Rattle.histories.specs.Faults.{fault_of};
 ghost use Rattle.histories.specs.Start.{IsStart, first_dated, receipt, day_without_receipt};
+ghost use Rattle.histories.specs.declared.fault.HistoryFault.TheVariants.{Foreign};
 
 use crate::HistoryFault;
 use crate::dated::{Dated, FirstDated};
@@ -116,7 +118,8 @@ fn find_dated<S: Alter>(
 
 /// What was found where the rows came to an end.
 fn found_at(cause: EachFault, rows: &FirstDated) -> Result<Option<Dated>, HistoryFault>
-    ensures { IfOk result (λ found. (cause ≡ Stopped) × (found ≡ rows.now.found) × (found ≢ None)) }
+    ensures found { IfOk result (λ found. (cause ≡ Stopped) × (found ≡ rows.now.found) × (found ≢ None)) }
+    ensures fault { IfErr result (λ fault. (fault ≡ fault_of cause rows.now.fault) × (cause ≡ Stopped → rows.now.found ≡ None)) }
 {
     match (cause, rows.found) {
         (EachFault::Stopped, Some(dated)) => Ok(Some(dated)),
@@ -151,7 +154,8 @@ fn card_day<S: Alter>(
 
 /// The day of the line at which the card lines came to an end.
 fn day_at(cause: EachFault, line: &CardDay) -> Result<Day, HistoryFault>
-    ensures { IfOk result (λ day. (cause ≡ Stopped) × (line.now.day ≡ Some day)) }
+    ensures day { IfOk result (λ day. (cause ≡ Stopped) × (line.now.day ≡ Some day)) }
+    ensures fault { IfErr result (λ fault. (fault ≡ fault_of cause Foreign) × (cause ≡ Stopped → line.now.day ≡ None)) }
 {
     match (cause, line.day) {
         (EachFault::Stopped, Some(day)) => Ok(day),

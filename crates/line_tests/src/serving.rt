@@ -269,7 +269,9 @@ fn taken(host: &HostRuntime, rt: &impl Abort, port: u16) {
         log: true,
     };
     let error = listen(host, &work).expect_err(rt, "a port that is taken");
-    assert!(rt; told_of(host.alloc(), Err(Fault::from(error))).as_slice() == b"lotd: io\n");
+    assert!(rt;
+        told_of(host.alloc(), Err(Fault::from(error))).as_slice() == b"lotd: io\n".as_slice()
+    );
     drop(listener);
 }
 

@@ -8,11 +8,10 @@ use Rattle.machine.specs.Once.{IsHistory}
 use Rattle.table_words.specs.Schema.{schema_0}
 use Rattle.tables.specs.declared.opening.Leftover.{Leftover}
 use Rattle.tables.specs.declared.opening.Leftover.TheVariants.{Connection}
-use Rattle.store.specs.Books.{AreBooks}
-use Rattle.store.specs.Opening.{Found, HasSchema, IsOfNone, AreRowsAt, IsForeignWithin, IsCleanLeft, IsLeftOver, IsLeftUnfilled}
+use Rattle.store.specs.Opening.{Found, HasSchema, IsOfNone, Tells, AreRowsAt, IsForeignWithin, IsCleanLeft, IsLeftOver, IsLeftUnfilled}
 use Rattle.store.specs.declared.fault.Fault.{Fault as BooksFault}
 use Rattle.store.specs.declared.fault.Fault.TheVariants as books
-use Rattle.audits.specs.Auditing.{IsLeftAlone}
+use Rattle.audits.specs.Auditing.{IsLeftAlone, AreNotRaised}
 use Rattle.command_line.specs.declared.fault.Fault.{Fault}
 use Rattle.command_line.specs.declared.fault.Fault.TheVariants.{Store, Foreign}
 use Rattle.command_line.specs.declared.running.Work.{Work}
@@ -49,15 +48,18 @@ module _ {S : Type 0} (g : Ghosts S) (old : Held S) where
     pub foreign : IsCleanLeft g left → fault ≡ Foreign → IsOfNone (state g old).now.schema ⊎ IsForeignWithin (state g old)
     pub known : IsCleanLeft g left → (found : Found) → HasSchema found (state g old).now.schema → (first : ℤ) (acts : List Act) → IsHistory first acts
         → AreRowsAt found first acts (state g old).committed.trees → fault ≡ Store
-    pub again : IsCleanLeft g left → Opens (state g old) → IsLive (state g old) → (first : ℤ) (acts : List Act) → IsHistory first acts
-        → AreBooks first acts (state g old).committed.trees → fault ≡ Store
+    pub again : IsCleanLeft g left → Opens (state g old) → IsLive (state g old) → (found : Found) → Tells found (state g old).committed.trees
+        → (first : ℤ) (acts : List Act) → IsHistory first acts → AreRowsAt found first acts (state g old).committed.trees → fault ≡ Store
     pub unchanged : IsOfNone (state g old).now.schema → left ≡ Connection old
 
-  -- the books were not audited: nothing was committed
+  -- the books were not audited: nothing was committed, and those of a history are never told as foreign
   pub record IsUnaudited (left : Leftover S) (fault : Fault) : Type 0 where
     pub kept : IsLeftAlone g old left
     pub clean : IsCleanBefore left
     pub cause : IsOfBooks fault
+    pub foreign : IsCleanLeft g left → fault ≡ Foreign → IsOfNone (state g old).now.schema ⊎ AreNotRaised (state g old)
+    pub known : IsCleanLeft g left → (found : Found) → HasSchema found (state g old).now.schema → (first : ℤ) (acts : List Act) → IsHistory first acts
+        → AreRowsAt found first acts (state g old).committed.trees → fault ≡ Store
 
   -- the work was not begun
   abbrev pub IsNotBegun : Work → Leftover S → Fault → Type 0

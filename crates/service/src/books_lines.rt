@@ -45,7 +45,7 @@ pub type NotBegun<S> = (Leftover<S>, Fault);
 /// opens none: whatever the tables hold, nothing is committed, and what it tells holds of them; how far it is it shows on
 /// standard error, where that is a terminal. Where the books cannot be made, opened or audited, nothing is printed or logged,
 /// no row is changed, and the error is `Foreign` for other tables and else `Store`, also for a connection within a
-/// transaction; what is left of the connection comes with it. Rows of a history are never `Foreign`, but for an audit. A file that cannot be opened and output that cannot be written are `Io` beside the connection. A server's
+/// transaction; what is left of the connection comes with it. Rows of a history are never `Foreign`. A file that cannot be opened and output that cannot be written are `Io` beside the connection. A server's
 /// port is that of `listen`.
 pub fn do_work<S: Orderly + Drop, F: FilesAt, W: Write, L: Write>(
     rt: &HostRuntime,

@@ -5,6 +5,7 @@ pub mod RepeatTold
 pub mod DecidedAs
 pub mod ActsInside
 pub mod ActsWhole
+pub mod ActsFrom
 pub mod EmptyTables
 pub mod OpenedBooks
 pub mod ShownWhole

@@ -1,9 +1,9 @@
 -- What an act answers, and what it leaves of the books.
-use Rattle.std.specs.Prelude.{◌≡◌, Bool, if◌then◌else◌, List, Some, Result, Ok, Err, ℤ, IsTrue}
+use Rattle.std.specs.Prelude.{◌≡◌, Bool, if◌then◌else◌, List, Option, Some, Result, Ok, Err, ℤ, IsTrue}
 use Rattle.sqlite_trees.specs.declared.store.Store.{Ghosts}
 use Rattle.sqlite.specs.Held.{state}
-use Rattle.sqlite.specs.State.{State}
-use Rattle.table_words.specs.Steps.{Goes}
+use Rattle.sqlite.specs.State.{State, HasCleanDisk, KeepsCommit}
+use Rattle.table_words.specs.Steps.{IsReady, Goes}
 use Rattle.commands.specs.declared.command.Command.{Command}
 use Rattle.machine.specs.Acts.{Act}
 use Rattle.machine.specs.Standing.{day_after_command}
@@ -12,8 +12,11 @@ use Rattle.rules.specs.Slices.{IsDecision}
 use Rattle.machine.specs.Verdict.{verdict}
 use Rattle.row_rules.specs.declared.slice.Change.{Change}
 use Rattle.machine.specs.Once as once
-use Rattle.machine.specs.Once.{Outcome, outcome, acts_after}
+use Rattle.machine.specs.Once.{Outcome, IsHistory, is_key_of, outcome, acts_after}
+use Rattle.slices.specs.Books.{IsBooksOf}
+use Rattle.slices.specs.declared.knowing.Known.{Known}
 use Rattle.store.specs.Books.{KeepsBooks, HoldsBooks}
+use Rattle.store.specs.Knowing.{HasKnown, LeavesKnown}
 use Rattle.store.specs.Connected.{Connected}
 use Rattle.store.specs.declared.reply.Reply.{Reply}
 use Rattle.store.specs.declared.fault.Fault.{Fault}
@@ -44,6 +47,14 @@ IsActedInside first acts act (Ok reply) old new = (told reply ≡ outcome first 
 IsActedInside first acts act (Err (Refused why)) old new = once.Refused why ≡ outcome first acts act
 IsActedInside first acts act (Err Store) old new = Unit {0}
 IsActedInside first acts act (Err Foreign) old new = ⊥
+
+-- An act within a transaction, under a key of which the acts say so much: of the books of acts it answers and leaves what the
+-- machine does, what is known of the tables is not lost, and nothing is committed.
+pub record Acts (act : Act) (IsSo : List Act → Type 0) (known after : Option Known) (result : Result Reply Fault) (old new : State) : Type 0 where
+  pub acted : HasCleanDisk new → IsTrue (is_key_of act.key act.command) → (first : ℤ) (acts : List Act) → IsHistory first acts
+      → (IsTrue old.is_open → IsBooksOf first acts old.now) → (IsTrue old.is_open → HasKnown known old) → IsSo acts → IsActedInside first acts act result old new
+  pub knows : HasCleanDisk new → (IsTrue old.is_open → IsReady old.now) → LeavesKnown known after result old new
+  pub kept : HasCleanDisk new → (IsTrue old.is_open → IsReady old.now) → KeepsCommit old new
 
 -- a decision by rows that are read for it, with the faults of the books: memory and the disk may not suffice for them
 abbrev pub IsDecidedByRows : ℤ → Act → List Act → Result Change Fault → Type 0

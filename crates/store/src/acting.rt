@@ -1,6 +1,6 @@
 //! An act as one transaction.
 
-ghost use Rattle.std.specs.Prelude.{◌≡◌, false, None, Some, ℤ, List, IsTrue, OnOk, OnErr, IfOk, IfErr};
+ghost use Rattle.std.specs.Prelude.{◌≡◌, ⊤, false, None, Some, ℤ, List, IsTrue, OnOk, OnErr, IfOk, IfErr};
 ghost use Rattle.sqlite.specs.State.{HasCleanDisk, Survives, KeepsCommit, IsUnchanged};
 ghost use Rattle.sqlite.specs.Held.{state};
 ghost use Rattle.commands.specs.Spelling.{key_text, spelling};
@@ -13,8 +13,8 @@ ghost use Rattle.changes.specs.Written.{change_written};
 ghost use Rattle.slices.specs.Books.{IsBooksOf};
 ghost use Rattle.slices.specs.Slicing.{HoldsOf};
 ghost use Rattle.store.specs.Books.{AreBooks, KeepsBooks};
-ghost use Rattle.store.specs.Acting.{IsActedOn, IsActedInside, IsDecidedByRows};
-ghost use Rattle.store.specs.Knowing.{HasKnown, IsKnown, LeavesKnown};
+ghost use Rattle.store.specs.Acting.{IsActedOn, Acts, IsDecidedByRows};
+ghost use Rattle.store.specs.Knowing.{IsKnown, LeavesKnown};
 
 use crate::knowing::known_in;
 use crate::repeats::{act_under_key, find_open, keep_act};
@@ -66,12 +66,7 @@ pub fn act_inside<S: Alter>(
     command: &Command,
 ) -> Result<Reply, Fault>
     ensures same_reference { tx.new.conn.ghost_name ≡ tx.old.conn.ghost_name }
-    ensures acted { HasCleanDisk (state S.Store tx.new.conn.now) → IsTrue (is_key_of key.now command.now) → (first : ℤ) (acts : List Act) → IsHistory first acts
-        → (IsTrue (state S.Store tx.old.conn.now).is_open → IsBooksOf first acts (state S.Store tx.old.conn.now).now) → (IsTrue (state S.Store tx.old.conn.now).is_open → HasKnown known.old (state S.Store tx.old.conn.now))
-        → IsActedInside first acts (record { key = key.now; command = command.now }) result (state S.Store tx.old.conn.now) (state S.Store tx.new.conn.now) }
-    ensures known { HasCleanDisk (state S.Store tx.new.conn.now) → (IsTrue (state S.Store tx.old.conn.now).is_open → IsReady (state S.Store tx.old.conn.now).now)
-        → LeavesKnown known.old known.new result (state S.Store tx.old.conn.now) (state S.Store tx.new.conn.now) }
-    ensures kept { HasCleanDisk (state S.Store tx.new.conn.now) → (IsTrue (state S.Store tx.old.conn.now).is_open → IsReady (state S.Store tx.old.conn.now).now) → KeepsCommit (state S.Store tx.old.conn.now) (state S.Store tx.new.conn.now) }
+    ensures acts { Acts (record { key = key.now; command = command.now }) (λ _. ⊤) known.old known.new result (state S.Store tx.old.conn.now) (state S.Store tx.new.conn.now) }
     ensures survives { Survives (state S.Store tx.old.conn.now) (state S.Store tx.new.conn.now) (λ _. ⊥) }
 {
     find_open(tx)?;
@@ -87,13 +82,7 @@ fn act_open<S: Alter>(
     command: &Command,
 ) -> Result<Reply, Fault>
     ensures same_reference { tx.new.conn.ghost_name ≡ tx.old.conn.ghost_name }
-    ensures acted { HasCleanDisk (state S.Store tx.new.conn.now) → IsTrue (is_key_of key.now command.now) → (first : ℤ) (acts : List Act) → IsHistory first acts
-        → IsTrue (state S.Store tx.old.conn.now).is_open → IsBooksOf first acts (state S.Store tx.old.conn.now).now → HasKnown known.old (state S.Store tx.old.conn.now)
-        → IsActedInside first acts (record { key = key.now; command = command.now }) result (state S.Store tx.old.conn.now) (state S.Store tx.new.conn.now) }
-    ensures known { HasCleanDisk (state S.Store tx.new.conn.now) → IsReady (state S.Store tx.old.conn.now).now → IsTrue (state S.Store tx.old.conn.now).is_open
-        → LeavesKnown known.old known.new result (state S.Store tx.old.conn.now) (state S.Store tx.new.conn.now) }
-    ensures kept { HasCleanDisk (state S.Store tx.new.conn.now) → IsReady (state S.Store tx.old.conn.now).now → IsTrue (state S.Store tx.old.conn.now).is_open
-        → KeepsCommit (state S.Store tx.old.conn.now) (state S.Store tx.new.conn.now) }
+    ensures acts { IsTrue (state S.Store tx.old.conn.now).is_open → Acts (record { key = key.now; command = command.now }) (λ _. ⊤) known.old known.new result (state S.Store tx.old.conn.now) (state S.Store tx.new.conn.now) }
     ensures survives { Survives (state S.Store tx.old.conn.now) (state S.Store tx.new.conn.now) (λ _. ⊥) }
 {
     let found = act_under_key(alloc, tx, &key.text())?;
@@ -112,13 +101,7 @@ fn act_anew<S: Alter>(
     command: &Command,
 ) -> Result<Reply, Fault>
     ensures same_reference { tx.new.conn.ghost_name ≡ tx.old.conn.ghost_name }
-    ensures acted { HasCleanDisk (state S.Store tx.new.conn.now) → IsTrue (is_key_of key.now command.now) → (first : ℤ) (acts : List Act) → IsHistory first acts
-        → IsTrue (state S.Store tx.old.conn.now).is_open → IsBooksOf first acts (state S.Store tx.old.conn.now).now → HasKnown known.old (state S.Store tx.old.conn.now) → bearer key.now acts ≡ None
-        → IsActedInside first acts (record { key = key.now; command = command.now }) result (state S.Store tx.old.conn.now) (state S.Store tx.new.conn.now) }
-    ensures known { HasCleanDisk (state S.Store tx.new.conn.now) → IsReady (state S.Store tx.old.conn.now).now → IsTrue (state S.Store tx.old.conn.now).is_open
-        → LeavesKnown known.old known.new result (state S.Store tx.old.conn.now) (state S.Store tx.new.conn.now) }
-    ensures kept { HasCleanDisk (state S.Store tx.new.conn.now) → IsReady (state S.Store tx.old.conn.now).now → IsTrue (state S.Store tx.old.conn.now).is_open
-        → KeepsCommit (state S.Store tx.old.conn.now) (state S.Store tx.new.conn.now) }
+    ensures acts { IsTrue (state S.Store tx.old.conn.now).is_open → Acts (record { key = key.now; command = command.now }) (λ acts. bearer key.now acts ≡ None) known.old known.new result (state S.Store tx.old.conn.now) (state S.Store tx.new.conn.now) }
     ensures survives { Survives (state S.Store tx.old.conn.now) (state S.Store tx.new.conn.now) (λ _. ⊥) }
 {
     let mut found = known_in(alloc, tx, known)?;
@@ -136,13 +119,7 @@ fn act_known<S: Alter>(
     command: &Command,
 ) -> Result<Reply, Fault>
     ensures same_reference { tx.new.conn.ghost_name ≡ tx.old.conn.ghost_name }
-    ensures acted { HasCleanDisk (state S.Store tx.new.conn.now) → IsTrue (is_key_of key.now command.now) → (first : ℤ) (acts : List Act) → IsHistory first acts
-        → IsTrue (state S.Store tx.old.conn.now).is_open → IsBooksOf first acts (state S.Store tx.old.conn.now).now → HoldsOf known.old (tables_in (state S.Store tx.old.conn.now).now.trees) → bearer key.now acts ≡ None
-        → IsActedInside first acts (record { key = key.now; command = command.now }) result (state S.Store tx.old.conn.now) (state S.Store tx.new.conn.now) }
-    ensures known { HasCleanDisk (state S.Store tx.new.conn.now) → IsReady (state S.Store tx.old.conn.now).now → IsTrue (state S.Store tx.old.conn.now).is_open
-        → LeavesKnown (Some known.old) (Some known.new) result (state S.Store tx.old.conn.now) (state S.Store tx.new.conn.now) }
-    ensures kept { HasCleanDisk (state S.Store tx.new.conn.now) → IsReady (state S.Store tx.old.conn.now).now → IsTrue (state S.Store tx.old.conn.now).is_open
-        → KeepsCommit (state S.Store tx.old.conn.now) (state S.Store tx.new.conn.now) }
+    ensures acts { IsTrue (state S.Store tx.old.conn.now).is_open → Acts (record { key = key.now; command = command.now }) (λ acts. bearer key.now acts ≡ None) (Some known.old) (Some known.new) result (state S.Store tx.old.conn.now) (state S.Store tx.new.conn.now) }
     ensures survives { Survives (state S.Store tx.old.conn.now) (state S.Store tx.new.conn.now) (λ _. ⊥) }
 {
     let change = change_of(alloc, tx, known, key, command)?;

@@ -1,10 +1,9 @@
-use Rattle.std.proofs.Common.{List, ℕ, Option, Result, Ok, Err}
+use Rattle.std.proofs.Common.{List, ℕ, Option, Result, Ok, Err, inl, inr}
 use Rattle.std.specs.Prelude.{ℤ}
 use Rattle.std.proofs.KnownBytes.{Appends-nil}
 use Rattle.sqlite.specs.Held.{state}
 use Rattle.machine.specs.Acts.{Act}
 use Rattle.texts.specs.Writing.{Writes}
-use Rattle.texts.proofs.Beginnings.{beginning_of_none}
 use Rattle.histories.specs.Text.{history_text}
 use Rattle.histories.specs.Start.{IsStart}
 use Rattle.histories.specs.Printed.{IsHistoryPrinted}
@@ -13,7 +12,7 @@ use Rattle.histories.proofs.printing.print_history.Goals as goal
 
 printed : {E : Type 0} (first : ℤ) (acts : List Act) (old new : Option (List ℕ)) (begun : ℤ) (r : Result Unit E) → IsStart first acts begun → Writes r old new (history_text begun acts) → IsHistoryPrinted first acts old new r
 printed first acts old new begun (Ok done) start h = (begun, start, h)
-printed first acts old new begun (Err fault) start h = (begun, h)
+printed first acts old new begun (Err fault) start h = inr (begun, start, h)
 
 pub returns-in-Ok-clause-printed : goal.returns-in-Ok-clause-printed
 returns-in-Ok-clause-printed g c clean ready first acts history held today =
@@ -37,6 +36,4 @@ returns-in-Ok-clause-survives g c =
     survives_on (state g.S.Store c.args.conn.now) (state g.S.Store c.find_start.new.conn) (state g.S.Store c.print_from.new.conn) c.in-Ok.ensures.survives c.print_from.ensures.survives c.in-Ok.ensures.same
 
 pub returns-in-Err-clause-printed : goal.returns-in-Err-clause-printed
-returns-in-Err-clause-printed g c clean ready first acts history held today =
-    let at = g.W.Write.contents in
-    (first, beginning_of_none (at c.args.out) (at c.args.out) (history_text first acts) (Appends-nil (at c.args.out)))
+returns-in-Err-clause-printed g c clean ready first acts history held today = inl (Appends-nil (g.W.Write.contents c.args.out))

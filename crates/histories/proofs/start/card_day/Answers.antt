@@ -15,7 +15,7 @@ returns-in-Err-clause-day g c clean ready first acts history held =
     let start : CardDay = record { lot = c.args.lot.now; act = c.args.act; day = None } in
     IfOk-weaker c.day_at.result _ _ (λ day h.
     day_told first acts (lines first acts history old ready held) (lines_own first acts history old ready held) start c.each_of_all.new.sink
-    (subst (λ (e : EachFault). HandsOver IsPassed TellsDay start (lines first acts history old ready held) c.each_of_all.new.sink (Err e)) h.0 (c.in-Err.ensures.handed clean ready held.typed)) day h.1) c.day_at.ensures
+    (subst (λ (e : EachFault). HandsOver IsPassed TellsDay start (lines first acts history old ready held) c.each_of_all.new.sink (Err e)) h.0 (c.in-Err.ensures.handed clean ready held.typed)) day h.1) c.day_at.ensures.day
 
 pub returns-in-Ok-clause-left : goal.returns-in-Ok-clause-left
 returns-in-Ok-clause-left g c clean ready = stays (state g.S.Store c.args.conn.now) (state g.S.Store c.each_of_all.new.conn) (Ok tt) (c.in-Ok.ensures.left clean ready)
@@ -25,4 +25,4 @@ returns-in-Err-clause-left g c clean ready = stays (state g.S.Store c.args.conn.
 
 pub returns-in-Err-clause-same : goal.returns-in-Err-clause-same
 returns-in-Err-clause-same g c clean ready =
-    on_ok_if c.day_at.result _ c.day_at.ensures (λ d h. subst (λ (e : EachFault). IsLeft (state g.S.Store c.args.conn.now) (state g.S.Store c.each_of_all.new.conn) (Err e)) h.0 (c.in-Err.ensures.left clean ready))
+    on_ok_if c.day_at.result _ c.day_at.ensures.day (λ d h. subst (λ (e : EachFault). IsLeft (state g.S.Store c.args.conn.now) (state g.S.Store c.each_of_all.new.conn) (Err e)) h.0 (c.in-Err.ensures.left clean ready))

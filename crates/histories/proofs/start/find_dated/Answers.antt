@@ -23,7 +23,7 @@ returns-in-Err-clause-dated g c clean ready first acts history held =
     let start : FirstDated = record { alloc = c.args.alloc; done = 0; found = None; fault = Foreign } in
     IfOk-weaker c.found_at.result _ _ (λ d h.
     h.1 ∙ one_dated first acts history (rows first acts history old ready held) start c.each_of_all.new.sink refl (mine first acts history old ready held)
-    (subst (λ (e : EachFault). HandsOver Passes Finds start (rows first acts history old ready held) c.each_of_all.new.sink (Err e)) h.0 (c.in-Err.ensures.handed clean ready held.typed)) (λ none. h.2 (h.1 ∙ none))) c.found_at.ensures
+    (subst (λ (e : EachFault). HandsOver Passes Finds start (rows first acts history old ready held) c.each_of_all.new.sink (Err e)) h.0 (c.in-Err.ensures.handed clean ready held.typed)) (λ none. h.2 (h.1 ∙ none))) c.found_at.ensures.found
 
 pub returns-in-Ok-clause-left : goal.returns-in-Ok-clause-left
 returns-in-Ok-clause-left g c clean ready = stays (state g.S.Store c.args.conn.now) (state g.S.Store c.each_of_all.new.conn) (Ok tt) (c.in-Ok.ensures.left clean ready)
@@ -36,4 +36,4 @@ returns-in-Ok-clause-same g c clean ready = c.in-Ok.ensures.left clean ready
 
 pub returns-in-Err-clause-same : goal.returns-in-Err-clause-same
 returns-in-Err-clause-same g c clean ready =
-    on_ok_if c.found_at.result _ c.found_at.ensures (λ d h. subst (λ (e : EachFault). IsLeft (state g.S.Store c.args.conn.now) (state g.S.Store c.each_of_all.new.conn) (Err e)) h.0 (c.in-Err.ensures.left clean ready))
+    on_ok_if c.found_at.result _ c.found_at.ensures.found (λ d h. subst (λ (e : EachFault). IsLeft (state g.S.Store c.args.conn.now) (state g.S.Store c.each_of_all.new.conn) (Err e)) h.0 (c.in-Err.ensures.left clean ready))

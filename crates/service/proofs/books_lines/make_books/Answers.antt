@@ -1,7 +1,7 @@
 use Rattle.std.proofs.Common.{arith, subst}
 use Rattle.sqlite.specs.Held.{state}
 use Rattle.sqlite.specs.State.{HasCleanDisk}
-use Rattle.service.proofs.Failing.{unmade, unmade_within}
+use Rattle.service.proofs.Failing.{unmade}
 use Rattle.service.proofs.books_lines.make_books.Goals as goal
 
 pub returns-in-Ok-clause-clean : goal.returns-in-Ok-clause-clean

@@ -1,7 +1,7 @@
 use Rattle.std.proofs.Common.{arith}
 use Rattle.sqlite.specs.Held.{state}
 use Rattle.house.proofs.Stepping.{leaves_none}
-use Rattle.service.proofs.Failing.{unopened, unopened_within}
+use Rattle.service.proofs.Failing.{unopened}
 use Rattle.service.proofs.books_lines.open_books.Goals as goal
 
 pub returns-in-Ok-clause-books : goal.returns-in-Ok-clause-books

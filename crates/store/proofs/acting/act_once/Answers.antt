@@ -17,8 +17,8 @@ returns-clause-acted g c =
     let new = state g.S.Store c.finish.new.tx.0 in
     let is = begun_state g.S.Store c.args.conn.now c.transaction-tx.result.conn.now c.transaction-tx.ensures.begun in
     let inside : ActsInside act c.act_inside-reply.result begun last = λ clean kind first acts history books.
-    c.act_inside-reply.ensures.acted clean kind first acts history books (holds_begun old begun last new is c.act_inside-reply.ensures.survives c.args.known.now c.requires.known clean) in
-    let whole : ActsWhole act c.finish.result old new = act_finished act old begun last new is c.act_inside-reply.result c.finish.result inside c.act_inside-reply.ensures.kept c.finish.ensures.survives c.finish.ensures.ends in
+    c.act_inside-reply.ensures.acts.acted clean kind first acts history books (holds_begun old begun last new is c.act_inside-reply.ensures.survives c.args.known.now c.requires.known clean) tt in
+    let whole : ActsWhole act c.finish.result old new = act_finished act old begun last new is c.act_inside-reply.result c.finish.result inside c.act_inside-reply.ensures.acts.kept c.finish.ensures.survives c.finish.ensures.ends in
     subst (λ (s : State). ActsWhole act c.finish.result old s) (search rules) whole
 
 pub returns-clause-survives : goal.returns-clause-survives
@@ -30,7 +30,7 @@ returns-clause-survives g c =
     let new = state g.S.Store c.finish.new.tx.0 in
     let is = begun_state g.S.Store c.args.conn.now c.transaction-tx.result.conn.now c.transaction-tx.ensures.begun in
     let inside : ActsInside act c.act_inside-reply.result begun last = λ clean kind first acts history books.
-    c.act_inside-reply.ensures.acted clean kind first acts history books (holds_begun old begun last new is c.act_inside-reply.ensures.survives c.args.known.now c.requires.known clean) in
+    c.act_inside-reply.ensures.acts.acted clean kind first acts history books (holds_begun old begun last new is c.act_inside-reply.ensures.survives c.args.known.now c.requires.known clean) tt in
     let whole : SurvivesWhole act old new = act_stopped act old begun last new is c.act_inside-reply.result inside c.act_inside-reply.ensures.survives c.finish.ensures.survives in
     subst (λ (s : State). SurvivesWhole act old s) (search rules) whole
 
@@ -42,7 +42,7 @@ returns-clause-as_before g c =
     let new = state g.S.Store c.finish.new.tx.0 in
     let is = begun_state g.S.Store c.args.conn.now c.transaction-tx.result.conn.now c.transaction-tx.ensures.begun in
     let whole : HasCleanDisk new → OnErr c.finish.result (KeepsCommit old new) =
-    kept_finished old begun last new is c.act_inside-reply.ensures.survives c.args.known.now c.requires.known c.finish.ensures.survives (λ _ e. e ≡ Store) c.act_inside-reply.result c.finish.result c.act_inside-reply.ensures.kept c.finish.ensures.ends in
+    kept_finished old begun last new is c.act_inside-reply.ensures.survives c.args.known.now c.requires.known c.finish.ensures.survives (λ _ e. e ≡ Store) c.act_inside-reply.result c.finish.result c.act_inside-reply.ensures.acts.kept c.finish.ensures.ends in
     subst (λ (s : State). HasCleanDisk s → OnErr c.finish.result (KeepsCommit old s)) (search rules) whole
 
 pub returns-clause-known : goal.returns-clause-known
@@ -53,6 +53,6 @@ returns-clause-known g c =
     let new = state g.S.Store c.finish.new.tx.0 in
     let is = begun_state g.S.Store c.args.conn.now c.transaction-tx.result.conn.now c.transaction-tx.ensures.begun in
     let whole : IsKnown c.act_inside-reply.new.known new =
-    known_finished old begun last new is c.act_inside-reply.ensures.survives c.args.known.now c.requires.known c.finish.ensures.survives (λ _ e. e ≡ Store) c.act_inside-reply.result c.finish.result c.act_inside-reply.ensures.kept c.finish.ensures.ends
-    c.act_inside-reply.new.known (λ clean ready. (c.act_inside-reply.ensures.known clean ready).answered) (λ clean ready. (c.act_inside-reply.ensures.known clean ready).before) in
+    known_finished old begun last new is c.act_inside-reply.ensures.survives c.args.known.now c.requires.known c.finish.ensures.survives (λ _ e. e ≡ Store) c.act_inside-reply.result c.finish.result c.act_inside-reply.ensures.acts.kept c.finish.ensures.ends
+    c.act_inside-reply.new.known (λ clean ready. (c.act_inside-reply.ensures.acts.knows clean ready).answered) (λ clean ready. (c.act_inside-reply.ensures.acts.knows clean ready).before) in
     subst (λ (s : State). IsKnown c.act_inside-reply.new.known s) (search rules) whole

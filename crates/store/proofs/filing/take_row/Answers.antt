@@ -17,14 +17,14 @@ returns-clause-taken g c clean kind first acts history books holds =
     let old = state g.S.Store c.args.tx.now.conn.now in
     let done = c.act_inside-acted in
     subst (λ (r : Result Filed RowFault). IsRowTaken first acts act c.args.so_far r old (state g.S.Store done.new.tx.conn.now)) (sym c.with_row.ensures)
-    (row_taken first acts act c.args.so_far old (state g.S.Store done.new.tx.conn.now) done.result sound history books (done.ensures.acted clean kind first acts history (λ _. books) (λ _. holds)))
+    (row_taken first acts act c.args.so_far old (state g.S.Store done.new.tx.conn.now) done.result sound history books (done.ensures.acts.acted clean kind first acts history (λ _. books) (λ _. holds) tt))
 
 pub returns-clause-known : goal.returns-clause-known
 returns-clause-known g c clean ready =
     let old = state g.S.Store c.args.tx.now.conn.now in
     let done = c.act_inside-acted in
     subst (λ (r : Result Filed RowFault). GoesOnKnown c.args.known.now done.new.known r old (state g.S.Store done.new.tx.conn.now)) (sym c.with_row.ensures)
-    (where_acted c.args.so_far c.args.row.now.1 _ done.result (done.ensures.known clean (λ _. ready)).answered)
+    (where_acted c.args.so_far c.args.row.now.1 _ done.result (done.ensures.acts.knows clean (λ _. ready)).answered)
 
 pub returns-clause-count : goal.returns-clause-count
 returns-clause-count g c =
