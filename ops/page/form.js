@@ -1,4 +1,4 @@
-// One kind of form for all that is entered: rows that Enter goes through, each with its rule of OPERATIONS.md. The rules are
+// One kind of form for all that is entered: rows that Enter goes through, each with its rule of WIRE.md. The rules are
 // held here only so that a slip is told at once: lotd judges.
 import { tag } from "./dom.js";
 import { bare, gtin, parts } from "./label.js";
