@@ -21,7 +21,7 @@ use keyed_rows::table::{add, drop_row, put};
 use order_tables::lines::Lines;
 use order_tables::orders::{Open, Orders};
 use order_tables::reserved::Reserved;
-use order_tables::staged::Staged;
+use order_tables::staged::{Staged, empty_stage};
 use order_tables::urgents::Urgents;
 use sqlite::{Alter, Connection, Transaction};
 use std::alloc::Global;
@@ -443,6 +443,18 @@ fn drops_units<S: Alter>(rt: &impl Abort, tx: &mut Transaction<'_, S>) {
     is_done(rt, drop_row::<Reserved, S>(tx, &samples::reserved(rt)));
 }
 
+// An order with two lots on its stage has none of them left; the other order keeps its own.
+fn empties_a_stage<S: Alter>(rt: &impl Abort, tx: &mut Transaction<'_, S>) {
+    let row = samples::staged(rt);
+    let other = StagedRow {
+        lot: samples::other_lot(rt),
+        ..row
+    };
+    is_done(rt, put::<Staged, S>(tx, &row, true));
+    is_done(rt, put::<Staged, S>(tx, &other, true));
+    is_done(rt, empty_stage(tx, &row.order));
+}
+
 fn creates<S: Alter>(rt: &impl Abort, conn: &mut Connection<S>) {
     assert!(rt; conn.is_autocommit());
     is_done(rt, create(conn, &samples::meta(rt, 13), &samples::bin(rt)));
@@ -476,6 +488,7 @@ pub(crate) fn drops<S: Alter>(rt: &impl Abort, alloc: Global, conn: &mut Connect
     assert!(rt; conn.is_autocommit());
     let mut tx = conn.transaction();
     drops_units(rt, &mut tx);
+    empties_a_stage(rt, &mut tx);
     counts(rt, alloc, &mut tx, LEFT.as_slice());
     tx.commit().expect(rt, "a commit");
 }

@@ -1,6 +1,6 @@
 -- A change written table by table is the change applied.
 use Rattle.std.proofs.Common.{◌≡◌, ℕ, Bool, true, ◌&&◌, List, refl, ap, subst, ◌∙◌}
-use Rattle.std.specs.Prelude.{◌==◌, Result, Ok, Err, OnOk}
+use Rattle.std.specs.Prelude.{◌==◌, Option, Some, None, Result, Ok, Err, OnOk}
 use Rattle.std.proofs.lemmas.Bool.{eqb-true}
 use Rattle.values.specs.Values.{same_text}
 use Rattle.values.specs.declared.lot.LotId.{LotId}
@@ -24,13 +24,13 @@ use Rattle.table_words.specs.Steps.{Goes}
 use Rattle.table_words.specs.Typed.{tables_in, with_meta, with_item, with_least, with_bin, with_lot, with_recall, with_stock, without_stock, with_order, with_urgent, with_line, with_staged, without_staged, with_reserved, without_reserved, with_shipment, with_shipline, with_card}
 use Rattle.machine.specs.Postings.{is_lot}
 use Rattle.machine.specs.KeyedRows.{no_two}
-use Rattle.rules.specs.Slices.{applied, changed, added, AreOnce}
+use Rattle.rules.specs.Slices.{applied, changed, added, unless_emptied, AreOnce}
 use Rattle.row_rules.specs.declared.slice.Put.{Put}
 use Rattle.row_rules.specs.declared.slice.Dropped.{Dropped}
 use Rattle.row_rules.specs.declared.slice.Change.{Change}
 use Rattle.machine.proofs.Tests.{and_both, same_text_is, is_lot_is}
 use Rattle.keyed_rows.specs.Writes.{each_written}
-use Rattle.changes.specs.Written.{rows_written, goods_written, orders_written, history_written, change_written}
+use Rattle.changes.specs.Written.{rows_written, stage_emptied, goods_written, orders_written, history_written, change_written}
 use Rattle.changes.proofs.TableWritten.{table_put, table_written}
 
 -- ---- two rows under one key have one key
@@ -130,6 +130,10 @@ line_rows_written puts t = table_put {K = List ℕ × List ℕ} (λ t k. t.line 
     (λ k r. same_text k.0 r.order && same_text k.1 r.gtin) (λ r s. same_text r.order s.order && same_text r.gtin s.gtin)
     (λ k r s. both_meet _ _ _ _ _ _ (texts_meet k.0 r.order s.order) (texts_meet k.1 r.gtin s.gtin)) puts t
 
+emptied_is : (stage : Option (List ℕ)) (t : Tables) → stage_emptied stage t ≡ record t { staged = λ o l. unless_emptied stage o (t.staged o l) }
+emptied_is None t = refl
+emptied_is (Some order) t = refl
+
 staged_written : (puts drops : List StagedRow) (t : Tables) → no_two (λ r s. same_text r.order s.order && is_lot r.lot s.lot) puts ≡ true
     → rows_written with_staged (λ r. without_staged r.order r.lot) puts drops t ≡ record t { staged = λ o l. changed (λ r. same_text o r.order && is_lot l r.lot) puts drops (t.staged o l) }
 staged_written puts drops t = table_written {K = List ℕ × LotId} (λ t k. t.staged k.0 k.1) (λ f t. record t { staged = λ o l. f (o, l) }) (λ f t. refl) (λ f g t. refl) (λ t. refl)
@@ -147,7 +151,7 @@ with_orders p d t = record t {
   order = λ o. added (λ r. same_text o r.order) p.orders (t.order o);
   urgent = λ o. added (λ r. same_text o r.order) p.urgents (t.urgent o);
   line = λ o g. added (λ r. same_text o r.order && same_text g r.gtin) p.lines (t.line o g);
-  staged = λ o l. changed (λ r. same_text o r.order && is_lot l r.lot) p.staged d.staged (t.staged o l);
+  staged = λ o l. changed (λ r. same_text o r.order && is_lot l r.lot) p.staged d.staged (unless_emptied d.stage o (t.staged o l));
   reserved = λ o l. changed (λ r. same_text o r.order && is_lot l r.lot) p.reserved d.reserved (t.reserved o l);
 }
 
@@ -157,15 +161,18 @@ orders_are p d t once =
     let put_lines : Tables → Tables = each_written with_line p.lines in
     let put_staged : Tables → Tables = rows_written with_staged (λ r. without_staged r.order r.lot) p.staged d.staged in
     let put_reserved : Tables → Tables = rows_written with_reserved (λ r. without_reserved r.order r.lot) p.reserved d.reserved in
+    let left : Tables → Tables = stage_emptied d.stage in
     let one : Tables = record t { order = λ o. added (λ r. same_text o r.order) p.orders (t.order o) } in
     let two : Tables = record one { urgent = λ o. added (λ r. same_text o r.order) p.urgents (t.urgent o) } in
     let three : Tables = record two { line = λ o g. added (λ r. same_text o r.order && same_text g r.gtin) p.lines (t.line o g) } in
-    let four : Tables = record three { staged = λ o l. changed (λ r. same_text o r.order && is_lot l r.lot) p.staged d.staged (t.staged o l) } in
-    ap (λ u. put_reserved (put_staged (put_lines (put_urgents u)))) (order_rows_written p.orders t once.orders)
-    ∙ ap (λ u. put_reserved (put_staged (put_lines u))) (urgents_written p.urgents one once.urgents)
-    ∙ ap (λ u. put_reserved (put_staged u)) (line_rows_written p.lines two once.lines)
-    ∙ ap put_reserved (staged_written p.staged d.staged three once.staged)
-    ∙ reserved_written p.reserved d.reserved four once.reserved
+    let four : Tables = record three { staged = λ o l. unless_emptied d.stage o (t.staged o l) } in
+    let five : Tables = record four { staged = λ o l. changed (λ r. same_text o r.order && is_lot l r.lot) p.staged d.staged (four.staged o l) } in
+    ap (λ u. put_reserved (put_staged (left (put_lines (put_urgents u))))) (order_rows_written p.orders t once.orders)
+    ∙ ap (λ u. put_reserved (put_staged (left (put_lines u)))) (urgents_written p.urgents one once.urgents)
+    ∙ ap (λ u. put_reserved (put_staged (left u))) (line_rows_written p.lines two once.lines)
+    ∙ ap (λ u. put_reserved (put_staged u)) (emptied_is d.stage three)
+    ∙ ap put_reserved (staged_written p.staged d.staged four once.staged)
+    ∙ reserved_written p.reserved d.reserved five once.reserved
 
 -- ---- what has gone
 

@@ -1,8 +1,9 @@
 -- The rows of a change, written table by table.
-use Rattle.std.specs.Prelude.{List}
+use Rattle.std.specs.Prelude.{ℕ, List, Option, Some, None}
 use Rattle.commands.specs.Tables.{Tables}
 use Rattle.table_words.specs.Typed.{with_meta, with_item, with_least, with_bin, with_lot, with_recall, with_stock, without_stock, with_order, with_urgent, with_line, with_staged, without_staged, with_reserved, without_reserved, with_shipment, with_shipline, with_card}
 use Rattle.keyed_rows.specs.Writes.{each_written}
+use Rattle.order_tables.specs.Staged.{without_stage}
 use Rattle.row_rules.specs.declared.slice.Put.{Put}
 use Rattle.row_rules.specs.declared.slice.Dropped.{Dropped}
 use Rattle.row_rules.specs.declared.slice.Change.{Change}
@@ -30,11 +31,16 @@ goods_written puts drops t = lots_written puts drops (names_written puts t)
 abbrev pub lines_written : Put → Tables → Tables
 lines_written puts t = each_written with_line puts.lines (each_written with_urgent puts.urgents (each_written with_order puts.orders t))
 
+-- the stage of an order is emptied, if there is one to empty
+abbrev pub stage_emptied : Option (List ℕ) → Tables → Tables
+stage_emptied None t = t
+stage_emptied (Some order) t = without_stage order t
+
 -- what is staged and reserved for orders
 abbrev pub shares_written : Put → Dropped → Tables → Tables
 shares_written puts drops t =
     rows_written with_reserved (λ r. without_reserved r.order r.lot) puts.reserved drops.reserved
-    (rows_written with_staged (λ r. without_staged r.order r.lot) puts.staged drops.staged t)
+    (rows_written with_staged (λ r. without_staged r.order r.lot) puts.staged drops.staged (stage_emptied drops.stage t))
 
 abbrev pub orders_written : Put → Dropped → Tables → Tables
 orders_written puts drops t = shares_written puts drops (lines_written puts t)

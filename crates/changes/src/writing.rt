@@ -7,7 +7,7 @@ ghost use Rattle.table_words.specs.Steps.{IsReady, Goes};
 ghost use Rattle.table_words.specs.declared.error.TableFault.TheVariants.{Foreign};
 ghost use Rattle.keyed_rows.specs.Writes.{Writes};
 ghost use Rattle.rules.specs.Slices.{AreOnce, applied};
-ghost use Rattle.changes.specs.Written.{names_written, units_written, lots_written, goods_written, lines_written, shares_written, orders_written, history_written, change_written};
+ghost use Rattle.changes.specs.Written.{names_written, units_written, lots_written, goods_written, lines_written, stage_emptied, shares_written, orders_written, history_written, change_written};
 
 use crate::rows::{add_rows, put_rows, write_rows};
 use goods_tables::bins::Bins;
@@ -24,11 +24,12 @@ use keyed_rows::table::put;
 use order_tables::lines::Lines;
 use order_tables::orders::Orders;
 use order_tables::reserved::Reserved;
-use order_tables::staged::Staged;
+use order_tables::staged::{Staged, empty_stage};
 use order_tables::urgents::Urgents;
 use rules::{Change, Dropped, Put};
 use sqlite::{Alter, Transaction};
 use table_words::error::TableFault;
+use values::Name;
 
 /// Whether the lots that are put first came by this act. Then their units are the first of them too.
 fn brings_lots(put: &Put, act: u64) -> bool {
@@ -117,6 +118,17 @@ fn write_lines<S: Alter>(
     put_rows::<Lines, S>(tx, &put.lines, are_new)
 }
 
+/// The stage of an order, if there is one to empty: one statement for all its rows.
+fn write_stage<S: Alter>(tx: &mut Transaction<'_, S>, stage: Option<Name>) -> Result<(), TableFault>
+    ensures same_reference { tx.new.conn.ghost_name ≡ tx.old.conn.ghost_name }
+    ensures writes { Writes (stage_emptied stage) (state S.Store tx.old.conn.now) (state S.Store tx.new.conn.now) result }
+{
+    match stage {
+        Some(order) => empty_stage(tx, &order),
+        None => Ok(()),
+    }
+}
+
 /// What is staged and reserved for orders.
 fn write_shares<S: Alter>(
     tx: &mut Transaction<'_, S>,
@@ -127,6 +139,7 @@ fn write_shares<S: Alter>(
     ensures same_reference { tx.new.conn.ghost_name ≡ tx.old.conn.ghost_name }
     ensures writes { Writes (shares_written put.now dropped.now) (state S.Store tx.old.conn.now) (state S.Store tx.new.conn.now) result }
 {
+    write_stage(tx, dropped.stage)?;
     write_rows::<Staged, S>(tx, &put.staged, &dropped.staged, true)?;
     write_rows::<Reserved, S>(tx, &put.reserved, &dropped.reserved, are_new)
 }

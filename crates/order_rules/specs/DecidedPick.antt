@@ -1,5 +1,5 @@
 -- What is decided of units picked for an order, and of those put back, by the rows of the slice: the conditions judged, and the rows changed.
-use Rattle.std.specs.Prelude.{◌≡◌, ℕ, ◌+◌, ◌-◌, ◌==◌, Bool, not, nat_lt, if◌then◌else◌, List, [], ◌∷◌, find}
+use Rattle.std.specs.Prelude.{◌≡◌, ℕ, ◌+◌, ◌-◌, ◌==◌, Bool, not, nat_lt, if◌then◌else◌, List, [], ◌∷◌, find, None}
 use Rattle.values.specs.Values.{same_text}
 use Rattle.commands.specs.declared.refusal.Refusal.TheVariants.{UnknownItem, UnknownBin, UnknownLot, UnknownOrder, NoSuchLine, LotRecalled, LotExpired, TooFewDays, LotHeld, NotStoreBin, OrderClosed, NotInBin, OverReserved, OverStaged}
 use Rattle.commands.specs.declared.command.Picking.{Picking}
@@ -83,6 +83,7 @@ changes_with s p stock staged put dropped = record {
   put = record none_put { stock = stock_put p.lot p.bin stock; staged = staged_put p.order p.lot staged; reserved = put };
   dropped = record {
     stock = stock_gone s.rows.stock p.lot p.bin stock;
+    stage = None;
     staged = staged_gone s.rows.staged p.order p.lot staged;
     reserved = dropped;
   };

@@ -93,6 +93,6 @@ ship_changes s o = record {
     shiplines = map (shipline (shipment_seen s)) (rows_shipped o s.rows.staged);
     cards = map (ship_card s) (rows_shipped o s.rows.staged);
   };
-  dropped = record none_dropped { staged = rows_shipped o s.rows.staged };
+  dropped = record none_dropped { stage = Some o };
   text = ship_reply s;
 }

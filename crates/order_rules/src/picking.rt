@@ -159,6 +159,7 @@ fn change_with(
         put: rows_of(alloc, stock, on_stage, reserved.put),
         dropped: Dropped {
             stock: Listed::from_vec(stock_gone),
+            stage: None,
             staged: Listed::from_vec(stage_gone),
             reserved: reserved.dropped,
         },

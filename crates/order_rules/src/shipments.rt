@@ -45,7 +45,7 @@ pub fn change_ship(alloc: Global, slice: &Slice, order: &Name) -> Result<Change,
     let staged = rows_shipped(alloc, slice.rows.staged.as_slice(), order)?;
     let put = ship_put(alloc, slice, order, staged.as_slice())?;
     let mut dropped = none_dropped(alloc);
-    dropped.staged = Listed::from_vec(staged);
+    dropped.stage = Some(*order);
     Ok(Change {
         meta: meta_shipped(slice),
         put,

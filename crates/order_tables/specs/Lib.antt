@@ -1,3 +1,4 @@
+pub mod Dropping
 pub mod Orders
 pub mod Lines
 pub mod Staged

@@ -1,5 +1,5 @@
 -- The table `staged`.
-use Rattle.std.specs.Prelude.{◌≡◌, ℕ, Bool, true, ◌&&◌, bytes_eq, List, [], ◌∷◌, codes}
+use Rattle.std.specs.Prelude.{◌≡◌, ℕ, Bool, true, ◌&&◌, if◌then◌else◌, bytes_eq, List, [], ◌∷◌, None, codes}
 use Rattle.std.proofs.Common.{refl, ap₂, ◌∙◌, pos}
 use Rattle.std.proofs.lemmas.Bool.{and_parts}
 use Rattle.sqlite.specs.declared.types.Value.TheVariants.{Null, Text}
@@ -10,7 +10,7 @@ use Rattle.sqlite_tied.specs.Compute.{everything}
 use Rattle.values.specs.Values.{QTY_MAX, is_between, is_gtin, is_lot_text, is_name}
 use Rattle.commands.specs.Tables.{Tables}
 use Rattle.commands.specs.declared.rows.StagedRow.{StagedRow}
-use Rattle.order_tables.specs.declared.texts.TheConstants.{ADD_STAGED, CHANGE_STAGED, STAGED_OF_ITEM, STAGED_OF_ORDER, STAGED_OF, ALL_STAGED, DROP_STAGED}
+use Rattle.order_tables.specs.declared.texts.TheConstants.{ADD_STAGED, CHANGE_STAGED, STAGED_OF_ITEM, STAGED_OF_ORDER, STAGED_OF, ALL_STAGED, DROP_STAGED, DROP_STAGE}
 use Rattle.table_words.specs.Found.{AreRows}
 use Rattle.table_words.specs.Cells.{is_the_text}
 use Rattle.table_words.specs.Schema.{staged_tree, staged_table}
@@ -22,6 +22,7 @@ use Rattle.table_words.proofs.CellLemmas.{and_true, same_word, equals_text, same
 use Rattle.table_words.proofs.KeyLemmas.{same_both, same_bytes, itself_both, itself_bytes}
 use Rattle.keyed_rows.specs.declared.reading.All.{All}
 use Rattle.keyed_rows.specs.Described.{Described, IsLawful, AddIs, Change, ChangeIs, IsChange, DropIs, Query, QueryIs, IsSought, keyed}
+use Rattle.order_tables.specs.Dropping.{DropsBy}
 use Rattle.keyed_rows.proofs.Laws.{one_keyed, rows_of, found_by_key}
 
 -- what the table is
@@ -114,6 +115,10 @@ all_staged = record {
 abbrev pub AreAllStaged : All → Tables → List StagedRow → Type 0
 AreAllStaged all t rows = AreRows {K = StagedKey} same_staged staged_key (λ k. true) (λ k. t.staged k.0 k.1) rows
 
+-- all that is staged for an order goes
+abbrev pub without_stage : List ℕ → Tables → Tables
+without_stage name t = record t { staged = λ at_order at_lot. if bytes_eq name at_order then None else t.staged at_order at_lot }
+
 -- ---- what holds of them
 
 add_is : AddIs staged
@@ -163,6 +168,10 @@ change_staged_laws = record {
 pub drop_is : DropIs staged DROP_STAGED.now
 unfolding understood everything
 drop_is rest = (refl, (refl, refl))
+
+pub stage_drop_is : DropsBy staged staged_of_order.tests DROP_STAGE.now
+unfolding understood everything
+stage_drop_is rest = (refl, (refl, refl))
 
 staged_of_item_is : QueryIs staged staged_of_item
 unfolding understood everything

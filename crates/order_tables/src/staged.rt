@@ -1,7 +1,13 @@
 //! The table `staged`.
 
+ghost use Rattle.std.specs.Prelude.{◌≡◌};
+ghost use Rattle.sqlite.specs.Held.{state};
+ghost use Rattle.keyed_rows.specs.Writes.{Writes, Spares};
+ghost use Rattle.order_tables.specs.Staged.{without_stage};
+
 use crate::texts::{
-    ADD_STAGED, ALL_STAGED, CHANGE_STAGED, DROP_STAGED, STAGED_OF, STAGED_OF_ITEM, STAGED_OF_ORDER,
+    ADD_STAGED, ALL_STAGED, CHANGE_STAGED, DROP_STAGE, DROP_STAGED, STAGED_OF, STAGED_OF_ITEM,
+    STAGED_OF_ORDER,
 };
 use commands::StagedRow;
 use keyed_rows::reading::{All, Sought, query_rows};
@@ -198,5 +204,17 @@ impl Sought<(Name, LotId)> for Staged {
     ) -> Result<Vec<StagedRow>, TableFault> {
         let cells = [of_name(&key.0), of_gtin(&key.1.gtin), of_lot(&key.1.lot)];
         query_rows::<Staged, S>(alloc, tx, sql, &cells)
+    }
+}
+
+/// Drops all that is staged for the order, by one statement.
+pub fn empty_stage<S: Alter>(tx: &mut Transaction<'_, S>, order: &Name) -> Result<(), TableFault>
+    ensures same_reference { tx.new.conn.ghost_name ≡ tx.old.conn.ghost_name }
+    ensures writes { Writes (without_stage order.now) (state S.Store tx.old.conn.now) (state S.Store tx.new.conn.now) result }
+    ensures refused { Spares (state S.Store tx.old.conn.now) (state S.Store tx.new.conn.now) result }
+{
+    match count(tx, DROP_STAGE, &[of_name(order)]) {
+        Ok(_) => Ok(()),
+        Err(fault) => Err(fault),
     }
 }

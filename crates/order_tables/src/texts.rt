@@ -44,6 +44,8 @@ pub(crate) const RESERVED_OF: &str =
 
 pub(crate) const DROP_STAGED: &str = "DELETE FROM staged WHERE ord = ?1 AND gtin = ?2 AND lot = ?3";
 
+pub(crate) const DROP_STAGE: &str = "DELETE FROM staged WHERE ord = ?1";
+
 pub(crate) const CHANGE_STAGED: &str =
     "UPDATE staged SET ord = ?1, gtin = ?2, lot = ?3, qty = ?4 WHERE ord = ?1 AND gtin = ?2 AND lot = ?3";
 
@@ -68,7 +70,7 @@ pub(crate) const URGENTS_OF: &str = "SELECT ord, act FROM urgents WHERE ord = ?1
 pub(crate) const ALL_URGENTS: &str = "SELECT ord, act FROM urgents ORDER BY rowid";
 
 /// All of them. A connection keeps the plans of its last 64 texts, so the tables together have at most 60.
-pub const TEXTS: [&str; 24] = [
+pub const TEXTS: [&str; 25] = [
     CHANGE_LINE,
     ADD_LINE,
     LINES_OF_ORDER,
@@ -84,6 +86,7 @@ pub const TEXTS: [&str; 24] = [
     RESERVED_OF_ORDER,
     RESERVED_OF,
     DROP_STAGED,
+    DROP_STAGE,
     CHANGE_STAGED,
     ADD_STAGED,
     STAGED_OF_ITEM,

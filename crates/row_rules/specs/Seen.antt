@@ -94,7 +94,7 @@ none_put = record {
 }
 
 abbrev pub none_dropped : Dropped
-none_dropped = record { stock = []; staged = []; reserved = [] }
+none_dropped = record { stock = []; stage = None; staged = []; reserved = [] }
 
 -- Balances of a lot
 

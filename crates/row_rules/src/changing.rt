@@ -35,6 +35,7 @@ pub fn none_dropped(alloc: Global) -> Dropped
 {
     Dropped {
         stock: Listed::from_vec(Vec::new(alloc)),
+        stage: None,
         staged: Listed::from_vec(Vec::new(alloc)),
         reserved: Listed::from_vec(Vec::new(alloc)),
     }

@@ -232,8 +232,7 @@ const SHIPPED: &[u8] = b"meta 2026-05-04 13 1\n\
     put shipment 1 13 2026-05-04 S-1\n\
     put shipline 1 09506000134352 L2 7\n\
     put shipline 1 09506000134352 L1 5\n\
-    drop staged S-1 09506000134352 L2 7\n\
-    drop staged S-1 09506000134352 L1 5\n\
+    drop stage S-1\n\
     {\"act\":13,\"shipment\":1}";
 
 static SHIPPING: [Worked; 2] = [

@@ -7,7 +7,7 @@ use commands::{
 };
 use label::{BusinessDay, Day};
 use rules::{Change, Dropped, Put};
-use values::LotId;
+use values::{LotId, Name};
 
 const ROOM: usize = 2048;
 
@@ -122,6 +122,7 @@ impl Listing {
 
     fn dropped(&mut self, rows: &Dropped) {
         self.stock(b"drop", rows.stock.as_slice());
+        self.stage(rows.stage);
         self.staged(b"drop", rows.staged.as_slice());
         self.reserved(b"drop", rows.reserved.as_slice());
     }
@@ -237,6 +238,15 @@ impl Listing {
             self.field(row.order.as_bytes());
             self.lot(&row.lot);
             self.number(row.qty);
+            self.end();
+        }
+    }
+
+    // The stage of an order, all of which is dropped.
+    fn stage(&mut self, order: Option<Name>) {
+        if let Some(order) = order {
+            self.row(b"drop", b"stage");
+            self.field(order.as_bytes());
             self.end();
         }
     }

@@ -1,7 +1,7 @@
 //! What is decided over forty lots, of which each is found by its rows.
 
 use crate::many_rows::{expect_rows, falling, filled, rising};
-use crate::samples::{BREAD, NO_ROWS, Sample, Told, add, decided_on, gtin, slice};
+use crate::samples::{BREAD, NO_ROWS, Sample, Told, add, decided_on, gtin, name, slice};
 use commands::{CardRow, Listed, LotRow, StagedRow, StockRow};
 use std::alloc::Global;
 use std::process::Abort;
@@ -66,7 +66,8 @@ fn ships_many_lots(rt: HostRuntime) {
     expect_cards(&rt, alloc, change.put.cards.as_slice());
     assert_eq!(&rt; change.put.orders.as_slice().len(), 1);
     assert_eq!(&rt; change.put.shiplines.as_slice().len(), 40);
-    assert_eq!(&rt; change.dropped.staged.as_slice().len(), 40);
+    assert!(&rt; change.dropped.stage == Some(name(&rt, "S-1")));
+    assert!(&rt; change.dropped.staged.as_slice().is_empty());
     drop(change);
     drop(slice);
 }

@@ -116,7 +116,7 @@ pub const NO_ROWS: Sample = Sample {
 
 // Values
 
-fn name(rt: &impl Abort, text: &str) -> Name {
+pub(crate) fn name(rt: &impl Abort, text: &str) -> Name {
     Name::new(text.as_bytes()).expect(rt, "a name")
 }
 

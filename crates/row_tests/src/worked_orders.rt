@@ -312,8 +312,7 @@ static SHIPPING: [Worked; 3] = [
             put shipment 1 13 2026-05-04 S-1\n\
             put shipline 1 09506000134352 L0 5\n\
             put shipline 1 09506000134352 L2 7\n\
-            drop staged S-1 09506000134352 L0 5\n\
-            drop staged S-1 09506000134352 L2 7\n\
+            drop stage S-1\n\
             {\"act\":13,\"shipment\":1}",
     },
     // What is not shipped in full stays open.
@@ -325,7 +324,7 @@ static SHIPPING: [Worked; 3] = [
             put line S-1 09506000134352 12 5\n\
             put shipment 1 14 2026-05-04 S-1\n\
             put shipline 1 09506000134352 L0 5\n\
-            drop staged S-1 09506000134352 L0 5\n\
+            drop stage S-1\n\
             {\"act\":14,\"shipment\":1}",
     },
     // What is staged for another order stays, and is in the house.
@@ -339,7 +338,7 @@ static SHIPPING: [Worked; 3] = [
             put line S-1 09506000134352 10 10\n\
             put shipment 1 1000000000000 2026-05-04 S-1\n\
             put shipline 1 09506000134352 L1 6\n\
-            drop staged S-1 09506000134352 L1 6\n\
+            drop stage S-1\n\
             {\"act\":1000000000000,\"shipment\":1}",
     },
 ];

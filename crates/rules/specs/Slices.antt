@@ -27,7 +27,7 @@ use Rattle.row_rules.specs.declared.slice.Change.{Change}
 use Rattle.row_rules.specs.declared.slice.RuleFault.{RuleFault}
 use Rattle.row_rules.specs.declared.slice.RuleFault.TheVariants.{Refused, NoMemory, Foreign}
 
--- Changes: a row that is put stands, one that is dropped is gone, and the others stay
+-- Changes: a row that is put stands, one that is dropped or on a stage that is emptied is gone, and the others stay
 
 abbrev pub unless_put : {R : Type 0} → Option R → Bool → Option R → Option R
 unless_put (Some row) gone old = Some row
@@ -40,6 +40,11 @@ changed test put dropped old = unless_put (find test put) (list_any test dropped
 -- the same in a table that loses no rows
 abbrev pub added : {R : Type 0} → (R → Bool) → List R → Option R → Option R
 added test put old = changed test put [] old
+
+-- what is staged for an order, unless its stage is emptied
+abbrev pub unless_emptied : {R : Type 0} → Option (List ℕ) → List ℕ → Option R → Option R
+unless_emptied None o row = row
+unless_emptied (Some emptied) o row = if same_text emptied o then None else row
 
 -- the tables after a change; `repeats` is written by others
 unfoldable pub applied : Change → Tables → Tables
@@ -54,7 +59,7 @@ applied c t = record {
   order = λ o. added (λ r. same_text o r.order) c.put.orders (t.order o);
   urgent = λ o. added (λ r. same_text o r.order) c.put.urgents (t.urgent o);
   line = λ o g. added (λ r. same_text o r.order && same_text g r.gtin) c.put.lines (t.line o g);
-  staged = λ o l. changed (λ r. same_text o r.order && is_lot l r.lot) c.put.staged c.dropped.staged (t.staged o l);
+  staged = λ o l. changed (λ r. same_text o r.order && is_lot l r.lot) c.put.staged c.dropped.staged (unless_emptied c.dropped.stage o (t.staged o l));
   reserved = λ o l. changed (λ r. same_text o r.order && is_lot l r.lot) c.put.reserved c.dropped.reserved (t.reserved o l);
   shipment = λ n. added (λ r. n == r.number) c.put.shipments (t.shipment n);
   shipline = λ n l. added (λ r. (n == r.number) && is_lot l r.lot) c.put.shiplines (t.shipline n l);

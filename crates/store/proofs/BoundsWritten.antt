@@ -11,11 +11,11 @@ use Rattle.machine.proofs.Tests.{or_first, or_later}
 use Rattle.row_rules.specs.declared.slice.Put.{Put}
 use Rattle.row_rules.specs.declared.slice.Change.{Change}
 use Rattle.keyed_rows.specs.Writes.{each_written}
-use Rattle.changes.specs.Written.{names_written, goods_written, lines_written, orders_written, change_written}
+use Rattle.changes.specs.Written.{names_written, goods_written, lines_written, stage_emptied, orders_written, change_written}
 use Rattle.slices.specs.Slicing.{is_among}
 use Rattle.slices.specs.Bounding.{IsAtMost, AreBounds, IsRaised}
 use Rattle.slices.specs.declared.knowing.Bounds.{Bounds}
-use Rattle.store.proofs.LinesWritten.{rows_spare}
+use Rattle.store.proofs.LinesWritten.{rows_spare, stage_spares}
 
 at_most_more : {R : Type 0} (row : List ℕ → Option R) (n m : ℕ) → n ≤ m → IsAtMost row n → IsAtMost row m
 at_most_more row n m less most = let few = most.few in record { keys = most.keys; few = omega (arith, less, few); among = most.among }
@@ -72,13 +72,15 @@ module _ (c : Change) (row : RepeatRow) (t : Tables) where
       let one : Tables = each_written with_order p.orders goods in
       let two : Tables = each_written with_urgent p.urgents one in
       let three : Tables = lines_written p goods in
-      let four : Tables = each_written (λ r. without_staged r.order r.lot) d.staged three in
+      let emptied : Tables = stage_emptied d.stage three in
+      let four : Tables = each_written (λ r. without_staged r.order r.lot) d.staged emptied in
       let five : Tables = each_written with_staged p.staged four in
       let six : Tables = each_written (λ r. without_reserved r.order r.lot) d.reserved five in
       rows_spare named with_reserved (λ r u. refl) p.reserved six
       ∙ rows_spare named (λ r. without_reserved r.order r.lot) (λ r u. refl) d.reserved five
       ∙ rows_spare named with_staged (λ r u. refl) p.staged four
-      ∙ rows_spare named (λ r. without_staged r.order r.lot) (λ r u. refl) d.staged three
+      ∙ rows_spare named (λ r. without_staged r.order r.lot) (λ r u. refl) d.staged emptied
+      ∙ stage_spares named (λ o u. refl) d.stage three
       ∙ rows_spare named with_line (λ r u. refl) p.lines two
       ∙ rows_spare named with_urgent (λ r u. refl) p.urgents one
       ∙ rows_spare named with_order (λ r u. refl) p.orders goods

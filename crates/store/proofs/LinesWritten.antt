@@ -1,6 +1,6 @@
 -- The open orders of the tables that a change leaves are known, if those before are, and what the change puts.
 use Rattle.std.proofs.Common.{◌≡◌, ℕ, Bool, true, false, ◌&&◌, List, [], ◌∷◌, map, filter, ◌⊎◌, inl, inr, refl, sym, ap, ◌∙◌}
-use Rattle.std.specs.Prelude.{◌||◌, if◌then◌else◌, Option, Some, is_some}
+use Rattle.std.specs.Prelude.{◌||◌, if◌then◌else◌, Option, Some, None, is_some}
 use Rattle.values.specs.Values.{same_text}
 use Rattle.commands.specs.Tables.{Tables}
 use Rattle.commands.specs.declared.rows.OrderRow.{OrderRow}
@@ -13,7 +13,7 @@ use Rattle.row_rules.specs.declared.slice.Put.{Put}
 use Rattle.row_rules.specs.declared.slice.Dropped.{Dropped}
 use Rattle.row_rules.specs.declared.slice.Change.{Change}
 use Rattle.keyed_rows.specs.Writes.{each_written}
-use Rattle.changes.specs.Written.{lines_written, goods_written, change_written}
+use Rattle.changes.specs.Written.{lines_written, goods_written, stage_emptied, change_written}
 use Rattle.open_lines.specs.OpenLines.{Keeps, has_line_row}
 use Rattle.slices.specs.Slicing.{is_among, is_passed, is_open_in, has_urgent_row, opens, comes, Covers, CoversUrgent, Knows}
 use Rattle.slices.specs.declared.knowing.Known.{Known}
@@ -25,6 +25,10 @@ module _ {X : Type 0} (get : Tables → X) where
   pub rows_spare : {R : Type 0} (write : R → Tables → Tables) → ((r : R) (t : Tables) → get (write r t) ≡ get t) → (rows : List R) (t : Tables) → get (each_written write rows t) ≡ get t
   rows_spare write spares [] t = refl
   rows_spare write spares (r ∷ rows) t = rows_spare write spares rows (write r t) ∙ spares r t
+
+  pub stage_spares : ((o : List ℕ) (t : Tables) → get (stage_emptied (Some o) t) ≡ get t) → (stage : Option (List ℕ)) (t : Tables) → get (stage_emptied stage t) ≡ get t
+  stage_spares spares None t = refl
+  stage_spares spares (Some o) t = spares o t
 
 abbrev Ordered : Type 0
 Ordered = (List ℕ → Option OrderRow) × (List ℕ → List ℕ → Option LineRow) × (List ℕ → Option UrgentRow)
@@ -53,7 +57,8 @@ change_spares c t =
     let p = c.put in
     let d = c.dropped in
     let lined : Tables = lines_written p (goods_written p d t) in
-    let one : Tables = each_written (λ r. without_staged r.order r.lot) d.staged lined in
+    let emptied : Tables = stage_emptied d.stage lined in
+    let one : Tables = each_written (λ r. without_staged r.order r.lot) d.staged emptied in
     let two : Tables = each_written with_staged p.staged one in
     let three : Tables = each_written (λ r. without_reserved r.order r.lot) d.reserved two in
     let four : Tables = each_written with_reserved p.reserved three in
@@ -65,7 +70,8 @@ change_spares c t =
     ∙ rows_spare ordered with_reserved (λ r u. refl) p.reserved three
     ∙ rows_spare ordered (λ r. without_reserved r.order r.lot) (λ r u. refl) d.reserved two
     ∙ rows_spare ordered with_staged (λ r u. refl) p.staged one
-    ∙ rows_spare ordered (λ r. without_staged r.order r.lot) (λ r u. refl) d.staged lined
+    ∙ rows_spare ordered (λ r. without_staged r.order r.lot) (λ r u. refl) d.staged emptied
+    ∙ stage_spares ordered (λ o u. refl) d.stage lined
 
 -- An order is open after rows are put because one of them opens it, or it was open
 

@@ -1,7 +1,6 @@
 -- The rows that the shipping of an order puts and drops: its staged rows, its lines and its own row.
 use Rattle.std.proofs.Common.{◌≡◌, ℕ, ◌+◌, ◌<◌, Bool, true, false, ◌&&◌, List, [], ◌∷◌, refl, ap, sym, subst, ◌∙◌, arith}
 use Rattle.std.specs.Prelude.{◌||◌, if◌then◌else◌, length, find, Option, Some, None, option_map, is_some, ℤ}
-use Rattle.std.specs.List.{list_any}
 use Rattle.std.proofs.lemmas.Bool.Decides.{nat_tests}
 use Rattle.values.specs.Values.{same_text}
 use Rattle.values.specs.declared.lot.LotId.{LotId}
@@ -20,13 +19,13 @@ use Rattle.machine.specs.Once.{IsHistory}
 use Rattle.machine.specs.Tables.{tables_of, meta_row, if_any, line_row, staged_row}
 use Rattle.machine.specs.Touched.{is_touched}
 use Rattle.machine.specs.KeyedRows.{AreRows, OrderLot, same_share}
-use Rattle.rules.specs.Slices.{IsSlice, names_order, changed, unless_put}
+use Rattle.rules.specs.Slices.{IsSlice, names_order, changed, unless_put, unless_emptied}
 use Rattle.row_rules.specs.Seen.{capped, number_seen}
 use Rattle.row_rules.specs.Plans.{staged_seen}
 use Rattle.row_rules.specs.SeenOrders.{lines_seen}
-use Rattle.order_rules.specs.DecidedShip.{shipment_seen, meta_shipped, rows_shipped, line_shipped, lines_shipped}
+use Rattle.order_rules.specs.DecidedShip.{shipment_seen, meta_shipped, line_shipped, lines_shipped}
 use Rattle.row_rules.specs.declared.slice.Slice.{Slice}
-use Rattle.machine.proofs.Tests.{and_both, same_text_is, same_text_refl, is_lot_is}
+use Rattle.machine.proofs.Tests.{and_both, same_text_is, same_text_refl, same_text_turned, is_lot_is}
 use Rattle.machine.proofs.Apart.{any_found}
 use Rattle.machine.proofs.histories.Accepted.{room_for_acts}
 use Rattle.machine.proofs.histories.LegalHistories.{legal_history}
@@ -43,10 +42,6 @@ use Rattle.rules.proofs.decided.Decisions.{day_seen, shipments_seen, number_same
 twice : (a b : Bool) → a && (a && b) ≡ a && b
 twice true b = refl
 twice false b = refl
-
-none_left : {X : Type 0} (x : Option X) → (if is_some x then None else x) ≡ None
-none_left None = refl
-none_left (Some x) = refl
 
 put_over_same : {X Y : Type 0} (f h : X → Y) (x : Option X) → unless_put (option_map f x) false (option_map h x) ≡ option_map f x
 put_over_same f h None = refl
@@ -118,25 +113,17 @@ module _ (first : ℤ) (acts : List Act) (key : Key) (o : List ℕ) (s : Slice) 
           let own : staged_row first acts r.order r.lot ≡ Some r = found_own (λ (r : StagedRow). (r.order, r.lot)) (λ (k : OrderLot). names_order act.command k.0 || is_touched first act acts k.1.gtin) (λ k. staged_row first acts k.0 k.1) (staged_test l) s.rows.staged staged_are.own r f in
           sym own ∙ (λ i. staged_row first acts (sym (same_text_is o r.order two.0) i) (sym (is_lot_is l r.lot two.1) i))
 
-  staged_own : (l : LotId) → (if list_any (staged_test l) (rows_shipped o s.rows.staged) then None else staged_row first acts o l) ≡ staged_row first after o l
-  staged_own l =
-      let there : list_any (staged_test l) (rows_shipped o s.rows.staged) ≡ is_some (staged_row first acts o l) =
-      sym (any_found (staged_test l) (rows_shipped o s.rows.staged))
-      ∙ ap is_some (find_kept (staged_test l) (λ (r : StagedRow). same_text o r.order) s.rows.staged ∙ same_finds (λ r. same_text o r.order && staged_test l r) (staged_test l) (λ r. twice (same_text o r.order) (is_lot l r.lot)) s.rows.staged ∙ found_staged l) in
-      let none : staged_of_lot first after o l ≡ 0 = stage_after first acts key o next o l ∙ ap (λ b. if b then 0 else staged_of_lot first acts o l) (same_text_refl o) in
-      ap (λ b. if b then None else staged_row first acts o l) there ∙ none_left (staged_row first acts o l) ∙ sym (ap (λ q. if_any q (record { order = o; lot = l; qty = q })) none)
-
-  pub staged_at : (u : List ℕ) (l : LotId) → changed (λ (r : StagedRow). same_text u r.order && is_lot l r.lot) [] (rows_shipped o s.rows.staged) (staged_row first acts u l) ≡ staged_row first after u l
+  -- and its stage is empty after the act
+  pub staged_at : (u : List ℕ) (l : LotId) → unless_emptied (Some o) u (staged_row first acts u l) ≡ staged_row first after u l
   staged_at u l =
-      elim (same_text u o) as (λ b. same_text u o ≡ b → (if list_any (λ (r : StagedRow). same_text u r.order && is_lot l r.lot) (rows_shipped o s.rows.staged) then None else staged_row first acts u l) ≡ staged_row first after u l) [
-        | true ↦ λ e. subst (λ (x : List ℕ). (if list_any (λ (r : StagedRow). same_text x r.order && is_lot l r.lot) (rows_shipped o s.rows.staged) then None else staged_row first acts x l) ≡ staged_row first after x l) (sym (same_text_is u o e)) (staged_own l)
-        | false ↦ λ e.
-            let none : list_any (λ (r : StagedRow). same_text u r.order && is_lot l r.lot) (rows_shipped o s.rows.staged) ≡ false =
-            sym (any_found (λ (r : StagedRow). same_text u r.order && is_lot l r.lot) (rows_shipped o s.rows.staged))
-            ∙ ap is_some (find_kept (λ (r : StagedRow). same_text u r.order && is_lot l r.lot) (λ r. same_text o r.order) s.rows.staged ∙ find_never _ (λ (r : StagedRow). not_both o u r.order (is_lot l r.lot) e) s.rows.staged) in
-            ap (λ b. if b then None else staged_row first acts u l) none
-            ∙ ap (λ q. if_any q (record { order = u; lot = l; qty = q })) (sym (stage_after first acts key o next u l ∙ ap (λ b. if b then 0 else staged_of_lot first acts u l) e))
+      ap (λ b. if b then None else staged_row first acts u l) (same_text_turned o u)
+      ∙ elim (same_text u o) as (λ b. same_text u o ≡ b → (if b then None else staged_row first acts u l) ≡ staged_row first after u l) [
+        | true ↦ λ e. sym (units_after e)
+        | false ↦ λ e. sym (units_after e)
       ] refl
+    where
+      units_after : {b : Bool} → same_text u o ≡ b → staged_row first after u l ≡ if_any (if b then 0 else staged_of_lot first acts u l) (record { order = u; lot = l; qty = if b then 0 else staged_of_lot first acts u l })
+      units_after e = ap (λ q. if_any q (record { order = u; lot = l; qty = q })) (stage_after first acts key o next u l ∙ ap (λ b. if b then 0 else staged_of_lot first acts u l) e)
 
   -- Lines
 

@@ -1,0 +1,16 @@
+use Rattle.std.specs.Prelude.{bytes_eq, [], ◌∷◌}
+use Rattle.sqlite.specs.declared.types.Value.TheVariants.{Text}
+use Rattle.sqlite.specs.Held.{state}
+use Rattle.keyed_rows.proofs.Writing.{ran_writes}
+use Rattle.order_tables.specs.declared.texts.TheConstants.{DROP_STAGE}
+use Rattle.order_tables.specs.Staged.{staged, staged_laws, staged_of_order, staged_of_order_laws, stage_drop_is, without_stage}
+use Rattle.order_tables.proofs.DroppedRows.{drops_rows}
+use Rattle.order_tables.proofs.staged.empty_stage.Goals as goal
+
+pub returns-in-Ok-clause-writes : goal.returns-in-Ok-clause-writes
+returns-in-Ok-clause-writes g c =
+    let name = c.args.order.now in
+    let old = c.args.tx.now.conn.now in
+    let new = c.count.new.tx.conn.now in
+    (ran_writes g.S.Store DROP_STAGE.now (Text name ∷ []) old new c.in-Ok.field-0 tt (λ _. without_stage name) (rw c.of_name.ensures.value at c.in-Ok.ensures.ran)
+    (λ ready counts. drops_rows staged staged_laws staged_of_order.tests (λ k. bytes_eq name k.0) (Text name ∷ []) (staged_of_order_laws.at name) DROP_STAGE.now stage_drop_is (state g.S.Store old) (state g.S.Store new) c.in-Ok.field-0 ready counts)).writes
