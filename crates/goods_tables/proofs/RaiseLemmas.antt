@@ -3,25 +3,28 @@ use Rattle.std.proofs.Common.{◌≡◌, ◌≢◌, ℕ, Bool, true, false, List
 use Rattle.std.specs.List.{AllByRecursion}
 use Rattle.std.proofs.lemmas.Bool.{cases_Bool, and_parts, true≢false}
 use Rattle.sqlite.specs.declared.types.Value.TheVariants.{Int}
-use Rattle.std.specs.Prelude.{pos, map}
+use Rattle.std.specs.Prelude.{◌↔◌, pos, map}
 use Rattle.sqlite.specs.Order.{Row, column}
 use Rattle.sqlite.specs.State.{State}
+use Rattle.sqlite.specs.Tree.{with_tree}
 use Rattle.sqlite.proofs.Callers.{runs_as}
 use Rattle.sqlite_keyed.proofs.ListLemmas.{all_both}
 use Rattle.sqlite_trees.specs.Tree.{rowid}
 use Rattle.sqlite_trees.specs.View.{is_int}
+use Rattle.commands.specs.declared.limits.TheConstants.{SCHEMA_VERSION}
 use Rattle.commands.specs.declared.rows.MetaRow.{MetaRow}
 use Rattle.goods_tables.specs.declared.texts.TheConstants.{CHANGE_META}
 use Rattle.goods_tables.specs.Meta.{meta, meta_laws, change_meta, change_meta_laws}
 use Rattle.table_words.specs.Calls.{Counts}
+use Rattle.table_words.specs.Cells.{is_the_number}
 use Rattle.table_words.specs.Changed.{Changed}
 use Rattle.table_words.specs.Schema.{meta_tree, the_tables, schema_with}
 use Rattle.table_words.specs.Steps.{IsReady, Goes}
-use Rattle.table_words.specs.Typed.{is_meta, is_meta_at, meta_in, same_meta, meta_key, meta_at, with_meta, the_rules, Rule, Keeps, AreTyped, AreTypedAt}
+use Rattle.table_words.specs.Typed.{is_meta, is_meta_at, meta_in, same_meta, meta_key, meta_rows_rows, meta_at, with_meta, the_rules, Rule, Keeps, AreTyped, AreTypedAt}
 use Rattle.table_words.proofs.ListLemmas.{over, none_counted_pass}
 use Rattle.table_words.proofs.ScanLemmas.{passes}
 use Rattle.table_words.proofs.WriteLemmas.{updates}
-use Rattle.table_words.proofs.CellLemmas.{and_true, same_the_number}
+use Rattle.table_words.proofs.CellLemmas.{and_true, same_the_number, equals_number}
 use Rattle.table_words.proofs.StepLemmas.{front, sets_off_nothing}
 use Rattle.table_words.proofs.KeyLemmas.{few}
 use Rattle.keyed_rows.specs.Described.{sound}
@@ -30,6 +33,10 @@ use Rattle.keyed_rows.proofs.Laws.{changes, rows_of}
 -- a row of `meta` is found by its id, whatever its number
 found_at : (version : ℕ) (s : MetaRow) (r : Row) → is_meta_at version r ≡ true → passes (meta.cells s) meta.tests r ≡ true
 found_at version s r h = and_true _ ∙ same_the_number 1 (column r 0) (Int (pos 1)) 1 (and_parts _ _ h).0 refl
+
+-- it passes where its id is 1
+by_id : (s : MetaRow) (r : Row) → IsTrue (is_int (rowid r)) → passes (meta.cells s) meta.tests r ≡ is_the_number 1 (column r 0)
+by_id s r int = and_true _ ∙ equals_number (column r 0) 1 int
 
 no_typed : (p is : Row → Bool) (rows : List Row) → ((r : Row) → is r ≡ true → p r ≡ true) → AllByRecursion (λ r. p r ≡ false) rows → filter is rows ≡ []
 no_typed p is [] finds none = refl
@@ -67,14 +74,36 @@ module _ (s : MetaRow) (good : sound meta s ≡ true) (old new : State) (count :
       let own = found_at version s r typed.0 in
       rw own ((change_meta_laws.becomes s r good int.0 own).0, each_put version all int.1 typed.1)
 
-  pub raised_typed : (version : ℕ) → AreTypedAt version old.now.trees → AreTyped new.now.trees
-  raised_typed version are =
-      let after = over p (change_meta.values s) rows in
-      let trees = front _ the_tables ready.has.rest.tables turned.0.trees_are in
-      let put = each_put version rows (rows_of meta meta_laws old.now ready).1 are.0 in
-      record {
-        each = (
-          subst (AllByRecursion (λ r. is_meta r ≡ true)) (sym trees.0) put,
-          all_both (Keeps old.now.trees) (λ (t : Rule). new.now.trees t.tree ≡ old.now.trees t.tree) (Keeps new.now.trees) (λ t kept is. subst (AllByRecursion (λ r. t.is r ≡ true)) (sym is) kept) (drop 1 the_rules) are.1 trees.1,
-        );
-      }
+  -- where those with its id were so at a number, and all are now, all were: a row that stays has that id too
+  each_was : (version : ℕ) (all : List Row) → AllByRecursion (λ r. IsTrue (is_int (rowid r))) all → AllByRecursion (λ r. is_meta_at version r ≡ true) (filter (λ r. is_the_number 1 (column r 0)) all)
+      → AllByRecursion (λ r. is_meta r ≡ true) (over p (change_meta.values s) all) → AllByRecursion (λ r. is_meta_at version r ≡ true) all
+  each_was version [] int own now = tt
+  each_was version (r ∷ all) int own now = elim (cases_Bool (is_the_number 1 (column r 0))) [
+    | inl e ↦
+        let mine : AllByRecursion (λ r. is_meta_at version r ≡ true) (r ∷ filter (λ r. is_the_number 1 (column r 0)) all) = rw e at own in
+        let put : AllByRecursion (λ r. is_meta r ≡ true) ((rowid r ∷ change_meta.values s) ∷ over p (change_meta.values s) all) = rw (by_id s r int.0 ∙ e) at now in
+        (mine.0, each_was version all int.1 mine.1 put.1)
+    | inr e ↦
+        let stays : AllByRecursion (λ r. is_meta r ≡ true) (r ∷ over p (change_meta.values s) all) = rw (by_id s r int.0 ∙ e) at now in
+        absurd (true≢false (sym (found_at SCHEMA_VERSION s r stays.0) ∙ by_id s r int.0 ∙ e))
+  ]
+
+  trees_are : AllByRecursion (λ t. new.now.trees t.tree ≡ with_tree old.now.trees meta_tree (over p (change_meta.values s) rows) t.tree) the_tables
+  trees_are = front _ the_tables ready.has.rest.tables turned.0.trees_are
+
+  put_typed : (version : ℕ) → AreTypedAt version old.now.trees → AreTyped new.now.trees
+  put_typed version are = record {
+    each = (
+      subst (AllByRecursion (λ r. is_meta r ≡ true)) (sym trees_are.0) (each_put version rows (rows_of meta meta_laws old.now ready).1 are.0),
+      all_both (Keeps old.now.trees) (λ (t : Rule). new.now.trees t.tree ≡ old.now.trees t.tree) (Keeps new.now.trees) (λ t kept is. subst (AllByRecursion (λ r. t.is r ≡ true)) (sym is) kept) (drop 1 the_rules) are.1 trees_are.1,
+    );
+  }
+
+  was_typed : (version : ℕ) → AllByRecursion (λ r. is_meta_at version r ≡ true) (meta_rows_rows 1 old.now.trees) → AreTyped new.now.trees → AreTypedAt version old.now.trees
+  was_typed version own are = (
+    each_was version rows (rows_of meta meta_laws old.now ready).1 own (subst (AllByRecursion (λ r. is_meta r ≡ true)) trees_are.0 are.each.0),
+    all_both (Keeps new.now.trees) (λ (t : Rule). new.now.trees t.tree ≡ old.now.trees t.tree) (Keeps old.now.trees) (λ t kept is. subst (AllByRecursion (λ r. t.is r ≡ true)) is kept) (drop 1 the_rules) are.each.1 trees_are.1,
+  )
+
+  pub raised_typed : (version : ℕ) → AllByRecursion (λ r. is_meta_at version r ≡ true) (meta_rows_rows 1 old.now.trees) → AreTypedAt version old.now.trees ↔ AreTyped new.now.trees
+  raised_typed version own = (put_typed version, was_typed version own)

@@ -1,6 +1,6 @@
 //! The table `meta`.
 
-ghost use Rattle.std.specs.Prelude.{◌≡◌, ◌≢◌, ◌<◌, ℕ, true, false, None, find, OnOk, OnErr, IfOk, IfErr};
+ghost use Rattle.std.specs.Prelude.{◌≡◌, ◌≢◌, ◌<◌, ◌↔◌, ℕ, true, false, None, find, OnOk, OnErr, IfOk, IfErr};
 ghost use Rattle.std.specs.List.{AllByRecursion};
 ghost use Rattle.sqlite.specs.State.{HasCleanDisk, Survives, KeepsCommit, IsUnchanged};
 ghost use Rattle.sqlite.specs.Held.{state};
@@ -119,14 +119,16 @@ pub fn put_meta<S: Alter>(tx: &mut Transaction<'_, S>, row: &MetaRow) -> Result<
     put::<Meta, S>(tx, row, false)
 }
 
-/// Puts the row in place of the one that books of an older schema have, which are then of the newest number. `Foreign`
-/// where they have none. A number above its limit is refused as too big.
+/// Puts the row in place of the one that books of an older schema have, which are then of the newest number; each stored row
+/// keeps the rules of its values exactly where each did before. `Foreign` where they have none. A number above its limit is
+/// refused as too big.
 pub fn raise_meta<S: Alter>(tx: &mut Transaction<'_, S>, row: &MetaRow) -> Result<(), TableFault>
     ensures same_reference { tx.new.conn.ghost_name ≡ tx.old.conn.ghost_name }
     ensures done { HasCleanDisk (state S.Store tx.new.conn.now) → IsReady (state S.Store tx.old.conn.now).now
         → OnOk result (Goes (with_meta row.now) (state S.Store tx.old.conn.now) (state S.Store tx.new.conn.now)) }
-    ensures typed { HasCleanDisk (state S.Store tx.new.conn.now) → IsReady (state S.Store tx.old.conn.now).now → (version : ℕ) → AreTypedAt version (state S.Store tx.old.conn.now).now.trees
-        → OnOk result (AreTyped (state S.Store tx.new.conn.now).now.trees) }
+    ensures typed { HasCleanDisk (state S.Store tx.new.conn.now) → IsReady (state S.Store tx.old.conn.now).now → (version : ℕ)
+        → AllByRecursion (λ r. is_meta_at version r ≡ true) (meta_rows_rows 1 (state S.Store tx.old.conn.now).now.trees)
+        → OnOk result (AreTypedAt version (state S.Store tx.old.conn.now).now.trees ↔ AreTyped (state S.Store tx.new.conn.now).now.trees) }
     ensures foreign { HasCleanDisk (state S.Store tx.new.conn.now) → IsReady (state S.Store tx.old.conn.now).now
         → IfErr result (λ e. e ≡ Foreign → (version : ℕ) → meta_at version (state S.Store tx.old.conn.now).now.trees ≡ None) }
     ensures kept { HasCleanDisk (state S.Store tx.new.conn.now) → KeepsCommit (state S.Store tx.old.conn.now) (state S.Store tx.new.conn.now) }

@@ -1,8 +1,8 @@
 -- What the statements on a table make of the books, of any table that keeps the laws.
-use Rattle.std.proofs.Common.{◌≡◌, ◌≢◌, ℕ, Bool, true, not, List, [], ◌∷◌, filter, map, length, slice_get, Some, None, inl, inr, IsTrue, refl, sym, ap, subst, ◌∙◌, arith, Equal}
+use Rattle.std.proofs.Common.{◌≡◌, ◌≢◌, ℕ, Bool, true, false, not, List, [], ◌∷◌, filter, map, length, slice_get, Some, None, inl, inr, IsTrue, refl, sym, ap, subst, ◌∙◌, arith, Equal}
 use Rattle.std.specs.Prelude.{if◌then◌else◌, ◌↔◌}
 use Rattle.std.specs.List.{AllByRecursion}
-use Rattle.std.proofs.lemmas.Bool.{cases_Bool, eq-eqb}
+use Rattle.std.proofs.lemmas.Bool.{cases_Bool, cases_eq, eq-eqb, ne_eqb}
 use Rattle.std.proofs.lemmas.Bool.Decides.{nat_tests}
 use Rattle.sqlite.specs.Order.{Row}
 use Rattle.sqlite.specs.State.{State, Shown}
@@ -10,12 +10,12 @@ use Rattle.sqlite.specs.Tree.{Trees, with_tree}
 use Rattle.sqlite.specs.Effect.{Database}
 use Rattle.sqlite.specs.Rowids.TheVariants.{Chosen}
 use Rattle.sqlite.proofs.Callers.{runs_as, reads_as}
-use Rattle.sqlite_keyed.proofs.ListLemmas.{all-slice_get, all-filter}
-use Rattle.sqlite_rules.specs.Edit.{with_rowid}
+use Rattle.sqlite_keyed.proofs.ListLemmas.{all_both, all-slice_get, all-filter}
+use Rattle.sqlite_rules.specs.Edit.{with_rowid, is_taken}
 use Rattle.sqlite_trees.specs.Tree.{rowid, put_row}
 use Rattle.sqlite_trees.specs.View.{is_int}
 use Rattle.sqlite_rules.specs.Lists.{Has}
-use Rattle.sqlite_rules.proofs.ListLemmas.{all_has}
+use Rattle.sqlite_rules.proofs.ListLemmas.{all_has, all_from}
 use Rattle.sqlite_value.specs.declared.value.Value.TheVariants.{Null}
 use Rattle.sqlite_value.specs.Order.{value_cmp}
 use Rattle.table_words.specs.Found.{AreRows, only_if}
@@ -23,7 +23,8 @@ use Rattle.table_words.proofs.CellLemmas.{typed-filter, both_typed, shown_typed}
 use Rattle.table_words.specs.Schema.{the_tables, schema_with}
 use Rattle.table_words.specs.Rows.{IsRows}
 use Rattle.table_words.specs.Cells.{typed}
-use Rattle.table_words.specs.Typed.{Tables, tables_in, AreTyped}
+use Rattle.table_words.specs.Changed.{Changed}
+use Rattle.table_words.specs.Typed.{Tables, tables_in, Rule, the_rules, Keeps, AreTyped}
 use Rattle.table_words.specs.Steps.{IsReady, Goes}
 use Rattle.table_words.specs.Calls.{Counts}
 use Rattle.table_words.proofs.ListLemmas.{over, filter_same_on, IsRows-filter, IsRows-over, IsRows-put_row, all_put_row, any_counted, none_counted_pass, none_over, stays_put}
@@ -32,7 +33,7 @@ use Rattle.sqlite_schema.specs.declared.schema.Constraint.TheVariants.{Unique}
 use Rattle.table_words.proofs.Plans.{tests_from}
 use Rattle.table_words.proofs.ScanLemmas.{passes, show}
 use Rattle.table_words.proofs.WriteLemmas.{goes_in, updates, deletes}
-use Rattle.table_words.proofs.StepLemmas.{ready_after, sets_off_nothing, goes, typed_at, typed_put}
+use Rattle.table_words.proofs.StepLemmas.{ready_after, sets_off_nothing, goes, typed_at, typed_put, front}
 use Rattle.table_words.proofs.KeyLemmas.{AtMostOne, one_by_key, few, none_had, meets, found_put, found_over, found_without, are_rows, are_rows_if}
 use Rattle.keyed_rows.specs.Described.{keyed, Described, IsLawful, Change, IsChange, DropIs, Query, IsSought, laid, rule_of, sound, with_row, without_row, found, stored_of}
 
@@ -51,6 +52,15 @@ one_keyed db ready place tree name columns places first at params =
     let schema = schema_with ready.has.rest in
     one_by_key schema db.trees table places _ (all-slice_get _ schema.tables place table at ready.sound.lists.guarded 0 places refl).1 (eq-eqb tree tree refl) refl refl
     (all-slice_get _ schema.tables place table at (ready.sound.obeys.rules Unique)) (all-slice_get (λ t. IsRows (db.trees t.tree)) the_tables place table first ready.rows) params
+
+-- the rows that there were before one was put beside them are typed, where all are now
+kept_before : (old new : Trees) (tree : ℕ) (row : Row) → is_taken (old tree) row ≡ false → (t : Rule) → Keeps new t → new t.tree ≡ with_tree old tree (put_row row (old tree)) t.tree → Keeps old t
+kept_before old new tree row free t kept is = elim (cases_eq t.tree tree) [
+  | inl e ↦
+      let all : AllByRecursion (λ r. t.is r ≡ true) (put_row row (old tree)) = rw (eq-eqb t.tree tree e) at (rw is at kept) in
+      subst (λ (n : ℕ). AllByRecursion (λ r. t.is r ≡ true) (old n)) (sym e) (all_from (λ r. t.is r ≡ true) (old tree) (λ r h. all_has (λ r. t.is r ≡ true) (put_row row (old tree)) r all (stays_put row (old tree) free r h)))
+  | inr ne ↦ rw (ne_eqb t.tree tree ne) at (rw is at kept)
+]
 
 -- the rows of the table are typed, where all are
 pub typed_rows : {X K : Type 0} (d : Described X K) → IsLawful d → (trees : Trees) → AreTyped trees → AllByRecursion (λ r. d.is r ≡ true) (trees d.layout.tree)
@@ -91,6 +101,17 @@ module _ {X K : Type 0} (d : Described X K) (laws : IsLawful d) where
             typed_after,
       )
 
+  -- the row was put beside those that there were, none of which has its rowid
+  went_in : (s : X) (old new : State) (count : ℕ) (ready : IsReady old.now) → Counts count d.add (d.cells s) old new
+      → let row = with_rowid Chosen (old.now.trees d.layout.tree) (d.source s) in
+      Changed (schema_with ready.has.rest) d.layout.tree (put_row row (old.now.trees d.layout.tree)) old.now new.now × (is_taken (old.now.trees d.layout.tree) row ≡ false)
+  went_in s old new count ready h =
+      let params = d.cells s in
+      let tree = d.layout.tree in
+      let rest = ready.has.rest in
+      let w = runs_as d.add params old new (schema_with rest) ready.has.is _ (laws.add_is rest).0 (laws.add_is rest).1 count h.executes.0 in
+      goes_in (schema_with rest) d.place tree _ _ _ _ _ _ (laws.placed rest) (λ olds news. sets_off_nothing rest tree olds news ready.has.apart) old new d.add_terms (length d.add_terms) _ params (d.source s) (d.source s) count ready.has.is (laws.added s) (laws.casts s) w
+
   pub adds : (s : X) → sound d s ≡ true → (old new : State) (count : ℕ) → IsReady old.now → Counts count d.add (d.cells s) old new → Goes (with_row d s) old new
   adds s good old new count ready h =
       let params = d.cells s in
@@ -100,19 +121,28 @@ module _ {X K : Type 0} (d : Described X K) (laws : IsLawful d) where
       let kept = rows_of old.now ready in
       let row : Row = with_rowid Chosen rows (d.source s) in
       let after = put_row row rows in
-      let rest = ready.has.rest in
       let came = laws.comes s rows good in
-      let w = runs_as d.add params old new (schema_with rest) ready.has.is _ (laws.add_is rest).0 (laws.add_is rest).1 count h.executes.0 in
-      let u = goes_in (schema_with rest) d.place tree _ _ _ _ _ _ (laws.placed rest) (λ olds news. sets_off_nothing rest tree olds news ready.has.apart) old new d.add_terms (length d.add_terms) _ params (d.source s) (d.source s) count ready.has.is (laws.added s) (laws.casts s) w in
+      let u = went_in s old new count ready h in
       let good_rows = IsRows-put_row row rows came.0 kept in
       let ready_now = ready_after old.now new.now tree after ready good_rows u.0 in
       let there : p row ≡ true = at_own s row came.1.0 ∙ ap (λ x. d.same (d.key s) (d.key x)) came.1.1 ∙ laws.itself (d.key s) in
-      let is_after : new.now.trees tree ≡ with_tree old.now.trees tree after tree = all-slice_get (λ t. new.now.trees t.tree ≡ with_tree old.now.trees tree after t.tree) (schema_with rest).tables d.place (laid d.layout) (laws.placed rest) u.0.trees_are in
+      let is_after : new.now.trees tree ≡ with_tree old.now.trees tree after tree = all-slice_get (λ t. new.now.trees t.tree ≡ with_tree old.now.trees tree after t.tree) (schema_with ready.has.rest).tables d.place (laid d.layout) (laws.placed ready.has.rest) u.0.trees_are in
       let own_tree : with_tree old.now.trees tree after tree ≡ after = grind (arith, nat_tests) in
       let none = none_had p row rows u.1 there (subst (AtMostOne p) (is_after ∙ own_tree) (laws.one_row new.now ready_now params)) (stays_put row rows u.1) in
       goes old new tree after _ ready good_rows u.0 (h.executes.1.mode ∙ sym h.inside)
       (with_is old.now.trees after s (λ k. found_put d.is d.reads p (λ x. d.same (d.key s) (d.key x)) (λ x. d.same k (d.key x)) (d.same k (d.key s)) (meets d.same d.key laws.one_key (d.key s) k) (at_own s) s refl row rows came.1.0 came.1.1 u.1 none))
       (λ are. typed_put old.now.trees (rule_of d) after (all_put_row (λ r. d.is r ≡ true) row rows came.1.0 (typed_rows d laws old.now.trees are)) d.place laws.ruled are)
+
+  -- it took the place of none, so each stored row was typed if each is now
+  pub were_typed : (s : X) (old new : State) (count : ℕ) → IsReady old.now → Counts count d.add (d.cells s) old new → AreTyped new.now.trees → AreTyped old.now.trees
+  were_typed s old new count ready h are =
+      let tree = d.layout.tree in
+      let row : Row = with_rowid Chosen (old.now.trees tree) (d.source s) in
+      let u = went_in s old new count ready h in
+      record {
+        each = all_both (Keeps new.now.trees) (λ (t : Rule). new.now.trees t.tree ≡ with_tree old.now.trees tree (put_row row (old.now.trees tree)) t.tree) (Keeps old.now.trees) (kept_before old.now.trees new.now.trees tree row u.1) the_rules are.each
+            (front _ the_tables _ u.0.trees_are);
+      }
 
   pub drops : (text : List ℕ) → DropIs d text → (k : K) (old new : State) (count : ℕ) → IsReady old.now → Counts count text (d.key_cells k) old new → Goes (without_row d k) old new
   drops text it k old new count ready h =

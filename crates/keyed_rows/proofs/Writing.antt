@@ -12,7 +12,7 @@ use Rattle.table_words.specs.Calls.{Counts}
 use Rattle.table_words.specs.declared.error.TableFault.{TableFault}
 use Rattle.table_words.specs.declared.error.TableFault.TheVariants.{Foreign}
 use Rattle.table_words.proofs.CallLemmas.{goes_then, none_then, kept_itself, kept_then, inside_itself, inside_then}
-use Rattle.keyed_rows.specs.Writes.{WritesBy, Writes, WritesInside, Spares, Ran, each_written}
+use Rattle.keyed_rows.specs.Writes.{WritesBy, Writes, WereTyped, WritesInside, Spares, Ran, each_written}
 
 -- nothing is done
 pub writes_none : {X : Type 0} (to : X → Tables → Tables) (s : State) (e : TableFault) → e ≢ Foreign → WritesBy to s s (Err e)
@@ -128,6 +128,15 @@ writes_more write rs i r a b c low is one two =
     let next : take (i + 1) rs ≡ take i rs ++ r ∷ [] = take_more rs i r low ∙ ap (λ x. take i rs ++ x ∷ []) (sym is) in
     let same : ((t : Tables) → write r (each_written write (take i rs) t) ≡ each_written write (take (i + 1) rs) t) = λ t. sym (ap (λ l. each_written write l t) next ∙ each_more write (take i rs) r t) in
     subst (λ (f : Tables → Tables). Writes {X = Unit {0}} f a c (Ok tt)) (λ j t. same t j) (writes_then (λ _. each_written write (take i rs)) (λ _. write r) a b c tt (Ok tt) one two)
+
+-- so each stored row was typed before the rows so far, if each is after one more
+pub were_first : (s : State) → WereTyped {X = Unit {0}} s s (Ok tt)
+were_first s clean ready = λ are. are
+
+pub were_more : (to next : Tables → Tables) (a b c : State) → Writes {X = Unit {0}} to a b (Ok tt) → WereTyped {X = Unit {0}} a b (Ok tt) → Writes {X = Unit {0}} next b c (Ok tt) → WereTyped {X = Unit {0}} b c (Ok tt) → WereTyped {X = Unit {0}} a c (Ok tt)
+were_more to next a b c one before two after clean ready =
+    let was = earlier b c two.survives clean in
+    λ are. before was ready (after clean (one.done was ready).ready are)
 
 -- a failure that is handed on
 pub same_error : {X : Type 0} (r : Result X TableFault) (f : TableFault) → IsErr r × IsErrAnd r (λ e. e ≡ f) → (P : Result X TableFault → Type 0) → P (Err f) → P r

@@ -22,7 +22,8 @@ pub record Queried {X A : Type 0} (has : Row → Bool) (read : Row → X) (sql :
   pub kept : HasCleanDisk new → IsPlain (understood old.now.schema sql) → KeepsCommit old new
   pub survives : Survives old new (λ _. ⊥)
 
--- the rows that are sought were read, and nothing was changed; `Foreign` exactly where one of those stored is not typed
+-- the rows that are sought were read, and nothing was changed: it answers only where each of those stored is typed, and `Foreign`
+-- only where one is not
 pub record Finds {X A : Type 0} (are : Tables → List X → Type 0) (is : Row → Bool) (stored : Trees → List Row) (old new : State) (result : Result (Vec X A) TableFault) : Type 0 where
   pub rows : HasCleanDisk new → IsReady old.now → IfOk result (λ found. are (tables_in old.now.trees) found.items)
   pub typed : HasCleanDisk new → IsReady old.now → OnOk result (AllByRecursion (λ r. is r ≡ true) (stored old.now.trees))

@@ -6,6 +6,7 @@ use Rattle.sqlite.specs.Held.{Held, state}
 use Rattle.sqlite.specs.State.{State, HasCleanDisk, Survives, KeepsCommit}
 use Rattle.commands.specs.Tables.{Tables}
 use Rattle.table_words.specs.Steps.{IsReady, Goes, ChangesNone}
+use Rattle.table_words.specs.Typed.{AreTyped}
 use Rattle.table_words.specs.Calls.{Counts}
 use Rattle.table_words.specs.declared.error.TableFault.{TableFault}
 use Rattle.table_words.specs.declared.error.TableFault.TheVariants.{Foreign}
@@ -28,6 +29,10 @@ if_done to did t = if did then to t else t
 -- a call that is refused leaves the tables as they were
 abbrev pub Spares : {X : Type 0} → State → State → Result X TableFault → Type 0
 Spares old new result = HasCleanDisk new → IsReady old.now → OnErr result (ChangesNone old new)
+
+-- where each stored row is typed after a call that answers, each was before it
+abbrev pub WereTyped : {X : Type 0} → State → State → Result X TableFault → Type 0
+WereTyped old new result = HasCleanDisk new → IsReady old.now → OnOk result (AreTyped new.now.trees → AreTyped old.now.trees)
 
 -- a statement ran inside the transaction and wrote so many rows, or it was refused
 pub record Ran {S : Type 0} (g : Ghosts S) (sql : List ℕ) (params : Row) (old new : Held S) (result : Result ℕ TableFault) : Type 0 where

@@ -2,7 +2,7 @@
 
 ghost use Rattle.std.specs.Prelude.{◌≡◌};
 ghost use Rattle.sqlite.specs.Held.{state};
-ghost use Rattle.keyed_rows.specs.Writes.{Writes, each_written};
+ghost use Rattle.keyed_rows.specs.Writes.{Writes, WereTyped, each_written};
 ghost use Rattle.keyed_rows.specs.Described.{with_row, without_row};
 
 use crate::table::{Changing, Losing, Table, add, drop_row, put};
@@ -16,6 +16,7 @@ pub fn add_all<T: Table, S: Alter>(
 ) -> Result<(), TableFault>
     ensures same_reference { tx.new.conn.ghost_name ≡ tx.old.conn.ghost_name }
     ensures writes { Writes (each_written (with_row T.table) rows.now) (state S.Store tx.old.conn.now) (state S.Store tx.new.conn.now) result }
+    ensures were_typed { WereTyped (state S.Store tx.old.conn.now) (state S.Store tx.new.conn.now) result }
 {
     for row in rows {
         add::<T, S>(tx, row)?;

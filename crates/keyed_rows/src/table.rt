@@ -4,7 +4,7 @@ ghost use Rattle.std.specs.Prelude.{◌≡◌, true, false, IfOk, IfErr};
 ghost use Rattle.sqlite.specs.Held.{state};
 ghost use Rattle.table_words.specs.Steps.{IsTooBig};
 ghost use Rattle.table_words.specs.declared.error.TableFault.TheVariants.{Foreign};
-ghost use Rattle.keyed_rows.specs.Writes.{Writes, Spares, WritesInside, Ran, if_done};
+ghost use Rattle.keyed_rows.specs.Writes.{Writes, Spares, WereTyped, WritesInside, Ran, if_done};
 ghost use Rattle.keyed_rows.specs.Described.{with_row, without_row};
 
 use sqlite::{Alter, Row, Transaction};
@@ -62,6 +62,7 @@ fn add_fitting<T: Table, S: Alter>(
     requires { T.fits row.now ≡ true }
     ensures same_reference { tx.new.conn.ghost_name ≡ tx.old.conn.ghost_name }
     ensures writes { WritesInside S.Store (λ _. with_row T.table row.now) tx.old.conn.now tx.new.conn.now result }
+    ensures were_typed { WereTyped (state S.Store tx.old.conn.now) (state S.Store tx.new.conn.now) result }
 {
     match T::run(tx, T::add_text(), row) {
         Ok(_) => Ok(()),
@@ -74,6 +75,7 @@ fn add_fitting<T: Table, S: Alter>(
 pub fn add<T: Table, S: Alter>(tx: &mut Transaction<'_, S>, row: &T::Row) -> Result<(), TableFault>
     ensures same_reference { tx.new.conn.ghost_name ≡ tx.old.conn.ghost_name }
     ensures writes { Writes (with_row T.table row.now) (state S.Store tx.old.conn.now) (state S.Store tx.new.conn.now) result }
+    ensures were_typed { WereTyped (state S.Store tx.old.conn.now) (state S.Store tx.new.conn.now) result }
     ensures refused { Spares (state S.Store tx.old.conn.now) (state S.Store tx.new.conn.now) result }
     ensures too_big { T.fits row.now ≡ false → IsTooBig result tx.old.conn.now tx.new.conn.now }
 {

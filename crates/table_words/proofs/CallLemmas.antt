@@ -10,7 +10,6 @@ use Rattle.sqlite.specs.declared.error.Error.{Error}
 use Rattle.sqlite.specs.Listing.{understood}
 use Rattle.sqlite.specs.Clock.{timed}
 use Rattle.sqlite.specs.State.{State, Survives, ExecutesInside, KeepsCommit, IsUnchanged, IsRolledBack, IsNotRun, FailsToQuery, FailsToShow, IsTooLate, Shown, ShowsRows}
-use Rattle.sqlite.specs.Steps.{FailsToCommit}
 use Rattle.sqlite.proofs.Callers.{IsPlain}
 use Rattle.sqlite.proofs.StateLemmas.{survives_then}
 use Rattle.sqlite.specs.Effect.{Database}
@@ -112,16 +111,6 @@ pub put_back : (old begun last new : State) → begun ≡ record old { in_transa
 put_back old begun last new is kept undone settled up =
     let was : IsTrue begun.is_open = kept.was_open (undone.was_open up) in
     (undone.undone up).0 ∙ kept.committed (undone.was_open up) ∙ ap (λ (s : State). s.committed) is ∙ sym (settled (rw is at was))
-
--- a commit that fails puts it back too
-pub commit_back : (old begun last new : State) (e : Error) → begun ≡ record old { in_transaction = true } → KeepsCommit begun last → last.in_transaction ≡ begun.in_transaction → FailsToCommit last new e
-    → (IsTrue old.is_open → old.now ≡ old.committed) → IsTrue new.is_open → new.now ≡ old.now
-commit_back old begun last new e is kept mode (inl fails) settled up = put_back old begun last new is kept fails.3 settled up
-commit_back old begun last new e is kept mode (inr late) settled up = absurd (let inside : begun.in_transaction ≡ true = ap (λ (s : State). s.in_transaction) is in let out = late.1 in cc)
-
-pub commit_settled : (begun last new : State) (e : Error) → IsTrue begun.in_transaction → last.in_transaction ≡ begun.in_transaction → FailsToCommit last new e → IsTrue new.is_open → new.committed ≡ new.now
-commit_settled begun last new e inside mode (inl fails) up = (fails.3.undone up).1 ∙ sym (fails.3.undone up).0
-commit_settled begun last new e inside mode (inr late) up = absurd (let out = late.1 in cc)
 
 pub on_err : {X E P : Type 0} (r : Result X E) → P → OnErr r P
 on_err (Ok x) p = tt

@@ -1,6 +1,6 @@
 -- What bringing older books up makes of their tables.
 use Rattle.std.proofs.Common.{◌≡◌, inl, inr, ℕ, ℤ, Bool, true, false, Option, Some, None, List, [], ◌∷◌, ◌++◌, ◌||◌, map, filter, drop, cond, refl, sym, ap, subst, ◌∙◌}
-use Rattle.std.specs.Prelude.{if◌then◌else◌, option_map, find, bytes_eq}
+use Rattle.std.specs.Prelude.{◌↔◌, if◌then◌else◌, option_map, find, bytes_eq}
 use Rattle.std.specs.List.{AllByRecursion, list_all, list_any}
 use Rattle.std.proofs.lemmas.Bool.{cases_Bool}
 use Rattle.std.proofs.lemmas.Slice.Eq.{bytes_eq-Decides}
@@ -27,7 +27,7 @@ use Rattle.table_words.specs.Rows.{IsRows}
 use Rattle.table_words.specs.Schema.{schema_with, the_tables, least_table, least_tree, urgents_table, urgents_tree, meta_tree, is_harmless}
 use Rattle.table_words.specs.Steps.{IsReady, Goes}
 use Rattle.table_words.specs.Typed.{Tables, tables_in, with_meta, with_least as with_least_row, is_meta_at, meta_in, same_meta, meta_key, meta_at, is_item, is_least, is_urgent, Rule, first_rules, second_rules, Keeps, AreTyped, AreTypedAt}
-use Rattle.table_words.proofs.StepLemmas.{tables_same, typed_same}
+use Rattle.table_words.proofs.StepLemmas.{tables_same, front}
 use Rattle.tables.specs.Bringing.{as_brought, older_tables_in, AreOlderTyped, AreFillersTyped, AreOlderRows, IsOlderReady, IsOlder, HasRoom, row_of, AsksNone, Fills, IsWritten, IsFilled}
 use Rattle.tables.specs.Growing.{Makes, IsGrown}
 use Rattle.tables.specs.Indexing.{HasIndexes, IsIndexed}
@@ -36,7 +36,7 @@ use Rattle.tables.specs.declared.older.OlderBooks.{OlderBooks}
 use Rattle.tables.specs.declared.older.OlderBooks.TheVariants.{First, Second}
 use Rattle.tables.specs.Settling.{HasDayAt, HasRow}
 use Rattle.tables.specs.declared.layouts.TheConstants.{CREATE_LEAST, CREATE_URGENTS}
-use Rattle.tables.proofs.SettleLemmas.{each_itself}
+use Rattle.tables.proofs.SettleLemmas.{each_itself, typed_then}
 
 -- ---- the tables that they lack
 
@@ -150,9 +150,12 @@ module _ (old new : Trees) where
   still_typed : (rules : List Rule) → AllByRecursion (λ (t : Rule). new t.tree ≡ old t.tree) rules → AllByRecursion (Keeps old) rules → AllByRecursion (Keeps new) rules
   still_typed rules same are = all_both (Keeps old) (λ (t : Rule). new t.tree ≡ old t.tree) (Keeps new) (λ t kept is. subst (AllByRecursion (λ r. t.is r ≡ true)) (sym is) kept) rules are same
 
-  pub older_typed_same : (older : OlderBooks) → KeepsOlderRows older old new → AreOlderTyped older old → AreOlderTyped older new
-  older_typed_same First same are = still_typed (first_rules 1) same are
-  older_typed_same Second same are = still_typed (second_rules 2) same are
+  typed_still : (rules : List Rule) → AllByRecursion (λ (t : Rule). new t.tree ≡ old t.tree) rules → AllByRecursion (Keeps new) rules → AllByRecursion (Keeps old) rules
+  typed_still rules same are = all_both (Keeps new) (λ (t : Rule). new t.tree ≡ old t.tree) (Keeps old) (λ t kept is. subst (AllByRecursion (λ r. t.is r ≡ true)) is kept) rules are same
+
+  pub older_typed_same : (older : OlderBooks) → KeepsOlderRows older old new → AreOlderTyped older old ↔ AreOlderTyped older new
+  older_typed_same First same = (still_typed (first_rules 1) same, typed_still (first_rules 1) same)
+  older_typed_same Second same = (still_typed (second_rules 2) same, typed_still (second_rules 2) same)
 
 -- under the newest number, and with no rows in the tables that they lack, they read as theirs
 seen_older : (older : OlderBooks) (trees : Trees) (row : MetaRow) → AllByRecursion (IsEmpty trees) (lacking_tables older) → meta_at (number older) trees ≡ Some row → with_meta row (tables_in trees) ≡ older_tables_in older trees
@@ -226,15 +229,22 @@ typed_before First trees none are =
     all-append (Keeps trees) (second_rules 1) (urgent_rule ∷ []) (all-append (Keeps trees) (first_rules 1) (least_rule ∷ []) are (none_typed trees least_rule none.0, tt)) (none_typed trees urgent_rule none.1.0, tt)
 typed_before Second trees none are = all-append (Keeps trees) (second_rules 2) (urgent_rule ∷ []) are (none_typed trees urgent_rule none.0, tt)
 
+typed_of_all : (older : OlderBooks) (trees : Trees) → AreTypedAt (number older) trees → AreOlderTyped older trees
+typed_of_all First trees are = front (Keeps trees) (first_rules 1) (least_rule ∷ []) (front (Keeps trees) (second_rules 1) (urgent_rule ∷ []) are)
+typed_of_all Second trees are = front (Keeps trees) (second_rules 2) (urgent_rule ∷ []) are
+
 pub written : (older : OlderBooks) (base : Trees) (old mid new : State) (row : MetaRow) (rows : List LeastRow) → HasRoom older base old → HasRow (number older) old.now.trees row → Fills older old.now.trees rows
-    → Goes (with_meta row) old mid → (AreTypedAt (number older) old.now.trees → AreTyped mid.now.trees) → Goes (each_written with_least_row rows) mid new → IsWritten older base new
-written older base old mid new row rows room has fills raised typed added = record {
+    → Goes (with_meta row) old mid → AreTypedAt (number older) old.now.trees ↔ AreTyped mid.now.trees → Goes (each_written with_least_row rows) mid new × (AreTyped new.now.trees → AreTyped mid.now.trees) → IsWritten older base new
+written older base old mid new row rows room has fills raised typed (added, before) = record {
   ready = added.ready;
   brought = record {
     read = same_read older base old.now.trees room.kept (fillers_typed older old.now.trees rows fills);
     tables = added.tables ∙ ap (each_written with_least_row rows) (raised.tables ∙ seen_older older old.now.trees row room.empty has.found) ∙ filled_older older old.now.trees rows fills
         ∙ ap (as_brought older) (older_same older base old.now.trees room.kept);
-    typed = λ are. added.typed (typed (typed_before older old.now.trees room.empty (older_typed_same base old.now.trees older room.kept are)));
+    typed = (
+      λ are. added.typed (typed.0 (typed_before older old.now.trees room.empty ((older_typed_same base old.now.trees older room.kept).0 are))),
+      λ are. (older_typed_same base old.now.trees older room.kept).1 (typed_of_all older old.now.trees (typed.1 (before are))),
+    );
   };
   inside = added.mode ∙ raised.mode ∙ room.inside;
 }
@@ -260,7 +270,7 @@ filled older base mid new it made indexes = record {
     brought = record {
       read = it.brought.read;
       tables = tables_same mid.now.trees new.now.trees made.rows ∙ it.brought.tables;
-      typed = λ are. typed_same mid.now.trees new.now.trees made.rows (it.brought.typed are);
+      typed = typed_then (AreOlderTyped older base) mid.now.trees new.now.trees made.rows it.brought.typed;
     };
     inside = made.mode ∙ it.inside;
   };

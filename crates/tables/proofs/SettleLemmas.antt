@@ -1,11 +1,11 @@
 -- The row of `meta`, read and put under the newest number, and making the indexes, in one transaction.
 use Rattle.std.proofs.Common.{◌≡◌, ◌⊎◌, inl, inr, ℕ, ℤ, true, List, [], ◌∷◌, Result, Ok, Err, Option, None, Some, OnOk, IfOk, IfErr, refl, sym, ap, subst, ◌∙◌}
-use Rattle.std.specs.Prelude.{option_map, find}
+use Rattle.std.specs.Prelude.{◌↔◌, option_map, find}
 use Rattle.std.specs.List.{AllByRecursion}
 use Rattle.std.specs.Result.{IsErrAnd, IsOkAnd}
 use Rattle.commands.specs.declared.limits.TheConstants.{SCHEMA_VERSION}
 use Rattle.commands.specs.declared.rows.MetaRow.{MetaRow}
-use Rattle.sqlite_keyed.proofs.ListLemmas.{all_both}
+use Rattle.sqlite_keyed.proofs.ListLemmas.{all_both, all_weaker}
 use Rattle.sqlite_trees.specs.declared.store.Store.{Ghosts}
 use Rattle.sqlite.specs.Effect.{Database}
 use Rattle.sqlite.specs.Held.{Held, state}
@@ -69,6 +69,10 @@ still_row P (Err x) items (Err e) h other (inr none) = absurd none
 pub day_of_row : (version : ℕ) (trees : Trees) (m : MetaRow) → HasRow version trees m → HasDayAt version trees m.day
 day_of_row version trees m has = record { typed = has.typed; found = ap (option_map (λ (x : MetaRow). x.day)) has.found }
 
+-- what was only read is stored still
+pub own_rows : (version : ℕ) (old mid : State) → IsUnchanged old mid → AllByRecursion (λ r. is_meta_at version r ≡ true) (meta_rows_rows 1 old.now.trees) → AllByRecursion (λ r. is_meta_at version r ≡ true) (meta_rows_rows 1 mid.now.trees)
+own_rows version old mid same own = subst (λ (d : Database). AllByRecursion (λ r. is_meta_at version r ≡ true) (meta_rows_rows 1 d.trees)) (sym same.0.now_is) own
+
 -- ---- the number of the books
 
 -- a row that has the newest number stays
@@ -80,14 +84,14 @@ kept_numbers old new row ready has same = record {
 }
 
 -- one that had the number 3 was put under the newest
-pub raised_numbers : (old mid new : State) (row : MetaRow) → HasRow THIRD old.now.trees row → IsUnchanged old mid → Goes (with_meta row) mid new → (AreTypedAt THIRD mid.now.trees → AreTyped new.now.trees) → Numbers old new
+pub raised_numbers : (old mid new : State) (row : MetaRow) → HasRow THIRD old.now.trees row → IsUnchanged old mid → Goes (with_meta row) mid new → (AreTypedAt THIRD mid.now.trees ↔ AreTyped new.now.trees) → Numbers old new
 raised_numbers old mid new row has same raised typed = record {
   ready = raised.ready;
   comes = inr (record {
     day = row.day;
     has = day_of_row THIRD old.now.trees row has;
     tables = raised.tables ∙ ap (λ (d : Database). with_meta row (tables_in d.trees)) same.0.now_is ∙ ap (λ (m : Option MetaRow). record (tables_in old.now.trees) { meta = m }) (sym has.found);
-    typed = λ are. typed (subst (λ (d : Database). AreTypedAt THIRD d.trees) (sym same.0.now_is) are);
+    typed = (λ are. typed.0 (subst (λ (d : Database). AreTypedAt THIRD d.trees) (sym same.0.now_is) are), λ are. subst (λ (d : Database). AreTypedAt THIRD d.trees) same.0.now_is (typed.1 are));
   });
   mode = raised.mode ∙ same.0.mode;
 }
@@ -106,6 +110,13 @@ numbers_after old mid new same it = record {
   mode = it.mode ∙ same.0.mode;
 }
 
+-- rows that are kept are typed exactly where they were
+pub typed_then : (P : Type 0) (mid new : Trees) → KeepsRows mid new → P ↔ AreTyped mid → P ↔ AreTyped new
+typed_then P mid new rows both = (
+  λ p. typed_same mid new rows (both.0 p),
+  λ are. both.1 (typed_same new mid (all_weaker (λ t. new t.tree ≡ mid t.tree) (λ t. mid t.tree ≡ new t.tree) (λ t is. sym is) the_tables rows) are),
+)
+
 -- indexes change nothing of it
 then_indexed : (old mid new : Trees) → KeepsRows mid new → IsNumbered old mid → IsNumbered old new
 then_indexed old mid new rows (inl kept) = inl (record {
@@ -117,7 +128,7 @@ then_indexed old mid new rows (inr raised) = inr (record {
   day = raised.day;
   has = raised.has;
   tables = tables_same mid new rows ∙ raised.tables;
-  typed = λ are. typed_same mid new rows (raised.typed are);
+  typed = typed_then (AreTypedAt THIRD old) mid new rows raised.typed;
 })
 
 pub numbers_then : (old mid new : State) → Numbers old mid → IsIndexed mid new → Numbers old new

@@ -1,5 +1,5 @@
 -- Bringing older books up to the newest schema.
-use Rattle.std.specs.Prelude.{◌≡◌, ⊤, List, [], true, map}
+use Rattle.std.specs.Prelude.{◌≡◌, ◌↔◌, ⊤, List, [], true, map}
 use Rattle.std.specs.List.{AllByRecursion}
 use Rattle.commands.specs.Schemas.{without_least, with_least, without_urgents}
 use Rattle.commands.specs.declared.rows.ItemRow.{ItemRow}
@@ -87,11 +87,12 @@ abbrev pub Fills : OlderBooks → Trees → List LeastRow → Type 0
 Fills First trees rows = AsksNone trees rows
 Fills Second trees rows = rows ≡ []
 
--- the trees have the newest tables, which come of those of these books; what was read of these reads as typed rows
+-- The trees have the newest tables, which come of those of these books; what was read of these reads as typed rows. Each row
+-- that is stored does exactly where each did that these stored.
 pub record IsBrought (older : OlderBooks) (base trees : Trees) : Type 0 where
   pub read : AreFillersTyped older base
   pub tables : tables_in trees ≡ as_brought older (older_tables_in older base)
-  pub typed : AreOlderTyped older base → AreTyped trees
+  pub typed : AreOlderTyped older base ↔ AreTyped trees
 
 -- so do those of a transaction that goes on
 pub record IsWritten (older : OlderBooks) (base : Trees) (s : State) : Type 0 where

@@ -1,5 +1,5 @@
 -- The business day that is stored, and what books with the newest tables come to as it is read.
-use Rattle.std.specs.Prelude.{◌≡◌, ◌⊎◌, ℕ, ℤ, true, Some, option_map}
+use Rattle.std.specs.Prelude.{◌≡◌, ◌⊎◌, ◌↔◌, ℕ, ℤ, true, Some, option_map}
 use Rattle.std.specs.List.{AllByRecursion}
 use Rattle.commands.specs.declared.limits.TheConstants.{SCHEMA_VERSION}
 use Rattle.commands.specs.declared.rows.MetaRow.{MetaRow}
@@ -36,12 +36,12 @@ pub record IsKept (old new : Trees) : Type 0 where
   pub has : HasDayAt SCHEMA_VERSION old day
   pub rows : KeepsRows old new
 
--- the number was 3 and is the newest now, and the tables read as they did
+-- the number was 3 and is the newest now, and the tables read as they did; each row is typed exactly where each was
 pub record IsRaised (old new : Trees) : Type 0 where
   pub day : ℤ
   pub has : HasDayAt THIRD old day
   pub tables : tables_in new ≡ third_tables_in old
-  pub typed : AreTypedAt THIRD old → AreTyped new
+  pub typed : AreTypedAt THIRD old ↔ AreTyped new
 
 -- the books have the newest number, as they had before or since now
 abbrev pub IsNumbered : Trees → Trees → Type 0

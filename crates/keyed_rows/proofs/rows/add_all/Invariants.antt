@@ -1,6 +1,6 @@
 use Rattle.std.proofs.Common.{◌≡◌, take, Ok}
 use Rattle.sqlite.specs.Held.{state}
-use Rattle.keyed_rows.specs.Writes.{Writes, each_written}
+use Rattle.keyed_rows.specs.Writes.{Writes, WereTyped, each_written}
 use Rattle.keyed_rows.specs.Described.{with_row}
 use Rattle.keyed_rows.proofs.rows.add_all.Given as goal
 
@@ -8,3 +8,4 @@ use Rattle.keyed_rows.proofs.rows.add_all.Given as goal
 abbrev pub invariant-loop-row : goal.invariant-loop-row
 invariant-loop-row g l =
     (l.tx.conn.ghost_name ≡ l.fn.tx.conn.ghost_name) × Writes {X = Unit {0}} (each_written (with_row g.T.Table.table) (take l.row-index l.rows)) (state g.S.Store l.fn.tx.conn.now) (state g.S.Store l.tx.conn.now) (Ok tt)
+    × WereTyped {X = Unit {0}} (state g.S.Store l.fn.tx.conn.now) (state g.S.Store l.tx.conn.now) (Ok tt)

@@ -1,7 +1,7 @@
 use Rattle.std.proofs.Common.{arith}
 use Rattle.sqlite.specs.Held.{state}
 use Rattle.sqlite.specs.State.{HasCleanDisk}
-use Rattle.table_words.proofs.CallLemmas.{kept_then, on_ok_then}
+use Rattle.table_words.proofs.CallLemmas.{kept_then, on_ok_then, if_both}
 use Rattle.tables.specs.Older.{number}
 use Rattle.tables.proofs.BringLemmas.{written}
 use Rattle.tables.proofs.bringing.write_new.Goals as goal
@@ -13,7 +13,9 @@ returns-clause-done g c clean older base room has fills =
     let new = state g.S.Store c.add_all.new.tx.conn.now in
     let was : HasCleanDisk mid = omega (arith, clean, c.add_all.ensures.writes.survives.clean) in
     let raised = c.in_ok-raise_meta.ensures.done was room.ready in
-    on_ok_then c.add_all.result (c.add_all.ensures.writes.done clean raised.ready) (written older base old mid new c.args.row.now c.args.least.now room has fills raised (c.in_ok-raise_meta.ensures.typed was room.ready (number older)))
+    let raised_typed = c.in_ok-raise_meta.ensures.typed was room.ready (number older) has.typed in
+    let added = if_both c.add_all.result _ _ (c.add_all.ensures.writes.done clean raised.ready) (c.add_all.ensures.were_typed clean raised.ready) in
+    on_ok_then c.add_all.result added (written older base old mid new c.args.row.now c.args.least.now room has fills raised raised_typed)
 
 pub returns-clause-kept : goal.returns-clause-kept
 returns-clause-kept g c clean =

@@ -7,7 +7,7 @@ use Rattle.table_words.proofs.CallLemmas.{kept_then}
 use Rattle.keyed_rows.proofs.Writing.{same_error}
 use Rattle.tables.specs.Settling.{HasDayAt}
 use Rattle.tables.specs.declared.settling.TheConstants.{THIRD}
-use Rattle.tables.proofs.SettleLemmas.{day_of_row, raised_numbers, never_lost}
+use Rattle.tables.proofs.SettleLemmas.{day_of_row, own_rows, raised_numbers, never_lost}
 use Rattle.tables.proofs.settling.raised_day.Goals as goal
 
 pub returns-clause-day : goal.returns-clause-day
@@ -25,7 +25,8 @@ returns-clause-done g c clean ready =
     let was : HasCleanDisk mid = omega (arith, clean, c.raise_meta.ensures.survives.clean) in
     let same = c.in_ok-row.ensures.same was ready in
     let again = subst IsReady (sym same.0.now_is) ready in
-    raised_numbers old mid new c.in_ok-row.row (c.in_ok-row.ensures.row was ready) same (c.in_ok-raise_meta.ensures.done clean again) (c.in_ok-raise_meta.ensures.typed clean again THIRD)
+    let row = c.in_ok-row.ensures.row was ready in
+    raised_numbers old mid new c.in_ok-row.row row same (c.in_ok-raise_meta.ensures.done clean again) (c.in_ok-raise_meta.ensures.typed clean again THIRD (own_rows THIRD old mid same row.typed))
 
 pub returns-in_err-raise_meta-clause-foreign : goal.returns-in_err-raise_meta-clause-foreign
 returns-in_err-raise_meta-clause-foreign g c clean ready =
