@@ -1,8 +1,8 @@
 //! Lines of the program over books in memory: their words, what is printed, what is told, and the exit status.
 
 use crate::ends::Receiver;
-use command_line::{BooksAt, Fault, Work, run};
-use service::{FilesAt, do_work, listen};
+use command_line::{BooksAt, Fault, FilesAt, Work, run};
+use line_work::{do_work, listen};
 use sqlite::{Alter, Connection};
 use std::cell::Cell;
 use std::io::Write;

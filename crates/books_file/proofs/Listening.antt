@@ -3,7 +3,7 @@ use Rattle.std.proofs.Common.{◌≡◌, ◌∙◌, Option}
 use Rattle.std.specs.Prelude.{is_some}
 use Rattle.command_line.specs.declared.running.Work.{Work}
 use Rattle.command_line.specs.declared.running.Work.TheVariants.{Make, Serve, Import, Card, Notice, History, Audit}
-use Rattle.service.specs.Serving.{Listens}
+use Rattle.line_work.specs.Works.{Listens}
 
 pub listens_behind : {A B : Type 0} (work : Work) (a : Option A) (b : Option B) → is_some b ≡ is_some a → Listens work a → Listens work b
 listens_behind (Make day) a b same h = h

@@ -18,8 +18,7 @@ use Rattle.store.specs.Opening.{IsCleanLeft}
 use Rattle.command_line.specs.declared.fault.Fault.{Fault}
 use Rattle.command_line.specs.declared.fault.Fault.TheVariants.{Io, Store}
 use Rattle.command_line.specs.declared.running.Work.{Work}
-use Rattle.service.specs.Serving.{IsServer, IsWorked, IsJudged, IsTold}
-use Rattle.service.specs.Failing.{IsNotBegun}
+use Rattle.line_work.specs.Works.{IsServer, IsNotBegun, IsWorked, IsJudged, IsTold}
 use Rattle.books_file.specs.declared.left.FilesLeft.{FilesLeft}
 use Rattle.books_file.specs.declared.left.FilesLeft.TheVariants as left
 

@@ -1,12 +1,12 @@
 ghost use Rattle.std.specs.Prelude.{◌≡◌, false};
 ghost use Rattle.sqlite.specs.WalFiles.{image_at};
-ghost use Rattle.service.specs.Serving.{Listens, is_logged};
+ghost use Rattle.line_work.specs.Works.{Listens, is_logged};
 ghost use Rattle.books_file.specs.Lines.{IsLineEnd, closing_fault as closing_fault_lem};
 
 use crate::first_page::is_ready;
 use crate::left::{FilesLeft, store_of};
-use command_line::{BooksAt, Fault, Work};
-use service::{FilesAt, do_work, listen};
+use command_line::{BooksAt, Fault, FilesAt, Work};
+use line_work::{do_work, listen};
 use sqlite::{Connection, FileFrom, Start};
 use sqlite_disk::Disk;
 use std::fs::File;

@@ -11,4 +11,4 @@ mod words;
 
 pub use audit_fault::{AuditFault, ROW_KEY_MAX, TABLE_NAME_MAX};
 pub use fault::Fault;
-pub use running::{BooksAt, DONE, MISUSED, REFUSED, Work, run, tell, tell_words};
+pub use running::{BooksAt, DONE, FilesAt, MISUSED, REFUSED, Work, run, tell, tell_words};

@@ -18,7 +18,7 @@ use label::BusinessDay;
 use std::alloc::Global;
 use std::convert::AsStr;
 use std::io;
-use std::io::Write;
+use std::io::{Read, Write};
 use values::LotId;
 
 /// The exit status of a line that was done, and of a call for help or the version.
@@ -72,6 +72,20 @@ pub trait BooksAt {
         log: &mut L,
     ) -> (Self::Left, Result<(), Fault>)
         ensures { ends self db.now work.now (W.contents out.old) (W.contents out.new) (L.contents log.old) (L.contents log.new) result.1 result.0 };
+}
+
+/// Where the files are that the lines name.
+pub trait FilesAt {
+    ghost use Rattle.std.specs.Prelude.{◌≡◌, ℕ, List, Option, Some, None, IfOk, IfSome};
+
+    type File: Read + Drop;
+
+    // The bytes of the file with this name, where they are known.
+    ghost bytes: { Self → List ℕ → Option (List ℕ) } = { λ _ _. None };
+
+    /// Opens a file to read it.
+    fn open(&self, name: &str) -> io::Result<Self::File>
+        ensures { IfOk result (λ file. IfSome (bytes self.now name.now) (λ text. Self.File.remaining file ≡ Some text)) };
 }
 
 /// What is left of the files of the books, where a line named one, and how the line ended.

@@ -3,7 +3,7 @@
 use crate::failing::trial::{Seen, Trial, tried};
 use crate::steps::{Step, take_all};
 use book_trials::{Calls, Left, Line, Pair, Receiver, Work, line_run, over};
-use service::FilesAt;
+use command_line::FilesAt;
 use sqlite::{Connection, Options};
 use std::alloc::Global;
 use std::io;

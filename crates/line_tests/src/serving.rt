@@ -2,9 +2,11 @@
 
 use crate::disk::{run_clients, run_lines};
 use book_trials::{first_day, new_books};
-use command_line::{Fault, Work, tell};
+use command_line::{Fault, FilesAt, Work, tell};
 use house::House;
-use service::{AfterWork, FilesAt, NotBegun, do_work, listen, serve_logged, serve_on};
+use line_books::{AfterWork, NotBegun};
+use line_work::{do_work, listen};
+use service::{serve_logged, serve_on};
 use sqlite::{Alter, Connection};
 use std::alloc::Global;
 use std::cell::Cell;

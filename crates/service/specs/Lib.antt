@@ -1,6 +1,3 @@
-pub mod Rows
-pub mod Failing
-pub mod Auditing
 pub mod Serving
 pub mod Importing
 pub mod Printing

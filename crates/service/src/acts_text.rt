@@ -9,13 +9,13 @@ ghost use Rattle.machine.specs.Once.{IsHistory};
 ghost use Rattle.store.specs.Books.{KeepsBooks, HoldsBooks, IsClean};
 ghost use Rattle.store.specs.Opening.{IsOfNone, AreFoundRows};
 ghost use Rattle.histories.specs.Printed.{IsHistoryPrinted};
-ghost use Rattle.service.specs.Failing.{IsUnopened};
+ghost use Rattle.line_books.specs.Failing.{IsUnopened};
 ghost use Rattle.service.specs.ActsTold.{fault_told};
 
-use crate::books_lines::{AfterWork, NotBegun, open_books};
 use crate::lent::Lent;
 use command_line::Fault;
 use histories::{HistoryFault, print_history};
+use line_books::{AfterWork, NotBegun, open_books};
 use sqlite::{Alter, Connection};
 use std::alloc::Global;
 use std::io::Write;
@@ -23,7 +23,7 @@ use store::Books;
 use tables::opening::Orderly;
 
 /// Opens the books, and then prints their acts, one a line. Nothing is changed.
-pub(crate) fn open_and_print_acts<S: Orderly + Drop, W: Write>(
+pub fn open_and_print_acts<S: Orderly + Drop, W: Write>(
     alloc: Global,
     conn: Connection<S>,
     out: &mut W,

@@ -7,26 +7,12 @@ ghost use Rattle.machine.specs.Once.{IsHistory};
 ghost use Rattle.store.specs.Books.{IsClean, HoldsBooks};
 ghost use Rattle.service.specs.Importing.{IsTakenIn, IsToldOfFile, IsImported, IsFileImported, tally_line};
 
-use command_line::Fault;
+use command_line::{Fault, FilesAt};
 use goodsin::read_file;
 use sqlite::Alter;
 use std::alloc::Global;
 use std::io::{self, Read, Write};
 use store::{Books, RowFault, Tally};
-
-/// Where the files are that the lines name.
-pub trait FilesAt {
-    ghost use Rattle.std.specs.Prelude.{◌≡◌, ℕ, List, Option, Some, None, IfOk, IfSome};
-
-    type File: Read + Drop;
-
-    // The bytes of the file with this name, where they are known.
-    ghost bytes: { Self → List ℕ → Option (List ℕ) } = { λ _ _. None };
-
-    /// Opens a file to read it.
-    fn open(&self, name: &str) -> io::Result<Self::File>
-        ensures { IfOk result (λ file. IfSome (bytes self.now name.now) (λ text. Self.File.remaining file ≡ Some text)) };
-}
 
 /// Opens the goods-in file and imports it. Where it cannot be opened the error is `Io`, and nothing was done or printed.
 pub(crate) fn import_file<S: Alter, F: FilesAt, W: Write>(

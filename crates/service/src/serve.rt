@@ -1,12 +1,11 @@
-ghost use Rattle.std.specs.Prelude.{◌≡◌, ℤ, List, true, false, IfOk, OnErr};
+ghost use Rattle.std.specs.Prelude.{◌≡◌, ℤ, List, true, false};
 ghost use Rattle.machine.specs.Acts.{Act};
 ghost use Rattle.machine.specs.Once.{IsHistory};
 ghost use Rattle.store.specs.Books.{IsClean, HoldsBooks};
 ghost use Rattle.house.specs.House.{books_of};
-ghost use Rattle.service.specs.Serving.{GoesOn, HasServed, HasLogged, IsServer, Listens};
+ghost use Rattle.service.specs.Serving.{GoesOn, HasServed, HasLogged};
 
 use crate::timed::Timed;
-use command_line::Work;
 use house::House;
 use sqlite::Alter;
 use std::io::{self, Read, Write};
@@ -21,18 +20,6 @@ const ANSWERED_SECONDS: u64 = 60;
 
 /// How often at most more is read of a client that goes on sending after its answer.
 const READS_AFTER_ANSWER: u32 = 1024;
-
-/// Listens on the port of a server, before its books are opened: a port that is taken is told at once, and who connects
-/// while they are opened waits until they are. Other work listens on none.
-pub fn listen(rt: &HostRuntime, work: &Work<'_>) -> io::Result<Option<TcpListener>>
-    ensures listens { IfOk result (λ listener. Listens work.now listener) }
-    ensures server { OnErr result (IsServer work.now) }
-{
-    match work {
-        Work::Serve { port, .. } => Ok(Some(TcpListener::bind(rt, ("127.0.0.1", *port))?)),
-        _ => Ok(None),
-    }
-}
 
 /// Answers so many connections, one after another. One that breaks counts as the others do. A client that is silent for
 /// ten seconds is given up. What it sends in thirty seconds by the clock is all that it sends, as though it had ended then,

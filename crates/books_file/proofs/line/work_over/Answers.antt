@@ -1,7 +1,7 @@
 use Rattle.std.proofs.Common.{inl, inr, refl, ap, Err}
 use Rattle.sqlite.specs.Files.{over_files}
 use Rattle.tables.specs.declared.opening.Leftover.TheVariants.{Connection}
-use Rattle.service.proofs.Failing.{clean_before}
+use Rattle.line_work.proofs.NotBegun.{clean_before}
 use Rattle.books_file.proofs.line.work_over.Goals as goal
 
 pub returns-in-Ok-close_files-clause-done : goal.returns-in-Ok-close_files-clause-done

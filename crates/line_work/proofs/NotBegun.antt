@@ -1,0 +1,19 @@
+-- What is left where no work was begun.
+use Rattle.sqlite_trees.specs.declared.store.Store.{Ghosts}
+use Rattle.sqlite.specs.Held.{Held}
+use Rattle.tables.specs.declared.opening.Leftover.{Leftover}
+use Rattle.command_line.specs.declared.fault.Fault.{Fault}
+use Rattle.command_line.specs.declared.running.Work.{Work}
+use Rattle.command_line.specs.declared.running.Work.TheVariants.{Make, Serve, Import, Card, Notice, History, Audit}
+use Rattle.line_books.specs.Failing.{IsCleanBefore}
+use Rattle.line_work.specs.Works.{IsNotBegun}
+
+-- whatever the work was
+pub clean_before : {S : Type 0} (g : Ghosts S) (old : Held S) (work : Work) (left : Leftover S) (fault : Fault) → IsNotBegun g old work left fault → IsCleanBefore g old left
+clean_before g old (Make day) left fault h = h.clean
+clean_before g old (Serve port max log) left fault h = h.clean
+clean_before g old (Import file) left fault h = h.clean
+clean_before g old (Card lot) left fault h = h.clean
+clean_before g old (Notice lot) left fault h = h.clean
+clean_before g old History left fault h = h.clean
+clean_before g old (Audit given) left fault h = h.clean
