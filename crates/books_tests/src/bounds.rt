@@ -6,7 +6,7 @@ use crate::steps::{On, Step};
 use commands::limits::{BINS_MAX, ITEMS_MAX};
 use commands::{BinKind, Command, NewBin};
 use open_lines::OpenLines;
-use slices::{Bounds, Known, read_slice};
+use slices::{Bounds, Known, RowsKnown, read_slice};
 use sqlite::{Alter, Connection, Transaction};
 use std::alloc::Global;
 use std::process::Abort;
@@ -25,6 +25,7 @@ fn told<S: Alter>(
             items: ITEMS_MAX,
             bins,
         },
+        rows: RowsKnown::new(alloc),
     };
     let command = Command::Bin(NewBin {
         bin: samples::name(rt, b"Z-01"),

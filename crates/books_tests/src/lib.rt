@@ -47,6 +47,8 @@ mod picking;
 #[cfg(test)]
 mod picking_rows;
 #[cfg(test)]
+mod rows_known;
+#[cfg(test)]
 mod samples;
 #[cfg(test)]
 mod steps;

@@ -8,6 +8,7 @@ use crate::gone_lots::puts_gone;
 use crate::lots_told::{Told, tells_of_lots};
 use crate::opening::{made, not_made, not_opened, opened};
 use crate::order_rows::{gives, has_rows};
+use crate::rows_known::tells_known;
 use crate::table::{Left, Table};
 use crate::table_rows::{creates_nothing, drops, fills, finds, is_no_schema, is_schema};
 use sqlite::{Alter, Connection};
@@ -59,6 +60,8 @@ pub(crate) enum On {
     PutGone,
     /// A new bin is judged by the number that is known, or by the one bin that is there.
     TellBins,
+    /// A slice has the row of a lot as it is known.
+    TellKnown,
     /// Each table gets a row.
     Fill,
     /// Each table has its row.
@@ -75,6 +78,7 @@ fn do_on<S: Alter>(rt: &impl Abort, alloc: Global, conn: &mut Connection<S>, on:
         On::CreateNothing => creates_nothing(rt, conn),
         On::PutGone => puts_gone(rt, alloc, conn),
         On::TellBins => tells_bins(rt, alloc, conn),
+        On::TellKnown => tells_known(rt, alloc, conn),
         On::Fill => fills(rt, alloc, conn),
         On::Find => finds(rt, alloc, conn),
         On::Drop => drops(rt, alloc, conn),

@@ -9,7 +9,7 @@ use Rattle.table_words.specs.declared.error.TableFault.{TableFault}
 use Rattle.machine.specs.Acts.{Act}
 use Rattle.machine.specs.Tables.{tables_of}
 use Rattle.slices.specs.Books.{IsBooksOf}
-use Rattle.slices.specs.Reading.{IsRead}
+use Rattle.known_reads.specs.Reading.{IsRead}
 use Rattle.queries.specs.Shipped.{units_told}
 
 pub shipped_read : (line : ShiplineRow) (old new : State) (r : Result (Option ShippedUnits) TableFault) → IsRead (λ t found. found ≡ units_told t line) old new r → HasCleanDisk new → IsTrue old.is_open → (first : ℤ) (acts : List Act) → IsBooksOf first acts old.now

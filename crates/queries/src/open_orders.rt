@@ -3,7 +3,7 @@
 ghost use Rattle.std.specs.Prelude.{◌≡◌, map};
 ghost use Rattle.sqlite.specs.Held.{state};
 ghost use Rattle.table_words.specs.Typed.{order_key};
-ghost use Rattle.slices.specs.Reading.{IsRead};
+ghost use Rattle.known_reads.specs.Reading.{IsRead};
 ghost use Rattle.slices.specs.Slicing.{AreLinesOf, AreLines, AreOpen, AreOrdered, AreUrgents};
 
 use commands::{LineRow, OrderRow, UrgentRow};

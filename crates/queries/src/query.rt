@@ -10,7 +10,7 @@ ghost use Rattle.machine.specs.Once.{IsHistory};
 ghost use Rattle.machine.specs.Standing.{today};
 ghost use Rattle.machine.specs.Tables.{tables_of};
 ghost use Rattle.slices.specs.Books.{IsBooksOf};
-ghost use Rattle.slices.specs.Reading.{IsRead};
+ghost use Rattle.known_reads.specs.Reading.{IsRead};
 
 use commands::Refusal;
 use label::BusinessDay;

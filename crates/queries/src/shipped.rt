@@ -8,7 +8,7 @@ ghost use Rattle.table_words.specs.declared.error.TableFault.TheVariants.{Foreig
 ghost use Rattle.machine.specs.Acts.{Act};
 ghost use Rattle.machine.specs.Tables.{tables_of};
 ghost use Rattle.slices.specs.Books.{IsBooksOf};
-ghost use Rattle.slices.specs.Reading.{IsRead};
+ghost use Rattle.known_reads.specs.Reading.{IsRead};
 ghost use Rattle.queries.specs.Shipped.{units_told, with_order};
 
 use crate::reading::order_row;

@@ -4,7 +4,7 @@ ghost use Rattle.std.specs.Prelude.{◌≡◌, option_map};
 ghost use Rattle.sqlite.specs.Held.{state};
 ghost use Rattle.commands.specs.declared.rows.LotRow.{LotRow as LotRecord};
 ghost use Rattle.queries.specs.Heads.{card_head_of as card_head_of_lem, notice_head_of as notice_head_of_lem};
-ghost use Rattle.slices.specs.Reading.{IsRead};
+ghost use Rattle.known_reads.specs.Reading.{IsRead};
 
 use crate::query::Query;
 use crate::reading::lot_row;

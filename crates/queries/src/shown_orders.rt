@@ -2,7 +2,7 @@
 
 ghost use Rattle.std.specs.Prelude.{◌≡◌, []};
 ghost use Rattle.sqlite.specs.Held.{state};
-ghost use Rattle.slices.specs.Reading.{IsRead};
+ghost use Rattle.known_reads.specs.Reading.{IsRead};
 ghost use Rattle.slices.specs.ByLot.{AreLotsOf, AreStockOf};
 ghost use Rattle.slices.specs.Slicing.{AreBins, AreLeast, with_names};
 ghost use Rattle.queries.specs.ShownOrders.{booked_lots as booked_lots_lem, reserved_lots as reserved_lots_lem, AreOrderLines, AreOfOrder};

@@ -9,6 +9,8 @@
 #[cfg(test)]
 mod gone_lots;
 #[cfg(test)]
+mod known;
+#[cfg(test)]
 mod listing;
 #[cfg(test)]
 mod many_lots;

@@ -1,7 +1,7 @@
 //! Items, each once, however many rows are of them.
 
 use crate::key_list::{Has, KeyList, KeyOf};
-use commands::{LineRow, LotRow, OrderLine, StagedRow};
+use commands::{ItemRow, LeastRow, LineRow, LotRow, OrderLine, RecallRow, StagedRow};
 use text_keys::TextKey;
 use values::Gtin;
 
@@ -11,7 +11,7 @@ pub type ItemList = KeyList<Gtin, TextKey>;
 impl KeyOf<Gtin> for TextKey {
     ghost use Rattle.std.specs.Prelude.{reverse};
     ghost use Rattle.values.specs.Values.{same_text};
-    ghost use Rattle.slice_parts.specs.NameOrder.{names_told};
+    ghost use Rattle.slice_parts.specs.NameOrder.{names_told, names_exact};
 
     ghost same = { same_text };
 
@@ -19,8 +19,35 @@ impl KeyOf<Gtin> for TextKey {
 
     ghost told = { names_told };
 
+    ghost exact = { names_exact };
+
     fn of(gtin: &Gtin) -> Self {
         TextKey::of_gtin(gtin)
+    }
+}
+
+impl Has<Gtin> for ItemRow {
+    ghost of_row = { λ r. r.gtin };
+
+    fn value(&self) -> Gtin {
+        self.gtin
+    }
+}
+
+impl Has<Gtin> for LeastRow {
+    ghost of_row = { λ r. r.gtin };
+
+    fn value(&self) -> Gtin {
+        self.gtin
+    }
+}
+
+// the item of a recalled lot
+impl Has<Gtin> for RecallRow {
+    ghost of_row = { λ r. r.lot.gtin };
+
+    fn value(&self) -> Gtin {
+        self.lot.gtin
     }
 }
 

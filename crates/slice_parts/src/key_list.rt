@@ -8,7 +8,7 @@ use std::collections::BTreeSet;
 
 /// A key of values, in an order: values are the same exactly if their keys are.
 pub trait KeyOf<T>: Ord + Copy {
-    ghost use Rattle.std.specs.Prelude.{◌≡◌, Bool};
+    ghost use Rattle.std.specs.Prelude.{◌≡◌, Bool, true};
     ghost use Rattle.std.specs.Ordering.{is_eq};
 
     ghost same: { T → T → Bool };
@@ -19,6 +19,8 @@ pub trait KeyOf<T>: Ord + Copy {
         ensures { result ≡ key value.now };
 
     ghost told: { (x y : T) → is_eq (Self.cmp (key y) (key x)) ≡ same x y };
+
+    ghost exact: { (x y : T) → same x y ≡ true → x ≡ y };
 }
 
 /// A row that has such a value.

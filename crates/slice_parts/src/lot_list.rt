@@ -1,7 +1,7 @@
 //! Lots, each once, however many rows name them.
 
 use crate::key_list::{Has, KeyList, KeyOf};
-use commands::{ReservedRow, StagedRow, StockRow};
+use commands::{LotRow, ReservedRow, StagedRow, StockRow};
 use text_keys::LotKey;
 use values::LotId;
 
@@ -10,13 +10,15 @@ pub type LotList = KeyList<LotId, LotKey>;
 
 impl KeyOf<LotId> for LotKey {
     ghost use Rattle.machine.specs.Postings.{is_lot};
-    ghost use Rattle.slice_parts.specs.LotOrder.{lot_key, lots_told};
+    ghost use Rattle.slice_parts.specs.LotOrder.{lot_key, lots_told, lots_exact};
 
     ghost same = { is_lot };
 
     ghost key = { lot_key };
 
     ghost told = { lots_told };
+
+    ghost exact = { lots_exact };
 
     fn of(lot: &LotId) -> Self {
         LotKey::of(lot)
@@ -28,6 +30,14 @@ impl Has<LotId> for LotId {
 
     fn value(&self) -> LotId {
         *self
+    }
+}
+
+impl Has<LotId> for LotRow {
+    ghost of_row = { λ r. r.lot };
+
+    fn value(&self) -> LotId {
+        self.lot
     }
 }
 

@@ -1,7 +1,7 @@
 //! Names, each once, however many rows have them.
 
 use crate::key_list::{Has, KeyList, KeyOf};
-use commands::{LineRow, StockRow};
+use commands::{BinRow, LineRow, OrderRow, StockRow};
 use text_keys::TextKey;
 use values::Name;
 
@@ -11,7 +11,7 @@ pub type NameList = KeyList<Name, TextKey>;
 impl KeyOf<Name> for TextKey {
     ghost use Rattle.std.specs.Prelude.{reverse};
     ghost use Rattle.values.specs.Values.{same_text};
-    ghost use Rattle.slice_parts.specs.NameOrder.{names_told};
+    ghost use Rattle.slice_parts.specs.NameOrder.{names_told, names_exact};
 
     ghost same = { same_text };
 
@@ -19,8 +19,19 @@ impl KeyOf<Name> for TextKey {
 
     ghost told = { names_told };
 
+    ghost exact = { names_exact };
+
     fn of(name: &Name) -> Self {
         TextKey::of_name(name)
+    }
+}
+
+// the name of a bin
+impl Has<Name> for BinRow {
+    ghost of_row = { λ r. r.name };
+
+    fn value(&self) -> Name {
+        self.name
     }
 }
 
@@ -30,6 +41,15 @@ impl Has<Name> for StockRow {
 
     fn value(&self) -> Name {
         self.bin
+    }
+}
+
+// the name of an order
+impl Has<Name> for OrderRow {
+    ghost of_row = { λ r. r.order };
+
+    fn value(&self) -> Name {
+        self.order
     }
 }
 

@@ -11,7 +11,7 @@ use Rattle.commands.specs.declared.rows.ItemRow.{ItemRow}
 use Rattle.commands.specs.declared.rows.BinRow.{BinRow}
 use Rattle.table_words.specs.Typed.{item_key, bin_key}
 use Rattle.machine.proofs.Apart.{AreApart, any_found}
-use Rattle.slices.specs.Reading.{IsCount}
+use Rattle.known_reads.specs.Reading.{IsCount}
 use Rattle.slices.specs.Bounding.{IsAtMost, AreBounds, IsToldNumber, with_counts}
 use Rattle.slices.specs.Slicing.{AreCounts}
 use Rattle.slices.specs.declared.knowing.Bounds.{Bounds}

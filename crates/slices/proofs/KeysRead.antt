@@ -6,7 +6,7 @@ use Rattle.table_words.specs.Found as read
 use Rattle.machine.specs.KeyedRows.{AreRows, no_two}
 use Rattle.machine.proofs.Tests.{and_both, not_true}
 use Rattle.slice_parts.specs.Keys.{has_key}
-use Rattle.slices.specs.Reading.{Each}
+use Rattle.known_reads.specs.Reading.{Each}
 use Rattle.slices.proofs.RowsTold.{read_none, read_both, rows_read, rows_as}
 
 module _ {J : Type 0} (one : J → J → Bool) (is_one : (j m : J) → one j m ≡ true → j ≡ m) (turned : (j m : J) → one j m ≡ one m j) where

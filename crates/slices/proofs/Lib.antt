@@ -1,7 +1,5 @@
 pub mod Counted
 pub mod AtMost
-pub mod TypedRows
-pub mod ReadSteps
 pub mod RowsTold
 pub mod SeekSteps
 pub mod KeysTold
@@ -16,6 +14,7 @@ pub mod PickRight
 pub mod ShipmentRight
 pub mod SliceRight
 pub mod ReadTold
+pub mod StillKnown
 pub mod Covering
 pub mod LinesRead
 pub mod SliceRead

@@ -7,12 +7,13 @@ use Rattle.table_words.specs.Steps.{IsReady}
 use Rattle.table_words.specs.Typed.{tables_in}
 use Rattle.table_words.specs.declared.error.TableFault.{TableFault}
 use Rattle.row_rules.specs.declared.slice.Put.{Put}
-use Rattle.slices.specs.Reading.{IsRead}
+use Rattle.known_reads.specs.Reading.{IsRead}
 use Rattle.slices.specs.Bounding.{AreBounds}
 use Rattle.slices.specs.Slicing.{IsFirstKnown, HoldsOf, Knows}
 use Rattle.slices.specs.declared.knowing.Bounds.{Bounds}
 use Rattle.slices.specs.declared.knowing.Known.{Known}
 use Rattle.slices.proofs.Covering.{covers_read, covers_urgent_read}
+use Rattle.slices.proofs.StillKnown.{no_rows_known}
 
 -- a number that is not below the limit tells nothing
 none_bound : (t : Tables) (b : Bounds) → b ≡ record { items = ITEMS_MAX; bins = BINS_MAX } → AreBounds b t
@@ -22,7 +23,12 @@ pub first_read : (old new : State) (r : Result Known TableFault) → IsRead IsFi
 first_read old new (Ok known) one clean ready up =
     let told = (one.answers clean ready up).1 in
     let t : Tables = tables_in old.now.trees in
-    record { lines = covers_read t known.lines known.urgent told.lines; urgent = covers_urgent_read t known.lines known.urgent told.lines; bounds = none_bound t known.bounds told.bounds }
+    record {
+      lines = covers_read t known.lines known.urgent told.lines;
+      urgent = covers_urgent_read t known.lines known.urgent told.lines;
+      bounds = none_bound t known.bounds told.bounds;
+      rows = no_rows_known t known.rows told.rows;
+    }
 first_read old new (Err e) one clean ready up = tt
 
 pub put_read : {X : Type 0} (puts : Put) (known : Known) (old new : State) (r : Result X TableFault) → IsRead (λ t _. Knows puts t known) old new r → HasCleanDisk new → IsReady old.now → IsTrue old.is_open → OnOk r (Knows puts (tables_in old.now.trees) known)

@@ -29,9 +29,10 @@ use Rattle.row_rules.specs.declared.slice.Rows.{Rows}
 use Rattle.row_rules.specs.declared.slice.Put.{Put}
 use Rattle.row_rules.specs.declared.slice.Slice.{Slice}
 use Rattle.slices.specs.Bounding.{IsToldNumber, AreBounds}
+use Rattle.slices.specs.Remembering.{KnowsRows, KnowsNoRows}
 use Rattle.slices.specs.declared.knowing.Bounds.{Bounds}
 use Rattle.slices.specs.declared.knowing.Known.{Known}
-pub use Rattle.slices.specs.Reading.{Each}
+pub use Rattle.known_reads.specs.Reading.{Each}
 use Rattle.slices.specs.ByLot.{AreLotsOf, AreStockOf}
 pub use Rattle.slice_parts.specs.Parts.{is_among, with_name, with_names, with_some, items_named, lots_named, orders_named, bins_named, whole_orders, held_lots, lots_on_stage, others, other_names, has_line_in, with_lines, has_urgent_row, urgent_lines, names_among, is_ending, not_recalled, items_of_lots, with_staged}
 
@@ -229,16 +230,18 @@ pub record Knows (puts : Put) (t : Tables) (known : Known) : Type 0 where
   pub lines : (g o : List ℕ) → comes puts t g o ≡ true → holds known.lines g o ≡ true
   pub urgent : (g o : List ℕ) → comes puts t g o ≡ true → is_some (t.urgent o) || has_urgent_row puts.urgents o ≡ true → holds known.urgent g o ≡ true
 
--- what is known first: those, and no number
+-- what is known first: those, and no number and no row
 pub record IsFirstKnown (t : Tables) (known : Known) : Type 0 where
   pub lines : AreOpenLines t known.lines known.urgent
   pub bounds : known.bounds ≡ record { items = ITEMS_MAX; bins = BINS_MAX }
+  pub rows : KnowsNoRows known.rows
 
 -- what is known of the books is so
 pub record HoldsOf (known : Known) (t : Tables) : Type 0 where
   pub lines : Covers known.lines t
   pub urgent : CoversUrgent known.urgent t
   pub bounds : AreBounds known.bounds t
+  pub rows : KnowsRows t known.rows
 
 -- Slices
 

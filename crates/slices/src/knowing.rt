@@ -4,6 +4,7 @@ ghost use Rattle.std.specs.Prelude.{◌≡◌, ◌+◌, ◌<◌};
 ghost use Rattle.commands.specs.declared.limits.TheConstants.{ITEMS_MAX, BINS_MAX};
 ghost use Rattle.slices.specs.Bounding.{IsRaised, with_counts};
 
+use crate::rows_known::RowsKnown;
 use commands::limits::{BINS_MAX, ITEMS_MAX};
 use commands::{Added, Command};
 use open_lines::OpenLines;
@@ -24,6 +25,8 @@ pub struct Known {
     /// Those of them that may be urgent.
     pub urgent: OpenLines,
     pub bounds: Bounds,
+    /// Rows that were read, by what they were sought by.
+    pub rows: RowsKnown,
 }
 
 impl Bounds {

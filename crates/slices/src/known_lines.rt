@@ -10,11 +10,13 @@ ghost use Rattle.open_lines.specs.OpenLines.{Gains, Keeps, has_line_row};
 ghost use Rattle.machine.specs.Acts.{Act};
 ghost use Rattle.slices.specs.Books.{IsBooksOf};
 ghost use Rattle.slices.specs.Bounding.{IsRaised};
-ghost use Rattle.slices.specs.Reading.{IsRead};
+ghost use Rattle.known_reads.specs.Reading.{IsRead};
+ghost use Rattle.slices.specs.Remembering.{ForgetsPut};
 ghost use Rattle.slice_parts.specs.Parts.{urgent_lines as urgent_lines_lem};
 ghost use Rattle.slices.specs.Slicing.{AreOpenLines, IsFirstKnown, HoldsOf, Knows, opened_by, AreLinesPut, AreUrgentsPut};
 
 use crate::knowing::{Bounds, Known};
+use crate::rows_known::RowsKnown;
 use crate::sought::{read_rows, seek_all, seek_both};
 use commands::{LineRow, UrgentRow};
 use open_lines::OpenLines;
@@ -66,7 +68,7 @@ fn open_lines_in<S: Alter>(
     Ok((lines, urgent))
 }
 
-// What is known first: the open orders, and no number.
+// What is known first: the open orders, and no number and no row.
 fn known_in_tables<S: Alter>(
     alloc: Global,
     tx: &mut Transaction<'_, S>,
@@ -79,6 +81,7 @@ fn known_in_tables<S: Alter>(
         lines,
         urgent,
         bounds: Bounds::unknown(),
+        rows: RowsKnown::new(alloc),
     })
 }
 
@@ -156,6 +159,7 @@ fn add_known(
     ensures keeps { Keeps known.old.lines known.new.lines }
     ensures keeps_urgent { Keeps known.old.urgent known.new.urgent }
     ensures bounds { known.new.bounds ≡ known.old.bounds }
+    ensures rows { known.new.rows ≡ known.old.rows }
     ensures added { OnOk result (Gains (has_line_row lines.now) known.old.lines known.new.lines) }
     ensures added_urgent { OnOk result (Gains (has_line_row (urgent_lines_lem urgents.now lines.now)) known.old.urgent known.new.urgent) }
 {
@@ -175,6 +179,7 @@ fn add_put<S: Alter>(
     ensures keeps { Keeps known.old.lines known.new.lines }
     ensures keeps_urgent { Keeps known.old.urgent known.new.urgent }
     ensures bounds { known.new.bounds ≡ known.old.bounds }
+    ensures rows { known.new.rows ≡ known.old.rows }
     ensures read { IsRead (λ t _. Knows put.now t known.new) (state S.Store tx.old.conn.now) (state S.Store tx.new.conn.now) result }
 {
     let lines = lines_put(alloc, tx, put)?;
@@ -182,8 +187,8 @@ fn add_put<S: Alter>(
     Ok(add_known(alloc, known, lines.as_slice(), urgents.as_slice())?)
 }
 
-/// With what a change puts, which is about to be written, what is known of the books. It changes nothing of the tables.
-/// For want of memory some of the orders are known.
+/// With what a change puts, which is about to be written, what is known of the books; the rows that are sought with one that it
+/// puts are forgotten. It changes nothing of the tables. For want of memory some of the orders are known.
 pub fn know_put<S: Alter>(
     alloc: Global,
     tx: &mut Transaction<'_, S>,
@@ -194,6 +199,7 @@ pub fn know_put<S: Alter>(
     ensures keeps { Keeps known.old.lines known.new.lines }
     ensures keeps_urgent { Keeps known.old.urgent known.new.urgent }
     ensures raised { IsRaised put.now known.old.bounds known.new.bounds }
+    ensures forgets { ForgetsPut put.now known.old.rows known.new.rows }
     ensures known { HasCleanDisk (state S.Store tx.new.conn.now) → IsReady (state S.Store tx.old.conn.now).now → IsTrue (state S.Store tx.old.conn.now).is_open
         → OnOk result (Knows put.now (tables_in (state S.Store tx.old.conn.now).now.trees) known.new) }
     ensures fault { HasCleanDisk (state S.Store tx.new.conn.now) → IsTrue (state S.Store tx.old.conn.now).is_open
@@ -206,5 +212,6 @@ pub fn know_put<S: Alter>(
     ensures survives { Survives (state S.Store tx.old.conn.now) (state S.Store tx.new.conn.now) (λ _. ⊥) }
 {
     known.bounds = known.bounds.raised(put);
+    known.rows.forget_put(put);
     add_put(alloc, tx, known, put)
 }

@@ -2,12 +2,14 @@
 #![tactic(auto)]
 
 mod knowing;
+mod known_goods;
 mod known_lines;
 mod known_orders;
 mod opening;
 mod order_slices;
 mod picks;
 mod reading;
+mod rows_known;
 mod rows_read;
 mod shipments;
 mod slices;
@@ -19,6 +21,7 @@ pub use known_lines::{first_known, know_put};
 pub use known_orders::read_known_orders;
 pub use order_slices::{add_line, read_named};
 pub use reading::line_row;
+pub use rows_known::RowsKnown;
 pub use slices::{read_booked, read_slice};
 pub use sought::{read_row, read_rows, seek_all, seek_both};
 pub use urgent_orders::read_urgents;

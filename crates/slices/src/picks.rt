@@ -2,16 +2,17 @@
 
 ghost use Rattle.std.specs.Prelude.{◌≡◌};
 ghost use Rattle.sqlite.specs.Held.{state};
-ghost use Rattle.slices.specs.Reading.{IsRead};
+ghost use Rattle.known_reads.specs.Reading.{IsRead};
+ghost use Rattle.slices.specs.Remembering.{Learning};
 ghost use Rattle.slices.specs.Slicing.{AreGoodsIn, AreOrderOf, AreSharesOf, ArePicked};
 
+use crate::known_goods::{seek_bin, seek_lot};
+use crate::rows_known::RowsKnown;
 use crate::rows_read::{Goods, Ordered, Shares, rows_read};
 use crate::sought::read_rows;
 use commands::Picking;
-use goods_tables::bins::Bins;
 use goods_tables::items::Items;
 use goods_tables::least::Least;
-use goods_tables::lots::Lots;
 use goods_tables::recalls::Recalls;
 use goods_tables::stock::Stock;
 use order_tables::lines::Lines;
@@ -28,18 +29,19 @@ use values::{Gtin, LotId, Name};
 fn read_goods<S: Alter>(
     alloc: Global,
     tx: &mut Transaction<'_, S>,
+    rows: &mut RowsKnown,
     lot: &LotId,
     bin: &Name,
 ) -> Result<Goods, TableFault>
     ensures same_reference { tx.new.conn.ghost_name ≡ tx.old.conn.ghost_name }
-    ensures read { IsRead (λ t goods. AreGoodsIn lot.now bin.now t goods.items.items goods.least.items goods.bins.items goods.lots.items goods.recalls.items goods.stock.items) (state S.Store tx.old.conn.now) (state S.Store tx.new.conn.now) result }
+    ensures read { IsRead (Learning rows.old rows.new (λ t goods. AreGoodsIn lot.now bin.now t goods.items.items goods.least.items goods.bins.items goods.lots.items goods.recalls.items goods.stock.items)) (state S.Store tx.old.conn.now) (state S.Store tx.new.conn.now) result }
 {
     let items = read_rows::<Items, Gtin, S>(alloc, tx, &lot.gtin)?;
     let least = read_rows::<Least, Gtin, S>(alloc, tx, &lot.gtin)?;
-    let lots = read_rows::<Lots, LotId, S>(alloc, tx, lot)?;
+    let lots = seek_lot(alloc, tx, rows, lot)?;
     let recalls = read_rows::<Recalls, Gtin, S>(alloc, tx, &lot.gtin)?;
     let stock = read_rows::<Stock, LotId, S>(alloc, tx, lot)?;
-    let bins = read_rows::<Bins, Name, S>(alloc, tx, bin)?;
+    let bins = seek_bin(alloc, tx, rows, bin)?;
     Ok(Goods {
         items,
         least,
@@ -90,12 +92,13 @@ fn read_shares<S: Alter>(
 pub fn read_pick<S: Alter>(
     alloc: Global,
     tx: &mut Transaction<'_, S>,
+    rows: &mut RowsKnown,
     p: &Picking,
 ) -> Result<Rows, TableFault>
     ensures same_reference { tx.new.conn.ghost_name ≡ tx.old.conn.ghost_name }
-    ensures read { IsRead (λ t rows. ArePicked p.now t rows) (state S.Store tx.old.conn.now) (state S.Store tx.new.conn.now) result }
+    ensures read { IsRead (Learning rows.old rows.new (λ t found. ArePicked p.now t found)) (state S.Store tx.old.conn.now) (state S.Store tx.new.conn.now) result }
 {
-    let goods = read_goods(alloc, tx, &p.lot, &p.bin)?;
+    let goods = read_goods(alloc, tx, rows, &p.lot, &p.bin)?;
     let ordered = read_order(alloc, tx, &p.order, &p.lot.gtin)?;
     let shares = read_shares(alloc, tx, &p.order, &p.lot)?;
     Ok(rows_read(goods, ordered, shares))

@@ -2,7 +2,7 @@
 
 ghost use Rattle.std.specs.Prelude.{◌≡◌};
 ghost use Rattle.sqlite.specs.Held.{state};
-ghost use Rattle.slices.specs.Reading.{IsRead};
+ghost use Rattle.known_reads.specs.Reading.{IsRead};
 ghost use Rattle.slices.specs.Slicing.{AreShipped};
 
 use crate::order_slices::read_named;

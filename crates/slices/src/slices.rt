@@ -13,25 +13,26 @@ ghost use Rattle.rules.specs.Slices.{IsSlice};
 ghost use Rattle.slices.specs.Books.{IsBooksOf};
 ghost use Rattle.table_words.specs.Typed.{tables_in};
 ghost use Rattle.open_lines.specs.OpenLines.{Loses, has_closed_row, has_line_row};
-ghost use Rattle.slices.specs.Reading.{IsRead};
+ghost use Rattle.known_reads.specs.Reading.{IsRead};
+ghost use Rattle.slices.specs.Remembering.{Learning};
 ghost use Rattle.slices.specs.Bounding.{with_counts};
 ghost use Rattle.slices.specs.ByLot.{AreLotsOf};
 ghost use Rattle.slices.specs.Slicing.{AreGoods, AreBooked, AreKnownOrders, AreUrgentsFor, AreBins, AreCounts, AreTaken, AreTouched, ArePlanned, AreSliced, HoldsOf, IsSliceIn, orders_named, bins_named, with_names, held_lots};
 
 use crate::knowing::{Bounds, Known};
+use crate::known_goods::{seek_bins, seek_lots};
 use crate::known_orders::read_known_orders;
 use crate::opening::affected_items;
 use crate::picks::read_pick;
 use crate::reading::{meta_row, told_bins, told_items};
+use crate::rows_known::RowsKnown;
 use crate::rows_read::{Goods, Ordered, Shares, rows_read};
 use crate::shipments::read_shipment;
 use crate::sought::{seek_all, seek_both};
 use crate::urgent_orders::read_urgents;
 use commands::{Added, BinRow, Command, LotRow, MetaRow, ReservedRow, StagedRow, StockRow};
-use goods_tables::bins::Bins;
 use goods_tables::items::Items;
 use goods_tables::least::Least;
-use goods_tables::lots::Lots;
 use goods_tables::recalls::Recalls;
 use goods_tables::stock::Stock;
 use order_tables::lines::Lines;
@@ -42,8 +43,9 @@ use slice_parts::lots_held::lots_held;
 use slice_parts::naming::{bins_with, items_with, named_orders, whole_orders};
 use sqlite::{Alter, Transaction};
 use std::alloc::Global;
+use std::mem;
 use table_words::error::TableFault;
-use values::{Gtin, LotId, Name};
+use values::{Gtin, Name};
 
 /// The items that the command names, and those of the lines of the order that it takes whole.
 fn taken_items<S: Alter>(
@@ -90,29 +92,31 @@ pub fn read_booked<S: Alter>(
 fn read_lots<S: Alter>(
     alloc: Global,
     tx: &mut Transaction<'_, S>,
+    rows: &mut RowsKnown,
     command: &Command,
     stock: &[StockRow],
     staged: &[StagedRow],
 ) -> Result<Vec<LotRow>, TableFault>
     ensures same_reference { tx.new.conn.ghost_name ≡ tx.old.conn.ghost_name }
-    ensures read { IsRead (λ t rows. AreLotsOf (held_lots command.now stock.now staged.now) t rows.items) (state S.Store tx.old.conn.now) (state S.Store tx.new.conn.now) result }
+    ensures read { IsRead (Learning rows.old rows.new (λ t found. AreLotsOf (held_lots command.now stock.now staged.now) t found.items)) (state S.Store tx.old.conn.now) (state S.Store tx.new.conn.now) result }
 {
     let lots = lots_held(alloc, command, stock, staged)?;
-    seek_all::<Lots, LotId, S>(alloc, tx, lots.as_slice())
+    seek_lots(alloc, tx, rows, lots.as_slice())
 }
 
 /// The bins that the command names or that hold the stock.
 fn read_bins<S: Alter>(
     alloc: Global,
     tx: &mut Transaction<'_, S>,
+    rows: &mut RowsKnown,
     command: &Command,
     stock: &[StockRow],
 ) -> Result<Vec<BinRow>, TableFault>
     ensures same_reference { tx.new.conn.ghost_name ≡ tx.old.conn.ghost_name }
-    ensures read { IsRead (λ t rows. AreBins (with_names (λ r. r.bin) stock.now (bins_named command.now)) t rows.items) (state S.Store tx.old.conn.now) (state S.Store tx.new.conn.now) result }
+    ensures read { IsRead (Learning rows.old rows.new (λ t found. AreBins (with_names (λ r. r.bin) stock.now (bins_named command.now)) t found.items)) (state S.Store tx.old.conn.now) (state S.Store tx.new.conn.now) result }
 {
     let names = bins_with(alloc, command, stock)?;
-    seek_all::<Bins, Name, S>(alloc, tx, names.as_slice())
+    seek_bins(alloc, tx, rows, names.as_slice())
 }
 
 /// Of the items their own rows, what they ask for, their recalls and their stock; the lots that the command names or that
@@ -120,19 +124,20 @@ fn read_bins<S: Alter>(
 fn read_goods<S: Alter>(
     alloc: Global,
     tx: &mut Transaction<'_, S>,
+    rows: &mut RowsKnown,
     command: &Command,
     gtins: &[Gtin],
     staged: &[StagedRow],
 ) -> Result<Goods, TableFault>
     ensures same_reference { tx.new.conn.ghost_name ≡ tx.old.conn.ghost_name }
-    ensures read { IsRead (λ t goods. AreGoods gtins.now t goods.items.items goods.least.items goods.recalls.items goods.stock.items
+    ensures read { IsRead (Learning rows.old rows.new (λ t goods. AreGoods gtins.now t goods.items.items goods.least.items goods.recalls.items goods.stock.items
         × AreLotsOf (held_lots command.now goods.stock.items staged.now) t goods.lots.items
-        × AreBins (with_names (λ r. r.bin) goods.stock.items (bins_named command.now)) t goods.bins.items) (state S.Store tx.old.conn.now) (state S.Store tx.new.conn.now) result }
+        × AreBins (with_names (λ r. r.bin) goods.stock.items (bins_named command.now)) t goods.bins.items)) (state S.Store tx.old.conn.now) (state S.Store tx.new.conn.now) result }
 {
     let (items, least) = seek_both::<Gtin, Items, Least, S>(alloc, tx, gtins)?;
     let (recalls, stock) = seek_both::<Gtin, Recalls, Stock, S>(alloc, tx, gtins)?;
-    let lots = read_lots(alloc, tx, command, stock.as_slice(), staged)?;
-    let bins = read_bins(alloc, tx, command, stock.as_slice())?;
+    let lots = read_lots(alloc, tx, rows, command, stock.as_slice(), staged)?;
+    let bins = read_bins(alloc, tx, rows, command, stock.as_slice())?;
     Ok(Goods {
         items,
         least,
@@ -195,14 +200,22 @@ fn read_planned<S: Alter>(
     alloc: Global,
     tx: &mut Transaction<'_, S>,
     known: &Known,
+    rows: &mut RowsKnown,
     command: &Command,
 ) -> Result<Rows, TableFault>
     ensures same_reference { tx.new.conn.ghost_name ≡ tx.old.conn.ghost_name }
-    ensures read { IsRead (λ t rows. ArePlanned known.now command.now t rows) (state S.Store tx.old.conn.now) (state S.Store tx.new.conn.now) result }
+    ensures read { IsRead (Learning rows.old rows.new (λ t found. ArePlanned known.now command.now t found)) (state S.Store tx.old.conn.now) (state S.Store tx.new.conn.now) result }
 {
     let gtins = touched_items(alloc, tx, command)?;
     let staged = seek_all::<Staged, Gtin, S>(alloc, tx, gtins.as_slice())?;
-    let goods = read_goods(alloc, tx, command, gtins.as_slice(), staged.as_slice())?;
+    let goods = read_goods(
+        alloc,
+        tx,
+        rows,
+        command,
+        gtins.as_slice(),
+        staged.as_slice(),
+    )?;
     let ordered = read_ordered(alloc, tx, known, command, gtins.as_slice())?;
     let shares = Shares {
         staged,
@@ -216,15 +229,16 @@ fn read_rows<S: Alter>(
     alloc: Global,
     tx: &mut Transaction<'_, S>,
     known: &Known,
+    rows: &mut RowsKnown,
     command: &Command,
 ) -> Result<Rows, TableFault>
     ensures same_reference { tx.new.conn.ghost_name ≡ tx.old.conn.ghost_name }
-    ensures read { IsRead (λ t rows. AreSliced known.now command.now t rows) (state S.Store tx.old.conn.now) (state S.Store tx.new.conn.now) result }
+    ensures read { IsRead (Learning rows.old rows.new (λ t found. AreSliced known.now command.now t found)) (state S.Store tx.old.conn.now) (state S.Store tx.new.conn.now) result }
 {
     match command {
         Command::Ship(order) => read_shipment(alloc, tx, order),
-        Command::Pick(picking) => read_pick(alloc, tx, picking),
-        _ => read_planned(alloc, tx, known, command),
+        Command::Pick(picking) => read_pick(alloc, tx, rows, picking),
+        _ => read_planned(alloc, tx, known, rows, command),
     }
 }
 
@@ -233,14 +247,15 @@ fn read_rest<S: Alter>(
     alloc: Global,
     tx: &mut Transaction<'_, S>,
     known: &Known,
+    rows: &mut RowsKnown,
     command: &Command,
     meta: MetaRow,
 ) -> Result<Slice, TableFault>
     ensures same_reference { tx.new.conn.ghost_name ≡ tx.old.conn.ghost_name }
-    ensures read { IsRead (λ t s. (t.meta ≡ Some meta → IsSliceIn known.now command.now t s)) (state S.Store tx.old.conn.now) (state S.Store tx.new.conn.now) result }
+    ensures read { IsRead (Learning rows.old rows.new (λ t s. (t.meta ≡ Some meta → IsSliceIn known.now command.now t s))) (state S.Store tx.old.conn.now) (state S.Store tx.new.conn.now) result }
 {
     let (items, bins) = read_counts(alloc, tx, known.bounds, command)?;
-    let rows = read_rows(alloc, tx, known, command)?;
+    let rows = read_rows(alloc, tx, known, rows, command)?;
     Ok(Slice {
         meta,
         items,
@@ -254,24 +269,33 @@ fn slice_in<S: Alter>(
     alloc: Global,
     tx: &mut Transaction<'_, S>,
     known: &Known,
+    rows: &mut RowsKnown,
     command: &Command,
 ) -> Result<Slice, TableFault>
     ensures same_reference { tx.new.conn.ghost_name ≡ tx.old.conn.ghost_name }
-    ensures read { IsRead (λ t s. IsSliceIn known.now command.now t s) (state S.Store tx.old.conn.now) (state S.Store tx.new.conn.now) result }
+    ensures read { IsRead (Learning rows.old rows.new (λ t s. IsSliceIn known.now command.now t s)) (state S.Store tx.old.conn.now) (state S.Store tx.new.conn.now) result }
 {
     let meta = meta_row(alloc, tx)?;
-    read_rest(alloc, tx, known, command, meta)
+    read_rest(alloc, tx, known, rows, command, meta)
 }
 
-// Forgets the closed orders among the rows that were read, and keeps the numbers that were counted.
-fn learn(known: &mut Known, command: &Command, slice: &Result<Slice, TableFault>)
+// Forgets the closed orders among the rows that were read, keeps the numbers that were counted, and the rows that are known
+// once a slice has been read.
+fn learn(
+    known: &mut Known,
+    rows: RowsKnown,
+    command: &Command,
+    slice: &Result<Slice, TableFault>,
+)
     ensures met { IfOk slice.now (λ s. Loses (λ g o. has_closed_row s.rows.orders o && has_line_row s.rows.lines g o) known.old.lines known.new.lines) }
     ensures met_urgent { IfOk slice.now (λ s. Loses (λ g o. has_closed_row s.rows.orders o && has_line_row s.rows.lines g o) known.old.urgent known.new.urgent) }
     ensures counted { IfOk slice.now (λ s. known.new.bounds ≡ with_counts command.now s.items s.bins known.old.bounds) }
+    ensures rows { IfOk slice.now (λ s. known.new.rows ≡ rows) }
     ensures unread { IfErr slice.now (λ e. known.new ≡ known.old) }
 {
     match slice {
         Ok(slice) => {
+            known.rows = rows;
             known.bounds = known.bounds.with_counts(command, slice.items, slice.bins);
             let orders = slice.rows.orders.as_slice();
             let lines = slice.rows.lines.as_slice();
@@ -284,7 +308,7 @@ fn learn(known: &mut Known, command: &Command, slice: &Result<Slice, TableFault>
 
 /// The slice of the tables that the command is decided by, where the open orders are known by the items of their lines.
 /// It changes nothing of the tables; the closed orders that it meets are forgotten, and a number of items or bins that it
-/// counts is known from then on. `Foreign` where a row that is read breaks a rule of its values or the books have no row
+/// counts is known from then on, and so are the rows that it reads, unless it fails. `Foreign` where a row that is read breaks a rule of its values or the books have no row
 /// of their own.
 pub fn read_slice<S: Alter>(
     alloc: Global,
@@ -307,7 +331,8 @@ pub fn read_slice<S: Alter>(
         → KeepsCommit (state S.Store tx.old.conn.now) (state S.Store tx.new.conn.now) }
     ensures survives { Survives (state S.Store tx.old.conn.now) (state S.Store tx.new.conn.now) (λ _. ⊥) }
 {
-    let slice = slice_in(alloc, tx, known, command);
-    learn(known, command, &slice);
+    let mut rows = mem::replace(&mut known.rows, RowsKnown::new(alloc));
+    let slice = slice_in(alloc, tx, known, &mut rows, command);
+    learn(known, rows, command, &slice);
     slice
 }

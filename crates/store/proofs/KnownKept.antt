@@ -19,14 +19,17 @@ use Rattle.row_rules.specs.declared.slice.Change.{Change}
 use Rattle.changes.specs.Written.{change_written}
 use Rattle.open_lines.specs.OpenLines.{Keeps}
 use Rattle.slices.specs.Bounding.{IsRaised}
+use Rattle.slices.specs.Remembering.{ForgetsPut}
 use Rattle.slices.specs.Slicing.{HoldsOf, Knows}
 use Rattle.slices.specs.declared.knowing.Known.{Known}
+use Rattle.slices.proofs.StillKnown.{rows_stay_known}
 use Rattle.store.specs.Books.{IsSettled}
 use Rattle.store.specs.Knowing.{HasKnown, IsKnown, GoesOnKnown, LeavesKnown}
 use Rattle.store.proofs.ActsWhole.{KeepsInside, begun_commit}
 use Rattle.store.proofs.HandedOn.{Stays, settled_back}
 use Rattle.store.proofs.LinesWritten.{covers_written, covers_urgent_written}
 use Rattle.store.proofs.BoundsWritten.{bounds_more, bounds_written}
+use Rattle.store.proofs.RowsWritten.{rows_written}
 
 -- of the tables of a database
 abbrev KnownIn : Option Known → Database → Type 0
@@ -71,19 +74,20 @@ known_kept known old mid same holds = subst (KnownIn known) (sym same.0.now_is) 
 pub goes_known_from : {X E : Type 0} (known after : Option Known) (r : Result X E) (old mid new : State) → IsUnchanged old mid → GoesOnKnown known after r mid new → GoesOnKnown known after r old new
 goes_known_from known after r old mid new same goes = ok_to r (λ a. (same.0.was_open, a.1, a.2 ∙ same.0.mode, λ h. a.3 (known_kept known old mid same h))) goes
 
--- more orders are known, and no number is smaller
-pub holds_more : (known after : Known) (puts : Put) (t : Tables) → Keeps known.lines after.lines → Keeps known.urgent after.urgent → IsRaised puts known.bounds after.bounds → HoldsOf known t → HoldsOf after t
-holds_more known after puts t keeps keeps_urgent raised holds = record {
+-- more orders are known, no number is smaller, and some rows are forgotten
+pub holds_more : (known after : Known) (puts : Put) (t : Tables) → Keeps known.lines after.lines → Keeps known.urgent after.urgent → IsRaised puts known.bounds after.bounds → ForgetsPut puts known.rows after.rows → HoldsOf known t → HoldsOf after t
+holds_more known after puts t keeps keeps_urgent raised forgets holds = record {
   lines = λ o g up there. keeps g o (holds.lines o g up there);
   urgent = λ o g up there hurried. keeps_urgent g o (holds.urgent o g up there hurried);
   bounds = bounds_more puts known.bounds after.bounds t raised holds.bounds;
+  rows = rows_stay_known puts t known.rows after.rows forgets holds.rows;
 }
 
 -- a change is written
 pub known_written : {X E : Type 0} (known after : Known) (change : Change) (row : RepeatRow) (r : Result X E) (old mid new : State) → IsUnchanged old mid → Keeps known.lines after.lines → Keeps known.urgent after.urgent
-    → IsRaised change.put known.bounds after.bounds → Knows change.put (tables_in old.now.trees) after → OnOk r (Goes (λ t. with_repeat row (change_written change t)) mid new) → LeavesKnown (Some known) (Some after) r old new
-known_written known after change row r old mid new same keeps keeps_urgent raised knows wrote = record {
-  before = holds_more known after change.put (tables_in old.now.trees) keeps keeps_urgent raised;
+    → IsRaised change.put known.bounds after.bounds → ForgetsPut change.put known.rows after.rows → Knows change.put (tables_in old.now.trees) after → OnOk r (Goes (λ t. with_repeat row (change_written change t)) mid new) → LeavesKnown (Some known) (Some after) r old new
+known_written known after change row r old mid new same keeps keeps_urgent raised forgets knows wrote = record {
+  before = holds_more known after change.put (tables_in old.now.trees) keeps keeps_urgent raised forgets;
   answered = ok_to r (λ goes. (
     same.0.was_open,
     goes.ready,
@@ -92,6 +96,7 @@ known_written known after change row r old mid new same keeps keeps_urgent raise
       lines = covers_written change row (tables_in old.now.trees) known after holds.lines keeps knows;
       urgent = covers_urgent_written change row (tables_in old.now.trees) known after holds.urgent keeps_urgent knows;
       bounds = bounds_written change row (tables_in old.now.trees) known.bounds after.bounds raised holds.bounds;
+      rows = rows_written change row (tables_in old.now.trees) known.rows after.rows forgets holds.rows;
     }),
   )) wrote;
 }

@@ -23,5 +23,6 @@ pub mod ShipmentCards
 pub mod ShipmentsHanded
 pub mod LinesWritten
 pub mod BoundsWritten
+pub mod RowsWritten
 pub mod KnownKept
 pub mod BooksWhole

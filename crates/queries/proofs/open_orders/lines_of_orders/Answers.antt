@@ -6,10 +6,11 @@ use Rattle.sqlite.specs.Held.{state}
 use Rattle.sqlite.specs.declared.error.Error.TheVariants.{SqliteFailure}
 use Rattle.sqlite.specs.declared.error.ErrorCode.TheVariants.{OutOfMemory}
 use Rattle.table_words.specs.Typed.{order_key}
-use Rattle.slices.specs.Reading.{IsRead}
+use Rattle.known_reads.specs.Reading.{IsRead}
 use Rattle.slices.specs.Slicing.{Each, AreLinesOf, AreLines}
-use Rattle.slices.proofs.ReadSteps.{has_read, read_on, so_told, fails_later, no_room_left}
-use Rattle.slices.proofs.SeekSteps.{seek_step, each_place}
+use Rattle.known_reads.proofs.ReadSteps.{has_read, read_on, so_told, fails_later, no_room_left}
+use Rattle.known_reads.proofs.SeekSteps.{seek_step}
+use Rattle.slices.proofs.SeekSteps.{each_place}
 use Rattle.queries.proofs.open_orders.lines_of_orders.Goals as goal
 
 pub returns-in_err-rows-clause-read : goal.returns-in_err-rows-clause-read

@@ -3,7 +3,7 @@ use Rattle.sqlite.specs.declared.error.Error.TheVariants.{SqliteFailure}
 use Rattle.sqlite.specs.declared.error.ErrorCode.TheVariants.{OutOfMemory}
 use Rattle.table_words.specs.Typed.{order_key}
 use Rattle.slices.specs.Slicing.{AreUrgents}
-use Rattle.slices.proofs.ReadSteps.{as_told, no_room_yet}
+use Rattle.known_reads.proofs.ReadSteps.{as_told, no_room_yet}
 use Rattle.queries.proofs.open_orders.urgents_of.Goals as goal
 
 pub returns-in_err-names-clause-read : goal.returns-in_err-names-clause-read

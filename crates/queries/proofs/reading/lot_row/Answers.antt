@@ -2,7 +2,7 @@ use Rattle.std.proofs.Common.{◌∙◌}
 use Rattle.table_words.specs.Typed.{LotKey, same_lot, lot_key}
 use Rattle.table_words.proofs.KeyLemmas.{first_row}
 use Rattle.machine.proofs.Tests.{is_lot_refl}
-use Rattle.slices.proofs.ReadSteps.{as_told}
+use Rattle.known_reads.proofs.ReadSteps.{as_told}
 use Rattle.queries.proofs.reading.lot_row.Goals as goal
 
 pub returns-clause-read : goal.returns-clause-read

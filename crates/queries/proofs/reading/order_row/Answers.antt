@@ -1,7 +1,7 @@
 use Rattle.std.proofs.Common.{◌∙◌}
 use Rattle.table_words.specs.Typed.{OrderKey, same_order, order_key}
 use Rattle.table_words.proofs.KeyLemmas.{first_row, itself_bytes}
-use Rattle.slices.proofs.ReadSteps.{as_told}
+use Rattle.known_reads.proofs.ReadSteps.{as_told}
 use Rattle.queries.proofs.reading.order_row.Goals as goal
 
 pub returns-clause-read : goal.returns-clause-read

@@ -1,6 +1,6 @@
 use Rattle.std.proofs.Common.{ap, sym, ◌∙◌}
 use Rattle.queries.specs.Shipped.{with_order, with_shipment}
-use Rattle.slices.proofs.ReadSteps.{has_read, and_then, so_told, fails_first, fails_later}
+use Rattle.known_reads.proofs.ReadSteps.{has_read, and_then, so_told, fails_first, fails_later}
 use Rattle.queries.proofs.shipped.shipped_in.Goals as goal
 
 pub returns-in_err-known-clause-read : goal.returns-in_err-known-clause-read

@@ -3,7 +3,7 @@ use Rattle.std.specs.Prelude.{find}
 use Rattle.commands.specs.declared.rows.RecallRow.{RecallRow}
 use Rattle.machine.specs.Postings.{is_lot}
 use Rattle.machine.proofs.Tests.{same_text_refl}
-use Rattle.slices.proofs.ReadSteps.{so_told, fails_first}
+use Rattle.known_reads.proofs.ReadSteps.{so_told, fails_first}
 use Rattle.queries.proofs.shown_heads.recall_row.Goals as goal
 
 pub returns-in_err-recalls-clause-read : goal.returns-in_err-recalls-clause-read

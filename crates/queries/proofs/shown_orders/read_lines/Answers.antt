@@ -1,7 +1,7 @@
 use Rattle.std.proofs.Common.{List, [], subst}
 use Rattle.commands.specs.declared.rows.LineRow.{LineRow}
 use Rattle.slices.specs.Slicing.{AreLeast, with_names}
-use Rattle.slices.proofs.ReadSteps.{has_read, and_then, so_told, fails_first, fails_later}
+use Rattle.known_reads.proofs.ReadSteps.{has_read, and_then, so_told, fails_first, fails_later}
 use Rattle.queries.proofs.shown_orders.read_lines.Goals as goal
 
 pub returns-in_err-lines-clause-read : goal.returns-in_err-lines-clause-read

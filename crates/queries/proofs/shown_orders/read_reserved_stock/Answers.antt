@@ -4,10 +4,10 @@ use Rattle.commands.specs.declared.rows.StockRow.{StockRow}
 use Rattle.sqlite.specs.Held.{state}
 use Rattle.sqlite.specs.declared.error.Error.TheVariants.{SqliteFailure}
 use Rattle.sqlite.specs.declared.error.ErrorCode.TheVariants.{OutOfMemory}
-use Rattle.slices.specs.Reading.{IsRead}
+use Rattle.known_reads.specs.Reading.{IsRead}
 use Rattle.slices.specs.ByLot.{AreStockOf}
 use Rattle.queries.specs.ShownOrders.{reserved_lots}
-use Rattle.slices.proofs.ReadSteps.{no_room_yet}
+use Rattle.known_reads.proofs.ReadSteps.{no_room_yet}
 use Rattle.queries.proofs.shown_orders.read_reserved_stock.Goals as goal
 
 pub returns-in_err-lots-clause-read : goal.returns-in_err-lots-clause-read

@@ -5,7 +5,7 @@ use Rattle.commands.specs.declared.rows.StockRow.{StockRow}
 use Rattle.slices.specs.ByLot.{AreLotsOf, AreStockOf}
 use Rattle.queries.specs.ShownOrders.{booked_lots, reserved_lots}
 use Rattle.slices.specs.Slicing.{with_names, AreBins, AreLeast}
-use Rattle.slices.proofs.ReadSteps.{has_read, read_on, and_then, so_told, fails_first, fails_later}
+use Rattle.known_reads.proofs.ReadSteps.{has_read, read_on, and_then, so_told, fails_first, fails_later}
 use Rattle.queries.proofs.shown_orders.read_rows_of.Goals as goal
 
 pub returns-in_err-lines-clause-read : goal.returns-in_err-lines-clause-read

@@ -4,9 +4,9 @@ use Rattle.commands.specs.declared.rows.StockRow.{StockRow}
 use Rattle.sqlite.specs.Held.{state}
 use Rattle.sqlite.specs.declared.error.Error.TheVariants.{SqliteFailure}
 use Rattle.sqlite.specs.declared.error.ErrorCode.TheVariants.{OutOfMemory}
-use Rattle.slices.specs.Reading.{IsRead}
+use Rattle.known_reads.specs.Reading.{IsRead}
 use Rattle.slices.specs.Slicing.{AreBins, with_names}
-use Rattle.slices.proofs.ReadSteps.{no_room_yet}
+use Rattle.known_reads.proofs.ReadSteps.{no_room_yet}
 use Rattle.queries.proofs.shown_orders.read_stock_bins.Goals as goal
 
 pub returns-in_err-names-clause-read : goal.returns-in_err-names-clause-read

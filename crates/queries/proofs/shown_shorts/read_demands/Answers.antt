@@ -2,7 +2,7 @@ use Rattle.std.proofs.Common.{List, subst}
 use Rattle.std.specs.Option.{option_copied}
 use Rattle.commands.specs.declared.rows.OrderRow.{OrderRow}
 use Rattle.queries.specs.ShownShort.{AreUrgentFor}
-use Rattle.slices.proofs.ReadSteps.{has_read, read_on, and_then, so_told, fails_first, fails_later}
+use Rattle.known_reads.proofs.ReadSteps.{has_read, read_on, and_then, so_told, fails_first, fails_later}
 use Rattle.queries.proofs.shown_shorts.read_demands.Goals as goal
 
 pub returns-in_err-orders-clause-read : goal.returns-in_err-orders-clause-read

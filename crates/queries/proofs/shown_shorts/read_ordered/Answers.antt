@@ -3,7 +3,7 @@ use Rattle.std.specs.Prelude.{Option}
 use Rattle.std.specs.Option.{option_copied}
 use Rattle.slices.specs.declared.knowing.Known.{Known}
 use Rattle.queries.specs.ShownShort.{AreOrderedFor}
-use Rattle.slices.proofs.ReadSteps.{as_told}
+use Rattle.known_reads.proofs.ReadSteps.{as_told}
 use Rattle.queries.proofs.shown_shorts.read_ordered.Goals as goal
 
 pub returns-in-Some-clause-read : goal.returns-in-Some-clause-read

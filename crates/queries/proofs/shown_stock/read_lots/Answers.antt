@@ -7,8 +7,8 @@ use Rattle.commands.specs.declared.rows.StagedRow.{StagedRow}
 use Rattle.commands.specs.declared.rows.ReservedRow.{ReservedRow}
 use Rattle.table_words.specs.Found.{AreRows}
 use Rattle.table_words.specs.Typed.{LeastKey, same_least, least_key, LotKey, same_lot, lot_key, RecallKey, same_recall, recall_key, StockKey, same_stock, stock_key, StagedKey, same_staged, staged_key, ReservedKey, same_reserved, reserved_key}
-use Rattle.slices.proofs.ReadSteps.{has_read, read_on, and_then, so_told, fails_first, fails_later}
-use Rattle.slices.proofs.SeekSteps.{each_one}
+use Rattle.known_reads.proofs.ReadSteps.{has_read, read_on, and_then, so_told, fails_first, fails_later}
+use Rattle.known_reads.proofs.SeekSteps.{each_one}
 use Rattle.queries.proofs.shown_stock.read_lots.Goals as goal
 
 pub returns-in_err-lots-clause-read : goal.returns-in_err-lots-clause-read

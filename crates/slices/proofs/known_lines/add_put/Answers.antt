@@ -6,7 +6,7 @@ use Rattle.sqlite.specs.declared.error.ErrorCode.TheVariants.{OutOfMemory}
 use Rattle.open_lines.specs.OpenLines.{Gains, has_line_row}
 use Rattle.slices.specs.Slicing.{urgent_lines, AreUrgentsPut}
 use Rattle.slices.proofs.Covering.{knows_put}
-use Rattle.slices.proofs.ReadSteps.{has_read, read_on, and_then, so_told, fails_first, fails_later, no_room_left}
+use Rattle.known_reads.proofs.ReadSteps.{has_read, read_on, and_then, so_told, fails_first, fails_later, no_room_left}
 use Rattle.slices.proofs.known_lines.add_put.Goals as goal
 
 pub returns-in_err-lines-clause-read : goal.returns-in_err-lines-clause-read

@@ -2,7 +2,7 @@ use Rattle.std.proofs.Common.{◌≡◌, ℕ, ◌++◌, List, subst, ap, ◌∙�
 use Rattle.sqlite.specs.declared.error.Error.TheVariants.{SqliteFailure}
 use Rattle.sqlite.specs.declared.error.ErrorCode.TheVariants.{OutOfMemory}
 use Rattle.slices.specs.Slicing.{opened_by, AreAllLines}
-use Rattle.slices.proofs.ReadSteps.{has_read, so_told, fails_first, no_room_left, no_room_yet}
+use Rattle.known_reads.proofs.ReadSteps.{has_read, so_told, fails_first, no_room_left, no_room_yet}
 use Rattle.slices.proofs.known_lines.lines_put.Goals as goal
 
 pub returns-in_err-names-clause-read : goal.returns-in_err-names-clause-read

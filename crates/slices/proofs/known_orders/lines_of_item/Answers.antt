@@ -3,7 +3,7 @@ use Rattle.sqlite.specs.declared.error.Error.TheVariants.{SqliteFailure}
 use Rattle.sqlite.specs.declared.error.ErrorCode.TheVariants.{OutOfMemory}
 use Rattle.open_lines.specs.OpenLines.{orders_at, are_apart}
 use Rattle.slices.specs.Slicing.{AreLinesFor, other_names}
-use Rattle.slices.proofs.ReadSteps.{as_told, no_room_yet}
+use Rattle.known_reads.proofs.ReadSteps.{as_told, no_room_yet}
 use Rattle.slices.proofs.known_orders.lines_of_item.Goals as goal
 
 pub returns-in_err-orders-clause-read : goal.returns-in_err-orders-clause-read

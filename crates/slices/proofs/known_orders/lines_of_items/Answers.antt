@@ -4,10 +4,10 @@ use Rattle.commands.specs.declared.rows.LineRow.{LineRow}
 use Rattle.sqlite.specs.Held.{state}
 use Rattle.sqlite.specs.declared.error.Error.TheVariants.{SqliteFailure}
 use Rattle.sqlite.specs.declared.error.ErrorCode.TheVariants.{OutOfMemory}
-use Rattle.slices.specs.Reading.{IsRead}
+use Rattle.known_reads.specs.Reading.{IsRead}
 use Rattle.slices.specs.Slicing.{Each, AreLinesOfItem, AreLinesOfItems}
-use Rattle.slices.proofs.ReadSteps.{has_read, read_on, so_told, fails_later, no_room_left}
-use Rattle.slices.proofs.SeekSteps.{seek_step, place}
+use Rattle.known_reads.proofs.ReadSteps.{has_read, read_on, so_told, fails_later, no_room_left}
+use Rattle.known_reads.proofs.SeekSteps.{seek_step, place}
 use Rattle.slices.proofs.known_orders.lines_of_items.Goals as goal
 
 pub returns-in_err-rows-clause-read : goal.returns-in_err-rows-clause-read

@@ -1,4 +1,7 @@
-use Rattle.slices.proofs.ReadSteps.{has_read, read_on, and_then, so_told, fails_first, fails_later}
+use Rattle.commands.specs.Tables.{Tables}
+use Rattle.known_reads.proofs.ReadSteps.{has_read, read_on, fails_first, fails_later}
+use Rattle.known_reads.proofs.KnowingSteps.{unasked, and_known, known_told}
+use Rattle.slices.specs.Remembering.{KnowsRows}
 use Rattle.slices.proofs.picks.read_goods.Goals as goal
 
 pub returns-in_err-items-clause-read : goal.returns-in_err-items-clause-read
@@ -24,5 +27,8 @@ returns-in_err-bins-clause-read g c =
 
 pub returns-clause-read : goal.returns-clause-read
 returns-clause-read g c =
-    so_told (and_then (and_then (and_then (and_then (and_then c.in_ok-items.ensures.read c.in_ok-least.ensures.read) c.in_ok-lots.ensures.read) c.in_ok-recalls.ensures.read) c.in_ok-stock.ensures.read) c.in_ok-bins.ensures.read)
+    let knew = λ (t : Tables). KnowsRows t c.args.rows.now in
+    let knows = λ (t : Tables). KnowsRows t c.seek_lot.new.rows in
+    known_told
+    (and_known (and_known (and_known (and_known (and_known (unasked knew c.in_ok-items.ensures.read) (unasked knew c.in_ok-least.ensures.read)) c.in_ok-lots.ensures.read) (unasked knows c.in_ok-recalls.ensures.read)) (unasked knows c.in_ok-stock.ensures.read)) c.in_ok-bins.ensures.read)
     (λ t h. record { items = h.0.0.0.0.0; least = h.0.0.0.0.1; bins = h.1; lots = h.0.0.0.1; recalls = h.0.0.1; stock = h.0.1 })

@@ -1,4 +1,4 @@
-use Rattle.slices.proofs.ReadSteps.{has_read, and_then, so_told, fails_first, fails_later}
+use Rattle.known_reads.proofs.ReadSteps.{has_read, and_then, so_told, fails_first, fails_later}
 use Rattle.slices.proofs.picks.read_order.Goals as goal
 
 pub returns-in_err-orders-clause-read : goal.returns-in_err-orders-clause-read

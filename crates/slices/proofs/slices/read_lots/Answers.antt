@@ -4,9 +4,10 @@ use Rattle.commands.specs.declared.rows.LotRow.{LotRow}
 use Rattle.sqlite.specs.Held.{state}
 use Rattle.sqlite.specs.declared.error.Error.TheVariants.{SqliteFailure}
 use Rattle.sqlite.specs.declared.error.ErrorCode.TheVariants.{OutOfMemory}
-use Rattle.slices.specs.Reading.{IsRead}
+use Rattle.known_reads.specs.Reading.{IsRead}
 use Rattle.slices.specs.ByLot.{AreLotsOf}
-use Rattle.slices.proofs.ReadSteps.{no_room_yet}
+use Rattle.slices.specs.Remembering.{Learning}
+use Rattle.known_reads.proofs.ReadSteps.{no_room_yet}
 use Rattle.slices.proofs.slices.read_lots.Goals as goal
 
 pub returns-in_err-lots-clause-read : goal.returns-in_err-lots-clause-read
@@ -15,5 +16,5 @@ returns-in_err-lots-clause-read g c = no_room_yet (SqliteFailure OutOfMemory) c.
 pub returns-clause-read : goal.returns-clause-read
 returns-clause-read g c =
     let old = state g.S.Store c.args.tx.now.conn.now in
-    let new = state g.S.Store c.seek_all.new.tx.conn.now in
-    subst (λ (l : List LotId). IsRead {X = Vec LotRow Global} (λ t rows. AreLotsOf l t rows.items) old new c.seek_all.result) (c.as_slice.ensures.value ∙ c.in_ok-lots.ensures) c.seek_all.ensures.read
+    let new = state g.S.Store c.seek_lots.new.tx.conn.now in
+    subst (λ (l : List LotId). IsRead {X = Vec LotRow Global} (Learning c.args.rows.now c.seek_lots.new.rows (λ t found. AreLotsOf l t found.items)) old new c.seek_lots.result) (c.as_slice.ensures.value ∙ c.in_ok-lots.ensures) c.seek_lots.ensures.read

@@ -1,8 +1,11 @@
 use Rattle.std.proofs.Common.{ℕ, List, subst, ◌∙◌}
+use Rattle.commands.specs.Tables.{Tables}
 use Rattle.commands.specs.declared.rows.StagedRow.{StagedRow}
 use Rattle.slices.specs.ByLot.{AreLotsOf}
+use Rattle.slices.specs.Remembering.{KnowsRows}
 use Rattle.slices.specs.Slicing.{orders_named, held_lots, AreStaged, AreGoods, AreKnownOrders, AreUrgentsFor}
-use Rattle.slices.proofs.ReadSteps.{has_read, read_on, and_then, so_told, fails_first, fails_later}
+use Rattle.known_reads.proofs.ReadSteps.{has_read, read_on, fails_first, fails_later}
+use Rattle.known_reads.proofs.KnowingSteps.{unasked, and_known, known_told}
 use Rattle.slices.proofs.slices.read_planned.Goals as goal
 
 pub returns-in_err-gtins-clause-read : goal.returns-in_err-gtins-clause-read
@@ -24,7 +27,9 @@ returns-clause-read g c =
     let goods = c.in_ok-goods.goods in
     let ordered = c.in_ok-ordered.ordered in
     let made = c.rows_read.ensures in
-    so_told (and_then (and_then (and_then c.in_ok-gtins.ensures.read c.in_ok-staged.ensures.read) c.in_ok-goods.ensures.read) c.in_ok-ordered.ensures.read)
+    let knew = λ (t : Tables). KnowsRows t c.args.rows.now in
+    let knows = λ (t : Tables). KnowsRows t c.read_goods.new.rows in
+    known_told (and_known (and_known (and_known (unasked knew c.in_ok-gtins.ensures.read) (unasked knew c.in_ok-staged.ensures.read)) c.in_ok-goods.ensures.read) (unasked knows c.in_ok-ordered.ensures.read))
     (λ t h. record {
       gtins = c.in_ok-gtins.gtins.items;
       touched = h.0.0.0;

@@ -4,9 +4,10 @@ use Rattle.commands.specs.declared.command.Command.{Command}
 use Rattle.commands.specs.declared.command.Command.TheVariants.{Pick, Ship}
 use Rattle.commands.specs.declared.command.Picking.{Picking}
 use Rattle.row_rules.specs.declared.slice.Rows.{Rows}
+use Rattle.slices.specs.Remembering.{KnowsRows}
 use Rattle.slices.specs.Slicing.{ArePlanned, AreSliced}
 use Rattle.slices.specs.declared.knowing.Known.{Known}
-use Rattle.slices.proofs.ReadSteps.{as_told}
+use Rattle.known_reads.proofs.KnowingSteps.{unasked, known_as}
 use Rattle.slices.proofs.slices.read_rows.Goals as goal
 
 -- those of a command that is no shipment and no pick
@@ -16,10 +17,10 @@ planned known (Pick p) t rows no_shipment no_pick are = absurd (no_pick p refl)
 planned known command t rows no_shipment no_pick are = are
 
 pub returns-in-Ship-clause-read : goal.returns-in-Ship-clause-read
-returns-in-Ship-clause-read g c = as_told c.read_shipment.ensures.read (λ t rows are. subst (λ (command : Command). AreSliced c.args.known.now command t rows) (sym c.in-Ship.is) are)
+returns-in-Ship-clause-read g c = known_as (unasked (λ t. KnowsRows t c.args.rows.now) c.read_shipment.ensures.read) (λ t rows are. subst (λ (command : Command). AreSliced c.args.known.now command t rows) (sym c.in-Ship.is) are)
 
 pub returns-in-Pick-clause-read : goal.returns-in-Pick-clause-read
-returns-in-Pick-clause-read g c = as_told c.read_pick.ensures.read (λ t rows are. subst (λ (command : Command). AreSliced c.args.known.now command t rows) (sym c.in-Pick.is) are)
+returns-in-Pick-clause-read g c = known_as c.read_pick.ensures.read (λ t rows are. subst (λ (command : Command). AreSliced c.args.known.now command t rows) (sym c.in-Pick.is) are)
 
 pub returns-in_default-clause-read : goal.returns-in_default-clause-read
-returns-in_default-clause-read g c = as_told c.read_planned.ensures.read (λ t rows are. planned c.args.known.now c.args.command.now t rows c.in_default.not-Ship c.in_default.not-Pick are)
+returns-in_default-clause-read g c = known_as c.read_planned.ensures.read (λ t rows are. planned c.args.known.now c.args.command.now t rows c.in_default.not-Ship c.in_default.not-Pick are)

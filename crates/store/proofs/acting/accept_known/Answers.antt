@@ -19,7 +19,8 @@ returns-in_err-know_put-clause-fault g c clean up first acts books =
 pub returns-in_err-know_put-clause-known : goal.returns-in_err-know_put-clause-known
 returns-in_err-know_put-clause-known g c clean ready up =
     known_if_err (Some c.args.known.now) (Some c.know_put.new.known) c.from_residual.result (state g.S.Store c.args.tx.now.conn.now) (state g.S.Store c.know_put.new.tx.conn.now) c.from_residual.ensures.0
-    (holds_more c.args.known.now c.know_put.new.known c.args.change.now.put (tables_in (state g.S.Store c.args.tx.now.conn.now).now.trees) c.know_put.ensures.keeps c.know_put.ensures.keeps_urgent c.know_put.ensures.raised)
+    (holds_more c.args.known.now c.know_put.new.known c.args.change.now.put (tables_in (state g.S.Store c.args.tx.now.conn.now).now.trees) c.know_put.ensures.keeps c.know_put.ensures.keeps_urgent c.know_put.ensures.raised
+    c.know_put.ensures.forgets)
 
 pub returns-clause-done : goal.returns-clause-done
 returns-clause-done g c clean ready up once =
@@ -41,7 +42,7 @@ returns-clause-known g c clean ready up =
     let same = c.in_ok-know_put.ensures.same was ready up in
     let change = c.args.change.now in
     known_written c.args.known.now c.know_put.new.known change (record { k = key_text c.args.key.now; act = change.meta.acts; spell = spelling c.args.command.now; reply = change.text }) c.accept.result old mid new same
-    c.know_put.ensures.keeps c.know_put.ensures.keeps_urgent c.know_put.ensures.raised (c.in_ok-know_put.ensures.known was ready up) (c.accept.ensures.written clean (subst IsReady (sym same.0.now_is) ready))
+    c.know_put.ensures.keeps c.know_put.ensures.keeps_urgent c.know_put.ensures.raised c.know_put.ensures.forgets (c.in_ok-know_put.ensures.known was ready up) (c.accept.ensures.written clean (subst IsReady (sym same.0.now_is) ready))
 
 pub returns-clause-kept : goal.returns-clause-kept
 returns-clause-kept g c clean ready up =

@@ -1,6 +1,6 @@
 use Rattle.std.proofs.Common.{◌∙◌}
 use Rattle.queries.specs.Heads.{notice_head_of}
-use Rattle.slices.proofs.ReadSteps.{has_read, read_on, and_then, so_told, fails_first, fails_later}
+use Rattle.known_reads.proofs.ReadSteps.{has_read, read_on, and_then, so_told, fails_first, fails_later}
 use Rattle.queries.proofs.shown_heads.NoticeHeadQueryQuery.read.Goals as goal
 
 pub returns-in_err-item-clause-read : goal.returns-in_err-item-clause-read

@@ -1,5 +1,5 @@
 use Rattle.std.proofs.Common.{refl, sym, ◌∙◌}
-use Rattle.slices.proofs.ReadSteps.{has_read, and_then, so_told, fails_first, fails_later}
+use Rattle.known_reads.proofs.ReadSteps.{has_read, and_then, so_told, fails_first, fails_later}
 use Rattle.queries.proofs.shown_orders.OrderQueryQuery.read.Goals as goal
 
 pub returns-in_err-known-clause-read : goal.returns-in_err-known-clause-read

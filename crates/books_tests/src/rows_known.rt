@@ -1,0 +1,91 @@
+//! Rows that a slice has read are known: the next slice has them from there, until a change puts one of them.
+
+use crate::disk::run;
+use crate::samples;
+use crate::steps::{On, Step};
+use commands::limits::{BINS_MAX, ITEMS_MAX};
+use commands::{Command, Listed, LotRow};
+use open_lines::OpenLines;
+use row_rules::changing::none_put;
+use slices::{Bounds, Known, RowsKnown, know_put, read_slice};
+use sqlite::{Alter, Connection, Transaction};
+use std::alloc::Global;
+use std::process::Abort;
+use values::LotId;
+
+fn none_known(alloc: Global) -> Known {
+    Known {
+        lines: OpenLines::new(alloc),
+        urgent: OpenLines::new(alloc),
+        bounds: Bounds {
+            items: ITEMS_MAX,
+            bins: BINS_MAX,
+        },
+        rows: RowsKnown::new(alloc),
+    }
+}
+
+fn held_in(lots: &[LotRow], lot: &LotId) -> Option<bool> {
+    for row in lots {
+        if row.lot == *lot {
+            return Some(row.held);
+        }
+    }
+    None
+}
+
+/// Whether the lot is held, by its row in the slice of its hold.
+fn is_held<S: Alter>(
+    rt: &impl Abort,
+    alloc: Global,
+    tx: &mut Transaction<'_, S>,
+    known: &mut Known,
+    lot: &LotId,
+) -> bool {
+    let command = Command::Hold(*lot);
+    let found = read_slice(alloc, tx, known, &command);
+    drop(command);
+    let slice = found.ok().expect(rt, "a slice");
+    let held = held_in(slice.rows.lots.as_slice(), lot);
+    drop(slice);
+    held.expect(rt, "a lot")
+}
+
+fn one(rt: &impl Abort, alloc: Global, row: LotRow) -> Vec<LotRow> {
+    let mut rows = Vec::new(alloc);
+    assert!(rt; rows.push(row).is_ok());
+    rows
+}
+
+/// The tables have a lot. What is known of it says otherwise, so it is seen where a slice has its row from.
+pub(crate) fn tells_known<S: Alter>(rt: &impl Abort, alloc: Global, conn: &mut Connection<S>) {
+    assert!(rt; conn.is_autocommit());
+    let mut tx = conn.transaction();
+    let mut known = none_known(alloc);
+    let stored = samples::known_lot(rt);
+    let other = LotRow {
+        held: !stored.held,
+        ..stored
+    };
+    let held = is_held(rt, alloc, &mut tx, &mut known, &stored.lot);
+    assert!(rt; held == stored.held);
+    assert!(rt; known.rows.lots.rows_of(&stored.lot).is_some());
+    known.rows.lots.keep(&stored.lot, one(rt, alloc, other));
+    let held = is_held(rt, alloc, &mut tx, &mut known, &stored.lot);
+    assert!(rt; held == other.held);
+    let mut put = none_put(alloc);
+    put.lots = Listed::from_vec(one(rt, alloc, other));
+    assert!(rt; know_put(alloc, &mut tx, &mut known, &put).is_ok());
+    drop(put);
+    assert!(rt; known.rows.lots.rows_of(&stored.lot).is_none());
+    let held = is_held(rt, alloc, &mut tx, &mut known, &stored.lot);
+    assert!(rt; held == stored.held);
+    drop(known);
+}
+
+static EACH_ROW: [&[Step]; 1] = [&[Step::On(On::Fill), Step::On(On::TellKnown)]];
+
+#[test]
+fn rows_are_known_until_a_change_puts_them(rt: HostRuntime) {
+    run(&rt, rt.alloc(), EACH_ROW.as_slice());
+}

@@ -1,0 +1,4 @@
+pub mod TypedRows
+pub mod ReadSteps
+pub mod SeekSteps
+pub mod KnowingSteps

@@ -1,0 +1,98 @@
+-- What the calls of a map make of what is known.
+use Rattle.std.proofs.Common.{◌≡◌, Bool, true, false, cond, ◌⊎◌, inl, inr, List, [], ◌∷◌, Vec, Global, refl, sym, ap, subst, ◌∙◌}
+use Rattle.std.specs.Prelude.{if◌then◌else◌, ◌||◌, Option, Some, None, IfSome}
+use Rattle.std.specs.List.{list_any}
+use Rattle.std.specs.Option.{option_map}
+use Rattle.std.specs.Ordering.{is_eq}
+use Rattle.std.specs.declared.cmp.Ordering.{Ordering}
+use Rattle.std.specs.BTreeMap.{get, is_at}
+use Rattle.known_rows.specs.KnownRows.{RowMap, rows_at, KnowsNone, IsPart, LearnsAt, ForgetsAt, ForgetsBy}
+
+abbrev items_of : {R : Type 0} → Option (Vec R Global) → Option (List R)
+items_of x = option_map (λ (v : Vec _ Global). v.items) x
+
+module _ {K R : Type 0} (cmp : K → K → Ordering) where
+  -- the map with another value under a key
+  abbrev pub Becomes : K → Option (Vec R Global) → RowMap K R → RowMap K R → Type 0
+  Becomes k w old new = (q : K) → get cmp new q ≡ cond (is_at (cmp k) q) w (get cmp old q)
+
+  -- all that is found was found
+  itself : (x : Option (List R)) → IfSome x (λ found. x ≡ Some found)
+  itself None = tt
+  itself (Some found) = refl
+
+  pub part_same : (old new : RowMap K R) → ((q : K) → get cmp new q ≡ get cmp old q) → IsPart cmp old new
+  part_same old new same q = subst (λ (x : Option (List R)). IfSome x (λ found. rows_at cmp old q ≡ Some found)) (sym (ap items_of (same q))) (itself (rows_at cmp old q))
+
+  pub part_none : (old new : RowMap K R) → KnowsNone cmp new → IsPart cmp old new
+  part_none old new none q = subst (λ (x : Option (List R)). IfSome x (λ found. rows_at cmp old q ≡ Some found)) (sym (none q)) tt
+
+  pub forgets : (k own : K) (old new : RowMap K R) → own ≡ k → Becomes own None old new → ForgetsAt cmp k old new
+  forgets k own old new is becomes q = ap items_of (becomes q) ∙ chosen (is_eq (cmp own q)) ∙ ap (λ x. if is_eq (cmp x q) then None else rows_at cmp old q) is
+    where
+      chosen : (b : Bool) → items_of (cond b None (get cmp old q)) ≡ (if b then None else rows_at cmp old q)
+      chosen true = refl
+      chosen false = refl
+
+  -- what is known is put into what is part of what was known
+  pub learns : (k own : K) (rows : List R) (v : Vec R Global) (old mid new : RowMap K R) → own ≡ k → v.items ≡ rows → IsPart cmp old mid → Becomes own (Some v) mid new → LearnsAt cmp k rows old new
+  learns k own rows v old mid new is value part becomes q =
+      subst (λ (x : Option (List R)). IfSome x (λ found. ((is_eq (cmp k q) ≡ true) × (found ≡ rows)) ⊎ (rows_at cmp old q ≡ Some found))) (sym (ap items_of (becomes q))) (chosen (is_eq (cmp own q)) refl)
+    where
+      among : (x : Option (List R)) → IfSome x (λ found. rows_at cmp old q ≡ Some found) → IfSome x (λ found. ((is_eq (cmp k q) ≡ true) × (found ≡ rows)) ⊎ (rows_at cmp old q ≡ Some found))
+      among None h = tt
+      among (Some found) h = inr h
+
+      chosen : (b : Bool) → is_eq (cmp own q) ≡ b → IfSome (items_of (cond b (Some v) (get cmp mid q))) (λ found. ((is_eq (cmp k q) ≡ true) × (found ≡ rows)) ⊎ (rows_at cmp old q ≡ Some found))
+      chosen true e = inl (subst (λ x. is_eq (cmp x q) ≡ true) is e, value)
+      chosen false e = among (rows_at cmp mid q) (part q)
+
+  pub learns_none : (k : K) (rows : List R) (old new : RowMap K R) → IsPart cmp old new → LearnsAt cmp k rows old new
+  learns_none k rows old new part q = among (rows_at cmp new q) (part q)
+    where
+      among : (x : Option (List R)) → IfSome x (λ found. rows_at cmp old q ≡ Some found) → IfSome x (λ found. ((is_eq (cmp k q) ≡ true) × (found ≡ rows)) ⊎ (rows_at cmp old q ≡ Some found))
+      among None h = tt
+      among (Some found) h = inr h
+
+  pub part_then : (old mid new : RowMap K R) → IsPart cmp old mid → IsPart cmp mid new → IsPart cmp old new
+  part_then old mid new p r q = through (rows_at cmp new q) (r q)
+    where
+      through : (x : Option (List R)) → IfSome x (λ found. rows_at cmp mid q ≡ Some found) → IfSome x (λ found. rows_at cmp old q ≡ Some found)
+      through None h = tt
+      through (Some found) h = subst (λ (y : Option (List R)). IfSome y (λ f. rows_at cmp old q ≡ Some f)) h (p q)
+
+-- Rows whose keys are forgotten in turn
+
+module _ {K R : Type 0} (cmp : K → K → Ordering) (key : R → K) where
+  abbrev named : K → List R → Bool
+  named q rows = list_any (λ r. is_eq (cmp (key r) q)) rows
+
+  -- what is known is named by one of those that are left, if it is by one of all
+  abbrev pub Going : List R → List R → RowMap K R → RowMap K R → Type 0
+  Going all rest old mid = (q : K) → IfSome (rows_at cmp mid q) (λ now. (rows_at cmp old q ≡ Some now) × (named q rest ≡ named q all))
+
+  pub going_first : (all : List R) (old : RowMap K R) → Going all all old old
+  going_first all old q = first (rows_at cmp old q) refl
+    where
+      first : (x : Option (List R)) → rows_at cmp old q ≡ x → IfSome x (λ now. (rows_at cmp old q ≡ Some now) × (named q all ≡ named q all))
+      first None h = tt
+      first (Some now) h = (h, refl)
+
+  pub going_next : (all left rest : List R) (r : R) (old mid new : RowMap K R) → left ≡ r ∷ rest → ForgetsAt cmp (key r) mid new → Going all left old mid → Going all rest old new
+  going_next all left rest r old mid new is forgets so_far q =
+      subst (λ (x : Option (List R)). IfSome x (λ now. (rows_at cmp old q ≡ Some now) × (named q rest ≡ named q all))) (sym (forgets q)) (by_key (is_eq (cmp (key r) q)) refl)
+    where
+      by_row : is_eq (cmp (key r) q) ≡ false → (x : Option (List R)) → IfSome x (λ now. (rows_at cmp old q ≡ Some now) × (named q left ≡ named q all)) → IfSome x (λ now. (rows_at cmp old q ≡ Some now) × (named q rest ≡ named q all))
+      by_row e None h = tt
+      by_row e (Some now) h = (h.0, sym (ap (λ b. b || named q rest) e) ∙ sym (ap (named q) is) ∙ h.1)
+
+      by_key : (b : Bool) → is_eq (cmp (key r) q) ≡ b → IfSome (if b then None else rows_at cmp mid q) (λ now. (rows_at cmp old q ≡ Some now) × (named q rest ≡ named q all))
+      by_key true e = tt
+      by_key false e = by_row e (rows_at cmp mid q) (so_far q)
+
+  pub all_gone : (all : List R) (old new : RowMap K R) → Going all [] old new → ForgetsBy cmp key all old new
+  all_gone all old new so_far q = gone (rows_at cmp new q) (so_far q)
+    where
+      gone : (x : Option (List R)) → IfSome x (λ now. (rows_at cmp old q ≡ Some now) × (false ≡ named q all)) → IfSome x (λ found. (rows_at cmp old q ≡ Some found) × (named q all ≡ false))
+      gone None h = tt
+      gone (Some now) h = (h.0, sym h.1)

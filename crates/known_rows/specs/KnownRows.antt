@@ -1,0 +1,40 @@
+-- Rows that are known by what they were sought by.
+use Rattle.std.specs.Prelude.{◌≡◌, ◌⊎◌, Bool, true, false, if◌then◌else◌, List, Option, Some, None, IfSome, Vec}
+use Rattle.std.specs.declared.alloc.Global.{Global}
+use Rattle.std.specs.List.{list_any}
+use Rattle.std.specs.Option.{option_map}
+use Rattle.std.specs.Ordering.{is_eq}
+use Rattle.std.specs.declared.cmp.Ordering.{Ordering}
+use Rattle.std.specs.BTreeMap.{BTreeMap, get}
+
+-- lists of rows by the keys of what they were sought by
+abbrev pub RowMap : Type 0 → Type 0 → Type 0
+RowMap K R = BTreeMap K (Vec R Global)
+
+module _ {K R : Type 0} (cmp : K → K → Ordering) where
+  -- the rows that are known under a key
+  abbrev pub rows_at : RowMap K R → K → Option (List R)
+  rows_at m k = option_map (λ (v : Vec R Global). v.items) (get cmp m k)
+
+  abbrev pub KnowsNone : RowMap K R → Type 0
+  KnowsNone m = (q : K) → rows_at m q ≡ None
+
+  -- what is known after was known before
+  abbrev pub IsPart : RowMap K R → RowMap K R → Type 0
+  IsPart old new = (q : K) → IfSome (rows_at new q) (λ found. rows_at old q ≡ Some found)
+
+  -- or it is these rows, under this key
+  abbrev pub LearnsAt : K → List R → RowMap K R → RowMap K R → Type 0
+  LearnsAt k rows old new = (q : K) → IfSome (rows_at new q) (λ found. ((is_eq (cmp k q) ≡ true) × (found ≡ rows)) ⊎ (rows_at old q ≡ Some found))
+
+  -- what was known before is known after, but for what is under this key
+  abbrev pub ForgetsAt : K → RowMap K R → RowMap K R → Type 0
+  ForgetsAt k old new = (q : K) → rows_at new q ≡ (if is_eq (cmp k q) then None else rows_at old q)
+
+  -- what is known after was known before, and not under the key of one of these rows
+  abbrev pub ForgetsBy : (R → K) → List R → RowMap K R → RowMap K R → Type 0
+  ForgetsBy key rows old new = (q : K) → IfSome (rows_at new q) (λ found. (rows_at old q ≡ Some found) × (list_any (λ r. is_eq (cmp (key r) q)) rows ≡ false))
+
+  -- what is known of the rows that are sought is so
+  abbrev pub Remembers : {B : Type 0} → (B → K) → (B → List R → Type 0) → RowMap K R → Type 0
+  Remembers {B} key are m = (by : B) → IfSome (rows_at m (key by)) (are by)

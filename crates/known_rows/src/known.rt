@@ -1,0 +1,82 @@
+//! Rows that are known by what they were sought by.
+
+ghost use Rattle.std.specs.Prelude.{◌≡◌};
+ghost use Rattle.std.specs.Option.{option_copied};
+ghost use Rattle.known_rows.specs.KnownRows.{rows_at, KnowsNone, IsPart, LearnsAt, ForgetsAt, ForgetsBy};
+
+use slice_parts::key_list::{Has, KeyOf};
+use std::alloc::Global;
+use std::collections::BTreeMap;
+use std::marker::PhantomData;
+
+/// The weight above which all is forgotten. Each list of rows weighs 1, and each of its rows 1 more.
+pub const WEIGHT_MAX: u64 = 65_536;
+
+/// Lists of rows, each as it was found, by what they were sought by. That a list is empty is known too.
+#[derive(Drop)]
+pub struct KnownRows<B: Copy, K: KeyOf<B>, R: Has<B>> {
+    pub rows: BTreeMap<K, Vec<R>>,
+    /// No less than what is known weighs.
+    pub weight: u64,
+    pub alloc: Global,
+    pub of: PhantomData<B>,
+}
+
+impl<B: Copy, K: KeyOf<B>, R: Has<B>> KnownRows<B, K, R> {
+    /// Nothing is known.
+    pub fn new(alloc: Global) -> Self
+        ensures { KnowsNone K.cmp result.rows }
+    {
+        KnownRows {
+            rows: BTreeMap::new(alloc),
+            weight: 0,
+            alloc,
+            of: PhantomData,
+        }
+    }
+
+    /// The rows that are sought by this, where they are known.
+    pub fn rows_of(&self, by: &B) -> Option<&[R]>
+        ensures { option_copied result ≡ rows_at K.cmp self.now.rows (K.key by.now) }
+    {
+        match self.rows.get(&K::of(by)) {
+            Some(rows) => Some(rows.as_slice()),
+            None => None,
+        }
+    }
+
+    /// Forgets what is known of the rows that are sought by this. It takes no memory.
+    pub fn forget(&mut self, by: &B)
+        ensures { ForgetsAt K.cmp (K.key by.now) self.old.rows self.new.rows }
+    {
+        self.rows.remove(&K::of(by));
+    }
+
+    /// Forgets what is known of the rows that are sought with one of these. It takes no memory.
+    pub fn forget_all(&mut self, rows: &[R])
+        ensures { ForgetsBy K.cmp (λ r. K.key (R.of_row r)) rows.now self.old.rows self.new.rows }
+    {
+        for row in rows {
+            self.forget(&row.value());
+        }
+    }
+
+    // Forgets all, where too much is known.
+    fn make_room(&mut self)
+        ensures { IsPart K.cmp self.old.rows self.new.rows }
+    {
+        if self.weight > WEIGHT_MAX {
+            self.rows = BTreeMap::new(self.alloc);
+            self.weight = 0;
+        }
+    }
+
+    /// Knows the rows that were found by this, unless there is no memory for them. Where too much is known, all else is forgotten.
+    pub fn keep(&mut self, by: &B, rows: Vec<R>)
+        ensures { LearnsAt K.cmp (K.key by.now) rows.items self.old.rows self.new.rows }
+    {
+        self.make_room();
+        self.weight = self.weight.saturating_add(rows.len() as u64 + 1);
+        let _ = self.rows.insert(K::of(by), rows);
+    }
+}

@@ -1,0 +1,40 @@
+//! Lines of orders as keys: in the order of the orders' names, and then of the GTINs.
+
+use crate::key_list::{Has, KeyOf};
+use commands::LineRow;
+use text_keys::TextKey;
+use values::{Gtin, Name};
+
+/// The order and the item of a line, as a key.
+#[derive(Clone, Copy, PartialEq, Eq, PartialOrd, Ord)]
+pub struct LineKey {
+    pub order: TextKey,
+    pub item: TextKey,
+}
+
+impl KeyOf<(Name, Gtin)> for LineKey {
+    ghost use Rattle.slice_parts.specs.LineOrder.{same_line, turned_line, lines_told, lines_exact};
+
+    ghost same = { same_line };
+
+    ghost key = { turned_line };
+
+    ghost told = { lines_told };
+
+    ghost exact = { lines_exact };
+
+    fn of(line: &(Name, Gtin)) -> Self {
+        LineKey {
+            order: TextKey::of_name(&line.0),
+            item: TextKey::of_gtin(&line.1),
+        }
+    }
+}
+
+impl Has<(Name, Gtin)> for LineRow {
+    ghost of_row = { λ r. (r.order, r.gtin) };
+
+    fn value(&self) -> (Name, Gtin) {
+        (self.order, self.gtin)
+    }
+}

@@ -1,0 +1,5 @@
+use Rattle.known_reads.proofs.KnowingSteps.{known_among}
+use Rattle.slices.proofs.known_goods.seek_bin.Goals as goal
+
+pub returns-clause-read : goal.returns-clause-read
+returns-clause-read g c = known_among c.seek_known.ensures.read (λ t all. all.bins) (λ t all one. record { bins = one; lots = all.lots })

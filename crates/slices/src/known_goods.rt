@@ -1,0 +1,73 @@
+//! Rows of goods that are sought, from what is known of them, and from the tables where nothing is.
+
+ghost use Rattle.std.specs.Prelude.{◌≡◌};
+ghost use Rattle.sqlite.specs.Held.{state};
+ghost use Rattle.goods_tables.specs.Bins.{AreBinsOf};
+ghost use Rattle.goods_tables.specs.Lots.{AreLotOf};
+ghost use Rattle.known_reads.specs.Reading.{IsRead};
+ghost use Rattle.slices.specs.ByLot.{AreLotsOf};
+ghost use Rattle.slices.specs.Remembering.{Learning};
+ghost use Rattle.slices.specs.Slicing.{AreBins};
+
+use crate::rows_known::RowsKnown;
+use commands::{BinRow, LotRow};
+use goods_tables::bins::Bins;
+use goods_tables::lots::Lots;
+use known_reads::{seek_all_known, seek_known};
+use sqlite::{Alter, Transaction};
+use std::alloc::Global;
+use table_words::error::TableFault;
+use text_keys::{LotKey, TextKey};
+use values::{LotId, Name};
+
+/// The row of a lot.
+pub fn seek_lot<S: Alter>(
+    alloc: Global,
+    tx: &mut Transaction<'_, S>,
+    rows: &mut RowsKnown,
+    lot: &LotId,
+) -> Result<Vec<LotRow>, TableFault>
+    ensures same_reference { tx.new.conn.ghost_name ≡ tx.old.conn.ghost_name }
+    ensures read { IsRead (Learning rows.old rows.new (λ t found. AreLotOf lot.now t found.items)) (state S.Store tx.old.conn.now) (state S.Store tx.new.conn.now) result }
+{
+    seek_known::<Lots, LotId, LotKey, S>(alloc, tx, &mut rows.lots, lot)
+}
+
+/// The rows of lots, one after another.
+pub fn seek_lots<S: Alter>(
+    alloc: Global,
+    tx: &mut Transaction<'_, S>,
+    rows: &mut RowsKnown,
+    lots: &[LotId],
+) -> Result<Vec<LotRow>, TableFault>
+    ensures same_reference { tx.new.conn.ghost_name ≡ tx.old.conn.ghost_name }
+    ensures read { IsRead (Learning rows.old rows.new (λ t found. AreLotsOf lots.now t found.items)) (state S.Store tx.old.conn.now) (state S.Store tx.new.conn.now) result }
+{
+    seek_all_known::<Lots, LotId, LotKey, S>(alloc, tx, &mut rows.lots, lots)
+}
+
+/// The row of a bin.
+pub fn seek_bin<S: Alter>(
+    alloc: Global,
+    tx: &mut Transaction<'_, S>,
+    rows: &mut RowsKnown,
+    bin: &Name,
+) -> Result<Vec<BinRow>, TableFault>
+    ensures same_reference { tx.new.conn.ghost_name ≡ tx.old.conn.ghost_name }
+    ensures read { IsRead (Learning rows.old rows.new (λ t found. AreBinsOf bin.now t found.items)) (state S.Store tx.old.conn.now) (state S.Store tx.new.conn.now) result }
+{
+    seek_known::<Bins, Name, TextKey, S>(alloc, tx, &mut rows.bins, bin)
+}
+
+/// The rows of bins, one after another.
+pub fn seek_bins<S: Alter>(
+    alloc: Global,
+    tx: &mut Transaction<'_, S>,
+    rows: &mut RowsKnown,
+    bins: &[Name],
+) -> Result<Vec<BinRow>, TableFault>
+    ensures same_reference { tx.new.conn.ghost_name ≡ tx.old.conn.ghost_name }
+    ensures read { IsRead (Learning rows.old rows.new (λ t found. AreBins bins.now t found.items)) (state S.Store tx.old.conn.now) (state S.Store tx.new.conn.now) result }
+{
+    seek_all_known::<Bins, Name, TextKey, S>(alloc, tx, &mut rows.bins, bins)
+}

@@ -1,0 +1,154 @@
+-- The rows that stay known while a change is written are those of the tables that it leaves.
+use Rattle.std.proofs.Common.{◌≡◌, ℕ, Bool, true, false, inl, inr, List, [], ◌∷◌, refl, sym, ap, subst, ◌∙◌}
+use Rattle.std.specs.Prelude.{◌||◌, if◌then◌else◌, reverse, Option, Some, None, IfSome}
+use Rattle.std.specs.List.{list_any}
+use Rattle.std.specs.Ordering.{nat_cmp, is_eq}
+use Rattle.std.specs.declared.cmp.Ordering.{Ordering}
+use Rattle.std.specs.Cmp.Lexicographic.{slice_cmp}
+use Rattle.std.proofs.lemmas.Bool.{cases_Bool}
+use Rattle.values.specs.Values.{same_text}
+use Rattle.values.specs.declared.lot.LotId.{LotId}
+use Rattle.commands.specs.Tables.{Tables}
+use Rattle.commands.specs.declared.rows.BinRow.{BinRow}
+use Rattle.commands.specs.declared.rows.ItemRow.{ItemRow}
+use Rattle.commands.specs.declared.rows.LeastRow.{LeastRow}
+use Rattle.commands.specs.declared.rows.LotRow.{LotRow}
+use Rattle.commands.specs.declared.rows.RecallRow.{RecallRow}
+use Rattle.commands.specs.declared.rows.RepeatRow.{RepeatRow}
+use Rattle.table_words.specs.Found.{AreRows}
+use Rattle.table_words.specs.Typed.{same_bin, bin_key, same_lot, lot_key, with_item, with_least, with_bin, with_lot, with_recall, with_stock, without_stock, with_order, with_urgent, with_line, with_staged, without_staged, with_reserved, without_reserved, with_shipment, with_shipline, with_card, with_repeat}
+use Rattle.table_words.proofs.KeyLemmas.{IsSame}
+use Rattle.machine.proofs.Tests.{or_none}
+use Rattle.row_rules.specs.declared.slice.Change.{Change}
+use Rattle.slice_parts.specs.LotOrder.{lot_key as turned_lot, lot_key_cmp, lots_told}
+use Rattle.slice_parts.specs.NameOrder.{names_told}
+use Rattle.keyed_rows.specs.Writes.{each_written}
+use Rattle.goods_tables.specs.Bins.{bins_laws}
+use Rattle.goods_tables.specs.Lots.{lots_laws}
+use Rattle.changes.specs.Written.{names_written, goods_written, lines_written, orders_written, change_written}
+use Rattle.known_rows.specs.KnownRows.{RowMap, rows_at, ForgetsBy, Remembers}
+use Rattle.slices.specs.Remembering.{KnowsRows, ForgetsPut}
+use Rattle.slices.specs.declared.rows_known.RowsKnown.{RowsKnown}
+use Rattle.store.proofs.LinesWritten.{rows_spare}
+
+-- A row is put that is none of those that are sought
+
+clash : {P : Type 0} (a : Bool) → a ≡ true → a ≡ false → P
+clash true e f = absurd (let g : true ≡ false = f in cc)
+clash false e f = absurd (let g : false ≡ true = e in cc)
+
+others_are : {K R : Type 0} (same : K → K → Bool) (key : R → K) → IsSame same → (wanted : K → Bool) (look : K → Option R) (r : R) (rows : List R) → AreRows same key wanted look rows → wanted (key r) ≡ false
+    → AreRows same key wanted (λ k. if same k (key r) then Some r else look k) rows
+others_are same key exact wanted look r rows are other = record {
+  found = λ k w. elim (cases_Bool (same k (key r))) [
+    | inl e ↦ clash (wanted (key r)) (subst (λ c. wanted c ≡ true) (exact k (key r) e) w) other
+    | inr e ↦ are.found k w ∙ sym (ap (λ b. if b then Some r else look k) e)
+  ];
+  only = are.only;
+  once = are.once;
+}
+
+module _ {B Q K R : Type 0} (cmp : Q → Q → Ordering) (key_of : B → Q) (same_by : B → B → Bool) (told : (x y : B) → is_eq (cmp (key_of y) (key_of x)) ≡ same_by x y) (same : K → K → Bool) (key : R → K) (exact : IsSame same)
+    (get : Tables → K → Option R) (wanted : B → K → Bool) (owner : R → B) (owns : (by : B) (r : R) → wanted by (key r) ≡ same_by by (owner r)) where
+  -- the rows that are sought by this are these
+  abbrev AreAt : Tables → B → List R → Type 0
+  AreAt t by rows = AreRows same key (wanted by) (get t) rows
+
+  -- tables that are the same there have the same rows
+  known_same : (t u : Tables) → get t ≡ get u → (m : RowMap Q R) → Remembers cmp key_of (AreAt t) m → Remembers cmp key_of (AreAt u) m
+  known_same t u is m known = subst (λ (f : K → Option R). Remembers cmp key_of (λ by rows. AreRows same key (wanted by) f rows) m) is known
+
+  module _ (write : R → Tables → Tables) (puts : (r : R) (t : Tables) → get (write r t) ≡ (λ k. if same k (key r) then Some r else get t k)) where
+    -- so are rows of which none is sought by this
+    spared : (rows : List R) (t : Tables) (at : B) (found : List R) → list_any (λ r. is_eq (cmp (key_of (owner r)) (key_of at))) rows ≡ false → AreAt t at found → AreAt (each_written write rows t) at found
+    spared [] t at found none are = are
+    spared (r ∷ rs) t at found none are =
+        let two = or_none (is_eq (cmp (key_of (owner r)) (key_of at))) (list_any (λ r. is_eq (cmp (key_of (owner r)) (key_of at))) rs) none in
+        spared rs (write r t) at found two.1
+        (subst (λ (f : K → Option R). AreRows same key (wanted at) f found) (sym (puts r t)) (others_are same key exact (wanted at) (get t) r found are (owns at r ∙ sym (told at (owner r)) ∙ two.0)))
+
+    known_spared : (rows : List R) (t : Tables) (old new : RowMap Q R) → ForgetsBy cmp (λ r. key_of (owner r)) rows old new → Remembers cmp key_of (AreAt t) old → Remembers cmp key_of (AreAt (each_written write rows t)) new
+    known_spared rows t old new forgets known at = left (rows_at cmp new (key_of at)) (forgets (key_of at))
+      where
+        left : (x : Option (List R)) → IfSome x (λ found. (rows_at cmp old (key_of at) ≡ Some found) × (list_any (λ r. is_eq (cmp (key_of (owner r)) (key_of at))) rows ≡ false)) → IfSome x (AreAt (each_written write rows t) at)
+        left None h = tt
+        left (Some found) h = spared rows t at found h.1 (subst (λ y. IfSome y (AreAt t at)) h.0 (known at))
+
+-- Goods are left by what writes other rows
+
+abbrev Goods : Type 0
+Goods = (List ℕ → Option ItemRow) × (List ℕ → Option LeastRow) × (List ℕ → Option BinRow) × (LotId → Option LotRow) × (LotId → Option RecallRow)
+
+abbrev goods : Tables → Goods
+goods t = (t.item, t.least, t.bin, t.lot, t.recall)
+
+module _ (c : Change) (row : RepeatRow) (t : Tables) where
+  abbrev with_items : Tables
+  with_items = each_written with_item c.put.items t
+
+  abbrev asked : Tables
+  asked = each_written with_least c.put.least with_items
+
+  abbrev named : Tables
+  named = names_written c.put t
+
+  abbrev lotted : Tables
+  lotted = each_written with_lot c.put.lots named
+
+  abbrev recalled : Tables
+  recalled = each_written with_recall c.put.recalls lotted
+
+  abbrev left : Tables
+  left = with_repeat row (change_written c t)
+
+  goods_left : goods left ≡ goods recalled
+  goods_left =
+      let p = c.put in
+      let d = c.dropped in
+      let unstocked : Tables = each_written (λ r. without_stock r.lot r.bin) d.stock recalled in
+      let stocked : Tables = goods_written p d t in
+      let one : Tables = each_written with_order p.orders stocked in
+      let two : Tables = each_written with_urgent p.urgents one in
+      let three : Tables = lines_written p stocked in
+      let four : Tables = each_written (λ r. without_staged r.order r.lot) d.staged three in
+      let five : Tables = each_written with_staged p.staged four in
+      let six : Tables = each_written (λ r. without_reserved r.order r.lot) d.reserved five in
+      let ordered : Tables = orders_written p d stocked in
+      let seven : Tables = each_written with_shipment p.shipments ordered in
+      let eight : Tables = each_written with_shipline p.shiplines seven in
+      rows_spare goods with_card (λ r u. refl) p.cards eight
+      ∙ rows_spare goods with_shipline (λ r u. refl) p.shiplines seven
+      ∙ rows_spare goods with_shipment (λ r u. refl) p.shipments ordered
+      ∙ rows_spare goods with_reserved (λ r u. refl) p.reserved six
+      ∙ rows_spare goods (λ r. without_reserved r.order r.lot) (λ r u. refl) d.reserved five
+      ∙ rows_spare goods with_staged (λ r u. refl) p.staged four
+      ∙ rows_spare goods (λ r. without_staged r.order r.lot) (λ r u. refl) d.staged three
+      ∙ rows_spare goods with_line (λ r u. refl) p.lines two
+      ∙ rows_spare goods with_urgent (λ r u. refl) p.urgents one
+      ∙ rows_spare goods with_order (λ r u. refl) p.orders stocked
+      ∙ rows_spare goods with_stock (λ r u. refl) p.stock unstocked
+      ∙ rows_spare goods (λ r. without_stock r.lot r.bin) (λ r u. refl) d.stock recalled
+
+  lots_left : left.lot ≡ lotted.lot
+  lots_left = ap (λ (x : Goods). x.3) goods_left ∙ rows_spare (λ u. u.lot) with_recall (λ r u. refl) c.put.recalls lotted
+
+  lots_before : named.lot ≡ t.lot
+  lots_before = rows_spare (λ u. u.lot) with_bin (λ r u. refl) c.put.bins asked ∙ rows_spare (λ u. u.lot) with_least (λ r u. refl) c.put.least with_items ∙ rows_spare (λ u. u.lot) with_item (λ r u. refl) c.put.items t
+
+  bins_left : left.bin ≡ named.bin
+  bins_left = ap (λ (x : Goods). x.2) goods_left ∙ rows_spare (λ u. u.bin) with_recall (λ r u. refl) c.put.recalls lotted ∙ rows_spare (λ u. u.bin) with_lot (λ r u. refl) c.put.lots named
+
+  bins_before : asked.bin ≡ t.bin
+  bins_before = rows_spare (λ u. u.bin) with_least (λ r u. refl) c.put.least with_items ∙ rows_spare (λ u. u.bin) with_item (λ r u. refl) c.put.items t
+
+  pub rows_written : (old new : RowsKnown) → ForgetsPut c.put old new → KnowsRows t old → KnowsRows left new
+  rows_written old new forgets known = record {
+    lots =
+        known_same lot_key_cmp turned_lot same_lot lots_told same_lot lot_key lots_laws.one_key (λ u. u.lot) same_lot (λ r. r.lot) (λ by r. refl) lotted left (sym lots_left) new.lots.rows
+        (known_spared lot_key_cmp turned_lot same_lot lots_told same_lot lot_key lots_laws.one_key (λ u. u.lot) same_lot (λ r. r.lot) (λ by r. refl) with_lot (λ r u. refl) c.put.lots named old.lots.rows new.lots.rows forgets.lots
+        (known_same lot_key_cmp turned_lot same_lot lots_told same_lot lot_key lots_laws.one_key (λ u. u.lot) same_lot (λ r. r.lot) (λ by r. refl) t named (sym lots_before) old.lots.rows known.lots));
+    bins =
+        known_same (slice_cmp nat_cmp) reverse same_text names_told same_bin bin_key bins_laws.one_key (λ u. u.bin) same_text (λ r. r.name) (λ by r. refl) named left (sym bins_left) new.bins.rows
+        (known_spared (slice_cmp nat_cmp) reverse same_text names_told same_bin bin_key bins_laws.one_key (λ u. u.bin) same_text (λ r. r.name) (λ by r. refl) with_bin (λ r u. refl) c.put.bins asked old.bins.rows new.bins.rows forgets.bins
+        (known_same (slice_cmp nat_cmp) reverse same_text names_told same_bin bin_key bins_laws.one_key (λ u. u.bin) same_text (λ r. r.name) (λ by r. refl) t asked (sym bins_before) old.bins.rows known.bins));
+  }
