@@ -30,6 +30,8 @@ pub(crate) enum Trial<'a> {
     /// Of the line `SQL => WORDS` the SQL is run after the acts, and the audit says these words, whether the first day is
     /// given or not. A bar stands for a line feed.
     Changed(&'a [Part], &'a str),
+    /// Likewise; the books are then opened, and the audit says the same.
+    Opened(&'a [Part], &'a str),
     /// Likewise after the week's acts, where the first day is given.
     Given(&'a str),
     /// Likewise of the history, printed to an output with room for so many bytes.
@@ -202,6 +204,28 @@ fn says_of_change<S: Orderly + Drop>(
     line: &str,
 ) -> Connection<S> {
     let (conn, expected) = changed(rt, alloc, conn, parts, line);
+    says_always(rt, alloc, conn, expected)
+}
+
+/// The connection of the books that are opened over this one.
+fn opened<S: Orderly + Drop>(rt: &impl Abort, alloc: Global, conn: Connection<S>) -> Connection<S> {
+    assert!(rt; conn.is_autocommit());
+    match Books::open(alloc, conn) {
+        Ok(books) => books.close(),
+        Err(open) => panic!(rt; "{:?}", open.fault),
+    }
+}
+
+fn says_and_opens<S: Orderly + Drop>(
+    rt: &impl Abort,
+    alloc: Global,
+    conn: Connection<S>,
+    parts: &[Part],
+    line: &str,
+) -> Connection<S> {
+    let (conn, expected) = changed(rt, alloc, conn, parts, line);
+    let conn = says_always(rt, alloc, conn, expected);
+    let conn = opened(rt, alloc, conn);
     says_always(rt, alloc, conn, expected)
 }
 
@@ -387,6 +411,7 @@ fn tried<S: Orderly + Drop>(
         Trial::Sound(parts, expected) => sound(rt, alloc, conn, parts, expected),
         Trial::Begun(parts, given, expected) => begun(rt, alloc, conn, parts, given, expected),
         Trial::Changed(parts, line) => says_of_change(rt, alloc, conn, parts, line),
+        Trial::Opened(parts, line) => says_and_opens(rt, alloc, conn, parts, line),
         Trial::Given(line) => says_given(rt, alloc, conn, line),
         Trial::Ends(room, line) => ends(rt, alloc, conn, room, line),
         Trial::Printed(parts, expected) => prints_parts(rt, alloc, conn, parts, expected),
@@ -400,6 +425,13 @@ fn tried<S: Orderly + Drop>(
 pub(crate) fn in_memory(rt: &impl Abort, alloc: Global, trial: Trial<'_>) {
     let conn = Connection::open_in_memory(alloc).expect(rt, "memory");
     drop(tried(rt, alloc, conn, trial));
+}
+
+/// Tries each line of the text as a change after the acts that leaves books to be opened.
+pub(crate) fn each_opened(rt: &impl Abort, alloc: Global, parts: &[Part], text: &str) {
+    for line in text.lines() {
+        in_memory(rt, alloc, Trial::Opened(parts, line));
+    }
 }
 
 /// Tries each line of the text as a change after the acts.

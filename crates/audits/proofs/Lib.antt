@@ -1,7 +1,7 @@
 pub mod Telling
 pub mod InHalves
 pub mod Tables
-pub mod Again
+pub mod Unreplayed
 pub mod Beginning
 pub mod Findings
 pub mod Raised

@@ -1,6 +1,6 @@
 -- What older tables come to.
-use Rattle.std.proofs.Common.{◌≡◌, ◌≢◌, ℕ, true, refl, List, Some, None, Option, Result, Ok, Err, inl, inr, sym, ap, subst, ◌∙◌}
-use Rattle.std.specs.Prelude.{ℤ, OnOk, IfErr}
+use Rattle.std.proofs.Common.{◌≡◌, ◌≢◌, ℕ, true, refl, List, Some, None, Option, Result, inl, inr, sym, ap, subst, ◌∙◌}
+use Rattle.std.specs.Prelude.{◌↔◌, ℤ, IfOk, IfErr, Ok}
 use Rattle.sqlite_trees.specs.declared.store.Store.{Ghosts}
 use Rattle.sqlite.specs.Effect.{Database}
 use Rattle.sqlite.specs.Held.{Held, state}
@@ -17,40 +17,48 @@ use Rattle.tables.specs.Settling.{HasRow, HasDayAt, IsRaised}
 use Rattle.tables.specs.declared.older.OlderBooks.{OlderBooks}
 use Rattle.tables.specs.declared.opening.Found.{Found}
 use Rattle.tables.specs.declared.opening.Found.TheVariants.{Newest, Older}
-use Rattle.tables.specs.Opening.{IsReadyAs}
+use Rattle.tables.specs.Opening.{IsReadyAs, ComesTo}
 use Rattle.tables.proofs.BringLemmas.{begins_older}
 use Rattle.tables.proofs.SettleLemmas.{day_of_row}
 use Rattle.machine.specs.Acts.{Act}
 use Rattle.machine.specs.Standing.{today}
 use Rattle.store.specs.Books.{AreRowsOf}
 use Rattle.store.specs.Opening.{AreRowsAt}
-use Rattle.store.proofs.OpenedBooks.{third_day, has_day, read_typed, rows_come}
+use Rattle.store.specs.declared.fault.Fault.{Fault}
+use Rattle.store.proofs.OpenedBooks.{third_day, has_day, read_typed, rows_come, rows_came}
 use Rattle.audits.specs.declared.finding.Finding.{Finding}
 use Rattle.audits.specs.declared.finding.Finding.TheVariants.{Sound, Differs, Untyped, Unnumbered, Unspelled, Refused}
 use Rattle.audits.specs.Raising.{IsBegunOver, AreShown, CannotBeRaised}
-use Rattle.audits.specs.Auditing.{AreOfNone, Says, SaysIn, IsFound}
+use Rattle.audits.specs.Auditing.{AreOfNone, Says, SaysIn, IsFound, IsFinding, AreSoundBooks}
 
 -- books that are not of schema 3 stay
 pub shown_still : (old new : State) → IsReady old.now → IsUnchanged old new → ((day : ℤ) → ¬ HasDayAt 3 old.now.trees day) → AreShown Newest old.now.trees new
 shown_still old new ready same none = record {
   ready = subst IsReady (sym same.0.now_is) ready;
   are = inl (ap (λ (d : Database). d.trees) same.0.now_is, none);
-  rows = λ day acts rows. subst (λ (d : Database). AreRowsOf day acts d.trees) (sym same.0.now_is) (elim rows [
-    | inl newest ↦ newest
-    | inr third ↦ absurd (none (today day acts) (third_day old.now.trees day acts third))
-  ]);
+  rows = λ day acts. (
+    λ rows. subst (λ (d : Database). AreRowsOf day acts d.trees) (sym same.0.now_is) (elim rows [
+      | inl newest ↦ newest
+      | inr third ↦ absurd (none (today day acts) (third_day old.now.trees day acts third))
+    ]),
+    λ rows. inl (subst (λ (d : Database). AreRowsOf day acts d.trees) same.0.now_is rows),
+  );
 }
 
+-- what older books come to has the rows of acts exactly where they have
+come_both : (found : Found) (before after : Trees) → ComesTo found before after → (day : ℤ) (acts : List Act) → AreRowsAt found day acts before ↔ AreRowsOf day acts after
+come_both found before after come day acts = (rows_come found before after day acts come, rows_came found before after day acts come)
+
 -- those of schema 3 get the newest number
-pub shown_raised : (old mid new : State) (row : MetaRow) → HasRow 3 old.now.trees row → IsUnchanged old mid → Goes (with_meta row) mid new → (AreTypedAt 3 mid.now.trees → AreTyped new.now.trees) → AreShown Newest old.now.trees new
+pub shown_raised : (old mid new : State) (row : MetaRow) → HasRow 3 old.now.trees row → IsUnchanged old mid → Goes (with_meta row) mid new → AreTypedAt 3 mid.now.trees ↔ AreTyped new.now.trees → AreShown Newest old.now.trees new
 shown_raised old mid new row has same goes typed =
     let it : IsRaised old.now.trees new.now.trees = record {
       day = row.day;
       has = day_of_row 3 old.now.trees row has;
       tables = goes.tables ∙ ap (λ (d : Database). with_meta row (tables_in d.trees)) same.0.now_is ∙ ap (λ (m : Option MetaRow). record (tables_in old.now.trees) { meta = m }) (sym has.found);
-      typed = λ are. typed (subst (λ (d : Database). AreTypedAt 3 d.trees) (sym same.0.now_is) are);
+      typed = (λ are. typed.0 (subst (λ (d : Database). AreTypedAt 3 d.trees) (sym same.0.now_is) are), λ are. subst (λ (d : Database). AreTypedAt 3 d.trees) same.0.now_is (typed.1 are));
     } in
-    record { ready = goes.ready; are = inr it; rows = λ day acts. rows_come Newest old.now.trees new.now.trees day acts (inr it) }
+    record { ready = goes.ready; are = inr it; rows = come_both Newest old.now.trees new.now.trees (inr it) }
 
 -- the row that was read is there
 pub raised_there : (r : Result (Unit {0}) TableFault) (old mid : State) (row : MetaRow) → IsUnchanged old mid → HasRow 3 old.now.trees row → IfErr r (λ e. e ≡ Foreign → (version : ℕ) → meta_at version mid.now.trees ≡ None)
@@ -64,7 +72,7 @@ pub shown_brought : (older : OlderBooks) (base : Trees) (new : State) → IsFill
 shown_brought older base new it = record {
   ready = it.written.ready;
   are = it.written.brought;
-  rows = λ day acts. rows_come (Older older) base new.now.trees day acts it.written.brought;
+  rows = come_both (Older older) base new.now.trees it.written.brought;
 }
 
 -- a transaction that was just begun over books
@@ -81,27 +89,29 @@ raised_of_acts (Older older) trees first acts rows cannot = cannot (today first 
 pub shown_newest : (base : Trees) (old new : State) → old.now.trees ≡ base → AreShown Newest old.now.trees new → AreShown Newest base new
 shown_newest base old new is shown = subst (λ trees. AreShown Newest trees new) is shown
 
--- what follows of what a call ensures where it is done
-pub on_ok_both : {X E : Type 0} (r : Result X E) (A P B C : Type 0) → OnOk r A → (P → OnOk r B) → (A → (P → B) → C) → OnOk r C
-on_ok_both (Ok x) A P B C a b f = f a b
-on_ok_both (Err e) A P B C a b f = tt
-
 -- ---- what is found of the newest is found of those
 
-fewer : (P Q : ℤ → List Act → Type 0) (given : Option ℤ) → ((day : ℤ) (acts : List Act) → Q day acts → P day acts) → AreOfNone P given → AreOfNone Q given
-fewer P Q given so none day acts asked h are = none day acts asked h (so day acts are)
+none_as_well : (P Q : ℤ → List Act → Type 0) (given : Option ℤ) → ((day : ℤ) (acts : List Act) → Q day acts ↔ P day acts) → AreOfNone P given → AreOfNone Q given
+none_as_well P Q given same none day acts asked h are = none day acts asked h ((same day acts).0 are)
 
-says_fewer : (P Q : ℤ → List Act → Type 0) (given : Option ℤ) (trees : Trees) → ((day : ℤ) (acts : List Act) → Q day acts → P day acts) → (f : Finding) → Says P given trees f → Says Q given trees f
-says_fewer P Q given trees so (Sound count day) s = s
-says_fewer P Q given trees so (Differs row) s = (fewer P Q given so s.0, s.1)
-says_fewer P Q given trees so (Untyped name) s = (fewer P Q given so s.0, s.1)
-says_fewer P Q given trees so (Unnumbered k) s = (fewer P Q given so s.0, s.1)
-says_fewer P Q given trees so (Unspelled act) s = (fewer P Q given so s.0, s.1)
-says_fewer P Q given trees so (Refused act why) s = (fewer P Q given so s.0, s.1)
+says_as_well : (P Q : ℤ → List Act → Type 0) (given : Option ℤ) (trees : Trees) → ((day : ℤ) (acts : List Act) → Q day acts ↔ P day acts) → (f : Finding) → Says P given trees f → Says Q given trees f
+says_as_well P Q given trees same (Sound count day) s = record { acts = s.acts; history = s.history; rows = (same day s.acts).1 s.rows; number = s.number; taken = s.taken }
+says_as_well P Q given trees same (Differs row) s = (none_as_well P Q given same s.0, s.1)
+says_as_well P Q given trees same (Untyped name) s = (none_as_well P Q given same s.0, s.1)
+says_as_well P Q given trees same (Unnumbered k) s = (none_as_well P Q given same s.0, s.1)
+says_as_well P Q given trees same (Unspelled act) s = (none_as_well P Q given same s.0, s.1)
+says_as_well P Q given trees same (Refused act why) s = (none_as_well P Q given same s.0, s.1)
+
+-- sound books are those that are opened
+pub sound_books : (r : Result Finding Fault) (given : Option ℤ) (old : State) → IfOk r (IsFinding given old) → (count : ℕ) (first : ℤ) → r ≡ Ok (Sound count first) → AreSoundBooks old count first
+sound_books r given old found count first is =
+    let it : IsFinding given old (Sound count first) = subst (λ (x : Result Finding Fault). IfOk x (IsFinding given old)) is found in
+    let sound = it.finding.says in
+    record { found = it.found; schema = it.schema; acts = sound.acts; history = sound.history; number = sound.number; rows = sound.rows }
 
 pub found_shown : (found : Found) (given : Option ℤ) (base : Trees) (s : State) → AreShown found base s → (f : Finding) → SaysIn s.now.trees given f → IsFound found given base f
 found_shown found given base s shown f says = record {
   compared = s.now.trees;
   are = shown.are;
-  says = says_fewer (λ day acts. AreRowsOf day acts s.now.trees) (λ day acts. AreRowsAt found day acts base) given s.now.trees shown.rows f says;
+  says = says_as_well (λ day acts. AreRowsOf day acts s.now.trees) (λ day acts. AreRowsAt found day acts base) given s.now.trees shown.rows f says;
 }

@@ -78,11 +78,11 @@ abbrev pub IsBegunOn : Option ℤ → List RepeatRow → Tables → ℤ → Type
 IsBegunOn (Some given) rows tables day = day ≡ given
 IsBegunOn None rows tables day = (start : Option Start) × TellFirst (reverse rows) start × (first_day tables start ≡ Some day)
 
--- the rows are those of so many acts, begun on this day
-pub record IsSound (given : Option ℤ) (trees : Trees) (count : ℕ) (day : ℤ) : Type 0 where
+-- the stored rows are so of that many acts, begun on this day
+pub record IsSound (AreOf : ℤ → List Act → Type 0) (given : Option ℤ) (count : ℕ) (day : ℤ) : Type 0 where
   pub acts : List Act
   pub history : IsHistory day acts
-  pub rows : AreRowsOf day acts trees
+  pub rows : AreOf day acts
   pub number : length acts ≡ count
   pub taken : IsTaken given day acts
 
@@ -121,7 +121,7 @@ pub record AreBroken (given : Option ℤ) (tables : Tables) (Break : ℤ → Lis
 
 -- what a finding says of these tables, and of the stored rows that they come of
 abbrev pub Says : (ℤ → List Act → Type 0) → Option ℤ → Trees → Finding → Type 0
-Says AreOf given trees (Sound count day) = IsSound given trees count day
+Says AreOf given trees (Sound count day) = IsSound AreOf given count day
 Says AreOf given trees (Differs row) = AreOfNone AreOf given × (IsOther given row (tables_in trees) ⊎ IsMissing given row (tables_in trees))
 Says AreOf given trees (Untyped name) = AreOfNone AreOf given × ¬ Keeps trees (rule_called name)
 Says AreOf given trees (Unnumbered k) = AreOfNone AreOf given × IsUnnumbered (tables_in trees).repeat k
@@ -143,6 +143,16 @@ pub record IsFinding (given : Option ℤ) (old : State) (f : Finding) : Type 0 w
   pub found : Found
   pub schema : HasSchema found old.now.schema
   pub finding : IsFound found given old.committed.trees f
+
+-- Books as `Books::open` takes them: the schema is that of some books, and the rows that are committed are those of a history
+-- of so many acts, begun on this day
+pub record AreSoundBooks (old : State) (count : ℕ) (first : ℤ) : Type 0 where
+  pub found : Found
+  pub schema : HasSchema found old.now.schema
+  pub acts : List Act
+  pub history : IsHistory first acts
+  pub number : length acts ≡ count
+  pub rows : AreRowsAt found first acts old.committed.trees
 
 -- What is not found
 

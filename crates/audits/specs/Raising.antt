@@ -1,5 +1,5 @@
 -- The newest tables, as those of older books come to them.
-use Rattle.std.specs.Prelude.{◌≡◌, ◌⊎◌, List, ℤ}
+use Rattle.std.specs.Prelude.{◌≡◌, ◌⊎◌, ◌↔◌, List, ℤ}
 use Rattle.sqlite.specs.State.{State}
 use Rattle.sqlite.specs.Tree.{Trees}
 use Rattle.table_words.specs.Steps.{IsReady}
@@ -27,8 +27,8 @@ abbrev pub CannotBeRaised : Found → Trees → Type 0
 CannotBeRaised Newest base = ⊥
 CannotBeRaised (Older older) base = (day : ℤ) → HasDayAt (number older) base day → ¬ AreFillersTyped older base
 
--- it shows those; they have the rows of acts where the tables had that it was begun over
+-- it shows those; they have the rows of acts exactly where the tables had that it was begun over
 pub record AreShown (found : Found) (base : Trees) (s : State) : Type 0 where
   pub ready : IsReady s.now
   pub are : AreNewest found base s.now.trees
-  pub rows : (day : ℤ) (acts : List Act) → AreRowsAt found day acts base → AreRowsOf day acts s.now.trees
+  pub rows : (day : ℤ) (acts : List Act) → AreRowsAt found day acts base ↔ AreRowsOf day acts s.now.trees

@@ -17,20 +17,20 @@ use whole_tables::{Half, Halved, half_rows};
 fn half_alike<T: Compared + Halved, S: Alter, M: Alter>(
     alloc: Global,
     books: &mut Transaction<'_, S>,
-    again: &mut Transaction<'_, M>,
+    replayed: &mut Transaction<'_, M>,
     part: Half,
     middle: &i64,
 ) -> Result<bool, Unread>
     ensures same_reference { books.new.conn.ghost_name ≡ books.old.conn.ghost_name }
-    ensures same_reference_too { again.new.conn.ghost_name ≡ again.old.conn.ghost_name }
-    ensures tells { TellsAlike (SameHalf T.table part middle.now) (state S.Store books.old.conn.now) (state S.Store books.new.conn.now) (state M.Store again.old.conn.now) (state M.Store again.new.conn.now) result }
+    ensures same_reference_too { replayed.new.conn.ghost_name ≡ replayed.old.conn.ghost_name }
+    ensures tells { TellsAlike (SameHalf T.table part middle.now) (state S.Store books.old.conn.now) (state S.Store books.new.conn.now) (state M.Store replayed.old.conn.now) (state M.Store replayed.new.conn.now) result }
 {
     let mine = match half_rows::<T, S>(alloc, books, part, middle) {
         Ok(rows) => rows,
         Err(TableFault::Foreign) => return Err(Unread::Untyped(T::table_name())),
         Err(TableFault::Store(_)) => return Err(Unread::Store),
     };
-    let theirs = match half_rows::<T, M>(alloc, again, part, middle) {
+    let theirs = match half_rows::<T, M>(alloc, replayed, part, middle) {
         Ok(rows) => rows,
         Err(_) => return Err(Unread::Store),
     };
@@ -41,15 +41,15 @@ fn half_alike<T: Compared + Halved, S: Alter, M: Alter>(
 fn halves_alike<T: Compared + Halved, S: Alter, M: Alter>(
     alloc: Global,
     books: &mut Transaction<'_, S>,
-    again: &mut Transaction<'_, M>,
+    replayed: &mut Transaction<'_, M>,
     middle: &i64,
 ) -> Result<bool, Unread>
     ensures same_reference { books.new.conn.ghost_name ≡ books.old.conn.ghost_name }
-    ensures same_reference_too { again.new.conn.ghost_name ≡ again.old.conn.ghost_name }
-    ensures tells { TellsAlike (SameTable T.table) (state S.Store books.old.conn.now) (state S.Store books.new.conn.now) (state M.Store again.old.conn.now) (state M.Store again.new.conn.now) result }
+    ensures same_reference_too { replayed.new.conn.ghost_name ≡ replayed.old.conn.ghost_name }
+    ensures tells { TellsAlike (SameTable T.table) (state S.Store books.old.conn.now) (state S.Store books.new.conn.now) (state M.Store replayed.old.conn.now) (state M.Store replayed.new.conn.now) result }
 {
-    match half_alike::<T, S, M>(alloc, books, again, Half::Lower, middle) {
-        Ok(true) => half_alike::<T, S, M>(alloc, books, again, Half::Upper, middle),
+    match half_alike::<T, S, M>(alloc, books, replayed, Half::Lower, middle) {
+        Ok(true) => half_alike::<T, S, M>(alloc, books, replayed, Half::Upper, middle),
         other => other,
     }
 }
@@ -59,16 +59,16 @@ fn halves_alike<T: Compared + Halved, S: Alter, M: Alter>(
 fn compare_halves<T: Compared + Halved, S: Alter, M: Alter>(
     alloc: Global,
     books: &mut Transaction<'_, S>,
-    again: &mut Transaction<'_, M>,
+    replayed: &mut Transaction<'_, M>,
     middle: &i64,
 ) -> Told
     ensures same_reference { books.new.conn.ghost_name ≡ books.old.conn.ghost_name }
-    ensures same_reference_too { again.new.conn.ghost_name ≡ again.old.conn.ghost_name }
-    ensures tells { Tells (SameTable T.table) (state S.Store books.old.conn.now) (state S.Store books.new.conn.now) (state M.Store again.old.conn.now) (state M.Store again.new.conn.now) result }
+    ensures same_reference_too { replayed.new.conn.ghost_name ≡ replayed.old.conn.ghost_name }
+    ensures tells { Tells (SameTable T.table) (state S.Store books.old.conn.now) (state S.Store books.new.conn.now) (state M.Store replayed.old.conn.now) (state M.Store replayed.new.conn.now) result }
 {
-    match halves_alike::<T, S, M>(alloc, books, again, middle) {
+    match halves_alike::<T, S, M>(alloc, books, replayed, middle) {
         Ok(true) => Ok(None),
-        Ok(false) => compare::<T, S, M>(alloc, books, again),
+        Ok(false) => compare::<T, S, M>(alloc, books, replayed),
         Err(unread) => Err(unread),
     }
 }
@@ -77,16 +77,16 @@ fn compare_halves<T: Compared + Halved, S: Alter, M: Alter>(
 pub(crate) fn next_halves<T: Compared + Halved, S: Alter, M: Alter>(
     alloc: Global,
     books: &mut Transaction<'_, S>,
-    again: &mut Transaction<'_, M>,
+    replayed: &mut Transaction<'_, M>,
     middle: &i64,
     so_far: Told,
 ) -> Told
     ensures same_reference { books.new.conn.ghost_name ≡ books.old.conn.ghost_name }
-    ensures same_reference_too { again.new.conn.ghost_name ≡ again.old.conn.ghost_name }
-    ensures tells { TellsNext S.Store M.Store (SameTable T.table) so_far books.old.conn.now books.new.conn.now again.old.conn.now again.new.conn.now result }
+    ensures same_reference_too { replayed.new.conn.ghost_name ≡ replayed.old.conn.ghost_name }
+    ensures tells { TellsNext S.Store M.Store (SameTable T.table) so_far books.old.conn.now books.new.conn.now replayed.old.conn.now replayed.new.conn.now result }
 {
     match so_far {
-        Ok(None) => compare_halves::<T, S, M>(alloc, books, again, middle),
+        Ok(None) => compare_halves::<T, S, M>(alloc, books, replayed, middle),
         _ => so_far,
     }
 }

@@ -18,18 +18,18 @@ pub(crate) type Told = Result<Option<RowKey>, Unread>;
 pub(crate) fn compare<T: Compared, S: Alter, M: Alter>(
     alloc: Global,
     books: &mut Transaction<'_, S>,
-    again: &mut Transaction<'_, M>,
+    replayed: &mut Transaction<'_, M>,
 ) -> Told
     ensures same_reference { books.new.conn.ghost_name ≡ books.old.conn.ghost_name }
-    ensures same_reference_too { again.new.conn.ghost_name ≡ again.old.conn.ghost_name }
-    ensures tells { Tells (SameTable T.table) (state S.Store books.old.conn.now) (state S.Store books.new.conn.now) (state M.Store again.old.conn.now) (state M.Store again.new.conn.now) result }
+    ensures same_reference_too { replayed.new.conn.ghost_name ≡ replayed.old.conn.ghost_name }
+    ensures tells { Tells (SameTable T.table) (state S.Store books.old.conn.now) (state S.Store books.new.conn.now) (state M.Store replayed.old.conn.now) (state M.Store replayed.new.conn.now) result }
 {
     let mut mine = match all_rows::<T, S>(alloc, books) {
         Ok(rows) => rows,
         Err(TableFault::Foreign) => return Err(Unread::Untyped(T::table_name())),
         Err(TableFault::Store(_)) => return Err(Unread::Store),
     };
-    let mut theirs = match all_rows::<T, M>(alloc, again) {
+    let mut theirs = match all_rows::<T, M>(alloc, replayed) {
         Ok(rows) => rows,
         Err(_) => return Err(Unread::Store),
     };
@@ -40,15 +40,15 @@ pub(crate) fn compare<T: Compared, S: Alter, M: Alter>(
 pub(crate) fn next<T: Compared, S: Alter, M: Alter>(
     alloc: Global,
     books: &mut Transaction<'_, S>,
-    again: &mut Transaction<'_, M>,
+    replayed: &mut Transaction<'_, M>,
     so_far: Told,
 ) -> Told
     ensures same_reference { books.new.conn.ghost_name ≡ books.old.conn.ghost_name }
-    ensures same_reference_too { again.new.conn.ghost_name ≡ again.old.conn.ghost_name }
-    ensures tells { TellsNext S.Store M.Store (SameTable T.table) so_far books.old.conn.now books.new.conn.now again.old.conn.now again.new.conn.now result }
+    ensures same_reference_too { replayed.new.conn.ghost_name ≡ replayed.old.conn.ghost_name }
+    ensures tells { TellsNext S.Store M.Store (SameTable T.table) so_far books.old.conn.now books.new.conn.now replayed.old.conn.now replayed.new.conn.now result }
 {
     match so_far {
-        Ok(None) => compare::<T, S, M>(alloc, books, again),
+        Ok(None) => compare::<T, S, M>(alloc, books, replayed),
         _ => so_far,
     }
 }

@@ -1,6 +1,6 @@
 //! An audit.
 
-ghost use Rattle.std.specs.Prelude.{◌≡◌, ◌⊎◌, ℕ, ℤ, List, Some, None, false, IfOk, IfErr, IsErr, reverse};
+ghost use Rattle.std.specs.Prelude.{◌≡◌, ◌⊎◌, ℕ, ℤ, List, Some, None, Ok, false, IfOk, IfErr, IsErr, reverse};
 ghost use Rattle.sqlite.specs.Held.{state};
 ghost use Rattle.sqlite.specs.State.{HasCleanDisk, Survives};
 ghost use Rattle.sqlite.specs.Tree.{Trees};
@@ -17,7 +17,7 @@ ghost use Rattle.tables.specs.declared.opening.Found.{Found as FoundBooks};
 ghost use Rattle.whole_tables.specs.Whole.{AreAll};
 ghost use Rattle.replays.specs.Spelled.{AreRepeats};
 ghost use Rattle.audits.specs.Raising.{IsBegunOver, CannotBeRaised};
-ghost use Rattle.audits.specs.Auditing.{IsHeld, SaysIn, IsFound, IsFinding, AreNotRaised, IsLeftAlone, told_unread};
+ghost use Rattle.audits.specs.Auditing.{IsHeld, SaysIn, IsFound, IsFinding, AreSoundBooks, AreNotRaised, IsLeftAlone, told_unread};
 
 use crate::begun::{Begun, first_day};
 use crate::comparing::compare_tables;
@@ -49,20 +49,20 @@ fn tell_unread(unread: Unread) -> Result<Finding, Fault>
 fn hold_against<S: Alter, M: Honest + Drop>(
     alloc: Global,
     tx: &mut Transaction<'_, S>,
-    again: Connection<M>,
+    replayed: Connection<M>,
     acts: usize,
     day: BusinessDay,
 ) -> Result<Finding, Fault>
-    requires outside { again.in_transaction ≡ false }
+    requires outside { replayed.in_transaction ≡ false }
     ensures same_reference { tx.new.conn.ghost_name ≡ tx.old.conn.ghost_name }
-    ensures held { HasCleanDisk (state S.Store tx.new.conn.now) → IsReady (state S.Store tx.old.conn.now).now → (done : List Act) → IsBooksOf day done (state M.Store again).now
+    ensures held { HasCleanDisk (state S.Store tx.new.conn.now) → IsReady (state S.Store tx.old.conn.now).now → (done : List Act) → IsBooksOf day done (state M.Store replayed).now
         → IfOk result (IsHeld day done acts (state S.Store tx.old.conn.now).now.trees) }
     ensures fault { IfErr result (λ e. e ≡ StoreFault) }
     ensures survives { Survives (state S.Store tx.old.conn.now) (state S.Store tx.new.conn.now) (λ _. ⊥) }
 {
-    let mut again = again;
-    let _outside = again.is_autocommit();
-    let mut other = again.transaction();
+    let mut replayed = replayed;
+    let _outside = replayed.is_autocommit();
+    let mut other = replayed.transaction();
     // An act adds one row to most of the tables that grow.
     let middle = middle_of(acts as u64);
     let told = compare_tables(alloc, tx, &mut other, &middle);
@@ -96,7 +96,7 @@ fn do_again<S: Alter, M: Honest + Drop, P: Progress>(
     let acts = rows.as_slice().len();
     rows.reverse();
     match act_rows(alloc, empty, day, rows, progress) {
-        Ok(again) => hold_against(alloc, tx, again, acts, day),
+        Ok(replayed) => hold_against(alloc, tx, replayed, acts, day),
         Err(NotReplayed::Unspelled { act }) => Ok(Finding::Unspelled { act }),
         Err(NotReplayed::Refused { act, why }) => Ok(Finding::Refused { act, why }),
         Err(NotReplayed::Store | NotReplayed::Foreign) => Err(Fault::Store),
@@ -246,8 +246,8 @@ fn audit_in_memory<S: Alter, P: Progress>(
 /// is given, on the one that the tables tell: the day of the books, where no act opens a day or receives; that of the line
 /// of the first receipt in its lot's card, where no act opens a day before it; or else the day before the first that was
 /// opened. Books of an older schema are compared as they would be brought up. `Sound` exactly where the tables are those of
-/// the acts, and else the first difference, as far as memory and the disk suffice. No row is changed, and nothing is
-/// committed. `Foreign` where the tables are not those of books, and where those of an older schema cannot be brought up: never
+/// the acts, and else the first difference, as far as memory and the disk suffice. Sound books are opened by `Books::open`
+/// as those of these acts, and are never `Foreign` to it. No row is changed, and nothing is committed. `Foreign` where the tables are not those of books, and where those of an older schema cannot be brought up: never
 /// on books of a history. `Store` where memory or the disk fails.
 pub fn audit<S: Orderly + Drop, P: Progress>(
     alloc: Global,
@@ -257,6 +257,7 @@ pub fn audit<S: Orderly + Drop, P: Progress>(
 ) -> (Leftover<S>, Result<Finding, Fault>)
     requires outside { conn.in_transaction ≡ false }
     ensures found { IsCleanLeft S.Store result.0 → IfOk result.1 (IsFinding given (state S.Store conn)) }
+    ensures sound { IsCleanLeft S.Store result.0 → (acts : ℕ) (day : ℤ) → result.1 ≡ Ok (Finding.Sound acts day) → AreSoundBooks (state S.Store conn) acts day }
     ensures foreign { IsCleanLeft S.Store result.0 → IfErr result.1 (λ e. e ≡ ForeignFault → IsOfNone (state S.Store conn).now.schema ⊎ AreNotRaised (state S.Store conn)) }
     ensures known { IsCleanLeft S.Store result.0 → (found : FoundBooks) → HasSchema found (state S.Store conn).now.schema → (first : ℤ) (acts : List Act) → IsHistory first acts
         → AreRowsAt found first acts (state S.Store conn).committed.trees → IfErr result.1 (λ e. e ≡ StoreFault) }
@@ -264,10 +265,10 @@ pub fn audit<S: Orderly + Drop, P: Progress>(
     ensures left { IsLeftAlone S.Store conn result.0 }
     ensures other { IsOfNone (state S.Store conn).now.schema → IsErr result.1 }
 {
-    let (mut again, found) = match ready(alloc, conn) {
+    let (mut checked, found) = match ready(alloc, conn) {
         Ok(opened) => opened,
         Err((left, fault)) => return (left, Err(Fault::from(fault))),
     };
-    let finding = audit_in_memory(alloc, &mut again, found, given, progress);
-    (Leftover::Connection(again), finding)
+    let finding = audit_in_memory(alloc, &mut checked, found, given, progress);
+    (Leftover::Connection(checked), finding)
 }

@@ -11,7 +11,7 @@ use std::alloc::Global;
 use std::process::Abort;
 use values::{Counted, Delta, Gtin, LineNo, Lot, LotId, Name, Qty, Title};
 
-/// The oat drink. Every lot in the rows of the tests is of it.
+/// The oat drink. A lot in the rows of the tests is of it, where nothing else is said.
 pub const OATS: &str = "09506000134352";
 
 /// The rye bread, of which there are no units.
@@ -45,7 +45,7 @@ pub struct Sample {
     pub urgents: &'static str,
     /// Order, GTIN, units ordered, units shipped.
     pub lines: &'static str,
-    /// Order, lot, units.
+    /// Order, lot, units. Before a lot of another item than the oat drink its GTIN stands.
     pub staged: &'static str,
     /// Order, lot, units.
     pub reserved: &'static str,
@@ -320,11 +320,15 @@ impl Written for LineRow {
     }
 }
 
-// Units of a lot that are an order's: the order, the lot, the units.
+// Units of a lot that are an order's: the order, the lot, the units. Before a lot of another item its GTIN stands.
 fn units(rt: &impl Abort, text: &str) -> (Name, LotId, u64) {
     let (order, rest) = cut(rt, text);
-    let (taken, units) = cut(rt, rest);
-    (name(rt, order), lot(rt, taken), number(rt, units))
+    let (taken, units) = rest.rsplit_once('|').expect(rt, "units");
+    let taken = match taken.split_once('|') {
+        Some((item, text)) => lot_of_item(rt, item, text),
+        None => lot(rt, taken),
+    };
+    (name(rt, order), taken, number(rt, units))
 }
 
 impl Written for StagedRow {

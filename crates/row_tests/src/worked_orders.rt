@@ -168,6 +168,50 @@ fn puts_units_back(rt: HostRuntime) {
     expect(&rt, rt.alloc(), UNPICKING.as_slice());
 }
 
+// The first order wants bread too, and has it on its stage.
+const WITH_BREAD: Sample = Sample {
+    lines: "S-1|09506000134352|12|0\n\
+        S-1|04012345000016|2|0\n\
+        S-2|09506000134352|12|0",
+    staged: "S-1|L0|5\nS-1|04012345000016|N1|2",
+    ..L0_STAGED
+};
+
+const ALL_WITH_BREAD: Sample = Sample {
+    lines: WITH_BREAD.lines,
+    staged: "S-1|04012345000016|N1|2\nS-1|L0|5\nS-1|L2|7",
+    ..ALL_STAGED
+};
+
+// The bread changes nothing of what is picked and put back of the oat drink.
+static BESIDE_BREAD: [Worked; 2] = [
+    Worked {
+        before: WITH_BREAD,
+        told: Told::Pick("S-1", "L2", "A-01", 7),
+        changes: b"meta 2026-05-04 12 0\n\
+            put stock 09506000134352 L2 A-01 3\n\
+            put staged S-1 09506000134352 L2 7\n\
+            drop reserved S-1 09506000134352 L2 7\n\
+            {\"act\":12}",
+    },
+    Worked {
+        before: ALL_WITH_BREAD,
+        told: Told::Unpick("S-1", "L2", "Q-01", 3),
+        changes: b"meta 2026-05-04 13 0\n\
+            put stock 09506000134352 L2 Q-01 3\n\
+            put staged S-1 09506000134352 L2 4\n\
+            put reserved S-1 09506000134352 L2 3\n\
+            put reserved S-2 09506000134352 L1 10\n\
+            drop reserved S-2 09506000134352 L2 3\n\
+            {\"act\":13}",
+    },
+];
+
+#[test]
+fn other_items_on_the_stage_change_nothing(rt: HostRuntime) {
+    expect(&rt, rt.alloc(), BESIDE_BREAD.as_slice());
+}
+
 // Two lots of one expiry, whose texts are in the other order than their receipts, one of them in a
 // HOLD bin too; a held lot, a recalled one, one that expired yesterday, one that expires today.
 const LOTS_OF_ALL_KINDS: Sample = Sample {

@@ -10,6 +10,7 @@ use Rattle.commands.specs.declared.rows.MetaRow.{MetaRow}
 use Rattle.sqlite_value.specs.declared.value.Value.{Value}
 use Rattle.sqlite_value.specs.declared.value.Value.TheVariants.{Int}
 use Rattle.sqlite_value.specs.Order.{Row, column}
+use Rattle.sqlite_keyed.proofs.ListLemmas.{all_weaker}
 use Rattle.sqlite_trees.specs.declared.store.Store.{Ghosts}
 use Rattle.sqlite_trees.specs.View.{doubt}
 use Rattle.sqlite.specs.Effect.{Database}
@@ -46,7 +47,7 @@ use Rattle.machine.proofs.histories.OlderBooks.{first_books_go_on, second_books_
 use Rattle.store.specs.Books.{AreRowsOf, KeepsBooks}
 use Rattle.store.specs.Faults.{fault_of}
 use Rattle.store.specs.declared.fault.Fault.{Fault}
-use Rattle.store.specs.Opening.{third_number, AreThirdRowsOf, AreOlderRowsOf, AreRowsAt, AreFoundRows, MayCome, IsOpenedFrom, IsOpenedAsFound, IsLeftOver, unlimited}
+use Rattle.store.specs.Opening.{third_number, AreThirdRowsOf, AreOlderRowsOf, OlderRowsGoOn, AreRowsAt, AreFoundRows, MayCome, IsOpenedFrom, IsOpenedAsFound, IsLeftOver, unlimited}
 use Rattle.store.specs.declared.fault.Fault.TheVariants.{Store, Foreign}
 
 -- ---- faults
@@ -97,7 +98,7 @@ older_meta : (older : OlderBooks) (trees : Trees) (first : ℤ) (acts : List Act
 older_meta First trees first acts rows = rows.typed.0
 older_meta Second trees first acts rows = rows.typed.0
 
-same_meta_as : (older : OlderBooks) (t : Tables) → (as_older older t).meta ≡ t.meta
+same_meta_as : (older : OlderBooks) (t : Tables) → (as_brought older (as_older older t)).meta ≡ t.meta
 same_meta_as First t = refl
 same_meta_as Second t = refl
 
@@ -105,7 +106,7 @@ older_day : (older : OlderBooks) (trees : Trees) (first : ℤ) (acts : List Act)
 unfolding tables_of
 older_day older trees first acts rows =
     let seen : Tables = record (tables_in trees) { meta = meta_at (number older) trees } in
-    let same : meta_at (number older) trees ≡ (tables_of first acts).meta = sym (same_meta_as older seen) ∙ ap (λ (t : Tables). t.meta) rows.tables ∙ same_meta_as older (tables_of first acts) in
+    let same : meta_at (number older) trees ≡ (tables_of first acts).meta = sym (same_meta_as older seen) ∙ ap (λ (t : Tables). t.meta) rows.tables in
     record {
       typed = typed_among (λ r. is_meta_at (number older) r ≡ true) (λ r. is_the_number 1 (column r 0)) (trees meta_tree) (older_meta older trees first acts rows);
       found = ap (option_map (λ (m : MetaRow). m.day)) same;
@@ -269,21 +270,32 @@ unlimited_survives {S} g old mid new P is s =
     subst (λ (h : Held S). Survives (unlimited (state g old)) (state g h) P) (sym is)
     (record { clean = s.clean; shield = s.shield; counts = s.counts; limit = refl; closes = s.closes; crash = s.crash })
 
--- what older books come to is the tables of the same acts
+-- what a program of an older schema leaves comes to the tables of the same acts
 goes_on : (older : OlderBooks) (first : ℤ) (acts : List Act) → are_of_schema (number older) acts ≡ true → as_brought older (as_older older (tables_of first acts)) ≡ tables_of first acts
 goes_on First first acts old = first_books_go_on first acts old
 goes_on Second first acts old = second_books_go_on first acts old
 
+pub older_rows_go_on : OlderRowsGoOn
+older_rows_go_on older first acts trees rows = record { tables = ap (as_brought older) rows.tables ∙ goes_on older first acts rows.older_acts; typed = rows.typed }
+
 -- rows that were kept are those of the acts, and so are those that came of older ones
 pub rows_come : (found : Found) (before after : Trees) (first : ℤ) (acts : List Act) → ComesTo found before after → AreRowsAt found first acts before → AreRowsOf first acts after
 rows_come Newest before after first acts (inl kept) (inl rows) = record { tables = tables_same before after kept.rows ∙ rows.tables; typed = typed_same before after kept.rows rows.typed }
-rows_come Newest before after first acts (inr raised) (inr rows) = record { tables = raised.tables ∙ rows.tables; typed = raised.typed rows.typed }
+rows_come Newest before after first acts (inr raised) (inr rows) = record { tables = raised.tables ∙ rows.tables; typed = raised.typed.0 rows.typed }
 rows_come Newest before after first acts (inl kept) (inr rows) = absurd (no_day SCHEMA_VERSION third_number refl before kept.day rows.typed.0 kept.has)
 rows_come Newest before after first acts (inr raised) (inl rows) = absurd (no_day third_number SCHEMA_VERSION refl before raised.day (newest_meta before rows.typed) raised.has)
 rows_come (Older older) before after first acts brought rows = record {
-  tables = brought.tables ∙ ap (as_brought older) rows.tables ∙ goes_on older first acts rows.older_acts;
-  typed = brought.typed rows.typed;
+  tables = brought.tables ∙ rows.tables;
+  typed = brought.typed.0 rows.typed;
 }
+
+-- and where what they come to has the rows of acts, they have
+pub rows_came : (found : Found) (before after : Trees) (first : ℤ) (acts : List Act) → ComesTo found before after → AreRowsOf first acts after → AreRowsAt found first acts before
+rows_came Newest before after first acts (inl kept) rows =
+    let back = all_weaker (λ t. after t.tree ≡ before t.tree) (λ t. before t.tree ≡ after t.tree) (λ t is. sym is) the_tables kept.rows in
+    inl (record { tables = tables_same after before back ∙ rows.tables; typed = typed_same after before back rows.typed })
+rows_came Newest before after first acts (inr raised) rows = inr (record { tables = sym raised.tables ∙ rows.tables; typed = raised.typed.1 rows.typed })
+rows_came (Older older) before after first acts brought rows = record { tables = sym brought.tables ∙ rows.tables; typed = brought.typed.1 rows.typed }
 
 -- a connection that was found open keeps the books of the acts, as whichever books they were found
 keeps_books : {S : Type 0} (g : Ghosts S) (old new : Held S) (it : IsOpenedFrom g old new) (first : ℤ) (acts : List Act) (day : ℤ) → HasDayIn it.found (state g old).committed.trees day → HasCleanDisk (state g new)

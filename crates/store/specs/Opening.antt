@@ -7,7 +7,7 @@ use Rattle.sqlite.specs.State.{State, HasCleanDisk, Survives}
 use Rattle.sqlite.specs.Tree.{Trees}
 use Rattle.table_words.specs.Steps.{IsReady}
 use Rattle.table_words.specs.Typed.{AreTypedAt}
-use Rattle.tables.specs.Bringing.{as_older, older_tables_in, AreOlderTyped}
+use Rattle.tables.specs.Bringing.{as_older, as_brought, older_tables_in, AreOlderTyped}
 use Rattle.tables.specs.Indexing.{KeepsRows}
 use Rattle.tables.specs.Older.{number}
 pub use Rattle.tables.specs.Opening.{HasSchema, IsOfNone}
@@ -36,8 +36,13 @@ pub record AreThirdRowsOf (first : ℤ) (acts : List Act) (trees : Trees) : Type
   pub tables : third_tables_in trees ≡ tables_of first acts
   pub typed : AreTypedAt third_number trees
 
--- the rows of older books are those of the acts, none of which has a command of a newer schema
+-- the rows of older books are those of the acts: the newest tables that they come to are
 pub record AreOlderRowsOf (older : OlderBooks) (first : ℤ) (acts : List Act) (trees : Trees) : Type 0 where
+  pub tables : as_brought older (older_tables_in older trees) ≡ tables_of first acts
+  pub typed : AreOlderTyped older trees
+
+-- as a program of that schema leaves them: its tables are those of the acts, none of which has a command of a newer schema
+pub record AreLeftByOlder (older : OlderBooks) (first : ℤ) (acts : List Act) (trees : Trees) : Type 0 where
   pub tables : older_tables_in older trees ≡ as_older older (tables_of first acts)
   pub typed : AreOlderTyped older trees
   pub older_acts : are_of_schema (number older) acts ≡ true
@@ -46,6 +51,10 @@ pub record AreOlderRowsOf (older : OlderBooks) (first : ℤ) (acts : List Act) (
 abbrev pub AreRowsAt : Found → ℤ → List Act → Trees → Type 0
 AreRowsAt Newest first acts trees = AreRowsOf first acts trees ⊎ AreThirdRowsOf first acts trees
 AreRowsAt (Older older) first acts trees = AreOlderRowsOf older first acts trees
+
+-- what a program of an older schema leaves are rows of the acts
+abbrev pub OlderRowsGoOn : Type 0
+OlderRowsGoOn = (older : OlderBooks) (first : ℤ) (acts : List Act) (trees : Trees) → AreLeftByOlder older first acts trees → AreRowsAt (Older older) first acts trees
 
 -- as books of the newest schema or of an older one have them
 abbrev pub AreFoundRows : ℤ → List Act → Trees → Type 0

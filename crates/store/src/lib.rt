@@ -9,6 +9,7 @@ mod each_fault;
 mod fault;
 mod filing;
 mod knowing;
+pub mod laws;
 mod lot_rows;
 mod outside;
 mod repeats;

@@ -11,9 +11,9 @@ returns-in-Ok-true-clause-tells g c =
     let o = state g.S.Store c.args.books.now.conn.now in
     let m = state g.S.Store c.half_alike.new.books.conn.now in
     let n = state g.S.Store c.half_alike-in-Ok-true.new.books.conn.now in
-    let b = state g.M.Store c.args.again.now.conn.now in
-    let e = state g.M.Store c.half_alike.new.again.conn.now in
-    let f = state g.M.Store c.half_alike-in-Ok-true.new.again.conn.now in
+    let b = state g.M.Store c.args.replayed.now.conn.now in
+    let e = state g.M.Store c.half_alike.new.replayed.conn.now in
+    let f = state g.M.Store c.half_alike-in-Ok-true.new.replayed.conn.now in
     let r = c.half_alike-in-Ok-true.result in
     halves_alike d g.met.T.Table.laws middle o n b f r
     (both_alike (SameHalf d Lower middle) o m b e c.in-Ok-true.field-0 c.in-Ok-true.ensures.tells (SameHalf d Upper middle) n f r c.in-Ok-true.field-0-test c.half_alike-in-Ok-true.ensures.tells)

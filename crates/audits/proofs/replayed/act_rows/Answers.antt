@@ -3,7 +3,7 @@ use Rattle.label.specs.Days.{is_business_day}
 use Rattle.sqlite.specs.Held.{state}
 use Rattle.slices.specs.Books.{IsBooksOf}
 use Rattle.audits.specs.Auditing.{AreNone}
-use Rattle.audits.proofs.Again.{none_of}
+use Rattle.audits.proofs.Unreplayed.{none_of}
 use Rattle.audits.proofs.replayed.act_rows.Goals as goal
 
 pub returns-in-Ok-replay_rows-clause-done : goal.returns-in-Ok-replay_rows-clause-done

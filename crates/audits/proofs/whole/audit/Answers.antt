@@ -13,7 +13,7 @@ use Rattle.audits.specs.Raising.{CannotBeRaised}
 use Rattle.audits.specs.Auditing.{IsFound, IsFinding, AreNotRaised}
 use Rattle.audits.proofs.Telling.{earlier}
 use Rattle.audits.proofs.Findings.{if_ok_then, store_left}
-use Rattle.audits.proofs.Raised.{raised_of_acts}
+use Rattle.audits.proofs.Raised.{raised_of_acts, sound_books}
 use Rattle.audits.proofs.whole.audit.Goals as goal
 
 pub returns-clause-left : goal.returns-clause-left
@@ -33,38 +33,41 @@ returns-clause-left g c =
 pub returns-clause-found : goal.returns-clause-found
 returns-clause-found g c = λ clean.
     let old = state g.S.Store c.args.conn in
-    let again = state g.S.Store c.in-Ok.opened.0 in
+    let checked = state g.S.Store c.in-Ok.opened.0 in
     let new = state g.S.Store c.audit_in_memory-finding.new.conn in
     let found = c.in-Ok.opened.1 in
     let was = c.in-Ok.ensures in
     let done = c.audit_in_memory-finding.ensures in
-    let before : HasCleanDisk again = earlier again new done.survives clean in
-    if_ok_then c.audit_in_memory-finding.result (IsFound found c.args.given again.now.trees) (IsFinding c.args.given old)
+    let before : HasCleanDisk checked = earlier checked new done.survives clean in
+    if_ok_then c.audit_in_memory-finding.result (IsFound found c.args.given checked.now.trees) (IsFinding c.args.given old)
     (λ f is. record { found = found; schema = was.found; finding = subst (λ (trees : Trees). IsFound found c.args.given trees f) (was.same before) is }) (done.found clean (was.ready before))
+
+pub returns-clause-sound : goal.returns-clause-sound
+returns-clause-sound g c = λ clean. sound_books c.audit_in_memory-finding.result c.args.given (state g.S.Store c.args.conn) (returns-clause-found g c clean)
 
 pub returns-clause-foreign : goal.returns-clause-foreign
 returns-clause-foreign g c = λ clean.
     let old = state g.S.Store c.args.conn in
-    let again = state g.S.Store c.in-Ok.opened.0 in
+    let checked = state g.S.Store c.in-Ok.opened.0 in
     let found = c.in-Ok.opened.1 in
     let was = c.in-Ok.ensures in
     let done = c.audit_in_memory-finding.ensures in
-    let before : HasCleanDisk again = earlier again (state g.S.Store c.audit_in_memory-finding.new.conn) done.survives clean in
-    if_err c.audit_in_memory-finding.result (λ e. e ≡ Foreign → CannotBeRaised found again.now.trees) (λ e. e ≡ Foreign → IsOfNone old.now.schema ⊎ AreNotRaised old) (done.foreign clean (was.ready before))
+    let before : HasCleanDisk checked = earlier checked (state g.S.Store c.audit_in_memory-finding.new.conn) done.survives clean in
+    if_err c.audit_in_memory-finding.result (λ e. e ≡ Foreign → CannotBeRaised found checked.now.trees) (λ e. e ≡ Foreign → IsOfNone old.now.schema ⊎ AreNotRaised old) (done.foreign clean (was.ready before))
     (λ e cannot is. inr (record { found = found; schema = was.found; foreign = subst (CannotBeRaised found) (was.same before) (cannot is) }))
 
 pub returns-clause-known : goal.returns-clause-known
 returns-clause-known g c = λ clean at schema first acts history rows.
     let old = state g.S.Store c.args.conn in
-    let again = state g.S.Store c.in-Ok.opened.0 in
+    let checked = state g.S.Store c.in-Ok.opened.0 in
     let found = c.in-Ok.opened.1 in
     let was = c.in-Ok.ensures in
     let done = c.audit_in_memory-finding.ensures in
-    let before : HasCleanDisk again = earlier again (state g.S.Store c.audit_in_memory-finding.new.conn) done.survives clean in
+    let before : HasCleanDisk checked = earlier checked (state g.S.Store c.audit_in_memory-finding.new.conn) done.survives clean in
     let same : at ≡ found = one_found at found old.now.schema schema was.found in
-    let own : AreRowsAt found first acts again.now.trees =
+    let own : AreRowsAt found first acts checked.now.trees =
     subst (AreRowsAt found first acts) (sym (was.same before)) (subst (λ (f : Found). AreRowsAt f first acts old.committed.trees) same rows) in
-    store_left c.audit_in_memory-finding.result (CannotBeRaised found again.now.trees) (raised_of_acts found again.now.trees first acts own) (done.foreign clean (was.ready before)) done.fault
+    store_left c.audit_in_memory-finding.result (CannotBeRaised found checked.now.trees) (raised_of_acts found checked.now.trees first acts own) (done.foreign clean (was.ready before)) done.fault
 
 pub returns-in-Err-clause-foreign : goal.returns-in-Err-clause-foreign
 returns-in-Err-clause-foreign g c = λ clean is. inl (c.in-Err.ensures.foreign (foreign_if c.in-Err.fault (sym c.from.ensures ∙ is)))

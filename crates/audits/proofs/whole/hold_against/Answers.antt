@@ -11,9 +11,9 @@ returns-in-Ok-None-clause-held g c = λ clean ready done books.
     let o = state g.S.Store c.args.tx.now.conn.now in
     let n = state g.S.Store c.compare_tables-told.new.books.conn.now in
     let b = state g.M.Store c.transaction-other.result.conn.now in
-    let d = state g.M.Store c.compare_tables-told.new.again.conn.now in
+    let d = state g.M.Store c.compare_tables-told.new.replayed.conn.now in
     let shown : IsBooksOf c.args.day done b.now = subst (λ h. IsBooksOf c.args.day done (state g.M.Store h).now) (sym c.transaction-other.ensures.begun) books in
-    let seen : AreSeen o n b d = record { clean = clean; clean_too = g.met.M.Honest.always_clean c.compare_tables-told.new.again.conn.now.store; ready = ready; ready_too = shown.ready } in
+    let seen : AreSeen o n b d = record { clean = clean; clean_too = g.met.M.Honest.always_clean c.compare_tables-told.new.replayed.conn.now.store; ready = ready; ready_too = shown.ready } in
     let told : Tells SameTables o n b d (Ok None) = subst (λ r. Tells SameTables o n b d r) (c.in-Ok-None.is ∙ ap (λ x. Ok x) c.in-Ok-None.field-0-is) c.compare_tables-told.ensures.tells in
     (refl, refl, held_same o n b d c.args.day done seen shown told)
 
@@ -22,9 +22,9 @@ returns-in-Ok-Some-clause-held g c = λ clean ready done books.
     let o = state g.S.Store c.args.tx.now.conn.now in
     let n = state g.S.Store c.compare_tables-told.new.books.conn.now in
     let b = state g.M.Store c.transaction-other.result.conn.now in
-    let d = state g.M.Store c.compare_tables-told.new.again.conn.now in
+    let d = state g.M.Store c.compare_tables-told.new.replayed.conn.now in
     let shown : IsBooksOf c.args.day done b.now = subst (λ h. IsBooksOf c.args.day done (state g.M.Store h).now) (sym c.transaction-other.ensures.begun) books in
-    let seen : AreSeen o n b d = record { clean = clean; clean_too = g.met.M.Honest.always_clean c.compare_tables-told.new.again.conn.now.store; ready = ready; ready_too = shown.ready } in
+    let seen : AreSeen o n b d = record { clean = clean; clean_too = g.met.M.Honest.always_clean c.compare_tables-told.new.replayed.conn.now.store; ready = ready; ready_too = shown.ready } in
     let told : Tells SameTables o n b d (Ok (Some c.in-Ok-Some.row)) = subst (λ r. Tells SameTables o n b d r) (c.in-Ok-Some.is ∙ ap (λ x. Ok x) c.in-Ok-Some.field-0-is) c.compare_tables-told.ensures.tells in
     held_other o n b d c.args.day done seen shown c.in-Ok-Some.row told
 
@@ -33,8 +33,8 @@ returns-clause-held g c = λ clean ready done books.
     let o = state g.S.Store c.args.tx.now.conn.now in
     let n = state g.S.Store c.compare_tables-told.new.books.conn.now in
     let b = state g.M.Store c.transaction-other.result.conn.now in
-    let d = state g.M.Store c.compare_tables-told.new.again.conn.now in
+    let d = state g.M.Store c.compare_tables-told.new.replayed.conn.now in
     let shown : IsBooksOf c.args.day done b.now = subst (λ h. IsBooksOf c.args.day done (state g.M.Store h).now) (sym c.transaction-other.ensures.begun) books in
-    let seen : AreSeen o n b d = record { clean = clean; clean_too = g.met.M.Honest.always_clean c.compare_tables-told.new.again.conn.now.store; ready = ready; ready_too = shown.ready } in
+    let seen : AreSeen o n b d = record { clean = clean; clean_too = g.met.M.Honest.always_clean c.compare_tables-told.new.replayed.conn.now.store; ready = ready; ready_too = shown.ready } in
     let told : Tells SameTables o n b d (Err c.in-Err.unread) = subst (λ r. Tells SameTables o n b d r) c.in-Err.is c.compare_tables-told.ensures.tells in
     subst (λ r. IfOk r (IsHeld c.args.day done c.args.acts o.now.trees)) (sym c.tell_unread.ensures.told) (held_unread c.args.day done c.args.acts o.now.trees c.in-Err.unread (held_untyped o n b d c.args.day done seen shown c.in-Err.unread told))
