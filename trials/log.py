@@ -1,6 +1,6 @@
 """The log of `lotd serve --log`: a line for each request, with its method, its target, the status and the bytes of its
-answer, and nothing of its head or body; nothing without `--log`; and the same answers where the log goes to a full disk,
-to a pipe that nobody reads any more, or nowhere.
+answer, and nothing of its head or body; nothing without `--log`; and where the log goes to a full disk, to a pipe that
+nobody reads any more, or nowhere, the same answer to the first request, behind which the server ends with status 1.
 Needs the Rattle kit, and takes a second.
 Exit status 0 only if every answer and every line was the expected one.
 """
@@ -52,6 +52,14 @@ def answers(words=(), errors=subprocess.PIPE, program=lotd):
     return told, serving.fault
 
 
+def answered_once(errors, program=lotd):
+    """What the first request is answered by a server whose log takes nothing, and the status with which it ends."""
+    with server.Server(program, db, port, len(SENT), ["--log"], errors) as serving:
+        with asked(port, SENT[0][0]) as peer:
+            told = bytes_of(peer)
+        return told, serving.process.wait(timeout=60)
+
+
 def is_told(what, expected, got):
     if expected != got:
         fail(what, expected, got)
@@ -84,11 +92,12 @@ with open(log, "rb") as file:
     is_told("the log", lines(told), file.read())
 print("> with --log a line for each request:\n" + lines(told).decode(), end="", flush=True)
 
+once = (expected[0], 1)
 with open("/dev/full", "wb") as full:
-    is_told("the answers with a log that is full", expected, answers(["--log"], full)[0])
+    is_told("the end with a log that is full", once, answered_once(full))
 reader, writer = os.pipe()
 os.close(reader)
-is_told("the answers with a log that nobody reads", expected, answers(["--log"], writer)[0])
+is_told("the end with a log that nobody reads", once, answered_once(writer))
 os.close(writer)
-is_told("the answers without standard error", expected, answers(["--log"], None, without_standard_error())[0])
-print("> a log that cannot be written changes no answer", flush=True)
+is_told("the end without standard error", once, answered_once(None, without_standard_error()))
+print("> a log that cannot be written changes no answer, and ends the server", flush=True)

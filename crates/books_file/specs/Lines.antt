@@ -48,7 +48,7 @@ module _ {D : Type 0} (g : Ghosts D) (held : Image) (files : List ℕ → Option
   pub record IsWorkDone (opened closed : Held (FileStore D g)) (end : Result Unit Fault) : Type 0 where
     pub found : HasCleanDisk (file_state closed) → IsOver opened
     pub judged : IsJudged over_files opened work (Ok (closed, end))
-    pub worked : HasCleanDisk (file_state closed) → IsWorked over_files opened work log_old log_new closed
+    pub worked : HasCleanDisk (file_state closed) → IsWorked over_files opened work log_old log_new end closed
     pub told : HasCleanDisk (file_state closed) → IsTold over_files files opened work old new end closed
 
   -- the file was opened, the work was done, and the file closed

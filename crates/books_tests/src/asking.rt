@@ -119,6 +119,7 @@ fn answers_no_requests<S: Alter>(rt: &impl Abort, house: &mut House<S>) {
     }
 }
 
+// The house serves this, and tells whether the log took its line.
 fn is_served<S: Alter, L: Write>(
     rt: &impl Abort,
     alloc: Global,
@@ -126,12 +127,13 @@ fn is_served<S: Alter, L: Write>(
     asked: &str,
     expected: &str,
     log: &mut L,
-) {
+) -> bool {
     let mut reader = asked.as_bytes();
     let mut writer: Vec<u8> = Vec::new(alloc);
     let served = house.serve_logged(&mut reader, &mut writer, log);
-    assert!(rt; served == Ok(()));
+    assert!(rt; served.answered == Ok(()));
     is_answer(rt, writer.as_slice(), asked, expected);
+    served.logged.is_ok()
 }
 
 /// The house serves what the exchange says, and logs it, though the log takes a few bytes at once.
@@ -144,7 +146,7 @@ pub(crate) fn served_exchange<S: Alter>(
     let asked = request(alloc, line).expect(rt, "a request");
     let expected = answer(alloc, line).expect(rt, "an answer");
     let mut log = Receiver::sipping(alloc, 3);
-    is_served(
+    let is_logged = is_served(
         rt,
         alloc,
         house,
@@ -152,6 +154,7 @@ pub(crate) fn served_exchange<S: Alter>(
         expected.as_str(),
         &mut log,
     );
+    assert!(rt; is_logged);
     let logged = logged(alloc, line, expected.len()).expect(rt, "a line of the log");
     assert!(rt;
         log.taken.as_slice() == logged.as_str().as_bytes(),
@@ -159,12 +162,13 @@ pub(crate) fn served_exchange<S: Alter>(
     );
 }
 
-// A log that takes less than a line changes no answer.
+// A log that takes less than a line changes no answer, and is told.
 fn serves_no_requests<S: Alter>(rt: &impl Abort, alloc: Global, house: &mut House<S>) {
     for row in NO_REQUESTS.as_slice() {
         let mut room = [0; 8];
         let mut log = room.as_mut_slice();
-        is_served(rt, alloc, house, row.0, row.1, &mut log);
+        assert!(rt; !is_served(rt, alloc, house, row.0, row.1, &mut log));
+        assert!(rt; row.0.as_bytes().starts_with(room.as_slice()));
     }
 }
 
@@ -174,7 +178,8 @@ fn is_full<S: Alter>(rt: &impl Abort, alloc: Global, house: &mut House<S>) {
     let mut writer = room.as_mut_slice();
     let mut log: Vec<u8> = Vec::new(alloc);
     let served = house.serve_logged(&mut reader, &mut writer, &mut log);
-    assert!(rt; served == Err(ServeFault::Write));
+    assert!(rt; served.answered == Err(ServeFault::Write));
+    assert!(rt; served.logged.is_ok());
     assert!(rt; log.as_slice() == b"GET /items 405 133\n".as_slice());
 }
 

@@ -25,7 +25,7 @@ pub enum Fault {
     Audit(AuditFault),
     /// A date on the line is no business day, or a GTIN or a lot breaks its rule.
     Value,
-    /// The output could not be written.
+    /// The port is taken, a file cannot be read, or the output or a line of the log could not be written.
     Io,
     /// Memory, the disk or a size did not suffice, or the path is no database.
     Store,

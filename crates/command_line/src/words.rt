@@ -104,7 +104,7 @@ program, and else 1. Then standard error has `lotd: ` and one of these:
                  or disk or memory did not suffice
   foreign books  other tables than the books', or (init) there are tables
   io             the port is taken, the file to import cannot be read, or the
-                 output cannot be written
+                 output or a line of the log cannot be written
   value          a day, a GTIN or a lot breaks its rule
   U02 row 3, ..  what is asked is refused, by this code
 

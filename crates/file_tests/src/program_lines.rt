@@ -2,6 +2,7 @@
 //! told, and the exit status, byte for byte. The file is opened for each line and closed after it.
 
 use crate::over_host::line_status;
+use book_trials::Receiver;
 use sqlite::Unknown;
 use std::fs;
 use std::io::{self, ErrorKind, Read, Write};
@@ -34,6 +35,8 @@ enum Turn {
     /// Words are no line, and this is told.
     Misused(&'static [&'static str], &'static str),
     Served(Served),
+    /// The same, where standard error takes what is logged and no more: the line ends once its client has its answer.
+    Unlogged(Served),
     /// No file is there.
     HasNone(&'static str),
 }
@@ -78,12 +81,18 @@ fn output<'a>(host: &'a HostRuntime, port: u16, request: &'static [u8]) -> Out<'
 }
 
 // Runs a line over the files of the host, and compares its exit status and what it tells.
-fn runs(rt: &impl Abort, words: &[&str], status: u8, told: &str, out: &mut Out<'_>) {
+fn runs(
+    rt: &impl Abort,
+    words: &[&str],
+    status: u8,
+    told: &str,
+    out: &mut Out<'_>,
+    err: &mut Receiver,
+) {
     let host = out.host;
-    let mut err: Vec<u8> = Vec::new(host.alloc());
-    let found = line_status(host, Unknown, words, out, &mut err);
+    let found = line_status(host, Unknown, words, out, err);
     assert!(rt; found == status, "{told:?}");
-    assert!(rt; err.as_slice() == told.as_bytes(), "{told:?}");
+    assert!(rt; err.taken.as_slice() == told.as_bytes(), "{told:?}");
 }
 
 fn line_runs(
@@ -95,7 +104,8 @@ fn line_runs(
     told: &str,
 ) {
     let mut out = output(host, 0, b"");
-    runs(rt, words, status, told, &mut out);
+    let mut err = Receiver::whole(host.alloc());
+    runs(rt, words, status, told, &mut out, &mut err);
     assert!(rt; out.printed.as_slice() == printed.as_bytes(), "{printed:?}");
 }
 
@@ -105,7 +115,16 @@ fn free_port(host: &HostRuntime, rt: &impl Abort) -> u16 {
     listener.local_addr().expect(rt, "an address").port()
 }
 
-fn serves(host: &HostRuntime, rt: &impl Abort, served: &Served) {
+// Runs a line that serves so many connections, of which one comes.
+fn serves(
+    host: &HostRuntime,
+    rt: &impl Abort,
+    served: &Served,
+    max: &str,
+    status: u8,
+    err: Receiver,
+) {
+    let mut err = err;
     let port = free_port(host, rt);
     let word = format!(in host.alloc(); "{port}").expect(rt, "memory");
     let words = [
@@ -116,17 +135,18 @@ fn serves(host: &HostRuntime, rt: &impl Abort, served: &Served) {
         "--port",
         word.as_str(),
         "--max",
-        "1",
+        max,
         "--log",
     ];
     let mut out = output(host, port, served.request);
-    runs(rt, words.as_slice(), 0, served.logged, &mut out);
+    let logged = served.logged;
+    runs(rt, words.as_slice(), status, logged, &mut out, &mut err);
     let told = format!(in host.alloc(); "listening on 127.0.0.1:{port}\n").expect(rt, "memory");
     assert!(rt; out.printed.as_slice() == told.as_str().as_bytes());
     let mut answer = Vec::new(host.alloc());
     let mut client = out.client.expect(rt, "a client");
     client.read_to_end(&mut answer).expect(rt, "an answer");
-    assert!(rt; answer.as_slice() == served.answer, "{:?}", served.logged);
+    assert!(rt; answer.as_slice() == served.answer, "{logged:?}");
 }
 
 fn take(host: &HostRuntime, rt: &impl Abort, turn: &Turn) {
@@ -134,7 +154,11 @@ fn take(host: &HostRuntime, rt: &impl Abort, turn: &Turn) {
         Turn::Done(words, printed) => line_runs(host, rt, *words, 0, *printed, ""),
         Turn::Told(words, told) => line_runs(host, rt, *words, 1, "", *told),
         Turn::Misused(words, told) => line_runs(host, rt, *words, 2, "", *told),
-        Turn::Served(served) => serves(host, rt, served),
+        Turn::Served(served) => serves(host, rt, served, "1", 0, Receiver::whole(host.alloc())),
+        Turn::Unlogged(served) => {
+            let err = Receiver::failing(host.alloc(), served.logged.len());
+            serves(host, rt, served, "2", 1, err);
+        }
         Turn::HasNone(path) => assert!(rt; !fs::exists(host, *path).expect(rt, "a folder")),
     }
 }
@@ -161,7 +185,7 @@ const RECALLED: &[u8] =
     b"HTTP/1.1 200 OK\r\ncontent-type: application/json\r\ncontent-length: 22\r\nconnection: close\r\n\r\n{\"act\":5,\"returned\":0}";
 
 // No books are there; they are made, filled over a port and from a file, asked, recalled, read back and held against their acts.
-static TURNS: [Turn; 38] = [
+static TURNS: [Turn; 39] = [
     Turn::Told(
         &["lotd", "card", "--db", DB, "09506000134352", "L2"],
         "lotd: store\n",
@@ -206,6 +230,11 @@ static TURNS: [Turn; 38] = [
         request: NEW_BIN,
         answer: BIN_MADE,
         logged: "POST /bins 200 98\n",
+    }),
+    Turn::Unlogged(Served {
+        request: NEW_BIN,
+        answer: BIN_MADE,
+        logged: "POST /bins 2",
     }),
     Turn::Told(
         &["lotd", "import", "--db", DB, "program_lines/none.csv"],

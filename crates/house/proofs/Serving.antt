@@ -1,7 +1,7 @@
 -- What is read of a reader and written to a writer.
-use Rattle.std.proofs.Common.{◌≡◌, ◌≢◌, ℕ, false, List, ◌++◌, Option, refl, sym, subst, inl, inr, ◌⊎◌}
+use Rattle.std.proofs.Common.{◌≡◌, ◌≢◌, ◌∙◌, ℕ, false, List, [], ◌++◌, Option, Ok, Err, refl, sym, ap, subst, inl, inr, ◌⊎◌, append-nil}
 use Rattle.std.specs.Prelude.{Result}
-use Rattle.std.specs.Io.KnownBytes.{IsAtEnd}
+use Rattle.std.specs.Io.KnownBytes.{Appends, IsAtEnd}
 use Rattle.requests.specs.Requests.{IsReading}
 use Rattle.requests.specs.Laws.{needs_more}
 use Rattle.requests.specs.declared.fault.WireFault.TheVariants.{Head, Length, Json, Field, Path, Method, TooLarge, Memory}
@@ -10,9 +10,9 @@ use Rattle.requests.specs.declared.request.Read.TheVariants.{Need, Bad, Request}
 use Rattle.house.specs.Answers.{no_memory}
 use Rattle.texts.specs.Writing.{Writes}
 use Rattle.wire.specs.declared.serving.ServeFault.{ServeFault}
-use Rattle.wire.specs.Logging.{IsLogged}
-use Rattle.wire.proofs.LogLines.{logged_of_beginning}
-use Rattle.house.specs.Serving.{IsWhole}
+use Rattle.wire.specs.Logging.{log_line}
+use Rattle.wire.proofs.LogLines.{line_of_beginning, begun_by}
+use Rattle.house.specs.Serving.{IsWhole, HasLine, IsLogged}
 
 settled_text : (text bytes : List ℕ) (to : Option (List ℕ)) (r : Read) → IsReading text r → needs_more r ≡ false → IsWhole text to ⊎ (bytes ≡ no_memory)
 settled_text text bytes to r read n = inl (inl (r, read, n))
@@ -35,7 +35,25 @@ whole text bytes to (Bad TooLarge) read (inl n) memory = settled_text text bytes
 pub writes : (r : Result (Unit {0}) ServeFault) (old new : Option (List ℕ)) (written bytes : List ℕ) → written ≡ bytes → Writes r old new written → Writes r old new bytes
 writes r old new written bytes e h = subst (Writes r old new) e h
 
+-- nothing of a text was lost, or there was no memory
+answered_no_memory : (lost bytes : List ℕ) (r : Read) → (r ≡ Bad Memory → bytes ≡ no_memory) → (lost ≡ []) ⊎ (r ≡ Bad Memory) → (lost ≡ []) ⊎ (bytes ≡ no_memory)
+answered_no_memory lost bytes r memory (inl none) = inl none
+answered_no_memory lost bytes r memory (inr is) = inr (memory is)
+
+module _ (old new : Option (List ℕ)) (bytes kept lost : List ℕ) where
+  has_line : (lost ≡ []) ⊎ (bytes ≡ no_memory) → (log_line kept bytes ≡ []) ⊎ (log_line (kept ++ lost) bytes ≡ log_line kept bytes) → Appends old new (log_line kept bytes) → HasLine old new (kept ++ lost) bytes
+  has_line (inl all) same h = inl (subst (λ t. Appends old new (log_line t bytes)) (sym (ap (λ l. kept ++ l) all ∙ append-nil kept)) h)
+  has_line (inr memory) (inr same) h = inl (subst (Appends old new) (sym same) h)
+  has_line (inr memory) (inl none) h = inr (memory, subst (Appends old new) none h)
+
+  logged : {X E : Type 0} (end : Result X E) → (lost ≡ []) ⊎ (bytes ≡ no_memory) → Writes end old new (log_line kept bytes) → IsLogged end old new (kept ++ lost) bytes
+  logged (Ok done) some h = has_line some (line_of_beginning kept lost bytes) h
+  logged (Err fault) some h = begun_by old new _ _ (line_of_beginning kept lost bytes) h
+
 -- the line that is written of what was kept of a text is that of the text
-pub logs : (old new : Option (List ℕ)) (text kept lost seen bytes wanted : List ℕ) → text ≡ kept ++ lost → seen ≡ kept → bytes ≡ wanted → IsLogged old new seen bytes → IsLogged old new text wanted
-logs old new text kept lost seen bytes wanted parts is_kept is_wanted h =
-    subst (λ t. IsLogged old new t wanted) (sym parts) (logged_of_beginning old new kept lost wanted (subst (IsLogged old new kept) is_wanted (subst (λ t. IsLogged old new t bytes) is_kept h)))
+pub logs : {X E : Type 0} (end : Result X E) (old new : Option (List ℕ)) (text kept lost seen written bytes : List ℕ) (r : Read) → text ≡ kept ++ lost → seen ≡ kept → written ≡ bytes
+    → (r ≡ Bad Memory → bytes ≡ no_memory) → (lost ≡ []) ⊎ (r ≡ Bad Memory) → Writes end old new (log_line seen written) → IsLogged end old new text bytes
+logs end old new text kept lost seen written bytes r parts is_kept is_bytes memory some h =
+    subst (λ t. IsLogged end old new t bytes) (sym parts)
+    (logged old new bytes kept lost end (answered_no_memory lost bytes r memory some)
+    (subst (λ b. Writes end old new (log_line kept b)) is_bytes (subst (λ t. Writes end old new (log_line t written)) is_kept h)))

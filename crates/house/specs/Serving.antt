@@ -1,6 +1,6 @@
 -- What is read of a reader and written to a writer. `from` and `to` are the bytes that the reader had left, where they are known.
-use Rattle.std.specs.Prelude.{◌≡◌, ◌≢◌, ◌⊎◌, ℕ, List, false, Option, ℤ, codes}
-use Rattle.std.specs.Io.KnownBytes.{Consumes, IsAtEnd}
+use Rattle.std.specs.Prelude.{◌≡◌, ◌≢◌, ◌⊎◌, ℕ, List, [], false, Option, Result, Ok, Err, ℤ, codes}
+use Rattle.std.specs.Io.KnownBytes.{Appends, Consumes, IsAtEnd}
 use Rattle.sqlite_trees.specs.declared.store.Store.{Ghosts}
 use Rattle.machine.specs.Acts.{Act}
 use Rattle.machine.specs.Once.{IsHistory}
@@ -9,7 +9,8 @@ use Rattle.requests.specs.Laws.{needs_more}
 use Rattle.requests.specs.declared.fault.WireFault.TheVariants.{Memory}
 use Rattle.requests.specs.declared.request.Read.{Read}
 use Rattle.requests.specs.declared.request.Read.TheVariants.{Bad}
-use Rattle.wire.specs.Logging.{IsLogged}
+use Rattle.texts.specs.Writing.{AppendsBeginning}
+use Rattle.wire.specs.Logging.{log_line}
 use Rattle.store.specs.Books.{HoldsBooks, AreAsBefore}
 use Rattle.store.specs.Connected.{Connected}
 use Rattle.house.specs.Answers.{no_memory, status_of}
@@ -41,6 +42,15 @@ pub record IsServedAnyhow {S : Type 0} (g : Ghosts S) (from to : Option (List �
   pub steps : (first : ℤ) (acts : List Act) → IsHistory first acts → HoldsBooks g first acts was → StepsTo g first acts text bytes was books
   pub written : IsWritten bytes
 
--- the same, and the log got the line of the text and its answer
-abbrev pub IsServedAndLogged : {S : Type 0} → Ghosts S → ℤ → List Act → (from to : Option (List ℕ)) → (was books : Connected S) → (List ℕ → Type 0) → (old new : Option (List ℕ)) → Type 0
-IsServedAndLogged g first acts from to was books IsWritten old new = (s : IsServed g first acts from to was books IsWritten) × IsLogged old new s.text s.bytes
+-- the log got the line of a text and its answer. Where there was no memory for the text it may have got none.
+abbrev pub HasLine : (old new : Option (List ℕ)) → (text bytes : List ℕ) → Type 0
+HasLine old new text bytes = Appends old new (log_line text bytes) ⊎ ((bytes ≡ no_memory) × Appends old new [])
+
+-- the log got that line, and a beginning of it where it failed
+abbrev pub IsLogged : {X E : Type 0} → Result X E → (old new : Option (List ℕ)) → (text bytes : List ℕ) → Type 0
+IsLogged (Ok done) old new text bytes = HasLine old new text bytes
+IsLogged (Err fault) old new text bytes = AppendsBeginning old new (log_line text bytes)
+
+-- the same as `IsServed`, and the text and its answer were logged
+abbrev pub IsServedAndLogged : {S X E : Type 0} → Ghosts S → ℤ → List Act → (from to : Option (List ℕ)) → (was books : Connected S) → (List ℕ → Type 0) → Result X E → (old new : Option (List ℕ)) → Type 0
+IsServedAndLogged g first acts from to was books IsWritten logged old new = (s : IsServed g first acts from to was books IsWritten) × IsLogged logged old new s.text s.bytes

@@ -13,4 +13,5 @@ mod showing;
 pub use answered::Answered;
 pub use house::House;
 pub use lot_texts::{write_card, write_notice};
+pub use serve::Served;
 pub use wire::ServeFault;

@@ -1,19 +1,29 @@
 //! One request from a reader, its answer to a writer, and its line to a log.
 
-ghost use Rattle.std.specs.Prelude.{◌≡◌, ◌≢◌, ℤ, List, Result, Err};
+ghost use Rattle.std.specs.Prelude.{◌≡◌, ◌≢◌, ℤ, List, Result, Ok, Err};
 ghost use Rattle.machine.specs.Acts.{Act};
 ghost use Rattle.machine.specs.Once.{IsHistory};
 ghost use Rattle.texts.specs.Writing.{Writes};
 ghost use Rattle.store.specs.Books.{IsClean, HoldsBooks};
 ghost use Rattle.house.specs.House.{books_of};
-ghost use Rattle.house.specs.Serving.{IsServed, IsServedAnyhow, IsServedAndLogged};
+ghost use Rattle.house.specs.Serving.{IsServed, IsServedAnyhow, IsServedAndLogged, IsLogged};
 
 use crate::House;
 use sqlite::Alter;
 use std::io::{self, Read, Write};
+use texts::TextFault;
 use wire::ServeFault;
 use wire::logging::write_log_line;
 use wire::serving::{read_whole, write_bytes};
+
+/// How a request was served.
+#[derive(Clone, Copy)]
+pub struct Served {
+    /// Whether it was answered: `Read` where the reader failed, `Write` where the writer did.
+    pub answered: Result<(), ServeFault>,
+    /// Whether the log has its line: `TextFault` where the log took a beginning of it, maybe all, and then no more.
+    pub logged: Result<(), TextFault>,
+}
 
 impl<S: Alter> House<S> {
     /// Reads until no more bytes are needed or the reader comes to its end, answers once, and flushes. Where there is no
@@ -34,30 +44,38 @@ impl<S: Alter> House<S> {
             → IsServedAnyhow S.Store (R.remaining reader.old) (R.remaining reader.new) (books_of self.old) (books_of self.new) (Writes result (W.contents writer.old) (W.contents writer.new)) }
         ensures unread { result ≡ Err ServeFault.Read → (books_of self.new ≡ books_of self.old) × (writer.new ≡ writer.old) }
     {
-        self.serve_logged(reader, writer, &mut io::sink())
+        self.serve_logged(reader, writer, &mut io::sink()).answered
     }
 
-    /// The same, and behind the answer the log gets a line, as `write_log_line` has it. Where the reader fails it gets none.
-    /// What the log does not take is lost, and nothing else depends on it.
+    /// The same, and behind the answer the log gets its line, as `write_log_line` has it, whether or not the writer took the
+    /// answer. Where the reader fails it gets none. The answer and the books do not depend on the log.
     pub fn serve_logged<R: Read, W: Write, L: Write>(
         &mut self,
         reader: &mut R,
         writer: &mut W,
         log: &mut L,
-    ) -> Result<(), ServeFault>
+    ) -> Served
         ensures clean { IsClean S.Store (books_of self.new) → IsClean S.Store (books_of self.old) }
         ensures served { IsClean S.Store (books_of self.new)
             → (first : ℤ) (acts : List Act) → IsHistory first acts → HoldsBooks S.Store first acts (books_of self.old)
-            → result ≢ Err ServeFault.Read
-            → IsServedAndLogged S.Store first acts (R.remaining reader.old) (R.remaining reader.new) (books_of self.old) (books_of self.new) (Writes result (W.contents writer.old) (W.contents writer.new)) (L.contents log.old) (L.contents log.new) }
-        ensures as_before { IsClean S.Store (books_of self.new) → result ≢ Err ServeFault.Read
-            → IsServedAnyhow S.Store (R.remaining reader.old) (R.remaining reader.new) (books_of self.old) (books_of self.new) (Writes result (W.contents writer.old) (W.contents writer.new)) }
-        ensures unread { result ≡ Err ServeFault.Read → (books_of self.new ≡ books_of self.old) × (writer.new ≡ writer.old) × (log.new ≡ log.old) }
+            → result.answered ≢ Err ServeFault.Read
+            → IsServedAndLogged S.Store first acts (R.remaining reader.old) (R.remaining reader.new) (books_of self.old) (books_of self.new) (Writes result.answered (W.contents writer.old) (W.contents writer.new)) result.logged (L.contents log.old) (L.contents log.new) }
+        ensures as_before { IsClean S.Store (books_of self.new) → result.answered ≢ Err ServeFault.Read
+            → (s : IsServedAnyhow S.Store (R.remaining reader.old) (R.remaining reader.new) (books_of self.old) (books_of self.new) (Writes result.answered (W.contents writer.old) (W.contents writer.new)))
+            × IsLogged result.logged (L.contents log.old) (L.contents log.new) s.text s.bytes }
+        ensures unread { result.answered ≡ Err ServeFault.Read → (books_of self.new ≡ books_of self.old) × (writer.new ≡ writer.old) × (log.new ≡ log.old) × (result.logged ≡ Ok tt) }
     {
-        let heard = read_whole(self.alloc, &mut self.routes, reader)?;
-        let answer = self.answer_reading(&heard.reading);
-        let end = write_bytes(writer, answer.as_bytes());
-        write_log_line(heard.text.as_slice(), answer.as_bytes(), log);
-        end
+        match read_whole(self.alloc, &mut self.routes, reader) {
+            Ok(heard) => {
+                let answer = self.answer_reading(&heard.reading);
+                let answered = write_bytes(writer, answer.as_bytes());
+                let logged = write_log_line(heard.text.as_slice(), answer.as_bytes(), log);
+                Served { answered, logged }
+            }
+            Err(fault) => Served {
+                answered: Err(fault),
+                logged: Ok(()),
+            },
+        }
     }
 }

@@ -2,7 +2,7 @@
 
 use crate::lines::{Turn, lines_run};
 use crate::long_lines::{long_books, long_lines_run};
-use crate::serving::{TestClock, clients_served, lines_worked};
+use crate::serving::{TestClock, clients_served, clients_unlogged, lines_worked};
 use book_trials::{Calls, History, Left, Pair, Work, made, over};
 use sqlite::{Connection, Options};
 use std::net::TcpListener;
@@ -16,6 +16,8 @@ enum Doing<'a> {
     History(&'a [History]),
     /// So many clients, and what is logged of them, where there is a log.
     Clients(TestClock<'a>, &'a TcpListener, u32, Option<&'static str>),
+    /// Clients, and a log that takes so many bytes of these lines.
+    Unlogged(&'a TcpListener, usize, &'static str),
     /// Lines that make books, serve them and import.
     Lines(u16),
     LinesRun(&'a [Turn]),
@@ -38,6 +40,9 @@ impl<A: Abort> Work for Done<'_, A> {
             Doing::History(parts) => made(alloc, conn, parts).expect(rt, "the history"),
             Doing::Clients(clock, listener, count, logged) => {
                 clients_served(rt, alloc, conn, clock, listener, count, logged)
+            }
+            Doing::Unlogged(listener, room, lines) => {
+                clients_unlogged(host, rt, conn, listener, room, lines)
             }
             Doing::Lines(port) => lines_worked(host, rt, conn, port),
             Doing::LinesRun(turns) => lines_run(host, rt, conn, turns),
@@ -66,6 +71,19 @@ pub(crate) fn run_clients(
     logged: Option<&'static str>,
 ) {
     let doing = Doing::Clients(clock, listener, count, logged);
+    after(host, rt, &Pair::empty(host.alloc()), doing);
+}
+
+/// Serves clients that wait at the listener, over books in new files, until the log takes no more: so many bytes of these
+/// lines.
+pub(crate) fn run_unlogged(
+    host: &HostRuntime,
+    rt: &impl Abort,
+    listener: &TcpListener,
+    room: usize,
+    lines: &'static str,
+) {
+    let doing = Doing::Unlogged(listener, room, lines);
     after(host, rt, &Pair::empty(host.alloc()), doing);
 }
 

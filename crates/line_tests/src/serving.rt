@@ -1,7 +1,7 @@
 //! Connections that are served over sockets.
 
-use crate::disk::{run_clients, run_lines};
-use book_trials::{first_day, new_books};
+use crate::disk::{run_clients, run_lines, run_unlogged};
+use book_trials::{Receiver, first_day, new_books};
 use command_line::{Fault, FilesAt, Work, tell};
 use house::House;
 use line_books::{AfterWork, NotBegun};
@@ -54,11 +54,32 @@ pub(crate) fn clients_served<S: Alter + Drop>(
     match logged {
         Some(lines) => {
             let mut log: Vec<u8> = Vec::new(alloc);
-            serve_logged(&clock, listener, &mut house, count, &mut log);
+            assert!(rt; serve_logged(&clock, listener, &mut house, count, &mut log).is_ok());
             assert!(rt; log.as_slice() == lines.as_bytes(), "{lines:?}");
         }
         None => serve_on(&clock, listener, &mut house, count),
     }
+    house.close().close()
+}
+
+// A house with new books serves clients that wait at the listener until its log takes no more: so many bytes of the lines.
+pub(crate) fn clients_unlogged<S: Alter + Drop>(
+    host: &HostRuntime,
+    rt: &impl Abort,
+    conn: Connection<S>,
+    listener: &TcpListener,
+    room: usize,
+    lines: &str,
+) -> Connection<S> {
+    let alloc = host.alloc();
+    let mut house = House::new(alloc, new_books(alloc, conn).expect(rt, "new books"));
+    let mut log = Receiver::failing(alloc, room);
+    let end = serve_logged(host, listener, &mut house, 3, &mut log);
+    assert!(rt; end.is_err(), "{room}");
+    assert!(rt;
+        log.taken.len() == room && lines.as_bytes().starts_with(log.taken.as_slice()),
+        "{room}"
+    );
     house.close().close()
 }
 
@@ -107,6 +128,39 @@ fn serves_connections_one_after_another(rt: HostRuntime) {
     is_answered(&rt, rt.alloc(), last, THIRD_MADE);
 }
 
+// No byte of an answer comes.
+fn is_unanswered(rt: &impl Abort, alloc: Global, client: TcpStream) {
+    let mut client = client;
+    let mut answer = Vec::new(alloc);
+    let _ = client.read_to_end(&mut answer);
+    assert!(rt; answer.is_empty());
+}
+
+// Of three clients that wait, each has its answer whose line was begun, and nobody behind the one whose line was cut.
+fn ends_at(host: &HostRuntime, rt: &impl Abort, room: usize) {
+    let listener = TcpListener::bind(host, "127.0.0.1:0").expect(rt, "a listener");
+    let first = sent(host, rt, &listener, NEW_BIN);
+    let second = sent(host, rt, &listener, SECOND_BIN);
+    let third = sent(host, rt, &listener, THIRD_BIN);
+    run_unlogged(host, rt, &listener, room, TWICE_LOGGED);
+    drop(listener);
+    is_answered(rt, host.alloc(), first, BIN_MADE);
+    if room < LINE {
+        is_unanswered(rt, host.alloc(), second);
+    } else {
+        is_answered(rt, host.alloc(), second, SECOND_MADE);
+    }
+    is_unanswered(rt, host.alloc(), third);
+}
+
+// A log that takes no more after each number of bytes of its two first lines.
+#[test]
+fn ends_where_its_log_is_full(rt: HostRuntime) {
+    for room in 0..TWICE_LOGGED.len() {
+        ends_at(&rt, &rt, room);
+    }
+}
+
 // A client that sends nothing is given up after ten seconds. Of one that goes on behind its request all is read, and its
 // end is waited for so long too: a connection that is closed before would be reset, and the answer could be lost.
 #[test]
@@ -148,6 +202,9 @@ const FIVE_LOGGED: &str =
     "POST /bins 200 98\nPOST /bins 400 113\nPOST /bins 200 98\nPOST /bins 200 98\nPOST /bins 200 98\n";
 
 const TWICE_LOGGED: &str = "POST /bins 200 98\nPOST /bins 200 98\n";
+
+/// How many bytes one of these lines has.
+const LINE: usize = 18;
 
 const NEW_BIN: &[u8] =
     b"POST /bins HTTP/1.1\r\nContent-Length: 41\r\n\r\n{\"key\":\"K-1\",\"bin\":\"A-01\",\"kind\":\"STORE\"}";
@@ -315,8 +372,41 @@ fn served<S: Orderly + Drop>(
     ended(rt, host.alloc(), found, "")
 }
 
-// A line makes books, another finds its port taken, a third serves two clients, and two import files: one that is not
-// there, and one of an item that nobody took into the range.
+// The client is answered, and the line ends there, since its log takes less than a line.
+fn ended_by_its_log<S: Orderly + Drop>(
+    host: &HostRuntime,
+    rt: &impl Abort,
+    conn: Connection<S>,
+    port: u16,
+) -> Connection<S> {
+    let mut out = Printed {
+        host,
+        port,
+        told: Vec::new(host.alloc()),
+        listens_elsewhere: false,
+        client: None,
+    };
+    let work = Work::Serve {
+        port,
+        max: 2,
+        log: true,
+    };
+    let mut log = Receiver::failing(host.alloc(), 10);
+    let listener = listen(host, &work).expect(rt, "a port");
+    let at = listener.as_ref();
+    let found = do_work(host, &GoodsFiles, at, conn, &work, &mut out, &mut log);
+    assert!(rt; log.taken.as_slice() == b"POST /bins".as_slice());
+    is_answered(
+        rt,
+        host.alloc(),
+        out.client.expect(rt, "a client"),
+        BIN_MADE,
+    );
+    ended(rt, host.alloc(), found, "lotd: io\n")
+}
+
+// A line makes books, another finds its port taken, a third serves two clients, a fourth ends by its log, and two import
+// files: one that is not there, and one of an item that nobody took into the range.
 pub(crate) fn lines_worked<S: Orderly + Drop>(
     host: &HostRuntime,
     rt: &impl Abort,
@@ -327,6 +417,7 @@ pub(crate) fn lines_worked<S: Orderly + Drop>(
     let conn = silent(host, rt, conn, &Work::Make(day), "");
     taken(host, rt, port);
     let conn = served(host, rt, conn, port);
+    let conn = ended_by_its_log(host, rt, conn, port);
     let none = Work::Import { file: "none.csv" };
     let conn = silent(host, rt, conn, &none, "lotd: io\n");
     let goods = Work::Import { file: "goods.csv" };

@@ -51,16 +51,16 @@ IsServer (Notice lot) = ⊥
 IsServer History = ⊥
 IsServer (Audit given) = ⊥
 
--- what the work makes of a connection, with what the log had and has
-abbrev pub IsWorked : {S : Type 0} → Ghosts S → Held S → Work → (log_old log_new : Option (List ℕ)) → Held S → Type 0
-IsWorked g old (Make day) log_old log_new new = KeepsBooks day [] (state g new) × IsTrue (state g new).is_open
-IsWorked g old (Serve port max log) log_old log_new new = (first : ℤ) (acts : List Act) → IsHistory first acts → AreFoundRows first acts (state g old).committed.trees
-    → KeepsLogged g first acts max new log log_old log_new
-IsWorked g old (Import file) log_old log_new new = (first : ℤ) (acts : List Act) → IsHistory first acts → AreFoundRows first acts (state g old).committed.trees → KeepsFile g first acts new
-IsWorked g old (Card lot) log_old log_new new = (first : ℤ) (acts : List Act) → IsHistory first acts → AreFoundRows first acts (state g old).committed.trees → KeepsBooks first acts (state g new)
-IsWorked g old (Notice lot) log_old log_new new = (first : ℤ) (acts : List Act) → IsHistory first acts → AreFoundRows first acts (state g old).committed.trees → KeepsBooks first acts (state g new)
-IsWorked g old History log_old log_new new = (first : ℤ) (acts : List Act) → IsHistory first acts → AreFoundRows first acts (state g old).committed.trees → KeepsBooks first acts (state g new)
-IsWorked g old (Audit given) log_old log_new new = IsLeftAs g old new
+-- what the work makes of a connection, with what the log had and has, and how it ended
+abbrev pub IsWorked : {S : Type 0} → Ghosts S → Held S → Work → (log_old log_new : Option (List ℕ)) → Result Unit Fault → Held S → Type 0
+IsWorked g old (Make day) log_old log_new end new = KeepsBooks day [] (state g new) × IsTrue (state g new).is_open
+IsWorked g old (Serve port max log) log_old log_new end new = (first : ℤ) (acts : List Act) → IsHistory first acts → AreFoundRows first acts (state g old).committed.trees
+    → KeepsLogged g first acts max new log end log_old log_new
+IsWorked g old (Import file) log_old log_new end new = (first : ℤ) (acts : List Act) → IsHistory first acts → AreFoundRows first acts (state g old).committed.trees → KeepsFile g first acts new
+IsWorked g old (Card lot) log_old log_new end new = (first : ℤ) (acts : List Act) → IsHistory first acts → AreFoundRows first acts (state g old).committed.trees → KeepsBooks first acts (state g new)
+IsWorked g old (Notice lot) log_old log_new end new = (first : ℤ) (acts : List Act) → IsHistory first acts → AreFoundRows first acts (state g old).committed.trees → KeepsBooks first acts (state g new)
+IsWorked g old History log_old log_new end new = (first : ℤ) (acts : List Act) → IsHistory first acts → AreFoundRows first acts (state g old).committed.trees → KeepsBooks first acts (state g new)
+IsWorked g old (Audit given) log_old log_new end new = IsLeftAs g old new
 
 -- on which schema there is no work
 abbrev pub IsJudged : {S : Type 0} → Ghosts S → Held S → Work → Result (Held S × Result Unit Fault) (Leftover S × Fault) → Type 0

@@ -26,15 +26,16 @@ pub fn listen(rt: &HostRuntime, work: &Work<'_>) -> io::Result<Option<TcpListene
 
 /// Does the work with the books over this connection, and gives the connection back. What it prints goes to `out`, and the
 /// log of a server to `log`, where it keeps one. Books that were made are empty; books that were served are those of a run
-/// over at most as many texts as connections were to be answered, for each of which the log has a line, as far as it took
-/// them; books into which a file was imported are those after it, or as they were; books of which a text was printed are
-/// as they were. What was printed is the text that the machine shows of the lot, the acts or the tally of the file, and the
-/// work is refused exactly where the machine refuses. Books of an older schema are brought up as they are opened. An audit
-/// opens none: whatever the tables hold, nothing is committed, and what it tells holds of them; how far it is it shows on
-/// standard error, where that is a terminal. Where the books cannot be made, opened or audited, nothing is printed or logged,
-/// no row is changed, and the error is `Foreign` for other tables and else `Store`, also for a connection within a
-/// transaction; what is left of the connection comes with it. Rows of a history are never `Foreign`. A file that cannot be
-/// opened and output that cannot be written are `Io` beside the connection. A server's port is that of `listen`.
+/// over at most as many texts as connections were to be answered, for each of which the log has its line; books into which
+/// a file was imported are those after it, or as they were; books of which a text was printed are as they were. What was
+/// printed is the text that the machine shows of the lot, the acts or the tally of the file, and the work is refused exactly
+/// where the machine refuses. Books of an older schema are brought up as they are opened. An audit opens none: whatever the
+/// tables hold, nothing is committed, and what it tells holds of them; how far it is it shows on standard error, where that
+/// is a terminal. Where the books cannot be made, opened or audited, nothing is printed or logged, no row is changed, and the
+/// error is `Foreign` for other tables and else `Store`, also for a connection within a transaction; what is left of the
+/// connection comes with it. Rows of a history are never `Foreign`. A file that cannot be opened and output that cannot be
+/// written are `Io` beside the connection. So is a log that takes no more, which ends a server: the client whose line was
+/// cut has its answer. A server's port is that of `listen`.
 pub fn do_work<S: Orderly + Drop, F: FilesAt, W: Write, L: Write>(
     rt: &HostRuntime,
     files: &F,
@@ -46,7 +47,7 @@ pub fn do_work<S: Orderly + Drop, F: FilesAt, W: Write, L: Write>(
 ) -> Result<AfterWork<S>, NotBegun<S>>
     requires listens { Listens work.now listener }
     ensures clean { IfOk result (λ w. HasCleanDisk (state S.Store w.0) → HasCleanDisk (state S.Store conn)) }
-    ensures worked { IfOk result (λ w. HasCleanDisk (state S.Store w.0) → IsWorked S.Store conn work.now (L.contents log.old) (L.contents log.new) w.0) }
+    ensures worked { IfOk result (λ w. HasCleanDisk (state S.Store w.0) → IsWorked S.Store conn work.now (L.contents log.old) (L.contents log.new) w.1 w.0) }
     ensures told { IfOk result (λ w. HasCleanDisk (state S.Store w.0) → IsTold S.Store (F.bytes files.now) conn work.now (W.contents out.old) (W.contents out.new) w.1 w.0) }
     ensures quiet { is_logged work.now ≡ false → log.new ≡ log.old }
     ensures judged { IsJudged S.Store conn work.now result }

@@ -22,9 +22,9 @@ use Rattle.command_line.specs.declared.fault.Fault.{Fault}
 use Rattle.command_line.specs.declared.fault.Fault.TheVariants.{Usage, Label, File, Row, Refused as RefusedText, Audit, Value, Io, Store, Foreign}
 use Rattle.service.specs.Importing.{HasRows, KeepsFile, IsToldOfFile, AreRead, HasFault, IsTakenIn, IsImported, IsFileImported}
 
-pub by_fault : {X : Type 0} (r : Result X Fault) (f : Fault) → IsErr r × IsErrAnd r (λ e. e ≡ f) → (P : Result X Fault → Type 0) → P (Err f) → P r
+pub by_fault : {X F : Type 0} (r : Result X F) (f : F) → IsErr r × IsErrAnd r (λ e. e ≡ f) → (P : Result X F → Type 0) → P (Err f) → P r
 by_fault (Ok x) f h P p = absurd (let no = h.0 in cc)
-by_fault (Err e) f h P p = subst (λ (x : Fault). P (Err x)) (sym h.1) p
+by_fault (Err e) f h P p = subst (λ x. P (Err x)) (sym h.1) p
 
 module _ {S : Type 0} (g : Ghosts S) (first : ℤ) (acts : List Act) where
   -- the bytes are read at the business day

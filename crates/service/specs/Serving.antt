@@ -8,15 +8,17 @@ use Rattle.machine.specs.Acts.{Act}
 use Rattle.machine.specs.Once.{IsHistory}
 use Rattle.store.specs.Connected.{Connected}
 use Rattle.store.specs.Books.{KeepsBooks}
-use Rattle.wire.specs.Logging.{IsLogged}
+use Rattle.texts.specs.Writing.{AppendsBeginning}
+use Rattle.wire.specs.Logging.{log_line}
 use Rattle.house.specs.House.{Run, StepsTo, RunsTo, LeavesBooks}
+use Rattle.house.specs.Serving.{HasLine, IsLogged}
 use Rattle.command_line.specs.declared.fault.Fault.{Fault}
 use Rattle.command_line.specs.declared.fault.Fault.TheVariants.{Io}
 
--- the books and the log are as they were, or one step over some text further
-abbrev pub GoesOn : {S : Type 0} → Ghosts S → ℤ → List Act → Connected S → Connected S → (old new : Option (List ℕ)) → Type 0
-GoesOn g first acts was books old new =
-    ((books ≡ was) × (new ≡ old)) ⊎ ((text : List ℕ) × (bytes : List ℕ) × StepsTo g first acts text bytes was books × IsLogged old new text bytes)
+-- the books and the log are as they were, or one step over some text further; `logged` says whether the log took its line
+abbrev pub GoesOn : {S E : Type 0} → Ghosts S → ℤ → List Act → Connected S → Connected S → (logged : Result Unit E) → (old new : Option (List ℕ)) → Type 0
+GoesOn g first acts was books logged old new =
+    ((books ≡ was) × (new ≡ old) × (logged ≡ Ok tt)) ⊎ ((text : List ℕ) × (bytes : List ℕ) × StepsTo g first acts text bytes was books × IsLogged logged old new text bytes)
 
 -- the books are those of the acts after a run over so many texts at most
 pub record HasServed {S : Type 0} (g : Ghosts S) (first : ℤ) (acts : List Act) (max : ℕ) (was books : Connected S) : Type 0 where
@@ -25,20 +27,37 @@ pub record HasServed {S : Type 0} (g : Ghosts S) (first : ℤ) (acts : List Act)
   pub few : length texts ≤ max
   pub runs : RunsTo g first acts texts answers was books
 
--- the log got a line for each text and its answer, one after another, or a beginning of the line
-abbrev pub AreLogged : (old new : Option (List ℕ)) → (texts answers : List (List ℕ)) → Type 0
-AreLogged old new [] [] = new ≡ old
-AreLogged old new (text ∷ texts) (bytes ∷ answers) = (mid : Option (List ℕ)) × IsLogged old mid text bytes × AreLogged mid new texts answers
-AreLogged old new [] (bytes ∷ answers) = ⊥
-AreLogged old new (text ∷ texts) [] = ⊥
+-- the log got the line of each text and its answer, one after another
+abbrev pub HasLines : (old new : Option (List ℕ)) → (texts answers : List (List ℕ)) → Type 0
+HasLines old new [] [] = new ≡ old
+HasLines old new (text ∷ texts) (bytes ∷ answers) = (mid : Option (List ℕ)) × HasLine old mid text bytes × HasLines mid new texts answers
+HasLines old new [] (bytes ∷ answers) = ⊥
+HasLines old new (text ∷ texts) [] = ⊥
+
+-- the same but for the last one, of whose line it has a beginning
+pub record HasLastCut (old new : Option (List ℕ)) (texts answers : List (List ℕ)) : Type 0 where
+  pub earlier_texts : List (List ℕ)
+  pub earlier_answers : List (List ℕ)
+  pub text : List ℕ
+  pub bytes : List ℕ
+  pub texts_are : texts ≡ earlier_texts ++ text ∷ []
+  pub answers_are : answers ≡ earlier_answers ++ bytes ∷ []
+  pub mid : Option (List ℕ)
+  pub lines : HasLines old mid earlier_texts earlier_answers
+  pub cut : AppendsBeginning mid new (log_line text bytes)
+
+-- Each text and its answer have their line in the log. A fault ends the run: nobody was served, or the last one has a beginning of its line.
+abbrev pub AreLogged : {E : Type 0} → Result Unit E → (old new : Option (List ℕ)) → (texts answers : List (List ℕ)) → Type 0
+AreLogged (Ok done) old new texts answers = HasLines old new texts answers
+AreLogged (Err fault) old new texts answers = ((texts ≡ []) × (new ≡ old)) ⊎ HasLastCut old new texts answers
 
 -- the same, where a log is asked for
-abbrev pub AreLoggedIf : Bool → (old new : Option (List ℕ)) → (texts answers : List (List ℕ)) → Type 0
-AreLoggedIf logged old new texts answers = logged ≡ true → AreLogged old new texts answers
+abbrev pub AreLoggedIf : {E : Type 0} → Bool → Result Unit E → (old new : Option (List ℕ)) → (texts answers : List (List ℕ)) → Type 0
+AreLoggedIf asked end old new texts answers = asked ≡ true → AreLogged end old new texts answers
 
 -- the books are those of the acts after such a run, and its texts and answers are logged
-abbrev pub HasLogged : {S : Type 0} → Ghosts S → ℤ → List Act → ℕ → (was books : Connected S) → Bool → (old new : Option (List ℕ)) → Type 0
-HasLogged g first acts max was books logged old new = (r : HasServed g first acts max was books) × AreLoggedIf logged old new r.texts r.answers
+abbrev pub HasLogged : {S E : Type 0} → Ghosts S → ℤ → List Act → ℕ → (was books : Connected S) → Bool → Result Unit E → (old new : Option (List ℕ)) → Type 0
+HasLogged g first acts max was books asked end old new = (r : HasServed g first acts max was books) × AreLoggedIf asked end old new r.texts r.answers
 
 -- the connection keeps the books of the acts after a run over so many texts at most
 pub record KeepsRun {S : Type 0} (g : Ghosts S) (first : ℤ) (acts : List Act) (max : ℕ) (conn : Held S) : Type 0 where
@@ -53,14 +72,14 @@ pub record KeepsRun {S : Type 0} (g : Ghosts S) (first : ℤ) (acts : List Act) 
   pub kept : LeavesBooks first after (zip texts answers) (state g conn)
 
 -- the same, and its texts and answers are logged
-abbrev pub KeepsLogged : {S : Type 0} → Ghosts S → ℤ → List Act → ℕ → Held S → Bool → (old new : Option (List ℕ)) → Type 0
-KeepsLogged g first acts max conn logged old new = (r : KeepsRun g first acts max conn) × AreLoggedIf logged old new r.texts r.answers
+abbrev pub KeepsLogged : {S E : Type 0} → Ghosts S → ℤ → List Act → ℕ → Held S → Bool → Result Unit E → (old new : Option (List ℕ)) → Type 0
+KeepsLogged g first acts max conn asked end old new = (r : KeepsRun g first acts max conn) × AreLoggedIf asked end old new r.texts r.answers
 
 -- what is printed once the books are open and the port is answered
 abbrev pub told_port : ℕ → List ℕ
 told_port port = codes "listening on 127.0.0.1:" ++ decimal port ++ codes "\n"
 
--- the port was told and served, or the output could not be written
+-- the port was told and served; or the output could not be written, or the log
 abbrev pub IsPortTold : ℕ → (old new : Option (List ℕ)) → Result Unit Fault → Type 0
 IsPortTold port old new (Ok done) = Appends old new (told_port port)
 IsPortTold port old new (Err fault) = fault ≡ Io

@@ -41,7 +41,7 @@ pub fn open_and_serve<S: Orderly + Drop, W: Write, L: Write>(
 ) -> Result<AfterWork<S>, NotBegun<S>>
     ensures clean { IfOk result (λ w. HasCleanDisk (state S.Store w.0) → HasCleanDisk (state S.Store conn)) }
     ensures served { IfOk result (λ w. HasCleanDisk (state S.Store w.0) → (first : ℤ) (acts : List Act) → IsHistory first acts
-        → AreFoundRows first acts (state S.Store conn).committed.trees → KeepsLogged S.Store first acts max w.0 logged (L.contents log.old) (L.contents log.new)) }
+        → AreFoundRows first acts (state S.Store conn).committed.trees → KeepsLogged S.Store first acts max w.0 logged w.1 (L.contents log.old) (L.contents log.new)) }
     ensures quiet { logged ≡ false → log.new ≡ log.old }
     ensures told { IfOk result (λ w. HasCleanDisk (state S.Store w.0) → IsPortTold port (W.contents out.old) (W.contents out.new) w.1) }
     ensures other { IsOfNone (state S.Store conn).now.schema → IsErr result }
@@ -68,7 +68,7 @@ fn serve_books<S: Alter + Drop, W: Write, L: Write>(
 ) -> AfterWork<S>
     ensures clean { HasCleanDisk (state S.Store result.0) → IsClean S.Store books }
     ensures served { HasCleanDisk (state S.Store result.0) → (first : ℤ) (acts : List Act) → IsHistory first acts → HoldsBooks S.Store first acts books
-        → LeavesBooks first acts [] (state S.Store books.conn) → KeepsLogged S.Store first acts max result.0 logged (L.contents log.old) (L.contents log.new) }
+        → LeavesBooks first acts [] (state S.Store books.conn) → KeepsLogged S.Store first acts max result.0 logged result.1 (L.contents log.old) (L.contents log.new) }
     ensures quiet { logged ≡ false → log.new ≡ log.old }
     ensures told { IsPortTold port (W.contents out.old) (W.contents out.new) result.1 }
 {
@@ -199,13 +199,15 @@ fn serve_port<S: Alter + Drop, W: Write, L: Write>(
     ensures clean { IsClean S.Store (books_of house.new) → IsClean S.Store (books_of house.old) }
     ensures served { IsClean S.Store (books_of house.new)
         → (first : ℤ) (acts : List Act) → IsHistory first acts → HoldsBooks S.Store first acts (books_of house.old)
-        → HasLogged S.Store first acts max (books_of house.old) (books_of house.new) logged (L.contents log.old) (L.contents log.new) }
+        → HasLogged S.Store first acts max (books_of house.old) (books_of house.new) logged result (L.contents log.old) (L.contents log.new) }
     ensures quiet { logged ≡ false → log.new ≡ log.old }
     ensures told { IsPortTold port (W.contents out.old) (W.contents out.new) result }
 {
     tell_port(port, out)?;
-    serve_logged_if(rt, logged, listener, house, max, log);
-    Ok(())
+    match serve_logged_if(rt, logged, listener, house, max, log) {
+        Ok(()) => Ok(()),
+        Err(_) => Err(Fault::Io),
+    }
 }
 
 /// Tells that the port is answered.

@@ -6,11 +6,12 @@ ghost use Rattle.house.specs.House.{books_of};
 ghost use Rattle.service.specs.Serving.{GoesOn, HasServed, HasLogged};
 
 use crate::timed::Timed;
-use house::House;
+use house::{House, Served};
 use sqlite::Alter;
 use std::io::{self, Read, Write};
 use std::net::{Shutdown, TcpListener, TcpStream};
 use std::time::{Clock, Instant};
+use texts::TextFault;
 
 /// How long a connection may send, in seconds from when it came.
 const SENDING_SECONDS: u64 = 30;
@@ -36,25 +37,27 @@ pub fn serve_on<C: Clock, S: Alter + Drop>(
         → (first : ℤ) (acts : List Act) → IsHistory first acts → HoldsBooks S.Store first acts (books_of house.old)
         → HasServed S.Store first acts max (books_of house.old) (books_of house.new) }
 {
-    serve_logged(clock, listener, house, max, &mut io::sink());
+    let _ = serve_logged(clock, listener, house, max, &mut io::sink());
 }
 
-/// The same, and the log has a line for each text of the run, as far as it took them.
+/// The same, and the log has the line of each text of the run. Where it takes no more the fault is `TextFault`: the client
+/// whose line was cut has its answer, and nobody is served after it.
 pub fn serve_logged<C: Clock, S: Alter + Drop, L: Write>(
     clock: &C,
     listener: &TcpListener,
     house: &mut House<S>,
     max: u32,
     log: &mut L,
-)
+) -> Result<(), TextFault>
     ensures clean { IsClean S.Store (books_of house.new) → IsClean S.Store (books_of house.old) }
     ensures served { IsClean S.Store (books_of house.new)
         → (first : ℤ) (acts : List Act) → IsHistory first acts → HoldsBooks S.Store first acts (books_of house.old)
-        → HasLogged S.Store first acts max (books_of house.old) (books_of house.new) true (L.contents log.old) (L.contents log.new) }
+        → HasLogged S.Store first acts max (books_of house.old) (books_of house.new) true result (L.contents log.old) (L.contents log.new) }
 {
     for _ in 0..max {
-        serve_next(clock, listener, house, log);
+        serve_next(clock, listener, house, log)?;
     }
+    Ok(())
 }
 
 /// The one or the other.
@@ -65,17 +68,18 @@ pub(crate) fn serve_logged_if<C: Clock, S: Alter + Drop, L: Write>(
     house: &mut House<S>,
     max: u32,
     log: &mut L,
-)
+) -> Result<(), TextFault>
     ensures clean { IsClean S.Store (books_of house.new) → IsClean S.Store (books_of house.old) }
     ensures served { IsClean S.Store (books_of house.new)
         → (first : ℤ) (acts : List Act) → IsHistory first acts → HoldsBooks S.Store first acts (books_of house.old)
-        → HasLogged S.Store first acts max (books_of house.old) (books_of house.new) logged (L.contents log.old) (L.contents log.new) }
+        → HasLogged S.Store first acts max (books_of house.old) (books_of house.new) logged result (L.contents log.old) (L.contents log.new) }
     ensures quiet { logged ≡ false → log.new ≡ log.old }
 {
     if logged {
-        serve_logged(clock, listener, house, max, log);
+        serve_logged(clock, listener, house, max, log)
     } else {
         serve_on(clock, listener, house, max);
+        Ok(())
     }
 }
 
@@ -85,17 +89,18 @@ fn serve_next<C: Clock, S: Alter + Drop, L: Write>(
     listener: &TcpListener,
     house: &mut House<S>,
     log: &mut L,
-)
+) -> Result<(), TextFault>
     ensures clean { IsClean S.Store (books_of house.new) → IsClean S.Store (books_of house.old) }
     ensures step { IsClean S.Store (books_of house.new)
         → (first : ℤ) (acts : List Act) → IsHistory first acts → HoldsBooks S.Store first acts (books_of house.old)
-        → GoesOn S.Store first acts (books_of house.old) (books_of house.new) (L.contents log.old) (L.contents log.new) }
+        → GoesOn S.Store first acts (books_of house.old) (books_of house.new) result (L.contents log.old) (L.contents log.new) }
 {
     if let Ok((stream, _)) = listener.accept() {
         if let Ok(start) = Instant::now(clock) {
-            serve_stream(clock, start, &stream, house, log);
+            return serve_stream(clock, start, &stream, house, log);
         }
     }
+    Ok(())
 }
 
 fn serve_stream<C: Clock, S: Alter + Drop, L: Write>(
@@ -104,11 +109,11 @@ fn serve_stream<C: Clock, S: Alter + Drop, L: Write>(
     stream: &TcpStream,
     house: &mut House<S>,
     log: &mut L,
-)
+) -> Result<(), TextFault>
     ensures clean { IsClean S.Store (books_of house.new) → IsClean S.Store (books_of house.old) }
     ensures step { IsClean S.Store (books_of house.new)
         → (first : ℤ) (acts : List Act) → IsHistory first acts → HoldsBooks S.Store first acts (books_of house.old)
-        → GoesOn S.Store first acts (books_of house.old) (books_of house.new) (L.contents log.old) (L.contents log.new) }
+        → GoesOn S.Store first acts (books_of house.old) (books_of house.new) result (L.contents log.old) (L.contents log.new) }
 {
     let mut reader = Timed {
         stream,
@@ -122,9 +127,11 @@ fn serve_stream<C: Clock, S: Alter + Drop, L: Write>(
         start,
         seconds: ANSWERED_SECONDS,
     };
-    if let Ok(()) = house.serve_logged(&mut reader, &mut writer, log) {
+    let Served { answered, logged } = house.serve_logged(&mut reader, &mut writer, log);
+    if let Ok(()) = answered {
         read_to_the_end(&mut reader);
     }
+    logged
 }
 
 /// A stream that is closed while its client still sends is reset, and the client may lose the answer.

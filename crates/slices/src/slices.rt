@@ -281,12 +281,7 @@ fn slice_in<S: Alter>(
 
 // Forgets the closed orders among the rows that were read, keeps the numbers that were counted, and the rows that are known
 // once a slice has been read.
-fn learn(
-    known: &mut Known,
-    rows: RowsKnown,
-    command: &Command,
-    slice: &Result<Slice, TableFault>,
-)
+fn learn(known: &mut Known, rows: RowsKnown, command: &Command, slice: &Result<Slice, TableFault>)
     ensures met { IfOk slice.now (λ s. Loses (λ g o. has_closed_row s.rows.orders o && has_line_row s.rows.lines g o) known.old.lines known.new.lines) }
     ensures met_urgent { IfOk slice.now (λ s. Loses (λ g o. has_closed_row s.rows.orders o && has_line_row s.rows.lines g o) known.old.urgent known.new.urgent) }
     ensures counted { IfOk slice.now (λ s. known.new.bounds ≡ with_counts command.now s.items s.bins known.old.bounds) }

@@ -1,10 +1,10 @@
 -- The words of a text, and those of one that has grown.
-use Rattle.std.proofs.Common.{◌≡◌, ◌∙◌, ap, refl, sym, subst, ℕ, true, false, Bool, List, [], ◌∷◌, ◌++◌, if◌then◌else◌, Option, Some, None, option_map, Result, Ok, Err, inl, inr, ◌⊎◌, append-nil}
+use Rattle.std.proofs.Common.{◌≡◌, ◌∙◌, ap, refl, sym, subst, ℕ, true, false, Bool, List, [], ◌∷◌, ◌++◌, if◌then◌else◌, Option, Some, None, option_map, inl, inr, ◌⊎◌}
 use Rattle.std.specs.Option.{option_map_or}
 use Rattle.std.specs.Io.KnownBytes.{Appends}
-use Rattle.texts.specs.Writing.{AppendsBeginning, Writes}
+use Rattle.texts.specs.Writing.{AppendsBeginning}
 use Rattle.texts.proofs.Beginnings.{beginning_of_none}
-use Rattle.wire.specs.Logging.{is_gap, without_gap, cut_word, next_word, line_with, line_behind, log_line, IsLogged}
+use Rattle.wire.specs.Logging.{is_gap, without_gap, cut_word, next_word, line_with, line_behind, log_line}
 
 -- a word, and what follows it
 abbrev Cut : Type 0
@@ -61,21 +61,18 @@ module _ (b bytes : List ℕ) where
   grown_line a None e = inl (ap (λ o. option_map_or (λ cut. line_behind cut.0 cut.1 bytes) o []) e)
   grown_line a (Some cut) e = same_line a cut e (grown_behind cut.0 cut.1 (next_word cut.1) refl)
 
--- ---- what was written
+-- a beginning of a text has no line, or that of the text
+pub line_of_beginning : (a b bytes : List ℕ) → IsSameLine (log_line a bytes) (log_line (a ++ b) bytes)
+line_of_beginning a b bytes = grown_line b bytes a (next_word a) refl
 
-pub written : {X E : Type 0} (r : Result X E) (old new : Option (List ℕ)) (text : List ℕ) → Writes r old new text → AppendsBeginning old new text
-written (Ok x) old new text h = record { front = text; rest = []; parts = sym (append-nil text); written = h }
-written (Err e) old new text h = h
+-- ---- what was written
 
 module _ (old new : Option (List ℕ)) where
   nothing : (front rest : List ℕ) → [] ≡ front ++ rest → Appends old new front → Appends old new []
   nothing [] rest e h = h
   nothing (x ∷ xs) rest e h = absurd cc
 
-  logged_by : (a b bytes : List ℕ) → IsSameLine (log_line a bytes) (log_line (a ++ b) bytes) → IsLogged old new a bytes → IsLogged old new (a ++ b) bytes
-  logged_by a b bytes (inl none) h = beginning_of_none old new _ (nothing h.front h.rest (sym none ∙ h.parts) h.written)
-  logged_by a b bytes (inr same) h = subst (AppendsBeginning old new) (sym same) h
-
-  -- what is logged of a beginning of a text is logged of it
-  pub logged_of_beginning : (a b bytes : List ℕ) → IsLogged old new a bytes → IsLogged old new (a ++ b) bytes
-  logged_of_beginning a b bytes h = logged_by a b bytes (grown_line b bytes a (next_word a) refl) h
+  -- a beginning of the line of a beginning of a text is one of the line of the text
+  pub begun_by : (line grown : List ℕ) → IsSameLine line grown → AppendsBeginning old new line → AppendsBeginning old new grown
+  begun_by line grown (inl none) h = beginning_of_none old new _ (nothing h.front h.rest (sym none ∙ h.parts) h.written)
+  begun_by line grown (inr same) h = subst (AppendsBeginning old new) (sym same) h

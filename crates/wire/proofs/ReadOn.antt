@@ -43,6 +43,7 @@ module _ (first from to : Option (List ℕ)) (old : List ℕ) (kept : Vec ℕ) w
     whole = inr h.1;
     lost = [];
     parts = ap (λ t. t ++ []) (sym h.2);
+    kept = inl refl;
   }
   at_stop NoRoom r n was read h = record {
     text = old ++ h.0;
@@ -51,6 +52,7 @@ module _ (first from to : Option (List ℕ)) (old : List ℕ) (kept : Vec ℕ) w
     whole = inl refl;
     lost = h.0;
     parts = ap (λ t. t ++ h.0) (sym h.2);
+    kept = inr refl;
   }
 
 -- a reading that needs no more

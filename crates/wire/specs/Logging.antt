@@ -1,7 +1,6 @@
 -- The line of a log for a request that was answered, as `GET /stock/09506000134352 200 143`.
 use Rattle.std.specs.Prelude.{ℕ, List, [], ◌∷◌, ◌++◌, length, take, drop, map, Bool, nat_lt, if◌then◌else◌, Option, Some, None, option_map, codes, decimal}
 use Rattle.std.specs.Option.{option_map_or}
-use Rattle.texts.specs.Writing.{AppendsBeginning}
 
 -- words are parted by spaces and controls
 abbrev pub is_gap : ℕ → Bool
@@ -46,7 +45,3 @@ line_behind method rest bytes = option_map_or (λ cut. line_with method cut.0 by
 
 abbrev pub log_line : (text bytes : List ℕ) → List ℕ
 log_line text bytes = option_map_or (λ cut. line_behind cut.0 cut.1 bytes) (next_word text) []
-
--- the line was written, or a beginning of it where the log took no more
-abbrev pub IsLogged : (old new : Option (List ℕ)) → (text bytes : List ℕ) → Type 0
-IsLogged old new text bytes = AppendsBeginning old new (log_line text bytes)

@@ -16,9 +16,10 @@ pub record IsRead (from to : Option (List ℕ)) (heard : Heard) : Type 0 where
   pub taken : Consumes from to text
   pub read : heard.reading ≢ Bad Memory → IsReading text heard.reading
   pub whole : (needs_more heard.reading ≡ false) ⊎ IsAtEnd to
-  -- for what was read last there may have been no memory
+  -- what was read last is lost only where there was no memory for it
   pub lost : List ℕ
   pub parts : text ≡ heard.text.items ++ lost
+  pub kept : (lost ≡ []) ⊎ (heard.reading ≡ Bad Memory)
 
 -- what one read adds to the text
 abbrev pub IsTaken : Option (List ℕ) → Option (List ℕ) → List ℕ → List ℕ → Taken → Type 0

@@ -1,23 +1,24 @@
 //! The line of a log for a request that was answered.
 
 ghost use Rattle.std.specs.Prelude.{◌≡◌, ◌+◌, ◌≤◌, ◌++◌, length, take, drop, option_map};
-ghost use Rattle.wire.specs.Logging.{is_gap as is_gap_lem, without_gap as without_gap_lem, cut_word as cut_word_lem, next_word as next_word_lem, shown_byte as shown_byte_lem, shown_word, line_with as line_with_lem, line_behind as line_behind_lem, log_line as log_line_lem, IsLogged};
+ghost use Rattle.wire.specs.Logging.{is_gap as is_gap_lem, without_gap as without_gap_lem, cut_word as cut_word_lem, next_word as next_word_lem, shown_byte as shown_byte_lem, shown_word, line_with as line_with_lem, line_behind as line_behind_lem, log_line as log_line_lem};
+ghost use Rattle.texts.specs.Writing.{Writes};
 
 use crate::Block;
 use std::io::Write;
-use texts::put;
+use texts::{TextFault, put};
 
 /// How many bytes of a method or a target are shown, at most.
 const WORD_MAX: usize = 200;
 
 /// Writes the line of a log for a request and its answer: the method, the target, the status, and how many bytes the
 /// answer has, parted by a space. Of the request its first two words are looked at. A byte of them that is no visible
-/// ASCII is written `?`, and 200 bytes of each at most are written; where the two have not come whole, no line is. What
-/// cannot be written is lost.
-pub fn write_log_line<L: Write>(text: &[u8], answer: &[u8], log: &mut L)
-    ensures { IsLogged (L.contents log.old) (L.contents log.new) text.now answer.now }
+/// ASCII is written `?`, and 200 bytes of each at most are written; where the two have not come whole, no line is. The fault
+/// is `TextFault` where the log takes no more, and a beginning of the line, maybe all of it, was then written.
+pub fn write_log_line<L: Write>(text: &[u8], answer: &[u8], log: &mut L) -> Result<(), TextFault>
+    ensures { Writes result (L.contents log.old) (L.contents log.new) (log_line_lem text.now answer.now) }
 {
-    let _ = put(log_line(text, answer).as_bytes(), log);
+    put(log_line(text, answer).as_bytes(), log)
 }
 
 fn log_line(text: &[u8], answer: &[u8]) -> Block

@@ -54,7 +54,7 @@ static LINES: [(&[u8], &[u8], &str); 14] = [
 
 fn is_logged(end: &impl Abort, alloc: Global, text: &[u8], answer: &[u8], line: &str) {
     let mut log: Vec<u8> = Vec::new(alloc);
-    write_log_line(text, answer, &mut log);
+    assert!(end; write_log_line(text, answer, &mut log).is_ok());
     assert!(end; log.as_slice() == line.as_bytes(), "{line:?}");
 }
 
@@ -73,7 +73,7 @@ fn cuts_a_long_target(rt: HostRuntime) {
     assert!(rt; text.resize(1_000, b'x').is_ok());
     assert!(rt; text.extend_from_slice(b" HTTP/1.1\r\n\r\n").is_ok());
     let mut log: Vec<u8> = Vec::new(rt.alloc());
-    write_log_line(text.as_slice(), REFUSED, &mut log);
+    assert!(rt; write_log_line(text.as_slice(), REFUSED, &mut log).is_ok());
     let mut line: Vec<u8> = Vec::new(rt.alloc());
     assert!(rt; line.extend_from_slice(b"GET /").is_ok());
     assert!(rt; line.resize(204, b'x').is_ok());
@@ -81,11 +81,16 @@ fn cuts_a_long_target(rt: HostRuntime) {
     assert!(rt; log.as_slice() == line.as_slice());
 }
 
-// A log that takes less than a line takes a beginning of it.
+const LINE: [u8; 13] = *b"GET / 200 98\n";
+
+// A log that takes less than a line takes a beginning of it, and the fault is told; one that has just room for it takes it.
 #[test]
-fn writes_a_beginning_to_a_full_log(rt: HostRuntime) {
-    let mut room = [0; 8];
-    let mut log = room.as_mut_slice();
-    write_log_line(b"GET / HTTP/1.1\r\n\r\n", ANSWER, &mut log);
-    assert!(rt; room.as_slice() == b"GET / 20".as_slice());
+fn tells_a_log_that_is_full(rt: HostRuntime) {
+    for count in 0..=LINE.len() {
+        let mut room = [0; LINE.len()];
+        let mut log = &mut room[..count];
+        let end = write_log_line(b"GET / HTTP/1.1\r\n\r\n", ANSWER, &mut log);
+        assert!(rt; end.is_ok() == (count == LINE.len()), "{count}");
+        assert!(rt; room[..count] == LINE[..count], "{count}");
+    }
 }

@@ -12,7 +12,7 @@ returns-in-Make-clause-judged g c = subst (λ w. IsJudged g.S.Store c.args.conn 
 pub returns-in-Serve-clause-worked : goal.returns-in-Serve-clause-worked
 returns-in-Serve-clause-worked g c =
     let at = g.L.Write.contents in
-    subst (λ work. IfOk c.open_and_serve.result (λ w. HasCleanDisk (state g.S.Store w.0) → IsWorked g.S.Store c.args.conn work (at c.args.log.now) (at c.open_and_serve.new.log) w.0))
+    subst (λ work. IfOk c.open_and_serve.result (λ w. HasCleanDisk (state g.S.Store w.0) → IsWorked g.S.Store c.args.conn work (at c.args.log.now) (at c.open_and_serve.new.log) w.1 w.0))
     (sym c.in-Serve.is) c.open_and_serve.ensures.served
 
 pub returns-in-Serve-clause-quiet : goal.returns-in-Serve-clause-quiet
@@ -24,7 +24,7 @@ returns-in-Serve-clause-judged g c = subst (λ w. IsJudged g.S.Store c.args.conn
 pub returns-in-Import-clause-worked : goal.returns-in-Import-clause-worked
 returns-in-Import-clause-worked g c =
     let log = g.L.Write.contents c.args.log.now in
-    subst (λ work. IfOk c.open_and_import.result (λ w. HasCleanDisk (state g.S.Store w.0) → IsWorked g.S.Store c.args.conn work log log w.0))
+    subst (λ work. IfOk c.open_and_import.result (λ w. HasCleanDisk (state g.S.Store w.0) → IsWorked g.S.Store c.args.conn work log log w.1 w.0))
     (sym c.in-Import.is) c.open_and_import.ensures.imported
 
 pub returns-in-Import-clause-judged : goal.returns-in-Import-clause-judged
@@ -33,7 +33,7 @@ returns-in-Import-clause-judged g c = subst (λ w. IsJudged g.S.Store c.args.con
 pub returns-in-Card-clause-worked : goal.returns-in-Card-clause-worked
 returns-in-Card-clause-worked g c =
     let log = g.L.Write.contents c.args.log.now in
-    subst (λ work. IfOk c.open_and_print.result (λ w. HasCleanDisk (state g.S.Store w.0) → IsWorked g.S.Store c.args.conn work log log w.0))
+    subst (λ work. IfOk c.open_and_print.result (λ w. HasCleanDisk (state g.S.Store w.0) → IsWorked g.S.Store c.args.conn work log log w.1 w.0))
     (sym c.in-Card.is) c.open_and_print.ensures.printed
 
 pub returns-in-Card-clause-judged : goal.returns-in-Card-clause-judged
@@ -42,7 +42,7 @@ returns-in-Card-clause-judged g c = subst (λ w. IsJudged g.S.Store c.args.conn 
 pub returns-in-Notice-clause-worked : goal.returns-in-Notice-clause-worked
 returns-in-Notice-clause-worked g c =
     let log = g.L.Write.contents c.args.log.now in
-    subst (λ work. IfOk c.open_and_print-in-Notice.result (λ w. HasCleanDisk (state g.S.Store w.0) → IsWorked g.S.Store c.args.conn work log log w.0))
+    subst (λ work. IfOk c.open_and_print-in-Notice.result (λ w. HasCleanDisk (state g.S.Store w.0) → IsWorked g.S.Store c.args.conn work log log w.1 w.0))
     (sym c.in-Notice.is) c.open_and_print-in-Notice.ensures.printed
 
 pub returns-in-Notice-clause-judged : goal.returns-in-Notice-clause-judged
@@ -75,7 +75,7 @@ returns-in-Notice-clause-told g c =
 pub returns-in-History-clause-worked : goal.returns-in-History-clause-worked
 returns-in-History-clause-worked g c =
     let log = g.L.Write.contents c.args.log.now in
-    subst (λ work. IfOk c.open_and_print_acts.result (λ w. HasCleanDisk (state g.S.Store w.0) → IsWorked g.S.Store c.args.conn work log log w.0))
+    subst (λ work. IfOk c.open_and_print_acts.result (λ w. HasCleanDisk (state g.S.Store w.0) → IsWorked g.S.Store c.args.conn work log log w.1 w.0))
     (sym c.in-History.is) c.open_and_print_acts.ensures.printed
 
 pub returns-in-History-clause-judged : goal.returns-in-History-clause-judged
@@ -90,7 +90,7 @@ returns-in-History-clause-told g c =
 pub returns-in-Audit-clause-worked : goal.returns-in-Audit-clause-worked
 returns-in-Audit-clause-worked g c =
     let log = g.L.Write.contents c.args.log.now in
-    subst (λ work. IfOk c.audit_books.result (λ w. HasCleanDisk (state g.S.Store w.0) → IsWorked g.S.Store c.args.conn work log log w.0))
+    subst (λ work. IfOk c.audit_books.result (λ w. HasCleanDisk (state g.S.Store w.0) → IsWorked g.S.Store c.args.conn work log log w.1 w.0))
     (sym c.in-Audit.is) (IfOk-weaker c.audit_books.result _ _ (λ w left clean. left) c.audit_books.ensures.left)
 
 pub returns-in-Audit-clause-judged : goal.returns-in-Audit-clause-judged

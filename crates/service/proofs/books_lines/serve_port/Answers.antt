@@ -8,12 +8,12 @@ use Rattle.service.proofs.books_lines.serve_port.Goals as goal
 
 pub returns-in_err-tell_port-clause-served : goal.returns-in_err-tell_port-clause-served
 returns-in_err-tell_port-clause-served g c clean first acts history holds =
-    none_logged g.S.Store first acts c.args.max (books_of c.args.house.now) c.args.logged (g.L.Write.contents c.args.log.now) history holds
+    none_logged g.S.Store first acts c.args.max (books_of c.args.house.now) c.args.logged _ (g.L.Write.contents c.args.log.now) history holds
 
 pub returns-in_err-tell_port-clause-told : goal.returns-in_err-tell_port-clause-told
 returns-in_err-tell_port-clause-told g c =
     let at = g.W.Write.contents in
     by_fault c.from_residual.result Io c.from_residual.ensures (λ r. IsPortTold c.args.port (at c.args.out.now) (at c.tell_port.new.out) r) refl
 
-pub returns-clause-told : goal.returns-clause-told
-returns-clause-told g c = c.in_ok-tell_port.ensures
+pub returns-in-Ok-clause-told : goal.returns-in-Ok-clause-told
+returns-in-Ok-clause-told g c = c.in_ok-tell_port.ensures

@@ -1,4 +1,5 @@
-use Rattle.std.proofs.Common.{ℤ, List, true}
+use Rattle.std.proofs.Common.{ℤ, List, true, Ok}
+use Rattle.texts.specs.declared.fault.TextFault.{TextFault}
 use Rattle.machine.specs.Acts.{Act}
 use Rattle.machine.specs.Once.{IsHistory}
 use Rattle.store.specs.Books.{IsClean, HoldsBooks}
@@ -10,5 +11,5 @@ abbrev pub invariant-loop : goal.invariant-loop
 invariant-loop g l = record {
   clean : IsClean g.S.Store (books_of l.house) → IsClean g.S.Store (books_of l.initial.house);
   served : IsClean g.S.Store (books_of l.house) → (first : ℤ) (acts : List Act) → IsHistory first acts → HoldsBooks g.S.Store first acts (books_of l.initial.house)
-      → HasLogged g.S.Store first acts l.counter (books_of l.initial.house) (books_of l.house) true (g.L.Write.contents l.initial.log) (g.L.Write.contents l.log);
+      → HasLogged {E = TextFault} g.S.Store first acts l.counter (books_of l.initial.house) (books_of l.house) true (Ok tt) (g.L.Write.contents l.initial.log) (g.L.Write.contents l.log);
 }

@@ -1,6 +1,5 @@
 use Rattle.std.proofs.Common.{subst, ◌∙◌}
-use Rattle.texts.specs.Writing.{AppendsBeginning}
-use Rattle.wire.proofs.LogLines.{written}
+use Rattle.texts.specs.Writing.{Writes}
 use Rattle.wire.proofs.logging.write_log_line.Goals as goal
 
 pub returns : goal.returns
@@ -8,4 +7,4 @@ returns g c =
     let at = g.L.Write.contents in
     let old = at c.args.log.now in
     let new = at c.put.new.out in
-    subst (AppendsBeginning old new) (c.as_bytes.ensures ∙ c.log_line.ensures) (written c.put.result old new c.as_bytes.result.now c.put.ensures)
+    subst (Writes c.put.result old new) (c.as_bytes.ensures ∙ c.log_line.ensures) c.put.ensures

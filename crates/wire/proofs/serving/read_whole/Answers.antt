@@ -29,6 +29,7 @@ returns-in_default-clause-read g c = record {
   whole = inl (settled c.read_request.result c.in_default.not-Need);
   lost = [];
   parts = sym (append-nil c.loop-fault.text.items);
+  kept = inl refl;
 }
 
 pub returns-in_default-2-clause-read : goal.returns-in_default-2-clause-read
