@@ -8,19 +8,9 @@ use Rattle.std.specs.Io.KnownBytes.{Consumes, IsAtEnd}
 use Rattle.std.proofs.KnownBytes.{starts_with_rest, Consumes-trans}
 use Rattle.std.proofs.lemmas.List.{take_more}
 use Rattle.std.proofs.lemmas.List.Elements.{All-append, All-nil}
-use Rattle.act_lines.specs.Reading.{Tells, IsPart, IsLine}
+use Rattle.act_lines.specs.Reading.{IsPart, IsLine}
 use Rattle.act_lines.specs.declared.reading.Ended.{Ended}
 use Rattle.act_lines.specs.declared.reading.Ended.TheVariants.{Whole, Part}
-
--- a reader goes on telling
-pub tells_on : (a b : Option (List ℕ)) (bytes : List ℕ) → Consumes a b bytes → Tells a → Tells b
-tells_on None b bytes h told = absurd told
-tells_on (Some xs) None bytes h told = absurd h
-tells_on (Some xs) (Some ys) bytes h told = tt
-
-pub at_end : (a b : Option (List ℕ)) → Tells a → OnSome a (IsAtEnd b) → IsAtEnd b
-at_end None b told h = absurd told
-at_end (Some xs) b told h = h
 
 -- what is so where it is told later, is so where it is told now
 pub end_back : (a b c : Option (List ℕ)) (bytes : List ℕ) → Consumes a b bytes → OnSome b (IsAtEnd c) → OnSome a (IsAtEnd c)

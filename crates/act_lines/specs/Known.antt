@@ -3,7 +3,7 @@ use Rattle.std.specs.Prelude.{◌≡◌, ◌≢◌, ◌⊎◌, ◌+◌, ℕ, ℤ
 use Rattle.std.specs.Io.KnownBytes.{Consumes, IsAtEnd}
 use Rattle.commands.specs.declared.rows.RepeatRow.{RepeatRow}
 use Rattle.histories.specs.Lines.{IsDayAfter, row_line}
-use Rattle.act_lines.specs.Reading.{IsPart}
+use Rattle.act_lines.specs.Reading.{IsPart, IsPiece, IsNumbered}
 use Rattle.act_lines.specs.declared.fault.LineFault.{LineFault}
 use Rattle.act_lines.specs.declared.fault.LineFault.TheVariants.{Memory, Input, Foreign, Differs, OutOfTurn}
 use Rattle.act_lines.specs.declared.known.KnownLines.{KnownLines}
@@ -17,12 +17,12 @@ IsNoMisfit Foreign = Unit {0}
 IsNoMisfit (Differs n) = ⊥
 IsNoMisfit OutOfTurn = ⊥
 
--- the line is not the one that the act of this number has
+-- the line is not the one that the act of this number has: it bears the number, or it does not
 abbrev pub IsUnlike : ℕ → (made line : List ℕ) → LineFault → Type 0
 IsUnlike n made line Memory = Unit {0}
 IsUnlike n made line Input = Unit {0}
 IsUnlike n made line Foreign = Unit {0}
-IsUnlike n made line (Differs m) = (m ≡ n) × (line ≢ made)
+IsUnlike n made line (Differs m) = (m ≡ n) × IsNumbered n line × (line ≢ made)
 IsUnlike n made line OutOfTurn = line ≢ made
 
 module _ {R : Type 0} (remaining : R → Option (List ℕ)) where
@@ -30,7 +30,7 @@ module _ {R : Type 0} (remaining : R → Option (List ℕ)) where
   abbrev pub ReadsNext : (before after : KnownLines R) → Type 0
   ReadsNext before after =
       ((before.place ≡ Before) × (after.reader ≡ before.reader) × (after.line.items ≡ before.line.items))
-      ⊎ ((before.place ≡ Within) × Consumes (remaining before.reader) (remaining after.reader) after.line.items)
+      ⊎ ((before.place ≡ Within) × Consumes (remaining before.reader) (remaining after.reader) after.line.items × IsPiece after.line.items)
 
   -- it is the line of the act
   pub record Knows (before : KnownLines R) (n : ℕ) (line : List ℕ) (after : KnownLines R) : Type 0 where
@@ -51,8 +51,9 @@ module _ {R : Type 0} (remaining : R → Option (List ℕ)) where
     pub last : after.last ≡ before.last
 
   -- the act has no line in the text, which begins behind it or ended before it
-  pub record Passes (before after : KnownLines R) : Type 0 where
+  pub record Passes (before : KnownLines R) (made : List ℕ) (after : KnownLines R) : Type 0 where
     pub outside : before.place ≢ Within
+    pub unlike : before.place ≡ Before → before.line.items ≢ made
     pub place : after.place ≡ before.place
     pub reader : after.reader ≡ before.reader
     pub line : after.line.items ≡ before.line.items
@@ -61,7 +62,7 @@ module _ {R : Type 0} (remaining : R → Option (List ℕ)) where
 
   -- what comes of the next line of the text and the line of the act
   abbrev pub Looks : (before : KnownLines R) (n : ℕ) (line : List ℕ) (after : KnownLines R) → Type 0
-  Looks before n line after = Knows before n line after ⊎ (EndsHere before after ⊎ Passes before after)
+  Looks before n line after = Knows before n line after ⊎ (EndsHere before after ⊎ Passes before line after)
 
   -- the row was that of the next act, and the next line of the text was held against its line
   pub record TakesRow (before : KnownLines R) (row : RepeatRow) (after : KnownLines R) : Type 0 where
@@ -74,6 +75,9 @@ module _ {R : Type 0} (remaining : R → Option (List ℕ)) where
   pub record Misses (before : KnownLines R) (n : ℕ) (made : List ℕ) (fault : LineFault) (after : KnownLines R) : Type 0 where
     pub unlike : IsUnlike n made after.line.items fault
     pub read : ReadsNext before after
+    -- the first line is passed where it does not bear the number
+    pub numbered : fault ≡ OutOfTurn → before.place ≡ Within
+    pub known : after.known ≡ before.known
 
   -- why no further row was taken
   abbrev pub Stopped : (before : KnownLines R) → RepeatRow → (after : KnownLines R) → LineFault → Type 0

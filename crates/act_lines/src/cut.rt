@@ -3,6 +3,7 @@
 ghost use Rattle.std.specs.Prelude.{◌≡◌, ◌↔◌, IfOk, IsTrue};
 ghost use Rattle.commands.specs.Spelling.{key_text, spelling};
 ghost use Rattle.histories.specs.Text.{history_line};
+ghost use Rattle.act_lines.specs.Reading.{Bears, IsNumbered};
 
 use commands::{Command, Key, decimal_text, spell};
 use histories::act_text;
@@ -10,11 +11,24 @@ use label::Day;
 use std::alloc::{AllocError, Global};
 
 /// Whether the line begins with this number and a tab.
-pub(crate) fn is_numbered(number: u64, line: &[u8]) -> bool {
-    match line.strip_prefix(decimal_text(number).as_bytes()) {
-        Some(rest) => rest.first() == Some(&b'\t'),
-        None => false,
+pub fn is_numbered(number: u64, line: &[u8]) -> bool
+    ensures { IsTrue result ↔ IsNumbered number line.now }
+{
+    bears(decimal_text(number).as_bytes(), line)
+}
+
+/// Whether this text and a tab stand first in the line.
+fn bears(text: &[u8], line: &[u8]) -> bool
+    ensures { IsTrue result ↔ Bears text.now line.now }
+{
+    let end = text.len();
+    if line.len() <= end {
+        return false;
     }
+    if &line[..end] != text {
+        return false;
+    }
+    line[end] == b'\t'
 }
 
 /// Whether the line is that of the act of this number, key and command, on this day.

@@ -1,7 +1,9 @@
 //! The lines of a text, held against the rows of the acts that the books have.
 
-ghost use Rattle.std.specs.Prelude.{◌≡◌, ◌⊎◌, ◌+◌, OnOk, IfErr};
+ghost use Rattle.std.specs.Prelude.{◌≡◌, ◌⊎◌, ◌+◌, Err, OnOk, OnErr, IfErr};
 ghost use Rattle.histories.specs.Lines.{row_line};
+ghost use Rattle.act_lines.specs.Reading.{IsNumbered};
+ghost use Rattle.act_lines.specs.declared.fault.LineFault.TheVariants.{OutOfTurn};
 ghost use Rattle.act_lines.specs.Known.{TakesRow, Looks, Stopped, Misses, IsNoMisfit, IsUnlike};
 ghost use Rattle.act_lines.specs.declared.known.Place.TheVariants.{Within as WithinText};
 
@@ -109,7 +111,9 @@ impl<R: BufRead> KnownLines<R> {
     fn compare(&mut self, day: Day, row: &RepeatRow) -> Result<(), LineFault>
         ensures known { OnOk result ((self.old.line.items ≡ row_line day row.now) × (self.new.place ≡ WithinText) × (self.new.known ≡ self.old.known + 1) × (self.new.last ≡ row.now.act)) }
         ensures kept { (self.new.done ≡ self.old.done) × (self.new.day ≡ self.old.day) }
+        ensures uncounted { OnErr result (self.new.known ≡ self.old.known) }
         ensures unlike { IfErr result (IsUnlike row.now.act (row_line day row.now) self.old.line.items) }
+        ensures numbered { result ≡ Err OutOfTurn → ¬ IsNumbered row.now.act self.old.line.items }
         ensures same { (self.new.reader ≡ self.old.reader) × (self.new.line ≡ self.old.line) }
     {
         let made = act_text(

@@ -6,7 +6,7 @@ mod fault;
 mod known;
 mod reading;
 
-pub use cut::is_line_of;
+pub use cut::{is_line_of, is_numbered};
 pub use fault::LineFault;
 pub use known::{KnownLines, Place};
 pub use reading::{Ended, LINE_MAX, ReadFault, read_line};

@@ -1,7 +1,7 @@
 -- What is done before the file of a line is opened.
 use Rattle.std.specs.Prelude.{Bool, if◌then◌else◌}
 use Rattle.command_line.specs.declared.running.Work.{Work}
-use Rattle.command_line.specs.declared.running.Work.TheVariants.{Make, Serve, Import, Card, Notice, History, Audit}
+use Rattle.command_line.specs.declared.running.Work.TheVariants.{Make, Serve, Import, Card, Notice, History, Audit, Apply}
 use Rattle.books_file.specs.declared.first_page.FirstStep.{FirstStep}
 use Rattle.books_file.specs.declared.first_page.FirstStep.TheVariants.{Lay, Open, Stop}
 
@@ -22,3 +22,4 @@ first_step (Card lot) is_there has_nothing = step_of_opening is_there
 first_step (Notice lot) is_there has_nothing = step_of_opening is_there
 first_step History is_there has_nothing = step_of_opening is_there
 first_step (Audit given) is_there has_nothing = step_of_opening is_there
+first_step (Apply file) is_there has_nothing = step_of_opening is_there

@@ -7,7 +7,8 @@ ghost use Rattle.books_file.specs.FirstPage.{first_step as first_step_lem, step_
 
 use command_line::Work;
 use empty_database::first_page::first_page;
-use std::fs::{self, Metadata, OpenOptions};
+use std::alloc::Global;
+use std::fs::{self, Files, Metadata, OpenFile, OpenOptions};
 use std::io::{self, ErrorKind, Write};
 
 /// What is done before the file at the path of a line is opened.
@@ -23,15 +24,15 @@ pub(crate) enum FirstStep {
 
 /// Whether the file can be opened; for books that are to be made its first page is laid. Whenever the machine stops, the
 /// path has what it had or the whole page.
-pub(crate) fn is_ready(rt: &HostRuntime, db: &str, work: &Work<'_>) -> bool {
-    make_ready(rt, db, work).unwrap_or(false)
+pub fn is_ready<R: Files>(files: &R, alloc: Global, db: &str, work: &Work<'_>) -> bool {
+    make_ready(files, alloc, db, work).unwrap_or(false)
 }
 
-fn make_ready(rt: &HostRuntime, db: &str, work: &Work<'_>) -> io::Result<bool> {
-    let is_there = fs::exists(rt, db).unwrap_or(false);
-    match first_step(work, is_there, has_nothing(rt, db)?) {
+fn make_ready<R: Files>(files: &R, alloc: Global, db: &str, work: &Work<'_>) -> io::Result<bool> {
+    let is_there = fs::exists(files, db).unwrap_or(false);
+    match first_step(work, is_there, has_nothing(files, alloc, db)?) {
         FirstStep::Lay => {
-            lay_first_page(rt, db)?;
+            lay_first_page(files, alloc, db)?;
             Ok(true)
         }
         FirstStep::Open => Ok(true),
@@ -52,6 +53,7 @@ fn first_step(work: &Work<'_>, is_there: bool, has_nothing: bool) -> FirstStep
         Work::Notice(_) => step_of_opening(is_there),
         Work::History => step_of_opening(is_there),
         Work::Audit(_) => step_of_opening(is_there),
+        Work::Apply { .. } => step_of_opening(is_there),
     }
 }
 
@@ -76,10 +78,10 @@ fn step_of_opening(is_there: bool) -> FirstStep
 }
 
 /// Whether nothing is at the path and nothing in a log beside it.
-fn has_nothing(rt: &HostRuntime, db: &str) -> io::Result<bool> {
-    let log = format!(in rt.alloc(); "{db}-wal")?;
-    let is_none = is_vacant(fs::symlink_metadata(rt, db));
-    Ok(is_none && is_vacant(fs::symlink_metadata(rt, log.as_str())))
+fn has_nothing<R: Files>(files: &R, alloc: Global, db: &str) -> io::Result<bool> {
+    let log = format!(in alloc; "{db}-wal")?;
+    let is_none = is_vacant(fs::symlink_metadata(files, db));
+    Ok(is_none && is_vacant(fs::symlink_metadata(files, log.as_str())))
 }
 
 /// Whether no file was found, or an empty one. A link is left to whoever opens it.
@@ -94,20 +96,20 @@ fn is_vacant(found: io::Result<Metadata>) -> bool
 }
 
 /// Lays an empty database at the path.
-fn lay_first_page(rt: &HostRuntime, db: &str) -> io::Result<()> {
-    let new = format!(in rt.alloc(); "{db}-new")?;
-    write_page(rt, db, new.as_str())?;
-    fs::rename(rt, new.as_str(), db)
+fn lay_first_page<R: Files>(files: &R, alloc: Global, db: &str) -> io::Result<()> {
+    let new = format!(in alloc; "{db}-new")?;
+    write_page(files, db, new.as_str())?;
+    fs::rename(files, new.as_str(), db)
 }
 
 /// Writes the page to a file beside the path, with the permissions of an empty file that is at the path.
-fn write_page(rt: &HostRuntime, db: &str, new: &str) -> io::Result<()> {
+fn write_page<R: Files>(files: &R, db: &str, new: &str) -> io::Result<()> {
     let mut file = OpenOptions::new()
         .write(true)
         .create(true)
         .truncate(true)
-        .open(rt, new)?;
-    if let Ok(found) = fs::metadata(rt, db) {
+        .open(files, new)?;
+    if let Ok(found) = fs::metadata(files, db) {
         file.set_permissions(found.permissions())?;
     }
     file.write_all(&first_page())?;

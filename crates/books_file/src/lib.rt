@@ -2,10 +2,13 @@
 #![tactic(auto)]
 
 mod first_page;
+mod host_files;
 mod left;
 mod line;
 mod program;
 
+pub use first_page::is_ready;
+pub use host_files::{HostFile, HostFiles};
 pub use left::FilesLeft;
-pub use line::{HostFiles, InFiles, line_worked};
+pub use line::{InFiles, line_worked};
 pub use program::run_words;

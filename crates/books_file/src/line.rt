@@ -4,28 +4,14 @@ ghost use Rattle.line_work.specs.Works.{Listens, is_logged};
 ghost use Rattle.books_file.specs.Lines.{IsLineEnd, closing_fault as closing_fault_lem};
 
 use crate::first_page::is_ready;
+use crate::host_files::HostFiles;
 use crate::left::{FilesLeft, store_of};
 use command_line::{BooksAt, Fault, FilesAt, Work};
 use line_work::{do_work, listen};
 use sqlite::{Connection, FileFrom, Start};
 use sqlite_disk::Disk;
-use std::fs::File;
-use std::io::{self, Write};
+use std::io::Write;
 use std::net::TcpListener;
-
-/// The files of the host, which the lines name.
-#[derive(Clone, Copy)]
-pub struct HostFiles<'a> {
-    pub rt: &'a HostRuntime,
-}
-
-impl FilesAt for HostFiles<'_> {
-    type File = File;
-
-    fn open(&self, name: &str) -> io::Result<File> {
-        File::open(self.rt, name)
-    }
-}
 
 /// The books in files of the host.
 #[derive(Drop)]
@@ -42,7 +28,7 @@ impl<S: Start> BooksAt for InFiles<'_, S> {
 
     type Left = FilesLeft<FileFrom<S>>;
 
-    // What a goods-in file of the host holds nothing says.
+    // What a file of the host that a line reads holds nothing says.
     ghost ends = { λ _ _ work old new log_old log_new end left. IsLineEnd ⟦<FileFrom<S> as Disk>⟧ (image_at S.Start) (λ _. None) work old new log_old log_new end left };
 
     /// Only the making of books makes a file: where there is none, any other work is `Store` and leaves nothing behind.
@@ -54,7 +40,7 @@ impl<S: Start> BooksAt for InFiles<'_, S> {
         log: &mut L,
     ) -> (FilesLeft<FileFrom<S>>, Result<(), Fault>) {
         let InFiles { rt, start } = self;
-        if !is_ready(rt, db, work) {
+        if !is_ready(rt, rt.alloc(), db, work) {
             return (FilesLeft::Unopened, Err(Fault::Store));
         }
         line_worked(rt, &HostFiles { rt }, db, start, work, out, log)

@@ -10,9 +10,9 @@ use Rattle.command_line.specs.Statuses.{IsStatusOf, IsOutputOf}
 use Rattle.command_line.specs.declared.fault.Fault.{Fault}
 use Rattle.command_line.specs.declared.fault.Fault.TheVariants.{Value, Io}
 use Rattle.command_line.specs.declared.running.Work.{Work}
-use Rattle.command_line.specs.declared.running.Work.TheVariants.{Make, Serve as ServeBooks, Import as ImportFile, Card as CardOf, Notice as NoticeOf, History as HistoryOf, Audit as AuditOf}
+use Rattle.command_line.specs.declared.running.Work.TheVariants.{Make, Serve as ServeBooks, Import as ImportFile, Card as CardOf, Notice as NoticeOf, History as HistoryOf, Audit as AuditOf, Apply as ApplyFile}
 use Rattle.command_line.specs.declared.words.Line.{Line}
-use Rattle.command_line.specs.declared.words.Line.TheVariants.{Label, Init, Serve, Import, Card, Notice, History, Audit, Unknown}
+use Rattle.command_line.specs.declared.words.Line.TheVariants.{Label, Init, Serve, Import, Card, Notice, History, Audit, Apply, Unknown}
 
 -- how the work with the books in this file may end, by what the output and the log held and hold, and what is left of their files
 abbrev pub Works : Type 0 → Type 1
@@ -66,6 +66,7 @@ module _ {L : Type 0} (works : Works L) (old new log_old log_new : Option (List 
   IsEndOf (Notice db gtin lot) end left = IsWithLot db.now NoticeOf gtin.now lot.now end left
   IsEndOf (History db) end left = IsWorked db.now HistoryOf end left
   IsEndOf (Audit db day) end left = IsAudited db.now (option_map (λ d. d.now) day) end left
+  IsEndOf (Apply db file) end left = IsWorked db.now (ApplyFile file) end left
   IsEndOf (Label day text) end left = IsWithoutBooks left × IsLabelTold day.now text.now old new end
   IsEndOf Unknown end left = IsNoWork end left
 

@@ -1,4 +1,5 @@
 pub mod Audits
+pub mod Applying
 pub mod Lines
 pub mod Statuses
 pub mod Ends

@@ -1,5 +1,6 @@
 ghost use Rattle.std.specs.Prelude.{◌≡◌, OnOk};
 
+use crate::apply_fault::ApplyFault;
 use crate::audit_fault::AuditFault;
 use clap::Error;
 use clap::error::ErrorKind;
@@ -23,6 +24,8 @@ pub enum Fault {
     Refused(Refusal),
     /// The rows of the books are not those of their acts.
     Audit(AuditFault),
+    /// A line of a history was not taken in.
+    Apply(ApplyFault),
     /// A date on the line is no business day, or a GTIN or a lot breaks its rule.
     Value,
     /// The port is taken, a file cannot be read, or the output or a line of the log could not be written.
@@ -48,6 +51,7 @@ impl Fault {
             Fault::Row { row: _, refusal } => refusal.code(),
             Fault::Refused(refusal) => refusal.code(),
             Fault::Audit(fault) => fault.code(),
+            Fault::Apply(fault) => fault.code(),
             Fault::Value => "value",
             Fault::Io => "io",
             Fault::Store => "store",
@@ -55,7 +59,7 @@ impl Fault {
         }
     }
 
-    /// Writes what it is about, where that is a row of a file, a row or a table of the books, or an act.
+    /// Writes what it is about, where that is a row of a file, a row or a table of the books, an act, or a line of a history.
     pub(crate) fn write_place<E: Write>(&self, err: &mut E) -> io::Result<()>
         ensures { OnOk result (Appends (E.contents err.old) (E.contents err.new) (told_place self.now)) }
     {
@@ -63,6 +67,7 @@ impl Fault {
             Fault::File(FileFault::Row(row)) => write!(err, " row {row}"),
             Fault::Row { row, refusal: _ } => write!(err, " row {row}"),
             Fault::Audit(fault) => fault.write_place(err),
+            Fault::Apply(fault) => fault.write_place(err),
             _ => Ok(()),
         }
     }

@@ -49,6 +49,9 @@ pub enum Work<'a> {
     /// Does their acts again, begun on the day that is given or else on the one that their rows tell, compares every row of
     /// every table, and prints how many acts there are.
     Audit(Option<BusinessDay>),
+    /// Opens them, and then the file with lines of a history: does the acts that they lack, one after another, and prints how
+    /// many were done, how many they had, and how many they have behind the last of the lines.
+    Apply { file: &'a str },
 }
 
 /// Where the books are that the lines speak of.
@@ -168,6 +171,7 @@ fn end_line<'a, B: BooksAt + Drop, W: Write, L: Write>(
         Line::Notice { db, gtin, lot } => print_notice(books, db, gtin, lot, out, log),
         Line::History { db } => work_with(books, db, &Work::History, out, log),
         Line::Audit { db, day } => audit_books(books, db, day, out, log),
+        Line::Apply { db, file } => work_with(books, db, &Work::Apply { file }, out, log),
         Line::Label { day, text } => (None, print_label(day, text, out)),
         Line::Unknown => (None, Err(Fault::Value)),
     }

@@ -50,6 +50,11 @@ pub enum Line<'a> {
         db: &'a str,
         day: Option<&'a str>,
     },
+    /// `lotd apply --db PATH FILE`: does the acts of FILE, lines of a history, that the books lack.
+    Apply {
+        db: &'a str,
+        file: &'a str,
+    },
     /// No line that the program has. `clap` refuses such words before.
     Unknown,
 }
@@ -95,6 +100,7 @@ const AFTER_HELP: &str = "Examples:
   lotd notice --db stock.db 09506000134352 L2
   lotd history --db stock.db
   lotd audit --db stock.db
+  lotd apply --db standby.db stock.acts
   lotd label --day 2026-05-04 ']C101095060001343521726093010AB12'
 
 Exit status: 0 where the line was done, 2 where the words are no line of the
@@ -103,7 +109,7 @@ program, and else 1. Then standard error has `lotd: ` and one of these:
                  database, or has a second name; or the user may not write it;
                  or disk or memory did not suffice
   foreign books  other tables than the books', or (init) there are tables
-  io             the port is taken, the file to import cannot be read, or the
+  io             the port is taken, a file to take in cannot be read, or the
                  output or a line of the log cannot be written
   value          a day, a GTIN or a lot breaks its rule
   U02 row 3, ..  what is asked is refused, by this code
@@ -117,12 +123,19 @@ or, where an audit finds that the rows are not those of the acts, one of these:
                  no command or no key is written in the row of this act
   Q02 act 17     this act is refused after those before it, by this code
 
+or, where a line of a history cannot be taken in (the lines before it are), one
+of these:
+  differs act 17 the books have another act 17
+  lacks act 17   the books have no act 17, and the line is of a later one
+  line 40        line 40 is that of no act, or out of turn
+  Q02 act 17     this act is refused after those before it, by this code
+
 While a server has the file open, no other line can. Ask the server:
   curl http://127.0.0.1:8080/cards/09506000134352/L2
   curl http://127.0.0.1:8080/notices/09506000134352/L2
   curl --data-binary @goods.csv http://127.0.0.1:8080/goodsin";
 
-static LINES: [Words; 8] = [
+static LINES: [Words; 9] = [
     Words {
         name: "init",
         about: "Make new books",
@@ -194,7 +207,7 @@ While a server has the file open, ask it:
             Value {
                 id: "file",
                 stands_for: "FILE",
-                help: "The goods-in file",
+                help: "The goods-in file, or - for standard input",
                 kind: Kind::Bare,
             },
         ],
@@ -301,6 +314,33 @@ shows how many are done.",
         ],
     },
     Words {
+        name: "apply",
+        about: "Do the acts of a history that the books lack",
+        examples: "Examples:
+  lotd apply --db standby.db stock.acts
+  tail -n +1 -F stock.acts | lotd apply --db standby.db -
+
+FILE has lines as `lotd history` prints them, in their order; `-` is standard input,
+of which each line is done as it comes. A line of an act that the books have must be
+the line of that act. It stops at the first line that does not fit; those before it
+are done. It prints `applied A known B beyond C`: how many acts were done, how many
+were there, and how many the books have behind the last line.",
+        values: &[
+            Value {
+                id: "db",
+                stands_for: "PATH",
+                help: "The file of the books",
+                kind: Kind::Named,
+            },
+            Value {
+                id: "file",
+                stands_for: "FILE",
+                help: "The lines of the history, or - for standard input",
+                kind: Kind::Bare,
+            },
+        ],
+    },
+    Words {
         name: "label",
         about: "Print the GTIN, the lot and the expiry day of a GS1 label",
         examples: "Examples:
@@ -346,6 +386,7 @@ fn line_found<'a>(matches: &ArgMatches<'a>) -> Line<'a> {
         Some(("notice", found)) => notice_line(found),
         Some(("history", found)) => history_line(found),
         Some(("audit", found)) => audit_line(found),
+        Some(("apply", found)) => apply_line(found),
         _ => Line::Unknown,
     }
 }
@@ -414,6 +455,13 @@ fn audit_line<'a>(found: &ArgMatches<'a>) -> Line<'a> {
             day: found.get_str("day"),
         },
         None => Line::Unknown,
+    }
+}
+
+fn apply_line<'a>(found: &ArgMatches<'a>) -> Line<'a> {
+    match (found.get_str("db"), found.get_str("file")) {
+        (Some(db), Some(file)) => Line::Apply { db, file },
+        _ => Line::Unknown,
     }
 }
 

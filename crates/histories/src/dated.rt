@@ -12,7 +12,7 @@ use values::LotId;
 
 /// What tells of a day.
 #[derive(Clone, Copy)]
-pub(crate) enum Dated {
+pub enum Dated {
     /// A receipt: its lot, and its act, whose card line has its day.
     Receipt(LotId, u64),
     /// The opening of a day: the day before it.
@@ -22,13 +22,13 @@ pub(crate) enum Dated {
 /// Takes the rows of the acts, in the order of their numbers, up to the first that tells of a day. It also stops at a row
 /// that is not of the next act or spells no command, and where no memory is left.
 #[derive(Drop)]
-pub(crate) struct FirstDated {
-    pub(crate) alloc: Global,
+pub struct FirstDated {
+    pub alloc: Global,
     /// The number of the last act.
-    pub(crate) done: u64,
-    pub(crate) found: Option<Dated>,
+    pub done: u64,
+    pub found: Option<Dated>,
     /// Why it stopped, where it found none.
-    pub(crate) fault: HistoryFault,
+    pub fault: HistoryFault,
 }
 
 impl Sink<RepeatRow> for FirstDated {

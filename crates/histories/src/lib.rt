@@ -9,7 +9,9 @@ mod printing;
 mod spelled;
 mod start;
 
+pub use dated::{Dated, FirstDated};
 pub use fault::HistoryFault;
 pub use line::act_text;
 pub use lines::{day_after, day_then};
 pub use printing::{print_above, print_history};
+pub use start::CardDay;

@@ -29,10 +29,10 @@ use whole_tables::each_of_all;
 
 /// Takes card lines up to that of an act of a lot.
 #[derive(Drop)]
-pub(crate) struct CardDay {
-    pub(crate) lot: LotId,
-    pub(crate) act: u64,
-    pub(crate) day: Option<Day>,
+pub struct CardDay {
+    pub lot: LotId,
+    pub act: u64,
+    pub day: Option<Day>,
 }
 
 impl Sink<CardRow> for CardDay {

@@ -4,7 +4,7 @@ use Rattle.sqlite.specs.Held.{Held}
 use Rattle.tables.specs.declared.opening.Leftover.{Leftover}
 use Rattle.command_line.specs.declared.fault.Fault.{Fault}
 use Rattle.command_line.specs.declared.running.Work.{Work}
-use Rattle.command_line.specs.declared.running.Work.TheVariants.{Make, Serve, Import, Card, Notice, History, Audit}
+use Rattle.command_line.specs.declared.running.Work.TheVariants.{Make, Serve, Import, Card, Notice, History, Audit, Apply}
 use Rattle.line_books.specs.Failing.{IsCleanBefore}
 use Rattle.line_work.specs.Works.{IsNotBegun}
 
@@ -17,3 +17,4 @@ clean_before g old (Card lot) left fault h = h.clean
 clean_before g old (Notice lot) left fault h = h.clean
 clean_before g old History left fault h = h.clean
 clean_before g old (Audit given) left fault h = h.clean
+clean_before g old (Apply file) left fault h = h.clean

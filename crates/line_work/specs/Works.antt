@@ -13,9 +13,10 @@ use Rattle.histories.specs.Printed.{IsHistoryPrinted}
 use Rattle.command_line.specs.declared.fault.Fault.{Fault}
 use Rattle.command_line.specs.declared.fault.Fault.TheVariants.{Foreign}
 use Rattle.command_line.specs.declared.running.Work.{Work}
-use Rattle.command_line.specs.declared.running.Work.TheVariants.{Make, Serve, Import, Card, Notice, History, Audit}
+use Rattle.command_line.specs.declared.running.Work.TheVariants.{Make, Serve, Import, Card, Notice, History, Audit, Apply}
 use Rattle.line_books.specs.Failing.{IsUnmade, IsUnopened}
 use Rattle.audit_line.specs.Auditing.{IsAuditTold, IsLeftAs, IsUnaudited}
+use Rattle.apply_line.specs.Applying.{KeepsMore, LeavesApplied}
 use Rattle.service.specs.Serving.{KeepsLogged, IsPortTold}
 use Rattle.service.specs.Importing.{KeepsFile, IsFileImported}
 use Rattle.service.specs.Printing.{LeavesSheet}
@@ -30,6 +31,7 @@ is_logged (Card lot) = false
 is_logged (Notice lot) = false
 is_logged History = false
 is_logged (Audit given) = false
+is_logged (Apply file) = false
 
 -- a server listens, and other work may or may not
 abbrev pub Listens : {A : Type 0} → Work → Option A → Type 0
@@ -40,6 +42,7 @@ Listens (Card lot) listener = Unit {0}
 Listens (Notice lot) listener = Unit {0}
 Listens History listener = Unit {0}
 Listens (Audit given) listener = Unit {0}
+Listens (Apply file) listener = Unit {0}
 
 -- the work is that of a server
 abbrev pub IsServer : Work → Type 0
@@ -50,6 +53,7 @@ IsServer (Card lot) = ⊥
 IsServer (Notice lot) = ⊥
 IsServer History = ⊥
 IsServer (Audit given) = ⊥
+IsServer (Apply file) = ⊥
 
 -- what the work makes of a connection, with what the log had and has, and how it ended
 abbrev pub IsWorked : {S : Type 0} → Ghosts S → Held S → Work → (log_old log_new : Option (List ℕ)) → Result Unit Fault → Held S → Type 0
@@ -61,6 +65,7 @@ IsWorked g old (Card lot) log_old log_new end new = (first : ℤ) (acts : List A
 IsWorked g old (Notice lot) log_old log_new end new = (first : ℤ) (acts : List Act) → IsHistory first acts → AreFoundRows first acts (state g old).committed.trees → KeepsBooks first acts (state g new)
 IsWorked g old History log_old log_new end new = (first : ℤ) (acts : List Act) → IsHistory first acts → AreFoundRows first acts (state g old).committed.trees → KeepsBooks first acts (state g new)
 IsWorked g old (Audit given) log_old log_new end new = IsLeftAs g old new
+IsWorked g old (Apply file) log_old log_new end new = (first : ℤ) (acts : List Act) → IsHistory first acts → AreFoundRows first acts (state g old).committed.trees → KeepsMore g first acts new
 
 -- on which schema there is no work
 abbrev pub IsJudged : {S : Type 0} → Ghosts S → Held S → Work → Result (Held S × Result Unit Fault) (Leftover S × Fault) → Type 0
@@ -71,6 +76,7 @@ IsJudged g old (Card lot) result = IsOfNone (state g old).now.schema → IsErr r
 IsJudged g old (Notice lot) result = IsOfNone (state g old).now.schema → IsErr result
 IsJudged g old History result = IsOfNone (state g old).now.schema → IsErr result
 IsJudged g old (Audit given) result = IsOfNone (state g old).now.schema → IsErr result
+IsJudged g old (Apply file) result = IsOfNone (state g old).now.schema → IsErr result
 
 -- what the work printed, from what the output held to what it holds, and how it ended, over the connection that is left; `files` has the bytes of
 -- the files by their names, where they are known
@@ -86,6 +92,8 @@ IsTold g files conn (Notice lot) old new end left = (first : ℤ) (acts : List A
 IsTold g files conn History old new end left = (first : ℤ) (acts : List Act) → IsHistory first acts → AreFoundRows first acts (state g conn).committed.trees
     → IsHistoryPrinted first acts old new end
 IsTold g files conn (Audit given) old new end left = IsAuditTold given (state g conn) old new end
+IsTold g files conn (Apply file) old new end left = (first : ℤ) (acts : List Act) → IsHistory first acts → AreFoundRows first acts (state g conn).committed.trees
+    → LeavesApplied g first acts (files file.now) old new end left
 
 -- the work was not begun
 abbrev pub IsNotBegun : {S : Type 0} → Ghosts S → Held S → Work → Leftover S → Fault → Type 0
@@ -96,3 +104,4 @@ IsNotBegun g old (Card lot) left fault = IsUnopened g old left fault
 IsNotBegun g old (Notice lot) left fault = IsUnopened g old left fault
 IsNotBegun g old History left fault = IsUnopened g old left fault
 IsNotBegun g old (Audit given) left fault = IsUnaudited g old left fault
+IsNotBegun g old (Apply file) left fault = IsUnopened g old left fault

@@ -3,6 +3,7 @@ ghost use Rattle.sqlite.specs.Held.{state};
 ghost use Rattle.sqlite.specs.State.{HasCleanDisk};
 ghost use Rattle.line_work.specs.Works.{Listens, is_logged, IsServer, IsNotBegun, IsWorked, IsJudged, IsTold};
 
+use apply_line::open_and_apply;
 use audit_line::audit_books;
 use command_line::{Fault, FilesAt, Work};
 use line_books::{AfterWork, NotBegun, make_books};
@@ -27,7 +28,8 @@ pub fn listen(rt: &HostRuntime, work: &Work<'_>) -> io::Result<Option<TcpListene
 /// Does the work with the books over this connection, and gives the connection back. What it prints goes to `out`, and the
 /// log of a server to `log`, where it keeps one. Books that were made are empty; books that were served are those of a run
 /// over at most as many texts as connections were to be answered, for each of which the log has its line; books into which
-/// a file was imported are those after it, or as they were; books of which a text was printed are as they were. What was
+/// a file was imported are those after it, or as they were; books that took in lines of a history are those after the lines
+/// before the first that does not fit; books of which a text was printed are as they were. What was
 /// printed is the text that the machine shows of the lot, the acts or the tally of the file, and the work is refused exactly
 /// where the machine refuses. Books of an older schema are brought up as they are opened. An audit opens none: whatever the
 /// tables hold, nothing is committed, and what it tells holds of them; how far it is it shows on standard error, where that
@@ -68,5 +70,6 @@ pub fn do_work<S: Orderly + Drop, F: FilesAt, W: Write, L: Write>(
         Work::Notice(lot) => open_and_print(rt.alloc(), conn, Sheet::Notice, lot, out),
         Work::History => open_and_print_acts(rt.alloc(), conn, out),
         Work::Audit(given) => audit_books(rt, conn, *given, out),
+        Work::Apply { file } => open_and_apply(rt.alloc(), files, conn, *file, out),
     }
 }

@@ -289,7 +289,7 @@ module _ (first second : ℤ) where
       repeat = s.repeats;
     }
 
-earlier_alike : (first second day : ℤ) (acts : List Act) → IsHistory first acts → start_of acts ≡ Some (Opened day) → IsTrue (is_business_day second) → int_lt second day ≡ true
+pub earlier_alike : (first second day : ℤ) (acts : List Act) → IsHistory first acts → start_of acts ≡ Some (Opened day) → IsTrue (is_business_day second) → int_lt second day ≡ true
     → IsHistory second acts × (tables_of first acts ≡ tables_of second acts)
 earlier_alike first second day acts h e business later =
     let s = are_same first second acts day business later h e in
@@ -298,11 +298,11 @@ earlier_alike first second day acts h e business later =
 -- ---- the day that is told
 
 -- the first day that is opened is later than the one that the acts began on
-record IsLater (first day : ℤ) : Type 0 where
-  business : IsTrue (is_business_day day)
-  later : int_le day first ≡ false
+pub record IsLater (first day : ℤ) : Type 0 where
+  pub business : IsTrue (is_business_day day)
+  pub later : int_le day first ≡ false
 
-opened_later : (first day : ℤ) (acts : List Act) → IsHistory first acts → start_of acts ≡ Some (Opened day) → IsLater first day
+pub opened_later : (first day : ℤ) (acts : List Act) → IsHistory first acts → start_of acts ≡ Some (Opened day) → IsLater first day
 opened_later first day [] h e = absurd (none-some _ e)
 opened_later first day (act ∷ before) h e = by_older (start_of before) refl (opened_later first day before h.0) e
   where
@@ -317,11 +317,11 @@ opened_later first day (act ∷ before) h e = by_older (start_of before) refl (o
     by_older None is older e = told act.command is h e
     by_older (Some s) is older e = older (is ∙ e)
 
-began_on_business : (first : ℤ) (acts : List Act) → IsHistory first acts → IsTrue (is_business_day first)
+pub began_on_business : (first : ℤ) (acts : List Act) → IsHistory first acts → IsTrue (is_business_day first)
 began_on_business first [] h = h
 began_on_business first (act ∷ before) h = began_on_business first before h.0
 
-before_is_business : (first day : ℤ) → IsTrue (is_business_day first) → IsLater first day → is_business_day (day -ℤ pos 1) ≡ true
+pub before_is_business : (first day : ℤ) → IsTrue (is_business_day first) → IsLater first day → is_business_day (day -ℤ pos 1) ≡ true
 before_is_business first day b l =
     let low = (and_both (int_le (pos 10_957) first) (int_le first (pos 84_005)) b).0 in
     let high = (and_both (int_le (pos 10_957) day) (int_le day (pos 84_005)) l.business).1 in

@@ -12,6 +12,7 @@ mod start;
 
 pub use again::act_again;
 pub use fault::NotReplayed;
+pub use kind::is_key_of;
 pub use order::by_act;
 pub use progress::Progress;
 pub use rows::replay_rows;

@@ -36,8 +36,11 @@ fn count(known: &BinsKnown, by: &Name) -> Option<usize> {
 
 fn is_hold(known: &BinsKnown, by: &Name) -> bool {
     match known.rows_of(by) {
-        Some([row]) => row.kind == BinKind::Hold,
-        _ => false,
+        Some(rows) => match rows.first() {
+            Some(row) => matches!(row.kind, BinKind::Hold),
+            None => false,
+        },
+        None => false,
     }
 }
 

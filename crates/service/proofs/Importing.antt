@@ -19,7 +19,7 @@ use Rattle.store.specs.declared.tally.Tally.{Tally}
 use Rattle.store.specs.declared.tally.RowFault.{RowFault}
 use Rattle.store.specs.declared.tally.RowFault.TheVariants.{Refused, Store as StoreRow, Foreign as ForeignRow}
 use Rattle.command_line.specs.declared.fault.Fault.{Fault}
-use Rattle.command_line.specs.declared.fault.Fault.TheVariants.{Usage, Label, File, Row, Refused as RefusedText, Audit, Value, Io, Store, Foreign}
+use Rattle.command_line.specs.declared.fault.Fault.TheVariants.{Usage, Label, File, Row, Refused as RefusedText, Audit, Apply, Value, Io, Store, Foreign}
 use Rattle.service.specs.Importing.{HasRows, KeepsFile, IsToldOfFile, AreRead, HasFault, IsTakenIn, IsImported, IsFileImported}
 
 pub by_fault : {X F : Type 0} (r : Result X F) (f : F) → IsErr r × IsErrAnd r (λ e. e ≡ f) → (P : Result X F → Type 0) → P (Err f) → P r
@@ -60,6 +60,7 @@ module _ {S : Type 0} (g : Ghosts S) (first : ℤ) (acts : List Act) where
     fault_told_on (Row row why) out h = (h, refl)
     fault_told_on (RefusedText why) out h = absurd h
     fault_told_on (Audit fault) out h = absurd h
+    fault_told_on (Apply fault) out h = absurd h
     fault_told_on Value out h = absurd h
     fault_told_on Io out h = absurd h
     fault_told_on Store out h = (h, refl)
@@ -74,6 +75,7 @@ module _ {S : Type 0} (g : Ghosts S) (first : ℤ) (acts : List Act) where
     kept (Err (Row row why)) old new h = inr (h.0).3.keeps
     kept (Err (RefusedText why)) old new h = absurd h
     kept (Err (Audit fault)) old new h = absurd h
+    kept (Err (Apply fault)) old new h = absurd h
     kept (Err Value) old new h = absurd h
     kept (Err Io) old new h = inl (rows_of (h.1).0, (h.1).3)
     kept (Err Store) old new h = inr (h.0).keeps
@@ -104,6 +106,7 @@ module _ {S : Type 0} (g : Ghosts S) (first : ℤ) (acts : List Act) where
     named_imported (Err (Row row why)) old new h = (((h.0).0, read_too known has (h.0).0 (h.0).1, (h.0).2, (h.0).3), h.1)
     named_imported (Err (RefusedText why)) old new h = absurd h
     named_imported (Err (Audit fault)) old new h = absurd h
+    named_imported (Err (Apply fault)) old new h = absurd h
     named_imported (Err Value) old new h = absurd h
     named_imported (Err Io) old new h = (h.0, taken_too h.0 h.1)
     named_imported (Err Store) old new h = h

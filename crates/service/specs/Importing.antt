@@ -19,7 +19,7 @@ use Rattle.store.specs.declared.tally.Tally.{Tally}
 use Rattle.store.specs.declared.tally.RowFault.{RowFault}
 use Rattle.store.specs.declared.tally.RowFault.TheVariants.{Refused, Store as StoreRow, Foreign as ForeignRow}
 use Rattle.command_line.specs.declared.fault.Fault.{Fault}
-use Rattle.command_line.specs.declared.fault.Fault.TheVariants.{Usage, Label, File, Row, Refused as RefusedText, Audit, Value, Io, Store, Foreign}
+use Rattle.command_line.specs.declared.fault.Fault.TheVariants.{Usage, Label, File, Row, Refused as RefusedText, Audit, Apply, Value, Io, Store, Foreign}
 
 -- what is printed
 abbrev pub tally_line : ℕ → ℕ → List ℕ
@@ -66,6 +66,7 @@ module _ {S : Type 0} (g : Ghosts S) (first : ℤ) (acts : List Act) (from : Opt
   IsTakenIn (Err (Label fault)) new = ⊥
   IsTakenIn (Err (RefusedText why)) new = ⊥
   IsTakenIn (Err (Audit fault)) new = ⊥
+  IsTakenIn (Err (Apply fault)) new = ⊥
   IsTakenIn (Err Value) new = ⊥
 
   -- the same, and the tally is printed; where it could not be, the file is taken in all the same; a file that is not taken in prints nothing
@@ -78,6 +79,7 @@ module _ {S : Type 0} (g : Ghosts S) (first : ℤ) (acts : List Act) (from : Opt
   IsImported (Err (Row row why)) new old_out new_out = IsTakenIn (Err (Row row why)) new × (new_out ≡ old_out)
   IsImported (Err (RefusedText why)) new old_out new_out = ⊥
   IsImported (Err (Audit fault)) new old_out new_out = ⊥
+  IsImported (Err (Apply fault)) new old_out new_out = ⊥
   IsImported (Err Value) new old_out new_out = ⊥
   IsImported (Err Store) new old_out new_out = HoldsBooks g first acts new × (new_out ≡ old_out)
   IsImported (Err Foreign) new old_out new_out = ⊥

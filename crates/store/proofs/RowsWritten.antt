@@ -25,11 +25,11 @@ use Rattle.slice_parts.specs.NameOrder.{names_told}
 use Rattle.keyed_rows.specs.Writes.{each_written}
 use Rattle.goods_tables.specs.Bins.{bins_laws}
 use Rattle.goods_tables.specs.Lots.{lots_laws}
-use Rattle.changes.specs.Written.{names_written, goods_written, lines_written, orders_written, change_written}
+use Rattle.changes.specs.Written.{names_written, goods_written, lines_written, stage_emptied, orders_written, change_written}
 use Rattle.known_rows.specs.KnownRows.{RowMap, rows_at, ForgetsBy, Remembers}
 use Rattle.slices.specs.Remembering.{KnowsRows, ForgetsPut}
 use Rattle.slices.specs.declared.rows_known.RowsKnown.{RowsKnown}
-use Rattle.store.proofs.LinesWritten.{rows_spare}
+use Rattle.store.proofs.LinesWritten.{rows_spare, stage_spares}
 
 -- A row is put that is none of those that are sought
 
@@ -110,7 +110,8 @@ module _ (c : Change) (row : RepeatRow) (t : Tables) where
       let one : Tables = each_written with_order p.orders stocked in
       let two : Tables = each_written with_urgent p.urgents one in
       let three : Tables = lines_written p stocked in
-      let four : Tables = each_written (λ r. without_staged r.order r.lot) d.staged three in
+      let emptied : Tables = stage_emptied d.stage three in
+      let four : Tables = each_written (λ r. without_staged r.order r.lot) d.staged emptied in
       let five : Tables = each_written with_staged p.staged four in
       let six : Tables = each_written (λ r. without_reserved r.order r.lot) d.reserved five in
       let ordered : Tables = orders_written p d stocked in
@@ -122,7 +123,8 @@ module _ (c : Change) (row : RepeatRow) (t : Tables) where
       ∙ rows_spare goods with_reserved (λ r u. refl) p.reserved six
       ∙ rows_spare goods (λ r. without_reserved r.order r.lot) (λ r u. refl) d.reserved five
       ∙ rows_spare goods with_staged (λ r u. refl) p.staged four
-      ∙ rows_spare goods (λ r. without_staged r.order r.lot) (λ r u. refl) d.staged three
+      ∙ rows_spare goods (λ r. without_staged r.order r.lot) (λ r u. refl) d.staged emptied
+      ∙ stage_spares goods (λ o u. refl) d.stage three
       ∙ rows_spare goods with_line (λ r u. refl) p.lines two
       ∙ rows_spare goods with_urgent (λ r u. refl) p.urgents one
       ∙ rows_spare goods with_order (λ r u. refl) p.orders stocked

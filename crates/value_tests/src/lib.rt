@@ -9,6 +9,8 @@ mod commands_tests;
 #[cfg(test)]
 mod file_tests;
 #[cfg(test)]
+mod handed_tests;
+#[cfg(test)]
 mod hostile_files;
 #[cfg(test)]
 mod hostile_labels;

@@ -122,3 +122,21 @@ returns-in-History-clause-left g c = subst (λ w. IfErr c.open_and_print_acts.re
 
 pub returns-in-Audit-clause-left : goal.returns-in-Audit-clause-left
 returns-in-Audit-clause-left g c = subst (λ w. IfErr c.audit_books.result (λ e. IsNotBegun g.S.Store c.args.conn w e.0 e.1)) (sym c.in-Audit.is) c.audit_books.ensures.failed
+
+pub returns-in-Apply-clause-worked : goal.returns-in-Apply-clause-worked
+returns-in-Apply-clause-worked g c =
+    let log = g.L.Write.contents c.args.log.now in
+    subst (λ work. IfOk c.open_and_apply.result (λ w. HasCleanDisk (state g.S.Store w.0) → IsWorked g.S.Store c.args.conn work log log w.0))
+    (sym c.in-Apply.is) c.open_and_apply.ensures.applied
+
+pub returns-in-Apply-clause-judged : goal.returns-in-Apply-clause-judged
+returns-in-Apply-clause-judged g c = subst (λ w. IsJudged g.S.Store c.args.conn w c.open_and_apply.result) (sym c.in-Apply.is) c.open_and_apply.ensures.other
+
+pub returns-in-Apply-clause-told : goal.returns-in-Apply-clause-told
+returns-in-Apply-clause-told g c =
+    let at = g.W.Write.contents in
+    subst (λ work. IfOk c.open_and_apply.result (λ w. HasCleanDisk (state g.S.Store w.0) → IsTold g.S.Store (g.F.FilesAt.bytes c.args.files.now) c.args.conn work (at c.args.out.now) (at c.open_and_apply.new.out) w.1 w.0))
+    (sym c.in-Apply.is) c.open_and_apply.ensures.told
+
+pub returns-in-Apply-clause-left : goal.returns-in-Apply-clause-left
+returns-in-Apply-clause-left g c = subst (λ w. IfErr c.open_and_apply.result (λ e. IsNotBegun g.S.Store c.args.conn w e.0 e.1)) (sym c.in-Apply.is) c.open_and_apply.ensures.left

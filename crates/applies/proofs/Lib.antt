@@ -1,0 +1,10 @@
+pub mod LineFields
+pub mod Texts
+pub mod Loop
+pub mod Passed
+pub mod Walked
+pub mod BegunDays
+pub mod Fronts
+pub mod NextLine
+pub mod WalkEnds
+pub mod Standby

@@ -1,0 +1,20 @@
+-- A line was read, and all before it were done.
+use Rattle.std.proofs.Common.{List, Option}
+use Rattle.std.specs.Prelude.{ℕ, ℤ}
+use Rattle.sqlite.specs.Held.{state}
+use Rattle.sqlite.specs.State.{Survives}
+use Rattle.machine.specs.Acts.{Act}
+use Rattle.store.specs.Books.{IsClean}
+use Rattle.applies.specs.Going.{OfText}
+use Rattle.applies.specs.Lines.{Stands, LeavesLines}
+use Rattle.applies.proofs.Loop.{Comes}
+use Rattle.applies.proofs.lines.do_lines.Given as goal
+
+abbrev pub invariant-lines : goal.invariant-lines
+invariant-lines g l = record {
+  clean : IsClean g.S.Store l.books → IsClean g.S.Store l.fn.books;
+  comes : IsClean g.S.Store l.books → (left : Option (List ℕ)) (first begun : ℤ) (acts : List Act) → Stands g.S.Store first begun acts left (g.R.Read.remaining l.fn.reader) l.fn.at l.fn.line.items l.fn.books
+      → Comes g.S.Store g.R.Read.remaining left first begun acts l.fn.line.items l.fn.at.lines l.at l.reader l.line.items l.books;
+  survives : Survives (state g.S.Store l.fn.books.conn) (state g.S.Store l.books.conn) (λ trees. (left : Option (List ℕ)) (first begun : ℤ) (acts : List Act) → Stands g.S.Store first begun acts left (g.R.Read.remaining l.fn.reader) l.fn.at l.fn.line.items l.fn.books
+      → OfText left (λ text. LeavesLines first begun acts text trees));
+}

@@ -1,0 +1,78 @@
+//! A text of a history, applied to books.
+
+ghost use Rattle.std.specs.Prelude.{ℕ, ℤ, List, Option};
+ghost use Rattle.std.specs.Io.KnownBytes.{Consumes};
+ghost use Rattle.sqlite.specs.Held.{state};
+ghost use Rattle.sqlite.specs.State.{Survives};
+ghost use Rattle.machine.specs.Acts.{Act};
+ghost use Rattle.machine.specs.Once.{IsHistory};
+ghost use Rattle.store.specs.Books.{HoldsBooks, IsClean};
+ghost use Rattle.applies.specs.Applying.{IsApplied, LeavesOneOf};
+ghost use Rattle.applies.specs.Going.{OfText};
+ghost use Rattle.act_lines.specs.Walked.{IsRead};
+
+use crate::applied::{Applied, NotApplied};
+use crate::begun::find_begun;
+use crate::first::first_line;
+use crate::known::apply_lines;
+use act_lines::{KnownLines, LineFault, Place};
+use sqlite::Alter;
+use std::alloc::Global;
+use std::io::BufRead;
+use store::Books;
+
+/// Applies the text whose first line was read.
+fn apply_read<S: Alter, R: BufRead + Drop>(
+    alloc: Global,
+    books: &mut Books<S>,
+    reader: R,
+    line: Vec<u8>,
+    place: Place,
+) -> Result<Applied, NotApplied>
+    ensures clean { IsClean S.Store books.new → IsClean S.Store books.old }
+    ensures applied { IsClean S.Store books.new → (left : Option (List ℕ)) (first : ℤ) (acts : List Act) → IsHistory first acts → HoldsBooks S.Store first acts books.old
+        → Consumes left (R.remaining reader) line.items → IsRead place line.items left (R.remaining reader) → OfText left (λ text. IsApplied S.Store first acts text result books.new) }
+    ensures survives { Survives (state S.Store books.old.conn) (state S.Store books.new.conn) (λ trees. (left : Option (List ℕ)) (first : ℤ) (acts : List Act) → IsHistory first acts → HoldsBooks S.Store first acts books.old
+        → Consumes left (R.remaining reader) line.items → IsRead place line.items left (R.remaining reader) → OfText left (λ text. LeavesOneOf first acts text trees)) }
+{
+    match find_begun(alloc, books, line.as_slice()) {
+        Ok(day) => {
+            let lines = KnownLines {
+                alloc,
+                reader,
+                line,
+                done: 0,
+                day,
+                known: 0,
+                last: 0,
+                place,
+                fault: LineFault::Input,
+            };
+            apply_lines(alloc, books, lines)
+        }
+        Err(fault) => Err(fault),
+    }
+}
+
+/// Does the acts of a history's text that the books lack, a transaction each, each as its line comes. A line whose act the
+/// books have has to be that act's line; any other has to be the line of the act that comes next, byte for byte, and that
+/// act has to be accepted there. The first line that does not fit ends it: all before it are done, and so is whatever a stop
+/// leaves. A last line without its line feed is passed over. No memory grows with the text.
+pub fn apply_text<S: Alter, R: BufRead + Drop>(
+    alloc: Global,
+    books: &mut Books<S>,
+    reader: R,
+) -> Result<Applied, NotApplied>
+    ensures clean { IsClean S.Store books.new → IsClean S.Store books.old }
+    ensures applied { IsClean S.Store books.new → (first : ℤ) (acts : List Act) → IsHistory first acts → HoldsBooks S.Store first acts books.old
+        → OfText (R.remaining reader) (λ text. IsApplied S.Store first acts text result books.new) }
+    ensures survives { Survives (state S.Store books.old.conn) (state S.Store books.new.conn) (λ trees. (first : ℤ) (acts : List Act) → IsHistory first acts → HoldsBooks S.Store first acts books.old
+        → OfText (R.remaining reader) (λ text. LeavesOneOf first acts text trees)) }
+{
+    let mut reader = reader;
+    let mut line = Vec::new(alloc);
+    match first_line(&mut reader, &mut line) {
+        Ok(place) => apply_read(alloc, books, reader, line, place),
+        Err(fault) => Err(fault),
+    }
+}

@@ -1,0 +1,18 @@
+use Rattle.std.proofs.Common.{sym, subst}
+use Rattle.sqlite.specs.Held.{state}
+use Rattle.sqlite.specs.State.{HasCleanDisk}
+use Rattle.apply_line.specs.Applying.{KeepsMore}
+use Rattle.apply_line.proofs.TakenIn.{keeps_more}
+use Rattle.apply_line.proofs.applying.apply_books.Goals as goal
+
+pub returns-clause-applied : goal.returns-clause-applied
+returns-clause-applied g c clean first acts history holds leaves =
+    let done = c.apply_file-end in
+    subst (λ h. KeepsMore g.S.Store first acts h) (sym c.close.ensures.same)
+    (keeps_more g.S.Store first acts (g.F.FilesAt.bytes c.args.files.now c.args.name.now) _ _ done.result done.new.books history
+    (done.ensures.applied (subst (λ h. HasCleanDisk (state g.S.Store h)) c.close.ensures.same clean) first acts history holds leaves))
+
+pub returns-clause-told : goal.returns-clause-told
+returns-clause-told g c clean first acts history holds leaves =
+    let done = c.apply_file-end in
+    (done.new.books, c.close.ensures.same, done.ensures.applied (subst (λ h. HasCleanDisk (state g.S.Store h)) c.close.ensures.same clean) first acts history holds leaves)
