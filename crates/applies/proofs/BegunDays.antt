@@ -1,6 +1,6 @@
 -- The days on which acts began.
-use Rattle.std.proofs.Common.{◌≡◌, ◌≢◌, ℕ, ◌+◌, ◌<◌, true, false, List, [], ◌∷◌, ◌++◌, find, Option, Some, None, option_map, inl, inr, refl, sym, ap, subst, ◌∙◌, arith, eq-eqb, eqb-true, true≢false}
-use Rattle.std.specs.Prelude.{◌⊎◌, ℤ, pos, negsuc, ◌+ℤ◌, ◌-ℤ◌, int_le, int_lt, nat_eq, if◌then◌else◌, IsTrue}
+use Rattle.std.proofs.Common.{◌≡◌, ℕ, ◌<◌, true, false, List, [], ◌∷◌, ◌++◌, find, Option, Some, None, option_map, inl, inr, refl, sym, ap, subst, ◌∙◌, arith, eq-eqb, eqb-true}
+use Rattle.std.specs.Prelude.{ℤ, negsuc, ◌+ℤ◌, int_le, int_lt, nat_eq}
 use Rattle.std.specs.List.{AllByRecursion}
 use Rattle.std.proofs.lemmas.Bool.{cases_Bool}
 use Rattle.std.proofs.lemmas.Int.{ints}
@@ -15,7 +15,7 @@ use Rattle.commands.specs.declared.command.Command.TheVariants.{Receive, OpenDay
 use Rattle.machine.specs.Acts.{Act, next_number}
 use Rattle.machine.specs.Once.{IsHistory}
 use Rattle.machine.specs.Standing.{today}
-use Rattle.machine.specs.Tables.{Tables, tables_of, card_row}
+use Rattle.machine.specs.Tables.{tables_of, card_row}
 use Rattle.machine.specs.Views.{card_of_lot}
 use Rattle.store.proofs.CardOrder.{card_in_order}
 use Rattle.histories.specs.Start.{dated, first_dated, or_else, receipt, IsPassed, TellsDay}

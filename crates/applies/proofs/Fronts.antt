@@ -1,11 +1,10 @@
 -- Texts of histories, compared from their first lines on.
-use Rattle.std.proofs.Common.{◌≡◌, ◌≢◌, ℕ, ◌+◌, ◌<◌, ◌^◌, true, false, List, [], ◌∷◌, ◌++◌, append_assoc, append-nil, length, Some, refl, sym, ap, subst, ◌∙◌, arith, eqb-true}
-use Rattle.std.specs.Prelude.{ℤ, ◌==◌, decimal, nat_le}
+use Rattle.std.proofs.Common.{◌≡◌, ◌≢◌, ℕ, ◌<◌, ◌^◌, List, [], ◌∷◌, ◌++◌, append_assoc, append-nil, refl, sym, ap, subst, ◌∙◌, arith, eqb-true}
+use Rattle.std.specs.Prelude.{ℤ, ◌==◌}
 use Rattle.std.proofs.lemmas.Bool.{false_from_ne_true}
 use Rattle.std.proofs.lemmas.Bool.Decides.{nat_tests}
 use Rattle.std.proofs.lemmas.Option.{same_Some}
 use Rattle.std.proofs.lemmas.List.Elements.{All-head, All-tail}
-use Rattle.commands.specs.declared.limits.TheConstants.{ACTS_MAX}
 use Rattle.commands.specs.Spelling.{key_text, spelling}
 use Rattle.commands.specs.declared.key.Key.{Key}
 use Rattle.commands.specs.declared.command.Command.{Command}
@@ -21,7 +20,6 @@ use Rattle.histories.specs.Newer.{act_line, newer_text}
 use Rattle.act_lines.specs.Reading.{IsPart, IsLine}
 use Rattle.applies.specs.Fields.{untabbed, key_and_spelling}
 use Rattle.applies.proofs.LineFields.{lacks, key_printable, spelling_lacks, key_cut, untabbed_again, line_is_line}
-use Rattle.applies.proofs.Texts.{no_line}
 
 -- ---- one line is of one act
 
@@ -65,7 +63,7 @@ part_no_line a rest part m e p = go m.body (subst IsPart (sym (sym (ap (λ t. t 
     go [] q = All-head (λ b. b ≢ 10) 10 rest q refl
     go (c ∷ s) q = go s (All-tail (λ b. b ≢ 10) c (s ++ 10 ∷ rest) q)
 
-line_not_empty : (a rest : List ℕ) → IsLine a → [] ≡ a ++ rest → ⊥
+pub line_not_empty : (a rest : List ℕ) → IsLine a → [] ≡ a ++ rest → ⊥
 line_not_empty a rest m e = go m.body (e ∙ ap (λ t. t ++ rest) m.is ∙ append_assoc m.body (10 ∷ []) rest)
   where
     go : (s : List ℕ) → [] ≡ s ++ 10 ∷ rest → ⊥
@@ -98,7 +96,7 @@ forward_onto begun (act ∷ newer) older rest =
 pub forward_is : (begun : ℤ) (newer older : List Act) → newer_text begun newer older ≡ forward begun older (onto newer [])
 forward_is begun newer older = sym (forward_onto begun newer older [] ∙ append-nil (newer_text begun newer older))
 
-onto_history : (first : ℤ) (acts older : List Act) → IsHistory first (onto acts older) → IsHistory first older
+pub onto_history : (first : ℤ) (acts older : List Act) → IsHistory first (onto acts older) → IsHistory first older
 onto_history first [] older h = h
 onto_history first (act ∷ acts) older h = (onto_history first acts (act ∷ older) h).0
 

@@ -8,3 +8,4 @@ pub mod Fronts
 pub mod NextLine
 pub mod WalkEnds
 pub mod Standby
+pub mod Taken

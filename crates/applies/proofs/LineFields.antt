@@ -1,11 +1,11 @@
 -- The fields of an act's line are read as the act.
-use Rattle.std.proofs.Common.{◌≡◌, ◌≢◌, ℕ, ◌-◌, ◌<◌, ◌^◌, true, false, List, [], ◌∷◌, ◌++◌, append_assoc, length, length-append, take, map, All, Option, Some, None, option_map, inl, inr, refl, sym, ap, subst, ◌∙◌, arith, eq-eqb, eqb-true, true≢false}
-use Rattle.std.specs.Prelude.{ℤ, ◌==◌, if◌then◌else◌, decimal, codes}
-use Rattle.std.specs.List.{join_with_byte, list_all}
+use Rattle.std.proofs.Common.{◌≡◌, ◌≢◌, ℕ, ◌-◌, ◌<◌, ◌^◌, true, false, List, [], ◌∷◌, ◌++◌, append_assoc, length, length-append, take, Option, Some, None, option_map, inl, inr, refl, sym, ap, ◌∙◌, arith, eq-eqb, eqb-true, true≢false}
+use Rattle.std.specs.Prelude.{ℤ, ◌==◌, decimal, codes}
+use Rattle.std.specs.List.{join_with_byte}
 use Rattle.std.proofs.lemmas.Bool.{cases_Bool}
 use Rattle.std.proofs.lemmas.List.{take-append-le}
 use Rattle.std.proofs.Math.Seq.{take-length}
-use Rattle.std.proofs.lemmas.List.Elements.{All-nil, All-cons, All-append}
+use Rattle.std.proofs.lemmas.List.Elements.{All-nil, All-cons}
 use Rattle.values.specs.Values.{is_name, is_line_no}
 use Rattle.label.specs.Days.{day_text}
 use Rattle.commands.specs.Sound.{is_sound, is_sound_key}

@@ -1,5 +1,5 @@
 -- The lines that were read so far, and the acts that were done.
-use Rattle.std.proofs.Common.{◌≡◌, ◌≢◌, ℕ, ◌+◌, List, [], ◌∷◌, ◌++◌, append_assoc, length, Option, Ok, Err, inl, inr, refl, sym, ap, subst, ◌∙◌, arith}
+use Rattle.std.proofs.Common.{◌≡◌, ◌≢◌, ℕ, ◌+◌, List, [], ◌∷◌, ◌++◌, append_assoc, length, Option, Ok, Err, inl, inr, refl, sym, ap, subst, arith}
 use Rattle.std.specs.Prelude.{◌⊎◌, ℤ, OnSome}
 use Rattle.std.specs.Io.KnownBytes.{Consumes, IsAtEnd}
 use Rattle.std.proofs.KnownBytes.{Consumes-trans}
@@ -13,7 +13,7 @@ use Rattle.histories.specs.Newer.{newer_text}
 use Rattle.act_lines.specs.Reading.{IsPart, IsLine}
 use Rattle.act_lines.proofs.Ends.{end_back}
 use Rattle.applies.specs.Going.{IsOfNoLine, OfText}
-use Rattle.applies.specs.Lines.{IsAt, Stands, GoesOnByNone, MisfitsThere, IsLineAdded, LeavesLine, AreLinesDone, LeavesLines}
+use Rattle.applies.specs.Lines.{IsAt, Stands, MisfitsThere, IsLineAdded, LeavesLine, AreLinesDone, LeavesLines}
 use Rattle.applies.specs.declared.applied.NotApplied.{NotApplied}
 use Rattle.applies.specs.declared.applied.NotApplied.TheVariants.{Line}
 use Rattle.applies.specs.declared.next.At.{At}

@@ -1,5 +1,5 @@
 -- The line of the act that comes next, and what comes of the act.
-use Rattle.std.proofs.Common.{◌≡◌, ℕ, ◌+◌, ◌<◌, ◌^◌, true, false, List, ◌∷◌, Some, None, Ok, Err, Result, inl, inr, refl, sym, ap, subst, ◌∙◌, arith, true≢false}
+use Rattle.std.proofs.Common.{◌≡◌, ℕ, ◌+◌, ◌<◌, ◌^◌, false, List, Some, None, Ok, Err, inl, inr, refl, sym, ap, subst, ◌∙◌, arith, true≢false}
 use Rattle.std.specs.Prelude.{◌⊎◌, ℤ}
 use Rattle.std.proofs.lemmas.Option.{same_Some, none-some}
 use Rattle.sqlite_trees.specs.declared.store.Store.{Ghosts}
@@ -8,12 +8,12 @@ use Rattle.commands.specs.Spelling.{key_text, spelling}
 use Rattle.commands.specs.declared.key.Key.{Key}
 use Rattle.commands.specs.declared.command.Command.{Command}
 use Rattle.machine.specs.Acts.{Act, next_number}
-use Rattle.machine.specs.Standing.{today, day_after_command}
+use Rattle.machine.specs.Standing.{day_after_command}
 use Rattle.machine.specs.Once.{Outcome, Accepted, Repeated, Refused, outcome, appended, acts_after, is_key_of, IsSoundRequest, IsHistory}
 use Rattle.histories.specs.Text.{history_line}
 use Rattle.histories.specs.Newer.{act_line}
 use Rattle.store.specs.Connected.{Connected}
-use Rattle.store.specs.Books.{AreBooks, HoldsBooks}
+use Rattle.store.specs.Books.{AreBooks}
 use Rattle.replays.specs.Replaying.{IsReplayed}
 use Rattle.replays.specs.declared.fault.NotReplayed.{NotReplayed}
 use Rattle.replays.specs.declared.fault.NotReplayed.TheVariants as again

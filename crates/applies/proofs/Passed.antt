@@ -1,16 +1,16 @@
 -- The text as a whole: the lines of acts that the books had, and those behind them.
-use Rattle.std.proofs.Common.{◌≡◌, ◌≢◌, ℕ, ◌+◌, ◌-◌, List, [], ◌∷◌, ◌++◌, append_assoc, append-nil, length, length-append, Option, Some, None, Result, Ok, Err, inl, inr, refl, sym, ap, subst, ◌∙◌, arith}
+use Rattle.std.proofs.Common.{◌≡◌, ◌≢◌, ℕ, ◌+◌, ◌-◌, List, [], ◌∷◌, ◌++◌, append_assoc, append-nil, length, length-append, Result, Ok, Err, inl, inr, refl, sym, ap, subst, ◌∙◌, arith}
 use Rattle.std.specs.Prelude.{◌⊎◌, ℤ}
 use Rattle.std.proofs.lemmas.List.Elements.{All-nil}
 use Rattle.sqlite_trees.specs.declared.store.Store.{Ghosts}
 use Rattle.sqlite_trees.specs.Tree.{Trees}
-use Rattle.machine.specs.Acts.{Act, next_number}
+use Rattle.machine.specs.Acts.{Act}
 use Rattle.machine.specs.Once.{IsHistory}
 use Rattle.store.specs.Connected.{Connected}
 use Rattle.store.specs.Books.{AreBooks, HoldsBooks}
 use Rattle.histories.specs.Newer.{act_line, newer_text}
 use Rattle.act_lines.specs.Reading.{IsPart}
-use Rattle.applies.specs.Going.{GoneOn, IsCounted, MayCome, IsOfNone, Misfits, IsOfNoLine, StopsAtLine, IsDone, GoesOn, Leaves}
+use Rattle.applies.specs.Going.{GoneOn, IsOfNone, Misfits, IsOfNoLine, StopsAtLine, IsDone, GoesOn, Leaves}
 use Rattle.applies.specs.Known.{counted}
 use Rattle.applies.specs.Lines.{GoesOnByNone, MisfitsThere, EndsAtLine, AreLinesDone, IsBehindEnded, AreBehindDone, LeavesLines}
 use Rattle.applies.specs.declared.applied.Applied.{Applied}

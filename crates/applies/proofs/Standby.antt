@@ -1,8 +1,7 @@
 -- The text of a whole history, applied to new books.
-use Rattle.std.proofs.Common.{◌≡◌, List, [], ◌∷◌, ◌++◌, append-nil, Some, Ok, refl, sym, ap, subst, ◌∙◌}
+use Rattle.std.proofs.Common.{◌≡◌, List, [], ◌∷◌, ◌++◌, append-nil, refl, sym, ap, subst, ◌∙◌}
 use Rattle.std.specs.Prelude.{ℤ, Option, option_map}
 use Rattle.std.proofs.lemmas.Option.{same_Some}
-use Rattle.sqlite_trees.specs.Tree.{Trees}
 use Rattle.commands.specs.declared.rows.MetaRow.{MetaRow}
 use Rattle.machine.specs.Acts.{Act}
 use Rattle.machine.specs.Once.{IsHistory}
@@ -10,8 +9,6 @@ use Rattle.machine.specs.Tables.{Tables, tables_of}
 use Rattle.histories.specs.Text.{history_text}
 use Rattle.histories.specs.Newer.{act_line, newer_text}
 use Rattle.store.specs.Books.{AreBooks}
-use Rattle.applies.specs.Begun.{BegunOn}
-use Rattle.applies.specs.Going.{GoneOn}
 use Rattle.applies.specs.Laws.{StandbyIsPrimary}
 use Rattle.applies.proofs.Passed.{no_front, no_back}
 use Rattle.applies.proofs.Fronts.{one_list}
@@ -23,7 +20,7 @@ text_is begun (act ∷ before) = ap (λ t. t ++ act_line begun act before) (text
 abbrev day_of : Option MetaRow → Option ℤ
 day_of row = option_map (λ (m : MetaRow). m.day) row
 
-new_day : (first begun : ℤ) → tables_of begun [] ≡ tables_of first [] → begun ≡ first
+pub new_day : (first begun : ℤ) → tables_of begun [] ≡ tables_of first [] → begun ≡ first
 unfolding tables_of
 new_day first begun e = same_Some begun first (ap (λ (t : Tables). day_of t.meta) e)
 

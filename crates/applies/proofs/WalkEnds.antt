@@ -1,13 +1,11 @@
 -- How the walk over the rows of the acts ended, and what a stop leaves then.
-use Rattle.std.proofs.Common.{◌≡◌, ℕ, List, Option, Ok, Err, Result, inl, inr, refl, sym, subst, arith}
+use Rattle.std.proofs.Common.{ℕ, List, Option, Err, inl, inr, refl, sym, subst, arith}
 use Rattle.std.specs.Prelude.{◌⊎◌, ℤ}
 use Rattle.sqlite.specs.State.{State, HasCleanDisk, Survives}
 use Rattle.sqlite.proofs.StateLemmas.{survives_then, survives_weaker}
 use Rattle.sqlite_trees.specs.Tree.{Trees}
 use Rattle.commands.specs.Sinks.{ReachesWithin}
 use Rattle.machine.specs.Acts.{Act}
-use Rattle.machine.specs.Once.{IsHistory}
-use Rattle.store.specs.Books.{KeepsBooks}
 use Rattle.store.specs.Handing.{HandsRecords, NoBooks}
 use Rattle.store.specs.declared.fault.Fault.{Fault}
 use Rattle.store.specs.declared.fault.Fault.TheVariants as store

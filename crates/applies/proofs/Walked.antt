@@ -1,5 +1,5 @@
 -- What the walk over the rows of the acts comes to.
-use Rattle.std.proofs.Common.{◌≡◌, ◌≢◌, ℕ, ◌+◌, ◌-◌, List, [], ◌∷◌, ◌++◌, append_assoc, append-nil, length, length-append, Option, Some, None, Result, Ok, Err, inl, inr, refl, sym, ap, subst, ◌∙◌, arith}
+use Rattle.std.proofs.Common.{◌≡◌, ◌≢◌, ℕ, ◌+◌, ◌-◌, List, [], ◌∷◌, ◌++◌, append_assoc, append-nil, length, length-append, Option, Result, Ok, Err, inl, inr, refl, sym, ap, subst, ◌∙◌, arith}
 use Rattle.std.specs.Prelude.{◌⊎◌, ℤ, OnSome}
 use Rattle.std.specs.Io.KnownBytes.{Consumes, IsAtEnd}
 use Rattle.std.proofs.KnownBytes.{Consumes-trans}
@@ -11,17 +11,17 @@ use Rattle.store.specs.Books.{HoldsBooks}
 use Rattle.histories.specs.Newer.{act_line, newer_text}
 use Rattle.act_lines.specs.Reading.{IsPart, IsLine, IsPiece, IsNumbered}
 use Rattle.act_lines.specs.Known.{IsUnlike}
-use Rattle.act_lines.specs.Walked.{AtPlace, WithinText, BehindText, HasPassed, HasBroken, MissesLine, IsRead}
+use Rattle.act_lines.specs.Walked.{AtPlace, WithinText, BehindText, HasBroken, MissesLine, IsRead}
 use Rattle.act_lines.specs.declared.fault.LineFault.{LineFault}
 use Rattle.act_lines.specs.declared.fault.LineFault.TheVariants as told
 use Rattle.act_lines.specs.declared.known.KnownLines.{KnownLines}
 use Rattle.act_lines.specs.declared.known.Place.{Place}
 use Rattle.act_lines.specs.declared.known.Place.TheVariants.{Before, Within, Behind}
-use Rattle.applies.specs.Going.{GoneOn, MayCome, IsOfNone, IsOfNoLine, Misfits, StopsAtLine, GoesOn, OfText}
+use Rattle.applies.specs.Going.{GoneOn, IsOfNone, IsOfNoLine, Misfits, StopsAtLine, GoesOn, OfText}
 use Rattle.applies.specs.Known.{IsToldAs, ArePassed}
 use Rattle.applies.specs.declared.applied.Applied.{Applied}
 use Rattle.applies.specs.declared.applied.NotApplied.{NotApplied}
-use Rattle.applies.specs.declared.applied.NotApplied.TheVariants.{Differs, Line, Input, Store, Foreign}
+use Rattle.applies.specs.declared.applied.NotApplied.TheVariants.{Differs}
 use Rattle.applies.proofs.Texts.{one_place, told_on, told_at_end, told_any}
 use Rattle.applies.proofs.Passed.{nothing, none_gone, stops_own}
 

@@ -6,7 +6,7 @@ use Rattle.commands.specs.declared.refusal.Refusal.{Refusal}
 use Rattle.machine.specs.Acts.{Act, next_number}
 use Rattle.machine.specs.Once.{IsHistory, IsSoundRequest, outcome}
 use Rattle.histories.specs.Newer.{act_line, newer_text}
-use Rattle.act_lines.specs.Reading.{IsPart, IsLine, IsNumbered, IsPiece}
+use Rattle.act_lines.specs.Reading.{IsPart, IsNumbered, IsPiece}
 use Rattle.replays.specs.Replaying.{cause}
 use Rattle.store.specs.Connected.{Connected}
 use Rattle.store.specs.Books.{AreBooks, HoldsBooks}

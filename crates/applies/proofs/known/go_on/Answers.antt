@@ -1,4 +1,4 @@
-use Rattle.std.proofs.Common.{◌++◌, Ok, refl, ap, sym, subst, ◌∙◌}
+use Rattle.std.proofs.Common.{Ok, refl, ap, sym, subst, ◌∙◌}
 use Rattle.sqlite.proofs.StateLemmas.{survives_weaker}
 use Rattle.histories.specs.Newer.{newer_text}
 use Rattle.act_lines.specs.Walked.{AtPlace}

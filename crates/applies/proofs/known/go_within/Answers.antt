@@ -1,4 +1,4 @@
-use Rattle.std.proofs.Common.{◌++◌, Ok, Err, ap, sym, subst, ◌∙◌}
+use Rattle.std.proofs.Common.{Ok, Err, ap, sym, subst, ◌∙◌}
 use Rattle.applies.specs.Lines.{AreLinesDone, AreBehindDone}
 use Rattle.applies.proofs.Texts.{told_on, told_weaker}
 use Rattle.applies.proofs.Passed.{behind_of, long_behind}

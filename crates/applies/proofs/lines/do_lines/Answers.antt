@@ -1,11 +1,11 @@
-use Rattle.std.proofs.Common.{◌++◌, Ok, refl, ap, subst, inl, ◌∙◌}
+use Rattle.std.proofs.Common.{◌++◌, Ok, ap, subst, inl, ◌∙◌}
 use Rattle.std.specs.Prelude.{◌⊎◌}
 use Rattle.sqlite.specs.Held.{state}
 use Rattle.applies.specs.Going.{IsOfNoLine}
 use Rattle.applies.specs.Lines.{MisfitsThere, IsLineAdded, LeavesLine}
 use Rattle.applies.specs.declared.applied.NotApplied.TheVariants.{Store}
-use Rattle.applies.proofs.Loop.{starts, one_done, next_read, ended, fails_behind, fails_at, leaves_at}
-use Rattle.applies.proofs.WalkEnds.{survives_itself, then_left}
+use Rattle.applies.proofs.Loop.{one_done, next_read, ended, fails_behind, fails_at, leaves_at}
+use Rattle.applies.proofs.WalkEnds.{then_left}
 use Rattle.applies.proofs.lines.do_lines.Goals as goal
 
 pub lines-preserved : goal.lines-preserved
