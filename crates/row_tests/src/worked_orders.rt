@@ -169,16 +169,18 @@ fn puts_units_back(rt: HostRuntime) {
 }
 
 // The first order wants bread too, and has it on its stage.
+const LINES_WITH_BREAD: &str = "S-1|09506000134352|12|0\n\
+    S-1|04012345000016|2|0\n\
+    S-2|09506000134352|12|0";
+
 const WITH_BREAD: Sample = Sample {
-    lines: "S-1|09506000134352|12|0\n\
-        S-1|04012345000016|2|0\n\
-        S-2|09506000134352|12|0",
+    lines: LINES_WITH_BREAD,
     staged: "S-1|L0|5\nS-1|04012345000016|N1|2",
     ..L0_STAGED
 };
 
 const ALL_WITH_BREAD: Sample = Sample {
-    lines: WITH_BREAD.lines,
+    lines: LINES_WITH_BREAD,
     staged: "S-1|04012345000016|N1|2\nS-1|L0|5\nS-1|L2|7",
     ..ALL_STAGED
 };

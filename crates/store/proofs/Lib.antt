@@ -26,3 +26,6 @@ pub mod BoundsWritten
 pub mod RowsWritten
 pub mod KnownKept
 pub mod BooksWhole
+pub mod ActsFit
+pub mod UnitsFit
+pub mod RowsFit

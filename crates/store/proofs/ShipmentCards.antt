@@ -56,14 +56,14 @@ lines_appended (c ∷ cs) ds [] ts one two = absurd one
 
 -- ---- postings that go to no shipment
 
-abbrev is_shipped : Place → Bool
+abbrev pub is_shipped : Place → Bool
 is_shipped (Shipped n o) = true
 is_shipped _ = false
 
-abbrev Stays : Posting → Type 0
+abbrev pub Stays : Posting → Type 0
 Stays p = (is_shipped p.from ≡ false) × (is_shipped p.to ≡ false)
 
-stays_posting : (n : ℕ) (l : LotId) (from to : Place) (q : ℕ) → is_shipped from ≡ false → is_shipped to ≡ false → AllByRecursion Stays (posting n l from to q)
+pub stays_posting : (n : ℕ) (l : LotId) (from to : Place) (q : ℕ) → is_shipped from ≡ false → is_shipped to ≡ false → AllByRecursion Stays (posting n l from to q)
 stays_posting n l from to q f t = elim (cases_Bool (q == 0)) [ inl e ↦ rw e tt | inr e ↦ rw e ((f, t), tt) ]
 
 module _ (n : ℕ) (ps : List Posting) where
@@ -72,15 +72,15 @@ module _ (n : ℕ) (ps : List Posting) where
   stays_lot k (p ∷ os) =
       all-append Stays (cleared n ps (InBin RETURNS) p.order k.lot) (lot_returned n os ps k) (stays_posting n k.lot (Stage p.order) (InBin RETURNS) (balance (is_stage p.order) (is_lot k.lot) ps) refl refl) (stays_lot k os)
 
-  stays_returned : (os : List Placed) (ks : List KnownLot) → AllByRecursion Stays (returned n ks os ps)
+  pub stays_returned : (os : List Placed) (ks : List KnownLot) → AllByRecursion Stays (returned n ks os ps)
   stays_returned os [] = tt
   stays_returned os (k ∷ ks) = all-append Stays (lot_returned n os ps k) (returned n ks os ps) (stays_lot k os) (stays_returned os ks)
 
-  stays_written : (l : LotId) (b : List ℕ) (z : ℤ) → AllByRecursion Stays (written n l b z)
+  pub stays_written : (l : LotId) (b : List ℕ) (z : ℤ) → AllByRecursion Stays (written n l b z)
   stays_written l b (pos k) = stays_posting n l WriteOff (InBin b) k refl refl
   stays_written l b (negsuc k) = stays_posting n l (InBin b) WriteOff (suc k) refl refl
 
-  stays_corrected : (l : LotId) (b : List ℕ) (have found : ℕ) → AllByRecursion Stays (correction n l b have found)
+  pub stays_corrected : (l : LotId) (b : List ℕ) (have found : ℕ) → AllByRecursion Stays (correction n l b have found)
   stays_corrected l b have found =
       all-append Stays (posting n l WriteOff (InBin b) (found - have)) (posting n l (InBin b) WriteOff (have - found)) (stays_posting n l WriteOff (InBin b) (found - have) refl refl) (stays_posting n l (InBin b) WriteOff (have - found) refl refl)
 
@@ -101,7 +101,7 @@ module _ (n : ℕ) (lots : LotId → Bool) where
   none_out (q ∷ qs) all = let off = elsewhere q.from all.0.0 in let more = none_out qs all.1 in rw off (omega (arith, more))
 
   -- they leave the units of a shipment
-  units_stay : (qs ps : List Posting) → AllByRecursion Stays qs → balance (is_shipment n) lots (qs ++ ps) ≡ balance (is_shipment n) lots ps
+  pub units_stay : (qs ps : List Posting) → AllByRecursion Stays qs → balance (is_shipment n) lots (qs ++ ps) ≡ balance (is_shipment n) lots ps
   units_stay qs ps all =
       omega (
         arith,

@@ -84,7 +84,7 @@ have_orders first (act ∷ before) history =
 
 -- ---- how many there are
 
-acts_within : (first : ℤ) (acts : List Act) → IsHistory first acts → length acts ≤ ACTS_MAX
+pub acts_within : (first : ℤ) (acts : List Act) → IsHistory first acts → length acts ≤ ACTS_MAX
 acts_within first [] history = lit≤ tt
 acts_within first (act ∷ before) history = let room = one_more (length before) (room_for_acts first before act.command history.1.passes) in omega (arith, room)
   where

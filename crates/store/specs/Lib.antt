@@ -13,3 +13,4 @@ pub mod EachFaults
 pub mod Handing
 pub mod ActRows
 pub mod Knowing
+pub mod Fitting

@@ -1,0 +1,53 @@
+-- The numbers of rows are within the bounds of their columns.
+use Rattle.std.specs.Prelude.{◌≡◌, ℕ, true, List, Some, ℤ}
+use Rattle.values.specs.declared.lot.LotId.{LotId}
+use Rattle.commands.specs.Tables.{Tables}
+use Rattle.commands.specs.declared.rows.MetaRow.{MetaRow}
+use Rattle.commands.specs.declared.rows.LotRow.{LotRow}
+use Rattle.commands.specs.declared.rows.RecallRow.{RecallRow}
+use Rattle.commands.specs.declared.rows.StockRow.{StockRow}
+use Rattle.commands.specs.declared.rows.OrderRow.{OrderRow}
+use Rattle.commands.specs.declared.rows.UrgentRow.{UrgentRow}
+use Rattle.commands.specs.declared.rows.LineRow.{LineRow}
+use Rattle.commands.specs.declared.rows.StagedRow.{StagedRow}
+use Rattle.commands.specs.declared.rows.ReservedRow.{ReservedRow}
+use Rattle.commands.specs.declared.rows.ShipmentRow.{ShipmentRow}
+use Rattle.commands.specs.declared.rows.ShiplineRow.{ShiplineRow}
+use Rattle.commands.specs.declared.rows.CardRow.{CardRow}
+use Rattle.commands.specs.declared.rows.RepeatRow.{RepeatRow}
+use Rattle.goods_tables.specs.Meta.{fits_meta}
+use Rattle.goods_tables.specs.Lots.{fits_lot}
+use Rattle.goods_tables.specs.Recalls.{fits_recall}
+use Rattle.goods_tables.specs.Stock.{fits_stock}
+use Rattle.order_tables.specs.Orders.{fits_order}
+use Rattle.order_tables.specs.Urgents.{fits_urgent}
+use Rattle.order_tables.specs.Lines.{fits_line}
+use Rattle.order_tables.specs.Staged.{fits_staged}
+use Rattle.order_tables.specs.Reserved.{fits_reserved}
+use Rattle.history_tables.specs.Shipments.{fits_shipment}
+use Rattle.history_tables.specs.Shiplines.{fits_shipline}
+use Rattle.history_tables.specs.Cards.{fits_card}
+use Rattle.history_tables.specs.Repeats.{fits_repeat}
+use Rattle.machine.specs.Acts.{Act}
+use Rattle.machine.specs.Once.{IsHistory}
+use Rattle.machine.specs.Tables.{tables_of}
+
+-- those of each row; the rows of items, bins and `least` have no number that a type leaves open
+pub record AreFitting (t : Tables) : Type 0 where
+  pub meta : (row : MetaRow) → t.meta ≡ Some row → fits_meta row ≡ true
+  pub lots : (l : LotId) (row : LotRow) → t.lot l ≡ Some row → fits_lot row ≡ true
+  pub recalls : (l : LotId) (row : RecallRow) → t.recall l ≡ Some row → fits_recall row ≡ true
+  pub stock : (l : LotId) (b : List ℕ) (row : StockRow) → t.stock l b ≡ Some row → fits_stock row ≡ true
+  pub orders : (o : List ℕ) (row : OrderRow) → t.order o ≡ Some row → fits_order row ≡ true
+  pub urgents : (o : List ℕ) (row : UrgentRow) → t.urgent o ≡ Some row → fits_urgent row ≡ true
+  pub lines : (o g : List ℕ) (row : LineRow) → t.line o g ≡ Some row → fits_line row ≡ true
+  pub staged : (o : List ℕ) (l : LotId) (row : StagedRow) → t.staged o l ≡ Some row → fits_staged row ≡ true
+  pub reserved : (o : List ℕ) (l : LotId) (row : ReservedRow) → t.reserved o l ≡ Some row → fits_reserved row ≡ true
+  pub shipments : (n : ℕ) (row : ShipmentRow) → t.shipment n ≡ Some row → fits_shipment row ≡ true
+  pub shiplines : (n : ℕ) (l : LotId) (row : ShiplineRow) → t.shipline n l ≡ Some row → fits_shipline row ≡ true
+  pub cards : (l : LotId) (n : ℕ) (row : CardRow) → t.card l n ≡ Some row → fits_card row ≡ true
+  pub repeats : (k : List ℕ) (row : RepeatRow) → t.repeat k ≡ Some row → fits_repeat row ≡ true
+
+-- a table refuses no row of a history for its size
+abbrev pub RowsOfActsFit : Type 0
+RowsOfActsFit = (first : ℤ) (acts : List Act) → IsHistory first acts → AreFitting (tables_of first acts)
