@@ -36,6 +36,8 @@ enum Turn {
     Put(&'static [u8]),
     /// A file of the first page alone is put there, as where the making of books stopped after it.
     PutPage,
+    /// These bytes are put beside it, where its log would be.
+    PutLog(&'static [u8]),
 }
 
 /// Where a line prints. Once it has told its port, a client comes to it, where one is to come.
@@ -142,7 +144,7 @@ fn finds_taken(host: &HostRuntime, rt: &impl Abort, db: &str) {
     drop(listener);
 }
 
-fn making(rt: &impl Abort) -> Work<'static> {
+pub(crate) fn making(rt: &impl Abort) -> Work<'static> {
     let day = Day::parse(b"2026-05-04").and_then(BusinessDay::new);
     Work::Make(day.expect(rt, "a business day"))
 }
@@ -173,10 +175,15 @@ const PAGE_HEAD: [u8; 108] = [
     0, 0, 0, 0, 0, 0, 0, 0, 0, 0, 0, 46, 118, 136, 13, 0, 0, 0, 0, 4, 0, 0,
 ];
 
-fn first_page() -> [u8; 1024] {
+pub(crate) fn first_page() -> [u8; 1024] {
     let mut page = [0; 1024];
     page[..PAGE_HEAD.len()].copy_from_slice(&PAGE_HEAD);
     page
+}
+
+fn put_log(host: &HostRuntime, rt: &impl Abort, db: &str, held: &[u8]) {
+    let log = format!(in host.alloc(); "{db}-wal").expect(rt, "memory");
+    fs::write(host, log.as_str(), held).expect(rt, "a log");
 }
 
 fn take(host: &HostRuntime, rt: &impl Abort, db: &str, turn: Turn) {
@@ -192,6 +199,7 @@ fn take(host: &HostRuntime, rt: &impl Abort, db: &str, turn: Turn) {
         Turn::Has(held) => assert!(rt; bytes(host, rt, db).as_slice() == held),
         Turn::Put(held) => fs::write(host, db, held).expect(rt, "a file"),
         Turn::PutPage => fs::write(host, db, first_page().as_slice()).expect(rt, "a page"),
+        Turn::PutLog(held) => put_log(host, rt, db, held),
     }
 }
 
@@ -227,8 +235,8 @@ fn keeps_books_in_a_file(rt: HostRuntime) {
 }
 
 // Where the making of books stopped after the first page, and where an empty file is there, it goes on; a file that is
-// none of books stays as it is.
-static LAID: [&[Turn]; 4] = [
+// none of books stays as it is. Beside a log with something in it no page is laid: a new file then has pages of 4,096 bytes.
+static LAID: [&[Turn]; 6] = [
     &[Turn::PutPage, Turn::Make(""), Turn::HasPages(1024)],
     &[
         Turn::PutPage,
@@ -245,6 +253,13 @@ static LAID: [&[Turn]; 4] = [
         Turn::Has(b"no database"),
     ],
     &[Turn::Put(b""), Turn::Make(""), Turn::HasPages(1024)],
+    &[Turn::PutLog(b""), Turn::Make(""), Turn::HasPages(1024)],
+    &[
+        Turn::PutLog(b"no log"),
+        Turn::Make(""),
+        Turn::HasPages(4096),
+        Turn::Card("lotd: U01\n"),
+    ],
 ];
 
 #[test]

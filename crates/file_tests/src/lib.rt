@@ -10,6 +10,8 @@ mod disk;
 #[cfg(test)]
 mod failing;
 #[cfg(test)]
+mod first_pages;
+#[cfg(test)]
 mod foreign_files;
 #[cfg(test)]
 mod host_file;
