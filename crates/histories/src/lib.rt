@@ -12,6 +12,6 @@ mod start;
 pub use dated::{Dated, FirstDated};
 pub use fault::HistoryFault;
 pub use line::act_text;
-pub use lines::{day_after, day_then};
+pub use lines::{HistoryLines, day_after, day_then};
 pub use printing::{print_above, print_history};
 pub use start::CardDay;

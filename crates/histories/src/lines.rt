@@ -15,15 +15,15 @@ use std::io::Write;
 /// Writes the lines of the acts to `out`, in the order of their numbers. It stops at a row that is not of the next act or
 /// spells no command, where no memory is left, and where `out` fails: a beginning of the line then stands.
 #[derive(Drop)]
-pub(crate) struct HistoryLines<W> {
-    pub(crate) alloc: Global,
+pub struct HistoryLines<W> {
+    pub alloc: Global,
     /// The business day after the last act.
-    pub(crate) day: Day,
+    pub day: Day,
     /// The number of the last act.
-    pub(crate) done: u64,
+    pub done: u64,
     /// Why it stopped, where it did.
-    pub(crate) fault: HistoryFault,
-    pub(crate) out: W,
+    pub fault: HistoryFault,
+    pub out: W,
 }
 
 impl<W: Write> Sink<RepeatRow> for HistoryLines<W> {

@@ -4,4 +4,5 @@ pub mod ShownStock
 pub mod ShownShort
 pub mod Heads
 pub mod Shipped
+pub mod ShownActs
 pub mod Refused

@@ -6,6 +6,7 @@ mod open_orders;
 mod query;
 mod reading;
 mod shipped;
+mod shown_acts;
 mod shown_heads;
 mod shown_orders;
 mod shown_shorts;
@@ -13,6 +14,7 @@ mod shown_stock;
 
 pub use query::{Query, find};
 pub use shipped::read_shipped;
+pub use shown_acts::ActsQuery;
 pub use shown_heads::{CardHeadQuery, NoticeHeadQuery};
 pub use shown_orders::OrderQuery;
 pub use shown_shorts::ShortQuery;

@@ -20,7 +20,7 @@ pub use knowing::{Bounds, Known};
 pub use known_lines::{first_known, know_put};
 pub use known_orders::read_known_orders;
 pub use order_slices::{add_line, read_named};
-pub use reading::line_row;
+pub use reading::{line_row, meta_row};
 pub use rows_known::RowsKnown;
 pub use slices::{read_booked, read_slice};
 pub use sought::{read_row, read_rows, seek_all, seek_both};

@@ -1,19 +1,42 @@
 -- The rows of `repeats` in the books of a history.
-use Rattle.std.proofs.Common.{◌≡◌, ℕ, List, find, refl, ap, ◌∙◌, Some}
+use Rattle.std.proofs.Common.{◌≡◌, ℕ, Bool, List, [], ◌∷◌, find, filter, inl, inr, refl, ap, ◌∙◌, Some}
 use Rattle.std.specs.Prelude.{ℤ}
 use Rattle.std.specs.List.{AllByRecursion}
+use Rattle.std.proofs.lemmas.Bool.{cases_Bool}
+use Rattle.sqlite.specs.Order.{Row}
 use Rattle.values.specs.Values.{same_text}
 use Rattle.commands.specs.declared.rows.RepeatRow.{RepeatRow}
 use Rattle.sqlite.specs.State.{State}
 use Rattle.machine.specs.Acts.{Act}
 use Rattle.machine.specs.Tables.{Tables, tables_of, repeat_row}
+use Rattle.table_words.specs.Cells.{typed}
 use Rattle.table_words.specs.Typed.{tables_in}
 use Rattle.table_words.proofs.KeyLemmas.{itself_bytes, same_bytes}
 use Rattle.history_tables.specs.Repeats.{repeats, repeats_laws}
 use Rattle.slices.specs.Books.{IsBooksOf}
-use Rattle.whole_tables.specs.Whole.{AreAll, typed_rows_of}
+use Rattle.whole_tables.specs.declared.halves.Half.TheVariants.{Upper}
+use Rattle.whole_tables.specs.Halves.{is_in, half_of}
+use Rattle.whole_tables.specs.Whole.{AreAll, rows_of, typed_rows_of}
 use Rattle.whole_tables.proofs.Handing.{typed_are_all}
 use Rattle.whole_tables.proofs.Owned.{owned}
+
+-- what holds of all typed rows holds of those among some of the rows
+typed_some : {X : Type 0} (P : X → Type 0) (is : Row → Bool) (read : Row → X) (part : Row → Bool) (rows : List Row) → AllByRecursion P (typed is read rows) → AllByRecursion P (typed is read (filter part rows))
+typed_some P is read part [] all = tt
+typed_some P is read part (r ∷ rows) all = elim (cases_Bool (is r)) [
+  | inl typed_one ↦
+      let both = rw typed_one at all in
+      elim (cases_Bool (part r)) [
+        | inl within ↦ rw (within, typed_one) (both.0, typed_some P is read part rows both.1)
+        | inr without ↦ rw without (typed_some P is read part rows both.1)
+      ]
+  | inr untyped ↦
+      let others = rw untyped at all in
+      elim (cases_Bool (part r)) [
+        | inl within ↦ rw (within, untyped) (typed_some P is read part rows others)
+        | inr without ↦ rw without (typed_some P is read part rows others)
+      ]
+]
 
 module _ (first : ℤ) (acts : List Act) (s : State) (books : IsBooksOf first acts s.now) where
   abbrev pub act_rows : List RepeatRow
@@ -30,3 +53,10 @@ module _ (first : ℤ) (acts : List Act) (s : State) (books : IsBooksOf first ac
   -- and each is that of an act
   pub act_rows_own : AllByRecursion (λ (r : RepeatRow). repeat_row first acts r.k ≡ Some r) act_rows
   act_rows_own = owned same_text (λ (r : RepeatRow). r.k) itself_bytes same_bytes {row = repeat_row first acts} act_rows are.once act_rows_found
+
+  -- so are those that are stored behind a number
+  abbrev pub act_rows_above : ℤ → List RepeatRow
+  act_rows_above rowid = typed repeats.is repeats.reads (half_of repeats Upper rowid s.now.trees)
+
+  pub act_rows_above_own : (rowid : ℤ) → AllByRecursion (λ (r : RepeatRow). repeat_row first acts r.k ≡ Some r) (act_rows_above rowid)
+  act_rows_above_own rowid = typed_some (λ r. repeat_row first acts r.k ≡ Some r) repeats.is repeats.reads (is_in Upper rowid) (rows_of repeats s.now.trees) act_rows_own

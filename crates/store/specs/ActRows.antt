@@ -15,3 +15,10 @@ pub record AreActsHanded {K : Type 0} (first : ℤ) (acts : List Act) (takes sto
   pub own : AllByRecursion (λ (r : RepeatRow). repeat_row first acts r.k ≡ Some r) rows
   pub every : OnOk result ((k : List ℕ) → find (λ (r : RepeatRow). same_text k r.k) rows ≡ repeat_row first acts k)
   pub handed : HandsRecords takes stops rows before after result
+
+-- The same of the rows that are stored behind a number. A row does not say where it is stored: whether they are all of the later
+-- acts is known where the sink has come to the number of the acts.
+pub record AreLaterActsHanded {K : Type 0} (first : ℤ) (acts : List Act) (takes stops : K → RepeatRow → K → Type 0) (before after : K) (result : Result (Unit {0}) EachFault) : Type 0 where
+  pub rows : List RepeatRow
+  pub own : AllByRecursion (λ (r : RepeatRow). repeat_row first acts r.k ≡ Some r) rows
+  pub handed : HandsRecords takes stops rows before after result

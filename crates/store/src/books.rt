@@ -13,15 +13,16 @@ ghost use Rattle.machine.specs.Standing.{today, RETURNS};
 ghost use Rattle.store.specs.Acting.{IsActed};
 ghost use Rattle.store.specs.Filing.{rows_of, AreKeysOf, IsFiled};
 ghost use Rattle.machine.specs.Queries.{order_shown, short_shown, stock_shown};
+ghost use Rattle.queries.specs.ShownActs.{acts_shown};
 ghost use Rattle.machine.specs.Views.{bins_of_lot, card_of_lot, shipments_of_lot};
 ghost use Rattle.store.specs.Heads.{card_head_shown, notice_head_shown};
-ghost use Rattle.store.specs.ActRows.{AreActsHanded};
+ghost use Rattle.store.specs.ActRows.{AreActsHanded, AreLaterActsHanded};
 ghost use Rattle.store.specs.Handing.{IsHanded, NoBooks};
 ghost use Rattle.store.specs.Queries.{IsShown};
 ghost use Rattle.store.specs.Books.{AreBooks, KeepsBooks, HoldsBooks, LeavesOnly, IsClean, IsSettled, AreAsBefore};
 ghost use Rattle.store.specs.Opening.{Found, HasSchema, IsOfNone, AreRowsAt, AreFoundRows, Tells, HasFoundDay, IsForeignWithin, unlimited, IsLeftUnfilled, IsOpenedFrom, IsLeftOver, IsCleanLeft};
 
-use crate::act_rows::hand_acts;
+use crate::act_rows::{hand_acts, hand_acts_above};
 use crate::acting::act_once;
 use crate::day::day_left;
 use crate::filing::{every_row_is_sound, file_once};
@@ -34,7 +35,7 @@ use commands::{
     ShippedUnits, ShortView, Sink, StockView,
 };
 use label::{BusinessDay, Day};
-use queries::{CardHeadQuery, NoticeHeadQuery, OrderQuery, ShortQuery, StockQuery};
+use queries::{ActsQuery, CardHeadQuery, NoticeHeadQuery, OrderQuery, ShortQuery, StockQuery};
 use slices::Known;
 use sqlite::{Alter, Connection};
 use std::alloc::Global;
@@ -409,6 +410,37 @@ impl<S: Alter> Books<S> {
         ensures survives { Survives (state S.Store self.old.conn) (state S.Store self.new.conn) (NoBooks (state S.Store self.old.conn)) }
     {
         hand_acts(self.alloc, &mut self.conn, sink)
+    }
+
+    /// Hands the rows that are stored behind this number to the sink, as [`Books::each_act`] hands all. The row of an act is
+    /// stored at its number; that all later acts were handed over is known where the last one is that of the newest act
+    /// ([`Books::acts_done`]).
+    pub fn each_act_above<K: Sink<RepeatRow>>(
+        &mut self,
+        number: u64,
+        sink: &mut K,
+    ) -> Result<(), EachFault>
+        ensures clean { IsClean S.Store self.new → IsClean S.Store self.old }
+        ensures handed { IsClean S.Store self.new → (first : ℤ) (acts : List Act) → IsHistory first acts → HoldsBooks S.Store first acts self.old
+            → AreLaterActsHanded first acts K.takes K.stops sink.old sink.new result × HoldsBooks S.Store first acts self.new }
+        ensures as_before { IsClean S.Store self.new → AreAsBefore S.Store self.old self.new }
+        ensures stays { IsClean S.Store self.new → IsSettled (state S.Store self.new.conn) }
+        ensures survives { Survives (state S.Store self.old.conn) (state S.Store self.new.conn) (NoBooks (state S.Store self.old.conn)) }
+    {
+        hand_acts_above(self.alloc, &mut self.conn, number, sink)
+    }
+
+    /// How many acts the books are of. Nothing is changed; `Store` where memory or the disk did not suffice, and `Foreign`
+    /// and a refusal never on books of a history.
+    pub fn acts_done(&mut self) -> Result<u64, Fault>
+        ensures clean { IsClean S.Store self.new → IsClean S.Store self.old }
+        ensures shown { IsClean S.Store self.new → (first : ℤ) (acts : List Act) → IsHistory first acts → HoldsBooks S.Store first acts self.old
+            → IsShown S.Store first acts (acts_shown acts) result self.new }
+        ensures as_before { IsClean S.Store self.new → AreAsBefore S.Store self.old self.new }
+        ensures stays { IsClean S.Store self.new → IsSettled (state S.Store self.new.conn) }
+        ensures survives { Survives (state S.Store self.old.conn) (state S.Store self.new.conn) (λ _. ⊥) }
+    {
+        show(self.alloc, &mut self.conn, self.day, &ActsQuery)
     }
 
     /// Hands the bins with units of a lot to the sink, by name, one at a time, until it stops. It is outside every

@@ -1,0 +1,7 @@
+mod Appended
+mod TextParts
+mod Walk
+mod Read
+mod Opens
+mod Survive
+mod Later

@@ -1,0 +1,46 @@
+-- What is committed where nothing is.
+use Rattle.std.proofs.Common.{◌≡◌, ℕ, List, length, sym, ap, arith}
+use Rattle.std.specs.Prelude.{ℤ, Result, Ok, Err}
+use Rattle.sqlite_trees.specs.declared.store.Store.{Ghosts}
+use Rattle.sqlite.specs.Held.{state}
+use Rattle.sqlite.specs.State.{State, HasCleanDisk, Survives}
+use Rattle.sqlite.proofs.StateLemmas.{survives_then, survives_weaker}
+use Rattle.commands.specs.declared.refusal.Refusal.{Refusal}
+use Rattle.machine.specs.Acts.{Act}
+use Rattle.machine.specs.Once.{IsHistory}
+use Rattle.queries.specs.ShownActs.{acts_shown}
+use Rattle.store.specs.Books.{HoldsBooks}
+use Rattle.store.specs.Connected.{Connected}
+use Rattle.store.specs.Handing.{NoBooks}
+use Rattle.store.specs.Queries.{IsShown}
+use Rattle.store.specs.declared.fault.Fault.{Fault}
+use Rattle.store.specs.declared.fault.Fault.TheVariants.{Refused, Store, Foreign}
+use Rattle.acts_files.specs.KeptActs.{NoHistory}
+
+module _ {S : Type 0} (g : Ghosts S) where
+  pub none_of_books : (old : Connected S) (a b : State) → Survives a b (NoBooks (state g old.conn)) → Survives a b (NoHistory g old)
+  none_of_books old a b one = survives_weaker a b _ (NoHistory g old) (λ clean db none first acts history holds. none first acts history holds.keeps) one
+
+  pub none_at_all : (old : Connected S) (a b : State) → Survives a b (λ _. ⊥) → Survives a b (NoHistory g old)
+  none_at_all old a b one = survives_weaker a b _ (NoHistory g old) (λ clean db none. absurd none) one
+
+  -- a call behind one that leaves the books
+  pub none_later : (old mid new : Connected S) → Survives (state g old.conn) (state g mid.conn) (NoHistory g old) → Survives (state g mid.conn) (state g new.conn) (NoHistory g mid)
+      → (HasCleanDisk (state g mid.conn) → (first : ℤ) (acts : List Act) → IsHistory first acts → HoldsBooks g first acts old → HoldsBooks g first acts mid) → Survives (state g old.conn) (state g new.conn) (NoHistory g old)
+  none_later old mid new one two keeps =
+      survives_then (state g old.conn) (state g mid.conn) (state g new.conn) _ _ (NoHistory g old) (λ clean db none. none)
+      (λ clean db none first acts history holds. none first acts history (keeps (omega (arith, clean, two.clean)) first acts history holds)) one two
+
+  -- the number of the acts was told, or nothing was; the books are held
+  pub shown_holds : (first : ℤ) (acts : List Act) (r : Result ℕ Fault) (new : Connected S) → IsShown {V = ℕ} g first acts (acts_shown acts) r new → HoldsBooks g first acts new
+  shown_holds first acts (Ok n) new is = is.1
+  shown_holds first acts (Err (Refused why)) new is = is.1
+  shown_holds first acts (Err Store) new is = is
+  shown_holds first acts (Err Foreign) new is = absurd is
+
+  abbrev told_number : Result ℕ Refusal → ℕ
+  told_number (Ok n) = n
+  told_number (Err why) = 0
+
+  pub shown_number : (first : ℤ) (acts : List Act) (n : ℕ) (new : Connected S) → IsShown {V = ℕ} g first acts (acts_shown acts) (Ok n) new → n ≡ length acts
+  shown_number first acts n new is = sym (ap told_number is.0)

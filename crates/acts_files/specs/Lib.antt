@@ -1,0 +1,4 @@
+pub mod Kept
+pub mod KeptActs
+pub mod Walked
+pub mod Opened

@@ -1,0 +1,16 @@
+//! A file that keeps the acts of books: a line each, as the history is printed.
+#![tactic(auto)]
+
+mod acts_file;
+mod beside;
+mod fault;
+mod keeping;
+pub mod laws;
+mod newer;
+mod opening;
+
+pub use acts_file::ActsFile;
+pub use beside::LinesBeside;
+pub use fault::ActsFault;
+pub use keeping::{append, cut_to};
+pub use opening::{NotOpened, open_beside};
