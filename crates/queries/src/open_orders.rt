@@ -7,11 +7,12 @@ ghost use Rattle.known_reads.specs.Reading.{IsRead};
 ghost use Rattle.slices.specs.Slicing.{AreLinesOf, AreLines, AreOpen, AreOrdered, AreUrgents};
 
 use commands::{LineRow, OrderRow, UrgentRow};
+use order_tables::lines::Lines;
 use order_tables::orders::{Open, Orders};
 use order_tables::urgents::Urgents;
 use slice_parts::order_names::orders_of;
 use slice_parts::order_rows::{others, with_lines};
-use slices::{add_line, line_row, read_named, read_rows, seek_all};
+use slices::{add_line, line_row, read_rows, seek_all, seek_both};
 use sqlite::{Alter, Transaction};
 use std::alloc::Global;
 use table_words::error::TableFault;
@@ -81,7 +82,7 @@ pub fn read_orders<S: Alter>(
     ensures same_reference { tx.new.conn.ghost_name ≡ tx.old.conn.ghost_name }
     ensures read { IsRead (λ t rows. AreOrdered named.now gtins.now t rows.0.items rows.1.items) (state S.Store tx.old.conn.now) (state S.Store tx.new.conn.now) result }
 {
-    let (mut orders, mut lines) = read_named(alloc, tx, named)?;
+    let (mut orders, mut lines) = seek_both::<Name, Orders, Lines, S>(alloc, tx, named)?;
     let (rest, rest_lines) = read_open(alloc, tx, named, gtins)?;
     orders.extend_from_slice(rest.as_slice())?;
     lines.extend_from_slice(rest_lines.as_slice())?;

@@ -13,7 +13,7 @@ use commands::{ItemRow, LineRow, OrderRow, Refusal, ShortView, UrgentRow};
 use label::BusinessDay;
 use rules::Rows;
 use slice_parts::item_rows::of_demands;
-use slices::{Known, read_booked, read_known_orders, read_urgents};
+use slices::{Known, RowsKnown, read_booked, read_known_orders, read_urgents};
 use sqlite::{Alter, Transaction};
 use std::alloc::{AllocError, Global};
 use table_words::error::TableFault;
@@ -33,7 +33,12 @@ fn read_ordered<S: Alter>(
 {
     let gtins = [*gtin];
     match known {
-        Some(known) => read_known_orders(alloc, tx, &known.lines, &[], &gtins),
+        Some(known) => {
+            let mut rows = RowsKnown::new(alloc);
+            let found = read_known_orders(alloc, tx, &known.lines, &mut rows, &[], &gtins);
+            drop(rows);
+            found
+        }
         None => read_orders(alloc, tx, &[], &gtins),
     }
 }

@@ -5,20 +5,38 @@ use Rattle.std.specs.Cmp.Lexicographic.{slice_cmp}
 use Rattle.commands.specs.Tables.{Tables}
 use Rattle.row_rules.specs.declared.slice.Put.{Put}
 use Rattle.slice_parts.specs.LotOrder.{lot_key as turned_lot, lot_key_cmp}
+use Rattle.slice_parts.specs.LineOrder.{turned_line, line_key_cmp}
 use Rattle.goods_tables.specs.Bins.{AreBinsOf}
+use Rattle.goods_tables.specs.Items.{AreItemsOf}
+use Rattle.goods_tables.specs.Least.{AreLeastOf}
 use Rattle.goods_tables.specs.Lots.{AreLotOf}
+use Rattle.goods_tables.specs.Recalls.{AreRecallsOf}
+use Rattle.order_tables.specs.Lines.{AreLinesOfOrder, AreLineOf}
+use Rattle.order_tables.specs.Orders.{AreOrdersOf}
 use Rattle.known_rows.proofs.Learned.{remembers_left, remembers_none}
 use Rattle.slices.specs.Remembering.{KnowsRows, KnowsNoRows, ForgetsPut}
 use Rattle.slices.specs.declared.rows_known.RowsKnown.{RowsKnown}
 
 pub no_rows_known : (t : Tables) (known : RowsKnown) → KnowsNoRows known → KnowsRows t known
 no_rows_known t known none = record {
-  lots = remembers_none lot_key_cmp turned_lot (λ l found. AreLotOf l t found) known.lots.rows none.lots;
-  bins = remembers_none (slice_cmp nat_cmp) reverse (λ name found. AreBinsOf name t found) known.bins.rows none.bins;
+  items = remembers_none (slice_cmp nat_cmp) reverse (λ by found. AreItemsOf by t found) known.items.rows none.items;
+  least = remembers_none (slice_cmp nat_cmp) reverse (λ by found. AreLeastOf by t found) known.least.rows none.least;
+  bins = remembers_none (slice_cmp nat_cmp) reverse (λ by found. AreBinsOf by t found) known.bins.rows none.bins;
+  lots = remembers_none lot_key_cmp turned_lot (λ by found. AreLotOf by t found) known.lots.rows none.lots;
+  recalls = remembers_none (slice_cmp nat_cmp) reverse (λ by found. AreRecallsOf by t found) known.recalls.rows none.recalls;
+  orders = remembers_none (slice_cmp nat_cmp) reverse (λ by found. AreOrdersOf by t found) known.orders.rows none.orders;
+  lines = remembers_none (slice_cmp nat_cmp) reverse (λ by found. AreLinesOfOrder by t found) known.lines.rows none.lines;
+  lines_at = remembers_none line_key_cmp turned_line (λ by found. AreLineOf by t found) known.lines_at.rows none.lines_at;
 }
 
 pub rows_stay_known : (puts : Put) (t : Tables) (old new : RowsKnown) → ForgetsPut puts old new → KnowsRows t old → KnowsRows t new
 rows_stay_known puts t old new forgets known = record {
-  lots = remembers_left lot_key_cmp turned_lot (λ l found. AreLotOf l t found) (λ r. turned_lot r.lot) puts.lots old.lots.rows new.lots.rows forgets.lots known.lots;
-  bins = remembers_left (slice_cmp nat_cmp) reverse (λ name found. AreBinsOf name t found) (λ r. reverse r.name) puts.bins old.bins.rows new.bins.rows forgets.bins known.bins;
+  items = remembers_left (slice_cmp nat_cmp) reverse (λ by found. AreItemsOf by t found) (λ r. reverse r.gtin) puts.items old.items.rows new.items.rows forgets.items known.items;
+  least = remembers_left (slice_cmp nat_cmp) reverse (λ by found. AreLeastOf by t found) (λ r. reverse r.gtin) puts.least old.least.rows new.least.rows forgets.least known.least;
+  bins = remembers_left (slice_cmp nat_cmp) reverse (λ by found. AreBinsOf by t found) (λ r. reverse r.name) puts.bins old.bins.rows new.bins.rows forgets.bins known.bins;
+  lots = remembers_left lot_key_cmp turned_lot (λ by found. AreLotOf by t found) (λ r. turned_lot r.lot) puts.lots old.lots.rows new.lots.rows forgets.lots known.lots;
+  recalls = remembers_left (slice_cmp nat_cmp) reverse (λ by found. AreRecallsOf by t found) (λ r. reverse r.lot.gtin) puts.recalls old.recalls.rows new.recalls.rows forgets.recalls known.recalls;
+  orders = remembers_left (slice_cmp nat_cmp) reverse (λ by found. AreOrdersOf by t found) (λ r. reverse r.order) puts.orders old.orders.rows new.orders.rows forgets.orders known.orders;
+  lines = remembers_left (slice_cmp nat_cmp) reverse (λ by found. AreLinesOfOrder by t found) (λ r. reverse r.order) puts.lines old.lines.rows new.lines.rows forgets.lines known.lines;
+  lines_at = remembers_left line_key_cmp turned_line (λ by found. AreLineOf by t found) (λ r. turned_line (r.order, r.gtin)) puts.lines old.lines_at.rows new.lines_at.rows forgets.lines_at known.lines_at;
 }

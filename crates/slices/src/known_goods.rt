@@ -3,22 +3,106 @@
 ghost use Rattle.std.specs.Prelude.{◌≡◌};
 ghost use Rattle.sqlite.specs.Held.{state};
 ghost use Rattle.goods_tables.specs.Bins.{AreBinsOf};
+ghost use Rattle.goods_tables.specs.Items.{AreItemsOf};
+ghost use Rattle.goods_tables.specs.Least.{AreLeastOf};
 ghost use Rattle.goods_tables.specs.Lots.{AreLotOf};
-ghost use Rattle.known_reads.specs.Reading.{IsRead};
+ghost use Rattle.goods_tables.specs.Recalls.{AreRecallsOf};
+ghost use Rattle.known_reads.specs.Reading.{Each, IsRead};
 ghost use Rattle.slices.specs.ByLot.{AreLotsOf};
 ghost use Rattle.slices.specs.Remembering.{Learning};
-ghost use Rattle.slices.specs.Slicing.{AreBins};
+ghost use Rattle.slices.specs.Slicing.{AreBins, AreLeast};
 
 use crate::rows_known::RowsKnown;
-use commands::{BinRow, LotRow};
+use commands::{BinRow, ItemRow, LeastRow, LotRow, RecallRow};
 use goods_tables::bins::Bins;
+use goods_tables::items::Items;
+use goods_tables::least::Least;
 use goods_tables::lots::Lots;
+use goods_tables::recalls::Recalls;
 use known_reads::{seek_all_known, seek_known};
 use sqlite::{Alter, Transaction};
 use std::alloc::Global;
 use table_words::error::TableFault;
 use text_keys::{LotKey, TextKey};
-use values::{LotId, Name};
+use values::{Gtin, LotId, Name};
+
+/// The row of an item.
+pub fn seek_item<S: Alter>(
+    alloc: Global,
+    tx: &mut Transaction<'_, S>,
+    rows: &mut RowsKnown,
+    gtin: &Gtin,
+) -> Result<Vec<ItemRow>, TableFault>
+    ensures same_reference { tx.new.conn.ghost_name ≡ tx.old.conn.ghost_name }
+    ensures read { IsRead (Learning rows.old rows.new (λ t found. AreItemsOf gtin.now t found.items)) (state S.Store tx.old.conn.now) (state S.Store tx.new.conn.now) result }
+{
+    seek_known::<Items, Gtin, TextKey, S>(alloc, tx, &mut rows.items, gtin)
+}
+
+/// The rows of items, one after another.
+pub fn seek_items<S: Alter>(
+    alloc: Global,
+    tx: &mut Transaction<'_, S>,
+    rows: &mut RowsKnown,
+    gtins: &[Gtin],
+) -> Result<Vec<ItemRow>, TableFault>
+    ensures same_reference { tx.new.conn.ghost_name ≡ tx.old.conn.ghost_name }
+    ensures read { IsRead (Learning rows.old rows.new (λ t found. Each (λ g found_rows. AreItemsOf g t found_rows) gtins.now found.items)) (state S.Store tx.old.conn.now) (state S.Store tx.new.conn.now) result }
+{
+    seek_all_known::<Items, Gtin, TextKey, S>(alloc, tx, &mut rows.items, gtins)
+}
+
+/// What an item asks for.
+pub fn seek_least_of<S: Alter>(
+    alloc: Global,
+    tx: &mut Transaction<'_, S>,
+    rows: &mut RowsKnown,
+    gtin: &Gtin,
+) -> Result<Vec<LeastRow>, TableFault>
+    ensures same_reference { tx.new.conn.ghost_name ≡ tx.old.conn.ghost_name }
+    ensures read { IsRead (Learning rows.old rows.new (λ t found. AreLeastOf gtin.now t found.items)) (state S.Store tx.old.conn.now) (state S.Store tx.new.conn.now) result }
+{
+    seek_known::<Least, Gtin, TextKey, S>(alloc, tx, &mut rows.least, gtin)
+}
+
+/// What items ask for, one after another.
+pub fn seek_least<S: Alter>(
+    alloc: Global,
+    tx: &mut Transaction<'_, S>,
+    rows: &mut RowsKnown,
+    gtins: &[Gtin],
+) -> Result<Vec<LeastRow>, TableFault>
+    ensures same_reference { tx.new.conn.ghost_name ≡ tx.old.conn.ghost_name }
+    ensures read { IsRead (Learning rows.old rows.new (λ t found. AreLeast gtins.now t found.items)) (state S.Store tx.old.conn.now) (state S.Store tx.new.conn.now) result }
+{
+    seek_all_known::<Least, Gtin, TextKey, S>(alloc, tx, &mut rows.least, gtins)
+}
+
+/// The row of a bin.
+pub fn seek_bin<S: Alter>(
+    alloc: Global,
+    tx: &mut Transaction<'_, S>,
+    rows: &mut RowsKnown,
+    bin: &Name,
+) -> Result<Vec<BinRow>, TableFault>
+    ensures same_reference { tx.new.conn.ghost_name ≡ tx.old.conn.ghost_name }
+    ensures read { IsRead (Learning rows.old rows.new (λ t found. AreBinsOf bin.now t found.items)) (state S.Store tx.old.conn.now) (state S.Store tx.new.conn.now) result }
+{
+    seek_known::<Bins, Name, TextKey, S>(alloc, tx, &mut rows.bins, bin)
+}
+
+/// The rows of bins, one after another.
+pub fn seek_bins<S: Alter>(
+    alloc: Global,
+    tx: &mut Transaction<'_, S>,
+    rows: &mut RowsKnown,
+    bins: &[Name],
+) -> Result<Vec<BinRow>, TableFault>
+    ensures same_reference { tx.new.conn.ghost_name ≡ tx.old.conn.ghost_name }
+    ensures read { IsRead (Learning rows.old rows.new (λ t found. AreBins bins.now t found.items)) (state S.Store tx.old.conn.now) (state S.Store tx.new.conn.now) result }
+{
+    seek_all_known::<Bins, Name, TextKey, S>(alloc, tx, &mut rows.bins, bins)
+}
 
 /// The row of a lot.
 pub fn seek_lot<S: Alter>(
@@ -46,28 +130,28 @@ pub fn seek_lots<S: Alter>(
     seek_all_known::<Lots, LotId, LotKey, S>(alloc, tx, &mut rows.lots, lots)
 }
 
-/// The row of a bin.
-pub fn seek_bin<S: Alter>(
+/// The recalls of an item.
+pub fn seek_recalls_of<S: Alter>(
     alloc: Global,
     tx: &mut Transaction<'_, S>,
     rows: &mut RowsKnown,
-    bin: &Name,
-) -> Result<Vec<BinRow>, TableFault>
+    gtin: &Gtin,
+) -> Result<Vec<RecallRow>, TableFault>
     ensures same_reference { tx.new.conn.ghost_name ≡ tx.old.conn.ghost_name }
-    ensures read { IsRead (Learning rows.old rows.new (λ t found. AreBinsOf bin.now t found.items)) (state S.Store tx.old.conn.now) (state S.Store tx.new.conn.now) result }
+    ensures read { IsRead (Learning rows.old rows.new (λ t found. AreRecallsOf gtin.now t found.items)) (state S.Store tx.old.conn.now) (state S.Store tx.new.conn.now) result }
 {
-    seek_known::<Bins, Name, TextKey, S>(alloc, tx, &mut rows.bins, bin)
+    seek_known::<Recalls, Gtin, TextKey, S>(alloc, tx, &mut rows.recalls, gtin)
 }
 
-/// The rows of bins, one after another.
-pub fn seek_bins<S: Alter>(
+/// The recalls of items, one item after another.
+pub fn seek_recalls<S: Alter>(
     alloc: Global,
     tx: &mut Transaction<'_, S>,
     rows: &mut RowsKnown,
-    bins: &[Name],
-) -> Result<Vec<BinRow>, TableFault>
+    gtins: &[Gtin],
+) -> Result<Vec<RecallRow>, TableFault>
     ensures same_reference { tx.new.conn.ghost_name ≡ tx.old.conn.ghost_name }
-    ensures read { IsRead (Learning rows.old rows.new (λ t found. AreBins bins.now t found.items)) (state S.Store tx.old.conn.now) (state S.Store tx.new.conn.now) result }
+    ensures read { IsRead (Learning rows.old rows.new (λ t found. Each (λ g found_rows. AreRecallsOf g t found_rows) gtins.now found.items)) (state S.Store tx.old.conn.now) (state S.Store tx.new.conn.now) result }
 {
-    seek_all_known::<Bins, Name, TextKey, S>(alloc, tx, &mut rows.bins, bins)
+    seek_all_known::<Recalls, Gtin, TextKey, S>(alloc, tx, &mut rows.recalls, gtins)
 }

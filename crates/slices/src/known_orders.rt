@@ -3,33 +3,49 @@
 ghost use Rattle.std.specs.Prelude.{◌≡◌};
 ghost use Rattle.sqlite.specs.Held.{state};
 ghost use Rattle.known_reads.specs.Reading.{IsRead};
+ghost use Rattle.slices.specs.Remembering.{Learning};
 ghost use Rattle.slices.specs.Slicing.{AreLinesFor, AreLinesOfItem, AreLinesOfItems, AreKnown, AreKnownOrders};
 
+use crate::known_lists::{seek_line, seek_orders};
 use crate::order_slices::{add_line, read_named};
-use crate::reading::line_row;
-use crate::sought::seek_all;
+use crate::rows_known::RowsKnown;
 use commands::{LineRow, OrderRow};
 use open_lines::OpenLines;
-use order_tables::orders::Orders;
 use slice_parts::order_names::{orders_of_lines, other_names};
 use sqlite::{Alter, Transaction};
 use std::alloc::Global;
 use table_words::error::TableFault;
 use values::{Gtin, Name};
 
+// The line of an order for the item, if there is one.
+fn line_known<S: Alter>(
+    alloc: Global,
+    tx: &mut Transaction<'_, S>,
+    rows: &mut RowsKnown,
+    order: &Name,
+    gtin: &Gtin,
+) -> Result<Option<LineRow>, TableFault>
+    ensures same_reference { tx.new.conn.ghost_name ≡ tx.old.conn.ghost_name }
+    ensures read { IsRead (Learning rows.old rows.new (λ t row. row ≡ t.line order.now gtin.now)) (state S.Store tx.old.conn.now) (state S.Store tx.new.conn.now) result }
+{
+    let found = seek_line(alloc, tx, rows, &(*order, *gtin))?;
+    Ok(found.as_slice().first().copied())
+}
+
 /// The lines of orders for the item.
 fn lines_for<S: Alter>(
     alloc: Global,
     tx: &mut Transaction<'_, S>,
+    rows: &mut RowsKnown,
     orders: &[Name],
     gtin: &Gtin,
 ) -> Result<Vec<LineRow>, TableFault>
     ensures same_reference { tx.new.conn.ghost_name ≡ tx.old.conn.ghost_name }
-    ensures read { IsRead (λ t rows. AreLinesFor orders.now t gtin.now rows.items) (state S.Store tx.old.conn.now) (state S.Store tx.new.conn.now) result }
+    ensures read { IsRead (Learning rows.old rows.new (λ t lines. AreLinesFor orders.now t gtin.now lines.items)) (state S.Store tx.old.conn.now) (state S.Store tx.new.conn.now) result }
 {
     let mut found = Vec::new(alloc);
     for order in orders {
-        let row = line_row(alloc, tx, order, gtin)?;
+        let row = line_known(alloc, tx, rows, order, gtin)?;
         add_line(&mut found, row)?;
     }
     Ok(found)
@@ -40,14 +56,15 @@ fn lines_of_item<S: Alter>(
     alloc: Global,
     tx: &mut Transaction<'_, S>,
     known: &OpenLines,
+    rows: &mut RowsKnown,
     named: &[Name],
     gtin: &Gtin,
 ) -> Result<Vec<LineRow>, TableFault>
     ensures same_reference { tx.new.conn.ghost_name ≡ tx.old.conn.ghost_name }
-    ensures read { IsRead (λ t rows. AreLinesOfItem known.now named.now t gtin.now rows.items) (state S.Store tx.old.conn.now) (state S.Store tx.new.conn.now) result }
+    ensures read { IsRead (Learning rows.old rows.new (λ t lines. AreLinesOfItem known.now named.now t gtin.now lines.items)) (state S.Store tx.old.conn.now) (state S.Store tx.new.conn.now) result }
 {
     let orders = other_names(alloc, known.orders_of(gtin), named)?;
-    lines_for(alloc, tx, orders.as_slice(), gtin)
+    lines_for(alloc, tx, rows, orders.as_slice(), gtin)
 }
 
 /// The lines of the items in the orders that may be open and are not named.
@@ -55,16 +72,17 @@ fn lines_of_items<S: Alter>(
     alloc: Global,
     tx: &mut Transaction<'_, S>,
     known: &OpenLines,
+    rows: &mut RowsKnown,
     named: &[Name],
     gtins: &[Gtin],
 ) -> Result<Vec<LineRow>, TableFault>
     ensures same_reference { tx.new.conn.ghost_name ≡ tx.old.conn.ghost_name }
-    ensures read { IsRead (λ t rows. AreLinesOfItems known.now named.now gtins.now t rows.items) (state S.Store tx.old.conn.now) (state S.Store tx.new.conn.now) result }
+    ensures read { IsRead (Learning rows.old rows.new (λ t lines. AreLinesOfItems known.now named.now gtins.now t lines.items)) (state S.Store tx.old.conn.now) (state S.Store tx.new.conn.now) result }
 {
     let mut found = Vec::new(alloc);
     for gtin in gtins {
-        let rows = lines_of_item(alloc, tx, known, named, gtin)?;
-        found.extend_from_slice(rows.as_slice())?;
+        let lines = lines_of_item(alloc, tx, known, rows, named, gtin)?;
+        found.extend_from_slice(lines.as_slice())?;
     }
     Ok(found)
 }
@@ -74,15 +92,16 @@ fn read_known<S: Alter>(
     alloc: Global,
     tx: &mut Transaction<'_, S>,
     known: &OpenLines,
+    rows: &mut RowsKnown,
     named: &[Name],
     gtins: &[Gtin],
 ) -> Result<(Vec<OrderRow>, Vec<LineRow>), TableFault>
     ensures same_reference { tx.new.conn.ghost_name ≡ tx.old.conn.ghost_name }
-    ensures read { IsRead (λ t rows. AreKnown known.now named.now gtins.now t rows.0.items rows.1.items) (state S.Store tx.old.conn.now) (state S.Store tx.new.conn.now) result }
+    ensures read { IsRead (Learning rows.old rows.new (λ t found. AreKnown known.now named.now gtins.now t found.0.items found.1.items)) (state S.Store tx.old.conn.now) (state S.Store tx.new.conn.now) result }
 {
-    let lines = lines_of_items(alloc, tx, known, named, gtins)?;
+    let lines = lines_of_items(alloc, tx, known, rows, named, gtins)?;
     let names = orders_of_lines(alloc, lines.as_slice())?;
-    let orders = seek_all::<Orders, Name, S>(alloc, tx, names.as_slice())?;
+    let orders = seek_orders(alloc, tx, rows, names.as_slice())?;
     Ok((orders, lines))
 }
 
@@ -92,14 +111,15 @@ pub fn read_known_orders<S: Alter>(
     alloc: Global,
     tx: &mut Transaction<'_, S>,
     known: &OpenLines,
+    rows: &mut RowsKnown,
     named: &[Name],
     gtins: &[Gtin],
 ) -> Result<(Vec<OrderRow>, Vec<LineRow>), TableFault>
     ensures same_reference { tx.new.conn.ghost_name ≡ tx.old.conn.ghost_name }
-    ensures read { IsRead (λ t rows. AreKnownOrders known.now named.now gtins.now t rows.0.items rows.1.items) (state S.Store tx.old.conn.now) (state S.Store tx.new.conn.now) result }
+    ensures read { IsRead (Learning rows.old rows.new (λ t found. AreKnownOrders known.now named.now gtins.now t found.0.items found.1.items)) (state S.Store tx.old.conn.now) (state S.Store tx.new.conn.now) result }
 {
-    let (mut orders, mut lines) = read_named(alloc, tx, named)?;
-    let (rest, rest_lines) = read_known(alloc, tx, known, named, gtins)?;
+    let (mut orders, mut lines) = read_named(alloc, tx, rows, named)?;
+    let (rest, rest_lines) = read_known(alloc, tx, known, rows, named, gtins)?;
     orders.extend_from_slice(rest.as_slice())?;
     lines.extend_from_slice(rest_lines.as_slice())?;
     Ok((orders, lines))

@@ -4,6 +4,7 @@
 mod knowing;
 mod known_goods;
 mod known_lines;
+mod known_lists;
 mod known_orders;
 mod opening;
 mod order_slices;
@@ -19,7 +20,7 @@ mod urgent_orders;
 pub use knowing::{Bounds, Known};
 pub use known_lines::{first_known, know_put};
 pub use known_orders::read_known_orders;
-pub use order_slices::{add_line, read_named};
+pub use order_slices::add_line;
 pub use reading::{line_row, meta_row};
 pub use rows_known::RowsKnown;
 pub use slices::{read_booked, read_slice};

@@ -3,12 +3,12 @@
 ghost use Rattle.std.specs.Prelude.{◌≡◌, ◌++◌, OnOk};
 ghost use Rattle.sqlite.specs.Held.{state};
 ghost use Rattle.known_reads.specs.Reading.{IsRead};
+ghost use Rattle.slices.specs.Remembering.{Learning};
 ghost use Rattle.slices.specs.Slicing.{listed, AreNamed};
 
-use crate::sought::seek_both;
+use crate::known_lists::{seek_lines, seek_orders};
+use crate::rows_known::RowsKnown;
 use commands::{LineRow, OrderRow};
-use order_tables::lines::Lines;
-use order_tables::orders::Orders;
 use sqlite::{Alter, Transaction};
 use std::alloc::{AllocError, Global};
 use table_words::error::TableFault;
@@ -28,10 +28,13 @@ pub fn add_line(found: &mut Vec<LineRow>, row: Option<LineRow>) -> Result<(), Al
 pub fn read_named<S: Alter>(
     alloc: Global,
     tx: &mut Transaction<'_, S>,
+    rows: &mut RowsKnown,
     named: &[Name],
 ) -> Result<(Vec<OrderRow>, Vec<LineRow>), TableFault>
     ensures same_reference { tx.new.conn.ghost_name ≡ tx.old.conn.ghost_name }
-    ensures read { IsRead (λ t rows. AreNamed named.now t rows.0.items rows.1.items) (state S.Store tx.old.conn.now) (state S.Store tx.new.conn.now) result }
+    ensures read { IsRead (Learning rows.old rows.new (λ t found. AreNamed named.now t found.0.items found.1.items)) (state S.Store tx.old.conn.now) (state S.Store tx.new.conn.now) result }
 {
-    seek_both::<Name, Orders, Lines, S>(alloc, tx, named)
+    let orders = seek_orders(alloc, tx, rows, named)?;
+    let lines = seek_lines(alloc, tx, rows, named)?;
+    Ok((orders, lines))
 }

@@ -6,17 +6,13 @@ ghost use Rattle.known_reads.specs.Reading.{IsRead};
 ghost use Rattle.slices.specs.Remembering.{Learning};
 ghost use Rattle.slices.specs.Slicing.{AreGoodsIn, AreOrderOf, AreSharesOf, ArePicked};
 
-use crate::known_goods::{seek_bin, seek_lot};
+use crate::known_goods::{seek_bin, seek_item, seek_least_of, seek_lot, seek_recalls_of};
+use crate::known_lists::{seek_line, seek_order};
 use crate::rows_known::RowsKnown;
 use crate::rows_read::{Goods, Ordered, Shares, rows_read};
 use crate::sought::read_rows;
 use commands::Picking;
-use goods_tables::items::Items;
-use goods_tables::least::Least;
-use goods_tables::recalls::Recalls;
 use goods_tables::stock::Stock;
-use order_tables::lines::Lines;
-use order_tables::orders::Orders;
 use order_tables::reserved::Reserved;
 use order_tables::staged::Staged;
 use rules::Rows;
@@ -36,10 +32,10 @@ fn read_goods<S: Alter>(
     ensures same_reference { tx.new.conn.ghost_name ≡ tx.old.conn.ghost_name }
     ensures read { IsRead (Learning rows.old rows.new (λ t goods. AreGoodsIn lot.now bin.now t goods.items.items goods.least.items goods.bins.items goods.lots.items goods.recalls.items goods.stock.items)) (state S.Store tx.old.conn.now) (state S.Store tx.new.conn.now) result }
 {
-    let items = read_rows::<Items, Gtin, S>(alloc, tx, &lot.gtin)?;
-    let least = read_rows::<Least, Gtin, S>(alloc, tx, &lot.gtin)?;
+    let items = seek_item(alloc, tx, rows, &lot.gtin)?;
+    let least = seek_least_of(alloc, tx, rows, &lot.gtin)?;
     let lots = seek_lot(alloc, tx, rows, lot)?;
-    let recalls = read_rows::<Recalls, Gtin, S>(alloc, tx, &lot.gtin)?;
+    let recalls = seek_recalls_of(alloc, tx, rows, &lot.gtin)?;
     let stock = read_rows::<Stock, LotId, S>(alloc, tx, lot)?;
     let bins = seek_bin(alloc, tx, rows, bin)?;
     Ok(Goods {
@@ -56,14 +52,15 @@ fn read_goods<S: Alter>(
 fn read_order<S: Alter>(
     alloc: Global,
     tx: &mut Transaction<'_, S>,
+    rows: &mut RowsKnown,
     order: &Name,
     gtin: &Gtin,
 ) -> Result<Ordered, TableFault>
     ensures same_reference { tx.new.conn.ghost_name ≡ tx.old.conn.ghost_name }
-    ensures read { IsRead (λ t ordered. AreOrderOf order.now gtin.now t ordered.orders.items ordered.urgents.items ordered.lines.items) (state S.Store tx.old.conn.now) (state S.Store tx.new.conn.now) result }
+    ensures read { IsRead (Learning rows.old rows.new (λ t ordered. AreOrderOf order.now gtin.now t ordered.orders.items ordered.urgents.items ordered.lines.items)) (state S.Store tx.old.conn.now) (state S.Store tx.new.conn.now) result }
 {
-    let orders = read_rows::<Orders, Name, S>(alloc, tx, order)?;
-    let lines = read_rows::<Lines, (Name, Gtin), S>(alloc, tx, &(*order, *gtin))?;
+    let orders = seek_order(alloc, tx, rows, order)?;
+    let lines = seek_line(alloc, tx, rows, &(*order, *gtin))?;
     Ok(Ordered {
         orders,
         urgents: Vec::new(alloc),
@@ -99,7 +96,7 @@ pub fn read_pick<S: Alter>(
     ensures read { IsRead (Learning rows.old rows.new (λ t found. ArePicked p.now t found)) (state S.Store tx.old.conn.now) (state S.Store tx.new.conn.now) result }
 {
     let goods = read_goods(alloc, tx, rows, &p.lot, &p.bin)?;
-    let ordered = read_order(alloc, tx, &p.order, &p.lot.gtin)?;
+    let ordered = read_order(alloc, tx, rows, &p.order, &p.lot.gtin)?;
     let shares = read_shares(alloc, tx, &p.order, &p.lot)?;
     Ok(rows_read(goods, ordered, shares))
 }

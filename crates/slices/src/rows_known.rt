@@ -2,20 +2,33 @@
 
 ghost use Rattle.slices.specs.Remembering.{KnowsNoRows, ForgetsPut};
 
-use commands::{BinRow, LotRow};
+use commands::{BinRow, ItemRow, LeastRow, LineRow, LotRow, OrderRow, RecallRow};
 use known_rows::KnownRows;
 use rules::Put;
+use slice_parts::LineKey;
 use std::alloc::Global;
 use text_keys::{LotKey, TextKey};
-use values::{LotId, Name};
+use values::{Gtin, LotId, Name};
 
 /// The rows that are known.
 #[derive(Drop)]
 pub struct RowsKnown {
-    /// Lots by their keys.
-    pub lots: KnownRows<LotId, LotKey, LotRow>,
+    /// Items by their GTINs.
+    pub items: KnownRows<Gtin, TextKey, ItemRow>,
+    /// What items ask for, by their GTINs.
+    pub least: KnownRows<Gtin, TextKey, LeastRow>,
     /// Bins by their names.
     pub bins: KnownRows<Name, TextKey, BinRow>,
+    /// Lots by their keys.
+    pub lots: KnownRows<LotId, LotKey, LotRow>,
+    /// Recalls by the GTINs of their items.
+    pub recalls: KnownRows<Gtin, TextKey, RecallRow>,
+    /// Orders by their names.
+    pub orders: KnownRows<Name, TextKey, OrderRow>,
+    /// All lines of an order, by its name.
+    pub lines: KnownRows<Name, TextKey, LineRow>,
+    /// Lines by their orders and items.
+    pub lines_at: KnownRows<(Name, Gtin), LineKey, LineRow>,
 }
 
 impl RowsKnown {
@@ -24,8 +37,14 @@ impl RowsKnown {
         ensures { KnowsNoRows result }
     {
         RowsKnown {
-            lots: KnownRows::new(alloc),
+            items: KnownRows::new(alloc),
+            least: KnownRows::new(alloc),
             bins: KnownRows::new(alloc),
+            lots: KnownRows::new(alloc),
+            recalls: KnownRows::new(alloc),
+            orders: KnownRows::new(alloc),
+            lines: KnownRows::new(alloc),
+            lines_at: KnownRows::new(alloc),
         }
     }
 
@@ -33,7 +52,13 @@ impl RowsKnown {
     pub fn forget_put(&mut self, put: &Put)
         ensures { ForgetsPut put.now self.old self.new }
     {
-        self.lots.forget_all(put.lots.as_slice());
+        self.items.forget_all(put.items.as_slice());
+        self.least.forget_all(put.least.as_slice());
         self.bins.forget_all(put.bins.as_slice());
+        self.lots.forget_all(put.lots.as_slice());
+        self.recalls.forget_all(put.recalls.as_slice());
+        self.orders.forget_all(put.orders.as_slice());
+        self.lines.forget_all(put.lines.as_slice());
+        self.lines_at.forget_all(put.lines.as_slice());
     }
 }

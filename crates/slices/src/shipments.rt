@@ -3,9 +3,11 @@
 ghost use Rattle.std.specs.Prelude.{◌≡◌};
 ghost use Rattle.sqlite.specs.Held.{state};
 ghost use Rattle.known_reads.specs.Reading.{IsRead};
+ghost use Rattle.slices.specs.Remembering.{Learning};
 ghost use Rattle.slices.specs.Slicing.{AreShipped};
 
 use crate::order_slices::read_named;
+use crate::rows_known::RowsKnown;
 use crate::sought::seek_all;
 use goods_tables::stock::Stock;
 use order_tables::staged::Staged;
@@ -23,13 +25,14 @@ use values::{Gtin, LotId, Name};
 pub fn read_shipment<S: Alter>(
     alloc: Global,
     tx: &mut Transaction<'_, S>,
+    rows: &mut RowsKnown,
     order: &Name,
 ) -> Result<Rows, TableFault>
     ensures same_reference { tx.new.conn.ghost_name ≡ tx.old.conn.ghost_name }
-    ensures read { IsRead (λ t rows. AreShipped order.now t rows) (state S.Store tx.old.conn.now) (state S.Store tx.new.conn.now) result }
+    ensures read { IsRead (Learning rows.old rows.new (λ t found. AreShipped order.now t found)) (state S.Store tx.old.conn.now) (state S.Store tx.new.conn.now) result }
 {
     let named = [*order];
-    let (orders, lines) = read_named(alloc, tx, &named)?;
+    let (orders, lines) = read_named(alloc, tx, rows, &named)?;
     let gtins = items_of_rows(alloc, lines.as_slice())?;
     let staged = seek_all::<Staged, Gtin, S>(alloc, tx, gtins.as_slice())?;
     let lots = lots_on_stage(alloc, order, staged.as_slice())?;

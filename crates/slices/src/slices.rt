@@ -20,7 +20,8 @@ ghost use Rattle.slices.specs.ByLot.{AreLotsOf};
 ghost use Rattle.slices.specs.Slicing.{AreGoods, AreBooked, AreKnownOrders, AreUrgentsFor, AreBins, AreCounts, AreTaken, AreTouched, ArePlanned, AreSliced, HoldsOf, IsSliceIn, orders_named, bins_named, with_names, held_lots};
 
 use crate::knowing::{Bounds, Known};
-use crate::known_goods::{seek_bins, seek_lots};
+use crate::known_goods::{seek_bins, seek_items, seek_least, seek_lots, seek_recalls};
+use crate::known_lists::seek_lines;
 use crate::known_orders::read_known_orders;
 use crate::opening::affected_items;
 use crate::picks::read_pick;
@@ -31,11 +32,7 @@ use crate::shipments::read_shipment;
 use crate::sought::{seek_all, seek_both};
 use crate::urgent_orders::read_urgents;
 use commands::{Added, BinRow, Command, LotRow, MetaRow, ReservedRow, StagedRow, StockRow};
-use goods_tables::items::Items;
-use goods_tables::least::Least;
-use goods_tables::recalls::Recalls;
 use goods_tables::stock::Stock;
-use order_tables::lines::Lines;
 use order_tables::reserved::Reserved;
 use order_tables::staged::Staged;
 use rules::{Rows, Slice};
@@ -51,13 +48,14 @@ use values::{Gtin, Name};
 fn taken_items<S: Alter>(
     alloc: Global,
     tx: &mut Transaction<'_, S>,
+    rows: &mut RowsKnown,
     command: &Command,
 ) -> Result<Vec<Gtin>, TableFault>
     ensures same_reference { tx.new.conn.ghost_name ≡ tx.old.conn.ghost_name }
-    ensures read { IsRead (λ t gtins. AreTaken command.now t gtins.items) (state S.Store tx.old.conn.now) (state S.Store tx.new.conn.now) result }
+    ensures read { IsRead (Learning rows.old rows.new (λ t gtins. AreTaken command.now t gtins.items)) (state S.Store tx.old.conn.now) (state S.Store tx.new.conn.now) result }
 {
     let orders = whole_orders(alloc, command)?;
-    let lines = seek_all::<Lines, Name, S>(alloc, tx, orders.as_slice())?;
+    let lines = seek_lines(alloc, tx, rows, orders.as_slice())?;
     Ok(items_with(alloc, command, lines.as_slice())?)
 }
 
@@ -65,14 +63,15 @@ fn taken_items<S: Alter>(
 fn touched_items<S: Alter>(
     alloc: Global,
     tx: &mut Transaction<'_, S>,
+    rows: &mut RowsKnown,
     command: &Command,
 ) -> Result<Vec<Gtin>, TableFault>
     ensures same_reference { tx.new.conn.ghost_name ≡ tx.old.conn.ghost_name }
-    ensures read { IsRead (λ t gtins. AreTouched command.now t gtins.items) (state S.Store tx.old.conn.now) (state S.Store tx.new.conn.now) result }
+    ensures read { IsRead (Learning rows.old rows.new (λ t gtins. AreTouched command.now t gtins.items)) (state S.Store tx.old.conn.now) (state S.Store tx.new.conn.now) result }
 {
     match command.names().day {
         Some(day) => affected_items(alloc, tx, day),
-        None => taken_items(alloc, tx, command),
+        None => taken_items(alloc, tx, rows, command),
     }
 }
 
@@ -134,8 +133,10 @@ fn read_goods<S: Alter>(
         × AreLotsOf (held_lots command.now goods.stock.items staged.now) t goods.lots.items
         × AreBins (with_names (λ r. r.bin) goods.stock.items (bins_named command.now)) t goods.bins.items)) (state S.Store tx.old.conn.now) (state S.Store tx.new.conn.now) result }
 {
-    let (items, least) = seek_both::<Gtin, Items, Least, S>(alloc, tx, gtins)?;
-    let (recalls, stock) = seek_both::<Gtin, Recalls, Stock, S>(alloc, tx, gtins)?;
+    let items = seek_items(alloc, tx, rows, gtins)?;
+    let least = seek_least(alloc, tx, rows, gtins)?;
+    let recalls = seek_recalls(alloc, tx, rows, gtins)?;
+    let stock = seek_all::<Stock, Gtin, S>(alloc, tx, gtins)?;
     let lots = read_lots(alloc, tx, rows, command, stock.as_slice(), staged)?;
     let bins = read_bins(alloc, tx, rows, command, stock.as_slice())?;
     Ok(Goods {
@@ -178,15 +179,23 @@ fn read_ordered<S: Alter>(
     alloc: Global,
     tx: &mut Transaction<'_, S>,
     known: &Known,
+    rows: &mut RowsKnown,
     command: &Command,
     gtins: &[Gtin],
 ) -> Result<Ordered, TableFault>
     ensures same_reference { tx.new.conn.ghost_name ≡ tx.old.conn.ghost_name }
-    ensures read { IsRead (λ t ordered. AreKnownOrders known.now.lines (orders_named command.now) gtins.now t ordered.orders.items ordered.lines.items
-        × AreUrgentsFor known.now.urgent gtins.now ordered.orders.items t ordered.urgents.items) (state S.Store tx.old.conn.now) (state S.Store tx.new.conn.now) result }
+    ensures read { IsRead (Learning rows.old rows.new (λ t ordered. AreKnownOrders known.now.lines (orders_named command.now) gtins.now t ordered.orders.items ordered.lines.items
+        × AreUrgentsFor known.now.urgent gtins.now ordered.orders.items t ordered.urgents.items)) (state S.Store tx.old.conn.now) (state S.Store tx.new.conn.now) result }
 {
     let named = named_orders(alloc, command)?;
-    let (orders, lines) = read_known_orders(alloc, tx, &known.lines, named.as_slice(), gtins)?;
+    let (orders, lines) = read_known_orders(
+        alloc,
+        tx,
+        &known.lines,
+        rows,
+        named.as_slice(),
+        gtins,
+    )?;
     let urgents = read_urgents(alloc, tx, &known.urgent, gtins, orders.as_slice())?;
     Ok(Ordered {
         orders,
@@ -206,7 +215,7 @@ fn read_planned<S: Alter>(
     ensures same_reference { tx.new.conn.ghost_name ≡ tx.old.conn.ghost_name }
     ensures read { IsRead (Learning rows.old rows.new (λ t found. ArePlanned known.now command.now t found)) (state S.Store tx.old.conn.now) (state S.Store tx.new.conn.now) result }
 {
-    let gtins = touched_items(alloc, tx, command)?;
+    let gtins = touched_items(alloc, tx, rows, command)?;
     let staged = seek_all::<Staged, Gtin, S>(alloc, tx, gtins.as_slice())?;
     let goods = read_goods(
         alloc,
@@ -216,7 +225,7 @@ fn read_planned<S: Alter>(
         gtins.as_slice(),
         staged.as_slice(),
     )?;
-    let ordered = read_ordered(alloc, tx, known, command, gtins.as_slice())?;
+    let ordered = read_ordered(alloc, tx, known, rows, command, gtins.as_slice())?;
     let shares = Shares {
         staged,
         reserved: Vec::new(alloc),
@@ -236,7 +245,7 @@ fn read_rows<S: Alter>(
     ensures read { IsRead (Learning rows.old rows.new (λ t found. AreSliced known.now command.now t found)) (state S.Store tx.old.conn.now) (state S.Store tx.new.conn.now) result }
 {
     match command {
-        Command::Ship(order) => read_shipment(alloc, tx, order),
+        Command::Ship(order) => read_shipment(alloc, tx, rows, order),
         Command::Pick(picking) => read_pick(alloc, tx, rows, picking),
         _ => read_planned(alloc, tx, known, rows, command),
     }

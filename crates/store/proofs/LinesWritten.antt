@@ -30,13 +30,13 @@ module _ {X : Type 0} (get : Tables → X) where
   stage_spares spares None t = refl
   stage_spares spares (Some o) t = spares o t
 
-abbrev Ordered : Type 0
+abbrev pub Ordered : Type 0
 Ordered = (List ℕ → Option OrderRow) × (List ℕ → List ℕ → Option LineRow) × (List ℕ → Option UrgentRow)
 
-abbrev ordered : Tables → Ordered
+abbrev pub ordered : Tables → Ordered
 ordered t = (t.order, t.line, t.urgent)
 
-goods_spare : (p : Put) (d : Dropped) (t : Tables) → ordered (goods_written p d t) ≡ ordered t
+pub goods_spare : (p : Put) (d : Dropped) (t : Tables) → ordered (goods_written p d t) ≡ ordered t
 goods_spare p d t =
     let one : Tables = each_written with_item p.items t in
     let two : Tables = each_written with_least p.least one in
@@ -52,7 +52,7 @@ goods_spare p d t =
     ∙ rows_spare ordered with_least (λ r u. refl) p.least one
     ∙ rows_spare ordered with_item (λ r u. refl) p.items t
 
-change_spares : (c : Change) (t : Tables) → ordered (change_written c t) ≡ ordered (lines_written c.put (goods_written c.put c.dropped t))
+pub change_spares : (c : Change) (t : Tables) → ordered (change_written c t) ≡ ordered (lines_written c.put (goods_written c.put c.dropped t))
 change_spares c t =
     let p = c.put in
     let d = c.dropped in

@@ -12,24 +12,31 @@ use Rattle.commands.specs.Tables.{Tables}
 use Rattle.commands.specs.declared.rows.BinRow.{BinRow}
 use Rattle.commands.specs.declared.rows.ItemRow.{ItemRow}
 use Rattle.commands.specs.declared.rows.LeastRow.{LeastRow}
+use Rattle.commands.specs.declared.rows.LineRow.{LineRow}
 use Rattle.commands.specs.declared.rows.LotRow.{LotRow}
 use Rattle.commands.specs.declared.rows.RecallRow.{RecallRow}
 use Rattle.commands.specs.declared.rows.RepeatRow.{RepeatRow}
 use Rattle.table_words.specs.Found.{AreRows}
-use Rattle.table_words.specs.Typed.{same_bin, bin_key, same_lot, lot_key, with_item, with_least, with_bin, with_lot, with_recall, with_stock, without_stock, with_order, with_urgent, with_line, with_staged, without_staged, with_reserved, without_reserved, with_shipment, with_shipline, with_card, with_repeat}
+use Rattle.table_words.specs.Typed.{same_item, item_key, same_least, least_key, same_bin, bin_key, same_lot, lot_key, same_recall, recall_key, same_order, order_key, LineKey, same_line, line_key, with_item, with_least, with_bin, with_lot, with_recall, with_stock, without_stock, with_order, with_urgent, with_line, with_staged, without_staged, with_reserved, without_reserved, with_shipment, with_shipline, with_card, with_repeat}
 use Rattle.table_words.proofs.KeyLemmas.{IsSame}
 use Rattle.machine.proofs.Tests.{or_none}
 use Rattle.row_rules.specs.declared.slice.Change.{Change}
 use Rattle.slice_parts.specs.LotOrder.{lot_key as turned_lot, lot_key_cmp, lots_told}
+use Rattle.slice_parts.specs.LineOrder.{turned_line, line_key_cmp, lines_told}
 use Rattle.slice_parts.specs.NameOrder.{names_told}
 use Rattle.keyed_rows.specs.Writes.{each_written}
 use Rattle.goods_tables.specs.Bins.{bins_laws}
+use Rattle.goods_tables.specs.Items.{items_laws}
+use Rattle.goods_tables.specs.Least.{least_laws}
 use Rattle.goods_tables.specs.Lots.{lots_laws}
+use Rattle.goods_tables.specs.Recalls.{recalls_laws}
+use Rattle.order_tables.specs.Lines.{lines_laws}
+use Rattle.order_tables.specs.Orders.{orders_laws}
 use Rattle.changes.specs.Written.{names_written, goods_written, lines_written, stage_emptied, orders_written, change_written}
 use Rattle.known_rows.specs.KnownRows.{RowMap, rows_at, ForgetsBy, Remembers}
 use Rattle.slices.specs.Remembering.{KnowsRows, ForgetsPut}
 use Rattle.slices.specs.declared.rows_known.RowsKnown.{RowsKnown}
-use Rattle.store.proofs.LinesWritten.{rows_spare, stage_spares}
+use Rattle.store.proofs.LinesWritten.{rows_spare, stage_spares, Ordered, ordered, goods_spare, change_spares}
 
 -- A row is put that is none of those that are sought
 
@@ -131,6 +138,26 @@ module _ (c : Change) (row : RepeatRow) (t : Tables) where
       ∙ rows_spare goods with_stock (λ r u. refl) p.stock unstocked
       ∙ rows_spare goods (λ r. without_stock r.lot r.bin) (λ r u. refl) d.stock recalled
 
+  items_left : left.item ≡ with_items.item
+  items_left =
+      ap (λ (x : Goods). x.0) goods_left ∙ rows_spare (λ u. u.item) with_recall (λ r u. refl) c.put.recalls lotted ∙ rows_spare (λ u. u.item) with_lot (λ r u. refl) c.put.lots named
+      ∙ rows_spare (λ u. u.item) with_bin (λ r u. refl) c.put.bins asked ∙ rows_spare (λ u. u.item) with_least (λ r u. refl) c.put.least with_items
+
+  least_left : left.least ≡ asked.least
+  least_left =
+      ap (λ (x : Goods). x.1) goods_left ∙ rows_spare (λ u. u.least) with_recall (λ r u. refl) c.put.recalls lotted ∙ rows_spare (λ u. u.least) with_lot (λ r u. refl) c.put.lots named ∙ rows_spare (λ u. u.least) with_bin (λ r u. refl) c.put.bins asked
+
+  least_before : with_items.least ≡ t.least
+  least_before = rows_spare (λ u. u.least) with_item (λ r u. refl) c.put.items t
+
+  recalls_left : left.recall ≡ recalled.recall
+  recalls_left = ap (λ (x : Goods). x.4) goods_left
+
+  recalls_before : lotted.recall ≡ t.recall
+  recalls_before =
+      rows_spare (λ u. u.recall) with_lot (λ r u. refl) c.put.lots named ∙ rows_spare (λ u. u.recall) with_bin (λ r u. refl) c.put.bins asked ∙ rows_spare (λ u. u.recall) with_least (λ r u. refl) c.put.least with_items
+      ∙ rows_spare (λ u. u.recall) with_item (λ r u. refl) c.put.items t
+
   lots_left : left.lot ≡ lotted.lot
   lots_left = ap (λ (x : Goods). x.3) goods_left ∙ rows_spare (λ u. u.lot) with_recall (λ r u. refl) c.put.recalls lotted
 
@@ -143,8 +170,58 @@ module _ (c : Change) (row : RepeatRow) (t : Tables) where
   bins_before : asked.bin ≡ t.bin
   bins_before = rows_spare (λ u. u.bin) with_least (λ r u. refl) c.put.least with_items ∙ rows_spare (λ u. u.bin) with_item (λ r u. refl) c.put.items t
 
+  abbrev stocked : Tables
+  stocked = goods_written c.put c.dropped t
+
+  abbrev with_orders : Tables
+  with_orders = each_written with_order c.put.orders stocked
+
+  abbrev with_urgents : Tables
+  with_urgents = each_written with_urgent c.put.urgents with_orders
+
+  orders_left : left.order ≡ with_orders.order
+  orders_left = ap (λ (x : Ordered). x.0) (change_spares c t) ∙ rows_spare (λ u. u.order) with_line (λ r u. refl) c.put.lines with_urgents ∙ rows_spare (λ u. u.order) with_urgent (λ r u. refl) c.put.urgents with_orders
+
+  orders_before : stocked.order ≡ t.order
+  orders_before = ap (λ (x : Ordered). x.0) (goods_spare c.put c.dropped t)
+
+  abbrev line_at : Tables → LineKey → Option LineRow
+  line_at u k = u.line k.0 k.1
+
+  abbrev by_line : Ordered → LineKey → Option LineRow
+  by_line x k = x.1 k.0 k.1
+
+  lines_left : line_at left ≡ line_at (lines_written c.put stocked)
+  lines_left = ap by_line (change_spares c t)
+
+  lines_before : line_at with_urgents ≡ line_at t
+  lines_before = rows_spare line_at with_urgent (λ r u. refl) c.put.urgents with_orders ∙ rows_spare line_at with_order (λ r u. refl) c.put.orders stocked ∙ ap by_line (goods_spare c.put c.dropped t)
+
   pub rows_written : (old new : RowsKnown) → ForgetsPut c.put old new → KnowsRows t old → KnowsRows left new
   rows_written old new forgets known = record {
+    items =
+        known_same (slice_cmp nat_cmp) reverse same_text names_told same_item item_key items_laws.one_key (λ u. u.item) same_text (λ r. r.gtin) (λ by r. refl) with_items left (sym items_left) new.items.rows
+        (known_spared (slice_cmp nat_cmp) reverse same_text names_told same_item item_key items_laws.one_key (λ u. u.item) same_text (λ r. r.gtin) (λ by r. refl) with_item (λ r u. refl) c.put.items t old.items.rows new.items.rows forgets.items known.items);
+    least =
+        known_same (slice_cmp nat_cmp) reverse same_text names_told same_least least_key least_laws.one_key (λ u. u.least) same_text (λ r. r.gtin) (λ by r. refl) asked left (sym least_left) new.least.rows
+        (known_spared (slice_cmp nat_cmp) reverse same_text names_told same_least least_key least_laws.one_key (λ u. u.least) same_text (λ r. r.gtin) (λ by r. refl) with_least (λ r u. refl) c.put.least with_items old.least.rows new.least.rows forgets.least
+        (known_same (slice_cmp nat_cmp) reverse same_text names_told same_least least_key least_laws.one_key (λ u. u.least) same_text (λ r. r.gtin) (λ by r. refl) t with_items (sym least_before) old.least.rows known.least));
+    orders =
+        known_same (slice_cmp nat_cmp) reverse same_text names_told same_order order_key orders_laws.one_key (λ u. u.order) same_text (λ r. r.order) (λ by r. refl) with_orders left (sym orders_left) new.orders.rows
+        (known_spared (slice_cmp nat_cmp) reverse same_text names_told same_order order_key orders_laws.one_key (λ u. u.order) same_text (λ r. r.order) (λ by r. refl) with_order (λ r u. refl) c.put.orders stocked old.orders.rows new.orders.rows forgets.orders
+        (known_same (slice_cmp nat_cmp) reverse same_text names_told same_order order_key orders_laws.one_key (λ u. u.order) same_text (λ r. r.order) (λ by r. refl) t stocked (sym orders_before) old.orders.rows known.orders));
+    lines =
+        known_same (slice_cmp nat_cmp) reverse same_text names_told same_line line_key lines_laws.one_key line_at (λ o k. same_text o k.0) (λ r. r.order) (λ by r. refl) (lines_written c.put stocked) left (sym lines_left) new.lines.rows
+        (known_spared (slice_cmp nat_cmp) reverse same_text names_told same_line line_key lines_laws.one_key line_at (λ o k. same_text o k.0) (λ r. r.order) (λ by r. refl) with_line (λ r u. refl) c.put.lines with_urgents old.lines.rows new.lines.rows forgets.lines
+        (known_same (slice_cmp nat_cmp) reverse same_text names_told same_line line_key lines_laws.one_key line_at (λ o k. same_text o k.0) (λ r. r.order) (λ by r. refl) t with_urgents (sym lines_before) old.lines.rows known.lines));
+    lines_at =
+        known_same line_key_cmp turned_line same_line lines_told same_line line_key lines_laws.one_key line_at same_line (λ r. (r.order, r.gtin)) (λ by r. refl) (lines_written c.put stocked) left (sym lines_left) new.lines_at.rows
+        (known_spared line_key_cmp turned_line same_line lines_told same_line line_key lines_laws.one_key line_at same_line (λ r. (r.order, r.gtin)) (λ by r. refl) with_line (λ r u. refl) c.put.lines with_urgents old.lines_at.rows new.lines_at.rows forgets.lines_at
+        (known_same line_key_cmp turned_line same_line lines_told same_line line_key lines_laws.one_key line_at same_line (λ r. (r.order, r.gtin)) (λ by r. refl) t with_urgents (sym lines_before) old.lines_at.rows known.lines_at));
+    recalls =
+        known_same (slice_cmp nat_cmp) reverse same_text names_told same_recall recall_key recalls_laws.one_key (λ u. u.recall) (λ g k. same_text g k.gtin) (λ r. r.lot.gtin) (λ by r. refl) recalled left (sym recalls_left) new.recalls.rows
+        (known_spared (slice_cmp nat_cmp) reverse same_text names_told same_recall recall_key recalls_laws.one_key (λ u. u.recall) (λ g k. same_text g k.gtin) (λ r. r.lot.gtin) (λ by r. refl) with_recall (λ r u. refl) c.put.recalls lotted old.recalls.rows new.recalls.rows forgets.recalls
+        (known_same (slice_cmp nat_cmp) reverse same_text names_told same_recall recall_key recalls_laws.one_key (λ u. u.recall) (λ g k. same_text g k.gtin) (λ r. r.lot.gtin) (λ by r. refl) t lotted (sym recalls_before) old.recalls.rows known.recalls));
     lots =
         known_same lot_key_cmp turned_lot same_lot lots_told same_lot lot_key lots_laws.one_key (λ u. u.lot) same_lot (λ r. r.lot) (λ by r. refl) lotted left (sym lots_left) new.lots.rows
         (known_spared lot_key_cmp turned_lot same_lot lots_told same_lot lot_key lots_laws.one_key (λ u. u.lot) same_lot (λ r. r.lot) (λ by r. refl) with_lot (λ r u. refl) c.put.lots named old.lots.rows new.lots.rows forgets.lots

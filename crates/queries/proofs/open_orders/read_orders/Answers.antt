@@ -24,7 +24,7 @@ returns-clause-read g c =
       own_lines = c.in_ok-orders.lines.items;
       rest = c.in_ok-rest.rest.items;
       rest_lines = c.in_ok-rest.rest_lines.items;
-      is_own = h.0;
+      is_own = record { orders = h.0.0; lines = h.0.1 };
       is_rest = h.1;
       orders = c.in_ok-extend_from_slice.ensures.items ∙ ap (λ l. c.in_ok-orders.orders.items ++ l) c.as_slice.ensures.value;
       lines = c.in_ok-extend_from_slice-2.ensures.items ∙ ap (λ l. c.in_ok-orders.lines.items ++ l) c.as_slice-2.ensures.value;

@@ -1,13 +1,15 @@
-use Rattle.std.proofs.Common.{◌≡◌, ◌+◌, ◌<◌, length, take, List, ◌++◌, Ok, sym, subst, ◌∙◌, arith}
+use Rattle.std.proofs.Common.{◌≡◌, ◌+◌, ◌<◌, length, take, List, ◌++◌, Ok, sym, ap, subst, ◌∙◌, arith}
+use Rattle.std.specs.Prelude.{Option}
 use Rattle.std.proofs.lemmas.List.{take_all}
 use Rattle.commands.specs.declared.rows.LineRow.{LineRow}
 use Rattle.sqlite.specs.Held.{state}
 use Rattle.sqlite.specs.declared.error.Error.TheVariants.{SqliteFailure}
 use Rattle.sqlite.specs.declared.error.ErrorCode.TheVariants.{OutOfMemory}
 use Rattle.known_reads.specs.Reading.{IsRead}
+use Rattle.slices.specs.Remembering.{KnowsRows, Learning}
 use Rattle.slices.specs.Slicing.{listed, AreLinesFor}
 use Rattle.known_reads.proofs.ReadSteps.{has_read, read_on, so_told, fails_later, no_room_left}
-use Rattle.slices.proofs.SeekSteps.{order_step}
+use Rattle.known_reads.proofs.KnowingSteps.{known_step, known_told}
 use Rattle.slices.proofs.known_orders.lines_for.Goals as goal
 
 pub returns-in_err-row-clause-read : goal.returns-in_err-row-clause-read
@@ -20,14 +22,15 @@ pub loop-order-preserved : goal.loop-order-preserved
 loop-order-preserved g c =
     let old = state g.S.Store c.args.tx.now.conn.now in
     let mid = state g.S.Store c.loop-order.tx.conn.now in
-    let new = state g.S.Store c.line_row.new.tx.conn.now in
+    let new = state g.S.Store c.line_known.new.tx.conn.now in
     let orders = c.args.orders.now in
     let item = c.args.gtin.now in
     let i = c.loop-order.order-index in
     let less : i < length orders = omega arith in
-    let step = order_step orders item old mid new i c.order-item.result c.loop-order.found.items c.in_ok-row.row less c.order-item.is c.loop-order.invariant.1 c.in_ok-row.ensures.read in
+    let step = known_step (λ o t lines. lines ≡ listed (t.line o item)) {X = Option LineRow} listed (λ t. KnowsRows t c.args.rows.now) (λ t. KnowsRows t c.loop-order.rows) (λ t. KnowsRows t c.line_known.new.rows)
+    old mid new orders i c.order-item.result c.loop-order.found.items c.in_ok-row.row less c.order-item.is c.loop-order.invariant.1 (known_told c.in_ok-row.ensures.read (λ t e. ap listed e)) in
     let grown : c.add_line.new.found.items ≡ c.loop-order.found.items ++ listed c.in_ok-row.row = c.in_ok-add_line.ensures in
-    (c.in_ok-row.ensures.same_reference ∙ c.loop-order.invariant.0, subst (λ (xs : List LineRow). IsRead {X = List LineRow} (λ t rows. AreLinesFor (take (i + 1) orders) t item rows) old new (Ok xs)) (sym grown) step)
+    (c.in_ok-row.ensures.same_reference ∙ c.loop-order.invariant.0, subst (λ (xs : List LineRow). IsRead {X = List LineRow} (Learning c.args.rows.now c.line_known.new.rows (λ t lines. AreLinesFor (take (i + 1) orders) t item lines)) old new (Ok xs)) (sym grown) step)
 
 pub returns-clause-read : goal.returns-clause-read
 returns-clause-read g c =

@@ -3,7 +3,8 @@ use Rattle.sqlite.specs.declared.error.Error.TheVariants.{SqliteFailure}
 use Rattle.sqlite.specs.declared.error.ErrorCode.TheVariants.{OutOfMemory}
 use Rattle.open_lines.specs.OpenLines.{orders_at, are_apart}
 use Rattle.slices.specs.Slicing.{AreLinesFor, other_names}
-use Rattle.known_reads.proofs.ReadSteps.{as_told, no_room_yet}
+use Rattle.known_reads.proofs.ReadSteps.{no_room_yet}
+use Rattle.known_reads.proofs.KnowingSteps.{known_as}
 use Rattle.slices.proofs.known_orders.lines_of_item.Goals as goal
 
 pub returns-in_err-orders-clause-read : goal.returns-in_err-orders-clause-read
@@ -14,4 +15,4 @@ returns-clause-read g c =
     let named = c.args.named.now in
     let sought : c.as_slice.result.now ≡ other_names named (orders_at c.args.known.now c.args.gtin.now) = c.as_slice.ensures.value ∙ c.in_ok-orders.ensures ∙ ap (other_names named) c.orders_of.ensures.orders in
     let once : are_apart (orders_at c.args.known.now c.args.gtin.now) ≡ true = ap are_apart (sym c.orders_of.ensures.orders) ∙ c.orders_of.ensures.once in
-    as_told c.lines_for.ensures.read (λ t rows h. record { once = once; lines = subst (λ (l : List (List ℕ)). AreLinesFor l t c.args.gtin.now rows.items) sought h })
+    known_as c.lines_for.ensures.read (λ t rows h. record { once = once; lines = subst (λ (l : List (List ℕ)). AreLinesFor l t c.args.gtin.now rows.items) sought h })

@@ -1,20 +1,21 @@
-use Rattle.std.proofs.Common.{Vec, Global, ◌≡◌, ℕ, ◌+◌, ◌<◌, length, take, List, [], ◌∷◌, ◌++◌, Ok, sym, ap, subst, ◌∙◌, arith}
+use Rattle.std.proofs.Common.{Vec, Global, ◌≡◌, ◌+◌, ◌<◌, length, take, List, ◌++◌, Ok, sym, ap, subst, ◌∙◌, arith}
 use Rattle.std.proofs.lemmas.List.{take_all}
 use Rattle.commands.specs.declared.rows.LineRow.{LineRow}
 use Rattle.sqlite.specs.Held.{state}
 use Rattle.sqlite.specs.declared.error.Error.TheVariants.{SqliteFailure}
 use Rattle.sqlite.specs.declared.error.ErrorCode.TheVariants.{OutOfMemory}
 use Rattle.known_reads.specs.Reading.{IsRead}
-use Rattle.slices.specs.Slicing.{Each, AreLinesOfItem, AreLinesOfItems}
+use Rattle.slices.specs.Remembering.{KnowsRows, Learning}
+use Rattle.slices.specs.Slicing.{AreLinesOfItem, AreLinesOfItems}
 use Rattle.known_reads.proofs.ReadSteps.{has_read, read_on, so_told, fails_later, no_room_left}
-use Rattle.known_reads.proofs.SeekSteps.{seek_step, place}
+use Rattle.known_reads.proofs.KnowingSteps.{known_step}
 use Rattle.slices.proofs.known_orders.lines_of_items.Goals as goal
 
-pub returns-in_err-rows-clause-read : goal.returns-in_err-rows-clause-read
-returns-in_err-rows-clause-read g c = fails_later (has_read c.loop-gtin.invariant.1) c.from_residual.ensures c.in_err-rows.ensures.read
+pub returns-in_err-lines-clause-read : goal.returns-in_err-lines-clause-read
+returns-in_err-lines-clause-read g c = fails_later (has_read c.loop-gtin.invariant.1) c.from_residual.ensures c.in_err-lines.ensures.read
 
 pub returns-in_err-extend_from_slice-clause-read : goal.returns-in_err-extend_from_slice-clause-read
-returns-in_err-extend_from_slice-clause-read g c = no_room_left (SqliteFailure OutOfMemory) (read_on (has_read c.loop-gtin.invariant.1) c.in_ok-rows.ensures.read) c.from_residual-in_err-extend_from_slice.ensures
+returns-in_err-extend_from_slice-clause-read g c = no_room_left (SqliteFailure OutOfMemory) (read_on (has_read c.loop-gtin.invariant.1) c.in_ok-lines.ensures.read) c.from_residual-in_err-extend_from_slice.ensures
 
 pub loop-gtin-preserved : goal.loop-gtin-preserved
 loop-gtin-preserved g c =
@@ -26,14 +27,13 @@ loop-gtin-preserved g c =
     let gtins = c.args.gtins.now in
     let i = c.loop-gtin.gtin-index in
     let k = c.gtin-item.result in
-    let done : List (List ℕ) = take i gtins in
     let less : i < length gtins = omega arith in
-    let step = seek_step (λ j t rows. AreLinesOfItem known named t j rows) {X = Vec LineRow Global} (λ v. v.items) old mid new done k c.loop-gtin.found.items c.in_ok-rows.rows c.loop-gtin.invariant.1 c.in_ok-rows.ensures.read in
-    let grown : c.extend_from_slice.new.self.items ≡ c.loop-gtin.found.items ++ c.in_ok-rows.rows.items = c.in_ok-extend_from_slice.ensures.items ∙ ap (λ l. c.loop-gtin.found.items ++ l) c.as_slice.ensures.value in
-    let next : IsRead {X = List LineRow} (λ t rows. AreLinesOfItems known named (take (i + 1) gtins) t rows) old new (Ok c.extend_from_slice.new.self.items) =
-    subst (λ (l : List (List ℕ)). IsRead {X = List LineRow} (λ t rows. Each (λ j found. AreLinesOfItem known named t j found) l rows) old new (Ok c.extend_from_slice.new.self.items)) (sym (place {K = List ℕ} gtins i k less c.gtin-item.is))
-    (subst (λ (xs : List LineRow). IsRead {X = List LineRow} (λ t rows. Each (λ j found. AreLinesOfItem known named t j found) (done ++ k ∷ []) rows) old new (Ok xs)) (sym grown) step) in
-    (c.in_ok-rows.ensures.same_reference ∙ c.loop-gtin.invariant.0, next)
+    let step = known_step (λ j t lines. AreLinesOfItem known named t j lines) {X = Vec LineRow Global} (λ v. v.items) (λ t. KnowsRows t c.args.rows.now) (λ t. KnowsRows t c.loop-gtin.rows) (λ t. KnowsRows t c.lines_of_item.new.rows)
+    old mid new gtins i k c.loop-gtin.found.items c.in_ok-lines.lines less c.gtin-item.is c.loop-gtin.invariant.1 c.in_ok-lines.ensures.read in
+    let grown : c.extend_from_slice.new.self.items ≡ c.loop-gtin.found.items ++ c.in_ok-lines.lines.items = c.in_ok-extend_from_slice.ensures.items ∙ ap (λ l. c.loop-gtin.found.items ++ l) c.as_slice.ensures.value in
+    let next : IsRead {X = List LineRow} (Learning c.args.rows.now c.lines_of_item.new.rows (λ t lines. AreLinesOfItems known named (take (i + 1) gtins) t lines)) old new (Ok c.extend_from_slice.new.self.items) =
+    subst (λ (xs : List LineRow). IsRead {X = List LineRow} (Learning c.args.rows.now c.lines_of_item.new.rows (λ t lines. AreLinesOfItems known named (take (i + 1) gtins) t lines)) old new (Ok xs)) (sym grown) step in
+    (c.in_ok-lines.ensures.same_reference ∙ c.loop-gtin.invariant.0, next)
 
 pub returns-clause-read : goal.returns-clause-read
 returns-clause-read g c =

@@ -3,7 +3,8 @@ use Rattle.commands.specs.declared.rows.LineRow.{LineRow}
 use Rattle.sqlite.specs.declared.error.Error.TheVariants.{SqliteFailure}
 use Rattle.sqlite.specs.declared.error.ErrorCode.TheVariants.{OutOfMemory}
 use Rattle.slices.specs.Slicing.{AreOrders, with_names}
-use Rattle.known_reads.proofs.ReadSteps.{has_read, and_then, so_told, fails_first, fails_later, no_room_left}
+use Rattle.known_reads.proofs.ReadSteps.{has_read, fails_first, fails_later, no_room_left}
+use Rattle.known_reads.proofs.KnowingSteps.{and_known, known_told}
 use Rattle.slices.proofs.known_orders.read_known.Goals as goal
 
 pub returns-in_err-lines-clause-read : goal.returns-in_err-lines-clause-read
@@ -18,5 +19,5 @@ returns-in_err-orders-clause-read g c = fails_later (has_read c.in_ok-lines.ensu
 pub returns-clause-read : goal.returns-clause-read
 returns-clause-read g c =
     let names_are : c.as_slice-2.result.now ≡ with_names (λ (r : LineRow). r.order) c.in_ok-lines.lines.items [] = c.as_slice-2.ensures.value ∙ c.in_ok-names.ensures ∙ ap (λ l. with_names (λ (r : LineRow). r.order) l []) c.as_slice.ensures.value in
-    so_told (and_then c.in_ok-lines.ensures.read c.in_ok-orders.ensures.read)
+    known_told (and_known c.in_ok-lines.ensures.read c.in_ok-orders.ensures.read)
     (λ t h. record { lines = h.0; orders = subst (λ (l : List (List ℕ)). AreOrders l t c.in_ok-orders.orders.items) names_are h.1 })

@@ -1,7 +1,8 @@
 use Rattle.std.proofs.Common.{◌++◌, ap, ◌∙◌}
 use Rattle.sqlite.specs.declared.error.Error.TheVariants.{SqliteFailure}
 use Rattle.sqlite.specs.declared.error.ErrorCode.TheVariants.{OutOfMemory}
-use Rattle.known_reads.proofs.ReadSteps.{has_read, read_on, and_then, so_told, fails_first, fails_later, no_room_left}
+use Rattle.known_reads.proofs.ReadSteps.{has_read, read_on, fails_first, fails_later, no_room_left}
+use Rattle.known_reads.proofs.KnowingSteps.{and_known, known_told}
 use Rattle.slices.proofs.known_orders.read_known_orders.Goals as goal
 
 pub returns-in_err-orders-clause-read : goal.returns-in_err-orders-clause-read
@@ -18,7 +19,7 @@ returns-in_err-extend_from_slice-2-clause-read g c = no_room_left (SqliteFailure
 
 pub returns-clause-read : goal.returns-clause-read
 returns-clause-read g c =
-    so_told (and_then c.in_ok-orders.ensures.read c.in_ok-rest.ensures.read)
+    known_told (and_known c.in_ok-orders.ensures.read c.in_ok-rest.ensures.read)
     (λ t h. record {
       own = c.in_ok-orders.orders.items;
       own_lines = c.in_ok-orders.lines.items;

@@ -27,8 +27,7 @@ returns-in_err-bins-clause-read g c =
 
 pub returns-clause-read : goal.returns-clause-read
 returns-clause-read g c =
-    let knew = λ (t : Tables). KnowsRows t c.args.rows.now in
-    let knows = λ (t : Tables). KnowsRows t c.seek_lot.new.rows in
+    let knows = λ (t : Tables). KnowsRows t c.seek_recalls_of.new.rows in
     known_told
-    (and_known (and_known (and_known (and_known (and_known (unasked knew c.in_ok-items.ensures.read) (unasked knew c.in_ok-least.ensures.read)) c.in_ok-lots.ensures.read) (unasked knows c.in_ok-recalls.ensures.read)) (unasked knows c.in_ok-stock.ensures.read)) c.in_ok-bins.ensures.read)
+    (and_known (and_known (and_known (and_known (and_known c.in_ok-items.ensures.read c.in_ok-least.ensures.read) c.in_ok-lots.ensures.read) c.in_ok-recalls.ensures.read) (unasked knows c.in_ok-stock.ensures.read)) c.in_ok-bins.ensures.read)
     (λ t h. record { items = h.0.0.0.0.0; least = h.0.0.0.0.1; bins = h.1; lots = h.0.0.0.1; recalls = h.0.0.1; stock = h.0.1 })

@@ -27,9 +27,8 @@ returns-clause-read g c =
     let goods = c.in_ok-goods.goods in
     let ordered = c.in_ok-ordered.ordered in
     let made = c.rows_read.ensures in
-    let knew = λ (t : Tables). KnowsRows t c.args.rows.now in
-    let knows = λ (t : Tables). KnowsRows t c.read_goods.new.rows in
-    known_told (and_known (and_known (and_known (unasked knew c.in_ok-gtins.ensures.read) (unasked knew c.in_ok-staged.ensures.read)) c.in_ok-goods.ensures.read) (unasked knows c.in_ok-ordered.ensures.read))
+    let knows = λ (t : Tables). KnowsRows t c.touched_items.new.rows in
+    known_told (and_known (and_known (and_known c.in_ok-gtins.ensures.read (unasked knows c.in_ok-staged.ensures.read)) c.in_ok-goods.ensures.read) c.in_ok-ordered.ensures.read)
     (λ t h. record {
       gtins = c.in_ok-gtins.gtins.items;
       touched = h.0.0.0;

@@ -4,10 +4,9 @@ use Rattle.commands.specs.declared.command.Command.{Command}
 use Rattle.commands.specs.declared.command.Command.TheVariants.{Pick, Ship}
 use Rattle.commands.specs.declared.command.Picking.{Picking}
 use Rattle.row_rules.specs.declared.slice.Rows.{Rows}
-use Rattle.slices.specs.Remembering.{KnowsRows}
 use Rattle.slices.specs.Slicing.{ArePlanned, AreSliced}
 use Rattle.slices.specs.declared.knowing.Known.{Known}
-use Rattle.known_reads.proofs.KnowingSteps.{unasked, known_as}
+use Rattle.known_reads.proofs.KnowingSteps.{known_as}
 use Rattle.slices.proofs.slices.read_rows.Goals as goal
 
 -- those of a command that is no shipment and no pick
@@ -17,7 +16,7 @@ planned known (Pick p) t rows no_shipment no_pick are = absurd (no_pick p refl)
 planned known command t rows no_shipment no_pick are = are
 
 pub returns-in-Ship-clause-read : goal.returns-in-Ship-clause-read
-returns-in-Ship-clause-read g c = known_as (unasked (λ t. KnowsRows t c.args.rows.now) c.read_shipment.ensures.read) (λ t rows are. subst (λ (command : Command). AreSliced c.args.known.now command t rows) (sym c.in-Ship.is) are)
+returns-in-Ship-clause-read g c = known_as c.read_shipment.ensures.read (λ t rows are. subst (λ (command : Command). AreSliced c.args.known.now command t rows) (sym c.in-Ship.is) are)
 
 pub returns-in-Pick-clause-read : goal.returns-in-Pick-clause-read
 returns-in-Pick-clause-read g c = known_as c.read_pick.ensures.read (λ t rows are. subst (λ (command : Command). AreSliced c.args.known.now command t rows) (sym c.in-Pick.is) are)

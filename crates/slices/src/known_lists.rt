@@ -1,0 +1,73 @@
+//! Orders and lines that are sought, from what is known of them, and from the tables where nothing is.
+
+ghost use Rattle.std.specs.Prelude.{◌≡◌};
+ghost use Rattle.sqlite.specs.Held.{state};
+ghost use Rattle.order_tables.specs.Lines.{AreLineOf};
+ghost use Rattle.order_tables.specs.Orders.{AreOrdersOf};
+ghost use Rattle.known_reads.specs.Reading.{IsRead};
+ghost use Rattle.slices.specs.Remembering.{Learning};
+ghost use Rattle.slices.specs.Slicing.{AreAllLines, AreOrders};
+
+use crate::rows_known::RowsKnown;
+use commands::{LineRow, OrderRow};
+use known_reads::{seek_all_known, seek_known};
+use order_tables::lines::Lines;
+use order_tables::orders::Orders;
+use slice_parts::LineKey;
+use sqlite::{Alter, Transaction};
+use std::alloc::Global;
+use table_words::error::TableFault;
+use text_keys::TextKey;
+use values::{Gtin, Name};
+
+/// The row of an order.
+pub fn seek_order<S: Alter>(
+    alloc: Global,
+    tx: &mut Transaction<'_, S>,
+    rows: &mut RowsKnown,
+    order: &Name,
+) -> Result<Vec<OrderRow>, TableFault>
+    ensures same_reference { tx.new.conn.ghost_name ≡ tx.old.conn.ghost_name }
+    ensures read { IsRead (Learning rows.old rows.new (λ t found. AreOrdersOf order.now t found.items)) (state S.Store tx.old.conn.now) (state S.Store tx.new.conn.now) result }
+{
+    seek_known::<Orders, Name, TextKey, S>(alloc, tx, &mut rows.orders, order)
+}
+
+/// The rows of orders, one after another.
+pub fn seek_orders<S: Alter>(
+    alloc: Global,
+    tx: &mut Transaction<'_, S>,
+    rows: &mut RowsKnown,
+    orders: &[Name],
+) -> Result<Vec<OrderRow>, TableFault>
+    ensures same_reference { tx.new.conn.ghost_name ≡ tx.old.conn.ghost_name }
+    ensures read { IsRead (Learning rows.old rows.new (λ t found. AreOrders orders.now t found.items)) (state S.Store tx.old.conn.now) (state S.Store tx.new.conn.now) result }
+{
+    seek_all_known::<Orders, Name, TextKey, S>(alloc, tx, &mut rows.orders, orders)
+}
+
+/// All lines of orders, one order after another.
+pub fn seek_lines<S: Alter>(
+    alloc: Global,
+    tx: &mut Transaction<'_, S>,
+    rows: &mut RowsKnown,
+    orders: &[Name],
+) -> Result<Vec<LineRow>, TableFault>
+    ensures same_reference { tx.new.conn.ghost_name ≡ tx.old.conn.ghost_name }
+    ensures read { IsRead (Learning rows.old rows.new (λ t found. AreAllLines orders.now t found.items)) (state S.Store tx.old.conn.now) (state S.Store tx.new.conn.now) result }
+{
+    seek_all_known::<Lines, Name, TextKey, S>(alloc, tx, &mut rows.lines, orders)
+}
+
+/// The line of an order for an item, where there is one.
+pub fn seek_line<S: Alter>(
+    alloc: Global,
+    tx: &mut Transaction<'_, S>,
+    rows: &mut RowsKnown,
+    line: &(Name, Gtin),
+) -> Result<Vec<LineRow>, TableFault>
+    ensures same_reference { tx.new.conn.ghost_name ≡ tx.old.conn.ghost_name }
+    ensures read { IsRead (Learning rows.old rows.new (λ t found. AreLineOf line.now t found.items)) (state S.Store tx.old.conn.now) (state S.Store tx.new.conn.now) result }
+{
+    seek_known::<Lines, (Name, Gtin), LineKey, S>(alloc, tx, &mut rows.lines_at, line)
+}
