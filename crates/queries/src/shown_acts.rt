@@ -40,12 +40,7 @@ impl Query for ActsQuery {
         Ok(Ok(meta))
     }
 
-    fn view(
-        &self,
-        _alloc: Global,
-        _day: BusinessDay,
-        found: MetaRow,
-    ) -> Result<u64, AllocError> {
+    fn view(&self, _alloc: Global, _day: BusinessDay, found: MetaRow) -> Result<u64, AllocError> {
         Ok(found.acts)
     }
 }
