@@ -27,6 +27,11 @@ FIRST = day_number("2026-05-04")
 LINE_MAX = 8_192
 
 
+def lines_of(text):
+    """The lines of a text, each with its line feed; `bytes.splitlines` would cut at other bytes too."""
+    return re.findall(rb"[^\n]*\n|[^\n]+$", text)
+
+
 def fails(what, expected, got):
     sys.exit("apply: seed %d: %s: expected %r, got %r" % (seed, what, expected, got))
 
@@ -54,7 +59,7 @@ def begun(name, first=FIRST):
 def history(db):
     """The lines of the acts."""
     done = subprocess.run([lotd, "history", "--db", db], capture_output=True, check=True, timeout=600)
-    return done.stdout.splitlines(keepends=True)
+    return lines_of(done.stdout)
 
 
 def applied(db, text):
@@ -285,7 +290,7 @@ def wrong_text(db, lines, copies, counts):
     way = chance.choice(WAYS)
     at = chance.randrange(max(0, known - 30), min(len(lines), known + 30))
     first = chance.choice([0, max(0, at - 50)])
-    wrong = b"".join(way(lines[:at + 40], at)[first:]).splitlines(keepends=True)
+    wrong = lines_of(b"".join(way(lines[:at + 40], at)[first:]))
     named = "%s in line %d over %d acts" % (way.__name__, at + 1, known)
     books = copied(copy, path_of("wrong"))
     told = applied(books, b"".join(wrong))

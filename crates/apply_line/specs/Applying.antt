@@ -12,7 +12,7 @@ use Rattle.applies.specs.Going.{OfText}
 use Rattle.applies.specs.Applying.{IsApplied, LeavesOneOf}
 use Rattle.applies.specs.declared.applied.Applied.{Applied}
 use Rattle.applies.specs.declared.applied.NotApplied.{NotApplied}
-use Rattle.applies.specs.declared.applied.NotApplied.TheVariants as not
+use Rattle.applies.specs.declared.applied.NotApplied.TheVariants as misfit
 use Rattle.command_line.specs.declared.apply_fault.ApplyFault.TheVariants as apply
 use Rattle.command_line.specs.declared.fault.Fault.{Fault}
 use Rattle.command_line.specs.declared.fault.Fault.TheVariants.{Apply, Io, Store, Foreign}
@@ -23,13 +23,13 @@ applied_line told = codes "applied " ++ decimal told.done ++ codes " known " ++ 
 
 -- the fault of lines that were not all taken in, as the line of the program tells it
 abbrev pub fault_of : NotApplied → Fault
-fault_of (not.Differs act) = Apply (apply.Differs act)
-fault_of (not.Lacks act) = Apply (apply.Lacks act)
-fault_of (not.Line line) = Apply (apply.Line line)
-fault_of (not.Refused act why) = Apply (apply.Act act why)
-fault_of not.Input = Io
-fault_of not.Store = Store
-fault_of not.Foreign = Foreign
+fault_of (misfit.Differs act) = Apply (apply.Differs act)
+fault_of (misfit.Lacks act) = Apply (apply.Lacks act)
+fault_of (misfit.Line line) = Apply (apply.Line line)
+fault_of (misfit.Refused act why) = Apply (apply.Act act why)
+fault_of misfit.Input = Io
+fault_of misfit.Store = Store
+fault_of misfit.Foreign = Foreign
 
 -- how the lines went, as the line of the program tells it
 abbrev pub told_of : Result Applied NotApplied → Result Applied Fault

@@ -1,6 +1,6 @@
 //! Texts that fit, whole and cut at each byte, and those of which the books have a part.
 
-use crate::disk::{Doing, after, rows_of, run_turns};
+use crate::disk::{Doing, after, rows_of, run_over, run_turns};
 use crate::history::{ALL, lines, part, whole_lines};
 use crate::turns::Turn;
 use book_trials::Pair;
@@ -33,14 +33,17 @@ fn cut_at(host: &HostRuntime, rt: &impl Abort, size: usize) {
     let known = whole_lines(text);
     let first = tally(host, rt, known, 0, 0);
     let rest = tally(host, rt, ALL.saturating_sub(known), known, 0);
-    let turns = [
+    let cut = [
         Turn::Made,
         Turn::Applied(text, first.as_str()),
         Turn::History(part(0, known)),
+    ];
+    let files = run_turns(host, rt, cut.as_slice());
+    let whole = [
         Turn::Applied(lines(), rest.as_str()),
         Turn::History(lines()),
     ];
-    drop(run_turns(host, rt, turns.as_slice()));
+    drop(run_over(host, rt, &files, whole.as_slice()));
 }
 
 #[test]
@@ -70,13 +73,13 @@ fn stretch(host: &HostRuntime, rt: &impl Abort, had: usize, from: usize, to: usi
     };
     let first = tally(host, rt, had, 0, 0);
     let told = tally(host, rt, done, known, beyond);
+    let begun = [Turn::Made, Turn::Applied(part(0, had), first.as_str())];
+    let files = run_turns(host, rt, begun.as_slice());
     let turns = [
-        Turn::Made,
-        Turn::Applied(part(0, had), first.as_str()),
         Turn::Applied(part(from, to), told.as_str()),
         Turn::History(part(0, to.max(had))),
     ];
-    drop(run_turns(host, rt, turns.as_slice()));
+    drop(run_over(host, rt, &files, turns.as_slice()));
 }
 
 #[test]

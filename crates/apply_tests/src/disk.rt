@@ -122,7 +122,17 @@ pub(crate) fn rows_of(host: &HostRuntime, rt: &impl Abort, files: &Pair) -> Stri
     tried(host, rt, files, Calls::ALL, Doing::Looked).1
 }
 
+/// Runs the lines over these files.
+pub(crate) fn run_over(
+    host: &HostRuntime,
+    rt: &impl Abort,
+    files: &Pair,
+    turns: &[Turn<'_>],
+) -> Pair {
+    after(host, rt, files, Doing::Turns(turns))
+}
+
 /// Runs the lines over new files.
 pub(crate) fn run_turns(host: &HostRuntime, rt: &impl Abort, turns: &[Turn<'_>]) -> Pair {
-    after(host, rt, &Pair::empty(host.alloc()), Doing::Turns(turns))
+    run_over(host, rt, &Pair::empty(host.alloc()), turns)
 }

@@ -63,8 +63,10 @@ fn taken_in<S: Orderly + Drop>(
             let told = call.end(host, told_by(&end, printed.as_slice(), tallies));
             (conn, told)
         }
-        Err((Leftover::Connection(conn), _)) => (conn, call.end(host, Told::NoMemory)),
-        Err(_) => panic!(rt; "no connection is left"),
+        Err((left, _)) => match left {
+            Leftover::Connection(conn) => (conn, call.end(host, Told::NoMemory)),
+            _ => panic!(rt; "no connection is left"),
+        },
     }
 }
 

@@ -1,6 +1,6 @@
 //! Texts with a line that does not fit: those before it are done, and it is told.
 
-use crate::disk::run_turns;
+use crate::disk::{run_over, run_turns};
 use crate::history::{ALL, lines, part};
 use crate::turns::Turn;
 use std::process::Abort;
@@ -146,7 +146,7 @@ static NEW: [Misfit; 24] = [
         before: (0, 10),
         line: b"11\t2026-05-04\tK/K-11\tPICK\tS-1\t09506000134352\tL0\tA-01\t6\n",
         behind: 11,
-        told: "lotd: Q02 act 11\n",
+        told: "lotd: Q01 act 11\n",
     },
     // A command that is none.
     Misfit {
@@ -286,14 +286,14 @@ fn is_told(host: &HostRuntime, rt: &impl Abort, misfit: &Misfit) {
     let sound = format!(in host.alloc(); "audited {done} acts from 2026-05-04\n").expect(
         rt, "memory",
     );
-    let turns = [
-        Turn::Made,
-        Turn::Applied(part(0, had), first.as_str()),
+    let begun = [Turn::Made, Turn::Applied(part(0, had), first.as_str())];
+    let files = run_turns(host, rt, begun.as_slice());
+    let told = [
         Turn::Told(text.as_slice(), misfit.told),
         Turn::History(part(0, done)),
-        Turn::Sound(sound.as_str()),
     ];
-    drop(run_turns(host, rt, turns.as_slice()));
+    let files = run_over(host, rt, &files, told.as_slice());
+    drop(run_over(host, rt, &files, [Turn::Sound(sound.as_str())].as_slice()));
 }
 
 #[test]
@@ -315,7 +315,7 @@ fn long_line(host: &HostRuntime, rt: &impl Abort, size: usize) -> Vec<u8> {
     let mut text: Vec<u8> = Vec::new(host.alloc());
     let front = b"1\t2026-05-04\tK/K-1\tITEM\t09506000134352\t";
     assert!(rt; text.extend_from_slice(front.as_slice()).is_ok());
-    while text.len() < size.saturating_sub(1) {
+    for _ in front.len()..size.saturating_sub(1) {
         assert!(rt; text.push(b'x').is_ok());
     }
     assert!(rt; text.push(b'\n').is_ok());
@@ -326,18 +326,23 @@ fn long_line(host: &HostRuntime, rt: &impl Abort, size: usize) -> Vec<u8> {
 #[test]
 fn a_line_is_too_long(rt: HostRuntime) {
     for size in [LINE_MAX - 1, LINE_MAX, LINE_MAX + 1, 2 * LINE_MAX, 100_000] {
-        let text = long_line(&rt, &rt, size);
-        let turns = [
-            Turn::Made,
-            Turn::Told(text.as_slice(), "lotd: line 1\n"),
-            Turn::History(b""),
-            Turn::Applied(lines(), "applied 14 known 0 beyond 0\n"),
-        ];
-        drop(run_turns(&rt, &rt, turns.as_slice()));
+        is_too_long(&rt, &rt, size);
     }
 }
 
-// The books have an act of their own, and go no further. What they had before it is known.
+fn is_too_long(host: &HostRuntime, rt: &impl Abort, size: usize) {
+    let text = long_line(host, rt, size);
+    let turns = [
+        Turn::Made,
+        Turn::Told(text.as_slice(), "lotd: line 1\n"),
+        Turn::History(part(0, 0)),
+        Turn::Applied(lines(), "applied 14 known 0 beyond 0\n"),
+    ];
+    drop(run_turns(host, rt, turns.as_slice()));
+}
+
+// The books have an act of their own: lines that have another there are told, and lines that go on behind it are done, since
+// each is accepted there too.
 #[test]
 fn the_books_have_gone_another_way(rt: HostRuntime) {
     let turns = [
@@ -349,8 +354,9 @@ fn the_books_have_gone_another_way(rt: HostRuntime) {
         ),
         Turn::Applied(part(0, 5), "applied 0 known 5 beyond 1\n"),
         Turn::Told(lines(), "lotd: differs act 6\n"),
-        Turn::Told(part(6, ALL), "lotd: U03 act 7\n"),
-        Turn::Sound("audited 6 acts from 2026-05-04\n"),
+        Turn::Told(part(7, ALL), "lotd: lacks act 7\n"),
+        Turn::Applied(part(6, ALL), "applied 8 known 0 beyond 0\n"),
+        Turn::Sound("audited 14 acts from 2026-05-04\n"),
     ];
     drop(run_turns(&rt, &rt, turns.as_slice()));
 }

@@ -1,7 +1,7 @@
 //! Disks that stop at each call while a text is taken in: the books are those of some of its first lines, and the same line
 //! goes on from there.
 
-use crate::disk::{Doing, after, rows_of, run_turns, stopped};
+use crate::disk::{rows_of, run_over, run_turns, stopped};
 use crate::history::{ALL, lines, part};
 use crate::turns::Turn;
 use book_trials::{Calls, Loss, Pair};
@@ -41,7 +41,7 @@ fn stages(host: &HostRuntime, rt: &impl Abort) -> Vec<String> {
     stages
 }
 
-// What a stop left has the rows of some number of acts; the same line does the rest.
+// What a stop left has the rows of some number of acts, which is given back; the same line does the rest.
 fn recovers(host: &HostRuntime, rt: &impl Abort, left: &Pair, stages: &[String]) -> usize {
     let rows = rows_of(host, rt, left);
     let mut found = None;
@@ -51,6 +51,12 @@ fn recovers(host: &HostRuntime, rt: &impl Abort, left: &Pair, stages: &[String])
         }
     }
     let known = found.expect(rt, "rows of a beginning of the text");
+    goes_on(host, rt, left, known);
+    known
+}
+
+// The same line does the rest.
+fn goes_on(host: &HostRuntime, rt: &impl Abort, left: &Pair, known: usize) {
     let done = ALL.saturating_sub(known);
     let told = format!(in host.alloc(); "applied {done} known {known} beyond 0\n").expect(
         rt, "memory",
@@ -59,10 +65,10 @@ fn recovers(host: &HostRuntime, rt: &impl Abort, left: &Pair, stages: &[String])
         Turn::History(part(0, known)),
         Turn::Applied(lines(), told.as_str()),
         Turn::History(lines()),
-        Turn::Sound("audited 14 acts from 2026-05-04\n"),
     ];
-    drop(after(host, rt, left, Doing::Turns(turns.as_slice())));
-    known
+    let files = run_over(host, rt, left, turns.as_slice());
+    let sound = [Turn::Sound("audited 14 acts from 2026-05-04\n")];
+    drop(run_over(host, rt, &files, sound.as_slice()));
 }
 
 /// What was found.

@@ -57,29 +57,46 @@ fn one(rt: &impl Abort, alloc: Global, row: LotRow) -> Vec<LotRow> {
     rows
 }
 
+// The lot's row, but that it is held where it is not.
+fn other_row(rt: &impl Abort) -> LotRow {
+    let stored = samples::known_lot(rt);
+    LotRow {
+        held: !stored.held,
+        ..stored
+    }
+}
+
+// What is known of the lot: a row that is not the one of the tables.
+fn is_misled<S: Alter>(
+    rt: &impl Abort,
+    alloc: Global,
+    tx: &mut Transaction<'_, S>,
+    known: &mut Known,
+    lot: &LotId,
+) {
+    assert!(rt; known.rows.lots.rows_of(lot).is_some());
+    known.rows.lots.keep(lot, one(rt, alloc, other_row(rt)));
+    let held = is_held(rt, alloc, tx, known, lot);
+    assert!(rt; held == other_row(rt).held);
+}
+
 /// The tables have a lot. What is known of it says otherwise, so it is seen where a slice has its row from.
 pub(crate) fn tells_known<S: Alter>(rt: &impl Abort, alloc: Global, conn: &mut Connection<S>) {
     assert!(rt; conn.is_autocommit());
     let mut tx = conn.transaction();
     let mut known = none_known(alloc);
-    let stored = samples::known_lot(rt);
-    let other = LotRow {
-        held: !stored.held,
-        ..stored
-    };
-    let held = is_held(rt, alloc, &mut tx, &mut known, &stored.lot);
-    assert!(rt; held == stored.held);
-    assert!(rt; known.rows.lots.rows_of(&stored.lot).is_some());
-    known.rows.lots.keep(&stored.lot, one(rt, alloc, other));
-    let held = is_held(rt, alloc, &mut tx, &mut known, &stored.lot);
-    assert!(rt; held == other.held);
+    let lot = samples::known_lot(rt).lot;
+    let is_stored = samples::known_lot(rt).held;
+    let held = is_held(rt, alloc, &mut tx, &mut known, &lot);
+    assert!(rt; held == is_stored);
+    is_misled(rt, alloc, &mut tx, &mut known, &lot);
     let mut put = none_put(alloc);
-    put.lots = Listed::from_vec(one(rt, alloc, other));
+    put.lots = Listed::from_vec(one(rt, alloc, other_row(rt)));
     assert!(rt; know_put(alloc, &mut tx, &mut known, &put).is_ok());
     drop(put);
-    assert!(rt; known.rows.lots.rows_of(&stored.lot).is_none());
-    let held = is_held(rt, alloc, &mut tx, &mut known, &stored.lot);
-    assert!(rt; held == stored.held);
+    assert!(rt; known.rows.lots.rows_of(&lot).is_none());
+    let held = is_held(rt, alloc, &mut tx, &mut known, &lot);
+    assert!(rt; held == is_stored);
     drop(known);
 }
 

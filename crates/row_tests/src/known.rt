@@ -13,17 +13,17 @@ fn name(rt: &impl Abort, text: &[u8]) -> Name {
     Name::new(text).expect(rt, "a name")
 }
 
-fn bin(rt: &impl Abort, text: &[u8], kind: BinKind) -> BinRow {
-    BinRow {
-        name: name(rt, text),
-        kind,
-    }
+// One row is found by this, of a bin of this name.
+fn keep(rt: &impl Abort, alloc: Global, known: &mut BinsKnown, by: &Name, kind: BinKind) {
+    let mut own = Vec::new(alloc);
+    assert!(rt; own.push(BinRow { name: *by, kind }).is_ok());
+    known.keep(by, own);
 }
 
-fn keep(rt: &impl Abort, alloc: Global, known: &mut BinsKnown, by: &Name, rows: &[BinRow]) {
-    let mut own = Vec::new(alloc);
-    assert!(rt; own.extend_from_slice(rows).is_ok());
-    known.keep(by, own);
+// The row of the bin is put or dropped.
+fn forget_row(known: &mut BinsKnown, name: &Name) {
+    let kind = BinKind::Hold;
+    known.forget_all(&[BinRow { name: *name, kind }]);
 }
 
 // How many rows are known by this, if any are.
@@ -49,23 +49,21 @@ fn rows_are_known_until_they_are_forgotten(rt: HostRuntime) {
     let alloc = rt.alloc();
     let mut known: BinsKnown = KnownRows::new(alloc);
     let (first, second, none) = (name(&rt, b"A-01"), name(&rt, b"A-02"), name(&rt, b"A-03"));
-    let hold = bin(&rt, b"A-01", BinKind::Hold);
-    let store = bin(&rt, b"A-02", BinKind::Store);
     assert!(rt; count(&known, &first) == None);
-    keep(&rt, alloc, &mut known, &first, &[hold]);
-    keep(&rt, alloc, &mut known, &second, &[store]);
-    keep(&rt, alloc, &mut known, &none, &[]);
+    keep(&rt, alloc, &mut known, &first, BinKind::Hold);
+    keep(&rt, alloc, &mut known, &second, BinKind::Store);
+    known.keep(&none, Vec::new(alloc));
     assert!(rt; is_hold(&known, &first));
     assert!(rt; count(&known, &second) == Some(1));
     assert!(rt; !is_hold(&known, &second));
     assert!(rt; count(&known, &none) == Some(0));
-    known.forget_all(&[hold]);
+    forget_row(&mut known, &first);
     assert!(rt; count(&known, &first) == None);
     assert!(rt; count(&known, &second) == Some(1));
     assert!(rt; count(&known, &none) == Some(0));
     known.forget(&none);
     assert!(rt; count(&known, &none) == None);
-    keep(&rt, alloc, &mut known, &first, &[hold]);
+    keep(&rt, alloc, &mut known, &first, BinKind::Hold);
     assert!(rt; is_hold(&known, &first));
 }
 
@@ -80,16 +78,15 @@ fn what_is_known_has_a_bound(rt: HostRuntime) {
     let alloc = rt.alloc();
     assert!(rt; WEIGHT_MAX == 65_536);
     let mut known: BinsKnown = KnownRows::new(alloc);
-    let row = bin(&rt, b"A-01", BinKind::Hold);
     for number in 0..32_769 {
         let by = numbered(&rt, alloc, number);
-        keep(&rt, alloc, &mut known, &by, &[row]);
+        keep(&rt, alloc, &mut known, &by, BinKind::Hold);
     }
     let (first, last) = (numbered(&rt, alloc, 0), numbered(&rt, alloc, 32_768));
     assert!(rt; count(&known, &first) == Some(1));
     assert!(rt; count(&known, &last) == Some(1));
     let more = numbered(&rt, alloc, 32_769);
-    keep(&rt, alloc, &mut known, &more, &[row]);
+    keep(&rt, alloc, &mut known, &more, BinKind::Hold);
     assert!(rt; count(&known, &first) == None);
     assert!(rt; count(&known, &last) == None);
     assert!(rt; count(&known, &more) == Some(1));

@@ -126,7 +126,7 @@ returns-in-Audit-clause-left g c = subst (λ w. IfErr c.audit_books.result (λ e
 pub returns-in-Apply-clause-worked : goal.returns-in-Apply-clause-worked
 returns-in-Apply-clause-worked g c =
     let log = g.L.Write.contents c.args.log.now in
-    subst (λ work. IfOk c.open_and_apply.result (λ w. HasCleanDisk (state g.S.Store w.0) → IsWorked g.S.Store c.args.conn work log log w.0))
+    subst (λ work. IfOk c.open_and_apply.result (λ w. HasCleanDisk (state g.S.Store w.0) → IsWorked g.S.Store c.args.conn work log log w.1 w.0))
     (sym c.in-Apply.is) c.open_and_apply.ensures.applied
 
 pub returns-in-Apply-clause-judged : goal.returns-in-Apply-clause-judged

@@ -1,4 +1,4 @@
-use Rattle.slices.proofs.ReadSteps.{so_told, fails_first}
+use Rattle.known_reads.proofs.ReadSteps.{so_told, fails_first}
 use Rattle.queries.proofs.shown_acts.ActsQueryQuery.read.Goals as goal
 
 pub returns-in_err-meta-clause-read : goal.returns-in_err-meta-clause-read
