@@ -247,8 +247,9 @@ fn audit_in_memory<S: Alter, P: Progress>(
 /// of the first receipt in its lot's card, where no act opens a day before it; or else the day before the first that was
 /// opened. Books of an older schema are compared as they would be brought up. `Sound` exactly where the tables are those of
 /// the acts, and else the first difference, as far as memory and the disk suffice. Sound books are opened by `Books::open`
-/// as those of these acts, and are never `Foreign` to it. No row is changed, and nothing is committed. `Foreign` where the tables are not those of books, and where those of an older schema cannot be brought up: never
-/// on books of a history. `Store` where memory or the disk fails.
+/// as those of these acts, and are never `Foreign` to it. No row is changed, and nothing is committed. `Foreign` where the
+/// tables are not those of books, and where those of an older schema cannot be brought up: never on books of a history.
+/// `Store` where memory or the disk fails.
 pub fn audit<S: Orderly + Drop, P: Progress>(
     alloc: Global,
     conn: Connection<S>,

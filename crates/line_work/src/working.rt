@@ -29,9 +29,9 @@ pub fn listen(rt: &HostRuntime, work: &Work<'_>) -> io::Result<Option<TcpListene
 /// log of a server to `log`, where it keeps one. Books that were made are empty; books that were served are those of a run
 /// over at most as many texts as connections were to be answered, for each of which the log has its line; books into which
 /// a file was imported are those after it, or as they were; books that took in lines of a history are those after the lines
-/// before the first that does not fit; books of which a text was printed are as they were. What was
-/// printed is the text that the machine shows of the lot, the acts or the tally of the file, and the work is refused exactly
-/// where the machine refuses. Books of an older schema are brought up as they are opened. An audit opens none: whatever the
+/// before the first that does not fit; books of which a text was printed are as they were. What was printed is the text that
+/// the machine shows of the lot, the acts or the tally of the file, and the work is refused exactly where the machine
+/// refuses. Books of an older schema are brought up as they are opened. An audit opens none: whatever the
 /// tables hold, nothing is committed, and what it tells holds of them; how far it is it shows on standard error, where that
 /// is a terminal. Where the books cannot be made, opened or audited, nothing is printed or logged, no row is changed, and the
 /// error is `Foreign` for other tables and else `Store`, also for a connection within a transaction; what is left of the
