@@ -1,6 +1,6 @@
 -- The days on which acts began.
 use Rattle.std.proofs.Common.{◌≡◌, ℕ, ◌<◌, true, false, List, [], ◌∷◌, ◌++◌, find, Option, Some, None, option_map, inl, inr, refl, sym, ap, subst, ◌∙◌, arith, eq-eqb, eqb-true}
-use Rattle.std.specs.Prelude.{ℤ, negsuc, ◌+ℤ◌, int_le, int_lt, nat_eq}
+use Rattle.std.specs.Prelude.{◌⊎◌, ℤ, negsuc, ◌+ℤ◌, Bool, ◌&&◌, if◌then◌else◌, IsTrue, int_le, int_lt, nat_eq}
 use Rattle.std.specs.List.{AllByRecursion}
 use Rattle.std.proofs.lemmas.Bool.{cases_Bool}
 use Rattle.std.proofs.lemmas.Int.{ints}
@@ -27,7 +27,8 @@ use Rattle.replays.specs.declared.start.Start.{Start}
 use Rattle.replays.specs.declared.start.Start.TheVariants.{Received, Opened}
 use Rattle.replays.proofs.FirstDay.{untold_day}
 use Rattle.replays.proofs.EarlierDays.{earlier_alike, told_day_stands, opened_later, began_on_business, before_is_business}
-use Rattle.applies.specs.Begun.{BegunOn, IsEarlier, IsDayKnown}
+use Rattle.commands.proofs.Joining.{and_both}
+use Rattle.applies.specs.Begun.{BegunOn, earlier_day, day_known}
 
 -- ---- what the first act that tells of a day tells
 
@@ -44,22 +45,22 @@ first_told : (older newer : Option Start) → or_else (option_map dated_as older
 first_told None newer = refl
 first_told (Some older) newer = refl
 
-both_told : (acts : List Act) → first_dated acts ≡ option_map dated_as (start_of acts)
+pub both_told : (acts : List Act) → first_dated acts ≡ option_map dated_as (start_of acts)
 both_told [] = refl
 both_told (act ∷ before) =
     ap (λ o. or_else o (dated (next_number before) act.command)) (both_told before) ∙ ap (or_else (option_map dated_as (start_of before))) (one_told (next_number before) act.command)
     ∙ first_told (start_of before) (told_by (next_number before) act.command)
 
-none_told : (o : Option Start) → option_map dated_as o ≡ None → o ≡ None
+pub none_told : (o : Option Start) → option_map dated_as o ≡ None → o ≡ None
 none_told None e = refl
 none_told (Some s) e = absurd (none-some _ (sym e))
 
-receipt_told : (o : Option Start) (lot : LotId) (n : ℕ) → option_map dated_as o ≡ Some (Receipt lot n) → o ≡ Some (Received lot n)
+pub receipt_told : (o : Option Start) (lot : LotId) (n : ℕ) → option_map dated_as o ≡ Some (Receipt lot n) → o ≡ Some (Received lot n)
 receipt_told None lot n e = absurd (none-some _ e)
 receipt_told (Some (Received l m)) lot n e = let is : Receipt l m ≡ Receipt lot n = same_Some _ _ e in cc
 receipt_told (Some (Opened day)) lot n e = let is : Opening (day +ℤ negsuc 0) ≡ Receipt lot n = same_Some _ _ e in cc
 
-opening_told : (o : Option Start) (last : ℤ) → option_map dated_as o ≡ Some (Opening last) → (day : ℤ) × (o ≡ Some (Opened day)) × (last ≡ day +ℤ negsuc 0)
+pub opening_told : (o : Option Start) (last : ℤ) → option_map dated_as o ≡ Some (Opening last) → (day : ℤ) × (o ≡ Some (Opened day)) × (last ≡ day +ℤ negsuc 0)
 opening_told None last e = absurd (none-some _ e)
 opening_told (Some (Received l m)) last e = let is : Receipt l m ≡ Opening last = same_Some _ _ e in cc
 opening_told (Some (Opened day)) last e = let is : Opening (day +ℤ negsuc 0) ≡ Opening last = same_Some _ _ e in (day, refl, cc)
@@ -79,7 +80,19 @@ begun_received first acts lot n row day h found card is =
     let both = told_day_stands first day acts h first_is in
     record { history = both.0; tables = sym both.1 }
 
-pub begun_opened : (first : ℤ) (acts : List Act) (last begun : ℤ) → IsHistory first acts → Some (Opening last) ≡ first_dated acts → IsEarlier last begun → BegunOn first acts begun
+-- it is this day, or an earlier business day
+abbrev IsEarlier : (last day : ℤ) → Type 0
+IsEarlier last day = (day ≡ last) ⊎ (IsTrue (is_business_day day) × (int_le day last ≡ true))
+
+earlier_by : (b : Bool) (day last : ℤ) → is_business_day day && int_le day last ≡ b → IsEarlier last (if b then day else last)
+earlier_by true day last e = let two = and_both (is_business_day day) (int_le day last) e in inr (two.0, two.1)
+earlier_by false day last e = inl refl
+
+earlier_is : (told : Option ℤ) (last : ℤ) → IsEarlier last (earlier_day told last)
+earlier_is None last = inl refl
+earlier_is (Some day) last = earlier_by (is_business_day day && int_le day last) day last refl
+
+begun_opened : (first : ℤ) (acts : List Act) (last begun : ℤ) → IsHistory first acts → Some (Opening last) ≡ first_dated acts → IsEarlier last begun → BegunOn first acts begun
 begun_opened first acts last begun h found early =
     let it = opening_told (start_of acts) last (sym (both_told acts) ∙ sym found) in
     let day = it.0 in
@@ -137,7 +150,7 @@ of_receipt None l n e = absurd (none-some _ e)
 of_receipt (Some (Opening last)) l n e = absurd (none-some _ e)
 of_receipt (Some (Receipt lot number)) l n e = ap (λ (p : LotId × ℕ). Some (Receipt p.0 p.1)) (same_Some (lot, number) (l, n) e)
 
-pub known_day : (first : ℤ) (acts : List Act) (found : Option Dated) (now day : ℤ) → IsHistory first acts → found ≡ first_dated acts → receipt found ≡ None → now ≡ today first acts → IsDayKnown found now day → BegunOn first acts day
-known_day first acts None now day h is none at known = begun_undated first acts day h is (known ∙ at)
-known_day first acts (Some (Opening last)) now day h is none at known = begun_opened first acts last day h is known
-known_day first acts (Some (Receipt lot number)) now day h is none at known = absurd (none-some _ (sym none))
+pub known_day : (first : ℤ) (acts : List Act) (found : Option Dated) (now day : ℤ) (told : Option ℤ) → IsHistory first acts → found ≡ first_dated acts → receipt found ≡ None → now ≡ today first acts → day ≡ day_known found now told → BegunOn first acts day
+known_day first acts None now day told h is none at known = begun_undated first acts day h is (known ∙ at)
+known_day first acts (Some (Opening last)) now day told h is none at known = begun_opened first acts last day h is (subst (IsEarlier last) (sym known) (earlier_is told last))
+known_day first acts (Some (Receipt lot number)) now day told h is none at known = absurd (none-some _ (sym none))

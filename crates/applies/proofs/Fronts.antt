@@ -56,7 +56,7 @@ same_line a b x y m n e =
     let two = first_part 10 m.body n.body x y (lacks_of m.body m.one) (lacks_of n.body n.one) (sym mine ∙ e ∙ theirs) in
     (m.is ∙ ap (λ t. t ++ 10 ∷ []) two.0 ∙ sym n.is, two.1)
 
-part_no_line : (a rest part : List ℕ) → IsLine a → a ++ rest ≡ part → IsPart part → ⊥
+pub part_no_line : (a rest part : List ℕ) → IsLine a → a ++ rest ≡ part → IsPart part → ⊥
 part_no_line a rest part m e p = go m.body (subst IsPart (sym (sym (ap (λ t. t ++ rest) m.is ∙ append_assoc m.body (10 ∷ []) rest) ∙ e)) p)
   where
     go : (s : List ℕ) → IsPart (s ++ 10 ∷ rest) → ⊥
@@ -77,7 +77,7 @@ abbrev pub onto : List Act → List Act → List Act
 onto [] rest = rest
 onto (act ∷ newer) rest = onto newer (act ∷ rest)
 
-onto_twice : (xs r t : List Act) → onto (onto xs r) t ≡ onto r (xs ++ t)
+pub onto_twice : (xs r t : List Act) → onto (onto xs r) t ≡ onto r (xs ++ t)
 onto_twice [] r t = refl
 onto_twice (x ∷ xs) r t = onto_twice xs (x ∷ r) t
 

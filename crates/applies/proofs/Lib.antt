@@ -5,6 +5,9 @@ pub mod Passed
 pub mod Walked
 pub mod BegunDays
 pub mod Fronts
+pub mod FittingDays
+pub mod LineLengths
+pub mod Meeting
 pub mod NextLine
 pub mod WalkEnds
 pub mod Standby

@@ -4,4 +4,5 @@ pub mod Going
 pub mod Lines
 pub mod Known
 pub mod Applying
+pub mod Taken
 pub mod Laws

@@ -10,7 +10,7 @@ ghost use Rattle.machine.specs.Tables.{card_row};
 ghost use Rattle.histories.specs.Start.{first_dated, receipt};
 ghost use Rattle.store.specs.Books.{HoldsBooks, IsClean};
 ghost use Rattle.store.specs.Handing.{NoBooks};
-ghost use Rattle.applies.specs.Begun.{BegunOn, IsEarlier, IsDayKnown};
+ghost use Rattle.applies.specs.Begun.{BegunOn, FitsLine, line_day, earlier_day as earlier_day_lem, day_known as day_known_lem};
 ghost use Rattle.applies.specs.Going.{IsOfNoLine};
 
 use crate::applied::NotApplied;
@@ -87,7 +87,7 @@ fn told_day(line: &CardDay) -> Result<Day, NotApplied>
 
 /// The day of a line, where that is a business day and not later than this one, and else this one.
 fn earlier_day(line: &[u8], last: Day) -> Day
-    ensures { IsEarlier last result }
+    ensures { result ≡ earlier_day_lem (line_day line.now) last }
 {
     match day_of(line) {
         Some(day) => {
@@ -102,7 +102,9 @@ fn earlier_day(line: &[u8], last: Day) -> Day
 }
 
 /// The day of a line: its second field.
-fn day_of(line: &[u8]) -> Option<Day> {
+fn day_of(line: &[u8]) -> Option<Day>
+    ensures { result ≡ line_day line.now }
+{
     let (_, dated) = cut(line)?;
     let (day, _) = cut(dated)?;
     Day::parse(day)
@@ -121,7 +123,7 @@ fn receipt_of(found: &Option<Dated>) -> Option<(LotId, u64)>
 /// The day where no receipt was found: that of the line, if it is earlier than the one that was opened first, or that of the
 /// books.
 fn day_known(found: &Option<Dated>, today: Day, line: &[u8]) -> Day
-    ensures { IsDayKnown found.now today result }
+    ensures { result ≡ day_known_lem found.now today (line_day line.now) }
 {
     match found {
         Some(Dated::Opening(last)) => earlier_day(line, *last),
@@ -138,6 +140,8 @@ fn begun_by<S: Alter>(
     ensures clean { IsClean S.Store books.new → IsClean S.Store books.old }
     ensures begun { IsClean S.Store books.new → (first : ℤ) (acts : List Act) → IsHistory first acts → HoldsBooks S.Store first acts books.old → found.now ≡ first_dated acts
         → HoldsBooks S.Store first acts books.new × IfOk result (BegunOn first acts) }
+    ensures fits { IsClean S.Store books.new → (first : ℤ) (acts : List Act) → IsHistory first acts → HoldsBooks S.Store first acts books.old → found.now ≡ first_dated acts
+        → IfOk result (FitsLine first acts line.now) }
     ensures fault { IfErr result IsOfNoLine }
     ensures survives { Survives (state S.Store books.old.conn) (state S.Store books.new.conn) (NoBooks (state S.Store books.old.conn)) }
 {
@@ -151,7 +155,8 @@ fn begun_by<S: Alter>(
 }
 
 /// The day on which the acts of the books began: the one that the tables tell, and where they open a day before any
-/// receives, the day of this line, if it is earlier than that one.
+/// receives, the day of this line, if it is earlier than that one. So a history's text that begins with this line has the
+/// lines of acts that began on it.
 pub(crate) fn find_begun<S: Alter>(
     alloc: Global,
     books: &mut Books<S>,
@@ -160,6 +165,8 @@ pub(crate) fn find_begun<S: Alter>(
     ensures clean { IsClean S.Store books.new → IsClean S.Store books.old }
     ensures begun { IsClean S.Store books.new → (first : ℤ) (acts : List Act) → IsHistory first acts → HoldsBooks S.Store first acts books.old
         → HoldsBooks S.Store first acts books.new × IfOk result (BegunOn first acts) }
+    ensures fits { IsClean S.Store books.new → (first : ℤ) (acts : List Act) → IsHistory first acts → HoldsBooks S.Store first acts books.old
+        → IfOk result (FitsLine first acts line.now) }
     ensures fault { IfErr result IsOfNoLine }
     ensures survives { Survives (state S.Store books.old.conn) (state S.Store books.new.conn) (λ _. (first : ℤ) (acts : List Act) → IsHistory first acts → ¬ HoldsBooks S.Store first acts books.old) }
 {

@@ -1,14 +1,8 @@
-//! What applying comes to: functions without effect, whose contracts are the laws.
+//! What applying comes to: a function without effect, whose contract is the law.
 
-ghost use Rattle.applies.specs.Laws.{HistoryIsTaken, StandbyIsPrimary};
+ghost use Rattle.applies.specs.Laws.{StandbyIsPrimary};
 
 /// The text of a whole history, applied to new books that began on its day, leaves the rows of its own books.
 pub fn standby_is_primary()
     ensures { StandbyIsPrimary }
-{}
-
-/// The text of a history is never refused over new books that began on its day, as far as no line of it is longer than may be
-/// read.
-pub fn a_history_is_taken()
-    ensures { HistoryIsTaken }
 {}

@@ -8,6 +8,11 @@ returns-in-Ok-clause-begun g c clean first acts history holds =
     let h = c.in-Ok.ensures.dated (c.begun_by.ensures.clean clean) first acts history holds in
     c.begun_by.ensures.begun clean first acts history h.0 h.1
 
+pub returns-in-Ok-clause-fits : goal.returns-in-Ok-clause-fits
+returns-in-Ok-clause-fits g c clean first acts history holds =
+    let h = c.in-Ok.ensures.dated (c.begun_by.ensures.clean clean) first acts history holds in
+    c.begun_by.ensures.fits clean first acts history h.0 h.1
+
 pub returns-in-Ok-clause-survives : goal.returns-in-Ok-clause-survives
 returns-in-Ok-clause-survives g c =
     then_left (state g.S.Store c.args.books.now.conn) (state g.S.Store c.find_dated.new.books.conn) (state g.S.Store c.begun_by.new.books.conn) _ _ _ c.find_dated.ensures.survives c.begun_by.ensures.survives
