@@ -1,7 +1,7 @@
 mod Appended
 mod TextParts
-mod Walk
+pub mod Walk
 mod Read
-mod Opens
-mod Survive
+pub mod Opens
+pub mod Survive
 mod Later

@@ -7,7 +7,7 @@ ghost use Rattle.machine.specs.Acts.{Act};
 ghost use Rattle.machine.specs.Once.{IsHistory};
 ghost use Rattle.machine.specs.Standing.{today};
 ghost use Rattle.histories.specs.Newer.{newer_text};
-ghost use Rattle.store.specs.Books.{HoldsBooks, IsClean};
+ghost use Rattle.store.specs.Books.{HoldsBooks, IsClean, AreAsBefore};
 ghost use Rattle.acts_files.specs.Walked.{IsNoMisfit};
 ghost use Rattle.acts_files.specs.KeptActs.{KeepsActs, BeginsWithActs, NoHistory};
 
@@ -78,6 +78,8 @@ impl<D: Disk> ActsFile<D> {
         ensures kept { IsClean S.Store books.new → (first begun : ℤ) (newer older : List Act) → IsHistory first (newer ++ older) → HoldsBooks S.Store first (newer ++ older) books.old → KeepsActs D.Disk begun older self.old
             → HoldsBooks S.Store first (newer ++ older) books.new × OnOk result (KeepsActs D.Disk begun (newer ++ older) self.new) }
         ensures begins { (begun : ℤ) (older : List Act) → KeepsActs D.Disk begun older self.old → BeginsWithActs D.Disk begun older self.new }
+        ensures holds { IsClean S.Store books.new → (first : ℤ) (acts : List Act) → IsHistory first acts → HoldsBooks S.Store first acts books.old → HoldsBooks S.Store first acts books.new }
+        ensures as_before { IsClean S.Store books.new → AreAsBefore S.Store books.old books.new }
         ensures calm { D.Disk.is_clean self.new.disk ≡ D.Disk.is_clean self.old.disk }
         ensures fault { IfErr result IsNoMisfit }
         ensures survives { Survives (state S.Store books.old.conn) (state S.Store books.new.conn) (NoHistory S.Store books.old) }

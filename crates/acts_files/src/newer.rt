@@ -6,7 +6,7 @@ ghost use Rattle.sqlite.specs.State.{Survives};
 ghost use Rattle.machine.specs.Acts.{Act};
 ghost use Rattle.machine.specs.Once.{IsHistory};
 ghost use Rattle.machine.specs.Standing.{today};
-ghost use Rattle.store.specs.Books.{HoldsBooks, IsClean};
+ghost use Rattle.store.specs.Books.{HoldsBooks, IsClean, AreAsBefore};
 ghost use Rattle.acts_files.specs.Walked.{IsNoMisfit};
 ghost use Rattle.acts_files.specs.KeptActs.{AreLinesOf, NoHistory};
 
@@ -27,6 +27,8 @@ pub(crate) fn lines_above<S: Alter>(
     ensures clean { IsClean S.Store books.new → IsClean S.Store books.old }
     ensures told { IsClean S.Store books.new → (first begun : ℤ) (newer older : List Act) → IsHistory first (newer ++ older) → HoldsBooks S.Store first (newer ++ older) books.old → done ≡ length older → day ≡ today begun older
         → HoldsBooks S.Store first (newer ++ older) books.new × IfOk result (AreLinesOf begun newer older) }
+    ensures holds { IsClean S.Store books.new → (first : ℤ) (acts : List Act) → IsHistory first acts → HoldsBooks S.Store first acts books.old → HoldsBooks S.Store first acts books.new }
+    ensures as_before { IsClean S.Store books.new → AreAsBefore S.Store books.old books.new }
     ensures fault { IfErr result IsNoMisfit }
     ensures survives { Survives (state S.Store books.old.conn) (state S.Store books.new.conn) (NoHistory S.Store books.old) }
 {

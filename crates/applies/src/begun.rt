@@ -157,7 +157,7 @@ fn begun_by<S: Alter>(
 /// The day on which the acts of the books began: the one that the tables tell, and where they open a day before any
 /// receives, the day of this line, if it is earlier than that one. So a history's text that begins with this line has the
 /// lines of acts that began on it.
-pub(crate) fn find_begun<S: Alter>(
+pub fn find_begun<S: Alter>(
     alloc: Global,
     books: &mut Books<S>,
     line: &[u8],

@@ -12,4 +12,5 @@ mod next;
 mod whole;
 
 pub use applied::{Applied, NotApplied};
+pub use begun::find_begun;
 pub use whole::apply_text;

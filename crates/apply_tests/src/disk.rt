@@ -1,7 +1,9 @@
 //! Files in memory, over which lines of the program run.
 
 use crate::turns::{Input, Turn, turns_run};
-use book_trials::{Calls, History, Left, Pair, QUERIES, Receiver, Work, made, over, shown};
+use book_trials::{
+    Calls, History, Left, Pair, QUERIES, Receiver, Work, made, no_acts, over, shown,
+};
 use command_line::Work as LineWork;
 use line_work::do_work;
 use sqlite::{Connection, Options};
@@ -39,7 +41,16 @@ fn taken<S: Orderly + Drop>(host: &HostRuntime, conn: Connection<S>, text: &[u8]
     let mut log: Vec<u8> = Vec::new(host.alloc());
     let input = Input { text, ends: true };
     let work = LineWork::Apply { file: "-" };
-    match do_work(host, &input, None, conn, &work, &mut out, &mut log) {
+    match do_work(
+        host,
+        &input,
+        None,
+        &mut no_acts(),
+        conn,
+        &work,
+        &mut out,
+        &mut log,
+    ) {
         Ok((conn, _)) => Leftover::Connection(conn),
         Err((left, _)) => left,
     }

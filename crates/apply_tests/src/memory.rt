@@ -3,6 +3,7 @@
 
 use crate::history::{ALL, lines, part};
 use crate::turns::{Input, Turn, turns_run};
+use book_trials::no_acts;
 use command_line::{Fault, Work};
 use line_work::do_work;
 use sqlite::Connection;
@@ -57,7 +58,16 @@ fn taken_in<S: Orderly + Drop>(
     };
     let work = Work::Apply { file: "-" };
     let call = Call::begin(host, "apply", "all lines", "no memory");
-    let done = do_work(host, &input, None, conn, &work, &mut printed, &mut log);
+    let done = do_work(
+        host,
+        &input,
+        None,
+        &mut no_acts(),
+        conn,
+        &work,
+        &mut printed,
+        &mut log,
+    );
     match done {
         Ok((conn, end)) => {
             let told = call.end(host, told_by(&end, printed.as_slice(), tallies));

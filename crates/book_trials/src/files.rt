@@ -1,22 +1,26 @@
-//! The two files of the books in memory: as they stand, and as a stop of their disks leaves them.
+//! Files in memory, as they stand and as a stop of their disks leaves them: the two of the books, and others.
 
 use sqlite::Files;
-use sqlite_disk::{Crash, Disk, Fuse, Memory};
+use sqlite_disk::{Crash, Disk, Memory};
 use std::alloc::Global;
+use trial_disk::{Failing, Failure};
 
-/// A disk in memory that stops after so many calls.
-pub(crate) type Stopping = Fuse<Memory>;
+/// A disk in memory of which some calls fail.
+pub type Stopping = Failing<Memory>;
 
 /// How much of a file a disk writes at once.
 const SECTOR: usize = 512;
 
 /// A file as it stands, and as it stood at its last sync.
 #[derive(Drop)]
-struct Stored {
+pub struct Stored {
     written: Vec<u8>,
     synced: Vec<u8>,
-    /// Its disk took each call, and takes one more.
+    /// Its disk took the last call, and takes one more.
     has_spare: bool,
+    /// How many of its calls read bytes, and how many failed.
+    reads: u64,
+    refused: u64,
 }
 
 /// The two files.
@@ -41,6 +45,25 @@ impl Calls {
         log: u64::MAX,
         db: u64::MAX,
     };
+}
+
+impl Calls {
+    /// Each later call fails.
+    pub(crate) fn failures(self) -> Failures {
+        Failures {
+            log: Failure::stop(self.log),
+            db: Failure::stop(self.db),
+        }
+    }
+}
+
+/// Which calls of each file fail.
+#[derive(Clone, Copy)]
+pub struct Failures {
+    /// Those of the log.
+    pub log: Failure,
+    /// Those of the database.
+    pub db: Failure,
 }
 
 /// What of a file is lost that was written after its last sync.
@@ -75,21 +98,27 @@ impl Stored {
             written: Vec::new(alloc),
             synced: Vec::new(alloc),
             has_spare: true,
+            reads: 0,
+            refused: 0,
         }
     }
 
-    // A file that is synced.
-    fn holding(alloc: Global, bytes: Vec<u8>) -> Option<Stored> {
+    /// A file that is synced.
+    pub fn holding(alloc: Global, bytes: Vec<u8>) -> Option<Stored> {
         let synced = copied(alloc, bytes.as_slice())?;
         Some(Stored {
             written: bytes,
             synced,
             has_spare: true,
+            reads: 0,
+            refused: 0,
         })
     }
 
-    fn of(alloc: Global, disk: Stopping) -> Option<Stored> {
+    /// The file that the disk holds.
+    pub fn of(alloc: Global, disk: Stopping) -> Option<Stored> {
         let mut disk = disk;
+        let (reads, refused) = (disk.reads(), disk.refused());
         let has_spare = disk.may_be_used() && disk.len().is_ok();
         let written = copied(alloc, disk.inner().bytes());
         disk.crash();
@@ -100,19 +129,27 @@ impl Stored {
                 written,
                 synced,
                 has_spare,
+                reads,
+                refused,
             }),
             _ => None,
         }
     }
 
-    fn disk(&self, alloc: Global, calls: u64) -> Option<Stopping> {
+    /// A disk that holds the file, and stops after so many calls.
+    pub fn disk(&self, alloc: Global, calls: u64) -> Option<Stopping> {
+        self.failing(alloc, Failure::stop(calls))
+    }
+
+    // A disk that holds the file, and of which these calls fail.
+    fn failing(&self, alloc: Global, failure: Failure) -> Option<Stopping> {
         let mut file = Memory::new(alloc);
         let is_made = file.write_at(0, self.synced.as_slice()).is_ok()
             && file.sync().is_ok()
             && file.set_len(self.written.len()).is_ok()
             && file.write_at(0, self.written.as_slice()).is_ok();
         match is_made {
-            true => Some(Fuse::new(file, calls)),
+            true => Some(Failing::new(file, failure)),
             false => None,
         }
     }
@@ -128,6 +165,16 @@ impl Stored {
             Some(bytes) => Stored::holding(alloc, bytes),
             None => None,
         }
+    }
+
+    /// Its bytes as they are read.
+    pub fn written(&self) -> &[u8] {
+        self.written.as_slice()
+    }
+
+    /// Those at its last sync.
+    pub fn synced(&self) -> &[u8] {
+        self.synced.as_slice()
     }
 
     fn is_synced(&self) -> bool {
@@ -162,11 +209,11 @@ impl Pair {
         Pair::both(Stored::of(alloc, log), Stored::of(alloc, db))
     }
 
-    /// Disks that hold the files, and stop after so many calls.
-    pub(crate) fn disks(&self, alloc: Global, calls: Calls) -> Option<Files<Stopping>> {
+    /// Disks that hold the files, and of which these calls fail.
+    pub(crate) fn disks(&self, alloc: Global, failures: Failures) -> Option<Files<Stopping>> {
         match (
-            self.log.disk(alloc, calls.log),
-            self.db.disk(alloc, calls.db),
+            self.log.failing(alloc, failures.log),
+            self.db.failing(alloc, failures.db),
         ) {
             (Some(log), Some(db)) => Some(Files { log, db }),
             _ => None,
@@ -178,7 +225,7 @@ impl Pair {
         Pair::both(self.log.left(alloc, log), self.db.left(alloc, db))
     }
 
-    /// Whether both disks took each call, and take one more.
+    /// Whether both disks took the last call, and take one more.
     pub fn have_spare(&self) -> bool {
         self.log.has_spare && self.db.has_spare
     }
@@ -191,5 +238,15 @@ impl Pair {
     /// Of how many of the files a stop can lose what was written.
     pub fn unsynced(&self) -> usize {
         usize::from(!self.log.is_synced()) + usize::from(!self.db.is_synced())
+    }
+
+    /// How often the disks were read.
+    pub fn reads(&self) -> u64 {
+        self.log.reads.saturating_add(self.db.reads)
+    }
+
+    /// How many calls of the disks failed.
+    pub fn refused(&self) -> u64 {
+        self.log.refused.saturating_add(self.db.refused)
     }
 }

@@ -4,6 +4,7 @@
 //! Nothing here ends a test. It tells what it found, and the test judges that. `None` is told too where there is no memory.
 #![tactic(auto)]
 
+mod dice;
 mod ends;
 mod exchange;
 mod files;
@@ -11,17 +12,22 @@ mod history;
 mod lines;
 mod opening;
 mod over_files;
+mod ports;
+mod random_acts;
 mod rows;
 mod spread;
 
+pub use dice::Dice;
 pub use ends::{Receiver, Sender};
 pub use exchange::{
     Exchange, answer, answers_line, logged, parted, request, text_asked, text_told,
 };
-pub use files::{Calls, Loss, Pair};
+pub use files::{Calls, Failures, Loss, Pair, Stopping, Stored};
 pub use history::{History, made};
-pub use lines::{Line, line_run};
+pub use lines::{Line, line_run, no_acts};
 pub use opening::{closed, first_day, new_books, not_made, not_opened, opened_books};
-pub use over_files::{Left, Work, over};
+pub use over_files::{Left, Work, after_work, over, over_failing};
+pub use ports::free_port;
+pub use random_acts::random_requests;
 pub use rows::{QUERIES, shown};
 pub use spread::{Spread, acts_on_each, answers_spread, line_of, of_act, of_numbers};

@@ -4,9 +4,15 @@ use crate::ends::Receiver;
 use command_line::{BooksAt, Fault, FilesAt, Work, run};
 use line_work::{do_work, listen};
 use sqlite::{Alter, Connection};
+use sqlite_disk::Memory;
 use std::cell::Cell;
 use std::io::Write;
 use tables::opening::Orderly;
+
+/// No disk for the acts.
+pub fn no_acts() -> Option<Memory> {
+    None
+}
 
 /// The books over one connection, in whatever file a line says that they are, and the files that the line finds.
 struct OverOne<'a, S: Alter, F: FilesAt> {
@@ -27,7 +33,8 @@ impl<S: Orderly + Drop, F: FilesAt> OverOne<'_, S, F> {
             return Err(Fault::Io);
         };
         let at = listener.as_ref();
-        match do_work(self.host, self.files, at, conn, work, out, log) {
+        let mut acts = no_acts();
+        match do_work(self.host, self.files, at, &mut acts, conn, work, out, log) {
             Ok((conn, end)) => {
                 drop(self.conn.replace(Some(conn)));
                 end

@@ -1,6 +1,6 @@
 //! Work over a connection to files in memory.
 
-use crate::files::{Calls, Pair, Stopping};
+use crate::files::{Calls, Failures, Pair, Stopping};
 use sqlite::{Alter, Connection, Files, Options};
 use std::alloc::Global;
 use tables::opening::{Leftover, Orderly};
@@ -44,6 +44,34 @@ fn worked<W: Work>(
     }
 }
 
+/// Opens a connection over the files, of whose disks these calls fail, works and closes it.
+pub fn over_failing<W: Work>(
+    alloc: Global,
+    files: &Pair,
+    failures: Failures,
+    options: Options,
+    work: &mut W,
+) -> Option<Left> {
+    let files = files.disks(alloc, failures)?;
+    let (files, is_closed) = worked(alloc, files, options, work);
+    let files = Pair::of(alloc, files)?;
+    Some(Left { files, is_closed })
+}
+
+/// The files after the work over them, where no call fails. None where they do not open, or do not close.
+pub fn after_work<W: Work>(
+    alloc: Global,
+    files: &Pair,
+    options: Options,
+    work: &mut W,
+) -> Option<Pair> {
+    let Left { files, is_closed } = over(alloc, files, Calls::ALL, options, work)?;
+    match is_closed {
+        true => Some(files),
+        false => None,
+    }
+}
+
 /// Opens a connection over the files, whose disks stop after so many calls, works and closes it.
 pub fn over<W: Work>(
     alloc: Global,
@@ -52,8 +80,5 @@ pub fn over<W: Work>(
     options: Options,
     work: &mut W,
 ) -> Option<Left> {
-    let files = files.disks(alloc, calls)?;
-    let (files, is_closed) = worked(alloc, files, options, work);
-    let files = Pair::of(alloc, files)?;
-    Some(Left { files, is_closed })
+    over_failing(alloc, files, calls.failures(), options, work)
 }

@@ -1,1 +1,2 @@
 mod Listening
+mod ActsFound

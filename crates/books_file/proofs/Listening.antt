@@ -7,8 +7,8 @@ use Rattle.line_work.specs.Works.{Listens}
 
 pub listens_behind : {A B : Type 0} (work : Work) (a : Option A) (b : Option B) → is_some b ≡ is_some a → Listens work a → Listens work b
 listens_behind (Make day) a b same h = h
-listens_behind (Serve port max log) a b same h = same ∙ h
-listens_behind (Import file) a b same h = h
+listens_behind (Serve port max log acts) a b same h = same ∙ h
+listens_behind (Import file acts) a b same h = h
 listens_behind (Card lot) a b same h = h
 listens_behind (Notice lot) a b same h = h
 listens_behind History a b same h = h

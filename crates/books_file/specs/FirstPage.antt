@@ -16,8 +16,8 @@ step_of_opening is_there = if is_there then Open else Stop
 -- only the making of books makes a file
 abbrev pub first_step : Work → (is_there has_nothing : Bool) → FirstStep
 first_step (Make day) is_there has_nothing = step_of_making has_nothing
-first_step (Serve port max log) is_there has_nothing = step_of_opening is_there
-first_step (Import file) is_there has_nothing = step_of_opening is_there
+first_step (Serve port max log acts) is_there has_nothing = step_of_opening is_there
+first_step (Import file acts) is_there has_nothing = step_of_opening is_there
 first_step (Card lot) is_there has_nothing = step_of_opening is_there
 first_step (Notice lot) is_there has_nothing = step_of_opening is_there
 first_step History is_there has_nothing = step_of_opening is_there

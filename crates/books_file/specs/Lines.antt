@@ -1,5 +1,5 @@
 -- What a line does with the books in a file.
-use Rattle.std.specs.Prelude.{◌≡◌, ◌⊎◌, ℕ, List, Option, Result, Ok, Err, IsErrAnd}
+use Rattle.std.specs.Prelude.{◌≡◌, ◌⊎◌, ℕ, List, Bool, true, false, Option, Some, None, is_some, Result, Ok, Err, IsErrAnd}
 use Rattle.sqlite_disk.specs.declared.Disk.{Ghosts}
 use Rattle.sqlite_disk.specs.declared.Files.{Files}
 use Rattle.sqlite_wal.specs.Reads.{AreClean}
@@ -16,9 +16,10 @@ use Rattle.tables.specs.declared.opening.Leftover.{Leftover}
 use Rattle.tables.specs.declared.opening.Leftover.TheVariants.{Connection, Store as StoreOf}
 use Rattle.store.specs.Opening.{IsCleanLeft}
 use Rattle.command_line.specs.declared.fault.Fault.{Fault}
-use Rattle.command_line.specs.declared.fault.Fault.TheVariants.{Io, Store}
+use Rattle.command_line.specs.declared.fault.Fault.TheVariants.{Acts, Io, Store}
 use Rattle.command_line.specs.declared.running.Work.{Work}
-use Rattle.line_work.specs.Works.{IsServer, IsNotBegun, IsWorked, IsJudged, IsTold}
+use Rattle.command_line.specs.declared.running.Work.TheVariants.{Make, Serve, Import, Card, Notice, History, Audit, Apply}
+use Rattle.line_work.specs.Works.{IsServer, IsNotBegun, IsWorked, IsJudged, IsTold, IsKeptBeside}
 use Rattle.books_file.specs.declared.left.FilesLeft.{FilesLeft}
 use Rattle.books_file.specs.declared.left.FilesLeft.TheVariants as left
 
@@ -31,15 +32,34 @@ IsStoreOf g (StoreOf it) store = store ≡ it
 abbrev pub IsUnopenedAs : Work → Fault → Type 0
 IsUnopenedAs work fault = (fault ≡ Store) ⊎ (IsServer work × (fault ≡ Io))
 
+-- whether a file of the acts is named
+abbrev pub names_acts : Work → Bool
+names_acts (Make day) = false
+names_acts (Serve port max log acts) = is_some acts
+names_acts (Import file acts) = is_some acts
+names_acts (Card lot) = false
+names_acts (Notice lot) = false
+names_acts History = false
+names_acts (Audit given) = false
+names_acts (Apply file) = false
+
+-- there is a file, which holds these bytes
+abbrev pub IsThere : {A : Type 0} → Ghosts A → (held : List ℕ) → Option A → Type 0
+IsThere {A} h held found = (file : A) × (found ≡ Some file) × (h.seen file ≡ held)
+
+-- the file of the acts was opened exactly where one is named, and held these bytes
+abbrev pub IsFoundBeside : {A : Type 0} → Ghosts A → (held : List ℕ) → Work → Option A → Type 0
+IsFoundBeside {A} h held work found = (is_some found ≡ names_acts work) × ((file : A) → found ≡ Some file → h.seen file ≡ held)
+
 -- how a line ends whose files could not be closed after its work
 abbrev pub closing_fault : Result Unit Fault → Fault
 closing_fault (Ok done) = Store
 closing_fault (Err fault) = fault
 
--- `held` is what the file and its log held, `files` has the bytes of the goods-in files by their names, where they are known, and `old`, `new`,
--- `log_old` and `log_new` are what the output and the log held and hold. What is said of books is said of a disk that has returned what was
--- written until the end.
-module _ {D : Type 0} (g : Ghosts D) (held : Image) (files : List ℕ → Option (List ℕ)) (work : Work) (old new log_old log_new : Option (List ℕ)) where
+-- `held` is what the file and its log held, `before` and `after` are the file of the acts, if there is one, `files` has the bytes of the
+-- goods-in files by their names, where they are known, and `old`, `new`, `log_old` and `log_new` are what the output and the log held and
+-- hold. What is said of books is said of a disk that has returned what was written until the end.
+module _ {D A : Type 0} (g : Ghosts D) (h : Ghosts A) (held : Image) (files : List ℕ → Option (List ℕ)) (before after : Option A) (work : Work) (old new log_old log_new : Option (List ℕ)) where
   -- the connection was opened over the database that the file held
   abbrev pub IsOver : Held (FileStore D g) → Type 0
   IsOver opened = IsOpened opened × FindsIn held (file_state opened)
@@ -48,8 +68,10 @@ module _ {D : Type 0} (g : Ghosts D) (held : Image) (files : List ℕ → Option
   pub record IsWorkDone (opened closed : Held (FileStore D g)) (end : Result Unit Fault) : Type 0 where
     pub found : HasCleanDisk (file_state closed) → IsOver opened
     pub judged : IsJudged over_files opened work (Ok (closed, end))
-    pub worked : HasCleanDisk (file_state closed) → IsWorked over_files opened work log_old log_new end closed
-    pub told : HasCleanDisk (file_state closed) → IsTold over_files files opened work old new end closed
+    pub worked : HasCleanDisk (file_state closed) → IsWorked over_files before opened work log_old log_new end closed
+    pub told : HasCleanDisk (file_state closed) → IsTold over_files files before opened work old new end closed
+    -- what is done is in the file of the acts before it is told
+    pub kept : HasCleanDisk (file_state closed) → IsKeptBeside over_files h files opened work old new log_old log_new end closed before after
 
   -- the file was opened, the work was done, and the file closed
   pub record IsLineDone (end : Result Unit Fault) (left : Files D) : Type 0 where
@@ -67,6 +89,7 @@ module _ {D : Type 0} (g : Ghosts D) (held : Image) (files : List ℕ → Option
     pub judged : IsJudged over_files opened work (Err (left, fault))
     pub idle : IsNotBegun over_files opened work left fault
     pub silent : (new ≡ old) × (log_new ≡ log_old)
+    pub unused : after ≡ before
 
   -- the work was done, but the file could not be closed
   pub record IsUnclosed (opened : Held (FileStore D g)) (left : Leftover (FileStore D g)) (end : Result Unit Fault) : Type 0 where
@@ -83,8 +106,15 @@ module _ {D : Type 0} (g : Ghosts D) (held : Image) (files : List ℕ → Option
     pub how : IsLineIdle opened left end ⊎ IsUnclosed opened left end
     pub is_store : IsStoreOf over_files left store
 
-  -- how a line ends, and what it leaves of the files
-  abbrev pub IsLineEnd : Result Unit Fault → FilesLeft D g → Type 0
-  IsLineEnd end left.Unopened = IsErrAnd end (IsUnopenedAs work) × (new ≡ old) × (log_new ≡ log_old)
-  IsLineEnd end (left.Closed kept) = IsLineDone end kept
-  IsLineEnd end (left.Store store) = IsLineBroken end store
+  -- how a line ends, and what it leaves of the files of the books
+  abbrev pub IsBooksEnd : Result Unit Fault → FilesLeft D g → Type 0
+  IsBooksEnd end left.Unopened = IsErrAnd end (IsUnopenedAs work) × (new ≡ old) × (log_new ≡ log_old) × (after ≡ before)
+  IsBooksEnd end (left.Closed kept) = IsLineDone end kept
+  IsBooksEnd end (left.Store store) = IsLineBroken end store
+
+-- No file was opened: there is none at the path of the books, or the one that is named for the acts could not be opened. Or the file of
+-- the acts, which held these bytes, was opened if one is named, and then the line ended so.
+abbrev pub IsLineEnd : {D A : Type 0} → (g : Ghosts D) → Ghosts A → Image → (acts_held : List ℕ) → (List ℕ → Option (List ℕ)) → Work → (old new log_old log_new : Option (List ℕ)) → Result Unit Fault → FilesLeft D g → Option A → Type 0
+IsLineEnd {D} {A} g h held acts_held files work old new log_old log_new end books after =
+    ((books ≡ left.Unopened) × ((end ≡ Err Store) ⊎ ((names_acts work ≡ true) × (end ≡ Err Acts))) × (new ≡ old) × (log_new ≡ log_old) × (after ≡ None))
+    ⊎ ((before : Option A) × IsFoundBeside h acts_held work before × IsBooksEnd g h held files before after work old new log_old log_new end books)

@@ -1,5 +1,7 @@
 //! What is left of the files of books.
 
+ghost use Rattle.std.specs.Prelude.{◌≡◌, None};
+ghost use Rattle.books_file.specs.declared.left.FilesLeft.TheVariants.{Unopened};
 ghost use Rattle.books_file.specs.Lines.{IsStoreOf};
 
 use sqlite::{Alter, FileStore, Files};
@@ -14,6 +16,27 @@ pub enum FilesLeft<D: Disk> {
     Closed(Files<D>),
     /// The store over them: no work was begun with the books, or the files could not be closed after it.
     Store(FileStore<D>),
+}
+
+/// What a line leaves of the files of the books, and of that of the acts.
+#[derive(Drop)]
+pub struct LineLeft<D: Disk, A: Disk> {
+    pub books: FilesLeft<D>,
+    /// The file of the acts, where the line named one and it was opened.
+    pub acts: Option<A>,
+}
+
+impl<D: Disk, A: Disk> LineLeft<D, A> {
+    /// No file was opened.
+    pub(crate) fn none() -> LineLeft<D, A>
+        ensures books { result.books ≡ Unopened }
+        ensures acts { result.acts ≡ None }
+    {
+        LineLeft {
+            books: FilesLeft::Unopened,
+            acts: None,
+        }
+    }
 }
 
 // It is written out, so that a caller does not prove again how each part is dropped.

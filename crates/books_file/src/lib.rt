@@ -1,6 +1,7 @@
-//! The work of the program's lines with the books in a file of the host.
+//! The work of the program's lines with the books in a file of the host, and with their acts in another.
 #![tactic(auto)]
 
+mod acts_file;
 mod first_page;
 mod host_files;
 mod left;
@@ -9,6 +10,6 @@ mod program;
 
 pub use first_page::is_ready;
 pub use host_files::{HostFile, HostFiles};
-pub use left::FilesLeft;
+pub use left::{FilesLeft, LineLeft};
 pub use line::{InFiles, line_worked};
 pub use program::run_words;

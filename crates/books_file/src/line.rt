@@ -1,11 +1,12 @@
 ghost use Rattle.std.specs.Prelude.{◌≡◌, false};
 ghost use Rattle.sqlite.specs.WalFiles.{image_at};
 ghost use Rattle.line_work.specs.Works.{Listens, is_logged};
-ghost use Rattle.books_file.specs.Lines.{IsLineEnd, closing_fault as closing_fault_lem};
+ghost use Rattle.books_file.specs.Lines.{IsBooksEnd, IsLineEnd, closing_fault as closing_fault_lem};
 
+use crate::acts_file::open_named;
 use crate::first_page::is_ready;
 use crate::host_files::HostFiles;
-use crate::left::{FilesLeft, store_of};
+use crate::left::{FilesLeft, LineLeft, store_of};
 use command_line::{BooksAt, Fault, FilesAt, Work};
 use line_work::{do_work, listen};
 use sqlite::{Connection, FileFrom, Start};
@@ -13,69 +14,112 @@ use sqlite_disk::Disk;
 use std::io::Write;
 use std::net::TcpListener;
 
-/// The books in files of the host.
+/// The books in files of the host, and their acts in another, where a line names one.
 #[derive(Drop)]
-pub struct InFiles<'a, S: Start> {
+pub struct InFiles<'a, S: Start, A: Start> {
     pub rt: &'a HostRuntime,
-    /// What is supposed of the file.
+    /// What is supposed of the file of the books.
     pub start: S,
+    /// What is supposed of the file of the acts.
+    pub acts: A,
 }
 
-impl<S: Start> BooksAt for InFiles<'_, S> {
+impl<S: Start, A: Start> BooksAt for InFiles<'_, S, A> {
     ghost use Rattle.std.specs.Prelude.{None};
     ghost use Rattle.sqlite.specs.WalFiles.{image_at};
     ghost use Rattle.books_file.specs.Lines.{IsLineEnd};
 
-    type Left = FilesLeft<FileFrom<S>>;
+    type Left = LineLeft<FileFrom<S>, FileFrom<A>>;
 
     // What a file of the host that a line reads holds nothing says.
-    ghost ends = { λ _ _ work old new log_old log_new end left. IsLineEnd ⟦<FileFrom<S> as Disk>⟧ (image_at S.Start) (λ _. None) work old new log_old log_new end left };
+    ghost ends = { λ _ _ work old new log_old log_new end left. IsLineEnd ⟦<FileFrom<S> as Disk>⟧ ⟦<FileFrom<A> as Disk>⟧ (image_at S.Start) A.Start.db (λ _. None) work old new log_old log_new end left.books left.acts };
 
-    /// Only the making of books makes a file: where there is none, any other work is `Store` and leaves nothing behind.
+    /// Only the making of books makes a file of books: where there is none, any other work is `Store` and leaves nothing
+    /// behind.
     fn work<W: Write, L: Write>(
         self,
         db: &str,
         work: &Work<'_>,
         out: &mut W,
         log: &mut L,
-    ) -> (FilesLeft<FileFrom<S>>, Result<(), Fault>) {
-        let InFiles { rt, start } = self;
+    ) -> (LineLeft<FileFrom<S>, FileFrom<A>>, Result<(), Fault>) {
+        let InFiles { rt, start, acts } = self;
         if !is_ready(rt, rt.alloc(), db, work) {
-            return (FilesLeft::Unopened, Err(Fault::Store));
+            return (LineLeft::none(), Err(Fault::Store));
         }
-        line_worked(rt, &HostFiles { rt }, db, start, work, out, log)
+        line_worked(rt, &HostFiles { rt }, db, start, acts, work, out, log)
     }
 }
 
-/// Opens the file at the path, does the work with the books in it, copies what the log holds into it, and gives the file
-/// and its log back with how the work ended. Whatever the file held, its end, what was printed and logged and what it holds
-/// then are those of the work over the database that was in it. The fault is `Io` where a server's port cannot be had, which
-/// is tried first, `Store` where the file cannot be opened or closed, and else that of the work. Where no work was begun the
-/// log is not copied: a file of another making stays as it is, to the byte.
-pub fn line_worked<S: Start, F: FilesAt, W: Write, L: Write>(
+/// Opens the file of the acts that the line names, if it names one, and then the file at the path, does the work with the
+/// books in it, copies what the log holds into it, and gives the files and the log back with how the work ended. Whatever
+/// the files held, its end, what was printed and logged and what they hold then are those of the work over the database and
+/// the lines that were in them. The fault is `Acts` where the file of the acts cannot be opened, which is tried first, `Io`
+/// where a server's port cannot be had, which is tried next, `Store` where the file of the books cannot be opened or closed,
+/// and else that of the work. Where no work was begun the log is not copied: a file of another making stays as it is, to the
+/// byte.
+pub fn line_worked<S: Start, A: Start, F: FilesAt, W: Write, L: Write>(
     rt: &HostRuntime,
     files: &F,
+    db: &str,
+    start: S,
+    acts: A,
+    work: &Work<'_>,
+    out: &mut W,
+    log: &mut L,
+) -> (LineLeft<FileFrom<S>, FileFrom<A>>, Result<(), Fault>)
+    ensures done { IsLineEnd ⟦<FileFrom<S> as Disk>⟧ ⟦<FileFrom<A> as Disk>⟧ (image_at S.Start) A.Start.db (F.bytes files.now) work.now (W.contents out.old) (W.contents out.new) (L.contents log.old) (L.contents log.new) result.1 result.0.books result.0.acts }
+    ensures quiet { is_logged work.now ≡ false → log.new ≡ log.old }
+{
+    match open_named(rt, work, acts) {
+        Ok(opened) => {
+            let mut acts = opened;
+            let (books, end) = line_listened(rt, files, &mut acts, db, start, work, out, log);
+            (LineLeft { books, acts }, end)
+        }
+        Err(_) => (LineLeft::none(), Err(Fault::Acts)),
+    }
+}
+
+/// The same, where the file of the acts is open.
+fn line_listened<S: Start, A: Start, F: FilesAt, W: Write, L: Write>(
+    rt: &HostRuntime,
+    files: &F,
+    acts: &mut Option<FileFrom<A>>,
     db: &str,
     start: S,
     work: &Work<'_>,
     out: &mut W,
     log: &mut L,
 ) -> (FilesLeft<FileFrom<S>>, Result<(), Fault>)
-    ensures done { IsLineEnd ⟦<FileFrom<S> as Disk>⟧ (image_at S.Start) (F.bytes files.now) work.now (W.contents out.old) (W.contents out.new) (L.contents log.old) (L.contents log.new) result.1 result.0 }
+    ensures done { IsBooksEnd ⟦<FileFrom<S> as Disk>⟧ ⟦<FileFrom<A> as Disk>⟧ (image_at S.Start) (F.bytes files.now) acts.old acts.new work.now (W.contents out.old) (W.contents out.new) (L.contents log.old) (L.contents log.new) result.1 result.0 }
     ensures quiet { is_logged work.now ≡ false → log.new ≡ log.old }
 {
     match listen(rt, work) {
-        Ok(listener) => work_over(rt, files, listener.as_ref(), db, start, work, out, log),
+        Ok(listener) => {
+            work_over(
+                rt,
+                files,
+                listener.as_ref(),
+                acts,
+                db,
+                start,
+                work,
+                out,
+                log,
+            )
+        }
         Err(_) => (FilesLeft::Unopened, Err(Fault::Io)),
     }
 }
 
 /// The same, where a server's port is listened on.
 // The one function over the connection's own type: each costs the proof as much as all else here.
-fn work_over<S: Start, F: FilesAt, W: Write, L: Write>(
+fn work_over<S: Start, A: Start, F: FilesAt, W: Write, L: Write>(
     rt: &HostRuntime,
     files: &F,
     listener: Option<&TcpListener>,
+    acts: &mut Option<FileFrom<A>>,
     db: &str,
     start: S,
     work: &Work<'_>,
@@ -83,11 +127,11 @@ fn work_over<S: Start, F: FilesAt, W: Write, L: Write>(
     log: &mut L,
 ) -> (FilesLeft<FileFrom<S>>, Result<(), Fault>)
     requires listens { Listens work.now listener }
-    ensures done { IsLineEnd ⟦<FileFrom<S> as Disk>⟧ (image_at S.Start) (F.bytes files.now) work.now (W.contents out.old) (W.contents out.new) (L.contents log.old) (L.contents log.new) result.1 result.0 }
+    ensures done { IsBooksEnd ⟦<FileFrom<S> as Disk>⟧ ⟦<FileFrom<A> as Disk>⟧ (image_at S.Start) (F.bytes files.now) acts.old acts.new work.now (W.contents out.old) (W.contents out.new) (L.contents log.old) (L.contents log.new) result.1 result.0 }
     ensures quiet { is_logged work.now ≡ false → log.new ≡ log.old }
 {
     match Connection::open_from(rt, db, false, start) {
-        Ok(conn) => match do_work(rt, files, listener, conn, work, out, log) {
+        Ok(conn) => match do_work(rt, files, listener, acts, conn, work, out, log) {
             Ok((conn, end)) => match conn.close_files() {
                 Ok(left) => (FilesLeft::Closed(left), end),
                 Err((_, store)) => (FilesLeft::Store(store), Err(closing_fault(end))),

@@ -10,8 +10,8 @@ use std::env;
 use std::io::ErrorKind;
 
 /// Runs the line that the words of the program are, over files of the host, and gives the exit status. `start` says what is
-/// supposed of a file.
-pub fn run_words<S: Start>(rt: &HostRuntime, start: S) -> u8
+/// supposed of the file of the books, and `acts` of that of the acts.
+pub fn run_words<S: Start, A: Start>(rt: &HostRuntime, start: S, acts: A) -> u8
     ensures { result ≤ MISUSED }
 {
     let mut err = rt.stderr();
@@ -26,7 +26,7 @@ pub fn run_words<S: Start>(rt: &HostRuntime, start: S) -> u8
         Ok(words) => words,
         Err(_) => return tell(&Fault::Store, &mut err),
     };
-    let books = InFiles { rt, start };
+    let books = InFiles { rt, start, acts };
     let mut out = rt.stdout();
     let (_left, status) = run(rt.alloc(), books, words.as_slice(), &mut out, &mut err);
     status

@@ -1,7 +1,7 @@
 //! Files in memory, over which the steps of a test are taken.
 
 use crate::steps::{Step, take_all};
-use book_trials::{Calls, Left, Pair, Work, over};
+use book_trials::{Pair, Work, after_work};
 use sqlite::{Connection, Options};
 use std::alloc::Global;
 use std::process::Abort;
@@ -24,10 +24,8 @@ impl<A: Abort> Work for Taking<'_, A> {
 // The files after the steps were taken over them.
 fn after(rt: &impl Abort, alloc: Global, files: &Pair, steps: &[Step]) -> Pair {
     let mut taking = Taking { rt, alloc, steps };
-    let left = over(alloc, files, Calls::ALL, Options::new(1), &mut taking);
-    let Left { files, is_closed } = left.expect(rt, "memory");
-    assert!(rt; is_closed, "the files do not open, or do not close");
-    files
+    let files = after_work(alloc, files, Options::new(1), &mut taking);
+    files.expect(rt, "files that open and close")
 }
 
 /// Takes the steps over new files, which are closed after each list of them and opened again for the next.

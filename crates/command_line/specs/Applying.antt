@@ -1,4 +1,4 @@
--- What is told of a line of a history that was not taken in.
+-- What is told of a line of a history that does not fit the books.
 use Rattle.std.specs.Prelude.{ℕ, List, ◌++◌, codes, decimal}
 use Rattle.commands.specs.Refusals.{refusal_code}
 use Rattle.command_line.specs.Audits.{act_place, spaced}

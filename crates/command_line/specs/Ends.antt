@@ -60,8 +60,8 @@ module _ {L : Type 0} (works : Works L) (old new log_old log_new : Option (List 
   -- what a line comes to
   abbrev pub IsEndOf : Line → Result Unit Fault → Option L → Type 0
   IsEndOf (Init db day) end left = IsOnDay db.now Make day.now end left
-  IsEndOf (Serve db port max log) end left = IsWorked db.now (ServeBooks port max log) end left
-  IsEndOf (Import db file) end left = IsWorked db.now (ImportFile file) end left
+  IsEndOf (Serve db port max log acts) end left = IsWorked db.now (ServeBooks port max log acts) end left
+  IsEndOf (Import db file acts) end left = IsWorked db.now (ImportFile file acts) end left
   IsEndOf (Card db gtin lot) end left = IsWithLot db.now CardOf gtin.now lot.now end left
   IsEndOf (Notice db gtin lot) end left = IsWithLot db.now NoticeOf gtin.now lot.now end left
   IsEndOf (History db) end left = IsWorked db.now HistoryOf end left

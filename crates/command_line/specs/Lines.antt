@@ -17,7 +17,7 @@ use Rattle.command_line.specs.Audits.{audit_code, audit_place}
 use Rattle.command_line.specs.Applying.{apply_code, apply_place}
 use Rattle.command_line.specs.declared.version.TheConstants.{VERSION}
 use Rattle.command_line.specs.declared.fault.Fault.{Fault}
-use Rattle.command_line.specs.declared.fault.Fault.TheVariants.{Usage, Label, File, Row, Refused, Audit, Apply, Value, Io, Store, Foreign}
+use Rattle.command_line.specs.declared.fault.Fault.TheVariants.{Usage, Label, File, Row, Refused, Audit, Apply, Acts, Value, Io, Store, Foreign}
 
 -- what `lotd label` prints
 abbrev pub label_lines : LabelSaid → List ℕ
@@ -36,6 +36,7 @@ told_code (Row row why) = refusal_code why
 told_code (Refused why) = refusal_code why
 told_code (Audit fault) = audit_code fault
 told_code (Apply fault) = apply_code fault
+told_code Acts = codes "acts"
 told_code Value = codes "value"
 told_code Io = codes "io"
 told_code Store = codes "store"
@@ -90,5 +91,6 @@ IsRefused day text old new (Row row why) = ⊥
 IsRefused day text old new (Refused why) = ⊥
 IsRefused day text old new (Audit fault) = ⊥
 IsRefused day text old new (Apply fault) = ⊥
+IsRefused day text old new Acts = ⊥
 IsRefused day text old new Store = ⊥
 IsRefused day text old new Foreign = ⊥

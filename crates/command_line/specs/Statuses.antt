@@ -6,7 +6,7 @@ use Rattle.clap.specs.declared.error.Error.{Error}
 use Rattle.clap.specs.declared.error.kind.ErrorKind.TheVariants.{DisplayHelp, DisplayVersion}
 use Rattle.command_line.specs.Lines.{version_line}
 use Rattle.command_line.specs.declared.fault.Fault.{Fault}
-use Rattle.command_line.specs.declared.fault.Fault.TheVariants.{Usage, Label, File, Row, Refused, Audit, Apply, Value, Io, Store, Foreign}
+use Rattle.command_line.specs.declared.fault.Fault.TheVariants.{Usage, Label, File, Row, Refused, Audit, Apply, Acts, Value, Io, Store, Foreign}
 use Rattle.command_line.specs.declared.running.TheConstants.{DONE, REFUSED, MISUSED}
 
 -- words that are no line are misused; a call for help is done, or refused where the help could not be written
@@ -23,6 +23,7 @@ IsStatusOf (Err (Row row why)) status = status ≡ REFUSED
 IsStatusOf (Err (Refused why)) status = status ≡ REFUSED
 IsStatusOf (Err (Audit fault)) status = status ≡ REFUSED
 IsStatusOf (Err (Apply fault)) status = status ≡ REFUSED
+IsStatusOf (Err Acts) status = status ≡ REFUSED
 IsStatusOf (Err Value) status = status ≡ REFUSED
 IsStatusOf (Err Io) status = status ≡ REFUSED
 IsStatusOf (Err Store) status = status ≡ REFUSED
@@ -43,6 +44,7 @@ IsOutputOf (Err (Row row why)) old new status = new ≡ old
 IsOutputOf (Err (Refused why)) old new status = new ≡ old
 IsOutputOf (Err (Audit fault)) old new status = new ≡ old
 IsOutputOf (Err (Apply fault)) old new status = new ≡ old
+IsOutputOf (Err Acts) old new status = new ≡ old
 IsOutputOf (Err Value) old new status = new ≡ old
 IsOutputOf (Err Io) old new status = new ≡ old
 IsOutputOf (Err Store) old new status = new ≡ old

@@ -5,12 +5,12 @@ ghost use Rattle.command_line.specs.Applying.{apply_code, apply_place};
 use commands::Refusal;
 use std::io::{self, Write};
 
-/// Why a line of a history was not taken in.
+/// Why a line of a history does not fit the books.
 #[derive(Clone, Copy)]
 pub enum ApplyFault {
     /// The line bears the number of this act of the books, and is another.
     Differs { act: u64 },
-    /// The line is of a later act than this one, which the books have not.
+    /// The books have no act of this number, and the line is of it or of a later one.
     Lacks { act: u64 },
     /// The line of this number, counted from 1, is that of no act that may come there.
     Line { line: u64 },

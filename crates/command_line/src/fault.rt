@@ -24,8 +24,10 @@ pub enum Fault {
     Refused(Refusal),
     /// The rows of the books are not those of their acts.
     Audit(AuditFault),
-    /// A line of a history was not taken in.
+    /// A line of a history does not fit the books.
     Apply(ApplyFault),
+    /// The file of the acts cannot be opened, read, written or synced, or a server has it.
+    Acts,
     /// A date on the line is no business day, or a GTIN or a lot breaks its rule.
     Value,
     /// The port is taken, a file cannot be read, or the output or a line of the log could not be written.
@@ -52,6 +54,7 @@ impl Fault {
             Fault::Refused(refusal) => refusal.code(),
             Fault::Audit(fault) => fault.code(),
             Fault::Apply(fault) => fault.code(),
+            Fault::Acts => "acts",
             Fault::Value => "value",
             Fault::Io => "io",
             Fault::Store => "store",

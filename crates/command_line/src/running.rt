@@ -35,11 +35,20 @@ pub const MISUSED: u8 = 2;
 pub enum Work<'a> {
     /// Makes them; they begin on the business day.
     Make(BusinessDay),
-    /// Opens them, listens on the port and answers so many connections, and keeps a log or none.
-    Serve { port: u16, max: u32, log: bool },
+    /// Opens them, listens on the port and answers so many connections, and keeps a log or none. Each act is in the file of
+    /// the acts too, where one is named, before it is answered.
+    Serve {
+        port: u16,
+        max: u32,
+        log: bool,
+        acts: Option<&'a str>,
+    },
     /// Opens them, and then the goods-in file: takes its rows in, all or none, and prints how many were accepted and
-    /// how many repeated.
-    Import { file: &'a str },
+    /// how many repeated. Each act is in the file of the acts too, where one is named, before that is printed.
+    Import {
+        file: &'a str,
+        acts: Option<&'a str>,
+    },
     /// Opens them and prints the stock card of the lot.
     Card(LotId),
     /// Opens them and prints the recall notice of the lot.
@@ -51,7 +60,9 @@ pub enum Work<'a> {
     Audit(Option<BusinessDay>),
     /// Opens them, and then the file with lines of a history: does the acts that they lack, one after another, and prints how
     /// many were done, how many they had, and how many they have behind the last of the lines.
-    Apply { file: &'a str },
+    Apply {
+        file: &'a str,
+    },
 }
 
 /// Where the books are that the lines speak of.
@@ -158,15 +169,19 @@ fn end_line<'a, B: BooksAt + Drop, W: Write, L: Write>(
             port,
             max,
             log: logged,
+            acts,
         } => {
             let work = Work::Serve {
                 port,
                 max,
                 log: logged,
+                acts,
             };
             work_with(books, db, &work, out, log)
         }
-        Line::Import { db, file } => work_with(books, db, &Work::Import { file }, out, log),
+        Line::Import { db, file, acts } => {
+            work_with(books, db, &Work::Import { file, acts }, out, log)
+        }
         Line::Card { db, gtin, lot } => print_card(books, db, gtin, lot, out, log),
         Line::Notice { db, gtin, lot } => print_notice(books, db, gtin, lot, out, log),
         Line::History { db } => work_with(books, db, &Work::History, out, log),

@@ -17,17 +17,19 @@ pub enum Line<'a> {
         day: &'a str,
     },
     /// `lotd serve --db PATH --port N --max M`: answers M connections to the port N of 127.0.0.1; with `--log` it logs the
-    /// requests.
+    /// requests, with `--acts FILE` it keeps each act in FILE too.
     Serve {
         db: &'a str,
         port: u16,
         max: u32,
         log: bool,
+        acts: Option<&'a str>,
     },
-    /// `lotd import --db PATH FILE`: takes in the goods-in file FILE, all rows or none.
+    /// `lotd import --db PATH FILE`: takes in the goods-in file FILE, all rows or none; `--acts` as `serve` has it.
     Import {
         db: &'a str,
         file: &'a str,
+        acts: Option<&'a str>,
     },
     /// `lotd card --db PATH GTIN LOT`: prints the stock card of the lot.
     Card {
@@ -92,6 +94,14 @@ struct Words {
     values: &'static [Value],
 }
 
+/// The file of the acts, of the lines that keep one.
+const ACTS: Value = Value {
+    id: "acts",
+    stands_for: "FILE",
+    help: "Keep each act in FILE too, before it is answered",
+    kind: Kind::Optional,
+};
+
 const AFTER_HELP: &str = "Examples:
   lotd init --db stock.db --day 2026-05-04
   lotd serve --db stock.db --port 8080 --max 1000
@@ -123,10 +133,13 @@ or, where an audit finds that the rows are not those of the acts, one of these:
                  no command or no key is written in the row of this act
   Q02 act 17     this act is refused after those before it, by this code
 
-or, where a line of a history cannot be taken in (the lines before it are), one
-of these:
+or, where the acts in a file are taken in (the lines before the fault are) or
+kept (--acts), one of these:
+  acts           the file of the acts cannot be opened, read, written or synced,
+                 or a server has it
   differs act 17 the books have another act 17
-  lacks act 17   the books have no act 17, and the line is of a later one
+  lacks act 17   the books have no act 17: the line is of a later one, or the
+                 file of the acts is ahead of the books (apply it first)
   line 40        line 40 is that of no act, or out of turn
   Q02 act 17     this act is refused after those before it, by this code
 
@@ -158,7 +171,14 @@ static LINES: [Words; 9] = [
     Words {
         name: "serve",
         about: "Answer the requests of scanners, one connection after another",
-        examples: "Example:\n  lotd serve --db stock.db --port 8080 --max 1000",
+        examples: "Examples:
+  lotd serve --db stock.db --port 8080 --max 1000
+  lotd serve --db stock.db --port 8080 --max 1000 --acts /mnt/acts/stock.acts
+
+With --acts the line of each act, as `lotd history` prints it, is in FILE and synced
+before the act is answered. FILE is made where it is not there, and gets the lines
+that it lacks at the start. Where it cannot be written the act is done and not
+answered, and the server ends.",
         values: &[
             Value {
                 id: "db",
@@ -184,6 +204,7 @@ static LINES: [Words; 9] = [
                 help: "Write method, target, status and bytes of each answer to standard error",
                 kind: Kind::Flag,
             },
+            ACTS,
         ],
     },
     Words {
@@ -210,6 +231,7 @@ While a server has the file open, ask it:
                 help: "The goods-in file, or - for standard input",
                 kind: Kind::Bare,
             },
+            ACTS,
         ],
     },
     Words {
@@ -413,6 +435,7 @@ fn serve_line<'a>(found: &ArgMatches<'a>) -> Line<'a> {
             port,
             max,
             log: found.get_flag("log"),
+            acts: found.get_str("acts"),
         },
         _ => Line::Unknown,
     }
@@ -420,7 +443,11 @@ fn serve_line<'a>(found: &ArgMatches<'a>) -> Line<'a> {
 
 fn import_line<'a>(found: &ArgMatches<'a>) -> Line<'a> {
     match (found.get_str("db"), found.get_str("file")) {
-        (Some(db), Some(file)) => Line::Import { db, file },
+        (Some(db), Some(file)) => Line::Import {
+            db,
+            file,
+            acts: found.get_str("acts"),
+        },
         _ => Line::Unknown,
     }
 }

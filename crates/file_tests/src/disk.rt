@@ -2,7 +2,7 @@
 
 use crate::failing::trial::{Seen, Trial, tried};
 use crate::steps::{Step, take_all};
-use book_trials::{Calls, Left, Line, Pair, Receiver, Work, line_run, over};
+use book_trials::{Calls, Left, Line, Pair, Receiver, Work, after_work, line_run, over};
 use command_line::FilesAt;
 use sqlite::{Connection, Options};
 use std::alloc::Global;
@@ -70,10 +70,8 @@ impl<A: Abort> Work for Taking<'_, A> {
 
 // Does the work over the files, where no disk stops.
 fn done<W: Work>(rt: &impl Abort, alloc: Global, files: &Pair, work: &mut W) -> Pair {
-    let left = over(alloc, files, Calls::ALL, Options::new(1), work).expect(rt, "memory");
-    let Left { files, is_closed } = left;
-    assert!(rt; is_closed, "the files do not open, or do not close");
-    files
+    let files = after_work(alloc, files, Options::new(1), work);
+    files.expect(rt, "files that open and close")
 }
 
 /// The files after the steps were taken over them.

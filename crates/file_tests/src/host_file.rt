@@ -2,6 +2,7 @@
 //! closed after it.
 
 use crate::over_host::work_end;
+use book_trials::free_port;
 use command_line::{Work, tell};
 use label::{BusinessDay, Day};
 use sqlite::Unknown;
@@ -101,12 +102,6 @@ fn silent(host: &HostRuntime, rt: &impl Abort, db: &str, work: &Work<'_>, told: 
     assert!(rt; is_silent);
 }
 
-// A port that nobody has.
-fn free_port(host: &HostRuntime, rt: &impl Abort) -> u16 {
-    let listener = TcpListener::bind(host, "127.0.0.1:0").expect(rt, "a listener");
-    listener.local_addr().expect(rt, "an address").port()
-}
-
 // What the client is answered.
 fn answer(rt: &impl Abort, out: Out<'_>) -> Vec<u8> {
     let mut answer = Vec::new(out.host.alloc());
@@ -116,7 +111,7 @@ fn answer(rt: &impl Abort, out: Out<'_>) -> Vec<u8> {
 }
 
 fn serves(host: &HostRuntime, rt: &impl Abort, db: &str) {
-    let port = free_port(host, rt);
+    let port = free_port(host).expect(rt, "a port");
     let mut out = Out {
         host,
         port: Some(port),
@@ -127,6 +122,7 @@ fn serves(host: &HostRuntime, rt: &impl Abort, db: &str) {
         port,
         max: 1,
         log: false,
+        acts: None,
     };
     works(rt, db, &work, "", &mut out);
     assert!(rt; answer(rt, out).as_slice() == ITEM_MADE);
@@ -139,6 +135,7 @@ fn finds_taken(host: &HostRuntime, rt: &impl Abort, db: &str) {
         port,
         max: 1,
         log: true,
+        acts: None,
     };
     silent(host, rt, db, &work, "lotd: io\n");
     drop(listener);

@@ -2,11 +2,12 @@
 //! a port. Each client comes as the line of the one before it is logged.
 
 use crate::over_host::line_status;
+use book_trials::free_port;
 use sqlite::Unknown;
 use std::cell::Cell;
 use std::fs;
 use std::io::{self, ErrorKind, Read, Write};
-use std::net::{Shutdown, TcpListener, TcpStream};
+use std::net::{Shutdown, TcpStream};
 use std::process::Abort;
 
 const FOLDER: &str = "many_clients";
@@ -93,12 +94,6 @@ fn runs(
     (out.lines, err.lines)
 }
 
-// A port that nobody has.
-fn free_port(host: &HostRuntime, rt: &impl Abort) -> u16 {
-    let listener = TcpListener::bind(host, "127.0.0.1:0").expect(rt, "a listener");
-    listener.local_addr().expect(rt, "an address").port()
-}
-
 #[test]
 fn answers_as_many_as_it_is_told(rt: HostRuntime) {
     let _ = fs::remove_dir_all(&rt, FOLDER);
@@ -107,7 +102,7 @@ fn answers_as_many_as_it_is_told(rt: HostRuntime) {
     let making = ["lotd", "init", "--db", DB, "--day", "2026-05-04"];
     assert!(rt; runs(&rt, &rt, making.as_slice(), &none) == (0, 0));
     drop(none.into_inner());
-    let port = free_port(&rt, &rt);
+    let port = free_port(&rt).expect(&rt, "a port");
     let word = format!(in rt.alloc(); "{port}").expect(&rt, "memory");
     let serving = [
         "lotd",

@@ -2,7 +2,7 @@
 
 use books_file::InFiles;
 use command_line::{BooksAt, Fault, Work, run};
-use sqlite::Start;
+use sqlite::{Start, Unknown};
 use std::io::Write;
 
 /// Runs the line, and gives its exit status. `start` says what is supposed of a file.
@@ -13,7 +13,11 @@ pub(crate) fn line_status<S: Start, W: Write, L: Write>(
     out: &mut W,
     err: &mut L,
 ) -> u8 {
-    let books = InFiles { rt: host, start };
+    let books = InFiles {
+        rt: host,
+        start,
+        acts: Unknown,
+    };
     let (_left, status) = run(host.alloc(), books, words, out, err);
     status
 }
@@ -27,7 +31,11 @@ pub(crate) fn work_end<S: Start, W: Write, L: Write>(
     out: &mut W,
     log: &mut L,
 ) -> Result<(), Fault> {
-    let books = InFiles { rt: host, start };
+    let books = InFiles {
+        rt: host,
+        start,
+        acts: Unknown,
+    };
     let (_left, end) = books.work(db, work, out, log);
     end
 }

@@ -2,11 +2,11 @@
 //! told, and the exit status, byte for byte. The file is opened for each line and closed after it.
 
 use crate::over_host::line_status;
-use book_trials::Receiver;
+use book_trials::{Receiver, free_port};
 use sqlite::Unknown;
 use std::fs;
 use std::io::{self, ErrorKind, Read, Write};
-use std::net::{Shutdown, TcpListener, TcpStream};
+use std::net::{Shutdown, TcpStream};
 use std::process::Abort;
 
 const FOLDER: &str = "program_lines";
@@ -109,12 +109,6 @@ fn line_runs(
     assert!(rt; out.printed.as_slice() == printed.as_bytes(), "{printed:?}");
 }
 
-// A port that nobody has.
-fn free_port(host: &HostRuntime, rt: &impl Abort) -> u16 {
-    let listener = TcpListener::bind(host, "127.0.0.1:0").expect(rt, "a listener");
-    listener.local_addr().expect(rt, "an address").port()
-}
-
 // Runs a line that serves so many connections, of which one comes.
 fn serves(
     host: &HostRuntime,
@@ -125,7 +119,7 @@ fn serves(
     err: Receiver,
 ) {
     let mut err = err;
-    let port = free_port(host, rt);
+    let port = free_port(host).expect(rt, "a port");
     let word = format!(in host.alloc(); "{port}").expect(rt, "memory");
     let words = [
         "lotd",

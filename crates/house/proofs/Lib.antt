@@ -10,3 +10,6 @@ pub mod Handing
 pub mod LotWriting
 pub mod LotShown
 pub mod Unanswered
+pub mod Adding
+mod Kept
+mod OkStatus

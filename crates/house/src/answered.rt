@@ -1,13 +1,18 @@
 //! The bytes of an answer.
 
-ghost use Rattle.std.specs.Prelude.{◌≡◌};
+ghost use Rattle.std.specs.Prelude.{◌≡◌, true, false, codes};
+ghost use Rattle.house.specs.Answers.{status_of};
 ghost use Rattle.house.specs.Asking.{fault_shown};
 ghost use Rattle.house.specs.House.{bytes_of, IsLongIfOk};
+ghost use Rattle.house.specs.Keeping.{TellsNoAct};
 
 use requests::WireFault;
 use store::Fault;
 use wire::Block;
 use wire::short_answers::{fault_answer, foreign_books, not_found};
+
+/// How an answer of status 200 begins.
+const OK_STATUS: &[u8] = b"HTTP/1.1 200";
 
 /// The bytes of an answer.
 #[derive(Drop)]
@@ -28,6 +33,17 @@ impl Answered {
         match self {
             Answered::Short(block) => block.as_bytes(),
             Answered::Long(bytes) => bytes.as_slice(),
+        }
+    }
+
+    /// Whether it may tell of an act that is new: it is written in place, with status 200.
+    pub(crate) fn may_tell_of_acts(&self) -> bool
+        ensures yes { result ≡ true → status_of (bytes_of self.now) ≡ codes "HTTP/1.1 200" }
+        ensures no { result ≡ false → TellsNoAct self.now }
+    {
+        match self {
+            Answered::Short(block) => block.as_bytes().starts_with(OK_STATUS),
+            Answered::Long(_) => false,
         }
     }
 }

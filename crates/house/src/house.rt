@@ -1,6 +1,8 @@
 //! The house: books, and the answers to texts.
 
-ghost use Rattle.std.specs.Prelude.{◌≡◌, ◌≢◌, ℕ, ℤ, List, All, map, codes, IfOk, OnErr};
+ghost use Rattle.std.specs.Prelude.{◌≡◌, ◌≢◌, ◌++◌, ℕ, ℤ, List, All, map, codes, IfOk, OnOk, OnErr};
+ghost use Rattle.sqlite.specs.Held.{state};
+ghost use Rattle.sqlite.specs.State.{Survives};
 ghost use Rattle.machine.specs.Acts.{Act};
 ghost use Rattle.machine.specs.Once.{IsHistory};
 ghost use Rattle.requests.specs.Requests.{IsReading};
@@ -8,10 +10,12 @@ ghost use Rattle.store.specs.Books.{IsClean, HoldsBooks, AreAsBefore};
 ghost use Rattle.house.specs.Answers.{ask_answer, acts_asked, no_memory, status_of};
 ghost use Rattle.house.specs.Asking.{Does};
 ghost use Rattle.house.specs.House.{books_of, bytes_of, texts_of, Answers, StepsTo, RunsTo, IsInPlace, IsAskedInPlace};
+ghost use Rattle.house.specs.Keeping.{NoHistory, TellsNoAct};
 
 use crate::Answered;
 use crate::asking::{act, scan};
 use crate::filing::take_in;
+use crate::keeping::{KeepFault, Keeper};
 use crate::showing::{
     show_card, show_notice, show_order, show_pick_list, show_shortages, show_stock,
 };
@@ -102,6 +106,30 @@ impl<S: Alter> House<S> {
         match reading {
             Read::Need(fault) | Read::Bad(fault) => Answered::Short(fault_answer(*fault)),
             Read::Request(ask) => answer_ask(self.alloc, &mut self.books, ask),
+        }
+    }
+
+    /// Has the acts of the books kept, where the answer may tell of one that is new.
+    pub(crate) fn keep<K: Keeper<S>>(
+        &mut self,
+        answer: &Answered,
+        keeper: &mut K,
+    ) -> Result<(), KeepFault>
+        ensures clean { IsClean S.Store (books_of self.new) → IsClean S.Store (books_of self.old) }
+        ensures holds { IsClean S.Store (books_of self.new) → (first : ℤ) (acts : List Act) → IsHistory first acts → HoldsBooks S.Store first acts (books_of self.old)
+            → HoldsBooks S.Store first acts (books_of self.new) }
+        ensures as_before { IsClean S.Store (books_of self.new) → AreAsBefore S.Store (books_of self.old) (books_of self.new) }
+        ensures same { status_of (bytes_of answer.now) ≢ codes "HTTP/1.1 200" → books_of self.new ≡ books_of self.old }
+        ensures survives { Survives (state S.Store (books_of self.old).conn) (state S.Store (books_of self.new).conn) (NoHistory S.Store (books_of self.old)) }
+        ensures kept { IsClean S.Store (books_of self.new) → (first begun : ℤ) (newer older : List Act) → IsHistory first (newer ++ older) → HoldsBooks S.Store first (newer ++ older) (books_of self.old)
+            → (TellsNoAct answer.now → newer ++ older ≡ older) → K.keeps keeper.old begun older → OnOk result (K.keeps keeper.new begun (newer ++ older)) }
+        ensures begins { OnErr result ((begun : ℤ) (acts : List Act) → K.keeps keeper.old begun acts → K.begins keeper.new begun acts) }
+        ensures calm { K.is_clean keeper.new ≡ K.is_clean keeper.old }
+    {
+        if answer.may_tell_of_acts() {
+            keeper.bring_up(self.alloc, &mut self.books)
+        } else {
+            Ok(())
         }
     }
 }

@@ -5,6 +5,7 @@ mod answered;
 mod asking;
 mod filing;
 mod house;
+mod keeping;
 pub mod laws;
 mod lot_texts;
 mod serve;
@@ -12,6 +13,7 @@ mod showing;
 
 pub use answered::Answered;
 pub use house::House;
+pub use keeping::{KeepFault, Keeper, NoKeeper};
 pub use lot_texts::{write_card, write_notice};
 pub use serve::Served;
 pub use wire::ServeFault;

@@ -1,14 +1,16 @@
 //! One request from a reader, its answer to a writer, and its line to a log.
 
-ghost use Rattle.std.specs.Prelude.{◌≡◌, ◌≢◌, ℤ, List, Result, Ok, Err};
+ghost use Rattle.std.specs.Prelude.{◌≡◌, ◌≢◌, ℤ, List, Result, Ok, Err, OnErr, IfErr};
 ghost use Rattle.machine.specs.Acts.{Act};
 ghost use Rattle.machine.specs.Once.{IsHistory};
 ghost use Rattle.texts.specs.Writing.{Writes};
 ghost use Rattle.store.specs.Books.{IsClean, HoldsBooks};
 ghost use Rattle.house.specs.House.{books_of};
+ghost use Rattle.house.specs.Keeping.{KeepsOn, IsKeptIfTold};
 ghost use Rattle.house.specs.Serving.{IsServed, IsServedAnyhow, IsServedAndLogged, IsLogged};
 
 use crate::House;
+use crate::keeping::{KeepFault, Keeper, NoKeeper};
 use sqlite::Alter;
 use std::io::{self, Read, Write};
 use texts::TextFault;
@@ -19,10 +21,13 @@ use wire::serving::{read_whole, write_bytes};
 /// How a request was served.
 #[derive(Clone, Copy)]
 pub struct Served {
-    /// Whether it was answered: `Read` where the reader failed, `Write` where the writer did.
+    /// Whether it was answered: `Read` where the reader failed, `Write` where the writer did, or where what was done is not
+    /// kept.
     pub answered: Result<(), ServeFault>,
     /// Whether the log has its line: `TextFault` where the log took a beginning of it, maybe all, and then no more.
     pub logged: Result<(), TextFault>,
+    /// Whether what was done is kept, where somebody keeps it. Where it is not, nothing was written.
+    pub kept: Result<(), KeepFault>,
 }
 
 impl<S: Alter> House<S> {
@@ -65,17 +70,70 @@ impl<S: Alter> House<S> {
             × IsLogged result.logged (L.contents log.old) (L.contents log.new) s.text s.bytes }
         ensures unread { result.answered ≡ Err ServeFault.Read → (books_of self.new ≡ books_of self.old) × (writer.new ≡ writer.old) × (log.new ≡ log.old) × (result.logged ≡ Ok tt) }
     {
+        self.serve_kept(reader, writer, log, &mut NoKeeper)
+    }
+
+    /// The same, and what was done is kept before a byte of its answer is written. The keeper is asked where an act or a file
+    /// is answered with status 200. Where it fails what was done stands and nothing is written: the same request gets its
+    /// answer when it comes again.
+    pub fn serve_kept<R: Read, W: Write, L: Write, K: Keeper<S>>(
+        &mut self,
+        reader: &mut R,
+        writer: &mut W,
+        log: &mut L,
+        keeper: &mut K,
+    ) -> Served
+        ensures clean { IsClean S.Store (books_of self.new) → IsClean S.Store (books_of self.old) }
+        ensures served { IsClean S.Store (books_of self.new)
+            → (first : ℤ) (acts : List Act) → IsHistory first acts → HoldsBooks S.Store first acts (books_of self.old)
+            → result.answered ≢ Err ServeFault.Read
+            → (w : IsServedAndLogged S.Store first acts (R.remaining reader.old) (R.remaining reader.new) (books_of self.old) (books_of self.new) (Writes result.answered (W.contents writer.old) (W.contents writer.new)) result.logged (L.contents log.old) (L.contents log.new))
+            × KeepsOn K.keeps keeper.old keeper.new acts w.0.steps.after result.kept }
+        ensures as_before { IsClean S.Store (books_of self.new) → result.answered ≢ Err ServeFault.Read
+            → (s : IsServedAnyhow S.Store (R.remaining reader.old) (R.remaining reader.new) (books_of self.old) (books_of self.new) (Writes result.answered (W.contents writer.old) (W.contents writer.new)))
+            × IsLogged result.logged (L.contents log.old) (L.contents log.new) s.text s.bytes }
+        ensures unread { result.answered ≡ Err ServeFault.Read → (books_of self.new ≡ books_of self.old) × (writer.new ≡ writer.old) × (log.new ≡ log.old) × (keeper.new ≡ keeper.old) × (result.logged ≡ Ok tt) × (result.kept ≡ Ok tt) }
+        ensures kept { IsClean S.Store (books_of self.new)
+            → (first begun : ℤ) (acts : List Act) → IsHistory first acts → HoldsBooks S.Store first acts (books_of self.old) → K.keeps keeper.old begun acts
+            → IsKeptIfTold S.Store first (K.keeps keeper.new begun) (books_of self.new) (writer.new ≡ writer.old) }
+        ensures untold { OnErr result.kept (writer.new ≡ writer.old) }
+        ensures begins { OnErr result.kept ((begun : ℤ) (acts : List Act) → K.keeps keeper.old begun acts → K.begins keeper.new begun acts) }
+        ensures calm { K.is_clean keeper.new ≡ K.is_clean keeper.old }
+    {
         match read_whole(self.alloc, &mut self.routes, reader) {
             Ok(heard) => {
                 let answer = self.answer_reading(&heard.reading);
-                let answered = write_bytes(writer, answer.as_bytes());
+                let kept = self.keep(&answer, keeper);
+                let answered = write_kept(writer, answer.as_bytes(), kept);
                 let logged = write_log_line(heard.text.as_slice(), answer.as_bytes(), log);
-                Served { answered, logged }
+                Served {
+                    answered,
+                    logged,
+                    kept,
+                }
             }
             Err(fault) => Served {
                 answered: Err(fault),
                 logged: Ok(()),
+                kept: Ok(()),
             },
         }
+    }
+}
+
+/// Writes the bytes of an answer, and flushes. Nothing is written where what was done is not kept; the fault is then `Write`
+/// too.
+fn write_kept<W: Write>(
+    writer: &mut W,
+    bytes: &[u8],
+    kept: Result<(), KeepFault>,
+) -> Result<(), ServeFault>
+    ensures written { Writes result (W.contents writer.old) (W.contents writer.new) bytes.now }
+    ensures fault { IfErr result (λ e. e ≡ ServeFault.Write) }
+    ensures untold { OnErr kept (writer.new ≡ writer.old) }
+{
+    match kept {
+        Ok(()) => write_bytes(writer, bytes),
+        Err(_) => Err(ServeFault::Write),
     }
 }

@@ -3,7 +3,7 @@
 use crate::lines::{Turn, lines_run};
 use crate::long_lines::{long_books, long_lines_run};
 use crate::serving::{TestClock, clients_served, clients_unlogged, lines_worked};
-use book_trials::{Calls, History, Left, Pair, Work, made, over};
+use book_trials::{History, Pair, Work, after_work, made};
 use sqlite::{Connection, Options};
 use std::net::TcpListener;
 use std::process::Abort;
@@ -55,10 +55,8 @@ impl<A: Abort> Work for Done<'_, A> {
 // The files after this was done over them.
 fn after(host: &HostRuntime, rt: &impl Abort, files: &Pair, doing: Doing<'_>) -> Pair {
     let mut done = Done { host, rt, doing };
-    let left = over(host.alloc(), files, Calls::ALL, Options::new(1), &mut done);
-    let Left { files, is_closed } = left.expect(rt, "memory");
-    assert!(rt; is_closed, "the files do not open, or do not close");
-    files
+    let files = after_work(host.alloc(), files, Options::new(1), &mut done);
+    files.expect(rt, "files that open and close")
 }
 
 /// Serves so many clients that wait at the listener, over books in new files, and logs this, or has no log.

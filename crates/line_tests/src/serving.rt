@@ -1,7 +1,7 @@
 //! Connections that are served over sockets.
 
 use crate::disk::{run_clients, run_lines, run_unlogged};
-use book_trials::{Receiver, first_day, new_books};
+use book_trials::{Receiver, first_day, free_port, new_books, no_acts};
 use command_line::{Fault, FilesAt, Work, tell};
 use house::House;
 use line_books::{AfterWork, NotBegun};
@@ -92,7 +92,12 @@ fn begun(host: &HostRuntime, rt: &impl Abort, listener: &TcpListener, text: &[u8
 }
 
 // A client that has sent this, and sends no more.
-fn sent(host: &HostRuntime, rt: &impl Abort, listener: &TcpListener, text: &[u8]) -> TcpStream {
+pub(crate) fn sent(
+    host: &HostRuntime,
+    rt: &impl Abort,
+    listener: &TcpListener,
+    text: &[u8],
+) -> TcpStream {
     let client = begun(host, rt, listener, text);
     client.shutdown(Shutdown::Write).expect(rt, "ended");
     client
@@ -206,22 +211,22 @@ const TWICE_LOGGED: &str = "POST /bins 200 98\nPOST /bins 200 98\n";
 /// How many bytes one of these lines has.
 const LINE: usize = 18;
 
-const NEW_BIN: &[u8] =
+pub(crate) const NEW_BIN: &[u8] =
     b"POST /bins HTTP/1.1\r\nContent-Length: 41\r\n\r\n{\"key\":\"K-1\",\"bin\":\"A-01\",\"kind\":\"STORE\"}";
 
 const BROKEN_OFF: &[u8] =
     b"POST /bins HTTP/1.1\r\nContent-Length: 41\r\n\r\n{\"key\":\"K-2\",\"bin\":\"A-02\",\"kind\":\"ST";
 
-const SECOND_BIN: &[u8] =
+pub(crate) const SECOND_BIN: &[u8] =
     b"POST /bins HTTP/1.1\r\nContent-Length: 41\r\n\r\n{\"key\":\"K-3\",\"bin\":\"A-03\",\"kind\":\"STORE\"}";
 
 const THIRD_BIN: &[u8] =
     b"POST /bins HTTP/1.1\r\nContent-Length: 41\r\n\r\n{\"key\":\"K-4\",\"bin\":\"A-04\",\"kind\":\"STORE\"}";
 
-const BIN_MADE: &[u8] =
+pub(crate) const BIN_MADE: &[u8] =
     b"HTTP/1.1 200 OK\r\ncontent-type: application/json\r\ncontent-length: 9\r\nconnection: close\r\n\r\n{\"act\":1}";
 
-const SECOND_MADE: &[u8] =
+pub(crate) const SECOND_MADE: &[u8] =
     b"HTTP/1.1 200 OK\r\ncontent-type: application/json\r\ncontent-length: 9\r\nconnection: close\r\n\r\n{\"act\":2}";
 
 const THIRD_MADE: &[u8] =
@@ -277,7 +282,7 @@ impl FilesAt for GoodsFiles {
 }
 
 // What is told of the end of a line.
-fn told_of(alloc: Global, end: Result<(), Fault>) -> Vec<u8> {
+pub(crate) fn told_of(alloc: Global, end: Result<(), Fault>) -> Vec<u8> {
     let mut told: Vec<u8> = Vec::new(alloc);
     if let Err(fault) = end {
         let _ = tell(&fault, &mut told);
@@ -314,7 +319,16 @@ fn silent<S: Orderly + Drop>(
     let mut log: Vec<u8> = Vec::new(host.alloc());
     let listener = listen(host, work).expect(rt, "no port");
     let at = listener.as_ref();
-    let found = do_work(host, &GoodsFiles, at, conn, work, &mut printed, &mut log);
+    let found = do_work(
+        host,
+        &GoodsFiles,
+        at,
+        &mut no_acts(),
+        conn,
+        work,
+        &mut printed,
+        &mut log,
+    );
     assert!(rt; printed.is_empty() && log.is_empty());
     ended(rt, host.alloc(), found, expected)
 }
@@ -326,6 +340,7 @@ fn taken(host: &HostRuntime, rt: &impl Abort, port: u16) {
         port,
         max: 1,
         log: true,
+        acts: None,
     };
     let error = listen(host, &work).expect_err(rt, "a port that is taken");
     assert!(rt;
@@ -352,12 +367,22 @@ fn served<S: Orderly + Drop>(
         port,
         max: 2,
         log: true,
+        acts: None,
     };
     let mut log: Vec<u8> = Vec::new(host.alloc());
     let listener = listen(host, &work).expect(rt, "a port");
     let at = listener.as_ref();
     let early = sent(host, rt, at.expect(rt, "a port"), NEW_BIN);
-    let found = do_work(host, &GoodsFiles, at, conn, &work, &mut out, &mut log);
+    let found = do_work(
+        host,
+        &GoodsFiles,
+        at,
+        &mut no_acts(),
+        conn,
+        &work,
+        &mut out,
+        &mut log,
+    );
     assert!(rt; log.as_slice() == TWICE_LOGGED.as_bytes());
     assert!(rt; !out.listens_elsewhere);
     let told = format!(in host.alloc(); "listening on 127.0.0.1:{port}\n").ok();
@@ -390,11 +415,21 @@ fn ended_by_its_log<S: Orderly + Drop>(
         port,
         max: 2,
         log: true,
+        acts: None,
     };
     let mut log = Receiver::failing(host.alloc(), 10);
     let listener = listen(host, &work).expect(rt, "a port");
     let at = listener.as_ref();
-    let found = do_work(host, &GoodsFiles, at, conn, &work, &mut out, &mut log);
+    let found = do_work(
+        host,
+        &GoodsFiles,
+        at,
+        &mut no_acts(),
+        conn,
+        &work,
+        &mut out,
+        &mut log,
+    );
     assert!(rt; log.taken.as_slice() == b"POST /bins".as_slice());
     is_answered(
         rt,
@@ -418,19 +453,20 @@ pub(crate) fn lines_worked<S: Orderly + Drop>(
     taken(host, rt, port);
     let conn = served(host, rt, conn, port);
     let conn = ended_by_its_log(host, rt, conn, port);
-    let none = Work::Import { file: "none.csv" };
+    let none = Work::Import {
+        file: "none.csv",
+        acts: None,
+    };
     let conn = silent(host, rt, conn, &none, "lotd: io\n");
-    let goods = Work::Import { file: "goods.csv" };
+    let goods = Work::Import {
+        file: "goods.csv",
+        acts: None,
+    };
     silent(host, rt, conn, &goods, "lotd: U01 row 1\n")
-}
-
-// A port that nobody has.
-fn free_port(host: &HostRuntime, rt: &impl Abort) -> u16 {
-    let listener = TcpListener::bind(host, "127.0.0.1:0").expect(rt, "a listener");
-    listener.local_addr().expect(rt, "an address").port()
 }
 
 #[test]
 fn lines_work_with_the_books(rt: HostRuntime) {
-    run_lines(&rt, &rt, free_port(&rt, &rt));
+    let port = free_port(&rt).expect(&rt, "a port");
+    run_lines(&rt, &rt, port);
 }

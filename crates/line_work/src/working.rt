@@ -1,14 +1,16 @@
 ghost use Rattle.std.specs.Prelude.{◌≡◌, true, false, IsErr, IsErrAnd, OnErr, IfOk, IfErr};
 ghost use Rattle.sqlite.specs.Held.{state};
 ghost use Rattle.sqlite.specs.State.{HasCleanDisk};
-ghost use Rattle.line_work.specs.Works.{Listens, is_logged, IsServer, IsNotBegun, IsWorked, IsJudged, IsTold};
+ghost use Rattle.line_work.specs.Works.{Listens, is_logged, IsServer, IsNotBegun, IsWorked, IsJudged, IsTold, IsKeptBeside};
 
 use apply_line::open_and_apply;
 use audit_line::audit_books;
 use command_line::{Fault, FilesAt, Work};
+use kept_lines::{import_line, serve_line};
 use line_books::{AfterWork, NotBegun, make_books};
-use service::{Sheet, open_and_import, open_and_print, open_and_print_acts, open_and_serve};
+use service::{Sheet, open_and_print, open_and_print_acts};
 use sqlite::Connection;
+use sqlite_disk::Disk;
 use std::io::{self, Write};
 use std::net::TcpListener;
 use tables::opening::{Leftover, Orderly};
@@ -37,11 +39,13 @@ pub fn listen(rt: &HostRuntime, work: &Work<'_>) -> io::Result<Option<TcpListene
 /// error is `Foreign` for other tables and else `Store`, also for a connection within a transaction; what is left of the
 /// connection comes with it. Rows of a history are never `Foreign`. A file that cannot be opened and output that cannot be
 /// written are `Io` beside the connection. So is a log that takes no more, which ends a server: the client whose line was
-/// cut has its answer. A server's port is that of `listen`.
-pub fn do_work<S: Orderly + Drop, F: FilesAt, W: Write, L: Write>(
+/// cut has its answer. A server's port is that of `listen`. Where there is a disk for the acts, a server and an import keep
+/// there what they do before they answer or tell it, and end where that cannot be kept; other work leaves it alone.
+pub fn do_work<S: Orderly + Drop, D: Disk + Drop, F: FilesAt, W: Write, L: Write>(
     rt: &HostRuntime,
     files: &F,
     listener: Option<&TcpListener>,
+    acts: &mut Option<D>,
     conn: Connection<S>,
     work: &Work<'_>,
     out: &mut W,
@@ -49,14 +53,16 @@ pub fn do_work<S: Orderly + Drop, F: FilesAt, W: Write, L: Write>(
 ) -> Result<AfterWork<S>, NotBegun<S>>
     requires listens { Listens work.now listener }
     ensures clean { IfOk result (λ w. HasCleanDisk (state S.Store w.0) → HasCleanDisk (state S.Store conn)) }
-    ensures worked { IfOk result (λ w. HasCleanDisk (state S.Store w.0) → IsWorked S.Store conn work.now (L.contents log.old) (L.contents log.new) w.1 w.0) }
-    ensures told { IfOk result (λ w. HasCleanDisk (state S.Store w.0) → IsTold S.Store (F.bytes files.now) conn work.now (W.contents out.old) (W.contents out.new) w.1 w.0) }
+    ensures worked { IfOk result (λ w. HasCleanDisk (state S.Store w.0) → IsWorked S.Store acts.old conn work.now (L.contents log.old) (L.contents log.new) w.1 w.0) }
+    ensures told { IfOk result (λ w. HasCleanDisk (state S.Store w.0) → IsTold S.Store (F.bytes files.now) acts.old conn work.now (W.contents out.old) (W.contents out.new) w.1 w.0) }
+    ensures beside { IfOk result (λ w. HasCleanDisk (state S.Store w.0) → IsKeptBeside S.Store D.Disk (F.bytes files.now) conn work.now (W.contents out.old) (W.contents out.new) (L.contents log.old) (L.contents log.new) w.1 w.0 acts.old acts.new) }
     ensures quiet { is_logged work.now ≡ false → log.new ≡ log.old }
     ensures judged { IsJudged S.Store conn work.now result }
     ensures within { conn.in_transaction ≡ true → IsErrAnd result (λ e. (e.0 ≡ Leftover.Connection conn) × (e.1 ≡ Fault.Store)) }
     ensures left { IfErr result (λ e. IsNotBegun S.Store conn work.now e.0 e.1) }
     ensures silent { IsErr result → out.new ≡ out.old }
     ensures unlogged { IsErr result → log.new ≡ log.old }
+    ensures unused { IsErr result → acts.new ≡ acts.old }
 {
     match work {
         Work::Make(day) => make_books(rt.alloc(), conn, *day),
@@ -64,8 +70,19 @@ pub fn do_work<S: Orderly + Drop, F: FilesAt, W: Write, L: Write>(
             port,
             max,
             log: logged,
-        } => open_and_serve(rt, listener.unwrap(), conn, *port, *max, *logged, out, log),
-        Work::Import { file } => open_and_import(rt.alloc(), files, conn, *file, out),
+            ..
+        } => serve_line(
+            rt,
+            listener.unwrap(),
+            conn,
+            acts,
+            *port,
+            *max,
+            *logged,
+            out,
+            log,
+        ),
+        Work::Import { file, .. } => import_line(rt.alloc(), files, conn, acts, *file, out),
         Work::Card(lot) => open_and_print(rt.alloc(), conn, Sheet::Card, lot, out),
         Work::Notice(lot) => open_and_print(rt.alloc(), conn, Sheet::Notice, lot, out),
         Work::History => open_and_print_acts(rt.alloc(), conn, out),

@@ -5,7 +5,7 @@ use books_file::run_words;
 use sqlite::Unknown;
 use std::process::ExitCode;
 
-/// What is supposed of a file is `Unknown`: whatever it has, and that a torn write leaves each byte old or new.
+/// What is supposed of the files is `Unknown`: whatever they have, and that a torn write leaves each byte old or new.
 fn main(rt: HostRuntime) -> ExitCode {
-    ExitCode::from(run_words(&rt, Unknown))
+    ExitCode::from(run_words(&rt, Unknown, Unknown))
 }

@@ -13,14 +13,15 @@ use Rattle.goodsin.specs.Files.{file_read}
 use Rattle.goodsin.specs.declared.fault.FileFault.{FileFault}
 use Rattle.goodsin.specs.declared.fault.FileFault.TheVariants.{Reader, Memory}
 use Rattle.store.specs.Connected.{Connected}
-use Rattle.store.specs.Books.{LeavesOnly}
-use Rattle.store.specs.Filing.{rows_of, IsFiled}
+use Rattle.sqlite.specs.State.{Survives}
+use Rattle.store.specs.Books.{AreBooks, HoldsBooks, IsClean, KeepsBooks, LeavesOnly}
+use Rattle.store.specs.Filing.{rows_of, AreKeysOf, IsFiled}
 use Rattle.store.specs.declared.tally.Tally.{Tally}
 use Rattle.store.specs.declared.tally.RowFault.{RowFault}
 use Rattle.store.specs.declared.tally.RowFault.TheVariants.{Refused, Store as StoreRow, Foreign as ForeignRow}
 use Rattle.command_line.specs.declared.fault.Fault.{Fault}
-use Rattle.command_line.specs.declared.fault.Fault.TheVariants.{Usage, Label, File, Row, Refused as RefusedText, Audit, Apply, Value, Io, Store, Foreign}
-use Rattle.service.specs.Importing.{HasRows, KeepsFile, IsToldOfFile, AreRead, HasFault, IsTakenIn, IsImported, IsFileImported}
+use Rattle.command_line.specs.declared.fault.Fault.TheVariants.{Usage, Label, File, Row, Refused as RefusedText, Audit, Apply, Acts, Value, Io, Store, Foreign}
+use Rattle.service.specs.Importing.{HasRows, KeepsFile, LeavesFile, IsToldOfFile, AreRead, HasFault, IsTakenIn, IsImported, IsFileImported}
 
 pub by_fault : {X F : Type 0} (r : Result X F) (f : F) → IsErr r × IsErrAnd r (λ e. e ≡ f) → (P : Result X F → Type 0) → P (Err f) → P r
 by_fault (Ok x) f h P p = absurd (let no = h.0 in cc)
@@ -40,6 +41,13 @@ module _ {S : Type 0} (g : Ghosts S) (first : ℤ) (acts : List Act) where
   fault_as None day fault is h memory reader = tt
   fault_as (Some text) day fault is h memory reader =
       sym (h (λ e. memory (let it = e in cc)) (λ e. reader (let it = e in cc)) ∙ ap (λ t. file_read t text) is)
+
+  -- what a stop leaves once rows were acted on
+  pub leaves_file : (old new : Connected S) (rows : List (Key × Command)) → IsClean g new → AreKeysOf rows → IsHistory first acts → HoldsBooks g first acts old → IsHistory first (acts_after_file first acts (rows_of rows))
+      → Survives (state g old.conn) (state g new.conn) (λ trees. AreKeysOf rows → (first : ℤ) (acts : List Act) → IsHistory first acts → KeepsBooks first acts (state g old.conn) → AreBooks first (acts_after_file first acts (rows_of rows)) trees)
+      → LeavesOnly first acts (state g old.conn) → LeavesFile first acts (state g new.conn)
+  leaves_file old new rows clean keys history holds later survives leaves trees left =
+      elim (survives.crash clean trees left) [ inl before ↦ inl (leaves trees before) | inr file ↦ inr (rows, later, file keys first acts history holds.keeps) ]
 
   module _ (from : Option (List ℕ)) (books : Connected S) where
     -- how the rows went
@@ -61,6 +69,7 @@ module _ {S : Type 0} (g : Ghosts S) (first : ℤ) (acts : List Act) where
     fault_told_on (RefusedText why) out h = absurd h
     fault_told_on (Audit fault) out h = absurd h
     fault_told_on (Apply fault) out h = absurd h
+    fault_told_on Acts out h = absurd h
     fault_told_on Value out h = absurd h
     fault_told_on Io out h = absurd h
     fault_told_on Store out h = (h, refl)
@@ -76,6 +85,7 @@ module _ {S : Type 0} (g : Ghosts S) (first : ℤ) (acts : List Act) where
     kept (Err (RefusedText why)) old new h = absurd h
     kept (Err (Audit fault)) old new h = absurd h
     kept (Err (Apply fault)) old new h = absurd h
+    kept (Err Acts) old new h = absurd h
     kept (Err Value) old new h = absurd h
     kept (Err Io) old new h = inl (rows_of (h.1).0, (h.1).3)
     kept (Err Store) old new h = inr (h.0).keeps
@@ -87,11 +97,11 @@ module _ {S : Type 0} (g : Ghosts S) (first : ℤ) (acts : List Act) where
 
   -- a reader has the bytes of the file that was named, where these are known
   module _ (known from : Option (List ℕ)) (has : IfSome known (λ text. from ≡ Some text)) (books : Connected S) where
-    read_too : (x : Option (List ℕ)) → IfSome x (λ text. from ≡ Some text) → (rows : List (Key × Command)) → AreRead g first acts from rows → AreRead g first acts x rows
+    pub read_too : (x : Option (List ℕ)) → IfSome x (λ text. from ≡ Some text) → (rows : List (Key × Command)) → AreRead g first acts from rows → AreRead g first acts x rows
     read_too None h rows read = tt
     read_too (Some text) h rows read = subst (λ f. AreRead g first acts f rows) h read
 
-    fault_too : (x : Option (List ℕ)) → IfSome x (λ text. from ≡ Some text) → (fault : FileFault) → HasFault g first acts from fault → HasFault g first acts x fault
+    pub fault_too : (x : Option (List ℕ)) → IfSome x (λ text. from ≡ Some text) → (fault : FileFault) → HasFault g first acts from fault → HasFault g first acts x fault
     fault_too None h fault was = λ _ _. tt
     fault_too (Some text) h fault was = subst (λ f. HasFault g first acts f fault) h was
 
@@ -107,6 +117,7 @@ module _ {S : Type 0} (g : Ghosts S) (first : ℤ) (acts : List Act) where
     named_imported (Err (RefusedText why)) old new h = absurd h
     named_imported (Err (Audit fault)) old new h = absurd h
     named_imported (Err (Apply fault)) old new h = absurd h
+    named_imported (Err Acts) old new h = absurd h
     named_imported (Err Value) old new h = absurd h
     named_imported (Err Io) old new h = (h.0, taken_too h.0 h.1)
     named_imported (Err Store) old new h = h

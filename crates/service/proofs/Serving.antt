@@ -1,18 +1,27 @@
 -- Books that go on by steps.
-use Rattle.std.proofs.Common.{◌≡◌, ◌≢◌, ◌≤◌, true, Bool, ℕ, ◌+◌, List, [], ◌∷◌, ◌++◌, length-append, refl, subst, sym, inl, inr, Ok, Err, arith, rules}
-use Rattle.std.specs.Prelude.{ℤ, Option, Result}
+use Rattle.std.proofs.Common.{◌≡◌, ◌≢◌, ◌≤◌, true, Bool, ℕ, ◌+◌, List, [], ◌∷◌, ◌++◌, length-append, append-nil, append_assoc, ◌∙◌, refl, ap, subst, sym, inl, inr, Ok, Err, arith, rules}
+use Rattle.std.specs.Prelude.{ℤ, Option, Result, OnErr, zip}
 use Rattle.sqlite_trees.specs.declared.store.Store.{Ghosts}
 use Rattle.sqlite.specs.Held.{Held, state}
 use Rattle.machine.specs.Acts.{Act}
 use Rattle.machine.specs.Once.{IsHistory}
+use Rattle.texts.specs.Writing.{AppendsBeginning}
+use Rattle.texts.specs.declared.fault.TextFault.{TextFault}
 use Rattle.store.specs.Connected.{Connected}
 use Rattle.store.specs.Books.{HoldsBooks}
-use Rattle.house.specs.House.{RunsTo, LeavesBooks}
+use Rattle.house.specs.House.{Step, Run, LeavesBooks}
+use Rattle.house.specs.Keeping.{KeepsOn}
 use Rattle.house.specs.Serving.{HasLine, IsLogged, IsServedAndLogged}
-use Rattle.house.proofs.Running.{run_none, run_step}
+use Rattle.house.specs.declared.keeping.KeepFault.{KeepFault}
+use Rattle.house.proofs.Running.{one_more, run_none, told_more}
+use Rattle.house.proofs.Stepping.{leaves_more}
+use Rattle.wire.specs.Logging.{log_line}
 use Rattle.wire.specs.declared.serving.ServeFault.{ServeFault}
 use Rattle.wire.specs.declared.serving.ServeFault.TheVariants.{Read, Write}
-use Rattle.service.specs.Serving.{AreLogged, GoesOn, HasLines, HasLogged, KeepsLogged}
+use Rattle.service.specs.Serving.{AreLogged, HasLines, HasLogged, KeepsLogged}
+use Rattle.service.specs.Kept.{AreKept, GoesOnKept, HasKept, IsKeptTo, end_after}
+use Rattle.service.specs.declared.serve.Stopped.{Stopped}
+use Rattle.service.specs.declared.serve.Stopped.TheVariants.{Log, Unkept}
 
 module _ {E : Type 0} where
   -- nothing was served, and nothing logged
@@ -32,6 +41,21 @@ module _ {E : Type 0} where
     },
     λ it. none_are_logged end log,
   )
+
+-- a whole line is a beginning of it, and none too
+line_begun : (old new : Option (List ℕ)) (text bytes : List ℕ) → HasLine old new text bytes → AppendsBeginning old new (log_line text bytes)
+line_begun old new text bytes (inl whole) = record {
+  front = log_line text bytes;
+  rest = [];
+  parts = sym (append-nil (log_line text bytes));
+  written = whole;
+}
+line_begun old new text bytes (inr none) = record {
+  front = [];
+  rest = log_line text bytes;
+  parts = refl;
+  written = none.1;
+}
 
 -- one line more
 more_lines : (old mid new : Option (List ℕ)) (texts answers : List (List ℕ)) (text bytes : List ℕ) → HasLines old mid texts answers → HasLine mid new text bytes
@@ -59,47 +83,160 @@ more_logged (Err fault) old mid new texts answers text bytes was h = inr (
     }
     )
 
-module _ {S E : Type 0} (g : Ghosts S) (first : ℤ) (acts : List Act) where
-  module _ (n : ℕ) (was mid new : Connected S) (end : Result Unit E) (old between last : Option (List ℕ)) where
-    on_by : (r : HasLogged {E = E} g first acts n was mid true (Ok tt) old between) → GoesOn g first r.0.runs.after mid new end between last → HasLogged g first acts (n + 1) was new true end old last
-    on_by r (inl same) = (
+module _ {S K : Type 0} (g : Ghosts S) (keeps begins : K → ℤ → List Act → Type 0) (first : ℤ) (acts : List Act) where
+  -- before the first text
+  pub none_kept : (n : ℕ) (books : Connected S) (asked : Bool) (log : Option (List ℕ)) (keeper : K) → IsHistory first acts → HoldsBooks g first acts books
+      → HasKept g keeps begins first acts n books books asked (Ok tt) log log keeper keeper
+  none_kept n books asked log keeper history holds = (
+    (
       record {
-        texts = r.0.texts;
-        answers = r.0.answers;
-        few = omega (arith, r.0.few);
-        runs = subst (λ b. RunsTo g first acts r.0.texts r.0.answers was b) (sym same.0) r.0.runs;
+        texts = [];
+        answers = [];
+        few = omega arith;
+        runs = record {
+          after = acts;
+          run = refl;
+          history = history;
+          holds = holds;
+          kept = λ told leaves. leaves_more first acts told [] (state g books.conn) leaves;
+        };
       },
-      λ asked. subst (λ e. AreLogged e old last r.0.texts r.0.answers) (sym same.2) (subst (λ o. HasLines old o r.0.texts r.0.answers) (sym same.1) (r.1 asked)),
+      λ it. refl,
+    ),
+    λ begun kept. kept,
+  )
+
+  -- and where nobody is served at all
+  pub none_stopped : (n : ℕ) (books : Connected S) (asked : Bool) (log : Option (List ℕ)) (keeper : K) → IsHistory first acts → HoldsBooks g first acts books
+      → HasKept g keeps begins first acts n books books asked (Err Log) log log keeper keeper
+  none_stopped n books asked log keeper history holds = (
+    (
+      record {
+        texts = [];
+        answers = [];
+        few = omega arith;
+        runs = record {
+          after = acts;
+          run = refl;
+          history = history;
+          holds = holds;
+          kept = λ told leaves. leaves_more first acts told [] (state g books.conn) leaves;
+        };
+      },
+      λ it. inl (refl, refl),
+    ),
+    λ begun kept. kept,
+  )
+
+  module _ (n : ℕ) (was mid new : Connected S) (end : Result Unit Stopped) (old between last : Option (List ℕ)) (before then after : K) where
+    -- one step more
+    kept_on : (e : Result Unit Stopped) (begun : ℤ) (texts answers : List (List ℕ)) (text bytes : List ℕ) (so_far all : List Act) → Run first acts texts answers so_far → Step first so_far text bytes all
+        → IsKeptTo g keeps begins first so_far e begun all after → AreKept g keeps begins first acts e begun (texts ++ text ∷ []) (answers ++ bytes ∷ []) all after
+    kept_on (Ok done) begun texts answers text bytes so_far all run step kept = kept
+    kept_on (Err Log) begun texts answers text bytes so_far all run step kept = kept
+    kept_on (Err (Unkept fault)) begun texts answers text bytes so_far all run step kept = record {
+      earlier_texts = texts;
+      earlier_answers = answers;
+      text = text;
+      bytes = bytes;
+      texts_are = refl;
+      answers_are = refl;
+      before = so_far;
+      run = run;
+      step = step;
+      left = kept;
+    }
+
+    -- none
+    still : (e : Result Unit Stopped) (begun : ℤ) (texts answers : List (List ℕ)) (all : List Act) → e ≡ Ok tt → after ≡ then → keeps then begun all → AreKept g keeps begins first acts e begun texts answers all after
+    still e begun texts answers all whole same kept =
+        subst (λ x. AreKept g keeps begins first acts x begun texts answers all after) (sym whole) (subst (λ k. keeps k begun all) (sym same) kept)
+
+    on_by : (r : HasKept g keeps begins first acts n was mid true (Ok tt) old between before then) → GoesOnKept g keeps begins first r.0.0.runs.after mid new end between last then after
+        → HasKept g keeps begins first acts (n + 1) was new true end old last before after
+    on_by r (inl same) = (
+      (
+        record {
+          texts = r.0.0.texts;
+          answers = r.0.0.answers;
+          few = omega (arith, r.0.0.few);
+          runs = record {
+            after = r.0.0.runs.after;
+            run = r.0.0.runs.run;
+            history = r.0.0.runs.history;
+            holds = subst (HoldsBooks g first r.0.0.runs.after) (sym same.0) r.0.0.runs.holds;
+            kept = λ told leaves. subst (λ b. LeavesBooks first r.0.0.runs.after (told ++ zip r.0.0.texts r.0.0.answers) (state g b.conn)) (sym same.0) (r.0.0.runs.kept told leaves);
+          };
+        },
+        λ asked. subst (λ e. AreLogged e old last r.0.0.texts r.0.0.answers) (sym same.2) (subst (λ o. HasLines old o r.0.0.texts r.0.0.answers) (sym same.1) (r.0.1 asked)),
+      ),
+      λ begun kept. still end begun r.0.0.texts r.0.0.answers r.0.0.runs.after same.2 same.3 (r.1 begun kept),
     )
     on_by r (inr step) =
-        let len = length-append r.0.texts (step.0 ∷ []) in (
-          record {
-            texts = r.0.texts ++ step.0 ∷ [];
-            answers = r.0.answers ++ step.1 ∷ [];
-            few = omega (arith, r.0.few, len);
-            runs = run_step g first acts r.0.texts r.0.answers was mid new step.0 step.1 r.0.runs step.2;
-          },
-          λ asked. more_logged end old between last r.0.texts r.0.answers step.0 step.1 (r.1 asked) step.3,
+        let len = length-append r.0.0.texts (step.0 ∷ []) in (
+          (
+            record {
+              texts = r.0.0.texts ++ step.0 ∷ [];
+              answers = r.0.0.answers ++ step.1 ∷ [];
+              few = omega (arith, r.0.0.few, len);
+              runs = record {
+                after = step.2.after;
+                run = one_more first acts r.0.0.texts r.0.0.answers r.0.0.runs.after step.0 step.1 step.2.after r.0.0.runs.run step.2.step;
+                history = step.2.history;
+                holds = step.2.holds;
+                kept = λ told leaves.
+                    subst (λ l. LeavesBooks first step.2.after l (state g new.conn))
+                    (append_assoc told (zip r.0.0.texts r.0.0.answers) ((step.0, step.1) ∷ [])
+                    ∙ ap (λ l. told ++ l) (sym (told_more first acts r.0.0.texts r.0.0.answers r.0.0.runs.after step.0 step.1 r.0.0.runs.run)))
+                    (step.2.kept (told ++ zip r.0.0.texts r.0.0.answers) (r.0.0.runs.kept told leaves));
+              };
+            },
+            λ asked. more_logged end old between last r.0.0.texts r.0.0.answers step.0 step.1 (r.0.1 asked) step.3,
+          ),
+          λ begun kept. kept_on end begun r.0.0.texts r.0.0.answers step.0 step.1 r.0.0.runs.after step.2.after r.0.0.runs.run step.2.step (step.4 begun (r.1 begun kept)),
         )
 
     -- one connection more
-    pub one_served : HasLogged {E = E} g first acts n was mid true (Ok tt) old between → ((a : List Act) → IsHistory first a → HoldsBooks g first a mid → GoesOn g first a mid new end between last)
-        → HasLogged g first acts (n + 1) was new true end old last
-    one_served r f = on_by r (f r.0.runs.after r.0.runs.history r.0.runs.holds)
+    pub one_served : HasKept g keeps begins first acts n was mid true (Ok tt) old between before then
+        → ((a : List Act) → IsHistory first a → HoldsBooks g first a mid → GoesOnKept g keeps begins first a mid new end between last then after)
+        → HasKept g keeps begins first acts (n + 1) was new true end old last before after
+    one_served r f = on_by r (f r.0.0.runs.after r.0.0.runs.history r.0.0.runs.holds)
 
   -- a run over fewer texts is one over as many at most
-  pub at_most : (n max : ℕ) (was books : Connected S) (asked : Bool) (end : Result Unit E) (old new : Option (List ℕ)) → n ≤ max → HasLogged g first acts n was books asked end old new
-      → HasLogged g first acts max was books asked end old new
-  at_most n max was books asked end old new less r = (
-    record {
-      texts = r.0.texts;
-      answers = r.0.answers;
-      few = omega (arith, r.0.few, less);
-      runs = r.0.runs;
-    },
+  pub at_most : (n max : ℕ) (was books : Connected S) (asked : Bool) (end : Result Unit Stopped) (old new : Option (List ℕ)) (before after : K) → n ≤ max
+      → HasKept g keeps begins first acts n was books asked end old new before after → HasKept g keeps begins first acts max was books asked end old new before after
+  at_most n max was books asked end old new before after less r = (
+    (
+      record {
+        texts = r.0.0.texts;
+        answers = r.0.0.answers;
+        few = omega (arith, r.0.0.few, less);
+        runs = r.0.0.runs;
+      },
+      r.0.1,
+    ),
     r.1,
   )
 
+  and_so : (kept : Result Unit KeepFault) (logged : Result Unit TextFault) → kept ≡ Ok tt → logged ≡ Ok tt → end_after kept logged ≡ Ok tt
+  and_so kept logged all whole = subst (λ k. end_after k logged ≡ Ok tt) (sym all) (subst (λ l. end_after (Ok tt) l ≡ Ok tt) (sym whole) refl)
+
+  module _ (was books : Connected S) (old new : Option (List ℕ)) (before after : K) where
+    -- what was read and done is one step, which is kept or not
+    pub goes_on : (kept : Result Unit KeepFault) (logged : Result Unit TextFault) (from to : Option (List ℕ)) (W : List ℕ → Type 0) (s : IsServedAndLogged g first acts from to was books W logged old new)
+        → KeepsOn keeps before after acts s.0.steps.after kept → OnErr kept ((begun : ℤ) (all : List Act) → keeps before begun all → begins after begun all)
+        → GoesOnKept g keeps begins first acts was books (end_after kept logged) old new before after
+    goes_on (Ok done) (Ok line) from to W s on off = inr (s.0.text, s.0.bytes, s.0.steps, s.1, on)
+    goes_on (Ok done) (Err cut) from to W s on off = inr (s.0.text, s.0.bytes, s.0.steps, s.1, on)
+    goes_on (Err fault) (Ok line) from to W s on off = inr (s.0.text, s.0.bytes, s.0.steps, line_begun old new s.0.text s.0.bytes s.1, λ begun kept. off begun acts kept)
+    goes_on (Err fault) (Err cut) from to W s on off = inr (s.0.text, s.0.bytes, s.0.steps, s.1, λ begun kept. off begun acts kept)
+
+    -- nothing was read
+    pub stays : (kept : Result Unit KeepFault) (logged : Result Unit TextFault) → books ≡ was → new ≡ old → after ≡ before → logged ≡ Ok tt → kept ≡ Ok tt
+        → GoesOnKept g keeps begins first acts was books (end_after kept logged) old new before after
+    stays kept logged same quiet still whole all = inl (same, quiet, and_so kept logged all whole, still)
+
+module _ {S E : Type 0} (g : Ghosts S) (first : ℤ) (acts : List Act) where
   -- a connection that a house was closed over
   pub keeps_logged : (max : ℕ) (was books : Connected S) (conn : Held S) → conn ≡ books.conn → LeavesBooks first acts [] (state g was.conn)
       → (asked : Bool) (end : Result Unit E) (old new : Option (List ℕ)) → HasLogged g first acts max was books asked end old new → KeepsLogged g first acts max conn asked end old new
@@ -118,14 +255,8 @@ module _ {S E : Type 0} (g : Ghosts S) (first : ℤ) (acts : List Act) where
         r.1,
       )
 
-  module _ (was books : Connected S) (logged : Result Unit E) (old new : Option (List ℕ)) where
-    -- what was read and answered is one step
-    pub goes_on : (from to : Option (List ℕ)) (W : List ℕ → Type 0) → IsServedAndLogged g first acts from to was books W logged old new → GoesOn g first acts was books logged old new
-    goes_on from to W s = inr (s.0.text, s.0.bytes, s.0.steps, s.1)
-
-    -- where nothing was read the books and the log are as they were
-    pub read_or_not : (r : Result Unit ServeFault) → (r ≢ Err Read → GoesOn g first acts was books logged old new) → (r ≡ Err Read → (books ≡ was) × (new ≡ old) × (logged ≡ Ok tt))
-        → GoesOn g first acts was books logged old new
-    read_or_not (Ok done) step none = step (search rules)
-    read_or_not (Err Write) step none = step (search rules)
-    read_or_not (Err Read) step none = inl (none refl)
+-- a reader that failed, or not
+pub read_or_not : {X : Type 0} (r : Result Unit ServeFault) → (r ≢ Err Read → X) → (r ≡ Err Read → X) → X
+read_or_not (Ok done) step none = step (search rules)
+read_or_not (Err Write) step none = step (search rules)
+read_or_not (Err Read) step none = none refl

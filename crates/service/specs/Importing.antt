@@ -13,13 +13,14 @@ use Rattle.goodsin.specs.Files.{file_read}
 use Rattle.goodsin.specs.declared.fault.FileFault.{FileFault}
 use Rattle.goodsin.specs.declared.fault.FileFault.TheVariants.{Reader, Memory}
 use Rattle.store.specs.Connected.{Connected}
-use Rattle.store.specs.Books.{HoldsBooks, KeepsBooks, LeavesOnly}
+use Rattle.sqlite.specs.Tree.{Trees}
+use Rattle.store.specs.Books.{AreBooks, HoldsBooks, KeepsBooks, LeavesOnly}
 use Rattle.store.specs.Filing.{rows_of, taken}
 use Rattle.store.specs.declared.tally.Tally.{Tally}
 use Rattle.store.specs.declared.tally.RowFault.{RowFault}
 use Rattle.store.specs.declared.tally.RowFault.TheVariants.{Refused, Store as StoreRow, Foreign as ForeignRow}
 use Rattle.command_line.specs.declared.fault.Fault.{Fault}
-use Rattle.command_line.specs.declared.fault.Fault.TheVariants.{Usage, Label, File, Row, Refused as RefusedText, Audit, Apply, Value, Io, Store, Foreign}
+use Rattle.command_line.specs.declared.fault.Fault.TheVariants.{Usage, Label, File, Row, Refused as RefusedText, Audit, Apply, Acts, Value, Io, Store, Foreign}
 
 -- what is printed
 abbrev pub tally_line : ℕ → ℕ → List ℕ
@@ -35,6 +36,11 @@ pub record HasRows (first : ℤ) (acts : List Act) (rows : List Act) (s : State)
 -- the connection keeps the books of the acts after some file, or of the acts
 abbrev pub KeepsFile : {S : Type 0} → Ghosts S → ℤ → List Act → Held S → Type 0
 KeepsFile g first acts conn = ((rows : List Act) × HasRows first acts rows (state g conn)) ⊎ KeepsBooks first acts (state g conn)
+
+-- whatever a stop leaves has the acts, or those after some file
+abbrev pub LeavesFile : ℤ → List Act → State → Type 0
+LeavesFile first acts s = (trees : Trees) → s.may_leave trees
+    → AreBooks first acts trees ⊎ ((rows : List (Key × Command)) × IsHistory first (acts_after_file first acts (rows_of rows)) × AreBooks first (acts_after_file first acts (rows_of rows)) trees)
 
 -- how the rows of a file went, as the line tells it
 abbrev pub IsToldOfFile : Result Tally RowFault → Result Tally Fault → Type 0
@@ -67,6 +73,7 @@ module _ {S : Type 0} (g : Ghosts S) (first : ℤ) (acts : List Act) (from : Opt
   IsTakenIn (Err (RefusedText why)) new = ⊥
   IsTakenIn (Err (Audit fault)) new = ⊥
   IsTakenIn (Err (Apply fault)) new = ⊥
+  IsTakenIn (Err Acts) new = ⊥
   IsTakenIn (Err Value) new = ⊥
 
   -- the same, and the tally is printed; where it could not be, the file is taken in all the same; a file that is not taken in prints nothing
@@ -80,6 +87,7 @@ module _ {S : Type 0} (g : Ghosts S) (first : ℤ) (acts : List Act) (from : Opt
   IsImported (Err (RefusedText why)) new old_out new_out = ⊥
   IsImported (Err (Audit fault)) new old_out new_out = ⊥
   IsImported (Err (Apply fault)) new old_out new_out = ⊥
+  IsImported (Err Acts) new old_out new_out = ⊥
   IsImported (Err Value) new old_out new_out = ⊥
   IsImported (Err Store) new old_out new_out = HoldsBooks g first acts new × (new_out ≡ old_out)
   IsImported (Err Foreign) new old_out new_out = ⊥

@@ -1,4 +1,5 @@
 pub mod Serving
+pub mod Kept
 pub mod Importing
 pub mod Printing
 pub mod Lending

@@ -10,15 +10,10 @@ use Rattle.store.specs.Connected.{Connected}
 use Rattle.store.specs.Books.{KeepsBooks}
 use Rattle.texts.specs.Writing.{AppendsBeginning}
 use Rattle.wire.specs.Logging.{log_line}
-use Rattle.house.specs.House.{Run, StepsTo, RunsTo, LeavesBooks}
-use Rattle.house.specs.Serving.{HasLine, IsLogged}
+use Rattle.house.specs.House.{Run, RunsTo, LeavesBooks}
+use Rattle.house.specs.Serving.{HasLine}
 use Rattle.command_line.specs.declared.fault.Fault.{Fault}
 use Rattle.command_line.specs.declared.fault.Fault.TheVariants.{Io}
-
--- the books and the log are as they were, or one step over some text further; `logged` says whether the log took its line
-abbrev pub GoesOn : {S E : Type 0} → Ghosts S → ℤ → List Act → Connected S → Connected S → (logged : Result Unit E) → (old new : Option (List ℕ)) → Type 0
-GoesOn g first acts was books logged old new =
-    ((books ≡ was) × (new ≡ old) × (logged ≡ Ok tt)) ⊎ ((text : List ℕ) × (bytes : List ℕ) × StepsTo g first acts text bytes was books × IsLogged logged old new text bytes)
 
 -- the books are those of the acts after a run over so many texts at most
 pub record HasServed {S : Type 0} (g : Ghosts S) (first : ℤ) (acts : List Act) (max : ℕ) (was books : Connected S) : Type 0 where

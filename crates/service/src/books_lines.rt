@@ -211,7 +211,7 @@ fn serve_port<S: Alter + Drop, W: Write, L: Write>(
 }
 
 /// Tells that the port is answered.
-fn tell_port<W: Write>(port: u16, out: &mut W) -> io::Result<()>
+pub fn tell_port<W: Write>(port: u16, out: &mut W) -> io::Result<()>
     ensures { OnOk result (Appends (W.contents out.old) (W.contents out.new) (told_port port)) }
 {
     writeln!(out, "listening on 127.0.0.1:{port}")?;

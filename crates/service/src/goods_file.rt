@@ -2,10 +2,11 @@
 
 ghost use Rattle.std.specs.Prelude.{ℤ, List, OnOk};
 ghost use Rattle.std.specs.Io.KnownBytes.{Appends};
+ghost use Rattle.sqlite.specs.Held.{state};
 ghost use Rattle.machine.specs.Acts.{Act};
 ghost use Rattle.machine.specs.Once.{IsHistory};
-ghost use Rattle.store.specs.Books.{IsClean, HoldsBooks};
-ghost use Rattle.service.specs.Importing.{IsTakenIn, IsToldOfFile, IsImported, IsFileImported, tally_line};
+ghost use Rattle.store.specs.Books.{IsClean, HoldsBooks, LeavesOnly};
+ghost use Rattle.service.specs.Importing.{IsTakenIn, IsToldOfFile, IsImported, IsFileImported, LeavesFile, tally_line};
 
 use command_line::{Fault, FilesAt};
 use goodsin::read_file;
@@ -50,8 +51,8 @@ pub fn import<S: Alter, R: Read + Drop, W: Write>(
     Ok(())
 }
 
-/// Takes in the rows of a goods-in file, all or none.
-fn take_in<S: Alter, R: Read + Drop>(
+/// Takes in the rows of a goods-in file, all or none, and prints nothing.
+pub fn take_in<S: Alter, R: Read + Drop>(
     alloc: Global,
     books: &mut Books<S>,
     file: R,
@@ -59,6 +60,8 @@ fn take_in<S: Alter, R: Read + Drop>(
     ensures clean { IsClean S.Store books.new → IsClean S.Store books.old }
     ensures taken { IsClean S.Store books.new → (first : ℤ) (acts : List Act) → IsHistory first acts → HoldsBooks S.Store first acts books.old
         → IsTakenIn S.Store first acts (R.remaining file) result books.new }
+    ensures leaves { IsClean S.Store books.new → (first : ℤ) (acts : List Act) → IsHistory first acts → HoldsBooks S.Store first acts books.old
+        → LeavesOnly first acts (state S.Store books.old.conn) → LeavesFile first acts (state S.Store books.new.conn) }
 {
     let today = books.day();
     match read_file(alloc, file, today) {
@@ -84,7 +87,8 @@ fn import_result(done: Result<Tally, RowFault>) -> Result<Tally, Fault>
     }
 }
 
-fn tell_tally<W: Write>(tally: Tally, out: &mut W) -> io::Result<()>
+/// Prints how many rows were accepted and how many repeated.
+pub fn tell_tally<W: Write>(tally: Tally, out: &mut W) -> io::Result<()>
     ensures { OnOk result (Appends (W.contents out.old) (W.contents out.new) (tally_line tally.accepted tally.repeated)) }
 {
     let Tally { accepted, repeated } = tally;

@@ -10,7 +10,7 @@ mod serve;
 mod timed;
 
 pub use acts_text::open_and_print_acts;
-pub use books_lines::{Sheet, open_and_import, open_and_print, open_and_serve};
-pub use goods_file::import;
+pub use books_lines::{Sheet, open_and_import, open_and_print, open_and_serve, tell_port};
+pub use goods_file::{import, take_in, tell_tally};
 pub use lot_texts::{print_card, print_notice};
-pub use serve::{serve_logged, serve_on};
+pub use serve::{Stopped, serve_kept, serve_kept_if, serve_logged, serve_on};

@@ -3,10 +3,11 @@ ghost use Rattle.machine.specs.Acts.{Act};
 ghost use Rattle.machine.specs.Once.{IsHistory};
 ghost use Rattle.store.specs.Books.{IsClean, HoldsBooks};
 ghost use Rattle.house.specs.House.{books_of};
-ghost use Rattle.service.specs.Serving.{GoesOn, HasServed, HasLogged};
+ghost use Rattle.service.specs.Serving.{HasServed, HasLogged};
+ghost use Rattle.service.specs.Kept.{GoesOnKept, HasKept, end_after};
 
 use crate::timed::Timed;
-use house::{House, Served};
+use house::{House, KeepFault, Keeper, NoKeeper, Served};
 use sqlite::Alter;
 use std::io::{self, Read, Write};
 use std::net::{Shutdown, TcpListener, TcpStream};
@@ -40,6 +41,15 @@ pub fn serve_on<C: Clock, S: Alter + Drop>(
     let _ = serve_logged(clock, listener, house, max, &mut io::sink());
 }
 
+/// Why the serving of connections ended before all were answered.
+#[derive(Clone, Copy, PartialEq, Eq, Debug)]
+pub enum Stopped {
+    /// The log takes no more. The last client has its answer.
+    Log,
+    /// What was done for the last client could not be kept. It got no byte of an answer.
+    Unkept(KeepFault),
+}
+
 /// The same, and the log has the line of each text of the run. Where it takes no more the fault is `TextFault`: the client
 /// whose line was cut has its answer, and nobody is served after it.
 pub fn serve_logged<C: Clock, S: Alter + Drop, L: Write>(
@@ -54,13 +64,57 @@ pub fn serve_logged<C: Clock, S: Alter + Drop, L: Write>(
         → (first : ℤ) (acts : List Act) → IsHistory first acts → HoldsBooks S.Store first acts (books_of house.old)
         → HasLogged S.Store first acts max (books_of house.old) (books_of house.new) true result (L.contents log.old) (L.contents log.new) }
 {
+    match serve_kept(clock, listener, house, max, log, &mut NoKeeper) {
+        Ok(()) => Ok(()),
+        Err(_) => Err(TextFault),
+    }
+}
+
+/// The same, and what a request did is kept before a byte of its answer is written. Where it cannot be kept, the fault is
+/// `Unkept`: the client got nothing, and nobody is served after it.
+pub fn serve_kept<C: Clock, S: Alter + Drop, L: Write, K: Keeper<S>>(
+    clock: &C,
+    listener: &TcpListener,
+    house: &mut House<S>,
+    max: u32,
+    log: &mut L,
+    keeper: &mut K,
+) -> Result<(), Stopped>
+    ensures clean { IsClean S.Store (books_of house.new) → IsClean S.Store (books_of house.old) }
+    ensures served { IsClean S.Store (books_of house.new)
+        → (first : ℤ) (acts : List Act) → IsHistory first acts → HoldsBooks S.Store first acts (books_of house.old)
+        → HasKept S.Store K.keeps K.begins first acts max (books_of house.old) (books_of house.new) true result (L.contents log.old) (L.contents log.new) keeper.old keeper.new }
+{
     for _ in 0..max {
-        serve_next(clock, listener, house, log)?;
+        serve_next(clock, listener, house, log, keeper)?;
     }
     Ok(())
 }
 
-/// The one or the other.
+/// The same, with a log or without.
+pub fn serve_kept_if<C: Clock, S: Alter + Drop, L: Write, K: Keeper<S>>(
+    clock: &C,
+    logged: bool,
+    listener: &TcpListener,
+    house: &mut House<S>,
+    max: u32,
+    log: &mut L,
+    keeper: &mut K,
+) -> Result<(), Stopped>
+    ensures clean { IsClean S.Store (books_of house.new) → IsClean S.Store (books_of house.old) }
+    ensures served { IsClean S.Store (books_of house.new)
+        → (first : ℤ) (acts : List Act) → IsHistory first acts → HoldsBooks S.Store first acts (books_of house.old)
+        → HasKept S.Store K.keeps K.begins first acts max (books_of house.old) (books_of house.new) logged result (L.contents log.old) (L.contents log.new) keeper.old keeper.new }
+    ensures quiet { logged ≡ false → log.new ≡ log.old }
+{
+    if logged {
+        serve_kept(clock, listener, house, max, log, keeper)
+    } else {
+        serve_kept(clock, listener, house, max, &mut io::sink(), keeper)
+    }
+}
+
+/// With a log or without, and nothing is kept.
 pub(crate) fn serve_logged_if<C: Clock, S: Alter + Drop, L: Write>(
     clock: &C,
     logged: bool,
@@ -84,36 +138,38 @@ pub(crate) fn serve_logged_if<C: Clock, S: Alter + Drop, L: Write>(
 }
 
 /// Waits for the next connection and answers it.
-fn serve_next<C: Clock, S: Alter + Drop, L: Write>(
+fn serve_next<C: Clock, S: Alter + Drop, L: Write, K: Keeper<S>>(
     clock: &C,
     listener: &TcpListener,
     house: &mut House<S>,
     log: &mut L,
-) -> Result<(), TextFault>
+    keeper: &mut K,
+) -> Result<(), Stopped>
     ensures clean { IsClean S.Store (books_of house.new) → IsClean S.Store (books_of house.old) }
     ensures step { IsClean S.Store (books_of house.new)
         → (first : ℤ) (acts : List Act) → IsHistory first acts → HoldsBooks S.Store first acts (books_of house.old)
-        → GoesOn S.Store first acts (books_of house.old) (books_of house.new) result (L.contents log.old) (L.contents log.new) }
+        → GoesOnKept S.Store K.keeps K.begins first acts (books_of house.old) (books_of house.new) result (L.contents log.old) (L.contents log.new) keeper.old keeper.new }
 {
     if let Ok((stream, _)) = listener.accept() {
         if let Ok(start) = Instant::now(clock) {
-            return serve_stream(clock, start, &stream, house, log);
+            return serve_stream(clock, start, &stream, house, log, keeper);
         }
     }
     Ok(())
 }
 
-fn serve_stream<C: Clock, S: Alter + Drop, L: Write>(
+fn serve_stream<C: Clock, S: Alter + Drop, L: Write, K: Keeper<S>>(
     clock: &C,
     start: Instant,
     stream: &TcpStream,
     house: &mut House<S>,
     log: &mut L,
-) -> Result<(), TextFault>
+    keeper: &mut K,
+) -> Result<(), Stopped>
     ensures clean { IsClean S.Store (books_of house.new) → IsClean S.Store (books_of house.old) }
     ensures step { IsClean S.Store (books_of house.new)
         → (first : ℤ) (acts : List Act) → IsHistory first acts → HoldsBooks S.Store first acts (books_of house.old)
-        → GoesOn S.Store first acts (books_of house.old) (books_of house.new) result (L.contents log.old) (L.contents log.new) }
+        → GoesOnKept S.Store K.keeps K.begins first acts (books_of house.old) (books_of house.new) result (L.contents log.old) (L.contents log.new) keeper.old keeper.new }
 {
     let mut reader = Timed {
         stream,
@@ -127,11 +183,27 @@ fn serve_stream<C: Clock, S: Alter + Drop, L: Write>(
         start,
         seconds: ANSWERED_SECONDS,
     };
-    let Served { answered, logged } = house.serve_logged(&mut reader, &mut writer, log);
+    let served = house.serve_kept(&mut reader, &mut writer, log, keeper);
+    end_answer(&mut reader, served)
+}
+
+/// Ends the answer, where one was taken, and tells whether the next connection may be answered.
+fn end_answer<C: Clock>(reader: &mut Timed<'_, C>, served: Served) -> Result<(), Stopped>
+    ensures { result ≡ end_after served.kept served.logged }
+{
+    let Served {
+        answered,
+        logged,
+        kept,
+    } = served;
     if let Ok(()) = answered {
-        read_to_the_end(&mut reader);
+        read_to_the_end(reader);
     }
-    logged
+    match (kept, logged) {
+        (Err(fault), _) => Err(Stopped::Unkept(fault)),
+        (Ok(()), Err(_)) => Err(Stopped::Log),
+        (Ok(()), Ok(())) => Ok(()),
+    }
 }
 
 /// A stream that is closed while its client still sends is reset, and the client may lose the answer.

@@ -28,10 +28,11 @@ enum End {
     Lacks(u64),
     Line(u64),
     RefusedAct(u64, Refusal),
+    Acts,
 }
 
 // What a line has to hand on: the file, and the first day of the books, the goods-in file, or the port and how many
-// connections. The side of the books prints a line and ends so; where something else is handed on, it ends with the
+// connections, with the file of the acts. The side of the books prints a line and ends so; where something else is handed on, it ends with the
 // fault of a value.
 struct Awaited {
     db: &'static str,
@@ -59,6 +60,22 @@ fn is_audit_word(given: Option<BusinessDay>, word: &str) -> bool {
     }
 }
 
+// The word of a server is the file of the acts, and empty where it has none.
+fn is_acts_word(acts: Option<&str>, word: &str) -> bool {
+    match acts {
+        Some(acts) => acts == word,
+        None => word == "",
+    }
+}
+
+// The goods-in file, and after a space the file of the acts, where there is one.
+fn is_import_word(file: &str, acts: Option<&str>, word: &str) -> bool {
+    match word.split_once(" ") {
+        Some((goods, rest)) => file == goods && acts == Some(rest),
+        None => file == word && acts.is_none(),
+    }
+}
+
 // A row of a table differs, or a value of it is none.
 fn differs(table: &str, key: Option<&str>) -> Fault {
     let Some(table) = Text::new(table.as_bytes()) else {
@@ -77,8 +94,13 @@ impl Awaited {
     fn is_this(&self, db: &str, work: &Work<'_>) -> bool {
         let same = match work {
             Work::Make(day) => day.day().text().as_slice() == self.word.as_bytes(),
-            Work::Import { file } => *file == self.word,
-            Work::Serve { port, max, log: _ } => *port == self.port && *max == self.max,
+            Work::Import { file, acts } => is_import_word(file, *acts, self.word),
+            Work::Serve {
+                port,
+                max,
+                log: _,
+                acts,
+            } => *port == self.port && *max == self.max && is_acts_word(*acts, self.word),
             Work::Card(lot) | Work::Notice(lot) => is_lot_word(*lot, self.word),
             Work::History => self.word == "history",
             Work::Audit(given) => is_audit_word(*given, self.word),
@@ -104,6 +126,7 @@ impl Awaited {
             End::Lacks(act) => Err(Fault::Apply(ApplyFault::Lacks { act })),
             End::Line(line) => Err(Fault::Apply(ApplyFault::Line { line })),
             End::RefusedAct(act, refusal) => Err(Fault::Apply(ApplyFault::Act { act, refusal })),
+            End::Acts => Err(Fault::Acts),
         }
     }
 }
@@ -139,7 +162,7 @@ struct Handed {
     told: &'static str,
 }
 
-static HANDED_ON: [Handed; 37] = [
+static HANDED_ON: [Handed; 43] = [
     Handed {
         words: &["lotd", "init", "--db", "stock.db", "--day", "2026-05-04"],
         to: Awaited {
@@ -623,6 +646,139 @@ static HANDED_ON: [Handed; 37] = [
         },
         status: 1,
         told: "lotd: Q02 act 17\n",
+    },
+    // The file of the acts stands before the other words, between them or behind them.
+    Handed {
+        words: &[
+            "lotd",
+            "serve",
+            "--acts",
+            "stock.acts",
+            "--db",
+            "stock.db",
+            "--port",
+            "8080",
+            "--max",
+            "2000",
+        ],
+        to: Awaited {
+            db: "stock.db",
+            word: "stock.acts",
+            port: 8080,
+            max: 2000,
+            end: End::Done,
+        },
+        status: 0,
+        told: "",
+    },
+    Handed {
+        words: &[
+            "lotd",
+            "serve",
+            "--db",
+            "stock.db",
+            "--log",
+            "--acts=/mnt/acts/stock.acts",
+            "--port",
+            "8080",
+            "--max",
+            "2000",
+        ],
+        to: Awaited {
+            db: "stock.db",
+            word: "/mnt/acts/stock.acts",
+            port: 8080,
+            max: 2000,
+            end: End::Acts,
+        },
+        status: 1,
+        told: "GET /orders/S-1 404 105\nlotd: acts\n",
+    },
+    Handed {
+        words: &[
+            "lotd",
+            "serve",
+            "--db",
+            "stock.db",
+            "--port",
+            "8080",
+            "--max",
+            "2000",
+            "--acts",
+            "stock.acts",
+        ],
+        to: Awaited {
+            db: "stock.db",
+            word: "stock.acts",
+            port: 8080,
+            max: 2000,
+            end: End::OtherAct(17),
+        },
+        status: 1,
+        told: "lotd: differs act 17\n",
+    },
+    Handed {
+        words: &[
+            "lotd",
+            "serve",
+            "--db",
+            "stock.db",
+            "--port",
+            "8080",
+            "--max",
+            "2000",
+            "--acts",
+            "stock.acts",
+        ],
+        to: Awaited {
+            db: "stock.db",
+            word: "stock.acts",
+            port: 8080,
+            max: 2000,
+            end: End::Lacks(17),
+        },
+        status: 1,
+        told: "lotd: lacks act 17\n",
+    },
+    Handed {
+        words: &[
+            "lotd",
+            "import",
+            "--acts",
+            "stock.acts",
+            "--db",
+            "stock.db",
+            "goods.csv",
+        ],
+        to: Awaited {
+            db: "stock.db",
+            word: "goods.csv stock.acts",
+            port: 0,
+            max: 0,
+            end: End::Done,
+        },
+        status: 0,
+        told: "",
+    },
+    Handed {
+        words: &[
+            "lotd",
+            "import",
+            "--db",
+            "stock.db",
+            "goods.csv",
+            "--acts",
+            "stock.acts",
+        ],
+        to: Awaited {
+            db: "stock.db",
+            word: "goods.csv stock.acts",
+            port: 0,
+            max: 0,
+            end: End::Acts,
+        },
+        status: 1,
+        told: "lotd: acts\n",
     },
 ];
 

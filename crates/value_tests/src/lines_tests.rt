@@ -99,7 +99,8 @@ fn answer(alloc: Global, words: &[&str]) -> (u8, bool, bool) {
     (status, !printed.is_empty(), !told.is_empty())
 }
 
-static HELP: [&[&str]; 9] = [
+static HELP: [&[&str]; 10] = [
+    &["lotd", "serve", "--help"],
     &["lotd", "card", "--help"],
     &["lotd", "notice", "--help"],
     &["lotd", "import", "--help"],
@@ -111,7 +112,7 @@ static HELP: [&[&str]; 9] = [
     &["lotd", "label", "--help"],
 ];
 
-static MISUSE: [&[&str]; 20] = [
+static MISUSE: [&[&str]; 25] = [
     &["lotd", "card", "--db", "x", "09506000134352"],
     &["lotd", "notice", "09506000134352", "L2"],
     &["lotd", "import", "--db", "x"],
@@ -123,6 +124,16 @@ static MISUSE: [&[&str]; 20] = [
     &[
         "lotd", "serve", "--db", "x", "--port", "1024", "--max", "1000001",
     ],
+    // The file of the acts has a name, is named once, and no other line keeps it.
+    &[
+        "lotd", "serve", "--db", "x", "--port", "1024", "--max", "1", "--acts",
+    ],
+    &[
+        "lotd", "serve", "--db", "x", "--port", "1024", "--max", "1", "--acts", "y", "--acts", "y",
+    ],
+    &["lotd", "import", "--db", "x", "--acts", "y"],
+    &["lotd", "import", "--db", "x", "y", "--acts"],
+    &["lotd", "apply", "--db", "x", "--acts", "y", "z"],
     &["lotd", "card", "--db", "x", "--log", "09506000134352", "L2"],
     &["lotd", "history"],
     &["lotd", "history", "--db", "x", "--day", "2026-05-04"],
@@ -149,7 +160,7 @@ fn tells_help_and_misuse_apart(rt: HostRuntime) {
 }
 
 // What the help of a line says, among else.
-static HELP_SAYS: [(&[&str], &str); 11] = [
+static HELP_SAYS: [(&[&str], &str); 15] = [
     (
         &["lotd", "--help"],
         "\n  store          the file is not there; or a server has it open; or it is no\n",
@@ -173,7 +184,23 @@ static HELP_SAYS: [(&[&str], &str); 11] = [
     ),
     (
         &["lotd", "--help"],
-        "\n  lacks act 17   the books have no act 17, and the line is of a later one\n",
+        "\n  lacks act 17   the books have no act 17: the line is of a later one, or the\n",
+    ),
+    (
+        &["lotd", "--help"],
+        "\n  acts           the file of the acts cannot be opened, read, written or synced,\n",
+    ),
+    (
+        &["lotd", "serve", "--help"],
+        "Keep each act in FILE too, before it is answered",
+    ),
+    (
+        &["lotd", "serve", "--help"],
+        "\n  lotd serve --db stock.db --port 8080 --max 1000 --acts /mnt/acts/stock.acts\n",
+    ),
+    (
+        &["lotd", "import", "--help"],
+        "Keep each act in FILE too, before it is answered",
     ),
     (
         &["lotd", "apply", "--help"],

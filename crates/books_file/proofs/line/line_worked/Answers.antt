@@ -1,9 +1,8 @@
-use Rattle.std.proofs.Common.{inr, refl}
-use Rattle.books_file.proofs.Listening.{listens_behind}
+use Rattle.std.proofs.Common.{inl, inr, refl}
 use Rattle.books_file.proofs.line.line_worked.Goals as goal
 
-pub work_over-requires : goal.work_over-requires
-work_over-requires g c = record { listens = listens_behind c.args.work.now c.in-Ok.listener c.as_ref.result c.as_ref.ensures.variant c.in-Ok.ensures.listens }
+pub returns-in-Ok-clause-done : goal.returns-in-Ok-clause-done
+returns-in-Ok-clause-done g c = inr (c.in-Ok.opened, c.in-Ok.ensures.opened, c.line_listened-books.ensures.done)
 
 pub returns-in-Err-clause-done : goal.returns-in-Err-clause-done
-returns-in-Err-clause-done g c = (inr (c.in-Err.ensures.server, refl), refl, refl)
+returns-in-Err-clause-done g c = inl (c.none.ensures.books, inr (c.in-Err.ensures.named, refl), refl, refl, c.none.ensures.acts)

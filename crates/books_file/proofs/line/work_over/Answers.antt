@@ -16,6 +16,7 @@ returns-in-Ok-close_files-clause-done g c =
         judged = then.judged;
         worked = then.worked;
         told = then.told;
+        kept = then.beside;
       };
       copied = c.in-Ok-close_files.ensures.copied;
     }
@@ -37,6 +38,7 @@ returns-in-Ok-do_work-clause-done g c =
               judged = then.judged;
               worked = then.worked;
               told = then.told;
+              kept = then.beside;
             };
             ended = ap Err c.closing_fault.ensures;
           }
@@ -59,10 +61,11 @@ returns-in-Ok-clause-done g c =
             judged = then.judged;
             idle = then.left;
             silent = (ap g.W.Write.contents (then.silent refl), ap g.L.Write.contents (then.unlogged refl));
+            unused = then.unused refl;
           }
           );
       is_store = c.store_of.ensures;
     }
 
 pub returns-clause-done : goal.returns-clause-done
-returns-clause-done g c = (inl refl, refl, refl)
+returns-clause-done g c = (inl refl, refl, refl, refl)

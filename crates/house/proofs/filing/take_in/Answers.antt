@@ -1,5 +1,5 @@
 use Rattle.std.proofs.Common.{◌≡◌, ◌≢◌, ◌∙◌, ap, sym, subst}
-use Rattle.std.specs.Prelude.{Ok, Err, All, codes}
+use Rattle.std.specs.Prelude.{Ok, All, codes}
 use Rattle.goodsin.specs.Rows.{IsReceipt}
 use Rattle.machine.specs.Standing.{today}
 use Rattle.goodsin.specs.Files.{file_read}

@@ -1,9 +1,9 @@
-use Rattle.std.proofs.Common.{◌≡◌, ◌∙◌, sym, subst}
+use Rattle.std.proofs.Common.{◌≡◌, ◌∙◌, sym, subst, inl}
 use Rattle.std.specs.Prelude.{All}
 use Rattle.goodsin.specs.Rows.{IsReceipt}
 use Rattle.house.proofs.FileTold.{receipts_have_keys}
 use Rattle.service.specs.Importing.{AreRead}
-use Rattle.service.proofs.Importing.{read_as, fault_as, taken_by}
+use Rattle.service.proofs.Importing.{read_as, fault_as, leaves_file, taken_by}
 use Rattle.service.proofs.goods_file.take_in.Goals as goal
 
 pub returns-in-Ok-clause-taken : goal.returns-in-Ok-clause-taken
@@ -21,3 +21,14 @@ returns-in-Ok-clause-taken g c clean first acts history holds =
 pub returns-in-Err-clause-taken : goal.returns-in-Err-clause-taken
 returns-in-Err-clause-taken g c clean first acts history holds =
     (fault_as g.S.Store first acts (g.R.Read.remaining c.args.file) _ c.in-Err.fault (c.day-today.ensures.value ∙ holds.day) c.in-Err.ensures.file, holds)
+
+pub returns-in-Ok-clause-leaves : goal.returns-in-Ok-clause-leaves
+returns-in-Ok-clause-leaves g c clean first acts history holds leaves =
+    let rows = c.as_slice.result.now in
+    let same : rows ≡ c.in-Ok.rows = c.as_slice.ensures in
+    let keys = receipts_have_keys rows (subst (λ l. All IsReceipt l) (sym same) c.in-Ok.ensures.kinds) in
+    let done = c.act_all-done.ensures in
+    leaves_file g.S.Store first acts c.args.books.now c.act_all-done.new.self rows clean keys history holds (done.history keys first acts history) done.survives leaves
+
+pub returns-in-Err-clause-leaves : goal.returns-in-Err-clause-leaves
+returns-in-Err-clause-leaves g c clean first acts history holds leaves trees left = inl (leaves trees left)

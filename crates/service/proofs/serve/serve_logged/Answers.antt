@@ -1,45 +1,7 @@
-use Rattle.std.proofs.Common.{◌≡◌, ◌+◌, ℕ, true, Ok, Err, subst, arith}
-use Rattle.texts.specs.declared.fault.TextFault.{TextFault}
-use Rattle.house.specs.House.{books_of}
-use Rattle.service.specs.Serving.{HasLogged}
-use Rattle.service.proofs.Importing.{by_fault}
-use Rattle.service.proofs.Serving.{none_logged, one_served, at_most}
 use Rattle.service.proofs.serve.serve_logged.Goals as goal
 
-pub loop-init : goal.loop-init
-loop-init g c = record {
-  clean = λ clean. clean;
-  served = λ clean first acts history holds. none_logged {E = TextFault} g.S.Store first acts 0 (books_of c.args.house.now) true (Ok tt) (g.L.Write.contents c.args.log.now) history holds;
-}
+pub returns-in-Ok-clause-served : goal.returns-in-Ok-clause-served
+returns-in-Ok-clause-served g c clean first acts history holds = (c.in-Ok.ensures.served clean first acts history holds).0
 
-pub loop-preserved : goal.loop-preserved
-loop-preserved g c =
-    let was = c.loop.invariant in
-    let next = c.in_ok-serve_next.ensures in
-    let at = g.L.Write.contents in
-    record {
-      clean = λ clean. was.clean (next.clean clean);
-      served = λ clean first acts history holds.
-          one_served g.S.Store first acts c.loop.counter (books_of c.args.house.now) (books_of c.loop.house) (books_of c.serve_next.new.house) (Ok tt)
-          (at c.args.log.now) (at c.loop.log) (at c.serve_next.new.log) (was.served (next.clean clean) first acts history holds)
-          (λ a h b. next.step clean first a h b);
-    }
-
-pub returns-in_err-serve_next-clause-served : goal.returns-in_err-serve_next-clause-served
-returns-in_err-serve_next-clause-served g c clean first acts history holds =
-    let was = c.loop.invariant in
-    let next = c.in_err-serve_next.ensures in
-    let at = g.L.Write.contents in
-    by_fault c.from_residual.result c.in_err-serve_next.field-0.0 c.from_residual.ensures
-    (λ r. HasLogged g.S.Store first acts c.args.max (books_of c.args.house.now) (books_of c.serve_next.new.house) true r (at c.args.log.now) (at c.serve_next.new.log))
-    (at_most g.S.Store first acts (c.loop.counter + 1) c.args.max (books_of c.args.house.now) (books_of c.serve_next.new.house) true (Err c.in_err-serve_next.field-0.0) (at c.args.log.now) (at c.serve_next.new.log) (omega arith)
-    (one_served g.S.Store first acts c.loop.counter (books_of c.args.house.now) (books_of c.loop.house) (books_of c.serve_next.new.house) (Err c.in_err-serve_next.field-0.0)
-    (at c.args.log.now) (at c.loop.log) (at c.serve_next.new.log) (was.served (next.clean clean) first acts history holds)
-    (λ a h b. next.step clean first a h b)))
-
-pub returns-clause-served : goal.returns-clause-served
-returns-clause-served g c clean first acts history holds =
-    let at = g.L.Write.contents in
-    let all : ◌≡◌ {A = ℕ} c.loop.counter c.args.max = omega (arith, c.loop.auto.counter-end, c.loop-test.false) in
-    subst (λ n. HasLogged {E = TextFault} g.S.Store first acts n (books_of c.args.house.now) (books_of c.loop.house) true (Ok tt) (at c.args.log.now) (at c.loop.log)) all
-    (c.loop.invariant.served clean first acts history holds)
+pub returns-in-Err-clause-served : goal.returns-in-Err-clause-served
+returns-in-Err-clause-served g c clean first acts history holds = (c.in-Err.ensures.served clean first acts history holds).0

@@ -1,28 +1,23 @@
-use Rattle.std.proofs.Common.{ap}
+use Rattle.std.proofs.Common.{ap, sym, subst}
 use Rattle.house.specs.House.{books_of}
-use Rattle.service.proofs.Serving.{goes_on, read_or_not}
+use Rattle.service.specs.Kept.{GoesOnKept}
+use Rattle.service.proofs.Serving.{goes_on, read_or_not, stays}
 use Rattle.service.proofs.serve.serve_stream.Goals as goal
 
-pub returns-in-Ok-clause-step : goal.returns-in-Ok-clause-step
-returns-in-Ok-clause-step g c clean first acts history holds =
+pub returns-clause-step : goal.returns-clause-step
+returns-clause-step g c clean first acts history holds =
     let at = g.L.Write.contents in
+    let keeps = g.K.Keeper.keeps in
+    let begins = g.K.Keeper.begins in
     let was = books_of c.args.house.now in
-    let books = books_of c.serve_logged-answered.new.self in
+    let books = books_of c.serve_kept-served.new.self in
     let old = at c.args.log.now in
-    let new = at c.serve_logged-answered.new.log in
-    let end = c.serve_logged-answered.result in
-    read_or_not g.S.Store first acts was books end.logged old new end.answered
-    (λ read. goes_on g.S.Store first acts was books end.logged old new _ _ _ (c.serve_logged-answered.ensures.served clean first acts history holds read))
-    (λ none. let kept = c.serve_logged-answered.ensures.unread none in (kept.0, ap at kept.2, kept.3))
-
-pub returns-in_default-clause-step : goal.returns-in_default-clause-step
-returns-in_default-clause-step g c clean first acts history holds =
-    let at = g.L.Write.contents in
-    let was = books_of c.args.house.now in
-    let books = books_of c.serve_logged-answered.new.self in
-    let old = at c.args.log.now in
-    let new = at c.serve_logged-answered.new.log in
-    let end = c.serve_logged-answered.result in
-    read_or_not g.S.Store first acts was books end.logged old new end.answered
-    (λ read. goes_on g.S.Store first acts was books end.logged old new _ _ _ (c.serve_logged-answered.ensures.served clean first acts history holds read))
-    (λ none. let kept = c.serve_logged-answered.ensures.unread none in (kept.0, ap at kept.2, kept.3))
+    let new = at c.serve_kept-served.new.log in
+    let before = c.args.keeper.now in
+    let after = c.serve_kept-served.new.keeper in
+    let end = c.serve_kept-served.result in
+    let does = c.serve_kept-served.ensures in
+    subst (λ e. GoesOnKept g.S.Store keeps begins first acts was books e old new before after) (sym c.end_answer.ensures)
+    (read_or_not end.answered
+    (λ read. let s = does.served clean first acts history holds read in goes_on g.S.Store keeps begins first acts was books old new before after end.kept end.logged _ _ _ s.0 s.1 does.begins)
+    (λ none. let kept = does.unread none in stays g.S.Store keeps begins first acts was books old new before after end.kept end.logged kept.0 (ap at kept.2) kept.3 kept.4 kept.5))

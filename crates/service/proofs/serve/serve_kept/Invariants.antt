@@ -1,15 +1,14 @@
 use Rattle.std.proofs.Common.{ℤ, List, true, Ok}
-use Rattle.texts.specs.declared.fault.TextFault.{TextFault}
 use Rattle.machine.specs.Acts.{Act}
 use Rattle.machine.specs.Once.{IsHistory}
 use Rattle.store.specs.Books.{IsClean, HoldsBooks}
 use Rattle.house.specs.House.{books_of}
-use Rattle.service.specs.Serving.{HasLogged}
-use Rattle.service.proofs.serve.serve_logged.Given as goal
+use Rattle.service.specs.Kept.{HasKept}
+use Rattle.service.proofs.serve.serve_kept.Given as goal
 
 abbrev pub invariant-loop : goal.invariant-loop
 invariant-loop g l = record {
   clean : IsClean g.S.Store (books_of l.house) → IsClean g.S.Store (books_of l.initial.house);
   served : IsClean g.S.Store (books_of l.house) → (first : ℤ) (acts : List Act) → IsHistory first acts → HoldsBooks g.S.Store first acts (books_of l.initial.house)
-      → HasLogged {E = TextFault} g.S.Store first acts l.counter (books_of l.initial.house) (books_of l.house) true (Ok tt) (g.L.Write.contents l.initial.log) (g.L.Write.contents l.log);
+      → HasKept g.S.Store g.K.Keeper.keeps g.K.Keeper.begins first acts l.counter (books_of l.initial.house) (books_of l.house) true (Ok tt) (g.L.Write.contents l.initial.log) (g.L.Write.contents l.log) l.initial.keeper l.keeper;
 }

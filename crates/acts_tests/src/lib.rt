@@ -1,0 +1,20 @@
+//! The tests of the file of the acts, beside books in memory: a disk that stops, tails that a stop leaves, files of other
+//! books, of older and of newer ones, and goods-in files.
+#![tactic(auto)]
+
+#[cfg(test)]
+mod acting;
+#[cfg(test)]
+mod books;
+#[cfg(test)]
+mod disk;
+#[cfg(test)]
+mod filed;
+#[cfg(test)]
+mod history;
+#[cfg(test)]
+mod memory;
+#[cfg(test)]
+mod opened;
+#[cfg(test)]
+mod stops;

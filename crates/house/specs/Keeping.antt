@@ -1,0 +1,29 @@
+-- What is kept of the acts of a house, before they are answered.
+use Rattle.std.specs.Prelude.{◌≢◌, ◌⊎◌, ℤ, List, codes, Result, OnOk}
+use Rattle.sqlite_trees.specs.declared.store.Store.{Ghosts}
+use Rattle.sqlite_trees.specs.Tree.{Trees}
+use Rattle.machine.specs.Acts.{Act}
+use Rattle.machine.specs.Once.{IsHistory}
+use Rattle.store.specs.Connected.{Connected}
+use Rattle.store.specs.Books.{HoldsBooks}
+use Rattle.house.specs.Answers.{status_of}
+use Rattle.house.specs.declared.answered.Answered.{Answered}
+use Rattle.house.specs.declared.answered.Answered.TheVariants.{Short, Long}
+
+-- what a call commits that commits nothing on the books of a history
+abbrev pub NoHistory : {S : Type 0} → Ghosts S → Connected S → Trees → Type 0
+NoHistory g books trees = (first : ℤ) (acts : List Act) → IsHistory first acts → ¬ HoldsBooks g first acts books
+
+-- an answer that tells of no new act: its status is not 200, or it shows something
+abbrev pub TellsNoAct : Answered → Type 0
+TellsNoAct (Short block) = status_of block ≢ codes "HTTP/1.1 200"
+TellsNoAct (Long bytes) = Unit {0}
+
+-- as the acts before were kept, so are the acts after, where the keeper did not fail
+abbrev pub KeepsOn : {K E : Type 0} → (K → ℤ → List Act → Type 0) → (was now : K) → (before after : List Act) → Result Unit E → Type 0
+KeepsOn keeps was now before after end = (begun : ℤ) → keeps was begun before → OnOk end (keeps now begun after)
+
+-- The books are those of acts that are kept, or nothing was told. `Keeps` says of which acts it is so, `Untold` that not a byte was
+-- written to the client.
+abbrev pub IsKeptIfTold : {S : Type 0} → Ghosts S → ℤ → (Keeps : List Act → Type 0) → Connected S → (Untold : Type 0) → Type 0
+IsKeptIfTold g first Keeps books Untold = ((after : List Act) × IsHistory first after × HoldsBooks g first after books × Keeps after) ⊎ Untold

@@ -1,0 +1,4 @@
+mod Opened
+mod Kept
+mod Served
+mod Imported

@@ -1,0 +1,54 @@
+-- A file that is opened beside the books, whose acts began on a day that was found.
+use Rattle.std.proofs.Common.{List, refl, inl, inr}
+use Rattle.std.specs.Prelude.{ℤ, Result, Ok, Err, OnOk}
+use Rattle.sqlite_disk.specs.declared.Disk.{Ghosts}
+use Rattle.sqlite_trees.specs.declared.store.Store.{Ghosts as StoreGhosts}
+use Rattle.sqlite.specs.Held.{state}
+use Rattle.sqlite.specs.State.{Survives}
+use Rattle.machine.specs.Acts.{Act}
+use Rattle.machine.specs.Once.{IsHistory}
+use Rattle.store.specs.Connected.{Connected}
+use Rattle.store.specs.Books.{HoldsBooks, IsClean, LeavesOnly}
+use Rattle.applies.specs.Begun.{BegunOn}
+use Rattle.acts_files.specs.KeptActs.{NoHistory}
+use Rattle.acts_files.specs.Walked.{IsSameFile, IsNoMisfit}
+use Rattle.acts_files.specs.Opened.{IsOpened, IsNotOpened}
+use Rattle.acts_files.specs.declared.acts_file.ActsFile.{ActsFile}
+use Rattle.acts_files.specs.declared.fault.ActsFault.{ActsFault}
+use Rattle.acts_files.specs.declared.opening.NotOpened.{NotOpened}
+use Rattle.acts_files.proofs.Opens.{not_told, opened_from, not_opened_from}
+use Rattle.kept_lines.specs.Beside.{IsOpenedBeside, IsNotOpenedBeside}
+
+-- it holds of whatever result
+pub whatever : {X E : Type 0} {P : Type 0} (r : Result X E) → P → OnOk r P
+whatever (Ok x) p = p
+whatever (Err e) p = tt
+
+module _ {D : Type 0} (g : Ghosts D) (first : ℤ) (acts : List Act) (disk read : D) (same : IsSameFile g disk read) where
+  pub opened_beside : (begun : ℤ) → BegunOn first acts begun → (file : ActsFile D) → IsOpened g begun acts read file → IsOpenedBeside g first acts disk file
+  opened_beside begun day file is = record {
+    begun = begun;
+    day = day;
+    opened = opened_from g begun acts disk read same file is;
+  }
+
+  pub not_opened_beside : (begun : ℤ) → BegunOn first acts begun → (e : NotOpened D) → IsNotOpened g begun acts read e → IsNotOpenedBeside g first acts disk e
+  not_opened_beside begun day e is = record {
+    begun = begun;
+    day = day;
+    not_opened = not_opened_from g begun acts disk read same e is;
+  }
+
+-- the day was not found
+pub day_not_found : {D : Type 0} (g : Ghosts D) (first : ℤ) (acts : List Act) (disk new : D) (fault : ActsFault) → IsHistory first acts → IsNoMisfit fault → IsNotOpenedBeside g first acts disk (record { disk = new; fault = fault })
+day_not_found g first acts disk new fault history none = record {
+  begun = first;
+  day = record { history = history; tables = refl };
+  not_opened = not_told g first acts disk new fault fault none;
+}
+
+-- what a stop leaves is the same after a call that commits nothing
+pub leaves_on : {S : Type 0} (s : StoreGhosts S) (old new : Connected S) (first : ℤ) (acts : List Act) → IsClean s new → IsHistory first acts → HoldsBooks s first acts old
+    → Survives (state s old.conn) (state s new.conn) (NoHistory s old) → LeavesOnly first acts (state s old.conn) → LeavesOnly first acts (state s new.conn)
+leaves_on s old new first acts clean history holds survives leaves trees left =
+    elim (survives.crash clean trees left) [ inl before ↦ leaves trees before | inr none ↦ absurd (none first acts history holds) ]

@@ -1,0 +1,11 @@
+use Rattle.std.proofs.Common.{subst}
+use Rattle.sqlite.specs.Held.{state}
+use Rattle.sqlite.specs.State.{HasCleanDisk}
+use Rattle.kept_lines.proofs.Imported.{import_done}
+use Rattle.kept_lines.proofs.importing.import_beside.Goals as goal
+
+pub returns-clause-beside : goal.returns-clause-beside
+returns-clause-beside g c clean first begun older history holds leaves keeps =
+    let done = c.import_named-end in
+    import_done g.S.Store g.D.Disk first begun older _ done.result done.new.books _ _ done.new.acts _ _ c.close.ensures.same c.into_disk.ensures history
+    (done.ensures.imported (subst (λ h. HasCleanDisk (state g.S.Store h)) c.close.ensures.same clean) first begun older history holds leaves keeps)

@@ -1,0 +1,14 @@
+use Rattle.kept_lines.proofs.importing.open_and_import_kept.Goals as goal
+
+pub returns-in-Ok-clause-clean : goal.returns-in-Ok-clause-clean
+returns-in-Ok-clause-clean g c clean = c.in-Ok.ensures.clean (c.import_books-done.ensures.clean clean)
+
+pub returns-in-Ok-clause-imported : goal.returns-in-Ok-clause-imported
+returns-in-Ok-clause-imported g c clean first acts history rows =
+    let held = c.in-Ok.ensures.books (c.import_books-done.ensures.clean clean) first acts history rows in
+    c.import_books-done.ensures.imported clean first acts history held.0 held.1
+
+pub returns-in-Ok-clause-beside : goal.returns-in-Ok-clause-beside
+returns-in-Ok-clause-beside g c clean first acts history rows =
+    let held = c.in-Ok.ensures.books (c.import_books-done.ensures.clean clean) first acts history rows in
+    c.import_books-done.ensures.beside clean first acts history held.0 held.1

@@ -1,0 +1,24 @@
+use Rattle.std.proofs.lemmas.Result.{IfOk-weaker, IfErr-weaker}
+use Rattle.acts_files.proofs.Survive.{none_later}
+use Rattle.kept_lines.proofs.Opened.{day_not_found, not_opened_beside, opened_beside}
+use Rattle.kept_lines.proofs.opening.open_acts.Goals as goal
+
+pub returns-in-Ok-clause-kept : goal.returns-in-Ok-clause-kept
+returns-in-Ok-clause-kept g c clean first acts history holds =
+    let d = g.D.Disk in
+    let same = c.in-Ok.ensures.same in
+    let day = c.in-Ok.ensures.begun (c.open_beside.ensures.clean clean) first acts history holds in
+    let kept = c.open_beside.ensures.kept clean first acts history day.0 in (
+      kept.0,
+      IfOk-weaker c.open_beside.result _ _ (λ file is. opened_beside d first acts c.args.disk c.begun_beside.new.disk same c.in-Ok.begun day.1 file is) kept.1,
+      IfErr-weaker c.open_beside.result _ _ (λ e is. not_opened_beside d first acts c.args.disk c.begun_beside.new.disk same c.in-Ok.begun day.1 e is) kept.2,
+    )
+
+pub returns-in-Ok-clause-survives : goal.returns-in-Ok-clause-survives
+returns-in-Ok-clause-survives g c =
+    none_later g.S.Store c.args.books.now c.begun_beside.new.books c.open_beside.new.books c.begun_beside.ensures.survives c.open_beside.ensures.survives
+    (λ clean first acts history holds. (c.begun_beside.ensures.begun clean first acts history holds).0)
+
+pub returns-in-Err-clause-kept : goal.returns-in-Err-clause-kept
+returns-in-Err-clause-kept g c clean first acts history holds =
+    ((c.in-Err.ensures.begun clean first acts history holds).0, tt, day_not_found g.D.Disk first acts c.args.disk c.begun_beside.new.disk c.in-Err.fault history c.in-Err.ensures.fault)

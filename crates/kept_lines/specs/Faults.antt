@@ -1,0 +1,24 @@
+-- Why the acts are not kept, as a line tells it.
+use Rattle.std.specs.Prelude.{Result, Ok, Err}
+use Rattle.acts_files.specs.declared.fault.ActsFault.{ActsFault}
+use Rattle.acts_files.specs.declared.fault.ActsFault.TheVariants as acts
+use Rattle.command_line.specs.declared.apply_fault.ApplyFault.TheVariants as apply
+use Rattle.command_line.specs.declared.fault.Fault.{Fault}
+use Rattle.command_line.specs.declared.fault.Fault.TheVariants.{Apply, Acts, Io, Store}
+use Rattle.house.specs.declared.keeping.KeepFault.TheVariants as keep
+use Rattle.service.specs.declared.serve.Stopped.{Stopped}
+use Rattle.service.specs.declared.serve.Stopped.TheVariants.{Log, Unkept}
+
+-- the fault of a file that does not keep them
+abbrev pub fault_of_acts : ActsFault → Fault
+fault_of_acts acts.File = Acts
+fault_of_acts acts.Store = Store
+fault_of_acts (acts.Differs act) = Apply (apply.Differs act)
+fault_of_acts (acts.Lacks act) = Apply (apply.Lacks act)
+
+-- how a port was served
+abbrev pub end_of : Result Unit Stopped → Result Unit Fault
+end_of (Ok done) = Ok done
+end_of (Err Log) = Err Io
+end_of (Err (Unkept keep.Place)) = Err Acts
+end_of (Err (Unkept keep.Store)) = Err Store

@@ -1,0 +1,34 @@
+//! Why the file of the acts does not keep them, as a line tells it.
+
+ghost use Rattle.std.specs.Prelude.{◌≡◌};
+ghost use Rattle.kept_lines.specs.Faults.{fault_of_acts as fault_of_acts_lem, end_of as end_of_lem};
+
+use acts_files::ActsFault;
+use command_line::{ApplyFault, Fault};
+use house::KeepFault;
+use service::Stopped;
+
+/// Why the file does not keep the acts, as the line tells it: `Acts` where it cannot be read, written or synced, `Store` for
+/// the books, and else the act in which the two part.
+pub fn fault_of_acts(fault: ActsFault) -> Fault
+    ensures { result ≡ fault_of_acts_lem fault }
+{
+    match fault {
+        ActsFault::File => Fault::Acts,
+        ActsFault::Store => Fault::Store,
+        ActsFault::Differs(act) => Fault::Apply(ApplyFault::Differs { act }),
+        ActsFault::Lacks(act) => Fault::Apply(ApplyFault::Lacks { act }),
+    }
+}
+
+/// How a port was served, as the line tells it.
+pub(crate) fn end_of(end: Result<(), Stopped>) -> Result<(), Fault>
+    ensures { result ≡ end_of_lem end }
+{
+    match end {
+        Ok(()) => Ok(()),
+        Err(Stopped::Log) => Err(Fault::Io),
+        Err(Stopped::Unkept(KeepFault::Place)) => Err(Fault::Acts),
+        Err(Stopped::Unkept(KeepFault::Store)) => Err(Fault::Store),
+    }
+}

@@ -1,0 +1,39 @@
+//! A file of the acts, as what is done is kept in it.
+
+use acts_files::{ActsFault, ActsFile};
+use house::{KeepFault, Keeper};
+use sqlite::Alter;
+use sqlite_disk::Disk;
+use std::alloc::Global;
+use store::Books;
+
+/// Keeps the acts in a file, a line each.
+#[derive(Drop)]
+pub struct KeptActs<D> {
+    pub file: ActsFile<D>,
+}
+
+impl<S: Alter, D: Disk> Keeper<S> for KeptActs<D> {
+    ghost use Rattle.kept_lines.specs.Kept.{keeps_acts, begins_acts, has_clean_file};
+
+    ghost keeps = { keeps_acts D.Disk };
+
+    ghost begins = { begins_acts D.Disk };
+
+    ghost is_clean = { has_clean_file D.Disk };
+
+    fn bring_up(&mut self, alloc: Global, books: &mut Books<S>) -> Result<(), KeepFault> {
+        match self.file.bring_up(alloc, books) {
+            Ok(()) => Ok(()),
+            Err(fault) => Err(keep_fault(fault)),
+        }
+    }
+}
+
+/// The fault, as keeping acts tells it.
+fn keep_fault(fault: ActsFault) -> KeepFault {
+    match fault {
+        ActsFault::Store => KeepFault::Store,
+        _ => KeepFault::Place,
+    }
+}

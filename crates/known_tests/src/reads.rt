@@ -1,0 +1,208 @@
+//! How often the files are read: what a request has read is not read again by the next.
+
+use crate::alike::texts;
+use crate::living::{Life, books, lived};
+use book_trials::{History, Pair, Spread, line_of};
+use std::alloc::Global;
+use std::process::Abort;
+
+/// Lines about one, or about each of many: `#` is the GTIN of an item, and `~` the number.
+#[derive(Clone, Copy)]
+enum Asked {
+    One(&'static str),
+    /// A line for each.
+    Each(&'static str),
+    /// One line, in which each stands at `@`.
+    Listed(&'static str),
+}
+
+impl Asked {
+    fn written(self) -> Spread {
+        match self {
+            Asked::One(line) => spread_of(line, "", "", 0),
+            Asked::Each(written) => spread_of("@", written, "\n", MANY),
+            Asked::Listed(line) => spread_of(line, r##"{"gtin":"#","qty":1}"##, ",", MANY),
+        }
+    }
+}
+
+fn spread_of(
+    line: &'static str,
+    written: &'static str,
+    between: &'static str,
+    count: u64,
+) -> Spread {
+    Spread {
+        line,
+        written,
+        between,
+        count,
+    }
+}
+
+/// Books, and a request that is refused, so that it changes nothing.
+#[derive(Clone, Copy)]
+struct Case {
+    /// What is done before it.
+    before: &'static [Asked],
+    asked: Asked,
+    /// How many pages it reads the first time and not the second, at least: two for each row that is found by a key, which
+    /// are those of the index and of the table, where each row stands apart.
+    saved: u64,
+}
+
+/// How many there are of what is many.
+const MANY: u64 = 20;
+
+const ITEMS: Asked = Asked::Each(r##"POST /items {"key":"I-~","gtin":"#","name":"Item ~"}"##);
+
+const ONE_LOT: Asked = Asked::One(
+    r#"POST /receipts {"delivery":"D-2","line":1,"label":"01095060001343521726063010L1","bin":"A-01","qty":1}"#,
+);
+
+const MOVED: Asked = Asked::One(
+    r#"POST /moves {"key":"W-2","gtin":"09506000134352","lot":"L1","from":"A-01","to":"A-02","qty":99}"#,
+);
+
+const ORDERED: Asked = Asked::Listed(
+    r#"POST /orders {"key":"O-1","order":"O-1","customer":"Corner Shop","lines":[@]}"#,
+);
+
+// What is known of the open orders is read by it, and nothing else that the cases read.
+static FIRST: &str = r#"POST /cancels {"key":"W-1","order":"W-1"}"#;
+
+// Lots of an item.
+static LOTS: Case = Case {
+    before: &[
+        ONE_LOT,
+        Asked::Each(
+            r#"POST /receipts {"delivery":"D-1","line":1~,"label":"01095060001343521726063010L-~","bin":"A-01","qty":1}"#,
+        ),
+    ],
+    asked: MOVED,
+    saved: 40,
+};
+
+// Bins that have units of an item.
+static BINS: Case = Case {
+    before: &[
+        ONE_LOT,
+        Asked::Each(r#"POST /bins {"key":"B-~","bin":"B-~","kind":"STORE"}"#),
+        Asked::Each(
+            r#"POST /receipts {"delivery":"D-1","line":1~,"label":"01095060001343521726063010L1","bin":"B-~","qty":1}"#,
+        ),
+    ],
+    asked: MOVED,
+    saved: 40,
+};
+
+// Open orders of an item, and the line of each.
+static ORDERS: Case = Case {
+    before: &[
+        ONE_LOT,
+        Asked::Each(
+            r#"POST /orders {"key":"O-~","order":"O-~","customer":"Corner Shop","lines":[{"gtin":"09506000134352","qty":1}]}"#,
+        ),
+    ],
+    asked: MOVED,
+    saved: 80,
+};
+
+// Items, what they ask for, a recall of each, and its lot.
+static RECALLED: Case = Case {
+    before: &[
+        ITEMS,
+        Asked::Each(
+            r##"POST /receipts {"delivery":"D-1","line":1~,"label":"01#1726063010R","bin":"A-01","qty":1}"##,
+        ),
+        Asked::Each(r##"POST /recalls {"key":"R-~","gtin":"#","lot":"R"}"##),
+        ORDERED,
+    ],
+    asked: Asked::Listed(
+        r#"POST /orders {"key":"W-2","order":"O-1","customer":"Corner Shop","lines":[@]}"#,
+    ),
+    saved: 160,
+};
+
+// The lines of an order, which stand side by side on few pages.
+static LINES: Case = Case {
+    before: &[ITEMS, ORDERED],
+    asked: Asked::One(r#"POST /shipments {"key":"W-2","order":"O-1"}"#),
+    saved: 5,
+};
+
+fn lines_of(rt: &impl Abort, alloc: Global, asked: Asked) -> String {
+    line_of(alloc, &asked.written()).expect(rt, "memory")
+}
+
+// The books after what is done before the request.
+fn before(rt: &impl Abort, alloc: Global, case: &Case) -> Pair {
+    let mut files = books(rt, alloc, [History::GoodsAndBins].as_slice());
+    for asked in case.before {
+        let lines = lines_of(rt, alloc, *asked);
+        let texts = texts(rt, alloc, lines.as_str());
+        let (left, heard) = lived(rt, alloc, &files, Life::keeping("", texts.as_slice()));
+        for answer in heard.iter().take(texts.len()) {
+            assert!(rt; answer.as_slice().starts_with(b"HTTP/1.1 200"));
+        }
+        files = left;
+    }
+    files
+}
+
+// How often the files are read where the request comes so often. No page stays in memory.
+fn reads(rt: &impl Abort, alloc: Global, files: &Pair, asked: &str, times: usize) -> u64 {
+    let mut lines = String::from_str(alloc, FIRST).ok().expect(rt, "memory");
+    for _ in 0..times {
+        assert!(rt; lines.push_str("\n").is_ok() && lines.push_str(asked).is_ok());
+    }
+    let texts = texts(rt, alloc, lines.as_str());
+    let life = Life {
+        pages: 1,
+        ..Life::keeping("", texts.as_slice())
+    };
+    let (left, heard) = lived(rt, alloc, files, life);
+    for answer in heard.iter().take(texts.len()) {
+        assert!(rt; answer.as_slice().starts_with(b"HTTP/1.1 409"));
+    }
+    left.reads()
+}
+
+fn reads_less(rt: &impl Abort, alloc: Global, case: &Case) {
+    let files = before(rt, alloc, case);
+    let asked = lines_of(rt, alloc, case.asked);
+    let none = reads(rt, alloc, &files, asked.as_str(), 0);
+    let once = reads(rt, alloc, &files, asked.as_str(), 1);
+    let twice = reads(rt, alloc, &files, asked.as_str(), 2);
+    drop(files);
+    let (first, second) = (once.saturating_sub(none), twice.saturating_sub(once));
+    assert!(rt;
+        first >= second.saturating_add(case.saved),
+        "{first} and then {second}"
+    );
+}
+
+#[test]
+fn lots_are_read_once(rt: HostRuntime) {
+    reads_less(&rt, rt.alloc(), &LOTS);
+}
+
+#[test]
+fn bins_are_read_once(rt: HostRuntime) {
+    reads_less(&rt, rt.alloc(), &BINS);
+}
+
+#[test]
+fn orders_are_read_once(rt: HostRuntime) {
+    reads_less(&rt, rt.alloc(), &ORDERS);
+}
+
+#[test]
+fn items_and_recalls_are_read_once(rt: HostRuntime) {
+    reads_less(&rt, rt.alloc(), &RECALLED);
+}
+
+#[test]
+fn lines_are_read_once(rt: HostRuntime) {
+    reads_less(&rt, rt.alloc(), &LINES);
+}

@@ -1,0 +1,58 @@
+-- What serving a port does to the books, and what a second place keeps of their acts. `keeps` says what it keeps, `begins` what a
+-- stop leaves of it at least, and `begun` is the day from which it counts.
+use Rattle.std.specs.Prelude.{◌≡◌, ◌⊎◌, ℕ, ℤ, List, [], ◌∷◌, ◌++◌, Bool, Option, Result, Ok, Err}
+use Rattle.sqlite_trees.specs.declared.store.Store.{Ghosts}
+use Rattle.machine.specs.Acts.{Act}
+use Rattle.store.specs.Connected.{Connected}
+use Rattle.house.specs.House.{Step, Run, StepsTo}
+use Rattle.house.specs.Serving.{IsLogged}
+use Rattle.house.specs.declared.keeping.KeepFault.{KeepFault}
+use Rattle.service.specs.Serving.{HasLogged}
+use Rattle.service.specs.declared.serve.Stopped.{Stopped}
+use Rattle.service.specs.declared.serve.Stopped.TheVariants.{Log, Unkept}
+
+-- whether serving goes on after a request
+abbrev pub end_after : {E : Type 0} → (kept : Result Unit KeepFault) → (logged : Result Unit E) → Result Unit Stopped
+end_after (Err fault) logged = Err (Unkept fault)
+end_after (Ok done) (Ok line) = Ok tt
+end_after (Ok done) (Err fault) = Err Log
+
+module _ {S K : Type 0} (g : Ghosts S) (keeps begins : K → ℤ → List Act → Type 0) (first : ℤ) (acts : List Act) where
+  -- After a step all acts are kept. Or what was done could not be kept: then a stop leaves at least the acts before it.
+  abbrev pub IsKeptTo : Result Unit Stopped → (begun : ℤ) → (after : List Act) → K → Type 0
+  IsKeptTo (Ok done) begun after keeper = keeps keeper begun after
+  IsKeptTo (Err Log) begun after keeper = keeps keeper begun after
+  IsKeptTo (Err (Unkept fault)) begun after keeper = begins keeper begun acts
+
+  -- all is as it was, or the books are one step over some text further, which is logged and kept; `end` says where it could not be
+  abbrev pub GoesOnKept : (was books : Connected S) → (end : Result Unit Stopped) → (old new : Option (List ℕ)) → (before after : K) → Type 0
+  GoesOnKept was books end old new before after =
+      ((books ≡ was) × (new ≡ old) × (end ≡ Ok tt) × (after ≡ before))
+      ⊎ ((text : List ℕ) × (bytes : List ℕ) × (s : StepsTo g first acts text bytes was books) × IsLogged end old new text bytes
+      × ((begun : ℤ) → keeps before begun acts → IsKeptTo end begun s.after after))
+
+  -- the last of the texts got no byte of an answer, and a stop leaves at least the acts before it
+  pub record LacksLast (begun : ℤ) (texts answers : List (List ℕ)) (after : List Act) (keeper : K) : Type 0 where
+    pub earlier_texts : List (List ℕ)
+    pub earlier_answers : List (List ℕ)
+    pub text : List ℕ
+    pub bytes : List ℕ
+    pub texts_are : texts ≡ earlier_texts ++ text ∷ []
+    pub answers_are : answers ≡ earlier_answers ++ bytes ∷ []
+    pub before : List Act
+    pub run : Run first acts earlier_texts earlier_answers before
+    pub step : Step first before text bytes after
+    pub left : begins keeper begun before
+
+  -- after a run all acts are kept, or all but those of its last text
+  abbrev pub AreKept : Result Unit Stopped → (begun : ℤ) → (texts answers : List (List ℕ)) → (after : List Act) → K → Type 0
+  AreKept (Ok done) begun texts answers after keeper = keeps keeper begun after
+  AreKept (Err Log) begun texts answers after keeper = keeps keeper begun after
+  AreKept (Err (Unkept fault)) begun texts answers after keeper = LacksLast begun texts answers after keeper
+
+  -- the books are those of the acts after a run over so many texts at most, its texts and answers are logged where that is asked for,
+  -- and its acts are kept
+  abbrev pub HasKept : (max : ℕ) → (was books : Connected S) → (asked : Bool) → (end : Result Unit Stopped) → (old new : Option (List ℕ)) → (before after : K) → Type 0
+  HasKept max was books asked end old new before after =
+      (r : HasLogged g first acts max was books asked end old new)
+      × ((begun : ℤ) → keeps before begun acts → AreKept end begun r.0.texts r.0.answers r.0.runs.after after)
