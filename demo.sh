@@ -2,6 +2,7 @@
 # The main job of Lot stock, from nothing: builds lotd, reads a label, makes books, receives goods by
 # their label, takes an order, shows what is reserved for it, the item's stock, the pick list and the shortages,
 # picks, ships, recalls, prints the recall notice, takes in a goods-in file, takes an urgent order, and does all acts again.
+# Then the server is ended by kill -9, its books are deleted, and the file of the acts makes them again.
 # Needs the Rattle kit, python3 and curl.
 # Exit status 0 only if every answer was the expected one.
 set -eu
@@ -10,6 +11,7 @@ cd "$(dirname "$0")"
 port=${PORT:-18080}
 room=$(mktemp -d)
 db=$room/stock.db
+acts=$room/stock.acts
 lotd=$PWD/crates/lotd/out/lotd
 server=
 
@@ -60,6 +62,19 @@ file() {
     expect "POST /goodsin" "$3 $2" "$(curl -s -X POST --data-binary "@$room/$1" -w ' %{http_code}' "http://127.0.0.1:$port/goodsin")"
 }
 
+# serve CONNECTIONS
+serve() {
+    echo "> lotd serve --db stock.db --port $port --max $1 --acts stock.acts"
+    : >"$room/out"
+    "$lotd" serve --db "$db" --port "$port" --max "$1" --acts "$acts" >"$room/out" &
+    server=$!
+    for _ in 1 2 3 4 5 6 7 8 9 10; do
+        if [ -s "$room/out" ]; then break; fi
+        sleep 1
+    done
+    expect "the server" "listening on 127.0.0.1:$port" "$(cat "$room/out")"
+}
+
 echo "> prove what lotd stands on, and build lotd"
 sh build.sh
 
@@ -73,15 +88,7 @@ echo "> lotd init --db stock.db --day 2026-05-04"
 "$lotd" init --db "$db" --day 2026-05-04
 is_closed init
 
-echo "> lotd serve --db stock.db --port $port --max 21"
-"$lotd" serve --db "$db" --port "$port" --max 21 >"$room/out" &
-server=$!
-for _ in 1 2 3 4 5 6 7 8 9 10; do
-    if [ -s "$room/out" ]; then break; fi
-    sleep 1
-done
-expect "the server" "listening on 127.0.0.1:$port" "$(cat "$room/out")"
-
+serve 21
 post /items '{"key":"K-1","gtin":"09506000134352","name":"Oat drink"}' 200 '{"act":1}'
 post /bins '{"key":"K-2","bin":"A-01","kind":"STORE"}' 200 '{"act":2}'
 post /receipts "{\"delivery\":\"D-1\",\"line\":1,\"label\":\"$label\",\"bin\":\"A-01\",\"qty\":10}" 200 '{"act":3}'
@@ -151,4 +158,32 @@ expect "the last act" "$(printf '11\t2026-05-04\tK/K-7\tURGENT\tS-2\tMill Inn\t0
 # Every row is that of the acts: with an urgent order and a file in it, from the day on which the books were made.
 echo "> lotd audit --db stock.db"
 expect "the audit" "audited 11 acts from 2026-05-04" "$("$lotd" audit --db "$db")"
+
+# Each act was in the file of the acts before it was answered. So the file alone makes books that answer as the lost ones did.
+# Of AB14 the urgent order has 21, and the one that came first the other three of the five that it still needs.
+order='{"class":"URGENT","customer":"Mill Inn","lines":[{"gtin":"09506000134352","ordered":45,"reserved":[{"lot":"AB13","qty":4},{"lot":"AB14","qty":21}],"shipped":0,"short":0,"staged":[{"lot":"AB13","qty":20}]}],"order":"S-2","state":"OPEN"}'
+stock='{"gtin":"09506000134352","lots":[{"bins":[{"bin":"A-01","qty":3}],"expiry":"2026-09-30","lot":"AB12","reserved":0,"staged":0,"status":"RECALLED"},{"bins":[{"bin":"A-01","qty":4}],"expiry":"2026-11-30","lot":"AB13","reserved":4,"staged":20,"status":"FREE"},{"bins":[{"bin":"A-01","qty":24}],"expiry":"2026-12-31","lot":"AB14","reserved":24,"staged":0,"status":"FREE"}],"name":"Oat drink"}'
+pick='{"key":"K-8","order":"S-2","gtin":"09506000134352","lot":"AB13","bin":"A-01","qty":20}'
+serve 100
+post /picks "$pick" 200 '{"act":12}'
+get /orders/S-2 200 "$order"
+get /stock/09506000134352 200 "$stock"
+echo "> kill -9; rm stock.db*"
+kill -9 "$server"
+wait "$server" 2>/dev/null || true
+server=
+rm "$db"*
+day=$(head -n 1 "$acts" | cut -f 2)
+echo "> lotd init --db stock.db --day $day"
+"$lotd" init --db "$db" --day "$day"
+echo "> lotd apply --db stock.db stock.acts"
+expect "the acts" "applied 12 known 0 beyond 0" "$("$lotd" apply --db "$db" "$acts")"
+serve 3
+get /orders/S-2 200 "$order"
+get /stock/09506000134352 200 "$stock"
+post /picks "$pick" 200 '{"act":12}'
+wait "$server"
+server=
+echo "> lotd audit --db stock.db"
+expect "the audit" "audited 12 acts from 2026-05-04" "$("$lotd" audit --db "$db")"
 echo "demo: every answer was the expected one"

@@ -1,5 +1,5 @@
 #!/bin/sh
-# Makes a Debian package of the built lotd: the program, the unit for systemd, the page, the documents, and the proxy's file as
+# Makes a Debian package of the built lotd: the program, the units for systemd, the page, the documents, and the proxy's file as
 # an example. Prints the path of the package, in ops/out. LOTD names the program; else build.sh proves and builds it.
 # What `dpkg` does with it: at install it makes the user lotd and the folder /var/lib/lotd, and starts a server anew that runs;
 # at removal it ends the server; it never touches the books, the folder and the user.
@@ -34,8 +34,14 @@ replaced() {
 
 install -D -m 755 "$LOTD" "$root/usr/bin/lotd"
 install -d "$root/usr/lib/systemd/system" "$shared" "$documents/examples"
-replaced ops/lotd.service /usr/local/bin/lotd /usr/bin/lotd | sed '/^#   systemctl daemon-reload/d; 1s| Put it into.*$| As root: systemctl enable --now lotd|' \
-    >"$root/usr/lib/systemd/system/lotd.service"
+# unit NAME: the unit of this name, over the program of the package
+unit() {
+    replaced "ops/$1.service" /usr/local/bin/lotd /usr/bin/lotd |
+        sed "/^#   systemctl daemon-reload/d; s| Put it into /etc/systemd/system, then:\$| As root: systemctl enable --now $1|" >"$root/usr/lib/systemd/system/$1.service"
+}
+
+unit lotd
+unit lotd-standby
 replaced ops/nginx.conf /usr/local/share/lotd /usr/share/lotd | sed '/^#   install -d/d; s/, readable by all:$/./' >"$documents/examples/nginx.conf"
 cp -r ops/page "$shared/"
 cp -r README.md docs "$documents/"
@@ -51,7 +57,7 @@ Maintainer: ${DEBFULLNAME:-Lot stock} <${DEBEMAIL:-lotd@localhost}>
 Installed-Size: $(du -sk "$root/usr" | cut -f 1)
 Depends: $depends, passwd
 Recommends: nginx, openssl
-Suggests: curl, sqlite3
+Suggests: curl, openssh-client, sqlite3
 Section: misc
 Priority: optional
 Description: stock system of a food wholesaler's warehouse
@@ -72,7 +78,7 @@ if [ "$1" = configure ]; then
     fi
     if [ -d /run/systemd/system ]; then
         systemctl daemon-reload
-        systemctl try-restart lotd.service
+        systemctl try-restart lotd.service lotd-standby.service
     fi
 fi
 SCRIPT
@@ -80,7 +86,7 @@ cat >"$root/DEBIAN/prerm" <<'SCRIPT'
 #!/bin/sh
 set -e
 if [ "$1" = remove ] && [ -d /run/systemd/system ]; then
-    systemctl disable --now lotd.service || true
+    systemctl disable --now lotd.service lotd-standby.service || true
 fi
 SCRIPT
 cat >"$root/DEBIAN/postrm" <<'SCRIPT'

@@ -22,7 +22,7 @@ def listed(crate):
 
 
 # Each test, and the program that runs it.
-PROGRAM_OF = dict(listed("wire_tests") + listed("file_tests") + listed("apply_tests"))
+PROGRAM_OF = dict(listed("wire_tests") + listed("file_tests") + listed("apply_tests") + listed("acts_tests"))
 
 # What is printed where a call had no memory.
 NO_MEMORY = ['< no memory', '< L90', '< G90', '< 503 {"code":"W90"}']

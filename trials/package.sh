@@ -5,7 +5,7 @@
 # where there is one; a newer package, a removal, a purge and an installation anew leave every byte of the books.
 # Needs the Rattle kit, root, debootstrap, dpkg-dev and curl (Debian), and a mirror of Debian, or ROOT, a folder that debootstrap
 # made before with nginx and openssl in it, which is copied. The server has PORT, the proxy the next one. A folder has no systemd,
-# so the unit is only read by systemd-analyze, where there is one.
+# so the units are only read by systemd-analyze, where there is one.
 # Exit status 0 only if all was as expected, and 3 where debootstrap is not there or this is not root.
 set -eu
 cd "$(dirname "$0")/.."
@@ -81,10 +81,12 @@ expect "the folder" "lotd lotd 700" "$(within stat -c '%U %G %a' /var/lib/lotd)"
 expect "the user's shell" /usr/sbin/nologin "$(within getent passwd lotd | cut -d: -f7)"
 expect "whether all files are as they were made" "" "$(within dpkg -V lotd)"
 if command -v systemd-analyze >/dev/null; then
-    sed "s|/usr/bin/lotd|$root/usr/bin/lotd|" "$root/usr/lib/systemd/system/lotd.service" >"$room/lotd.service"
-    expect "the unit" "" "$(systemd-analyze verify --man=no "$room/lotd.service" 2>&1 | grep lotd.service || true)"
+    for unit in lotd lotd-standby; do
+        sed "s|/usr/bin/lotd|$root/usr/bin/lotd|" "$root/usr/lib/systemd/system/$unit.service" >"$room/$unit.service"
+        expect "the unit $unit" "" "$(systemd-analyze verify --man=no "$room/$unit.service" 2>&1 | grep "$unit.service" || true)"
+    done
 fi
-echo "  installed: user, folder, files, unit"
+echo "  installed: user, folder, files, units"
 
 # By the steps of docs/OPERATIONS.md, with ports of their own.
 within runuser -u lotd -- lotd init --db /var/lib/lotd/stock.db --day 2026-05-04
