@@ -5,11 +5,11 @@ use crate::books::{Trial, act, first_day, in_memory};
 use crate::disk::{ALWAYS, Held, Stopping, disk_of};
 use crate::history::{lines, part};
 use acts_files::{ActsFault, ActsFile, NotOpened, open_beside};
+use refused_calls::{Call, Told, is_refused};
 use sqlite::Alter;
 use std::alloc::Global;
 use std::process::Abort;
 use store::Books;
-use trials::{Call, Told, is_refused};
 
 /// How many acts the books have as the file is opened, which has two lines and a part of the third.
 const HAD: usize = 4;

@@ -6,10 +6,10 @@ use Rattle.std.specs.Fmt.{signed_decimal}
 use Rattle.std.proofs.lemmas.Fmt.{length-decimal-le}
 use Rattle.std.proofs.lemmas.List.{length-map}
 use Rattle.std.proofs.lemmas.Bool.Decides.{nat_tests}
-use Rattle.values.specs.Values.{is_between, is_name, is_title, is_gtin, is_lot_text, is_delta, QTY_MAX, is_qty, is_counted, is_line_no}
+use Rattle.values.specs.Values.{is_between, is_name, is_title, is_gtin, is_lot_text, is_delta, QTY_MAX, is_qty, is_counted, is_line_no, is_least_days}
 use Rattle.values.specs.declared.lot.LotId.{LotId}
 use Rattle.label.specs.Days.{last_digits, day_text, date_of, is_day}
-use Rattle.commands.specs.Limits.{has_order_lines, is_least_days}
+use Rattle.commands.specs.Limits.{has_order_lines}
 use Rattle.commands.specs.Words.{bin_kind_word}
 use Rattle.commands.specs.Sound.{is_sound, is_sound_key, is_lot_id, is_order_line, are_lines, is_new_order, is_picking}
 use Rattle.commands.specs.Spelling.{key_text, spelling, fields, lines_fields, order_fields}

@@ -16,7 +16,7 @@ use commands::laws::{every_command_is_sound, every_key_is_sound};
 use commands::{Command, Key};
 use histories::day_then;
 use label::Day;
-use replays::{NotReplayed, act_again, is_key_of};
+use replays::{NotReplayed, act_again};
 use sqlite::Alter;
 use std::alloc::Global;
 use store::Books;
@@ -132,7 +132,7 @@ fn as_next(
     every_key_is_sound(key);
     every_command_is_sound(&command);
     let day = day_then(&command, at.day);
-    if !is_key_of(&key, &command) {
+    if !key.is_of(&command) {
         return Err(misplaced(number, place, line));
     }
     match is_line_of(alloc, number, day, &key, &command, line) {

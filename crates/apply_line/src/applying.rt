@@ -1,6 +1,6 @@
 ghost use Rattle.std.specs.Prelude.{◌≡◌, ℤ, List, true, Ok, IsErr, IsErrAnd, IfOk, IfErr, OnOk};
 ghost use Rattle.std.specs.Io.KnownBytes.{Appends};
-ghost use Rattle.tables.specs.declared.opening.Leftover.TheVariants as leftover;
+ghost use Rattle.books_schema.specs.declared.ready_connection.Leftover.TheVariants as leftover;
 ghost use Rattle.sqlite.specs.Held.{state};
 ghost use Rattle.sqlite.specs.State.{HasCleanDisk};
 ghost use Rattle.machine.specs.Acts.{Act};
@@ -11,13 +11,13 @@ ghost use Rattle.line_books.specs.Failing.{IsUnopened};
 ghost use Rattle.apply_line.specs.Applying.{KeepsMore, LeavesApplied, IsFileApplied, IsTextApplied, IsTakenIn, IsEndTold, told_of, applied_line};
 
 use applies::{Applied, NotApplied, apply_text};
+use books_schema::ready_connection::Orderly;
 use command_line::{ApplyFault, Fault, FilesAt};
 use line_books::{AfterWork, NotBegun, open_books};
 use sqlite::{Alter, Connection};
 use std::alloc::Global;
 use std::io::{self, BufReader, Read, Write};
 use store::Books;
-use tables::opening::Orderly;
 
 /// Opens the books, and then does the acts of the file that they lack, one after another. Where the file cannot be opened,
 /// nothing is done, and that is `Io`.

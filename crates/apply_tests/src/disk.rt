@@ -4,11 +4,11 @@ use crate::turns::{Input, Turn, turns_run};
 use book_trials::{
     Calls, History, Left, Pair, QUERIES, Receiver, Work, made, no_acts, over, shown,
 };
+use books_schema::ready_connection::{Leftover, Orderly};
 use command_line::Work as LineWork;
 use line_work::do_work;
 use sqlite::{Connection, Options};
 use std::process::Abort;
-use tables::opening::{Leftover, Orderly};
 
 /// How many frames the log has before it is copied into the database, so that this comes within the lines too.
 const LOG_FRAMES: usize = 20;

@@ -4,12 +4,12 @@
 use crate::history::{ALL, lines, part};
 use crate::turns::{Input, Turn, turns_run};
 use book_trials::no_acts;
+use books_schema::ready_connection::{Leftover, Orderly};
 use command_line::{Fault, Work};
 use line_work::do_work;
+use refused_calls::{Call, Told, is_refused};
 use sqlite::Connection;
 use std::process::Abort;
-use tables::opening::{Leftover, Orderly};
-use trials::{Call, Told, is_refused};
 
 // Room for what is printed, so that it asks for no memory.
 const ROOM: usize = 64;

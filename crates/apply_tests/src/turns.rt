@@ -1,11 +1,11 @@
 //! Lines of the program over books in memory, one of which takes in a text.
 
 use book_trials::{Line, Receiver, line_run};
+use books_schema::ready_connection::Orderly;
 use command_line::FilesAt;
 use sqlite::Connection;
 use std::io::{self, ErrorKind, Read};
 use std::process::Abort;
-use tables::opening::Orderly;
 
 /// A text that a line reads. Behind it the input ends or fails.
 #[derive(Clone, Copy)]

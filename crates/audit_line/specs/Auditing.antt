@@ -7,8 +7,8 @@ use Rattle.sqlite.specs.State.{State}
 use Rattle.label.specs.Days.{day_text}
 use Rattle.machine.specs.Acts.{Act}
 use Rattle.machine.specs.Once.{IsHistory}
-use Rattle.tables.specs.declared.opening.Leftover.{Leftover}
-use Rattle.tables.specs.declared.opening.Leftover.TheVariants.{Connection}
+use Rattle.books_schema.specs.declared.ready_connection.Leftover.{Leftover}
+use Rattle.books_schema.specs.declared.ready_connection.Leftover.TheVariants.{Connection}
 use Rattle.store.specs.Opening.{Found, HasSchema, IsOfNone, AreRowsAt, IsCleanLeft}
 use Rattle.same_rows.specs.declared.key.RowKey.{RowKey}
 use Rattle.same_rows.specs.declared.key.RowKey.TheVariants.{Repeat}

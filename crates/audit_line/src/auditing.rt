@@ -8,13 +8,13 @@ ghost use Rattle.audit_line.specs.Auditing.{IsAuditTold, IsFindingTold, IsLeftAs
 use crate::row_text::{key_text, table_of, table_text};
 use crate::shown::Shown;
 use audits::{Finding, audit};
+use books_schema::ready_connection::{Leftover, Orderly};
 use command_line::{AuditFault, Fault};
 use label::BusinessDay;
 use line_books::{AfterWork, NotBegun, fault_of_books};
 use same_rows::RowKey;
 use sqlite::Connection;
 use std::io::{self, Write};
-use tables::opening::{Leftover, Orderly};
 
 /// Holds the books against their acts, begun on the given day or else on the one that their rows tell, and prints how many
 /// acts there are, where every row is that of the acts. No row is changed. On a terminal it shows how far it is.

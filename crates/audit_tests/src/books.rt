@@ -5,6 +5,7 @@ use crate::parts::Part;
 use crate::printed::{history_of, long_text, words as ended};
 use crate::told::words;
 use audits::{Finding, audit};
+use books_schema::ready_connection::{Leftover, Orderly};
 use commands::{Command, Key};
 use label::{BusinessDay, Day};
 use replays::Progress;
@@ -15,7 +16,6 @@ use std::alloc::Global;
 use std::process::Abort;
 use std::str::Lines;
 use store::{Books, Fault};
-use tables::opening::{Leftover, Orderly};
 
 /// The acts of the week.
 pub(crate) const WEEK: &[Part] = &[Part::Weeks];

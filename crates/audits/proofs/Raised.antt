@@ -12,14 +12,14 @@ use Rattle.table_words.specs.Typed.{tables_in, meta_at, with_meta, AreTyped, Are
 use Rattle.table_words.specs.declared.error.TableFault.{TableFault}
 use Rattle.table_words.specs.declared.error.TableFault.TheVariants.{Foreign}
 use Rattle.table_words.proofs.CallLemmas.{if_err}
-use Rattle.tables.specs.Bringing.{IsFilled}
-use Rattle.tables.specs.Settling.{HasRow, HasDayAt, IsRaised}
-use Rattle.tables.specs.declared.older.OlderBooks.{OlderBooks}
-use Rattle.tables.specs.declared.opening.Found.{Found}
-use Rattle.tables.specs.declared.opening.Found.TheVariants.{Newest, Older}
-use Rattle.tables.specs.Opening.{IsReadyAs, ComesTo}
-use Rattle.tables.proofs.BringLemmas.{begins_older}
-use Rattle.tables.proofs.SettleLemmas.{day_of_row}
+use Rattle.books_schema.specs.Bringing.{IsFilled}
+use Rattle.books_schema.specs.Settling.{HasRow, HasDayAt, IsRaised}
+use Rattle.books_schema.specs.declared.older.OlderBooks.{OlderBooks}
+use Rattle.books_schema.specs.declared.ready_connection.Found.{Found}
+use Rattle.books_schema.specs.declared.ready_connection.Found.TheVariants.{Newest, Older}
+use Rattle.books_schema.specs.Opening.{IsReadyAs, ComesTo}
+use Rattle.books_schema.proofs.BringLemmas.{begins_older}
+use Rattle.books_schema.proofs.SettleLemmas.{day_of_row}
 use Rattle.machine.specs.Acts.{Act}
 use Rattle.machine.specs.Standing.{today}
 use Rattle.store.specs.Books.{AreRowsOf}

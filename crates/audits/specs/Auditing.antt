@@ -7,10 +7,10 @@ use Rattle.sqlite_trees.specs.declared.store.Store.{Ghosts}
 use Rattle.sqlite_trees.specs.View.{doubt}
 use Rattle.commands.specs.declared.rows.RepeatRow.{RepeatRow}
 use Rattle.table_words.specs.Typed.{tables_in, Keeps}
-use Rattle.tables.specs.Opening.{HasSchema, IsClosed}
-use Rattle.tables.specs.declared.opening.Found.{Found}
-use Rattle.tables.specs.declared.opening.Leftover.{Leftover}
-use Rattle.tables.specs.declared.opening.Leftover.TheVariants as left
+use Rattle.books_schema.specs.Opening.{HasSchema, IsClosed}
+use Rattle.books_schema.specs.declared.ready_connection.Found.{Found}
+use Rattle.books_schema.specs.declared.ready_connection.Leftover.{Leftover}
+use Rattle.books_schema.specs.declared.ready_connection.Leftover.TheVariants as left
 use Rattle.machine.specs.Acts.{Act}
 use Rattle.machine.specs.Once.{IsHistory}
 use Rattle.machine.specs.Tables.{Tables, tables_of, repeat_row}

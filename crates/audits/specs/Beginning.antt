@@ -8,8 +8,8 @@ use Rattle.same_rows.specs.Differing.{rule_called}
 use Rattle.replays.specs.Starting.{first_day}
 use Rattle.replays.specs.declared.start.Start.{Start}
 use Rattle.replays.specs.declared.start.Start.TheVariants.{Received, Opened}
-use Rattle.audits.specs.declared.begun.Begun.{Begun}
-use Rattle.audits.specs.declared.begun.Begun.TheVariants.{On, Missing, Untyped}
+use Rattle.audits.specs.declared.first_day.Begun.{Begun}
+use Rattle.audits.specs.declared.first_day.Begun.TheVariants.{On, Missing, Untyped}
 
 -- this row would tell it, and there is none such
 abbrev pub IsUntold : Tables → Option Start → RowKey → Type 0

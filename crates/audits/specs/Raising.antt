@@ -3,11 +3,11 @@ use Rattle.std.specs.Prelude.{◌≡◌, ◌⊎◌, ◌↔◌, List, ℤ}
 use Rattle.sqlite.specs.State.{State}
 use Rattle.sqlite.specs.Tree.{Trees}
 use Rattle.table_words.specs.Steps.{IsReady}
-use Rattle.tables.specs.Bringing.{AreFillersTyped, IsOlder, IsBrought}
-use Rattle.tables.specs.Older.{number}
-use Rattle.tables.specs.Settling.{HasDayAt, IsRaised}
-use Rattle.tables.specs.declared.opening.Found.{Found}
-use Rattle.tables.specs.declared.opening.Found.TheVariants.{Newest, Older}
+use Rattle.books_schema.specs.Bringing.{AreFillersTyped, IsOlder, IsBrought}
+use Rattle.books_schema.specs.Older.{number}
+use Rattle.books_schema.specs.Settling.{HasDayAt, IsRaised}
+use Rattle.books_schema.specs.declared.ready_connection.Found.{Found}
+use Rattle.books_schema.specs.declared.ready_connection.Found.TheVariants.{Newest, Older}
 use Rattle.machine.specs.Acts.{Act}
 use Rattle.store.specs.Books.{AreRowsOf}
 use Rattle.store.specs.Opening.{third_number, AreRowsAt}

@@ -1,12 +1,12 @@
 //! A file of the books held against the acts that it keeps.
 #![tactic(auto)]
 
-mod begun;
 mod comparing;
 mod finding;
+mod first_day;
 mod halves;
+mod newest_tables;
 mod one_table;
-mod raising;
 mod reading;
 mod replayed;
 mod whole;

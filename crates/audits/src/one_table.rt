@@ -9,13 +9,13 @@ use same_rows::{Compared, RowKey, first_difference};
 use sqlite::{Alter, Transaction};
 use std::alloc::Global;
 use table_words::error::TableFault;
-use whole_tables::all_rows;
+use whole_tables::{Entire, all_rows};
 
 /// What comparing has told so far: a row that differs, or none.
 pub(crate) type Told = Result<Option<RowKey>, Unread>;
 
 /// The first row of the table that the two have not alike.
-pub(crate) fn compare<T: Compared, S: Alter, M: Alter>(
+pub(crate) fn compare<T: Compared + Entire, S: Alter, M: Alter>(
     alloc: Global,
     books: &mut Transaction<'_, S>,
     replayed: &mut Transaction<'_, M>,
@@ -37,7 +37,7 @@ pub(crate) fn compare<T: Compared, S: Alter, M: Alter>(
 }
 
 /// Compares the table too, where nothing was told so far.
-pub(crate) fn next<T: Compared, S: Alter, M: Alter>(
+pub(crate) fn next<T: Compared + Entire, S: Alter, M: Alter>(
     alloc: Global,
     books: &mut Transaction<'_, S>,
     replayed: &mut Transaction<'_, M>,

@@ -12,19 +12,20 @@ ghost use Rattle.slices.specs.Books.{IsBooksOf};
 ghost use Rattle.store.specs.Opening.{IsCleanLeft, HasSchema, AreRowsAt};
 ghost use Rattle.store.specs.declared.fault.Fault.TheVariants.{Store as StoreFault, Foreign as ForeignFault};
 ghost use Rattle.history_tables.specs.Repeats.{repeats};
-ghost use Rattle.tables.specs.Opening.{IsOfNone, IsReadyAs};
-ghost use Rattle.tables.specs.declared.opening.Found.{Found as FoundBooks};
+ghost use Rattle.books_schema.specs.Opening.{IsOfNone, IsReadyAs};
+ghost use Rattle.books_schema.specs.declared.ready_connection.Found.{Found as FoundBooks};
 ghost use Rattle.whole_tables.specs.Whole.{AreAll};
 ghost use Rattle.replays.specs.Spelled.{AreRepeats};
 ghost use Rattle.audits.specs.Raising.{IsBegunOver, CannotBeRaised};
 ghost use Rattle.audits.specs.Auditing.{IsHeld, SaysIn, IsFound, IsFinding, AreSoundBooks, AreNotRaised, IsLeftAlone, told_unread};
 
-use crate::begun::{Begun, first_day};
 use crate::comparing::compare_tables;
 use crate::finding::{Finding, Unread};
-use crate::raising::raise;
+use crate::first_day::{Begun, first_day};
+use crate::newest_tables::raise;
 use crate::reading::{middle_of, read_acts};
 use crate::replayed::act_rows;
+use books_schema::ready_connection::{Found, Leftover, Orderly, ready};
 use commands::RepeatRow;
 use empty_database::{Honest, open_in_memory};
 use label::BusinessDay;
@@ -32,7 +33,6 @@ use replays::{NotReplayed, Progress, by_act, start_of};
 use sqlite::{Alter, Connection, Transaction};
 use std::alloc::Global;
 use store::Fault;
-use tables::opening::{Found, Leftover, Orderly, ready};
 
 /// What is found where tables were not read.
 fn tell_unread(unread: Unread) -> Result<Finding, Fault>

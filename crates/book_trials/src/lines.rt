@@ -1,13 +1,13 @@
 //! Lines of the program over books in memory: their words, what is printed, what is told, and the exit status.
 
 use crate::ends::Receiver;
+use books_schema::ready_connection::Orderly;
 use command_line::{BooksAt, Fault, FilesAt, Work, run};
 use line_work::{do_work, listen};
 use sqlite::{Alter, Connection};
 use sqlite_disk::Memory;
 use std::cell::Cell;
 use std::io::Write;
-use tables::opening::Orderly;
 
 /// No disk for the acts.
 pub fn no_acts() -> Option<Memory> {

@@ -1,10 +1,10 @@
 //! Books of 2026-05-04.
 
+use books_schema::ready_connection::{Leftover, Orderly};
 use label::{BusinessDay, Day};
 use sqlite::{Alter, Connection};
 use std::alloc::Global;
 use store::{Books, Fault, OpenFault};
-use tables::opening::{Leftover, Orderly};
 
 fn business_day(text: &[u8]) -> Option<BusinessDay> {
     let day = Day::parse(text)?;

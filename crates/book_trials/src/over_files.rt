@@ -1,9 +1,9 @@
 //! Work over a connection to files in memory.
 
 use crate::files::{Calls, Failures, Pair, Stopping};
+use books_schema::ready_connection::{Leftover, Orderly};
 use sqlite::{Alter, Connection, Files, Options};
 use std::alloc::Global;
-use tables::opening::{Leftover, Orderly};
 
 /// What is done over one connection.
 pub trait Work {

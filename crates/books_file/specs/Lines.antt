@@ -12,8 +12,8 @@ use Rattle.sqlite.specs.Held.{Held}
 use Rattle.sqlite.specs.Files.{over_files, file_state, IsOpened}
 use Rattle.sqlite.specs.Start.{FindsIn}
 use Rattle.sqlite.specs.Closing.{IsCopied}
-use Rattle.tables.specs.declared.opening.Leftover.{Leftover}
-use Rattle.tables.specs.declared.opening.Leftover.TheVariants.{Connection, Store as StoreOf}
+use Rattle.books_schema.specs.declared.ready_connection.Leftover.{Leftover}
+use Rattle.books_schema.specs.declared.ready_connection.Leftover.TheVariants.{Connection, Store as StoreOf}
 use Rattle.store.specs.Opening.{IsCleanLeft}
 use Rattle.command_line.specs.declared.fault.Fault.{Fault}
 use Rattle.command_line.specs.declared.fault.Fault.TheVariants.{Acts, Io, Store}

@@ -4,9 +4,9 @@ ghost use Rattle.std.specs.Prelude.{◌≡◌, None};
 ghost use Rattle.books_file.specs.declared.left.FilesLeft.TheVariants.{Unopened};
 ghost use Rattle.books_file.specs.Lines.{IsStoreOf};
 
+use books_schema::ready_connection::Leftover;
 use sqlite::{Alter, FileStore, Files};
 use sqlite_disk::Disk;
-use tables::opening::Leftover;
 
 /// What a line leaves of the file of the books and its log.
 pub enum FilesLeft<D: Disk> {

@@ -9,12 +9,12 @@ use crate::opening::{books_of, new_books};
 use crate::table::Table;
 use crate::wide::{Long, exchanges_long};
 use book_trials::{Receiver, answer, logged, request};
+use books_schema::ready_connection::Orderly;
 use house::{Answered, House, ServeFault};
 use sqlite::{Alter, Connection};
 use std::alloc::Global;
 use std::io::Write;
 use std::process::Abort;
-use tables::opening::Orderly;
 
 #[derive(Clone, Copy)]
 pub(crate) enum Asked {

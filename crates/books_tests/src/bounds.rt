@@ -5,7 +5,7 @@ use crate::samples;
 use crate::steps::{On, Step};
 use commands::limits::{BINS_MAX, ITEMS_MAX};
 use commands::{BinKind, Command, NewBin};
-use open_lines::OpenLines;
+use open_orders::OpenLines;
 use slices::{Bounds, Known, RowsKnown, read_slice};
 use sqlite::{Alter, Connection, Transaction};
 use std::alloc::Global;

@@ -2,10 +2,10 @@
 
 use crate::steps::{Step, take_all};
 use book_trials::{Pair, Work, after_work};
+use books_schema::ready_connection::{Leftover, Orderly};
 use sqlite::{Connection, Options};
 use std::alloc::Global;
 use std::process::Abort;
-use tables::opening::{Leftover, Orderly};
 
 /// Steps that are taken over one connection.
 #[derive(Drop)]

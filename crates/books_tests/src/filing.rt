@@ -5,13 +5,13 @@ use crate::disk::run;
 use crate::opening::books_of;
 use crate::steps::{On, Step};
 use crate::table::{Left, Table};
+use books_schema::ready_connection::Orderly;
 use command_line::tell;
 use house::House;
 use service::import;
 use sqlite::{Alter, Connection};
 use std::alloc::Global;
 use std::process::Abort;
-use tables::opening::Orderly;
 
 // Files that do not read as one, one without rows, and files of which a row is refused.
 pub(crate) static FILES_REFUSED: &str = r#"

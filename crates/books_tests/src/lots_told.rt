@@ -1,13 +1,13 @@
 //! What the books tell of a lot: the heads of its card and its notice, and its lines, bins and shipments, one at a time.
 
 use crate::opening::books_of;
+use books_schema::ready_connection::Orderly;
 use commands::{BinUnits, CardKind, CardRow, Refusal, ShippedUnits, Sink, Stop};
 use label::Day;
 use sqlite::{Alter, Connection};
 use std::alloc::Global;
 use std::process::Abort;
 use store::{Books, EachFault, Fault};
-use tables::opening::Orderly;
 use values::{Gtin, Lot, LotId};
 
 /// A record that is told.

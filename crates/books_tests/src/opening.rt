@@ -5,11 +5,11 @@ use crate::disk::run;
 use crate::steps::{On, Step};
 use crate::table::{Left, Table};
 use book_trials::closed;
+use books_schema::ready_connection::Orderly;
 use sqlite::{Alter, Connection};
 use std::alloc::Global;
 use std::process::Abort;
 use store::Books;
-use tables::opening::Orderly;
 
 /// Makes books of 2026-05-04.
 pub(crate) fn new_books<S: Alter + Drop>(

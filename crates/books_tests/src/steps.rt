@@ -11,10 +11,10 @@ use crate::order_rows::{gives, has_rows};
 use crate::rows_known::tells_known;
 use crate::table::{Left, Table};
 use crate::table_rows::{creates_nothing, drops, fills, finds, is_no_schema, is_schema};
+use books_schema::ready_connection::Orderly;
 use sqlite::{Alter, Connection};
 use std::alloc::Global;
 use std::process::Abort;
-use tables::opening::Orderly;
 
 #[derive(Clone, Copy)]
 pub(crate) enum Step {

@@ -1,6 +1,8 @@
 use crate::disk::run;
 use crate::samples;
 use crate::steps::{On, Step};
+use books_schema::creation::create;
+use books_schema::ready_connection::{Found, Leftover, Orderly, ready};
 use commands::limits::{ACTS_MAX, KEY_TEXT_MAX, UNITS_MAX};
 use commands::{
     BinKind, ItemRow, LineRow, LotRow, OrderRow, OrderState, RepeatRow, ReservedRow, StagedRow,
@@ -27,8 +29,6 @@ use sqlite::{Alter, Connection, Transaction};
 use std::alloc::Global;
 use std::process::Abort;
 use table_words::error::TableFault;
-use tables::creation::create;
-use tables::opening::{Found, Leftover, Orderly, ready};
 use values::{Gtin, LotId, Name, Text};
 
 /// The rows that a table gives.

@@ -6,9 +6,8 @@ use Rattle.std.specs.List.{list_all}
 use Rattle.std.proofs.lemmas.Fmt.{decimal_injective, signed_decimal_injective}
 use Rattle.std.proofs.lemmas.Bool.Decides.{nat_tests}
 use lib.Signed.{mag}
-use Rattle.values.specs.Values.{is_gtin, is_lot_text, is_qty, is_counted, is_delta, is_between, QTY_MAX}
+use Rattle.values.specs.Values.{is_gtin, is_lot_text, is_qty, is_counted, is_delta, is_between, QTY_MAX, is_least_days}
 use Rattle.values.specs.declared.lot.LotId.{LotId}
-use Rattle.commands.specs.Limits.{is_least_days}
 use Rattle.commands.specs.Words.{bin_kind_word}
 use Rattle.commands.specs.Spelling.{lines_fields, picking_fields}
 use Rattle.commands.specs.Sound.{is_lot_id, is_order_line, is_picking}

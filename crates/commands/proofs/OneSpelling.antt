@@ -4,10 +4,10 @@ use Rattle.std.specs.Prelude.{ℤ, pos, negsuc, ◌&&◌, ◌==◌, codes, decim
 use Rattle.std.specs.Fmt.{signed_decimal}
 use Rattle.std.specs.List.{list_all}
 use Rattle.std.proofs.lemmas.Bool.Decides.{nat_tests}
-use Rattle.values.specs.Values.{is_name, is_title, is_gtin, is_qty, is_counted, is_delta}
+use Rattle.values.specs.Values.{is_name, is_title, is_gtin, is_qty, is_counted, is_delta, is_least_days}
 use Rattle.label.specs.Days.{is_day, is_business_day, day_text}
 use Rattle.values.specs.declared.lot.LotId.{LotId}
-use Rattle.commands.specs.Limits.{has_order_lines, is_least_days}
+use Rattle.commands.specs.Limits.{has_order_lines}
 use Rattle.commands.specs.Words.{bin_kind_word}
 use Rattle.commands.specs.Spelling.{fields, spelling, lines_fields, order_fields, picking_fields}
 use Rattle.commands.specs.Sound.{is_sound, is_lot_id, is_order_line, are_lines, is_new_order, is_picking}

@@ -3,6 +3,7 @@ pub mod Lists
 pub mod Refusals
 pub mod Words
 pub mod Spelling
+pub mod Keys
 pub mod Replies
 pub mod Sound
 pub mod Tables

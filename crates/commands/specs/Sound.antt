@@ -1,10 +1,10 @@
 -- Every value of a command and of a key keeps its rule.
 use Rattle.std.specs.Prelude.{Bool, ◌&&◌, List}
 use Rattle.std.specs.List.{list_all}
-use Rattle.values.specs.Values.{is_name, is_title, is_gtin, is_lot_text, is_qty, is_counted, is_delta, is_line_no}
+use Rattle.values.specs.Values.{is_name, is_title, is_gtin, is_lot_text, is_qty, is_counted, is_delta, is_line_no, is_least_days}
 use Rattle.label.specs.Days.{is_day, is_business_day}
 use Rattle.values.specs.declared.lot.LotId.{LotId}
-use Rattle.commands.specs.Limits.{has_order_lines, is_least_days}
+use Rattle.commands.specs.Limits.{has_order_lines}
 use Rattle.commands.specs.declared.command.OrderLine.{OrderLine}
 use Rattle.commands.specs.declared.command.NewOrder.{NewOrder}
 use Rattle.commands.specs.declared.command.Picking.{Picking}

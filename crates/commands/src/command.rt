@@ -2,11 +2,11 @@ ghost use Rattle.std.specs.Prelude.{◌≡◌, IsTrue};
 ghost use Rattle.values.specs.Values.{checked};
 ghost use Rattle.commands.specs.Limits.{has_order_lines};
 
+use crate::Listed;
 use crate::limits::ORDER_LINES_MAX;
-use crate::{LeastDays, Listed};
 use label::{BusinessDay, Day};
 use std::marker::Model;
-use values::{Counted, Delta, Gtin, LotId, Name, Qty, Title};
+use values::{Counted, Delta, Gtin, LeastDays, LotId, Name, Qty, Title};
 
 /// What a bin is for: units in a STORE bin may be picked, those in a HOLD bin may not.
 #[derive(Clone, Copy)]

@@ -1,7 +1,9 @@
 ghost use Rattle.std.specs.Prelude.{◌≡◌};
+ghost use Rattle.commands.specs.Keys.{is_key_of};
 ghost use Rattle.commands.specs.Spelling.{key_text};
 
 use crate::Buffer;
+use crate::command::Command;
 use crate::limits::KEY_TEXT_MAX;
 use values::{LineNo, Name, Text};
 
@@ -22,6 +24,19 @@ impl Key {
         match self {
             Key::Plain(name) => plain_text(&name),
             Key::Line(delivery, line) => line_text(&delivery, line),
+        }
+    }
+
+    /// Whether the key is of the command's kind: a Receive bears a delivery and a line, and every
+    /// other command a plain key.
+    pub fn is_of(&self, command: &Command) -> bool
+        ensures { result ≡ is_key_of self.now command.now }
+    {
+        match (self, command) {
+            (Key::Line(..), Command::Receive(_)) => true,
+            (Key::Line(..), _) => false,
+            (Key::Plain(_), Command::Receive(_)) => false,
+            (Key::Plain(_), _) => true,
         }
     }
 }

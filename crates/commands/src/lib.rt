@@ -5,7 +5,6 @@ mod buffer;
 mod command;
 mod key;
 pub mod laws;
-mod least;
 pub mod limits;
 mod listed;
 mod names;
@@ -24,7 +23,6 @@ pub use command::{
     Picking, Receipt, Recount,
 };
 pub use key::Key;
-pub use least::LeastDays;
 pub use listed::Listed;
 pub use names::{Added, NamedOrder, Names, OrderStep};
 pub use refusal::Refusal;

@@ -15,9 +15,6 @@ pub const UNITS_MAX: u64 = 10_000_000_000;
 /// The units of one item that open orders still want, at most.
 pub const OPEN_MAX: u64 = 10_000_000_000;
 
-/// The least remaining days that an item asks for, at most.
-pub const LEAST_DAYS_MAX: u16 = 3_650;
-
 /// The acts, at most.
 pub const ACTS_MAX: u64 = 1_000_000_000_000;
 

@@ -1,9 +1,9 @@
 // The rows of the sixteen tables of the books.
 
 use crate::limits::{CARD_NOTE_MAX, KEY_TEXT_MAX};
-use crate::{BinKind, LeastDays, Listed, Short};
+use crate::{BinKind, Listed, Short};
 use label::{BusinessDay, Day};
-use values::{Gtin, LotId, Name, Text, Title};
+use values::{Gtin, LeastDays, LotId, Name, Text, Title};
 
 /// The row of `meta`, less its mark and schema number, which are constants.
 #[derive(Clone, Copy)]

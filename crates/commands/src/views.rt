@@ -1,8 +1,8 @@
 // The records that queries answer.
 
-use crate::{CardRow, ItemRow, LeastDays, Listed, OrderClass, OrderState};
+use crate::{CardRow, ItemRow, Listed, OrderClass, OrderState};
 use label::{BusinessDay, Day};
-use values::{Gtin, Lot, Name, Title};
+use values::{Gtin, LeastDays, Lot, Name, Title};
 
 /// Units of a lot in a bin.
 #[derive(Clone, Copy)]

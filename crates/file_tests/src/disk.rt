@@ -3,12 +3,12 @@
 use crate::failing::trial::{Seen, Trial, tried};
 use crate::steps::{Step, take_all};
 use book_trials::{Calls, Left, Line, Pair, Receiver, Work, after_work, line_run, over};
+use books_schema::ready_connection::{Leftover, Orderly};
 use command_line::FilesAt;
 use sqlite::{Connection, Options};
 use std::alloc::Global;
 use std::io;
 use std::process::Abort;
-use tables::opening::{Leftover, Orderly};
 
 /// How many frames the log of a trial has before it is copied into the database, so that this comes within a day's work too.
 const LOG_FRAMES: usize = 40;

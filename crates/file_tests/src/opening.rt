@@ -1,10 +1,10 @@
 //! Books are made, opened and closed.
 
+use books_schema::ready_connection::Orderly;
 use sqlite::{Alter, Connection};
 use std::alloc::Global;
 use std::process::Abort;
 use store::Books;
-use tables::opening::Orderly;
 
 /// New books of 2026-05-04.
 pub(crate) fn new_books<S: Alter + Drop>(

@@ -4,11 +4,11 @@ use crate::old_files::{OLD_ROWS, OLD_TOLD};
 use crate::opening::books_of;
 use crate::rows::{gives, keeps_rows};
 use book_trials::{QUERIES, answers_line, not_opened};
+use books_schema::ready_connection::Orderly;
 use house::House;
 use sqlite::{Alter, Connection};
 use std::alloc::Global;
 use std::process::Abort;
-use tables::opening::Orderly;
 
 #[derive(Clone, Copy)]
 pub(crate) enum Step {

@@ -6,19 +6,19 @@ ghost use Rattle.row_rules.specs.Seen.{meta_after, none_put, none_dropped};
 ghost use Rattle.row_rules.specs.SeenLots.{in_bin_seen};
 ghost use Rattle.goods_rules.specs.DecidedCount.{count_seen, count_changes, adjust_seen, adjust_changes, is_over_without as is_over_without_lem, found_less as found_less_lem, stock_corrected, correction_replanned as correction_replanned_lem, correction_card as correction_card_lem, correction_cards as correction_cards_lem, change_reply as change_reply_lem, corrections as corrections_lem, units_adjusted as units_adjusted_lem};
 
+use crate::goods::units_in_house;
 use commands::limits::{CARD_NOTE_MAX, UNITS_MAX};
 use commands::{
     Adjustment, CardKind, CardRow, Listed, Recount, Refusal, ReplyField, Short, StockRow, reply,
 };
 use row_rules::cards::lot_units;
-use row_rules::changing::{meta_next, none_dropped, none_put, number_seen};
-use row_rules::judging::first_of;
+use row_rules::change_parts::{meta_next, none_dropped, none_put, number_seen};
+use row_rules::first_refusal::first_of;
+use row_rules::goods_seen::{sees_bin, sees_item};
 use row_rules::plans::{ItemRows, item_rows};
 use row_rules::replanning::{Replanned, replan_item};
-use row_rules::seeing::{sees_bin, sees_item};
 use row_rules::stock::{sees_lot, stock_gone, stock_put, stock_rows_with, units_in_bin};
-use row_rules::summing::{sum_of_staged, sum_of_stock};
-use row_rules::{Change, Slice};
+use row_rules::{Change, Dropped, Put, Slice};
 use std::alloc::{AllocError, Global};
 use values::{Gtin, LotId, Name, Text};
 
@@ -65,9 +65,7 @@ pub fn judge_adjust(slice: &Slice, a: &Adjustment) -> Option<Refusal>
 fn is_over_without(slice: &Slice, gtin: &Gtin, more: u64, fewer: u64) -> bool
     ensures { result ≡ is_over_without_lem slice.now gtin.now more fewer }
 {
-    let stock = sum_of_stock(slice.rows.stock.as_slice(), gtin);
-    let staged = sum_of_staged(slice.rows.staged.as_slice(), gtin);
-    let house = stock.saturating_add(staged);
+    let house = units_in_house(slice, gtin);
     UNITS_MAX < house.saturating_add(more).saturating_sub(fewer)
 }
 
@@ -187,17 +185,19 @@ fn corrected(
 ) -> Change
     ensures { result ≡ record { meta = meta_after slice.now; put = record none_put { stock = put.items; reserved = reserved.put; cards = cards.items }; dropped = record none_dropped { stock = gone.items; reserved = reserved.dropped }; text = change_reply_lem slice.now made.now.change } }
 {
-    let mut rows = none_put(alloc);
-    rows.stock = Listed::from_vec(put);
-    rows.reserved = reserved.put;
-    rows.cards = Listed::from_vec(cards);
-    let mut dropped = none_dropped(alloc);
-    dropped.stock = Listed::from_vec(gone);
-    dropped.reserved = reserved.dropped;
     Change {
         meta: meta_next(slice),
-        put: rows,
-        dropped,
+        put: Put {
+            stock: Listed::from_vec(put),
+            reserved: reserved.put,
+            cards: Listed::from_vec(cards),
+            ..none_put(alloc)
+        },
+        dropped: Dropped {
+            stock: Listed::from_vec(gone),
+            reserved: reserved.dropped,
+            ..none_dropped(alloc)
+        },
         text: change_reply(slice, made.change),
     }
 }

@@ -4,26 +4,25 @@ ghost use Rattle.std.specs.Prelude.{◌≡◌, ◌&&◌, ◌∷◌, not, filter,
 ghost use Rattle.values.specs.Values.{same_text};
 ghost use Rattle.machine.specs.Postings.{is_lot};
 ghost use Rattle.machine.specs.Verdict.{first_refusal};
-ghost use Rattle.row_rules.specs.Seen.{meta_after, none_put, none_dropped, plain_reply as plain_reply_lem, units_seen, expires_otherwise_than, is_over as is_over_lem};
+ghost use Rattle.row_rules.specs.Seen.{meta_after, none_put, none_dropped, plain_reply as plain_reply_lem, capped, stock_units, staged_units, units_seen, expires_otherwise_than, is_over as is_over_lem};
 ghost use Rattle.goods_rules.specs.DecidedReceive.{receive_seen, receive_changes, receive_replanned as receive_replanned_lem, receive_card as receive_card_lem, stock_after as stock_after_lem, stock_rows_after as stock_rows_after_lem, lots_put as lots_put_lem, lots_if_new as lots_if_new_lem, new_lot_row as new_lot_row_lem, lot_rows_after as lot_rows_after_lem};
 
 use commands::limits::UNITS_MAX;
-use commands::{CardKind, CardRow, Key, Listed, LotRow, Receipt, Refusal, StockRow};
+use commands::{CardKind, CardRow, Key, Listed, LotRow, Receipt, Refusal, StagedRow, StockRow};
 use label::Day;
 use row_rules::cards::{delivery_note, lot_units};
-use row_rules::changing::{meta_next, none_dropped, none_put, number_seen, one, plain_reply};
-use row_rules::judging::first_of;
-use row_rules::looking::is_same_lot;
+use row_rules::change_parts::{meta_next, none_dropped, none_put, number_seen, one, plain_reply};
+use row_rules::first_refusal::first_of;
+use row_rules::goods_seen::{lot_seen, sees_bin, sees_item, sees_recall};
+use row_rules::list_parts::{in_front, push_if};
 use row_rules::plans::{ItemRows, item_rows};
-use row_rules::pushing::push_if;
 use row_rules::replanning::{Replanned, replan_item};
-use row_rules::seeing::{lot_seen, sees_bin, sees_item, sees_recall};
+use row_rules::row_search::{rows_without, units_with};
 use row_rules::status::is_expired;
 use row_rules::stock::units_in_bin;
-use row_rules::summing::{sum_of_staged, sum_of_stock};
-use row_rules::{Change, Slice};
+use row_rules::{Change, Dropped, Put, Slice};
 use std::alloc::{AllocError, Global};
-use values::{Gtin, LotId};
+use values::Gtin;
 
 /// The refusal of a receipt, if it is refused.
 pub fn judge_receive(slice: &Slice, r: &Receipt) -> Option<Refusal>
@@ -63,12 +62,24 @@ fn expires_otherwise(lot: Option<LotRow>, expiry: Day) -> bool
     }
 }
 
-// The units of an item in bins or staged.
-fn units_in_house(slice: &Slice, gtin: &Gtin) -> u64
+fn units_in_bins(stock: &[StockRow], gtin: &Gtin) -> u64
+    ensures { result ≡ capped (stock_units gtin.now stock.now) }
+{
+    units_with(stock, gtin)
+}
+
+fn units_on_stages(staged: &[StagedRow], gtin: &Gtin) -> u64
+    ensures { result ≡ capped (staged_units gtin.now staged.now) }
+{
+    units_with(staged, gtin)
+}
+
+/// The units of an item in bins or staged.
+pub fn units_in_house(slice: &Slice, gtin: &Gtin) -> u64
     ensures { result ≡ units_seen slice.now gtin.now }
 {
-    let stock = sum_of_stock(slice.rows.stock.as_slice(), gtin);
-    let staged = sum_of_staged(slice.rows.staged.as_slice(), gtin);
+    let stock = units_in_bins(slice.rows.stock.as_slice(), gtin);
+    let staged = units_on_stages(slice.rows.staged.as_slice(), gtin);
     stock.saturating_add(staged)
 }
 
@@ -100,17 +111,19 @@ fn received(
 ) -> Change
     ensures { result ≡ record { meta = meta_after slice.now; put = record none_put { lots = lots.items; stock = put; reserved = reserved.put; cards = cards }; dropped = record none_dropped { reserved = reserved.dropped }; text = plain_reply_lem slice.now } }
 {
-    let mut rows = none_put(alloc);
-    rows.lots = Listed::from_vec(lots);
-    rows.stock = put;
-    rows.reserved = reserved.put;
-    rows.cards = cards;
-    let mut dropped = none_dropped(alloc);
-    dropped.reserved = reserved.dropped;
     Change {
         meta: meta_next(slice),
-        put: rows,
-        dropped,
+        put: Put {
+            lots: Listed::from_vec(lots),
+            stock: put,
+            reserved: reserved.put,
+            cards,
+            ..none_put(alloc)
+        },
+        dropped: Dropped {
+            reserved: reserved.dropped,
+            ..none_dropped(alloc)
+        },
         text: plain_reply(slice),
     }
 }
@@ -211,19 +224,6 @@ fn units_after(slice: &Slice, r: &Receipt) -> u64
 fn with_stock(alloc: Global, rows: &[StockRow], new: StockRow) -> Result<Vec<StockRow>, AllocError>
     ensures { IfOk result (λ v. v.items ≡ new ∷ filter (λ q. not (is_lot new.lot q.lot && same_text new.bin q.bin)) rows.now) }
 {
-    let mut after = Vec::new(alloc);
-    after.push(new)?;
-    for row in rows {
-        let same = is_same_stock(&new, row);
-        push_if(&mut after, !same, *row)?;
-    }
-    Ok(after)
-}
-
-fn is_same_stock(a: &StockRow, b: &StockRow) -> bool
-    ensures { result ≡ is_lot a.now.lot b.now.lot && same_text a.now.bin b.now.bin }
-{
-    let lot = is_same_lot(&a.lot, &b.lot);
-    let bin = a.bin == b.bin;
-    lot && bin
+    let others = rows_without(alloc, rows, &(new.lot, new.bin))?;
+    in_front(alloc, new, others.as_slice())
 }

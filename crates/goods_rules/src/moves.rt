@@ -7,13 +7,13 @@ ghost use Rattle.row_rules.specs.SeenLots.{in_bin_seen, stock_put as stock_put_l
 ghost use Rattle.goods_rules.specs.DecidedMove.{move_seen, move_changes, move_replanned as move_replanned_lem, units_left as units_left_lem, units_brought as units_brought_lem, stock_rows_moved as stock_rows_moved_lem};
 
 use commands::{Listed, Movement, Refusal, StockRow};
-use row_rules::changing::{meta_next, none_dropped, none_put, plain_reply};
-use row_rules::judging::first_of;
+use row_rules::change_parts::{meta_next, none_dropped, none_put, plain_reply};
+use row_rules::first_refusal::first_of;
+use row_rules::goods_seen::{sees_bin, sees_item};
 use row_rules::plans::{ItemRows, item_rows};
 use row_rules::replanning::{Replanned, replan_item};
-use row_rules::seeing::{sees_bin, sees_item};
 use row_rules::stock::{sees_lot, stock_gone, stock_put, stock_rows_with, units_in_bin};
-use row_rules::{Change, Slice};
+use row_rules::{Change, Dropped, Put, Slice};
 use std::alloc::{AllocError, Global};
 
 /// The refusal of a move, if it is refused.
@@ -63,16 +63,18 @@ fn moved(
 ) -> Change
     ensures { result ≡ record { meta = meta_after slice.now; put = record none_put { stock = put.items; reserved = reserved.put }; dropped = record none_dropped { stock = gone.items; reserved = reserved.dropped }; text = plain_reply_lem slice.now } }
 {
-    let mut rows = none_put(alloc);
-    rows.stock = Listed::from_vec(put);
-    rows.reserved = reserved.put;
-    let mut dropped = none_dropped(alloc);
-    dropped.stock = Listed::from_vec(gone);
-    dropped.reserved = reserved.dropped;
     Change {
         meta: meta_next(slice),
-        put: rows,
-        dropped,
+        put: Put {
+            stock: Listed::from_vec(put),
+            reserved: reserved.put,
+            ..none_put(alloc)
+        },
+        dropped: Dropped {
+            stock: Listed::from_vec(gone),
+            reserved: reserved.dropped,
+            ..none_dropped(alloc)
+        },
         text: plain_reply(slice),
     }
 }

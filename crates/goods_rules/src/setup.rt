@@ -5,12 +5,13 @@ ghost use Rattle.machine.specs.Verdict.{first_refusal};
 ghost use Rattle.goods_rules.specs.DecidedSetup.{item_seen, item_changes, bin_seen, bin_changes};
 
 use commands::limits::{BINS_MAX, ITEMS_MAX};
-use commands::{BinRow, ItemRow, LeastDays, LeastRow, NewBin, NewItem, Refusal};
-use row_rules::changing::{meta_next, none_dropped, none_put, one, plain_reply};
-use row_rules::judging::first_of;
-use row_rules::seeing::{sees_bin, sees_item};
-use row_rules::{Change, Slice};
+use commands::{BinRow, ItemRow, LeastRow, NewBin, NewItem, Refusal};
+use row_rules::change_parts::{meta_next, none_dropped, none_put, one, plain_reply};
+use row_rules::first_refusal::first_of;
+use row_rules::goods_seen::{sees_bin, sees_item};
+use row_rules::{Change, Put, Slice};
 use std::alloc::{AllocError, Global};
+use values::LeastDays;
 
 /// The refusal of a new item, if it is refused.
 pub fn judge_item(slice: &Slice, item: &NewItem) -> Option<Refusal>
@@ -35,12 +36,13 @@ pub fn change_item(alloc: Global, slice: &Slice, item: &NewItem) -> Result<Chang
     };
     let items = one(alloc, row)?;
     let least = one(alloc, asked)?;
-    let mut put = none_put(alloc);
-    put.items = items;
-    put.least = least;
     Ok(Change {
         meta: meta_next(slice),
-        put,
+        put: Put {
+            items,
+            least,
+            ..none_put(alloc)
+        },
         dropped: none_dropped(alloc),
         text: plain_reply(slice),
     })
@@ -64,11 +66,12 @@ pub fn change_bin(alloc: Global, slice: &Slice, bin: &NewBin) -> Result<Change, 
         kind: bin.kind,
     };
     let bins = one(alloc, row)?;
-    let mut put = none_put(alloc);
-    put.bins = bins;
     Ok(Change {
         meta: meta_next(slice),
-        put,
+        put: Put {
+            bins,
+            ..none_put(alloc)
+        },
         dropped: none_dropped(alloc),
         text: plain_reply(slice),
     })

@@ -26,7 +26,8 @@ use Rattle.commands.specs.declared.views.BinUnits.{BinUnits}
 use Rattle.goods_tables.specs.declared.texts.TheConstants.{BINS_OF_LOT}
 use Rattle.table_words.specs.Cells.{is_word, is_count}
 use Rattle.table_words.specs.Schema.{schema_with, stock_tree}
-use Rattle.table_words.specs.Typed.{same_lot_id, is_stock, stock_in, tables_in, AreTyped}
+use Rattle.table_words.specs.Stored.{is_stored_row, stored_row}
+use Rattle.table_words.specs.Typed.{same_lot_id, stock_mapping, tables_in, AreTyped}
 use Rattle.table_words.specs.Steps.{IsReady}
 use Rattle.table_words.proofs.Plans.{same, scan, alone}
 use Rattle.table_words.proofs.ScanLemmas.{passes, show}
@@ -67,10 +68,10 @@ chain : (i j k : List ℕ) → IsBefore i j → IsBefore j k → IsBefore i k
 chain = nat_list_cmp_total.trans
 
 -- the name of the bin, and what is shown
-bin_name : (r : Row) → is_stock r ≡ true → is_word is_name (column r 3) ≡ true
+bin_name : (r : Row) → is_stored_row stock_mapping r ≡ true → is_word is_name (column r 3) ≡ true
 bin_name r h = (and_parts _ _ (and_parts _ _ (and_parts _ _ h).1).1).0
 
-has_shown : (r : Row) → is_stock r ≡ true → has_bin_units (column r 3 ∷ column r 4 ∷ []) ≡ true
+has_shown : (r : Row) → is_stored_row stock_mapping r ≡ true → has_bin_units (column r 3 ∷ column r 4 ∷ []) ≡ true
 has_shown r h =
     let shown_both = is_word is_name (column r 3) && is_count UNITS_MAX (column r 4) in
     let behind = and_parts (is_word is_gtin (column r 1)) (is_word is_lot_text (column r 2) && shown_both) h in
@@ -80,7 +81,7 @@ module _ (lot : LotId) where
   abbrev params : Row
   params = Text lot.gtin ∷ Text lot.lot ∷ []
 
-  at_lot : (r : Row) → is_stock r ≡ true → passes params tests r ≡ same_lot_id lot (stock_in r).lot
+  at_lot : (r : Row) → is_stored_row stock_mapping r ≡ true → passes params tests r ≡ same_lot_id lot (stored_row stock_mapping r).lot
   at_lot r h =
       let p0 = and_parts _ _ h in
       let p1 = and_parts _ _ p0.1 in
@@ -90,12 +91,12 @@ module _ (lot : LotId) where
   distinct : (db : Database) (ready : IsReady db) → AreTyped db.trees → (x y : Row) → Has (db.trees stock_tree) x → Has (db.trees stock_tree) y → passes params tests x ≡ true → passes params tests y ≡ true
       → value_cmp (column x 3) (column y 3) ≡ Equal → value_cmp (rowid x) (rowid y) ≡ Equal
   distinct db ready are x y hx hy px py tie =
-      let tx = all_has (λ r. is_stock r ≡ true) (db.trees stock_tree) x (typed_rows stock stock_laws db.trees are) hx in
-      let ty = all_has (λ r. is_stock r ≡ true) (db.trees stock_tree) y (typed_rows stock stock_laws db.trees are) hy in
-      let lots : (stock_in x).lot ≡ (stock_in y).lot = sym (same_lots lot (stock_in x).lot (sym (at_lot x tx) ∙ px)) ∙ same_lots lot (stock_in y).lot (sym (at_lot y ty) ∙ py) in
+      let tx = all_has (λ r. is_stored_row stock_mapping r ≡ true) (db.trees stock_tree) x (typed_rows stock stock_laws db.trees are) hx in
+      let ty = all_has (λ r. is_stored_row stock_mapping r ≡ true) (db.trees stock_tree) y (typed_rows stock stock_laws db.trees are) hy in
+      let lots : (stored_row stock_mapping x).lot ≡ (stored_row stock_mapping y).lot = sym (same_lots lot (stored_row stock_mapping x).lot (sym (at_lot x tx) ∙ px)) ∙ same_lots lot (stored_row stock_mapping y).lot (sym (at_lot y ty) ∙ py) in
       let bins = word_ties is_name (column x 3) (column y 3) (bin_name x tx) (bin_name y ty) tie in
       apart stock stock_laws db ready x y hx hy tx ty
-      (itself_both _ _ (ap (same_lot_id (stock_in x).lot) (sym lots) ∙ itself_lot (stock_in x).lot) (ap (bytes_eq (stock_in x).bin) (sym bins) ∙ itself_bytes (stock_in x).bin))
+      (itself_both _ _ (ap (same_lot_id (stored_row stock_mapping x).lot) (sym lots) ∙ itself_lot (stored_row stock_mapping x).lot) (ap (bytes_eq (stored_row stock_mapping x).bin) (sym bins) ∙ itself_bytes (stored_row stock_mapping x).bin))
 
   -- what is known of all that the query shows
   abbrev IsAll : Database → List BinUnits → Type 0
@@ -113,10 +114,10 @@ module _ (lot : LotId) where
       let apart_rows = distinct old.now ready are in
       let all = stored old.now.trees params stock_tree 3 tests shown rows a up apart_rows in
       let is = are_shown old.now.trees params stock_tree 3 tests shown rows a up apart_rows in
-      let rises = λ (x y : Row) (tx : is_stock x ≡ true) (ty : is_stock y ≡ true) (low : value_cmp (column x 3) (column y 3) ≡ Less). word_rises is_name (column x 3) (column y 3) (bin_name x tx) (bin_name y ty) low in
-      let good = stored_good old.now.trees params stock_tree 3 tests shown rows a up apart_rows is_stock stock_in bytes_eq same_bytes itself_bytes IsBefore never chain (λ (s : StockRow). s.bin) (λ s. same_lot_id lot s.lot) at_lot rises (typed_rows stock stock_laws old.now.trees are) in
-      let ordered = in_key_order old.now.trees params stock_tree 3 tests shown rows a up apart_rows is_stock stock_in bytes_eq same_bytes itself_bytes IsBefore never chain (λ (s : StockRow). s.bin) (λ s. same_lot_id lot s.lot) at_lot rises (typed_rows stock stock_laws old.now.trees are) in (
-        (map stock_in all, ordered, ap (map bin_units_read) is ∙ map-map bin_units_read (show params shown) all ∙ sym (map-map bin_units stock_in all)),
+      let rises = λ (x y : Row) (tx : is_stored_row stock_mapping x ≡ true) (ty : is_stored_row stock_mapping y ≡ true) (low : value_cmp (column x 3) (column y 3) ≡ Less). word_rises is_name (column x 3) (column y 3) (bin_name x tx) (bin_name y ty) low in
+      let good = stored_good old.now.trees params stock_tree 3 tests shown rows a up apart_rows stock.is stock.reads bytes_eq same_bytes itself_bytes IsBefore never chain (λ (s : StockRow). s.bin) (λ s. same_lot_id lot s.lot) at_lot rises (typed_rows stock stock_laws old.now.trees are) in
+      let ordered = in_key_order old.now.trees params stock_tree 3 tests shown rows a up apart_rows stock.is stock.reads bytes_eq same_bytes itself_bytes IsBefore never chain (λ (s : StockRow). s.bin) (λ s. same_lot_id lot s.lot) at_lot rises (typed_rows stock stock_laws old.now.trees are) in (
+        (map stock.reads all, ordered, ap (map bin_units_read) is ∙ map-map bin_units_read (show params shown) all ∙ sym (map-map bin_units stock.reads all)),
         subst (AllByRecursion (λ v. has_bin_units v ≡ true)) (sym is) (all_map (λ v. has_bin_units v ≡ true) (show params shown) all (all_weaker _ (λ r. has_bin_units (show params shown r) ≡ true) has_shown all good)),
       )
 

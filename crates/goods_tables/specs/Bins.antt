@@ -1,11 +1,10 @@
 -- The table `bins`.
-use Rattle.std.specs.Prelude.{◌≡◌, ℕ, Bool, true, bytes_eq, List, [], ◌∷◌, codes}
+use Rattle.std.specs.Prelude.{◌≡◌, ℕ, true, bytes_eq, List, [], ◌∷◌, codes}
 use Rattle.std.proofs.Common.{refl, ap, ◌∙◌}
 use Rattle.std.proofs.lemmas.Bool.{and_parts}
 use Rattle.sqlite.specs.declared.types.Value.{Value}
-use Rattle.sqlite.specs.declared.types.Value.TheVariants.{Null, Text}
+use Rattle.sqlite.specs.declared.types.Value.TheVariants.{Text}
 use Rattle.sqlite.specs.Order.{Row, column, bytes}
-use Rattle.sqlite.specs.Term.{lit, col}
 use Rattle.sqlite.specs.Rowids.TheVariants.{Chosen}
 use Rattle.sqlite.specs.Listing.{understood}
 use Rattle.sqlite_tied.specs.Compute.{everything}
@@ -17,42 +16,34 @@ use Rattle.commands.specs.declared.rows.BinRow.{BinRow}
 use Rattle.goods_tables.specs.declared.texts.TheConstants.{ADD_BIN, BINS_OF, ALL_BINS}
 use Rattle.table_words.specs.Found.{AreRows}
 use Rattle.table_words.specs.Cells.{is_the_text}
+use Rattle.table_words.specs.Stored.{is_stored_row, stored_row}
 use Rattle.table_words.specs.Schema.{bins_tree, bins_table}
-use Rattle.table_words.specs.Typed.{is_bin, bin_in, has_bin, bin_read, same_bin, bin_key, bin_cells}
+use Rattle.table_words.specs.Typed.{bin_mapping, same_bin, bin_key}
 use Rattle.table_words.proofs.Plans.{same, by_rowid}
 use Rattle.table_words.proofs.ScanLemmas.{passes, in_order}
 use Rattle.table_words.proofs.WriteLemmas.{cast_null}
 use Rattle.table_words.proofs.CellLemmas.{and_true, same_word, equals_text, bin_kind_back}
 use Rattle.table_words.proofs.KeyLemmas.{same_bytes, itself_bytes}
 use Rattle.keyed_rows.specs.declared.reading.All.{All}
-use Rattle.keyed_rows.specs.Described.{Described, IsLawful, AddIs, Query, QueryIs, IsSought, keyed}
+use Rattle.keyed_rows.specs.Described.{Described, IsLawful, AddIs, Query, QueryIs, IsSought}
+use Rattle.keyed_rows.specs.Mapped.{planned, IsMapped}
 use Rattle.keyed_rows.proofs.Laws.{one_keyed, rows_of, found_by_key}
 
 -- what the table is
 abbrev pub bins : Described BinRow (List ℕ)
-bins = record {
+bins = planned bin_mapping (record {
   place = 2;
-  layout = keyed bins_tree (codes "bins") (bins_table bins_tree).columns (1 ∷ []);
-  is = is_bin;
-  reads = bin_in;
-  shown = col 1 1 ∷ col 1 2 ∷ [];
-  has = has_bin;
-  seen = bin_read;
+  tree = bins_tree;
+  name = codes "bins";
+  columns = (bins_table bins_tree).columns;
   key = bin_key;
   same = same_bin;
-  cells = bin_cells;
   key_cells = λ k. Text k ∷ [];
+  key_places = 1 ∷ [];
   look = λ t k. t.bin k;
   set = λ f t. record t { bin = f };
-  tests = same 1 0 ∷ [];
   add = ADD_BIN.now;
-  add_terms = lit Null ∷ col 0 0 ∷ col 0 1 ∷ [];
-  source = λ s. Null ∷ bin_cells s;
-}
-
--- it has no number
-abbrev pub fits_bin : BinRow → Bool
-fits_bin s = true
+})
 
 -- those of a name
 abbrev pub bins_of : Query BinRow (List ℕ) (List ℕ)
@@ -90,12 +81,15 @@ add_is : AddIs bins
 unfolding understood everything
 add_is rest = (refl, (refl, refl))
 
-at_key : (k : List ℕ) (r : Row) → is_bin r ≡ true → passes (bins.key_cells k) bins.tests r ≡ same_bin k (bin_key (bin_in r))
+at_key : (k : List ℕ) (r : Row) → is_stored_row bin_mapping r ≡ true → passes (bins.key_cells k) bins.tests r ≡ same_bin k (bin_key (stored_row bin_mapping r))
 at_key k r h = and_true _ ∙ same_word is_name (column r 1) (Text k) k (and_parts _ _ h).0 refl
 
 -- what is written reads as the row
-back : (id : Value) (s : BinRow) → bin_in (id ∷ bin_cells s) ≡ s
+back : (id : Value) (s : BinRow) → stored_row bin_mapping (id ∷ bins.cells s) ≡ s
 back id s = ap (λ x. let r : BinRow = record { name = s.name; kind = x } in r) (bin_kind_back s.kind)
+
+pub bins_mapped : IsMapped bin_mapping.columns 2 bin_mapping bins
+bins_mapped = record { few = refl; cells = λ s. refl; has = λ r. refl; seen = λ r. refl; back = λ s. refl }
 
 pub bins_laws : IsLawful bins
 bins_laws = record {
@@ -122,7 +116,7 @@ bins_of_is : QueryIs bins bins_of
 unfolding understood everything
 bins_of_is rest = (refl, refl, (refl, refl))
 
-bins_of_at : (name : List ℕ) (r : Row) → is_bin r ≡ true → passes (bins_of.params name) bins_of.tests r ≡ bytes_eq name (bytes (column r 1))
+bins_of_at : (name : List ℕ) (r : Row) → is_stored_row bin_mapping r ≡ true → passes (bins_of.params name) bins_of.tests r ≡ bytes_eq name (bytes (column r 1))
 bins_of_at name r h = and_true _ ∙ same_word is_name (column r 1) (Text name) name (and_parts _ _ h).0 refl
 
 pub bins_of_laws : IsSought bins bins_of AreBinsOf

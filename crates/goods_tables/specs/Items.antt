@@ -1,10 +1,9 @@
 -- The table `items`.
-use Rattle.std.specs.Prelude.{◌≡◌, ℕ, Bool, true, bytes_eq, List, [], ◌∷◌, codes}
+use Rattle.std.specs.Prelude.{◌≡◌, ℕ, true, bytes_eq, List, [], ◌∷◌, codes}
 use Rattle.std.proofs.Common.{refl, ◌∙◌}
 use Rattle.std.proofs.lemmas.Bool.{and_parts}
-use Rattle.sqlite.specs.declared.types.Value.TheVariants.{Null, Text}
+use Rattle.sqlite.specs.declared.types.Value.TheVariants.{Text}
 use Rattle.sqlite.specs.Order.{Row, column, bytes}
-use Rattle.sqlite.specs.Term.{lit, col}
 use Rattle.sqlite.specs.Listing.{understood}
 use Rattle.sqlite_tied.specs.Compute.{everything}
 use Rattle.values.specs.Values.{is_gtin}
@@ -13,42 +12,34 @@ use Rattle.commands.specs.declared.rows.ItemRow.{ItemRow}
 use Rattle.goods_tables.specs.declared.texts.TheConstants.{ADD_ITEM, ITEMS_OF, ALL_ITEMS}
 use Rattle.table_words.specs.Found.{AreRows}
 use Rattle.table_words.specs.Cells.{is_the_text}
+use Rattle.table_words.specs.Stored.{is_stored_row, stored_row}
 use Rattle.table_words.specs.Schema.{items_tree, items_table}
-use Rattle.table_words.specs.Typed.{is_item, item_in, has_item, item_read, same_item, item_key, item_cells}
+use Rattle.table_words.specs.Typed.{item_mapping, same_item, item_key}
 use Rattle.table_words.proofs.Plans.{same, by_rowid}
 use Rattle.table_words.proofs.ScanLemmas.{passes, in_order}
 use Rattle.table_words.proofs.WriteLemmas.{cast_null}
 use Rattle.table_words.proofs.CellLemmas.{and_true, same_word, equals_text}
 use Rattle.table_words.proofs.KeyLemmas.{same_bytes, itself_bytes}
 use Rattle.keyed_rows.specs.declared.reading.All.{All}
-use Rattle.keyed_rows.specs.Described.{Described, IsLawful, AddIs, Query, QueryIs, IsSought, keyed}
+use Rattle.keyed_rows.specs.Described.{Described, IsLawful, AddIs, Query, QueryIs, IsSought}
+use Rattle.keyed_rows.specs.Mapped.{planned, IsMapped}
 use Rattle.keyed_rows.proofs.Laws.{one_keyed, rows_of, found_by_key}
 
 -- what the table is
 abbrev pub items : Described ItemRow (List ℕ)
-items = record {
+items = planned item_mapping (record {
   place = 1;
-  layout = keyed items_tree (codes "items") (items_table items_tree).columns (1 ∷ []);
-  is = is_item;
-  reads = item_in;
-  shown = col 1 1 ∷ col 1 2 ∷ [];
-  has = has_item;
-  seen = item_read;
+  tree = items_tree;
+  name = codes "items";
+  columns = (items_table items_tree).columns;
   key = item_key;
   same = same_item;
-  cells = item_cells;
   key_cells = λ k. Text k ∷ [];
+  key_places = 1 ∷ [];
   look = λ t k. t.item k;
   set = λ f t. record t { item = f };
-  tests = same 1 0 ∷ [];
   add = ADD_ITEM.now;
-  add_terms = lit Null ∷ col 0 0 ∷ col 0 1 ∷ [];
-  source = λ s. Null ∷ item_cells s;
-}
-
--- it has no number
-abbrev pub fits_item : ItemRow → Bool
-fits_item s = true
+})
 
 -- those of a gtin
 abbrev pub items_of : Query ItemRow (List ℕ) (List ℕ)
@@ -86,8 +77,11 @@ add_is : AddIs items
 unfolding understood everything
 add_is rest = (refl, (refl, refl))
 
-at_key : (k : List ℕ) (r : Row) → is_item r ≡ true → passes (items.key_cells k) items.tests r ≡ same_item k (item_key (item_in r))
+at_key : (k : List ℕ) (r : Row) → is_stored_row item_mapping r ≡ true → passes (items.key_cells k) items.tests r ≡ same_item k (item_key (stored_row item_mapping r))
 at_key k r h = and_true _ ∙ same_word is_gtin (column r 1) (Text k) k (and_parts _ _ h).0 refl
+
+pub items_mapped : IsMapped item_mapping.columns 2 item_mapping items
+items_mapped = record { few = refl; cells = λ s. refl; has = λ r. refl; seen = λ r. refl; back = λ s. refl }
 
 pub items_laws : IsLawful items
 items_laws = record {
@@ -114,7 +108,7 @@ items_of_is : QueryIs items items_of
 unfolding understood everything
 items_of_is rest = (refl, refl, (refl, refl))
 
-items_of_at : (gtin : List ℕ) (r : Row) → is_item r ≡ true → passes (items_of.params gtin) items_of.tests r ≡ bytes_eq gtin (bytes (column r 1))
+items_of_at : (gtin : List ℕ) (r : Row) → is_stored_row item_mapping r ≡ true → passes (items_of.params gtin) items_of.tests r ≡ bytes_eq gtin (bytes (column r 1))
 items_of_at gtin r h = and_true _ ∙ same_word is_gtin (column r 1) (Text gtin) gtin (and_parts _ _ h).0 refl
 
 pub items_of_laws : IsSought items items_of AreItemsOf

@@ -3,63 +3,53 @@ use Rattle.std.specs.Prelude.{◌≡◌, ℕ, Bool, true, nat_lt, bytes_eq, List
 use Rattle.std.proofs.Common.{refl, ◌∙◌, pos}
 use Rattle.std.proofs.lemmas.Bool.{and_parts}
 use Rattle.sqlite.specs.declared.types.Value.{Value}
-use Rattle.sqlite.specs.declared.types.Value.TheVariants.{Null, Int, Text}
+use Rattle.sqlite.specs.declared.types.Value.TheVariants.{Int, Text}
 use Rattle.sqlite.specs.Collation.TheVariants.{Binary}
 use Rattle.sqlite.specs.Order.{Row, column, bytes}
-use Rattle.sqlite.specs.Term.{lit, col}
 use Rattle.sqlite.specs.Listing.{understood}
 use Rattle.sqlite_sql.specs.declared.ops.BinaryOp.TheVariants.{Compare}
 use Rattle.sqlite_sql.specs.declared.ops.CompareOp.TheVariants.{Gt}
 use Rattle.sqlite_sql.specs.Ops.{binary, is_true}
 use Rattle.sqlite_tied.specs.Compute.{everything}
-use Rattle.values.specs.Values.{is_gtin}
+use Rattle.values.specs.Values.{is_gtin, LEAST_DAYS_MAX}
 use Rattle.commands.specs.Tables.{Tables}
 use Rattle.commands.specs.declared.rows.LeastRow.{LeastRow}
-use Rattle.commands.specs.declared.limits.TheConstants.{LEAST_DAYS_MAX}
 use Rattle.goods_tables.specs.declared.texts.TheConstants.{CHANGE_LEAST, ADD_LEAST, LEAST_OF, ASKING_LEAST}
 use Rattle.table_words.specs.Found.{AreRows, only_if}
 use Rattle.table_words.specs.Cells.{is_the_text}
+use Rattle.table_words.specs.Stored.{is_stored_row, stored_row}
 use Rattle.table_words.specs.Schema.{least_tree, least_table}
-use Rattle.table_words.specs.Typed.{is_least, least_in, has_least, least_read, same_least, least_key, least_cells}
+use Rattle.table_words.specs.Typed.{least_mapping, same_least, least_key}
 use Rattle.table_words.proofs.Plans.{same, by_rowid}
 use Rattle.table_words.proofs.ScanLemmas.{passes, in_order}
 use Rattle.table_words.proofs.WriteLemmas.{cast_number, cast_null}
 use Rattle.table_words.proofs.CellLemmas.{and_true, same_word, equals_text}
 use Rattle.table_words.proofs.KeyLemmas.{same_bytes, itself_bytes}
 use Rattle.goods_tables.specs.declared.least.Asking.{Asking}
-use Rattle.keyed_rows.specs.Described.{Described, IsLawful, AddIs, Change, ChangeIs, IsChange, Query, QueryIs, IsSought, keyed}
+use Rattle.keyed_rows.specs.Described.{Described, IsLawful, AddIs, Change, ChangeIs, IsChange, Query, QueryIs, IsSought}
+use Rattle.keyed_rows.specs.Mapped.{planned, whole_change, IsMapped}
 use Rattle.keyed_rows.proofs.Above.{above, above_count}
 use Rattle.keyed_rows.proofs.Laws.{one_keyed, rows_of, found_by_key, found_by_test}
 
 -- what the table is
 abbrev pub least : Described LeastRow (List ℕ)
-least = record {
+least = planned least_mapping (record {
   place = 14;
-  layout = keyed least_tree (codes "least") (least_table least_tree).columns (1 ∷ []);
-  is = is_least;
-  reads = least_in;
-  shown = col 1 1 ∷ col 1 2 ∷ [];
-  has = has_least;
-  seen = least_read;
+  tree = least_tree;
+  name = codes "least";
+  columns = (least_table least_tree).columns;
   key = least_key;
   same = same_least;
-  cells = least_cells;
   key_cells = λ gtin. Text gtin ∷ [];
+  key_places = 1 ∷ [];
   look = λ t gtin. t.least gtin;
   set = λ f t. record t { least = f };
-  tests = same 1 0 ∷ [];
   add = ADD_LEAST.now;
-  add_terms = lit Null ∷ col 0 0 ∷ col 0 1 ∷ [];
-  source = λ s. Null ∷ least_cells s;
-}
-
--- its number is within its limit by its type
-abbrev pub fits_least : LeastRow → Bool
-fits_least s = true
+})
 
 -- the statement that changes a row
 abbrev pub change_least : Change LeastRow
-change_least = record { text = CHANGE_LEAST.now; terms = col 0 0 ∷ col 0 1 ∷ []; values = least_cells }
+change_least = whole_change least CHANGE_LEAST.now
 
 -- those of a gtin
 abbrev pub least_of : Query LeastRow (List ℕ) (List ℕ)
@@ -109,8 +99,11 @@ add_is : AddIs least
 unfolding understood everything
 add_is rest = (refl, (refl, refl))
 
-at_gtin : (gtin : List ℕ) (r : Row) → is_least r ≡ true → passes (Text gtin ∷ []) least.tests r ≡ bytes_eq gtin (bytes (column r 1))
+at_gtin : (gtin : List ℕ) (r : Row) → is_stored_row least_mapping r ≡ true → passes (Text gtin ∷ []) least.tests r ≡ bytes_eq gtin (bytes (column r 1))
 at_gtin gtin r h = and_true _ ∙ same_word is_gtin (column r 1) (Text gtin) gtin (and_parts _ _ h).0 refl
+
+pub least_mapped : IsMapped least_mapping.columns 2 least_mapping least
+least_mapped = record { few = refl; cells = λ s. refl; has = λ r. refl; seen = λ r. refl; back = λ s. refl }
 
 pub least_laws : IsLawful least
 least_laws = record {
@@ -158,7 +151,7 @@ asking_is : QueryIs least asking
 unfolding understood everything
 asking_is rest = (refl, refl, (refl, refl))
 
-asking_at : (by : Asking) (r : Row) → is_least r ≡ true → passes (asking.params by) asking.tests r ≡ is_asking (least_in r)
+asking_at : (by : Asking) (r : Row) → is_stored_row least_mapping r ≡ true → passes (asking.params by) asking.tests r ≡ is_asking (stored_row least_mapping r)
 asking_at by r h = and_true _ ∙ above_count LEAST_DAYS_MAX (column r 2) 0 (and_parts _ _ h).1
 
 pub asking_laws : IsSought least asking AreAsking

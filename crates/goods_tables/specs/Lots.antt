@@ -1,63 +1,53 @@
 -- The table `lots`.
-use Rattle.std.specs.Prelude.{◌≡◌, ℕ, Bool, true, ◌&&◌, bytes_eq, List, [], ◌∷◌, codes}
+use Rattle.std.specs.Prelude.{◌≡◌, ℕ, true, ◌&&◌, bytes_eq, List, [], ◌∷◌, codes}
 use Rattle.std.proofs.Common.{refl, ap, ap₂, ◌∙◌, pos}
 use Rattle.std.proofs.lemmas.Bool.{and_parts}
 use Rattle.sqlite.specs.declared.types.Value.{Value}
-use Rattle.sqlite.specs.declared.types.Value.TheVariants.{Null, Text}
+use Rattle.sqlite.specs.declared.types.Value.TheVariants.{Text}
 use Rattle.sqlite.specs.Order.{Row, column, bytes}
-use Rattle.sqlite.specs.Term.{lit, col}
 use Rattle.sqlite.specs.Rowids.TheVariants.{Chosen}
 use Rattle.sqlite.specs.Listing.{understood}
 use Rattle.sqlite_tied.specs.Compute.{everything}
 use Rattle.sqlite_trees.specs.Tree.{rowid}
 use Rattle.sqlite_rules.specs.Edit.{with_rowid}
-use Rattle.values.specs.Values.{is_between, is_gtin, is_lot_text}
+use Rattle.values.specs.Values.{is_gtin, is_lot_text}
 use Rattle.values.specs.declared.lot.LotId.{LotId}
 use Rattle.commands.specs.Tables.{Tables}
 use Rattle.commands.specs.declared.rows.LotRow.{LotRow}
-use Rattle.commands.specs.declared.limits.TheConstants.{ACTS_MAX}
 use Rattle.goods_tables.specs.declared.texts.TheConstants.{ADD_LOT, CHANGE_LOT, LOTS_OF, LOT_OF, ALL_LOTS}
 use Rattle.table_words.specs.Found.{AreRows}
-use Rattle.table_words.specs.Cells.{is_the_text, is_expiry, flag_number}
+use Rattle.table_words.specs.Cells.{is_the_text, flag_number}
+use Rattle.table_words.specs.Stored.{is_stored_row, stored_row}
 use Rattle.table_words.specs.Schema.{lots_tree, lots_table}
-use Rattle.table_words.specs.Typed.{is_lot, lot_in, has_lot, lot_read, same_lot, lot_key, lot_cells}
+use Rattle.table_words.specs.Typed.{lot_mapping, same_lot, lot_key}
 use Rattle.table_words.proofs.Plans.{same, by_rowid}
 use Rattle.table_words.proofs.ScanLemmas.{passes, in_order}
 use Rattle.table_words.proofs.WriteLemmas.{cast_number, cast_null}
 use Rattle.table_words.proofs.CellLemmas.{and_true, same_word, equals_text, same_lots, itself_lot, flag_back}
 use Rattle.keyed_rows.specs.declared.reading.All.{All}
-use Rattle.keyed_rows.specs.Described.{Described, IsLawful, AddIs, Change, ChangeIs, IsChange, Query, QueryIs, IsSought, keyed}
+use Rattle.keyed_rows.specs.Described.{Described, IsLawful, AddIs, Change, ChangeIs, IsChange, Query, QueryIs, IsSought}
+use Rattle.keyed_rows.specs.Mapped.{planned, whole_change, IsMapped}
 use Rattle.keyed_rows.proofs.Laws.{one_keyed, rows_of, found_by_key}
 
 -- what the table is
 abbrev pub lots : Described LotRow LotId
-lots = record {
+lots = planned lot_mapping (record {
   place = 3;
-  layout = keyed lots_tree (codes "lots") (lots_table lots_tree).columns (1 ∷ 2 ∷ []);
-  is = is_lot;
-  reads = lot_in;
-  shown = col 1 1 ∷ col 1 2 ∷ col 1 3 ∷ col 1 4 ∷ col 1 5 ∷ [];
-  has = has_lot;
-  seen = lot_read;
+  tree = lots_tree;
+  name = codes "lots";
+  columns = (lots_table lots_tree).columns;
   key = lot_key;
   same = same_lot;
-  cells = lot_cells;
   key_cells = λ k. Text k.gtin ∷ Text k.lot ∷ [];
+  key_places = 1 ∷ 2 ∷ [];
   look = λ t k. t.lot k;
   set = λ f t. record t { lot = f };
-  tests = same 1 0 ∷ same 2 1 ∷ [];
   add = ADD_LOT.now;
-  add_terms = lit Null ∷ col 0 0 ∷ col 0 1 ∷ col 0 2 ∷ col 0 3 ∷ col 0 4 ∷ [];
-  source = λ s. Null ∷ lot_cells s;
-}
-
--- its numbers are within their limits
-abbrev pub fits_lot : LotRow → Bool
-fits_lot s = is_expiry s.expiry && is_between 1 ACTS_MAX s.came
+})
 
 -- the statement that changes a row
 abbrev pub change_lot : Change LotRow
-change_lot = record { text = CHANGE_LOT.now; terms = col 0 0 ∷ col 0 1 ∷ col 0 2 ∷ col 0 3 ∷ col 0 4 ∷ []; values = lot_cells }
+change_lot = whole_change lots CHANGE_LOT.now
 
 -- those of a gtin
 abbrev pub lots_of : Query LotRow LotId (List ℕ)
@@ -110,15 +100,18 @@ add_is : AddIs lots
 unfolding understood everything
 add_is rest = (refl, (refl, refl))
 
-at_key : (k : LotId) (r : Row) → is_lot r ≡ true → passes (lots.key_cells k) lots.tests r ≡ same_lot k (lot_key (lot_in r))
+at_key : (k : LotId) (r : Row) → is_stored_row lot_mapping r ≡ true → passes (lots.key_cells k) lots.tests r ≡ same_lot k (lot_key (stored_row lot_mapping r))
 at_key k r h =
     let p0 = and_parts _ _ h in
     let p1 = and_parts _ _ p0.1 in
     ap₂ ◌&&◌ (same_word is_gtin (column r 1) (Text k.gtin) k.gtin p0.0 refl) (and_true _ ∙ same_word is_lot_text (column r 2) (Text k.lot) k.lot p1.0 refl)
 
 -- what is written reads as the row
-back : (id : Value) (s : LotRow) → lot_in (id ∷ lot_cells s) ≡ s
+back : (id : Value) (s : LotRow) → stored_row lot_mapping (id ∷ lots.cells s) ≡ s
 back id s = ap (λ x. let r : LotRow = record { lot = record { gtin = s.lot.gtin; lot = s.lot.lot }; expiry = s.expiry; came = s.came; held = x } in r) (flag_back s.held)
+
+pub lots_mapped : IsMapped lot_mapping.columns 5 lot_mapping lots
+lots_mapped = record { few = refl; cells = λ s. refl; has = λ r. refl; seen = λ r. refl; back = λ s. refl }
 
 pub lots_laws : IsLawful lots
 lots_laws = record {
@@ -157,7 +150,7 @@ lots_of_is : QueryIs lots lots_of
 unfolding understood everything
 lots_of_is rest = (refl, refl, (refl, refl))
 
-lots_of_at : (gtin : List ℕ) (r : Row) → is_lot r ≡ true → passes (lots_of.params gtin) lots_of.tests r ≡ bytes_eq gtin (bytes (column r 1))
+lots_of_at : (gtin : List ℕ) (r : Row) → is_stored_row lot_mapping r ≡ true → passes (lots_of.params gtin) lots_of.tests r ≡ bytes_eq gtin (bytes (column r 1))
 lots_of_at gtin r h = and_true _ ∙ same_word is_gtin (column r 1) (Text gtin) gtin (and_parts _ _ h).0 refl
 
 pub lots_of_laws : IsSought lots lots_of AreLotsOf

@@ -1,54 +1,44 @@
 -- The table `recalls`.
-use Rattle.std.specs.Prelude.{◌≡◌, ℕ, Bool, true, ◌&&◌, bytes_eq, List, [], ◌∷◌, codes}
+use Rattle.std.specs.Prelude.{◌≡◌, ℕ, true, ◌&&◌, bytes_eq, List, [], ◌∷◌, codes}
 use Rattle.std.proofs.Common.{refl, ap₂, ◌∙◌, pos}
 use Rattle.std.proofs.lemmas.Bool.{and_parts}
-use Rattle.sqlite.specs.declared.types.Value.TheVariants.{Null, Text}
+use Rattle.sqlite.specs.declared.types.Value.TheVariants.{Text}
 use Rattle.sqlite.specs.Order.{Row, column, bytes}
-use Rattle.sqlite.specs.Term.{lit, col}
 use Rattle.sqlite.specs.Listing.{understood}
 use Rattle.sqlite_tied.specs.Compute.{everything}
-use Rattle.values.specs.Values.{is_between, is_gtin, is_lot_text}
+use Rattle.values.specs.Values.{is_gtin, is_lot_text}
 use Rattle.values.specs.declared.lot.LotId.{LotId}
 use Rattle.commands.specs.Tables.{Tables}
 use Rattle.commands.specs.declared.rows.RecallRow.{RecallRow}
-use Rattle.commands.specs.declared.limits.TheConstants.{ACTS_MAX}
 use Rattle.goods_tables.specs.declared.texts.TheConstants.{ADD_RECALL, RECALLS_OF}
 use Rattle.table_words.specs.Found.{AreRows}
 use Rattle.table_words.specs.Cells.{is_the_text}
+use Rattle.table_words.specs.Stored.{is_stored_row, stored_row}
 use Rattle.table_words.specs.Schema.{recalls_tree, recalls_table}
-use Rattle.table_words.specs.Typed.{is_recall, recall_in, has_recall, recall_read, same_recall, recall_key, recall_cells}
+use Rattle.table_words.specs.Typed.{recall_mapping, same_recall, recall_key}
 use Rattle.table_words.proofs.Plans.{same, by_rowid}
 use Rattle.table_words.proofs.ScanLemmas.{passes, in_order}
 use Rattle.table_words.proofs.WriteLemmas.{cast_number, cast_null}
 use Rattle.table_words.proofs.CellLemmas.{and_true, same_word, equals_text, same_lots, itself_lot}
-use Rattle.keyed_rows.specs.Described.{Described, IsLawful, AddIs, Query, QueryIs, IsSought, keyed}
+use Rattle.keyed_rows.specs.Described.{Described, IsLawful, AddIs, Query, QueryIs, IsSought}
+use Rattle.keyed_rows.specs.Mapped.{planned, IsMapped}
 use Rattle.keyed_rows.proofs.Laws.{one_keyed, rows_of, found_by_key}
 
 -- what the table is
 abbrev pub recalls : Described RecallRow LotId
-recalls = record {
+recalls = planned recall_mapping (record {
   place = 4;
-  layout = keyed recalls_tree (codes "recalls") (recalls_table recalls_tree).columns (1 ∷ 2 ∷ []);
-  is = is_recall;
-  reads = recall_in;
-  shown = col 1 1 ∷ col 1 2 ∷ col 1 3 ∷ [];
-  has = has_recall;
-  seen = recall_read;
+  tree = recalls_tree;
+  name = codes "recalls";
+  columns = (recalls_table recalls_tree).columns;
   key = recall_key;
   same = same_recall;
-  cells = recall_cells;
   key_cells = λ k. Text k.gtin ∷ Text k.lot ∷ [];
+  key_places = 1 ∷ 2 ∷ [];
   look = λ t k. t.recall k;
   set = λ f t. record t { recall = f };
-  tests = same 1 0 ∷ same 2 1 ∷ [];
   add = ADD_RECALL.now;
-  add_terms = lit Null ∷ col 0 0 ∷ col 0 1 ∷ col 0 2 ∷ [];
-  source = λ s. Null ∷ recall_cells s;
-}
-
--- its numbers are within their limits
-abbrev pub fits_recall : RecallRow → Bool
-fits_recall s = is_between 1 ACTS_MAX s.act
+})
 
 -- those of a gtin
 abbrev pub recalls_of : Query RecallRow LotId (List ℕ)
@@ -71,11 +61,14 @@ add_is : AddIs recalls
 unfolding understood everything
 add_is rest = (refl, (refl, refl))
 
-at_key : (k : LotId) (r : Row) → is_recall r ≡ true → passes (recalls.key_cells k) recalls.tests r ≡ same_recall k (recall_key (recall_in r))
+at_key : (k : LotId) (r : Row) → is_stored_row recall_mapping r ≡ true → passes (recalls.key_cells k) recalls.tests r ≡ same_recall k (recall_key (stored_row recall_mapping r))
 at_key k r h =
     let p0 = and_parts _ _ h in
     let p1 = and_parts _ _ p0.1 in
     ap₂ ◌&&◌ (same_word is_gtin (column r 1) (Text k.gtin) k.gtin p0.0 refl) (and_true _ ∙ same_word is_lot_text (column r 2) (Text k.lot) k.lot p1.0 refl)
+
+pub recalls_mapped : IsMapped recall_mapping.columns 3 recall_mapping recalls
+recalls_mapped = record { few = refl; cells = λ s. refl; has = λ r. refl; seen = λ r. refl; back = λ s. refl }
 
 pub recalls_laws : IsLawful recalls
 recalls_laws = record {
@@ -102,7 +95,7 @@ recalls_of_is : QueryIs recalls recalls_of
 unfolding understood everything
 recalls_of_is rest = (refl, refl, (refl, refl))
 
-recalls_of_at : (gtin : List ℕ) (r : Row) → is_recall r ≡ true → passes (recalls_of.params gtin) recalls_of.tests r ≡ bytes_eq gtin (bytes (column r 1))
+recalls_of_at : (gtin : List ℕ) (r : Row) → is_stored_row recall_mapping r ≡ true → passes (recalls_of.params gtin) recalls_of.tests r ≡ bytes_eq gtin (bytes (column r 1))
 recalls_of_at gtin r h = and_true _ ∙ same_word is_gtin (column r 1) (Text gtin) gtin (and_parts _ _ h).0 refl
 
 pub recalls_of_laws : IsSought recalls recalls_of AreRecallsOf

@@ -1,59 +1,49 @@
 -- The table `stock`.
-use Rattle.std.specs.Prelude.{◌≡◌, ℕ, Bool, true, ◌&&◌, bytes_eq, List, [], ◌∷◌, codes}
+use Rattle.std.specs.Prelude.{◌≡◌, ℕ, true, ◌&&◌, bytes_eq, List, [], ◌∷◌, codes}
 use Rattle.std.proofs.Common.{refl, ap₂, ◌∙◌, pos}
 use Rattle.std.proofs.lemmas.Bool.{and_parts}
-use Rattle.sqlite.specs.declared.types.Value.TheVariants.{Null, Text}
+use Rattle.sqlite.specs.declared.types.Value.TheVariants.{Text}
 use Rattle.sqlite.specs.Order.{Row, column, bytes}
-use Rattle.sqlite.specs.Term.{lit, col}
 use Rattle.sqlite.specs.Listing.{understood}
 use Rattle.sqlite_tied.specs.Compute.{everything}
-use Rattle.values.specs.Values.{is_between, is_gtin, is_lot_text, is_name}
+use Rattle.values.specs.Values.{is_gtin, is_lot_text, is_name}
 use Rattle.values.specs.declared.lot.LotId.{LotId}
 use Rattle.commands.specs.Tables.{Tables}
 use Rattle.commands.specs.declared.rows.StockRow.{StockRow}
-use Rattle.commands.specs.declared.limits.TheConstants.{UNITS_MAX}
 use Rattle.goods_tables.specs.declared.texts.TheConstants.{ADD_STOCK, CHANGE_STOCK, STOCK_OF, STOCK_OF_LOT, DROP_STOCK}
 use Rattle.table_words.specs.Found.{AreRows}
 use Rattle.table_words.specs.Cells.{is_the_text}
+use Rattle.table_words.specs.Stored.{is_stored_row, stored_row}
 use Rattle.table_words.specs.Schema.{stock_tree, stock_table}
-use Rattle.table_words.specs.Typed.{same_lot_id, StockKey, is_stock, stock_in, has_stock, stock_read, same_stock, stock_key, stock_cells}
+use Rattle.table_words.specs.Typed.{same_lot_id, StockKey, stock_mapping, same_stock, stock_key}
 use Rattle.table_words.proofs.Plans.{same, by_rowid}
 use Rattle.table_words.proofs.ScanLemmas.{passes, in_order}
 use Rattle.table_words.proofs.WriteLemmas.{cast_number, cast_null}
 use Rattle.table_words.proofs.CellLemmas.{and_true, and_assoc, same_word, equals_text, same_lots, itself_lot}
 use Rattle.table_words.proofs.KeyLemmas.{same_both, same_bytes, itself_both, itself_bytes}
-use Rattle.keyed_rows.specs.Described.{Described, IsLawful, AddIs, Change, ChangeIs, IsChange, DropIs, Query, QueryIs, IsSought, keyed}
+use Rattle.keyed_rows.specs.Described.{Described, IsLawful, AddIs, Change, ChangeIs, IsChange, DropIs, Query, QueryIs, IsSought}
+use Rattle.keyed_rows.specs.Mapped.{planned, whole_change, IsMapped}
 use Rattle.keyed_rows.proofs.Laws.{one_keyed, rows_of, found_by_key}
 
 -- what the table is
 abbrev pub stock : Described StockRow StockKey
-stock = record {
+stock = planned stock_mapping (record {
   place = 5;
-  layout = keyed stock_tree (codes "stock") (stock_table stock_tree).columns (1 ∷ 2 ∷ 3 ∷ []);
-  is = is_stock;
-  reads = stock_in;
-  shown = col 1 1 ∷ col 1 2 ∷ col 1 3 ∷ col 1 4 ∷ [];
-  has = has_stock;
-  seen = stock_read;
+  tree = stock_tree;
+  name = codes "stock";
+  columns = (stock_table stock_tree).columns;
   key = stock_key;
   same = same_stock;
-  cells = stock_cells;
   key_cells = λ k. Text k.0.gtin ∷ Text k.0.lot ∷ Text k.1 ∷ [];
+  key_places = 1 ∷ 2 ∷ 3 ∷ [];
   look = λ t k. t.stock k.0 k.1;
   set = λ f t. record t { stock = λ a b. f (a, b) };
-  tests = same 1 0 ∷ same 2 1 ∷ same 3 2 ∷ [];
   add = ADD_STOCK.now;
-  add_terms = lit Null ∷ col 0 0 ∷ col 0 1 ∷ col 0 2 ∷ col 0 3 ∷ [];
-  source = λ s. Null ∷ stock_cells s;
-}
-
--- its numbers are within their limits
-abbrev pub fits_stock : StockRow → Bool
-fits_stock s = is_between 1 UNITS_MAX s.qty
+})
 
 -- the statement that changes a row
 abbrev pub change_stock : Change StockRow
-change_stock = record { text = CHANGE_STOCK.now; terms = col 0 0 ∷ col 0 1 ∷ col 0 2 ∷ col 0 3 ∷ []; values = stock_cells }
+change_stock = whole_change stock CHANGE_STOCK.now
 
 -- those of a gtin
 abbrev pub stock_of : Query StockRow StockKey (List ℕ)
@@ -91,13 +81,16 @@ add_is : AddIs stock
 unfolding understood everything
 add_is rest = (refl, (refl, refl))
 
-at_key : (k : StockKey) (r : Row) → is_stock r ≡ true → passes (stock.key_cells k) stock.tests r ≡ same_stock k (stock_key (stock_in r))
+at_key : (k : StockKey) (r : Row) → is_stored_row stock_mapping r ≡ true → passes (stock.key_cells k) stock.tests r ≡ same_stock k (stock_key (stored_row stock_mapping r))
 at_key k r h =
     let p0 = and_parts _ _ h in
     let p1 = and_parts _ _ p0.1 in
     let p2 = and_parts _ _ p1.1 in
     ap₂ ◌&&◌ (same_word is_gtin (column r 1) (Text k.0.gtin) k.0.gtin p0.0 refl) (ap₂ ◌&&◌ (same_word is_lot_text (column r 2) (Text k.0.lot) k.0.lot p1.0 refl) (and_true _ ∙ same_word is_name (column r 3) (Text k.1) k.1 p2.0 refl))
     ∙ and_assoc (bytes_eq k.0.gtin (bytes (column r 1))) (bytes_eq k.0.lot (bytes (column r 2))) (bytes_eq k.1 (bytes (column r 3)))
+
+pub stock_mapped : IsMapped stock_mapping.columns 4 stock_mapping stock
+stock_mapped = record { few = refl; cells = λ s. refl; has = λ r. refl; seen = λ r. refl; back = λ s. refl }
 
 pub stock_laws : IsLawful stock
 stock_laws = record {
@@ -140,7 +133,7 @@ stock_of_is : QueryIs stock stock_of
 unfolding understood everything
 stock_of_is rest = (refl, refl, (refl, refl))
 
-stock_of_at : (gtin : List ℕ) (r : Row) → is_stock r ≡ true → passes (stock_of.params gtin) stock_of.tests r ≡ bytes_eq gtin (bytes (column r 1))
+stock_of_at : (gtin : List ℕ) (r : Row) → is_stored_row stock_mapping r ≡ true → passes (stock_of.params gtin) stock_of.tests r ≡ bytes_eq gtin (bytes (column r 1))
 stock_of_at gtin r h = and_true _ ∙ same_word is_gtin (column r 1) (Text gtin) gtin (and_parts _ _ h).0 refl
 
 pub stock_of_laws : IsSought stock stock_of AreStockOf
@@ -156,7 +149,7 @@ stock_of_lot_is : QueryIs stock stock_of_lot
 unfolding understood everything
 stock_of_lot_is rest = (refl, refl, (refl, refl))
 
-stock_of_lot_at : (lot : LotId) (r : Row) → is_stock r ≡ true → passes (stock_of_lot.params lot) stock_of_lot.tests r ≡ same_lot_id lot (stock_in r).lot
+stock_of_lot_at : (lot : LotId) (r : Row) → is_stored_row stock_mapping r ≡ true → passes (stock_of_lot.params lot) stock_of_lot.tests r ≡ same_lot_id lot (stored_row stock_mapping r).lot
 stock_of_lot_at lot r h =
     let p0 = and_parts _ _ h in
     ap₂ ◌&&◌ (same_word is_gtin (column r 1) (Text lot.gtin) lot.gtin p0.0 refl) (and_true _ ∙ same_word is_lot_text (column r 2) (Text lot.lot) lot.lot (and_parts _ _ p0.1).0 refl)

@@ -8,100 +8,79 @@ ghost use Rattle.table_words.specs.Typed.{with_bin};
 ghost use Rattle.table_words.specs.declared.error.TableFault.TheVariants.{Foreign};
 
 use crate::texts::{ADD_BIN, ALL_BINS, BINS_OF};
-use commands::BinRow;
-use keyed_rows::reading::{All, Sought, query_rows};
-use keyed_rows::running::count;
-use keyed_rows::table::{Table, add};
-use sqlite::{Alter, Row, Transaction};
-use std::alloc::Global;
-use table_words::columns::{bin_kind_at, name_at, of_bin_kind, of_name};
+use commands::{BinKind, BinRow};
+use keyed_rows::mapped::Mapped;
+use keyed_rows::reading::{All, SoughtBy};
+use keyed_rows::table::add;
+use sqlite::{Alter, Transaction};
 use table_words::error::TableFault;
 use values::Name;
 
 /// The table.
 pub struct Bins;
 
-impl Table for Bins {
-    ghost use Rattle.goods_tables.specs.Bins.{bins, fits_bin, bins_laws};
+impl Mapped for Bins {
+    ghost use Rattle.table_words.specs.Typed.{bin_mapping};
+    ghost use Rattle.goods_tables.specs.Bins.{bins, bins_mapped, bins_laws};
 
     type Row = BinRow;
 
     type Key = Name;
 
-    ghost table = { bins };
+    type Parts = (Name, BinKind);
 
-    ghost fits = { fits_bin };
+    ghost mapping = { bin_mapping };
 
-    ghost laws = { bins_laws };
+    ghost described = { bins };
+
+    ghost mapped = { bins_mapped };
+
+    ghost mapped_laws = { bins_laws };
+
+    fn parts(row: &BinRow) -> Self::Parts {
+        (row.name, row.kind)
+    }
+
+    fn of((name, kind): Self::Parts) -> BinRow {
+        BinRow { name, kind }
+    }
 
     fn add_text() -> &'static str {
         ADD_BIN
     }
-
-    fn fits(_: &BinRow) -> bool {
-        true
-    }
-
-    fn run<S: Alter>(
-        tx: &mut Transaction<'_, S>,
-        sql: &str,
-        row: &BinRow,
-    ) -> Result<usize, TableFault> {
-        let cells = [of_name(&row.name), of_bin_kind(row.kind)];
-        count(tx, sql, &cells)
-    }
-
-    fn read(_: Global, row: &Row) -> Result<BinRow, TableFault> {
-        match (name_at(row, 0), bin_kind_at(row, 1)) {
-            (Ok(name), Ok(kind)) => Ok(BinRow { name, kind }),
-            _ => Err(TableFault::Foreign),
-        }
-    }
 }
 
-impl Sought<Name> for Bins {
+impl SoughtBy<Name> for Bins {
+    ghost use Rattle.std.specs.Prelude.{refl};
     ghost use Rattle.goods_tables.specs.Bins.{bins_of, AreBinsOf, bins_of_laws};
 
-    ghost query = { bins_of };
+    ghost asks = { bins_of };
 
-    ghost are_of = { AreBinsOf };
+    ghost answers = { AreBinsOf };
 
-    ghost query_laws = { bins_of_laws };
+    ghost asked = { record { few = refl; fits = λ by may. refl; cells = λ by. refl } };
 
-    fn query_text(_: &Name) -> &'static str {
+    ghost asks_laws = { bins_of_laws };
+
+    fn asking_text() -> &'static str {
         BINS_OF
-    }
-
-    fn run_query<S: Alter>(
-        alloc: Global,
-        tx: &mut Transaction<'_, S>,
-        sql: &str,
-        name: &Name,
-    ) -> Result<Vec<BinRow>, TableFault> {
-        query_rows::<Bins, S>(alloc, tx, sql, &[of_name(name)])
     }
 }
 
-impl Sought<All> for Bins {
+impl SoughtBy<All> for Bins {
+    ghost use Rattle.std.specs.Prelude.{refl};
     ghost use Rattle.goods_tables.specs.Bins.{all_bins, AreAllBins, all_bins_laws};
 
-    ghost query = { all_bins };
+    ghost asks = { all_bins };
 
-    ghost are_of = { AreAllBins };
+    ghost answers = { AreAllBins };
 
-    ghost query_laws = { all_bins_laws };
+    ghost asked = { record { few = refl; fits = λ by may. refl; cells = λ by. refl } };
 
-    fn query_text(_: &All) -> &'static str {
+    ghost asks_laws = { all_bins_laws };
+
+    fn asking_text() -> &'static str {
         ALL_BINS
-    }
-
-    fn run_query<S: Alter>(
-        alloc: Global,
-        tx: &mut Transaction<'_, S>,
-        sql: &str,
-        _: &All,
-    ) -> Result<Vec<BinRow>, TableFault> {
-        query_rows::<Bins, S>(alloc, tx, sql, &[])
     }
 }
 

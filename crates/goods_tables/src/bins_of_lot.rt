@@ -15,10 +15,11 @@ use commands::{BinUnits, Sink};
 use each_row::{EachFault, each};
 use sqlite::{Alter, Connection, Row};
 use std::alloc::Global;
-use table_words::columns::{count_at, name_at, of_gtin, of_lot};
+use table_words::chain::Chain;
+use table_words::column::{Column, Count};
 use table_words::error::TableFault;
 use table_words::reading::Readable;
-use values::LotId;
+use values::{LotId, Name};
 
 /// How the columns of the bin and its units are read.
 struct BinsOfLot;
@@ -33,9 +34,12 @@ impl Readable for BinsOfLot {
     ghost reads = { bin_units_read };
 
     fn read(_: Global, row: &Row) -> Result<BinUnits, TableFault> {
-        match (name_at(row, 0), count_at(row, 1, UNITS_MAX)) {
-            (Ok(bin), Ok(qty)) => Ok(BinUnits { bin, qty }),
-            _ => Err(TableFault::Foreign),
+        match <(Name, Count<UNITS_MAX>)>::read_at(row, 0) {
+            Some((bin, qty)) => Ok(BinUnits {
+                bin,
+                qty: qty.number,
+            }),
+            None => Err(TableFault::Foreign),
         }
     }
 }
@@ -58,7 +62,7 @@ pub fn each_bin<S: Alter, K: Sink<BinUnits>>(
         alloc,
         conn,
         BINS_OF_LOT,
-        &[of_gtin(&lot.gtin), of_lot(&lot.lot)],
+        &[lot.gtin.value(), lot.lot.value()],
         sink,
     )
 }

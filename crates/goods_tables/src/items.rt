@@ -2,98 +2,74 @@
 
 use crate::texts::{ADD_ITEM, ALL_ITEMS, ITEMS_OF};
 use commands::ItemRow;
-use keyed_rows::reading::{All, Sought, query_rows};
-use keyed_rows::running::count;
-use keyed_rows::table::Table;
-use sqlite::{Alter, Row, Transaction};
-use std::alloc::Global;
-use table_words::columns::{gtin_at, of_gtin, of_title, title_at};
-use table_words::error::TableFault;
-use values::Gtin;
+use keyed_rows::mapped::Mapped;
+use keyed_rows::reading::{All, SoughtBy};
+use values::{Gtin, Title};
 
 /// The table.
 pub struct Items;
 
-impl Table for Items {
-    ghost use Rattle.goods_tables.specs.Items.{items, fits_item, items_laws};
+impl Mapped for Items {
+    ghost use Rattle.table_words.specs.Typed.{item_mapping};
+    ghost use Rattle.goods_tables.specs.Items.{items, items_mapped, items_laws};
 
     type Row = ItemRow;
 
     type Key = Gtin;
 
-    ghost table = { items };
+    type Parts = (Gtin, Title);
 
-    ghost fits = { fits_item };
+    ghost mapping = { item_mapping };
 
-    ghost laws = { items_laws };
+    ghost described = { items };
+
+    ghost mapped = { items_mapped };
+
+    ghost mapped_laws = { items_laws };
+
+    fn parts(row: &ItemRow) -> Self::Parts {
+        (row.gtin, row.name)
+    }
+
+    fn of((gtin, name): Self::Parts) -> ItemRow {
+        ItemRow { gtin, name }
+    }
 
     fn add_text() -> &'static str {
         ADD_ITEM
     }
-
-    fn fits(_: &ItemRow) -> bool {
-        true
-    }
-
-    fn run<S: Alter>(
-        tx: &mut Transaction<'_, S>,
-        sql: &str,
-        row: &ItemRow,
-    ) -> Result<usize, TableFault> {
-        let cells = [of_gtin(&row.gtin), of_title(&row.name)];
-        count(tx, sql, &cells)
-    }
-
-    fn read(_: Global, row: &Row) -> Result<ItemRow, TableFault> {
-        match (gtin_at(row, 0), title_at(row, 1)) {
-            (Ok(gtin), Ok(name)) => Ok(ItemRow { gtin, name }),
-            _ => Err(TableFault::Foreign),
-        }
-    }
 }
 
-impl Sought<Gtin> for Items {
+impl SoughtBy<Gtin> for Items {
+    ghost use Rattle.std.specs.Prelude.{refl};
     ghost use Rattle.goods_tables.specs.Items.{items_of, AreItemsOf, items_of_laws};
 
-    ghost query = { items_of };
+    ghost asks = { items_of };
 
-    ghost are_of = { AreItemsOf };
+    ghost answers = { AreItemsOf };
 
-    ghost query_laws = { items_of_laws };
+    ghost asked = { record { few = refl; fits = λ by may. refl; cells = λ by. refl } };
 
-    fn query_text(_: &Gtin) -> &'static str {
+    ghost asks_laws = { items_of_laws };
+
+    fn asking_text() -> &'static str {
         ITEMS_OF
-    }
-
-    fn run_query<S: Alter>(
-        alloc: Global,
-        tx: &mut Transaction<'_, S>,
-        sql: &str,
-        gtin: &Gtin,
-    ) -> Result<Vec<ItemRow>, TableFault> {
-        query_rows::<Items, S>(alloc, tx, sql, &[of_gtin(gtin)])
     }
 }
 
-impl Sought<All> for Items {
+impl SoughtBy<All> for Items {
+    ghost use Rattle.std.specs.Prelude.{refl};
     ghost use Rattle.goods_tables.specs.Items.{all_items, AreAllItems, all_items_laws};
 
-    ghost query = { all_items };
+    ghost asks = { all_items };
 
-    ghost are_of = { AreAllItems };
+    ghost answers = { AreAllItems };
 
-    ghost query_laws = { all_items_laws };
+    ghost asked = { record { few = refl; fits = λ by may. refl; cells = λ by. refl } };
 
-    fn query_text(_: &All) -> &'static str {
+    ghost asks_laws = { all_items_laws };
+
+    fn asking_text() -> &'static str {
         ALL_ITEMS
-    }
-
-    fn run_query<S: Alter>(
-        alloc: Global,
-        tx: &mut Transaction<'_, S>,
-        sql: &str,
-        _: &All,
-    ) -> Result<Vec<ItemRow>, TableFault> {
-        query_rows::<Items, S>(alloc, tx, sql, &[])
     }
 }

@@ -2,53 +2,46 @@
 
 use crate::texts::{ADD_LEAST, ASKING_LEAST, CHANGE_LEAST, LEAST_OF};
 use commands::LeastRow;
-use keyed_rows::reading::{Sought, query_rows};
-use keyed_rows::running::count;
-use keyed_rows::table::{Changing, Table};
-use sqlite::{Alter, Row, Transaction};
+use keyed_rows::mapped::Mapped;
+use keyed_rows::reading::{Sought, SoughtBy, query_rows};
+use keyed_rows::table::Changing;
+use sqlite::types::ValueRef;
+use sqlite::{Alter, Transaction};
 use std::alloc::Global;
-use table_words::columns::{gtin_at, least_days_at, of_gtin, of_least_days, of_number};
 use table_words::error::TableFault;
-use values::Gtin;
+use values::{Gtin, LeastDays};
 
 /// The table.
 pub struct Least;
 
-impl Table for Least {
-    ghost use Rattle.goods_tables.specs.Least.{least, fits_least, least_laws};
+impl Mapped for Least {
+    ghost use Rattle.table_words.specs.Typed.{least_mapping};
+    ghost use Rattle.goods_tables.specs.Least.{least, least_mapped, least_laws};
 
     type Row = LeastRow;
 
     type Key = Gtin;
 
-    ghost table = { least };
+    type Parts = (Gtin, LeastDays);
 
-    ghost fits = { fits_least };
+    ghost mapping = { least_mapping };
 
-    ghost laws = { least_laws };
+    ghost described = { least };
+
+    ghost mapped = { least_mapped };
+
+    ghost mapped_laws = { least_laws };
+
+    fn parts(row: &LeastRow) -> Self::Parts {
+        (row.gtin, row.days)
+    }
+
+    fn of((gtin, days): Self::Parts) -> LeastRow {
+        LeastRow { gtin, days }
+    }
 
     fn add_text() -> &'static str {
         ADD_LEAST
-    }
-
-    fn fits(_: &LeastRow) -> bool {
-        true
-    }
-
-    fn run<S: Alter>(
-        tx: &mut Transaction<'_, S>,
-        sql: &str,
-        row: &LeastRow,
-    ) -> Result<usize, TableFault> {
-        let cells = [of_gtin(&row.gtin), of_least_days(row.days)];
-        count(tx, sql, &cells)
-    }
-
-    fn read(_: Global, row: &Row) -> Result<LeastRow, TableFault> {
-        match (gtin_at(row, 0), least_days_at(row, 1)) {
-            (Ok(gtin), Ok(days)) => Ok(LeastRow { gtin, days }),
-            _ => Err(TableFault::Foreign),
-        }
     }
 }
 
@@ -64,26 +57,20 @@ impl Changing for Least {
     }
 }
 
-impl Sought<Gtin> for Least {
+impl SoughtBy<Gtin> for Least {
+    ghost use Rattle.std.specs.Prelude.{refl};
     ghost use Rattle.goods_tables.specs.Least.{least_of, AreLeastOf, least_of_laws};
 
-    ghost query = { least_of };
+    ghost asks = { least_of };
 
-    ghost are_of = { AreLeastOf };
+    ghost answers = { AreLeastOf };
 
-    ghost query_laws = { least_of_laws };
+    ghost asked = { record { few = refl; fits = λ by may. refl; cells = λ by. refl } };
 
-    fn query_text(_: &Gtin) -> &'static str {
+    ghost asks_laws = { least_of_laws };
+
+    fn asking_text() -> &'static str {
         LEAST_OF
-    }
-
-    fn run_query<S: Alter>(
-        alloc: Global,
-        tx: &mut Transaction<'_, S>,
-        sql: &str,
-        gtin: &Gtin,
-    ) -> Result<Vec<LeastRow>, TableFault> {
-        query_rows::<Least, S>(alloc, tx, sql, &[of_gtin(gtin)])
     }
 }
 
@@ -109,6 +96,6 @@ impl Sought<Asking> for Least {
         sql: &str,
         _: &Asking,
     ) -> Result<Vec<LeastRow>, TableFault> {
-        query_rows::<Least, S>(alloc, tx, sql, &[of_number(0)])
+        query_rows::<Least, S>(alloc, tx, sql, &[ValueRef::Int(0)])
     }
 }

@@ -3,69 +3,48 @@
 use crate::texts::{ADD_STOCK, CHANGE_STOCK, DROP_STOCK, STOCK_OF, STOCK_OF_LOT};
 use commands::StockRow;
 use commands::limits::UNITS_MAX;
-use keyed_rows::reading::{Sought, query_rows};
-use keyed_rows::running::count;
-use keyed_rows::table::{Changing, Losing, Table};
-use sqlite::{Alter, Row, Transaction};
-use std::alloc::Global;
-use table_words::columns::{
-    count_at, gtin_at, lot_at, name_at, of_gtin, of_lot, of_name, of_number,
-};
-use table_words::error::TableFault;
-use values::{Gtin, LotId, Name};
+use keyed_rows::mapped::Mapped;
+use keyed_rows::reading::SoughtBy;
+use keyed_rows::table::{Changing, Losing};
+use table_words::column::Count;
+use values::{Gtin, Lot, LotId, Name};
 
 /// The table.
 pub struct Stock;
 
-impl Table for Stock {
-    ghost use Rattle.goods_tables.specs.Stock.{stock, fits_stock, stock_laws};
+impl Mapped for Stock {
+    ghost use Rattle.table_words.specs.Typed.{stock_mapping};
+    ghost use Rattle.goods_tables.specs.Stock.{stock, stock_mapped, stock_laws};
 
     type Row = StockRow;
 
     type Key = (LotId, Name);
 
-    ghost table = { stock };
+    type Parts = (Gtin, (Lot, (Name, Count<UNITS_MAX>)));
 
-    ghost fits = { fits_stock };
+    ghost mapping = { stock_mapping };
 
-    ghost laws = { stock_laws };
+    ghost described = { stock };
+
+    ghost mapped = { stock_mapped };
+
+    ghost mapped_laws = { stock_laws };
+
+    fn parts(row: &StockRow) -> Self::Parts {
+        let qty = Count { number: row.qty };
+        (row.lot.gtin, (row.lot.lot, (row.bin, qty)))
+    }
+
+    fn of((gtin, (lot, (bin, qty))): Self::Parts) -> StockRow {
+        StockRow {
+            lot: LotId { gtin, lot },
+            bin,
+            qty: qty.number,
+        }
+    }
 
     fn add_text() -> &'static str {
         ADD_STOCK
-    }
-
-    fn fits(row: &StockRow) -> bool {
-        1 <= row.qty && row.qty <= UNITS_MAX
-    }
-
-    fn run<S: Alter>(
-        tx: &mut Transaction<'_, S>,
-        sql: &str,
-        row: &StockRow,
-    ) -> Result<usize, TableFault> {
-        let cells = [
-            of_gtin(&row.lot.gtin),
-            of_lot(&row.lot.lot),
-            of_name(&row.bin),
-            of_number(row.qty),
-        ];
-        count(tx, sql, &cells)
-    }
-
-    fn read(_: Global, row: &Row) -> Result<StockRow, TableFault> {
-        match (
-            gtin_at(row, 0),
-            lot_at(row, 1),
-            name_at(row, 2),
-            count_at(row, 3, UNITS_MAX),
-        ) {
-            (Ok(gtin), Ok(lot), Ok(bin), Ok(qty)) => Ok(StockRow {
-                lot: LotId { gtin, lot },
-                bin,
-                qty,
-            }),
-            _ => Err(TableFault::Foreign),
-        }
     }
 }
 
@@ -82,73 +61,59 @@ impl Changing for Stock {
 }
 
 impl Losing for Stock {
+    ghost use Rattle.std.specs.Prelude.{refl};
     ghost use Rattle.goods_tables.specs.declared.texts.TheConstants.{DROP_STOCK};
     ghost use Rattle.goods_tables.specs.Stock.{drop_is};
 
+    type Keys = (Gtin, (Lot, Name));
+
+    ghost keys = { λ s. (s.lot.gtin, (s.lot.lot, s.bin)) };
+
     ghost drop = { DROP_STOCK.now };
 
+    ghost keyed = { record { few = refl; fits = λ s. refl; cells = λ s. refl } };
+
     ghost drop_laws = { drop_is };
+
+    fn keys(row: &StockRow) -> Self::Keys {
+        (row.lot.gtin, (row.lot.lot, row.bin))
+    }
 
     fn drop_text() -> &'static str {
         DROP_STOCK
     }
-
-    fn run_key<S: Alter>(
-        tx: &mut Transaction<'_, S>,
-        sql: &str,
-        row: &StockRow,
-    ) -> Result<usize, TableFault> {
-        let cells = [
-            of_gtin(&row.lot.gtin),
-            of_lot(&row.lot.lot),
-            of_name(&row.bin),
-        ];
-        count(tx, sql, &cells)
-    }
 }
 
-impl Sought<Gtin> for Stock {
+impl SoughtBy<Gtin> for Stock {
+    ghost use Rattle.std.specs.Prelude.{refl};
     ghost use Rattle.goods_tables.specs.Stock.{stock_of, AreStockOf, stock_of_laws};
 
-    ghost query = { stock_of };
+    ghost asks = { stock_of };
 
-    ghost are_of = { AreStockOf };
+    ghost answers = { AreStockOf };
 
-    ghost query_laws = { stock_of_laws };
+    ghost asked = { record { few = refl; fits = λ by may. refl; cells = λ by. refl } };
 
-    fn query_text(_: &Gtin) -> &'static str {
+    ghost asks_laws = { stock_of_laws };
+
+    fn asking_text() -> &'static str {
         STOCK_OF
-    }
-
-    fn run_query<S: Alter>(
-        alloc: Global,
-        tx: &mut Transaction<'_, S>,
-        sql: &str,
-        gtin: &Gtin,
-    ) -> Result<Vec<StockRow>, TableFault> {
-        query_rows::<Stock, S>(alloc, tx, sql, &[of_gtin(gtin)])
     }
 }
 
-impl Sought<LotId> for Stock {
+impl SoughtBy<LotId> for Stock {
+    ghost use Rattle.std.specs.Prelude.{refl};
     ghost use Rattle.goods_tables.specs.Stock.{stock_of_lot, AreStockOfLot, stock_of_lot_laws};
 
-    ghost query = { stock_of_lot };
+    ghost asks = { stock_of_lot };
 
-    ghost are_of = { AreStockOfLot };
+    ghost answers = { AreStockOfLot };
 
-    ghost query_laws = { stock_of_lot_laws };
+    ghost asked = { record { few = refl; fits = λ by may. refl; cells = λ by. refl } };
 
-    fn query_text(_: &LotId) -> &'static str {
+    ghost asks_laws = { stock_of_lot_laws };
+
+    fn asking_text() -> &'static str {
         STOCK_OF_LOT
-    }
-
-    fn run_query<S: Alter>(
-        alloc: Global,
-        tx: &mut Transaction<'_, S>,
-        sql: &str,
-        lot: &LotId,
-    ) -> Result<Vec<StockRow>, TableFault> {
-        query_rows::<Stock, S>(alloc, tx, sql, &[of_gtin(&lot.gtin), of_lot(&lot.lot)])
     }
 }

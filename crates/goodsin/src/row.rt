@@ -78,65 +78,44 @@ fn lot_of(fields: &ByteRecord) -> Option<LotId>
 fn name(fields: &ByteRecord, at: usize) -> Option<Name>
     ensures { result ≡ name_at at (fields_of fields.now) }
 {
-    match fields.get(at) {
-        Some(text) => Name::new(text),
-        None => None,
-    }
+    Name::new(fields.get(at)?)
 }
 
 fn gtin(fields: &ByteRecord, at: usize) -> Option<Gtin>
     ensures { result ≡ gtin_at at (fields_of fields.now) }
 {
-    match fields.get(at) {
-        Some(text) => Gtin::new(text).ok(),
-        None => None,
-    }
+    Gtin::new(fields.get(at)?).ok()
 }
 
 fn lot_text(fields: &ByteRecord, at: usize) -> Option<Lot>
     ensures { result ≡ lot_text_at at (fields_of fields.now) }
 {
-    match fields.get(at) {
-        Some(text) => Lot::new(text).ok(),
-        None => None,
-    }
+    Lot::new(fields.get(at)?).ok()
 }
 
 fn expiry(fields: &ByteRecord, at: usize, today: Day) -> Option<Day>
     requires { IsTrue (is_business_day today) }
     ensures { result ≡ expiry_at today at (fields_of fields.now) }
 {
-    match fields.get(at) {
-        Some(text) => expiry_of(text, today).ok(),
-        None => None,
-    }
+    expiry_of(fields.get(at)?, today).ok()
 }
 
 fn line(fields: &ByteRecord, at: usize) -> Option<LineNo>
     ensures { result ≡ line_at at (fields_of fields.now) }
 {
-    match number_in(fields, at) {
-        Some(number) => LineNo::new(number),
-        None => None,
-    }
+    LineNo::new(number_in(fields, at)?)
 }
 
 fn qty(fields: &ByteRecord, at: usize) -> Option<Qty>
     ensures { result ≡ qty_at at (fields_of fields.now) }
 {
-    match number_in(fields, at) {
-        Some(units) => Qty::new(units),
-        None => None,
-    }
+    Qty::new(number_in(fields, at)?)
 }
 
 fn number_in(fields: &ByteRecord, at: usize) -> Option<u64>
     ensures { result ≡ number_at at (fields_of fields.now) }
 {
-    match fields.get(at) {
-        Some(text) => number_of(text),
-        None => None,
-    }
+    number_of(fields.get(at)?)
 }
 
 fn number_of(text: &[u8]) -> Option<u64>

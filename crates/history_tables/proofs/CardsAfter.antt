@@ -27,7 +27,7 @@ use Rattle.history_tables.specs.declared.texts.TheConstants.{CARDS_AFTER}
 use Rattle.history_tables.specs.declared.shipped_after.First.{First}
 use Rattle.table_words.specs.Cells.{typed, is_number, number_in}
 use Rattle.table_words.specs.Schema.{schema_with, cards_tree}
-use Rattle.table_words.specs.Typed.{same_lot_id, same_card, card_key, is_card, card_in, has_card, card_read, tables_in, AreTyped}
+use Rattle.table_words.specs.Typed.{same_lot_id, same_card, card_key, tables_in, AreTyped}
 use Rattle.table_words.specs.Steps.{IsReady}
 use Rattle.table_words.specs.declared.error.TableFault.{TableFault}
 use Rattle.table_words.specs.declared.error.TableFault.TheVariants.{Foreign}
@@ -68,7 +68,7 @@ after_plain rest = (refl, refl)
 -- ---- the tests
 
 -- the number of the act is in range
-act_number : (r : Row) → is_card r ≡ true → is_number ACTS_MAX (column r 3) ≡ true
+act_number : (r : Row) → cards.is r ≡ true → is_number ACTS_MAX (column r 3) ≡ true
 act_number r h = counted ACTS_MAX (column r 3) (and_parts _ _ (and_parts _ _ (and_parts _ _ h).1).1).0
 
 -- the same look-up, whether it is by act or among those above
@@ -102,7 +102,7 @@ module _ (lot : LotId) (n : ℕ) where
   abbrev wanted : CardRow → Bool
   wanted c = same_lot_id lot c.lot && nat_lt n c.act
 
-  at_wanted : (r : Row) → is_card r ≡ true → passes params tests r ≡ wanted (card_in r)
+  at_wanted : (r : Row) → cards.is r ≡ true → passes params tests r ≡ wanted (cards.reads r)
   at_wanted r h =
       let p0 = and_parts _ _ h in
       let p1 = and_parts _ _ p0.1 in
@@ -111,18 +111,18 @@ module _ (lot : LotId) (n : ℕ) where
       (ap₂ ◌&&◌ (same_word is_lot_text (column r 2) (Text lot.lot) lot.lot p1.0 refl) (and_true _ ∙ above_count ACTS_MAX (column r 3) n (counted ACTS_MAX (column r 3) p2.0)))
       ∙ and_assoc (bytes_eq lot.gtin (bytes (column r 1))) (bytes_eq lot.lot (bytes (column r 2))) (nat_lt n (number_in (column r 3)))
 
-  of_lot : (r : Row) → is_card r ≡ true → passes params tests r ≡ true → lot ≡ (card_in r).lot
-  of_lot r h p = same_lots lot (card_in r).lot (and_parts _ _ (sym (at_wanted r h) ∙ p)).0
+  of_lot : (r : Row) → cards.is r ≡ true → passes params tests r ≡ true → lot ≡ (cards.reads r).lot
+  of_lot r h p = same_lots lot (cards.reads r).lot (and_parts _ _ (sym (at_wanted r h) ∙ p)).0
 
   distinct : (db : Database) (ready : IsReady db) → AreTyped db.trees → (x y : Row) → Has (db.trees cards_tree) x → Has (db.trees cards_tree) y → passes params tests x ≡ true → passes params tests y ≡ true
       → value_cmp (column x 3) (column y 3) ≡ Equal → value_cmp (rowid x) (rowid y) ≡ Equal
   distinct db ready are x y hx hy px py tie =
-      let tx = all_has (λ r. is_card r ≡ true) (db.trees cards_tree) x (typed_rows cards cards_laws db.trees are) hx in
-      let ty = all_has (λ r. is_card r ≡ true) (db.trees cards_tree) y (typed_rows cards cards_laws db.trees are) hy in
-      let lots : (card_in x).lot ≡ (card_in y).lot = sym (of_lot x tx px) ∙ of_lot y ty py in
+      let tx = all_has (λ r. cards.is r ≡ true) (db.trees cards_tree) x (typed_rows cards cards_laws db.trees are) hx in
+      let ty = all_has (λ r. cards.is r ≡ true) (db.trees cards_tree) y (typed_rows cards cards_laws db.trees are) hy in
+      let lots : (cards.reads x).lot ≡ (cards.reads y).lot = sym (of_lot x tx px) ∙ of_lot y ty py in
       let acts = number_ties ACTS_MAX (column x 3) (column y 3) (act_number x tx) (act_number y ty) tie in
       apart cards cards_laws db ready x y hx hy tx ty
-      (itself_both _ _ (ap (same_lot_id (card_in x).lot) (sym lots) ∙ itself_lot (card_in x).lot) (ap (nat_eq (card_in x).act) (sym acts) ∙ itself_number (card_in x).act))
+      (itself_both _ _ (ap (same_lot_id (cards.reads x).lot) (sym lots) ∙ itself_lot (cards.reads x).lot) (ap (nat_eq (cards.reads x).act) (sym acts) ∙ itself_number (cards.reads x).act))
 
   as_looked_up : (xs : List CardRow) (k : ℕ) → find (λ x. wanted x && nat_eq k x.act) xs ≡ (if nat_lt n k then find (λ c. same_card (lot, k) (card_key c)) xs else None)
   as_looked_up xs k =
@@ -139,7 +139,7 @@ module _ (lot : LotId) (n : ℕ) where
       turned false a b = refl
 
   listed : (old : State) → IsReady old.now → AreTyped old.now.trees → (new : State) (rows : List Row) → Shown after_text params old new rows
-      → AreCardsAfter (tables_in old.now.trees) lot n (map card_read rows) × AllByRecursion (λ v. has_card v ≡ true) rows
+      → AreCardsAfter (tables_in old.now.trees) lot n (map cards.seen rows) × AllByRecursion (λ v. cards.has v ≡ true) rows
   listed old ready are new rows h =
       let read = reads_as after_text params old new (schema_with ready.has.rest) ready.has.is _ (after_is ready.has.rest).0 (after_plain ready.has.rest) (after_is ready.has.rest).1 rows h in
       let a = read.answer Null in
@@ -147,14 +147,14 @@ module _ (lot : LotId) (n : ℕ) where
       let apart_rows = distinct old.now ready are in
       let all = stored old.now.trees params cards_tree 3 tests shown rows a up apart_rows in
       let is = are_shown old.now.trees params cards_tree 3 tests shown rows a up apart_rows in
-      let rises = λ (x y : Row) (tx : is_card x ≡ true) (ty : is_card y ≡ true) (low : value_cmp (column x 3) (column y 3) ≡ Less). number_rises ACTS_MAX (column x 3) (column y 3) (act_number x tx) (act_number y ty) low in
-      let good = stored_good old.now.trees params cards_tree 3 tests shown rows a up apart_rows is_card card_in nat_eq same_number itself_number (λ i j. i < j) (λ k low. omega arith) (λ i j k p q. omega arith)
+      let rises = λ (x y : Row) (tx : cards.is x ≡ true) (ty : cards.is y ≡ true) (low : value_cmp (column x 3) (column y 3) ≡ Less). number_rises ACTS_MAX (column x 3) (column y 3) (act_number x tx) (act_number y ty) low in
+      let good = stored_good old.now.trees params cards_tree 3 tests shown rows a up apart_rows cards.is cards.reads nat_eq same_number itself_number (λ i j. i < j) (λ k low. omega arith) (λ i j k p q. omega arith)
       (λ (c : CardRow). c.act) wanted at_wanted rises (typed_rows cards cards_laws old.now.trees are) in
-      let ordered = in_key_order old.now.trees params cards_tree 3 tests shown rows a up apart_rows is_card card_in nat_eq same_number itself_number (λ i j. i < j) (λ k low. omega arith) (λ i j k p q. omega arith)
+      let ordered = in_key_order old.now.trees params cards_tree 3 tests shown rows a up apart_rows cards.is cards.reads nat_eq same_number itself_number (λ i j. i < j) (λ k low. omega arith) (λ i j k p q. omega arith)
       (λ (c : CardRow). c.act) wanted at_wanted rises (typed_rows cards cards_laws old.now.trees are) in
-      let after : AreCardsAfter (tables_in old.now.trees) lot n (map card_in all) = record { found = λ k. ordered.found k ∙ as_looked_up (typed is_card card_in (old.now.trees cards_tree)) k; rises = ordered.rises } in (
-        subst (AreCardsAfter (tables_in old.now.trees) lot n) (sym (ap (map card_read) is ∙ map-map card_read (show params shown) all)) after,
-        subst (AllByRecursion (λ v. has_card v ≡ true)) (sym is) (all_map (λ v. has_card v ≡ true) (show params shown) all good),
+      let after : AreCardsAfter (tables_in old.now.trees) lot n (map cards.reads all) = record { found = λ k. ordered.found k ∙ as_looked_up (typed cards.is cards.reads (old.now.trees cards_tree)) k; rises = ordered.rises } in (
+        subst (AreCardsAfter (tables_in old.now.trees) lot n) (sym (ap (map cards.seen) is ∙ map-map cards.seen (show params shown) all)) after,
+        subst (AllByRecursion (λ v. cards.has v ≡ true)) (sym is) (all_map (λ v. cards.has v ≡ true) (show params shown) all good),
       )
 
   -- ---- the first of them
@@ -198,31 +198,31 @@ module _ (lot : LotId) (n : ℕ) where
       found_still p (x ∷ xs) ys o is some = elim (cases_Bool (p x)) [ inl e ↦ rw e (rw e at is) | inr e ↦ rw e (found_still p xs ys o (rw e at is) some) ]
 
   module _ (old new : State) (before after : First) (none : before.row ≡ None) (ready : IsReady old.now) (are : AreTyped old.now.trees) (rows : List CardRow) (all : AreCardsAfter (tables_in old.now.trees) lot n rows) where
-    handed : (result : Result (Unit {0}) EachFault) → Hands has_card card_read takes stops after_text params old new before after result → HandsOver takes stops before rows after result
+    handed : (result : Result (Unit {0}) EachFault) → Hands cards.has cards.seen takes stops after_text params old new before after result → HandsOver takes stops before rows after result
     handed result h =
-        over has_card card_read takes stops after_text params old (AreCardsAfter (tables_in old.now.trees) lot n)
+        over cards.has cards.seen takes stops after_text params old (AreCardsAfter (tables_in old.now.trees) lot n)
         (one_order nat_eq same_number itself_number (λ i j. i < j) (λ k low. omega arith) (λ i j k p q. omega arith) (λ (c : CardRow). c.act) (λ k. if nat_lt n k then (tables_in old.now.trees).card lot k else None))
         (listed old ready are) (rest_shown after_text params old (schema_with ready.has.rest) _ ready.has.is (after_is ready.has.rest).0 (λ db given. tt)) new before after result h rows all
 
-    pub all_first : Hands has_card card_read takes stops after_text params old new before after (Ok tt) → after.row ≡ find is_of_shipment rows
+    pub all_first : Hands cards.has cards.seen takes stops after_text params old new before after (Ok tt) → after.row ≡ find is_of_shipment rows
     all_first h = reached_first before after rows none (handed (Ok tt) h)
 
-    pub stop_first : Hands has_card card_read takes stops after_text params old new before after (Err Stopped) → after.row ≡ find is_of_shipment rows
+    pub stop_first : Hands cards.has cards.seen takes stops after_text params old new before after (Err Stopped) → after.row ≡ find is_of_shipment rows
     stop_first h = let it = handed (Err Stopped) h in stopped_first before after it.taken it.next it.others it.last none it.reached it.stopped ∙ ap (find is_of_shipment) (sym it.parts)
 
-    pub never_foreign : (fault : TableFault) → fault ≡ Foreign → Hands has_card card_read takes stops after_text params old new before after (Err (Fault fault)) → ⊥
-    never_foreign fault is h = handed (Err (Fault Foreign)) (subst (λ (f : TableFault). Hands has_card card_read takes stops after_text params old new before after (Err (Fault f))) is h)
+    pub never_foreign : (fault : TableFault) → fault ≡ Foreign → Hands cards.has cards.seen takes stops after_text params old new before after (Err (Fault fault)) → ⊥
+    never_foreign fault is h = handed (Err (Fault Foreign)) (subst (λ (f : TableFault). Hands cards.has cards.seen takes stops after_text params old new before after (Err (Fault f))) is h)
 
   -- ---- what is told of it
 
   module _ (old new : State) (before after : First) (none : before.row ≡ None) (ready : IsReady old.now) (are : AreTyped old.now.trees) where
-    pub found_of : (r : Result (Unit {0}) EachFault) → Hands has_card card_read takes stops after_text params old new before after r → (rows : List CardRow) → AreCardsAfter (tables_in old.now.trees) lot n rows
+    pub found_of : (r : Result (Unit {0}) EachFault) → Hands cards.has cards.seen takes stops after_text params old new before after r → (rows : List CardRow) → AreCardsAfter (tables_in old.now.trees) lot n rows
         → IfOk (row_taken after.row r) (λ row. row ≡ find is_of_shipment rows)
     found_of (Ok all) h rows by_number = all_first old new before after none ready are rows by_number h
     found_of (Err Stopped) h rows by_number = stop_first old new before after none ready are rows by_number h
     found_of (Err (Fault fault)) h rows by_number = tt
 
-    pub foreign_of : (r : Result (Unit {0}) EachFault) → Hands has_card card_read takes stops after_text params old new before after r
+    pub foreign_of : (r : Result (Unit {0}) EachFault) → Hands cards.has cards.seen takes stops after_text params old new before after r
         → IfErr (row_taken after.row r) (λ e. e ≡ Foreign → (rows : List CardRow) → ¬ AreCardsAfter (tables_in old.now.trees) lot n rows)
     foreign_of (Ok all) h = tt
     foreign_of (Err Stopped) h = tt

@@ -24,7 +24,7 @@ use Rattle.commands.specs.declared.limits.TheConstants.{ACTS_MAX}
 use Rattle.commands.specs.declared.rows.CardRow.{CardRow}
 use Rattle.history_tables.specs.declared.texts.TheConstants.{CARDS_BY_ACT}
 use Rattle.table_words.specs.Schema.{schema_with, cards_tree}
-use Rattle.table_words.specs.Typed.{same_lot_id, is_card, card_in, has_card, card_read, tables_in, AreTyped}
+use Rattle.table_words.specs.Typed.{same_lot_id, tables_in, AreTyped}
 use Rattle.table_words.specs.Cells.{is_number}
 use Rattle.table_words.specs.Steps.{IsReady}
 use Rattle.table_words.proofs.Plans.{same, scan, alone}
@@ -59,14 +59,14 @@ unfolding understood everything
 cards_by_act_plain rest = (refl, refl)
 
 -- the number of the act is in range
-act_number : (r : Row) → is_card r ≡ true → is_number ACTS_MAX (column r 3) ≡ true
+act_number : (r : Row) → cards.is r ≡ true → is_number ACTS_MAX (column r 3) ≡ true
 act_number r h = counted ACTS_MAX (column r 3) (and_parts _ _ (and_parts _ _ (and_parts _ _ h).1).1).0
 
 module _ (lot : LotId) where
   abbrev params : Row
   params = Text lot.gtin ∷ Text lot.lot ∷ []
 
-  at_lot : (r : Row) → is_card r ≡ true → passes params tests r ≡ same_lot_id lot (card_in r).lot
+  at_lot : (r : Row) → cards.is r ≡ true → passes params tests r ≡ same_lot_id lot (cards.reads r).lot
   at_lot r h =
       let p0 = and_parts _ _ h in
       ap₂ ◌&&◌ (same_word is_gtin (column r 1) (Text lot.gtin) lot.gtin p0.0 refl) (and_true _ ∙ same_word is_lot_text (column r 2) (Text lot.lot) lot.lot (and_parts _ _ p0.1).0 refl)
@@ -75,17 +75,17 @@ module _ (lot : LotId) where
   distinct : (db : Database) (ready : IsReady db) → AreTyped db.trees → (x y : Row) → Has (db.trees cards_tree) x → Has (db.trees cards_tree) y → passes params tests x ≡ true → passes params tests y ≡ true
       → value_cmp (column x 3) (column y 3) ≡ Equal → value_cmp (rowid x) (rowid y) ≡ Equal
   distinct db ready are x y hx hy px py tie =
-      let tx = all_has (λ r. is_card r ≡ true) (db.trees cards_tree) x (typed_rows cards cards_laws db.trees are) hx in
-      let ty = all_has (λ r. is_card r ≡ true) (db.trees cards_tree) y (typed_rows cards cards_laws db.trees are) hy in
-      let lots : (card_in x).lot ≡ (card_in y).lot =
-      sym (same_lots lot (card_in x).lot (sym (at_lot x tx) ∙ px)) ∙ same_lots lot (card_in y).lot (sym (at_lot y ty) ∙ py) in
+      let tx = all_has (λ r. cards.is r ≡ true) (db.trees cards_tree) x (typed_rows cards cards_laws db.trees are) hx in
+      let ty = all_has (λ r. cards.is r ≡ true) (db.trees cards_tree) y (typed_rows cards cards_laws db.trees are) hy in
+      let lots : (cards.reads x).lot ≡ (cards.reads y).lot =
+      sym (same_lots lot (cards.reads x).lot (sym (at_lot x tx) ∙ px)) ∙ same_lots lot (cards.reads y).lot (sym (at_lot y ty) ∙ py) in
       let acts = number_ties ACTS_MAX (column x 3) (column y 3) (act_number x tx) (act_number y ty) tie in
       apart cards cards_laws db ready x y hx hy tx ty
-      (itself_both _ _ (ap (same_lot_id (card_in x).lot) (sym lots) ∙ itself_lot (card_in x).lot) (ap (nat_eq (card_in x).act) (sym acts) ∙ itself_number (card_in x).act))
+      (itself_both _ _ (ap (same_lot_id (cards.reads x).lot) (sym lots) ∙ itself_lot (cards.reads x).lot) (ap (nat_eq (cards.reads x).act) (sym acts) ∙ itself_number (cards.reads x).act))
 
   -- the rows that the query shows are the lines of the card
   listed : (old : State) → IsReady old.now → AreTyped old.now.trees → (new : State) (rows : List Row) → Shown cards_by_act_text params old new rows
-      → AreCardLines (tables_in old.now.trees) lot (map card_read rows) × AllByRecursion (λ v. has_card v ≡ true) rows
+      → AreCardLines (tables_in old.now.trees) lot (map cards.seen rows) × AllByRecursion (λ v. cards.has v ≡ true) rows
   listed old ready are new rows h =
       let read = reads_as cards_by_act_text params old new (schema_with ready.has.rest) ready.has.is _ (cards_by_act_is ready.has.rest).0 (cards_by_act_plain ready.has.rest) (cards_by_act_is ready.has.rest).1 rows h in
       let a = read.answer Null in
@@ -93,19 +93,19 @@ module _ (lot : LotId) where
       let apart_rows = distinct old.now ready are in
       let all = stored old.now.trees params cards_tree 3 tests shown rows a up apart_rows in
       let is = are_shown old.now.trees params cards_tree 3 tests shown rows a up apart_rows in
-      let good = stored_good old.now.trees params cards_tree 3 tests shown rows a up apart_rows is_card card_in nat_eq same_number itself_number (λ n m. n < m) (λ k low. omega arith) (λ i j k p q. omega arith)
+      let good = stored_good old.now.trees params cards_tree 3 tests shown rows a up apart_rows cards.is cards.reads nat_eq same_number itself_number (λ n m. n < m) (λ k low. omega arith) (λ i j k p q. omega arith)
       (λ (c : CardRow). c.act) (λ c. same_lot_id lot c.lot) (at_lot) (λ x y tx ty low. number_rises ACTS_MAX (column x 3) (column y 3) (act_number x tx) (act_number y ty) low) (typed_rows cards cards_laws old.now.trees are) in
-      let ordered = in_key_order old.now.trees params cards_tree 3 tests shown rows a up apart_rows is_card card_in nat_eq same_number itself_number (λ n m. n < m) (λ k low. omega arith) (λ i j k p q. omega arith)
+      let ordered = in_key_order old.now.trees params cards_tree 3 tests shown rows a up apart_rows cards.is cards.reads nat_eq same_number itself_number (λ n m. n < m) (λ k low. omega arith) (λ i j k p q. omega arith)
       (λ (c : CardRow). c.act) (λ c. same_lot_id lot c.lot) (at_lot) (λ x y tx ty low. number_rises ACTS_MAX (column x 3) (column y 3) (act_number x tx) (act_number y ty) low) (typed_rows cards cards_laws old.now.trees are) in (
-        subst (AreCardLines (tables_in old.now.trees) lot) (sym (ap (map card_read) is ∙ map-map card_read (show params shown) all)) ordered,
-        subst (AllByRecursion (λ v. has_card v ≡ true)) (sym is) (all_map (λ v. has_card v ≡ true) (show params shown) all good),
+        subst (AreCardLines (tables_in old.now.trees) lot) (sym (ap (map cards.seen) is ∙ map-map cards.seen (show params shown) all)) ordered,
+        subst (AllByRecursion (λ v. cards.has v ≡ true)) (sym is) (all_map (λ v. cards.has v ≡ true) (show params shown) all good),
       )
 
   -- what the sink took
   pub cards_over : {K : Type 0} (takes stops : K → CardRow → K → Type 0) (old new : State) (before after : K) (result : Result (Unit {0}) EachFault) → IsReady old.now → AreTyped old.now.trees
-      → Hands has_card card_read takes stops cards_by_act_text params old new before after result
+      → Hands cards.has cards.seen takes stops cards_by_act_text params old new before after result
       → (rows : List CardRow) → AreCardLines (tables_in old.now.trees) lot rows → HandsOver takes stops before rows after result
   cards_over takes stops old new before after result ready are h rows lines =
-      over has_card card_read takes stops cards_by_act_text params old (AreCardLines (tables_in old.now.trees) lot)
+      over cards.has cards.seen takes stops cards_by_act_text params old (AreCardLines (tables_in old.now.trees) lot)
       (one_order nat_eq same_number itself_number (λ n m. n < m) (λ k low. omega arith) (λ i j k p q. omega arith) (λ (c : CardRow). c.act) ((tables_in old.now.trees).card lot))
       (listed old ready are) (rest_shown cards_by_act_text params old (schema_with ready.has.rest) _ ready.has.is (cards_by_act_is ready.has.rest).0 (λ db given. tt)) new before after result h rows lines

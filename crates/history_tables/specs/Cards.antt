@@ -1,56 +1,46 @@
 -- The table `cards`.
-use Rattle.std.specs.Prelude.{◌≡◌, Bool, true, ◌&&◌, nat_le, nat_eq, bytes_eq, [], ◌∷◌, codes}
+use Rattle.std.specs.Prelude.{◌≡◌, true, ◌&&◌, nat_eq, bytes_eq, [], ◌∷◌, codes}
 use Rattle.std.proofs.Common.{refl, ap, ap₂, ◌∙◌, pos}
 use Rattle.std.proofs.lemmas.Bool.{and_parts}
 use Rattle.sqlite.specs.declared.types.Value.{Value}
-use Rattle.sqlite.specs.declared.types.Value.TheVariants.{Null, Int, Text}
+use Rattle.sqlite.specs.declared.types.Value.TheVariants.{Int, Text}
 use Rattle.sqlite.specs.Order.{Row, column, bytes}
-use Rattle.sqlite.specs.Term.{lit, col}
 use Rattle.sqlite.specs.Rowids.TheVariants.{Chosen}
 use Rattle.sqlite.specs.Listing.{understood}
 use Rattle.sqlite_tied.specs.Compute.{everything}
 use Rattle.sqlite_trees.specs.Tree.{rowid}
 use Rattle.sqlite_rules.specs.Edit.{with_rowid}
-use Rattle.values.specs.Values.{is_between, is_gtin, is_lot_text}
+use Rattle.values.specs.Values.{is_gtin, is_lot_text}
 use Rattle.commands.specs.declared.rows.CardRow.{CardRow}
-use Rattle.commands.specs.declared.limits.TheConstants.{ACTS_MAX, UNITS_MAX}
+use Rattle.commands.specs.declared.limits.TheConstants.{ACTS_MAX}
 use Rattle.history_tables.specs.declared.texts.TheConstants.{ADD_CARD}
-use Rattle.table_words.specs.Cells.{number_in, is_card_units}
+use Rattle.table_words.specs.Cells.{number_in}
 use Rattle.table_words.specs.Schema.{cards_tree, cards_table}
-use Rattle.table_words.specs.Typed.{same_lot_id, CardKey, is_card, card_in, has_card, card_read, same_card, card_key, card_cells}
+use Rattle.table_words.specs.Typed.{same_lot_id, CardKey, same_card, card_key, card_mapping}
 use Rattle.table_words.proofs.Plans.{same}
 use Rattle.table_words.proofs.ScanLemmas.{passes}
 use Rattle.table_words.proofs.WriteLemmas.{cast_number, cast_null}
 use Rattle.table_words.proofs.CellLemmas.{and_true, and_assoc, same_word, same_count, same_number, itself_number, same_lots, itself_lot, card_kind_back}
 use Rattle.table_words.proofs.KeyLemmas.{same_both, itself_both}
-use Rattle.keyed_rows.specs.Described.{Described, IsLawful, AddIs, keyed}
+use Rattle.keyed_rows.specs.Described.{Described, IsLawful, AddIs}
+use Rattle.keyed_rows.specs.Mapped.{planned}
 use Rattle.keyed_rows.proofs.Laws.{one_keyed}
 
 -- what the table is
 abbrev pub cards : Described CardRow CardKey
-cards = record {
+cards = planned card_mapping (record {
   place = 12;
-  layout = keyed cards_tree (codes "cards") (cards_table cards_tree).columns (1 ∷ 2 ∷ 3 ∷ []);
-  is = is_card;
-  reads = card_in;
-  shown = col 1 1 ∷ col 1 2 ∷ col 1 3 ∷ col 1 4 ∷ col 1 5 ∷ col 1 6 ∷ col 1 7 ∷ col 1 8 ∷ [];
-  has = has_card;
-  seen = card_read;
+  tree = cards_tree;
+  name = codes "cards";
+  columns = (cards_table cards_tree).columns;
   key = card_key;
   same = same_card;
-  cells = card_cells;
   key_cells = λ k. Text k.0.gtin ∷ Text k.0.lot ∷ Int (pos k.1) ∷ [];
+  key_places = 1 ∷ 2 ∷ 3 ∷ [];
   look = λ t k. t.card k.0 k.1;
   set = λ f t. record t { card = λ a b. f (a, b) };
-  tests = same 1 0 ∷ same 2 1 ∷ same 3 2 ∷ [];
   add = ADD_CARD.now;
-  add_terms = lit Null ∷ col 0 0 ∷ col 0 1 ∷ col 0 2 ∷ col 0 3 ∷ col 0 4 ∷ col 0 5 ∷ col 0 6 ∷ col 0 7 ∷ [];
-  source = λ s. Null ∷ card_cells s;
-}
-
--- its numbers are within their limits
-abbrev pub fits_card : CardRow → Bool
-fits_card s = is_between 1 ACTS_MAX s.act && is_card_units s.qty && nat_le s.rest UNITS_MAX
+})
 
 -- ---- what holds of them
 
@@ -58,7 +48,7 @@ add_is : AddIs cards
 unfolding understood everything
 add_is rest = (refl, (refl, refl))
 
-at_key : (k : CardKey) (r : Row) → is_card r ≡ true → passes (cards.key_cells k) cards.tests r ≡ same_card k (card_key (card_in r))
+at_key : (k : CardKey) (r : Row) → cards.is r ≡ true → passes (cards.key_cells k) cards.tests r ≡ same_card k (card_key (cards.reads r))
 at_key k r h =
     let p0 = and_parts _ _ h in
     let p1 = and_parts _ _ p0.1 in
@@ -67,7 +57,7 @@ at_key k r h =
     ∙ and_assoc (bytes_eq k.0.gtin (bytes (column r 1))) (bytes_eq k.0.lot (bytes (column r 2))) (nat_eq k.1 (number_in (column r 3)))
 
 -- what is written reads as the row
-back : (id : Value) (s : CardRow) → card_in (id ∷ card_cells s) ≡ s
+back : (id : Value) (s : CardRow) → cards.reads (id ∷ cards.cells s) ≡ s
 back id s = ap (λ x. let r : CardRow = record { lot = record { gtin = s.lot.gtin; lot = s.lot.lot }; act = s.act; day = s.day; kind = x; note = s.note; qty = s.qty; rest = s.rest } in r) (card_kind_back s.kind)
 
 pub cards_laws : IsLawful cards

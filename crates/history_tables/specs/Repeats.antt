@@ -2,9 +2,8 @@
 use Rattle.std.specs.Prelude.{◌≡◌, ℕ, Bool, true, bytes_eq, List, [], ◌∷◌, codes}
 use Rattle.std.proofs.Common.{refl, ◌∙◌, pos}
 use Rattle.std.proofs.lemmas.Bool.{and_parts}
-use Rattle.sqlite.specs.declared.types.Value.TheVariants.{Null, Text}
+use Rattle.sqlite.specs.declared.types.Value.TheVariants.{Text}
 use Rattle.sqlite.specs.Order.{Row, column, bytes}
-use Rattle.sqlite.specs.Term.{lit, col}
 use Rattle.sqlite.specs.Listing.{understood}
 use Rattle.sqlite_tied.specs.Compute.{everything}
 use Rattle.values.specs.Values.{is_between}
@@ -15,36 +14,31 @@ use Rattle.history_tables.specs.declared.texts.TheConstants.{ADD_REPEAT, REPEATS
 use Rattle.table_words.specs.Found.{AreRows}
 use Rattle.table_words.specs.Cells.{is_the_text, fits_in}
 use Rattle.table_words.specs.Schema.{repeats_tree, repeats_table}
-use Rattle.table_words.specs.Typed.{is_repeat, repeat_in, has_repeat, repeat_read, same_repeat, repeat_key, repeat_cells}
+use Rattle.table_words.specs.Typed.{same_repeat, repeat_key, repeat_mapping}
 use Rattle.table_words.proofs.Plans.{same, by_rowid}
 use Rattle.table_words.proofs.ScanLemmas.{passes, in_order}
 use Rattle.table_words.proofs.WriteLemmas.{cast_number, cast_null}
 use Rattle.table_words.proofs.CellLemmas.{and_true, same_word, equals_text}
 use Rattle.table_words.proofs.KeyLemmas.{same_bytes, itself_bytes}
-use Rattle.keyed_rows.specs.Described.{Described, IsLawful, AddIs, Query, QueryIs, IsSought, keyed}
+use Rattle.keyed_rows.specs.Described.{Described, IsLawful, AddIs, Query, QueryIs, IsSought}
+use Rattle.keyed_rows.specs.Mapped.{planned}
 use Rattle.keyed_rows.proofs.Laws.{one_keyed, rows_of, found_by_key}
 
 -- what the table is
 abbrev pub repeats : Described RepeatRow (List ℕ)
-repeats = record {
+repeats = planned repeat_mapping (record {
   place = 13;
-  layout = keyed repeats_tree (codes "repeats") (repeats_table repeats_tree).columns (1 ∷ []);
-  is = is_repeat;
-  reads = repeat_in;
-  shown = col 1 1 ∷ col 1 2 ∷ col 1 3 ∷ col 1 4 ∷ [];
-  has = has_repeat;
-  seen = repeat_read;
+  tree = repeats_tree;
+  name = codes "repeats";
+  columns = (repeats_table repeats_tree).columns;
   key = repeat_key;
   same = same_repeat;
-  cells = repeat_cells;
   key_cells = λ k. Text k ∷ [];
+  key_places = 1 ∷ [];
   look = λ t k. t.repeat k;
   set = λ f t. record t { repeat = f };
-  tests = same 1 0 ∷ [];
   add = ADD_REPEAT.now;
-  add_terms = lit Null ∷ col 0 0 ∷ col 0 1 ∷ col 0 2 ∷ col 0 3 ∷ [];
-  source = λ s. Null ∷ repeat_cells s;
-}
+})
 
 -- its numbers are within their limits
 abbrev pub fits_repeat : RepeatRow → Bool
@@ -71,7 +65,7 @@ add_is : AddIs repeats
 unfolding understood everything
 add_is rest = (refl, (refl, refl))
 
-at_key : (k : List ℕ) (r : Row) → is_repeat r ≡ true → passes (repeats.key_cells k) repeats.tests r ≡ same_repeat k (repeat_key (repeat_in r))
+at_key : (k : List ℕ) (r : Row) → repeats.is r ≡ true → passes (repeats.key_cells k) repeats.tests r ≡ same_repeat k (repeat_key (repeats.reads r))
 at_key k r h = and_true _ ∙ same_word (fits_in KEY_TEXT_MAX) (column r 1) (Text k) k (and_parts _ _ h).0 refl
 
 pub repeats_laws : IsLawful repeats
@@ -99,7 +93,7 @@ repeats_of_is : QueryIs repeats repeats_of
 unfolding understood everything
 repeats_of_is rest = (refl, refl, (refl, refl))
 
-repeats_of_at : (text : List ℕ) (r : Row) → is_repeat r ≡ true → passes (repeats_of.params text) repeats_of.tests r ≡ bytes_eq text (bytes (column r 1))
+repeats_of_at : (text : List ℕ) (r : Row) → repeats.is r ≡ true → passes (repeats_of.params text) repeats_of.tests r ≡ bytes_eq text (bytes (column r 1))
 repeats_of_at text r h = and_true _ ∙ same_word (fits_in KEY_TEXT_MAX) (column r 1) (Text text) text (and_parts _ _ h).0 refl
 
 pub repeats_of_laws : IsSought repeats repeats_of AreRepeatsOf

@@ -1,59 +1,52 @@
 -- The table `shiplines`.
-use Rattle.std.specs.Prelude.{◌≡◌, Bool, true, ◌&&◌, nat_eq, [], ◌∷◌, codes}
+use Rattle.std.specs.Prelude.{◌≡◌, true, ◌&&◌, nat_eq, [], ◌∷◌, codes}
 use Rattle.std.proofs.Common.{refl, ap₂, ◌∙◌, pos}
 use Rattle.std.proofs.lemmas.Bool.{and_parts}
-use Rattle.sqlite.specs.declared.types.Value.TheVariants.{Null, Int, Text}
+use Rattle.sqlite.specs.declared.types.Value.TheVariants.{Int, Text}
 use Rattle.sqlite.specs.Order.{Row, column}
-use Rattle.sqlite.specs.Term.{lit, col}
 use Rattle.sqlite.specs.Listing.{understood}
 use Rattle.sqlite_tied.specs.Compute.{everything}
-use Rattle.values.specs.Values.{QTY_MAX, is_between, is_gtin, is_lot_text}
+use Rattle.values.specs.Values.{is_gtin, is_lot_text}
 use Rattle.commands.specs.declared.rows.ShiplineRow.{ShiplineRow}
 use Rattle.commands.specs.declared.limits.TheConstants.{ACTS_MAX}
 use Rattle.history_tables.specs.declared.texts.TheConstants.{ADD_SHIPLINE}
 use Rattle.table_words.specs.Schema.{shiplines_tree, shiplines_table}
-use Rattle.table_words.specs.Typed.{same_lot_id, ShiplineKey, is_shipline, shipline_in, has_shipline, shipline_read, same_shipline, shipline_key, shipline_cells}
+use Rattle.table_words.specs.Typed.{same_lot_id, ShiplineKey, same_shipline, shipline_key, shipline_mapping}
 use Rattle.table_words.proofs.Plans.{same}
 use Rattle.table_words.proofs.ScanLemmas.{passes}
 use Rattle.table_words.proofs.WriteLemmas.{cast_number, cast_null}
 use Rattle.table_words.proofs.CellLemmas.{and_true, same_word, same_count, same_number, itself_number, same_lots, itself_lot}
 use Rattle.table_words.proofs.KeyLemmas.{same_both, itself_both}
-use Rattle.keyed_rows.specs.Described.{Described, IsLawful, AddIs, keyed}
+use Rattle.keyed_rows.specs.Described.{Described, IsLawful, AddIs}
+use Rattle.keyed_rows.specs.Mapped.{IsMapped, planned}
 use Rattle.keyed_rows.proofs.Laws.{one_keyed}
 
 -- what the table is
 abbrev pub shiplines : Described ShiplineRow ShiplineKey
-shiplines = record {
+shiplines = planned shipline_mapping (record {
   place = 11;
-  layout = keyed shiplines_tree (codes "shiplines") (shiplines_table shiplines_tree).columns (1 ∷ 2 ∷ 3 ∷ []);
-  is = is_shipline;
-  reads = shipline_in;
-  shown = col 1 1 ∷ col 1 2 ∷ col 1 3 ∷ col 1 4 ∷ [];
-  has = has_shipline;
-  seen = shipline_read;
+  tree = shiplines_tree;
+  name = codes "shiplines";
+  columns = (shiplines_table shiplines_tree).columns;
   key = shipline_key;
   same = same_shipline;
-  cells = shipline_cells;
   key_cells = λ k. Int (pos k.0) ∷ Text k.1.gtin ∷ Text k.1.lot ∷ [];
+  key_places = 1 ∷ 2 ∷ 3 ∷ [];
   look = λ t k. t.shipline k.0 k.1;
   set = λ f t. record t { shipline = λ a b. f (a, b) };
-  tests = same 1 0 ∷ same 2 1 ∷ same 3 2 ∷ [];
   add = ADD_SHIPLINE.now;
-  add_terms = lit Null ∷ col 0 0 ∷ col 0 1 ∷ col 0 2 ∷ col 0 3 ∷ [];
-  source = λ s. Null ∷ shipline_cells s;
-}
-
--- its numbers are within their limits
-abbrev pub fits_shipline : ShiplineRow → Bool
-fits_shipline s = is_between 1 ACTS_MAX s.number && is_between 1 QTY_MAX s.qty
+})
 
 -- ---- what holds of them
+
+pub shipline_mapped : IsMapped shipline_mapping.columns 4 shipline_mapping shiplines
+shipline_mapped = record { few = refl; cells = λ s. refl; has = λ r. refl; seen = λ r. refl; back = λ s. refl }
 
 add_is : AddIs shiplines
 unfolding understood everything
 add_is rest = (refl, (refl, refl))
 
-at_key : (k : ShiplineKey) (r : Row) → is_shipline r ≡ true → passes (shiplines.key_cells k) shiplines.tests r ≡ same_shipline k (shipline_key (shipline_in r))
+at_key : (k : ShiplineKey) (r : Row) → shiplines.is r ≡ true → passes (shiplines.key_cells k) shiplines.tests r ≡ same_shipline k (shipline_key (shiplines.reads r))
 at_key k r h =
     let p0 = and_parts _ _ h in
     let p1 = and_parts _ _ p0.1 in

@@ -1,13 +1,12 @@
 -- The table `shipments`.
-use Rattle.std.specs.Prelude.{◌≡◌, ℕ, Bool, true, ◌&&◌, nat_le, nat_eq, filter, List, [], ◌∷◌, codes}
+use Rattle.std.specs.Prelude.{◌≡◌, ℕ, true, nat_le, nat_eq, filter, List, [], ◌∷◌, codes}
 use Rattle.std.proofs.Common.{refl, ◌∙◌, pos}
 use Rattle.std.proofs.lemmas.Bool.{and_parts}
-use Rattle.sqlite.specs.declared.types.Value.TheVariants.{Null, Int, Text}
+use Rattle.sqlite.specs.declared.types.Value.TheVariants.{Null, Int}
 use Rattle.sqlite.specs.Order.{Row, column}
 use Rattle.sqlite.specs.Term.{lit, col}
 use Rattle.sqlite.specs.Listing.{understood}
 use Rattle.sqlite_tied.specs.Compute.{everything}
-use Rattle.values.specs.Values.{is_between}
 use Rattle.commands.specs.Tables.{Tables}
 use Rattle.commands.specs.declared.rows.ShipmentRow.{ShipmentRow}
 use Rattle.commands.specs.declared.limits.TheConstants.{ACTS_MAX}
@@ -15,13 +14,14 @@ use Rattle.history_tables.specs.declared.texts.TheConstants.{ADD_SHIPMENT, SHIPM
 use Rattle.table_words.specs.Found.{AreRows}
 use Rattle.table_words.specs.Cells.{is_the_number}
 use Rattle.table_words.specs.Schema.{shipments_tree, shipments_table}
-use Rattle.table_words.specs.Typed.{is_shipment, shipment_in, has_shipment, shipment_read, same_shipment, shipment_key, shipment_cells}
+use Rattle.table_words.specs.Typed.{is_stored_shipment, stored_shipment, same_shipment, shipment_key, shipment_mapping, shipment_rest}
 use Rattle.table_words.proofs.Plans.{same}
 use Rattle.table_words.proofs.ScanLemmas.{passes, scanned}
 use Rattle.table_words.proofs.WriteLemmas.{only_shown, cast_number, cast_null}
 use Rattle.table_words.proofs.CellLemmas.{and_true, same_count, equals_number, same_number, itself_number}
 use Rattle.table_words.proofs.KeyLemmas.{one_by_rowid, few}
 use Rattle.keyed_rows.specs.Described.{Described, IsLawful, AddIs, Query, QueryIs, IsSought, by_id}
+use Rattle.keyed_rows.specs.Mapped.{IsMapped}
 use Rattle.keyed_rows.proofs.Laws.{rows_of, found_by_key}
 
 -- what the table is
@@ -29,26 +29,22 @@ abbrev pub shipments : Described ShipmentRow ℕ
 shipments = record {
   place = 10;
   layout = by_id shipments_tree (codes "shipments") (shipments_table shipments_tree).columns;
-  is = is_shipment;
-  reads = shipment_in;
+  is = is_stored_shipment;
+  reads = stored_shipment;
   shown = col 1 0 ∷ col 1 2 ∷ col 1 3 ∷ col 1 4 ∷ [];
-  has = has_shipment;
-  seen = shipment_read;
+  has = shipment_mapping.columns.has 0;
+  seen = λ v. shipment_mapping.of (shipment_mapping.columns.reads 0 v);
   key = shipment_key;
   same = same_shipment;
-  cells = shipment_cells;
+  cells = λ s. shipment_mapping.columns.cells (shipment_mapping.parts s);
   key_cells = λ number. Int (pos number) ∷ [];
   look = λ t number. t.shipment number;
   set = λ f t. record t { shipment = f };
   tests = same 0 0 ∷ [];
   add = ADD_SHIPMENT.now;
   add_terms = col 0 0 ∷ lit Null ∷ col 0 1 ∷ col 0 2 ∷ col 0 3 ∷ [];
-  source = λ s. Int (pos s.number) ∷ Null ∷ Int (pos s.act) ∷ Int s.day ∷ Text s.order ∷ [];
+  source = λ s. Int (pos s.number) ∷ Null ∷ shipment_rest.cells (shipment_mapping.parts s).1;
 }
-
--- its numbers are within their limits
-abbrev pub fits_shipment : ShipmentRow → Bool
-fits_shipment s = is_between 1 ACTS_MAX s.number && is_between 1 ACTS_MAX s.act
 
 -- the rows of a number
 abbrev pub shipments_of : Query ShipmentRow ℕ ℕ
@@ -67,11 +63,14 @@ AreShipmentsOf number t rows = AreRows {K = ℕ} same_shipment shipment_key (λ 
 
 -- ---- what holds of them
 
+pub shipment_mapped : IsMapped shipment_mapping.columns 4 shipment_mapping shipments
+shipment_mapped = record { few = refl; cells = λ s. refl; has = λ r. refl; seen = λ r. refl; back = λ s. refl }
+
 add_is : AddIs shipments
 unfolding understood everything
 add_is rest = (refl, (refl, refl))
 
-at_key : (k : ℕ) (r : Row) → is_shipment r ≡ true → passes (shipments.key_cells k) shipments.tests r ≡ same_shipment k (shipment_key (shipment_in r))
+at_key : (k : ℕ) (r : Row) → shipments.is r ≡ true → passes (shipments.key_cells k) shipments.tests r ≡ same_shipment k (shipment_key (shipments.reads r))
 at_key k r h = and_true _ ∙ same_count ACTS_MAX (column r 0) (Int (pos k)) k (and_parts _ _ h).0 refl
 
 pub shipments_laws : IsLawful shipments

@@ -4,33 +4,77 @@ ghost use Rattle.std.specs.Prelude.{◌≡◌, false, List};
 ghost use Rattle.sqlite.specs.State.{HasCleanDisk, Survives};
 ghost use Rattle.sqlite.specs.Held.{state};
 ghost use Rattle.table_words.specs.Steps.{IsReady};
-ghost use Rattle.table_words.specs.Typed.{tables_in, AreTyped};
+ghost use Rattle.table_words.specs.Typed.{tables_in, AreTyped, card_mapping};
 ghost use Rattle.commands.specs.declared.rows.CardRow.{CardRow as CardRecord};
 ghost use Rattle.each_row.specs.Handed.{HandsOver, IsLeft};
 ghost use Rattle.history_tables.specs.ByKey.{AreCardLines};
 
 use crate::texts::{ADD_CARD, CARDS_BY_ACT};
-use commands::limits::{ACTS_MAX, UNITS_MAX};
-use commands::{CardRow, Sink};
+use commands::limits::{ACTS_MAX, CARD_NOTE_MAX, UNITS_MAX};
+use commands::{CardKind, CardRow, Sink};
 use each_row::{EachFault, each};
 use keyed_rows::reading::Whole;
-use keyed_rows::running::count;
+use keyed_rows::running::run_with;
 use keyed_rows::table::Table;
+use label::BusinessDay;
 use sqlite::{Alter, Connection, Row, Transaction};
 use std::alloc::Global;
-use table_words::columns::{
-    business_day_at, card_kind_at, card_units_at, count_at, gtin_at, is_card_units, lot_at,
-    note_at, number_at, of_business_day, of_card_kind, of_gtin, of_lot, of_number, of_signed,
-    of_text,
-};
+use table_words::chain::Chain;
+use table_words::column::{CardUnits, Column, Count, Number};
 use table_words::error::TableFault;
-use values::LotId;
+use values::{Gtin, Lot, LotId, Text};
 
 /// The table.
 pub struct Cards;
 
+/// The columns of a row.
+type Parts = (
+    Gtin,
+    (
+        Lot,
+        (
+            Count<ACTS_MAX>,
+            (
+                BusinessDay,
+                (
+                    CardKind,
+                    (Text<CARD_NOTE_MAX>, (CardUnits, Number<UNITS_MAX>)),
+                ),
+            ),
+        ),
+    ),
+);
+
+fn parts(row: &CardRow) -> Parts
+    ensures { result ≡ card_mapping.parts row.now }
+{
+    let act = Count { number: row.act };
+    let qty = CardUnits { units: row.qty };
+    let rest = Number { number: row.rest };
+    let told = (row.kind, (row.note, (qty, rest)));
+    (row.lot.gtin, (row.lot.lot, (act, (row.day, told))))
+}
+
+fn of(parts: Parts) -> CardRow
+    ensures { result ≡ card_mapping.of parts }
+{
+    let (gtin, (lot, (act, (day, (kind, (note, (qty, rest))))))) = parts;
+    CardRow {
+        lot: LotId { gtin, lot },
+        act: act.number,
+        day,
+        kind,
+        note,
+        qty: qty.units,
+        rest: rest.number,
+    }
+}
+
+// Eight columns: by `Mapped`, each bound on this table would cost the prover more steps than one of them may take.
 impl Table for Cards {
-    ghost use Rattle.history_tables.specs.Cards.{cards, fits_card, cards_laws};
+    ghost use Rattle.table_words.specs.Stored.{fits_row};
+    ghost use Rattle.table_words.specs.Typed.{card_mapping};
+    ghost use Rattle.history_tables.specs.Cards.{cards, cards_laws};
 
     type Row = CardRow;
 
@@ -38,7 +82,7 @@ impl Table for Cards {
 
     ghost table = { cards };
 
-    ghost fits = { fits_card };
+    ghost fits = { fits_row card_mapping };
 
     ghost laws = { cards_laws };
 
@@ -47,8 +91,7 @@ impl Table for Cards {
     }
 
     fn fits(row: &CardRow) -> bool {
-        let is_of_act = 1 <= row.act && row.act <= ACTS_MAX;
-        is_of_act && is_card_units(row.qty) && row.rest <= UNITS_MAX
+        parts(row).fit()
     }
 
     fn run<S: Alter>(
@@ -56,42 +99,13 @@ impl Table for Cards {
         sql: &str,
         row: &CardRow,
     ) -> Result<usize, TableFault> {
-        let cells = [
-            of_gtin(&row.lot.gtin),
-            of_lot(&row.lot.lot),
-            of_number(row.act),
-            of_business_day(row.day),
-            of_card_kind(row.kind),
-            of_text(&row.note),
-            of_signed(&row.qty),
-            of_number(row.rest),
-        ];
-        count(tx, sql, &cells)
+        run_with(&parts(row), tx, sql)
     }
 
     fn read(_: Global, row: &Row) -> Result<CardRow, TableFault> {
-        match (
-            gtin_at(row, 0),
-            lot_at(row, 1),
-            count_at(row, 2, ACTS_MAX),
-            business_day_at(row, 3),
-            card_kind_at(row, 4),
-            note_at(row, 5),
-            card_units_at(row, 6),
-            number_at(row, 7, UNITS_MAX),
-        ) {
-            (Ok(gtin), Ok(lot), Ok(act), Ok(day), Ok(kind), Ok(note), Ok(qty), Ok(rest)) => Ok(
-                CardRow {
-                    lot: LotId { gtin, lot },
-                    act,
-                    day,
-                    kind,
-                    note,
-                    qty,
-                    rest,
-                },
-            ),
-            _ => Err(TableFault::Foreign),
+        match Parts::read_at(row, 0) {
+            Some(parts) => Ok(of(parts)),
+            None => Err(TableFault::Foreign),
         }
     }
 }
@@ -114,7 +128,7 @@ pub fn each_card<S: Alter, K: Sink<CardRow>>(
         alloc,
         conn,
         CARDS_BY_ACT,
-        &[of_gtin(&lot.gtin), of_lot(&lot.lot)],
+        &[lot.gtin.value(), lot.lot.value()],
         sink,
     )
 }

@@ -7,8 +7,9 @@ ghost use Rattle.sqlite.specs.Held.{state};
 ghost use Rattle.values.specs.Values.{is_between};
 ghost use Rattle.table_words.specs.Found.{AreRows};
 ghost use Rattle.table_words.specs.Steps.{IsReady, Goes, ChangesNone, IsTooBig};
-ghost use Rattle.table_words.specs.Typed.{tables_in, with_repeat, is_repeat, repeat_key, same_repeat, RepeatKey, repeats_of_rows};
+ghost use Rattle.table_words.specs.Typed.{tables_in, with_repeat, repeat_key, same_repeat, RepeatKey, repeats_of_rows};
 ghost use Rattle.table_words.specs.declared.error.TableFault.TheVariants.{Foreign};
+ghost use Rattle.history_tables.specs.Repeats.{repeats};
 
 use crate::texts::{ADD_REPEAT, REPEATS_OF};
 use commands::RepeatRow;
@@ -129,9 +130,9 @@ pub fn repeats_of<S: Alter>(
     ensures rows { HasCleanDisk (state S.Store tx.new.conn.now) → IsReady (state S.Store tx.old.conn.now).now
         → IfOk result (λ rows. AreRows {K = RepeatKey} same_repeat repeat_key (λ key. bytes_eq k.now key) (λ key. (tables_in (state S.Store tx.old.conn.now).now.trees).repeat key) rows.items) }
     ensures typed { HasCleanDisk (state S.Store tx.new.conn.now) → IsReady (state S.Store tx.old.conn.now).now
-        → OnOk result (AllByRecursion (λ r. is_repeat r ≡ true) (repeats_of_rows k.now (state S.Store tx.old.conn.now).now.trees)) }
+        → OnOk result (AllByRecursion (λ r. repeats.is r ≡ true) (repeats_of_rows k.now (state S.Store tx.old.conn.now).now.trees)) }
     ensures foreign { HasCleanDisk (state S.Store tx.new.conn.now) → IsReady (state S.Store tx.old.conn.now).now
-        → IfErr result (λ e. e ≡ Foreign → ¬ AllByRecursion (λ r. is_repeat r ≡ true) (repeats_of_rows k.now (state S.Store tx.old.conn.now).now.trees)) }
+        → IfErr result (λ e. e ≡ Foreign → ¬ AllByRecursion (λ r. repeats.is r ≡ true) (repeats_of_rows k.now (state S.Store tx.old.conn.now).now.trees)) }
     ensures same { HasCleanDisk (state S.Store tx.new.conn.now) → IsReady (state S.Store tx.old.conn.now).now → OnOk result (IsUnchanged (state S.Store tx.old.conn.now) (state S.Store tx.new.conn.now)) }
     ensures refused { HasCleanDisk (state S.Store tx.new.conn.now) → IsReady (state S.Store tx.old.conn.now).now → OnErr result (ChangesNone (state S.Store tx.old.conn.now) (state S.Store tx.new.conn.now)) }
     ensures kept { HasCleanDisk (state S.Store tx.new.conn.now) → IsReady (state S.Store tx.old.conn.now).now → KeepsCommit (state S.Store tx.old.conn.now) (state S.Store tx.new.conn.now) }

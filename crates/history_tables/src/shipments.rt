@@ -3,70 +3,53 @@
 use crate::texts::{ADD_SHIPMENT, SHIPMENTS_OF};
 use commands::ShipmentRow;
 use commands::limits::ACTS_MAX;
+use keyed_rows::mapped::Mapped;
 use keyed_rows::reading::{Sought, query_rows};
-use keyed_rows::running::count;
-use keyed_rows::table::Table;
-use sqlite::{Alter, Row, Transaction};
+use label::BusinessDay;
+use sqlite::{Alter, Transaction};
 use std::alloc::Global;
-use table_words::columns::{
-    business_day_at, count_at, name_at, of_business_day, of_name, of_number,
-};
+use table_words::column::{Column, Count, Number};
 use table_words::error::TableFault;
+use values::Name;
 
 /// The table.
 pub struct Shipments;
 
-impl Table for Shipments {
-    ghost use Rattle.history_tables.specs.Shipments.{shipments, fits_shipment, shipments_laws};
+impl Mapped for Shipments {
+    ghost use Rattle.table_words.specs.Typed.{shipment_mapping};
+    ghost use Rattle.history_tables.specs.Shipments.{shipments, shipment_mapped, shipments_laws};
 
     type Row = ShipmentRow;
 
     type Key = u64;
 
-    ghost table = { shipments };
+    type Parts = (Count<ACTS_MAX>, (Count<ACTS_MAX>, (BusinessDay, Name)));
 
-    ghost fits = { fits_shipment };
+    ghost mapping = { shipment_mapping };
 
-    ghost laws = { shipments_laws };
+    ghost described = { shipments };
+
+    ghost mapped = { shipment_mapped };
+
+    ghost mapped_laws = { shipments_laws };
+
+    fn parts(row: &ShipmentRow) -> Self::Parts {
+        let number = Count { number: row.number };
+        let act = Count { number: row.act };
+        (number, (act, (row.day, row.order)))
+    }
+
+    fn of((number, (act, (day, order))): Self::Parts) -> ShipmentRow {
+        ShipmentRow {
+            number: number.number,
+            act: act.number,
+            day,
+            order,
+        }
+    }
 
     fn add_text() -> &'static str {
         ADD_SHIPMENT
-    }
-
-    fn fits(row: &ShipmentRow) -> bool {
-        let is_numbered = 1 <= row.number && row.number <= ACTS_MAX;
-        is_numbered && 1 <= row.act && row.act <= ACTS_MAX
-    }
-
-    fn run<S: Alter>(
-        tx: &mut Transaction<'_, S>,
-        sql: &str,
-        row: &ShipmentRow,
-    ) -> Result<usize, TableFault> {
-        let cells = [
-            of_number(row.number),
-            of_number(row.act),
-            of_business_day(row.day),
-            of_name(&row.order),
-        ];
-        count(tx, sql, &cells)
-    }
-
-    fn read(_: Global, row: &Row) -> Result<ShipmentRow, TableFault> {
-        match (
-            count_at(row, 0, ACTS_MAX),
-            count_at(row, 1, ACTS_MAX),
-            business_day_at(row, 2),
-            name_at(row, 3),
-        ) {
-            (Ok(number), Ok(act), Ok(day), Ok(order)) => Ok(ShipmentRow {
-                number,
-                act,
-                day,
-                order,
-            }),
-            _ => Err(TableFault::Foreign),
-        }
     }
 }
 
@@ -89,6 +72,7 @@ impl Sought<u64> for Shipments {
         sql: &str,
         number: &u64,
     ) -> Result<Vec<ShipmentRow>, TableFault> {
-        query_rows::<Shipments, S>(alloc, tx, sql, &[of_number(*number)])
+        let sought = Number::<ACTS_MAX> { number: *number };
+        query_rows::<Shipments, S>(alloc, tx, sql, &[sought.value()])
     }
 }

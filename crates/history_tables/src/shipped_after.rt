@@ -18,7 +18,7 @@ use each_row::{EachFault, each};
 use keyed_rows::reading::Whole;
 use sqlite::{Alter, Connection};
 use std::alloc::Global;
-use table_words::columns::{of_gtin, of_lot, of_number};
+use table_words::column::{Column, Number};
 use table_words::error::TableFault;
 use values::LotId;
 
@@ -99,11 +99,12 @@ fn first_after<S: Alter>(
     ensures survives { Survives (state S.Store conn.old) (state S.Store conn.new) (λ _. ¬ IsReady (state S.Store conn.old).now) }
 {
     let mut first = First { row: None };
+    let above = Number::<ACTS_MAX> { number: act };
     let handed = each::<Whole<Cards>, S, First>(
         alloc,
         conn,
         CARDS_AFTER,
-        &[of_gtin(&lot.gtin), of_lot(&lot.lot), of_number(act)],
+        &[lot.gtin.value(), lot.lot.value(), above.value()],
         &mut first,
     );
     first_of(first, handed)

@@ -4,7 +4,7 @@ ghost use Rattle.std.specs.Prelude.{◌≡◌, ◌≢◌, ℤ, List, Err, codes}
 ghost use Rattle.machine.specs.Acts.{Act};
 ghost use Rattle.machine.specs.Once.{IsHistory};
 ghost use Rattle.store.specs.Books.{IsClean, AreAsBefore};
-ghost use Rattle.house.specs.Answers.{is_served as is_served_lem, act_answer, acts_with, status_of};
+ghost use Rattle.house.specs.Answers.{act_answer, acts_with, status_of};
 ghost use Rattle.house.specs.Asking.{Does, told_answer, act_of, delivered, scanned_answer, scanned_acts};
 
 use commands::laws::{every_command_is_sound, every_key_is_sound};
@@ -16,19 +16,6 @@ use store::{Books, Fault, Reply};
 use values::{LineNo, LotId, Name, Qty};
 use wire::Block;
 use wire::short_answers::{conflict, fault_answer, foreign_books, label_answer, reply_answer};
-
-/// Whether the key is of the command's kind: a receipt bears a delivery and a line, every other
-/// command a plain key.
-fn is_served(key: &Key, command: &Command) -> bool
-    ensures { result ≡ is_served_lem (act_of key.now command.now) }
-{
-    match (key, command) {
-        (Key::Line(_, _), Command::Receive(_)) => true,
-        (Key::Line(_, _), _) => false,
-        (Key::Plain(_), Command::Receive(_)) => false,
-        (Key::Plain(_), _) => true,
-    }
-}
 
 /// The answer that tells how an act went. It takes no memory.
 fn reply_block(done: Result<Reply, Fault>) -> Block
@@ -60,7 +47,7 @@ pub(crate) fn act<S: Alter>(books: &mut Books<S>, key: &Key, command: &Command) 
 {
     every_command_is_sound(command);
     every_key_is_sound(*key);
-    if !is_served(key, command) {
+    if !key.is_of(command) {
         return fault_answer(WireFault::Path);
     }
     reply_block(books.act(key, command))

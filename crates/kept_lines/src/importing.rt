@@ -1,7 +1,7 @@
 //! A goods-in file that is imported into books whose acts are kept in a second file.
 
 ghost use Rattle.std.specs.Prelude.{◌≡◌, ◌++◌, ℤ, List, true, IsErr, IsErrAnd, IfOk, IfErr};
-ghost use Rattle.tables.specs.declared.opening.Leftover.TheVariants as leftover;
+ghost use Rattle.books_schema.specs.declared.ready_connection.Leftover.TheVariants as leftover;
 ghost use Rattle.sqlite.specs.Held.{state};
 ghost use Rattle.sqlite.specs.State.{HasCleanDisk, Survives};
 ghost use Rattle.machine.specs.Acts.{Act};
@@ -15,6 +15,7 @@ ghost use Rattle.kept_lines.specs.Importing.{IsImportEnd, IsImportDone, IsImport
 use crate::fault::fault_of_acts;
 use crate::opening::{not_kept, open_acts};
 use acts_files::ActsFile;
+use books_schema::ready_connection::Orderly;
 use command_line::{Fault, FilesAt};
 use line_books::{AfterWork, NotBegun, open_books};
 use service::{take_in, tell_tally};
@@ -23,7 +24,6 @@ use sqlite_disk::Disk;
 use std::alloc::Global;
 use std::io::{Read, Write};
 use store::{Books, Tally};
-use tables::opening::Orderly;
 
 /// Opens the books, and the file of their acts beside them, and imports the goods-in file. What it did is in the file of the
 /// acts, and synced, before the tally is printed. Where that file does not keep the acts of the books, nothing is imported.

@@ -1,7 +1,7 @@
 //! The lines that may keep the acts in a second file: with the disk under one, or without.
 
 ghost use Rattle.std.specs.Prelude.{◌≡◌, ℤ, List, true, false, IsErr, IsErrAnd, IfOk, IfErr};
-ghost use Rattle.tables.specs.declared.opening.Leftover.TheVariants as leftover;
+ghost use Rattle.books_schema.specs.declared.ready_connection.Leftover.TheVariants as leftover;
 ghost use Rattle.sqlite.specs.Held.{state};
 ghost use Rattle.sqlite.specs.State.{HasCleanDisk};
 ghost use Rattle.machine.specs.Acts.{Act};
@@ -13,6 +13,7 @@ ghost use Rattle.kept_lines.specs.Lines.{IsPortToldIf, IsServedWith, IsImportedW
 
 use crate::importing::open_and_import_kept;
 use crate::serving::open_and_serve_kept;
+use books_schema::ready_connection::Orderly;
 use command_line::{Fault, FilesAt};
 use line_books::{AfterWork, NotBegun};
 use service::{open_and_import, open_and_serve};
@@ -21,7 +22,6 @@ use sqlite_disk::Disk;
 use std::alloc::Global;
 use std::io::Write;
 use std::net::TcpListener;
-use tables::opening::Orderly;
 
 /// Opens the books, tells the port and answers so many connections. Where there is a disk for the acts, what a request did
 /// is kept there before it is answered.

@@ -2,7 +2,7 @@
 
 ghost use Rattle.std.specs.Prelude.{◌≡◌, ◌⊎◌, ℤ, [], List, true, false, IsErr, IsErrAnd, OnOk, IfOk, IfErr};
 ghost use Rattle.std.specs.Io.KnownBytes.{Appends};
-ghost use Rattle.tables.specs.declared.opening.Leftover.TheVariants as leftover;
+ghost use Rattle.books_schema.specs.declared.ready_connection.Leftover.TheVariants as leftover;
 ghost use Rattle.sqlite.specs.Held.{state};
 ghost use Rattle.sqlite.specs.State.{HasCleanDisk};
 ghost use Rattle.machine.specs.Acts.{Act};
@@ -19,6 +19,7 @@ use crate::fault::end_of;
 use crate::kept_acts::KeptActs;
 use crate::opening::{not_kept, open_acts};
 use acts_files::ActsFile;
+use books_schema::ready_connection::Orderly;
 use command_line::Fault;
 use house::{House, Keeper};
 use line_books::{AfterWork, NotBegun, open_books};
@@ -28,7 +29,6 @@ use sqlite_disk::Disk;
 use std::io::Write;
 use std::net::TcpListener;
 use store::Books;
-use tables::opening::Orderly;
 
 /// Opens the books, and the file of their acts beside them, tells the port and answers so many connections. What a request
 /// did is in the file, and synced, before a byte of its answer is written. Where the file does not keep the acts of the

@@ -1,3 +1,4 @@
 pub mod Laws
 pub mod Writing
 pub mod Above
+pub mod Eight

@@ -1,3 +1,4 @@
 pub mod Writes
 pub mod Described
+pub mod Mapped
 pub mod Reads

@@ -1,8 +1,9 @@
 //! Rows of a table that are sought.
 
-ghost use Rattle.std.specs.Prelude.{◌≡◌, true};
+ghost use Rattle.std.specs.Prelude.{◌≡◌, ◌≤◌, true};
 ghost use Rattle.sqlite.specs.Held.{state};
 ghost use Rattle.sqlite.specs.Values.{bound};
+ghost use Rattle.table_words.specs.declared.chain.TheConstants.{COLUMNS_MAX};
 ghost use Rattle.keyed_rows.specs.Reads.{Queried, Finds};
 ghost use Rattle.keyed_rows.specs.Described.{stored_of};
 
@@ -11,6 +12,7 @@ use sqlite::types::ValueRef;
 use sqlite::{Alter, Row, Transaction};
 use std::alloc::Global;
 use std::marker::PhantomData;
+use table_words::chain::Chain;
 use table_words::error::TableFault;
 use table_words::reading::{Readable, query};
 
@@ -42,8 +44,67 @@ pub fn query_rows<T: Table, S: Alter>(
     query::<Whole<T>, S>(alloc, tx, sql, params)
 }
 
+/// Runs the query with the values of the columns, and reads each row of the answer; `Foreign` where one of them is no row
+/// of the table.
+fn query_with<T: Table, C: Chain, S: Alter>(
+    alloc: Global,
+    tx: &mut Transaction<'_, S>,
+    sql: &str,
+    columns: &C,
+) -> Result<Vec<T::Row>, TableFault>
+    requires fit { C.columns.fits columns.now ≡ true }
+    requires few { C.count ≤ COLUMNS_MAX }
+    ensures same_reference { tx.new.conn.ghost_name ≡ tx.old.conn.ghost_name }
+    ensures queried { Queried T.table.has T.table.seen sql.now (C.columns.cells columns.now) (state S.Store tx.old.conn.now) (state S.Store tx.new.conn.now) result }
+{
+    let cells = [
+        columns.value_at(0),
+        columns.value_at(1),
+        columns.value_at(2),
+        columns.value_at(3),
+        columns.value_at(4),
+        columns.value_at(5),
+        columns.value_at(6),
+        columns.value_at(7),
+    ];
+    query_rows::<T, S>(alloc, tx, sql, &cells[..C::count()])
+}
+
 /// What every row is sought by.
+#[derive(Clone, Copy)]
 pub struct All;
+
+impl Chain for All {
+    ghost use Rattle.table_words.specs.Stored.{none, no_columns};
+
+    ghost columns = { none (record {}) };
+
+    ghost count = { 0 };
+
+    ghost chain_laws = { no_columns (record {}) };
+
+    fn count() -> usize {
+        0
+    }
+
+    fn fit(&self) -> bool {
+        true
+    }
+
+    fn value_at(&self, _: usize) -> ValueRef<'_> {
+        ValueRef::Null
+    }
+
+    fn is_stored(&self) {}
+
+    fn read_at(_: &Row, _: usize) -> Option<All> {
+        Some(All)
+    }
+
+    fn are_same(&self, _: &All) -> bool {
+        true
+    }
+}
 
 /// A table whose rows are sought by B.
 pub trait Sought<B>: Table {
@@ -73,6 +134,49 @@ pub trait Sought<B>: Table {
         ensures queried { Queried Self.table.has Self.table.seen sql.now (query.params by.now) (state S.Store tx.old.conn.now) (state S.Store tx.new.conn.now) result };
 
     ghost query_laws: { IsSought Self.table query are_of };
+}
+
+/// A table whose rows are sought by columns.
+pub trait SoughtBy<B: Chain>: Table {
+    ghost use Rattle.std.specs.Prelude.{List};
+    ghost use Rattle.commands.specs.Tables.{Tables};
+    ghost use Rattle.keyed_rows.specs.Described.{Query, IsSought};
+    ghost use Rattle.keyed_rows.specs.Mapped.{IsAsked};
+
+    /// What the query is.
+    ghost asks: { Query Self.Row Self.Key B };
+
+    /// The rows are those of the tables that are sought, each once.
+    ghost answers: { B → Tables → List Self.Row → Type 0 };
+
+    /// Its text.
+    fn asking_text() -> &'static str
+        ensures { result.now ≡ asks.text };
+
+    ghost asked: { IsAsked B.columns B.count asks };
+
+    ghost asks_laws: { IsSought Self.table asks answers };
+}
+
+impl<T: SoughtBy<B>, B: Chain> Sought<B> for T {
+    ghost query = { T.asks };
+
+    ghost are_of = { T.answers };
+
+    ghost query_laws = { T.asks_laws };
+
+    fn query_text(_: &B) -> &'static str {
+        T::asking_text()
+    }
+
+    fn run_query<S: Alter>(
+        alloc: Global,
+        tx: &mut Transaction<'_, S>,
+        sql: &str,
+        by: &B,
+    ) -> Result<Vec<T::Row>, TableFault> {
+        query_with::<T, B, S>(alloc, tx, sql, by)
+    }
 }
 
 /// The rows that are sought, the oldest first; `Foreign` where one of them has a value that no row has.

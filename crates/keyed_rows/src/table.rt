@@ -7,8 +7,10 @@ ghost use Rattle.table_words.specs.declared.error.TableFault.TheVariants.{Foreig
 ghost use Rattle.keyed_rows.specs.Writes.{Writes, Spares, WereTyped, WritesInside, Ran, if_done};
 ghost use Rattle.keyed_rows.specs.Described.{with_row, without_row};
 
+use crate::running::run_with;
 use sqlite::{Alter, Row, Transaction};
 use std::alloc::Global;
+use table_words::chain::Chain;
 use table_words::error::TableFault;
 
 /// A table: its texts, its columns and its key.
@@ -177,22 +179,24 @@ pub fn put<T: Changing, S: Alter>(
 pub trait Losing: Table {
     ghost use Rattle.std.specs.Prelude.{ℕ, List};
     ghost use Rattle.keyed_rows.specs.Described.{DropIs};
+    ghost use Rattle.keyed_rows.specs.Mapped.{IsKeyed};
+
+    /// The columns of the key.
+    type Keys: Chain;
+
+    ghost keys: { Self.Row → Self.Keys };
 
     /// The statement that drops a row.
     ghost drop: { List ℕ };
+
+    fn keys(row: &Self::Row) -> Self::Keys
+        ensures { result ≡ keys row.now };
 
     /// Its text.
     fn drop_text() -> &'static str
         ensures { result.now ≡ drop };
 
-    /// Runs a statement with the values of the columns of the row's key.
-    fn run_key<S: Alter>(
-        tx: &mut Transaction<'_, S>,
-        sql: &str,
-        row: &Self::Row,
-    ) -> Result<usize, TableFault>
-        ensures same_reference { tx.new.conn.ghost_name ≡ tx.old.conn.ghost_name }
-        ensures ran { Ran S.Store sql.now (Self.table.key_cells (Self.table.key row.now)) tx.old.conn.now tx.new.conn.now result };
+    ghost keyed: { IsKeyed Self.Keys.columns Self.Keys.count Self.table keys };
 
     ghost drop_laws: { DropIs Self.table drop };
 }
@@ -206,7 +210,7 @@ pub fn drop_row<T: Losing, S: Alter>(
     ensures writes { Writes (without_row T.table (T.table.key row.now)) (state S.Store tx.old.conn.now) (state S.Store tx.new.conn.now) result }
     ensures refused { Spares (state S.Store tx.old.conn.now) (state S.Store tx.new.conn.now) result }
 {
-    match T::run_key(tx, T::drop_text(), row) {
+    match run_with(&T::keys(row), tx, T::drop_text()) {
         Ok(_) => Ok(()),
         Err(fault) => Err(fault),
     }

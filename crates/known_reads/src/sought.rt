@@ -7,7 +7,8 @@ ghost use Rattle.known_reads.specs.Reading.{IsRead, Each, Knowing};
 
 use keyed_rows::reading::{Sought, seek};
 use known_rows::KnownRows;
-use slice_parts::key_list::{Has, KeyOf};
+use row_rules::having::Has;
+use slice_lists::key_list::KeyOf;
 use sqlite::{Alter, Transaction};
 use std::alloc::{AllocError, Global};
 use table_words::error::TableFault;

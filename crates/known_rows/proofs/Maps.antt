@@ -1,12 +1,13 @@
 -- What the calls of a map make of what is known.
 use Rattle.std.proofs.Common.{◌≡◌, Bool, true, false, cond, ◌⊎◌, inl, inr, List, [], ◌∷◌, Vec, Global, refl, sym, ap, subst, ◌∙◌}
-use Rattle.std.specs.Prelude.{if◌then◌else◌, ◌||◌, Option, Some, None, IfSome}
+use Rattle.std.specs.Prelude.{if◌then◌else◌, ◌||◌, Option, Some, None, IfSome, Result, Ok, Err, OnOk, OnErr, is_ok}
 use Rattle.std.specs.List.{list_any}
 use Rattle.std.specs.Option.{option_map}
 use Rattle.std.specs.Ordering.{is_eq}
 use Rattle.std.specs.declared.cmp.Ordering.{Ordering}
-use Rattle.std.specs.BTreeMap.{get, is_at}
-use Rattle.known_rows.specs.KnownRows.{RowMap, rows_at, KnowsNone, IsPart, LearnsAt, ForgetsAt, ForgetsBy}
+use Rattle.std.specs.BTreeMap.{get, get_by, is_at, IsUnchanged, Updates}
+use Rattle.std.specs.Map.{lookup}
+use Rattle.known_rows.specs.KnownRows.{RowMap, rows_at, KnowsNone, IsPart, LearnsAt, ForgetsAt, ForgetsBy, ChangesAt, ChangesBy, each_changed}
 
 abbrev items_of : {R : Type 0} → Option (Vec R Global) → Option (List R)
 items_of x = option_map (λ (v : Vec _ Global). v.items) x
@@ -61,6 +62,79 @@ module _ {K R : Type 0} (cmp : K → K → Ordering) where
       through None h = tt
       through (Some found) h = subst (λ (y : Option (List R)). IfSome y (λ f. rows_at cmp old q ≡ Some f)) h (p q)
 
+  module _ (k own : K) (change : List R → List R) (old : RowMap K R) (is : own ≡ k) where
+    abbrev Changed : K → Option (List R) → Type 0
+    Changed q x = IfSome x (λ found. (before : List R) × (rows_at cmp old q ≡ Some before) × (found ≡ (if is_eq (cmp k q) then change before else before)))
+
+    -- one that is not under the key stays
+    other : (q : K) → is_eq (cmp k q) ≡ false → (x : Option (List R)) → rows_at cmp old q ≡ x → Changed q x
+    other q e None h = tt
+    other q e (Some found) h = (found, h, ap (λ b. if b then change found else found) (sym e))
+
+    -- what is under the key is gone
+    pub changes_gone : (new : RowMap K R) → Becomes own None old new → ChangesAt cmp k change old new
+    changes_gone new becomes q = subst (Changed q) (sym (ap items_of (becomes q))) (chosen (is_eq (cmp own q)) refl)
+      where
+        chosen : (b : Bool) → is_eq (cmp own q) ≡ b → Changed q (items_of (cond b None (get cmp old q)))
+        chosen true e = tt
+        chosen false e = other q (subst (λ x. is_eq (cmp x q) ≡ false) is e) (rows_at cmp old q) refl
+
+    -- or it is changed
+    pub changes_put : ((a b : K) → is_eq (cmp a b) ≡ true → a ≡ b) → (mid new : RowMap K R) (v w : Vec R Global) → Some v ≡ get_by (cmp own) old → w.items ≡ change v.items → Becomes own None old mid → Becomes own (Some w) mid new → ChangesAt cmp k change old new
+    changes_put one mid new v w was value gone becomes q = subst (Changed q) (sym (ap items_of (becomes q))) (chosen (is_eq (cmp own q)) refl)
+      where
+        chosen : (b : Bool) → is_eq (cmp own q) ≡ b → Changed q (items_of (cond b (Some w) (get cmp mid q)))
+        chosen true e = (
+          v.items,
+          sym (ap items_of (subst (λ x. Some v ≡ get_by (cmp x) old) (one own q e) was)),
+          value ∙ ap (λ b. if b then change v.items else v.items) (sym (subst (λ x. is_eq (cmp x q) ≡ true) is e)),
+        )
+        chosen false e = subst (Changed q) (sym (ap items_of (gone q))) (left (is_eq (cmp own q)) e)
+          where
+            left : (b : Bool) → b ≡ false → Changed q (items_of (cond b None (get cmp old q)))
+            left true f = tt
+            left false f = other q (subst (λ x. is_eq (cmp x q) ≡ false) is e) (rows_at cmp old q) refl
+
+    -- it was taken out, and is put back changed, if there is memory for it
+    pub changes_done : {X E : Type 0} → ((a b : K) → is_eq (cmp a b) ≡ true → a ≡ b) → (mid new : RowMap K R) (v w : Vec R Global) (r : Result X E) → Some v ≡ get_by (cmp own) old → w.items ≡ change v.items → Becomes own None old mid
+        → OnOk r (Updates cmp mid new own (Some w)) → OnErr r (IsUnchanged mid new) → ChangesAt cmp k change old new
+    changes_done one mid new v w (Ok x) was value gone back same = changes_put one mid new v w was value gone back.0
+    changes_done one mid new v w (Err e) was value gone back same = changes_gone new (λ q. ap (λ es. lookup (is_at (cmp q)) es) same ∙ gone q)
+
+  -- Rows in turn
+
+  module _ (key : R → K) (change : R → List R → List R) where
+    each_then : (all left : List R) (r : R) (q : K) (before : List R) → each_changed cmp key change (r ∷ left) q before ≡ each_changed cmp key change left q (if is_eq (cmp (key r) q) then change r before else before)
+    each_then all left r q before = refl
+
+    -- with those that are left it will be what all of them make of what was before
+    abbrev pub Coming : List R → List R → RowMap K R → RowMap K R → Type 0
+    Coming all rest old mid = (q : K) → IfSome (rows_at cmp mid q) (λ now. (before : List R) × (rows_at cmp old q ≡ Some before) × (each_changed cmp key change rest q now ≡ each_changed cmp key change all q before))
+
+    pub coming_first : (all : List R) (old : RowMap K R) → Coming all all old old
+    coming_first all old q = first (rows_at cmp old q) refl
+      where
+        first : (x : Option (List R)) → rows_at cmp old q ≡ x → IfSome x (λ now. (before : List R) × (rows_at cmp old q ≡ Some before) × (each_changed cmp key change all q now ≡ each_changed cmp key change all q before))
+        first None h = tt
+        first (Some now) h = (now, h, refl)
+
+    pub coming_next : (all left rest : List R) (r : R) (old mid new : RowMap K R) → left ≡ r ∷ rest → ChangesAt cmp (key r) (change r) mid new → Coming all left old mid → Coming all rest old new
+    coming_next all left rest r old mid new is changes so_far q = next (rows_at cmp new q) (changes q)
+      where
+        next : (x : Option (List R)) → IfSome x (λ found. (before : List R) × (rows_at cmp mid q ≡ Some before) × (found ≡ (if is_eq (cmp (key r) q) then change r before else before)))
+            → IfSome x (λ now. (before : List R) × (rows_at cmp old q ≡ Some before) × (each_changed cmp key change rest q now ≡ each_changed cmp key change all q before))
+        next None h = tt
+        next (Some found) h =
+            let was = subst (λ (y : Option (List R)). IfSome y (λ now. (before : List R) × (rows_at cmp old q ≡ Some before) × (each_changed cmp key change left q now ≡ each_changed cmp key change all q before))) h.1 (so_far q) in
+            (was.0, was.1, ap (each_changed cmp key change rest q) h.2 ∙ sym (ap (λ l. each_changed cmp key change l q h.0) is) ∙ was.2)
+
+    pub all_came : (all : List R) (old new : RowMap K R) → Coming all [] old new → ChangesBy cmp key change all old new
+    all_came all old new so_far q = came (rows_at cmp new q) (so_far q)
+      where
+        came : (x : Option (List R)) → IfSome x (λ now. (before : List R) × (rows_at cmp old q ≡ Some before) × (now ≡ each_changed cmp key change all q before)) → IfSome x (λ found. (before : List R) × (rows_at cmp old q ≡ Some before) × (found ≡ each_changed cmp key change all q before))
+        came None h = tt
+        came (Some now) h = h
+
 -- Rows whose keys are forgotten in turn
 
 module _ {K R : Type 0} (cmp : K → K → Ordering) (key : R → K) where
@@ -96,3 +170,8 @@ module _ {K R : Type 0} (cmp : K → K → Ordering) (key : R → K) where
       gone : (x : Option (List R)) → IfSome x (λ now. (rows_at cmp old q ≡ Some now) × (false ≡ named q all)) → IfSome x (λ found. (rows_at cmp old q ≡ Some found) × (named q all ≡ false))
       gone None h = tt
       gone (Some now) h = (h.0, sym h.1)
+
+-- what a call answers that succeeded
+pub ok_value : {X E : Type 0} (P : Type 0) (r : Result X E) → is_ok r ≡ true → OnOk r P → P
+ok_value P (Ok x) is h = h
+ok_value P (Err e) is h = absurd (let no = is in cc)

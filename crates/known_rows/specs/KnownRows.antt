@@ -1,5 +1,5 @@
 -- Rows that are known by what they were sought by.
-use Rattle.std.specs.Prelude.{◌≡◌, ◌⊎◌, Bool, true, false, if◌then◌else◌, List, Option, Some, None, IfSome, Vec}
+use Rattle.std.specs.Prelude.{◌≡◌, ◌⊎◌, Bool, true, false, not, if◌then◌else◌, List, [], ◌∷◌, ◌++◌, filter, Option, Some, None, IfSome, Vec}
 use Rattle.std.specs.declared.alloc.Global.{Global}
 use Rattle.std.specs.List.{list_any}
 use Rattle.std.specs.Option.{option_map}
@@ -10,6 +10,13 @@ use Rattle.std.specs.BTreeMap.{BTreeMap, get}
 -- lists of rows by the keys of what they were sought by
 abbrev pub RowMap : Type 0 → Type 0 → Type 0
 RowMap K R = BTreeMap K (Vec R Global)
+
+-- the list without the row under the key of this one, and with the row in its place
+abbrev pub without_row : {R : Type 0} → (R → R → Bool) → R → List R → List R
+without_row same r rows = filter (λ x. not (same x r)) rows
+
+abbrev pub with_put : {R : Type 0} → (R → R → Bool) → R → List R → List R
+with_put same r rows = without_row same r rows ++ r ∷ []
 
 module _ {K R : Type 0} (cmp : K → K → Ordering) where
   -- the rows that are known under a key
@@ -34,6 +41,19 @@ module _ {K R : Type 0} (cmp : K → K → Ordering) where
   -- what is known after was known before, and not under the key of one of these rows
   abbrev pub ForgetsBy : (R → K) → List R → RowMap K R → RowMap K R → Type 0
   ForgetsBy key rows old new = (q : K) → IfSome (rows_at new q) (λ found. (rows_at old q ≡ Some found) × (list_any (λ r. is_eq (cmp (key r) q)) rows ≡ false))
+
+  -- what is known after was known before, with this change under this key
+  abbrev pub ChangesAt : K → (List R → List R) → RowMap K R → RowMap K R → Type 0
+  ChangesAt k change old new = (q : K) → IfSome (rows_at new q) (λ found. (before : List R) × (rows_at old q ≡ Some before) × (found ≡ (if is_eq (cmp k q) then change before else before)))
+
+  -- the list that is known under a key, with the changes of the rows whose key it is
+  abbrev pub each_changed : (R → K) → (R → List R → List R) → List R → K → List R → List R
+  each_changed key change [] q before = before
+  each_changed key change (r ∷ rs) q before = each_changed key change rs q (if is_eq (cmp (key r) q) then change r before else before)
+
+  -- what is known after was known before, with the changes of these rows
+  abbrev pub ChangesBy : (R → K) → (R → List R → List R) → List R → RowMap K R → RowMap K R → Type 0
+  ChangesBy key change rows old new = (q : K) → IfSome (rows_at new q) (λ found. (before : List R) × (rows_at old q ≡ Some before) × (found ≡ each_changed key change rows q before))
 
   -- what is known of the rows that are sought is so
   abbrev pub Remembers : {B : Type 0} → (B → K) → (B → List R → Type 0) → RowMap K R → Type 0

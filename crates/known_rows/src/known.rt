@@ -2,9 +2,12 @@
 
 ghost use Rattle.std.specs.Prelude.{◌≡◌};
 ghost use Rattle.std.specs.Option.{option_copied};
-ghost use Rattle.known_rows.specs.KnownRows.{rows_at, KnowsNone, IsPart, LearnsAt, ForgetsAt, ForgetsBy};
+ghost use Rattle.known_rows.specs.KnownRows.{rows_at, KnowsNone, IsPart, LearnsAt, ForgetsAt, ForgetsBy, ChangesAt, ChangesBy, with_put, without_row};
 
-use slice_parts::key_list::{Has, KeyOf};
+use crate::keyed::{ExactKey, KeyedRow};
+use crate::lists::{drop_from, put_in};
+use row_rules::having::Has;
+use slice_lists::key_list::KeyOf;
 use std::alloc::Global;
 use std::collections::BTreeMap;
 use std::marker::PhantomData;
@@ -78,5 +81,52 @@ impl<B: Copy, K: KeyOf<B>, R: Has<B>> KnownRows<B, K, R> {
         self.make_room();
         self.weight = self.weight.saturating_add(rows.len() as u64 + 1);
         let _ = self.rows.insert(K::of(by), rows);
+    }
+}
+
+impl<B: Copy, K: KeyOf<B> + ExactKey, R: Has<B> + KeyedRow> KnownRows<B, K, R> {
+    /// The row takes the place of the one that has its key, where the rows are known that it is one of. For want of memory they
+    /// are forgotten.
+    pub fn put(&mut self, row: &R)
+        ensures { ChangesAt K.cmp (K.key (R.of_row row.now)) (with_put R.same_row row.now) self.old.rows self.new.rows }
+    {
+        let key = K::of(&row.value());
+        let Some(mut rows) = self.rows.remove(&key) else {
+            return;
+        };
+        self.weight = self.weight.saturating_add(1);
+        if put_in::<R>(&mut rows, row).is_ok() {
+            let _ = self.rows.insert(key, rows);
+        }
+    }
+
+    /// The row that has the key of this one goes, where the rows are known that it is one of.
+    pub fn drop_row(&mut self, row: &R)
+        ensures { ChangesAt K.cmp (K.key (R.of_row row.now)) (without_row R.same_row row.now) self.old.rows self.new.rows }
+    {
+        let key = K::of(&row.value());
+        let Some(mut rows) = self.rows.remove(&key) else {
+            return;
+        };
+        drop_from::<R>(&mut rows, row);
+        let _ = self.rows.insert(key, rows);
+    }
+
+    /// Each of these rows takes its place, one after another.
+    pub fn put_all(&mut self, rows: &[R])
+        ensures { ChangesBy K.cmp (λ r. K.key (R.of_row r)) (with_put R.same_row) rows.now self.old.rows self.new.rows }
+    {
+        for row in rows {
+            self.put(row);
+        }
+    }
+
+    /// The rows that have the keys of these go, one after another.
+    pub fn drop_all(&mut self, rows: &[R])
+        ensures { ChangesBy K.cmp (λ r. K.key (R.of_row r)) (without_row R.same_row) rows.now self.old.rows self.new.rows }
+    {
+        for row in rows {
+            self.drop_row(row);
+        }
     }
 }

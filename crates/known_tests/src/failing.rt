@@ -3,12 +3,12 @@
 use crate::alike::texts;
 use crate::living::{Heard, Life, books, lived};
 use book_trials::{Failures, History, Left, Pair, Work, over_failing, text_told};
+use books_schema::ready_connection::{Leftover, Orderly};
 use house::House;
 use sqlite::{Alter, Connection, Options};
 use std::alloc::Global;
 use std::process::Abort;
 use store::{Books, OpenFault};
-use tables::opening::{Leftover, Orderly};
 use trial_disk::Failure;
 
 /// How many frames the log has before it is copied into the database, so that this comes within the requests too.
@@ -22,14 +22,17 @@ POST /picks {"key":"K-12","order":"S-1","gtin":"09506000134352","lot":"L2","bin"
 POST /unpicks {"key":"K-13","order":"S-1","gtin":"09506000134352","lot":"L0","bin":"A-02","qty":2}
 POST /holds {"key":"K-14","gtin":"09506000134352","lot":"L1"}
 POST /releases {"key":"K-15","gtin":"09506000134352","lot":"L1"}
+GET /orders/S-1
 POST /moves {"key":"K-16","gtin":"09506000134352","lot":"L1","from":"A-01","to":"A-02","qty":4}
 POST /counts {"key":"K-17","gtin":"09506000134352","lot":"L1","bin":"A-02","qty":3}
 POST /adjustments {"key":"K-18","gtin":"09506000134352","lot":"L1","bin":"A-01","change":2}
 POST /goodsin delivery,line,gtin,lot,expiry,bin,qty|D-9,1,09506000134352,M1,261130,A-01,5|D-9,2,04012345000016,N1,261200,A-02,4|
 POST /urgents {"key":"K-21","order":"S-3","customer":"Mill Inn","lines":[{"gtin":"04012345000016","qty":5},{"gtin":"09506000134352","qty":3}]}
 POST /shipments {"key":"K-22","order":"S-1"}
+GET /shortages/09506000134352
 POST /cancels {"key":"K-23","order":"S-2"}
 POST /orders {"key":"K-24","order":"S-4","customer":"Corner Shop","lines":[{"gtin":"09506000134352","qty":20}]}
+GET /picklists/S-4
 POST /leasts {"key":"K-25","gtin":"09506000134352","days":5}
 POST /recalls {"key":"K-26","gtin":"09506000134352","lot":"L2"}
 POST /items {"key":"K-27","gtin":"00000000000017","name":"Pea soup"}

@@ -1,11 +1,11 @@
 //! Houses over files in memory, and what they answer.
 
 use book_trials::{History, Pair, QUERIES, Work, after_work, made, opened_books, shown};
+use books_schema::ready_connection::{Leftover, Orderly};
 use house::House;
 use sqlite::{Alter, Connection, Options};
 use std::alloc::Global;
 use std::process::Abort;
-use tables::opening::{Leftover, Orderly};
 
 /// What a house is asked.
 #[derive(Clone, Copy)]

@@ -40,12 +40,14 @@ fn spread_of(
     }
 }
 
-/// Books, and a request that is refused, so that it changes nothing.
+/// Books, and a request that changes nothing: one that is refused, or a query.
 #[derive(Clone, Copy)]
 struct Case {
     /// What is done before it.
     before: &'static [Asked],
     asked: Asked,
+    /// What its answer begins with.
+    answered: &'static str,
     /// How many pages it reads the first time and not the second, at least: two for each row that is found by a key, which
     /// are those of the index and of the table, where each row stands apart.
     saved: u64,
@@ -68,6 +70,17 @@ const ORDERED: Asked = Asked::Listed(
     r#"POST /orders {"key":"O-1","order":"O-1","customer":"Corner Shop","lines":[@]}"#,
 );
 
+const ORDERS_OF_ONE: &[Asked] = &[
+    ONE_LOT,
+    Asked::Each(
+        r#"POST /orders {"key":"O-~","order":"O-~","customer":"Corner Shop","lines":[{"gtin":"09506000134352","qty":1}]}"#,
+    ),
+];
+
+const REFUSED: &str = "HTTP/1.1 409";
+
+const SHOWN: &str = "HTTP/1.1 200";
+
 // What is known of the open orders is read by it, and nothing else that the cases read.
 static FIRST: &str = r#"POST /cancels {"key":"W-1","order":"W-1"}"#;
 
@@ -80,6 +93,7 @@ static LOTS: Case = Case {
         ),
     ],
     asked: MOVED,
+    answered: REFUSED,
     saved: 40,
 };
 
@@ -93,18 +107,15 @@ static BINS: Case = Case {
         ),
     ],
     asked: MOVED,
+    answered: REFUSED,
     saved: 40,
 };
 
 // Open orders of an item, and the line of each.
 static ORDERS: Case = Case {
-    before: &[
-        ONE_LOT,
-        Asked::Each(
-            r#"POST /orders {"key":"O-~","order":"O-~","customer":"Corner Shop","lines":[{"gtin":"09506000134352","qty":1}]}"#,
-        ),
-    ],
+    before: ORDERS_OF_ONE,
     asked: MOVED,
+    answered: REFUSED,
     saved: 80,
 };
 
@@ -121,6 +132,7 @@ static RECALLED: Case = Case {
     asked: Asked::Listed(
         r#"POST /orders {"key":"W-2","order":"O-1","customer":"Corner Shop","lines":[@]}"#,
     ),
+    answered: REFUSED,
     saved: 160,
 };
 
@@ -128,7 +140,38 @@ static RECALLED: Case = Case {
 static LINES: Case = Case {
     before: &[ITEMS, ORDERED],
     asked: Asked::One(r#"POST /shipments {"key":"W-2","order":"O-1"}"#),
+    answered: REFUSED,
     saved: 5,
+};
+
+// An order shown: what the items of its lines ask for, and the lots that are reserved for it.
+static ORDER_SHOWN: Case = Case {
+    before: &[
+        ITEMS,
+        Asked::Each(
+            r##"POST /receipts {"delivery":"D-1","line":1~,"label":"01#1726063010R","bin":"A-01","qty":1}"##,
+        ),
+        ORDERED,
+    ],
+    asked: Asked::One("GET /orders/O-1"),
+    answered: SHOWN,
+    saved: 40,
+};
+
+// Shortages shown: the open orders of an item, and the line of each.
+static SHORTAGES_SHOWN: Case = Case {
+    before: ORDERS_OF_ONE,
+    asked: Asked::One("GET /shortages/09506000134352"),
+    answered: SHOWN,
+    saved: 40,
+};
+
+// An item's stock shown: its row, what it asks for, and that it has no recall.
+static STOCK_SHOWN: Case = Case {
+    before: &[ONE_LOT],
+    asked: Asked::One("GET /stock/09506000134352"),
+    answered: SHOWN,
+    saved: 2,
 };
 
 fn lines_of(rt: &impl Abort, alloc: Global, asked: Asked) -> String {
@@ -151,7 +194,14 @@ fn before(rt: &impl Abort, alloc: Global, case: &Case) -> Pair {
 }
 
 // How often the files are read where the request comes so often. No page stays in memory.
-fn reads(rt: &impl Abort, alloc: Global, files: &Pair, asked: &str, times: usize) -> u64 {
+fn reads(
+    rt: &impl Abort,
+    alloc: Global,
+    files: &Pair,
+    asked: &str,
+    answered: &str,
+    times: usize,
+) -> u64 {
     let mut lines = String::from_str(alloc, FIRST).ok().expect(rt, "memory");
     for _ in 0..times {
         assert!(rt; lines.push_str("\n").is_ok() && lines.push_str(asked).is_ok());
@@ -162,8 +212,8 @@ fn reads(rt: &impl Abort, alloc: Global, files: &Pair, asked: &str, times: usize
         ..Life::keeping("", texts.as_slice())
     };
     let (left, heard) = lived(rt, alloc, files, life);
-    for answer in heard.iter().take(texts.len()) {
-        assert!(rt; answer.as_slice().starts_with(b"HTTP/1.1 409"));
+    for answer in heard.iter().take(texts.len()).skip(1) {
+        assert!(rt; answer.as_slice().starts_with(answered.as_bytes()));
     }
     left.reads()
 }
@@ -171,9 +221,9 @@ fn reads(rt: &impl Abort, alloc: Global, files: &Pair, asked: &str, times: usize
 fn reads_less(rt: &impl Abort, alloc: Global, case: &Case) {
     let files = before(rt, alloc, case);
     let asked = lines_of(rt, alloc, case.asked);
-    let none = reads(rt, alloc, &files, asked.as_str(), 0);
-    let once = reads(rt, alloc, &files, asked.as_str(), 1);
-    let twice = reads(rt, alloc, &files, asked.as_str(), 2);
+    let none = reads(rt, alloc, &files, asked.as_str(), case.answered, 0);
+    let once = reads(rt, alloc, &files, asked.as_str(), case.answered, 1);
+    let twice = reads(rt, alloc, &files, asked.as_str(), case.answered, 2);
     drop(files);
     let (first, second) = (once.saturating_sub(none), twice.saturating_sub(once));
     assert!(rt;
@@ -205,4 +255,19 @@ fn items_and_recalls_are_read_once(rt: HostRuntime) {
 #[test]
 fn lines_are_read_once(rt: HostRuntime) {
     reads_less(&rt, rt.alloc(), &LINES);
+}
+
+#[test]
+fn an_order_is_shown_by_what_is_known(rt: HostRuntime) {
+    reads_less(&rt, rt.alloc(), &ORDER_SHOWN);
+}
+
+#[test]
+fn shortages_are_shown_by_what_is_known(rt: HostRuntime) {
+    reads_less(&rt, rt.alloc(), &SHORTAGES_SHOWN);
+}
+
+#[test]
+fn stock_is_shown_by_what_is_known(rt: HostRuntime) {
+    reads_less(&rt, rt.alloc(), &STOCK_SHOWN);
 }

@@ -6,8 +6,8 @@ use Rattle.sqlite.specs.State.{HasCleanDisk, Opens, IsLive}
 use Rattle.machine.specs.Acts.{Act}
 use Rattle.machine.specs.Once.{IsHistory}
 use Rattle.table_words.specs.Schema.{schema_0}
-use Rattle.tables.specs.declared.opening.Leftover.{Leftover}
-use Rattle.tables.specs.declared.opening.Leftover.TheVariants.{Connection}
+use Rattle.books_schema.specs.declared.ready_connection.Leftover.{Leftover}
+use Rattle.books_schema.specs.declared.ready_connection.Leftover.TheVariants.{Connection}
 use Rattle.store.specs.Opening.{Found, HasSchema, IsOfNone, Tells, AreRowsAt, IsForeignWithin, IsCleanLeft, IsLeftOver, IsLeftUnfilled}
 use Rattle.store.specs.declared.fault.Fault.{Fault as BooksFault}
 use Rattle.store.specs.declared.fault.Fault.TheVariants as books

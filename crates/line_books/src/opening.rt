@@ -8,12 +8,12 @@ ghost use Rattle.store.specs.Books.{KeepsBooks, HoldsBooks, IsClean, LeavesOnly}
 ghost use Rattle.store.specs.Opening.{IsOfNone, AreFoundRows};
 ghost use Rattle.line_books.specs.Failing.{fault_of_books as fault_of_books_lem, IsOfBooks, IsUnmade, IsUnopened};
 
+use books_schema::ready_connection::{Leftover, Orderly};
 use command_line::Fault;
 use label::BusinessDay;
 use sqlite::{Alter, Connection};
 use std::alloc::Global;
 use store::{Books, OpenFault};
-use tables::opening::{Leftover, Orderly};
 
 /// A connection after the work over it, and how that work ended.
 pub type AfterWork<S> = (Connection<S>, Result<(), Fault>);

@@ -4,10 +4,10 @@ use crate::lines::{Turn, lines_run};
 use crate::long_lines::{long_books, long_lines_run};
 use crate::serving::{TestClock, clients_served, clients_unlogged, lines_worked};
 use book_trials::{History, Pair, Work, after_work, made};
+use books_schema::ready_connection::{Leftover, Orderly};
 use sqlite::{Connection, Options};
 use std::net::TcpListener;
 use std::process::Abort;
-use tables::opening::{Leftover, Orderly};
 
 /// What is done over one connection.
 #[derive(Clone, Copy)]

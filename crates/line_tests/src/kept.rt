@@ -4,6 +4,7 @@ use crate::serving::{BIN_MADE, GoodsFiles, NEW_BIN, SECOND_BIN, SECOND_MADE, sen
 use book_trials::{
     Calls, History, Left, Pair, Stopping, Stored, Work, free_port, made, new_books, no_acts, over,
 };
+use books_schema::ready_connection::{Leftover, Orderly};
 use command_line::Work as LineWork;
 use line_work::{do_work, listen};
 use sqlite::{Connection, Options};
@@ -11,7 +12,6 @@ use std::alloc::Global;
 use std::io::Read;
 use std::net::{TcpListener, TcpStream};
 use std::process::Abort;
-use tables::opening::{Leftover, Orderly};
 
 /// A line that keeps the acts.
 #[derive(Clone, Copy)]

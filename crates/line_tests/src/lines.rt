@@ -3,9 +3,9 @@
 
 use crate::serving::GoodsFiles;
 use book_trials::{History, Line, Receiver, line_run};
+use books_schema::ready_connection::Orderly;
 use sqlite::{Alter, Connection};
 use std::process::Abort;
-use tables::opening::Orderly;
 
 /// What is done over the connection.
 #[derive(Clone, Copy)]

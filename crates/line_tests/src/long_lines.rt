@@ -6,11 +6,11 @@ use book_trials::{
     Line, Receiver, Spread, acts_on_each, answers_line, answers_spread, line_of, line_run,
     new_books, of_act,
 };
+use books_schema::ready_connection::Orderly;
 use house::House;
 use sqlite::{Alter, Connection};
 use std::alloc::Global;
 use std::process::Abort;
-use tables::opening::Orderly;
 
 const ITEMS: u64 = 200;
 

@@ -2,6 +2,7 @@
 
 use crate::disk::{run_clients, run_lines, run_unlogged};
 use book_trials::{Receiver, first_day, free_port, new_books, no_acts};
+use books_schema::ready_connection::Orderly;
 use command_line::{Fault, FilesAt, Work, tell};
 use house::House;
 use line_books::{AfterWork, NotBegun};
@@ -14,7 +15,6 @@ use std::io::{self, Read, Write};
 use std::net::{Shutdown, TcpListener, TcpStream};
 use std::process::Abort;
 use std::time::{Clock, Duration, Instant};
-use tables::opening::Orderly;
 
 /// A clock of a test.
 #[derive(Clone, Copy)]

@@ -1,7 +1,7 @@
 -- What is left where no work was begun.
 use Rattle.sqlite_trees.specs.declared.store.Store.{Ghosts}
 use Rattle.sqlite.specs.Held.{Held}
-use Rattle.tables.specs.declared.opening.Leftover.{Leftover}
+use Rattle.books_schema.specs.declared.ready_connection.Leftover.{Leftover}
 use Rattle.command_line.specs.declared.fault.Fault.{Fault}
 use Rattle.command_line.specs.declared.running.Work.{Work}
 use Rattle.command_line.specs.declared.running.Work.TheVariants.{Make, Serve, Import, Card, Notice, History, Audit, Apply}

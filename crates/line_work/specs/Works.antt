@@ -6,7 +6,7 @@ use Rattle.sqlite.specs.Held.{Held, state}
 use Rattle.machine.specs.Acts.{Act}
 use Rattle.machine.specs.Once.{IsHistory}
 use Rattle.table_words.specs.Schema.{schema_0}
-use Rattle.tables.specs.declared.opening.Leftover.{Leftover}
+use Rattle.books_schema.specs.declared.ready_connection.Leftover.{Leftover}
 use Rattle.store.specs.Books.{KeepsBooks}
 use Rattle.store.specs.Opening.{IsOfNone, AreFoundRows}
 use Rattle.histories.specs.Printed.{IsHistoryPrinted}

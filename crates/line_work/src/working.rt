@@ -5,6 +5,7 @@ ghost use Rattle.line_work.specs.Works.{Listens, is_logged, IsServer, IsNotBegun
 
 use apply_line::open_and_apply;
 use audit_line::audit_books;
+use books_schema::ready_connection::{Leftover, Orderly};
 use command_line::{Fault, FilesAt, Work};
 use kept_lines::{import_line, serve_line};
 use line_books::{AfterWork, NotBegun, make_books};
@@ -13,7 +14,6 @@ use sqlite::Connection;
 use sqlite_disk::Disk;
 use std::io::{self, Write};
 use std::net::TcpListener;
-use tables::opening::{Leftover, Orderly};
 
 /// Listens on the port of a server, before its books are opened: a port that is taken is told at once, and who connects
 /// while they are opened waits until they are. Other work listens on none.

@@ -1,32 +1,28 @@
 //! Lots that are out: they expire before the earliest expiry that ships. What is staged of them goes
 //! to RETURNS.
 
-ghost use Rattle.std.specs.Prelude.{◌≡◌, ◌&&◌, not, map, filter, flat_map, Some, IfOk};
-ghost use Rattle.values.specs.Values.{same_text};
+ghost use Rattle.std.specs.Prelude.{◌≡◌, not, filter, flat_map, Some, IfOk};
 ghost use Rattle.commands.specs.Lists.{total};
 ghost use Rattle.commands.specs.Replies.{reply_text};
 ghost use Rattle.commands.specs.declared.replies.ReplyField.TheVariants.{Returned};
-ghost use Rattle.machine.specs.Postings.{is_lot};
 ghost use Rattle.row_rules.specs.Seen.{capped, number_seen as number_seen_lem, none_put, none_dropped};
 ghost use Rattle.row_rules.specs.LookUps.{rows_given};
 ghost use Rattle.lot_rules.specs.GivenOut.{is_out_given, row_returned as row_returned_lem};
 ghost use Rattle.lot_rules.specs.Expiring.{is_out as is_out_lem, staged_kept_on as staged_kept_on_lem, staged_gone_on as staged_gone_on_lem, stock_returned as stock_returned_lem, stands_in as stands_in_lem, stock_on as stock_on_lem, gtins_seen as gtins_seen_lem, reserved_put_on, reserved_gone_on, changes_on};
 
 use crate::returning::{bins_with_returns, row_returned};
-use commands::{
-    ItemRow, LeastRow, Listed, LotRow, MetaRow, ReplyField, Short, StagedRow, StockRow, reply,
-};
+use commands::{LeastRow, Listed, LotRow, MetaRow, ReplyField, Short, StagedRow, StockRow, reply};
 use label::BusinessDay;
-use row_rules::changing::{none_dropped, none_put, number_seen};
-use row_rules::look_ups::{RowsByText, by_text, staged_by_lot};
-use row_rules::looking::{find_lot, is_same_lot};
+use row_rules::change_parts::{none_dropped, none_put, number_seen};
+use row_rules::list_parts::push_if;
 use row_rules::plans::{ItemRows, item_rows};
-use row_rules::pushing::push_if;
 use row_rules::replanning::{Replanned, replan_items};
+use row_rules::row_index::{RowsByText, by_text};
+use row_rules::row_search::{find_row, has_row, values_of};
 use row_rules::status::{earliest, is_past};
-use row_rules::{Change, Slice};
+use row_rules::{Change, Dropped, Put, Slice};
 use std::alloc::{AllocError, Global};
-use values::{Gtin, LotId};
+use values::{Gtin, Lot, LotId};
 
 // Lots that are out on a day, with the days that these rows ask for
 
@@ -38,8 +34,8 @@ fn is_out(
 ) -> bool
     ensures { result ≡ is_out_given (rows_given lots.now) day (rows_given asked.now) lot.now }
 {
-    let from = earliest(day, asked.rows_of_gtin(&lot.gtin), &lot.gtin);
-    is_past(find_lot(lots.rows_of_lot(&lot.lot), lot), from)
+    let from = earliest(day, asked.candidates(&lot.gtin), &lot.gtin);
+    is_past(find_row(lots.candidates(&lot.lot), lot), from)
 }
 
 // Staged rows
@@ -53,8 +49,8 @@ fn staged_kept_on(
     ensures { IfOk result (λ v. v.items ≡ staged_kept_on_lem slice.now day least.now) }
 {
     let rows = slice.rows.staged.as_slice();
-    let lots = by_text(alloc, slice.rows.lots.as_slice(), rows.len())?;
-    let asked = by_text(alloc, least, rows.len())?;
+    let lots = by_text::<Lot, LotRow>(alloc, slice.rows.lots.as_slice(), rows.len())?;
+    let asked = by_text::<Gtin, LeastRow>(alloc, least, rows.len())?;
     rows_kept_on(alloc, &lots, rows, day, &asked)
 }
 
@@ -84,8 +80,8 @@ fn staged_gone_on(
     ensures { IfOk result (λ v. v.items ≡ staged_gone_on_lem slice.now day least.now) }
 {
     let rows = slice.rows.staged.as_slice();
-    let lots = by_text(alloc, slice.rows.lots.as_slice(), rows.len())?;
-    let asked = by_text(alloc, least, rows.len())?;
+    let lots = by_text::<Lot, LotRow>(alloc, slice.rows.lots.as_slice(), rows.len())?;
+    let asked = by_text::<Gtin, LeastRow>(alloc, least, rows.len())?;
     rows_gone_on(alloc, &lots, rows, day, &asked)
 }
 
@@ -118,8 +114,8 @@ fn lots_out(
     ensures { IfOk result (λ v. v.items ≡ filter (λ k. is_out_lem slice.now day least.now k.lot) slice.now.rows.lots) }
 {
     let rows = slice.rows.lots.as_slice();
-    let lots = by_text(alloc, rows, rows.len())?;
-    let asked = by_text(alloc, least, rows.len())?;
+    let lots = by_text::<Lot, LotRow>(alloc, rows, rows.len())?;
+    let asked = by_text::<Gtin, LeastRow>(alloc, least, rows.len())?;
     lots_out_of(alloc, &lots, rows, day, &asked)
 }
 
@@ -150,8 +146,8 @@ fn stock_returned(
     ensures { IfOk result (λ v. v.items ≡ stock_returned_lem slice.now day least.now) }
 {
     let out = lots_out(alloc, slice, day, least)?;
-    let stock = by_text(alloc, slice.rows.stock.as_slice(), out.len())?;
-    let staged = staged_by_lot(alloc, slice.rows.staged.as_slice(), out.len())?;
+    let stock = by_text::<Lot, StockRow>(alloc, slice.rows.stock.as_slice(), out.len())?;
+    let staged = by_text::<Lot, StagedRow>(alloc, slice.rows.staged.as_slice(), out.len())?;
     rows_returned(alloc, &stock, &staged, out.as_slice())
 }
 
@@ -168,32 +164,13 @@ fn rows_returned(
         let lot = &row.lot.lot;
         let own = row_returned(
             alloc,
-            stock.rows_of_lot(lot),
-            staged.rows_of_lot(lot),
+            stock.candidates(lot),
+            staged.candidates(lot),
             &row.lot,
         )?;
         put.extend_from_slice(own.as_slice())?;
     }
     Ok(put)
-}
-
-fn stands_in(rows: &[StockRow], row: &StockRow) -> bool
-    ensures { result ≡ stands_in_lem rows.now row.now }
-{
-    for other in rows {
-        if is_same_cell(row, other) {
-            return true;
-        }
-    }
-    false
-}
-
-fn is_same_cell(a: &StockRow, b: &StockRow) -> bool
-    ensures { result ≡ is_lot a.now.lot b.now.lot && same_text a.now.bin b.now.bin }
-{
-    let same_lot = is_same_lot(&a.lot, &b.lot);
-    let same_bin = a.bin == b.bin;
-    same_lot && same_bin
 }
 
 // The rows under whose keys none of the others stands.
@@ -204,7 +181,7 @@ fn rows_besides(
 ) -> Result<Vec<StockRow>, AllocError>
     ensures { IfOk result (λ v. v.items ≡ filter (λ r. not (stands_in_lem others.now r)) rows.now) }
 {
-    let of_lots = by_text(alloc, others, rows.len())?;
+    let of_lots = by_text::<Lot, StockRow>(alloc, others, rows.len())?;
     rows_apart(alloc, rows, &of_lots)
 }
 
@@ -217,7 +194,7 @@ fn rows_apart(
 {
     let mut kept = Vec::new(alloc);
     for row in rows {
-        let there = stands_in(others.rows_of_lot(&row.lot.lot), row);
+        let there = has_row(others.candidates(&row.lot.lot), &(row.lot, row.bin));
         push_if(&mut kept, !there, *row)?;
     }
     Ok(kept)
@@ -243,17 +220,7 @@ fn stock_on(
 fn gtins_seen(alloc: Global, slice: &Slice) -> Result<Vec<Gtin>, AllocError>
     ensures { IfOk result (λ v. v.items ≡ gtins_seen_lem slice.now) }
 {
-    gtins_of(alloc, slice.rows.items.as_slice())
-}
-
-fn gtins_of(alloc: Global, rows: &[ItemRow]) -> Result<Vec<Gtin>, AllocError>
-    ensures { IfOk result (λ v. v.items ≡ map (λ i. i.gtin) rows.now) }
-{
-    let mut gtins = Vec::new(alloc);
-    for row in rows {
-        gtins.push(row.gtin)?;
-    }
-    Ok(gtins)
+    values_of(alloc, slice.rows.items.as_slice())
 }
 
 // What the plans of the items reserve then.
@@ -334,17 +301,19 @@ fn changed(alloc: Global, meta: MetaRow, units: u64, rows: Out, asked: Listed<Le
         staged,
         reserved,
     } = rows;
-    let mut put = none_put(alloc);
-    put.stock = Listed::from_vec(stock);
-    put.reserved = reserved.put;
-    put.least = asked;
-    let mut dropped = none_dropped(alloc);
-    dropped.staged = Listed::from_vec(staged);
-    dropped.reserved = reserved.dropped;
     Change {
         meta,
-        put,
-        dropped,
+        put: Put {
+            stock: Listed::from_vec(stock),
+            reserved: reserved.put,
+            least: asked,
+            ..none_put(alloc)
+        },
+        dropped: Dropped {
+            staged: Listed::from_vec(staged),
+            reserved: reserved.dropped,
+            ..none_dropped(alloc)
+        },
         text: returned_reply(&meta, units),
     }
 }

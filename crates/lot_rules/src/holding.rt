@@ -7,14 +7,14 @@ ghost use Rattle.lot_rules.specs.DecidedHold.{release_seen, release_changes, rel
 
 use crate::returning::{returning_change, returning_replanned};
 use commands::{Listed, LotRow, RecallRow, Refusal};
-use row_rules::changing::{meta_next, none_dropped, none_put, number_seen, one, plain_reply};
-use row_rules::judging::first_of;
-use row_rules::looking::is_same_lot;
+use row_rules::change_parts::{meta_next, none_dropped, none_put, number_seen, one, plain_reply};
+use row_rules::first_refusal::first_of;
+use row_rules::goods_seen::{lot_seen, sees_hold, sees_item, sees_recall};
 use row_rules::plans::{ItemRows, item_rows};
 use row_rules::replanning::{Replanned, replan_item};
-use row_rules::seeing::{lot_seen, sees_hold, sees_item, sees_recall};
+use row_rules::same::Same;
 use row_rules::stock::sees_lot;
-use row_rules::{Change, Slice};
+use row_rules::{Change, Dropped, Put, Slice};
 use std::alloc::{AllocError, Global};
 use values::LotId;
 
@@ -28,7 +28,7 @@ fn with_hold(lot: &LotId, held: bool, row: LotRow) -> LotRow
         lot: row.lot,
         expiry: row.expiry,
         came: row.came,
-        held: if is_same_lot(lot, &row.lot) {
+        held: if lot.is_same(&row.lot) {
             held
         } else {
             row.held
@@ -114,15 +114,17 @@ pub fn change_release(alloc: Global, slice: &Slice, lot: &LotId) -> Result<Chang
 fn released(alloc: Global, slice: &Slice, put: Vec<LotRow>, reserved: Replanned) -> Change
     ensures { result ≡ record { meta = meta_after slice.now; put = record none_put { lots = put.items; reserved = reserved.put }; dropped = record none_dropped { reserved = reserved.dropped }; text = plain_reply_lem slice.now } }
 {
-    let mut rows = none_put(alloc);
-    rows.lots = Listed::from_vec(put);
-    rows.reserved = reserved.put;
-    let mut dropped = none_dropped(alloc);
-    dropped.reserved = reserved.dropped;
     Change {
         meta: meta_next(slice),
-        put: rows,
-        dropped,
+        put: Put {
+            lots: Listed::from_vec(put),
+            reserved: reserved.put,
+            ..none_put(alloc)
+        },
+        dropped: Dropped {
+            reserved: reserved.dropped,
+            ..none_dropped(alloc)
+        },
         text: plain_reply(slice),
     }
 }

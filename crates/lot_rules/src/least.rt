@@ -9,13 +9,13 @@ ghost use Rattle.lot_rules.specs.KeptPlan.{changes_lot as changes_lot_lem, keeps
 use crate::expiring::change_on;
 use crate::returning::returns;
 use commands::{LeastRow, Listed, LotRow, NewLeast, Refusal, ReplyField, reply};
-use row_rules::changing::{meta_next, none_dropped, none_put, number_seen, one};
-use row_rules::judging::first_of;
-use row_rules::pushing::in_front;
-use row_rules::seeing::sees_item;
+use row_rules::change_parts::{meta_next, none_dropped, none_put, number_seen, one};
+use row_rules::first_refusal::first_of;
+use row_rules::goods_seen::sees_item;
+use row_rules::list_parts::in_front;
 use row_rules::status::{earliest, may_ship};
 use row_rules::supplies::is_store_bin;
-use row_rules::{Change, Slice};
+use row_rules::{Change, Put, Slice};
 use std::alloc::{AllocError, Global};
 
 /// The refusal of the days that an item asks for, if they are refused.
@@ -85,11 +85,12 @@ fn keeps_plan(slice: &Slice, least: &[LeastRow]) -> bool
 fn change_asked(alloc: Global, slice: &Slice, asked: Listed<LeastRow>) -> Change
     ensures { result ≡ asked_alone slice.now asked }
 {
-    let mut put = none_put(alloc);
-    put.least = asked;
     Change {
         meta: meta_next(slice),
-        put,
+        put: Put {
+            least: asked,
+            ..none_put(alloc)
+        },
         dropped: none_dropped(alloc),
         text: reply(number_seen(slice), Some(ReplyField::Returned(0))),
     }

@@ -7,7 +7,7 @@ ghost use Rattle.lot_rules.specs.DecidedDay.{day_judged, day_changes};
 use crate::expiring::change_on;
 use commands::{Listed, Refusal};
 use label::BusinessDay;
-use row_rules::judging::first_of;
+use row_rules::first_refusal::first_of;
 use row_rules::{Change, Slice};
 use std::alloc::{AllocError, Global};
 

@@ -1,7 +1,6 @@
 //! Staged units of a lot that go to the bin RETURNS, as the lot stops being shippable.
 
-ghost use Rattle.std.specs.Prelude.{◌≡◌, not, filter, IfOk};
-ghost use Rattle.machine.specs.Postings.{is_lot};
+ghost use Rattle.std.specs.Prelude.{◌≡◌, IfOk};
 ghost use Rattle.machine.specs.Standing.{RETURNS};
 ghost use Rattle.row_rules.specs.Seen.{meta_after, none_put, none_dropped};
 ghost use Rattle.lot_rules.specs.DecidedHold.{staged_of_seen, staged_kept as staged_kept_lem, staged_returned as staged_returned_lem, units_in_returns as units_in_returns_lem, returned_put as returned_put_lem, stock_with_returned as stock_with_returned_lem, bins_with_returns as bins_with_returns_lem, returns_bin_row as returns_bin_row_lem, returning_replanned as returning_replanned_lem, returned_reply as returned_reply_lem, returning_change as returning_change_lem};
@@ -10,14 +9,12 @@ ghost use Rattle.lot_rules.specs.GivenOut.{row_returned as row_returned_lem};
 use commands::{
     BinKind, BinRow, Listed, LotRow, RecallRow, ReplyField, Short, StagedRow, StockRow, reply,
 };
-use row_rules::changing::{meta_next, none_dropped, none_put, number_seen};
-use row_rules::looking::is_same_lot;
+use row_rules::change_parts::{meta_next, none_dropped, none_put, number_seen};
 use row_rules::plans::{ItemRows, item_rows};
-use row_rules::pushing::push_if;
 use row_rules::replanning::{Replanned, replan_item};
+use row_rules::row_search::{rows_with, rows_without, units_with};
 use row_rules::stock::{stock_put, stock_rows_with, units_among, units_in_bin};
-use row_rules::summing::sum_of_lot_staged;
-use row_rules::{Change, Slice};
+use row_rules::{Change, Dropped, Put, Slice};
 use std::alloc::{AllocError, Global};
 use values::{LotId, Name};
 
@@ -52,49 +49,19 @@ pub fn bins_with_returns(alloc: Global, slice: &Slice) -> Result<Vec<BinRow>, Al
 fn staged_of(slice: &Slice, lot: &LotId) -> u64
     ensures { result ≡ staged_of_seen slice.now lot.now }
 {
-    sum_of_lot_staged(slice.rows.staged.as_slice(), lot)
+    units_with(slice.rows.staged.as_slice(), lot)
 }
 
 fn staged_kept(alloc: Global, slice: &Slice, lot: &LotId) -> Result<Vec<StagedRow>, AllocError>
     ensures { IfOk result (λ v. v.items ≡ staged_kept_lem slice.now lot.now) }
 {
-    staged_of_others(alloc, slice.rows.staged.as_slice(), lot)
-}
-
-fn staged_of_others(
-    alloc: Global,
-    rows: &[StagedRow],
-    lot: &LotId,
-) -> Result<Vec<StagedRow>, AllocError>
-    ensures { IfOk result (λ v. v.items ≡ filter (λ r. not (is_lot lot.now r.lot)) rows.now) }
-{
-    let mut others = Vec::new(alloc);
-    for row in rows {
-        let own = is_same_lot(lot, &row.lot);
-        push_if(&mut others, !own, *row)?;
-    }
-    Ok(others)
+    rows_without(alloc, slice.rows.staged.as_slice(), lot)
 }
 
 fn staged_returned(alloc: Global, slice: &Slice, lot: &LotId) -> Result<Vec<StagedRow>, AllocError>
     ensures { IfOk result (λ v. v.items ≡ staged_returned_lem slice.now lot.now) }
 {
-    staged_of_lot(alloc, slice.rows.staged.as_slice(), lot)
-}
-
-fn staged_of_lot(
-    alloc: Global,
-    rows: &[StagedRow],
-    lot: &LotId,
-) -> Result<Vec<StagedRow>, AllocError>
-    ensures { IfOk result (λ v. v.items ≡ filter (λ r. is_lot lot.now r.lot) rows.now) }
-{
-    let mut own = Vec::new(alloc);
-    for row in rows {
-        let same = is_same_lot(lot, &row.lot);
-        push_if(&mut own, same, *row)?;
-    }
-    Ok(own)
+    rows_with(alloc, slice.rows.staged.as_slice(), lot)
 }
 
 // Stock rows
@@ -123,7 +90,7 @@ pub fn row_returned(
 ) -> Result<Vec<StockRow>, AllocError>
     ensures { IfOk result (λ v. v.items ≡ row_returned_lem stock.now staged.now lot.now) }
 {
-    let more = sum_of_lot_staged(staged, lot);
+    let more = units_with(staged, lot);
     if more == 0 {
         return Ok(Vec::new(alloc));
     }
@@ -220,18 +187,20 @@ fn change_returning(
         staged,
         reserved,
     } = rows;
-    let mut put = none_put(alloc);
-    put.lots = lots;
-    put.recalls = recalls;
-    put.stock = Listed::from_vec(stock);
-    put.reserved = reserved.put;
-    let mut dropped = none_dropped(alloc);
-    dropped.staged = Listed::from_vec(staged);
-    dropped.reserved = reserved.dropped;
     Change {
         meta: meta_next(slice),
-        put,
-        dropped,
+        put: Put {
+            lots,
+            recalls,
+            stock: Listed::from_vec(stock),
+            reserved: reserved.put,
+            ..none_put(alloc)
+        },
+        dropped: Dropped {
+            staged: Listed::from_vec(staged),
+            reserved: reserved.dropped,
+            ..none_dropped(alloc)
+        },
         text: returned_reply(slice, lot),
     }
 }

@@ -1,15 +1,14 @@
 -- A key acts once: what a request does, the first time and when it comes again.
-use Rattle.std.specs.Prelude.{◌≡◌, ℕ, ◌+◌, Bool, true, false, if◌then◌else◌, List, [], ◌∷◌, Option, Some, None, ℤ, IsTrue}
+use Rattle.std.specs.Prelude.{◌≡◌, ℕ, ◌+◌, Bool, if◌then◌else◌, List, [], ◌∷◌, Option, Some, None, ℤ, IsTrue}
 use Rattle.values.specs.Values.{same_text}
 use Rattle.label.specs.Days.{is_business_day}
 use Rattle.commands.specs.Sound.{is_sound, is_sound_key}
 use Rattle.commands.specs.Spelling.{key_text, spelling}
 use Rattle.commands.specs.declared.key.Key.{Key}
-use Rattle.commands.specs.declared.key.Key.TheVariants.{Plain, Line}
 use Rattle.commands.specs.declared.refusal.Refusal.{Refusal}
 use Rattle.commands.specs.declared.refusal.Refusal.TheVariants.{KeyUsed}
 use Rattle.commands.specs.declared.command.Command.{Command}
-use Rattle.commands.specs.declared.command.Command.TheVariants.{Receive}
+pub use Rattle.commands.specs.Keys.{is_key_of}
 use Rattle.machine.specs.Acts.{Act}
 use Rattle.machine.specs.Verdict.{verdict}
 use Rattle.machine.specs.Replies.{reply}
@@ -60,13 +59,6 @@ appended act acts (Refused why) = acts
 -- an accepted command is appended to the acts; a refused or repeated one leaves them
 abbrev pub acts_after : ℤ → List Act → Act → List Act
 acts_after first acts act = appended act acts (outcome first acts act)
-
--- a Receive bears a delivery line, and every other command a plain key
-abbrev pub is_key_of : Key → Command → Bool
-is_key_of (Line d n) (Receive r) = true
-is_key_of (Line d n) _ = false
-is_key_of (Plain k) (Receive r) = false
-is_key_of (Plain k) _ = true
 
 -- the key is of the command's kind, and every value of the two keeps its rule
 pub record IsSoundRequest (act : Act) : Type 0 where

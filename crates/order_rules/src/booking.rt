@@ -9,11 +9,11 @@ ghost use Rattle.order_rules.specs.Booked.{IsIndexOf, open_units_seen as open_un
 use commands::{LineRow, Listed, NewOrder, OrderLine, OrderRow, OrderState, ReservedRow};
 use plan::{Demand, Plan};
 use row_rules::Slice;
-use row_rules::changing::number_seen;
+use row_rules::change_parts::number_seen;
 use row_rules::indexed::{IndexedRows, indexed_rows, supplies_of_item};
 use row_rules::open_lines::sum_of_open_units;
 use row_rules::plans::{ItemRows, item_rows, named_rows, plan_with_last};
-use row_rules::summing::sum_of_staged;
+use row_rules::row_search::units_with;
 use std::alloc::{AllocError, Global};
 use values::{Gtin, Name};
 
@@ -163,7 +163,7 @@ pub fn open_units_seen(slice: &Slice, gtin: &Gtin) -> u64
 fn needs_seen(slice: &Slice, gtin: &Gtin) -> u64
     ensures { result ≡ needs_seen_lem slice.now gtin.now }
 {
-    let staged = sum_of_staged(slice.rows.staged.as_slice(), gtin);
+    let staged = units_with(slice.rows.staged.as_slice(), gtin);
     open_units_seen(slice, gtin).saturating_sub(staged)
 }
 

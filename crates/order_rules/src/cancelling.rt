@@ -1,19 +1,18 @@
 //! Orders that are cancelled.
 
-ghost use Rattle.std.specs.Prelude.{◌≡◌, not, filter, IfOk};
-ghost use Rattle.values.specs.Values.{same_text};
+ghost use Rattle.std.specs.Prelude.{◌≡◌, IfOk};
 ghost use Rattle.machine.specs.Verdict.{first_refusal};
 ghost use Rattle.row_rules.specs.Seen.{meta_after, none_put, none_dropped, plain_reply as plain_reply_lem};
 ghost use Rattle.order_rules.specs.DecidedCancel.{cancel_seen, cancel_changes, cancelled_row as cancelled_row_lem, cancel_put, cancel_dropped};
 
 use commands::{Listed, OrderRow, OrderState, Refusal};
-use row_rules::changing::{meta_next, none_dropped, none_put, plain_reply};
-use row_rules::judging::first_of;
+use row_rules::change_parts::{meta_next, none_dropped, none_put, plain_reply};
+use row_rules::first_refusal::first_of;
 use row_rules::orders_seen::{items_seen, order_row_seen, sees_open, sees_order, staged_for_seen};
 use row_rules::plans::{ItemRows, item_rows};
-use row_rules::pushing::push_if;
 use row_rules::replanning::{Replanned, replan_items};
-use row_rules::{Change, Slice};
+use row_rules::row_search::rows_without;
+use row_rules::{Change, Dropped, Put, Slice};
 use std::alloc::{AllocError, Global};
 use values::Name;
 
@@ -44,15 +43,17 @@ pub fn change_cancel(alloc: Global, slice: &Slice, order: &Name) -> Result<Chang
 fn cancelled(alloc: Global, slice: &Slice, row: Vec<OrderRow>, reserved: Replanned) -> Change
     ensures { result ≡ record { meta = meta_after slice.now; put = record none_put { orders = row.items; reserved = reserved.put }; dropped = record none_dropped { reserved = reserved.dropped }; text = plain_reply_lem slice.now } }
 {
-    let mut put = none_put(alloc);
-    put.orders = Listed::from_vec(row);
-    put.reserved = reserved.put;
-    let mut dropped = none_dropped(alloc);
-    dropped.reserved = reserved.dropped;
     Change {
         meta: meta_next(slice),
-        put,
-        dropped,
+        put: Put {
+            orders: Listed::from_vec(row),
+            reserved: reserved.put,
+            ..none_put(alloc)
+        },
+        dropped: Dropped {
+            reserved: reserved.dropped,
+            ..none_dropped(alloc)
+        },
         text: plain_reply(slice),
     }
 }
@@ -80,22 +81,10 @@ fn replan_without(alloc: Global, slice: &Slice, order: &Name) -> Result<Replanne
     ensures dropped { IfOk result (λ r. r.dropped ≡ cancel_dropped slice.now order.now) }
 {
     let items = items_seen(alloc, slice, order)?;
-    let others = other_orders(alloc, slice.rows.orders.as_slice(), order)?;
+    let others = rows_without(alloc, slice.rows.orders.as_slice(), order)?;
     let rows = ItemRows {
         orders: others.as_slice(),
         ..item_rows(&slice.rows)
     };
     replan_items(alloc, slice, items.as_slice(), slice.meta.day, &rows)
-}
-
-// The rows of the other orders.
-fn other_orders(alloc: Global, rows: &[OrderRow], order: &Name) -> Result<Vec<OrderRow>, AllocError>
-    ensures { IfOk result (λ v. v.items ≡ filter (λ r. not (same_text order.now r.order)) rows.now) }
-{
-    let mut others = Vec::new(alloc);
-    for row in rows {
-        let same = *order == row.order;
-        push_if(&mut others, !same, *row)?;
-    }
-    Ok(others)
 }

@@ -1,8 +1,6 @@
 //! Orders that come in.
 
 ghost use Rattle.std.specs.Prelude.{◌≡◌, ◌+◌, nat_lt, Some, IfOk};
-ghost use Rattle.std.specs.List.{list_any};
-ghost use Rattle.values.specs.Values.{same_text};
 ghost use Rattle.commands.specs.declared.limits.TheConstants.{OPEN_MAX};
 ghost use Rattle.commands.specs.Replies.{reply_text};
 ghost use Rattle.commands.specs.declared.replies.ReplyField.TheVariants.{UnitsShort};
@@ -14,14 +12,13 @@ ghost use Rattle.order_rules.specs.Booked.{open_units_seen as open_units_seen_le
 use crate::booking::{Booked, book_order, new_line_rows, new_order_row, open_units_seen};
 use commands::limits::OPEN_MAX;
 use commands::{LineRow, Listed, NewOrder, OrderLine, OrderRow, Refusal, ReplyField, Short, reply};
-use row_rules::changing::{meta_next, none_dropped, none_put, number_seen, one};
-use row_rules::judging::first_of;
-use row_rules::looking::is_same_item;
+use row_rules::change_parts::{meta_next, none_dropped, none_put, number_seen, one};
+use row_rules::first_refusal::first_of;
+use row_rules::goods_seen::sees_item;
 use row_rules::orders_seen::sees_order;
-use row_rules::seeing::sees_item;
-use row_rules::{Change, Slice};
+use row_rules::row_search::has_row;
+use row_rules::{Change, Put, Slice};
 use std::alloc::{AllocError, Global};
-use values::Gtin;
 
 /// The refusal of an order, urgent or not, if it is refused.
 pub fn judge_order(slice: &Slice, o: &NewOrder) -> Option<Refusal>
@@ -56,18 +53,7 @@ fn names_item_twice(lines: &[OrderLine]) -> bool
     ensures { result ≡ names_item_twice_lem lines.now }
 {
     for (index, line) in lines.iter().enumerate() {
-        if names_item(&lines[index + 1..], &line.gtin) {
-            return true;
-        }
-    }
-    false
-}
-
-fn names_item(lines: &[OrderLine], gtin: &Gtin) -> bool
-    ensures { result ≡ list_any (λ m. same_text gtin.now m.gtin) lines.now }
-{
-    for line in lines {
-        if is_same_item(gtin, &line.gtin) {
+        if has_row(&lines[index + 1..], &line.gtin) {
             return true;
         }
     }
@@ -113,13 +99,14 @@ fn ordered(
 ) -> Change
     ensures { result ≡ record { meta = meta_after slice.now; put = record none_put { orders = orders; lines = lines.items; reserved = booked.put }; dropped = none_dropped; text = reply_text (number_seen_lem slice.now) (Some (UnitsShort booked.short)) } }
 {
-    let mut put = none_put(alloc);
-    put.orders = orders;
-    put.lines = Listed::from_vec(lines);
-    put.reserved = booked.put;
     Change {
         meta: meta_next(slice),
-        put,
+        put: Put {
+            orders,
+            lines: Listed::from_vec(lines),
+            reserved: booked.put,
+            ..none_put(alloc)
+        },
         dropped: none_dropped(alloc),
         text: short_reply(slice, booked.short),
     }

@@ -5,10 +5,9 @@ ghost use Rattle.order_rules.specs.DecidedPick.{units_found, named_found};
 
 use commands::{BinRow, LotRow, OrderRow, Picking, ReservedRow, StagedRow, StockRow};
 use row_rules::Slice;
-use row_rules::looking::{find_bin, find_stock};
+use row_rules::goods_seen::{lot_seen, sees_item};
 use row_rules::orders_seen::{order_row_seen, sees_line};
-use row_rules::seeing::{lot_seen, sees_item};
-use row_rules::stages::{find_reserved, find_staged};
+use row_rules::row_search::find_row;
 
 /// The rows of the units that a picking moves: those of its lot in its bin, on the stage of its order, and reserved for it.
 #[derive(Clone, Copy)]
@@ -34,9 +33,9 @@ impl UnitsSeen {
         ensures { result ≡ units_found slice.now p.now }
     {
         UnitsSeen {
-            in_bin: find_stock(slice.rows.stock.as_slice(), &p.lot, &p.bin),
-            staged: find_staged(slice.rows.staged.as_slice(), &p.order, &p.lot),
-            reserved: find_reserved(slice.rows.reserved.as_slice(), &p.order, &p.lot),
+            in_bin: find_row(slice.rows.stock.as_slice(), &(p.lot, p.bin)),
+            staged: find_row(slice.rows.staged.as_slice(), &(p.order, p.lot)),
+            reserved: find_row(slice.rows.reserved.as_slice(), &(p.order, p.lot)),
         }
     }
 }
@@ -47,7 +46,7 @@ impl PickSeen {
     {
         PickSeen {
             item: sees_item(slice, &p.lot.gtin),
-            bin: find_bin(slice.rows.bins.as_slice(), &p.bin),
+            bin: find_row(slice.rows.bins.as_slice(), &p.bin),
             lot: lot_seen(slice, &p.lot),
             order: order_row_seen(slice, &p.order),
             line: sees_line(slice, &p.order, &p.lot.gtin),

@@ -9,13 +9,13 @@ ghost use Rattle.order_rules.specs.DecidedPick.{units_found, pick_seen, unpick_s
 
 use crate::pick_seen::{PickSeen, UnitsSeen};
 use commands::{Listed, Picking, Refusal, ReservedRow, StagedRow, StockRow};
-use row_rules::changing::{meta_next, none_put, plain_reply};
-use row_rules::judging::first_of;
+use row_rules::change_parts::{meta_next, none_put, plain_reply};
+use row_rules::first_refusal::first_of;
+use row_rules::goods_seen::{is_held_row, sees_recall};
+use row_rules::list_parts::row_gone;
 use row_rules::orders_seen::is_open_row;
 use row_rules::plans::{ItemRows, item_rows};
-use row_rules::pushing::row_gone;
 use row_rules::replanning::{Replanned, replan_item};
-use row_rules::seeing::{is_held_row, sees_recall};
 use row_rules::stages::{reserved_put, reserved_qty, staged_put, staged_qty, staged_rows_with};
 use row_rules::status::{is_below, is_past, least_days};
 use row_rules::stock::{stock_put, stock_rows_with, units_of};
@@ -176,11 +176,12 @@ fn rows_of(
 ) -> Put
     ensures { result ≡ record none_put { stock = stock.items; staged = staged.items; reserved = reserved } }
 {
-    let mut rows = none_put(alloc);
-    rows.stock = Listed::from_vec(stock);
-    rows.staged = Listed::from_vec(staged);
-    rows.reserved = reserved;
-    rows
+    Put {
+        stock: Listed::from_vec(stock),
+        staged: Listed::from_vec(staged),
+        reserved,
+        ..none_put(alloc)
+    }
 }
 
 // What changes of the item's reserved rows where so many units of the lot are in the bin and on the

@@ -14,15 +14,15 @@ use commands::{
     ShiplineRow, ShipmentRow, Short, StagedRow, StockRow, reply,
 };
 use row_rules::cards::lot_units;
-use row_rules::changing::{none_dropped, none_put, number_seen, one};
-use row_rules::demands::sum_staged_for;
-use row_rules::judging::first_of;
-use row_rules::look_ups::{RowsByText, by_item, by_text, staged_by_lot};
+use row_rules::change_parts::{none_dropped, none_put, number_seen, one};
+use row_rules::first_refusal::first_of;
+use row_rules::list_parts::push_if;
 use row_rules::orders_seen::{lines_seen, order_row_seen, sees_open, sees_order, staged_for_seen};
-use row_rules::pushing::push_if;
-use row_rules::{Change, Put, Slice};
+use row_rules::row_index::{RowsByText, by_text};
+use row_rules::row_search::{rows_with, units_with};
+use row_rules::{Change, Dropped, Put, Slice};
 use std::alloc::{AllocError, Global};
-use values::{Name, Text};
+use values::{Gtin, Lot, Name, Text};
 
 /// The refusal of the shipping of an order, if it is refused.
 pub fn judge_ship(slice: &Slice, order: &Name) -> Option<Refusal>
@@ -42,14 +42,15 @@ pub fn judge_ship(slice: &Slice, order: &Name) -> Option<Refusal>
 pub fn change_ship(alloc: Global, slice: &Slice, order: &Name) -> Result<Change, AllocError>
     ensures { IfOk result (λ change. change ≡ ship_changes slice.now order.now) }
 {
-    let staged = rows_shipped(alloc, slice.rows.staged.as_slice(), order)?;
+    let staged = rows_with(alloc, slice.rows.staged.as_slice(), order)?;
     let put = ship_put(alloc, slice, order, staged.as_slice())?;
-    let mut dropped = none_dropped(alloc);
-    dropped.stage = Some(*order);
     Ok(Change {
         meta: meta_shipped(slice),
         put,
-        dropped,
+        dropped: Dropped {
+            stage: Some(*order),
+            ..none_dropped(alloc)
+        },
         text: ship_reply(slice),
     })
 }
@@ -83,13 +84,14 @@ fn rows_of(
 ) -> Put
     ensures { result ≡ record none_put { orders = orders.items; lines = lines.items; shipments = shipments; shiplines = shiplines.items; cards = cards.items } }
 {
-    let mut rows = none_put(alloc);
-    rows.orders = Listed::from_vec(orders);
-    rows.lines = Listed::from_vec(lines);
-    rows.shipments = shipments;
-    rows.shiplines = Listed::from_vec(shiplines);
-    rows.cards = Listed::from_vec(cards);
-    rows
+    Put {
+        orders: Listed::from_vec(orders),
+        lines: Listed::from_vec(lines),
+        shipments,
+        shiplines: Listed::from_vec(shiplines),
+        cards: Listed::from_vec(cards),
+        ..none_put(alloc)
+    }
 }
 
 // The number of the shipment.
@@ -109,22 +111,6 @@ fn meta_shipped(slice: &Slice) -> MetaRow
     }
 }
 
-// The rows of what is staged for the order.
-fn rows_shipped(
-    alloc: Global,
-    rows: &[StagedRow],
-    order: &Name,
-) -> Result<Vec<StagedRow>, AllocError>
-    ensures { IfOk result (λ v. v.items ≡ rows_shipped_lem order.now rows.now) }
-{
-    let mut own = Vec::new(alloc);
-    for row in rows {
-        let wanted = *order == row.order;
-        push_if(&mut own, wanted, *row)?;
-    }
-    Ok(own)
-}
-
 // The lines of the order after the act.
 fn lines_shipped(alloc: Global, slice: &Slice, order: &Name) -> Result<Vec<LineRow>, AllocError>
     ensures { IfOk result (λ v. v.items ≡ lines_shipped_lem slice.now order.now) }
@@ -140,7 +126,7 @@ fn ship_lines(
 ) -> Result<Vec<LineRow>, AllocError>
     ensures { IfOk result (λ v. v.items ≡ map (line_shipped_lem staged.now) rows.now) }
 {
-    let of_items = by_item(alloc, staged, rows.len())?;
+    let of_items = by_text::<Gtin, StagedRow>(alloc, staged, rows.len())?;
     ship_found(alloc, rows, &of_items)
 }
 
@@ -153,7 +139,7 @@ fn ship_found(
 {
     let mut shipped = Vec::new(alloc);
     for row in rows {
-        let own = staged.rows_of_gtin(&row.gtin);
+        let own = staged.candidates(&row.gtin);
         shipped.push(line_shipped(own, row))?;
     }
     Ok(shipped)
@@ -163,7 +149,7 @@ fn ship_found(
 fn line_shipped(staged: &[StagedRow], row: &LineRow) -> LineRow
     ensures { result ≡ line_shipped_lem staged.now row.now }
 {
-    let more = sum_staged_for(staged, &row.order, &row.gtin);
+    let more = units_with(staged, &(row.order, row.gtin));
     LineRow {
         order: row.order,
         gtin: row.gtin,
@@ -242,8 +228,8 @@ fn ship_cards(alloc: Global, slice: &Slice, rows: &[StagedRow]) -> Result<Vec<Ca
     ensures { IfOk result (λ v. v.items ≡ map (ship_card_lem slice.now) rows.now) }
 {
     let all = &slice.rows;
-    let stock = by_text(alloc, all.stock.as_slice(), rows.len())?;
-    let staged = staged_by_lot(alloc, all.staged.as_slice(), rows.len())?;
+    let stock = by_text::<Lot, StockRow>(alloc, all.stock.as_slice(), rows.len())?;
+    let staged = by_text::<Lot, StagedRow>(alloc, all.staged.as_slice(), rows.len())?;
     cards_given(alloc, slice, &stock, &staged, rows)
 }
 
@@ -259,11 +245,7 @@ fn cards_given(
     let mut cards = Vec::new(alloc);
     for row in rows {
         let lot = &row.lot;
-        let units = lot_units(
-            lot,
-            stock.rows_of_lot(&lot.lot),
-            staged.rows_of_lot(&lot.lot),
-        );
+        let units = lot_units(lot, stock.candidates(&lot.lot), staged.candidates(&lot.lot));
         cards.push(ship_card(slice, row, units))?;
     }
     Ok(cards)

@@ -4,18 +4,18 @@ ghost use Rattle.std.specs.Prelude.{◌≡◌, Some, IfOk};
 ghost use Rattle.commands.specs.Replies.{reply_text};
 ghost use Rattle.commands.specs.declared.replies.ReplyField.TheVariants.{UnitsShort};
 ghost use Rattle.row_rules.specs.Seen.{meta_after, none_put, none_dropped, number_seen as number_seen_lem};
-ghost use Rattle.order_rules.specs.DecidedUrgent.{new_urgent_row as new_urgent_row_lem, lines_with as lines_with_lem, urgents_with as urgents_with_lem, items_ordered as items_ordered_lem, units_ordered as units_ordered_lem, units_for as units_for_lem, short_with as short_with_lem, urgent_put, urgent_dropped, urgent_changes};
+ghost use Rattle.order_rules.specs.DecidedUrgent.{new_urgent_row as new_urgent_row_lem, lines_with as lines_with_lem, urgents_with as urgents_with_lem, units_ordered as units_ordered_lem, short_with as short_with_lem, urgent_put, urgent_dropped, urgent_changes};
 
 use crate::booking::{new_line_rows, new_order_row};
 use crate::customer_orders::short_reply;
 use commands::{LineRow, Listed, NewOrder, OrderLine, OrderRow, ReservedRow, UrgentRow};
-use row_rules::changing::{meta_next, none_dropped, none_put, number_seen, one};
+use row_rules::change_parts::{meta_next, none_dropped, none_put, number_seen, one};
+use row_rules::list_parts::in_front;
 use row_rules::plans::{ItemRows, item_rows};
-use row_rules::pushing::in_front;
 use row_rules::replanning::{Replanned, replan_items};
-use row_rules::{Change, Slice};
+use row_rules::row_search::{units_with, values_of};
+use row_rules::{Change, Dropped, Put, Slice};
 use std::alloc::{AllocError, Global};
-use values::{Gtin, Name};
 
 /// What an urgent order changes. It is judged by `judge_order`.
 pub fn change_urgent(alloc: Global, slice: &Slice, o: &NewOrder) -> Result<Change, AllocError>
@@ -41,17 +41,19 @@ fn urgent_ordered(
     ensures { result ≡ record { meta = meta_after slice.now; put = record none_put { orders = orders; lines = lines.items; urgents = urgents; reserved = reserved.put }; dropped = record none_dropped { reserved = reserved.dropped }; text = reply_text (number_seen_lem slice.now) (Some (UnitsShort (short_with_lem o.now reserved.put))) } }
 {
     let short = short_with(o, reserved.put.as_slice());
-    let mut put = none_put(alloc);
-    put.orders = orders;
-    put.lines = Listed::from_vec(lines);
-    put.urgents = urgents;
-    put.reserved = reserved.put;
-    let mut dropped = none_dropped(alloc);
-    dropped.reserved = reserved.dropped;
     Change {
         meta: meta_next(slice),
-        put,
-        dropped,
+        put: Put {
+            orders,
+            lines: Listed::from_vec(lines),
+            urgents,
+            reserved: reserved.put,
+            ..none_put(alloc)
+        },
+        dropped: Dropped {
+            reserved: reserved.dropped,
+            ..none_dropped(alloc)
+        },
         text: short_reply(slice, short),
     }
 }
@@ -71,7 +73,7 @@ fn replan_with(alloc: Global, slice: &Slice, o: &NewOrder) -> Result<Replanned, 
     ensures put { IfOk result (λ r. r.put ≡ urgent_put slice.now o.now) }
     ensures dropped { IfOk result (λ r. r.dropped ≡ urgent_dropped slice.now o.now) }
 {
-    let items = items_ordered(alloc, o.lines.as_slice())?;
+    let items = values_of(alloc, o.lines.as_slice())?;
     let orders = in_front(alloc, new_order_row(slice, o), slice.rows.orders.as_slice())?;
     let lines = lines_with(alloc, slice, o)?;
     let urgents = urgents_with(alloc, slice, o)?;
@@ -101,22 +103,11 @@ fn lines_with(alloc: Global, slice: &Slice, o: &NewOrder) -> Result<Vec<LineRow>
     Ok(lines)
 }
 
-// The items of the lines.
-fn items_ordered(alloc: Global, lines: &[OrderLine]) -> Result<Vec<Gtin>, AllocError>
-    ensures { IfOk result (λ v. v.items ≡ items_ordered_lem lines.now) }
-{
-    let mut items = Vec::new(alloc);
-    for line in lines {
-        items.push(line.gtin)?;
-    }
-    Ok(items)
-}
-
 // What the order is short of, where these rows are put.
 fn short_with(o: &NewOrder, put: &[ReservedRow]) -> u64
     ensures { result ≡ short_with_lem o.now put.now }
 {
-    let reserved = units_for(put, &o.order);
+    let reserved = units_with(put, &o.order);
     units_ordered(o.lines.as_slice()).saturating_sub(reserved)
 }
 
@@ -126,19 +117,6 @@ fn units_ordered(lines: &[OrderLine]) -> u64
     let mut sum = 0_u64;
     for line in lines {
         sum = sum.saturating_add(u64::from(line.qty.units()));
-    }
-    sum
-}
-
-// The units that rows have for an order.
-fn units_for(rows: &[ReservedRow], order: &Name) -> u64
-    ensures { result ≡ units_for_lem order.now rows.now }
-{
-    let mut sum = 0_u64;
-    for row in rows {
-        if *order == row.order {
-            sum = sum.saturating_add(row.qty);
-        }
     }
     sum
 }

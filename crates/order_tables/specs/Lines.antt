@@ -1,57 +1,47 @@
 -- The table `lines`.
-use Rattle.std.specs.Prelude.{◌≡◌, ℕ, Bool, true, ◌&&◌, nat_le, bytes_eq, List, [], ◌∷◌, codes}
+use Rattle.std.specs.Prelude.{◌≡◌, ℕ, true, ◌&&◌, bytes_eq, List, [], ◌∷◌, codes}
 use Rattle.std.proofs.Common.{refl, ap₂, ◌∙◌, pos}
 use Rattle.std.proofs.lemmas.Bool.{and_parts}
-use Rattle.sqlite.specs.declared.types.Value.TheVariants.{Null, Text}
+use Rattle.sqlite.specs.declared.types.Value.TheVariants.{Text}
 use Rattle.sqlite.specs.Order.{Row, column, bytes}
-use Rattle.sqlite.specs.Term.{lit, col}
 use Rattle.sqlite.specs.Listing.{understood}
 use Rattle.sqlite_tied.specs.Compute.{everything}
-use Rattle.values.specs.Values.{QTY_MAX, is_between, is_gtin, is_name}
+use Rattle.values.specs.Values.{is_gtin, is_name}
 use Rattle.commands.specs.Tables.{Tables}
 use Rattle.commands.specs.declared.rows.LineRow.{LineRow}
 use Rattle.order_tables.specs.declared.texts.TheConstants.{ADD_LINE, CHANGE_LINE, LINES_OF_ORDER, LINE_OF}
 use Rattle.table_words.specs.Found.{AreRows}
 use Rattle.table_words.specs.Cells.{is_the_text}
 use Rattle.table_words.specs.Schema.{lines_tree, lines_table}
-use Rattle.table_words.specs.Typed.{LineKey, is_line, line_in, has_line, line_read, same_line, line_key, line_cells}
+use Rattle.table_words.specs.Typed.{LineKey, same_line, line_key, line_mapping}
 use Rattle.table_words.proofs.Plans.{same, by_rowid}
 use Rattle.table_words.proofs.ScanLemmas.{passes, in_order}
 use Rattle.table_words.proofs.WriteLemmas.{cast_number, cast_null}
 use Rattle.table_words.proofs.CellLemmas.{and_true, same_word, equals_text}
 use Rattle.table_words.proofs.KeyLemmas.{same_both, same_bytes, itself_both, itself_bytes}
-use Rattle.keyed_rows.specs.Described.{Described, IsLawful, AddIs, Change, ChangeIs, IsChange, Query, QueryIs, IsSought, keyed}
+use Rattle.keyed_rows.specs.Described.{Described, IsLawful, AddIs, Change, ChangeIs, IsChange, Query, QueryIs, IsSought}
+use Rattle.keyed_rows.specs.Mapped.{IsMapped, planned, whole_change}
 use Rattle.keyed_rows.proofs.Laws.{one_keyed, rows_of, found_by_key}
 
 -- what the table is
 abbrev pub lines : Described LineRow LineKey
-lines = record {
+lines = planned line_mapping (record {
   place = 7;
-  layout = keyed lines_tree (codes "lines") (lines_table lines_tree).columns (1 ∷ 2 ∷ []);
-  is = is_line;
-  reads = line_in;
-  shown = col 1 1 ∷ col 1 2 ∷ col 1 3 ∷ col 1 4 ∷ [];
-  has = has_line;
-  seen = line_read;
+  tree = lines_tree;
+  name = codes "lines";
+  columns = (lines_table lines_tree).columns;
   key = line_key;
   same = same_line;
-  cells = line_cells;
   key_cells = λ k. Text k.0 ∷ Text k.1 ∷ [];
+  key_places = 1 ∷ 2 ∷ [];
   look = λ t k. t.line k.0 k.1;
   set = λ f t. record t { line = λ a b. f (a, b) };
-  tests = same 1 0 ∷ same 2 1 ∷ [];
   add = ADD_LINE.now;
-  add_terms = lit Null ∷ col 0 0 ∷ col 0 1 ∷ col 0 2 ∷ col 0 3 ∷ [];
-  source = λ s. Null ∷ line_cells s;
-}
-
--- its numbers are within their limits
-abbrev pub fits_line : LineRow → Bool
-fits_line s = is_between 1 QTY_MAX s.ordered && nat_le s.shipped QTY_MAX
+})
 
 -- the statement that changes a row
 abbrev pub change_line : Change LineRow
-change_line = record { text = CHANGE_LINE.now; terms = col 0 0 ∷ col 0 1 ∷ col 0 2 ∷ col 0 3 ∷ []; values = line_cells }
+change_line = whole_change lines CHANGE_LINE.now
 
 -- those of an order
 abbrev pub lines_of_order : Query LineRow LineKey (List ℕ)
@@ -85,11 +75,14 @@ AreLineOf key t rows = AreRows {K = LineKey} same_line line_key (λ k. same_line
 
 -- ---- what holds of them
 
+pub line_mapped : IsMapped line_mapping.columns 4 line_mapping lines
+line_mapped = record { few = refl; cells = λ s. refl; has = λ r. refl; seen = λ r. refl; back = λ s. refl }
+
 add_is : AddIs lines
 unfolding understood everything
 add_is rest = (refl, (refl, refl))
 
-at_key : (k : LineKey) (r : Row) → is_line r ≡ true → passes (lines.key_cells k) lines.tests r ≡ same_line k (line_key (line_in r))
+at_key : (k : LineKey) (r : Row) → lines.is r ≡ true → passes (lines.key_cells k) lines.tests r ≡ same_line k (line_key (lines.reads r))
 at_key k r h =
     let p0 = and_parts _ _ h in
     let p1 = and_parts _ _ p0.1 in
@@ -132,7 +125,7 @@ lines_of_order_is : QueryIs lines lines_of_order
 unfolding understood everything
 lines_of_order_is rest = (refl, refl, (refl, refl))
 
-lines_of_order_at : (name : List ℕ) (r : Row) → is_line r ≡ true → passes (lines_of_order.params name) lines_of_order.tests r ≡ bytes_eq name (bytes (column r 1))
+lines_of_order_at : (name : List ℕ) (r : Row) → lines.is r ≡ true → passes (lines_of_order.params name) lines_of_order.tests r ≡ bytes_eq name (bytes (column r 1))
 lines_of_order_at name r h = and_true _ ∙ same_word is_name (column r 1) (Text name) name (and_parts _ _ h).0 refl
 
 pub lines_of_order_laws : IsSought lines lines_of_order AreLinesOfOrder

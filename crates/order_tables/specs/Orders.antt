@@ -1,17 +1,16 @@
 -- The table `orders`.
-use Rattle.std.specs.Prelude.{◌≡◌, ℕ, Bool, true, bytes_eq, List, [], ◌∷◌, codes}
+use Rattle.std.specs.Prelude.{◌≡◌, ℕ, true, bytes_eq, List, [], ◌∷◌, codes}
 use Rattle.std.proofs.Common.{refl, ap, ◌∙◌, pos}
 use Rattle.std.proofs.lemmas.Bool.{and_parts}
 use Rattle.sqlite.specs.declared.types.Value.{Value}
-use Rattle.sqlite.specs.declared.types.Value.TheVariants.{Null, Text}
+use Rattle.sqlite.specs.declared.types.Value.TheVariants.{Text}
 use Rattle.sqlite.specs.Order.{Row, column, bytes}
-use Rattle.sqlite.specs.Term.{lit, col}
 use Rattle.sqlite.specs.Rowids.TheVariants.{Chosen}
 use Rattle.sqlite.specs.Listing.{understood}
 use Rattle.sqlite_tied.specs.Compute.{everything}
 use Rattle.sqlite_trees.specs.Tree.{rowid}
 use Rattle.sqlite_rules.specs.Edit.{with_rowid}
-use Rattle.values.specs.Values.{is_between, is_name, is_title}
+use Rattle.values.specs.Values.{is_name, is_title}
 use Rattle.commands.specs.Tables.{Tables}
 use Rattle.commands.specs.declared.rows.OrderRow.{OrderRow}
 use Rattle.commands.specs.declared.limits.TheConstants.{ACTS_MAX}
@@ -20,44 +19,35 @@ use Rattle.order_tables.specs.declared.orders.Open.{Open}
 use Rattle.table_words.specs.Found.{AreRows, only_if}
 use Rattle.table_words.specs.Cells.{is_word, is_the_text, is_count, is_order_state}
 use Rattle.table_words.specs.Schema.{orders_tree, orders_table}
-use Rattle.table_words.specs.Typed.{is_order, order_in, has_order, order_read, same_order, order_key, order_cells, is_open_order}
+use Rattle.table_words.specs.Typed.{same_order, order_key, is_open_order, order_mapping}
 use Rattle.table_words.proofs.Plans.{same, by_rowid}
 use Rattle.table_words.proofs.ScanLemmas.{passes, in_order}
 use Rattle.table_words.proofs.WriteLemmas.{cast_number, cast_null}
 use Rattle.table_words.proofs.CellLemmas.{and_true, same_word, equals_text, order_state_back, open_is}
 use Rattle.table_words.proofs.KeyLemmas.{same_bytes, itself_bytes}
-use Rattle.keyed_rows.specs.Described.{Described, IsLawful, AddIs, Change, ChangeIs, IsChange, Query, QueryIs, IsSought, keyed}
+use Rattle.keyed_rows.specs.Described.{Described, IsLawful, AddIs, Change, ChangeIs, IsChange, Query, QueryIs, IsSought}
+use Rattle.keyed_rows.specs.Mapped.{IsMapped, planned, whole_change}
 use Rattle.keyed_rows.proofs.Laws.{one_keyed, rows_of, found_by_key, found_by_test}
 
 -- what the table is
 abbrev pub orders : Described OrderRow (List ℕ)
-orders = record {
+orders = planned order_mapping (record {
   place = 6;
-  layout = keyed orders_tree (codes "orders") (orders_table orders_tree).columns (1 ∷ []);
-  is = is_order;
-  reads = order_in;
-  shown = col 1 1 ∷ col 1 2 ∷ col 1 3 ∷ col 1 4 ∷ [];
-  has = has_order;
-  seen = order_read;
+  tree = orders_tree;
+  name = codes "orders";
+  columns = (orders_table orders_tree).columns;
   key = order_key;
   same = same_order;
-  cells = order_cells;
   key_cells = λ k. Text k ∷ [];
+  key_places = 1 ∷ [];
   look = λ t k. t.order k;
   set = λ f t. record t { order = f };
-  tests = same 1 0 ∷ [];
   add = ADD_ORDER.now;
-  add_terms = lit Null ∷ col 0 0 ∷ col 0 1 ∷ col 0 2 ∷ col 0 3 ∷ [];
-  source = λ s. Null ∷ order_cells s;
-}
-
--- its numbers are within their limits
-abbrev pub fits_order : OrderRow → Bool
-fits_order s = is_between 1 ACTS_MAX s.act
+})
 
 -- the statement that changes a row
 abbrev pub change_order : Change OrderRow
-change_order = record { text = CHANGE_ORDER.now; terms = col 0 0 ∷ col 0 1 ∷ col 0 2 ∷ col 0 3 ∷ []; values = order_cells }
+change_order = whole_change orders CHANGE_ORDER.now
 
 -- that of a name
 abbrev pub orders_of : Query OrderRow (List ℕ) (List ℕ)
@@ -91,15 +81,18 @@ AreOpenOrders by t rows = AreRows {K = List ℕ} same_order order_key (λ k. tru
 
 -- ---- what holds of them
 
+pub order_mapped : IsMapped order_mapping.columns 4 order_mapping orders
+order_mapped = record { few = refl; cells = λ s. refl; has = λ r. refl; seen = λ r. refl; back = λ s. refl }
+
 add_is : AddIs orders
 unfolding understood everything
 add_is rest = (refl, (refl, refl))
 
-at_key : (k : List ℕ) (r : Row) → is_order r ≡ true → passes (orders.key_cells k) orders.tests r ≡ same_order k (order_key (order_in r))
+at_key : (k : List ℕ) (r : Row) → orders.is r ≡ true → passes (orders.key_cells k) orders.tests r ≡ same_order k (order_key (orders.reads r))
 at_key k r h = and_true _ ∙ same_word is_name (column r 1) (Text k) k (and_parts _ _ h).0 refl
 
 -- what is written reads as the row
-back : (id : Value) (s : OrderRow) → order_in (id ∷ order_cells s) ≡ s
+back : (id : Value) (s : OrderRow) → orders.reads (id ∷ orders.cells s) ≡ s
 back id s = ap (λ x. let r : OrderRow = record { order = s.order; act = s.act; customer = s.customer; state = x } in r) (order_state_back s.state)
 
 pub orders_laws : IsLawful orders
@@ -139,7 +132,7 @@ orders_of_is : QueryIs orders orders_of
 unfolding understood everything
 orders_of_is rest = (refl, refl, (refl, refl))
 
-orders_of_at : (name : List ℕ) (r : Row) → is_order r ≡ true → passes (orders_of.params name) orders_of.tests r ≡ bytes_eq name (bytes (column r 1))
+orders_of_at : (name : List ℕ) (r : Row) → orders.is r ≡ true → passes (orders_of.params name) orders_of.tests r ≡ bytes_eq name (bytes (column r 1))
 orders_of_at name r h = and_true _ ∙ same_word is_name (column r 1) (Text name) name (and_parts _ _ h).0 refl
 
 pub orders_of_laws : IsSought orders orders_of AreOrdersOf
@@ -155,7 +148,7 @@ open_orders_is : QueryIs orders open_orders
 unfolding understood everything
 open_orders_is rest = (refl, refl, (refl, refl))
 
-open_orders_at : (by : Open) (r : Row) → is_order r ≡ true → passes (open_orders.params by) open_orders.tests r ≡ is_open_order (order_in r)
+open_orders_at : (by : Open) (r : Row) → orders.is r ≡ true → passes (open_orders.params by) open_orders.tests r ≡ is_open_order (orders.reads r)
 open_orders_at by r h =
     let p0 = and_parts (is_word is_name (column r 1)) _ h in
     let p1 = and_parts (is_count ACTS_MAX (column r 2)) _ p0.1 in

@@ -1,57 +1,47 @@
 -- The table `reserved`.
-use Rattle.std.specs.Prelude.{◌≡◌, ℕ, Bool, true, ◌&&◌, bytes_eq, List, [], ◌∷◌, codes}
+use Rattle.std.specs.Prelude.{◌≡◌, ℕ, true, ◌&&◌, bytes_eq, List, [], ◌∷◌, codes}
 use Rattle.std.proofs.Common.{refl, ap₂, ◌∙◌, pos}
 use Rattle.std.proofs.lemmas.Bool.{and_parts}
-use Rattle.sqlite.specs.declared.types.Value.TheVariants.{Null, Text}
+use Rattle.sqlite.specs.declared.types.Value.TheVariants.{Text}
 use Rattle.sqlite.specs.Order.{Row, column, bytes}
-use Rattle.sqlite.specs.Term.{lit, col}
 use Rattle.sqlite.specs.Listing.{understood}
 use Rattle.sqlite_tied.specs.Compute.{everything}
-use Rattle.values.specs.Values.{QTY_MAX, is_between, is_gtin, is_lot_text, is_name}
+use Rattle.values.specs.Values.{is_gtin, is_lot_text, is_name}
 use Rattle.commands.specs.Tables.{Tables}
 use Rattle.commands.specs.declared.rows.ReservedRow.{ReservedRow}
 use Rattle.order_tables.specs.declared.texts.TheConstants.{ADD_RESERVED, CHANGE_RESERVED, RESERVED_OF_ITEM, RESERVED_OF_ORDER, RESERVED_OF, DROP_RESERVED}
 use Rattle.table_words.specs.Found.{AreRows}
 use Rattle.table_words.specs.Cells.{is_the_text}
 use Rattle.table_words.specs.Schema.{reserved_tree, reserved_table}
-use Rattle.table_words.specs.Typed.{same_lot_id, ReservedKey, is_reserved, reserved_in, has_reserved, reserved_read, same_reserved, reserved_key, reserved_cells}
+use Rattle.table_words.specs.Typed.{same_lot_id, ReservedKey, same_reserved, reserved_key, reserved_mapping}
 use Rattle.table_words.proofs.Plans.{same, by_rowid}
 use Rattle.table_words.proofs.ScanLemmas.{passes, in_order}
 use Rattle.table_words.proofs.WriteLemmas.{cast_number, cast_null}
 use Rattle.table_words.proofs.CellLemmas.{and_true, same_word, equals_text, same_lots, itself_lot}
 use Rattle.table_words.proofs.KeyLemmas.{same_both, same_bytes, itself_both, itself_bytes}
-use Rattle.keyed_rows.specs.Described.{Described, IsLawful, AddIs, Change, ChangeIs, IsChange, DropIs, Query, QueryIs, IsSought, keyed}
+use Rattle.keyed_rows.specs.Described.{Described, IsLawful, AddIs, Change, ChangeIs, IsChange, DropIs, Query, QueryIs, IsSought}
+use Rattle.keyed_rows.specs.Mapped.{IsMapped, planned, whole_change}
 use Rattle.keyed_rows.proofs.Laws.{one_keyed, rows_of, found_by_key}
 
 -- what the table is
 abbrev pub reserved : Described ReservedRow ReservedKey
-reserved = record {
+reserved = planned reserved_mapping (record {
   place = 9;
-  layout = keyed reserved_tree (codes "reserved") (reserved_table reserved_tree).columns (1 ∷ 2 ∷ 3 ∷ []);
-  is = is_reserved;
-  reads = reserved_in;
-  shown = col 1 1 ∷ col 1 2 ∷ col 1 3 ∷ col 1 4 ∷ [];
-  has = has_reserved;
-  seen = reserved_read;
+  tree = reserved_tree;
+  name = codes "reserved";
+  columns = (reserved_table reserved_tree).columns;
   key = reserved_key;
   same = same_reserved;
-  cells = reserved_cells;
   key_cells = λ k. Text k.0 ∷ Text k.1.gtin ∷ Text k.1.lot ∷ [];
+  key_places = 1 ∷ 2 ∷ 3 ∷ [];
   look = λ t k. t.reserved k.0 k.1;
   set = λ f t. record t { reserved = λ a b. f (a, b) };
-  tests = same 1 0 ∷ same 2 1 ∷ same 3 2 ∷ [];
   add = ADD_RESERVED.now;
-  add_terms = lit Null ∷ col 0 0 ∷ col 0 1 ∷ col 0 2 ∷ col 0 3 ∷ [];
-  source = λ s. Null ∷ reserved_cells s;
-}
-
--- its numbers are within their limits
-abbrev pub fits_reserved : ReservedRow → Bool
-fits_reserved s = is_between 1 QTY_MAX s.qty
+})
 
 -- the statement that changes a row
 abbrev pub change_reserved : Change ReservedRow
-change_reserved = record { text = CHANGE_RESERVED.now; terms = col 0 0 ∷ col 0 1 ∷ col 0 2 ∷ col 0 3 ∷ []; values = reserved_cells }
+change_reserved = whole_change reserved CHANGE_RESERVED.now
 
 -- those of a gtin
 abbrev pub reserved_of_item : Query ReservedRow ReservedKey (List ℕ)
@@ -100,11 +90,14 @@ AreReservedOf key t rows = AreRows {K = ReservedKey} same_reserved reserved_key 
 
 -- ---- what holds of them
 
+pub reserved_mapped : IsMapped reserved_mapping.columns 4 reserved_mapping reserved
+reserved_mapped = record { few = refl; cells = λ s. refl; has = λ r. refl; seen = λ r. refl; back = λ s. refl }
+
 add_is : AddIs reserved
 unfolding understood everything
 add_is rest = (refl, (refl, refl))
 
-at_key : (k : ReservedKey) (r : Row) → is_reserved r ≡ true → passes (reserved.key_cells k) reserved.tests r ≡ same_reserved k (reserved_key (reserved_in r))
+at_key : (k : ReservedKey) (r : Row) → reserved.is r ≡ true → passes (reserved.key_cells k) reserved.tests r ≡ same_reserved k (reserved_key (reserved.reads r))
 at_key k r h =
     let p0 = and_parts _ _ h in
     let p1 = and_parts _ _ p0.1 in
@@ -152,7 +145,7 @@ reserved_of_item_is : QueryIs reserved reserved_of_item
 unfolding understood everything
 reserved_of_item_is rest = (refl, refl, (refl, refl))
 
-reserved_of_item_at : (gtin : List ℕ) (r : Row) → is_reserved r ≡ true → passes (reserved_of_item.params gtin) reserved_of_item.tests r ≡ bytes_eq gtin (bytes (column r 2))
+reserved_of_item_at : (gtin : List ℕ) (r : Row) → reserved.is r ≡ true → passes (reserved_of_item.params gtin) reserved_of_item.tests r ≡ bytes_eq gtin (bytes (column r 2))
 reserved_of_item_at gtin r h = and_true _ ∙ same_word is_gtin (column r 2) (Text gtin) gtin (and_parts _ _ (and_parts _ _ h).1).0 refl
 
 pub reserved_of_item_laws : IsSought reserved reserved_of_item AreReservedOfItem
@@ -168,7 +161,7 @@ reserved_of_order_is : QueryIs reserved reserved_of_order
 unfolding understood everything
 reserved_of_order_is rest = (refl, refl, (refl, refl))
 
-reserved_of_order_at : (name : List ℕ) (r : Row) → is_reserved r ≡ true → passes (reserved_of_order.params name) reserved_of_order.tests r ≡ bytes_eq name (bytes (column r 1))
+reserved_of_order_at : (name : List ℕ) (r : Row) → reserved.is r ≡ true → passes (reserved_of_order.params name) reserved_of_order.tests r ≡ bytes_eq name (bytes (column r 1))
 reserved_of_order_at name r h = and_true _ ∙ same_word is_name (column r 1) (Text name) name (and_parts _ _ h).0 refl
 
 pub reserved_of_order_laws : IsSought reserved reserved_of_order AreReservedOfOrder

@@ -1,59 +1,49 @@
 -- The table `staged`.
-use Rattle.std.specs.Prelude.{◌≡◌, ℕ, Bool, true, ◌&&◌, if◌then◌else◌, bytes_eq, List, [], ◌∷◌, None, codes}
+use Rattle.std.specs.Prelude.{◌≡◌, ℕ, true, ◌&&◌, if◌then◌else◌, bytes_eq, List, [], ◌∷◌, None, codes}
 use Rattle.std.proofs.Common.{refl, ap₂, ◌∙◌, pos}
 use Rattle.std.proofs.lemmas.Bool.{and_parts}
-use Rattle.sqlite.specs.declared.types.Value.TheVariants.{Null, Text}
+use Rattle.sqlite.specs.declared.types.Value.TheVariants.{Text}
 use Rattle.sqlite.specs.Order.{Row, column, bytes}
-use Rattle.sqlite.specs.Term.{lit, col}
 use Rattle.sqlite.specs.Listing.{understood}
 use Rattle.sqlite_tied.specs.Compute.{everything}
-use Rattle.values.specs.Values.{QTY_MAX, is_between, is_gtin, is_lot_text, is_name}
+use Rattle.values.specs.Values.{is_gtin, is_lot_text, is_name}
 use Rattle.commands.specs.Tables.{Tables}
 use Rattle.commands.specs.declared.rows.StagedRow.{StagedRow}
 use Rattle.order_tables.specs.declared.texts.TheConstants.{ADD_STAGED, CHANGE_STAGED, STAGED_OF_ITEM, STAGED_OF_ORDER, STAGED_OF, ALL_STAGED, DROP_STAGED, DROP_STAGE}
 use Rattle.table_words.specs.Found.{AreRows}
 use Rattle.table_words.specs.Cells.{is_the_text}
 use Rattle.table_words.specs.Schema.{staged_tree, staged_table}
-use Rattle.table_words.specs.Typed.{same_lot_id, StagedKey, is_staged, staged_in, has_staged, staged_read, same_staged, staged_key, staged_cells}
+use Rattle.table_words.specs.Typed.{same_lot_id, StagedKey, same_staged, staged_key, staged_mapping}
 use Rattle.table_words.proofs.Plans.{same, by_rowid}
 use Rattle.table_words.proofs.ScanLemmas.{passes, in_order}
 use Rattle.table_words.proofs.WriteLemmas.{cast_number, cast_null}
 use Rattle.table_words.proofs.CellLemmas.{and_true, same_word, equals_text, same_lots, itself_lot}
 use Rattle.table_words.proofs.KeyLemmas.{same_both, same_bytes, itself_both, itself_bytes}
 use Rattle.keyed_rows.specs.declared.reading.All.{All}
-use Rattle.keyed_rows.specs.Described.{Described, IsLawful, AddIs, Change, ChangeIs, IsChange, DropIs, Query, QueryIs, IsSought, keyed}
+use Rattle.keyed_rows.specs.Described.{Described, IsLawful, AddIs, Change, ChangeIs, IsChange, DropIs, Query, QueryIs, IsSought}
 use Rattle.order_tables.specs.Dropping.{DropsBy}
+use Rattle.keyed_rows.specs.Mapped.{IsMapped, planned, whole_change}
 use Rattle.keyed_rows.proofs.Laws.{one_keyed, rows_of, found_by_key}
 
 -- what the table is
 abbrev pub staged : Described StagedRow StagedKey
-staged = record {
+staged = planned staged_mapping (record {
   place = 8;
-  layout = keyed staged_tree (codes "staged") (staged_table staged_tree).columns (1 ∷ 2 ∷ 3 ∷ []);
-  is = is_staged;
-  reads = staged_in;
-  shown = col 1 1 ∷ col 1 2 ∷ col 1 3 ∷ col 1 4 ∷ [];
-  has = has_staged;
-  seen = staged_read;
+  tree = staged_tree;
+  name = codes "staged";
+  columns = (staged_table staged_tree).columns;
   key = staged_key;
   same = same_staged;
-  cells = staged_cells;
   key_cells = λ k. Text k.0 ∷ Text k.1.gtin ∷ Text k.1.lot ∷ [];
+  key_places = 1 ∷ 2 ∷ 3 ∷ [];
   look = λ t k. t.staged k.0 k.1;
   set = λ f t. record t { staged = λ a b. f (a, b) };
-  tests = same 1 0 ∷ same 2 1 ∷ same 3 2 ∷ [];
   add = ADD_STAGED.now;
-  add_terms = lit Null ∷ col 0 0 ∷ col 0 1 ∷ col 0 2 ∷ col 0 3 ∷ [];
-  source = λ s. Null ∷ staged_cells s;
-}
-
--- its numbers are within their limits
-abbrev pub fits_staged : StagedRow → Bool
-fits_staged s = is_between 1 QTY_MAX s.qty
+})
 
 -- the statement that changes a row
 abbrev pub change_staged : Change StagedRow
-change_staged = record { text = CHANGE_STAGED.now; terms = col 0 0 ∷ col 0 1 ∷ col 0 2 ∷ col 0 3 ∷ []; values = staged_cells }
+change_staged = whole_change staged CHANGE_STAGED.now
 
 -- those of a gtin
 abbrev pub staged_of_item : Query StagedRow StagedKey (List ℕ)
@@ -121,11 +111,14 @@ without_stage name t = record t { staged = λ at_order at_lot. if bytes_eq name 
 
 -- ---- what holds of them
 
+pub staged_mapped : IsMapped staged_mapping.columns 4 staged_mapping staged
+staged_mapped = record { few = refl; cells = λ s. refl; has = λ r. refl; seen = λ r. refl; back = λ s. refl }
+
 add_is : AddIs staged
 unfolding understood everything
 add_is rest = (refl, (refl, refl))
 
-at_key : (k : StagedKey) (r : Row) → is_staged r ≡ true → passes (staged.key_cells k) staged.tests r ≡ same_staged k (staged_key (staged_in r))
+at_key : (k : StagedKey) (r : Row) → staged.is r ≡ true → passes (staged.key_cells k) staged.tests r ≡ same_staged k (staged_key (staged.reads r))
 at_key k r h =
     let p0 = and_parts _ _ h in
     let p1 = and_parts _ _ p0.1 in
@@ -177,7 +170,7 @@ staged_of_item_is : QueryIs staged staged_of_item
 unfolding understood everything
 staged_of_item_is rest = (refl, refl, (refl, refl))
 
-staged_of_item_at : (gtin : List ℕ) (r : Row) → is_staged r ≡ true → passes (staged_of_item.params gtin) staged_of_item.tests r ≡ bytes_eq gtin (bytes (column r 2))
+staged_of_item_at : (gtin : List ℕ) (r : Row) → staged.is r ≡ true → passes (staged_of_item.params gtin) staged_of_item.tests r ≡ bytes_eq gtin (bytes (column r 2))
 staged_of_item_at gtin r h = and_true _ ∙ same_word is_gtin (column r 2) (Text gtin) gtin (and_parts _ _ (and_parts _ _ h).1).0 refl
 
 pub staged_of_item_laws : IsSought staged staged_of_item AreStagedOfItem
@@ -193,7 +186,7 @@ staged_of_order_is : QueryIs staged staged_of_order
 unfolding understood everything
 staged_of_order_is rest = (refl, refl, (refl, refl))
 
-staged_of_order_at : (name : List ℕ) (r : Row) → is_staged r ≡ true → passes (staged_of_order.params name) staged_of_order.tests r ≡ bytes_eq name (bytes (column r 1))
+staged_of_order_at : (name : List ℕ) (r : Row) → staged.is r ≡ true → passes (staged_of_order.params name) staged_of_order.tests r ≡ bytes_eq name (bytes (column r 1))
 staged_of_order_at name r h = and_true _ ∙ same_word is_name (column r 1) (Text name) name (and_parts _ _ h).0 refl
 
 pub staged_of_order_laws : IsSought staged staged_of_order AreStagedOfOrder

@@ -1,55 +1,44 @@
 -- The table `urgents`.
-use Rattle.std.specs.Prelude.{◌≡◌, ℕ, Bool, true, bytes_eq, List, [], ◌∷◌, codes}
+use Rattle.std.specs.Prelude.{◌≡◌, ℕ, true, bytes_eq, List, [], ◌∷◌, codes}
 use Rattle.std.proofs.Common.{refl, ◌∙◌, pos}
 use Rattle.std.proofs.lemmas.Bool.{and_parts}
-use Rattle.sqlite.specs.declared.types.Value.TheVariants.{Null, Text}
+use Rattle.sqlite.specs.declared.types.Value.TheVariants.{Text}
 use Rattle.sqlite.specs.Order.{Row, column, bytes}
-use Rattle.sqlite.specs.Term.{lit, col}
 use Rattle.sqlite.specs.Listing.{understood}
 use Rattle.sqlite_tied.specs.Compute.{everything}
-use Rattle.values.specs.Values.{is_between, is_name}
+use Rattle.values.specs.Values.{is_name}
 use Rattle.commands.specs.Tables.{Tables}
 use Rattle.commands.specs.declared.rows.UrgentRow.{UrgentRow}
-use Rattle.commands.specs.declared.limits.TheConstants.{ACTS_MAX}
 use Rattle.order_tables.specs.declared.texts.TheConstants.{ADD_URGENT, URGENTS_OF, ALL_URGENTS}
 use Rattle.table_words.specs.Found.{AreRows}
 use Rattle.table_words.specs.Cells.{is_the_text}
 use Rattle.table_words.specs.Schema.{urgents_tree, urgents_table}
-use Rattle.table_words.specs.Typed.{is_urgent, urgent_in, has_urgent, urgent_read, same_urgent, urgent_key, urgent_cells}
+use Rattle.table_words.specs.Typed.{same_urgent, urgent_key, urgent_mapping}
 use Rattle.table_words.proofs.Plans.{same, by_rowid}
 use Rattle.table_words.proofs.ScanLemmas.{passes, in_order}
 use Rattle.table_words.proofs.WriteLemmas.{cast_number, cast_null}
 use Rattle.table_words.proofs.CellLemmas.{and_true, same_word, equals_text}
 use Rattle.table_words.proofs.KeyLemmas.{same_bytes, itself_bytes}
 use Rattle.keyed_rows.specs.declared.reading.All.{All}
-use Rattle.keyed_rows.specs.Described.{Described, IsLawful, AddIs, Query, QueryIs, IsSought, keyed}
+use Rattle.keyed_rows.specs.Described.{Described, IsLawful, AddIs, Query, QueryIs, IsSought}
+use Rattle.keyed_rows.specs.Mapped.{IsMapped, planned}
 use Rattle.keyed_rows.proofs.Laws.{one_keyed, rows_of, found_by_key}
 
 -- what the table is
 abbrev pub urgents : Described UrgentRow (List ℕ)
-urgents = record {
+urgents = planned urgent_mapping (record {
   place = 15;
-  layout = keyed urgents_tree (codes "urgents") (urgents_table urgents_tree).columns (1 ∷ []);
-  is = is_urgent;
-  reads = urgent_in;
-  shown = col 1 1 ∷ col 1 2 ∷ [];
-  has = has_urgent;
-  seen = urgent_read;
+  tree = urgents_tree;
+  name = codes "urgents";
+  columns = (urgents_table urgents_tree).columns;
   key = urgent_key;
   same = same_urgent;
-  cells = urgent_cells;
   key_cells = λ order. Text order ∷ [];
+  key_places = 1 ∷ [];
   look = λ t order. t.urgent order;
   set = λ f t. record t { urgent = f };
-  tests = same 1 0 ∷ [];
   add = ADD_URGENT.now;
-  add_terms = lit Null ∷ col 0 0 ∷ col 0 1 ∷ [];
-  source = λ s. Null ∷ urgent_cells s;
-}
-
--- its number is within its limit
-abbrev pub fits_urgent : UrgentRow → Bool
-fits_urgent s = is_between 1 ACTS_MAX s.act
+})
 
 -- that of a name
 abbrev pub urgents_of : Query UrgentRow (List ℕ) (List ℕ)
@@ -83,11 +72,14 @@ AreAllUrgents all t rows = AreRows {K = List ℕ} same_urgent urgent_key (λ k. 
 
 -- ---- what holds of them
 
+pub urgent_mapped : IsMapped urgent_mapping.columns 2 urgent_mapping urgents
+urgent_mapped = record { few = refl; cells = λ s. refl; has = λ r. refl; seen = λ r. refl; back = λ s. refl }
+
 add_is : AddIs urgents
 unfolding understood everything
 add_is rest = (refl, (refl, refl))
 
-at_order : (order : List ℕ) (r : Row) → is_urgent r ≡ true → passes (Text order ∷ []) urgents.tests r ≡ bytes_eq order (bytes (column r 1))
+at_order : (order : List ℕ) (r : Row) → urgents.is r ≡ true → passes (Text order ∷ []) urgents.tests r ≡ bytes_eq order (bytes (column r 1))
 at_order order r h = and_true _ ∙ same_word is_name (column r 1) (Text order) order (and_parts _ _ h).0 refl
 
 pub urgents_laws : IsLawful urgents

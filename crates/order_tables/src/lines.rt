@@ -2,69 +2,54 @@
 
 use crate::texts::{ADD_LINE, CHANGE_LINE, LINE_OF, LINES_OF_ORDER};
 use commands::LineRow;
-use keyed_rows::reading::{Sought, query_rows};
-use keyed_rows::running::count;
-use keyed_rows::table::{Changing, Table};
-use sqlite::{Alter, Row, Transaction};
-use std::alloc::Global;
-use table_words::columns::{count_at, gtin_at, name_at, number_at, of_gtin, of_name, of_number};
-use table_words::error::TableFault;
-use values::{Gtin, Name, QTY_MAX};
+use keyed_rows::mapped::Mapped;
+use keyed_rows::reading::SoughtBy;
+use keyed_rows::table::Changing;
+use table_words::column::{Count, Number, QTY};
+use values::{Gtin, Name};
 
 /// The table.
 pub struct Lines;
 
-impl Table for Lines {
-    ghost use Rattle.order_tables.specs.Lines.{lines, fits_line, lines_laws};
+impl Mapped for Lines {
+    ghost use Rattle.table_words.specs.Typed.{line_mapping};
+    ghost use Rattle.order_tables.specs.Lines.{lines, line_mapped, lines_laws};
 
     type Row = LineRow;
 
     type Key = (Name, Gtin);
 
-    ghost table = { lines };
+    type Parts = (Name, (Gtin, (Count<QTY>, Number<QTY>)));
 
-    ghost fits = { fits_line };
+    ghost mapping = { line_mapping };
 
-    ghost laws = { lines_laws };
+    ghost described = { lines };
+
+    ghost mapped = { line_mapped };
+
+    ghost mapped_laws = { lines_laws };
+
+    fn parts(row: &LineRow) -> Self::Parts {
+        let ordered = Count {
+            number: row.ordered,
+        };
+        let shipped = Number {
+            number: row.shipped,
+        };
+        (row.order, (row.gtin, (ordered, shipped)))
+    }
+
+    fn of((order, (gtin, (ordered, shipped))): Self::Parts) -> LineRow {
+        LineRow {
+            order,
+            gtin,
+            ordered: ordered.number,
+            shipped: shipped.number,
+        }
+    }
 
     fn add_text() -> &'static str {
         ADD_LINE
-    }
-
-    fn fits(row: &LineRow) -> bool {
-        let most = u64::from(QTY_MAX);
-        1 <= row.ordered && row.ordered <= most && row.shipped <= most
-    }
-
-    fn run<S: Alter>(
-        tx: &mut Transaction<'_, S>,
-        sql: &str,
-        row: &LineRow,
-    ) -> Result<usize, TableFault> {
-        let cells = [
-            of_name(&row.order),
-            of_gtin(&row.gtin),
-            of_number(row.ordered),
-            of_number(row.shipped),
-        ];
-        count(tx, sql, &cells)
-    }
-
-    fn read(_: Global, row: &Row) -> Result<LineRow, TableFault> {
-        match (
-            name_at(row, 0),
-            gtin_at(row, 1),
-            count_at(row, 2, u64::from(QTY_MAX)),
-            number_at(row, 3, u64::from(QTY_MAX)),
-        ) {
-            (Ok(order), Ok(gtin), Ok(ordered), Ok(shipped)) => Ok(LineRow {
-                order,
-                gtin,
-                ordered,
-                shipped,
-            }),
-            _ => Err(TableFault::Foreign),
-        }
     }
 }
 
@@ -80,48 +65,36 @@ impl Changing for Lines {
     }
 }
 
-impl Sought<Name> for Lines {
+impl SoughtBy<Name> for Lines {
+    ghost use Rattle.std.specs.Prelude.{refl};
     ghost use Rattle.order_tables.specs.Lines.{lines_of_order, AreLinesOfOrder, lines_of_order_laws};
 
-    ghost query = { lines_of_order };
+    ghost asks = { lines_of_order };
 
-    ghost are_of = { AreLinesOfOrder };
+    ghost answers = { AreLinesOfOrder };
 
-    ghost query_laws = { lines_of_order_laws };
+    ghost asked = { record { few = refl; fits = λ by may. refl; cells = λ by. refl } };
 
-    fn query_text(_: &Name) -> &'static str {
+    ghost asks_laws = { lines_of_order_laws };
+
+    fn asking_text() -> &'static str {
         LINES_OF_ORDER
-    }
-
-    fn run_query<S: Alter>(
-        alloc: Global,
-        tx: &mut Transaction<'_, S>,
-        sql: &str,
-        order: &Name,
-    ) -> Result<Vec<LineRow>, TableFault> {
-        query_rows::<Lines, S>(alloc, tx, sql, &[of_name(order)])
     }
 }
 
-impl Sought<(Name, Gtin)> for Lines {
+impl SoughtBy<(Name, Gtin)> for Lines {
+    ghost use Rattle.std.specs.Prelude.{refl};
     ghost use Rattle.order_tables.specs.Lines.{line_of, AreLineOf, line_of_laws};
 
-    ghost query = { line_of };
+    ghost asks = { line_of };
 
-    ghost are_of = { AreLineOf };
+    ghost answers = { AreLineOf };
 
-    ghost query_laws = { line_of_laws };
+    ghost asked = { record { few = refl; fits = λ by may. refl; cells = λ by. refl } };
 
-    fn query_text(_: &(Name, Gtin)) -> &'static str {
+    ghost asks_laws = { line_of_laws };
+
+    fn asking_text() -> &'static str {
         LINE_OF
-    }
-
-    fn run_query<S: Alter>(
-        alloc: Global,
-        tx: &mut Transaction<'_, S>,
-        sql: &str,
-        key: &(Name, Gtin),
-    ) -> Result<Vec<LineRow>, TableFault> {
-        query_rows::<Lines, S>(alloc, tx, sql, &[of_name(&key.0), of_gtin(&key.1)])
     }
 }

@@ -3,70 +3,52 @@
 use crate::texts::{ADD_ORDER, CHANGE_ORDER, OPEN_ORDERS, ORDERS_OF};
 use commands::limits::ACTS_MAX;
 use commands::{OrderRow, OrderState};
-use keyed_rows::reading::{Sought, query_rows};
-use keyed_rows::running::count;
-use keyed_rows::table::{Changing, Table};
-use sqlite::{Alter, Row, Transaction};
+use keyed_rows::mapped::Mapped;
+use keyed_rows::reading::{Sought, SoughtBy, query_rows};
+use keyed_rows::table::Changing;
+use sqlite::{Alter, Transaction};
 use std::alloc::Global;
-use table_words::columns::{
-    count_at, name_at, of_name, of_number, of_order_state, of_title, order_state_at, title_at,
-};
+use table_words::column::{Column, Count};
 use table_words::error::TableFault;
-use values::Name;
+use values::{Name, Title};
 
 /// The table.
 pub struct Orders;
 
-impl Table for Orders {
-    ghost use Rattle.order_tables.specs.Orders.{orders, fits_order, orders_laws};
+impl Mapped for Orders {
+    ghost use Rattle.table_words.specs.Typed.{order_mapping};
+    ghost use Rattle.order_tables.specs.Orders.{orders, order_mapped, orders_laws};
 
     type Row = OrderRow;
 
     type Key = Name;
 
-    ghost table = { orders };
+    type Parts = (Name, (Count<ACTS_MAX>, (Title, OrderState)));
 
-    ghost fits = { fits_order };
+    ghost mapping = { order_mapping };
 
-    ghost laws = { orders_laws };
+    ghost described = { orders };
+
+    ghost mapped = { order_mapped };
+
+    ghost mapped_laws = { orders_laws };
+
+    fn parts(row: &OrderRow) -> Self::Parts {
+        let act = Count { number: row.act };
+        (row.order, (act, (row.customer, row.state)))
+    }
+
+    fn of((order, (act, (customer, state))): Self::Parts) -> OrderRow {
+        OrderRow {
+            order,
+            act: act.number,
+            customer,
+            state,
+        }
+    }
 
     fn add_text() -> &'static str {
         ADD_ORDER
-    }
-
-    fn fits(row: &OrderRow) -> bool {
-        1 <= row.act && row.act <= ACTS_MAX
-    }
-
-    fn run<S: Alter>(
-        tx: &mut Transaction<'_, S>,
-        sql: &str,
-        row: &OrderRow,
-    ) -> Result<usize, TableFault> {
-        let cells = [
-            of_name(&row.order),
-            of_number(row.act),
-            of_title(&row.customer),
-            of_order_state(row.state),
-        ];
-        count(tx, sql, &cells)
-    }
-
-    fn read(_: Global, row: &Row) -> Result<OrderRow, TableFault> {
-        match (
-            name_at(row, 0),
-            count_at(row, 1, ACTS_MAX),
-            title_at(row, 2),
-            order_state_at(row, 3),
-        ) {
-            (Ok(order), Ok(act), Ok(customer), Ok(state)) => Ok(OrderRow {
-                order,
-                act,
-                customer,
-                state,
-            }),
-            _ => Err(TableFault::Foreign),
-        }
     }
 }
 
@@ -82,26 +64,20 @@ impl Changing for Orders {
     }
 }
 
-impl Sought<Name> for Orders {
+impl SoughtBy<Name> for Orders {
+    ghost use Rattle.std.specs.Prelude.{refl};
     ghost use Rattle.order_tables.specs.Orders.{orders_of, AreOrdersOf, orders_of_laws};
 
-    ghost query = { orders_of };
+    ghost asks = { orders_of };
 
-    ghost are_of = { AreOrdersOf };
+    ghost answers = { AreOrdersOf };
 
-    ghost query_laws = { orders_of_laws };
+    ghost asked = { record { few = refl; fits = λ by may. refl; cells = λ by. refl } };
 
-    fn query_text(_: &Name) -> &'static str {
+    ghost asks_laws = { orders_of_laws };
+
+    fn asking_text() -> &'static str {
         ORDERS_OF
-    }
-
-    fn run_query<S: Alter>(
-        alloc: Global,
-        tx: &mut Transaction<'_, S>,
-        sql: &str,
-        order: &Name,
-    ) -> Result<Vec<OrderRow>, TableFault> {
-        query_rows::<Orders, S>(alloc, tx, sql, &[of_name(order)])
     }
 }
 
@@ -127,6 +103,6 @@ impl Sought<Open> for Orders {
         sql: &str,
         _: &Open,
     ) -> Result<Vec<OrderRow>, TableFault> {
-        query_rows::<Orders, S>(alloc, tx, sql, &[of_order_state(OrderState::Open)])
+        query_rows::<Orders, S>(alloc, tx, sql, &[OrderState::Open.value()])
     }
 }

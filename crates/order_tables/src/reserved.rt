@@ -4,69 +4,48 @@ use crate::texts::{
     ADD_RESERVED, CHANGE_RESERVED, DROP_RESERVED, RESERVED_OF, RESERVED_OF_ITEM, RESERVED_OF_ORDER,
 };
 use commands::ReservedRow;
-use keyed_rows::reading::{Sought, query_rows};
-use keyed_rows::running::count;
-use keyed_rows::table::{Changing, Losing, Table};
-use sqlite::{Alter, Row, Transaction};
-use std::alloc::Global;
-use table_words::columns::{
-    count_at, gtin_at, lot_at, name_at, of_gtin, of_lot, of_name, of_number,
-};
-use table_words::error::TableFault;
-use values::{Gtin, LotId, Name, QTY_MAX};
+use keyed_rows::mapped::Mapped;
+use keyed_rows::reading::SoughtBy;
+use keyed_rows::table::{Changing, Losing};
+use table_words::column::{Count, QTY};
+use values::{Gtin, Lot, LotId, Name};
 
 /// The table.
 pub struct Reserved;
 
-impl Table for Reserved {
-    ghost use Rattle.order_tables.specs.Reserved.{reserved, fits_reserved, reserved_laws};
+impl Mapped for Reserved {
+    ghost use Rattle.table_words.specs.Typed.{reserved_mapping};
+    ghost use Rattle.order_tables.specs.Reserved.{reserved, reserved_mapped, reserved_laws};
 
     type Row = ReservedRow;
 
     type Key = (Name, LotId);
 
-    ghost table = { reserved };
+    type Parts = (Name, (Gtin, (Lot, Count<QTY>)));
 
-    ghost fits = { fits_reserved };
+    ghost mapping = { reserved_mapping };
 
-    ghost laws = { reserved_laws };
+    ghost described = { reserved };
+
+    ghost mapped = { reserved_mapped };
+
+    ghost mapped_laws = { reserved_laws };
+
+    fn parts(row: &ReservedRow) -> Self::Parts {
+        let qty = Count { number: row.qty };
+        (row.order, (row.lot.gtin, (row.lot.lot, qty)))
+    }
+
+    fn of((order, (gtin, (lot, qty))): Self::Parts) -> ReservedRow {
+        ReservedRow {
+            order,
+            lot: LotId { gtin, lot },
+            qty: qty.number,
+        }
+    }
 
     fn add_text() -> &'static str {
         ADD_RESERVED
-    }
-
-    fn fits(row: &ReservedRow) -> bool {
-        1 <= row.qty && row.qty <= u64::from(QTY_MAX)
-    }
-
-    fn run<S: Alter>(
-        tx: &mut Transaction<'_, S>,
-        sql: &str,
-        row: &ReservedRow,
-    ) -> Result<usize, TableFault> {
-        let cells = [
-            of_name(&row.order),
-            of_gtin(&row.lot.gtin),
-            of_lot(&row.lot.lot),
-            of_number(row.qty),
-        ];
-        count(tx, sql, &cells)
-    }
-
-    fn read(_: Global, row: &Row) -> Result<ReservedRow, TableFault> {
-        match (
-            name_at(row, 0),
-            gtin_at(row, 1),
-            lot_at(row, 2),
-            count_at(row, 3, u64::from(QTY_MAX)),
-        ) {
-            (Ok(order), Ok(gtin), Ok(lot), Ok(qty)) => Ok(ReservedRow {
-                order,
-                lot: LotId { gtin, lot },
-                qty,
-            }),
-            _ => Err(TableFault::Foreign),
-        }
     }
 }
 
@@ -83,97 +62,77 @@ impl Changing for Reserved {
 }
 
 impl Losing for Reserved {
+    ghost use Rattle.std.specs.Prelude.{refl};
     ghost use Rattle.order_tables.specs.declared.texts.TheConstants.{DROP_RESERVED};
+    ghost use Rattle.table_words.specs.Typed.{reserved_key};
     ghost use Rattle.order_tables.specs.Reserved.{drop_is};
+
+    type Keys = (Name, LotId);
+
+    ghost keys = { reserved_key };
 
     ghost drop = { DROP_RESERVED.now };
 
+    ghost keyed = { record { few = refl; fits = λ s. refl; cells = λ s. refl } };
+
     ghost drop_laws = { drop_is };
+
+    fn keys(row: &ReservedRow) -> (Name, LotId) {
+        (row.order, row.lot)
+    }
 
     fn drop_text() -> &'static str {
         DROP_RESERVED
     }
-
-    fn run_key<S: Alter>(
-        tx: &mut Transaction<'_, S>,
-        sql: &str,
-        row: &ReservedRow,
-    ) -> Result<usize, TableFault> {
-        let cells = [
-            of_name(&row.order),
-            of_gtin(&row.lot.gtin),
-            of_lot(&row.lot.lot),
-        ];
-        count(tx, sql, &cells)
-    }
 }
 
-impl Sought<Gtin> for Reserved {
+impl SoughtBy<Gtin> for Reserved {
+    ghost use Rattle.std.specs.Prelude.{refl};
     ghost use Rattle.order_tables.specs.Reserved.{reserved_of_item, AreReservedOfItem, reserved_of_item_laws};
 
-    ghost query = { reserved_of_item };
+    ghost asks = { reserved_of_item };
 
-    ghost are_of = { AreReservedOfItem };
+    ghost answers = { AreReservedOfItem };
 
-    ghost query_laws = { reserved_of_item_laws };
+    ghost asked = { record { few = refl; fits = λ by may. refl; cells = λ by. refl } };
 
-    fn query_text(_: &Gtin) -> &'static str {
+    ghost asks_laws = { reserved_of_item_laws };
+
+    fn asking_text() -> &'static str {
         RESERVED_OF_ITEM
     }
-
-    fn run_query<S: Alter>(
-        alloc: Global,
-        tx: &mut Transaction<'_, S>,
-        sql: &str,
-        gtin: &Gtin,
-    ) -> Result<Vec<ReservedRow>, TableFault> {
-        query_rows::<Reserved, S>(alloc, tx, sql, &[of_gtin(gtin)])
-    }
 }
 
-impl Sought<Name> for Reserved {
+impl SoughtBy<Name> for Reserved {
+    ghost use Rattle.std.specs.Prelude.{refl};
     ghost use Rattle.order_tables.specs.Reserved.{reserved_of_order, AreReservedOfOrder, reserved_of_order_laws};
 
-    ghost query = { reserved_of_order };
+    ghost asks = { reserved_of_order };
 
-    ghost are_of = { AreReservedOfOrder };
+    ghost answers = { AreReservedOfOrder };
 
-    ghost query_laws = { reserved_of_order_laws };
+    ghost asked = { record { few = refl; fits = λ by may. refl; cells = λ by. refl } };
 
-    fn query_text(_: &Name) -> &'static str {
+    ghost asks_laws = { reserved_of_order_laws };
+
+    fn asking_text() -> &'static str {
         RESERVED_OF_ORDER
-    }
-
-    fn run_query<S: Alter>(
-        alloc: Global,
-        tx: &mut Transaction<'_, S>,
-        sql: &str,
-        order: &Name,
-    ) -> Result<Vec<ReservedRow>, TableFault> {
-        query_rows::<Reserved, S>(alloc, tx, sql, &[of_name(order)])
     }
 }
 
-impl Sought<(Name, LotId)> for Reserved {
+impl SoughtBy<(Name, LotId)> for Reserved {
+    ghost use Rattle.std.specs.Prelude.{refl};
     ghost use Rattle.order_tables.specs.Reserved.{reserved_of, AreReservedOf, reserved_of_laws};
 
-    ghost query = { reserved_of };
+    ghost asks = { reserved_of };
 
-    ghost are_of = { AreReservedOf };
+    ghost answers = { AreReservedOf };
 
-    ghost query_laws = { reserved_of_laws };
+    ghost asked = { record { few = refl; fits = λ by may. refl; cells = λ by. refl } };
 
-    fn query_text(_: &(Name, LotId)) -> &'static str {
+    ghost asks_laws = { reserved_of_laws };
+
+    fn asking_text() -> &'static str {
         RESERVED_OF
-    }
-
-    fn run_query<S: Alter>(
-        alloc: Global,
-        tx: &mut Transaction<'_, S>,
-        sql: &str,
-        key: &(Name, LotId),
-    ) -> Result<Vec<ReservedRow>, TableFault> {
-        let cells = [of_name(&key.0), of_gtin(&key.1.gtin), of_lot(&key.1.lot)];
-        query_rows::<Reserved, S>(alloc, tx, sql, &cells)
     }
 }

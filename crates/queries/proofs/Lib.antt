@@ -3,4 +3,4 @@ pub mod OrderRight
 pub mod StockRight
 pub mod ShortRight
 pub mod KnownTold
-pub mod ShippedRead
+pub mod Asked

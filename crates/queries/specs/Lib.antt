@@ -1,3 +1,4 @@
+pub mod Asked
 pub mod ByOrder
 pub mod ShownOrders
 pub mod ShownStock

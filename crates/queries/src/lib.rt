@@ -1,8 +1,9 @@
 //! Queries: the rows by which something is shown, read from the tables by seeks, and what is shown of them.
 #![tactic(auto)]
 
+mod all_open;
+mod by_item;
 mod by_order;
-mod open_orders;
 mod query;
 mod reading;
 mod shipped;
@@ -12,7 +13,7 @@ mod shown_orders;
 mod shown_shorts;
 mod shown_stock;
 
-pub use query::{Query, find};
+pub use query::Query;
 pub use shipped::read_shipped;
 pub use shown_acts::ActsQuery;
 pub use shown_heads::{CardHeadQuery, NoticeHeadQuery};

@@ -3,6 +3,7 @@
 ghost use Rattle.std.specs.Prelude.{◌≡◌, []};
 ghost use Rattle.sqlite.specs.Held.{state};
 ghost use Rattle.known_reads.specs.Reading.{IsRead};
+ghost use Rattle.slices.specs.Remembering.{Learning};
 ghost use Rattle.slices.specs.ByLot.{AreLotsOf, AreStockOf};
 ghost use Rattle.slices.specs.Slicing.{AreBins, AreLeast, with_names};
 ghost use Rattle.queries.specs.ShownOrders.{booked_lots as booked_lots_lem, reserved_lots as reserved_lots_lem, AreOrderLines, AreOfOrder};
@@ -14,88 +15,90 @@ use commands::{
     BinRow, LeastRow, LineRow, LotRow, OrderRow, OrderView, Refusal, ReservedRow, StagedRow,
     StockRow,
 };
-use goods_tables::bins::Bins;
-use goods_tables::least::Least;
-use goods_tables::lots::Lots;
-use goods_tables::stock::Stock;
 use label::BusinessDay;
-use order_tables::lines::Lines;
 use order_tables::urgents::Urgents;
 use rules::Rows;
-use slice_parts::item_rows::of_order;
-use slice_parts::lot_names::{booked_lots, reserved_lots};
-use slice_parts::naming::{bins_of_stock, items_of_rows};
-use slices::{read_rows, seek_all};
+use slice_lists::command_names::{bins_of_stock, items_of_rows};
+use slice_lists::item_rows::of_order;
+use slice_lists::lot_names::{booked_lots, reserved_lots};
+use slices::{
+    Known, RowsKnown, read_rows, seek_bins, seek_least, seek_lines, seek_lots, seek_stock_of_lots,
+};
 use sqlite::{Alter, Transaction};
 use std::alloc::{AllocError, Global};
 use table_words::error::TableFault;
-use values::{Gtin, LotId, Name};
+use values::Name;
 use views::order_view;
 
 /// The lots of staged and of reserved units.
 fn read_booked_lots<S: Alter>(
     alloc: Global,
     tx: &mut Transaction<'_, S>,
+    rows: &mut RowsKnown,
     staged: &[StagedRow],
     reserved: &[ReservedRow],
 ) -> Result<Vec<LotRow>, TableFault>
     ensures same_reference { tx.new.conn.ghost_name ≡ tx.old.conn.ghost_name }
-    ensures read { IsRead (λ t rows. AreLotsOf (booked_lots_lem staged.now reserved.now) t rows.items) (state S.Store tx.old.conn.now) (state S.Store tx.new.conn.now) result }
+    ensures read { IsRead (Learning rows.old rows.new (λ t found. AreLotsOf (booked_lots_lem staged.now reserved.now) t found.items)) (state S.Store tx.old.conn.now) (state S.Store tx.new.conn.now) result }
 {
     let lots = booked_lots(alloc, staged, reserved)?;
-    seek_all::<Lots, LotId, S>(alloc, tx, lots.as_slice())
+    seek_lots(alloc, tx, rows, lots.as_slice())
 }
 
 /// The stock of the lots of reserved units.
 fn read_reserved_stock<S: Alter>(
     alloc: Global,
     tx: &mut Transaction<'_, S>,
+    rows: &RowsKnown,
     reserved: &[ReservedRow],
 ) -> Result<Vec<StockRow>, TableFault>
     ensures same_reference { tx.new.conn.ghost_name ≡ tx.old.conn.ghost_name }
-    ensures read { IsRead (λ t rows. AreStockOf (reserved_lots_lem reserved.now) t rows.items) (state S.Store tx.old.conn.now) (state S.Store tx.new.conn.now) result }
+    ensures read { IsRead (Learning rows.now rows.now (λ t found. AreStockOf (reserved_lots_lem reserved.now) t found.items)) (state S.Store tx.old.conn.now) (state S.Store tx.new.conn.now) result }
 {
     let lots = reserved_lots(alloc, reserved)?;
-    seek_all::<Stock, LotId, S>(alloc, tx, lots.as_slice())
+    seek_stock_of_lots(alloc, tx, rows, lots.as_slice())
 }
 
 /// The bins that hold the stock.
 fn read_stock_bins<S: Alter>(
     alloc: Global,
     tx: &mut Transaction<'_, S>,
+    rows: &mut RowsKnown,
     stock: &[StockRow],
 ) -> Result<Vec<BinRow>, TableFault>
     ensures same_reference { tx.new.conn.ghost_name ≡ tx.old.conn.ghost_name }
-    ensures read { IsRead (λ t rows. AreBins (with_names (λ r. r.bin) stock.now []) t rows.items) (state S.Store tx.old.conn.now) (state S.Store tx.new.conn.now) result }
+    ensures read { IsRead (Learning rows.old rows.new (λ t found. AreBins (with_names (λ r. r.bin) stock.now []) t found.items)) (state S.Store tx.old.conn.now) (state S.Store tx.new.conn.now) result }
 {
     let names = bins_of_stock(alloc, stock)?;
-    seek_all::<Bins, Name, S>(alloc, tx, names.as_slice())
+    seek_bins(alloc, tx, rows, names.as_slice())
 }
 
 /// What the items of the lines ask for.
 fn read_least<S: Alter>(
     alloc: Global,
     tx: &mut Transaction<'_, S>,
+    rows: &mut RowsKnown,
     lines: &[LineRow],
 ) -> Result<Vec<LeastRow>, TableFault>
     ensures same_reference { tx.new.conn.ghost_name ≡ tx.old.conn.ghost_name }
-    ensures read { IsRead (λ t rows. AreLeast (with_names (λ r. r.gtin) lines.now []) t rows.items) (state S.Store tx.old.conn.now) (state S.Store tx.new.conn.now) result }
+    ensures read { IsRead (Learning rows.old rows.new (λ t found. AreLeast (with_names (λ r. r.gtin) lines.now []) t found.items)) (state S.Store tx.old.conn.now) (state S.Store tx.new.conn.now) result }
 {
     let gtins = items_of_rows(alloc, lines)?;
-    seek_all::<Least, Gtin, S>(alloc, tx, gtins.as_slice())
+    seek_least(alloc, tx, rows, gtins.as_slice())
 }
 
 /// The lines of the order, and what their items ask for.
 fn read_lines<S: Alter>(
     alloc: Global,
     tx: &mut Transaction<'_, S>,
+    rows: &mut RowsKnown,
     order: &Name,
 ) -> Result<(Vec<LineRow>, Vec<LeastRow>), TableFault>
     ensures same_reference { tx.new.conn.ghost_name ≡ tx.old.conn.ghost_name }
-    ensures read { IsRead (λ t rows. AreOrderLines order.now t rows.0.items × AreLeast (with_names (λ r. r.gtin) rows.0.items []) t rows.1.items) (state S.Store tx.old.conn.now) (state S.Store tx.new.conn.now) result }
+    ensures read { IsRead (Learning rows.old rows.new (λ t found. AreOrderLines order.now t found.0.items × AreLeast (with_names (λ r. r.gtin) found.0.items []) t found.1.items)) (state S.Store tx.old.conn.now) (state S.Store tx.new.conn.now) result }
 {
-    let lines = read_rows::<Lines, Name, S>(alloc, tx, order)?;
-    let least = read_least(alloc, tx, lines.as_slice())?;
+    let lines = seek_lines(alloc, tx, rows, &[*order])?;
+    let least = read_least(alloc, tx, rows, lines.as_slice())?;
     Ok((lines, least))
 }
 
@@ -104,16 +107,17 @@ fn read_lines<S: Alter>(
 fn read_rows_of<S: Alter>(
     alloc: Global,
     tx: &mut Transaction<'_, S>,
+    rows: &mut RowsKnown,
     order: &Name,
 ) -> Result<Rows, TableFault>
     ensures same_reference { tx.new.conn.ghost_name ≡ tx.old.conn.ghost_name }
-    ensures read { IsRead (λ t rows. AreOfOrder order.now t rows) (state S.Store tx.old.conn.now) (state S.Store tx.new.conn.now) result }
+    ensures read { IsRead (Learning rows.old rows.new (λ t found. AreOfOrder order.now t found)) (state S.Store tx.old.conn.now) (state S.Store tx.new.conn.now) result }
 {
-    let (lines, least) = read_lines(alloc, tx, order)?;
+    let (lines, least) = read_lines(alloc, tx, rows, order)?;
     let (staged, reserved) = booked_for(alloc, tx, order)?;
-    let lots = read_booked_lots(alloc, tx, staged.as_slice(), reserved.as_slice())?;
-    let stock = read_reserved_stock(alloc, tx, reserved.as_slice())?;
-    let bins = read_stock_bins(alloc, tx, stock.as_slice())?;
+    let lots = read_booked_lots(alloc, tx, rows, staged.as_slice(), reserved.as_slice())?;
+    let stock = read_reserved_stock(alloc, tx, rows, reserved.as_slice())?;
+    let bins = read_stock_bins(alloc, tx, rows, stock.as_slice())?;
     let urgents = read_rows::<Urgents, Name, S>(alloc, tx, order)?;
     Ok(of_order(
         alloc, lines, staged, reserved, lots, stock, bins, least, urgents,
@@ -135,8 +139,6 @@ impl Query for OrderQuery {
 
     type View = OrderView;
 
-    ghost suits = { λ q t. Unit {0} };
-
     ghost is_in = { λ q t found. IsOrderIn q.order t found };
 
     ghost shown = { λ first acts q. order_shown first acts q.order };
@@ -147,12 +149,14 @@ impl Query for OrderQuery {
         &self,
         alloc: Global,
         tx: &mut Transaction<'_, S>,
+        _known: Option<&Known>,
+        rows: &mut RowsKnown,
     ) -> Result<Result<(OrderRow, Rows), Refusal>, TableFault> {
-        let known = order_row(alloc, tx, &self.order)?;
-        match known {
+        let order = order_row(alloc, tx, rows, &self.order)?;
+        match order {
             Some(row) => {
-                let rows = read_rows_of(alloc, tx, &self.order)?;
-                Ok(Ok((row, rows)))
+                let found = read_rows_of(alloc, tx, rows, &self.order)?;
+                Ok(Ok((row, found)))
             }
             None => Ok(Err(Refusal::UnknownOrder)),
         }

@@ -4,16 +4,18 @@ ghost use Rattle.std.specs.Prelude.{◌≡◌};
 ghost use Rattle.std.specs.Option.{option_copied};
 ghost use Rattle.sqlite.specs.Held.{state};
 ghost use Rattle.known_reads.specs.Reading.{IsRead};
+ghost use Rattle.slices.specs.Remembering.{Learning};
 ghost use Rattle.queries.specs.ShownShort.{AreOrderedFor, AreUrgentFor, AreOfDemands};
 
-use crate::open_orders::{read_orders, urgents_of};
+use crate::all_open::{read_orders, urgents_of};
+use crate::by_item::booked_of;
 use crate::query::Query;
-use crate::shown_stock::item_row;
+use crate::reading::item_row;
 use commands::{ItemRow, LineRow, OrderRow, Refusal, ShortView, UrgentRow};
 use label::BusinessDay;
 use rules::Rows;
-use slice_parts::item_rows::of_demands;
-use slices::{Known, RowsKnown, read_booked, read_known_orders, read_urgents};
+use slice_lists::item_rows::of_demands;
+use slices::{Known, RowsKnown, read_known_orders, read_urgents};
 use sqlite::{Alter, Transaction};
 use std::alloc::{AllocError, Global};
 use table_words::error::TableFault;
@@ -26,19 +28,15 @@ fn read_ordered<S: Alter>(
     alloc: Global,
     tx: &mut Transaction<'_, S>,
     known: Option<&Known>,
+    rows: &mut RowsKnown,
     gtin: &Gtin,
 ) -> Result<(Vec<OrderRow>, Vec<LineRow>), TableFault>
     ensures same_reference { tx.new.conn.ghost_name ≡ tx.old.conn.ghost_name }
-    ensures read { IsRead (λ t rows. AreOrderedFor (option_copied known.entry) gtin.now t rows.0.items rows.1.items) (state S.Store tx.old.conn.now) (state S.Store tx.new.conn.now) result }
+    ensures read { IsRead (Learning rows.old rows.new (λ t found. AreOrderedFor (option_copied known.entry) gtin.now t found.0.items found.1.items)) (state S.Store tx.old.conn.now) (state S.Store tx.new.conn.now) result }
 {
     let gtins = [*gtin];
     match known {
-        Some(known) => {
-            let mut rows = RowsKnown::new(alloc);
-            let found = read_known_orders(alloc, tx, &known.lines, &mut rows, &[], &gtins);
-            drop(rows);
-            found
-        }
+        Some(known) => read_known_orders(alloc, tx, &known.lines, rows, &[], &gtins),
         None => read_orders(alloc, tx, &[], &gtins),
     }
 }
@@ -65,53 +63,51 @@ fn read_demands<S: Alter>(
     alloc: Global,
     tx: &mut Transaction<'_, S>,
     known: Option<&Known>,
+    rows: &mut RowsKnown,
     gtin: &Gtin,
 ) -> Result<Rows, TableFault>
     ensures same_reference { tx.new.conn.ghost_name ≡ tx.old.conn.ghost_name }
-    ensures read { IsRead (λ t rows. AreOfDemands (option_copied known.entry) gtin.now t rows) (state S.Store tx.old.conn.now) (state S.Store tx.new.conn.now) result }
+    ensures read { IsRead (Learning rows.old rows.new (λ t found. AreOfDemands (option_copied known.entry) gtin.now t found)) (state S.Store tx.old.conn.now) (state S.Store tx.new.conn.now) result }
 {
-    let (orders, lines) = read_ordered(alloc, tx, known, gtin)?;
+    let (orders, lines) = read_ordered(alloc, tx, known, rows, gtin)?;
     let urgents = read_urgent_ones(alloc, tx, known, gtin, orders.as_slice())?;
-    let (staged, reserved) = read_booked(alloc, tx, &[*gtin])?;
+    let (staged, reserved) = booked_of(alloc, tx, rows, gtin)?;
     Ok(of_demands(alloc, orders, lines, staged, reserved, urgents))
 }
 
 /// The bookings of an item that are short, by its GTIN.
 #[derive(Clone, Copy)]
-pub struct ShortQuery<'a> {
+pub struct ShortQuery {
     pub gtin: Gtin,
-    /// What is known of the books, if anything is.
-    pub known: Option<&'a Known>,
 }
 
-impl<'a> Query for ShortQuery<'a> {
-    ghost use Rattle.std.specs.Option.{option_copied};
+impl Query for ShortQuery {
     ghost use Rattle.machine.specs.Queries.{short_shown};
-    ghost use Rattle.queries.specs.ShownShort.{IsKnownOf, IsShortIn};
+    ghost use Rattle.queries.specs.ShownShort.{IsShortIn};
     ghost use Rattle.queries.specs.Refused.{short_refused};
 
     type Found = (ItemRow, Rows);
 
     type View = ShortView;
 
-    ghost suits = { λ q t. IsKnownOf (option_copied q.known) t };
-
-    ghost is_in = { λ q t found. IsShortIn (option_copied q.known) q.gtin t found };
+    ghost is_in = { λ q t found. IsShortIn q.gtin t found };
 
     ghost shown = { λ first acts q. short_shown first acts q.gtin };
 
-    ghost refused = { λ first acts q why found. short_refused first acts (option_copied q.known) q.gtin why found };
+    ghost refused = { λ first acts q why found. short_refused first acts q.gtin why found };
 
     fn read<S: Alter>(
         &self,
         alloc: Global,
         tx: &mut Transaction<'_, S>,
+        known: Option<&Known>,
+        rows: &mut RowsKnown,
     ) -> Result<Result<(ItemRow, Rows), Refusal>, TableFault> {
-        let known = item_row(alloc, tx, &self.gtin)?;
-        match known {
+        let item = item_row(alloc, tx, rows, &self.gtin)?;
+        match item {
             Some(row) => {
-                let rows = read_demands(alloc, tx, self.known, &self.gtin)?;
-                Ok(Ok((row, rows)))
+                let found = read_demands(alloc, tx, known, rows, &self.gtin)?;
+                Ok(Ok((row, found)))
             }
             None => Ok(Err(Refusal::UnknownItem)),
         }

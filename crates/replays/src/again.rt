@@ -4,12 +4,11 @@ ghost use Rattle.std.specs.Prelude.{◌∷◌, ℤ, List, OnOk, OnErr, IsTrue};
 ghost use Rattle.sqlite.specs.Held.{state};
 ghost use Rattle.sqlite.specs.State.{Survives};
 ghost use Rattle.machine.specs.Acts.{Act};
-ghost use Rattle.machine.specs.Once.{IsHistory, is_key_of as is_key_of_lem, acts_after};
+ghost use Rattle.machine.specs.Once.{IsHistory, is_key_of, acts_after};
 ghost use Rattle.store.specs.Books.{HoldsBooks, KeepsBooks, AreBooks, LeavesOnly, IsClean};
 ghost use Rattle.replays.specs.Replaying.{IsReplayed};
 
 use crate::NotReplayed;
-use crate::kind::is_key_of;
 use commands::laws::{every_command_is_sound, every_key_is_sound};
 use commands::{Command, Key, Refusal};
 use sqlite::Alter;
@@ -31,11 +30,11 @@ pub fn act_again<S: Alter>(
         → OnErr result (HoldsBooks S.Store first acts books.new) }
     ensures kept { IsClean S.Store books.new → (first : ℤ) (acts : List Act) → IsHistory first acts → HoldsBooks S.Store first acts books.old
         → OnOk result (LeavesOnly first (record { key = key.now; command = command.now } ∷ acts) (state S.Store books.new.conn)) }
-    ensures survives { Survives (state S.Store books.old.conn) (state S.Store books.new.conn) (λ trees. IsTrue (is_key_of_lem key.now command.now)
+    ensures survives { Survives (state S.Store books.old.conn) (state S.Store books.new.conn) (λ trees. IsTrue (is_key_of key.now command.now)
         → (first : ℤ) (acts : List Act) → IsHistory first acts → KeepsBooks first acts (state S.Store books.old.conn)
         → AreBooks first (acts_after first acts (record { key = key.now; command = command.now })) trees) }
 {
-    if !is_key_of(key, command) {
+    if !key.is_of(command) {
         return Err(NotReplayed::Unspelled { act: number });
     }
     every_key_is_sound(*key);

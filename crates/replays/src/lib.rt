@@ -3,7 +3,6 @@
 
 mod again;
 mod fault;
-mod kind;
 pub mod laws;
 mod order;
 mod progress;
@@ -12,7 +11,6 @@ mod start;
 
 pub use again::act_again;
 pub use fault::NotReplayed;
-pub use kind::is_key_of;
 pub use order::by_act;
 pub use progress::Progress;
 pub use rows::replay_rows;

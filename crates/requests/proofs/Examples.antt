@@ -9,13 +9,13 @@ use Rattle.requests.specs.Routes.{table, route_of}
 use Rattle.requests.specs.Head.{length_value, body_length}
 use Rattle.requests.specs.Requests.{read_ask, second_segment, third_segment, query_of}
 use Rattle.requests.specs.Fields.{whole_at, delta_at}
-use Rattle.requests.specs.Bodies.{item_of, count_of, least_of, body_of}
+use Rattle.requests.specs.Bodies.{body_of}
 use Rattle.commands.specs.declared.key.Key.TheVariants.{Plain}
 use Rattle.commands.specs.declared.command.Command.TheVariants.{Item, Count, Least, Urgent}
 use Rattle.requests.specs.declared.fault.WireFault.TheVariants.{Length, Path, Field, TooLarge, Method as OtherMethod}
 use Rattle.requests.specs.declared.method.Method.TheVariants.{Get, Post}
 use Rattle.requests.specs.declared.routes.Route.TheVariants.{Post as PostTo, Get as GetOf}
-use Rattle.requests.specs.declared.routes.Posted.TheVariants.{Items, Bins, Receipts, Orders, Recalls, Days, Leasts, Urgents, GoodsIn}
+use Rattle.requests.specs.declared.routes.Posted.TheVariants.{Items, Bins, Receipts, Counts, Orders, Recalls, Days, Leasts, Urgents, GoodsIn}
 use Rattle.requests.specs.declared.routes.Shown.TheVariants.{Order as AnOrder, Stock as TheStock, PickList as APickList, Shortages as TheShortages, Card, Notice as ANotice}
 use Rattle.requests.specs.declared.ask.Ask.TheVariants.{Do, GoodsIn as FileOf}
 use Rattle.requests.specs.declared.ask.Query.TheVariants.{Card as CardOf}
@@ -173,16 +173,16 @@ a_coding = refl
 
 -- bodies
 
-pub an_item : option_map item_of (read (codes "{\"key\":\"K-1\",\"gtin\":\"09506000134352\",\"name\":\"Oat drink\"}"))
+pub an_item : option_map (body_of Items) (read (codes "{\"key\":\"K-1\",\"gtin\":\"09506000134352\",\"name\":\"Oat drink\"}"))
     ≡ Some (Some (Do (Plain (codes "K-1")) (Item (record { gtin = codes "09506000134352"; name = codes "Oat drink" }))))
 unfolding serde_json_on_literals
 an_item = refl
 
-pub a_field_more : option_map item_of (read (codes "{\"key\":\"K-1\",\"gtin\":\"09506000134352\",\"name\":\"Oat drink\",\"kind\":\"HOLD\"}")) ≡ Some None
+pub a_field_more : option_map (body_of Items) (read (codes "{\"key\":\"K-1\",\"gtin\":\"09506000134352\",\"name\":\"Oat drink\",\"kind\":\"HOLD\"}")) ≡ Some None
 unfolding serde_json_on_literals
 a_field_more = refl
 
-pub nothing_is_counted : option_map count_of (read (codes "{\"key\":\"K-1\",\"gtin\":\"09506000134352\",\"lot\":\"L1\",\"bin\":\"A-01\",\"qty\":0}"))
+pub nothing_is_counted : option_map (body_of Counts) (read (codes "{\"key\":\"K-1\",\"gtin\":\"09506000134352\",\"lot\":\"L1\",\"bin\":\"A-01\",\"qty\":0}"))
     ≡ Some (Some (Do (Plain (codes "K-1"))
     (Count (record { lot = record { gtin = codes "09506000134352"; lot = codes "L1" }; bin = codes "A-01"; qty = 0 }))))
 unfolding serde_json_on_literals
@@ -196,7 +196,7 @@ pub a_change_of_nothing : option_map (delta_at (codes "change")) (read (codes "{
 unfolding serde_json_on_literals
 a_change_of_nothing = refl
 
-pub least_days : option_map least_of (read (codes "{\"key\":\"K-1\",\"gtin\":\"09506000134352\",\"days\":3650}"))
+pub least_days : option_map (body_of Leasts) (read (codes "{\"key\":\"K-1\",\"gtin\":\"09506000134352\",\"days\":3650}"))
     ≡ Some (Some (Do (Plain (codes "K-1")) (Least (record { gtin = codes "09506000134352"; days = 3650 }))))
 unfolding serde_json_on_literals
 least_days = refl
@@ -208,23 +208,23 @@ unfolding serde_json_on_literals
 an_urgent_order = refl
 
 -- `days` is no text, no fraction, not below 0 and not above 3,650, and has to be there
-pub days_as_a_text : option_map least_of (read (codes "{\"key\":\"K-1\",\"gtin\":\"09506000134352\",\"days\":\"7\"}")) ≡ Some None
+pub days_as_a_text : option_map (body_of Leasts) (read (codes "{\"key\":\"K-1\",\"gtin\":\"09506000134352\",\"days\":\"7\"}")) ≡ Some None
 unfolding serde_json_on_literals
 days_as_a_text = refl
 
-pub half_a_day : option_map least_of (read (codes "{\"key\":\"K-1\",\"gtin\":\"09506000134352\",\"days\":0.5}")) ≡ Some None
+pub half_a_day : option_map (body_of Leasts) (read (codes "{\"key\":\"K-1\",\"gtin\":\"09506000134352\",\"days\":0.5}")) ≡ Some None
 unfolding serde_json_on_literals
 half_a_day = refl
 
-pub days_below_none : option_map least_of (read (codes "{\"key\":\"K-1\",\"gtin\":\"09506000134352\",\"days\":-1}")) ≡ Some None
+pub days_below_none : option_map (body_of Leasts) (read (codes "{\"key\":\"K-1\",\"gtin\":\"09506000134352\",\"days\":-1}")) ≡ Some None
 unfolding serde_json_on_literals
 days_below_none = refl
 
-pub days_above_ten_years : option_map least_of (read (codes "{\"key\":\"K-1\",\"gtin\":\"09506000134352\",\"days\":3651}")) ≡ Some None
+pub days_above_ten_years : option_map (body_of Leasts) (read (codes "{\"key\":\"K-1\",\"gtin\":\"09506000134352\",\"days\":3651}")) ≡ Some None
 unfolding serde_json_on_literals
 days_above_ten_years = refl
 
-pub no_days : option_map least_of (read (codes "{\"key\":\"K-1\",\"gtin\":\"09506000134352\"}")) ≡ Some None
+pub no_days : option_map (body_of Leasts) (read (codes "{\"key\":\"K-1\",\"gtin\":\"09506000134352\"}")) ≡ Some None
 unfolding serde_json_on_literals
 no_days = refl
 

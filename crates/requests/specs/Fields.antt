@@ -1,10 +1,9 @@
 -- JSON, and the fields of an object, each read by the rule of its value: steps 8 and 9 of `Requests`.
 use Rattle.std.specs.Prelude.{ℕ, ℤ, List, codes, Bool, false, ◌==◌, if◌then◌else◌, Option, Some, None, option_map, option_and_then}
 use Rattle.std.specs.Str.{is_utf8}
-use Rattle.values.specs.Values.{checked, is_name, is_title, is_gtin, is_lot_text, is_qty, is_counted, is_delta, is_line_no}
+use Rattle.values.specs.Values.{checked, is_name, is_title, is_gtin, is_lot_text, is_qty, is_counted, is_delta, is_line_no, is_least_days}
 use Rattle.label.specs.Days.{is_business_day, parsed_day}
 use Rattle.values.specs.declared.lot.LotId.{LotId}
-use Rattle.commands.specs.Limits.{is_least_days}
 use Rattle.commands.specs.Words.{bin_kind_of}
 use Rattle.commands.specs.declared.command.BinKind.{BinKind}
 use Rattle.serde_json.specs.Data.{Data}

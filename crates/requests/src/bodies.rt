@@ -1,6 +1,6 @@
 ghost use Rattle.std.specs.Prelude.{◌≡◌, ◌≢◌, Some, None, IfOk, IfErr};
 ghost use Rattle.serde_json.specs.View.{view, items_view};
-ghost use Rattle.requests.specs.Bodies.{item_of as item_of_lem, bin_of as bin_of_lem, scan_of as scan_of_lem, move_of as move_of_lem, count_of as count_of_lem, adjustment_of as adjustment_of_lem, day_of as day_of_lem, least_of as least_of_lem, line_of as line_of_lem, lines_of as lines_of_lem, lines_at as lines_at_lem, lot_asked as lot_asked_lem, new_order_asked as new_order_asked_lem, order_asked as order_asked_lem, picking_asked as picking_asked_lem, body_of as body_of_lem};
+ghost use Rattle.requests.specs.Bodies.{item_of as item_of_lem, bin_of as bin_of_lem, scan_of as scan_of_lem, move_of as move_of_lem, count_of as count_of_lem, adjustment_of as adjustment_of_lem, day_of as day_of_lem, least_of as least_of_lem, line_of as line_of_lem, lines_of as lines_of_lem, lines_at as lines_at_lem, lot_of as lot_of_lem, new_order_of as new_order_of_lem, order_of as order_of_lem, picking_of as picking_of_lem, command_of as command_of_lem, body_of as body_of_lem};
 
 use crate::fields::{
     array_at, business_day_at, counted_at, delta_at, gtin_at, is_object_of, kind_at, least_days_at,
@@ -12,97 +12,88 @@ use commands::{
     Adjustment, Command, Key, Lines, Listed, Movement, NewBin, NewItem, NewLeast, NewOrder,
     OrderLine, Picking, Recount,
 };
+use label::BusinessDay;
 use serde_json::Value;
 use std::alloc::Global;
 use values::{LotId, Name};
 
-fn item_of(value: &Value) -> Option<Ask>
+fn item_of(value: &Value) -> Option<NewItem>
     ensures { result ≡ item_of_lem (view value.now) }
 {
     if !is_object_of(value, 3) {
         return None;
     }
-    let key = name_at(value, "key")?;
     let gtin = gtin_at(value, "gtin")?;
     let name = title_at(value, "name")?;
-    Some(Ask::Do(Key::Plain(key), Command::Item(NewItem { gtin, name })))
+    Some(NewItem { gtin, name })
 }
 
-fn bin_of(value: &Value) -> Option<Ask>
+fn bin_of(value: &Value) -> Option<NewBin>
     ensures { result ≡ bin_of_lem (view value.now) }
 {
     if !is_object_of(value, 3) {
         return None;
     }
-    let key = name_at(value, "key")?;
     let bin = name_at(value, "bin")?;
     let kind = kind_at(value, "kind")?;
-    Some(Ask::Do(Key::Plain(key), Command::Bin(NewBin { bin, kind })))
+    Some(NewBin { bin, kind })
 }
 
-fn move_of(value: &Value) -> Option<Ask>
+fn move_of(value: &Value) -> Option<Movement>
     ensures { result ≡ move_of_lem (view value.now) }
 {
     if !is_object_of(value, 6) {
         return None;
     }
-    let key = name_at(value, "key")?;
     let lot = lot_id_at(value)?;
     let from = name_at(value, "from")?;
     let to = name_at(value, "to")?;
     let qty = qty_at(value, "qty")?;
-    let movement = Movement { lot, from, to, qty };
-    Some(Ask::Do(Key::Plain(key), Command::Move(movement)))
+    Some(Movement { lot, from, to, qty })
 }
 
-fn count_of(value: &Value) -> Option<Ask>
+fn count_of(value: &Value) -> Option<Recount>
     ensures { result ≡ count_of_lem (view value.now) }
 {
     if !is_object_of(value, 5) {
         return None;
     }
-    let key = name_at(value, "key")?;
     let lot = lot_id_at(value)?;
     let bin = name_at(value, "bin")?;
     let qty = counted_at(value, "qty")?;
-    Some(Ask::Do(Key::Plain(key), Command::Count(Recount { lot, bin, qty })))
+    Some(Recount { lot, bin, qty })
 }
 
-fn adjustment_of(value: &Value) -> Option<Ask>
+fn adjustment_of(value: &Value) -> Option<Adjustment>
     ensures { result ≡ adjustment_of_lem (view value.now) }
 {
     if !is_object_of(value, 5) {
         return None;
     }
-    let key = name_at(value, "key")?;
     let lot = lot_id_at(value)?;
     let bin = name_at(value, "bin")?;
     let change = delta_at(value, "change")?;
-    let adjustment = Adjustment { lot, bin, change };
-    Some(Ask::Do(Key::Plain(key), Command::Adjust(adjustment)))
+    Some(Adjustment { lot, bin, change })
 }
 
-fn day_of(value: &Value) -> Option<Ask>
+fn day_of(value: &Value) -> Option<BusinessDay>
     ensures { result ≡ day_of_lem (view value.now) }
 {
     if !is_object_of(value, 2) {
         return None;
     }
-    let key = name_at(value, "key")?;
-    let day = business_day_at(value, "day")?;
-    Some(Ask::Do(Key::Plain(key), Command::OpenDay(day)))
+    business_day_at(value, "day")
 }
 
-fn least_of(value: &Value) -> Option<Ask>
+fn least_of(value: &Value) -> Option<NewLeast>
     ensures { result ≡ least_of_lem (view value.now) }
 {
     if !is_object_of(value, 3) {
         return None;
     }
-    let key = name_at(value, "key")?;
     let gtin = gtin_at(value, "gtin")?;
     let days = least_days_at(value, "days")?;
-    Some(Ask::Do(Key::Plain(key), Command::Least(NewLeast { gtin, days })))
+    Some(NewLeast { gtin, days })
 }
 
 fn line_of(value: &Value) -> Option<OrderLine>
@@ -184,18 +175,14 @@ fn lines_at(alloc: Global, value: &Value, name: &str) -> Result<Lines, WireFault
     }
 }
 
-// The bodies of key, order, customer and lines.
-fn new_order_asked(alloc: Global, value: &Value) -> Result<(Key, NewOrder), WireFault>
-    ensures ok { IfOk result (λ a. new_order_asked_lem (view value.now) ≡ Some a) }
+fn new_order_of(alloc: Global, value: &Value) -> Result<NewOrder, WireFault>
+    ensures ok { IfOk result (λ a. new_order_of_lem (view value.now) ≡ Some a) }
     ensures err { IfErr result (λ e. e ≢ WireFault.Memory → (e ≡ WireFault.Field)
-        × (new_order_asked_lem (view value.now) ≡ None)) }
+        × (new_order_of_lem (view value.now) ≡ None)) }
 {
     if !is_object_of(value, 4) {
         return Err(WireFault::Field);
     }
-    let Some(key) = name_at(value, "key") else {
-        return Err(WireFault::Field);
-    };
     let Some(order) = name_at(value, "order") else {
         return Err(WireFault::Field);
     };
@@ -203,105 +190,85 @@ fn new_order_asked(alloc: Global, value: &Value) -> Result<(Key, NewOrder), Wire
         return Err(WireFault::Field);
     };
     let lines = lines_at(alloc, value, "lines")?;
-    Ok((
-        Key::Plain(key),
-        NewOrder {
-            order,
-            customer,
-            lines,
-        },
-    ))
+    Ok(NewOrder {
+        order,
+        customer,
+        lines,
+    })
 }
 
-// The bodies of key, gtin and lot.
-fn lot_asked(value: &Value) -> Option<(Key, LotId)>
-    ensures { result ≡ lot_asked_lem (view value.now) }
+fn lot_of(value: &Value) -> Option<LotId>
+    ensures { result ≡ lot_of_lem (view value.now) }
 {
     if !is_object_of(value, 3) {
         return None;
     }
-    let key = name_at(value, "key")?;
-    let lot = lot_id_at(value)?;
-    Some((Key::Plain(key), lot))
+    lot_id_at(value)
 }
 
-// The bodies of key and order.
-fn order_asked(value: &Value) -> Option<(Key, Name)>
-    ensures { result ≡ order_asked_lem (view value.now) }
+fn order_of(value: &Value) -> Option<Name>
+    ensures { result ≡ order_of_lem (view value.now) }
 {
     if !is_object_of(value, 2) {
         return None;
     }
-    let key = name_at(value, "key")?;
-    let order = name_at(value, "order")?;
-    Some((Key::Plain(key), order))
+    name_at(value, "order")
 }
 
-// The bodies of key, order, gtin, lot, bin and qty.
-fn picking_asked(value: &Value) -> Option<(Key, Picking)>
-    ensures { result ≡ picking_asked_lem (view value.now) }
+fn picking_of(value: &Value) -> Option<Picking>
+    ensures { result ≡ picking_of_lem (view value.now) }
 {
     if !is_object_of(value, 6) {
         return None;
     }
-    let key = name_at(value, "key")?;
     let order = name_at(value, "order")?;
     let lot = lot_id_at(value)?;
     let bin = name_at(value, "bin")?;
     let qty = qty_at(value, "qty")?;
-    Some((
-        Key::Plain(key),
-        Picking {
-            order,
-            lot,
-            bin,
-            qty,
-        },
-    ))
+    Some(Picking {
+        order,
+        lot,
+        bin,
+        qty,
+    })
 }
 
-// The bodies that need no memory.
-fn plain_body(posted: Posted, value: &Value) -> Option<Ask>
-    requires { (posted ≢ Posted.Receipts) × (posted ≢ Posted.Orders) × (posted ≢ Posted.Urgents) }
-    ensures { result ≡ body_of_lem posted (view value.now) }
+// The commands that are read without memory.
+fn plain_command(posted: Posted, value: &Value) -> Option<Command>
+    requires { (posted ≢ Posted.Orders) × (posted ≢ Posted.Urgents) }
+    ensures { result ≡ command_of_lem posted (view value.now) }
 {
     match posted {
-        Posted::Items => item_of(value),
-        Posted::Bins => bin_of(value),
-        Posted::Moves => move_of(value),
-        Posted::Counts => count_of(value),
-        Posted::Adjustments => adjustment_of(value),
-        Posted::Cancels => {
-            let (key, order) = order_asked(value)?;
-            Some(Ask::Do(key, Command::Cancel(order)))
-        }
-        Posted::Picks => {
-            let (key, picking) = picking_asked(value)?;
-            Some(Ask::Do(key, Command::Pick(picking)))
-        }
-        Posted::Unpicks => {
-            let (key, picking) = picking_asked(value)?;
-            Some(Ask::Do(key, Command::Unpick(picking)))
-        }
-        Posted::Shipments => {
-            let (key, order) = order_asked(value)?;
-            Some(Ask::Do(key, Command::Ship(order)))
-        }
-        Posted::Holds => {
-            let (key, lot) = lot_asked(value)?;
-            Some(Ask::Do(key, Command::Hold(lot)))
-        }
-        Posted::Releases => {
-            let (key, lot) = lot_asked(value)?;
-            Some(Ask::Do(key, Command::Release(lot)))
-        }
-        Posted::Recalls => {
-            let (key, lot) = lot_asked(value)?;
-            Some(Ask::Do(key, Command::Recall(lot)))
-        }
-        Posted::Days => day_of(value),
-        Posted::Leasts => least_of(value),
-        Posted::Receipts | Posted::Orders | Posted::Urgents | Posted::GoodsIn => None,
+        Posted::Items => item_of(value).map(Command::Item),
+        Posted::Bins => bin_of(value).map(Command::Bin),
+        Posted::Moves => move_of(value).map(Command::Move),
+        Posted::Counts => count_of(value).map(Command::Count),
+        Posted::Adjustments => adjustment_of(value).map(Command::Adjust),
+        Posted::Cancels => order_of(value).map(Command::Cancel),
+        Posted::Picks => picking_of(value).map(Command::Pick),
+        Posted::Unpicks => picking_of(value).map(Command::Unpick),
+        Posted::Shipments => order_of(value).map(Command::Ship),
+        Posted::Holds => lot_of(value).map(Command::Hold),
+        Posted::Releases => lot_of(value).map(Command::Release),
+        Posted::Recalls => lot_of(value).map(Command::Recall),
+        Posted::Days => day_of(value).map(Command::OpenDay),
+        Posted::Leasts => least_of(value).map(Command::Least),
+        _ => None,
+    }
+}
+
+fn command_of(alloc: Global, posted: Posted, value: &Value) -> Result<Command, WireFault>
+    ensures ok { IfOk result (λ c. command_of_lem posted (view value.now) ≡ Some c) }
+    ensures err { IfErr result (λ e. e ≢ WireFault.Memory → (e ≡ WireFault.Field)
+        × (command_of_lem posted (view value.now) ≡ None)) }
+{
+    match posted {
+        Posted::Orders => Ok(Command::Order(new_order_of(alloc, value)?)),
+        Posted::Urgents => Ok(Command::Urgent(new_order_of(alloc, value)?)),
+        _ => match plain_command(posted, value) {
+            Some(command) => Ok(command),
+            None => Err(WireFault::Field),
+        },
     }
 }
 
@@ -312,19 +279,12 @@ pub fn body_of(alloc: Global, posted: Posted, value: &Value) -> Result<Ask, Wire
     ensures err { IfErr result (λ e. e ≢ WireFault.Memory → (e ≡ WireFault.Field)
         × (body_of_lem posted (view value.now) ≡ None)) }
 {
-    match posted {
-        Posted::Receipts => scan_of(alloc, value),
-        Posted::Orders => {
-            let (key, order) = new_order_asked(alloc, value)?;
-            Ok(Ask::Do(key, Command::Order(order)))
-        }
-        Posted::Urgents => {
-            let (key, order) = new_order_asked(alloc, value)?;
-            Ok(Ask::Do(key, Command::Urgent(order)))
-        }
-        _ => match plain_body(posted, value) {
-            Some(ask) => Ok(ask),
-            None => Err(WireFault::Field),
-        },
+    if let Posted::Receipts = posted {
+        return scan_of(alloc, value);
     }
+    let Some(key) = name_at(value, "key") else {
+        return Err(WireFault::Field);
+    };
+    let command = command_of(alloc, posted, value)?;
+    Ok(Ask::Do(Key::Plain(key), command))
 }

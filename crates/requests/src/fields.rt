@@ -5,11 +5,11 @@ ghost use Rattle.values.specs.Values.{checked, is_gtin, is_lot_text};
 ghost use Rattle.requests.specs.Fields.{json, is_object_of as is_object_of_lem, text_at as text_at_lem, whole_at as whole_at_lem, signed_at as signed_at_lem, name_at as name_at_lem, title_at as title_at_lem, gtin_at as gtin_at_lem, lot_at as lot_at_lem, qty_at as qty_at_lem, counted_at as counted_at_lem, delta_at as delta_at_lem, line_at as line_at_lem, business_day_at as business_day_at_lem, kind_at as kind_at_lem, lot_id_at as lot_id_at_lem, least_days_at as least_days_at_lem};
 
 use crate::WireFault;
-use commands::{BinKind, LeastDays};
+use commands::BinKind;
 use label::{BusinessDay, Day};
 use serde_json::Value;
 use std::alloc::Global;
-use values::{Counted, Delta, Gtin, LineNo, Lot, LotId, Name, Qty, Title};
+use values::{Counted, Delta, Gtin, LeastDays, LineNo, Lot, LotId, Name, Qty, Title};
 
 /// The value that a body is, or `W03` where it is no JSON.
 pub fn json_value(alloc: Global, body: &[u8]) -> Result<Value, WireFault>

@@ -13,7 +13,7 @@ use Rattle.std.proofs.lemmas.List.Folds.{find-append}
 use Rattle.std.proofs.lemmas.Map.Lookups.{exact_bytes, exact_unsigned}
 use Rattle.std.proofs.lemmas.Map.Views.{tells_apart}
 use Rattle.values.specs.Values.{same_text}
-use Rattle.text_keys.proofs.Turned.{turned_same}
+use Rattle.values.proofs.Turned.{turned_same}
 use Rattle.commands.specs.Lists.{total}
 use Rattle.machine.proofs.Tests.{same_text_turned}
 use Rattle.machine.proofs.Numbers.{equal_turned}

@@ -79,21 +79,3 @@ placed_at earlier x ys i none h e s =
 
 pub placed_all : {X : Type 0} (earlier : X → X → Bool) (x : X) (ys : List X) (i : ℕ) → i ≡ length ys → IsPlaced earlier x ys i → placed earlier x ys ≡ take i ys ++ x ∷ drop i ys
 placed_all earlier x ys i e s = s.so_far ∙ ap (λ zs. take i ys ++ placed earlier x zs) (drop_end ys i e) ∙ sym (ap (λ zs. take i ys ++ x ∷ zs) (drop_end ys i e))
-
--- kept one by one behind a first one
-pub record IsKeptBehind {X : Type 0} (x : X) (test : X → Bool) (xs : List X) (i : ℕ) (out : List X) : Type 0 where
-  pub so_far : out ++ filter test (drop i xs) ≡ x ∷ filter test xs
-
-pub behind_none : {X : Type 0} (x : X) (test : X → Bool) (xs : List X) (out : List X) → out ≡ x ∷ [] → IsKeptBehind x test xs 0 out
-behind_none x test xs out e = record { so_far = ap (λ ys. ys ++ filter test xs) e }
-
-pub behind_more : {X : Type 0} (x : X) (test : X → Bool) (xs : List X) (i : ℕ) (out : List X) (none : X) (new : List X) (wanted : Bool) → i < length xs → IsKeptBehind x test xs i out → wanted ≡ test (get_or xs i none)
-    → new ≡ out ++ (if wanted then get_or xs i none ∷ [] else []) → IsKeptBehind x test xs (i + 1) new
-behind_more x test xs i out none new wanted h s w e = record {
-  so_far =
-      ap (λ ys. ys ++ filter test (drop (i + 1) xs)) (e ∙ ap (λ b. out ++ (if b then get_or xs i none ∷ [] else [])) w) ∙ kept_one (test (get_or xs i none)) (get_or xs i none) (filter test (drop (i + 1) xs)) out
-      ∙ sym (ap (λ ys. out ++ filter test ys) (drop_from xs i none h)) ∙ s.so_far;
-}
-
-pub behind_all : {X : Type 0} (x : X) (test : X → Bool) (xs : List X) (i : ℕ) (out : List X) → i ≡ length xs → IsKeptBehind x test xs i out → out ≡ x ∷ filter test xs
-behind_all x test xs i out e s = sym (append_none out) ∙ sym (ap (λ ys. out ++ filter test ys) (drop_end xs i e)) ∙ s.so_far

@@ -1,5 +1,5 @@
 -- What rows that are found by a text or by a number of theirs give.
-use Rattle.std.specs.Prelude.{◌≡◌, ℕ, ◌==◌, Bool, false, ◌&&◌, not, if◌then◌else◌, List, [], ◌∷◌, ◌++◌, reverse, map, filter, find, Option, Some, None, Vec}
+use Rattle.std.specs.Prelude.{◌≡◌, ℕ, ◌==◌, Bool, true, false, ◌&&◌, not, if◌then◌else◌, List, [], ◌∷◌, ◌++◌, reverse, map, filter, find, Option, Some, None, Vec}
 use Rattle.std.specs.List.{cons_option}
 use Rattle.std.specs.Option.{option_or}
 use Rattle.std.specs.Ordering.{nat_cmp}
@@ -20,8 +20,8 @@ use Rattle.commands.specs.declared.rows.LotRow.{LotRow}
 use Rattle.commands.specs.declared.rows.ReservedRow.{ReservedRow}
 use Rattle.machine.specs.Postings.{is_lot}
 use Rattle.row_rules.specs.Plans.{demand_seen, is_earlier, is_urgent_seen, inserted, named_row, is_store_found}
-use Rattle.row_rules.specs.declared.look_ups.RowsByText.{RowsByText}
-use Rattle.row_rules.specs.declared.look_ups.RowsByNumber.{RowsByNumber}
+use Rattle.row_rules.specs.declared.row_index.RowsByText.{RowsByText}
+use Rattle.row_rules.specs.declared.row_index.RowsByNumber.{RowsByNumber}
 
 -- the rows that are found, or others where none are
 abbrev pub rows_or : {X A : Type 0} → List X → Option (Vec X A) → List X
@@ -75,6 +75,11 @@ abbrev pub store_given : (List ℕ → List BinRow) → List StockRow → LotId 
 store_given bins stock l = total (in_store_given bins l) stock
 
 -- In order
+
+-- an order: of two, one at most stands before the other; and what does not stand behind one that stands before a third stands before the third
+pub record IsOrder {X : Type 0} (earlier : X → X → Bool) : Type 0 where
+  pub turned : (x y : X) → earlier x y ≡ true → earlier y x ≡ false
+  pub further : (x y z : X) → earlier y x ≡ false → earlier y z ≡ true → earlier x z ≡ true
 
 -- the first of a list stands before x
 abbrev pub first_before : {X : Type 0} → (X → X → Bool) → List X → X → Bool

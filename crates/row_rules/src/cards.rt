@@ -4,7 +4,7 @@ ghost use Rattle.std.specs.Prelude.{◌≡◌, []};
 ghost use Rattle.machine.specs.Cards.{delivery_note as delivery_note_lem};
 ghost use Rattle.row_rules.specs.Seen.{lot_units as lot_units_lem};
 
-use crate::summing::{sum_of_lot_in_bins, sum_of_lot_staged};
+use crate::row_search::units_with;
 use commands::limits::CARD_NOTE_MAX;
 use commands::{Buffer, Key, StagedRow, StockRow};
 use values::{LineNo, LotId, Name, Text};
@@ -13,8 +13,8 @@ use values::{LineNo, LotId, Name, Text};
 pub fn lot_units(lot: &LotId, stock: &[StockRow], staged: &[StagedRow]) -> u64
     ensures { result ≡ lot_units_lem lot.now stock.now staged.now }
 {
-    let in_bins = sum_of_lot_in_bins(stock, lot);
-    let on_stages = sum_of_lot_staged(staged, lot);
+    let in_bins = units_with(stock, lot);
+    let on_stages = units_with(staged, lot);
     in_bins.saturating_add(on_stages)
 }
 

@@ -7,8 +7,8 @@ ghost use Rattle.plan.specs.declared.TheConstants.{SUM_MAX};
 ghost use Rattle.row_rules.specs.Indexed.{IsIndexed, demands_told, supplies_told};
 
 use crate::demands::{cut_demands, demands_found};
-use crate::look_ups::{RowsByText, by_item, by_text};
 use crate::plans::ItemRows;
+use crate::row_index::{RowsByText, by_text};
 use crate::status::earliest;
 use crate::supplies::{cut_supplies, supplies_found};
 use commands::{
@@ -17,7 +17,7 @@ use commands::{
 use label::BusinessDay;
 use plan::{Demand, Supply};
 use std::alloc::{AllocError, Global};
-use values::Gtin;
+use values::{Gtin, Lot, Name};
 
 /// The rows that tell the demands and supplies of items on a day: lines, staged rows and those of
 /// urgent orders by their orders, recalls and stock by their lots, bins by their names, lots and what
@@ -49,14 +49,14 @@ pub fn indexed_rows<'a>(
 {
     let of_orders = rows.orders.len().saturating_mul(items);
     let of_lots = rows.lots.len().saturating_mul(items);
-    let lines = by_text(alloc, rows.lines, of_orders)?;
-    let staged = by_text(alloc, rows.staged, of_orders)?;
-    let recalls = by_text(alloc, rows.recalls, of_lots)?;
-    let bins = by_text(alloc, rows.bins, rows.stock.len())?;
-    let stock = by_text(alloc, rows.stock, rows.lots.len())?;
-    let urgents = by_text(alloc, rows.urgents, of_orders)?;
-    let lots = by_item(alloc, rows.lots, items)?;
-    let least = by_text(alloc, rows.least, items)?;
+    let lines = by_text::<Name, LineRow>(alloc, rows.lines, of_orders)?;
+    let staged = by_text::<Name, StagedRow>(alloc, rows.staged, of_orders)?;
+    let recalls = by_text::<Lot, RecallRow>(alloc, rows.recalls, of_lots)?;
+    let bins = by_text::<Name, BinRow>(alloc, rows.bins, rows.stock.len())?;
+    let stock = by_text::<Lot, StockRow>(alloc, rows.stock, rows.lots.len())?;
+    let urgents = by_text::<Name, UrgentRow>(alloc, rows.urgents, of_orders)?;
+    let lots = by_text::<Gtin, LotRow>(alloc, rows.lots, items)?;
+    let least = by_text::<Gtin, LeastRow>(alloc, rows.least, items)?;
     Ok(IndexedRows {
         day,
         rows: *rows,
@@ -127,7 +127,7 @@ pub fn supplies_of_item(
     ensures told { IfOk result (λ v. v.items ≡ supplies_told gtin.now indexed.now) }
     ensures small { IfOk result (λ v. supply_total v.items ≤ SUM_MAX) }
 {
-    let from = earliest(indexed.day, indexed.least.rows_of_gtin(gtin), gtin);
+    let from = earliest(indexed.day, indexed.least.candidates(gtin), gtin);
     let supplies = supplies_found(
         alloc,
         gtin,
@@ -135,7 +135,7 @@ pub fn supplies_of_item(
         &indexed.recalls,
         &indexed.bins,
         &indexed.stock,
-        indexed.lots.rows_of_gtin(gtin),
+        indexed.lots.candidates(gtin),
     )?;
     cut_supplies(alloc, supplies.as_slice())
 }

@@ -2,26 +2,28 @@
 //! the parts that changes have in common.
 #![tactic(auto)]
 
-mod apart;
 pub mod cards;
-pub mod changing;
+pub mod change_parts;
 pub mod demands;
+pub mod first_refusal;
+pub mod goods_seen;
+pub mod having;
+pub mod in_order;
 pub mod indexed;
-pub mod judging;
-pub mod look_ups;
-pub mod looking;
+pub mod list_parts;
 pub mod lots;
 pub mod open_lines;
 pub mod orders_seen;
+mod plan_difference;
 pub mod plans;
-pub mod pushing;
 pub mod replanning;
-pub mod seeing;
+pub mod row_index;
+pub mod row_search;
+pub mod same;
 mod slice;
 pub mod stages;
 pub mod status;
 pub mod stock;
-pub mod summing;
 pub mod supplies;
 
 pub use slice::{Change, Dropped, Put, Rows, RuleFault, Slice};

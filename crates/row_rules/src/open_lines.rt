@@ -4,7 +4,7 @@ ghost use Rattle.std.specs.Prelude.{◌≡◌, ◌-◌, is_some};
 ghost use Rattle.row_rules.specs.OpenLines.{is_open_among, open_of_line as open_of_line_lem, open_units_among};
 
 use crate::demands::is_open;
-use crate::looking::is_same_item;
+use crate::same::Same;
 use commands::{LineRow, OrderRow};
 use values::{Gtin, Name};
 
@@ -27,7 +27,7 @@ pub fn sum_of_open_units(orders: &[OrderRow], lines: &[LineRow], gtin: &Gtin) ->
 fn open_of_line(gtin: &Gtin, orders: &[OrderRow], line: &LineRow, place: &mut usize) -> u64
     ensures { result ≡ open_of_line_lem gtin.now orders.now line.now }
 {
-    if !is_same_item(gtin, &line.gtin) {
+    if !gtin.is_same(&line.gtin) {
         return 0;
     }
     match open_place(orders, *place, &line.order) {

@@ -7,9 +7,9 @@ ghost use Rattle.row_rules.specs.Plans.{plan_within, named_row, named_rows as na
 ghost use Rattle.row_rules.specs.LookUps.{rows_given, row_given, rows_named};
 
 use crate::Rows;
-use crate::look_ups::{RowsByNumber, RowsByText, by_number, by_text};
-use crate::looking::is_same_lot;
-use crate::pushing::{push_found, push_if};
+use crate::list_parts::{push_found, push_if};
+use crate::row_index::{RowsByNumber, RowsByText, by_number, by_text};
+use crate::row_search::{find_row, has_row};
 use crate::supplies::cut_supplies;
 use commands::{
     BinRow, LeastRow, LineRow, LotRow, OrderRow, RecallRow, ReservedRow, StagedRow, StockRow,
@@ -17,7 +17,7 @@ use commands::{
 };
 use plan::{Demand, Plan, Row, SUM_MAX, Supply, whole};
 use std::alloc::{AllocError, Global};
-use values::Gtin;
+use values::{Gtin, Name};
 
 /// The rows that tell the demands and supplies of an item, some of them as they are after an act.
 #[derive(Clone, Copy)]
@@ -141,7 +141,7 @@ pub fn rows_to_put(
 ) -> Result<Vec<ReservedRow>, AllocError>
     ensures { IfOk result (λ v. v.items ≡ rows_to_put_lem olds.now news.now) }
 {
-    let by_order = by_text(alloc, olds, news.len())?;
+    let by_order = by_text::<Name, ReservedRow>(alloc, olds, news.len())?;
     rows_unlike(alloc, &by_order, news)
 }
 
@@ -154,7 +154,10 @@ fn rows_unlike(
 {
     let mut put = Vec::new(alloc);
     for row in news {
-        let same = is_qty(find_share(olds.rows_of_name(&row.order), row), row.qty);
+        let same = is_qty(
+            find_row(olds.candidates(&row.order), &(row.order, row.lot)),
+            row.qty,
+        );
         push_if(&mut put, !same, *row)?;
     }
     Ok(put)
@@ -169,7 +172,7 @@ pub fn rows_to_drop(
 ) -> Result<Vec<ReservedRow>, AllocError>
     ensures { IfOk result (λ v. v.items ≡ rows_to_drop_lem gtin.now olds.now news.now) }
 {
-    let by_order = by_text(alloc, news, olds.len())?;
+    let by_order = by_text::<Name, ReservedRow>(alloc, news, olds.len())?;
     rows_gone(alloc, gtin, olds, &by_order)
 }
 
@@ -183,7 +186,7 @@ fn rows_gone(
 {
     let mut dropped = Vec::new(alloc);
     for row in olds {
-        let gone = is_gone(gtin, news.rows_of_name(&row.order), row);
+        let gone = is_gone(gtin, news.candidates(&row.order), row);
         push_if(&mut dropped, gone, *row)?;
     }
     Ok(dropped)
@@ -194,36 +197,8 @@ fn is_gone(gtin: &Gtin, news: &[ReservedRow], row: &ReservedRow) -> bool
     ensures { result ≡ of_item gtin.now row.now.lot && not (list_any (is_share_of row.now) news.now) }
 {
     let own = *gtin == row.lot.gtin;
-    let stays = has_share(news, row);
+    let stays = has_row(news, &(row.order, row.lot));
     own && !stays
-}
-
-fn is_same_share(a: &ReservedRow, b: &ReservedRow) -> bool
-    ensures { result ≡ is_share_of a.now b.now }
-{
-    a.order == b.order && is_same_lot(&a.lot, &b.lot)
-}
-
-fn find_share(rows: &[ReservedRow], share: &ReservedRow) -> Option<ReservedRow>
-    ensures { result ≡ find (is_share_of share.now) rows.now }
-{
-    for row in rows {
-        if is_same_share(share, row) {
-            return Some(*row);
-        }
-    }
-    None
-}
-
-fn has_share(rows: &[ReservedRow], share: &ReservedRow) -> bool
-    ensures { result ≡ list_any (is_share_of share.now) rows.now }
-{
-    for row in rows {
-        if is_same_share(share, row) {
-            return true;
-        }
-    }
-    false
 }
 
 fn is_qty(row: Option<ReservedRow>, qty: u64) -> bool

@@ -9,8 +9,8 @@ ghost use Rattle.row_rules.specs.Indexed.{IsIndexed, replanned_between};
 ghost use Rattle.row_rules.specs.Replanning.{first_as_one as first_as_one_lem, rows_behind, shares_apart as shares_apart_lem, shares_changed as shares_changed_lem, replanned_rows, item_replanned};
 
 use crate::Slice;
-use crate::apart::rows_apart;
 use crate::indexed::{IndexedRows, ItemLists, indexed_rows, item_lists};
+use crate::plan_difference::rows_apart;
 use crate::plans::{ItemRows, item_rows, named_rows, rows_to_drop, rows_to_put};
 use commands::{Listed, ReservedRow};
 use label::BusinessDay;

@@ -1,11 +1,11 @@
 //! How a lot stands on a business day, and whether it may be shipped.
 
 ghost use Rattle.std.specs.Prelude.{◌≡◌, ◌≤◌, pos, ◌+ℤ◌};
-ghost use Rattle.commands.specs.declared.limits.TheConstants.{LEAST_DAYS_MAX};
+ghost use Rattle.values.specs.Values.{LEAST_DAYS_MAX};
 ghost use Rattle.machine.specs.Standing.{is_expired as is_expired_lem, is_short_dated as is_short_dated_lem};
 ghost use Rattle.row_rules.specs.Status.{status_seen, may_ship as may_ship_lem, is_past_row, is_below_row, days_in, least_seen, earliest_seen};
 
-use crate::looking::{find_least, has_recall};
+use crate::row_search::{find_row, has_row};
 use commands::{LeastRow, LotRow, LotStatus, RecallRow};
 use label::{BusinessDay, Day};
 use values::Gtin;
@@ -16,7 +16,7 @@ pub fn lot_status(day: BusinessDay, days: u16, recalls: &[RecallRow], lot: &LotR
     requires { days ≤ LEAST_DAYS_MAX }
     ensures { result ≡ status_seen day days recalls.now lot.now }
 {
-    if has_recall(recalls, &lot.lot) {
+    if has_row(recalls, &lot.lot) {
         LotStatus::Recalled
     } else if lot.held {
         LotStatus::Held
@@ -34,7 +34,7 @@ pub fn least_days(rows: &[LeastRow], gtin: &Gtin) -> u16
     ensures value { result ≡ least_seen rows.now gtin.now }
     ensures limit { result ≤ LEAST_DAYS_MAX }
 {
-    days_of(find_least(rows, gtin))
+    days_of(find_row(rows, gtin))
 }
 
 fn days_of(row: Option<LeastRow>) -> u16
@@ -67,7 +67,7 @@ fn later(day: BusinessDay, days: u16) -> Day
 pub fn may_ship(earliest: Day, recalls: &[RecallRow], lot: &LotRow) -> bool
     ensures { result ≡ may_ship_lem earliest recalls.now lot.now }
 {
-    let recalled = has_recall(recalls, &lot.lot);
+    let recalled = has_row(recalls, &lot.lot);
     let early = is_expired(earliest, lot.expiry);
     !recalled && !lot.held && !early
 }

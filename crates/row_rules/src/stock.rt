@@ -1,14 +1,12 @@
 //! The units of a lot in a bin, and the stock rows where these have changed.
 
-ghost use Rattle.std.specs.Prelude.{◌≡◌, ◌&&◌, not, filter, IfOk};
-ghost use Rattle.values.specs.Values.{same_text};
-ghost use Rattle.machine.specs.Postings.{is_lot};
+ghost use Rattle.std.specs.Prelude.{◌≡◌, IfOk};
 ghost use Rattle.row_rules.specs.Seen.{stock_qty};
 ghost use Rattle.row_rules.specs.SeenLots.{sees_lot as sees_lot_lem, stock_found as stock_found_lem, in_bin_seen, stock_put as stock_put_lem, stock_gone as stock_gone_lem, stock_rows_with as stock_rows_with_lem};
 
 use crate::Slice;
-use crate::looking::{find_lot, find_stock, is_same_lot};
-use crate::pushing::{push_if, row_gone};
+use crate::list_parts::row_gone;
+use crate::row_search::{find_row, rows_without};
 use commands::StockRow;
 use std::alloc::{AllocError, Global};
 use values::{LotId, Name};
@@ -17,7 +15,7 @@ use values::{LotId, Name};
 pub fn sees_lot(slice: &Slice, lot: &LotId) -> bool
     ensures { result ≡ sees_lot_lem slice.now lot.now }
 {
-    find_lot(slice.rows.lots.as_slice(), lot).is_some()
+    find_row(slice.rows.lots.as_slice(), lot).is_some()
 }
 
 /// The units of a lot in a bin.
@@ -31,7 +29,7 @@ pub fn units_in_bin(slice: &Slice, bin: &Name, lot: &LotId) -> u64
 pub fn units_among(rows: &[StockRow], lot: &LotId, bin: &Name) -> u64
     ensures { result ≡ stock_qty (stock_found_lem rows.now lot.now bin.now) }
 {
-    units_of(find_stock(rows, lot, bin))
+    units_of(find_row(rows, &(*lot, *bin)))
 }
 
 /// The units of a stock row, if there is one.
@@ -74,7 +72,7 @@ pub fn stock_gone(
 ) -> Result<Vec<StockRow>, AllocError>
     ensures { IfOk result (λ v. v.items ≡ stock_gone_lem rows.now lot.now bin.now qty) }
 {
-    row_gone(alloc, find_stock(rows, lot, bin), qty)
+    row_gone(alloc, find_row(rows, &(*lot, *bin)), qty)
 }
 
 /// The stock rows, where a lot has so many units in a bin.
@@ -88,32 +86,7 @@ pub fn stock_rows_with(
     ensures { IfOk result (λ v. v.items ≡ stock_rows_with_lem lot.now bin.now qty rows.now) }
 {
     let mut after = stock_put(alloc, lot, bin, qty)?;
-    let others = other_stock(alloc, rows, lot, bin)?;
+    let others = rows_without(alloc, rows, &(*lot, *bin))?;
     after.extend_from_slice(others.as_slice())?;
     Ok(after)
-}
-
-// The stock rows of other lots and of other bins.
-fn other_stock(
-    alloc: Global,
-    rows: &[StockRow],
-    lot: &LotId,
-    bin: &Name,
-) -> Result<Vec<StockRow>, AllocError>
-    ensures { IfOk result (λ v. v.items ≡ filter (λ r. not (is_lot lot.now r.lot && same_text bin.now r.bin)) rows.now) }
-{
-    let mut others = Vec::new(alloc);
-    for row in rows {
-        let same = is_stock_of(row, lot, bin);
-        push_if(&mut others, !same, *row)?;
-    }
-    Ok(others)
-}
-
-fn is_stock_of(row: &StockRow, lot: &LotId, bin: &Name) -> bool
-    ensures { result ≡ is_lot lot.now row.now.lot && same_text bin.now row.now.bin }
-{
-    let same_lot = is_same_lot(lot, &row.lot);
-    let same_bin = *bin == row.bin;
-    same_lot && same_bin
 }

@@ -4,8 +4,7 @@ use commands::{BinKind, BinRow};
 use known_rows::{KnownRows, WEIGHT_MAX};
 use std::alloc::Global;
 use std::process::Abort;
-use text_keys::TextKey;
-use values::Name;
+use values::{Name, TextKey};
 
 type BinsKnown = KnownRows<Name, TextKey, BinRow>;
 

@@ -1,15 +1,15 @@
 //! Slices and commands as the tests write them down, and what is decided of them.
 
 use commands::{
-    Adjustment, BinKind, BinRow, Command, ItemRow, Key, LeastDays, LeastRow, LineRow, Lines,
-    Listed, LotRow, MetaRow, Movement, NewBin, NewItem, NewLeast, NewOrder, OrderLine, OrderRow,
-    OrderState, Picking, RecallRow, Receipt, Recount, ReservedRow, StagedRow, StockRow, UrgentRow,
+    Adjustment, BinKind, BinRow, Command, ItemRow, Key, LeastRow, LineRow, Lines, Listed, LotRow,
+    MetaRow, Movement, NewBin, NewItem, NewLeast, NewOrder, OrderLine, OrderRow, OrderState,
+    Picking, RecallRow, Receipt, Recount, ReservedRow, StagedRow, StockRow, UrgentRow,
 };
 use label::{BusinessDay, Day};
 use rules::{Change, Rows, RuleFault, Slice, decide};
 use std::alloc::Global;
 use std::process::Abort;
-use values::{Counted, Delta, Gtin, LineNo, Lot, LotId, Name, Qty, Title};
+use values::{Counted, Delta, Gtin, LeastDays, LineNo, Lot, LotId, Name, Qty, Title};
 
 /// The oat drink. A lot in the rows of the tests is of it, where nothing else is said.
 pub const OATS: &str = "09506000134352";

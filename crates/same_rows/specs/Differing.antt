@@ -2,7 +2,7 @@
 use Rattle.std.specs.Prelude.{◌≢◌}
 use Rattle.commands.specs.Tables.{Tables}
 use Rattle.table_words.specs.Schema.{meta_tree, items_tree, least_tree, bins_tree, lots_tree, recalls_tree, stock_tree, orders_tree, urgents_tree, lines_tree, staged_tree, reserved_tree, shipments_tree, shiplines_tree, cards_tree, repeats_tree}
-use Rattle.table_words.specs.Typed.{Rule, is_meta, is_item, is_least, is_bin, is_lot, is_recall, is_stock, is_order, is_urgent, is_line, is_staged, is_reserved, is_shipment, is_shipline, is_card, is_repeat}
+use Rattle.table_words.specs.Typed.{Rule, rule_for, is_meta, item_mapping, least_mapping, bin_mapping, lot_mapping, recall_mapping, stock_mapping, order_mapping, urgent_mapping, line_mapping, staged_mapping, reserved_mapping, is_stored_shipment, shipline_mapping, card_mapping, repeat_mapping}
 use Rattle.same_rows.specs.declared.key.RowKey.{RowKey}
 use Rattle.same_rows.specs.declared.key.RowKey.TheVariants.{Meta, Item, Least, Bin, Lot, Recall, Stock, Order, Urgent, Line, Staged, Reserved, Shipment, Shipline, Card, Repeat}
 use Rattle.same_rows.specs.declared.key.TableName.{TableName}
@@ -30,18 +30,18 @@ RowDiffers (Repeat k) a b = a.repeat k ≢ b.repeat k
 -- which of the rows that the table stores read as typed ones
 abbrev pub rule_called : TableName → Rule
 rule_called table.Meta = record { tree = meta_tree; is = is_meta }
-rule_called table.Items = record { tree = items_tree; is = is_item }
-rule_called table.Least = record { tree = least_tree; is = is_least }
-rule_called table.Bins = record { tree = bins_tree; is = is_bin }
-rule_called table.Lots = record { tree = lots_tree; is = is_lot }
-rule_called table.Recalls = record { tree = recalls_tree; is = is_recall }
-rule_called table.Stock = record { tree = stock_tree; is = is_stock }
-rule_called table.Orders = record { tree = orders_tree; is = is_order }
-rule_called table.Urgents = record { tree = urgents_tree; is = is_urgent }
-rule_called table.Lines = record { tree = lines_tree; is = is_line }
-rule_called table.Staged = record { tree = staged_tree; is = is_staged }
-rule_called table.Reserved = record { tree = reserved_tree; is = is_reserved }
-rule_called table.Shipments = record { tree = shipments_tree; is = is_shipment }
-rule_called table.Shiplines = record { tree = shiplines_tree; is = is_shipline }
-rule_called table.Cards = record { tree = cards_tree; is = is_card }
-rule_called table.Repeats = record { tree = repeats_tree; is = is_repeat }
+rule_called table.Items = rule_for items_tree item_mapping
+rule_called table.Least = rule_for least_tree least_mapping
+rule_called table.Bins = rule_for bins_tree bin_mapping
+rule_called table.Lots = rule_for lots_tree lot_mapping
+rule_called table.Recalls = rule_for recalls_tree recall_mapping
+rule_called table.Stock = rule_for stock_tree stock_mapping
+rule_called table.Orders = rule_for orders_tree order_mapping
+rule_called table.Urgents = rule_for urgents_tree urgent_mapping
+rule_called table.Lines = rule_for lines_tree line_mapping
+rule_called table.Staged = rule_for staged_tree staged_mapping
+rule_called table.Reserved = rule_for reserved_tree reserved_mapping
+rule_called table.Shipments = record { tree = shipments_tree; is = is_stored_shipment }
+rule_called table.Shiplines = rule_for shiplines_tree shipline_mapping
+rule_called table.Cards = rule_for cards_tree card_mapping
+rule_called table.Repeats = rule_for repeats_tree repeat_mapping

@@ -1,11 +1,11 @@
 //! Tables that are compared.
 
 use crate::{RowKey, TableName};
+use keyed_rows::table::Table;
 use std::cmp::Ordering;
-use whole_tables::Entire;
 
 /// A table whose rows are compared with those of another of its kind, in the order of their keys.
-pub trait Compared: Entire {
+pub trait Compared: Table {
     ghost use Rattle.std.specs.Prelude.{◌≡◌, ◌↔◌, IsTrue};
     ghost use Rattle.std.specs.declared.cmp.Ordering.{Ordering as Order};
     ghost use Rattle.same_rows.specs.declared.key.RowKey.{RowKey as Named};

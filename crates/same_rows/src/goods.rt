@@ -1,9 +1,9 @@
 //! The tables of items, bins and lots, compared.
 
+use crate::columns::same_columns;
 use crate::compared::Compared;
 use crate::key::{RowKey, TableName};
-use crate::kinds::same_bin_kind;
-use crate::lot::by_lot;
+use crate::ordered::Ordered;
 use commands::{BinRow, ItemRow, LeastRow, LotRow, MetaRow, RecallRow, StockRow};
 use goods_tables::bins::Bins;
 use goods_tables::items::Items;
@@ -64,11 +64,11 @@ impl Compared for Items {
     }
 
     fn by_key(a: &ItemRow, b: &ItemRow) -> Ordering {
-        a.gtin.as_bytes().cmp(b.gtin.as_bytes())
+        a.gtin.order(&b.gtin)
     }
 
     fn same_row(a: &ItemRow, b: &ItemRow) -> bool {
-        a.gtin == b.gtin && a.name == b.name
+        same_columns::<Items>(a, b)
     }
 
     fn row_key(row: &ItemRow) -> RowKey {
@@ -95,11 +95,11 @@ impl Compared for Least {
     }
 
     fn by_key(a: &LeastRow, b: &LeastRow) -> Ordering {
-        a.gtin.as_bytes().cmp(b.gtin.as_bytes())
+        a.gtin.order(&b.gtin)
     }
 
     fn same_row(a: &LeastRow, b: &LeastRow) -> bool {
-        a.gtin == b.gtin && a.days == b.days
+        same_columns::<Least>(a, b)
     }
 
     fn row_key(row: &LeastRow) -> RowKey {
@@ -126,11 +126,11 @@ impl Compared for Bins {
     }
 
     fn by_key(a: &BinRow, b: &BinRow) -> Ordering {
-        a.name.as_bytes().cmp(b.name.as_bytes())
+        a.name.order(&b.name)
     }
 
     fn same_row(a: &BinRow, b: &BinRow) -> bool {
-        a.name == b.name && same_bin_kind(a.kind, b.kind)
+        same_columns::<Bins>(a, b)
     }
 
     fn row_key(row: &BinRow) -> RowKey {
@@ -157,11 +157,11 @@ impl Compared for Lots {
     }
 
     fn by_key(a: &LotRow, b: &LotRow) -> Ordering {
-        by_lot(&a.lot, &b.lot)
+        a.lot.order(&b.lot)
     }
 
     fn same_row(a: &LotRow, b: &LotRow) -> bool {
-        a.lot == b.lot && a.expiry == b.expiry && a.came == b.came && a.held == b.held
+        same_columns::<Lots>(a, b)
     }
 
     fn row_key(row: &LotRow) -> RowKey {
@@ -188,11 +188,11 @@ impl Compared for Recalls {
     }
 
     fn by_key(a: &RecallRow, b: &RecallRow) -> Ordering {
-        by_lot(&a.lot, &b.lot)
+        a.lot.order(&b.lot)
     }
 
     fn same_row(a: &RecallRow, b: &RecallRow) -> bool {
-        a.lot == b.lot && a.act == b.act
+        same_columns::<Recalls>(a, b)
     }
 
     fn row_key(row: &RecallRow) -> RowKey {
@@ -219,13 +219,11 @@ impl Compared for Stock {
     }
 
     fn by_key(a: &StockRow, b: &StockRow) -> Ordering {
-        let first = by_lot(&a.lot, &b.lot);
-        let second = a.bin.as_bytes().cmp(b.bin.as_bytes());
-        first.then(second)
+        a.lot.order(&b.lot).then(a.bin.order(&b.bin))
     }
 
     fn same_row(a: &StockRow, b: &StockRow) -> bool {
-        a.lot == b.lot && a.bin == b.bin && a.qty == b.qty
+        same_columns::<Stock>(a, b)
     }
 
     fn row_key(row: &StockRow) -> RowKey {

@@ -1,9 +1,9 @@
 //! The tables of what has gone and of the acts, compared.
 
+use crate::columns::same_columns;
 use crate::compared::Compared;
 use crate::key::{RowKey, TableName};
-use crate::kinds::same_card_kind;
-use crate::lot::by_lot;
+use crate::ordered::Ordered;
 use commands::{CardRow, RepeatRow, ShiplineRow, ShipmentRow};
 use history_tables::cards::Cards;
 use history_tables::repeats::Repeats;
@@ -30,11 +30,11 @@ impl Compared for Shipments {
     }
 
     fn by_key(a: &ShipmentRow, b: &ShipmentRow) -> Ordering {
-        a.number.cmp(&b.number)
+        a.number.order(&b.number)
     }
 
     fn same_row(a: &ShipmentRow, b: &ShipmentRow) -> bool {
-        a.number == b.number && a.act == b.act && a.day == b.day && a.order == b.order
+        same_columns::<Shipments>(a, b)
     }
 
     fn row_key(row: &ShipmentRow) -> RowKey {
@@ -62,13 +62,11 @@ impl Compared for Shiplines {
     }
 
     fn by_key(a: &ShiplineRow, b: &ShiplineRow) -> Ordering {
-        let first = a.number.cmp(&b.number);
-        let second = by_lot(&a.lot, &b.lot);
-        first.then(second)
+        a.number.order(&b.number).then(a.lot.order(&b.lot))
     }
 
     fn same_row(a: &ShiplineRow, b: &ShiplineRow) -> bool {
-        a.number == b.number && a.lot == b.lot && a.qty == b.qty
+        same_columns::<Shiplines>(a, b)
     }
 
     fn row_key(row: &ShiplineRow) -> RowKey {
@@ -96,16 +94,14 @@ impl Compared for Cards {
     }
 
     fn by_key(a: &CardRow, b: &CardRow) -> Ordering {
-        let first = by_lot(&a.lot, &b.lot);
-        let second = a.act.cmp(&b.act);
-        first.then(second)
+        a.lot.order(&b.lot).then(a.act.order(&b.act))
     }
 
     fn same_row(a: &CardRow, b: &CardRow) -> bool {
         a.lot == b.lot
             && a.act == b.act
             && a.day == b.day
-            && same_card_kind(a.kind, b.kind)
+            && a.kind == b.kind
             && a.note == b.note
             && a.qty == b.qty
             && a.rest == b.rest

@@ -1,13 +1,13 @@
 //! Whether two lists of rows are the same table, and where not, the first row that differs.
 #![tactic(auto)]
 
+mod columns;
 mod compared;
 mod differing;
 mod goods;
 mod history;
 mod key;
-mod kinds;
-mod lot;
+mod ordered;
 mod orders;
 
 pub use compared::Compared;

@@ -1,9 +1,9 @@
 //! The tables of orders, compared.
 
+use crate::columns::same_columns;
 use crate::compared::Compared;
 use crate::key::{RowKey, TableName};
-use crate::kinds::same_state;
-use crate::lot::by_lot;
+use crate::ordered::Ordered;
 use commands::{LineRow, OrderRow, ReservedRow, StagedRow, UrgentRow};
 use order_tables::lines::Lines;
 use order_tables::orders::Orders;
@@ -31,14 +31,11 @@ impl Compared for Orders {
     }
 
     fn by_key(a: &OrderRow, b: &OrderRow) -> Ordering {
-        a.order.as_bytes().cmp(b.order.as_bytes())
+        a.order.order(&b.order)
     }
 
     fn same_row(a: &OrderRow, b: &OrderRow) -> bool {
-        a.order == b.order
-            && a.act == b.act
-            && a.customer == b.customer
-            && same_state(a.state, b.state)
+        same_columns::<Orders>(a, b)
     }
 
     fn row_key(row: &OrderRow) -> RowKey {
@@ -65,11 +62,11 @@ impl Compared for Urgents {
     }
 
     fn by_key(a: &UrgentRow, b: &UrgentRow) -> Ordering {
-        a.order.as_bytes().cmp(b.order.as_bytes())
+        a.order.order(&b.order)
     }
 
     fn same_row(a: &UrgentRow, b: &UrgentRow) -> bool {
-        a.order == b.order && a.act == b.act
+        same_columns::<Urgents>(a, b)
     }
 
     fn row_key(row: &UrgentRow) -> RowKey {
@@ -96,13 +93,11 @@ impl Compared for Lines {
     }
 
     fn by_key(a: &LineRow, b: &LineRow) -> Ordering {
-        let first = a.order.as_bytes().cmp(b.order.as_bytes());
-        let second = a.gtin.as_bytes().cmp(b.gtin.as_bytes());
-        first.then(second)
+        a.order.order(&b.order).then(a.gtin.order(&b.gtin))
     }
 
     fn same_row(a: &LineRow, b: &LineRow) -> bool {
-        a.order == b.order && a.gtin == b.gtin && a.ordered == b.ordered && a.shipped == b.shipped
+        same_columns::<Lines>(a, b)
     }
 
     fn row_key(row: &LineRow) -> RowKey {
@@ -129,13 +124,11 @@ impl Compared for Staged {
     }
 
     fn by_key(a: &StagedRow, b: &StagedRow) -> Ordering {
-        let first = a.order.as_bytes().cmp(b.order.as_bytes());
-        let second = by_lot(&a.lot, &b.lot);
-        first.then(second)
+        a.order.order(&b.order).then(a.lot.order(&b.lot))
     }
 
     fn same_row(a: &StagedRow, b: &StagedRow) -> bool {
-        a.order == b.order && a.lot == b.lot && a.qty == b.qty
+        same_columns::<Staged>(a, b)
     }
 
     fn row_key(row: &StagedRow) -> RowKey {
@@ -162,13 +155,11 @@ impl Compared for Reserved {
     }
 
     fn by_key(a: &ReservedRow, b: &ReservedRow) -> Ordering {
-        let first = a.order.as_bytes().cmp(b.order.as_bytes());
-        let second = by_lot(&a.lot, &b.lot);
-        first.then(second)
+        a.order.order(&b.order).then(a.lot.order(&b.lot))
     }
 
     fn same_row(a: &ReservedRow, b: &ReservedRow) -> bool {
-        a.order == b.order && a.lot == b.lot && a.qty == b.qty
+        same_columns::<Reserved>(a, b)
     }
 
     fn row_key(row: &ReservedRow) -> RowKey {

@@ -1,7 +1,7 @@
 //! The acts of the books, printed.
 
 ghost use Rattle.std.specs.Prelude.{◌≡◌, ℤ, List, true, IsTrue, IsErr, IsErrAnd, IfOk, IfErr};
-ghost use Rattle.tables.specs.declared.opening.Leftover.TheVariants as leftover;
+ghost use Rattle.books_schema.specs.declared.ready_connection.Leftover.TheVariants as leftover;
 ghost use Rattle.sqlite.specs.Held.{state};
 ghost use Rattle.sqlite.specs.State.{HasCleanDisk};
 ghost use Rattle.machine.specs.Acts.{Act};
@@ -13,6 +13,7 @@ ghost use Rattle.line_books.specs.Failing.{IsUnopened};
 ghost use Rattle.service.specs.ActsTold.{fault_told};
 
 use crate::lent::Lent;
+use books_schema::ready_connection::Orderly;
 use command_line::Fault;
 use histories::{HistoryFault, print_history};
 use line_books::{AfterWork, NotBegun, open_books};
@@ -20,7 +21,6 @@ use sqlite::{Alter, Connection};
 use std::alloc::Global;
 use std::io::Write;
 use store::Books;
-use tables::opening::Orderly;
 
 /// Opens the books, and then prints their acts, one a line. Nothing is changed.
 pub fn open_and_print_acts<S: Orderly + Drop, W: Write>(

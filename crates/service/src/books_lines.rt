@@ -1,6 +1,6 @@
 ghost use Rattle.std.specs.Prelude.{◌≡◌, ℤ, [], List, true, false, IsErr, IsErrAnd, OnOk, IfOk, IfErr};
 ghost use Rattle.std.specs.Io.KnownBytes.{Appends};
-ghost use Rattle.tables.specs.declared.opening.Leftover.TheVariants as leftover;
+ghost use Rattle.books_schema.specs.declared.ready_connection.Leftover.TheVariants as leftover;
 ghost use Rattle.sqlite.specs.Held.{state};
 ghost use Rattle.sqlite.specs.State.{HasCleanDisk};
 ghost use Rattle.machine.specs.Acts.{Act};
@@ -17,6 +17,7 @@ ghost use Rattle.service.specs.Printing.{IsSheetPrinted, LeavesSheet};
 use crate::goods_file::import_file;
 use crate::lot_texts::{print_card, print_notice};
 use crate::serve::serve_logged_if;
+use books_schema::ready_connection::Orderly;
 use command_line::{Fault, FilesAt};
 use house::House;
 use line_books::{AfterWork, NotBegun, open_books};
@@ -25,7 +26,6 @@ use std::alloc::Global;
 use std::io::{self, Write};
 use std::net::TcpListener;
 use store::Books;
-use tables::opening::Orderly;
 use values::LotId;
 
 /// Opens the books, tells the port and answers so many connections.

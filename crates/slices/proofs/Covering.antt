@@ -9,7 +9,7 @@ use Rattle.commands.specs.declared.rows.UrgentRow.{UrgentRow}
 use Rattle.commands.specs.declared.rows.LineRow.{LineRow}
 use Rattle.commands.specs.declared.rows.OrderState.{OrderState}
 use Rattle.commands.specs.declared.rows.OrderState.TheVariants.{Open, Done, Cancelled}
-use Rattle.open_lines.specs.OpenLines.{Entries, holds, Gains, Loses, has_line_row, is_closed_state, has_closed_row}
+use Rattle.open_orders.specs.OpenLines.{Entries, holds, Gains, Loses, has_line_row, is_closed_state, has_closed_row}
 use Rattle.table_words.specs.Found as read
 use Rattle.table_words.specs.Found.{only_if}
 use Rattle.table_words.specs.Typed.{OrderKey, same_order, order_key, is_open_order, UrgentKey, same_urgent, urgent_key, LineKey, same_line, line_key}

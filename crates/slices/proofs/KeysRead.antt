@@ -5,7 +5,7 @@ use Rattle.std.specs.List.{list_any}
 use Rattle.table_words.specs.Found as read
 use Rattle.machine.specs.KeyedRows.{AreRows, no_two}
 use Rattle.machine.proofs.Tests.{and_both, not_true}
-use Rattle.slice_parts.specs.Keys.{has_key}
+use Rattle.slice_lists.specs.Keys.{has_key}
 use Rattle.known_reads.specs.Reading.{Each}
 use Rattle.slices.proofs.RowsTold.{read_none, read_both, rows_read, rows_as}
 

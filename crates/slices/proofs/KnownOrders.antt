@@ -6,8 +6,8 @@ use Rattle.values.specs.Values.{same_text}
 use Rattle.commands.specs.Tables.{Tables}
 use Rattle.commands.specs.declared.rows.OrderRow.{OrderRow}
 use Rattle.commands.specs.declared.rows.LineRow.{LineRow}
-use Rattle.open_lines.specs.OpenLines.{Entries, orders_at, are_apart}
-use Rattle.open_lines.proofs.Names.{apart_kept}
+use Rattle.open_orders.specs.OpenLines.{Entries, orders_at, are_apart}
+use Rattle.open_orders.proofs.Names.{apart_kept}
 use Rattle.table_words.specs.Found as read
 use Rattle.table_words.specs.Typed.{OrderKey, same_order, order_key, LineKey, same_line, line_key}
 use Rattle.machine.specs.KeyedRows.{AreRows, AreOwn, no_two}

@@ -18,12 +18,12 @@ use Rattle.machine.specs.KeyedRows.{AreRows}
 use Rattle.machine.proofs.Tests.{and_both, or_false, or_first, or_later, same_text_is, same_text_refl, is_lot_is, is_lot_turned, is_lot_item}
 use Rattle.rules.specs.Slices.{IsSlice, on_named_stage, has_touched_line}
 use Rattle.row_rules.specs.declared.slice.Slice.{Slice}
-use Rattle.slice_parts.specs.Keys.{has_key}
+use Rattle.slice_lists.specs.Keys.{has_key}
 use Rattle.slices.specs.Slicing.{is_among, with_names, lots_on_stage, AreShipped}
 use Rattle.slices.proofs.KeysTold.{same_cell_is, same_cell_refl, same_share_is, same_share_refl, same_line_is, same_line_refl}
 use Rattle.slices.proofs.RowsTold.{rows_as}
 use Rattle.slices.proofs.SliceTold.{among_names, once_names, sought}
-use Rattle.slice_parts.proofs.KeysOnce.{has_keys, once_keys}
+use Rattle.slice_lists.proofs.KeysOnce.{has_keys, once_keys}
 use Rattle.slices.proofs.KeysRead.{keys_read}
 use Rattle.slices.proofs.LinesTold.{taken}
 use Rattle.slices.proofs.OwnRows.{own_any, any_kept, no_rows}

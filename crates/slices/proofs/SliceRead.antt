@@ -15,7 +15,7 @@ use Rattle.machine.specs.Tables.{tables_of}
 use Rattle.rules.specs.Slices.{IsSlice}
 use Rattle.row_rules.specs.declared.slice.Rows.{Rows}
 use Rattle.row_rules.specs.declared.slice.Slice.{Slice}
-use Rattle.open_lines.specs.OpenLines.{Entries, Loses, has_closed_row, has_line_row}
+use Rattle.open_orders.specs.OpenLines.{Entries, Loses, has_closed_row, has_line_row}
 use Rattle.slices.specs.Books.{IsBooksOf}
 use Rattle.known_reads.specs.Reading.{IsRead}
 use Rattle.slices.specs.Bounding.{AreBounds, with_counts}

@@ -39,14 +39,14 @@ use Rattle.machine.proofs.histories.Accepted.{item_accepted}
 use Rattle.machine.proofs.histories.Notices.{bins_apart}
 use Rattle.machine.proofs.histories.Orders.{found_order}
 use Rattle.rules.proofs.rows.SliceTells.{some_mapped, names_touched}
-use Rattle.slice_parts.specs.Keys.{has_key, with_keys}
+use Rattle.slice_lists.specs.Keys.{has_key, with_keys}
 use Rattle.slices.specs.Slicing.{is_among, with_names, with_some, items_named, lots_named, orders_named, bins_named, whole_orders, held_lots, AreAllLines, AreCounts, AreTaken, AreTouched, ArePlanned, AreSliced, is_passed, is_open_in, HoldsOf}
 use Rattle.slices.specs.declared.knowing.Known.{Known}
 use Rattle.slices.proofs.AtMost.{told_number}
 use Rattle.slices.proofs.KeysTold.{same_cell_is, same_cell_refl, same_share_is, same_share_refl, same_line_is, same_line_refl}
 use Rattle.slices.proofs.RowsTold.{rows_as}
 use Rattle.slices.proofs.SliceTold.{among_with, once_with, among_names, once_names, sought}
-use Rattle.slice_parts.proofs.KeysOnce.{has_keys, once_keys}
+use Rattle.slice_lists.proofs.KeysOnce.{has_keys, once_keys}
 use Rattle.slices.proofs.KeysRead.{keys_read}
 use Rattle.slices.proofs.OwnRows.{own_any, no_rows}
 use Rattle.slices.proofs.PickRight.{pick_right}

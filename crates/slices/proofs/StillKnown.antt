@@ -1,21 +1,35 @@
 -- Of no rows, and of some rows fewer, what is known is so.
-use Rattle.std.specs.Prelude.{reverse}
+use Rattle.std.proofs.Common.{sym, subst}
+use Rattle.std.specs.Prelude.{reverse, Option}
 use Rattle.std.specs.Ordering.{nat_cmp}
 use Rattle.std.specs.Cmp.Lexicographic.{slice_cmp}
 use Rattle.commands.specs.Tables.{Tables}
+use Rattle.commands.specs.declared.rows.MetaRow.{MetaRow}
 use Rattle.row_rules.specs.declared.slice.Put.{Put}
-use Rattle.slice_parts.specs.LotOrder.{lot_key as turned_lot, lot_key_cmp}
-use Rattle.slice_parts.specs.LineOrder.{turned_line, line_key_cmp}
+use Rattle.slice_lists.specs.LotOrder.{lot_key as turned_lot, lot_key_cmp}
+use Rattle.slice_lists.specs.LineOrder.{turned_line, line_key_cmp}
 use Rattle.goods_tables.specs.Bins.{AreBinsOf}
 use Rattle.goods_tables.specs.Items.{AreItemsOf}
 use Rattle.goods_tables.specs.Least.{AreLeastOf}
 use Rattle.goods_tables.specs.Lots.{AreLotOf}
 use Rattle.goods_tables.specs.Recalls.{AreRecallsOf}
 use Rattle.order_tables.specs.Lines.{AreLinesOfOrder, AreLineOf}
+use Rattle.goods_tables.specs.Stock.{AreStockOf}
 use Rattle.order_tables.specs.Orders.{AreOrdersOf}
+use Rattle.order_tables.specs.Staged.{AreStagedOfItem}
 use Rattle.known_rows.proofs.Learned.{remembers_left, remembers_none}
+use Rattle.slices.specs.Following.{KnowsMeta, KnowsFollowed, KnowsNoneFollowed}
 use Rattle.slices.specs.Remembering.{KnowsRows, KnowsNoRows, ForgetsPut}
+use Rattle.slices.specs.declared.followed.Followed.{Followed}
 use Rattle.slices.specs.declared.rows_known.RowsKnown.{RowsKnown}
+
+-- of rows that follow what is written
+none_followed : (t : Tables) (known : Followed) → KnowsNoneFollowed known → KnowsFollowed t known
+none_followed t known none = record {
+  stock = remembers_none (slice_cmp nat_cmp) reverse (λ by found. AreStockOf by t found) known.stock.rows none.stock;
+  staged = remembers_none (slice_cmp nat_cmp) reverse (λ by found. AreStagedOfItem by t found) known.staged.rows none.staged;
+  meta = subst (λ (x : Option MetaRow). KnowsMeta t x) (sym none.meta) tt;
+}
 
 pub no_rows_known : (t : Tables) (known : RowsKnown) → KnowsNoRows known → KnowsRows t known
 no_rows_known t known none = record {
@@ -27,6 +41,7 @@ no_rows_known t known none = record {
   orders = remembers_none (slice_cmp nat_cmp) reverse (λ by found. AreOrdersOf by t found) known.orders.rows none.orders;
   lines = remembers_none (slice_cmp nat_cmp) reverse (λ by found. AreLinesOfOrder by t found) known.lines.rows none.lines;
   lines_at = remembers_none line_key_cmp turned_line (λ by found. AreLineOf by t found) known.lines_at.rows none.lines_at;
+  followed = none_followed t known.followed none.followed;
 }
 
 pub rows_stay_known : (puts : Put) (t : Tables) (old new : RowsKnown) → ForgetsPut puts old new → KnowsRows t old → KnowsRows t new
@@ -39,4 +54,5 @@ rows_stay_known puts t old new forgets known = record {
   orders = remembers_left (slice_cmp nat_cmp) reverse (λ by found. AreOrdersOf by t found) (λ r. reverse r.order) puts.orders old.orders.rows new.orders.rows forgets.orders known.orders;
   lines = remembers_left (slice_cmp nat_cmp) reverse (λ by found. AreLinesOfOrder by t found) (λ r. reverse r.order) puts.lines old.lines.rows new.lines.rows forgets.lines known.lines;
   lines_at = remembers_left line_key_cmp turned_line (λ by found. AreLineOf by t found) (λ r. turned_line (r.order, r.gtin)) puts.lines old.lines_at.rows new.lines_at.rows forgets.lines_at known.lines_at;
+  followed = subst (λ (x : Followed). KnowsFollowed t x) (sym forgets.followed) known.followed;
 }

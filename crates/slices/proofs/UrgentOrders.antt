@@ -6,7 +6,7 @@ use Rattle.values.specs.Values.{same_text}
 use Rattle.commands.specs.Tables.{Tables}
 use Rattle.commands.specs.declared.rows.OrderRow.{OrderRow}
 use Rattle.commands.specs.declared.rows.UrgentRow.{UrgentRow}
-use Rattle.open_lines.specs.OpenLines.{Entries, orders_at, holds}
+use Rattle.open_orders.specs.OpenLines.{Entries, orders_at, holds}
 use Rattle.table_words.specs.Typed.{OrderKey, same_order, order_key, UrgentKey, same_urgent, urgent_key}
 use Rattle.machine.specs.KeyedRows.{AreRows, no_two}
 use Rattle.machine.proofs.Tests.{and_both, or_first, or_later, same_text_is, same_text_refl}

@@ -7,7 +7,7 @@ use Rattle.commands.specs.declared.names.Added.TheVariants.{Item, Bin}
 use Rattle.commands.specs.Names.{names_of}
 use Rattle.commands.specs.declared.limits.TheConstants.{ITEMS_MAX, BINS_MAX}
 use Rattle.row_rules.specs.declared.slice.Put.{Put}
-use Rattle.slice_parts.specs.Parts.{is_among}
+use Rattle.slice_lists.specs.Parts.{is_among}
 use Rattle.known_reads.specs.Reading.{IsCount}
 use Rattle.slices.specs.declared.knowing.Bounds.{Bounds}
 

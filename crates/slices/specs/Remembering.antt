@@ -1,5 +1,5 @@
 -- The rows that are known by what they were sought by, and reads that are answered from them.
-use Rattle.std.specs.Prelude.{ℕ, List, reverse}
+use Rattle.std.specs.Prelude.{◌≡◌, ℕ, List, reverse}
 use Rattle.std.specs.Ordering.{nat_cmp}
 use Rattle.std.specs.Cmp.Lexicographic.{slice_cmp}
 use Rattle.commands.specs.Tables.{Tables}
@@ -10,10 +10,10 @@ use Rattle.commands.specs.declared.rows.LineRow.{LineRow}
 use Rattle.commands.specs.declared.rows.LotRow.{LotRow}
 use Rattle.commands.specs.declared.rows.OrderRow.{OrderRow}
 use Rattle.commands.specs.declared.rows.RecallRow.{RecallRow}
-use Rattle.text_keys.specs.declared.lot_key.LotKey.{LotKey}
-use Rattle.slice_parts.specs.LotOrder.{lot_key as turned_lot, lot_key_cmp}
-use Rattle.slice_parts.specs.declared.line_keys.LineKey.{LineKey}
-use Rattle.slice_parts.specs.LineOrder.{turned_line, line_key_cmp}
+use Rattle.values.specs.declared.lot_key.LotKey.{LotKey}
+use Rattle.slice_lists.specs.LotOrder.{lot_key as turned_lot, lot_key_cmp}
+use Rattle.slice_lists.specs.declared.line_keys.LineKey.{LineKey}
+use Rattle.slice_lists.specs.LineOrder.{turned_line, line_key_cmp}
 use Rattle.row_rules.specs.declared.slice.Put.{Put}
 use Rattle.goods_tables.specs.Bins.{AreBinsOf}
 use Rattle.goods_tables.specs.Items.{AreItemsOf}
@@ -24,6 +24,7 @@ use Rattle.order_tables.specs.Lines.{AreLinesOfOrder, AreLineOf}
 use Rattle.order_tables.specs.Orders.{AreOrdersOf}
 use Rattle.known_rows.specs.KnownRows.{RowMap, KnowsNone, ForgetsBy, Remembers}
 use Rattle.known_reads.specs.Reading.{Knowing}
+use Rattle.slices.specs.Following.{KnowsFollowed, KnowsNoneFollowed}
 use Rattle.slices.specs.declared.rows_known.RowsKnown.{RowsKnown}
 
 -- What is known of one table is so
@@ -70,6 +71,7 @@ pub record KnowsRows (t : Tables) (known : RowsKnown) : Type 0 where
   pub orders : KnowsOrders t known.orders.rows
   pub lines : KnowsLines t known.lines.rows
   pub lines_at : KnowsLinesAt t known.lines_at.rows
+  pub followed : KnowsFollowed t known.followed
 
 -- nothing is known
 pub record KnowsNoRows (known : RowsKnown) : Type 0 where
@@ -81,8 +83,9 @@ pub record KnowsNoRows (known : RowsKnown) : Type 0 where
   pub orders : KnowsNone (slice_cmp nat_cmp) known.orders.rows
   pub lines : KnowsNone (slice_cmp nat_cmp) known.lines.rows
   pub lines_at : KnowsNone line_key_cmp known.lines_at.rows
+  pub followed : KnowsNoneFollowed known.followed
 
--- what is known after was known before, and is not sought with a row that a change puts
+-- what is known after was known before, and is not sought with a row that a change puts, but for what follows what is written
 pub record ForgetsPut (puts : Put) (old new : RowsKnown) : Type 0 where
   pub items : ForgetsBy (slice_cmp nat_cmp) (λ (r : ItemRow). reverse r.gtin) puts.items old.items.rows new.items.rows
   pub least : ForgetsBy (slice_cmp nat_cmp) (λ (r : LeastRow). reverse r.gtin) puts.least old.least.rows new.least.rows
@@ -92,6 +95,7 @@ pub record ForgetsPut (puts : Put) (old new : RowsKnown) : Type 0 where
   pub orders : ForgetsBy (slice_cmp nat_cmp) (λ (r : OrderRow). reverse r.order) puts.orders old.orders.rows new.orders.rows
   pub lines : ForgetsBy (slice_cmp nat_cmp) (λ (r : LineRow). reverse r.order) puts.lines old.lines.rows new.lines.rows
   pub lines_at : ForgetsBy line_key_cmp (λ (r : LineRow). turned_line (r.order, r.gtin)) puts.lines old.lines_at.rows new.lines_at.rows
+  pub followed : new.followed ≡ old.followed
 
 -- what a read tells holds of the tables if what is known before it does, and then what is known after it does too
 abbrev pub Learning : {X : Type 0} → RowsKnown → RowsKnown → (Tables → X → Type 0) → Tables → X → Type 0

@@ -23,7 +23,7 @@ use Rattle.commands.specs.declared.rows.ReservedRow.{ReservedRow}
 use Rattle.table_words.specs.Found.{AreRows, only_if}
 use Rattle.table_words.specs.Typed.{same_lot_id, ItemKey, same_item, item_key, LeastKey, same_least, least_key, BinKey, same_bin, bin_key, LotKey, same_lot, lot_key, RecallKey, same_recall, recall_key, StockKey, same_stock, stock_key, OrderKey, same_order, order_key, is_open_order, UrgentKey, same_urgent, urgent_key, LineKey, same_line, line_key, StagedKey, same_staged, staged_key, ReservedKey, same_reserved, reserved_key}
 use Rattle.goods_tables.specs.Least.{is_asking}
-use Rattle.open_lines.specs.OpenLines.{Entries, orders_at, holds, are_apart, Gains, has_line_row}
+use Rattle.open_orders.specs.OpenLines.{Entries, orders_at, holds, are_apart, Gains, has_line_row}
 use Rattle.rules.specs.Slices.{counts_items, counts_bins}
 use Rattle.row_rules.specs.declared.slice.Rows.{Rows}
 use Rattle.row_rules.specs.declared.slice.Put.{Put}
@@ -34,7 +34,7 @@ use Rattle.slices.specs.declared.knowing.Bounds.{Bounds}
 use Rattle.slices.specs.declared.knowing.Known.{Known}
 pub use Rattle.known_reads.specs.Reading.{Each}
 use Rattle.slices.specs.ByLot.{AreLotsOf, AreStockOf}
-pub use Rattle.slice_parts.specs.Parts.{is_among, with_name, with_names, with_some, items_named, lots_named, orders_named, bins_named, whole_orders, held_lots, lots_on_stage, others, other_names, has_line_in, with_lines, has_urgent_row, urgent_lines, names_among, is_ending, not_recalled, items_of_lots, with_staged}
+pub use Rattle.slice_lists.specs.Parts.{is_among, with_name, with_names, with_some, items_named, lots_named, orders_named, bins_named, whole_orders, held_lots, lots_on_stage, others, other_names, has_line_in, with_lines, has_urgent_row, urgent_lines, names_among, is_ending, not_recalled, items_of_lots, with_staged}
 
 -- the row passes
 abbrev pub is_passed : {R : Type 0} → (R → Bool) → Option R → Bool
@@ -242,6 +242,12 @@ pub record HoldsOf (known : Known) (t : Tables) : Type 0 where
   pub urgent : CoversUrgent known.urgent t
   pub bounds : AreBounds known.bounds t
   pub rows : KnowsRows t known.rows
+
+-- so beside its rows
+pub record HoldsBeside (known : Known) (t : Tables) : Type 0 where
+  pub lines : Covers known.lines t
+  pub urgent : CoversUrgent known.urgent t
+  pub bounds : AreBounds known.bounds t
 
 -- Slices
 

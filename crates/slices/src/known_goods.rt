@@ -23,8 +23,7 @@ use known_reads::{seek_all_known, seek_known};
 use sqlite::{Alter, Transaction};
 use std::alloc::Global;
 use table_words::error::TableFault;
-use text_keys::{LotKey, TextKey};
-use values::{Gtin, LotId, Name};
+use values::{Gtin, LotId, LotKey, Name, TextKey};
 
 /// The row of an item.
 pub fn seek_item<S: Alter>(

@@ -13,12 +13,11 @@ use commands::{LineRow, OrderRow};
 use known_reads::{seek_all_known, seek_known};
 use order_tables::lines::Lines;
 use order_tables::orders::Orders;
-use slice_parts::LineKey;
+use slice_lists::LineKey;
 use sqlite::{Alter, Transaction};
 use std::alloc::Global;
 use table_words::error::TableFault;
-use text_keys::TextKey;
-use values::{Gtin, Name};
+use values::{Gtin, Name, TextKey};
 
 /// The row of an order.
 pub fn seek_order<S: Alter>(

@@ -1,28 +1,36 @@
 //! The rows that a command is decided by, read from the tables by seeks.
 #![tactic(auto)]
 
+mod day_items;
+mod followed;
 mod knowing;
+mod known_followed;
 mod known_goods;
 mod known_lines;
 mod known_lists;
 mod known_orders;
-mod opening;
+mod one_table;
 mod order_slices;
 mod picks;
-mod reading;
 mod rows_known;
-mod rows_read;
 mod shipments;
+mod slice_rows;
 mod slices;
-mod sought;
+mod sought_rows;
 mod urgent_orders;
 
+pub use followed::Followed;
 pub use knowing::{Bounds, Known};
+pub use known_followed::{known_meta, seek_staged, seek_stock, seek_stock_of, seek_stock_of_lots};
+pub use known_goods::{
+    seek_bins, seek_item, seek_least, seek_least_of, seek_lot, seek_lots, seek_recalls_of,
+};
 pub use known_lines::{first_known, know_put};
+pub use known_lists::{seek_lines, seek_order};
 pub use known_orders::read_known_orders;
+pub use one_table::{line_row, meta_row};
 pub use order_slices::add_line;
-pub use reading::{line_row, meta_row};
 pub use rows_known::RowsKnown;
-pub use slices::{read_booked, read_slice};
-pub use sought::{read_row, read_rows, seek_all, seek_both};
+pub use slices::read_slice;
+pub use sought_rows::{read_row, read_rows, seek_all, seek_both};
 pub use urgent_orders::read_urgents;

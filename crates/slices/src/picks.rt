@@ -6,13 +6,13 @@ ghost use Rattle.known_reads.specs.Reading.{IsRead};
 ghost use Rattle.slices.specs.Remembering.{Learning};
 ghost use Rattle.slices.specs.Slicing.{AreGoodsIn, AreOrderOf, AreSharesOf, ArePicked};
 
+use crate::known_followed::seek_stock_of;
 use crate::known_goods::{seek_bin, seek_item, seek_least_of, seek_lot, seek_recalls_of};
 use crate::known_lists::{seek_line, seek_order};
 use crate::rows_known::RowsKnown;
-use crate::rows_read::{Goods, Ordered, Shares, rows_read};
-use crate::sought::read_rows;
+use crate::slice_rows::{Goods, Ordered, Shares, rows_read};
+use crate::sought_rows::read_rows;
 use commands::Picking;
-use goods_tables::stock::Stock;
 use order_tables::reserved::Reserved;
 use order_tables::staged::Staged;
 use rules::Rows;
@@ -36,7 +36,7 @@ fn read_goods<S: Alter>(
     let least = seek_least_of(alloc, tx, rows, &lot.gtin)?;
     let lots = seek_lot(alloc, tx, rows, lot)?;
     let recalls = seek_recalls_of(alloc, tx, rows, &lot.gtin)?;
-    let stock = read_rows::<Stock, LotId, S>(alloc, tx, lot)?;
+    let stock = seek_stock_of(alloc, tx, rows, lot)?;
     let bins = seek_bin(alloc, tx, rows, bin)?;
     Ok(Goods {
         items,

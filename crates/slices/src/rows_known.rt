@@ -2,13 +2,13 @@
 
 ghost use Rattle.slices.specs.Remembering.{KnowsNoRows, ForgetsPut};
 
+use crate::followed::Followed;
 use commands::{BinRow, ItemRow, LeastRow, LineRow, LotRow, OrderRow, RecallRow};
 use known_rows::KnownRows;
 use rules::Put;
-use slice_parts::LineKey;
+use slice_lists::LineKey;
 use std::alloc::Global;
-use text_keys::{LotKey, TextKey};
-use values::{Gtin, LotId, Name};
+use values::{Gtin, LotId, LotKey, Name, TextKey};
 
 /// The rows that are known.
 #[derive(Drop)]
@@ -29,6 +29,8 @@ pub struct RowsKnown {
     pub lines: KnownRows<Name, TextKey, LineRow>,
     /// Lines by their orders and items.
     pub lines_at: KnownRows<(Name, Gtin), LineKey, LineRow>,
+    /// Those that follow what is written.
+    pub followed: Followed,
 }
 
 impl RowsKnown {
@@ -45,10 +47,11 @@ impl RowsKnown {
             orders: KnownRows::new(alloc),
             lines: KnownRows::new(alloc),
             lines_at: KnownRows::new(alloc),
+            followed: Followed::new(alloc),
         }
     }
 
-    /// Forgets what is sought with one of the rows that a change puts. It takes no memory.
+    /// Forgets what is sought with one of the rows that a change puts, but for what follows what is written. It takes no memory.
     pub fn forget_put(&mut self, put: &Put)
         ensures { ForgetsPut put.now self.old self.new }
     {

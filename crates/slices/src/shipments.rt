@@ -6,19 +6,17 @@ ghost use Rattle.known_reads.specs.Reading.{IsRead};
 ghost use Rattle.slices.specs.Remembering.{Learning};
 ghost use Rattle.slices.specs.Slicing.{AreShipped};
 
+use crate::known_followed::{seek_staged, seek_stock_of_lots};
 use crate::order_slices::read_named;
 use crate::rows_known::RowsKnown;
-use crate::sought::seek_all;
-use goods_tables::stock::Stock;
-use order_tables::staged::Staged;
 use rules::Rows;
-use slice_parts::item_rows::of_shipment;
-use slice_parts::lots_held::lots_on_stage;
-use slice_parts::naming::items_of_rows;
+use slice_lists::command_names::items_of_rows;
+use slice_lists::item_rows::of_shipment;
+use slice_lists::lots_held::lots_on_stage;
 use sqlite::{Alter, Transaction};
 use std::alloc::Global;
 use table_words::error::TableFault;
-use values::{Gtin, LotId, Name};
+use values::Name;
 
 /// The order with its lines, what is staged of their items, and the stock of the lots that are staged for the order. No
 /// plan changes, so nothing is read of the items' other lots and open orders.
@@ -34,8 +32,8 @@ pub fn read_shipment<S: Alter>(
     let named = [*order];
     let (orders, lines) = read_named(alloc, tx, rows, &named)?;
     let gtins = items_of_rows(alloc, lines.as_slice())?;
-    let staged = seek_all::<Staged, Gtin, S>(alloc, tx, gtins.as_slice())?;
+    let staged = seek_staged(alloc, tx, rows, gtins.as_slice())?;
     let lots = lots_on_stage(alloc, order, staged.as_slice())?;
-    let stock = seek_all::<Stock, LotId, S>(alloc, tx, lots.as_slice())?;
+    let stock = seek_stock_of_lots(alloc, tx, rows, lots.as_slice())?;
     Ok(of_shipment(alloc, stock, orders, lines, staged))
 }

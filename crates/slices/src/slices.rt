@@ -12,32 +12,30 @@ ghost use Rattle.machine.specs.Tables.{tables_of};
 ghost use Rattle.rules.specs.Slices.{IsSlice};
 ghost use Rattle.slices.specs.Books.{IsBooksOf};
 ghost use Rattle.table_words.specs.Typed.{tables_in};
-ghost use Rattle.open_lines.specs.OpenLines.{Loses, has_closed_row, has_line_row};
+ghost use Rattle.open_orders.specs.OpenLines.{Loses, has_closed_row, has_line_row};
 ghost use Rattle.known_reads.specs.Reading.{IsRead};
 ghost use Rattle.slices.specs.Remembering.{Learning};
 ghost use Rattle.slices.specs.Bounding.{with_counts};
 ghost use Rattle.slices.specs.ByLot.{AreLotsOf};
-ghost use Rattle.slices.specs.Slicing.{AreGoods, AreBooked, AreKnownOrders, AreUrgentsFor, AreBins, AreCounts, AreTaken, AreTouched, ArePlanned, AreSliced, HoldsOf, IsSliceIn, orders_named, bins_named, with_names, held_lots};
+ghost use Rattle.slices.specs.Slicing.{AreGoods, AreKnownOrders, AreUrgentsFor, AreBins, AreCounts, AreTaken, AreTouched, ArePlanned, AreSliced, HoldsOf, IsSliceIn, orders_named, bins_named, with_names, held_lots};
 
+use crate::day_items::affected_items;
 use crate::knowing::{Bounds, Known};
+use crate::known_followed::{known_meta, seek_staged, seek_stock};
 use crate::known_goods::{seek_bins, seek_items, seek_least, seek_lots, seek_recalls};
 use crate::known_lists::seek_lines;
 use crate::known_orders::read_known_orders;
-use crate::opening::affected_items;
+use crate::one_table::{told_bins, told_items};
 use crate::picks::read_pick;
-use crate::reading::{meta_row, told_bins, told_items};
 use crate::rows_known::RowsKnown;
-use crate::rows_read::{Goods, Ordered, Shares, rows_read};
 use crate::shipments::read_shipment;
-use crate::sought::{seek_all, seek_both};
+use crate::slice_rows::{Goods, Ordered, Shares, rows_read};
 use crate::urgent_orders::read_urgents;
-use commands::{Added, BinRow, Command, LotRow, MetaRow, ReservedRow, StagedRow, StockRow};
-use goods_tables::stock::Stock;
-use order_tables::reserved::Reserved;
+use commands::{Added, BinRow, Command, LotRow, MetaRow, StagedRow, StockRow};
 use order_tables::staged::Staged;
 use rules::{Rows, Slice};
-use slice_parts::lots_held::lots_held;
-use slice_parts::naming::{bins_with, items_with, named_orders, whole_orders};
+use slice_lists::command_names::{bins_with, items_with, named_orders, whole_orders};
+use slice_lists::lots_held::lots_held;
 use sqlite::{Alter, Transaction};
 use std::alloc::Global;
 use std::mem;
@@ -73,18 +71,6 @@ fn touched_items<S: Alter>(
         Some(day) => affected_items(alloc, tx, day),
         None => taken_items(alloc, tx, rows, command),
     }
-}
-
-/// What is staged and what is reserved of the items.
-pub fn read_booked<S: Alter>(
-    alloc: Global,
-    tx: &mut Transaction<'_, S>,
-    gtins: &[Gtin],
-) -> Result<(Vec<StagedRow>, Vec<ReservedRow>), TableFault>
-    ensures same_reference { tx.new.conn.ghost_name ≡ tx.old.conn.ghost_name }
-    ensures read { IsRead (λ t rows. AreBooked gtins.now t rows.0.items rows.1.items) (state S.Store tx.old.conn.now) (state S.Store tx.new.conn.now) result }
-{
-    seek_both::<Gtin, Staged, Reserved, S>(alloc, tx, gtins)
 }
 
 /// The lots that the command names or that have units.
@@ -136,7 +122,7 @@ fn read_goods<S: Alter>(
     let items = seek_items(alloc, tx, rows, gtins)?;
     let least = seek_least(alloc, tx, rows, gtins)?;
     let recalls = seek_recalls(alloc, tx, rows, gtins)?;
-    let stock = seek_all::<Stock, Gtin, S>(alloc, tx, gtins)?;
+    let stock = seek_stock(alloc, tx, rows, gtins)?;
     let lots = read_lots(alloc, tx, rows, command, stock.as_slice(), staged)?;
     let bins = read_bins(alloc, tx, rows, command, stock.as_slice())?;
     Ok(Goods {
@@ -216,7 +202,7 @@ fn read_planned<S: Alter>(
     ensures read { IsRead (Learning rows.old rows.new (λ t found. ArePlanned known.now command.now t found)) (state S.Store tx.old.conn.now) (state S.Store tx.new.conn.now) result }
 {
     let gtins = touched_items(alloc, tx, rows, command)?;
-    let staged = seek_all::<Staged, Gtin, S>(alloc, tx, gtins.as_slice())?;
+    let staged = seek_staged(alloc, tx, rows, gtins.as_slice())?;
     let goods = read_goods(
         alloc,
         tx,
@@ -284,7 +270,7 @@ fn slice_in<S: Alter>(
     ensures same_reference { tx.new.conn.ghost_name ≡ tx.old.conn.ghost_name }
     ensures read { IsRead (Learning rows.old rows.new (λ t s. IsSliceIn known.now command.now t s)) (state S.Store tx.old.conn.now) (state S.Store tx.new.conn.now) result }
 {
-    let meta = meta_row(alloc, tx)?;
+    let meta = known_meta(alloc, tx, rows)?;
     read_rest(alloc, tx, known, rows, command, meta)
 }
 

@@ -5,11 +5,11 @@ ghost use Rattle.sqlite.specs.Held.{state};
 ghost use Rattle.known_reads.specs.Reading.{IsRead};
 ghost use Rattle.slices.specs.Slicing.{names_at, AreUrgentsFor};
 
-use crate::sought::seek_all;
+use crate::sought_rows::seek_all;
 use commands::{OrderRow, UrgentRow};
-use open_lines::OpenLines;
+use open_orders::OpenLines;
 use order_tables::urgents::Urgents;
-use slice_parts::urgent_rows::names_among;
+use slice_lists::urgent_rows::names_among;
 use sqlite::{Alter, Transaction};
 use std::alloc::{AllocError, Global};
 use table_words::error::TableFault;

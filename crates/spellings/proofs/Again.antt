@@ -7,11 +7,11 @@ use Rattle.std.specs.Str.{bytes_eq}
 use Rattle.std.proofs.lemmas.Bool.{cond-true}
 use Rattle.std.proofs.lemmas.Bool.Decides.{nat_tests}
 use Rattle.std.proofs.lemmas.Slice.Eq.{bytes_eq-Decides}
-use Rattle.values.specs.Values.{checked, is_gtin, is_lot_text, is_name, is_title, is_qty, is_counted, is_delta, is_line_no, is_digit}
+use Rattle.values.specs.Values.{checked, is_gtin, is_lot_text, is_name, is_title, is_qty, is_counted, is_delta, is_line_no, is_digit, is_least_days}
 use Rattle.values.specs.declared.lot.LotId.{LotId}
 use Rattle.label.specs.Days.{is_day, is_business_day, day_text}
 use Rattle.label.proofs.DayTexts.{parsed_day-day_text}
-use Rattle.commands.specs.Limits.{has_order_lines, is_least_days}
+use Rattle.commands.specs.Limits.{has_order_lines}
 use Rattle.commands.specs.Words.{bin_kind_word, bin_kind_of}
 use Rattle.commands.specs.Spelling.{fields, spelling, key_text, order_fields, picking_fields}
 use Rattle.commands.specs.Sound.{is_lot_id, is_order_line, are_lines, is_new_order, is_picking, is_sound, is_sound_key}

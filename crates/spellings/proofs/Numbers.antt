@@ -6,9 +6,7 @@ use Rattle.std.specs.List.{list_all}
 use Rattle.std.proofs.lemmas.Fmt.{decimal_by_steps, length-decimal-le}
 use Rattle.std.proofs.lemmas.Bool.{cond-true, cond-false, le-leb}
 use Rattle.std.proofs.lemmas.Bool.Decides.{nat_tests}
-use Rattle.values.specs.Values.{checked, first_is, is_between, is_counted, is_delta, is_digit, is_line_no, is_qty, QTY_MAX, LINE_MAX}
-use Rattle.commands.specs.Limits.{is_least_days}
-use Rattle.commands.specs.declared.limits.TheConstants.{LEAST_DAYS_MAX}
+use Rattle.values.specs.Values.{checked, first_is, is_between, is_counted, is_delta, is_digit, is_line_no, is_qty, QTY_MAX, LINE_MAX, LEAST_DAYS_MAX, is_least_days}
 use Rattle.commands.proofs.Joining.{all-append, and_true}
 use Rattle.spellings.specs.Reading.{number_from, number_read, qty_read, counted_read, least_days_read, line_no_read, delta_read}
 

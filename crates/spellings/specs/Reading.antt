@@ -2,10 +2,10 @@
 use Rattle.std.specs.Prelude.{ℕ, ◌+◌, ◌-◌, ◌*◌, nat_le, if◌then◌else◌, ℤ, pos, neg_ℤ, List, [], ◌∷◌, length, drop, codes, Option, Some, None, slice_get, option_map, option_and_then}
 use Rattle.std.specs.Option.{unwrap_or}
 use Rattle.std.specs.Str.{bytes_eq}
-use Rattle.values.specs.Values.{checked, same_text, first_is, is_counted, is_delta, is_gtin, is_line_no, is_lot_text, is_name, is_qty, is_title}
+use Rattle.values.specs.Values.{checked, same_text, first_is, is_counted, is_delta, is_gtin, is_line_no, is_lot_text, is_name, is_qty, is_title, is_least_days}
 use Rattle.values.specs.declared.lot.LotId.{LotId}
 use Rattle.label.specs.Days.{is_business_day, parsed_day}
-use Rattle.commands.specs.Limits.{has_order_lines, is_least_days}
+use Rattle.commands.specs.Limits.{has_order_lines}
 use Rattle.commands.specs.Words.{bin_kind_of}
 use Rattle.commands.specs.Spelling.{key_text}
 use Rattle.commands.specs.declared.key.Key.{Key}

@@ -5,9 +5,8 @@ ghost use Rattle.values.specs.Values.{checked, is_gtin, is_lot_text, is_title, i
 ghost use Rattle.spellings.specs.Reading.{field_at, number_from, number_read, qty_read, counted_read, least_days_read, line_no_read, rise_read, fall_read, delta_read, business_day_read, lot_read};
 
 use crate::pieces::field;
-use commands::LeastDays;
 use label::{BusinessDay, Day};
-use values::{Counted, Delta, Gtin, LineNo, Lot, LotId, Name, Qty, Title};
+use values::{Counted, Delta, Gtin, LeastDays, LineNo, Lot, LotId, Name, Qty, Title};
 
 pub(crate) fn name(fields: &[&[u8]], at: usize) -> Option<Name>
     ensures { result ≡ checked is_name (field_at at (map (λ f. f.now) fields.now)) }

@@ -23,11 +23,8 @@ use Rattle.commands.specs.declared.rows.ShipmentRow.{ShipmentRow}
 use Rattle.commands.specs.declared.rows.RepeatRow.{RepeatRow}
 use Rattle.table_words.specs.Cells.{is_expiry}
 use Rattle.goods_tables.specs.Meta.{fits_meta}
-use Rattle.goods_tables.specs.Lots.{fits_lot}
-use Rattle.goods_tables.specs.Recalls.{fits_recall}
-use Rattle.order_tables.specs.Orders.{fits_order}
-use Rattle.order_tables.specs.Urgents.{fits_urgent}
-use Rattle.history_tables.specs.Shipments.{fits_shipment}
+use Rattle.table_words.specs.Stored.{fits_row}
+use Rattle.table_words.specs.Typed.{lot_mapping, recall_mapping, order_mapping, urgent_mapping, shipment_mapping}
 use Rattle.history_tables.specs.Repeats.{fits_repeat}
 use Rattle.machine.specs.Acts.{Act, gathered, next_number}
 use Rattle.machine.specs.Standing.{KnownLot, lot_among, lots, lots_after, lot_known, Recalling, recall_in, recalling, Placed, order_in, orders, order_named, lines_placed, lines_of, shipments, shipments_after, day_after_command, today}
@@ -105,17 +102,17 @@ module _ (first : ℤ) (acts : List Act) (history : IsHistory first acts) where
       by_order None named = refl
       by_order (Some p) named = (order_right o p named).1
 
-  pub order_fits : (o : List ℕ) (row : OrderRow) → order_row first acts o ≡ Some row → fits_order row ≡ true
-  order_fits o row e = mapped_has (λ (r : OrderRow). fits_order r ≡ true) _ (order_named acts o) row e (λ p named. (order_right o p named).0)
+  pub order_fits : (o : List ℕ) (row : OrderRow) → order_row first acts o ≡ Some row → fits_row order_mapping row ≡ true
+  order_fits o row e = mapped_has (λ (r : OrderRow). fits_row order_mapping r ≡ true) _ (order_named acts o) row e (λ p named. let right = (order_right o p named).0 in (λ i. right i && true))
 
-  pub urgent_fits : (o : List ℕ) (row : UrgentRow) → urgent_row acts o ≡ Some row → fits_urgent row ≡ true
+  pub urgent_fits : (o : List ℕ) (row : UrgentRow) → urgent_row acts o ≡ Some row → fits_row urgent_mapping row ≡ true
   urgent_fits o row e = by_order (order_named acts o) refl e
     where
-      by_order : (p : Option Placed) → order_named acts o ≡ p → if_urgent p ≡ Some row → fits_urgent row ≡ true
+      by_order : (p : Option Placed) → order_named acts o ≡ p → if_urgent p ≡ Some row → fits_row urgent_mapping row ≡ true
       by_order None named f = absurd (let no : None ≡ Some row = f in cc)
       by_order (Some p) named f =
-          elim p.urgent as (λ b. (if b then Some (record { order = p.order; act = p.act }) else None) ≡ Some row → fits_urgent row ≡ true) [
-            | true ↦ λ g. subst (λ (r : UrgentRow). fits_urgent r ≡ true) (some_one _ row g) (order_right o p named).0
+          elim p.urgent as (λ b. (if b then Some (record { order = p.order; act = p.act }) else None) ≡ Some row → fits_row urgent_mapping row ≡ true) [
+            | true ↦ λ g. subst (λ (r : UrgentRow). fits_row urgent_mapping r ≡ true) (some_one _ row g) (order_right o p named).0
             | false ↦ λ g. absurd (let no : None ≡ Some row = g in cc)
           ] f
 
@@ -128,9 +125,9 @@ recall_right : (n : ℕ) (c : Command) (r : Recalling) → is_between 1 ACTS_MAX
 recall_right n (Recall l) r fits sound e = subst IsRecallRight (some_one _ r e) fits
 recall_right n _ r fits sound e = absurd (let no : None ≡ Some r = e in cc)
 
-pub recall_fits : (first : ℤ) (acts : List Act) → IsHistory first acts → (l : LotId) (row : RecallRow) → recall_row acts l ≡ Some row → fits_recall row ≡ true
+pub recall_fits : (first : ℤ) (acts : List Act) → IsHistory first acts → (l : LotId) (row : RecallRow) → recall_row acts l ≡ Some row → fits_row recall_mapping row ≡ true
 recall_fits first acts history l row e =
-    mapped_has (λ (r : RecallRow). fits_recall r ≡ true) _ (recalling acts l) row e
+    mapped_has (λ (r : RecallRow). fits_row recall_mapping r ≡ true) _ (recalling acts l) row e
     (λ r named. found_has IsRecallRight _ (gathered recall_in acts) r (gathered_have recall_in IsRecallRight recall_right first acts history) named)
 
 -- ---- days and lots
@@ -170,27 +167,27 @@ lots_right first (act ∷ before) h = after (lots_right first before h.0) act.co
         ]
     after rest _ ok sound = rest
 
-pub lot_fits : (first : ℤ) (acts : List Act) → IsHistory first acts → (l : LotId) (row : LotRow) → lot_row acts l ≡ Some row → fits_lot row ≡ true
+pub lot_fits : (first : ℤ) (acts : List Act) → IsHistory first acts → (l : LotId) (row : LotRow) → lot_row acts l ≡ Some row → fits_row lot_mapping row ≡ true
 lot_fits first acts history l row e =
-    mapped_has (λ (r : LotRow). fits_lot r ≡ true) _ (lot_known acts l) row e
-    (λ k named. let right = found_has IsLotRight _ (lots acts) k (lots_right first acts history) named in (λ i. right.0 i && right.1 i))
+    mapped_has (λ (r : LotRow). fits_row lot_mapping r ≡ true) _ (lot_known acts l) row e
+    (λ k named. let right = found_has IsLotRight _ (lots acts) k (lots_right first acts history) named in (λ i. right.0 i && (right.1 i && true)))
 
 -- ---- shipments
 
-pub shipments_right : (first : ℤ) (acts : List Act) → IsHistory first acts → AllByRecursion (λ (s : ShipmentRow). fits_shipment s ≡ true) (shipments first acts)
+pub shipments_right : (first : ℤ) (acts : List Act) → IsHistory first acts → AllByRecursion (λ (s : ShipmentRow). fits_row shipment_mapping s ≡ true) (shipments first acts)
 shipments_right first [] h = tt
 shipments_right first (act ∷ before) h = after (shipments_right first before h.0) act.command
   where
-    after : AllByRecursion (λ (s : ShipmentRow). fits_shipment s ≡ true) (shipments first before) → (c : Command) → AllByRecursion (λ (s : ShipmentRow). fits_shipment s ≡ true) (shipments_after first before c (shipments first before))
+    after : AllByRecursion (λ (s : ShipmentRow). fits_row shipment_mapping s ≡ true) (shipments first before) → (c : Command) → AllByRecursion (λ (s : ShipmentRow). fits_row shipment_mapping s ≡ true) (shipments_after first before c (shipments first before))
     after rest (Ship o) =
         let few = acts_within first (act ∷ before) h in
         let number = between (length (shipments first before) + 1) ACTS_MAX (omega arith) (omega (arith, shipments_within_acts first before, few)) in
         let mine = number_fits first act before h in
-        ((λ i. number i && mine i), rest)
+        ((λ i. number i && (mine i && true)), rest)
     after rest _ = rest
 
-pub shipment_fits : (first : ℤ) (acts : List Act) → IsHistory first acts → (n : ℕ) (row : ShipmentRow) → shipment_row first acts n ≡ Some row → fits_shipment row ≡ true
-shipment_fits first acts history n row e = found_has (λ (s : ShipmentRow). fits_shipment s ≡ true) _ (shipments first acts) row (shipments_right first acts history) e
+pub shipment_fits : (first : ℤ) (acts : List Act) → IsHistory first acts → (n : ℕ) (row : ShipmentRow) → shipment_row first acts n ≡ Some row → fits_row shipment_mapping row ≡ true
+shipment_fits first acts history n row e = found_has (λ (s : ShipmentRow). fits_row shipment_mapping s ≡ true) _ (shipments first acts) row (shipments_right first acts history) e
 
 -- ---- `repeats` and `meta`
 

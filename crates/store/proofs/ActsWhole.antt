@@ -11,9 +11,9 @@ use Rattle.sqlite.specs.Held.{Held, state}
 use Rattle.sqlite.specs.declared.error.Error.{Error}
 use Rattle.table_words.specs.Steps.{IsReady}
 use Rattle.table_words.proofs.CallLemmas.{put_back}
-use Rattle.tables.specs.Ending.{Ends}
-use Rattle.tables.proofs.EndLemmas.{rolled_back, survives_of}
-use Rattle.tables.proofs.OpenLemmas.{ready_tells}
+use Rattle.books_schema.specs.Ending.{Ends}
+use Rattle.books_schema.proofs.EndLemmas.{rolled_back, survives_of}
+use Rattle.books_schema.proofs.OpenLemmas.{ready_tells}
 use Rattle.machine.specs.Acts.{Act}
 use Rattle.machine.specs.Once.{IsHistory, is_key_of, acts_after}
 use Rattle.store.specs.declared.reply.Reply.{Reply}

@@ -1,5 +1,5 @@
 -- What books keep true of themselves: they are idle, and what they know of their tables is so.
-use Rattle.std.proofs.Common.{◌≡◌, List, Result, Ok, Err, IsTrue, false, subst, ◌∙◌, arith}
+use Rattle.std.proofs.Common.{◌≡◌, List, Result, Ok, Err, false, ◌∙◌, arith}
 use Rattle.std.specs.Prelude.{ℤ, Option, None}
 use Rattle.commands.specs.declared.refusal.Refusal.{Refusal}
 use Rattle.sqlite.specs.Held.{Held, state}
@@ -8,12 +8,10 @@ use Rattle.sqlite.specs.Tree.{Trees}
 use Rattle.sqlite_trees.specs.declared.store.Store.{Ghosts}
 use Rattle.machine.specs.Acts.{Act}
 use Rattle.machine.specs.Standing.{today}
-use Rattle.machine.specs.Tables.{tables_of}
-use Rattle.queries.specs.ShownShort.{IsKnownOf}
 use Rattle.slices.specs.declared.knowing.Known.{Known}
 use Rattle.store.specs.Books.{KeepsBooks, IsSettled, IsAsBefore}
 use Rattle.store.specs.Connected.{Connected, IsIdle}
-use Rattle.store.specs.Knowing.{HasKnown, IsKnown}
+use Rattle.store.specs.Knowing.{IsKnown}
 use Rattle.store.specs.Opening.{IsOpenedFrom}
 use Rattle.store.specs.Queries.{IsShown}
 use Rattle.store.specs.Showing.{IsShownOn}
@@ -47,10 +45,6 @@ shown_by_books g first acts shown (Ok view) new is day = (is.0, record { keeps =
 shown_by_books g first acts shown (Err (Refused why)) new is day = (is.0, record { keeps = is.1; day = day })
 shown_by_books g first acts shown (Err Store) new is day = record { keeps = is.1; day = day }
 shown_by_books g first acts shown (Err Foreign) new is day = absurd is.0
-
--- what is known of the books of a history
-pub known_of_acts : (known : Option Known) (first : ℤ) (acts : List Act) (s : State) → KeepsBooks first acts s → (IsTrue s.is_open → HasKnown known s) → IsTrue s.is_open → IsKnownOf known (tables_of first acts)
-known_of_acts known first acts s held has up = subst (IsKnownOf known) (held.books up).rows.tables (has up)
 
 -- where nothing is known yet
 pub known_unread : (s : State) → (HasCleanDisk s → IsSettled s) → IsKnown None s

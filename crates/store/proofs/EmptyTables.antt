@@ -12,7 +12,7 @@ use Rattle.sqlite.specs.State.{State, Survives}
 use Rattle.sqlite.specs.Tree.{Trees}
 use Rattle.table_words.specs.Steps.{IsReady}
 use Rattle.table_words.specs.Typed.{tables_in, AreTyped}
-use Rattle.tables.specs.Creation.{first_rows}
+use Rattle.books_schema.specs.Creation.{first_rows}
 use Rattle.store.specs.Books.{AreRowsOf, KeepsBooks}
 
 abbrev pub first_meta : ℤ → MetaRow

@@ -8,8 +8,8 @@ use Rattle.sqlite.specs.Held.{Held, state}
 use Rattle.sqlite.specs.Tree.{Trees}
 use Rattle.commands.specs.declared.key.Key.{Key}
 use Rattle.commands.specs.declared.command.Command.{Command}
-use Rattle.tables.specs.Ending.{Ends}
-use Rattle.tables.proofs.EndLemmas.{survives_of}
+use Rattle.books_schema.specs.Ending.{Ends}
+use Rattle.books_schema.proofs.EndLemmas.{survives_of}
 use Rattle.machine.specs.Acts.{Act}
 use Rattle.machine.specs.Standing.{today}
 use Rattle.machine.specs.Once.{IsHistory, acts_after_file}

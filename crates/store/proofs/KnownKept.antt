@@ -1,6 +1,6 @@
 -- What is known of the tables: after a call within a transaction, and at the transaction's end.
-use Rattle.std.proofs.Common.{◌≡◌, true, false, Ok, Err, Result, OnOk, OnErr, sym, ap, subst, ◌∙◌, IsTrue, arith}
-use Rattle.std.specs.Prelude.{Option, Some, IfSome}
+use Rattle.std.proofs.Common.{◌≡◌, Bool, true, false, Ok, Err, Result, OnOk, OnErr, IfOk, IfErr, sym, ap, subst, ◌∙◌, IsTrue, arith}
+use Rattle.std.specs.Prelude.{Option, Some, None, IfSome, is_ok}
 use Rattle.std.specs.Result.{IsErr}
 use Rattle.sqlite.specs.State.{State, HasCleanDisk, Shows, KeepsCommit, IsUnchanged, IsRolledBack, Survives}
 use Rattle.sqlite.specs.Effect.{Database}
@@ -12,19 +12,20 @@ use Rattle.commands.specs.declared.rows.RepeatRow.{RepeatRow}
 use Rattle.table_words.specs.Steps.{IsReady, Goes}
 use Rattle.table_words.specs.Typed.{tables_in, with_repeat}
 use Rattle.table_words.proofs.CallLemmas.{kept_then}
-use Rattle.tables.specs.Ending.{Ends}
-use Rattle.tables.proofs.EndLemmas.{if_so, whole_of, undone_of, kept_of}
+use Rattle.books_schema.specs.Ending.{Ends}
+use Rattle.books_schema.proofs.EndLemmas.{if_so, whole_of, undone_of, kept_of}
 use Rattle.row_rules.specs.declared.slice.Put.{Put}
 use Rattle.row_rules.specs.declared.slice.Change.{Change}
 use Rattle.changes.specs.Written.{change_written}
-use Rattle.open_lines.specs.OpenLines.{Keeps}
+use Rattle.open_orders.specs.OpenLines.{Keeps}
 use Rattle.slices.specs.Bounding.{IsRaised}
 use Rattle.slices.specs.Remembering.{ForgetsPut}
-use Rattle.slices.specs.Slicing.{HoldsOf, Knows}
+use Rattle.slices.specs.Following.{Follows}
+use Rattle.slices.specs.Slicing.{HoldsOf, HoldsBeside, Knows}
 use Rattle.slices.specs.declared.knowing.Known.{Known}
 use Rattle.slices.proofs.StillKnown.{rows_stay_known}
 use Rattle.store.specs.Books.{IsSettled}
-use Rattle.store.specs.Knowing.{HasKnown, IsKnown, GoesOnKnown, LeavesKnown}
+use Rattle.store.specs.Knowing.{HasKnown, IsKnown, GoesOnKnown, HoldsLeft, HasLeft, LeavesKnown}
 use Rattle.store.proofs.ActsWhole.{KeepsInside, begun_commit}
 use Rattle.store.proofs.HandedOn.{Stays, settled_back}
 use Rattle.store.proofs.LinesWritten.{covers_written, covers_urgent_written}
@@ -50,20 +51,29 @@ pub none_answered : {X E : Type 0} (P : Type 0) (r : Result X E) → IsErr r →
 none_answered P (Ok x) none = absurd (let no = none in cc)
 none_answered P (Err e) is = tt
 
+-- all of it, and so what is known beside rows
+left_by : (b : Bool) (known : Known) (t : Tables) → HoldsOf known t → HoldsLeft b known t
+left_by true known t holds = record { lines = holds.lines; urgent = holds.urgent; bounds = holds.bounds }
+left_by false known t holds = holds
+
+left_all : (b : Bool) (known : Option Known) (t : Tables) → IfSome known (λ k. HoldsOf k t) → HasLeft b known t
+left_all b None t h = tt
+left_all b (Some known) t h = left_by b known t h
+
 pub known_if_err : {X E : Type 0} (known after : Option Known) (r : Result X E) (old new : State) → IsErr r → (HasKnown known old → HasKnown after old) → LeavesKnown known after r old new
-known_if_err known after r old new is before = record { before = before; answered = none_answered _ r is }
+known_if_err known after r old new is before = record { before = λ h. left_all (is_ok r) after (tables_in old.now.trees) (before h); answered = none_answered _ r is }
 
 -- nothing was changed
 pub known_same : {X E : Type 0} (known : Option Known) (r : Result X E) (old new : State) → IsUnchanged old new → IsReady old.now → LeavesKnown known known r old new
 known_same known r old new same ready = record {
-  before = λ h. h;
+  before = λ h. left_all (is_ok r) known (tables_in old.now.trees) h;
   answered = on_ok r (same.0.was_open, subst IsReady (sym same.0.now_is) ready, same.0.mode, λ h. subst (KnownIn known) (sym same.0.now_is) h);
 }
 
 -- from the state that a read left as it was
 pub known_from : {X E : Type 0} (known mid_known after : Option Known) (r : Result X E) (old mid new : State) → IsUnchanged old mid → (HasKnown known old → HasKnown mid_known old) → LeavesKnown mid_known after r mid new → LeavesKnown known after r old new
 known_from known mid_known after r old mid new same read leaves = record {
-  before = λ h. subst (KnownIn after) same.0.now_is (leaves.before (subst (KnownIn mid_known) (sym same.0.now_is) (read h)));
+  before = λ h. subst (λ (db : Database). HasLeft (is_ok r) after (tables_in db.trees)) same.0.now_is (leaves.before (subst (KnownIn mid_known) (sym same.0.now_is) (read h)));
   answered = ok_to r (λ a. (same.0.was_open, a.1, a.2 ∙ same.0.mode, λ h. a.3 (subst (KnownIn mid_known) (sym same.0.now_is) (read h)))) leaves.answered;
 }
 
@@ -83,25 +93,48 @@ holds_more known after puts t keeps keeps_urgent raised forgets holds = record {
   rows = rows_stay_known puts t known.rows after.rows forgets holds.rows;
 }
 
--- a change is written
-pub known_written : {X E : Type 0} (known after : Known) (change : Change) (row : RepeatRow) (r : Result X E) (old mid new : State) → IsUnchanged old mid → Keeps known.lines after.lines → Keeps known.urgent after.urgent
-    → IsRaised change.put known.bounds after.bounds → ForgetsPut change.put known.rows after.rows → Knows change.put (tables_in old.now.trees) after → OnOk r (Goes (λ t. with_repeat row (change_written change t)) mid new) → LeavesKnown (Some known) (Some after) r old new
-known_written known after change row r old mid new same keeps keeps_urgent raised forgets knows wrote = record {
-  before = holds_more known after change.put (tables_in old.now.trees) keeps keeps_urgent raised forgets;
-  answered = ok_to r (λ goes. (
-    same.0.was_open,
-    goes.ready,
-    goes.mode ∙ same.0.mode,
-    λ holds. subst (λ (t : Tables). HoldsOf after t) (sym (goes.tables ∙ ap (λ (db : Database). with_repeat row (change_written change (tables_in db.trees))) same.0.now_is)) (record {
-      lines = covers_written change row (tables_in old.now.trees) known after holds.lines keeps knows;
-      urgent = covers_urgent_written change row (tables_in old.now.trees) known after holds.urgent keeps_urgent knows;
-      bounds = bounds_written change row (tables_in old.now.trees) known.bounds after.bounds raised holds.bounds;
-      rows = rows_written change row (tables_in old.now.trees) known.rows after.rows forgets holds.rows;
-    }),
-  )) wrote;
-}
+-- A change is written, and what follows it has its rows
+
+module _ (known put after : Known) (change : Change) (row : RepeatRow) (keeps : Keeps known.lines put.lines) (keeps_urgent : Keeps known.urgent put.urgent) (raised : IsRaised change.put known.bounds put.bounds) (forgets : ForgetsPut change.put known.rows put.rows)
+    (same : after ≡ record put { rows = record put.rows { followed = after.rows.followed } }) where
+  left_written : (t : Tables) → HoldsOf known t → HoldsBeside after t
+  left_written t holds =
+      let more = holds_more known put change.put t keeps keeps_urgent raised forgets holds in
+      subst (λ (k : Known). HoldsBeside k t) (sym same) (record { lines = more.lines; urgent = more.urgent; bounds = more.bounds })
+
+  holds_written : (t : Tables) → Knows change.put t put → Follows change put.rows.followed after.rows.followed → HoldsOf known t → HoldsOf after (with_repeat row (change_written change t))
+  holds_written t knows follows holds = subst (λ (k : Known). HoldsOf k (with_repeat row (change_written change t))) (sym same) (record {
+    lines = covers_written change row t known put holds.lines keeps knows;
+    urgent = covers_urgent_written change row t known put holds.urgent keeps_urgent knows;
+    bounds = bounds_written change row t known.bounds put.bounds raised holds.bounds;
+    rows = rows_written change row t known.rows put.rows after.rows.followed forgets follows holds.rows;
+  })
+
+  pub known_written : {X E : Type 0} (r : Result X E) (old mid new : State) → IsUnchanged old mid → Knows change.put (tables_in old.now.trees) put → IfOk r (λ _. Follows change put.rows.followed after.rows.followed) → IfErr r (λ _. after ≡ put)
+      → OnOk r (Goes (λ t. with_repeat row (change_written change t)) mid new) → LeavesKnown (Some known) (Some after) r old new
+  known_written (Ok x) old mid new unchanged knows follows unwritten goes = record {
+    before = left_written (tables_in old.now.trees);
+    answered = (
+      unchanged.0.was_open,
+      goes.ready,
+      goes.mode ∙ unchanged.0.mode,
+      λ holds. subst (λ (t : Tables). HoldsOf after t) (sym (goes.tables ∙ ap (λ (db : Database). with_repeat row (change_written change (tables_in db.trees))) unchanged.0.now_is)) (holds_written (tables_in old.now.trees) knows follows holds),
+    );
+  }
+  known_written (Err e) old mid new unchanged knows follows unwritten goes = record {
+    before = λ holds. subst (λ (k : Known). HoldsOf k (tables_in old.now.trees)) (sym unwritten) (holds_more known put change.put (tables_in old.now.trees) keeps keeps_urgent raised forgets holds);
+    answered = tt;
+  }
 
 -- The transaction's end
+
+ok_with : {X E P Q S : Type 0} (r : Result X E) → (P → Q → S) → OnOk r P → OnOk r Q → OnOk r S
+ok_with (Ok x) f p q = f p q
+ok_with (Err e) f p q = tt
+
+err_with : {X E P Q S : Type 0} (r : Result X E) → (P → Q → S) → OnErr r P → OnErr r Q → OnErr r S
+err_with (Ok x) f p q = tt
+err_with (Err e) f p q = f p q
 
 whichever : {X E P : Type 0} (r : Result X E) → OnOk r P → OnErr r P → P
 whichever (Ok x) p q = p
@@ -166,8 +199,11 @@ module _ (old begun last new : State) (is : begun ≡ record old { in_transactio
           pub settled_finished : HasCleanDisk new → IsSettled new
           settled_finished clean = whichever r (ok_to r (λ (at : IsSettled new × (IsTrue new.is_open → HasKnown after new)). at.0) (known_committed clean)) (undone clean (settled_undone clean))
 
-          pub known_finished : (HasCleanDisk last → (IsTrue begun.is_open → IsReady begun.now) → HasKnown known begun → HasKnown after begun) → IsKnown after new
-          known_finished before clean = whichever r (known_committed clean) (undone clean (λ (back : IsRolledBack last new).
+          -- where it is not committed, what is known of the tables before is left
+          pub known_finished : (left : Option Known) → (HasCleanDisk last → (IsTrue begun.is_open → IsReady begun.now) → HasKnown known begun → HasLeft (is_ok done) after (tables_in begun.now.trees))
+              → OnOk r (left ≡ after) → OnErr r ((t : Tables) → HasLeft (is_ok done) after t → IfSome left (λ k. HoldsOf k t)) → IsKnown left new
+          known_finished left before stays forgets clean = whichever r (ok_with r (λ e at. (at.0, λ up. subst (λ (k : Option Known). HasKnown k new) (sym e) (at.1 up))) stays (known_committed clean))
+              (err_with {Q = ((t : Tables) → HasLeft (is_ok done) after t → IfSome left (λ k. HoldsOf k t)) → IsSettled new × (IsTrue new.is_open → HasKnown left new)} r (λ forgot f. f forgot) forgets (undone clean (λ (back : IsRolledBack last new) (forgot : (t : Tables) → HasLeft (is_ok done) after t → IfSome left (λ k. HoldsOf k t)).
               let was = last_clean clean in
               let kept = kept_last keeps was in
               let at = is_known (clean_first was) in (
@@ -175,8 +211,8 @@ module _ (old begun last new : State) (is : begun ≡ record old { in_transactio
                 λ up.
                     let first_up : IsTrue old.is_open = kept.was_open (back.was_open up) in
                     let shows : new.now ≡ old.now = (back.undone up).0 ∙ kept.committed (back.was_open up) ∙ at.0.settled first_up in
-                    subst (KnownIn after) (sym shows) (subst (KnownIn after) now_is (before was (ready_begun was) (subst (KnownIn known) (sym now_is) (at.1 first_up)))),
-              )))
+                    subst (KnownIn left) (sym shows) (forgot (tables_in old.now.trees) (subst (λ (db : Database). HasLeft (is_ok done) after (tables_in db.trees)) now_is (before was (ready_begun was) (subst (KnownIn known) (sym now_is) (at.1 first_up))))),
+              ))))
 
 -- A look leaves what is known
 

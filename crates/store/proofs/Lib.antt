@@ -5,6 +5,7 @@ pub mod RepeatTold
 pub mod DecidedAs
 pub mod ActsInside
 pub mod ActsWhole
+pub mod ReadLater
 pub mod ActsFrom
 pub mod EmptyTables
 pub mod OpenedBooks
@@ -23,8 +24,10 @@ pub mod ShipmentCards
 pub mod ShipmentsHanded
 pub mod LinesWritten
 pub mod BoundsWritten
+pub mod FollowedWritten
 pub mod RowsWritten
 pub mod KnownKept
+pub mod KnownShown
 pub mod BooksWhole
 pub mod ActsFit
 pub mod UnitsFit

@@ -14,7 +14,7 @@ use Rattle.row_rules.specs.declared.slice.Dropped.{Dropped}
 use Rattle.row_rules.specs.declared.slice.Change.{Change}
 use Rattle.keyed_rows.specs.Writes.{each_written}
 use Rattle.changes.specs.Written.{lines_written, goods_written, stage_emptied, change_written}
-use Rattle.open_lines.specs.OpenLines.{Keeps, has_line_row}
+use Rattle.open_orders.specs.OpenLines.{Keeps, has_line_row}
 use Rattle.slices.specs.Slicing.{is_among, is_passed, is_open_in, has_urgent_row, opens, comes, Covers, CoversUrgent, Knows}
 use Rattle.slices.specs.declared.knowing.Known.{Known}
 use Rattle.slices.proofs.RowsTold.{and_true}

@@ -25,19 +25,19 @@ use Rattle.table_words.specs.Typed.{tables_in, is_meta, is_meta_at, meta_in, met
 use Rattle.table_words.specs.declared.error.TableFault.{TableFault}
 use Rattle.table_words.specs.declared.error.TableFault.TheVariants.{Store as TableStore, Foreign as TableForeign}
 use Rattle.table_words.proofs.StepLemmas.{tables_same, typed_same, typed_at}
-use Rattle.tables.specs.Indexing.{KeepsRows}
-use Rattle.tables.specs.Bringing.{as_older, as_brought}
-use Rattle.tables.specs.Older.{number, older_tables}
-use Rattle.tables.specs.declared.older.OlderBooks.{OlderBooks}
-use Rattle.tables.specs.declared.older.OlderBooks.TheVariants.{First, Second}
-use Rattle.tables.specs.Settling.{HasDayAt, IsRaised, IsNumbered}
-use Rattle.tables.proofs.SettleLemmas.{each_itself}
-use Rattle.tables.proofs.OpenLemmas.{ready_tells, older_tells}
-use Rattle.tables.specs.Opening.{HasDayIn, HasSchema, IsReadyAs, AreReadTyped, KeepsRowsAs, ComesTo, IsCome, IsLeftAs, IsLeft, IsOpenAndSettled, Tells, TellTables}
-use Rattle.tables.specs.declared.opening.Found.{Found}
-use Rattle.tables.specs.declared.opening.Found.TheVariants.{Newest, Older}
-use Rattle.tables.specs.declared.opening.Leftover.{Leftover}
-use Rattle.tables.specs.declared.opening.Leftover.TheVariants as left
+use Rattle.books_schema.specs.Indexing.{KeepsRows}
+use Rattle.books_schema.specs.Bringing.{as_older, as_brought}
+use Rattle.books_schema.specs.Older.{number, older_tables}
+use Rattle.books_schema.specs.declared.older.OlderBooks.{OlderBooks}
+use Rattle.books_schema.specs.declared.older.OlderBooks.TheVariants.{First, Second}
+use Rattle.books_schema.specs.Settling.{HasDayAt, IsRaised, IsNumbered}
+use Rattle.books_schema.proofs.SettleLemmas.{each_itself}
+use Rattle.books_schema.proofs.OpenLemmas.{ready_tells, older_tells}
+use Rattle.books_schema.specs.Opening.{HasDayIn, HasSchema, IsReadyAs, AreReadTyped, KeepsRowsAs, ComesTo, IsCome, IsLeftAs, IsLeft, IsOpenAndSettled, Tells, TellTables}
+use Rattle.books_schema.specs.declared.ready_connection.Found.{Found}
+use Rattle.books_schema.specs.declared.ready_connection.Found.TheVariants.{Newest, Older}
+use Rattle.books_schema.specs.declared.ready_connection.Leftover.{Leftover}
+use Rattle.books_schema.specs.declared.ready_connection.Leftover.TheVariants as left
 use Rattle.machine.specs.Acts.{Act}
 use Rattle.machine.specs.Standing.{today}
 use Rattle.machine.specs.Schemas.{are_of_schema}

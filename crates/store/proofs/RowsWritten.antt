@@ -21,9 +21,9 @@ use Rattle.table_words.specs.Typed.{same_item, item_key, same_least, least_key, 
 use Rattle.table_words.proofs.KeyLemmas.{IsSame}
 use Rattle.machine.proofs.Tests.{or_none}
 use Rattle.row_rules.specs.declared.slice.Change.{Change}
-use Rattle.slice_parts.specs.LotOrder.{lot_key as turned_lot, lot_key_cmp, lots_told}
-use Rattle.slice_parts.specs.LineOrder.{turned_line, line_key_cmp, lines_told}
-use Rattle.slice_parts.specs.NameOrder.{names_told}
+use Rattle.slice_lists.specs.LotOrder.{lot_key as turned_lot, lot_key_cmp, lots_told}
+use Rattle.slice_lists.specs.LineOrder.{turned_line, line_key_cmp, lines_told}
+use Rattle.slice_lists.specs.NameOrder.{names_told}
 use Rattle.keyed_rows.specs.Writes.{each_written}
 use Rattle.goods_tables.specs.Bins.{bins_laws}
 use Rattle.goods_tables.specs.Items.{items_laws}
@@ -34,8 +34,11 @@ use Rattle.order_tables.specs.Lines.{lines_laws}
 use Rattle.order_tables.specs.Orders.{orders_laws}
 use Rattle.changes.specs.Written.{names_written, goods_written, lines_written, stage_emptied, orders_written, change_written}
 use Rattle.known_rows.specs.KnownRows.{RowMap, rows_at, ForgetsBy, Remembers}
+use Rattle.slices.specs.Following.{KnowsFollowed, Follows}
 use Rattle.slices.specs.Remembering.{KnowsRows, ForgetsPut}
+use Rattle.slices.specs.declared.followed.Followed.{Followed}
 use Rattle.slices.specs.declared.rows_known.RowsKnown.{RowsKnown}
+use Rattle.store.proofs.FollowedWritten.{followed_written}
 use Rattle.store.proofs.LinesWritten.{rows_spare, stage_spares, Ordered, ordered, goods_spare, change_spares}
 
 -- A row is put that is none of those that are sought
@@ -197,37 +200,39 @@ module _ (c : Change) (row : RepeatRow) (t : Tables) where
   lines_before : line_at with_urgents ≡ line_at t
   lines_before = rows_spare line_at with_urgent (λ r u. refl) c.put.urgents with_orders ∙ rows_spare line_at with_order (λ r u. refl) c.put.orders stocked ∙ ap by_line (goods_spare c.put c.dropped t)
 
-  pub rows_written : (old new : RowsKnown) → ForgetsPut c.put old new → KnowsRows t old → KnowsRows left new
-  rows_written old new forgets known = record {
+  -- what was forgotten before, and what follows the change
+  pub rows_written : (old mid : RowsKnown) (followed : Followed) → ForgetsPut c.put old mid → Follows c mid.followed followed → KnowsRows t old → KnowsRows left (record mid { followed = followed })
+  rows_written old mid followed forgets follows known = record {
     items =
-        known_same (slice_cmp nat_cmp) reverse same_text names_told same_item item_key items_laws.one_key (λ u. u.item) same_text (λ r. r.gtin) (λ by r. refl) with_items left (sym items_left) new.items.rows
-        (known_spared (slice_cmp nat_cmp) reverse same_text names_told same_item item_key items_laws.one_key (λ u. u.item) same_text (λ r. r.gtin) (λ by r. refl) with_item (λ r u. refl) c.put.items t old.items.rows new.items.rows forgets.items known.items);
+        known_same (slice_cmp nat_cmp) reverse same_text names_told same_item item_key items_laws.one_key (λ u. u.item) same_text (λ r. r.gtin) (λ by r. refl) with_items left (sym items_left) mid.items.rows
+        (known_spared (slice_cmp nat_cmp) reverse same_text names_told same_item item_key items_laws.one_key (λ u. u.item) same_text (λ r. r.gtin) (λ by r. refl) with_item (λ r u. refl) c.put.items t old.items.rows mid.items.rows forgets.items known.items);
     least =
-        known_same (slice_cmp nat_cmp) reverse same_text names_told same_least least_key least_laws.one_key (λ u. u.least) same_text (λ r. r.gtin) (λ by r. refl) asked left (sym least_left) new.least.rows
-        (known_spared (slice_cmp nat_cmp) reverse same_text names_told same_least least_key least_laws.one_key (λ u. u.least) same_text (λ r. r.gtin) (λ by r. refl) with_least (λ r u. refl) c.put.least with_items old.least.rows new.least.rows forgets.least
+        known_same (slice_cmp nat_cmp) reverse same_text names_told same_least least_key least_laws.one_key (λ u. u.least) same_text (λ r. r.gtin) (λ by r. refl) asked left (sym least_left) mid.least.rows
+        (known_spared (slice_cmp nat_cmp) reverse same_text names_told same_least least_key least_laws.one_key (λ u. u.least) same_text (λ r. r.gtin) (λ by r. refl) with_least (λ r u. refl) c.put.least with_items old.least.rows mid.least.rows forgets.least
         (known_same (slice_cmp nat_cmp) reverse same_text names_told same_least least_key least_laws.one_key (λ u. u.least) same_text (λ r. r.gtin) (λ by r. refl) t with_items (sym least_before) old.least.rows known.least));
     orders =
-        known_same (slice_cmp nat_cmp) reverse same_text names_told same_order order_key orders_laws.one_key (λ u. u.order) same_text (λ r. r.order) (λ by r. refl) with_orders left (sym orders_left) new.orders.rows
-        (known_spared (slice_cmp nat_cmp) reverse same_text names_told same_order order_key orders_laws.one_key (λ u. u.order) same_text (λ r. r.order) (λ by r. refl) with_order (λ r u. refl) c.put.orders stocked old.orders.rows new.orders.rows forgets.orders
+        known_same (slice_cmp nat_cmp) reverse same_text names_told same_order order_key orders_laws.one_key (λ u. u.order) same_text (λ r. r.order) (λ by r. refl) with_orders left (sym orders_left) mid.orders.rows
+        (known_spared (slice_cmp nat_cmp) reverse same_text names_told same_order order_key orders_laws.one_key (λ u. u.order) same_text (λ r. r.order) (λ by r. refl) with_order (λ r u. refl) c.put.orders stocked old.orders.rows mid.orders.rows forgets.orders
         (known_same (slice_cmp nat_cmp) reverse same_text names_told same_order order_key orders_laws.one_key (λ u. u.order) same_text (λ r. r.order) (λ by r. refl) t stocked (sym orders_before) old.orders.rows known.orders));
     lines =
-        known_same (slice_cmp nat_cmp) reverse same_text names_told same_line line_key lines_laws.one_key line_at (λ o k. same_text o k.0) (λ r. r.order) (λ by r. refl) (lines_written c.put stocked) left (sym lines_left) new.lines.rows
-        (known_spared (slice_cmp nat_cmp) reverse same_text names_told same_line line_key lines_laws.one_key line_at (λ o k. same_text o k.0) (λ r. r.order) (λ by r. refl) with_line (λ r u. refl) c.put.lines with_urgents old.lines.rows new.lines.rows forgets.lines
+        known_same (slice_cmp nat_cmp) reverse same_text names_told same_line line_key lines_laws.one_key line_at (λ o k. same_text o k.0) (λ r. r.order) (λ by r. refl) (lines_written c.put stocked) left (sym lines_left) mid.lines.rows
+        (known_spared (slice_cmp nat_cmp) reverse same_text names_told same_line line_key lines_laws.one_key line_at (λ o k. same_text o k.0) (λ r. r.order) (λ by r. refl) with_line (λ r u. refl) c.put.lines with_urgents old.lines.rows mid.lines.rows forgets.lines
         (known_same (slice_cmp nat_cmp) reverse same_text names_told same_line line_key lines_laws.one_key line_at (λ o k. same_text o k.0) (λ r. r.order) (λ by r. refl) t with_urgents (sym lines_before) old.lines.rows known.lines));
     lines_at =
-        known_same line_key_cmp turned_line same_line lines_told same_line line_key lines_laws.one_key line_at same_line (λ r. (r.order, r.gtin)) (λ by r. refl) (lines_written c.put stocked) left (sym lines_left) new.lines_at.rows
-        (known_spared line_key_cmp turned_line same_line lines_told same_line line_key lines_laws.one_key line_at same_line (λ r. (r.order, r.gtin)) (λ by r. refl) with_line (λ r u. refl) c.put.lines with_urgents old.lines_at.rows new.lines_at.rows forgets.lines_at
+        known_same line_key_cmp turned_line same_line lines_told same_line line_key lines_laws.one_key line_at same_line (λ r. (r.order, r.gtin)) (λ by r. refl) (lines_written c.put stocked) left (sym lines_left) mid.lines_at.rows
+        (known_spared line_key_cmp turned_line same_line lines_told same_line line_key lines_laws.one_key line_at same_line (λ r. (r.order, r.gtin)) (λ by r. refl) with_line (λ r u. refl) c.put.lines with_urgents old.lines_at.rows mid.lines_at.rows forgets.lines_at
         (known_same line_key_cmp turned_line same_line lines_told same_line line_key lines_laws.one_key line_at same_line (λ r. (r.order, r.gtin)) (λ by r. refl) t with_urgents (sym lines_before) old.lines_at.rows known.lines_at));
     recalls =
-        known_same (slice_cmp nat_cmp) reverse same_text names_told same_recall recall_key recalls_laws.one_key (λ u. u.recall) (λ g k. same_text g k.gtin) (λ r. r.lot.gtin) (λ by r. refl) recalled left (sym recalls_left) new.recalls.rows
-        (known_spared (slice_cmp nat_cmp) reverse same_text names_told same_recall recall_key recalls_laws.one_key (λ u. u.recall) (λ g k. same_text g k.gtin) (λ r. r.lot.gtin) (λ by r. refl) with_recall (λ r u. refl) c.put.recalls lotted old.recalls.rows new.recalls.rows forgets.recalls
+        known_same (slice_cmp nat_cmp) reverse same_text names_told same_recall recall_key recalls_laws.one_key (λ u. u.recall) (λ g k. same_text g k.gtin) (λ r. r.lot.gtin) (λ by r. refl) recalled left (sym recalls_left) mid.recalls.rows
+        (known_spared (slice_cmp nat_cmp) reverse same_text names_told same_recall recall_key recalls_laws.one_key (λ u. u.recall) (λ g k. same_text g k.gtin) (λ r. r.lot.gtin) (λ by r. refl) with_recall (λ r u. refl) c.put.recalls lotted old.recalls.rows mid.recalls.rows forgets.recalls
         (known_same (slice_cmp nat_cmp) reverse same_text names_told same_recall recall_key recalls_laws.one_key (λ u. u.recall) (λ g k. same_text g k.gtin) (λ r. r.lot.gtin) (λ by r. refl) t lotted (sym recalls_before) old.recalls.rows known.recalls));
     lots =
-        known_same lot_key_cmp turned_lot same_lot lots_told same_lot lot_key lots_laws.one_key (λ u. u.lot) same_lot (λ r. r.lot) (λ by r. refl) lotted left (sym lots_left) new.lots.rows
-        (known_spared lot_key_cmp turned_lot same_lot lots_told same_lot lot_key lots_laws.one_key (λ u. u.lot) same_lot (λ r. r.lot) (λ by r. refl) with_lot (λ r u. refl) c.put.lots named old.lots.rows new.lots.rows forgets.lots
+        known_same lot_key_cmp turned_lot same_lot lots_told same_lot lot_key lots_laws.one_key (λ u. u.lot) same_lot (λ r. r.lot) (λ by r. refl) lotted left (sym lots_left) mid.lots.rows
+        (known_spared lot_key_cmp turned_lot same_lot lots_told same_lot lot_key lots_laws.one_key (λ u. u.lot) same_lot (λ r. r.lot) (λ by r. refl) with_lot (λ r u. refl) c.put.lots named old.lots.rows mid.lots.rows forgets.lots
         (known_same lot_key_cmp turned_lot same_lot lots_told same_lot lot_key lots_laws.one_key (λ u. u.lot) same_lot (λ r. r.lot) (λ by r. refl) t named (sym lots_before) old.lots.rows known.lots));
     bins =
-        known_same (slice_cmp nat_cmp) reverse same_text names_told same_bin bin_key bins_laws.one_key (λ u. u.bin) same_text (λ r. r.name) (λ by r. refl) named left (sym bins_left) new.bins.rows
-        (known_spared (slice_cmp nat_cmp) reverse same_text names_told same_bin bin_key bins_laws.one_key (λ u. u.bin) same_text (λ r. r.name) (λ by r. refl) with_bin (λ r u. refl) c.put.bins asked old.bins.rows new.bins.rows forgets.bins
+        known_same (slice_cmp nat_cmp) reverse same_text names_told same_bin bin_key bins_laws.one_key (λ u. u.bin) same_text (λ r. r.name) (λ by r. refl) named left (sym bins_left) mid.bins.rows
+        (known_spared (slice_cmp nat_cmp) reverse same_text names_told same_bin bin_key bins_laws.one_key (λ u. u.bin) same_text (λ r. r.name) (λ by r. refl) with_bin (λ r u. refl) c.put.bins asked old.bins.rows mid.bins.rows forgets.bins
         (known_same (slice_cmp nat_cmp) reverse same_text names_told same_bin bin_key bins_laws.one_key (λ u. u.bin) same_text (λ r. r.name) (λ by r. refl) t asked (sym bins_before) old.bins.rows known.bins));
+    followed = followed_written c row t mid.followed followed follows (subst (λ (x : Followed). KnowsFollowed t x) (sym forgets.followed) known.followed);
   }

@@ -25,20 +25,6 @@ pub found_as : {X : Type 0} (Read : X → Type 0) (r : Result X Fault) → IfOk 
 found_as Read (Ok x) read failed = read
 found_as Read (Err e) read failed = failed
 
--- two facts of what was read
-pub both_read : {X : Type 0} (P Q : X → Type 0) (r : Result X Fault) → IfOk r P → IfOk r Q → IfOk r (λ x. P x × Q x)
-both_read P Q (Ok x) p q = (p, q)
-both_read P Q (Err e) p q = tt
-
--- and one that follows from another
-pub found_then : {X : Type 0} (P Q : X → Type 0) → ((x : X) → P x → Q x) → (r : Result X Fault) → IsFoundAs P r → IsFoundAs Q r
-found_then P Q f (Ok x) p = f x p
-found_then P Q f (Err e) p = p
-
--- to begin a transaction opens no connection
-pub was_open : (old begun : State) → begun ≡ record old { in_transaction = true } → IsTrue begun.is_open → IsTrue old.is_open
-was_open old begun is up = subst (λ b. IsTrue b) (ap (λ (s : State). s.is_open) is) up
-
 module _ (old begun last new : State) (is : begun ≡ record old { in_transaction = true }) (keeps : KeepsInside begun last)
     (ends : Survives last new (λ _. ⊥)) (undone : HasCleanDisk new → IsRolledBack last new) where
   left : HasCleanDisk new → (first : ℤ) (acts : List Act) → KeepsBooks first acts old → KeepsBooks first acts new

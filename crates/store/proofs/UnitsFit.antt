@@ -24,13 +24,8 @@ use Rattle.commands.specs.declared.rows.ShipmentRow.{ShipmentRow}
 use Rattle.commands.specs.declared.rows.ShiplineRow.{ShiplineRow}
 use Rattle.commands.specs.declared.rows.CardRow.{CardRow}
 use Rattle.table_words.specs.Cells.{is_card_units}
-use Rattle.goods_tables.specs.Stock.{fits_stock}
-use Rattle.order_tables.specs.Lines.{fits_line}
-use Rattle.order_tables.specs.Staged.{fits_staged}
-use Rattle.order_tables.specs.Reserved.{fits_reserved}
-use Rattle.history_tables.specs.Shipments.{fits_shipment}
-use Rattle.history_tables.specs.Shiplines.{fits_shipline}
-use Rattle.history_tables.specs.Cards.{fits_card}
+use Rattle.table_words.specs.Stored.{fits_row}
+use Rattle.table_words.specs.Typed.{stock_mapping, line_mapping, staged_mapping, reserved_mapping, shipment_mapping, shipline_mapping, card_mapping}
 use Rattle.machine.specs.Acts.{Act, next_number}
 use Rattle.machine.specs.Postings.{Place, Supplier, InBin, Stage, Shipped, WriteOff, Posting, balance, is_bin, is_stage, is_shipment, is_lot}
 use Rattle.machine.specs.Ledger.{posting, correction, written, cleared, shipped_off, lot_returned, returned, posted, postings, postings_of, made_unshippable}
@@ -87,17 +82,17 @@ found_itself test (y ∷ ys) x e =
     ] refl e
 
 module _ (first : ℤ) (acts : List Act) (history : IsHistory first acts) where
-  pub stock_fits : (l : LotId) (b : List ℕ) (row : StockRow) → stock_row first acts l b ≡ Some row → fits_stock row ≡ true
-  stock_fits l b row e = any_has (λ (r : StockRow). fits_stock r ≡ true) (in_bin first acts b l) _ row e (λ some. between (in_bin first acts b l) UNITS_MAX some (bin_within_limit first acts history l.gtin l (same_text_refl l.gtin) b))
+  pub stock_fits : (l : LotId) (b : List ℕ) (row : StockRow) → stock_row first acts l b ≡ Some row → fits_row stock_mapping row ≡ true
+  stock_fits l b row e = any_has (λ (r : StockRow). fits_row stock_mapping r ≡ true) (in_bin first acts b l) _ row e (λ some. between (in_bin first acts b l) UNITS_MAX some (bin_within_limit first acts history l.gtin l (same_text_refl l.gtin) b))
 
   -- ---- lines
 
   shipped_within : (o g : List ℕ) → shipped_of first acts o g ≤ QTY_MAX
   shipped_within o g = omega (arith, served_is first acts (legal_history first acts history) o g, served_within_ordered first acts history o g, ordered_within_limit first acts history o g)
 
-  pub line_fits : (o g : List ℕ) (row : LineRow) → line_row first acts o g ≡ Some row → fits_line row ≡ true
+  pub line_fits : (o g : List ℕ) (row : LineRow) → line_row first acts o g ≡ Some row → fits_row line_mapping row ≡ true
   line_fits o g row e =
-      mapped_has (λ (r : LineRow). fits_line r ≡ true) _ (find (λ (l : OrderLine). same_text g l.gtin) (lines_of acts o)) row e (λ l found.
+      mapped_has (λ (r : LineRow). fits_row line_mapping r ≡ true) _ (find (λ (l : OrderLine). same_text g l.gtin) (lines_of acts o)) row e (λ l found.
       let sound = found_passes is_order_line (λ (l : OrderLine). same_text g l.gtin) (lines_of acts o) l (lines_of_right first acts history o) found in
       let ordered : is_qty l.qty ≡ true = (and_both (is_gtin l.gtin) (is_qty l.qty) sound).1 in
       let gone : nat_le (shipped_of first acts o g) QTY_MAX ≡ true = within (shipped_of first acts o g) QTY_MAX (shipped_within o g) in
@@ -117,8 +112,8 @@ module _ (first : ℤ) (acts : List Act) (history : IsHistory first acts) where
       let split = holds_split (postings first acts) (legal_history first acts history) (λ p m. is_stage o p && is_lot l m) (served o l.gtin) (record { supplier = λ m. refl; write_off = λ m. refl }) (record { supplier = λ m. refl; write_off = λ m. refl }) (lot_in_served o l) in
       omega (arith, split, served_within_ordered first acts history o l.gtin, ordered_within_limit first acts history o l.gtin)
 
-  pub staged_fits : (o : List ℕ) (l : LotId) (row : StagedRow) → staged_row first acts o l ≡ Some row → fits_staged row ≡ true
-  staged_fits o l row e = any_has (λ (r : StagedRow). fits_staged r ≡ true) (staged_of_lot first acts o l) _ row e (λ some. between (staged_of_lot first acts o l) QTY_MAX some (staged_within o l))
+  pub staged_fits : (o : List ℕ) (l : LotId) (row : StagedRow) → staged_row first acts o l ≡ Some row → fits_row staged_mapping row ≡ true
+  staged_fits o l row e = any_has (λ (r : StagedRow). fits_row staged_mapping r ≡ true) (staged_of_lot first acts o l) _ row e (λ some. between (staged_of_lot first acts o l) QTY_MAX some (staged_within o l))
 
   -- ---- reservations
 
@@ -151,8 +146,8 @@ module _ (first : ℤ) (acts : List Act) (history : IsHistory first acts) where
             ordered_within_limit first acts history o l.gtin,
           )
 
-  pub reserved_fits : (o : List ℕ) (l : LotId) (row : ReservedRow) → reserved_row first acts o l ≡ Some row → fits_reserved row ≡ true
-  reserved_fits o l row e = any_has (λ (r : ReservedRow). fits_reserved r ≡ true) (reserved first acts o l) _ row e (λ some. between (reserved first acts o l) QTY_MAX some (reserved_within o l))
+  pub reserved_fits : (o : List ℕ) (l : LotId) (row : ReservedRow) → reserved_row first acts o l ≡ Some row → fits_row reserved_mapping row ≡ true
+  reserved_fits o l row e = any_has (λ (r : ReservedRow). fits_row reserved_mapping r ≡ true) (reserved first acts o l) _ row e (λ some. between (reserved first acts o l) QTY_MAX some (reserved_within o l))
 
 -- ---- shipments
 
@@ -210,12 +205,12 @@ module _ (first : ℤ) (l : LotId) where
       by_found None none = let empty = unknown_shipment_is_empty first acts h n (is_lot l) (ap is_some none) in absurd (omega (arith, empty, some))
       by_found (Some s) found =
           let own : n ≡ s.number = eqb-true n s.number (found_itself (λ (s : ShipmentRow). n == s.number) (shipments first acts) s found) in
-          let fits = found_has (λ (s : ShipmentRow). fits_shipment s ≡ true) _ (shipments first acts) s (shipments_right first acts h) found in
-          ap (is_between 1 ACTS_MAX) own ∙ (and_both (is_between 1 ACTS_MAX s.number) (is_between 1 ACTS_MAX s.act) fits).0
+          let fits = found_has (λ (s : ShipmentRow). fits_row shipment_mapping s ≡ true) _ (shipments first acts) s (shipments_right first acts h) found in
+          ap (is_between 1 ACTS_MAX) own ∙ (and_both (is_between 1 ACTS_MAX s.number) (is_between 1 ACTS_MAX s.act && true) fits).0
 
-  pub shipline_fits : (acts : List Act) → IsHistory first acts → (n : ℕ) (row : ShiplineRow) → shipline_row first acts n l ≡ Some row → fits_shipline row ≡ true
+  pub shipline_fits : (acts : List Act) → IsHistory first acts → (n : ℕ) (row : ShiplineRow) → shipline_row first acts n l ≡ Some row → fits_row shipline_mapping row ≡ true
   shipline_fits acts h n row e =
-      any_has (λ (r : ShiplineRow). fits_shipline r ≡ true) (units_of acts n) _ row e (λ some.
+      any_has (λ (r : ShiplineRow). fits_row shipline_mapping r ≡ true) (units_of acts n) _ row e (λ some.
       let number = number_within acts h n some in
       let units = between (units_of acts n) QTY_MAX some (units_within acts h n) in
       (λ i. number i && units i))
@@ -248,13 +243,13 @@ card_off zero some few = absurd (omega arith)
 card_off (suc k) some few = grind (arith, nat_tests, few)
 
 module _ (first : ℤ) (act : Act) (before : List Act) (history : IsHistory first (act ∷ before)) where
-  line_right : (p : Posting) (kind : CardKind) (note : List ℕ) (q : ℤ) → p.act ≡ next_number before → is_card_units q ≡ true → AllByRecursion (λ (c : CardRow). fits_card c ≡ true) (card_line first act before p kind note q)
+  line_right : (p : Posting) (kind : CardKind) (note : List ℕ) (q : ℤ) → p.act ≡ next_number before → is_card_units q ≡ true → AllByRecursion (λ (c : CardRow). fits_row card_mapping c ≡ true) (card_line first act before p kind note q)
   line_right p kind note q own units =
       let number : is_between 1 ACTS_MAX p.act ≡ true = ap (is_between 1 ACTS_MAX) own ∙ number_fits first act before history in
       let rest : nat_le (lot_units_in_house first (act ∷ before) p.lot) UNITS_MAX ≡ true = within (lot_units_in_house first (act ∷ before) p.lot) UNITS_MAX (lot_within_limit first (act ∷ before) history p.lot.gtin p.lot (same_text_refl p.lot.gtin)) in
-      ((λ i. number i && units i && rest i), tt)
+      ((λ i. number i && (units i && rest i)), tt)
 
-  lines_right : (p : Posting) (from to : Place) → p.act ≡ next_number before → 1 ≤ p.qty → UnitsFit from to p.qty → AllByRecursion (λ (c : CardRow). fits_card c ≡ true) (card_lines first act before p from to)
+  lines_right : (p : Posting) (from to : Place) → p.act ≡ next_number before → 1 ≤ p.qty → UnitsFit from to p.qty → AllByRecursion (λ (c : CardRow). fits_row card_mapping c ≡ true) (card_lines first act before p from to)
   lines_right p Supplier (InBin b) own some fits = line_right p Receipt (delivery_note act.key) (pos p.qty) own (card_on p.qty some fits)
   lines_right p WriteOff (InBin b) own some fits = line_right p WriteOn b (pos p.qty) own (card_on p.qty some fits)
   lines_right p (InBin b) WriteOff own some fits = line_right p WrittenOff b (neg_ℤ (pos p.qty)) own (card_off p.qty some fits)
@@ -277,10 +272,10 @@ module _ (first : ℤ) (act : Act) (before : List Act) (history : IsHistory firs
   lines_right p (Stage o) WriteOff own some fits = tt
   lines_right p (Shipped n u) to own some fits = tt
 
-  all_lines_right : (ps : List Posting) → AllByRecursion (IsPostedRight (next_number before)) ps → AllByRecursion (λ (c : CardRow). fits_card c ≡ true) (flat_map (λ p. card_lines first act before p p.from p.to) ps)
+  all_lines_right : (ps : List Posting) → AllByRecursion (IsPostedRight (next_number before)) ps → AllByRecursion (λ (c : CardRow). fits_row card_mapping c ≡ true) (flat_map (λ p. card_lines first act before p p.from p.to) ps)
   all_lines_right [] all = tt
   all_lines_right (p ∷ ps) all =
-      all-append (λ (c : CardRow). fits_card c ≡ true) (card_lines first act before p p.from p.to) (flat_map (λ p. card_lines first act before p p.from p.to) ps)
+      all-append (λ (c : CardRow). fits_row card_mapping c ≡ true) (card_lines first act before p p.from p.to) (flat_map (λ p. card_lines first act before p p.from p.to) ps)
       (lines_right p p.from p.to all.0.0 all.0.1 all.0.2) (all_lines_right ps all.1)
 
 module _ (first : ℤ) (act : Act) (before : List Act) (history : IsHistory first before) where
@@ -338,11 +333,11 @@ module _ (first : ℤ) (act : Act) (before : List Act) (history : IsHistory firs
   right_posted (Cancel o) sound = tt
   right_posted (Release l) sound = tt
 
-cards_right : (first : ℤ) (acts : List Act) → IsHistory first acts → AllByRecursion (λ (c : CardRow). fits_card c ≡ true) (cards first acts)
+cards_right : (first : ℤ) (acts : List Act) → IsHistory first acts → AllByRecursion (λ (c : CardRow). fits_row card_mapping c ≡ true) (cards first acts)
 cards_right first [] h = tt
 cards_right first (act ∷ before) h =
-    all-append (λ (c : CardRow). fits_card c ≡ true) (flat_map (λ p. card_lines first act before p p.from p.to) (postings_of first act before)) (cards first before)
+    all-append (λ (c : CardRow). fits_row card_mapping c ≡ true) (flat_map (λ p. card_lines first act before p p.from p.to) (postings_of first act before)) (cards first before)
     (all_lines_right first act before h (postings_of first act before) (right_posted first act before h.0 act.command h.1.sound.command)) (cards_right first before h.0)
 
-pub card_fits : (first : ℤ) (acts : List Act) → IsHistory first acts → (l : LotId) (n : ℕ) (row : CardRow) → card_row first acts l n ≡ Some row → fits_card row ≡ true
-card_fits first acts history l n row e = found_has (λ (c : CardRow). fits_card c ≡ true) _ (cards first acts) row (cards_right first acts history) e
+pub card_fits : (first : ℤ) (acts : List Act) → IsHistory first acts → (l : LotId) (n : ℕ) (row : CardRow) → card_row first acts l n ≡ Some row → fits_row card_mapping row ≡ true
+card_fits first acts history l n row e = found_has (λ (c : CardRow). fits_row card_mapping c ≡ true) _ (cards first acts) row (cards_right first acts history) e

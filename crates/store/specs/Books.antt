@@ -5,7 +5,7 @@ use Rattle.sqlite.specs.State.{State, HasCleanDisk, KeepsCommit}
 use Rattle.sqlite.specs.Held.{state}
 use Rattle.sqlite.specs.Tree.{Trees}
 use Rattle.table_words.specs.Steps.{IsReady}
-use Rattle.tables.specs.Opening.{TellTables}
+use Rattle.books_schema.specs.Opening.{TellTables}
 use Rattle.machine.specs.Acts.{Act}
 use Rattle.machine.specs.Standing.{today}
 pub use Rattle.slices.specs.Books.{AreRowsOf, IsBooksOf}

@@ -16,17 +16,8 @@ use Rattle.commands.specs.declared.rows.ShiplineRow.{ShiplineRow}
 use Rattle.commands.specs.declared.rows.CardRow.{CardRow}
 use Rattle.commands.specs.declared.rows.RepeatRow.{RepeatRow}
 use Rattle.goods_tables.specs.Meta.{fits_meta}
-use Rattle.goods_tables.specs.Lots.{fits_lot}
-use Rattle.goods_tables.specs.Recalls.{fits_recall}
-use Rattle.goods_tables.specs.Stock.{fits_stock}
-use Rattle.order_tables.specs.Orders.{fits_order}
-use Rattle.order_tables.specs.Urgents.{fits_urgent}
-use Rattle.order_tables.specs.Lines.{fits_line}
-use Rattle.order_tables.specs.Staged.{fits_staged}
-use Rattle.order_tables.specs.Reserved.{fits_reserved}
-use Rattle.history_tables.specs.Shipments.{fits_shipment}
-use Rattle.history_tables.specs.Shiplines.{fits_shipline}
-use Rattle.history_tables.specs.Cards.{fits_card}
+use Rattle.table_words.specs.Stored.{fits_row}
+use Rattle.table_words.specs.Typed.{lot_mapping, recall_mapping, stock_mapping, order_mapping, urgent_mapping, line_mapping, staged_mapping, reserved_mapping, shipment_mapping, shipline_mapping, card_mapping}
 use Rattle.history_tables.specs.Repeats.{fits_repeat}
 use Rattle.machine.specs.Acts.{Act}
 use Rattle.machine.specs.Once.{IsHistory}
@@ -35,17 +26,17 @@ use Rattle.machine.specs.Tables.{tables_of}
 -- those of each row; the rows of items, bins and `least` have no number that a type leaves open
 pub record AreFitting (t : Tables) : Type 0 where
   pub meta : (row : MetaRow) → t.meta ≡ Some row → fits_meta row ≡ true
-  pub lots : (l : LotId) (row : LotRow) → t.lot l ≡ Some row → fits_lot row ≡ true
-  pub recalls : (l : LotId) (row : RecallRow) → t.recall l ≡ Some row → fits_recall row ≡ true
-  pub stock : (l : LotId) (b : List ℕ) (row : StockRow) → t.stock l b ≡ Some row → fits_stock row ≡ true
-  pub orders : (o : List ℕ) (row : OrderRow) → t.order o ≡ Some row → fits_order row ≡ true
-  pub urgents : (o : List ℕ) (row : UrgentRow) → t.urgent o ≡ Some row → fits_urgent row ≡ true
-  pub lines : (o g : List ℕ) (row : LineRow) → t.line o g ≡ Some row → fits_line row ≡ true
-  pub staged : (o : List ℕ) (l : LotId) (row : StagedRow) → t.staged o l ≡ Some row → fits_staged row ≡ true
-  pub reserved : (o : List ℕ) (l : LotId) (row : ReservedRow) → t.reserved o l ≡ Some row → fits_reserved row ≡ true
-  pub shipments : (n : ℕ) (row : ShipmentRow) → t.shipment n ≡ Some row → fits_shipment row ≡ true
-  pub shiplines : (n : ℕ) (l : LotId) (row : ShiplineRow) → t.shipline n l ≡ Some row → fits_shipline row ≡ true
-  pub cards : (l : LotId) (n : ℕ) (row : CardRow) → t.card l n ≡ Some row → fits_card row ≡ true
+  pub lots : (l : LotId) (row : LotRow) → t.lot l ≡ Some row → fits_row lot_mapping row ≡ true
+  pub recalls : (l : LotId) (row : RecallRow) → t.recall l ≡ Some row → fits_row recall_mapping row ≡ true
+  pub stock : (l : LotId) (b : List ℕ) (row : StockRow) → t.stock l b ≡ Some row → fits_row stock_mapping row ≡ true
+  pub orders : (o : List ℕ) (row : OrderRow) → t.order o ≡ Some row → fits_row order_mapping row ≡ true
+  pub urgents : (o : List ℕ) (row : UrgentRow) → t.urgent o ≡ Some row → fits_row urgent_mapping row ≡ true
+  pub lines : (o g : List ℕ) (row : LineRow) → t.line o g ≡ Some row → fits_row line_mapping row ≡ true
+  pub staged : (o : List ℕ) (l : LotId) (row : StagedRow) → t.staged o l ≡ Some row → fits_row staged_mapping row ≡ true
+  pub reserved : (o : List ℕ) (l : LotId) (row : ReservedRow) → t.reserved o l ≡ Some row → fits_row reserved_mapping row ≡ true
+  pub shipments : (n : ℕ) (row : ShipmentRow) → t.shipment n ≡ Some row → fits_row shipment_mapping row ≡ true
+  pub shiplines : (n : ℕ) (l : LotId) (row : ShiplineRow) → t.shipline n l ≡ Some row → fits_row shipline_mapping row ≡ true
+  pub cards : (l : LotId) (n : ℕ) (row : CardRow) → t.card l n ≡ Some row → fits_row card_mapping row ≡ true
   pub repeats : (k : List ℕ) (row : RepeatRow) → t.repeat k ≡ Some row → fits_repeat row ≡ true
 
 -- a table refuses no row of a history for its size

@@ -1,9 +1,10 @@
 -- What the books know of their tables.
-use Rattle.std.specs.Prelude.{◌≡◌, Option, Result, IsTrue, IfSome, OnOk}
+use Rattle.std.specs.Prelude.{◌≡◌, Bool, true, false, Option, Result, IsTrue, IfSome, OnOk, is_ok}
+use Rattle.commands.specs.Tables.{Tables}
 use Rattle.sqlite.specs.State.{State, HasCleanDisk}
 use Rattle.table_words.specs.Steps.{IsReady}
 use Rattle.table_words.specs.Typed.{tables_in}
-use Rattle.slices.specs.Slicing.{HoldsOf}
+use Rattle.slices.specs.Slicing.{HoldsOf, HoldsBeside}
 use Rattle.slices.specs.declared.knowing.Known.{Known}
 use Rattle.store.specs.Books.{IsSettled}
 
@@ -19,7 +20,15 @@ IsKnown known s = HasCleanDisk s → IsSettled s × (IsTrue s.is_open → HasKno
 abbrev pub GoesOnKnown : {X E : Type 0} → Option Known → Option Known → Result X E → State → State → Type 0
 GoesOnKnown known after result old new = OnOk result (IsTrue old.is_open × IsReady new.now × (new.in_transaction ≡ old.in_transaction) × (HasKnown known old → HasKnown after new))
 
--- whatever it answers, what is known of the tables before is not lost
+-- what is known of the tables as they were before a call: all of it, or what is known beside rows once the call has answered
+abbrev pub HoldsLeft : Bool → Known → Tables → Type 0
+HoldsLeft true known t = HoldsBeside known t
+HoldsLeft false known t = HoldsOf known t
+
+abbrev pub HasLeft : Bool → Option Known → Tables → Type 0
+HasLeft answered known t = IfSome known (λ k. HoldsLeft answered k t)
+
+-- what is known of the tables before is not lost where it fails, and beside rows where it answers
 pub record LeavesKnown {X E : Type 0} (known after : Option Known) (result : Result X E) (old new : State) : Type 0 where
-  pub before : HasKnown known old → HasKnown after old
+  pub before : HasKnown known old → HasLeft (is_ok result) after (tables_in old.now.trees)
   pub answered : GoesOnKnown known after result old new

@@ -7,18 +7,18 @@ use Rattle.sqlite.specs.State.{State, HasCleanDisk, Survives}
 use Rattle.sqlite.specs.Tree.{Trees}
 use Rattle.table_words.specs.Steps.{IsReady}
 use Rattle.table_words.specs.Typed.{AreTypedAt}
-use Rattle.tables.specs.Bringing.{as_older, as_brought, older_tables_in, AreOlderTyped}
-use Rattle.tables.specs.Indexing.{KeepsRows}
-use Rattle.tables.specs.Older.{number}
-pub use Rattle.tables.specs.Opening.{HasSchema, IsOfNone}
-pub use Rattle.tables.specs.Opening.{Tells}
-use Rattle.tables.specs.Opening.{HasDayIn, IsReadyAs, AreReadTyped, KeepsRowsAs, ComesTo, IsClosed, TellTables}
-use Rattle.tables.specs.Settling.{third_tables_in, IsRaised}
-pub use Rattle.tables.specs.declared.opening.Found.{Found}
-use Rattle.tables.specs.declared.opening.Found.TheVariants.{Newest, Older}
-use Rattle.tables.specs.declared.older.OlderBooks.{OlderBooks}
-use Rattle.tables.specs.declared.opening.Leftover.{Leftover}
-use Rattle.tables.specs.declared.opening.Leftover.TheVariants as left
+use Rattle.books_schema.specs.Bringing.{as_older, as_brought, older_tables_in, AreOlderTyped}
+use Rattle.books_schema.specs.Indexing.{KeepsRows}
+use Rattle.books_schema.specs.Older.{number}
+pub use Rattle.books_schema.specs.Opening.{HasSchema, IsOfNone}
+pub use Rattle.books_schema.specs.Opening.{Tells}
+use Rattle.books_schema.specs.Opening.{HasDayIn, IsReadyAs, AreReadTyped, KeepsRowsAs, ComesTo, IsClosed, TellTables}
+use Rattle.books_schema.specs.Settling.{third_tables_in, IsRaised}
+pub use Rattle.books_schema.specs.declared.ready_connection.Found.{Found}
+use Rattle.books_schema.specs.declared.ready_connection.Found.TheVariants.{Newest, Older}
+use Rattle.books_schema.specs.declared.older.OlderBooks.{OlderBooks}
+use Rattle.books_schema.specs.declared.ready_connection.Leftover.{Leftover}
+use Rattle.books_schema.specs.declared.ready_connection.Leftover.TheVariants as left
 use Rattle.machine.specs.Acts.{Act}
 use Rattle.machine.specs.Schemas.{are_of_schema}
 use Rattle.machine.specs.Tables.{tables_of}

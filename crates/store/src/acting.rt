@@ -16,17 +16,17 @@ ghost use Rattle.store.specs.Books.{AreBooks, KeepsBooks};
 ghost use Rattle.store.specs.Acting.{IsActedOn, Acts, IsDecidedByRows};
 ghost use Rattle.store.specs.Knowing.{IsKnown, LeavesKnown};
 
-use crate::knowing::known_in;
+use crate::earlier_reply::repeat_reply;
+use crate::known::{follow, forget_undone, known_in};
 use crate::repeats::{act_under_key, find_open, keep_act};
-use crate::telling::repeat_reply;
 use crate::{Fault, Reply};
+use books_schema::ending::finish;
 use changes::write_change;
 use commands::{Command, Key, Listed, spell};
 use rules::{Change, decide};
 use slices::{Known, know_put, read_slice};
 use sqlite::{Alter, Connection, Transaction};
 use std::alloc::Global;
-use tables::ending::finish;
 
 /// Acts on the command under its key, in one transaction.
 ///
@@ -54,7 +54,10 @@ pub fn act_once<S: Alter>(
     let _outside = conn.is_autocommit();
     let mut tx = conn.transaction();
     let reply = act_inside(alloc, &mut tx, known, key, command);
-    finish(tx, reply)
+    let acted = reply.is_ok();
+    let reply = finish(tx, reply);
+    forget_undone(alloc, known, acted, &reply);
+    reply
 }
 
 /// The act within its transaction.
@@ -156,7 +159,8 @@ fn change_of<S: Alter>(
     change.map_err(Fault::from)
 }
 
-// Writes what an accepted command changes; the orders that it opens, and the items and bins that it makes, are known before.
+// Writes what an accepted command changes; the orders that it opens, and the items and bins that it makes, are known before,
+// and what follows what is written has its rows after.
 fn accept_known<S: Alter>(
     alloc: Global,
     tx: &mut Transaction<'_, S>,
@@ -178,7 +182,9 @@ fn accept_known<S: Alter>(
     ensures survives { Survives (state S.Store tx.old.conn.now) (state S.Store tx.new.conn.now) (λ _. ⊥) }
 {
     know_put(alloc, tx, known, &change.put)?;
-    accept(alloc, tx, key, command, change)
+    let reply = accept(alloc, tx, key, command, change);
+    follow(known, change, &reply);
+    reply
 }
 
 // Writes what an accepted command changes, and then its row of `repeats`.

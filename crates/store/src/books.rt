@@ -6,7 +6,7 @@ ghost use Rattle.sqlite.specs.Held.{state};
 ghost use Rattle.label.specs.Days.{is_business_day};
 ghost use Rattle.table_words.specs.Schema.{schema_0};
 ghost use Rattle.table_words.specs.declared.error.TableFault.TheVariants.{Foreign as ForeignTable};
-ghost use Rattle.tables.specs.Indexing.{HasIndexes};
+ghost use Rattle.books_schema.specs.Indexing.{HasIndexes};
 ghost use Rattle.machine.specs.Acts.{Act};
 ghost use Rattle.machine.specs.Once.{IsHistory, is_key_of, acts_after, acts_after_file};
 ghost use Rattle.machine.specs.Standing.{today, RETURNS};
@@ -30,6 +30,8 @@ use crate::lot_rows::{CardLines, LotBins, hand_rows};
 use crate::shipments::hand_shipments;
 use crate::showing::show;
 use crate::{EachFault, Fault, Reply, RowFault, Tally};
+use books_schema::creation;
+use books_schema::ready_connection::{Leftover, Orderly, ready, settle_found};
 use commands::{
     BinKind, BinRow, BinUnits, CardRow, Command, ItemRow, Key, MetaRow, OrderView, RepeatRow,
     ShippedUnits, ShortView, Sink, StockView,
@@ -41,8 +43,6 @@ use sqlite::{Alter, Connection};
 use std::alloc::Global;
 use std::marker::Model;
 use table_words::error::TableFault;
-use tables::creation;
-use tables::opening::{Leftover, Orderly, ready, settle_found};
 use values::{Gtin, LotId, Name};
 
 /// The books over a connection, which is outside a transaction between calls and has no limit on steps.
@@ -314,7 +314,13 @@ impl<S: Alter> Books<S> {
         ensures survives { Survives (state S.Store self.old.conn) (state S.Store self.new.conn) (λ _. ⊥) }
     {
         let query = OrderQuery { order: *order };
-        show(self.alloc, &mut self.conn, self.day, &query)
+        show(
+            self.alloc,
+            &mut self.conn,
+            self.day,
+            &mut self.known,
+            &query,
+        )
     }
 
     /// Shows the stock of an item as it stands: its lots by expiry and first receipt, each with the units in its bins,
@@ -330,7 +336,13 @@ impl<S: Alter> Books<S> {
         ensures survives { Survives (state S.Store self.old.conn) (state S.Store self.new.conn) (λ _. ⊥) }
     {
         let query = StockQuery { gtin: *gtin };
-        show(self.alloc, &mut self.conn, self.day, &query)
+        show(
+            self.alloc,
+            &mut self.conn,
+            self.day,
+            &mut self.known,
+            &query,
+        )
     }
 
     /// Shows the bookings of an item that are short, in the order of service. An item that is not known is refused (U01).
@@ -343,11 +355,14 @@ impl<S: Alter> Books<S> {
         ensures stays { IsClean S.Store self.new → IsSettled (state S.Store self.new.conn) }
         ensures survives { Survives (state S.Store self.old.conn) (state S.Store self.new.conn) (λ _. ⊥) }
     {
-        let query = ShortQuery {
-            gtin: *gtin,
-            known: self.known.as_ref(),
-        };
-        show(self.alloc, &mut self.conn, self.day, &query)
+        let query = ShortQuery { gtin: *gtin };
+        show(
+            self.alloc,
+            &mut self.conn,
+            self.day,
+            &mut self.known,
+            &query,
+        )
     }
 
     /// The item of a lot's stock card and the day on which the lot expires. An item that is not known is refused (U01), and
@@ -362,7 +377,13 @@ impl<S: Alter> Books<S> {
         ensures survives { Survives (state S.Store self.old.conn) (state S.Store self.new.conn) (λ _. ⊥) }
     {
         let query = CardHeadQuery { lot: *lot };
-        show(self.alloc, &mut self.conn, self.day, &query)
+        show(
+            self.alloc,
+            &mut self.conn,
+            self.day,
+            &mut self.known,
+            &query,
+        )
     }
 
     /// The item of a lot's recall notice and the day on which the lot expires, `None` for a lot that never came. An item
@@ -377,7 +398,13 @@ impl<S: Alter> Books<S> {
         ensures survives { Survives (state S.Store self.old.conn) (state S.Store self.new.conn) (λ _. ⊥) }
     {
         let query = NoticeHeadQuery { lot: *lot };
-        show(self.alloc, &mut self.conn, self.day, &query)
+        show(
+            self.alloc,
+            &mut self.conn,
+            self.day,
+            &mut self.known,
+            &query,
+        )
     }
 
     /// Hands the lines of a lot's stock card to the sink, by act, one at a time, until it stops. It is outside every
@@ -440,7 +467,13 @@ impl<S: Alter> Books<S> {
         ensures stays { IsClean S.Store self.new → IsSettled (state S.Store self.new.conn) }
         ensures survives { Survives (state S.Store self.old.conn) (state S.Store self.new.conn) (λ _. ⊥) }
     {
-        show(self.alloc, &mut self.conn, self.day, &ActsQuery)
+        show(
+            self.alloc,
+            &mut self.conn,
+            self.day,
+            &mut self.known,
+            &ActsQuery,
+        )
     }
 
     /// Hands the bins with units of a lot to the sink, by name, one at a time, until it stops. It is outside every

@@ -16,13 +16,13 @@ use crate::acting::act_inside;
 use crate::day::day_left;
 use crate::repeats::find_open;
 use crate::{Fault, Reply, RowFault, Tally};
+use books_schema::ending::finish;
 use commands::laws::{every_command_is_sound, every_key_is_sound};
 use commands::{Command, Key};
 use label::BusinessDay;
 use slices::Known;
 use sqlite::{Alter, Connection, Transaction};
 use std::alloc::Global;
-use tables::ending::finish;
 
 /// How far the rows of a file have come.
 #[derive(Clone, Copy)]

@@ -1,64 +1,115 @@
 //! What is asked of the books, shown.
 
-ghost use Rattle.std.specs.Prelude.{◌≡◌, false, ℤ, List, IsTrue, IfOk, IfErr, Ok, Err};
+ghost use Rattle.std.specs.Prelude.{◌≡◌, false, ℤ, List, IsTrue, OnOk, IfOk, IfErr, Ok, Err};
+ghost use Rattle.std.specs.Option.{option_copied};
 ghost use Rattle.sqlite.specs.State.{HasCleanDisk, Survives, KeepsCommit};
 ghost use Rattle.sqlite.specs.Held.{state};
-ghost use Rattle.table_words.specs.Steps.{IsReady};
+ghost use Rattle.commands.specs.Tables.{Tables};
 ghost use Rattle.commands.specs.declared.refusal.Refusal.{Refusal as Why};
+ghost use Rattle.table_words.specs.Steps.{IsReady};
+ghost use Rattle.table_words.specs.Typed.{tables_in};
 ghost use Rattle.machine.specs.Acts.{Act};
 ghost use Rattle.machine.specs.Once.{IsHistory};
 ghost use Rattle.machine.specs.Standing.{today};
 ghost use Rattle.machine.specs.Tables.{tables_of};
 ghost use Rattle.slices.specs.Books.{IsBooksOf};
+ghost use Rattle.slices.specs.Remembering.{KnowsRows};
+ghost use Rattle.queries.specs.Asked.{IsKnownOf};
 ghost use Rattle.store.specs.Books.{KeepsBooks, IsSettled};
+ghost use Rattle.store.specs.Knowing.{IsKnown};
 ghost use Rattle.store.specs.Showing.{IsFoundAs, IsShownAs, IsShownOn};
 
 use crate::Fault;
 use crate::repeats::find_open;
 use commands::Refusal;
 use label::BusinessDay;
-use queries::{Query, find};
+use queries::Query;
+use slices::{Known, RowsKnown};
 use sqlite::{Alter, Connection, Transaction};
 use std::alloc::Global;
+use std::mem;
 
-/// Shows what is asked as it stands on the business day, or the refusal, and changes nothing.
+/// Shows what is asked as it stands on the business day, or the refusal, and changes nothing of the tables. Rows that it
+/// reads are known after, where anything is known of the books.
 pub fn show<Q: Query, S: Alter>(
     alloc: Global,
     conn: &mut Connection<S>,
     day: BusinessDay,
+    known: &mut Option<Known>,
     query: &Q,
 ) -> Result<Q::View, Fault>
     requires outside { conn.old.in_transaction ≡ false }
+    requires known { IsKnown known.old (state S.Store conn.old) }
     ensures outside { conn.new.in_transaction ≡ false }
+    ensures known { IsKnown known.new (state S.Store conn.new) }
     ensures shown { HasCleanDisk (state S.Store conn.new) → (first : ℤ) (acts : List Act) → IsHistory first acts → KeepsBooks first acts (state S.Store conn.old)
-        → today first acts ≡ day → (IsTrue (state S.Store conn.old).is_open → Q.suits query.now (tables_of first acts)) → IsShownOn first acts (Q.shown first acts query.now) result (state S.Store conn.new) }
+        → today first acts ≡ day → IsShownOn first acts (Q.shown first acts query.now) result (state S.Store conn.new) }
     ensures stays { HasCleanDisk (state S.Store conn.new) → IsSettled (state S.Store conn.old) → KeepsCommit (state S.Store conn.old) (state S.Store conn.new) × IsSettled (state S.Store conn.new) }
     ensures survives { Survives (state S.Store conn.old) (state S.Store conn.new) (λ _. ⊥) }
 {
+    let mut rows = take_rows(alloc, known);
     let _outside = conn.is_autocommit();
     let mut tx = conn.transaction();
-    let found = find_found(alloc, &mut tx, query);
+    let found = find_found(alloc, &mut tx, known.as_ref(), &mut rows, query);
     tx.rollback();
+    put_back(known, rows, &found);
     view_of(alloc, day, query, found)
+}
+
+// The rows that are known, taken out; none, where nothing is known.
+fn take_rows(alloc: Global, known: &mut Option<Known>) -> RowsKnown
+    ensures { (t : Tables) → IsKnownOf known.old t → IsKnownOf known.new t × KnowsRows t result }
+{
+    let none = RowsKnown::new(alloc);
+    match known {
+        Some(known) => mem::replace(&mut known.rows, none),
+        None => none,
+    }
+}
+
+// The rows are known again, unless a read failed.
+fn put_back<X>(known: &mut Option<Known>, rows: RowsKnown, found: &Result<X, Fault>)
+    ensures { (t : Tables) → IsKnownOf known.old t → OnOk found.now (KnowsRows t rows) → IsKnownOf known.new t }
+{
+    match found {
+        Ok(_) => know_rows(known, rows),
+        Err(_) => drop(rows),
+    }
+}
+
+// Other rows are known, where anything is.
+fn know_rows(known: &mut Option<Known>, rows: RowsKnown)
+    ensures { (t : Tables) → IsKnownOf known.old t → KnowsRows t rows → IsKnownOf known.new t }
+{
+    match known {
+        Some(known) => known.rows = rows,
+        None => drop(rows),
+    }
 }
 
 // The rows by which it is shown, or the refusal.
 fn find_found<Q: Query, S: Alter>(
     alloc: Global,
     tx: &mut Transaction<'_, S>,
+    known: Option<&Known>,
+    rows: &mut RowsKnown,
     query: &Q,
 ) -> Result<Result<Q::Found, Refusal>, Fault>
     ensures same_reference { tx.new.conn.ghost_name ≡ tx.old.conn.ghost_name }
     ensures read { HasCleanDisk (state S.Store tx.new.conn.now) → (first : ℤ) (acts : List Act)
-        → (IsTrue (state S.Store tx.old.conn.now).is_open → IsBooksOf first acts (state S.Store tx.old.conn.now).now) → IfOk result (λ found. Q.is_in query.now (tables_of first acts) found) }
-    ensures open { HasCleanDisk (state S.Store tx.new.conn.now) → IfOk result (λ _. IsTrue (state S.Store tx.old.conn.now).is_open) }
+        → (IsTrue (state S.Store tx.old.conn.now).is_open → IsBooksOf first acts (state S.Store tx.old.conn.now).now)
+        → (IsTrue (state S.Store tx.old.conn.now).is_open → IsKnownOf (option_copied known.entry) (tables_in (state S.Store tx.old.conn.now).now.trees) × KnowsRows (tables_in (state S.Store tx.old.conn.now).now.trees) rows.old)
+        → IfOk result (λ found. Q.is_in query.now (tables_of first acts) found) }
+    ensures known { HasCleanDisk (state S.Store tx.new.conn.now) → (IsTrue (state S.Store tx.old.conn.now).is_open → IsReady (state S.Store tx.old.conn.now).now)
+        → (IsTrue (state S.Store tx.old.conn.now).is_open → IsKnownOf (option_copied known.entry) (tables_in (state S.Store tx.old.conn.now).now.trees) × KnowsRows (tables_in (state S.Store tx.old.conn.now).now.trees) rows.old)
+        → OnOk result (KnowsRows (tables_in (state S.Store tx.old.conn.now).now.trees) rows.new) }
     ensures fault { HasCleanDisk (state S.Store tx.new.conn.now) → (first : ℤ) (acts : List Act)
         → (IsTrue (state S.Store tx.old.conn.now).is_open → IsBooksOf first acts (state S.Store tx.old.conn.now).now) → IfErr result (λ e. e ≡ Fault.Store) }
     ensures kept { HasCleanDisk (state S.Store tx.new.conn.now) → (IsTrue (state S.Store tx.old.conn.now).is_open → IsReady (state S.Store tx.old.conn.now).now) → KeepsCommit (state S.Store tx.old.conn.now) (state S.Store tx.new.conn.now) }
     ensures survives { Survives (state S.Store tx.old.conn.now) (state S.Store tx.new.conn.now) (λ _. ⊥) }
 {
     find_open(tx)?;
-    match find(alloc, tx, query) {
+    match query.read(alloc, tx, known, rows) {
         Ok(found) => Ok(found),
         Err(fault) => Err(Fault::from(fault)),
     }
@@ -71,7 +122,7 @@ fn view_of<Q: Query>(
     query: &Q,
     found: Result<Result<Q::Found, Refusal>, Fault>,
 ) -> Result<Q::View, Fault>
-    ensures shown { (first : ℤ) (acts : List Act) → IsHistory first acts → today first acts ≡ day → IsFoundAs (λ x. Q.suits query.now (tables_of first acts) × Q.is_in query.now (tables_of first acts) x) found → IsShownAs (Q.shown first acts query.now) result }
+    ensures shown { (first : ℤ) (acts : List Act) → IsHistory first acts → today first acts ≡ day → IsFoundAs (λ x. Q.is_in query.now (tables_of first acts) x) found → IsShownAs (Q.shown first acts query.now) result }
     ensures refused { (why : Why) → found ≡ Ok (Err why) → result ≡ Err (Fault.Refused why) }
 {
     match found {

@@ -1,4 +1,5 @@
 pub mod Cells
+pub mod Stored
 pub mod Schema
 pub mod Rows
 pub mod Changed

@@ -1,16 +1,18 @@
 -- The rows of each table as typed ones, the tables as look-ups by primary key, and what the calls make of them.
-use Rattle.std.specs.Prelude.{◌≡◌, ℕ, Bool, true, ◌&&◌, if◌then◌else◌, bytes_eq, nat_eq, codes, List, [], ◌∷◌, ◌++◌, filter, find, pos, Option, Some, None}
+use Rattle.std.specs.Prelude.{◌≡◌, ℕ, ℤ, Bool, true, ◌&&◌, if◌then◌else◌, bytes_eq, nat_eq, codes, List, [], ◌∷◌, ◌++◌, filter, find, pos, Option, Some, None}
 use Rattle.std.specs.List.{AllByRecursion}
 use Rattle.sqlite_value.specs.declared.value.Value.TheVariants.{Int, Text}
-use Rattle.sqlite_value.specs.Order.{Row, column, bytes}
+use Rattle.sqlite_value.specs.Order.{Row, column}
 use Rattle.sqlite.specs.Tree.{Trees}
-use Rattle.values.specs.Values.{QTY_MAX, is_gtin, is_lot_text, is_name, is_title}
+use Rattle.values.specs.Values.{QTY_MAX, is_gtin, is_lot_text, is_name, is_title, LEAST_DAYS_MAX}
 use Rattle.label.specs.Days.{is_business_day}
 use Rattle.values.specs.declared.lot.LotId.{LotId}
-use Rattle.commands.specs.Words.{bin_kind_word, order_state_word, card_kind_word}
 pub use Rattle.commands.specs.Tables.{Tables}
-use Rattle.commands.specs.declared.limits.TheConstants.{UNITS_MAX, ACTS_MAX, SHORT_MAX, LEAST_DAYS_MAX, KEY_TEXT_MAX, CARD_NOTE_MAX, SCHEMA_VERSION}
-use Rattle.table_words.specs.Cells.{typed, is_word, is_the_text, fits_in, is_any, is_number, is_count, is_the_number, number_in, is_signed, is_card_units, is_expiry, signed_in, flag_number, flag_in, is_bin_kind, bin_kind_in, is_order_state, is_open_state, order_state_in, is_card_kind, card_kind_in}
+use Rattle.commands.specs.declared.limits.TheConstants.{UNITS_MAX, ACTS_MAX, SHORT_MAX, KEY_TEXT_MAX, CARD_NOTE_MAX, SCHEMA_VERSION}
+use Rattle.table_words.specs.Cells.{typed, is_the_text, fits_in, is_any, is_number, is_count, is_the_number, number_in, is_signed, is_card_units, is_expiry, signed_in, is_open_state}
+use Rattle.commands.specs.declared.command.BinKind.{BinKind}
+use Rattle.commands.specs.declared.rows.OrderState.{OrderState}
+use Rattle.commands.specs.declared.rows.CardKind.{CardKind}
 use Rattle.commands.specs.declared.rows.MetaRow.{MetaRow}
 use Rattle.commands.specs.declared.rows.ItemRow.{ItemRow}
 use Rattle.commands.specs.declared.rows.LeastRow.{LeastRow}
@@ -27,6 +29,7 @@ use Rattle.commands.specs.declared.rows.ShipmentRow.{ShipmentRow}
 use Rattle.commands.specs.declared.rows.ShiplineRow.{ShiplineRow}
 use Rattle.commands.specs.declared.rows.CardRow.{CardRow}
 use Rattle.commands.specs.declared.rows.RepeatRow.{RepeatRow}
+use Rattle.table_words.specs.Stored.{Columns, Mapping, one, pair, text_stored, number_stored, count_stored, signed_stored, day_stored, flag_stored, bin_kind_stored, order_state_stored, card_kind_stored, is_stored_row, stored_rows}
 use Rattle.table_words.specs.Schema.{meta_tree, items_tree, bins_tree, lots_tree, recalls_tree, stock_tree, orders_tree, lines_tree, staged_tree, reserved_tree, shipments_tree, shiplines_tree, cards_tree, repeats_tree, least_tree, urgents_tree}
 
 abbrev pub same_lot_id : LotId → LotId → Bool
@@ -34,11 +37,10 @@ same_lot_id a b = bytes_eq a.gtin b.gtin && bytes_eq a.lot b.lot
 
 -- ---- meta
 
--- whether the row reads as a typed one of books of this schema number
+-- whether the row reads as a typed one of books of this schema number; is_meta: of the newest
 abbrev pub is_meta_at : ℕ → Row → Bool
 is_meta_at version r = is_the_number 1 (column r 0) && (is_the_text (codes "LOTSTOCK") (column r 2) && (is_the_number version (column r 3) && (is_signed is_business_day (column r 4) && (is_number ACTS_MAX (column r 5) && is_number ACTS_MAX (column r 6)))))
 
--- and of books of the newest number
 abbrev pub is_meta : Row → Bool
 is_meta r = is_meta_at SCHEMA_VERSION r
 
@@ -76,20 +78,8 @@ meta_at version trees = find (λ s. same_meta 1 (meta_key s)) (typed (is_meta_at
 
 -- ---- items
 
--- whether the row reads as a typed one
-abbrev pub is_item : Row → Bool
-is_item r = is_word is_gtin (column r 1) && is_word is_title (column r 2)
-
--- what it reads as
-abbrev pub item_in : Row → ItemRow
-item_in r = record { gtin = bytes (column r 1); name = bytes (column r 2) }
-
--- the same of its columns in their order, as a statement answers them
-abbrev pub has_item : Row → Bool
-has_item v = is_word is_gtin (column v 0) && is_word is_title (column v 1)
-
-abbrev pub item_read : Row → ItemRow
-item_read v = record { gtin = bytes (column v 0); name = bytes (column v 1) }
+abbrev pub item_mapping : Mapping ItemRow (List ℕ × List ℕ)
+item_mapping = record { columns = pair (text_stored is_gtin) (one (text_stored is_title)); parts = λ s. (s.gtin, s.name); of = λ p. record { gtin = p.0; name = p.1 } }
 
 abbrev pub ItemKey : Type 0
 ItemKey = List ℕ
@@ -100,26 +90,10 @@ same_item a b = bytes_eq a b
 abbrev pub item_key : ItemRow → ItemKey
 item_key s = s.gtin
 
--- its values, in the order of the columns
-abbrev pub item_cells : ItemRow → Row
-item_cells s = Text s.gtin ∷ Text s.name ∷ []
-
 -- ---- least
 
--- whether the row reads as a typed one
-abbrev pub is_least : Row → Bool
-is_least r = is_word is_gtin (column r 1) && is_number LEAST_DAYS_MAX (column r 2)
-
--- what it reads as
-abbrev pub least_in : Row → LeastRow
-least_in r = record { gtin = bytes (column r 1); days = number_in (column r 2) }
-
--- the same of its columns in their order, as a statement answers them
-abbrev pub has_least : Row → Bool
-has_least v = is_word is_gtin (column v 0) && is_number LEAST_DAYS_MAX (column v 1)
-
-abbrev pub least_read : Row → LeastRow
-least_read v = record { gtin = bytes (column v 0); days = number_in (column v 1) }
+abbrev pub least_mapping : Mapping LeastRow (List ℕ × ℕ)
+least_mapping = record { columns = pair (text_stored is_gtin) (one (number_stored LEAST_DAYS_MAX)); parts = λ s. (s.gtin, s.days); of = λ p. record { gtin = p.0; days = p.1 } }
 
 abbrev pub LeastKey : Type 0
 LeastKey = List ℕ
@@ -130,26 +104,10 @@ same_least a b = bytes_eq a b
 abbrev pub least_key : LeastRow → LeastKey
 least_key s = s.gtin
 
--- its values, in the order of the columns
-abbrev pub least_cells : LeastRow → Row
-least_cells s = Text s.gtin ∷ Int (pos s.days) ∷ []
-
 -- ---- bins
 
--- whether the row reads as a typed one
-abbrev pub is_bin : Row → Bool
-is_bin r = is_word is_name (column r 1) && is_word is_bin_kind (column r 2)
-
--- what it reads as
-abbrev pub bin_in : Row → BinRow
-bin_in r = record { name = bytes (column r 1); kind = bin_kind_in (column r 2) }
-
--- the same of its columns in their order, as a statement answers them
-abbrev pub has_bin : Row → Bool
-has_bin v = is_word is_name (column v 0) && is_word is_bin_kind (column v 1)
-
-abbrev pub bin_read : Row → BinRow
-bin_read v = record { name = bytes (column v 0); kind = bin_kind_in (column v 1) }
+abbrev pub bin_mapping : Mapping BinRow (List ℕ × BinKind)
+bin_mapping = record { columns = pair (text_stored is_name) (one bin_kind_stored); parts = λ s. (s.name, s.kind); of = λ p. record { name = p.0; kind = p.1 } }
 
 abbrev pub BinKey : Type 0
 BinKey = List ℕ
@@ -160,26 +118,14 @@ same_bin a b = bytes_eq a b
 abbrev pub bin_key : BinRow → BinKey
 bin_key s = s.name
 
--- its values, in the order of the columns
-abbrev pub bin_cells : BinRow → Row
-bin_cells s = Text s.name ∷ Text (bin_kind_word s.kind) ∷ []
-
 -- ---- lots
 
--- whether the row reads as a typed one
-abbrev pub is_lot : Row → Bool
-is_lot r = is_word is_gtin (column r 1) && (is_word is_lot_text (column r 2) && (is_signed is_expiry (column r 3) && (is_count ACTS_MAX (column r 4) && is_number 1 (column r 5))))
-
--- what it reads as
-abbrev pub lot_in : Row → LotRow
-lot_in r = record { lot = record { gtin = bytes (column r 1); lot = bytes (column r 2) }; expiry = signed_in (column r 3); came = number_in (column r 4); held = flag_in (column r 5) }
-
--- the same of its columns in their order, as a statement answers them
-abbrev pub has_lot : Row → Bool
-has_lot v = is_word is_gtin (column v 0) && (is_word is_lot_text (column v 1) && (is_signed is_expiry (column v 2) && (is_count ACTS_MAX (column v 3) && is_number 1 (column v 4))))
-
-abbrev pub lot_read : Row → LotRow
-lot_read v = record { lot = record { gtin = bytes (column v 0); lot = bytes (column v 1) }; expiry = signed_in (column v 2); came = number_in (column v 3); held = flag_in (column v 4) }
+abbrev pub lot_mapping : Mapping LotRow (List ℕ × (List ℕ × (ℤ × (ℕ × Bool))))
+lot_mapping = record {
+  columns = pair (text_stored is_gtin) (pair (text_stored is_lot_text) (pair (signed_stored is_expiry) (pair (count_stored ACTS_MAX) (one flag_stored))));
+  parts = λ s. (s.lot.gtin, (s.lot.lot, (s.expiry, (s.came, s.held))));
+  of = λ p. record { lot = record { gtin = p.0; lot = p.1.0 }; expiry = p.1.1.0; came = p.1.1.1.0; held = p.1.1.1.1 };
+}
 
 abbrev pub LotKey : Type 0
 LotKey = LotId
@@ -190,26 +136,10 @@ same_lot a b = same_lot_id a b
 abbrev pub lot_key : LotRow → LotKey
 lot_key s = s.lot
 
--- its values, in the order of the columns
-abbrev pub lot_cells : LotRow → Row
-lot_cells s = Text s.lot.gtin ∷ Text s.lot.lot ∷ Int s.expiry ∷ Int (pos s.came) ∷ Int (pos (flag_number s.held)) ∷ []
-
 -- ---- recalls
 
--- whether the row reads as a typed one
-abbrev pub is_recall : Row → Bool
-is_recall r = is_word is_gtin (column r 1) && (is_word is_lot_text (column r 2) && is_count ACTS_MAX (column r 3))
-
--- what it reads as
-abbrev pub recall_in : Row → RecallRow
-recall_in r = record { lot = record { gtin = bytes (column r 1); lot = bytes (column r 2) }; act = number_in (column r 3) }
-
--- the same of its columns in their order, as a statement answers them
-abbrev pub has_recall : Row → Bool
-has_recall v = is_word is_gtin (column v 0) && (is_word is_lot_text (column v 1) && is_count ACTS_MAX (column v 2))
-
-abbrev pub recall_read : Row → RecallRow
-recall_read v = record { lot = record { gtin = bytes (column v 0); lot = bytes (column v 1) }; act = number_in (column v 2) }
+abbrev pub recall_mapping : Mapping RecallRow (List ℕ × (List ℕ × ℕ))
+recall_mapping = record { columns = pair (text_stored is_gtin) (pair (text_stored is_lot_text) (one (count_stored ACTS_MAX))); parts = λ s. (s.lot.gtin, (s.lot.lot, s.act)); of = λ p. record { lot = record { gtin = p.0; lot = p.1.0 }; act = p.1.1 } }
 
 abbrev pub RecallKey : Type 0
 RecallKey = LotId
@@ -220,26 +150,10 @@ same_recall a b = same_lot_id a b
 abbrev pub recall_key : RecallRow → RecallKey
 recall_key s = s.lot
 
--- its values, in the order of the columns
-abbrev pub recall_cells : RecallRow → Row
-recall_cells s = Text s.lot.gtin ∷ Text s.lot.lot ∷ Int (pos s.act) ∷ []
-
 -- ---- stock
 
--- whether the row reads as a typed one
-abbrev pub is_stock : Row → Bool
-is_stock r = is_word is_gtin (column r 1) && (is_word is_lot_text (column r 2) && (is_word is_name (column r 3) && is_count UNITS_MAX (column r 4)))
-
--- what it reads as
-abbrev pub stock_in : Row → StockRow
-stock_in r = record { lot = record { gtin = bytes (column r 1); lot = bytes (column r 2) }; bin = bytes (column r 3); qty = number_in (column r 4) }
-
--- the same of its columns in their order, as a statement answers them
-abbrev pub has_stock : Row → Bool
-has_stock v = is_word is_gtin (column v 0) && (is_word is_lot_text (column v 1) && (is_word is_name (column v 2) && is_count UNITS_MAX (column v 3)))
-
-abbrev pub stock_read : Row → StockRow
-stock_read v = record { lot = record { gtin = bytes (column v 0); lot = bytes (column v 1) }; bin = bytes (column v 2); qty = number_in (column v 3) }
+abbrev pub stock_mapping : Mapping StockRow (List ℕ × (List ℕ × (List ℕ × ℕ)))
+stock_mapping = record { columns = pair (text_stored is_gtin) (pair (text_stored is_lot_text) (pair (text_stored is_name) (one (count_stored UNITS_MAX)))); parts = λ s. (s.lot.gtin, (s.lot.lot, (s.bin, s.qty))); of = λ p. record { lot = record { gtin = p.0; lot = p.1.0 }; bin = p.1.1.0; qty = p.1.1.1 } }
 
 abbrev pub StockKey : Type 0
 StockKey = LotId × List ℕ
@@ -250,26 +164,10 @@ same_stock a b = same_lot_id a.0 b.0 && bytes_eq a.1 b.1
 abbrev pub stock_key : StockRow → StockKey
 stock_key s = (s.lot, s.bin)
 
--- its values, in the order of the columns
-abbrev pub stock_cells : StockRow → Row
-stock_cells s = Text s.lot.gtin ∷ Text s.lot.lot ∷ Text s.bin ∷ Int (pos s.qty) ∷ []
-
 -- ---- orders
 
--- whether the row reads as a typed one
-abbrev pub is_order : Row → Bool
-is_order r = is_word is_name (column r 1) && (is_count ACTS_MAX (column r 2) && (is_word is_title (column r 3) && is_word is_order_state (column r 4)))
-
--- what it reads as
-abbrev pub order_in : Row → OrderRow
-order_in r = record { order = bytes (column r 1); act = number_in (column r 2); customer = bytes (column r 3); state = order_state_in (column r 4) }
-
--- the same of its columns in their order, as a statement answers them
-abbrev pub has_order : Row → Bool
-has_order v = is_word is_name (column v 0) && (is_count ACTS_MAX (column v 1) && (is_word is_title (column v 2) && is_word is_order_state (column v 3)))
-
-abbrev pub order_read : Row → OrderRow
-order_read v = record { order = bytes (column v 0); act = number_in (column v 1); customer = bytes (column v 2); state = order_state_in (column v 3) }
+abbrev pub order_mapping : Mapping OrderRow (List ℕ × (ℕ × (List ℕ × OrderState)))
+order_mapping = record { columns = pair (text_stored is_name) (pair (count_stored ACTS_MAX) (pair (text_stored is_title) (one order_state_stored))); parts = λ s. (s.order, (s.act, (s.customer, s.state))); of = λ p. record { order = p.0; act = p.1.0; customer = p.1.1.0; state = p.1.1.1 } }
 
 abbrev pub OrderKey : Type 0
 OrderKey = List ℕ
@@ -280,29 +178,13 @@ same_order a b = bytes_eq a b
 abbrev pub order_key : OrderRow → OrderKey
 order_key s = s.order
 
--- its values, in the order of the columns
-abbrev pub order_cells : OrderRow → Row
-order_cells s = Text s.order ∷ Int (pos s.act) ∷ Text s.customer ∷ Text (order_state_word s.state) ∷ []
-
 abbrev pub is_open_order : OrderRow → Bool
 is_open_order s = is_open_state s.state
 
 -- ---- urgents
 
--- whether the row reads as a typed one
-abbrev pub is_urgent : Row → Bool
-is_urgent r = is_word is_name (column r 1) && is_count ACTS_MAX (column r 2)
-
--- what it reads as
-abbrev pub urgent_in : Row → UrgentRow
-urgent_in r = record { order = bytes (column r 1); act = number_in (column r 2) }
-
--- the same of its columns in their order, as a statement answers them
-abbrev pub has_urgent : Row → Bool
-has_urgent v = is_word is_name (column v 0) && is_count ACTS_MAX (column v 1)
-
-abbrev pub urgent_read : Row → UrgentRow
-urgent_read v = record { order = bytes (column v 0); act = number_in (column v 1) }
+abbrev pub urgent_mapping : Mapping UrgentRow (List ℕ × ℕ)
+urgent_mapping = record { columns = pair (text_stored is_name) (one (count_stored ACTS_MAX)); parts = λ s. (s.order, s.act); of = λ p. record { order = p.0; act = p.1 } }
 
 abbrev pub UrgentKey : Type 0
 UrgentKey = List ℕ
@@ -313,26 +195,10 @@ same_urgent a b = bytes_eq a b
 abbrev pub urgent_key : UrgentRow → UrgentKey
 urgent_key s = s.order
 
--- its values, in the order of the columns
-abbrev pub urgent_cells : UrgentRow → Row
-urgent_cells s = Text s.order ∷ Int (pos s.act) ∷ []
-
 -- ---- lines
 
--- whether the row reads as a typed one
-abbrev pub is_line : Row → Bool
-is_line r = is_word is_name (column r 1) && (is_word is_gtin (column r 2) && (is_count QTY_MAX (column r 3) && is_number QTY_MAX (column r 4)))
-
--- what it reads as
-abbrev pub line_in : Row → LineRow
-line_in r = record { order = bytes (column r 1); gtin = bytes (column r 2); ordered = number_in (column r 3); shipped = number_in (column r 4) }
-
--- the same of its columns in their order, as a statement answers them
-abbrev pub has_line : Row → Bool
-has_line v = is_word is_name (column v 0) && (is_word is_gtin (column v 1) && (is_count QTY_MAX (column v 2) && is_number QTY_MAX (column v 3)))
-
-abbrev pub line_read : Row → LineRow
-line_read v = record { order = bytes (column v 0); gtin = bytes (column v 1); ordered = number_in (column v 2); shipped = number_in (column v 3) }
+abbrev pub line_mapping : Mapping LineRow (List ℕ × (List ℕ × (ℕ × ℕ)))
+line_mapping = record { columns = pair (text_stored is_name) (pair (text_stored is_gtin) (pair (count_stored QTY_MAX) (one (number_stored QTY_MAX)))); parts = λ s. (s.order, (s.gtin, (s.ordered, s.shipped))); of = λ p. record { order = p.0; gtin = p.1.0; ordered = p.1.1.0; shipped = p.1.1.1 } }
 
 abbrev pub LineKey : Type 0
 LineKey = List ℕ × List ℕ
@@ -343,26 +209,10 @@ same_line a b = bytes_eq a.0 b.0 && bytes_eq a.1 b.1
 abbrev pub line_key : LineRow → LineKey
 line_key s = (s.order, s.gtin)
 
--- its values, in the order of the columns
-abbrev pub line_cells : LineRow → Row
-line_cells s = Text s.order ∷ Text s.gtin ∷ Int (pos s.ordered) ∷ Int (pos s.shipped) ∷ []
-
 -- ---- staged
 
--- whether the row reads as a typed one
-abbrev pub is_staged : Row → Bool
-is_staged r = is_word is_name (column r 1) && (is_word is_gtin (column r 2) && (is_word is_lot_text (column r 3) && is_count QTY_MAX (column r 4)))
-
--- what it reads as
-abbrev pub staged_in : Row → StagedRow
-staged_in r = record { order = bytes (column r 1); lot = record { gtin = bytes (column r 2); lot = bytes (column r 3) }; qty = number_in (column r 4) }
-
--- the same of its columns in their order, as a statement answers them
-abbrev pub has_staged : Row → Bool
-has_staged v = is_word is_name (column v 0) && (is_word is_gtin (column v 1) && (is_word is_lot_text (column v 2) && is_count QTY_MAX (column v 3)))
-
-abbrev pub staged_read : Row → StagedRow
-staged_read v = record { order = bytes (column v 0); lot = record { gtin = bytes (column v 1); lot = bytes (column v 2) }; qty = number_in (column v 3) }
+abbrev pub staged_mapping : Mapping StagedRow (List ℕ × (List ℕ × (List ℕ × ℕ)))
+staged_mapping = record { columns = pair (text_stored is_name) (pair (text_stored is_gtin) (pair (text_stored is_lot_text) (one (count_stored QTY_MAX)))); parts = λ s. (s.order, (s.lot.gtin, (s.lot.lot, s.qty))); of = λ p. record { order = p.0; lot = record { gtin = p.1.0; lot = p.1.1.0 }; qty = p.1.1.1 } }
 
 abbrev pub StagedKey : Type 0
 StagedKey = List ℕ × LotId
@@ -373,26 +223,10 @@ same_staged a b = bytes_eq a.0 b.0 && same_lot_id a.1 b.1
 abbrev pub staged_key : StagedRow → StagedKey
 staged_key s = (s.order, s.lot)
 
--- its values, in the order of the columns
-abbrev pub staged_cells : StagedRow → Row
-staged_cells s = Text s.order ∷ Text s.lot.gtin ∷ Text s.lot.lot ∷ Int (pos s.qty) ∷ []
-
 -- ---- reserved
 
--- whether the row reads as a typed one
-abbrev pub is_reserved : Row → Bool
-is_reserved r = is_word is_name (column r 1) && (is_word is_gtin (column r 2) && (is_word is_lot_text (column r 3) && is_count QTY_MAX (column r 4)))
-
--- what it reads as
-abbrev pub reserved_in : Row → ReservedRow
-reserved_in r = record { order = bytes (column r 1); lot = record { gtin = bytes (column r 2); lot = bytes (column r 3) }; qty = number_in (column r 4) }
-
--- the same of its columns in their order, as a statement answers them
-abbrev pub has_reserved : Row → Bool
-has_reserved v = is_word is_name (column v 0) && (is_word is_gtin (column v 1) && (is_word is_lot_text (column v 2) && is_count QTY_MAX (column v 3)))
-
-abbrev pub reserved_read : Row → ReservedRow
-reserved_read v = record { order = bytes (column v 0); lot = record { gtin = bytes (column v 1); lot = bytes (column v 2) }; qty = number_in (column v 3) }
+abbrev pub reserved_mapping : Mapping ReservedRow (List ℕ × (List ℕ × (List ℕ × ℕ)))
+reserved_mapping = record { columns = pair (text_stored is_name) (pair (text_stored is_gtin) (pair (text_stored is_lot_text) (one (count_stored QTY_MAX)))); parts = λ s. (s.order, (s.lot.gtin, (s.lot.lot, s.qty))); of = λ p. record { order = p.0; lot = record { gtin = p.1.0; lot = p.1.1.0 }; qty = p.1.1.1 } }
 
 abbrev pub ReservedKey : Type 0
 ReservedKey = List ℕ × LotId
@@ -403,26 +237,21 @@ same_reserved a b = bytes_eq a.0 b.0 && same_lot_id a.1 b.1
 abbrev pub reserved_key : ReservedRow → ReservedKey
 reserved_key s = (s.order, s.lot)
 
--- its values, in the order of the columns
-abbrev pub reserved_cells : ReservedRow → Row
-reserved_cells s = Text s.order ∷ Text s.lot.gtin ∷ Text s.lot.lot ∷ Int (pos s.qty) ∷ []
-
 -- ---- shipments
 
--- whether the row reads as a typed one
-abbrev pub is_shipment : Row → Bool
-is_shipment r = is_count ACTS_MAX (column r 0) && (is_count ACTS_MAX (column r 2) && (is_signed is_business_day (column r 3) && is_word is_name (column r 4)))
+-- the columns after the number, which is the rowid
+abbrev pub shipment_rest : Columns (ℕ × (ℤ × List ℕ))
+shipment_rest = pair (count_stored ACTS_MAX) (pair day_stored (one (text_stored is_name)))
 
--- what it reads as
-abbrev pub shipment_in : Row → ShipmentRow
-shipment_in r = record { number = number_in (column r 0); act = number_in (column r 2); day = signed_in (column r 3); order = bytes (column r 4) }
+abbrev pub shipment_mapping : Mapping ShipmentRow (ℕ × (ℕ × (ℤ × List ℕ)))
+shipment_mapping = record { columns = pair (count_stored ACTS_MAX) shipment_rest; parts = λ s. (s.number, (s.act, (s.day, s.order))); of = λ p. record { number = p.0; act = p.1.0; day = p.1.1.0; order = p.1.1.1 } }
 
--- the same of its columns in their order, as a statement answers them
-abbrev pub has_shipment : Row → Bool
-has_shipment v = is_count ACTS_MAX (column v 0) && (is_count ACTS_MAX (column v 1) && (is_signed is_business_day (column v 2) && is_word is_name (column v 3)))
+-- whether a stored row reads as one, and as which
+abbrev pub is_stored_shipment : Row → Bool
+is_stored_shipment r = is_count ACTS_MAX (column r 0) && shipment_rest.has 2 r
 
-abbrev pub shipment_read : Row → ShipmentRow
-shipment_read v = record { number = number_in (column v 0); act = number_in (column v 1); day = signed_in (column v 2); order = bytes (column v 3) }
+abbrev pub stored_shipment : Row → ShipmentRow
+stored_shipment r = shipment_mapping.of (number_in (column r 0), shipment_rest.reads 2 r)
 
 abbrev pub ShipmentKey : Type 0
 ShipmentKey = ℕ
@@ -433,26 +262,10 @@ same_shipment a b = nat_eq a b
 abbrev pub shipment_key : ShipmentRow → ShipmentKey
 shipment_key s = s.number
 
--- its values, in the order of the columns
-abbrev pub shipment_cells : ShipmentRow → Row
-shipment_cells s = Int (pos s.number) ∷ Int (pos s.act) ∷ Int s.day ∷ Text s.order ∷ []
-
 -- ---- shiplines
 
--- whether the row reads as a typed one
-abbrev pub is_shipline : Row → Bool
-is_shipline r = is_count ACTS_MAX (column r 1) && (is_word is_gtin (column r 2) && (is_word is_lot_text (column r 3) && is_count QTY_MAX (column r 4)))
-
--- what it reads as
-abbrev pub shipline_in : Row → ShiplineRow
-shipline_in r = record { number = number_in (column r 1); lot = record { gtin = bytes (column r 2); lot = bytes (column r 3) }; qty = number_in (column r 4) }
-
--- the same of its columns in their order, as a statement answers them
-abbrev pub has_shipline : Row → Bool
-has_shipline v = is_count ACTS_MAX (column v 0) && (is_word is_gtin (column v 1) && (is_word is_lot_text (column v 2) && is_count QTY_MAX (column v 3)))
-
-abbrev pub shipline_read : Row → ShiplineRow
-shipline_read v = record { number = number_in (column v 0); lot = record { gtin = bytes (column v 1); lot = bytes (column v 2) }; qty = number_in (column v 3) }
+abbrev pub shipline_mapping : Mapping ShiplineRow (ℕ × (List ℕ × (List ℕ × ℕ)))
+shipline_mapping = record { columns = pair (count_stored ACTS_MAX) (pair (text_stored is_gtin) (pair (text_stored is_lot_text) (one (count_stored QTY_MAX)))); parts = λ s. (s.number, (s.lot.gtin, (s.lot.lot, s.qty))); of = λ p. record { number = p.0; lot = record { gtin = p.1.0; lot = p.1.1.0 }; qty = p.1.1.1 } }
 
 abbrev pub ShiplineKey : Type 0
 ShiplineKey = ℕ × LotId
@@ -463,26 +276,14 @@ same_shipline a b = nat_eq a.0 b.0 && same_lot_id a.1 b.1
 abbrev pub shipline_key : ShiplineRow → ShiplineKey
 shipline_key s = (s.number, s.lot)
 
--- its values, in the order of the columns
-abbrev pub shipline_cells : ShiplineRow → Row
-shipline_cells s = Int (pos s.number) ∷ Text s.lot.gtin ∷ Text s.lot.lot ∷ Int (pos s.qty) ∷ []
-
 -- ---- cards
 
--- whether the row reads as a typed one
-abbrev pub is_card : Row → Bool
-is_card r = is_word is_gtin (column r 1) && (is_word is_lot_text (column r 2) && (is_count ACTS_MAX (column r 3) && (is_signed is_business_day (column r 4) && (is_word is_card_kind (column r 5) && (is_word (fits_in CARD_NOTE_MAX) (column r 6) && (is_signed is_card_units (column r 7) && is_number UNITS_MAX (column r 8)))))))
-
--- what it reads as
-abbrev pub card_in : Row → CardRow
-card_in r = record { lot = record { gtin = bytes (column r 1); lot = bytes (column r 2) }; act = number_in (column r 3); day = signed_in (column r 4); kind = card_kind_in (column r 5); note = bytes (column r 6); qty = signed_in (column r 7); rest = number_in (column r 8) }
-
--- the same of its columns in their order, as a statement answers them
-abbrev pub has_card : Row → Bool
-has_card v = is_word is_gtin (column v 0) && (is_word is_lot_text (column v 1) && (is_count ACTS_MAX (column v 2) && (is_signed is_business_day (column v 3) && (is_word is_card_kind (column v 4) && (is_word (fits_in CARD_NOTE_MAX) (column v 5) && (is_signed is_card_units (column v 6) && is_number UNITS_MAX (column v 7)))))))
-
-abbrev pub card_read : Row → CardRow
-card_read v = record { lot = record { gtin = bytes (column v 0); lot = bytes (column v 1) }; act = number_in (column v 2); day = signed_in (column v 3); kind = card_kind_in (column v 4); note = bytes (column v 5); qty = signed_in (column v 6); rest = number_in (column v 7) }
+abbrev pub card_mapping : Mapping CardRow (List ℕ × (List ℕ × (ℕ × (ℤ × (CardKind × (List ℕ × (ℤ × ℕ)))))))
+card_mapping = record {
+  columns = pair (text_stored is_gtin) (pair (text_stored is_lot_text) (pair (count_stored ACTS_MAX) (pair day_stored (pair card_kind_stored (pair (text_stored (fits_in CARD_NOTE_MAX)) (pair (signed_stored is_card_units) (one (number_stored UNITS_MAX))))))));
+  parts = λ s. (s.lot.gtin, (s.lot.lot, (s.act, (s.day, (s.kind, (s.note, (s.qty, s.rest)))))));
+  of = λ p. record { lot = record { gtin = p.0; lot = p.1.0 }; act = p.1.1.0; day = p.1.1.1.0; kind = p.1.1.1.1.0; note = p.1.1.1.1.1.0; qty = p.1.1.1.1.1.1.0; rest = p.1.1.1.1.1.1.1 };
+}
 
 abbrev pub CardKey : Type 0
 CardKey = LotId × ℕ
@@ -493,26 +294,10 @@ same_card a b = same_lot_id a.0 b.0 && nat_eq a.1 b.1
 abbrev pub card_key : CardRow → CardKey
 card_key s = (s.lot, s.act)
 
--- its values, in the order of the columns
-abbrev pub card_cells : CardRow → Row
-card_cells s = Text s.lot.gtin ∷ Text s.lot.lot ∷ Int (pos s.act) ∷ Int s.day ∷ Text (card_kind_word s.kind) ∷ Text s.note ∷ Int s.qty ∷ Int (pos s.rest) ∷ []
-
 -- ---- repeats
 
--- whether the row reads as a typed one
-abbrev pub is_repeat : Row → Bool
-is_repeat r = is_word (fits_in KEY_TEXT_MAX) (column r 1) && (is_count ACTS_MAX (column r 2) && (is_word is_any (column r 3) && is_word (fits_in SHORT_MAX) (column r 4)))
-
--- what it reads as
-abbrev pub repeat_in : Row → RepeatRow
-repeat_in r = record { k = bytes (column r 1); act = number_in (column r 2); spell = bytes (column r 3); reply = bytes (column r 4) }
-
--- the same of its columns in their order, as a statement answers them
-abbrev pub has_repeat : Row → Bool
-has_repeat v = is_word (fits_in KEY_TEXT_MAX) (column v 0) && (is_count ACTS_MAX (column v 1) && (is_word is_any (column v 2) && is_word (fits_in SHORT_MAX) (column v 3)))
-
-abbrev pub repeat_read : Row → RepeatRow
-repeat_read v = record { k = bytes (column v 0); act = number_in (column v 1); spell = bytes (column v 2); reply = bytes (column v 3) }
+abbrev pub repeat_mapping : Mapping RepeatRow (List ℕ × (ℕ × (List ℕ × List ℕ)))
+repeat_mapping = record { columns = pair (text_stored (fits_in KEY_TEXT_MAX)) (pair (count_stored ACTS_MAX) (pair (text_stored is_any) (one (text_stored (fits_in SHORT_MAX))))); parts = λ s. (s.k, (s.act, (s.spell, s.reply))); of = λ p. record { k = p.0; act = p.1.0; spell = p.1.1.0; reply = p.1.1.1 } }
 
 abbrev pub RepeatKey : Type 0
 RepeatKey = List ℕ
@@ -523,10 +308,6 @@ same_repeat a b = bytes_eq a b
 abbrev pub repeat_key : RepeatRow → RepeatKey
 repeat_key s = s.k
 
--- its values, in the order of the columns
-abbrev pub repeat_cells : RepeatRow → Row
-repeat_cells s = Text s.k ∷ Int (pos s.act) ∷ Text s.spell ∷ Text s.reply ∷ []
-
 -- the stored rows of this k
 abbrev pub repeats_of_rows : List ℕ → Trees → List Row
 repeats_of_rows k trees = filter (λ r. is_the_text k (column r 1)) (trees repeats_tree)
@@ -536,21 +317,21 @@ repeats_of_rows k trees = filter (λ r. is_the_text k (column r 1)) (trees repea
 abbrev pub tables_in : Trees → Tables
 tables_in trees = record {
   meta = meta_at SCHEMA_VERSION trees;
-  item = λ gtin. find (λ s. same_item gtin (item_key s)) (typed is_item item_in (trees items_tree));
-  least = λ gtin. find (λ s. same_least gtin (least_key s)) (typed is_least least_in (trees least_tree));
-  bin = λ name. find (λ s. same_bin name (bin_key s)) (typed is_bin bin_in (trees bins_tree));
-  lot = λ lot. find (λ s. same_lot lot (lot_key s)) (typed is_lot lot_in (trees lots_tree));
-  recall = λ lot. find (λ s. same_recall lot (recall_key s)) (typed is_recall recall_in (trees recalls_tree));
-  stock = λ lot bin. find (λ s. same_stock (lot, bin) (stock_key s)) (typed is_stock stock_in (trees stock_tree));
-  order = λ order. find (λ s. same_order order (order_key s)) (typed is_order order_in (trees orders_tree));
-  urgent = λ order. find (λ s. same_urgent order (urgent_key s)) (typed is_urgent urgent_in (trees urgents_tree));
-  line = λ order gtin. find (λ s. same_line (order, gtin) (line_key s)) (typed is_line line_in (trees lines_tree));
-  staged = λ order lot. find (λ s. same_staged (order, lot) (staged_key s)) (typed is_staged staged_in (trees staged_tree));
-  reserved = λ order lot. find (λ s. same_reserved (order, lot) (reserved_key s)) (typed is_reserved reserved_in (trees reserved_tree));
-  shipment = λ number. find (λ s. same_shipment number (shipment_key s)) (typed is_shipment shipment_in (trees shipments_tree));
-  shipline = λ number lot. find (λ s. same_shipline (number, lot) (shipline_key s)) (typed is_shipline shipline_in (trees shiplines_tree));
-  card = λ lot act. find (λ s. same_card (lot, act) (card_key s)) (typed is_card card_in (trees cards_tree));
-  repeat = λ k. find (λ s. same_repeat k (repeat_key s)) (typed is_repeat repeat_in (trees repeats_tree));
+  item = λ gtin. find (λ s. same_item gtin (item_key s)) (stored_rows item_mapping (trees items_tree));
+  least = λ gtin. find (λ s. same_least gtin (least_key s)) (stored_rows least_mapping (trees least_tree));
+  bin = λ name. find (λ s. same_bin name (bin_key s)) (stored_rows bin_mapping (trees bins_tree));
+  lot = λ lot. find (λ s. same_lot lot (lot_key s)) (stored_rows lot_mapping (trees lots_tree));
+  recall = λ lot. find (λ s. same_recall lot (recall_key s)) (stored_rows recall_mapping (trees recalls_tree));
+  stock = λ lot bin. find (λ s. same_stock (lot, bin) (stock_key s)) (stored_rows stock_mapping (trees stock_tree));
+  order = λ order. find (λ s. same_order order (order_key s)) (stored_rows order_mapping (trees orders_tree));
+  urgent = λ order. find (λ s. same_urgent order (urgent_key s)) (stored_rows urgent_mapping (trees urgents_tree));
+  line = λ order gtin. find (λ s. same_line (order, gtin) (line_key s)) (stored_rows line_mapping (trees lines_tree));
+  staged = λ order lot. find (λ s. same_staged (order, lot) (staged_key s)) (stored_rows staged_mapping (trees staged_tree));
+  reserved = λ order lot. find (λ s. same_reserved (order, lot) (reserved_key s)) (stored_rows reserved_mapping (trees reserved_tree));
+  shipment = λ number. find (λ s. same_shipment number (shipment_key s)) (typed is_stored_shipment stored_shipment (trees shipments_tree));
+  shipline = λ number lot. find (λ s. same_shipline (number, lot) (shipline_key s)) (stored_rows shipline_mapping (trees shiplines_tree));
+  card = λ lot act. find (λ s. same_card (lot, act) (card_key s)) (stored_rows card_mapping (trees cards_tree));
+  repeat = λ k. find (λ s. same_repeat k (repeat_key s)) (stored_rows repeat_mapping (trees repeats_tree));
 }
 
 -- which of the rows that a tree stores read as typed ones
@@ -558,32 +339,36 @@ pub record Rule : Type 0 where
   pub tree : ℕ
   pub is : Row → Bool
 
+-- the rows of a tree that read so
+abbrev pub rule_for : {X P : Type 0} → ℕ → Mapping X P → Rule
+rule_for tree m = record { tree = tree; is = is_stored_row m }
+
 -- a rule for each table of schema 1, in their order, in books of this schema number
 abbrev pub first_rules : ℕ → List Rule
 first_rules version =
     record { tree = meta_tree; is = is_meta_at version }
-    ∷ record { tree = items_tree; is = is_item }
-    ∷ record { tree = bins_tree; is = is_bin }
-    ∷ record { tree = lots_tree; is = is_lot }
-    ∷ record { tree = recalls_tree; is = is_recall }
-    ∷ record { tree = stock_tree; is = is_stock }
-    ∷ record { tree = orders_tree; is = is_order }
-    ∷ record { tree = lines_tree; is = is_line }
-    ∷ record { tree = staged_tree; is = is_staged }
-    ∷ record { tree = reserved_tree; is = is_reserved }
-    ∷ record { tree = shipments_tree; is = is_shipment }
-    ∷ record { tree = shiplines_tree; is = is_shipline }
-    ∷ record { tree = cards_tree; is = is_card }
-    ∷ record { tree = repeats_tree; is = is_repeat }
+    ∷ rule_for items_tree item_mapping
+    ∷ rule_for bins_tree bin_mapping
+    ∷ rule_for lots_tree lot_mapping
+    ∷ rule_for recalls_tree recall_mapping
+    ∷ rule_for stock_tree stock_mapping
+    ∷ rule_for orders_tree order_mapping
+    ∷ rule_for lines_tree line_mapping
+    ∷ rule_for staged_tree staged_mapping
+    ∷ rule_for reserved_tree reserved_mapping
+    ∷ record { tree = shipments_tree; is = is_stored_shipment }
+    ∷ rule_for shiplines_tree shipline_mapping
+    ∷ rule_for cards_tree card_mapping
+    ∷ rule_for repeats_tree repeat_mapping
     ∷ []
 
 -- and for each table of schema 2
 abbrev pub second_rules : ℕ → List Rule
-second_rules version = first_rules version ++ record { tree = least_tree; is = is_least } ∷ []
+second_rules version = first_rules version ++ rule_for least_tree least_mapping ∷ []
 
 -- a rule for each table, in the order of the tables
 abbrev pub rules_at : ℕ → List Rule
-rules_at version = second_rules version ++ record { tree = urgents_tree; is = is_urgent } ∷ []
+rules_at version = second_rules version ++ rule_for urgents_tree urgent_mapping ∷ []
 
 abbrev pub the_rules : List Rule
 the_rules = rules_at SCHEMA_VERSION
@@ -610,68 +395,54 @@ with_meta s t = record t { meta = Some s }
 abbrev pub with_item : ItemRow → Tables → Tables
 with_item s t = record t { item = λ at_gtin. if same_item at_gtin (item_key s) then Some s else t.item at_gtin }
 
--- the row takes the place of one with its key
 abbrev pub with_least : LeastRow → Tables → Tables
 with_least s t = record t { least = λ at_gtin. if same_least at_gtin (least_key s) then Some s else t.least at_gtin }
 
--- the row takes the place of one with its key
 abbrev pub with_bin : BinRow → Tables → Tables
 with_bin s t = record t { bin = λ at_name. if same_bin at_name (bin_key s) then Some s else t.bin at_name }
 
--- the row takes the place of one with its key
 abbrev pub with_lot : LotRow → Tables → Tables
 with_lot s t = record t { lot = λ at_lot. if same_lot at_lot (lot_key s) then Some s else t.lot at_lot }
 
--- the row takes the place of one with its key
 abbrev pub with_recall : RecallRow → Tables → Tables
 with_recall s t = record t { recall = λ at_lot. if same_recall at_lot (recall_key s) then Some s else t.recall at_lot }
 
--- the row takes the place of one with its key
 abbrev pub with_stock : StockRow → Tables → Tables
 with_stock s t = record t { stock = λ at_lot at_bin. if same_stock (at_lot, at_bin) (stock_key s) then Some s else t.stock at_lot at_bin }
 
 abbrev pub without_stock : LotId → List ℕ → Tables → Tables
 without_stock lot bin t = record t { stock = λ at_lot at_bin. if same_stock (at_lot, at_bin) (lot, bin) then None else t.stock at_lot at_bin }
 
--- the row takes the place of one with its key
 abbrev pub with_order : OrderRow → Tables → Tables
 with_order s t = record t { order = λ at_order. if same_order at_order (order_key s) then Some s else t.order at_order }
 
--- the row takes the place of one with its key
 abbrev pub with_urgent : UrgentRow → Tables → Tables
 with_urgent s t = record t { urgent = λ at_order. if same_urgent at_order (urgent_key s) then Some s else t.urgent at_order }
 
--- the row takes the place of one with its key
 abbrev pub with_line : LineRow → Tables → Tables
 with_line s t = record t { line = λ at_order at_gtin. if same_line (at_order, at_gtin) (line_key s) then Some s else t.line at_order at_gtin }
 
--- the row takes the place of one with its key
 abbrev pub with_staged : StagedRow → Tables → Tables
 with_staged s t = record t { staged = λ at_order at_lot. if same_staged (at_order, at_lot) (staged_key s) then Some s else t.staged at_order at_lot }
 
 abbrev pub without_staged : List ℕ → LotId → Tables → Tables
 without_staged order lot t = record t { staged = λ at_order at_lot. if same_staged (at_order, at_lot) (order, lot) then None else t.staged at_order at_lot }
 
--- the row takes the place of one with its key
 abbrev pub with_reserved : ReservedRow → Tables → Tables
 with_reserved s t = record t { reserved = λ at_order at_lot. if same_reserved (at_order, at_lot) (reserved_key s) then Some s else t.reserved at_order at_lot }
 
 abbrev pub without_reserved : List ℕ → LotId → Tables → Tables
 without_reserved order lot t = record t { reserved = λ at_order at_lot. if same_reserved (at_order, at_lot) (order, lot) then None else t.reserved at_order at_lot }
 
--- the row takes the place of one with its key
 abbrev pub with_shipment : ShipmentRow → Tables → Tables
 with_shipment s t = record t { shipment = λ at_number. if same_shipment at_number (shipment_key s) then Some s else t.shipment at_number }
 
--- the row takes the place of one with its key
 abbrev pub with_shipline : ShiplineRow → Tables → Tables
 with_shipline s t = record t { shipline = λ at_number at_lot. if same_shipline (at_number, at_lot) (shipline_key s) then Some s else t.shipline at_number at_lot }
 
--- the row takes the place of one with its key
 abbrev pub with_card : CardRow → Tables → Tables
 with_card s t = record t { card = λ at_lot at_act. if same_card (at_lot, at_act) (card_key s) then Some s else t.card at_lot at_act }
 
--- the row takes the place of one with its key
 abbrev pub with_repeat : RepeatRow → Tables → Tables
 with_repeat s t = record t { repeat = λ at_k. if same_repeat at_k (repeat_key s) then Some s else t.repeat at_k }
 

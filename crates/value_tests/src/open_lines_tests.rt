@@ -1,5 +1,5 @@
 use commands::{LineRow, OrderRow, OrderState};
-use open_lines::OpenLines;
+use open_orders::OpenLines;
 use std::process::Abort;
 use values::{Gtin, Name, Title};
 

@@ -4,14 +4,15 @@ use crate::text_samples::{
     card_row, day, gtin, in_a_01, item, lot, name, oats, shipped_units, short_line, title,
 };
 use commands::{
-    CardKind, CardRow, LeastDays, LineView, Listed, OrderClass, OrderState, OrderView, ReservedLot,
-    ShortLine, ShortView, StagedLot, feed,
+    CardKind, CardRow, LineView, Listed, OrderClass, OrderState, OrderView, ReservedLot, ShortLine,
+    ShortView, StagedLot, feed,
 };
 use std::alloc::{AllocError, Global};
 use std::io::Write;
 use std::process::Abort;
 use std::test::Fail;
 use texts::{CardLines, CardText, NoticeLines, NoticeText, TextFault, pick_list, shortages};
+use values::LeastDays;
 
 const CARD: &[u8] = b"STOCK CARD 09506000134352 Oat drink
 LOT L2 EXPIRY 2026-05-31

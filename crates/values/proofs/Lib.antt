@@ -1,2 +1,3 @@
 pub mod Padding
 pub mod DigitTexts
+pub mod Turned

@@ -24,6 +24,9 @@ QTY_MAX = 1_000_000
 abbrev pub LINE_MAX : ℕ
 LINE_MAX = 9_999
 
+abbrev pub LEAST_DAYS_MAX : ℕ
+LEAST_DAYS_MAX = 3_650
+
 abbrev pub LOT_MAX : ℕ
 LOT_MAX = 20
 
@@ -90,3 +93,7 @@ is_delta n = is_between 1 QTY_MAX (unsigned_abs n)
 
 abbrev pub is_line_no : ℕ → Bool
 is_line_no n = is_between 1 LINE_MAX n
+
+-- the least remaining days of an item are 0 to 3,650
+abbrev pub is_least_days : ℕ → Bool
+is_least_days n = is_between 0 LEAST_DAYS_MAX n

@@ -1,5 +1,5 @@
 ghost use Rattle.std.specs.Prelude.{◌≡◌, ◌≤◌, IsTrue};
-ghost use Rattle.values.specs.Values.{checked, is_qty, is_counted, is_delta, is_line_no};
+ghost use Rattle.values.specs.Values.{checked, is_between, is_delta};
 
 use std::marker::Model;
 
@@ -7,90 +7,96 @@ use std::marker::Model;
 pub const QTY_MAX: u32 = 1_000_000;
 
 /// The highest number of a line of a delivery.
-pub const LINE_MAX: u16 = 9_999;
+pub const LINE_MAX: u32 = 9_999;
 
-/// How many units a command books: 1 to 1,000,000.
+/// The least remaining days that an item asks for, at most.
+pub const LEAST_DAYS_MAX: u32 = 3_650;
+
+/// A number from `LOW` to `HIGH`.
 #[derive(Clone, Copy, PartialEq, Eq, Debug)]
-pub struct Qty {
-    units: u32,
+pub struct Bounded<const LOW: u32, const HIGH: u32> {
+    number: u32,
 }
 
-impl Model for Qty {
+impl<const LOW: u32, const HIGH: u32> Model for Bounded<LOW, HIGH> {
     ghost use Rattle.std.specs.Prelude.{ℕ, IsTrue};
-    ghost use Rattle.values.specs.Values.{is_qty};
+    ghost use Rattle.values.specs.Values.{is_between};
 
     ghost Value = { ℕ };
 
-    ghost view = { λ v. v.units };
+    ghost view = { λ v. v.number };
 
-    ghost invariant = { λ v. IsTrue (is_qty v.units) };
+    ghost invariant = { λ v. IsTrue (is_between LOW HIGH v.number) };
 
-    ghost inverse = { λ n. record { units = n } };
+    ghost inverse = { λ n. record { number = n } };
 }
 
-impl Qty {
-    /// The quantity of that many units, or `None` outside 1 to 1,000,000.
-    pub fn new(units: u64) -> Option<Qty>
-        ensures { result ≡ checked is_qty units }
+impl<const LOW: u32, const HIGH: u32> Bounded<LOW, HIGH> {
+    /// That number, or `None` outside the bounds.
+    pub fn new(number: u64) -> Option<Self>
+        ensures { result ≡ checked (is_between LOW HIGH) number }
     {
-        if 1 <= units && units <= QTY_MAX as u64 {
-            Some(Qty {
-                units: units as u32,
+        if LOW as u64 <= number && number <= HIGH as u64 {
+            Some(Bounded {
+                number: number as u32,
             })
         } else {
             None
         }
     }
+}
 
+/// How many units a command books: 1 to 1,000,000.
+pub type Qty = Bounded<1, QTY_MAX>;
+
+impl Qty {
     /// The number of units.
     pub fn units(self) -> u32
         ensures value { result ≡ self }
         ensures some { 1 ≤ result }
         ensures limit { result ≤ QTY_MAX }
     {
-        self.units
+        self.number
     }
 }
 
 /// How many units of a lot were found in a bin: 0 to 1,000,000.
-#[derive(Clone, Copy, PartialEq, Eq, Debug)]
-pub struct Counted {
-    found: u32,
-}
-
-impl Model for Counted {
-    ghost use Rattle.std.specs.Prelude.{ℕ, IsTrue};
-    ghost use Rattle.values.specs.Values.{is_counted};
-
-    ghost Value = { ℕ };
-
-    ghost view = { λ v. v.found };
-
-    ghost invariant = { λ v. IsTrue (is_counted v.found) };
-
-    ghost inverse = { λ n. record { found = n } };
-}
+pub type Counted = Bounded<0, QTY_MAX>;
 
 impl Counted {
-    /// The counted quantity of that many units, or `None` above 1,000,000.
-    pub fn new(units: u64) -> Option<Counted>
-        ensures { result ≡ checked is_counted units }
-    {
-        if units <= QTY_MAX as u64 {
-            Some(Counted {
-                found: units as u32,
-            })
-        } else {
-            None
-        }
-    }
-
     /// The number of units.
     pub fn units(self) -> u32
         ensures value { result ≡ self }
         ensures limit { result ≤ QTY_MAX }
     {
-        self.found
+        self.number
+    }
+}
+
+/// The number of a line of a delivery: 1 to 9,999.
+pub type LineNo = Bounded<1, LINE_MAX>;
+
+impl LineNo {
+    /// The number.
+    pub fn number(self) -> u16
+        ensures value { result ≡ self }
+        ensures some { 1 ≤ result }
+        ensures limit { result ≤ LINE_MAX }
+    {
+        self.number as u16
+    }
+}
+
+/// How many days an item's lots must have left to be shipped: 0 to 3,650.
+pub type LeastDays = Bounded<0, LEAST_DAYS_MAX>;
+
+impl LeastDays {
+    /// The number of days.
+    pub fn days(self) -> u16
+        ensures value { result ≡ self }
+        ensures limit { result ≤ LEAST_DAYS_MAX }
+    {
+        self.number as u16
     }
 }
 
@@ -134,48 +140,5 @@ impl Delta {
         ensures rule { IsTrue (is_delta result) }
     {
         self.change
-    }
-}
-
-/// The number of a line of a delivery: 1 to 9,999.
-#[derive(Clone, Copy, PartialEq, Eq, Debug)]
-pub struct LineNo {
-    number: u16,
-}
-
-impl Model for LineNo {
-    ghost use Rattle.std.specs.Prelude.{ℕ, IsTrue};
-    ghost use Rattle.values.specs.Values.{is_line_no};
-
-    ghost Value = { ℕ };
-
-    ghost view = { λ v. v.number };
-
-    ghost invariant = { λ v. IsTrue (is_line_no v.number) };
-
-    ghost inverse = { λ n. record { number = n } };
-}
-
-impl LineNo {
-    /// The line of that number, or `None` outside 1 to 9,999.
-    pub fn new(number: u64) -> Option<LineNo>
-        ensures { result ≡ checked is_line_no number }
-    {
-        if 1 <= number && number <= LINE_MAX as u64 {
-            Some(LineNo {
-                number: number as u16,
-            })
-        } else {
-            None
-        }
-    }
-
-    /// The number.
-    pub fn number(self) -> u16
-        ensures value { result ≡ self }
-        ensures some { 1 ≤ result }
-        ensures limit { result ≤ LINE_MAX }
-    {
-        self.number
     }
 }

@@ -3,17 +3,16 @@
 
 mod bins;
 mod found_rows;
+mod item_shorts;
 mod least;
+mod line_short;
 mod lines;
-mod looking;
-mod lot_units;
 mod lots;
 mod order;
 mod order_shorts;
-mod short;
-mod shorts;
 mod stock;
+mod text_order;
 
+pub use item_shorts::short_view;
 pub use order::order_view;
-pub use shorts::short_view;
 pub use stock::stock_view;

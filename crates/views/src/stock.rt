@@ -6,21 +6,23 @@ ghost use Rattle.machine.specs.Once.{IsHistory};
 ghost use Rattle.machine.specs.Standing.{today};
 ghost use Rattle.machine.specs.Tables.{tables_of};
 ghost use Rattle.machine.specs.Views.{stock_view as stock_view_lem};
-ghost use Rattle.row_rules.specs.LookUps.{rows_given};
 ghost use Rattle.views.specs.SeenStock.{stock_seen, lot_seen};
 ghost use Rattle.views.specs.ShownStock.{AreStocked};
-ghost use Rattle.views.specs.GivenStock.{lot_told, lot_given};
+ghost use Rattle.views.specs.GivenStock.{lot_found, AreOfLots};
 
 use crate::bins::bins_of_lot;
 use crate::least::least_of;
-use crate::lot_units::{LotUnits, reserved_lots, staged_lots, sum_of_lot};
 use crate::lots::lots_of_item;
-use commands::{ItemRow, LeastDays, Listed, LotRow, LotView, RecallRow, StockRow, StockView};
+use commands::{
+    ItemRow, Listed, LotRow, LotView, RecallRow, ReservedRow, StagedRow, StockRow, StockView,
+};
 use label::BusinessDay;
-use row_rules::look_ups::{RowsByText, by_text};
+use row_rules::row_index::{RowsByText, by_text};
+use row_rules::row_search::units_with;
 use row_rules::status::lot_status;
 use rules::Rows;
 use std::alloc::{AllocError, Global};
+use values::{LeastDays, Lot};
 
 /// What is shown on a business day of the stock of an item whose row this is. The rows are that of
 /// the days it asks for, and those of its lots, of their recalls and stock, and of what is staged
@@ -52,60 +54,47 @@ fn lot_views(
 ) -> Result<Vec<LotView>, AllocError>
     ensures { IfOk result (λ v. v.items ≡ map (lot_seen day least rows.now) lots.now) }
 {
-    let reserved = reserved_lots(alloc, rows.reserved.as_slice())?;
-    let staged = staged_lots(alloc, rows.staged.as_slice())?;
-    views_of(
-        alloc,
-        day,
-        least,
-        rows.stock.as_slice(),
-        rows.recalls.as_slice(),
-        reserved.as_slice(),
-        staged.as_slice(),
-        lots,
-    )
+    let shown = lots_shown(alloc, rows, lots.len())?;
+    views_found(alloc, day, least, &shown, lots)
 }
 
-fn views_of(
-    alloc: Global,
-    day: BusinessDay,
-    least: LeastDays,
-    stock: &[StockRow],
-    recalls: &[RecallRow],
-    reserved: &[LotUnits],
-    staged: &[LotUnits],
-    lots: &[LotRow],
-) -> Result<Vec<LotView>, AllocError>
-    ensures { IfOk result (λ v. v.items ≡ map (lot_told day least stock.now recalls.now reserved.now staged.now) lots.now) }
+/// The rows by which lots are shown, found by their lots.
+#[derive(Drop)]
+pub struct LotsShown<'a> {
+    pub in_bins: RowsByText<'a, StockRow>,
+    pub recalls: RowsByText<'a, RecallRow>,
+    pub reserved: RowsByText<'a, ReservedRow>,
+    pub staged: RowsByText<'a, StagedRow>,
+}
+
+// The rows, to be found for so many lots.
+fn lots_shown<'a>(alloc: Global, rows: &'a Rows, lots: usize) -> Result<LotsShown<'a>, AllocError>
+    ensures { IfOk result (λ m. AreOfLots m rows.now) }
 {
-    let in_bins = by_text(alloc, stock, lots.len())?;
-    let recalled = by_text(alloc, recalls, lots.len())?;
-    let taken = by_text(alloc, reserved, lots.len())?;
-    let on_stages = by_text(alloc, staged, lots.len())?;
-    views_given(
-        alloc, day, least, &in_bins, &recalled, &taken, &on_stages, lots,
-    )
+    let in_bins = by_text::<Lot, StockRow>(alloc, rows.stock.as_slice(), lots)?;
+    let recalls = by_text::<Lot, RecallRow>(alloc, rows.recalls.as_slice(), lots)?;
+    let reserved = by_text::<Lot, ReservedRow>(alloc, rows.reserved.as_slice(), lots)?;
+    let staged = by_text::<Lot, StagedRow>(alloc, rows.staged.as_slice(), lots)?;
+    Ok(LotsShown {
+        in_bins,
+        recalls,
+        reserved,
+        staged,
+    })
 }
 
-fn views_given(
+fn views_found(
     alloc: Global,
     day: BusinessDay,
     least: LeastDays,
-    stock: &RowsByText<'_, StockRow>,
-    recalls: &RowsByText<'_, RecallRow>,
-    reserved: &RowsByText<'_, LotUnits>,
-    staged: &RowsByText<'_, LotUnits>,
+    shown: &LotsShown<'_>,
     lots: &[LotRow],
 ) -> Result<Vec<LotView>, AllocError>
-    ensures { IfOk result (λ v. v.items ≡ map (lot_given day least (rows_given stock.now) (rows_given recalls.now) (rows_given reserved.now) (rows_given staged.now)) lots.now) }
+    ensures { IfOk result (λ v. v.items ≡ map (lot_found day least shown.now) lots.now) }
 {
     let mut views = Vec::new(alloc);
     for lot in lots {
-        let in_bins = stock.rows_of_lot(&lot.lot.lot);
-        let recalled = recalls.rows_of_lot(&lot.lot.lot);
-        let taken = reserved.rows_of_lot(&lot.lot.lot);
-        let on_stages = staged.rows_of_lot(&lot.lot.lot);
-        let view = lot_view(alloc, day, least, in_bins, recalled, taken, on_stages, lot)?;
+        let view = lot_view(alloc, day, least, shown, lot)?;
         views.push(view)?;
     }
     Ok(views)
@@ -115,21 +104,20 @@ fn lot_view(
     alloc: Global,
     day: BusinessDay,
     least: LeastDays,
-    stock: &[StockRow],
-    recalls: &[RecallRow],
-    reserved: &[LotUnits],
-    staged: &[LotUnits],
-    lot: &LotRow,
+    shown: &LotsShown<'_>,
+    row: &LotRow,
 ) -> Result<LotView, AllocError>
-    ensures { IfOk result (λ view. view ≡ lot_told day least stock.now recalls.now reserved.now staged.now lot.now) }
+    ensures { IfOk result (λ view. view ≡ lot_found day least shown.now row.now) }
 {
-    let bins = bins_of_lot(alloc, stock, &lot.lot)?;
+    let lot = &row.lot;
+    let recalls = shown.recalls.candidates(&lot.lot);
+    let bins = bins_of_lot(alloc, shown.in_bins.candidates(&lot.lot), lot)?;
     Ok(LotView {
         bins: Listed::from_vec(bins),
-        expiry: lot.expiry,
-        lot: lot.lot.lot,
-        reserved: sum_of_lot(reserved, &lot.lot),
-        staged: sum_of_lot(staged, &lot.lot),
-        status: lot_status(day, least.days(), recalls, lot),
+        expiry: row.expiry,
+        lot: lot.lot,
+        reserved: units_with(shown.reserved.candidates(&lot.lot), lot),
+        staged: units_with(shown.staged.candidates(&lot.lot), lot),
+        status: lot_status(day, least.days(), recalls, row),
     })
 }

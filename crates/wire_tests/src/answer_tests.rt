@@ -1,7 +1,7 @@
 use crate::tests::read;
 use commands::{
-    BinUnits, ItemRow, LeastDays, LineView, Listed, LotStatus, LotView, OrderClass, OrderState,
-    OrderView, Refusal, ReservedLot, Short, StockView,
+    BinUnits, ItemRow, LineView, Listed, LotStatus, LotView, OrderClass, OrderState, OrderView,
+    Refusal, ReservedLot, Short, StockView,
 };
 use http::StatusCode;
 use label::Day;
@@ -10,7 +10,7 @@ use requests::{Read, WireFault};
 use std::alloc::{AllocError, Global};
 use std::process::Abort;
 use std::test::Fail;
-use values::{Gtin, LabelFault, Lot, Name, Title};
+use values::{Gtin, LabelFault, LeastDays, Lot, Name, Title};
 use wire::laws::command_answers_are_json;
 use wire::short::{
     cause_row_text, cause_text, code_text, fault_text, label_fault_text, refusal_row_text,

@@ -2,12 +2,12 @@
 
 use crate::seen_rows::Rows;
 use book_trials::{Exchange, Receiver, Sender, first_day};
+use books_schema::ready_connection::{Leftover, Orderly};
 use house::{House, ServeFault};
 use sqlite::{Alter, Connection};
 use std::alloc::Global;
 use std::process::Abort;
 use store::{Books, Fault, OpenFault};
-use tables::opening::{Leftover, Orderly};
 
 /// What is tried over one connection.
 #[derive(Clone, Copy)]

@@ -4,12 +4,12 @@ use crate::memory::rows::has_rows_after;
 use crate::memory::steps::{ALL, DayStep, MADE, NO_MEMORY, SET_UP, step_at};
 use crate::opening::{books_of, new_books};
 use book_trials::{text_asked, text_told};
+use books_schema::ready_connection::Orderly;
 use house::House;
+use refused_calls::{Told, is_refused};
 use sqlite::{Alter, Connection};
 use std::alloc::Global;
 use std::process::Abort;
-use tables::opening::Orderly;
-use trials::{Told, is_refused};
 
 /// A request and what may answer it, byte for byte.
 #[derive(Drop)]

@@ -5,12 +5,12 @@ use crate::memory::rows::has_rows_after;
 use crate::memory::steps::{BOOKED, SET_UP, step_at};
 use crate::opening::books_of;
 use crate::seen_rows::Rows;
+use books_schema::ready_connection::Orderly;
 use house::{Answered, House};
+use refused_calls::{Call, Told, is_refused};
 use sqlite::{Alter, Connection};
 use std::alloc::{AllocError, Global};
 use std::process::Abort;
-use tables::opening::Orderly;
-use trials::{Call, Told, is_refused};
 
 fn all_answers(rt: &impl Abort, alloc: Global) -> Vec<Answers> {
     let mut all = Vec::new(alloc);

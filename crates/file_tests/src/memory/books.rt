@@ -6,13 +6,13 @@ use crate::memory::steps::{BOOKED, MADE};
 use crate::opening::closed;
 use crate::rows::gives;
 use book_trials::first_day;
+use books_schema::ready_connection::{Leftover, Orderly};
+use refused_calls::{Call, Told, is_refused};
 use sqlite::{Alter, Connection, MemStore};
 use sqlite_trees::store::Store;
 use std::alloc::Global;
 use std::process::Abort;
 use store::{Books, Fault, OpenFault};
-use tables::opening::{Leftover, Orderly};
-use trials::{Call, Told, is_refused};
 
 /// What a call that makes or opens books left.
 enum Left<S: Alter> {

@@ -1,8 +1,8 @@
 //! A day's work, for each request of which there may be no memory: requests, their answers, and the rows of the tables after
 //! each.
 
+use refused_calls::Call;
 use std::process::Abort;
-use trials::Call;
 
 /// A request, its answer, and the rows after it.
 pub(crate) struct DayStep {

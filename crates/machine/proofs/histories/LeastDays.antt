@@ -1,8 +1,7 @@
 -- The days that items ask for: none before the item is known, none without a Least, and never too many.
 use Rattle.std.proofs.Common.{◌≡◌, ℕ, Bool, true, false, List, [], ◌∷◌, refl, ap, sym, ◌∙◌}
 use Rattle.std.specs.Prelude.{find, if◌then◌else◌, Some, is_some, ℤ}
-use Rattle.values.specs.Values.{same_text, is_gtin}
-use Rattle.commands.specs.Limits.{is_least_days}
+use Rattle.values.specs.Values.{same_text, is_gtin, is_least_days}
 use Rattle.commands.specs.Sound.{is_sound}
 use Rattle.commands.specs.declared.key.Key.{Key}
 use Rattle.commands.specs.declared.command.NewItem.{NewItem}

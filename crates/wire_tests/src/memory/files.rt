@@ -6,9 +6,9 @@ ghost use Rattle.label.specs.Days.{is_business_day};
 use commands::{Command, Key, spell};
 use goodsin::{FileFault, read_file};
 use label::Day;
+use refused_calls::{Call, Told, is_refused};
 use std::alloc::Global;
 use std::process::Abort;
-use trials::{Call, Told, is_refused};
 
 const FILE: &[u8] =
     b"delivery,line,gtin,lot,expiry,bin,qty\nD-9,1,09506000134352,M1,261130,A-01,5\nD-9,2,09506000134352,M2,261231,A-02,7\nD-9,3,04012345000016,N1,261200,A-02,4\nD-9,4,04012345000016,N1,261200,A-01,4\nD-10,1,\"09506000134352\",\"M,3\",261231,A-02,1000000\n";

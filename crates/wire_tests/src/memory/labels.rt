@@ -1,8 +1,8 @@
 //! The text of a label.
 
 use label::{Day, Label, write};
+use refused_calls::{Call, Told, is_refused};
 use std::process::Abort;
-use trials::{Call, Told, is_refused};
 use values::{Gtin, LabelFault, Lot};
 
 const TEXT: &[u8] = b"01095060001343521726093010AB12";

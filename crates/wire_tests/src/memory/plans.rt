@@ -4,8 +4,8 @@ ghost use Rattle.std.specs.Prelude.{◌≡◌, ◌∷◌, [], ◌++◌};
 ghost use Rattle.plan.specs.Limits.{AreSmall};
 
 use plan::{Demand, Plan, Row, Supply, whole};
+use refused_calls::{Call, Told, is_refused};
 use std::alloc::AllocError;
-use trials::{Call, Told, is_refused};
 
 const fn demand(booking: u64, need: u64) -> Demand
     ensures { result.need ≡ need }

@@ -2,10 +2,10 @@
 
 use commands::{Command, Receipt, spell};
 use label::Day;
+use refused_calls::{Call, Told, is_refused};
 use requests::{Ask, Read, RouteTable, read_request};
 use std::alloc::Global;
 use std::process::Abort;
-use trials::{Call, Told, is_refused};
 use values::{Gtin, Lot, LotId, Name, Qty};
 
 /// A request, and how its command is spelled.

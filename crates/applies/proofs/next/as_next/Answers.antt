@@ -3,8 +3,8 @@ use Rattle.machine.specs.Once.{is_key_of}
 use Rattle.applies.proofs.NextLine.{none_kind, none_line, is_next, placed_at}
 use Rattle.applies.proofs.next.as_next.Goals as goal
 
-pub returns-then-not-is_key_of : goal.returns-then-not-is_key_of
-returns-then-not-is_key_of c =
+pub returns-then-not-is_of : goal.returns-then-not-is_of
+returns-then-not-is_of c =
     let low : c.args.number < 2 ^ 64 = search rules in
     let other : is_key_of c.args.key c.args.command ≡ false = search rules in
     inr (placed_at c.args.at.now c.args.line.now c.args.number c.args.place _ c.requires.number c.requires.place c.misplaced.ensures, none_kind c.args.at.now c.args.line.now c.args.number c.args.place c.args.key c.args.command c.requires.number low c.requires.reads other)

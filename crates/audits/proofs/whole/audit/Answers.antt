@@ -4,8 +4,8 @@ use Rattle.sqlite.specs.Held.{state}
 use Rattle.sqlite.specs.State.{HasCleanDisk}
 use Rattle.sqlite.specs.Tree.{Trees}
 use Rattle.table_words.proofs.CallLemmas.{if_err}
-use Rattle.tables.specs.Opening.{IsOfNone}
-use Rattle.tables.specs.declared.opening.Found.{Found}
+use Rattle.books_schema.specs.Opening.{IsOfNone}
+use Rattle.books_schema.specs.declared.ready_connection.Found.{Found}
 use Rattle.store.specs.Opening.{AreRowsAt}
 use Rattle.store.specs.declared.fault.Fault.TheVariants.{Foreign}
 use Rattle.store.proofs.OpenedBooks.{one_found, foreign_if, store_else, either_told}

@@ -1,6 +1,6 @@
 use Rattle.std.proofs.Common.{inl, inr, refl, ap, Err}
 use Rattle.sqlite.specs.Files.{over_files}
-use Rattle.tables.specs.declared.opening.Leftover.TheVariants.{Connection}
+use Rattle.books_schema.specs.declared.ready_connection.Leftover.TheVariants.{Connection}
 use Rattle.line_work.proofs.NotBegun.{clean_before}
 use Rattle.books_file.proofs.line.work_over.Goals as goal
 

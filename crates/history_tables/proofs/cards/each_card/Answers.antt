@@ -11,7 +11,7 @@ pub returns-clause-handed : goal.returns-clause-handed
 returns-clause-handed g c clean ready typed =
     let plain = subst (λ s. IsPlain (understood s cards_by_act_text)) (sym ready.has.is) (cards_by_act_plain ready.has.rest) in
     cards_over c.args.lot.now g.K.Sink.takes g.K.Sink.stops (state g.S.Store c.args.conn.now) (state g.S.Store c.each.new.conn) c.args.sink.now c.each.new.sink c.each.result ready typed
-    (rw (c.of_gtin.ensures.value, c.of_lot.ensures.value) at (c.each.ensures.handed clean plain))
+    (rw (c.value.ensures.value, c.value-2.ensures.value) at (c.each.ensures.handed clean plain))
 
 pub returns-clause-left : goal.returns-clause-left
 returns-clause-left g c clean ready = c.each.ensures.left clean (subst (λ s. IsPlain (understood s cards_by_act_text)) (sym ready.has.is) (cards_by_act_plain ready.has.rest))

@@ -12,14 +12,14 @@ returns-clause-found g c clean ready are rows listed =
     let plain = subst (λ s. IsPlain (understood s after_text)) (sym ready.has.is) (after_plain ready.has.rest) in
     rw c.first_of.ensures
     (found_of c.args.lot.now c.args.act (state g.S.Store c.args.conn.now) (state g.S.Store c.each-handed.new.conn) _ c.each-handed.new.sink refl ready are c.each-handed.result
-    (rw (c.of_gtin.ensures.value, c.of_lot.ensures.value, c.of_number.ensures.value) at (c.each-handed.ensures.handed clean plain)) rows listed)
+    (rw (c.value.ensures.value, c.value-2.ensures.value, c.value-3.ensures.value) at (c.each-handed.ensures.handed clean plain)) rows listed)
 
 pub returns-clause-foreign : goal.returns-clause-foreign
 returns-clause-foreign g c clean ready are =
     let plain = subst (λ s. IsPlain (understood s after_text)) (sym ready.has.is) (after_plain ready.has.rest) in
     rw c.first_of.ensures
     (foreign_of c.args.lot.now c.args.act (state g.S.Store c.args.conn.now) (state g.S.Store c.each-handed.new.conn) _ c.each-handed.new.sink refl ready are c.each-handed.result
-    (rw (c.of_gtin.ensures.value, c.of_lot.ensures.value, c.of_number.ensures.value) at (c.each-handed.ensures.handed clean plain)))
+    (rw (c.value.ensures.value, c.value-2.ensures.value, c.value-3.ensures.value) at (c.each-handed.ensures.handed clean plain)))
 
 pub returns-clause-same : goal.returns-clause-same
 returns-clause-same g c clean ready =

@@ -9,6 +9,6 @@ use Rattle.lot_rules.proofs.expiring.is_out.Goals as goal
 pub returns : goal.returns
 returns c =
     let a = c.args in
-    let found = c.find_lot.ensures ∙ ap (λ (lots : List LotRow). find (λ k. is_lot a.lot.now k.lot) lots) c.rows_of_lot.ensures in
-    let from = c.earliest-from.ensures ∙ ap (λ (asked : List LeastRow). earliest_seen a.day asked a.lot.now.gtin) c.rows_of_gtin.ensures in
+    let found = c.find_row.ensures ∙ ap (λ (lots : List LotRow). find (λ k. is_lot a.lot.now k.lot) lots) c.candidates-2.ensures in
+    let from = c.earliest-from.ensures ∙ ap (λ (asked : List LeastRow). earliest_seen a.day asked a.lot.now.gtin) c.candidates.ensures in
     c.is_past.ensures ∙ (λ i. is_past_row (found i) (from i))

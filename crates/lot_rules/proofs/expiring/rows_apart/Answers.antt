@@ -11,9 +11,9 @@ loop-row-preserved c =
     let a = c.args in
     let l = c.loop-row in
     let test : StockRow → Bool = λ r. not (stands_in (rows_given a.others.now r.lot.lot) r) in
-    let wanted : Bool = not c.stands_in-there.result in
+    let wanted : Bool = not c.has_row-there.result in
     kept_more test a.rows.now l.row-index l.kept.items c.row-item.result c.push_if.new.rows.items wanted c.loop-row-test.true l.invariant
-    (ap not (c.stands_in-there.ensures ∙ ap (λ (others : List StockRow). stands_in others c.row-item.result) c.rows_of_lot.ensures) ∙ ap test c.row-item.is)
+    (ap not (c.has_row-there.ensures ∙ ap (λ (others : List StockRow). stands_in others c.row-item.result) c.candidates.ensures) ∙ ap test c.row-item.is)
     (c.in_ok-push_if.ensures ∙ ap (λ (r : StockRow). l.kept.items ++ (if wanted then r ∷ [] else [])) c.row-item.is)
 
 pub returns : goal.returns

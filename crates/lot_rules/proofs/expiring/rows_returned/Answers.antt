@@ -12,7 +12,7 @@ loop-row-preserved c =
     let l = c.loop-row in
     let f : LotRow → List StockRow = λ k. row_returned (rows_given a.stock.now k.lot.lot) (rows_given a.staged.now k.lot.lot) k.lot in
     let row : LotRow = c.row-item.result in
-    let own = c.in_ok-own.ensures ∙ (λ i. row_returned (c.rows_of_lot.ensures i) (c.rows_of_lot-in-loop-row.ensures i) row.lot) in
+    let own = c.in_ok-own.ensures ∙ (λ i. row_returned (c.candidates.ensures i) (c.candidates-in-loop-row.ensures i) row.lot) in
     gathered_more f a.lots.now l.row-index l.put.items row c.extend_from_slice.new.self.items c.loop-row-test.true l.invariant
     (c.in_ok-extend_from_slice.ensures.items ∙ ap (λ ys. l.put.items ++ ys) (c.as_slice.ensures.value ∙ own ∙ ap f c.row-item.is))
 

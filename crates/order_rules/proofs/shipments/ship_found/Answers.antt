@@ -12,7 +12,7 @@ loop-row-preserved c =
     let l = c.loop-row in
     let f : LineRow → LineRow = λ r. line_shipped (rows_given a.staged.now r.gtin) r in
     mapped_more f a.rows.now l.row-index l.shipped.items c.row-item.result c.push.new.self.items c.loop-row-test.true l.invariant
-    (c.in_ok-push.ensures.items ∙ ap (λ (y : LineRow). l.shipped.items ++ y ∷ []) (c.line_shipped.ensures ∙ ap (λ (own : List StagedRow). line_shipped own c.row-item.result) c.rows_of_gtin-own.ensures ∙ ap f c.row-item.is))
+    (c.in_ok-push.ensures.items ∙ ap (λ (y : LineRow). l.shipped.items ++ y ∷ []) (c.line_shipped.ensures ∙ ap (λ (own : List StagedRow). line_shipped own c.row-item.result) c.candidates-own.ensures ∙ ap f c.row-item.is))
 
 pub returns : goal.returns
 returns c =

@@ -12,5 +12,5 @@ returns-in-Ok-clause-writes g c =
     let name = c.args.order.now in
     let old = c.args.tx.now.conn.now in
     let new = c.count.new.tx.conn.now in
-    (ran_writes g.S.Store DROP_STAGE.now (Text name ∷ []) old new c.in-Ok.field-0 tt (λ _. without_stage name) (rw c.of_name.ensures.value at c.in-Ok.ensures.ran)
+    (ran_writes g.S.Store DROP_STAGE.now (Text name ∷ []) old new c.in-Ok.field-0 tt (λ _. without_stage name) (rw c.value.ensures.value at c.in-Ok.ensures.ran)
     (λ ready counts. drops_rows staged staged_laws staged_of_order.tests (λ k. bytes_eq name k.0) (Text name ∷ []) (staged_of_order_laws.at name) DROP_STAGE.now stage_drop_is (state g.S.Store old) (state g.S.Store new) c.in-Ok.field-0 ready counts)).writes

@@ -1,11 +1,14 @@
 use Rattle.std.proofs.Common.{◌≡◌, List, [], ap, sym, subst, ◌∙◌}
 use Rattle.values.specs.declared.lot.LotId.{LotId}
+use Rattle.commands.specs.Tables.{Tables}
 use Rattle.commands.specs.declared.rows.LineRow.{LineRow}
 use Rattle.commands.specs.declared.rows.StockRow.{StockRow}
 use Rattle.slices.specs.ByLot.{AreLotsOf, AreStockOf}
 use Rattle.queries.specs.ShownOrders.{booked_lots, reserved_lots}
 use Rattle.slices.specs.Slicing.{with_names, AreBins, AreLeast}
-use Rattle.known_reads.proofs.ReadSteps.{has_read, read_on, and_then, so_told, fails_first, fails_later}
+use Rattle.known_reads.proofs.ReadSteps.{has_read, read_on, fails_first, fails_later}
+use Rattle.known_reads.proofs.KnowingSteps.{unasked, and_known, known_told}
+use Rattle.slices.specs.Remembering.{KnowsRows}
 use Rattle.queries.proofs.shown_orders.read_rows_of.Goals as goal
 
 pub returns-in_err-lines-clause-read : goal.returns-in_err-lines-clause-read
@@ -37,7 +40,11 @@ returns-clause-read g c =
     let reserved_is : c.as_slice-2.result.now ≡ c.of_order.result.reserved = c.as_slice-2.ensures.value ∙ sym made.same_reserved in
     let stock_for : c.as_slice-3.result.now ≡ c.of_order.result.reserved = c.as_slice-3.ensures.value ∙ sym made.same_reserved in
     let stock_is : c.as_slice-4.result.now ≡ c.of_order.result.stock = c.as_slice-4.ensures.value ∙ sym made.same_stock in
-    so_told (and_then (and_then (and_then (and_then (and_then c.in_ok-lines.ensures.read c.in_ok-staged.ensures.read) c.in_ok-lots.ensures.read) c.in_ok-stock.ensures.read) c.in_ok-bins.ensures.read) c.in_ok-urgents.ensures.read)
+    let after_lines = λ (t : Tables). KnowsRows t c.read_lines.new.rows in
+    let after_bins = λ (t : Tables). KnowsRows t c.read_stock_bins.new.rows in
+    known_told
+    (and_known (and_known (and_known (and_known (and_known c.in_ok-lines.ensures.read (unasked after_lines c.in_ok-staged.ensures.read)) c.in_ok-lots.ensures.read) c.in_ok-stock.ensures.read) c.in_ok-bins.ensures.read)
+    (unasked after_bins c.in_ok-urgents.ensures.read))
     (λ t h. record {
       lines = rw made.same_lines h.0.0.0.0.0.0;
       staged = rw made.same_staged h.0.0.0.0.1.0;

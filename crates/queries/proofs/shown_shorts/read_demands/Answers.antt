@@ -1,8 +1,11 @@
 use Rattle.std.proofs.Common.{List, subst}
 use Rattle.std.specs.Option.{option_copied}
+use Rattle.commands.specs.Tables.{Tables}
 use Rattle.commands.specs.declared.rows.OrderRow.{OrderRow}
 use Rattle.queries.specs.ShownShort.{AreUrgentFor}
-use Rattle.known_reads.proofs.ReadSteps.{has_read, read_on, and_then, so_told, fails_first, fails_later}
+use Rattle.known_reads.proofs.ReadSteps.{has_read, read_on, fails_first, fails_later}
+use Rattle.known_reads.proofs.KnowingSteps.{unasked, and_known, known_told}
+use Rattle.slices.specs.Remembering.{KnowsRows}
 use Rattle.queries.proofs.shown_shorts.read_demands.Goals as goal
 
 pub returns-in_err-orders-clause-read : goal.returns-in_err-orders-clause-read
@@ -16,7 +19,8 @@ returns-in_err-staged-clause-read g c = fails_later (read_on (has_read c.in_ok-o
 
 pub returns-clause-read : goal.returns-clause-read
 returns-clause-read g c =
-    so_told (and_then (and_then c.in_ok-orders.ensures.read c.in_ok-urgents.ensures.read) c.in_ok-staged.ensures.read)
+    let knows = λ (t : Tables). KnowsRows t c.read_ordered.new.rows in
+    known_told (and_known (and_known c.in_ok-orders.ensures.read (unasked knows c.in_ok-urgents.ensures.read)) c.in_ok-staged.ensures.read)
     (λ t h. record {
       ordered = rw (c.of_demands.ensures.same_orders, c.of_demands.ensures.same_lines) h.0.0;
       urgents = rw (c.of_demands.ensures.same_orders, c.of_demands.ensures.same_urgents)

@@ -8,4 +8,4 @@ pub returns : goal.returns
 returns c =
     let o = c.args.order.now in
     let g = c.args.gtin.now in
-    c.find_line.ensures ∙ ap (λ (rows : List LineRow). find (λ l. same_text o l.order && same_text g l.gtin) rows) c.as_slice.ensures
+    c.find_row.ensures ∙ ap (λ (rows : List LineRow). find (λ l. same_text o l.order && same_text g l.gtin) rows) c.as_slice.ensures

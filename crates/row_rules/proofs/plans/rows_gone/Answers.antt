@@ -16,7 +16,7 @@ loop-row-preserved c =
     let row : ReservedRow = c.row-item.result in
     let wanted : Bool = c.is_gone-gone.result in
     kept_more test a.olds.now l.row-index l.dropped.items row c.push_if.new.rows.items wanted c.loop-row-test.true l.invariant
-    (c.is_gone-gone.ensures ∙ ap (λ (ns : List ReservedRow). of_item a.gtin.now row.lot && not (list_any (is_share_of row) ns)) c.rows_of_name.ensures ∙ ap test c.row-item.is)
+    (c.is_gone-gone.ensures ∙ ap (λ (ns : List ReservedRow). of_item a.gtin.now row.lot && not (list_any (is_share_of row) ns)) c.candidates.ensures ∙ ap test c.row-item.is)
     (c.in_ok-push_if.ensures ∙ ap (λ (r : ReservedRow). l.dropped.items ++ (if wanted then r ∷ [] else [])) c.row-item.is)
 
 pub returns : goal.returns

@@ -14,7 +14,7 @@ loop-row-preserved c =
     let row : ReservedRow = c.row-item.result in
     let wanted : Bool = not c.is_qty-same.result in
     kept_more test a.news.now l.row-index l.put.items row c.push_if.new.rows.items wanted c.loop-row-test.true l.invariant
-    (ap not (c.is_qty-same.ensures ∙ ap (λ q. has_qty q row.qty) (c.find_share.ensures ∙ ap (find (is_share_of row)) c.rows_of_name.ensures)) ∙ ap test c.row-item.is)
+    (ap not (c.is_qty-same.ensures ∙ ap (λ q. has_qty q row.qty) (c.find_row.ensures ∙ ap (find (is_share_of row)) c.candidates.ensures)) ∙ ap test c.row-item.is)
     (c.in_ok-push_if.ensures ∙ ap (λ (r : ReservedRow). l.put.items ++ (if wanted then r ∷ [] else [])) c.row-item.is)
 
 pub returns : goal.returns

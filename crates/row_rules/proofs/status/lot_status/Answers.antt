@@ -1,8 +1,8 @@
 use Rattle.std.proofs.Common.{rules}
 use Rattle.row_rules.proofs.status.lot_status.Goals as goal
 
-pub returns-then-has_recall : goal.returns-then-has_recall
-returns-then-has_recall c = search rules
+pub returns-then-has_row : goal.returns-then-has_row
+returns-then-has_row c = search rules
 
 pub returns-then-lot : goal.returns-then-lot
 returns-then-lot c = search rules

@@ -3,7 +3,7 @@ use Rattle.commands.specs.declared.rows.LineRow.{LineRow}
 use Rattle.commands.specs.declared.rows.UrgentRow.{UrgentRow}
 use Rattle.sqlite.specs.declared.error.Error.TheVariants.{SqliteFailure}
 use Rattle.sqlite.specs.declared.error.ErrorCode.TheVariants.{OutOfMemory}
-use Rattle.open_lines.specs.OpenLines.{Gains, has_line_row}
+use Rattle.open_orders.specs.OpenLines.{Gains, has_line_row}
 use Rattle.slices.specs.Slicing.{urgent_lines, AreUrgentsPut}
 use Rattle.slices.proofs.Covering.{knows_put}
 use Rattle.known_reads.proofs.ReadSteps.{has_read, read_on, and_then, so_told, fails_first, fails_later, no_room_left}

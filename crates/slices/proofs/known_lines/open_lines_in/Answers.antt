@@ -4,7 +4,7 @@ use Rattle.commands.specs.declared.rows.OrderRow.{OrderRow}
 use Rattle.commands.specs.declared.rows.UrgentRow.{UrgentRow}
 use Rattle.sqlite.specs.declared.error.Error.TheVariants.{SqliteFailure}
 use Rattle.sqlite.specs.declared.error.ErrorCode.TheVariants.{OutOfMemory}
-use Rattle.open_lines.specs.OpenLines.{Gains, has_line_row}
+use Rattle.open_orders.specs.OpenLines.{Gains, has_line_row}
 use Rattle.table_words.specs.Typed.{order_key}
 use Rattle.slices.specs.Slicing.{AreAllLines, AreUrgents, urgent_lines}
 use Rattle.known_reads.proofs.ReadSteps.{has_read, read_on, and_then, so_told, fails_first, fails_later, no_room_left}

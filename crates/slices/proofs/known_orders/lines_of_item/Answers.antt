@@ -1,7 +1,7 @@
 use Rattle.std.proofs.Common.{◌≡◌, ℕ, List, true, sym, ap, subst, ◌∙◌}
 use Rattle.sqlite.specs.declared.error.Error.TheVariants.{SqliteFailure}
 use Rattle.sqlite.specs.declared.error.ErrorCode.TheVariants.{OutOfMemory}
-use Rattle.open_lines.specs.OpenLines.{orders_at, are_apart}
+use Rattle.open_orders.specs.OpenLines.{orders_at, are_apart}
 use Rattle.slices.specs.Slicing.{AreLinesFor, other_names}
 use Rattle.known_reads.proofs.ReadSteps.{no_room_yet}
 use Rattle.known_reads.proofs.KnowingSteps.{known_as}

@@ -1,7 +1,5 @@
-use Rattle.commands.specs.Tables.{Tables}
 use Rattle.known_reads.proofs.ReadSteps.{has_read, read_on, fails_first, fails_later}
-use Rattle.known_reads.proofs.KnowingSteps.{unasked, and_known, known_told}
-use Rattle.slices.specs.Remembering.{KnowsRows}
+use Rattle.known_reads.proofs.KnowingSteps.{and_known, known_told}
 use Rattle.slices.proofs.picks.read_goods.Goals as goal
 
 pub returns-in_err-items-clause-read : goal.returns-in_err-items-clause-read
@@ -27,7 +25,6 @@ returns-in_err-bins-clause-read g c =
 
 pub returns-clause-read : goal.returns-clause-read
 returns-clause-read g c =
-    let knows = λ (t : Tables). KnowsRows t c.seek_recalls_of.new.rows in
     known_told
-    (and_known (and_known (and_known (and_known (and_known c.in_ok-items.ensures.read c.in_ok-least.ensures.read) c.in_ok-lots.ensures.read) c.in_ok-recalls.ensures.read) (unasked knows c.in_ok-stock.ensures.read)) c.in_ok-bins.ensures.read)
+    (and_known (and_known (and_known (and_known (and_known c.in_ok-items.ensures.read c.in_ok-least.ensures.read) c.in_ok-lots.ensures.read) c.in_ok-recalls.ensures.read) c.in_ok-stock.ensures.read) c.in_ok-bins.ensures.read)
     (λ t h. record { items = h.0.0.0.0.0; least = h.0.0.0.0.1; bins = h.1; lots = h.0.0.0.1; recalls = h.0.0.1; stock = h.0.1 })

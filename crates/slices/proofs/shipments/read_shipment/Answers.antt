@@ -6,9 +6,7 @@ use Rattle.sqlite.specs.declared.error.ErrorCode.TheVariants.{OutOfMemory}
 use Rattle.slices.specs.ByLot.{AreStockOf}
 use Rattle.slices.specs.Slicing.{AreStaged, with_names, lots_on_stage}
 use Rattle.known_reads.proofs.ReadSteps.{has_read, read_on, fails_first, fails_later, no_room_left}
-use Rattle.known_reads.proofs.KnowingSteps.{unasked, and_known, known_told}
-use Rattle.commands.specs.Tables.{Tables}
-use Rattle.slices.specs.Remembering.{KnowsRows}
+use Rattle.known_reads.proofs.KnowingSteps.{and_known, known_told}
 use Rattle.slices.proofs.shipments.read_shipment.Goals as goal
 
 pub returns-in_err-orders-clause-read : goal.returns-in_err-orders-clause-read
@@ -33,8 +31,7 @@ returns-clause-read g c =
     let of_lines : c.as_slice-2.result.now ≡ with_names {X = LineRow} (λ r. r.gtin) rows.lines [] =
     c.as_slice-2.ensures.value ∙ c.in_ok-gtins.ensures ∙ ap (λ l. with_names {X = LineRow} (λ r. r.gtin) l []) (c.as_slice.ensures.value ∙ sym c.of_shipment.ensures.same_lines) in
     let on_stage : c.as_slice-4.result.now ≡ lots_on_stage order rows.staged = c.as_slice-4.ensures.value ∙ c.in_ok-lots.ensures ∙ ap (lots_on_stage order) (c.as_slice-3.ensures.value ∙ sym c.of_shipment.ensures.same_staged) in
-    let knows = λ (t : Tables). KnowsRows t c.read_named.new.rows in
-    known_told (and_known (and_known c.in_ok-orders.ensures.read (unasked knows c.in_ok-staged.ensures.read)) (unasked knows c.in_ok-stock.ensures.read))
+    known_told (and_known (and_known c.in_ok-orders.ensures.read c.in_ok-staged.ensures.read) c.in_ok-stock.ensures.read)
     (λ t h. record {
       named = rw (c.of_shipment.ensures.same_orders, c.of_shipment.ensures.same_lines) h.0.0;
       staged = rw c.of_shipment.ensures.same_staged

@@ -1,11 +1,9 @@
 use Rattle.std.proofs.Common.{ℕ, List, subst, ◌∙◌}
-use Rattle.commands.specs.Tables.{Tables}
 use Rattle.commands.specs.declared.rows.StagedRow.{StagedRow}
 use Rattle.slices.specs.ByLot.{AreLotsOf}
-use Rattle.slices.specs.Remembering.{KnowsRows}
 use Rattle.slices.specs.Slicing.{orders_named, held_lots, AreStaged, AreGoods, AreKnownOrders, AreUrgentsFor}
 use Rattle.known_reads.proofs.ReadSteps.{has_read, read_on, fails_first, fails_later}
-use Rattle.known_reads.proofs.KnowingSteps.{unasked, and_known, known_told}
+use Rattle.known_reads.proofs.KnowingSteps.{and_known, known_told}
 use Rattle.slices.proofs.slices.read_planned.Goals as goal
 
 pub returns-in_err-gtins-clause-read : goal.returns-in_err-gtins-clause-read
@@ -27,8 +25,7 @@ returns-clause-read g c =
     let goods = c.in_ok-goods.goods in
     let ordered = c.in_ok-ordered.ordered in
     let made = c.rows_read.ensures in
-    let knows = λ (t : Tables). KnowsRows t c.touched_items.new.rows in
-    known_told (and_known (and_known (and_known c.in_ok-gtins.ensures.read (unasked knows c.in_ok-staged.ensures.read)) c.in_ok-goods.ensures.read) c.in_ok-ordered.ensures.read)
+    known_told (and_known (and_known (and_known c.in_ok-gtins.ensures.read c.in_ok-staged.ensures.read) c.in_ok-goods.ensures.read) c.in_ok-ordered.ensures.read)
     (λ t h. record {
       gtins = c.in_ok-gtins.gtins.items;
       touched = h.0.0.0;

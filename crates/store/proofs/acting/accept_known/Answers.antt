@@ -26,28 +26,29 @@ pub returns-clause-done : goal.returns-clause-done
 returns-clause-done g c clean ready up once =
     let old = state g.S.Store c.args.tx.now.conn.now in
     let mid = state g.S.Store c.know_put.new.tx.conn.now in
-    let new = state g.S.Store c.accept.new.tx.conn.now in
-    let was : HasCleanDisk mid = omega (arith, clean, c.accept.ensures.survives.clean) in
+    let new = state g.S.Store c.accept-reply.new.tx.conn.now in
+    let was : HasCleanDisk mid = omega (arith, clean, c.accept-reply.ensures.survives.clean) in
     let same = c.in_ok-know_put.ensures.same was ready up in
     let change = c.args.change.now in
-    goes_on_from (λ t. with_repeat (record { k = key_text c.args.key.now; act = change.meta.acts; spell = spelling c.args.command.now; reply = change.text }) (applied change t)) c.accept.result old mid new same
-    (c.accept.ensures.done clean (subst IsReady (sym same.0.now_is) ready) once)
+    goes_on_from (λ t. with_repeat (record { k = key_text c.args.key.now; act = change.meta.acts; spell = spelling c.args.command.now; reply = change.text }) (applied change t)) c.accept-reply.result old mid new same
+    (c.accept-reply.ensures.done clean (subst IsReady (sym same.0.now_is) ready) once)
 
 pub returns-clause-known : goal.returns-clause-known
 returns-clause-known g c clean ready up =
     let old = state g.S.Store c.args.tx.now.conn.now in
     let mid = state g.S.Store c.know_put.new.tx.conn.now in
-    let new = state g.S.Store c.accept.new.tx.conn.now in
-    let was : HasCleanDisk mid = omega (arith, clean, c.accept.ensures.survives.clean) in
+    let new = state g.S.Store c.accept-reply.new.tx.conn.now in
+    let was : HasCleanDisk mid = omega (arith, clean, c.accept-reply.ensures.survives.clean) in
     let same = c.in_ok-know_put.ensures.same was ready up in
     let change = c.args.change.now in
-    known_written c.args.known.now c.know_put.new.known change (record { k = key_text c.args.key.now; act = change.meta.acts; spell = spelling c.args.command.now; reply = change.text }) c.accept.result old mid new same
-    c.know_put.ensures.keeps c.know_put.ensures.keeps_urgent c.know_put.ensures.raised c.know_put.ensures.forgets (c.in_ok-know_put.ensures.known was ready up) (c.accept.ensures.written clean (subst IsReady (sym same.0.now_is) ready))
+    known_written c.args.known.now c.know_put.new.known c.follow.new.known change (record { k = key_text c.args.key.now; act = change.meta.acts; spell = spelling c.args.command.now; reply = change.text })
+    c.know_put.ensures.keeps c.know_put.ensures.keeps_urgent c.know_put.ensures.raised c.know_put.ensures.forgets c.follow.ensures.same c.accept-reply.result old mid new same
+    (c.in_ok-know_put.ensures.known was ready up) c.follow.ensures.follows c.follow.ensures.unwritten (c.accept-reply.ensures.written clean (subst IsReady (sym same.0.now_is) ready))
 
 pub returns-clause-kept : goal.returns-clause-kept
 returns-clause-kept g c clean ready up =
     let old = state g.S.Store c.args.tx.now.conn.now in
     let mid = state g.S.Store c.know_put.new.tx.conn.now in
-    let new = state g.S.Store c.accept.new.tx.conn.now in
-    let was : HasCleanDisk mid = omega (arith, clean, c.accept.ensures.survives.clean) in
-    kept_then old mid new (kept_unchanged old mid (c.in_ok-know_put.ensures.same was ready up)) (c.accept.ensures.kept clean)
+    let new = state g.S.Store c.accept-reply.new.tx.conn.now in
+    let was : HasCleanDisk mid = omega (arith, clean, c.accept-reply.ensures.survives.clean) in
+    kept_then old mid new (kept_unchanged old mid (c.in_ok-know_put.ensures.same was ready up)) (c.accept-reply.ensures.kept clean)

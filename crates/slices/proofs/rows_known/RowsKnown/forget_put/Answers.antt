@@ -1,4 +1,4 @@
-use Rattle.std.proofs.Common.{List, subst}
+use Rattle.std.proofs.Common.{List, refl, subst}
 use Rattle.std.specs.Prelude.{reverse}
 use Rattle.std.specs.Ordering.{nat_cmp}
 use Rattle.std.specs.Cmp.Lexicographic.{slice_cmp}
@@ -9,8 +9,8 @@ use Rattle.commands.specs.declared.rows.LineRow.{LineRow}
 use Rattle.commands.specs.declared.rows.LotRow.{LotRow}
 use Rattle.commands.specs.declared.rows.OrderRow.{OrderRow}
 use Rattle.commands.specs.declared.rows.RecallRow.{RecallRow}
-use Rattle.slice_parts.specs.LotOrder.{lot_key as turned_lot, lot_key_cmp}
-use Rattle.slice_parts.specs.LineOrder.{turned_line, line_key_cmp}
+use Rattle.slice_lists.specs.LotOrder.{lot_key as turned_lot, lot_key_cmp}
+use Rattle.slice_lists.specs.LineOrder.{turned_line, line_key_cmp}
 use Rattle.known_rows.specs.KnownRows.{ForgetsBy}
 use Rattle.slices.proofs.rows_known.RowsKnown.forget_put.Goals as goal
 
@@ -24,4 +24,5 @@ returns c = record {
   orders = subst (λ (rows : List OrderRow). ForgetsBy (slice_cmp nat_cmp) (λ (r : OrderRow). reverse r.order) rows c.args.self.now.orders.rows c.forget_all-6.new.self.rows) c.as_slice-6.ensures c.forget_all-6.ensures;
   lines = subst (λ (rows : List LineRow). ForgetsBy (slice_cmp nat_cmp) (λ (r : LineRow). reverse r.order) rows c.args.self.now.lines.rows c.forget_all-7.new.self.rows) c.as_slice-7.ensures c.forget_all-7.ensures;
   lines_at = subst (λ (rows : List LineRow). ForgetsBy line_key_cmp (λ (r : LineRow). turned_line (r.order, r.gtin)) rows c.args.self.now.lines_at.rows c.forget_all-8.new.self.rows) c.as_slice-8.ensures c.forget_all-8.ensures;
+  followed = refl;
 }

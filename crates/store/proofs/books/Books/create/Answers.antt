@@ -3,7 +3,7 @@ use Rattle.sqlite.specs.Held.{state}
 use Rattle.table_words.specs.declared.error.TableFault.TheVariants.{Foreign as ForeignTable}
 use Rattle.store.specs.Books.{AreBooks}
 use Rattle.store.specs.Faults.{fault_of}
-use Rattle.tables.specs.declared.opening.Leftover.TheVariants as left
+use Rattle.books_schema.specs.declared.ready_connection.Leftover.TheVariants as left
 use Rattle.store.proofs.ActsWhole.{kept_acts}
 use Rattle.store.proofs.BooksWhole.{known_unread, settled_books}
 use Rattle.store.proofs.OpenedBooks.{foreign_if, same_err, either_told, unlimited_books, unlimited_survives}

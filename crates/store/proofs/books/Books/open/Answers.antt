@@ -3,8 +3,8 @@ use Rattle.std.specs.Prelude.{ℤ}
 use Rattle.sqlite.specs.Held.{state}
 use Rattle.sqlite.specs.State.{HasCleanDisk}
 use Rattle.sqlite.specs.Tree.{Trees}
-use Rattle.tables.specs.Opening.{HasDayIn, AreReadTyped}
-use Rattle.tables.specs.declared.opening.Found.{Found}
+use Rattle.books_schema.specs.Opening.{HasDayIn, AreReadTyped}
+use Rattle.books_schema.specs.declared.ready_connection.Found.{Found}
 use Rattle.machine.specs.Standing.{today}
 use Rattle.store.specs.Opening.{AreRowsAt}
 use Rattle.store.proofs.ActsWhole.{kept_acts}

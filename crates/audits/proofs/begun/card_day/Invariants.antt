@@ -1,7 +1,0 @@
-use Rattle.std.proofs.Common.{◌≡◌, drop, find}
-use Rattle.commands.specs.declared.rows.CardRow.{CardRow}
-use Rattle.table_words.specs.Typed.{same_card, card_key}
-use Rattle.audits.proofs.begun.card_day.Given as goal
-
-abbrev pub invariant-loop-row : goal.invariant-loop-row
-invariant-loop-row l = find (λ (c : CardRow). same_card (l.lot, l.act) (card_key c)) (drop l.row-index l.rows) ≡ find (λ (c : CardRow). same_card (l.lot, l.act) (card_key c)) l.rows

@@ -1,0 +1,8 @@
+use Rattle.std.proofs.Common.{◌≡◌, drop}
+use Rattle.table_words.specs.Found.{no_two}
+use Rattle.books_schema.specs.Older.{same_named}
+use Rattle.books_schema.proofs.older.are_once.Given as goal
+
+-- whether no two of them have one name hangs on those that are left
+abbrev pub invariant-loop-at : goal.invariant-loop-at
+invariant-loop-at l = no_two same_named l.found ≡ no_two same_named (drop l.at l.found)

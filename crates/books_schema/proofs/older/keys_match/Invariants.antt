@@ -1,0 +1,6 @@
+use Rattle.std.proofs.Common.{◌≡◌, map, take}
+use Rattle.books_schema.specs.Layouts.{key_of}
+use Rattle.books_schema.proofs.older.keys_match.Given as goal
+
+abbrev pub invariant-loop-at : goal.invariant-loop-at
+invariant-loop-at l = take l.at l.found ≡ map key_of (take l.at l.layouts)

@@ -1,0 +1,19 @@
+use Rattle.std.proofs.Common.{◌≡◌, ℤ, IfErr, sym, subst}
+use Rattle.sqlite.specs.Held.{state}
+use Rattle.sqlite.specs.State.{HasCleanDisk, Survives}
+use Rattle.table_words.specs.declared.error.TableFault.TheVariants.{Foreign}
+use Rattle.table_words.proofs.CallLemmas.{if_err}
+use Rattle.books_schema.specs.Opening.{IsReadyAs, HasDayIn, AreReadTyped, ComesTo, TellTables}
+use Rattle.books_schema.specs.declared.ready_connection.Found.{Found}
+use Rattle.books_schema.proofs.ready_connection.settle_found.Goals as goal
+
+pub returns-in-Newest-clause-foreign : goal.returns-in-Newest-clause-foreign
+returns-in-Newest-clause-foreign g c =
+    let old = (state g.S.Store c.args.conn.now).now in
+    subst (λ (f : Found). HasCleanDisk (state g.S.Store c.settle.new.conn) → IsReadyAs f old → IfErr c.settle.result (λ e. e ≡ Foreign → (day : ℤ) → HasDayIn f old.trees day → ¬ AreReadTyped f old.trees)) (sym c.in-Newest.is)
+    (λ clean ready. if_err c.settle.result _ _ (c.settle.ensures.foreign clean ready) (λ e none is day has read. none is day has))
+
+pub returns-in-Newest-clause-survives : goal.returns-in-Newest-clause-survives
+returns-in-Newest-clause-survives g c =
+    let old = (state g.S.Store c.args.conn.now).now in
+    subst (λ (f : Found). Survives (state g.S.Store c.args.conn.now) (state g.S.Store c.settle.new.conn) (λ db. IsReadyAs f old → ComesTo f old.trees db × TellTables db)) (sym c.in-Newest.is) c.settle.ensures.survives

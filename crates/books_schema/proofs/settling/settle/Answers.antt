@@ -1,0 +1,42 @@
+use Rattle.std.proofs.Common.{◌≡◌, ◌∙◌, ℤ, IfErr, rules, arith, sym}
+use Rattle.std.proofs.lemmas.Result.{on_ok_weaker}
+use Rattle.sqlite.specs.Effect.{Database}
+use Rattle.sqlite.specs.Held.{state}
+use Rattle.sqlite.specs.State.{HasCleanDisk, Survives}
+use Rattle.table_words.specs.Steps.{IsReady}
+use Rattle.table_words.specs.declared.error.TableFault.TheVariants.{Foreign as ForeignTable, Store as TableStore}
+use Rattle.books_schema.specs.Opening.{TellTables}
+use Rattle.books_schema.specs.Indexing.{HasIndexes}
+use Rattle.books_schema.specs.Settling.{HasDay, IsNumbered, Numbers}
+use Rattle.books_schema.proofs.EndLemmas.{err_of, if_so, survives_of}
+use Rattle.books_schema.proofs.OpenLemmas.{ready_tells}
+use Rattle.books_schema.proofs.SettleLemmas.{begun_state, as_begun, as_old}
+use Rattle.books_schema.proofs.settling.settle.Goals as goal
+
+pub returns-clause-survives : goal.returns-clause-survives
+returns-clause-survives g c =
+    let old = c.args.conn.now in
+    let begun = c.transaction-tx.result.conn.now in
+    let last = state g.S.Store c.day_and_indexes-day.new.tx.conn.now in
+    let new = state g.S.Store c.finish.new.tx.0 in
+    let whole : Survives (state g.S.Store old) new (λ db. IsReady (state g.S.Store old).now → IsNumbered (state g.S.Store old).now.trees db × TellTables db) =
+    survives_of c.day_and_indexes-day.result (state g.S.Store old) (state g.S.Store begun) last new _ (begun_state g.S.Store old begun c.transaction-tx.ensures.begun) c.day_and_indexes-day.ensures.survives c.finish.ensures.survives (λ clean.
+    let was : HasCleanDisk last = omega (arith, clean, c.finish.ensures.survives.clean) in
+    if_so _ c.day_and_indexes-day.result (λ ready. on_ok_weaker c.day_and_indexes-day.result
+    (λ (done : Numbers (state g.S.Store begun) last × HasIndexes last.now.schema). (as_begun g.S.Store old begun (λ (d : Database). IsNumbered d.trees last.now.trees) c.transaction-tx.ensures.begun done.0.comes, ready_tells last.now done.0.ready))
+    (c.day_and_indexes-day.ensures.done was (as_old g.S.Store old begun IsReady c.transaction-tx.ensures.begun ready)))) in
+    search (rules, whole)
+
+pub returns-clause-foreign : goal.returns-clause-foreign
+returns-clause-foreign g c =
+    let old = c.args.conn.now in
+    let begun = c.transaction-tx.result.conn.now in
+    let last = state g.S.Store c.day_and_indexes-day.new.tx.conn.now in
+    let new = state g.S.Store c.finish.new.tx.0 in
+    let whole : HasCleanDisk new → IsReady (state g.S.Store old).now → IfErr c.finish.result (λ e. e ≡ ForeignTable → (day : ℤ) → ¬ HasDay (state g.S.Store old).now.trees day) = λ clean ready.
+    let was : HasCleanDisk last = omega (arith, clean, c.finish.ensures.survives.clean) in
+    err_of (λ cause e. e ≡ TableStore cause) c.day_and_indexes-day.result c.finish.result last new (λ e. e ≡ ForeignTable → (day : ℤ) → ¬ HasDay (state g.S.Store old).now.trees day) c.finish.ensures.ends
+    (λ cause e is foreign. absurd (let no : TableStore cause ≡ ForeignTable = sym is ∙ foreign in cc))
+    (as_begun g.S.Store old begun (λ (d : Database). IfErr c.day_and_indexes-day.result (λ e. e ≡ ForeignTable → (day : ℤ) → ¬ HasDay d.trees day)) c.transaction-tx.ensures.begun
+    (c.day_and_indexes-day.ensures.foreign was (as_old g.S.Store old begun IsReady c.transaction-tx.ensures.begun ready))) in
+    search (rules, whole)

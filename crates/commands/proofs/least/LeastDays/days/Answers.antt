@@ -1,8 +1,0 @@
-use Rattle.std.proofs.Common.{rules}
-use Rattle.commands.proofs.least.LeastDays.days.Goals as goal
-
-pub returns-clause-value : goal.returns-clause-value
-returns-clause-value c = search rules
-
-pub returns-clause-limit : goal.returns-clause-limit
-returns-clause-limit c = search rules

@@ -1,0 +1,49 @@
+//! Keys that tell exactly, and rows that have a key among others.
+
+use commands::{StagedRow, StockRow};
+use values::TextKey;
+
+/// A key that compares as equal with itself alone.
+pub trait ExactKey: Ord + Copy {
+    ghost use Rattle.std.specs.Prelude.{◌≡◌, true};
+    ghost use Rattle.std.specs.Ordering.{is_eq};
+
+    ghost one_key: { (k q : Self) → is_eq (Self.cmp k q) ≡ true → k ≡ q };
+}
+
+/// A row of a table, which has a key there.
+pub trait KeyedRow: Copy {
+    ghost use Rattle.std.specs.Prelude.{◌≡◌, Bool};
+
+    ghost same_row: { Self → Self → Bool };
+
+    /// Whether it has the key of the other one.
+    fn is_same(&self, other: &Self) -> bool
+        ensures { result ≡ same_row self.now other.now };
+}
+
+impl ExactKey for TextKey {
+    ghost use Rattle.known_rows.specs.Keyed.{text_one};
+
+    ghost one_key = { text_one };
+}
+
+impl KeyedRow for StockRow {
+    ghost use Rattle.known_rows.specs.Keyed.{same_stock_row};
+
+    ghost same_row = { same_stock_row };
+
+    fn is_same(&self, other: &Self) -> bool {
+        self.lot == other.lot && self.bin == other.bin
+    }
+}
+
+impl KeyedRow for StagedRow {
+    ghost use Rattle.known_rows.specs.Keyed.{same_staged_row};
+
+    ghost same_row = { same_staged_row };
+
+    fn is_same(&self, other: &Self) -> bool {
+        self.order == other.order && self.lot == other.lot
+    }
+}

@@ -1,8 +1,0 @@
-use Rattle.std.proofs.Common.{◌∙◌}
-use Rattle.table_words.specs.Typed.{ItemKey, same_item, item_key}
-use Rattle.table_words.proofs.KeyLemmas.{first_row, itself_bytes}
-use Rattle.known_reads.proofs.ReadSteps.{as_told}
-use Rattle.queries.proofs.shown_stock.item_row.Goals as goal
-
-pub returns-clause-read : goal.returns-clause-read
-returns-clause-read g c = as_told c.read_row.ensures.read (λ t row h. h.2 ∙ first_row {K = ItemKey} same_item item_key c.args.gtin.now t.item h.0 (itself_bytes c.args.gtin.now) h.1)

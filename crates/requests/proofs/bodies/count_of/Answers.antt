@@ -1,5 +1,0 @@
-use Rattle.std.proofs.Common.{refl}
-use Rattle.requests.proofs.bodies.count_of.Goals as goal
-
-pub returns : goal.returns
-returns c = rw (← c.if-not-is_object_of.ensures, ← c.in_ok-key.ensures, ← c.in_ok-lot.ensures, ← c.in_ok-bin.ensures, ← c.in_ok-qty.ensures) refl

@@ -1,6 +1,0 @@
-use Rattle.std.proofs.Common.{take}
-use Rattle.row_rules.specs.Apart.{HasRows}
-use Rattle.row_rules.proofs.apart.row_set.Given as goal
-
-abbrev pub invariant-loop-row : goal.invariant-loop-row
-invariant-loop-row l = HasRows l.set (take l.row-index l.rows)

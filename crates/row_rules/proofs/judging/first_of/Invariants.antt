@@ -1,5 +1,0 @@
-use Rattle.row_rules.proofs.Capping.{IsJudged}
-use Rattle.row_rules.proofs.judging.first_of.Given as goal
-
-abbrev pub invariant-loop-holds : goal.invariant-loop-holds
-invariant-loop-holds l = IsJudged l.conditions l.holds-index

@@ -1,7 +1,0 @@
-use Rattle.values.specs.Values.{same_text}
-use Rattle.commands.specs.declared.rows.ItemRow.{ItemRow}
-use Rattle.row_rules.proofs.Searching.{IsSearched}
-use Rattle.row_rules.proofs.looking.find_item.Given as goal
-
-abbrev pub invariant-loop-row : goal.invariant-loop-row
-invariant-loop-row l = IsSearched {X = ItemRow} (λ r. same_text l.gtin r.gtin) l.rows l.row-index

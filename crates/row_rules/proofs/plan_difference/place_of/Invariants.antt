@@ -1,0 +1,7 @@
+use Rattle.plan.specs.declared.Row.{Row}
+use Rattle.row_rules.specs.Replanning.{same_row}
+use Rattle.row_rules.proofs.Searching.{IsTested}
+use Rattle.row_rules.proofs.plan_difference.place_of.Given as goal
+
+abbrev pub invariant-loop-index : goal.invariant-loop-index
+invariant-loop-index l = IsTested {X = Row} (same_row l.row) l.others l.index

@@ -1,0 +1,6 @@
+use Rattle.std.proofs.Common.{take}
+use Rattle.row_rules.specs.Apart.{HasRows}
+use Rattle.row_rules.proofs.plan_difference.row_set.Given as goal
+
+abbrev pub invariant-loop-row : goal.invariant-loop-row
+invariant-loop-row l = HasRows l.set (take l.row-index l.rows)

@@ -1,9 +1,0 @@
-use Rattle.std.specs.Prelude.{not, ◌&&◌}
-use Rattle.values.specs.Values.{same_text}
-use Rattle.commands.specs.declared.rows.StagedRow.{StagedRow}
-use Rattle.machine.specs.Postings.{is_lot}
-use Rattle.row_rules.proofs.Walking.{IsKept}
-use Rattle.row_rules.proofs.stages.other_staged.Given as goal
-
-abbrev pub invariant-loop-row : goal.invariant-loop-row
-invariant-loop-row l = IsKept {X = StagedRow} (λ r. not (same_text l.order r.order && is_lot l.lot r.lot)) l.rows l.row-index l.others.items

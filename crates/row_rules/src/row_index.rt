@@ -1,0 +1,258 @@
+//! Rows that are found by a text or by a number of theirs, without a walk over all of them for each
+//! that is sought.
+
+ghost use Rattle.std.specs.Prelude.{◌≡◌, ℕ, List, ◌==◌, [], ◌∷◌, ◌++◌, reverse, filter, find, if◌then◌else◌, Some, None, IfOk, OnOk};
+ghost use Rattle.std.specs.Option.{option_or};
+ghost use Rattle.std.specs.Ordering.{nat_cmp};
+ghost use Rattle.std.specs.Cmp.Lexicographic.{slice_cmp};
+ghost use Rattle.std.specs.BTreeMap.{get};
+ghost use Rattle.values.specs.Values.{same_text};
+ghost use Rattle.row_rules.specs.LookUps.{rows_or, rows_kept, rows_given, row_given, GivesRows, GivesFirst};
+
+use crate::having::Has;
+use commands::{LotRow, OrderRow};
+use std::alloc::{AllocError, Global};
+use std::collections::BTreeMap;
+use values::{Gtin, Lot, Name, TextKey};
+
+/// Up to so many rows, or look-ups, a walk over the rows is as good as a map of them.
+const FEW: usize = 32;
+
+// By a text
+
+/// A value that has a text.
+pub trait HasText: Copy {
+    ghost use Rattle.std.specs.Prelude.{ℕ, List, reverse};
+
+    ghost text: { Self → List ℕ };
+
+    fn key(&self) -> TextKey
+        ensures { result ≡ reverse (text self.now) };
+}
+
+impl HasText for Gtin {
+    ghost text = { λ g. g };
+
+    fn key(&self) -> TextKey {
+        TextKey::of_gtin(self)
+    }
+}
+
+impl HasText for Lot {
+    ghost text = { λ l. l };
+
+    fn key(&self) -> TextKey {
+        TextKey::of_lot(self)
+    }
+}
+
+impl HasText for Name {
+    ghost text = { λ n. n };
+
+    fn key(&self) -> TextKey {
+        TextKey::of_name(self)
+    }
+}
+
+/// Rows by the text of something that they have. Where no rows stand with a text, the others may have
+/// some.
+#[derive(Drop)]
+pub struct RowsByText<'a, T> {
+    groups: BTreeMap<TextKey, Vec<T>>,
+    others: &'a [T],
+}
+
+impl<'a, T> RowsByText<'a, T> {
+    /// The rows among which those with the value are: all of them, in their order, and maybe others.
+    pub fn candidates<K: HasText>(&self, value: &K) -> &[T]
+        ensures { result.now ≡ rows_given self.now (K.text value.now) }
+    {
+        if self.groups.is_empty() {
+            return self.others;
+        }
+        self.rows_under(&value.key())
+    }
+
+    fn rows_under(&self, key: &TextKey) -> &[T]
+        ensures { result.now ≡ rows_kept self.now key.now }
+    {
+        match self.groups.get(key) {
+            Some(rows) => rows.as_slice(),
+            None => self.others,
+        }
+    }
+}
+
+/// The rows, to be found so many times by a value that they have.
+pub fn by_text<'a, K: HasText, T: Has<K>>(
+    alloc: Global,
+    rows: &'a [T],
+    times: usize,
+) -> Result<RowsByText<'a, T>, AllocError>
+    ensures { IfOk result (λ found. GivesRows (λ r. K.text (T.of_row r)) (rows_given found) rows.now) }
+{
+    if rows.len() <= FEW || times <= FEW {
+        return Ok(RowsByText {
+            groups: BTreeMap::new(alloc),
+            others: rows,
+        });
+    }
+    let groups = group::<K, T>(alloc, rows)?;
+    Ok(RowsByText {
+        groups,
+        others: &rows[..0],
+    })
+}
+
+fn group<K: HasText, T: Has<K>>(
+    alloc: Global,
+    rows: &[T],
+) -> Result<BTreeMap<TextKey, Vec<T>>, AllocError>
+    ensures { IfOk result (λ groups. (k : List ℕ) → rows_or [] (get (slice_cmp nat_cmp) groups (reverse k)) ≡ filter (λ r. same_text k (K.text (T.of_row r))) rows.now) }
+{
+    let mut groups = BTreeMap::new(alloc);
+    for row in rows {
+        add_row::<K, T>(alloc, &mut groups, row)?;
+    }
+    Ok(groups)
+}
+
+// One row more with its text.
+fn add_row<K: HasText, T: Has<K>>(
+    alloc: Global,
+    groups: &mut BTreeMap<TextKey, Vec<T>>,
+    row: &T,
+) -> Result<(), AllocError>
+    ensures { OnOk result ((k : List ℕ) → rows_or [] (get (slice_cmp nat_cmp) groups.new (reverse k)) ≡ rows_or [] (get (slice_cmp nat_cmp) groups.old (reverse k)) ++ (if same_text k (K.text (T.of_row row.now)) then row.now ∷ [] else [])) }
+{
+    add_under(alloc, groups, row.value().key(), row)
+}
+
+// One row more under a key.
+fn add_under<T: Copy>(
+    alloc: Global,
+    groups: &mut BTreeMap<TextKey, Vec<T>>,
+    key: TextKey,
+    row: &T,
+) -> Result<(), AllocError>
+    ensures { OnOk result ((k : List ℕ) → rows_or [] (get (slice_cmp nat_cmp) groups.new (reverse k)) ≡ rows_or [] (get (slice_cmp nat_cmp) groups.old (reverse k)) ++ (if same_text k (reverse key) then row.now ∷ [] else [])) }
+{
+    match groups.get_mut(&key) {
+        Some(rows) => push_row(rows, *row),
+        None => {
+            let mut rows = Vec::new(alloc);
+            rows.push(*row)?;
+            groups.insert(key, rows)?;
+            Ok(())
+        }
+    }
+}
+
+fn push_row<T: Copy>(rows: &mut Vec<T>, row: T) -> Result<(), AllocError>
+    ensures { OnOk result (rows.new.items ≡ rows.old.items ++ row ∷ []) }
+{
+    rows.push(row)?;
+    Ok(())
+}
+
+// By a number
+
+/// A row that is found by a number.
+pub trait Numbered: Copy {
+    ghost use Rattle.std.specs.Prelude.{ℕ};
+
+    ghost number: { Self → ℕ };
+
+    fn number_of(&self) -> u64
+        ensures { result ≡ number self.now };
+}
+
+/// The first row of each number. Where none stands with a number, the others may have one.
+#[derive(Drop)]
+pub struct RowsByNumber<'a, T> {
+    firsts: BTreeMap<u64, T>,
+    others: &'a [T],
+}
+
+impl<'a, T: Numbered> RowsByNumber<'a, T> {
+    /// The first row of the number.
+    pub fn row_of(&self, number: u64) -> Option<T>
+        ensures { result ≡ row_given T.number self.now number }
+    {
+        match self.firsts.get(&number) {
+            Some(row) => Some(*row),
+            None => find_numbered(self.others, number),
+        }
+    }
+}
+
+fn find_numbered<T: Numbered>(rows: &[T], number: u64) -> Option<T>
+    ensures { result ≡ find (λ r. number == T.number r) rows.now }
+{
+    for row in rows {
+        if number == row.number_of() {
+            return Some(*row);
+        }
+    }
+    None
+}
+
+/// The rows, to be found by their numbers so many times.
+pub fn by_number<'a, T: Numbered>(
+    alloc: Global,
+    rows: &'a [T],
+    times: usize,
+) -> Result<RowsByNumber<'a, T>, AllocError>
+    ensures { IfOk result (λ found. GivesFirst T.number (row_given T.number found) rows.now) }
+{
+    if rows.len() <= FEW || times <= FEW {
+        return Ok(RowsByNumber {
+            firsts: BTreeMap::new(alloc),
+            others: rows,
+        });
+    }
+    let firsts = first_rows(alloc, rows)?;
+    Ok(RowsByNumber {
+        firsts,
+        others: &rows[..0],
+    })
+}
+
+fn first_rows<T: Numbered>(alloc: Global, rows: &[T]) -> Result<BTreeMap<u64, T>, AllocError>
+    ensures { IfOk result (λ firsts. (n : ℕ) → get nat_cmp firsts n ≡ find (λ r. n == T.number r) rows.now) }
+{
+    let mut firsts = BTreeMap::new(alloc);
+    for row in rows {
+        add_first(&mut firsts, row)?;
+    }
+    Ok(firsts)
+}
+
+// The row, if it is the first of its number.
+fn add_first<T: Numbered>(firsts: &mut BTreeMap<u64, T>, row: &T) -> Result<(), AllocError>
+    ensures { OnOk result ((n : ℕ) → get nat_cmp firsts.new n ≡ option_or (get nat_cmp firsts.old n) (if n == T.number row.now then Some row.now else None)) }
+{
+    let number = row.number_of();
+    if !firsts.contains_key(&number) {
+        firsts.insert(number, *row)?;
+    }
+    Ok(())
+}
+
+// The numbers of rows
+
+impl Numbered for OrderRow {
+    ghost number = { λ r. r.act };
+
+    fn number_of(&self) -> u64 {
+        self.act
+    }
+}
+
+impl Numbered for LotRow {
+    ghost number = { λ r. r.came };
+
+    fn number_of(&self) -> u64 {
+        self.came
+    }
+}

@@ -1,7 +1,0 @@
-use Rattle.std.proofs.Common.{List, ℕ}
-use Rattle.commands.specs.declared.rows.OrderRow.{OrderRow}
-use Rattle.row_rules.proofs.Walking.{IsMapped}
-use Rattle.slice_parts.proofs.order_names.orders_of.Given as goal
-
-abbrev pub invariant-loop-row : goal.invariant-loop-row
-invariant-loop-row l = IsMapped {X = OrderRow} {Y = List ℕ} (λ r. r.order) l.rows l.row-index l.names.items

@@ -1,8 +1,0 @@
-use Rattle.std.specs.Prelude.{not}
-use Rattle.commands.specs.declared.rows.OrderRow.{OrderRow}
-use Rattle.row_rules.proofs.Walking.{IsKept}
-use Rattle.slice_parts.specs.Parts.{is_among}
-use Rattle.slice_parts.proofs.order_rows.others.Given as goal
-
-abbrev pub invariant-loop-order : goal.invariant-loop-order
-invariant-loop-order l = IsKept {X = OrderRow} (λ r. not (is_among l.named r.order)) l.orders l.order-index l.rows.items

@@ -1,0 +1,33 @@
+use Rattle.std.proofs.Common.{◌≡◌, Option, Some, sym, subst}
+use Rattle.commands.specs.Tables.{Tables}
+use Rattle.commands.specs.declared.rows.MetaRow.{MetaRow}
+use Rattle.sqlite.specs.Held.{state}
+use Rattle.known_reads.proofs.ReadSteps.{read_none, fails_first, so_told}
+use Rattle.slices.specs.Following.{KnowsMeta, KnowsFollowed}
+use Rattle.slices.specs.Remembering.{Learning}
+use Rattle.slices.specs.declared.followed.Followed.{Followed}
+use Rattle.slices.proofs.known_followed.known_meta.Goals as goal
+
+pub returns-in-Some-clause-read : goal.returns-in-Some-clause-read
+returns-in-Some-clause-read g c =
+    read_none (Learning c.args.rows.now c.args.rows.now (λ t row. t.meta ≡ Some row)) (state g.S.Store c.args.tx.now.conn.now) c.in-Some.row
+    (λ t known. (subst (λ (x : Option MetaRow). KnowsMeta t x) c.in-Some.is known.followed.meta, known))
+
+pub returns-in_err-row-clause-read : goal.returns-in_err-row-clause-read
+returns-in_err-row-clause-read g c = fails_first c.from_residual.ensures c.in_err-row.ensures.read
+
+pub returns-clause-read : goal.returns-clause-read
+returns-clause-read g c = so_told {P = λ (t : Tables) (row : MetaRow). t.meta ≡ Some row} c.in_ok-row.ensures.read (λ t there all. (
+  there,
+  record {
+    items = all.items;
+    least = all.least;
+    bins = all.bins;
+    lots = all.lots;
+    recalls = all.recalls;
+    orders = all.orders;
+    lines = all.lines;
+    lines_at = all.lines_at;
+    followed = subst (λ (x : Followed). KnowsFollowed t x) (sym c.know_meta.ensures) (record { stock = all.followed.stock; staged = all.followed.staged; meta = there });
+  },
+))

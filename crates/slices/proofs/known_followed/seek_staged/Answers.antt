@@ -1,0 +1,5 @@
+use Rattle.known_reads.proofs.KnowingSteps.{known_among}
+use Rattle.slices.proofs.known_followed.seek_staged.Goals as goal
+
+pub returns-clause-read : goal.returns-clause-read
+returns-clause-read g c = known_among c.seek_all_known.ensures.read (λ t all. all.followed.staged) (λ t all one. record { items = all.items; least = all.least; bins = all.bins; lots = all.lots; recalls = all.recalls; orders = all.orders; lines = all.lines; lines_at = all.lines_at; followed = record { stock = all.followed.stock; staged = one; meta = all.followed.meta } })

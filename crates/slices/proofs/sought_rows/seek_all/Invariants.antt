@@ -1,0 +1,10 @@
+use Rattle.std.proofs.Common.{◌≡◌, List, take, Ok}
+use Rattle.sqlite.specs.Held.{state}
+use Rattle.known_reads.specs.Reading.{IsRead, Each}
+use Rattle.slices.proofs.sought_rows.seek_all.Given as goal
+
+-- so far the rows of the first keys are read
+abbrev pub invariant-loop-key : goal.invariant-loop-key
+invariant-loop-key g l =
+    (l.tx.conn.ghost_name ≡ l.fn.tx.conn.ghost_name)
+    × IsRead {X = List _} (λ t rows. Each (λ j found. g.T.Sought.are_of j t found) (take l.key-index l.keys) rows) (state g.S.Store l.fn.tx.conn.now) (state g.S.Store l.tx.conn.now) (Ok l.found.items)

@@ -1,0 +1,78 @@
+//! Rows that are known, and that follow what is written.
+
+ghost use Rattle.std.specs.Prelude.{◌≡◌, Some};
+ghost use Rattle.slices.specs.Following.{KnowsNoneFollowed, StockFollows, StagedChanges, StagedFollows, Follows};
+
+use commands::{MetaRow, StagedRow, StockRow};
+use known_rows::KnownRows;
+use rules::{Change, Dropped, Put};
+use std::alloc::Global;
+use values::{Gtin, TextKey};
+
+/// Rows that are known, and that follow what is written.
+#[derive(Drop)]
+pub struct Followed {
+    /// Stock by the GTINs of its items.
+    pub stock: KnownRows<Gtin, TextKey, StockRow>,
+    /// What is staged, by the GTINs of its items.
+    pub staged: KnownRows<Gtin, TextKey, StagedRow>,
+    /// The row of `meta`.
+    pub meta: Option<MetaRow>,
+}
+
+/// With the stock that a change drops and puts.
+fn follow_stock(stock: &mut KnownRows<Gtin, TextKey, StockRow>, put: &Put, dropped: &Dropped)
+    ensures { StockFollows put.now dropped.now stock.old.rows stock.new.rows }
+{
+    stock.drop_all(dropped.stock.as_slice());
+    stock.put_all(put.stock.as_slice());
+}
+
+/// With what a change drops and puts of what is staged, where it empties no stage.
+fn change_staged(staged: &mut KnownRows<Gtin, TextKey, StagedRow>, put: &Put, dropped: &Dropped)
+    ensures { StagedChanges put.now dropped.now staged.old.rows staged.new.rows }
+{
+    staged.drop_all(dropped.staged.as_slice());
+    staged.put_all(put.staged.as_slice());
+}
+
+/// With what a change writes of what is staged. Where it empties the stage of an order, nothing is known any more.
+fn follow_staged(staged: &mut KnownRows<Gtin, TextKey, StagedRow>, put: &Put, dropped: &Dropped)
+    ensures { StagedFollows put.now dropped.now dropped.now.stage staged.old.rows staged.new.rows }
+{
+    match dropped.stage {
+        Some(_) => {
+            *staged = KnownRows::new(staged.alloc);
+        }
+        None => change_staged(staged, put, dropped),
+    }
+}
+
+impl Followed {
+    /// Nothing is known.
+    pub fn new(alloc: Global) -> Self
+        ensures { KnowsNoneFollowed result }
+    {
+        Followed {
+            stock: KnownRows::new(alloc),
+            staged: KnownRows::new(alloc),
+            meta: None,
+        }
+    }
+
+    /// With the row of `meta`.
+    pub fn know_meta(&mut self, row: &MetaRow)
+        ensures { self.new ≡ record self.old { meta = Some row.now } }
+    {
+        self.meta = Some(*row);
+    }
+
+    /// With the rows of a change, which has been written.
+    pub fn follow(&mut self, change: &Change)
+        ensures { Follows change.now self.old self.new }
+    {
+        follow_stock(&mut self.stock, &change.put, &change.dropped);
+        follow_staged(&mut self.staged, &change.put, &change.dropped);
+        self.meta = Some(change.meta);
+    }
+}

@@ -1,0 +1,112 @@
+//! Rows that follow what is written, from what is known of them, and from the tables where nothing is.
+
+ghost use Rattle.std.specs.Prelude.{◌≡◌, Some, filter, IfOk};
+ghost use Rattle.sqlite.specs.Held.{state};
+ghost use Rattle.table_words.specs.Typed.{same_lot_id};
+ghost use Rattle.goods_tables.specs.Stock.{AreStockOf, AreStockOfLot};
+ghost use Rattle.known_reads.specs.Reading.{Each, IsRead};
+ghost use Rattle.slices.specs.Remembering.{Learning};
+ghost use Rattle.slices.specs.Slicing.{AreStaged};
+
+use crate::one_table::meta_row;
+use crate::rows_known::RowsKnown;
+use crate::sought_rows::read_rows;
+use commands::{MetaRow, StagedRow, StockRow};
+use goods_tables::stock::Stock;
+use known_reads::seek_all_known;
+use order_tables::staged::Staged;
+use sqlite::{Alter, Transaction};
+use std::alloc::{AllocError, Global};
+use table_words::error::TableFault;
+use values::{Gtin, LotId, TextKey};
+
+/// The stock of items, one after another.
+pub fn seek_stock<S: Alter>(
+    alloc: Global,
+    tx: &mut Transaction<'_, S>,
+    rows: &mut RowsKnown,
+    gtins: &[Gtin],
+) -> Result<Vec<StockRow>, TableFault>
+    ensures same_reference { tx.new.conn.ghost_name ≡ tx.old.conn.ghost_name }
+    ensures read { IsRead (Learning rows.old rows.new (λ t found. Each (λ g found_rows. AreStockOf g t found_rows) gtins.now found.items)) (state S.Store tx.old.conn.now) (state S.Store tx.new.conn.now) result }
+{
+    seek_all_known::<Stock, Gtin, TextKey, S>(alloc, tx, &mut rows.followed.stock, gtins)
+}
+
+// The units of a lot among these.
+fn units_of(alloc: Global, lot: &LotId, stock: &[StockRow]) -> Result<Vec<StockRow>, AllocError>
+    ensures { IfOk result (λ rows. rows.items ≡ filter (λ r. same_lot_id lot.now r.lot) stock.now) }
+{
+    let mut rows = Vec::new(alloc);
+    for row in stock {
+        if *lot == row.lot {
+            rows.push(*row)?;
+        }
+    }
+    Ok(rows)
+}
+
+/// The stock of a lot: that of its item has it, where it is known.
+pub fn seek_stock_of<S: Alter>(
+    alloc: Global,
+    tx: &mut Transaction<'_, S>,
+    rows: &RowsKnown,
+    lot: &LotId,
+) -> Result<Vec<StockRow>, TableFault>
+    ensures same_reference { tx.new.conn.ghost_name ≡ tx.old.conn.ghost_name }
+    ensures read { IsRead (Learning rows.now rows.now (λ t found. AreStockOfLot lot.now t found.items)) (state S.Store tx.old.conn.now) (state S.Store tx.new.conn.now) result }
+{
+    if let Some(known) = rows.followed.stock.rows_of(&lot.gtin) {
+        let units = units_of(alloc, lot, known)?;
+        return Ok(units);
+    }
+    read_rows::<Stock, LotId, S>(alloc, tx, lot)
+}
+
+/// The stock of lots, one after another.
+pub fn seek_stock_of_lots<S: Alter>(
+    alloc: Global,
+    tx: &mut Transaction<'_, S>,
+    rows: &RowsKnown,
+    lots: &[LotId],
+) -> Result<Vec<StockRow>, TableFault>
+    ensures same_reference { tx.new.conn.ghost_name ≡ tx.old.conn.ghost_name }
+    ensures read { IsRead (Learning rows.now rows.now (λ t found. Each (λ l found_rows. AreStockOfLot l t found_rows) lots.now found.items)) (state S.Store tx.old.conn.now) (state S.Store tx.new.conn.now) result }
+{
+    let mut found = Vec::new(alloc);
+    for lot in lots {
+        let units = seek_stock_of(alloc, tx, rows, lot)?;
+        found.extend_from_slice(units.as_slice())?;
+    }
+    Ok(found)
+}
+
+/// What is staged of items, one after another.
+pub fn seek_staged<S: Alter>(
+    alloc: Global,
+    tx: &mut Transaction<'_, S>,
+    rows: &mut RowsKnown,
+    gtins: &[Gtin],
+) -> Result<Vec<StagedRow>, TableFault>
+    ensures same_reference { tx.new.conn.ghost_name ≡ tx.old.conn.ghost_name }
+    ensures read { IsRead (Learning rows.old rows.new (λ t found. AreStaged gtins.now t found.items)) (state S.Store tx.old.conn.now) (state S.Store tx.new.conn.now) result }
+{
+    seek_all_known::<Staged, Gtin, TextKey, S>(alloc, tx, &mut rows.followed.staged, gtins)
+}
+
+/// The row of `meta`; `Foreign` also where there is none.
+pub fn known_meta<S: Alter>(
+    alloc: Global,
+    tx: &mut Transaction<'_, S>,
+    rows: &mut RowsKnown,
+) -> Result<MetaRow, TableFault>
+    ensures same_reference { tx.new.conn.ghost_name ≡ tx.old.conn.ghost_name }
+    ensures read { IsRead (Learning rows.old rows.new (λ t row. t.meta ≡ Some row)) (state S.Store tx.old.conn.now) (state S.Store tx.new.conn.now) result }
+{
+    if let Some(row) = rows.followed.meta {
+        return Ok(row);
+    }
+    let row = meta_row(alloc, tx)?;
+    rows.followed.know_meta(&row);
+    Ok(row)
+}

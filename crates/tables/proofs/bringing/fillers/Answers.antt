@@ -1,7 +1,0 @@
-use Rattle.sqlite.specs.Held.{state}
-use Rattle.sqlite.proofs.StateLemmas.{unchanged}
-use Rattle.tables.proofs.bringing.fillers.Goals as goal
-
--- where nothing is read, nothing changes
-pub returns-in-Second-clause-same : goal.returns-in-Second-clause-same
-returns-in-Second-clause-same g c clean ready up = unchanged (state g.S.Store c.args.tx.now.conn.now) up

@@ -1,4 +1,0 @@
-use Rattle.tables.proofs.checking.are_tables.Goals as goal
-
-pub returns : goal.returns
-returns c = c.tables_match.ensures
